@@ -1,0 +1,200 @@
+//! A source and a sink in memory, which tell their bytes and fail at chosen calls: what tests run on.
+
+ghost use Rattle.std.specs.Prelude.{◌≡◌, ◌≤◌, ◌<◌, [], Some, IfOk, length, take};
+ghost use Rattle.std.specs.Io.KnownBytes.{ReadConsumes, WriteAppends, Keeps};
+ghost use Rattle.io_ports.specs.Faults.{HasCause};
+ghost use Rattle.io_ports.specs.Memory.{ReadsNext, WritesNext, FlushesNext};
+
+use crate::calls::Calls;
+use crate::fault::Failed;
+use crate::sink::Sink;
+use crate::source::Source;
+use std::alloc::{AllocError, Global};
+use std::marker::Model;
+
+/// A source over bytes in memory. It gives at most `step` bytes a call, and fails at chosen calls.
+#[derive(Drop)]
+pub struct MemSource {
+    bytes: Vec<u8>,
+    place: usize,
+    step: usize,
+    calls: Calls,
+}
+
+impl Model for MemSource {
+    ghost use Rattle.std.specs.Prelude.{◌≤◌, ◌<◌, drop, vec_len};
+    ghost use Rattle.io_ports.specs.Memory.{SourceState};
+
+    ghost Value = { SourceState };
+
+    ghost view = { λ s. record { left = drop s.place s.bytes.items; step = s.step; fails = s.calls.fails.items; calls = s.calls.made; faults = s.calls.faults } };
+
+    ghost invariant = { λ s. (s.place ≤ vec_len s.bytes) × (0 < s.step) };
+}
+
+impl MemSource {
+    /// A source of these bytes; `fails` has the numbers of the calls that fail, counted from 1.
+    pub fn of(
+        alloc: Global,
+        bytes: &[u8],
+        step: usize,
+        fails: &[u64],
+    ) -> Result<MemSource, AllocError>
+        requires { 1 ≤ step }
+        ensures { IfOk result (λ s. s ≡ record { left = bytes.now; step = step; fails = fails.now; calls = 0; faults = 0 }) }
+    {
+        Ok(MemSource {
+            bytes: Vec::from_slice(alloc, bytes)?,
+            place: 0,
+            step,
+            calls: Calls {
+                fails: Vec::from_slice(alloc, fails)?,
+                made: 0,
+                faults: 0,
+            },
+        })
+    }
+
+    /// The bytes still to come.
+    pub fn left(&self) -> &[u8]
+        ensures { result.now ≡ self.now.left }
+    {
+        &self.bytes[self.place..]
+    }
+
+    /// How many calls failed.
+    pub fn faults(&self) -> u64
+        ensures { result ≡ self.now.faults }
+    {
+        self.calls.faults
+    }
+}
+
+impl Source for MemSource {
+    ghost left = { λ s. Some s.left };
+
+    ghost faults = { λ s. s.faults };
+
+    fn read(&mut self, buf: &mut [u8]) -> Result<usize, Failed>
+        ensures bound { IfOk result (λ n. n ≤ length buf.old) }
+        ensures bytes { ReadConsumes (Some self.old.left) (Some self.new.left) result buf.new }
+        ensures cause { HasCause self.old.faults self.new.faults result }
+        ensures exact { ReadsNext self.old self.new (length buf.old) result }
+    {
+        if self.calls.next_fails() {
+            self.calls.add_fault();
+            return Err(Failed);
+        }
+        let left = &self.bytes[self.place..];
+        let count = self.step.min(buf.len()).min(left.len());
+        put_front(buf, &left[..count]);
+        self.place += count;
+        Ok(count)
+    }
+}
+
+/// Puts bytes at the front of a buffer.
+fn put_front(buf: &mut [u8], bytes: &[u8])
+    requires { length bytes.now ≤ length buf.old }
+    ensures { take (length bytes.now) buf.new ≡ bytes.now }
+{
+    buf[..bytes.len()].copy_from_slice(bytes);
+}
+
+/// A sink into memory with room for `capacity` bytes. It takes at most `step` bytes a call, and fails at
+/// chosen calls and where there is no room.
+#[derive(Drop)]
+pub struct MemSink {
+    bytes: Vec<u8>,
+    capacity: usize,
+    step: usize,
+    calls: Calls,
+}
+
+impl Model for MemSink {
+    ghost use Rattle.std.specs.Prelude.{◌≤◌, ◌<◌, vec_len, vec_capacity};
+    ghost use Rattle.io_ports.specs.Memory.{SinkState};
+
+    ghost Value = { SinkState };
+
+    ghost view = { λ s. record { taken = s.bytes.items; capacity = s.capacity; step = s.step; fails = s.calls.fails.items; calls = s.calls.made; faults = s.calls.faults } };
+
+    ghost invariant = { λ s. (vec_len s.bytes ≤ s.capacity) × (s.capacity ≤ vec_capacity s.bytes) × (0 < s.step) };
+}
+
+impl MemSink {
+    /// An empty sink; `fails` has the numbers of the calls that fail, writes and flushes counted together
+    /// from 1. All its memory is taken here.
+    pub fn of(
+        alloc: Global,
+        capacity: usize,
+        step: usize,
+        fails: &[u64],
+    ) -> Result<MemSink, AllocError>
+        requires { 1 ≤ step }
+        ensures { IfOk result (λ s. s ≡ record { taken = []; capacity = capacity; step = step; fails = fails.now; calls = 0; faults = 0 }) }
+    {
+        Ok(MemSink {
+            bytes: Vec::with_capacity(alloc, capacity)?,
+            capacity,
+            step,
+            calls: Calls {
+                fails: Vec::from_slice(alloc, fails)?,
+                made: 0,
+                faults: 0,
+            },
+        })
+    }
+
+    /// The bytes taken so far.
+    pub fn taken(&self) -> &[u8]
+        ensures { result.now ≡ self.now.taken }
+    {
+        &self.bytes
+    }
+
+    /// How many calls failed.
+    pub fn faults(&self) -> u64
+        ensures { result ≡ self.now.faults }
+    {
+        self.calls.faults
+    }
+}
+
+impl Sink for MemSink {
+    ghost taken = { λ s. Some s.taken };
+
+    ghost faults = { λ s. s.faults };
+
+    fn write(&mut self, piece: &[u8]) -> Result<usize, Failed>
+        ensures bound { IfOk result (λ n. n ≤ length piece.now) }
+        ensures some { IfOk result (λ n. 0 < length piece.now → 0 < n) }
+        ensures bytes { WriteAppends (Some self.old.taken) (Some self.new.taken) result piece.now }
+        ensures cause { HasCause self.old.faults self.new.faults result }
+        ensures exact { WritesNext self.old self.new piece.now result }
+    {
+        let room = self.capacity - self.bytes.len();
+        let is_full = room == 0 && !piece.is_empty();
+        if self.calls.next_fails() || is_full {
+            self.calls.add_fault();
+            return Err(Failed);
+        }
+        let count = self.step.min(room).min(piece.len());
+        let Ok(()) = self.bytes.extend_from_slice(&piece[..count]) else {
+            unreachable!();
+        };
+        Ok(count)
+    }
+
+    fn flush(&mut self) -> Result<(), Failed>
+        ensures bytes { Keeps (Some self.old.taken) (Some self.new.taken) }
+        ensures cause { HasCause self.old.faults self.new.faults result }
+        ensures exact { FlushesNext self.old self.new result }
+    {
+        if self.calls.next_fails() {
+            self.calls.add_fault();
+            return Err(Failed);
+        }
+        Ok(())
+    }
+}
