@@ -3,7 +3,7 @@ use Rattle.std.proofs.Common.{◌∙◌, sym, ap, refl, ℕ, ◌+◌, List, [], 
 use Rattle.std.specs.Io.KnownBytes.{Appends, Keeps}
 use Rattle.std.proofs.lemmas.List.{take-append-drop}
 use Rattle.std.proofs.Math.Seq.{take-add}
-use Rattle.io_ports.specs.Bytes.{GainsFront}
+use Rattle.io_ports.specs.Bytes.{GainsFront, Passes}
 
 -- a text that was written whole is a front of itself
 pub whole_is_front : (old new : Option (List ℕ)) (text : List ℕ) → Appends old new text → GainsFront old new text
@@ -46,3 +46,50 @@ next_front (Some old) None new at count text all more = absurd all
 next_front (Some old) (Some mid) None at count text all more = more
 next_front (Some old) (Some mid) (Some new) at count text all more =
     more ∙ (ap (λ t. t ++ take count (drop at text)) all ∙ (append_assoc old (take at text) (take count (drop at text)) ∙ ap (λ t. old ++ t) (sym (take-add at count text))))
+
+-- texts that were put one after another were put together
+pub passes_then : (old mid new : Option (List ℕ)) (p q r a b : List ℕ) → Passes old p mid q a → Passes mid q new r b → Passes old p new r (a ++ b)
+passes_then None mid new p q r a b one two = tt
+passes_then (Some old) None new p q r a b one two = absurd one
+passes_then (Some old) (Some mid) None p q r a b one two = two
+passes_then (Some old) (Some mid) (Some new) p q r a b one two =
+    ( one.0 ++ two.0,
+      two.1 ∙ (ap (λ t. t ++ two.0) one.1 ∙ append_assoc old one.0 two.0),
+      append_assoc one.0 two.0 r ∙ (ap (λ t. one.0 ++ t) two.2 ∙ (sym (append_assoc one.0 q b) ∙ (ap (λ t. t ++ b) one.2 ∙ append_assoc p a b))) )
+
+-- putting the empty text changes nothing
+pub passes_nothing : (old : Option (List ℕ)) (p : List ℕ) → Passes old p old p []
+passes_nothing None p = tt
+passes_nothing (Some old) p = ([], sym (append-nil old), sym (append-nil p))
+
+-- what a put has sent on is a front
+pub passes_front : (old new : Option (List ℕ)) (p q a : List ℕ) → Passes old p new q a → GainsFront old new (p ++ a)
+passes_front None new p q a put = tt
+passes_front (Some old) None p q a put = put
+passes_front (Some old) (Some new) p q a put = (put.0, q, sym put.2, put.1)
+
+-- a text was put, and then a front of what was pending and of another was sent on
+pub passes_then_front : (old mid new : Option (List ℕ)) (p q a b : List ℕ) → Passes old p mid q a → GainsFront mid new (q ++ b) → GainsFront old new (p ++ (a ++ b))
+passes_then_front None mid new p q a b put part = tt
+passes_then_front (Some old) None new p q a b put part = absurd put
+passes_then_front (Some old) (Some mid) None p q a b put part = part
+passes_then_front (Some old) (Some mid) (Some new) p q a b put part =
+    ( put.0 ++ part.0,
+      part.1,
+      sym (append_assoc p a b) ∙ (ap (λ t. t ++ b) (sym put.2) ∙ (append_assoc put.0 q b ∙ (ap (λ t. put.0 ++ t) part.2 ∙ sym (append_assoc put.0 part.0 part.1)))),
+      part.3 ∙ (ap (λ t. t ++ part.0) put.1 ∙ append_assoc old put.0 part.0) )
+
+-- a text was put, and then all that was pending was sent on
+pub passes_then_all : (old mid new : Option (List ℕ)) (p q a : List ℕ) → Passes old p mid q a → Appends mid new q → Appends old new (p ++ a)
+passes_then_all None mid new p q a put all = tt
+passes_then_all (Some old) None new p q a put all = absurd put
+passes_then_all (Some old) (Some mid) None p q a put all = all
+passes_then_all (Some old) (Some mid) (Some new) p q a put all =
+    all ∙ (ap (λ t. t ++ q) put.1 ∙ (append_assoc old put.0 q ∙ ap (λ t. old ++ t) put.2))
+
+-- all that was pending was sent on, and then a text was written whole
+pub sent_whole : (old mid new : Option (List ℕ)) (p text : List ℕ) → Appends old mid p → Appends mid new text → Passes old p new [] text
+sent_whole None mid new p text all more = tt
+sent_whole (Some old) None new p text all more = absurd all
+sent_whole (Some old) (Some mid) None p text all more = more
+sent_whole (Some old) (Some mid) (Some new) p text all more = (p ++ text, more ∙ (ap (λ t. t ++ text) all ∙ append_assoc old p text), append-nil (p ++ text))

@@ -16,8 +16,8 @@ GainsFront None new text = ⊤
 GainsFront (Some old) None text = ⊥
 GainsFront (Some old) (Some new) text = (front : List ℕ) × (rest : List ℕ) × (text ≡ front ++ rest) × (new ≡ old ++ front)
 
--- what a sink has taken, followed by what is pending before it, grew by the text
+-- a sink gained a front of what was pending before it and a text, and the rest is pending now
 abbrev pub Passes : Option (List ℕ) → List ℕ → Option (List ℕ) → List ℕ → List ℕ → Type 0
 Passes None pending new rest text = ⊤
 Passes (Some old) pending None rest text = ⊥
-Passes (Some old) pending (Some new) rest text = new ++ rest ≡ old ++ (pending ++ text)
+Passes (Some old) pending (Some new) rest text = (front : List ℕ) × (new ≡ old ++ front) × (front ++ rest ≡ pending ++ text)

@@ -51,7 +51,8 @@ impl Pieces {
         if text.len() > ROOM - self.length {
             self.finish(sink)?;
             if text.len() > ROOM {
-                return write_whole(sink, text);
+                write_whole(sink, text)?;
+                return Ok(());
             }
         }
         self.keep(text);
