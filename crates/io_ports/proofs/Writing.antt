@@ -1,5 +1,5 @@
 -- How the writes of several texts compose, where a sink may tell what it has taken.
-use Rattle.std.proofs.Common.{◌∙◌, sym, ap, refl, ℕ, ◌+◌, List, [], ◌++◌, take, drop, Option, None, Some, append-nil, append_assoc}
+use Rattle.std.proofs.Common.{◌≡◌, ◌∙◌, sym, ap, subst, refl, ℕ, ◌+◌, List, [], ◌++◌, take, drop, Option, None, Some, append-nil, append_assoc}
 use Rattle.std.specs.Io.KnownBytes.{Appends, Keeps}
 use Rattle.std.proofs.lemmas.List.{take-append-drop}
 use Rattle.std.proofs.Math.Seq.{take-add}
@@ -93,3 +93,31 @@ sent_whole None mid new p text all more = tt
 sent_whole (Some old) None new p text all more = absurd all
 sent_whole (Some old) (Some mid) None p text all more = more
 sent_whole (Some old) (Some mid) (Some new) p text all more = (p ++ text, more ∙ (ap (λ t. t ++ text) all ∙ append_assoc old p text), append-nil (p ++ text))
+
+-- a front of what was pending and of a text is a front where another text follows
+pub front_before : (old new : Option (List ℕ)) (p a b : List ℕ) → GainsFront old new (p ++ a) → GainsFront old new (p ++ (a ++ b))
+front_before old new p a b part = subst (λ t. GainsFront old new t) (append_assoc p a b) (front_of_longer old new (p ++ a) b part)
+
+-- what a put of a text that is too long for the buffer owes
+pub ruleset sending = (front_then, sent_whole)
+
+-- what a put of several texts owes
+pub ruleset putting = (passes_then, passes_then_front, front_before)
+
+-- a text that is put piece by piece: what was put so far, the next piece, and the rest
+pub next_put : (old mid new : Option (List ℕ)) (p q r done piece rest text : List ℕ) → done ++ (piece ++ rest) ≡ text → Passes old p mid q done → Passes mid q new r piece
+    → (more : List ℕ) × (more ++ rest ≡ text) × Passes old p new r more
+next_put old mid new p q r done piece rest text whole before next =
+    (done ++ piece, append_assoc done piece rest ∙ whole, passes_then old mid new p q r done piece before next)
+
+-- a front of the next piece was sent on: a front of the text
+pub next_piece_front : (old mid new : Option (List ℕ)) (p q done piece rest text : List ℕ) → done ++ (piece ++ rest) ≡ text → Passes old p mid q done → GainsFront mid new (q ++ piece)
+    → GainsFront old new (p ++ text)
+next_piece_front old mid new p q done piece rest text whole before part =
+    subst (λ t. GainsFront old new (p ++ t)) (append_assoc done piece rest ∙ whole)
+    (front_before old new p (done ++ piece) rest (passes_then_front old mid new p q done piece before part))
+
+-- a text was put, and then a front of what was pending was sent on
+pub passes_then_pending : (old mid new : Option (List ℕ)) (p q a : List ℕ) → Passes old p mid q a → GainsFront mid new q → GainsFront old new (p ++ a)
+passes_then_pending old mid new p q a put part =
+    subst (λ t. GainsFront old new (p ++ t)) (append-nil a) (passes_then_front old mid new p q a [] put (subst (λ t. GainsFront mid new t) (sym (append-nil q)) part))

@@ -1,4 +1,4 @@
-use Rattle.std.specs.Prelude.{◌≡◌, ℕ, ◌<◌, List, ◌++◌, length, ⊤, Option, None, Some}
+use Rattle.std.specs.Prelude.{◌≡◌, ℕ, ◌<◌, List, ◌++◌, length, ⊤, Option, None, Some, Result, MatchResult}
 
 -- these are all the bytes that were told to be left
 abbrev pub IsAllOf : Option (List ℕ) → List ℕ → Type 0
@@ -21,3 +21,7 @@ abbrev pub Passes : Option (List ℕ) → List ℕ → Option (List ℕ) → Lis
 Passes None pending new rest text = ⊤
 Passes (Some old) pending None rest text = ⊥
 Passes (Some old) pending (Some new) rest text = (front : List ℕ) × (new ≡ old ++ front) × (front ++ rest ≡ pending ++ text)
+
+-- a text was put behind what was pending, or the sink failed and gained a front of both
+abbrev pub Puts : {E : Type 0} → Option (List ℕ) → List ℕ → Option (List ℕ) → List ℕ → List ℕ → Result (Unit {0}) E → Type 0
+Puts old pending new rest text result = MatchResult result (λ _. Passes old pending new rest text) (λ _. GainsFront old new (pending ++ text))

@@ -5,7 +5,7 @@
 ghost use Rattle.std.specs.Prelude.{◌≡◌, ◌+◌, ◌≤◌, ◌++◌, [], OnOk, length};
 ghost use Rattle.std.specs.Io.KnownBytes.{Appends};
 ghost use Rattle.io_ports.specs.Faults.{HasCause};
-ghost use Rattle.io_ports.specs.Bytes.{GainsFront, Passes};
+ghost use Rattle.io_ports.specs.Bytes.{GainsFront, Puts};
 
 use crate::fault::Failed;
 use crate::sink::{Sink, write_whole};
@@ -43,9 +43,9 @@ impl Pieces {
     }
 
     /// Puts a text behind what is pending, and sends on what has no room.
+    #[tactic(auto, using(crate::proofs::Writing::sending))]
     pub fn put<K: Sink>(&mut self, sink: &mut K, text: &[u8]) -> Result<(), Failed>
-        ensures ok { OnOk result (Passes (K.taken sink.old) self.old (K.taken sink.new) self.new text.now) }
-        ensures front { GainsFront (K.taken sink.old) (K.taken sink.new) (self.old ++ text.now) }
+        ensures put { Puts (K.taken sink.old) self.old (K.taken sink.new) self.new text.now result }
         ensures cause { HasCause (K.faults sink.old) (K.faults sink.new) result }
     {
         if text.len() > ROOM - self.length {

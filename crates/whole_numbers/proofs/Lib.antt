@@ -1,0 +1,9 @@
+pub mod Ring
+pub mod Order
+pub mod Floors
+pub mod Euclid
+pub mod Divisors
+pub mod Fits
+pub mod Dot
+pub mod Values
+pub mod Lexicographic

@@ -1,0 +1,43 @@
+use Rattle.std.proofs.Common.{suc, ◌/◌, ◌%◌, ◌<◌, ℤ, pos, negsuc, ◌+ℤ◌, ◌-ℤ◌, ◌≤ℤ◌, ◌<ℤ◌, int_div, div-le_self, arith}
+use Rattle.std.proofs.Math.Nat.{mod-lt}
+use Rattle.std.proofs.lemmas.Nat.{div-add-mod'}
+use Rattle.std.proofs.lemmas.Int.{ints}
+use Rattle.whole_numbers.specs.Division.{IsFloor, IsCeiling}
+use Rattle.whole_numbers.proofs.Ring.{mul_distrib_right, mul_sub_right, mul_neg_left}
+
+-- of a number that is not negative the quotient that drops the fraction is the floor, between 0 and the number
+pub int_div-floor : (a d : ℤ) → pos 0 ≤ℤ a → pos 0 <ℤ d
+    → IsFloor a d (int_div a d) × (pos 0 ≤ℤ int_div a d) × (int_div a d ≤ℤ a)
+int_div-floor (pos n) (pos d) h k =
+    let whole = div-add-mod' n d in
+    let rest : n % d < d = mod-lt n (omega (arith, ints)) in
+    let least = div-le_self n d in
+    (record { below = omega (arith, ints); above = omega (arith, ints) }, omega (arith, ints), omega (arith, ints))
+int_div-floor (negsuc n) d h k = absurd (omega (arith, ints))
+int_div-floor a (negsuc d) h k = absurd (omega (arith, ints))
+
+-- of a number that is not positive it is the ceiling, between the number and 0
+pub int_div-ceiling : (a d : ℤ) → a ≤ℤ pos 0 → pos 0 <ℤ d
+    → IsCeiling a d (int_div a d) × (a ≤ℤ int_div a d) × (int_div a d ≤ℤ pos 0)
+int_div-ceiling (negsuc n) (pos d) h k =
+    let whole = div-add-mod' (suc n) d in
+    let rest : suc n % d < d = mod-lt (suc n) (omega (arith, ints)) in
+    let least = div-le_self (suc n) d in
+    let s = mul_neg_left (pos (suc n / d)) (pos d) in
+    (record { above = omega (arith, ints); below = omega (arith, ints) }, omega (arith, ints), omega (arith, ints))
+int_div-ceiling (pos n) (pos d) h k =
+    let whole = div-add-mod' n d in
+    let rest : n % d < d = mod-lt n (omega (arith, ints)) in
+    let least = div-le_self n d in
+    (record { above = omega (arith, ints); below = omega (arith, ints) }, omega (arith, ints), omega (arith, ints))
+int_div-ceiling a (negsuc d) h k = absurd (omega (arith, ints))
+
+-- the ceiling is one more than the floor of the number below
+pub ceiling_from_floor_below : (a d q : ℤ) → IsFloor (a -ℤ pos 1) d q → IsCeiling a d (q +ℤ pos 1)
+ceiling_from_floor_below a d q f =
+    let s = mul_distrib_right q (pos 1) d in record { above = omega (arith, ints); below = omega (arith, ints) }
+
+-- the floor is one less than the ceiling of the number above
+pub floor_from_ceiling_above : (a d q : ℤ) → IsCeiling (a +ℤ pos 1) d q → IsFloor a d (q -ℤ pos 1)
+floor_from_ceiling_above a d q c =
+    let s = mul_sub_right q (pos 1) d in record { below = omega (arith, ints); above = omega (arith, ints) }
