@@ -52,10 +52,11 @@ pub passes_then : (old mid new : Option (List ℕ)) (p q r a b : List ℕ) → P
 passes_then None mid new p q r a b one two = tt
 passes_then (Some old) None new p q r a b one two = absurd one
 passes_then (Some old) (Some mid) None p q r a b one two = two
-passes_then (Some old) (Some mid) (Some new) p q r a b one two =
-    ( one.0 ++ two.0,
-      two.1 ∙ (ap (λ t. t ++ two.0) one.1 ∙ append_assoc old one.0 two.0),
-      append_assoc one.0 two.0 r ∙ (ap (λ t. one.0 ++ t) two.2 ∙ (sym (append_assoc one.0 q b) ∙ (ap (λ t. t ++ b) one.2 ∙ append_assoc p a b))) )
+passes_then (Some old) (Some mid) (Some new) p q r a b one two = (
+  one.0 ++ two.0,
+  two.1 ∙ (ap (λ t. t ++ two.0) one.1 ∙ append_assoc old one.0 two.0),
+  append_assoc one.0 two.0 r ∙ (ap (λ t. one.0 ++ t) two.2 ∙ (sym (append_assoc one.0 q b) ∙ (ap (λ t. t ++ b) one.2 ∙ append_assoc p a b))),
+)
 
 -- putting the empty text changes nothing
 pub passes_nothing : (old : Option (List ℕ)) (p : List ℕ) → Passes old p old p []
@@ -73,11 +74,12 @@ pub passes_then_front : (old mid new : Option (List ℕ)) (p q a b : List ℕ) �
 passes_then_front None mid new p q a b put part = tt
 passes_then_front (Some old) None new p q a b put part = absurd put
 passes_then_front (Some old) (Some mid) None p q a b put part = part
-passes_then_front (Some old) (Some mid) (Some new) p q a b put part =
-    ( put.0 ++ part.0,
-      part.1,
-      sym (append_assoc p a b) ∙ (ap (λ t. t ++ b) (sym put.2) ∙ (append_assoc put.0 q b ∙ (ap (λ t. put.0 ++ t) part.2 ∙ sym (append_assoc put.0 part.0 part.1)))),
-      part.3 ∙ (ap (λ t. t ++ part.0) put.1 ∙ append_assoc old put.0 part.0) )
+passes_then_front (Some old) (Some mid) (Some new) p q a b put part = (
+  put.0 ++ part.0,
+  part.1,
+  sym (append_assoc p a b) ∙ (ap (λ t. t ++ b) (sym put.2) ∙ (append_assoc put.0 q b ∙ (ap (λ t. put.0 ++ t) part.2 ∙ sym (append_assoc put.0 part.0 part.1)))),
+  part.3 ∙ (ap (λ t. t ++ part.0) put.1 ∙ append_assoc old put.0 part.0),
+)
 
 -- a text was put, and then all that was pending was sent on
 pub passes_then_all : (old mid new : Option (List ℕ)) (p q a : List ℕ) → Passes old p mid q a → Appends mid new q → Appends old new (p ++ a)

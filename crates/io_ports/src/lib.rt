@@ -8,16 +8,18 @@
 mod calls;
 mod fault;
 mod gate;
-mod memory;
 mod pieces;
 mod sink;
+mod sink_in_memory;
 mod source;
+mod source_in_memory;
 mod streams;
 
 pub use fault::Failed;
 pub use gate::{Gate, OpenGate};
-pub use memory::{MemSink, MemSource};
 pub use pieces::Pieces;
 pub use sink::{Sink, write_whole};
+pub use sink_in_memory::MemSink;
 pub use source::{ReadError, Source, read_to_end};
+pub use source_in_memory::MemSource;
 pub use streams::{StdSink, StdSource};

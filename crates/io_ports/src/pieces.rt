@@ -81,3 +81,26 @@ impl Pieces {
         self.length = end;
     }
 }
+
+#[cfg(test)]
+mod tests {
+    use super::*;
+    use crate::sink_in_memory::MemSink;
+    use std::test::Fail;
+
+    #[test]
+    fn writes_short_and_long_texts_in_order(rt: HostRuntime) -> Result<(), Fail> {
+        let long = vec![in rt.alloc(); b'x'; 10000]?;
+        let mut sink = MemSink::of(rt.alloc(), 30000, 4000, &[])?;
+        let mut pieces = Pieces::new();
+        assert_eq!(rt; pieces.put(&mut sink, b"a"), Ok(()));
+        assert_eq!(rt; sink.taken(), b"".as_slice());
+        assert_eq!(rt; pieces.put(&mut sink, &long), Ok(()));
+        assert_eq!(rt; pieces.put(&mut sink, b"b"), Ok(()));
+        assert_eq!(rt; pieces.finish(&mut sink), Ok(()));
+        assert_eq!(rt; sink.taken().len(), 10002);
+        assert_eq!(rt; sink.taken().first(), Some(&b'a'));
+        assert_eq!(rt; sink.taken().last(), Some(&b'b'));
+        Ok(())
+    }
+}

@@ -86,3 +86,31 @@ impl<W: Write> Sink for StdSink<W> {
         }
     }
 }
+
+#[cfg(test)]
+mod tests {
+    use super::*;
+    use crate::sink::write_whole;
+    use crate::source::read_to_end;
+    use std::io::Cursor;
+    use std::test::Fail;
+
+    #[test]
+    fn copies_through_streams_in_memory(rt: HostRuntime) -> Result<(), Fail> {
+        let mut source = StdSource::of(b"one two".as_slice());
+        let text = read_to_end(rt.alloc(), &mut source, 7)?;
+        let mut written = Vec::new(rt.alloc());
+        let mut sink = StdSink::of(&mut written);
+        assert_eq!(rt; write_whole(&mut sink, &text), Ok(()));
+        assert_eq!(rt; sink.flush(), Ok(()));
+        assert_eq!(rt; written.as_slice(), b"one two".as_slice());
+        Ok(())
+    }
+
+    #[test]
+    fn fails_where_the_writer_is_full(rt: HostRuntime) {
+        let mut sink = StdSink::of(Cursor::new([0u8; 4]));
+        assert_eq!(rt; write_whole(&mut sink, b"fives"), Err(Failed));
+        assert_eq!(rt; sink.faults, 1);
+    }
+}

@@ -1,105 +1,15 @@
-//! A source and a sink in memory, which tell their bytes and fail at chosen calls: what tests run on.
+//! A sink into memory, which tells what it took and fails at chosen calls: what tests write to.
 
-ghost use Rattle.std.specs.Prelude.{◌≡◌, ◌≤◌, ◌<◌, [], Some, IfOk, length, take};
-ghost use Rattle.std.specs.Io.KnownBytes.{ReadConsumes, WriteAppends, Keeps};
+ghost use Rattle.std.specs.Prelude.{◌≡◌, ◌≤◌, ◌<◌, [], Some, IfOk, length};
+ghost use Rattle.std.specs.Io.KnownBytes.{WriteAppends, Keeps};
 ghost use Rattle.io_ports.specs.Faults.{HasCause};
-ghost use Rattle.io_ports.specs.Memory.{ReadsNext, WritesNext, FlushesNext};
+ghost use Rattle.io_ports.specs.Memory.{WritesNext, FlushesNext};
 
 use crate::calls::Calls;
 use crate::fault::Failed;
 use crate::sink::Sink;
-use crate::source::Source;
 use std::alloc::{AllocError, Global};
 use std::marker::Model;
-
-/// A source over bytes in memory. It gives at most `step` bytes a call, and fails at chosen calls.
-#[derive(Drop)]
-pub struct MemSource {
-    bytes: Vec<u8>,
-    place: usize,
-    step: usize,
-    calls: Calls,
-}
-
-impl Model for MemSource {
-    ghost use Rattle.std.specs.Prelude.{◌≤◌, ◌<◌, drop, vec_len};
-    ghost use Rattle.io_ports.specs.Memory.{SourceState};
-
-    ghost Value = { SourceState };
-
-    ghost view = { λ s. record { left = drop s.place s.bytes.items; step = s.step; fails = s.calls.fails.items; calls = s.calls.made; faults = s.calls.faults } };
-
-    ghost invariant = { λ s. (s.place ≤ vec_len s.bytes) × (0 < s.step) };
-}
-
-impl MemSource {
-    /// A source of these bytes; `fails` has the numbers of the calls that fail, counted from 1.
-    pub fn of(
-        alloc: Global,
-        bytes: &[u8],
-        step: usize,
-        fails: &[u64],
-    ) -> Result<MemSource, AllocError>
-        requires { 1 ≤ step }
-        ensures { IfOk result (λ s. s ≡ record { left = bytes.now; step = step; fails = fails.now; calls = 0; faults = 0 }) }
-    {
-        Ok(MemSource {
-            bytes: Vec::from_slice(alloc, bytes)?,
-            place: 0,
-            step,
-            calls: Calls {
-                fails: Vec::from_slice(alloc, fails)?,
-                made: 0,
-                faults: 0,
-            },
-        })
-    }
-
-    /// The bytes still to come.
-    pub fn left(&self) -> &[u8]
-        ensures { result.now ≡ self.now.left }
-    {
-        &self.bytes[self.place..]
-    }
-
-    /// How many calls failed.
-    pub fn faults(&self) -> u64
-        ensures { result ≡ self.now.faults }
-    {
-        self.calls.faults
-    }
-}
-
-impl Source for MemSource {
-    ghost left = { λ s. Some s.left };
-
-    ghost faults = { λ s. s.faults };
-
-    fn read(&mut self, buf: &mut [u8]) -> Result<usize, Failed>
-        ensures bound { IfOk result (λ n. n ≤ length buf.old) }
-        ensures bytes { ReadConsumes (Some self.old.left) (Some self.new.left) result buf.new }
-        ensures cause { HasCause self.old.faults self.new.faults result }
-        ensures exact { ReadsNext self.old self.new (length buf.old) result }
-    {
-        if self.calls.next_fails() {
-            self.calls.add_fault();
-            return Err(Failed);
-        }
-        let left = &self.bytes[self.place..];
-        let count = self.step.min(buf.len()).min(left.len());
-        put_front(buf, &left[..count]);
-        self.place += count;
-        Ok(count)
-    }
-}
-
-/// Puts bytes at the front of a buffer.
-fn put_front(buf: &mut [u8], bytes: &[u8])
-    requires { length bytes.now ≤ length buf.old }
-    ensures { take (length bytes.now) buf.new ≡ bytes.now }
-{
-    buf[..bytes.len()].copy_from_slice(bytes);
-}
 
 /// A sink into memory with room for `capacity` bytes. It takes at most `step` bytes a call, and fails at
 /// chosen calls and where there is no room.
@@ -195,6 +105,30 @@ impl Sink for MemSink {
             self.calls.add_fault();
             return Err(Failed);
         }
+        Ok(())
+    }
+}
+
+#[cfg(test)]
+mod tests {
+    use super::*;
+    use std::test::Fail;
+
+    #[test]
+    fn takes_short_steps_and_fails_at_listed_calls_and_without_room(
+        rt: HostRuntime,
+    ) -> Result<(), Fail> {
+        let mut sink = MemSink::of(rt.alloc(), 5, 2, &[3, 5])?;
+        assert_eq!(rt; sink.write(b"abcd"), Ok(2));
+        assert_eq!(rt; sink.write(b"cd"), Ok(2));
+        assert_eq!(rt; sink.write(b"e"), Err(Failed));
+        assert_eq!(rt; sink.flush(), Ok(()));
+        assert_eq!(rt; sink.flush(), Err(Failed));
+        assert_eq!(rt; sink.write(b"efg"), Ok(1));
+        assert_eq!(rt; sink.write(b"fg"), Err(Failed));
+        assert_eq!(rt; sink.write(b""), Ok(0));
+        assert_eq!(rt; sink.taken(), b"abcde".as_slice());
+        assert_eq!(rt; sink.faults(), 3);
         Ok(())
     }
 }

@@ -1,7 +1,7 @@
 -- The bytes given are the first of those left.
 use Rattle.std.proofs.Common.{◌≡◌, ◌∙◌, ◌-◌, sym, ap, length, take, drop, arith, length-drop, take_all}
 use Rattle.io_ports.proofs.Reading.{gives_front, gives_end}
-use Rattle.io_ports.proofs.memory.MemSourceSource.read.Goals as goal
+use Rattle.io_ports.proofs.source_in_memory.MemSourceSource.read.Goals as goal
 
 pub returns-clause-bytes : goal.returns-clause-bytes
 returns-clause-bytes c =

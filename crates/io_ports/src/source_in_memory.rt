@@ -1,0 +1,122 @@
+//! A source over bytes in memory, which tells them and fails at chosen calls: what tests read from.
+
+ghost use Rattle.std.specs.Prelude.{◌≡◌, ◌≤◌, Some, IfOk, length, take};
+ghost use Rattle.std.specs.Io.KnownBytes.{ReadConsumes};
+ghost use Rattle.io_ports.specs.Faults.{HasCause};
+ghost use Rattle.io_ports.specs.Memory.{ReadsNext};
+
+use crate::calls::Calls;
+use crate::fault::Failed;
+use crate::source::Source;
+use std::alloc::{AllocError, Global};
+use std::marker::Model;
+
+/// A source over bytes in memory. It gives at most `step` bytes a call, and fails at chosen calls.
+#[derive(Drop)]
+pub struct MemSource {
+    bytes: Vec<u8>,
+    place: usize,
+    step: usize,
+    calls: Calls,
+}
+
+impl Model for MemSource {
+    ghost use Rattle.std.specs.Prelude.{◌≤◌, ◌<◌, drop, vec_len};
+    ghost use Rattle.io_ports.specs.Memory.{SourceState};
+
+    ghost Value = { SourceState };
+
+    ghost view = { λ s. record { left = drop s.place s.bytes.items; step = s.step; fails = s.calls.fails.items; calls = s.calls.made; faults = s.calls.faults } };
+
+    ghost invariant = { λ s. (s.place ≤ vec_len s.bytes) × (0 < s.step) };
+}
+
+impl MemSource {
+    /// A source of these bytes; `fails` has the numbers of the calls that fail, counted from 1.
+    pub fn of(
+        alloc: Global,
+        bytes: &[u8],
+        step: usize,
+        fails: &[u64],
+    ) -> Result<MemSource, AllocError>
+        requires { 1 ≤ step }
+        ensures { IfOk result (λ s. s ≡ record { left = bytes.now; step = step; fails = fails.now; calls = 0; faults = 0 }) }
+    {
+        Ok(MemSource {
+            bytes: Vec::from_slice(alloc, bytes)?,
+            place: 0,
+            step,
+            calls: Calls {
+                fails: Vec::from_slice(alloc, fails)?,
+                made: 0,
+                faults: 0,
+            },
+        })
+    }
+
+    /// The bytes still to come.
+    pub fn left(&self) -> &[u8]
+        ensures { result.now ≡ self.now.left }
+    {
+        &self.bytes[self.place..]
+    }
+
+    /// How many calls failed.
+    pub fn faults(&self) -> u64
+        ensures { result ≡ self.now.faults }
+    {
+        self.calls.faults
+    }
+}
+
+impl Source for MemSource {
+    ghost left = { λ s. Some s.left };
+
+    ghost faults = { λ s. s.faults };
+
+    fn read(&mut self, buf: &mut [u8]) -> Result<usize, Failed>
+        ensures bound { IfOk result (λ n. n ≤ length buf.old) }
+        ensures bytes { ReadConsumes (Some self.old.left) (Some self.new.left) result buf.new }
+        ensures cause { HasCause self.old.faults self.new.faults result }
+        ensures exact { ReadsNext self.old self.new (length buf.old) result }
+    {
+        if self.calls.next_fails() {
+            self.calls.add_fault();
+            return Err(Failed);
+        }
+        let left = &self.bytes[self.place..];
+        let count = self.step.min(buf.len()).min(left.len());
+        put_front(buf, &left[..count]);
+        self.place += count;
+        Ok(count)
+    }
+}
+
+/// Puts bytes at the front of a buffer.
+fn put_front(buf: &mut [u8], bytes: &[u8])
+    requires { length bytes.now ≤ length buf.old }
+    ensures { take (length bytes.now) buf.new ≡ bytes.now }
+{
+    buf[..bytes.len()].copy_from_slice(bytes);
+}
+
+#[cfg(test)]
+mod tests {
+    use super::*;
+    use std::test::Fail;
+
+    #[test]
+    fn gives_short_steps_and_fails_at_the_listed_call(rt: HostRuntime) -> Result<(), Fail> {
+        let mut source = MemSource::of(rt.alloc(), b"abcdefg", 3, &[2])?;
+        let mut buf = [0u8; 8];
+        assert_eq!(rt; source.read(&mut buf[..2]), Ok(2));
+        assert_eq!(rt; source.read(&mut buf), Err(Failed));
+        assert_eq!(rt; source.left(), b"cdefg".as_slice());
+        assert_eq!(rt; source.read(&mut buf), Ok(3));
+        assert_eq!(rt; &buf[..3], b"cde".as_slice());
+        assert_eq!(rt; source.read(&mut buf), Ok(2));
+        assert_eq!(rt; source.read(&mut buf), Ok(0));
+        assert_eq!(rt; source.faults(), 1);
+        Ok(())
+    }
+}
