@@ -1,0 +1,60 @@
+-- The runs over lists, step by step: what a loop that goes up through the places needs.
+use Rattle.std.proofs.Common.{◌≡◌, ℕ, suc, ◌+◌, ◌<◌, ◌≤◌, ℤ, pos, List, [], ◌∷◌, ◌++◌, length, get_or, take, drop, refl, sym, ap, append_assoc, add-one, arith, drop-cons}
+use Rattle.std.specs.Prelude.{Result, Ok, Err, set}
+use Rattle.std.proofs.Math.ListN.{drop_of_length-le}
+use Rattle.std.proofs.lemmas.List.{take_more_set, drop-set-lt, take_all, append-nil}
+use Rattle.wide_math.specs.declared.Wide.{Wide}
+use Rattle.wide_math.specs.Checked.{◌>>=◌}
+use Rattle.whole_numbers.specs.Affine.{Affine}
+use Rattle.affine_forms.specs.Runs.{map_run, zip_run, plus_multiple_run, plus_combination_run}
+
+-- what is done already, in front of what a run gives for the rest
+abbrev pub with_front : List ℤ → Result (List ℤ) Wide → Result (List ℤ) Wide
+with_front front run = run >>= λ rest. Ok (front ++ rest)
+
+-- an entry more in front is a longer front
+pub with_front-step : (front : List ℤ) (z : ℤ) (run : Result (List ℤ) Wide)
+    → with_front front (run >>= λ zs. Ok (z ∷ zs)) ≡ with_front (front ++ z ∷ []) run
+with_front-step front z (Ok zs) = ap Ok (sym (append_assoc front (z ∷ []) zs))
+with_front-step front z (Err w) = refl
+
+-- a step at place i that gives z writes z there
+pub zip_run-step : (step : ℤ → ℤ → Result ℤ Wide) (xs ys : List ℤ) (i : ℕ) (z : ℤ)
+    → i < length xs
+    → i < length ys → step (get_or xs i (pos 0)) (get_or ys i (pos 0)) ≡ Ok z
+    → with_front (take (i + 1) (set xs i z)) (zip_run step (drop (i + 1) (set xs i z)) (drop (i + 1) ys))
+    ≡ with_front (take i xs) (zip_run step (drop i xs) (drop i ys))
+zip_run-step step xs ys i z hx hy e =
+    rw (take_more_set xs i z hx, drop-set-lt (i + 1) xs i z (omega arith))
+    (rw (drop-cons xs i (pos 0) hx, drop-cons ys i (pos 0) hy, add-one i, e)
+    (sym (with_front-step (take i xs) z (zip_run step (drop (suc i) xs) (drop (suc i) ys)))))
+
+-- a step at place i that fails ends the run
+pub zip_run-stop : (step : ℤ → ℤ → Result ℤ Wide) (xs ys : List ℤ) (i : ℕ) (w : Wide)
+    → i < length xs → i < length ys → step (get_or xs i (pos 0)) (get_or ys i (pos 0)) ≡ Err w
+    → with_front (take i xs) (zip_run step (drop i xs) (drop i ys)) ≡ Err w
+zip_run-stop step xs ys i w hx hy e = rw (drop-cons xs i (pos 0) hx, drop-cons ys i (pos 0) hy, e) refl
+
+-- past the last place nothing is left
+pub zip_run-end : (step : ℤ → ℤ → Result ℤ Wide) (xs ys : List ℤ) (i : ℕ) → length xs ≤ i
+    → with_front (take i xs) (zip_run step (drop i xs) ys) ≡ Ok xs
+zip_run-end step xs ys i h = rw (drop_of_length-le xs h, take_all i xs h) (ap Ok (append-nil xs))
+
+-- the same for a run over one list: a step that fails, and the end
+pub map_run-stop : (step : ℤ → Result ℤ Wide) (xs : List ℤ) (i : ℕ) (w : Wide) → i < length xs
+    → step (get_or xs i (pos 0)) ≡ Err w
+    → with_front (take i xs) (map_run step (drop i xs)) ≡ Err w
+map_run-stop step xs i w hx e = rw (drop-cons xs i (pos 0) hx, e) refl
+
+pub map_run-end : (step : ℤ → Result ℤ Wide) (xs : List ℤ) (i : ℕ) → length xs ≤ i
+    → with_front (take i xs) (map_run step (drop i xs)) ≡ Ok xs
+map_run-end step xs i h = rw (drop_of_length-le xs h, take_all i xs h) (ap Ok (append-nil xs))
+
+-- a form more of a combination
+pub plus_combination_run-step : (sum : Affine) (ks : List ℤ) (gs : List Affine) (i : ℕ) (g next : Affine)
+    → i < length ks → i < length gs → g ≡ get_or gs i g
+    → plus_multiple_run sum (get_or ks i (pos 0)) g ≡ Ok next
+    → plus_combination_run next (drop (i + 1) ks) (drop (i + 1) gs)
+    ≡ plus_combination_run sum (drop i ks) (drop i gs)
+plus_combination_run-step sum ks gs i g next hk hg is given =
+    rw (add-one i, drop-cons ks i (pos 0) hk, drop-cons gs i g hg, ← is, given) refl

@@ -1,0 +1,90 @@
+-- What a run's form is worth at each point.
+use Rattle.std.proofs.Common.{◌≡◌, ℕ, zero, suc, ◌<◌, ℤ, pos, ◌+ℤ◌, ◌*ℤ◌, List, [], ◌∷◌, refl, sym, ap, ◌∙◌, arith, All, map}
+use Rattle.std.specs.Prelude.{Ok, replicate}
+use Rattle.std.proofs.lemmas.Int.{ints}
+use Rattle.whole_numbers.specs.Lists.{dot, multiples, zeros}
+use Rattle.whole_numbers.specs.Affine.{Affine, value_of, multiple_of_form}
+use Rattle.whole_numbers.proofs.Dot.{dot-zeros, length-sums, length-multiples, length-zeros}
+use Rattle.whole_numbers.proofs.Values.{value_of-sum, value_of-multiple, value_of-substituted}
+use Rattle.wide_math.proofs.Steps.{chain-ok}
+use Rattle.affine_forms.specs.Parts.{form_of, variables_of}
+use Rattle.affine_forms.specs.Runs.{plus_run, scaled_run, plus_multiple_run, substitute_run, compose_run, plus_combination_run}
+use Rattle.affine_forms.specs.Values.{IsSum, IsMultiple, IsSubstitution, IsComposition}
+use Rattle.affine_forms.proofs.Exact.{plus_run-exact, scaled_run-exact, plus_multiple_run-exact, substitute_run-exact}
+
+-- a sum of forms
+pub plus_run-value : (f g h : Affine) → variables_of g ≡ variables_of f → plus_run f g ≡ Ok h
+    → IsSum f g h
+plus_run-value f g h same run point fits =
+    let e = ap (λ (s : Affine). value_of s point) (plus_run-exact f g h same run) in
+    e ∙ value_of-sum f g point
+
+-- a multiple of a form
+pub scaled_run-value : (k : ℤ) (f h : Affine) → scaled_run k f ≡ Ok h → IsMultiple k f h
+scaled_run-value k f h run point fits =
+    let e = ap (λ (s : Affine). value_of s point) (scaled_run-exact k f h run) in
+    e ∙ value_of-multiple k f point
+
+-- f + k g is worth the value of f plus k times the value of g
+pub plus_multiple_run-value : (f : Affine) (k : ℤ) (g h : Affine) → variables_of g ≡ variables_of f
+    → plus_multiple_run f k g ≡ Ok h
+    → (point : List ℤ) → value_of h point ≡ value_of f point +ℤ (k *ℤ value_of g point)
+plus_multiple_run-value f k g h same run point =
+    let e = ap (λ (s : Affine). value_of s point) (plus_multiple_run-exact f k g h same run) in
+    let s = value_of-sum f (multiple_of_form k g) point in
+    let m = value_of-multiple k g point in
+    cc
+
+-- a form in place of a variable
+pub substitute_run-value : (f : Affine) (variable : ℕ) (g h : Affine) → variable < variables_of f
+    → variables_of g ≡ variables_of f → substitute_run f variable g ≡ Ok h
+    → IsSubstitution f variable g h
+substitute_run-value f variable g h inside same run point fits =
+    let e = ap (λ (s : Affine). value_of s point) (substitute_run-exact f variable g h same run) in
+    e ∙ value_of-substituted variable f g point inside (rw fits inside)
+
+-- a list of zeros
+pub replicate-zeros : (n : ℕ) → replicate n (pos 0) ≡ zeros n
+replicate-zeros zero = refl
+replicate-zeros (suc n) = ap (λ (zs : List ℤ). pos 0 ∷ zs) (replicate-zeros n)
+
+-- a sum keeps the number of variables
+pub plus_multiple_run-variables : (f : Affine) (k : ℤ) (g h : Affine)
+    → variables_of g ≡ variables_of f → plus_multiple_run f k g ≡ Ok h
+    → variables_of h ≡ variables_of f
+plus_multiple_run-variables f k g h same run =
+    let e = plus_multiple_run-exact f k g h same run in
+    let m = length-multiples k g.coefficients in
+    let s = length-sums f.coefficients (multiples k g.coefficients) (sym (m ∙ same)) in
+    ap variables_of e ∙ s
+
+-- a sum with each of some forms times its factor
+pub plus_combination_run-value : (sum : Affine) (ks : List ℤ) (gs : List Affine) (h : Affine)
+    → All (λ g. variables_of g ≡ variables_of sum) gs → plus_combination_run sum ks gs ≡ Ok h
+    → (point : List ℤ)
+    → value_of h point ≡ value_of sum point +ℤ dot ks (map (λ g. value_of g point) gs)
+plus_combination_run-value sum [] gs h same run point =
+    let e : h ≡ sum = cc in rw e (omega (arith, ints))
+plus_combination_run-value sum (k ∷ ks) [] h same run point =
+    let e : h ≡ sum = cc in rw e (omega (arith, ints))
+plus_combination_run-value sum (k ∷ ks) (g ∷ gs) h same run point =
+    let c = chain-ok (plus_multiple_run sum k g)
+    (λ (next : Affine). plus_combination_run next ks gs) h run in
+    let here : variables_of g ≡ variables_of sum = same 0 g (omega arith) in
+    let first = plus_multiple_run-value sum k g c.0 here c.1 point in
+    let kept = plus_multiple_run-variables sum k g c.0 here c.1 in
+    let all : All (λ g. variables_of g ≡ variables_of c.0) gs =
+    λ j d inside. same (suc j) d (omega arith) ∙ sym kept in
+    let rest = plus_combination_run-value c.0 ks gs h all c.2 point in
+    omega (arith, ints)
+
+-- a form at the values of forms
+pub compose_run-value : (f : Affine) (inner : List Affine) (n : ℕ) (h : Affine)
+    → All (λ g. variables_of g ≡ n) inner → compose_run f inner n ≡ Ok h → IsComposition f inner n h
+unfolding compose_run
+compose_run-value f inner n h same run point fits =
+    let start = form_of (zeros n) f.constant in
+    let all : All (λ g. variables_of g ≡ variables_of start) inner = rw (length-zeros n) same in
+    let e = plus_combination_run-value start f.coefficients inner h all run point in
+    let z = dot-zeros n point in
+    omega (arith, ints)

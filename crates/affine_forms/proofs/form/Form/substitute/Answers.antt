@@ -1,0 +1,15 @@
+use Rattle.std.proofs.Common.{rules}
+use Rattle.affine_forms.specs.Runs.{substitute_run}
+use Rattle.affine_forms.proofs.Exact.{substitute_run-exact}
+use Rattle.affine_forms.proofs.Values.{substitute_run-value}
+use Rattle.affine_forms.proofs.form.Form.substitute.Goals as goal
+
+pub returns-in-Ok-add_scaled-clause-entries : goal.returns-in-Ok-add_scaled-clause-entries
+unfolding substitute_run
+returns-in-Ok-add_scaled-clause-entries c =
+    substitute_run-exact c.args.self.now c.args.variable c.args.form.now c.add_scaled.new.self c.requires.form (search rules)
+
+pub returns-in-Ok-add_scaled-clause-value : goal.returns-in-Ok-add_scaled-clause-value
+unfolding substitute_run
+returns-in-Ok-add_scaled-clause-value c =
+    substitute_run-value c.args.self.now c.args.variable c.args.form.now c.add_scaled.new.self c.requires.variable c.requires.form (search rules)

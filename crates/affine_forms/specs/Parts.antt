@@ -1,0 +1,18 @@
+use Rattle.std.specs.Prelude.{ℕ, ℤ, pos, List, length, get_or, slice_set}
+use Rattle.whole_numbers.specs.Affine.{Affine}
+
+-- the form with these coefficients and this constant
+abbrev pub form_of : List ℤ → ℤ → Affine
+form_of coefficients constant = record { coefficients = coefficients; constant = constant }
+
+-- how many variables a form speaks of
+abbrev pub variables_of : Affine → ℕ
+variables_of f = length f.coefficients
+
+-- a form's coefficient of a variable, 0 past the last
+abbrev pub coefficient_of : Affine → ℕ → ℤ
+coefficient_of f variable = get_or f.coefficients variable (pos 0)
+
+-- a form with 0 as its coefficient of a variable
+abbrev pub without_variable : Affine → ℕ → Affine
+without_variable f variable = form_of (slice_set f.coefficients variable (pos 0)) f.constant

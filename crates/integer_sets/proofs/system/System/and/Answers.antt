@@ -1,0 +1,9 @@
+use Rattle.std.proofs.Common.{rules}
+use Rattle.integer_sets.specs.Constraints.{system_of}
+use Rattle.integer_sets.proofs.PointLaws.{intersection-points}
+use Rattle.integer_sets.proofs.system.System.and.Goals as goal
+
+pub returns-clause-points : goal.returns-clause-points
+returns-clause-points c =
+    let both = system_of c.both.inside.dimensions c.both.inside.parameters c.append_copies.new.forms.items c.append_copies-2.new.forms.items in
+    intersection-points c.args.self.now c.args.other.now both (search rules)

@@ -1,0 +1,3 @@
+pub mod Constraints
+pub mod Points
+pub mod Runs

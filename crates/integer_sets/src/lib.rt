@@ -1,0 +1,13 @@
+//! Sets of whole points: systems of affine equalities and inequalities, whether a point lies in
+//! one, intersections, and the sets that a loop nest scans.
+#![tactic(auto)]
+
+mod laws;
+mod scan_set;
+mod system;
+#[cfg(test)]
+mod tests;
+
+pub use laws::{least_point_is_unique, prefix_decides_the_order};
+pub use scan_set::ScanSet;
+pub use system::System;

@@ -1,0 +1,28 @@
+//! The top call of Polypar: words, a source and two sinks in; the answer on the sinks and a status out.
+//!
+//! The clauses of `plain_command` and `polypar` carry the whole claim: what `run` prints are exactly the
+//! arrays of the kernel's own sequential execution, and each status comes from its cause alone.
+#![tactic(auto)]
+
+mod array_text;
+mod command;
+mod copy_kernel;
+mod cut;
+mod data_form;
+mod decimals;
+mod kernel_form;
+mod kernel_reader;
+mod names;
+mod plain;
+mod run;
+mod status;
+mod status_line;
+mod tokens;
+
+#[cfg(test)]
+mod tests;
+
+pub use kernel_form::spelled_once;
+pub use plain::{plain_command, polypar};
+pub use run::LONGEST_INPUT;
+pub use status::{DataRefusal, Refusal, RefusalKind, Status};

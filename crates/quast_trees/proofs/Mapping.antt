@@ -1,0 +1,185 @@
+-- Maps: the tree and the nodes that a map's run gives, and the mapped tree's leaves.
+use Rattle.std.proofs.Common.{◌≡◌, ℕ, suc, ℤ, ◌+◌, List, [], ◌∷◌, ◌++◌, ◌<◌, ◌≤◌, length, get_or, All, Result, Ok, Err, refl, sym, ap, ◌∙◌, length-append, arith}
+use Rattle.std.proofs.lemmas.List.Elements.{All-nil, All-cons, All-append}
+use Rattle.whole_numbers.specs.Affine.{Affine, value_of}
+use Rattle.whole_numbers.specs.Floor.{floor}
+use Rattle.whole_numbers.specs.Lists.{zeros}
+use Rattle.wide_math.specs.declared.Wide.{Wide}
+use Rattle.wide_math.specs.Checked.{◌>>=◌}
+use Rattle.affine_forms.specs.Parts.{variables_of, form_of}
+use Rattle.affine_forms.specs.Runs.{compose_run, plus_multiple_run, plus_combination_run}
+use Rattle.affine_forms.specs.Gives.{Fails}
+use Rattle.affine_forms.specs.declared.stop.FormStop.{FormStop}
+use Rattle.affine_forms.specs.declared.stop.FormStop.TheVariants as stop
+use Rattle.affine_forms.proofs.Exact.{chain}
+use Rattle.whole_numbers.proofs.Dot.{length-zeros}
+use Rattle.affine_forms.proofs.Values.{compose_run-value, plus_multiple_run-variables}
+use Rattle.quast_trees.specs.Source.{Source}
+use Rattle.quast_trees.specs.Tree.{Tree, initial, source, branch, bind, count, Speaks}
+use Rattle.quast_trees.specs.Postfix.{written}
+use Rattle.quast_trees.specs.Leaf.{values_of, mapped_leaf}
+use Rattle.quast_trees.specs.Each.{each_run}
+use Rattle.quast_trees.specs.Value.{value}
+use Rattle.quast_trees.specs.Mapped.{Suits, SuitsNode, composed_run, source_run, map_run, node_run}
+use Rattle.quast_trees.specs.declared.node.Node.{Node}
+use Rattle.quast_trees.specs.declared.node.Node.TheVariants as node
+use Rattle.quast_trees.proofs.BySign.{by_sign-mapped}
+use Rattle.quast_trees.proofs.Each.{EachSoFar, each_done, each_stops, after, each-append, each_run-map, each_run-all}
+
+-- a combination of forms over some variables is a form over them
+plus_combination_run-variables : (sum : Affine) (ks : List ℤ) (gs : List Affine) (h : Affine) → All (λ g. variables_of g ≡ variables_of sum) gs
+    → plus_combination_run sum ks gs ≡ Ok h → variables_of h ≡ variables_of sum
+plus_combination_run-variables sum [] gs h same run = let e : h ≡ sum = cc in ap variables_of e
+plus_combination_run-variables sum (k ∷ ks) [] h same run = let e : h ≡ sum = cc in ap variables_of e
+plus_combination_run-variables sum (k ∷ ks) (g ∷ gs) h same run =
+    let c = chain (plus_multiple_run sum k g) (λ (next : Affine). plus_combination_run next ks gs) h run in
+    let kept = plus_multiple_run-variables sum k g c.x (same 0 g (omega arith)) c.first_is in
+    plus_combination_run-variables c.x ks gs h (λ j d inside. same (suc j) d (omega arith) ∙ sym kept) c.next_is ∙ kept
+
+-- a form composed with forms over n variables is a form over n variables
+pub compose_run-variables : (f : Affine) (inner : List Affine) (n : ℕ) (h : Affine) → All (λ g. variables_of g ≡ n) inner
+    → compose_run f inner n ≡ Ok h → variables_of h ≡ n
+unfolding compose_run
+compose_run-variables f inner n h same run =
+    plus_combination_run-variables (form_of (zeros n) f.constant) f.coefficients inner h (rw (length-zeros n) same) run ∙ length-zeros n
+
+-- the composed forms have at a point the values that the forms have at the inner forms' values
+pub composed_run-value : (forms inner : List Affine) (n : ℕ) (gs : List Affine) (point : List ℤ) → All (λ g. variables_of g ≡ n) inner → length point ≡ n
+    → composed_run forms inner n ≡ Ok gs → values_of gs point ≡ values_of forms (values_of inner point)
+composed_run-value forms inner n gs point same fits h =
+    each_run-map (λ f. compose_run f inner n) (λ f. value_of f (values_of inner point)) (λ g. value_of g point)
+    (λ f g run. compose_run-value f inner n g same run point fits) forms gs h
+
+-- a mapped tree speaks of the same variables
+pub map_run-speaks : (forms : List Affine) (n : ℕ) (t u : Tree) → Speaks n t → map_run forms t ≡ Ok u → Speaks n u
+map_run-speaks forms n initial u s h = let e : u ≡ initial = cc in rw e tt
+map_run-speaks forms n (source k) u s h =
+    let c = chain (source_run forms k) (λ m. Ok (source m)) u h in
+    let d = chain (composed_run forms k.forms k.variables) (λ gs. Ok (record k { forms = gs })) c.x c.first_is in
+    let all = each_run-all (λ f. compose_run f k.forms k.variables) (λ f. Unit {0}) (λ g. variables_of g ≡ n)
+    (λ f g _ run. compose_run-variables f k.forms k.variables g (rw s.0 s.1) run ∙ s.0) forms d.x (λ j f inside. tt) d.first_is in
+    let e : u ≡ source (record k { forms = d.x }) = cc (c.next_is, d.next_is) in
+    rw e (s.0, all)
+map_run-speaks forms n (branch test a b) u s h =
+    let c = chain (map_run forms a) (λ x. map_run forms b >>= λ y. Ok (branch test x y)) u h in
+    let d = chain (map_run forms b) (λ y. Ok (branch test c.x y)) u c.next_is in
+    let e : u ≡ branch test c.x d.x = cc (d.next_is) in
+    rw e (s.0, map_run-speaks forms n a c.x s.1 c.first_is, map_run-speaks forms n b d.x s.2 d.first_is)
+map_run-speaks forms n (bind f divisor t) u s h =
+    let c = chain (map_run forms t) (λ x. Ok (bind f divisor x)) u h in
+    let e : u ≡ bind f divisor c.x = cc (c.next_is) in
+    rw e (s.0, s.1, map_run-speaks forms (n + 1) t c.x s.2 c.first_is)
+
+-- a mapped tree has at each point the image of the tree's leaf
+pub map_run-value : (forms : List Affine) (t u : Tree) (point : List ℤ) → Speaks (length point) t → map_run forms t ≡ Ok u
+    → value u point ≡ mapped_leaf forms (value t point)
+map_run-value forms initial u point s h = let e : u ≡ initial = cc in rw e refl
+map_run-value forms (source k) u point s h =
+    let c = chain (source_run forms k) (λ m. Ok (source m)) u h in
+    let d = chain (composed_run forms k.forms k.variables) (λ gs. Ok (record k { forms = gs })) c.x c.first_is in
+    let v = composed_run-value forms k.forms k.variables d.x point (rw s.0 s.1) (sym s.0) d.first_is in
+    let e : u ≡ source (record k { forms = d.x }) = cc (c.next_is, d.next_is) in
+    rw (e, v) refl
+map_run-value forms (branch test a b) u point s h =
+    let c = chain (map_run forms a) (λ x. map_run forms b >>= λ y. Ok (branch test x y)) u h in
+    let d = chain (map_run forms b) (λ y. Ok (branch test c.x y)) u c.next_is in
+    let e : u ≡ branch test c.x d.x = cc (d.next_is) in
+    rw e (by_sign-mapped forms (value_of test point) (value a point) (value b point) (value c.x point) (value d.x point)
+    (map_run-value forms a c.x point s.1 c.first_is) (map_run-value forms b d.x point s.2 d.first_is))
+map_run-value forms (bind f divisor t) u point s h =
+    let c = chain (map_run forms t) (λ x. Ok (bind f divisor x)) u h in
+    let e : u ≡ bind f divisor c.x = cc (c.next_is) in
+    let longer = point ++ floor (value_of f point) divisor ∷ [] in
+    let speaks : Speaks (length longer) t = rw (length-append point (floor (value_of f point) divisor ∷ [])) s.2 in
+    rw e (map_run-value forms t c.x longer speaks c.first_is)
+
+-- a mapped tree has as many nodes
+pub map_run-count : (forms : List Affine) (t u : Tree) → map_run forms t ≡ Ok u → count u ≡ count t
+map_run-count forms initial u h = let e : u ≡ initial = cc in rw e refl
+map_run-count forms (source k) u h =
+    let c = chain (source_run forms k) (λ m. Ok (source m)) u h in
+    let e : u ≡ source c.x = cc (c.next_is) in
+    rw e refl
+map_run-count forms (branch test a b) u h =
+    let c = chain (map_run forms a) (λ x. map_run forms b >>= λ y. Ok (branch test x y)) u h in
+    let d = chain (map_run forms b) (λ y. Ok (branch test c.x y)) u c.next_is in
+    let e : u ≡ branch test c.x d.x = cc (d.next_is) in
+    rw (e, map_run-count forms a c.x c.first_is, map_run-count forms b d.x d.first_is) refl
+map_run-count forms (bind f divisor t) u h =
+    let c = chain (map_run forms t) (λ x. Ok (bind f divisor x)) u h in
+    let e : u ≡ bind f divisor c.x = cc (c.next_is) in
+    rw (e, map_run-count forms t c.x c.first_is) refl
+
+-- two sides' nodes and the branch's own are the branch's nodes
+branch_nodes_run : (test : Affine) (n : ℕ) (a b : Result Tree Wide) → ((u : Tree) → b ≡ Ok u → count u ≡ n)
+    → (((a >>= λ t. Ok (written t)) >>= λ us. after us (b >>= λ t. Ok (written t))) >>= λ us. after us (Ok (node.Branch test n ∷ [])))
+    ≡ ((a >>= λ t. b >>= λ u. Ok (branch test t u)) >>= λ t. Ok (written t))
+branch_nodes_run test n (Err w) b counted = refl
+branch_nodes_run test n (Ok t) (Err w) counted = refl
+branch_nodes_run test n (Ok t) (Ok u) counted = rw (counted u refl) refl
+
+-- a body's nodes and the bind's own are the bind's nodes
+bind_nodes_run : (f : Affine) (divisor : ℤ) (a : Result Tree Wide)
+    → ((a >>= λ t. Ok (written t)) >>= λ us. after us (Ok (node.Bind f divisor ∷ []))) ≡ ((a >>= λ t. Ok (bind f divisor t)) >>= λ t. Ok (written t))
+bind_nodes_run f divisor (Err w) = refl
+bind_nodes_run f divisor (Ok t) = refl
+
+-- a source's node alone
+source_nodes_run : (a : Result Source Wide)
+    → ((a >>= λ s. Ok (node.Source s)) >>= λ x. Ok (x ∷ [])) ≡ ((a >>= λ s. Ok (source s)) >>= λ t. Ok (written t))
+source_nodes_run (Err w) = refl
+source_nodes_run (Ok s) = refl
+
+-- mapping a tree's nodes one by one writes the mapped tree
+pub nodes_run-written : (forms : List Affine) (t : Tree) → each_run (node_run forms) (written t) ≡ (map_run forms t >>= λ u. Ok (written u))
+nodes_run-written forms initial = refl
+nodes_run-written forms (source k) = source_nodes_run (source_run forms k)
+nodes_run-written forms (branch test a b) =
+    rw (
+      each-append (node_run forms) (written a ++ written b) (node.Branch test (count b) ∷ []),
+      each-append (node_run forms) (written a) (written b),
+      nodes_run-written forms a,
+      nodes_run-written forms b,
+    )
+    (branch_nodes_run test (count b) (map_run forms a) (map_run forms b) (λ u e. map_run-count forms b u e))
+nodes_run-written forms (bind f divisor t) =
+    rw (each-append (node_run forms) (written t) (node.Bind f divisor ∷ []), nodes_run-written forms t) (bind_nodes_run f divisor (map_run forms t))
+
+-- a tree that suits the forms is written in nodes that suit them
+pub suits_written : (forms : List Affine) (n : ℕ) (t : Tree) → Speaks n t → Suits forms t → All (SuitsNode forms) (written t)
+suits_written forms n initial s k = All-cons (SuitsNode forms) node.Initial [] tt (All-nil (SuitsNode forms))
+suits_written forms n (source m) s k = All-cons (SuitsNode forms) (node.Source m) [] (rw s.0 s.1, k) (All-nil (SuitsNode forms))
+suits_written forms n (branch test a b) s k =
+    All-append (SuitsNode forms) (written a ++ written b) (node.Branch test (count b) ∷ [])
+    (All-append (SuitsNode forms) (written a) (written b) (suits_written forms n a s.1 k.0) (suits_written forms n b s.2 k.1))
+    (All-cons (SuitsNode forms) (node.Branch test (count b)) [] tt (All-nil (SuitsNode forms)))
+suits_written forms n (bind f divisor t) s k =
+    All-append (SuitsNode forms) (written t) (node.Bind f divisor ∷ []) (suits_written forms (n + 1) t s.2 k)
+    (All-cons (SuitsNode forms) (node.Bind f divisor) [] tt (All-nil (SuitsNode forms)))
+
+-- a tree's mapped nodes are those of the mapped tree
+pub record MapsTo (forms : List Affine) (t : Tree) (nodes : List Node) : Type 0 where
+  pub tree : Tree
+  pub run : map_run forms t ≡ Ok tree
+  pub spelled : nodes ≡ written tree
+
+pub maps_to : (forms : List Affine) (t : Tree) (nodes mapped : List Node) (i : ℕ) → nodes ≡ written t → length nodes ≤ i
+    → EachSoFar (node_run forms) nodes i mapped → MapsTo forms t mapped
+maps_to forms t nodes mapped i spelled ended so_far =
+    let whole = each_done (node_run forms) nodes i mapped ended so_far in
+    let c = chain (map_run forms t) (λ u. Ok (written u)) mapped (sym (nodes_run-written forms t) ∙ ap (each_run (node_run forms)) (sym spelled) ∙ whole) in
+    let e : mapped ≡ written c.x = cc (c.next_is) in
+    record { tree = c.x; run = c.first_is; spelled = e }
+
+-- a run whose nodes fail fails
+fails_back : (run : Result Tree Wide) (w : Wide) → (run >>= λ u. Ok (written u)) ≡ Err w → run ≡ Err w
+fails_back (Ok u) w h = absurd cc
+fails_back (Err v) w h = cc
+
+-- a node whose run fails ends the tree's run
+pub map_stops : (forms : List Affine) (t : Tree) (nodes mapped : List Node) (i : ℕ) (d : Node) (cause : FormStop) → nodes ≡ written t → i < length nodes
+    → EachSoFar (node_run forms) nodes i mapped → Fails cause (node_run forms (get_or nodes i d)) → Fails cause (map_run forms t)
+map_stops forms t nodes mapped i d stop.NoMemory spelled inside so_far fails = tt
+map_stops forms t nodes mapped i d (stop.Wide w) spelled inside so_far fails =
+    let whole = each_stops (node_run forms) nodes i mapped d w inside so_far fails in
+    fails_back (map_run forms t) w (sym (nodes_run-written forms t) ∙ ap (each_run (node_run forms)) (sym spelled) ∙ whole)

@@ -1,0 +1,22 @@
+//! Quasts, quasi-affine selection trees: the answer of a parametric problem, a tree of conditions on the
+//! parameters. Contracts see the tree; the code keeps its nodes in one list, in postfix order, and goes
+//! over it without recursion. P. Feautrier, "Parametric integer programming", RAIRO Recherche
+//! opérationnelle 22(3), 1988.
+#![tactic(auto)]
+
+pub use laws::{
+    binds_round_down, branches_test_the_sign, maps_keep_the_points, nodes_are_read_as_their_tree,
+    runs_are_exact,
+};
+pub use leaf::Leaf;
+pub use node::{Node, Source};
+pub use quast::Quast;
+
+mod laws;
+mod leaf;
+mod map;
+mod node;
+mod quast;
+#[cfg(test)]
+mod tests;
+mod value;

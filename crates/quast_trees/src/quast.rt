@@ -1,0 +1,162 @@
+//! A quast and what makes one. A tree is put together from its sides by moving their nodes, and is
+//! dropped, like every list, without recursion.
+ghost use Rattle.std.specs.Prelude.{◌≡◌, ◌+◌, pos, ◌≤ℤ◌, [], ◌∷◌, ◌++◌, length, IfOk, All};
+ghost use Rattle.quast_trees.specs.Tree.{initial, source, branch, bind, count, Speaks};
+ghost use Rattle.quast_trees.specs.Source.{named};
+ghost use Rattle.quast_trees.specs.Postfix.{held, tree_of, written, IsQuast};
+
+use crate::node::{Node, Source};
+use affine_forms::Form;
+use std::alloc::{AllocError, Global};
+use std::marker::Model;
+
+/// The answer of a parametric problem: a selection tree over `parameters` parameters.
+#[derive(Debug, Drop)]
+pub struct Quast {
+    parameters: usize,
+    nodes: Vec<Node>,
+}
+
+impl Model for Quast {
+    ghost use Rattle.quast_trees.specs.Postfix.{Postfix, held, IsQuast};
+
+    ghost Value = { Postfix };
+
+    ghost view = { λ q. held q.parameters q.nodes.items };
+
+    ghost invariant = { λ q. IsQuast (held q.parameters q.nodes.items) };
+}
+
+impl Quast {
+    /// The initial value at every point.
+    pub fn initial(alloc: Global, parameters: usize) -> Result<Quast, AllocError>
+        ensures parameters { IfOk result (λ q. q.parameters ≡ parameters) }
+        ensures tree { IfOk result (λ q. tree_of q ≡ initial) }
+    {
+        Quast::ending(parameters, Vec::new(alloc), Node::Initial)
+    }
+
+    /// The instance of `statement` at every point, with a form over the parameters for each iterator.
+    pub fn source(
+        alloc: Global,
+        parameters: usize,
+        statement: usize,
+        loops: &[usize],
+        forms: &[Form],
+    ) -> Result<Quast, AllocError>
+        requires { All (λ f. length f.coefficients ≡ parameters) forms.now }
+        ensures parameters { IfOk result (λ q. q.parameters ≡ parameters) }
+        ensures tree { IfOk result (λ q. tree_of q ≡ source (named statement loops.now parameters forms.now)) }
+    {
+        let loops = match Vec::from_slice(alloc, loops) {
+            Err(error) => return Err(error),
+            Ok(loops) => loops,
+        };
+        let forms = match copied(alloc, forms) {
+            Err(error) => return Err(error),
+            Ok(forms) => forms,
+        };
+        let source = Source {
+            statement,
+            loops,
+            variables: parameters,
+            forms,
+        };
+        Quast::ending(parameters, Vec::new(alloc), Node::Source(source))
+    }
+
+    /// The first quast where `test` is at least 0, else the second, whose nodes move behind the first's: the
+    /// time is that of the second's nodes.
+    pub fn branch(test: Form, first: Quast, second: Quast) -> Result<Quast, AllocError>
+        requires parameters { first.parameters ≡ second.parameters }
+        requires test { length test.coefficients ≡ first.parameters }
+        ensures parameters { IfOk result (λ q. q.parameters ≡ first.parameters) }
+        ensures tree { IfOk result (λ q. tree_of q ≡ branch test (tree_of first) (tree_of second)) }
+    {
+        let Quast {
+            parameters,
+            mut nodes,
+        } = first;
+        let Quast {
+            nodes: mut behind,
+            ..
+        } = second;
+        let second = behind.len();
+        if nodes.append(&mut behind).is_err() {
+            return Err(AllocError);
+        }
+        Quast::ending(parameters, nodes, Node::Branch { test, second })
+    }
+
+    /// `body` with its last parameter bound to the quotient of `form` by `divisor`, rounded down.
+    pub fn bind(form: Form, divisor: i128, body: Quast) -> Result<Quast, AllocError>
+        requires parameters { body.parameters ≡ length form.coefficients + 1 }
+        requires divisor { pos 1 ≤ℤ divisor }
+        ensures parameters { IfOk result (λ q. q.parameters ≡ length form.coefficients) }
+        ensures tree { IfOk result (λ q. tree_of q ≡ bind form divisor (tree_of body)) }
+    {
+        let parameters = form.variables();
+        Quast::ending(parameters, body.nodes, Node::Bind { form, divisor })
+    }
+
+    /// How many parameters the quast has: a point has a value for each.
+    pub fn parameters(&self) -> usize
+        ensures { result ≡ self.now.parameters }
+    {
+        self.parameters
+    }
+
+    /// How many nodes the tree has.
+    pub fn count(&self) -> usize
+        ensures { result ≡ count (tree_of self.now) }
+    {
+        self.nodes.len()
+    }
+
+    /// The tree's nodes in postfix order.
+    pub fn nodes(&self) -> &[Node]
+        ensures nodes { result.now ≡ written (tree_of self.now) }
+        ensures speaks { Speaks self.now.parameters (tree_of self.now) }
+    {
+        &self.nodes
+    }
+
+    // The quast of these nodes and one more, its root.
+    fn ending(parameters: usize, mut nodes: Vec<Node>, root: Node) -> Result<Quast, AllocError>
+        requires { IsQuast (held parameters (nodes.items ++ root ∷ [])) }
+        ensures { IfOk result (λ q. q ≡ held parameters (nodes.items ++ root ∷ [])) }
+    {
+        match nodes.push(root) {
+            Err(_) => Err(AllocError),
+            Ok(()) => Ok(Quast::of_nodes(parameters, nodes)),
+        }
+    }
+
+    // The quast of these nodes.
+    pub(crate) fn of_nodes(parameters: usize, nodes: Vec<Node>) -> Quast
+        requires { IsQuast (held parameters nodes.items) }
+        ensures { result ≡ held parameters nodes.items }
+    {
+        Quast { parameters, nodes }
+    }
+}
+
+// A copy of each form.
+fn copied(alloc: Global, forms: &[Form]) -> Result<Vec<Form>, AllocError>
+    ensures { IfOk result (λ v. v.items ≡ forms.now) }
+{
+    let mut copies = match Vec::with_capacity(alloc, forms.len()) {
+        Err(error) => return Err(error),
+        Ok(copies) => copies,
+    };
+    for form in forms {
+        match form.copy() {
+            Err(_) => return Err(AllocError),
+            Ok(copy) => match copies.push(copy) {
+                Err(_) => return Err(AllocError),
+                Ok(()) => {}
+            },
+        }
+    }
+    Ok(copies)
+}

@@ -1,0 +1,5 @@
+use Rattle.scop_meaning.proofs.Offsets.{OffsetSoFar}
+use Rattle.scop_meaning.proofs.cells.offset_at.Given as goal
+
+abbrev pub invariant-loop-at : goal.invariant-loop-at
+invariant-loop-at l = OffsetSoFar l.extents l.subscripts l.params l.point l.at l.offset
