@@ -22,7 +22,8 @@ with_front-step front z (Err w) = refl
 pub zip_run-step : (step : ℤ → ℤ → Result ℤ Wide) (xs ys : List ℤ) (i : ℕ) (z : ℤ)
     → i < length xs
     → i < length ys → step (get_or xs i (pos 0)) (get_or ys i (pos 0)) ≡ Ok z
-    → with_front (take (i + 1) (set xs i z)) (zip_run step (drop (i + 1) (set xs i z)) (drop (i + 1) ys))
+    → with_front (take (i + 1) (set xs i z))
+    (zip_run step (drop (i + 1) (set xs i z)) (drop (i + 1) ys))
     ≡ with_front (take i xs) (zip_run step (drop i xs) (drop i ys))
 zip_run-step step xs ys i z hx hy e =
     rw (take_more_set xs i z hx, drop-set-lt (i + 1) xs i z (omega arith))
@@ -33,7 +34,8 @@ zip_run-step step xs ys i z hx hy e =
 pub zip_run-stop : (step : ℤ → ℤ → Result ℤ Wide) (xs ys : List ℤ) (i : ℕ) (w : Wide)
     → i < length xs → i < length ys → step (get_or xs i (pos 0)) (get_or ys i (pos 0)) ≡ Err w
     → with_front (take i xs) (zip_run step (drop i xs) (drop i ys)) ≡ Err w
-zip_run-stop step xs ys i w hx hy e = rw (drop-cons xs i (pos 0) hx, drop-cons ys i (pos 0) hy, e) refl
+zip_run-stop step xs ys i w hx hy e =
+    rw (drop-cons xs i (pos 0) hx, drop-cons ys i (pos 0) hy, e) refl
 
 -- past the last place nothing is left
 pub zip_run-end : (step : ℤ → ℤ → Result ℤ Wide) (xs ys : List ℤ) (i : ℕ) → length xs ≤ i
@@ -51,8 +53,8 @@ pub map_run-end : (step : ℤ → Result ℤ Wide) (xs : List ℤ) (i : ℕ) →
 map_run-end step xs i h = rw (drop_of_length-le xs h, take_all i xs h) (ap Ok (append-nil xs))
 
 -- a form more of a combination
-pub plus_combination_run-step : (sum : Affine) (ks : List ℤ) (gs : List Affine) (i : ℕ) (g next : Affine)
-    → i < length ks → i < length gs → g ≡ get_or gs i g
+pub plus_combination_run-step : (sum : Affine) (ks : List ℤ) (gs : List Affine) (i : ℕ)
+    (g next : Affine) → i < length ks → i < length gs → g ≡ get_or gs i g
     → plus_multiple_run sum (get_or ks i (pos 0)) g ≡ Ok next
     → plus_combination_run next (drop (i + 1) ks) (drop (i + 1) gs)
     ≡ plus_combination_run sum (drop i ks) (drop i gs)

@@ -13,7 +13,7 @@ abbrev pub Gives : {X Y : Type 0} → (X → Y) → Result X FormStop → Result
 Gives view (Ok x) run = run ≡ Ok (view x)
 Gives view (Err e) run = Fails e run
 
--- a value that a call changes in place becomes what the run gives, or the call fails as the run does
+-- a value changed in place becomes what the run gives, or the call fails as the run does
 abbrev pub Becomes : {X U : Type 0} → X → Result U Wide → Result X Wide → Type 0
 Becomes new (Ok _) run = run ≡ Ok new
 Becomes new (Err w) run = run ≡ Err w

@@ -50,26 +50,33 @@ value_run f point = dot_run f.coefficients point >>= λ sum. sum_of sum f.consta
 
 -- f + g: the coefficients in order, then the constant
 unfoldable pub plus_run : Affine → Affine → Result Affine Wide
-plus_run f g = added_run f.coefficients g.coefficients >>= λ zs. sum_of f.constant g.constant >>= λ z. Ok (form_of zs z)
+plus_run f g =
+    added_run f.coefficients g.coefficients >>= λ zs.
+    sum_of f.constant g.constant >>= λ z. Ok (form_of zs z)
 
 -- k f: the coefficients in order, then the constant
 unfoldable pub scaled_run : ℤ → Affine → Result Affine Wide
-scaled_run k f = multiplied_run k f.coefficients >>= λ zs. product_of k f.constant >>= λ z. Ok (form_of zs z)
+scaled_run k f =
+    multiplied_run k f.coefficients >>= λ zs.
+    product_of k f.constant >>= λ z. Ok (form_of zs z)
 
 -- f + k g: the coefficients in order, then the constant
 unfoldable pub plus_multiple_run : Affine → ℤ → Affine → Result Affine Wide
 plus_multiple_run f k g =
-    added_multiple_run f.coefficients k g.coefficients >>= λ zs. multiply_add_run f.constant k g.constant >>= λ z. Ok (form_of zs z)
+    added_multiple_run f.coefficients k g.coefficients >>= λ zs.
+    multiply_add_run f.constant k g.constant >>= λ z. Ok (form_of zs z)
 
 -- f with g in place of a variable: f without the variable, plus its coefficient times g
 unfoldable pub substitute_run : Affine → ℕ → Affine → Result Affine Wide
-substitute_run f variable g = plus_multiple_run (without_variable f variable) (coefficient_of f variable) g
+substitute_run f variable g =
+    plus_multiple_run (without_variable f variable) (coefficient_of f variable) g
 
 -- sum plus each of the forms times the factor at its place, form by form
 abbrev pub plus_combination_run : Affine → List ℤ → List Affine → Result Affine Wide
 plus_combination_run sum [] gs = Ok sum
 plus_combination_run sum (k ∷ ks) [] = Ok sum
-plus_combination_run sum (k ∷ ks) (g ∷ gs) = plus_multiple_run sum k g >>= λ next. plus_combination_run next ks gs
+plus_combination_run sum (k ∷ ks) (g ∷ gs) =
+    plus_multiple_run sum k g >>= λ next. plus_combination_run next ks gs
 
 -- f with each variable replaced by a form over n variables, summed from the constant on
 unfoldable pub compose_run : Affine → List Affine → ℕ → Result Affine Wide

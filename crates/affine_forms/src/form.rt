@@ -1,5 +1,6 @@
 //! An affine form over whole variables: a coefficient for each variable, and a constant.
-//! Each call answers the exact form or value, or the first number on its way that 128 bits do not hold.
+//! Each call answers the exact form or value, or the first number on its way that does not fit
+//! 128 bits.
 
 ghost use Rattle.std.specs.Prelude.{◌≡◌, ◌≢◌, ◌<◌, ◌≤◌, All, Ok, Err, IfOk, IsOk, length};
 ghost use Rattle.whole_numbers.specs.Affine.{value_of, sum_of_forms, multiple_of_form, substituted};
@@ -115,7 +116,8 @@ impl Form {
     /// The sum of two forms over the same variables.
     ///
     /// # Errors
-    /// `Wide` names the first sum that 128 bits do not hold: the coefficients in order, then the constant.
+    /// `Wide` names the first sum that 128 bits do not hold: the coefficients in order, then the
+    /// constant.
     pub fn plus(&self, other: &Form) -> Result<Form, FormStop>
         requires { variables_of other.now ≡ variables_of self.now }
         ensures run { Gives (λ f. f) result (plus_run self.now other.now) }
@@ -205,7 +207,7 @@ impl Form {
     }
 }
 
-/// The changes in place that the calls above are made of. Where one fails, the form is not used again.
+/// The changes in place that the calls above are made of. A form that one fails on is not used again.
 impl Form {
     /// The form over `variables` variables that is `constant` everywhere.
     fn constant_of(alloc: Global, variables: usize, constant: i128) -> Result<Form, FormStop>

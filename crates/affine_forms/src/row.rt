@@ -1,4 +1,4 @@
-//! Rows of whole numbers: the checked loops under the forms, each over slices, without memory of its own.
+//! Rows of whole numbers: the checked loops under the forms, each over slices. None takes memory.
 
 ghost use Rattle.std.specs.Prelude.{◌≡◌, length};
 ghost use Rattle.affine_forms.specs.Gives.{Becomes};

@@ -6,7 +6,7 @@ use wide_math::Wide;
 /// Why a call on forms stops.
 #[derive(Clone, Copy, Debug, PartialEq, Eq, Error)]
 pub enum FormStop {
-    /// A number on the way does not fit 128 bits: the first such number, in the order that the call states.
+    /// The first number on the way, in the order that the call states, that does not fit 128 bits.
     #[error("{0}")]
     Wide(Wide),
     /// There is no memory for the result.

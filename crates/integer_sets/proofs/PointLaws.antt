@@ -1,5 +1,5 @@
 -- What a run of tests and an intersection say of the points.
-use Rattle.std.proofs.Common.{◌≡◌, ℕ, suc, Bool, true, false, ℤ, pos, negsuc, ◌≤ℤ◌, List, [], ◌∷◌, ◌++◌, length, refl, sym, ap, ◌∙◌, subst, arith, All, ◌↔◌}
+use Rattle.std.proofs.Common.{◌≡◌, suc, Bool, true, false, ℤ, pos, negsuc, ◌≤ℤ◌, List, [], ◌∷◌, ◌++◌, length, refl, sym, ap, ◌∙◌, subst, arith, All, ◌↔◌}
 use Rattle.std.specs.Prelude.{Result, Ok, Err, IsTrue, IfOk, if◌then◌else◌}
 use Rattle.std.proofs.lemmas.Int.{ints}
 use Rattle.std.proofs.lemmas.Bool.{false≢true}
@@ -75,17 +75,20 @@ each_run-false test (f ∷ fs) point h all =
 
 -- each equality is 0 and each row at least 0, in the words of the tests
 abbrev PassesBoth : Constraints → List ℤ → Type 0
-PassesBoth s point = All (Passes is_zero point) s.equalities × All (Passes is_not_negative point) s.rows
+PassesBoth s point =
+    All (Passes is_zero point) s.equalities × All (Passes is_not_negative point) s.rows
 
 satisfied : (s : Constraints) (point : List ℤ) → PassesBoth s point → Satisfies s point
-satisfied s point h =
-    (λ k d inside. is_zero-true _ (h.0 k d inside),
-        λ k d inside. is_not_negative-true _ (h.1 k d inside))
+satisfied s point h = (
+  λ k d inside. is_zero-true _ (h.0 k d inside),
+  λ k d inside. is_not_negative-true _ (h.1 k d inside),
+)
 
 passed : (s : Constraints) (point : List ℤ) → Satisfies s point → PassesBoth s point
-passed s point h =
-    (λ k d inside. is_zero-from _ (h.0 k d inside),
-        λ k d inside. is_not_negative-from _ (h.1 k d inside))
+passed s point h = (
+  λ k d inside. is_zero-from _ (h.0 k d inside),
+  λ k d inside. is_not_negative-from _ (h.1 k d inside),
+)
 
 -- where the equalities hold, the rows decide
 rows_law : (s : Constraints) (point : List ℤ) (answer : Bool)
@@ -131,9 +134,10 @@ All-append_iff : {X : Type 0} (P : X → Type 0) (xs ys : List X)
 All-append_iff P xs ys = (parted, λ h. All-append P xs ys h.0 h.1)
   where
     parted : All P (xs ++ ys) → All P xs × All P ys
-    parted h =
-        (rw (take-append_seam xs ys) at (All-take P (length xs) (xs ++ ys) h),
-            rw (drop-append_seam xs ys) at (All-drop P (length xs) (xs ++ ys) h))
+    parted h = (
+      rw (take-append_seam xs ys) at (All-take P (length xs) (xs ++ ys) h),
+      rw (drop-append_seam xs ys) at (All-drop P (length xs) (xs ++ ys) h),
+    )
 
 -- a point satisfies an intersection just where it satisfies both
 pub Satisfies-intersection : (s t : Constraints) (point : List ℤ)
@@ -141,9 +145,10 @@ pub Satisfies-intersection : (s t : Constraints) (point : List ℤ)
 Satisfies-intersection s t point =
     let zero : Affine → Type 0 = λ f. value_of f point ≡ pos 0 in
     let equal = All-append_iff zero s.equalities t.equalities in
-    let least = All-append_iff (λ (f : Affine). pos 0 ≤ℤ value_of f point) s.rows t.rows in
-    (λ h. (((equal.0 h.0).0, (least.0 h.1).0), ((equal.0 h.0).1, (least.0 h.1).1)),
-        λ h. (equal.1 (h.0.0, h.1.0), least.1 (h.0.1, h.1.1)))
+    let least = All-append_iff (λ (f : Affine). pos 0 ≤ℤ value_of f point) s.rows t.rows in (
+      λ h. (((equal.0 h.0).0, (least.0 h.1).0), ((equal.0 h.0).1, (least.0 h.1).1)),
+      λ h. (equal.1 (h.0.0, h.1.0), least.1 (h.0.1, h.1.1)),
+    )
 
 -- the same of a system that is the intersection
 pub intersection-points : (s t both : Constraints) → both ≡ intersection s t → (point : List ℤ)

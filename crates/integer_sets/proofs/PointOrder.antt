@@ -19,8 +19,8 @@ least_point-unique s parameters p q hp hq = decided (lex_total p q)
 -- the fronts decide, and then the rests
 pub LexLess-split : (n : ℕ) (p q : List ℤ) → length p ≡ length q
     → LexLess p q
-        ↔ (LexLess (take n p) (take n q)
-            ⊎ ((take n p ≡ take n q) × LexLess (drop n p) (drop n q)))
+    ↔ (LexLess (take n p) (take n q)
+    ⊎ ((take n p ≡ take n q) × LexLess (drop n p) (drop n q)))
 LexLess-split n p q same =
     let fronts : length (take n p) ≡ length (take n q) = simp length-take (rw same refl) in
     let iff = LexLess-append_iff (take n p) (take n q) (drop n p) (drop n q) fronts in

@@ -2,7 +2,7 @@ use Rattle.std.specs.Prelude.{◌≡◌, ℕ, ◌+◌, List, ◌++◌, All}
 use Rattle.whole_numbers.specs.Affine.{Affine}
 use Rattle.affine_forms.specs.Parts.{variables_of}
 
--- a system over dimensions and, behind them, parameters: forms that are 0, and rows that are at least 0
+-- a system over dimensions and, behind them, parameters: forms that are 0, rows that are at least 0
 pub record Constraints : Type 0 where
   pub dimensions : ℕ
   pub parameters : ℕ
@@ -12,7 +12,12 @@ pub record Constraints : Type 0 where
 -- the system of these constraints
 abbrev pub system_of : ℕ → ℕ → List Affine → List Affine → Constraints
 system_of dimensions parameters equalities rows =
-    record { dimensions = dimensions; parameters = parameters; equalities = equalities; rows = rows }
+    record {
+      dimensions = dimensions;
+      parameters = parameters;
+      equalities = equalities;
+      rows = rows;
+    }
 
 -- how many variables each constraint speaks of
 abbrev pub variables_in : Constraints → ℕ

@@ -15,11 +15,14 @@ abbrev pub is_not_negative : ℤ → Bool
 is_not_negative (pos n) = true
 is_not_negative (negsuc n) = false
 
--- whether each form's value at the point passes the test, tried in order up to the first that does not
+-- whether each form's value passes the test, tried in order up to the first that does not
 abbrev pub each_run : (ℤ → Bool) → List Affine → List ℤ → Result Bool Wide
 each_run test [] point = Ok true
-each_run test (f ∷ fs) point = value_run f point >>= λ v. if test v then each_run test fs point else Ok false
+each_run test (f ∷ fs) point =
+    value_run f point >>= λ v. if test v then each_run test fs point else Ok false
 
 -- whether the point satisfies the system: the equalities, then the rows, up to the first that fails
 abbrev pub holds_run : Constraints → List ℤ → Result Bool Wide
-holds_run s point = each_run is_zero s.equalities point >>= λ zero. if zero then each_run is_not_negative s.rows point else Ok false
+holds_run s point =
+    each_run is_zero s.equalities point >>= λ equal.
+    if equal then each_run is_not_negative s.rows point else Ok false

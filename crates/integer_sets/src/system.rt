@@ -25,11 +25,11 @@ pub struct System {
 impl Model for System {
     ghost use Rattle.std.specs.Prelude.{◌≡◌, ◌+◌, All};
     ghost use Rattle.affine_forms.specs.Parts.{variables_of};
-    ghost use Rattle.integer_sets.specs.Constraints.{Constraints, IsSized};
+    ghost use Rattle.integer_sets.specs.Constraints.{Constraints, IsSized, system_of};
 
     ghost Value = { Constraints };
 
-    ghost view = { λ s. record { dimensions = s.dimensions; parameters = s.parameters; equalities = s.equalities.items; rows = s.rows.items } };
+    ghost view = { λ s. system_of s.dimensions s.parameters s.equalities.items s.rows.items };
 
     ghost invariant = { λ s. IsSized (s.dimensions + s.parameters) s.equalities.items s.rows.items };
 }

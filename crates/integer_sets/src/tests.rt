@@ -67,7 +67,7 @@ fn the_first_failure_ends(rt: HostRuntime) {
     assert_eq!(rt; at(rt.alloc(), [1, 0, 0], least, [0, 1, 0]), Ok(Ok(true)));
 }
 
-/// How many equalities and rows the intersection of two systems has, and whether the point lies in it.
+/// The numbers of equalities and rows of an intersection, and whether the point lies in it.
 fn both(alloc: Global, point: [i128; 3]) -> Result<(usize, usize, Result<bool, Wide>), AllocError> {
     let first = system(alloc, [2, -1, 0], [-1, 0, 1])?;
     let second = system(alloc, [0, 1, -2], [1, 0, -1])?;

@@ -26,7 +26,7 @@ space_and_digits buffer filled digits start some within long written before spac
     let lt : start - 1 < length buffer = omega arith in
     let one : suc (start - 1) ≡ start = omega arith in
     let first : get_or buffer (start - 1) 0 ≡ 32 =
-        sym (get_or-take start buffer (start - 1) 0 (omega arith)) ∙ (ap (λ t. get_or t (start - 1) 0) before ∙ (get_or-take start filled (start - 1) 0 (omega arith) ∙ space)) in
+    sym (get_or-take start buffer (start - 1) 0 (omega arith)) ∙ (ap (λ t. get_or t (start - 1) 0) before ∙ (get_or-take start filled (start - 1) 0 (omega arith) ∙ space)) in
     drop-cons buffer (start - 1) 0 lt ∙ (ap (λ x. x ∷ drop (suc (start - 1)) buffer) first ∙ ap (λ t. 32 ∷ t) (ap (λ n. drop n buffer) one ∙ (written ∙ append-nil digits)))
 
 -- the names of declared arrays are those of their declarations

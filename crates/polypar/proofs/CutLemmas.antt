@@ -55,7 +55,7 @@ cut_behind_line input at n behind first stays =
     let case : after_cut (lines_of (drop at input)) ≡ after_cut (lines_of rest) = ap after_cut first ∙ rw stays refl in
     record {
       kernel = behind.kernel ∙ (ap (λ t. take at input ++ t) kernel ∙ (sym (append_assoc (take at input) line (before_cut (lines_of rest)))
-        ∙ (ap (λ t. t ++ before_cut (lines_of rest)) (sym (take-add at n input)) ∙ ap (λ t. take (at + n) input ++ before_cut (lines_of t)) (drop-drop n at input))));
+          ∙ (ap (λ t. t ++ before_cut (lines_of rest)) (sym (take-add at n input)) ∙ ap (λ t. take (at + n) input ++ before_cut (lines_of t)) (drop-drop n at input))));
       case = behind.case ∙ (case ∙ ap (λ t. after_cut (lines_of t)) (drop-drop n at input));
     }
 

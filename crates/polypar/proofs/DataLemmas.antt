@@ -30,7 +30,7 @@ one_cells (x ∷ xs) [] r t long xs_small ys_small r_past t_past same = absurd (
 one_cells (x ∷ xs) (y ∷ ys) r t long xs_small ys_small r_past t_past same =
     let digits = append_cancel_left (32 ∷ []) ((decimal x ++ cells_text xs) ++ r) ((decimal y ++ cells_text ys) ++ t) same in
     let first = one_decimal x y (cells_text xs ++ r) (cells_text ys ++ t) (All-head (λ v. v < 2 ^ 64) x xs xs_small) (All-head (λ v. v < 2 ^ 64) y ys ys_small) (cells_are_past xs r r_past) (cells_are_past ys t t_past)
-        (sym (append_assoc (decimal x) (cells_text xs) r) ∙ (digits ∙ append_assoc (decimal y) (cells_text ys) t)) in
+    (sym (append_assoc (decimal x) (cells_text xs) r) ∙ (digits ∙ append_assoc (decimal y) (cells_text ys) t)) in
     let rest = one_cells xs ys r t (omega (arith, long)) (All-tail (λ v. v < 2 ^ 64) x xs xs_small) (All-tail (λ v. v < 2 ^ 64) y ys ys_small) r_past t_past first.1 in
     (ap (λ v. v ∷ xs) first.0 ∙ ap (λ vs. y ∷ vs) rest.0, rest.1)
 
@@ -107,7 +107,7 @@ pub one_head : (parameter source text x y : List ℕ) (a b : ℕ) → a < 2 ^ 64
 one_head parameter source text x y a b a_small b_small first second =
     let line = codes "\n" ++ (source ++ codes " =") in
     let one = one_count parameter text [] a b (line ++ x) (line ++ y) (first ∙ head_split parameter source x a) a_small (feed_is_past ((source ++ codes " =") ++ x))
-        b_small (feed_is_past ((source ++ codes " =") ++ y)) (second ∙ head_split parameter source y b) in
+    b_small (feed_is_past ((source ++ codes " =") ++ y)) (second ∙ head_split parameter source y b) in
     (one.0, append_cancel_left line x y one.1)
 
 -- what the data says, as a head, cells and an end
@@ -120,8 +120,8 @@ pub record IsSaid (text parameter source values tail : List ℕ) : Type 0 where
 pub is_said : (text parameter source values : List ℕ) → SaysData text parameter source values → (tail : List ℕ) × IsSaid text parameter source values tail
 is_said text parameter source values said =
     elim said.lines [
-      inl whole ↦ ([], record { whole = whole ∙ ap (λ t. head_text parameter source (length values) ++ t) (sym (append-nil (cells_text values))); past = λ digit. omega (arith, digit); end = inl refl })
-    | inr ended ↦ (codes "\n", record { whole = ended ∙ append_assoc (head_text parameter source (length values)) (cells_text values) (codes "\n"); past = feed_is_past []; end = inr refl })
+      | inl whole ↦ ([], record { whole = whole ∙ ap (λ t. head_text parameter source (length values) ++ t) (sym (append-nil (cells_text values))); past = λ digit. omega (arith, digit); end = inl refl })
+      | inr ended ↦ (codes "\n", record { whole = ended ∙ append_assoc (head_text parameter source (length values)) (cells_text values) (codes "\n"); past = feed_is_past []; end = inr refl })
     ]
 
 -- a head, cells and an end are data that says the values
@@ -130,7 +130,7 @@ pub says : (text parameter source values tail : List ℕ) (count : ℕ) → text
 says text parameter source values tail count read long end some most small =
     let head = ap (λ n. head_text parameter source n ++ (cells_text values ++ tail)) long in
     let lines = elim end as (λ _. (text ≡ data_text parameter source values) ⊎ (text ≡ data_text parameter source values ++ codes "\n")) [
-      inl none ↦ inl (read ∙ (head ∙ ap (λ t. head_text parameter source (length values) ++ t) (ap (λ t. cells_text values ++ t) none ∙ append-nil (cells_text values))))
-    | inr feed ↦ inr (read ∙ (head ∙ (ap (λ t. head_text parameter source (length values) ++ (cells_text values ++ t)) feed ∙ sym (append_assoc (head_text parameter source (length values)) (cells_text values) (codes "\n")))))
+      | inl none ↦ inl (read ∙ (head ∙ ap (λ t. head_text parameter source (length values) ++ t) (ap (λ t. cells_text values ++ t) none ∙ append-nil (cells_text values))))
+      | inr feed ↦ inr (read ∙ (head ∙ (ap (λ t. head_text parameter source (length values) ++ (cells_text values ++ t)) feed ∙ sym (append_assoc (head_text parameter source (length values)) (cells_text values) (codes "\n")))))
     ] in
     record { lines = lines; some = some; most = most; small = small }

@@ -33,9 +33,9 @@ pub run_length : (text rest : List ℕ) (value count : ℕ) → value < 2 ^ 64 �
     → ((i : ℕ) → i < count → IsDigit (get_or text i 0)) → (IsDigit (get_or text count 0) → ⊥) → count ≡ length (decimal value)
 run_length text rest value count small past spelled digits end =
     let long : length (decimal value) < count → ⊥ =
-        λ more. past (subst IsDigit (ap (λ t. get_or t (length (decimal value)) 0) spelled ∙ (ap (λ n. get_or (decimal value ++ rest) n 0) (sym (add-zero (length (decimal value)))) ∙ get_or-append-add (decimal value) rest 0 0)) (digits (length (decimal value)) more)) in
+    λ more. past (subst IsDigit (ap (λ t. get_or t (length (decimal value)) 0) spelled ∙ (ap (λ n. get_or (decimal value ++ rest) n 0) (sym (add-zero (length (decimal value)))) ∙ get_or-append-add (decimal value) rest 0 0)) (digits (length (decimal value)) more)) in
     let short : count < length (decimal value) → ⊥ =
-        λ less. end (subst IsDigit (sym (ap (λ t. get_or t count 0) spelled ∙ get_or_append_left (decimal value) rest 0 count less)) (decimal_digits value small count less)) in
+    λ less. end (subst IsDigit (sym (ap (λ t. get_or t count 0) spelled ∙ get_or_append_left (decimal value) rest 0 count less)) (decimal_digits value small count less)) in
     omega arith
 
 -- the digits in front are the decimal, and the text behind them is the rest
@@ -77,10 +77,11 @@ front_value text rest value count small spelled long = ap (value_behind 0) (run_
 pub one_decimal : (a b : ℕ) (x y : List ℕ) → a < 2 ^ 64 → b < 2 ^ 64 → IsPast x → IsPast y → decimal a ++ x ≡ decimal b ++ y → (a ≡ b) × (x ≡ y)
 one_decimal a b x y small_a small_b past_x past_y same =
     let digits : (i : ℕ) → i < length (decimal a) → IsDigit (get_or (decimal a ++ x) i 0) =
-        λ i h. subst IsDigit (sym (get_or_append_left (decimal a) x 0 i h)) (decimal_digits a small_a i h) in
+    λ i h. subst IsDigit (sym (get_or_append_left (decimal a) x 0 i h)) (decimal_digits a small_a i h) in
     let behind : get_or (decimal a ++ x) (length (decimal a)) 0 ≡ get_or x 0 0 =
-        ap (λ n. get_or (decimal a ++ x) n 0) (sym (add-zero (length (decimal a)))) ∙ get_or-append-add (decimal a) x 0 0 in
+    ap (λ n. get_or (decimal a ++ x) n 0) (sym (add-zero (length (decimal a)))) ∙ get_or-append-add (decimal a) x 0 0 in
     let long = run_length (decimal a ++ x) y b (length (decimal a)) small_b past_y same digits (λ h. past_x (subst IsDigit behind h)) in
-    let front : decimal a ≡ decimal b = sym (take-append_seam (decimal a) x) ∙ run_is (decimal a ++ x) y b (length (decimal a)) same long in
-    ( decimal_injective a b small_a small_b front,
-      sym (drop-append_seam (decimal a) x) ∙ (ap (drop (length (decimal a))) same ∙ (ap (λ n. drop n (decimal b ++ y)) long ∙ drop-append_seam (decimal b) y)) )
+    let front : decimal a ≡ decimal b = sym (take-append_seam (decimal a) x) ∙ run_is (decimal a ++ x) y b (length (decimal a)) same long in (
+      decimal_injective a b small_a small_b front,
+      sym (drop-append_seam (decimal a) x) ∙ (ap (drop (length (decimal a))) same ∙ (ap (λ n. drop n (decimal b ++ y)) long ∙ drop-append_seam (decimal b) y)),
+    )

@@ -63,8 +63,8 @@ pub printed_text : (program : Program) (names : CopyNames) (values : List ℕ) (
     → array_text program final ≡ printed names values
 printed_text program names values count initial final copy counted started ended =
     let executed : exec program (count ∷ []) initial ≡ final_arrays names values =
-        ap (λ p. exec p (count ∷ []) initial) copy
-        ∙ (ap (λ n. exec (program_named names) (n ∷ []) initial) counted ∙ ap (λ a. exec (program_named names) (pos (length values) ∷ []) a) started) in
+    ap (λ p. exec p (count ∷ []) initial) copy
+    ∙ (ap (λ n. exec (program_named names) (n ∷ []) initial) counted ∙ ap (λ a. exec (program_named names) (pos (length values) ∷ []) a) started) in
     ap (λ p. array_text p final) copy ∙ ap (λ a. array_text (program_named names) a) (ended ∙ executed)
 
 -- the parameter's name of a kernel of the copy form
@@ -112,12 +112,12 @@ pub copy_can_run : (program : Program) (names : CopyNames) (values : List ℕ) (
 copy_can_run program names values count initial copy counted most started =
     let n = length values in
     let ready : CanRunPlain (program_named names) (pos n) (initial_arrays values) =
-        record {
-          room = copy_room names.kernel names.parameter names.source names.target names.iterator n;
-          fits = copy_fits names.kernel names.parameter names.source names.target names.iterator n most;
-          inside = copy_inside names.kernel names.parameter names.source names.target names.iterator n;
-          shape = copy_shape names.kernel names.parameter names.source names.target names.iterator n values (replicate n 0) refl (length-replicate n 0);
-        } in
+    record {
+      room = copy_room names.kernel names.parameter names.source names.target names.iterator n;
+      fits = copy_fits names.kernel names.parameter names.source names.target names.iterator n most;
+      inside = copy_inside names.kernel names.parameter names.source names.target names.iterator n;
+      shape = copy_shape names.kernel names.parameter names.source names.target names.iterator n values (replicate n 0) refl (length-replicate n 0);
+    } in
     let at_program = subst (λ p. CanRunPlain p (pos n) (initial_arrays values)) (sym copy) ready in
     let at_count = subst (λ c. CanRunPlain program c (initial_arrays values)) (sym counted) at_program in
     subst (λ a. CanRunPlain program count a) (sym started) at_count

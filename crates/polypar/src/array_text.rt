@@ -13,7 +13,6 @@ use itoa::write_digits;
 use scop_syntax::arrays::Arrays;
 use scop_syntax::tree::{Array, Kernel};
 
-
 /// The most bytes that a cell takes: a space and the twenty digits of 2^64 - 1.
 const CELL_ROOM: usize = 21;
 
@@ -54,7 +53,12 @@ fn put_name<K: Sink>(pieces: &mut Pieces, sink: &mut K, name: &[u8]) -> Result<(
 
 /// Puts the name and the cells of an array.
 #[tactic(auto, using(io_ports::proofs::Writing::putting))]
-fn put_array<K: Sink>(pieces: &mut Pieces, sink: &mut K, name: &[u8], cells: &[u64]) -> Result<(), Failed>
+fn put_array<K: Sink>(
+    pieces: &mut Pieces,
+    sink: &mut K,
+    name: &[u8],
+    cells: &[u64],
+) -> Result<(), Failed>
     ensures put { Puts (K.taken sink.old) pieces.old (K.taken sink.new) pieces.new (row_text name.now cells.now) result }
     ensures cause { HasCause (K.faults sink.old) (K.faults sink.new) result }
 {
@@ -65,7 +69,12 @@ fn put_array<K: Sink>(pieces: &mut Pieces, sink: &mut K, name: &[u8], cells: &[u
 
 /// Puts the line of an array.
 #[tactic(auto, using(io_ports::proofs::Writing::putting))]
-fn put_row<K: Sink>(pieces: &mut Pieces, sink: &mut K, name: &[u8], cells: &[u64]) -> Result<(), Failed>
+fn put_row<K: Sink>(
+    pieces: &mut Pieces,
+    sink: &mut K,
+    name: &[u8],
+    cells: &[u64],
+) -> Result<(), Failed>
     ensures put { Puts (K.taken sink.old) pieces.old (K.taken sink.new) pieces.new (row_text name.now cells.now ++ codes "\n") result }
     ensures cause { HasCause (K.faults sink.old) (K.faults sink.new) result }
 {
@@ -75,7 +84,12 @@ fn put_row<K: Sink>(pieces: &mut Pieces, sink: &mut K, name: &[u8], cells: &[u64
 }
 
 /// Puts the lines of arrays and their contents.
-fn put_rows<K: Sink>(pieces: &mut Pieces, sink: &mut K, arrays: &[Array], contents: &Arrays) -> Result<(), Failed>
+fn put_rows<K: Sink>(
+    pieces: &mut Pieces,
+    sink: &mut K,
+    arrays: &[Array],
+    contents: &Arrays,
+) -> Result<(), Failed>
     ensures put { Puts (K.taken sink.old) pieces.old (K.taken sink.new) pieces.new (rows_text (map (λ a. a.name.items) arrays.now) contents.now) result }
     ensures cause { HasCause (K.faults sink.old) (K.faults sink.new) result }
 {
@@ -89,7 +103,11 @@ fn put_rows<K: Sink>(pieces: &mut Pieces, sink: &mut K, arrays: &[Array], conten
 }
 
 /// Writes the text of a kernel's arrays; the sink is not flushed.
-pub(crate) fn write_arrays<K: Sink>(kernel: &Kernel, arrays: &Arrays, sink: &mut K) -> Result<(), Failed>
+pub(crate) fn write_arrays<K: Sink>(
+    kernel: &Kernel,
+    arrays: &Arrays,
+    sink: &mut K,
+) -> Result<(), Failed>
     ensures ok { OnOk result (Appends (K.taken sink.old) (K.taken sink.new) (array_text (program_of kernel.now) arrays.now)) }
     ensures front { GainsFront (K.taken sink.old) (K.taken sink.new) (array_text (program_of kernel.now) arrays.now) }
     ensures cause { HasCause (K.faults sink.old) (K.faults sink.new) result }

@@ -17,10 +17,9 @@ mod plain;
 mod run;
 mod status;
 mod status_line;
-mod tokens;
-
 #[cfg(test)]
 mod tests;
+mod tokens;
 
 pub use kernel_form::spelled_once;
 pub use plain::{plain_command, polypar};

@@ -16,7 +16,7 @@ use crate::cut::cut;
 use crate::data_form::{ReadDataError, read_data};
 use crate::kernel_reader::{ReadKernelError, read_kernel};
 use crate::status::{DataRefusal, Refusal, RefusalKind, Status};
-use io_ports::{ReadError, Failed, Sink, Source, read_to_end};
+use io_ports::{Failed, ReadError, Sink, Source, read_to_end};
 use scop_meaning::interpreter::run_plain;
 use scop_syntax::arrays::Arrays;
 use scop_syntax::tree::Kernel;

@@ -40,7 +40,8 @@ fn put_status<K: Sink>(pieces: &mut Pieces, sink: &mut K, status: Status) -> Res
 }
 
 /// The commands and options of the whole program.
-const USAGE: &[u8] = b"usage: polypar run|schedule|deps|emit|gen [--workers 1..64] [--tile 1..1024] [--budget 1..20000] [--report]\n";
+const USAGE: &[u8] =
+    b"usage: polypar run|schedule|deps|emit|gen [--workers 1..64] [--tile 1..1024] [--budget 1..20000] [--report]\n";
 
 /// Puts the line of a refusal.
 #[tactic(auto, using(io_ports::proofs::Writing::putting))]
@@ -66,7 +67,12 @@ fn put_kind<K: Sink>(pieces: &mut Pieces, sink: &mut K, kind: RefusalKind) -> Re
 
 /// Puts `LINE:COLUMN` and a line feed.
 #[tactic(auto, using(io_ports::proofs::Writing::putting))]
-fn put_place<K: Sink>(pieces: &mut Pieces, sink: &mut K, line: u64, column: u64) -> Result<(), Failed>
+fn put_place<K: Sink>(
+    pieces: &mut Pieces,
+    sink: &mut K,
+    line: u64,
+    column: u64,
+) -> Result<(), Failed>
     ensures put { Puts (K.taken sink.old) pieces.old (K.taken sink.new) pieces.new (place_text line column) result }
     ensures cause { HasCause (K.faults sink.old) (K.faults sink.new) result }
 {
@@ -77,7 +83,11 @@ fn put_place<K: Sink>(pieces: &mut Pieces, sink: &mut K, line: u64, column: u64)
 
 /// Puts the line of a refusal of data.
 #[tactic(auto, using(io_ports::proofs::Writing::putting))]
-fn put_data_refusal<K: Sink>(pieces: &mut Pieces, sink: &mut K, refusal: DataRefusal) -> Result<(), Failed>
+fn put_data_refusal<K: Sink>(
+    pieces: &mut Pieces,
+    sink: &mut K,
+    refusal: DataRefusal,
+) -> Result<(), Failed>
     ensures put { Puts (K.taken sink.old) pieces.old (K.taken sink.new) pieces.new (data_refusal_text refusal) result }
     ensures cause { HasCause (K.faults sink.old) (K.faults sink.new) result }
 {
@@ -107,7 +117,12 @@ fn told_line(refusal: DataRefusal) -> u64
 
 /// Puts the decimal of a number, and what stands behind it.
 #[tactic(auto, using(io_ports::proofs::Writing::putting))]
-fn put_number<K: Sink>(pieces: &mut Pieces, sink: &mut K, number: u64, end: &[u8]) -> Result<(), Failed>
+fn put_number<K: Sink>(
+    pieces: &mut Pieces,
+    sink: &mut K,
+    number: u64,
+    end: &[u8],
+) -> Result<(), Failed>
     ensures put { Puts (K.taken sink.old) pieces.old (K.taken sink.new) pieces.new (decimal number ++ end.now) result }
     ensures cause { HasCause (K.faults sink.old) (K.faults sink.new) result }
 {

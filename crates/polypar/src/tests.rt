@@ -8,16 +8,23 @@ use std::test::Fail;
 const KERNEL: &str =
     "void copy(int64_t N, uint64_t A[N], uint64_t B[N]) { for (int64_t i = 0; i < N; i++) B[i] = A[i]; }\n";
 
-const USAGE: &str = "usage: polypar run|schedule|deps|emit|gen [--workers 1..64] [--tile 1..1024] [--budget 1..20000] [--report]\n";
+const USAGE: &str =
+    "usage: polypar run|schedule|deps|emit|gen [--workers 1..64] [--tile 1..1024] [--budget 1..20000] [--report]\n";
 
 /// Data that says a case, and the arrays that are printed.
 const SAID: [(&str, &str); 7] = [
     ("%%\nN = 4\nA = 1 2 3 4\n", "A = 1 2 3 4\nB = 1 2 3 4\n"),
     ("%%\nN = 4\nA = 1 2 3 4", "A = 1 2 3 4\nB = 1 2 3 4\n"),
     ("%%\r\nN = 1\nA = 0\n", "A = 0\nB = 0\n"),
-    ("%%\nN = 1\nA = 18446744073709551615\n", "A = 18446744073709551615\nB = 18446744073709551615\n"),
+    (
+        "%%\nN = 1\nA = 18446744073709551615\n",
+        "A = 18446744073709551615\nB = 18446744073709551615\n",
+    ),
     ("%%\nN = 2\nA = 10 9\n", "A = 10 9\nB = 10 9\n"),
-    ("%%\nN = 1\nA = 18446744073709551614", "A = 18446744073709551614\nB = 18446744073709551614\n"),
+    (
+        "%%\nN = 1\nA = 18446744073709551614",
+        "A = 18446744073709551614\nB = 18446744073709551614\n",
+    ),
     ("%%\nN = 3\nA = 0 0 7\n", "A = 0 0 7\nB = 0 0 7\n"),
 ];
 
@@ -89,10 +96,23 @@ fn words_of(alloc: Global, words: &[&str]) -> Result<Vec<String>, AllocError> {
 }
 
 /// Calls `polypar` on these ports.
-fn call(rt: &HostRuntime, words: &[&str], mut source: MemSource, mut out: MemSink) -> Result<Answer, AllocError> {
+fn call(
+    rt: &HostRuntime,
+    words: &[&str],
+    mut source: MemSource,
+    mut out: MemSink,
+) -> Result<Answer, AllocError> {
     let words = words_of(rt.alloc(), words)?;
     let mut err = MemSink::of(rt.alloc(), 200, 200, &[])?;
-    let status = polypar(rt, rt.alloc(), &words, &mut source, &mut out, &mut err, &OpenGate);
+    let status = polypar(
+        rt,
+        rt.alloc(),
+        &words,
+        &mut source,
+        &mut out,
+        &mut err,
+        &OpenGate,
+    );
     Ok(Answer { status, out, err })
 }
 
@@ -127,9 +147,17 @@ fn refuses_other_data(rt: HostRuntime) -> Result<(), Fail> {
     for data in NOT_SAID {
         let input = with_data(rt.alloc(), data)?;
         let answer = run_on(&rt, input.as_bytes())?;
-        assert_eq!(rt; answer.status, Status::BadData(DataRefusal::Line(1)), "{data}");
+        assert_eq!(rt;
+            answer.status,
+            Status::BadData(DataRefusal::Line(1)),
+            "{data}"
+        );
         assert_eq!(rt; answer.out.taken(), b"".as_slice(), "{data}");
-        assert_eq!(rt; answer.err.taken(), b"data: Line line 1\n".as_slice(), "{data}");
+        assert_eq!(rt;
+            answer.err.taken(),
+            b"data: Line line 1\n".as_slice(),
+            "{data}"
+        );
     }
     Ok(())
 }
@@ -140,7 +168,11 @@ fn refuses_other_texts(rt: HostRuntime) -> Result<(), Fail> {
         let answer = run_on(&rt, input.as_bytes())?;
         assert_eq!(rt; answer.status.exit_code(), 2, "{input}");
         assert_eq!(rt; answer.out.taken(), b"".as_slice(), "{input}");
-        assert_eq!(rt; answer.err.taken(), b"refused: Token 1:1\n".as_slice(), "{input}");
+        assert_eq!(rt;
+            answer.err.taken(),
+            b"refused: Token 1:1\n".as_slice(),
+            "{input}"
+        );
     }
     Ok(())
 }

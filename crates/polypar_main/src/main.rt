@@ -20,6 +20,14 @@ fn main(rt: HostRuntime) -> ExitCode {
     let mut source = StdSource::of(rt.stdin());
     let mut out = StdSink::of(rt.stdout());
     let mut err = StdSink::of(rt.stderr());
-    let status = polypar(&rt, rt.alloc(), &words, &mut source, &mut out, &mut err, &OpenGate);
+    let status = polypar(
+        &rt,
+        rt.alloc(),
+        &words,
+        &mut source,
+        &mut out,
+        &mut err,
+        &OpenGate,
+    );
     ExitCode::from(status.exit_code())
 }

@@ -1,6 +1,8 @@
-use Rattle.std.proofs.Common.{rules, sym, ◌∙◌, arith, FitsSigned, get_or, pos}
+use Rattle.std.proofs.Common.{rules, ℤ, sym, ◌∙◌, arith, FitsSigned, get_or, pos}
+use Rattle.std.specs.Prelude.{Result}
 use Rattle.std.specs.Int.{w128}
 use Rattle.std.proofs.lemmas.Int.{to_z-of_z}
+use Rattle.wide_math.specs.declared.Wide.{Wide}
 use Rattle.affine_forms.specs.Runs.{added_multiple_run, multiply_add_run}
 use Rattle.affine_forms.proofs.Steps.{zip_run-step, zip_run-stop, zip_run-end}
 use Rattle.affine_forms.proofs.row.add_multiple.Goals as goal
@@ -12,7 +14,11 @@ returns-in-Err c =
     let fits_x : FitsSigned w128 (get_or c.loop-at.row c.loop-at.at (pos 0)) = search rules in
     let fits_y : FitsSigned w128 (get_or c.args.addend.now c.loop-at.at (pos 0)) = search rules in
     let failed = simp to_z-of_z at (sym c.in-Err.ensures) in
-    sym (simp to_z-of_z at c.loop-at.invariant) ∙ zip_run-stop (λ x y. multiply_add_run x c.args.factor y) c.loop-at.row c.args.addend.now c.loop-at.at c.in-Err.wide (omega arith) (omega arith) failed
+    let kept = simp to_z-of_z at c.loop-at.invariant in
+    let step : ℤ → ℤ → Result ℤ Wide = λ x y. multiply_add_run x c.args.factor y in
+    let ys = c.args.addend.now in
+    sym kept
+    ∙ zip_run-stop step c.loop-at.row ys c.loop-at.at c.in-Err.wide (omega arith) (omega arith) failed
 
 pub loop-at-preserved : goal.loop-at-preserved
 loop-at-preserved c =
@@ -22,10 +28,16 @@ loop-at-preserved c =
     let fits_y : FitsSigned w128 (get_or c.args.addend.now c.loop-at.at (pos 0)) = search rules in
     let given = simp to_z-of_z at (sym c.in-Ok.ensures) in
     let kept = simp to_z-of_z at c.loop-at.invariant in
-    simp to_z-of_z (zip_run-step (λ x y. multiply_add_run x c.args.factor y) c.loop-at.row c.args.addend.now c.loop-at.at c.in-Ok.sum (omega arith) (omega arith) given ∙ kept)
+    let step : ℤ → ℤ → Result ℤ Wide = λ x y. multiply_add_run x c.args.factor y in
+    let ys = c.args.addend.now in
+    simp to_z-of_z
+    (zip_run-step step c.loop-at.row ys c.loop-at.at c.in-Ok.sum (omega arith) (omega arith) given
+    ∙ kept)
 
 pub returns : goal.returns
 unfolding added_multiple_run
 returns c =
     let fits_k = c.ranges.factor in
-    sym (simp to_z-of_z at c.loop-at.invariant) ∙ zip_run-end (λ x y. multiply_add_run x c.args.factor y) c.loop-at.row _ c.loop-at.at (omega arith)
+    let kept = simp to_z-of_z at c.loop-at.invariant in
+    let step : ℤ → ℤ → Result ℤ Wide = λ x y. multiply_add_run x c.args.factor y in
+    sym kept ∙ zip_run-end step c.loop-at.row _ c.loop-at.at (omega arith)

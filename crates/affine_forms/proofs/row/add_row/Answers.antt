@@ -12,7 +12,9 @@ returns-in-Err c =
     let fits_x : FitsSigned w128 (get_or c.loop-at.row c.loop-at.at (pos 0)) = search rules in
     let fits_y : FitsSigned w128 (get_or c.args.addend.now c.loop-at.at (pos 0)) = search rules in
     let failed = simp to_z-of_z at (sym c.in-Err.ensures) in
-    sym c.loop-at.invariant ∙ zip_run-stop sum_of c.loop-at.row c.args.addend.now c.loop-at.at c.in-Err.wide (omega arith) (omega arith) failed
+    let ys = c.args.addend.now in
+    sym c.loop-at.invariant
+    ∙ zip_run-stop sum_of c.loop-at.row ys c.loop-at.at c.in-Err.wide (omega arith) (omega arith) failed
 
 pub loop-at-preserved : goal.loop-at-preserved
 loop-at-preserved c =
@@ -20,7 +22,10 @@ loop-at-preserved c =
     let fits_x : FitsSigned w128 (get_or c.loop-at.row c.loop-at.at (pos 0)) = search rules in
     let fits_y : FitsSigned w128 (get_or c.args.addend.now c.loop-at.at (pos 0)) = search rules in
     let given = simp to_z-of_z at (sym c.in-Ok.ensures) in
-    simp to_z-of_z (zip_run-step sum_of c.loop-at.row c.args.addend.now c.loop-at.at c.in-Ok.sum (omega arith) (omega arith) given ∙ c.loop-at.invariant)
+    let ys = c.args.addend.now in
+    simp to_z-of_z
+    (zip_run-step sum_of c.loop-at.row ys c.loop-at.at c.in-Ok.sum (omega arith) (omega arith) given
+    ∙ c.loop-at.invariant)
 
 pub returns : goal.returns
 unfolding added_run

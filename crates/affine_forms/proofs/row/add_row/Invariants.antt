@@ -5,4 +5,6 @@ use Rattle.affine_forms.proofs.Steps.{with_front}
 use Rattle.affine_forms.proofs.row.add_row.Given as goal
 
 abbrev pub invariant-loop-at : goal.invariant-loop-at
-invariant-loop-at l = with_front (take l.at l.row) (zip_run sum_of (drop l.at l.row) (drop l.at l.addend)) ≡ zip_run sum_of l.fn.row l.addend
+invariant-loop-at l =
+    with_front (take l.at l.row) (zip_run sum_of (drop l.at l.row) (drop l.at l.addend))
+    ≡ zip_run sum_of l.fn.row l.addend

@@ -12,10 +12,14 @@ returns-in-Err c =
     let fits_k = c.ranges.factor in
     let fits_x : FitsSigned w128 (get_or c.loop-at.row c.loop-at.at (pos 0)) = search rules in
     let failed = simp to_z-of_z at (sym c.in-Err.ensures) in
-    sym (simp to_z-of_z at c.loop-at.invariant) ∙ map_run-stop (product_of c.args.factor) c.loop-at.row c.loop-at.at c.in-Err.wide (omega arith) failed
+    let kept = simp to_z-of_z at c.loop-at.invariant in
+    let step = product_of c.args.factor in
+    sym kept ∙ map_run-stop step c.loop-at.row c.loop-at.at c.in-Err.wide (omega arith) failed
 
 pub returns : goal.returns
 unfolding multiplied_run
 returns c =
     let fits_k = c.ranges.factor in
-    sym (simp to_z-of_z at c.loop-at.invariant) ∙ map_run-end (product_of c.args.factor) c.loop-at.row c.loop-at.at (omega arith)
+    let kept = simp to_z-of_z at c.loop-at.invariant in
+    let step = product_of c.args.factor in
+    sym kept ∙ map_run-end step c.loop-at.row c.loop-at.at (omega arith)

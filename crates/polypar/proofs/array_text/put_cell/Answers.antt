@@ -20,7 +20,7 @@ returns-clause-put g c =
     let wrote = c.write_digits-start.ensures in
     let short : length (decimal c.args.cell) ≤ 20 = search (rules, length-decimal-le 20) in
     let long : length buffer ≡ 21 =
-        omega (arith, short, wrote.start, length-drop start buffer, ap length (wrote.written ∙ append-nil (decimal c.args.cell))) in
+    omega (arith, short, wrote.start, length-drop start buffer, ap length (wrote.written ∙ append-nil (decimal c.args.cell))) in
     let cell = space_and_digits buffer (replicate 21 32) (decimal c.args.cell) start (omega (arith, short, wrote.start)) (omega (arith, short, wrote.start)) long wrote.written wrote.before
-        (get_or-replicate 21 (start - 1) 32 0 (omega (arith, short, wrote.start))) in
+    (get_or-replicate 21 (start - 1) 32 0 (omega (arith, short, wrote.start))) in
     subst (λ text. Puts (g.K.Sink.taken c.args.sink.now) c.args.pieces.now (g.K.Sink.taken c.put.new.sink) c.put.new.self text c.put.result) (take_all (21 - (start - 1)) (drop (start - 1) buffer) (omega (arith, length-drop (start - 1) buffer, long)) ∙ cell) c.put.ensures.put

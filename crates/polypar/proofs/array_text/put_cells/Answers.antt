@@ -21,5 +21,5 @@ loop-cell-preserved g c =
     let before = c.loop-cell.invariant in
     let whole = ap (λ t. before.1 ++ t) (sym (cells_next cells at c.loop-cell-test.true)) ∙ before.2 in
     let next = next_put _ (g.K.Sink.taken c.loop-cell.sink) _ _ c.loop-cell.pieces _ before.1 (cell_text (get_or cells at 0)) (cells_text (drop (at + 1) cells)) _
-        whole before.3 c.in-Ok.ensures.put in
+    whole before.3 c.in-Ok.ensures.put in
     (omega (arith, c.put_cell.ensures.cause), next.0, next.1, next.2)

@@ -14,7 +14,7 @@ returns-in-Err-clause-put g c =
     let at = c.loop-at.at in
     let before = c.loop-at.invariant in
     let whole = rows_split arrays c.args.contents.now at c.index-arrays-at.result c.deref.result.now c.array.result.now before.1 (omega arith) (omega arith)
-        c.deref.ensures.value c.array.ensures before.2 in
+    c.deref.ensures.value c.array.ensures before.2 in
     next_piece_front _ (g.K.Sink.taken c.loop-at.sink) _ _ c.loop-at.pieces before.1 (row_text c.deref.result.now c.array.result.now ++ codes "\n")
     (rows_text (drop (at + 1) (map (λ a. a.name.items) arrays)) (drop (at + 1) c.args.contents.now)) _ whole before.3 c.in-Err.ensures.put
 
@@ -24,9 +24,9 @@ loop-at-preserved g c =
     let at = c.loop-at.at in
     let before = c.loop-at.invariant in
     let whole = rows_split arrays c.args.contents.now at c.index-arrays-at.result c.deref.result.now c.array.result.now before.1 (omega arith) (omega arith)
-        c.deref.ensures.value c.array.ensures before.2 in
+    c.deref.ensures.value c.array.ensures before.2 in
     let next = next_put _ (g.K.Sink.taken c.loop-at.sink) _ _ c.loop-at.pieces _ before.1 (row_text c.deref.result.now c.array.result.now ++ codes "\n")
-        (rows_text (drop (at + 1) (map (λ a. a.name.items) arrays)) (drop (at + 1) c.args.contents.now)) _ whole before.3 c.in-Ok.ensures.put in
+    (rows_text (drop (at + 1) (map (λ a. a.name.items) arrays)) (drop (at + 1) c.args.contents.now)) _ whole before.3 c.in-Ok.ensures.put in
     (omega (arith, c.put_row.ensures.cause), next.0, next.1, next.2)
 
 pub returns-clause-put : goal.returns-clause-put

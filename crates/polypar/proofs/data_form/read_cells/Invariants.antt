@@ -7,12 +7,12 @@ use Rattle.polypar.proofs.data_form.read_cells.Given as goal
 
 abbrev pub invariant-loop-rest : goal.invariant-loop-rest
 invariant-loop-rest l = record {
-    within : vec_len l.values ≤ l.count;
-    read : l.text ≡ cells_text l.values.items ++ l.rest;
-    small : All (λ v. v < 2 ^ 64) l.values.items;
-    past : 0 < vec_len l.values → IsPast l.rest;
-    only : LeavesOnly l.text l.count (vec_len l.values) l.rest;
-  }
+  within : vec_len l.values ≤ l.count;
+  read : l.text ≡ cells_text l.values.items ++ l.rest;
+  small : All (λ v. v < 2 ^ 64) l.values.items;
+  past : 0 < vec_len l.values → IsPast l.rest;
+  only : LeavesOnly l.text l.count (vec_len l.values) l.rest;
+}
 
 abbrev pub decreases-loop-rest : goal.decreases-loop-rest
 decreases-loop-rest l = l.count - vec_len l.values

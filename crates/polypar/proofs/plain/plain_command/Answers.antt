@@ -11,5 +11,5 @@ returns-then-ne-clause-complete g c =
     let answer = c.answer-status.ensures in
     let later = c.status_line.ensures.cause.later in
     let quiet : c.answer-status.result ≡ WriteFault → ⊥ =
-        λ fault. elim (answer.write_fault fault) [ inl rose ↦ out rose | inr rose ↦ err (omega (arith, later, rose)) ] in
+    λ fault. elim (answer.write_fault fault) [ inl rose ↦ out rose | inr rose ↦ err (omega (arith, later, rose)) ] in
     done_or_no_memory _ _ _ _ answer.answer accepted (λ usage. answer.usage usage command) (λ fault. source (answer.read_fault fault)) quiet

@@ -11,7 +11,7 @@ use Rattle.polypar.proofs.run.run_values.Goals as goal
 pub returns-in-Ok-print_arrays-clause-answer : goal.returns-in-Ok-print_arrays-clause-answer
 returns-in-Ok-print_arrays-clause-answer g c = λ names copy.
     let counted : to_z w64 c.len-count.result ≡ pos (length c.args.values.items) =
-        to_z_pos w64 c.len-count.result (omega arith) ∙ ap pos (c.len-count.ensures ∙ c.args.values.ok.0) in
+    to_z_pos w64 c.len-count.result (omega arith) ∙ ap pos (c.len-count.ensures ∙ c.args.values.ok.0) in
     subst (λ text. Appends (g.O.Sink.taken c.args.out.now) (g.O.Sink.taken c.print_arrays.new.out) text)
     (printed_text (program_of c.args.kernel.now) names c.args.values.items _ _ _ copy counted c.in-Ok.ensures c.run_plain.ensures.arrays)
     c.in-Ok-print_arrays.ensures.ok
@@ -19,7 +19,7 @@ returns-in-Ok-print_arrays-clause-answer g c = λ names copy.
 pub returns-in-Ok-clause-answer : goal.returns-in-Ok-clause-answer
 returns-in-Ok-clause-answer g c = λ names copy.
     let counted : to_z w64 c.len-count.result ≡ pos (length c.args.values.items) =
-        to_z_pos w64 c.len-count.result (omega arith) ∙ ap pos (c.len-count.ensures ∙ c.args.values.ok.0) in
+    to_z_pos w64 c.len-count.result (omega arith) ∙ ap pos (c.len-count.ensures ∙ c.args.values.ok.0) in
     subst (λ text. GainsFront (g.O.Sink.taken c.args.out.now) (g.O.Sink.taken c.print_arrays.new.out) text)
     (printed_text (program_of c.args.kernel.now) names c.args.values.items _ _ _ copy counted c.in-Ok.ensures c.run_plain.ensures.arrays)
     c.print_arrays.ensures.front
@@ -27,23 +27,23 @@ returns-in-Ok-clause-answer g c = λ names copy.
 pub run_plain-requires-clause-room : goal.run_plain-requires-clause-room
 run_plain-requires-clause-room g c =
     let counted : to_z w64 c.len-count.result ≡ pos (length c.args.values.items) =
-        to_z_pos w64 c.len-count.result (omega arith) ∙ ap pos (c.len-count.ensures ∙ c.args.values.ok.0) in
+    to_z_pos w64 c.len-count.result (omega arith) ∙ ap pos (c.len-count.ensures ∙ c.args.values.ok.0) in
     (copy_can_run _ c.requires.kernel.0 c.args.values.items _ _ c.requires.kernel.1 counted (omega arith) c.in-Ok.ensures).room
 
 pub run_plain-requires-clause-fits : goal.run_plain-requires-clause-fits
 run_plain-requires-clause-fits g c =
     let counted : to_z w64 c.len-count.result ≡ pos (length c.args.values.items) =
-        to_z_pos w64 c.len-count.result (omega arith) ∙ ap pos (c.len-count.ensures ∙ c.args.values.ok.0) in
+    to_z_pos w64 c.len-count.result (omega arith) ∙ ap pos (c.len-count.ensures ∙ c.args.values.ok.0) in
     (copy_can_run _ c.requires.kernel.0 c.args.values.items _ _ c.requires.kernel.1 counted (omega arith) c.in-Ok.ensures).fits
 
 pub run_plain-requires-clause-inside : goal.run_plain-requires-clause-inside
 run_plain-requires-clause-inside g c =
     let counted : to_z w64 c.len-count.result ≡ pos (length c.args.values.items) =
-        to_z_pos w64 c.len-count.result (omega arith) ∙ ap pos (c.len-count.ensures ∙ c.args.values.ok.0) in
+    to_z_pos w64 c.len-count.result (omega arith) ∙ ap pos (c.len-count.ensures ∙ c.args.values.ok.0) in
     (copy_can_run _ c.requires.kernel.0 c.args.values.items _ _ c.requires.kernel.1 counted (omega arith) c.in-Ok.ensures).inside
 
 pub run_plain-requires-clause-shape : goal.run_plain-requires-clause-shape
 run_plain-requires-clause-shape g c =
     let counted : to_z w64 c.len-count.result ≡ pos (length c.args.values.items) =
-        to_z_pos w64 c.len-count.result (omega arith) ∙ ap pos (c.len-count.ensures ∙ c.args.values.ok.0) in
+    to_z_pos w64 c.len-count.result (omega arith) ∙ ap pos (c.len-count.ensures ∙ c.args.values.ok.0) in
     (copy_can_run _ c.requires.kernel.0 c.args.values.items _ _ c.requires.kernel.1 counted (omega arith) c.in-Ok.ensures).shape

@@ -12,8 +12,15 @@ loop-at-preserved c =
     let g = c.index-forms-at.result in
     let fits_k : FitsSigned w128 (get_or c.args.factors.now c.loop-at.at (pos 0)) = search rules in
     let given = simp to_z-of_z at c.in-Ok.ensures in
-    let width : variables_of g ≡ variables_of c.loop-at.self = ap variables_of c.index-forms-at.is ∙ c.requires.forms c.loop-at.at g (omega arith) ∙ sym c.loop-at.invariant.width in
+    let is = c.index-forms-at.is in
+    let sized = c.requires.forms c.loop-at.at g (omega arith) in
+    let width : variables_of g ≡ variables_of c.loop-at.self =
+    ap variables_of is ∙ sized ∙ sym c.loop-at.invariant.width in
+    let step =
+    plus_combination_run-step c.loop-at.self c.args.factors.now c.args.forms.now c.loop-at.at g
+    c.add_scaled.new.self (omega arith) (omega arith) is given in
+    let kept = plus_multiple_run-variables c.loop-at.self k g c.add_scaled.new.self width given in
     record {
-      rest = plus_combination_run-step c.loop-at.self c.args.factors.now c.args.forms.now c.loop-at.at g c.add_scaled.new.self (omega arith) (omega arith) c.index-forms-at.is given ∙ c.loop-at.invariant.rest;
-      width = plus_multiple_run-variables c.loop-at.self k g c.add_scaled.new.self width given ∙ c.loop-at.invariant.width;
+      rest = step ∙ c.loop-at.invariant.rest;
+      width = kept ∙ c.loop-at.invariant.width;
     }

@@ -17,4 +17,7 @@ add_combination-requires-clause-forms c k d inside =
 
 pub returns-in-Ok-add_combination-clause-value : goal.returns-in-Ok-add_combination-clause-value
 unfolding compose_run
-returns-in-Ok-add_combination-clause-value c = compose_run-value c.args.self.now c.args.inner.now c.args.variables c.add_combination.new.self c.requires.variables (search rules)
+returns-in-Ok-add_combination-clause-value c =
+    let h = c.add_combination.new.self in
+    let sized = c.requires.variables in
+    compose_run-value c.args.self.now c.args.inner.now c.args.variables h sized (search rules)

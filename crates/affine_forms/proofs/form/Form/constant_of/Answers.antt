@@ -8,4 +8,5 @@ pub returns-in-Ok-clause-form : goal.returns-in-Ok-clause-form
 returns-in-Ok-clause-form c =
     let fits = c.ranges.constant in
     let items = c.in-Ok.ensures.items_if_clones_equal (search rules) in
-    simp to_z-of_z (ap (λ (cs : List ℤ). Ok (form_of cs c.args.constant)) (sym (items ∙ replicate-zeros c.args.variables)))
+    let zero = sym (items ∙ replicate-zeros c.args.variables) in
+    simp to_z-of_z (ap (λ (cs : List ℤ). Ok (form_of cs c.args.constant)) zero)

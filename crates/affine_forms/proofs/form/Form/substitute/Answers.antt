@@ -7,9 +7,14 @@ use Rattle.affine_forms.proofs.form.Form.substitute.Goals as goal
 pub returns-in-Ok-add_scaled-clause-entries : goal.returns-in-Ok-add_scaled-clause-entries
 unfolding substitute_run
 returns-in-Ok-add_scaled-clause-entries c =
-    substitute_run-exact c.args.self.now c.args.variable c.args.form.now c.add_scaled.new.self c.requires.form (search rules)
+    let h = c.add_scaled.new.self in
+    let g = c.args.form.now in
+    substitute_run-exact c.args.self.now c.args.variable g h c.requires.form (search rules)
 
 pub returns-in-Ok-add_scaled-clause-value : goal.returns-in-Ok-add_scaled-clause-value
 unfolding substitute_run
 returns-in-Ok-add_scaled-clause-value c =
-    substitute_run-value c.args.self.now c.args.variable c.args.form.now c.add_scaled.new.self c.requires.variable c.requires.form (search rules)
+    let h = c.add_scaled.new.self in
+    let g = c.args.form.now in
+    let inside = c.requires.variable in
+    substitute_run-value c.args.self.now c.args.variable g h inside c.requires.form (search rules)
