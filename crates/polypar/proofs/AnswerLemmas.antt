@@ -1,6 +1,5 @@
 -- What follows from a status and its cause.
-use Rattle.std.proofs.Common.{◌≡◌, ◌≢◌, ◌⊎◌, ◌∙◌, sym, ap, subst, refl, inl, inr, ℕ, ◌<◌, ◌≤◌, ◌^◌, List, [], ◌++◌, length, Option, None, Some, append-nil, arith}
-use Rattle.std.specs.Io.KnownBytes.{Appends}
+use Rattle.std.proofs.Common.{◌≡◌, ◌≢◌, ◌⊎◌, subst, refl, inl, inr, ℕ, ◌≤◌, ◌^◌, List, length, Option, None, Some, arith}
 use Rattle.io_ports.proofs.Writing.{whole_is_front}
 use Rattle.polypar.specs.declared.status.Status.{Status}
 use Rattle.polypar.specs.declared.status.Status.TheVariants.{Done, Usage, Refused, BadData, ReadFault, WriteFault, NoMemory}

@@ -1,5 +1,5 @@
 -- The text of arrays, cell by cell and line by line.
-use Rattle.std.proofs.Common.{◌≡◌, ◌∙◌, sym, ap, refl, ℕ, ◌+◌, ◌-◌, ◌<◌, ◌≤◌, List, [], ◌∷◌, ◌++◌, length, map, min, zero, take, drop, get_or, codes, decimal, add-one, drop-cons, drop_of_length-le, append-nil, suc, arith}
+use Rattle.std.proofs.Common.{◌≡◌, ◌∙◌, sym, ap, refl, ℕ, ◌+◌, ◌-◌, ◌<◌, ◌≤◌, List, [], ◌∷◌, ◌++◌, length, map, min, zero, take, drop, get_or, codes, add-one, drop-cons, drop_of_length-le, append-nil, suc, arith}
 use Rattle.std.proofs.lemmas.List.{get_or-take, get_or-map, length-map}
 use Rattle.scop_syntax.specs.declared.tree.Array.{Array}
 use Rattle.scop_syntax.specs.declared.tree.Kernel.{Kernel}

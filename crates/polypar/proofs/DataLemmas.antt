@@ -1,12 +1,12 @@
 -- The data of a kernel is said in at most one way.
-use Rattle.std.proofs.Common.{◌≡◌, ◌∙◌, sym, ap, subst, refl, ℕ, zero, suc, ◌+◌, ◌-◌, ◌^◌, ◌<◌, ◌≤◌, ◌⊎◌, inl, inr, List, [], ◌∷◌, ◌++◌, length, take, drop, get_or, All, codes, decimal, add-zero, add-one, drop-cons, append_assoc, append-nil, arith, rules}
+use Rattle.std.proofs.Common.{◌≡◌, ◌∙◌, sym, ap, refl, ℕ, ◌+◌, ◌^◌, ◌<◌, ◌≤◌, ◌⊎◌, inl, inr, List, [], ◌∷◌, ◌++◌, length, take, drop, get_or, All, codes, decimal, append_assoc, append-nil, arith}
 use Rattle.std.proofs.lemmas.List.{append_cancel_left, take-append-drop}
 use Rattle.std.proofs.Math.Seq.{take-append_seam, drop-append_seam}
 use Rattle.std.proofs.lemmas.List.Elements.{All-head, All-tail}
 use Rattle.polypar.proofs.ArrayTextLemmas.{cells_next}
 use Rattle.polypar.specs.ArrayText.{cell_text, cells_text}
 use Rattle.polypar.specs.DataForm.{SaysData, head_text, data_text}
-use Rattle.polypar.specs.Decimals.{IsDigit, IsPast}
+use Rattle.polypar.specs.Decimals.{IsPast}
 use Rattle.polypar.proofs.DecimalLemmas.{one_decimal}
 
 -- a line feed and a space are no digits

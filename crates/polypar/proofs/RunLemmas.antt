@@ -1,5 +1,5 @@
 -- From what a status says of a kernel's data to what it says of the whole input.
-use Rattle.std.proofs.Common.{◌≡◌, ◌≢◌, ◌⊎◌, ◌∙◌, sym, ap, subst, refl, ℕ, ℤ, pos, ◌<◌, ◌≤◌, ◌^◌, List, [], ◌∷◌, ◌++◌, length, map, Option, None, Some, arith}
+use Rattle.std.proofs.Common.{◌≡◌, ◌≢◌, ◌∙◌, sym, ap, subst, refl, ℕ, ℤ, pos, ◌<◌, ◌≤◌, List, [], ◌∷◌, length, Option, Some, arith}
 use Rattle.polypar.specs.declared.status.Status.{Status}
 use Rattle.polypar.specs.declared.status.Status.TheVariants.{Done, Usage, Refused, BadData, ReadFault, WriteFault, NoMemory}
 use Rattle.polypar.specs.declared.status.DataRefusal.TheVariants.{Line}
@@ -17,7 +17,7 @@ use Rattle.std.specs.Prelude.{replicate}
 use Rattle.polypar.specs.CopyProgram.{program_named}
 use Rattle.polypar.specs.ArrayText.{array_text}
 use Rattle.polypar.specs.KernelForm.{CopyNames, SpellsCopy}
-use Rattle.polypar.specs.Case.{IsShort, SpellsKernel, Accepted, IsCopyOf, initial_arrays, final_arrays, printed}
+use Rattle.polypar.specs.Case.{IsShort, SpellsKernel, IsCopyOf, initial_arrays, final_arrays, printed}
 use Rattle.polypar.specs.DataForm.{SaysData}
 use Rattle.polypar.specs.Answers.{Answers, AnswersCase, Writes}
 

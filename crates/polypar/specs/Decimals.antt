@@ -1,5 +1,5 @@
 -- Decimals in front of a text.
-use Rattle.std.specs.Prelude.{◌≡◌, ℕ, zero, ◌+◌, ◌-◌, ◌*◌, ◌<◌, List, [], ◌∷◌, length, get_or}
+use Rattle.std.specs.Prelude.{◌≡◌, ℕ, ◌+◌, ◌-◌, ◌*◌, ◌<◌, List, [], ◌∷◌, length, get_or}
 use Rattle.std.specs.Int.{IsInRange}
 
 -- a byte is a decimal digit

@@ -227,3 +227,15 @@ fn refuses_an_input_that_is_too_long(rt: HostRuntime) -> Result<(), Fail> {
     assert_eq!(rt; answer.err.taken(), b"refused: TooLong 1:1\n".as_slice());
     Ok(())
 }
+
+#[test]
+fn tells_a_flush_that_fails(rt: HostRuntime) -> Result<(), Fail> {
+    let input = with_data(rt.alloc(), "%%\nN = 1\nA = 5\n")?;
+    let source = MemSource::of(rt.alloc(), input.as_bytes(), 99, &[])?;
+    let out = MemSink::of(rt.alloc(), 99, 99, &[2])?;
+    let answer = call(&rt, &["polypar", "run"], source, out)?;
+    assert_eq!(rt; answer.status.exit_code(), 6);
+    assert_eq!(rt; answer.out.taken(), b"A = 5\nB = 5\n".as_slice());
+    assert_eq!(rt; answer.err.taken(), b"write fault\n".as_slice());
+    Ok(())
+}

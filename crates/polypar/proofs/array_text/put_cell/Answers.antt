@@ -1,5 +1,5 @@
 -- The digits end the buffer, and the space before them is left of its first filling.
-use Rattle.std.proofs.Common.{rules, ◌≡◌, ◌∙◌, ◌-◌, ◌≤◌, ℕ, List, [], ap, length, append-nil, take, drop, decimal, subst, arith, length-drop, take_all}
+use Rattle.std.proofs.Common.{rules, ◌≡◌, ◌∙◌, ◌-◌, ◌≤◌, ap, length, append-nil, drop, decimal, subst, arith, length-drop, take_all}
 use Rattle.std.proofs.lemmas.Fmt.{length-decimal-le}
 use Rattle.std.specs.Prelude.{replicate}
 use Rattle.std.proofs.lemmas.List.{get_or-replicate}

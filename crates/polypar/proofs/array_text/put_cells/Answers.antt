@@ -1,5 +1,5 @@
 -- One more cell was put, or a front of it reached the sink.
-use Rattle.std.proofs.Common.{◌≡◌, ◌∙◌, ◌++◌, ap, sym, drop, ◌+◌, get_or, arith}
+use Rattle.std.proofs.Common.{◌∙◌, ◌++◌, ap, sym, drop, ◌+◌, get_or, arith}
 use Rattle.io_ports.proofs.Writing.{next_put, next_piece_front}
 use Rattle.polypar.specs.ArrayText.{cell_text, cells_text}
 use Rattle.polypar.proofs.ArrayTextLemmas.{cells_next}

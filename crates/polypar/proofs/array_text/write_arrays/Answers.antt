@@ -1,5 +1,5 @@
 -- The lines are the kernel's arrays', and what was pending went out behind them.
-use Rattle.std.proofs.Common.{◌≡◌, ◌∙◌, sym, ap, subst}
+use Rattle.std.proofs.Common.{subst}
 use Rattle.std.specs.Io.KnownBytes.{Appends}
 use Rattle.io_ports.specs.Bytes.{GainsFront}
 use Rattle.io_ports.proofs.Writing.{passes_then_all, passes_then_pending}

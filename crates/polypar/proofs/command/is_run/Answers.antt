@@ -1,8 +1,7 @@
 -- The second word's text is compared byte by byte.
-use Rattle.std.proofs.Common.{rules, ◌↔◌, ◌∙◌, sym, ap, IsTrue, map, string_bytes, ◌≡◌, ℕ, ◌<◌, length, List, [], slice_index_or, codes, arith, Global, String}
+use Rattle.std.proofs.Common.{◌∙◌, sym, ap, map, string_bytes, ◌≡◌, length, [], slice_index_or, codes, arith, Global}
 use Rattle.std.proofs.lemmas.List.{get_or-map, length-map}
 use Rattle.std.proofs.lemmas.Slice.Eq.{bytes_eq-Decides}
-use Rattle.polypar.specs.Command.{IsRunCommand}
 use Rattle.polypar.proofs.command.is_run.Goals as goal
 
 pub returns-then-words-eq2 : goal.returns-then-words-eq2

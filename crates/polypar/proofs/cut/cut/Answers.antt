@@ -1,7 +1,7 @@
 -- The line at the place cuts, or the place goes on behind it.
-use Rattle.std.proofs.Common.{◌≡◌, ◌∙◌, ◌-◌, ◌+◌, ◌≤◌, ℕ, List, sym, ap, subst, length, take, drop, ◌∷◌, Bool, false, true, arith, length-drop, take_all}
+use Rattle.std.proofs.Common.{◌≡◌, ◌∙◌, ◌-◌, sym, ap, subst, length, take, drop, ◌∷◌, false, true, arith, length-drop, take_all}
 use Rattle.polypar.specs.Cut.{lines_of, is_cut}
-use Rattle.polypar.proofs.CutLemmas.{cut_behind_line, kernel_before, case_behind}
+use Rattle.polypar.proofs.CutLemmas.{cut_behind_line, case_behind}
 use Rattle.polypar.proofs.cut.cut.Goals as goal
 
 pub returns-then-is_cut-clause-case : goal.returns-then-is_cut-clause-case

@@ -1,5 +1,5 @@
 -- The first line ends at its line feed, or at the text's end.
-use Rattle.std.proofs.Common.{◌≡◌, ◌-◌, ◌<◌, ◌⊎◌, inl, inr, ℕ, length, take, drop, ◌∷◌, get_or, ◌+◌, subst, arith}
+use Rattle.std.proofs.Common.{◌≡◌, ◌-◌, inl, inr, length, take, drop, ◌∷◌, ◌+◌, subst, arith}
 use Rattle.polypar.specs.Cut.{lines_of}
 use Rattle.polypar.proofs.CutLemmas.{first_line}
 use Rattle.polypar.proofs.cut.line_length.Goals as goal

@@ -1,5 +1,5 @@
 -- The text is split at the length of the front.
-use Rattle.std.proofs.Common.{◌≡◌, length, take}
+use Rattle.std.proofs.Common.{length, take}
 use Rattle.std.proofs.lemmas.Slice.Eq.{bytes_eq-Decides}
 use Rattle.polypar.proofs.DataLemmas.{stripped, begins}
 use Rattle.polypar.proofs.data_form.behind.Goals as goal

@@ -1,5 +1,5 @@
 -- No `=` stands behind the name.
-use Rattle.std.proofs.Common.{◌≡◌, ◌∷◌, ◌++◌, [], codes}
+use Rattle.std.proofs.Common.{◌++◌, codes}
 use Rattle.polypar.proofs.DataLemmas.{past_front}
 use Rattle.polypar.proofs.data_form.behind_equals.Goals as goal
 

@@ -1,5 +1,5 @@
 -- One more cell was read, or none can be.
-use Rattle.std.proofs.Common.{◌≡◌, ◌∙◌, ◌<◌, ◌^◌, ◌+◌, ℕ, sym, ap, refl, ◌++◌, subst, All, vec_len, arith}
+use Rattle.std.proofs.Common.{◌∙◌, ◌<◌, ◌^◌, sym, ap, refl, ◌++◌, subst, All, vec_len, arith}
 use Rattle.std.proofs.lemmas.List.Elements.{All-push}
 use Rattle.polypar.specs.ArrayText.{cells_text}
 use Rattle.polypar.proofs.DataLemmas.{LeavesOnly, leaves_next, leaves_none, read_next}

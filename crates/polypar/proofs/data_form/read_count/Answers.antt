@@ -1,5 +1,5 @@
 -- No ` = ` stands behind the name, or no number behind that.
-use Rattle.std.proofs.Common.{◌≡◌, ◌∙◌, sym, ◌++◌, codes, decimal}
+use Rattle.std.proofs.Common.{◌∙◌, sym, ◌++◌, codes, decimal}
 use Rattle.std.proofs.lemmas.List.{append_cancel_left}
 use Rattle.polypar.proofs.DataLemmas.{past_front}
 use Rattle.polypar.proofs.data_form.read_count.Goals as goal

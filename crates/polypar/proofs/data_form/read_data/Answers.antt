@@ -1,5 +1,5 @@
 -- What stopped the reading stands against all that the text may say.
-use Rattle.std.proofs.Common.{◌≡◌, ◌∙◌, ◌++◌, ◌<◌, ◌^◌, sym, ap, Err, inl, inr, length, arith}
+use Rattle.std.proofs.Common.{◌∙◌, ◌++◌, sym, ap, Err, inl, inr, length, arith}
 use Rattle.polypar.specs.ArrayText.{cells_text}
 use Rattle.polypar.proofs.DataLemmas.{one_head, one_cells, is_said}
 use Rattle.polypar.proofs.data_form.read_data.Goals as goal

@@ -1,5 +1,5 @@
 -- The second line does not begin as it has to.
-use Rattle.std.proofs.Common.{◌≡◌, ◌∙◌, ◌++◌, codes}
+use Rattle.std.proofs.Common.{◌∙◌, ◌++◌, codes}
 use Rattle.polypar.proofs.DataLemmas.{head_split, one_count, feed_is_past}
 use Rattle.polypar.proofs.data_form.read_head.Goals as goal
 

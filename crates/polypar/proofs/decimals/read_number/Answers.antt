@@ -1,5 +1,5 @@
 -- The digits in front of the text are the only decimal that can stand there.
-use Rattle.std.proofs.Common.{◌≡◌, ◌∙◌, ◌-◌, ap, sym, subst, refl, rules, length, drop, ◌++◌, decimal, arith, length-drop, take_all}
+use Rattle.std.proofs.Common.{◌∙◌, ◌-◌, ap, sym, subst, refl, rules, length, drop, ◌++◌, decimal, arith, length-drop, take_all}
 use Rattle.polypar.specs.Decimals.{IsPlain}
 use Rattle.polypar.proofs.DecimalLemmas.{run_length, run_is, digits_written, plain_decimal, front_value}
 use Rattle.polypar.proofs.decimals.read_number.Goals as goal

@@ -1,6 +1,5 @@
 -- Completeness, from the cause of each status.
-use Rattle.std.proofs.Common.{rules, ◌≡◌, ◌⊎◌, ◌≤◌, inl, inr, arith}
-use Rattle.io_ports.specs.Faults.{Rose}
+use Rattle.std.proofs.Common.{◌≡◌, inl, inr, arith}
 use Rattle.polypar.specs.declared.status.Status.TheVariants.{WriteFault}
 use Rattle.polypar.proofs.AnswerLemmas.{done_or_no_memory}
 use Rattle.polypar.proofs.plain.plain_command.Goals as goal

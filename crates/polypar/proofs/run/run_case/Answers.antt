@@ -1,5 +1,5 @@
 -- The names of the kernel's parameter and first array are those of the data.
-use Rattle.std.proofs.Common.{◌≡◌, ◌∙◌, ap}
+use Rattle.std.proofs.Common.{◌∙◌, ap}
 use Rattle.polypar.proofs.RunLemmas.{copy_parameter, copy_source, data_answers}
 use Rattle.polypar.proofs.run.run_case.Goals as goal
 

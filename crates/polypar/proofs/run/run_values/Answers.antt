@@ -1,5 +1,5 @@
 -- What was printed is the text of the arrays of the execution.
-use Rattle.std.proofs.Common.{rules, ◌≡◌, ◌∙◌, ap, ℤ, pos, length, vec_len, arith, subst, to_z}
+use Rattle.std.proofs.Common.{◌≡◌, ◌∙◌, ap, pos, length, arith, subst, to_z}
 use Rattle.std.proofs.lemmas.Int.{to_z_pos}
 use Rattle.std.specs.Int.{w64}
 use Rattle.std.specs.Io.KnownBytes.{Appends}
