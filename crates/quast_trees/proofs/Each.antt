@@ -4,7 +4,7 @@ use Rattle.std.proofs.lemmas.List.{drop_all}
 use Rattle.std.proofs.lemmas.List.Elements.{All-nil, All-cons, All-head, All-tail}
 use Rattle.wide_math.specs.declared.Wide.{Wide}
 use Rattle.wide_math.specs.Checked.{◌>>=◌}
-use Rattle.affine_forms.proofs.Exact.{chain}
+use Rattle.wide_math.proofs.Steps.{chain-ok}
 use Rattle.quast_trees.specs.Each.{each_run}
 
 -- results so far in front of those of the rest
@@ -56,11 +56,11 @@ pub each_run-map : {A B C : Type 0} (run : A → Result B Wide) (p : A → C) (q
     → (xs : List A) (ys : List B) → each_run run xs ≡ Ok ys → map q ys ≡ map p xs
 each_run-map run p q same [] ys h = let e : ys ≡ [] = cc in rw e refl
 each_run-map run p q same (x ∷ xs) ys h =
-    let first = chain (run x) (λ y. each_run run xs >>= λ zs. Ok (y ∷ zs)) ys h in
-    let rest = chain (each_run run xs) (λ zs. Ok (first.x ∷ zs)) ys first.next_is in
-    let e : ys ≡ first.x ∷ rest.x = cc (rest.next_is) in
-    let head = same x first.x first.first_is in
-    let tail = each_run-map run p q same xs rest.x rest.first_is in
+    let first = chain-ok (run x) (λ y. each_run run xs >>= λ zs. Ok (y ∷ zs)) ys h in
+    let rest = chain-ok (each_run run xs) (λ zs. Ok (first.0 ∷ zs)) ys first.2 in
+    let e : ys ≡ first.0 ∷ rest.0 = cc (rest.2) in
+    let head = same x first.0 first.1 in
+    let tail = each_run-map run p q same xs rest.0 rest.1 in
     rw (e, head, tail) refl
 
 -- what holds of each result holds of all
@@ -68,9 +68,9 @@ pub each_run-all : {A B : Type 0} (run : A → Result B Wide) (P : A → Type 0)
     → (xs : List A) (ys : List B) → All P xs → each_run run xs ≡ Ok ys → All Q ys
 each_run-all run P Q keeps [] ys all h = let e : ys ≡ [] = cc in rw e (All-nil Q)
 each_run-all run P Q keeps (x ∷ xs) ys all h =
-    let first = chain (run x) (λ y. each_run run xs >>= λ zs. Ok (y ∷ zs)) ys h in
-    let rest = chain (each_run run xs) (λ zs. Ok (first.x ∷ zs)) ys first.next_is in
-    let e : ys ≡ first.x ∷ rest.x = cc (rest.next_is) in
-    let head = keeps x first.x (All-head P x xs all) first.first_is in
-    let tail = each_run-all run P Q keeps xs rest.x (All-tail P x xs all) rest.first_is in
-    rw e (All-cons Q first.x rest.x head tail)
+    let first = chain-ok (run x) (λ y. each_run run xs >>= λ zs. Ok (y ∷ zs)) ys h in
+    let rest = chain-ok (each_run run xs) (λ zs. Ok (first.0 ∷ zs)) ys first.2 in
+    let e : ys ≡ first.0 ∷ rest.0 = cc (rest.2) in
+    let head = keeps x first.0 (All-head P x xs all) first.1 in
+    let tail = each_run-all run P Q keeps xs rest.0 (All-tail P x xs all) rest.1 in
+    rw e (All-cons Q first.0 rest.0 head tail)

@@ -6,7 +6,8 @@ use Rattle.whole_numbers.specs.Floor.{floor}
 use Rattle.affine_forms.specs.Gives.{Gives}
 use Rattle.affine_forms.specs.declared.stop.FormStop.{FormStop}
 use Rattle.affine_forms.specs.Runs.{value_run as form_run}
-use Rattle.affine_forms.proofs.Exact.{chain, value_run-exact as form_run-exact}
+use Rattle.wide_math.proofs.Steps.{chain-ok}
+use Rattle.affine_forms.proofs.Exact.{value_run-exact as form_run-exact}
 use Rattle.quast_trees.specs.Tree.{Tree, initial, source, branch, bind}
 use Rattle.quast_trees.specs.Leaf.{Leaf, leaf_of, values_of}
 use Rattle.quast_trees.specs.declared.leaf.Leaf.{Leaf as Answer}
@@ -25,26 +26,26 @@ values_run-exact forms point vs h =
 pub bound_run-exact : (f : Affine) (divisor : ℤ) (point longer : List ℤ) → bound_run f divisor point ≡ Ok longer
     → longer ≡ point ++ floor (value_of f point) divisor ∷ []
 bound_run-exact f divisor point longer h =
-    let c = chain (form_run f point) (λ v. Ok (point ++ floor v divisor ∷ [])) longer h in
-    let e = form_run-exact f point c.x c.first_is in
-    let k : point ++ floor c.x divisor ∷ [] ≡ longer = cc (c.next_is) in
+    let c = chain-ok (form_run f point) (λ v. Ok (point ++ floor v divisor ∷ [])) longer h in
+    let e = form_run-exact f point c.0 c.1 in
+    let k : point ++ floor c.0 divisor ∷ [] ≡ longer = cc (c.2) in
     sym k ∙ ap (λ v. point ++ floor v divisor ∷ []) e
 
 -- a run that ends well gives the tree's leaf
 pub value_run-exact : (t : Tree) (point : List ℤ) (l : Leaf) → value_run t point ≡ Ok l → l ≡ value t point
 value_run-exact initial point l h = cc
 value_run-exact (source s) point l h =
-    let c = chain (values_run s.forms point) (λ vs. Ok (leaf.source s.statement s.loops vs)) l h in
-    let e = values_run-exact s.forms point c.x c.first_is in
-    cc (c.next_is)
+    let c = chain-ok (values_run s.forms point) (λ vs. Ok (leaf.source s.statement s.loops vs)) l h in
+    let e = values_run-exact s.forms point c.0 c.1 in
+    cc (c.2)
 value_run-exact (branch test first second) point l h =
-    let c = chain (form_run test point) (λ v. by_sign v (value_run first point) (value_run second point)) l h in
-    let e = form_run-exact test point c.x c.first_is in
-    rw (← e) (by_sign-exact c.x (value_run first point) (value_run second point) (value first point) (value second point) l
-    (value_run-exact first point l) (value_run-exact second point l) c.next_is)
+    let c = chain-ok (form_run test point) (λ v. by_sign v (value_run first point) (value_run second point)) l h in
+    let e = form_run-exact test point c.0 c.1 in
+    rw (← e) (by_sign-exact c.0 (value_run first point) (value_run second point) (value first point) (value second point) l
+    (value_run-exact first point l) (value_run-exact second point l) c.2)
 value_run-exact (bind form divisor body) point l h =
-    let c = chain (bound_run form divisor point) (λ longer. value_run body longer) l h in
-    rw (← bound_run-exact form divisor point c.x c.first_is) (value_run-exact body c.x l c.next_is)
+    let c = chain-ok (bound_run form divisor point) (λ longer. value_run body longer) l h in
+    rw (← bound_run-exact form divisor point c.0 c.1) (value_run-exact body c.0 l c.2)
 
 -- a call that gives what the run gives answers the tree's leaf
 pub value-from_run : (result : Result Answer FormStop) (t : Tree) (point : List ℤ) → Gives leaf_of result (value_run t point)

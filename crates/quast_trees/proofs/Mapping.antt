@@ -11,7 +11,7 @@ use Rattle.affine_forms.specs.Runs.{compose_run, plus_multiple_run, plus_combina
 use Rattle.affine_forms.specs.Gives.{Fails}
 use Rattle.affine_forms.specs.declared.stop.FormStop.{FormStop}
 use Rattle.affine_forms.specs.declared.stop.FormStop.TheVariants as stop
-use Rattle.affine_forms.proofs.Exact.{chain}
+use Rattle.wide_math.proofs.Steps.{chain-ok}
 use Rattle.whole_numbers.proofs.Dot.{length-zeros}
 use Rattle.affine_forms.proofs.Values.{compose_run-value, plus_multiple_run-variables}
 use Rattle.quast_trees.specs.Source.{Source}
@@ -32,9 +32,9 @@ plus_combination_run-variables : (sum : Affine) (ks : List ℤ) (gs : List Affin
 plus_combination_run-variables sum [] gs h same run = let e : h ≡ sum = cc in ap variables_of e
 plus_combination_run-variables sum (k ∷ ks) [] h same run = let e : h ≡ sum = cc in ap variables_of e
 plus_combination_run-variables sum (k ∷ ks) (g ∷ gs) h same run =
-    let c = chain (plus_multiple_run sum k g) (λ (next : Affine). plus_combination_run next ks gs) h run in
-    let kept = plus_multiple_run-variables sum k g c.x (same 0 g (omega arith)) c.first_is in
-    plus_combination_run-variables c.x ks gs h (λ j d inside. same (suc j) d (omega arith) ∙ sym kept) c.next_is ∙ kept
+    let c = chain-ok (plus_multiple_run sum k g) (λ (next : Affine). plus_combination_run next ks gs) h run in
+    let kept = plus_multiple_run-variables sum k g c.0 (same 0 g (omega arith)) c.1 in
+    plus_combination_run-variables c.0 ks gs h (λ j d inside. same (suc j) d (omega arith) ∙ sym kept) c.2 ∙ kept
 
 -- a form composed with forms over n variables is a form over n variables
 pub compose_run-variables : (f : Affine) (inner : List Affine) (n : ℕ) (h : Affine) → All (λ g. variables_of g ≡ n) inner
@@ -54,61 +54,61 @@ composed_run-value forms inner n gs point same fits h =
 pub map_run-speaks : (forms : List Affine) (n : ℕ) (t u : Tree) → Speaks n t → map_run forms t ≡ Ok u → Speaks n u
 map_run-speaks forms n initial u s h = let e : u ≡ initial = cc in rw e tt
 map_run-speaks forms n (source k) u s h =
-    let c = chain (source_run forms k) (λ m. Ok (source m)) u h in
-    let d = chain (composed_run forms k.forms k.variables) (λ gs. Ok (record k { forms = gs })) c.x c.first_is in
+    let c = chain-ok (source_run forms k) (λ m. Ok (source m)) u h in
+    let d = chain-ok (composed_run forms k.forms k.variables) (λ gs. Ok (record k { forms = gs })) c.0 c.1 in
     let all = each_run-all (λ f. compose_run f k.forms k.variables) (λ f. Unit {0}) (λ g. variables_of g ≡ n)
-    (λ f g _ run. compose_run-variables f k.forms k.variables g (rw s.0 s.1) run ∙ s.0) forms d.x (λ j f inside. tt) d.first_is in
-    let e : u ≡ source (record k { forms = d.x }) = cc (c.next_is, d.next_is) in
+    (λ f g _ run. compose_run-variables f k.forms k.variables g (rw s.0 s.1) run ∙ s.0) forms d.0 (λ j f inside. tt) d.1 in
+    let e : u ≡ source (record k { forms = d.0 }) = cc (c.2, d.2) in
     rw e (s.0, all)
 map_run-speaks forms n (branch test a b) u s h =
-    let c = chain (map_run forms a) (λ x. map_run forms b >>= λ y. Ok (branch test x y)) u h in
-    let d = chain (map_run forms b) (λ y. Ok (branch test c.x y)) u c.next_is in
-    let e : u ≡ branch test c.x d.x = cc (d.next_is) in
-    rw e (s.0, map_run-speaks forms n a c.x s.1 c.first_is, map_run-speaks forms n b d.x s.2 d.first_is)
+    let c = chain-ok (map_run forms a) (λ x. map_run forms b >>= λ y. Ok (branch test x y)) u h in
+    let d = chain-ok (map_run forms b) (λ y. Ok (branch test c.0 y)) u c.2 in
+    let e : u ≡ branch test c.0 d.0 = cc (d.2) in
+    rw e (s.0, map_run-speaks forms n a c.0 s.1 c.1, map_run-speaks forms n b d.0 s.2 d.1)
 map_run-speaks forms n (bind f divisor t) u s h =
-    let c = chain (map_run forms t) (λ x. Ok (bind f divisor x)) u h in
-    let e : u ≡ bind f divisor c.x = cc (c.next_is) in
-    rw e (s.0, s.1, map_run-speaks forms (n + 1) t c.x s.2 c.first_is)
+    let c = chain-ok (map_run forms t) (λ x. Ok (bind f divisor x)) u h in
+    let e : u ≡ bind f divisor c.0 = cc (c.2) in
+    rw e (s.0, s.1, map_run-speaks forms (n + 1) t c.0 s.2 c.1)
 
 -- a mapped tree has at each point the image of the tree's leaf
 pub map_run-value : (forms : List Affine) (t u : Tree) (point : List ℤ) → Speaks (length point) t → map_run forms t ≡ Ok u
     → value u point ≡ mapped_leaf forms (value t point)
 map_run-value forms initial u point s h = let e : u ≡ initial = cc in rw e refl
 map_run-value forms (source k) u point s h =
-    let c = chain (source_run forms k) (λ m. Ok (source m)) u h in
-    let d = chain (composed_run forms k.forms k.variables) (λ gs. Ok (record k { forms = gs })) c.x c.first_is in
-    let v = composed_run-value forms k.forms k.variables d.x point (rw s.0 s.1) (sym s.0) d.first_is in
-    let e : u ≡ source (record k { forms = d.x }) = cc (c.next_is, d.next_is) in
+    let c = chain-ok (source_run forms k) (λ m. Ok (source m)) u h in
+    let d = chain-ok (composed_run forms k.forms k.variables) (λ gs. Ok (record k { forms = gs })) c.0 c.1 in
+    let v = composed_run-value forms k.forms k.variables d.0 point (rw s.0 s.1) (sym s.0) d.1 in
+    let e : u ≡ source (record k { forms = d.0 }) = cc (c.2, d.2) in
     rw (e, v) refl
 map_run-value forms (branch test a b) u point s h =
-    let c = chain (map_run forms a) (λ x. map_run forms b >>= λ y. Ok (branch test x y)) u h in
-    let d = chain (map_run forms b) (λ y. Ok (branch test c.x y)) u c.next_is in
-    let e : u ≡ branch test c.x d.x = cc (d.next_is) in
-    rw e (by_sign-mapped forms (value_of test point) (value a point) (value b point) (value c.x point) (value d.x point)
-    (map_run-value forms a c.x point s.1 c.first_is) (map_run-value forms b d.x point s.2 d.first_is))
+    let c = chain-ok (map_run forms a) (λ x. map_run forms b >>= λ y. Ok (branch test x y)) u h in
+    let d = chain-ok (map_run forms b) (λ y. Ok (branch test c.0 y)) u c.2 in
+    let e : u ≡ branch test c.0 d.0 = cc (d.2) in
+    rw e (by_sign-mapped forms (value_of test point) (value a point) (value b point) (value c.0 point) (value d.0 point)
+    (map_run-value forms a c.0 point s.1 c.1) (map_run-value forms b d.0 point s.2 d.1))
 map_run-value forms (bind f divisor t) u point s h =
-    let c = chain (map_run forms t) (λ x. Ok (bind f divisor x)) u h in
-    let e : u ≡ bind f divisor c.x = cc (c.next_is) in
+    let c = chain-ok (map_run forms t) (λ x. Ok (bind f divisor x)) u h in
+    let e : u ≡ bind f divisor c.0 = cc (c.2) in
     let longer = point ++ floor (value_of f point) divisor ∷ [] in
     let speaks : Speaks (length longer) t = rw (length-append point (floor (value_of f point) divisor ∷ [])) s.2 in
-    rw e (map_run-value forms t c.x longer speaks c.first_is)
+    rw e (map_run-value forms t c.0 longer speaks c.1)
 
 -- a mapped tree has as many nodes
 pub map_run-count : (forms : List Affine) (t u : Tree) → map_run forms t ≡ Ok u → count u ≡ count t
 map_run-count forms initial u h = let e : u ≡ initial = cc in rw e refl
 map_run-count forms (source k) u h =
-    let c = chain (source_run forms k) (λ m. Ok (source m)) u h in
-    let e : u ≡ source c.x = cc (c.next_is) in
+    let c = chain-ok (source_run forms k) (λ m. Ok (source m)) u h in
+    let e : u ≡ source c.0 = cc (c.2) in
     rw e refl
 map_run-count forms (branch test a b) u h =
-    let c = chain (map_run forms a) (λ x. map_run forms b >>= λ y. Ok (branch test x y)) u h in
-    let d = chain (map_run forms b) (λ y. Ok (branch test c.x y)) u c.next_is in
-    let e : u ≡ branch test c.x d.x = cc (d.next_is) in
-    rw (e, map_run-count forms a c.x c.first_is, map_run-count forms b d.x d.first_is) refl
+    let c = chain-ok (map_run forms a) (λ x. map_run forms b >>= λ y. Ok (branch test x y)) u h in
+    let d = chain-ok (map_run forms b) (λ y. Ok (branch test c.0 y)) u c.2 in
+    let e : u ≡ branch test c.0 d.0 = cc (d.2) in
+    rw (e, map_run-count forms a c.0 c.1, map_run-count forms b d.0 d.1) refl
 map_run-count forms (bind f divisor t) u h =
-    let c = chain (map_run forms t) (λ x. Ok (bind f divisor x)) u h in
-    let e : u ≡ bind f divisor c.x = cc (c.next_is) in
-    rw (e, map_run-count forms t c.x c.first_is) refl
+    let c = chain-ok (map_run forms t) (λ x. Ok (bind f divisor x)) u h in
+    let e : u ≡ bind f divisor c.0 = cc (c.2) in
+    rw (e, map_run-count forms t c.0 c.1) refl
 
 -- two sides' nodes and the branch's own are the branch's nodes
 branch_nodes_run : (test : Affine) (n : ℕ) (a b : Result Tree Wide) → ((u : Tree) → b ≡ Ok u → count u ≡ n)
@@ -167,9 +167,9 @@ pub maps_to : (forms : List Affine) (t : Tree) (nodes mapped : List Node) (i : �
     → EachSoFar (node_run forms) nodes i mapped → MapsTo forms t mapped
 maps_to forms t nodes mapped i spelled ended so_far =
     let whole = each_done (node_run forms) nodes i mapped ended so_far in
-    let c = chain (map_run forms t) (λ u. Ok (written u)) mapped (sym (nodes_run-written forms t) ∙ ap (each_run (node_run forms)) (sym spelled) ∙ whole) in
-    let e : mapped ≡ written c.x = cc (c.next_is) in
-    record { tree = c.x; run = c.first_is; spelled = e }
+    let c = chain-ok (map_run forms t) (λ u. Ok (written u)) mapped (sym (nodes_run-written forms t) ∙ ap (each_run (node_run forms)) (sym spelled) ∙ whole) in
+    let e : mapped ≡ written c.0 = cc (c.2) in
+    record { tree = c.0; run = c.1; spelled = e }
 
 -- a run whose nodes fail fails
 fails_back : (run : Result Tree Wide) (w : Wide) → (run >>= λ u. Ok (written u)) ≡ Err w → run ≡ Err w

@@ -1,8 +1,8 @@
 //! Laws of quasts, as contracts of functions that do nothing: what the postfix order, a branch, a bind,
 //! a run and a map mean.
 ghost use Rattle.std.specs.Prelude.{◌≡◌, ℕ, ℤ, pos, ◌≤ℤ◌, ◌<ℤ◌, List, [], ◌∷◌, ◌++◌, length, Ok};
-ghost use Rattle.whole_numbers.specs.Affine.{Affine, value_of};
-ghost use Rattle.whole_numbers.specs.Division.{IsFloor};
+ghost use Rattle.whole_numbers.specs.Affine.{Affine, value_of, multiple_of_form};
+ghost use Rattle.whole_numbers.specs.Division.{IsFloor, IsEuclid};
 ghost use Rattle.quast_trees.specs.Tree.{Tree, branch, bind, count, Speaks};
 ghost use Rattle.quast_trees.specs.Postfix.{read, written};
 ghost use Rattle.quast_trees.specs.Leaf.{Leaf};
@@ -26,6 +26,17 @@ pub fn branches_test_the_sign()
 pub fn binds_round_down()
     ensures { (f : Affine) (divisor q : ℤ) (body : Tree) (point : List ℤ) → pos 0 <ℤ divisor → IsFloor (value_of f point) divisor q
         → value (bind f divisor body) point ≡ value body (point ++ q ∷ []) }
+{}
+
+/// A bind answers as its body where the quotient of Euclid's division stands behind the variables.
+pub fn binds_divide()
+    ensures { (f : Affine) (divisor q r : ℤ) (body : Tree) (point : List ℤ) → pos 0 <ℤ divisor → IsEuclid (value_of f point) divisor q r
+        → value (bind f divisor body) point ≡ value body (point ++ q ∷ []) }
+{}
+
+/// A positive factor of a test changes no answer, so tests may stand in lowest terms.
+pub fn tests_may_be_scaled()
+    ensures { (f : Affine) (k : ℤ) (a b : Tree) (point : List ℤ) → pos 0 <ℤ k → value (branch (multiple_of_form k f) a b) point ≡ value (branch f a b) point }
 {}
 
 /// A run that no number stops gives the tree's leaf.

@@ -5,8 +5,8 @@
 #![tactic(auto)]
 
 pub use laws::{
-    binds_round_down, branches_test_the_sign, maps_keep_the_points, nodes_are_read_as_their_tree,
-    runs_are_exact,
+    binds_divide, binds_round_down, branches_test_the_sign, maps_keep_the_points,
+    nodes_are_read_as_their_tree, runs_are_exact, tests_may_be_scaled,
 };
 pub use leaf::Leaf;
 pub use node::{Node, Source};

@@ -1,0 +1,22 @@
+use Rattle.std.proofs.Common.{◌≡◌, ℤ, pos, ◌*ℤ◌, ◌≤ℤ◌, ◌<ℤ◌, ◌∙◌, sym, subst, inl, inr, arith}
+use Rattle.std.proofs.lemmas.Int.{ints}
+use Rattle.whole_numbers.specs.Affine.{value_of, multiple_of_form}
+use Rattle.whole_numbers.proofs.Order.{le_or_lt, mul_not_negative, mul_lt_left}
+use Rattle.whole_numbers.proofs.Values.{value_of-multiple}
+use Rattle.quast_trees.specs.Value.{value}
+use Rattle.quast_trees.proofs.BySign.{by_sign_first, by_sign_second}
+use Rattle.quast_trees.proofs.laws.tests_may_be_scaled.Goals as goal
+
+pub returns : goal.returns
+returns c = λ f k a b point positive.
+    let v = value_of f point in
+    let w = value_of (multiple_of_form k f) point in
+    let scaled = value_of-multiple k f point in
+    elim (le_or_lt (pos 0) v) [
+      | inl up ↦
+          let above = mul_not_negative k v (omega (arith, ints)) up in
+          by_sign_first w (value a point) (value b point) (omega (arith, ints)) ∙ sym (by_sign_first v (value a point) (value b point) up)
+      | inr down ↦
+          let below = mul_lt_left v (pos 0) k down positive in
+          by_sign_second w (value a point) (value b point) (omega (arith, ints)) ∙ sym (by_sign_second v (value a point) (value b point) down)
+    ]
