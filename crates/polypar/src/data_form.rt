@@ -47,6 +47,11 @@ pub(crate) fn read_data(
     Ok(cells.values)
 }
 
+/// A text says at most one list of values.
+pub fn said_once()
+    ensures { (text parameter source a b : List ℕ) → SaysData text parameter source a → SaysData text parameter source b → a ≡ b }
+{}
+
 /// Whether an array may have this many values.
 fn is_size(count: u64) -> bool
     ensures { IsTrue result ↔ ((1 ≤ count) × (count ≤ 65536)) }

@@ -21,6 +21,7 @@ mod status_line;
 mod tests;
 mod tokens;
 
+pub use data_form::said_once;
 pub use kernel_form::spelled_once;
 pub use plain::{plain_command, polypar};
 pub use run::LONGEST_INPUT;
