@@ -4,11 +4,13 @@ use Rattle.std.specs.Prelude.{Ok}
 use Rattle.std.proofs.lemmas.Int.{ints}
 use Rattle.std.proofs.Math.ListN.{length-set}
 use Rattle.whole_numbers.specs.Lists.{dot, sums, multiples}
-use Rattle.whole_numbers.specs.Affine.{Affine, value_of, sum_of_forms, multiple_of_form, substituted}
+use Rattle.whole_numbers.specs.Affine.{Affine, value_of, sum_of_forms, multiple_of_form, substituted, form_of}
 use Rattle.wide_math.specs.Checked.{sum_of, product_of, ◌>>=◌}
 use Rattle.wide_math.proofs.Steps.{sum_of-ok, product_of-ok, chain-ok}
-use Rattle.affine_forms.specs.Parts.{form_of, variables_of, coefficient_of, without_variable}
-use Rattle.affine_forms.specs.Runs.{multiply_add_run, map_run, zip_run, added_run, multiplied_run, added_multiple_run, dot_run, dot_run_from, value_run, plus_run, scaled_run, plus_multiple_run, substitute_run}
+use Rattle.affine_forms.specs.Parts.{variables_of, coefficient_of, without_variable}
+use Rattle.affine_forms.specs.Runs.{multiply_add_run, map_run, zip_run, added_run, multiplied_run}
+use Rattle.affine_forms.specs.Runs.{added_multiple_run, dot_run, dot_run_from, value_run, plus_run, scaled_run}
+use Rattle.affine_forms.specs.Runs.{plus_multiple_run, substitute_run}
 
 -- a product and then a sum
 pub multiply_add_run-exact : (sum a b z : ℤ) → multiply_add_run sum a b ≡ Ok z → z ≡ sum +ℤ (a *ℤ b)

@@ -1,6 +1,8 @@
 -- The runs over lists, step by step: what a loop that goes up through the places needs.
-use Rattle.std.proofs.Common.{◌≡◌, ℕ, suc, ◌+◌, ◌<◌, ◌≤◌, ℤ, pos, List, [], ◌∷◌, ◌++◌, length, get_or, take, drop, refl, sym, ap, append_assoc, add-one, arith, drop-cons}
+use Rattle.std.proofs.Common.{◌≡◌, ℕ, suc, ◌+◌, ◌<◌, ◌≤◌, ℤ, pos, List, [], ◌∷◌, ◌++◌, length, get_or, take}
+use Rattle.std.proofs.Common.{drop, refl, sym, ap, append_assoc, add-one, arith, drop-cons}
 use Rattle.std.specs.Prelude.{Result, Ok, Err, set}
+use Rattle.std.specs.List.{refill}
 use Rattle.std.proofs.Math.ListN.{drop_of_length-le}
 use Rattle.std.proofs.lemmas.List.{take_more_set, drop-set-lt, take_all, append-nil}
 use Rattle.wide_math.specs.declared.Wide.{Wide}
@@ -60,3 +62,9 @@ pub plus_combination_run-step : (sum : Affine) (ks : List ℤ) (gs : List Affine
     ≡ plus_combination_run sum (drop i ks) (drop i gs)
 plus_combination_run-step sum ks gs i g next hk hg is given =
     rw (add-one i, drop-cons ks i (pos 0) hk, drop-cons gs i g hg, ← is, given) refl
+
+-- a list written over a whole one of its length
+pub refill_same : {X : Type 0} (xs ws : List X) → length ws ≡ length xs → refill (length xs) xs ws ≡ ws
+refill_same xs ws h =
+    let none : drop (length ws) xs ≡ [] = drop_of_length-le xs (omega arith) in
+    rw (none, append-nil ws) (take_all (length xs) ws (omega arith))

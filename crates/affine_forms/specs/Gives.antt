@@ -1,19 +1,18 @@
-use Rattle.std.specs.Prelude.{◌≡◌, Result, Ok, Err, ⊤}
+use Rattle.std.specs.Prelude.{Option, Some, None, Result}
 use Rattle.wide_math.specs.declared.Wide.{Wide}
+use Rattle.wide_math.specs.Gives.{Fails as FailsAs, Gives as GivesAs}
 use Rattle.affine_forms.specs.declared.stop.FormStop.{FormStop}
 use Rattle.affine_forms.specs.declared.stop.FormStop.TheVariants as stop
 
+-- the error of a run that a call's error is; want of memory is none
+abbrev pub told : FormStop → Option Wide
+told (stop.Wide w) = Some w
+told stop.NoMemory = None
+
 -- a call stops with the run's error; want of memory may stop it anywhere
 abbrev pub Fails : {Y : Type 0} → FormStop → Result Y Wide → Type 0
-Fails (stop.Wide w) run = run ≡ Err w
-Fails stop.NoMemory run = ⊤
+Fails e run = FailsAs told e run
 
 -- a call gives what the run gives, seen through `view`
 abbrev pub Gives : {X Y : Type 0} → (X → Y) → Result X FormStop → Result Y Wide → Type 0
-Gives view (Ok x) run = run ≡ Ok (view x)
-Gives view (Err e) run = Fails e run
-
--- a value changed in place becomes what the run gives, or the call fails as the run does
-abbrev pub Becomes : {X U : Type 0} → X → Result U Wide → Result X Wide → Type 0
-Becomes new (Ok _) run = run ≡ Ok new
-Becomes new (Err w) run = run ≡ Err w
+Gives view result run = GivesAs told view result run

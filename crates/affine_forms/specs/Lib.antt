@@ -2,3 +2,4 @@ pub mod Parts
 pub mod Runs
 pub mod Gives
 pub mod Values
+pub mod Stops

@@ -1,9 +1,5 @@
-use Rattle.std.specs.Prelude.{ℕ, ℤ, pos, List, length, get_or, slice_set}
-use Rattle.whole_numbers.specs.Affine.{Affine}
-
--- the form with these coefficients and this constant
-abbrev pub form_of : List ℤ → ℤ → Affine
-form_of coefficients constant = record { coefficients = coefficients; constant = constant }
+use Rattle.std.specs.Prelude.{ℕ, ℤ, pos, length, get_or, slice_set}
+use Rattle.whole_numbers.specs.Affine.{Affine, form_of}
 
 -- how many variables a form speaks of
 abbrev pub variables_of : Affine → ℕ

@@ -1,9 +1,9 @@
 use Rattle.std.specs.Prelude.{ℕ, ℤ, pos, List, [], ◌∷◌, Result, Ok}
-use Rattle.whole_numbers.specs.Affine.{Affine}
+use Rattle.whole_numbers.specs.Affine.{Affine, form_of}
 use Rattle.whole_numbers.specs.Lists.{zeros}
 use Rattle.wide_math.specs.declared.Wide.{Wide}
-use Rattle.wide_math.specs.Checked.{sum_of, product_of, ◌>>=◌}
-use Rattle.affine_forms.specs.Parts.{form_of, coefficient_of, without_variable}
+use Rattle.wide_math.specs.Checked.{sum_of, product_of, cross_of, cross_sum_of, ◌>>=◌}
+use Rattle.affine_forms.specs.Parts.{coefficient_of, without_variable}
 
 -- Each run gives the exact result, or names the first number on its way that 128 bits do not hold.
 
@@ -33,6 +33,14 @@ multiplied_run k xs = map_run (product_of k) xs
 -- xs + k ys
 unfoldable pub added_multiple_run : List ℤ → ℤ → List ℤ → Result (List ℤ) Wide
 added_multiple_run xs k ys = zip_run (λ x y. multiply_add_run x k y) xs ys
+
+-- a xs + b ys
+unfoldable pub multiples_sum_run : ℤ → List ℤ → ℤ → List ℤ → Result (List ℤ) Wide
+multiples_sum_run a xs b ys = zip_run (λ x y. cross_sum_of a x b y) xs ys
+
+-- a xs - b ys
+unfoldable pub multiples_difference_run : ℤ → List ℤ → ℤ → List ℤ → Result (List ℤ) Wide
+multiples_difference_run a xs b ys = zip_run (λ x y. cross_of a x b y) xs ys
 
 -- sum plus the dot product, term by term
 abbrev pub dot_run_from : ℤ → List ℤ → List ℤ → Result ℤ Wide
@@ -65,6 +73,18 @@ unfoldable pub plus_multiple_run : Affine → ℤ → Affine → Result Affine W
 plus_multiple_run f k g =
     added_multiple_run f.coefficients k g.coefficients >>= λ zs.
     multiply_add_run f.constant k g.constant >>= λ z. Ok (form_of zs z)
+
+-- a f + b g: the coefficients in order, then the constant
+unfoldable pub forms_sum_run : ℤ → Affine → ℤ → Affine → Result Affine Wide
+forms_sum_run a f b g =
+    multiples_sum_run a f.coefficients b g.coefficients >>= λ zs.
+    cross_sum_of a f.constant b g.constant >>= λ z. Ok (form_of zs z)
+
+-- a f - b g: the coefficients in order, then the constant
+unfoldable pub forms_difference_run : ℤ → Affine → ℤ → Affine → Result Affine Wide
+forms_difference_run a f b g =
+    multiples_difference_run a f.coefficients b g.coefficients >>= λ zs.
+    cross_of a f.constant b g.constant >>= λ z. Ok (form_of zs z)
 
 -- f with g in place of a variable: f without the variable, plus its coefficient times g
 unfoldable pub substitute_run : Affine → ℕ → Affine → Result Affine Wide

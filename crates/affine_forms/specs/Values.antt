@@ -1,5 +1,5 @@
-use Rattle.std.specs.Prelude.{◌≡◌, ◌+ℤ◌, ◌*ℤ◌, ℕ, ℤ, List, length, map, slice_set}
-use Rattle.whole_numbers.specs.Affine.{Affine, value_of}
+use Rattle.std.specs.Prelude.{◌≡◌, ◌+ℤ◌, ◌*ℤ◌, ℕ, ℤ, List, length, slice_set}
+use Rattle.whole_numbers.specs.Affine.{Affine, value_of, values_of}
 use Rattle.affine_forms.specs.Parts.{variables_of}
 
 -- at every point h has the value of f plus the value of g
@@ -23,4 +23,4 @@ IsSubstitution f variable g h =
 abbrev pub IsComposition : Affine → List Affine → ℕ → Affine → Type 0
 IsComposition f inner n h =
     (point : List ℤ) → length point ≡ n
-    → value_of h point ≡ value_of f (map (λ g. value_of g point) inner)
+    → value_of h point ≡ value_of f (values_of inner point)

@@ -2,12 +2,16 @@
 //! Each call answers the exact form or value, or the first number on its way that does not fit
 //! 128 bits.
 
-ghost use Rattle.std.specs.Prelude.{◌≡◌, ◌≢◌, ◌<◌, ◌≤◌, All, Ok, Err, IfOk, IsOk, length};
-ghost use Rattle.whole_numbers.specs.Affine.{value_of, sum_of_forms, multiple_of_form, substituted};
+ghost use Rattle.std.specs.Prelude.{◌≡◌, ◌≢◌, neg_ℤ, ◌<◌, ◌≤◌, All, Ok, Err, IfOk, IsOk, length};
+ghost use Rattle.whole_numbers.specs.Affine.{value_of, sum_of_forms, multiple_of_form, substituted, composed, form_of};
 ghost use Rattle.whole_numbers.specs.Lists.{zeros};
-ghost use Rattle.affine_forms.specs.Parts.{form_of, variables_of, coefficient_of, without_variable};
-ghost use Rattle.affine_forms.specs.Runs.{value_run, plus_run, scaled_run, plus_multiple_run, plus_combination_run, substitute_run, compose_run};
-ghost use Rattle.affine_forms.specs.Gives.{Gives, Becomes};
+ghost use Rattle.affine_forms.specs.Parts.{variables_of, coefficient_of, without_variable};
+ghost use Rattle.affine_forms.specs.Runs.{value_run, plus_run, scaled_run, plus_multiple_run};
+ghost use Rattle.affine_forms.specs.Runs.{plus_combination_run, substitute_run, compose_run, forms_sum_run};
+ghost use Rattle.affine_forms.specs.Runs.{forms_difference_run};
+ghost use Rattle.whole_numbers.specs.Content.{lowest_of_form};
+ghost use Rattle.affine_forms.specs.Gives.{Gives};
+ghost use Rattle.wide_math.specs.Gives.{Becomes};
 ghost use Rattle.affine_forms.specs.Values.{IsSum, IsMultiple, IsSubstitution, IsComposition};
 ghost use Rattle.affine_forms.specs.declared.form.TheConstants.{INLINE};
 ghost use Rattle.affine_forms.specs.declared.stop.FormStop.TheVariants.{NoMemory};
@@ -17,7 +21,7 @@ use crate::stop::FormStop;
 use smallvec::SmallVec;
 use std::alloc::Global;
 use std::marker::Model;
-use wide_math::{Wide, add, mul};
+use wide_math::{Wide, add, cross, cross_sum, mul};
 
 /// How many coefficients lie in the value itself; more lie in an allocation.
 pub const INLINE: usize = 8;
@@ -30,8 +34,7 @@ pub struct Form {
 }
 
 impl Model for Form {
-    ghost use Rattle.whole_numbers.specs.Affine.{Affine};
-    ghost use Rattle.affine_forms.specs.Parts.{form_of};
+    ghost use Rattle.whole_numbers.specs.Affine.{Affine, form_of};
 
     ghost Value = { Affine };
 
@@ -181,6 +184,59 @@ impl Form {
         }
     }
 
+    /// `a` times this form plus `b` times another over the same variables.
+    ///
+    /// # Errors
+    /// `Wide` names the first number that 128 bits do not hold: for each coefficient in order, then
+    /// for the constant, the two products come first, then their sum.
+    pub fn sum_of_multiples(&self, a: i128, b: i128, other: &Form) -> Result<Form, FormStop>
+        requires { variables_of other.now ≡ variables_of self.now }
+        ensures run { Gives (λ f. f) result (forms_sum_run a self.now b other.now) }
+        ensures entries { IfOk result
+            (λ f. f ≡ sum_of_forms (multiple_of_form a self.now) (multiple_of_form b other.now)) }
+        ensures memory { variables_of self.now ≤ INLINE → result ≢ Err NoMemory }
+    {
+        match self.copy() {
+            Err(stop) => Err(stop),
+            Ok(mut sum) => match sum.add_multiples(a, b, other) {
+                Err(wide) => Err(FormStop::Wide(wide)),
+                Ok(()) => Ok(sum),
+            },
+        }
+    }
+
+    /// `a` times this form less `b` times another over the same variables.
+    ///
+    /// # Errors
+    /// `Wide` names the first number that 128 bits do not hold: for each coefficient in order, then
+    /// for the constant, the two products come first, then their difference.
+    pub fn difference_of_multiples(&self, a: i128, b: i128, other: &Form) -> Result<Form, FormStop>
+        requires { variables_of other.now ≡ variables_of self.now }
+        ensures run { Gives (λ f. f) result (forms_difference_run a self.now b other.now) }
+        ensures entries { IfOk result
+            (λ f. f ≡ sum_of_forms (multiple_of_form a self.now) (multiple_of_form (neg_ℤ b) other.now)) }
+        ensures memory { variables_of self.now ≤ INLINE → result ≢ Err NoMemory }
+    {
+        match self.copy() {
+            Err(stop) => Err(stop),
+            Ok(mut difference) => match difference.subtract_multiples(a, b, other) {
+                Err(wide) => Err(FormStop::Wide(wide)),
+                Ok(()) => Ok(difference),
+            },
+        }
+    }
+
+    /// Puts the form into lowest terms: divides each number by the greatest common divisor of all.
+    pub fn lower(&mut self)
+        ensures { self.new ≡ lowest_of_form self.old }
+    {
+        let content = row::content(self.constant.unsigned_abs(), self.coefficients.as_slice());
+        if content > 1 {
+            row::divide_row(self.coefficients.as_mut_slice(), content);
+            self.constant = row::quotient(self.constant, content);
+        }
+    }
+
     /// The form over `variables` variables that puts `inner`'s forms, in order, in place of this
     /// form's variables.
     ///
@@ -193,6 +249,8 @@ impl Form {
         requires inner { length inner.now ≡ variables_of self.now }
         requires variables { All (λ g. variables_of g ≡ variables) inner.now }
         ensures run { Gives (λ f. f) result (compose_run self.now inner.now variables) }
+        ensures entries { IfOk result (λ f. f ≡ composed self.now inner.now variables) }
+        ensures size { IfOk result (λ f. variables_of f ≡ variables) }
         ensures value { IfOk result (IsComposition self.now inner.now variables) }
         ensures memory { variables ≤ INLINE → result ≢ Err NoMemory }
     {
@@ -264,6 +322,52 @@ impl Form {
             Ok(()) => {}
         }
         match mul(factor, self.constant) {
+            Err(wide) => Err(wide),
+            Ok(constant) => {
+                self.constant = constant;
+                Ok(())
+            }
+        }
+    }
+
+    #[tactic(auto, unfolding(crate::specs::Runs::forms_sum_run))]
+    fn add_multiples(&mut self, a: i128, b: i128, other: &Form) -> Result<(), Wide>
+        requires { variables_of other.now ≡ variables_of self.old }
+        ensures { Becomes self.new result (forms_sum_run a self.old b other.now) }
+    {
+        match row::sum_multiples(
+            self.coefficients.as_mut_slice(),
+            a,
+            b,
+            other.coefficients.as_slice(),
+        ) {
+            Err(wide) => return Err(wide),
+            Ok(()) => {}
+        }
+        match cross_sum(a, self.constant, b, other.constant) {
+            Err(wide) => Err(wide),
+            Ok(constant) => {
+                self.constant = constant;
+                Ok(())
+            }
+        }
+    }
+
+    #[tactic(auto, unfolding(crate::specs::Runs::forms_difference_run))]
+    fn subtract_multiples(&mut self, a: i128, b: i128, other: &Form) -> Result<(), Wide>
+        requires { variables_of other.now ≡ variables_of self.old }
+        ensures { Becomes self.new result (forms_difference_run a self.old b other.now) }
+    {
+        match row::subtract_multiples(
+            self.coefficients.as_mut_slice(),
+            a,
+            b,
+            other.coefficients.as_slice(),
+        ) {
+            Err(wide) => return Err(wide),
+            Ok(()) => {}
+        }
+        match cross(a, self.constant, b, other.constant) {
             Err(wide) => Err(wide),
             Ok(constant) => {
                 self.constant = constant;

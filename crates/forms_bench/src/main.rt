@@ -1,25 +1,70 @@
 //! Repeats the planner's innermost steps and prints a checksum: the program that `bench/forms.sh` times.
 //!
-//! `forms_bench multiply_add ROUNDS` adds ROUNDS checked products up; `forms_bench value_at ROUNDS`
-//! evaluates a form of eight coefficients ROUNDS times. Without such words both are done 1,000 times.
+//! `forms_bench KIND ROUNDS` repeats one kind: `multiply_add`, checked products and sums of numbers from
+//! memory within 40 bits; `multiply_add_wide`, the same of numbers above 2^64; `value_at`, a form of eight
+//! coefficients; `row_operation`, a pivot's combination of 60 rows of 40 numbers. Without words each kind is
+//! done a few times.
 #![tactic(auto)]
 
+ghost use Rattle.std.specs.Prelude.{◌≡◌, length};
+
 use affine_forms::Form;
+use std::process::ExitCode;
 use std::rt::Env;
 use std::{env, io};
-use wide_math::{add, mul};
+use wide_math::{add, cross, mul};
 
 /// The coefficients of the form that is evaluated.
 const COEFFICIENTS: [i128; 8] = [3, -5, 7, -11, 13, -17, 19, -23];
 
-/// What is left of a sum before it is multiplied again.
-const LOW: i128 = 0xffff_ffff;
+/// How many operands lie in memory.
+const OPERANDS: usize = 1024;
+
+const ROWS: usize = 60;
+
+const COLUMNS: usize = 40;
+
+/// What is repeated.
+#[derive(Clone, Copy)]
+enum Kind {
+    MultiplyAdd,
+    MultiplyAddWide,
+    ValueAt,
+    RowOperation,
+}
+
+/// The kind that a word names.
+fn kind_of(word: &str) -> Option<Kind> {
+    if word == "multiply_add" {
+        Some(Kind::MultiplyAdd)
+    } else if word == "multiply_add_wide" {
+        Some(Kind::MultiplyAddWide)
+    } else if word == "value_at" {
+        Some(Kind::ValueAt)
+    } else if word == "row_operation" {
+        Some(Kind::RowOperation)
+    } else {
+        None
+    }
+}
+
+/// Numbers of 40 bits with a sign, each times `scale`, by a linear congruence from `seed` on.
+fn operands(seed: u64, scale: u32) -> [i128; OPERANDS] {
+    let mut numbers = [0i128; OPERANDS];
+    let mut state = seed;
+    for at in 0..OPERANDS {
+        state = state
+            .wrapping_mul(6364136223846793005)
+            .wrapping_add(1442695040888963407);
+        numbers[at] = (i128::from(state >> 24) - 549755813888) * i128::from(scale);
+    }
+    numbers
+}
 
 /// One checked product and sum; 0 or 1 where it leaves 128 bits.
-fn step(sum: i128, round: u64) -> i128 {
-    let a = i128::from(round & 0xffff);
-    match mul(a, sum & LOW) {
-        Ok(product) => match add(product, a) {
+fn step(sum: i128, left: i128, right: i128) -> i128 {
+    match mul(left, right) {
+        Ok(product) => match add(product, sum) {
             Ok(next) => next,
             Err(_) => 1,
         },
@@ -28,20 +73,21 @@ fn step(sum: i128, round: u64) -> i128 {
 }
 
 /// The last of `rounds` checked products and sums.
-fn multiply_add(rounds: u64) -> i128 {
+fn multiply_add(left: &[i128; OPERANDS], right: &[i128; OPERANDS], rounds: u64) -> i128 {
     let mut sum = 0i128;
     for round in 0..rounds {
-        sum = step(sum, round);
+        let at = (round & 1023) as usize;
+        sum = step(sum, left[at], right[at]);
     }
     sum
 }
 
 /// The exclusive or of `rounds` values of the form, at points that change with the round.
-fn value_at(form: &Form, rounds: u64) -> i128 {
+fn value_at(form: &Form, numbers: &[i128; OPERANDS], rounds: u64) -> i128 {
     let mut point = [1i128, 2, 3, 4, 5, 6, 7, 8];
     let mut mixed = 0i128;
     for round in 0..rounds {
-        point[(round & 7) as usize] = i128::from(round & 0xffff);
+        point[(round & 7) as usize] = numbers[(round & 1023) as usize];
         mixed ^= value_or_zero(form, &point);
     }
     mixed
@@ -58,23 +104,108 @@ fn value_or_zero(form: &Form, point: &[i128; 8]) -> i128 {
     }
 }
 
-/// Prints the checksum of what the words name.
-fn run<R: Print + AllocGlobal>(rt: &R, kind: &str, rounds: u64) -> io::Result<()> {
-    if kind == "multiply_add" {
-        return println!(rt; "{}", multiply_add(rounds));
+/// `row * factor - own * pivot` at each place; false where a number leaves 128 bits.
+#[inline(never)]
+fn combine(row: &mut [i128], factor: i128, own: i128, pivot: &[i128]) -> bool
+    requires { length row.old ≡ length pivot.now }
+{
+    for at in 0..row.len() {
+        match cross(row[at], factor, own, pivot[at]) {
+            Err(_) => return false,
+            Ok(next) => row[at] = next,
+        }
     }
-    match Form::of(rt.alloc(), &COEFFICIENTS, 29) {
-        Ok(form) => println!(rt; "{}", value_at(&form, rounds)),
-        Err(_) => println!(rt; "no memory"),
+    true
+}
+
+/// How many rows are combined with the pivot row.
+fn pass(cells: &mut [i128], pivot: &[i128]) -> u64
+    requires { length pivot.now ≡ 40 }
+{
+    let mut good = 0u64;
+    for row in cells.chunks_exact_mut(COLUMNS) {
+        let own = row[7];
+        if combine(row, pivot[7], own, pivot) {
+            good = good.wrapping_add(1);
+        }
+    }
+    good
+}
+
+/// The exclusive or of cells after `rounds` passes over the same rows.
+fn row_operation(rounds: u64) -> i128 {
+    let mut base = [0i128; ROWS * COLUMNS];
+    for at in 0..ROWS * COLUMNS {
+        base[at] = ((at * 7919 + 13) % 101) as i128 - 50;
+    }
+    let mut pivot = [0i128; COLUMNS];
+    for at in 0..COLUMNS {
+        pivot[at] = ((at * 31 + 5) % 23) as i128 - 9;
+    }
+    let mut mixed = 0i128;
+    let mut cells = base;
+    for round in 0..rounds {
+        cells.copy_from_slice(&base);
+        pivot[7] = i128::from(round & 31) + 1;
+        let good = pass(&mut cells, &pivot);
+        mixed ^= cells[(round & 2047) as usize] ^ i128::from(good);
+    }
+    mixed
+}
+
+/// Prints the checksum of a kind.
+fn run<R: Print + AllocGlobal>(rt: &R, kind: Kind, rounds: u64) -> io::Result<()> {
+    match kind {
+        Kind::MultiplyAdd => {
+            println!(rt;
+                "{}",
+                multiply_add(&operands(1, 1), &operands(2, 1), rounds)
+            )
+        }
+        Kind::MultiplyAddWide => {
+            println!(rt;
+                "{}",
+                multiply_add(&operands(1, 4294967295), &operands(2, 1), rounds)
+            )
+        }
+        Kind::ValueAt => match Form::of(rt.alloc(), &COEFFICIENTS, 29) {
+            Ok(form) => println!(rt; "{}", value_at(&form, &operands(3, 1), rounds)),
+            Err(_) => println!(rt; "no memory"),
+        },
+        Kind::RowOperation => println!(rt; "{}", row_operation(rounds)),
     }
 }
 
-fn main(rt: HostRuntime) -> io::Result<()> {
-    let words: Vec<String> = env::args(&rt)?.collect(rt.alloc())?;
-    if words.len() == 3 {
-        let rounds = words[2].as_str().parse::<u64>().unwrap_or(0);
-        return run(&rt, words[1].as_str(), rounds);
+/// Each kind a few times.
+fn run_each<R: Print + AllocGlobal>(rt: &R) -> io::Result<()> {
+    run(rt, Kind::MultiplyAdd, 1000)?;
+    run(rt, Kind::MultiplyAddWide, 1000)?;
+    run(rt, Kind::ValueAt, 1000)?;
+    run(rt, Kind::RowOperation, 10)
+}
+
+/// What the words of the command line ask for; false where they ask for nothing known.
+fn run_words<R: Print + AllocGlobal + Env>(rt: &R) -> io::Result<bool> {
+    let words: Vec<String> = env::args(rt)?.collect(rt.alloc())?;
+    if words.len() < 2 {
+        run_each(rt)?;
+        return Ok(true);
     }
-    run(&rt, "multiply_add", 1000)?;
-    run(&rt, "value_at", 1000)
+    if words.len() != 3 {
+        return Ok(false);
+    }
+    match (kind_of(words[1].as_str()), words[2].as_str().parse::<u64>()) {
+        (Some(kind), Ok(rounds)) => {
+            run(rt, kind, rounds)?;
+            Ok(true)
+        }
+        _ => Ok(false),
+    }
+}
+
+fn main(rt: HostRuntime) -> ExitCode {
+    match run_words(&rt) {
+        Ok(true) => ExitCode::from(0),
+        _ => ExitCode::from(1),
+    }
 }

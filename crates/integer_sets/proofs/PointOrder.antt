@@ -1,20 +1,8 @@
 -- The lexicographic order of the points of a set.
-use Rattle.std.proofs.Common.{◌≡◌, ℕ, ℤ, List, length, take, drop, refl, ◌⊎◌, inl, inr, ◌↔◌}
+use Rattle.std.proofs.Common.{◌≡◌, ℕ, ℤ, List, length, take, drop, refl, ◌⊎◌, ◌↔◌}
 use Rattle.std.proofs.lemmas.List.{take-append-drop, length-take}
 use Rattle.whole_numbers.specs.Lexicographic.{LexLess}
-use Rattle.whole_numbers.proofs.Lexicographic.{lex_total, LexLess-append_iff}
-use Rattle.integer_sets.specs.Constraints.{Constraints}
-use Rattle.integer_sets.specs.Points.{IsLeastPoint}
-
--- at most one least point
-pub least_point-unique : (s : Constraints) (parameters p q : List ℤ) → IsLeastPoint s parameters p
-    → IsLeastPoint s parameters q → p ≡ q
-least_point-unique s parameters p q hp hq = decided (lex_total p q)
-  where
-    decided : LexLess p q ⊎ ((p ≡ q) ⊎ LexLess q p) → p ≡ q
-    decided (inl l) = absurd (hq.least p hp.size hp.inside l)
-    decided (inr (inl e)) = e
-    decided (inr (inr l)) = absurd (hp.least q hq.size hq.inside l)
+use Rattle.whole_numbers.proofs.Lexicographic.{LexLess-append_iff}
 
 -- the fronts decide, and then the rests
 pub LexLess-split : (n : ℕ) (p q : List ℤ) → length p ≡ length q

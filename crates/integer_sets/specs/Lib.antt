@@ -1,3 +1,4 @@
 pub mod Constraints
 pub mod Points
 pub mod Runs
+pub mod Stops

@@ -8,6 +8,8 @@ mod system;
 #[cfg(test)]
 mod tests;
 
-pub use laws::{least_point_is_unique, prefix_decides_the_order};
+pub use laws::{
+    least_point_is_unique, prefix_decides_the_order, tests_stop_at_the_first_wide_value,
+};
 pub use scan_set::ScanSet;
 pub use system::System;

@@ -61,6 +61,24 @@ impl System {
         })
     }
 
+    /// The system of these equalities and rows, which it takes over.
+    pub fn from_parts(
+        dimensions: usize,
+        parameters: usize,
+        equalities: Vec<Form>,
+        rows: Vec<Form>,
+    ) -> System
+        requires sized { IsSized (dimensions + parameters) equalities.items rows.items }
+        ensures { result ≡ system_of dimensions parameters equalities.items rows.items }
+    {
+        System {
+            dimensions,
+            parameters,
+            equalities,
+            rows,
+        }
+    }
+
     /// How many dimensions a point has.
     pub fn dimensions(&self) -> usize
         ensures { result ≡ self.now.dimensions }

@@ -17,12 +17,14 @@ by_sign_second (pos n) a b h = absurd (omega (arith, ints))
 by_sign_second (negsuc n) a b h = refl
 
 -- both sides are exact, so the chosen one is
-pub by_sign-exact : (v : ℤ) (first second : Result Leaf Wide) (a b l : Leaf) → (first ≡ Ok l → l ≡ a) → (second ≡ Ok l → l ≡ b)
+pub by_sign-exact : (v : ℤ) (first second : Result Leaf Wide) (a b l : Leaf) → (first ≡ Ok l → l ≡ a)
+    → (second ≡ Ok l → l ≡ b)
     → by_sign v first second ≡ Ok l → l ≡ by_sign v a b
 by_sign-exact (pos n) first second a b l p q h = p h
 by_sign-exact (negsuc n) first second a b l p q h = q h
 
 -- the chosen side's image is the chosen image
-pub by_sign-mapped : (forms : List Affine) (v : ℤ) (a b c d : Leaf) → c ≡ mapped_leaf forms a → d ≡ mapped_leaf forms b → by_sign v c d ≡ mapped_leaf forms (by_sign v a b)
+pub by_sign-mapped : (forms : List Affine) (v : ℤ) (a b c d : Leaf) → c ≡ mapped_leaf forms a
+    → d ≡ mapped_leaf forms b → by_sign v c d ≡ mapped_leaf forms (by_sign v a b)
 by_sign-mapped forms (pos n) a b c d p q = p
 by_sign-mapped forms (negsuc n) a b c d p q = q

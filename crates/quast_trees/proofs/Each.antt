@@ -1,5 +1,6 @@
 -- Runs over the elements of a list, in order.
-use Rattle.std.proofs.Common.{◌≡◌, ℕ, ◌+◌, ◌<◌, ◌≤◌, List, [], ◌∷◌, ◌++◌, length, get_or, drop, Result, Ok, Err, refl, sym, ap, ◌∙◌, append-nil, add-one, drop-cons, map, All}
+use Rattle.std.proofs.Common.{◌≡◌, ℕ, ◌+◌, ◌<◌, ◌≤◌, List, [], ◌∷◌, ◌++◌, length, get_or, drop, Result, Ok, Err}
+use Rattle.std.proofs.Common.{refl, sym, ap, ◌∙◌, append-nil, add-one, drop-cons, map, All}
 use Rattle.std.proofs.lemmas.List.{drop_all}
 use Rattle.std.proofs.lemmas.List.Elements.{All-nil, All-cons, All-head, All-tail}
 use Rattle.wide_math.specs.declared.Wide.{Wide}
@@ -26,10 +27,12 @@ each_drop : {A B : Type 0} (run : A → Result B Wide) (xs : List A) (i : ℕ) (
 each_drop run xs i d h = rw (add-one, drop-cons xs i d) refl
 
 -- an element whose run fails
-pub each_stops : {A B : Type 0} (run : A → Result B Wide) (xs : List A) (i : ℕ) (done : List B) (d : A) (w : Wide) → i < length xs
+pub each_stops : {A B : Type 0} (run : A → Result B Wide) (xs : List A) (i : ℕ) (done : List B) (d : A)
+    (w : Wide) → i < length xs
     → EachSoFar run xs i done → run (get_or xs i d) ≡ Err w → each_run run xs ≡ Err w
 each_stops run xs i done d w h s e =
-    sym s.so_far ∙ ap (after done) (each_drop run xs i d h) ∙ ap (λ r. after done (r >>= λ z. each_run run (drop (i + 1) xs) >>= λ zs. Ok (z ∷ zs))) e
+    sym s.so_far ∙ ap (after done) (each_drop run xs i d h)
+    ∙ ap (λ r. after done (r >>= λ z. each_run run (drop (i + 1) xs) >>= λ zs. Ok (z ∷ zs))) e
 
 -- behind the last element
 pub each_done : {A B : Type 0} (run : A → Result B Wide) (xs : List A) (i : ℕ) (done : List B) → length xs ≤ i
@@ -38,8 +41,10 @@ each_done run xs i done h s =
     sym s.so_far ∙ ap (λ rest. after done (each_run run rest)) (drop_all i xs h) ∙ ap Ok (append-nil done)
 
 -- a result in front of joined results
-cons_then : {B : Type 0} (first : Result B Wide) (rest both more : Result (List B) Wide) → both ≡ (rest >>= λ us. after us more)
-    → (first >>= λ y. both >>= λ ys. Ok (y ∷ ys)) ≡ ((first >>= λ y. rest >>= λ ys. Ok (y ∷ ys)) >>= λ us. after us more)
+cons_then : {B : Type 0} (first : Result B Wide) (rest both more : Result (List B) Wide)
+    → both ≡ (rest >>= λ us. after us more)
+    → (first >>= λ y. both >>= λ ys. Ok (y ∷ ys)) ≡
+    ((first >>= λ y. rest >>= λ ys. Ok (y ∷ ys)) >>= λ us. after us more)
 cons_then (Err w) rest both more e = refl
 cons_then (Ok y) (Err w) both more e = rw e refl
 cons_then (Ok y) (Ok us) both (Err w) e = rw e refl
@@ -49,10 +54,12 @@ cons_then (Ok y) (Ok us) both (Ok vs) e = rw e refl
 pub each-append : {A B : Type 0} (run : A → Result B Wide) (xs ys : List A)
     → each_run run (xs ++ ys) ≡ (each_run run xs >>= λ us. after us (each_run run ys))
 each-append run [] ys = sym (after-nil (each_run run ys))
-each-append run (x ∷ xs) ys = cons_then (run x) (each_run run xs) (each_run run (xs ++ ys)) (each_run run ys) (each-append run xs ys)
+each-append run (x ∷ xs) ys = cons_then (run x) (each_run run xs) (each_run run (xs ++ ys)) (each_run run ys)
+    (each-append run xs ys)
 
 -- what is equal of each element and of its result is equal of the two lists
-pub each_run-map : {A B C : Type 0} (run : A → Result B Wide) (p : A → C) (q : B → C) → ((x : A) (y : B) → run x ≡ Ok y → q y ≡ p x)
+pub each_run-map : {A B C : Type 0} (run : A → Result B Wide) (p : A → C) (q : B → C)
+    → ((x : A) (y : B) → run x ≡ Ok y → q y ≡ p x)
     → (xs : List A) (ys : List B) → each_run run xs ≡ Ok ys → map q ys ≡ map p xs
 each_run-map run p q same [] ys h = let e : ys ≡ [] = cc in rw e refl
 each_run-map run p q same (x ∷ xs) ys h =
@@ -64,7 +71,8 @@ each_run-map run p q same (x ∷ xs) ys h =
     rw (e, head, tail) refl
 
 -- what holds of each result holds of all
-pub each_run-all : {A B : Type 0} (run : A → Result B Wide) (P : A → Type 0) (Q : B → Type 0) → ((x : A) (y : B) → P x → run x ≡ Ok y → Q y)
+pub each_run-all : {A B : Type 0} (run : A → Result B Wide) (P : A → Type 0) (Q : B → Type 0)
+    → ((x : A) (y : B) → P x → run x ≡ Ok y → Q y)
     → (xs : List A) (ys : List B) → All P xs → each_run run xs ≡ Ok ys → All Q ys
 each_run-all run P Q keeps [] ys all h = let e : ys ≡ [] = cc in rw e (All-nil Q)
 each_run-all run P Q keeps (x ∷ xs) ys all h =

@@ -6,3 +6,6 @@ pub mod Making
 pub mod Places
 pub mod Standing
 pub mod Mapping
+pub mod Named
+pub mod Stacking
+pub mod Placing

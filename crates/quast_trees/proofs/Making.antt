@@ -19,7 +19,8 @@ quast_of_tree n t nodes e speaks = record {
 }
 
 -- a branch's nodes: the first side's, the second's and its own
-pub branch_nodes : (f : Affine) (first second : Tree) (xs ys nodes : List Node) (n : ℕ) → xs ≡ written first → ys ≡ written second
+pub branch_nodes : (f : Affine) (first second : Tree) (xs ys nodes : List Node) (n : ℕ) → xs ≡ written first
+    → ys ≡ written second
     → n ≡ length ys → nodes ≡ xs ++ ys → nodes ++ node.Branch f n ∷ [] ≡ written (branch f first second)
 branch_nodes f first second xs ys nodes n p q counted e =
     let k : n ≡ count second = counted ∙ ap length q ∙ length-written second in

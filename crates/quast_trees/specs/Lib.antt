@@ -5,3 +5,5 @@ pub mod Leaf
 pub mod Each
 pub mod Value
 pub mod Mapped
+pub mod Place
+pub mod Shows

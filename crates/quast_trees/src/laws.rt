@@ -17,26 +17,31 @@ pub fn nodes_are_read_as_their_tree()
 
 /// A branch answers as its first side where its form is at least 0, and as its second below.
 pub fn branches_test_the_sign()
-    ensures first { (f : Affine) (a b : Tree) (point : List ℤ) → pos 0 ≤ℤ value_of f point → value (branch f a b) point ≡ value a point }
-    ensures second { (f : Affine) (a b : Tree) (point : List ℤ) → value_of f point <ℤ pos 0 → value (branch f a b) point ≡ value b point }
+    ensures first { (f : Affine) (a b : Tree) (point : List ℤ) → pos 0 ≤ℤ value_of f point
+        → value (branch f a b) point ≡ value a point }
+    ensures second { (f : Affine) (a b : Tree) (point : List ℤ) → value_of f point <ℤ pos 0
+        → value (branch f a b) point ≡ value b point }
 {}
 
 /// A bind answers as its body where the greatest whole number not above the quotient stands behind the
 /// variables.
 pub fn binds_round_down()
-    ensures { (f : Affine) (divisor q : ℤ) (body : Tree) (point : List ℤ) → pos 0 <ℤ divisor → IsFloor (value_of f point) divisor q
+    ensures { (f : Affine) (divisor q : ℤ) (body : Tree) (point : List ℤ) → pos 0 <ℤ divisor
+        → IsFloor (value_of f point) divisor q
         → value (bind f divisor body) point ≡ value body (point ++ q ∷ []) }
 {}
 
 /// A bind answers as its body where the quotient of Euclid's division stands behind the variables.
 pub fn binds_divide()
-    ensures { (f : Affine) (divisor q r : ℤ) (body : Tree) (point : List ℤ) → pos 0 <ℤ divisor → IsEuclid (value_of f point) divisor q r
+    ensures { (f : Affine) (divisor q r : ℤ) (body : Tree) (point : List ℤ) → pos 0 <ℤ divisor
+        → IsEuclid (value_of f point) divisor q r
         → value (bind f divisor body) point ≡ value body (point ++ q ∷ []) }
 {}
 
 /// A positive factor of a test changes no answer, so tests may stand in lowest terms.
 pub fn tests_may_be_scaled()
-    ensures { (f : Affine) (k : ℤ) (a b : Tree) (point : List ℤ) → pos 0 <ℤ k → value (branch (multiple_of_form k f) a b) point ≡ value (branch f a b) point }
+    ensures { (f : Affine) (k : ℤ) (a b : Tree) (point : List ℤ) → pos 0 <ℤ k
+        → value (branch (multiple_of_form k f) a b) point ≡ value (branch f a b) point }
 {}
 
 /// A run that no number stops gives the tree's leaf.
@@ -47,5 +52,6 @@ pub fn runs_are_exact()
 /// A mapped tree speaks of the same variables, and has at each point the leaf with the forms at its values.
 pub fn maps_keep_the_points()
     ensures speaks { (forms : List Affine) (n : ℕ) (t u : Tree) → Speaks n t → map_run forms t ≡ Ok u → Speaks n u }
-    ensures value { (forms : List Affine) (n : ℕ) (t u : Tree) → Speaks n t → map_run forms t ≡ Ok u → IsMapped forms n t u }
+    ensures value { (forms : List Affine) (n : ℕ) (t u : Tree) → Speaks n t → map_run forms t ≡ Ok u
+        → IsMapped forms n t u }
 {}

@@ -1,13 +1,14 @@
 //! What a quast answers at a point.
 
-/// The initial value, or the instance of a statement: its number, the loops round it, and the values of
-/// its iterators.
+use crate::node::Source;
+
+/// The initial value, or the values of a leaf's forms, with what the leaf is an instance of, where that is
+/// known.
 #[derive(Debug, PartialEq, Eq, Drop)]
 pub enum Leaf {
     Initial,
-    Source {
-        statement: usize,
-        loops: Vec<usize>,
+    Found {
+        source: Option<Source>,
         values: Vec<i128>,
     },
 }

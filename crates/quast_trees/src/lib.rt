@@ -4,18 +4,23 @@
 //! opérationnelle 22(3), 1988.
 #![tactic(auto)]
 
+pub use builder::Builder;
 pub use laws::{
     binds_divide, binds_round_down, branches_test_the_sign, maps_keep_the_points,
     nodes_are_read_as_their_tree, runs_are_exact, tests_may_be_scaled,
 };
 pub use leaf::Leaf;
-pub use node::{Node, Source};
+pub use node::{Forms, Node, Source};
+pub use place::{Part, Place};
 pub use quast::Quast;
 
+mod builder;
 mod laws;
 mod leaf;
 mod map;
+mod naming;
 mod node;
+mod place;
 mod quast;
 #[cfg(test)]
 mod tests;

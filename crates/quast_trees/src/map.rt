@@ -2,9 +2,10 @@
 ghost use Rattle.std.specs.Prelude.{◌≡◌, length, IfOk, All, Ok};
 ghost use Rattle.affine_forms.specs.Gives.{Gives};
 ghost use Rattle.quast_trees.specs.Postfix.{tree_of};
-ghost use Rattle.quast_trees.specs.Mapped.{Suits, SuitsNode, IsMapped, map_run, node_run, source_run, composed_run};
+ghost use Rattle.quast_trees.specs.Mapped.{Suits, SuitsNode, IsMapped, map_run, node_run, leaf_run, composed_run};
 
-use crate::node::{Node, Source};
+use crate::naming::copied_source;
+use crate::node::{Forms, Node};
 use crate::quast::Quast;
 use affine_forms::{Form, FormStop};
 use std::alloc::Global;
@@ -16,12 +17,13 @@ impl Quast {
     /// # Errors
     /// `Wide` exactly where a number of a composed form does not fit 128 bits: the first of them, the
     /// leaves from the first side of the root on, at each leaf the given forms in order.
-    pub fn map(&self, alloc: Global, forms: &[Form]) -> Result<Quast, FormStop>
+    pub fn map(&self, forms: &[Form]) -> Result<Quast, FormStop>
         requires { Suits forms.now (tree_of self.now) }
         ensures parameters { IfOk result (λ q. q.parameters ≡ self.now.parameters) }
         ensures run { Gives tree_of result (map_run forms.now (tree_of self.now)) }
         ensures value { IfOk result (λ q. IsMapped forms.now self.now.parameters (tree_of self.now) (tree_of q)) }
     {
+        let alloc = self.allocator();
         let nodes = self.nodes();
         let mut mapped = match Vec::with_capacity(alloc, nodes.len()) {
             Err(_) => return Err(FormStop::NoMemory),
@@ -47,9 +49,9 @@ fn mapped_node(alloc: Global, node: &Node, forms: &[Form]) -> Result<Node, FormS
 {
     match node {
         Node::Initial => Ok(Node::Initial),
-        Node::Source(source) => match mapped_source(alloc, source, forms) {
+        Node::Forms(leaf) => match mapped_leaf(alloc, leaf, forms) {
             Err(stop) => Err(stop),
-            Ok(source) => Ok(Node::Source(source)),
+            Ok(leaf) => Ok(Node::Forms(leaf)),
         },
         Node::Branch { test, second } => match test.copy() {
             Err(stop) => Err(stop),
@@ -68,22 +70,21 @@ fn mapped_node(alloc: Global, node: &Node, forms: &[Form]) -> Result<Node, FormS
     }
 }
 
-// A source with the forms at its own.
-fn mapped_source(alloc: Global, source: &Source, forms: &[Form]) -> Result<Source, FormStop>
-    requires inner { All (λ f. length f.coefficients ≡ source.now.variables) source.now.forms }
-    requires forms { All (λ f. length f.coefficients ≡ length source.now.forms) forms.now }
-    ensures { Gives (λ s. s) result (source_run forms.now source.now) }
+// A leaf with the forms at its own.
+fn mapped_leaf(alloc: Global, leaf: &Forms, forms: &[Form]) -> Result<Forms, FormStop>
+    requires inner { All (λ f. length f.coefficients ≡ leaf.now.variables) leaf.now.forms }
+    requires forms { All (λ f. length f.coefficients ≡ length leaf.now.forms) forms.now }
+    ensures { Gives (λ l. l) result (leaf_run forms.now leaf.now) }
 {
-    let composed = match composed(alloc, forms, &source.forms, source.variables) {
+    let composed = match composed(alloc, forms, &leaf.forms, leaf.variables) {
         Err(stop) => return Err(stop),
         Ok(composed) => composed,
     };
-    match Vec::from_slice(alloc, &source.loops) {
+    match copied_source(alloc, &leaf.source) {
         Err(_) => Err(FormStop::NoMemory),
-        Ok(loops) => Ok(Source {
-            statement: source.statement,
-            loops,
-            variables: source.variables,
+        Ok(source) => Ok(Forms {
+            source,
+            variables: leaf.variables,
             forms: composed,
         }),
     }

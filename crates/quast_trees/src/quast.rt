@@ -1,11 +1,11 @@
 //! A quast and what makes one. A tree is put together from its sides by moving their nodes, and is
 //! dropped, like every list, without recursion.
 ghost use Rattle.std.specs.Prelude.{◌≡◌, ◌+◌, pos, ◌≤ℤ◌, [], ◌∷◌, ◌++◌, length, IfOk, All};
-ghost use Rattle.quast_trees.specs.Tree.{initial, source, branch, bind, count, Speaks};
-ghost use Rattle.quast_trees.specs.Source.{named};
+ghost use Rattle.quast_trees.specs.Tree.{initial, leaf, branch, bind, count, Speaks};
+ghost use Rattle.quast_trees.specs.Source.{unnamed};
 ghost use Rattle.quast_trees.specs.Postfix.{held, tree_of, written, IsQuast};
 
-use crate::node::{Node, Source};
+use crate::node::{Forms, Node};
 use affine_forms::Form;
 use std::alloc::{AllocError, Global};
 use std::marker::Model;
@@ -36,33 +36,22 @@ impl Quast {
         Quast::ending(parameters, Vec::new(alloc), Node::Initial)
     }
 
-    /// The instance of `statement` at every point, with a form over the parameters for each iterator.
-    pub fn source(
-        alloc: Global,
-        parameters: usize,
-        statement: usize,
-        loops: &[usize],
-        forms: &[Form],
-    ) -> Result<Quast, AllocError>
+    /// Forms over the parameters, at every point.
+    pub fn leaf(alloc: Global, parameters: usize, forms: &[Form]) -> Result<Quast, AllocError>
         requires { All (λ f. length f.coefficients ≡ parameters) forms.now }
         ensures parameters { IfOk result (λ q. q.parameters ≡ parameters) }
-        ensures tree { IfOk result (λ q. tree_of q ≡ source (named statement loops.now parameters forms.now)) }
+        ensures tree { IfOk result (λ q. tree_of q ≡ leaf (unnamed parameters forms.now)) }
     {
-        let loops = match Vec::from_slice(alloc, loops) {
-            Err(error) => return Err(error),
-            Ok(loops) => loops,
-        };
         let forms = match copied(alloc, forms) {
             Err(error) => return Err(error),
             Ok(forms) => forms,
         };
-        let source = Source {
-            statement,
-            loops,
+        let leaf = Forms {
+            source: None,
             variables: parameters,
             forms,
         };
-        Quast::ending(parameters, Vec::new(alloc), Node::Source(source))
+        Quast::ending(parameters, Vec::new(alloc), Node::Forms(leaf))
     }
 
     /// The first quast where `test` is at least 0, else the second, whose nodes move behind the first's: the
@@ -119,6 +108,20 @@ impl Quast {
         ensures speaks { Speaks self.now.parameters (tree_of self.now) }
     {
         &self.nodes
+    }
+
+    // Where the quast takes its memory.
+    pub(crate) fn allocator(&self) -> Global {
+        *self.nodes.allocator()
+    }
+
+    // The parameters and the nodes.
+    pub(crate) fn into_nodes(self) -> (usize, Vec<Node>)
+        ensures parameters { result.0 ≡ self.parameters }
+        ensures nodes { result.1.items ≡ written (tree_of self) }
+        ensures speaks { Speaks self.parameters (tree_of self) }
+    {
+        (self.parameters, self.nodes)
     }
 
     // The quast of these nodes and one more, its root.

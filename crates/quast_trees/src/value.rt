@@ -6,7 +6,8 @@ ghost use Rattle.quast_trees.specs.Leaf.{leaf_of};
 ghost use Rattle.quast_trees.specs.Value.{value, value_run, values_run, leaf_run, bound_run};
 
 use crate::leaf::Leaf;
-use crate::node::{Node, Source};
+use crate::naming::copied_source;
+use crate::node::{Forms, Node};
 use crate::quast::Quast;
 use affine_forms::{Form, FormStop};
 use std::alloc::Global;
@@ -18,11 +19,12 @@ impl Quast {
     /// # Errors
     /// `Wide` exactly where a number on the point's way does not fit 128 bits: the first of them, the
     /// tests and the bound forms from the root down, then the leaf's forms in order.
-    pub fn value_at(&self, alloc: Global, point: &[i128]) -> Result<Leaf, FormStop>
+    pub fn value_at(&self, point: &[i128]) -> Result<Leaf, FormStop>
         requires { length point.now ≡ self.now.parameters }
         ensures run { Gives leaf_of result (value_run (tree_of self.now) point.now) }
         ensures value { IfOk result (λ leaf. leaf_of leaf ≡ value (tree_of self.now) point.now) }
     {
+        let alloc = self.allocator();
         let mut values = match Vec::from_slice(alloc, point) {
             Err(_) => return Err(FormStop::NoMemory),
             Ok(values) => values,
@@ -33,7 +35,7 @@ impl Quast {
         loop {
             match &nodes[at] {
                 Node::Initial => return Ok(Leaf::Initial),
-                Node::Source(source) => return leaf_at(alloc, source, &values),
+                Node::Forms(forms) => return leaf_at(alloc, forms, &values),
                 Node::Branch { test, second } => match test.value_at(&values) {
                     Err(stop) => return Err(stop),
                     Ok(value) => at -= if value >= 0 { *second + 1 } else { 1 },
@@ -47,22 +49,18 @@ impl Quast {
     }
 }
 
-// The leaf's instance, with its iterators' values.
-fn leaf_at(alloc: Global, source: &Source, point: &[i128]) -> Result<Leaf, FormStop>
-    requires { All (λ f. length f.coefficients ≡ length point.now) source.now.forms }
-    ensures { Gives leaf_of result (leaf_run source.now point.now) }
+// The values of the leaf's forms, with its source.
+fn leaf_at(alloc: Global, leaf: &Forms, point: &[i128]) -> Result<Leaf, FormStop>
+    requires { All (λ f. length f.coefficients ≡ length point.now) leaf.now.forms }
+    ensures { Gives leaf_of result (leaf_run leaf.now point.now) }
 {
-    let values = match values_at(alloc, &source.forms, point) {
+    let values = match values_at(alloc, &leaf.forms, point) {
         Err(stop) => return Err(stop),
         Ok(values) => values,
     };
-    match Vec::from_slice(alloc, &source.loops) {
+    match copied_source(alloc, &leaf.source) {
         Err(_) => Err(FormStop::NoMemory),
-        Ok(loops) => Ok(Leaf::Source {
-            statement: source.statement,
-            loops,
-            values,
-        }),
+        Ok(source) => Ok(Leaf::Found { source, values }),
     }
 }
 

@@ -1,10 +1,11 @@
-use Rattle.std.proofs.Common.{zero, suc, ◌%◌, ◌<◌, ◌≤◌, ◌≡◌, ℕ, ◌*◌, ◌/◌, ℤ, pos, negsuc, ◌+ℤ◌, ◌*ℤ◌, neg_ℤ, unsigned_abs, ◌≤ℤ◌, ◌<ℤ◌, ap, sym, ◌∙◌, subst, refl, arith}
+use Rattle.std.proofs.Common.{zero, suc, ◌%◌, ◌<◌, ◌≤◌, ◌≡◌, ℕ, ◌*◌, ◌/◌, ℤ, pos, negsuc, ◌+ℤ◌, ◌*ℤ◌, neg_ℤ}
+use Rattle.std.proofs.Common.{unsigned_abs, ◌≤ℤ◌, ◌<ℤ◌, ap, sym, ◌∙◌, subst, refl, arith}
 use Rattle.std.proofs.Math.Nat.{dvd-mul_right, div-add-mod, mod-lt}
 use Rattle.std.proofs.lemmas.Nat.Gcd.{mod-eq-zero_of_dvd, dvd_antisymm, le_of_dvd, IsGcd-from_zero, IsGcd-from_mod}
 use Rattle.std.proofs.lemmas.Int.{ints, unsigned_abs-mul}
 use Prim.Native.Nat.{◌∣◌}
 use Rattle.std.specs.Int.{IsGcd}
-use Rattle.whole_numbers.proofs.Ring.{mul_neg_right, mul_distrib_left, mul_assoc_int, mul_zero_right, mul_one_right}
+use Rattle.whole_numbers.proofs.Ring.{mul_neg_right, mul_distrib_left, mul_assoc_int}
 use Rattle.whole_numbers.specs.Divisors.{Divides, IsGreatestCommonDivisor}
 
 -- a divisor's size divides the number's size
@@ -57,14 +58,6 @@ gcd_unique a b g h p q =
 pub gcd_swap : (a b g : ℤ) → IsGreatestCommonDivisor a b g → IsGreatestCommonDivisor b a g
 gcd_swap a b g h =
     record { not_negative = h.not_negative; left = h.right; right = h.left; greatest = λ d l r. h.greatest d r l }
-
--- each number divides itself
-pub divides_self : (a : ℤ) → Divides a a
-divides_self a = record { quotient = pos 1; product = sym (mul_one_right a) }
-
--- each number divides 0
-pub divides_zero : (a : ℤ) → Divides a (pos 0)
-divides_zero a = record { quotient = pos 0; product = sym (mul_zero_right a) }
 
 -- a divisor of two numbers divides their sum
 pub divides_add : (d a b : ℤ) → Divides d a → Divides d b → Divides d (a +ℤ b)

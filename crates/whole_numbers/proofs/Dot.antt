@@ -1,7 +1,9 @@
-use Rattle.std.proofs.Common.{◌≡◌, ℕ, zero, suc, ◌<◌, ℤ, pos, ◌+ℤ◌, ◌-ℤ◌, ◌*ℤ◌, List, [], ◌∷◌, ◌++◌, length, set, get_or, refl, ap, ap₂, sym, ◌∙◌, arith}
+use Rattle.std.proofs.Common.{◌≡◌, ℕ, zero, suc, ◌<◌, ◌≤◌, ℤ, pos, ◌+ℤ◌, ◌-ℤ◌, ◌*ℤ◌, List, [], ◌∷◌, ◌++◌}
+use Rattle.std.proofs.Common.{length, set, get_or, refl, ap, sym, ◌∙◌, arith}
 use Rattle.std.proofs.lemmas.Int.{ints}
 use Rattle.whole_numbers.specs.Lists.{dot, sums, multiples, zeros}
-use Rattle.whole_numbers.proofs.Ring.{mul_distrib_left, mul_distrib_right, mul_sub_left, mul_assoc_int, mul_zero_right}
+use Rattle.whole_numbers.proofs.Ring.{mul_distrib_left, mul_distrib_right, mul_sub_left, mul_assoc_int}
+use Rattle.whole_numbers.proofs.Ring.{mul_zero_right}
 
 -- a dot product with no entries is 0
 pub dot-nil : (xs : List ℤ) → dot xs [] ≡ pos 0
@@ -54,15 +56,10 @@ dot-padded (x ∷ xs) n [] = refl
 dot-padded (x ∷ xs) n (y ∷ ys) = let more = dot-padded xs n ys in omega (arith, ints)
 
 -- entries past the coefficients' end do not count
-pub dot-past : (xs ys more : List ℤ) → length xs ≡ length ys → dot xs (ys ++ more) ≡ dot xs ys
+pub dot-past : (xs ys more : List ℤ) → length xs ≤ length ys → dot xs (ys ++ more) ≡ dot xs ys
 dot-past [] ys more h = refl
 dot-past (x ∷ xs) [] more h = absurd (omega arith)
 dot-past (x ∷ xs) (y ∷ ys) more h = let rest = dot-past xs ys more (omega arith) in omega (arith, ints)
-
--- one entry more on both sides adds their product
-pub dot-more : (xs ys : List ℤ) (x y : ℤ)
-    → length xs ≡ length ys → dot (xs ++ x ∷ []) (ys ++ y ∷ []) ≡ dot xs ys +ℤ (x *ℤ y)
-dot-more xs ys x y h = let e = dot-append xs (x ∷ []) ys (y ∷ []) h in omega (arith, ints)
 
 -- a point with the entry i replaced by v changes the dot product by the coefficient times the difference
 pub dot-set : (xs ys : List ℤ) (i : ℕ) (v : ℤ) → i < length ys
@@ -79,15 +76,6 @@ dot-set_left xs ys i c h =
     let e = dot-set ys xs i c h in
     let f = dot_comm (set xs i c) ys in
     let g = dot_comm xs ys in
-    omega (arith, ints)
-
--- a sum of points gives the sum of the dot products
-pub dot-sums_right : (xs ys zs : List ℤ) → dot xs (sums ys zs) ≡ dot xs ys +ℤ dot xs zs
-dot-sums_right xs ys zs =
-    let e = dot-sums ys zs xs in
-    let f = dot_comm xs (sums ys zs) in
-    let g = dot_comm xs ys in
-    let h = dot_comm xs zs in
     omega (arith, ints)
 
 -- a multiple of a point gives the multiple of the dot product
@@ -110,14 +98,6 @@ pub length-sums : (xs ys : List ℤ) → length xs ≡ length ys → length (sum
 length-sums [] ys h = sym h
 length-sums (x ∷ xs) [] h = refl
 length-sums (x ∷ xs) (y ∷ ys) h = let more = length-sums xs ys (omega arith) in omega arith
-
--- zeros in front of a sum change nothing
-pub sums-zeros : (n : ℕ) (xs : List ℤ) → length xs ≡ n → sums (zeros n) xs ≡ xs
-sums-zeros zero xs h = refl
-sums-zeros (suc n) [] h = absurd (omega arith)
-sums-zeros (suc n) (x ∷ xs) h =
-    let e : pos 0 +ℤ x ≡ x = omega (arith, ints) in
-    ap₂ (λ (k : ℤ) (ks : List ℤ). k ∷ ks) e (sums-zeros n xs (omega arith))
 
 -- the entries of a sum
 pub get_or-sums : (xs ys : List ℤ) (i : ℕ)
@@ -152,4 +132,4 @@ dot-unit n i xs h =
 
 pub ruleset linear_laws = (dot_comm, dot-sums, dot-multiples, dot-zeros)
 
-pub ruleset part_laws = (dot-append, dot-padded, dot-set)
+pub ruleset part_laws = (dot-append, dot-padded, dot-past, dot-set)

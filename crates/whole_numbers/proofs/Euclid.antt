@@ -20,7 +20,8 @@ euclid_exists a d h = (floor a d, a -ℤ (d *ℤ floor a d), euclid_from_floor a
 -- and no other
 pub euclid_unique : (a d q r p s : ℤ) → IsEuclid a d q r → IsEuclid a d p s → (q ≡ p) × (r ≡ s)
 euclid_unique a d q r p s e f =
-    let same = floor_unique a d q p (omega (arith, ints)) (floor_from_euclid a d q r e) (floor_from_euclid a d p s f) in
+    let same = floor_unique a d q p (omega (arith, ints)) (floor_from_euclid a d q r e)
+    (floor_from_euclid a d p s f) in
     let products = ap (λ (k : ℤ). d *ℤ k) same in
     (same, omega (arith, ints))
 

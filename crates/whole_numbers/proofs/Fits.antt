@@ -1,4 +1,5 @@
-use Rattle.std.proofs.Common.{ℤ, pos, negsuc, ◌^◌, Bool, true, false, IsTrue, IsFalse, refl, FitsSigned, ◌↔◌, neg_ℤ, ◌≤ℤ◌, ◌<ℤ◌, arith}
+use Rattle.std.proofs.Common.{ℤ, pos, negsuc, ◌^◌, Bool, true, false, IsTrue, IsFalse, refl, FitsSigned, ◌↔◌}
+use Rattle.std.proofs.Common.{neg_ℤ, ◌≤ℤ◌, ◌<ℤ◌, arith}
 use Rattle.std.specs.Int.{w128}
 use Rattle.std.proofs.lemmas.Int.{ints}
 use Rattle.whole_numbers.specs.Fits.{fits}
@@ -30,4 +31,14 @@ fits-false z h = failed (fits z) (λ (t : IsTrue (fits z)). h ((fits_iff z).0 t)
     failed true h = absurd (h refl)
     failed false h = refl
 
-pub ruleset fits_laws = (fits_range, fits_iff)
+-- what lies between two numbers that fit fits
+pub fits_between : (low z high : ℤ) → IsTrue (fits low) → IsTrue (fits high) → low ≤ℤ z → z ≤ℤ high
+    → IsTrue (fits z)
+fits_between low z high f g h k =
+    let a = (fits_range low).0 f in
+    let b = (fits_range high).0 g in
+    let below = a.0 in
+    let above = b.1 in
+    (fits_range z).1 (omega (arith, ints), omega (arith, ints))
+
+pub ruleset fits_laws = (fits_range, fits_iff, fits_between)

@@ -56,12 +56,6 @@ ceiling_from_floor a d q f =
     let s = mul_neg_left q d in
     record { above = omega (arith, ints); below = omega (arith, ints) }
 
--- the floor of the negation is the ceiling, negated
-pub floor_from_ceiling : (a d q : ℤ) → IsCeiling a d q → IsFloor (neg_ℤ a) d (neg_ℤ q)
-floor_from_ceiling a d q c =
-    let s = mul_neg_left q d in
-    record { below = omega (arith, ints); above = omega (arith, ints) }
-
 -- `ceiling` is the ceiling
 pub ceiling_is : (a d : ℤ) → pos 0 <ℤ d → IsCeiling a d (ceiling a d)
 ceiling_is a d h = ceiling_from_floor a d (floor (neg_ℤ a) d) (floor_is (neg_ℤ a) d h)

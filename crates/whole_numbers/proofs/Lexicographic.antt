@@ -1,6 +1,7 @@
-use Rattle.std.proofs.Common.{◌≡◌, ℤ, ◌≤ℤ◌, ◌<ℤ◌, ◌⊎◌, inl, inr, List, [], ◌∷◌, ◌++◌, length, ◌↔◌, refl, subst, ap₂, sym, ◌∙◌, arith}
+use Rattle.std.proofs.Common.{◌≡◌, ℕ, ℤ, ◌≤ℤ◌, ◌<ℤ◌, ◌⊎◌, inl, inr, List, [], ◌∷◌, ◌++◌, length, ◌↔◌, refl}
+use Rattle.std.proofs.Common.{subst, ap₂, sym, ◌∙◌, arith}
 use Rattle.std.proofs.lemmas.Int.{ints, by_lt_z}
-use Rattle.whole_numbers.specs.Lexicographic.{LexLess, LexLe}
+use Rattle.whole_numbers.specs.Lexicographic.{LexLess, LexLe, IsLeast}
 
 -- no list comes before itself
 pub LexLess-irrefl : (xs : List ℤ) → LexLess xs xs → ⊥
@@ -75,16 +76,6 @@ LexLe-antisym xs ys h k = decided (LexLe-cases xs ys h) (LexLe-cases ys xs k)
     decided (inl l) (inr e) = sym e
     decided (inl l) (inl m) = absurd (LexLess-asym xs ys l m)
 
--- at most is transitive
-pub LexLe-trans : (xs ys zs : List ℤ) → LexLe xs ys → LexLe ys zs → LexLe xs zs
-LexLe-trans [] ys zs h k = tt
-LexLe-trans (x ∷ xs) [] zs h k = absurd h
-LexLe-trans (x ∷ xs) (y ∷ ys) [] h k = k
-LexLe-trans (x ∷ xs) (y ∷ ys) (z ∷ zs) (inl l) (inl m) = inl (omega (arith, ints))
-LexLe-trans (x ∷ xs) (y ∷ ys) (z ∷ zs) (inl l) (inr m) = let e = m.0 in inl (omega (arith, ints))
-LexLe-trans (x ∷ xs) (y ∷ ys) (z ∷ zs) (inr l) (inl m) = let e = l.0 in inl (omega (arith, ints))
-LexLe-trans (x ∷ xs) (y ∷ ys) (z ∷ zs) (inr l) (inr m) = inr (l.0 ∙ m.0, LexLe-trans xs ys zs l.1 m.1)
-
 -- before and then at most is before
 pub LexLess-from_le : (xs ys zs : List ℤ) → LexLess xs ys → LexLe ys zs → LexLess xs zs
 LexLess-from_le xs ys zs h k = further (LexLe-cases ys zs k)
@@ -92,15 +83,6 @@ LexLess-from_le xs ys zs h k = further (LexLe-cases ys zs k)
     further : LexLess ys zs ⊎ (ys ≡ zs) → LexLess xs zs
     further (inl l) = LexLess-trans xs ys zs h l
     further (inr e) = subst (LexLess xs) e h
-
--- of two lists one is at most the other, or comes behind it
-pub lex_le_or_less : (xs ys : List ℤ) → LexLe xs ys ⊎ LexLess ys xs
-lex_le_or_less xs ys = decided (lex_total xs ys)
-  where
-    decided : LexLess xs ys ⊎ ((xs ≡ ys) ⊎ LexLess ys xs) → LexLe xs ys ⊎ LexLess ys xs
-    decided (inl l) = inl (LexLe-from_less xs ys l)
-    decided (inr (inl e)) = inl (subst (LexLe xs) e (LexLe-refl xs))
-    decided (inr (inr l)) = inr l
 
 -- fronts of one length that are in order decide, whatever follows
 pub LexLess-front : (xs ys us vs : List ℤ) → length xs ≡ length ys → LexLess xs ys → LexLess (xs ++ us) (ys ++ vs)
@@ -144,6 +126,15 @@ LexLe-iff xs ys = (LexLe-cases xs ys, joined)
     joined : LexLess xs ys ⊎ (xs ≡ ys) → LexLe xs ys
     joined (inl l) = LexLe-from_less xs ys l
     joined (inr e) = subst (LexLe xs) e (LexLe-refl xs)
+
+-- a property has at most one least list
+pub IsLeast-unique : (P : List ℤ → Type 0) (n : ℕ) (x y : List ℤ) → IsLeast P n x → IsLeast P n y → x ≡ y
+IsLeast-unique P n x y hx hy = decided (lex_total x y)
+  where
+    decided : LexLess x y ⊎ ((x ≡ y) ⊎ LexLess y x) → x ≡ y
+    decided (inl l) = absurd (hy.least x hx.size hx.inside l)
+    decided (inr (inl e)) = e
+    decided (inr (inr l)) = absurd (hx.least y hy.size hy.inside l)
 
 pub ruleset order_laws = (LexLess-irrefl, LexLess-trans, lex_total, LexLe-iff, LexLe-antisym)
 

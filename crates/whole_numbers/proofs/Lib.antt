@@ -3,7 +3,12 @@ pub mod Order
 pub mod Floors
 pub mod Euclid
 pub mod Divisors
+pub mod Contents
+pub mod Lowest
+pub mod Remainders
 pub mod Fits
 pub mod Dot
+pub mod Lists
 pub mod Values
 pub mod Lexicographic
+pub mod LexicographicSums

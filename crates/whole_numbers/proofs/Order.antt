@@ -50,20 +50,9 @@ mul_le_turned a b c h k =
     let t = mul_sub_right b a c in
     omega (arith, ints)
 
--- a product of two numbers that are not positive is not negative
-pub mul_not_positives : (a b : ℤ) → a ≤ℤ pos 0 → b ≤ℤ pos 0 → pos 0 ≤ℤ (a *ℤ b)
-mul_not_positives a b h k = let m = mul_le_turned a (pos 0) b h k in omega (arith, ints)
-
 -- a product of numbers of opposite signs is not positive
 pub mul_opposite : (a b : ℤ) → pos 0 ≤ℤ a → b ≤ℤ pos 0 → (a *ℤ b) ≤ℤ pos 0
 mul_opposite a b h k = let m = mul_le_turned (pos 0) a b h k in omega (arith, ints)
-
--- a square is not negative
-pub square_not_negative : (a : ℤ) → pos 0 ≤ℤ (a *ℤ a)
-square_not_negative a =
-    by_lt_z a (pos 0)
-    (λ (h : a <ℤ pos 0). mul_not_positives a a (omega (arith, ints)) (omega (arith, ints)))
-    (λ (h : pos 0 ≤ℤ a). mul_not_negative a a h h)
 
 -- a positive factor on both sides of an inequality cancels
 pub cancel_le : (a b c : ℤ) → pos 0 <ℤ c → (a *ℤ c) ≤ℤ (b *ℤ c) → a ≤ℤ b
@@ -101,7 +90,8 @@ factor_down d w k h =
 
 -- a multiple of d between -d and d is 0
 pub factor_zero : (d w : ℤ) → pos 0 <ℤ d → (pos 0 -ℤ d) <ℤ (d *ℤ w) → (d *ℤ w) <ℤ d → w ≡ pos 0
-factor_zero d w k below above = let l = factor_up d w k below in let m = factor_down d w k above in omega (arith, ints)
+factor_zero d w k below above = let l = factor_up d w k below in let m =
+    factor_down d w k above in omega (arith, ints)
 
 pub ruleset order_laws = (mul_le, mul_lt, mul_le_turned)
 

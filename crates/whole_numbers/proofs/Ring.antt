@@ -83,10 +83,6 @@ add_assoc_int a b c = omega (arith, ints)
 pub add_comm_int : (a b : ℤ) → a +ℤ b ≡ b +ℤ a
 add_comm_int a b = omega (arith, ints)
 
--- a + (b + c) = b + (a + c)
-pub add_left_comm : (a b c : ℤ) → a +ℤ (b +ℤ c) ≡ b +ℤ (a +ℤ c)
-add_left_comm a b c = omega (arith, ints)
-
 -- 0 changes nothing
 pub add_zero_left : (a : ℤ) → pos 0 +ℤ a ≡ a
 add_zero_left a = omega (arith, ints)

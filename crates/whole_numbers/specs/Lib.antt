@@ -5,3 +5,4 @@ pub mod Divisors
 pub mod Lists
 pub mod Affine
 pub mod Lexicographic
+pub mod Content

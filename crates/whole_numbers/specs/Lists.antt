@@ -1,4 +1,4 @@
-use Rattle.std.specs.Prelude.{ℕ, zero, suc, ℤ, pos, ◌+ℤ◌, ◌*ℤ◌, List, [], ◌∷◌}
+use Rattle.std.specs.Prelude.{ℕ, zero, suc, ℤ, pos, ◌+ℤ◌, ◌*ℤ◌, ◌≤ℤ◌, ◌<ℤ◌, List, [], ◌∷◌, ⊤}
 
 -- the dot product; past the end of the shorter list entries count as 0
 abbrev pub dot : List ℤ → List ℤ → ℤ
@@ -21,3 +21,19 @@ multiples k (x ∷ xs) = (k *ℤ x) ∷ multiples k xs
 abbrev pub zeros : ℕ → List ℤ
 zeros zero = []
 zeros (suc n) = pos 0 ∷ zeros n
+
+-- the entrywise product, as long as the shorter list
+abbrev pub products : List ℤ → List ℤ → List ℤ
+products [] ys = []
+products (x ∷ xs) [] = []
+products (x ∷ xs) (y ∷ ys) = (x *ℤ y) ∷ products xs ys
+
+-- no entry is negative
+abbrev pub NotNegative : List ℤ → Type 0
+NotNegative [] = ⊤
+NotNegative (x ∷ xs) = (pos 0 ≤ℤ x) × NotNegative xs
+
+-- each entry is positive
+abbrev pub Positive : List ℤ → Type 0
+Positive [] = ⊤
+Positive (x ∷ xs) = (pos 0 <ℤ x) × Positive xs

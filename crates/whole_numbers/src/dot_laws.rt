@@ -1,6 +1,7 @@
 //! The dot product of lists of whole numbers.
-ghost use Rattle.std.specs.Prelude.{◌≡◌, ℕ, ◌<◌, ℤ, pos, ◌+ℤ◌, ◌-ℤ◌, ◌*ℤ◌, List, ◌++◌, length, slice_index_or, slice_set};
-ghost use Rattle.whole_numbers.specs.Lists.{dot, sums, multiples, zeros};
+ghost use Rattle.std.specs.Prelude.{◌≡◌, ℕ, ◌<◌, ◌≤◌, ℤ, pos, ◌+ℤ◌, ◌-ℤ◌, ◌*ℤ◌, ◌≤ℤ◌, ◌↔◌, List, All, ◌++◌};
+ghost use Rattle.std.specs.Prelude.{length, drop, slice_index_or, slice_set};
+ghost use Rattle.whole_numbers.specs.Lists.{dot, sums, multiples, zeros, NotNegative};
 
 /// The dot product is symmetric, and linear on each side.
 #[tactic(auto, using(crate::proofs::Dot::linear_laws))]
@@ -18,8 +19,23 @@ pub fn dot_product_of_parts()
         → length front ≡ length xs
         → dot (front ++ rest) (xs ++ ys) ≡ dot front xs +ℤ dot rest ys }
     ensures padded { (xs : List ℤ) (n : ℕ) (ys : List ℤ) → dot (xs ++ zeros n) ys ≡ dot xs ys }
+    ensures past { (xs ys more : List ℤ) → length xs ≤ length ys → dot xs (ys ++ more) ≡ dot xs ys }
     ensures replaced { (xs ys : List ℤ) (i : ℕ) (v : ℤ)
         → i < length ys
         → dot xs (slice_set ys i v)
         ≡ dot xs ys +ℤ (slice_index_or xs i (pos 0) *ℤ (v -ℤ slice_index_or ys i (pos 0))) }
+{}
+
+/// The dot product with a list that follows others, or zeros.
+#[tactic(auto, using(crate::proofs::Lists::part_laws))]
+pub fn dot_product_behind_others()
+    ensures split { (xs ys zs : List ℤ) → dot xs (ys ++ zs) ≡ dot xs ys +ℤ dot (drop (length ys) xs) zs }
+    ensures zeros { (n : ℕ) (xs ys : List ℤ) → dot xs (zeros n ++ ys) ≡ dot (drop n xs) ys }
+{}
+
+/// The dot product of lists without a negative entry is not negative.
+#[tactic(auto, using(crate::proofs::Lists::sign_laws))]
+pub fn dot_product_is_not_negative()
+    ensures sign { (xs ys : List ℤ) → NotNegative xs → NotNegative ys → pos 0 ≤ℤ dot xs ys }
+    ensures entries { (xs : List ℤ) → NotNegative xs ↔ All (λ x. pos 0 ≤ℤ x) xs }
 {}

@@ -1,4 +1,5 @@
-use Rattle.std.proofs.Common.{◌≡◌, ℕ, ℤ, pos, unsigned_abs, FitsSigned, to_z, of_z, to_z-of_z, subst₂, Ok, Err, ap, sym, ◌∙◌}
+use Rattle.std.proofs.Common.{◌≡◌, ℕ, ℤ, pos, unsigned_abs, FitsSigned, to_z, of_z, to_z-of_z, subst₂, Ok, Err}
+use Rattle.std.proofs.Common.{ap, sym, ◌∙◌}
 use Rattle.std.specs.Int.{IsGcd, w128}
 use Rattle.whole_numbers.specs.Divisors.{IsGreatestCommonDivisor}
 use Rattle.whole_numbers.proofs.Divisors.{gcd_from_sizes}

@@ -1,3 +1,4 @@
 pub mod Rounding
 pub mod Steps
 pub mod CommonDivisor
+pub mod Narrow

@@ -1,9 +1,13 @@
-use Rattle.std.proofs.Common.{suc, ◌/◌, ◌%◌, ◌<◌, ℤ, pos, negsuc, ◌+ℤ◌, ◌-ℤ◌, ◌≤ℤ◌, ◌<ℤ◌, int_div, div-le_self, arith}
+use Rattle.std.proofs.Common.{suc, ◌/◌, ◌%◌, ◌<◌, ℤ, pos, negsuc, ◌+ℤ◌, ◌-ℤ◌, ◌≤ℤ◌, ◌<ℤ◌, int_div, int_rem}
+use Rattle.std.proofs.Common.{div-le_self, ◌≡◌, arith}
 use Rattle.std.proofs.Math.Nat.{mod-lt}
 use Rattle.std.proofs.lemmas.Nat.{div-add-mod'}
-use Rattle.std.proofs.lemmas.Int.{ints}
-use Rattle.whole_numbers.specs.Division.{IsFloor, IsCeiling}
-use Rattle.whole_numbers.proofs.Ring.{mul_distrib_right, mul_sub_right, mul_neg_left}
+use Rattle.std.proofs.lemmas.Int.{ints, quot-rem, rem_below}
+use Rattle.whole_numbers.specs.Division.{IsFloor, IsCeiling, IsEuclid}
+use Rattle.whole_numbers.specs.Floor.{floor, remainder}
+use Rattle.whole_numbers.proofs.Euclid.{euclid_unique}
+use Rattle.whole_numbers.proofs.Remainders.{remainder_is}
+use Rattle.whole_numbers.proofs.Ring.{mul_distrib_right, mul_sub_right, mul_neg_left, mul_comm_int}
 
 -- of a number that is not negative the quotient that drops the fraction is the floor, between 0 and the number
 pub int_div-floor : (a d : ℤ) → pos 0 ≤ℤ a → pos 0 <ℤ d
@@ -41,3 +45,32 @@ ceiling_from_floor_below a d q f =
 pub floor_from_ceiling_above : (a d q : ℤ) → IsCeiling (a +ℤ pos 1) d q → IsFloor a d (q -ℤ pos 1)
 floor_from_ceiling_above a d q c =
     let s = mul_sub_right q (pos 1) d in record { below = omega (arith, ints); above = omega (arith, ints) }
+
+-- a remainder with the dividend's sign is Euclid's where it is not negative
+pub rem_not_negative : (a d : ℤ) → pos 0 <ℤ d → pos 0 ≤ℤ int_rem a d → int_rem a d ≡ remainder a d
+rem_not_negative a d h k =
+    let q = int_div a d in
+    let parts = quot-rem a d in
+    let c = mul_comm_int d q in
+    let small = rem_below a d (omega (arith, ints)) in
+    let is : IsEuclid a d q (int_rem a d) =
+    record { parts = omega (arith, ints); not_negative = k; below = omega (arith, ints, small) } in
+    (euclid_unique a d q (int_rem a d) (floor a d) (remainder a d) is (remainder_is a d h)).1
+
+-- and one divisor short of it where it is negative
+pub rem_negative : (a d : ℤ) → pos 0 <ℤ d → int_rem a d <ℤ pos 0 → int_rem a d +ℤ d ≡ remainder a d
+rem_negative a d h k =
+    let q = int_div a d in
+    let r = int_rem a d in
+    let parts = quot-rem a d in
+    let c = mul_comm_int d (q -ℤ pos 1) in
+    let s = mul_sub_right q (pos 1) d in
+    let small = rem_below a d (omega (arith, ints)) in
+    let is : IsEuclid a d (q -ℤ pos 1) (r +ℤ d) =
+    record {
+      parts = omega (arith, ints);
+      not_negative = omega (arith, ints, small);
+      below =
+          omega (arith, ints);
+    } in
+    (euclid_unique a d (q -ℤ pos 1) (r +ℤ d) (floor a d) (remainder a d) is (remainder_is a d h)).1

@@ -1,8 +1,10 @@
-use Rattle.std.proofs.Common.{◌≡◌, ℤ, ◌+ℤ◌, ◌-ℤ◌, ◌*ℤ◌, Bool, true, false, IsTrue, IsFalse, Result, Ok, Err, ◌↔◌, ◌⊎◌, inl, inr, refl, sym, ◌∙◌, if◌then◌else◌, ap}
+use Rattle.std.proofs.Common.{◌≡◌, ℤ, ◌+ℤ◌, ◌-ℤ◌, ◌*ℤ◌, Bool, true, false, IsTrue, IsFalse, Result, Ok, Err}
+use Rattle.std.proofs.Common.{◌↔◌, ◌⊎◌, inl, inr, refl, sym, ◌∙◌, if◌then◌else◌, ap, arith}
+use Rattle.std.proofs.lemmas.Int.{ints}
 use Rattle.whole_numbers.specs.Fits.{fits}
 use Rattle.wide_math.specs.declared.Op.{Op}
 use Rattle.wide_math.specs.declared.Wide.{Wide}
-use Rattle.wide_math.specs.Checked.{wide, checked, sum_of, difference_of, product_of, ◌>>=◌}
+use Rattle.wide_math.specs.Checked.{wide, checked, sum_of, difference_of, product_of, cross_of, cross_sum_of, ◌>>=◌}
 use Rattle.wide_math.specs.declared.Op.TheVariants.{Add, Sub, Mul}
 
 -- a number that fits is the result
@@ -66,8 +68,24 @@ pub chain-err : {A B : Type 0} (r : Result A Wide) (f : A → Result B Wide) (e 
 chain-err (Ok x) f e h = inr (x, refl, h)
 chain-err (Err d) f e h = inl (let same : d ≡ e = cc in ap (λ (w : Wide). Err w) same)
 
--- the grouping of the steps is free
-pub chain_assoc : {A B C : Type 0} (r : Result A Wide) (f : A → Result B Wide) (g : B → Result C Wide)
-    → (r >>= f) >>= g ≡ r >>= (λ (x : A). f x >>= g)
-chain_assoc (Ok x) f g = refl
-chain_assoc (Err e) f g = refl
+-- a b - c d, where no number on the way is too wide
+pub cross_of-exact : (a b c d z : ℤ) → cross_of a b c d ≡ Ok z → z ≡ (a *ℤ b) -ℤ (c *ℤ d)
+unfolding cross_of
+cross_of-exact a b c d z h =
+    let p = chain-ok (product_of a b) (λ (left : ℤ). product_of c d >>= λ right. difference_of left right) z h in
+    let q = chain-ok (product_of c d) (λ (right : ℤ). difference_of p.0 right) z p.2 in
+    let e = ((product_of-ok a b p.0).0 p.1).0 in
+    let f = ((product_of-ok c d q.0).0 q.1).0 in
+    let g = ((difference_of-ok p.0 q.0 z).0 q.2).0 in
+    omega (arith, ints)
+
+-- a b + c d, likewise
+pub cross_sum_of-exact : (a b c d z : ℤ) → cross_sum_of a b c d ≡ Ok z → z ≡ (a *ℤ b) +ℤ (c *ℤ d)
+unfolding cross_sum_of
+cross_sum_of-exact a b c d z h =
+    let p = chain-ok (product_of a b) (λ (left : ℤ). product_of c d >>= λ right. sum_of left right) z h in
+    let q = chain-ok (product_of c d) (λ (right : ℤ). sum_of p.0 right) z p.2 in
+    let e = ((product_of-ok a b p.0).0 p.1).0 in
+    let f = ((product_of-ok c d q.0).0 q.1).0 in
+    let g = ((sum_of-ok p.0 q.0 z).0 q.2).0 in
+    omega (arith, ints)

@@ -29,3 +29,11 @@ infixl 10 ◌>>=◌
 abbrev pub ◌>>=◌ : {A B : Type 0} → Result A Wide → (A → Result B Wide) → Result B Wide
 Ok x >>= f = f x
 Err e >>= f = Err e
+
+-- a b - c d: the products, then the difference
+unfoldable pub cross_of : ℤ → ℤ → ℤ → ℤ → Result ℤ Wide
+cross_of a b c d = product_of a b >>= λ left. product_of c d >>= λ right. difference_of left right
+
+-- a b + c d: the products, then the sum
+unfoldable pub cross_sum_of : ℤ → ℤ → ℤ → ℤ → Result ℤ Wide
+cross_sum_of a b c d = product_of a b >>= λ left. product_of c d >>= λ right. sum_of left right

@@ -19,7 +19,24 @@ pub fn gcd(a: i128, b: i128) -> Result<i128, Wide>
     }
 }
 
-fn gcd_of_sizes(mut x: u128, mut y: u128) -> u128
+/// The greatest common divisor of two sizes; 0 for 0 and 0. By 64 bits as soon as both have them, since
+/// a remainder of 128 bits costs ten times as much.
+pub fn gcd_of_sizes(mut x: u128, mut y: u128) -> u128
+    ensures { IsGcd x y result }
+{
+    while y != 0 {
+        if let (Ok(a), Ok(b)) = (u64::try_from(x), u64::try_from(y)) {
+            return u128::from(narrow_gcd(a, b));
+        }
+        let rest = x % y;
+        x = y;
+        y = rest;
+    }
+    x
+}
+
+// The same of sizes of 64 bits.
+fn narrow_gcd(mut x: u64, mut y: u64) -> u64
     ensures { IsGcd x y result }
 {
     while y != 0 {

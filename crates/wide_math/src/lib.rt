@@ -9,10 +9,10 @@ mod sums;
 #[cfg(test)]
 mod tests;
 
-pub use divisors::gcd;
+pub use divisors::{gcd, gcd_of_sizes};
 pub use exactness::checked_operations_are_exact;
-pub use quotients::{ceil_div, floor_div};
-pub use sums::{add, mul, sub};
+pub use quotients::{ceil_div, floor_div, remainder};
+pub use sums::{add, cross, cross_sum, mul, sub};
 use thiserror::Error;
 
 /// An operation of checked arithmetic.

@@ -1,5 +1,7 @@
-use Rattle.integer_sets.proofs.PointOrder.{least_point-unique}
+use Rattle.std.proofs.Common.{◌++◌}
+use Rattle.whole_numbers.proofs.Lexicographic.{IsLeast-unique}
+use Rattle.integer_sets.specs.Points.{Satisfies}
 use Rattle.integer_sets.proofs.laws.least_point_is_unique.Goals as goal
 
 pub returns : goal.returns
-returns c = least_point-unique
+returns c = λ s parameters p q hp hq. IsLeast-unique (λ x. Satisfies s (x ++ parameters)) s.dimensions p q hp hq

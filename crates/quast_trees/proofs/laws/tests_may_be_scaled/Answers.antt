@@ -1,4 +1,4 @@
-use Rattle.std.proofs.Common.{◌≡◌, ℤ, pos, ◌*ℤ◌, ◌≤ℤ◌, ◌<ℤ◌, ◌∙◌, sym, subst, inl, inr, arith}
+use Rattle.std.proofs.Common.{pos, ◌∙◌, sym, inl, inr, arith}
 use Rattle.std.proofs.lemmas.Int.{ints}
 use Rattle.whole_numbers.specs.Affine.{value_of, multiple_of_form}
 use Rattle.whole_numbers.proofs.Order.{le_or_lt, mul_not_negative, mul_lt_left}
@@ -15,8 +15,10 @@ returns c = λ f k a b point positive.
     elim (le_or_lt (pos 0) v) [
       | inl up ↦
           let above = mul_not_negative k v (omega (arith, ints)) up in
-          by_sign_first w (value a point) (value b point) (omega (arith, ints)) ∙ sym (by_sign_first v (value a point) (value b point) up)
+          by_sign_first w (value a point) (value b point) (omega (arith, ints))
+          ∙ sym (by_sign_first v (value a point) (value b point) up)
       | inr down ↦
           let below = mul_lt_left v (pos 0) k down positive in
-          by_sign_second w (value a point) (value b point) (omega (arith, ints)) ∙ sym (by_sign_second v (value a point) (value b point) down)
+          by_sign_second w (value a point) (value b point) (omega (arith, ints))
+          ∙ sym (by_sign_second v (value a point) (value b point) down)
     ]

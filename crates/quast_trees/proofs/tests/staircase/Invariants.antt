@@ -1,5 +1,5 @@
 use Rattle.std.proofs.Common.{◌≡◌, pos, [], ◌∷◌}
-use Rattle.affine_forms.specs.Parts.{form_of}
+use Rattle.whole_numbers.specs.Affine.{form_of}
 use Rattle.quast_trees.specs.Postfix.{tree_of}
 use Rattle.quast_trees.specs.Mapped.{Suits}
 use Rattle.quast_trees.proofs.tests.staircase.Given as goal

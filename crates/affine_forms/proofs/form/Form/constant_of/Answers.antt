@@ -1,6 +1,6 @@
 use Rattle.std.proofs.Common.{ℤ, List, Ok, ap, sym, ◌∙◌, rules}
 use Rattle.std.proofs.lemmas.Int.{to_z-of_z}
-use Rattle.affine_forms.specs.Parts.{form_of}
+use Rattle.whole_numbers.specs.Affine.{form_of}
 use Rattle.affine_forms.proofs.Values.{replicate-zeros}
 use Rattle.affine_forms.proofs.form.Form.constant_of.Goals as goal
 

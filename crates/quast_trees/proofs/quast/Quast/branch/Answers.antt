@@ -14,8 +14,10 @@ ending-requires c =
     let n : c.len-second.result ≡ length ys = search rules in
     let t : length c.args.test.coefficients ≡ c.first.inside.parameters = search rules in
     let s : Speaks c.first.inside.parameters (read ys) = search rules in
-    let k = branch_nodes c.args.test (read xs) (read ys) xs ys c.append.new.self.items c.len-second.result c.first.invariant.spelled c.second.invariant.spelled n e in
-    quast_of_tree c.first.inside.parameters (branch c.args.test (read xs) (read ys)) _ k (t, c.first.invariant.speaks, s)
+    let k = branch_nodes c.args.test (read xs) (read ys) xs ys c.append.new.self.items c.len-second.result
+    c.first.invariant.spelled c.second.invariant.spelled n e in
+    quast_of_tree c.first.inside.parameters (branch c.args.test (read xs) (read ys)) _ k
+    (t, c.first.invariant.speaks, s)
 
 pub returns-clause-tree : goal.returns-clause-tree
 returns-clause-tree c =
@@ -23,6 +25,10 @@ returns-clause-tree c =
     let ys = c.second.inside.nodes.items in
     let e : c.append.new.self.items ≡ xs ++ ys = search rules in
     let n : c.len-second.result ≡ length ys = search rules in
-    let k = branch_nodes c.args.test (read xs) (read ys) xs ys c.append.new.self.items c.len-second.result c.first.invariant.spelled c.second.invariant.spelled n e in
+    let k = branch_nodes c.args.test (read xs) (read ys) xs ys c.append.new.self.items c.len-second.result
+    c.first.invariant.spelled c.second.invariant.spelled n e in
     let t = tree_of_held c.first.inside.parameters (branch c.args.test (read xs) (read ys)) _ k in
-    rw (← c.first.view_is, ← c.second.view_is) (IfOk-weaker _ _ _ (λ (q : Postfix) (h : q ≡ held c.first.inside.parameters (c.append.new.self.items ++ node.Branch c.args.test c.len-second.result ∷ [])). ap tree_of h ∙ t) c.ending.ensures)
+    rw (← c.first.view_is, ← c.second.view_is) (IfOk-weaker _ _ _
+    (λ (q : Postfix) (h : q ≡ held c.first.inside.parameters
+    (c.append.new.self.items ++ node.Branch c.args.test c.len-second.result ∷ [])). ap tree_of h
+    ∙ t) c.ending.ensures)

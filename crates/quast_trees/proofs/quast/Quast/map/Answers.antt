@@ -14,9 +14,11 @@ mapped_node-requires c =
     let forms = c.args.forms.now in
     let nodes = c.nodes-nodes.result.now in
     let item = c.node-item.result in
-    let all = suits_written forms c.args.self.now.parameters (tree_of c.args.self.now) c.nodes-nodes.ensures.speaks c.requires in
+    let all = suits_written forms c.args.self.now.parameters
+    (tree_of c.args.self.now) c.nodes-nodes.ensures.speaks c.requires in
     let each = All-same (SuitsNode forms) nodes _ c.nodes-nodes.ensures.nodes all in
-    subst (SuitsNode forms) (sym c.node-item.is) (All-get_or (SuitsNode forms) nodes c.loop-node.node-index item (omega arith) each)
+    subst (SuitsNode forms) (sym c.node-item.is) (All-get_or (SuitsNode forms) nodes c.loop-node.node-index item
+    (omega arith) each)
 
 pub returns-in-Err-mapped_node-clause-run : goal.returns-in-Err-mapped_node-clause-run
 returns-in-Err-mapped_node-clause-run c =
@@ -24,23 +26,29 @@ returns-in-Err-mapped_node-clause-run c =
     let item = c.node-item.result in
     let e : Fails c.in-Err-mapped_node.stop (node_run forms item) = search rules in
     let f = subst (λ (x : Node). Fails c.in-Err-mapped_node.stop (node_run forms x)) c.node-item.is e in
-    map_stops forms (tree_of c.args.self.now) c.nodes-nodes.result.now c.loop-node.mapped.items c.loop-node.node-index item
-    c.in-Err-mapped_node.stop c.nodes-nodes.ensures.nodes (omega arith) c.loop-node.invariant f
+    map_stops forms (tree_of c.args.self.now) c.nodes-nodes.result.now c.loop-node.mapped.items
+    c.loop-node.node-index item c.in-Err-mapped_node.stop c.nodes-nodes.ensures.nodes (omega arith)
+    c.loop-node.invariant f
 
 pub of_nodes-requires : goal.of_nodes-requires
 of_nodes-requires c =
-    let m = maps_to c.args.forms.now (tree_of c.args.self.now) c.nodes-nodes.result.now c.loop-node.mapped.items c.loop-node.node-index c.nodes-nodes.ensures.nodes (omega arith) c.loop-node.invariant in
-    let s : Speaks c.parameters.result (tree_of c.args.self.now) = rw c.parameters.ensures c.nodes-nodes.ensures.speaks in
-    quast_of_tree c.parameters.result m.tree c.loop-node.mapped.items m.spelled (map_run-speaks c.args.forms.now c.parameters.result (tree_of c.args.self.now) m.tree s m.run)
+    let m = maps_to c.args.forms.now (tree_of c.args.self.now) c.nodes-nodes.result.now c.loop-node.mapped.items
+    c.loop-node.node-index c.nodes-nodes.ensures.nodes (omega arith) c.loop-node.invariant in
+    let s : Speaks c.parameters.result (tree_of c.args.self.now) =
+    rw c.parameters.ensures c.nodes-nodes.ensures.speaks in
+    quast_of_tree c.parameters.result m.tree c.loop-node.mapped.items m.spelled
+    (map_run-speaks c.args.forms.now c.parameters.result (tree_of c.args.self.now) m.tree s m.run)
 
 pub returns-clause-run : goal.returns-clause-run
 returns-clause-run c =
-    let m = maps_to c.args.forms.now (tree_of c.args.self.now) c.nodes-nodes.result.now c.loop-node.mapped.items c.loop-node.node-index c.nodes-nodes.ensures.nodes (omega arith) c.loop-node.invariant in
+    let m = maps_to c.args.forms.now (tree_of c.args.self.now) c.nodes-nodes.result.now c.loop-node.mapped.items
+    c.loop-node.node-index c.nodes-nodes.ensures.nodes (omega arith) c.loop-node.invariant in
     rw (c.of_nodes.ensures, tree_of_held c.parameters.result m.tree c.loop-node.mapped.items m.spelled) m.run
 
 pub returns-clause-value : goal.returns-clause-value
 returns-clause-value c = λ point fits.
-    let m = maps_to c.args.forms.now (tree_of c.args.self.now) c.nodes-nodes.result.now c.loop-node.mapped.items c.loop-node.node-index c.nodes-nodes.ensures.nodes (omega arith) c.loop-node.invariant in
+    let m = maps_to c.args.forms.now (tree_of c.args.self.now) c.nodes-nodes.result.now c.loop-node.mapped.items
+    c.loop-node.node-index c.nodes-nodes.ensures.nodes (omega arith) c.loop-node.invariant in
     let s : Speaks (length point) (tree_of c.args.self.now) = rw fits c.nodes-nodes.ensures.speaks in
     rw (c.of_nodes.ensures, tree_of_held c.parameters.result m.tree c.loop-node.mapped.items m.spelled)
     (map_run-value c.args.forms.now (tree_of c.args.self.now) m.tree point s m.run)

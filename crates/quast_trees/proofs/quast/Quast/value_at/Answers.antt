@@ -9,13 +9,14 @@ use Rattle.quast_trees.specs.Value.{bound_run}
 use Rattle.quast_trees.proofs.Exact.{value_run-exact, value-from_run}
 use Rattle.quast_trees.proofs.Places.{count_positive}
 use Rattle.quast_trees.proofs.Reading.{length-written}
-use Rattle.quast_trees.proofs.Standing.{inside, at_root, at_initial, at_source, at_branch, at_bind}
+use Rattle.quast_trees.proofs.Standing.{inside, at_root, at_initial, at_forms, at_branch, at_bind}
 use Rattle.quast_trees.proofs.quast.Quast.value_at.Goals as goal
 use Rattle.quast_trees.proofs.quast.Quast.value_at.Goals.{then-value-ge0, else-value-ge0}
 
 pub overflow_sub-at : goal.overflow_sub-at
 overflow_sub-at c =
-    let e : length c.nodes-nodes.result.now ≡ _ = ap length c.nodes-nodes.ensures.nodes ∙ length-written (tree_of c.args.self.now) in
+    let e : length c.nodes-nodes.result.now ≡ _ = ap length c.nodes-nodes.ensures.nodes
+    ∙ length-written (tree_of c.args.self.now) in
     omega (arith, count_positive (tree_of c.args.self.now))
 
 pub loop-at-init : goal.loop-at-init
@@ -39,11 +40,12 @@ returns-in-Initial c =
     record { run = run; value = value_run-exact (tree_of c.args.self.now) c.args.point.now _ run }
 
 pub leaf_at-requires : goal.leaf_at-requires
-leaf_at-requires c = rw c.deref.ensures.value (at_source c.loop-at.invariant c.index-nodes-at.is c.in-Source.is).variables
+leaf_at-requires c = rw c.deref.ensures.value
+    (at_forms c.loop-at.invariant c.index-nodes-at.is c.in-Forms.is).variables
 
-pub returns-in-Source : goal.returns-in-Source
-returns-in-Source c =
-    let e = (at_source c.loop-at.invariant c.index-nodes-at.is c.in-Source.is).gives in
+pub returns-in-Forms : goal.returns-in-Forms
+returns-in-Forms c =
+    let e = (at_forms c.loop-at.invariant c.index-nodes-at.is c.in-Forms.is).gives in
     let run = rw (c.deref.ensures.value, e) at c.leaf_at.ensures in
     record { run = run; value = value-from_run c.leaf_at.result (tree_of c.args.self.now) c.args.point.now run }
 
@@ -95,7 +97,8 @@ pub returns-in-Err-push_quotient-clause-run : goal.returns-in-Err-push_quotient-
 returns-in-Err-push_quotient-clause-run c =
     let b = at_bind c.loop-at.invariant c.index-nodes-at.is c.in-Bind.is in
     let fits : FitsSigned w128 c.in-Bind.divisor = search rules in
-    let e : Fails c.in-Err-push_quotient.stop (bound_run c.in-Bind.form c.in-Bind.divisor c.loop-at.values.items) = search rules in
+    let e : Fails c.in-Err-push_quotient.stop
+    (bound_run c.in-Bind.form c.in-Bind.divisor c.loop-at.values.items) = search rules in
     b.stops c.in-Err-push_quotient.stop e
 
 pub overflow_sub-at-in-Ok-push_quotient : goal.overflow_sub-at-in-Ok-push_quotient
@@ -110,5 +113,6 @@ pub loop-at-preserved : goal.loop-at-preserved
 loop-at-preserved c =
     let b = at_bind c.loop-at.invariant c.index-nodes-at.is c.in-Bind.is in
     let fits : FitsSigned w128 c.in-Bind.divisor = search rules in
-    let run : bound_run c.in-Bind.form c.in-Bind.divisor c.loop-at.values.items ≡ Ok c.push_quotient.new.point.items = search rules in
+    let run : bound_run c.in-Bind.form c.in-Bind.divisor c.loop-at.values.items ≡ Ok c.push_quotient.new.point.items =
+    search rules in
     b.body c.push_quotient.new.point.items run

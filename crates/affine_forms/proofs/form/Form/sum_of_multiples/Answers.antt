@@ -1,0 +1,8 @@
+use Rattle.std.proofs.Common.{rules}
+use Rattle.affine_forms.proofs.Multiples.{forms_sum_run-exact}
+use Rattle.affine_forms.proofs.form.Form.sum_of_multiples.Goals as goal
+
+pub returns-in-Ok-add_multiples-clause-entries : goal.returns-in-Ok-add_multiples-clause-entries
+returns-in-Ok-add_multiples-clause-entries c =
+    forms_sum_run-exact c.args.a c.args.self.now c.args.b c.args.other.now c.add_multiples.new.self c.requires
+    (search rules)

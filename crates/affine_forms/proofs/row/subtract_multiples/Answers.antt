@@ -1,0 +1,47 @@
+use Rattle.std.proofs.Common.{rules, ℤ, sym, ◌∙◌, arith, FitsSigned, get_or, pos}
+use Rattle.std.specs.Prelude.{Result}
+use Rattle.std.specs.Int.{w128}
+use Rattle.std.proofs.lemmas.Int.{to_z-of_z}
+use Rattle.wide_math.specs.declared.Wide.{Wide}
+use Rattle.affine_forms.specs.Runs.{multiples_difference_run}
+use Rattle.wide_math.specs.Checked.{cross_of}
+use Rattle.affine_forms.proofs.Steps.{zip_run-step, zip_run-stop, zip_run-end}
+use Rattle.affine_forms.proofs.row.subtract_multiples.Goals as goal
+
+pub returns-in-Err : goal.returns-in-Err
+unfolding multiples_difference_run
+returns-in-Err c =
+    let fits_a = c.ranges.a in
+    let fits_b = c.ranges.b in
+    let fits_x : FitsSigned w128 (get_or c.loop-at.row c.loop-at.at (pos 0)) = search rules in
+    let fits_y : FitsSigned w128 (get_or c.args.other.now c.loop-at.at (pos 0)) = search rules in
+    let failed = simp to_z-of_z at (sym c.in-Err.ensures) in
+    let kept = simp to_z-of_z at c.loop-at.invariant in
+    let step : ℤ → ℤ → Result ℤ Wide = λ x y. cross_of c.args.a x c.args.b y in
+    let ys = c.args.other.now in
+    sym kept
+    ∙ zip_run-stop step c.loop-at.row ys c.loop-at.at c.in-Err.wide (omega arith) (omega arith) failed
+
+pub loop-at-preserved : goal.loop-at-preserved
+loop-at-preserved c =
+    let fits_a = c.ranges.a in
+    let fits_b = c.ranges.b in
+    let fits : FitsSigned w128 c.in-Ok.difference = search rules in
+    let fits_x : FitsSigned w128 (get_or c.loop-at.row c.loop-at.at (pos 0)) = search rules in
+    let fits_y : FitsSigned w128 (get_or c.args.other.now c.loop-at.at (pos 0)) = search rules in
+    let given = simp to_z-of_z at (sym c.in-Ok.ensures) in
+    let kept = simp to_z-of_z at c.loop-at.invariant in
+    let step : ℤ → ℤ → Result ℤ Wide = λ x y. cross_of c.args.a x c.args.b y in
+    let ys = c.args.other.now in
+    simp to_z-of_z
+    (zip_run-step step c.loop-at.row ys c.loop-at.at c.in-Ok.difference (omega arith) (omega arith) given
+    ∙ kept)
+
+pub returns : goal.returns
+unfolding multiples_difference_run
+returns c =
+    let fits_a = c.ranges.a in
+    let fits_b = c.ranges.b in
+    let kept = simp to_z-of_z at c.loop-at.invariant in
+    let step : ℤ → ℤ → Result ℤ Wide = λ x y. cross_of c.args.a x c.args.b y in
+    sym kept ∙ zip_run-end step c.loop-at.row _ c.loop-at.at (omega arith)
