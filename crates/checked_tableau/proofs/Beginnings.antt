@@ -1,0 +1,84 @@
+-- The first rows, line by line.
+use Rattle.std.proofs.Common.{◌≡◌, ℕ, zero, suc, ◌+◌, ◌*◌, ◌≤◌, ℤ, pos, List, [], ◌∷◌, ◌++◌, length, set, refl, subst, ap, sym, ◌∙◌, arith, add-one, append_assoc}
+use Rattle.std.specs.Prelude.{None, All}
+use Rattle.std.proofs.lemmas.List.{length-append}
+use Rattle.std.proofs.Math.Nat.{suc-mul}
+use Rattle.std.proofs.Math.ListN.{length-set}
+use Rattle.whole_numbers.specs.Affine.{Affine}
+use Rattle.whole_numbers.specs.Lists.{zeros}
+use Rattle.whole_numbers.proofs.Dot.{length-zeros}
+use Rattle.tableau_rows.specs.Rows.{Row, row_of}
+use Rattle.tableau_rows.specs.Problem.{entries_of, unit_rows, given_rows, first_rows, problem_of, Speaks}
+use Rattle.tableau_rows.specs.Moves.{line_row, rows_in, unit_row, unit_line}
+use Rattle.tableau_rows.specs.Solutions.{IsTableau}
+use Rattle.tableau_rows.proofs.Beginning.{length-entries_of, first_tableau}
+use Rattle.checked_tableau.specs.Lines.{Holds}
+use Rattle.checked_tableau.specs.Table.{IsSound, stride_of}
+use Rattle.checked_tableau.proofs.Tables.{rows_in_more}
+
+-- a line more
+pub held_more : (stride count next : ℕ) (cells line : List ℤ) (rows : List Row) (row : Row) → Holds stride count cells rows → next ≡ suc count → length line ≡ stride → line_row line ≡ row
+    → Holds stride next (cells ++ line) (rows ++ row ∷ [])
+held_more stride count next cells line rows row held following long is =
+    let m = suc-mul count stride in
+    let e : next * stride ≡ suc count * stride = ap (λ (k : ℕ). k * stride) following in
+    let s = held.size in
+    let more = rows_in_more stride count cells line held.size long in
+    record {
+      size = length-append cells line ∙ omega arith;
+      lines = ap (λ (k : ℕ). rows_in stride k (cells ++ line)) following ∙ more ∙ ap (λ (rs : List Row). rs ++ line_row line ∷ []) held.lines ∙ ap (λ (r : Row). rows ++ r ∷ []) is;
+    }
+
+unit_rows_more : (m i k : ℕ) → unit_rows m i (suc k) ≡ unit_rows m i k ++ unit_row m (i + k) ∷ []
+unit_rows_more m i zero = let e : i ≡ i + zero = omega arith in ap (λ (j : ℕ). unit_row m j ∷ []) e
+unit_rows_more m i (suc k) =
+    let e : suc i + k ≡ i + suc k = omega arith in
+    ap (λ (rows : List Row). unit_row m i ∷ rows) (unit_rows_more m (suc i) k ∙ ap (λ (j : ℕ). unit_rows m (suc i) k ++ unit_row m j ∷ []) e)
+
+unit_of_line : (m s : ℕ) → line_row (unit_line (suc m) s) ≡ unit_row m s
+unit_of_line m s = ap (λ (k : ℕ). line_row (set (pos 1 ∷ zeros m) k (pos 1))) (add-one s)
+
+pub held_unit : (m k : ℕ) (cells line : List ℤ) → Holds (suc m) k cells (unit_rows m 0 k) → line ≡ unit_line (suc m) k → Holds (suc m) (k + 1) (cells ++ line) (unit_rows m 0 (k + 1))
+held_unit m k cells line held is =
+    let size : length line ≡ suc m = ap (λ (zs : List ℤ). length zs) is ∙ simp length-set (length-zeros (suc m)) in
+    let row = ap (λ (zs : List ℤ). line_row zs) is ∙ unit_of_line m k in
+    let more = held_more (suc m) k (k + 1) cells line (unit_rows m 0 k) (unit_row m k) held (add-one k) size row in
+    subst (λ (rows : List Row). Holds (suc m) (k + 1) (cells ++ line) rows)
+    (sym (unit_rows_more m 0 k ∙ ap (λ (j : ℕ). unit_rows m 0 k ++ unit_row m j ∷ []) (let e : zero + k ≡ k = omega arith in e)) ∙ ap (λ (j : ℕ). unit_rows m 0 j) (sym (add-one k))) more
+
+given_rows_more : (n : ℕ) (fs : List Affine) (f : Affine) → given_rows n (fs ++ f ∷ []) ≡ given_rows n fs ++ row_of (pos 1) (entries_of n f) ∷ []
+given_rows_more n [] f = refl
+given_rows_more n (g ∷ fs) f = ap (λ (rows : List Row). row_of (pos 1) (entries_of n g) ∷ rows) (given_rows_more n fs f)
+
+pub held_form : (n stride count k : ℕ) (cells now : List ℤ) (rows : List Row) (fs more : List Affine) (f : Affine) → n + 2 ≤ stride → length f.coefficients + 2 ≡ stride
+    → Holds stride (count + k) cells (rows ++ given_rows n fs) → now ≡ cells ++ (pos 1 ∷ entries_of n f) → more ≡ fs ++ f ∷ []
+    → Holds stride (count + (k + 1)) now (rows ++ given_rows n more)
+held_form n stride count k cells now rows fs more f room size held is parts =
+    let l = length-entries_of n f (omega arith) in
+    let next = held_more stride (count + k) (count + (k + 1)) cells (pos 1 ∷ entries_of n f) (rows ++ given_rows n fs) (row_of (pos 1) (entries_of n f)) held (omega arith) (omega arith) refl in
+    let a : (rows ++ given_rows n fs) ++ row_of (pos 1) (entries_of n f) ∷ [] ≡ rows ++ given_rows n more =
+    append_assoc rows (given_rows n fs) (row_of (pos 1) (entries_of n f) ∷ [])
+    ∙ ap (λ (rs : List Row). rows ++ rs) (sym (given_rows_more n fs f) ∙ ap (λ (gs : List Affine). given_rows n gs) (sym parts)) in
+    subst (λ (zs : List ℤ). Holds stride (count + (k + 1)) zs (rows ++ given_rows n more)) (sym is)
+    (subst (λ (rs : List Row). Holds stride (count + (k + 1)) (cells ++ (pos 1 ∷ entries_of n f)) rs) a next)
+
+pub speaks_all : (n : ℕ) (fs : List Affine) → All (λ f. length f.coefficients ≡ n) fs → Speaks n fs
+speaks_all n [] all = tt
+speaks_all n (f ∷ fs) all = (all 0 f (omega arith), speaks_all n fs (λ k d below. all (suc k) d (omega arith)))
+
+-- the first rows in a buffer
+pub sound_first : (n m count stride : ℕ) (cells units line : List ℤ) (fs : List Affine) → stride ≡ stride_of n m → length line ≡ stride → Speaks (n + m) fs → count ≡ n + length fs
+    → Holds stride n units (unit_rows (n + 1 + m) 0 n)
+    → Holds stride (n + length fs) cells (unit_rows (n + 1 + m) 0 n ++ given_rows n fs)
+    → IsSound n m count cells line None × (rows_in (stride_of n m) count cells ≡ first_rows m (problem_of n fs))
+sound_first n m count stride cells units line fs is room speaks number unit held =
+    let lines : rows_in (stride_of n m) count cells ≡ first_rows m (problem_of n fs) =
+    ap (λ (k : ℕ). rows_in (stride_of n m) k cells) number ∙ ap (λ (k : ℕ). rows_in k (n + length fs) cells) (sym is) ∙ held.lines in (
+      record {
+        room = room ∙ is;
+        size = held.size ∙ ap (λ (k : ℕ). k * stride) (sym number) ∙ ap (λ (k : ℕ). count * k) is;
+        many = omega arith;
+        tableau = λ e. subst (IsTableau n m) (sym lines) (first_tableau n m fs speaks);
+      },
+      lines,
+    )

@@ -1,0 +1,4 @@
+pub mod Looking
+pub mod Cut_lines
+pub mod Tables
+pub mod Beginnings

@@ -1,0 +1,23 @@
+use Rattle.std.proofs.Common.{rules, ◌≡◌, ℤ, pos, get_or, subst, sym, arith, FitsSigned}
+use Rattle.std.specs.Int.{w128}
+use Rattle.std.proofs.lemmas.Int.{ints}
+use Rattle.whole_numbers.specs.Content.{content}
+use Rattle.whole_numbers.specs.Divisors.{Divides}
+use Rattle.whole_numbers.proofs.Divisors.{divides-le}
+use Rattle.whole_numbers.proofs.Contents.{content_divides}
+use Rattle.whole_numbers.proofs.Lowest.{lowest_stays}
+use Rattle.checked_tableau.proofs.contents.reduce.Goals as goal
+
+pub returns-then-row-eq1 : goal.returns-then-row-eq1
+returns-then-row-eq1 c =
+    let row = c.args.row.now in
+    let f : FitsSigned w128 (get_or row 0 (pos 0)) = search rules in
+    let one : get_or row 0 (pos 0) ≡ pos 1 = search rules in
+    let d : Divides (pos (content row)) (pos 1) = subst (λ (z : ℤ). Divides (pos (content row)) z) one (content_divides row 0 (pos 0) c.requires.length) in
+    let l = divides-le (pos (content row)) (pos 1) (omega (arith, ints)) d in
+    sym (lowest_stays row (omega (arith, ints)))
+
+pub returns-else-divisor-gt1 : goal.returns-else-divisor-gt1
+returns-else-divisor-gt1 c =
+    let e = c.content-divisor.ensures in
+    sym (lowest_stays c.args.row.now (omega arith))

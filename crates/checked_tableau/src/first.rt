@@ -1,0 +1,72 @@
+//! The lines of a problem's first rows.
+ghost use Rattle.std.specs.Prelude.{◌≡◌, ℕ, suc, ◌+◌, ◌*◌, ◌<◌, ◌≤◌, pos, List, [], ◌∷◌, ◌++◌, length, All, OnOk};
+ghost use Rattle.affine_forms.specs.Parts.{variables_of};
+ghost use Rattle.tableau_rows.specs.Rows.{Row};
+ghost use Rattle.tableau_rows.specs.Problem.{entries_of, unit_rows, given_rows};
+ghost use Rattle.checked_tableau.specs.Lines.{Holds};
+
+use crate::pivot::write_unit;
+use affine_forms::Form;
+use std::alloc::AllocError;
+
+/// Writes the lines of the unknowns: each is its column. `line` is room for one.
+pub fn append_units(
+    cells: &mut Vec<i128>,
+    line: &mut [i128],
+    unknowns: usize,
+) -> Result<(), AllocError>
+    requires none { cells.old.items ≡ [] }
+    requires room { unknowns + 1 < length line.old }
+    ensures { (m : ℕ) → length line.old ≡ suc m → OnOk result (Holds (suc m) unknowns cells.new.items (unit_rows m 0 unknowns)) }
+{
+    for column in 0..unknowns {
+        write_unit(line, column);
+        match cells.extend_from_slice(line) {
+            Err(error) => return Err(error),
+            Ok(()) => {}
+        }
+    }
+    Ok(())
+}
+
+/// Appends a form as a line.
+fn append_form(cells: &mut Vec<i128>, form: &Form, unknowns: usize) -> Result<(), AllocError>
+    requires { unknowns ≤ variables_of form.now }
+    ensures { OnOk result (cells.new.items ≡ cells.old.items ++ (pos 1 ∷ entries_of unknowns form.now)) }
+{
+    let coefficients = form.coefficients();
+    match cells.push(1) {
+        Err(_) => return Err(AllocError),
+        Ok(()) => {}
+    }
+    match cells.extend_from_slice(&coefficients[..unknowns]) {
+        Err(error) => return Err(error),
+        Ok(()) => {}
+    }
+    match cells.push(form.constant()) {
+        Err(_) => return Err(AllocError),
+        Ok(()) => {}
+    }
+    cells.extend_from_slice(&coefficients[unknowns..])
+}
+
+/// Appends the lines of forms.
+pub fn append_forms(
+    cells: &mut Vec<i128>,
+    forms: &[Form],
+    unknowns: usize,
+    stride: usize,
+) -> Result<(), AllocError>
+    requires forms { All (λ f. variables_of f + 2 ≡ stride) forms.now }
+    requires unknowns { unknowns + 2 ≤ stride }
+    ensures { (count : ℕ) (rows : List Row) → Holds stride count cells.old.items rows
+        → OnOk result (Holds stride (count + length forms.now) cells.new.items (rows ++ given_rows unknowns forms.now)) }
+{
+    for form in forms {
+        match append_form(cells, form, unknowns) {
+            Err(error) => return Err(error),
+            Ok(()) => {}
+        }
+    }
+    Ok(())
+}

@@ -1,0 +1,16 @@
+//! The tableau of parametric integer programming: rows in one buffer, changed in place.
+#![tactic(auto)]
+
+mod contents;
+mod cuts;
+mod first;
+mod pivot;
+mod problem;
+mod rows;
+mod scans;
+mod stop;
+mod table;
+
+pub use problem::Problem;
+pub use stop::TableauStop;
+pub use table::Rows;

@@ -1,0 +1,583 @@
+-- Each step of a node keeps its whole solutions.
+use Rattle.std.proofs.Common.{◌≡◌, ◌↔◌, ℕ, zero, suc, ◌+◌, ◌<◌, ℤ, pos, ◌+ℤ◌, ◌≤ℤ◌, ◌<ℤ◌, Bool, true, false, Option, Some, None, List, [], ◌∷◌, ◌++◌, length, get_or, map, take, refl, subst, ap, sym, ◌∙◌, arith, length-append, add-one}
+use Rattle.std.specs.Prelude.{Ok, if◌then◌else◌}
+use Rattle.std.proofs.lemmas.Int.{ints}
+use Rattle.std.proofs.lemmas.List.{length-take-le, length-map, length-drop}
+use Rattle.whole_numbers.specs.Lists.{NotNegative}
+use Rattle.whole_numbers.proofs.Lists.{not_negative-append}
+use Rattle.whole_numbers.specs.Affine.{Affine, value_of}
+use Rattle.whole_numbers.specs.Floor.{floor}
+use Rattle.whole_numbers.specs.Division.{IsFloor}
+use Rattle.whole_numbers.proofs.Floors.{floor_is, floor_unique, floor_at_least}
+use Rattle.whole_numbers.proofs.Ring.{mul_zero_left, mul_comm_int}
+use Rattle.whole_numbers.proofs.Dot.{dot-past}
+use Rattle.tableau_rows.specs.Rows.{Row, Sized}
+use Rattle.tableau_rows.specs.Moves.{row_at, pivot_run, cut_run}
+use Rattle.tableau_rows.specs.Problem.{IsPoint, problem_of, row_values, Speaks}
+use Rattle.tableau_rows.specs.Run.{some_positive}
+use Rattle.tableau_rows.specs.Solutions.{IsTableau, IsTied, IsPlaced, HaveSameSolutions, tie}
+use Rattle.tableau_rows.proofs.Points.{sized_take, sized_at}
+use Rattle.tableau_rows.proofs.Standing.{not_negative-parts}
+use Rattle.tableau_rows.proofs.Keeping.{pivot_run_keeps, cut_keeps_tableau, cut_keeps_solutions, cut_back}
+use Rattle.tableau_rows.proofs.Beginning.{first_tableau, first_solutions}
+use Rattle.tableau_rows.proofs.Cutting.{cut_constant}
+use Rattle.lexmin_runs.specs.Nodes.{Node, Next, Bound, ends, goes, binds, splits, Counted, chained, formed, longer_form, longer_row, part_of, all_zero, place_of, is_bound_as, opposite_run, under_run, at_least_run, context_holds, below_somewhere, above_somewhere, broken_somewhere, first_asked, leaf_tree, side, split, with_rows, pivot, taken_off, bound_node, cut_bound, cut, cut_or_leaf, pivot_or_empty, treated, looked, step, followed, tree_run, whole, first_node, lexmin_run}
+use Rattle.lexmin_runs.specs.Solutions.{IsInContext, IsNodeSolution, AreBound, ArePlaced, IsNode, LeadsOn, KeepsSolutions}
+use Rattle.lexmin_runs.proofs.Speaking.{leaf_tree-speaks}
+use Rattle.lexmin_runs.proofs.Longer.{longer_forth, longer_back, longer_tableau, row_at-longer, value-constant, values-longer, speaks-longer, speaks-append, row_values-append}
+use Rattle.lexmin_runs.proofs.Asking.{chained-ok, formed-ok, same_first, opposite-value, under-value, under-size, at_least-value, at_least-size}
+use Rattle.lexmin_runs.proofs.Cuts.{taken_off-value, taken_off_not_negative, taken_off_size, get_or-behind, get_or-last, place-says, bound-more, tied_new}
+use Rattle.lexmin_runs.proofs.Trees.{paid-ok, IsAsked, first_asked-says}
+use Rattle.quast_trees.specs.Tree.{Tree, initial, bind, branch}
+use Rattle.quast_trees.specs.Tree.{Speaks as TreeSpeaks}
+
+-- one row more of the context
+pub in_side : (node : Node) (f : Affine) (p : List ℤ)
+    → IsInContext (side node f) p ↔ (IsInContext node p × (pos 0 ≤ℤ value_of f p))
+in_side node f p = (
+  λ h. let both = not_negative-parts (row_values node.context p) (value_of f p ∷ [])
+      (subst NotNegative (row_values-append node.context (f ∷ []) p) h.rows) in
+      (record { size = h.size; not_negative = h.not_negative; rows = both.0 }, both.1.0),
+  λ h. record {
+    size = h.0.size;
+    not_negative = h.0.not_negative;
+    rows = subst NotNegative (sym (row_values-append node.context (f ∷ []) p))
+        (not_negative-append (row_values node.context p) (value_of f p ∷ []) h.0.rows (h.1, tt));
+  },
+)
+
+pub side_node : (n : ℕ) (node : Node) (f : Affine) → IsNode n node → length f.coefficients ≡ node.parameters
+    → IsNode n (side node f)
+side_node n node f is size =
+    record {
+      tableau = is.tableau;
+      speaks = speaks-append node.parameters node.context (f ∷ []) is.speaks (size, tt);
+      placed = is.placed;
+      bound = λ p h. is.bound p ((in_side node f p).0 h).0;
+    }
+
+pub side_solutions : (n : ℕ) (node : Node) (f : Affine) (p x : List ℤ)
+    → IsNodeSolution n (side node f) p x ↔ (IsNodeSolution n node p x × (pos 0 ≤ℤ value_of f p))
+side_solutions n node f p x = (
+  λ h. let both = (in_side node f p).0 h.context in (record { context = both.0; solution = h.solution }, both.1),
+  λ h. record { context = (in_side node f p).1 (h.0.context, h.1); solution = h.0.solution },
+)
+
+pub split_keeps : (n left : ℕ) (node : Node) (f : Affine) (next : Next) (l : ℕ) → IsNode n node
+    → length f.coefficients ≡ node.parameters
+    → split left node f ≡ Ok (next, l) → LeadsOn n node.parameters next × KeepsSolutions n node next
+split_keeps n left node f next l is size h =
+    let c = paid-ok left (λ (rest : ℕ). formed left (opposite_run f)
+    (λ g. Ok (splits f (side node f) (side node g), rest))) next l h in
+    let d = formed-ok left (opposite_run f) (λ (g : Affine). Ok (splits f (side node f) (side node g), c.0)) next l
+    c.1 in
+    let e = same_first (splits f (side node f) (side node d.0)) next c.0 l d.2 in
+    let g = d.0 in
+    subst (λ (k : Next). LeadsOn n node.parameters k × KeepsSolutions n node k) e (
+      (side_node n node f is size, side_node n node g is ((opposite-value f g [] d.1).1 ∙ size), refl, refl, size),
+      λ p x. (side_solutions n node f p x, below g d.1 p x),
+    )
+  where
+    below : (g : Affine) → opposite_run f ≡ Ok g → (p x : List ℤ)
+        → IsNodeSolution n (side node g) p x ↔ (IsNodeSolution n node p x × (value_of f p <ℤ pos 0))
+    below g run p x =
+        let o = (opposite-value f g p run).0 in
+        let s = side_solutions n node g p x in (
+          λ h. let both = s.0 h in let k = both.1 in (both.0, omega (arith, ints)),
+          λ h. let k = h.1 in s.1 (h.0, omega (arith, ints)),
+        )
+
+-- other rows under the same context
+pub rows_node : (n : ℕ) (node : Node) (rows : List Row) → IsNode n node → IsTableau n node.parameters rows
+    → IsNode n (with_rows node rows)
+rows_node n node rows is tableau =
+    record {
+      tableau = tableau;
+      speaks = is.speaks;
+      placed = is.placed;
+      bound = λ p h. is.bound p (record { size = h.size; not_negative = h.not_negative; rows = h.rows });
+    }
+
+pub rows_solutions : (n : ℕ) (node : Node) (rows : List Row) (p x : List ℤ)
+    → (IsInContext node p → HaveSameSolutions n node.rows rows p)
+    → IsNodeSolution n node p x ↔ IsNodeSolution n (with_rows node rows) p x
+rows_solutions n node rows p x same = (
+  λ h. record {
+    context = record { size = h.context.size; not_negative = h.context.not_negative; rows = h.context.rows };
+    solution = (same h.context x).0 h.solution;
+  },
+  λ h. let here : IsInContext node p = record
+      { size = h.context.size; not_negative = h.context.not_negative; rows = h.context.rows } in
+      record { context = here; solution = (same here x).1 h.solution },
+)
+
+pub pivot_keeps : (n left : ℕ) (node : Node) (r : ℕ) (next : Next) (l : ℕ) → IsNode n node → r < length node.rows
+    → pivot n left node r ≡ Ok (next, l) → LeadsOn n node.parameters next × KeepsSolutions n node next
+pivot_keeps n left node r next l is within h =
+    let c = paid-ok left (λ (rest : ℕ). formed left (pivot_run n node.rows r)
+    (λ rows. Ok (goes (with_rows node rows), rest))) next l h in
+    let d = formed-ok left (pivot_run n node.rows r) (λ (rows : List Row). Ok (goes (with_rows node rows), c.0)) next
+    l c.1 in
+    let e = same_first (goes (with_rows node d.0)) next c.0 l d.2 in
+    let kept = pivot_run_keeps n node.parameters r node.rows d.0 is.tableau within d.1 in
+    subst (λ (k : Next). LeadsOn n node.parameters k × KeepsSolutions n node k) e (
+      (rows_node n node d.0 is kept.0, refl),
+      λ p x. rows_solutions n node d.0 p x (λ here. kept.1 p here.size),
+    )
+
+-- a cut that needs no new parameter
+pub cut_old_keeps : (n : ℕ) (node : Node) (i : ℕ) (place : Option ℕ) (new : Row) → IsNode n node → i < n
+    → cut_run n place (row_at node.rows i) ≡ Ok new → IsPlaced n node.parameters place
+    → ((p : List ℤ) → IsInContext node p → (ys : List ℤ) → length ys ≡ n
+    → IsFloor (value_of (taken_off n (row_at node.rows i)) p) (row_at node.rows i).denominator
+    (tie place (ys ++ pos 1 ∷ p)))
+    → IsNode n (with_rows node (node.rows ++ new ∷ []))
+    × ((p x : List ℤ) → IsNodeSolution n node p x ↔ IsNodeSolution n (with_rows node (node.rows ++ new ∷ [])) p x)
+cut_old_keeps n node i place new is below run placed floors =
+    let row = row_at node.rows i in
+    let within : i < length node.rows = let k = is.tableau.many in omega arith in (
+      rows_node n node (node.rows ++ new ∷ []) is
+          (cut_keeps_tableau n node.parameters i place node.rows new is.tableau within run),
+      λ p x. rows_solutions n node (node.rows ++ new ∷ []) p x
+          (λ here. cut_keeps_solutions n node.parameters i place node.rows new is.tableau within placed run p here.size
+          (λ ys size. subst (λ (z : ℤ). IsFloor z row.denominator (tie place (ys ++ pos 1 ∷ p)))
+          (taken_off-value n row p)
+          (floors p here ys size))),
+    )
+
+pub placed_more : (m : ℕ) (bs : List Bound) → ArePlaced m bs → ArePlaced (suc m) bs
+placed_more m [] h = tt
+placed_more m (b ∷ bs) h = (let k = h.0 in omega arith, placed_more m bs h.1)
+
+pub place_within : (f : Affine) (d : ℤ) (m : ℕ) (bs : List Bound) (k : ℕ) → ArePlaced m bs → place_of f d bs ≡ Some k
+    → k < m
+place_within f d m [] k placed h = cc
+place_within f d m (b ∷ bs) k placed h = by_match (is_bound_as f d b) h (λ g. place_within f d m bs k placed.1 g)
+  where
+    by_match : (c : Bool) → (if c then Some b.place else place_of f d bs) ≡ Some k
+        → (place_of f d bs ≡ Some k → k < m) → k < m
+    by_match true h more = let e : b.place ≡ k = cc in subst (λ (j : ℕ). j < m) e placed.0
+    by_match false h more = more h
+
+-- a list of one number more
+pub last_apart : (m : ℕ) (p : List ℤ) → length p ≡ suc m
+    → (front : List ℤ) × (q : ℤ) × (p ≡ front ++ q ∷ []) × (length front ≡ m)
+last_apart m [] h = absurd (omega arith)
+last_apart zero (x ∷ []) h = ([], x, refl, refl)
+last_apart zero (x ∷ y ∷ p) h = absurd (omega arith)
+last_apart (suc m) (x ∷ p) h =
+    let more = last_apart m p (omega arith) in
+    (x ∷ more.0, more.1, ap (λ (zs : List ℤ). x ∷ zs) more.2, let e = more.3 in omega arith)
+
+-- a context with one parameter more, tied to the quotient
+pub in_bound : (n : ℕ) (node : Node) (f : Affine) (d : ℤ) (new : Row) (low high : Affine) (p : List ℤ) (q : ℤ)
+    → Speaks node.parameters node.context
+    → length p ≡ node.parameters → length f.coefficients ≡ node.parameters → pos 0 <ℤ d
+    → at_least_run d f ≡ Ok low → under_run d f ≡ Ok high → (NotNegative p → pos 0 ≤ℤ value_of f p)
+    → IsInContext (bound_node n node f d new low high) (p ++ q ∷ []) ↔
+    (IsInContext node p × IsFloor (value_of f p) d q)
+in_bound n node f d new low high p q speaks size fsize positive at_least under up =
+    let old = map longer_form node.context in
+    let p' = p ++ q ∷ [] in
+    let same = values-longer node.context p q (subst (λ (j : ℕ). Speaks j node.context) (sym size) speaks) in
+    let parts = row_values-append old (low ∷ high ∷ []) p' in
+    let lv = (at_least-value d f low p q (fsize ∙ sym size) at_least).0 in
+    let uv = (under-value d f high p q (fsize ∙ sym size) under).0 in
+    let c = mul_comm_int q d in (
+      λ h. let both = not_negative-parts (row_values old p') (value_of low p' ∷ value_of high p' ∷ [])
+          (subst NotNegative parts h.rows) in
+          let front = not_negative-parts p (q ∷ []) h.not_negative in
+          let l = both.1.0 in
+          let u = both.1.1.0 in (
+            record { size = size; not_negative = front.0; rows = subst NotNegative same both.0 },
+            record { below = omega (arith, ints); above = omega (arith, ints) },
+          ),
+      λ h. let fb = h.1.below in
+          let fa = h.1.above in
+          record {
+            size = simp length-append (omega arith);
+            not_negative = not_negative-append p (q ∷ []) h.0.not_negative (
+              (floor_at_least (value_of f p) d q (pos 0) positive h.1).1
+                  (let z = mul_zero_left d in let k = up h.0.not_negative in omega (arith, ints)),
+              tt,
+            );
+            rows = subst NotNegative (sym parts)
+                (not_negative-append (row_values old p') (value_of low p' ∷ value_of high p' ∷ [])
+                (subst NotNegative (sym same) h.0.rows) (omega (arith, ints), (omega (arith, ints), tt)));
+          },
+    )
+
+-- a cut with a new one
+pub cut_new_keeps : (n : ℕ) (node : Node) (i : ℕ) (new : Row) (low high : Affine) → IsNode n node → i < n
+    → cut_run n (Some (n + 1 + node.parameters)) (longer_row (row_at node.rows i)) ≡ Ok new
+    → at_least_run (row_at node.rows i).denominator (taken_off n (row_at node.rows i)) ≡ Ok low
+    → under_run (row_at node.rows i).denominator (taken_off n (row_at node.rows i)) ≡ Ok high
+    → LeadsOn n node.parameters (binds (taken_off n (row_at node.rows i)) (row_at node.rows i).denominator
+    (bound_node n node (taken_off n (row_at node.rows i)) (row_at node.rows i).denominator new low high))
+    × KeepsSolutions n node (binds (taken_off n (row_at node.rows i)) (row_at node.rows i).denominator
+    (bound_node n node (taken_off n (row_at node.rows i)) (row_at node.rows i).denominator new low high))
+cut_new_keeps n node i new low high is below run at_least under = (
+  (
+    record {
+      tableau = tableau;
+      speaks = speaks;
+      placed = (omega arith, placed_more node.parameters node.bounds is.placed);
+      bound = bound;
+    },
+    refl,
+    fsize,
+    (let k = at.0 in omega (arith, ints)),
+  ),
+  λ p x q. (forth p x q, back p x q),
+)
+  where
+    m : ℕ
+    m = node.parameters
+
+    row : Row
+    row = row_at node.rows i
+
+    d : ℤ
+    d = (row_at node.rows i).denominator
+
+    f : Affine
+    f = taken_off n (row_at node.rows i)
+
+    within : i < length node.rows
+    within = let k = is.tableau.many in omega arith
+
+    at : (pos 0 <ℤ (row_at node.rows i).denominator) × (length (row_at node.rows i).entries ≡ n + 1 + node.parameters)
+    at = sized_at (n + 1 + node.parameters) node.rows i within is.tableau.sized
+
+    fsize : length (taken_off n (row_at node.rows i)).coefficients ≡ node.parameters
+    fsize = taken_off_size n node.parameters (row_at node.rows i) at.1
+
+    longer : IsTableau n (suc node.parameters) (map longer_row node.rows)
+    longer = longer_tableau n node.parameters node.rows is.tableau
+
+    cut_longer : cut_run n (Some (n + 1 + node.parameters)) (row_at (map longer_row node.rows) i) ≡ Ok new
+    cut_longer =
+        subst (λ (r : Row). cut_run n (Some (n + 1 + node.parameters)) r ≡ Ok new)
+        (sym (row_at-longer node.rows i within)) run
+
+    tableau : IsTableau n (suc node.parameters) (map longer_row node.rows ++ new ∷ [])
+    tableau =
+        cut_keeps_tableau n (suc node.parameters) i (Some (n + 1 + node.parameters)) (map longer_row node.rows) new
+        longer
+        (simp length-map within) cut_longer
+
+    speaks : Speaks (suc node.parameters) (map longer_form node.context ++ low ∷ high ∷ [])
+    speaks = subst (λ (j : ℕ). Speaks j (map longer_form node.context ++ low ∷ high ∷ [])) (add-one node.parameters)
+        (speaks-append (node.parameters + 1) (map longer_form node.context) (low ∷ high ∷ [])
+        (speaks-longer node.parameters node.context is.speaks)
+        ((at_least-value_size low at_least), ((under-value_size high under), tt)))
+      where
+        at_least-value_size : (low : Affine)
+            → at_least_run (row_at node.rows i).denominator (taken_off n (row_at node.rows i)) ≡ Ok low
+            → length low.coefficients ≡ node.parameters + 1
+        at_least-value_size low h =
+            at_least-size (row_at node.rows i).denominator (taken_off n (row_at node.rows i)) low h ∙ ap
+            (λ (j : ℕ). j + 1) fsize
+
+        under-value_size : (high : Affine)
+            → under_run (row_at node.rows i).denominator (taken_off n (row_at node.rows i)) ≡ Ok high
+            → length high.coefficients ≡ node.parameters + 1
+        under-value_size high h =
+            under-size (row_at node.rows i).denominator (taken_off n (row_at node.rows i)) high h ∙ ap
+            (λ (j : ℕ). j + 1) fsize
+
+    here : (p : List ℤ) (q : ℤ) → length p ≡ node.parameters
+        → IsInContext (bound_node n node f d new low high) (p ++ q ∷ []) ↔
+        (IsInContext node p × IsFloor (value_of f p) d q)
+    here p q size = in_bound n node f d new low high p q is.speaks size fsize at.0 at_least under
+        (λ not. taken_off_not_negative n row p at.0 not)
+
+    size_of : (p : List ℤ) (q : ℤ) → length (p ++ q ∷ []) ≡ suc node.parameters → length p ≡ node.parameters
+    size_of p q h = let e : length (p ++ q ∷ []) ≡ length p + 1 = simp length-append refl in omega arith
+
+    bound : (p : List ℤ) → IsInContext (bound_node n node f d new low high) p
+        → AreBound p (record { form = f; divisor = d; place = node.parameters } ∷ node.bounds)
+    bound p h =
+        let apart = last_apart node.parameters p h.size in
+        subst (λ (w : List ℤ). AreBound w (record { form = f; divisor = d; place = node.parameters } ∷ node.bounds))
+        (sym apart.2)
+        (ends_bound apart.0 apart.1 apart.3 (subst (IsInContext (bound_node n node f d new low high)) apart.2 h))
+      where
+        ends_bound : (p : List ℤ) (q : ℤ) → length p ≡ node.parameters
+            → IsInContext (bound_node n node f d new low high) (p ++ q ∷ [])
+            → AreBound (p ++ q ∷ []) (record { form = f; divisor = d; place = node.parameters } ∷ node.bounds)
+        ends_bound p q size h =
+            let both = (here p q size).0 h in
+            let e = floor_unique (value_of f p) d q (floor (value_of f p) d) at.0 both.1
+            (floor_is (value_of f p) d at.0) in
+            let v = ap (λ (z : ℤ). floor (z +ℤ f.constant) d)
+            (dot-past f.coefficients p (q ∷ []) (let k = fsize in omega arith)) in (
+              (
+                simp length-append (omega arith),
+                (let k = fsize in simp length-append (omega arith)),
+                subst (λ (j : ℕ). get_or (p ++ q ∷ []) j (pos 0) ≡ q) size (get_or-last p q) ∙ e ∙ sym v,
+              ),
+              bound-more p q node.bounds (is.bound p both.0),
+            )
+
+    tied : (p : List ℤ) (q : ℤ) → length p ≡ node.parameters → IsFloor (value_of f p) d q
+        → IsTied n (Some (n + 1 + node.parameters)) (row_at (map longer_row node.rows) i) (p ++ q ∷ [])
+    tied p q size fl =
+        subst (λ (r : Row). IsTied n (Some (n + 1 + node.parameters)) r (p ++ q ∷ []))
+        (sym (row_at-longer node.rows i within))
+        (tied_new n node.parameters row p q at.0 (at.1 ∙ ap (λ (j : ℕ). n + 1 + j) (sym size)) size fl)
+
+    sized : (p : List ℤ) → length p ≡ node.parameters → Sized (n + 1 + length p) node.rows
+    sized p size = subst (λ (j : ℕ). Sized (n + 1 + j) node.rows) (sym size) is.tableau.sized
+
+    forth : (p x : List ℤ) (q : ℤ) → IsNodeSolution n (bound_node n node f d new low high) (p ++ q ∷ []) x
+        → IsNodeSolution n node p x × IsFloor (value_of f p) d q
+    forth p x q h =
+        let size = size_of p q h.context.size in
+        let both = (here p q size).0 h.context in
+        let s = cut_back n (map longer_row node.rows) (new ∷ []) (p ++ q ∷ []) x longer.many h.solution in
+        (record { context = both.0; solution = longer_back n node.rows p x q (sized p size) s }, both.1)
+
+    back : (p x : List ℤ) (q : ℤ) → IsNodeSolution n node p x × IsFloor (value_of f p) d q
+        → IsNodeSolution n (bound_node n node f d new low high) (p ++ q ∷ []) x
+    back p x q h =
+        let size = h.0.context.size in
+        let s = longer_forth n node.rows p x q (sized p size) h.0.solution in
+        record {
+          context = (here p q size).1 (h.0.context, h.1);
+          solution =
+              (cut_keeps_solutions n (suc node.parameters) i (Some (n + 1 + node.parameters))
+              (map longer_row node.rows) new longer
+              (simp length-map within) (omega arith) cut_longer (p ++ q ∷ []) (simp length-append (omega arith))
+              (tied p q size h.1) x).0 s;
+        }
+
+pub gone_on : (n : ℕ) (node : Node) (new : Row)
+    → IsNode n (with_rows node (node.rows ++ new ∷ []))
+    × ((p x : List ℤ) → IsNodeSolution n node p x ↔ IsNodeSolution n (with_rows node (node.rows ++ new ∷ [])) p x)
+    → LeadsOn n node.parameters (goes (with_rows node (node.rows ++ new ∷ [])))
+    × KeepsSolutions n node (goes (with_rows node (node.rows ++ new ∷ [])))
+gone_on n node new h = ((h.0, refl), h.1)
+
+pub cut_keeps : (n left : ℕ) (node : Node) (i : ℕ) (next : Next) (l : ℕ) → IsNode n node → i < n
+    → cut n left node i ≡ Ok (next, l) → LeadsOn n node.parameters next × KeepsSolutions n node next
+cut_keeps n left node i next l is below h =
+    let c = paid-ok left (λ (rest : ℕ).
+    if all_zero (taken_off n (row_at node.rows i)).coefficients
+    then formed left (cut_run n None (row_at node.rows i))
+    (λ new. Ok (goes (with_rows node (node.rows ++ new ∷ [])), rest))
+    else cut_bound n left rest node i
+    (place_of (taken_off n (row_at node.rows i)) (row_at node.rows i).denominator node.bounds)) next l h in
+    by_form c.0 (all_zero (taken_off n (row_at node.rows i)).coefficients) refl c.1
+  where
+    known : (k : ℕ) → place_of (taken_off n (row_at node.rows i)) (row_at node.rows i).denominator node.bounds ≡ Some k
+        → n + 1 + k < n + 1 + node.parameters
+    known k e =
+        let w = place_within (taken_off n (row_at node.rows i)) (row_at node.rows i).denominator node.parameters
+        node.bounds k is.placed e in omega arith
+
+    row : Row
+    row = row_at node.rows i
+
+    at : (pos 0 <ℤ (row_at node.rows i).denominator) × (length (row_at node.rows i).entries ≡ n + 1 + node.parameters)
+    at = sized_at (n + 1 + node.parameters) node.rows i (let k = is.tableau.many in omega arith) is.tableau.sized
+
+    by_place : (rest : ℕ) (place : Option ℕ)
+        → place_of (taken_off n (row_at node.rows i)) (row_at node.rows i).denominator node.bounds ≡ place
+        → cut_bound n left rest node i place ≡ Ok (next, l)
+        → LeadsOn n node.parameters next × KeepsSolutions n node next
+    by_place rest (Some k) e h =
+        let d = formed-ok left (cut_run n (Some (n + 1 + k)) row)
+        (λ (new : Row). Ok (goes (with_rows node (node.rows ++ new ∷ [])), rest)) next l h in
+        let g = same_first (goes (with_rows node (node.rows ++ d.0 ∷ []))) next rest l d.2 in
+        subst (λ (k : Next). LeadsOn n node.parameters k × KeepsSolutions n node k) g
+        (gone_on n node d.0 (cut_old_keeps n node i (Some (n + 1 + k)) d.0 is below d.1 (known k e)
+        (λ p here ys size. let said = place-says p (taken_off n row) row.denominator node.bounds k (is.bound p here)
+        e in
+        subst (λ (z : ℤ). IsFloor (value_of (taken_off n row) p) row.denominator z)
+        (sym (subst (λ (j : ℕ). get_or (ys ++ pos 1 ∷ p) (j + 1 + k) (pos 0) ≡ get_or p k (pos 0)) size
+        (get_or-behind ys p k) ∙ said.1))
+        (floor_is (value_of (taken_off n row) p) row.denominator at.0))))
+    by_place rest None e h =
+        let f = taken_off n row in
+        let d = row.denominator in
+        let a = formed-ok left (cut_run n (Some (n + 1 + node.parameters)) (longer_row row)) (λ (new : Row).
+        formed left (at_least_run d f)
+        (λ low. formed left (under_run d f) (λ high. Ok (binds f d (bound_node n node f d new low high), rest))))
+        next l h in
+        let b = formed-ok left (at_least_run d f) (λ (low : Affine).
+        formed left (under_run d f) (λ high. Ok (binds f d (bound_node n node f d a.0 low high), rest))) next l
+        a.2 in
+        let c = formed-ok left (under_run d f)
+        (λ (high : Affine). Ok (binds f d (bound_node n node f d a.0 b.0 high), rest)) next l b.2 in
+        let g = same_first (binds f d (bound_node n node f d a.0 b.0 c.0)) next rest l c.2 in
+        subst (λ (k : Next). LeadsOn n node.parameters k × KeepsSolutions n node k) g
+        (cut_new_keeps n node i a.0 b.0 c.0 is below a.1 b.1 c.1)
+
+    by_form : (rest : ℕ) (b : Bool) → all_zero (taken_off n (row_at node.rows i)).coefficients ≡ b
+        → (if b then formed left (cut_run n None (row_at node.rows i))
+        (λ new. Ok (goes (with_rows node (node.rows ++ new ∷ [])), rest))
+        else cut_bound n left rest node i
+        (place_of (taken_off n (row_at node.rows i)) (row_at node.rows i).denominator node.bounds)) ≡ Ok (next, l)
+        → LeadsOn n node.parameters next × KeepsSolutions n node next
+    by_form rest true e h =
+        let d = formed-ok left (cut_run n None row)
+        (λ (new : Row). Ok (goes (with_rows node (node.rows ++ new ∷ [])), rest)) next l h in
+        let g = same_first (goes (with_rows node (node.rows ++ d.0 ∷ []))) next rest l d.2 in
+        subst (λ (k : Next). LeadsOn n node.parameters k × KeepsSolutions n node k) g
+        (gone_on n node d.0 (cut_old_keeps n node i None d.0 is below d.1 tt
+        (λ p here ys size. let v = value-constant (taken_off n row) p e in
+        let c = cut_constant n row.denominator row.entries at.0 in
+        let low = c.0 in
+        let high = c.1 in
+        let z = mul_zero_left row.denominator in
+        record { below = omega (arith, ints); above = omega (arith, ints) })))
+    by_form rest false e h = by_place rest (place_of (taken_off n row) row.denominator node.bounds) refl h
+
+-- a node that ends
+pub ended : (n : ℕ) (node : Node) (tree : Tree) (next : Next) (k l : ℕ) → TreeSpeaks node.parameters tree
+    → ◌≡◌ {A = Counted Next} (Ok (ends tree, k)) (Ok (next, l))
+    → LeadsOn n node.parameters next × KeepsSolutions n node next
+ended n node tree next k l speaks h =
+    subst (λ (w : Next). LeadsOn n node.parameters w × KeepsSolutions n node w) (same_first (ends tree) next k l h)
+    (speaks, tt)
+
+-- a step
+pub treated_keeps : (n left : ℕ) (node : Node) (r : Option ℕ) (next : Next) (l : ℕ) → IsNode n node
+    → IsAsked (λ l row. below_somewhere l node (part_of n row)) 0 node.rows r → treated n left node r ≡ Ok (next, l)
+    → LeadsOn n node.parameters next × KeepsSolutions n node next
+treated_keeps n left node (Some r) next l is asked h =
+    let f = part_of n (row_at node.rows r) in
+    let c = chained-ok (above_somewhere left node f) (λ (yes : Bool) (rest : ℕ).
+    if yes then split rest node f else pivot_or_empty n rest node r) next l h in
+    let a = asked.1 in
+    let b = asked.2 in
+    let within : r < length node.rows = omega arith in
+    let at = sized_at (n + 1 + node.parameters) node.rows r within is.tableau.sized in
+    let size : length f.coefficients ≡ node.parameters =
+    let d = length-drop (n + 1) (row_at node.rows r).entries in let e = at.1 in omega arith in
+    by_answer within size c.0 c.1 c.3
+  where
+    by_entries : (k : ℕ) → r < length node.rows → (b : Bool)
+        → (if b then pivot n k node r else Ok (ends initial, k)) ≡ Ok (next, l)
+        → LeadsOn n node.parameters next × KeepsSolutions n node next
+    by_entries k within true h = pivot_keeps n k node r next l is within h
+    by_entries k within false h = ended n node initial next k l tt h
+
+    by_answer : r < length node.rows → length (part_of n (row_at node.rows r)).coefficients ≡ node.parameters
+        → (yes : Bool) (k : ℕ)
+        → (if yes then split k node (part_of n (row_at node.rows r)) else pivot_or_empty n k node r) ≡ Ok (next, l)
+        → LeadsOn n node.parameters next × KeepsSolutions n node next
+    by_answer within size true k h = split_keeps n k node (part_of n (row_at node.rows r)) next l is size h
+    by_answer within size false k h = by_entries k within (some_positive (row_at node.rows r) 0 n) h
+treated_keeps n left node None next l is asked h =
+    let test : ℕ → Row → Counted Bool = λ l row. broken_somewhere l node row.denominator (part_of n row) in
+    let us = take n node.rows in
+    let c = chained-ok (first_asked test left 0 us) (λ (i : Option ℕ) (rest : ℕ). cut_or_leaf n rest node i) next l
+    h in
+    by_row c.0 c.1 (first_asked-says test left 0 us c.0 c.1 c.2) c.3
+  where
+    by_row : (i : Option ℕ) (k : ℕ)
+        → IsAsked (λ l row. broken_somewhere l node row.denominator (part_of n row)) 0 (take n node.rows) i
+        → cut_or_leaf n k node i ≡ Ok (next, l) → LeadsOn n node.parameters next × KeepsSolutions n node next
+    by_row None k found h =
+        ended n node (leaf_tree n node.parameters 0 (take n node.rows) []) next k l
+        (leaf_tree-speaks n node.parameters 0 (n + 1 + node.parameters) (take n node.rows) [] tt
+        (sized_take n (n + 1 + node.parameters) node.rows is.tableau.sized) (omega arith) (omega arith)) h
+    by_row (Some i) k found h =
+        let a = found.1 in
+        let b = found.2 in
+        let count = length-take-le n node.rows is.tableau.many in
+        cut_keeps n k node i next l is (omega arith) h
+
+pub looked_keeps : (n left : ℕ) (node : Node) (next : Next) (l : ℕ) → IsNode n node → looked n left node ≡ Ok (next, l)
+    → LeadsOn n node.parameters next × KeepsSolutions n node next
+looked_keeps n left node next l is h =
+    let test : ℕ → Row → Counted Bool = λ l row. below_somewhere l node (part_of n row) in
+    let c = chained-ok (first_asked test left 0 node.rows) (λ (r : Option ℕ) (rest : ℕ). treated n rest node r) next l
+    h in
+    treated_keeps n c.1 node c.0 next l is (first_asked-says test left 0 node.rows c.0 c.1 c.2) c.3
+
+pub step_keeps : (n left : ℕ) (node : Node) (next : Next) (l : ℕ) → IsNode n node → step n left node ≡ Ok (next, l)
+    → LeadsOn n node.parameters next × KeepsSolutions n node next
+unfolding step
+step_keeps n left node next l is h = by_begin node.begins h
+  where
+    by_answer : (yes : Bool) (k : ℕ) → (if yes then looked n k node else Ok (ends initial, k)) ≡ Ok (next, l)
+        → LeadsOn n node.parameters next × KeepsSolutions n node next
+    by_answer true k h = looked_keeps n k node next l is h
+    by_answer false k h = ended n node initial next k l tt h
+
+    by_begin : (b : Bool) → (if b
+        then chained (context_holds left node.parameters node.context)
+        (λ yes rest. if yes then looked n rest node else Ok (ends initial, rest))
+        else looked n left node) ≡ Ok (next, l) → LeadsOn n node.parameters next × KeepsSolutions n node next
+    by_begin true h =
+        let c = chained-ok (context_holds left node.parameters node.context) (λ (yes : Bool) (rest : ℕ).
+        if yes then looked n rest node else Ok (ends initial, rest)) next l h in
+        by_answer c.0 c.1 c.3
+    by_begin false h = looked_keeps n left node next l is h
+
+pub step_nodes : (n left : ℕ) (node : Node) (next : Next) (l : ℕ) → IsNode n node → step n left node ≡ Ok (next, l)
+    → LeadsOn n node.parameters next
+step_nodes n left node next l is h = (step_keeps n left node next l is h).0
+
+pub step_solutions : (n left : ℕ) (node : Node) (next : Next) (l : ℕ) → IsNode n node → step n left node ≡ Ok (next, l)
+    → KeepsSolutions n node next
+step_solutions n left node next l is h = (step_keeps n left node next l is h).1
+
+-- the first node
+pub first_is_node : (n m : ℕ) (fs context : List Affine) → Speaks (n + m) fs → Speaks m context
+    → IsNode n (first_node m (problem_of n fs) context)
+first_is_node n m fs context speaks about =
+    record { tableau = first_tableau n m fs speaks; speaks = about; placed = tt; bound = λ p h. tt }
+
+pub first_node_solutions : (n m : ℕ) (fs context : List Affine) → Speaks (n + m) fs → (p x : List ℤ)
+    → IsNodeSolution n (first_node m (problem_of n fs) context) p x
+    ↔ (IsInContext (first_node m (problem_of n fs) context) p × IsPoint (problem_of n fs) p x)
+first_node_solutions n m fs context speaks p x = (
+  λ h. (h.context, (first_solutions n m fs speaks p x h.context.size).1 h.solution),
+  λ h. record { context = h.0; solution = (first_solutions n m fs speaks p x h.0.size).0 h.1 },
+)
+
+-- the tree of a run speaks of its node's parameters
+pub tree-speaks : (n k left : ℕ) (node : Node) (tree : Tree) (l : ℕ) → IsNode n node
+    → tree_run n k left node ≡ Ok (tree, l)
+    → TreeSpeaks node.parameters tree
+tree-speaks n zero left node tree l is h = cc
+tree-speaks n (suc k) left node tree l is h =
+    let c = chained-ok (step n left node) (λ (next : Next) (rest : ℕ). followed (tree_run n k) next rest) tree l h in
+    by_next c.0 c.1 (step_keeps n left node c.0 c.1 is c.2).0 c.3 (λ b d t e q g. tree-speaks n k b d t e q g)
+  where
+    by_next : (next : Next) (rest : ℕ) → LeadsOn n node.parameters next
+        → followed (tree_run n k) next rest ≡ Ok (tree, l)
+        → ((left : ℕ) (m : Node) (t : Tree) (e : ℕ) → IsNode n m → tree_run n k left m ≡ Ok (t, e) → TreeSpeaks
+        m.parameters t)
+        → TreeSpeaks node.parameters tree
+    by_next (ends t) rest on h more = subst (TreeSpeaks node.parameters) (same_first t tree rest l h) on
+    by_next (goes m) rest on h more = subst (λ (j : ℕ). TreeSpeaks j tree) on.1 (more rest m tree l on.0 h)
+    by_next (binds f d m) rest on h more =
+        let c = chained-ok (tree_run n k rest m) (λ (t : Tree) (end : ℕ). Ok (bind f d t, end)) tree l h in
+        subst (TreeSpeaks node.parameters) (same_first (bind f d c.0) tree c.1 l c.3) (
+          on.2,
+          on.3,
+          subst (λ (j : ℕ). TreeSpeaks j c.0) (on.1 ∙ sym (add-one node.parameters))
+              (more rest m c.0 c.1 on.0 c.2),
+        )
+    by_next (splits f a b) rest on h more =
+        let c = chained-ok (tree_run n k rest a)
+        (λ (t : Tree) (end : ℕ). chained (tree_run n k end b) (λ u stop. Ok (branch f t u, stop))) tree l h in
+        let d = chained-ok (tree_run n k c.1 b) (λ (u : Tree) (stop : ℕ). Ok (branch f c.0 u, stop)) tree l c.3 in
+        subst (TreeSpeaks node.parameters) (same_first (branch f c.0 d.0) tree d.1 l d.3) (
+          on.4,
+          subst (λ (j : ℕ). TreeSpeaks j c.0) on.2 (more rest a c.0 c.1 on.0 c.2),
+          subst (λ (j : ℕ). TreeSpeaks j d.0) on.3 (more c.1 b d.0 d.1 on.1 d.2),
+        )
+
+pub lexmin-speaks : (budget n m : ℕ) (fs context : List Affine) (tree : Tree) (l : ℕ) → Speaks (n + m) fs
+    → Speaks m context
+    → lexmin_run budget m (problem_of n fs) context ≡ Ok (tree, l) → TreeSpeaks m tree
+unfolding lexmin_run whole
+lexmin-speaks budget n m fs context tree l speaks about h =
+    tree-speaks n (suc budget) budget (first_node m (problem_of n fs) context) tree l
+    (first_is_node n m fs context speaks about) h

@@ -1,0 +1,10 @@
+pub mod Verdicts
+pub mod Longer
+pub mod Asking
+pub mod Leaves
+pub mod Speaking
+pub mod Cuts
+pub mod Trees
+pub mod Kept
+pub mod Steps
+pub mod Emptiness

@@ -1,0 +1,11 @@
+//! The run of parametric integer programming: nodes, splits, cuts with new parameters, and the tree of
+//! answers, with the laws that they obey. P. Feautrier, "Parametric integer programming", RAIRO Recherche
+//! opérationnelle 22(3), 1988.
+#![tactic(auto)]
+
+mod laws;
+
+pub use laws::{
+    emptiness_is_answered_right, runs_begin_with_their_problem, runs_go_on_by_steps,
+    steps_keep_the_solutions, trees_are_right,
+};

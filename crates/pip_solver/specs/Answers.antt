@@ -1,0 +1,87 @@
+use Rattle.std.specs.Prelude.{◌≡◌, ℕ, suc, ◌+◌, ◌⊎◌, ◌<◌, length, Bool, List, [], ◌∷◌, ◌++◌, None, Result, Ok, Err, ⊤}
+use Rattle.wide_math.specs.declared.Wide.{Wide}
+use Rattle.wide_math.specs.Checked.{◌>>=◌}
+use Rattle.whole_numbers.specs.Affine.{Affine}
+use Rattle.affine_forms.specs.declared.stop.FormStop.{FormStop}
+use Rattle.affine_forms.specs.declared.stop.FormStop.TheVariants as form_stop
+use Rattle.lexmin_runs.specs.Emptiness.{negated_run, posed_run, emptied, empty_run}
+use Rattle.integer_sets.specs.Constraints.{Constraints, variables_in}
+use Rattle.tableau_rows.specs.Problem.{problem_of}
+use Rattle.checked_tableau.specs.declared.problem.Problem.{Problem}
+use Rattle.pip_solver.specs.declared.stop.Stop.TheVariants as solver
+use Rattle.tableau_rows.specs.Run as run
+use Rattle.tableau_rows.specs.Run.{Step, Verdict, Outcome}
+use Rattle.tableau_rows.specs.Moves.{pivot_run}
+use Rattle.lexmin_runs.specs.Nodes.{Counted, answered}
+use Rattle.checked_tableau.specs.Table.{Table, table_of}
+use Rattle.pip_solver.specs.declared.question.Step.TheVariants as step
+use Rattle.pip_solver.specs.declared.question.QuestionStop.{QuestionStop}
+use Rattle.pip_solver.specs.declared.question.QuestionStop.TheVariants as stop
+
+-- the code's step is the run's, on one of the rows
+abbrev pub Shows : step.the_data → Table → Type 0
+Shows (step.Ends found) t = (v : Verdict) × (run.next t.unknowns t.rows ≡ run.ends v) × (answered (Ok (v, 0)) ≡ Ok (found, 0))
+Shows (step.Pivots row) t = (run.next t.unknowns t.rows ≡ run.pivots row) × (row < length t.rows)
+Shows (step.Cuts row) t = (run.next t.unknowns t.rows ≡ run.cuts row) × (row < length t.rows)
+
+-- a pivot leaves the run's rows, or names the number that is too wide
+abbrev pub PivotsOn : {U : Type 0} → Table → ℕ → Table → Result U Wide → Type 0
+PivotsOn old row new (Ok _) =
+    (pivot_run old.unknowns old.rows row ≡ Ok new.rows) × (new ≡ table_of old.unknowns old.parameters new.rows None)
+PivotsOn old row new (Err w) = pivot_run old.unknowns old.rows row ≡ Err w
+
+-- an answer, with what is left of the budget, is the run's; want of memory is free
+abbrev pub Tells : Result Bool QuestionStop → ℕ → Counted Bool → Type 0
+Tells (Ok found) left counted = counted ≡ Ok (found, left)
+Tells (Err stop.Wide) left counted = (w : Wide) × (counted ≡ Err (run.wide w left))
+Tells (Err stop.Spent) left counted = (counted ≡ Err run.spent) × (left ≡ 0)
+Tells (Err stop.NoMemory) left counted = ⊤
+
+-- a move of a question: its run goes on with one move less, or stops so
+abbrev pub Advances : {U : Type 0} → Table → ℕ → Table → ℕ → Result U QuestionStop → Type 0
+Advances old left new rest (Ok _) =
+    (left ≡ suc rest) × (new.stopped ≡ None) × (new.unknowns ≡ old.unknowns)
+    × (run.run old.unknowns left old.rows ≡ run.run old.unknowns rest new.rows)
+Advances old left new rest (Err stop.Wide) = (w : Wide) × (run.run old.unknowns left old.rows ≡ Err (run.wide w rest))
+Advances old left new rest (Err stop.Spent) = (run.run old.unknowns left old.rows ≡ Err run.spent) × (rest ≡ 0)
+Advances old left new rest (Err stop.NoMemory) = ⊤
+
+-- the two rows of an equality
+abbrev pub equality_run : Affine → Result (List Affine) Wide
+equality_run f = negated_run f >>= λ g. Ok (f ∷ g ∷ [])
+
+-- rows that a run gives are appended, or it names the number that is too wide; want of memory is free
+abbrev pub Poses : {U : Type 0} → List Affine → List Affine → Result U FormStop → Result (List Affine) Wide → Type 0
+Poses old new (Ok _) run = (more : List Affine) × (run ≡ Ok more) × (new ≡ old ++ more)
+Poses old new (Err (form_stop.Wide w)) run = run ≡ Err w
+Poses old new (Err form_stop.NoMemory) run = ⊤
+
+-- whether the run finds that a posed problem without parameters has no point
+abbrev pub decided : ℕ → Problem → Counted Bool
+decided budget posed = emptied (run.question budget (problem_of posed.unknowns posed.rows.items))
+
+-- a decision is the run's; a stop tells the problem and the moves made
+abbrev pub Decides : Result Bool solver.the_data → ℕ → Problem → Type 0
+Decides (Ok empty) budget posed = (left : ℕ) × (decided budget posed ≡ Ok (empty, left))
+Decides (Err (solver.Wide told moves)) budget posed =
+    (w : Wide) × (left : ℕ) × (decided budget posed ≡ Err (run.wide w left)) × (moves + left ≡ budget) × (told ≡ posed)
+Decides (Err (solver.Spent told moves)) budget posed =
+    (decided budget posed ≡ Err run.spent) × (moves ≡ budget) × (told ≡ posed)
+Decides (Err solver.NoMemory) budget posed = ⊤
+
+-- the problem that a system poses
+pub record IsPosed (s : Constraints) (posed : Problem) : Type 0 where
+  pub unknowns : posed.unknowns ≡ variables_in s
+  pub parameters : posed.parameters ≡ 0
+  pub rows : posed_run s ≡ Ok posed.rows.items
+  pub context : posed.context.items ≡ []
+
+-- an answer is the run's on the system; a stop tells the posed problem, as far as its numbers fit, and the moves made
+abbrev pub Empties : Result Bool solver.the_data → ℕ → Constraints → Type 0
+Empties (Ok empty) budget s = (left : ℕ) × (empty_run budget s ≡ Ok (empty, left))
+Empties (Err (solver.Wide posed moves)) budget s =
+    (w : Wide) × (left : ℕ) × (empty_run budget s ≡ Err (run.wide w left)) × (moves + left ≡ budget)
+    × (IsPosed s posed ⊎ (posed_run s ≡ Err w))
+Empties (Err (solver.Spent posed moves)) budget s =
+    (empty_run budget s ≡ Err run.spent) × (moves ≡ budget) × IsPosed s posed
+Empties (Err solver.NoMemory) budget s = ⊤

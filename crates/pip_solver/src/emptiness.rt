@@ -1,0 +1,224 @@
+//! Whether a system has no whole point with dimensions from 0 on and parameters in 0..=65536.
+ghost use Rattle.std.specs.Prelude.{◌≡◌, ◌<◌, ◌≤◌, ◌-◌, [], ◌∷◌, set, Ok, negsuc, pos, All, true, false, ℤ, List};
+ghost use Rattle.affine_forms.specs.Gives.{Gives};
+ghost use Rattle.wide_math.specs.Gives.{Becomes};
+ghost use Rattle.whole_numbers.specs.Affine.{form_of};
+ghost use Rattle.affine_forms.specs.Runs.{map_run};
+ghost use Rattle.affine_forms.specs.Parts.{variables_of};
+ghost use Rattle.integer_sets.specs.Constraints.{IsSized, variables_in};
+ghost use Rattle.wide_math.specs.Checked.{difference_of};
+ghost use Rattle.whole_numbers.specs.Lists.{zeros};
+ghost use Rattle.lexmin_runs.specs.Emptiness.{negated_run, equality_rows_run, bound_rows, posed_run, IsBoundedPoint, HasBoundedPoint};
+ghost use Rattle.pip_solver.specs.Answers.{Decides, Empties, Poses, equality_run};
+
+use crate::question::{QuestionStop, question};
+use crate::stop::Stop;
+use affine_forms::{Form, FormStop};
+use checked_tableau::{Problem, Rows};
+use integer_sets::System;
+use std::alloc::Global;
+use wide_math::{Wide, sub};
+
+/// Turns the sign of each number.
+fn oppose(numbers: &mut [i128]) -> Result<(), Wide>
+    ensures { Becomes numbers.new result (map_run (difference_of (pos 0)) numbers.old) }
+{
+    for at in 0..numbers.len() {
+        match sub(0, numbers[at]) {
+            Err(wide) => return Err(wide),
+            Ok(opposite) => numbers[at] = opposite,
+        }
+    }
+    Ok(())
+}
+
+/// The form with each sign turned: the coefficients in order, then the constant.
+fn negated(alloc: Global, form: &Form) -> Result<Form, FormStop>
+    ensures { Gives (λ f. f) result (negated_run form.now) }
+{
+    let mut coefficients = match Vec::from_slice(alloc, form.coefficients()) {
+        Err(_) => return Err(FormStop::NoMemory),
+        Ok(coefficients) => coefficients,
+    };
+    match oppose(&mut coefficients) {
+        Err(wide) => return Err(FormStop::Wide(wide)),
+        Ok(()) => {}
+    }
+    match sub(0, form.constant()) {
+        Err(wide) => Err(FormStop::Wide(wide)),
+        Ok(constant) => Form::of(alloc, &coefficients, constant),
+    }
+}
+
+/// Appends the two rows of an equality: the form, and the form with each sign turned.
+fn pose_equality(alloc: Global, rows: &mut Vec<Form>, form: &Form) -> Result<(), FormStop>
+    ensures { Poses rows.old.items rows.new.items result (equality_run form.now) }
+{
+    let first = match form.copy() {
+        Err(_) => return Err(FormStop::NoMemory),
+        Ok(first) => first,
+    };
+    let second = match negated(alloc, form) {
+        Err(stop) => return Err(stop),
+        Ok(second) => second,
+    };
+    match rows.push(first) {
+        Err(_) => return Err(FormStop::NoMemory),
+        Ok(()) => {}
+    }
+    match rows.push(second) {
+        Err(_) => Err(FormStop::NoMemory),
+        Ok(()) => Ok(()),
+    }
+}
+
+/// Appends the rows of equalities.
+fn pose_equalities(alloc: Global, rows: &mut Vec<Form>, forms: &[Form]) -> Result<(), FormStop>
+    ensures { Poses rows.old.items rows.new.items result (equality_rows_run forms.now) }
+{
+    for form in forms {
+        match pose_equality(alloc, rows, form) {
+            Err(stop) => return Err(stop),
+            Ok(()) => {}
+        }
+    }
+    Ok(())
+}
+
+/// Appends copies of forms.
+fn pose_rows(rows: &mut Vec<Form>, forms: &[Form]) -> Result<(), FormStop>
+    ensures { Poses rows.old.items rows.new.items result (Ok forms.now) }
+{
+    for form in forms {
+        match form.copy() {
+            Err(_) => return Err(FormStop::NoMemory),
+            Ok(copy) => match rows.push(copy) {
+                Err(_) => return Err(FormStop::NoMemory),
+                Ok(()) => {}
+            },
+        }
+    }
+    Ok(())
+}
+
+/// 65536 less a variable.
+fn bound(alloc: Global, variables: usize, place: usize) -> Result<Form, FormStop>
+    requires { place < variables }
+    ensures { Gives (λ f. f) result (Ok (form_of (set (zeros variables) place (negsuc 0)) (pos 65536))) }
+{
+    let mut coefficients = match Vec::from_elem(alloc, 0i128, variables) {
+        Err(_) => return Err(FormStop::NoMemory),
+        Ok(coefficients) => coefficients,
+    };
+    coefficients[place] = -1;
+    Form::of(alloc, &coefficients, 65536)
+}
+
+/// Appends the bounds of the last variables.
+fn pose_bounds(
+    alloc: Global,
+    rows: &mut Vec<Form>,
+    variables: usize,
+    first: usize,
+) -> Result<(), FormStop>
+    requires { first ≤ variables }
+    ensures { Poses rows.old.items rows.new.items result (Ok (bound_rows variables first (variables - first))) }
+{
+    for place in first..variables {
+        let form = match bound(alloc, variables, place) {
+            Err(stop) => return Err(stop),
+            Ok(form) => form,
+        };
+        match rows.push(form) {
+            Err(_) => return Err(FormStop::NoMemory),
+            Ok(()) => {}
+        }
+    }
+    Ok(())
+}
+
+/// Appends the rows of a system: its equalities' pairs, its own, and last the bounds of its parameters.
+fn pose(
+    alloc: Global,
+    rows: &mut Vec<Form>,
+    system: &System,
+    variables: usize,
+) -> Result<(), FormStop>
+    requires { variables ≡ variables_in system.now }
+    ensures poses { Poses rows.old.items rows.new.items result (posed_run system.now) }
+    ensures sized { IsSized variables system.now.equalities system.now.rows }
+{
+    let own = system.rows();
+    match pose_equalities(alloc, rows, system.equalities()) {
+        Err(stop) => return Err(stop),
+        Ok(()) => {}
+    }
+    match pose_rows(rows, own) {
+        Err(stop) => return Err(stop),
+        Ok(()) => {}
+    }
+    pose_bounds(alloc, rows, variables, system.dimensions())
+}
+
+/// Whether the posed rows have no point.
+fn decide(alloc: Global, posed: Problem, budget: u64) -> Result<bool, Stop>
+    requires { All (λ f. variables_of f ≡ posed.unknowns) posed.rows.items }
+    ensures { Decides result budget posed }
+{
+    let mut rows = match Rows::of(alloc, posed.unknowns, 0, &posed.rows) {
+        Err(_) => return Err(Stop::NoMemory),
+        Ok(rows) => rows,
+    };
+    let mut left = budget;
+    match question(&mut rows, &mut left) {
+        Ok(found) => Ok(!found),
+        Err(QuestionStop::Wide) => Err(Stop::Wide {
+            posed,
+            moves: budget - left,
+        }),
+        Err(QuestionStop::Spent) => Err(Stop::Spent {
+            posed,
+            moves: budget,
+        }),
+        Err(QuestionStop::NoMemory) => Err(Stop::NoMemory),
+    }
+}
+
+/// Whether no whole point with dimensions from 0 on and parameters in 0..=65536 satisfies the system, in so many
+/// moves. The posed problem has the dimensions, then the parameters, as its unknowns.
+///
+/// # Errors
+/// `Wide` and `Spent` exactly where the run stops so, after so many moves; `NoMemory`.
+pub fn is_empty(alloc: Global, system: &System, budget: u64) -> Result<bool, Stop>
+    ensures run { Empties result budget system.now }
+    ensures empty { result ≡ Ok true → (x p : List ℤ) → IsBoundedPoint system.now x p → ⊥ }
+    ensures point { result ≡ Ok false → HasBoundedPoint system.now }
+{
+    let unknowns = match system.dimensions().checked_add(system.parameters()) {
+        None => return Err(Stop::NoMemory),
+        Some(unknowns) => unknowns,
+    };
+    let mut rows = Vec::new(alloc);
+    let context = Vec::new(alloc);
+    match pose(alloc, &mut rows, system, unknowns) {
+        Err(FormStop::NoMemory) => Err(Stop::NoMemory),
+        Err(FormStop::Wide(_)) => {
+            let posed = Problem {
+                unknowns,
+                parameters: 0,
+                rows,
+                context,
+            };
+            Err(Stop::Wide { posed, moves: 0 })
+        }
+        Ok(()) => {
+            let posed = Problem {
+                unknowns,
+                parameters: 0,
+                rows,
+                context,
+            };
+            decide(alloc, posed, budget)
+        }
+    }
+}

@@ -1,0 +1,15 @@
+pub mod Invariant
+pub mod Points
+pub mod Pivots
+pub mod Least
+pub mod Lowest
+pub mod Moving
+pub mod Choosing
+pub mod Cutting
+pub mod Keeping
+pub mod Standing
+pub mod Beginning
+pub mod Answering
+pub mod Lines
+pub mod Buffers
+pub mod Views

@@ -1,0 +1,5 @@
+pub mod Rows
+pub mod Moves
+pub mod Solutions
+pub mod Problem
+pub mod Run
