@@ -1,0 +1,8 @@
+use Rattle.std.proofs.Common.{◌≡◌, drop, ◌+◌, ◌≤◌, length}
+use Rattle.fractions.specs.Elimination.{chosen, is_positive}
+use Rattle.fm_projection.proofs.rows.count_positive.Given as goal
+
+abbrev pub invariant-loop-row : goal.invariant-loop-row
+invariant-loop-row l =
+    (l.count + length (chosen is_positive l.variable (drop l.row-index l.rows))
+    ≡ length (chosen is_positive l.variable l.rows)) × (l.count ≤ l.row-index)

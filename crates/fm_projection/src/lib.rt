@@ -1,0 +1,120 @@
+//! The elimination of a variable from a system of affine constraints, exact over fractions: by an equality where one
+//! has the variable, else by pairs of rows (Fourier 1826; Motzkin 1936).
+#![tactic(auto)]
+
+ghost use Rattle.std.specs.Prelude.{◌≡◌, ◌<◌, IfOk, length};
+ghost use Rattle.affine_forms.specs.Gives.{Gives};
+ghost use Rattle.integer_sets.specs.Constraints.{variables_in};
+ghost use Rattle.fm_projection.specs.Gives.{Eliminates};
+ghost use Rattle.fm_projection.specs.Projection.{IsEliminated, IsProjection, IsProjectionOver, IsWithout, Projects};
+ghost use Rattle.fm_projection.specs.Runs.{eliminated_run, place_of};
+
+mod rows;
+#[cfg(test)]
+mod tests;
+
+use affine_forms::FormStop;
+use integer_sets::System;
+use std::alloc::Global;
+use thiserror::Error;
+use wide_math::Wide;
+
+/// Why an elimination stops.
+#[derive(Clone, Copy, Debug, PartialEq, Eq, Error)]
+pub enum FmStop {
+    /// The first number on the way that does not fit 128 bits.
+    #[error("{0}")]
+    Wide(Wide),
+    /// More than 4,096 pairs of rows.
+    #[error("{pairs} pairs of rows")]
+    Crowded { pairs: u128 },
+    /// There is no memory for the result.
+    #[error("out of memory")]
+    NoMemory,
+}
+
+/// The system without a variable, whose column stays with zeros: by the first equality that has it, or else by pairs
+/// of rows. Constraints without the variable come first, in order, and all are in lowest terms.
+///
+/// # Errors
+/// `Crowded` exactly where there is no such equality and more than 4,096 pairs are to be formed, which is told before
+/// any is formed; else `Wide` with the first number on the way that 128 bits do not hold.
+pub fn eliminate(alloc: Global, system: &System, variable: usize) -> Result<System, FmStop>
+    requires { variable < variables_in system.now }
+    ensures run { Eliminates variable system.now result }
+    ensures exact { IfOk result (IsEliminated variable system.now) }
+    ensures points { IfOk result (IsProjection variable system.now) }
+    ensures fractions { IfOk result (IsProjectionOver variable system.now) }
+    ensures without { IfOk result (IsWithout variable) }
+{
+    let place = rows::first_place(system.equalities(), variable);
+    if place < system.equalities().len() {
+        match by_equality(alloc, system, variable, place) {
+            Ok(result) => Ok(result),
+            Err(FormStop::Wide(wide)) => Err(FmStop::Wide(wide)),
+            Err(FormStop::NoMemory) => Err(FmStop::NoMemory),
+        }
+    } else {
+        let positive = rows::count_positive(system.rows(), variable);
+        let negative = rows::count_negative(system.rows(), variable);
+        let pairs = positive as u128 * negative as u128;
+        if pairs > 4096 {
+            return Err(FmStop::Crowded { pairs });
+        }
+        match by_pairs(alloc, system, variable) {
+            Ok(result) => Ok(result),
+            Err(FormStop::Wide(wide)) => Err(FmStop::Wide(wide)),
+            Err(FormStop::NoMemory) => Err(FmStop::NoMemory),
+        }
+    }
+}
+
+fn by_equality(
+    alloc: Global,
+    system: &System,
+    variable: usize,
+    place: usize,
+) -> Result<System, FormStop>
+    requires variable { variable < variables_in system.now }
+    requires place { place ≡ place_of variable system.now.equalities }
+    requires inside { place < length system.now.equalities }
+    ensures run { Gives (λ s. s) result (eliminated_run variable system.now) }
+    ensures law { IfOk result (Projects variable system.now) }
+{
+    let all = system.equalities();
+    let equality = &all[place];
+    match rows::reduce_all(alloc, equality, &all[..place], &all[place + 1..], variable) {
+        Err(stop) => Err(stop),
+        Ok(equalities) => match rows::reduce_all(alloc, equality, &[], system.rows(), variable) {
+            Err(stop) => Err(stop),
+            Ok(rows) => Ok(System::from_parts(
+                system.dimensions(),
+                system.parameters(),
+                equalities,
+                rows,
+            )),
+        },
+    }
+}
+
+fn by_pairs(alloc: Global, system: &System, variable: usize) -> Result<System, FormStop>
+    requires variable { variable < variables_in system.now }
+    requires place { place_of variable system.now.equalities ≡ length system.now.equalities }
+    ensures run { Gives (λ s. s) result (eliminated_run variable system.now) }
+    ensures law { IfOk result (Projects variable system.now) }
+{
+    let mut equalities = Vec::new(alloc);
+    match rows::append_lowest(&mut equalities, system.equalities()) {
+        Err(_) => return Err(FormStop::NoMemory),
+        Ok(()) => {}
+    }
+    match rows::project_all(alloc, system.rows(), variable) {
+        Err(stop) => Err(stop),
+        Ok(rows) => Ok(System::from_parts(
+            system.dimensions(),
+            system.parameters(),
+            equalities,
+            rows,
+        )),
+    }
+}

@@ -1,0 +1,98 @@
+-- Facts on each of the chosen rows, and on each pair.
+use Rattle.std.proofs.Common.{◌≡◌, ℕ, zero, suc, ℤ, pos, negsuc, ◌<ℤ◌, Bool, true, false, List, [], ◌∷◌, ◌++◌}
+use Rattle.std.proofs.Common.{length, ◌↔◌, refl, All, arith}
+use Rattle.std.specs.Prelude.{if◌then◌else◌}
+use Rattle.std.proofs.lemmas.Int.{ints}
+use Rattle.std.proofs.lemmas.Bool.{false≢true}
+use Rattle.std.proofs.Math.Seq.{take-append_seam, drop-append_seam}
+use Rattle.std.proofs.lemmas.List.Elements.{All-append, All-cons, All-nil, All-take, All-drop}
+use Rattle.whole_numbers.specs.Affine.{Affine}
+use Rattle.fractions.specs.Elimination.{coefficient_of, is_zero, is_positive, is_negative, chosen, combined}
+use Rattle.fractions.specs.Elimination.{paired, pairs}
+
+pub All_tail : {X : Type 0} (P : X → Type 0) (x : X) (xs : List X) → All P (x ∷ xs) → All P xs
+All_tail P x xs h k d inside = h (suc k) d (omega arith)
+
+pub All_head : {X : Type 0} (P : X → Type 0) (x : X) (xs : List X) → All P (x ∷ xs) → P x
+All_head P x xs h = h 0 x (omega arith)
+
+-- the fronts of a joined list, and the rest
+pub All-front : {X : Type 0} (P : X → Type 0) (xs ys : List X) → All P (xs ++ ys) → All P xs
+All-front P xs ys h = rw (take-append_seam xs ys) at (All-take P (length xs) (xs ++ ys) h)
+
+pub All-back : {X : Type 0} (P : X → Type 0) (xs ys : List X) → All P (xs ++ ys) → All P ys
+All-back P xs ys h = rw (drop-append_seam xs ys) at (All-drop P (length xs) (xs ++ ys) h)
+
+-- the tests
+pub is_zero_iff : (z : ℤ) → (is_zero z ≡ true) ↔ (z ≡ pos 0)
+is_zero_iff (pos zero) = (λ _. refl, λ _. refl)
+is_zero_iff (pos (suc n)) = (λ h. absurd (false≢true h), λ h. absurd (omega (arith, ints)))
+is_zero_iff (negsuc n) = (λ h. absurd (false≢true h), λ h. absurd (omega (arith, ints)))
+
+pub is_positive_iff : (z : ℤ) → (is_positive z ≡ true) ↔ (pos 0 <ℤ z)
+is_positive_iff (pos zero) = (λ h. absurd (false≢true h), λ h. absurd (omega (arith, ints)))
+is_positive_iff (pos (suc n)) = (λ _. omega (arith, ints), λ _. refl)
+is_positive_iff (negsuc n) = (λ h. absurd (false≢true h), λ h. absurd (omega (arith, ints)))
+
+pub is_negative_iff : (z : ℤ) → (is_negative z ≡ true) ↔ (z <ℤ pos 0)
+is_negative_iff (pos n) = (λ h. absurd (false≢true h), λ h. absurd (omega (arith, ints)))
+is_negative_iff (negsuc n) = (λ _. omega (arith, ints), λ _. refl)
+
+-- each chosen form is one of the list that passes the test
+abbrev pub Passing : (Affine → Type 0) → (ℤ → Bool) → ℕ → Affine → Type 0
+Passing P test i f = test (coefficient_of i f) ≡ true → P f
+
+choice_from : (P : Affine → Type 0) (f : Affine) (b : Bool) (fs : List Affine) → (b ≡ true → P f) → All P fs
+    → All P (if b then f ∷ fs else fs)
+choice_from P f true fs h all = All-cons P f fs (h refl) all
+choice_from P f false fs h all = all
+
+choice_to : (P : Affine → Type 0) (f : Affine) (b : Bool) (fs : List Affine) → All P (if b then f ∷ fs else fs)
+    → (b ≡ true → P f) × All P fs
+choice_to P f true fs all = (λ _. All_head P f fs all, All_tail P f fs all)
+choice_to P f false fs all = (λ h. absurd (false≢true h), all)
+
+pub chosen_from : (P : Affine → Type 0) (test : ℤ → Bool) (i : ℕ) (fs : List Affine)
+    → All (Passing P test i) fs → All P (chosen test i fs)
+chosen_from P test i [] h = All-nil P
+chosen_from P test i (f ∷ fs) h =
+    choice_from P f (test (coefficient_of i f)) (chosen test i fs) (All_head (Passing P test i) f fs h)
+    (chosen_from P test i fs (All_tail (Passing P test i) f fs h))
+
+pub chosen_to : (P : Affine → Type 0) (test : ℤ → Bool) (i : ℕ) (fs : List Affine)
+    → All P (chosen test i fs) → All (Passing P test i) fs
+chosen_to P test i [] h = All-nil (Passing P test i)
+chosen_to P test i (f ∷ fs) h =
+    let c = choice_to P f (test (coefficient_of i f)) (chosen test i fs) h in
+    All-cons (Passing P test i) f fs c.0 (chosen_to P test i fs c.1)
+
+-- each pair
+pub paired_from : (P : Affine → Type 0) (i : ℕ) (p : Affine) (ns : List Affine)
+    → All (λ n. P (combined i p n)) ns → All P (paired i p ns)
+paired_from P i p [] h = All-nil P
+paired_from P i p (n ∷ ns) h =
+    All-cons P (combined i p n) (paired i p ns) (All_head (λ n. P (combined i p n)) n ns h)
+    (paired_from P i p ns (All_tail (λ n. P (combined i p n)) n ns h))
+
+pub paired_to : (P : Affine → Type 0) (i : ℕ) (p : Affine) (ns : List Affine)
+    → All P (paired i p ns) → All (λ n. P (combined i p n)) ns
+paired_to P i p [] h = All-nil (λ n. P (combined i p n))
+paired_to P i p (n ∷ ns) h =
+    All-cons (λ n. P (combined i p n)) n ns (All_head P (combined i p n) (paired i p ns) h)
+    (paired_to P i p ns (All_tail P (combined i p n) (paired i p ns) h))
+
+pub pairs_from : (P : Affine → Type 0) (i : ℕ) (ps ns : List Affine)
+    → All (λ p. All (λ n. P (combined i p n)) ns) ps → All P (pairs i ps ns)
+pairs_from P i [] ns h = All-nil P
+pairs_from P i (p ∷ ps) ns h =
+    let Each : Affine → Type 0 = λ q. All (λ n. P (combined i q n)) ns in
+    All-append P (paired i p ns) (pairs i ps ns) (paired_from P i p ns (All_head Each p ps h))
+    (pairs_from P i ps ns (All_tail Each p ps h))
+
+pub pairs_to : (P : Affine → Type 0) (i : ℕ) (ps ns : List Affine)
+    → All P (pairs i ps ns) → All (λ p. All (λ n. P (combined i p n)) ns) ps
+pairs_to P i [] ns h = All-nil (λ q. All (λ n. P (combined i q n)) ns)
+pairs_to P i (p ∷ ps) ns h =
+    All-cons (λ q. All (λ n. P (combined i q n)) ns) p ps
+    (paired_to P i p ns (All-front P (paired i p ns) (pairs i ps ns) h))
+    (pairs_to P i ps ns (All-back P (paired i p ns) (pairs i ps ns) h))

@@ -1,0 +1,74 @@
+-- Contents and lowest terms.
+use Rattle.std.proofs.Common.{◌≡◌, ℕ, zero, suc, ℤ, pos, ◌*ℤ◌, ◌≤ℤ◌, ◌<ℤ◌, List, [], ◌∷◌, get_or, ◌↔◌, refl}
+use Rattle.std.proofs.Common.{sym, ◌∙◌, ap, All, arith}
+use Rattle.std.specs.Prelude.{map}
+use Rattle.std.proofs.lemmas.Int.{ints}
+use Rattle.std.proofs.lemmas.List.Elements.{All-cons, All-nil}
+use Rattle.whole_numbers.specs.Affine.{Affine, multiple_of_form}
+use Rattle.whole_numbers.proofs.Order.{cancel_le, cancel_eq, mul_not_negative}
+use Rattle.whole_numbers.proofs.Ring.{mul_zero_right}
+use Rattle.whole_numbers.specs.Content.{content_of_form, lowest_of_form}
+use Rattle.fractions.specs.Fractions.{value_over, HoldsOver}
+use Rattle.fractions.proofs.Chosen.{All_head, All_tail}
+use Rattle.fractions.proofs.Over.{value_over-multiple}
+use Rattle.whole_numbers.proofs.Lowest.{lowest_of_form_is, lowest_form_stays}
+
+-- lowest terms keep the sign of each value
+abbrev pub SameSign : Affine → Affine → Type 0
+SameSign f g = (d : ℤ) (xs : List ℤ)
+    → ((value_over f d xs ≡ pos 0) ↔ (value_over g d xs ≡ pos 0))
+    × ((pos 0 ≤ℤ value_over f d xs) ↔ (pos 0 ≤ℤ value_over g d xs))
+
+pub lowest_sign : (f : Affine) → SameSign (lowest_of_form f) f
+lowest_sign f = by_content (content_of_form f) refl
+  where
+    by_content : (g : ℕ) → content_of_form f ≡ g → SameSign (lowest_of_form f) f
+    by_content zero e d xs =
+        let same = ap (λ (z : Affine). value_over z d xs) (lowest_form_stays f (omega arith)) in
+        ((λ z. sym same ∙ z, λ z. same ∙ z), (λ z. omega (arith, ints), λ z. omega (arith, ints)))
+    by_content (suc g) e d xs =
+        let k = pos (suc g) in
+        let positive : pos 0 <ℤ k = omega (arith, ints) in
+        let v = value_over (lowest_of_form f) d xs in
+        let whole : f ≡ multiple_of_form k (lowest_of_form f) =
+        lowest_of_form_is f ∙ ap (λ (n : ℕ). multiple_of_form (pos n) (lowest_of_form f)) e in
+        let same = ap (λ (z : Affine). value_over z d xs) whole ∙ value_over-multiple k (lowest_of_form f) d xs in (
+          (
+            λ z. let m = ap (λ (y : ℤ). k *ℤ y) z in same ∙ m ∙ mul_zero_right k,
+            λ z. cancel_eq v (pos 0) k positive (omega (arith, ints)),
+          ),
+          (
+            λ z. let m = mul_not_negative k v (omega (arith, ints)) z in omega (arith, ints),
+            λ z. cancel_le (pos 0) v k positive (omega (arith, ints)),
+          ),
+        )
+
+-- a fact on each image is a fact on each element
+pub map_to : {X Y : Type 0} (P : Y → Type 0) (h : X → Y) (xs : List X) → All P (map h xs) → All (λ x. P (h x)) xs
+map_to P h [] all = All-nil (λ x. P (h x))
+map_to P h (x ∷ xs) all =
+    All-cons (λ x. P (h x)) x xs (All_head P (h x) (map h xs) all) (map_to P h xs (All_tail P (h x) (map h xs) all))
+
+pub map_from : {X Y : Type 0} (P : Y → Type 0) (h : X → Y) (xs : List X) → All (λ x. P (h x)) xs → All P (map h xs)
+map_from P h [] all = All-nil P
+map_from P h (x ∷ xs) all =
+    All-cons P (h x) (map h xs) (All_head (λ x. P (h x)) x xs all)
+    (map_from P h xs (All_tail (λ x. P (h x)) x xs all))
+
+-- equalities and rows in lowest terms hold at the same points
+pub lowest_holds : (es rs : List Affine) (d : ℤ) (xs : List ℤ)
+    → HoldsOver (map lowest_of_form es) (map lowest_of_form rs) d xs ↔ HoldsOver es rs d xs
+lowest_holds es rs d xs =
+    let Zero : Affine → Type 0 = λ f. value_over f d xs ≡ pos 0 in
+    let Least : Affine → Type 0 = λ f. pos 0 ≤ℤ value_over f d xs in (
+      λ h. (
+        λ k e inside. (lowest_sign (get_or es k e) d xs).0.0 (map_to Zero lowest_of_form es h.0 k e inside),
+        λ k e inside. (lowest_sign (get_or rs k e) d xs).1.0 (map_to Least lowest_of_form rs h.1 k e inside),
+      ),
+      λ h. (
+        map_from Zero lowest_of_form es (λ k e inside. (lowest_sign (get_or es k e) d xs).0.1 (h.0 k e inside)),
+        map_from Least lowest_of_form rs (λ k e inside. (lowest_sign (get_or rs k e) d xs).1.1 (h.1 k e inside)),
+      ),
+    )
+
+pub ruleset sign_laws = (lowest_sign)

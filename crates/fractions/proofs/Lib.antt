@@ -1,0 +1,15 @@
+pub mod Over
+pub mod Best
+pub mod Chosen
+pub mod Content
+pub mod Reduce
+pub mod Combination
+pub mod Implied
+pub mod Matching
+pub mod Project
+pub mod Eliminated
+pub mod Absent
+pub mod Chain
+pub mod Dropping
+pub mod Leaving
+pub mod Homogeneous
