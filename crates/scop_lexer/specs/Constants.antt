@@ -1,0 +1,67 @@
+-- Integer constants (C17 6.4.4.1): `0`, decimals without a leading zero, hexadecimals, each with or
+-- without the suffix of `unsigned long long`.
+use Rattle.std.specs.Prelude.{ℕ, ◌+◌, ◌-◌, ◌*◌, ◌^◌, Bool, true, false, ◌==◌, ◌||◌, ◌&&◌, nat_le, nat_lt}
+use Rattle.std.specs.Prelude.{if◌then◌else◌, List, [], ◌∷◌, length, drop, get_or, codes, Option, Some, None}
+use Rattle.std.specs.List.{list_any, prefix_len, take_while}
+use Rattle.std.specs.Str.{bytes_eq}
+use Rattle.scop_lexer.specs.Bytes.{Text, is_digit}
+use Rattle.scop_lexer.specs.declared.token.Kind.{Kind}
+use Rattle.scop_lexer.specs.declared.token.Kind.TheVariants.{Constant}
+use Rattle.scop_lexer.specs.declared.token.FaultKind.TheVariants.{LiteralRange}
+use Rattle.scop_lexer.specs.declared.stand.Stand.{Stand}
+use Rattle.scop_lexer.specs.declared.stand.Stand.TheVariants.{Lexeme, Wrong}
+
+-- 0 to 9, a to f or A to F
+abbrev pub is_hex_digit : ℕ → Bool
+is_hex_digit b = is_digit b || (nat_le 97 b && nat_le b 102) || (nat_le 65 b && nat_le b 70)
+
+-- the number that a hexadecimal digit stands for
+abbrev pub digit_value : ℕ → ℕ
+digit_value b = if nat_le b 57 then b - 48 else (if nat_le b 70 then b - 55 else b - 87)
+
+-- the number that digits of a base write behind those of n
+abbrev pub number_behind : ℕ → ℕ → Text → ℕ
+number_behind base n [] = n
+number_behind base n (b ∷ bs) = number_behind base (base * n + digit_value b) bs
+
+-- `u` or `U` and `ll` or `LL`, in either order
+abbrev pub suffixes : List Text
+suffixes = codes "ull" ∷ codes "uLL" ∷ codes "Ull" ∷ codes "ULL" ∷ codes "llu" ∷ codes "llU" ∷ codes "LLu"
+    ∷ codes "LLU" ∷ []
+
+-- the text is such a suffix
+abbrev pub is_suffix : Text → Bool
+is_suffix text = list_any (λ suffix. bytes_eq suffix text) suffixes
+
+-- a constant of this value with this text behind its digits, where it is at most the limit without a suffix
+abbrev pub with_suffix : ℕ → ℕ → Text → Option Kind
+with_suffix limit value [] = if nat_le value limit then Some (Constant value false) else None
+with_suffix limit value (b ∷ bs) = if is_suffix (b ∷ bs) && nat_lt value (2 ^ 64)
+    then Some (Constant value true) else None
+
+-- a constant by its longest run of digits of a base, of which there are some
+abbrev pub constant_in : ℕ → (ℕ → Bool) → ℕ → Text → Option Kind
+constant_in base test limit text = if prefix_len test text == 0 then None
+    else with_suffix limit (number_behind base 0 (take_while test text)) (drop (prefix_len test text) text)
+
+-- `0x` or `0X` stands in front
+abbrev pub is_hexadecimal : Text → Bool
+is_hexadecimal word = get_or word 0 0 == 48 && (get_or word 1 0 == 120 || get_or word 1 0 == 88)
+
+-- a zero stands in front of another digit
+abbrev pub is_octal : Text → Bool
+is_octal word = get_or word 0 0 == 48 && is_digit (get_or word 1 0)
+
+-- the constant that a word is
+abbrev pub constant_of : Text → Option Kind
+constant_of word = if is_hexadecimal word then constant_in 16 is_hex_digit (2 ^ 64 - 1) (drop 2 word)
+    else (if is_octal word then None else constant_in 10 is_digit (2 ^ 63 - 1) word)
+
+-- what stands in front where a word begins with a digit
+abbrev pub numeral_stands_as : Option Kind → ℕ → Stand
+numeral_stands_as (Some kind) n = Lexeme kind n
+numeral_stands_as None n = Wrong LiteralRange 0
+
+-- a word that begins with a digit
+abbrev pub numeral_stands : Text → Stand
+numeral_stands word = numeral_stands_as (constant_of word) (length word)

@@ -1,0 +1,34 @@
+-- Words: keywords, names of types and names (C17 6.4.1 and 6.4.2.1).
+use Rattle.std.specs.Prelude.{nat_le, if◌then◌else◌, List, [], ◌∷◌, length, codes}
+use Rattle.std.specs.List.{list_any}
+use Rattle.std.specs.Str.{bytes_eq}
+use Rattle.scop_lexer.specs.Bytes.{Text}
+use Rattle.scop_lexer.specs.declared.token.Kind.{Kind}
+use Rattle.scop_lexer.specs.declared.token.Kind.TheVariants.{Void, For, If, Int64, Uint64, Keyword, Name}
+use Rattle.scop_lexer.specs.declared.token.FaultKind.TheVariants.{Character}
+use Rattle.scop_lexer.specs.declared.stand.Stand.{Stand}
+use Rattle.scop_lexer.specs.declared.stand.Stand.TheVariants.{Lexeme, Wrong}
+
+-- the keywords of C17 6.4.1 that no kernel has
+abbrev pub other_keywords : List Text
+other_keywords = codes "auto" ∷ codes "break" ∷ codes "case" ∷ codes "char" ∷ codes "const" ∷ codes "continue"
+    ∷ codes "default" ∷ codes "do" ∷ codes "double" ∷ codes "else" ∷ codes "enum" ∷ codes "extern" ∷ codes "float"
+    ∷ codes "goto" ∷ codes "inline" ∷ codes "int" ∷ codes "long" ∷ codes "register" ∷ codes "restrict"
+    ∷ codes "return" ∷ codes "short" ∷ codes "signed" ∷ codes "sizeof" ∷ codes "static" ∷ codes "struct"
+    ∷ codes "switch" ∷ codes "typedef" ∷ codes "union" ∷ codes "unsigned" ∷ codes "volatile" ∷ codes "while"
+    ∷ codes "_Alignas" ∷ codes "_Alignof" ∷ codes "_Atomic" ∷ codes "_Bool" ∷ codes "_Complex" ∷ codes "_Generic"
+    ∷ codes "_Imaginary" ∷ codes "_Noreturn" ∷ codes "_Static_assert" ∷ codes "_Thread_local" ∷ []
+
+-- the kind of a word that begins with a letter
+abbrev pub kind_of_word : Text → Kind
+kind_of_word word = if bytes_eq word (codes "void") then Void
+    else if bytes_eq word (codes "for") then For
+    else if bytes_eq word (codes "if") then If
+    else if bytes_eq word (codes "int64_t") then Int64
+    else if bytes_eq word (codes "uint64_t") then Uint64
+    else if list_any (λ keyword. bytes_eq keyword word) other_keywords then Keyword
+    else Name
+
+-- a word that begins with a letter; its 64th byte is wrong (C17 5.2.4.1 asks for 63)
+abbrev pub word_stands : Text → Stand
+word_stands word = if nat_le (length word) 63 then Lexeme (kind_of_word word) (length word) else Wrong Character 63

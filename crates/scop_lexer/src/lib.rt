@@ -1,0 +1,25 @@
+//! The tokens of a kernel's text (C17 6.4): names, keywords, constants and signs, each the longest that
+//! stands there, with blanks, comments and directive lines between them; or the text's first fault.
+#![tactic(auto)]
+
+mod bytes;
+mod constants;
+mod gaps;
+mod laws;
+mod lexer;
+mod places;
+mod signs;
+mod stand;
+mod stands;
+#[cfg(test)]
+mod tests;
+mod token;
+mod words;
+
+pub use laws::{
+    first_fault_is_unique, longest_sign_is_told, text_has_tokens_or_a_fault, tokens_are_unique,
+    tokens_exclude_a_fault,
+};
+pub use lexer::{next_token, tokens};
+pub use places::{Place, position};
+pub use token::{Fault, FaultKind, Kind, Punctuator, Stop, Token};

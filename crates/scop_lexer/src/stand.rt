@@ -1,0 +1,16 @@
+//! What stands at a place of a text.
+
+use crate::token::{FaultKind, Kind};
+
+/// What stands at a place of a text, and how many bytes it has.
+#[derive(Clone, Copy, Debug, PartialEq, Eq)]
+pub enum Stand {
+    /// The text's end.
+    End,
+    /// A blank, a comment or a directive line.
+    Gap(usize),
+    /// A token.
+    Lexeme(Kind, usize),
+    /// A fault, so many bytes behind the place.
+    Wrong(FaultKind, usize),
+}

@@ -1,0 +1,150 @@
+//! The tokens of a kernel's text: their kinds, their spans, and what is wrong where a token would begin.
+
+/// The kind of a token.
+#[derive(Clone, Copy, Debug, PartialEq, Eq)]
+pub enum Kind {
+    /// `void`
+    Void,
+    /// `for`
+    For,
+    /// `if`
+    If,
+    /// `int64_t`
+    Int64,
+    /// `uint64_t`
+    Uint64,
+    /// Another keyword of C17.
+    Keyword,
+    /// A name.
+    Name,
+    /// A constant, and whether a suffix makes it unsigned.
+    Constant { value: u64, suffixed: bool },
+    /// A sign.
+    Sign(Punctuator),
+}
+
+/// The signs.
+#[derive(Clone, Copy, Debug, PartialEq, Eq)]
+pub enum Punctuator {
+    /// `(`
+    OpenParenthesis,
+    /// `)`
+    CloseParenthesis,
+    /// `[`
+    OpenBracket,
+    /// `]`
+    CloseBracket,
+    /// `{`
+    OpenBrace,
+    /// `}`
+    CloseBrace,
+    /// `;`
+    Semicolon,
+    /// `,`
+    Comma,
+    /// `~`
+    Tilde,
+    /// `=`
+    Assign,
+    /// `!`
+    Not,
+    /// `*`
+    Star,
+    /// `/`
+    Slash,
+    /// `%`
+    Percent,
+    /// `^`
+    Caret,
+    /// `+`
+    Plus,
+    /// `-`
+    Minus,
+    /// `&`
+    Ampersand,
+    /// `|`
+    Bar,
+    /// `<`
+    Less,
+    /// `>`
+    Greater,
+    /// `==`
+    EqualEqual,
+    /// `!=`
+    NotEqual,
+    /// `*=`
+    StarAssign,
+    /// `/=`
+    SlashAssign,
+    /// `%=`
+    PercentAssign,
+    /// `^=`
+    CaretAssign,
+    /// `+=`
+    PlusAssign,
+    /// `-=`
+    MinusAssign,
+    /// `&=`
+    AmpersandAssign,
+    /// `|=`
+    BarAssign,
+    /// `<=`
+    LessEqual,
+    /// `>=`
+    GreaterEqual,
+    /// `++`
+    PlusPlus,
+    /// `--`
+    MinusMinus,
+    /// `&&`
+    AmpersandAmpersand,
+    /// `||`
+    BarBar,
+    /// `<<`
+    ShiftLeft,
+    /// `>>`
+    ShiftRight,
+    /// `<<=`
+    ShiftLeftAssign,
+    /// `>>=`
+    ShiftRightAssign,
+}
+
+/// A token: its kind, and the span of its bytes in the text.
+#[derive(Clone, Copy, Debug, PartialEq, Eq)]
+pub struct Token {
+    pub kind: Kind,
+    /// The place of its first byte, counted from 0.
+    pub start: usize,
+    /// The place behind its last byte.
+    pub end: usize,
+}
+
+/// What can be wrong with a text's tokens.
+#[derive(Clone, Copy, Debug, PartialEq, Eq)]
+pub enum FaultKind {
+    /// A byte begins no token, or is the 64th of a name.
+    Character,
+    /// A directive line is neither `include` nor `pragma`, or goes on behind its line.
+    Directive,
+    /// A word that begins with a digit is no constant.
+    LiteralRange,
+    /// A comment has no end.
+    UnendedComment,
+}
+
+/// A fault, and the place of the byte where it stands, counted from 0.
+#[derive(Clone, Copy, Debug, PartialEq, Eq)]
+pub struct Fault {
+    pub kind: FaultKind,
+    pub place: usize,
+}
+
+/// Why there are no tokens.
+#[derive(Clone, Copy, Debug, PartialEq, Eq)]
+pub enum Stop {
+    /// The first fault of the text.
+    Refused(Fault),
+    /// There is no memory for the tokens.
+    NoMemory,
+}
