@@ -1,0 +1,11 @@
+pub mod Runs
+pub mod Drives
+pub mod Frames
+pub mod Folding
+pub mod Shapes
+pub mod Reached
+pub mod Fronts
+pub mod Reading
+pub mod Reducing
+pub mod Running
+pub mod Telling

@@ -1,0 +1,61 @@
+-- What an answer says of the tokens, in terms of the grammar alone.
+use Rattle.std.specs.Prelude.{◌≡◌, ℕ, List, [], ◌∷◌, ◌++◌, length, Ok, Err, ⊤}
+use Rattle.expression_grammar.specs.declared.token.Token.{Token}
+use Rattle.expression_grammar.specs.declared.node.Node.{Node}
+use Rattle.expression_grammar.specs.Tree.{Tree, written}
+use Rattle.expression_grammar.specs.Grammar.{Spells, IsFront, IsFrontWithoutLimits}
+use Rattle.expression_grammar.specs.Machine.{Answer, unfit, unended, depth, told_at}
+
+-- no text goes on with the next token
+abbrev pub GoesNoFurther : ℕ → ℕ → List Token → List Token → Type 0
+GoesNoFurther d n front [] = ⊤
+GoesNoFurther d n front (t ∷ rest) = IsFront d n (front ++ t ∷ []) → ⊥
+
+-- no expression is spelled by the tokens
+abbrev pub IsNoExpression : ℕ → ℕ → List Token → Type 0
+IsNoExpression d n ts = (t : Tree) → Spells d n ts t → ⊥
+
+-- the first tokens spell an expression that no text goes on from, and the nodes are its own
+pub record IsRead (d n : ℕ) (ts : List Token) (nodes : List Node) (count : ℕ) : Type 0 where
+  pub front : List Token
+  pub rest : List Token
+  pub split : ts ≡ front ++ rest
+  pub length : count ≡ length front
+  pub tree : Tree
+  pub spells : Spells d n front tree
+  pub written : nodes ≡ written 0 tree
+  pub last : GoesNoFurther d n front rest
+
+-- the token at the place is the first with which no text of the grammar begins so
+pub record IsUnfit (d n : ℕ) (ts : List Token) (at : ℕ) : Type 0 where
+  pub front : List Token
+  pub token : Token
+  pub rest : List Token
+  pub split : ts ≡ front ++ token ∷ rest
+  pub place : at ≡ length front
+  pub fits : IsFront d n front
+  pub unfit : IsFront d n (front ++ token ∷ []) → ⊥
+  pub incomplete : IsNoExpression d n front
+
+-- every token fits, and the text ends too early
+pub record IsUnended (d n : ℕ) (ts : List Token) (at : ℕ) : Type 0 where
+  pub place : at ≡ length ts
+  pub fits : IsFront d n ts
+  pub incomplete : IsNoExpression d n ts
+
+-- the first token with which a text of the grammar begins so, and none within the limits
+pub record IsTooDeep (d n : ℕ) (ts : List Token) (at : ℕ) : Type 0 where
+  pub front : List Token
+  pub token : Token
+  pub rest : List Token
+  pub split : ts ≡ front ++ token ∷ rest
+  pub place : at ≡ told_at token (length front)
+  pub fits : IsFront d n front
+  pub deep : IsFront d n (front ++ token ∷ []) → ⊥
+  pub without_limits : IsFrontWithoutLimits (front ++ token ∷ [])
+
+abbrev pub IsAnswer : ℕ → ℕ → List Token → Answer → Type 0
+IsAnswer d n ts (Ok (nodes, count)) = IsRead d n ts nodes count
+IsAnswer d n ts (Err (unfit, at)) = IsUnfit d n ts at
+IsAnswer d n ts (Err (unended, at)) = IsUnended d n ts at
+IsAnswer d n ts (Err (depth, at)) = IsTooDeep d n ts at

@@ -1,0 +1,11 @@
+//! Expressions of C within limits: the nodes in postfix order of the only tree that the tokens spell, or the
+//! exact first fault. The grammar is in specs/Tree and specs/Grammar, what an answer says in specs/Answers.
+#![tactic(auto)]
+
+mod laws;
+pub mod node;
+pub mod reader;
+mod stack;
+#[cfg(test)]
+mod tests;
+pub mod token;

@@ -1,0 +1,512 @@
+//! The reader of one expression: a machine of one step a token, and the call that runs it over a list of tokens.
+//! Promises the nodes of the only tree that the tokens spell, or the first fault.
+//! E. W. Dijkstra, "Algol 60 translation", Mathematisch Centrum MR 34/61, 1961.
+ghost use Rattle.std.specs.Prelude.{◌≡◌, ℕ, Ok, IfErr, IfOk, OnOk};
+ghost use Rattle.std.specs.Option.{option_map};
+ghost use Rattle.expression_grammar.specs.Tree.{cost, level};
+ghost use Rattle.expression_grammar.specs.Machine.{after, bare_closed, call_opened, cast_closed, cast_word, casting, closed, complete, demand, fits, go, index_opened, leaf, opened, operand, read, reduced, signed, start, step, told_at};
+ghost use Rattle.expression_grammar.specs.declared.node.Mode.TheVariants as mode;
+ghost use Rattle.expression_grammar.specs.Answers.{IsRead};
+ghost use Rattle.expression_grammar.specs.Gives.{Gives, IsStop, pair_of};
+ghost use Rattle.expression_grammar.specs.declared.reader.TheConstants.{MOST_BRACKETS, MOST_OPERATORS};
+ghost use Rattle.expression_grammar.specs.Steps.{ClosesAs, ClosesIndexAs, Completes, HasRoom, JoinsAs, Steps, tight};
+
+use crate::node::{Held, Last, Mode, Node};
+use crate::stack::Stack;
+use crate::token::{Op, Sign, Token};
+use std::alloc::{AllocError, Global};
+use std::marker::Model;
+
+// How tightly an operator binds.
+fn level(op: Op) -> usize
+    ensures { result ≡ level op }
+{
+    match op {
+        Op::Comma => 0,
+        Op::LogicalOr => 1,
+        Op::LogicalAnd => 2,
+        Op::BitOr => 3,
+        Op::BitXor => 4,
+        Op::BitAnd => 5,
+        Op::Equal | Op::NotEqual => 6,
+        Op::Less | Op::AtMost | Op::Greater | Op::AtLeast => 7,
+        Op::ShiftLeft | Op::ShiftRight => 8,
+        Op::Plus | Op::Minus => 9,
+        Op::Times | Op::Divide | Op::Remainder => 10,
+    }
+}
+
+// What an operator counts.
+fn cost(op: Op) -> usize
+    ensures { result ≡ cost op }
+{
+    match op {
+        Op::Comma => 0,
+        _ => 1,
+    }
+}
+
+// The node of an operator that binds tighter than `least`.
+fn tight(least: usize, held: Held) -> Option<Node>
+    ensures { result ≡ tight least held }
+{
+    match held {
+        Held::Binary(op, at) => {
+            if least < level(op) + 1 {
+                Some(Node::Binary(op, at))
+            } else {
+                None
+            }
+        }
+        Held::Unary(sign, at) => {
+            if least < 11 {
+                Some(Node::Unary(sign, at))
+            } else {
+                None
+            }
+        }
+        Held::Cast(at) => {
+            if least < 11 {
+                Some(Node::Cast(at))
+            } else {
+                None
+            }
+        }
+        Held::Group(_) | Held::Index(_) | Held::Call(_) => None,
+    }
+}
+
+// The least level of an operand behind what is held.
+fn demand(held: &Stack) -> usize
+    ensures { result ≡ demand held.now }
+{
+    match held.top() {
+        None => 1,
+        Some(Held::Binary(op, _)) => level(op) + 1,
+        Some(Held::Unary(_, _)) => 11,
+        Some(Held::Cast(_)) => 11,
+        Some(Held::Group(_)) => 1,
+        Some(Held::Index(_)) => 1,
+        Some(Held::Call(_)) => 0,
+    }
+}
+
+// Gives the operators that bind tighter than `least` what is complete as their right operand.
+#[tactic(auto, using(crate::proofs::Reducing::reducing))]
+fn reduce(least: usize, held: &mut Stack, nodes: &mut Vec<Node>) -> Result<(), AllocError>
+    ensures { OnOk result (reduced least held.old nodes.old.items ≡ (held.new, nodes.new.items)) }
+{
+    while let Some(top) = held.pop() {
+        match tight(least, top) {
+            None => return held.push(top),
+            Some(node) => match nodes.push(node) {
+                Err(_) => return Err(AllocError),
+                Ok(()) => {}
+            },
+        }
+    }
+    Ok(())
+}
+
+/// A reader in the midst of an expression.
+#[derive(Debug, Drop)]
+pub struct Reader {
+    mode: Mode,
+    held: Stack,
+    pub nodes: Vec<Node>,
+    at: usize,
+    pub brackets: usize,
+    pub used: usize,
+}
+
+impl Model for Reader {
+    ghost use Rattle.expression_grammar.specs.Machine.{State, state};
+
+    ghost Value = { State };
+
+    ghost view = { λ r. state r.mode r.held r.nodes.items r.at r.brackets r.used };
+}
+
+impl Reader {
+    /// A reader before its first token.
+    pub fn new(alloc: Global) -> Reader
+        ensures { result ≡ start }
+    {
+        Reader {
+            mode: Mode::Want,
+            held: Stack::new(alloc),
+            nodes: Vec::new(alloc),
+            at: 0,
+            brackets: 0,
+            used: 0,
+        }
+    }
+
+    // An operand that is one token.
+    fn leaf(&mut self, last: Last, node: Node) -> Result<bool, AllocError>
+        requires { HasRoom self.old }
+        ensures { Steps result self.old self.new (leaf self.old last node) }
+    {
+        match self.nodes.push(node) {
+            Err(_) => return Err(AllocError),
+            Ok(()) => {}
+        }
+        self.mode = Mode::Done(last);
+        self.at += 1;
+        Ok(true)
+    }
+
+    // A bracket opens.
+    fn opened(&mut self, held: Held) -> Result<bool, AllocError>
+        requires { HasRoom self.old }
+        ensures { Steps result self.old self.new (opened self.old held) }
+    {
+        match self.held.push(held) {
+            Err(_) => return Err(AllocError),
+            Ok(()) => {}
+        }
+        self.mode = Mode::Want;
+        self.at += 1;
+        self.brackets += 1;
+        Ok(true)
+    }
+
+    // A sign.
+    fn signed(&mut self, sign: Sign) -> Result<bool, AllocError>
+        requires { HasRoom self.old }
+        ensures { Steps result self.old self.new (signed self.old sign) }
+    {
+        match self.held.push(Held::Unary(sign, self.at)) {
+            Err(_) => return Err(AllocError),
+            Ok(()) => {}
+        }
+        self.mode = Mode::Want;
+        self.at += 1;
+        self.used += 1;
+        Ok(true)
+    }
+
+    // A token where an operand is wanted.
+    fn operand(&mut self, token: Token) -> Result<bool, AllocError>
+        requires { HasRoom self.old }
+        ensures { Steps result self.old self.new (operand self.old token) }
+    {
+        let at = self.at;
+        match token {
+            Token::Constant(suffix) => self.leaf(Last::Other, Node::Constant(suffix, at)),
+            Token::Name => self.leaf(Last::Name, Node::Name(at)),
+            Token::Open => self.opened(Held::Group(at)),
+            Token::Binary(Op::Minus) => self.signed(Sign::Minus),
+            Token::Complement => self.signed(Sign::Complement),
+            Token::Not => self.signed(Sign::Not),
+            Token::Uint64 => Ok(self.cast_word()),
+            Token::Close => self.bare_closed(),
+            _ => Ok(false),
+        }
+    }
+
+    // A binary operator behind an operand.
+    fn joined(&mut self, op: Op) -> Result<bool, AllocError>
+        requires { HasRoom self.old }
+        ensures { JoinsAs result self.old self.new op }
+    {
+        let least = level(op);
+        match reduce(least, &mut self.held, &mut self.nodes) {
+            Err(_) => return Err(AllocError),
+            Ok(()) => {}
+        }
+        if demand(&self.held) > least {
+            return Ok(false);
+        }
+        match self.held.push(Held::Binary(op, self.at)) {
+            Err(_) => return Err(AllocError),
+            Ok(()) => {}
+        }
+        self.mode = Mode::Want;
+        self.at += 1;
+        self.used += cost(op);
+        Ok(true)
+    }
+
+    // A bracket is closed.
+    fn closed(&mut self, mode: Mode)
+        requires { HasRoom self.old }
+        ensures { go self.new ≡ closed self.old mode self.old.held self.old.nodes }
+    {
+        self.mode = mode;
+        self.at += 1;
+        self.brackets = self.brackets.saturating_sub(1);
+    }
+
+    // A `)` behind an operand.
+    fn closes(&mut self) -> Result<bool, AllocError>
+        requires { HasRoom self.old }
+        ensures { ClosesAs result self.old self.new }
+    {
+        match reduce(0, &mut self.held, &mut self.nodes) {
+            Err(_) => return Err(AllocError),
+            Ok(()) => {}
+        }
+        match self.held.top() {
+            Some(Held::Group(_)) => {}
+            Some(Held::Call(at)) => match self.nodes.push(Node::Call(at)) {
+                Err(_) => return Err(AllocError),
+                Ok(()) => {}
+            },
+            _ => return Ok(false),
+        }
+        let _bracket = self.held.pop();
+        self.closed(Mode::Done(Last::Other));
+        Ok(true)
+    }
+
+    // A `]` behind an operand.
+    fn closes_index(&mut self) -> Result<bool, AllocError>
+        requires { HasRoom self.old }
+        ensures { ClosesIndexAs result self.old self.new }
+    {
+        match reduce(0, &mut self.held, &mut self.nodes) {
+            Err(_) => return Err(AllocError),
+            Ok(()) => {}
+        }
+        match self.held.top() {
+            Some(Held::Index(at)) => match self.nodes.push(Node::Index(at)) {
+                Err(_) => return Err(AllocError),
+                Ok(()) => {}
+            },
+            _ => return Ok(false),
+        }
+        let _bracket = self.held.pop();
+        self.closed(Mode::Done(Last::Subscript));
+        Ok(true)
+    }
+
+    // A parenthesis behind a name.
+    fn call_opened(&mut self, last: Last) -> Result<bool, AllocError>
+        requires { HasRoom self.old }
+        ensures { Steps result self.old self.new (call_opened self.old last) }
+    {
+        match last {
+            Last::Name => self.opened(Held::Call(self.at)),
+            Last::Subscript | Last::Other => Ok(false),
+        }
+    }
+
+    // A subscript behind a place.
+    fn index_opened(&mut self, last: Last) -> Result<bool, AllocError>
+        requires { HasRoom self.old }
+        ensures { Steps result self.old self.new (index_opened self.old last) }
+    {
+        match last {
+            Last::Name | Last::Subscript => self.opened(Held::Index(self.at)),
+            Last::Other => Ok(false),
+        }
+    }
+
+    // A token behind an operand.
+    fn after(&mut self, last: Last, token: Token) -> Result<bool, AllocError>
+        requires mode { self.old.mode ≡ mode.Done last }
+        requires room { HasRoom self.old }
+        ensures { Steps result self.old self.new (after self.old last token) }
+    {
+        match token {
+            Token::Open => self.call_opened(last),
+            Token::OpenIndex => self.index_opened(last),
+            Token::Binary(op) => self.joined(op),
+            Token::Close => self.closes(),
+            Token::CloseIndex => self.closes_index(),
+            _ => Ok(false),
+        }
+    }
+
+    // The word of a cast.
+    fn cast_word(&mut self) -> bool
+        requires { HasRoom self.old }
+        ensures { Steps {E = ℕ} (Ok result) self.old self.new (cast_word self.old self.old.held) }
+    {
+        match self.held.top() {
+            Some(Held::Group(_)) => {}
+            _ => return false,
+        }
+        self.mode = Mode::Casting;
+        self.at += 1;
+        self.used += 1;
+        true
+    }
+
+    // The bracket behind a cast's word.
+    fn cast_closed(&mut self) -> Result<bool, AllocError>
+        requires { HasRoom self.old }
+        ensures { Steps result self.old self.new (cast_closed self.old self.old.held) }
+    {
+        let at = match self.held.top() {
+            Some(Held::Group(at)) => at,
+            _ => return Ok(false),
+        };
+        let _bracket = self.held.pop();
+        match self.held.push(Held::Cast(at)) {
+            Err(_) => return Err(AllocError),
+            Ok(()) => {}
+        }
+        self.closed(Mode::Want);
+        Ok(true)
+    }
+
+    // A call without arguments closes.
+    fn bare_closed(&mut self) -> Result<bool, AllocError>
+        requires { HasRoom self.old }
+        ensures { Steps result self.old self.new (bare_closed self.old self.old.held) }
+    {
+        let at = match self.held.top() {
+            Some(Held::Call(at)) => at,
+            _ => return Ok(false),
+        };
+        let _bracket = self.held.pop();
+        match self.nodes.push(Node::BareCall(at)) {
+            Err(_) => return Err(AllocError),
+            Ok(()) => {}
+        }
+        self.closed(Mode::Done(Last::Other));
+        Ok(true)
+    }
+
+    // The parenthesis behind a cast's word.
+    fn casting(&mut self, token: Token) -> Result<bool, AllocError>
+        requires { HasRoom self.old }
+        ensures { Steps result self.old self.new (casting self.old token) }
+    {
+        match token {
+            Token::Close => self.cast_closed(),
+            _ => Ok(false),
+        }
+    }
+
+    /// One token. `false`: the token does not go on with what was read, and what is complete stays so.
+    pub fn step(&mut self, token: Token) -> Result<bool, AllocError>
+        requires { HasRoom self.old }
+        ensures { Steps result self.old self.new (step self.old token) }
+    {
+        match self.mode {
+            Mode::Want => self.operand(token),
+            Mode::Casting => self.casting(token),
+            Mode::Done(last) => self.after(last, token),
+        }
+    }
+
+    /// At most so many brackets are open, and at most so many operators were read.
+    pub fn fits(&self, most_brackets: usize, most_operators: usize) -> bool
+        ensures { result ≡ fits most_brackets most_operators self.now }
+    {
+        self.brackets <= most_brackets && self.used <= most_operators
+    }
+
+    /// Completes the expression, if it may end here.
+    pub fn finish(&mut self) -> Result<bool, AllocError>
+        ensures { Completes result self.old self.new }
+    {
+        match self.mode {
+            Mode::Done(_) => {}
+            Mode::Want | Mode::Casting => return Ok(false),
+        }
+        match reduce(0, &mut self.held, &mut self.nodes) {
+            Err(_) => Err(AllocError),
+            Ok(()) => match self.held.top() {
+                None => Ok(true),
+                Some(_) => Ok(false),
+            },
+        }
+    }
+}
+
+/// An expression: its nodes in postfix order, and how many tokens it took.
+#[derive(Debug, Drop)]
+pub struct Expression {
+    pub nodes: Vec<Node>,
+    pub count: usize,
+}
+
+/// Why there is no expression, with the place of the token that it is told at.
+#[derive(Debug, Clone, Copy, PartialEq, Eq)]
+pub enum Stop {
+    /// The token fits nowhere.
+    Unfit(usize),
+    /// The tokens end too early.
+    Unended(usize),
+    /// The token passes a limit.
+    Depth(usize),
+    NoMemory,
+}
+
+/// The most brackets that are open at once.
+pub const MOST_BRACKETS: usize = 64;
+
+/// The most operators.
+pub const MOST_OPERATORS: usize = 256;
+
+/// Where the token that passes a limit is told: a cast at its parenthesis.
+pub fn told_at(token: Token, at: usize) -> usize
+    ensures { result ≡ told_at token at }
+{
+    match token {
+        Token::Uint64 => at.saturating_sub(1),
+        _ => at,
+    }
+}
+
+// The expression, if it may end here.
+fn ended(reader: Reader) -> Result<Option<Expression>, AllocError>
+    ensures { IfOk result (λ e. option_map pair_of e ≡ option_map (λ ns. (ns, reader.at)) (complete reader)) }
+{
+    let mut reader = reader;
+    let count = reader.at;
+    match reader.finish() {
+        Err(_) => Err(AllocError),
+        Ok(false) => Ok(None),
+        Ok(true) => Ok(Some(Expression {
+            nodes: reader.nodes,
+            count,
+        })),
+    }
+}
+
+// The machine's run over the tokens.
+fn run(alloc: Global, tokens: &[Token]) -> Result<Expression, Stop>
+    ensures { Gives result (read MOST_BRACKETS MOST_OPERATORS tokens.now) }
+{
+    let mut reader = Reader::new(alloc);
+    for token in tokens {
+        let at = reader.at;
+        match reader.step(*token) {
+            Err(_) => return Err(Stop::NoMemory),
+            Ok(false) => return match ended(reader) {
+                Err(_) => Err(Stop::NoMemory),
+                Ok(None) => Err(Stop::Unfit(at)),
+                Ok(Some(expression)) => Ok(expression),
+            },
+            Ok(true) => {
+                if !reader.fits(MOST_BRACKETS, MOST_OPERATORS) {
+                    return Err(Stop::Depth(told_at(*token, at)));
+                }
+            }
+        }
+    }
+    let at = reader.at;
+    match ended(reader) {
+        Err(_) => Err(Stop::NoMemory),
+        Ok(None) => Err(Stop::Unended(at)),
+        Ok(Some(expression)) => Ok(expression),
+    }
+}
+
+/// Reads the expression with which the tokens begin.
+///
+/// # Errors
+/// The first fault: `Unfit` at the first token with which no text goes on so, where the tokens before it are
+/// no expression; `Unended` where every token fits and the tokens end too early; `Depth` at the first token
+/// that only a text beyond the limits has. `NoMemory` is free.
+pub fn read(alloc: Global, tokens: &[Token]) -> Result<Expression, Stop>
+    ensures expression { IfOk result (λ e. IsRead MOST_BRACKETS MOST_OPERATORS tokens.now e.nodes.items e.count) }
+    ensures stop { IfErr result (IsStop MOST_BRACKETS MOST_OPERATORS tokens.now) }
+{
+    run(alloc, tokens)
+}

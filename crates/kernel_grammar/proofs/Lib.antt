@@ -1,0 +1,9 @@
+pub mod Paths
+pub mod Accepts
+pub mod Drives
+pub mod Parses
+pub mod Headers
+pub mod Tails
+pub mod Keeps
+pub mod Reading
+pub mod Running

@@ -1,0 +1,5 @@
+pub mod Kernel
+pub mod Table
+pub mod Machine
+pub mod Answers
+pub mod Turns

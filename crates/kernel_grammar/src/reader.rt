@@ -1,0 +1,244 @@
+//! The reader of a kernel: a machine of one step a token, and the call that runs it over a list of tokens.
+//! Nothing recurses over the nesting of items: a count of braces is all that is kept of it.
+//! Promises the parts of the only tree that the tokens spell, or the first fault.
+ghost use Rattle.std.specs.Prelude.{◌≡◌, ◌<◌, ◌^◌, ◌++◌, ◌+◌, Some, IfErr, IfOk, OnOk};
+ghost use Rattle.expression_grammar.specs.Machine.{step};
+ghost use Rattle.expression_grammar.specs.Steps.{HasRoom};
+ghost use Rattle.expression_grammar.specs.declared.reader.TheConstants.{MOST_BRACKETS, MOST_OPERATORS};
+ghost use Rattle.kernel_grammar.specs.Answers.{IsRead};
+ghost use Rattle.kernel_grammar.specs.Kernel.{marked};
+ghost use Rattle.kernel_grammar.specs.Machine.{ahead, answer, first_spot, goes_on, inner_turn, leaves, read, sign_turn, turn};
+ghost use Rattle.kernel_grammar.specs.declared.table.Want.TheVariants as want;
+ghost use Rattle.kernel_grammar.specs.Turns.{Feeds, Gives, HasSpace, IsStop, Turns, pieces_of};
+
+use crate::part::{Mark, Part};
+use crate::table::{Role, Want, behind, braced, carried, left, mark, next, room};
+use expression_grammar::reader::{MOST_BRACKETS, MOST_OPERATORS, Reader, Stop, told_at};
+use expression_grammar::token::Token;
+use std::alloc::{AllocError, Global};
+use std::marker::Model;
+use std::mem;
+
+// What one token did.
+#[derive(Debug, Clone, Copy)]
+enum Went {
+    On,
+    // No text goes on so.
+    Stop,
+    // Only a text beyond the limits goes on so.
+    Deep,
+}
+
+/// A reader in the midst of a kernel.
+#[derive(Debug, Drop)]
+pub struct KernelReader {
+    want: Want,
+    braces: usize,
+    used: usize,
+    parts: Vec<Part>,
+    at: usize,
+    first: usize,
+    inner: Reader,
+}
+
+impl Model for KernelReader {
+    ghost use Rattle.kernel_grammar.specs.Machine.{Spot, spot};
+    ghost use Rattle.kernel_grammar.specs.Turns.{pieces_of};
+
+    ghost Value = { Spot };
+
+    ghost view = { λ r. spot r.want r.braces r.used (pieces_of r.parts.items) r.at r.first r.inner };
+}
+
+// Adds a sign that is kept.
+fn keep(parts: &mut Vec<Part>, mark: Option<Mark>, at: usize) -> Result<(), AllocError>
+    ensures { OnOk result (pieces_of parts.new.items ≡ pieces_of parts.old.items ++ marked mark at) }
+{
+    match mark {
+        None => Ok(()),
+        Some(mark) => match parts.push(Part::Sign(mark, at)) {
+            Err(_) => Err(AllocError),
+            Ok(()) => Ok(()),
+        },
+    }
+}
+
+impl KernelReader {
+    /// A reader before its first token.
+    pub fn new(alloc: Global) -> KernelReader
+        ensures { result ≡ first_spot }
+    {
+        KernelReader {
+            want: Want::Void,
+            braces: 0,
+            used: 0,
+            parts: Vec::new(alloc),
+            at: 0,
+            first: 0,
+            inner: Reader::new(alloc),
+        }
+    }
+
+    // Goes on behind a sign.
+    fn go(&mut self, alloc: Global, want: Want, braces: usize, used: usize)
+        requires { HasSpace self.old }
+        ensures { self.new ≡ ahead want braces used self.old.pieces (self.old.at + 1) }
+    {
+        self.want = want;
+        self.braces = braces;
+        self.used = carried(want, used);
+        self.at += 1;
+        self.first = self.at;
+        self.inner = Reader::new(alloc);
+    }
+
+    // A sign between expressions.
+    fn sign_turn(
+        &mut self,
+        alloc: Global,
+        token: Token,
+        next: Option<Want>,
+    ) -> Result<Went, AllocError>
+        requires { HasSpace self.old }
+        ensures { Turns result self.new (sign_turn self.old token next) }
+    {
+        let want = match next {
+            None => return Ok(Went::Stop),
+            Some(want) => want,
+        };
+        match keep(&mut self.parts, mark(self.want, token), self.at) {
+            Err(_) => return Err(AllocError),
+            Ok(()) => {}
+        }
+        self.go(
+            alloc,
+            want,
+            braced(self.want, token, self.braces),
+            self.used,
+        );
+        Ok(Went::On)
+    }
+
+    // The sign behind the expression in hand, which is complete.
+    fn leave(&mut self, alloc: Global, next: Option<Want>) -> Result<Went, AllocError>
+        requires space { HasSpace self.old }
+        requires room { self.old.inner.used < 2 ^ 62 }
+        ensures { Turns result self.new (leaves self.old (Some self.old.inner.nodes) next) }
+    {
+        let want = match next {
+            None => return Ok(Went::Stop),
+            Some(want) => want,
+        };
+        let used = self.used + self.inner.used;
+        let inner = mem::replace(&mut self.inner, Reader::new(alloc));
+        match self.parts.push(Part::Expression(self.first, inner.nodes)) {
+            Err(_) => return Err(AllocError),
+            Ok(()) => {}
+        }
+        self.go(alloc, want, self.braces, used);
+        Ok(Went::On)
+    }
+
+    // A token of the expression in hand, or behind it.
+    fn inner_turn(&mut self, alloc: Global, role: Role, token: Token) -> Result<Went, AllocError>
+        requires want { self.old.want ≡ want.Inner role }
+        requires space { HasSpace self.old }
+        requires room { HasRoom self.old.inner }
+        ensures { Turns result self.new
+            (inner_turn MOST_BRACKETS MOST_OPERATORS role self.old token (step self.old.inner token)) }
+    {
+        match self.inner.step(token) {
+            Err(_) => return Err(AllocError),
+            Ok(true) => {}
+            Ok(false) => return match self.inner.finish() {
+                Err(_) => Err(AllocError),
+                Ok(false) => Ok(Went::Stop),
+                Ok(true) => self.leave(alloc, behind(role, token)),
+            },
+        }
+        if !self.inner.fits(
+            room(role, MOST_BRACKETS),
+            left(role, MOST_OPERATORS, self.used),
+        ) {
+            return Ok(Went::Deep);
+        }
+        self.at += 1;
+        Ok(Went::On)
+    }
+
+    // One token.
+    fn turn(&mut self, alloc: Global, token: Token) -> Result<Went, AllocError>
+        requires space { HasSpace self.old }
+        requires room { HasRoom self.old.inner }
+        ensures { Turns result self.new (turn MOST_BRACKETS MOST_OPERATORS self.old token) }
+    {
+        match self.want {
+            Want::Inner(role) => self.inner_turn(alloc, role, token),
+            want => self.sign_turn(alloc, token, next(want, self.braces, token)),
+        }
+    }
+
+    /// One token.
+    ///
+    /// # Errors
+    /// `Unfit` where no text goes on so, `Depth` where only one beyond the limits does. `NoMemory` is free.
+    pub fn feed(&mut self, alloc: Global, token: Token) -> Result<(), Stop>
+        requires space { HasSpace self.old }
+        requires room { HasRoom self.old.inner }
+        ensures { Feeds result self.old self.new token (turn MOST_BRACKETS MOST_OPERATORS self.old token) }
+    {
+        let at = self.at;
+        match self.turn(alloc, token) {
+            Err(_) => Err(Stop::NoMemory),
+            Ok(Went::Stop) => Err(Stop::Unfit(at)),
+            Ok(Went::Deep) => Err(Stop::Depth(told_at(token, at))),
+            Ok(Went::On) => Ok(()),
+        }
+    }
+
+    /// The text, where no token is left.
+    ///
+    /// # Errors
+    /// `Unended` where the text is not complete.
+    pub fn finish(self) -> Result<Text, Stop>
+        ensures { Gives result (answer (goes_on self)) }
+    {
+        match self.want {
+            Want::Over => Ok(Text { parts: self.parts }),
+            _ => Err(Stop::Unended(self.at)),
+        }
+    }
+}
+
+/// A kernel's text: its parts in textual order.
+#[derive(Debug, Drop)]
+pub struct Text {
+    pub parts: Vec<Part>,
+}
+
+// The machine's run over the tokens.
+fn run(alloc: Global, tokens: &[Token]) -> Result<Text, Stop>
+    ensures { Gives result (read MOST_BRACKETS MOST_OPERATORS tokens.now) }
+{
+    let mut reader = KernelReader::new(alloc);
+    for token in tokens {
+        match reader.feed(alloc, *token) {
+            Err(stop) => return Err(stop),
+            Ok(()) => {}
+        }
+    }
+    reader.finish()
+}
+
+/// Reads a kernel.
+///
+/// # Errors
+/// The first fault: `Unfit` at the first token with which no text begins so; `Unended` where every token
+/// fits and the tokens end too early; `Depth` at the first token that only a text beyond the limits has.
+/// `NoMemory` is free.
+pub fn read(alloc: Global, tokens: &[Token]) -> Result<Text, Stop>
+    ensures text { IfOk result (λ t. IsRead MOST_BRACKETS MOST_OPERATORS tokens.now (pieces_of t.parts.items)) }
+    ensures stop { IfErr result (IsStop MOST_BRACKETS MOST_OPERATORS tokens.now) }
+{
+    run(alloc, tokens)
+}
