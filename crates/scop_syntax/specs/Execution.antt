@@ -1,158 +1,120 @@
 -- What the instances do to the arrays, one after another.
--- Values are numbers below 2^64, the values of unsigned 64 bit arithmetic (C17 6.2.5p9).
-use Rattle.std.specs.Prelude.{◌≡◌, ℕ, ◌+◌, ◌*◌, ◌<◌, ℤ, pos, negsuc, ◌<ℤ◌, ◌≤ℤ◌, List, [], ◌∷◌, ◌++◌, length, map, take, fold, All, slice_set, slice_index, slice_index_or, slice_get, Option, Some, None, MatchOption, option_and_then, ⊤}
-use Rattle.std.specs.Option.{option_map}
-use Rattle.whole_numbers.specs.Affine.{Affine, value_of}
-use Rattle.scop_syntax.specs.Tree.{Access, Expression, read, Statement, Head, Tree, loop, statement, Trees, none, more, Program}
-use Rattle.scop_syntax.specs.Walk.{Instance, turn_point, walk_of}
+use Rattle.std.specs.Prelude.{◌≡◌, ℕ, ◌+◌, ◌*◌, ◌<◌, ℤ, pos, negsuc, ◌<ℤ◌, ◌≤ℤ◌, List, [], ◌∷◌, length, map, take, fold, slice_get, slice_set, slice_index_or, Option, Some, None, ⊤}
+use Rattle.scop_syntax.specs.Tree.{Access, Statement, Program}
+use Rattle.scop_syntax.specs.Members.{In}
+use Rattle.scop_syntax.specs.Walk.{Visit, walk_of}
+use Rattle.scop_syntax.specs.Cells.{values, accesses, reads, Cell, cell_of}
+use Rattle.scop_syntax.specs.Values.{stored_by}
 
--- a statement and the heads of the loops round it, outermost first
-pub record Placed : Type 0 where
-  pub body : Statement
-  pub heads : List Head
-
--- the statements of a tree in textual order, each with the loops round it
-abbrev mutual
-  pub placed : List Head → Tree → List Placed
-  placed heads (loop head body) = placed_all (heads ++ head ∷ []) body
-  placed heads (statement s) = record { body = s; heads = heads } ∷ []
-
-  pub placed_all : List Head → Trees → List Placed
-  placed_all heads none = []
-  placed_all heads (more t ts) = placed heads t ++ placed_all heads ts
-
--- the point, parameters and then source iterators, that stands within the given turns of the loops with these heads
-abbrev pub point_of : List Head → List ℤ → List ℕ → List ℤ
-point_of [] point turns = point
-point_of (head ∷ heads) point [] = point
-point_of (head ∷ heads) point (k ∷ turns) = point_of heads (turn_point head point k) turns
-
--- a statement and the point at which it runs
-pub record Visit : Type 0 where
-  pub body : Statement
-  pub point : List ℤ
-
--- the statement and the point of an instance
-abbrev pub visit_of : Program → List ℤ → Instance → Option Visit
-visit_of program params instance =
-    option_map (λ s. record { body = s.body; point = point_of s.heads params instance.iterators }) (slice_get (placed_all [] program.body) instance.statement)
-
--- an extent as a size: 0 where it is negative
+-- an extent or a subscript as a size: 0 where it is negative
 abbrev pub size_of : ℤ → ℕ
 size_of (pos n) = n
 size_of (negsuc n) = 0
 
--- the extents that the forms have for given parameters
-abbrev pub extents_at : List Affine → List ℤ → List ℕ
-extents_at forms params = map (λ form. size_of (value_of form params)) forms
-
--- the extents of each array
+-- the extents of each array for given parameters
 abbrev pub layout : Program → List ℤ → List (List ℕ)
-layout program params = map (λ d. extents_at d.extents params) program.arrays
+layout program params = map (λ d. map size_of (values d.extents params)) program.arrays
 
 -- how many cells an array with these extents has
 abbrev pub cell_count : List ℕ → ℕ
 cell_count [] = 1
 cell_count (extent ∷ extents) = extent * cell_count extents
 
--- each array has as many cells as its extents say
-abbrev pub IsShaped : Program → List ℤ → List (List ℕ) → Type 0
-IsShaped program params contents = map length contents ≡ map cell_count (layout program params)
-
--- a cell of an array
-pub record Cell : Type 0 where
-  pub array : ℕ
-  pub subscripts : List ℤ
-
--- the subscripts that the forms have at a point
-abbrev pub subscripts_at : List Affine → List ℤ → List ℤ
-subscripts_at forms point = map (λ form. value_of form point) forms
-
--- the cell of an access at a point
-abbrev pub cell_of : Access → List ℤ → Cell
-cell_of access point = record { array = access.array; subscripts = subscripts_at access.subscripts point }
+-- how many cells all arrays together have
+abbrev pub total_cells : List (List ℕ) → ℕ
+total_cells [] = 0
+total_cells (extents ∷ layouts) = cell_count extents + total_cells layouts
 
 -- each subscript lies from 0 up to its extent, and there are as many as extents
 abbrev pub AreWithin : List ℤ → List ℕ → Type 0
 AreWithin [] [] = ⊤
 AreWithin [] (extent ∷ extents) = ⊥
 AreWithin (subscript ∷ subscripts) [] = ⊥
-AreWithin (subscript ∷ subscripts) (extent ∷ extents) = (pos 0 ≤ℤ subscript) × (subscript <ℤ pos extent) × AreWithin subscripts extents
+AreWithin (subscript ∷ subscripts) (extent ∷ extents) =
+    (pos 0 ≤ℤ subscript) × (subscript <ℤ pos extent) × AreWithin subscripts extents
 
 -- the cell is one of its array's
 pub record IsCell (extents : List (List ℕ)) (cell : Cell) : Type 0 where
   pub array : cell.array < length extents
   pub subscripts : AreWithin cell.subscripts (slice_index_or extents cell.array [])
 
--- what an expression reads, in the order of the text
-abbrev pub reads_of : Expression → List Access
-reads_of (read access) = access ∷ []
+-- each cell that these visits touch is one of its array's
+abbrev pub AreInside : List (List ℕ) → List Visit → Type 0
+AreInside extents visits =
+    (v : Visit) → In v visits → (access : Access) → In access (accesses v.body)
+    → IsCell extents (cell_of access v.point)
 
--- each cell that a visit reads or stores is one of its array's
-pub record VisitIsInside (extents : List (List ℕ)) (visit : Visit) : Type 0 where
-  pub place : IsCell extents (cell_of visit.body.place visit.point)
-  pub reads : All (λ access. IsCell extents (cell_of access visit.point)) (reads_of visit.body.value)
-
--- every cell that any instance reads or stores is one of its array's
+-- every subscript of every instance of the program lies in its extent
 abbrev pub IsInside : Program → List ℤ → Type 0
-IsInside program params = All (λ instance. MatchOption (visit_of program params instance) ⊤ (VisitIsInside (layout program params))) (walk_of program params)
+IsInside program params = AreInside (layout program params) (walk_of program params)
 
 -- where a cell lies: rows one after another (C17 6.5.2.1p3), by Horner's rule from the offset so far
 abbrev pub offset_from : ℕ → List ℕ → List ℤ → ℕ
 offset_from offset [] subscripts = offset
 offset_from offset (extent ∷ extents) [] = offset
-offset_from offset (extent ∷ extents) (subscript ∷ subscripts) = offset_from (offset * extent + size_of subscript) extents subscripts
+offset_from offset (extent ∷ extents) (subscript ∷ subscripts) =
+    offset_from (offset * extent + size_of subscript) extents subscripts
 
 abbrev pub offset_of : List (List ℕ) → Cell → ℕ
 offset_of extents cell = offset_from 0 (slice_index_or extents cell.array []) cell.subscripts
 
+-- the number of a cell among those of all arrays: array after array, rows one after another
+abbrev pub cell_number : List (List ℕ) → Cell → ℕ
+cell_number extents cell = total_cells (take cell.array extents) + offset_of extents cell
+
+-- each array has as many cells as its extents say
+abbrev pub IsShaped : List (List ℕ) → List (List ℕ) → Type 0
+IsShaped extents contents = map length contents ≡ map cell_count extents
+
 -- what the cell holds
 abbrev pub held : List (List ℕ) → List (List ℕ) → Cell → ℕ
-held extents contents cell = slice_index (slice_index_or contents cell.array []) (offset_of extents cell)
+held extents contents cell = slice_index_or (slice_index_or contents cell.array []) (offset_of extents cell) 0
 
 -- the contents with another value in the cell
 abbrev pub stored : List (List ℕ) → List (List ℕ) → Cell → ℕ → List (List ℕ)
 stored extents contents cell value =
     slice_set contents cell.array (slice_set (slice_index_or contents cell.array []) (offset_of extents cell) value)
 
--- the value of an expression at a point
-abbrev pub evaluated : List (List ℕ) → List (List ℕ) → List ℤ → Expression → ℕ
-evaluated extents contents point (read access) = held extents contents (cell_of access point)
+-- the values that a statement reads at a point, and the value that it stores
+abbrev pub values_read_by : List (List ℕ) → List (List ℕ) → Statement → List ℤ → List ℕ
+values_read_by extents contents body point = map (λ access. held extents contents (cell_of access point)) (reads body)
 
--- one visit: its value is read first, and then stored at its place
+abbrev pub value_stored_by : List (List ℕ) → List (List ℕ) → Statement → List ℤ → ℕ
+value_stored_by extents contents body point = stored_by body.right point (values_read_by extents contents body point)
+
+-- a statement at a point: it reads all its cells, computes, and stores (C17 6.5.16p3)
+abbrev pub performed_by : List (List ℕ) → List (List ℕ) → Statement → List ℤ → List (List ℕ)
+performed_by extents contents body point =
+    stored extents contents (cell_of body.place point) (value_stored_by extents contents body point)
+
 abbrev pub performed : List (List ℕ) → List (List ℕ) → Visit → List (List ℕ)
-performed extents contents visit =
-    stored extents contents (cell_of visit.body.place visit.point) (evaluated extents contents visit.point visit.body.value)
+performed extents contents v = performed_by extents contents v.body v.point
 
--- one instance; a number that no statement has does nothing
-abbrev pub step_at : List (List ℕ) → List (List ℕ) → Option Visit → List (List ℕ)
-step_at extents contents None = contents
-step_at extents contents (Some visit) = performed extents contents visit
+-- the contents after these visits, one after another, and before place j of them
+abbrev pub performed_all : List (List ℕ) → List (List ℕ) → List Visit → List (List ℕ)
+performed_all extents contents visits = fold (performed extents) contents visits
 
-abbrev pub step : Program → List ℤ → List (List ℕ) → Instance → List (List ℕ)
-step program params contents instance = step_at (layout program params) contents (visit_of program params instance)
+abbrev pub before_place : List (List ℕ) → List (List ℕ) → List Visit → ℕ → List (List ℕ)
+before_place extents contents visits j = performed_all extents contents (take j visits)
 
 -- the contents after the program has run
 abbrev pub exec : Program → List ℤ → List (List ℕ) → List (List ℕ)
-exec program params contents = fold (step program params) contents (walk_of program params)
+exec program params contents = performed_all (layout program params) contents (walk_of program params)
 
--- the contents before the instance at place j of the walk
-abbrev pub arrays_before : Program → List ℤ → List (List ℕ) → ℕ → List (List ℕ)
-arrays_before program params contents j = fold (step program params) contents (take j (walk_of program params))
+-- the values that a visit reads, none where there is no visit, and the value that it stores
+abbrev pub values_read : List (List ℕ) → List (List ℕ) → Option Visit → List ℕ
+values_read extents contents None = []
+values_read extents contents (Some v) = values_read_by extents contents v.body v.point
 
--- the visit at place j of the walk
-abbrev pub visit_at : Program → List ℤ → ℕ → Option Visit
-visit_at program params j = option_and_then (visit_of program params) (slice_get (walk_of program params) j)
+abbrev pub value_stored : List (List ℕ) → List (List ℕ) → Option Visit → ℕ
+value_stored extents contents None = 0
+value_stored extents contents (Some v) = value_stored_by extents contents v.body v.point
 
--- the cells that a visit reads, in the order of the text
-abbrev pub cells_read : Option Visit → List Cell
-cells_read None = []
-cells_read (Some visit) = map (λ access. cell_of access visit.point) (reads_of visit.body.value)
+-- the values read at place j of the visits, and the value stored there
+abbrev pub values_read_at : List (List ℕ) → List (List ℕ) → List Visit → ℕ → List ℕ
+values_read_at extents contents visits j =
+    values_read extents (before_place extents contents visits j) (slice_get visits j)
 
--- the cells that are read at place j of the walk, in the order of the text
-abbrev pub read_at : Program → List ℤ → ℕ → List Cell
-read_at program params j = cells_read (visit_at program params j)
-
--- the cell that is stored at place j of the walk
-abbrev pub stored_at : Program → List ℤ → ℕ → Option Cell
-stored_at program params j = option_map (λ visit. cell_of visit.body.place visit.point) (visit_at program params j)
+abbrev pub value_stored_at : List (List ℕ) → List (List ℕ) → List Visit → ℕ → ℕ
+value_stored_at extents contents visits j =
+    value_stored extents (before_place extents contents visits j) (slice_get visits j)

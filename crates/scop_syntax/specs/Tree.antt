@@ -7,14 +7,43 @@ pub record Access : Type 0 where
   pub array : ℕ
   pub subscripts : List Affine
 
--- what a statement stores
+-- + - * & | ^ (C17 6.5.5, 6.5.6, 6.5.10 to 6.5.12)
+pub data Operator : Type 0 where
+  plus : Operator
+  minus : Operator
+  times : Operator
+  bits_and : Operator
+  bits_or : Operator
+  bits_xor : Operator
+
+-- a value: cells, constants and affine parts, and what C makes of them
 pub data Expression : Type 0 where
   read : Access → Expression
+  constant : ℕ → Expression
+  affine : Affine → Expression
+  negated : Expression → Expression
+  complemented : Expression → Expression
+  cast : Expression → Expression
+  binary : Operator → Expression → Expression → Expression
+  shifted_left : Expression → ℕ → Expression
+  shifted_right : Expression → ℕ → Expression
 
--- place = value;
+-- what stands behind the place: = e, op= e, <<= k, >>= k
+pub data Right : Type 0 where
+  assigned : Expression → Right
+  combined : Operator → Expression → Right
+  moved_left : ℕ → Right
+  moved_right : ℕ → Right
+
+-- place = value;  or  place op= value;
 pub record Statement : Type 0 where
   pub place : Access
-  pub value : Expression
+  pub right : Right
+
+-- one comparison of a guard: form >= 0 or form == 0, where form is the difference of the two sides
+pub data Test : Type 0 where
+  at_least : Affine → Test
+  equal : Affine → Test
 
 -- for (iterator = first; condition >= 0; iterator += stride)
 pub record Head : Type 0 where
@@ -23,19 +52,22 @@ pub record Head : Type 0 where
   pub stride : ℤ
   pub condition : Affine
 
--- a loop with its body, or a statement; a list of trees is a type of its own, since a type can't hold a list of itself
+-- a loop or a guard with its body, or a statement; a list of trees is a type of its own, since a type can't hold a
+-- list of itself
 mutual
   pub data Tree : Type 0 where
     loop : Head → Trees → Tree
+    guard : List Test → Trees → Tree
     statement : Statement → Tree
 
   pub data Trees : Type 0 where
     none : Trees
     more : Tree → Trees → Trees
 
--- an array: an extent for each dimension, in the parameters
+-- an array: how many of the parameters are declared before it, and an extent for each dimension, in the parameters
 pub record Declaration : Type 0 where
   pub name : List ℕ
+  pub parameters_before : ℕ
   pub extents : List Affine
 
 -- a kernel

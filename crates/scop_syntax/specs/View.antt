@@ -1,49 +1,88 @@
 -- The plain data that the code's values stand for.
-use Rattle.std.specs.Prelude.{List, [], ◌∷◌, map}
-use Rattle.scop_syntax.specs.Tree.{Access, Expression, read, Statement, Head, Tree, loop, statement, Trees, none, more, Declaration, Program}
-use Rattle.scop_syntax.specs.declared.tree.Access.{Access as CodeAccess}
+use Rattle.std.specs.Prelude.{List, [], ◌∷◌, map, take}
+use Rattle.scop_syntax.specs.Tree.{Operator, plus, minus, times, bits_and, bits_or, bits_xor, Expression, read, constant, affine, negated, complemented, cast, binary, shifted_left, shifted_right, Right, assigned, combined, moved_left, moved_right, Statement, Test, at_least, equal, Tree, loop, guard, statement, Trees, none, more, Program}
+use Rattle.scop_syntax.specs.Walk.{Instance}
+use Rattle.scop_syntax.specs.declared.instance.Instance.{Instance as CodeInstance}
+use Rattle.scop_syntax.specs.declared.tree.Operator.{Operator as CodeOperator}
+use Rattle.scop_syntax.specs.declared.tree.Operator.TheVariants.{Plus, Minus, Times, And, Or, Xor}
 use Rattle.scop_syntax.specs.declared.tree.Expr.{Expr}
-use Rattle.scop_syntax.specs.declared.tree.Expr.TheVariants.{Read}
+use Rattle.scop_syntax.specs.declared.tree.Expr.TheFolds.{fold-Expr}
+use Rattle.scop_syntax.specs.declared.tree.Expr.TheOpen.{Expr-F}
+use Rattle.scop_syntax.specs.declared.tree.Right.{Right as CodeRight}
+use Rattle.scop_syntax.specs.declared.tree.Right.TheVariants.{Assigned, Combined, ShiftedLeft, ShiftedRight}
 use Rattle.scop_syntax.specs.declared.tree.Stmt.{Stmt}
-use Rattle.scop_syntax.specs.declared.tree.Loop.{Loop}
+use Rattle.scop_syntax.specs.declared.tree.Test.{Test as CodeTest}
+use Rattle.scop_syntax.specs.declared.tree.Test.TheVariants.{AtLeast, Equal}
 use Rattle.scop_syntax.specs.declared.tree.Item.{Item}
 use Rattle.scop_syntax.specs.declared.tree.Item.TheFolds.{fold-Item}
 use Rattle.scop_syntax.specs.declared.tree.Item.TheOpen.{Item-F}
-use Rattle.scop_syntax.specs.declared.tree.Array.{Array}
 use Rattle.scop_syntax.specs.declared.tree.Kernel.{Kernel}
 
-abbrev pub access_of : CodeAccess → Access
-access_of a = record { array = a.array; subscripts = a.subscripts.items }
+abbrev pub operator_of : CodeOperator → Operator
+operator_of Plus = plus
+operator_of Minus = minus
+operator_of Times = times
+operator_of And = bits_and
+operator_of Or = bits_or
+operator_of Xor = bits_xor
 
+-- one level of an expression, over the views of the levels below
+abbrev pub expression_step : Expr-F Expression → Expression
+expression_step (Expr-F.Read a) = read a
+expression_step (Expr-F.Constant c) = constant c
+expression_step (Expr-F.Affine f) = affine f
+expression_step (Expr-F.Negated e) = negated e.value
+expression_step (Expr-F.Complemented e) = complemented e.value
+expression_step (Expr-F.Cast e) = cast e.value
+expression_step (Expr-F.Binary op e f) = binary (operator_of op) e.value f.value
+expression_step (Expr-F.ShiftedLeft e k) = shifted_left e.value k
+expression_step (Expr-F.ShiftedRight e k) = shifted_right e.value k
+
+-- the expression that a value of the code stands for
 abbrev pub expression_of : Expr → Expression
-expression_of (Read a) = read (access_of a)
+expression_of = fold-Expr Expression expression_step
+
+abbrev pub right_of : CodeRight → Right
+right_of (Assigned e) = assigned (expression_of e)
+right_of (Combined op e) = combined (operator_of op) (expression_of e)
+right_of (ShiftedLeft k) = moved_left k
+right_of (ShiftedRight k) = moved_right k
 
 abbrev pub statement_of : Stmt → Statement
-statement_of s = record { place = access_of s.place; value = expression_of s.value }
+statement_of s = record { place = s.place; right = right_of s.right }
 
-abbrev pub head_of : Loop → Head
-head_of h = record { iterator = h.iterator.items; first = h.first; stride = h.stride; condition = h.condition }
+abbrev pub test_of : CodeTest → Test
+test_of (AtLeast form) = at_least form
+test_of (Equal form) = equal form
 
 abbrev pub trees_of : List Tree → Trees
 trees_of [] = none
 trees_of (t ∷ ts) = more t (trees_of ts)
 
 -- one level of the tree, over the views of the levels below
-abbrev pub view_step : Item-F Tree → Tree
-view_step (Item-F.Loop head body) = loop (head_of head) (trees_of body.items)
-view_step (Item-F.Stmt s) = statement (statement_of s)
+abbrev pub tree_step : Item-F Tree → Tree
+tree_step (Item-F.Loop head body) = loop head (trees_of body.items)
+tree_step (Item-F.Guard guarded body) = guard (map test_of guarded.tests.items) (trees_of body.items)
+tree_step (Item-F.Stmt s) = statement (statement_of s)
 
 -- the tree that an item stands for
-abbrev pub view : Item → Tree
-view = fold-Item Tree view_step
+abbrev pub tree_of : Item → Tree
+tree_of = fold-Item Tree tree_step
 
 -- the trees that a row of items stands for
-abbrev pub views : List Item → Trees
-views items = trees_of (map view items)
-
-abbrev pub declaration_of : Array → Declaration
-declaration_of a = record { name = a.name.items; extents = a.extents.items }
+abbrev pub items_of : List Item → Trees
+items_of items = trees_of (map tree_of items)
 
 -- the program that a kernel stands for
 abbrev pub program_of : Kernel → Program
-program_of k = record { name = k.name.items; parameters = map (λ n. n.items) k.parameters.items; arrays = map declaration_of k.arrays.items; body = views k.items.items }
+program_of k =
+    record {
+      name = k.name.items;
+      parameters = map (λ n. n.items) k.parameters.items;
+      arrays = k.arrays.items;
+      body = items_of k.items.items;
+    }
+
+-- the instance that a value of the code stands for: the turns are the first of the array's
+abbrev pub instance_of : CodeInstance → Instance
+instance_of i = record { number = i.statement; turns = take i.loops i.turns }

@@ -1,32 +1,48 @@
-//! Worked examples of the meaning: what small kernels leave in the arrays, as the same loops did
-//! when Python ran them. Each is the contract of a function that does nothing.
-ghost use Rattle.std.specs.Prelude.{◌≡◌, [], ◌∷◌};
+//! Worked examples of the meaning, as contracts of functions that do nothing: the edges of each
+//! operator, and what small programs leave in the arrays.
+ghost use Rattle.std.specs.Prelude.{◌≡◌, ◌-◌, ◌^◌, [], ◌∷◌, negsuc};
+ghost use Rattle.scop_syntax.specs.Tree.{affine, bits_xor, complemented, constant, minus, moved_left, moved_right, negated, plus, shifted_right, times};
+ghost use Rattle.scop_syntax.specs.Values.{applied, stored_by, value_on};
 ghost use Rattle.scop_syntax.specs.Execution.{exec};
-ghost use Rattle.scop_syntax.specs.Examples.{every_other, no_turn, reverse, shift_from_the_end, smear, transpose};
+ghost use Rattle.scop_syntax.specs.Limits.{WithinLimits};
+ghost use Rattle.scop_syntax.specs.Examples.{falling_by_two, form, guarded_by_an_equality, rising};
 
-/// Two nested loops: `Y` becomes the transpose of `X`.
-pub fn nested_loops_transpose()
-    ensures { exec transpose [] ((1 ∷ 2 ∷ 3 ∷ 4 ∷ 5 ∷ 6 ∷ []) ∷ (0 ∷ 0 ∷ 0 ∷ 0 ∷ 0 ∷ 0 ∷ []) ∷ []) ≡ (1 ∷ 2 ∷ 3 ∷ 4 ∷ 5 ∷ 6 ∷ []) ∷ (1 ∷ 3 ∷ 5 ∷ 2 ∷ 4 ∷ 6 ∷ []) ∷ [] }
+/// Sums, differences and products wrap at 2^64.
+pub fn operators_wrap()
+    ensures plus { applied plus (2 ^ 64 - 1) 2 ≡ 1 }
+    ensures minus { applied minus 5 7 ≡ 2 ^ 64 - 2 }
+    ensures none { applied minus 7 0 ≡ 7 }
+    ensures times { applied times (2 ^ 63) 3 ≡ 2 ^ 63 }
+    ensures xor { applied bits_xor 12 10 ≡ 6 }
 {}
 
-/// A stride of 2: every other cell is copied.
-pub fn stride_two_copies_every_other_cell()
-    ensures { exec every_other [] ((5 ∷ 6 ∷ 7 ∷ 8 ∷ 9 ∷ []) ∷ (0 ∷ 0 ∷ 0 ∷ 0 ∷ 0 ∷ []) ∷ []) ≡ (5 ∷ 6 ∷ 7 ∷ 8 ∷ 9 ∷ []) ∷ (5 ∷ 0 ∷ 7 ∷ 0 ∷ 9 ∷ []) ∷ [] }
+/// `-x` and `~x` are taken modulo 2^64, an affine part too; `>>` is unsigned.
+pub fn one_sided_operators()
+    ensures negated { value_on (negated (constant 1)) [] [] ≡ 2 ^ 64 - 1 }
+    ensures zero { value_on (negated (constant 0)) [] [] ≡ 0 }
+    ensures complemented { value_on (complemented (constant 1)) [] [] ≡ 2 ^ 64 - 2 }
+    ensures affine { value_on (affine (form [] (negsuc 2))) [] [] ≡ 2 ^ 64 - 3 }
+    ensures shifted { value_on (shifted_right (negated (constant 1)) 63) [] [] ≡ 1 }
 {}
 
-/// The direction of a loop decides: from the end the cells are shifted, from the start the first is
-/// smeared over the others.
-pub fn direction_decides()
-    ensures from_the_end { exec shift_from_the_end [] ((1 ∷ 2 ∷ 3 ∷ 4 ∷ []) ∷ []) ≡ (1 ∷ 1 ∷ 2 ∷ 3 ∷ []) ∷ [] }
-    ensures from_the_start { exec smear [] ((1 ∷ 2 ∷ 3 ∷ 4 ∷ []) ∷ []) ≡ (1 ∷ 1 ∷ 1 ∷ 1 ∷ []) ∷ [] }
+/// `<<=` drops what leaves 64 bits, `>>=` brings in zeros.
+pub fn shifts_of_a_place()
+    ensures left { stored_by (moved_left 63) [] (3 ∷ []) ≡ 2 ^ 63 }
+    ensures right { stored_by (moved_right 1) [] (3 ∷ []) ≡ 1 }
 {}
 
-/// A loop whose condition fails at once does nothing.
-pub fn loop_without_a_turn_does_nothing()
-    ensures { exec no_turn [] ((1 ∷ 2 ∷ []) ∷ (3 ∷ 4 ∷ []) ∷ []) ≡ (1 ∷ 2 ∷ []) ∷ (3 ∷ 4 ∷ []) ∷ [] }
+/// The direction and the stride of a loop decide which cells it reads after which stores.
+pub fn loops_run_in_their_direction()
+    ensures falling { exec falling_by_two [] ((1 ∷ 2 ∷ 3 ∷ 4 ∷ []) ∷ []) ≡ (1 ∷ 1 ∷ 3 ∷ 3 ∷ []) ∷ [] }
+    ensures rising { exec rising [] ((1 ∷ 2 ∷ 3 ∷ 4 ∷ []) ∷ []) ≡ (1 ∷ 1 ∷ 1 ∷ 1 ∷ []) ∷ [] }
 {}
 
-/// Two loops one after another: the second reads what the first has stored.
-pub fn loops_in_sequence_reverse()
-    ensures { exec reverse [] ((1 ∷ 2 ∷ 3 ∷ []) ∷ (0 ∷ 0 ∷ 0 ∷ []) ∷ []) ≡ (3 ∷ 2 ∷ 1 ∷ []) ∷ (1 ∷ 2 ∷ 3 ∷ []) ∷ [] }
+/// A guard by `==` lets one turn run; `-=` reads its place first.
+pub fn guards_let_single_turns_run()
+    ensures { exec guarded_by_an_equality [] ((1 ∷ 5 ∷ 3 ∷ 4 ∷ []) ∷ []) ≡ (1 ∷ 5 ∷ (2 ^ 64 - 2) ∷ 4 ∷ []) ∷ [] }
+{}
+
+/// The limits can be met: a program with a falling loop is a kernel.
+pub fn kernels_are_there()
+    ensures { WithinLimits falling_by_two [] }
 {}

@@ -1,8 +1,7 @@
-//! The tree of a kernel as code holds it. Contracts see an `Aff` as an affine form, and a `Kernel`
-//! through `kernel_of` of specs/View.antt as a `Program`.
+//! The tree of a kernel as code holds it. Contracts see `Aff`, `Access`, `Loop` and `Array` as the
+//! plain data of specs/Tree.antt, and the rest through the folds of specs/View.antt: an `Expr` by
+//! `expression_of`, a `Stmt` by `statement_of`, an `Item` by `tree_of`, a `Kernel` by `program_of`.
 //! Static-control parts: Feautrier, "Dataflow analysis of array and scalar references" (1991).
-ghost use Rattle.whole_numbers.specs.Affine.{Affine};
-
 use std::marker::Model;
 
 /// The bytes of a name, as the text spells it.
@@ -17,6 +16,8 @@ pub struct Aff {
 }
 
 impl Model for Aff {
+    ghost use Rattle.whole_numbers.specs.Affine.{Affine};
+
     ghost Value = { Affine };
 
     ghost view = { λ a. record { coefficients = a.coefficients.items; constant = a.constant } };
@@ -30,17 +31,53 @@ pub struct Access {
     pub subscripts: Vec<Aff>,
 }
 
-/// The value that a statement stores.
+impl Model for Access {
+    ghost use Rattle.scop_syntax.specs.Tree.{Access as Place};
+
+    ghost Value = { Place };
+
+    ghost view = { λ a. record { array = a.array; subscripts = a.subscripts.items } };
+}
+
+/// `+ - * & | ^`, of values and of assignments.
+#[derive(Debug, Clone, Copy, PartialEq, Eq)]
+pub enum Operator {
+    Plus,
+    Minus,
+    Times,
+    And,
+    Or,
+    Xor,
+}
+
+/// A value: cells, constants and affine parts, and what C makes of them.
 #[derive(Debug, Drop)]
 pub enum Expr {
     Read(Access),
+    Constant(u64),
+    Affine(Aff),
+    Negated(Box<Expr>),
+    Complemented(Box<Expr>),
+    Cast(Box<Expr>),
+    Binary(Operator, Box<Expr>, Box<Expr>),
+    ShiftedLeft(Box<Expr>, u8),
+    ShiftedRight(Box<Expr>, u8),
 }
 
-/// `place = value;`
+/// What stands behind a place: `= e`, `op= e`, `<<= k` or `>>= k`.
+#[derive(Debug, Drop)]
+pub enum Right {
+    Assigned(Expr),
+    Combined(Operator, Expr),
+    ShiftedLeft(u8),
+    ShiftedRight(u8),
+}
+
+/// `place = value;` or `place op= value;`
 #[derive(Debug, Drop)]
 pub struct Stmt {
     pub place: Access,
-    pub value: Expr,
+    pub right: Right,
 }
 
 /// The head of a loop: `for (iterator = first; condition >= 0; iterator += stride)`.
@@ -53,18 +90,52 @@ pub struct Loop {
     pub condition: Aff,
 }
 
-/// A loop with its body, or a statement.
+impl Model for Loop {
+    ghost use Rattle.scop_syntax.specs.Tree.{Head};
+
+    ghost Value = { Head };
+
+    ghost view = { λ h.
+        record { iterator = h.iterator.items; first = h.first; stride = h.stride; condition = h.condition } };
+}
+
+/// A comparison: `form >= 0` or `form == 0`.
+#[derive(Debug, Drop)]
+pub enum Test {
+    AtLeast(Aff),
+    Equal(Aff),
+}
+
+/// `if`: its body runs where all comparisons hold.
+#[derive(Debug, Drop)]
+pub struct Guard {
+    pub tests: Vec<Test>,
+}
+
+/// A loop or a guard with its body, or a statement.
 #[derive(Debug, Drop)]
 pub enum Item {
     Loop(Loop, Vec<Item>),
+    Guard(Guard, Vec<Item>),
     Stmt(Stmt),
 }
 
-/// An array's declaration: an extent for each dimension, outermost first, in the parameters alone.
+/// An array's declaration: how many of the kernel's parameters stand before it in the text, and an
+/// extent for each dimension, outermost first, in the parameters alone.
 #[derive(Debug, Drop)]
 pub struct Array {
     pub name: Name,
+    pub parameters_before: usize,
     pub extents: Vec<Aff>,
+}
+
+impl Model for Array {
+    ghost use Rattle.scop_syntax.specs.Tree.{Declaration};
+
+    ghost Value = { Declaration };
+
+    ghost view = { λ a.
+        record { name = a.name.items; parameters_before = a.parameters_before; extents = a.extents.items } };
 }
 
 /// A kernel: its items run one after another, over the arrays, for given parameters.
