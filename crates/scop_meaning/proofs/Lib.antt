@@ -1,8 +1,11 @@
-pub mod Wrapping
-pub mod Offsets
-pub mod Shapes
-pub mod Measures
-pub mod States
-pub mod Steps
-pub mod Walks
-pub mod Copies
+mod Offsets
+mod Shifts
+mod Wrapping
+mod Turns
+mod Evaluations
+mod Walking
+mod Runs
+mod Checks
+mod Kernels
+mod Finding
+mod Numbering

@@ -1,2 +1,5 @@
-pub mod Visits
-pub mod Fits
+pub mod Conditions
+pub mod Evaluation
+pub mod Instances
+pub mod Outside
+pub mod Rows

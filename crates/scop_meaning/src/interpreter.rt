@@ -1,109 +1,107 @@
 //! The interpreter: it goes over the tree as the walk does, with the parameters and the iterators of
 //! the loops that it stands in on a stack of fixed size. It takes no memory, and its time is linear
 //! in the number of turns and instances.
-ghost use Rattle.std.specs.Prelude.{◌≡◌, ◌≤◌, fold, pos, IsTrue};
-ghost use Rattle.std.specs.Int.Signed.{le_z};
+ghost use Rattle.std.specs.Prelude.{◌≡◌, ◌<◌, pos};
+ghost use Rattle.whole_numbers.specs.Affine.{value_of};
+ghost use Rattle.scop_syntax.specs.Acts.{acts, acts_all};
+ghost use Rattle.scop_syntax.specs.Execution.{IsInside, IsShaped, exec, layout as layout_of};
+ghost use Rattle.scop_syntax.specs.Limits.{WithinLimits};
 ghost use Rattle.scop_syntax.specs.Tree.{loop, more, none};
-ghost use Rattle.scop_syntax.specs.View.{head_of, program_of, views};
-ghost use Rattle.scop_syntax.specs.Walk.{condition_at};
-ghost use Rattle.scop_syntax.specs.Execution.{IsInside, IsShaped, exec, layout, performed};
-ghost use Rattle.scop_meaning.specs.Fits.{CanRun, CanTurn, ProgramFits, most_entries};
-ghost use Rattle.scop_meaning.specs.Visits.{turn_visits, visits, visits_all};
+ghost use Rattle.scop_syntax.specs.View.{items_of, program_of, tree_of};
+ghost use Rattle.scop_syntax.specs.Walk.{turn_point};
+ghost use Rattle.scop_meaning.specs.Conditions.{CanRun, CanTurn, IsReady, ran};
 ghost use Rattle.scop_meaning.specs.declared.loops.TheConstants.{ROOM};
 
-use crate::loops::{Point, ROOM, enter_turn, turns_at};
+use crate::guards::all_hold;
+use crate::layout::Layout;
+use crate::loops::{Point, enter_turn, point_at, turns_of};
 use crate::statements::run_statement;
-use arrayvec::ArrayVec;
+use crate::values::exact_at;
 use scop_syntax::arrays::Arrays;
+use scop_syntax::limit_laws::{cells_lie_within_22_bits, numbers_of_runs_fit};
 use scop_syntax::tree::{Item, Kernel, Loop};
 
 /// Runs `items` one after another at `point`.
 #[cycle(running)]
-fn run_items(
-    items: &[Item],
-    kernel: &Kernel,
-    params: &[i64],
-    point: &mut Point,
-    arrays: &mut Arrays,
-)
-    requires { CanRun ROOM (program_of kernel.now) params.now (views items.now) point.old.items arrays.old }
+fn run_items(items: &[Item], layout: &Layout, point: &mut Point, arrays: &mut Arrays)
+    requires { CanRun ROOM layout.now (items_of items.now) point.old.items arrays.old }
     ensures point { point.new.items ≡ point.old.items }
-    ensures arrays { arrays.new ≡ fold (performed (layout (program_of kernel.now) params.now)) arrays.old (visits_all (views items.now) point.old.items) }
-    ensures shape { IsShaped (program_of kernel.now) params.now arrays.new }
+    ensures arrays { arrays.new ≡ ran layout.now arrays.old (acts_all (items_of items.now) point.old.items) }
+    ensures ready { IsReady layout.now arrays.new }
 {
     for item in items {
-        match item {
-            Item::Loop(head, body) => run_loop(head, body, kernel, params, point, arrays),
-            Item::Stmt(statement) => run_statement(
-                statement,
-                kernel,
-                params,
-                point.as_slice(),
-                arrays,
-            ),
-        }
+        run_item(item, layout, point, arrays);
     }
 }
 
-/// Runs a loop: its body, turn after turn, while its condition holds.
+/// Runs `item` at `point`.
 #[cycle(running)]
-fn run_loop(
-    head: &Loop,
-    body: &[Item],
-    kernel: &Kernel,
-    params: &[i64],
-    point: &mut Point,
-    arrays: &mut Arrays,
-)
-    requires { CanRun ROOM (program_of kernel.now) params.now (more (loop (head_of head.now) (views body.now)) none) point.old.items arrays.old }
+fn run_item(item: &Item, layout: &Layout, point: &mut Point, arrays: &mut Arrays)
+    requires { CanRun ROOM layout.now (more (tree_of item.now) none) point.old.items arrays.old }
     ensures point { point.new.items ≡ point.old.items }
-    ensures arrays { arrays.new ≡ fold (performed (layout (program_of kernel.now) params.now)) arrays.old (visits (loop (head_of head.now) (views body.now)) point.old.items) }
-    ensures shape { IsShaped (program_of kernel.now) params.now arrays.new }
+    ensures arrays { arrays.new ≡ ran layout.now arrays.old (acts (tree_of item.now) point.old.items) }
+    ensures ready { IsReady layout.now arrays.new }
 {
-    let turns = turns_at(head, point);
-    for turn in 0..turns {
-        if !run_turn(head, body, turn, kernel, params, point, arrays) {
-            return;
+    match item {
+        Item::Loop(head, body) => run_loop(head, body, layout, point, arrays),
+        Item::Guard(guarded, body) => {
+            if all_hold(&guarded.tests, point.as_slice()) {
+                run_items(body, layout, point, arrays);
+            }
         }
+        Item::Stmt(statement) => run_statement(statement, layout, point.as_slice(), arrays),
     }
 }
 
-/// Runs the body of a loop at turn `turn` if the condition holds there, and says whether it does.
+/// Runs a loop: its body, turn after turn.
+#[cycle(running)]
+fn run_loop(head: &Loop, body: &[Item], layout: &Layout, point: &mut Point, arrays: &mut Arrays)
+    requires { CanRun ROOM layout.now (more (loop head.now (items_of body.now)) none) point.old.items arrays.old }
+    ensures point { point.new.items ≡ point.old.items }
+    ensures arrays { arrays.new ≡ ran layout.now arrays.old (acts (loop head.now (items_of body.now)) point.old.items) }
+    ensures ready { IsReady layout.now arrays.new }
+{
+    let first = exact_at(&head.first, point.as_slice());
+    let turns = turns_of(head, first, point);
+    for turn in 0..turns {
+        run_turn(head, first, body, turn, layout, point, arrays);
+    }
+}
+
+/// Runs the body of a loop at turn `turn`.
 #[cycle(running)]
 fn run_turn(
     head: &Loop,
+    first: i64,
     body: &[Item],
     turn: u64,
-    kernel: &Kernel,
-    params: &[i64],
+    layout: &Layout,
     point: &mut Point,
     arrays: &mut Arrays,
-) -> bool
-    requires { CanTurn ROOM (program_of kernel.now) params.now (head_of head.now) (views body.now) point.old.items turn arrays.old }
-    ensures holds { result ≡ le_z (pos 0) (condition_at (head_of head.now) point.old.items turn) }
+)
+    requires turn { CanTurn ROOM head.now first turn point.old.items }
+    requires body { CanRun ROOM layout.now (items_of body.now) (turn_point head.now point.old.items (pos turn)) arrays.old }
     ensures point { point.new.items ≡ point.old.items }
-    ensures arrays { arrays.new ≡ fold (performed (layout (program_of kernel.now) params.now)) arrays.old (turn_visits (head_of head.now) (views body.now) point.old.items turn) }
-    ensures shape { IsShaped (program_of kernel.now) params.now arrays.new }
+    ensures arrays { arrays.new ≡ ran layout.now arrays.old
+        (acts_all (items_of body.now) (turn_point head.now point.old.items (pos turn))) }
+    ensures ready { IsReady layout.now arrays.new }
 {
-    let holds = 0 <= enter_turn(head, turn, point);
-    if holds {
-        run_items(body, kernel, params, point, arrays);
-    }
+    enter_turn(head, first, turn, point);
+    run_items(body, layout, point, arrays);
     let _iterator = point.pop();
-    holds
 }
 
 /// Runs `kernel` for `params` on `arrays`, instance after instance in the order of the walk.
 pub fn run_plain(kernel: &Kernel, params: &[i64], arrays: &mut Arrays)
-    requires room { most_entries (program_of kernel.now) params.now ≤ ROOM }
-    requires fits { ProgramFits (program_of kernel.now) params.now }
+    requires limits { WithinLimits (program_of kernel.now) params.now }
     requires inside { IsInside (program_of kernel.now) params.now }
-    requires shape { IsShaped (program_of kernel.now) params.now arrays.old }
+    requires shape { IsShaped (layout_of (program_of kernel.now) params.now) arrays.old }
     ensures arrays { arrays.new ≡ exec (program_of kernel.now) params.now arrays.old }
+    ensures shape { IsShaped (layout_of (program_of kernel.now) params.now) arrays.new }
 {
-    let mut point: Point = ArrayVec::new();
-    for param in params {
-        point.push(*param);
-    }
-    run_items(&kernel.items, kernel, params, &mut point, arrays);
+    numbers_of_runs_fit();
+    cells_lie_within_22_bits();
+    let layout = Layout::of(kernel, params);
+    let mut point = point_at(params);
+    run_items(&kernel.items, &layout, &mut point, arrays);
 }

@@ -1,13 +1,23 @@
 //! The meaning of a kernel, run: a plain interpreter that does what the walk of its tree says, one
-//! instance after another, without memory of its own.
-//! Promises that the arrays end as `exec` of scop_syntax's specs/Execution.antt says.
+//! instance after another, the check that every subscript lies within its extent, and single
+//! instances: what one stores, and which cells it touches. None takes memory.
+//! Promises that the arrays end as `exec` of scop_syntax's specs/Execution.antt says, that the check
+//! tells the first of its specs/Failures.antt, and that an instance stores and touches what its visit
+//! does.
 #![tactic(auto)]
 
+mod accesses;
 mod cells;
+mod expressions;
+mod guards;
+pub mod index;
+pub mod instances;
 pub mod interpreter;
+mod layout;
 mod loops;
+mod operators;
 mod statements;
 #[cfg(test)]
 mod tests;
 mod values;
-pub mod walk_laws;
+pub mod worked_rows;

@@ -1,47 +1,69 @@
-//! The head of a loop at a point: its iterator and its condition at a turn, and a bound on its turns.
-ghost use Rattle.std.specs.Prelude.{◌≡◌, ◌+ℤ◌, ◌*ℤ◌, ◌+◌, ◌<◌, ◌^◌, ◌++◌, ◌∷◌, [], FitsSigned, length, pos};
+//! The head of a loop at a point: the iterator of a turn, and how many turns there are.
+ghost use Rattle.std.specs.Prelude.{◌≡◌, ◌<◌, ◌≤◌, ◌^◌, ◌+ℤ◌, ◌*ℤ◌, FitsSigned, length, pos};
 ghost use Rattle.std.specs.Int.{w64};
 ghost use Rattle.whole_numbers.specs.Affine.{value_of};
-ghost use Rattle.scop_syntax.specs.View.{head_of};
-ghost use Rattle.scop_syntax.specs.Walk.{condition_at, most_turns, turn_point};
-ghost use Rattle.scop_meaning.specs.Fits.{TurnFits};
+ghost use Rattle.scop_syntax.specs.Fits.{TurnFits};
+ghost use Rattle.scop_syntax.specs.Kernel.{IsHead};
+ghost use Rattle.scop_syntax.specs.Walk.{RunsFor, condition_at, turn_point};
+ghost use Rattle.scop_meaning.specs.Conditions.{CanTurn};
 ghost use Rattle.scop_meaning.specs.declared.loops.TheConstants.{ROOM};
 
-use crate::values::{iterator_at, value_at};
+use crate::values::{exact_at, value_at, with_product};
 use arrayvec::ArrayVec;
 use scop_syntax::tree::Loop;
 
 /// How many parameters and nested loops a kernel may have together.
-pub const ROOM: usize = 32;
+pub const ROOM: usize = 9;
 
 /// The parameters, then the iterators of the loops that the run stands in, outermost first.
 pub type Point = ArrayVec<i64, ROOM>;
 
-/// Puts the iterator of turn `turn` on the stack, and says what the loop's condition is there.
-pub fn enter_turn(head: &Loop, turn: u64, point: &mut Point) -> i64
-    requires room { length point.old.items < ROOM }
-    requires turn { turn < 2 ^ 63 }
-    requires fits { TurnFits (head_of head.now) point.old.items turn }
-    ensures point { point.new.items ≡ turn_point (head_of head.now) point.old.items turn }
-    ensures condition { result ≡ condition_at (head_of head.now) point.old.items turn }
+/// The parameters alone.
+pub fn point_at(params: &[i64]) -> Point
+    requires { length params.now ≤ ROOM }
+    ensures { result.items ≡ params.now }
 {
-    let first = value_at(&head.first, point.as_slice());
-    point.push(iterator_at(first, head.stride, turn));
-    value_at(&head.condition, point.as_slice())
+    let mut point: Point = ArrayVec::new();
+    for param in params {
+        point.push(*param);
+    }
+    point
 }
 
-/// How many turns a loop has at most, whose condition falls by at least 1 a turn.
-pub fn turns_at(head: &Loop, point: &mut Point) -> u64
+/// Puts the iterator of turn `turn` on the stack, where the loop's first is `first`.
+pub fn enter_turn(head: &Loop, first: i64, turn: u64, point: &mut Point)
+    requires { CanTurn ROOM head.now first turn point.old.items }
+    ensures { point.new.items ≡ turn_point head.now point.old.items (pos turn) }
+{
+    point.push(with_product(first, head.stride, turn as i64));
+}
+
+/// Puts the iterator of turn `turn` on the stack, which fits, whatever the parts of its sum are.
+pub fn enter_at(head: &Loop, turn: i64, point: &mut Point)
+    requires space { length point.old.items < ROOM }
+    requires fits { FitsSigned w64 (value_of head.now.first point.old.items +ℤ (head.now.stride *ℤ turn)) }
+    ensures { point.new.items ≡ turn_point head.now point.old.items turn }
+{
+    let first = value_at(&head.first, point.as_slice());
+    point.push(with_product(first, head.stride, turn));
+}
+
+/// How many turns the loop has, whose first iterator is `first`: its condition falls by the stride.
+pub fn turns_of(head: &Loop, first: i64, point: &mut Point) -> u64
     requires room { length point.old.items < ROOM }
-    requires fits { TurnFits (head_of head.now) point.old.items 0 }
-    ensures turns { result ≡ most_turns (condition_at (head_of head.now) point.old.items 0) }
+    requires first { first ≡ value_of head.now.first point.old.items }
+    requires head { IsHead (length point.old.items) head.now }
+    requires fits { TurnFits head.now point.old.items 0 }
+    ensures turns { RunsFor (λ k. condition_at head.now point.old.items (pos k)) result }
+    ensures few { result ≤ 2 ^ 63 }
     ensures point { point.new.items ≡ point.old.items }
 {
-    let condition = enter_turn(head, 0, point);
-    let _iterator = point.pop();
+    enter_turn(head, first, 0, point);
+    let condition = exact_at(&head.condition, point.as_slice());
+    let _first = point.pop();
     if condition < 0 {
         0
     } else {
-        condition as u64 + 1
+        condition as u64 / head.stride.unsigned_abs() + 1
     }
 }

@@ -1,67 +1,101 @@
-//! One instance of a statement: its value is read, and then stored at its place.
-ghost use Rattle.std.specs.Prelude.{◌≡◌, ◌<◌, [], All, slice_index_or};
-ghost use Rattle.scop_syntax.specs.View.{access_of, expression_of, program_of, statement_of};
-ghost use Rattle.scop_syntax.specs.Execution.{IsCell, IsShaped, VisitIsInside, cell_count, cell_of, evaluated, held, layout, offset_of, performed, reads_of};
-ghost use Rattle.scop_meaning.specs.Fits.{SizesFit};
+//! One instance of a statement: all its cells are read, its value is computed, and stored.
+ghost use Rattle.std.specs.Prelude.{◌≡◌, ◌∷◌};
+ghost use Rattle.scop_syntax.specs.Cells.{accesses, cell_of, reads_with};
+ghost use Rattle.scop_syntax.specs.Execution.{IsCell, held, offset_of, performed_by};
+ghost use Rattle.scop_syntax.specs.View.{expression_of, right_of, statement_of};
+ghost use Rattle.scop_meaning.specs.Conditions.{AreCells, IsReady};
+ghost use Rattle.scop_meaning.specs.Evaluation.{EachRead, EachReadOf, evaluated, evaluated_over};
 
 use crate::cells::offset_at;
+use crate::layout::Layout;
+use crate::operators::{combined, complemented, negated, shifted_left, shifted_right};
+use crate::values::wrapped_at;
 use scop_syntax::arrays::Arrays;
-use scop_syntax::tree::{Access, Expr, Kernel, Stmt};
+use scop_syntax::tree::{Access, Expr, Right, Stmt};
 
 /// Where the cell of `access` at `point` lies in its array.
-fn cell_offset(access: &Access, kernel: &Kernel, params: &[i64], point: &[i64]) -> usize
-    requires sizes { SizesFit (program_of kernel.now) params.now }
-    requires cell { IsCell (layout (program_of kernel.now) params.now) (cell_of (access_of access.now) point.now) }
-    ensures offset { result ≡ offset_of (layout (program_of kernel.now) params.now) (cell_of (access_of access.now) point.now) }
-    ensures within { result < cell_count (slice_index_or (layout (program_of kernel.now) params.now) access.now.array []) }
+fn offset_in(access: &Access, layout: &Layout, point: &[i64], arrays: &Arrays) -> usize
+    requires cell { IsCell layout.now (cell_of access.now point.now) }
+    requires ready { IsReady layout.now arrays.now }
+    ensures { result ≡ offset_of layout.now (cell_of access.now point.now) }
 {
-    let declaration = &kernel.arrays[access.array];
-    offset_at(&declaration.extents, params, &access.subscripts, point)
+    offset_at(layout.array(access.array), &access.subscripts, point)
 }
 
 /// What the cell of `access` at `point` holds.
-fn read(access: &Access, kernel: &Kernel, params: &[i64], point: &[i64], arrays: &Arrays) -> u64
-    requires sizes { SizesFit (program_of kernel.now) params.now }
-    requires cell { IsCell (layout (program_of kernel.now) params.now) (cell_of (access_of access.now) point.now) }
-    requires shape { IsShaped (program_of kernel.now) params.now arrays.now }
-    ensures { result ≡ held (layout (program_of kernel.now) params.now) arrays.now (cell_of (access_of access.now) point.now) }
+fn read(access: &Access, layout: &Layout, point: &[i64], arrays: &Arrays) -> u64
+    requires cell { IsCell layout.now (cell_of access.now point.now) }
+    requires ready { IsReady layout.now arrays.now }
+    ensures { result ≡ held layout.now arrays.now (cell_of access.now point.now) }
 {
-    arrays.cell(access.array, cell_offset(access, kernel, params, point))
+    arrays.cell(access.array, offset_in(access, layout, point, arrays))
 }
 
-/// The value of `expression` at `point`.
-fn evaluate(
-    expression: &Expr,
-    kernel: &Kernel,
-    params: &[i64],
-    point: &[i64],
-    arrays: &Arrays,
-) -> u64
-    requires sizes { SizesFit (program_of kernel.now) params.now }
-    requires cells { All (λ access. IsCell (layout (program_of kernel.now) params.now) (cell_of access point.now)) (reads_of (expression_of expression.now)) }
-    requires shape { IsShaped (program_of kernel.now) params.now arrays.now }
-    ensures { result ≡ evaluated (layout (program_of kernel.now) params.now) arrays.now point.now (expression_of expression.now) }
+/// The value of `expression` at `point`, over what its cells hold.
+fn evaluate(expression: &Expr, layout: &Layout, point: &[i64], arrays: &Arrays) -> u64
+    requires cells { EachRead (λ access. IsCell layout.now (cell_of access point.now)) (expression_of expression.now) }
+    requires ready { IsReady layout.now arrays.now }
+    ensures { result ≡ evaluated (λ access. held layout.now arrays.now (cell_of access point.now)) point.now
+        (expression_of expression.now) }
 {
     match expression {
-        Expr::Read(access) => read(access, kernel, params, point, arrays),
+        Expr::Read(access) => read(access, layout, point, arrays),
+        Expr::Constant(value) => *value,
+        Expr::Affine(form) => wrapped_at(form, point),
+        Expr::Negated(operand) => negated(evaluate(operand, layout, point, arrays)),
+        Expr::Complemented(operand) => complemented(evaluate(operand, layout, point, arrays)),
+        Expr::Cast(operand) => evaluate(operand, layout, point, arrays),
+        Expr::Binary(operator, left, right) => {
+            let first = evaluate(left, layout, point, arrays);
+            let second = evaluate(right, layout, point, arrays);
+            combined(*operator, first, second)
+        }
+        Expr::ShiftedLeft(operand, count) => {
+            shifted_left(evaluate(operand, layout, point, arrays), *count)
+        }
+        Expr::ShiftedRight(operand, count) => {
+            shifted_right(evaluate(operand, layout, point, arrays), *count)
+        }
     }
 }
 
-/// Runs `statement` at `point`.
-pub fn run_statement(
-    statement: &Stmt,
-    kernel: &Kernel,
-    params: &[i64],
-    point: &[i64],
-    arrays: &mut Arrays,
-)
-    requires sizes { SizesFit (program_of kernel.now) params.now }
-    requires inside { VisitIsInside (layout (program_of kernel.now) params.now) (record { body = statement_of statement.now; point = point.now }) }
-    requires shape { IsShaped (program_of kernel.now) params.now arrays.old }
-    ensures arrays { arrays.new ≡ performed (layout (program_of kernel.now) params.now) arrays.old (record { body = statement_of statement.now; point = point.now }) }
-    ensures shape { IsShaped (program_of kernel.now) params.now arrays.new }
+/// The value that is stored at `point`, where the place holds `old`.
+fn evaluate_over(right: &Right, old: u64, layout: &Layout, point: &[i64], arrays: &Arrays) -> u64
+    requires cells { EachReadOf (λ access. IsCell layout.now (cell_of access point.now)) (right_of right.now) }
+    requires ready { IsReady layout.now arrays.now }
+    ensures { result ≡ evaluated_over (λ access. held layout.now arrays.now (cell_of access point.now)) point.now old
+        (right_of right.now) }
 {
-    let value = evaluate(&statement.value, kernel, params, point, arrays);
-    let offset = cell_offset(&statement.place, kernel, params, point);
-    arrays.set_cell(statement.place.array, offset, value);
+    match right {
+        Right::Assigned(value) => evaluate(value, layout, point, arrays),
+        Right::Combined(operator, value) => {
+            combined(*operator, old, evaluate(value, layout, point, arrays))
+        }
+        Right::ShiftedLeft(count) => shifted_left(old, *count),
+        Right::ShiftedRight(count) => shifted_right(old, *count),
+    }
+}
+
+/// Stores at `place` what stands on its right.
+fn assign(place: &Access, right: &Right, layout: &Layout, point: &[i64], arrays: &mut Arrays)
+    requires cells { AreCells layout.now point.now (place.now ∷ reads_with place.now (right_of right.now)) }
+    requires ready { IsReady layout.now arrays.old }
+    ensures arrays { arrays.new ≡ performed_by layout.now arrays.old (record { place = place.now; right = right_of right.now })
+        point.now }
+    ensures ready { IsReady layout.now arrays.new }
+{
+    let offset = offset_in(place, layout, point, arrays);
+    let old = arrays.cell(place.array, offset);
+    let value = evaluate_over(right, old, layout, point, arrays);
+    arrays.set_cell(place.array, offset, value);
+}
+
+/// Runs `statement` at `point`.
+pub fn run_statement(statement: &Stmt, layout: &Layout, point: &[i64], arrays: &mut Arrays)
+    requires cells { AreCells layout.now point.now (accesses (statement_of statement.now)) }
+    requires ready { IsReady layout.now arrays.old }
+    ensures arrays { arrays.new ≡ performed_by layout.now arrays.old (statement_of statement.now) point.now }
+    ensures ready { IsReady layout.now arrays.new }
+{
+    assign(&statement.place, &statement.right, layout, point, arrays);
 }

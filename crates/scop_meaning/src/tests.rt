@@ -1,117 +1,40 @@
-//! Runs of the copy kernel, `for (I = 0; I < P; I++) Y[I] = X[I];`, and worked examples of the
-//! meaning, whose values Python gave.
-ghost use Rattle.std.specs.Prelude.{◌≡◌, ◌≤◌, [], ◌∷◌, IfOk, codes, length};
-ghost use Rattle.scop_syntax.specs.View.{access_of, declaration_of, head_of, program_of, views};
-ghost use Rattle.scop_syntax.specs.Tree.{more, none, statement};
-ghost use Rattle.scop_syntax.specs.Copy.{cell_at_iterator, copy_extent, copy_head, copy_program, copy_statement};
+//! A caller of the calls on single instances: one instance, performed on a row of all cells.
+ghost use Rattle.std.specs.Prelude.{◌≡◌, ◌<◌, length, map, slice_set};
+ghost use Rattle.scop_syntax.specs.Cells.{reads as reads_by, written};
+ghost use Rattle.scop_syntax.specs.Execution.{IsInside, cell_number, layout};
+ghost use Rattle.scop_syntax.specs.Limits.{WithinLimits};
+ghost use Rattle.scop_syntax.specs.Members.{In};
+ghost use Rattle.scop_syntax.specs.Values.{stored_by};
+ghost use Rattle.scop_syntax.specs.View.{instance_of, program_of};
+ghost use Rattle.scop_syntax.specs.Walk.{Visit, instance as numbers_of, walk_of};
+ghost use Rattle.scop_meaning.specs.Instances.{IsVisitOf};
 
-use crate::interpreter::run_plain;
-use scop_syntax::arrays::Arrays;
-use scop_syntax::tree::{Access, Aff, Array, Expr, Item, Kernel, Loop, Name, Stmt};
-use std::alloc::{AllocError, Global};
-use std::test::Fail;
+use crate::instances::{cell, value};
+use scop_syntax::arrays::Extents;
+use scop_syntax::instance::Instance;
+use scop_syntax::tree::Kernel;
 
-fn form(alloc: Global, coefficients: &[i64], constant: i64) -> Result<Aff, AllocError>
-    ensures { IfOk result (λ f. f ≡ record { coefficients = coefficients.now; constant = constant }) }
+/// Stores what the instance stores on these values read, where it stores it.
+pub fn perform(
+    kernel: &Kernel,
+    params: &[i64],
+    extents: &Extents,
+    instance: &Instance,
+    reads: &[u64],
+    cells: &mut [u64],
+)
+    requires limits { WithinLimits (program_of kernel.now) params.now }
+    requires inside { IsInside (program_of kernel.now) params.now }
+    requires extents { extents.now ≡ layout (program_of kernel.now) params.now }
+    requires walked { In (instance_of instance.now) (map numbers_of (walk_of (program_of kernel.now) params.now)) }
+    requires reads { (v : Visit) → IsVisitOf (program_of kernel.now) params.now (instance_of instance.now) v
+        → length reads.now ≡ length (reads_by v.body) }
+    requires cells { (v : Visit) → IsVisitOf (program_of kernel.now) params.now (instance_of instance.now) v
+        → cell_number extents.now (written v) < length cells.old }
+    ensures { (v : Visit) → IsVisitOf (program_of kernel.now) params.now (instance_of instance.now) v
+        → cells.new ≡ slice_set cells.old (cell_number extents.now (written v))
+        (stored_by v.body.right v.point reads.now) }
 {
-    let coefficients = Vec::from_slice(alloc, coefficients)?;
-    Ok(Aff {
-        coefficients,
-        constant,
-    })
-}
-
-fn cell(alloc: Global, array: usize) -> Result<Access, AllocError>
-    ensures { IfOk result (λ a. access_of a ≡ cell_at_iterator array) }
-{
-    let iterator = form(alloc, &[0, 1], 0)?;
-    let subscripts = Vec::from_array(alloc, [iterator])?;
-    Ok(Access { array, subscripts })
-}
-
-fn array(alloc: Global, name: &[u8]) -> Result<Array, AllocError>
-    ensures { IfOk result (λ a. declaration_of a ≡ record { name = name.now; extents = copy_extent ∷ [] }) }
-{
-    let name = Vec::from_slice(alloc, name)?;
-    let extents = Vec::from_array(alloc, [form(alloc, &[1], 0)?])?;
-    Ok(Array { name, extents })
-}
-
-fn head(alloc: Global) -> Result<Loop, AllocError>
-    ensures { IfOk result (λ h. head_of h ≡ copy_head (codes "I")) }
-{
-    let iterator: Name = Vec::from_slice(alloc, b"I")?;
-    let first = form(alloc, &[0], 0)?;
-    let condition = form(alloc, &[1, -1], -1)?;
-    Ok(Loop {
-        iterator,
-        first,
-        stride: 1,
-        condition,
-    })
-}
-
-fn body(alloc: Global) -> Result<Vec<Item>, AllocError>
-    ensures { IfOk result (λ b. views b.items ≡ more (statement copy_statement) none) }
-{
-    let place = cell(alloc, 1)?;
-    let value = Expr::Read(cell(alloc, 0)?);
-    Ok(Vec::from_array(alloc, [Item::Stmt(Stmt { place, value })])?)
-}
-
-fn copy_kernel(alloc: Global) -> Result<Kernel, AllocError>
-    ensures { IfOk result (λ k. program_of k ≡ copy_program (codes "copy") (codes "P") (codes "X") (codes "Y") (codes "I")) }
-{
-    let name: Name = Vec::from_slice(alloc, b"copy")?;
-    let parameters: Vec<Name> = Vec::from_array(alloc, [Vec::from_slice(alloc, b"P")?])?;
-    let arrays = Vec::from_array(alloc, [array(alloc, b"X")?, array(alloc, b"Y")?])?;
-    let items = Vec::from_array(alloc, [Item::Loop(head(alloc)?, body(alloc)?)])?;
-    Ok(Kernel {
-        name,
-        parameters,
-        arrays,
-        items,
-    })
-}
-
-fn two_arrays(alloc: Global, source: &[u64], target: &[u64]) -> Result<Arrays, AllocError>
-    ensures { IfOk result (λ a. a ≡ source.now ∷ target.now ∷ []) }
-{
-    let cells = Vec::from_array(
-        alloc,
-        [
-            Vec::from_slice(alloc, source)?,
-            Vec::from_slice(alloc, target)?,
-        ],
-    )?;
-    Ok(Arrays { cells })
-}
-
-fn copied(alloc: Global, source: &[u64], target: &[u64]) -> Result<Arrays, AllocError>
-    requires same { length target.now ≡ length source.now }
-    requires few { length source.now ≤ 65536 }
-{
-    let kernel = copy_kernel(alloc)?;
-    let mut arrays = two_arrays(alloc, source, target)?;
-    let count = source.len() as i64;
-    run_plain(&kernel, &[count], &mut arrays);
-    Ok(arrays)
-}
-
-#[test]
-fn copies_one_cell(rt: HostRuntime) -> Result<(), Fail> {
-    let arrays = copied(rt.alloc(), &[7], &[0])?;
-    assert_eq!(rt; arrays.cells.len(), 2);
-    assert_eq!(rt; arrays.cells[0].as_slice(), [7].as_slice());
-    assert_eq!(rt; arrays.cells[1].as_slice(), [7].as_slice());
-    Ok(())
-}
-
-#[test]
-fn copies_four_cells(rt: HostRuntime) -> Result<(), Fail> {
-    let arrays = copied(rt.alloc(), &[3, 1, 4, 1], &[9, 9, 9, 9])?;
-    assert_eq!(rt; arrays.cells.len(), 2);
-    assert_eq!(rt; arrays.cells[0].as_slice(), [3, 1, 4, 1].as_slice());
-    assert_eq!(rt; arrays.cells[1].as_slice(), [3, 1, 4, 1].as_slice());
-    Ok(())
+    let at = cell(kernel, params, extents, instance, 0);
+    cells[at] = value(kernel, params, instance, reads);
 }

@@ -1,20 +1,20 @@
 //! Values of affine forms. Sums and products are taken modulo 2^64 in two's complement, so a value
 //! that lies in the range of `i64` is exact, whatever its parts are.
-ghost use Rattle.std.specs.Prelude.{◌≡◌, ◌+ℤ◌, ◌*ℤ◌, ◌≤ℤ◌, ◌<◌, ◌^◌, pos, FitsSigned};
+ghost use Rattle.std.specs.Prelude.{◌≡◌, ◌+ℤ◌, ◌*ℤ◌, FitsSigned};
 ghost use Rattle.std.specs.Int.{int_wrap, w64};
 ghost use Rattle.whole_numbers.specs.Affine.{value_of};
-ghost use Rattle.scop_syntax.specs.Execution.{size_of};
+ghost use Rattle.scop_syntax.specs.Values.{wrapped};
 
 use scop_syntax::tree::Aff;
 
 /// `value + coefficient * entry`, modulo 2^64.
-fn with_product(value: i64, coefficient: i64, entry: i64) -> i64
+pub fn with_product(value: i64, coefficient: i64, entry: i64) -> i64
     ensures { result ≡ int_wrap w64 (value +ℤ (coefficient *ℤ entry)) }
 {
     value.wrapping_add(coefficient.wrapping_mul(entry))
 }
 
-/// The value of `form` at `point`, modulo 2^64.
+/// The value of `form` at `point`, modulo 2^64 as a signed number.
 pub fn value_at(form: &Aff, point: &[i64]) -> i64
     ensures { result ≡ int_wrap w64 (value_of form.now point.now) }
 {
@@ -26,19 +26,17 @@ pub fn value_at(form: &Aff, point: &[i64]) -> i64
     value
 }
 
-/// The value of `form` at `point` as an index.
-pub fn index_at(form: &Aff, point: &[i64]) -> usize
-    requires fits { FitsSigned w64 (value_of form.now point.now) }
-    requires not_negative { pos 0 ≤ℤ value_of form.now point.now }
-    ensures { result ≡ size_of (value_of form.now point.now) }
+/// The value of `form` at `point`.
+pub fn exact_at(form: &Aff, point: &[i64]) -> i64
+    requires { FitsSigned w64 (value_of form.now point.now) }
+    ensures { result ≡ value_of form.now point.now }
 {
-    value_at(form, point) as usize
+    value_at(form, point)
 }
 
-/// The iterator of a loop from `first` by `stride` at turn `turn`.
-pub fn iterator_at(first: i64, stride: i64, turn: u64) -> i64
-    requires turn { turn < 2 ^ 63 }
-    ensures { result ≡ int_wrap w64 (first +ℤ (stride *ℤ pos turn)) }
+/// The value of `form` at `point`, modulo 2^64.
+pub fn wrapped_at(form: &Aff, point: &[i64]) -> u64
+    ensures { result ≡ wrapped (value_of form.now point.now) }
 {
-    with_product(first, stride, turn as i64)
+    value_at(form, point).cast_unsigned()
 }

@@ -1,31 +1,46 @@
-use Rattle.std.proofs.Common.{◌≡◌, ℕ, List, fold, ap, sym, subst, ◌∙◌, take_all}
-use Rattle.std.specs.Prelude.{ℤ}
+use Rattle.std.proofs.Common.{List, ap, sym, subst, ◌∙◌, arith}
+use Rattle.std.specs.Prelude.{ℤ, ℕ}
 use Rattle.scop_syntax.specs.declared.tree.Item.{Item}
-use Rattle.scop_syntax.specs.View.{program_of, views}
-use Rattle.scop_syntax.specs.Execution.{layout, performed}
-use Rattle.scop_meaning.specs.Fits.{CanRun}
-use Rattle.scop_meaning.specs.Visits.{visits_all}
-use Rattle.scop_meaning.specs.declared.loops.TheConstants.{ROOM}
-use Rattle.scop_meaning.proofs.Walks.{exec_is, inside_is}
+use Rattle.scop_syntax.specs.View.{program_of, items_of}
+use Rattle.scop_syntax.specs.Execution.{IsShaped, layout}
+use Rattle.scop_syntax.specs.Acts.{acts_all}
+use Rattle.scop_meaning.specs.Conditions.{CanRun, ran}
+use Rattle.scop_meaning.proofs.Kernels.{kernel_runs, exec_is}
 use Rattle.scop_meaning.proofs.interpreter.run_plain.Goals as goal
+
+pub point_at-point-requires : goal.point_at-point-requires
+point_at-point-requires c =
+    let few = c.requires.limits.kernel.few_parameters in
+    let same = c.requires.limits.count in
+    omega arith
 
 pub run_items-requires : goal.run_items-requires
 run_items-requires c =
     let p = program_of c.args.kernel.now in
     let params = c.args.params.now in
-    let whole : CanRun ROOM p params p.body params c.args.arrays.now =
-    record { depth = c.requires.room; sizes = c.requires.fits.sizes; fits = c.requires.fits.body; inside = inside_is p params c.requires.inside; shape = c.requires.shape } in
-    let point : c.loop-param.point.items ≡ params = c.loop-param.invariant ∙ take_all c.loop-param.param-index params c.loop-param-test.false in
-    subst (λ (items : List Item). CanRun ROOM p params (views items) c.loop-param.point.items c.args.arrays.now) (sym c.deref.ensures.value)
-    (subst (λ (x : List ℤ). CanRun ROOM p params p.body x c.args.arrays.now) (sym point) whole)
+    let limits = c.requires.limits in
+    let runs = kernel_runs p params c.args.arrays.now limits (c.numbers_of_runs_fit.ensures p params limits)
+    (c.cells_lie_within_22_bits.ensures.counts p params limits) c.requires.inside c.requires.shape in
+    subst (λ (es : List (List ℕ)). CanRun 9 es (items_of c.deref.result.now) c.point_at-point.result.items
+    c.args.arrays.now) (sym c.of-layout.ensures)
+    (subst (λ (items : List Item). CanRun 9 (layout p params) (items_of items) c.point_at-point.result.items
+    c.args.arrays.now) (sym c.deref.ensures.value)
+    (subst (λ (x : List ℤ). CanRun 9 (layout p params) p.body x c.args.arrays.now) (sym c.point_at-point.ensures) runs))
 
-pub returns : goal.returns
-returns c =
+pub returns-clause-arrays : goal.returns-clause-arrays
+returns-clause-arrays c =
     let p = program_of c.args.kernel.now in
     let params = c.args.params.now in
-    let point : c.loop-param.point.items ≡ params = c.loop-param.invariant ∙ take_all c.loop-param.param-index params c.loop-param-test.false in
-    let run : List Item → List ℤ → List (List ℕ) = λ items x. fold (performed (layout p params)) c.args.arrays.now (visits_all (views items) x) in
-    record {
-      arrays = c.run_items.ensures.arrays
-          ∙ (ap (λ (items : List Item). run items c.loop-param.point.items) c.deref.ensures.value ∙ (ap (run c.args.kernel.now.items.items) point ∙ sym (exec_is p params c.args.arrays.now)));
-    }
+    let old = c.args.arrays.now in
+    c.run_items.ensures.arrays
+    ∙ (ap (λ (es : List (List ℕ)). ran es old
+    (acts_all (items_of c.deref.result.now) c.point_at-point.result.items)) c.of-layout.ensures
+    ∙ (ap (λ (items : List Item). ran (layout p params) old
+    (acts_all (items_of items) c.point_at-point.result.items)) c.deref.ensures.value
+    ∙ (ap (λ (x : List ℤ). ran (layout p params) old (acts_all p.body x)) c.point_at-point.ensures
+    ∙ exec_is p params old)))
+
+pub returns-clause-shape : goal.returns-clause-shape
+returns-clause-shape c =
+    subst (λ (es : List (List ℕ)). IsShaped es c.run_items.new.arrays) c.of-layout.ensures
+    c.run_items.ensures.ready.shape

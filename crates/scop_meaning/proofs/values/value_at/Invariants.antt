@@ -6,4 +6,5 @@ use Rattle.whole_numbers.specs.Affine.{value_of}
 use Rattle.scop_meaning.proofs.values.value_at.Given as goal
 
 abbrev pub invariant-loop-at : goal.invariant-loop-at
-invariant-loop-at l = int_wrap w64 (l.value +ℤ dot (drop l.at l.form.coefficients) (drop l.at l.point)) ≡ int_wrap w64 (value_of l.form l.point)
+invariant-loop-at l = int_wrap w64 (l.value +ℤ dot (drop l.at l.form.coefficients) (drop l.at l.point))
+    ≡ int_wrap w64 (value_of l.form l.point)

@@ -1,0 +1,64 @@
+-- The numbers of accesses, and of cells among those of all arrays.
+use Rattle.std.proofs.Common.{
+  ◌≡◌,
+  ℕ,
+  zero,
+  suc,
+  ◌+◌,
+  ◌-◌,
+  ◌<◌,
+  ◌≤◌,
+  List,
+  [],
+  ◌∷◌,
+  ◌++◌,
+  length,
+  take,
+  get_or,
+  ap,
+  ◌∙◌,
+  refl,
+  arith,
+}
+use Rattle.std.specs.Prelude.{slice_get}
+use Rattle.scop_syntax.specs.Execution.{cell_count, total_cells}
+use Rattle.scop_meaning.specs.Instances.{AreExtents, AreLayout}
+
+-- an element of two lists, one behind the other
+pub get_front : {A : Type 0} (xs ys : List A) (i : ℕ) → i < length xs → slice_get (xs ++ ys) i ≡ slice_get xs i
+get_front [] ys i h = absurd (omega arith)
+get_front (x ∷ xs) ys zero h = refl
+get_front (x ∷ xs) ys (suc i) h = get_front xs ys i (omega arith)
+
+pub get_back : {A : Type 0} (xs ys : List A) (i : ℕ) → length xs ≤ i
+    → slice_get (xs ++ ys) i ≡ slice_get ys (i - length xs)
+get_back [] ys i h = let z : i ≡ i - 0 = omega arith in ap (slice_get ys) z
+get_back (x ∷ xs) ys zero h = absurd (omega arith)
+get_back (x ∷ xs) ys (suc i) h =
+    let z : i - length xs ≡ suc i - suc (length xs) = omega arith in
+    get_back xs ys i (omega arith) ∙ ap (slice_get ys) z
+
+-- the cells of one more array
+total_next : (es : List (List ℕ)) (i : ℕ) → i < length es
+    → total_cells (take (suc i) es) ≡ total_cells (take i es) + cell_count (get_or es i [])
+total_next [] i h = absurd (omega arith)
+total_next (e ∷ es) zero h = omega arith
+total_next (e ∷ es) (suc i) h = let r = total_next es i (omega arith) in omega arith
+
+pub total_step : (es : List (List ℕ)) (i : ℕ) → i < length es
+    → total_cells (take (i + 1) es) ≡ total_cells (take i es) + cell_count (get_or es i [])
+total_step es i h =
+    let n : i + 1 ≡ suc i = omega arith in ap (λ k. total_cells (take k es)) n ∙ total_next es i h
+
+pub total_front : (es : List (List ℕ)) (i : ℕ) → total_cells (take i es) ≤ total_cells es
+total_front [] zero = omega arith
+total_front [] (suc i) = omega arith
+total_front (e ∷ es) zero = omega arith
+total_front (e ∷ es) (suc i) = let r = total_front es i in omega arith
+
+pub extents_at : (es : List (List ℕ)) (i : ℕ) → AreLayout es → i < length es → AreExtents (get_or es i [])
+extents_at es i c h =
+    let s = total_step es i h in
+    let f = total_front es (i + 1) in
+    let t = c.total in
+    record { sizes = c.sizes i [] h; count = omega arith }

@@ -1,0 +1,145 @@
+-- Going over the items of a tree and over the turns of a loop.
+use Rattle.std.proofs.Common.{
+  ◌≡◌,
+  ℕ,
+  zero,
+  suc,
+  ◌+◌,
+  ◌-◌,
+  ◌<◌,
+  ◌≤◌,
+  ◌^◌,
+  true,
+  List,
+  [],
+  ◌∷◌,
+  length,
+  drop,
+  get_or,
+  ap,
+  subst,
+  sym,
+  ◌∙◌,
+  refl,
+  arith,
+  add-one,
+  drop-cons,
+  length-append,
+}
+use Rattle.std.specs.Prelude.{ℤ, pos, ◌+ℤ◌, ◌*ℤ◌}
+use Rattle.whole_numbers.specs.Affine.{value_of}
+use Rattle.scop_syntax.specs.Tree.{Test, Head, Tree, loop, guard, statement, Trees, none, more}
+use Rattle.scop_syntax.specs.declared.tree.Item.{Item}
+use Rattle.scop_syntax.specs.View.{tree_of, items_of}
+use Rattle.scop_syntax.specs.Walk.{all_hold, condition_at, turn_point, RunsFor}
+use Rattle.scop_syntax.specs.Kernel.{IsHead, AreTrees}
+use Rattle.scop_syntax.specs.Fits.{TurnFits}
+use Rattle.scop_meaning.specs.Conditions.{CanWalk, CanTurn}
+
+-- how much of a tree a call goes over
+abbrev mutual
+  pub weight : Tree → ℕ
+  weight (loop head body) = weight_all body + 4
+  weight (guard tests body) = weight_all body + 4
+  weight (statement s) = 1
+
+  pub weight_all : Trees → ℕ
+  weight_all none = 0
+  weight_all (more t ts) = weight t + weight_all ts
+
+weight_member : (items : List Item) (i : ℕ) (d : Item) → i < length items
+    → weight (tree_of (get_or items i d)) ≤ weight_all (items_of items)
+weight_member [] i d h = absurd (omega arith)
+weight_member (x ∷ xs) zero d h = omega arith
+weight_member (x ∷ xs) (suc i) d h = let below = weight_member xs i d (omega arith) in omega arith
+
+-- an item weighs no more than all
+pub item_weight : (items : List Item) (i : ℕ) (item : Item) → item ≡ get_or items i item → i < length items
+    → weight (tree_of item) ≤ weight_all (items_of items)
+item_weight items i item found h =
+    subst (λ (x : Item). weight (tree_of x) ≤ weight_all (items_of items)) (sym found) (weight_member items i item h)
+
+-- the items from i on begin with the one at i
+pub item_here : (items : List Item) (i : ℕ) (item : Item) → item ≡ get_or items i item → i < length items
+    → items_of (drop i items) ≡ more (tree_of item) (items_of (drop (i + 1) items))
+item_here items i item found h =
+    let rest = items_of (drop (i + 1) items) in
+    let first : items_of (drop i items)
+    ≡ more (tree_of (get_or items i item)) rest = rw (add-one, drop-cons items i item) refl in
+    first ∙ ap (λ (x : Item). more (tree_of x) rest) (sym found)
+
+pub walk_first : (room : ℕ) (ranks : List ℕ) (t : Tree) (ts : Trees) (point : List ℤ)
+    → CanWalk room ranks (more t ts) point
+    → CanWalk room ranks (more t none) point
+walk_first room ranks t ts point c =
+    record {
+      loops = c.loops;
+      comparisons = c.comparisons;
+      formed = (c.formed.0, tt);
+      space = c.space;
+      numbers =
+          (c.numbers.0, tt);
+    }
+
+pub walk_rest : (room : ℕ) (ranks : List ℕ) (t : Tree) (ts : Trees) (point : List ℤ)
+    → CanWalk room ranks (more t ts) point
+    → CanWalk room ranks ts point
+walk_rest room ranks t ts point c =
+    record { loops = c.loops; comparisons = c.comparisons; formed = c.formed.1; space = c.space; numbers = c.numbers.1 }
+
+-- the body of a guard whose tests hold
+pub walk_guard : (room : ℕ) (ranks : List ℕ) (tests : List Test) (body : Trees) (point : List ℤ)
+    → CanWalk room ranks (more (guard tests body) none) point → all_hold tests point ≡ true
+    → CanWalk room ranks body point
+walk_guard room ranks tests body point c h = record {
+  loops = c.loops;
+  comparisons = c.comparisons - length tests;
+  formed = c.formed.0.4;
+  space = c.space;
+  numbers = c.numbers.0.1 h;
+}
+
+pub loop_head : (room : ℕ) (ranks : List ℕ) (head : Head) (body : Trees) (point : List ℤ)
+    → CanWalk room ranks (more (loop head body) none) point → IsHead (length point) head
+loop_head room ranks head body point c = c.formed.0.1
+
+pub loop_space : (room : ℕ) (ranks : List ℕ) (head : Head) (body : Trees) (point : List ℤ)
+    → CanWalk room ranks (more (loop head body) none) point → length point < room
+loop_space room ranks head body point c = let some = c.formed.0.0 in let s = c.space in omega arith
+
+pub turn_fits : (room : ℕ) (ranks : List ℕ) (head : Head) (body : Trees) (point : List ℤ) (m k : ℕ)
+    → CanWalk room ranks (more (loop head body) none) point → RunsFor (λ j. condition_at head point (pos j)) m
+    → k ≤ m → TurnFits head point k
+turn_fits room ranks head body point m k c runs h = (c.numbers.0 k (λ j g. runs.holds j (omega arith))).0
+
+pub first_turn_fits : (room : ℕ) (ranks : List ℕ) (head : Head) (body : Trees) (point : List ℤ)
+    → CanWalk room ranks (more (loop head body) none) point → TurnFits head point 0
+first_turn_fits room ranks head body point c = (c.numbers.0 0 (λ j g. absurd (omega arith))).0
+
+-- turn k of a loop can be entered
+pub can_turn : (room : ℕ) (ranks : List ℕ) (head : Head) (body : Trees) (point : List ℤ) (m k : ℕ) (first : ℤ)
+    → CanWalk room ranks (more (loop head body) none) point → RunsFor (λ j. condition_at head point (pos j)) m
+    → m ≤ 2 ^ 63 → k < m
+    → first ≡ value_of head.first point → CanTurn room head first k point
+can_turn room ranks head body point m k first c runs few h is = record {
+  space = loop_space room ranks head body point c;
+  is_first = is;
+  turn = omega arith;
+  fits = (turn_fits room ranks head body point m k c runs (omega arith)).iterator;
+}
+
+-- and its body goes on from there
+pub walk_turn : (room : ℕ) (ranks : List ℕ) (head : Head) (body : Trees) (point : List ℤ) (m k : ℕ)
+    → CanWalk room ranks (more (loop head body) none) point → RunsFor (λ j. condition_at head point (pos j)) m → k < m
+    → CanWalk room ranks body (turn_point head point (pos k))
+walk_turn room ranks head body point m k c runs h =
+    let longer = length-append point ((value_of head.first point +ℤ (head.stride *ℤ pos k)) ∷ []) in
+    let some = c.formed.0.0 in
+    let s = c.space in
+    record {
+      loops = c.loops - 1;
+      comparisons = c.comparisons;
+      formed = subst (λ n. AreTrees ranks n (c.loops - 1) c.comparisons body) (sym longer) c.formed.0.3;
+      space = omega arith;
+      numbers = (c.numbers.0 k (λ j g. runs.holds j (omega arith))).1 (runs.holds k h);
+    }

@@ -1,0 +1,39 @@
+use Rattle.std.proofs.Common.{◌-◌, ◌<◌, ◌≤◌, length, ap, sym, ◌∙◌, arith}
+use Rattle.std.specs.Prelude.{slice_get}
+use Rattle.scop_syntax.specs.Tree.{Expression}
+use Rattle.scop_syntax.specs.declared.tree.Expr.{Expr}
+use Rattle.scop_syntax.specs.Cells.{reads_of}
+use Rattle.scop_syntax.specs.View.{expression_of}
+use Rattle.scop_syntax.proofs.Views.{expression_binary}
+use Rattle.scop_meaning.proofs.Numbering.{get_front, get_back}
+use Rattle.scop_meaning.proofs.accesses.+read_at.Goals as goal
+
+pub returns-then-number-before : goal.returns-then-number-before
+returns-then-number-before t c =
+    let e = expression_of c.in-Binary.left.value in
+    let f = expression_of c.in-Binary.right.value in
+    let n = c.args.number in
+    let is = ap expression_of c.in-Binary.is
+    ∙ expression_binary c.in-Binary.field-0 c.in-Binary.left c.in-Binary.right in
+    let left = ap (λ (x : Expr). reads_of (expression_of x)) c.deref-in-Binary.ensures in
+    let count = c.count_reads-before.ensures ∙ ap length left in
+    let h : n < length (reads_of e) = omega (arith, c.if-number-before.true) in
+    let again = ap (λ (x : Expr). slice_get (reads_of (expression_of x)) n) c.deref-then-number-before.ensures in
+    ap (λ (x : Expression). slice_get (reads_of x) n) is
+    ∙ (get_front (reads_of e) (reads_of f) n h ∙ (sym again ∙ c.read_at-then-number-before.ensures))
+
+pub returns-else-number-before : goal.returns-else-number-before
+returns-else-number-before t c =
+    let e = expression_of c.in-Binary.left.value in
+    let f = expression_of c.in-Binary.right.value in
+    let n = c.args.number in
+    let is = ap expression_of c.in-Binary.is
+    ∙ expression_binary c.in-Binary.field-0 c.in-Binary.left c.in-Binary.right in
+    let left = ap (λ (x : Expr). reads_of (expression_of x)) c.deref-in-Binary.ensures in
+    let count = c.count_reads-before.ensures ∙ ap length left in
+    let h : length (reads_of e) ≤ n = omega (arith, c.if-number-before.false) in
+    let again = ap (λ (x : Expr). slice_get (reads_of (expression_of x)) (n - c.count_reads-before.result))
+    c.deref-else-number-before.ensures in
+    ap (λ (x : Expression). slice_get (reads_of x) n) is
+    ∙ (get_back (reads_of e) (reads_of f) n h
+    ∙ (ap (λ k. slice_get (reads_of f) (n - k)) (sym count) ∙ (sym again ∙ c.read_at-else-number-before.ensures)))

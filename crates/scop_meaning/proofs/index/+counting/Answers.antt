@@ -1,0 +1,18 @@
+use Rattle.std.proofs.Common.{◌+◌, ◌<◌, ◌≤◌, length, ap, arith, rules}
+use Rattle.scop_syntax.specs.View.{items_of, tree_of}
+use Rattle.scop_syntax.specs.Walk.{statements_in, statements_in_all}
+use Rattle.scop_meaning.proofs.Walking.{weight, weight_all, item_weight, item_here}
+use Rattle.scop_meaning.proofs.index.+counting.Goals as goal
+
+pub count_all-count_in-count-requires : goal.count_all-count_in-count-requires
+count_all-count_in-count-requires t c =
+    let l = c.loop-item in
+    let items = c.args.items.now in
+    let h : l.item-index < length items = c.loop-item-test.true in
+    let here = ap statements_in_all (item_here items l.item-index c.item-item.result c.item-item.is h) in
+    let heavy = item_weight items l.item-index c.item-item.result c.item-item.is h in
+    let so_far = l.invariant in
+    let few = c.requires in
+    let less : weight (tree_of c.item-item.result) < weight_all (items_of items) + 1 = omega arith in
+    let within : statements_in (tree_of c.item-item.result) ≤ 32 = omega arith in
+    search rules

@@ -1,0 +1,26 @@
+use Rattle.std.proofs.Common.{List, length, ap, sym, ◌∙◌}
+use Rattle.std.specs.Prelude.{ℤ}
+use Rattle.scop_syntax.specs.Acts.{Act}
+use Rattle.scop_syntax.specs.Cells.{reads as reads_by}
+use Rattle.scop_syntax.specs.Values.{stored_by}
+use Rattle.scop_syntax.specs.View.{instance_of, program_of, statement_of}
+use Rattle.scop_syntax.specs.Walk.{instance, walk_of}
+use Rattle.scop_syntax.proofs.Members.{in_map_from}
+use Rattle.scop_meaning.specs.Instances.{IsVisitOf}
+use Rattle.scop_meaning.proofs.instances.value.Goals as goal
+
+pub stored_on-requires : goal.stored_on-requires
+stored_on-requires c =
+    let p = program_of c.args.kernel.now in
+    let params = c.args.params.now in
+    let i = instance_of c.args.instance.now in
+    let u = in_map_from instance i (walk_of p params) c.requires.walked in
+    let is : IsVisitOf p params i u.0 = record { walked = u.1; same = sym u.2 } in
+    c.requires.reads u.0 is ∙ ap (λ (a : Act). length (reads_by a.body)) (sym (c.find-statement.ensures.found u.0 is))
+
+pub returns : goal.returns
+returns c = λ v is.
+    c.stored_on.ensures
+    ∙ (ap (λ (x : List ℤ). stored_by (statement_of c.find-statement.result.now).right x c.args.reads.now)
+    c.as_slice.ensures.value
+    ∙ ap (λ (a : Act). stored_by a.body.right a.point c.args.reads.now) (c.find-statement.ensures.found v is))

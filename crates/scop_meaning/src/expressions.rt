@@ -1,0 +1,62 @@
+//! Values of expressions.
+ghost use Rattle.std.specs.Prelude.{◌≡◌, ◌+◌, ◌≤◌, drop, length};
+ghost use Rattle.scop_syntax.specs.Cells.{reads as reads_by, reads_of};
+ghost use Rattle.scop_syntax.specs.View.{expression_of, statement_of};
+ghost use Rattle.scop_syntax.specs.Values.{stored_by, value_on};
+
+use crate::operators::{combined, complemented, negated, shifted_left, shifted_right};
+use crate::values::wrapped_at;
+use scop_syntax::tree::{Expr, Right, Stmt};
+
+/// The value of `expression` at `point`, where its reads have the values `reads` from `at` on; `at`
+/// goes on behind them.
+pub fn value_from(expression: &Expr, point: &[i64], reads: &[u64], at: &mut usize) -> u64
+    requires { at.old + length (reads_of (expression_of expression.now)) ≤ length reads.now }
+    ensures value { result ≡ value_on (expression_of expression.now) point.now (drop at.old reads.now) }
+    ensures at { at.new ≡ at.old + length (reads_of (expression_of expression.now)) }
+{
+    match expression {
+        Expr::Read(_) => {
+            let value = reads[*at];
+            *at += 1;
+            value
+        }
+        Expr::Constant(value) => *value,
+        Expr::Affine(form) => wrapped_at(form, point),
+        Expr::Negated(operand) => negated(value_from(operand, point, reads, at)),
+        Expr::Complemented(operand) => complemented(value_from(operand, point, reads, at)),
+        Expr::Cast(operand) => value_from(operand, point, reads, at),
+        Expr::Binary(operator, left, right) => {
+            let first = value_from(left, point, reads, at);
+            let second = value_from(right, point, reads, at);
+            combined(*operator, first, second)
+        }
+        Expr::ShiftedLeft(operand, count) => {
+            shifted_left(value_from(operand, point, reads, at), *count)
+        }
+        Expr::ShiftedRight(operand, count) => {
+            shifted_right(value_from(operand, point, reads, at), *count)
+        }
+    }
+}
+
+/// What `statement` stores at `point`, where its reads have the values `reads`.
+pub fn stored_on(statement: &Stmt, point: &[i64], reads: &[u64]) -> u64
+    requires { length reads.now ≡ length (reads_by (statement_of statement.now)) }
+    ensures { result ≡ stored_by (statement_of statement.now).right point.now reads.now }
+{
+    let mut at = 0;
+    match &statement.right {
+        Right::Assigned(value) => value_from(value, point, reads, &mut at),
+        Right::Combined(operator, value) => {
+            at = 1;
+            combined(
+                *operator,
+                reads[0],
+                value_from(value, point, reads, &mut at),
+            )
+        }
+        Right::ShiftedLeft(count) => shifted_left(reads[0], *count),
+        Right::ShiftedRight(count) => shifted_right(reads[0], *count),
+    }
+}
