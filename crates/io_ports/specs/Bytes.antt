@@ -1,4 +1,5 @@
-use Rattle.std.specs.Prelude.{◌≡◌, ℕ, ◌<◌, List, ◌++◌, length, ⊤, Option, None, Some, Result, MatchResult}
+-- What calls do to the bytes that a source or a sink tells; of bytes that are not told nothing is said.
+use Rattle.std.specs.Prelude.{◌≡◌, ℕ, ◌<◌, List, ◌++◌, length, ⊤, Option, None, Some}
 
 -- these are all the bytes that were told to be left
 abbrev pub IsAllOf : Option (List ℕ) → List ℕ → Type 0
@@ -16,12 +17,8 @@ GainsFront None new text = ⊤
 GainsFront (Some old) None text = ⊥
 GainsFront (Some old) (Some new) text = (front : List ℕ) × (rest : List ℕ) × (text ≡ front ++ rest) × (new ≡ old ++ front)
 
--- a sink gained a front of what was pending before it and a text, and the rest is pending now
-abbrev pub Passes : Option (List ℕ) → List ℕ → Option (List ℕ) → List ℕ → List ℕ → Type 0
-Passes None pending new rest text = ⊤
-Passes (Some old) pending None rest text = ⊥
-Passes (Some old) pending (Some new) rest text = (front : List ℕ) × (new ≡ old ++ front) × (front ++ rest ≡ pending ++ text)
-
--- a text was put behind what was pending, or the sink failed and gained a front of both
-abbrev pub Puts : {E : Type 0} → Option (List ℕ) → List ℕ → Option (List ℕ) → List ℕ → List ℕ → Result (Unit {0}) E → Type 0
-Puts old pending new rest text result = MatchResult result (λ _. Passes old pending new rest text) (λ _. GainsFront old new (pending ++ text))
+-- told bytes grew by a front of what was pending before them and a text, and the rest is pending now
+abbrev pub SendsFront : Option (List ℕ) → List ℕ → Option (List ℕ) → List ℕ → List ℕ → Type 0
+SendsFront None pending new rest text = ⊤
+SendsFront (Some old) pending None rest text = ⊥
+SendsFront (Some old) pending (Some new) rest text = (front : List ℕ) × (new ≡ old ++ front) × (front ++ rest ≡ pending ++ text)

@@ -1,4 +1,6 @@
 pub mod Bytes
 pub mod Faults
 pub mod Memory
+pub mod Reads
 pub mod Streams
+pub mod Writes

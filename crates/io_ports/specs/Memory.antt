@@ -1,6 +1,8 @@
 -- The in-memory ports: what each value is, and exactly what each call does to it.
-use Rattle.std.specs.Prelude.{◌≡◌, ◌⊎◌, ◌↔◌, ℕ, ◌-◌, ◌<◌, min, List, ◌++◌, length, take, drop, Contains, Result, IsErr, IfOk, OnErr}
-use Rattle.io_ports.specs.Faults.{next_count}
+use Rattle.std.specs.Prelude.{◌≡◌, ◌⊎◌, ◌↔◌, ℕ, ◌-◌, ◌<◌, min, List, ◌++◌, length, take, drop, Contains, Result, IsErr, IfOk, OnErr, None, Some, if◌then◌else◌}
+use Rattle.io_ports.specs.Faults.{next_count, none_to_come}
+use Rattle.io_ports.specs.Reads.{SourceShows}
+use Rattle.io_ports.specs.Writes.{SinkShows}
 
 -- a source over bytes in memory: those left, the most that a call gives, the numbers of the calls that
 -- fail (counted from 1), and how many calls were made and failed
@@ -10,6 +12,10 @@ pub record SourceState : Type 0 where
   pub fails : List ℕ
   pub calls : ℕ
   pub faults : ℕ
+
+-- it tells its bytes, and is steady where no call that fails is still to come
+abbrev pub source_shows : SourceState → SourceShows
+source_shows source = record { left = Some source.left; faults = source.faults; is_steady = none_to_come source.fails source.calls }
 
 -- a read fails exactly at the listed calls, and else gives the most that step, room and bytes allow
 pub record ReadsNext {E : Type 0} (old new : SourceState) (room : ℕ) (result : Result ℕ E) : Type 0 where
@@ -26,6 +32,14 @@ pub record SinkState : Type 0 where
   pub fails : List ℕ
   pub calls : ℕ
   pub faults : ℕ
+
+-- it tells its bytes, and takes as many as it has room for where no call that fails is still to come
+abbrev pub sink_shows : SinkState → SinkShows
+sink_shows sink = record {
+  taken = Some sink.taken;
+  faults = sink.faults;
+  limit = if none_to_come sink.fails sink.calls then Some sink.capacity else None;
+}
 
 -- there is no room for the first byte of the piece
 abbrev pub IsFull : SinkState → List ℕ → Type 0

@@ -1,8 +1,8 @@
 //! The traits of the outside through which the program reads and writes, and the loops over them.
 //!
-//! A source or a sink may tell its bytes (`left`, `taken`); each counts its faults, and fails only where
-//! that count rises. In-memory ports tell their bytes and fail at chosen calls; `StdSource` and `StdSink`
-//! adapt std's readers and writers.
+//! Each shows of itself (`shows`) what it tells: its bytes, its count of faults, and how far it is sure to go on.
+//! It fails only where that count rises and where it was not sure. In-memory ports tell their bytes and fail at
+//! chosen calls; `StdSource` and `StdSink` adapt std's readers and writers.
 #![tactic(auto)]
 
 mod calls;

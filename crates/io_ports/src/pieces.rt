@@ -3,9 +3,7 @@
 //! What the sink has taken, followed by what is pending here, is the text that was put.
 
 ghost use Rattle.std.specs.Prelude.{◌≡◌, ◌+◌, ◌≤◌, ◌++◌, [], OnOk, length};
-ghost use Rattle.std.specs.Io.KnownBytes.{Appends};
-ghost use Rattle.io_ports.specs.Faults.{HasCause};
-ghost use Rattle.io_ports.specs.Bytes.{GainsFront, Puts};
+ghost use Rattle.io_ports.specs.Writes.{Writes, Puts};
 
 use crate::fault::Failed;
 use crate::sink::{Sink, write_whole};
@@ -45,8 +43,7 @@ impl Pieces {
     /// Puts a text behind what is pending, and sends on what has no room.
     #[tactic(auto, using(crate::proofs::Writing::sending))]
     pub fn put<K: Sink>(&mut self, sink: &mut K, text: &[u8]) -> Result<(), Failed>
-        ensures put { Puts (K.taken sink.old) self.old (K.taken sink.new) self.new text.now result }
-        ensures cause { HasCause (K.faults sink.old) (K.faults sink.new) result }
+        ensures { Puts (K.shows sink.old) self.old (K.shows sink.new) self.new text.now result }
     {
         if text.len() > ROOM - self.length {
             self.finish(sink)?;
@@ -61,10 +58,8 @@ impl Pieces {
 
     /// Sends on all that is pending; the sink is not flushed.
     pub fn finish<K: Sink>(&mut self, sink: &mut K) -> Result<(), Failed>
-        ensures ok { OnOk result (Appends (K.taken sink.old) (K.taken sink.new) self.old) }
+        ensures sent { Writes (K.shows sink.old) (K.shows sink.new) self.old result }
         ensures none { OnOk result (self.new ≡ []) }
-        ensures front { GainsFront (K.taken sink.old) (K.taken sink.new) self.old }
-        ensures cause { HasCause (K.faults sink.old) (K.faults sink.new) result }
     {
         write_whole(sink, &self.bytes[..self.length])?;
         self.length = 0;

@@ -1,9 +1,8 @@
 //! A sink into memory, which tells what it took and fails at chosen calls: what tests write to.
 
-ghost use Rattle.std.specs.Prelude.{◌≡◌, ◌≤◌, ◌<◌, [], Some, IfOk, length};
-ghost use Rattle.std.specs.Io.KnownBytes.{WriteAppends, Keeps};
-ghost use Rattle.io_ports.specs.Faults.{HasCause};
-ghost use Rattle.io_ports.specs.Memory.{WritesNext, FlushesNext};
+ghost use Rattle.std.specs.Prelude.{◌≡◌, ◌≤◌, ◌<◌, [], IfOk, OnOk, OnErr, length, take};
+ghost use Rattle.io_ports.specs.Writes.{Takes, FailsToTake};
+ghost use Rattle.io_ports.specs.Memory.{sink_shows, WritesNext, FlushesNext};
 
 use crate::calls::Calls;
 use crate::fault::Failed;
@@ -72,15 +71,13 @@ impl MemSink {
 }
 
 impl Sink for MemSink {
-    ghost taken = { λ s. Some s.taken };
-
-    ghost faults = { λ s. s.faults };
+    ghost shows = { sink_shows };
 
     fn write(&mut self, piece: &[u8]) -> Result<usize, Failed>
         ensures bound { IfOk result (λ n. n ≤ length piece.now) }
         ensures some { IfOk result (λ n. 0 < length piece.now → 0 < n) }
-        ensures bytes { WriteAppends (Some self.old.taken) (Some self.new.taken) result piece.now }
-        ensures cause { HasCause self.old.faults self.new.faults result }
+        ensures taken { IfOk result (λ n. Takes (sink_shows self.old) (sink_shows self.new) (take n piece.now)) }
+        ensures failed { OnErr result (FailsToTake (sink_shows self.old) (sink_shows self.new) piece.now) }
         ensures exact { WritesNext self.old self.new piece.now result }
     {
         let room = self.capacity - self.bytes.len();
@@ -97,8 +94,8 @@ impl Sink for MemSink {
     }
 
     fn flush(&mut self) -> Result<(), Failed>
-        ensures bytes { Keeps (Some self.old.taken) (Some self.new.taken) }
-        ensures cause { HasCause self.old.faults self.new.faults result }
+        ensures done { OnOk result (Takes (sink_shows self.old) (sink_shows self.new) []) }
+        ensures failed { OnErr result (FailsToTake (sink_shows self.old) (sink_shows self.new) []) }
         ensures exact { FlushesNext self.old self.new result }
     {
         if self.calls.next_fails() {

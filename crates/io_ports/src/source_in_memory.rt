@@ -1,9 +1,9 @@
 //! A source over bytes in memory, which tells them and fails at chosen calls: what tests read from.
 
-ghost use Rattle.std.specs.Prelude.{◌≡◌, ◌≤◌, Some, IfOk, length, take};
-ghost use Rattle.std.specs.Io.KnownBytes.{ReadConsumes};
-ghost use Rattle.io_ports.specs.Faults.{HasCause};
-ghost use Rattle.io_ports.specs.Memory.{ReadsNext};
+ghost use Rattle.std.specs.Prelude.{◌≡◌, ◌<◌, ◌≤◌, Some, IfOk, OnErr, length, take};
+ghost use Rattle.std.specs.Io.KnownBytes.{IsAtEnd};
+ghost use Rattle.io_ports.specs.Reads.{Gives, FailsToGive};
+ghost use Rattle.io_ports.specs.Memory.{source_shows, ReadsNext};
 
 use crate::calls::Calls;
 use crate::fault::Failed;
@@ -70,14 +70,13 @@ impl MemSource {
 }
 
 impl Source for MemSource {
-    ghost left = { λ s. Some s.left };
-
-    ghost faults = { λ s. s.faults };
+    ghost shows = { source_shows };
 
     fn read(&mut self, buf: &mut [u8]) -> Result<usize, Failed>
         ensures bound { IfOk result (λ n. n ≤ length buf.old) }
-        ensures bytes { ReadConsumes (Some self.old.left) (Some self.new.left) result buf.new }
-        ensures cause { HasCause self.old.faults self.new.faults result }
+        ensures given { IfOk result (λ n. Gives (source_shows self.old) (source_shows self.new) (take n buf.new)) }
+        ensures end { IfOk result (λ n. n ≡ 0 → 0 < length buf.old → IsAtEnd (Some self.new.left)) }
+        ensures failed { OnErr result (FailsToGive (source_shows self.old) (source_shows self.new)) }
         ensures exact { ReadsNext self.old self.new (length buf.old) result }
     {
         if self.calls.next_fails() {

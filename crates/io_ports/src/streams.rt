@@ -1,10 +1,12 @@
 //! The ports over std's readers and writers. What such a stream holds is told as far as its own
 //! type tells it, which the streams of the system do not. Each error counts as a fault.
 
-ghost use Rattle.std.specs.Prelude.{◌≡◌, ℕ, ◌≤◌, ◌<◌, length, IfOk, is_ok, if◌then◌else◌};
-ghost use Rattle.std.specs.Io.KnownBytes.{ReadConsumes, WriteAppends, Keeps};
-ghost use Rattle.io_ports.specs.Faults.{next_count, HasCause};
-ghost use Rattle.io_ports.specs.Streams.{reader_of, read_faults, writer_of, write_faults};
+ghost use Rattle.std.specs.Prelude.{◌≡◌, ◌≤◌, ◌<◌, [], length, take, IfOk, OnOk, OnErr, is_ok, if◌then◌else◌};
+ghost use Rattle.std.specs.Io.KnownBytes.{IsAtEnd};
+ghost use Rattle.io_ports.specs.Faults.{next_count};
+ghost use Rattle.io_ports.specs.Reads.{Gives, FailsToGive};
+ghost use Rattle.io_ports.specs.Writes.{Takes, FailsToTake};
+ghost use Rattle.io_ports.specs.Streams.{reader_of, read_faults, source_shows, writer_of, write_faults, sink_shows};
 
 use crate::fault::Failed;
 use crate::sink::Sink;
@@ -28,14 +30,13 @@ impl<R: Read> StdSource<R> {
 }
 
 impl<R: Read> Source for StdSource<R> {
-    ghost left = { λ source. R.remaining (reader_of source) };
-
-    ghost faults = { λ source. read_faults source };
+    ghost shows = { λ source. source_shows R.remaining source };
 
     fn read(&mut self, buf: &mut [u8]) -> Result<usize, Failed>
         ensures bound { IfOk result (λ count. count ≤ length buf.old) }
-        ensures bytes { ReadConsumes (R.remaining (reader_of self.old)) (R.remaining (reader_of self.new)) result buf.new }
-        ensures cause { HasCause (read_faults self.old) (read_faults self.new) result }
+        ensures given { IfOk result (λ count. Gives (source_shows R.remaining self.old) (source_shows R.remaining self.new) (take count buf.new)) }
+        ensures end { IfOk result (λ count. count ≡ 0 → 0 < length buf.old → IsAtEnd (R.remaining (reader_of self.new))) }
+        ensures failed { OnErr result (FailsToGive (source_shows R.remaining self.old) (source_shows R.remaining self.new)) }
         ensures faults { read_faults self.new ≡ (if is_ok result then read_faults self.old else next_count (read_faults self.old)) }
     {
         let Ok(count) = self.reader.read(buf) else {
@@ -63,15 +64,13 @@ impl<W: Write> StdSink<W> {
 }
 
 impl<W: Write> Sink for StdSink<W> {
-    ghost taken = { λ sink. W.contents (writer_of sink) };
-
-    ghost faults = { λ sink. write_faults sink };
+    ghost shows = { λ sink. sink_shows W.contents sink };
 
     fn write(&mut self, piece: &[u8]) -> Result<usize, Failed>
         ensures bound { IfOk result (λ count. count ≤ length piece.now) }
         ensures some { IfOk result (λ count. 0 < length piece.now → 0 < count) }
-        ensures bytes { WriteAppends (W.contents (writer_of self.old)) (W.contents (writer_of self.new)) result piece.now }
-        ensures cause { HasCause (write_faults self.old) (write_faults self.new) result }
+        ensures taken { IfOk result (λ count. Takes (sink_shows W.contents self.old) (sink_shows W.contents self.new) (take count piece.now)) }
+        ensures failed { OnErr result (FailsToTake (sink_shows W.contents self.old) (sink_shows W.contents self.new) piece.now) }
         ensures faults { write_faults self.new ≡ (if is_ok result then write_faults self.old else next_count (write_faults self.old)) }
     {
         match self.writer.write(piece) {
@@ -84,8 +83,8 @@ impl<W: Write> Sink for StdSink<W> {
     }
 
     fn flush(&mut self) -> Result<(), Failed>
-        ensures bytes { Keeps (W.contents (writer_of self.old)) (W.contents (writer_of self.new)) }
-        ensures cause { HasCause (write_faults self.old) (write_faults self.new) result }
+        ensures done { OnOk result (Takes (sink_shows W.contents self.old) (sink_shows W.contents self.new) []) }
+        ensures failed { OnErr result (FailsToTake (sink_shows W.contents self.old) (sink_shows W.contents self.new) []) }
         ensures faults { write_faults self.new ≡ (if is_ok result then write_faults self.old else next_count (write_faults self.old)) }
     {
         let Ok(()) = self.writer.flush() else {

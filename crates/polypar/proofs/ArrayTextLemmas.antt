@@ -1,18 +1,14 @@
 -- The text of arrays, cell by cell and line by line.
 use Rattle.std.proofs.Common.{◌≡◌, ◌∙◌, sym, ap, refl, ℕ, ◌+◌, ◌-◌, ◌<◌, ◌≤◌, List, [], ◌∷◌, ◌++◌, length, map, min, zero, take, drop, get_or, codes, add-one, drop-cons, drop_of_length-le, append-nil, suc, arith}
 use Rattle.std.proofs.lemmas.List.{get_or-take, get_or-map, length-map}
-use Rattle.scop_syntax.specs.declared.tree.Array.{Array}
+use Rattle.scop_syntax.specs.Tree.{Declaration}
 use Rattle.scop_syntax.specs.declared.tree.Kernel.{Kernel}
-use Rattle.scop_syntax.specs.View.{declaration_of, program_of}
+use Rattle.scop_syntax.specs.View.{program_of}
 use Rattle.polypar.specs.ArrayText.{array_text, cell_text, cells_text, row_text, rows_text}
 
 -- the cells from a place on: the cell there, and those behind it
 pub cells_next : (cells : List ℕ) (i : ℕ) → i < length cells → cells_text (drop i cells) ≡ cell_text (get_or cells i 0) ++ cells_text (drop (i + 1) cells)
 cells_next cells i within = rw (add-one, drop-cons cells i 0) refl
-
--- no cells are left at the end
-pub cells_end : (cells : List ℕ) (i : ℕ) → length cells ≤ i → cells_text (drop i cells) ≡ []
-cells_end cells i past = ap cells_text (drop_of_length-le cells past)
 
 -- the lines from a place on: the line there, and those behind it
 pub rows_next : (names : List (List ℕ)) (arrays : List (List ℕ)) (i : ℕ) → i < length names → i < length arrays
@@ -29,27 +25,22 @@ space_and_digits buffer filled digits start some within long written before spac
     sym (get_or-take start buffer (start - 1) 0 (omega arith)) ∙ (ap (λ t. get_or t (start - 1) 0) before ∙ (get_or-take start filled (start - 1) 0 (omega arith) ∙ space)) in
     drop-cons buffer (start - 1) 0 lt ∙ (ap (λ x. x ∷ drop (suc (start - 1)) buffer) first ∙ ap (λ t. 32 ∷ t) (ap (λ n. drop n buffer) one ∙ (written ∙ append-nil digits)))
 
--- the names of declared arrays are those of their declarations
-declared_names : (arrays : List Array) → map (λ d. d.name) (map declaration_of arrays) ≡ map (λ a. a.name.items) arrays
-declared_names [] = refl
-declared_names (a ∷ rest) = ap (λ names. a.name.items ∷ names) (declared_names rest)
-
 -- the lines of a kernel's arrays are the text of its arrays
-pub kernel_rows : (kernel : Kernel) (arrays : List Array) (contents : List (List ℕ)) (pending : List ℕ) → pending ≡ [] → arrays ≡ kernel.arrays.items
-    → pending ++ rows_text (map (λ a. a.name.items) arrays) contents ≡ array_text (program_of kernel) contents
+pub kernel_rows : (kernel : Kernel) (arrays : List Declaration) (contents : List (List ℕ)) (pending : List ℕ) → pending ≡ [] → arrays ≡ kernel.arrays.items
+    → pending ++ rows_text (map (λ a. a.name) arrays) contents ≡ array_text (program_of kernel) contents
 kernel_rows kernel arrays contents pending none same =
-    ap (λ p. p ++ rows_text (map (λ a. a.name.items) arrays) contents) none
-    ∙ ap (λ names. rows_text names contents) (ap (λ a. map (λ b. b.name.items) a) same ∙ sym (declared_names kernel.arrays.items))
+    ap (λ p. p ++ rows_text (map (λ a. a.name) arrays) contents) none
+    ∙ ap (λ names. rows_text names contents) (ap (λ a. map (λ b. b.name) a) same)
 
 -- what was put so far, the line of the next array, and the lines behind it are all the lines
-pub rows_split : (arrays : List Array) (contents : List (List ℕ)) (i : ℕ) (array : Array) (name cells done : List ℕ) → i < length arrays → i < length contents
-    → name ≡ (get_or arrays i array).name.items → cells ≡ get_or contents i []
-    → done ++ rows_text (drop i (map (λ a. a.name.items) arrays)) (drop i contents) ≡ rows_text (map (λ a. a.name.items) arrays) contents
-    → done ++ ((row_text name cells ++ codes "\n") ++ rows_text (drop (i + 1) (map (λ a. a.name.items) arrays)) (drop (i + 1) contents)) ≡ rows_text (map (λ a. a.name.items) arrays) contents
+pub rows_split : (arrays : List Declaration) (contents : List (List ℕ)) (i : ℕ) (array : Declaration) (name cells done : List ℕ) → i < length arrays → i < length contents
+    → name ≡ (get_or arrays i array).name → cells ≡ get_or contents i []
+    → done ++ rows_text (drop i (map (λ a. a.name) arrays)) (drop i contents) ≡ rows_text (map (λ a. a.name) arrays) contents
+    → done ++ ((row_text name cells ++ codes "\n") ++ rows_text (drop (i + 1) (map (λ a. a.name) arrays)) (drop (i + 1) contents)) ≡ rows_text (map (λ a. a.name) arrays) contents
 rows_split arrays contents i array name cells done within held named given whole =
-    let names = map (λ (a : Array). a.name.items) arrays in
-    let long : i < length names = omega (arith, length-map arrays (λ (a : Array). a.name.items)) in
-    let at_name : get_or names i [] ≡ name = get_or-map (λ (a : Array). a.name.items) arrays i array [] within ∙ sym named in
+    let names = map (λ (a : Declaration). a.name) arrays in
+    let long : i < length names = omega (arith, length-map arrays (λ (a : Declaration). a.name)) in
+    let at_name : get_or names i [] ≡ name = get_or-map (λ (a : Declaration). a.name) arrays i array [] within ∙ sym named in
     let line : row_text (get_or names i []) (get_or contents i []) ≡ row_text name cells = ap (λ n. row_text n (get_or contents i [])) at_name ∙ ap (row_text name) (sym given) in
     ap (λ t. done ++ ((t ++ codes "\n") ++ rows_text (drop (i + 1) names) (drop (i + 1) contents))) (sym line)
     ∙ (ap (λ t. done ++ t) (sym (rows_next names contents i long held)) ∙ whole)

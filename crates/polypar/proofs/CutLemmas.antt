@@ -41,10 +41,6 @@ pub record IsCutBehind (input : List ℕ) (at : ℕ) : Type 0 where
   pub kernel : before_cut (lines_of input) ≡ take at input ++ before_cut (lines_of (drop at input))
   pub case : after_cut (lines_of input) ≡ after_cut (lines_of (drop at input))
 
--- no line stands before the first
-pub cut_behind_nothing : (input : List ℕ) → IsCutBehind input 0
-cut_behind_nothing input = record { kernel = refl; case = refl }
-
 -- a line that does not cut
 pub cut_behind_line : (input : List ℕ) (at n : ℕ) → IsCutBehind input at → lines_of (drop at input) ≡ take n (drop at input) ∷ lines_of (drop n (drop at input))
     → is_cut (take n (drop at input)) ≡ false → IsCutBehind input (at + n)
@@ -59,26 +55,9 @@ cut_behind_line input at n behind first stays =
       case = behind.case ∙ (case ∙ ap (λ t. after_cut (lines_of t)) (drop-drop n at input));
     }
 
--- a line that cuts: the kernel's text ends before it
-pub kernel_before : (input : List ℕ) (at n : ℕ) → IsCutBehind input at → lines_of (drop at input) ≡ take n (drop at input) ∷ lines_of (drop n (drop at input))
-    → is_cut (take n (drop at input)) ≡ true → take at input ≡ before_cut (lines_of input)
-kernel_before input at n behind first cuts =
-    let none : before_cut (lines_of (drop at input)) ≡ [] = ap before_cut first ∙ rw cuts refl in
-    sym (behind.kernel ∙ (ap (λ t. take at input ++ t) none ∙ append-nil (take at input)))
-
 -- a line that cuts: the data begins behind it
 pub case_behind : (input : List ℕ) (at n : ℕ) → IsCutBehind input at → lines_of (drop at input) ≡ take n (drop at input) ∷ lines_of (drop n (drop at input))
     → is_cut (take n (drop at input)) ≡ true → drop n (drop at input) ≡ after_cut (lines_of input)
 case_behind input at n behind first cuts =
     let rest : after_cut (lines_of (drop at input)) ≡ joined (lines_of (drop n (drop at input))) = ap after_cut first ∙ rw cuts refl in
     sym (behind.case ∙ (rest ∙ joined-lines_of (drop n (drop at input))))
-
--- no line cuts: the whole input is the kernel's text
-pub kernel_whole : (input : List ℕ) (at : ℕ) → IsCutBehind input at → length input ≤ at → input ≡ before_cut (lines_of input)
-kernel_whole input at behind past =
-    let none : before_cut (lines_of (drop at input)) ≡ [] = ap (λ t. before_cut (lines_of t)) (drop_of_length-le input past) in
-    sym (behind.kernel ∙ (ap (λ t. take at input ++ t) none ∙ (append-nil (take at input) ∙ take_all at input past)))
-
--- no line cuts: there is no data
-pub case_empty : (input : List ℕ) (at : ℕ) → IsCutBehind input at → length input ≤ at → [] ≡ after_cut (lines_of input)
-case_empty input at behind past = sym (behind.case ∙ ap (λ t. after_cut (lines_of t)) (drop_of_length-le input past))

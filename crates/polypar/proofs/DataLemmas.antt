@@ -1,11 +1,12 @@
 -- The data of a kernel is said in at most one way.
-use Rattle.std.proofs.Common.{◌≡◌, ◌∙◌, sym, ap, refl, ℕ, ◌+◌, ◌^◌, ◌<◌, ◌≤◌, ◌⊎◌, inl, inr, List, [], ◌∷◌, ◌++◌, length, take, drop, get_or, All, codes, decimal, append_assoc, append-nil, arith}
+use Rattle.std.proofs.Common.{ℤ, pos, ◌≡◌, ◌∙◌, sym, ap, refl, ℕ, ◌+◌, ◌^◌, ◌<◌, ◌≤◌, ◌⊎◌, inl, inr, List, [], ◌∷◌, ◌++◌, length, take, drop, get_or, All, codes, decimal, append_assoc, append-nil, arith}
 use Rattle.std.proofs.lemmas.List.{append_cancel_left, take-append-drop}
 use Rattle.std.proofs.Math.Seq.{take-append_seam, drop-append_seam}
 use Rattle.std.proofs.lemmas.List.Elements.{All-head, All-tail}
 use Rattle.polypar.proofs.ArrayTextLemmas.{cells_next}
 use Rattle.polypar.specs.ArrayText.{cell_text, cells_text}
-use Rattle.polypar.specs.DataForm.{SaysData, head_text, data_text}
+use Rattle.scop_syntax.specs.Tree.{Program}
+use Rattle.polypar.specs.DataForm.{SaysData, Says, initial_arrays, head_text, data_text}
 use Rattle.polypar.specs.Decimals.{IsPast}
 use Rattle.polypar.proofs.DecimalLemmas.{one_decimal}
 
@@ -81,10 +82,6 @@ stripped text front rest same behind = sym (take-append-drop (length front) text
 pub begins : (text front rest : List ℕ) → text ≡ front ++ rest → take (length front) text ≡ front
 begins text front rest said = ap (take (length front)) said ∙ take-append_seam front rest
 
--- what stands behind a front is the same in every way to split it off
-pub behind_front : (text front rest others : List ℕ) → rest ≡ drop (length front) text → text ≡ front ++ others → rest ≡ others
-behind_front text front rest others behind said = behind ∙ (ap (drop (length front)) said ∙ drop-append_seam front others)
-
 -- what stands behind the front of a longer front
 pub past_front : (text a behind x y : List ℕ) → text ≡ a ++ behind → text ≡ (a ++ x) ++ y → behind ≡ x ++ y
 past_front text a behind x y split said = append_cancel_left a behind (x ++ y) (sym split ∙ (said ∙ append_assoc a x y))
@@ -134,3 +131,19 @@ says text parameter source values tail count read long end some most small =
       | inr feed ↦ inr (read ∙ (head ∙ (ap (λ t. head_text parameter source (length values) ++ (cells_text values ++ t)) feed ∙ sym (append_assoc (head_text parameter source (length values)) (cells_text values) (codes "\n")))))
     ] in
     record { lines = lines; some = some; most = most; small = small }
+
+-- data says at most one list of values
+one_list : (text parameter source a b : List ℕ) → SaysData text parameter source a → SaysData text parameter source b → a ≡ b
+one_list text parameter source a b said_a said_b =
+    let first = is_said text parameter source a said_a in
+    let second = is_said text parameter source b said_b in
+    let head = one_head parameter source text (cells_text a ++ first.0) (cells_text b ++ second.0) (length a) (length b) (omega (arith, said_a.most)) (omega (arith, said_b.most)) first.1.whole second.1.whole in
+    (one_cells a b first.0 second.0 head.0 said_a.small said_b.small first.1.past second.1.past head.1).0
+
+-- data says at most one case of a program
+pub one_case : (text : List ℕ) (program : Program) (p q : List ℤ) (a b : List (List ℕ)) → Says text program p a → Says text program q b → (p ≡ q) × (a ≡ b)
+one_case text program p q a b first second =
+    let same = one_list text _ _ first.values second.values first.lines second.lines in (
+      first.parameter ∙ (ap (λ values. pos (length values) ∷ []) same ∙ sym second.parameter),
+      first.arrays ∙ (ap initial_arrays same ∙ sym second.arrays),
+    )

@@ -24,10 +24,6 @@ value-append : (n : ℕ) (front back : List ℕ) → value_behind n (front ++ ba
 value-append n [] back = refl
 value-append n (digit ∷ front) back = value-append (10 * n + (digit - 48)) front back
 
--- a front of digits has at most their value
-value-front-le : (front back : List ℕ) → value_behind 0 front ≤ value_behind 0 (front ++ back)
-value-front-le front back = subst (λ v. value_behind 0 front ≤ v) (sym (value-append 0 front back)) (value_grows (value_behind 0 front) back)
-
 -- the digits in front of a decimal and a text that does not begin with one are the decimal's
 pub run_length : (text rest : List ℕ) (value count : ℕ) → value < 2 ^ 64 → IsPast rest → text ≡ decimal value ++ rest
     → ((i : ℕ) → i < count → IsDigit (get_or text i 0)) → (IsDigit (get_or text count 0) → ⊥) → count ≡ length (decimal value)

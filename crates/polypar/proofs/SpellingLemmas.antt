@@ -1,5 +1,5 @@
 -- The names of the form stand at their places in a text that spells it.
-use Rattle.std.proofs.Common.{◌≡◌, ◌∙◌, ℕ, ◌<◌, zero, suc, List, [], ◌∷◌, length, get_or, true, refl, sym, subst, arith}
+use Rattle.std.proofs.Common.{◌≡◌, ◌∙◌, ℕ, ◌<◌, zero, suc, List, [], ◌∷◌, length, get_or, true, refl, sym, ap, subst, arith}
 use Rattle.std.specs.Prelude.{◌↔◌}
 use Rattle.std.specs.List.{list_all, AllPass}
 use Rattle.std.proofs.lemmas.Bool.{and_parts}
@@ -10,6 +10,8 @@ use Rattle.polypar.specs.Tokens.{Text, is_word_byte, is_blank, IsSpelled}
 use Rattle.polypar.specs.NextToken.{token_of, rest_of, rest_after, is_token, IsBehind, BeginsOtherwise}
 use Rattle.polypar.specs.Names.{IsName}
 use Rattle.polypar.specs.KernelForm.{CopyNames, IsCopyNames, header_tokens, loop_tokens, copy_tokens, SpellsCopy}
+use Rattle.scop_syntax.specs.Tree.{Program}
+use Rattle.polypar.specs.CopyProgram.{Spells, program_named}
 use Rattle.polypar.specs.CopyView.{names_in}
 use Rattle.polypar.proofs.TokenLemmas.{first_of_spelled}
 
@@ -88,3 +90,7 @@ spelled_by_found text names found is spelled = subst (SpellsCopy text) (sym (is 
 -- a text spells at most one kernel
 pub same_names : (text : Text) (a b : CopyNames) → SpellsCopy text a → SpellsCopy text b → a ≡ b
 same_names text a b p q = sym (names_in_spelled text a p) ∙ names_in_spelled text b q
+
+-- and at most one program
+pub one_program : (text : Text) (a b : Program) → Spells text a → Spells text b → a ≡ b
+one_program text a b p q = p.named ∙ (ap program_named (same_names text p.names q.names p.spelled q.spelled) ∙ sym q.named)

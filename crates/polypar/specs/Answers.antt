@@ -1,78 +1,89 @@
--- The statuses and their causes: what each says of the words, the source and the sinks.
--- `None` stands for bytes that a source or a sink does not tell; then nothing is said of them.
-use Rattle.std.specs.Prelude.{◌≡◌, ◌⊎◌, ℕ, ◌^◌, ◌<◌, List, length, ⊤, Option, None, Some}
-use Rattle.std.specs.Io.KnownBytes.{Keeps, Appends}
-use Rattle.io_ports.specs.Faults.{Rose}
-use Rattle.io_ports.specs.Bytes.{GainsFront}
+-- What the statuses of the parts of a call say: of the data, of the input, of the source, and of the sinks.
+use Rattle.std.specs.Prelude.{◌≡◌, ◌⊎◌, ℕ, ℤ, ◌≤◌, List, []}
+use Rattle.std.specs.Io.KnownBytes.{IsAtEnd}
+use Rattle.io_ports.specs.Bytes.{IsAllOf}
+use Rattle.io_ports.specs.Reads.{SourceShows, IsSteady, IsReadFault}
+use Rattle.io_ports.specs.Writes.{SinkShows, Takes, FailsToTake, CutsOff}
+use Rattle.scop_syntax.specs.Tree.{Program}
+use Rattle.scop_syntax.specs.Execution.{IsInside}
 use Rattle.polypar.specs.declared.status.Status.{Status}
-use Rattle.polypar.specs.declared.status.Status.TheVariants.{Done, Usage, Refused, BadData, ReadFault, WriteFault, NoMemory}
-use Rattle.polypar.specs.declared.status.RefusalKind.{RefusalKind}
-use Rattle.polypar.specs.declared.status.RefusalKind.TheVariants.{Token, TooLong}
-use Rattle.polypar.specs.declared.status.DataRefusal.{DataRefusal}
-use Rattle.polypar.specs.declared.status.DataRefusal.TheVariants.{Line}
-use Rattle.polypar.specs.declared.status.Refusal.{Refusal}
-use Rattle.polypar.specs.KernelForm.{CopyNames}
-use Rattle.polypar.specs.DataForm.{SaysData}
-use Rattle.polypar.specs.Case.{IsShort, SpellsKernel, SaysCase, Accepted, printed}
+use Rattle.polypar.specs.declared.status.Status.TheVariants.{Done, Usage, Refused, BadData, Outside, ReadFault, WriteFault, NoMemory}
+use Rattle.polypar.specs.Command.{IsRunCommand}
+use Rattle.polypar.specs.DataForm.{Says}
+use Rattle.polypar.specs.Case.{Accepted, final_text, asked_text}
+use Rattle.polypar.specs.Deserves.{DeservesCase, DeservesData, DeservesInput}
 use Rattle.polypar.specs.StatusText.{status_text}
 
--- the whole input is accepted, and exactly the arrays of its execution were printed
-abbrev pub Prints : Option (List ℕ) → Option (List ℕ) → Option (List ℕ) → Type 0
-Prints None old new = ⊤
-Prints (Some input) old new = (case : Accepted input) × Appends old new (printed case.names case.values)
+-- of a case of a program, and of `out`
+abbrev pub AnswersCase : Status → Program → List ℤ → List (List ℕ) → SinkShows → SinkShows → Type 0
+AnswersCase Done program params contents old new = IsInside program params × Takes old new (final_text program params contents)
+AnswersCase WriteFault program params contents old new = IsInside program params × CutsOff old new (final_text program params contents)
+AnswersCase (Outside f) program params contents old new = DeservesCase program params (Outside f) × (new ≡ old)
+AnswersCase _ program params contents old new = ⊥
 
--- the whole input is accepted, and a front of the text of those arrays was printed
-abbrev pub PrintsFront : Option (List ℕ) → Option (List ℕ) → Option (List ℕ) → Type 0
-PrintsFront None old new = ⊤
-PrintsFront (Some input) old new = (case : Accepted input) × GainsFront old new (printed case.names case.values)
+-- of the data of a program, and of `out`
+abbrev pub AnswersData : Status → Program → List ℕ → SinkShows → SinkShows → Type 0
+AnswersData Done program text old new =
+    (params : List ℤ) × (contents : List (List ℕ)) × Says text program params contents × IsInside program params × Takes old new (final_text program params contents)
+AnswersData WriteFault program text old new =
+    (params : List ℤ) × (contents : List (List ℕ)) × Says text program params contents × IsInside program params × CutsOff old new (final_text program params contents)
+AnswersData (BadData refusal) program text old new = DeservesData program text (BadData refusal) × (new ≡ old)
+AnswersData (Outside f) program text old new = DeservesData program text (Outside f) × (new ≡ old)
+AnswersData NoMemory program text old new = new ≡ old
+AnswersData _ program text old new = ⊥
 
--- why a text is refused: the input is too long, or no kernel spells its text
-abbrev pub CausesRefusal : RefusalKind → List ℕ → Type 0
-CausesRefusal TooLong input = 2 ^ 27 < length input
-CausesRefusal Token input = IsShort input × ((names : CopyNames) → SpellsKernel input names → ⊥)
+-- of an input that was read, and of `out`
+abbrev pub AnswersInput : Status → List ℕ → SinkShows → SinkShows → Type 0
+AnswersInput Done input old new = (accepted : Accepted input) × Takes old new (asked_text accepted)
+AnswersInput WriteFault input old new = (accepted : Accepted input) × CutsOff old new (asked_text accepted)
+AnswersInput (Refused refusal) input old new = DeservesInput input (Refused refusal) × (new ≡ old)
+AnswersInput (BadData refusal) input old new = DeservesInput input (BadData refusal) × (new ≡ old)
+AnswersInput (Outside f) input old new = DeservesInput input (Outside f) × (new ≡ old)
+AnswersInput NoMemory input old new = new ≡ old
+AnswersInput _ input old new = ⊥
 
--- the refusal has its cause; its place is the input's first byte
-abbrev pub IsRefused : Refusal → Option (List ℕ) → Type 0
-IsRefused refusal None = ⊤
-IsRefused refusal (Some input) = CausesRefusal refusal.kind input × (refusal.line ≡ 1) × (refusal.column ≡ 1)
+-- the source was read, to its end or not; a steady one counted no fault
+pub record IsReadOn (old new : SourceShows) : Type 0 where
+  pub later : old.faults ≤ new.faults
+  pub steady : IsSteady old → new.faults ≡ old.faults
 
--- a kernel spells the text, and the data says no case of it; the first line is told
-abbrev pub IsBadData : DataRefusal → Option (List ℕ) → Type 0
-IsBadData refusal None = ⊤
-IsBadData (Line line) (Some input) =
-    (names : CopyNames) × IsShort input × SpellsKernel input names × ((values : List ℕ) → SaysCase input names values → ⊥) × (line ≡ 1)
+-- the input was read, and answered
+pub record ReadsInput (status : Status) (source source_after : SourceShows) (out out_after : SinkShows) : Type 0 where
+  pub input : List ℕ
+  pub whole : IsAllOf source.left input
+  pub answer : AnswersInput status input out out_after
+  pub at_end : status ≡ Done → IsAtEnd source_after.left
 
--- what a status says of the bytes of the source before the call, and of those of `out` before and after it
-abbrev pub Answers : Status → Option (List ℕ) → Option (List ℕ) → Option (List ℕ) → Type 0
-Answers Done left old new = Prints left old new
-Answers Usage left old new = Keeps old new
-Answers (Refused refusal) left old new = IsRefused refusal left × Keeps old new
-Answers (BadData refusal) left old new = IsBadData refusal left × Keeps old new
-Answers ReadFault left old new = Keeps old new
-Answers WriteFault left old new = PrintsFront left old new
-Answers NoMemory left old new = Keeps old new
+-- the source failed
+pub record IsBroken (status : Status) (source source_after : SourceShows) (out out_after : SinkShows) : Type 0 where
+  pub fault : status ≡ ReadFault
+  pub cause : IsReadFault source source_after
+  pub untouched : out_after ≡ out
 
--- the line of the status is what `err` gained; a front of it where its count of faults rose
-abbrev pub GainsLine : Status → Option (List ℕ) → Option (List ℕ) → ℕ → ℕ → Type 0
-GainsLine status old new before now = Appends old new (status_text status) ⊎ (GainsFront old new (status_text status) × Rose before now)
+-- of the command `run`
+abbrev pub AnswersRun : Status → SourceShows → SourceShows → SinkShows → SinkShows → Type 0
+AnswersRun status source source_after out out_after = ReadsInput status source source_after out out_after ⊎ IsBroken status source source_after out out_after
 
--- the source tells an accepted input
-abbrev pub TellsAccepted : Option (List ℕ) → Type 0
-TellsAccepted None = ⊥
-TellsAccepted (Some input) = Accepted input
+-- the words are no command, and nothing was done
+pub record IsNoCommand (words : List (List ℕ)) (status : Status) (source source_after : SourceShows) (out out_after : SinkShows) : Type 0 where
+  pub usage : status ≡ Usage
+  pub none : IsRunCommand words → ⊥
+  pub unread : source_after ≡ source
+  pub untouched : out_after ≡ out
 
--- what a status says where the kernel of these names was read: of the data, and of the bytes of `out` before and after
-abbrev pub AnswersCase : Status → CopyNames → List ℕ → Option (List ℕ) → Option (List ℕ) → Type 0
-AnswersCase Done names text old new = (values : List ℕ) × SaysData text names.parameter names.source values × Appends old new (printed names values)
-AnswersCase (BadData (Line line)) names text old new =
-    ((values : List ℕ) → SaysData text names.parameter names.source values → ⊥) × (line ≡ 1) × Keeps old new
-AnswersCase WriteFault names text old new = (values : List ℕ) × SaysData text names.parameter names.source values × GainsFront old new (printed names values)
-AnswersCase NoMemory names text old new = Keeps old new
-AnswersCase _ names text old new = ⊥
+-- all was printed, and then the error stream could not be flushed
+pub record IsUnflushed (status : Status) (source source_after : SourceShows) (out out_after err err_after : SinkShows) : Type 0 where
+  pub fault : status ≡ WriteFault
+  pub printed : AnswersRun Done source source_after out out_after
+  pub failed : FailsToTake err err_after []
 
--- what a status says where a text was to be written to `out`
-abbrev pub Writes : Status → List ℕ → Option (List ℕ) → Option (List ℕ) → Type 0
-Writes Done text old new = Appends old new text
-Writes WriteFault text old new = GainsFront old new text
-Writes NoMemory text old new = Keeps old new
-Writes _ text old new = ⊥
+-- of all of a command but the line that tells its status: `err` has gained nothing by then
+abbrev pub AnswersWords : List (List ℕ) → Status → SourceShows → SourceShows → SinkShows → SinkShows → SinkShows → SinkShows → Type 0
+AnswersWords words status source source_after out out_after err err_after =
+    (IsNoCommand words status source source_after out out_after × Takes err err_after [])
+    ⊎ ((IsRunCommand words × AnswersRun status source source_after out out_after × Takes err err_after [])
+    ⊎ (IsRunCommand words × IsUnflushed status source source_after out out_after err err_after))
+
+-- of the line: it was written, or cut off
+abbrev pub TellsStatus : Status → SinkShows → SinkShows → Type 0
+TellsStatus status old new = Takes old new (status_text status) ⊎ CutsOff old new (status_text status)

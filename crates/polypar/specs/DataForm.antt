@@ -1,5 +1,6 @@
--- What the data of a copy kernel says.
-use Rattle.std.specs.Prelude.{◌≡◌, ◌⊎◌, ℕ, ◌^◌, ◌<◌, ◌≤◌, List, ◌++◌, length, All, codes, decimal}
+-- What the data of a kernel says: at this stage of a copy kernel.
+use Rattle.std.specs.Prelude.{◌≡◌, ◌⊎◌, ℕ, ◌^◌, ◌<◌, ◌≤◌, ℤ, pos, List, [], ◌∷◌, ◌++◌, length, map, replicate, slice_index_or, All, codes, decimal}
+use Rattle.scop_syntax.specs.Tree.{Program}
 use Rattle.polypar.specs.ArrayText.{cells_text}
 
 -- `P = N`, a line feed, and `X =`
@@ -16,3 +17,22 @@ pub record SaysData (text parameter source values : List ℕ) : Type 0 where
   pub some : 1 ≤ length values
   pub most : length values ≤ 65536
   pub small : All (λ value. value < 2 ^ 64) values
+
+-- the names of the first parameter and of the first array
+abbrev pub first_parameter : Program → List ℕ
+first_parameter program = slice_index_or program.parameters 0 []
+
+abbrev pub first_array : Program → List ℕ
+first_array program = slice_index_or (map (λ d. d.name) program.arrays) 0 []
+
+-- the values, then as many zeros
+abbrev pub initial_arrays : List ℕ → List (List ℕ)
+initial_arrays values = values ∷ replicate (length values) 0 ∷ []
+
+-- the text says these parameters and contents of the program's arrays: the values of the first array, of which the
+-- parameter is the number, and zeros in the second
+pub record Says (text : List ℕ) (program : Program) (params : List ℤ) (contents : List (List ℕ)) : Type 0 where
+  pub values : List ℕ
+  pub lines : SaysData text (first_parameter program) (first_array program) values
+  pub parameter : params ≡ pos (length values) ∷ []
+  pub arrays : contents ≡ initial_arrays values

@@ -1,3 +1,4 @@
+pub mod Answered
 pub mod Answers
 pub mod ArrayText
 pub mod Case
@@ -7,6 +8,8 @@ pub mod CopyView
 pub mod Cut
 pub mod DataForm
 pub mod Decimals
+pub mod Deserves
+pub mod InMemory
 pub mod KernelForm
 pub mod Names
 pub mod NextToken

@@ -1,10 +1,8 @@
 //! Writes arrays as text: for each array in declared order `NAME =`, then a space and the decimal of each
 //! cell, then a line feed. Nothing is allocated, and the text goes out in pieces of some KiB.
 
-ghost use Rattle.std.specs.Prelude.{◌≡◌, ◌++◌, OnOk, length, map, codes};
-ghost use Rattle.std.specs.Io.KnownBytes.{Appends};
-ghost use Rattle.io_ports.specs.Faults.{HasCause};
-ghost use Rattle.io_ports.specs.Bytes.{GainsFront, Puts};
+ghost use Rattle.std.specs.Prelude.{◌≡◌, ◌++◌, length, map, codes};
+ghost use Rattle.io_ports.specs.Writes.{Writes, Puts};
 ghost use Rattle.scop_syntax.specs.View.{program_of};
 ghost use Rattle.polypar.specs.ArrayText.{array_text, cell_text, cells_text, row_text, rows_text};
 
@@ -18,8 +16,7 @@ const CELL_ROOM: usize = 21;
 
 /// Puts a space and the decimal of a cell.
 fn put_cell<K: Sink>(pieces: &mut Pieces, sink: &mut K, cell: u64) -> Result<(), Failed>
-    ensures put { Puts (K.taken sink.old) pieces.old (K.taken sink.new) pieces.new (cell_text cell) result }
-    ensures cause { HasCause (K.faults sink.old) (K.faults sink.new) result }
+    ensures { Puts (K.shows sink.old) pieces.old (K.shows sink.new) pieces.new (cell_text cell) result }
 {
     let mut text = [b' '; CELL_ROOM];
     let start = write_digits(cell, &mut text, CELL_ROOM);
@@ -28,8 +25,7 @@ fn put_cell<K: Sink>(pieces: &mut Pieces, sink: &mut K, cell: u64) -> Result<(),
 
 /// Puts the cells of an array.
 fn put_cells<K: Sink>(pieces: &mut Pieces, sink: &mut K, cells: &[u64]) -> Result<(), Failed>
-    ensures put { Puts (K.taken sink.old) pieces.old (K.taken sink.new) pieces.new (cells_text cells.now) result }
-    ensures cause { HasCause (K.faults sink.old) (K.faults sink.new) result }
+    ensures { Puts (K.shows sink.old) pieces.old (K.shows sink.new) pieces.new (cells_text cells.now) result }
 {
     for cell in cells {
         match put_cell(pieces, sink, *cell) {
@@ -43,8 +39,7 @@ fn put_cells<K: Sink>(pieces: &mut Pieces, sink: &mut K, cells: &[u64]) -> Resul
 /// Puts `NAME =`.
 #[tactic(auto, using(io_ports::proofs::Writing::putting))]
 fn put_name<K: Sink>(pieces: &mut Pieces, sink: &mut K, name: &[u8]) -> Result<(), Failed>
-    ensures put { Puts (K.taken sink.old) pieces.old (K.taken sink.new) pieces.new (name.now ++ codes " =") result }
-    ensures cause { HasCause (K.faults sink.old) (K.faults sink.new) result }
+    ensures { Puts (K.shows sink.old) pieces.old (K.shows sink.new) pieces.new (name.now ++ codes " =") result }
 {
     pieces.put(sink, name)?;
     pieces.put(sink, b" =")?;
@@ -59,8 +54,7 @@ fn put_array<K: Sink>(
     name: &[u8],
     cells: &[u64],
 ) -> Result<(), Failed>
-    ensures put { Puts (K.taken sink.old) pieces.old (K.taken sink.new) pieces.new (row_text name.now cells.now) result }
-    ensures cause { HasCause (K.faults sink.old) (K.faults sink.new) result }
+    ensures { Puts (K.shows sink.old) pieces.old (K.shows sink.new) pieces.new (row_text name.now cells.now) result }
 {
     put_name(pieces, sink, name)?;
     put_cells(pieces, sink, cells)?;
@@ -75,8 +69,7 @@ fn put_row<K: Sink>(
     name: &[u8],
     cells: &[u64],
 ) -> Result<(), Failed>
-    ensures put { Puts (K.taken sink.old) pieces.old (K.taken sink.new) pieces.new (row_text name.now cells.now ++ codes "\n") result }
-    ensures cause { HasCause (K.faults sink.old) (K.faults sink.new) result }
+    ensures { Puts (K.shows sink.old) pieces.old (K.shows sink.new) pieces.new (row_text name.now cells.now ++ codes "\n") result }
 {
     put_array(pieces, sink, name, cells)?;
     pieces.put(sink, b"\n")?;
@@ -90,11 +83,11 @@ fn put_rows<K: Sink>(
     arrays: &[Array],
     contents: &Arrays,
 ) -> Result<(), Failed>
-    ensures put { Puts (K.taken sink.old) pieces.old (K.taken sink.new) pieces.new (rows_text (map (λ a. a.name.items) arrays.now) contents.now) result }
-    ensures cause { HasCause (K.faults sink.old) (K.faults sink.new) result }
+    ensures { Puts (K.shows sink.old) pieces.old (K.shows sink.new) pieces.new (rows_text (map (λ a. a.name) arrays.now) contents.now) result }
 {
     for at in 0..arrays.len().min(contents.count()) {
-        match put_row(pieces, sink, &arrays[at].name, contents.array(at)) {
+        let declaration = &arrays[at];
+        match put_row(pieces, sink, &declaration.name, contents.array(at)) {
             Ok(()) => {}
             Err(failed) => return Err(failed),
         }
@@ -108,12 +101,11 @@ pub(crate) fn write_arrays<K: Sink>(
     arrays: &Arrays,
     sink: &mut K,
 ) -> Result<(), Failed>
-    ensures ok { OnOk result (Appends (K.taken sink.old) (K.taken sink.new) (array_text (program_of kernel.now) arrays.now)) }
-    ensures front { GainsFront (K.taken sink.old) (K.taken sink.new) (array_text (program_of kernel.now) arrays.now) }
-    ensures cause { HasCause (K.faults sink.old) (K.faults sink.new) result }
+    ensures { Writes (K.shows sink.old) (K.shows sink.new) (array_text (program_of kernel.now) arrays.now) result }
 {
     let mut pieces = Pieces::new();
-    put_rows(&mut pieces, sink, &kernel.arrays, arrays)?;
-    pieces.finish(sink)?;
-    Ok(())
+    match put_rows(&mut pieces, sink, &kernel.arrays, arrays) {
+        Ok(()) => pieces.finish(sink),
+        Err(failed) => Err(failed),
+    }
 }

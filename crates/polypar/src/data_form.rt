@@ -1,8 +1,9 @@
 //! Reads the data of a copy kernel: `P = N`, and `X =` with N values.
 
-ghost use Rattle.std.specs.Prelude.{◌≡◌, ℕ, ◌^◌, ◌<◌, ◌≤◌, ◌++◌, ◌⊎◌, ◌↔◌, [], List, length, All, codes, decimal, IsTrue, IsNone, IfOk, IfSome, IsErrOf};
+ghost use Rattle.std.specs.Prelude.{◌≡◌, ℕ, ℤ, ◌^◌, ◌<◌, ◌≤◌, ◌++◌, ◌⊎◌, ◌↔◌, [], List, length, All, codes, decimal, IsTrue, IsNone, IfOk, IfSome, IsErrOf};
 ghost use Rattle.polypar.specs.ArrayText.{cell_text, cells_text};
-ghost use Rattle.polypar.specs.DataForm.{SaysData, head_text};
+ghost use Rattle.scop_syntax.specs.Tree.{Program};
+ghost use Rattle.polypar.specs.DataForm.{SaysData, Says, head_text};
 ghost use Rattle.polypar.specs.Decimals.{IsPast};
 
 use crate::decimals::{Number, read_number};
@@ -47,9 +48,9 @@ pub(crate) fn read_data(
     Ok(cells.values)
 }
 
-/// A text says at most one list of values.
+/// A text says at most one case of a program.
 pub fn said_once()
-    ensures { (text parameter source a b : List ℕ) → SaysData text parameter source a → SaysData text parameter source b → a ≡ b }
+    ensures { (text : List ℕ) (program : Program) (p q : List ℤ) (a b : List (List ℕ)) → Says text program p a → Says text program q b → (p ≡ q) × (a ≡ b) }
 {}
 
 /// Whether an array may have this many values.

@@ -6,6 +6,8 @@ ghost use Rattle.polypar.specs.Tokens.{Text, IsSpelled};
 ghost use Rattle.polypar.specs.NextToken.{token_of, rest_after};
 ghost use Rattle.polypar.specs.KernelForm.{CopyNames, IsCopyNames, SpellsCopy};
 ghost use Rattle.polypar.specs.KernelForm.{header_tokens, loop_tokens, copy_tokens};
+ghost use Rattle.scop_syntax.specs.Tree.{Program};
+ghost use Rattle.polypar.specs.CopyProgram.{Spells};
 ghost use Rattle.polypar.specs.CopyView.{names_of, names_in};
 
 use crate::names::{are_distinct, are_names, is_name};
@@ -152,7 +154,7 @@ pub(crate) fn spelled_names(text: &[u8]) -> Option<FoundNames<'_>>
     Some(names)
 }
 
-/// A text spells at most one kernel.
+/// A text spells at most one program.
 pub fn spelled_once()
-    ensures { (text : Text) (a b : CopyNames) → SpellsCopy text a → SpellsCopy text b → a ≡ b }
+    ensures { (text : Text) (a b : Program) → Spells text a → Spells text b → a ≡ b }
 {}

@@ -1,10 +1,10 @@
 //! Reading a kernel's text: it gives a kernel just where the text spells one, and the kernel is the
 //! one that is spelled.
 
-ghost use Rattle.std.specs.Prelude.{◌≡◌, IfOk, IsErrOf};
+ghost use Rattle.std.specs.Prelude.{IfOk, IsErrOf};
 ghost use Rattle.scop_syntax.specs.View.{program_of};
-ghost use Rattle.polypar.specs.KernelForm.{CopyNames, SpellsCopy};
-ghost use Rattle.polypar.specs.CopyProgram.{program_named};
+ghost use Rattle.scop_syntax.specs.Tree.{Program};
+ghost use Rattle.polypar.specs.CopyProgram.{Spells};
 
 use crate::copy_kernel::copy_kernel;
 use crate::kernel_form::spelled_names;
@@ -22,8 +22,8 @@ pub enum ReadKernelError {
 
 /// The kernel that the text spells, in time linear in the text.
 pub fn read_kernel(alloc: Global, text: &[u8]) -> Result<Kernel, ReadKernelError>
-    ensures kernel { IfOk result (λ k. (names : CopyNames) × SpellsCopy text.now names × (program_of k ≡ program_named names)) }
-    ensures refused { IsErrOf result ReadKernelError.NotSpelled → (names : CopyNames) → ¬ SpellsCopy text.now names }
+    ensures kernel { IfOk result (λ k. Spells text.now (program_of k)) }
+    ensures refused { IsErrOf result ReadKernelError.NotSpelled → (program : Program) → Spells text.now program → ⊥ }
 {
     match spelled_names(text) {
         None => Err(ReadKernelError::NotSpelled),

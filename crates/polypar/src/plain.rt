@@ -1,18 +1,17 @@
-//! The two top calls, whose clauses are the headline, the cause of each status, and completeness.
+//! The two top calls. Their one clause, `Answered`, is the headline, the cause of each status, and completeness.
 
-ghost use Rattle.std.specs.Prelude.{◌≡◌, ◌≢◌, ◌↔◌, ◌≤◌, ◌⊎◌, map, string_bytes};
-ghost use Rattle.std.specs.Io.KnownBytes.{Keeps, IsAtEnd};
-ghost use Rattle.io_ports.specs.Faults.{Rose};
-ghost use Rattle.polypar.specs.declared.status.Refusal.{Refusal};
-ghost use Rattle.polypar.specs.declared.status.DataRefusal.{DataRefusal};
-ghost use Rattle.polypar.specs.Command.{IsRunCommand};
-ghost use Rattle.polypar.specs.Answers.{Answers, Prints, PrintsFront, IsRefused, IsBadData, GainsLine, TellsAccepted};
+ghost use Rattle.std.specs.Prelude.{◌≡◌, ℕ, List, map, string_bytes};
+ghost use Rattle.polypar.specs.declared.status.Status.{Status};
+ghost use Rattle.polypar.specs.Deserves.{Deserves};
+ghost use Rattle.polypar.specs.Answers.{AnswersWords, IsReadOn, TellsStatus};
+ghost use Rattle.polypar.specs.Answered.{Answered};
 
 use crate::command::is_run;
 use crate::run::run;
 use crate::status::Status;
 use crate::status_line::status_line;
-use io_ports::{Gate, Sink, Source};
+use io_ports::{Failed, Gate, Sink, Source};
+use scop_syntax::failure_laws::failures_are_the_first;
 use std::alloc::Global;
 
 /// Does what the words ask for, and tells a status other than Done on `err` as the last act.
@@ -23,33 +22,11 @@ pub fn plain_command<S: Source, O: Sink, E: Sink>(
     out: &mut O,
     err: &mut E,
 ) -> Status
-    // The headline: exactly the arrays of the kernel's own sequential execution are printed.
-    ensures done { result ≡ Status.Done → Prints (S.left source.old) (O.taken out.old) (O.taken out.new) }
-    ensures read_whole { result ≡ Status.Done → IsAtEnd (S.left source.new) }
-
-    // Each status and its cause.
-    ensures usage { result ≡ Status.Usage ↔ (IsRunCommand (map string_bytes words.now) → ⊥) }
-    ensures unread { result ≡ Status.Usage → Keeps (S.left source.old) (S.left source.new) }
-    ensures refused { (r : Refusal) → result ≡ Status.Refused r → IsRefused r (S.left source.old) }
-    ensures bad_data { (d : DataRefusal) → result ≡ Status.BadData d → IsBadData d (S.left source.old) }
-    ensures read_fault { result ≡ Status.ReadFault → Rose (S.faults source.old) (S.faults source.new) }
-    ensures write_fault { result ≡ Status.WriteFault → Rose (O.faults out.old) (O.faults out.new) ⊎ Rose (E.faults err.old) (E.faults err.new) }
-
-    // What the sinks have gained.
-    ensures written { result ≡ Status.WriteFault → PrintsFront (S.left source.old) (O.taken out.old) (O.taken out.new) }
-    ensures nothing { result ≢ Status.Done → result ≢ Status.WriteFault → Keeps (O.taken out.old) (O.taken out.new) }
-    ensures error_line { GainsLine result (E.taken err.old) (E.taken err.new) (E.faults err.old) (E.faults err.new) }
-
-    // An accepted call in which no count of faults rose is done, or memory ran out.
-    ensures complete { IsRunCommand (map string_bytes words.now) → TellsAccepted (S.left source.old)
-        → (Rose (S.faults source.old) (S.faults source.new) → ⊥) → (Rose (O.faults out.old) (O.faults out.new) → ⊥) → (Rose (E.faults err.old) (E.faults err.new) → ⊥)
-        → (result ≡ Status.Done) ⊎ (result ≡ Status.NoMemory) }
+    ensures { Answered (map string_bytes words.now) result (S.shows source.old) (S.shows source.new) (O.shows out.old) (O.shows out.new) (E.shows err.old) (E.shows err.new) }
 {
+    failures_are_the_first();
     let status = answer(alloc, words, source, out, err);
-    if status != Status::Done {
-        // The status stays where its line cannot be written.
-        let _ = status_line(status, err);
-    }
+    tell(status, err);
     status
 }
 
@@ -63,29 +40,16 @@ pub fn polypar<R, S: Source, O: Sink, E: Sink, G: Gate>(
     err: &mut E,
     _gate: &G,
 ) -> Status
-    // The headline: exactly the arrays of the kernel's own sequential execution are printed.
-    ensures done { result ≡ Status.Done → Prints (S.left source.old) (O.taken out.old) (O.taken out.new) }
-    ensures read_whole { result ≡ Status.Done → IsAtEnd (S.left source.new) }
-
-    // Each status and its cause.
-    ensures usage { result ≡ Status.Usage ↔ (IsRunCommand (map string_bytes words.now) → ⊥) }
-    ensures unread { result ≡ Status.Usage → Keeps (S.left source.old) (S.left source.new) }
-    ensures refused { (r : Refusal) → result ≡ Status.Refused r → IsRefused r (S.left source.old) }
-    ensures bad_data { (d : DataRefusal) → result ≡ Status.BadData d → IsBadData d (S.left source.old) }
-    ensures read_fault { result ≡ Status.ReadFault → Rose (S.faults source.old) (S.faults source.new) }
-    ensures write_fault { result ≡ Status.WriteFault → Rose (O.faults out.old) (O.faults out.new) ⊎ Rose (E.faults err.old) (E.faults err.new) }
-
-    // What the sinks have gained.
-    ensures written { result ≡ Status.WriteFault → PrintsFront (S.left source.old) (O.taken out.old) (O.taken out.new) }
-    ensures nothing { result ≢ Status.Done → result ≢ Status.WriteFault → Keeps (O.taken out.old) (O.taken out.new) }
-    ensures error_line { GainsLine result (E.taken err.old) (E.taken err.new) (E.faults err.old) (E.faults err.new) }
-
-    // An accepted call in which no count of faults rose is done, or memory ran out.
-    ensures complete { IsRunCommand (map string_bytes words.now) → TellsAccepted (S.left source.old)
-        → (Rose (S.faults source.old) (S.faults source.new) → ⊥) → (Rose (O.faults out.old) (O.faults out.new) → ⊥) → (Rose (E.faults err.old) (E.faults err.new) → ⊥)
-        → (result ≡ Status.Done) ⊎ (result ≡ Status.NoMemory) }
+    ensures { Answered (map string_bytes words.now) result (S.shows source.old) (S.shows source.new) (O.shows out.old) (O.shows out.new) (E.shows err.old) (E.shows err.new) }
 {
     plain_command(alloc, words, source, out, err)
+}
+
+/// Words and an input deserve one status.
+pub fn deserved_once()
+    ensures { (words : List (List ℕ)) (input : List ℕ) (a b : Status) → Deserves words input a → Deserves words input b → a ≡ b }
+{
+    failures_are_the_first();
 }
 
 /// All of a command but the line that tells its status.
@@ -96,23 +60,28 @@ fn answer<S: Source, O: Sink, E: Sink>(
     out: &mut O,
     err: &mut E,
 ) -> Status
-    ensures answer { Answers result (S.left source.old) (O.taken out.old) (O.taken out.new) }
-    ensures read_whole { result ≡ Status.Done → IsAtEnd (S.left source.new) }
-    ensures usage { result ≡ Status.Usage → IsRunCommand (map string_bytes words.now) → ⊥ }
-    ensures command { result ≢ Status.Usage → IsRunCommand (map string_bytes words.now) }
-    ensures unread { result ≡ Status.Usage → Keeps (S.left source.old) (S.left source.new) }
-    ensures read_fault { result ≡ Status.ReadFault → Rose (S.faults source.old) (S.faults source.new) }
-    ensures write_fault { result ≡ Status.WriteFault → Rose (O.faults out.old) (O.faults out.new) ⊎ Rose (E.faults err.old) (E.faults err.new) }
-    ensures quiet { Keeps (E.taken err.old) (E.taken err.new) }
-    ensures source_later { S.faults source.old ≤ S.faults source.new }
-    ensures out_later { O.faults out.old ≤ O.faults out.new }
-    ensures err_later { E.faults err.old ≤ E.faults err.new }
+    ensures answer { AnswersWords (map string_bytes words.now) result (S.shows source.old) (S.shows source.new) (O.shows out.old) (O.shows out.new) (E.shows err.old) (E.shows err.new) }
+    ensures read_on { IsReadOn (S.shows source.old) (S.shows source.new) }
 {
     if !is_run(words) {
         return Status::Usage;
     }
-    match run(alloc, source, out) {
-        Status::Done if err.flush().is_err() => Status::WriteFault,
-        status => status,
+    let status = run(alloc, source, out);
+    if status != Status::Done {
+        return status;
+    }
+    match err.flush() {
+        Ok(()) => Status::Done,
+        Err(Failed) => Status::WriteFault,
+    }
+}
+
+/// Tells a status other than Done.
+fn tell<E: Sink>(status: Status, err: &mut E)
+    ensures { TellsStatus status (E.shows err.old) (E.shows err.new) }
+{
+    if status != Status::Done {
+        // The status stays where its line cannot be written.
+        let _ = status_line(status, err);
     }
 }

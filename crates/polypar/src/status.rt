@@ -1,5 +1,7 @@
 //! The statuses that a call can end with, and the exit status that each has.
 
+use scop_meaning::index::Outside;
+
 /// How a call of the program ended.
 #[derive(Clone, Copy, Debug, PartialEq, Eq)]
 pub enum Status {
@@ -11,6 +13,8 @@ pub enum Status {
     Refused(Refusal),
     /// The kernel was read, and the data does not say a case of it.
     BadData(DataRefusal),
+    /// A subscript lies outside its extent: the first in the walk.
+    Outside(Outside),
     /// The source failed.
     ReadFault,
     /// A sink failed.
@@ -56,6 +60,7 @@ impl Status {
             Status::Usage => 1,
             Status::Refused(_) => 2,
             Status::BadData(_) => 3,
+            Status::Outside(_) => 4,
             Status::ReadFault => 5,
             Status::WriteFault => 6,
             Status::NoMemory => 7,

@@ -95,15 +95,16 @@ fn words_of(alloc: Global, words: &[&str]) -> Result<Vec<String>, AllocError> {
     Ok(all)
 }
 
-/// Calls `polypar` on these ports.
-fn call(
+/// Calls `polypar` on these ports and an error stream of which these calls fail.
+fn call_with(
     rt: &HostRuntime,
     words: &[&str],
     mut source: MemSource,
     mut out: MemSink,
+    err_fails: &[u64],
 ) -> Result<Answer, AllocError> {
     let words = words_of(rt.alloc(), words)?;
-    let mut err = MemSink::of(rt.alloc(), 200, 200, &[])?;
+    let mut err = MemSink::of(rt.alloc(), 200, 200, err_fails)?;
     let status = polypar(
         rt,
         rt.alloc(),
@@ -116,6 +117,16 @@ fn call(
     Ok(Answer { status, out, err })
 }
 
+/// Calls `polypar` on these ports and an error stream that never fails.
+fn call(
+    rt: &HostRuntime,
+    words: &[&str],
+    source: MemSource,
+    out: MemSink,
+) -> Result<Answer, AllocError> {
+    call_with(rt, words, source, out, &[])
+}
+
 /// A kernel and data behind it.
 fn with_data(alloc: Global, data: &str) -> Result<String, AllocError> {
     let mut input = String::from_str(alloc, KERNEL)?;
@@ -123,11 +134,14 @@ fn with_data(alloc: Global, data: &str) -> Result<String, AllocError> {
     Ok(input)
 }
 
-/// Calls `polypar run` on an input, with streams that never fail.
+/// Runs an input over streams in memory that never fail.
 fn run_on(rt: &HostRuntime, input: &[u8]) -> Result<Answer, AllocError> {
-    let source = MemSource::of(rt.alloc(), input, 4096, &[])?;
-    let out = MemSink::of(rt.alloc(), 200, 200, &[])?;
-    call(rt, &["polypar", "run"], source, out)
+    let words = words_of(rt.alloc(), &["polypar", "run"])?;
+    let mut source = MemSource::of(rt.alloc(), input, 4096, &[])?;
+    let mut out = MemSink::of(rt.alloc(), 200, 200, &[])?;
+    let mut err = MemSink::of(rt.alloc(), 200, 200, &[])?;
+    let status = command_in_memory(rt.alloc(), &words, &mut source, &mut out, &mut err);
+    Ok(Answer { status, out, err })
 }
 
 #[test]
@@ -237,5 +251,28 @@ fn tells_a_flush_that_fails(rt: HostRuntime) -> Result<(), Fail> {
     assert_eq!(rt; answer.status.exit_code(), 6);
     assert_eq!(rt; answer.out.taken(), b"A = 5\nB = 5\n".as_slice());
     assert_eq!(rt; answer.err.taken(), b"write fault\n".as_slice());
+    Ok(())
+}
+
+#[test]
+fn tells_an_error_stream_that_cannot_be_flushed(rt: HostRuntime) -> Result<(), Fail> {
+    let input = with_data(rt.alloc(), "%%\nN = 1\nA = 5\n")?;
+    let source = MemSource::of(rt.alloc(), input.as_bytes(), 99, &[])?;
+    let out = MemSink::of(rt.alloc(), 99, 99, &[])?;
+    let answer = call_with(&rt, &["polypar", "run"], source, out, &[1])?;
+    assert_eq!(rt; answer.status.exit_code(), 6);
+    assert_eq!(rt; answer.out.taken(), b"A = 5\nB = 5\n".as_slice());
+    assert_eq!(rt; answer.err.taken(), b"write fault\n".as_slice());
+    Ok(())
+}
+
+#[test]
+fn keeps_the_status_whose_line_cannot_be_flushed(rt: HostRuntime) -> Result<(), Fail> {
+    let source = MemSource::of(rt.alloc(), b"left", 4, &[])?;
+    let out = MemSink::of(rt.alloc(), 9, 9, &[])?;
+    let answer = call_with(&rt, &["polypar"], source, out, &[2])?;
+    assert_eq!(rt; answer.status, Status::Usage);
+    assert_eq!(rt; answer.err.taken(), USAGE.as_bytes());
+    assert_eq!(rt; answer.err.faults(), 1);
     Ok(())
 }

@@ -1,13 +1,12 @@
 -- What the sink took so far is the front of the text before the place.
 use Rattle.std.proofs.Common.{length, take, ◌-◌, ◌≤◌}
-use Rattle.std.specs.Io.KnownBytes.{Appends}
+use Rattle.io_ports.specs.Writes.{Takes}
 use Rattle.io_ports.proofs.sink.write_whole.Given as goal
 
 abbrev pub invariant-loop-at : goal.invariant-loop-at
 invariant-loop-at g l = record {
   within : l.at ≤ length l.text;
-  front : Appends (g.K.Sink.taken l.fn.sink) (g.K.Sink.taken l.sink) (take l.at l.text);
-  later : g.K.Sink.faults l.fn.sink ≤ g.K.Sink.faults l.sink;
+  taken : Takes (g.K.Sink.shows l.fn.sink) (g.K.Sink.shows l.sink) (take l.at l.text);
 }
 
 abbrev pub decreases-loop-at : goal.decreases-loop-at

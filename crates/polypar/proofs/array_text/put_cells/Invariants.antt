@@ -1,11 +1,10 @@
 -- What was put so far and the text of the cells to come are the text of all cells.
-use Rattle.std.proofs.Common.{◌≡◌, ◌++◌, ◌≤◌, ℕ, List, drop}
-use Rattle.io_ports.specs.Bytes.{Passes}
+use Rattle.std.proofs.Common.{◌≡◌, ◌++◌, ℕ, List, drop}
+use Rattle.io_ports.specs.Writes.{Sends}
 use Rattle.polypar.specs.ArrayText.{cells_text}
 use Rattle.polypar.proofs.array_text.put_cells.Given as goal
 
 abbrev pub invariant-loop-cell : goal.invariant-loop-cell
 invariant-loop-cell g l =
-    (g.K.Sink.faults l.initial.sink ≤ g.K.Sink.faults l.sink)
-    × (done : List ℕ) × (done ++ cells_text (drop l.cell-index l.cells) ≡ cells_text l.cells)
-    × Passes (g.K.Sink.taken l.initial.sink) l.initial.pieces (g.K.Sink.taken l.sink) l.pieces done
+    (done : List ℕ) × (done ++ cells_text (drop l.cell-index l.cells) ≡ cells_text l.cells)
+    × Sends (g.K.Sink.shows l.initial.sink) l.initial.pieces (g.K.Sink.shows l.sink) l.pieces done

@@ -1,0 +1,17 @@
+-- An input that was not read is answered too.
+use Rattle.std.proofs.Common.{refl, inl, inr, Err, ap, subst, sym}
+use Rattle.polypar.specs.Answers.{AnswersRun}
+use Rattle.polypar.proofs.AnswerLemmas.{some_input, long_input}
+use Rattle.polypar.proofs.run.run.Goals as goal
+
+pub returns-in-Err-TooLong-clause-answer : goal.returns-in-Err-TooLong-clause-answer
+returns-in-Err-TooLong-clause-answer g c =
+    let out = g.O.Sink.shows c.args.out.now in
+    let input = long_input (g.S.Source.shows c.args.source.now).left 134217728 (c.in-Err-TooLong.ensures.too_long (ap Err c.in-Err-TooLong.field-0-is)) in
+    subst (λ status. AnswersRun status (g.S.Source.shows c.args.source.now) (g.S.Source.shows c.read_to_end.new.source) out out) (sym c.refused.ensures)
+    (inl (record { input = input.0; whole = input.1; answer = (inr (input.2, refl), refl); at_end = λ e. cc }))
+
+pub returns-in-Err-NoMemory-clause-answer : goal.returns-in-Err-NoMemory-clause-answer
+returns-in-Err-NoMemory-clause-answer g c =
+    let input = some_input (g.S.Source.shows c.args.source.now).left in
+    inl (record { input = input.0; whole = input.1; answer = refl; at_end = λ e. cc })
