@@ -1,12 +1,11 @@
 -- A question's run, step by step.
-use Rattle.std.proofs.Common.{◌≡◌, ℕ, zero, suc, ◌<◌, Bool, true, false, List, [], ◌∷◌, ◌++◌, take, refl, subst, ap, ◌∙◌, arith}
+use Rattle.std.proofs.Common.{◌≡◌, ℕ, zero, suc, ◌<◌, true, false, List, [], ◌∷◌, ◌++◌, take, refl, subst, ap, ◌∙◌, arith}
 use Rattle.std.specs.Prelude.{Option, Some, None, Result, Ok, Err}
 use Rattle.wide_math.specs.declared.Wide.{Wide}
 use Rattle.wide_math.specs.Checked.{◌>>=◌}
 use Rattle.tableau_rows.specs.Rows.{Row}
 use Rattle.tableau_rows.specs.Moves.{row_at, column_run, pivot_in, pivot_run, rows_run, cut_run}
-use Rattle.tableau_rows.specs.Run.{Verdict, point, none, Step, ends, pivots, cuts, wide, spent, Outcome, first_row, has_below, has_fraction, some_positive, quotients, pivot_or_cut, cut_or_end, next, run, at_spent, after, go_on}
-use Rattle.lexmin_runs.specs.Nodes.{Counted, answered}
+use Rattle.tableau_rows.specs.Run.{point, none, Step, ends, pivots, cuts, wide, spent, first_row, has_below, has_fraction, some_positive, quotients, pivot_or_cut, cut_or_end, next, run, at_spent, after, go_on}
 use Rattle.checked_tableau.specs.Table.{Table, Moves, resumed}
 use Rattle.pip_solver.specs.Answers.{PivotsOn}
 
@@ -46,23 +45,6 @@ pivots_moved old new r s (Ok x) going column moves =
 pivots_moved old new r s (Err w) going column moves =
     let m = subst (λ (o : Option Wide). resumed o (rows_run r s (row_at old.rows r) 0 old.rows) ≡ Err w) going moves.0 in
     pivot_run-column old.unknowns old.rows r (Some s) column ∙ m
-
--- a run at its end
-pub run_ends : (n left : ℕ) (rows : List Row) (v : Verdict) (found : Bool) → next n rows ≡ ends v → answered (Ok (v, 0)) ≡ Ok (found, 0)
-    → answered (run n left rows) ≡ Ok (found, left)
-run_ends n left rows v found is says = ap (λ (o : Outcome). answered o) (at left) ∙ by_verdict v says
-  where
-    at : (left : ℕ) → run n left rows ≡ Ok (v, left)
-    at zero = ap (λ (s : Step). at_spent s) is
-    at (suc left) = ap (λ (s : Step). after (run n left) n rows left s) is
-
-    flag : Counted Bool → Bool
-    flag (Ok both) = both.0
-    flag (Err stop) = false
-
-    by_verdict : (v : Verdict) → answered (Ok (v, 0)) ≡ Ok (found, 0) → answered (Ok (v, left)) ≡ Ok (found, left)
-    by_verdict (point x) h = ap (λ (b : Bool). Ok (b, left)) (ap flag h)
-    by_verdict none h = ap (λ (b : Bool). Ok (b, left)) (ap flag h)
 
 -- a run without moves left
 pub run_spent : (n left : ℕ) (rows : List Row) (s : Step) → next n rows ≡ s → at_spent s ≡ Err spent → left ≡ 0 → run n left rows ≡ Err spent

@@ -25,8 +25,3 @@ fresh_more text at some within =
 -- a byte other than a line feed stands on the line that it begins
 pub byte_in_line : (b : ℕ) (bs : Text) → is_in_line b ≡ true → 1 ≤ prefix_len is_in_line (b ∷ bs)
 byte_in_line b bs h = rw h (omega arith)
-
--- so does `#`
-pub hash_in_line : (text : Text) → get_or text 0 0 ≡ 35 → 1 ≤ prefix_len is_in_line text
-hash_in_line [] h = absurd (omega (arith, h))
-hash_in_line (b ∷ bs) h = byte_in_line b bs (rw h refl)

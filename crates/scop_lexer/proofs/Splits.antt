@@ -5,7 +5,7 @@ use Rattle.std.proofs.lemmas.List.{drop_all}
 use Rattle.scop_lexer.specs.Bytes.{Text, is_fresh}
 use Rattle.scop_lexer.specs.Stands.{stands, stands_at, HasRoom}
 use Rattle.scop_lexer.specs.Tokens.{AreGaps, IsGap, IsToken, AreTokens, HasTokens, IsFault, HasFault, IsNext}
-use Rattle.scop_lexer.specs.Tokens.{IsBetween, AreBetween}
+use Rattle.scop_lexer.specs.Tokens.{AreBetween}
 use Rattle.scop_lexer.specs.declared.token.Kind.{Kind}
 use Rattle.scop_lexer.specs.declared.token.Kind.TheVariants.{Name}
 use Rattle.scop_lexer.specs.declared.token.FaultKind.{FaultKind}
@@ -229,20 +229,8 @@ token-room text t is =
     let room = subst (HasRoom (length text - t.start)) is.1 (stands_at_room text t.start) in
     (omega (arith, room.0, is.2), omega (arith, room.0, room.1, is.2))
 
--- the next token lies in what is left of the text
-pub next-between : (text : Text) (from : ℕ) (t : Token) → IsNext text from t → IsBetween from t (length text)
-next-between text from t next =
-    let room = token-room text t next.1 in
-    (gap-order text from t.start next.0.0 next.0.1, room.0, room.1)
-
 -- tokens stand in order
 pub tokens-between : (text : Text) (at to : ℕ) (ts : List Token) → AreTokens text at ts to → AreBetween at ts to
 tokens-between text at to [] h = gap-order text at to h.0 h.1
 tokens-between text at to (t ∷ ts) h =
     (gap-order text at t.start h.0.0 h.0.1, (token-room text t h.1).0, tokens-between text t.end to ts h.2)
-
--- a fault stands at a byte of the text
-pub fault-within : (text : Text) (at : ℕ) (fault : Fault) → IsFault text at fault → fault.place < length text
-fault-within text at fault is =
-    let room = subst (HasRoom (length text - at)) is.1 (stands_at_room text at) in
-    omega (arith, room, is.2)
