@@ -79,6 +79,15 @@ impl System {
         }
     }
 
+    /// The equalities and the rows, which it gives up.
+    pub fn into_parts(self) -> (Vec<Form>, Vec<Form>)
+        ensures equalities { result.0.items ≡ self.equalities }
+        ensures rows { result.1.items ≡ self.rows }
+        ensures sized { IsSized (variables_in self) result.0.items result.1.items }
+    {
+        (self.equalities, self.rows)
+    }
+
     /// How many dimensions a point has.
     pub fn dimensions(&self) -> usize
         ensures { result ≡ self.now.dimensions }

@@ -15,10 +15,12 @@ IsLonger (Some left) limit = limit < length left
 abbrev pub GainsFront : Option (List ℕ) → Option (List ℕ) → List ℕ → Type 0
 GainsFront None new text = ⊤
 GainsFront (Some old) None text = ⊥
-GainsFront (Some old) (Some new) text = (front : List ℕ) × (rest : List ℕ) × (text ≡ front ++ rest) × (new ≡ old ++ front)
+GainsFront (Some old) (Some new) text = (front : List ℕ) × (rest : List ℕ) × (text ≡ front ++ rest)
+    × (new ≡ old ++ front)
 
 -- told bytes grew by a front of what was pending before them and a text, and the rest is pending now
 abbrev pub SendsFront : Option (List ℕ) → List ℕ → Option (List ℕ) → List ℕ → List ℕ → Type 0
 SendsFront None pending new rest text = ⊤
 SendsFront (Some old) pending None rest text = ⊥
-SendsFront (Some old) pending (Some new) rest text = (front : List ℕ) × (new ≡ old ++ front) × (front ++ rest ≡ pending ++ text)
+SendsFront (Some old) pending (Some new) rest text =
+    (front : List ℕ) × (new ≡ old ++ front) × (front ++ rest ≡ pending ++ text)

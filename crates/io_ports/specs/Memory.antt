@@ -15,12 +15,17 @@ pub record SourceState : Type 0 where
 
 -- it tells its bytes, and is steady where no call that fails is still to come
 abbrev pub source_shows : SourceState → SourceShows
-source_shows source = record { left = Some source.left; faults = source.faults; is_steady = none_to_come source.fails source.calls }
+source_shows source = record {
+  left = Some source.left;
+  faults = source.faults;
+  is_steady = none_to_come source.fails source.calls;
+}
 
 -- a read fails exactly at the listed calls, and else gives the most that step, room and bytes allow
 pub record ReadsNext {E : Type 0} (old new : SourceState) (room : ℕ) (result : Result ℕ E) : Type 0 where
   pub fails : IsErr result ↔ Contains old.fails (next_count old.calls)
-  pub given : IfOk result (λ n. (n ≡ min old.step (min room (length old.left))) × (new ≡ record old { calls = next_count old.calls; left = drop n old.left }))
+  pub given : IfOk result (λ n. (n ≡ min old.step (min room (length old.left)))
+      × (new ≡ record old { calls = next_count old.calls; left = drop n old.left }))
   pub failed : OnErr result (new ≡ record old { calls = next_count old.calls; faults = next_count old.faults })
 
 -- a sink into memory: the bytes taken, how many it has room for, the most that a call takes, the numbers of
@@ -49,7 +54,8 @@ IsFull sink piece = (0 < length piece) × (sink.capacity ≡ length sink.taken)
 -- room and piece allow
 pub record WritesNext {E : Type 0} (old new : SinkState) (piece : List ℕ) (result : Result ℕ E) : Type 0 where
   pub fails : IsErr result ↔ (Contains old.fails (next_count old.calls) ⊎ IsFull old piece)
-  pub given : IfOk result (λ n. (n ≡ min old.step (min (old.capacity - length old.taken) (length piece))) × (new ≡ record old { calls = next_count old.calls; taken = old.taken ++ take n piece }))
+  pub given : IfOk result (λ n. (n ≡ min old.step (min (old.capacity - length old.taken) (length piece)))
+      × (new ≡ record old { calls = next_count old.calls; taken = old.taken ++ take n piece }))
   pub failed : OnErr result (new ≡ record old { calls = next_count old.calls; faults = next_count old.faults })
 
 -- a flush fails exactly at the listed calls, and changes nothing but the counts

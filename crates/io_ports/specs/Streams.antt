@@ -15,7 +15,11 @@ read_faults source = source.faults
 
 -- bytes are told as the reader tells them; no reader is known to be steady
 abbrev pub source_shows : {R : Type 0} → (R → Option (List ℕ)) → StdSource R → SourceShows
-source_shows remaining source = record { left = remaining (reader_of source); faults = read_faults source; is_steady = false }
+source_shows remaining source = record {
+  left = remaining (reader_of source);
+  faults = read_faults source;
+  is_steady = false;
+}
 
 -- the writer below a sink
 abbrev pub writer_of : {W : Type 0} → StdSink W → W

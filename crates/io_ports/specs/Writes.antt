@@ -53,7 +53,8 @@ pub record CutsOff (old new : SinkShows) (text : List ℕ) : Type 0 where
 abbrev pub Writes : {E : Type 0} → SinkShows → SinkShows → List ℕ → Result (Unit {0}) E → Type 0
 Writes old new text result = MatchResult result (λ _. Takes old new text) (λ _. CutsOff old new text)
 
--- a text was put behind what was pending: a front of both was sent on, calmly where there was room, and the rest is pending
+-- a text was put behind what was pending: a front of both was sent on, calmly where there was room, and the rest is
+-- pending
 pub record Sends (old : SinkShows) (pending : List ℕ) (new : SinkShows) (rest text : List ℕ) : Type 0 where
   pub sent : SendsFront old.taken pending new.taken rest text
   pub later : old.faults ≤ new.faults
@@ -61,4 +62,5 @@ pub record Sends (old : SinkShows) (pending : List ℕ) (new : SinkShows) (rest 
 
 -- a text was put behind what was pending, or both were cut off
 abbrev pub Puts : {E : Type 0} → SinkShows → List ℕ → SinkShows → List ℕ → List ℕ → Result (Unit {0}) E → Type 0
-Puts old pending new rest text result = MatchResult result (λ _. Sends old pending new rest text) (λ _. CutsOff old new (pending ++ text))
+Puts old pending new rest text result = MatchResult result (λ _. Sends old pending new rest text)
+    (λ _. CutsOff old new (pending ++ text))

@@ -26,7 +26,14 @@ impl Model for MemSink {
 
     ghost Value = { SinkState };
 
-    ghost view = { λ s. record { taken = s.bytes.items; capacity = s.capacity; step = s.step; fails = s.calls.fails.items; calls = s.calls.made; faults = s.calls.faults } };
+    ghost view = { λ s. record {
+      taken = s.bytes.items;
+      capacity = s.capacity;
+      step = s.step;
+      fails = s.calls.fails.items;
+      calls = s.calls.made;
+      faults = s.calls.faults;
+    } };
 
     ghost invariant = { λ s. (vec_len s.bytes ≤ s.capacity) × (s.capacity ≤ vec_capacity s.bytes) × (0 < s.step) };
 }
@@ -41,7 +48,8 @@ impl MemSink {
         fails: &[u64],
     ) -> Result<MemSink, AllocError>
         requires { 1 ≤ step }
-        ensures { IfOk result (λ s. s ≡ record { taken = []; capacity = capacity; step = step; fails = fails.now; calls = 0; faults = 0 }) }
+        ensures { IfOk result (λ s. s ≡ record
+            { taken = []; capacity = capacity; step = step; fails = fails.now; calls = 0; faults = 0 }) }
     {
         Ok(MemSink {
             bytes: Vec::with_capacity(alloc, capacity)?,

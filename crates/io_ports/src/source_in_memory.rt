@@ -26,7 +26,13 @@ impl Model for MemSource {
 
     ghost Value = { SourceState };
 
-    ghost view = { λ s. record { left = drop s.place s.bytes.items; step = s.step; fails = s.calls.fails.items; calls = s.calls.made; faults = s.calls.faults } };
+    ghost view = { λ s. record {
+      left = drop s.place s.bytes.items;
+      step = s.step;
+      fails = s.calls.fails.items;
+      calls = s.calls.made;
+      faults = s.calls.faults;
+    } };
 
     ghost invariant = { λ s. (s.place ≤ vec_len s.bytes) × (0 < s.step) };
 }
@@ -40,7 +46,8 @@ impl MemSource {
         fails: &[u64],
     ) -> Result<MemSource, AllocError>
         requires { 1 ≤ step }
-        ensures { IfOk result (λ s. s ≡ record { left = bytes.now; step = step; fails = fails.now; calls = 0; faults = 0 }) }
+        ensures { IfOk result (λ s. s ≡ record
+            { left = bytes.now; step = step; fails = fails.now; calls = 0; faults = 0 }) }
     {
         Ok(MemSource {
             bytes: Vec::from_slice(alloc, bytes)?,

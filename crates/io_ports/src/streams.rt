@@ -34,10 +34,13 @@ impl<R: Read> Source for StdSource<R> {
 
     fn read(&mut self, buf: &mut [u8]) -> Result<usize, Failed>
         ensures bound { IfOk result (λ count. count ≤ length buf.old) }
-        ensures given { IfOk result (λ count. Gives (source_shows R.remaining self.old) (source_shows R.remaining self.new) (take count buf.new)) }
+        ensures given { IfOk result (λ count.
+            Gives (source_shows R.remaining self.old) (source_shows R.remaining self.new) (take count buf.new)) }
         ensures end { IfOk result (λ count. count ≡ 0 → 0 < length buf.old → IsAtEnd (R.remaining (reader_of self.new))) }
-        ensures failed { OnErr result (FailsToGive (source_shows R.remaining self.old) (source_shows R.remaining self.new)) }
-        ensures faults { read_faults self.new ≡ (if is_ok result then read_faults self.old else next_count (read_faults self.old)) }
+        ensures failed { OnErr result (FailsToGive (source_shows R.remaining self.old)
+            (source_shows R.remaining self.new)) }
+        ensures faults { read_faults self.new
+            ≡ (if is_ok result then read_faults self.old else next_count (read_faults self.old)) }
     {
         let Ok(count) = self.reader.read(buf) else {
             self.faults = self.faults.saturating_add(1);
@@ -69,9 +72,12 @@ impl<W: Write> Sink for StdSink<W> {
     fn write(&mut self, piece: &[u8]) -> Result<usize, Failed>
         ensures bound { IfOk result (λ count. count ≤ length piece.now) }
         ensures some { IfOk result (λ count. 0 < length piece.now → 0 < count) }
-        ensures taken { IfOk result (λ count. Takes (sink_shows W.contents self.old) (sink_shows W.contents self.new) (take count piece.now)) }
-        ensures failed { OnErr result (FailsToTake (sink_shows W.contents self.old) (sink_shows W.contents self.new) piece.now) }
-        ensures faults { write_faults self.new ≡ (if is_ok result then write_faults self.old else next_count (write_faults self.old)) }
+        ensures taken { IfOk result (λ count.
+            Takes (sink_shows W.contents self.old) (sink_shows W.contents self.new) (take count piece.now)) }
+        ensures failed { OnErr result (FailsToTake (sink_shows W.contents self.old) (sink_shows W.contents self.new)
+            piece.now) }
+        ensures faults { write_faults self.new
+            ≡ (if is_ok result then write_faults self.old else next_count (write_faults self.old)) }
     {
         match self.writer.write(piece) {
             Ok(count) if count > 0 || piece.is_empty() => Ok(count),
@@ -85,7 +91,8 @@ impl<W: Write> Sink for StdSink<W> {
     fn flush(&mut self) -> Result<(), Failed>
         ensures done { OnOk result (Takes (sink_shows W.contents self.old) (sink_shows W.contents self.new) []) }
         ensures failed { OnErr result (FailsToTake (sink_shows W.contents self.old) (sink_shows W.contents self.new) []) }
-        ensures faults { write_faults self.new ≡ (if is_ok result then write_faults self.old else next_count (write_faults self.old)) }
+        ensures faults { write_faults self.new
+            ≡ (if is_ok result then write_faults self.old else next_count (write_faults self.old)) }
     {
         let Ok(()) = self.writer.flush() else {
             self.faults = self.faults.saturating_add(1);

@@ -1,56 +1,13 @@
 -- What stays true along the items of a row and along the turns of a loop, as they are checked.
-use Rattle.std.proofs.Common.{
-  ◌≡◌,
-  ℕ,
-  suc,
-  ◌+◌,
-  ◌-◌,
-  ◌<◌,
-  ◌≤◌,
-  Bool,
-  true,
-  false,
-  List,
-  [],
-  ◌∷◌,
-  ◌++◌,
-  length,
-  drop,
-  map,
-  get_or,
-  Option,
-  Some,
-  None,
-  ap,
-  ap₂,
-  subst,
-  sym,
-  ◌∙◌,
-  refl,
-  arith,
-  append-nil,
-  append_assoc,
-  add-one,
-  drop-cons,
-}
+use Rattle.std.proofs.Common.{◌≡◌, ℕ, suc, ◌+◌, ◌-◌, ◌<◌, Bool, true, false, List, [], ◌∷◌, ◌++◌, length, drop, map, get_or, Option, Some, None, ap, ap₂, subst, sym, ◌∙◌, refl, arith, append_assoc, add-one, drop-cons}
 use Rattle.std.specs.Prelude.{ℤ, pos, slice_get, if◌then◌else◌}
 use Rattle.std.specs.List.{flat_map, range_with_len}
 use Rattle.std.proofs.lemmas.Grind.{flat_map-append}
 use Rattle.std.proofs.lemmas.List.{map-append}
-use Rattle.scop_syntax.specs.Tree.{Access, Statement, Test, Head, Tree, loop, guard, statement, Trees, none, more}
+use Rattle.scop_syntax.specs.Tree.{Access, Head, Tree, loop, Trees, none, more}
 use Rattle.scop_syntax.specs.declared.tree.Item.{Item}
 use Rattle.scop_syntax.specs.View.{items_of}
-use Rattle.scop_syntax.specs.Walk.{
-  all_hold,
-  condition_at,
-  turn_point,
-  RunsFor,
-  Visit,
-  within,
-  walk,
-  walk_all,
-  statements_in,
-}
+use Rattle.scop_syntax.specs.Walk.{condition_at, turn_point, RunsFor, Visit, within, walk, walk_all, statements_in}
 use Rattle.scop_syntax.specs.Cells.{accesses, values}
 use Rattle.scop_syntax.specs.Failures.{Failure, is_within, outside_dimensions, outside_accesses, failures}
 use Rattle.scop_syntax.specs.Kernel.{IsHead}
@@ -59,7 +16,7 @@ use Rattle.scop_syntax.proofs.Loops.{loop_turns}
 use Rattle.scop_meaning.specs.declared.index.Outside.{Outside}
 use Rattle.scop_meaning.specs.Conditions.{CanCheck}
 use Rattle.scop_meaning.specs.Outside.{outside_of, first_of, FindsFirst}
-use Rattle.scop_meaning.proofs.Walking.{walk_first, walk_rest, walk_guard, walk_turn}
+use Rattle.scop_meaning.proofs.Walking.{walk_first, walk_rest, walk_turn}
 
 -- the first of two lists one behind the other
 pub first_here : (xs ys : List Failure) (o : Outside) → Some o ≡ first_of xs → Some o ≡ first_of (xs ++ ys)
@@ -192,12 +149,6 @@ check_rest : (room : ℕ) (es : List (List ℕ)) (t : Tree) (ts : Trees) (n : �
 check_rest room es t ts n point c = let f = c.few in record
     { walks = walk_rest room (map length es) t ts point c.walks; few = omega arith }
 
-pub check_guard : (room : ℕ) (es : List (List ℕ)) (tests : List Test) (body : Trees) (n : ℕ) (point : List ℤ)
-    → CanCheck room es (more (guard tests body) none) n point → all_hold tests point ≡ true
-    → CanCheck room es body n point
-check_guard room es tests body n point c h =
-    let f = c.few in record { walks = walk_guard room (map length es) tests body point c.walks h; few = omega arith }
-
 -- items before i have no failure
 pub record ItemsChecked (room : ℕ) (es : List (List ℕ)) (items : List Item) (i start number : ℕ)
     (at point : List ℤ) : Type 0 where
@@ -311,12 +262,6 @@ turn_passes es head body m k number at point after h c found stays =
           ∙ (ap first_of (sym (split_turns es head body m k number at h)) ∙ c.rest);
     }
 
-pub turns_pass : (es : List (List ℕ)) (head : Head) (body : Trees) (m k number : ℕ) (at point : List ℤ) → m ≤ k
-    → TurnsChecked es head body m k number at point → None ≡ first_of (failures es (walk (loop head body) number at))
-turns_pass es head body m k number at point h c =
-    let e : m - k ≡ 0 = omega arith in
-    ap (λ n. first_of (failures es (turn_visits head body number at k n))) (sym e) ∙ c.rest
-
 -- the body of a turn can be checked
 pub check_turn : (room : ℕ) (es : List (List ℕ)) (head : Head) (body : Trees) (m k number : ℕ) (at point : List ℤ)
     → CanCheck room es (more (loop head body) none) number at → RunsFor (λ j. condition_at head at (pos j)) m
@@ -326,10 +271,3 @@ check_turn room es head body m k number at point c runs h same =
     let f = c.few in
     subst (λ (x : List ℤ). CanCheck room es body number (turn_point head x (pos k))) (sym same)
     (record { walks = walk_turn room (map length es) head body at m k c.walks runs h; few = omega arith })
-
--- the failures of one statement
-pub first_statement : (es : List (List ℕ)) (s : Statement) (n : ℕ) (point : List ℤ)
-    → failures es (walk (statement s) n point)
-    ≡ outside_accesses es (record { number = n; loops = []; turns = []; point = point; body = s }) 0 (accesses s)
-first_statement es s n point = append-nil
-    (outside_accesses es (record { number = n; loops = []; turns = []; point = point; body = s }) 0 (accesses s))

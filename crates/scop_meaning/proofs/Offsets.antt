@@ -1,49 +1,11 @@
 -- The row-major offset of a cell, one dimension after another.
-use Rattle.std.proofs.Common.{
-  ◌≡◌,
-  ℕ,
-  zero,
-  suc,
-  ◌+◌,
-  ◌*◌,
-  ◌^◌,
-  ◌<◌,
-  ◌≤◌,
-  List,
-  [],
-  ◌∷◌,
-  length,
-  drop,
-  get_or,
-  ap,
-  subst,
-  sym,
-  ◌∙◌,
-  arith,
-  drop-cons,
-  refl,
-  mul-le-mul,
-  mul-le-mul_right,
-  mul_assoc,
-  add-mul,
-  one-mul,
-  mul-one,
-  mul-le-mul_left,
-  add-one,
-  drop_of_length-le,
-}
+use Rattle.std.proofs.Common.{◌≡◌, ℕ, zero, suc, ◌+◌, ◌*◌, ◌<◌, ◌≤◌, List, [], ◌∷◌, length, drop, get_or, ap, subst, sym, ◌∙◌, arith, drop-cons, refl, mul-le-mul, mul-le-mul_right, mul_assoc, add-mul, one-mul, mul-one, mul-le-mul_left, add-one, drop_of_length-le}
 use Rattle.std.specs.Prelude.{ℤ, pos, negsuc, ◌<ℤ◌, ◌≤ℤ◌}
 use Rattle.std.proofs.lemmas.Int.{ints}
 use Rattle.std.proofs.lemmas.List.{get_or-map}
 use Rattle.whole_numbers.specs.Affine.{Affine, value_of}
 use Rattle.scop_syntax.specs.Cells.{values}
-use Rattle.scop_syntax.specs.Values.{wrapped}
 use Rattle.scop_syntax.specs.Execution.{size_of, AreWithin, offset_from, cell_count}
-
--- a subscript within its extent is exact modulo 2^64
-pub wrapped_within : (s : ℤ) (e : ℕ) → pos 0 ≤ℤ s → s <ℤ pos e → e < 2 ^ 64 → wrapped s ≡ size_of s
-wrapped_within (pos n) e low high small = let h : n < 2 ^ 64 = omega (arith, ints) in omega arith
-wrapped_within (negsuc n) e low high small = absurd (omega (arith, ints))
 
 below_extent : (e : ℕ) (s : ℤ) → pos 0 ≤ℤ s → s <ℤ pos e → size_of s < e
 below_extent e (pos n) low high = omega (arith, ints)

@@ -1,33 +1,12 @@
 -- What stays true along the items of a row and along the turns of a loop, as they run.
-use Rattle.std.proofs.Common.{
-  ◌≡◌,
-  ℕ,
-  suc,
-  ◌+◌,
-  ◌-◌,
-  ◌<◌,
-  ◌≤◌,
-  true,
-  List,
-  [],
-  ◌++◌,
-  length,
-  drop,
-  ap,
-  subst,
-  sym,
-  ◌∙◌,
-  refl,
-  arith,
-  append-nil,
-}
+use Rattle.std.proofs.Common.{◌≡◌, ℕ, suc, ◌+◌, ◌-◌, ◌<◌, ◌≤◌, List, [], ◌++◌, length, drop, ap, subst, sym, ◌∙◌, refl, arith, append-nil}
 use Rattle.std.specs.Prelude.{ℤ, pos}
 use Rattle.std.specs.List.{flat_map, range_with_len}
 use Rattle.std.proofs.lemmas.List.Sums.{fold-append}
-use Rattle.scop_syntax.specs.Tree.{Statement, Test, Head, Tree, loop, guard, statement, Trees, none, more}
+use Rattle.scop_syntax.specs.Tree.{Statement, Head, Tree, loop, statement, Trees, none, more}
 use Rattle.scop_syntax.specs.declared.tree.Item.{Item}
 use Rattle.scop_syntax.specs.View.{items_of}
-use Rattle.scop_syntax.specs.Walk.{all_hold, condition_at, turn_point, RunsFor}
+use Rattle.scop_syntax.specs.Walk.{condition_at, turn_point, RunsFor}
 use Rattle.scop_syntax.specs.Acts.{Act, acts, acts_all}
 use Rattle.scop_syntax.specs.Cells.{accesses}
 use Rattle.scop_syntax.specs.Execution.{performed_by}
@@ -37,7 +16,7 @@ use Rattle.scop_syntax.proofs.Falls.{condition_falls}
 use Rattle.scop_syntax.proofs.Loops.{loop_turns}
 use Rattle.std.proofs.Common.{inl}
 use Rattle.scop_meaning.specs.Conditions.{ActsAreInside, AreCells, CanRun, IsReady, ran}
-use Rattle.scop_meaning.proofs.Walking.{walk_first, walk_rest, walk_guard, walk_turn}
+use Rattle.scop_meaning.proofs.Walking.{walk_first, walk_rest, walk_turn}
 
 inside_front : (es : List (List ℕ)) (xs ys : List Act) → ActsAreInside es (xs ++ ys) → ActsAreInside es xs
 inside_front es xs ys c = λ a h. c a (in_front a xs ys h)
@@ -67,20 +46,6 @@ can_rest room es t ts point now next c ready = record {
   inside = inside_back es (acts t point) (acts_all ts point) c.inside;
   ready = ready;
 }
-
-pub can_guard : (room : ℕ) (es : List (List ℕ)) (tests : List Test) (body : Trees) (point : List ℤ)
-    (now : List (List ℕ))
-    → CanRun room es (more (guard tests body) none) point now → all_hold tests point ≡ true
-    → CanRun room es body point now
-can_guard room es tests body point now c h =
-    let whole : ActsAreInside es (acts (guard tests body) point) = inside_front es (acts (guard tests body) point)
-    [] c.inside in
-    record {
-      ranks = c.ranks;
-      walks = walk_guard room c.ranks tests body point c.walks h;
-      inside = rw h at whole;
-      ready = c.ready;
-    }
 
 pub can_act : (room : ℕ) (es : List (List ℕ)) (s : Statement) (point : List ℤ) (now : List (List ℕ))
     → CanRun room es (more (statement s) none) point now → AreCells es point (accesses s)
@@ -188,8 +153,3 @@ turn_step es head body m k start point after old now next h far stays did ready 
       rest = ap (λ (a : List (List ℕ)). ran es a rest) here
           ∙ (sym (ran-append es now (acts_all body at) rest) ∙ (ap (ran es now) (sym split) ∙ far.rest));
     }
-
-pub turns_end : (es : List (List ℕ)) (head : Head) (body : Trees) (m k : ℕ) (start point : List ℤ)
-    (old now : List (List ℕ))
-    → m ≤ k → TurnsSoFar es head body m k start point old now → now ≡ ran es old (acts (loop head body) start)
-turns_end es head body m k start point old now h far = ap (ran es now) (sym (no_turns head body start k m h)) ∙ far.rest

@@ -29,16 +29,7 @@ use Rattle.std.proofs.Common.{
 use Rattle.scop_syntax.specs.Values.{wrapped}
 use Rattle.std.specs.Prelude.{ℤ, pos, negsuc, ◌+ℤ◌, ◌*ℤ◌, FitsSigned}
 use Rattle.std.specs.Int.{w64, cast_signed, cast_unsigned, int_wrap}
-use Rattle.std.proofs.lemmas.Int.{
-  ints,
-  int_wrap_fits,
-  int_wrap-add_left,
-  int_wrap-add_right,
-  wrapping_add-bits,
-  wrapping_mul_is,
-  to_z-of_z,
-  of_z-to_z,
-}
+use Rattle.std.proofs.lemmas.Int.{ints, int_wrap-add_left, int_wrap-add_right, wrapping_add-bits, wrapping_mul_is, to_z-of_z, of_z-to_z}
 use Rattle.whole_numbers.specs.Lists.{dot}
 
 -- one more product, wrapped on the way
@@ -82,17 +73,6 @@ product_added v c x fv fc fx =
 pub value_step : (v rest c x whole : ℤ) → int_wrap w64 (v +ℤ ((c *ℤ x) +ℤ rest)) ≡ whole
     → int_wrap w64 (int_wrap w64 (v +ℤ (c *ℤ x)) +ℤ rest) ≡ whole
 value_step v rest c x whole e = wrap_step v (c *ℤ x) rest ∙ e
-
--- a sum whose first part is wrapped is exact where it fits
-pub wrapped_sum_exact : (r first a b : ℤ) → r ≡ int_wrap w64 (first +ℤ b) → first ≡ int_wrap w64 a
-    → FitsSigned w64 (a +ℤ b) → r ≡ a +ℤ b
-wrapped_sum_exact r first a b is is_first fits =
-    is ∙ (ap (λ (z : ℤ). int_wrap w64 (z +ℤ b)) is_first
-    ∙ (int_wrap-add_left w64 a b ∙ int_wrap_fits w64 (a +ℤ b) fits))
-
--- a wrapped number is exact where it fits
-pub wrapped_exact : (r a : ℤ) → r ≡ int_wrap w64 a → FitsSigned w64 a → r ≡ a
-wrapped_exact r a is fits = is ∙ int_wrap_fits w64 a fits
 
 -- the bits of a wrapped number
 pub wrapped_is : (z : ℤ) → cast_unsigned w64 (int_wrap w64 z) ≡ wrapped z

@@ -61,7 +61,8 @@ prefix_sums =
 
 -- A[0] += 1;
 abbrev pub one_more : Program
-one_more = kernel [] (array (form [] (pos 1) ∷ []) ∷ []) (only (store (at 0 (form [] (pos 0) ∷ [])) (combined plus (constant 1))))
+one_more = kernel [] (array (form [] (pos 1) ∷ []) ∷ [])
+    (only (store (at 0 (form [] (pos 0) ∷ [])) (combined plus (constant 1))))
 
 -- for (i = N-1; i >= 1; i -= 2) A[i] = A[i-1];
 abbrev pub falling : Program
@@ -80,8 +81,10 @@ abbrev pub sweeps : Program
 sweeps =
     kernel ([] ∷ [] ∷ []) (array (form (pos 0 ∷ pos 1 ∷ []) (pos 0) ∷ []) ∷ [])
     (only (around (form (pos 0 ∷ pos 0 ∷ []) (pos 0)) (pos 1) (form (pos 1 ∷ pos 0 ∷ negsuc 0 ∷ []) (negsuc 0))
-    (only (around (form (pos 0 ∷ pos 0 ∷ pos 0 ∷ []) (pos 1)) (pos 1) (form (pos 0 ∷ pos 1 ∷ pos 0 ∷ negsuc 0 ∷ []) (negsuc 1))
-    (only (store (near (pos 0)) (assigned (binary plus (binary plus (read (near (negsuc 0))) (read (near (pos 0)))) (read (near (pos 1)))))))))))
+    (only (around (form (pos 0 ∷ pos 0 ∷ pos 0 ∷ []) (pos 1)) (pos 1)
+    (form (pos 0 ∷ pos 1 ∷ pos 0 ∷ negsuc 0 ∷ []) (negsuc 1))
+    (only (store (near (pos 0)) (assigned (binary plus (binary plus (read (near (negsuc 0))) (read (near (pos 0))))
+    (read (near (pos 1)))))))))))
 
 -- for (i = 0; i < N; i++) for (j = 0; j <= i; j++) A[i][j] = i + 10*j;
 abbrev pub triangle : Program
@@ -97,7 +100,8 @@ abbrev pub guarded : Program
 guarded =
     kernel ([] ∷ []) (array (form (pos 1 ∷ []) (pos 0) ∷ []) ∷ [])
     (only (around (form (pos 0 ∷ []) (pos 0)) (pos 1) (form (pos 1 ∷ negsuc 0 ∷ []) (negsuc 0))
-    (only (guard (at_least (form (pos 0 ∷ pos 1 ∷ []) (negsuc 0)) ∷ at_least (form (pos 0 ∷ negsuc 0 ∷ []) (pos 2)) ∷ [])
+    (only (guard (at_least (form (pos 0 ∷ pos 1 ∷ []) (negsuc 0)) ∷ at_least (form (pos 0 ∷ negsuc 0 ∷ []) (pos 2))
+    ∷ [])
     (only (store (at 0 (form (pos 0 ∷ pos 1 ∷ []) (pos 0) ∷ []))
     (assigned (affine (form (pos 0 ∷ pos 1 ∷ []) (negsuc 2))))))))))
 
@@ -108,14 +112,16 @@ two_statements =
     (only (around (form (pos 0 ∷ []) (pos 0)) (pos 1) (form (pos 1 ∷ negsuc 0 ∷ []) (negsuc 0))
     (more (store (at 0 (form (pos 0 ∷ pos 1 ∷ []) (pos 0) ∷ []))
     (assigned (binary plus (read (at 0 (form (pos 0 ∷ pos 1 ∷ []) (pos 0) ∷ []))) (constant 1))))
-    (only (store (at 1 (form (pos 0 ∷ pos 1 ∷ []) (pos 0) ∷ [])) (assigned (read (at 0 (form (pos 0 ∷ pos 1 ∷ []) (pos 1) ∷ [])))))))))
+    (only (store (at 1 (form (pos 0 ∷ pos 1 ∷ []) (pos 0) ∷ []))
+    (assigned (read (at 0 (form (pos 0 ∷ pos 1 ∷ []) (pos 1) ∷ [])))))))))
 
 -- for (i = 0; i < N; i++) B[i] = A[i+1];
 abbrev pub one_too_far : Program
 one_too_far =
     kernel ([] ∷ []) (array (form (pos 1 ∷ []) (pos 0) ∷ []) ∷ array (form (pos 1 ∷ []) (pos 0) ∷ []) ∷ [])
     (only (around (form (pos 0 ∷ []) (pos 0)) (pos 1) (form (pos 1 ∷ negsuc 0 ∷ []) (negsuc 0))
-    (only (store (at 1 (form (pos 0 ∷ pos 1 ∷ []) (pos 0) ∷ [])) (assigned (read (at 0 (form (pos 0 ∷ pos 1 ∷ []) (pos 1) ∷ []))))))))
+    (only (store (at 1 (form (pos 0 ∷ pos 1 ∷ []) (pos 0) ∷ []))
+    (assigned (read (at 0 (form (pos 0 ∷ pos 1 ∷ []) (pos 1) ∷ []))))))))
 
 -- for each i, j, k below N: C[i][j] += A[i][k] * B[k][j];
 abbrev pub square : Declaration

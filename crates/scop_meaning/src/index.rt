@@ -106,7 +106,8 @@ fn outside_reads(
     requires fits { ExpressionFits (expression_of expression.now) point.now }
     requires few { next.old + length (reads_of (expression_of expression.now)) ≤ 17 }
     ensures found { FindsFirst result stmt point.now extents.now next.old (reads_of (expression_of expression.now)) }
-    ensures behind { MatchOption result (next.new ≡ next.old + length (reads_of (expression_of expression.now))) (λ outside. ⊤) }
+    ensures behind { MatchOption result (next.new ≡ next.old + length (reads_of (expression_of expression.now)))
+        (λ outside. ⊤) }
 {
     match expression {
         Expr::Read(access) => {
@@ -272,7 +273,8 @@ fn outside_loop(
     point: &mut Point,
 ) -> Option<Outside>
     requires { CanCheck ROOM extents.now (more (loop head.now (items_of body.now)) none) number point.old.items }
-    ensures found { result ≡ first_of (failures extents.now (walk (loop head.now (items_of body.now)) number point.old.items)) }
+    ensures found { result ≡ first_of (failures extents.now
+        (walk (loop head.now (items_of body.now)) number point.old.items)) }
     ensures point { point.new.items ≡ point.old.items }
 {
     let first = exact_at(&head.first, point.as_slice());
@@ -298,7 +300,8 @@ fn outside_turn(
     point: &mut Point,
 ) -> Option<Outside>
     requires turn { CanTurn ROOM head.now first turn point.old.items }
-    requires body { CanCheck ROOM extents.now (items_of body.now) number (turn_point head.now point.old.items (pos turn)) }
+    requires body { CanCheck ROOM extents.now (items_of body.now) number
+        (turn_point head.now point.old.items (pos turn)) }
     ensures found { result ≡ first_of (failures extents.now
         (walk_all (items_of body.now) number (turn_point head.now point.old.items (pos turn)))) }
     ensures point { point.new.items ≡ point.old.items }

@@ -80,7 +80,8 @@ fn run_turn(
     arrays: &mut Arrays,
 )
     requires turn { CanTurn ROOM head.now first turn point.old.items }
-    requires body { CanRun ROOM layout.now (items_of body.now) (turn_point head.now point.old.items (pos turn)) arrays.old }
+    requires body { CanRun ROOM layout.now (items_of body.now) (turn_point head.now point.old.items (pos turn))
+        arrays.old }
     ensures point { point.new.items ≡ point.old.items }
     ensures arrays { arrays.new ≡ ran layout.now arrays.old
         (acts_all (items_of body.now) (turn_point head.now point.old.items (pos turn))) }

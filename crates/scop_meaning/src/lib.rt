@@ -16,8 +16,7 @@ pub mod interpreter;
 mod layout;
 mod loops;
 mod operators;
+pub mod performing;
 mod statements;
-#[cfg(test)]
-mod tests;
 mod values;
 pub mod worked_rows;

@@ -80,7 +80,8 @@ fn evaluate_over(right: &Right, old: u64, layout: &Layout, point: &[i64], arrays
 fn assign(place: &Access, right: &Right, layout: &Layout, point: &[i64], arrays: &mut Arrays)
     requires cells { AreCells layout.now point.now (place.now ∷ reads_with place.now (right_of right.now)) }
     requires ready { IsReady layout.now arrays.old }
-    ensures arrays { arrays.new ≡ performed_by layout.now arrays.old (record { place = place.now; right = right_of right.now })
+    ensures arrays { arrays.new ≡ performed_by layout.now arrays.old
+        (record { place = place.now; right = right_of right.now })
         point.now }
     ensures ready { IsReady layout.now arrays.new }
 {

@@ -17,8 +17,10 @@ pub fn sums_of_a_place()
 
 /// A stride of -2; sweeps of a stencil; the triangle below a diagonal.
 pub fn loops_of_each_kind()
-    ensures falling { exec falling (pos 5 ∷ []) ((10 ∷ 20 ∷ 30 ∷ 40 ∷ 50 ∷ []) ∷ []) ≡ (10 ∷ 20 ∷ 20 ∷ 40 ∷ 40 ∷ []) ∷ [] }
-    ensures sweeps { exec sweeps (pos 2 ∷ pos 5 ∷ []) ((1 ∷ 1 ∷ 1 ∷ 1 ∷ 1 ∷ []) ∷ []) ≡ (1 ∷ 9 ∷ 21 ∷ 29 ∷ 1 ∷ []) ∷ [] }
+    ensures falling { exec falling (pos 5 ∷ []) ((10 ∷ 20 ∷ 30 ∷ 40 ∷ 50 ∷ []) ∷ [])
+        ≡ (10 ∷ 20 ∷ 20 ∷ 40 ∷ 40 ∷ []) ∷ [] }
+    ensures sweeps { exec sweeps (pos 2 ∷ pos 5 ∷ []) ((1 ∷ 1 ∷ 1 ∷ 1 ∷ 1 ∷ []) ∷ [])
+        ≡ (1 ∷ 9 ∷ 21 ∷ 29 ∷ 1 ∷ []) ∷ [] }
     ensures triangle { exec triangle (pos 3 ∷ []) ((0 ∷ 0 ∷ 0 ∷ 0 ∷ 0 ∷ 0 ∷ 0 ∷ 0 ∷ 0 ∷ []) ∷ [])
         ≡ (0 ∷ 0 ∷ 0 ∷ 1 ∷ 11 ∷ 0 ∷ 2 ∷ 12 ∷ 22 ∷ []) ∷ [] }
 {}
@@ -33,7 +35,8 @@ pub fn guards_and_sequences()
 
 /// A product of matrices; strides in the subscripts; two loops one after another.
 pub fn subscripts_of_each_kind()
-    ensures product { exec product (pos 2 ∷ []) ((1 ∷ 2 ∷ 3 ∷ 4 ∷ []) ∷ (5 ∷ 6 ∷ 7 ∷ 8 ∷ []) ∷ (0 ∷ 0 ∷ 0 ∷ 0 ∷ []) ∷ [])
+    ensures product { exec product (pos 2 ∷ [])
+        ((1 ∷ 2 ∷ 3 ∷ 4 ∷ []) ∷ (5 ∷ 6 ∷ 7 ∷ 8 ∷ []) ∷ (0 ∷ 0 ∷ 0 ∷ 0 ∷ []) ∷ [])
         ≡ (1 ∷ 2 ∷ 3 ∷ 4 ∷ []) ∷ (5 ∷ 6 ∷ 7 ∷ 8 ∷ []) ∷ (19 ∷ 22 ∷ 43 ∷ 50 ∷ []) ∷ [] }
     ensures odd { exec odd (pos 2 ∷ []) ((1 ∷ 2 ∷ 3 ∷ 4 ∷ []) ∷ []) ≡ (2 ∷ 2 ∷ 4 ∷ 4 ∷ []) ∷ [] }
     ensures even { exec even (pos 2 ∷ []) ((1 ∷ 2 ∷ 3 ∷ 4 ∷ []) ∷ (0 ∷ 0 ∷ 0 ∷ 0 ∷ []) ∷ [])

@@ -220,4 +220,12 @@ kernel_numbers program params c w is =
     let few = w.cells in
     omega arith
 
-pub ruleset bound_laws = (point_small, value_small, turns_small, kernel_ranked, kernel_counts, kernel_extents, kernel_numbers)
+pub ruleset bound_laws = (
+  point_small,
+  value_small,
+  turns_small,
+  kernel_ranked,
+  kernel_counts,
+  kernel_extents,
+  kernel_numbers,
+)

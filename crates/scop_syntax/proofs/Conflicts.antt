@@ -49,7 +49,14 @@ last_conflicts visits j a i h =
       is_earlier = w.1;
       is_later = t.2;
       conflict =
-          record { first = w.0.body.place; second = t.1; is_first = refl; is_second = t.3; writes = inl refl; cell = w.2 ∙ sym t.4 };
+          record {
+            first = w.0.body.place;
+            second = t.1;
+            is_first = refl;
+            is_second = t.3;
+            writes = inl refl;
+            cell = w.2 ∙ sym t.4;
+          };
     }
 
 pub next_conflicts : (visits : List Visit) (j a k : ℕ) → next_of visits j a ≡ Some k → PlacesConflict visits j k
@@ -67,7 +74,14 @@ next_conflicts visits j a k h =
       is_earlier = t.2;
       is_later = w.1;
       conflict =
-          record { first = t.1; second = w.0.body.place; is_first = t.3; is_second = refl; writes = inr refl; cell = t.4 ∙ sym w.2 };
+          record {
+            first = t.1;
+            second = w.0.body.place;
+            is_first = t.3;
+            is_second = refl;
+            writes = inr refl;
+            cell = t.4 ∙ sym w.2;
+          };
     }
 
 pub ruleset conflict_laws = (last_conflicts, next_conflicts)

@@ -202,7 +202,8 @@ holds_right n k fs p (point xs) long speaks h =
       size = h.0.size;
       inside = inside_point n k fs p xs long speaks h.0;
       least =
-          λ y same is less. LexLess-irrefl y (LexLess-from_le y xs y less (h.1 y (point_inside n k fs p y long speaks is)));
+          λ y same is less. LexLess-irrefl y (LexLess-from_le y xs y less
+          (h.1 y (point_inside n k fs p y long speaks is)));
     }
 holds_right n k fs p none long speaks h = λ x is. h x (point_inside n k fs p x long speaks is)
 

@@ -1,4 +1,5 @@
-//! What a question's answer means, what a move keeps, and what a pivot over one buffer does. Each law is the contract of a
+//! What a question's answer means, what a move keeps, and what a pivot over one buffer does. Each law is the contract
+//! of a
 //! function that does nothing.
 ghost use Rattle.std.specs.Prelude.{◌≡◌, ◌↔◌, ℕ, ℤ, pos, ◌+◌, ◌*◌, ◌<◌, ◌<ℤ◌, List, [], ◌∷◌, ◌++◌, length, Option, Ok};
 ghost use Rattle.whole_numbers.specs.Affine.{Affine};

@@ -46,7 +46,11 @@ kernel =
           (
             record {
               place =
-                  subscript (pos 0) (record { entries = refl; coefficients = (omega arith, tt); constant = omega arith });
+                  subscript (pos 0) (record {
+                    entries = refl;
+                    coefficients = (omega arith, tt);
+                    constant = omega arith;
+                  });
               right =
                   subscript (negsuc 0) (record {
                     entries = refl;

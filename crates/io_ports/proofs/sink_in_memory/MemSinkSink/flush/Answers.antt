@@ -9,5 +9,13 @@ returns-clause-done c =
     let calls = c.next_fails.new.self in
     let next = c.next_fails.ensures.calls in
     sink_took _ _
-    (record { taken = sink.bytes.items; capacity = sink.capacity; step = sink.step; fails = calls.fails.items; calls = calls.made; faults = calls.faults })
-    _ c.self.view_is (sym (append-nil _)) refl (ap (λ k. k.fails.items) next) (ap (λ k. k.made) next) (ap (λ k. k.faults) next)
+    (record {
+      taken = sink.bytes.items;
+      capacity = sink.capacity;
+      step = sink.step;
+      fails = calls.fails.items;
+      calls = calls.made;
+      faults = calls.faults;
+    })
+    _ c.self.view_is (sym (append-nil _)) refl (ap (λ k. k.fails.items) next) (ap (λ k. k.made) next)
+    (ap (λ k. k.faults) next)

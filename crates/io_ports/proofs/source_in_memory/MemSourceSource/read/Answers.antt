@@ -10,10 +10,19 @@ returns-clause-given c =
     let bytes = source.bytes.items in
     let text = c.deref.result.now in
     let rest = take (length text - source.place) (drop source.place text) in
-    let same : rest ≡ drop source.place bytes = take_all (length text - source.place) (drop source.place text) (omega (arith, length-drop source.place text)) ∙ ap (drop source.place) c.deref.ensures.value in
+    let same : rest ≡ drop source.place bytes =
+    take_all (length text - source.place) (drop source.place text) (omega (arith, length-drop source.place text))
+    ∙ ap (drop source.place) c.deref.ensures.value in
     let calls = c.next_fails.new.self in
     let next = c.next_fails.ensures.calls in
     source_gave _ _
-    (record { left = drop (source.place + c.min-count.result) bytes; step = source.step; fails = calls.fails.items; calls = calls.made; faults = calls.faults })
-    _ c.self.view_is (gives_front bytes rest c.put_front.new.buf source.place c.min-count.result same (omega arith) c.put_front.ensures)
+    (record {
+      left = drop (source.place + c.min-count.result) bytes;
+      step = source.step;
+      fails = calls.fails.items;
+      calls = calls.made;
+      faults = calls.faults;
+    })
+    _ c.self.view_is (gives_front bytes rest c.put_front.new.buf source.place c.min-count.result same (omega arith)
+    c.put_front.ensures)
     (ap (λ k. k.fails.items) next) (ap (λ k. k.made) next) (ap (λ k. k.faults) next)

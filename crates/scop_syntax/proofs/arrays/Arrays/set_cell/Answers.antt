@@ -20,7 +20,8 @@ set_row rows row contents i k v is taken within =
 
 pub returns-clause-contents : goal.returns-clause-contents
 returns-clause-contents c =
-    set_row c.self.inside.cells.items c.index_mut.result.now c.args.self.now c.args.array c.args.offset c.args.value c.self.view_is c.index_mut.ensures.value c.requires.array
+    set_row c.self.inside.cells.items c.index_mut.result.now c.args.self.now c.args.array c.args.offset c.args.value
+    c.self.view_is c.index_mut.ensures.value c.requires.array
 
 pub returns-clause-shape : goal.returns-clause-shape
 returns-clause-shape c =

@@ -1,9 +1,9 @@
-use Rattle.std.proofs.Common.{◌≡◌, ◌<◌, ℕ, length, subst, sym, refl, rules, arith}
+use Rattle.std.proofs.Common.{◌<◌, ℕ, length, subst, sym, refl, rules}
 use Rattle.scop_syntax.specs.View.{instance_of, program_of}
 use Rattle.scop_syntax.specs.Walk.{instance, walk_of}
 use Rattle.scop_syntax.proofs.Members.{in_map_from}
 use Rattle.scop_meaning.specs.Instances.{IsVisitOf}
-use Rattle.scop_meaning.proofs.tests.perform.Goals as goal
+use Rattle.scop_meaning.proofs.performing.perform.Goals as goal
 
 pub bounds-cells-at : goal.bounds-cells-at
 bounds-cells-at c =

@@ -1,4 +1,4 @@
-//! A caller of the calls on single instances: one instance, performed on a row of all cells.
+//! One instance, performed by its number alone on a row of all cells: it stores what `value` says where `cell` says.
 ghost use Rattle.std.specs.Prelude.{◌≡◌, ◌<◌, length, map, slice_set};
 ghost use Rattle.scop_syntax.specs.Cells.{reads as reads_by, written};
 ghost use Rattle.scop_syntax.specs.Execution.{IsInside, cell_number, layout};
