@@ -13,7 +13,8 @@ use Rattle.tableau_rows.specs.Moves.{line_row, rows_in, row_at, rows_run, cut_ru
 use Rattle.checked_tableau.specs.Table.{IsSound, stride_of}
 use Rattle.tableau_rows.proofs.Points.{sized_at}
 use Rattle.tableau_rows.proofs.Keeping.{pivot_keeps_tableau, cut_keeps_tableau}
-use Rattle.tableau_rows.specs.Solutions.{IsTableau}
+use Rattle.tableau_rows.specs.Solutions.{IsTableau, IsPlaced}
+use Rattle.checked_tableau.specs.Lines.{behind_columns}
 use Rattle.tableau_rows.proofs.Views.{buffer-view}
 
 pub length-rows_in : (stride count : ℕ) (cells : List ℤ) → length (rows_in stride count cells) ≡ count
@@ -21,7 +22,8 @@ length-rows_in stride zero cells = refl
 length-rows_in stride (suc count) cells = ap suc (length-rows_in stride count (drop stride cells))
 
 -- the line at a place
-pub line_in : (stride count row : ℕ) (cells : List ℤ) → row < count → line_row (take stride (drop (row * stride) cells)) ≡ row_at (rows_in stride count cells) row
+pub line_in : (stride count row : ℕ) (cells : List ℤ) → row < count
+    → line_row (take stride (drop (row * stride) cells)) ≡ row_at (rows_in stride count cells) row
 line_in stride zero row cells h = absurd (omega arith)
 line_in stride (suc count) zero cells h =
     let z : zero * stride ≡ zero = omega arith in
@@ -29,7 +31,8 @@ line_in stride (suc count) zero cells h =
 line_in stride (suc count) (suc row) cells h =
     let m = suc-mul row stride in
     let e : suc row * stride ≡ stride + row * stride = omega arith in
-    let d : drop (suc row * stride) cells ≡ drop (row * stride) (drop stride cells) = ap (λ (k : ℕ). drop k cells) e ∙ sym (drop-drop (row * stride) stride cells) in
+    let d : drop (suc row * stride) cells ≡ drop (row * stride) (drop stride cells) =
+    ap (λ (k : ℕ). drop k cells) e ∙ sym (drop-drop (row * stride) stride cells) in
     ap (λ (zs : List ℤ). line_row (take stride zs)) d ∙ line_in stride count row (drop stride cells) (omega arith)
 
 pub within_buffer : (stride count row n : ℕ) → row < count → n ≡ count * stride → row * stride + stride ≤ n
@@ -42,21 +45,25 @@ within_buffer stride (suc count) (suc row) n h size =
     omega arith
 
 -- the heads of sound rows
-pub heads_sized : (stride m count : ℕ) (cells : List ℤ) → 0 < stride → Sized m (rows_in stride count cells) → HeadsPositive stride count cells
+pub heads_sized : (stride m count : ℕ) (cells : List ℤ) → 0 < stride → Sized m (rows_in stride count cells)
+    → HeadsPositive stride count cells
 heads_sized stride m zero cells some sized = tt
 heads_sized stride m (suc count) cells some sized = (
   subst (λ (z : ℤ). pos 0 <ℤ z) (get_or-take stride cells 0 (pos 0) some) sized.0,
   heads_sized stride m count (drop stride cells) some sized.2,
 )
 
-pub head_sized : (stride m count row : ℕ) (cells line : List ℤ) → row < count → Sized m (rows_in stride count cells) → line_row line ≡ row_at (rows_in stride count cells) row
+pub head_sized : (stride m count row : ℕ) (cells line : List ℤ) → row < count → Sized m (rows_in stride count cells)
+    → line_row line ≡ row_at (rows_in stride count cells) row
     → pos 0 <ℤ get_or line 0 (pos 0)
 head_sized stride m count row cells line within sized is =
-    let at = sized_at m (rows_in stride count cells) row (let l = length-rows_in stride count cells in omega arith) sized in
+    let at = sized_at m (rows_in stride count cells) row (let l = length-rows_in stride count cells in omega arith)
+    sized in
     subst (λ (r : Row). pos 0 <ℤ r.denominator) (sym is) at.0
 
 -- the first rows of a buffer
-pub take_rows_in : (stride n count : ℕ) (cells : List ℤ) → n ≤ count → length cells ≡ count * stride → take n (rows_in stride count cells) ≡ rows_in stride n (take (n * stride) cells)
+pub take_rows_in : (stride n count : ℕ) (cells : List ℤ) → n ≤ count → length cells ≡ count * stride
+    → take n (rows_in stride count cells) ≡ rows_in stride n (take (n * stride) cells)
 take_rows_in stride zero count cells h size = refl
 take_rows_in stride (suc n) zero cells h size = absurd (omega arith)
 take_rows_in stride (suc n) (suc count) cells h size =
@@ -64,13 +71,17 @@ take_rows_in stride (suc n) (suc count) cells h size =
     let k = suc-mul n stride in
     let e : suc n * stride ≡ stride + n * stride = omega arith in
     let l = length-take-le stride cells (omega arith) in
-    let apart : take (suc n * stride) cells ≡ take stride cells ++ take (n * stride) (drop stride cells) = ap (λ (i : ℕ). take i cells) e ∙ take-add stride (n * stride) cells in
+    let apart : take (suc n * stride) cells ≡ take stride cells ++ take (n * stride) (drop stride cells) =
+    ap (λ (i : ℕ). take i cells) e ∙ take-add stride (n * stride) cells in
     let front : take stride (take (suc n * stride) cells) ≡ take stride cells =
     ap (λ (zs : List ℤ). take stride zs) apart
-    ∙ subst (λ (i : ℕ). take i (take stride cells ++ take (n * stride) (drop stride cells)) ≡ take stride cells) l (take-append_seam (take stride cells) (take (n * stride) (drop stride cells))) in
-    let back : drop stride (take (suc n * stride) cells) ≡ take (n * stride) (drop stride cells) = ap (λ (i : ℕ). drop stride (take i cells)) e ∙ drop-take stride (n * stride) cells in
+    ∙ subst (λ (i : ℕ). take i (take stride cells ++ take (n * stride) (drop stride cells)) ≡ take stride cells) l
+    (take-append_seam (take stride cells) (take (n * stride) (drop stride cells))) in
+    let back : drop stride (take (suc n * stride) cells) ≡ take (n * stride) (drop stride cells) =
+    ap (λ (i : ℕ). drop stride (take i cells)) e ∙ drop-take stride (n * stride) cells in
     ap₂ (λ (line : List ℤ) (rows : List Row). line_row line ∷ rows) (sym front)
-    (take_rows_in stride n count (drop stride cells) (omega arith) (omega (arith, length-drop stride cells)) ∙ ap (λ (zs : List ℤ). rows_in stride n zs) (sym back))
+    (take_rows_in stride n count (drop stride cells) (omega arith) (omega (arith, length-drop stride cells))
+    ∙ ap (λ (zs : List ℤ). rows_in stride n zs) (sym back))
 
 -- a line more
 pub rows_in_more : (stride count : ℕ) (cells line : List ℤ) → length cells ≡ count * stride → length line ≡ stride
@@ -90,37 +101,48 @@ rows_in_more stride (suc count) cells line size long =
     let a = take-append-le stride cells line (omega arith) in
     let d = drop-append-le stride cells line (omega arith) in
     let more = rows_in_more stride count (drop stride cells) line (omega (arith, length-drop stride cells)) long in
-    ap₂ (λ (zs : List ℤ) (rows : List Row). line_row zs ∷ rows) a (ap (λ (zs : List ℤ). rows_in stride (suc count) zs) d ∙ more)
+    ap₂ (λ (zs : List ℤ) (rows : List Row). line_row zs ∷ rows) a
+    (ap (λ (zs : List ℤ). rows_in stride (suc count) zs) d ∙ more)
 
 -- a pivot over a buffer
-pub pivot_in_buffer : {U : Type 0} (stride count r s : ℕ) (cells line new : List ℤ) (u : Result U Wide) → r < count → 0 < stride → length line ≡ stride → length cells ≡ count * stride
+pub pivot_in_buffer : {U : Type 0} (stride count r s : ℕ) (cells line new : List ℤ) (u : Result U Wide) → r < count
+    → 0 < stride → length line ≡ stride → length cells ≡ count * stride
     → line_row line ≡ row_at (rows_in stride count cells) r
     → Becomes new u (buffer_run r s line 0 count cells)
-    → Becomes (rows_in stride count new) u (rows_run r s (row_at (rows_in stride count cells) r) 0 (rows_in stride count cells))
+    → Becomes (rows_in stride count new) u (rows_run r s (row_at (rows_in stride count cells) r) 0
+    (rows_in stride count cells))
 pivot_in_buffer {U = U} stride count r s cells line new u within some long size is made =
-    let e : rows_run r s (line_row line) 0 (rows_in (length line) count cells) ≡ (buffer_run r s line 0 count cells >>= λ zs. Ok (rows_in (length line) count zs))
+    let e : rows_run r s (line_row line) 0 (rows_in (length line) count cells)
+    ≡ (buffer_run r s line 0 count cells >>= λ zs. Ok (rows_in (length line) count zs))
     = buffer-view r s 0 count line cells (omega arith) (subst (λ (k : ℕ). length cells ≡ count * k) (sym long) size) in
-    let f = subst (λ (k : ℕ). rows_run r s (line_row line) 0 (rows_in k count cells) ≡ (buffer_run r s line 0 count cells >>= λ zs. Ok (rows_in k count zs))) long e in
-    let g = subst (λ (row : Row). rows_run r s row 0 (rows_in stride count cells) ≡ (buffer_run r s line 0 count cells >>= λ zs. Ok (rows_in stride count zs))) is f in
+    let f = subst (λ (k : ℕ). rows_run r s (line_row line) 0 (rows_in k count cells)
+    ≡ (buffer_run r s line 0 count cells >>= λ zs. Ok (rows_in k count zs))) long e in
+    let g = subst (λ (row : Row). rows_run r s row 0 (rows_in stride count cells)
+    ≡ (buffer_run r s line 0 count cells >>= λ zs. Ok (rows_in stride count zs))) is f in
     by_cases u made g
   where
     by_cases : (u : Result U Wide) → Becomes new u (buffer_run r s line 0 count cells)
-        → rows_run r s (row_at (rows_in stride count cells) r) 0 (rows_in stride count cells) ≡ (buffer_run r s line 0 count cells >>= λ zs. Ok (rows_in stride count zs))
-        → Becomes (rows_in stride count new) u (rows_run r s (row_at (rows_in stride count cells) r) 0 (rows_in stride count cells))
+        → rows_run r s (row_at (rows_in stride count cells) r) 0 (rows_in stride count cells)
+        ≡ (buffer_run r s line 0 count cells >>= λ zs. Ok (rows_in stride count zs))
+        → Becomes (rows_in stride count new) u
+        (rows_run r s (row_at (rows_in stride count cells) r) 0 (rows_in stride count cells))
     by_cases (Ok x) made g = g ∙ ap (λ (q : Result (List ℤ) Wide). q >>= λ zs. Ok (rows_in stride count zs)) made
     by_cases (Err w) made g = g ∙ ap (λ (q : Result (List ℤ) Wide). q >>= λ zs. Ok (rows_in stride count zs)) made
 
 -- a list written over a whole one
-pub written_whole : (n : ℕ) (old new : List ℤ) → length old ≡ n → length new ≡ length old → take n (new ++ drop (length new) old) ≡ new
+pub written_whole : (n : ℕ) (old new : List ℤ) → length old ≡ n → length new ≡ length old
+    → take n (new ++ drop (length new) old) ≡ new
 written_whole n old new size same =
     let none : drop (length new) old ≡ [] = drop_of_length-le old (omega arith) in
     rw (none, append-nil new) (take_all n new (omega arith))
 
 -- what a pivot leaves is sound
-pub sound_pivot : (unknowns parameters count r s : ℕ) (cells line now room : List ℤ) (stopped : Option Wide) → r < count → s < unknowns
+pub sound_pivot : (unknowns parameters count r s : ℕ) (cells line now room : List ℤ) (stopped : Option Wide) → r < count
+    → s < unknowns
     → IsSound unknowns parameters count cells line stopped → stopped ≡ None
     → pos 0 <ℤ entry (row_at (rows_in (stride_of unknowns parameters) count cells) r) s
-    → rows_run r s (row_at (rows_in (stride_of unknowns parameters) count cells) r) 0 (rows_in (stride_of unknowns parameters) count cells)
+    → rows_run r s (row_at (rows_in (stride_of unknowns parameters) count cells) r) 0
+    (rows_in (stride_of unknowns parameters) count cells)
     ≡ Ok (rows_in (stride_of unknowns parameters) count now)
     → length now ≡ length cells → length room ≡ length line → IsSound unknowns parameters count now room stopped
 sound_pivot unknowns parameters count r s cells line now room stopped within below sound going here run size same =
@@ -130,23 +152,27 @@ sound_pivot unknowns parameters count r s cells line now room stopped within bel
       room = same ∙ sound.room;
       size = size ∙ sound.size;
       many = sound.many;
-      tableau = λ e. pivot_keeps_tableau unknowns parameters r s rows (rows_in (stride_of unknowns parameters) count now) (sound.tableau going) (omega arith) below here run;
+      tableau = λ e. pivot_keeps_tableau unknowns parameters r s rows
+          (rows_in (stride_of unknowns parameters) count now) (sound.tableau going) (omega arith) below here run;
     }
 
 -- what a cut leaves is sound
-pub sound_cut : (unknowns parameters count row : ℕ) (cells line now new room : List ℤ) (stopped : Option Wide) → row < count
+pub sound_cut : (unknowns parameters count row : ℕ) (place : Option ℕ) (cells line now new room : List ℤ)
+    (stopped : Option Wide) → row < count
     → IsSound unknowns parameters count cells line stopped → stopped ≡ None
     → length new ≡ stride_of unknowns parameters → now ≡ cells ++ new
-    → cut_run unknowns None (row_at (rows_in (stride_of unknowns parameters) count cells) row) ≡ Ok (line_row new)
+    → cut_run unknowns place (row_at (rows_in (stride_of unknowns parameters) count cells) row) ≡ Ok (line_row new)
     → length room ≡ length line
     → IsSound unknowns parameters (count + 1) now room stopped
-    × (rows_in (stride_of unknowns parameters) (count + 1) now ≡ rows_in (stride_of unknowns parameters) count cells ++ line_row new ∷ [])
-sound_cut unknowns parameters count row cells line now new room stopped within sound going long is run same =
+    × (rows_in (stride_of unknowns parameters) (count + 1) now
+    ≡ rows_in (stride_of unknowns parameters) count cells ++ line_row new ∷ [])
+sound_cut unknowns parameters count row place cells line now new room stopped within sound going long is run same =
     let stride = stride_of unknowns parameters in
     let rows = rows_in stride count cells in
     let l = length-rows_in stride count cells in
     let lines : rows_in stride (count + 1) now ≡ rows ++ line_row new ∷ [] =
-    ap (λ (k : ℕ). rows_in stride k now) (add-one count) ∙ ap (λ (zs : List ℤ). rows_in stride (suc count) zs) is ∙ rows_in_more stride count cells new sound.size long in
+    ap (λ (k : ℕ). rows_in stride k now) (add-one count) ∙ ap (λ (zs : List ℤ). rows_in stride (suc count) zs) is
+    ∙ rows_in_more stride count cells new sound.size long in
     let n = suc-mul count stride in
     let e : (count + 1) * stride ≡ suc count * stride = ap (λ (k : ℕ). k * stride) (add-one count) in
     let g = sound.size in (
@@ -154,15 +180,24 @@ sound_cut unknowns parameters count row cells line now new room stopped within s
         room = same ∙ sound.room;
         size = ap (λ (zs : List ℤ). length zs) is ∙ length-append cells new ∙ omega arith;
         many = let k = sound.many in omega arith;
-        tableau = λ e. subst (IsTableau unknowns parameters) (sym lines) (cut_keeps_tableau unknowns parameters row None rows (line_row new) (sound.tableau going) (omega arith) run);
+        tableau = λ e. subst (IsTableau unknowns parameters) (sym lines)
+            (cut_keeps_tableau unknowns parameters row place rows (line_row new) (sound.tableau going) (omega arith)
+            run);
       },
       lines,
     )
 
 -- rows that stopped may hold anything
-pub sound_stopped : (unknowns parameters count : ℕ) (cells line room : List ℤ) (stopped : Option Wide) (w : Wide) → IsSound unknowns parameters count cells line stopped
+pub sound_stopped : (unknowns parameters count : ℕ) (cells line room : List ℤ) (stopped : Option Wide) (w : Wide)
+    → IsSound unknowns parameters count cells line stopped
     → length room ≡ length line → IsSound unknowns parameters count cells room (Some w)
 sound_stopped unknowns parameters count cells line room stopped w sound same =
     record { room = same ∙ sound.room; size = sound.size; many = sound.many; tableau = λ e. cc }
+
+-- the place of a parameter's tie
+pub placed-behind : (n m : ℕ) (parameter : Option ℕ) → ((k : ℕ) → parameter ≡ Some k → k < m)
+    → IsPlaced n m (behind_columns n parameter)
+placed-behind n m None within = tt
+placed-behind n m (Some k) within = let w = within k refl in omega arith
 
 pub ruleset tables = (length-rows_in)

@@ -1,15 +1,16 @@
 //! The cut on a row, made in a copy of the row.
-ghost use Rattle.std.specs.Prelude.{◌≡◌, ◌+◌, ◌<◌, ◌<ℤ◌, ◌≤ℤ◌, pos, length, map, slice_index_or};
+ghost use Rattle.std.specs.Prelude.{◌≡◌, ℕ, ◌+◌, ◌<◌, ◌<ℤ◌, ◌≤ℤ◌, pos, length, map, slice_index_or, Some};
 ghost use Rattle.affine_forms.specs.Runs.{map_run};
 ghost use Rattle.wide_math.specs.Gives.{Becomes};
 ghost use Rattle.whole_numbers.specs.Floor.{remainder};
-ghost use Rattle.checked_tableau.specs.Lines.{cut_line_run, turned_run};
+ghost use Rattle.tableau_rows.specs.Moves.{tied};
+ghost use Rattle.checked_tableau.specs.Lines.{cut_line_run, turned_run, behind_constant, behind_columns};
 
 use crate::contents::reduce;
 use wide_math::{Wide, sub};
 
 /// `a` modulo `divisor`.
-fn remainder_of(a: i128, divisor: i128) -> i128
+pub fn remainder_of(a: i128, divisor: i128) -> i128
     requires { pos 1 ≤ℤ divisor }
     ensures value { result ≡ remainder a divisor }
     ensures least { pos 0 ≤ℤ result }
@@ -54,11 +55,25 @@ fn leave_turned_remainders(numbers: &mut [i128], divisor: i128) -> Result<(), Wi
     Ok(())
 }
 
-/// Makes a row, its denominator in front, the cut on it.
-pub fn cut_line(line: &mut [i128], unknowns: usize) -> Result<(), Wide>
+/// Adds the divisor to the entry of a parameter, if one is given; the entries begin at the constant.
+fn tie(part: &mut [i128], parameter: Option<usize>, divisor: i128)
+    requires inside { (k : ℕ) → parameter ≡ Some k → k + 1 < length part.old }
+    requires low { (k : ℕ) → slice_index_or part.old k (pos 0) ≤ℤ pos 0 }
+    requires positive { pos 1 ≤ℤ divisor }
+    ensures { part.new ≡ tied divisor (behind_constant parameter) part.old }
+{
+    match parameter {
+        None => {}
+        Some(parameter) => part[parameter + 1] = part[parameter + 1] + divisor,
+    }
+}
+
+/// Makes a row, its denominator in front, the cut on it, tied to a parameter or to none.
+pub fn cut_line(line: &mut [i128], unknowns: usize, parameter: Option<usize>) -> Result<(), Wide>
     requires constant { unknowns + 1 < length line.old }
+    requires parameter { (k : ℕ) → parameter ≡ Some k → unknowns + 2 + k < length line.old }
     requires positive { pos 0 <ℤ slice_index_or line.old 0 (pos 0) }
-    ensures { Becomes line.new result (cut_line_run unknowns line.old) }
+    ensures { Becomes line.new result (cut_line_run unknowns (behind_columns unknowns parameter) line.old) }
 {
     let (head, entries) = line.split_at_mut(1);
     let divisor = head[0];
@@ -68,6 +83,7 @@ pub fn cut_line(line: &mut [i128], unknowns: usize) -> Result<(), Wide>
         Err(wide) => return Err(wide),
         Ok(()) => {}
     }
+    tie(part, parameter, divisor);
     reduce(line);
     Ok(())
 }

@@ -17,7 +17,8 @@ pub fn append_units(
 ) -> Result<(), AllocError>
     requires none { cells.old.items ≡ [] }
     requires room { unknowns + 1 < length line.old }
-    ensures { (m : ℕ) → length line.old ≡ suc m → OnOk result (Holds (suc m) unknowns cells.new.items (unit_rows m 0 unknowns)) }
+    ensures { (m : ℕ) → length line.old ≡ suc m
+        → OnOk result (Holds (suc m) unknowns cells.new.items (unit_rows m 0 unknowns)) }
 {
     for column in 0..unknowns {
         write_unit(line, column);

@@ -4,6 +4,7 @@
 mod contents;
 mod cuts;
 mod first;
+mod longer;
 mod pivot;
 mod problem;
 mod rows;
@@ -11,6 +12,7 @@ mod scans;
 mod stop;
 mod table;
 
+pub use cuts::remainder_of;
 pub use problem::Problem;
 pub use stop::TableauStop;
 pub use table::Rows;

@@ -94,7 +94,8 @@ fn precedes(
     requires lengths { length unknowns.now ≡ count * length pivot.now }
     requires column { column + 1 < length pivot.now }
     requires best { best + 1 < length pivot.now }
-    ensures { result ≡ precedes_run (slice_index_or pivot.now (column + 1) (pos 0)) (slice_index_or pivot.now (best + 1) (pos 0))
+    ensures { result ≡ precedes_run (slice_index_or pivot.now (column + 1) (pos 0))
+        (slice_index_or pivot.now (best + 1) (pos 0))
         column best (rows_in (length pivot.now) count unknowns.now) }
 {
     let mut rest = unknowns;
@@ -158,7 +159,8 @@ pub fn choose(
 ) -> Result<Option<usize>, Wide>
     requires lengths { length unknowns.now ≡ count * length pivot.now }
     requires columns { columns + 1 < length pivot.now }
-    ensures run { result ≡ column_run (rows_in (length pivot.now) count unknowns.now) (line_row pivot.now) columns 0 None }
+    ensures run { result ≡ column_run (rows_in (length pivot.now) count unknowns.now) (line_row pivot.now) columns 0
+        None }
     ensures leads { (s : ℕ) → result ≡ Ok (Some s) → Leads columns pivot.now s }
 {
     let mut best = None;

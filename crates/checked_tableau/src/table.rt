@@ -1,18 +1,21 @@
 //! Rows in one buffer, a line each: the denominator, an entry for each column, the constant, and an entry
 //! for each parameter.
-ghost use Rattle.std.specs.Prelude.{◌≡◌, ◌↔◌, ℕ, ℤ, List, OnOk, ◌+◌, ◌*◌, ◌<◌, ◌<ℤ◌, ◌≤◌, pos, length, slice_index_or, take, Ok, Some, None, All, IfOk};
+ghost use Rattle.std.specs.Prelude.{◌≡◌, ◌↔◌, ℕ, ℤ, List, OnOk, ◌+◌, ◌*◌, ◌++◌, ◌<◌, ◌<ℤ◌, ◌≤◌, pos, length, slice_index_or, take, map, Ok, Some, None, All, IfOk};
 ghost use Rattle.std.specs.Option.{ForSome};
 ghost use Rattle.wide_math.specs.Gives.{Becomes};
 ghost use Rattle.affine_forms.specs.Parts.{variables_of};
 ghost use Rattle.tableau_rows.specs.Rows.{entry, Sized};
 ghost use Rattle.tableau_rows.specs.Problem.{first_rows, problem_of, IsPoint};
 ghost use Rattle.tableau_rows.specs.Solutions.{HaveSameSolutions, IsSolution, IsTied};
-ghost use Rattle.tableau_rows.specs.Moves.{HeadsPositive, column_run, cut_run, line_row, row_at, rows_in, rows_run};
+ghost use Rattle.tableau_rows.specs.Moves.{HeadsPositive, column_run, cut_run, line_row, pivot_run, row_at, rows_in, rows_run};
+ghost use Rattle.lexmin_runs.specs.Nodes.{longer_row};
+ghost use Rattle.checked_tableau.specs.Lines.{behind_columns};
 ghost use Rattle.tableau_rows.specs.Run.{first_row, has_below, has_fraction, some_positive};
 ghost use Rattle.checked_tableau.specs.Table.{Appends, Cuts, Moves, table_of, stride_of};
 
 use crate::cuts::cut_line;
 use crate::first::{append_forms, append_units};
+use crate::longer::append_longer;
 use crate::pivot::pivot_rows;
 use crate::scans;
 use crate::stop::TableauStop;
@@ -78,29 +81,33 @@ fn pivot_lines(
     requires heads { HeadsPositive (length line.old) count cells.old }
     requires entry { pos 0 <ℤ entry (row_at (rows_in (length line.old) count cells.old) row) column }
     ensures { Becomes (rows_in (length line.old) count cells.new) result
-        (rows_run row column (row_at (rows_in (length line.old) count cells.old) row) 0 (rows_in (length line.old) count cells.old)) }
+        (rows_run row column (row_at (rows_in (length line.old) count cells.old) row) 0
+        (rows_in (length line.old) count cells.old)) }
 {
     line.copy_from_slice(line_at(cells, line.len(), count, row));
     pivot_rows(cells, line, count, row, column)
 }
 
-/// Appends the cut on a row to the lines of a buffer. `line` is room for one.
+/// Appends the cut on a row, tied to a parameter or to none, to the lines of a buffer. `line` is room for one.
 fn append_cut(
     cells: &mut Vec<i128>,
     line: &mut [i128],
     count: usize,
     row: usize,
     unknowns: usize,
+    parameter: Option<usize>,
 ) -> Result<(), TableauStop>
     requires size { length cells.old.items ≡ count * length line.old }
     requires row { row < count }
     requires constant { unknowns + 1 < length line.old }
+    requires parameter { (k : ℕ) → parameter ≡ Some k → unknowns + 2 + k < length line.old }
     requires sized { (m : ℕ) × Sized m (rows_in (length line.old) count cells.old.items) }
     ensures { Appends (length line.old) cells.old.items cells.new.items result
-        (cut_run unknowns None (row_at (rows_in (length line.old) count cells.old.items) row)) }
+        (cut_run unknowns (behind_columns unknowns parameter)
+        (row_at (rows_in (length line.old) count cells.old.items) row)) }
 {
     line.copy_from_slice(line_at(cells, line.len(), count, row));
-    match cut_line(line, unknowns) {
+    match cut_line(line, unknowns, parameter) {
         Err(wide) => return Err(TableauStop::Wide(wide)),
         Ok(()) => {}
     }
@@ -111,7 +118,7 @@ fn append_cut(
 }
 
 impl Rows {
-    /// The first rows of a problem: its unknowns are the columns.
+    /// The first rows of a problem: its unknowns are the columns, and its forms stand in two parts.
     ///
     /// # Errors
     /// `AllocError` alone.
@@ -120,11 +127,14 @@ impl Rows {
         unknowns: usize,
         parameters: usize,
         forms: &[Form],
+        more: &[Form],
     ) -> Result<Rows, AllocError>
-        requires { All (λ f. variables_of f ≡ unknowns + parameters) forms.now }
-        ensures rows { IfOk result (λ t. t ≡ table_of unknowns parameters (first_rows parameters (problem_of unknowns forms.now)) None) }
+        requires forms { All (λ f. variables_of f ≡ unknowns + parameters) forms.now }
+        requires more { All (λ f. variables_of f ≡ unknowns + parameters) more.now }
+        ensures rows { IfOk result (λ t. t
+            ≡ table_of unknowns parameters (first_rows parameters (problem_of unknowns (forms.now ++ more.now))) None) }
         ensures solutions { IfOk result (λ t. (p x : List ℤ) → length p ≡ parameters
-            → IsPoint (problem_of unknowns forms.now) p x ↔ IsSolution unknowns t.rows p x) }
+            → IsPoint (problem_of unknowns (forms.now ++ more.now)) p x ↔ IsSolution unknowns t.rows p x) }
     {
         let stride = match stride_for(unknowns, parameters) {
             None => return Err(AllocError),
@@ -143,7 +153,15 @@ impl Rows {
             Err(error) => return Err(error),
             Ok(()) => {}
         }
-        let count = match unknowns.checked_add(forms.len()) {
+        match append_forms(&mut cells, more, unknowns, stride) {
+            Err(error) => return Err(error),
+            Ok(()) => {}
+        }
+        let front = match unknowns.checked_add(forms.len()) {
+            None => return Err(AllocError),
+            Some(front) => front,
+        };
+        let count = match front.checked_add(more.len()) {
             None => return Err(AllocError),
             Some(count) => count,
         };
@@ -155,6 +173,106 @@ impl Rows {
             line,
             stopped: None,
         })
+    }
+
+    /// The same rows again.
+    ///
+    /// # Errors
+    /// `AllocError` alone.
+    pub fn copy(&self, alloc: Global) -> Result<Rows, AllocError>
+        ensures { IfOk result (λ t. t ≡ self.now) }
+    {
+        let line = match Vec::from_slice(alloc, &self.line) {
+            Err(error) => return Err(error),
+            Ok(line) => line,
+        };
+        let cells = match Vec::from_slice(alloc, &self.cells) {
+            Err(error) => return Err(error),
+            Ok(cells) => cells,
+        };
+        Ok(Rows {
+            unknowns: self.unknowns,
+            parameters: self.parameters,
+            count: self.count,
+            cells,
+            line,
+            stopped: self.stopped,
+        })
+    }
+
+    /// The rows with one parameter more, of which they do not speak.
+    ///
+    /// # Errors
+    /// `AllocError` alone.
+    pub fn widened(&self, alloc: Global) -> Result<Rows, AllocError>
+        requires { self.now.stopped ≡ None }
+        ensures { IfOk result (λ t. t ≡ table_of self.now.unknowns (self.now.parameters + 1)
+            (map longer_row self.now.rows) None) }
+    {
+        let parameters = match self.parameters.checked_add(1) {
+            None => return Err(AllocError),
+            Some(parameters) => parameters,
+        };
+        let stride = match stride_for(self.unknowns, parameters) {
+            None => return Err(AllocError),
+            Some(stride) => stride,
+        };
+        let line = match Vec::from_elem(alloc, 0i128, stride) {
+            Err(error) => return Err(error),
+            Ok(line) => line,
+        };
+        let mut cells = Vec::new(alloc);
+        match append_longer(&mut cells, &self.cells, self.line.len(), self.count) {
+            Err(error) => return Err(error),
+            Ok(()) => {}
+        }
+        Ok(Rows {
+            unknowns: self.unknowns,
+            parameters,
+            count: self.count,
+            cells,
+            line,
+            stopped: None,
+        })
+    }
+
+    /// How many unknowns the rows have, and as many columns.
+    pub fn unknowns(&self) -> usize
+        ensures { result ≡ self.now.unknowns }
+    {
+        self.unknowns
+    }
+
+    /// How many parameters the rows have.
+    pub fn parameters(&self) -> usize
+        ensures { result ≡ self.now.parameters }
+    {
+        self.parameters
+    }
+
+    /// The number that was too wide, once one was.
+    pub fn stopped(&self) -> Option<Wide>
+        ensures { result ≡ self.now.stopped }
+    {
+        self.stopped
+    }
+
+    /// Stops the rows at a number that is too wide.
+    pub fn stop(&mut self, wide: Wide)
+        ensures { self.new.stopped ≡ Some wide }
+    {
+        self.stopped = Some(wide);
+    }
+
+    /// A row's numbers: the denominator, the columns, the constant, the parameters.
+    #[tactic(auto, using(crate::proofs::Tables::tables))]
+    pub fn line(&self, row: usize) -> &[i128]
+        requires { row < length self.now.rows }
+        ensures length { length result.now ≡ stride_of self.now.unknowns self.now.parameters }
+        ensures line { line_row result.now ≡ row_at self.now.rows row }
+        ensures positive { self.now.stopped ≡ None → pos 0 <ℤ slice_index_or result.now 0 (pos 0) }
+    {
+        line_at(&self.cells, self.line.len(), self.count, row)
     }
 
     /// How many rows there are.
@@ -202,8 +320,10 @@ impl Rows {
     #[tactic(auto, using(crate::proofs::Tables::tables))]
     pub fn column(&self, row: usize) -> Result<Option<usize>, Wide>
         requires { row < length self.now.rows }
-        ensures run { result ≡ column_run (take self.now.unknowns self.now.rows) (row_at self.now.rows row) self.now.unknowns 0 None }
-        ensures leads { (s : ℕ) → result ≡ Ok (Some s) → (s < self.now.unknowns) × (pos 0 <ℤ entry (row_at self.now.rows row) s) }
+        ensures run { result ≡ column_run (take self.now.unknowns self.now.rows) (row_at self.now.rows row)
+            self.now.unknowns 0 None }
+        ensures leads { (s : ℕ) → result ≡ Ok (Some s)
+            → (s < self.now.unknowns) × (pos 0 <ℤ entry (row_at self.now.rows row) s) }
     {
         let stride = self.line.len();
         let pivot = line_at(&self.cells, stride, self.count, row);
@@ -237,16 +357,42 @@ impl Rows {
         }
     }
 
-    /// The cut on a row behind the rows, tied to no parameter. Takes its memory before it changes anything.
+    /// The pivot on a row, in the column that the rows of the unknowns choose. Takes no memory.
+    ///
+    /// # Errors
+    /// `Wide` names the first number that 128 bits do not hold, first of the choice, then of the pivot; or the one at
+    /// which an earlier move stopped.
+    pub fn pivot_on(&mut self, row: usize) -> Result<(), Wide>
+        requires { row < length self.old.rows }
+        ensures { Moves self.old (pivot_run self.old.unknowns self.old.rows row) self.new result }
+    {
+        if let Some(wide) = self.stopped {
+            return Err(wide);
+        }
+        match self.column(row) {
+            Err(wide) => {
+                self.stopped = Some(wide);
+                Err(wide)
+            }
+            Ok(None) => Ok(()),
+            Ok(Some(column)) => self.pivot(row, column),
+        }
+    }
+
+    /// The cut on a row behind the rows, tied to a parameter or to none. Takes its memory before it changes
+    /// anything.
     ///
     /// # Errors
     /// `Wide` names the first opposite that 128 bits do not hold, the constant's first; or the number at which
     /// an earlier move stopped. Behind `NoMemory` the rows are as they were.
-    pub fn cut(&mut self, row: usize) -> Result<(), TableauStop>
-        requires { row < length self.old.rows }
-        ensures run { Cuts self.old (cut_run self.old.unknowns None (row_at self.old.rows row)) self.new result }
+    pub fn cut(&mut self, row: usize, parameter: Option<usize>) -> Result<(), TableauStop>
+        requires row { row < length self.old.rows }
+        requires parameter { (k : ℕ) → parameter ≡ Some k → k < self.old.parameters }
+        ensures run { Cuts self.old (cut_run self.old.unknowns (behind_columns self.old.unknowns parameter)
+            (row_at self.old.rows row))
+            self.new result }
         ensures solutions { OnOk result ((p : List ℤ) → length p ≡ self.old.parameters
-            → IsTied self.old.unknowns None (row_at self.old.rows row) p
+            → IsTied self.old.unknowns (behind_columns self.old.unknowns parameter) (row_at self.old.rows row) p
             → HaveSameSolutions self.old.unknowns self.old.rows self.new.rows p) }
     {
         if let Some(wide) = self.stopped {
@@ -258,6 +404,7 @@ impl Rows {
             self.count,
             row,
             self.unknowns,
+            parameter,
         ) {
             Err(TableauStop::Wide(wide)) => {
                 self.stopped = Some(wide);

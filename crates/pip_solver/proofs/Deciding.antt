@@ -28,19 +28,26 @@ emptied_is (Ok (point x, left)) = refl
 emptied_is (Ok (none, left)) = refl
 emptied_is (Err stop) = refl
 
-pub decided_is : (budget : ℕ) (posed : Problem) → decided budget posed ≡ turned (answered (run posed.unknowns budget (first_rows 0 (problem_of posed.unknowns posed.rows.items))))
+pub decided_is : (budget : ℕ) (posed : Problem)
+    → decided budget posed ≡ turned (answered
+    (run posed.unknowns budget (first_rows 0 (problem_of posed.unknowns posed.rows.items))))
 unfolding question
-decided_is budget posed = emptied_is (run posed.unknowns budget (first_rows 0 (problem_of posed.unknowns posed.rows.items)))
+decided_is budget posed = emptied_is (run posed.unknowns budget
+    (first_rows 0 (problem_of posed.unknowns posed.rows.items)))
 
 -- posing
-pub pose-stops : (U : Type 0) (s : Constraints) (old new : List Affine) (stop : FormStop) → Poses {U = U} old new (Err stop) (equality_rows_run s.equalities) → Poses {U = U} old new (Err stop) (posed_run s)
+pub pose-stops : (U : Type 0) (s : Constraints) (old new : List Affine) (stop : FormStop)
+    → Poses {U = U} old new (Err stop) (equality_rows_run s.equalities) → Poses {U = U} old new (Err stop) (posed_run s)
 unfolding posed_run
 pose-stops U s old new (form_stop.Wide w) h =
-    ap (λ (q : Result (List Affine) Wide). q >>= λ es. Ok (es ++ (s.rows ++ bound_rows (variables_in s) s.dimensions s.parameters))) h
+    ap (λ (q : Result (List Affine) Wide). q >>= λ es.
+    Ok (es ++ (s.rows ++ bound_rows (variables_in s) s.dimensions s.parameters))) h
 pose-stops U s old new form_stop.NoMemory h = tt
 
-pub pose-ends : {U : Type 0} (s : Constraints) (old mid late new es : List Affine) (result : Result U FormStop) → equality_rows_run s.equalities ≡ Ok es → mid ≡ old ++ es → late ≡ mid ++ s.rows
-    → Poses late new result (Ok (bound_rows (variables_in s) s.dimensions s.parameters)) → Poses old new result (posed_run s)
+pub pose-ends : {U : Type 0} (s : Constraints) (old mid late new es : List Affine) (result : Result U FormStop)
+    → equality_rows_run s.equalities ≡ Ok es → mid ≡ old ++ es → late ≡ mid ++ s.rows
+    → Poses late new result (Ok (bound_rows (variables_in s) s.dimensions s.parameters))
+    → Poses old new result (posed_run s)
 unfolding posed_run
 pose-ends s old mid late new es (Ok x) formed first second poses =
     let bounds = bound_rows (variables_in s) s.dimensions s.parameters in
@@ -48,37 +55,51 @@ pose-ends s old mid late new es (Ok x) formed first second poses =
       es ++ (s.rows ++ bounds),
       ap (λ (q : Result (List Affine) Wide). q >>= λ es. Ok (es ++ (s.rows ++ bounds))) formed,
       poses.2 ∙ ap (λ (zs : List Affine). zs ++ poses.0) (second ∙ ap (λ (zs : List Affine). zs ++ s.rows) first)
-          ∙ append_assoc (old ++ es) s.rows poses.0 ∙ append_assoc old es (s.rows ++ poses.0) ∙ ap (λ (bs : List Affine). old ++ (es ++ (s.rows ++ bs))) (sym e),
+          ∙ append_assoc (old ++ es) s.rows poses.0 ∙ append_assoc old es (s.rows ++ poses.0)
+          ∙ ap (λ (bs : List Affine). old ++ (es ++ (s.rows ++ bs))) (sym e),
     )
 pose-ends s old mid late new es (Err (form_stop.Wide w)) formed first second poses = cc
 pose-ends s old mid late new es (Err form_stop.NoMemory) formed first second poses = tt
 
-all_speak : (n : ℕ) (fs : List Affine) → Speaks n fs → All (λ f. length f.coefficients ≡ n) fs
+pub all_speak : (n : ℕ) (fs : List Affine) → Speaks n fs → All (λ f. length f.coefficients ≡ n) fs
 all_speak n [] speaks k d low = absurd (omega arith)
 all_speak n (f ∷ fs) speaks zero d low = speaks.0
 all_speak n (f ∷ fs) speaks (suc k) d low = all_speak n fs speaks.1 k d (omega arith)
 
-pub posed_sized : (s : Constraints) (rows : List Affine) → IsSized (variables_in s) s.equalities s.rows → posed_run s ≡ Ok rows → All (λ f. length f.coefficients ≡ variables_in s) rows
+pub posed_sized : (s : Constraints) (rows : List Affine) → IsSized (variables_in s) s.equalities s.rows
+    → posed_run s ≡ Ok rows → All (λ f. length f.coefficients ≡ variables_in s) rows
 posed_sized s rows sized posed =
     all_speak (variables_in s) rows
-    (posed_points s rows (zeros s.dimensions) (zeros s.parameters) sized posed (length-zeros s.dimensions) (length-zeros s.parameters)).0
+    (posed_points s rows (zeros s.dimensions) (zeros s.parameters) sized posed (length-zeros s.dimensions)
+    (length-zeros s.parameters)).0
 
-empty_is : (budget : ℕ) (s : Constraints) (posed : Problem) → IsPosed s posed → empty_run budget s ≡ decided budget posed
+empty_is : (budget : ℕ) (s : Constraints) (posed : Problem) → IsPosed s posed
+    → empty_run budget s ≡ decided budget posed
 unfolding empty_run
 empty_is budget s posed is =
-    ap (λ (q : Result (List Affine) Wide). formed budget q (λ rows. emptied (question budget (problem_of (variables_in s) rows)))) is.rows
+    ap (λ (q : Result (List Affine) Wide). formed budget q
+    (λ rows. emptied (question budget (problem_of (variables_in s) rows)))) is.rows
     ∙ ap (λ (n : ℕ). emptied (question budget (problem_of n posed.rows.items))) (sym is.unknowns)
 
-pub empties_decided : (budget : ℕ) (s : Constraints) (posed : Problem) (result : Result Bool solver.the_data) → IsPosed s posed → Decides result budget posed → Empties result budget s
+pub empties_decided : (budget : ℕ) (s : Constraints) (posed : Problem) (result : Result Bool solver.the_data)
+    → IsPosed s posed → Decides result budget posed → Empties result budget s
 empties_decided budget s posed (Ok empty) is decides = (decides.0, empty_is budget s posed is ∙ decides.1)
-empties_decided budget s posed (Err (solver.Wide told moves)) is decides =
-    (decides.0, decides.1, empty_is budget s posed is ∙ decides.2, decides.3, inl (subst (λ (p : Problem). IsPosed s p) (sym decides.4) is))
+empties_decided budget s posed (Err (solver.Wide told moves)) is decides = (
+  decides.0,
+  decides.1,
+  empty_is budget s posed is
+      ∙ decides.2,
+  decides.3,
+  inl (subst (λ (p : Problem). IsPosed s p) (sym decides.4) is),
+)
 empties_decided budget s posed (Err (solver.Spent told moves)) is decides =
     (empty_is budget s posed is ∙ decides.0, decides.1, subst (λ (p : Problem). IsPosed s p) (sym decides.2) is)
 empties_decided budget s posed (Err solver.NoMemory) is decides = tt
 
 -- a number that is too wide before the problem is posed
-pub empty_unposed : (budget : ℕ) (s : Constraints) (w : Wide) → posed_run s ≡ Err w → empty_run budget s ≡ Err (wide w budget)
+pub empty_unposed : (budget : ℕ) (s : Constraints) (w : Wide) → posed_run s ≡ Err w
+    → empty_run budget s ≡ Err (wide w budget)
 unfolding empty_run
 empty_unposed budget s w failed =
-    ap (λ (q : Result (List Affine) Wide). formed budget q (λ rows. emptied (question budget (problem_of (variables_in s) rows)))) failed
+    ap (λ (q : Result (List Affine) Wide). formed budget q
+    (λ rows. emptied (question budget (problem_of (variables_in s) rows)))) failed

@@ -1,3 +1,9 @@
 pub mod Running
 pub mod Posing
 pub mod Deciding
+pub mod Questions
+pub mod Stepping
+pub mod Leaf_trees
+pub mod Framing
+pub mod Advancing
+pub mod Minimum_of

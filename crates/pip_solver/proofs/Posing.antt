@@ -15,17 +15,21 @@ behind done run = run >>= λ more. Ok (done ++ more)
 
 pub opposites-map : (xs : List ℤ) → opposites_run xs ≡ map_run (difference_of (pos 0)) xs
 opposites-map [] = refl
-opposites-map (x ∷ xs) = ap (λ (r : Result (List ℤ) Wide). difference_of (pos 0) x >>= λ z. r >>= λ zs. Ok (z ∷ zs)) (opposites-map xs)
+opposites-map (x ∷ xs) = ap (λ (r : Result (List ℤ) Wide). difference_of (pos 0) x >>= λ z. r >>= λ zs. Ok (z ∷ zs))
+    (opposites-map xs)
 
-pub negated-err : (f : Affine) (w : Wide) → map_run (difference_of (pos 0)) f.coefficients ≡ Err w → negated_run f ≡ Err w
+pub negated-err : (f : Affine) (w : Wide) → map_run (difference_of (pos 0)) f.coefficients ≡ Err w
+    → negated_run f ≡ Err w
 unfolding negated_run
 negated-err f w failed = rw (opposites-map f.coefficients, failed) refl
 
-pub negated-wide : (f : Affine) (bs : List ℤ) (w : Wide) → map_run (difference_of (pos 0)) f.coefficients ≡ Ok bs → difference_of (pos 0) f.constant ≡ Err w → negated_run f ≡ Err w
+pub negated-wide : (f : Affine) (bs : List ℤ) (w : Wide) → map_run (difference_of (pos 0)) f.coefficients ≡ Ok bs
+    → difference_of (pos 0) f.constant ≡ Err w → negated_run f ≡ Err w
 unfolding negated_run
 negated-wide f bs w formed failed = rw (opposites-map f.coefficients, formed, failed) refl
 
-pub negated-ok : (f : Affine) (bs : List ℤ) (c : ℤ) → map_run (difference_of (pos 0)) f.coefficients ≡ Ok bs → difference_of (pos 0) f.constant ≡ Ok c → negated_run f ≡ Ok (form_of bs c)
+pub negated-ok : (f : Affine) (bs : List ℤ) (c : ℤ) → map_run (difference_of (pos 0)) f.coefficients ≡ Ok bs
+    → difference_of (pos 0) f.constant ≡ Ok c → negated_run f ≡ Ok (form_of bs c)
 unfolding negated_run
 negated-ok f bs c formed made = rw (opposites-map f.coefficients, formed, made) refl
 

@@ -6,32 +6,28 @@ use Rattle.affine_forms.specs.declared.stop.FormStop.{FormStop}
 use Rattle.affine_forms.specs.declared.stop.FormStop.TheVariants as form_stop
 use Rattle.lexmin_runs.specs.Emptiness.{negated_run, posed_run, emptied, empty_run}
 use Rattle.integer_sets.specs.Constraints.{Constraints, variables_in}
-use Rattle.tableau_rows.specs.Problem.{problem_of}
+use Rattle.tableau_rows.specs.Problem.{problem_of, Speaks}
 use Rattle.checked_tableau.specs.declared.problem.Problem.{Problem}
 use Rattle.pip_solver.specs.declared.stop.Stop.TheVariants as solver
 use Rattle.tableau_rows.specs.Run as run
 use Rattle.tableau_rows.specs.Run.{Step, Verdict, Outcome}
-use Rattle.tableau_rows.specs.Moves.{pivot_run}
-use Rattle.lexmin_runs.specs.Nodes.{Counted, answered}
-use Rattle.checked_tableau.specs.Table.{Table, table_of}
+use Rattle.lexmin_runs.specs.Nodes.{Counted, answered, part_of}
+use Rattle.tableau_rows.specs.Moves.{row_at}
+use Rattle.tableau_nodes.specs.declared.node.Tableau.{Tableau}
+use Rattle.checked_tableau.specs.Table.{Table}
 use Rattle.pip_solver.specs.declared.question.Step.TheVariants as step
 use Rattle.pip_solver.specs.declared.question.QuestionStop.{QuestionStop}
 use Rattle.pip_solver.specs.declared.question.QuestionStop.TheVariants as stop
 
 -- the code's step is the run's, on one of the rows
 abbrev pub Shows : step.the_data → Table → Type 0
-Shows (step.Ends found) t = (v : Verdict) × (run.next t.unknowns t.rows ≡ run.ends v) × (answered (Ok (v, 0)) ≡ Ok (found, 0))
+Shows (step.Ends found) t = (v : Verdict) × (run.next t.unknowns t.rows ≡ run.ends v)
+    × (answered (Ok (v, 0)) ≡ Ok (found, 0))
 Shows (step.Pivots row) t = (run.next t.unknowns t.rows ≡ run.pivots row) × (row < length t.rows)
 Shows (step.Cuts row) t = (run.next t.unknowns t.rows ≡ run.cuts row) × (row < length t.rows)
 
--- a pivot leaves the run's rows, or names the number that is too wide
-abbrev pub PivotsOn : {U : Type 0} → Table → ℕ → Table → Result U Wide → Type 0
-PivotsOn old row new (Ok _) =
-    (pivot_run old.unknowns old.rows row ≡ Ok new.rows) × (new ≡ table_of old.unknowns old.parameters new.rows None)
-PivotsOn old row new (Err w) = pivot_run old.unknowns old.rows row ≡ Err w
-
 -- an answer, with what is left of the budget, is the run's; want of memory is free
-abbrev pub Tells : Result Bool QuestionStop → ℕ → Counted Bool → Type 0
+abbrev pub Tells : {A : Type 0} → Result A QuestionStop → ℕ → Counted A → Type 0
 Tells (Ok found) left counted = counted ≡ Ok (found, left)
 Tells (Err stop.Wide) left counted = (w : Wide) × (counted ≡ Err (run.wide w left))
 Tells (Err stop.Spent) left counted = (counted ≡ Err run.spent) × (left ≡ 0)
@@ -85,3 +81,9 @@ Empties (Err (solver.Wide posed moves)) budget s =
 Empties (Err (solver.Spent posed moves)) budget s =
     (empty_run budget s ≡ Err run.spent) × (moves ≡ budget) × IsPosed s posed
 Empties (Err solver.NoMemory) budget s = ⊤
+
+-- a row of a node whose context speaks of its parameters, as the row's part does
+abbrev pub AsksOf : Tableau → ℕ → Type 0
+AsksOf node row =
+    (row < length node.rows.rows) × Speaks node.rows.parameters node.context.items
+    × (length (part_of node.rows.unknowns (row_at node.rows.rows row)).coefficients ≡ node.rows.parameters)

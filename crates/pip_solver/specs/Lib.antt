@@ -1,1 +1,4 @@
 pub mod Answers
+pub mod Steps
+pub mod Frames
+pub mod Solving

@@ -1,12 +1,9 @@
 //! Whether a system has no whole point with dimensions from 0 on and parameters in 0..=65536.
 ghost use Rattle.std.specs.Prelude.{◌≡◌, ◌<◌, ◌≤◌, ◌-◌, [], ◌∷◌, set, Ok, negsuc, pos, All, true, false, ℤ, List};
 ghost use Rattle.affine_forms.specs.Gives.{Gives};
-ghost use Rattle.wide_math.specs.Gives.{Becomes};
 ghost use Rattle.whole_numbers.specs.Affine.{form_of};
-ghost use Rattle.affine_forms.specs.Runs.{map_run};
 ghost use Rattle.affine_forms.specs.Parts.{variables_of};
 ghost use Rattle.integer_sets.specs.Constraints.{IsSized, variables_in};
-ghost use Rattle.wide_math.specs.Checked.{difference_of};
 ghost use Rattle.whole_numbers.specs.Lists.{zeros};
 ghost use Rattle.lexmin_runs.specs.Emptiness.{negated_run, equality_rows_run, bound_rows, posed_run, IsBoundedPoint, HasBoundedPoint};
 ghost use Rattle.pip_solver.specs.Answers.{Decides, Empties, Poses, equality_run};
@@ -17,20 +14,8 @@ use affine_forms::{Form, FormStop};
 use checked_tableau::{Problem, Rows};
 use integer_sets::System;
 use std::alloc::Global;
-use wide_math::{Wide, sub};
-
-/// Turns the sign of each number.
-fn oppose(numbers: &mut [i128]) -> Result<(), Wide>
-    ensures { Becomes numbers.new result (map_run (difference_of (pos 0)) numbers.old) }
-{
-    for at in 0..numbers.len() {
-        match sub(0, numbers[at]) {
-            Err(wide) => return Err(wide),
-            Ok(opposite) => numbers[at] = opposite,
-        }
-    }
-    Ok(())
-}
+use tableau_nodes::oppose;
+use wide_math::sub;
 
 /// The form with each sign turned: the coefficients in order, then the constant.
 fn negated(alloc: Global, form: &Form) -> Result<Form, FormStop>
@@ -165,7 +150,7 @@ fn decide(alloc: Global, posed: Problem, budget: u64) -> Result<bool, Stop>
     requires { All (λ f. variables_of f ≡ posed.unknowns) posed.rows.items }
     ensures { Decides result budget posed }
 {
-    let mut rows = match Rows::of(alloc, posed.unknowns, 0, &posed.rows) {
+    let mut rows = match Rows::of(alloc, posed.unknowns, 0, &posed.rows, &[]) {
         Err(_) => return Err(Stop::NoMemory),
         Ok(rows) => rows,
     };

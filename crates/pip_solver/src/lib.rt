@@ -3,11 +3,19 @@
 //! programming", RAIRO Recherche opérationnelle 22(3), 1988.
 #![tactic(auto)]
 
+mod asking;
 mod emptiness;
+mod frames;
+mod leaf;
+mod looking;
+mod minimum;
 mod question;
+mod run;
+mod step;
 mod stop;
 #[cfg(test)]
 mod tests;
 
 pub use emptiness::is_empty;
+pub use minimum::{Solution, lexmin, solve};
 pub use stop::Stop;

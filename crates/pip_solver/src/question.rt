@@ -3,10 +3,9 @@
 ghost use Rattle.std.specs.Prelude.{◌≡◌, ℕ, ◌+◌, ◌<◌, ◌≤◌, length, Ok, None, IfOk, suc};
 ghost use Rattle.tableau_rows.specs.Run.{cuts, next, pivots, run};
 ghost use Rattle.lexmin_runs.specs.Nodes.{answered};
-ghost use Rattle.pip_solver.specs.Answers.{Shows, PivotsOn, Advances, Tells};
+ghost use Rattle.pip_solver.specs.Answers.{Shows, Advances, Tells};
 
 use checked_tableau::{Rows, TableauStop};
-use wide_math::Wide;
 
 /// What a question does next.
 enum Step {
@@ -49,19 +48,6 @@ fn next_step(rows: &Rows) -> Step
     }
 }
 
-/// The pivot on a row.
-fn pivot_on(rows: &mut Rows, row: usize) -> Result<(), Wide>
-    requires going { rows.old.stopped ≡ None }
-    requires row { row < length rows.old.rows }
-    ensures { PivotsOn rows.old row rows.new result }
-{
-    match rows.column(row) {
-        Err(wide) => Err(wide),
-        Ok(None) => Ok(()),
-        Ok(Some(column)) => rows.pivot(row, column),
-    }
-}
-
 /// A pivot, paid for with a move.
 fn pay_for_pivot(rows: &mut Rows, row: usize, left: &mut u64) -> Result<(), QuestionStop>
     requires going { rows.old.stopped ≡ None }
@@ -73,7 +59,7 @@ fn pay_for_pivot(rows: &mut Rows, row: usize, left: &mut u64) -> Result<(), Ques
     if *left == 0 {
         return Err(QuestionStop::Spent);
     }
-    match pivot_on(rows, row) {
+    match rows.pivot_on(row) {
         Err(_) => Err(QuestionStop::Wide),
         Ok(()) => {
             *left -= 1;
@@ -93,7 +79,7 @@ fn pay_for_cut(rows: &mut Rows, row: usize, left: &mut u64) -> Result<(), Questi
     if *left == 0 {
         return Err(QuestionStop::Spent);
     }
-    match rows.cut(row) {
+    match rows.cut(row, None) {
         Err(TableauStop::Wide(_)) => Err(QuestionStop::Wide),
         Err(TableauStop::NoMemory) => Err(QuestionStop::NoMemory),
         Ok(()) => {

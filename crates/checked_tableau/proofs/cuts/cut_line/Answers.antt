@@ -1,16 +1,26 @@
-use Rattle.std.proofs.Common.{rules, ◌++◌, pos, get_or, map, FitsSigned}
+use Rattle.std.proofs.Common.{rules, ◌≡◌, ◌++◌, pos, get_or, map, length, FitsSigned}
+use Rattle.std.proofs.lemmas.List.{length-map}
+use Rattle.tableau_rows.specs.Moves.{tied}
 use Rattle.std.specs.Int.{w128}
 use Rattle.std.proofs.lemmas.Int.{to_z-of_z}
 use Rattle.affine_forms.specs.Runs.{map_run}
 use Rattle.whole_numbers.specs.Floor.{remainder}
 use Rattle.whole_numbers.specs.Content.{lowest}
-use Rattle.checked_tableau.specs.Lines.{turned_run}
-use Rattle.checked_tableau.proofs.Cut_lines.{cut_line_run-parts, cut_line-err, cut_line-ok}
+use Rattle.checked_tableau.specs.Lines.{turned_run, behind_columns}
+use Rattle.checked_tableau.proofs.Cut_lines.{cut_line_run-parts, cut_line-err, cut_line-ok, all_turned_low, tied-behind}
 use Rattle.checked_tableau.proofs.cuts.cut_line.Goals as goal
+
+pub tie-requires-clause-low : goal.tie-requires-clause-low
+tie-requires-clause-low c k =
+    let d = get_or c.split_at_mut-head.result.0.now 0 (pos 0) in
+    let fd : FitsSigned w128 d = search rules in
+    let formed = simp to_z-of_z at c.in-Ok.ensures in
+    all_turned_low d c.split_at_mut-columns.result.1.now c.leave_turned_remainders.new.numbers (search rules) formed k
 
 pub returns-in-Err : goal.returns-in-Err
 returns-in-Err c =
     let n = c.args.unknowns in
+    let place = behind_columns n c.args.parameter in
     let first = c.split_at_mut-head in
     let second = c.split_at_mut-columns in
     let head = first.result.0.now in
@@ -19,13 +29,16 @@ returns-in-Err c =
     let d = get_or head 0 (pos 0) in
     let fd : FitsSigned w128 d = search rules in
     let failed = simp to_z-of_z at c.in-Err.ensures in
-    cut_line-err n c.args.line.now (map_run (turned_run d) part) (λ zs. lowest (head ++ (map (λ z. remainder z d) columns ++ zs))) c.in-Err.wide
-    (cut_line_run-parts n c.args.line.now head first.result.1.now columns part first.ensures.value first.ensures.front_len second.ensures.value second.ensures.front_len)
+    cut_line-err n place c.args.line.now (map_run (turned_run d) part)
+    (λ zs. lowest (head ++ tied d place (map (λ z. remainder z d) columns ++ zs))) c.in-Err.wide
+    (cut_line_run-parts n place c.args.line.now head first.result.1.now columns part first.ensures.value
+    first.ensures.front_len second.ensures.value second.ensures.front_len)
     failed
 
 pub returns : goal.returns
 returns c =
     let n = c.args.unknowns in
+    let place = behind_columns n c.args.parameter in
     let first = c.split_at_mut-head in
     let second = c.split_at_mut-columns in
     let head = first.result.0.now in
@@ -35,7 +48,13 @@ returns c =
     let fd : FitsSigned w128 d = search rules in
     let formed = simp to_z-of_z at c.in-Ok.ensures in
     let left = simp to_z-of_z at c.leave_remainders.ensures in
-    cut_line-ok n c.args.line.now (map_run (turned_run d) part) (λ zs. lowest (head ++ (map (λ z. remainder z d) columns ++ zs)))
+    let made = simp to_z-of_z at c.tie.ensures in
+    let size : length (map (λ z. remainder z d) columns) ≡ n = simp length-map second.ensures.front_len in
+    let behind = tied-behind n d (map (λ z. remainder z d) columns) c.leave_turned_remainders.new.numbers
+    c.args.parameter size in
+    cut_line-ok n place c.args.line.now (map_run (turned_run d) part)
+    (λ zs. lowest (head ++ tied d place (map (λ z. remainder z d) columns ++ zs)))
     c.leave_turned_remainders.new.numbers c.reduce.new.row
-    (cut_line_run-parts n c.args.line.now head first.result.1.now columns part first.ensures.value first.ensures.front_len second.ensures.value second.ensures.front_len)
-    formed (rw (← left) c.reduce.ensures)
+    (cut_line_run-parts n place c.args.line.now head first.result.1.now columns part first.ensures.value
+    first.ensures.front_len second.ensures.value second.ensures.front_len)
+    formed (rw (behind, ← left, ← made) c.reduce.ensures)

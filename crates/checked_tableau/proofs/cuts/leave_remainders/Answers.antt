@@ -16,5 +16,8 @@ loop-at-preserved c =
     let fq : FitsSigned w128 c.remainder_of.result = search rules in
     let kept = simp to_z-of_z at c.loop-at.invariant in
     let q = simp to_z-of_z at c.remainder_of.ensures.value in
-    let more = map_over_more (λ (z : ℤ). remainder z d) row c.loop-at.numbers i (get_or c.loop-at.numbers i (pos 0)) (omega arith) kept (get_or_default c.loop-at.numbers i (pos 0) (get_or c.loop-at.numbers i (pos 0)) (omega arith)) in
-    simp to_z-of_z (subst (λ (z : ℤ). set c.loop-at.numbers i z ≡ map (λ (z : ℤ). remainder z d) (take (i + 1) row) ++ drop (i + 1) row) (sym q) more)
+    let more = map_over_more (λ (z : ℤ). remainder z d) row c.loop-at.numbers i (get_or c.loop-at.numbers i (pos 0))
+    (omega arith) kept (get_or_default c.loop-at.numbers i (pos 0) (get_or c.loop-at.numbers i (pos 0))
+    (omega arith)) in
+    simp to_z-of_z (subst (λ (z : ℤ). set c.loop-at.numbers i z
+    ≡ map (λ (z : ℤ). remainder z d) (take (i + 1) row) ++ drop (i + 1) row) (sym q) more)

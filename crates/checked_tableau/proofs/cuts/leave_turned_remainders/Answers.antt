@@ -11,7 +11,8 @@ returns-in-Err c =
     let fits_x : FitsSigned w128 (get_or c.loop-at.numbers c.loop-at.at (pos 0)) = search rules in
     let failed = simp to_z-of_z at (sym c.in-Err.ensures) in
     let kept = simp to_z-of_z at c.loop-at.invariant in
-    sym kept ∙ map_run-stop (turned_run c.args.divisor) c.loop-at.numbers c.loop-at.at c.in-Err.wide (omega arith) failed
+    sym kept ∙ map_run-stop (turned_run c.args.divisor) c.loop-at.numbers c.loop-at.at c.in-Err.wide (omega arith)
+    failed
 
 pub returns : goal.returns
 returns c =

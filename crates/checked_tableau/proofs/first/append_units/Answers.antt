@@ -16,7 +16,8 @@ loop-column-preserved c =
       same ∙ inv.0,
       λ m e.
           let is : line ≡ unit_line (suc m) k = subst (λ n. line ≡ unit_line n k) (sym same ∙ e) c.write_unit.ensures in
-          subst (λ zs. Holds (suc m) (k + 1) zs (unit_rows m 0 (k + 1))) (sym now) (held_unit m k cells line (inv.1 m (sym same ∙ e)) is),
+          subst (λ zs. Holds (suc m) (k + 1) zs (unit_rows m 0 (k + 1))) (sym now)
+          (held_unit m k cells line (inv.1 m (sym same ∙ e)) is),
     )
 
 pub returns : goal.returns

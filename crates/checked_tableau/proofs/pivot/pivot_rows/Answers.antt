@@ -19,17 +19,21 @@ loop-at-preserved c =
     let inv = c.loop-at.invariant in
     let e : count - at ≡ suc left = omega arith in
     let size = subst (λ (k : ℕ). start + k * length ps ≡ length cells) e inv.0 in
-    let run = subst (λ (k : ℕ). with_front (take start cells) (buffer_run c.args.row c.args.column ps at k (drop start cells)) ≡ buffer_run c.args.row c.args.column ps 0 count c.args.cells.now) e inv.1 in
+    let run = subst (λ (k : ℕ). with_front (take start cells)
+    (buffer_run c.args.row c.args.column ps at k (drop start cells))
+    ≡ buffer_run c.args.row c.args.column ps 0 count c.args.cells.now) e inv.1 in
     let heads = subst (λ (k : ℕ). HeadsPositive (length ps) k (drop start cells)) e inv.2 in
     let k = (start + length ps) - start in
     let m = suc-mul left (length ps) in
     let count_k = length-take-le k (drop start cells) (omega (arith, length-drop start cells)) in
     let long : length c.place_row.new.row ≡ length ps = omega (arith, c.place_row.auto.row) in
-    let kept = buffer_kept c.args.row c.args.column ps cells c.place_row.new.row (buffer_run c.args.row c.args.column ps 0 count c.args.cells.now)
+    let kept = buffer_kept c.args.row c.args.column ps cells c.place_row.new.row
+    (buffer_run c.args.row c.args.column ps 0 count c.args.cells.now)
     start at left k (start + length ps) (omega arith) refl size long c.in-Ok.ensures run heads in (
       kept.0,
       subst (λ (i : ℕ). with_front (take (start + length ps) (put_mid start k cells c.place_row.new.row))
-          (buffer_run c.args.row c.args.column ps i left (drop (start + length ps) (put_mid start k cells c.place_row.new.row)))
+          (buffer_run c.args.row c.args.column ps i left
+          (drop (start + length ps) (put_mid start k cells c.place_row.new.row)))
           ≡ buffer_run c.args.row c.args.column ps 0 count c.args.cells.now) (sym (add-one at)) kept.1,
       kept.2,
     )
@@ -37,5 +41,6 @@ loop-at-preserved c =
 pub returns : goal.returns
 returns c =
     let inv = c.loop-at.invariant in
-    buffer_end c.args.row c.args.column c.args.pivot.now c.loop-at.cells (buffer_run c.args.row c.args.column c.args.pivot.now 0 c.args.count c.args.cells.now)
+    buffer_end c.args.row c.args.column c.args.pivot.now c.loop-at.cells
+    (buffer_run c.args.row c.args.column c.args.pivot.now 0 c.args.count c.args.cells.now)
     c.loop-at.start c.loop-at.at (c.args.count - c.loop-at.at) (omega arith) inv.0 inv.1

@@ -4,7 +4,8 @@ use Rattle.tableau_rows.proofs.Buffers.{line_run-head, placed-err, placed-other}
 use Rattle.checked_tableau.proofs.pivot.place_row.Goals as goal
 
 pub returns-in-Err : goal.returns-in-Err
-returns-in-Err c = placed-err c.args.is_pivot c.args.column c.args.pivot.now c.args.row.now c.in-Err.wide c.if-is_pivot.false c.in-Err.ensures
+returns-in-Err c = placed-err c.args.is_pivot c.args.column c.args.pivot.now c.args.row.now c.in-Err.wide
+    c.if-is_pivot.false c.in-Err.ensures
 
 pub reduce-requires-clause-positive : goal.reduce-requires-clause-positive
 reduce-requires-clause-positive c =
@@ -13,4 +14,5 @@ reduce-requires-clause-positive c =
     omega (arith, ints)
 
 pub returns : goal.returns
-returns c = placed-other c.args.is_pivot c.args.column c.args.pivot.now c.args.row.now c.combine.new.row c.reduce.new.row c.if-is_pivot.false c.in-Ok.ensures c.reduce.ensures
+returns c = placed-other c.args.is_pivot c.args.column c.args.pivot.now c.args.row.now c.combine.new.row
+    c.reduce.new.row c.if-is_pivot.false c.in-Ok.ensures c.reduce.ensures

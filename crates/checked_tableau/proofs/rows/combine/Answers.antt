@@ -22,7 +22,8 @@ returns-in-Err c =
     let failed = simp to_z-of_z at c.in-Err.ensures in
     line_run-split s ps c.args.row.now den es part.ensures.value part.ensures.front_len
     ∙ line-err (product_of (get_or den 0 (pos 0)) (get_or ps (s + 1) (pos 0)))
-    (entries_run s (get_or (drop 1 ps) s (pos 0)) (get_or es s (pos 0)) (get_or ps 0 (pos 0)) es (drop 1 ps)) c.in-Err.wide (sym failed)
+    (entries_run s (get_or (drop 1 ps) s (pos 0)) (get_or es s (pos 0)) (get_or ps 0 (pos 0)) es (drop 1 ps))
+    c.in-Err.wide (sym failed)
 
 pub returns : goal.returns
 returns c =
@@ -42,7 +43,9 @@ returns c =
     (entries_run s (get_or ys s (pos 0)) (get_or es s (pos 0)) (get_or ps 0 (pos 0)) es ys)) whole after in
     let run = entries_run s (get_or (drop 1 ps) s (pos 0)) (get_or es s (pos 0)) (get_or ps 0 (pos 0)) es (drop 1 ps) in
     simp to_z-of_z
-    (subst (λ (r : Result (List ℤ) Wide). Becomes (set den 0 c.in-Ok.product ++ c.combine_entries.new.entries) c.combine_entries.result r)
+    (subst (λ (r : Result (List ℤ) Wide). Becomes (set den 0 c.in-Ok.product ++ c.combine_entries.new.entries)
+    c.combine_entries.result r)
     (sym (line_run-split s ps c.args.row.now den es part.ensures.value part.ensures.front_len))
-    (line_becomes (product_of (get_or den 0 (pos 0)) (get_or ps (s + 1) (pos 0))) run c.in-Ok.product den c.combine_entries.new.entries c.combine_entries.result
+    (line_becomes (product_of (get_or den 0 (pos 0)) (get_or ps (s + 1) (pos 0))) run c.in-Ok.product den
+    c.combine_entries.new.entries c.combine_entries.result
     (sym times) part.ensures.front_len rest))

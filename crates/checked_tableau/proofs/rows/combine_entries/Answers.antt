@@ -22,9 +22,11 @@ returns-in-Err c =
     let fa : FitsSigned w128 a = search rules in
     let fb : FitsSigned w128 b = search rules in
     let failed = simp to_z-of_z at c.in-Err.ensures in
-    entries_run-split s c.args.denominator es ps front.result.0.now front.result.1.now cell.result.0.now cell.result.1.now c.requires.lengths c.requires.column
+    entries_run-split s c.args.denominator es ps front.result.0.now front.result.1.now cell.result.0.now
+    cell.result.1.now c.requires.lengths c.requires.column
     front.ensures.value front.ensures.front_len cell.ensures.value cell.ensures.front_len
-    ∙ first-err (crossed_run a b front.result.0.now (take s ps)) (product_of b c.args.denominator) (crossed_run a b cell.result.1.now (drop (s + 1) ps)) c.in-Err.wide failed
+    ∙ first-err (crossed_run a b front.result.0.now (take s ps)) (product_of b c.args.denominator)
+    (crossed_run a b cell.result.1.now (drop (s + 1) ps)) c.in-Err.wide failed
 
 pub returns-in-Err-mul : goal.returns-in-Err-mul
 returns-in-Err-mul c =
@@ -41,9 +43,11 @@ returns-in-Err-mul c =
     let fd = c.ranges.denominator in
     let done = simp to_z-of_z at c.in-Ok.ensures in
     let failed = simp to_z-of_z at c.in-Err-mul.ensures in
-    entries_run-split s d es ps front.result.0.now front.result.1.now cell.result.0.now cell.result.1.now c.requires.lengths c.requires.column
+    entries_run-split s d es ps front.result.0.now front.result.1.now cell.result.0.now cell.result.1.now
+    c.requires.lengths c.requires.column
     front.ensures.value front.ensures.front_len cell.ensures.value cell.ensures.front_len
-    ∙ second-err (crossed_run a b front.result.0.now (take s ps)) (product_of b d) (crossed_run a b cell.result.1.now (drop (s + 1) ps)) c.cross_row.new.row c.in-Err-mul.wide done (sym failed)
+    ∙ second-err (crossed_run a b front.result.0.now (take s ps)) (product_of b d)
+    (crossed_run a b cell.result.1.now (drop (s + 1) ps)) c.cross_row.new.row c.in-Err-mul.wide done (sym failed)
 
 pub returns : goal.returns
 returns c =
@@ -63,10 +67,16 @@ returns c =
     let times = simp to_z-of_z at c.in-Ok-mul.ensures in
     let after = simp to_z-of_z at c.cross_row-2.ensures in
     let whole = take_all (length ps - (s + 1)) (drop (s + 1) ps) (omega (arith, length-drop (s + 1) ps)) in
-    let rest = subst (λ (ys : List ℤ). Becomes c.cross_row-2.new.row c.cross_row-2.result (crossed_run a b cell.result.1.now ys)) whole after in
-    let e = entries_run-split s d es ps front.result.0.now front.result.1.now cell.result.0.now cell.result.1.now c.requires.lengths c.requires.column
+    let rest = subst (λ (ys : List ℤ). Becomes c.cross_row-2.new.row c.cross_row-2.result
+    (crossed_run a b cell.result.1.now ys)) whole after in
+    let e = entries_run-split s d es ps front.result.0.now front.result.1.now cell.result.0.now cell.result.1.now
+    c.requires.lengths c.requires.column
     front.ensures.value front.ensures.front_len cell.ensures.value cell.ensures.front_len in
     simp to_z-of_z
-    (subst (λ (r : Result (List ℤ) Wide). Becomes (c.cross_row.new.row ++ (set cell.result.0.now 0 c.in-Ok-mul.product ++ c.cross_row-2.new.row)) c.cross_row-2.result r) (sym e)
-    (third_becomes (crossed_run a b front.result.0.now (take s ps)) (product_of b d) (crossed_run a b cell.result.1.now (drop (s + 1) ps)) c.cross_row.new.row
-    c.in-Ok-mul.product cell.result.0.now c.cross_row-2.new.row c.cross_row-2.result done (sym times) cell.ensures.front_len rest))
+    (subst (λ (r : Result (List ℤ) Wide). Becomes
+    (c.cross_row.new.row ++ (set cell.result.0.now 0 c.in-Ok-mul.product ++ c.cross_row-2.new.row))
+    c.cross_row-2.result r) (sym e)
+    (third_becomes (crossed_run a b front.result.0.now (take s ps)) (product_of b d)
+    (crossed_run a b cell.result.1.now (drop (s + 1) ps)) c.cross_row.new.row
+    c.in-Ok-mul.product cell.result.0.now c.cross_row-2.new.row c.cross_row-2.result done (sym times)
+    cell.ensures.front_len rest))

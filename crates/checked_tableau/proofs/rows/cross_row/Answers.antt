@@ -18,7 +18,8 @@ returns-in-Err c =
     let failed = simp to_z-of_z at (sym c.in-Err.ensures) in
     let kept = simp to_z-of_z at c.loop-at.invariant in
     let step : ℤ → ℤ → Result ℤ Wide = λ x y. cross_of x c.args.a c.args.b y in
-    sym kept ∙ zip_run-stop step c.loop-at.row c.args.other.now c.loop-at.at c.in-Err.wide (omega arith) (omega arith) failed
+    sym kept ∙ zip_run-stop step c.loop-at.row c.args.other.now c.loop-at.at c.in-Err.wide (omega arith) (omega arith)
+    failed
 
 pub loop-at-preserved : goal.loop-at-preserved
 loop-at-preserved c =

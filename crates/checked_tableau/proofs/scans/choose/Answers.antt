@@ -7,8 +7,10 @@ pub loop-column-preserved : goal.loop-column-preserved
 loop-column-preserved c =
     let n = c.args.columns in
     let j = c.loop-column.column in (
-      column_past (rows_in (length c.args.pivot.now) c.args.count c.args.unknowns.now) (line_row c.args.pivot.now) j (j + 1) (n - (j + 1)) (n - j)
-          c.loop-column.best c.in-Ok.next _ (omega arith) (add-one j) (sym c.in-Ok.ensures.run) c.loop-column.invariant.0,
+      column_past (rows_in (length c.args.pivot.now) c.args.count c.args.unknowns.now) (line_row c.args.pivot.now) j
+          (j + 1) (n - (j + 1)) (n - j)
+          c.loop-column.best c.in-Ok.next _ (omega arith) (add-one j) (sym c.in-Ok.ensures.run)
+          c.loop-column.invariant.0,
       λ s h. c.in-Ok.ensures.leads s (cc h),
     )
 

@@ -13,8 +13,10 @@ loop-at-preserved c =
     let row = c.split_at.result.0.now in
     let others = c.split_at.result.1.now in
     let parts : rest ≡ row ++ others = search rules in (
-      length_rest stride left (c.args.count - at) rest row others (omega arith) parts c.split_at.ensures.front_len c.loop-at.invariant.0,
+      length_rest stride left (c.args.count - at) rest row others (omega arith) parts c.split_at.ensures.front_len
+          c.loop-at.invariant.0,
       first_past (has_below c.args.unknowns) at (at + 1) stride left (c.args.count - at) rest row others
-          (first_row (has_below c.args.unknowns) 0 (rows_in stride c.args.count c.args.cells.now)) (omega arith) (add-one at) parts
+          (first_row (has_below c.args.unknowns) 0 (rows_in stride c.args.count c.args.cells.now)) (omega arith)
+          (add-one at) parts
           c.split_at.ensures.front_len (search rules) c.loop-at.invariant.1,
     )

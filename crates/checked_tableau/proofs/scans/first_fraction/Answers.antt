@@ -11,7 +11,8 @@ is_fraction-requires-clause-positive c =
     let row = c.split_at.result.0.now in
     let others = c.split_at.result.1.now in
     let parts : rest ≡ row ++ others = search rules in
-    head_here c.args.stride (c.args.count - (at + 1)) (c.args.count - at) rest row others (omega arith) parts c.split_at.ensures.front_len (omega arith)
+    head_here c.args.stride (c.args.count - (at + 1)) (c.args.count - at) rest row others (omega arith) parts
+    c.split_at.ensures.front_len (omega arith)
     c.loop-at.invariant.1
 
 pub returns-then-is_fraction : goal.returns-then-is_fraction
@@ -21,8 +22,10 @@ returns-then-is_fraction c =
     let row = c.split_at.result.0.now in
     let others = c.split_at.result.1.now in
     let parts : rest ≡ row ++ others = search rules in
-    first_found (has_fraction c.args.unknowns) at c.args.stride (c.args.count - (at + 1)) (c.args.count - at) rest row others
-    (first_row (has_fraction c.args.unknowns) 0 (rows_in c.args.stride c.args.count c.args.cells.now)) (omega arith) parts
+    first_found (has_fraction c.args.unknowns) at c.args.stride (c.args.count - (at + 1)) (c.args.count - at) rest row
+    others
+    (first_row (has_fraction c.args.unknowns) 0 (rows_in c.args.stride c.args.count c.args.cells.now)) (omega arith)
+    parts
     c.split_at.ensures.front_len (search rules) c.loop-at.invariant.2
 
 pub loop-at-preserved : goal.loop-at-preserved
@@ -34,9 +37,12 @@ loop-at-preserved c =
     let row = c.split_at.result.0.now in
     let others = c.split_at.result.1.now in
     let parts : rest ≡ row ++ others = search rules in (
-      length_rest stride left (c.args.count - at) rest row others (omega arith) parts c.split_at.ensures.front_len c.loop-at.invariant.0,
-      heads_rest stride left (c.args.count - at) rest row others (omega arith) parts c.split_at.ensures.front_len c.loop-at.invariant.1,
+      length_rest stride left (c.args.count - at) rest row others (omega arith) parts c.split_at.ensures.front_len
+          c.loop-at.invariant.0,
+      heads_rest stride left (c.args.count - at) rest row others (omega arith) parts c.split_at.ensures.front_len
+          c.loop-at.invariant.1,
       first_past (has_fraction c.args.unknowns) at (at + 1) stride left (c.args.count - at) rest row others
-          (first_row (has_fraction c.args.unknowns) 0 (rows_in stride c.args.count c.args.cells.now)) (omega arith) (add-one at) parts
+          (first_row (has_fraction c.args.unknowns) 0 (rows_in stride c.args.count c.args.cells.now)) (omega arith)
+          (add-one at) parts
           c.split_at.ensures.front_len (search rules) c.loop-at.invariant.2,
     )

@@ -8,5 +8,6 @@ pub loop-column-preserved : goal.loop-column-preserved
 loop-column-preserved c =
     let n = c.args.unknowns in
     let i = c.loop-column.column in
-    positive_past (line_row c.args.row.now) i (n - (i + 1)) (n - i) (i + 1) (some_positive (line_row c.args.row.now) 0 n)
+    positive_past (line_row c.args.row.now) i (n - (i + 1)) (n - i) (i + 1)
+    (some_positive (line_row c.args.row.now) 0 n)
     (omega arith) (add-one i) (search rules) c.loop-column.invariant

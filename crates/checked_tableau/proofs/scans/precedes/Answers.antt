@@ -69,7 +69,8 @@ returns-then-new-old c =
     let run = precedes_run a b j s (rows_in (length ps) c.args.count c.args.unknowns.now) in
     let here = precedes_here a b j s (length ps) left (c.args.count - c.loop.counter) c.loop.rest.now row others run
     (omega arith) parts c.split_at.ensures.front_len c.loop.invariant.1 in
-    here_before c.in-Ok.new c.in-Ok-mul.old (Ok true) (Ok false) (precedes_run a b j s (rows_in (length ps) left others)) run (omega (arith, ints)) (rw (← new, ← old) at here)
+    here_before c.in-Ok.new c.in-Ok-mul.old (Ok true) (Ok false)
+    (precedes_run a b j s (rows_in (length ps) left others)) run (omega (arith, ints)) (rw (← new, ← old) at here)
 
 pub returns-then-old-new : goal.returns-then-old-new
 returns-then-old-new c =
@@ -93,7 +94,8 @@ returns-then-old-new c =
     let run = precedes_run a b j s (rows_in (length ps) c.args.count c.args.unknowns.now) in
     let here = precedes_here a b j s (length ps) left (c.args.count - c.loop.counter) c.loop.rest.now row others run
     (omega arith) parts c.split_at.ensures.front_len c.loop.invariant.1 in
-    here_behind c.in-Ok.new c.in-Ok-mul.old (Ok true) (Ok false) (precedes_run a b j s (rows_in (length ps) left others)) run (omega (arith, ints)) (rw (← new, ← old) at here)
+    here_behind c.in-Ok.new c.in-Ok-mul.old (Ok true) (Ok false)
+    (precedes_run a b j s (rows_in (length ps) left others)) run (omega (arith, ints)) (rw (← new, ← old) at here)
 
 pub loop-preserved : goal.loop-preserved
 loop-preserved c =
@@ -117,6 +119,9 @@ loop-preserved c =
     let run = precedes_run a b j s (rows_in (length ps) c.args.count c.args.unknowns.now) in
     let here = precedes_here a b j s (length ps) left (c.args.count - c.loop.counter) c.loop.rest.now row others run
     (omega arith) parts c.split_at.ensures.front_len c.loop.invariant.1 in (
-      length_rest (length ps) left (c.args.count - c.loop.counter) c.loop.rest.now row others (omega arith) parts c.split_at.ensures.front_len c.loop.invariant.0,
-      here_equal c.in-Ok.new c.in-Ok-mul.old (Ok true) (Ok false) (precedes_run a b j s (rows_in (length ps) left others)) run (omega (arith, ints)) (omega (arith, ints)) (rw (← new, ← old) at here),
+      length_rest (length ps) left (c.args.count - c.loop.counter) c.loop.rest.now row others (omega arith) parts
+          c.split_at.ensures.front_len c.loop.invariant.0,
+      here_equal c.in-Ok.new c.in-Ok-mul.old (Ok true) (Ok false)
+          (precedes_run a b j s (rows_in (length ps) left others)) run (omega (arith, ints)) (omega (arith, ints))
+          (rw (← new, ← old) at here),
     )

@@ -9,5 +9,7 @@ use Rattle.pip_solver.proofs.emptiness.bound.Goals as goal
 pub returns : goal.returns
 returns c =
     let z = c.in-Ok.ensures.items_if_clones_equal (λ y e. e) ∙ zeros-replicate c.args.variables in
-    let line : c.deref.result.now ≡ set (zeros c.args.variables) c.args.place (negsuc 0) = c.deref.ensures.value ∙ ap (λ (zs : List ℤ). set zs c.args.place (negsuc 0)) z in
-    subst (λ (zs : List ℤ). Gives {X = Affine} {Y = Affine} (λ f. f) c.of.result (Ok (form_of zs (pos 65536)))) line c.of.ensures.form
+    let line : c.deref.result.now ≡ set (zeros c.args.variables) c.args.place (negsuc 0) =
+    c.deref.ensures.value ∙ ap (λ (zs : List ℤ). set zs c.args.place (negsuc 0)) z in
+    subst (λ (zs : List ℤ). Gives {X = Affine} {Y = Affine} (λ f. f) c.of.result (Ok (form_of zs (pos 65536)))) line
+    c.of.ensures.form

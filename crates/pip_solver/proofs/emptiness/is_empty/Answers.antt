@@ -16,36 +16,51 @@ use Rattle.pip_solver.proofs.emptiness.is_empty.Goals.{In-Ok}
 posed : (c : In-Ok) → posed_run c.args.system.now ≡ Ok c.pose.new.rows.items
 posed c =
     let told = c.in-Ok.ensures.poses in
-    told.1 ∙ ap (λ (fs : List Affine). Ok fs) (sym (told.2 ∙ ap (λ (fs : List Affine). fs ++ told.0) c.new-rows.ensures.items))
+    told.1 ∙ ap (λ (fs : List Affine). Ok fs)
+    (sym (told.2 ∙ ap (λ (fs : List Affine). fs ++ told.0) c.new-rows.ensures.items))
 
 number : (c : In-Ok) → c.in-Some.unknowns ≡ variables_in c.args.system.now
 number c = search rules
 
 sized : (c : In-Ok) → IsSized (variables_in c.args.system.now) c.args.system.now.equalities c.args.system.now.rows
-sized c = subst (λ (n : ℕ). IsSized n c.args.system.now.equalities c.args.system.now.rows) (number c) c.in-Ok.ensures.sized
+sized c = subst (λ (n : ℕ). IsSized n c.args.system.now.equalities c.args.system.now.rows) (number c)
+    c.in-Ok.ensures.sized
 
 pub decide-requires : goal.decide-requires
-decide-requires c k d low = posed_sized c.args.system.now c.pose.new.rows.items (sized c) (posed c) k d low ∙ sym (number c)
+decide-requires c k d low = posed_sized c.args.system.now c.pose.new.rows.items (sized c) (posed c) k d low
+    ∙ sym (number c)
 
 pub returns-in-Err-Wide-clause-run : goal.returns-in-Err-Wide-clause-run
 returns-in-Err-Wide-clause-run c =
     let w = c.in-Err-Wide.field-0-0 in
-    let failed = subst (λ (e : FormStop). Poses {U = Unit {0}} c.new-rows.result.items c.pose.new.rows.items (Err e) (posed_run c.args.system.now)) c.in-Err-Wide.field-0-is c.in-Err-Wide.ensures.poses in
+    let failed = subst (λ (e : FormStop). Poses {U = Unit {0}} c.new-rows.result.items c.pose.new.rows.items (Err e)
+    (posed_run c.args.system.now)) c.in-Err-Wide.field-0-is c.in-Err-Wide.ensures.poses in
     (w, c.args.budget, empty_unposed c.args.budget c.args.system.now w failed, omega arith, inr failed)
 
 pub returns-in-Ok-clause-run : goal.returns-in-Ok-clause-run
 returns-in-Ok-clause-run c =
     let s = c.args.system.now in
     let at = (goal.at.returns-in-Ok-clause-run c).In-Ok in
-    let told : Problem = record { unknowns = c.in-Some.unknowns; parameters = 0; rows = c.pose.new.rows; context = c.new-context.result } in
+    let told : Problem = record {
+      unknowns = c.in-Some.unknowns;
+      parameters = 0;
+      rows = c.pose.new.rows;
+      context = c.new-context.result;
+    } in
     empties_decided c.args.budget s told c.decide.result
-    (record { unknowns = number at; parameters = refl; rows = posed at; context = c.new-context.ensures.items }) c.decide.ensures
+    (record { unknowns = number at; parameters = refl; rows = posed at; context = c.new-context.ensures.items })
+    c.decide.ensures
 
 pub returns-in-Ok-clause-empty : goal.returns-in-Ok-clause-empty
 returns-in-Ok-clause-empty c h x p is =
     let s = c.args.system.now in
     let at = (goal.at.returns-in-Ok-clause-empty c).In-Ok in
-    let told : Problem = record { unknowns = c.in-Some.unknowns; parameters = 0; rows = c.pose.new.rows; context = c.new-context.result } in
+    let told : Problem = record {
+      unknowns = c.in-Some.unknowns;
+      parameters = 0;
+      rows = c.pose.new.rows;
+      context = c.new-context.result;
+    } in
     let run = empties_decided c.args.budget s told (Ok true)
     (record { unknowns = number at; parameters = refl; rows = posed at; context = c.new-context.ensures.items })
     (subst (λ (r : Result Bool solver.the_data). Decides r c.args.budget told) h c.decide.ensures) in
@@ -55,7 +70,12 @@ pub returns-in-Ok-clause-point : goal.returns-in-Ok-clause-point
 returns-in-Ok-clause-point c h =
     let s = c.args.system.now in
     let at = (goal.at.returns-in-Ok-clause-point c).In-Ok in
-    let told : Problem = record { unknowns = c.in-Some.unknowns; parameters = 0; rows = c.pose.new.rows; context = c.new-context.result } in
+    let told : Problem = record {
+      unknowns = c.in-Some.unknowns;
+      parameters = 0;
+      rows = c.pose.new.rows;
+      context = c.new-context.result;
+    } in
     let run = empties_decided c.args.budget s told (Ok false)
     (record { unknowns = number at; parameters = refl; rows = posed at; context = c.new-context.ensures.items })
     (subst (λ (r : Result Bool solver.the_data). Decides r c.args.budget told) h c.decide.ensures) in

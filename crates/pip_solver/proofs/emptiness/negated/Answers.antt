@@ -23,7 +23,8 @@ returns-in-Err-sub c =
     let constant : c.constant.result ≡ f.constant = search rules in
     let fits : FitsSigned w128 c.constant.result = search rules in
     let failed = simp to_z-of_z at c.in-Err-sub.ensures in
-    negated-wide f c.oppose.new.numbers c.in-Err-sub.wide (rw is at c.in-Ok-oppose.ensures) (ap (λ (z : ℤ). difference_of (pos 0) z) (sym constant) ∙ sym failed)
+    negated-wide f c.oppose.new.numbers c.in-Err-sub.wide (rw is at c.in-Ok-oppose.ensures)
+    (ap (λ (z : ℤ). difference_of (pos 0) z) (sym constant) ∙ sym failed)
 
 pub returns : goal.returns
 returns c =
@@ -33,9 +34,13 @@ returns c =
     let fits : FitsSigned w128 c.constant.result = search rules in
     let fitted : FitsSigned w128 c.in-Ok-sub.constant = search rules in
     let made = simp to_z-of_z at c.in-Ok-sub.ensures in
-    let size : length c.oppose.new.numbers ≡ length c.in-Ok.coefficients.items = c.oppose.auto.numbers ∙ ap (λ (zs : List ℤ). length zs) c.deref_mut.ensures.value in
-    let whole = written_whole c.in-Ok.coefficients.len c.in-Ok.coefficients.items c.oppose.new.numbers (search rules) size in
-    let run = negated-ok f c.oppose.new.numbers c.in-Ok-sub.constant (rw is at c.in-Ok-oppose.ensures) (ap (λ (z : ℤ). difference_of (pos 0) z) (sym constant) ∙ sym made) in
+    let size : length c.oppose.new.numbers ≡ length c.in-Ok.coefficients.items =
+    c.oppose.auto.numbers ∙ ap (λ (zs : List ℤ). length zs) c.deref_mut.ensures.value in
+    let whole = written_whole c.in-Ok.coefficients.len c.in-Ok.coefficients.items c.oppose.new.numbers (search rules)
+    size in
+    let run = negated-ok f c.oppose.new.numbers c.in-Ok-sub.constant (rw is at c.in-Ok-oppose.ensures)
+    (ap (λ (z : ℤ). difference_of (pos 0) z) (sym constant) ∙ sym made) in
     let given = simp to_z-of_z at c.of.ensures.form in
     subst (λ (r : Result Affine Wide). Gives {X = Affine} {Y = Affine} (λ f. f) c.of.result r) (sym run)
-    (subst (λ (zs : List ℤ). Gives {X = Affine} {Y = Affine} (λ f. f) c.of.result (Ok (form_of zs c.in-Ok-sub.constant))) (c.deref.ensures.value ∙ whole) given)
+    (subst (λ (zs : List ℤ). Gives {X = Affine} {Y = Affine} (λ f. f) c.of.result
+    (Ok (form_of zs c.in-Ok-sub.constant))) (c.deref.ensures.value ∙ whole) given)

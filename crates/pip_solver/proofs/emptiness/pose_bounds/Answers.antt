@@ -15,7 +15,8 @@ loop-place-preserved c =
     let form : c.in-Ok.form ≡ f = cc (c.in-Ok.ensures) in
     let pushed : c.push.new.self.items ≡ c.loop-place.rows.items ++ c.in-Ok.form ∷ [] = search rules in (
       inv.0 ++ f ∷ [],
-      pushed ∙ ap (λ (rs : List Affine). rs ++ c.in-Ok.form ∷ []) inv.1 ∙ append_assoc c.args.rows.now.items inv.0 (c.in-Ok.form ∷ [])
+      pushed ∙ ap (λ (rs : List Affine). rs ++ c.in-Ok.form ∷ []) inv.1
+          ∙ append_assoc c.args.rows.now.items inv.0 (c.in-Ok.form ∷ [])
           ∙ ap (λ (g : Affine). c.args.rows.now.items ++ (inv.0 ++ g ∷ [])) form,
       bounds-more v i (v - i) (v - (i + 1)) inv.0 (bound_rows v c.args.first (v - c.args.first)) (omega arith) inv.2,
     )

@@ -11,8 +11,10 @@ has_positive-requires c = c.first_below.ensures.inside c.in-Some.row c.in-Some.i
 pub returns-then-has_positive : goal.returns-then-has_positive
 returns-then-has_positive c =
     let t = c.args.rows.now in
-    let some : some_positive (row_at t.rows c.in-Some.row) 0 t.unknowns ≡ true = search rules in
-    (next_pivots t.unknowns t.rows c.in-Some.row (sym c.first_below.ensures.first ∙ c.in-Some.is) some, c.first_below.ensures.inside c.in-Some.row c.in-Some.is)
+    let some : some_positive (row_at t.rows c.in-Some.row) 0 t.unknowns ≡ true = search rules in (
+      next_pivots t.unknowns t.rows c.in-Some.row (sym c.first_below.ensures.first ∙ c.in-Some.is) some,
+      c.first_below.ensures.inside c.in-Some.row c.in-Some.is,
+    )
 
 pub returns-else-has_positive : goal.returns-else-has_positive
 returns-else-has_positive c =
@@ -25,7 +27,8 @@ returns-in-Some-first_fraction c =
     let t = c.args.rows.now in
     let r = c.in-Some-first_fraction.row in
     let below : c.first_below.result ≡ None = search rules in (
-      next_cuts t.unknowns t.rows r (sym c.first_below.ensures.first ∙ below) (sym c.first_fraction.ensures.first ∙ c.in-Some-first_fraction.is),
+      next_cuts t.unknowns t.rows r (sym c.first_below.ensures.first ∙ below)
+          (sym c.first_fraction.ensures.first ∙ c.in-Some-first_fraction.is),
       c.first_fraction.ensures.inside r c.in-Some-first_fraction.is,
     )
 
@@ -35,6 +38,7 @@ returns-in-None-first_fraction c =
     let below : c.first_below.result ≡ None = search rules in
     let whole : c.first_fraction.result ≡ None = search rules in (
       point (quotients t.unknowns (take t.unknowns t.rows)),
-      next_point t.unknowns t.rows (sym c.first_below.ensures.first ∙ below) (sym c.first_fraction.ensures.first ∙ whole),
+      next_point t.unknowns t.rows (sym c.first_below.ensures.first ∙ below)
+          (sym c.first_fraction.ensures.first ∙ whole),
       refl,
     )

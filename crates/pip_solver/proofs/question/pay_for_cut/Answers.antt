@@ -19,7 +19,8 @@ returns-in-Err-Wide-clause-advances c =
     let t = c.args.rows.now in
     let w = c.in-Err-Wide.field-0-0 in
     let cut = cut_run t.unknowns None (row_at t.rows c.args.row) in
-    let told = subst (λ (e : TableauStop). Cuts {U = Unit {0}} t cut c.cut.new.self (Err e)) c.in-Err-Wide.field-0-is c.in-Err-Wide.ensures.run in
+    let told = subst (λ (e : TableauStop). Cuts {U = Unit {0}} t cut c.cut.new.self (Err e)) c.in-Err-Wide.field-0-is
+    c.in-Err-Wide.ensures.run in
     let failed = subst (λ (o : Option Wide). resumed o cut ≡ Err w) c.requires.going told.0 in
     (w, run_cuts-wide t.unknowns c.args.left.now c.args.row t.rows w c.requires.next (omega arith) failed)
 

@@ -17,8 +17,10 @@ returns-clause-run c =
     let d2 : c.deref-2.result.now ≡ i.cells.items = c.deref-2.ensures.value in
     let long : length c.line_at-pivot.result.now ≡ stride = c.line_at-pivot.ensures.length ∙ k in
     let line = rw (d, k) at c.line_at-pivot.ensures.line in
-    let given = rw (d2, k, long, line, ← take_rows_in stride i.unknowns i.count i.cells.items inv.many inv.size) at c.choose.ensures.run in
-    subst (λ (t : Table). c.choose.result ≡ column_run (take t.unknowns t.rows) (row_at t.rows c.args.row) t.unknowns 0 None) c.self.view_is given
+    let given = rw (d2, k, long, line, ← take_rows_in stride i.unknowns i.count i.cells.items inv.many inv.size) at
+    c.choose.ensures.run in
+    subst (λ (t : Table). c.choose.result ≡ column_run (take t.unknowns t.rows) (row_at t.rows c.args.row) t.unknowns 0
+    None) c.self.view_is given
 
 pub returns-clause-leads : goal.returns-clause-leads
 returns-clause-leads c s h =
@@ -29,5 +31,6 @@ returns-clause-leads c s h =
     let line = rw (d, k) at c.line_at-pivot.ensures.line in
     let l = c.choose.ensures.leads s h in
     let at : pos 0 <ℤ entry (row_at (rows_in stride i.count i.cells.items) c.args.row) s =
-    subst (λ (row : Row). pos 0 <ℤ entry row s) line (subst (λ (z : ℤ). pos 0 <ℤ z) (sym (entry_at c.line_at-pivot.result.now s)) l.1) in
+    subst (λ (row : Row). pos 0 <ℤ entry row s) line
+    (subst (λ (z : ℤ). pos 0 <ℤ z) (sym (entry_at c.line_at-pivot.result.now s)) l.1) in
     subst (λ (t : Table). (s < t.unknowns) × (pos 0 <ℤ entry (row_at t.rows c.args.row) s)) c.self.view_is (l.0, at)

@@ -32,8 +32,10 @@ returns-clause-first c =
     let k : c.len-stride.result ≡ stride = search rules in
     let d : c.deref.result.now ≡ i.cells.items = c.deref.ensures.value in
     let given = rw (d, k) at c.first_fraction.ensures in
-    let whole = given ∙ ap (λ (rows : List Row). first_row (has_fraction i.unknowns) 0 rows) (sym (take_rows_in stride i.unknowns i.count i.cells.items inv.many inv.size)) in
-    subst (λ (t : Table). c.first_fraction.result ≡ first_row (has_fraction t.unknowns) 0 (take t.unknowns t.rows)) c.self.view_is whole
+    let whole = given ∙ ap (λ (rows : List Row). first_row (has_fraction i.unknowns) 0 rows)
+    (sym (take_rows_in stride i.unknowns i.count i.cells.items inv.many inv.size)) in
+    subst (λ (t : Table). c.first_fraction.result ≡ first_row (has_fraction t.unknowns) 0 (take t.unknowns t.rows))
+    c.self.view_is whole
 
 pub returns-clause-inside : goal.returns-clause-inside
 returns-clause-inside c r h =
@@ -42,5 +44,6 @@ returns-clause-inside c r h =
     let l = length-rows_in c.len-stride.result i.unknowns few in
     let k = length-rows_in (stride_of i.unknowns i.parameters) i.count i.cells.items in
     let m = c.self.invariant.many in
-    let below = first_inside (has_fraction i.unknowns) 0 (rows_in c.len-stride.result i.unknowns few) r (sym c.first_fraction.ensures ∙ h) in
+    let below = first_inside (has_fraction i.unknowns) 0 (rows_in c.len-stride.result i.unknowns few) r
+    (sym c.first_fraction.ensures ∙ h) in
     subst (λ (t : Table). r < length t.rows) c.self.view_is (omega arith)

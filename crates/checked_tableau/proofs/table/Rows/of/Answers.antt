@@ -1,6 +1,6 @@
-use Rattle.std.proofs.Common.{sym, rules, ◌≡◌, ◌+◌, ℤ, List, suc, length, subst, ap, ◌∙◌, arith}
+use Rattle.std.proofs.Common.{sym, rules, ◌≡◌, ◌+◌, ◌++◌, ℤ, List, suc, length, subst, ap, ◌∙◌, arith}
 use Rattle.std.specs.Prelude.{None, ◌↔◌}
-use Rattle.tableau_rows.specs.Problem.{unit_rows, first_rows, problem_of, IsPoint}
+use Rattle.tableau_rows.specs.Problem.{unit_rows, given_rows, first_rows, problem_of, IsPoint}
 use Rattle.tableau_rows.specs.Rows.{Row}
 use Rattle.tableau_rows.specs.Solutions.{IsSolution}
 use Rattle.tableau_rows.proofs.Beginning.{first_solutions}
@@ -8,18 +8,22 @@ use Rattle.tableau_rows.specs.Moves.{rows_in}
 use Rattle.checked_tableau.specs.Lines.{Holds}
 use Rattle.checked_tableau.specs.Table.{IsSound, stride_of, table_of}
 use Rattle.checked_tableau.proofs.Tables.{written_whole}
-use Rattle.checked_tableau.proofs.Beginnings.{sound_first, speaks_all}
+use Rattle.checked_tableau.proofs.Beginnings.{sound_parts, speaks_all}
+use Rattle.lexmin_runs.proofs.Longer.{speaks-append}
 use Rattle.checked_tableau.proofs.table.Rows.of.Goals as goal
 
 -- the buffer holds the first rows
-made : (c : goal.In-Some-checked_add)
-    → IsSound c.args.unknowns c.args.parameters c.in-Some-checked_add.count c.append_forms.new.cells.items c.append_units.new.line None
-    × (rows_in (stride_of c.args.unknowns c.args.parameters) c.in-Some-checked_add.count c.append_forms.new.cells.items
-    ≡ first_rows c.args.parameters (problem_of c.args.unknowns c.args.forms.now))
+made : (c : goal.In-Some-checked_add-2)
+    → IsSound c.args.unknowns c.args.parameters c.in-Some-checked_add-2.count c.append_forms-2.new.cells.items
+    c.append_units.new.line None
+    × (rows_in (stride_of c.args.unknowns c.args.parameters) c.in-Some-checked_add-2.count
+    c.append_forms-2.new.cells.items
+    ≡ first_rows c.args.parameters (problem_of c.args.unknowns (c.args.forms.now ++ c.args.more.now)))
 made c =
     let n = c.args.unknowns in
     let m = c.args.parameters in
     let fs = c.args.forms.now in
+    let gs = c.args.more.now in
     let stride = c.in-Some.stride in
     let is : stride ≡ stride_of n m = search rules in
     let room : length c.deref_mut.result.now ≡ stride = search rules in
@@ -28,13 +32,17 @@ made c =
     let e : suc (n + 1 + m) ≡ stride = omega arith in
     let held = subst (λ k. Holds k n c.append_units.new.cells.items (unit_rows (n + 1 + m) 0 n)) e units in
     let all = c.in-Ok-append_forms.ensures n (unit_rows (n + 1 + m) 0 n) held in
-    let number : c.in-Some-checked_add.count ≡ n + length fs = search rules in
-    sound_first n m c.in-Some-checked_add.count stride c.append_forms.new.cells.items c.append_units.new.cells.items c.append_units.new.line fs is (same ∙ room)
-    (speaks_all (n + m) fs c.requires) number held all
+    let both = c.in-Ok-append_forms-2.ensures (n + length fs) (unit_rows (n + 1 + m) 0 n ++ given_rows n fs) all in
+    let front : c.in-Some-checked_add.front ≡ n + length fs = search rules in
+    let number : c.in-Some-checked_add-2.count ≡ (n + length fs) + length gs = search rules in
+    sound_parts n m c.in-Some-checked_add-2.count stride c.append_forms-2.new.cells.items c.append_units.new.cells.items
+    c.append_units.new.line fs gs is (same ∙ room)
+    (speaks_all (n + m) fs c.requires.forms) (speaks_all (n + m) gs c.requires.more) number held both
 
 pub invariant_of-result : goal.invariant_of-result
 invariant_of-result c =
-    let room : length c.append_units.new.line ≡ length c.in-Ok.line.items = c.append_units.auto.line ∙ ap (λ (zs : List ℤ). length zs) c.deref_mut.ensures.value in
+    let room : length c.append_units.new.line ≡ length c.in-Ok.line.items =
+    c.append_units.auto.line ∙ ap (λ (zs : List ℤ). length zs) c.deref_mut.ensures.value in
     let w = written_whole c.in-Ok.line.len c.in-Ok.line.items c.append_units.new.line (search rules) room in
     rw w (made c).0
 
@@ -46,5 +54,7 @@ returns-clause-solutions c p x size =
     let n = c.args.unknowns in
     let m = c.args.parameters in
     let fs = c.args.forms.now in
-    subst (λ (rows : List Row). IsPoint (problem_of n fs) p x ↔ IsSolution n rows p x) (sym (made c).1)
-    (first_solutions n m fs (speaks_all (n + m) fs c.requires) p x size)
+    let gs = c.args.more.now in
+    subst (λ (rows : List Row). IsPoint (problem_of n (fs ++ gs)) p x ↔ IsSolution n rows p x) (sym (made c).1)
+    (first_solutions n m (fs ++ gs) (speaks-append (n + m) fs gs (speaks_all (n + m) fs c.requires.forms)
+    (speaks_all (n + m) gs c.requires.more)) p x size)

@@ -11,7 +11,8 @@ pub pivot_lines-requires-clause-heads : goal.pivot_lines-requires-clause-heads
 pivot_lines-requires-clause-heads c =
     let i = c.self.inside in
     let stride = stride_of i.unknowns i.parameters in
-    let heads = heads_sized stride (i.unknowns + 1 + i.parameters) i.count i.cells.items (omega arith) (c.self.invariant.tableau c.in_default.is).sized in
+    let heads = heads_sized stride (i.unknowns + 1 + i.parameters) i.count i.cells.items (omega arith)
+    (c.self.invariant.tableau c.in_default.is).sized in
     let k : stride ≡ length c.deref_mut-2.result.now = search rules in
     subst (λ (zs : List ℤ). HeadsPositive (length c.deref_mut-2.result.now) i.count zs) (sym c.deref_mut.ensures.value)
     (subst (λ (n : ℕ). HeadsPositive n i.count i.cells.items) k heads)
@@ -29,10 +30,13 @@ invariant_of-self-in-Ok c =
     let same : length room ≡ length i.line.items = c.pivot_lines.auto.line ∙ ap (λ (zs : List ℤ). length zs) e in
     let run = rw (k, d) at c.in-Ok.ensures in
     let below = subst (λ (t : Table). c.args.column < t.unknowns) (sym c.self.view_is) c.requires.column in
-    let here = subst (λ (t : Table). pos 0 <ℤ entry (row_at t.rows c.args.row) c.args.column) (sym c.self.view_is) (c.requires.entry (search rules)) in
+    let here = subst (λ (t : Table). pos 0 <ℤ entry (row_at t.rows c.args.row) c.args.column) (sym c.self.view_is)
+    (c.requires.entry (search rules)) in
     let l = length-rows_in stride i.count i.cells.items in
-    let low : c.args.row < length (rows_in stride i.count i.cells.items) = subst (λ (t : Table). c.args.row < length t.rows) (sym c.self.view_is) c.requires.row in
-    let sound = sound_pivot i.unknowns i.parameters i.count c.args.row c.args.column i.cells.items i.line.items now room i.stopped (omega arith) below c.self.invariant c.in_default.is here run size same in
+    let low : c.args.row < length (rows_in stride i.count i.cells.items) =
+    subst (λ (t : Table). c.args.row < length t.rows) (sym c.self.view_is) c.requires.row in
+    let sound = sound_pivot i.unknowns i.parameters i.count c.args.row c.args.column i.cells.items i.line.items now room
+    i.stopped (omega arith) below c.self.invariant c.in_default.is here run size same in
     let a = written_whole i.cells.len i.cells.items now (search rules) size in
     let b = written_whole i.line.len i.line.items room (search rules) same in
     rw (a, b) sound
@@ -48,10 +52,15 @@ returns-in-Ok-clause-solutions c =
     let size : length now ≡ length i.cells.items = c.pivot_lines.auto.cells ∙ ap (λ (zs : List ℤ). length zs) d in
     let run = rw (k, d) at c.in-Ok.ensures in
     let below = subst (λ (t : Table). c.args.column < t.unknowns) (sym c.self.view_is) c.requires.column in
-    let here = subst (λ (t : Table). pos 0 <ℤ entry (row_at t.rows c.args.row) c.args.column) (sym c.self.view_is) (c.requires.entry (search rules)) in
-    let low : c.args.row < length rows = subst (λ (t : Table). c.args.row < length t.rows) (sym c.self.view_is) c.requires.row in
-    let given = pivot_keeps_solutions i.unknowns i.parameters c.args.row c.args.column rows (rows_in stride i.count now) (c.self.invariant.tableau c.in_default.is) low below here run in
+    let here = subst (λ (t : Table). pos 0 <ℤ entry (row_at t.rows c.args.row) c.args.column) (sym c.self.view_is)
+    (c.requires.entry (search rules)) in
+    let low : c.args.row < length rows = subst (λ (t : Table). c.args.row < length t.rows) (sym c.self.view_is)
+    c.requires.row in
+    let given = pivot_keeps_solutions i.unknowns i.parameters c.args.row c.args.column rows (rows_in stride i.count now)
+    (c.self.invariant.tableau c.in_default.is) low below here run in
     let a = written_whole i.cells.len i.cells.items now (search rules) size in
     let news = rows_in stride i.count (take i.cells.len (now ++ drop (length now) i.cells.items)) in
-    subst (λ (t : Table). (p : List ℤ) → length p ≡ t.parameters → HaveSameSolutions t.unknowns t.rows news p) c.self.view_is
-    (subst (λ (zs : List ℤ). (p : List ℤ) → length p ≡ i.parameters → HaveSameSolutions i.unknowns rows (rows_in stride i.count zs) p) (sym a) given)
+    subst (λ (t : Table). (p : List ℤ) → length p ≡ t.parameters → HaveSameSolutions t.unknowns t.rows news p)
+    c.self.view_is
+    (subst (λ (zs : List ℤ). (p : List ℤ) → length p ≡ i.parameters
+    → HaveSameSolutions i.unknowns rows (rows_in stride i.count zs) p) (sym a) given)

@@ -2,7 +2,7 @@ use Rattle.std.proofs.Common.{◌≡◌, take, drop, pos}
 use Rattle.affine_forms.specs.Runs.{map_run}
 use Rattle.affine_forms.proofs.Steps.{with_front}
 use Rattle.wide_math.specs.Checked.{difference_of}
-use Rattle.pip_solver.proofs.emptiness.oppose.Given as goal
+use Rattle.tableau_nodes.proofs.forms.oppose.Given as goal
 
 abbrev pub invariant-loop-at : goal.invariant-loop-at
 invariant-loop-at l =

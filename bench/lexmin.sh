@@ -1,0 +1,19 @@
+#!/bin/sh
+# Times the parametric lexicographic minimum of crates/solver_cases, reading and printing included, against isl on the
+# same problems (a C program of ours that calls isl_basic_set_lexmin; left out where the library is missing). Prints
+# microseconds a move and the ratio of the times, by the shortest processor times.
+# usage: bench/lexmin.sh [CASES [ROUNDS]]; CASES is a file of cases, without one the program's stored input; at least 5
+set -eu
+root=$(CDPATH= cd -- "$(dirname -- "$0")/.." && pwd)
+cases=${1:-$root/crates/solver_cases/stdin}
+[ $# -eq 0 ] || shift
+work=$(mktemp -d)
+trap 'rm -rf "$work"' EXIT
+(cd "$root/crates/solver_cases" && rt run >/dev/null 2>"$work/log") || { cat "$work/log" >&2; exit 1; }
+baseline=
+if gcc -O2 -o "$work/baseline" "$root/bench/lexmin_isl.c" -lisl 2>/dev/null; then
+    baseline=$work/baseline
+else
+    echo "isl is missing (libisl-dev): no comparison"
+fi
+python3 -B "$root/bench/lexmin.py" "$root/crates/solver_cases/out/solver_cases" "$baseline" "$cases" "$@"

@@ -1,0 +1,82 @@
+-- The questions of a node, as the code asks them.
+use Rattle.std.proofs.Common.{◌≡◌, ℕ, zero, suc, ◌+◌, ◌<◌, ◌≤◌, ℤ, pos, Bool, true, false, List, [], ◌∷◌, ◌++◌, length, drop, refl, subst, ap, sym, ◌∙◌, arith, add-one, drop-cons}
+use Rattle.std.specs.Prelude.{Option, Some, None, Ok, Err, All, if◌then◌else◌}
+use Rattle.std.proofs.lemmas.List.{append-nil}
+use Rattle.std.proofs.Math.ListN.{drop_of_length-le}
+use Rattle.whole_numbers.specs.Lists.{zeros}
+use Rattle.whole_numbers.proofs.Dot.{length-zeros}
+use Rattle.whole_numbers.specs.Affine.{Affine}
+use Rattle.tableau_rows.specs.Rows.{Row, row_of}
+use Rattle.tableau_rows.specs.Moves.{row_at}
+use Rattle.tableau_rows.specs.Problem.{problem_of, first_rows}
+use Rattle.tableau_rows.specs.Run.{question, run}
+use Rattle.lexmin_runs.specs.Nodes.{Counted, chained, answered, ask, context_holds, opposite_run, above_run, first_asked}
+use Rattle.lexmin_runs.specs.Solutions.{IsNode}
+use Rattle.lexmin_runs.proofs.Asking.{opposite-value, above-value}
+use Rattle.tableau_nodes.proofs.Read_off.{size_of_part}
+use Rattle.tableau_nodes.specs.declared.node.Tableau.{Tableau}
+use Rattle.tableau_nodes.specs.Node.{node_of}
+use Rattle.pip_solver.specs.declared.question.QuestionStop.{QuestionStop}
+use Rattle.pip_solver.specs.declared.question.QuestionStop.TheVariants as stop
+use Rattle.pip_solver.specs.Answers.{Tells, AsksOf}
+
+pub ask-is : (left m : ℕ) (rows : List Affine)
+    → ask left m rows ≡ answered (run m left (first_rows 0 (problem_of m rows)))
+unfolding question
+ask-is left m rows = refl
+
+pub one_speaks : (m : ℕ) (f : Affine) → length f.coefficients ≡ m → All (λ f. length f.coefficients ≡ m) (f ∷ [])
+one_speaks m f size zero d low = size
+one_speaks m f size (suc k) d low = absurd (omega arith)
+
+pub opposite-size : (f g : Affine) → opposite_run f ≡ Ok g → length g.coefficients ≡ length f.coefficients
+opposite-size f g h = (opposite-value f g [] h).1
+
+pub above-size : (d : ℤ) (f g : Affine) → above_run d f ≡ Ok g → length g.coefficients ≡ length f.coefficients + 1
+above-size d f g h = (above-value d f g (zeros (length f.coefficients)) (pos 0)
+    (sym (length-zeros (length f.coefficients))) h).1
+
+pub context-some : (left m : ℕ) (fs : List Affine) → (m ≡ 0 → ⊥) → context_holds left m fs ≡ ask left m (fs ++ [])
+context-some left zero fs some = absurd (some refl)
+context-some left (suc m) fs some = ap (λ (gs : List Affine). ask left (suc m) gs) (sym (append-nil fs))
+
+pub asks_of : (t : Tableau) (row : ℕ) → IsNode t.rows.unknowns (node_of t) → row < length t.rows.rows → AsksOf t row
+asks_of t row is within = (within, is.speaks, size_of_part t row is within)
+
+-- the first row of which the answer is yes
+pub asked-yes : (test : ℕ → Row → Counted Bool) (left i rest : ℕ) (rows : List Row) → i < length rows
+    → test left (row_at rows i) ≡ Ok (true, rest)
+    → first_asked test left i (drop i rows) ≡ Ok (Some i, rest)
+asked-yes test left i rest rows within found =
+    ap (λ (rs : List Row). first_asked test left i rs) (drop-cons rows i (row_of (pos 1) []) within)
+    ∙ ap (λ (q : Counted Bool). chained q (λ yes rest. if yes then Ok (Some i, rest)
+    else first_asked test rest (suc i) (drop (suc i) rows))) found
+
+pub asked-more : (test : ℕ → Row → Counted Bool) (left i rest : ℕ) (rows : List Row) → i < length rows
+    → test left (row_at rows i) ≡ Ok (false, rest)
+    → first_asked test left i (drop i rows) ≡ first_asked test rest (i + 1) (drop (i + 1) rows)
+asked-more test left i rest rows within not =
+    ap (λ (rs : List Row). first_asked test left i rs) (drop-cons rows i (row_of (pos 1) []) within)
+    ∙ ap (λ (q : Counted Bool). chained q (λ yes rest. if yes then Ok (Some i, rest)
+    else first_asked test rest (suc i) (drop (suc i) rows))) not
+    ∙ ap (λ (k : ℕ). first_asked test rest k (drop k rows)) (sym (add-one i))
+
+pub asked-end : (test : ℕ → Row → Counted Bool) (left i : ℕ) (rows : List Row) → length rows ≤ i
+    → first_asked test left i (drop i rows) ≡ Ok (None, left)
+asked-end test left i rows past = ap (λ (rs : List Row). first_asked test left i rs) (drop_of_length-le rows past)
+
+-- a call that stops, stops what is chained to it
+pub chained-stops : {A B : Type 0} (s : QuestionStop) (left : ℕ) (q : Counted A) (f : A → ℕ → Counted B)
+    → Tells {A = A} (Err s) left q → Tells {A = B} (Err s) left (chained q f)
+chained-stops {A = A} stop.Wide left q f told = (told.0, ap (λ (q : Counted A). chained q f) told.1)
+chained-stops {A = A} stop.Spent left q f told = (ap (λ (q : Counted A). chained q f) told.0, told.1)
+chained-stops {A = A} stop.NoMemory left q f told = tt
+
+pub asked-stops : (test : ℕ → Row → Counted Bool) (old i left : ℕ) (rows : List Row) (s : QuestionStop)
+    → i < length rows → Tells {A = Bool} (Err s) left (test old (row_at rows i))
+    → Tells {A = Option ℕ} (Err s) left (first_asked test old i (drop i rows))
+asked-stops test old i left rows s within told =
+    subst (λ (rs : List Row). Tells {A = Option ℕ} (Err s) left (first_asked test old i rs))
+    (sym (drop-cons rows i (row_of (pos 1) []) within))
+    (chained-stops s left (test old (row_at rows i))
+    (λ yes rest. if yes then Ok (Some i, rest) else first_asked test rest (suc i) (drop (suc i) rows)) told)

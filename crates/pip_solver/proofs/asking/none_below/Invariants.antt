@@ -1,0 +1,6 @@
+use Rattle.std.proofs.Common.{◌≡◌, drop}
+use Rattle.lexmin_runs.specs.Nodes.{none_below}
+use Rattle.pip_solver.proofs.asking.none_below.Given as goal
+
+abbrev pub invariant-loop-form : goal.invariant-loop-form
+invariant-loop-form l = none_below (drop l.form-index l.forms) ≡ none_below l.forms

@@ -1,0 +1,14 @@
+use Rattle.std.proofs.Common.{◌≡◌, ◌≤◌, drop, take}
+use Rattle.lexmin_runs.specs.Nodes.{first_asked, broken_somewhere, part_of}
+use Rattle.tableau_nodes.specs.Node.{node_of}
+use Rattle.pip_solver.proofs.looking.first_broken.Given as goal
+
+abbrev pub invariant-loop-row : goal.invariant-loop-row
+invariant-loop-row l =
+    (l.left ≤ l.fn.left)
+    × (first_asked (λ k row. broken_somewhere k (node_of l.node) row.denominator (part_of l.node.rows.unknowns row))
+    l.left l.row
+    (drop l.row (take l.node.rows.unknowns l.node.rows.rows))
+    ≡ first_asked (λ k row. broken_somewhere k (node_of l.node) row.denominator (part_of l.node.rows.unknowns row))
+    l.fn.left 0
+    (take l.node.rows.unknowns l.node.rows.rows))

@@ -1,0 +1,43 @@
+use Rattle.std.specs.Prelude.{◌≡◌, ℕ, ◌+◌, length, All, Result, Ok, Err, ⊤}
+use Rattle.wide_math.specs.declared.Wide.{Wide}
+use Rattle.tableau_rows.specs.Problem.{problem_of}
+use Rattle.tableau_rows.specs.Run as run
+use Rattle.quast_trees.specs.Tree.{Tree}
+use Rattle.quast_trees.specs.Postfix.{Postfix, tree_of}
+use Rattle.lexmin_runs.specs.Nodes.{Counted, lexmin_run}
+use Rattle.checked_tableau.specs.declared.problem.Problem.{Problem}
+use Rattle.pip_solver.specs.declared.stop.Stop.TheVariants as solver
+use Rattle.pip_solver.specs.declared.minimum.Solution.{Solution}
+
+-- a problem over so many unknowns and parameters
+pub record IsOver (unknowns parameters : ℕ) (problem : Problem) : Type 0 where
+  pub has : (problem.unknowns ≡ unknowns) × (problem.parameters ≡ parameters)
+  pub rows : All (λ f. length f.coefficients ≡ unknowns + parameters) problem.rows.items
+  pub context : All (λ f. length f.coefficients ≡ parameters) problem.context.items
+
+-- the run of a problem
+abbrev pub solved : ℕ → Problem → Counted Tree
+solved budget problem = lexmin_run budget problem.parameters (problem_of problem.unknowns problem.rows.items)
+    problem.context.items
+
+-- a stop is the run's, and tells the problem and the moves made; want of memory is free
+abbrev pub Stops : solver.the_data → ℕ → Problem → Type 0
+Stops (solver.Wide posed moves) budget problem =
+    (w : Wide) × (left : ℕ) × (solved budget problem ≡ Err (run.wide w left)) × (moves + left ≡ budget)
+    × (posed ≡ problem)
+Stops (solver.Spent posed moves) budget problem =
+    (solved budget problem ≡ Err run.spent) × (moves ≡ budget) × (posed ≡ problem)
+Stops solver.NoMemory budget problem = ⊤
+
+-- an answer is the run's tree, over the problem's parameters
+abbrev pub Solves : Result Postfix solver.the_data → ℕ → Problem → Type 0
+Solves (Ok quast) budget problem =
+    (left : ℕ) × (solved budget problem ≡ Ok (tree_of quast, left)) × (quast.parameters ≡ problem.parameters)
+Solves (Err stop) budget problem = Stops stop budget problem
+
+-- the same with the moves made
+abbrev pub Counts : Result Solution solver.the_data → ℕ → Problem → Type 0
+Counts (Ok solution) budget problem =
+    (left : ℕ) × (solved budget problem ≡ Ok (tree_of solution.quast, left)) × (solution.moves + left ≡ budget)
+    × (solution.quast.parameters ≡ problem.parameters)
+Counts (Err stop) budget problem = Stops stop budget problem

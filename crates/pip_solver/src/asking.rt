@@ -1,0 +1,170 @@
+//! The questions of a node: whether its context has a point, and whether a row's part is at most -1, at least 0, or no
+//! multiple of the row's denominator at some point of it. Where no parameter stands in a part it is read off; else a
+//! question over the parameters is run, in the same count of moves.
+ghost use Rattle.std.specs.Prelude.{◌≡◌, ◌+◌, [], ◌∷◌, ◌++◌, ◌≤◌, map, None, All};
+ghost use Rattle.affine_forms.specs.Parts.{variables_of};
+ghost use Rattle.tableau_rows.specs.Problem.{Speaks};
+ghost use Rattle.tableau_rows.specs.Moves.{row_at};
+ghost use Rattle.lexmin_runs.specs.Nodes.{ask, context_holds, below_somewhere, above_somewhere, broken_somewhere, none_below, part_of, longer_form};
+ghost use Rattle.tableau_nodes.specs.Node.{node_of};
+ghost use Rattle.pip_solver.specs.Answers.{Tells, AsksOf};
+
+use crate::question::{QuestionStop, question};
+use affine_forms::{Form, FormStop};
+use checked_tableau::{Rows, remainder_of};
+use std::alloc::Global;
+use tableau_nodes::{
+    Tableau, above, constant_of, is_constant, longer_forms, opposite, part_of, under,
+};
+
+/// Whether forms, in two parts, have a whole point that is not negative.
+fn ask(
+    alloc: Global,
+    unknowns: usize,
+    forms: &[Form],
+    more: &[Form],
+    left: &mut u64,
+) -> Result<bool, QuestionStop>
+    requires forms { All (λ f. variables_of f ≡ unknowns) forms.now }
+    requires more { All (λ f. variables_of f ≡ unknowns) more.now }
+    ensures run { Tells result left.new (ask left.old unknowns (forms.now ++ more.now)) }
+    ensures less { left.new ≤ left.old }
+{
+    let mut rows = match Rows::of(alloc, unknowns, 0, forms, more) {
+        Err(_) => return Err(QuestionStop::NoMemory),
+        Ok(rows) => rows,
+    };
+    question(&mut rows, left)
+}
+
+/// Whether no form's constant is below 0.
+fn none_below(forms: &[Form]) -> bool
+    ensures { result ≡ none_below forms.now }
+{
+    for form in forms {
+        if form.constant() < 0 {
+            return false;
+        }
+    }
+    true
+}
+
+/// Whether the context has a point.
+pub fn context_holds(alloc: Global, node: &Tableau, left: &mut u64) -> Result<bool, QuestionStop>
+    requires { Speaks node.now.rows.parameters node.now.context.items }
+    ensures run { Tells result left.new (context_holds left.old node.now.rows.parameters node.now.context.items) }
+    ensures less { left.new ≤ left.old }
+{
+    let parameters = node.rows.parameters();
+    if parameters == 0 {
+        return Ok(none_below(&node.context));
+    }
+    ask(alloc, parameters, &node.context, &[], left)
+}
+
+/// Whether a row's part is at most -1 somewhere in the context.
+pub fn below_somewhere(
+    alloc: Global,
+    node: &Tableau,
+    row: usize,
+    left: &mut u64,
+) -> Result<bool, QuestionStop>
+    requires { AsksOf node.now row }
+    ensures run { Tells result left.new
+        (below_somewhere left.old (node_of node.now) (part_of node.now.rows.unknowns (row_at node.now.rows.rows row))) }
+    ensures less { left.new ≤ left.old }
+{
+    if is_constant(&node.rows, row) {
+        return Ok(constant_of(&node.rows, row) < 0);
+    }
+    let part = match part_of(alloc, &node.rows, row) {
+        Err(_) => return Err(QuestionStop::NoMemory),
+        Ok(part) => part,
+    };
+    match opposite(alloc, &part) {
+        Err(FormStop::NoMemory) => Err(QuestionStop::NoMemory),
+        Err(FormStop::Wide(_)) => Err(QuestionStop::Wide),
+        Ok(form) => ask(alloc, node.rows.parameters(), &node.context, &[form], left),
+    }
+}
+
+/// Whether a row's part is at least 0 somewhere in the context.
+pub fn above_somewhere(
+    alloc: Global,
+    node: &Tableau,
+    row: usize,
+    left: &mut u64,
+) -> Result<bool, QuestionStop>
+    requires { AsksOf node.now row }
+    ensures run { Tells result left.new
+        (above_somewhere left.old (node_of node.now) (part_of node.now.rows.unknowns (row_at node.now.rows.rows row))) }
+    ensures less { left.new ≤ left.old }
+{
+    if is_constant(&node.rows, row) {
+        return Ok(constant_of(&node.rows, row) >= 0);
+    }
+    match part_of(alloc, &node.rows, row) {
+        Err(_) => Err(QuestionStop::NoMemory),
+        Ok(part) => ask(alloc, node.rows.parameters(), &node.context, &[part], left),
+    }
+}
+
+/// Whether a row's denominator does not divide its part somewhere in the context.
+pub fn broken_somewhere(
+    alloc: Global,
+    node: &Tableau,
+    row: usize,
+    left: &mut u64,
+) -> Result<bool, QuestionStop>
+    requires asks { AsksOf node.now row }
+    requires going { node.now.rows.stopped ≡ None }
+    ensures run { Tells result left.new (broken_somewhere left.old (node_of node.now)
+        (row_at node.now.rows.rows row).denominator
+        (part_of node.now.rows.unknowns (row_at node.now.rows.rows row))) }
+    ensures less { left.new ≤ left.old }
+{
+    let divisor = node.rows.line(row)[0];
+    if is_constant(&node.rows, row) {
+        return Ok(remainder_of(constant_of(&node.rows, row), divisor) > 0);
+    }
+    let part = match part_of(alloc, &node.rows, row) {
+        Err(_) => return Err(QuestionStop::NoMemory),
+        Ok(part) => part,
+    };
+    let first = match above(alloc, divisor, &part) {
+        Err(FormStop::NoMemory) => return Err(QuestionStop::NoMemory),
+        Err(FormStop::Wide(_)) => return Err(QuestionStop::Wide),
+        Ok(first) => first,
+    };
+    let second = match under(alloc, divisor, &part) {
+        Err(FormStop::NoMemory) => return Err(QuestionStop::NoMemory),
+        Err(FormStop::Wide(_)) => return Err(QuestionStop::Wide),
+        Ok(second) => second,
+    };
+    ask_longer(alloc, node, first, second, left)
+}
+
+/// Whether two forms over one unknown more have a whole point in the context.
+fn ask_longer(
+    alloc: Global,
+    node: &Tableau,
+    first: Form,
+    second: Form,
+    left: &mut u64,
+) -> Result<bool, QuestionStop>
+    requires speaks { Speaks node.now.rows.parameters node.now.context.items }
+    requires first { variables_of first ≡ node.now.rows.parameters + 1 }
+    requires second { variables_of second ≡ node.now.rows.parameters + 1 }
+    ensures run { Tells result left.new (ask left.old (node.now.rows.parameters + 1)
+        (map longer_form node.now.context.items ++ first ∷ second ∷ [])) }
+    ensures less { left.new ≤ left.old }
+{
+    let unknowns = match node.rows.parameters().checked_add(1) {
+        None => return Err(QuestionStop::NoMemory),
+        Some(unknowns) => unknowns,
+    };
+    match longer_forms(alloc, &node.context) {
+        Err(_) => Err(QuestionStop::NoMemory),
+        Ok(context) => ask(alloc, unknowns, &context, &[first, second], left),
+    }
+}

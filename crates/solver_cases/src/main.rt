@@ -1,0 +1,32 @@
+//! Reads problems on standard input, leaves their answers out of account, and prints them again with the solver's own:
+//! a file whose answers are right comes out as it went in.
+//!
+//! A case is `problem UNKNOWNS PARAMETERS BUDGET`, lines `row A .. B .. CONSTANT`, lines `context B .. CONSTANT`, and
+//! `answer quast MOVES Q`, `answer spent MOVES` or `answer wide MOVES`. Q is `none`, `(leaf F ..)`, `(if F Q Q)` or
+//! `(let F D Q)`, F the numbers of a form in brackets. At a line that is not what it is to be the program prints
+//! `unknown: LINE` and ends.
+#![tactic(auto)]
+
+mod problem;
+mod quast;
+
+use case_lines::Lines;
+use problem::problem;
+use std::io;
+
+fn main(rt: HostRuntime) -> io::Result<()> {
+    let mut all = Vec::new(rt.alloc());
+    for line in rt.lines(rt.alloc()) {
+        all.push(line?)?;
+    }
+    let mut lines = Lines::of(all);
+    for _ in 0..lines.left() {
+        if lines.left() == 0 {
+            return Ok(());
+        }
+        if !problem(&rt, &mut lines)? {
+            return println!(rt; "unknown: {}", lines.front());
+        }
+    }
+    Ok(())
+}

@@ -1,0 +1,3 @@
+pub mod Opposites
+pub mod Read_off
+pub mod Moving

@@ -1,0 +1,10 @@
+use Rattle.lexmin_runs.proofs.Kept.{pivot_keeps}
+use Rattle.tableau_nodes.specs.Node.{node_of}
+use Rattle.tableau_nodes.proofs.Moving.{pivots-keep}
+use Rattle.tableau_nodes.proofs.node.Tableau.pivot.Goals as goal
+
+pub returns-clause-solutions : goal.returns-clause-solutions
+returns-clause-solutions c going is =
+    let t = c.args.self.now in
+    pivots-keep t c.pivot_rows.new.self c.args.row c.pivot_rows.result (c.pivot_rows.ensures.run going)
+    (λ next ran. pivot_keeps t.rows.unknowns 1 (node_of t) c.args.row next 0 is c.requires ran)

@@ -1,0 +1,95 @@
+//! The parameters that cuts have bound, and the one that a form and a divisor have bound before.
+ghost use Rattle.std.specs.Prelude.{◌≡◌, ◌≤◌, ◌⊎◌, IfOk};
+ghost use Rattle.lexmin_runs.specs.Nodes.{same_list, is_bound_as, place_of};
+
+use crate::parts::all_zero;
+use affine_forms::Form;
+use std::alloc::{AllocError, Global};
+use std::marker::Model;
+
+/// A parameter that a cut has bound: the quotient of a form by a divisor, at its place among the parameters.
+#[derive(Debug, Drop)]
+pub struct Bound {
+    pub form: Form,
+    pub divisor: i128,
+    pub place: usize,
+}
+
+impl Model for Bound {
+    ghost use Rattle.lexmin_runs.specs.Nodes.{Bound};
+
+    ghost Value = { Bound };
+
+    ghost view = { λ b. record { form = b.form; divisor = b.divisor; place = b.place } };
+}
+
+/// The lesser of two numbers.
+fn lesser(a: usize, b: usize) -> usize
+    ensures first { result ≤ a }
+    ensures second { result ≤ b }
+    ensures one { (a ≤ result) ⊎ (b ≤ result) }
+{
+    if a < b { a } else { b }
+}
+
+/// Whether two lists are equal, zeros at their ends left out.
+fn same_list(xs: &[i128], ys: &[i128]) -> bool
+    ensures { result ≡ same_list xs.now ys.now }
+{
+    let common = lesser(xs.len(), ys.len());
+    for at in 0..common {
+        if xs[at] != ys[at] {
+            return false;
+        }
+    }
+    let (_, xs_behind) = xs.split_at(common);
+    let (_, ys_behind) = ys.split_at(common);
+    all_zero(xs_behind) && all_zero(ys_behind)
+}
+
+/// Whether the parameter is the quotient of this form by this divisor.
+fn is_bound_as(form: &Form, divisor: i128, bound: &Bound) -> bool
+    ensures { result ≡ is_bound_as form.now divisor bound.now }
+{
+    same_list(bound.form.coefficients(), form.coefficients())
+        && bound.form.constant() == form.constant()
+        && bound.divisor == divisor
+}
+
+/// The place of the parameter that is the quotient of this form by this divisor, if there is one.
+pub fn place_of(form: &Form, divisor: i128, bounds: &[Bound]) -> Option<usize>
+    ensures { result ≡ place_of form.now divisor bounds.now }
+{
+    for bound in bounds {
+        if is_bound_as(form, divisor, bound) {
+            return Some(bound.place);
+        }
+    }
+    None
+}
+
+/// A copy of each bound.
+pub fn copied_bounds(alloc: Global, bounds: &[Bound]) -> Result<Vec<Bound>, AllocError>
+    ensures { IfOk result (λ v. v.items ≡ bounds.now) }
+{
+    let mut all = match Vec::with_capacity(alloc, bounds.len()) {
+        Err(error) => return Err(error),
+        Ok(all) => all,
+    };
+    for bound in bounds {
+        let form = match bound.form.copy() {
+            Err(_) => return Err(AllocError),
+            Ok(form) => form,
+        };
+        let copy = Bound {
+            form,
+            divisor: bound.divisor,
+            place: bound.place,
+        };
+        match all.push(copy) {
+            Err(_) => return Err(AllocError),
+            Ok(()) => {}
+        }
+    }
+    Ok(all)
+}

@@ -1,0 +1,14 @@
+//! The nodes of parametric integer programming: a tableau with its context and the parameters that its cuts have
+//! bound, and the moves of a node. P. Feautrier, "Parametric integer programming", RAIRO Recherche
+//! opérationnelle 22(3), 1988.
+#![tactic(auto)]
+
+mod bounds;
+mod forms;
+mod node;
+mod parts;
+
+pub use bounds::Bound;
+pub use forms::{above, at_least, copies, longer_forms, oppose, opposite, under};
+pub use node::{Move, Tableau};
+pub use parts::{all_zero, constant_of, is_constant, part_of};

@@ -1,0 +1,352 @@
+//! A node: a tableau, a context of rows over its parameters, and the parameters that cuts have bound. A move changes
+//! it in place; a cut or a split takes its memory before it changes anything.
+ghost use Rattle.std.specs.Prelude.{◌≡◌, ℕ, suc, ◌+◌, ◌<◌, length, All, None, Some, Ok, Err, IfOk, OnOk};
+ghost use Rattle.affine_forms.specs.Parts.{variables_of};
+ghost use Rattle.wide_math.specs.declared.Wide.{Wide};
+ghost use Rattle.tableau_rows.specs.Moves.{row_at};
+ghost use Rattle.tableau_rows.specs.Problem.{problem_of};
+ghost use Rattle.lexmin_runs.specs.Nodes.{first_node, goes, part_of, side, split, cut, taken_off};
+ghost use Rattle.lexmin_runs.specs.Solutions.{ArePlaced, IsNode};
+ghost use Rattle.checked_tableau.specs.declared.stop.TableauStop.TheVariants as stop;
+ghost use Rattle.tableau_nodes.specs.Node.{node_of, next_of, IsGoing, Keeps, Pivots, Moves, cut_known, cut_new, tied_run, TiesParts, BindsOn};
+
+use crate::bounds::{Bound, copied_bounds, place_of};
+use crate::forms::{at_least, copies, longer_forms, opposite, under};
+use crate::parts::{all_zero, part_of, taken_off};
+use affine_forms::{Form, FormStop};
+use checked_tableau::{Problem, Rows, TableauStop};
+use std::alloc::{AllocError, Global};
+use wide_math::Wide;
+
+/// A node of the run.
+#[derive(Debug, Drop)]
+pub struct Tableau {
+    /// Whether the node begins: whether its context has a point is still to be asked.
+    pub begins: bool,
+    /// The rows, over the unknowns' columns and the parameters.
+    pub rows: Rows,
+    /// Forms over the parameters that are at least 0.
+    pub context: Vec<Form>,
+    /// The parameters that cuts have bound, the last in front.
+    pub bounds: Vec<Bound>,
+}
+
+/// What a move leads to.
+#[derive(Debug, Drop)]
+pub enum Move {
+    /// The node goes on.
+    Goes,
+    /// It goes on with one parameter more, the quotient of a form by a divisor.
+    Binds { form: Form, divisor: i128 },
+    /// It is the side on which a form is at least 0, beside the one on which it is below.
+    Splits { test: Form, second: Tableau },
+}
+
+impl Tableau {
+    /// The first node of a problem.
+    ///
+    /// # Errors
+    /// `AllocError` alone.
+    pub fn of(alloc: Global, problem: &Problem) -> Result<Tableau, AllocError>
+        requires { All (λ f. variables_of f ≡ problem.now.unknowns + problem.now.parameters) problem.now.rows.items }
+        ensures node { IfOk result (λ t. node_of t
+            ≡ first_node problem.now.parameters (problem_of problem.now.unknowns problem.now.rows.items)
+            problem.now.context.items) }
+        ensures going { IfOk result (IsGoing problem.now.unknowns) }
+    {
+        let rows = match Rows::of(
+            alloc,
+            problem.unknowns,
+            problem.parameters,
+            &problem.rows,
+            &[],
+        ) {
+            Err(error) => return Err(error),
+            Ok(rows) => rows,
+        };
+        let context = match copies(alloc, &problem.context) {
+            Err(error) => return Err(error),
+            Ok(context) => context,
+        };
+        Ok(Tableau {
+            begins: true,
+            rows,
+            context,
+            bounds: Vec::new(alloc),
+        })
+    }
+
+    /// The pivot on a row, in the column that the rows of the unknowns choose. Takes no memory.
+    ///
+    /// # Errors
+    /// `Wide` names the first number that 128 bits do not hold; or the one at which an earlier move stopped.
+    pub fn pivot(&mut self, row: usize) -> Result<(), Wide>
+        requires { row < length self.old.rows.rows }
+        ensures run { self.old.rows.stopped ≡ None → Pivots self.old row self.new result }
+        ensures again { (w : Wide) → self.old.rows.stopped ≡ Some w → result ≡ Err w }
+        ensures solutions { self.old.rows.stopped ≡ None → IsNode self.old.rows.unknowns (node_of self.old)
+            → OnOk result (Keeps self.old (goes (node_of self.new))) }
+    {
+        self.pivot_rows(row)
+    }
+
+    // The pivot, as the run's.
+    fn pivot_rows(&mut self, row: usize) -> Result<(), Wide>
+        requires { row < length self.old.rows.rows }
+        ensures run { self.old.rows.stopped ≡ None → Pivots self.old row self.new result }
+        ensures again { (w : Wide) → self.old.rows.stopped ≡ Some w → result ≡ Err w }
+    {
+        match self.rows.pivot_on(row) {
+            Err(wide) => Err(wide),
+            Ok(()) => {
+                self.begins = false;
+                Ok(())
+            }
+        }
+    }
+
+    /// The split on a row's part: the node becomes the side on which it is at least 0, beside the one on which it is at
+    /// most -1.
+    ///
+    /// # Errors
+    /// `Wide` names the first opposite that 128 bits do not hold, or the number at which an earlier move stopped.
+    /// Behind `NoMemory` the node is as it was.
+    pub fn split(&mut self, alloc: Global, row: usize) -> Result<Move, TableauStop>
+        requires { row < length self.old.rows.rows }
+        ensures run { self.old.rows.stopped ≡ None → Moves self.old
+            (λ left. split left (node_of self.old) (part_of self.old.rows.unknowns (row_at self.old.rows.rows row)))
+            self.new result }
+        ensures again { (w : Wide) → self.old.rows.stopped ≡ Some w → result ≡ Err (stop.Wide w) }
+        ensures solutions { self.old.rows.stopped ≡ None → IsNode self.old.rows.unknowns (node_of self.old)
+            → IfOk result (λ move. Keeps self.old (next_of move self.new)) }
+    {
+        self.split_rows(alloc, row)
+    }
+
+    // The split, as the run's.
+    fn split_rows(&mut self, alloc: Global, row: usize) -> Result<Move, TableauStop>
+        requires { row < length self.old.rows.rows }
+        ensures run { self.old.rows.stopped ≡ None → Moves self.old
+            (λ left. split left (node_of self.old) (part_of self.old.rows.unknowns (row_at self.old.rows.rows row)))
+            self.new result }
+        ensures again { (w : Wide) → self.old.rows.stopped ≡ Some w → result ≡ Err (stop.Wide w) }
+    {
+        if let Some(wide) = self.rows.stopped() {
+            return Err(TableauStop::Wide(wide));
+        }
+        let part = match part_of(alloc, &self.rows, row) {
+            Err(_) => return Err(TableauStop::NoMemory),
+            Ok(part) => part,
+        };
+        let test = match part.copy() {
+            Err(_) => return Err(TableauStop::NoMemory),
+            Ok(test) => test,
+        };
+        let opposite = match opposite(alloc, &part) {
+            Err(FormStop::NoMemory) => return Err(TableauStop::NoMemory),
+            Err(FormStop::Wide(wide)) => {
+                self.rows.stop(wide);
+                return Err(TableauStop::Wide(wide));
+            }
+            Ok(opposite) => opposite,
+        };
+        let second = match self.side(alloc, opposite) {
+            Err(_) => return Err(TableauStop::NoMemory),
+            Ok(second) => second,
+        };
+        match self.context.push(part) {
+            Err(_) => Err(TableauStop::NoMemory),
+            Ok(()) => {
+                self.begins = true;
+                Ok(Move::Splits { test, second })
+            }
+        }
+    }
+
+    /// The cut on a row of an unknown, tied to the quotient of what it takes off: none where that has no parameter, the
+    /// parameter that is bound to it, or a new one.
+    ///
+    /// # Errors
+    /// `Wide` names the first number that 128 bits do not hold, or the one at which an earlier move stopped. Behind
+    /// `NoMemory` the node is as it was.
+    pub fn cut(&mut self, alloc: Global, row: usize) -> Result<Move, TableauStop>
+        requires row { row < length self.old.rows.rows }
+        requires placed { self.old.rows.stopped ≡ None → ArePlaced self.old.rows.parameters self.old.bounds.items }
+        ensures run { self.old.rows.stopped ≡ None
+            → Moves self.old (λ left. cut self.old.rows.unknowns left (node_of self.old) row) self.new result }
+        ensures again { (w : Wide) → self.old.rows.stopped ≡ Some w → result ≡ Err (stop.Wide w) }
+        ensures solutions { self.old.rows.stopped ≡ None → IsNode self.old.rows.unknowns (node_of self.old)
+            → row < self.old.rows.unknowns → IfOk result (λ move. Keeps self.old (next_of move self.new)) }
+    {
+        self.cut_rows(alloc, row)
+    }
+
+    // The cut, as the run's.
+    fn cut_rows(&mut self, alloc: Global, row: usize) -> Result<Move, TableauStop>
+        requires row { row < length self.old.rows.rows }
+        requires placed { self.old.rows.stopped ≡ None → ArePlaced self.old.rows.parameters self.old.bounds.items }
+        ensures run { self.old.rows.stopped ≡ None
+            → Moves self.old (λ left. cut self.old.rows.unknowns left (node_of self.old) row) self.new result }
+        ensures again { (w : Wide) → self.old.rows.stopped ≡ Some w → result ≡ Err (stop.Wide w) }
+    {
+        if let Some(wide) = self.rows.stopped() {
+            return Err(TableauStop::Wide(wide));
+        }
+        let form = match taken_off(alloc, &self.rows, row) {
+            Err(_) => return Err(TableauStop::NoMemory),
+            Ok(form) => form,
+        };
+        if all_zero(form.coefficients()) {
+            return self.cut_known(row, None);
+        }
+        match place_of(&form, self.rows.line(row)[0], &self.bounds) {
+            Some(place) => self.cut_known(row, Some(place)),
+            None => self.cut_new(alloc, row, form),
+        }
+    }
+
+    // The cut on a row, tied to a parameter that stands, or to none.
+    fn cut_known(&mut self, row: usize, parameter: Option<usize>) -> Result<Move, TableauStop>
+        requires row { row < length self.old.rows.rows }
+        requires going { self.old.rows.stopped ≡ None }
+        requires parameter { (k : ℕ) → parameter ≡ Some k → k < self.old.rows.parameters }
+        ensures { Moves self.old (λ left. cut_known self.old.rows.unknowns left (node_of self.old) row parameter)
+            self.new result }
+    {
+        match self.rows.cut(row, parameter) {
+            Err(stop) => Err(stop),
+            Ok(()) => {
+                self.begins = false;
+                Ok(Move::Goes)
+            }
+        }
+    }
+
+    // The cut on a row, tied to a new parameter, the quotient of what it takes off.
+    fn cut_new(&mut self, alloc: Global, row: usize, form: Form) -> Result<Move, TableauStop>
+        requires row { row < length self.old.rows.rows }
+        requires going { self.old.rows.stopped ≡ None }
+        requires form { form ≡ taken_off self.old.rows.unknowns (row_at self.old.rows.rows row) }
+        ensures { Moves self.old (λ left. cut_new self.old.rows.unknowns left (node_of self.old) row) self.new result }
+    {
+        let divisor = self.rows.line(row)[0];
+        match self.tied_parts(alloc, row, divisor, &form) {
+            Err(TableauStop::NoMemory) => Err(TableauStop::NoMemory),
+            Err(TableauStop::Wide(wide)) => {
+                self.rows.stop(wide);
+                Err(TableauStop::Wide(wide))
+            }
+            Ok((rows, low, high)) => match self.bind(alloc, rows, &form, divisor, low, high) {
+                Err(_) => Err(TableauStop::NoMemory),
+                Ok(()) => Ok(Move::Binds { form, divisor }),
+            },
+        }
+    }
+
+    // The rows with a new parameter and the cut on a row, tied to it, and the two forms that tie the parameter.
+    fn tied_parts(
+        &self,
+        alloc: Global,
+        row: usize,
+        divisor: i128,
+        form: &Form,
+    ) -> Result<(Rows, Form, Form), TableauStop>
+        requires row { row < length self.now.rows.rows }
+        requires going { self.now.rows.stopped ≡ None }
+        ensures { TiesParts self.now.rows result (tied_run self.now.rows.unknowns self.now.rows.parameters
+            (row_at self.now.rows.rows row) divisor form.now) }
+    {
+        let mut rows = match self.rows.widened(alloc) {
+            Err(_) => return Err(TableauStop::NoMemory),
+            Ok(rows) => rows,
+        };
+        match rows.cut(row, Some(self.rows.parameters())) {
+            Err(stop) => return Err(stop),
+            Ok(()) => {}
+        }
+        let low = match at_least(alloc, divisor, form) {
+            Err(FormStop::NoMemory) => return Err(TableauStop::NoMemory),
+            Err(FormStop::Wide(wide)) => return Err(TableauStop::Wide(wide)),
+            Ok(low) => low,
+        };
+        match under(alloc, divisor, form) {
+            Err(FormStop::NoMemory) => Err(TableauStop::NoMemory),
+            Err(FormStop::Wide(wide)) => Err(TableauStop::Wide(wide)),
+            Ok(high) => Ok((rows, low, high)),
+        }
+    }
+
+    // The node over one parameter more, with these rows and the two forms that tie the parameter.
+    fn bind(
+        &mut self,
+        alloc: Global,
+        rows: Rows,
+        form: &Form,
+        divisor: i128,
+        low: Form,
+        high: Form,
+    ) -> Result<(), AllocError>
+        ensures { BindsOn self.old rows form.now divisor low high self.new result }
+    {
+        let mut context = match longer_forms(alloc, &self.context) {
+            Err(error) => return Err(error),
+            Ok(context) => context,
+        };
+        match context.push(low) {
+            Err(_) => return Err(AllocError),
+            Ok(()) => {}
+        }
+        match context.push(high) {
+            Err(_) => return Err(AllocError),
+            Ok(()) => {}
+        }
+        let form = match form.copy() {
+            Err(_) => return Err(AllocError),
+            Ok(form) => form,
+        };
+        let place = self.rows.parameters();
+        let bound = Bound {
+            form,
+            divisor,
+            place,
+        };
+        match self.bounds.insert(0, bound) {
+            Err(_) => Err(AllocError),
+            Ok(()) => {
+                self.begins = false;
+                self.rows = rows;
+                self.context = context;
+                Ok(())
+            }
+        }
+    }
+
+    // The side of a split on which a form is at least 0, as a node of its own.
+    fn side(&self, alloc: Global, form: Form) -> Result<Tableau, AllocError>
+        ensures node { IfOk result (λ t. node_of t ≡ side (node_of self.now) form) }
+        ensures rows { IfOk result (λ t. t.rows ≡ self.now.rows) }
+    {
+        let rows = match self.rows.copy(alloc) {
+            Err(error) => return Err(error),
+            Ok(rows) => rows,
+        };
+        let mut context = match copies(alloc, &self.context) {
+            Err(error) => return Err(error),
+            Ok(context) => context,
+        };
+        match context.push(form) {
+            Err(_) => return Err(AllocError),
+            Ok(()) => {}
+        }
+        let bounds = match copied_bounds(alloc, &self.bounds) {
+            Err(error) => return Err(error),
+            Ok(bounds) => bounds,
+        };
+        Ok(Tableau {
+            begins: true,
+            rows,
+            context,
+            bounds,
+        })
+    }
+}
