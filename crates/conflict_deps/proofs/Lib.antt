@@ -1,0 +1,7 @@
+pub mod Orders
+pub mod Sides
+pub mod Pairs
+pub mod Sources
+pub mod Shapes
+pub mod Gathering
+pub mod Kernels

@@ -1,0 +1,24 @@
+use Rattle.std.proofs.Common.{◌++◌, ap, sym, ◌∙◌}
+use Rattle.std.specs.List.{flat_map}
+use Rattle.conflict_deps.specs.Conflicts.{deps_between, sides_of}
+use Rattle.conflict_deps.specs.View.{side_of}
+use Rattle.conflict_deps.proofs.Gathering.{statement_has, statements_step}
+use Rattle.conflict_deps.proofs.deps.push_from_access.Goals as goal
+
+pub push_to_statement-requires-clause-statement : goal.push_to_statement-requires-clause-statement
+push_to_statement-requires-clause-statement c =
+    statement_has c.args.model.now.parameters c.statements-statement-items.result.now c.loop-statement.statement-index
+    c.statement-item.result c.statements-statement-items.ensures.parameters c.statement-item.is
+    c.loop-statement-test.true
+    ∙ sym c.parameters-parameters.ensures.parameters
+
+pub loop-statement-preserved : goal.loop-statement-preserved
+loop-statement-preserved c =
+    let m = c.args.model.now.parameters in
+    let s = side_of c.args.source.now in
+    statements_step (deps_between m s) c.statements-statement-items.result.now c.loop-statement.statement-index
+    c.statement-item.result c.loop-statement.deps.items c.push_to_statement.new.deps.items
+    (c.args.deps.now.items ++ flat_map (deps_between m s) (flat_map sides_of c.statements-statement-items.result.now))
+    c.statement-item.is c.loop-statement-test.true c.loop-statement.invariant
+    (c.in_ok-push_to_statement.ensures ∙ ap (λ k. c.loop-statement.deps.items ++ flat_map (deps_between k s)
+    (sides_of c.statement-item.result)) c.parameters-parameters.ensures.parameters)

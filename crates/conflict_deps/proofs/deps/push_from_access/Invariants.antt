@@ -1,0 +1,12 @@
+use Rattle.std.proofs.Common.{◌≡◌, ◌++◌, drop}
+use Rattle.std.specs.List.{flat_map}
+use Rattle.conflict_deps.specs.Conflicts.{deps_between, sides_of}
+use Rattle.conflict_deps.specs.View.{side_of}
+use Rattle.conflict_deps.proofs.deps.push_from_access.Given as goal
+
+abbrev pub invariant-loop-statement : goal.invariant-loop-statement
+invariant-loop-statement l =
+    l.deps.items ++ flat_map (deps_between l.model.parameters (side_of l.source))
+    (flat_map sides_of (drop l.statement-index l.statement-items))
+    ≡ l.fn.deps.items ++ flat_map (deps_between l.model.parameters (side_of l.source)) (flat_map sides_of
+    l.statement-items)

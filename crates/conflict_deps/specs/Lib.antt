@@ -1,0 +1,4 @@
+pub mod Conflicts
+pub mod Pairs
+pub mod View
+pub mod Examples

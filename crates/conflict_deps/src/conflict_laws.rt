@@ -1,0 +1,33 @@
+//! The law of the conflicts, as the contract of a function that does nothing.
+ghost use Rattle.std.specs.Prelude.{◌≡◌, ℕ, ℤ, List, length};
+ghost use Rattle.whole_numbers.specs.Lists.{NotNegative};
+ghost use Rattle.scop_syntax.specs.Cells.{PlacesConflict};
+ghost use Rattle.scop_syntax.specs.Kernel.{IsKernel};
+ghost use Rattle.scop_syntax.specs.Tree.{Program};
+ghost use Rattle.scop_syntax.specs.Walk.{walk_of};
+ghost use Rattle.iteration_domains.specs.Dependence.{Dependence};
+ghost use Rattle.conflict_deps.specs.Pairs.{IsEnd, IsPair, IsPoint};
+
+use scop_syntax::walk_laws::{
+    instances_are_those_of_statements, statements_are_numbered, walks_are_in_order,
+};
+
+/// Where no parameter is negative, the whole points of all systems together are exactly the pairs of conflicting
+/// places, the earlier first, and each pair of accesses at two instances is a point of one system only.
+pub fn conflicts_are_the_points_of_the_systems()
+    ensures points { (program : Program) (params : List ℤ) (dep : Dependence) (xs ys : List ℤ) → IsKernel program
+        → length params ≡ length program.parameters → IsPoint program params dep xs ys
+        → (i : ℕ) × (j : ℕ) × IsPair program params dep xs ys i j }
+    ensures conflicts { (program : Program) (params : List ℤ) (i j : ℕ)
+        (c : PlacesConflict (walk_of program params) i j) → length params ≡ length program.parameters
+        → NotNegative params → (dep : Dependence) × IsPoint program params dep c.earlier.turns c.later.turns
+        × IsEnd dep.source c.earlier c.first × IsEnd dep.target c.later c.second }
+    ensures one { (program : Program) (params : List ℤ) (dep other : Dependence) (xs ys : List ℤ)
+        → IsPoint program params dep xs ys → IsPoint program params other xs ys
+        → dep.source.statement ≡ other.source.statement → dep.source.access ≡ other.source.access
+        → dep.target.statement ≡ other.target.statement → dep.target.access ≡ other.target.access → dep ≡ other }
+{
+    instances_are_those_of_statements();
+    statements_are_numbered();
+    walks_are_in_order();
+}

@@ -1,0 +1,363 @@
+//! The dependences between accesses, in their order.
+ghost use Rattle.std.specs.Prelude.{◌≡◌, ◌+◌, ◌<◌, ◌≤◌, ◌++◌, ◌∷◌, [], IfOk, IsTrue, OnOk, map};
+ghost use Rattle.std.specs.List.{flat_map};
+ghost use Rattle.scop_syntax.specs.Order.{common};
+ghost use Rattle.conflict_deps.specs.Conflicts.{afters_of, cell_rows, conflicts_of, dep_of, deps_between, end_of};
+ghost use Rattle.conflict_deps.specs.Conflicts.{loops_of};
+ghost use Rattle.conflict_deps.specs.Conflicts.{may_conflict, pair_size, parameter_rows};
+ghost use Rattle.conflict_deps.specs.Conflicts.{sides_in, sides_of, source_rows, target_rows};
+ghost use Rattle.conflict_deps.specs.View.{CanPair, GainsTests, ShowsTests, order_at, side_of};
+
+use crate::forms::{
+    push_equal_turns, push_later_turn, push_parameters, push_sources, push_subscripts, push_targets,
+};
+use affine_forms::Form;
+use integer_sets::System;
+use iteration_domains::{AccessForms, Dep, DepEnd, Model, StatementModel};
+use std::alloc::{AllocError, Global};
+
+/// An access of a statement, with its number.
+#[derive(Debug, Drop)]
+pub struct AccessOf<'a> {
+    pub statement: &'a StatementModel,
+    pub number: usize,
+    pub access: &'a AccessForms,
+}
+
+/// A system's equalities and rows while they are put together.
+#[derive(Debug, Drop)]
+pub struct PairRows {
+    pub equalities: Vec<Form>,
+    pub rows: Vec<Form>,
+}
+
+/// How many loops two statements have in common.
+fn common_loops(first: &[usize], second: &[usize]) -> usize
+    ensures { result ≡ common first.now second.now }
+{
+    for at in 0..first.len() {
+        if at >= second.len() {
+            return at;
+        }
+        if first[at] != second[at] {
+            return at;
+        }
+    }
+    first.len()
+}
+
+/// Whether the accesses are to one array, and one of them writes.
+fn can_conflict(source: &AccessOf, target: &AccessOf) -> bool
+    ensures { result ≡ may_conflict (side_of source.now) (side_of target.now) }
+{
+    let first = source.access;
+    let second = target.access;
+    first.array == second.array && (source.number == 0 || target.number == 0)
+}
+
+/// That both instances run.
+fn both_domains(
+    alloc: Global,
+    parameters: usize,
+    source: &AccessOf,
+    target: &AccessOf,
+) -> Result<PairRows, AllocError>
+    requires source { CanPair parameters (side_of source.now) }
+    requires target { CanPair parameters (side_of target.now) }
+    ensures { IfOk result (λ rows.
+        ShowsTests (pair_size parameters (side_of source.now) (side_of target.now)) rows
+        (source_rows (side_of source.now) (side_of target.now)
+        ++ target_rows (side_of source.now) (side_of target.now))) }
+{
+    let first = source.statement.domain();
+    let second = target.statement.domain();
+    let loops = first.dimensions();
+    let others = second.dimensions();
+    let mut equalities = Vec::new(alloc);
+    let mut rows = Vec::new(alloc);
+    push_sources(&mut equalities, alloc, first.equalities(), loops, others)?;
+    push_targets(&mut equalities, alloc, second.equalities(), loops)?;
+    push_sources(&mut rows, alloc, first.rows(), loops, others)?;
+    push_targets(&mut rows, alloc, second.rows(), loops)?;
+    Ok(PairRows { equalities, rows })
+}
+
+/// And touch one cell.
+fn push_cell(
+    rows: &mut PairRows,
+    alloc: Global,
+    parameters: usize,
+    source: &AccessOf,
+    target: &AccessOf,
+) -> Result<(), AllocError>
+    requires source { CanPair parameters (side_of source.now) }
+    requires target { CanPair parameters (side_of target.now) }
+    ensures { OnOk result (GainsTests (pair_size parameters (side_of source.now) (side_of target.now)) rows.old rows.new
+        (cell_rows (side_of source.now) (side_of target.now))) }
+{
+    let loops = source.statement.domain().dimensions();
+    let others = target.statement.domain().dimensions();
+    let first = source.access;
+    let second = target.access;
+    push_subscripts(
+        &mut rows.equalities,
+        alloc,
+        first.subscripts.as_slice(),
+        second.subscripts.as_slice(),
+        loops,
+        others,
+        parameters,
+    )?;
+    Ok(())
+}
+
+/// And the turns of the outermost `equal` loops are equal, where the source has `loops` turns, and of the next loop the
+/// target's is later, if `later`.
+fn push_order(
+    rows: &mut PairRows,
+    alloc: Global,
+    variables: usize,
+    loops: usize,
+    equal: usize,
+    later: bool,
+) -> Result<(), AllocError>
+    requires equal { loops + equal ≤ variables }
+    requires later { IsTrue later → loops + equal < variables }
+    ensures { OnOk result (GainsTests variables rows.old rows.new (order_at variables loops equal later).rows) }
+{
+    push_equal_turns(&mut rows.equalities, alloc, variables, loops, equal)?;
+    if later {
+        push_later_turn(&mut rows.rows, alloc, variables, loops, equal)?;
+    }
+    Ok(())
+}
+
+/// And no parameter is negative.
+fn push_up(
+    rows: &mut PairRows,
+    alloc: Global,
+    parameters: usize,
+    source: &AccessOf,
+    target: &AccessOf,
+) -> Result<(), AllocError>
+    requires source { loops_of (side_of source.now) ≤ 5 }
+    requires target { loops_of (side_of target.now) ≤ 5 }
+    requires few { parameters ≤ 4 }
+    ensures { OnOk result (GainsTests (pair_size parameters (side_of source.now) (side_of target.now)) rows.old rows.new
+        (parameter_rows parameters (side_of source.now) (side_of target.now))) }
+{
+    let loops = source.statement.domain().dimensions();
+    let others = target.statement.domain().dimensions();
+    push_parameters(&mut rows.rows, alloc, loops + others, parameters)?;
+    Ok(())
+}
+
+/// The end of a dependence.
+fn end(side: &AccessOf) -> DepEnd
+    ensures { result ≡ end_of (side_of side.now) }
+{
+    DepEnd {
+        statement: side.statement.number(),
+        loops: side.statement.domain().dimensions(),
+        access: side.number,
+    }
+}
+
+/// The dependence by which the turns of `equal` common loops are equal, and the next one is later or the text decides.
+fn dep_between(
+    alloc: Global,
+    parameters: usize,
+    source: &AccessOf,
+    target: &AccessOf,
+    equal: usize,
+    later: bool,
+) -> Result<Dep, AllocError>
+    requires source { CanPair parameters (side_of source.now) }
+    requires target { CanPair parameters (side_of target.now) }
+    requires few { parameters ≤ 4 }
+    requires equal { equal ≤ loops_of (side_of target.now) }
+    requires later { IsTrue later → equal < loops_of (side_of target.now) }
+    ensures { IfOk result (λ dep. dep ≡ dep_of parameters (side_of source.now) (side_of target.now)
+        (order_at (pair_size parameters (side_of source.now) (side_of target.now)) (loops_of (side_of source.now))
+        equal later)) }
+{
+    let first = source.statement.domain().dimensions();
+    let dimensions = first + target.statement.domain().dimensions();
+    let mut rows = both_domains(alloc, parameters, source, target)?;
+    push_cell(&mut rows, alloc, parameters, source, target)?;
+    push_order(
+        &mut rows,
+        alloc,
+        dimensions + parameters,
+        first,
+        equal,
+        later,
+    )?;
+    push_up(&mut rows, alloc, parameters, source, target)?;
+    let system = System::from_parts(dimensions, parameters, rows.equalities, rows.rows);
+    Ok(Dep {
+        source: end(source),
+        target: end(target),
+        depth: equal + 1,
+        system,
+    })
+}
+
+/// Appends that dependence.
+fn push_dep(
+    deps: &mut Vec<Dep>,
+    alloc: Global,
+    parameters: usize,
+    source: &AccessOf,
+    target: &AccessOf,
+    equal: usize,
+    later: bool,
+) -> Result<(), AllocError>
+    requires source { CanPair parameters (side_of source.now) }
+    requires target { CanPair parameters (side_of target.now) }
+    requires few { parameters ≤ 4 }
+    requires equal { equal ≤ loops_of (side_of target.now) }
+    requires later { IsTrue later → equal < loops_of (side_of target.now) }
+    ensures { OnOk result (deps.new.items
+        ≡ deps.old.items ++ dep_of parameters (side_of source.now) (side_of target.now)
+        (order_at (pair_size parameters (side_of source.now) (side_of target.now)) (loops_of (side_of source.now))
+        equal later) ∷ []) }
+{
+    let dep = dep_between(alloc, parameters, source, target, equal, later)?;
+    match deps.push(dep) {
+        Err(_) => Err(AllocError),
+        Ok(()) => Ok(()),
+    }
+}
+
+/// Appends the dependences from one access to another, by depth.
+fn push_depths(
+    deps: &mut Vec<Dep>,
+    alloc: Global,
+    parameters: usize,
+    source: &AccessOf,
+    target: &AccessOf,
+) -> Result<(), AllocError>
+    requires source { CanPair parameters (side_of source.now) }
+    requires target { CanPair parameters (side_of target.now) }
+    requires few { parameters ≤ 4 }
+    ensures { OnOk result (deps.new.items ≡ deps.old.items
+        ++ map (dep_of parameters (side_of source.now) (side_of target.now))
+        (afters_of parameters (side_of source.now) (side_of target.now))) }
+{
+    let common = common_loops(source.statement.loops(), target.statement.loops());
+    for equal in 0..common {
+        push_dep(deps, alloc, parameters, source, target, equal, true)?;
+    }
+    if source.statement.number() < target.statement.number() {
+        push_dep(deps, alloc, parameters, source, target, common, false)?;
+    }
+    Ok(())
+}
+
+/// Appends the dependences from one access to another, if one of them writes what the other touches.
+fn push_between(
+    deps: &mut Vec<Dep>,
+    alloc: Global,
+    parameters: usize,
+    source: &AccessOf,
+    target: &AccessOf,
+) -> Result<(), AllocError>
+    requires source { CanPair parameters (side_of source.now) }
+    requires target { CanPair parameters (side_of target.now) }
+    requires few { parameters ≤ 4 }
+    ensures { OnOk result (deps.new.items
+        ≡ deps.old.items ++ deps_between parameters (side_of source.now) (side_of target.now)) }
+{
+    if can_conflict(source, target) {
+        push_depths(deps, alloc, parameters, source, target)
+    } else {
+        Ok(())
+    }
+}
+
+/// Appends the dependences from an access to those of a statement.
+fn push_to_statement(
+    deps: &mut Vec<Dep>,
+    alloc: Global,
+    parameters: usize,
+    source: &AccessOf,
+    statement: &StatementModel,
+) -> Result<(), AllocError>
+    requires source { CanPair parameters (side_of source.now) }
+    requires statement { statement.now.domain.parameters ≡ parameters }
+    requires few { parameters ≤ 4 }
+    ensures { OnOk result (deps.new.items
+        ≡ deps.old.items ++ flat_map (deps_between parameters (side_of source.now)) (sides_of statement.now)) }
+{
+    let accesses = statement.accesses();
+    let _loops = statement.loops();
+    for number in 0..accesses.len() {
+        let target = AccessOf {
+            statement,
+            number,
+            access: &accesses[number],
+        };
+        push_between(deps, alloc, parameters, source, &target)?;
+    }
+    Ok(())
+}
+
+/// Appends the dependences from an access to all.
+fn push_from_access(
+    deps: &mut Vec<Dep>,
+    alloc: Global,
+    model: &Model,
+    source: &AccessOf,
+) -> Result<(), AllocError>
+    requires { CanPair model.now.parameters (side_of source.now) }
+    ensures { OnOk result (deps.new.items ≡ deps.old.items
+        ++ flat_map (deps_between model.now.parameters (side_of source.now)) (sides_in model.now)) }
+{
+    let parameters = model.parameters();
+    for statement in model.statements() {
+        push_to_statement(deps, alloc, parameters, source, statement)?;
+    }
+    Ok(())
+}
+
+/// Appends the dependences from the accesses of a statement.
+fn push_from_statement(
+    deps: &mut Vec<Dep>,
+    alloc: Global,
+    model: &Model,
+    statement: &StatementModel,
+) -> Result<(), AllocError>
+    requires { statement.now.domain.parameters ≡ model.now.parameters }
+    ensures { OnOk result (deps.new.items ≡ deps.old.items
+        ++ flat_map (λ s. flat_map (deps_between model.now.parameters s) (sides_in model.now))
+        (sides_of statement.now)) }
+{
+    let accesses = statement.accesses();
+    let _loops = statement.loops();
+    for number in 0..accesses.len() {
+        let source = AccessOf {
+            statement,
+            number,
+            access: &accesses[number],
+        };
+        push_from_access(deps, alloc, model, &source)?;
+    }
+    Ok(())
+}
+
+/// The dependences of a model: one for each ordered pair of accesses to one array of which one writes, and each depth
+/// at which the target may come after the source; by source statement, its access, target statement, its access and
+/// depth.
+///
+/// # Errors
+/// `AllocError` alone.
+pub fn conflicts(alloc: Global, model: &Model) -> Result<Vec<Dep>, AllocError>
+    ensures { IfOk result (λ deps. deps.items ≡ conflicts_of model.now) }
+{
+    let mut deps = Vec::new(alloc);
+    for statement in model.statements() {
+        push_from_statement(&mut deps, alloc, model, statement)?;
+    }
+    Ok(deps)
+}

@@ -1,0 +1,237 @@
+//! Forms over the variables of a pair of instances: the source's turns, the target's, and the parameters.
+ghost use Rattle.std.specs.Prelude.{◌≡◌, ◌+◌, ◌<◌, ◌≤◌, ◌++◌, ◌∷◌, [], All, IfOk, OnOk, length, map};
+ghost use Rattle.affine_forms.specs.Parts.{variables_of};
+ghost use Rattle.iteration_domains.specs.Constraints.{equalities_in};
+ghost use Rattle.iteration_domains.specs.Rows.{variables};
+ghost use Rattle.iteration_domains.specs.Sizes.{IsNarrow};
+ghost use Rattle.whole_numbers.specs.Affine.{form_of};
+ghost use Rattle.whole_numbers.specs.Lists.{zeros};
+ghost use Rattle.conflict_deps.specs.Conflicts.{difference_of_forms, equal_turns, one_form, same_subscripts};
+ghost use Rattle.conflict_deps.specs.Conflicts.{source_form, spread, step, target_form};
+
+use affine_forms::{Form, INLINE};
+use iteration_domains::{plus_multiple, push_form, variable_form};
+use smallvec::SmallVec;
+use std::alloc::{AllocError, Global};
+
+/// A row's coefficients while they are put together.
+type Numbers = SmallVec<i128, INLINE>;
+
+/// Appends zeros.
+fn push_zeros(numbers: &mut Numbers, count: usize) -> Result<(), AllocError>
+    ensures { OnOk result (numbers.new.items ≡ numbers.old.items ++ zeros count) }
+{
+    for place in 0..count {
+        match numbers.push(0) {
+            Err(_) => return Err(AllocError),
+            Ok(()) => {}
+        }
+    }
+    Ok(())
+}
+
+/// The form with these numbers.
+fn form_from(alloc: Global, coefficients: &[i128], constant: i128) -> Result<Form, AllocError>
+    ensures { IfOk result (λ f. f ≡ form_of coefficients.now constant) }
+{
+    match Form::of(alloc, coefficients, constant) {
+        Err(_) => Err(AllocError),
+        Ok(form) => Ok(form),
+    }
+}
+
+/// The coefficients of a form of the source, which has `loops` turns, where the target has `others`.
+fn spread_numbers(
+    alloc: Global,
+    numbers: &[i128],
+    loops: usize,
+    others: usize,
+) -> Result<Numbers, AllocError>
+    requires { loops ≤ length numbers.now }
+    ensures { IfOk result (λ all. all.items ≡ spread others loops numbers.now) }
+{
+    let mut coefficients = Numbers::new(alloc);
+    coefficients.extend_from_slice(&numbers[..loops])?;
+    push_zeros(&mut coefficients, others)?;
+    coefficients.extend_from_slice(&numbers[loops..])?;
+    Ok(coefficients)
+}
+
+/// That form.
+fn spread_source(
+    alloc: Global,
+    form: &Form,
+    loops: usize,
+    others: usize,
+) -> Result<Form, AllocError>
+    requires { loops ≤ variables_of form.now }
+    ensures { IfOk result (λ f. f ≡ source_form loops others form.now) }
+{
+    let coefficients = spread_numbers(alloc, form.coefficients(), loops, others)?;
+    form_from(alloc, coefficients.as_slice(), form.constant())
+}
+
+/// A form of the target, where the source has `loops` turns.
+fn shift_target(alloc: Global, form: &Form, loops: usize) -> Result<Form, AllocError>
+    ensures { IfOk result (λ f. f ≡ target_form loops form.now) }
+{
+    let mut coefficients = Numbers::new(alloc);
+    push_zeros(&mut coefficients, loops)?;
+    coefficients.extend_from_slice(form.coefficients())?;
+    form_from(alloc, coefficients.as_slice(), form.constant())
+}
+
+/// Appends forms of the source.
+pub fn push_sources(
+    out: &mut Vec<Form>,
+    alloc: Global,
+    forms: &[Form],
+    loops: usize,
+    others: usize,
+) -> Result<(), AllocError>
+    requires { All (λ f. loops ≤ variables_of f) forms.now }
+    ensures { OnOk result (out.new.items ≡ out.old.items ++ map (source_form loops others) forms.now) }
+{
+    for form in forms {
+        let spread = spread_source(alloc, form, loops, others)?;
+        push_form(out, spread)?;
+    }
+    Ok(())
+}
+
+/// Appends forms of the target.
+pub fn push_targets(
+    out: &mut Vec<Form>,
+    alloc: Global,
+    forms: &[Form],
+    loops: usize,
+) -> Result<(), AllocError>
+    ensures { OnOk result (out.new.items ≡ out.old.items ++ map (target_form loops) forms.now) }
+{
+    for form in forms {
+        let shifted = shift_target(alloc, form, loops)?;
+        push_form(out, shifted)?;
+    }
+    Ok(())
+}
+
+/// Source's subscript minus target's.
+fn subscript_difference(
+    alloc: Global,
+    first: &Form,
+    second: &Form,
+    loops: usize,
+    others: usize,
+    parameters: usize,
+) -> Result<Form, AllocError>
+    requires first { IsNarrow (loops + parameters) first.now }
+    requires second { IsNarrow (others + parameters) second.now }
+    ensures { IfOk result
+        (λ f. f ≡ difference_of_forms (source_form loops others first.now) (target_form loops second.now)) }
+{
+    let source = spread_source(alloc, first, loops, others)?;
+    let target = shift_target(alloc, second, loops)?;
+    plus_multiple(&source, -1, &target)
+}
+
+/// Appends that the subscripts are equal.
+pub fn push_subscripts(
+    out: &mut Vec<Form>,
+    alloc: Global,
+    first: &[Form],
+    second: &[Form],
+    loops: usize,
+    others: usize,
+    parameters: usize,
+) -> Result<(), AllocError>
+    requires first { All (IsNarrow (loops + parameters)) first.now }
+    requires second { All (IsNarrow (others + parameters)) second.now }
+    ensures { OnOk result (out.new.items
+        ≡ out.old.items ++ equalities_in (same_subscripts loops others first.now second.now)) }
+{
+    for at in 0..first.len() {
+        if at >= second.len() {
+            return Ok(());
+        }
+        let equality = subscript_difference(
+            alloc,
+            &first[at],
+            &second[at],
+            loops,
+            others,
+            parameters,
+        )?;
+        push_form(out, equality)?;
+    }
+    Ok(())
+}
+
+/// Target's turn minus source's of loop `at`, counted from 0, where the source has `loops` turns.
+fn turn_difference(
+    alloc: Global,
+    variables: usize,
+    loops: usize,
+    at: usize,
+) -> Result<Form, AllocError>
+    requires { loops + at < variables }
+    ensures { IfOk result (λ f. f ≡ step variables loops at) }
+{
+    let target = variable_form(alloc, variables, loops + at)?;
+    let source = variable_form(alloc, variables, at)?;
+    plus_multiple(&target, -1, &source)
+}
+
+/// Appends that the turns of the outermost `count` loops are equal.
+pub fn push_equal_turns(
+    out: &mut Vec<Form>,
+    alloc: Global,
+    variables: usize,
+    loops: usize,
+    count: usize,
+) -> Result<(), AllocError>
+    requires { loops + count ≤ variables }
+    ensures { OnOk result (out.new.items ≡ out.old.items ++ equalities_in (equal_turns variables loops count)) }
+{
+    for at in 0..count {
+        let equality = turn_difference(alloc, variables, loops, at)?;
+        push_form(out, equality)?;
+    }
+    Ok(())
+}
+
+/// Appends that the target's turn of loop `at` is later.
+pub fn push_later_turn(
+    out: &mut Vec<Form>,
+    alloc: Global,
+    variables: usize,
+    loops: usize,
+    at: usize,
+) -> Result<(), AllocError>
+    requires { loops + at < variables }
+    ensures { OnOk result (out.new.items
+        ≡ out.old.items ++ difference_of_forms (step variables loops at) (one_form variables) ∷ []) }
+{
+    let difference = turn_difference(alloc, variables, loops, at)?;
+    let mut coefficients = Numbers::new(alloc);
+    push_zeros(&mut coefficients, variables)?;
+    let one = form_from(alloc, coefficients.as_slice(), 1)?;
+    let row = plus_multiple(&difference, -1, &one)?;
+    push_form(out, row)
+}
+
+/// Appends that no parameter is negative: they stand behind `before` turns.
+pub fn push_parameters(
+    out: &mut Vec<Form>,
+    alloc: Global,
+    before: usize,
+    parameters: usize,
+) -> Result<(), AllocError>
+    requires { before + parameters ≤ 16 }
+    ensures { OnOk result (out.new.items ≡ out.old.items ++ variables (before + parameters) before parameters) }
+{
+    let count = before + parameters;
+    for at in before..count {
+        push_form(out, variable_form(alloc, count, at)?)?;
+    }
+    Ok(())
+}

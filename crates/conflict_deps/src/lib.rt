@@ -1,0 +1,17 @@
+//! Conflicts of a kernel's accesses as systems of whole numbers: which instance may have to run before which.
+//! Promises that the list is exactly that of specs/Conflicts.antt, that where no parameter is negative the whole
+//! points of its systems are exactly the pairs of conflicting places, the earlier first, each in one system only
+//! (`conflict_laws`), and that a read's earlier writers are the points of the systems from writes to it
+//! (`source_laws`).
+//! Feautrier, "Dataflow analysis of array and scalar references" (1991).
+#![tactic(auto)]
+
+pub mod conflict_laws;
+mod deps;
+mod forms;
+pub mod source_laws;
+#[cfg(test)]
+mod tests;
+mod worked_rows;
+
+pub use deps::conflicts;

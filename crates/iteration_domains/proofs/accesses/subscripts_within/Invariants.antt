@@ -1,0 +1,8 @@
+use Rattle.std.proofs.Common.{◌≡◌, ◌++◌, map, drop}
+use Rattle.whole_numbers.specs.Affine.{composed}
+use Rattle.iteration_domains.proofs.accesses.subscripts_within.Given as goal
+
+abbrev pub invariant-loop-subscript : goal.invariant-loop-subscript
+invariant-loop-subscript l =
+    l.composed.items ++ map (λ form. composed form l.forms l.variables) (drop l.subscript-index l.subscripts)
+    ≡ map (λ form. composed form l.forms l.variables) l.subscripts

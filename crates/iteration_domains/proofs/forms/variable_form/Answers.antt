@@ -1,0 +1,22 @@
+use Rattle.std.proofs.Common.{◌≡◌, ℤ, List, length, set, rules, pos, ap, ◌∙◌}
+use Rattle.std.proofs.Math.ListN.{length-set}
+use Rattle.whole_numbers.specs.Affine.{form_of}
+use Rattle.whole_numbers.specs.Lists.{zeros}
+use Rattle.affine_forms.proofs.Steps.{refill_same}
+use Rattle.affine_forms.proofs.Values.{replicate-zeros}
+use Rattle.iteration_domains.proofs.forms.variable_form.Goals as goal
+
+pub returns : goal.returns
+returns c =
+    let n = c.args.variables in
+    let at = c.args.at in
+    let made = c.in-Ok.coefficients.items in
+    let zero : made ≡ zeros n = c.in-Ok.ensures.items_if_clones_equal (search rules) ∙ replicate-zeros n in
+    let unit = set c.deref_mut.result.now at (pos 1) in
+    let sized : length unit ≡ length made = length-set c.deref_mut.result.now at (pos 1)
+    ∙ ap (λ (xs : List ℤ). length xs) c.deref_mut.ensures.value in
+    let now : c.as_slice.result.now ≡ set (zeros n) at (pos 1) =
+    c.as_slice.ensures ∙ (refill_same made unit sized
+    ∙ ap (λ (xs : List ℤ). set xs at (pos 1)) (c.deref_mut.ensures.value ∙ zero)) in
+    let form : c.in-Ok-of.form ≡ form_of c.as_slice.result.now (pos 0) = search rules in
+    form ∙ ap (λ (xs : List ℤ). form_of xs (pos 0)) now

@@ -1,0 +1,90 @@
+//! Forms of 128 bits of a kernel's affine forms, composed over other variables. Within the limits of a kernel no number
+//! on the way is too wide, so only memory may run out.
+ghost use Rattle.std.specs.Prelude.{◌≡◌, ◌+◌, ◌*◌, ◌<◌, ◌≤◌, ◌^◌, ◌++◌, ◌∷◌, [], IfOk, OnOk, unsigned_abs};
+ghost use Rattle.affine_forms.specs.Parts.{variables_of};
+ghost use Rattle.whole_numbers.specs.Affine.{composed, multiple_of_form, sum_of_forms};
+ghost use Rattle.iteration_domains.specs.Rows.{variable};
+ghost use Rattle.iteration_domains.specs.Sizes.{CanCompose, form_size};
+
+use affine_forms::{Form, FormStop, INLINE};
+use scop_syntax::tree::Aff;
+use smallvec::SmallVec;
+use std::alloc::{AllocError, Global};
+
+/// Appends a form.
+pub fn push_form(forms: &mut Vec<Form>, form: Form) -> Result<(), AllocError>
+    ensures { OnOk result (forms.new.items ≡ forms.old.items ++ form ∷ []) }
+{
+    match forms.push(form) {
+        Err(_) => Err(AllocError),
+        Ok(()) => Ok(()),
+    }
+}
+
+/// The form with these numbers.
+pub fn wide_form(alloc: Global, aff: &Aff) -> Result<Form, AllocError>
+    ensures { IfOk result (λ f. f ≡ aff.now) }
+{
+    let mut coefficients = SmallVec::<i128, INLINE>::new(alloc);
+    for coefficient in aff.coefficients.as_slice() {
+        match coefficients.push(*coefficient as i128) {
+            Err(_) => return Err(AllocError),
+            Ok(()) => {}
+        }
+    }
+    match Form::of(alloc, coefficients.as_slice(), aff.constant as i128) {
+        Err(_) => Err(AllocError),
+        Ok(form) => Ok(form),
+    }
+}
+
+/// The variable `at` of so many variables.
+pub fn variable_form(alloc: Global, variables: usize, at: usize) -> Result<Form, AllocError>
+    requires { at < variables }
+    ensures { IfOk result (λ f. f ≡ variable variables at) }
+{
+    match SmallVec::<i128, INLINE>::from_elem(alloc, 0, variables) {
+        Err(_) => Err(AllocError),
+        Ok(mut coefficients) => {
+            coefficients[at] = 1;
+            match Form::of(alloc, coefficients.as_slice(), 0) {
+                Err(_) => Err(AllocError),
+                Ok(form) => Ok(form),
+            }
+        }
+    }
+}
+
+/// `form` plus `factor` times `other`, whose numbers are small.
+pub fn plus_multiple(form: &Form, factor: i128, other: &Form) -> Result<Form, AllocError>
+    requires sized { variables_of other.now ≡ variables_of form.now }
+    requires small { form_size form.now + unsigned_abs factor * form_size other.now ≤ 2 ^ 100 }
+    ensures { IfOk result (λ f. f ≡ sum_of_forms form.now (multiple_of_form factor other.now)) }
+{
+    match form.sum_of_multiples(1, factor, other) {
+        Ok(sum) => Ok(sum),
+        Err(FormStop::Wide(_)) => unreachable!(),
+        Err(FormStop::NoMemory) => Err(AllocError),
+    }
+}
+
+/// The form over `variables` variables that puts `forms`, in order, in place of the variables of `aff`.
+pub fn compose(
+    alloc: Global,
+    aff: &Aff,
+    forms: &[Form],
+    variables: usize,
+) -> Result<Form, AllocError>
+    requires { CanCompose variables forms.now aff.now }
+    ensures form { IfOk result (λ f. f ≡ composed aff.now forms.now variables) }
+    ensures sized { IfOk result (λ f. variables_of f ≡ variables) }
+{
+    match wide_form(alloc, aff) {
+        Err(_) => Err(AllocError),
+        Ok(form) => match form.compose(forms, variables) {
+            Ok(composition) => Ok(composition),
+            Err(FormStop::Wide(_)) => unreachable!(),
+            Err(FormStop::NoMemory) => Err(AllocError),
+        },
+    }
+}

@@ -1,0 +1,21 @@
+//! Iteration domains and accesses: a kernel's statement instances as the whole points of systems over the turns of the
+//! loops round each statement and the parameters, and each access as forms over them.
+//! Promises that a model is exactly that of specs/Model.antt, that the whole points of a statement's domain are the
+//! turns of its instances in the walk, each once, and that its accesses touch the cells of the instance
+//! (`domain_laws`).
+//! Feautrier, "Dataflow analysis of array and scalar references" (1991).
+#![tactic(auto)]
+
+mod accesses;
+mod dep;
+pub mod domain_laws;
+mod forms;
+mod items;
+mod model;
+mod rows;
+mod statement;
+
+pub use dep::{Dep, DepEnd};
+pub use forms::{plus_multiple, push_form, variable_form};
+pub use model::Model;
+pub use statement::{AccessForms, StatementModel};

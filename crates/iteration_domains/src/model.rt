@@ -1,0 +1,68 @@
+//! The model of a kernel: its statements in textual order, each with its domain and its accesses.
+ghost use Rattle.std.specs.Prelude.{◌≡◌, ◌≤◌, All, IfOk};
+ghost use Rattle.scop_syntax.specs.Kernel.{IsKernel};
+ghost use Rattle.scop_syntax.specs.View.{program_of};
+ghost use Rattle.iteration_domains.specs.Model.{model_of};
+
+use crate::items::{Path, model_items};
+use crate::statement::StatementModel;
+use scop_syntax::tree::Kernel;
+use std::alloc::{AllocError, Global};
+
+/// The model of a kernel. Contracts see the plain data of specs/Model.antt.
+#[derive(Debug, Drop)]
+pub struct Model {
+    parameters: usize,
+    statements: Vec<StatementModel>,
+}
+
+impl std::marker::Model for Model {
+    ghost use Rattle.iteration_domains.specs.Model.{KernelModel, kernel_model};
+    ghost use Rattle.iteration_domains.specs.Sizes.{IsKernelModel};
+
+    ghost Value = { KernelModel };
+
+    ghost view = { λ m. kernel_model m.parameters m.statements.items };
+
+    ghost invariant = { λ m. IsKernelModel (kernel_model m.parameters m.statements.items) };
+}
+
+impl Model {
+    /// The model of `kernel`. Within the limits of a kernel no number of it is too wide.
+    ///
+    /// # Errors
+    /// `AllocError` alone.
+    pub fn of(alloc: Global, kernel: &Kernel) -> Result<Model, AllocError>
+        requires { IsKernel (program_of kernel.now) }
+        ensures { IfOk result (λ model. model ≡ model_of (program_of kernel.now)) }
+    {
+        let parameters = kernel.parameters.len();
+        let mut path = Path {
+            parameters,
+            scopes: Vec::new(alloc),
+            loops: Vec::new(alloc),
+        };
+        let mut statements = Vec::new(alloc);
+        model_items(alloc, &kernel.items, &mut path, &mut statements)?;
+        Ok(Model {
+            parameters,
+            statements,
+        })
+    }
+
+    /// How many parameters the kernel has.
+    pub fn parameters(&self) -> usize
+        ensures parameters { result ≡ self.now.parameters }
+        ensures few { result ≤ 4 }
+    {
+        self.parameters
+    }
+
+    /// The statements in textual order.
+    pub fn statements(&self) -> &[StatementModel]
+        ensures statements { result.now ≡ self.now.statements }
+        ensures parameters { All (λ s. s.domain.parameters ≡ self.now.parameters) result.now }
+    {
+        self.statements.as_slice()
+    }
+}
