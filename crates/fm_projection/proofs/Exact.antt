@@ -227,3 +227,16 @@ reduced_all_sized v i e fs he sized =
     sum_sized v (pos (unsigned_abs (coefficient_of i e)))
     (neg_ℤ (sign (coefficient_of i e) *ℤ coefficient_of i (get_or others k d)))
     (get_or others k d) e (ho k d inside) he)))
+
+eliminated_by_sized : (v i : ℕ) (o : Option (Affine × List Affine)) (es rs : List Affine) → AreSized v es
+    → AreSized v rs → first_with i es ≡ o
+    → AreSized v (eliminated_by i o es rs).0 × AreSized v (eliminated_by i o es rs).1
+eliminated_by_sized v i None es rs he hr first = (all_lowest_sized v es he, projected_sized v i rs hr)
+eliminated_by_sized v i (Some g) es rs he hr first =
+    let t = taken_sized v i es g he first in
+    (reduced_all_sized v i g.0 g.1 t.0 t.1, reduced_all_sized v i g.0 rs t.0 hr)
+
+pub eliminated_sized : (v i : ℕ) (es rs : List Affine) → AreSized v es → AreSized v rs
+    → AreSized v (eliminated i es rs).0 × AreSized v (eliminated i es rs).1
+unfolding eliminated
+eliminated_sized v i es rs he hr = eliminated_by_sized v i (first_with i es) es rs he hr refl

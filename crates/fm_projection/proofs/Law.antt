@@ -21,7 +21,7 @@ use Rattle.fm_projection.proofs.Exact.{reduced_all_run-exact, projected_sized, r
 use Rattle.fm_projection.proofs.Exact.{all_lowest_sized}
 
 -- over 1 a point satisfies a system where it satisfies it as a whole point
-whole_point : (t : Constraints) (point : List ℤ) → HoldsOver t.equalities t.rows (pos 1) point ↔ Satisfies t point
+pub whole_point : (t : Constraints) (point : List ℤ) → HoldsOver t.equalities t.rows (pos 1) point ↔ Satisfies t point
 whole_point t point = (
   λ h. (
     λ k d inside. sym (value_over-one (get_or t.equalities k d) point) ∙ h.0 k d inside,

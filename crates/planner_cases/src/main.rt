@@ -3,17 +3,22 @@
 //!
 //! A case of an elimination is `system DIMENSIONS PARAMETERS`, its lines `equality C .. CONSTANT` and then `row C ..
 //! CONSTANT`, the line `eliminate V` (variables count from 1, parameters behind dimensions), and the answer: the lines
-//! of the result and `end`, or `crowded PAIRS`, or `wide`. At a line that begins no such case, or is not what it is to
-//! be, the program prints `unknown: LINE` and ends: so it tells that it does not know the cases of domains, conflicts
-//! and Farkas rows yet.
+//! of the result and `end`, or `crowded PAIRS`, or `wide`.
+//!
+//! A case of Farkas's lemma is `dep SOURCE LOOPS TARGET LOOPS` with its system, and the answers: `legal N` and `bounded
+//! N`, each with the lines of the rows over the N unknowns and `end`; or `legal stuck KIND NUMBER`.
+//!
+//! At a line that begins no such case, or is not what it is to be, the program prints `unknown: LINE` and ends: so it
+//! tells that it does not know the cases of domains and conflicts yet.
 #![tactic(auto)]
 
+mod dependences;
 mod elimination;
-mod forms;
-mod lines;
+mod systems;
 
+use case_lines::Lines;
+use dependences::farkas_rows;
 use elimination::elimination;
-use lines::Lines;
 use std::io;
 
 fn main(rt: HostRuntime) -> io::Result<()> {
@@ -26,7 +31,12 @@ fn main(rt: HostRuntime) -> io::Result<()> {
         if lines.left() == 0 {
             return Ok(());
         }
-        if !elimination(&rt, &mut lines)? {
+        let known = if lines.begins("dep") {
+            farkas_rows(&rt, &mut lines)?
+        } else {
+            elimination(&rt, &mut lines)?
+        };
+        if !known {
             return println!(rt; "unknown: {}", lines.front());
         }
     }

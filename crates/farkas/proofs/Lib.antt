@@ -1,0 +1,10 @@
+pub mod Chains
+pub mod Steps
+pub mod Columns
+pub mod Keeping
+pub mod Leading
+pub mod Claiming
+pub mod Meaning
+pub mod Asking
+pub mod Forming
+pub mod Going

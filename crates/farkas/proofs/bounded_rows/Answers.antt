@@ -1,0 +1,12 @@
+use Rattle.farkas.specs.declared.claim.Claim.TheVariants.{Bounding}
+use Rattle.farkas.specs.Meaning.{IsFarkas, Bounds}
+use Rattle.farkas.proofs.Going.{if_ok}
+use Rattle.farkas.proofs.Meaning.{farkas-bounds}
+use Rattle.farkas.proofs.bounded_rows.Goals as goal
+
+pub returns-clause-bounds : goal.returns-clause-bounds
+returns-clause-bounds c =
+    let dep = c.args.dependence.now in
+    if_ok {P = IsFarkas Bounding dep.source dep.target dep.system} {Q = Bounds dep.source dep.target dep.system}
+    c.rows_of.result
+    (λ t farkas. farkas-bounds dep.source dep.target dep.system t farkas) c.rows_of.ensures.farkas

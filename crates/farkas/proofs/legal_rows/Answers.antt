@@ -1,0 +1,12 @@
+use Rattle.farkas.specs.declared.claim.Claim.TheVariants.{Legality}
+use Rattle.farkas.specs.Meaning.{IsFarkas, Keeps}
+use Rattle.farkas.proofs.Going.{if_ok}
+use Rattle.farkas.proofs.Meaning.{farkas-keeps}
+use Rattle.farkas.proofs.legal_rows.Goals as goal
+
+pub returns-clause-keeps : goal.returns-clause-keeps
+returns-clause-keeps c =
+    let dep = c.args.dependence.now in
+    if_ok {P = IsFarkas Legality dep.source dep.target dep.system} {Q = Keeps dep.source dep.target dep.system}
+    c.rows_of.result
+    (λ t farkas. farkas-keeps dep.source dep.target dep.system t farkas) c.rows_of.ensures.farkas

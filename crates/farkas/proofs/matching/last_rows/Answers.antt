@@ -1,0 +1,19 @@
+use Rattle.std.proofs.Common.{◌≡◌, ◌+◌, ◌-◌, ◌++◌, sym, subst, arith, pos, List}
+use Rattle.wide_math.specs.declared.Wide.{Wide}
+use Rattle.whole_numbers.specs.Affine.{Affine, form_of}
+use Rattle.fractions.specs.Farkas.{own_rows}
+use Rattle.farkas.specs.Claims.{only}
+use Rattle.farkas.proofs.Steps.{same_ok, own_rows_more}
+use Rattle.farkas.proofs.matching.last_rows.Goals as goal
+
+pub loop-at-preserved : goal.loop-at-preserved
+loop-at-preserved c =
+    let b = c.args.before in
+    let k = c.args.count in
+    let i = c.loop-at.at in
+    let form = form_of (only (b + k) (b + i) (pos 1)) (pos 0) in
+    let all = own_rows b k in
+    let row = same_ok {E = Wide} form c.in-Ok.row c.in-Ok.ensures in
+    subst (λ (zs : List Affine). zs ++ own_rows (b + (i + 1)) (k - (i + 1)) ≡ all) (sym c.in-Ok-push.ensures.items)
+    (own_rows_more (b + k) b i (k - i) (k - (i + 1)) c.loop-at.rows.items all c.in-Ok.row (omega arith) (omega arith)
+    (sym row) c.loop-at.invariant)

@@ -1,0 +1,61 @@
+use Rattle.std.proofs.Common.{rules, ◌≡◌, ◌+◌, ◌-◌, ◌++◌, ◌∷◌, [], suc, sym, subst, arith, ℕ, List, FitsSigned}
+use Rattle.std.specs.Int.{w128}
+use Rattle.std.proofs.lemmas.Int.{to_z-of_z}
+use Rattle.whole_numbers.specs.Affine.{Affine}
+use Rattle.farkas.specs.Claims.{iterators}
+use Rattle.farkas.specs.Matching.{coefficients_run}
+use Rattle.farkas.specs.Gives.{with_more}
+use Rattle.farkas.proofs.Steps.{iterators_more, iterators_fail}
+use Rattle.farkas.proofs.matching.match_iterators.Goals as goal
+
+pub returns-in-Err : goal.returns-in-Err
+returns-in-Err c =
+    let n = c.args.unknowns in
+    let first = c.args.first in
+    let k = c.args.factor in
+    let fits : FitsSigned w128 c.args.factor = search rules in
+    let d = c.loop-depth.depth in
+    let m = c.args.loops - 1 - d in
+    let s = c.args.system.now in
+    let old = c.args.equalities.now.items in
+    let front = c.loop-depth.equalities.items in
+    let run = coefficients_run c.args.variable (iterators n first k c.args.loops) s in
+    let count : c.args.loops - d ≡ suc m = omega arith in
+    let kept =
+    simp to_z-of_z at c.loop-depth.invariant in
+    let failed =
+    simp to_z-of_z at c.in-Err.ensures in
+    iterators_fail c.in-Err.stop n first k m d c.args.variable s front old run failed
+    (subst (λ (j : ℕ). with_more front (coefficients_run (c.args.variable + d) (iterators n first k j) s)
+    ≡ with_more old run) count kept)
+
+pub loop-depth-preserved : goal.loop-depth-preserved
+loop-depth-preserved c =
+    let n = c.args.unknowns in
+    let first = c.args.first in
+    let k = c.args.factor in
+    let fits : FitsSigned w128 c.args.factor = search rules in
+    let d = c.loop-depth.depth in
+    let m = c.args.loops - 1 - d in
+    let s = c.args.system.now in
+    let old = c.args.equalities.now.items in
+    let front = c.loop-depth.equalities.items in
+    let form = c.in-Ok.form in
+    let all = with_more old (coefficients_run c.args.variable (iterators n first k c.args.loops) s) in
+    let count : c.args.loops - d ≡ suc m = omega arith in
+    let left : m ≡ c.args.loops - (d + 1) = omega arith in
+    let kept =
+    simp to_z-of_z at c.loop-depth.invariant in
+    let made =
+    simp to_z-of_z at c.in-Ok.ensures in
+    let pushed : c.push.new.self.items ≡ front ++ form ∷ [] = search rules in
+    let more = iterators_more n first k m d c.args.variable s front form all made
+    (subst (λ (j : ℕ). with_more front (coefficients_run (c.args.variable + d) (iterators n first k j) s) ≡ all)
+    count kept) in
+    let next : with_more c.push.new.self.items
+    (coefficients_run (c.args.variable + (d + 1)) (iterators n first k (c.args.loops - (d + 1))) s) ≡ all =
+    subst (λ (zs : List Affine). with_more zs
+    (coefficients_run (c.args.variable + (d + 1)) (iterators n first k (c.args.loops - (d + 1))) s) ≡ all) (sym pushed)
+    (subst (λ (j : ℕ). with_more (front ++ form ∷ [])
+    (coefficients_run (c.args.variable + (d + 1)) (iterators n first k j) s) ≡ all) left more) in
+    simp to_z-of_z next

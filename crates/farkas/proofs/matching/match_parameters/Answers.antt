@@ -1,0 +1,73 @@
+use Rattle.std.proofs.Common.{rules, ◌≡◌, ◌+◌, ◌-◌, ◌<◌, ◌++◌, ◌∷◌, [], suc, sym, subst, arith, ℕ, pos, List}
+use Rattle.std.proofs.Common.{FitsSigned}
+use Rattle.std.specs.Prelude.{Ok}
+use Rattle.std.specs.Int.{w128}
+use Rattle.std.proofs.lemmas.Int.{to_z-of_z}
+use Rattle.whole_numbers.specs.Affine.{Affine}
+use Rattle.affine_forms.specs.Gives.{Fails}
+use Rattle.farkas.specs.declared.matching.Entry.TheVariants as entry
+use Rattle.farkas.specs.Claims.{only, parameters}
+use Rattle.farkas.specs.Matching.{matched_run, coefficients_run}
+use Rattle.farkas.specs.Gives.{with_more}
+use Rattle.farkas.proofs.Steps.{parameters_more, parameters_fail}
+use Rattle.farkas.proofs.matching.match_parameters.Goals as goal
+
+pub returns-in-Err : goal.returns-in-Err
+returns-in-Err c =
+    let n = c.args.unknowns in
+    let k = c.args.factor in
+    let fits : FitsSigned w128 c.args.factor = search rules in
+    let i = c.loop-place.place in
+    let s = c.args.system.now in
+    let p = s.parameters in
+    let end = c.parameters-place-end.ensures in
+    let inside : i < p = subst (λ (j : ℕ). i < j) end c.loop-place-test.true in
+    let m = p - 1 - i in
+    let old = c.args.equalities.now.items in
+    let front = c.loop-place.equalities.items in
+    let run = coefficients_run s.dimensions (parameters n 0 k p) s in
+    let count : p - i ≡ suc m = omega arith in
+    let kept =
+    simp to_z-of_z at c.loop-place.invariant in
+    let told =
+    simp to_z-of_z at c.in-Err.ensures in
+    let failed = subst (λ (j : ℕ). Fails c.in-Err.stop (matched_run (entry.Coefficient (j + i)) (only n i k) (pos 0) s))
+    c.dimensions-variable.ensures told in
+    parameters_fail c.in-Err.stop n i k m s.dimensions s front old run failed
+    (subst (λ (j : ℕ). with_more front (coefficients_run (s.dimensions + i) (parameters n i k j) s) ≡ with_more old run)
+    count kept)
+
+pub loop-place-preserved : goal.loop-place-preserved
+loop-place-preserved c =
+    let n = c.args.unknowns in
+    let k = c.args.factor in
+    let fits : FitsSigned w128 c.args.factor = search rules in
+    let i = c.loop-place.place in
+    let s = c.args.system.now in
+    let p = s.parameters in
+    let end = c.parameters-place-end.ensures in
+    let inside : i < p = subst (λ (j : ℕ). i < j) end c.loop-place-test.true in
+    let m = p - 1 - i in
+    let old = c.args.equalities.now.items in
+    let front = c.loop-place.equalities.items in
+    let form = c.in-Ok.form in
+    let all = with_more old (coefficients_run s.dimensions (parameters n 0 k p) s) in
+    let count : p - i ≡ suc m = omega arith in
+    let left : m ≡ p - (i + 1) = omega arith in
+    let kept =
+    simp to_z-of_z at c.loop-place.invariant in
+    let told =
+    simp to_z-of_z at c.in-Ok.ensures in
+    let made = subst (λ (j : ℕ). matched_run (entry.Coefficient (j + i)) (only n i k) (pos 0) s ≡ Ok form)
+    c.dimensions-variable.ensures told in
+    let pushed : c.push.new.self.items ≡ front ++ form ∷ [] = search rules in
+    let more = parameters_more n i k m s.dimensions s front form all made
+    (subst (λ (j : ℕ). with_more front (coefficients_run (s.dimensions + i) (parameters n i k j) s) ≡ all) count
+    kept) in
+    let next : with_more c.push.new.self.items
+    (coefficients_run (s.dimensions + (i + 1)) (parameters n (i + 1) k (p - (i + 1))) s) ≡ all =
+    subst (λ (zs : List Affine). with_more zs
+    (coefficients_run (s.dimensions + (i + 1)) (parameters n (i + 1) k (p - (i + 1))) s) ≡ all) (sym pushed)
+    (subst (λ (j : ℕ). with_more (front ++ form ∷ [])
+    (coefficients_run (s.dimensions + (i + 1)) (parameters n (i + 1) k j) s) ≡ all) left more) in
+    simp to_z-of_z next

@@ -1,0 +1,57 @@
+//! Where the unknowns of a dependence stand: a `u` for each parameter, `w`, and the coefficients, innermost first, and
+//! the shift of each statement in textual order.
+
+ghost use Rattle.std.specs.Prelude.{◌≡◌, ◌≤◌, ◌^◌};
+ghost use Rattle.std.specs.Option.{ForSome, IfNone};
+ghost use Rattle.farkas.specs.Unknowns.{layout_of, behind};
+
+use crate::dependence::Side;
+
+/// How many unknowns there are, and where the coefficients of source and target begin.
+#[derive(Clone, Copy)]
+pub struct Layout {
+    pub unknowns: usize,
+    pub source: usize,
+    pub target: usize,
+}
+
+/// The place behind the unknowns of a statement whose first stands at `first`.
+fn place_behind(first: usize, side: Side) -> Option<usize>
+    ensures place { ForSome result (λ place. place ≡ behind first side) }
+    ensures none { IfNone result (2 ^ 64 ≤ behind first side) }
+{
+    first.checked_add(side.loops)?.checked_add(1)
+}
+
+/// The layout; nothing where a place does not fit its type.
+#[tactic(auto, unfolding(crate::specs::Unknowns::layout_of))]
+pub fn lay_out(parameters: usize, source: Side, target: Side) -> Option<Layout>
+    ensures layout { ForSome result (λ l. l ≡ layout_of parameters source target) }
+    ensures none { IfNone result (2 ^ 64 ≤ (layout_of parameters source target).unknowns) }
+{
+    let first = parameters.checked_add(1)?;
+    if source.statement == target.statement {
+        let unknowns = place_behind(first, source)?;
+        Some(Layout {
+            unknowns,
+            source: first,
+            target: first,
+        })
+    } else if source.statement < target.statement {
+        let second = place_behind(first, source)?;
+        let unknowns = place_behind(second, target)?;
+        Some(Layout {
+            unknowns,
+            source: first,
+            target: second,
+        })
+    } else {
+        let second = place_behind(first, target)?;
+        let unknowns = place_behind(second, source)?;
+        Some(Layout {
+            unknowns,
+            source: second,
+            target: first,
+        })
+    }
+}
