@@ -1,0 +1,10 @@
+pub mod Firsts
+pub mod Sizes
+pub mod Judging
+pub mod Joining
+pub mod Views
+pub mod Resolving
+pub mod Parts
+pub mod Making
+pub mod Places
+pub mod Affines

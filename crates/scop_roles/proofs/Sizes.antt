@@ -1,0 +1,126 @@
+-- How large the numbers of sums and multiples of forms get.
+use Rattle.std.proofs.Common.{◌≡◌, ℕ, zero, suc, ◌+◌, ◌*◌, ◌^◌, ◌≤◌, ℤ, pos, negsuc, Bool, true, false, nat_le, List, [], ◌∷◌, length, get_or, set, length-set, ap, sym, ◌∙◌, refl, arith, mul-le-mul}
+use Rattle.std.specs.Prelude.{◌+ℤ◌, ◌*ℤ◌, ◌&&◌, unsigned_abs, replicate}
+use Rattle.std.specs.List.{list_all}
+use Rattle.std.proofs.lemmas.Int.{ints, unsigned_abs-mul}
+use Rattle.whole_numbers.specs.Lists.{sums, multiples, zeros}
+use Rattle.whole_numbers.specs.Affine.{Affine, form_of, sum_of_forms, multiple_of_form}
+use Rattle.whole_numbers.proofs.Dot.{length-multiples, length-sums, length-zeros}
+use Rattle.scop_syntax.specs.Kernel.{AreAtMost, IsForm, IsAffine}
+use Rattle.scop_syntax.proofs.Limits.{abs_low, abs_high, abs_at_most}
+use Rattle.scop_roles.specs.Forms.{is_small, is_within}
+
+pub replicate-zeros : (n : ℕ) → replicate n (pos 0) ≡ zeros n
+replicate-zeros zero = refl
+replicate-zeros (suc n) = ap (λ (zs : List ℤ). pos 0 ∷ zs) (replicate-zeros n)
+
+pub at_most-get : (k : ℕ) (xs : List ℤ) (i : ℕ) → AreAtMost k xs → unsigned_abs (get_or xs i (pos 0)) ≤ k
+at_most-get k [] i h = omega arith
+at_most-get k (x ∷ xs) zero h = h.0
+at_most-get k (x ∷ xs) (suc i) h = at_most-get k xs i h.1
+
+pub at_most-more : (k l : ℕ) (xs : List ℤ) → k ≤ l → AreAtMost k xs → AreAtMost l xs
+at_most-more k l [] m h = tt
+at_most-more k l (x ∷ xs) m h = let small = h.0 in (omega arith, at_most-more k l xs m h.1)
+
+pub at_most-zeros : (k n : ℕ) → AreAtMost k (zeros n)
+at_most-zeros k zero = tt
+at_most-zeros k (suc n) = (omega arith, at_most-zeros k n)
+
+pub at_most-set : (k : ℕ) (xs : List ℤ) (i : ℕ) (x : ℤ) → AreAtMost k xs → unsigned_abs x ≤ k → AreAtMost k (set xs i x)
+at_most-set k [] i x h small = tt
+at_most-set k (y ∷ xs) zero x h small = (small, h.1)
+at_most-set k (y ∷ xs) (suc i) x h small = (h.0, at_most-set k xs i x h.1 small)
+
+pub abs_add : (a b : ℤ) → unsigned_abs (a +ℤ b) ≤ unsigned_abs a + unsigned_abs b
+abs_add a b =
+    let al = abs_low a in
+    let ah = abs_high a in
+    let bl = abs_low b in
+    let bh = abs_high b in
+    abs_at_most (a +ℤ b) (unsigned_abs a + unsigned_abs b) (omega (arith, ints)) (omega (arith, ints))
+
+pub at_most-sums : (k l : ℕ) (xs ys : List ℤ) → AreAtMost k xs → AreAtMost l ys → AreAtMost (k + l) (sums xs ys)
+at_most-sums k l [] ys h g = at_most-more l (k + l) ys (omega arith) g
+at_most-sums k l (x ∷ xs) [] h g = at_most-more k (k + l) (x ∷ xs) (omega arith) h
+at_most-sums k l (x ∷ xs) (y ∷ ys) h g =
+    let a = abs_add x y in
+    let small = h.0 in
+    let other = g.0 in
+    (omega arith, at_most-sums k l xs ys h.1 g.1)
+
+pub abs_product : (a b : ℤ) (k l : ℕ) → unsigned_abs a ≤ k → unsigned_abs b ≤ l → unsigned_abs (a *ℤ b) ≤ k * l
+abs_product a b k l h g = rw (unsigned_abs-mul a b) (mul-le-mul h g)
+
+pub at_most-multiples : (f k l : ℕ) (x : ℤ) (xs : List ℤ) → unsigned_abs x ≤ f → AreAtMost k xs → f * k ≤ l
+    → AreAtMost l (multiples x xs)
+at_most-multiples f k l x [] a h m = tt
+at_most-multiples f k l x (y ∷ ys) a h m =
+    let p = abs_product x y f k a h.0 in
+    (omega arith, at_most-multiples f k l x ys a h.1 m)
+
+-- an affine form is a form within the limits of sums
+pub affine_wide : (n : ℕ) (f : Affine) → IsAffine n f → IsForm n (2 ^ 40) (2 ^ 40) f
+affine_wide n f is =
+    record {
+      entries = is.entries;
+      coefficients = at_most-more 16 (2 ^ 40) f.coefficients (omega arith) is.coefficients;
+      constant = let c = is.constant in omega arith;
+    }
+
+pub multiple_wide : (n : ℕ) (x : ℤ) (f g : Affine) → g ≡ multiple_of_form x f → unsigned_abs x ≤ 2 ^ 20
+    → IsAffine n f → IsForm n (2 ^ 40) (2 ^ 40) g
+multiple_wide n x f g e a is =
+    rw e record {
+      entries = length-multiples x f.coefficients ∙ is.entries;
+      coefficients = at_most-multiples (2 ^ 20) 16 (2 ^ 40) x f.coefficients a is.coefficients (omega arith);
+      constant = let p = abs_product x f.constant (2 ^ 20) (2 ^ 20) a is.constant in omega arith;
+    }
+
+pub sum_entries : (n k l : ℕ) (f g : Affine) → IsForm n k l f → IsForm n k l g
+    → length (sum_of_forms f g).coefficients ≡ n
+sum_entries n k l f g a b =
+    length-sums f.coefficients g.coefficients (a.entries ∙ sym b.entries) ∙ a.entries
+
+both_true : (a b : Bool) → (a && b) ≡ true → (a ≡ true) × (b ≡ true)
+both_true true true h = (refl, refl)
+both_true true false h = absurd (grind (arith, h))
+both_true false b h = absurd (grind (arith, h))
+
+-- the test of the limits says them
+all_within : (xs : List ℤ) → list_all is_small xs ≡ true → AreAtMost 16 xs
+all_within [] h = tt
+all_within (x ∷ xs) h =
+    let b = both_true (is_small x) (list_all is_small xs) h in
+    let small = b.0 in
+    (grind arith, all_within xs b.1)
+
+pub within_affine : (n : ℕ) (f : Affine) → length f.coefficients ≡ n → is_within f ≡ true → IsAffine n f
+within_affine n f e h =
+    let b = both_true (list_all is_small f.coefficients) (nat_le (unsigned_abs f.constant) (2 ^ 20)) h in
+    let small = b.1 in
+    record { entries = e; coefficients = all_within f.coefficients b.0; constant = grind arith }
+
+pub variable_affine : (n k : ℕ) → IsAffine n (form_of (set (zeros n) k (pos 1)) (pos 0))
+variable_affine n k =
+    record {
+      entries = length-set (zeros n) k (pos 1) ∙ length-zeros n;
+      coefficients = at_most-set 16 (zeros n) k (pos 1) (at_most-zeros 16 n) (omega arith);
+      constant = omega arith;
+    }
+
+pub constant_affine : (n v : ℕ) → v ≤ 2 ^ 20 → IsAffine n (form_of (zeros n) (pos v))
+constant_affine n v h =
+    record { entries = length-zeros n; coefficients = at_most-zeros 16 n; constant = omega arith }
+
+pub sums-nil : (xs : List ℤ) → sums xs [] ≡ xs
+sums-nil [] = refl
+sums-nil (x ∷ xs) = refl
+
+pub opposite_affine : (n : ℕ) (f g : Affine) → g ≡ multiple_of_form (negsuc 0) f → IsAffine n f → IsAffine n g
+opposite_affine n f g e is =
+    rw e record {
+      entries = length-multiples (negsuc 0) f.coefficients ∙ is.entries;
+      coefficients = at_most-multiples 1 16 16 (negsuc 0) f.coefficients (omega arith) is.coefficients (omega arith);
+      constant = let p = abs_product (negsuc 0) f.constant 1 (2 ^ 20) (omega arith) is.constant in omega arith;
+    }

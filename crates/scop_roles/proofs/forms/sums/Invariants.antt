@@ -1,0 +1,7 @@
+use Rattle.std.proofs.Common.{◌≡◌, ◌++◌, drop}
+use Rattle.whole_numbers.specs.Lists.{sums}
+use Rattle.scop_roles.proofs.forms.sums.Given as goal
+
+abbrev pub invariant-loop-at : goal.invariant-loop-at
+invariant-loop-at l =
+    l.totals.items ++ sums (drop l.at l.numbers) (drop l.at l.others) ≡ sums l.numbers l.others

@@ -1,0 +1,6 @@
+use Rattle.std.proofs.Common.{rules, sym}
+use Rattle.scop_roles.proofs.Sizes.{replicate-zeros}
+use Rattle.scop_roles.proofs.forms.zeros.Goals as goal
+
+pub returns : goal.returns
+returns c = rw (sym (replicate-zeros c.args.count)) (search rules)

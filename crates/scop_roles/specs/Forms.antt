@@ -1,0 +1,94 @@
+-- Which formulas are signed, which can be affine, and the affine form that they are.
+use Rattle.std.specs.Prelude.{ℕ, ◌^◌, Bool, true, false, ◌&&◌, ◌||◌, if◌then◌else◌, nat_le, ℤ, pos, negsuc, unsigned_abs, set}
+use Rattle.std.specs.List.{list_all}
+use Rattle.whole_numbers.specs.Affine.{Affine, form_of, sum_of_forms, multiple_of_form}
+use Rattle.whole_numbers.specs.Lists.{zeros}
+use Rattle.expression_grammar.specs.declared.token.Op.{Op}
+use Rattle.expression_grammar.specs.declared.token.Op.TheVariants as op
+use Rattle.expression_grammar.specs.declared.token.Sign.{Sign}
+use Rattle.expression_grammar.specs.declared.token.Sign.TheVariants as sign
+use Rattle.expression_grammar.specs.declared.token.Suffix.TheVariants as suffix
+use Rattle.scop_roles.specs.declared.formula.Meaning.{Meaning}
+use Rattle.scop_roles.specs.declared.formula.Meaning.TheVariants as meaning
+use Rattle.scop_roles.specs.Formula.{Formula, constant, name, unary, cast, binary}
+
+-- + - *
+abbrev pub is_sum_or_product : Op → Bool
+is_sum_or_product op.Plus = true
+is_sum_or_product op.Minus = true
+is_sum_or_product op.Times = true
+is_sum_or_product _ = false
+
+abbrev pub is_product : Op → Bool
+is_product op.Times = true
+is_product _ = false
+
+abbrev pub is_shift : Op → Bool
+is_shift op.ShiftLeft = true
+is_shift op.ShiftRight = true
+is_shift _ = false
+
+abbrev pub is_and : Op → Bool
+is_and op.LogicalAnd = true
+is_and _ = false
+
+abbrev pub is_minus : Sign → Bool
+is_minus sign.Minus = true
+is_minus _ = false
+
+-- < <= > >= ==
+abbrev pub is_comparison : Op → Bool
+is_comparison op.Less = true
+is_comparison op.AtMost = true
+is_comparison op.Greater = true
+is_comparison op.AtLeast = true
+is_comparison op.Equal = true
+is_comparison _ = false
+
+abbrev pub is_number : Meaning → Bool
+is_number (meaning.Variable k) = true
+is_number meaning.Closed = true
+is_number _ = false
+
+-- signed: a constant without suffix, a parameter, an iterator, and sums, differences, products and opposites of such
+-- (C17 6.3.1.8); every other value is unsigned
+abbrev pub is_signed : Formula → Bool
+is_signed (constant suffix.Absent v at) = true
+is_signed (name m at) = is_number m
+is_signed (unary s f at) = is_minus s && is_signed f
+is_signed (binary o f g at) = is_sum_or_product o && (is_signed f && is_signed g)
+is_signed _ = false
+
+-- a name stands in it
+abbrev pub has_name : Formula → Bool
+has_name (constant s v at) = false
+has_name (unary s f at) = has_name f
+has_name (cast f at) = has_name f
+has_name (binary o f g at) = has_name f || has_name g
+has_name _ = true
+
+-- a form times another, of which one is a constant
+abbrev pub product_of_forms : Bool → Affine → Affine → Affine
+product_of_forms left_has_name f g =
+    if left_has_name then multiple_of_form g.constant f else multiple_of_form f.constant g
+
+abbrev pub combined_forms : Op → Bool → Affine → Affine → Affine
+combined_forms op.Plus n f g = sum_of_forms f g
+combined_forms op.Minus n f g = sum_of_forms f (multiple_of_form (negsuc 0) g)
+combined_forms op.Times n f g = product_of_forms n f g
+combined_forms _ n f g = f
+
+-- the form over n entries that an affine formula is
+abbrev pub form : ℕ → Formula → Affine
+form n (constant s v at) = form_of (zeros n) (pos v)
+form n (name (meaning.Variable k) at) = form_of (set (zeros n) k (pos 1)) (pos 0)
+form n (unary sign.Minus f at) = multiple_of_form (negsuc 0) (form n f)
+form n (binary o f g at) = combined_forms o (has_name f) (form n f) (form n g)
+form n _ = form_of (zeros n) (pos 0)
+
+abbrev pub is_small : ℤ → Bool
+is_small c = nat_le (unsigned_abs c) 16
+
+-- coefficients up to 16 and a constant up to 2^20 in absolute value
+abbrev pub is_within : Affine → Bool
+is_within f = list_all is_small f.coefficients && nat_le (unsigned_abs f.constant) (2 ^ 20)

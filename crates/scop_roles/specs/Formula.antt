@@ -1,0 +1,80 @@
+-- Expressions with their names looked up: the syntax tree without its parentheses, each node with the place of its
+-- token among the tokens of the text.
+use Rattle.std.specs.Prelude.{ℕ, ◌+◌}
+use Rattle.expression_grammar.specs.declared.token.Op.{Op}
+use Rattle.expression_grammar.specs.declared.token.Sign.{Sign}
+use Rattle.expression_grammar.specs.declared.token.Suffix.{Suffix}
+use Rattle.expression_grammar.specs.Tree as tree
+use Rattle.scop_roles.specs.declared.formula.Meaning.{Meaning}
+use Rattle.scop_roles.specs.declared.formula.Meaning.TheVariants as meaning
+use Rattle.scop_roles.specs.declared.formula.Formula.{Formula as CodeFormula}
+use Rattle.scop_roles.specs.declared.formula.Formula.TheFolds.{fold-Formula}
+use Rattle.scop_roles.specs.declared.formula.Formula.TheOpen.{Formula-F}
+
+pub data Formula : Type 0 where
+  constant : Suffix → ℕ → ℕ → Formula
+  name : Meaning → ℕ → Formula
+  -- place [ subscript ]
+  index : Formula → Formula → Formula
+  -- name ( )
+  bare_call : Meaning → ℕ → Formula
+  -- name ( arguments ), the arguments joined by commas
+  call : Meaning → Formula → ℕ → Formula
+  unary : Sign → Formula → ℕ → Formula
+  cast : Formula → ℕ → Formula
+  binary : Op → Formula → Formula → ℕ → Formula
+
+-- what the names of a text mean where an expression stands, and what its constants are worth, by the places of tokens
+pub record Lookup : Type 0 where
+  pub meaning : ℕ → Meaning
+  pub worth : ℕ → ℕ
+
+-- the formula of a tree that begins at a place
+abbrev pub formula : Lookup → ℕ → tree.Tree → Formula
+formula look at (tree.constant s) = constant s (look.worth at) at
+formula look at tree.name = name (look.meaning at) at
+formula look at (tree.group t) = formula look (at + 1) t
+formula look at (tree.index t i) = index (formula look at t) (formula look (at + tree.size t + 1) i)
+formula look at tree.bare_call = bare_call (look.meaning at) at
+formula look at (tree.call t) = call (look.meaning at) (formula look (at + 1 + 1) t) at
+formula look at (tree.unary s t) = unary s (formula look (at + 1) t) at
+formula look at (tree.cast t) = cast (formula look (at + 1 + 1 + 1) t) at
+formula look at (tree.binary o a b) =
+    binary o (formula look at a) (formula look (at + tree.size a + 1) b) (at + tree.size a)
+
+-- where a formula is told: at its operator, else at its first token
+abbrev pub place : Formula → ℕ
+place (constant s v at) = at
+place (name m at) = at
+place (index p i) = place p
+place (bare_call m at) = at
+place (call m f at) = at
+place (unary s f at) = at
+place (cast f at) = at
+place (binary o f g at) = at
+
+-- what the name of a place means
+abbrev pub meaning_of : Formula → Meaning
+meaning_of (name m at) = m
+meaning_of (index p i) = meaning_of p
+meaning_of _ = meaning.Unknown
+
+-- how many subscripts a place has
+abbrev pub subscripts : Formula → ℕ
+subscripts (index p i) = subscripts p + 1
+subscripts _ = 0
+
+-- one level of a formula, over the views of the levels below
+abbrev pub formula_step : Formula-F Formula → Formula
+formula_step (Formula-F.Constant s v at) = constant s v at
+formula_step (Formula-F.Name m at) = name m at
+formula_step (Formula-F.Index p i) = index p.value i.value
+formula_step (Formula-F.BareCall m at) = bare_call m at
+formula_step (Formula-F.Call m f at) = call m f.value at
+formula_step (Formula-F.Unary s f at) = unary s f.value at
+formula_step (Formula-F.Cast f at) = cast f.value at
+formula_step (Formula-F.Binary o f g at) = binary o f.value g.value at
+
+-- the formula that a value of the code stands for
+abbrev pub formula_of : CodeFormula → Formula
+formula_of = fold-Formula Formula formula_step

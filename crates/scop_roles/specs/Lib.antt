@@ -1,0 +1,7 @@
+pub mod Formula
+pub mod Forms
+pub mod Faults
+pub mod Values
+pub mod Judgement
+pub mod Resolving
+pub mod Scope

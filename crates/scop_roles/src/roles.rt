@@ -1,0 +1,325 @@
+//! The role of each part of a formula, and what is wrong with a node whose parts have no fault.
+ghost use Rattle.std.specs.Prelude.{◌≡◌, ℕ, ◌+◌, ◌==◌};
+ghost use Rattle.scop_roles.specs.Faults.{called, cast_role, joins_condition, named, operand_role, only_where, or_else, other_role, own, own_free_operator, own_operator, rank, side_role, term_role};
+ghost use Rattle.scop_roles.specs.Formula.{Formula as Tree, bare_call, call, cast, constant, index, meaning_of, name, subscripts, unary};
+ghost use Rattle.scop_roles.specs.Forms.{is_and, is_comparison, is_minus, is_number, is_product, is_shift, is_signed, is_sum_or_product};
+ghost use Rattle.scop_roles.specs.Judgement.{own_joined};
+ghost use Rattle.scop_roles.specs.declared.fault.Kind.TheVariants as kind;
+ghost use Rattle.scop_roles.specs.declared.formula.Meaning.{Meaning};
+
+use crate::fault::{Kind, only_where};
+use crate::formula::{Meaning, Role};
+use expression_grammar::token::{Op, Sign, Suffix};
+
+/// The largest constant of an affine form, and the largest coefficient.
+pub const MOST_CONSTANT: u64 = 1 << 20;
+
+pub const MOST_COEFFICIENT: u64 = 16;
+
+// + - *
+pub(crate) fn is_sum_or_product(op: Op) -> bool
+    ensures { result ≡ is_sum_or_product op }
+{
+    match op {
+        Op::Plus | Op::Minus | Op::Times => true,
+        _ => false,
+    }
+}
+
+pub(crate) fn is_product(op: Op) -> bool
+    ensures { result ≡ is_product op }
+{
+    match op {
+        Op::Times => true,
+        _ => false,
+    }
+}
+
+pub(crate) fn is_shift(op: Op) -> bool
+    ensures { result ≡ is_shift op }
+{
+    match op {
+        Op::ShiftLeft | Op::ShiftRight => true,
+        _ => false,
+    }
+}
+
+pub(crate) fn is_and(op: Op) -> bool
+    ensures { result ≡ is_and op }
+{
+    match op {
+        Op::LogicalAnd => true,
+        _ => false,
+    }
+}
+
+pub(crate) fn is_minus(sign: Sign) -> bool
+    ensures { result ≡ is_minus sign }
+{
+    match sign {
+        Sign::Minus => true,
+        Sign::Complement | Sign::Not => false,
+    }
+}
+
+/// Whether an operator compares: `<`, `<=`, `>`, `>=` or `==`.
+pub fn is_comparison(op: Op) -> bool
+    ensures { result ≡ is_comparison op }
+{
+    match op {
+        Op::Less | Op::AtMost | Op::Greater | Op::AtLeast | Op::Equal => true,
+        _ => false,
+    }
+}
+
+fn joins_condition(op: Op) -> bool
+    ensures { result ≡ joins_condition op }
+{
+    is_and(op) || is_comparison(op)
+}
+
+// Whether a name is a parameter or an iterator.
+pub(crate) fn is_number(meaning: Meaning) -> bool
+    ensures { result ≡ is_number meaning }
+{
+    match meaning {
+        Meaning::Variable(_) | Meaning::Closed => true,
+        Meaning::Unknown | Meaning::Array(_, _) => false,
+    }
+}
+
+// How many subscripts a name wants.
+pub(crate) fn rank(meaning: Meaning) -> usize
+    ensures { result ≡ rank meaning }
+{
+    match meaning {
+        Meaning::Array(_, rank) => rank,
+        _ => 0,
+    }
+}
+
+// A name that is not in scope, or an iterator outside its loop.
+pub(crate) fn named(meaning: Meaning) -> Option<Kind>
+    ensures { result ≡ named meaning }
+{
+    match meaning {
+        Meaning::Unknown => Some(Kind::UnknownName),
+        Meaning::Closed => Some(Kind::IteratorOutside),
+        _ => None,
+    }
+}
+
+// A name in front of a call.
+pub(crate) fn called(meaning: Meaning) -> Option<Kind>
+    ensures { result ≡ called meaning }
+{
+    match meaning {
+        Meaning::Unknown => Some(Kind::UnknownName),
+        _ => None,
+    }
+}
+
+// The role of an operand.
+pub(crate) fn operand_role(sign: Sign, signed: bool, role: Role) -> Role
+    ensures { result ≡ operand_role sign signed role }
+{
+    match (sign, role) {
+        (Sign::Minus, Role::Affine) => Role::Affine,
+        (Sign::Minus, Role::Signed) => Role::Signed,
+        (Sign::Minus, Role::Value) => { if signed { Role::Signed } else { Role::Value } }
+        (_, Role::Value) => Role::Value,
+        _ => Role::Free,
+    }
+}
+
+pub(crate) fn cast_role(role: Role) -> Role
+    ensures { result ≡ cast_role role }
+{
+    match role {
+        Role::Value => Role::Value,
+        _ => Role::Free,
+    }
+}
+
+// The role of the sides of a sum, a difference or a product.
+fn term_role(signed: bool, role: Role) -> Role
+    ensures { result ≡ term_role signed role }
+{
+    match role {
+        Role::Affine => Role::Affine,
+        Role::Signed => Role::Signed,
+        Role::Value => { if signed { Role::Signed } else { Role::Value } }
+        Role::Condition | Role::Free => Role::Free,
+    }
+}
+
+// The role of the sides of the other operators that are no comparisons.
+fn other_role(op: Op, role: Role) -> Role
+    ensures { result ≡ other_role op role }
+{
+    match (op, role) {
+        (Op::LogicalAnd, Role::Condition) => Role::Condition,
+        (_, Role::Value) => Role::Value,
+        _ => Role::Free,
+    }
+}
+
+// The role of an operator's sides.
+pub(crate) fn side_role(op: Op, signed: bool, role: Role) -> Role
+    ensures { result ≡ side_role op signed role }
+{
+    if is_comparison(op) {
+        Role::Affine
+    } else if is_sum_or_product(op) {
+        term_role(signed, role)
+    } else {
+        other_role(op, role)
+    }
+}
+
+pub(crate) fn own_constant(role: Role, suffix: Suffix, value: u64) -> Option<Kind>
+    ensures { (n at : ℕ) → result ≡ own n role (constant suffix value at) }
+{
+    match (role, suffix) {
+        (Role::Affine | Role::Signed, Suffix::Present) => Some(Kind::NotAffine),
+        (Role::Affine | Role::Signed, Suffix::Absent) => {
+            only_where(MOST_CONSTANT < value, Kind::Coefficient)
+        }
+        (Role::Condition, _) => Some(Kind::Condition),
+        (Role::Value | Role::Free, _) => None,
+    }
+}
+
+pub(crate) fn own_name(role: Role, meaning: Meaning) -> Option<Kind>
+    ensures { (n at : ℕ) → result ≡ own n role (name meaning at) }
+{
+    match role {
+        Role::Affine | Role::Signed => match meaning {
+            Meaning::Array(_, _) => Some(Kind::NotAffine),
+            Meaning::Unknown | Meaning::Closed | Meaning::Variable(_) => None,
+        },
+        Role::Condition => Some(Kind::Condition),
+        Role::Value | Role::Free => only_where(rank(meaning) != 0, Kind::Rank),
+    }
+}
+
+// `ranked`: the place has as many subscripts as its declaration.
+pub(crate) fn own_index(role: Role, ranked: bool) -> Option<Kind>
+    ensures { (n : ℕ) (p i : Tree) → ranked ≡ (rank (meaning_of p) == subscripts p + 1)
+        → result ≡ own n role (index p i) }
+{
+    match role {
+        Role::Affine | Role::Signed => Some(Kind::NotAffine),
+        Role::Condition => Some(Kind::Condition),
+        Role::Value | Role::Free => only_where(!ranked, Kind::Rank),
+    }
+}
+
+pub(crate) fn own_call(role: Role) -> Option<Kind>
+    ensures call { (n at : ℕ) (meaning : Meaning) (f : Tree) → result ≡ own n role (call meaning f at) }
+    ensures bare { (n at : ℕ) (meaning : Meaning) → result ≡ own n role (bare_call meaning at) }
+{
+    match role {
+        Role::Affine | Role::Signed => Some(Kind::NotAffine),
+        Role::Condition => Some(Kind::Condition),
+        Role::Value | Role::Free => Some(Kind::Call),
+    }
+}
+
+pub(crate) fn own_unary(role: Role, sign: Sign, signed: bool) -> Option<Kind>
+    ensures { (n at : ℕ) (f : Tree) → signed ≡ is_signed f → result ≡ own n role (unary sign f at) }
+{
+    match (role, sign) {
+        (Role::Condition, _) => Some(Kind::Condition),
+        (_, Sign::Minus) => None,
+        (Role::Affine | Role::Signed, _) => Some(Kind::NotAffine),
+        (_, Sign::Not) => Some(Kind::Condition),
+        (Role::Value, Sign::Complement) => only_where(signed, Kind::SignedValue),
+        (Role::Free, Sign::Complement) => None,
+    }
+}
+
+pub(crate) fn own_cast(role: Role) -> Option<Kind>
+    ensures { (n at : ℕ) (f : Tree) → result ≡ own n role (cast f at) }
+{
+    match role {
+        Role::Affine | Role::Signed => Some(Kind::NotAffine),
+        Role::Condition => Some(Kind::Condition),
+        Role::Value | Role::Free => None,
+    }
+}
+
+// `signed`: both sides are; `constants`: both are constants without suffix; `count`: the right one is a count below 64.
+fn own_operator(op: Op, left: bool, right: bool, constants: bool, count: bool) -> Option<Kind>
+    ensures { result ≡ own_operator op left right constants count }
+{
+    match op {
+        Op::BitAnd | Op::BitXor | Op::BitOr => only_where(left && right, Kind::SignedValue),
+        Op::ShiftLeft | Op::ShiftRight => {
+            if left {
+                Some(Kind::SignedValue)
+            } else {
+                only_where(!count, Kind::ShiftCount)
+            }
+        }
+        Op::Divide | Op::Remainder => {
+            if constants {
+                Some(Kind::SignedValue)
+            } else {
+                Some(Kind::Division)
+            }
+        }
+        Op::Comma => None,
+        _ => Some(Kind::Condition),
+    }
+}
+
+fn own_free_operator(op: Op, count: bool) -> Option<Kind>
+    ensures { result ≡ own_free_operator op count }
+{
+    match op {
+        Op::Divide | Op::Remainder => Some(Kind::Division),
+        Op::ShiftLeft | Op::ShiftRight => only_where(!count, Kind::ShiftCount),
+        Op::LogicalOr | Op::NotEqual => Some(Kind::Condition),
+        _ => None,
+    }
+}
+
+// What is wrong with a sum, a difference or a product of signed sides that is no single constant.
+fn own_signed(affine: Option<Kind>, constants: bool) -> Option<Kind>
+    ensures { result ≡ or_else affine (only_where constants kind.SignedValue) }
+{
+    match affine {
+        Some(kind) => Some(kind),
+        None => only_where(constants, Kind::SignedValue),
+    }
+}
+
+// What is wrong with an operator itself, where `affine` is what is wrong with it as an affine one.
+pub(crate) fn own_joined(
+    affine: Option<Kind>,
+    role: Role,
+    op: Op,
+    left: bool,
+    right: bool,
+    constants: bool,
+    count: bool,
+) -> Option<Kind>
+    ensures { result ≡ own_joined affine role op left right constants count }
+{
+    match role {
+        Role::Affine => affine,
+        Role::Signed => own_signed(affine, constants),
+        Role::Value => {
+            if !is_sum_or_product(op) {
+                own_operator(op, left, right, constants, count)
+            } else if left && right {
+                own_signed(affine, constants)
+            } else {
+                None
+            }
+        }
+        Role::Condition => only_where(!joins_condition(op), Kind::Condition),
+        Role::Free => own_free_operator(op, count),
+    }
+}

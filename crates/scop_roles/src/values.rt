@@ -1,0 +1,424 @@
+//! What a formula without faults stands for: a value, a cell, or the comparisons of a condition.
+ghost use Rattle.std.specs.Prelude.{[], ◌++◌, ◌∷◌, ◌≡◌, ◌≤◌, ℕ, IfOk, None, OnOk, false, map, true, unsigned_abs};
+ghost use Rattle.scop_syntax.specs.Kernel.{IsAffine};
+ghost use Rattle.scop_syntax.specs.Tree.{Expression, affine};
+ghost use Rattle.scop_syntax.specs.View.{expression_of, operator_of, test_of};
+ghost use Rattle.scop_roles.specs.declared.formula.Role.TheVariants as role;
+ghost use Rattle.scop_roles.specs.Faults.{faults, first, is_count, place_faults};
+ghost use Rattle.scop_roles.specs.Formula.{constant, formula_of, name};
+ghost use Rattle.scop_roles.specs.Forms.{form, is_shift, is_signed};
+ghost use Rattle.scop_roles.specs.Values.{access, array_number, combined, comparison, count, difference, expression, operator, read_places, signed_value, subscript_forms, tests};
+
+use crate::forms::{constant_form, multiple, plus_constant, sum, variable_form};
+use crate::formula::{Formula, Meaning, meaning_of, place};
+use crate::judgement::{affine_form, is_between, is_plain};
+use crate::roles::{is_and, is_minus, is_number, is_shift, is_sum_or_product};
+use expression_grammar::token::{Op, Sign, Suffix};
+use scop_syntax::tree::{Access, Aff, Expr, Operator, Test};
+use std::alloc::{AllocError, Global};
+
+/// Whether a formula is signed: a constant without suffix, a parameter, an iterator, or a sum, a difference, a product
+/// or an opposite of such.
+pub fn is_signed(formula: &Formula) -> bool
+    ensures { result ≡ is_signed (formula_of formula.now) }
+{
+    match formula {
+        Formula::Constant(suffix, _, _) => is_plain(*suffix),
+        Formula::Name(meaning, _) => is_number(*meaning),
+        Formula::Index(_, _) => false,
+        Formula::BareCall(_, _) => false,
+        Formula::Call(_, _, _) => false,
+        Formula::Unary(sign, operand, _) => is_minus(*sign) && is_signed(operand),
+        Formula::Cast(_, _) => false,
+        Formula::Binary(op, left, right, _) => {
+            is_sum_or_product(*op) && is_signed(left) && is_signed(right)
+        }
+    }
+}
+
+/// Whether a formula is a constant without suffix, from the one number up to the other.
+pub fn is_count(formula: &Formula, low: u64, high: u64) -> bool
+    ensures { result ≡ is_count low high (formula_of formula.now) }
+{
+    match formula {
+        Formula::Constant(suffix, value, _) => is_between(*suffix, *value, low, high),
+        Formula::Name(_, _) => false,
+        Formula::Index(_, _) => false,
+        Formula::BareCall(_, _) => false,
+        Formula::Call(_, _, _) => false,
+        Formula::Unary(_, _, _) => false,
+        Formula::Cast(_, _) => false,
+        Formula::Binary(_, _, _, _) => false,
+    }
+}
+
+fn array_number(meaning: Meaning) -> usize
+    ensures { result ≡ array_number meaning }
+{
+    match meaning {
+        Meaning::Array(array, _) => array,
+        _ => 0,
+    }
+}
+
+fn push_form(forms: &mut Vec<Aff>, form: Aff) -> Result<(), AllocError>
+    ensures { OnOk result (forms.new.items ≡ forms.old.items ++ form ∷ []) }
+{
+    match forms.push(form) {
+        Err(_) => Err(AllocError),
+        Ok(()) => Ok(()),
+    }
+}
+
+fn push_test(pushed: &mut Vec<Test>, test: Test) -> Result<(), AllocError>
+    ensures { OnOk result (map test_of pushed.new.items ≡ map test_of pushed.old.items ++ test_of test ∷ []) }
+{
+    match pushed.push(test) {
+        Err(_) => Err(AllocError),
+        Ok(()) => Ok(()),
+    }
+}
+
+// The form of a formula that is affine.
+fn form_or_zero(alloc: Global, formula: &Formula, entries: usize) -> Result<Aff, AllocError>
+    ensures form { IfOk result (λ f. first (faults entries role.Affine (formula_of formula.now)) ≡ None
+        → f ≡ form entries (formula_of formula.now)) }
+    ensures limits { IfOk result (IsAffine entries) }
+{
+    match affine_form(alloc, formula, entries) {
+        Err(_) => Err(AllocError),
+        Ok(found) => match found {
+            Some(form) => Ok(form),
+            None => constant_form(alloc, entries, 0),
+        },
+    }
+}
+
+// The forms of the subscripts of a place without fault, behind others.
+fn push_subscripts(
+    alloc: Global,
+    place: &Formula,
+    entries: usize,
+    forms: &mut Vec<Aff>,
+) -> Result<(), AllocError>
+    ensures { OnOk result (first (place_faults entries (formula_of place.now)) ≡ None
+        → forms.new.items ≡ forms.old.items ++ subscript_forms entries (formula_of place.now)) }
+{
+    match place {
+        Formula::Index(inner, subscript) => {
+            match push_subscripts(alloc, inner, entries, forms) {
+                Err(_) => return Err(AllocError),
+                Ok(()) => {}
+            }
+            let form = match form_or_zero(alloc, subscript, entries) {
+                Err(_) => return Err(AllocError),
+                Ok(form) => form,
+            };
+            push_form(forms, form)
+        }
+        Formula::Constant(_, _, _) => Ok(()),
+        Formula::Name(_, _) => Ok(()),
+        Formula::BareCall(_, _) => Ok(()),
+        Formula::Call(_, _, _) => Ok(()),
+        Formula::Unary(_, _, _) => Ok(()),
+        Formula::Cast(_, _) => Ok(()),
+        Formula::Binary(_, _, _, _) => Ok(()),
+    }
+}
+
+// The cell of a place without fault.
+fn cell(alloc: Global, place: &Formula, entries: usize) -> Result<Access, AllocError>
+    ensures { IfOk result (λ a. first (place_faults entries (formula_of place.now)) ≡ None
+        → a ≡ access entries (formula_of place.now)) }
+{
+    let mut subscripts = Vec::new(alloc);
+    match push_subscripts(alloc, place, entries, &mut subscripts) {
+        Err(_) => Err(AllocError),
+        Ok(()) => Ok(Access {
+            array: array_number(meaning_of(place)),
+            subscripts,
+        }),
+    }
+}
+
+/// The cell of a place whose name and subscripts have no fault.
+pub fn access(alloc: Global, place: &Formula, entries: usize) -> Result<Access, AllocError>
+    requires { first (place_faults entries (formula_of place.now)) ≡ None }
+    ensures { IfOk result (λ a. a ≡ access entries (formula_of place.now)) }
+{
+    cell(alloc, place, entries)
+}
+
+// The operator of a value.
+fn operator(op: Op) -> Operator
+    ensures { operator_of result ≡ operator op }
+{
+    match op {
+        Op::Plus => Operator::Plus,
+        Op::Minus => Operator::Minus,
+        Op::Times => Operator::Times,
+        Op::BitAnd => Operator::And,
+        Op::BitXor => Operator::Xor,
+        _ => Operator::Or,
+    }
+}
+
+// The count of a shift.
+fn count(formula: &Formula) -> u8
+    ensures { is_count 0 63 (formula_of formula.now) ≡ true → result ≡ count (formula_of formula.now) }
+{
+    match formula {
+        Formula::Constant(suffix, value, _) => constant_count(*suffix, *value),
+        Formula::Name(_, _) => 0,
+        Formula::Index(_, _) => 0,
+        Formula::BareCall(_, _) => 0,
+        Formula::Call(_, _, _) => 0,
+        Formula::Unary(_, _, _) => 0,
+        Formula::Cast(_, _) => 0,
+        Formula::Binary(_, _, _, _) => 0,
+    }
+}
+
+fn constant_count(suffix: Suffix, value: u64) -> u8
+    ensures { (at : ℕ) → is_count 0 63 (constant suffix value at) ≡ true → result ≡ value }
+{
+    if is_between(suffix, value, 0, 63) && value <= 63 {
+        value as u8
+    } else {
+        0
+    }
+}
+
+// The value of a name.
+fn name_value(alloc: Global, meaning: Meaning, entries: usize) -> Result<Expr, AllocError>
+    ensures { IfOk result (λ e. (at : ℕ) → expression_of e ≡ affine (form entries (name meaning at))) }
+{
+    match meaning {
+        Meaning::Variable(variable) => Ok(Expr::Affine(variable_form(alloc, entries, variable)?)),
+        Meaning::Unknown => Ok(Expr::Affine(constant_form(alloc, entries, 0)?)),
+        Meaning::Closed => Ok(Expr::Affine(constant_form(alloc, entries, 0)?)),
+        Meaning::Array(_, _) => Ok(Expr::Affine(constant_form(alloc, entries, 0)?)),
+    }
+}
+
+// A value that is a signed part.
+fn signed_part(alloc: Global, formula: &Formula, entries: usize) -> Result<Expr, AllocError>
+    ensures { IfOk result (λ e. first (faults entries role.Affine (formula_of formula.now)) ≡ None
+        → expression_of e ≡ affine (form entries (formula_of formula.now))) }
+{
+    match form_or_zero(alloc, formula, entries) {
+        Err(_) => Err(AllocError),
+        Ok(form) => Ok(Expr::Affine(form)),
+    }
+}
+
+// A shifted value.
+fn shifted(alloc: Global, op: Op, value: Expr, count: u8) -> Result<Expr, AllocError>
+    requires { is_shift op ≡ true }
+    ensures { IfOk result (λ e. (d : Expression) → expression_of e ≡ combined op (expression_of value) d count) }
+{
+    match op {
+        Op::ShiftLeft => Ok(Expr::ShiftedLeft(Box::new(alloc, value)?, count)),
+        Op::ShiftRight => Ok(Expr::ShiftedRight(Box::new(alloc, value)?, count)),
+        _ => unreachable!(),
+    }
+}
+
+// The opposite of a value, or its complement.
+fn signed_value(alloc: Global, sign: Sign, value: Expr) -> Result<Expr, AllocError>
+    ensures { IfOk result (λ e. expression_of e ≡ signed_value sign (expression_of value)) }
+{
+    match sign {
+        Sign::Minus => Ok(Expr::Negated(Box::new(alloc, value)?)),
+        Sign::Complement => Ok(Expr::Complemented(Box::new(alloc, value)?)),
+        Sign::Not => Ok(Expr::Complemented(Box::new(alloc, value)?)),
+    }
+}
+
+// Two values joined by an operator.
+fn joined(alloc: Global, op: Op, left: Expr, right: Expr) -> Result<Expr, AllocError>
+    requires { is_shift op ≡ false }
+    ensures { IfOk result (λ e. (k : ℕ) → expression_of e
+        ≡ combined op (expression_of left) (expression_of right) k) }
+{
+    Ok(Expr::Binary(
+        operator(op),
+        Box::new(alloc, left)?,
+        Box::new(alloc, right)?,
+    ))
+}
+
+// The value of a formula, if it has no fault as one.
+fn value(alloc: Global, formula: &Formula, entries: usize) -> Result<Expr, AllocError>
+    ensures { IfOk result (λ e. first (faults entries role.Value (formula_of formula.now)) ≡ None
+        → expression_of e ≡ expression entries (formula_of formula.now)) }
+{
+    match formula {
+        Formula::Constant(_, value, _) => Ok(Expr::Constant(*value)),
+        Formula::Name(meaning, _) => name_value(alloc, *meaning, entries),
+        Formula::Index(_, _) => match cell(alloc, formula, entries) {
+            Err(_) => Err(AllocError),
+            Ok(access) => Ok(Expr::Read(access)),
+        },
+        Formula::BareCall(_, _) => Ok(Expr::Constant(0)),
+        Formula::Call(_, _, _) => Ok(Expr::Constant(0)),
+        Formula::Unary(sign, operand, _) => {
+            if is_signed(formula) {
+                return signed_part(alloc, formula, entries);
+            }
+            let inner = value(alloc, operand, entries)?;
+            signed_value(alloc, *sign, inner)
+        }
+        Formula::Cast(operand, _) => {
+            let inner = value(alloc, operand, entries)?;
+            Ok(Expr::Cast(Box::new(alloc, inner)?))
+        }
+        Formula::Binary(op, left, right, _) => {
+            if is_signed(formula) {
+                return signed_part(alloc, formula, entries);
+            }
+            let first = value(alloc, left, entries)?;
+            if is_shift(*op) {
+                return shifted(alloc, *op, first, count(right));
+            }
+            let second = value(alloc, right, entries)?;
+            joined(alloc, *op, first, second)
+        }
+    }
+}
+
+/// The value of a formula that has no fault as a value.
+pub fn expression(alloc: Global, formula: &Formula, entries: usize) -> Result<Expr, AllocError>
+    requires { first (faults entries role.Value (formula_of formula.now)) ≡ None }
+    ensures { IfOk result (λ e. expression_of e ≡ expression entries (formula_of formula.now)) }
+{
+    value(alloc, formula, entries)
+}
+
+// f - g + constant
+fn difference(
+    alloc: Global,
+    form: &Aff,
+    other: &Aff,
+    constant: i64,
+    entries: usize,
+) -> Result<Aff, AllocError>
+    requires form { IsAffine entries form.now }
+    requires other { IsAffine entries other.now }
+    requires constant { unsigned_abs constant ≤ 1 }
+    ensures { IfOk result (λ f. f ≡ difference form.now other.now constant) }
+{
+    match multiple(alloc, -1, other, entries) {
+        Err(_) => Err(AllocError),
+        Ok(opposite) => match sum(alloc, form, &opposite, entries) {
+            Err(_) => Err(AllocError),
+            Ok(form) => Ok(plus_constant(form, constant)),
+        },
+    }
+}
+
+// One comparison.
+fn comparison(
+    alloc: Global,
+    op: Op,
+    left: &Aff,
+    right: &Aff,
+    entries: usize,
+) -> Result<Test, AllocError>
+    requires left { IsAffine entries left.now }
+    requires right { IsAffine entries right.now }
+    ensures { IfOk result (λ test. test_of test ≡ comparison op left.now right.now) }
+{
+    match op {
+        Op::Less => Ok(Test::AtLeast(difference(alloc, right, left, -1, entries)?)),
+        Op::AtMost => Ok(Test::AtLeast(difference(alloc, right, left, 0, entries)?)),
+        Op::Greater => Ok(Test::AtLeast(difference(alloc, left, right, -1, entries)?)),
+        Op::AtLeast => Ok(Test::AtLeast(difference(alloc, left, right, 0, entries)?)),
+        _ => Ok(Test::Equal(difference(alloc, left, right, 0, entries)?)),
+    }
+}
+
+// The comparisons of a formula, if it has no fault as a condition, behind others.
+fn add_tests(
+    alloc: Global,
+    formula: &Formula,
+    entries: usize,
+    pushed: &mut Vec<Test>,
+) -> Result<(), AllocError>
+    ensures { OnOk result (first (faults entries role.Condition (formula_of formula.now)) ≡ None
+        → map test_of pushed.new.items ≡ map test_of pushed.old.items ++ tests entries (formula_of formula.now)) }
+{
+    match formula {
+        Formula::Binary(op, left, right, _) => {
+            if is_and(*op) {
+                match add_tests(alloc, left, entries, pushed) {
+                    Err(_) => return Err(AllocError),
+                    Ok(()) => {}
+                }
+                return add_tests(alloc, right, entries, pushed);
+            }
+            let left = match form_or_zero(alloc, left, entries) {
+                Err(_) => return Err(AllocError),
+                Ok(form) => form,
+            };
+            let right = match form_or_zero(alloc, right, entries) {
+                Err(_) => return Err(AllocError),
+                Ok(form) => form,
+            };
+            let test = match comparison(alloc, *op, &left, &right, entries) {
+                Err(_) => return Err(AllocError),
+                Ok(test) => test,
+            };
+            push_test(pushed, test)
+        }
+        Formula::Constant(_, _, _) => Ok(()),
+        Formula::Name(_, _) => Ok(()),
+        Formula::Index(_, _) => Ok(()),
+        Formula::BareCall(_, _) => Ok(()),
+        Formula::Call(_, _, _) => Ok(()),
+        Formula::Unary(_, _, _) => Ok(()),
+        Formula::Cast(_, _) => Ok(()),
+    }
+}
+
+/// The comparisons of a formula that has no fault as a condition, behind others.
+pub fn push_tests(
+    alloc: Global,
+    formula: &Formula,
+    entries: usize,
+    pushed: &mut Vec<Test>,
+) -> Result<(), AllocError>
+    requires { first (faults entries role.Condition (formula_of formula.now)) ≡ None }
+    ensures { OnOk result (map test_of pushed.new.items
+        ≡ map test_of pushed.old.items ++ tests entries (formula_of formula.now)) }
+{
+    match add_tests(alloc, formula, entries, pushed) {
+        Err(_) => Err(AllocError),
+        Ok(()) => Ok(()),
+    }
+}
+
+/// The places of the cells that a formula reads as a value, from left to right, behind others.
+pub fn push_read_places(formula: &Formula, places: &mut Vec<usize>) -> Result<(), AllocError>
+    ensures { OnOk result (places.new.items ≡ places.old.items ++ read_places (formula_of formula.now)) }
+{
+    match formula {
+        Formula::Index(inner, _) => match places.push(place(inner)) {
+            Err(_) => Err(AllocError),
+            Ok(()) => Ok(()),
+        },
+        Formula::Unary(_, operand, _) => push_read_places(operand, places),
+        Formula::Cast(operand, _) => push_read_places(operand, places),
+        Formula::Binary(_, left, right, _) => {
+            match push_read_places(left, places) {
+                Err(_) => return Err(AllocError),
+                Ok(()) => {}
+            }
+            push_read_places(right, places)
+        }
+        Formula::Constant(_, _, _) => Ok(()),
+        Formula::Name(_, _) => Ok(()),
+        Formula::BareCall(_, _) => Ok(()),
+        Formula::Call(_, _, _) => Ok(()),
+    }
+}
