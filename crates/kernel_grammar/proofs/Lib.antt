@@ -6,4 +6,5 @@ pub mod Headers
 pub mod Tails
 pub mod Keeps
 pub mod Reading
+pub mod Wider
 pub mod Running

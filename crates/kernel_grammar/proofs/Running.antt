@@ -20,6 +20,7 @@ use Rattle.kernel_grammar.specs.Answers.{IsRead}
 use Rattle.kernel_grammar.specs.Turns.{Feeds, Gives, IsStop, pieces_of}
 use Rattle.kernel_grammar.proofs.Keeps.{Holds, Means, Goes, keeps_turn, first_means}
 use Rattle.kernel_grammar.proofs.Reading.{read_answers}
+use Rattle.kernel_grammar.proofs.Wider.{unfit-misplaced}
 
 -- the counts of the expression in hand
 pub record InnerSmall (d n i : ℕ) (e : State) : Type 0 where
@@ -134,7 +135,7 @@ tells_text d n ts (Err e) l h = tt
 pub tells_stop : (d n : ℕ) (ts : List Token) (r : Result Text Stop) → 1 ≤ d → Gives r (read d n ts)
     → IfErr r (IsStop d n ts)
 tells_stop d n ts (Ok t) l h = tt
-tells_stop d n ts (Err (fault.Unfit at)) l h = rw h at (read_answers d n ts l)
+tells_stop d n ts (Err (fault.Unfit at)) l h = unfit-misplaced d n ts at l h
 tells_stop d n ts (Err (fault.Unended at)) l h = rw h at (read_answers d n ts l)
 tells_stop d n ts (Err (fault.Depth at)) l h = rw h at (read_answers d n ts l)
 tells_stop d n ts (Err fault.NoMemory) l h = tt

@@ -1,5 +1,5 @@
 -- What an answer for a text says of its tokens, in terms of the grammar alone.
-use Rattle.std.specs.Prelude.{◌≡◌, ℕ, List, [], ◌∷◌, ◌++◌, length, Ok, Err}
+use Rattle.std.specs.Prelude.{◌≡◌, ◌≤◌, ℕ, List, [], ◌∷◌, ◌++◌, length, Ok, Err}
 use Rattle.expression_grammar.specs.declared.token.Token.{Token}
 use Rattle.expression_grammar.specs.Machine.{unfit, unended, depth, told_at}
 use Rattle.kernel_grammar.specs.Kernel.{Kernel, kernel_elements, Piece, pieces, Spells, IsFront}
@@ -23,6 +23,10 @@ pub record IsUnfit (d n : ℕ) (ts : List Token) (at : ℕ) : Type 0 where
   pub place : at ≡ length front
   pub fits : IsFront d n front
   pub unfit : IsFront d n (front ++ token ∷ []) → ⊥
+
+-- the same however many brackets and operators more a text may have
+abbrev pub IsMisplaced : ℕ → ℕ → List Token → ℕ → Type 0
+IsMisplaced d n ts at = (e m : ℕ) → d ≤ e → n ≤ m → IsUnfit e m ts at
 
 -- every token fits, and the text ends too early
 pub record IsUnended (d n : ℕ) (ts : List Token) (at : ℕ) : Type 0 where

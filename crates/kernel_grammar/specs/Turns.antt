@@ -11,7 +11,7 @@ use Rattle.kernel_grammar.specs.declared.reader.Went.{Went}
 use Rattle.kernel_grammar.specs.declared.reader.Went.TheVariants as went
 use Rattle.kernel_grammar.specs.Kernel.{Piece, mark_at, nodes_from}
 use Rattle.kernel_grammar.specs.Machine.{Spot, Turn, on, stop, too_deep, Answer}
-use Rattle.kernel_grammar.specs.Answers.{IsUnfit, IsUnended, IsTooDeep}
+use Rattle.kernel_grammar.specs.Answers.{IsMisplaced, IsUnended, IsTooDeep}
 
 -- the piece that a part stands for
 abbrev pub piece_of : Part → Piece
@@ -52,7 +52,7 @@ Gives (Err fault.NoMemory) a = ⊤
 
 -- the fault that a stop tells
 abbrev pub IsStop : ℕ → ℕ → List Token → Stop → Type 0
-IsStop d n ts (fault.Unfit at) = IsUnfit d n ts at
+IsStop d n ts (fault.Unfit at) = IsMisplaced d n ts at
 IsStop d n ts (fault.Unended at) = IsUnended d n ts at
 IsStop d n ts (fault.Depth at) = IsTooDeep d n ts at
 IsStop d n ts fault.NoMemory = ⊤

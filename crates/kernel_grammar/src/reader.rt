@@ -233,7 +233,7 @@ fn run(alloc: Global, tokens: &[Token]) -> Result<Text, Stop>
 /// Reads a kernel.
 ///
 /// # Errors
-/// The first fault: `Unfit` at the first token with which no text begins so; `Unended` where every token
+/// The first fault: `Unfit` at the first token with which no text begins so, of any limits; `Unended` where every token
 /// fits and the tokens end too early; `Depth` at the first token that only a text beyond the limits has.
 /// `NoMemory` is free.
 pub fn read(alloc: Global, tokens: &[Token]) -> Result<Text, Stop>

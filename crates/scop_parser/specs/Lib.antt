@@ -1,0 +1,12 @@
+pub mod Words
+pub mod Scopes
+pub mod Loops
+pub mod Units
+pub mod Judging
+pub mod Programs
+pub mod Spelling
+pub mod Machine
+pub mod View
+pub mod Reading
+pub mod Names
+pub mod Passing
