@@ -1,0 +1,4 @@
+pub mod PartLemmas
+pub mod NumberLemmas
+pub mod HeadLemmas
+pub mod LineLemmas

@@ -1,0 +1,59 @@
+-- A number grows with each digit; a list of numbers, one more.
+use Rattle.std.proofs.Common.{◌≡◌, ◌∙◌, sym, ap, refl, inl, inr, ℕ, suc, ◌+◌, ◌*◌, ◌^◌, ◌<◌, ◌≤◌, Bool, true, false}
+use Rattle.std.proofs.Common.{◌&&◌, ltb, if◌then◌else◌, List, [], ◌∷◌, ◌++◌, length, drop, get_or, append_assoc}
+use Rattle.std.proofs.Common.{drop-cons, lt-ltb, le-ltb, arith}
+use Rattle.std.proofs.lemmas.Bool.{cases_lt}
+use Rattle.std.specs.Prelude.{Option, Some, None}
+use Rattle.std.specs.List.{list_all}
+use Rattle.scop_lexer.specs.Bytes.{Text, is_digit}
+use Rattle.scop_lexer.specs.Constants.{number_behind, digit_value}
+use Rattle.data_lines.specs.Numbers.{decimal_value, next_number, number_of, with_number}
+
+-- numbers in front of numbers, where they are there
+abbrev pub with_numbers : List ℕ → Option (List ℕ) → Option (List ℕ)
+with_numbers front (Some numbers) = Some (front ++ numbers)
+with_numbers front None = None
+
+-- a number more in front
+pub with_one_more : (front : List ℕ) (number : ℕ) (numbers : Option (List ℕ))
+    → with_numbers (front ++ number ∷ []) numbers ≡ with_numbers front (with_number (Some number) numbers)
+with_one_more front number (Some numbers) = ap Some (append_assoc front (number ∷ []) numbers)
+with_one_more front number None = refl
+
+-- a number grows with each digit
+pub number_grows : (n : ℕ) (digits : Text) → n ≤ number_behind 10 n digits
+number_grows n [] = omega arith
+number_grows n (b ∷ bs) = omega (arith, number_grows (10 * n + digit_value b) bs)
+
+-- digits that are a number of 64 bits
+pub number_is : (word : Text) (value : ℕ) → list_all is_digit word ≡ true → value ≡ decimal_value word
+    → value < 2 ^ 64 → Some value ≡ number_of word
+number_is word value digits is small =
+    let fits : ltb (decimal_value word) (2 ^ 64) ≡ true = lt-ltb (decimal_value word) (2 ^ 64)
+    (omega (arith, is, small)) in
+    ap Some is ∙ rw (digits, fits) refl
+
+-- no number behind one that leaves 64 bits, and none behind a byte that is no digit
+stopped : (digit others : Bool) (next all : ℕ) → None ≡ (if digit && ltb next (2 ^ 64) then Some next else None)
+    → next ≤ all
+    → None ≡ (if (digit && others) && ltb all (2 ^ 64) then Some all else None)
+stopped false others next all none grows = refl
+stopped true false next all none grows = refl
+stopped true true next all none grows = elim (cases_lt next (2 ^ 64)) [
+  | inl small ↦ let wrong : None ≡ Some next = rw (lt-ltb next (2 ^ 64) small) at none in cc
+  | inr large ↦ rw (le-ltb all (2 ^ 64) (omega (arith, large, grows))) refl
+]
+
+pub no_number : (word : Text) (i value : ℕ) → i < length word → list_all is_digit (drop i word) ≡ list_all is_digit word
+    → number_behind 10 value (drop i word) ≡ decimal_value word → None ≡ next_number value (get_or word i 0)
+    → None ≡ number_of word
+no_number word i value within digits numbers none =
+    let b = get_or word i 0 in
+    let rest = drop (suc i) word in
+    let all : is_digit b && list_all is_digit rest ≡ list_all is_digit word =
+    ap (list_all is_digit) (sym (drop-cons word i 0 within)) ∙ digits in
+    let whole : number_behind 10 (10 * value + digit_value b) rest ≡ decimal_value word =
+    ap (number_behind 10 value) (sym (drop-cons word i 0 within)) ∙ numbers in
+    let stop = stopped (is_digit b) (list_all is_digit rest) (10 * value + digit_value b) (decimal_value word) none
+    (omega (arith, number_grows (10 * value + digit_value b) rest, whole)) in
+    stop ∙ ap (λ (d : Bool). if d && ltb (decimal_value word) (2 ^ 64) then Some (decimal_value word) else None) all

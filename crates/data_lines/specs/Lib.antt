@@ -1,0 +1,5 @@
+pub mod Words
+pub mod Numbers
+pub mod Heads
+pub mod Sheets
+pub mod Entries

@@ -1,0 +1,73 @@
+-- What data says so far: a sheet with a place for each parameter and each array, in the order of declaration.
+use Rattle.std.specs.Prelude.{◌≡◌, ◌<◌, ◌≤◌, ⊤, ℕ, All, IfSome, List, map, length, replicate, Option, Some, None}
+use Rattle.std.specs.List.{position_from}
+use Rattle.std.specs.Str.{bytes_eq}
+use Rattle.scop_syntax.specs.Tree.{Program}
+use Rattle.scop_lexer.specs.Bytes.{Text}
+use Rattle.data_lines.specs.declared.sheet.Given.{Given as CodeGiven}
+use Rattle.data_lines.specs.declared.sheet.Given.TheVariants.{Nothing, Listed, Seeded}
+use Rattle.data_lines.specs.declared.sheet.Sheet.{Sheet as CodeSheet}
+use Rattle.data_lines.specs.declared.places.Place.{Place}
+use Rattle.data_lines.specs.declared.places.Place.TheVariants.{Nowhere, Parameter, Array}
+
+-- of an array: nothing, its cells as a line lists them, or a seed
+pub data Given : Type 0 where
+  nothing : Given
+  listed : ℕ → List ℕ → Given
+  seeded : ℕ → Given
+
+pub record Sheet : Type 0 where
+  pub values : List (Option ℕ)
+  pub rows : List Given
+
+-- a sheet on which nothing is said
+abbrev pub empty_sheet : Program → Sheet
+empty_sheet program =
+    record { values = replicate (length program.parameters) None; rows = replicate (length program.arrays) nothing }
+
+-- the sheet that the code's stands for
+abbrev pub given_of : CodeGiven → Given
+given_of Nothing = nothing
+given_of (Listed line cells) = listed line cells.items
+given_of (Seeded seed) = seeded seed
+
+abbrev pub sheet_of : CodeSheet → Sheet
+sheet_of sheet = record { values = sheet.values.items; rows = map given_of sheet.rows.items }
+
+-- where the name stands among these names
+abbrev pub found : Text → List Text → Option ℕ
+found name names = position_from (λ other. bytes_eq other name) 0 names
+
+abbrev pub array_place : Option ℕ → Place
+array_place (Some j) = Array j
+array_place None = Nowhere
+
+abbrev pub parameter_place : Option ℕ → Place → Place
+parameter_place (Some i) other = Parameter i
+parameter_place None other = other
+
+abbrev pub place_of : Program → Text → Place
+place_of program name =
+    parameter_place (found name program.parameters) (array_place (found name (map (λ d. d.name) program.arrays)))
+
+-- one of so many parameters or arrays
+abbrev pub IsPlaceOf : ℕ → ℕ → Place → Type 0
+IsPlaceOf parameters arrays Nowhere = ⊤
+IsPlaceOf parameters arrays (Parameter i) = i < parameters
+IsPlaceOf parameters arrays (Array j) = j < arrays
+
+-- the values on a sheet are at most 65536
+abbrev pub AreSmall : List (Option ℕ) → Type 0
+AreSmall values = All (λ value. IfSome value (λ n. n ≤ 65536)) values
+
+-- a sheet of a program has a place for each parameter and each array
+pub record IsSheetOf (program : Program) (sheet : Sheet) : Type 0 where
+  pub values : length sheet.values ≡ length program.parameters
+  pub rows : length sheet.rows ≡ length program.arrays
+  pub small : AreSmall sheet.values
+
+-- a sheet has as many places as before, and its values stay small
+pub record KeepsShape (old new : Sheet) : Type 0 where
+  pub values : length new.values ≡ length old.values
+  pub rows : length new.rows ≡ length old.rows
+  pub small : AreSmall old.values → AreSmall new.values

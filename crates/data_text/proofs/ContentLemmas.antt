@@ -1,0 +1,94 @@
+-- Contents, one array after another.
+use Rattle.std.proofs.Common.{◌≡◌, ◌∙◌, sym, ap, ap₂, refl, ℕ, zero, suc, ◌+◌, ◌<◌, Bool, true, false, ltb}
+use Rattle.std.proofs.Common.{if◌then◌else◌, ◌==◌, List, [], ◌∷◌, ◌++◌, map, length, drop, get_or, add-one}
+use Rattle.std.proofs.Common.{drop-cons, append_assoc, eqb-true, arith}
+use Rattle.std.proofs.lemmas.List.{length-replicate}
+use Rattle.std.specs.Prelude.{Option, Some, None}
+use Rattle.std.specs.List.{range_with_len}
+use Rattle.std.proofs.lemmas.List.{get_or-map}
+use Rattle.std.proofs.lemmas.List.FromFn.{length-map-range_with_len}
+use Rattle.scop_syntax.specs.Execution.{cell_count}
+use Rattle.data_lines.specs.Sheets.{Given, nothing, listed, seeded, given_of}
+use Rattle.data_lines.specs.declared.sheet.Given.{Given as CodeGiven}
+use Rattle.data_lines.specs.declared.sheet.Given.TheVariants.{Nothing}
+use Rattle.data_text.specs.declared.counts.Miscount.{Miscount}
+use Rattle.data_text.specs.Cases.{cells_said, contents_said, earlier, first_miscount, miscount_of, miscounted}
+use Rattle.data_text.specs.Cases.{seed_cell}
+
+-- one number more
+pub range_next : (f : ℕ → ℕ) (a n : ℕ) → map f (range_with_len a (suc n)) ≡ map f (range_with_len a n) ++ f (a + n) ∷ []
+range_next f a zero = let same : a ≡ a + 0 = omega arith in ap (λ k. f k ∷ []) same
+range_next f a (suc n) = let same : (a + 1) + n ≡ a + suc n = omega arith in
+    ap (λ ks. f a ∷ ks) (range_next f (a + 1) n ∙ ap (λ k. map f (range_with_len (a + 1) n) ++ f k ∷ []) same)
+
+-- the contents of the next array
+pub contents_next : (layouts : List (List ℕ)) (rows after : List CodeGiven) (i : ℕ) (done whole : List (List ℕ))
+    (cells : List ℕ) (given : Given) → i < length layouts → i < length rows
+    → given ≡ get_or (map given_of rows) i nothing → cells ≡ cells_said (cell_count (get_or layouts i [])) given
+    → drop (i + 1) after ≡ drop (i + 1) rows
+    → done ++ contents_said (drop i layouts) (map given_of (drop i rows)) ≡ whole
+    → (done ++ cells ∷ []) ++ contents_said (drop (i + 1) layouts) (map given_of (drop (i + 1) after)) ≡ whole
+contents_next layouts rows after i done whole cells given within there taken filled others is =
+    let row : given ≡ given_of (get_or rows i Nothing) = taken ∙ get_or-map given_of rows i Nothing nothing there in
+    let first : cells_said (cell_count (get_or layouts i [])) (given_of (get_or rows i Nothing)) ≡ cells =
+    ap (cells_said (cell_count (get_or layouts i []))) (sym row) ∙ sym filled in
+    let rest = contents_said (drop (i + 1) layouts) (map given_of (drop (i + 1) rows)) in
+    let left : drop i layouts ≡ get_or layouts i [] ∷ drop (i + 1) layouts = drop-cons layouts i [] within
+    ∙ ap (λ n. get_or layouts i [] ∷ drop n layouts) (sym (add-one i)) in
+    let right : drop i rows ≡ get_or rows i Nothing ∷ drop (i + 1) rows = drop-cons rows i Nothing there
+    ∙ ap (λ n. get_or rows i Nothing ∷ drop n rows) (sym (add-one i)) in
+    let next : contents_said (drop i layouts) (map given_of (drop i rows)) ≡ cells ∷ rest =
+    ap₂ (λ es gs. contents_said es (map given_of gs)) left right ∙ ap (λ cs. cs ∷ rest) first in
+    append_assoc done (cells ∷ []) (contents_said (drop (i + 1) layouts) (map given_of (drop (i + 1) after)))
+    ∙ (ap (λ gs. done ++ cells ∷ contents_said (drop (i + 1) layouts) (map given_of gs)) others
+    ∙ (sym (ap (λ cs. done ++ cs) next) ∙ is))
+
+-- a list of another length stays the earliest or gives way to an earlier one
+stays_by : (best other : Miscount) (before : Bool) → (m : Miscount)
+    × ((if before then Some other else Some best) ≡ Some m)
+stays_by best other true = (other, refl)
+stays_by best other false = (best, refl)
+
+stays : (best : Miscount) (other : Option Miscount) → (m : Miscount) × (earlier (Some best) other ≡ Some m)
+stays best None = (best, refl)
+stays best (Some other) = stays_by best other (ltb other.line best.line)
+
+one_found : (best : Miscount) (layouts : List (List ℕ)) (rows : List Given)
+    → first_miscount (Some best) layouts rows ≡ None → ⊥
+one_found best [] rows none = cc
+one_found best (extents ∷ layouts) [] none = cc
+one_found best (extents ∷ layouts) (given ∷ rows) none =
+    let other = stays best (miscount_of (cell_count extents) given) in
+    one_found other.0 layouts rows (ap (λ m. first_miscount m layouts rows) (sym other.1) ∙ none)
+
+none_before : (best : Option Miscount) (layouts : List (List ℕ)) (rows : List Given)
+    → first_miscount best layouts rows ≡ None → best ≡ None
+none_before None layouts rows none = refl
+none_before (Some best) layouts rows none = absurd (one_found best layouts rows none)
+
+-- where a list is as long as its array, so are the cells that are said
+long_by : (n line : ℕ) (cells : List ℕ) (m : Miscount) (same : Bool) → (length cells == n) ≡ same
+    → (if same then None else Some m) ≡ None → length cells ≡ n
+long_by n line cells m true is none = eqb-true (length cells) n is
+long_by n line cells m false is none = cc
+
+cells_long : (n : ℕ) (given : Given) → miscount_of n given ≡ None → length (cells_said n given) ≡ n
+cells_long n nothing none = length-replicate n 0
+cells_long n (listed line cells) none = long_by n line cells _ (length cells == n) refl none
+cells_long n (seeded seed) none = length-map-range_with_len (seed_cell seed) 0 n
+
+-- where each list is, each array has as many cells as its extents say
+pub shaped : (layouts : List (List ℕ)) (rows : List Given) → length rows ≡ length layouts
+    → first_miscount None layouts rows ≡ None
+    → map length (contents_said layouts rows) ≡ map cell_count layouts
+shaped [] rows count none = refl
+shaped (extents ∷ layouts) [] count none = absurd (omega (arith, count))
+shaped (extents ∷ layouts) (given ∷ rows) count none =
+    let here : miscount_of (cell_count extents) given ≡ None =
+    none_before (miscount_of (cell_count extents) given) layouts rows none in
+    let rest : first_miscount None layouts rows ≡ None = ap (λ m. first_miscount m layouts rows) (sym here) ∙ none in
+    ap₂ (λ n ns. n ∷ ns) (cells_long (cell_count extents) given here) (shaped layouts rows (omega (arith, count)) rest)
+
+pub none_miscounted : (best : Option Miscount) → miscounted best ≡ None → best ≡ None
+none_miscounted None none = refl
+none_miscounted (Some m) none = cc

@@ -1,0 +1,10 @@
+pub mod ArrayTextLemmas
+pub mod SumLemmas
+pub mod CountLemmas
+pub mod ExtentLemmas
+pub mod LayoutLemmas
+pub mod ContentLemmas
+pub mod CaseLemmas
+pub mod NumeralLemmas
+pub mod RowLemmas
+pub mod ExampleLemmas

@@ -1,0 +1,32 @@
+use Rattle.std.proofs.Common.{◌∙◌, sym, ap, subst, map, arith}
+use Rattle.std.specs.Prelude.{All}
+use Rattle.scop_syntax.specs.Tree.{Declaration}
+use Rattle.scop_syntax.specs.View.{program_of}
+use Rattle.scop_syntax.specs.Cells.{values}
+use Rattle.scop_syntax.specs.Execution.{size_of}
+use Rattle.scop_syntax.specs.Kernel.{IsDeclaration}
+use Rattle.data_text.specs.Conditions.{AreLayouts}
+use Rattle.data_text.proofs.LayoutLemmas.{are_layouts}
+use Rattle.data_text.proofs.extents.layout_said.Goals as goal
+
+pub total_cells-total-requires : goal.total_cells-total-requires
+total_cells-total-requires c =
+    let params = c.args.params.now in
+    let program = program_of c.args.kernel.now in
+    let all = subst (λ n. All (IsDeclaration n) program.arrays) (sym c.requires.count) c.requires.kernel.declarations in
+    let same = c.in-Ok.ensures ∙ ap (map (λ (d : Declaration). map size_of (values d.extents params)))
+    c.deref-2.ensures.value in
+    subst AreLayouts (sym same) (are_layouts params program.arrays c.requires.params all c.requires.kernel.few_arrays)
+
+pub returns-clause-limits : goal.returns-clause-limits
+returns-clause-limits c =
+    let params = c.args.params.now in
+    let program = program_of c.args.kernel.now in
+    let all = subst (λ n. All (IsDeclaration n) program.arrays) (sym c.requires.count) c.requires.kernel.declarations in
+    let same = c.in-Ok.ensures ∙ ap (map (λ (d : Declaration). map size_of (values d.extents params)))
+    c.deref-2.ensures.value in
+    record {
+      arrays = subst AreLayouts (sym same)
+          (are_layouts params program.arrays c.requires.params all c.requires.kernel.few_arrays);
+      cells = omega (arith, c.total_cells-total.ensures, c.if-total-gt-MOST_CELLS.false);
+    }

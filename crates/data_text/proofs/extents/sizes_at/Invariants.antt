@@ -1,0 +1,7 @@
+use Rattle.std.proofs.Common.{◌≡◌, take, map}
+use Rattle.scop_syntax.specs.Cells.{values}
+use Rattle.scop_syntax.specs.Execution.{size_of}
+use Rattle.data_text.proofs.extents.sizes_at.Given as goal
+
+abbrev pub invariant-loop-extent : goal.invariant-loop-extent
+invariant-loop-extent l = l.sizes.items ≡ map size_of (values (take l.extent-index l.extents) l.params)

@@ -1,0 +1,4 @@
+pub mod Cases
+pub mod Conditions
+pub mod ArrayText
+pub mod Examples

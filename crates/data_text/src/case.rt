@@ -1,0 +1,62 @@
+//! A kernel's case, and how data says it.
+
+ghost use Rattle.std.specs.Prelude.{◌≡◌, IfOk, IfErr};
+ghost use Rattle.scop_syntax.specs.View.{program_of};
+ghost use Rattle.scop_syntax.specs.Execution.{IsShaped, layout};
+ghost use Rattle.scop_syntax.specs.Kernel.{IsKernel};
+ghost use Rattle.scop_syntax.specs.Limits.{WithinLimits};
+ghost use Rattle.data_lines.specs.Sheets.{IsSheetOf, sheet_of};
+ghost use Rattle.data_lines.specs.Entries.{StopsAs};
+ghost use Rattle.data_text.specs.Cases.{Says, case_said, data_said, ok_said};
+
+use crate::contents::contents_said;
+use crate::extents::layout_said;
+use crate::parameters::params_said;
+use data_lines::{DataStop, Sheet, read_lines};
+use scop_syntax::arrays::{Arrays, Extents};
+use scop_syntax::tree::Kernel;
+use std::alloc::Global;
+
+/// The values of a kernel's parameters, the extents of its arrays for them, and what the arrays hold.
+#[derive(Debug, Drop)]
+pub struct Case {
+    pub params: Vec<i64>,
+    pub extents: Extents,
+    pub arrays: Arrays,
+}
+
+/// The case that data says of a kernel, or the first rule that it breaks.
+pub fn read_data(alloc: Global, kernel: &Kernel, text: &[u8]) -> Result<Case, DataStop>
+    requires { IsKernel (program_of kernel.now) }
+    ensures said { IfOk result (λ case. Says text.now (program_of kernel.now) case.params.items case.arrays) }
+    ensures extents { IfOk result (λ case. case.extents ≡ layout (program_of kernel.now) case.params.items) }
+    ensures limits { IfOk result (λ case. WithinLimits (program_of kernel.now) case.params.items) }
+    ensures shape { IfOk result (λ case. IsShaped case.extents case.arrays) }
+    ensures refused { IfErr result (StopsAs (data_said (program_of kernel.now) text.now)) }
+{
+    match read_lines(alloc, kernel, text) {
+        Ok(sheet) => case_of(alloc, kernel, sheet),
+        Err(stop) => Err(stop),
+    }
+}
+
+/// The case that a sheet says.
+fn case_of(alloc: Global, kernel: &Kernel, sheet: Sheet) -> Result<Case, DataStop>
+    requires kernel { IsKernel (program_of kernel.now) }
+    requires sheet { IsSheetOf (program_of kernel.now) (sheet_of sheet) }
+    ensures said { IfOk result (λ case. case_said (program_of kernel.now)
+        (sheet_of sheet) ≡ ok_said case.params.items case.arrays) }
+    ensures extents { IfOk result (λ case. case.extents ≡ layout (program_of kernel.now) case.params.items) }
+    ensures limits { IfOk result (λ case. WithinLimits (program_of kernel.now) case.params.items) }
+    ensures shape { IfOk result (λ case. IsShaped case.extents case.arrays) }
+    ensures refused { IfErr result (StopsAs (case_said (program_of kernel.now) (sheet_of sheet))) }
+{
+    let params = params_said(alloc, &sheet.values)?;
+    let extents = layout_said(alloc, kernel, &params)?;
+    let arrays = contents_said(alloc, &extents, sheet.rows)?;
+    Ok(Case {
+        params,
+        extents,
+        arrays,
+    })
+}

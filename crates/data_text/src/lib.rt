@@ -1,0 +1,23 @@
+//! The case of a kernel: what its parameters are, and what its arrays hold at first. `read_data` reads it from data
+//! lines, or tells the first rule that they break; `write_arrays` writes arrays as such lines.
+#![tactic(auto)]
+
+mod array_text;
+mod case;
+mod contents;
+mod counts;
+#[cfg(test)]
+mod example;
+mod extents;
+mod laws;
+mod parameters;
+#[cfg(test)]
+mod tests;
+mod values;
+
+pub use array_text::write_arrays;
+pub use case::{Case, read_data};
+pub use data_lines::{DataRefusal, DataStop};
+pub use laws::{
+    array_lines_are_data_lines, decimals_are_numbers, lines_are_judged_in_order, said_once,
+};

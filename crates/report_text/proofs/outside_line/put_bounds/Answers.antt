@@ -1,0 +1,12 @@
+use Rattle.std.proofs.Common.{rules, FitsSigned}
+use Rattle.std.specs.Int.{w64}
+use Rattle.std.proofs.lemmas.Int.{to_z-of_z}
+use Rattle.io_ports.proofs.Writing.{send_then}
+use Rattle.report_text.proofs.outside_line.put_bounds.Goals as goal
+
+pub returns : goal.returns
+returns g c =
+    let fits : FitsSigned w64 c.args.value = search rules in
+    let first = simp to_z-of_z at c.in_ok-put_signed.ensures in
+    send_then _ (g.K.Sink.shows c.put_signed.new.sink) _ _ c.put_signed.new.pieces _ _ _ first
+    c.in_ok-put_numbered.ensures

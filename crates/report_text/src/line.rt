@@ -1,0 +1,126 @@
+//! The line on the error stream that tells a status. It takes no memory.
+
+ghost use Rattle.std.specs.Prelude.{◌≡◌, ◌++◌, [], codes, option_map};
+ghost use Rattle.scop_syntax.specs.View.{program_of};
+ghost use Rattle.io_ports.specs.Writes.{Writes, Puts};
+ghost use Rattle.report_text.specs.StatusText.{kind_text, numbered, place_text, refusal_text, status_text};
+
+use crate::data_line::put_data;
+use crate::outside_line::put_outside;
+use crate::parts::put_numbered;
+use crate::status::Status;
+use io_ports::{Failed, Pieces, Sink};
+use scop_parser::refusal::{Refusal, RefusalKind};
+use scop_syntax::tree::Kernel;
+
+/// Writes the line of a status, and flushes it; nothing for Done. `kernel` is the kernel that was read, for its names.
+#[tactic(auto, using(io_ports::proofs::Writing::flushed))]
+pub fn status_line<K: Sink>(
+    status: Status,
+    kernel: Option<&Kernel>,
+    sink: &mut K,
+) -> Result<(), Failed>
+    ensures { Writes (K.shows sink.old) (K.shows sink.new)
+        (status_text (option_map (λ k. program_of k.now) kernel.entry) status) result }
+{
+    match write_line(status, kernel, sink) {
+        Ok(()) => sink.flush(),
+        Err(failed) => Err(failed),
+    }
+}
+
+/// Writes the line of a status.
+#[tactic(auto, using(io_ports::proofs::Writing::written))]
+fn write_line<K: Sink>(status: Status, kernel: Option<&Kernel>, sink: &mut K) -> Result<(), Failed>
+    ensures { Writes (K.shows sink.old) (K.shows sink.new)
+        (status_text (option_map (λ k. program_of k.now) kernel.entry) status) result }
+{
+    let mut pieces = Pieces::new();
+    match put_status(&mut pieces, sink, kernel, status) {
+        Ok(()) => pieces.finish(sink),
+        Err(failed) => Err(failed),
+    }
+}
+
+/// Puts the line of a status.
+fn put_status<K: Sink>(
+    pieces: &mut Pieces,
+    sink: &mut K,
+    kernel: Option<&Kernel>,
+    status: Status,
+) -> Result<(), Failed>
+    ensures { Puts (K.shows sink.old) pieces.old (K.shows sink.new) pieces.new
+        (status_text (option_map (λ k. program_of k.now) kernel.entry) status) result }
+{
+    match status {
+        Status::Done => pieces.put(sink, b""),
+        Status::Usage => pieces.put(sink, USAGE),
+        Status::Refused(refusal) => put_refusal(pieces, sink, refusal),
+        Status::BadData(refusal) => put_data(pieces, sink, kernel, refusal),
+        Status::Outside(outside) => put_outside(pieces, sink, outside),
+        Status::ReadFault => pieces.put(sink, b"read fault\n"),
+        Status::WriteFault => pieces.put(sink, b"write fault\n"),
+        Status::NoMemory => pieces.put(sink, b"no memory\n"),
+    }
+}
+
+/// The commands and options of the whole program.
+const USAGE: &[u8] =
+    b"usage: polypar run|schedule|deps|emit|gen [--workers 1..64] [--tile 1..1024] [--budget 1..20000] [--report]\n";
+
+/// Puts `refused: KIND LINE:COLUMN` and a line feed.
+#[tactic(auto, using(io_ports::proofs::Writing::putting))]
+fn put_refusal<K: Sink>(pieces: &mut Pieces, sink: &mut K, refusal: Refusal) -> Result<(), Failed>
+    ensures { Puts (K.shows sink.old) pieces.old (K.shows sink.new) pieces.new (refusal_text refusal) result }
+{
+    pieces.put(sink, kind_text(refusal.kind))?;
+    put_place(pieces, sink, refusal.line, refusal.column)?;
+    Ok(())
+}
+
+/// Puts ` LINE:COLUMN` and a line feed.
+#[tactic(auto, using(io_ports::proofs::Writing::putting))]
+fn put_place<K: Sink>(
+    pieces: &mut Pieces,
+    sink: &mut K,
+    line: u64,
+    column: u64,
+) -> Result<(), Failed>
+    ensures { Puts (K.shows sink.old) pieces.old (K.shows sink.new) pieces.new (place_text line column) result }
+{
+    put_numbered(pieces, sink, b" ", line, b":")?;
+    put_numbered(pieces, sink, b"", column, b"\n")?;
+    Ok(())
+}
+
+/// `refused: KIND`.
+fn kind_text(kind: RefusalKind) -> &'static [u8]
+    ensures { result.now ≡ kind_text kind }
+{
+    match kind {
+        RefusalKind::Character => b"refused: Character",
+        RefusalKind::Directive => b"refused: Directive",
+        RefusalKind::LiteralRange => b"refused: LiteralRange",
+        RefusalKind::UnendedComment => b"refused: UnendedComment",
+        RefusalKind::Token => b"refused: Token",
+        RefusalKind::Unended => b"refused: Unended",
+        RefusalKind::UnknownName => b"refused: UnknownName",
+        RefusalKind::Redeclared => b"refused: Redeclared",
+        RefusalKind::NotAffine => b"refused: NotAffine",
+        RefusalKind::Coefficient => b"refused: Coefficient",
+        RefusalKind::LoopForm => b"refused: LoopForm",
+        RefusalKind::Condition => b"refused: Condition",
+        RefusalKind::SignedValue => b"refused: SignedValue",
+        RefusalKind::ShiftCount => b"refused: ShiftCount",
+        RefusalKind::Division => b"refused: Division",
+        RefusalKind::Call => b"refused: Call",
+        RefusalKind::Rank => b"refused: Rank",
+        RefusalKind::IteratorOutside => b"refused: IteratorOutside",
+        RefusalKind::Depth => b"refused: Depth",
+        RefusalKind::Statements => b"refused: Statements",
+        RefusalKind::Arrays => b"refused: Arrays",
+        RefusalKind::Parameters => b"refused: Parameters",
+        RefusalKind::Reads => b"refused: Reads",
+        RefusalKind::TooLong => b"refused: TooLong",
+    }
+}
