@@ -3,12 +3,12 @@ use Rattle.std.proofs.Common.{◌≡◌, ◌⊎◌, sym, subst, ap, refl, ℕ, t
 use Rattle.io_ports.specs.Faults.{Rose, none_to_come}
 use Rattle.io_ports.specs.Writes.{IsWithin, HasRoom}
 use Rattle.io_ports.specs.Memory.{SourceState, source_shows, SinkState, sink_shows}
-use Rattle.polypar.specs.declared.status.Status.{Status}
-use Rattle.polypar.specs.declared.status.Status.TheVariants.{NoMemory}
+use Rattle.report_text.specs.declared.status.Status.{Status}
+use Rattle.report_text.specs.declared.status.Status.TheVariants.{NoMemory}
 use Rattle.polypar.specs.Deserves.{Deserves, Asks}
-use Rattle.polypar.specs.StatusText.{status_text}
+use Rattle.report_text.specs.StatusText.{status_text}
 use Rattle.polypar.specs.Answered.{Answered, CountsStay}
-use Rattle.polypar.specs.InMemory.{NeverFail, Holds}
+use Rattle.polypar.specs.InMemory.{NeverFail, Holds, HoldsText, HoldsLine}
 
 -- with no call listed none is to come
 none_listed : (fails : List ℕ) (calls : ℕ) → fails ≡ [] → none_to_come fails calls ≡ true
@@ -17,28 +17,37 @@ none_listed fails calls empty = ap (λ list. none_to_come list calls) empty
 -- a sink that fails at no call has the room that it holds
 room_held : (sink : SinkState) (text : List ℕ) → sink.fails ≡ [] → Holds sink text → HasRoom (sink_shows sink) text
 room_held sink text empty holds =
-    subst (λ sure. IsWithin (if sure then Some sink.capacity else None) (Some sink.taken) text) (sym (none_listed sink.fails sink.calls empty)) holds
+    subst (λ sure. IsWithin (if sure then Some sink.capacity else None) (Some sink.taken) text)
+    (sym (none_listed sink.fails sink.calls empty)) holds
 
 -- a count that stays at 0 did not rise
 zero_stays : (before now : ℕ) → before ≡ 0 → now ≡ before → Rose before now → ⊥
 zero_stays before now zero same rose = omega (arith, zero, same, rose)
 
 -- every count stays
-pub stays_in_memory : (words : List (List ℕ)) (status : Status) (source source_after : SourceState) (out out_after err err_after : SinkState)
-    → Answered words status (source_shows source) (source_shows source_after) (sink_shows out) (sink_shows out_after) (sink_shows err) (sink_shows err_after)
-    → NeverFail source out err → ((text : List ℕ) → Asks words source.left text → Holds out text) → Holds err (status_text status)
-    → CountsStay (source_shows source) (source_shows source_after) (sink_shows out) (sink_shows out_after) (sink_shows err) (sink_shows err_after)
+pub stays_in_memory : (words : List (List ℕ)) (status : Status) (source source_after : SourceState)
+    (out out_after err err_after : SinkState)
+    → Answered words status (source_shows source) (source_shows source_after) (sink_shows out) (sink_shows out_after)
+    (sink_shows err) (sink_shows err_after)
+    → NeverFail source out err → HoldsText words source.left out → HoldsLine source.left status err
+    → CountsStay (source_shows source) (source_shows source_after) (sink_shows out) (sink_shows out_after)
+    (sink_shows err) (sink_shows err_after)
 stays_in_memory words status source source_after out out_after err err_after answered never room line =
     answered.calm (none_listed source.fails source.calls never.source_fails)
-    (λ input text whole asked. room_held out text never.out_fails (room text (subst (λ i. Asks words i text) (sym whole) asked)))
-    (room_held err (status_text status) never.err_fails line)
+    (λ input text whole asked. room_held out text never.out_fails
+    (room text (subst (λ i. Asks words i text) (sym whole) asked)))
+    (λ named names. room_held err (status_text named status) never.err_fails (line named names))
 
 -- and the status is the one deserved, or memory ran out
-pub decided_in_memory : (words : List (List ℕ)) (status verdict : Status) (source source_after : SourceState) (out out_after err err_after : SinkState)
-    → Answered words status (source_shows source) (source_shows source_after) (sink_shows out) (sink_shows out_after) (sink_shows err) (sink_shows err_after)
-    → NeverFail source out err → Deserves words source.left verdict → ((text : List ℕ) → Asks words source.left text → Holds out text) → Holds err (status_text status)
+pub decided_in_memory : (words : List (List ℕ)) (status verdict : Status) (source source_after : SourceState)
+    (out out_after err err_after : SinkState)
+    → Answered words status (source_shows source) (source_shows source_after) (sink_shows out) (sink_shows out_after)
+    (sink_shows err) (sink_shows err_after)
+    → NeverFail source out err → Deserves words source.left verdict → HoldsText words source.left out
+    → HoldsLine source.left status err
     → (status ≡ verdict) ⊎ (status ≡ NoMemory)
-decided_in_memory words status verdict source source_after out out_after err err_after answered never deserves room line =
+decided_in_memory words status verdict source source_after out out_after err err_after answered never deserves room
+    line =
     let stay = stays_in_memory words status source source_after out out_after err err_after answered never room line in
     answered.decided source.left verdict refl deserves (record {
       of_source = zero_stays source.faults source_after.faults never.source_faults stay.of_source;

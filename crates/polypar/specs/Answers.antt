@@ -1,32 +1,37 @@
 -- What the statuses of the parts of a call say: of the data, of the input, of the source, and of the sinks.
-use Rattle.std.specs.Prelude.{◌≡◌, ◌⊎◌, ℕ, ℤ, ◌≤◌, List, []}
+use Rattle.std.specs.Prelude.{◌≡◌, ◌⊎◌, ℕ, ℤ, ◌≤◌, List, [], Option}
 use Rattle.std.specs.Io.KnownBytes.{IsAtEnd}
 use Rattle.io_ports.specs.Bytes.{IsAllOf}
 use Rattle.io_ports.specs.Reads.{SourceShows, IsSteady, IsReadFault}
 use Rattle.io_ports.specs.Writes.{SinkShows, Takes, FailsToTake, CutsOff}
 use Rattle.scop_syntax.specs.Tree.{Program}
 use Rattle.scop_syntax.specs.Execution.{IsInside}
-use Rattle.polypar.specs.declared.status.Status.{Status}
-use Rattle.polypar.specs.declared.status.Status.TheVariants.{Done, Usage, Refused, BadData, Outside, ReadFault, WriteFault, NoMemory}
+use Rattle.report_text.specs.declared.status.Status.{Status}
+use Rattle.report_text.specs.declared.status.Status.TheVariants.{Done, Usage, Refused, BadData, Outside, ReadFault}
+use Rattle.report_text.specs.declared.status.Status.TheVariants.{WriteFault, NoMemory}
 use Rattle.polypar.specs.Command.{IsRunCommand}
-use Rattle.polypar.specs.DataForm.{Says}
+use Rattle.data_text.specs.Cases.{Says}
 use Rattle.polypar.specs.Case.{Accepted, final_text, asked_text}
 use Rattle.polypar.specs.Deserves.{DeservesCase, DeservesData, DeservesInput}
-use Rattle.polypar.specs.StatusText.{status_text}
+use Rattle.report_text.specs.StatusText.{status_text}
 
 -- of a case of a program, and of `out`
 abbrev pub AnswersCase : Status → Program → List ℤ → List (List ℕ) → SinkShows → SinkShows → Type 0
-AnswersCase Done program params contents old new = IsInside program params × Takes old new (final_text program params contents)
-AnswersCase WriteFault program params contents old new = IsInside program params × CutsOff old new (final_text program params contents)
+AnswersCase Done program params contents old new =
+    IsInside program params × Takes old new (final_text program params contents)
+AnswersCase WriteFault program params contents old new =
+    IsInside program params × CutsOff old new (final_text program params contents)
 AnswersCase (Outside f) program params contents old new = DeservesCase program params (Outside f) × (new ≡ old)
 AnswersCase _ program params contents old new = ⊥
 
 -- of the data of a program, and of `out`
 abbrev pub AnswersData : Status → Program → List ℕ → SinkShows → SinkShows → Type 0
 AnswersData Done program text old new =
-    (params : List ℤ) × (contents : List (List ℕ)) × Says text program params contents × IsInside program params × Takes old new (final_text program params contents)
+    (params : List ℤ) × (contents : List (List ℕ)) × Says text program params contents × IsInside program params
+    × Takes old new (final_text program params contents)
 AnswersData WriteFault program text old new =
-    (params : List ℤ) × (contents : List (List ℕ)) × Says text program params contents × IsInside program params × CutsOff old new (final_text program params contents)
+    (params : List ℤ) × (contents : List (List ℕ)) × Says text program params contents × IsInside program params
+    × CutsOff old new (final_text program params contents)
 AnswersData (BadData refusal) program text old new = DeservesData program text (BadData refusal) × (new ≡ old)
 AnswersData (Outside f) program text old new = DeservesData program text (Outside f) × (new ≡ old)
 AnswersData NoMemory program text old new = new ≡ old
@@ -62,28 +67,32 @@ pub record IsBroken (status : Status) (source source_after : SourceShows) (out o
 
 -- of the command `run`
 abbrev pub AnswersRun : Status → SourceShows → SourceShows → SinkShows → SinkShows → Type 0
-AnswersRun status source source_after out out_after = ReadsInput status source source_after out out_after ⊎ IsBroken status source source_after out out_after
+AnswersRun status source source_after out out_after =
+    ReadsInput status source source_after out out_after ⊎ IsBroken status source source_after out out_after
 
 -- the words are no command, and nothing was done
-pub record IsNoCommand (words : List (List ℕ)) (status : Status) (source source_after : SourceShows) (out out_after : SinkShows) : Type 0 where
+pub record IsNoCommand (words : List (List ℕ)) (status : Status) (source source_after : SourceShows)
+    (out out_after : SinkShows) : Type 0 where
   pub usage : status ≡ Usage
   pub none : IsRunCommand words → ⊥
   pub unread : source_after ≡ source
   pub untouched : out_after ≡ out
 
 -- all was printed, and then the error stream could not be flushed
-pub record IsUnflushed (status : Status) (source source_after : SourceShows) (out out_after err err_after : SinkShows) : Type 0 where
+pub record IsUnflushed (status : Status) (source source_after : SourceShows) (out out_after err err_after : SinkShows) :
+    Type 0 where
   pub fault : status ≡ WriteFault
   pub printed : AnswersRun Done source source_after out out_after
   pub failed : FailsToTake err err_after []
 
 -- of all of a command but the line that tells its status: `err` has gained nothing by then
-abbrev pub AnswersWords : List (List ℕ) → Status → SourceShows → SourceShows → SinkShows → SinkShows → SinkShows → SinkShows → Type 0
+abbrev pub AnswersWords : List (List ℕ) → Status → SourceShows → SourceShows → SinkShows → SinkShows → SinkShows
+    → SinkShows → Type 0
 AnswersWords words status source source_after out out_after err err_after =
     (IsNoCommand words status source source_after out out_after × Takes err err_after [])
     ⊎ ((IsRunCommand words × AnswersRun status source source_after out out_after × Takes err err_after [])
     ⊎ (IsRunCommand words × IsUnflushed status source source_after out out_after err err_after))
 
--- of the line: it was written, or cut off
-abbrev pub TellsStatus : Status → SinkShows → SinkShows → Type 0
-TellsStatus status old new = Takes old new (status_text status) ⊎ CutsOff old new (status_text status)
+-- of the line, with the names of the program that was read: it was written, or cut off
+abbrev pub TellsStatus : Option Program → Status → SinkShows → SinkShows → Type 0
+TellsStatus named status old new = Takes old new (status_text named status) ⊎ CutsOff old new (status_text named status)

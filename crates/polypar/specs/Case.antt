@@ -2,10 +2,10 @@
 use Rattle.std.specs.Prelude.{ℕ, ◌^◌, ◌≤◌, ℤ, List, length}
 use Rattle.scop_syntax.specs.Tree.{Program}
 use Rattle.scop_syntax.specs.Execution.{exec, IsInside}
+use Rattle.scop_parser.specs.Spelling.{SpellsProgram}
+use Rattle.data_text.specs.Cases.{Says}
+use Rattle.data_text.specs.ArrayText.{array_text}
 use Rattle.polypar.specs.Cut.{kernel_part, data_part}
-use Rattle.polypar.specs.CopyProgram.{Spells}
-use Rattle.polypar.specs.DataForm.{Says}
-use Rattle.polypar.specs.ArrayText.{array_text}
 
 -- no longer than an input may be
 abbrev pub IsShort : List ℕ → Type 0
@@ -16,7 +16,7 @@ IsShort input = length input ≤ 2 ^ 27
 pub record Accepted (input : List ℕ) : Type 0 where
   pub short : IsShort input
   pub program : Program
-  pub spelled : Spells (kernel_part input) program
+  pub spelled : SpellsProgram (kernel_part input) program
   pub params : List ℤ
   pub contents : List (List ℕ)
   pub said : Says (data_part input) program params contents

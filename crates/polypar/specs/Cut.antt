@@ -14,7 +14,8 @@ lines_of (byte ∷ text) = before_lines byte (lines_of text)
 
 -- the lines that cut
 abbrev pub is_cut : List ℕ → Bool
-is_cut line = bytes_eq line (codes "%%") || (bytes_eq line (codes "%%\r") || (bytes_eq line (codes "%%\n") || bytes_eq line (codes "%%\r\n")))
+is_cut line = bytes_eq line (codes "%%") || (bytes_eq line (codes "%%\r")
+    || (bytes_eq line (codes "%%\n") || bytes_eq line (codes "%%\r\n")))
 
 -- the lines before the first one that cuts, joined
 abbrev pub before_cut : List (List ℕ) → List ℕ

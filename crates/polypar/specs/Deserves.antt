@@ -1,49 +1,51 @@
 -- The status that words and an input deserve where nothing fails: check after check in the order of work, and the
 -- status of the first that is not passed.
-use Rattle.std.specs.Prelude.{◌≡◌, ◌⊎◌, ℕ, ◌^◌, ◌<◌, ℤ, List, length, Some}
+use Rattle.std.specs.Prelude.{◌≡◌, ◌⊎◌, ℕ, ◌^◌, ◌<◌, ℤ, List, length, Some, Err}
 use Rattle.scop_syntax.specs.Tree.{Program}
 use Rattle.scop_syntax.specs.Walk.{walk_of}
 use Rattle.scop_syntax.specs.Execution.{layout, IsInside}
 use Rattle.scop_syntax.specs.Failures.{Failure, first_outside}
 use Rattle.scop_meaning.specs.Outside.{outside_of}
-use Rattle.polypar.specs.declared.status.Status.{Status}
-use Rattle.polypar.specs.declared.status.Status.TheVariants.{Done, Usage, Refused, BadData, Outside}
-use Rattle.polypar.specs.declared.status.RefusalKind.{RefusalKind}
-use Rattle.polypar.specs.declared.status.RefusalKind.TheVariants.{Token, TooLong}
-use Rattle.polypar.specs.declared.status.DataRefusal.TheVariants.{Line}
+use Rattle.scop_parser.specs.Spelling.{SpellsProgram, IsRefusedAs}
+use Rattle.scop_parser.specs.declared.refusal.Refusal.{Refusal}
+use Rattle.scop_parser.specs.declared.refusal.RefusalKind.TheVariants.{TooLong}
+use Rattle.data_lines.specs.declared.refusal.DataRefusal.{DataRefusal}
+use Rattle.data_text.specs.Cases.{Says, data_said}
+use Rattle.report_text.specs.declared.status.Status.{Status}
+use Rattle.report_text.specs.declared.status.Status.TheVariants.{Done, Usage, Refused, BadData, Outside}
 use Rattle.polypar.specs.Command.{IsRunCommand}
 use Rattle.polypar.specs.Cut.{kernel_part, data_part}
-use Rattle.polypar.specs.CopyProgram.{Spells}
-use Rattle.polypar.specs.DataForm.{Says}
 use Rattle.polypar.specs.Case.{IsShort, Accepted, asked_text}
-
--- a refusal of this kind, at the input's first byte
-abbrev pub refused : RefusalKind → Status
-refused kind = Refused (record { kind = kind; line = 1; column = 1 })
 
 -- every subscript lies in its extent, or the first that does not is told
 abbrev pub DeservesCase : Program → List ℤ → Status → Type 0
 DeservesCase program params status =
     (IsInside program params × (status ≡ Done))
-    ⊎ ((f : Failure) × (first_outside (layout program params) (walk_of program params) ≡ Some f) × (status ≡ Outside (outside_of f)))
+    ⊎ ((f : Failure) × (first_outside (layout program params) (walk_of program params) ≡ Some f)
+    × (status ≡ Outside (outside_of f)))
 
--- the data says a case of the program, or it does not: then its first line is told
+-- the data says a case of the program, or the first rule that it breaks is told
 abbrev pub DeservesData : Program → List ℕ → Status → Type 0
 DeservesData program text status =
-    ((params : List ℤ) × (contents : List (List ℕ)) × Says text program params contents × DeservesCase program params status)
-    ⊎ (((params : List ℤ) (contents : List (List ℕ)) → Says text program params contents → ⊥) × (status ≡ BadData (Line 1)))
+    ((params : List ℤ) × (contents : List (List ℕ)) × Says text program params contents
+    × DeservesCase program params status)
+    ⊎ ((refusal : DataRefusal) × (data_said program text ≡ Err refusal) × (status ≡ BadData refusal))
 
--- the text spells a program, or none
+-- the text spells a program, or its first fault is told, with its kind, its line and its column
 abbrev pub DeservesText : List ℕ → List ℕ → Status → Type 0
 DeservesText kernel text status =
-    ((program : Program) × Spells kernel program × DeservesData program text status)
-    ⊎ (((program : Program) → Spells kernel program → ⊥) × (status ≡ refused Token))
+    ((program : Program) × SpellsProgram kernel program × DeservesData program text status)
+    ⊎ ((refusal : Refusal) × IsRefusedAs kernel refusal × (status ≡ Refused refusal))
+
+-- an input that is too long is refused at its first byte
+abbrev pub too_long : Status
+too_long = Refused (record { kind = TooLong; line = 1; column = 1 })
 
 -- the input is short enough, or too long
 abbrev pub DeservesInput : List ℕ → Status → Type 0
 DeservesInput input status =
     (IsShort input × DeservesText (kernel_part input) (data_part input) status)
-    ⊎ ((2 ^ 27 < length input) × (status ≡ refused TooLong))
+    ⊎ ((2 ^ 27 < length input) × (status ≡ too_long))
 
 -- the words are a command, or none
 abbrev pub Deserves : List (List ℕ) → List ℕ → Status → Type 0

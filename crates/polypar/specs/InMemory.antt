@@ -1,6 +1,11 @@
 -- Ports in memory that fail at no call.
-use Rattle.std.specs.Prelude.{◌≡◌, ℕ, ◌+◌, ◌≤◌, List, [], length}
+use Rattle.std.specs.Prelude.{◌≡◌, ℕ, ◌+◌, ◌≤◌, List, [], length, Option, Some}
 use Rattle.io_ports.specs.Memory.{SourceState, SinkState}
+use Rattle.scop_syntax.specs.Tree.{Program}
+use Rattle.report_text.specs.declared.status.Status.{Status}
+use Rattle.report_text.specs.StatusText.{status_text}
+use Rattle.polypar.specs.Deserves.{Asks}
+use Rattle.polypar.specs.Answered.{NamesOf}
 
 -- no call is listed to fail, and none has failed yet
 pub record NeverFail (source : SourceState) (out err : SinkState) : Type 0 where
@@ -14,3 +19,12 @@ pub record NeverFail (source : SourceState) (out err : SinkState) : Type 0 where
 -- the sink has room for the text
 abbrev pub Holds : SinkState → List ℕ → Type 0
 Holds sink text = length sink.taken + length text ≤ sink.capacity
+
+-- it has room for each text that the words and the input may ask for
+abbrev pub HoldsText : List (List ℕ) → List ℕ → SinkState → Type 0
+HoldsText words input out = (text : List ℕ) → Asks words input text → Holds out text
+
+-- and for each line that may tell the status
+abbrev pub HoldsLine : List ℕ → Status → SinkState → Type 0
+HoldsLine input status err = (named : Option Program) → NamesOf (Some input) status named
+    → Holds err (status_text named status)

@@ -1,17 +1,7 @@
 pub mod Answered
 pub mod Answers
-pub mod ArrayText
 pub mod Case
 pub mod Command
-pub mod CopyProgram
-pub mod CopyView
 pub mod Cut
-pub mod DataForm
-pub mod Decimals
 pub mod Deserves
 pub mod InMemory
-pub mod KernelForm
-pub mod Names
-pub mod NextToken
-pub mod StatusText
-pub mod Tokens

@@ -1,14 +1,13 @@
 //! A whole call over ports in memory, as tests make it.
 
 ghost use Rattle.std.specs.Prelude.{◌≡◌, ◌⊎◌, ℕ, List, [], map, string_bytes};
-ghost use Rattle.polypar.specs.declared.status.Status.{Status};
-ghost use Rattle.polypar.specs.Deserves.{Deserves, Asks};
-ghost use Rattle.polypar.specs.StatusText.{status_text};
-ghost use Rattle.polypar.specs.InMemory.{NeverFail, Holds};
+ghost use Rattle.report_text.specs.declared.status.Status.{Status};
+ghost use Rattle.polypar.specs.Deserves.{Deserves};
+ghost use Rattle.polypar.specs.InMemory.{NeverFail, HoldsText, HoldsLine};
 
 use crate::plain::plain_command;
-use crate::status::Status;
 use io_ports::{MemSink, MemSource};
+use report_text::Status;
 use std::alloc::Global;
 
 /// Calls `plain_command` over ports in memory that fail at no call. Where they have room, the status is the one
@@ -23,9 +22,10 @@ pub fn command_in_memory(
     requires { NeverFail source.old out.old err.old }
     ensures whole { result ≡ Status.Done → source.new.left ≡ [] }
     ensures decided { (verdict : Status) → Deserves (map string_bytes words.now) source.old.left verdict
-        → ((text : List ℕ) → Asks (map string_bytes words.now) source.old.left text → Holds out.old text) → Holds err.old (status_text result)
+        → HoldsText (map string_bytes words.now) source.old.left out.old → HoldsLine source.old.left result err.old
         → (result ≡ verdict) ⊎ (result ≡ Status.NoMemory) }
-    ensures calm { ((text : List ℕ) → Asks (map string_bytes words.now) source.old.left text → Holds out.old text) → Holds err.old (status_text result)
+    ensures calm { HoldsText (map string_bytes words.now) source.old.left out.old
+        → HoldsLine source.old.left result err.old
         → (source.new.faults ≡ 0) × (out.new.faults ≡ 0) × (err.new.faults ≡ 0) }
 {
     plain_command(alloc, words, source, out, err)

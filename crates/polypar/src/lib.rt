@@ -4,28 +4,15 @@
 //! arrays of the kernel's own sequential execution, and each status comes from its cause alone.
 #![tactic(auto)]
 
-mod array_text;
-mod case;
 mod command;
-mod copy_kernel;
 mod cut;
-mod data_form;
-mod decimals;
 mod in_memory;
-mod kernel_form;
-mod kernel_reader;
-mod names;
 mod plain;
 mod run;
-mod status;
-mod status_line;
 #[cfg(test)]
 mod tests;
-mod tokens;
 
-pub use data_form::said_once;
 pub use in_memory::command_in_memory;
-pub use kernel_form::spelled_once;
 pub use plain::{deserved_once, plain_command, polypar};
+pub use report_text::{DataRefusal, Outside, Refusal, RefusalKind, Status};
 pub use run::LONGEST_INPUT;
-pub use status::{DataRefusal, Refusal, RefusalKind, Status};

@@ -1,17 +1,22 @@
 //! The two top calls. Their one clause, `Answered`, is the headline, the cause of each status, and completeness.
 
-ghost use Rattle.std.specs.Prelude.{◌≡◌, ℕ, List, map, string_bytes};
-ghost use Rattle.polypar.specs.declared.status.Status.{Status};
+ghost use Rattle.std.specs.Prelude.{◌≡◌, ℕ, List, map, string_bytes, option_map};
+ghost use Rattle.scop_syntax.specs.View.{program_of};
+ghost use Rattle.report_text.specs.declared.status.Status.{Status};
 ghost use Rattle.polypar.specs.Deserves.{Deserves};
 ghost use Rattle.polypar.specs.Answers.{AnswersWords, IsReadOn, TellsStatus};
-ghost use Rattle.polypar.specs.Answered.{Answered};
+ghost use Rattle.polypar.specs.Answered.{Answered, NamesOf};
 
 use crate::command::is_run;
-use crate::run::run;
-use crate::status::Status;
-use crate::status_line::status_line;
+use crate::run::{Ending, run};
+use data_text::said_once;
 use io_ports::{Failed, Gate, Sink, Source};
+use report_text::{Status, status_line};
+use scop_parser::laws::{
+    faults_leave_no_program, texts_have_one_first_fault, texts_spell_one_program,
+};
 use scop_syntax::failure_laws::failures_are_the_first;
+use scop_syntax::tree::Kernel;
 use std::alloc::Global;
 
 /// Does what the words ask for, and tells a status other than Done on `err` as the last act.
@@ -22,12 +27,13 @@ pub fn plain_command<S: Source, O: Sink, E: Sink>(
     out: &mut O,
     err: &mut E,
 ) -> Status
-    ensures { Answered (map string_bytes words.now) result (S.shows source.old) (S.shows source.new) (O.shows out.old) (O.shows out.new) (E.shows err.old) (E.shows err.new) }
+    ensures { Answered (map string_bytes words.now) result (S.shows source.old) (S.shows source.new) (O.shows out.old)
+        (O.shows out.new) (E.shows err.old) (E.shows err.new) }
 {
-    failures_are_the_first();
-    let status = answer(alloc, words, source, out, err);
-    tell(status, err);
-    status
+    deserved_once();
+    let ending = answer(alloc, words, source, out, err);
+    tell(ending.status, ending.kernel.as_ref(), err);
+    ending.status
 }
 
 /// Does what the words ask for, as `plain_command`: no command of this stage starts a thread or waits.
@@ -40,16 +46,22 @@ pub fn polypar<R, S: Source, O: Sink, E: Sink, G: Gate>(
     err: &mut E,
     _gate: &G,
 ) -> Status
-    ensures { Answered (map string_bytes words.now) result (S.shows source.old) (S.shows source.new) (O.shows out.old) (O.shows out.new) (E.shows err.old) (E.shows err.new) }
+    ensures { Answered (map string_bytes words.now) result (S.shows source.old) (S.shows source.new) (O.shows out.old)
+        (O.shows out.new) (E.shows err.old) (E.shows err.new) }
 {
     plain_command(alloc, words, source, out, err)
 }
 
 /// Words and an input deserve one status.
 pub fn deserved_once()
-    ensures { (words : List (List ℕ)) (input : List ℕ) (a b : Status) → Deserves words input a → Deserves words input b → a ≡ b }
+    ensures { (words : List (List ℕ)) (input : List ℕ) (a b : Status) → Deserves words input a → Deserves words input b
+        → a ≡ b }
 {
     failures_are_the_first();
+    texts_spell_one_program();
+    faults_leave_no_program();
+    texts_have_one_first_fault();
+    said_once();
 }
 
 /// All of a command but the line that tells its status.
@@ -59,29 +71,31 @@ fn answer<S: Source, O: Sink, E: Sink>(
     source: &mut S,
     out: &mut O,
     err: &mut E,
-) -> Status
-    ensures answer { AnswersWords (map string_bytes words.now) result (S.shows source.old) (S.shows source.new) (O.shows out.old) (O.shows out.new) (E.shows err.old) (E.shows err.new) }
+) -> Ending
+    ensures answer { AnswersWords (map string_bytes words.now) result.status (S.shows source.old) (S.shows source.new)
+        (O.shows out.old) (O.shows out.new) (E.shows err.old) (E.shows err.new) }
+    ensures names { NamesOf (S.shows source.old).left result.status (option_map program_of result.kernel) }
     ensures read_on { IsReadOn (S.shows source.old) (S.shows source.new) }
 {
     if !is_run(words) {
-        return Status::Usage;
+        return Ending::of(Status::Usage);
     }
-    let status = run(alloc, source, out);
-    if status != Status::Done {
-        return status;
+    let ending = run(alloc, source, out);
+    if ending.status != Status::Done {
+        return ending;
     }
     match err.flush() {
-        Ok(()) => Status::Done,
-        Err(Failed) => Status::WriteFault,
+        Ok(()) => ending,
+        Err(Failed) => Ending::of(Status::WriteFault),
     }
 }
 
-/// Tells a status other than Done.
-fn tell<E: Sink>(status: Status, err: &mut E)
-    ensures { TellsStatus status (E.shows err.old) (E.shows err.new) }
+/// Tells a status other than Done, with the names of the kernel that was read.
+fn tell<E: Sink>(status: Status, kernel: Option<&Kernel>, err: &mut E)
+    ensures { TellsStatus (option_map (λ k. program_of k.now) kernel.entry) status (E.shows err.old) (E.shows err.new) }
 {
     if status != Status::Done {
         // The status stays where its line cannot be written.
-        let _ = status_line(status, err);
+        let _ = status_line(status, kernel, err);
     }
 }

@@ -1,29 +1,27 @@
 //! The command `run`: the source is read to its end and cut into a kernel and its data, the kernel is
 //! executed in its own order, and the final arrays are printed.
 
-ghost use Rattle.std.specs.Prelude.{◌≡◌, None};
+ghost use Rattle.std.specs.Prelude.{◌≡◌, None, Some, option_map};
 ghost use Rattle.io_ports.specs.Writes.{Writes};
 ghost use Rattle.scop_syntax.specs.View.{program_of};
+ghost use Rattle.scop_syntax.specs.Kernel.{IsKernel};
 ghost use Rattle.scop_syntax.specs.Walk.{walk_of};
 ghost use Rattle.scop_syntax.specs.Execution.{layout, IsShaped};
 ghost use Rattle.scop_syntax.specs.Failures.{first_outside};
 ghost use Rattle.scop_syntax.specs.Limits.{WithinLimits};
-ghost use Rattle.polypar.specs.ArrayText.{array_text};
-ghost use Rattle.polypar.specs.CopyProgram.{IsCopy};
+ghost use Rattle.data_text.specs.ArrayText.{array_text};
 ghost use Rattle.polypar.specs.Case.{IsShort};
-ghost use Rattle.polypar.specs.Deserves.{refused};
+ghost use Rattle.polypar.specs.Deserves.{too_long};
 ghost use Rattle.polypar.specs.Answers.{AnswersCase, AnswersData, AnswersInput, AnswersRun, IsReadOn};
+ghost use Rattle.polypar.specs.Answered.{NamesOf};
 
-use crate::array_text::write_arrays;
-use crate::case::{Case, read_case};
 use crate::cut::cut;
-use crate::data_form::ReadDataError;
-use crate::kernel_reader::{ReadKernelError, read_kernel};
-use crate::status::{DataRefusal, Refusal, RefusalKind, Status};
+use data_text::{Case, DataStop, read_data, write_arrays};
 use io_ports::{Failed, ReadError, Sink, Source, read_to_end};
+use report_text::{Refusal, RefusalKind, Status};
 use scop_meaning::index::first_outside;
 use scop_meaning::interpreter::run_plain;
-use scop_syntax::arrays::Arrays;
+use scop_parser::reader::{ReadKernelError, read_kernel};
 use scop_syntax::failure_laws::failures_are_the_first;
 use scop_syntax::limit_laws::accesses_have_the_ranks_of_arrays;
 use scop_syntax::tree::Kernel;
@@ -32,92 +30,123 @@ use std::alloc::Global;
 /// The longest input that is read, in bytes.
 pub const LONGEST_INPUT: usize = 134_217_728;
 
+/// How a run ended, and the kernel that it read: the line of the status has its names.
+#[derive(Drop)]
+pub(crate) struct Ending {
+    pub(crate) status: Status,
+    pub(crate) kernel: Option<Kernel>,
+}
+
+impl Ending {
+    /// The end of a run that read no kernel.
+    pub(crate) fn of(status: Status) -> Ending
+        ensures { result ≡ record { status = status; kernel = None } }
+    {
+        Ending {
+            status,
+            kernel: None,
+        }
+    }
+}
+
 /// Reads the source to its end, and prints the final arrays of what it says.
-pub(crate) fn run<S: Source, O: Sink>(alloc: Global, source: &mut S, out: &mut O) -> Status
-    ensures answer { AnswersRun result (S.shows source.old) (S.shows source.new) (O.shows out.old) (O.shows out.new) }
+pub(crate) fn run<S: Source, O: Sink>(alloc: Global, source: &mut S, out: &mut O) -> Ending
+    ensures answer { AnswersRun result.status (S.shows source.old) (S.shows source.new) (O.shows out.old)
+        (O.shows out.new) }
+    ensures names { NamesOf (S.shows source.old).left result.status (option_map program_of result.kernel) }
     ensures read_on { IsReadOn (S.shows source.old) (S.shows source.new) }
 {
     match read_to_end(alloc, source, LONGEST_INPUT) {
         Ok(input) => run_input(alloc, &input, out),
-        Err(ReadError::Failed) => Status::ReadFault,
-        Err(ReadError::TooLong) => refused(RefusalKind::TooLong),
-        Err(ReadError::NoMemory) => Status::NoMemory,
+        Err(ReadError::Failed) => Ending::of(Status::ReadFault),
+        Err(ReadError::TooLong) => Ending::of(too_long()),
+        Err(ReadError::NoMemory) => Ending::of(Status::NoMemory),
     }
 }
 
-/// A refusal that stands at the input's first byte.
-fn refused(kind: RefusalKind) -> Status
-    ensures { result ≡ refused kind }
+/// The refusal of an input that is too long, which stands at its first byte.
+fn too_long() -> Status
+    ensures { result ≡ too_long }
 {
     Status::Refused(Refusal {
-        kind,
+        kind: RefusalKind::TooLong,
         line: 1,
         column: 1,
     })
 }
 
 /// Reads the kernel of an input, and goes on with its data.
-fn run_input<O: Sink>(alloc: Global, input: &[u8], out: &mut O) -> Status
+fn run_input<O: Sink>(alloc: Global, input: &[u8], out: &mut O) -> Ending
     requires { IsShort input.now }
-    ensures { AnswersInput result input.now (O.shows out.old) (O.shows out.new) }
+    ensures answer { AnswersInput result.status input.now (O.shows out.old) (O.shows out.new) }
+    ensures names { NamesOf (Some input.now) result.status (option_map program_of result.kernel) }
 {
     let parts = cut(input);
     match read_kernel(alloc, parts.kernel) {
-        Ok(kernel) => run_kernel(alloc, &kernel, parts.case, out),
-        Err(ReadKernelError::NotSpelled) => refused(RefusalKind::Token),
-        Err(ReadKernelError::NoMemory) => Status::NoMemory,
+        Ok(kernel) => {
+            let status = run_kernel(alloc, &kernel, parts.case, out);
+            Ending {
+                status,
+                kernel: Some(kernel),
+            }
+        }
+        Err(ReadKernelError::Refused(refusal)) => Ending::of(Status::Refused(refusal)),
+        Err(ReadKernelError::NoMemory) => Ending::of(Status::NoMemory),
     }
 }
 
 /// Reads the data of a kernel, and goes on with the case that it says.
 fn run_kernel<O: Sink>(alloc: Global, kernel: &Kernel, text: &[u8], out: &mut O) -> Status
-    requires { IsCopy (program_of kernel.now) }
+    requires { IsKernel (program_of kernel.now) }
     ensures { AnswersData result (program_of kernel.now) text.now (O.shows out.old) (O.shows out.new) }
 {
-    match read_case(alloc, kernel, text) {
+    match read_data(alloc, kernel, text) {
         Ok(case) => run_case(kernel, case, out),
-        Err(ReadDataError::NotSaid) => Status::BadData(DataRefusal::Line(1)),
-        Err(ReadDataError::NoMemory) => Status::NoMemory,
+        Err(DataStop::Refused(refusal)) => Status::BadData(refusal),
+        Err(DataStop::NoMemory) => Status::NoMemory,
     }
 }
 
 /// Checks the subscripts of a case, and prints the final arrays where all lie in their extents.
 fn run_case<O: Sink>(kernel: &Kernel, case: Case, out: &mut O) -> Status
     requires limits { WithinLimits (program_of kernel.now) case.params.items }
-    requires shape { IsShaped (layout (program_of kernel.now) case.params.items) case.arrays }
+    requires shape { IsShaped case.extents case.arrays }
     requires extents { case.extents ≡ layout (program_of kernel.now) case.params.items }
-    ensures { AnswersCase result (program_of kernel.now) case.params.items case.arrays (O.shows out.old) (O.shows out.new) }
+    ensures { AnswersCase result (program_of kernel.now) case.params.items case.arrays (O.shows out.old)
+        (O.shows out.new) }
 {
-    let arrays = case.arrays;
     match first_outside(kernel, &case.params, &case.extents) {
         Some(outside) => Status::Outside(outside),
-        None => run_inside(kernel, &case.params, arrays, out),
+        None => run_inside(kernel, case, out),
     }
 }
 
 /// Executes the kernel, whose subscripts all lie in their extents, and prints the final arrays.
-fn run_inside<O: Sink>(kernel: &Kernel, params: &[i64], arrays: Arrays, out: &mut O) -> Status
-    requires limits { WithinLimits (program_of kernel.now) params.now }
-    requires shape { IsShaped (layout (program_of kernel.now) params.now) arrays }
-    requires none { first_outside (layout (program_of kernel.now) params.now) (walk_of (program_of kernel.now) params.now) ≡ None }
-    ensures { AnswersCase result (program_of kernel.now) params.now arrays (O.shows out.old) (O.shows out.new) }
+fn run_inside<O: Sink>(kernel: &Kernel, case: Case, out: &mut O) -> Status
+    requires limits { WithinLimits (program_of kernel.now) case.params.items }
+    requires shape { IsShaped case.extents case.arrays }
+    requires extents { case.extents ≡ layout (program_of kernel.now) case.params.items }
+    requires none { first_outside (layout (program_of kernel.now) case.params.items)
+        (walk_of (program_of kernel.now) case.params.items) ≡ None }
+    ensures { AnswersCase result (program_of kernel.now) case.params.items case.arrays (O.shows out.old)
+        (O.shows out.new) }
 {
     accesses_have_the_ranks_of_arrays();
     failures_are_the_first();
-    let mut arrays = arrays;
-    run_plain(kernel, params, &mut arrays);
-    match print_arrays(kernel, &arrays, out) {
+    let mut case = case;
+    run_plain(kernel, &case.params, &mut case.arrays);
+    match print_arrays(kernel, &case, out) {
         Ok(()) => Status::Done,
         Err(Failed) => Status::WriteFault,
     }
 }
 
-/// Writes the text of the arrays, and flushes it.
+/// Writes the text of a case's arrays, and flushes it.
 #[tactic(auto, using(io_ports::proofs::Writing::flushed))]
-fn print_arrays<O: Sink>(kernel: &Kernel, arrays: &Arrays, out: &mut O) -> Result<(), Failed>
-    ensures { Writes (O.shows out.old) (O.shows out.new) (array_text (program_of kernel.now) arrays.now) result }
+fn print_arrays<O: Sink>(kernel: &Kernel, case: &Case, out: &mut O) -> Result<(), Failed>
+    ensures { Writes (O.shows out.old) (O.shows out.new) (array_text (program_of kernel.now) case.now.arrays) result }
 {
-    match write_arrays(kernel, arrays, out) {
+    match write_arrays(kernel, case, out) {
         Ok(()) => out.flush(),
         Err(failed) => Err(failed),
     }

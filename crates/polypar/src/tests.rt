@@ -1,81 +1,290 @@
-//! Whole calls over in-memory ports: worked cases, faulty streams, and near misses of the text and the data.
+//! Whole calls over in-memory ports: worked kernels, refusals with their places, and faulty streams.
 
 use super::*;
 use io_ports::{MemSink, MemSource, OpenGate};
 use std::alloc::{AllocError, Global};
 use std::test::Fail;
 
-const KERNEL: &str =
+const COPY: &str =
     "void copy(int64_t N, uint64_t A[N], uint64_t B[N]) { for (int64_t i = 0; i < N; i++) B[i] = A[i]; }\n";
 
 const USAGE: &str =
     "usage: polypar run|schedule|deps|emit|gen [--workers 1..64] [--tile 1..1024] [--budget 1..20000] [--report]\n";
 
-/// Data that says a case, and the arrays that are printed.
-const SAID: [(&str, &str); 7] = [
-    ("%%\nN = 4\nA = 1 2 3 4\n", "A = 1 2 3 4\nB = 1 2 3 4\n"),
-    ("%%\nN = 4\nA = 1 2 3 4", "A = 1 2 3 4\nB = 1 2 3 4\n"),
-    ("%%\r\nN = 1\nA = 0\n", "A = 0\nB = 0\n"),
+/// Kernels with their data, and the arrays that are printed.
+const RUNS: [(&str, &str); 15] = [
     (
-        "%%\nN = 1\nA = 18446744073709551615\n",
+        "void copy(int64_t N, uint64_t A[N], uint64_t B[N]) {
+  for (int64_t i = 0; i < N; i++) B[i] = A[i]; }
+%%
+N = 4
+A = 1 2 3 4
+",
+        "A = 1 2 3 4\nB = 1 2 3 4\n",
+    ),
+    (
+        "void copy(int64_t N, uint64_t A[N], uint64_t B[N]) {
+  for (int64_t i = 0; i < N; i++) B[i] = A[i]; }
+%%\r
+N = 1\r
+A = 18446744073709551615",
         "A = 18446744073709551615\nB = 18446744073709551615\n",
     ),
-    ("%%\nN = 2\nA = 10 9\n", "A = 10 9\nB = 10 9\n"),
     (
-        "%%\nN = 1\nA = 18446744073709551614",
-        "A = 18446744073709551614\nB = 18446744073709551614\n",
+        "void pre(int64_t N, uint64_t A[N]) {
+  for (int64_t i = 1; i < N; i++) A[i] += A[i-1];
+}
+%%
+N = 5
+A = 1 1 1 1 1
+",
+        "A = 1 2 3 4 5\n",
     ),
-    ("%%\nN = 3\nA = 0 0 7\n", "A = 0 0 7\nB = 0 0 7\n"),
+    (
+        "void pre(int64_t N, uint64_t A[N]) {
+  for (int64_t i = 1; i < N; i++) A[i] += A[i-1];
+}
+%%
+N = 1
+A = 9
+",
+        "A = 9\n",
+    ),
+    (
+        "void w(uint64_t A[1]) { A[0] += 1; }\n%%\nA = 18446744073709551615\n",
+        "A = 0\n",
+    ),
+    (
+        "void mm(int64_t N, uint64_t A[N][N], uint64_t B[N][N], uint64_t C[N][N]) {
+  for (int64_t i = 0; i < N; i++) for (int64_t j = 0; j < N; j++)
+    for (int64_t k = 0; k < N; k++) C[i][j] += A[i][k] * B[k][j]; }
+%%
+N = 2
+A = 1 2 3 4
+B = 5 6 7 8
+",
+        "A = 1 2 3 4\nB = 5 6 7 8\nC = 19 22 43 50\n",
+    ),
+    (
+        "void seidel(int64_t T, int64_t N, uint64_t A[N]) {
+  for (int64_t t = 0; t < T; t++) for (int64_t i = 1; i < N - 1; i++)
+    A[i] = A[i-1] + A[i] + A[i+1]; }
+%%
+T = 2
+N = 5
+A = 1 1 1 1 1
+",
+        "A = 1 9 21 29 1\n",
+    ),
+    (
+        "void rev(int64_t N, uint64_t A[N]) {
+  for (int64_t i = N-1; i >= 1; i -= 2) A[i] = A[i-1]; }
+%%
+N = 5
+A = 10 20 30 40 50
+",
+        "A = 10 20 20 40 40\n",
+    ),
+    (
+        "void tri(int64_t N, uint64_t A[N][N]) {
+  for (int64_t i = 0; i < N; i++) for (int64_t j = 0; j <= i; j++)
+    A[i][j] = i + 10*j; }
+%%
+N = 3
+",
+        "A = 0 0 0 1 11 0 2 12 22\n",
+    ),
+    (
+        "void odd(int64_t N, uint64_t A[2*N]) {
+  for (int64_t j = 0; j < N; j++) A[2*j] = A[2*j+1]; }
+%%
+N = 2
+A = 1 2 3 4
+",
+        "A = 2 2 4 4\n",
+    ),
+    (
+        "void even(int64_t N, uint64_t A[2*N], uint64_t B[2*N]) {
+  for (int64_t j = 0; j < N; j++) A[2*j] = 7;
+  for (int64_t i = 0; i < 2*N; i++) B[i] = A[i]; }
+%%
+N = 2
+A = 1 2 3 4
+",
+        "A = 7 2 7 4\nB = 7 2 7 4\n",
+    ),
+    (
+        "void two(int64_t N, uint64_t A[N+1], uint64_t B[N]) {
+  for (int64_t i = 0; i < N; i++) { A[i] = A[i] + 1; B[i] = A[i+1]; } }
+%%
+N = 3
+A = 1 2 3 4
+",
+        "A = 2 3 4 4\nB = 2 3 4\n",
+    ),
+    (
+        "void g(int64_t N, uint64_t A[N]) {
+  int64_t i;
+  for (i = 0; i < N; i++) if ((i >= 1) && (2 >= i)) A[i] = i - 3; }
+%%
+N = 4
+",
+        "A = 0 18446744073709551614 18446744073709551615 0\n",
+    ),
+    (
+        "void copy(int64_t N, uint64_t A[N], uint64_t B[N]) {
+  for (int64_t i = 0; i < N; i++) B[i] = A[i]; }
+%%
+N=2
+A = seed 0
+",
+        "A = 11400714819323198485 4354685564936845354\nB = 11400714819323198485 4354685564936845354\n",
+    ),
+    (
+        "/* no loop */
+#include <stdint.h>
+void one(uint64_t A[1][2]) { A[0][1] = 16*A[0][0]; }
+%%
+A = 3 0
+",
+        "A = 3 48\n",
+    ),
 ];
 
-/// Data that says none.
-const NOT_SAID: [&str; 34] = [
-    "",
-    "%%",
-    "%%\n",
-    "%%\r\n",
-    "%%\n\nN = 1\nA = 5\n",
-    "%%\n%%\nN = 1\nA = 5\n",
-    "%%\nN = 0\nA =\n",
-    "%%\nN = 0\nA = \n",
-    "%%\nN = 65537\nA = 1\n",
-    "%%\nN = 01\nA = 5\n",
-    "%%\nN = +1\nA = 5\n",
-    "%%\nN = -1\nA = 5\n",
-    "%%\nN = 1\nA = 18446744073709551616\n",
-    "%%\nN = 1\nA = 99999999999999999999\n",
-    "%%\nN = 1\nA = 05\n",
-    "%%\nN = 2\nA = 00 1\n",
-    "%%\nN = 1\nA = 5 \n",
-    "%%\nN = 1\nA =  5\n",
-    "%%\nN = 2\nA = 5  6\n",
-    "%%\nN = 2\nA = 5\t6\n",
-    "%%\nN = 1 \nA = 5\n",
-    "%%\n N = 1\nA = 5\n",
-    "%%\nN  = 1\nA = 5\n",
-    "%%\nN=1\nA = 5\n",
-    "%%\nN = 1\r\nA = 5\r\n",
-    "%%\nN = 1\n\nA = 5\n",
-    "%%\nN = 1\nA = 5\n\n",
-    "%%\nN = 1\nA = 5\nB = 5\n",
-    "%%\nN = 2\nA = 5\n",
-    "%%\nN = 1\nA = 5 6\n",
-    "%%\nM = 1\nA = 5\n",
-    "%%\nN = 1\nB = 5\n",
-    "%%\nN = 1\nA = seed 5\n",
-    "%%\nN = 1\nA = 0x5\n",
-];
-
-/// Whole inputs whose text is no kernel.
-const NO_KERNEL: [&str; 8] = [
-    "",
-    "\n",
-    "%%\nN = 1\nA = 5\n",
-    "/* */ void copy(int64_t N, uint64_t A[N], uint64_t B[N]) { for (int64_t i = 0; i < N; i++) B[i] = A[i]; }\n%%\nN = 1\nA = 5\n",
-    "void copy(int64_t N, uint64_t A[N], uint64_t B[N]) { for (int64_t i = 0; i < N; i++) B[i] = A[i]; }\n %%\nN = 1\nA = 5\n",
-    "void copy(int64_t N, uint64_t A[N], uint64_t B[N]) { for (int64_t i = 0; i < N; i++) B[i] = A[i]; }\n%%%\nN = 1\nA = 5\n",
-    "void copy(int64_t N, uint64_t A[N], uint64_t B[N]) { for (int64_t i = 0; i < N; i++) B[i] = A[i]; } %%\nN = 1\nA = 5\n",
-    "void copy(int64_t N, uint64_t A[N], uint64_t B[N]) { for (int64_t i = 0; i < N; i++) B[i] = A[i]; }\0\n%%\nN = 1\nA = 5\n",
+/// Inputs that are refused, the exit status, and the line that tells why.
+const REFUSED: [(&str, u8, &str); 18] = [
+    (
+        "void copy(int64_t N, uint64_t A[N], uint64_t B[N]) {
+  for (int64_t i = 0; i < N; i++) B[i] = A[i]; }
+%%
+N = 0
+",
+        3,
+        "data: Extent A 1 value 0\n",
+    ),
+    (
+        "void copy(int64_t N, uint64_t A[N], uint64_t B[N]) {
+  for (int64_t i = 0; i < N; i++) B[i] = A[i+1]; }
+%%
+N = 3
+",
+        4,
+        "outside: S1 access 1 dimension 1 value 3 extent 3\n",
+    ),
+    (
+        "void k(int64_t N, uint64_t A[N]) {\n  for (int64_t i = 0; i < N; i++)\n    A[i*i] = 0;\n}\n",
+        2,
+        "refused: NotAffine 3:8\n",
+    ),
+    (
+        "void k(int64_t N, uint64_t A[N]) {\n  A[0] = 5 - 7;\n}\n",
+        2,
+        "refused: SignedValue 2:12\n",
+    ),
+    (
+        "void k(int64_t N, uint64_t A[N]) {\n  A[0] = A[0] << 64;\n}\n",
+        2,
+        "refused: ShiftCount 2:15\n",
+    ),
+    (
+        "void k(uint64_t A[1]) {\n  for (",
+        2,
+        "refused: Unended 2:8\n",
+    ),
+    (
+        "void copy(int64_t N, uint64_t A[N], uint64_t B[N]) {
+  for (int64_t i = 0; i < N; i++) B[i] = A[i]; }
+%%
+N = 3
+N = 3
+",
+        3,
+        "data: Repeated line 2\n",
+    ),
+    (
+        "void copy(int64_t N, uint64_t A[N], uint64_t B[N]) {
+  for (int64_t i = 0; i < N; i++) B[i] = A[i]; }
+%%
+N = 4
+A = 1 2 3 4 5
+",
+        3,
+        "data: Count line 2 expected 4 found 5\n",
+    ),
+    (
+        "void copy(int64_t N, uint64_t A[N], uint64_t B[N]) {
+  for (int64_t i = 0; i < N; i++) B[i] = A[i]; }
+",
+        3,
+        "data: Missing N\n",
+    ),
+    ("", 2, "refused: Unended 1:1\n"),
+    ("%%\nN = 1\nA = 5\n", 2, "refused: Unended 1:1\n"),
+    (
+        "void copy(int64_t N, uint64_t A[N], uint64_t B[N]) {
+  for (int64_t i = 0; i < N; i++) B[i] = A[i]; }
+ %%
+N = 1
+A = 5
+",
+        2,
+        "refused: Token 3:2\n",
+    ),
+    (
+        "void copy(int64_t N, uint64_t A[N], uint64_t B[N]) {
+  for (int64_t i = 0; i < N; i++) B[i] = A[i]; }\0
+%%
+N = 1
+A = 5
+",
+        2,
+        "refused: Character 2:49\n",
+    ),
+    (
+        "void k(int64_t N, uint64_t A[N]) {\n  for (int64_t i = 0; i < N; i++) A[17*i] = 0;\n}\n",
+        2,
+        "refused: Coefficient 2:39\n",
+    ),
+    (
+        "void deep(int64_t N, uint64_t A[N]) {
+for (int64_t a = 0; a < N; a++)
+for (int64_t b = 0; b < N; b++)
+for (int64_t c = 0; c < N; c++)
+for (int64_t d = 0; d < N; d++)
+for (int64_t e = 0; e < N; e++)
+for (int64_t f = 0; f < N; f++)
+A[0] = 1; }
+",
+        2,
+        "refused: Depth 7:1\n",
+    ),
+    (
+        "void copy(int64_t N, uint64_t A[N], uint64_t B[N]) {
+  for (int64_t i = 0; i < N; i++) B[i] = M[i]; }
+%%
+N = 0
+",
+        2,
+        "refused: UnknownName 2:42\n",
+    ),
+    (
+        "void copy(int64_t N, uint64_t A[N], uint64_t B[N]) {
+  for (int64_t i = 0; i < N; i++) B[i] = A[i]; }
+%%
+M = 1
+",
+        3,
+        "data: UnknownName line 1\n",
+    ),
+    (
+        "void copy(int64_t N, uint64_t A[N], uint64_t B[N]) {
+  for (int64_t i = 0; i < N; i++) B[i] = A[i]; }
+%%
+N = 65537
+",
+        3,
+        "data: ParameterRange line 1\n",
+    ),
 ];
 
 /// How a call ended, and what its sinks took.
@@ -127,9 +336,9 @@ fn call(
     call_with(rt, words, source, out, &[])
 }
 
-/// A kernel and data behind it.
+/// The copy kernel and data behind it.
 fn with_data(alloc: Global, data: &str) -> Result<String, AllocError> {
-    let mut input = String::from_str(alloc, KERNEL)?;
+    let mut input = String::from_str(alloc, COPY)?;
     input.push_str(data)?;
     Ok(input)
 }
@@ -145,48 +354,23 @@ fn run_on(rt: &HostRuntime, input: &[u8]) -> Result<Answer, AllocError> {
 }
 
 #[test]
-fn prints_what_the_data_says(rt: HostRuntime) -> Result<(), Fail> {
-    for (data, printed) in SAID {
-        let input = with_data(rt.alloc(), data)?;
+fn prints_the_arrays_of_the_execution(rt: HostRuntime) -> Result<(), Fail> {
+    for (input, printed) in RUNS {
         let answer = run_on(&rt, input.as_bytes())?;
-        assert_eq!(rt; answer.status, Status::Done, "{data}");
-        assert_eq!(rt; answer.out.taken(), printed.as_bytes(), "{data}");
-        assert_eq!(rt; answer.err.taken(), b"".as_slice(), "{data}");
+        assert_eq!(rt; answer.status, Status::Done, "{input}");
+        assert_eq!(rt; answer.out.taken(), printed.as_bytes(), "{input}");
+        assert_eq!(rt; answer.err.taken(), b"".as_slice(), "{input}");
     }
     Ok(())
 }
 
 #[test]
-fn refuses_other_data(rt: HostRuntime) -> Result<(), Fail> {
-    for data in NOT_SAID {
-        let input = with_data(rt.alloc(), data)?;
+fn refuses_with_the_place(rt: HostRuntime) -> Result<(), Fail> {
+    for (input, exit, line) in REFUSED {
         let answer = run_on(&rt, input.as_bytes())?;
-        assert_eq!(rt;
-            answer.status,
-            Status::BadData(DataRefusal::Line(1)),
-            "{data}"
-        );
-        assert_eq!(rt; answer.out.taken(), b"".as_slice(), "{data}");
-        assert_eq!(rt;
-            answer.err.taken(),
-            b"data: Line line 1\n".as_slice(),
-            "{data}"
-        );
-    }
-    Ok(())
-}
-
-#[test]
-fn refuses_other_texts(rt: HostRuntime) -> Result<(), Fail> {
-    for input in NO_KERNEL {
-        let answer = run_on(&rt, input.as_bytes())?;
-        assert_eq!(rt; answer.status.exit_code(), 2, "{input}");
+        assert_eq!(rt; answer.status.exit_code(), exit, "{input}");
         assert_eq!(rt; answer.out.taken(), b"".as_slice(), "{input}");
-        assert_eq!(rt;
-            answer.err.taken(),
-            b"refused: Token 1:1\n".as_slice(),
-            "{input}"
-        );
+        assert_eq!(rt; answer.err.taken(), line.as_bytes(), "{input}");
     }
     Ok(())
 }

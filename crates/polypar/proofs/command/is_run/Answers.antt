@@ -7,7 +7,8 @@ use Rattle.polypar.proofs.command.is_run.Goals as goal
 pub returns-then-words-eq2 : goal.returns-then-words-eq2
 returns-then-words-eq2 c =
     let words = c.args.words.now in
-    let two : length (map (string_bytes {Z = Global}) words) ≡ 2 = length-map words (string_bytes {Z = Global}) ∙ c.if-words-eq2.true in
+    let two : length (map (string_bytes {Z = Global}) words) ≡ 2 = length-map words (string_bytes {Z = Global})
+    ∙ c.if-words-eq2.true in
     let second : slice_index_or (map (string_bytes {Z = Global}) words) 1 [] ≡ c.as_str.result.now =
     get_or-map (string_bytes {Z = Global}) words 1 c.index-words-1.result [] (omega arith)
     ∙ (ap (string_bytes {Z = Global}) (sym c.index-words-1.is) ∙ sym c.as_str.ensures.value) in

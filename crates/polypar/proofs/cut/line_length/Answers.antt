@@ -13,4 +13,5 @@ returns-clause-first c =
     let text = c.args.text.now in
     let whole : length text - 1 + 1 ≡ length text = omega (arith, c.requires) in
     subst (λ n. lines_of text ≡ take n text ∷ lines_of (drop n text)) whole
-    (first_line text (length text - 1) (omega (arith, c.requires)) (λ k h. c.loop-at.invariant k (omega arith)) (inr whole))
+    (first_line text (length text - 1) (omega (arith, c.requires)) (λ k h. c.loop-at.invariant k (omega arith))
+    (inr whole))

@@ -6,12 +6,20 @@ use Rattle.polypar.proofs.run.run.Goals as goal
 
 pub returns-in-Err-TooLong-clause-answer : goal.returns-in-Err-TooLong-clause-answer
 returns-in-Err-TooLong-clause-answer g c =
+    let source = g.S.Source.shows c.args.source.now in
+    let after = g.S.Source.shows c.read_to_end.new.source in
     let out = g.O.Sink.shows c.args.out.now in
-    let input = long_input (g.S.Source.shows c.args.source.now).left 134217728 (c.in-Err-TooLong.ensures.too_long (ap Err c.in-Err-TooLong.field-0-is)) in
-    subst (λ status. AnswersRun status (g.S.Source.shows c.args.source.now) (g.S.Source.shows c.read_to_end.new.source) out out) (sym c.refused.ensures)
-    (inl (record { input = input.0; whole = input.1; answer = (inr (input.2, refl), refl); at_end = λ e. cc }))
+    let input = long_input source.left 134217728
+    (c.in-Err-TooLong.ensures.too_long (ap Err c.in-Err-TooLong.field-0-is)) in
+    subst (λ ending. AnswersRun ending.status source after out out) (sym c.of-in-Err-TooLong.ensures)
+    (subst (λ status. AnswersRun status source after out out) (sym c.too_long.ensures)
+    (inl (record { input = input.0; whole = input.1; answer = (inr (input.2, refl), refl); at_end = λ e. cc })))
 
 pub returns-in-Err-NoMemory-clause-answer : goal.returns-in-Err-NoMemory-clause-answer
 returns-in-Err-NoMemory-clause-answer g c =
-    let input = some_input (g.S.Source.shows c.args.source.now).left in
-    inl (record { input = input.0; whole = input.1; answer = refl; at_end = λ e. cc })
+    let source = g.S.Source.shows c.args.source.now in
+    let after = g.S.Source.shows c.read_to_end.new.source in
+    let out = g.O.Sink.shows c.args.out.now in
+    let input = some_input source.left in
+    subst (λ ending. AnswersRun ending.status source after out out) (sym c.of-in-Err-NoMemory.ensures)
+    (inl (record { input = input.0; whole = input.1; answer = refl; at_end = λ e. cc }))

@@ -1,0 +1,84 @@
+-- Each check in the order of work has one outcome, so words and an input deserve one status.
+use Rattle.std.proofs.Common.{◌≡◌, ◌∙◌, sym, subst, ap, inl, inr, ℕ, ◌≤◌, ◌^◌, ℤ, List, length, Option, None, Some}
+use Rattle.std.proofs.Common.{arith}
+use Rattle.std.specs.Prelude.{Err}
+use Rattle.scop_syntax.specs.Tree.{Program}
+use Rattle.scop_syntax.specs.Walk.{Visit}
+use Rattle.scop_syntax.specs.Execution.{AreInside}
+use Rattle.scop_syntax.specs.Failures.{first_outside}
+use Rattle.scop_meaning.specs.Outside.{outside_of}
+use Rattle.scop_parser.specs.Spelling.{SpellsProgram, IsFirstFault, IsRefusedAs}
+use Rattle.scop_parser.specs.declared.refusal.Refusal.{Refusal}
+use Rattle.scop_parser.specs.declared.refusal.RefusalKind.{RefusalKind}
+use Rattle.data_lines.specs.declared.refusal.DataRefusal.{DataRefusal}
+use Rattle.data_text.specs.Cases.{Says, data_said}
+use Rattle.report_text.specs.declared.status.Status.{Status}
+use Rattle.report_text.specs.declared.status.Status.TheVariants.{Outside, Refused, BadData}
+use Rattle.polypar.specs.Cut.{kernel_part, data_part}
+use Rattle.polypar.specs.Deserves.{DeservesCase, DeservesData, DeservesText, DeservesInput, Deserves}
+
+-- the laws of failures, of texts and of data on which this stands
+pub record Laws : Type 0 where
+  pub inside : (extents : List (List ℕ)) (visits : List Visit) → AreInside extents visits
+      → first_outside extents visits ≡ None
+  pub program : (text : List ℕ) (p q : Program) → SpellsProgram text p → SpellsProgram text q → p ≡ q
+  pub fault : (text : List ℕ) (kind : RefusalKind) (at : ℕ) (p : Program) → IsFirstFault text kind at
+      → SpellsProgram text p → ⊥
+  pub refusal : (text : List ℕ) (r s : Refusal) → IsRefusedAs text r → IsRefusedAs text s → r ≡ s
+  pub case : (text : List ℕ) (program : Program) (p q : List ℤ) (a b : List (List ℕ)) → Says text program p a
+      → Says text program q b → (p ≡ q) × (a ≡ b)
+  pub no_case : (text : List ℕ) (program : Program) (p : List ℤ) (a : List (List ℕ)) (refusal : DataRefusal)
+      → Says text program p a → data_said program text ≡ Err refusal → ⊥
+
+-- a value that there is is not none
+not_none : {A : Type 0} {P : Type 0} (x : Option A) (y : A) → x ≡ None → x ≡ Some y → P
+not_none x y none some = absurd (let both = sym none ∙ some in cc)
+
+-- what there is is one
+some_same : {A : Type 0} (x y : A) → Some x ≡ Some y → x ≡ y
+some_same x y same = cc
+
+-- one rule is broken first
+rule_same : (program : Program) (text : List ℕ) (r s : DataRefusal) → data_said program text ≡ Err r
+    → data_said program text ≡ Err s → r ≡ s
+rule_same program text r s x y = let both = sym x ∙ y in cc
+
+case_once : Laws → (program : Program) (params : List ℤ) (a b : Status) → DeservesCase program params a
+    → DeservesCase program params b → a ≡ b
+case_once laws program params a b (inl x) (inl y) = x.1 ∙ sym y.1
+case_once laws program params a b (inl x) (inr y) = not_none _ y.0 (laws.inside _ _ x.0) y.1
+case_once laws program params a b (inr x) (inl y) = not_none _ x.0 (laws.inside _ _ y.0) x.1
+case_once laws program params a b (inr x) (inr y) =
+    x.2 ∙ (ap Outside (ap outside_of (some_same x.0 y.0 (sym x.1 ∙ y.1))) ∙ sym y.2)
+
+data_once : Laws → (program : Program) (text : List ℕ) (a b : Status) → DeservesData program text a
+    → DeservesData program text b → a ≡ b
+data_once laws program text a b (inl x) (inl y) =
+    let same = laws.case text program x.0 y.0 x.1 y.1 x.2 y.2 in
+    case_once laws program y.0 a b (subst (λ params. DeservesCase program params a) same.0 x.3) y.3
+data_once laws program text a b (inl x) (inr y) = absurd (laws.no_case text program x.0 x.1 y.0 x.2 y.1)
+data_once laws program text a b (inr x) (inl y) = absurd (laws.no_case text program y.0 y.1 x.0 y.2 x.1)
+data_once laws program text a b (inr x) (inr y) = x.2 ∙ (ap BadData (rule_same program text x.0 y.0 x.1 y.1) ∙ sym y.2)
+
+text_once : Laws → (kernel text : List ℕ) (a b : Status) → DeservesText kernel text a → DeservesText kernel text b
+    → a ≡ b
+text_once laws kernel text a b (inl x) (inl y) =
+    data_once laws y.0 text a b (subst (λ program. DeservesData program text a) (laws.program kernel x.0 y.0 x.1 y.1)
+    x.2) y.2
+text_once laws kernel text a b (inl x) (inr y) = absurd (laws.fault kernel y.0.kind y.1.at x.0 y.1.fault x.1)
+text_once laws kernel text a b (inr x) (inl y) = absurd (laws.fault kernel x.0.kind x.1.at y.0 x.1.fault y.1)
+text_once laws kernel text a b (inr x) (inr y) = x.2 ∙ (ap Refused (laws.refusal kernel x.0 y.0 x.1 y.1) ∙ sym y.2)
+
+input_once : Laws → (input : List ℕ) (a b : Status) → DeservesInput input a → DeservesInput input b → a ≡ b
+input_once laws input a b (inl x) (inl y) = text_once laws (kernel_part input) (data_part input) a b x.1 y.1
+input_once laws input a b (inl x) (inr y) = let short : length input ≤ 2 ^ 27 = x.0 in absurd (omega (arith, y.0))
+input_once laws input a b (inr x) (inl y) = let short : length input ≤ 2 ^ 27 = y.0 in absurd (omega (arith, x.0))
+input_once laws input a b (inr x) (inr y) = x.1 ∙ sym y.1
+
+-- words and an input deserve one status
+pub words_once : Laws → (words : List (List ℕ)) (input : List ℕ) (a b : Status) → Deserves words input a
+    → Deserves words input b → a ≡ b
+words_once laws words input a b (inl x) (inl y) = input_once laws input a b x.1 y.1
+words_once laws words input a b (inl x) (inr y) = absurd (y.0 x.0)
+words_once laws words input a b (inr x) (inl y) = absurd (x.0 y.0)
+words_once laws words input a b (inr x) (inr y) = x.1 ∙ sym y.1
