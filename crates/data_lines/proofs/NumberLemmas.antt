@@ -1,24 +1,18 @@
 -- A number grows with each digit; a list of numbers, one more.
 use Rattle.std.proofs.Common.{◌≡◌, ◌∙◌, sym, ap, refl, inl, inr, ℕ, suc, ◌+◌, ◌*◌, ◌^◌, ◌<◌, ◌≤◌, Bool, true, false}
-use Rattle.std.proofs.Common.{◌&&◌, ltb, if◌then◌else◌, List, [], ◌∷◌, ◌++◌, length, drop, get_or, append_assoc}
+use Rattle.std.proofs.Common.{◌&&◌, ltb, if◌then◌else◌, List, [], ◌∷◌, ◌++◌, length, drop, get_or}
 use Rattle.std.proofs.Common.{drop-cons, lt-ltb, le-ltb, arith}
 use Rattle.std.proofs.lemmas.Bool.{cases_lt}
 use Rattle.std.specs.Prelude.{Option, Some, None}
 use Rattle.std.specs.List.{list_all}
 use Rattle.scop_lexer.specs.Bytes.{Text, is_digit}
 use Rattle.scop_lexer.specs.Constants.{number_behind, digit_value}
-use Rattle.data_lines.specs.Numbers.{decimal_value, next_number, number_of, with_number}
+use Rattle.data_lines.specs.Numbers.{decimal_value, next_number, number_of}
 
 -- numbers in front of numbers, where they are there
 abbrev pub with_numbers : List ℕ → Option (List ℕ) → Option (List ℕ)
 with_numbers front (Some numbers) = Some (front ++ numbers)
 with_numbers front None = None
-
--- a number more in front
-pub with_one_more : (front : List ℕ) (number : ℕ) (numbers : Option (List ℕ))
-    → with_numbers (front ++ number ∷ []) numbers ≡ with_numbers front (with_number (Some number) numbers)
-with_one_more front number (Some numbers) = ap Some (append_assoc front (number ∷ []) numbers)
-with_one_more front number None = refl
 
 -- a number grows with each digit
 pub number_grows : (n : ℕ) (digits : Text) → n ≤ number_behind 10 n digits

@@ -1,5 +1,4 @@
 pub mod ArrayTextLemmas
-pub mod SumLemmas
 pub mod CountLemmas
 pub mod ExtentLemmas
 pub mod LayoutLemmas

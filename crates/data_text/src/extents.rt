@@ -1,6 +1,7 @@
 //! The extents of a kernel's arrays: each is positive, and there are at most 2^22 cells.
 
 ghost use Rattle.std.specs.Prelude.{◌≡◌, ◌≤◌, ◌^◌, All, None, IfOk, IfErr, length, map};
+ghost use Rattle.whole_numbers.specs.Affine.{value_of};
 ghost use Rattle.scop_syntax.specs.View.{program_of};
 ghost use Rattle.scop_syntax.specs.Cells.{values};
 ghost use Rattle.scop_syntax.specs.Execution.{layout, size_of};
@@ -9,8 +10,8 @@ ghost use Rattle.data_text.specs.Cases.{StopsBy, bad_dimension, bad_extent, bad_
 ghost use Rattle.data_text.specs.Conditions.{AreParameters, IsLayout};
 
 use crate::counts::total_cells;
-use crate::values::extent_at;
 use data_lines::{DataRefusal, DataStop};
+use scop_syntax::affine_values::exact_at;
 use scop_syntax::arrays::Extents;
 use scop_syntax::tree::{Aff, Array, Kernel};
 use std::alloc::{AllocError, Global};
@@ -44,6 +45,15 @@ pub(crate) fn layout_said(
         return Err(DataStop::Refused(DataRefusal::Cells(total)));
     }
     Ok(extents)
+}
+
+/// The value of an extent for these parameters.
+fn extent_at(form: &Aff, params: &[i64]) -> i64
+    requires form { IsAffine (length params.now) form.now }
+    requires params { AreParameters params.now }
+    ensures { result ≡ value_of form.now params.now }
+{
+    exact_at(form, params)
 }
 
 /// The first extent of an array that is at most 0.

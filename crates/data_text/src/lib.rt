@@ -13,7 +13,6 @@ mod laws;
 mod parameters;
 #[cfg(test)]
 mod tests;
-mod values;
 
 pub use array_text::write_arrays;
 pub use case::{Case, read_data};

@@ -13,9 +13,12 @@ use Rattle.expression_grammar.specs.declared.node.Last.{Last}
 use Rattle.expression_grammar.specs.declared.node.Last.TheVariants as last
 use Rattle.expression_grammar.specs.declared.node.Mode.{Mode}
 use Rattle.expression_grammar.specs.declared.node.Mode.TheVariants as mode
-use Rattle.expression_grammar.specs.Tree.{Tree, constant, name, group, index, bare_call, call, unary, cast, binary, level, cost, rank, size, depth, operators, written, WellBracketed, IsPlace, tokens_of, sign_token}
+use Rattle.expression_grammar.specs.Tree.{Tree, constant, name, group, index, bare_call, call, unary, cast, binary}
+use Rattle.expression_grammar.specs.Tree.{level, cost, rank, size, depth, operators, written, WellBracketed, IsPlace}
+use Rattle.expression_grammar.specs.Tree.{tokens_of, sign_token}
 use Rattle.expression_grammar.specs.Machine.{state, go, step, demand, reduced, run}
-use Rattle.expression_grammar.proofs.Runs.{run_goes, level_most, upto_true, spine, shown, last_of, reduced_spine, reduced_stays}
+use Rattle.expression_grammar.proofs.Runs.{run_goes, level_most, upto_true, spine, shown, last_of, reduced_spine}
+use Rattle.expression_grammar.proofs.Runs.{reduced_stays}
 
 pub step_sign : (s : Sign) (hs : List Held) (ns : List Node) (at b u : ℕ)
     → step (state mode.Want hs ns at b u) (sign_token s)

@@ -1,13 +1,16 @@
 -- Reducing, seen on frames: frames that bind tighter than a level close round the tree in hand.
-use Rattle.std.proofs.Common.{◌≡◌, ℕ, ◌+◌, ◌≤◌, Bool, true, false, List, [], ◌∷◌, ◌++◌, refl, ◌∙◌, append_assoc, length-append, arith}
+use Rattle.std.proofs.Common.{◌≡◌, ℕ, ◌+◌, ◌≤◌, Bool, true, false, List, [], ◌∷◌, ◌++◌, refl, ◌∙◌, append_assoc}
+use Rattle.std.proofs.Common.{length-append, arith}
 use Rattle.std.specs.Prelude.{max, nat_lt}
 use Rattle.std.proofs.lemmas.Bool.Decides.{nat_tests}
 use Rattle.expression_grammar.specs.declared.token.Op.{Op}
 use Rattle.expression_grammar.specs.declared.token.Sign.{Sign}
-use Rattle.expression_grammar.specs.Tree.{Tree, unary, cast, binary, level, rank, size, depth, operators, written, WellBracketed, tokens_of}
+use Rattle.expression_grammar.specs.Tree.{Tree, unary, cast, binary, level, rank, size, depth, operators, written}
+use Rattle.expression_grammar.specs.Tree.{WellBracketed, tokens_of}
 use Rattle.expression_grammar.specs.Machine.{demand, reduced}
 use Rattle.expression_grammar.proofs.Runs.{below_true}
-use Rattle.expression_grammar.proofs.Frames.{Frame, left, sign, casting, grouping, indexing, calling, front, place, held_of, nodes_of, brackets_of, used_of, peak, Sound, demand_most}
+use Rattle.expression_grammar.proofs.Frames.{Frame, left, sign, casting, grouping, indexing, calling, front, place}
+use Rattle.expression_grammar.proofs.Frames.{held_of, nodes_of, brackets_of, used_of, peak, Sound, demand_most}
 
 pub record Folded (l : ℕ) (fs : List Frame) (t : Tree) : Type 0 where
   pub frames : List Frame

@@ -9,7 +9,8 @@ use Rattle.expression_grammar.specs.declared.node.Node.{Node}
 use Rattle.expression_grammar.specs.declared.node.Node.TheVariants as node
 use Rattle.expression_grammar.specs.declared.node.Held.{Held}
 use Rattle.expression_grammar.specs.declared.node.Held.TheVariants as held
-use Rattle.expression_grammar.specs.Tree.{Tree, group, index, call, unary, cast, binary, level, cost, rank, size, depth, operators, written, WellBracketed, IsPlace, tokens_of, sign_token}
+use Rattle.expression_grammar.specs.Tree.{Tree, group, index, call, unary, cast, binary, level, cost, rank, size, depth}
+use Rattle.expression_grammar.specs.Tree.{operators, written, WellBracketed, IsPlace, tokens_of, sign_token}
 use Rattle.expression_grammar.specs.Grammar.{IsExpression}
 use Rattle.expression_grammar.specs.Machine.{demand}
 use Rattle.expression_grammar.proofs.Runs.{level_most}

@@ -1,17 +1,22 @@
 -- What the run says of the grammar: states that stand for trees are fronts, and trees are accepted.
-use Rattle.std.proofs.Common.{◌≡◌, ℕ, ◌+◌, ◌≤◌, List, [], ◌∷◌, ◌++◌, refl, sym, ap, ◌∙◌, append_assoc, append-nil, arith}
+use Rattle.std.proofs.Common.{◌≡◌, ℕ, ◌+◌, ◌≤◌, List, [], ◌∷◌, ◌++◌, refl, sym, ap, ◌∙◌, append_assoc, append-nil}
+use Rattle.std.proofs.Common.{arith}
 use Rattle.std.specs.Prelude.{max, Some}
 use Rattle.expression_grammar.specs.declared.token.Suffix.TheVariants as suffix
 use Rattle.expression_grammar.specs.declared.token.Token.{Token}
 use Rattle.expression_grammar.specs.declared.token.Token.TheVariants as token
 use Rattle.expression_grammar.specs.declared.node.Node.{Node}
 use Rattle.expression_grammar.specs.declared.node.Mode.TheVariants as mode
-use Rattle.expression_grammar.specs.Tree.{Tree, constant, rank, size, depth, operators, written, WellBracketed, tokens_of}
+use Rattle.expression_grammar.specs.Tree.{Tree, constant, rank, size, depth, operators, written, WellBracketed}
+use Rattle.expression_grammar.specs.Tree.{tokens_of}
 use Rattle.expression_grammar.specs.Grammar.{IsExpression, Spells, IsFront}
-use Rattle.expression_grammar.specs.Machine.{State, state, start, stops, step, demand, reduced, run, alive, whole, complete}
+use Rattle.expression_grammar.specs.Machine.{State, state, start, stops, step, demand, reduced, run, alive, whole}
+use Rattle.expression_grammar.specs.Machine.{complete}
 use Rattle.expression_grammar.proofs.Runs.{spine, shown, last_of, reduced_spine}
 use Rattle.expression_grammar.proofs.Drives.{drives}
-use Rattle.expression_grammar.proofs.Frames.{Frame, left, sign, casting, grouping, indexing, calling, front, place, held_of, nodes_of, brackets_of, used_of, peak, Sound, plug, ending, plug_tokens, plug_sound, plug_depth, plug_operators, demand_most}
+use Rattle.expression_grammar.proofs.Frames.{Frame, left, sign, casting, grouping, indexing, calling, front, place}
+use Rattle.expression_grammar.proofs.Frames.{held_of, nodes_of, brackets_of, used_of, peak, Sound, plug, ending}
+use Rattle.expression_grammar.proofs.Frames.{plug_tokens, plug_sound, plug_depth, plug_operators, demand_most}
 use Rattle.expression_grammar.proofs.Folding.{Folded, fold_frames}
 use Rattle.expression_grammar.proofs.Shapes.{Shape, want, cast_word, done, state_of, read_of, IsSound, most, Stands}
 

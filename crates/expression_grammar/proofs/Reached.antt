@@ -1,9 +1,11 @@
 -- Where a run ends, and what the state there stands for.
-use Rattle.std.proofs.Common.{◌≡◌, ℕ, ◌≤◌, ◌&&◌, Bool, true, false, List, [], ◌∷◌, ◌++◌, refl, ap, ◌∙◌, append_assoc, append-nil, arith}
+use Rattle.std.proofs.Common.{◌≡◌, ℕ, ◌≤◌, ◌&&◌, Bool, true, false, List, [], ◌∷◌, ◌++◌, refl, ap, ◌∙◌, append_assoc}
+use Rattle.std.proofs.Common.{append-nil, arith}
 use Rattle.std.specs.Prelude.{max, nat_le}
 use Rattle.std.proofs.lemmas.Bool.Decides.{nat_tests}
 use Rattle.expression_grammar.specs.declared.token.Token.{Token}
-use Rattle.expression_grammar.specs.Machine.{State, Move, go, stops, step, fits, goes, run, Outcome, alive, stopped, deep}
+use Rattle.expression_grammar.specs.Machine.{State, Move, go, stops, step, fits, goes, run, Outcome, alive, stopped}
+use Rattle.expression_grammar.specs.Machine.{deep}
 use Rattle.expression_grammar.proofs.Runs.{run_goes}
 use Rattle.expression_grammar.proofs.Shapes.{Stands, Keeps, keeps}
 

@@ -1,11 +1,13 @@
 -- The machine's answer says what it ought to of the grammar.
-use Rattle.std.proofs.Common.{◌≡◌, ℕ, ◌+◌, ◌≤◌, false, List, [], ◌∷◌, ◌++◌, length, refl, sym, ap, ◌∙◌, append_assoc, append-nil, length-append, arith}
+use Rattle.std.proofs.Common.{◌≡◌, ℕ, ◌+◌, ◌≤◌, false, List, [], ◌∷◌, ◌++◌, length, refl, sym, ap, ◌∙◌, append_assoc}
+use Rattle.std.proofs.Common.{append-nil, length-append, arith}
 use Rattle.std.specs.Prelude.{max, Option, Some, None, Ok, Err}
 use Rattle.expression_grammar.specs.declared.token.Token.{Token}
 use Rattle.expression_grammar.specs.declared.node.Node.{Node}
 use Rattle.expression_grammar.specs.Tree.{Tree, size, written}
 use Rattle.expression_grammar.specs.Grammar.{Spells, IsFront}
-use Rattle.expression_grammar.specs.Machine.{State, start, go, stops, step, fits, run, Outcome, alive, stopped, deep, complete, unfit, unended, told_at, or_fault, answer, Answer, read}
+use Rattle.expression_grammar.specs.Machine.{State, start, go, stops, step, fits, run, Outcome, alive, stopped, deep}
+use Rattle.expression_grammar.specs.Machine.{complete, unfit, unended, told_at, or_fault, answer, Answer, read}
 use Rattle.expression_grammar.specs.Answers.{IsNoExpression, IsAnswer}
 use Rattle.expression_grammar.proofs.Shapes.{Shape, want, cast_word, done, state_of, read_of, Stands, keeps}
 use Rattle.expression_grammar.proofs.Reached.{Stop, Reached, reached}

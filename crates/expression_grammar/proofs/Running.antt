@@ -1,5 +1,6 @@
 -- The loop of the code is the machine's run.
-use Rattle.std.proofs.Common.{◌≡◌, ℕ, ◌+◌, ◌<◌, ◌≤◌, Bool, true, List, [], ◌∷◌, ◌++◌, length, take, drop, get_or, add-one, refl, sym, ap, ◌∙◌, length-append, arith}
+use Rattle.std.proofs.Common.{◌≡◌, ℕ, ◌+◌, ◌<◌, ◌≤◌, Bool, true, List, [], ◌∷◌, ◌++◌, length, take, drop, get_or}
+use Rattle.std.proofs.Common.{add-one, refl, sym, ap, ◌∙◌, length-append, arith}
 use Rattle.std.specs.Prelude.{max, Result, Ok}
 use Rattle.std.proofs.Math.Seq.{drop-cons, take-suc}
 use Rattle.expression_grammar.specs.declared.token.Token.{Token}

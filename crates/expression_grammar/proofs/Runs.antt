@@ -1,5 +1,6 @@
 -- One step of a run, and what reducing does to a tree that has just been read.
-use Rattle.std.proofs.Common.{◌≡◌, ℕ, ◌+◌, ◌<◌, ◌≤◌, true, false, List, [], ◌∷◌, ◌++◌, refl, ◌∙◌, append_assoc, arith, rules}
+use Rattle.std.proofs.Common.{◌≡◌, ℕ, ◌+◌, ◌<◌, ◌≤◌, true, false, List, [], ◌∷◌, ◌++◌, refl, ◌∙◌, append_assoc, arith}
+use Rattle.std.proofs.Common.{rules}
 use Rattle.std.specs.Prelude.{nat_lt, nat_le}
 use Rattle.expression_grammar.specs.declared.token.Op.{Op}
 use Rattle.expression_grammar.specs.declared.token.Op.TheVariants as op
@@ -9,7 +10,8 @@ use Rattle.expression_grammar.specs.declared.node.Held.{Held}
 use Rattle.expression_grammar.specs.declared.node.Held.TheVariants as held
 use Rattle.expression_grammar.specs.declared.node.Last.{Last}
 use Rattle.expression_grammar.specs.declared.node.Last.TheVariants as last
-use Rattle.expression_grammar.specs.Tree.{Tree, name, index, unary, cast, binary, level, rank, size, written, WellBracketed}
+use Rattle.expression_grammar.specs.Tree.{Tree, name, index, unary, cast, binary, level, rank, size, written}
+use Rattle.expression_grammar.specs.Tree.{WellBracketed}
 use Rattle.expression_grammar.specs.Machine.{State, go, step, demand, reduced, run}
 
 pub below_true : (a b : ℕ) → a < b → nat_lt a b ≡ true

@@ -1,5 +1,6 @@
 -- The states that a run reaches, each as the trees that it stands for, and that a step keeps them so.
-use Rattle.std.proofs.Common.{◌≡◌, ℕ, ◌+◌, ◌-◌, ◌≤◌, Bool, true, false, List, [], ◌∷◌, ◌++◌, length, refl, sym, ap, append_assoc, length-append, arith}
+use Rattle.std.proofs.Common.{◌≡◌, ℕ, ◌+◌, ◌-◌, ◌≤◌, Bool, true, false, List, [], ◌∷◌, ◌++◌, length, refl, sym, ap}
+use Rattle.std.proofs.Common.{append_assoc, length-append, arith}
 use Rattle.std.specs.Prelude.{max, ⊤, nat_le}
 use Rattle.std.proofs.lemmas.Bool.Decides.{nat_tests}
 use Rattle.expression_grammar.specs.declared.token.Op.{Op}
@@ -15,10 +16,16 @@ use Rattle.expression_grammar.specs.declared.node.Held.TheVariants as held
 use Rattle.expression_grammar.specs.declared.node.Last.TheVariants as last
 use Rattle.expression_grammar.specs.declared.node.Mode.{Mode}
 use Rattle.expression_grammar.specs.declared.node.Mode.TheVariants as mode
-use Rattle.expression_grammar.specs.Tree.{Tree, constant, name, group, index, bare_call, call, unary, cast, binary, level, cost, rank, size, depth, operators, written, WellBracketed, tokens_of, sign_token}
-use Rattle.expression_grammar.specs.Machine.{State, state, Move, go, stops, step, operand, casting as casting_step, call_opened, index_opened, after, after_pair, joined, closes, closes_index, demand, reduced}
+use Rattle.expression_grammar.specs.Tree.{Tree, constant, name, group, index, bare_call, call, unary, cast, binary}
+use Rattle.expression_grammar.specs.Tree.{level, cost, rank, size, depth, operators, written, WellBracketed, tokens_of}
+use Rattle.expression_grammar.specs.Tree.{sign_token}
+use Rattle.expression_grammar.specs.Machine.{State, state, Move, go, stops, step, operand, casting as casting_step}
+use Rattle.expression_grammar.specs.Machine.{call_opened, index_opened, after, after_pair, joined, closes, closes_index}
+use Rattle.expression_grammar.specs.Machine.{demand, reduced}
 use Rattle.expression_grammar.proofs.Runs.{level_most, last_of}
-use Rattle.expression_grammar.proofs.Frames.{Frame, left, sign as sign_frame, casting, grouping, indexing, calling, front, place, held_of, nodes_of, brackets_of, used_of, peak, Sound, demand_most}
+use Rattle.expression_grammar.proofs.Frames.{Frame, left, sign as sign_frame, casting, grouping, indexing, calling}
+use Rattle.expression_grammar.proofs.Frames.{front, place, held_of, nodes_of, brackets_of, used_of, peak, Sound}
+use Rattle.expression_grammar.proofs.Frames.{demand_most}
 use Rattle.expression_grammar.proofs.Folding.{Folded, fold_frames}
 
 -- an operand is wanted, or a cast's word was read, or a tree is in hand, to be taken up by what follows

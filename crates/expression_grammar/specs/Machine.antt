@@ -1,6 +1,7 @@
 -- The machine that reads an expression, one token a step: it holds what waits for a right operand or a closing
 -- bracket, innermost first, and the nodes that are complete.
-use Rattle.std.specs.Prelude.{ℕ, ◌+◌, ◌-◌, ◌&&◌, nat_lt, nat_le, Bool, if◌then◌else◌, List, [], ◌∷◌, ◌++◌, Option, Some, None, Result, Ok, Err}
+use Rattle.std.specs.Prelude.{ℕ, ◌+◌, ◌-◌, ◌&&◌, nat_lt, nat_le, Bool, if◌then◌else◌, List, [], ◌∷◌, ◌++◌, Option, Some}
+use Rattle.std.specs.Prelude.{None, Result, Ok, Err}
 use Rattle.expression_grammar.specs.declared.token.Op.{Op}
 use Rattle.expression_grammar.specs.declared.token.Op.TheVariants as op
 use Rattle.expression_grammar.specs.declared.token.Sign.{Sign}

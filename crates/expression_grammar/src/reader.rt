@@ -4,7 +4,9 @@
 ghost use Rattle.std.specs.Prelude.{◌≡◌, ℕ, Ok, IfErr, IfOk, OnOk};
 ghost use Rattle.std.specs.Option.{option_map};
 ghost use Rattle.expression_grammar.specs.Tree.{cost, level};
-ghost use Rattle.expression_grammar.specs.Machine.{after, bare_closed, call_opened, cast_closed, cast_word, casting, closed, complete, demand, fits, go, index_opened, leaf, opened, operand, read, reduced, signed, start, step, told_at};
+ghost use Rattle.expression_grammar.specs.Machine.{after, bare_closed, call_opened, cast_closed, cast_word, casting};
+ghost use Rattle.expression_grammar.specs.Machine.{closed, complete, demand, fits, go, index_opened, leaf, opened};
+ghost use Rattle.expression_grammar.specs.Machine.{operand, read, reduced, signed, start, step, told_at};
 ghost use Rattle.expression_grammar.specs.declared.node.Mode.TheVariants as mode;
 ghost use Rattle.expression_grammar.specs.Answers.{IsRead};
 ghost use Rattle.expression_grammar.specs.Gives.{Gives, IsStop, pair_of};

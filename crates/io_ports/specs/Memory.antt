@@ -1,5 +1,6 @@
 -- The in-memory ports: what each value is, and exactly what each call does to it.
-use Rattle.std.specs.Prelude.{◌≡◌, ◌⊎◌, ◌↔◌, ℕ, ◌-◌, ◌<◌, min, List, ◌++◌, length, take, drop, Contains, Result, IsErr, IfOk, OnErr, None, Some, if◌then◌else◌}
+use Rattle.std.specs.Prelude.{◌≡◌, ◌⊎◌, ◌↔◌, ℕ, ◌-◌, ◌<◌, min, List, ◌++◌, length, take, drop, Contains, Result, IsErr}
+use Rattle.std.specs.Prelude.{IfOk, OnErr, None, Some, if◌then◌else◌}
 use Rattle.io_ports.specs.Faults.{next_count, none_to_come}
 use Rattle.io_ports.specs.Reads.{SourceShows}
 use Rattle.io_ports.specs.Writes.{SinkShows}

@@ -1,6 +1,7 @@
 //! Sources of bytes, and the loop that reads one to its end.
 
-ghost use Rattle.std.specs.Prelude.{◌≡◌, ◌+◌, ◌<◌, ◌≤◌, ◌^◌, max, IfOk, IsErrOf, OnOk, OnErr, is_ok, if◌then◌else◌, ◌++◌, length, take, vec_len, vec_capacity};
+ghost use Rattle.std.specs.Prelude.{◌≡◌, ◌+◌, ◌<◌, ◌≤◌, ◌^◌, max, IfOk, IsErrOf, OnOk, OnErr, is_ok, if◌then◌else◌};
+ghost use Rattle.std.specs.Prelude.{◌++◌, length, take, vec_len, vec_capacity};
 ghost use Rattle.std.specs.Io.KnownBytes.{IsAtEnd};
 ghost use Rattle.io_ports.specs.Bytes.{IsAllOf, IsLonger};
 ghost use Rattle.io_ports.specs.Reads.{SourceShows, IsSteady, IsReadFault, Gives, FailsToGive};

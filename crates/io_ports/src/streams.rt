@@ -21,6 +21,7 @@ pub struct StdSource<R> {
 }
 
 impl<R: Read> StdSource<R> {
+    /// The source over this reader, with no fault counted.
     pub fn of(reader: R) -> Self
         ensures reader { reader_of result ≡ reader }
         ensures faults { read_faults result ≡ 0 }
@@ -36,7 +37,8 @@ impl<R: Read> Source for StdSource<R> {
         ensures bound { IfOk result (λ count. count ≤ length buf.old) }
         ensures given { IfOk result (λ count.
             Gives (source_shows R.remaining self.old) (source_shows R.remaining self.new) (take count buf.new)) }
-        ensures end { IfOk result (λ count. count ≡ 0 → 0 < length buf.old → IsAtEnd (R.remaining (reader_of self.new))) }
+        ensures end { IfOk result (λ count. count ≡ 0 → 0 < length buf.old
+            → IsAtEnd (R.remaining (reader_of self.new))) }
         ensures failed { OnErr result (FailsToGive (source_shows R.remaining self.old)
             (source_shows R.remaining self.new)) }
         ensures faults { read_faults self.new
@@ -58,6 +60,7 @@ pub struct StdSink<W> {
 }
 
 impl<W: Write> StdSink<W> {
+    /// The sink over this writer, with no fault counted.
     pub fn of(writer: W) -> Self
         ensures writer { writer_of result ≡ writer }
         ensures faults { write_faults result ≡ 0 }
@@ -90,7 +93,8 @@ impl<W: Write> Sink for StdSink<W> {
 
     fn flush(&mut self) -> Result<(), Failed>
         ensures done { OnOk result (Takes (sink_shows W.contents self.old) (sink_shows W.contents self.new) []) }
-        ensures failed { OnErr result (FailsToTake (sink_shows W.contents self.old) (sink_shows W.contents self.new) []) }
+        ensures failed { OnErr result (FailsToTake (sink_shows W.contents self.old) (sink_shows W.contents self.new)
+            []) }
         ensures faults { write_faults self.new
             ≡ (if is_ok result then write_faults self.old else next_count (write_faults self.old)) }
     {

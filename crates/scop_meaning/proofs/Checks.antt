@@ -1,5 +1,7 @@
 -- What stays true along the items of a row and along the turns of a loop, as they are checked.
-use Rattle.std.proofs.Common.{◌≡◌, ℕ, suc, ◌+◌, ◌-◌, ◌<◌, Bool, true, false, List, [], ◌∷◌, ◌++◌, length, drop, map, get_or, Option, Some, None, ap, ap₂, subst, sym, ◌∙◌, refl, arith, append_assoc, add-one, drop-cons}
+use Rattle.std.proofs.Common.{◌≡◌, ℕ, suc, ◌+◌, ◌-◌, ◌<◌, Bool, true, false, List, [], ◌∷◌, ◌++◌, length, drop, map}
+use Rattle.std.proofs.Common.{get_or, Option, Some, None, ap, ap₂, subst, sym, ◌∙◌, refl, arith, append_assoc, add-one}
+use Rattle.std.proofs.Common.{drop-cons}
 use Rattle.std.specs.Prelude.{ℤ, pos, slice_get, if◌then◌else◌}
 use Rattle.std.specs.List.{flat_map, range_with_len}
 use Rattle.std.proofs.lemmas.Grind.{flat_map-append}
@@ -56,14 +58,14 @@ pub dimension_fails : (v : Visit) (a i : ℕ) (ss : List ℤ) (es : List ℕ) �
 dimension_fails v a i ss es h k outside = ap first_of (dimension_step v a i ss es h k) ∙ rw outside refl
 
 -- of accesses one behind the other
-pub accesses_append : (es : List (List ℕ)) (v : Visit) (a : ℕ) (xs ys : List Access)
+pub outside_accesses-append : (es : List (List ℕ)) (v : Visit) (a : ℕ) (xs ys : List Access)
     → outside_accesses es v a (xs ++ ys) ≡ outside_accesses es v a xs ++ outside_accesses es v (a + length xs) ys
-accesses_append es v a [] ys = let e : a ≡ a + 0 = omega arith in ap (λ n. outside_accesses es v n ys) e
-accesses_append es v a (x ∷ xs) ys =
+outside_accesses-append es v a [] ys = let e : a ≡ a + 0 = omega arith in ap (λ n. outside_accesses es v n ys) e
+outside_accesses-append es v a (x ∷ xs) ys =
     let here = outside_dimensions v a 0 (values x.subscripts v.point) (get_or es x.array []) in
     let e : a + 1 + length xs ≡ a + length (x ∷ xs) = omega arith in
     ap (λ fs. here ++ fs)
-    (accesses_append es v (a + 1) xs ys
+    (outside_accesses-append es v (a + 1) xs ys
     ∙ ap (λ n. outside_accesses es v (a + 1) xs ++ outside_accesses es v n ys) e)
     ∙ sym (append_assoc here (outside_accesses es v (a + 1) xs) (outside_accesses es v (a + length (x ∷ xs)) ys))
 
@@ -72,7 +74,7 @@ pub found_left : (o : Outside) (stmt : ℕ) (point : List ℤ) (es : List (List 
 found_left o stmt point es a xs ys c = record {
   found = λ v at.
       first_here (outside_accesses es v a xs) (outside_accesses es v (a + length xs) ys) o (c.found v at)
-      ∙ ap first_of (sym (accesses_append es v a xs ys));
+      ∙ ap first_of (sym (outside_accesses-append es v a xs ys));
 }
 
 pub found_right : (r : Option Outside) (stmt : ℕ) (point : List ℤ) (es : List (List ℕ)) (a : ℕ) (xs ys : List Access)
@@ -82,7 +84,7 @@ found_right r stmt point es a xs ys c d = record {
   found = λ v at.
       d.found v at
       ∙ (sym (first_behind (outside_accesses es v a xs) (outside_accesses es v (a + length xs) ys) (c.found v at))
-      ∙ ap first_of (sym (accesses_append es v a xs ys)));
+      ∙ ap first_of (sym (outside_accesses-append es v a xs ys)));
 }
 
 same_if : (b : Bool) (xs ys : List Failure) (f g : Failure) → map outside_of xs ≡ map outside_of ys → outside_of f

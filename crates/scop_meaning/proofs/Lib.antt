@@ -1,6 +1,5 @@
 mod Offsets
 mod Shifts
-mod Wrapping
 mod Turns
 mod Evaluations
 mod Walking

@@ -1,5 +1,7 @@
 -- The row-major offset of a cell, one dimension after another.
-use Rattle.std.proofs.Common.{◌≡◌, ℕ, zero, suc, ◌+◌, ◌*◌, ◌<◌, ◌≤◌, List, [], ◌∷◌, length, drop, get_or, ap, subst, sym, ◌∙◌, arith, drop-cons, refl, mul-le-mul, mul-le-mul_right, mul_assoc, add-mul, one-mul, mul-one, mul-le-mul_left, add-one, drop_of_length-le}
+use Rattle.std.proofs.Common.{◌≡◌, ℕ, zero, suc, ◌+◌, ◌*◌, ◌<◌, ◌≤◌, List, [], ◌∷◌, length, drop, get_or, ap, subst}
+use Rattle.std.proofs.Common.{sym, ◌∙◌, arith, drop-cons, refl, mul-le-mul, mul-le-mul_right, mul_assoc, add-mul}
+use Rattle.std.proofs.Common.{one-mul, mul-one, mul-le-mul_left, add-one, drop_of_length-le}
 use Rattle.std.specs.Prelude.{ℤ, pos, negsuc, ◌<ℤ◌, ◌≤ℤ◌}
 use Rattle.std.proofs.lemmas.Int.{ints}
 use Rattle.std.proofs.lemmas.List.{get_or-map}

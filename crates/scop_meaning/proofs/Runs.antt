@@ -1,5 +1,6 @@
 -- What stays true along the items of a row and along the turns of a loop, as they run.
-use Rattle.std.proofs.Common.{◌≡◌, ℕ, suc, ◌+◌, ◌-◌, ◌<◌, ◌≤◌, List, [], ◌++◌, length, drop, ap, subst, sym, ◌∙◌, refl, arith, append-nil}
+use Rattle.std.proofs.Common.{◌≡◌, ℕ, suc, ◌+◌, ◌-◌, ◌<◌, List, [], ◌++◌, length, drop, ap, subst, sym, ◌∙◌, refl}
+use Rattle.std.proofs.Common.{arith, append-nil}
 use Rattle.std.specs.Prelude.{ℤ, pos}
 use Rattle.std.specs.List.{flat_map, range_with_len}
 use Rattle.std.proofs.lemmas.List.Sums.{fold-append}
@@ -82,9 +83,6 @@ more_turns : (head : Head) (body : Trees) (point : List ℤ) (k m : ℕ) → k <
     → turn_acts head body point k (m - k)
     ≡ acts_all body (turn_point head point (pos k)) ++ turn_acts head body point (k + 1) (m - (k + 1))
 more_turns head body point k m h = let e : m - k ≡ suc (m - (k + 1)) = omega arith in rw e refl
-
-no_turns : (head : Head) (body : Trees) (point : List ℤ) (k m : ℕ) → m ≤ k → turn_acts head body point k (m - k) ≡ []
-no_turns head body point k m h = let e : m - k ≡ 0 = omega arith in rw e refl
 
 whole_turns : (head : Head) (body : Trees) (point : List ℤ) (m : ℕ) {xs : List Act} → xs ≡ turn_acts head body point 0 m
     → xs ≡ turn_acts head body point 0 (m - 0)

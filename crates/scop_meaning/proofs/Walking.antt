@@ -9,7 +9,6 @@ use Rattle.std.proofs.Common.{
   ◌<◌,
   ◌≤◌,
   ◌^◌,
-  true,
   List,
   [],
   ◌∷◌,
@@ -28,10 +27,10 @@ use Rattle.std.proofs.Common.{
 }
 use Rattle.std.specs.Prelude.{ℤ, pos, ◌+ℤ◌, ◌*ℤ◌}
 use Rattle.whole_numbers.specs.Affine.{value_of}
-use Rattle.scop_syntax.specs.Tree.{Test, Head, Tree, loop, guard, statement, Trees, none, more}
+use Rattle.scop_syntax.specs.Tree.{Head, Tree, loop, guard, statement, Trees, none, more}
 use Rattle.scop_syntax.specs.declared.tree.Item.{Item}
 use Rattle.scop_syntax.specs.View.{tree_of, items_of}
-use Rattle.scop_syntax.specs.Walk.{all_hold, condition_at, turn_point, RunsFor}
+use Rattle.scop_syntax.specs.Walk.{condition_at, turn_point, RunsFor}
 use Rattle.scop_syntax.specs.Kernel.{IsHead, AreTrees}
 use Rattle.scop_syntax.specs.Fits.{TurnFits}
 use Rattle.scop_meaning.specs.Conditions.{CanWalk, CanTurn}
@@ -86,18 +85,6 @@ pub walk_rest : (room : ℕ) (ranks : List ℕ) (t : Tree) (ts : Trees) (point :
     → CanWalk room ranks ts point
 walk_rest room ranks t ts point c =
     record { loops = c.loops; comparisons = c.comparisons; formed = c.formed.1; space = c.space; numbers = c.numbers.1 }
-
--- the body of a guard whose tests hold
-pub walk_guard : (room : ℕ) (ranks : List ℕ) (tests : List Test) (body : Trees) (point : List ℤ)
-    → CanWalk room ranks (more (guard tests body) none) point → all_hold tests point ≡ true
-    → CanWalk room ranks body point
-walk_guard room ranks tests body point c h = record {
-  loops = c.loops;
-  comparisons = c.comparisons - length tests;
-  formed = c.formed.0.4;
-  space = c.space;
-  numbers = c.numbers.0.1 h;
-}
 
 pub loop_head : (room : ℕ) (ranks : List ℕ) (head : Head) (body : Trees) (point : List ℤ)
     → CanWalk room ranks (more (loop head body) none) point → IsHead (length point) head

@@ -1,5 +1,6 @@
 pub mod Conditions
 pub mod Evaluation
 pub mod Instances
+pub mod LastWrites
 pub mod Outside
 pub mod Rows

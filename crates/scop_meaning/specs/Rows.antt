@@ -1,6 +1,7 @@
 -- Small kernels whose results are known, as plain data.
 use Rattle.std.specs.Prelude.{ℕ, ℤ, pos, negsuc, List, [], ◌∷◌}
 use Rattle.whole_numbers.specs.Affine.{Affine}
+use Rattle.scop_syntax.specs.Cells.{Cell}
 use Rattle.scop_syntax.specs.Tree.{
   Access,
   plus,
@@ -50,6 +51,10 @@ array extents = record { name = []; parameters_before = 0; extents = extents }
 
 abbrev pub kernel : List (List ℕ) → List Declaration → Trees → Program
 kernel parameters arrays body = record { name = []; parameters = parameters; arrays = arrays; body = body }
+
+-- cell k of the first array, where that has one dimension
+abbrev pub line_cell : ℕ → Cell
+line_cell k = record { array = 0; subscripts = pos k ∷ [] }
 
 -- for (i = 1; i < N; i++) A[i] += A[i-1];
 abbrev pub prefix_sums : Program

@@ -4,7 +4,7 @@ ghost use Rattle.whole_numbers.specs.Affine.{value_of};
 ghost use Rattle.scop_syntax.specs.Cells.{values};
 ghost use Rattle.scop_syntax.specs.Execution.{AreWithin, cell_count, offset_from, size_of};
 
-use crate::values::wrapped_at;
+use scop_syntax::affine_values::wrapped_at;
 use scop_syntax::tree::Aff;
 
 /// One step of Horner's rule: `offset * extent + subscript`, with the subscript at `point`.

@@ -5,7 +5,7 @@ ghost use Rattle.scop_syntax.specs.View.{expression_of, statement_of};
 ghost use Rattle.scop_syntax.specs.Values.{stored_by, value_on};
 
 use crate::operators::{combined, complemented, negated, shifted_left, shifted_right};
-use crate::values::wrapped_at;
+use scop_syntax::affine_values::wrapped_at;
 use scop_syntax::tree::{Expr, Right, Stmt};
 
 /// The value of `expression` at `point`, where its reads have the values `reads` from `at` on; `at`

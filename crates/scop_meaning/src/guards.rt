@@ -7,7 +7,7 @@ ghost use Rattle.scop_syntax.specs.Walk.{all_hold as tests_hold, holds as test_h
 ghost use Rattle.scop_syntax.specs.Fits.{TestsFit};
 ghost use Rattle.scop_syntax.specs.Kernel.{test_form};
 
-use crate::values::exact_at;
+use scop_syntax::affine_values::exact_at;
 use scop_syntax::tree::Test;
 
 /// Whether a test holds at `point`.

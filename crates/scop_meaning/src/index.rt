@@ -19,7 +19,7 @@ ghost use Rattle.scop_meaning.specs.declared.loops.TheConstants.{ROOM};
 
 use crate::guards::all_hold;
 use crate::loops::{Point, enter_turn, point_at, turns_of};
-use crate::values::exact_at;
+use scop_syntax::affine_values::exact_at;
 use scop_syntax::arrays::Extents;
 use scop_syntax::limit_laws::numbers_of_runs_fit;
 use scop_syntax::tree::{Access, Aff, Expr, Item, Kernel, Loop, Right, Stmt};

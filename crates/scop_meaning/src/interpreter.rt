@@ -4,19 +4,22 @@
 ghost use Rattle.std.specs.Prelude.{◌≡◌, ◌<◌, pos};
 ghost use Rattle.whole_numbers.specs.Affine.{value_of};
 ghost use Rattle.scop_syntax.specs.Acts.{acts, acts_all};
-ghost use Rattle.scop_syntax.specs.Execution.{IsInside, IsShaped, exec, layout as layout_of};
+ghost use Rattle.scop_syntax.specs.Cells.{Cell};
+ghost use Rattle.scop_syntax.specs.Execution.{IsCell, IsInside, IsShaped, exec, held, layout as layout_of};
 ghost use Rattle.scop_syntax.specs.Limits.{WithinLimits};
 ghost use Rattle.scop_syntax.specs.Tree.{loop, more, none};
 ghost use Rattle.scop_syntax.specs.View.{items_of, program_of, tree_of};
 ghost use Rattle.scop_syntax.specs.Walk.{turn_point};
 ghost use Rattle.scop_meaning.specs.Conditions.{CanRun, CanTurn, IsReady, ran};
+ghost use Rattle.scop_meaning.specs.LastWrites.{left_at_the_end};
 ghost use Rattle.scop_meaning.specs.declared.loops.TheConstants.{ROOM};
 
 use crate::guards::all_hold;
+use crate::last_writes::executions_go_by_last_writers;
 use crate::layout::Layout;
 use crate::loops::{Point, enter_turn, point_at, turns_of};
 use crate::statements::run_statement;
-use crate::values::exact_at;
+use scop_syntax::affine_values::exact_at;
 use scop_syntax::arrays::Arrays;
 use scop_syntax::limit_laws::{cells_lie_within_22_bits, numbers_of_runs_fit};
 use scop_syntax::tree::{Item, Kernel, Loop};
@@ -92,14 +95,19 @@ fn run_turn(
     let _iterator = point.pop();
 }
 
-/// Runs `kernel` for `params` on `arrays`, instance after instance in the order of the walk.
+/// Runs `kernel` for `params` on `arrays`, instance after instance in the order of the walk. Each cell
+/// then holds what its last writer stores, else what it held at first.
 pub fn run_plain(kernel: &Kernel, params: &[i64], arrays: &mut Arrays)
     requires limits { WithinLimits (program_of kernel.now) params.now }
     requires inside { IsInside (program_of kernel.now) params.now }
     requires shape { IsShaped (layout_of (program_of kernel.now) params.now) arrays.old }
     ensures arrays { arrays.new ≡ exec (program_of kernel.now) params.now arrays.old }
     ensures shape { IsShaped (layout_of (program_of kernel.now) params.now) arrays.new }
+    ensures cells { (c : Cell) → IsCell (layout_of (program_of kernel.now) params.now) c
+        → held (layout_of (program_of kernel.now) params.now) arrays.new c
+        ≡ left_at_the_end (program_of kernel.now) params.now arrays.old c }
 {
+    executions_go_by_last_writers();
     numbers_of_runs_fit();
     cells_lie_within_22_bits();
     let layout = Layout::of(kernel, params);

@@ -6,8 +6,8 @@ ghost use Rattle.scop_syntax.specs.Execution.{layout, size_of};
 ghost use Rattle.scop_syntax.specs.Limits.{WithinLimits};
 ghost use Rattle.scop_syntax.specs.View.{program_of};
 
-use crate::values::wrapped_at;
 use arrayvec::ArrayVec;
+use scop_syntax::affine_values::wrapped_at;
 use scop_syntax::limit_laws::cells_lie_within_22_bits;
 use scop_syntax::tree::{Aff, Kernel};
 use std::marker::Model;

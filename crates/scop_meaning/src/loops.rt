@@ -8,8 +8,8 @@ ghost use Rattle.scop_syntax.specs.Walk.{RunsFor, condition_at, turn_point};
 ghost use Rattle.scop_meaning.specs.Conditions.{CanTurn};
 ghost use Rattle.scop_meaning.specs.declared.loops.TheConstants.{ROOM};
 
-use crate::values::{exact_at, value_at, with_product};
 use arrayvec::ArrayVec;
+use scop_syntax::affine_values::{exact_at, value_at, with_product};
 use scop_syntax::tree::Loop;
 
 /// How many parameters and nested loops a kernel may have together.

@@ -9,7 +9,7 @@ ghost use Rattle.scop_meaning.specs.Evaluation.{EachRead, EachReadOf, evaluated,
 use crate::cells::offset_at;
 use crate::layout::Layout;
 use crate::operators::{combined, complemented, negated, shifted_left, shifted_right};
-use crate::values::wrapped_at;
+use scop_syntax::affine_values::wrapped_at;
 use scop_syntax::arrays::Arrays;
 use scop_syntax::tree::{Access, Expr, Right, Stmt};
 
@@ -47,8 +47,13 @@ fn evaluate(expression: &Expr, layout: &Layout, point: &[i64], arrays: &Arrays) 
         Expr::Cast(operand) => evaluate(operand, layout, point, arrays),
         Expr::Binary(operator, left, right) => {
             let first = evaluate(left, layout, point, arrays);
-            let second = evaluate(right, layout, point, arrays);
-            combined(*operator, first, second)
+            // A read on the right is most of what sums and products have: it needs no call of its own.
+            match &**right {
+                Expr::Read(access) => {
+                    combined(*operator, first, read(access, layout, point, arrays))
+                }
+                _ => combined(*operator, first, evaluate(right, layout, point, arrays)),
+            }
         }
         Expr::ShiftedLeft(operand, count) => {
             shifted_left(evaluate(operand, layout, point, arrays), *count)

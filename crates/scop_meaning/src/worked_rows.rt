@@ -1,12 +1,15 @@
 //! Kernels whose results are known from elsewhere, as contracts of functions that do nothing: what
-//! `run_plain` leaves in the arrays, and what `first_outside` tells.
-ghost use Rattle.std.specs.Prelude.{◌≡◌, ◌-◌, ◌*◌, ◌%◌, ◌^◌, [], ◌∷◌, pos, Some};
+//! `run_plain` leaves in the arrays, who wrote what is read there, and what `first_outside` tells.
+ghost use Rattle.std.specs.Prelude.{◌≡◌, ◌-◌, ◌*◌, ◌%◌, ◌^◌, [], ◌∷◌, None, Some, map, pos};
 ghost use Rattle.std.specs.Option.{option_map};
 ghost use Rattle.scop_syntax.specs.Execution.{exec, layout};
 ghost use Rattle.scop_syntax.specs.Failures.{first_outside};
 ghost use Rattle.scop_syntax.specs.Walk.{walk_of};
+ghost use Rattle.scop_syntax.specs.Writers.{last_of, next_of};
+ghost use Rattle.scop_meaning.specs.LastWrites.{left_before};
 ghost use Rattle.scop_meaning.specs.Outside.{outside_of};
-ghost use Rattle.scop_meaning.specs.Rows.{copy, even, falling, guarded, odd, one_more, one_too_far, prefix_sums, product, sweeps, triangle, two_statements};
+ghost use Rattle.scop_meaning.specs.Rows.{copy, even, falling, guarded, line_cell, odd, one_more, one_too_far};
+ghost use Rattle.scop_meaning.specs.Rows.{prefix_sums, product, sweeps, triangle, two_statements};
 
 /// A compound operator reads its place; a loop without a turn does nothing; sums wrap.
 pub fn sums_of_a_place()
@@ -48,6 +51,17 @@ pub fn copies_of_cells()
     ensures seed { 2 * 11400714819323198485 % 2 ^ 64 ≡ 4354685564936845354 }
     ensures copy { exec copy (pos 2 ∷ []) ((11400714819323198485 ∷ 4354685564936845354 ∷ []) ∷ (0 ∷ 0 ∷ []) ∷ [])
         ≡ (11400714819323198485 ∷ 4354685564936845354 ∷ []) ∷ (11400714819323198485 ∷ 4354685564936845354 ∷ []) ∷ [] }
+{}
+
+/// In the second of two sweeps over three inner cells, which are places 3 to 5: the left end is never written, a left
+/// neighbour is written in the same sweep, a right one in the sweep before; and what the middle is computed from.
+pub fn last_writers_of_sweeps()
+    ensures end { last_of (walk_of sweeps (pos 2 ∷ pos 5 ∷ [])) 3 1 ≡ None }
+    ensures left { last_of (walk_of sweeps (pos 2 ∷ pos 5 ∷ [])) 4 1 ≡ Some 3 }
+    ensures right { last_of (walk_of sweeps (pos 2 ∷ pos 5 ∷ [])) 4 3 ≡ Some 2 }
+    ensures next { next_of (walk_of sweeps (pos 2 ∷ pos 5 ∷ [])) 1 0 ≡ Some 4 }
+    ensures values { map (left_before sweeps (pos 2 ∷ pos 5 ∷ []) ((1 ∷ 1 ∷ 1 ∷ 1 ∷ 1 ∷ []) ∷ []) 4)
+        (line_cell 1 ∷ line_cell 2 ∷ line_cell 3 ∷ []) ≡ 9 ∷ 5 ∷ 7 ∷ [] }
 {}
 
 /// The read of the last instance lies one past its array.

@@ -1,10 +1,12 @@
 -- The walk without its numbers.
-use Rattle.std.proofs.Common.{◌≡◌, ℕ, zero, suc, ◌+◌, Bool, true, false, ℤ, pos, List, [], ◌∷◌, ◌++◌, map, ap, ap₂, ◌∙◌, refl}
+use Rattle.std.proofs.Common.{◌≡◌, ℕ, zero, suc, ◌+◌, Bool, true, false, ℤ, pos, List, [], ◌∷◌, ◌++◌, map, ap, ap₂, ◌∙◌}
+use Rattle.std.proofs.Common.{refl}
 use Rattle.std.specs.Prelude.{if◌then◌else◌}
 use Rattle.std.specs.Int.Signed.{le_z}
 use Rattle.std.proofs.lemmas.List.{map-append}
 use Rattle.scop_syntax.specs.Tree.{Tree, loop, guard, statement, Trees, none, more}
-use Rattle.scop_syntax.specs.Walk.{all_hold, turn_point, condition_at, most_turns, turns, statements_in, Visit, within, walk, walk_all}
+use Rattle.scop_syntax.specs.Walk.{all_hold, turn_point, condition_at, most_turns, turns, statements_in, Visit, within}
+use Rattle.scop_syntax.specs.Walk.{walk, walk_all}
 use Rattle.scop_syntax.specs.Acts.{Act, act_of, acts, acts_all}
 
 act-within : (l : ℕ) (x : ℤ) (vs : List Visit) → map act_of (map (within l x) vs) ≡ map act_of vs

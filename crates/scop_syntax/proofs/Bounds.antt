@@ -1,18 +1,22 @@
 -- What the limits of the language give for a run of a kernel.
-use Rattle.std.proofs.Common.{◌≡◌, ℕ, zero, suc, ◌+◌, ◌*◌, ◌^◌, ◌<◌, ◌≤◌, ℤ, pos, negsuc, List, [], ◌∷◌, length, map, get_or, inl, inr, subst, sym, ◌∙◌, refl, arith, mul-le-mul, mul-one, one-mul}
+use Rattle.std.proofs.Common.{◌≡◌, ℕ, zero, suc, ◌+◌, ◌*◌, ◌^◌, ◌<◌, ◌≤◌, ℤ, pos, negsuc, List, [], ◌∷◌, length, map}
+use Rattle.std.proofs.Common.{get_or, inl, inr, subst, sym, ◌∙◌, refl, arith, mul-le-mul, mul-one, one-mul}
 use Rattle.std.specs.Prelude.{◌≤ℤ◌, ◌<ℤ◌, All, unsigned_abs}
 use Rattle.std.proofs.lemmas.Int.{ints}
 use Rattle.std.proofs.lemmas.List.{length-map}
 use Rattle.std.proofs.lemmas.List.Elements.{All-nil, All-cons, All-head, All-tail}
 use Rattle.whole_numbers.specs.Affine.{Affine, value_of}
-use Rattle.scop_syntax.specs.Tree.{Access, Expression, read, constant, affine, negated, complemented, cast, binary, shifted_left, shifted_right, Right, assigned, combined, moved_left, moved_right, Statement, Declaration, Program}
+use Rattle.scop_syntax.specs.Tree.{Access, Expression, read, constant, affine, negated, complemented, cast, binary}
+use Rattle.scop_syntax.specs.Tree.{shifted_left, shifted_right, Right, assigned, combined, moved_left, moved_right}
+use Rattle.scop_syntax.specs.Tree.{Statement, Declaration, Program}
 use Rattle.scop_syntax.specs.Members.{In}
 use Rattle.scop_syntax.specs.Walk.{Visit, walk_of}
 use Rattle.scop_syntax.specs.Cells.{Cell, accesses, reads_of, reads_with, values}
 use Rattle.scop_syntax.specs.Execution.{IsCell, size_of, layout, cell_count, total_cells, cell_number}
 use Rattle.scop_syntax.specs.Failures.{IsRanked, VisitsAreRanked}
 use Rattle.scop_syntax.specs.Fits.{FitsAll}
-use Rattle.scop_syntax.specs.Kernel.{AreAtMost, IsAffine, IsAccess, IsExpression, IsRight, IsStatement, AreTrees, IsKernel, AreScopes, ranks_of}
+use Rattle.scop_syntax.specs.Kernel.{AreAtMost, IsAffine, IsAccess, IsExpression, IsRight, IsStatement, AreTrees}
+use Rattle.scop_syntax.specs.Kernel.{IsKernel, AreScopes, ranks_of}
 use Rattle.scop_syntax.specs.Limits.{WithinLimits}
 use Rattle.scop_syntax.specs.Statements.{Scope, round, under, Placed, Runs, loops_in, point_of, statements_of}
 use Rattle.scop_syntax.specs.Walk.{turn_point}

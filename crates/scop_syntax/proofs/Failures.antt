@@ -1,5 +1,6 @@
 -- Nothing fails exactly where every cell is one of its array's.
-use Rattle.std.proofs.Common.{◌≡◌, ℕ, zero, suc, ◌+◌, Bool, true, false, ℤ, pos, List, [], ◌∷◌, ◌++◌, length, get_or, Some, None, inl, inr, ap, ap₂, subst, sym, ◌∙◌, refl, arith}
+use Rattle.std.proofs.Common.{◌≡◌, ℕ, zero, suc, ◌+◌, Bool, true, false, ℤ, pos, List, [], ◌∷◌, ◌++◌, length, get_or}
+use Rattle.std.proofs.Common.{Some, None, inl, inr, ap, ap₂, subst, sym, ◌∙◌, refl, arith}
 use Rattle.std.specs.Prelude.{◌<◌, ◌+ℤ◌, slice_get, if◌then◌else◌}
 use Rattle.std.specs.Int.Signed.{le_z}
 use Rattle.std.proofs.lemmas.Int.{ints}
@@ -10,7 +11,8 @@ use Rattle.scop_syntax.specs.Members.{In}
 use Rattle.scop_syntax.specs.Walk.{Visit}
 use Rattle.scop_syntax.specs.Cells.{accesses, values, cell_of}
 use Rattle.scop_syntax.specs.Execution.{AreWithin, IsCell, AreInside}
-use Rattle.scop_syntax.specs.Failures.{Failure, is_within, outside_dimensions, outside_accesses, failures, first_outside, LiesIn, IsFirstOutside, IsRanked, VisitsAreRanked}
+use Rattle.scop_syntax.specs.Failures.{Failure, is_within, outside_dimensions, outside_accesses, failures}
+use Rattle.scop_syntax.specs.Failures.{first_outside, LiesIn, IsFirstOutside, IsRanked, VisitsAreRanked}
 use Rattle.scop_syntax.proofs.Members.{both, le_z_holds, holds_le_z}
 
 nil_front : {A : Type 0} (xs ys : List A) → xs ++ ys ≡ [] → xs ≡ []

@@ -1,14 +1,20 @@
 -- Within the limits every number of a run fits.
-use Rattle.std.proofs.Common.{◌≡◌, ℕ, zero, suc, ◌+◌, ◌-◌, ◌*◌, ◌^◌, ◌≤◌, ℤ, pos, List, [], ◌∷◌, length, get_or, subst, sym, arith, mul-le-mul, length-append}
+use Rattle.std.proofs.Common.{◌≡◌, ℕ, zero, suc, ◌+◌, ◌-◌, ◌*◌, ◌^◌, ◌≤◌, ℤ, pos, List, [], ◌∷◌, length, get_or, subst}
+use Rattle.std.proofs.Common.{sym, arith, mul-le-mul, length-append}
 use Rattle.std.specs.Prelude.{◌+ℤ◌, ◌*ℤ◌, ◌≤ℤ◌, All, FitsSigned}
 use Rattle.std.specs.Int.{w64}
 use Rattle.std.proofs.lemmas.Int.{ints, fits_signed_from_abs}
 use Rattle.whole_numbers.specs.Affine.{Affine, value_of}
-use Rattle.scop_syntax.specs.Tree.{Expression, read, constant, affine, negated, complemented, cast, binary, shifted_left, shifted_right, Right, assigned, combined, moved_left, moved_right, Statement, Test, Head, Tree, loop, guard, statement, Trees, none, more}
+use Rattle.scop_syntax.specs.Tree.{Expression, read, constant, affine, negated, complemented, cast, binary}
+use Rattle.scop_syntax.specs.Tree.{shifted_left, shifted_right, Right, assigned, combined, moved_left, moved_right}
+use Rattle.scop_syntax.specs.Tree.{Statement, Test, Head, Tree, loop, guard, statement, Trees, none, more}
 use Rattle.scop_syntax.specs.Walk.{turn_point, condition_at}
-use Rattle.scop_syntax.specs.Kernel.{test_form, IsForm, IsAffine, IsComparison, IsHead, IsExpression, IsRight, IsStatement, IsTree, AreTrees}
-use Rattle.scop_syntax.specs.Fits.{IsReached, TurnFits, TestsFit, ExpressionFits, RightFits, StatementFits, Fits, FitsAll}
-use Rattle.scop_syntax.proofs.Limits.{size, grown, value_size, size-append, iterator_size, reached_size, grown_more, grown_up}
+use Rattle.scop_syntax.specs.Kernel.{test_form, IsForm, IsAffine, IsComparison, IsHead, IsExpression, IsRight}
+use Rattle.scop_syntax.specs.Kernel.{IsStatement, IsTree, AreTrees}
+use Rattle.scop_syntax.specs.Fits.{IsReached, TurnFits, TestsFit, ExpressionFits, RightFits, StatementFits, Fits}
+use Rattle.scop_syntax.specs.Fits.{FitsAll}
+use Rattle.scop_syntax.proofs.Limits.{size, grown, value_size, size-append, iterator_size, reached_size, grown_more}
+use Rattle.scop_syntax.proofs.Limits.{grown_up}
 
 value_fits : (n k m : ℕ) (f : Affine) (point : List ℤ) → IsForm n k m f → k ≤ 32 → m ≤ 2 ^ 22 → size point ≤ 2 ^ 50
     → FitsSigned w64 (value_of f point)

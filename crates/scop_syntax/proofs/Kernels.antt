@@ -3,7 +3,8 @@ use Rattle.std.proofs.Common.{◌≡◌, ℕ, suc, ◌+◌, ◌-◌, ◌≤◌, 
 use Rattle.scop_syntax.specs.Tree.{Tree, loop, guard, statement, Trees, none, more, Program}
 use Rattle.scop_syntax.specs.Members.{In}
 use Rattle.scop_syntax.specs.Walk.{statements_in, walk_of}
-use Rattle.scop_syntax.specs.Statements.{Placed, in_loop_of, in_guard_of, placed, placed_all, statements_of, loops_in, comparisons_in, Runs, visit_of}
+use Rattle.scop_syntax.specs.Statements.{Placed, in_loop_of, in_guard_of, placed, placed_all, statements_of, loops_in}
+use Rattle.scop_syntax.specs.Statements.{comparisons_in, Runs, visit_of}
 use Rattle.scop_syntax.specs.Kernel.{IsStatement, IsTree, AreTrees, IsKernel, AreScopes, IsPlaced, ranks_of}
 use Rattle.scop_syntax.proofs.Members.{in_append, in_map_from}
 use Rattle.scop_syntax.proofs.Statements.{stands_all}

@@ -15,3 +15,4 @@ pub mod Numbers
 pub mod Bounds
 pub mod Values
 pub mod Conflicts
+mod Wrapping

@@ -1,5 +1,6 @@
 -- The walk stands in the order of its instances.
-use Rattle.std.proofs.Common.{◌≡◌, ℕ, suc, ◌+◌, ◌<◌, true, false, ℤ, pos, List, [], ◌∷◌, map, Some, inl, inr, subst, sym, refl, arith}
+use Rattle.std.proofs.Common.{◌≡◌, ℕ, suc, ◌+◌, ◌<◌, true, false, ℤ, pos, List, [], ◌∷◌, map, Some, inl, inr, subst}
+use Rattle.std.proofs.Common.{sym, refl, arith}
 use Rattle.std.specs.Prelude.{◌≤◌, ◌↔◌, slice_get, nat_eq, ⊤}
 use Rattle.std.proofs.lemmas.Int.{ints}
 use Rattle.std.proofs.lemmas.Bool.{eq-eqb}
@@ -7,9 +8,11 @@ use Rattle.whole_numbers.specs.Lexicographic.{LexLess}
 use Rattle.whole_numbers.proofs.Lexicographic.{LexLess-irrefl, LexLess-asym}
 use Rattle.scop_syntax.specs.Tree.{Tree, loop, guard, statement, Trees, none, more}
 use Rattle.scop_syntax.specs.Members.{In, Sorted}
-use Rattle.scop_syntax.specs.Walk.{all_hold, turn_point, condition_at, most_turns, turns, statements_in, statements_in_all, Visit, within, walk, walk_all}
+use Rattle.scop_syntax.specs.Walk.{all_hold, turn_point, condition_at, most_turns, turns, statements_in}
+use Rattle.scop_syntax.specs.Walk.{statements_in_all, Visit, within, walk, walk_all}
 use Rattle.scop_syntax.specs.Order.{common, key, Before}
-use Rattle.scop_syntax.proofs.Members.{nat_cases, in_append, in_map_from, in_if_from, in_turns_from, sorted_append, sorted_map, sorted_if, sorted_turns, sorted_places}
+use Rattle.scop_syntax.proofs.Members.{nat_cases, in_append, in_map_from, in_if_from, in_turns_from, sorted_append}
+use Rattle.scop_syntax.proofs.Members.{sorted_map, sorted_if, sorted_turns, sorted_places}
 
 -- the outermost loop begins with one of the m statements from n on
 abbrev StartsIn : ℕ → ℕ → List ℕ → Type 0

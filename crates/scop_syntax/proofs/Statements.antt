@@ -1,15 +1,19 @@
 -- The walk visits each statement at the turns at which all that stands round it holds.
-use Rattle.std.proofs.Common.{◌≡◌, ℕ, zero, suc, ◌+◌, ◌-◌, true, ℤ, pos, negsuc, List, [], ◌∷◌, ◌++◌, length, map, Some, inl, inr, ap, subst, sym, ◌∙◌, refl, arith, length-append}
+use Rattle.std.proofs.Common.{◌≡◌, ℕ, zero, suc, ◌+◌, ◌-◌, true, ℤ, pos, negsuc, List, [], ◌∷◌, ◌++◌, length, map, Some}
+use Rattle.std.proofs.Common.{inl, inr, ap, subst, sym, ◌∙◌, refl, arith, length-append}
 use Rattle.std.specs.Prelude.{⊤, ◌+ℤ◌, ◌*ℤ◌, slice_get}
 use Rattle.std.proofs.lemmas.Int.{ints}
 use Rattle.std.proofs.lemmas.List.{length-map}
 use Rattle.whole_numbers.specs.Affine.{value_of}
 use Rattle.scop_syntax.specs.Tree.{Test, at_least, equal, Head, Tree, loop, guard, statement, Trees, none, more}
 use Rattle.scop_syntax.specs.Members.{In}
-use Rattle.scop_syntax.specs.Walk.{holds, all_hold, turn_point, condition_at, most_turns, statements_in, statements_in_all, Visit, within, walk, walk_all}
+use Rattle.scop_syntax.specs.Walk.{holds, all_hold, turn_point, condition_at, most_turns, statements_in}
+use Rattle.scop_syntax.specs.Walk.{statements_in_all, Visit, within, walk, walk_all}
 use Rattle.scop_syntax.specs.Kernel.{IsHead, IsTree, AreTrees}
-use Rattle.scop_syntax.specs.Statements.{Scope, round, under, Placed, in_loop_of, in_guard_of, placed, placed_all, loops_in, Holds, AllHold, Runs, visit_of}
-use Rattle.scop_syntax.proofs.Members.{place_of, in_front, in_back, in_append, in_map, in_map_from, in_if, in_if_from, in_turns_from, in_loop, both, le_z_holds, holds_le_z}
+use Rattle.scop_syntax.specs.Statements.{Scope, round, under, Placed, in_loop_of, in_guard_of, placed, placed_all}
+use Rattle.scop_syntax.specs.Statements.{loops_in, Holds, AllHold, Runs, visit_of}
+use Rattle.scop_syntax.proofs.Members.{place_of, in_front, in_back, in_append, in_map, in_map_from, in_if, in_if_from}
+use Rattle.scop_syntax.proofs.Members.{in_turns_from, in_loop, both, le_z_holds, holds_le_z}
 use Rattle.scop_syntax.proofs.Falls.{condition_falls}
 
 -- the walk's tests

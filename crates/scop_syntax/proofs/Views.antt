@@ -2,10 +2,15 @@
 use Rattle.std.proofs.Common.{◌≡◌, ℕ, Vec, Global, map, ap, sym, ◌∙◌}
 use Rattle.std.specs.Global.{Box}
 use Rattle.whole_numbers.specs.Affine.{Affine}
-use Rattle.scop_syntax.specs.Tree.{Access, read, constant, affine, negated, complemented, cast, binary, shifted_left, shifted_right, Head, loop, guard, statement}
+use Rattle.scop_syntax.specs.Tree.{Access, read, constant, affine, negated, complemented, cast, binary, shifted_left}
+use Rattle.scop_syntax.specs.Tree.{shifted_right, Head, loop, guard, statement}
 use Rattle.scop_syntax.specs.declared.tree.Operator.{Operator as Code}
 use Rattle.scop_syntax.specs.declared.tree.Expr.{Expr}
-use Rattle.scop_syntax.specs.declared.tree.Expr.TheVariants.{Read, Constant, Affine as Form, Negated, Complemented, Cast, Binary, ShiftedLeft, ShiftedRight, rolls-Read, rolls-Constant, rolls-Affine, rolls-Negated, rolls-Complemented, rolls-Cast, rolls-Binary, rolls-ShiftedLeft, rolls-ShiftedRight}
+use Rattle.scop_syntax.specs.declared.tree.Expr.TheVariants.{Read, Constant, Affine as Form, Negated, Complemented}
+use Rattle.scop_syntax.specs.declared.tree.Expr.TheVariants.{Cast, Binary, ShiftedLeft, ShiftedRight, rolls-Read}
+use Rattle.scop_syntax.specs.declared.tree.Expr.TheVariants.{rolls-Constant, rolls-Affine, rolls-Negated}
+use Rattle.scop_syntax.specs.declared.tree.Expr.TheVariants.{rolls-Complemented, rolls-Cast, rolls-Binary}
+use Rattle.scop_syntax.specs.declared.tree.Expr.TheVariants.{rolls-ShiftedLeft, rolls-ShiftedRight}
 use Rattle.scop_syntax.specs.declared.tree.Expr.TheFolds.{fold-roll-Expr}
 use Rattle.scop_syntax.specs.declared.tree.Expr.TheOpen.{Expr-F}
 use Rattle.scop_syntax.specs.declared.tree.Item.{Item}
@@ -15,7 +20,8 @@ use Rattle.scop_syntax.specs.declared.tree.Item.TheOpen.{Item-F}
 use Rattle.scop_syntax.specs.declared.tree.Guard.{Guard as Tests}
 use Rattle.scop_syntax.specs.declared.tree.Stmt.{Stmt as Body}
 use Rattle.scop_syntax.specs.Tree.{Tree, Expression}
-use Rattle.scop_syntax.specs.View.{expression_step, expression_of, operator_of, test_of, statement_of, tree_of, tree_step, items_of}
+use Rattle.scop_syntax.specs.View.{expression_step, expression_of, operator_of, test_of, statement_of, tree_of}
+use Rattle.scop_syntax.specs.View.{tree_step, items_of}
 
 pub tree_loop : (head : Head) (body : Vec Item Global) → tree_of (Loop head body) ≡ loop head (items_of body.items)
 tree_loop head body = ap tree_of (sym (rolls-Loop head body)) ∙ fold-roll-Item Tree tree_step (Item-F.Loop head body)

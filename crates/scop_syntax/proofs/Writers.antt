@@ -1,5 +1,6 @@
 -- A cell holds what its last writer has left in it.
-use Rattle.std.proofs.Common.{◌+◌, ◌-◌, ◌≡◌, ℕ, zero, suc, ◌<◌, ◌≤◌, Bool, true, false, ℤ, List, [], ◌∷◌, length, take, drop, fold, map, Some, None, inl, inr, ap, ap₂, subst, sym, ◌∙◌, refl, arith}
+use Rattle.std.proofs.Common.{◌+◌, ◌-◌, ◌≡◌, ℕ, zero, suc, ◌<◌, ◌≤◌, Bool, true, false, ℤ, List, [], ◌∷◌, length, take}
+use Rattle.std.proofs.Common.{drop, fold, map, Some, None, inl, inr, ap, ap₂, subst, sym, ◌∙◌, refl, arith}
 use Rattle.std.specs.Prelude.{slice_get, nat_eq, if◌then◌else◌}
 use Rattle.std.specs.Int.Signed.{le_z}
 use Rattle.std.proofs.lemmas.Int.{ints}
@@ -9,8 +10,10 @@ use Rattle.scop_syntax.specs.Tree.{Access}
 use Rattle.scop_syntax.specs.Members.{In}
 use Rattle.scop_syntax.specs.Walk.{Visit}
 use Rattle.scop_syntax.specs.Cells.{Cell, cell_of, cells_read, reads, written}
-use Rattle.scop_syntax.specs.Execution.{IsCell, AreInside, held, stored, values_read, values_read_at, value_stored, value_stored_at, performed, performed_all, before_place, IsShaped}
-use Rattle.scop_syntax.specs.Writers.{same_numbers, same_cell, writes, last_writer, left_by, IsLast, first_writer, next_writer, IsNext}
+use Rattle.scop_syntax.specs.Execution.{IsCell, AreInside, held, stored, values_read, values_read_at, value_stored}
+use Rattle.scop_syntax.specs.Execution.{value_stored_at, performed, performed_all, before_place, IsShaped}
+use Rattle.scop_syntax.specs.Writers.{same_numbers, same_cell, writes, last_writer, left_by, IsLast, first_writer}
+use Rattle.scop_syntax.specs.Writers.{next_writer, IsNext}
 use Rattle.scop_syntax.proofs.Members.{nat_cases, both, in_from_place, le_z_holds, holds_le_z}
 use Rattle.scop_syntax.proofs.Memory.{held_stored, held_other, shape_stored}
 

@@ -1,7 +1,8 @@
 -- Small programs as worked examples of the meaning: array 0 is X, which has four cells; there are no parameters.
 use Rattle.std.specs.Prelude.{ℤ, pos, negsuc, List, [], ◌∷◌}
 use Rattle.whole_numbers.specs.Affine.{Affine}
-use Rattle.scop_syntax.specs.Tree.{Access, read, assigned, combined, minus, Head, equal, Tree, Trees, loop, guard, statement, none, more, Program, Declaration}
+use Rattle.scop_syntax.specs.Tree.{Access, read, assigned, combined, minus, Head, equal, Tree, Trees, loop, guard}
+use Rattle.scop_syntax.specs.Tree.{statement, none, more, Program, Declaration}
 
 -- a form by its coefficients and constant
 abbrev pub form : List ℤ → ℤ → Affine

@@ -1,5 +1,6 @@
 -- What the instances do to the arrays, one after another.
-use Rattle.std.specs.Prelude.{◌≡◌, ℕ, ◌+◌, ◌*◌, ◌<◌, ℤ, pos, negsuc, ◌<ℤ◌, ◌≤ℤ◌, List, [], ◌∷◌, length, map, take, fold, slice_get, slice_set, slice_index_or, Option, Some, None, ⊤}
+use Rattle.std.specs.Prelude.{◌≡◌, ℕ, ◌+◌, ◌*◌, ◌<◌, ℤ, pos, negsuc, ◌<ℤ◌, ◌≤ℤ◌, List, [], ◌∷◌, length, map, take, fold}
+use Rattle.std.specs.Prelude.{slice_get, slice_set, slice_index_or, Option, Some, None, ⊤}
 use Rattle.scop_syntax.specs.Tree.{Access, Statement, Program}
 use Rattle.scop_syntax.specs.Members.{In}
 use Rattle.scop_syntax.specs.Walk.{Visit, walk_of}

@@ -2,7 +2,9 @@
 use Rattle.std.specs.Prelude.{◌≡◌, true, ℕ, ◌<◌, ℤ, pos, ◌+ℤ◌, ◌*ℤ◌, ◌≤ℤ◌, List, All, FitsSigned, ⊤}
 use Rattle.std.specs.Int.{w64}
 use Rattle.whole_numbers.specs.Affine.{value_of}
-use Rattle.scop_syntax.specs.Tree.{Access, Expression, read, constant, affine, negated, complemented, cast, binary, shifted_left, shifted_right, Right, assigned, combined, moved_left, moved_right, Statement, Test, Head, Tree, loop, guard, statement, Trees, none, more}
+use Rattle.scop_syntax.specs.Tree.{Access, Expression, read, constant, affine, negated, complemented, cast, binary}
+use Rattle.scop_syntax.specs.Tree.{shifted_left, shifted_right, Right, assigned, combined, moved_left, moved_right}
+use Rattle.scop_syntax.specs.Tree.{Statement, Test, Head, Tree, loop, guard, statement, Trees, none, more}
 use Rattle.scop_syntax.specs.Walk.{all_hold, turn_point, condition_at}
 use Rattle.scop_syntax.specs.Kernel.{test_form}
 

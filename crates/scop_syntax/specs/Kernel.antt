@@ -1,7 +1,11 @@
 -- Well-formed kernels, within the limits of the language.
-use Rattle.std.specs.Prelude.{◌≡◌, ℕ, ◌+◌, ◌-◌, ◌^◌, ◌<◌, ◌≤◌, ℤ, pos, negsuc, ◌≤ℤ◌, List, [], ◌∷◌, length, map, All, slice_index_or, unsigned_abs, ◌⊎◌, ⊤}
+use Rattle.std.specs.Prelude.{◌≡◌, ℕ, ◌+◌, ◌-◌, ◌^◌, ◌<◌, ◌≤◌, ℤ, pos, negsuc, ◌≤ℤ◌, List, [], ◌∷◌, length, map, All}
+use Rattle.std.specs.Prelude.{slice_index_or, unsigned_abs, ◌⊎◌, ⊤}
 use Rattle.whole_numbers.specs.Affine.{Affine}
-use Rattle.scop_syntax.specs.Tree.{Access, Expression, read, constant, affine, negated, complemented, cast, binary, shifted_left, shifted_right, Right, assigned, combined, moved_left, moved_right, Statement, Test, at_least, equal, Head, Tree, loop, guard, statement, Trees, none, more, Declaration, Program}
+use Rattle.scop_syntax.specs.Tree.{Access, Expression, read, constant, affine, negated, complemented, cast, binary}
+use Rattle.scop_syntax.specs.Tree.{shifted_left, shifted_right, Right, assigned, combined, moved_left, moved_right}
+use Rattle.scop_syntax.specs.Tree.{Statement, Test, at_least, equal, Head, Tree, loop, guard, statement, Trees, none}
+use Rattle.scop_syntax.specs.Tree.{more, Declaration, Program}
 use Rattle.scop_syntax.specs.Members.{Sorted}
 use Rattle.scop_syntax.specs.Walk.{statements_in_all}
 use Rattle.scop_syntax.specs.Cells.{reads}

@@ -1,7 +1,8 @@
 -- The statements of a tree with what stands round each, and when an instance of one runs.
 use Rattle.std.specs.Prelude.{◌≡◌, ℕ, suc, ◌+◌, ℤ, pos, ◌≤ℤ◌, List, [], ◌∷◌, ◌++◌, length, map, ⊤}
 use Rattle.whole_numbers.specs.Affine.{value_of}
-use Rattle.scop_syntax.specs.Tree.{Statement, Test, at_least, equal, Head, Tree, loop, guard, statement, Trees, none, more, Program}
+use Rattle.scop_syntax.specs.Tree.{Statement, Test, at_least, equal, Head, Tree, loop, guard, statement, Trees, none}
+use Rattle.scop_syntax.specs.Tree.{more, Program}
 use Rattle.scop_syntax.specs.Walk.{turn_point, condition_at, statements_in, Visit}
 
 -- a loop or a guard round a statement

@@ -1,6 +1,9 @@
 -- The plain data that the code's values stand for.
 use Rattle.std.specs.Prelude.{List, [], ◌∷◌, map, take}
-use Rattle.scop_syntax.specs.Tree.{Operator, plus, minus, times, bits_and, bits_or, bits_xor, Expression, read, constant, affine, negated, complemented, cast, binary, shifted_left, shifted_right, Right, assigned, combined, moved_left, moved_right, Statement, Test, at_least, equal, Tree, loop, guard, statement, Trees, none, more, Program}
+use Rattle.scop_syntax.specs.Tree.{Operator, plus, minus, times, bits_and, bits_or, bits_xor, Expression, read}
+use Rattle.scop_syntax.specs.Tree.{constant, affine, negated, complemented, cast, binary, shifted_left, shifted_right}
+use Rattle.scop_syntax.specs.Tree.{Right, assigned, combined, moved_left, moved_right, Statement, Test, at_least, equal}
+use Rattle.scop_syntax.specs.Tree.{Tree, loop, guard, statement, Trees, none, more, Program}
 use Rattle.scop_syntax.specs.Walk.{Instance}
 use Rattle.scop_syntax.specs.declared.instance.Instance.{Instance as CodeInstance}
 use Rattle.scop_syntax.specs.declared.tree.Operator.{Operator as CodeOperator}

@@ -1,5 +1,6 @@
 -- The last writer of a cell before a place (Feautrier 1991), the next one behind it, and what a cell holds by the last.
-use Rattle.std.specs.Prelude.{◌≡◌, ◌<◌, ℕ, zero, suc, Bool, true, false, ℤ, List, [], ◌∷◌, slice_get, Option, Some, None, option_and_then, nat_eq, if◌then◌else◌, drop}
+use Rattle.std.specs.Prelude.{◌≡◌, ◌<◌, ℕ, zero, suc, Bool, true, false, ℤ, List, [], ◌∷◌, slice_get, Option, Some}
+use Rattle.std.specs.Prelude.{None, option_and_then, nat_eq, if◌then◌else◌, drop}
 use Rattle.std.specs.Int.Signed.{le_z}
 use Rattle.scop_syntax.specs.Walk.{Visit}
 use Rattle.scop_syntax.specs.Cells.{Cell, cell_at, written}

@@ -1,7 +1,8 @@
 //! Worked examples of the meaning, as contracts of functions that do nothing: the edges of each
 //! operator, and what small programs leave in the arrays.
 ghost use Rattle.std.specs.Prelude.{◌≡◌, ◌-◌, ◌^◌, [], ◌∷◌, negsuc};
-ghost use Rattle.scop_syntax.specs.Tree.{affine, bits_xor, complemented, constant, minus, moved_left, moved_right, negated, plus, shifted_right, times};
+ghost use Rattle.scop_syntax.specs.Tree.{affine, bits_xor, complemented, constant, minus, moved_left, moved_right};
+ghost use Rattle.scop_syntax.specs.Tree.{negated, plus, shifted_right, times};
 ghost use Rattle.scop_syntax.specs.Values.{applied, stored_by, value_on};
 ghost use Rattle.scop_syntax.specs.Execution.{exec};
 ghost use Rattle.scop_syntax.specs.Limits.{WithinLimits};

@@ -2,7 +2,7 @@ use Rattle.std.proofs.Common.{List, ap, sym, subst, ◌∙◌, arith}
 use Rattle.std.specs.Prelude.{ℤ, ℕ}
 use Rattle.scop_syntax.specs.declared.tree.Item.{Item}
 use Rattle.scop_syntax.specs.View.{program_of, items_of}
-use Rattle.scop_syntax.specs.Execution.{IsShaped, layout}
+use Rattle.scop_syntax.specs.Execution.{IsShaped, held, layout}
 use Rattle.scop_syntax.specs.Acts.{acts_all}
 use Rattle.scop_meaning.specs.Conditions.{CanRun, ran}
 use Rattle.scop_meaning.proofs.Kernels.{kernel_runs, exec_is}
@@ -44,3 +44,11 @@ pub returns-clause-shape : goal.returns-clause-shape
 returns-clause-shape c =
     subst (λ (es : List (List ℕ)). IsShaped es c.run_items.new.arrays) c.of-layout.ensures
     c.run_items.ensures.ready.shape
+
+pub returns-clause-cells : goal.returns-clause-cells
+returns-clause-cells c cell is =
+    let p = program_of c.args.kernel.now in
+    let params = c.args.params.now in
+    ap (λ (contents : List (List ℕ)). held (layout p params) contents cell) (returns-clause-arrays c)
+    ∙ c.executions_go_by_last_writers.ensures.cells p params c.args.arrays.now cell c.requires.inside
+    c.requires.shape is

@@ -1,4 +1,5 @@
-use Rattle.std.proofs.Common.{◌≡◌, ℕ, ◌<◌, List, [], length, map, sym, ap, subst, ◌∙◌, Vec, Global, get_or, set, length-set}
+use Rattle.std.proofs.Common.{◌≡◌, ℕ, ◌<◌, List, [], length, map, sym, ap, subst, ◌∙◌, Vec, Global, get_or, set}
+use Rattle.std.proofs.Common.{length-set}
 use Rattle.std.proofs.lemmas.List.{get_or-map, map-set, length-map}
 use Rattle.std.proofs.Math.Seq.{map-set_same}
 use Rattle.std.specs.Vec.{with_item}

@@ -1,10 +1,36 @@
 -- Sums of products modulo 2^64.
-use Rattle.std.proofs.Common.{◌≡◌, ℕ, zero, suc, ◌+◌, ◌<◌, ◌≤◌, List, [], ◌∷◌, length, drop, get_or, ap, ◌∙◌, arith}
-use Rattle.std.proofs.Common.{rules, ◌*◌, ◌%◌, ◌^◌, add-one, drop-cons, refl, min}
-use Rattle.std.specs.Prelude.{ℤ, pos, ◌+ℤ◌, ◌*ℤ◌, FitsSigned}
+use Rattle.std.proofs.Common.{
+  ◌≡◌,
+  ℕ,
+  zero,
+  suc,
+  ◌+◌,
+  ◌<◌,
+  ◌≤◌,
+  List,
+  [],
+  ◌∷◌,
+  length,
+  drop,
+  get_or,
+  ap,
+  ◌∙◌,
+  arith,
+  rules,
+  ◌*◌,
+  ◌-◌,
+  ◌%◌,
+  ◌^◌,
+  add-one,
+  drop-cons,
+  refl,
+  min,
+}
+use Rattle.scop_syntax.specs.Values.{wrapped}
+use Rattle.std.specs.Prelude.{ℤ, pos, negsuc, ◌+ℤ◌, ◌*ℤ◌, FitsSigned}
 use Rattle.std.specs.Int.{w64, cast_signed, cast_unsigned, int_wrap}
-use Rattle.std.proofs.lemmas.Int.{ints, int_wrap_fits, int_wrap-add_left, int_wrap-add_right, wrapping_add-bits}
-use Rattle.std.proofs.lemmas.Int.{wrapping_mul_is, to_z-of_z}
+use Rattle.std.proofs.lemmas.Int.{ints, int_wrap-add_left, int_wrap-add_right, wrapping_add-bits, wrapping_mul_is}
+use Rattle.std.proofs.lemmas.Int.{to_z-of_z, of_z-to_z}
 use Rattle.whole_numbers.specs.Lists.{dot}
 
 -- one more product, wrapped on the way
@@ -49,6 +75,8 @@ pub value_step : (v rest c x whole : ℤ) → int_wrap w64 (v +ℤ ((c *ℤ x) +
     → int_wrap w64 (int_wrap w64 (v +ℤ (c *ℤ x)) +ℤ rest) ≡ whole
 value_step v rest c x whole e = wrap_step v (c *ℤ x) rest ∙ e
 
--- a wrapped number is exact where it fits
-pub wrapped_exact : (r a : ℤ) → r ≡ int_wrap w64 a → FitsSigned w64 a → r ≡ a
-wrapped_exact r a is fits = is ∙ int_wrap_fits w64 a fits
+-- the bits of a wrapped number
+pub wrapped_is : (z : ℤ) → cast_unsigned w64 (int_wrap w64 z) ≡ wrapped z
+unfolding int_wrap
+wrapped_is (pos n) = of_z-to_z w64 (n % 2 ^ 64) (omega arith)
+wrapped_is (negsuc n) = of_z-to_z w64 (2 ^ 64 - 1 - n % 2 ^ 64) (omega arith)

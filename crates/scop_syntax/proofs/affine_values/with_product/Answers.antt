@@ -1,5 +1,5 @@
-use Rattle.data_text.proofs.SumLemmas.{product_added}
-use Rattle.data_text.proofs.values.with_product.Goals as goal
+use Rattle.scop_syntax.proofs.Wrapping.{product_added}
+use Rattle.scop_syntax.proofs.affine_values.with_product.Goals as goal
 
 pub returns : goal.returns
 returns c = product_added c.args.value c.args.coefficient c.args.entry c.ranges.value c.ranges.coefficient

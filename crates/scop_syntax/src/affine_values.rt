@@ -5,7 +5,7 @@ ghost use Rattle.std.specs.Int.{int_wrap, w64};
 ghost use Rattle.whole_numbers.specs.Affine.{value_of};
 ghost use Rattle.scop_syntax.specs.Values.{wrapped};
 
-use scop_syntax::tree::Aff;
+use crate::tree::Aff;
 
 /// `value + coefficient * entry`, modulo 2^64.
 pub fn with_product(value: i64, coefficient: i64, entry: i64) -> i64

@@ -3,8 +3,8 @@ use Rattle.std.specs.Prelude.{FitsSigned}
 use Rattle.std.specs.Int.{w64, cast_unsigned}
 use Rattle.std.proofs.lemmas.Int.{to_z-of_z}
 use Rattle.whole_numbers.specs.Affine.{value_of}
-use Rattle.scop_meaning.proofs.Wrapping.{wrapped_is}
-use Rattle.scop_meaning.proofs.values.wrapped_at.Goals as goal
+use Rattle.scop_syntax.proofs.Wrapping.{wrapped_is}
+use Rattle.scop_syntax.proofs.affine_values.wrapped_at.Goals as goal
 
 pub returns : goal.returns
 returns c =

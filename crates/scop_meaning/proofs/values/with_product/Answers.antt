@@ -1,6 +1,0 @@
-use Rattle.scop_meaning.proofs.Wrapping.{product_added}
-use Rattle.scop_meaning.proofs.values.with_product.Goals as goal
-
-pub returns : goal.returns
-returns c = product_added c.args.value c.args.coefficient c.args.entry c.ranges.value c.ranges.coefficient
-    c.ranges.entry
