@@ -1,5 +1,6 @@
 -- Formulas without faults in their roles are within the limits.
-use Rattle.std.proofs.Common.{◌≡◌, ℕ, ◌+◌, ◌<◌, ◌≤◌, ◌^◌, ◌==◌, Bool, true, false, ◌&&◌, nat_lt, pos, negsuc, List, [], ◌∷◌, ◌++◌, length, Some, None, All, ap, sym, ◌∙◌, refl, length-append, arith}
+use Rattle.std.proofs.Common.{◌≡◌, ℕ, ◌+◌, ◌<◌, ◌≤◌, ◌^◌, ◌==◌, Bool, true, false, ◌&&◌, nat_lt, pos, negsuc, List, []}
+use Rattle.std.proofs.Common.{◌∷◌, ◌++◌, length, Some, None, All, ap, sym, ◌∙◌, refl, length-append, arith}
 use Rattle.std.specs.Prelude.{if◌then◌else◌, not, ℤ, ◌+ℤ◌, ◌*ℤ◌, unsigned_abs}
 use Rattle.std.proofs.lemmas.List.Elements.{All-nil, All-cons, All-append}
 use Rattle.whole_numbers.specs.Affine.{Affine, multiple_of_form}
@@ -17,15 +18,22 @@ use Rattle.scop_roles.specs.declared.fault.Kind.TheVariants as kind
 use Rattle.scop_roles.specs.declared.formula.Meaning.{Meaning}
 use Rattle.scop_roles.specs.declared.formula.Meaning.TheVariants as meaning
 use Rattle.scop_roles.specs.declared.formula.Role.TheVariants as role
-use Rattle.scop_roles.specs.Formula.{Formula, constant, name, index, bare_call, call, unary, cast, binary, place, meaning_of, subscripts}
-use Rattle.scop_roles.specs.Forms.{is_sum_or_product, is_product, is_shift, is_and, is_signed, has_name, form, combined_forms, is_within}
-use Rattle.scop_roles.specs.Faults.{first, told, faults, place_faults, named, called, rank, only_where, is_count, own, own_rank, side_role}
+use Rattle.scop_roles.specs.Formula.{Formula, constant, name, index, bare_call, call, unary, cast, binary, place}
+use Rattle.scop_roles.specs.Formula.{meaning_of, subscripts}
+use Rattle.scop_roles.specs.Forms.{is_sum_or_product, is_product, is_shift, is_and, is_signed, has_name, form}
+use Rattle.scop_roles.specs.Forms.{combined_forms, is_within}
+use Rattle.scop_roles.specs.Faults.{first, told, faults, place_faults, named, called, rank, only_where, is_count, own}
+use Rattle.scop_roles.specs.Faults.{own_rank, side_role}
 use Rattle.scop_roles.specs.Scope.{IsKnown, IsInScope, IsArray, IsArrayName}
-use Rattle.scop_roles.specs.Values.{access, subscript_forms, expression, signed_value, combined, count, difference, comparison, tests, read_places}
+use Rattle.scop_roles.specs.Values.{access, subscript_forms, expression, signed_value, combined, count, difference}
+use Rattle.scop_roles.specs.Values.{comparison, tests, read_places}
 use Rattle.scop_roles.proofs.Judging.{unary_first, signed_is_affine}
 use Rattle.scop_roles.proofs.Firsts.{part_or_own_none}
-use Rattle.scop_roles.proofs.Sizes.{constant_affine, variable_affine, opposite_affine, within_affine, at_most-sums, abs_add, sums-nil}
-use Rattle.scop_roles.proofs.Parts.{judged_none, place_parts, index_value, cast_value, unary_value, signed_unary, signed_binary, binary_value, shift_count, combined_plain, condition_sides, comparison_sides}
+use Rattle.scop_roles.proofs.Sizes.{constant_affine, variable_affine, opposite_affine, within_affine, at_most-sums}
+use Rattle.scop_roles.proofs.Sizes.{abs_add, sums-nil}
+use Rattle.scop_roles.proofs.Parts.{judged_none, place_parts, index_value, cast_value, unary_value, signed_unary}
+use Rattle.scop_roles.proofs.Parts.{signed_binary, binary_value, shift_count, combined_plain, condition_sides}
+use Rattle.scop_roles.proofs.Parts.{comparison_sides}
 
 combined_entries : (n : ℕ) (o : Op) (b : Bool) (f g : Affine) → length f.coefficients ≡ n → length g.coefficients ≡ n
     → length (combined_forms o b f g).coefficients ≡ n

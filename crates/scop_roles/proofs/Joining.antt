@@ -1,5 +1,6 @@
 -- The form of a node from those of its parts.
-use Rattle.std.proofs.Common.{◌≡◌, ◌≢◌, ℕ, Bool, true, false, ◌&&◌, List, Some, None, inl, inr, sym, subst, ◌∙◌, refl, length, arith}
+use Rattle.std.proofs.Common.{◌≡◌, ◌≢◌, ℕ, Bool, true, false, ◌&&◌, List, Some, None, inl, inr, sym, subst, ◌∙◌, refl}
+use Rattle.std.proofs.Common.{length, arith}
 use Rattle.std.specs.Prelude.{if◌then◌else◌, ◌⊎◌, not}
 use Rattle.whole_numbers.specs.Affine.{Affine}
 use Rattle.expression_grammar.specs.declared.token.Op.{Op}

@@ -1,5 +1,6 @@
 -- The first fault of each node from what is known of its parts.
-use Rattle.std.proofs.Common.{◌≡◌, ℕ, zero, suc, ◌==◌, Bool, true, false, ◌&&◌, ◌++◌, Option, Some, None, inl, inr, ap, sym, ◌∙◌, refl, add-one, arith}
+use Rattle.std.proofs.Common.{◌≡◌, ℕ, zero, suc, ◌==◌, Bool, true, false, ◌&&◌, ◌++◌, Option, Some, None, inl, inr, ap}
+use Rattle.std.proofs.Common.{sym, ◌∙◌, refl, add-one, arith}
 use Rattle.std.specs.Prelude.{◌⊎◌}
 use Rattle.expression_grammar.specs.declared.token.Op.{Op}
 use Rattle.expression_grammar.specs.declared.token.Op.TheVariants as op
@@ -12,11 +13,16 @@ use Rattle.scop_roles.specs.declared.formula.Meaning.{Meaning}
 use Rattle.scop_roles.specs.declared.formula.Role.{Role}
 use Rattle.scop_roles.specs.declared.formula.Role.TheVariants as role
 use Rattle.scop_roles.specs.declared.judgement.Judgement.{Judgement}
-use Rattle.scop_roles.specs.Formula.{Formula, constant, name, index, bare_call, call, unary, cast, binary, place, meaning_of, subscripts}
+use Rattle.scop_roles.specs.Formula.{Formula, constant, name, index, bare_call, call, unary, cast, binary, place}
+use Rattle.scop_roles.specs.Formula.{meaning_of, subscripts}
 use Rattle.scop_roles.specs.Forms.{is_sum_or_product, is_signed}
-use Rattle.scop_roles.specs.Faults.{first, first_of, told, faults, place_faults, named, called, operand_role, cast_role, term_role, side_role, rank, own, own_affine, or_else, only_where, are_plain_constants, is_count}
-use Rattle.scop_roles.specs.Judgement.{IsJudgement, AreAffine, IsOwnAffine, in_role, part_or_own, own_joined, lacking, one_less, is_zero}
-use Rattle.scop_roles.proofs.Firsts.{first-append, first-judged, first_of_none, part_or_own_none, part_or_own_same, none_part_or_own, none_first_of}
+use Rattle.scop_roles.specs.Faults.{first, first_of, told, faults, place_faults, named, called, operand_role, cast_role}
+use Rattle.scop_roles.specs.Faults.{term_role, side_role, rank, own, own_affine, or_else, only_where}
+use Rattle.scop_roles.specs.Faults.{are_plain_constants, is_count}
+use Rattle.scop_roles.specs.Judgement.{IsJudgement, AreAffine, IsOwnAffine, in_role, part_or_own, own_joined, lacking}
+use Rattle.scop_roles.specs.Judgement.{one_less, is_zero}
+use Rattle.scop_roles.proofs.Firsts.{first-append, first-judged, first_of_none, part_or_own_none, part_or_own_same}
+use Rattle.scop_roles.proofs.Firsts.{none_part_or_own, none_first_of}
 
 pub faults_at : (n : ℕ) (f : Formula) (j : Judgement) (r : Role) → IsJudgement n f j
     → in_role j.faults r ≡ first (faults n r f)

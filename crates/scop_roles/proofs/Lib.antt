@@ -4,6 +4,7 @@ pub mod Judging
 pub mod Joining
 pub mod Views
 pub mod Resolving
+pub mod Chains
 pub mod Parts
 pub mod Making
 pub mod Places

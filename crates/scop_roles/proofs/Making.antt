@@ -1,5 +1,6 @@
 -- The values and the comparisons that the code makes of a formula's parts.
-use Rattle.std.proofs.Common.{◌≡◌, ℕ, true, false, List, [], ◌∷◌, ◌++◌, None, Result, Ok, Err, ap, sym, subst, ◌∙◌, refl, append_assoc}
+use Rattle.std.proofs.Common.{◌≡◌, ℕ, true, false, List, [], ◌∷◌, ◌++◌, None, Result, Ok, Err, ap, sym, subst, ◌∙◌}
+use Rattle.std.proofs.Common.{refl, append_assoc}
 use Rattle.std.specs.Prelude.{OnOk, IfOk}
 use Rattle.whole_numbers.specs.Affine.{Affine}
 use Rattle.scop_syntax.specs.Tree.{Access, Expression, affine, read, Test}
@@ -10,9 +11,11 @@ use Rattle.scop_roles.specs.declared.formula.Role.TheVariants as role
 use Rattle.scop_roles.specs.Formula.{Formula, index, unary, cast, binary}
 use Rattle.scop_roles.specs.Forms.{is_shift, is_and, is_signed, form}
 use Rattle.scop_roles.specs.Faults.{first, faults, place_faults, is_count}
-use Rattle.scop_roles.specs.Values.{access, subscript_forms, expression, signed_value, combined, count, comparison, tests}
+use Rattle.scop_roles.specs.Values.{access, subscript_forms, expression, signed_value, combined, count, comparison}
+use Rattle.scop_roles.specs.Values.{tests}
 use Rattle.scop_roles.proofs.Judging.{signed_is_affine}
-use Rattle.scop_roles.proofs.Parts.{place_parts, index_value, cast_value, unary_value, signed_unary, signed_binary, binary_value, shift_count, condition_sides, comparison_sides}
+use Rattle.scop_roles.proofs.Parts.{place_parts, index_value, cast_value, unary_value, signed_unary, signed_binary}
+use Rattle.scop_roles.proofs.Parts.{binary_value, shift_count, condition_sides, comparison_sides}
 
 pub on_ok : {T E : Type 0} {P Q : Type 0} (r : Result T E) → (P → Q) → OnOk r P → OnOk r Q
 on_ok (Ok x) f h = f h

@@ -1,5 +1,6 @@
 -- The parts of a formula without faults in a role have none in theirs.
-use Rattle.std.proofs.Common.{◌≡◌, ℕ, Bool, true, false, ◌&&◌, ◌||◌, List, ◌++◌, Option, None, ap, sym, subst, ◌∙◌, refl, arith}
+use Rattle.std.proofs.Common.{◌≡◌, ℕ, Bool, true, false, ◌&&◌, ◌||◌, List, ◌++◌, Option, None, ap, sym, subst, ◌∙◌}
+use Rattle.std.proofs.Common.{refl, arith}
 use Rattle.std.specs.Prelude.{if◌then◌else◌, not}
 use Rattle.expression_grammar.specs.declared.token.Op.{Op}
 use Rattle.expression_grammar.specs.declared.token.Op.TheVariants as op
@@ -13,7 +14,9 @@ use Rattle.scop_syntax.specs.Tree.{Expression}
 use Rattle.scop_syntax.specs.Tree as scop
 use Rattle.scop_roles.specs.Formula.{Formula, index, unary, cast, binary, place}
 use Rattle.scop_roles.specs.Forms.{is_sum_or_product, is_shift, is_and, is_comparison, is_signed}
-use Rattle.scop_roles.specs.Faults.{first, first_of, told, judged, faults, place_faults, operand_role, term_role, side_role, own, own_rank, own_operator, or_else, only_where, are_plain_constants, is_count}
+use Rattle.scop_roles.specs.Faults.{first, first_of, told, judged, faults, place_faults, operand_role, term_role}
+use Rattle.scop_roles.specs.Faults.{side_role, own, own_rank, own_operator, or_else, only_where, are_plain_constants}
+use Rattle.scop_roles.specs.Faults.{is_count}
 use Rattle.scop_roles.specs.Judgement.{part_or_own}
 use Rattle.scop_roles.specs.Values.{combined, operator}
 use Rattle.scop_roles.proofs.Firsts.{first-append, first-judged, first_of_none, part_or_own_none, none_part_or_own}

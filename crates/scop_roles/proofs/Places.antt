@@ -1,14 +1,16 @@
 -- Where the faults of a tree's formula stand, and what its names and constants are.
 use Rattle.std.proofs.Common.{ℕ, ◌&&◌, ◌+◌, ◌<◌, ◌≤◌, List, [], ◌∷◌, ◌++◌, Option, Some, None, All, arith}
 use Rattle.std.proofs.lemmas.List.Elements.{All-nil, All-cons, All-head, All-tail, All-append}
-use Rattle.expression_grammar.specs.Tree.{Tree, constant, name, group, index, bare_call, call, unary, cast, binary, size}
+use Rattle.expression_grammar.specs.Tree.{Tree, constant, name, group, index, bare_call, call, unary, cast, binary}
+use Rattle.expression_grammar.specs.Tree.{size}
 use Rattle.scop_roles.specs.declared.fault.Fault.{Fault}
 use Rattle.scop_roles.specs.declared.fault.Kind.{Kind}
 use Rattle.scop_roles.specs.declared.formula.Role.{Role}
 use Rattle.scop_roles.specs.declared.formula.Role.TheVariants as role
 use Rattle.scop_roles.specs.Formula.{Lookup, formula, place}
 use Rattle.scop_roles.specs.Forms.{is_signed}
-use Rattle.scop_roles.specs.Faults.{told, judged, faults, place_faults, named, called, operand_role, cast_role, side_role, own}
+use Rattle.scop_roles.specs.Faults.{told, judged, faults, place_faults, named, called, operand_role, cast_role}
+use Rattle.scop_roles.specs.Faults.{side_role, own}
 use Rattle.scop_roles.specs.Scope.{LiesWithin, KnowsArrays, IsInScope}
 use Rattle.scop_roles.proofs.Resolving.{size_group, size_index, size_call, size_unary, size_cast, size_binary}
 

@@ -1,7 +1,9 @@
 -- The stack of formulas reads a tree's nodes as the tree's formula.
-use Rattle.std.proofs.Common.{◌≡◌, ℕ, zero, suc, ◌+◌, ◌<◌, ◌≤◌, List, [], ◌∷◌, ◌++◌, length, drop, fold, get_or, refl, ap, ◌∙◌, arith, length-append}
+use Rattle.std.proofs.Common.{◌≡◌, ℕ, zero, suc, ◌+◌, ◌<◌, ◌≤◌, List, [], ◌∷◌, ◌++◌, length, drop, fold, get_or, refl}
+use Rattle.std.proofs.Common.{ap, ◌∙◌, arith, length-append}
 use Rattle.std.specs.Prelude.{⊤}
-use Rattle.expression_grammar.specs.Tree.{Tree, constant, name, group, index, bare_call, call, unary, cast, binary, written, size}
+use Rattle.expression_grammar.specs.Tree.{Tree, constant, name, group, index, bare_call, call, unary, cast, binary}
+use Rattle.expression_grammar.specs.Tree.{written, size}
 use Rattle.expression_grammar.specs.declared.token.Op.{Op}
 use Rattle.expression_grammar.specs.declared.token.Sign.{Sign}
 use Rattle.expression_grammar.specs.declared.node.Node.{Node}

@@ -1,5 +1,6 @@
 -- How large the numbers of sums and multiples of forms get.
-use Rattle.std.proofs.Common.{◌≡◌, ℕ, zero, suc, ◌+◌, ◌*◌, ◌^◌, ◌≤◌, ℤ, pos, negsuc, Bool, true, false, nat_le, List, [], ◌∷◌, length, get_or, set, length-set, ap, sym, ◌∙◌, refl, arith, mul-le-mul}
+use Rattle.std.proofs.Common.{◌≡◌, ℕ, zero, suc, ◌+◌, ◌*◌, ◌^◌, ◌≤◌, ℤ, pos, negsuc, Bool, true, false, nat_le, List}
+use Rattle.std.proofs.Common.{[], ◌∷◌, length, get_or, set, length-set, ap, sym, ◌∙◌, refl, arith, mul-le-mul}
 use Rattle.std.specs.Prelude.{◌+ℤ◌, ◌*ℤ◌, ◌&&◌, unsigned_abs, replicate}
 use Rattle.std.specs.List.{list_all}
 use Rattle.std.proofs.lemmas.Int.{ints, unsigned_abs-mul}

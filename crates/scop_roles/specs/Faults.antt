@@ -1,6 +1,7 @@
 -- The faults of a formula in a role. A node that has a refused part is not judged itself; of all faults the first
 -- counts: the one at the least place, at one place the one of the least kind.
-use Rattle.std.specs.Prelude.{ℕ, ◌^◌, Bool, true, false, ◌==◌, ◌&&◌, ◌||◌, not, if◌then◌else◌, nat_le, nat_lt, List, [], ◌∷◌, ◌++◌, Option, Some, None}
+use Rattle.std.specs.Prelude.{ℕ, ◌^◌, Bool, true, false, ◌==◌, ◌&&◌, ◌||◌, not, if◌then◌else◌, nat_le, nat_lt, List, []}
+use Rattle.std.specs.Prelude.{◌∷◌, ◌++◌, Option, Some, None}
 use Rattle.expression_grammar.specs.declared.token.Op.{Op}
 use Rattle.expression_grammar.specs.declared.token.Op.TheVariants as op
 use Rattle.expression_grammar.specs.declared.token.Sign.{Sign}
@@ -13,8 +14,10 @@ use Rattle.scop_roles.specs.declared.formula.Meaning.{Meaning}
 use Rattle.scop_roles.specs.declared.formula.Meaning.TheVariants as meaning
 use Rattle.scop_roles.specs.declared.formula.Role.{Role}
 use Rattle.scop_roles.specs.declared.formula.Role.TheVariants as role
-use Rattle.scop_roles.specs.Formula.{Formula, constant, name, index, bare_call, call, unary, cast, binary, place, meaning_of, subscripts}
-use Rattle.scop_roles.specs.Forms.{is_sum_or_product, is_product, is_and, is_comparison, is_signed, has_name, form, is_within}
+use Rattle.scop_roles.specs.Formula.{Formula, constant, name, index, bare_call, call, unary, cast, binary, place}
+use Rattle.scop_roles.specs.Formula.{meaning_of, subscripts}
+use Rattle.scop_roles.specs.Forms.{is_sum_or_product, is_product, is_and, is_comparison, is_signed, has_name, form}
+use Rattle.scop_roles.specs.Forms.{is_within}
 
 -- the kinds in their order
 abbrev pub number : Kind → ℕ

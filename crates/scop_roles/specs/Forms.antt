@@ -1,5 +1,6 @@
 -- Which formulas are signed, which can be affine, and the affine form that they are.
-use Rattle.std.specs.Prelude.{ℕ, ◌^◌, Bool, true, false, ◌&&◌, ◌||◌, if◌then◌else◌, nat_le, ℤ, pos, negsuc, unsigned_abs, set}
+use Rattle.std.specs.Prelude.{ℕ, ◌^◌, Bool, true, false, ◌&&◌, ◌||◌, if◌then◌else◌, nat_le, ℤ, pos, negsuc}
+use Rattle.std.specs.Prelude.{unsigned_abs, set}
 use Rattle.std.specs.List.{list_all}
 use Rattle.whole_numbers.specs.Affine.{Affine, form_of, sum_of_forms, multiple_of_form}
 use Rattle.whole_numbers.specs.Lists.{zeros}

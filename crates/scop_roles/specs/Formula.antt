@@ -1,15 +1,18 @@
 -- Expressions with their names looked up: the syntax tree without its parentheses, each node with the place of its
 -- token among the tokens of the text.
 use Rattle.std.specs.Prelude.{ℕ, ◌+◌}
+use Rattle.std.specs.List.{fold}
 use Rattle.expression_grammar.specs.declared.token.Op.{Op}
+use Rattle.expression_grammar.specs.declared.token.Op.TheVariants as op
 use Rattle.expression_grammar.specs.declared.token.Sign.{Sign}
 use Rattle.expression_grammar.specs.declared.token.Suffix.{Suffix}
 use Rattle.expression_grammar.specs.Tree as tree
 use Rattle.scop_roles.specs.declared.formula.Meaning.{Meaning}
 use Rattle.scop_roles.specs.declared.formula.Meaning.TheVariants as meaning
+use Rattle.scop_roles.specs.declared.formula.Argument.{Argument as CodeArgument}
 use Rattle.scop_roles.specs.declared.formula.Formula.{Formula as CodeFormula}
 use Rattle.scop_roles.specs.declared.formula.Formula.TheFolds.{fold-Formula}
-use Rattle.scop_roles.specs.declared.formula.Formula.TheOpen.{Formula-F}
+use Rattle.scop_roles.specs.declared.formula.Formula.TheOpen.{Argument-F, Formula-F}
 
 pub data Formula : Type 0 where
   constant : Suffix → ℕ → ℕ → Formula
@@ -64,17 +67,29 @@ abbrev pub subscripts : Formula → ℕ
 subscripts (index p i) = subscripts p + 1
 subscripts _ = 0
 
+-- arguments with one more behind a comma
+abbrev pub with_argument : Formula → Formula × ℕ → Formula
+with_argument f a = binary op.Comma f a.0 a.1
+
 -- one level of a formula, over the views of the levels below
-abbrev pub formula_step : Formula-F Formula → Formula
+abbrev pub formula_step : Formula-F Formula (Formula × ℕ) → Formula
 formula_step (Formula-F.Constant s v at) = constant s v at
 formula_step (Formula-F.Name m at) = name m at
-formula_step (Formula-F.Index p i) = index p.value i.value
+formula_step (Formula-F.Index p is i) = index (fold index p.value is.items) i.value
 formula_step (Formula-F.BareCall m at) = bare_call m at
 formula_step (Formula-F.Call m f at) = call m f.value at
 formula_step (Formula-F.Unary s f at) = unary s f.value at
 formula_step (Formula-F.Cast f at) = cast f.value at
+formula_step (Formula-F.Commas f gs g at) = binary op.Comma (fold with_argument f.value gs.items) g.value at
 formula_step (Formula-F.Binary o f g at) = binary o f.value g.value at
+
+abbrev pub argument_step : Argument-F Formula (Formula × ℕ) → Formula × ℕ
+argument_step a = (a.value, a.comma)
 
 -- the formula that a value of the code stands for
 abbrev pub formula_of : CodeFormula → Formula
-formula_of = fold-Formula Formula formula_step
+formula_of = fold-Formula Formula (Formula × ℕ) formula_step argument_step
+
+-- an argument and its comma
+abbrev pub argument_of : CodeArgument → Formula × ℕ
+argument_of a = (formula_of a.value, a.comma)

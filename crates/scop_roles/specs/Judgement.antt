@@ -1,5 +1,6 @@
 -- What is known of a formula before its role is: what it is, and its first fault in each role.
-use Rattle.std.specs.Prelude.{◌≡◌, ℕ, zero, suc, ◌≢◌, Bool, true, false, if◌then◌else◌, ◌&&◌, not, Option, Some, None, ⊤}
+use Rattle.std.specs.Prelude.{◌≡◌, ℕ, zero, suc, ◌≢◌, Bool, true, false, if◌then◌else◌, ◌&&◌, not, Option, Some, None}
+use Rattle.std.specs.Prelude.{⊤}
 use Rattle.whole_numbers.specs.Affine.{Affine}
 use Rattle.scop_syntax.specs.Kernel.{IsAffine}
 use Rattle.expression_grammar.specs.declared.token.Op.{Op}
@@ -13,7 +14,8 @@ use Rattle.scop_roles.specs.declared.judgement.Judgement.{Judgement}
 use Rattle.scop_roles.specs.declared.judgement.Joined.{Joined}
 use Rattle.scop_roles.specs.Formula.{Formula, name, index, binary, place}
 use Rattle.scop_roles.specs.Forms.{is_sum_or_product, is_signed, has_name, form}
-use Rattle.scop_roles.specs.Faults.{first, told, faults, place_faults, rank, is_plain_constant, is_count, or_else, only_where, own_affine, own_operator, own_free_operator, joins_condition}
+use Rattle.scop_roles.specs.Faults.{first, told, faults, place_faults, rank, is_plain_constant, is_count, or_else}
+use Rattle.scop_roles.specs.Faults.{only_where, own_affine, own_operator, own_free_operator, joins_condition}
 
 -- the first fault of a node: that of its parts, else its own
 abbrev pub part_or_own : Option Fault → ℕ → Option Kind → Option Fault

@@ -5,7 +5,8 @@ use Rattle.expression_grammar.specs.declared.node.Node.{Node}
 use Rattle.expression_grammar.specs.declared.node.Node.TheVariants as node
 use Rattle.expression_grammar.specs.declared.token.Suffix.TheVariants as suffix
 use Rattle.scop_roles.specs.declared.formula.Formula.{Formula as CodeFormula}
-use Rattle.scop_roles.specs.Formula.{Formula, constant, name, index, bare_call, call, unary, cast, binary, Lookup, place, meaning_of, formula_of}
+use Rattle.scop_roles.specs.Formula.{Formula, constant, name, index, bare_call, call, unary, cast, binary, Lookup}
+use Rattle.scop_roles.specs.Formula.{place, meaning_of, formula_of}
 
 -- nodes of a tree whose places, counted from a first one, are small
 pub record IsWritten (nodes : List Node) (first : ℕ) : Type 0 where

@@ -3,7 +3,8 @@ use Rattle.std.specs.Prelude.{◌≡◌, ℕ, ◌+◌, ◌^◌, ◌<◌, ◌≤�
 use Rattle.scop_roles.specs.declared.fault.Fault.{Fault}
 use Rattle.scop_roles.specs.declared.formula.Meaning.{Meaning}
 use Rattle.scop_roles.specs.declared.formula.Meaning.TheVariants as meaning
-use Rattle.scop_roles.specs.Formula.{Formula, Lookup, constant, name, index, bare_call, call, unary, cast, binary, meaning_of}
+use Rattle.scop_roles.specs.Formula.{Formula, Lookup, constant, name, index, bare_call, call, unary, cast, binary}
+use Rattle.scop_roles.specs.Formula.{meaning_of}
 
 -- an array is one of those with these ranks, and has its rank
 abbrev pub IsKnown : List ℕ → Meaning → Type 0

@@ -1,7 +1,8 @@
 -- What a formula without faults stands for: a value, or the comparisons of a condition.
 use Rattle.std.specs.Prelude.{ℕ, if◌then◌else◌, ℤ, pos, negsuc, List, [], ◌∷◌, ◌++◌}
 use Rattle.whole_numbers.specs.Affine.{Affine, form_of, sum_of_forms, multiple_of_form}
-use Rattle.scop_syntax.specs.Tree.{Access, Operator, plus, minus, times, bits_and, bits_or, bits_xor, Expression, read, affine, negated, complemented, shifted_left, shifted_right, Test, at_least, equal}
+use Rattle.scop_syntax.specs.Tree.{Access, Operator, plus, minus, times, bits_and, bits_or, bits_xor, Expression, read}
+use Rattle.scop_syntax.specs.Tree.{affine, negated, complemented, shifted_left, shifted_right, Test, at_least, equal}
 use Rattle.scop_syntax.specs.Tree as scop
 use Rattle.expression_grammar.specs.declared.token.Op.{Op}
 use Rattle.expression_grammar.specs.declared.token.Op.TheVariants as op

@@ -1,13 +1,15 @@
 //! Expressions without parentheses, each name looked up, each node with the place of its token.
 ghost use Rattle.std.specs.Prelude.{◌≡◌, ◌+◌, ◌==◌, ◌<◌, ◌^◌, ◌∷◌, IfOk, OnOk};
+ghost use Rattle.expression_grammar.specs.declared.token.Op.TheVariants as op;
 ghost use Rattle.std.specs.List.{fold};
 ghost use Rattle.expression_grammar.specs.Tree.{Tree, written};
-ghost use Rattle.scop_roles.specs.Formula.{Lookup, formula, formula_of, meaning_of, place, subscripts};
+ghost use Rattle.scop_roles.specs.Formula.{Lookup, binary, formula, formula_of, index, meaning_of, place, subscripts};
 ghost use Rattle.scop_roles.specs.Resolving.{IsWritten, below, built, held, place_of, top};
 
 use expression_grammar::node::Node;
 use expression_grammar::token::{Op, Sign, Suffix};
 use std::alloc::{AllocError, Global};
+use std::mem;
 
 /// What a name means where it stands.
 #[derive(Debug, Clone, Copy, PartialEq, Eq)]
@@ -22,19 +24,31 @@ pub enum Meaning {
     Array(usize, usize),
 }
 
-/// An expression. A place is that of the operator, else of the first token.
+/// An argument behind others, and the place of the comma in front of it.
+#[cycle(formula)]
+#[derive(Debug, Drop)]
+pub struct Argument {
+    pub value: Formula,
+    pub comma: usize,
+}
+
+/// An expression. A place is that of the operator, else of the first token. Subscripts and arguments, of which a text
+/// may have any number in a row, lie in vectors, so that nothing recurses along them.
+#[cycle(formula)]
 #[derive(Debug, Drop)]
 pub enum Formula {
     Constant(Suffix, u64, usize),
     Name(Meaning, usize),
-    /// A place with one subscript more.
-    Index(Box<Formula>, Box<Formula>),
+    /// A place with subscripts: those in front of the last, and the last.
+    Index(Box<Formula>, Vec<Formula>, Box<Formula>),
     /// A call without arguments.
     BareCall(Meaning, usize),
     /// A call, with its arguments joined by commas.
     Call(Meaning, Box<Formula>, usize),
     Unary(Sign, Box<Formula>, usize),
     Cast(Box<Formula>, usize),
+    /// Arguments: the first, those between, the last and the place of the comma in front of it.
+    Commas(Box<Formula>, Vec<Argument>, Box<Formula>, usize),
     Binary(Op, Box<Formula>, Box<Formula>, usize),
 }
 
@@ -69,11 +83,12 @@ pub fn place(formula: &Formula) -> usize
     match formula {
         Formula::Constant(_, _, at) => *at,
         Formula::Name(_, at) => *at,
-        Formula::Index(inner, _) => place(inner),
+        Formula::Index(inner, _, _) => place(inner),
         Formula::BareCall(_, at) => *at,
         Formula::Call(_, _, at) => *at,
         Formula::Unary(_, _, at) => *at,
         Formula::Cast(_, at) => *at,
+        Formula::Commas(_, _, _, at) => *at,
         Formula::Binary(_, _, _, at) => *at,
     }
 }
@@ -84,12 +99,13 @@ pub fn meaning_of(formula: &Formula) -> Meaning
 {
     match formula {
         Formula::Name(meaning, _) => *meaning,
-        Formula::Index(inner, _) => meaning_of(inner),
+        Formula::Index(inner, _, _) => meaning_of(inner),
         Formula::Constant(_, _, _) => Meaning::Unknown,
         Formula::BareCall(_, _) => Meaning::Unknown,
         Formula::Call(_, _, _) => Meaning::Unknown,
         Formula::Unary(_, _, _) => Meaning::Unknown,
         Formula::Cast(_, _) => Meaning::Unknown,
+        Formula::Commas(_, _, _, _) => Meaning::Unknown,
         Formula::Binary(_, _, _, _) => Meaning::Unknown,
     }
 }
@@ -99,15 +115,84 @@ pub fn has_subscripts(formula: &Formula, count: usize) -> bool
     ensures { result ≡ (count == subscripts (formula_of formula.now)) }
 {
     match formula {
-        Formula::Index(inner, _) => 0 < count && has_subscripts(inner, count - 1),
+        Formula::Index(inner, earlier, _) => {
+            earlier.len() < count && has_subscripts(inner, count - 1 - earlier.len())
+        }
         Formula::Constant(_, _, _) => count == 0,
         Formula::Name(_, _) => count == 0,
         Formula::BareCall(_, _) => count == 0,
         Formula::Call(_, _, _) => count == 0,
         Formula::Unary(_, _, _) => count == 0,
         Formula::Cast(_, _) => count == 0,
+        Formula::Commas(_, _, _, _) => count == 0,
         Formula::Binary(_, _, _, _) => count == 0,
     }
+}
+
+/// A place with a subscript more.
+pub fn with_subscript(
+    alloc: Global,
+    place: Formula,
+    subscript: Formula,
+) -> Result<Formula, AllocError>
+    ensures { IfOk result (λ f. formula_of f ≡ index (formula_of place) (formula_of subscript)) }
+{
+    match place {
+        Formula::Index(inner, mut earlier, mut last) => {
+            let before = mem::replace(&mut *last, subscript);
+            match earlier.push(before) {
+                Err(_) => Err(AllocError),
+                Ok(()) => Ok(Formula::Index(inner, earlier, last)),
+            }
+        }
+        place => Ok(Formula::Index(
+            Box::new(alloc, place)?,
+            Vec::new(alloc),
+            Box::new(alloc, subscript)?,
+        )),
+    }
+}
+
+// Arguments with one more, behind a comma at a place.
+fn with_argument(
+    alloc: Global,
+    arguments: Formula,
+    argument: Formula,
+    at: usize,
+) -> Result<Formula, AllocError>
+    ensures { IfOk result (λ f. formula_of f ≡ binary op.Comma (formula_of arguments) (formula_of argument) at) }
+{
+    match arguments {
+        Formula::Commas(first, mut between, mut last, comma) => {
+            let value = mem::replace(&mut *last, argument);
+            match between.push(Argument { value, comma }) {
+                Err(_) => Err(AllocError),
+                Ok(()) => Ok(Formula::Commas(first, between, last, at)),
+            }
+        }
+        first => Ok(Formula::Commas(
+            Box::new(alloc, first)?,
+            Vec::new(alloc),
+            Box::new(alloc, argument)?,
+            at,
+        )),
+    }
+}
+
+// Two formulas joined by an operator at a place.
+fn with_operator(
+    alloc: Global,
+    op: Op,
+    left: Formula,
+    right: Formula,
+    at: usize,
+) -> Result<Formula, AllocError>
+    ensures { IfOk result (λ f. formula_of f ≡ binary op (formula_of left) (formula_of right) at) }
+{
+    if op == Op::Comma {
+        return with_argument(alloc, left, right, at);
+    }
+    Ok(Formula::Binary(op, Box::new(alloc, left)?, Box::new(alloc, right)?, at))
 }
 
 // A formula on top of the stack.
@@ -153,7 +238,7 @@ fn joined<N: Names>(
         Node::Index(_) => {
             let subscript = pop(stack);
             let inner = pop(stack);
-            Ok(Formula::Index(Box::new(alloc, inner)?, Box::new(alloc, subscript)?))
+            with_subscript(alloc, inner, subscript)
         }
         Node::BareCall(_) => {
             let name = pop(stack);
@@ -175,12 +260,7 @@ fn joined<N: Names>(
         Node::Binary(op, at) => {
             let right = pop(stack);
             let left = pop(stack);
-            Ok(Formula::Binary(
-                op,
-                Box::new(alloc, left)?,
-                Box::new(alloc, right)?,
-                first + at,
-            ))
+            with_operator(alloc, op, left, right, first + at)
         }
     }
 }

@@ -1,18 +1,23 @@
 //! The first fault of a formula in a role, and its affine form. A formula is judged bottom up, in all roles at once:
 //! each node once, since the role of a part may depend on what stands beside it.
-ghost use Rattle.std.specs.Prelude.{◌&&◌, ◌==◌, ◌||◌, ◌≡◌, ℕ, IfOk, None, Some, if◌then◌else◌, length, true};
+ghost use Rattle.std.specs.Prelude.{◌&&◌, ◌==◌, ◌||◌, ◌≡◌, ℕ, IfOk, None, Some, if◌then◌else◌, length, map, true};
+ghost use Rattle.std.specs.List.{fold};
+ghost use Rattle.expression_grammar.specs.declared.token.Op.TheVariants as op;
 ghost use Rattle.whole_numbers.specs.Affine.{Affine};
 ghost use Rattle.scop_syntax.specs.Kernel.{IsAffine};
 ghost use Rattle.scop_roles.specs.declared.formula.Role.TheVariants as role;
 ghost use Rattle.scop_roles.specs.declared.fault.Kind.TheVariants as kind;
-ghost use Rattle.scop_roles.specs.Faults.{called, faults, first, first_of, is_count, is_plain_constant, place_faults, told};
+ghost use Rattle.scop_roles.specs.Faults.{called, faults, first, first_of, is_count, is_plain_constant, place_faults};
+ghost use Rattle.scop_roles.specs.Faults.{told};
 ghost use Rattle.scop_roles.specs.Forms.{combined_forms, form, is_product, is_signed, is_sum_or_product, is_within};
-ghost use Rattle.scop_roles.specs.Formula.{Formula as Tree, bare_call, binary, call, cast, constant, formula_of, index, name, unary};
-ghost use Rattle.scop_roles.specs.Judgement.{HasForm, IsFormOf, IsJoined, IsJudgement, IsOwnAffine, in_role, is_zero, one_less};
+ghost use Rattle.scop_roles.specs.Formula.{Formula as Tree, argument_of, bare_call, binary, call, cast, constant};
+ghost use Rattle.scop_roles.specs.Formula.{formula_of, index, name, unary, with_argument};
+ghost use Rattle.scop_roles.specs.Judgement.{HasForm, IsFormOf, IsJoined, IsJudgement, IsOwnAffine, in_role, is_zero};
+ghost use Rattle.scop_roles.specs.Judgement.{one_less};
 
 use crate::fault::{Fault, Kind, first_of, part_or_own, told};
 use crate::forms::{constant_form, is_within, multiple, sum, variable_form};
-use crate::formula::{Formula, Meaning, Role};
+use crate::formula::{Argument, Formula, Meaning, Role};
 use crate::roles::{
     MOST_CONSTANT, called, cast_role, is_number, is_product, is_sum_or_product, named,
     operand_role, own_call, own_cast, own_constant, own_index, own_joined, own_name, own_unary,
@@ -551,8 +556,9 @@ fn of_binary(
 ) -> Result<Judgement, AllocError>
     requires left { HasForm entries left.now.form }
     requires right { HasForm entries right.now.form }
-    ensures { IfOk result (λ j. (f g : Tree) → IsJudgement entries f left.now → IsJudgement entries g right.now
+    ensures judged { IfOk result (λ j. (f g : Tree) → IsJudgement entries f left.now → IsJudgement entries g right.now
         → IsJudgement entries (binary op f g at) j) }
+    ensures limits { IfOk result (λ j. HasForm entries j.form) }
 {
     let joined = match join(alloc, op, left, right, entries) {
         Err(_) => return Err(AllocError),
@@ -577,17 +583,68 @@ fn of_binary(
     })
 }
 
+// Judges a place with these subscripts more.
+#[cycle(judging)]
+fn judge_subscripts(
+    alloc: Global,
+    place: Judgement,
+    subscripts: &[Formula],
+    entries: usize,
+) -> Result<Judgement, AllocError>
+    ensures { IfOk result (λ j. (p : Tree) → IsJudgement entries p place
+        → IsJudgement entries (fold index p (map formula_of subscripts.now)) j) }
+{
+    let mut place = place;
+    for subscript in subscripts {
+        let subscript = match judge(alloc, subscript, entries) {
+            Err(_) => return Err(AllocError),
+            Ok(subscript) => subscript,
+        };
+        place = of_index(&place, &subscript);
+    }
+    Ok(place)
+}
+
+// Judges arguments with these more.
+#[cycle(judging)]
+fn judge_arguments(
+    alloc: Global,
+    first: Judgement,
+    others: &[Argument],
+    entries: usize,
+) -> Result<Judgement, AllocError>
+    requires { HasForm entries first.form }
+    ensures judged { IfOk result (λ j. (f : Tree) → IsJudgement entries f first
+        → IsJudgement entries (fold with_argument f (map argument_of others.now)) j) }
+    ensures limits { IfOk result (λ j. HasForm entries j.form) }
+{
+    let mut arguments = first;
+    for other in others {
+        let value = match judge(alloc, &other.value, entries) {
+            Err(_) => return Err(AllocError),
+            Ok(value) => value,
+        };
+        arguments = match of_binary(alloc, Op::Comma, &arguments, &value, other.comma, entries) {
+            Err(_) => return Err(AllocError),
+            Ok(arguments) => arguments,
+        };
+    }
+    Ok(arguments)
+}
+
 // Judges a formula.
+#[cycle(judging)]
 fn judge(alloc: Global, formula: &Formula, entries: usize) -> Result<Judgement, AllocError>
     ensures { IfOk result (IsJudgement entries (formula_of formula.now)) }
 {
     match formula {
         Formula::Constant(suffix, value, at) => of_constant(alloc, *suffix, *value, *at, entries),
         Formula::Name(meaning, at) => of_name(alloc, *meaning, *at, entries),
-        Formula::Index(place, subscript) => {
+        Formula::Index(place, earlier, last) => {
             let place = judge(alloc, place, entries)?;
-            let subscript = judge(alloc, subscript, entries)?;
-            Ok(of_index(&place, &subscript))
+            let place = judge_subscripts(alloc, place, earlier, entries)?;
+            let last = judge(alloc, last, entries)?;
+            Ok(of_index(&place, &last))
         }
         Formula::BareCall(meaning, at) => Ok(of_call(told(*at, called(*meaning)), *at)),
         Formula::Call(meaning, arguments, at) => {
@@ -602,6 +659,12 @@ fn judge(alloc: Global, formula: &Formula, entries: usize) -> Result<Judgement, 
         Formula::Cast(operand, at) => {
             let operand = judge(alloc, operand, entries)?;
             Ok(of_cast(&operand, *at))
+        }
+        Formula::Commas(first, between, last, at) => {
+            let first = judge(alloc, first, entries)?;
+            let left = judge_arguments(alloc, first, between, entries)?;
+            let last = judge(alloc, last, entries)?;
+            of_binary(alloc, Op::Comma, &left, &last, *at, entries)
         }
         Formula::Binary(op, left, right, at) => {
             let left = judge(alloc, left, entries)?;

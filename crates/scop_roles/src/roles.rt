@@ -1,8 +1,11 @@
 //! The role of each part of a formula, and what is wrong with a node whose parts have no fault.
 ghost use Rattle.std.specs.Prelude.{◌≡◌, ℕ, ◌+◌, ◌==◌};
-ghost use Rattle.scop_roles.specs.Faults.{called, cast_role, joins_condition, named, operand_role, only_where, or_else, other_role, own, own_free_operator, own_operator, rank, side_role, term_role};
-ghost use Rattle.scop_roles.specs.Formula.{Formula as Tree, bare_call, call, cast, constant, index, meaning_of, name, subscripts, unary};
-ghost use Rattle.scop_roles.specs.Forms.{is_and, is_comparison, is_minus, is_number, is_product, is_shift, is_signed, is_sum_or_product};
+ghost use Rattle.scop_roles.specs.Faults.{called, cast_role, joins_condition, named, operand_role, only_where, or_else};
+ghost use Rattle.scop_roles.specs.Faults.{other_role, own, own_free_operator, own_operator, rank, side_role, term_role};
+ghost use Rattle.scop_roles.specs.Formula.{Formula as Tree, bare_call, call, cast, constant, index, meaning_of, name};
+ghost use Rattle.scop_roles.specs.Formula.{subscripts, unary};
+ghost use Rattle.scop_roles.specs.Forms.{is_and, is_comparison, is_minus, is_number, is_product, is_shift, is_signed};
+ghost use Rattle.scop_roles.specs.Forms.{is_sum_or_product};
 ghost use Rattle.scop_roles.specs.Judgement.{own_joined};
 ghost use Rattle.scop_roles.specs.declared.fault.Kind.TheVariants as kind;
 ghost use Rattle.scop_roles.specs.declared.formula.Meaning.{Meaning};

@@ -1,7 +1,11 @@
 //! Worked rows: what is wrong with an expression in a role, and what one without fault stands for.
 
+ghost use Rattle.std.specs.Prelude.{[], ◌++◌, ◌∷◌, ◌^◌, ◌≡◌, ◌≤◌, IfOk, OnOk};
+ghost use Rattle.expression_grammar.specs.declared.node.Node.TheVariants.{Call};
+ghost use Rattle.scop_roles.specs.Resolving.{IsWritten};
+
 use crate::fault::{Fault, Kind};
-use crate::formula::{Formula, Meaning, Names, Role, resolve};
+use crate::formula::{Formula, Meaning, Names, Role, resolve, with_subscript};
 use crate::judgement::{fault, form, place_fault};
 use crate::values::{access, expression, push_read_places, push_tests};
 use expression_grammar::node::Node;
@@ -31,7 +35,7 @@ fn joined(
 // The first cell of an array with one extent; its subscript's token stands at `inner`.
 fn cell(alloc: Global, at: usize, inner: usize) -> Result<Formula, AllocError> {
     let array = Formula::Name(Meaning::Array(0, 1), at);
-    Ok(Formula::Index(Box::new(alloc, array)?, Box::new(alloc, number(0, inner))?))
+    with_subscript(alloc, array, number(0, inner))
 }
 
 fn told(
@@ -229,6 +233,124 @@ fn nodes_make_a_formula(rt: HostRuntime) -> Result<(), Fail> {
         Ok(_) => None,
     };
     assert_eq!(rt; place, Some(6));
+    Ok(())
+}
+
+// More than a stack holds, if something recursed along them.
+const MANY: usize = 200000;
+
+fn push_node(nodes: &mut Vec<Node>, node: Node) -> Result<(), AllocError>
+    ensures { OnOk result (nodes.new.items ≡ nodes.old.items ++ node ∷ []) }
+{
+    match nodes.push(node) {
+        Err(_) => Err(AllocError),
+        Ok(()) => Ok(()),
+    }
+}
+
+// The nodes of a name with so many subscripts: `A[1][1]`.
+fn indexed_nodes(alloc: Global, count: usize) -> Result<Vec<Node>, AllocError>
+    requires { count ≤ 2 ^ 40 }
+    ensures { IfOk result (λ nodes. IsWritten nodes.items 0) }
+{
+    let mut nodes = Vec::new(alloc);
+    match push_node(&mut nodes, Node::Name(0)) {
+        Err(_) => return Err(AllocError),
+        Ok(()) => {}
+    }
+    for i in 0..count {
+        match push_node(&mut nodes, Node::Constant(Suffix::Absent, 3 * i + 2)) {
+            Err(_) => return Err(AllocError),
+            Ok(()) => {}
+        }
+        match push_node(&mut nodes, Node::Index(3 * i + 1)) {
+            Err(_) => return Err(AllocError),
+            Ok(()) => {}
+        }
+    }
+    Ok(nodes)
+}
+
+// The nodes of a name in front of so many arguments and one more: `f(1,1`.
+fn argument_nodes(alloc: Global, count: usize) -> Result<Vec<Node>, AllocError>
+    requires { count ≤ 2 ^ 40 }
+    ensures { IfOk result (λ nodes. IsWritten (nodes.items ++ Call 1 ∷ []) 0) }
+{
+    let mut nodes = Vec::new(alloc);
+    match push_node(&mut nodes, Node::Name(0)) {
+        Err(_) => return Err(AllocError),
+        Ok(()) => {}
+    }
+    match push_node(&mut nodes, Node::Constant(Suffix::Absent, 2)) {
+        Err(_) => return Err(AllocError),
+        Ok(()) => {}
+    }
+    for i in 0..count {
+        match push_node(&mut nodes, Node::Constant(Suffix::Absent, 2 * i + 4)) {
+            Err(_) => return Err(AllocError),
+            Ok(()) => {}
+        }
+        match push_node(&mut nodes, Node::Binary(Op::Comma, 2 * i + 3)) {
+            Err(_) => return Err(AllocError),
+            Ok(()) => {}
+        }
+    }
+    Ok(nodes)
+}
+
+// The nodes of a call with so many arguments and one more: `f(1,1)`.
+fn called_nodes(alloc: Global, count: usize) -> Result<Vec<Node>, AllocError>
+    requires { count ≤ 2 ^ 40 }
+    ensures { IfOk result (λ nodes. IsWritten nodes.items 0) }
+{
+    let mut nodes = match argument_nodes(alloc, count) {
+        Err(_) => return Err(AllocError),
+        Ok(nodes) => nodes,
+    };
+    match push_node(&mut nodes, Node::Call(1)) {
+        Err(_) => Err(AllocError),
+        Ok(()) => Ok(nodes),
+    }
+}
+
+// The first fault, as a value, of what nodes stand for.
+fn fault_of_nodes(alloc: Global, nodes: &[Node]) -> Option<Fault>
+    requires { IsWritten nodes.now 0 }
+{
+    match resolve(alloc, nodes, 0, &ByPlace) {
+        Err(_) => None,
+        Ok(formula) => match fault(alloc, &formula, 1, Role::Value) {
+            Err(_) => None,
+            Ok(found) => found,
+        },
+    }
+}
+
+#[test]
+fn a_place_has_any_number_of_subscripts(rt: HostRuntime) -> Result<(), Fail> {
+    let wanted = Fault {
+        place: 0,
+        kind: Kind::Rank,
+    };
+    let found = match indexed_nodes(rt.alloc(), MANY) {
+        Err(_) => None,
+        Ok(nodes) => fault_of_nodes(rt.alloc(), &nodes),
+    };
+    assert_eq!(rt; found, Some(wanted));
+    Ok(())
+}
+
+#[test]
+fn a_call_has_any_number_of_arguments(rt: HostRuntime) -> Result<(), Fail> {
+    let wanted = Fault {
+        place: 0,
+        kind: Kind::Call,
+    };
+    let found = match called_nodes(rt.alloc(), MANY) {
+        Err(_) => None,
+        Ok(nodes) => fault_of_nodes(rt.alloc(), &nodes),
+    };
+    assert_eq!(rt; found, Some(wanted));
     Ok(())
 }
 

@@ -1,16 +1,20 @@
 //! What a formula without faults stands for: a value, a cell, or the comparisons of a condition.
-ghost use Rattle.std.specs.Prelude.{[], ◌++◌, ◌∷◌, ◌≡◌, ◌≤◌, ℕ, IfOk, None, OnOk, false, map, true, unsigned_abs};
+ghost use Rattle.std.specs.Prelude.{[], ◌++◌, ◌∷◌, ◌≡◌, ◌≤◌, ℕ, IfOk, List, None, OnOk, false, map, true, unsigned_abs};
+ghost use Rattle.std.specs.List.{fold};
+ghost use Rattle.whole_numbers.specs.Affine.{Affine};
 ghost use Rattle.scop_syntax.specs.Kernel.{IsAffine};
 ghost use Rattle.scop_syntax.specs.Tree.{Expression, affine};
 ghost use Rattle.scop_syntax.specs.View.{expression_of, operator_of, test_of};
 ghost use Rattle.scop_roles.specs.declared.formula.Role.TheVariants as role;
 ghost use Rattle.scop_roles.specs.Faults.{faults, first, is_count, place_faults};
-ghost use Rattle.scop_roles.specs.Formula.{constant, formula_of, name};
+ghost use Rattle.scop_roles.specs.Formula.{Formula as Tree, argument_of, constant, formula_of, index, name};
+ghost use Rattle.scop_roles.specs.Formula.{with_argument};
 ghost use Rattle.scop_roles.specs.Forms.{form, is_shift, is_signed};
-ghost use Rattle.scop_roles.specs.Values.{access, array_number, combined, comparison, count, difference, expression, operator, read_places, signed_value, subscript_forms, tests};
+ghost use Rattle.scop_roles.specs.Values.{access, array_number, combined, comparison, count, difference, expression};
+ghost use Rattle.scop_roles.specs.Values.{operator, read_places, signed_value, subscript_forms, tests};
 
 use crate::forms::{constant_form, multiple, plus_constant, sum, variable_form};
-use crate::formula::{Formula, Meaning, meaning_of, place};
+use crate::formula::{Argument, Formula, Meaning, meaning_of, place};
 use crate::judgement::{affine_form, is_between, is_plain};
 use crate::roles::{is_and, is_minus, is_number, is_shift, is_sum_or_product};
 use expression_grammar::token::{Op, Sign, Suffix};
@@ -25,11 +29,12 @@ pub fn is_signed(formula: &Formula) -> bool
     match formula {
         Formula::Constant(suffix, _, _) => is_plain(*suffix),
         Formula::Name(meaning, _) => is_number(*meaning),
-        Formula::Index(_, _) => false,
+        Formula::Index(_, _, _) => false,
         Formula::BareCall(_, _) => false,
         Formula::Call(_, _, _) => false,
         Formula::Unary(sign, operand, _) => is_minus(*sign) && is_signed(operand),
         Formula::Cast(_, _) => false,
+        Formula::Commas(_, _, _, _) => false,
         Formula::Binary(op, left, right, _) => {
             is_sum_or_product(*op) && is_signed(left) && is_signed(right)
         }
@@ -43,11 +48,12 @@ pub fn is_count(formula: &Formula, low: u64, high: u64) -> bool
     match formula {
         Formula::Constant(suffix, value, _) => is_between(*suffix, *value, low, high),
         Formula::Name(_, _) => false,
-        Formula::Index(_, _) => false,
+        Formula::Index(_, _, _) => false,
         Formula::BareCall(_, _) => false,
         Formula::Call(_, _, _) => false,
         Formula::Unary(_, _, _) => false,
         Formula::Cast(_, _) => false,
+        Formula::Commas(_, _, _, _) => false,
         Formula::Binary(_, _, _, _) => false,
     }
 }
@@ -94,6 +100,31 @@ fn form_or_zero(alloc: Global, formula: &Formula, entries: usize) -> Result<Aff,
     }
 }
 
+// The forms of further subscripts of a place without fault, behind those of the others.
+fn push_forms(
+    alloc: Global,
+    subscripts: &[Formula],
+    entries: usize,
+    forms: &mut Vec<Aff>,
+) -> Result<(), AllocError>
+    ensures { OnOk result ((p : Tree) (xs : List Affine)
+        → (first (place_faults entries p) ≡ None → forms.old.items ≡ xs ++ subscript_forms entries p)
+        → first (place_faults entries (fold index p (map formula_of subscripts.now))) ≡ None
+        → forms.new.items ≡ xs ++ subscript_forms entries (fold index p (map formula_of subscripts.now))) }
+{
+    for subscript in subscripts {
+        let form = match form_or_zero(alloc, subscript, entries) {
+            Err(_) => return Err(AllocError),
+            Ok(form) => form,
+        };
+        match push_form(forms, form) {
+            Err(_) => return Err(AllocError),
+            Ok(()) => {}
+        }
+    }
+    Ok(())
+}
+
 // The forms of the subscripts of a place without fault, behind others.
 fn push_subscripts(
     alloc: Global,
@@ -105,12 +136,16 @@ fn push_subscripts(
         → forms.new.items ≡ forms.old.items ++ subscript_forms entries (formula_of place.now)) }
 {
     match place {
-        Formula::Index(inner, subscript) => {
+        Formula::Index(inner, earlier, last) => {
             match push_subscripts(alloc, inner, entries, forms) {
                 Err(_) => return Err(AllocError),
                 Ok(()) => {}
             }
-            let form = match form_or_zero(alloc, subscript, entries) {
+            match push_forms(alloc, earlier, entries, forms) {
+                Err(_) => return Err(AllocError),
+                Ok(()) => {}
+            }
+            let form = match form_or_zero(alloc, last, entries) {
                 Err(_) => return Err(AllocError),
                 Ok(form) => form,
             };
@@ -122,6 +157,7 @@ fn push_subscripts(
         Formula::Call(_, _, _) => Ok(()),
         Formula::Unary(_, _, _) => Ok(()),
         Formula::Cast(_, _) => Ok(()),
+        Formula::Commas(_, _, _, _) => Ok(()),
         Formula::Binary(_, _, _, _) => Ok(()),
     }
 }
@@ -170,11 +206,12 @@ fn count(formula: &Formula) -> u8
     match formula {
         Formula::Constant(suffix, value, _) => constant_count(*suffix, *value),
         Formula::Name(_, _) => 0,
-        Formula::Index(_, _) => 0,
+        Formula::Index(_, _, _) => 0,
         Formula::BareCall(_, _) => 0,
         Formula::Call(_, _, _) => 0,
         Formula::Unary(_, _, _) => 0,
         Formula::Cast(_, _) => 0,
+        Formula::Commas(_, _, _, _) => 0,
         Formula::Binary(_, _, _, _) => 0,
     }
 }
@@ -248,7 +285,35 @@ fn joined(alloc: Global, op: Op, left: Expr, right: Expr) -> Result<Expr, AllocE
     ))
 }
 
+// The value of arguments with these more, if they have no fault as one.
+#[cycle(valuing)]
+fn with_values(
+    alloc: Global,
+    others: &[Argument],
+    left: Expr,
+    entries: usize,
+) -> Result<Expr, AllocError>
+    ensures { IfOk result (λ e. (f : Tree)
+        → (first (faults entries role.Value f) ≡ None → expression_of left ≡ expression entries f)
+        → first (faults entries role.Value (fold with_argument f (map argument_of others.now))) ≡ None
+        → expression_of e ≡ expression entries (fold with_argument f (map argument_of others.now))) }
+{
+    let mut left = left;
+    for other in others {
+        let right = match value(alloc, &other.value, entries) {
+            Err(_) => return Err(AllocError),
+            Ok(right) => right,
+        };
+        left = match joined(alloc, Op::Comma, left, right) {
+            Err(_) => return Err(AllocError),
+            Ok(both) => both,
+        };
+    }
+    Ok(left)
+}
+
 // The value of a formula, if it has no fault as one.
+#[cycle(valuing)]
 fn value(alloc: Global, formula: &Formula, entries: usize) -> Result<Expr, AllocError>
     ensures { IfOk result (λ e. first (faults entries role.Value (formula_of formula.now)) ≡ None
         → expression_of e ≡ expression entries (formula_of formula.now)) }
@@ -256,7 +321,7 @@ fn value(alloc: Global, formula: &Formula, entries: usize) -> Result<Expr, Alloc
     match formula {
         Formula::Constant(_, value, _) => Ok(Expr::Constant(*value)),
         Formula::Name(meaning, _) => name_value(alloc, *meaning, entries),
-        Formula::Index(_, _) => match cell(alloc, formula, entries) {
+        Formula::Index(_, _, _) => match cell(alloc, formula, entries) {
             Err(_) => Err(AllocError),
             Ok(access) => Ok(Expr::Read(access)),
         },
@@ -272,6 +337,12 @@ fn value(alloc: Global, formula: &Formula, entries: usize) -> Result<Expr, Alloc
         Formula::Cast(operand, _) => {
             let inner = value(alloc, operand, entries)?;
             Ok(Expr::Cast(Box::new(alloc, inner)?))
+        }
+        Formula::Commas(left, between, right, _) => {
+            let first = value(alloc, left, entries)?;
+            let first = with_values(alloc, between, first, entries)?;
+            let second = value(alloc, right, entries)?;
+            joined(alloc, Op::Comma, first, second)
         }
         Formula::Binary(op, left, right, _) => {
             if is_signed(formula) {
@@ -373,11 +444,12 @@ fn add_tests(
         }
         Formula::Constant(_, _, _) => Ok(()),
         Formula::Name(_, _) => Ok(()),
-        Formula::Index(_, _) => Ok(()),
+        Formula::Index(_, _, _) => Ok(()),
         Formula::BareCall(_, _) => Ok(()),
         Formula::Call(_, _, _) => Ok(()),
         Formula::Unary(_, _, _) => Ok(()),
         Formula::Cast(_, _) => Ok(()),
+        Formula::Commas(_, _, _, _) => Ok(()),
     }
 }
 
@@ -398,17 +470,44 @@ pub fn push_tests(
     }
 }
 
+// The places of the cells that these arguments more read, behind those of the others.
+#[cycle(reading)]
+fn push_places(others: &[Argument], places: &mut Vec<usize>) -> Result<(), AllocError>
+    ensures { OnOk result ((f : Tree) (xs : List ℕ) → places.old.items ≡ xs ++ read_places f
+        → places.new.items ≡ xs ++ read_places (fold with_argument f (map argument_of others.now))) }
+{
+    for other in others {
+        match push_read_places(&other.value, places) {
+            Err(_) => return Err(AllocError),
+            Ok(()) => {}
+        }
+    }
+    Ok(())
+}
+
 /// The places of the cells that a formula reads as a value, from left to right, behind others.
+#[cycle(reading)]
 pub fn push_read_places(formula: &Formula, places: &mut Vec<usize>) -> Result<(), AllocError>
     ensures { OnOk result (places.new.items ≡ places.old.items ++ read_places (formula_of formula.now)) }
 {
     match formula {
-        Formula::Index(inner, _) => match places.push(place(inner)) {
+        Formula::Index(inner, _, _) => match places.push(place(inner)) {
             Err(_) => Err(AllocError),
             Ok(()) => Ok(()),
         },
         Formula::Unary(_, operand, _) => push_read_places(operand, places),
         Formula::Cast(operand, _) => push_read_places(operand, places),
+        Formula::Commas(first, between, last, _) => {
+            match push_read_places(first, places) {
+                Err(_) => return Err(AllocError),
+                Ok(()) => {}
+            }
+            match push_places(between, places) {
+                Err(_) => return Err(AllocError),
+                Ok(()) => {}
+            }
+            push_read_places(last, places)
+        }
         Formula::Binary(_, left, right, _) => {
             match push_read_places(left, places) {
                 Err(_) => return Err(AllocError),

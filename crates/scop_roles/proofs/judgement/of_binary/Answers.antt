@@ -1,8 +1,8 @@
 use Rattle.std.proofs.Common.{refl}
 use Rattle.scop_roles.proofs.judgement.of_binary.Goals as goal
 
-pub returns : goal.returns
-returns c f g h i =
+pub returns-clause-judged : goal.returns-clause-judged
+returns-clause-judged c f g h i =
     let joined = c.in-Ok.ensures.joined f g c.args.at h i in
     record {
       place = refl;

@@ -1,4 +1,4 @@
-use Rattle.std.proofs.Common.{◌≡◌, refl, arith}
+use Rattle.std.proofs.Common.{refl, arith}
 use Rattle.expression_grammar.specs.Tree.{binary, name, constant}
 use Rattle.expression_grammar.specs.declared.token.Op.TheVariants as op
 use Rattle.expression_grammar.specs.declared.token.Suffix.TheVariants as suffix

@@ -1,11 +1,13 @@
-use Rattle.std.proofs.Common.{rules, ◌≡◌, ◌++◌, None, map, ap, sym, subst, ◌∙◌}
+use Rattle.std.proofs.Common.{rules, ◌≡◌, ◌++◌, None, map, fold, ap, sym, subst, ◌∙◌}
 use Rattle.scop_syntax.specs.View.{test_of}
+use Rattle.scop_roles.specs.declared.fault.Kind.TheVariants as kind
 use Rattle.scop_roles.specs.declared.formula.Role.TheVariants as role
-use Rattle.scop_roles.specs.Formula.{formula_of}
+use Rattle.scop_roles.specs.Formula.{argument_of, formula_of, with_argument}
 use Rattle.scop_roles.specs.Forms.{form}
 use Rattle.scop_roles.specs.Faults.{first, faults}
 use Rattle.scop_roles.specs.Values.{tests}
-use Rattle.scop_roles.proofs.Views.{formula_binary}
+use Rattle.scop_roles.proofs.Views.{formula_binary, formula_commas}
+use Rattle.scop_roles.proofs.Joining.{refused}
 use Rattle.scop_roles.proofs.Making.{on_ok, joined_tests, compared_tests}
 use Rattle.scop_roles.proofs.values.+add_tests.Goals as goal
 
@@ -49,3 +51,12 @@ returns-in-Ok-comparison t c =
     (formula_of c.in-Binary.right.value) c.in-Binary.field-3 old new a b (test_of c.in-Ok-comparison.test) e
     (sym c.is_and.ensures ∙ c.if-is_and.false) a_is b_is c.in-Ok-comparison.ensures all)
     c.push_test.ensures
+
+pub returns-in-Commas : goal.returns-in-Commas
+returns-in-Commas t c h =
+    let n = c.args.entries in
+    let f = fold with_argument (formula_of c.in-Commas.field-0.value) (map argument_of c.in-Commas.field-1.items) in
+    let e = ap formula_of c.in-Commas.is
+    ∙ formula_commas c.in-Commas.field-0 c.in-Commas.field-1 c.in-Commas.field-2 c.in-Commas.field-3 in
+    absurd (refused (faults n role.Free f ++ faults n role.Free (formula_of c.in-Commas.field-2.value))
+    c.in-Commas.field-3 kind.Condition (subst (λ f. first (faults n role.Condition f) ≡ None) e h))
