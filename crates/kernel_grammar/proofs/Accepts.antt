@@ -1,5 +1,6 @@
 -- The elements of each tree within the limits lead to the end.
-use Rattle.std.proofs.Common.{◌≡◌, ℕ, zero, suc, ◌+◌, ◌-◌, true, false, List, [], ◌∷◌, ◌++◌, refl, append_assoc, arith, rules}
+use Rattle.std.proofs.Common.{◌≡◌, ℕ, zero, suc, ◌+◌, ◌-◌, true, false, List, [], ◌∷◌, ◌++◌, refl, append_assoc, arith}
+use Rattle.std.proofs.Common.{rules}
 use Rattle.std.specs.Prelude.{nat_eq}
 use Rattle.expression_grammar.specs.declared.token.Assign.TheVariants as set
 use Rattle.expression_grammar.specs.declared.token.Token.TheVariants as token
@@ -9,7 +10,13 @@ use Rattle.kernel_grammar.specs.declared.table.Level.{Level}
 use Rattle.kernel_grammar.specs.declared.table.Level.TheVariants as level
 use Rattle.kernel_grammar.specs.declared.table.Want.{Want}
 use Rattle.kernel_grammar.specs.declared.table.Want.TheVariants as want
-use Rattle.kernel_grammar.specs.Kernel.{Element, plain, expression, begins, ends, Step, counted, counts, assigned, Head, branch, loop, Item, block, empty, assign, headed, Items, none, more, Parameter, number, array, Kernel, step_elements, head_elements, place_elements, item_elements, all_elements, extents, parameter_elements, other_parameters, other_names, declarations, kernel_elements, assign_sign, semicolon, Fits, AllFit, StepFits, HeadFits, ItemFits, ItemsFit, ParameterFits, ParametersFit, KernelFits}
+use Rattle.kernel_grammar.specs.Kernel.{Element, plain, expression, begins, ends, Step, counted, counts, assigned, Head}
+use Rattle.kernel_grammar.specs.Kernel.{branch, loop, Item, block, empty, assign, headed, Items, none, more, Parameter}
+use Rattle.kernel_grammar.specs.Kernel.{number, array, Kernel, step_elements, head_elements, place_elements}
+use Rattle.kernel_grammar.specs.Kernel.{item_elements, all_elements, extents, parameter_elements, other_parameters}
+use Rattle.kernel_grammar.specs.Kernel.{other_names, declarations, kernel_elements, assign_sign, semicolon, Fits}
+use Rattle.kernel_grammar.specs.Kernel.{AllFit, StepFits, HeadFits, ItemFits, ItemsFit, ParameterFits, ParametersFit}
+use Rattle.kernel_grammar.specs.Kernel.{KernelFits}
 use Rattle.kernel_grammar.proofs.Paths.{Ends}
 
 -- the place in front of a last subscript, and the subscript

@@ -8,7 +8,9 @@ use Rattle.expression_grammar.specs.Tree.{Tree}
 use Rattle.kernel_grammar.specs.declared.table.Level.TheVariants as level
 use Rattle.kernel_grammar.specs.declared.table.Role.TheVariants as role
 use Rattle.kernel_grammar.specs.declared.table.Want.TheVariants as want
-use Rattle.kernel_grammar.specs.Kernel.{Element, sign, expression, spelled, begins, ends, Items, Parameter, number, array, Kernel, parameter_elements, extents, other_parameters, declarations, all_elements, comma, AllFit, ParameterFits, ParametersFit, Spells}
+use Rattle.kernel_grammar.specs.Kernel.{Element, sign, expression, spelled, begins, ends, Items, Parameter, number}
+use Rattle.kernel_grammar.specs.Kernel.{array, Kernel, parameter_elements, extents, other_parameters, declarations}
+use Rattle.kernel_grammar.specs.Kernel.{all_elements, comma, AllFit, ParameterFits, ParametersFit, Spells}
 use Rattle.kernel_grammar.proofs.Paths.{Ends}
 use Rattle.kernel_grammar.proofs.Parses.{spelled_append, brace, end_tokens, InDeclarations, begun}
 

@@ -1,5 +1,6 @@
 -- What a spot stands for: elements that lead to its want, and the tokens of an expression in hand. A turn keeps it.
-use Rattle.std.proofs.Common.{◌≡◌, ℕ, ◌+◌, ◌≤◌, Bool, true, false, List, [], ◌∷◌, ◌++◌, length, refl, sym, ◌∙◌, append_assoc, append-nil, length-append, arith}
+use Rattle.std.proofs.Common.{◌≡◌, ℕ, ◌+◌, ◌≤◌, Bool, true, false, List, [], ◌∷◌, ◌++◌, length, refl, sym, ◌∙◌}
+use Rattle.std.proofs.Common.{append_assoc, append-nil, length-append, arith}
 use Rattle.std.specs.Prelude.{⊤, max, Option, Some, None}
 use Rattle.expression_grammar.specs.declared.token.Outside.TheVariants as outside
 use Rattle.expression_grammar.specs.declared.token.Token.{Token}
@@ -17,7 +18,8 @@ use Rattle.kernel_grammar.specs.declared.table.Want.{Want}
 use Rattle.kernel_grammar.specs.declared.table.Want.TheVariants as want
 use Rattle.kernel_grammar.specs.Table.{next, behind, mark, opens, braced, room, left, carried}
 use Rattle.kernel_grammar.specs.Kernel.{Element, sign, expression, spelled, Piece, Fits, IsFront}
-use Rattle.kernel_grammar.specs.Machine.{Spot, spot, ahead, first_spot, Turn, on, stop, too_deep, sign_turn, leaves, inner_turn, turn_in, turn}
+use Rattle.kernel_grammar.specs.Machine.{Spot, spot, ahead, first_spot, Turn, on, stop, too_deep, sign_turn, leaves}
+use Rattle.kernel_grammar.specs.Machine.{inner_turn, turn_in, turn}
 use Rattle.kernel_grammar.proofs.Paths.{Ends}
 use Rattle.kernel_grammar.proofs.Parses.{spelled_append}
 use Rattle.kernel_grammar.proofs.Headers.{is_kernel}

@@ -8,3 +8,4 @@ pub mod Keeps
 pub mod Reading
 pub mod Wider
 pub mod Running
+pub mod Behind

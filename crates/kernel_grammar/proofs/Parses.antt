@@ -1,5 +1,6 @@
 -- Elements that lead to the end are those of a tree, read off from the left.
-use Rattle.std.proofs.Common.{◌≡◌, ℕ, zero, suc, ◌+◌, ◌-◌, ◌≤◌, Bool, true, false, List, [], ◌∷◌, ◌++◌, length, refl, ap, ◌∙◌, append_assoc, arith, rules}
+use Rattle.std.proofs.Common.{◌≡◌, ℕ, zero, suc, ◌+◌, ◌-◌, ◌≤◌, Bool, true, false, List, [], ◌∷◌, ◌++◌, length, refl}
+use Rattle.std.proofs.Common.{ap, ◌∙◌, append_assoc, arith, rules}
 use Rattle.std.specs.Prelude.{⊤, nat_eq, if◌then◌else◌}
 use Rattle.expression_grammar.specs.declared.token.Assign.{Assign}
 use Rattle.expression_grammar.specs.declared.token.Assign.TheVariants as set
@@ -14,7 +15,11 @@ use Rattle.kernel_grammar.specs.declared.table.Level.TheVariants as level
 use Rattle.kernel_grammar.specs.declared.table.Role.TheVariants as role
 use Rattle.kernel_grammar.specs.declared.table.Want.TheVariants as want
 use Rattle.kernel_grammar.specs.Table.{carried}
-use Rattle.kernel_grammar.specs.Kernel.{Element, sign, plain, expression, spelled, ends, Step, counted, counts, assigned, Head, branch, loop, Item, block, empty, assign, headed, Items, none, more, step_elements, head_elements, place_elements, item_elements, all_elements, other_names, declarations, assign_sign, semicolon, comma, Fits, IsStepAssign, HeadFits, ItemFits, ItemsFit}
+use Rattle.kernel_grammar.specs.Kernel.{Element, sign, plain, expression, spelled, ends, Step, counted, counts}
+use Rattle.kernel_grammar.specs.Kernel.{assigned, Head, branch, loop, Item, block, empty, assign, headed, Items, none}
+use Rattle.kernel_grammar.specs.Kernel.{more, step_elements, head_elements, place_elements, item_elements, all_elements}
+use Rattle.kernel_grammar.specs.Kernel.{other_names, declarations, assign_sign, semicolon, comma, Fits, IsStepAssign}
+use Rattle.kernel_grammar.specs.Kernel.{HeadFits, ItemFits, ItemsFit}
 use Rattle.kernel_grammar.proofs.Paths.{Ends}
 
 pub spelled_append : (es fs : List Element) → spelled (es ++ fs) ≡ spelled es ++ spelled fs

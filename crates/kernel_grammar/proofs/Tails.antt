@@ -15,7 +15,8 @@ use Rattle.kernel_grammar.specs.declared.table.Role.TheVariants as role
 use Rattle.kernel_grammar.specs.declared.table.Want.{Want}
 use Rattle.kernel_grammar.specs.declared.table.Want.TheVariants as want
 use Rattle.kernel_grammar.specs.Table.{room, left}
-use Rattle.kernel_grammar.specs.Kernel.{Element, sign, plain, expression, begins, ends, count_sign, assign_sign, semicolon, Fits}
+use Rattle.kernel_grammar.specs.Kernel.{Element, sign, plain, expression, begins, ends, count_sign, assign_sign}
+use Rattle.kernel_grammar.specs.Kernel.{semicolon, Fits}
 use Rattle.kernel_grammar.proofs.Paths.{Ends}
 
 -- the braces that close so many blocks, and the kernel's own

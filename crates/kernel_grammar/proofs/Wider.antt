@@ -9,7 +9,8 @@ use Rattle.kernel_grammar.specs.declared.table.Role.TheVariants as role
 use Rattle.kernel_grammar.specs.declared.table.Want.{Want}
 use Rattle.kernel_grammar.specs.declared.table.Want.TheVariants as want
 use Rattle.kernel_grammar.specs.Table.{room, left}
-use Rattle.kernel_grammar.specs.Machine.{Spot, spot, first_spot, Turn, on, stop, too_deep, inner_turn, turn_in, turn, End, goes_on, stopped_at, deep_at, turns, run, Answer, whole, answer, read}
+use Rattle.kernel_grammar.specs.Machine.{Spot, spot, first_spot, Turn, on, stop, too_deep, inner_turn, turn_in, turn}
+use Rattle.kernel_grammar.specs.Machine.{End, goes_on, stopped_at, deep_at, turns, run, Answer, whole, answer, read}
 use Rattle.kernel_grammar.specs.Kernel.{Piece}
 use Rattle.kernel_grammar.specs.Answers.{IsAnswer, IsMisplaced}
 use Rattle.kernel_grammar.proofs.Reading.{read_answers}

@@ -3,7 +3,8 @@
 use Rattle.std.specs.Prelude.{ℕ, ◌+◌, if◌then◌else◌, List, [], ◌∷◌, ◌++◌, Option, Some, None, Result, Ok, Err}
 use Rattle.expression_grammar.specs.declared.token.Token.{Token}
 use Rattle.expression_grammar.specs.declared.node.Node.{Node}
-use Rattle.expression_grammar.specs.Machine.{State, start, Move, go, stops, step, fits, complete, Kind, unfit, unended, depth, told_at}
+use Rattle.expression_grammar.specs.Machine.{State, start, Move, go, stops, step, fits, complete, Kind, unfit, unended}
+use Rattle.expression_grammar.specs.Machine.{depth, told_at}
 use Rattle.kernel_grammar.specs.declared.table.Role.{Role}
 use Rattle.kernel_grammar.specs.declared.table.Want.{Want}
 use Rattle.kernel_grammar.specs.declared.table.Want.TheVariants as want

@@ -1,5 +1,5 @@
 -- What the code does to the machine's spot, and what its results stand for.
-use Rattle.std.specs.Prelude.{◌≡◌, ℕ, ◌<◌, ◌^◌, List, map, Result, Ok, Err, ⊤}
+use Rattle.std.specs.Prelude.{◌≡◌, ℕ, ◌<◌, ◌^◌, ◌++◌, List, map, Result, Ok, Err, ⊤}
 use Rattle.expression_grammar.specs.declared.token.Token.{Token}
 use Rattle.expression_grammar.specs.declared.reader.Stop.{Stop}
 use Rattle.expression_grammar.specs.declared.reader.Stop.TheVariants as fault
@@ -10,7 +10,7 @@ use Rattle.kernel_grammar.specs.declared.reader.Text.{Text}
 use Rattle.kernel_grammar.specs.declared.reader.Went.{Went}
 use Rattle.kernel_grammar.specs.declared.reader.Went.TheVariants as went
 use Rattle.kernel_grammar.specs.Kernel.{Piece, mark_at, nodes_from}
-use Rattle.kernel_grammar.specs.Machine.{Spot, Turn, on, stop, too_deep, Answer}
+use Rattle.kernel_grammar.specs.Machine.{Spot, Turn, on, stop, too_deep, End, goes_on, stopped_at, deep_at, Answer}
 use Rattle.kernel_grammar.specs.Answers.{IsMisplaced, IsUnended, IsTooDeep}
 
 -- the piece that a part stands for
@@ -26,6 +26,20 @@ pub record HasSpace (s : Spot) : Type 0 where
   pub at : s.at < 2 ^ 62
   pub braces : s.braces < 2 ^ 62
   pub used : s.used < 2 ^ 62
+
+-- the same spot, its own pieces behind these: those so far that were taken
+abbrev pub behind : List Piece → Spot → Spot
+behind ps s = record s { pieces = ps ++ s.pieces }
+
+abbrev pub turned : List Piece → Turn → Turn
+turned ps (on s) = on (behind ps s)
+turned ps stop = stop
+turned ps too_deep = too_deep
+
+abbrev pub ended : List Piece → End → End
+ended ps (goes_on s) = goes_on (behind ps s)
+ended ps (stopped_at s) = stopped_at (behind ps s)
+ended ps (deep_at s t) = deep_at (behind ps s) t
 
 -- the code's turn is the machine's
 abbrev pub Turns : {E : Type 0} → Result Went E → Spot → Turn → Type 0

@@ -2,8 +2,9 @@
 ghost use Rattle.std.specs.Prelude.{◌≡◌, ◌≤◌, ℕ, List, Ok};
 ghost use Rattle.expression_grammar.specs.declared.token.Token.{Token};
 ghost use Rattle.kernel_grammar.specs.Answers.{IsAnswer};
-ghost use Rattle.kernel_grammar.specs.Kernel.{Kernel, Spells, kernel_elements, pieces};
-ghost use Rattle.kernel_grammar.specs.Machine.{read};
+ghost use Rattle.kernel_grammar.specs.Kernel.{Kernel, Piece, Spells, kernel_elements, pieces};
+ghost use Rattle.kernel_grammar.specs.Machine.{Spot, read, run, turn};
+ghost use Rattle.kernel_grammar.specs.Turns.{behind, ended, turned};
 
 /// What the machine answers for a text is what the grammar says: its pieces, or the first fault.
 #[tactic(auto, using(crate::proofs::Reading::read_answers))]
@@ -23,4 +24,12 @@ pub fn kernels_are_read()
 pub fn tokens_spell_one_kernel()
     ensures { (d n : ℕ) (ts : List Token) (k l : Kernel) → Spells d n ts k → Spells d n ts l
         → pieces 0 (kernel_elements k) ≡ pieces 0 (kernel_elements l) }
+{}
+
+/// A run adds its pieces behind those so far: whether these were taken makes no difference to it.
+pub fn pieces_are_added_behind()
+    ensures turn { (d n : ℕ) (ps : List Piece) (s : Spot) (t : Token)
+        → turn d n (behind ps s) t ≡ turned ps (turn d n s t) }
+    ensures run { (d n : ℕ) (ps : List Piece) (s : Spot) (ts : List Token)
+        → run d n (behind ps s) ts ≡ ended ps (run d n s ts) }
 {}

@@ -1,13 +1,14 @@
 //! The reader of a kernel: a machine of one step a token, and the call that runs it over a list of tokens.
 //! Nothing recurses over the nesting of items: a count of braces is all that is kept of it.
 //! Promises the parts of the only tree that the tokens spell, or the first fault.
-ghost use Rattle.std.specs.Prelude.{◌≡◌, ◌<◌, ◌^◌, ◌++◌, ◌+◌, Some, IfErr, IfOk, OnOk};
+ghost use Rattle.std.specs.Prelude.{◌≡◌, ◌<◌, ◌^◌, ◌++◌, ◌+◌, [], Some, IfErr, IfOk, OnOk};
 ghost use Rattle.expression_grammar.specs.Machine.{step};
 ghost use Rattle.expression_grammar.specs.Steps.{HasRoom};
 ghost use Rattle.expression_grammar.specs.declared.reader.TheConstants.{MOST_BRACKETS, MOST_OPERATORS};
 ghost use Rattle.kernel_grammar.specs.Answers.{IsRead};
 ghost use Rattle.kernel_grammar.specs.Kernel.{marked};
-ghost use Rattle.kernel_grammar.specs.Machine.{ahead, answer, first_spot, goes_on, inner_turn, leaves, read, sign_turn, turn};
+ghost use Rattle.kernel_grammar.specs.Machine.{ahead, answer, first_spot, goes_on, inner_turn, leaves, read, sign_turn};
+ghost use Rattle.kernel_grammar.specs.Machine.{turn};
 ghost use Rattle.kernel_grammar.specs.declared.table.Want.TheVariants as want;
 ghost use Rattle.kernel_grammar.specs.Turns.{Feeds, Gives, HasSpace, IsStop, Turns, pieces_of};
 
@@ -194,6 +195,14 @@ impl KernelReader {
             Ok(Went::Deep) => Err(Stop::Depth(told_at(token, at))),
             Ok(Went::On) => Ok(()),
         }
+    }
+
+    /// The parts so far, which are taken out.
+    pub fn take_parts(&mut self, alloc: Global) -> Vec<Part>
+        ensures parts { pieces_of result.items ≡ self.old.pieces }
+        ensures rest { self.new ≡ record self.old { pieces = [] } }
+    {
+        mem::replace(&mut self.parts, Vec::new(alloc))
     }
 
     /// The text, where no token is left.

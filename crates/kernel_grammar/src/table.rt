@@ -1,6 +1,7 @@
 //! Which sign may come where, and what stands behind it.
 ghost use Rattle.std.specs.Prelude.{◌≡◌, ◌<◌, ◌^◌};
-ghost use Rattle.kernel_grammar.specs.Table.{behind, braced, carried, item_mark, item_next, left, mark, next, room, set_next};
+ghost use Rattle.kernel_grammar.specs.Table.{behind, braced, carried, item_mark, item_next, left, mark, next, room};
+ghost use Rattle.kernel_grammar.specs.Table.{set_next};
 
 use crate::part::Mark;
 use expression_grammar::token::{Assign, Op, Outside, Token};

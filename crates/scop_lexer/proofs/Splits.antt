@@ -1,11 +1,11 @@
 -- A text splits into gaps and tokens in one way only, up to its end or its first fault.
 use Rattle.std.proofs.Common.{◌≡◌, ◌∙◌, sym, ap, subst, refl, ℕ, zero, suc, ◌+◌, ◌-◌, ◌<◌, ◌≤◌, ◌⊎◌, List, []}
 use Rattle.std.proofs.Common.{◌∷◌, ◌++◌, length, take, inl, inr, arith}
-use Rattle.std.proofs.lemmas.List.{drop_all}
+use Rattle.std.proofs.lemmas.List.{drop_all, map-append}
 use Rattle.scop_lexer.specs.Bytes.{Text, is_fresh}
 use Rattle.scop_lexer.specs.Stands.{stands, stands_at, HasRoom}
 use Rattle.scop_lexer.specs.Tokens.{AreGaps, IsGap, IsToken, AreTokens, HasTokens, IsFault, HasFault, IsNext}
-use Rattle.scop_lexer.specs.Tokens.{AreBetween}
+use Rattle.scop_lexer.specs.Tokens.{AreBetween, token_of, token_at, tokens_at}
 use Rattle.scop_lexer.specs.declared.token.Kind.{Kind}
 use Rattle.scop_lexer.specs.declared.token.Kind.TheVariants.{Name}
 use Rattle.scop_lexer.specs.declared.token.FaultKind.{FaultKind}
@@ -103,6 +103,17 @@ token-agree text t u f g same =
     ap (λ k. token k t.start t.end) (ap lexeme_kind stand)
     ∙ (ap (λ n. token u.kind n t.end) same ∙ ap (λ n. token u.kind u.start n) end)
 
+-- a token is found at its start
+pub token-there : (text : Text) (t : Token) → IsToken text t → token_at text t.start ≡ t
+token-there text t is = ap (token_of t.start) is.1 ∙ ap (λ n. token t.kind t.start n) (sym is.2)
+
+-- one start more
+pub starts-more : (text : Text) (starts : List ℕ) (t : Token) → IsToken text t
+    → tokens_at text (starts ++ t.start ∷ []) ≡ tokens_at text starts ++ t ∷ []
+starts-more text starts t is =
+    map-append (token_at text) starts (t.start ∷ [])
+    ∙ ap (λ (u : Token). tokens_at text starts ++ u ∷ []) (token-there text t is)
+
 -- two splits of one text are one
 pub tokens-agree : (text : Text) (at to up : ℕ) (ts us : List Token) → AreTokens text at ts to
     → AreTokens text at us up
@@ -123,10 +134,13 @@ tokens-agree text at to up (t ∷ ts) (u ∷ us) f g last_f last_g =
     let others = tokens-agree text t.end to up ts us f.2 back last_f last_g in
     (ap (λ x. x ∷ ts) same ∙ ap (λ xs. u ∷ xs) others.0, others.1)
 
--- the text's end
-end-at : (text : Text) → stands_at text (length text) ≡ End
+-- the text's end, and what lies behind it
+pub end-behind : (text : Text) (at : ℕ) → length text ≤ at → stands_at text at ≡ End
 unfolding stands_at
-end-at text = ap (stands (is_fresh (take (length text) text))) (drop_all (length text) text (omega arith))
+end-behind text at behind = ap (stands (is_fresh (take at text))) (drop_all at text behind)
+
+end-at : (text : Text) → stands_at text (length text) ≡ End
+end-at text = end-behind text (length text) (omega arith)
 
 end-last : (text : Text) → IsLast (stands_at text (length text))
 end-last text = (λ n h. absurd (cc (end-at text)), λ kind n h. absurd (cc (end-at text)))

@@ -1,11 +1,13 @@
 -- A text as gaps and tokens, and its first fault.
-use Rattle.std.specs.Prelude.{◌≡◌, ℕ, ◌+◌, ◌<◌, ◌≤◌, List, [], ◌∷◌, length, ⊤}
+use Rattle.std.specs.Prelude.{◌≡◌, ℕ, ◌+◌, ◌<◌, ◌≤◌, List, [], ◌∷◌, length, map, ⊤}
 use Rattle.scop_lexer.specs.Bytes.{Text}
 use Rattle.scop_lexer.specs.Stands.{stands_at}
 use Rattle.scop_lexer.specs.declared.token.Token.{Token}
 use Rattle.scop_lexer.specs.declared.token.Fault.{Fault}
 use Rattle.scop_lexer.specs.declared.token.Stop.{Stop}
 use Rattle.scop_lexer.specs.declared.token.Stop.TheVariants.{Refused, NoMemory}
+use Rattle.scop_lexer.specs.declared.token.Kind.TheVariants.{Name}
+use Rattle.scop_lexer.specs.declared.stand.Stand.{Stand}
 use Rattle.scop_lexer.specs.declared.stand.Stand.TheVariants.{Gap, Lexeme, Wrong}
 
 -- gaps of these lengths, one behind the other, fill the text from a place to another
@@ -20,6 +22,17 @@ IsGap text at to = (lengths : List ℕ) × AreGaps text at lengths to
 -- the token stands at its start, up to its end
 abbrev pub IsToken : Text → Token → Type 0
 IsToken text token = (n : ℕ) × (stands_at text token.start ≡ Lexeme token.kind n) × (token.end ≡ token.start + n)
+
+-- the token that begins at a place; an empty name where none does
+abbrev pub token_of : ℕ → Stand → Token
+token_of at (Lexeme kind n) = record { kind = kind; start = at; end = at + n }
+token_of at _ = record { kind = Name; start = at; end = at }
+
+abbrev pub token_at : Text → ℕ → Token
+token_at text at = token_of at (stands_at text at)
+
+abbrev pub tokens_at : Text → List ℕ → List Token
+tokens_at text starts = map (token_at text) starts
 
 -- from a place to another the text is these tokens in turn, and gaps before, between and behind them
 abbrev pub AreTokens : Text → ℕ → List Token → ℕ → Type 0

@@ -1,13 +1,14 @@
-//! The lexer: a kernel's text as its tokens, or its first fault, in one pass.
+//! The lexer: where the tokens of a kernel's text begin, or its first fault, in one pass; a token by its start.
 
-ghost use Rattle.std.specs.Prelude.{◌<◌, ◌≤◌, length, MatchOption, IfOk, IfErr, IfSome};
+ghost use Rattle.std.specs.Prelude.{◌≡◌, ◌<◌, ◌≤◌, ◌++◌, ◌∷◌, [], length, MatchOption, IfOk, IfErr, IfSome, OnOk};
 ghost use Rattle.scop_lexer.specs.Tokens.{IsGap, IsNext, IsNextFault, HasTokens, RefusesTokens};
-ghost use Rattle.scop_lexer.specs.Tokens.{IsBetween, AreBetween, StopsWithin};
+ghost use Rattle.scop_lexer.specs.Tokens.{IsBetween, AreBetween, StopsWithin, token_at, token_of, tokens_at};
+ghost use Rattle.scop_lexer.specs.declared.stand.Stand.TheVariants.{End};
 
 use crate::stand::Stand;
 use crate::stands::stands_at;
-use crate::token::{Fault, Stop, Token};
-use std::alloc::Global;
+use crate::token::{Fault, Kind, Stop, Token};
+use std::alloc::{AllocError, Global};
 
 /// The next token from a place on; none where only a gap is left.
 pub fn next_token(text: &[u8], from: usize) -> Result<Option<Token>, Fault>
@@ -40,21 +41,68 @@ pub fn next_token(text: &[u8], from: usize) -> Result<Option<Token>, Fault>
     }
 }
 
-/// All tokens of a text in order, or its first fault.
-pub fn tokens(alloc: Global, text: &[u8]) -> Result<Vec<Token>, Stop>
-    ensures tokens { IfOk result (λ tokens. HasTokens text.now tokens.items) }
+// No token begins here.
+fn nothing(at: usize) -> Token
+    ensures { result ≡ token_of at End }
+{
+    Token {
+        kind: Kind::Name,
+        start: at,
+        end: at,
+    }
+}
+
+/// The token that begins at a place; an empty name where none does.
+pub fn token_at(text: &[u8], at: usize) -> Token
+    ensures { result ≡ token_at text.now at }
+{
+    if text.len() < at {
+        return nothing(at);
+    }
+    match stands_at(text, at) {
+        Stand::Lexeme(kind, count) => Token {
+            kind,
+            start: at,
+            end: at + count,
+        },
+        Stand::End => nothing(at),
+        Stand::Gap(_) => nothing(at),
+        Stand::Wrong(_, _) => nothing(at),
+    }
+}
+
+// A start of more than 32 bits has no room.
+fn push_start(starts: &mut Vec<u32>, start: usize) -> Result<(), AllocError>
+    ensures { OnOk result (starts.new.items ≡ starts.old.items ++ start ∷ []) }
+{
+    let start = match u32::try_from(start) {
+        Err(_) => return Err(AllocError),
+        Ok(start) => start,
+    };
+    match starts.push(start) {
+        Err(_) => Err(AllocError),
+        Ok(()) => Ok(()),
+    }
+}
+
+/// The places where the tokens of a text begin, in order, or its first fault.
+///
+/// # Errors
+/// The first fault of the tokens. `NoMemory` is free; so it is where a token begins behind 2^32 bytes.
+pub fn starts(alloc: Global, text: &[u8]) -> Result<Vec<u32>, Stop>
+    ensures tokens { IfOk result (λ starts. HasTokens text.now (tokens_at text.now starts.items)) }
     ensures refused { IfErr result (RefusesTokens text.now) }
-    ensures order { IfOk result (λ tokens. AreBetween 0 tokens.items (length text.now)) }
+    ensures order { IfOk result (λ starts. AreBetween 0 (tokens_at text.now starts.items) (length text.now)) }
     ensures place { IfErr result (StopsWithin (length text.now)) }
 {
-    let mut tokens = Vec::new(alloc);
+    let mut starts = Vec::new(alloc);
     let mut at = 0;
     loop {
         match next_token(text, at) {
-            Ok(None) => return Ok(tokens),
+            Ok(None) => return Ok(starts),
             Ok(Some(token)) => {
                 at = token.end;
-                match tokens.push(token) {
+                match push_start(&mut starts, token.start) {
                     Ok(()) => {}
                     Err(_) => return Err(Stop::NoMemory),
                 }

@@ -62,7 +62,7 @@ const REFUSED: [(&str, FaultKind, u64, u64); 32] = [
 
 /// How many tokens a text has.
 fn count(rt: &HostRuntime, text: &str) -> Option<usize> {
-    match tokens(rt.alloc(), text.as_bytes()) {
+    match starts(rt.alloc(), text.as_bytes()) {
         Ok(found) => Some(found.len()),
         Err(_) => None,
     }
@@ -70,7 +70,7 @@ fn count(rt: &HostRuntime, text: &str) -> Option<usize> {
 
 /// The fault of a text, and where it stands.
 fn fault_of(rt: &HostRuntime, text: &str) -> Option<(FaultKind, Place)> {
-    match tokens(rt.alloc(), text.as_bytes()) {
+    match starts(rt.alloc(), text.as_bytes()) {
         Err(Stop::Refused(fault)) => Some((fault.kind, position(text.as_bytes(), fault.place))),
         _ => None,
     }
