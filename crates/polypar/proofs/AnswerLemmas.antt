@@ -24,8 +24,6 @@ use Rattle.polypar.specs.Case.{Accepted, asked_text}
 use Rattle.polypar.specs.Deserves.{DeservesInput, Deserves}
 use Rattle.report_text.specs.StatusText.{status_text}
 use Rattle.polypar.specs.Answers.{AnswersInput, AnswersWords, IsReadOn, TellsStatus}
-use Rattle.scop_parser.specs.Spelling.{SpellsProgram}
-use Rattle.polypar.specs.Cut.{kernel_part}
 use Rattle.polypar.specs.Answered.{Prints, PrintsFront, IsDeserved, NamesOf, GainsLine, NoneRose, HasRoomForText}
 use Rattle.polypar.specs.Answered.{Answered}
 
@@ -105,15 +103,6 @@ pub lent_program : (lent : Option (Bor Kernel)) (kernel : Option Kernel) → opt
     → option_map (λ k. program_of k.now) lent ≡ option_map program_of kernel
 lent_program None kernel is = ap (option_map program_of) is
 lent_program (Some k) kernel is = ap (option_map program_of) is
-
--- the names of what was read of an input are those of what was read of its source
-pub names_of_source : (left : Option (List ℕ)) (input : List ℕ) (status : Status) (named : Option Program)
-    → IsAllOf left input
-    → NamesOf (Some input) status named → NamesOf left status named
-names_of_source left input status (Some program) whole names =
-    (input, whole, subst (λ i. SpellsProgram (kernel_part i) program) (sym names.1) names.2)
-names_of_source left input (BadData refusal) None whole names = names
-names_of_source left input _ None whole names = tt
 
 -- ---- what a call answers
 

@@ -1,5 +1,6 @@
 -- A text spells one program at most, and none where it has a fault.
-use Rattle.std.proofs.Common.{◌≡◌, ℕ, List, [], ◌∷◌, ◌++◌, Bool, true, false, refl, sym, ap, subst, ◌∙◌, append_assoc, arith}
+use Rattle.std.proofs.Common.{◌≡◌, ℕ, List, [], ◌∷◌, ◌++◌, Bool, true, false, refl, sym, ap, subst, ◌∙◌, append_assoc}
+use Rattle.std.proofs.Common.{arith}
 use Rattle.std.specs.Prelude.{◌⊎◌, if◌then◌else◌, Option, Some, None}
 use Rattle.std.proofs.Common.{inl, inr}
 use Rattle.scop_lexer.specs.Bytes.{Text}
@@ -13,21 +14,23 @@ use Rattle.expression_grammar.specs.Machine.{told_at}
 use Rattle.kernel_grammar.specs.Kernel.{IsFront}
 use Rattle.kernel_grammar.specs.declared.table.Want.{Want}
 use Rattle.kernel_grammar.specs.declared.table.Want.TheVariants as want
-use Rattle.kernel_grammar.specs.Machine.{Spot, first_spot, End, goes_on, stopped_at, deep_at, run as run_machine, whole as whole_answer, answer as machine_answer}
+use Rattle.kernel_grammar.specs.Machine.{Spot, first_spot, End, goes_on, stopped_at, deep_at, run as run_machine}
+use Rattle.kernel_grammar.specs.Machine.{whole as whole_answer, answer as machine_answer}
 use Rattle.kernel_grammar.specs.Answers.{IsAnswer}
 use Rattle.kernel_grammar.proofs.Reading.{one_reading, read_answers}
 use Rattle.kernel_grammar.proofs.Wider.{stop-misplaced}
 use Rattle.scop_syntax.specs.Tree.{Program}
 use Rattle.scop_roles.specs.declared.fault.Fault.{Fault}
 use Rattle.scop_roles.specs.Faults.{first, first_of, precedes}
-use Rattle.scop_parser.specs.Words.{words_of, grammar_tokens}
-use Rattle.scop_parser.specs.Judging.{faults_of}
-use Rattle.scop_parser.specs.Programs.{program_of}
-use Rattle.scop_parser.specs.Machine.{first_state, run, program_at}
+use Rattle.scop_units.specs.Words.{start_of, words_of, grammar_tokens}
+use Rattle.scop_units.specs.Judging.{faults_of}
+use Rattle.scop_units.specs.Programs.{program_of}
+use Rattle.scop_pass.specs.Machine.{first_state, run, program_at}
 use Rattle.scop_parser.specs.declared.refusal.RefusalKind.{RefusalKind}
 use Rattle.scop_parser.specs.declared.refusal.RefusalKind.TheVariants as refusal
-use Rattle.scop_parser.specs.Spelling.{IsText, SpellsProgram, token_kind, judged_kind, start_of, IsGrammarFault, HasGrammarFault, IsFirstFault}
-use Rattle.scop_parser.proofs.Kernels.{run-faults, run-program}
+use Rattle.scop_parser.specs.Spelling.{IsText, SpellsProgram, token_kind, judged_kind, IsGrammarFault, HasGrammarFault}
+use Rattle.scop_parser.specs.Spelling.{IsFirstFault}
+use Rattle.scop_pass.proofs.Kernels.{run-faults, run-program}
 
 -- all kernels of a text have the same pieces
 pub same-pieces : (text : Text) (ts : List Token) (k l : Kernel) → IsText text ts k → IsText text ts l

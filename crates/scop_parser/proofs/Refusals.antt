@@ -1,5 +1,6 @@
 -- A text has one first fault at most.
-use Rattle.std.proofs.Common.{◌≡◌, ℕ, ◌+◌, List, [], ◌∷◌, ◌++◌, length, sym, ap, subst, ◌∙◌, append_assoc, arith, inl, inr}
+use Rattle.std.proofs.Common.{◌≡◌, ℕ, ◌+◌, List, [], ◌∷◌, ◌++◌, length, sym, ap, subst, ◌∙◌, append_assoc, arith, inl}
+use Rattle.std.proofs.Common.{inr}
 use Rattle.std.specs.Prelude.{Some, take}
 use Rattle.scop_lexer.specs.Bytes.{Text}
 use Rattle.scop_lexer.specs.Lines.{line_behind, column_behind}
@@ -14,9 +15,9 @@ use Rattle.scop_roles.specs.declared.fault.Fault.{Fault}
 use Rattle.scop_roles.specs.Faults.{first}
 use Rattle.scop_parser.specs.declared.refusal.Refusal.{Refusal}
 use Rattle.scop_parser.specs.declared.refusal.RefusalKind.{RefusalKind}
-use Rattle.scop_parser.specs.Words.{words_of, grammar_tokens}
-use Rattle.scop_parser.specs.Judging.{faults_of}
-use Rattle.scop_parser.specs.Spelling.{IsText, token_kind, judged_kind, start_of, IsGrammarFault, IsFirstFault, IsRefusedAs}
+use Rattle.scop_units.specs.Words.{start_of, words_of, grammar_tokens}
+use Rattle.scop_units.specs.Judging.{faults_of}
+use Rattle.scop_parser.specs.Spelling.{IsText, token_kind, judged_kind, IsGrammarFault, IsFirstFault, IsRefusedAs}
 use Rattle.scop_parser.proofs.Fronts.{front-more, front-shorter, one-break, one-split}
 use Rattle.scop_parser.proofs.Once.{no-kernel, same-faults}
 

@@ -1,12 +1,15 @@
--- The constants of a text have 64 bits, and the program that it spells is a kernel within the limits.
-use Rattle.std.proofs.Common.{◌≡◌, ℕ, zero, suc, ◌-◌, ◌^◌, ◌<◌, ◌≤◌, Bool, true, false, ◌&&◌, if◌then◌else◌, ◌==◌, List, [], ◌∷◌, length, take, drop, get_or, codes, refl, sym, subst, arith, nat_le, nat_lt, slice_get, bytes_eq}
+-- The constants of a text have 64 bits.
+use Rattle.std.proofs.Common.{◌≡◌, ℕ, zero, suc, ◌-◌, ◌^◌, ◌<◌, ◌≤◌, Bool, true, false, ◌&&◌, if◌then◌else◌, ◌==◌, List}
+use Rattle.std.proofs.Common.{[], ◌∷◌, length, take, drop, get_or, codes, refl, subst, arith, nat_le, nat_lt, slice_get}
+use Rattle.std.proofs.Common.{bytes_eq}
 use Rattle.std.specs.Prelude.{Option, Some, None, ⊤}
 use Rattle.std.specs.List.{list_any, prefix_len, take_while}
-use Rattle.std.proofs.lemmas.Bool.{leb-true}
+use Rattle.std.proofs.lemmas.Bool.{and_parts, leb-true}
 use Rattle.std.proofs.lemmas.Bool.Decides.{nat_tests}
 use Rattle.scop_lexer.specs.Bytes.{Text, is_blank, is_letter, is_digit, is_fresh}
 use Rattle.scop_lexer.specs.Words.{other_keywords, kind_of_word, word_stands}
-use Rattle.scop_lexer.specs.Constants.{is_hex_digit, number_behind, is_suffix, with_suffix, constant_in, is_hexadecimal, is_octal, constant_of, numeral_stands_as, numeral_stands}
+use Rattle.scop_lexer.specs.Constants.{is_hex_digit, number_behind, is_suffix, with_suffix, constant_in, is_hexadecimal}
+use Rattle.scop_lexer.specs.Constants.{is_octal, constant_of, numeral_stands_as, numeral_stands}
 use Rattle.scop_lexer.specs.Gaps.{close, comment_stands_as, comment_stands, is_directive, line_of, hash_stands}
 use Rattle.scop_lexer.specs.Signs.{single, with_equal, doubled, doubled_with_equal, sign_or, sign_stands}
 use Rattle.scop_lexer.specs.Stands.{word_of, slash_stands, stands, stands_at}
@@ -18,13 +21,7 @@ use Rattle.scop_lexer.specs.declared.token.Kind.{Kind}
 use Rattle.scop_lexer.specs.declared.token.Kind.TheVariants as kind
 use Rattle.scop_lexer.specs.declared.token.Punctuator.{Punctuator}
 use Rattle.scop_lexer.specs.declared.token.Token.{Token}
-use Rattle.scop_syntax.specs.Kernel.{IsKernel}
-use Rattle.scop_syntax.specs.Tree.{Program}
-use Rattle.scop_parser.specs.Spelling.{SpellsProgram}
-use Rattle.scop_parser.specs.Words.{worth_of_kind, worth_of, words_of}
-use Rattle.scop_parser.proofs.Standing.{RoleLaws, both_true}
-use Rattle.scop_parser.proofs.Nested.{HasWorth}
-use Rattle.scop_parser.proofs.Declaring.{kernel_stands}
+use Rattle.scop_units.specs.Words.{worth_of_kind, worth_of, words_of, HasWorth}
 
 abbrev IsSmall : Kind → Type 0
 IsSmall k = worth_of_kind k < 2 ^ 64
@@ -84,7 +81,7 @@ suffix_small limit value [] h =
     (λ e. upto_below value limit (2 ^ 64) (leb-true value limit e) h) tt
 suffix_small limit value (b ∷ bs) h =
     option_if (is_suffix (b ∷ bs) && nat_lt value (2 ^ 64)) (Some (kind.Constant value true)) None
-    (λ e. is_below value (2 ^ 64) (both_true (is_suffix (b ∷ bs)) (nat_lt value (2 ^ 64)) e).1) tt
+    (λ e. is_below value (2 ^ 64) (and_parts (is_suffix (b ∷ bs)) (nat_lt value (2 ^ 64)) e).1) tt
 
 in_small : (base : ℕ) (test : ℕ → Bool) (limit : ℕ) (w : Text) → limit < 2 ^ 64
     → MayBeSmall (constant_in base test limit w)
@@ -170,9 +167,3 @@ tokens_small text from to (t ∷ ts) (suc at) h = tokens_small text t.end to ts 
 -- so has what a place among the tokens of a text is worth
 pub has_worth : (text : Text) (ts : List Token) → HasTokens text ts → HasWorth (words_of text ts)
 has_worth text ts h at = tokens_small text 0 (length text) ts at h
-
--- by what roles promise, the program that a text spells is a kernel within the limits
-pub spelled_stands : RoleLaws → (text : Text) (p : Program) → SpellsProgram text p → IsKernel p
-spelled_stands laws text p x =
-    let worth = has_worth text x.tokens x.is_text.has in
-    subst IsKernel (sym x.stands) (kernel_stands laws (words_of text x.tokens) x.kernel worth x.faultless)

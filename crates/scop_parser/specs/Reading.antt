@@ -2,13 +2,15 @@
 use Rattle.std.specs.Prelude.{List, ⊤}
 use Rattle.scop_lexer.specs.Bytes.{Text}
 use Rattle.scop_lexer.specs.declared.token.Token.{Token}
-use Rattle.kernel_grammar.specs.Kernel.{Kernel}
-use Rattle.scop_parser.specs.declared.pass.Stop.{Stop as PassStop}
+use Rattle.kernel_grammar.specs.Kernel.{Kernel, Spells}
+use Rattle.scop_pass.specs.declared.pass.Stop.{Stop as PassStop}
 use Rattle.scop_parser.specs.declared.reader.ReadKernelError.{ReadKernelError}
 use Rattle.scop_parser.specs.declared.reader.ReadKernelError.TheVariants.{Refused, NoMemory}
-use Rattle.scop_parser.specs.Words.{words_of}
-use Rattle.scop_parser.specs.Judging.{faults_of}
-use Rattle.scop_parser.specs.Passing.{Tells}
+use Rattle.scop_units.specs.Words.{words_of, grammar_tokens}
+use Rattle.scop_units.specs.declared.words.Words.{Words}
+use Rattle.scop_units.specs.View.{tokens_in}
+use Rattle.scop_units.specs.Judging.{faults_of}
+use Rattle.scop_pass.specs.Passing.{Tells}
 use Rattle.scop_parser.specs.Spelling.{IsText, IsRefusedAs}
 
 -- the text's first fault is told; of memory nothing is said
@@ -21,3 +23,7 @@ pub record TellsKernel (text : Text) (tokens : List Token) (stop : PassStop) : T
   pub kernel : Kernel
   pub is_text : IsText text tokens kernel
   pub first : Tells stop (faults_of (words_of text tokens) kernel)
+
+-- the words are those of a kernel of the grammar
+abbrev pub IsGrammatical : Words → Type 0
+IsGrammatical words = (k : Kernel) × Spells 64 256 (grammar_tokens (tokens_in words)) k

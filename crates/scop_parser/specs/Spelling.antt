@@ -1,5 +1,5 @@
 -- Which program a text spells, and which fault it is refused for.
-use Rattle.std.specs.Prelude.{◌≡◌, ◌⊎◌, ℕ, List, [], take, length, slice_get, Option, Some, None}
+use Rattle.std.specs.Prelude.{◌≡◌, ◌⊎◌, ℕ, List, [], take, Some}
 use Rattle.scop_syntax.specs.Tree.{Program}
 use Rattle.scop_lexer.specs.Bytes.{Text}
 use Rattle.scop_lexer.specs.Lines.{line_behind, column_behind}
@@ -18,9 +18,9 @@ use Rattle.scop_roles.specs.Faults.{first}
 use Rattle.scop_parser.specs.declared.refusal.Refusal.{Refusal}
 use Rattle.scop_parser.specs.declared.refusal.RefusalKind.{RefusalKind}
 use Rattle.scop_parser.specs.declared.refusal.RefusalKind.TheVariants as kind
-use Rattle.scop_parser.specs.Words.{words_of, grammar_tokens}
-use Rattle.scop_parser.specs.Judging.{faults_of}
-use Rattle.scop_parser.specs.Programs.{program_of}
+use Rattle.scop_units.specs.Words.{words_of, grammar_tokens, start_of}
+use Rattle.scop_units.specs.Judging.{faults_of}
+use Rattle.scop_units.specs.Programs.{program_of}
 
 -- the tokens of the text are a kernel of the grammar, with at most 64 brackets open and 256 operators
 pub record IsText (text : Text) (tokens : List Token) (kernel : Kernel) : Type 0 where
@@ -59,14 +59,6 @@ judged_kind judged.Statements = kind.Statements
 judged_kind judged.Arrays = kind.Arrays
 judged_kind judged.Parameters = kind.Parameters
 judged_kind judged.Reads = kind.Reads
-
--- the byte where a token begins; behind the last the text's end
-abbrev pub start_or : ℕ → Option Token → ℕ
-start_or n (Some t) = t.start
-start_or n None = n
-
-abbrev pub start_of : Text → List Token → ℕ → ℕ
-start_of text tokens at = start_or (length text) (slice_get tokens at)
 
 -- the first fault of the text's tokens
 pub record HasTokenFault (text : Text) (k : RefusalKind) (at : ℕ) : Type 0 where

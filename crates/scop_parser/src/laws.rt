@@ -1,24 +1,14 @@
 //! Laws of texts and programs, as contracts of functions that do nothing.
-ghost use Rattle.std.specs.Prelude.{◌≡◌, ◌⊎◌, ◌++◌, ◌∷◌, ℕ, List, Some};
-ghost use Rattle.kernel_grammar.specs.Kernel.{Kernel, KernelFits, Piece, kernel_elements, mark_at, pieces};
-ghost use Rattle.kernel_grammar.specs.declared.part.Mark.{Mark};
-ghost use Rattle.scop_roles.specs.declared.fault.Fault.{Fault};
-ghost use Rattle.scop_roles.specs.Faults.{first};
-ghost use Rattle.scop_parser.specs.Words.{Words};
-ghost use Rattle.scop_parser.specs.Judging.{faults_of};
-ghost use Rattle.scop_parser.specs.Names.{HasDistinctNames};
-ghost use Rattle.scop_parser.specs.Machine.{first_state, run, settled};
+ghost use Rattle.std.specs.Prelude.{◌≡◌, ◌⊎◌, ℕ};
 ghost use Rattle.scop_lexer.specs.Bytes.{Text};
 ghost use Rattle.scop_syntax.specs.Kernel.{IsKernel};
 ghost use Rattle.scop_syntax.specs.Tree.{Program};
+ghost use Rattle.scop_units.specs.Names.{HasDistinctNames};
 ghost use Rattle.scop_parser.specs.declared.refusal.Refusal.{Refusal};
 ghost use Rattle.scop_parser.specs.declared.refusal.RefusalKind.{RefusalKind};
 ghost use Rattle.scop_parser.specs.Spelling.{IsFirstFault, IsRefusedAs, SpellsProgram};
 
-use scop_roles::laws::{
-    faultless_formulas_are_within_limits, faults_stand_within, first_faults_join,
-    formulas_are_in_scope,
-};
+use scop_units::laws::faultless_kernels_are_within_limits;
 
 /// A text spells one program at most.
 pub fn texts_spell_one_program()
@@ -45,32 +35,10 @@ pub fn texts_have_one_first_fault()
         → IsRefusedAs text refusal → IsRefusedAs text other → refusal ≡ other }
 {}
 
-/// A pass over a kernel's pieces may stop where it has found a fault: the first so far is the first of all.
-pub fn passes_may_stop_at_a_fault()
-    ensures { (words : Words) (kernel : Kernel) (front rest : List Piece) (fault : Fault)
-        → KernelFits 64 256 kernel → pieces 0 (kernel_elements kernel) ≡ front ++ rest
-        → first (run words first_state front).faults ≡ Some fault → first (faults_of words kernel) ≡ Some fault }
-{
-    first_faults_join();
-    faults_stand_within();
-}
-
-/// The same where a pass judges an array that the next sign completes, before it goes on with the sign.
-pub fn passes_may_stop_at_an_array()
-    ensures { (words : Words) (kernel : Kernel) (front rest : List Piece) (mark : Mark) (at : ℕ) (fault : Fault)
-        → KernelFits 64 256 kernel → pieces 0 (kernel_elements kernel) ≡ front ++ mark_at mark at ∷ rest
-        → first (settled words (run words first_state front)).faults ≡ Some fault
-        → first (faults_of words kernel) ≡ Some fault }
-{
-    first_faults_join();
-    faults_stand_within();
-}
-
 /// The program that a text spells is a kernel within the limits, whose names are distinct.
 pub fn spelled_programs_are_kernels()
     ensures kernel { (text : Text) (p : Program) → SpellsProgram text p → IsKernel p }
     ensures names { (text : Text) (p : Program) → SpellsProgram text p → HasDistinctNames p }
 {
-    formulas_are_in_scope();
-    faultless_formulas_are_within_limits();
+    faultless_kernels_are_within_limits();
 }

@@ -1,26 +1,29 @@
 //! The text of a kernel as its tree, or its first fault: of its tokens, then of the grammar, then of the kernel that
-//! they spell.
-ghost use Rattle.std.specs.Prelude.{◌≡◌, ◌≤◌, ◌^◌, IfErr, IfOk, length};
-ghost use Rattle.kernel_grammar.specs.Answers.{IsRead};
-ghost use Rattle.kernel_grammar.specs.Turns.{IsStop, pieces_of};
-ghost use Rattle.scop_lexer.specs.Tokens.{AreBetween, HasTokens, RefusesTokens, StopsWithin};
+//! they spell. Of the tokens only their starts are kept, of the kernel's parts one at a time: the tokens are read again
+//! by the grammar, and once more with each part judged.
+ghost use Rattle.std.specs.Prelude.{◌≡◌, ◌≤◌, IfErr, IfOk, length};
+ghost use Rattle.kernel_grammar.specs.Kernel.{Kernel as GrammarKernel, Spells};
+ghost use Rattle.kernel_grammar.specs.Turns.{IsStop};
+ghost use Rattle.scop_lexer.specs.Tokens.{AreBetween, HasTokens, RefusesTokens, StopsWithin, token_at};
 ghost use Rattle.scop_syntax.specs.Kernel.{IsKernel};
 ghost use Rattle.scop_syntax.specs.View.{program_of};
-ghost use Rattle.scop_parser.specs.Names.{HasDistinctNames};
-ghost use Rattle.scop_parser.specs.Reading.{RefusesText, TellsKernel};
+ghost use Rattle.scop_units.specs.Names.{HasDistinctNames};
+ghost use Rattle.scop_units.specs.View.{tokens_in, words_in};
+ghost use Rattle.scop_units.specs.Words.{grammar_token, grammar_tokens};
+ghost use Rattle.scop_pass.specs.Passing.{Judges};
+ghost use Rattle.scop_parser.specs.Reading.{IsGrammatical, RefusesText, TellsKernel};
 ghost use Rattle.scop_parser.specs.Spelling.{IsFirstFault, SpellsProgram, judged_kind, token_kind};
-ghost use Rattle.scop_parser.specs.Words.{grammar_tokens};
 
 use crate::laws::spelled_programs_are_kernels;
-use crate::pass::{Stop as PassStop, judged};
 use crate::refusal::{Refusal, RefusalKind};
-use crate::words::{Words, grammar_tokens};
 use expression_grammar::reader::Stop as GrammarStop;
 use expression_grammar::token::Token;
-use kernel_grammar::reader::{Text, read};
-use scop_lexer::{FaultKind, Stop as TokenStop, position, tokens};
+use kernel_grammar::reader::KernelReader;
+use scop_lexer::{FaultKind, Stop as TokenStop, position, starts, token_at};
+use scop_pass::pass::{Pass, Stop as PassStop};
 use scop_roles::fault::Kind;
 use scop_syntax::tree::Kernel;
+use scop_units::words::{Words, grammar_token};
 use std::alloc::Global;
 
 /// Why there is no kernel.
@@ -92,9 +95,9 @@ fn token_stop(text: &[u8], stop: TokenStop) -> ReadKernelError
 }
 
 fn grammar_stop(words: &Words, stop: GrammarStop) -> ReadKernelError
-    requires tokens { HasTokens words.now.text.now words.now.tokens.now }
-    requires order { AreBetween 0 words.now.tokens.now (length words.now.text.now) }
-    requires fault { IsStop 64 256 (grammar_tokens words.now.tokens.now) stop }
+    requires tokens { HasTokens words.now.text.now (tokens_in words.now) }
+    requires order { AreBetween 0 (tokens_in words.now) (length words.now.text.now) }
+    requires fault { IsStop 64 256 (grammar_tokens (tokens_in words.now)) stop }
     ensures { RefusesText words.now.text.now result }
 {
     match stop {
@@ -106,8 +109,8 @@ fn grammar_stop(words: &Words, stop: GrammarStop) -> ReadKernelError
 }
 
 fn judged_stop(words: &Words, stop: PassStop) -> ReadKernelError
-    requires order { AreBetween 0 words.now.tokens.now (length words.now.text.now) }
-    requires fault { TellsKernel words.now.text.now words.now.tokens.now stop }
+    requires order { AreBetween 0 (tokens_in words.now) (length words.now.text.now) }
+    requires fault { TellsKernel words.now.text.now (tokens_in words.now) stop }
     ensures { RefusesText words.now.text.now result }
 {
     match stop {
@@ -120,31 +123,71 @@ fn judged_stop(words: &Words, stop: PassStop) -> ReadKernelError
     }
 }
 
-// The parts of the kernel that tokens spell.
-fn parts(alloc: Global, tokens: &[Token]) -> Result<Text, GrammarStop>
-    ensures text { IfOk result (λ t. IsRead 64 256 tokens.now (pieces_of t.parts.items)) }
-    ensures stop { IfErr result (IsStop 64 256 tokens.now) }
-    ensures few { length tokens.now ≤ 2 ^ 63 }
+// The token that begins at a start, as the grammar sees it.
+fn seen(words: &Words, start: u32) -> Token
+    ensures { result ≡ grammar_token (token_at words.now.text.now start).kind }
 {
-    read(alloc, tokens)
+    grammar_token(token_at(words.text, start as usize).kind)
+}
+
+// Whether the tokens spell a kernel: its parts are thrown away as they come.
+fn recognized(alloc: Global, words: &Words) -> Result<(), GrammarStop>
+    ensures kernel { IfOk result (λ _. IsGrammatical words.now) }
+    ensures stop { IfErr result (IsStop 64 256 (grammar_tokens (tokens_in words.now))) }
+{
+    let mut reader = KernelReader::new(alloc);
+    for start in words.starts {
+        match reader.feed(alloc, seen(words, *start)) {
+            Err(stop) => return Err(stop),
+            Ok(()) => {}
+        }
+        let _parts = reader.take_parts(alloc);
+    }
+    match reader.finish() {
+        Err(stop) => return Err(stop),
+        Ok(_) => {}
+    }
+    Ok(())
+}
+
+// The tree of a kernel that the tokens spell, or its first fault: each part is judged and dropped as it comes. All
+// tokens fit, so that a stop of the grammar is want of memory.
+fn judged(alloc: Global, words: &Words) -> Result<Kernel, PassStop>
+    requires { IsGrammatical words.now }
+    ensures { (k : GrammarKernel) → Spells 64 256 (grammar_tokens (tokens_in words.now)) k
+        → Judges result (words_in words.now) k }
+{
+    let mut reader = KernelReader::new(alloc);
+    let mut pass = Pass::new(alloc);
+    for start in words.starts {
+        match reader.feed(alloc, seen(words, *start)) {
+            Err(_) => return Err(PassStop::NoMemory),
+            Ok(()) => {}
+        }
+        match pass.take(alloc, words, &reader.take_parts(alloc)) {
+            Err(stop) => return Err(stop),
+            Ok(()) => {}
+        }
+    }
+    let kernel = match pass.finish(alloc) {
+        Err(_) => return Err(PassStop::NoMemory),
+        Ok(kernel) => kernel,
+    };
+    Ok(kernel)
 }
 
 // The kernel that a text's tokens spell.
 fn spelled(alloc: Global, words: &Words) -> Result<Kernel, ReadKernelError>
-    requires tokens { HasTokens words.now.text.now words.now.tokens.now }
-    requires order { AreBetween 0 words.now.tokens.now (length words.now.text.now) }
+    requires tokens { HasTokens words.now.text.now (tokens_in words.now) }
+    requires order { AreBetween 0 (tokens_in words.now) (length words.now.text.now) }
     ensures spells { IfOk result (λ kernel. SpellsProgram words.now.text.now (program_of kernel)) }
     ensures refused { IfErr result (RefusesText words.now.text.now) }
 {
-    let seen = match grammar_tokens(alloc, words.tokens) {
-        Err(_) => return Err(ReadKernelError::NoMemory),
-        Ok(seen) => seen,
-    };
-    let parsed = match parts(alloc, &seen) {
+    match recognized(alloc, words) {
         Err(stop) => return Err(grammar_stop(words, stop)),
-        Ok(parsed) => parsed,
-    };
-    match judged(alloc, words, &parsed.parts) {
+        Ok(()) => {}
+    }
+    match judged(alloc, words) {
         Err(stop) => Err(judged_stop(words, stop)),
         Ok(kernel) => Ok(kernel),
     }
@@ -161,13 +204,13 @@ pub fn read_kernel(alloc: Global, text: &[u8]) -> Result<Kernel, ReadKernelError
     ensures refused { IfErr result (RefusesText text.now) }
 {
     spelled_programs_are_kernels();
-    let lexemes = match tokens(alloc, text) {
+    let starts = match starts(alloc, text) {
         Err(stop) => return Err(token_stop(text, stop)),
-        Ok(lexemes) => lexemes,
+        Ok(starts) => starts,
     };
     let words = Words {
         text,
-        tokens: &lexemes,
+        starts: &starts,
     };
     spelled(alloc, &words)
 }

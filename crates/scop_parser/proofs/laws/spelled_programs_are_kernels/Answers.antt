@@ -1,19 +1,17 @@
-use Rattle.scop_parser.proofs.Names.{spelled_names}
-use Rattle.scop_parser.proofs.Worth.{spelled_stands}
+use Rattle.std.proofs.Common.{sym, subst}
+use Rattle.scop_syntax.specs.Kernel.{IsKernel}
+use Rattle.scop_units.specs.Names.{HasDistinctNames}
+use Rattle.scop_units.specs.Words.{words_of}
+use Rattle.scop_parser.proofs.Worth.{has_worth}
 use Rattle.scop_parser.proofs.laws.spelled_programs_are_kernels.Goals as goal
 
 pub returns : goal.returns
 returns c =
-    let limits = c.faultless_formulas_are_within_limits.ensures in
+    let law = c.faultless_kernels_are_within_limits.ensures in
     record {
-      kernel = spelled_stands
-          (record {
-            in_scope = c.formulas_are_in_scope.ensures;
-            affine = limits.affine;
-            value = limits.value;
-            cell = limits.place;
-            condition = λ n f e. (limits.some n f e, limits.condition n f e);
-            reads = limits.reads;
-          });
-      names = spelled_names;
+      kernel = λ text p x.
+          let worth = has_worth text x.tokens x.is_text.has in
+          subst IsKernel (sym x.stands) (law.kernel (words_of text x.tokens) x.kernel worth x.faultless);
+      names = λ text p x.
+          subst HasDistinctNames (sym x.stands) (law.names (words_of text x.tokens) x.kernel x.faultless);
     }

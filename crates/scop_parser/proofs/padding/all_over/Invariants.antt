@@ -1,8 +1,0 @@
--- What is made, and what is to come.
-use Rattle.std.proofs.Common.{◌≡◌, ◌++◌, drop, map}
-use Rattle.scop_parser.specs.Units.{declared_over}
-use Rattle.scop_parser.proofs.padding.all_over.Given as goal
-
-abbrev pub invariant-loop-array : goal.invariant-loop-array
-invariant-loop-array l =
-    l.made.items ++ map (declared_over l.count) (drop l.array-index l.arrays) ≡ map (declared_over l.count) l.arrays

@@ -1,8 +1,0 @@
--- What is made, and what is to come.
-use Rattle.std.proofs.Common.{◌≡◌, ◌++◌, drop, map}
-use Rattle.scop_parser.specs.Units.{padded}
-use Rattle.scop_parser.proofs.padding.padded_all.Given as goal
-
-abbrev pub invariant-loop-form : goal.invariant-loop-form
-invariant-loop-form l =
-    l.made.items ++ map (padded l.count) (drop l.form-index l.forms) ≡ map (padded l.count) l.forms

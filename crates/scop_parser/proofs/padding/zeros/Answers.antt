@@ -1,6 +1,0 @@
-use Rattle.std.proofs.Common.{rules, sym}
-use Rattle.scop_parser.proofs.Around.{replicate_zeros}
-use Rattle.scop_parser.proofs.padding.zeros.Goals as goal
-
-pub returns : goal.returns
-returns c = rw (sym (replicate_zeros c.args.count)) (search rules)

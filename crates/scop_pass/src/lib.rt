@@ -1,0 +1,9 @@
+//! The pass over a kernel's parts, one by one: it stops at the first unit with a fault, which is the kernel's first, or
+//! leaves the kernel's tree. `specs/Machine` is the same pass over pieces, which goes on behind faults.
+//! Static-control parts: P. Feautrier, "Dataflow analysis of array and scalar references" (1991).
+#![tactic(auto)]
+
+mod frames;
+mod hand;
+pub mod laws;
+pub mod pass;

@@ -1,0 +1,8 @@
+pub mod Words
+pub mod Scopes
+pub mod Loops
+pub mod Units
+pub mod Judging
+pub mod Programs
+pub mod Names
+pub mod View

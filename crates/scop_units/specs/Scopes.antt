@@ -1,0 +1,111 @@
+-- Names in scope, and what a name means: parameters and arrays that are declared before, the iterators that are
+-- declared at the start, and those of the open loops. C17 6.2.1, without hiding: no name is declared twice.
+use Rattle.std.specs.Prelude.{ℕ, ◌+◌, Bool, true, false, ◌||◌, if◌then◌else◌, List, [], ◌∷◌, ◌++◌, length, take, codes}
+use Rattle.std.specs.Prelude.{Option, Some, None}
+use Rattle.std.specs.Str.{bytes_eq}
+use Rattle.scop_lexer.specs.Bytes.{Text}
+use Rattle.scop_roles.specs.declared.fault.Kind.{Kind}
+use Rattle.scop_roles.specs.declared.fault.Kind.TheVariants as kind
+use Rattle.scop_roles.specs.declared.formula.Meaning.{Meaning}
+use Rattle.scop_roles.specs.declared.formula.Meaning.TheVariants as meaning
+use Rattle.scop_roles.specs.Formula.{Lookup}
+use Rattle.scop_roles.specs.Faults.{only_where}
+use Rattle.scop_units.specs.Words.{Words}
+
+-- an array: its name, and how many extents it has
+pub record Ranked : Type 0 where
+  pub name : Text
+  pub rank : ℕ
+
+pub record Scope : Type 0 where
+  pub parameters : List Text
+  pub arrays : List Ranked
+  -- iterators declared at the start
+  pub declared : List Text
+  -- the iterators of the open loops, outermost first
+  pub open_loops : List Text
+
+abbrev pub no_scope : Scope
+no_scope = record { parameters = []; arrays = []; declared = []; open_loops = [] }
+
+abbrev pub with_parameter : Scope → Text → Scope
+with_parameter s w = record s { parameters = s.parameters ++ w ∷ [] }
+
+abbrev pub with_array : Scope → Text → ℕ → Scope
+with_array s w r = record s { arrays = s.arrays ++ record { name = w; rank = r } ∷ [] }
+
+abbrev pub with_iterator : Scope → Text → Scope
+with_iterator s w = record s { declared = s.declared ++ w ∷ [] }
+
+-- within a loop of this iterator
+abbrev pub with_loop : Scope → Text → Scope
+with_loop s w = record s { open_loops = s.open_loops ++ w ∷ [] }
+
+-- the entries of a point: the parameters so far, then the open loops
+abbrev pub entries : Scope → ℕ
+entries s = length s.parameters + length s.open_loops
+
+-- the number of a name in a list whose first has number k
+abbrev pub number_from : ℕ → Text → List Text → Option ℕ
+number_from k w [] = None
+number_from k w (v ∷ vs) = if bytes_eq v w then Some k else number_from (k + 1) w vs
+
+abbrev pub number_of : Text → List Text → Option ℕ
+number_of w names = number_from 0 w names
+
+-- the number of a word among the open loops and, behind them, a loop of this iterator
+abbrev pub number_or : Option ℕ → Option ℕ → Option ℕ
+number_or (Some k) other = Some k
+number_or None other = other
+
+abbrev pub number_inside : Text → Text → List Text → Option ℕ
+number_inside u w names = number_or (number_of w names) (if bytes_eq u w then Some (length names) else None)
+
+abbrev pub variable_or : ℕ → Option ℕ → Meaning → Meaning
+variable_or n (Some k) otherwise = meaning.Variable (n + k)
+variable_or n None otherwise = otherwise
+
+abbrev pub closed_or : Option ℕ → Meaning → Meaning
+closed_or (Some k) otherwise = meaning.Closed
+closed_or None otherwise = otherwise
+
+abbrev pub array_in : ℕ → Text → List Ranked → Meaning
+array_in k w [] = meaning.Unknown
+array_in k w (a ∷ arrays) = if bytes_eq a.name w then meaning.Array k a.rank else array_in (k + 1) w arrays
+
+-- what a name means outside of all loops
+abbrev pub outer_meaning : Scope → Text → Meaning
+outer_meaning s w =
+    closed_or (number_of w s.declared) (variable_or 0 (number_of w s.parameters) (array_in 0 w s.arrays))
+
+-- what a name means
+abbrev pub meaning_in : Scope → Text → Meaning
+meaning_in s w = variable_or (length s.parameters) (number_of w s.open_loops) (outer_meaning s w)
+
+-- what stands at a place in a scope
+abbrev pub look : Words → Scope → Lookup
+look words s = record { meaning = λ at. meaning_in s (words.spelling at); worth = words.worth }
+
+abbrev pub is_known : Meaning → Bool
+is_known meaning.Unknown = false
+is_known _ = true
+
+-- names that begin with `pp_` are those of emitted texts
+abbrev pub is_reserved : Text → Bool
+is_reserved w = bytes_eq (take 3 w) (codes "pp_")
+
+-- a name that is declared
+abbrev pub redeclared : Scope → Text → Option Kind
+redeclared s w = only_where (is_known (meaning_in s w) || is_reserved w) kind.Redeclared
+
+-- a name that a loop takes for its iterator without declaring it: one that is declared, and not open
+abbrev pub taken : Meaning → Option Kind
+taken meaning.Unknown = Some kind.UnknownName
+taken meaning.Closed = None
+taken (meaning.Variable k) = Some kind.IteratorOutside
+taken (meaning.Array k r) = Some kind.Rank
+
+-- the name of a loop's iterator; new: the loop declares it
+abbrev pub iterator_fault : Bool → Scope → Text → Option Kind
+iterator_fault true s w = redeclared s w
+iterator_fault false s w = taken (meaning_in s w)

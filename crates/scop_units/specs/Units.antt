@@ -1,0 +1,134 @@
+-- What is judged at once: a declared name, an array with its extents, a statement.
+use Rattle.std.specs.Prelude.{ℕ, ◌-◌, Bool, true, false, not, nat_le, nat_lt, ◌==◌, if◌then◌else◌, List, [], ◌∷◌, ◌++◌}
+use Rattle.std.specs.Prelude.{length, map, slice_get, Option, Some, None}
+use Rattle.whole_numbers.specs.Affine.{Affine, form_of}
+use Rattle.whole_numbers.specs.Lists.{zeros}
+use Rattle.expression_grammar.specs.declared.token.Assign.{Assign}
+use Rattle.expression_grammar.specs.declared.token.Assign.TheVariants as assigns
+use Rattle.scop_syntax.specs.Tree.{plus, minus, times, bits_and, bits_or, bits_xor, Right, assigned, combined}
+use Rattle.scop_syntax.specs.Tree.{moved_left, moved_right, Statement, Declaration}
+use Rattle.scop_roles.specs.declared.fault.Kind.{Kind}
+use Rattle.scop_roles.specs.declared.fault.Kind.TheVariants as kind
+use Rattle.scop_roles.specs.declared.fault.Fault.{Fault}
+use Rattle.scop_roles.specs.declared.formula.Meaning.{Meaning}
+use Rattle.scop_roles.specs.declared.formula.Meaning.TheVariants as meaning
+use Rattle.scop_roles.specs.declared.formula.Role.TheVariants as role
+use Rattle.scop_roles.specs.Formula.{Formula, place, meaning_of, subscripts}
+use Rattle.scop_roles.specs.Faults.{told, judged, faults, place_faults, own_rank, is_count, only_where}
+use Rattle.scop_roles.specs.Forms.{form}
+use Rattle.scop_roles.specs.Values.{access, expression, read_places, count}
+use Rattle.scop_units.specs.Words.{Words}
+use Rattle.scop_units.specs.Scopes.{Scope, entries, is_reserved, redeclared}
+
+-- the kernel's name is in no scope
+abbrev pub kernel_name_faults : Words → ℕ → List Fault
+kernel_name_faults words at = told at (only_where (is_reserved (words.spelling at)) kind.Redeclared)
+
+-- a name that is declared at a place
+abbrev pub name_faults : Words → Scope → ℕ → List Fault
+name_faults words s at = told at (redeclared s (words.spelling at))
+
+-- a parameter that is a number, at its name
+abbrev pub number_faults : Words → Scope → ℕ → List Fault
+number_faults words s at =
+    name_faults words s at ++ told at (only_where (nat_le 4 (length s.parameters)) kind.Parameters)
+
+abbrev pub extent_faults : ℕ → List Formula → List Fault
+extent_faults n [] = []
+extent_faults n (f ∷ fs) = faults n role.Affine f ++ extent_faults n fs
+
+-- an array at its name, which is not in scope in its own extents
+abbrev pub array_faults : Words → Scope → ℕ → List Formula → List Fault
+array_faults words s at fs =
+    name_faults words s at
+    ++ (told at (only_where (nat_lt 4 (length fs)) kind.Rank)
+    ++ (told at (only_where (nat_le 16 (length s.arrays)) kind.Arrays) ++ extent_faults (entries s) fs))
+
+-- the array with its extents over the parameters before it
+abbrev pub array_of : Words → Scope → ℕ → List Formula → Declaration
+array_of words s at fs =
+    record {
+      name = words.spelling at;
+      parameters_before = length s.parameters;
+      extents = map (form (entries s)) fs;
+    }
+
+-- a form over n entries at least
+abbrev pub padded : ℕ → Affine → Affine
+padded n f = form_of (f.coefficients ++ zeros (n - length f.coefficients)) f.constant
+
+-- the array with its extents over all n parameters
+abbrev pub declared_over : ℕ → Declaration → Declaration
+declared_over n d = record d { extents = map (padded n) d.extents }
+
+-- place operator value ;  with the operator's place among the tokens
+pub record Stored : Type 0 where
+  pub cell : Formula
+  pub assign : Assign
+  pub assign_at : ℕ
+  pub value : Formula
+
+abbrev pub is_array : Meaning → Bool
+is_array (meaning.Array k r) = true
+is_array _ = false
+
+-- a cell of an array; an iterator or a parameter is none, with subscripts or without
+abbrev pub own_cell : Formula → Option Kind
+own_cell f =
+    if is_array (meaning_of f) then own_rank f
+    else Some (if subscripts f == 0 then kind.IteratorOutside else kind.Rank)
+
+-- an operator that assigns, with its right side
+abbrev pub own_assign : Assign → Formula → Option Kind
+own_assign assigns.ShiftLeft f = only_where (not (is_count 0 63 f)) kind.ShiftCount
+own_assign assigns.ShiftRight f = only_where (not (is_count 0 63 f)) kind.ShiftCount
+own_assign assigns.Divide f = Some kind.Division
+own_assign assigns.Remainder f = Some kind.Division
+own_assign _ f = None
+
+-- a compound operator reads its own place first
+abbrev pub own_read : Assign → ℕ → List ℕ
+own_read assigns.Set at = []
+own_read _ at = at ∷ []
+
+-- the places of the reads in their order
+abbrev pub reads_of : Stored → List ℕ
+reads_of s = own_read s.assign (place s.cell) ++ read_places s.value
+
+-- the 17th read is one too many
+abbrev pub read_limit : Option ℕ → List Fault
+read_limit (Some at) = told at (Some kind.Reads)
+read_limit None = []
+
+-- the cell, the value, and where both have none the operator
+abbrev pub stored_faults : ℕ → Stored → List Fault
+stored_faults n s =
+    judged (judged (place_faults n s.cell) (told (place s.cell) (own_cell s.cell)) ++ faults n role.Value s.value)
+    (told s.assign_at (own_assign s.assign s.value))
+
+-- with so many comparisons round the statement, and so many statements in front of it
+abbrev pub statement_faults : ℕ → ℕ → ℕ → Stored → List Fault
+statement_faults n comparisons before s =
+    stored_faults n s
+    ++ (read_limit (slice_get (reads_of s) 16)
+    ++ (told (place s.cell) (only_where (nat_lt 16 comparisons) kind.Depth)
+    ++ told (place s.cell) (only_where (nat_le 32 before) kind.Statements)))
+
+abbrev pub right_of : ℕ → Assign → Formula → Right
+right_of n assigns.Plus f = combined plus (expression n f)
+right_of n assigns.Minus f = combined minus (expression n f)
+right_of n assigns.Times f = combined times (expression n f)
+right_of n assigns.And f = combined bits_and (expression n f)
+right_of n assigns.Or f = combined bits_or (expression n f)
+right_of n assigns.Xor f = combined bits_xor (expression n f)
+right_of n assigns.ShiftLeft f = moved_left (count f)
+right_of n assigns.ShiftRight f = moved_right (count f)
+right_of n _ f = assigned (expression n f)
+
+abbrev pub statement_of : ℕ → Stored → Statement
+statement_of n s = record { place = access n s.cell; right = right_of n s.assign s.value }
+
+-- the first fault of a node: that of its parts, else its own
+abbrev pub or_fault : Option Fault → Option Fault → Option Fault
+or_fault (Some f) own = Some f
+or_fault None own = own

@@ -1,0 +1,90 @@
+//! Arrays with their extents as forms over all parameters: those that are declared behind an array count nothing.
+
+ghost use Rattle.std.specs.Prelude.{◌≡◌, IfOk, map};
+ghost use Rattle.whole_numbers.specs.Lists.{zeros};
+ghost use Rattle.scop_units.specs.Units.{declared_over, padded};
+
+use crate::scope::copied;
+use scop_syntax::tree::{Aff, Array};
+use std::alloc::{AllocError, Global};
+
+fn zeros(alloc: Global, count: usize) -> Result<Vec<i64>, AllocError>
+    ensures { IfOk result (λ v. v.items ≡ zeros count) }
+{
+    vec![in alloc; 0; count]
+}
+
+// The form over so many entries at least.
+fn padded(alloc: Global, form: &Aff, count: usize) -> Result<Aff, AllocError>
+    ensures { IfOk result (λ f. f ≡ padded count form.now) }
+{
+    let mut coefficients = match Vec::from_slice(alloc, &form.coefficients) {
+        Err(_) => return Err(AllocError),
+        Ok(coefficients) => coefficients,
+    };
+    let zeros = match zeros(alloc, count.saturating_sub(coefficients.len())) {
+        Err(_) => return Err(AllocError),
+        Ok(zeros) => zeros,
+    };
+    match coefficients.extend_from_slice(&zeros) {
+        Err(_) => return Err(AllocError),
+        Ok(()) => {}
+    }
+    Ok(Aff {
+        coefficients,
+        constant: form.constant,
+    })
+}
+
+fn padded_all(alloc: Global, forms: &[Aff], count: usize) -> Result<Vec<Aff>, AllocError>
+    ensures { IfOk result (λ v. v.items ≡ map (padded count) forms.now) }
+{
+    let mut made = Vec::new(alloc);
+    for form in forms {
+        let next = match padded(alloc, form, count) {
+            Err(_) => return Err(AllocError),
+            Ok(next) => next,
+        };
+        match made.push(next) {
+            Err(_) => return Err(AllocError),
+            Ok(()) => {}
+        }
+    }
+    Ok(made)
+}
+
+// The array with its extents over all parameters.
+fn declared_over(alloc: Global, array: &Array, count: usize) -> Result<Array, AllocError>
+    ensures { IfOk result (λ a. a ≡ declared_over count array.now) }
+{
+    let name = match copied(alloc, &array.name) {
+        Err(_) => return Err(AllocError),
+        Ok(name) => name,
+    };
+    match padded_all(alloc, &array.extents, count) {
+        Err(_) => Err(AllocError),
+        Ok(extents) => Ok(Array {
+            name,
+            parameters_before: array.parameters_before,
+            extents,
+        }),
+    }
+}
+
+/// The arrays with their extents over so many parameters.
+pub fn all_over(alloc: Global, arrays: &[Array], count: usize) -> Result<Vec<Array>, AllocError>
+    ensures { IfOk result (λ v. v.items ≡ map (declared_over count) arrays.now) }
+{
+    let mut made = Vec::new(alloc);
+    for array in arrays {
+        let next = match declared_over(alloc, array, count) {
+            Err(_) => return Err(AllocError),
+            Ok(next) => next,
+        };
+        match made.push(next) {
+            Err(_) => return Err(AllocError),
+            Ok(()) => {}
+        }
+    }
+    Ok(made)
+}

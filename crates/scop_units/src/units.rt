@@ -1,0 +1,304 @@
+//! What is judged at once: a declared name, an array with its extents, a statement.
+
+ghost use Rattle.std.specs.Prelude.{◌≡◌, ◌++◌, IfOk, None, map, slice_get, true};
+ghost use Rattle.scop_roles.specs.declared.formula.Role.TheVariants as role;
+ghost use Rattle.scop_roles.specs.Faults.{faults, first, is_count, only_where, told};
+ghost use Rattle.scop_roles.specs.Formula.{formula_of};
+ghost use Rattle.scop_roles.specs.Values.{count};
+ghost use Rattle.scop_syntax.specs.View.{right_of as code_right, statement_of as code_statement};
+ghost use Rattle.scop_units.specs.Scopes.{entries};
+ghost use Rattle.scop_units.specs.Units.{array_faults, array_of, extent_faults, kernel_name_faults, name_faults};
+ghost use Rattle.scop_units.specs.Units.{number_faults, or_fault, own_assign, own_cell, read_limit, reads_of, right_of};
+ghost use Rattle.scop_units.specs.Units.{statement_faults, statement_of, stored_faults};
+ghost use Rattle.scop_units.specs.View.{scope_of, stored_of, words_in};
+
+use crate::scope::{Scope, copied, is_reserved};
+use crate::words::Words;
+use expression_grammar::token::Assign;
+use scop_roles::fault::{Fault, Kind, first_of};
+use scop_roles::formula::{Formula, Meaning, Role, has_subscripts, meaning_of, place};
+use scop_roles::judgement::{fault, form, place_fault};
+use scop_roles::values::{access, expression, is_count, push_read_places};
+use scop_syntax::tree::{Array, Operator, Right, Stmt};
+use std::alloc::{AllocError, Global};
+
+const MOST_PARAMETERS: usize = 4;
+
+const MOST_ARRAYS: usize = 16;
+
+const MOST_EXTENTS: usize = 4;
+
+const MOST_COMPARISONS: usize = 16;
+
+const MOST_STATEMENTS: usize = 32;
+
+const MOST_READS: usize = 16;
+
+pub(crate) fn told(place: usize, kind: Option<Kind>) -> Option<Fault>
+    ensures { result ≡ first (told place kind) }
+{
+    match kind {
+        None => None,
+        Some(kind) => Some(Fault { place, kind }),
+    }
+}
+
+pub(crate) fn told_where(wrong: bool, place: usize, kind: Kind) -> Option<Fault>
+    ensures { result ≡ first (told place (only_where wrong kind)) }
+{
+    if wrong {
+        Some(Fault { place, kind })
+    } else {
+        None
+    }
+}
+
+// The first fault of a node: that of its parts, else its own.
+pub(crate) fn or_fault(part: Option<Fault>, own: Option<Fault>) -> Option<Fault>
+    ensures { result ≡ or_fault part own }
+{
+    match part {
+        Some(fault) => Some(fault),
+        None => own,
+    }
+}
+
+/// The kernel's name.
+pub fn kernel_name_fault(words: &Words, at: usize) -> Option<Fault>
+    ensures { result ≡ first (kernel_name_faults (words_in words.now) at) }
+{
+    told_where(is_reserved(words.spelling(at)), at, Kind::Redeclared)
+}
+
+/// A name that is declared at a place.
+pub fn name_fault(words: &Words, scope: &Scope, at: usize) -> Option<Fault>
+    ensures { result ≡ first (name_faults (words_in words.now) (scope_of scope.now) at) }
+{
+    told(at, scope.redeclared(words.spelling(at)))
+}
+
+/// A parameter that is a number.
+pub fn number_fault(words: &Words, scope: &Scope, at: usize) -> Option<Fault>
+    ensures { result ≡ first (number_faults (words_in words.now) (scope_of scope.now) at) }
+{
+    first_of(
+        name_fault(words, scope, at),
+        told_where(
+            MOST_PARAMETERS <= scope.parameters.len(),
+            at,
+            Kind::Parameters,
+        ),
+    )
+}
+
+// The first fault of extents.
+fn extent_fault(
+    alloc: Global,
+    entries: usize,
+    extents: &[Formula],
+) -> Result<Option<Fault>, AllocError>
+    ensures { IfOk result (λ fault. fault ≡ first (extent_faults entries (map formula_of extents.now))) }
+{
+    let mut first = None;
+    for extent in extents {
+        first = first_of(first, fault(alloc, extent, entries, Role::Affine)?);
+    }
+    Ok(first)
+}
+
+/// An array at its name.
+pub fn array_fault(
+    alloc: Global,
+    words: &Words,
+    scope: &Scope,
+    at: usize,
+    extents: &[Formula],
+) -> Result<Option<Fault>, AllocError>
+    ensures { IfOk result (λ fault. fault
+        ≡ first (array_faults (words_in words.now) (scope_of scope.now) at (map formula_of extents.now))) }
+{
+    let rank = told_where(MOST_EXTENTS < extents.len(), at, Kind::Rank);
+    let many = told_where(MOST_ARRAYS <= scope.arrays.len(), at, Kind::Arrays);
+    let extent = extent_fault(alloc, scope.entries(), extents)?;
+    Ok(first_of(
+        name_fault(words, scope, at),
+        first_of(rank, first_of(many, extent)),
+    ))
+}
+
+/// The array with its extents over the parameters before it.
+pub fn array_of(
+    alloc: Global,
+    words: &Words,
+    scope: &Scope,
+    at: usize,
+    extents: &[Formula],
+) -> Result<Array, AllocError>
+    requires { first (extent_faults (entries (scope_of scope.now)) (map formula_of extents.now)) ≡ None }
+    ensures { IfOk result (λ a. a
+        ≡ array_of (words_in words.now) (scope_of scope.now) at (map formula_of extents.now)) }
+{
+    let mut forms = Vec::new(alloc);
+    for extent in extents {
+        match forms.push(form(alloc, extent, scope.entries())?) {
+            Err(_) => return Err(AllocError),
+            Ok(()) => {}
+        }
+    }
+    Ok(Array {
+        name: copied(alloc, words.spelling(at))?,
+        parameters_before: scope.parameters.len(),
+        extents: forms,
+    })
+}
+
+/// `place operator value ;` with the operator's place among the tokens.
+#[derive(Debug, Drop)]
+pub struct Stored {
+    pub cell: Formula,
+    pub assign: Assign,
+    pub assign_at: usize,
+    pub value: Formula,
+}
+
+// A cell of an array; an iterator or a parameter is none.
+fn own_cell(cell: &Formula) -> Option<Kind>
+    ensures { result ≡ own_cell (formula_of cell.now) }
+{
+    match meaning_of(cell) {
+        Meaning::Array(_, rank) => {
+            if has_subscripts(cell, rank) {
+                None
+            } else {
+                Some(Kind::Rank)
+            }
+        }
+        _ => Some(if has_subscripts(cell, 0) {
+            Kind::IteratorOutside
+        } else {
+            Kind::Rank
+        }),
+    }
+}
+
+// An operator that assigns, with its right side.
+fn own_assign(assign: Assign, value: &Formula) -> Option<Kind>
+    ensures { result ≡ own_assign assign (formula_of value.now) }
+{
+    match assign {
+        Assign::ShiftLeft | Assign::ShiftRight => {
+            if is_count(value, 0, 63) {
+                None
+            } else {
+                Some(Kind::ShiftCount)
+            }
+        }
+        Assign::Divide | Assign::Remainder => Some(Kind::Division),
+        _ => None,
+    }
+}
+
+// The 17th read is one too many.
+fn read_fault(alloc: Global, stored: &Stored) -> Result<Option<Fault>, AllocError>
+    ensures { IfOk result (λ fault. fault ≡ first (read_limit (slice_get (reads_of (stored_of stored.now)) 16))) }
+{
+    let mut places = Vec::new(alloc);
+    match stored.assign {
+        Assign::Set => {}
+        _ => match places.push(place(&stored.cell)) {
+            Err(_) => return Err(AllocError),
+            Ok(()) => {}
+        },
+    }
+    push_read_places(&stored.value, &mut places)?;
+    match places.get(MOST_READS) {
+        None => Ok(None),
+        Some(at) => Ok(Some(Fault {
+            place: *at,
+            kind: Kind::Reads,
+        })),
+    }
+}
+
+// The cell, the value, and where both have none the operator.
+fn stored_fault(alloc: Global, entries: usize, stored: &Stored) -> Result<Option<Fault>, AllocError>
+    ensures { IfOk result (λ fault. fault ≡ first (stored_faults entries (stored_of stored.now))) }
+{
+    let cell = or_fault(
+        place_fault(alloc, &stored.cell, entries)?,
+        told(place(&stored.cell), own_cell(&stored.cell)),
+    );
+    let value = fault(alloc, &stored.value, entries, Role::Value)?;
+    let own = told(stored.assign_at, own_assign(stored.assign, &stored.value));
+    Ok(or_fault(first_of(cell, value), own))
+}
+
+/// The first fault of a statement, with so many comparisons round it and so many statements before it.
+pub fn statement_fault(
+    alloc: Global,
+    entries: usize,
+    comparisons: usize,
+    before: usize,
+    stored: &Stored,
+) -> Result<Option<Fault>, AllocError>
+    ensures { IfOk result (λ fault. fault
+        ≡ first (statement_faults entries comparisons before (stored_of stored.now))) }
+{
+    let at = place(&stored.cell);
+    let parts = stored_fault(alloc, entries, stored)?;
+    let reads = read_fault(alloc, stored)?;
+    let deep = told_where(MOST_COMPARISONS < comparisons, at, Kind::Depth);
+    let many = told_where(MOST_STATEMENTS <= before, at, Kind::Statements);
+    Ok(first_of(parts, first_of(reads, first_of(deep, many))))
+}
+
+// The number that a constant is.
+fn count(value: &Formula) -> u8
+    requires { is_count 0 63 (formula_of value.now) ≡ true }
+    ensures { result ≡ count (formula_of value.now) }
+{
+    match value {
+        Formula::Constant(_, value, _) => *value as u8,
+        Formula::Name(_, _) => 0,
+        Formula::Index(_, _, _) => 0,
+        Formula::BareCall(_, _) => 0,
+        Formula::Call(_, _, _) => 0,
+        Formula::Unary(_, _, _) => 0,
+        Formula::Cast(_, _) => 0,
+        Formula::Commas(_, _, _, _) => 0,
+        Formula::Binary(_, _, _, _) => 0,
+    }
+}
+
+fn right_of(alloc: Global, entries: usize, stored: &Stored) -> Result<Right, AllocError>
+    requires { first (stored_faults entries (stored_of stored.now)) ≡ None }
+    ensures { IfOk result (λ r. code_right r ≡ right_of entries (stored_of stored.now).assign
+        (stored_of stored.now).value) }
+{
+    match stored.assign {
+        Assign::ShiftLeft => return Ok(Right::ShiftedLeft(count(&stored.value))),
+        Assign::ShiftRight => return Ok(Right::ShiftedRight(count(&stored.value))),
+        _ => {}
+    }
+    let value = expression(alloc, &stored.value, entries)?;
+    Ok(match stored.assign {
+        Assign::Plus => Right::Combined(Operator::Plus, value),
+        Assign::Minus => Right::Combined(Operator::Minus, value),
+        Assign::Times => Right::Combined(Operator::Times, value),
+        Assign::And => Right::Combined(Operator::And, value),
+        Assign::Or => Right::Combined(Operator::Or, value),
+        Assign::Xor => Right::Combined(Operator::Xor, value),
+        _ => Right::Assigned(value),
+    })
+}
+
+/// The statement that one without faults stands for.
+pub fn statement_of(alloc: Global, entries: usize, stored: &Stored) -> Result<Stmt, AllocError>
+    requires { first (stored_faults entries (stored_of stored.now)) ≡ None }
+    ensures { IfOk result (λ s. code_statement s ≡ statement_of entries (stored_of stored.now)) }
+{
+    Ok(Stmt {
+        place: access(alloc, &stored.cell, entries)?,
+        right: right_of(alloc, entries, stored)?,
+    })
+}
