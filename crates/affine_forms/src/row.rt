@@ -104,11 +104,14 @@ pub fn content(start: u128, row: &[i128]) -> u128
     content
 }
 
-/// `a / divisor`, rounded down.
+/// `a / divisor`, rounded down; by 64 bits where both have them.
 pub fn quotient(a: i128, divisor: u128) -> i128
     requires { 2 ≤ divisor }
     ensures { result ≡ floor a (pos divisor) }
 {
+    if let (Ok(narrow), Ok(by)) = (i64::try_from(a), i64::try_from(divisor)) {
+        return i128::from(narrow.div_euclid(by));
+    }
     if a < 0 {
         -1 - ((-1 - a).unsigned_abs() / divisor) as i128
     } else {

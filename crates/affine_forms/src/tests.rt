@@ -205,3 +205,25 @@ fn compositions(rt: HostRuntime) {
     let past = composition(rt.alloc(), TWO_64, 1, &[1], TWO_63);
     expect_stop(&rt, past, wide(Op::Mul, TWO_64, TWO_63));
 }
+
+/// Three times a form, and twice another added or taken off.
+fn combination(alloc: Global, is_sum: bool, row: &[i128], other: &[i128]) -> Result<Form, FormStop>
+    requires { length other.now ≡ length row.now }
+{
+    match Form::of(alloc, other, 11) {
+        Err(stop) => Err(stop),
+        Ok(other) => match Form::of(alloc, row, 7) {
+            Err(stop) => Err(stop),
+            Ok(form) if is_sum => form.sum_of_multiples(3, 2, &other),
+            Ok(form) => form.difference_of_multiples(3, 2, &other),
+        },
+    }
+}
+
+#[test]
+fn combinations(rt: HostRuntime) {
+    let sum = combination(rt.alloc(), true, &[5, -1], &[4, 6]);
+    expect_form(&rt, sum, &[23, 9], 43);
+    let difference = combination(rt.alloc(), false, &[5, -1], &[4, 6]);
+    expect_form(&rt, difference, &[7, -15], -1);
+}

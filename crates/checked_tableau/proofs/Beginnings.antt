@@ -1,5 +1,6 @@
 -- The first rows, line by line.
-use Rattle.std.proofs.Common.{◌≡◌, ℕ, zero, suc, ◌+◌, ◌*◌, ◌<◌, ◌≤◌, map, ℤ, pos, List, [], ◌∷◌, ◌++◌, length, set, refl, subst, ap, sym, ◌∙◌, arith, add-one, append_assoc}
+use Rattle.std.proofs.Common.{◌≡◌, ℕ, zero, suc, ◌+◌, ◌*◌, ◌<◌, ◌≤◌, map, ℤ, pos, List, [], ◌∷◌, ◌++◌, length, set}
+use Rattle.std.proofs.Common.{refl, subst, ap, sym, ◌∙◌, arith, add-one, append_assoc}
 use Rattle.std.specs.Prelude.{Option, None, All}
 use Rattle.std.proofs.lemmas.List.{length-append, map-append}
 use Rattle.wide_math.specs.declared.Wide.{Wide}

@@ -1,5 +1,6 @@
 -- A buffer's rows, looked through one after the other.
-use Rattle.std.proofs.Common.{◌≡◌, ℕ, suc, ◌+◌, ◌*◌, ◌<◌, ℤ, pos, negsuc, ◌<ℤ◌, ◌≤ℤ◌, ◌-ℤ◌, Bool, true, false, List, [], ◌∷◌, ◌++◌, length, get_or, drop, take, refl, subst, ap, sym, arith, add-one}
+use Rattle.std.proofs.Common.{◌≡◌, ℕ, suc, ◌+◌, ◌*◌, ◌<◌, ℤ, pos, negsuc, ◌<ℤ◌, ◌≤ℤ◌, ◌-ℤ◌, Bool, true, false, List, []}
+use Rattle.std.proofs.Common.{◌∷◌, ◌++◌, length, get_or, drop, take, refl, subst, ap, sym, arith, add-one}
 use Rattle.std.specs.Prelude.{Option, Some, Result, Ok, if◌then◌else◌}
 use Rattle.std.proofs.lemmas.Int.{ints}
 use Rattle.std.proofs.lemmas.List.{length-append}
@@ -8,7 +9,8 @@ use Rattle.std.proofs.Math.Seq.{take-append_seam, drop-append_seam}
 use Rattle.wide_math.specs.declared.Wide.{Wide}
 use Rattle.wide_math.specs.Checked.{product_of, ◌>>=◌}
 use Rattle.tableau_rows.specs.Rows.{Row, entry}
-use Rattle.tableau_rows.specs.Moves.{line_row, rows_in, is_below, is_positive, precedes_run, better_run, column_run, HeadsPositive}
+use Rattle.tableau_rows.specs.Moves.{line_row, rows_in, is_below, is_positive, precedes_run, better_run, column_run}
+use Rattle.tableau_rows.specs.Moves.{HeadsPositive}
 use Rattle.tableau_rows.specs.Run.{first_row, some_positive}
 
 -- an entry of a row that has its denominator in front

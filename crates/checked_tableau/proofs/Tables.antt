@@ -1,7 +1,9 @@
 -- A buffer of lines as rows.
-use Rattle.std.proofs.Common.{◌≡◌, ℕ, zero, suc, ◌+◌, ◌*◌, ◌<◌, ◌≤◌, ℤ, pos, ◌<ℤ◌, List, [], ◌∷◌, ◌++◌, length, get_or, drop, take, refl, subst, ap, ap₂, sym, ◌∙◌, arith, add-one, drop-drop}
+use Rattle.std.proofs.Common.{◌≡◌, ℕ, zero, suc, ◌+◌, ◌*◌, ◌<◌, ◌≤◌, ℤ, pos, ◌<ℤ◌, List, [], ◌∷◌, ◌++◌, length, get_or}
+use Rattle.std.proofs.Common.{drop, take, refl, subst, ap, ap₂, sym, ◌∙◌, arith, add-one, drop-drop}
 use Rattle.std.specs.Prelude.{Result, Ok, Err, Option, Some, None}
-use Rattle.std.proofs.lemmas.List.{length-take-le, length-drop, length-append, get_or-take, drop-take, take_all, append-nil, take-append-le, drop-append-le}
+use Rattle.std.proofs.lemmas.List.{length-take-le, length-drop, length-append, get_or-take, drop-take, take_all}
+use Rattle.std.proofs.lemmas.List.{append-nil, take-append-le, drop-append-le}
 use Rattle.std.proofs.Math.ListN.{drop_of_length-le}
 use Rattle.std.proofs.Math.Nat.{suc-mul}
 use Rattle.std.proofs.Math.Seq.{take-append_seam, take-add}

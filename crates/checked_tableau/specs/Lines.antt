@@ -1,4 +1,5 @@
-use Rattle.std.specs.Prelude.{◌≡◌, ℕ, ◌+◌, ◌*◌, ℤ, pos, neg_ℤ, List, ◌∷◌, length, get_or, drop, Option, Some, None, Result, Ok}
+use Rattle.std.specs.Prelude.{◌≡◌, ℕ, ◌+◌, ◌*◌, ℤ, pos, neg_ℤ, List, ◌∷◌, length, get_or, drop, Option, Some, None}
+use Rattle.std.specs.Prelude.{Result, Ok}
 use Rattle.wide_math.specs.declared.Wide.{Wide}
 use Rattle.wide_math.specs.Checked.{difference_of, ◌>>=◌}
 use Rattle.whole_numbers.specs.Floor.{remainder}

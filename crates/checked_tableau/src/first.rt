@@ -1,5 +1,5 @@
 //! The lines of a problem's first rows.
-ghost use Rattle.std.specs.Prelude.{◌≡◌, ℕ, suc, ◌+◌, ◌*◌, ◌<◌, ◌≤◌, pos, List, [], ◌∷◌, ◌++◌, length, All, OnOk};
+ghost use Rattle.std.specs.Prelude.{◌≡◌, ℕ, suc, ◌+◌, ◌*◌, ◌<◌, ◌≤◌, pos, List, [], ◌∷◌, ◌++◌, length, All, IfOk, OnOk};
 ghost use Rattle.affine_forms.specs.Parts.{variables_of};
 ghost use Rattle.tableau_rows.specs.Rows.{Row};
 ghost use Rattle.tableau_rows.specs.Problem.{entries_of, unit_rows, given_rows};
@@ -7,7 +7,14 @@ ghost use Rattle.checked_tableau.specs.Lines.{Holds};
 
 use crate::pivot::write_unit;
 use affine_forms::Form;
-use std::alloc::AllocError;
+use std::alloc::{AllocError, Global};
+
+/// No lines yet, with room for so many.
+pub fn room_for(alloc: Global, lines: usize, stride: usize) -> Result<Vec<i128>, AllocError>
+    ensures { IfOk result (λ v. v.items ≡ []) }
+{
+    Vec::with_capacity(alloc, lines.saturating_mul(stride))
+}
 
 /// Writes the lines of the unknowns: each is its column. `line` is room for one.
 pub fn append_units(
@@ -61,7 +68,8 @@ pub fn append_forms(
     requires forms { All (λ f. variables_of f + 2 ≡ stride) forms.now }
     requires unknowns { unknowns + 2 ≤ stride }
     ensures { (count : ℕ) (rows : List Row) → Holds stride count cells.old.items rows
-        → OnOk result (Holds stride (count + length forms.now) cells.new.items (rows ++ given_rows unknowns forms.now)) }
+        → OnOk result (Holds stride (count + length forms.now) cells.new.items
+        (rows ++ given_rows unknowns forms.now)) }
 {
     for form in forms {
         match append_form(cells, form, unknowns) {

@@ -1,8 +1,10 @@
 //! What a run looks for in a buffer of rows: each row has its denominator in front of its entries, the
 //! columns' first, then the constant.
-ghost use Rattle.std.specs.Prelude.{◌≡◌, ℕ, ◌+◌, ◌*◌, ◌<◌, ◌≤◌, ◌<ℤ◌, pos, length, slice_index_or, true, None, Some, Ok};
+ghost use Rattle.std.specs.Prelude.{◌≡◌, ℕ, ◌+◌, ◌*◌, ◌<◌, ◌≤◌, ◌<ℤ◌, pos, length, slice_index_or, true, None, Some};
+ghost use Rattle.std.specs.Prelude.{Ok};
 ghost use Rattle.tableau_rows.specs.Rows.{entry};
-ghost use Rattle.tableau_rows.specs.Moves.{is_positive, line_row, rows_in, HeadsPositive, precedes_run, column_run, better_run};
+ghost use Rattle.tableau_rows.specs.Moves.{is_positive, line_row, rows_in, HeadsPositive, precedes_run, column_run};
+ghost use Rattle.tableau_rows.specs.Moves.{better_run};
 ghost use Rattle.checked_tableau.specs.Leads.{Leads};
 ghost use Rattle.tableau_rows.specs.Run.{first_row, has_below, has_fraction, some_positive};
 

@@ -1,20 +1,22 @@
 //! Rows in one buffer, a line each: the denominator, an entry for each column, the constant, and an entry
 //! for each parameter.
-ghost use Rattle.std.specs.Prelude.{◌≡◌, ◌↔◌, ℕ, ℤ, List, OnOk, ◌+◌, ◌*◌, ◌++◌, ◌<◌, ◌<ℤ◌, ◌≤◌, pos, length, slice_index_or, take, map, Ok, Some, None, All, IfOk};
+ghost use Rattle.std.specs.Prelude.{◌≡◌, ◌↔◌, ℕ, ℤ, List, OnOk, ◌+◌, ◌*◌, ◌++◌, ◌<◌, ◌<ℤ◌, ◌≤◌, pos, length};
+ghost use Rattle.std.specs.Prelude.{slice_index_or, take, map, Ok, Some, None, All, IfOk};
 ghost use Rattle.std.specs.Option.{ForSome};
 ghost use Rattle.wide_math.specs.Gives.{Becomes};
 ghost use Rattle.affine_forms.specs.Parts.{variables_of};
 ghost use Rattle.tableau_rows.specs.Rows.{entry, Sized};
 ghost use Rattle.tableau_rows.specs.Problem.{first_rows, problem_of, IsPoint};
 ghost use Rattle.tableau_rows.specs.Solutions.{HaveSameSolutions, IsSolution, IsTied};
-ghost use Rattle.tableau_rows.specs.Moves.{HeadsPositive, column_run, cut_run, line_row, pivot_run, row_at, rows_in, rows_run};
+ghost use Rattle.tableau_rows.specs.Moves.{HeadsPositive, column_run, cut_run, line_row, pivot_run, row_at, rows_in};
+ghost use Rattle.tableau_rows.specs.Moves.{rows_run};
 ghost use Rattle.lexmin_runs.specs.Nodes.{longer_row};
 ghost use Rattle.checked_tableau.specs.Lines.{behind_columns};
 ghost use Rattle.tableau_rows.specs.Run.{first_row, has_below, has_fraction, some_positive};
 ghost use Rattle.checked_tableau.specs.Table.{Appends, Cuts, Moves, table_of, stride_of};
 
 use crate::cuts::cut_line;
-use crate::first::{append_forms, append_units};
+use crate::first::{append_forms, append_units, room_for};
 use crate::longer::append_longer;
 use crate::pivot::pivot_rows;
 use crate::scans;
@@ -144,7 +146,13 @@ impl Rows {
             Err(error) => return Err(error),
             Ok(line) => line,
         };
-        let mut cells = Vec::new(alloc);
+        let lines = unknowns
+            .saturating_add(forms.len())
+            .saturating_add(more.len());
+        let mut cells = match room_for(alloc, lines, stride) {
+            Err(error) => return Err(error),
+            Ok(cells) => cells,
+        };
         match append_units(&mut cells, &mut line, unknowns) {
             Err(error) => return Err(error),
             Ok(()) => {}
@@ -221,7 +229,10 @@ impl Rows {
             Err(error) => return Err(error),
             Ok(line) => line,
         };
-        let mut cells = Vec::new(alloc);
+        let mut cells = match room_for(alloc, self.count.saturating_add(1), stride) {
+            Err(error) => return Err(error),
+            Ok(cells) => cells,
+        };
         match append_longer(&mut cells, &self.cells, self.line.len(), self.count) {
             Err(error) => return Err(error),
             Ok(()) => {}

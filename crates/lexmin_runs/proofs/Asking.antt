@@ -1,5 +1,6 @@
 -- What the answers of questions say at a point of the context.
-use Rattle.std.proofs.Common.{◌≡◌, ℕ, zero, suc, ◌+◌, ℤ, pos, neg_ℤ, ◌+ℤ◌, ◌-ℤ◌, ◌*ℤ◌, ◌≤ℤ◌, ◌<ℤ◌, Bool, true, false, List, [], ◌∷◌, ◌++◌, length, map, refl, subst, ap, sym, ◌∙◌, arith, length-append}
+use Rattle.std.proofs.Common.{◌≡◌, ℕ, zero, suc, ◌+◌, ℤ, pos, neg_ℤ, ◌+ℤ◌, ◌-ℤ◌, ◌*ℤ◌, ◌≤ℤ◌, ◌<ℤ◌, Bool, true, false}
+use Rattle.std.proofs.Common.{List, [], ◌∷◌, ◌++◌, length, map, refl, subst, ap, sym, ◌∙◌, arith, length-append}
 use Rattle.std.specs.Prelude.{Result, Ok, Err, if◌then◌else◌}
 use Rattle.std.proofs.lemmas.Int.{ints, by_lt_z}
 use Rattle.std.proofs.lemmas.List.{append-nil}
@@ -18,8 +19,11 @@ use Rattle.tableau_rows.specs.Run.{point, none, Outcome, question}
 use Rattle.tableau_rows.proofs.Choosing.{below_true, below_false, positive_false}
 use Rattle.tableau_rows.proofs.Cutting.{remainder_in}
 use Rattle.tableau_rows.proofs.Answering.{question-right}
-use Rattle.lexmin_runs.specs.Nodes.{Node, Counted, chained, formed, longer_form, opposites_run, opposite_run, above_run, under_run, at_least_run, answered, ask, none_below, context_holds, all_zero, below_somewhere, above_somewhere, broken_somewhere}
-use Rattle.lexmin_runs.proofs.Longer.{dot-more, value-constant, values-longer, speaks-longer, speaks-append, row_values-append}
+use Rattle.lexmin_runs.specs.Nodes.{Node, Counted, chained, formed, longer_form, opposites_run, opposite_run, above_run}
+use Rattle.lexmin_runs.specs.Nodes.{under_run, at_least_run, answered, ask, none_below, context_holds, all_zero}
+use Rattle.lexmin_runs.specs.Nodes.{below_somewhere, above_somewhere, broken_somewhere}
+use Rattle.lexmin_runs.proofs.Longer.{dot-more, value-constant, values-longer, speaks-longer, speaks-append}
+use Rattle.lexmin_runs.proofs.Longer.{row_values-append}
 
 -- steps of a counted run
 pub chained-ok : {A B : Type 0} (r : Counted A) (f : A → ℕ → Counted B) (y : B) (l : ℕ) → chained r f ≡ Ok (y, l)

@@ -1,5 +1,7 @@
 -- The question of a system's emptiness is answered right.
-use Rattle.std.proofs.Common.{◌≡◌, ◌↔◌, ℕ, zero, suc, ◌+◌, ◌<◌, ◌≤◌, ℤ, pos, negsuc, neg_ℤ, ◌-ℤ◌, ◌*ℤ◌, ◌≤ℤ◌, true, false, List, [], ◌∷◌, ◌++◌, length, get_or, set, drop, take, All, refl, subst, ap, sym, ◌∙◌, arith, length-append}
+use Rattle.std.proofs.Common.{◌≡◌, ◌↔◌, ℕ, zero, suc, ◌+◌, ◌<◌, ◌≤◌, ℤ, pos, negsuc, neg_ℤ, ◌-ℤ◌, ◌*ℤ◌, ◌≤ℤ◌, true}
+use Rattle.std.proofs.Common.{false, List, [], ◌∷◌, ◌++◌, length, get_or, set, drop, take, All, refl, subst, ap, sym}
+use Rattle.std.proofs.Common.{◌∙◌, arith, length-append}
 use Rattle.std.specs.Prelude.{Ok, Err}
 use Rattle.std.proofs.lemmas.Int.{ints}
 use Rattle.std.proofs.lemmas.List.{append-nil, length-take-le, length-drop, take-append-drop}
@@ -19,7 +21,8 @@ use Rattle.tableau_rows.specs.Run.{point, none, Outcome, question}
 use Rattle.tableau_rows.proofs.Standing.{not_negative-parts}
 use Rattle.tableau_rows.proofs.Answering.{question-right}
 use Rattle.lexmin_runs.specs.Nodes.{opposites_run}
-use Rattle.lexmin_runs.specs.Emptiness.{negated_run, equality_rows_run, bound_rows, posed_run, emptied, empty_run, IsBoundedPoint, HasBoundedPoint}
+use Rattle.lexmin_runs.specs.Emptiness.{negated_run, equality_rows_run, bound_rows, posed_run, emptied, empty_run}
+use Rattle.lexmin_runs.specs.Emptiness.{IsBoundedPoint, HasBoundedPoint}
 use Rattle.lexmin_runs.proofs.Longer.{row_values-append, speaks-append}
 use Rattle.lexmin_runs.proofs.Asking.{opposites-dot, formed-ok, same_first}
 

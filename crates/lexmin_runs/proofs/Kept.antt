@@ -1,5 +1,7 @@
 -- Each step of a node keeps its whole solutions.
-use Rattle.std.proofs.Common.{◌≡◌, ◌↔◌, ℕ, zero, suc, ◌+◌, ◌<◌, ℤ, pos, ◌+ℤ◌, ◌≤ℤ◌, ◌<ℤ◌, Bool, true, false, Option, Some, None, List, [], ◌∷◌, ◌++◌, length, get_or, map, take, refl, subst, ap, sym, ◌∙◌, arith, length-append, add-one}
+use Rattle.std.proofs.Common.{◌≡◌, ◌↔◌, ℕ, zero, suc, ◌+◌, ◌<◌, ℤ, pos, ◌+ℤ◌, ◌≤ℤ◌, ◌<ℤ◌, Bool, true, false, Option}
+use Rattle.std.proofs.Common.{Some, None, List, [], ◌∷◌, ◌++◌, length, get_or, map, take, refl, subst, ap, sym, ◌∙◌}
+use Rattle.std.proofs.Common.{arith, length-append, add-one}
 use Rattle.std.specs.Prelude.{Ok, if◌then◌else◌}
 use Rattle.std.proofs.lemmas.Int.{ints}
 use Rattle.std.proofs.lemmas.List.{length-take-le, length-map, length-drop}
@@ -21,12 +23,21 @@ use Rattle.tableau_rows.proofs.Standing.{not_negative-parts}
 use Rattle.tableau_rows.proofs.Keeping.{pivot_run_keeps, cut_keeps_tableau, cut_keeps_solutions, cut_back}
 use Rattle.tableau_rows.proofs.Beginning.{first_tableau, first_solutions}
 use Rattle.tableau_rows.proofs.Cutting.{cut_constant}
-use Rattle.lexmin_runs.specs.Nodes.{Node, Next, Bound, ends, goes, binds, splits, Counted, chained, formed, longer_form, longer_row, part_of, all_zero, place_of, is_bound_as, opposite_run, under_run, at_least_run, context_holds, below_somewhere, above_somewhere, broken_somewhere, first_asked, leaf_tree, side, split, with_rows, pivot, taken_off, bound_node, cut_bound, cut, cut_or_leaf, pivot_or_empty, treated, looked, step, followed, tree_run, whole, first_node, lexmin_run}
-use Rattle.lexmin_runs.specs.Solutions.{IsInContext, IsNodeSolution, AreBound, ArePlaced, IsNode, LeadsOn, KeepsSolutions}
+use Rattle.lexmin_runs.specs.Nodes.{Node, Next, Bound, ends, goes, binds, splits, Counted, chained, formed, longer_form}
+use Rattle.lexmin_runs.specs.Nodes.{longer_row, part_of, all_zero, place_of, is_bound_as, opposite_run, under_run}
+use Rattle.lexmin_runs.specs.Nodes.{at_least_run, context_holds, below_somewhere, above_somewhere, broken_somewhere}
+use Rattle.lexmin_runs.specs.Nodes.{first_asked, leaf_tree, side, split, with_rows, pivot, taken_off, bound_node}
+use Rattle.lexmin_runs.specs.Nodes.{cut_bound, cut, cut_or_leaf, pivot_or_empty, treated, looked, step, followed}
+use Rattle.lexmin_runs.specs.Nodes.{tree_run, whole, first_node, lexmin_run}
+use Rattle.lexmin_runs.specs.Solutions.{IsInContext, IsNodeSolution, AreBound, ArePlaced, IsNode, LeadsOn}
+use Rattle.lexmin_runs.specs.Solutions.{KeepsSolutions}
 use Rattle.lexmin_runs.proofs.Speaking.{leaf_tree-speaks}
-use Rattle.lexmin_runs.proofs.Longer.{longer_forth, longer_back, longer_tableau, row_at-longer, value-constant, values-longer, speaks-longer, speaks-append, row_values-append}
-use Rattle.lexmin_runs.proofs.Asking.{chained-ok, formed-ok, same_first, opposite-value, under-value, under-size, at_least-value, at_least-size}
-use Rattle.lexmin_runs.proofs.Cuts.{taken_off-value, taken_off_not_negative, taken_off_size, get_or-behind, get_or-last, place-says, bound-more, tied_new}
+use Rattle.lexmin_runs.proofs.Longer.{longer_forth, longer_back, longer_tableau, row_at-longer, value-constant}
+use Rattle.lexmin_runs.proofs.Longer.{values-longer, speaks-longer, speaks-append, row_values-append}
+use Rattle.lexmin_runs.proofs.Asking.{chained-ok, formed-ok, same_first, opposite-value, under-value, under-size}
+use Rattle.lexmin_runs.proofs.Asking.{at_least-value, at_least-size}
+use Rattle.lexmin_runs.proofs.Cuts.{taken_off-value, taken_off_not_negative, taken_off_size, get_or-behind, get_or-last}
+use Rattle.lexmin_runs.proofs.Cuts.{place-says, bound-more, tied_new}
 use Rattle.lexmin_runs.proofs.Trees.{paid-ok, IsAsked, first_asked-says}
 use Rattle.quast_trees.specs.Tree.{Tree, initial, bind, branch}
 use Rattle.quast_trees.specs.Tree.{Speaks as TreeSpeaks}

@@ -1,5 +1,6 @@
 -- More steps than the budget change nothing.
-use Rattle.std.proofs.Common.{◌≡◌, ℕ, zero, suc, ◌+◌, ◌<◌, ◌≤◌, ℤ, Bool, true, false, Option, Some, None, List, [], ◌∷◌, ◌++◌, map, take, refl, ap, ◌∙◌, arith}
+use Rattle.std.proofs.Common.{◌≡◌, ℕ, zero, suc, ◌+◌, ◌<◌, ◌≤◌, ℤ, Bool, true, false, Option, Some, None, List, [], ◌∷◌}
+use Rattle.std.proofs.Common.{◌++◌, map, take, refl, ap, ◌∙◌, arith}
 use Rattle.std.specs.Prelude.{Result, Ok, Err, if◌then◌else◌}
 use Rattle.whole_numbers.specs.Floor.{remainder}
 use Rattle.whole_numbers.specs.Affine.{Affine}
@@ -7,8 +8,13 @@ use Rattle.wide_math.specs.declared.Wide.{Wide}
 use Rattle.tableau_rows.specs.Rows.{Row}
 use Rattle.tableau_rows.specs.Moves.{is_below, is_positive, row_at, pivot_run, cut_run}
 use Rattle.tableau_rows.specs.Problem.{problem_of, first_rows}
-use Rattle.tableau_rows.specs.Run.{Stop, point, none, Step, ends, pivots, cuts, next, moved, Outcome, go_on, at_spent, after, run, question, some_positive}
-use Rattle.lexmin_runs.specs.Nodes.{Node, Next, Counted, chained, formed, paid, longer_form, longer_row, part_of, all_zero, place_of, opposite_run, above_run, under_run, at_least_run, answered, ask, context_holds, below_somewhere, above_somewhere, broken_somewhere, first_asked, side, split, with_rows, pivot, taken_off, bound_node, cut_bound, cut, cut_or_leaf, pivot_or_empty, treated, looked, step, followed, tree_run, whole, Frame, resumed}
+use Rattle.tableau_rows.specs.Run.{Stop, point, none, Step, ends, pivots, cuts, next, moved, Outcome, go_on, at_spent}
+use Rattle.tableau_rows.specs.Run.{after, run, question, some_positive}
+use Rattle.lexmin_runs.specs.Nodes.{Node, Next, Counted, chained, formed, paid, longer_form, longer_row, part_of}
+use Rattle.lexmin_runs.specs.Nodes.{all_zero, place_of, opposite_run, above_run, under_run, at_least_run, answered, ask}
+use Rattle.lexmin_runs.specs.Nodes.{context_holds, below_somewhere, above_somewhere, broken_somewhere, first_asked}
+use Rattle.lexmin_runs.specs.Nodes.{side, split, with_rows, pivot, taken_off, bound_node, cut_bound, cut, cut_or_leaf}
+use Rattle.lexmin_runs.specs.Nodes.{pivot_or_empty, treated, looked, step, followed, tree_run, whole, Frame, resumed}
 use Rattle.quast_trees.specs.Tree.{Tree, initial, bind, branch}
 use Rattle.lexmin_runs.specs.Nodes as node
 

@@ -1,5 +1,7 @@
 -- The tree of a run gives, at each point of the context, what is so there.
-use Rattle.std.proofs.Common.{◌≡◌, ℕ, zero, suc, ◌+◌, ◌<◌, ◌≤◌, ℤ, pos, negsuc, ◌+ℤ◌, ◌≤ℤ◌, ◌<ℤ◌, Bool, true, false, Option, Some, None, List, [], ◌∷◌, ◌++◌, length, get_or, map, drop, take, refl, subst, ap, sym, ◌∙◌, arith, length-append, add-one}
+use Rattle.std.proofs.Common.{◌≡◌, ℕ, zero, suc, ◌+◌, ◌<◌, ◌≤◌, ℤ, pos, negsuc, ◌+ℤ◌, ◌≤ℤ◌, ◌<ℤ◌, Bool, true, false}
+use Rattle.std.proofs.Common.{Option, Some, None, List, [], ◌∷◌, ◌++◌, length, get_or, map, drop, take, refl, subst, ap}
+use Rattle.std.proofs.Common.{sym, ◌∙◌, arith, length-append, add-one}
 use Rattle.std.specs.Prelude.{Ok, if◌then◌else◌}
 use Rattle.std.proofs.lemmas.Int.{ints}
 use Rattle.std.proofs.lemmas.List.{length-take-le, take-append-drop, length-drop}
@@ -23,13 +25,21 @@ use Rattle.tableau_rows.proofs.Cutting.{length-cut, IsPlace, cut_constant}
 use Rattle.tableau_rows.proofs.Beginning.{stands_first, givens_of, length-entries_of}
 use Rattle.tableau_rows.proofs.Answering.{Holds, some_positive-false, holds_right}
 use Rattle.lexmin_runs.specs.Answers.{IsAnswer}
-use Rattle.lexmin_runs.specs.Nodes.{Node, Next, ends, goes, binds, splits, Counted, chained, formed, paid, longer_form, longer_row, part_of, all_zero, place_of, opposite_run, under_run, at_least_run, context_holds, below_somewhere, above_somewhere, broken_somewhere, first_asked, leaf_tree, side, split, with_rows, pivot, taken_off, bound_node, cut_bound, cut, cut_or_leaf, pivot_or_empty, treated, looked, step, followed, tree_run, first_node, whole, lexmin_run}
+use Rattle.lexmin_runs.specs.Nodes.{Node, Next, ends, goes, binds, splits, Counted, chained, formed, paid, longer_form}
+use Rattle.lexmin_runs.specs.Nodes.{longer_row, part_of, all_zero, place_of, opposite_run, under_run, at_least_run}
+use Rattle.lexmin_runs.specs.Nodes.{context_holds, below_somewhere, above_somewhere, broken_somewhere, first_asked}
+use Rattle.lexmin_runs.specs.Nodes.{leaf_tree, side, split, with_rows, pivot, taken_off, bound_node, cut_bound, cut}
+use Rattle.lexmin_runs.specs.Nodes.{cut_or_leaf, pivot_or_empty, treated, looked, step, followed, tree_run, first_node}
+use Rattle.lexmin_runs.specs.Nodes.{whole, lexmin_run}
 use Rattle.lexmin_runs.specs.Solutions.{AreBound}
 use Rattle.lexmin_runs.proofs.Verdicts.{said, verdict, answer_right}
-use Rattle.lexmin_runs.proofs.Longer.{AtMost, holds_less, stands_longer, part-value, value-constant, values-longer, speaks-longer, speaks-append, row_values-append, at_most-more, row_at-longer}
-use Rattle.lexmin_runs.proofs.Asking.{chained-ok, formed-ok, same_first, opposite-value, under-value, at_least-value, IsHere, context-false, not_below, not_above, not_broken}
+use Rattle.lexmin_runs.proofs.Longer.{AtMost, holds_less, stands_longer, part-value, value-constant, values-longer}
+use Rattle.lexmin_runs.proofs.Longer.{speaks-longer, speaks-append, row_values-append, at_most-more, row_at-longer}
+use Rattle.lexmin_runs.proofs.Asking.{chained-ok, formed-ok, same_first, opposite-value, under-value, at_least-value}
+use Rattle.lexmin_runs.proofs.Asking.{IsHere, context-false, not_below, not_above, not_broken}
 use Rattle.lexmin_runs.proofs.Leaves.{floors, leaf_tree-value}
-use Rattle.lexmin_runs.proofs.Cuts.{taken_off-value, taken_off_not_negative, taken_off_size, get_or-behind, get_or-last, place-says, bound-more, cut-longer, tied_new}
+use Rattle.lexmin_runs.proofs.Cuts.{taken_off-value, taken_off_not_negative, taken_off_size, get_or-behind, get_or-last}
+use Rattle.lexmin_runs.proofs.Cuts.{place-says, bound-more, cut-longer, tied_new}
 use Rattle.quast_trees.specs.Tree.{Tree, initial, branch, bind}
 use Rattle.quast_trees.specs.Value.{by_sign, value}
 use Rattle.quast_trees.specs.Leaf.{Leaf}

@@ -1,4 +1,5 @@
-use Rattle.std.specs.Prelude.{◌≡◌, ℕ, zero, suc, ℤ, pos, negsuc, ◌≤ℤ◌, Bool, true, false, List, [], ◌∷◌, ◌++◌, length, set, Result, Ok, Err, All}
+use Rattle.std.specs.Prelude.{◌≡◌, ℕ, zero, suc, ℤ, pos, negsuc, ◌≤ℤ◌, Bool, true, false, List, [], ◌∷◌, ◌++◌, length}
+use Rattle.std.specs.Prelude.{set, Result, Ok, Err, All}
 use Rattle.whole_numbers.specs.Lists.{zeros, NotNegative}
 use Rattle.whole_numbers.specs.Affine.{Affine, form_of}
 use Rattle.wide_math.specs.declared.Wide.{Wide}

@@ -1,4 +1,5 @@
-use Rattle.std.specs.Prelude.{ℕ, zero, suc, ◌+◌, ℤ, pos, negsuc, neg_ℤ, ◌-ℤ◌, Bool, true, false, if◌then◌else◌, List, [], ◌∷◌, ◌++◌, get_or, map, take, drop, Option, Some, None, Result, Ok, Err}
+use Rattle.std.specs.Prelude.{ℕ, zero, suc, ◌+◌, ℤ, pos, negsuc, neg_ℤ, ◌-ℤ◌, Bool, true, false, if◌then◌else◌, List}
+use Rattle.std.specs.Prelude.{[], ◌∷◌, ◌++◌, get_or, map, take, drop, Option, Some, None, Result, Ok, Err}
 use Rattle.whole_numbers.specs.Affine.{Affine, form_of}
 use Rattle.whole_numbers.specs.Lists.{zeros}
 use Rattle.whole_numbers.specs.Floor.{floor, remainder}

@@ -10,7 +10,8 @@ ghost use Rattle.quast_trees.specs.Tree.{Tree, Speaks as TreeSpeaks};
 ghost use Rattle.quast_trees.specs.Value.{value};
 ghost use Rattle.lexmin_runs.specs.Answers.{IsAnswer};
 ghost use Rattle.lexmin_runs.specs.Nodes as next;
-ghost use Rattle.lexmin_runs.specs.Nodes.{Frame, resumed, Node, Next, chained, pivot, cut, split, step, followed, whole, first_node, lexmin_run};
+ghost use Rattle.lexmin_runs.specs.Nodes.{Frame, resumed, Node, Next, chained, pivot, cut, split, step, followed};
+ghost use Rattle.lexmin_runs.specs.Nodes.{whole, first_node, lexmin_run};
 ghost use Rattle.lexmin_runs.specs.Solutions.{IsInContext, IsNodeSolution, IsNode, LeadsOn, KeepsSolutions};
 
 /// Where the run of a problem with parameters ends, the tree's value at each point of the context is

@@ -1,5 +1,6 @@
 -- A step of a node under frames.
-use Rattle.std.proofs.Common.{◌≡◌, ℕ, suc, ◌+◌, ◌<◌, List, ◌∷◌, ◌++◌, length, drop, reverse, refl, subst, ap, sym, ◌∙◌, arith}
+use Rattle.std.proofs.Common.{◌≡◌, ℕ, suc, ◌+◌, ◌<◌, List, ◌∷◌, ◌++◌, length, drop, reverse, refl, subst, ap, sym, ◌∙◌}
+use Rattle.std.proofs.Common.{arith}
 use Rattle.std.specs.Prelude.{Ok, Err}
 use Rattle.std.proofs.lemmas.List.{append-nil}
 use Rattle.quast_trees.specs.Tree.{Tree, initial}
@@ -8,7 +9,8 @@ use Rattle.tableau_rows.specs.Run as run
 use Rattle.lexmin_runs.specs.Nodes.{Node, Next, Counted, resumed, whole, step}
 use Rattle.lexmin_runs.specs.Nodes as node
 use Rattle.lexmin_runs.proofs.Kept.{step_nodes}
-use Rattle.lexmin_runs.proofs.Steps.{Costs, costs_step, resumed_ends, resumed_goes, resumed_binds, resumed_splits, resumed_stops}
+use Rattle.lexmin_runs.proofs.Steps.{Costs, costs_step, resumed_ends, resumed_goes, resumed_binds, resumed_splits}
+use Rattle.lexmin_runs.proofs.Steps.{resumed_stops}
 use Rattle.tableau_nodes.specs.declared.node.Tableau.{Tableau}
 use Rattle.tableau_nodes.specs.declared.node.Move.TheVariants as move
 use Rattle.tableau_nodes.specs.Node.{node_of, next_of, AreGoing}

@@ -1,5 +1,6 @@
 -- A decision of emptiness is the run's.
-use Rattle.std.proofs.Common.{◌≡◌, ℕ, zero, suc, Bool, not, List, [], ◌∷◌, ◌++◌, length, refl, subst, ap, sym, ◌∙◌, arith, append_assoc, inl}
+use Rattle.std.proofs.Common.{◌≡◌, ℕ, zero, suc, Bool, not, List, [], ◌∷◌, ◌++◌, length, refl, subst, ap, sym, ◌∙◌}
+use Rattle.std.proofs.Common.{arith, append_assoc, inl}
 use Rattle.std.specs.Prelude.{Result, Ok, Err, All}
 use Rattle.wide_math.specs.declared.Wide.{Wide}
 use Rattle.wide_math.specs.Checked.{◌>>=◌}

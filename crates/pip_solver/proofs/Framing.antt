@@ -1,5 +1,6 @@
 -- Frames that are put on and taken off.
-use Rattle.std.proofs.Common.{◌≡◌, ℕ, suc, ◌≤◌, ℤ, List, [], ◌∷◌, ◌++◌, length, drop, reverse, refl, subst, ap, sym, ◌∙◌, arith}
+use Rattle.std.proofs.Common.{◌≡◌, ℕ, suc, ℤ, List, [], ◌∷◌, ◌++◌, length, drop, reverse, refl, subst, ap, sym, ◌∙◌}
+use Rattle.std.proofs.Common.{arith}
 use Rattle.std.specs.Prelude.{Result, Ok, Err, OnOk}
 use Rattle.std.proofs.lemmas.List.{reverse-append}
 use Rattle.whole_numbers.specs.Affine.{Affine}
@@ -71,15 +72,6 @@ take_joining old rest test trees news is stand made =
         (taken_over old rest (frame.Joining test) (t ∷ u ∷ trees) (branch test u t ∷ trees) e (omega arith)
         (λ n left. refl) refl (λ n are. are))
 
--- two trees at least stand before a test is joined
-pub joining_stands : (old rest : List frame.the_data) (test : Affine) (trees : List Tree)
-    → old ≡ rest ++ frame.Joining test ∷ []
-    → length trees ≡ suc (joins (reverse old)) → 2 ≤ length trees
-joining_stands old rest test trees is stand =
-    let e = turned_last old rest (frame.Joining test) is in
-    let s = stand ∙ ap (λ (fs : List frame.the_data). suc (joins fs)) e in
-    omega arith
-
 -- a second side is taken off, and its test put on
 pub record Turned (old rest : List frame.the_data) (node : Tableau) (new : List frame.the_data) (trees : List Tree) :
     Type 0 where
@@ -113,10 +105,7 @@ take_second old rest new test node trees is made stand =
               (both.0, subst (λ (fs : List frame.the_data). AreReady n fs) (sym f) both.1);
         }
 
--- a bind is put on
-pub keeps_sides : (old : List frame.the_data) → KeepsSides old old
-keeps_sides old = record { joined = refl; waiting = refl; ready = λ n are. are }
-
+-- frames put on one after another
 pub sides_on : (old mid new : List frame.the_data) → KeepsSides old mid → KeepsSides mid new → KeepsSides old new
 sides_on old mid new first next =
     record {
@@ -124,24 +113,6 @@ sides_on old mid new first next =
       waiting = next.waiting ∙ first.waiting;
       ready = λ n are. next.ready n (first.ready n are);
     }
-
-pub put_binding : (old new : List frame.the_data) (form : Affine) (divisor : ℤ)
-    → new ≡ old ++ frame.Binding form divisor ∷ [] → KeepsSides old new
-put_binding old new form divisor is =
-    let e = turned_last new old (frame.Binding form divisor) is in
-    record {
-      joined = ap (λ (fs : List frame.the_data). joins fs) e;
-      waiting = ap (λ (fs : List frame.the_data). seconds fs) e;
-      ready = λ n are. subst (λ (fs : List frame.the_data). AreReady n fs) (sym e) are;
-    }
-
-pub under_binding : (n left : ℕ) (old new : List frame.the_data) (form : Affine) (divisor : ℤ) (trees : List Tree)
-    (t u : Tree) → new ≡ old ++ frame.Binding form divisor ∷ []
-    → bind form divisor t ≡ u → under n new trees (Ok (t, left)) ≡ under n old trees (Ok (u, left))
-under_binding n left old new form divisor trees t u is same =
-    ap (λ (fs : List frame.the_data). resumed n (framing fs trees) (Ok (t, left)))
-    (turned_last new old (frame.Binding form divisor) is)
-    ∙ ap (λ (v : Tree). under n old trees (Ok (v, left))) same
 
 -- a leaf on top
 pub on_ok : {X E A B : Type 0} (r : Result X E) → (A → B) → OnOk r A → OnOk r B

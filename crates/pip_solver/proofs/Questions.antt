@@ -1,8 +1,7 @@
 -- The questions of a node, as the code asks them.
-use Rattle.std.proofs.Common.{◌≡◌, ℕ, zero, suc, ◌+◌, ◌<◌, ◌≤◌, ℤ, pos, Bool, true, false, List, [], ◌∷◌, ◌++◌, length, drop, refl, subst, ap, sym, ◌∙◌, arith, add-one, drop-cons}
-use Rattle.std.specs.Prelude.{Option, Some, None, Ok, Err, All, if◌then◌else◌}
-use Rattle.std.proofs.lemmas.List.{append-nil}
-use Rattle.std.proofs.Math.ListN.{drop_of_length-le}
+use Rattle.std.proofs.Common.{◌≡◌, ℕ, zero, suc, ◌+◌, ◌<◌, ℤ, pos, Bool, true, false, List, [], ◌∷◌, length, drop, refl}
+use Rattle.std.proofs.Common.{subst, ap, sym, ◌∙◌, arith, add-one, drop-cons}
+use Rattle.std.specs.Prelude.{Option, Some, Ok, Err, All, if◌then◌else◌}
 use Rattle.whole_numbers.specs.Lists.{zeros}
 use Rattle.whole_numbers.proofs.Dot.{length-zeros}
 use Rattle.whole_numbers.specs.Affine.{Affine}
@@ -10,7 +9,7 @@ use Rattle.tableau_rows.specs.Rows.{Row, row_of}
 use Rattle.tableau_rows.specs.Moves.{row_at}
 use Rattle.tableau_rows.specs.Problem.{problem_of, first_rows}
 use Rattle.tableau_rows.specs.Run.{question, run}
-use Rattle.lexmin_runs.specs.Nodes.{Counted, chained, answered, ask, context_holds, opposite_run, above_run, first_asked}
+use Rattle.lexmin_runs.specs.Nodes.{Counted, chained, answered, ask, opposite_run, above_run, first_asked}
 use Rattle.lexmin_runs.specs.Solutions.{IsNode}
 use Rattle.lexmin_runs.proofs.Asking.{opposite-value, above-value}
 use Rattle.tableau_nodes.proofs.Read_off.{size_of_part}
@@ -36,10 +35,6 @@ pub above-size : (d : ℤ) (f g : Affine) → above_run d f ≡ Ok g → length 
 above-size d f g h = (above-value d f g (zeros (length f.coefficients)) (pos 0)
     (sym (length-zeros (length f.coefficients))) h).1
 
-pub context-some : (left m : ℕ) (fs : List Affine) → (m ≡ 0 → ⊥) → context_holds left m fs ≡ ask left m (fs ++ [])
-context-some left zero fs some = absurd (some refl)
-context-some left (suc m) fs some = ap (λ (gs : List Affine). ask left (suc m) gs) (sym (append-nil fs))
-
 pub asks_of : (t : Tableau) (row : ℕ) → IsNode t.rows.unknowns (node_of t) → row < length t.rows.rows → AsksOf t row
 asks_of t row is within = (within, is.speaks, size_of_part t row is within)
 
@@ -60,10 +55,6 @@ asked-more test left i rest rows within not =
     ∙ ap (λ (q : Counted Bool). chained q (λ yes rest. if yes then Ok (Some i, rest)
     else first_asked test rest (suc i) (drop (suc i) rows))) not
     ∙ ap (λ (k : ℕ). first_asked test rest k (drop k rows)) (sym (add-one i))
-
-pub asked-end : (test : ℕ → Row → Counted Bool) (left i : ℕ) (rows : List Row) → length rows ≤ i
-    → first_asked test left i (drop i rows) ≡ Ok (None, left)
-asked-end test left i rows past = ap (λ (rs : List Row). first_asked test left i rs) (drop_of_length-le rows past)
 
 -- a call that stops, stops what is chained to it
 pub chained-stops : {A B : Type 0} (s : QuestionStop) (left : ℕ) (q : Counted A) (f : A → ℕ → Counted B)

@@ -5,7 +5,9 @@ use Rattle.wide_math.specs.declared.Wide.{Wide}
 use Rattle.wide_math.specs.Checked.{◌>>=◌}
 use Rattle.tableau_rows.specs.Rows.{Row}
 use Rattle.tableau_rows.specs.Moves.{row_at, pivot_run, cut_run}
-use Rattle.tableau_rows.specs.Run.{point, none, Step, ends, pivots, cuts, wide, spent, first_row, has_below, has_fraction, some_positive, quotients, pivot_or_cut, cut_or_end, next, run, at_spent, after, go_on}
+use Rattle.tableau_rows.specs.Run.{point, none, Step, ends, pivots, cuts, wide, spent, first_row, has_below}
+use Rattle.tableau_rows.specs.Run.{has_fraction, some_positive, quotients, pivot_or_cut, cut_or_end, next, run}
+use Rattle.tableau_rows.specs.Run.{at_spent, after, go_on}
 
 -- what is next
 pub next_pivots : (n : ℕ) (rows : List Row) (r : ℕ) → first_row (has_below n) 0 rows ≡ Some r

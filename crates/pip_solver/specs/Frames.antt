@@ -1,4 +1,5 @@
-use Rattle.std.specs.Prelude.{◌≡◌, ℕ, suc, ◌+◌, ◌<◌, List, [], ◌∷◌, length, drop, reverse, Option, Some, None, Result, Ok, Err, ⊤}
+use Rattle.std.specs.Prelude.{◌≡◌, ℕ, suc, ◌+◌, ◌<◌, List, [], ◌∷◌, length, drop, reverse, Option, Some, None, Result}
+use Rattle.std.specs.Prelude.{Ok, Err, ⊤}
 use Rattle.quast_trees.specs.Tree.{Tree, initial}
 use Rattle.quast_trees.specs.Postfix.{top}
 use Rattle.lexmin_runs.specs.Nodes.{Counted, Frame, binding, second, joining, resumed, whole}

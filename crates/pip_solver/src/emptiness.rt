@@ -5,7 +5,8 @@ ghost use Rattle.whole_numbers.specs.Affine.{form_of};
 ghost use Rattle.affine_forms.specs.Parts.{variables_of};
 ghost use Rattle.integer_sets.specs.Constraints.{IsSized, variables_in};
 ghost use Rattle.whole_numbers.specs.Lists.{zeros};
-ghost use Rattle.lexmin_runs.specs.Emptiness.{negated_run, equality_rows_run, bound_rows, posed_run, IsBoundedPoint, HasBoundedPoint};
+ghost use Rattle.lexmin_runs.specs.Emptiness.{negated_run, equality_rows_run, bound_rows, posed_run, IsBoundedPoint};
+ghost use Rattle.lexmin_runs.specs.Emptiness.{HasBoundedPoint};
 ghost use Rattle.pip_solver.specs.Answers.{Decides, Empties, Poses, equality_run};
 
 use crate::question::{QuestionStop, question};

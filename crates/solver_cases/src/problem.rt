@@ -6,7 +6,25 @@ use crate::quast::print_quast;
 use case_lines::{Lines, print_forms, read_forms};
 use checked_tableau::Problem;
 use pip_solver::{Stop, solve};
+use std::alloc::{AllocError, Global};
 use std::io;
+use tableau_nodes::copies;
+
+/// Solves a copy of a problem, and lets what comes of it go.
+fn solve_again(alloc: Global, problem: &Problem, budget: u64) -> Result<(), AllocError>
+    requires { IsOver problem.now.unknowns problem.now.parameters problem.now }
+{
+    let rows = copies(alloc, &problem.rows)?;
+    let context = copies(alloc, &problem.context)?;
+    let copy = Problem {
+        unknowns: problem.unknowns,
+        parameters: problem.parameters,
+        rows,
+        context,
+    };
+    let _answer = solve(alloc, copy, budget);
+    Ok(())
+}
 
 /// Prints the answer line of a problem.
 fn print_answer<R: Print + AllocGlobal>(rt: &R, problem: Problem, budget: u64) -> io::Result<()>
@@ -24,9 +42,9 @@ fn print_answer<R: Print + AllocGlobal>(rt: &R, problem: Problem, budget: u64) -
     }
 }
 
-/// Reads a case, leaves its answer out of account, and prints it with that of the solver. False where the line in
-/// front is not what it is to be.
-pub fn problem<R: Print + AllocGlobal>(rt: &R, lines: &mut Lines) -> io::Result<bool> {
+/// Reads a case, leaves its answer out of account, and prints it with that of the solver, which is asked so many times
+/// over, once at least. False where the line in front is not what it is to be.
+pub fn problem<R: Print + AllocGlobal>(rt: &R, lines: &mut Lines, times: u64) -> io::Result<bool> {
     let counts = match lines.counts(rt.alloc(), "problem")? {
         Some(counts) => counts,
         None => return Ok(false),
@@ -55,6 +73,9 @@ pub fn problem<R: Print + AllocGlobal>(rt: &R, lines: &mut Lines) -> io::Result<
         rows,
         context,
     };
+    for _ in 1..times {
+        solve_again(rt.alloc(), &problem, budget as u64)?;
+    }
     print_answer(rt, problem, budget as u64)?;
     Ok(true)
 }

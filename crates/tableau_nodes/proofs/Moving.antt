@@ -1,42 +1,18 @@
 -- The moves of a node, from those of its rows.
-use Rattle.std.proofs.Common.{◌≡◌, ℕ, suc, ◌+◌, ◌<◌, ℤ, Bool, false, List, [], ◌∷◌, ◌++◌, length, map, refl, subst, ap, sym, ◌∙◌}
-use Rattle.std.specs.Prelude.{Option, Some, None, Result, Ok, Err, IfOk, OnOk}
+use Rattle.std.proofs.Common.{◌≡◌, ℕ, ◌+◌, ◌<◌, ℤ, [], ◌∷◌, ◌++◌, length, map, refl, subst}
+use Rattle.std.specs.Prelude.{Some, None, Result, Ok, Err, IfOk, OnOk}
 use Rattle.wide_math.specs.declared.Wide.{Wide}
 use Rattle.whole_numbers.specs.Affine.{Affine}
 use Rattle.tableau_rows.specs.Rows.{Row}
-use Rattle.tableau_rows.specs.Moves.{pivot_run, cut_run, row_at}
+use Rattle.tableau_rows.specs.Moves.{cut_run, row_at}
 use Rattle.checked_tableau.specs.Lines.{behind_columns}
 use Rattle.lexmin_runs.proofs.Longer.{row_at-longer}
-use Rattle.tableau_rows.specs.Run.{wide}
-use Rattle.lexmin_runs.specs.Nodes.{Node, Bound, Next, goes, Counted, formed, with_rows, pivot, longer_row, at_least_run, under_run}
+use Rattle.lexmin_runs.specs.Nodes.{Next, goes, Counted, pivot, longer_row, at_least_run, under_run}
 use Rattle.checked_tableau.specs.Table.{Table, table_of, resumed}
-use Rattle.tableau_nodes.specs.Node.{node_in, node_of, next_of, tied_run, Moves, Pivots, Keeps}
+use Rattle.tableau_nodes.specs.Node.{node_of, next_of, tied_run, Moves, Pivots, Keeps}
 use Rattle.tableau_nodes.specs.declared.node.Tableau.{Tableau}
 use Rattle.tableau_nodes.specs.declared.node.Move.TheVariants as move
 use Rattle.checked_tableau.specs.declared.stop.TableauStop.{TableauStop}
-
-pub pivot-goes : (old new : Table) (begins : Bool) (context : List Affine) (bounds : List Bound) (row left : ℕ)
-    → old.stopped ≡ None
-    → resumed old.stopped (pivot_run old.unknowns old.rows row) ≡ Ok new.rows
-    → new ≡ table_of old.unknowns old.parameters new.rows None
-    → pivot old.unknowns (suc left) (node_in begins old context bounds) row
-    ≡ Ok (goes (node_in false new context bounds), left)
-pivot-goes old new begins context bounds row left going run is =
-    let e = subst (λ (o : Option Wide). resumed o (pivot_run old.unknowns old.rows row) ≡ Ok new.rows) going run in
-    let same : node_in false (table_of old.unknowns old.parameters new.rows None) context bounds
-    ≡ node_in false new context bounds = ap (λ (t : Table). node_in false t context bounds) (sym is) in
-    ap (λ (q : Result (List Row) Wide). formed (suc left) q
-    (λ rows. Ok (goes (with_rows (node_in begins old context bounds) rows), left))) e
-    ∙ ap (λ (node : Node). Ok (goes node, left)) same
-
-pub pivot-wide : (old : Table) (begins : Bool) (context : List Affine) (bounds : List Bound) (row left : ℕ) (w : Wide)
-    → old.stopped ≡ None
-    → resumed old.stopped (pivot_run old.unknowns old.rows row) ≡ Err w
-    → pivot old.unknowns (suc left) (node_in begins old context bounds) row ≡ Err (wide w (suc left))
-pivot-wide old begins context bounds row left w going run =
-    let e = subst (λ (o : Option Wide). resumed o (pivot_run old.unknowns old.rows row) ≡ Err w) going run in
-    ap (λ (q : Result (List Row) Wide). formed (suc left) q
-    (λ rows. Ok (goes (with_rows (node_in begins old context bounds) rows), left))) e
 
 -- the cut on a row of the wider rows
 pub widened-cut : (old wider new : Table) (i place : ℕ)

@@ -1,9 +1,7 @@
 -- Opposites, one after the other.
-use Rattle.std.proofs.Common.{◌≡◌, ℕ, suc, ◌+◌, ◌<◌, ◌≤◌, ℤ, pos, List, [], ◌∷◌, ◌++◌, length, get_or, drop, refl, ap, sym, add-one, drop-cons}
-use Rattle.std.specs.Prelude.{Ok, Err}
-use Rattle.std.proofs.lemmas.List.{append-nil}
-use Rattle.std.proofs.Math.ListN.{drop_of_length-le}
-use Rattle.wide_math.specs.declared.Wide.{Wide}
+use Rattle.std.proofs.Common.{◌≡◌, ℕ, suc, ◌+◌, ◌<◌, ℤ, pos, List, [], ◌∷◌, ◌++◌, length, get_or, drop, sym, add-one}
+use Rattle.std.proofs.Common.{drop-cons}
+use Rattle.std.specs.Prelude.{Ok}
 use Rattle.wide_math.specs.Checked.{difference_of}
 use Rattle.affine_forms.proofs.Steps.{with_front, with_front-step}
 use Rattle.lexmin_runs.specs.Nodes.{opposites_run}
@@ -13,12 +11,3 @@ pub opposites-step : (xs front : List ℤ) (i : ℕ) (z : ℤ) → i < length xs
     → with_front (front ++ z ∷ []) (opposites_run (drop (i + 1) xs)) ≡ with_front front (opposites_run (drop i xs))
 opposites-step xs front i z h e =
     rw (drop-cons xs i (pos 0) h, add-one i, e) (sym (with_front-step front z (opposites_run (drop (suc i) xs))))
-
-pub opposites-stop : (xs front : List ℤ) (i : ℕ) (w : Wide) → i < length xs
-    → difference_of (pos 0) (get_or xs i (pos 0)) ≡ Err w
-    → with_front front (opposites_run (drop i xs)) ≡ Err w
-opposites-stop xs front i w h e = rw (drop-cons xs i (pos 0) h, e) refl
-
-pub opposites-end : (xs front : List ℤ) (i : ℕ) → length xs ≤ i
-    → with_front front (opposites_run (drop i xs)) ≡ Ok front
-opposites-end xs front i h = rw (drop_of_length-le xs h) (ap Ok (append-nil front))

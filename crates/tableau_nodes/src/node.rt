@@ -8,7 +8,8 @@ ghost use Rattle.tableau_rows.specs.Problem.{problem_of};
 ghost use Rattle.lexmin_runs.specs.Nodes.{first_node, goes, part_of, side, split, cut, taken_off};
 ghost use Rattle.lexmin_runs.specs.Solutions.{ArePlaced, IsNode};
 ghost use Rattle.checked_tableau.specs.declared.stop.TableauStop.TheVariants as stop;
-ghost use Rattle.tableau_nodes.specs.Node.{node_of, next_of, IsGoing, Keeps, Pivots, Moves, cut_known, cut_new, tied_run, TiesParts, BindsOn};
+ghost use Rattle.tableau_nodes.specs.Node.{node_of, next_of, IsGoing, Keeps, Pivots, Moves, cut_known, cut_new};
+ghost use Rattle.tableau_nodes.specs.Node.{tied_run, TiesParts, BindsOn};
 
 use crate::bounds::{Bound, copied_bounds, place_of};
 use crate::forms::{at_least, copies, longer_forms, opposite, under};

@@ -1,5 +1,7 @@
 -- A run without parameters that ends says what is so.
-use Rattle.std.proofs.Common.{◌≡◌, ◌≢◌, ℕ, zero, suc, ◌+◌, ◌<◌, ◌≤◌, ℤ, pos, ◌-ℤ◌, ◌≤ℤ◌, ◌<ℤ◌, Bool, true, false, Option, Some, None, List, [], ◌∷◌, ◌++◌, length, get_or, drop, take, refl, subst, ap, sym, ◌∙◌, arith}
+use Rattle.std.proofs.Common.{◌≡◌, ◌≢◌, ℕ, zero, suc, ◌+◌, ◌<◌, ◌≤◌, ℤ, pos, ◌-ℤ◌, ◌≤ℤ◌, ◌<ℤ◌, Bool, true, false}
+use Rattle.std.proofs.Common.{Option, Some, None, List, [], ◌∷◌, ◌++◌, length, get_or, drop, take, refl, subst, ap, sym}
+use Rattle.std.proofs.Common.{◌∙◌, arith}
 use Rattle.std.specs.Prelude.{Result, Ok, Err, if◌then◌else◌}
 use Rattle.std.proofs.lemmas.Int.{ints}
 use Rattle.std.proofs.lemmas.List.{length-take-le, take-append-drop}
@@ -18,7 +20,9 @@ use Rattle.wide_math.proofs.Steps.{chain-ok}
 use Rattle.tableau_rows.specs.Rows.{Row, entry, Means, Sized}
 use Rattle.tableau_rows.specs.Moves.{is_positive, row_at, cut_run, cut_entries}
 use Rattle.tableau_rows.specs.Problem.{first_rows, Speaks}
-use Rattle.tableau_rows.specs.Run.{Verdict, point, none, Step, ends, pivots, cuts, first_row, some_positive, has_below, has_fraction, quotients, cut_or_end, pivot_or_cut, next, moved, Outcome, go_on, at_spent, after, run, question, IsRight}
+use Rattle.tableau_rows.specs.Run.{Verdict, point, none, Step, ends, pivots, cuts, first_row, some_positive, has_below}
+use Rattle.tableau_rows.specs.Run.{has_fraction, quotients, cut_or_end, pivot_or_cut, next, moved, Outcome, go_on}
+use Rattle.tableau_rows.specs.Run.{at_spent, after, run, question, IsRight}
 use Rattle.tableau_rows.proofs.Invariant.{IsInside, Stands}
 use Rattle.tableau_rows.proofs.Choosing.{below_true, below_false, positive_false}
 use Rattle.tableau_rows.proofs.Cutting.{remainder_in, cut_constant}

@@ -1,5 +1,7 @@
 -- What stands holds of a problem's tableau at first.
-use Rattle.std.proofs.Common.{◌↔◌, ◌<◌, ◌≡◌, ◌≢◌, ℕ, zero, suc, ◌+◌, ◌≤◌, ℤ, pos, ◌≤ℤ◌, ◌<ℤ◌, inl, inr, List, [], ◌∷◌, ◌++◌, length, set, get_or, map, drop, take, refl, subst, ap, ap₂, sym, ◌∙◌, arith, length-append, append_assoc, drop-cons}
+use Rattle.std.proofs.Common.{◌↔◌, ◌<◌, ◌≡◌, ◌≢◌, ℕ, zero, suc, ◌+◌, ◌≤◌, ℤ, pos, ◌≤ℤ◌, ◌<ℤ◌, inl, inr, List, [], ◌∷◌}
+use Rattle.std.proofs.Common.{◌++◌, length, set, get_or, map, drop, take, refl, subst, ap, ap₂, sym, ◌∙◌, arith}
+use Rattle.std.proofs.Common.{length-append, append_assoc, drop-cons}
 use Rattle.std.proofs.lemmas.Int.{ints, by_lt_z}
 use Rattle.std.proofs.lemmas.List.{length-take-le, get_or-set_same, get_or-set_other, take-append-drop, length-drop}
 use Rattle.std.proofs.Math.ListN.{length-set}
@@ -15,7 +17,8 @@ use Rattle.whole_numbers.proofs.Dot.{length-zeros, dot-unit, dot-append, get_or-
 use Rattle.tableau_rows.specs.Rows.{Row, entry, At, Means, Sized}
 use Rattle.tableau_rows.specs.Solutions.{IsSolution, IsColumn, HasColumn, IsTableau}
 use Rattle.tableau_rows.specs.Moves.{row_at, unit_row}
-use Rattle.tableau_rows.specs.Problem.{problem_of, row_values, IsPoint, entries_of, unit_rows, given_rows, first_rows, Speaks}
+use Rattle.tableau_rows.specs.Problem.{problem_of, row_values, IsPoint, entries_of, unit_rows, given_rows, first_rows}
+use Rattle.tableau_rows.specs.Problem.{Speaks}
 use Rattle.tableau_rows.proofs.Standing.{solution_inside}
 use Rattle.tableau_rows.proofs.Invariant.{column, values, IsInside, Stands}
 use Rattle.tableau_rows.proofs.Points.{means_shorter}

@@ -1,5 +1,7 @@
 -- A pivot over a buffer, row by row.
-use Rattle.std.proofs.Common.{◌≡◌, ℕ, zero, suc, ◌+◌, ◌*◌, ◌≤◌, ℤ, pos, ◌<ℤ◌, Bool, true, false, List, ◌∷◌, ◌++◌, length, get_or, drop, take, replicate, refl, subst, ap, sym, ◌∙◌, arith, append_assoc, drop-drop}
+use Rattle.std.proofs.Common.{◌≡◌, ℕ, zero, suc, ◌+◌, ◌*◌, ◌≤◌, ℤ, pos, ◌<ℤ◌, Bool, true, false, List, ◌∷◌, ◌++◌}
+use Rattle.std.proofs.Common.{length, get_or, drop, take, replicate, refl, subst, ap, sym, ◌∙◌, arith, append_assoc}
+use Rattle.std.proofs.Common.{drop-drop}
 use Rattle.std.specs.Prelude.{Result, Ok, Err, nat_eq}
 use Rattle.std.proofs.lemmas.Int.{ints}
 use Rattle.std.proofs.lemmas.List.{length-take-le, length-drop, take-append-drop}
@@ -14,7 +16,7 @@ use Rattle.wide_math.specs.declared.Wide.{Wide}
 use Rattle.wide_math.specs.Checked.{product_of, ◌>>=◌}
 use Rattle.wide_math.proofs.Steps.{chain-ok, product_of-ok}
 use Rattle.affine_forms.proofs.Steps.{with_front}
-use Rattle.tableau_rows.specs.Moves.{entries_run, line_run, lowest_line_run, unit_line, placed_line_run, buffer_run, HeadsPositive}
+use Rattle.tableau_rows.specs.Moves.{entries_run, line_run, lowest_line_run, placed_line_run, buffer_run, HeadsPositive}
 
 pub zeros-replicate : (n : ℕ) → replicate n (pos 0) ≡ zeros n
 zeros-replicate zero = refl
@@ -34,11 +36,6 @@ line_run-head s ps row zs h here there =
     let m = mul_positive (get_or row 0 (pos 0)) (get_or ps (s + 1) (pos 0)) here there in
     let e : zs ≡ c.0 ∷ d.0 = cc (d.2) in
     subst (λ (ws : List ℤ). pos 0 <ℤ get_or ws 0 (pos 0)) (sym e) (omega (arith, ints))
-
-pub placed-pivot : (b : Bool) (s : ℕ) (ps row new : List ℤ) → b ≡ true → new ≡ unit_line (length row) s
-    → placed_line_run b s ps row ≡ Ok new
-placed-pivot true s ps row new e h = ap (λ (zs : List ℤ). Ok zs) (sym h)
-placed-pivot false s ps row new e h = cc
 
 pub placed-err : (b : Bool) (s : ℕ) (ps row : List ℤ) (w : Wide) → b ≡ false → line_run s ps row ≡ Err w
     → placed_line_run b s ps row ≡ Err w
@@ -70,14 +67,6 @@ buffer-step r s ps at left done rest row more new parts size run =
         → with_front (done ++ new) q ≡ with_front done (q >>= λ rest. Ok (new ++ rest))
     by_rest (Ok zs) = ap (λ (ws : List ℤ). Ok ws) (append_assoc done new zs)
     by_rest (Err w) = refl
-
-pub buffer-err : (r s : ℕ) (ps : List ℤ) (at left : ℕ) (done rest row more : List ℤ) (w : Wide) → rest ≡ row ++ more
-    → length row ≡ length ps
-    → placed_line_run (nat_eq at r) s ps row ≡ Err w → with_front done (buffer_run r s ps at (suc left) rest) ≡ Err w
-buffer-err r s ps at left done rest row more w parts size run =
-    let t : take (length ps) (row ++ more) ≡ row = subst (λ (k : ℕ). take k (row ++ more) ≡ row) size
-    (take-append_seam row more) in
-    rw (parts, t, run) refl
 
 -- a row written back
 pub buffer_kept : (r s : ℕ) (ps cells new : List ℤ) (run : Result (List ℤ) Wide) (start at left k n : ℕ)

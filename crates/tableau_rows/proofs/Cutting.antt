@@ -7,14 +7,16 @@ use Rattle.tableau_rows.proofs.Moving.{lowered_sized}
 use Rattle.tableau_rows.proofs.Pivots.{lowered_at}
 use Rattle.tableau_rows.proofs.Least.{dot_apart}
 use Rattle.tableau_rows.proofs.Lowest.{lowest_is}
-use Rattle.std.proofs.Common.{refl, ◌≡◌, ℕ, zero, suc, ◌<◌, ℤ, pos, neg_ℤ, ◌+ℤ◌, ◌-ℤ◌, ◌*ℤ◌, ◌≤ℤ◌, ◌<ℤ◌, Option, Some, None, List, [], ◌∷◌, ◌++◌, length, get_or, subst, ap, ap₂, sym, ◌∙◌, arith}
+use Rattle.std.proofs.Common.{refl, ◌≡◌, ℕ, zero, suc, ◌<◌, ℤ, pos, neg_ℤ, ◌+ℤ◌, ◌-ℤ◌, ◌*ℤ◌, ◌≤ℤ◌, ◌<ℤ◌, Option, Some}
+use Rattle.std.proofs.Common.{None, List, [], ◌∷◌, ◌++◌, length, get_or, subst, ap, ap₂, sym, ◌∙◌, arith}
 use Rattle.std.specs.Prelude.{Ok}
 use Rattle.std.proofs.lemmas.Int.{ints}
 use Rattle.whole_numbers.specs.Lists.{dot, zeros, NotNegative}
 use Rattle.whole_numbers.specs.Floor.{floor, remainder}
 use Rattle.whole_numbers.specs.Division.{IsFloor}
 use Rattle.whole_numbers.proofs.Floors.{floor_is}
-use Rattle.whole_numbers.proofs.Ring.{mul_comm_int, mul_zero_left, mul_sub_left, mul_sub_right, mul_distrib_left, mul_assoc_int, mul_neg_left}
+use Rattle.whole_numbers.proofs.Ring.{mul_comm_int, mul_zero_left, mul_sub_left, mul_sub_right, mul_distrib_left}
+use Rattle.whole_numbers.proofs.Ring.{mul_assoc_int, mul_neg_left}
 use Rattle.whole_numbers.proofs.Order.{mul_not_negative, factor_up}
 use Rattle.whole_numbers.proofs.Dot.{dot-set_left, dot-nil}
 use Rattle.wide_math.specs.Checked.{difference_of, ◌>>=◌}

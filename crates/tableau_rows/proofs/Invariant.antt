@@ -1,5 +1,6 @@
 -- What the moves keep of a tableau, beside its solutions: the proofs' own words.
-use Rattle.std.specs.Prelude.{◌≡◌, ℕ, ◌<◌, ◌≤◌, ◌+◌, take, ℤ, pos, ◌+ℤ◌, ◌-ℤ◌, ◌*ℤ◌, ◌<ℤ◌, List, [], ◌∷◌, ◌++◌, length, get_or, set, map, drop, ⊤}
+use Rattle.std.specs.Prelude.{◌≡◌, ℕ, ◌<◌, ◌≤◌, ◌+◌, take, ℤ, pos, ◌+ℤ◌, ◌-ℤ◌, ◌*ℤ◌, ◌<ℤ◌, List, [], ◌∷◌, ◌++◌, length}
+use Rattle.std.specs.Prelude.{get_or, set, map, drop, ⊤}
 use Rattle.whole_numbers.specs.Lexicographic.{LexNotNegative}
 use Rattle.whole_numbers.specs.Lists.{dot, multiples, zeros, NotNegative}
 use Rattle.tableau_rows.specs.Rows.{Row, row_of, entry, Means, Sized}

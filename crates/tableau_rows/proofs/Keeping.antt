@@ -1,5 +1,7 @@
 -- A pivot and a cut keep a tableau and its whole solutions, in both directions.
-use Rattle.std.proofs.Common.{◌≡◌, ◌≢◌, ℕ, zero, suc, ◌+◌, ◌-◌, ◌<◌, ◌≤◌, ℤ, pos, ◌-ℤ◌, ◌*ℤ◌, ◌<ℤ◌, Option, Some, None, List, [], ◌∷◌, ◌++◌, length, set, get_or, take, refl, subst, ap, sym, ◌∙◌, arith, append_assoc, length-append}
+use Rattle.std.proofs.Common.{◌≡◌, ◌≢◌, ℕ, zero, suc, ◌+◌, ◌-◌, ◌<◌, ◌≤◌, ℤ, pos, ◌-ℤ◌, ◌*ℤ◌, ◌<ℤ◌, Option, Some, None}
+use Rattle.std.proofs.Common.{List, [], ◌∷◌, ◌++◌, length, set, get_or, take, refl, subst, ap, sym, ◌∙◌, arith}
+use Rattle.std.proofs.Common.{append_assoc, length-append}
 use Rattle.std.specs.Prelude.{Ok}
 use Rattle.std.proofs.lemmas.Int.{ints}
 use Rattle.std.proofs.lemmas.List.{set-append_left, length-take-le}
@@ -8,12 +10,14 @@ use mathlib.Core.Logic.{dite}
 use native.Mathlib.Decide.{ℕ_discrete}
 use Rattle.whole_numbers.proofs.Lists.{not_negative-at, not_negative-append, not_negative-set}
 use Rattle.whole_numbers.specs.Lists.{dot, NotNegative}
-use Rattle.whole_numbers.proofs.Ring.{mul_comm_int, mul_zero_left, mul_zero_right, mul_assoc_int, mul_distrib_left, mul_sub_left, left_comm}
+use Rattle.whole_numbers.proofs.Ring.{mul_comm_int, mul_zero_left, mul_zero_right, mul_assoc_int, mul_distrib_left}
+use Rattle.whole_numbers.proofs.Ring.{mul_sub_left, left_comm}
 use Rattle.whole_numbers.proofs.Order.{cancel_eq}
 use Rattle.whole_numbers.proofs.Dot.{dot-set, get_or-multiples}
 use Rattle.tableau_rows.specs.Rows.{Row, entry, At, Means, Sized}
 use Rattle.tableau_rows.specs.Moves.{row_at, pivot_run, pivot_in, column_run, rows_run, cut_run, cut_entries}
-use Rattle.tableau_rows.specs.Solutions.{IsSolution, IsColumn, HasColumn, IsTableau, HaveSameSolutions, IsPlaced, IsTied}
+use Rattle.tableau_rows.specs.Solutions.{IsSolution, IsColumn, HasColumn, IsTableau, HaveSameSolutions, IsPlaced}
+use Rattle.tableau_rows.specs.Solutions.{IsTied}
 use Rattle.tableau_rows.proofs.Invariant.{combined, IsLowered, Pivoted}
 use Rattle.tableau_rows.proofs.Points.{means_at, sized_at, means_more, sized_more}
 use Rattle.tableau_rows.proofs.Pivots.{dot-combined, raised_at, pivot_means}

@@ -1,5 +1,6 @@
 -- The runs of rows in the parts that the code takes.
-use Rattle.std.proofs.Common.{◌≡◌, ℕ, zero, suc, ◌+◌, ◌<◌, ℤ, pos, List, [], ◌∷◌, ◌++◌, length, set, get_or, drop, take, refl, subst, ap, sym, ◌∙◌, arith, add-one}
+use Rattle.std.proofs.Common.{◌≡◌, ℕ, zero, suc, ◌+◌, ◌<◌, ℤ, pos, List, [], ◌∷◌, ◌++◌, length, set, get_or, drop, take}
+use Rattle.std.proofs.Common.{refl, subst, ap, sym, ◌∙◌, arith, add-one}
 use Rattle.std.specs.Prelude.{Result, Ok, Err}
 use Rattle.wide_math.specs.declared.Wide.{Wide}
 use Rattle.wide_math.specs.Checked.{product_of, cross_of, ◌>>=◌}

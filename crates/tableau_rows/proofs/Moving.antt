@@ -1,5 +1,6 @@
 -- A pivot that is not too wide combines each row with the pivot row.
-use Rattle.std.proofs.Common.{◌≡◌, ℕ, zero, suc, ◌+◌, ◌<◌, ℤ, pos, ◌-ℤ◌, ◌*ℤ◌, ◌<ℤ◌, List, [], ◌∷◌, length, set, refl, subst, ap, ap₂, sym, ◌∙◌, arith}
+use Rattle.std.proofs.Common.{◌≡◌, ℕ, zero, suc, ◌+◌, ◌<◌, ℤ, pos, ◌-ℤ◌, ◌*ℤ◌, ◌<ℤ◌, List, [], ◌∷◌, length, set, refl}
+use Rattle.std.proofs.Common.{subst, ap, ap₂, sym, ◌∙◌, arith}
 use Rattle.std.specs.Prelude.{Ok, Bool, true, false, nat_eq, if◌then◌else◌}
 use Rattle.std.proofs.lemmas.Int.{ints}
 use Rattle.std.proofs.lemmas.Bool.{eqb-true}
@@ -11,7 +12,8 @@ use Rattle.whole_numbers.proofs.Dot.{length-multiples}
 use Rattle.wide_math.specs.Checked.{difference_of, product_of, cross_of, ◌>>=◌}
 use Rattle.wide_math.proofs.Steps.{product_of-ok, difference_of-ok, chain-ok}
 use Rattle.tableau_rows.specs.Rows.{Row, row_of, entry, Sized}
-use Rattle.tableau_rows.specs.Moves.{lowest_row, unit_row, crossed_run, entries_run, row_run, placed_run, rows_run, row_at}
+use Rattle.tableau_rows.specs.Moves.{lowest_row, unit_row, crossed_run, entries_run, row_run, placed_run, rows_run}
+use Rattle.tableau_rows.specs.Moves.{row_at}
 use Rattle.tableau_rows.proofs.Invariant.{crossed, combined, IsLowered, Pivoted}
 use Rattle.tableau_rows.proofs.Pivots.{length-crossed}
 use Rattle.tableau_rows.proofs.Lowest.{lowest_is}

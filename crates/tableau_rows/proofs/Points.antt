@@ -1,5 +1,6 @@
 -- Lists of values, and the rows that give them.
-use Rattle.std.proofs.Common.{◌≡◌, ℕ, zero, suc, ◌<◌, ◌≤◌, ℤ, pos, ◌<ℤ◌, List, [], ◌∷◌, ◌++◌, length, get_or, take, arith}
+use Rattle.std.proofs.Common.{◌≡◌, ℕ, zero, suc, ◌<◌, ◌≤◌, ℤ, pos, ◌<ℤ◌, List, [], ◌∷◌, ◌++◌, length, get_or, take}
+use Rattle.std.proofs.Common.{arith}
 use Rattle.tableau_rows.specs.Rows.{Row, At, Means, Sized}
 use Rattle.tableau_rows.specs.Moves.{row_at}
 

@@ -1,5 +1,6 @@
 -- Each move keeps what stands, and what stands makes a leaf the least point and an empty node right.
-use Rattle.std.proofs.Common.{◌≡◌, ℕ, zero, suc, ◌+◌, ◌<◌, ◌≤◌, ℤ, pos, ◌≤ℤ◌, ◌<ℤ◌, Option, Some, None, List, [], ◌∷◌, ◌++◌, length, get_or, drop, take, refl, subst, ap, sym, ◌∙◌, arith, length-append}
+use Rattle.std.proofs.Common.{◌≡◌, ℕ, zero, suc, ◌+◌, ◌<◌, ◌≤◌, ℤ, pos, ◌≤ℤ◌, ◌<ℤ◌, Option, Some, None, List, [], ◌∷◌}
+use Rattle.std.proofs.Common.{◌++◌, length, get_or, drop, take, refl, subst, ap, sym, ◌∙◌, arith, length-append}
 use Rattle.std.specs.Prelude.{Ok}
 use Rattle.std.proofs.lemmas.Int.{ints}
 use Rattle.std.proofs.Math.Seq.{drop-append_seam}
@@ -20,7 +21,8 @@ use Rattle.tableau_rows.proofs.Least.{pivot_up, up_dots, least_at_zero, dot_apar
 use Rattle.tableau_rows.proofs.Moving.{rows_run-pivoted, pivoted_sized}
 use Rattle.tableau_rows.proofs.Choosing.{IsBest, column_run-best}
 use Rattle.tableau_rows.proofs.Keeping.{pivot_forth, cut_forth}
-use Rattle.tableau_rows.proofs.Points.{means_at, means_longer, means_shorter, means_take, sized_at, sized_more, sized_take}
+use Rattle.tableau_rows.proofs.Points.{means_at, means_longer, means_shorter, means_take, sized_at, sized_more}
+use Rattle.tableau_rows.proofs.Points.{sized_take}
 use Rattle.tableau_rows.proofs.Cutting.{cut_sized, IsPlace}
 
 pub take_pivoted : (n s : ℕ) (pivot : Row) (rows news : List Row) → Pivoted s pivot rows news

@@ -1,5 +1,6 @@
 -- The pivot over a buffer is the pivot over its rows.
-use Rattle.std.proofs.Common.{◌≡◌, ℕ, zero, suc, ◌+◌, ◌*◌, ◌<◌, ℤ, pos, Bool, true, false, List, [], ◌∷◌, ◌++◌, length, set, get_or, drop, take, refl, subst, ap, sym, ◌∙◌, arith, add-one}
+use Rattle.std.proofs.Common.{◌≡◌, ℕ, zero, suc, ◌+◌, ◌*◌, ◌<◌, ℤ, pos, Bool, true, false, List, [], ◌∷◌, ◌++◌, length}
+use Rattle.std.proofs.Common.{set, get_or, drop, take, refl, subst, ap, sym, ◌∙◌, arith, add-one}
 use Rattle.std.specs.Prelude.{Result, Ok, Err, nat_eq, if◌then◌else◌}
 use Rattle.std.proofs.lemmas.List.{length-take-le, length-drop, length-map}
 use Rattle.std.proofs.Math.ListN.{length-set}
@@ -12,7 +13,8 @@ use Rattle.wide_math.specs.declared.Wide.{Wide}
 use Rattle.wide_math.specs.Checked.{product_of, ◌>>=◌}
 use Rattle.wide_math.proofs.Steps.{chain-ok}
 use Rattle.tableau_rows.specs.Rows.{Row, row_of}
-use Rattle.tableau_rows.specs.Moves.{entries_run, line_run, lowest_row, lowest_line_run, unit_row, unit_line, placed_line_run, buffer_run, row_run, rows_run, line_row, rows_in}
+use Rattle.tableau_rows.specs.Moves.{entries_run, line_run, lowest_row, lowest_line_run, unit_row, unit_line}
+use Rattle.tableau_rows.specs.Moves.{placed_line_run, buffer_run, row_run, rows_run, line_row, rows_in}
 use Rattle.tableau_rows.proofs.Pivots.{length-crossed}
 use Rattle.tableau_rows.proofs.Moving.{entries_run-exact}
 

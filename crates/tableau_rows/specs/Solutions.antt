@@ -1,4 +1,5 @@
-use Rattle.std.specs.Prelude.{◌≡◌, ◌≢◌, ◌↔◌, ℕ, ◌+◌, ◌<◌, ◌≤◌, ℤ, pos, List, ◌∷◌, ◌++◌, length, get_or, Option, Some, None, ⊤, ◌-ℤ◌}
+use Rattle.std.specs.Prelude.{◌≡◌, ◌≢◌, ◌↔◌, ℕ, ◌+◌, ◌<◌, ◌≤◌, ℤ, pos, List, ◌∷◌, ◌++◌, length, get_or, Option, Some}
+use Rattle.std.specs.Prelude.{None, ⊤, ◌-ℤ◌}
 use Rattle.whole_numbers.specs.Lists.{dot, zeros, NotNegative}
 use Rattle.whole_numbers.specs.Division.{IsFloor}
 use Rattle.tableau_rows.specs.Rows.{Row, entry, Means, Sized}

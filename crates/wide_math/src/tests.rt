@@ -6,118 +6,74 @@ const MIN: i128 = i128::MIN;
 
 const MAX: i128 = i128::MAX;
 
+const TWO_63: i128 = 9223372036854775808;
+
+const TWO_64: i128 = 18446744073709551616;
+
+const TWO_126: i128 = 85070591730234615865843651857942052864;
+
 #[test]
-fn sums_differences_products(rt: HostRuntime) {
-    let cases: [(i128, i128, Option<i128>, Option<i128>, Option<i128>); 20] = [
-        (0, 0, Some(0), Some(0), Some(0)),
-        (-1, -1, Some(-2), Some(0), Some(1)),
-        (MAX, 0, Some(MAX), Some(MAX), Some(0)),
-        (
-            MAX,
-            1,
-            None,
-            Some(170141183460469231731687303715884105726),
-            Some(MAX),
-        ),
-        (MIN, 0, Some(MIN), Some(MIN), Some(0)),
-        (
-            MIN,
-            1,
-            Some(-170141183460469231731687303715884105727),
-            None,
-            Some(MIN),
-        ),
-        (
-            MIN,
-            -1,
-            None,
-            Some(-170141183460469231731687303715884105727),
-            None,
-        ),
-        (
-            MAX,
-            -1,
-            Some(170141183460469231731687303715884105726),
-            None,
-            Some(-170141183460469231731687303715884105727),
-        ),
-        (MIN, MIN, None, Some(0), None),
-        (MAX, MAX, None, Some(0), None),
-        (MIN, MAX, Some(-1), None, None),
-        (
-            18446744073709551616,
-            9223372036854775807,
-            Some(27670116110564327423),
-            Some(9223372036854775809),
-            Some(170141183460469231713240559642174554112),
-        ),
-        (
-            18446744073709551616,
-            9223372036854775808,
-            Some(27670116110564327424),
-            Some(9223372036854775808),
-            None,
-        ),
-        (
-            -18446744073709551616,
-            9223372036854775808,
-            Some(-9223372036854775808),
-            Some(-27670116110564327424),
-            Some(MIN),
-        ),
-        (
-            -18446744073709551616,
-            9223372036854775809,
-            Some(-9223372036854775807),
-            Some(-27670116110564327425),
-            None,
-        ),
-        (
-            18446744073709551616,
-            -18446744073709551616,
-            Some(0),
-            Some(36893488147419103232),
-            None,
-        ),
-        (
-            85070591730234615865843651857942052864,
-            -85070591730234615865843651857942052863,
-            Some(1),
-            Some(MAX),
-            None,
-        ),
-        (
-            -85070591730234615865843651857942052864,
-            -85070591730234615865843651857942052864,
-            Some(MIN),
-            Some(0),
-            None,
-        ),
-        (
-            85070591730234615865843651857942052864,
-            85070591730234615865843651857942052864,
-            None,
-            Some(0),
-            None,
-        ),
-        (3, -7, Some(-4), Some(10), Some(-21)),
+fn sums(rt: HostRuntime) {
+    let cases: [(i128, i128, Option<i128>); 12] = [
+        (-1, -1, Some(-2)),
+        (3, -7, Some(-4)),
+        (MAX, 0, Some(MAX)),
+        (MAX, 1, None),
+        (MAX, -1, Some(MAX - 1)),
+        (MIN, 1, Some(MIN + 1)),
+        (MIN, -1, None),
+        (MIN, MIN, None),
+        (MIN, MAX, Some(-1)),
+        (TWO_64, TWO_63, Some(27670116110564327424)),
+        (TWO_126, TWO_126, None),
+        (-TWO_126, -TWO_126, Some(MIN)),
     ];
-    for (a, b, sum, difference, product) in cases {
-        assert_eq!(rt;
-            add(a, b),
-            sum.ok_or(Wide { op: Op::Add, a, b }),
-            "{a} + {b}"
-        );
-        assert_eq!(rt;
-            sub(a, b),
-            difference.ok_or(Wide { op: Op::Sub, a, b }),
-            "{a} - {b}"
-        );
-        assert_eq!(rt;
-            mul(a, b),
-            product.ok_or(Wide { op: Op::Mul, a, b }),
-            "{a} * {b}"
-        );
+    for (a, b, sum) in cases {
+        let want = sum.ok_or(Wide { op: Op::Add, a, b });
+        assert_eq!(rt; add(a, b), want, "{a} + {b}");
+    }
+}
+
+#[test]
+fn differences(rt: HostRuntime) {
+    let cases: [(i128, i128, Option<i128>); 11] = [
+        (-1, -1, Some(0)),
+        (3, -7, Some(10)),
+        (MIN, 0, Some(MIN)),
+        (MIN, 1, None),
+        (MIN, -1, Some(MIN + 1)),
+        (MAX, 1, Some(MAX - 1)),
+        (MAX, -1, None),
+        (MAX, MAX, Some(0)),
+        (MIN, MAX, None),
+        (TWO_126, 1 - TWO_126, Some(MAX)),
+        (TWO_64, -TWO_64, Some(36893488147419103232)),
+    ];
+    for (a, b, difference) in cases {
+        let want = difference.ok_or(Wide { op: Op::Sub, a, b });
+        assert_eq!(rt; sub(a, b), want, "{a} - {b}");
+    }
+}
+
+#[test]
+fn products(rt: HostRuntime) {
+    let cases: [(i128, i128, Option<i128>); 12] = [
+        (-1, -1, Some(1)),
+        (3, -7, Some(-21)),
+        (MAX, 0, Some(0)),
+        (MAX, -1, Some(MIN + 1)),
+        (MIN, 1, Some(MIN)),
+        (MIN, -1, None),
+        (MAX, MAX, None),
+        (-TWO_63, -TWO_63, Some(TWO_126)),
+        (TWO_64, TWO_63, None),
+        (TWO_64, TWO_63 - 1, Some(MAX - TWO_64 + 1)),
+        (-TWO_64, TWO_63, Some(MIN)),
+        (-TWO_64, TWO_63 + 1, None),
+    ];
+    for (a, b, product) in cases {
+        let want = product.ok_or(Wide { op: Op::Mul, a, b });
+        assert_eq!(rt; mul(a, b), want, "{a} * {b}");
     }
 }
 

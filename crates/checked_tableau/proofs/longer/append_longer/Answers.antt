@@ -21,7 +21,8 @@ loop-preserved c =
     let m = longer_more stride left (c.args.count - at) at (at + 1) c.loop.cells.items c.append_line.new.cells.items
     rest row others inv.1 (rows_in stride c.args.count c.args.lines.now)
     (omega arith) parts c.split_at.ensures.front_len c.requires.some (add-one at) c.in-Ok.ensures inv.2 inv.3 in (
-      length_rest stride left (c.args.count - at) rest row others (omega arith) parts c.split_at.ensures.front_len inv.0,
+      length_rest stride left (c.args.count - at) rest row others (omega arith) parts
+          c.split_at.ensures.front_len inv.0,
       m.0,
       m.1,
       m.2,

@@ -1,4 +1,5 @@
-use Rattle.std.proofs.Common.{rules, ◌-◌, ◌+◌, ℤ, pos, get_or, List, drop, set, ◌++◌, length, sym, ◌∙◌, subst, arith, FitsSigned}
+use Rattle.std.proofs.Common.{rules, ◌-◌, ◌+◌, ℤ, pos, get_or, List, drop, set, ◌++◌, length, sym, ◌∙◌, subst, arith}
+use Rattle.std.proofs.Common.{FitsSigned}
 use Rattle.std.specs.Prelude.{Result}
 use Rattle.std.specs.Int.{w128}
 use Rattle.std.proofs.lemmas.Int.{to_z-of_z}

@@ -1,4 +1,5 @@
-use Rattle.lexmin_runs.proofs.Steps.{whole_step, resumed_ends, resumed_goes, resumed_binds, resumed_splits, resumed_stops}
+use Rattle.lexmin_runs.proofs.Steps.{whole_step, resumed_ends, resumed_goes, resumed_binds, resumed_splits}
+use Rattle.lexmin_runs.proofs.Steps.{resumed_stops}
 use Rattle.lexmin_runs.proofs.laws.runs_go_on_by_steps.Goals as goal
 
 pub returns-clause-step : goal.returns-clause-step

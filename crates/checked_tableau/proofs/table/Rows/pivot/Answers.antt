@@ -1,4 +1,5 @@
-use Rattle.std.proofs.Common.{◌++◌, take, drop, rules, arith, length, ◌≡◌, ◌+◌, ◌<◌, ℕ, ℤ, pos, ◌<ℤ◌, List, ap, ◌∙◌, subst, sym}
+use Rattle.std.proofs.Common.{◌++◌, take, drop, rules, arith, length, ◌≡◌, ◌+◌, ◌<◌, ℕ, ℤ, pos, ◌<ℤ◌, List, ap, ◌∙◌}
+use Rattle.std.proofs.Common.{subst, sym}
 use Rattle.tableau_rows.specs.Rows.{entry}
 use Rattle.tableau_rows.specs.Solutions.{HaveSameSolutions}
 use Rattle.tableau_rows.proofs.Keeping.{pivot_keeps_solutions}
