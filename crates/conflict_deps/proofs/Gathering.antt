@@ -1,5 +1,6 @@
 -- The dependences as the code gathers them: from access to access, from statement to statement.
-use Rattle.std.proofs.Common.{◌≡◌, ℕ, ◌+◌, ◌<◌, ◌≤◌, Bool, List, [], ◌∷◌, ◌++◌, length, drop, get_or, ap, ap₂, subst, sym, ◌∙◌, refl, arith, add-one, drop-cons}
+use Rattle.std.proofs.Common.{◌≡◌, ℕ, ◌+◌, ◌<◌, ◌≤◌, Bool, List, [], ◌∷◌, ◌++◌, length, drop, get_or, ap, ap₂, subst}
+use Rattle.std.proofs.Common.{sym, ◌∙◌, refl, arith, add-one, drop-cons}
 use Rattle.std.specs.Prelude.{All}
 use Rattle.std.specs.List.{flat_map}
 use Rattle.std.proofs.lemmas.List.{append_assoc}
@@ -12,7 +13,8 @@ use Rattle.iteration_domains.specs.Model.{Modelled}
 use Rattle.iteration_domains.specs.Constraints.{constraints_of}
 use Rattle.iteration_domains.specs.Dependence.{Dependence, dependence}
 use Rattle.iteration_domains.specs.declared.dep.DepEnd.{DepEnd}
-use Rattle.conflict_deps.specs.Conflicts.{Side, side, sides_from, sides_of, loops_of, pair_size, tests_between, end_of, dep_of}
+use Rattle.conflict_deps.specs.Conflicts.{Side, side, sides_from, sides_of, loops_of, pair_size, tests_between, end_of}
+use Rattle.conflict_deps.specs.Conflicts.{dep_of}
 use Rattle.conflict_deps.specs.View.{CanPair, ShowsTests, GainsTests, order_at}
 use Rattle.conflict_deps.specs.declared.deps.PairRows.{PairRows}
 
@@ -68,11 +70,10 @@ statements_step f ss i s out next whole is h so_far pushed =
     ∙ (ap (λ (xs : List Dependence). out ++ xs) (sym (flat_map-append f (sides_of s) behind))
     ∙ (ap (λ (ts : List Modelled). out ++ flat_map f (flat_map sides_of ts)) (sym here) ∙ so_far)))
 
-pub statement_has : (m : ℕ) (ss : List Modelled) (i : ℕ) (s : Modelled)
-    → All (λ (t : Modelled). t.domain.parameters ≡ m) ss → s ≡ get_or ss i s → i < length ss → s.domain.parameters ≡ m
-statement_has m ss i s all is h =
-    subst (λ (t : Modelled). t.domain.parameters ≡ m) (sym is)
-    (All-get_or (λ (t : Modelled). t.domain.parameters ≡ m) ss i s h all)
+-- what all statements have, one of them has
+pub statement_has : (P : Modelled → Type 0) (ss : List Modelled) (i : ℕ) (s : Modelled)
+    → All P ss → s ≡ get_or ss i s → i < length ss → P s
+statement_has P ss i s all is h = subst P (sym is) (All-get_or P ss i s h all)
 
 -- the order's rows over the variables of the pair
 pub order_put : (m : ℕ) (s t : Side) (a b k : ℕ) (later : Bool) (old new : PairRows) → a ≡ loops_of s → b ≡ loops_of t

@@ -4,4 +4,3 @@ pub mod Pairs
 pub mod Sources
 pub mod Shapes
 pub mod Gathering
-pub mod Kernels

@@ -1,5 +1,6 @@
 -- Rows over the variables of a pair: forms keep their values, equal subscripts, and the orders of two instances.
-use Rattle.std.proofs.Common.{◌≡◌, ℕ, zero, suc, ◌+◌, ◌<◌, Bool, true, false, ℤ, pos, negsuc, List, [], ◌∷◌, ◌++◌, length, map, get_or, take, inl, inr, ap₂, subst, sym, ◌∙◌, refl, arith}
+use Rattle.std.proofs.Common.{◌≡◌, ℕ, zero, suc, ◌+◌, ◌<◌, Bool, true, false, ℤ, pos, negsuc, List, [], ◌∷◌, ◌++◌}
+use Rattle.std.proofs.Common.{length, map, get_or, take, inl, inr, ap₂, subst, sym, ◌∙◌, refl, arith}
 use Rattle.std.specs.Prelude.{◌≤◌, ◌-ℤ◌, ◌≤ℤ◌, nat_lt}
 use Rattle.std.proofs.lemmas.Int.{ints}
 use Rattle.std.proofs.lemmas.Bool.{ltb-true, lt-ltb}
@@ -16,7 +17,9 @@ use Rattle.scop_syntax.proofs.Members.{in_if, in_if_from}
 use Rattle.iteration_domains.specs.Rows.{variable}
 use Rattle.iteration_domains.proofs.Points.{hold_append, hold_front, hold_back}
 use Rattle.iteration_domains.proofs.RowLaws.{GoesOn, value_of-variable}
-use Rattle.conflict_deps.specs.Conflicts.{difference_of_forms, spread, source_form, target_form, map_test, same_subscripts, step, equal_turns, one_form, later_turn, After, after, afters}
+use Rattle.conflict_deps.specs.Conflicts.{difference_of_forms, spread, source_form, target_form, map_test}
+use Rattle.conflict_deps.specs.Conflicts.{same_subscripts, step, equal_turns, one_form, later_turn, After, after}
+use Rattle.conflict_deps.specs.Conflicts.{afters}
 
 value_of-difference : (f g : Affine) (x : List ℤ) → value_of (difference_of_forms f g) x ≡ value_of f x -ℤ value_of g x
 value_of-difference f g x =

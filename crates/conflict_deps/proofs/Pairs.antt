@@ -1,5 +1,6 @@
 -- The whole points of the conflicts' systems are exactly the pairs of conflicting places, the earlier first.
-use Rattle.std.proofs.Common.{◌≡◌, ℕ, ◌+◌, ◌<◌, true, ℤ, List, [], ◌∷◌, ◌++◌, length, map, Some, inl, inr, ap, ap₂, subst, sym, ◌∙◌, refl, arith, length-append}
+use Rattle.std.proofs.Common.{◌≡◌, ℕ, ◌+◌, ◌<◌, true, ℤ, List, [], ◌∷◌, ◌++◌, length, map, Some, inl, inr, ap, ap₂}
+use Rattle.std.proofs.Common.{subst, sym, ◌∙◌, refl, arith, length-append}
 use Rattle.std.specs.Prelude.{◌≤◌, ◌↔◌, All, slice_get, slice_index_or, nat_lt}
 use Rattle.std.proofs.lemmas.List.{append_assoc, length-map}
 use Rattle.std.proofs.lemmas.List.Elements.{All-head, All-tail}
@@ -18,14 +19,19 @@ use Rattle.iteration_domains.specs.Rows.{variables, variables_of_statement, poin
 use Rattle.iteration_domains.specs.Constraints.{tests_of}
 use Rattle.iteration_domains.specs.Model.{kernel_model, domain_of, modelled}
 use Rattle.iteration_domains.specs.Dependence.{Dependence}
-use Rattle.iteration_domains.proofs.Points.{hold_append, hold_front, hold_back, satisfied, all_hold_at, tests_hold, hold_tests}
+use Rattle.iteration_domains.proofs.Points.{hold_append, hold_front, hold_back, satisfied, all_hold_at, tests_hold}
+use Rattle.iteration_domains.proofs.Points.{hold_tests}
 use Rattle.iteration_domains.proofs.RowLaws.{GoesOn, goes_on, goes_on_last, rows_run, run_rows, values-variables}
 use Rattle.iteration_domains.proofs.Instances.{WalkLaws, cell_of-access}
 use Rattle.iteration_domains.proofs.Placing.{statement_accesses}
-use Rattle.conflict_deps.specs.Conflicts.{Side, loops_of, source_form, target_form, map_test, After, pair_size, source_rows, target_rows, cell_rows, parameter_rows, tests_between, system_between, dep_of, afters_of, may_conflict, conflicts_of}
+use Rattle.conflict_deps.specs.Conflicts.{Side, loops_of, source_form, target_form, map_test, After, pair_size}
+use Rattle.conflict_deps.specs.Conflicts.{source_rows, target_rows, cell_rows, parameter_rows, tests_between}
+use Rattle.conflict_deps.specs.Conflicts.{system_between, dep_of, afters_of, may_conflict, conflicts_of}
 use Rattle.conflict_deps.specs.Pairs.{IsPoint, IsEnd, IsPair}
-use Rattle.conflict_deps.proofs.Orders.{after_to, after_of, one_after, value_of-source, value_of-target, rows_kept, rows_held, same_to, same_of, up_of}
-use Rattle.conflict_deps.proofs.Sides.{may_to, may_of, common_left, common_right, side_at, IsSide, sides_from_access, deps_to, deps_from}
+use Rattle.conflict_deps.proofs.Orders.{after_to, after_of, one_after, value_of-source, value_of-target, rows_kept}
+use Rattle.conflict_deps.proofs.Orders.{rows_held, same_to, same_of, up_of}
+use Rattle.conflict_deps.proofs.Sides.{may_to, may_of, common_left, common_right, side_at, IsSide, sides_from_access}
+use Rattle.conflict_deps.proofs.Sides.{deps_to, deps_from}
 
 -- what the laws of the walk and of the text say of a program at its parameters
 pub record PlaceLaws (program : Program) (params : List ℤ) : Type 0 where

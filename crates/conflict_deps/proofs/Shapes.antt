@@ -1,5 +1,7 @@
 -- Forms over the variables of a pair as the code puts them together: their parts, lengths and sizes.
-use Rattle.std.proofs.Common.{◌≡◌, ℕ, zero, suc, Bool, true, false, ◌+◌, ◌-◌, ◌<◌, ◌≤◌, ℤ, pos, negsuc, List, [], ◌∷◌, ◌++◌, length, map, take, drop, get_or, ap, ap₂, subst, sym, ◌∙◌, refl, arith, add-one, drop-cons, length-append, length-drop}
+use Rattle.std.proofs.Common.{◌≡◌, ℕ, zero, suc, Bool, true, ◌+◌, ◌-◌, ◌<◌, ◌≤◌, ℤ, pos, negsuc, List, [], ◌∷◌, ◌++◌}
+use Rattle.std.proofs.Common.{length, map, take, drop, ap, ap₂, subst, sym, ◌∙◌, refl, arith, length-append}
+use Rattle.std.proofs.Common.{length-drop}
 use Rattle.std.specs.Prelude.{All}
 use Rattle.std.proofs.lemmas.List.{append_assoc, append-nil}
 use Rattle.std.proofs.Math.Seq.{take-length}
@@ -17,7 +19,10 @@ use Rattle.iteration_domains.specs.Sizes.{size, form_size, IsNarrow}
 use Rattle.iteration_domains.proofs.Points.{equalities_in-append, rows_in-append}
 use Rattle.iteration_domains.proofs.Entering.{length-variable, sized-variables}
 use Rattle.iteration_domains.proofs.Sizes.{size-sum, size-multiple, size-variable, size-zeros}
-use Rattle.conflict_deps.specs.Conflicts.{Side, loops_of, difference_of_forms, spread, source_form, target_form, map_test, same_subscripts, step, equal_turns, one_form, later_turn, After, afters, dep_of, pair_size, source_rows, target_rows, cell_rows, parameter_rows, tests_between}
+use Rattle.conflict_deps.specs.Conflicts.{Side, loops_of, difference_of_forms, spread, source_form, target_form}
+use Rattle.conflict_deps.specs.Conflicts.{map_test, same_subscripts, step, equal_turns, one_form, later_turn, After}
+use Rattle.conflict_deps.specs.Conflicts.{afters, dep_of, pair_size, source_rows, target_rows, cell_rows}
+use Rattle.conflict_deps.specs.Conflicts.{parameter_rows, tests_between}
 use Rattle.iteration_domains.specs.Dependence.{Dependence}
 use Rattle.conflict_deps.specs.View.{CanPair, ShowsTests, GainsTests, order_at}
 use Rattle.conflict_deps.specs.declared.deps.PairRows.{PairRows}
@@ -92,23 +97,7 @@ size-step n d k =
 pub size-one : (n : ℕ) → form_size (one_form n) ≡ 1
 size-one n = let z = size-zeros n in omega arith
 
--- equal subscripts, of which the first are there
-pub cells_step : (d e : ℕ) (fs gs : List Affine) (at : ℕ) (f g : Affine) (out next whole : List Affine)
-    → f ≡ get_or fs at f → g ≡ get_or gs at g → at < length fs → at < length gs
-    → out ++ equalities_in (same_subscripts d e (drop at fs) (drop at gs)) ≡ whole
-    → next ≡ out ++ difference_of_forms (source_form d e f) (target_form d g) ∷ []
-    → next ++ equalities_in (same_subscripts d e (drop (at + 1) fs) (drop (at + 1) gs)) ≡ whole
-cells_step d e fs gs at f g out next whole is_f is_g hf hg so_far is =
-    let rest = equalities_in (same_subscripts d e (drop (at + 1) fs) (drop (at + 1) gs)) in
-    let df : drop at fs ≡ get_or fs at f ∷ drop (at + 1) fs = rw (add-one, drop-cons fs at f hf) refl in
-    let dg : drop at gs ≡ get_or gs at g ∷ drop (at + 1) gs = rw (add-one, drop-cons gs at g hg) refl in
-    let ef : drop at fs ≡ f ∷ drop (at + 1) fs = df ∙ ap (λ (h : Affine). h ∷ drop (at + 1) fs) (sym is_f) in
-    let eg : drop at gs ≡ g ∷ drop (at + 1) gs = dg ∙ ap (λ (h : Affine). h ∷ drop (at + 1) gs) (sym is_g) in
-    let here = ap₂ (λ (xs ys : List Affine). equalities_in (same_subscripts d e xs ys)) ef eg in
-    ap (λ (xs : List Affine). xs ++ rest) is
-    ∙ (append_assoc out (difference_of_forms (source_form d e f) (target_form d g) ∷ []) rest
-    ∙ (ap (λ (xs : List Affine). out ++ xs) (sym here) ∙ so_far))
-
+-- equal subscripts, when one side has no more
 pub cells_end : (d e : ℕ) (fs gs : List Affine) (at : ℕ) (out whole : List Affine)
     → at < length fs → length gs ≤ at
     → out ++ equalities_in (same_subscripts d e (drop at fs) (drop at gs)) ≡ whole → out ≡ whole
@@ -420,17 +409,6 @@ depths_step m s t c k earlier out next whole h so_far is =
     ap (λ (xs : List Dependence). xs ++ rest) is
     ∙ (append_assoc out (dep_of m s t (order_at n d k true) ∷ []) rest
     ∙ (ap (λ (xs : List Dependence). out ++ xs) (sym here) ∙ so_far))
-
-pub depths_text : (m : ℕ) (s t : Side) (c : ℕ) (earlier : Bool) (out next whole : List Dependence) → earlier ≡ true
-    → out ++ map (dep_of m s t) (afters (pair_size m s t) (loops_of s) c 0 earlier) ≡ whole
-    → next ≡ out ++ dep_of m s t (order_at (pair_size m s t) (loops_of s) c false) ∷ [] → next ≡ whole
-depths_text m s t c true out next whole h so_far is = is ∙ so_far
-depths_text m s t c false out next whole h so_far is = absurd cc
-
-pub depths_end : (m : ℕ) (s t : Side) (c : ℕ) (earlier : Bool) (out whole : List Dependence) → earlier ≡ false
-    → out ++ map (dep_of m s t) (afters (pair_size m s t) (loops_of s) c 0 earlier) ≡ whole → out ≡ whole
-depths_end m s t c true out whole h so_far = absurd cc
-depths_end m s t c false out whole h so_far = sym (append-nil out) ∙ so_far
 
 -- a domain over m parameters, by the lists that its calls lend
 pub domain_sized : (m : ℕ) (own read : Constraints) (es rs : List Affine) → read ≡ own → own.parameters ≡ m

@@ -1,5 +1,6 @@
 -- The accesses of a model's statements as those of the text, and the dependences between them.
-use Rattle.std.proofs.Common.{◌≡◌, ℕ, zero, suc, ◌+◌, Bool, true, false, List, [], ◌∷◌, length, map, Some, inl, inr, ap, ap₂, subst, sym, ◌∙◌, refl, arith}
+use Rattle.std.proofs.Common.{◌≡◌, ℕ, zero, suc, ◌+◌, Bool, true, false, List, [], ◌∷◌, length, map, Some, inl, inr, ap}
+use Rattle.std.proofs.Common.{ap₂, subst, sym, ◌∙◌, refl, arith}
 use Rattle.std.specs.Prelude.{◌≤◌, nat_eq, slice_get, if◌then◌else◌}
 use Rattle.std.specs.List.{flat_map}
 use Rattle.std.proofs.lemmas.Bool.{eqb-true, eq-eqb}
@@ -11,7 +12,8 @@ use Rattle.scop_syntax.specs.Cells.{accesses, OneWrites}
 use Rattle.scop_syntax.proofs.Members.{in_append, in_front, in_back, in_map, in_map_from, in_if, in_if_from, both}
 use Rattle.iteration_domains.specs.Model.{Modelled, kernel_model, access_over, modelled}
 use Rattle.iteration_domains.specs.Dependence.{Dependence}
-use Rattle.conflict_deps.specs.Conflicts.{Side, side, sides_from, sides_of, After, dep_of, afters_of, may_conflict, deps_between, conflicts_of}
+use Rattle.conflict_deps.specs.Conflicts.{Side, side, sides_from, sides_of, After, dep_of, afters_of, may_conflict}
+use Rattle.conflict_deps.specs.Conflicts.{deps_between, conflicts_of}
 
 in_flat_map : {A B : Type 0} (f : A → List B) (xs : List A) (x : A) (y : B) → In x xs → In y (f x)
     → In y (flat_map f xs)

@@ -1,5 +1,6 @@
 -- The earlier writers of the cell that an access touches are the points of the systems from writes to that access.
-use Rattle.std.proofs.Common.{◌≡◌, ℕ, ◌<◌, ◌≤◌, true, false, ℤ, List, length, Option, Some, None, inl, ap, ap₂, subst, sym, ◌∙◌, refl, arith}
+use Rattle.std.proofs.Common.{◌≡◌, ℕ, ◌<◌, ◌≤◌, true, false, ℤ, List, length, Option, Some, None, inl, ap, ap₂, subst}
+use Rattle.std.proofs.Common.{sym, ◌∙◌, refl, arith}
 use Rattle.std.specs.Prelude.{slice_get}
 use Rattle.whole_numbers.specs.Lists.{NotNegative}
 use Rattle.scop_syntax.specs.Tree.{Access, Program}

@@ -1,7 +1,8 @@
 -- Kernels as worked examples of domains and conflicts. They have one parameter, N.
 use Rattle.std.specs.Prelude.{ℕ, ℤ, pos, negsuc, List, [], ◌∷◌}
 use Rattle.whole_numbers.specs.Affine.{Affine, form_of}
-use Rattle.scop_syntax.specs.Tree.{Access, at_least, equal, Right, assigned, binary, constant, read, plus, Head, Tree, loop, guard, statement, Trees, none, more, Declaration, Program}
+use Rattle.scop_syntax.specs.Tree.{Access, at_least, equal, Right, assigned, binary, constant, read, plus, Head, Tree}
+use Rattle.scop_syntax.specs.Tree.{loop, guard, statement, Trees, none, more, Declaration, Program}
 
 -- A[form]
 abbrev pub at : ℕ → Affine → Access

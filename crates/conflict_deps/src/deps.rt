@@ -1,7 +1,8 @@
 //! The dependences between accesses, in their order.
-ghost use Rattle.std.specs.Prelude.{◌≡◌, ◌+◌, ◌<◌, ◌≤◌, ◌++◌, ◌∷◌, [], IfOk, IsTrue, OnOk, map};
+ghost use Rattle.std.specs.Prelude.{◌≡◌, ◌+◌, ◌<◌, ◌≤◌, ◌++◌, ◌∷◌, [], All, IfOk, IsTrue, OnOk, map};
 ghost use Rattle.std.specs.List.{flat_map};
 ghost use Rattle.scop_syntax.specs.Order.{common};
+ghost use Rattle.iteration_domains.specs.Sizes.{HaveOneCount};
 ghost use Rattle.conflict_deps.specs.Conflicts.{afters_of, cell_rows, conflicts_of, dep_of, deps_between, end_of};
 ghost use Rattle.conflict_deps.specs.Conflicts.{loops_of};
 ghost use Rattle.conflict_deps.specs.Conflicts.{may_conflict, pair_size, parameter_rows};
@@ -174,6 +175,7 @@ fn dep_between(
 ) -> Result<Dep, AllocError>
     requires source { CanPair parameters (side_of source.now) }
     requires target { CanPair parameters (side_of target.now) }
+    requires one { HaveOneCount source.now.statement.now target.now.statement.now }
     requires few { parameters ≤ 4 }
     requires equal { equal ≤ loops_of (side_of target.now) }
     requires later { IsTrue later → equal < loops_of (side_of target.now) }
@@ -215,6 +217,7 @@ fn push_dep(
 ) -> Result<(), AllocError>
     requires source { CanPair parameters (side_of source.now) }
     requires target { CanPair parameters (side_of target.now) }
+    requires one { HaveOneCount source.now.statement.now target.now.statement.now }
     requires few { parameters ≤ 4 }
     requires equal { equal ≤ loops_of (side_of target.now) }
     requires later { IsTrue later → equal < loops_of (side_of target.now) }
@@ -240,6 +243,7 @@ fn push_depths(
 ) -> Result<(), AllocError>
     requires source { CanPair parameters (side_of source.now) }
     requires target { CanPair parameters (side_of target.now) }
+    requires one { HaveOneCount source.now.statement.now target.now.statement.now }
     requires few { parameters ≤ 4 }
     ensures { OnOk result (deps.new.items ≡ deps.old.items
         ++ map (dep_of parameters (side_of source.now) (side_of target.now))
@@ -265,6 +269,7 @@ fn push_between(
 ) -> Result<(), AllocError>
     requires source { CanPair parameters (side_of source.now) }
     requires target { CanPair parameters (side_of target.now) }
+    requires one { HaveOneCount source.now.statement.now target.now.statement.now }
     requires few { parameters ≤ 4 }
     ensures { OnOk result (deps.new.items
         ≡ deps.old.items ++ deps_between parameters (side_of source.now) (side_of target.now)) }
@@ -286,6 +291,7 @@ fn push_to_statement(
 ) -> Result<(), AllocError>
     requires source { CanPair parameters (side_of source.now) }
     requires statement { statement.now.domain.parameters ≡ parameters }
+    requires one { HaveOneCount source.now.statement.now statement.now }
     requires few { parameters ≤ 4 }
     ensures { OnOk result (deps.new.items
         ≡ deps.old.items ++ flat_map (deps_between parameters (side_of source.now)) (sides_of statement.now)) }
@@ -310,7 +316,8 @@ fn push_from_access(
     model: &Model,
     source: &AccessOf,
 ) -> Result<(), AllocError>
-    requires { CanPair model.now.parameters (side_of source.now) }
+    requires source { CanPair model.now.parameters (side_of source.now) }
+    requires one { All (HaveOneCount source.now.statement.now) model.now.statements }
     ensures { OnOk result (deps.new.items ≡ deps.old.items
         ++ flat_map (deps_between model.now.parameters (side_of source.now)) (sides_in model.now)) }
 {
@@ -328,7 +335,8 @@ fn push_from_statement(
     model: &Model,
     statement: &StatementModel,
 ) -> Result<(), AllocError>
-    requires { statement.now.domain.parameters ≡ model.now.parameters }
+    requires statement { statement.now.domain.parameters ≡ model.now.parameters }
+    requires one { All (HaveOneCount statement.now) model.now.statements }
     ensures { OnOk result (deps.new.items ≡ deps.old.items
         ++ flat_map (λ s. flat_map (deps_between model.now.parameters s) (sides_in model.now))
         (sides_of statement.now)) }

@@ -10,8 +10,6 @@ pub mod conflict_laws;
 mod deps;
 mod forms;
 pub mod source_laws;
-#[cfg(test)]
-mod tests;
 mod worked_rows;
 
 pub use deps::conflicts;

@@ -82,17 +82,6 @@ question-sized s at es rows new row negation sized flat inside is made all =
           (All-cons Sized negation [] turned (All-nil Sized)));
     }
 
-pub others-sized : (s : Constraints) (at : ℕ) (es rows new : List Affine) → IsSized (variables_in s) es rows
-    → s.parameters ≡ 0 → new ≡ others rows at → IsSized (s.dimensions + 0) es new
-others-sized s at es rows new sized flat is =
-    let whole : variables_in s ≡ s.dimensions + 0 = omega arith in
-    let Sized : Affine → Type 0 = λ f. variables_of f ≡ s.dimensions + 0 in
-    record {
-      equalities_sized = subst (λ (m : ℕ). All (λ f. variables_of f ≡ m) es) whole sized.equalities_sized;
-      rows_sized = subst (λ (fs : List Affine). All Sized fs) (sym is)
-          (others_all Sized rows at (subst (λ (m : ℕ). All (λ f. variables_of f ≡ m) rows) whole sized.rows_sized));
-    }
-
 pub same-sized : (s : Constraints) (es rows new : List Affine) → IsSized (variables_in s) es rows
     → s.parameters ≡ 0 → new ≡ rows → IsSized (s.dimensions + 0) es new
 same-sized s es rows new sized flat is =

@@ -14,15 +14,16 @@ use Rattle.whole_numbers.proofs.Dot.{length-multiples}
 use Rattle.fractions.specs.Farkas.{form_at}
 use Rattle.farkas.specs.declared.claim.Claim.{Claim}
 use Rattle.farkas.specs.declared.claim.Claim.TheVariants.{Legality, Bounding}
-use Rattle.farkas.specs.declared.dependence.Side.{Side}
+use Rattle.iteration_domains.specs.declared.dep.DepEnd.{DepEnd}
 use Rattle.farkas.specs.declared.layout.Layout.{Layout}
-use Rattle.farkas.specs.Unknowns.{IsOne, behind, places, layout_of, coefficients_of, shift_of, bounds_of}
+use Rattle.iteration_domains.specs.Dependence.{IsOne}
+use Rattle.farkas.specs.Unknowns.{behind, places, layout_of, coefficients_of, shift_of, bounds_of}
 use Rattle.farkas.specs.Claims.{target_factor, source_factor, bound_factor, claimed, only, iterators, parameters}
 use Rattle.farkas.specs.Claims.{linear, constant}
 use Rattle.farkas.specs.Meaning.{phi}
 
 -- where the unknowns stand
-pub record Facts (p : ℕ) (source target : Side) (l : Layout) : Type 0 where
+pub record Facts (p : ℕ) (source target : DepEnd) (l : Layout) : Type 0 where
   pub bound : p < l.unknowns
   pub source_inside : l.source + source.loops < l.unknowns
   pub target_inside : l.target + target.loops < l.unknowns
@@ -31,7 +32,7 @@ pub record Facts (p : ℕ) (source target : Side) (l : Layout) : Type 0 where
   pub one : nat_eq source.statement target.statement ≡ true → l.source ≡ l.target
   pub two : nat_eq source.statement target.statement ≡ false → l.source + source.loops ≡ l.target + target.loops → ⊥
 
-facts_by : (p : ℕ) (source target : Side) (b c : Bool) → IsOne source target
+facts_by : (p : ℕ) (source target : DepEnd) (b c : Bool) → IsOne source target
     → nat_eq source.statement target.statement ≡ b
     → Facts p source target (if b then places (behind (p + 1) source) (p + 1) (p + 1)
     else if c then places (behind (behind (p + 1) source) target) (p + 1) (behind (p + 1) source)
@@ -66,7 +67,7 @@ facts_by p source target false false same h = record {
   two = λ e at. omega arith;
 }
 
-pub facts : (p : ℕ) (source target : Side) → IsOne source target → Facts p source target (layout_of p source target)
+pub facts : (p : ℕ) (source target : DepEnd) → IsOne source target → Facts p source target (layout_of p source target)
 unfolding layout_of
 facts p source target same =
     facts_by p source target (nat_eq source.statement target.statement) (nat_lt source.statement target.statement)
@@ -122,7 +123,7 @@ parameters_value n i k (suc count) xs h =
     (parameters_value n (suc i) k count xs (omega arith))
 
 -- all coefficients
-pub linear_sized : (claim : Claim) (source target : Side) (p : ℕ)
+pub linear_sized : (claim : Claim) (source target : DepEnd) (p : ℕ)
     → All (λ l. length l ≡ (layout_of p source target).unknowns) (linear claim source target p)
 unfolding linear
 linear_sized claim source target p =
@@ -136,7 +137,7 @@ linear_sized claim source target p =
     (All-append (λ l. length l ≡ n) second third (iterators_sized n l.target (target_factor claim) target.loops)
     (parameters_sized n 0 (bound_factor claim) p))
 
-pub linear_length : (claim : Claim) (source target : Side) (p : ℕ)
+pub linear_length : (claim : Claim) (source target : DepEnd) (p : ℕ)
     → length (linear claim source target p) ≡ source.loops + target.loops + p
 unfolding linear
 linear_length claim source target p =
@@ -153,7 +154,7 @@ linear_length claim source target p =
     omega arith
 
 -- the constant
-pub constant_length : (claim : Claim) (source target : Side) (p : ℕ)
+pub constant_length : (claim : Claim) (source target : DepEnd) (p : ℕ)
     → length (constant claim source target p) ≡ (layout_of p source target).unknowns
 unfolding constant
 constant_length claim source target p = by_test (nat_eq source.statement target.statement)
@@ -207,7 +208,7 @@ two_shifts n p a b h j k xs hp ha hb pa pb differ =
     let w = only_value n p h xs hp in
     omega (arith, ints)
 
-constant_value : (claim : Claim) (source target : Side) (p : ℕ) (l : Layout) (xs : List ℤ) (b : Bool)
+constant_value : (claim : Claim) (source target : DepEnd) (p : ℕ) (l : Layout) (xs : List ℤ) (b : Bool)
     → IsOne source target → Facts p source target l → nat_eq source.statement target.statement ≡ b
     → dot (if b then only l.unknowns p (bound_factor claim)
     else set (set (only l.unknowns p (bound_factor claim)) (l.source + source.loops) (source_factor claim))
@@ -229,7 +230,7 @@ constant_value claim source target p l xs false same f h =
     (target_factor claim) xs f.bound f.source_inside f.target_inside f.source_behind f.target_behind (f.two h)
 
 -- the form whose numbers have these factors is the claimed one
-pub claimed_is : (claim : Claim) (source target : Side) (p : ℕ) (xs : List ℤ) → IsOne source target
+pub claimed_is : (claim : Claim) (source target : DepEnd) (p : ℕ) (xs : List ℤ) → IsOne source target
     → form_at (linear claim source target p) (constant claim source target p) xs ≡ claimed claim source target p xs
 unfolding linear constant claimed
 claimed_is claim source target p xs same =
@@ -256,7 +257,7 @@ coefficients_length : (xs : List ℤ) (first loops : ℕ) → length (coefficien
 coefficients_length xs first zero = refl
 coefficients_length xs first (suc loops) = ap suc (coefficients_length xs first loops)
 
-pub claimed_value : (claim : Claim) (source target : Side) (p : ℕ) (xs i j q : List ℤ) → length i ≡ source.loops
+pub claimed_value : (claim : Claim) (source target : DepEnd) (p : ℕ) (xs i j q : List ℤ) → length i ≡ source.loops
     → length j ≡ target.loops
     → value_of (claimed claim source target p xs) (i ++ (j ++ q))
     ≡ (bound_factor claim *ℤ (dot (bounds_of xs 0 p) q +ℤ get_or xs p (pos 0)))

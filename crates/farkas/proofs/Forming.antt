@@ -11,7 +11,7 @@ use Rattle.affine_forms.specs.Parts.{variables_of}
 use Rattle.fractions.specs.Farkas.{own_rows, matched_from}
 use Rattle.integer_sets.specs.Constraints.{Constraints, IsSized, system_of}
 use Rattle.farkas.specs.declared.claim.Claim.{Claim}
-use Rattle.farkas.specs.declared.dependence.Side.{Side}
+use Rattle.iteration_domains.specs.declared.dep.DepEnd.{DepEnd}
 use Rattle.farkas.specs.declared.layout.Layout.{Layout}
 use Rattle.farkas.specs.Unknowns.{layout_of}
 use Rattle.farkas.specs.Claims.{target_factor, source_factor, bound_factor, iterators, parameters, linear, constant}
@@ -29,7 +29,7 @@ abbrev pub together : Result (List Affine) Wide → Result (List Affine) Wide �
     → Result (List Affine) Wide
 together a b c = a >>= λ fs. (b >>= λ gs. c >>= λ hs. Ok (gs ++ hs)) >>= λ gs. Ok (fs ++ gs)
 
-pub linear_run : (claim : Claim) (source target : Side) (l : Layout) (s : Constraints)
+pub linear_run : (claim : Claim) (source target : DepEnd) (l : Layout) (s : Constraints)
     → l ≡ layout_of s.parameters source target → s.dimensions ≡ source.loops + target.loops
     → coefficients_run 0 (linear claim source target s.parameters) s
     ≡ together (coefficients_run 0 (iterators l.unknowns l.source (source_factor claim) source.loops) s)
@@ -105,7 +105,7 @@ gains-same old new r q (Err (form_stop.Wide w)) same h = sym same ∙ h
 gains-same old new r q (Err form_stop.NoMemory) same h = tt
 
 -- the posed system
-pub posed-halts : (budget : ℕ) (claim : Claim) (source target : Side) (s : Constraints) (stop : FormStop)
+pub posed-halts : (budget : ℕ) (claim : Claim) (source target : DepEnd) (s : Constraints) (stop : FormStop)
     → Fails stop (matching_run (linear claim source target s.parameters) (constant claim source target s.parameters) s)
     → Halts budget (stuck_of_form stop) (posed_run claim source target s)
 unfolding posed_run
@@ -115,7 +115,7 @@ posed-halts budget claim source target s stop h =
     (λ (es : List Affine). Ok (posed (layout_of s.parameters source target).unknowns (multipliers_of s) es))
     (halts-formed budget stop run h)
 
-pub posed-sized : (claim : Claim) (source target : Side) (s : Constraints) (es rows : List Affine) (n k all : ℕ)
+pub posed-sized : (claim : Claim) (source target : DepEnd) (s : Constraints) (es rows : List Affine) (n k all : ℕ)
     → n ≡ (layout_of s.parameters source target).unknowns → k ≡ multipliers_of s → all ≡ n + k
     → matching_run (linear claim source target s.parameters) (constant claim source target s.parameters) s ≡ Ok es
     → own_rows n k ≡ rows → IsSized (all + 0) es rows
@@ -136,7 +136,7 @@ posed-sized claim source target s es rows n k all unknowns count total formed ow
           + 0) size);
     }
 
-pub posed-gives : (claim : Claim) (source target : Side) (s t : Constraints) (es rows : List Affine) (n k all : ℕ)
+pub posed-gives : (claim : Claim) (source target : DepEnd) (s t : Constraints) (es rows : List Affine) (n k all : ℕ)
     → n ≡ (layout_of s.parameters source target).unknowns → k ≡ multipliers_of s → all ≡ n + k
     → matching_run (linear claim source target s.parameters) (constant claim source target s.parameters) s ≡ Ok es
     → own_rows n k ≡ rows → t ≡ system_of all 0 es rows → posed_run claim source target s ≡ Ok t

@@ -8,9 +8,10 @@ use Rattle.integer_sets.specs.Constraints.{Constraints, IsSized, system_of, vari
 use Rattle.fm_projection.specs.declared.FmStop.{FmStop}
 use Rattle.fm_projection.specs.Gives.{Eliminates}
 use Rattle.farkas.specs.declared.claim.Claim.{Claim}
-use Rattle.farkas.specs.declared.dependence.Side.{Side}
+use Rattle.iteration_domains.specs.declared.dep.DepEnd.{DepEnd}
 use Rattle.farkas.specs.declared.stuck.Stuck.TheVariants as stuck
-use Rattle.farkas.specs.Unknowns.{IsOne, layout_of}
+use Rattle.iteration_domains.specs.Dependence.{IsOne}
+use Rattle.farkas.specs.Unknowns.{layout_of}
 use Rattle.farkas.specs.Claims.{linear, constant}
 use Rattle.farkas.specs.Matching.{matching_run, multipliers_of}
 use Rattle.farkas.specs.Run.{Halt, ◌>>◌, formed, eliminating, kept_from, dropped_run, without_column, narrowing}
@@ -123,7 +124,7 @@ left-step budget u s t kept own inside first is second =
     }
 
 -- all rows
-pub posed-shape : (claim : Claim) (source target : Side) (s t : Constraints) → posed_run claim source target s ≡ Ok t
+pub posed-shape : (claim : Claim) (source target : DepEnd) (s t : Constraints) → posed_run claim source target s ≡ Ok t
     → (t.dimensions ≡ (layout_of s.parameters source target).unknowns + multipliers_of s) × (t.parameters ≡ 0)
 unfolding posed_run
 posed-shape claim source target s t h =
@@ -135,14 +136,14 @@ posed-shape claim source target s t h =
     let is : posed n k c.0 ≡ t = cc (c.2) in
     (sym (ap (λ (u : Constraints). u.dimensions) is), sym (ap (λ (u : Constraints). u.parameters) is))
 
-pub rows-halt : (budget : ℕ) (claim : Claim) (source target : Side) (s : Constraints) (e : stuck.the_data)
+pub rows-halt : (budget : ℕ) (claim : Claim) (source target : DepEnd) (s : Constraints) (e : stuck.the_data)
     → Halts budget e (posed_run claim source target s) → Halts budget e (rows_run budget claim source target s)
 unfolding rows_run
 rows-halt budget claim source target s e h =
     halts-then budget e (posed_run claim source target s)
     (λ (all : Constraints). left_run budget (layout_of s.parameters source target).unknowns (multipliers_of s) all) h
 
-pub rows-left : (budget : ℕ) (claim : Claim) (source target : Side) (s t : Constraints) (n : ℕ)
+pub rows-left : (budget : ℕ) (claim : Claim) (source target : DepEnd) (s t : Constraints) (n : ℕ)
     → posed_run claim source target s ≡ Ok t → n ≡ (layout_of s.parameters source target).unknowns
     → left_run budget n (t.dimensions - n) t ≡ rows_run budget claim source target s
 unfolding rows_run
@@ -160,7 +161,7 @@ pub follows-same : (budget : ℕ) (result : Result Constraints stuck.the_data) (
 follows-same budget (Ok t) r q same h = sym same ∙ h
 follows-same budget (Err e) r q same h = halts-same budget e r q same h
 
-pub follows-farkas : (budget : ℕ) (claim : Claim) (source target : Side) (s : Constraints)
+pub follows-farkas : (budget : ℕ) (claim : Claim) (source target : DepEnd) (s : Constraints)
     (result : Result Constraints stuck.the_data) → IsSized (variables_in s) s.equalities s.rows
     → s.dimensions ≡ source.loops + target.loops → IsOne source target
     → Follows {X = Constraints} {Y = Constraints} (λ s. s) budget result (rows_run budget claim source target s)

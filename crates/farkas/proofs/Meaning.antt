@@ -20,8 +20,9 @@ use Rattle.integer_sets.specs.Constraints.{Constraints, IsSized, variables_in}
 use Rattle.fm_projection.proofs.Law.{whole_point}
 use Rattle.farkas.specs.declared.claim.Claim.{Claim}
 use Rattle.farkas.specs.declared.claim.Claim.TheVariants.{Legality, Bounding}
-use Rattle.farkas.specs.declared.dependence.Side.{Side}
-use Rattle.farkas.specs.Unknowns.{IsOne, layout_of, bounds_of}
+use Rattle.iteration_domains.specs.declared.dep.DepEnd.{DepEnd}
+use Rattle.iteration_domains.specs.Dependence.{IsOne}
+use Rattle.farkas.specs.Unknowns.{layout_of, bounds_of}
 use Rattle.farkas.specs.Claims.{claimed, linear, constant, target_factor, source_factor, bound_factor}
 use Rattle.farkas.specs.Matching.{matching_run, multipliers_of}
 use Rattle.farkas.specs.Run.{formed, left_run, posed, posed_run, rows_run}
@@ -53,7 +54,7 @@ rows_of_sized s sized =
     sized.rows_sized)
 
 -- what the eliminations leave, over all unknowns
-rows-left : (budget : ℕ) (claim : Claim) (source target : Side) (s t : Constraints)
+rows-left : (budget : ℕ) (claim : Claim) (source target : DepEnd) (s t : Constraints)
     → rows_run budget claim source target s ≡ Ok t
     → Leaves (layout_of s.parameters source target).unknowns (suc (length (rows_of s)))
     (matched_from 0 (linear claim source target s.parameters) (constant claim source target s.parameters) (rows_of s))
@@ -83,7 +84,7 @@ rows-left budget claim source target s t h =
     count)
     (sym (append-nil (own_rows n count))) run
 
-pub rows-farkas : (budget : ℕ) (claim : Claim) (source target : Side) (s t : Constraints)
+pub rows-farkas : (budget : ℕ) (claim : Claim) (source target : DepEnd) (s t : Constraints)
     → IsSized (variables_in s) s.equalities s.rows → s.dimensions ≡ source.loops + target.loops → IsOne source target
     → rows_run budget claim source target s ≡ Ok t → IsFarkas claim source target s t
 rows-farkas budget claim source target s t sized iterators one h =
@@ -114,7 +115,7 @@ rows-farkas budget claim source target s t sized iterators one h =
     }
 
 -- the use of it: the claimed form is not negative at the points of the dependence
-not_negative : (claim : Claim) (source target : Side) (s t : Constraints) (xs i j q : List ℤ)
+not_negative : (claim : Claim) (source target : DepEnd) (s t : Constraints) (xs i j q : List ℤ)
     → IsFarkas claim source target s t → IsTaken t xs → IsInstance source target s i j q
     → pos 0 ≤ℤ ((bound_factor claim *ℤ (dot (bounds_of xs 0 s.parameters) q +ℤ get_or xs s.parameters (pos 0)))
     +ℤ ((source_factor claim *ℤ phi xs (layout_of s.parameters source target).source source.loops i)
@@ -130,7 +131,7 @@ not_negative claim source target s t xs i j q farkas taken inside =
     (value_over-one form point
     ∙ claimed_value claim source target p xs i j q inside.source_iterators inside.target_iterators) least
 
-pub farkas-keeps : (source target : Side) (s t : Constraints) → IsFarkas Legality source target s t
+pub farkas-keeps : (source target : DepEnd) (s t : Constraints) → IsFarkas Legality source target s t
     → Keeps source target s t
 farkas-keeps source target s t farkas xs i j q taken inside =
     let l = layout_of s.parameters source target in
@@ -144,7 +145,7 @@ farkas-keeps source target s t farkas xs i j q taken inside =
     let d = mul_one_left to in
     omega (arith, ints)
 
-pub farkas-bounds : (source target : Side) (s t : Constraints) → IsFarkas Bounding source target s t
+pub farkas-bounds : (source target : DepEnd) (s t : Constraints) → IsFarkas Bounding source target s t
     → Bounds source target s t
 farkas-bounds source target s t farkas xs i j q taken inside =
     let l = layout_of s.parameters source target in

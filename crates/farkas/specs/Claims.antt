@@ -4,7 +4,7 @@ use Rattle.whole_numbers.specs.Affine.{Affine, form_of}
 use Rattle.whole_numbers.specs.Lists.{zeros, multiples}
 use Rattle.farkas.specs.declared.claim.Claim.{Claim}
 use Rattle.farkas.specs.declared.claim.Claim.TheVariants.{Legality, Bounding}
-use Rattle.farkas.specs.declared.dependence.Side.{Side}
+use Rattle.iteration_domains.specs.declared.dep.DepEnd.{DepEnd}
 use Rattle.farkas.specs.Unknowns.{layout_of, coefficients_of, shift_of, bounds_of}
 
 -- With which factors the target's row phi_T(t), the source's row phi_S(s) and the bound u.n + w stand in a claimed
@@ -22,7 +22,7 @@ bound_factor Legality = pos 0
 bound_factor Bounding = pos 1
 
 -- the claimed form at given unknowns: over the source's iterators, the target's, and p parameters
-unfoldable pub claimed : Claim → Side → Side → ℕ → List ℤ → Affine
+unfoldable pub claimed : Claim → DepEnd → DepEnd → ℕ → List ℤ → Affine
 claimed claim source target p unknowns =
     let places = layout_of p source target in
     form_of
@@ -50,7 +50,7 @@ parameters n i k zero = []
 parameters n i k (suc count) = only n i k ∷ parameters n (suc i) k count
 
 -- those of all coefficients
-unfoldable pub linear : Claim → Side → Side → ℕ → List (List ℤ)
+unfoldable pub linear : Claim → DepEnd → DepEnd → ℕ → List (List ℤ)
 linear claim source target p =
     let places = layout_of p source target in
     iterators places.unknowns places.source (source_factor claim) source.loops
@@ -58,7 +58,7 @@ linear claim source target p =
     ++ parameters places.unknowns 0 (bound_factor claim) p)
 
 -- those of the constant; where source and target are one statement, its shift falls out
-unfoldable pub constant : Claim → Side → Side → ℕ → List ℤ
+unfoldable pub constant : Claim → DepEnd → DepEnd → ℕ → List ℤ
 constant claim source target p =
     let places = layout_of p source target in
     let bound = only places.unknowns p (bound_factor claim) in

@@ -5,7 +5,7 @@ use Rattle.fractions.specs.Farkas.{HasFarkas, AreNotNegative, two_rows}
 use Rattle.integer_sets.specs.Constraints.{Constraints}
 use Rattle.integer_sets.specs.Points.{Satisfies}
 use Rattle.farkas.specs.declared.claim.Claim.{Claim}
-use Rattle.farkas.specs.declared.dependence.Side.{Side}
+use Rattle.iteration_domains.specs.declared.dep.DepEnd.{DepEnd}
 use Rattle.farkas.specs.Unknowns.{layout_of, coefficients_of, shift_of, bounds_of}
 use Rattle.farkas.specs.Claims.{claimed}
 
@@ -20,7 +20,7 @@ rows_of s = two_rows s.equalities ++ s.rows
 
 -- t is over the unknowns of a dependence, and whole ones that are not negative satisfy it exactly where Farkas's
 -- identity holds of the claimed form
-pub record IsFarkas (claim : Claim) (source target : Side) (s t : Constraints) : Type 0 where
+pub record IsFarkas (claim : Claim) (source target : DepEnd) (s t : Constraints) : Type 0 where
   pub dimensions : t.dimensions ≡ (layout_of s.parameters source target).unknowns
   pub parameters : t.parameters ≡ 0
   pub exact : (unknowns : List ℤ) → length unknowns ≡ t.dimensions → AreNotNegative unknowns
@@ -31,21 +31,21 @@ abbrev pub IsTaken : Constraints → List ℤ → Type 0
 IsTaken t unknowns = (length unknowns ≡ t.dimensions) × AreNotNegative unknowns × Satisfies t unknowns
 
 -- the source's iterators, the target's and the parameters are a point of a dependence
-pub record IsInstance (source target : Side) (s : Constraints) (i j p : List ℤ) : Type 0 where
+pub record IsInstance (source target : DepEnd) (s : Constraints) (i j p : List ℤ) : Type 0 where
   pub source_iterators : length i ≡ source.loops
   pub target_iterators : length j ≡ target.loops
   pub parameters : length p ≡ s.parameters
   pub inside : Satisfies s (i ++ (j ++ p))
 
 -- at each whole point of the dependence the target's row is not below the source's
-abbrev pub Keeps : Side → Side → Constraints → Constraints → Type 0
+abbrev pub Keeps : DepEnd → DepEnd → Constraints → Constraints → Type 0
 Keeps source target s t =
     (unknowns i j p : List ℤ) → IsTaken t unknowns → IsInstance source target s i j p
     → phi unknowns (layout_of s.parameters source target).source source.loops i
     ≤ℤ phi unknowns (layout_of s.parameters source target).target target.loops j
 
 -- at each whole point of the dependence the target's row is at most u.n + w above the source's
-abbrev pub Bounds : Side → Side → Constraints → Constraints → Type 0
+abbrev pub Bounds : DepEnd → DepEnd → Constraints → Constraints → Type 0
 Bounds source target s t =
     (unknowns i j p : List ℤ) → IsTaken t unknowns → IsInstance source target s i j p
     → phi unknowns (layout_of s.parameters source target).target target.loops j

@@ -11,7 +11,7 @@ use Rattle.fm_projection.specs.Runs.{eliminated_run, pairs_in}
 use Rattle.lexmin_runs.specs.Nodes.{Counted}
 use Rattle.lexmin_runs.specs.Emptiness.{empty_run}
 use Rattle.farkas.specs.declared.claim.Claim.{Claim}
-use Rattle.farkas.specs.declared.dependence.Side.{Side}
+use Rattle.iteration_domains.specs.declared.dep.DepEnd.{DepEnd}
 use Rattle.farkas.specs.Unknowns.{layout_of}
 use Rattle.farkas.specs.Claims.{linear, constant}
 use Rattle.farkas.specs.Matching.{matching_run, multipliers_of}
@@ -100,13 +100,13 @@ left_run budget b (suc k) s =
 abbrev pub posed : ℕ → ℕ → List Affine → Constraints
 posed n k equalities = system_of (n + k) 0 equalities (own_rows n k)
 
-unfoldable pub posed_run : Claim → Side → Side → Constraints → Result Constraints Halt
+unfoldable pub posed_run : Claim → DepEnd → DepEnd → Constraints → Result Constraints Halt
 posed_run claim source target s =
     formed (matching_run (linear claim source target s.parameters) (constant claim source target s.parameters) s)
     >> λ equalities. Ok (posed (layout_of s.parameters source target).unknowns (multipliers_of s) equalities)
 
 -- the rows of a claim: what the matching leaves when m0 and the multipliers are eliminated in this order
-unfoldable pub rows_run : ℕ → Claim → Side → Side → Constraints → Result Constraints Halt
+unfoldable pub rows_run : ℕ → Claim → DepEnd → DepEnd → Constraints → Result Constraints Halt
 rows_run budget claim source target s =
     posed_run claim source target s
     >> λ all. left_run budget (layout_of s.parameters source target).unknowns (multipliers_of s) all

@@ -1,23 +1,19 @@
-use Rattle.std.specs.Prelude.{◌≡◌, ℕ, zero, suc, ◌+◌, nat_eq, nat_lt, if◌then◌else◌, ℤ, pos, List, [], ◌∷◌, get_or}
-use Rattle.farkas.specs.declared.dependence.Side.{Side}
+use Rattle.std.specs.Prelude.{ℕ, zero, suc, ◌+◌, nat_eq, nat_lt, if◌then◌else◌, ℤ, pos, List, [], ◌∷◌, get_or}
+use Rattle.iteration_domains.specs.declared.dep.DepEnd.{DepEnd}
 use Rattle.farkas.specs.declared.layout.Layout.{Layout}
 
 -- The unknowns of a dependence: u, one for each parameter, then w, then each statement's own in textual order: its
 -- coefficients, innermost first, and its shift. Where source and target are one statement, that stands once.
 
--- one statement has one number of loops
-abbrev pub IsOne : Side → Side → Type 0
-IsOne source target = source.statement ≡ target.statement → source.loops ≡ target.loops
-
 -- the place behind the unknowns of a statement whose first stands at `first`
-abbrev pub behind : ℕ → Side → ℕ
+abbrev pub behind : ℕ → DepEnd → ℕ
 behind first side = first + side.loops + 1
 
 -- how many unknowns, and where the source's and the target's begin
 abbrev pub places : ℕ → ℕ → ℕ → Layout
 places unknowns source target = record { unknowns = unknowns; source = source; target = target }
 
-unfoldable pub layout_of : ℕ → Side → Side → Layout
+unfoldable pub layout_of : ℕ → DepEnd → DepEnd → Layout
 layout_of parameters source target =
     if nat_eq source.statement target.statement
     then places (behind (parameters + 1) source) (parameters + 1) (parameters + 1)

@@ -57,7 +57,9 @@ fn negation(alloc: Global, row: &Form) -> Result<Form, FormStop>
     }
 }
 
-/// Asks whether the others imply the row at a place, and drops it where they do.
+/// Asks whether the others imply the row at a place, and drops it where they do. It stays a function of its own in the
+/// program, so that a debugger can count the questions.
+#[inline(never)]
 fn ask(alloc: Global, system: System, at: usize, budget: u64) -> Result<System, Stuck>
     requires place { at < length system.rows }
     requires flat { system.parameters ≡ 0 }

@@ -8,13 +8,13 @@ ghost use Rattle.farkas.specs.Claims.{claimed, target_factor, source_factor, bou
 ghost use Rattle.farkas.specs.Meaning.{phi};
 
 use crate::claim::Claim;
-use crate::dependence::Side;
+use iteration_domains::DepEnd;
 
 /// At each point of source, target and parameters a claimed form is the bound, the source's row and the target's row,
 /// each with its factor: so the legality form is the distance, and the bounding form what the bound leaves of it.
 #[tactic(auto, using(crate::proofs::Claiming::value_laws))]
 pub fn claimed_forms_are_distances()
-    ensures { (claim : Claim) (source target : Side) (p : ℕ) (unknowns i j q : List ℤ)
+    ensures { (claim : Claim) (source target : DepEnd) (p : ℕ) (unknowns i j q : List ℤ)
         → length i ≡ source.loops
         → length j ≡ target.loops
         → value_of (claimed claim source target p unknowns) (i ++ (j ++ q))

@@ -5,7 +5,7 @@ ghost use Rattle.std.specs.Prelude.{◌≡◌, ◌≤◌, ◌^◌};
 ghost use Rattle.std.specs.Option.{ForSome, IfNone};
 ghost use Rattle.farkas.specs.Unknowns.{layout_of, behind};
 
-use crate::dependence::Side;
+use iteration_domains::DepEnd;
 
 /// How many unknowns there are, and where the coefficients of source and target begin.
 #[derive(Clone, Copy)]
@@ -16,7 +16,7 @@ pub struct Layout {
 }
 
 /// The place behind the unknowns of a statement whose first stands at `first`.
-fn place_behind(first: usize, side: Side) -> Option<usize>
+fn place_behind(first: usize, side: DepEnd) -> Option<usize>
     ensures place { ForSome result (λ place. place ≡ behind first side) }
     ensures none { IfNone result (2 ^ 64 ≤ behind first side) }
 {
@@ -25,7 +25,7 @@ fn place_behind(first: usize, side: Side) -> Option<usize>
 
 /// The layout; nothing where a place does not fit its type.
 #[tactic(auto, unfolding(crate::specs::Unknowns::layout_of))]
-pub fn lay_out(parameters: usize, source: Side, target: Side) -> Option<Layout>
+pub fn lay_out(parameters: usize, source: DepEnd, target: DepEnd) -> Option<Layout>
     ensures layout { ForSome result (λ l. l ≡ layout_of parameters source target) }
     ensures none { IfNone result (2 ^ 64 ≤ (layout_of parameters source target).unknowns) }
 {

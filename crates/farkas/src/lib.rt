@@ -9,13 +9,13 @@ ghost use Rattle.std.specs.Option.{ForSome};
 ghost use Rattle.integer_sets.specs.Constraints.{IsSized, variables_in};
 ghost use Rattle.farkas.specs.Matching.{multipliers_of};
 ghost use Rattle.farkas.specs.Run.{posed_run, rows_run};
-ghost use Rattle.farkas.specs.Unknowns.{IsOne, layout_of};
+ghost use Rattle.iteration_domains.specs.Dependence.{IsOne};
+ghost use Rattle.farkas.specs.Unknowns.{layout_of};
 ghost use Rattle.farkas.specs.Gives.{Follows};
 ghost use Rattle.farkas.specs.Meaning.{IsFarkas, Keeps, Bounds};
 ghost use Rattle.farkas.specs.declared.claim.Claim.TheVariants.{Legality, Bounding};
 
 mod claim;
-mod dependence;
 mod dropping;
 mod elimination;
 mod laws;
@@ -30,8 +30,8 @@ use crate::elimination::without_multipliers;
 use crate::layout::{Layout, lay_out};
 use crate::matching::{last_rows, matching};
 use crate::stuck::by_form;
-pub use dependence::{Dependence, Side};
 use integer_sets::System;
+use iteration_domains::{Dep, DepEnd};
 pub use laws::claimed_forms_are_distances;
 use std::alloc::Global;
 pub use stuck::Stuck;
@@ -56,8 +56,8 @@ fn variables(system: &System) -> Option<usize>
 fn posed(
     alloc: Global,
     claim: Claim,
-    source: Side,
-    target: Side,
+    source: DepEnd,
+    target: DepEnd,
     system: &System,
     layout: Layout,
 ) -> Result<System, Stuck>
@@ -94,8 +94,8 @@ fn posed(
 fn rows_of(
     alloc: Global,
     claim: Claim,
-    source: Side,
-    target: Side,
+    source: DepEnd,
+    target: DepEnd,
     system: &System,
     budget: u64,
 ) -> Result<System, Stuck>
@@ -120,7 +120,7 @@ fn rows_of(
 /// # Errors
 /// `Stuck` exactly where and as an elimination or a question of this dependence stops; each question has the whole
 /// budget.
-pub fn legal_rows(alloc: Global, dependence: &Dependence, budget: u64) -> Result<System, Stuck>
+pub fn legal_rows(alloc: Global, dependence: &Dep, budget: u64) -> Result<System, Stuck>
     ensures run { Follows (λ s. s) budget result
         (rows_run budget Legality dependence.now.source dependence.now.target dependence.now.system) }
     ensures farkas { IfOk result
@@ -143,7 +143,7 @@ pub fn legal_rows(alloc: Global, dependence: &Dependence, budget: u64) -> Result
 /// # Errors
 /// `Stuck` exactly where and as an elimination or a question of this dependence stops; each question has the whole
 /// budget.
-pub fn bounded_rows(alloc: Global, dependence: &Dependence, budget: u64) -> Result<System, Stuck>
+pub fn bounded_rows(alloc: Global, dependence: &Dep, budget: u64) -> Result<System, Stuck>
     ensures run { Follows (λ s. s) budget result
         (rows_run budget Bounding dependence.now.source dependence.now.target dependence.now.system) }
     ensures farkas { IfOk result

@@ -6,7 +6,8 @@ ghost use Rattle.affine_forms.specs.Parts.{variables_of};
 ghost use Rattle.whole_numbers.specs.Affine.{form_of};
 ghost use Rattle.affine_forms.specs.Gives.{Gives};
 ghost use Rattle.integer_sets.specs.Constraints.{variables_in};
-ghost use Rattle.farkas.specs.Unknowns.{IsOne, layout_of};
+ghost use Rattle.iteration_domains.specs.Dependence.{IsOne};
+ghost use Rattle.farkas.specs.Unknowns.{layout_of};
 ghost use Rattle.farkas.specs.Claims.{only, iterators, parameters, linear, constant};
 ghost use Rattle.farkas.specs.Matching.{entry_of, HasEntry, equality_columns_run, row_columns_run, matched_run};
 ghost use Rattle.farkas.specs.Matching.{coefficients_run, matching_run};
@@ -15,10 +16,10 @@ ghost use Rattle.fractions.specs.Farkas.{own_rows};
 ghost use Rattle.farkas.specs.declared.matching.Entry.TheVariants.{Coefficient, Constant};
 
 use crate::claim::Claim;
-use crate::dependence::Side;
 use crate::layout::Layout;
 use affine_forms::{Form, FormStop};
 use integer_sets::System;
+use iteration_domains::DepEnd;
 use std::alloc::{AllocError, Global};
 use wide_math::sub;
 
@@ -204,8 +205,8 @@ fn match_parameters(
 fn constant_factors(
     alloc: Global,
     claim: Claim,
-    source: Side,
-    target: Side,
+    source: DepEnd,
+    target: DepEnd,
     layout: Layout,
     parameters: usize,
 ) -> Result<Vec<i128>, AllocError>
@@ -230,8 +231,8 @@ fn constant_factors(
 fn match_coefficients(
     equalities: &mut Vec<Form>,
     claim: Claim,
-    source: Side,
-    target: Side,
+    source: DepEnd,
+    target: DepEnd,
     layout: Layout,
     system: &System,
 ) -> Result<(), FormStop>
@@ -277,8 +278,8 @@ fn match_coefficients(
 pub fn matching(
     alloc: Global,
     claim: Claim,
-    source: Side,
-    target: Side,
+    source: DepEnd,
+    target: DepEnd,
     layout: Layout,
     system: &System,
 ) -> Result<Vec<Form>, FormStop>

@@ -32,24 +32,22 @@ fn system(alloc: Global, least: i128) -> Result<System, AllocError>
 }
 
 /// That dependence, between two statements of one loop each.
-fn sweep(
-    alloc: Global,
-    source: usize,
-    target: usize,
-    least: i128,
-) -> Result<Dependence, AllocError> {
+fn sweep(alloc: Global, source: usize, target: usize, least: i128) -> Result<Dep, AllocError> {
     let system = system(alloc, least)?;
-    let source = Side {
+    let source = DepEnd {
         statement: source,
         loops: 1,
+        access: 0,
     };
-    let target = Side {
+    let target = DepEnd {
         statement: target,
         loops: 1,
+        access: 0,
     };
-    Ok(Dependence {
+    Ok(Dep {
         source,
         target,
+        depth: 1,
         system,
     })
 }

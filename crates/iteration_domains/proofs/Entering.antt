@@ -1,8 +1,10 @@
 -- What stands round a statement gone through one by one: its rows, the lengths of its forms, and their sizes.
-use Rattle.std.proofs.Common.{◌≡◌, ℕ, zero, suc, ◌+◌, ◌-◌, ◌*◌, ◌^◌, ◌<◌, ◌≤◌, pos, List, [], ◌∷◌, ◌++◌, length, map, drop, get_or, ap, ap₂, subst, sym, ◌∙◌, refl, arith, add-one, drop-cons, length-append, mul-le-mul}
+use Rattle.std.proofs.Common.{◌≡◌, ℕ, zero, suc, ◌+◌, ◌-◌, ◌*◌, ◌^◌, ◌<◌, ◌≤◌, pos, List, [], ◌∷◌, ◌++◌, length, map}
+use Rattle.std.proofs.Common.{drop, get_or, ap, ap₂, subst, sym, ◌∙◌, refl, arith, add-one, drop-cons, length-append}
+use Rattle.std.proofs.Common.{mul-le-mul}
 use Rattle.std.specs.Prelude.{All}
 use Rattle.std.proofs.Math.ListN.{length-set}
-use Rattle.std.proofs.lemmas.List.{append_assoc, append-nil}
+use Rattle.std.proofs.lemmas.List.{append_assoc}
 use Rattle.std.proofs.lemmas.List.Elements.{All-nil, All-cons, All-head, All-tail, All-append}
 use Rattle.whole_numbers.specs.Lists.{zeros, multiples}
 use Rattle.whole_numbers.specs.Affine.{Affine, form_of, composed}
@@ -14,7 +16,8 @@ use Rattle.scop_syntax.specs.Kernel.{IsForm, IsComparison, AreScopes, test_form}
 use Rattle.scop_syntax.specs.Statements.{Scope, round, under, loops_in}
 use Rattle.scop_syntax.specs.View.{test_of}
 use Rattle.scop_syntax.specs.declared.tree.Test.{Test as CodeTest}
-use Rattle.iteration_domains.specs.Rows.{variable, variables, composed_test, iterator, within_loop, rows_from, forms_from}
+use Rattle.iteration_domains.specs.Rows.{variable, variables, composed_test, iterator, within_loop, rows_from}
+use Rattle.iteration_domains.specs.Rows.{forms_from}
 use Rattle.iteration_domains.specs.Constraints.{equalities_in, rows_in}
 use Rattle.iteration_domains.specs.Sizes.{forms_size, grown, CanCompose}
 use Rattle.iteration_domains.specs.Standing.{Standing, standing, finished, with_tests, entered, CanEnter}
@@ -92,12 +95,7 @@ sized-within n j head forms sized =
     All-append P forms (iterator n j head forms ∷ []) sized
     (All-cons P (iterator n j head forms) [] (length-iterator n j head forms sized) (All-nil P))
 
--- the rows of a scope and those of the rest
-pub with_none : (s : Standing) → with_tests s [] ≡ s
-with_none s =
-    ap₂ (λ (es rs : List Affine). standing s.variables s.loops s.forms es rs) (append-nil s.equalities)
-    (append-nil s.rows)
-
+-- comparisons put behind, and others behind them
 pub with_both : (s : Standing) (tests others : List Test)
     → with_tests (with_tests s tests) others ≡ with_tests s (tests ++ others)
 with_both s tests others =
@@ -178,29 +176,6 @@ tests_compose n forms (test ∷ tests) sized small all =
     (All-head P (test_of test) (map test_of tests) all) sized (omega arith) (omega arith) small)
     (tests_compose n forms tests sized small (All-tail P (test_of test) (map test_of tests) all))
 
--- a guard's comparisons, of which the first have been gone through
-pub test_step : (s now next : Standing) (tests : List CodeTest) (i : ℕ) (test : CodeTest)
-    → test ≡ get_or tests i test → i < length tests
-    → with_tests now (map (composed_test s.variables s.forms) (map test_of (drop i tests)))
-    ≡ with_tests s (map (composed_test s.variables s.forms) (map test_of tests))
-    → next ≡ with_tests now (composed_test now.variables now.forms (test_of test) ∷ [])
-    → with_tests next (map (composed_test s.variables s.forms) (map test_of (drop (i + 1) tests)))
-    ≡ with_tests s (map (composed_test s.variables s.forms) (map test_of tests))
-test_step s now next tests i test found h so_far is =
-    let at : List CodeTest → List Test = λ ts. map (composed_test s.variables s.forms) (map test_of ts) in
-    let same_variables : now.variables ≡ s.variables = ap (λ (z : Standing). z.variables) so_far in
-    let same_forms : now.forms ≡ s.forms = ap (λ (z : Standing). z.forms) so_far in
-    let here : drop i tests ≡ test ∷ drop (i + 1) tests =
-    (let first : drop i tests ≡ get_or tests i test ∷ drop (i + 1) tests = rw (add-one, drop-cons tests i test h)
-    refl in
-    first ∙ ap (λ (t : CodeTest). t ∷ drop (i + 1) tests) (sym found)) in
-    let row : composed_test now.variables now.forms (test_of test) ≡ composed_test s.variables s.forms (test_of test) =
-    ap₂ (λ (n : ℕ) (fs : List Affine). composed_test n fs (test_of test)) same_variables same_forms in
-    ap (λ (z : Standing). with_tests z (at (drop (i + 1) tests)))
-    (is ∙ ap (λ (t : Test). with_tests now (t ∷ [])) row)
-    ∙ (with_both now (composed_test s.variables s.forms (test_of test) ∷ []) (at (drop (i + 1) tests))
-    ∙ (ap (λ (ts : List CodeTest). with_tests now (at ts)) (sym here) ∙ so_far))
-
 -- what stands round a statement, of which the first have been gone through
 pub record Entering (now start : Standing) (path : List CodeScope) (i : ℕ) : Type 0 where
   pub rows : finished now (scopes_of (drop i path)) ≡ finished start (scopes_of path)
@@ -232,11 +207,6 @@ scope_step now next start path i scope found h e is =
       can = subst (λ (s : Standing). CanEnter s rest) (sym is)
           (can_enter now (scope_of scope) rest (subst (CanEnter now) here e.can));
     }
-
-pub finished-nil : (s : Standing) → finished s [] ≡ record { forms = s.forms; equalities = s.equalities; rows = s.rows }
-finished-nil s =
-    ap₂ (λ (es rs : List Affine). record { forms = s.forms; equalities = es; rows = rs }) (append-nil s.equalities)
-    (append-nil s.rows)
 
 -- the parameters' forms, of which the first are there
 pub variables_step : (fs next whole : List Affine) (f : Affine) (n at : ℕ) → at < n

@@ -1,27 +1,39 @@
 -- The statements of a tree by their models, from the place at which the tree stands.
-use Rattle.std.proofs.Common.{◌≡◌, ℕ, zero, suc, ◌+◌, ◌-◌, ◌*◌, ◌^◌, ◌<◌, ◌≤◌, List, [], ◌∷◌, ◌++◌, length, map, drop, get_or, ap, ap₂, subst, sym, ◌∙◌, refl, arith, add-one, drop-cons, length-append}
+use Rattle.std.proofs.Common.{◌≡◌, ℕ, zero, suc, ◌+◌, ◌-◌, ◌*◌, ◌^◌, ◌<◌, ◌≤◌, List, [], ◌∷◌, ◌++◌, length, map, drop}
+use Rattle.std.proofs.Common.{get_or, ap, ap₂, subst, sym, ◌∙◌, refl, arith, add-one, drop-cons, length-append, inl}
+use Rattle.std.proofs.Common.{inr}
 use Rattle.std.specs.Prelude.{All}
-use Rattle.std.proofs.lemmas.List.{append_assoc, append-nil, map-append, length-map}
+use Rattle.std.proofs.lemmas.List.{append_assoc, map-append, length-map}
 use Rattle.std.proofs.lemmas.List.Elements.{All-nil, All-cons, All-head, All-tail, All-append}
 use Rattle.whole_numbers.specs.Affine.{Affine, composed}
 use Rattle.affine_forms.specs.Parts.{variables_of}
 use Rattle.integer_sets.specs.Constraints.{IsSized, Constraints, system_of}
-use Rattle.scop_syntax.specs.Tree.{Access, Expression, read, constant, affine, negated, complemented, cast, binary, shifted_left, shifted_right, Right, assigned, combined, moved_left, moved_right, Statement, Test, at_least, equal, Head, Tree, loop, guard, statement, Trees, none, more, Program}
+use Rattle.scop_syntax.specs.Tree.{Access, Expression, read, constant, affine, negated, complemented, cast, binary}
+use Rattle.scop_syntax.specs.Tree.{shifted_left, shifted_right, Right, assigned, combined, moved_left, moved_right}
+use Rattle.scop_syntax.specs.Tree.{Statement, Test, at_least, equal, Head, Tree, loop, guard, statement, Trees, none}
+use Rattle.scop_syntax.specs.Tree.{more, Program}
 use Rattle.scop_syntax.specs.Cells.{reads_of, reads_with}
-use Rattle.scop_syntax.specs.Kernel.{IsAffine, IsAccess, IsExpression, IsRight, IsStatement, AreScopes, AreTrees, IsKernel, ranks_of}
+use Rattle.scop_syntax.specs.Kernel.{IsAffine, IsAccess, IsExpression, IsRight, IsStatement, AreScopes, AreTrees}
+use Rattle.scop_syntax.specs.Kernel.{IsKernel, ranks_of}
 use Rattle.scop_syntax.specs.Walk.{statements_in, statements_in_all}
-use Rattle.scop_syntax.specs.Statements.{Scope, round, under, loops_in, Placed, in_loop_of, in_guard_of, placed, placed_all, statements_of}
+use Rattle.scop_syntax.specs.Statements.{Scope, round, under, loops_in, Placed, in_loop_of, in_guard_of, placed}
+use Rattle.scop_syntax.specs.Statements.{placed_all, statements_of}
+use Rattle.scop_syntax.specs.Members.{In}
 use Rattle.scop_syntax.specs.View.{tree_of, items_of}
 use Rattle.scop_syntax.specs.declared.tree.Item.{Item}
-use Rattle.iteration_domains.specs.Rows.{variable, variables, composed_test, iterator, within_loop, rows_from, forms_from}
+use Rattle.iteration_domains.specs.Rows.{variable, variables, composed_test, iterator, within_loop, rows_from}
+use Rattle.iteration_domains.specs.Rows.{forms_from}
 use Rattle.iteration_domains.specs.Constraints.{equalities_in, rows_in, constraints_of}
 use Rattle.iteration_domains.specs.Model.{Modelled, statement_model, composed_access, modelled, kernel_model, model_of}
-use Rattle.iteration_domains.specs.Sizes.{forms_size, grown, CanCompose, IsNarrow, IsModelled, IsKernelModel}
+use Rattle.iteration_domains.specs.Sizes.{forms_size, grown, CanCompose, IsNarrow, IsModelled, HaveOneCount}
+use Rattle.iteration_domains.specs.Sizes.{IsKernelModel}
 use Rattle.iteration_domains.specs.Standing.{Gathered, finished, starting, CanEnter}
-use Rattle.iteration_domains.specs.Path.{Path, path_at, placed_at, modelled_in, CanModel, CanAccess, CanRead, CanReadRight}
+use Rattle.iteration_domains.specs.Path.{Path, path_at, placed_at, modelled_in, CanModel, CanAccess, CanRead}
+use Rattle.iteration_domains.specs.Path.{CanReadRight}
 use Rattle.iteration_domains.proofs.Points.{equalities_in-append, rows_in-append}
 use Rattle.iteration_domains.proofs.Sizes.{size-composed, sizes-within, size-variables}
-use Rattle.iteration_domains.proofs.Entering.{grown_more, grown_five, can_compose, length-variable, sized-variables, length-variables, length-composed, sized-within}
+use Rattle.iteration_domains.proofs.Entering.{grown_more, grown_five, can_compose, length-variable, sized-variables}
+use Rattle.iteration_domains.proofs.Entering.{length-variables, length-composed, sized-within}
 
 -- forms over n variables
 abbrev Over : ℕ → Affine → Type 0
@@ -416,14 +428,6 @@ models_of_guard path tests (p ∷ ps) =
     (append_assoc path.scopes (under tests ∷ []) p.scopes))
     (models_of_guard path tests ps)
 
--- a statement that stands there, as one of the whole
-pub model_here : (path : Path) (n : ℕ) (s : Statement)
-    → modelled path.parameters (placed_at path n s) ∷ [] ≡ map (modelled_in path) (placed (statement s) n)
-model_here path n s =
-    ap₂ (λ (ls : List ℕ) (ss : List Scope).
-    modelled path.parameters (record { number = n; loops = ls; scopes = ss; body = s }) ∷ [])
-    (sym (append-nil path.loops)) (sym (append-nil path.scopes))
-
 -- how many statements there are
 mutual
   length-placed : (t : Tree) (n : ℕ) → length (placed t n) ≡ statements_in t
@@ -561,13 +565,26 @@ root_models program m scopes loops ts start now count around named body begin is
     map (modelled_in (path_at m ss ls)) (placed_all program.body 0)) around named)
     ∙ ap (λ (k : ℕ). kernel_model k (map (modelled k) (statements_of program))) count
 
+-- what holds of the model of each statement
+of_each : (P : Modelled → Type 0) (m : ℕ) (ps : List Placed) → ((p : Placed) → In p ps → P (modelled m p))
+    → All P (map (modelled m) ps)
+of_each P m [] h = All-nil P
+of_each P m (p ∷ ps) h =
+    All-cons P (modelled m p) (map (modelled m) ps) (h p (inl refl)) (of_each P m ps (λ q among. h q (inr among)))
+
 pub model_is_one : (program : Program) (m : ℕ) (now : List Modelled) → IsKernel program
+    → ((p q : Placed) → In p (statements_of program) → In q (statements_of program) → p.number ≡ q.number → p ≡ q)
     → kernel_model m now ≡ model_of program → IsKernelModel (kernel_model m now)
-model_is_one program m now is e =
+model_is_one program m now is same e =
+    let n = length program.parameters in
+    let ps = statements_of program in
     subst IsKernelModel (sym e)
     (record {
       few_parameters = is.few_parameters;
-      domains = over_parameters (length program.parameters) (statements_of program);
+      domains = over_parameters n ps;
+      numbers = of_each (λ s. All (HaveOneCount s) (map (modelled n) ps)) n ps
+          (λ p a. of_each (HaveOneCount (modelled n p)) n ps (λ q b number.
+          ap (λ (r : Placed). loops_in r.scopes) (same p q a b number)));
     })
 
 -- the accesses of a statement of a kernel

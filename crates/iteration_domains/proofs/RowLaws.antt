@@ -1,5 +1,6 @@
 -- The rows of a statement hold at the turns at which it runs, and its point's forms have the point's values.
-use Rattle.std.proofs.Common.{◌≡◌, ℕ, zero, suc, ◌+◌, ◌<◌, ℤ, pos, List, [], ◌∷◌, ◌++◌, length, map, get_or, ap, ap₂, subst, sym, ◌∙◌, refl, arith, length-append}
+use Rattle.std.proofs.Common.{◌≡◌, ℕ, zero, suc, ◌+◌, ◌<◌, ℤ, pos, List, [], ◌∷◌, ◌++◌, length, map, get_or, ap, ap₂}
+use Rattle.std.proofs.Common.{subst, sym, ◌∙◌, refl, arith, length-append}
 use Rattle.std.specs.Prelude.{◌+ℤ◌, ◌*ℤ◌, ◌≤ℤ◌, slice_index_or, ⊤}
 use Rattle.std.proofs.lemmas.Int.{ints}
 use Rattle.std.proofs.lemmas.List.{map-append, append_assoc, append-nil}
@@ -11,7 +12,8 @@ use Rattle.scop_syntax.specs.Tree.{Test, at_least, equal, Head}
 use Rattle.scop_syntax.specs.Walk.{turn_point}
 use Rattle.scop_syntax.specs.Statements.{Scope, round, under, Placed, loops_in, point_of, Holds, AllHold, Runs}
 use Rattle.scop_syntax.specs.Cells.{values}
-use Rattle.iteration_domains.specs.Rows.{variable, variables, composed_test, iterator, within_loop, rows_from, forms_from, variables_of_statement, parameter_forms, rows_of, point_forms}
+use Rattle.iteration_domains.specs.Rows.{variable, variables, composed_test, iterator, within_loop, rows_from}
+use Rattle.iteration_domains.specs.Rows.{forms_from, variables_of_statement, parameter_forms, rows_of, point_forms}
 use Rattle.iteration_domains.proofs.Points.{hold_append, hold_front, hold_back}
 
 -- from place j on x goes on with ys

@@ -1,5 +1,6 @@
 -- The numbers of forms: sums, multiples and compositions.
-use Rattle.std.proofs.Common.{◌≡◌, ℕ, zero, suc, ◌+◌, ◌*◌, ◌^◌, ◌≤◌, ℤ, pos, List, [], ◌∷◌, ◌++◌, set, refl, arith, mul-le-mul, mul-add}
+use Rattle.std.proofs.Common.{◌≡◌, ℕ, zero, suc, ◌+◌, ◌*◌, ◌^◌, ◌≤◌, ℤ, pos, List, [], ◌∷◌, ◌++◌, set, refl, arith}
+use Rattle.std.proofs.Common.{mul-le-mul, mul-add}
 use Rattle.std.specs.Prelude.{◌+ℤ◌, unsigned_abs}
 use Rattle.std.proofs.lemmas.Int.{ints, unsigned_abs-mul}
 use Rattle.whole_numbers.specs.Lists.{sums, multiples, zeros}

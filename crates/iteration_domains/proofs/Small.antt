@@ -1,5 +1,6 @@
 -- Runs whose numbers stay small are never too wide.
-use Rattle.std.proofs.Common.{◌≡◌, ℕ, ◌+◌, ◌*◌, ◌^◌, ◌≤◌, ℤ, pos, ◌+ℤ◌, ◌*ℤ◌, List, [], ◌∷◌, length, sym, ◌∙◌, refl, arith, mul-le-mul, mul-add}
+use Rattle.std.proofs.Common.{◌≡◌, ℕ, ◌+◌, ◌*◌, ◌^◌, ◌≤◌, ℤ, pos, ◌+ℤ◌, ◌*ℤ◌, List, [], ◌∷◌, length, sym, ◌∙◌, refl}
+use Rattle.std.proofs.Common.{arith, mul-le-mul, mul-add}
 use Rattle.std.specs.Prelude.{Ok, IsTrue, All, unsigned_abs}
 use Rattle.std.specs.Int.{w128}
 use Rattle.std.proofs.lemmas.Int.{unsigned_abs-mul, fits_signed_from_abs}
@@ -14,7 +15,8 @@ use Rattle.wide_math.specs.declared.Op.TheVariants.{Add, Mul}
 use Rattle.wide_math.specs.Checked.{cross_sum_of}
 use Rattle.wide_math.proofs.Steps.{checked-fits}
 use Rattle.affine_forms.specs.Parts.{variables_of}
-use Rattle.affine_forms.specs.Runs.{multiply_add_run, zip_run, added_multiple_run, plus_multiple_run, plus_combination_run, compose_run, multiples_sum_run, forms_sum_run}
+use Rattle.affine_forms.specs.Runs.{multiply_add_run, zip_run, added_multiple_run, plus_multiple_run}
+use Rattle.affine_forms.specs.Runs.{plus_combination_run, compose_run, multiples_sum_run, forms_sum_run}
 use Rattle.scop_syntax.specs.Kernel.{AreAtMost}
 use Rattle.iteration_domains.specs.Sizes.{size, form_size, forms_size, CanCompose}
 use Rattle.iteration_domains.proofs.Sizes.{abs_sum, size-sum, size-multiple, size-zeros}

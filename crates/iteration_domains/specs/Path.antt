@@ -1,7 +1,9 @@
 -- What the code's values stand for while it goes down a tree.
 use Rattle.whole_numbers.specs.Affine.{Affine}
 use Rattle.std.specs.Prelude.{◌≡◌, ℕ, ◌+◌, ◌≤◌, List, map, length, ◌++◌, All, ⊤}
-use Rattle.scop_syntax.specs.Tree.{Access, Expression, read, constant, affine, negated, complemented, cast, binary, shifted_left, shifted_right, Right, assigned, combined, moved_left, moved_right, Statement, Trees}
+use Rattle.scop_syntax.specs.Tree.{Access, Expression, read, constant, affine, negated, complemented, cast, binary}
+use Rattle.scop_syntax.specs.Tree.{shifted_left, shifted_right, Right, assigned, combined, moved_left, moved_right}
+use Rattle.scop_syntax.specs.Tree.{Statement, Trees}
 use Rattle.scop_syntax.specs.Kernel.{AreScopes, AreTrees}
 use Rattle.scop_syntax.specs.Statements.{Scope, round, under, loops_in, Placed}
 use Rattle.scop_syntax.specs.View.{test_of}

@@ -44,7 +44,12 @@ pub record IsModelled (s : Modelled) : Type 0 where
   pub accesses : All (λ (a : Access). All (IsNarrow (s.domain.dimensions + s.domain.parameters)) a.subscripts)
       s.accesses
 
--- a model: a few parameters, and domains over just them
+-- statements of one number have one number of loops
+abbrev pub HaveOneCount : Modelled → Modelled → Type 0
+HaveOneCount s t = s.number ≡ t.number → s.domain.dimensions ≡ t.domain.dimensions
+
+-- a model: a few parameters, domains over just them, and numbers by which its statements have their loops
 pub record IsKernelModel (model : KernelModel) : Type 0 where
   pub few_parameters : model.parameters ≤ 4
   pub domains : All (λ s. s.domain.parameters ≡ model.parameters) model.statements
+  pub numbers : All (λ s. All (HaveOneCount s) model.statements) model.statements

@@ -13,7 +13,7 @@ pub struct DepEnd {
 
 /// A dependence: its source runs before its target. `depth` is the loop, counted from 1 from the outermost, in whose
 /// turns they differ first; where no turn of their common loops differs it is 1 more than these.
-/// The system's dimensions are the source's turns, then the target's.
+/// The system's dimensions are the source's turns, then the target's; one statement has one number of loops.
 #[derive(Debug, Drop)]
 pub struct Dep {
     pub source: DepEnd,
@@ -23,12 +23,11 @@ pub struct Dep {
 }
 
 impl Model for Dep {
-    ghost use Rattle.std.specs.Prelude.{◌≡◌, ◌+◌};
-    ghost use Rattle.iteration_domains.specs.Dependence.{Dependence, dependence};
+    ghost use Rattle.iteration_domains.specs.Dependence.{Dependence, IsDependence, dependence};
 
     ghost Value = { Dependence };
 
     ghost view = { λ d. dependence d.source d.target d.depth d.system };
 
-    ghost invariant = { λ d. d.system.dimensions ≡ d.source.loops + d.target.loops };
+    ghost invariant = { λ d. IsDependence (dependence d.source d.target d.depth d.system) };
 }

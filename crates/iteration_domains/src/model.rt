@@ -3,10 +3,12 @@ ghost use Rattle.std.specs.Prelude.{◌≡◌, ◌≤◌, All, IfOk};
 ghost use Rattle.scop_syntax.specs.Kernel.{IsKernel};
 ghost use Rattle.scop_syntax.specs.View.{program_of};
 ghost use Rattle.iteration_domains.specs.Model.{model_of};
+ghost use Rattle.iteration_domains.specs.Sizes.{HaveOneCount};
 
 use crate::items::{Path, model_items};
 use crate::statement::StatementModel;
 use scop_syntax::tree::Kernel;
+use scop_syntax::walk_laws::statements_are_numbered;
 use std::alloc::{AllocError, Global};
 
 /// The model of a kernel. Contracts see the plain data of specs/Model.antt.
@@ -36,6 +38,7 @@ impl Model {
         requires { IsKernel (program_of kernel.now) }
         ensures { IfOk result (λ model. model ≡ model_of (program_of kernel.now)) }
     {
+        statements_are_numbered();
         let parameters = kernel.parameters.len();
         let mut path = Path {
             parameters,
@@ -62,6 +65,7 @@ impl Model {
     pub fn statements(&self) -> &[StatementModel]
         ensures statements { result.now ≡ self.now.statements }
         ensures parameters { All (λ s. s.domain.parameters ≡ self.now.parameters) result.now }
+        ensures numbers { All (λ s. All (HaveOneCount s) result.now) result.now }
     {
         self.statements.as_slice()
     }

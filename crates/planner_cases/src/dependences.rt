@@ -2,9 +2,10 @@
 
 use crate::systems::read_system;
 use case_lines::{Lines, print_forms};
-use farkas::{Dependence, Side, Stuck, bounded_rows, legal_rows};
+use farkas::{Stuck, bounded_rows, legal_rows};
 use fm_projection::FmStop;
 use integer_sets::System;
+use iteration_domains::{Dep, DepEnd};
 use pip_solver::Stop;
 use std::io;
 
@@ -15,7 +16,7 @@ const BUDGET: u64 = 20000;
 fn read_sides<R: Print + AllocGlobal>(
     rt: &R,
     lines: &mut Lines,
-) -> io::Result<Option<(Side, Side)>> {
+) -> io::Result<Option<(DepEnd, DepEnd)>> {
     let counts = match lines.counts(rt.alloc(), "dep")? {
         Some(counts) => counts,
         None => return Ok(None),
@@ -23,13 +24,15 @@ fn read_sides<R: Print + AllocGlobal>(
     if counts.len() != 4 {
         return Ok(None);
     }
-    let source = Side {
+    let source = DepEnd {
         statement: counts[0],
         loops: counts[1],
+        access: 0,
     };
-    let target = Side {
+    let target = DepEnd {
         statement: counts[2],
         loops: counts[3],
+        access: 0,
     };
     lines.pass();
     println!(rt;
@@ -39,16 +42,17 @@ fn read_sides<R: Print + AllocGlobal>(
     Ok(Some((source, target)))
 }
 
-/// The dependence, where its parts go together.
-fn dependence(source: Side, target: Side, system: System) -> Option<Dependence> {
+/// The dependence, where its parts go together; its accesses and its depth have no part in Farkas's lemma.
+fn dependence(source: DepEnd, target: DepEnd, system: System) -> Option<Dep> {
     let iterators = source.loops.checked_add(target.loops)?;
     let one = source.statement == target.statement;
     if system.dimensions() != iterators || (one && source.loops != target.loops) {
         return None;
     }
-    Some(Dependence {
+    Some(Dep {
         source,
         target,
+        depth: 1,
         system,
     })
 }

@@ -8,17 +8,24 @@
 //! A case of Farkas's lemma is `dep SOURCE LOOPS TARGET LOOPS` with its system, and the answers: `legal N` and `bounded
 //! N`, each with the lines of the rows over the N unknowns and `end`; or `legal stuck KIND NUMBER`.
 //!
-//! At a line that begins no such case, or is not what it is to be, the program prints `unknown: LINE` and ends: so it
-//! tells that it does not know the cases of domains and conflicts yet.
+//! A case of a kernel is `kernel BYTES` and the text, which has so many bytes, and the answers: `domain SN` with its
+//! system for each statement, `dep SOURCE ACCESS TARGET ACCESS DEPTH` with its system for each conflict, and `end`.
+//!
+//! At a line that begins no such case, or is not what it is to be, or behind a text that is no kernel, the program
+//! prints `unknown: LINE` and ends.
 #![tactic(auto)]
 
 mod dependences;
 mod elimination;
+mod model;
 mod systems;
+#[cfg(test)]
+mod tests;
 
 use case_lines::Lines;
 use dependences::farkas_rows;
 use elimination::elimination;
+use model::domains_and_conflicts;
 use std::io;
 
 fn main(rt: HostRuntime) -> io::Result<()> {
@@ -33,6 +40,8 @@ fn main(rt: HostRuntime) -> io::Result<()> {
         }
         let known = if lines.begins("dep") {
             farkas_rows(&rt, &mut lines)?
+        } else if lines.begins("kernel") {
+            domains_and_conflicts(&rt, &mut lines)?
         } else {
             elimination(&rt, &mut lines)?
         };

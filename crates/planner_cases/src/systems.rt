@@ -4,6 +4,13 @@ use case_lines::{Lines, print_forms, read_forms};
 use integer_sets::System;
 use std::io;
 
+/// Prints a system.
+pub fn print_system<R: Print + AllocGlobal>(rt: &R, system: &System) -> io::Result<()> {
+    println!(rt; "system {} {}", system.dimensions(), system.parameters())?;
+    print_forms(rt, "equality", system.equalities())?;
+    print_forms(rt, "row", system.rows())
+}
+
 /// Reads a system and prints it; nothing where the line in front heads none.
 pub fn read_system<R: Print + AllocGlobal>(
     rt: &R,
@@ -24,8 +31,7 @@ pub fn read_system<R: Print + AllocGlobal>(
     lines.pass();
     let equalities = read_forms(rt.alloc(), lines, "equality", variables)?;
     let rows = read_forms(rt.alloc(), lines, "row", variables)?;
-    println!(rt; "system {dimensions} {parameters}")?;
-    print_forms(rt, "equality", equalities.as_slice())?;
-    print_forms(rt, "row", rows.as_slice())?;
-    Ok(Some(System::from_parts(dimensions, parameters, equalities, rows)))
+    let system = System::from_parts(dimensions, parameters, equalities, rows);
+    print_system(rt, &system)?;
+    Ok(Some(system))
 }

@@ -1,15 +1,24 @@
-use Rattle.std.proofs.Common.{List}
+use Rattle.std.proofs.Common.{◌≡◌, List, subst}
+use Rattle.std.specs.Prelude.{All}
 use Rattle.std.specs.List.{flat_map}
 use Rattle.iteration_domains.specs.Dependence.{Dependence}
+use Rattle.iteration_domains.specs.Sizes.{HaveOneCount}
 use Rattle.conflict_deps.specs.Conflicts.{Side, deps_between, sides_in, sides_of}
 use Rattle.conflict_deps.proofs.Gathering.{statement_has, statements_step}
 use Rattle.conflict_deps.proofs.deps.conflicts.Goals as goal
 
-pub push_from_statement-requires : goal.push_from_statement-requires
-push_from_statement-requires c =
-    statement_has c.args.model.now.parameters c.statements-statement-items.result.now c.loop-statement.statement-index
-    c.statement-item.result c.statements-statement-items.ensures.parameters c.statement-item.is
-    c.loop-statement-test.true
+pub push_from_statement-requires-clause-statement : goal.push_from_statement-requires-clause-statement
+push_from_statement-requires-clause-statement c =
+    statement_has (λ t. t.domain.parameters ≡ c.args.model.now.parameters) c.statements-statement-items.result.now
+    c.loop-statement.statement-index c.statement-item.result c.statements-statement-items.ensures.parameters
+    c.statement-item.is c.loop-statement-test.true
+
+pub push_from_statement-requires-clause-one : goal.push_from_statement-requires-clause-one
+push_from_statement-requires-clause-one c =
+    subst (All (HaveOneCount c.statement-item.result)) c.statements-statement-items.ensures.statements
+    (statement_has (λ t. All (HaveOneCount t) c.statements-statement-items.result.now)
+    c.statements-statement-items.result.now c.loop-statement.statement-index c.statement-item.result
+    c.statements-statement-items.ensures.numbers c.statement-item.is c.loop-statement-test.true)
 
 pub loop-statement-preserved : goal.loop-statement-preserved
 loop-statement-preserved c =

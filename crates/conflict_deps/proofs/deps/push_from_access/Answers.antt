@@ -1,5 +1,7 @@
-use Rattle.std.proofs.Common.{◌++◌, ap, sym, ◌∙◌}
+use Rattle.std.proofs.Common.{◌≡◌, ◌++◌, ap, subst, sym, ◌∙◌}
+use Rattle.std.specs.Prelude.{All}
 use Rattle.std.specs.List.{flat_map}
+use Rattle.iteration_domains.specs.Sizes.{HaveOneCount}
 use Rattle.conflict_deps.specs.Conflicts.{deps_between, sides_of}
 use Rattle.conflict_deps.specs.View.{side_of}
 use Rattle.conflict_deps.proofs.Gathering.{statement_has, statements_step}
@@ -7,10 +9,17 @@ use Rattle.conflict_deps.proofs.deps.push_from_access.Goals as goal
 
 pub push_to_statement-requires-clause-statement : goal.push_to_statement-requires-clause-statement
 push_to_statement-requires-clause-statement c =
-    statement_has c.args.model.now.parameters c.statements-statement-items.result.now c.loop-statement.statement-index
-    c.statement-item.result c.statements-statement-items.ensures.parameters c.statement-item.is
-    c.loop-statement-test.true
+    statement_has (λ t. t.domain.parameters ≡ c.args.model.now.parameters) c.statements-statement-items.result.now
+    c.loop-statement.statement-index c.statement-item.result c.statements-statement-items.ensures.parameters
+    c.statement-item.is c.loop-statement-test.true
     ∙ sym c.parameters-parameters.ensures.parameters
+
+pub push_to_statement-requires-clause-one : goal.push_to_statement-requires-clause-one
+push_to_statement-requires-clause-one c =
+    let P = HaveOneCount c.args.source.now.statement.now in
+    statement_has P c.statements-statement-items.result.now c.loop-statement.statement-index c.statement-item.result
+    (subst (All P) (sym c.statements-statement-items.ensures.statements) c.requires.one)
+    c.statement-item.is c.loop-statement-test.true
 
 pub loop-statement-preserved : goal.loop-statement-preserved
 loop-statement-preserved c =

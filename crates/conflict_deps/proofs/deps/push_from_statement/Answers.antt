@@ -5,11 +5,11 @@ use Rattle.conflict_deps.specs.Conflicts.{Side, deps_between, sides_from, sides_
 use Rattle.conflict_deps.proofs.Gathering.{pair_can, sides_step}
 use Rattle.conflict_deps.proofs.deps.push_from_statement.Goals as goal
 
-pub push_from_access-requires : goal.push_from_access-requires
-push_from_access-requires c =
+pub push_from_access-requires-clause-source : goal.push_from_access-requires-clause-source
+push_from_access-requires-clause-source c =
     pair_can c.args.model.now.parameters c.args.statement.now c.loop-number.number _ c.accesses-accesses.result.now
     c.loops-loops.result.now c.loops-loops.ensures.loops c.loops-loops.ensures.dimensions c.loops-loops.ensures.few
-    c.requires
+    c.requires.statement
     c.accesses-accesses.ensures.narrow c.index-accesses-number.is c.loop-number-test.true
 
 pub loop-number-preserved : goal.loop-number-preserved

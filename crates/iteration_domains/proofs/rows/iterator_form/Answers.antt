@@ -1,4 +1,5 @@
-use Rattle.std.proofs.Common.{◌≡◌, ◌+◌, ◌*◌, ◌^◌, ◌≤◌, ℤ, length, arith, ap, subst, sym, ◌∙◌, to_z, of_z, mul-le-mul, FitsSigned}
+use Rattle.std.proofs.Common.{◌≡◌, ◌+◌, ◌*◌, ◌^◌, ◌≤◌, ℤ, length, arith, ap, subst, sym, ◌∙◌, to_z, of_z, mul-le-mul}
+use Rattle.std.proofs.Common.{FitsSigned}
 use Rattle.std.specs.Prelude.{unsigned_abs}
 use Rattle.std.specs.Int.{w64, w128}
 use Rattle.std.proofs.lemmas.Int.{to_z-of_z, fits_signed_from_abs}
