@@ -1,18 +1,25 @@
 #!/bin/sh
-# Times the rows of dependences by Farkas's lemma: both claims of each `dep` case in a file as planner_cases reads it, by
-# that program, and the same eliminations with the same order of variables by isl over rational sets (libisl-dev; left
-# out with a word where it is missing). Prints milliseconds for all cases, by the shortest processor times, and the ratio.
-# usage: bench/farkas.sh [FILE [ROUNDS]], the cases of the program's own input where no file is given; at least 5 rounds
+# Times the conflicts of the kernels in examples/ and the rows of all of them by Farkas's lemma (crates/planner_bench), and
+# the same eliminations with the same order of variables by isl over rational sets (libisl-dev; left out with a word where
+# it is missing). Prints of each kernel its dependences, the milliseconds of each call for all of them, by the shortest
+# processor times, how many questions were asked of the solver (counted by gdb; left out where it is missing), and the
+# ratio of both claims' rows to isl.
+# usage: bench/farkas.sh [ROUNDS [FILE..]], the kernels of examples/ where no file is given; at least 5 rounds
 set -eu
 root=$(CDPATH= cd -- "$(dirname -- "$0")/.." && pwd)
+rounds=${1:-5}
+[ $# -eq 0 ] || shift
+[ $# -ne 0 ] || set -- "$root"/examples/*.c
 work=$(mktemp -d)
 trap 'rm -rf "$work"' EXIT
-(cd "$root/crates/planner_cases" && rt run >/dev/null 2>"$work/log") || { cat "$work/log" >&2; exit 1; }
+for program in planner_bench planner_cases; do
+  (cd "$root/crates/$program" && rt run <stdin >/dev/null 2>"$work/log") || { cat "$work/log" >&2; exit 1; }
+done
+baseline=
 if gcc -O2 -o "$work/baseline" "$root/bench/farkas_baseline.c" -lisl 2>"$work/missing"; then
   baseline=$work/baseline
 else
   echo "libisl-dev is missing: no ratio"
-  baseline=
 fi
-cases=${1:-$root/crates/planner_cases/stdin}
-python3 -B "$root/bench/farkas.py" "$root/crates/planner_cases/out/planner_cases" "$baseline" "$cases" "${2:-5}"
+python3 -B "$root/bench/farkas.py" "$root/crates/planner_bench/out/planner_bench" \
+  "$root/crates/planner_cases/out/planner_cases" "$baseline" "$rounds" "$@"

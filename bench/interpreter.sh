@@ -1,11 +1,13 @@
 #!/bin/sh
-# Times the plain interpreter on small kernels against the same loops by gcc -O0, in one run; prints
+# Times the plain interpreter on the kernels of bench/kernels against the same loops by gcc -O0, in one run; prints
 # nanoseconds an instance, by the shortest processor times less those of a start without a run, and the ratio.
 # usage: bench/interpreter.sh [ROUNDS], at least 5
 set -eu
 root=$(CDPATH= cd -- "$(dirname -- "$0")/.." && pwd)
+crate=$root/crates/interpreter_bench
 work=$(mktemp -d)
 trap 'rm -rf "$work"' EXIT
-(cd "$root/crates/interpreter_bench" && rt run >/dev/null 2>"$work/log") || { cat "$work/log" >&2; exit 1; }
+(cd "$crate" && rt run -- 1 "N = 2" <"$root/bench/kernels/product.c" >/dev/null 2>"$work/log") \
+  || { cat "$work/log" >&2; exit 1; }
 gcc -O0 -o "$work/baseline" "$root/bench/interpreter_baseline.c"
-python3 -B "$root/bench/interpreter.py" "$root/crates/interpreter_bench/out/interpreter_bench" "$work/baseline" "$@"
+python3 -B "$root/bench/interpreter.py" "$crate/out/interpreter_bench" "$work/baseline" "$root/bench/kernels" "$@"

@@ -1,16 +1,19 @@
 """Times solver_cases against isl on the cases of a file that have a quast, with and without parameters apart. Called by
-lexmin.sh. Both programs read the same text, many times over; what they take on no text is taken off."""
+lexmin.sh. Both programs read the same text and solve each problem TIMES times over; what they take with TIMES at 1 is
+taken off, so that neither reading nor printing is in the time."""
 
-import os
 import sys
 import tempfile
 
 from timing import rounds_of, shortest
 
-WANTED_MOVES = 20000
+WANTED_MOVES = 50000
 
 program, baseline, cases_file = sys.argv[1:4]
 rounds = rounds_of(sys.argv[4:], 5)
+programs = {"polypar": program}
+if baseline:
+    programs["isl"] = baseline
 with open(cases_file) as text:
     cases = ["problem " + case for case in text.read().split("problem ")[1:]]
 
@@ -18,6 +21,19 @@ with open(cases_file) as text:
 def moves_of(case):
     """How many moves the case's answer tells."""
     return int(case.split("answer quast ")[1].split()[0])
+
+
+def seconds_a_pass(chosen, passes):
+    """What each program takes to solve these cases once, without reading and printing."""
+    commands = {}
+    for name, path in programs.items():
+        commands[name] = [path, str(passes + 1)]
+        commands[f"{name} once"] = [path, "1"]
+    with tempfile.NamedTemporaryFile("w") as text:
+        text.write("".join(chosen))
+        text.flush()
+        times, _ = shortest(commands, rounds, text.name)
+    return {name: (times[name] - times[f"{name} once"]) / passes for name in programs}
 
 
 solved = [case for case in cases if "answer quast " in case]
@@ -30,18 +46,10 @@ for kind, chosen in kinds.items():
     if moves == 0:
         print(f"{kind}: no cases")
         continue
-    times_over = -(-WANTED_MOVES // moves)
-    with tempfile.NamedTemporaryFile("w") as text:
-        text.write("".join(chosen) * times_over)
-        text.flush()
-        commands = {"polypar": [program]}
-        if baseline:
-            commands["isl"] = [baseline]
-        times, _ = shortest(commands, rounds, text.name)
-        starts, _ = shortest(commands, rounds)
-    own = (times["polypar"] - starts["polypar"]) / times_over
+    seconds = seconds_a_pass(chosen, -(-WANTED_MOVES // moves))
+    own = seconds["polypar"]
     line = f"{kind}: {len(chosen)} cases, {moves} moves, polypar {1e6 * own / moves:.2f} us a move"
     if baseline:
-        other = (times["isl"] - starts["isl"]) / times_over
-        line += f", polypar {1e3 * own:.2f} ms, isl {1e3 * other:.2f} ms, isl / polypar {other / own:.2f}"
+        other = seconds["isl"]
+        line += f", polypar {1e3 * own:.3f} ms, isl {1e3 * other:.3f} ms, isl / polypar {other / own:.2f}"
     print(f"{line} (shortest of {rounds})")

@@ -1,7 +1,10 @@
 #!/bin/sh
-# Times the parametric lexicographic minimum of crates/solver_cases, reading and printing included, against isl on the
-# same problems (a C program of ours that calls isl_basic_set_lexmin; left out where the library is missing). Prints
-# microseconds a move and the ratio of the times, by the shortest processor times.
+# Times the parametric lexicographic minimum of crates/solver_cases against isl on the same problems (a C program of
+# ours that calls isl_basic_set_lexmin; left out where the library is missing). Solving alone is measured, on both
+# sides: each problem is solved many times over and once, and the difference is taken, so that reading, printing and
+# starting fall out. Ours has in it a copy of the problem for each call, since the call takes the problem over; isl's
+# a further reference to its set. Prints microseconds a move and the ratio of the times, by the shortest processor
+# times.
 # usage: bench/lexmin.sh [CASES [ROUNDS]]; CASES is a file of cases, without one the program's stored input; at least 5
 set -eu
 root=$(CDPATH= cd -- "$(dirname -- "$0")/.." && pwd)

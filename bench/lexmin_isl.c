@@ -1,4 +1,5 @@
-/* Reads problems as solver_cases does, and finds the lexicographic minimum of each with isl; prints how many. */
+/* Reads problems as solver_cases does, and finds the lexicographic minimum of each with isl, TIMES times over; prints
+   how many problems there were. usage: lexmin_isl [TIMES] */
 #include <isl/constraint.h>
 #include <isl/ctx.h>
 #include <isl/local_space.h>
@@ -33,8 +34,16 @@ static isl_basic_set *not_negative(isl_basic_set *set, isl_local_space *space, e
 	return set;
 }
 
-int main(void)
+static void solve(isl_basic_set *set, long times)
 {
+	for (long done = 0; done < times; done++)
+		isl_set_free(isl_basic_set_lexmin(isl_basic_set_copy(set)));
+	isl_basic_set_free(set);
+}
+
+int main(int words, char **word)
+{
+	long times = words > 1 ? atol(word[1]) : 1;
 	isl_ctx *ctx = isl_ctx_alloc();
 	isl_basic_set *set = NULL;
 	isl_local_space *space = NULL;
@@ -55,7 +64,7 @@ int main(void)
 			set = with_row(set, space, line + 8, 0, parameters);
 		} else if (strncmp(line, "answer ", 7) == 0) {
 			isl_local_space_free(space);
-			isl_set_free(isl_basic_set_lexmin(set));
+			solve(set, times);
 			solved++;
 		}
 	}

@@ -1,90 +1,113 @@
-//! Runs small kernels by the plain interpreter and prints a checksum: the program that
-//! `bench/interpreter.sh` times.
+//! Runs a kernel by the plain interpreter and prints a checksum: the program that `bench/interpreter.sh` times.
 //!
-//! `interpreter_bench KIND ROUNDS` runs the kernel of this kind so many times: `product`, a product
-//! of matrices, `stencil`, sums of neighbours in one array, or `triangle`, an affine part stored below a
-//! diagonal. Without words each kind runs once.
+//! `interpreter_bench ROUNDS LINE ..` reads the kernel's text on standard input, takes each further word as a line of
+//! its data, runs it so many times, and prints the sum of all cells modulo 2^64; where it may not run, nothing.
 #![tactic(auto)]
 
-ghost use Rattle.std.specs.Prelude.{◌≡◌, []};
+ghost use Rattle.std.specs.Prelude.{◌≡◌};
 ghost use Rattle.scop_syntax.specs.Execution.{IsShaped, layout};
 ghost use Rattle.scop_syntax.specs.Limits.{WithinLimits};
 ghost use Rattle.scop_syntax.specs.View.{program_of};
 
-mod kernels;
-
-use kernels::{Kind, arrays_of, extents_of, kernel_of, kind_of};
+use data_text::{Case, read_data};
 use scop_meaning::index::first_outside;
 use scop_meaning::interpreter::run_plain;
+use scop_parser::reader::read_kernel;
 use scop_syntax::arrays::{Arrays, Extents};
 use scop_syntax::failure_laws::failures_are_the_first;
 use scop_syntax::limit_laws::accesses_have_the_ranks_of_arrays;
 use scop_syntax::tree::Kernel;
 use std::alloc::{AllocError, Global};
+use std::io::Read;
 use std::process::ExitCode;
 use std::rt::Env;
 use std::{env, io};
 
-/// Runs `kernel` so many times on `arrays`, if every subscript lies within its extent.
-fn run_rounds(kernel: &Kernel, rounds: u64, extents: &Extents, arrays: &mut Arrays) -> bool
-    requires limits { WithinLimits (program_of kernel.now) [] }
-    requires extents { extents.now ≡ layout (program_of kernel.now) [] }
-    requires shape { IsShaped (layout (program_of kernel.now) []) arrays.old }
+/// Runs a kernel so many times, if every subscript lies within its extent.
+fn run_rounds(
+    kernel: &Kernel,
+    params: &[i64],
+    extents: &Extents,
+    arrays: &mut Arrays,
+    rounds: u64,
+) -> bool
+    requires limits { WithinLimits (program_of kernel.now) params.now }
+    requires extents { extents.now ≡ layout (program_of kernel.now) params.now }
+    requires shape { IsShaped extents.now arrays.old }
 {
     accesses_have_the_ranks_of_arrays();
     failures_are_the_first();
-    match first_outside(kernel, &[], extents) {
+    match first_outside(kernel, params, extents) {
         Some(_) => false,
         None => {
             for _ in 0..rounds {
-                run_plain(kernel, &[], arrays);
+                run_plain(kernel, params, arrays);
             }
             true
         }
     }
 }
 
-/// The sum of all cells after so many rounds of the kernel of this kind, and 1 if it may run, modulo 2^64.
-fn sum_after(alloc: Global, kind: Kind, rounds: u64) -> Result<u64, AllocError> {
-    let kernel = kernel_of(alloc, kind)?;
-    let extents = extents_of(alloc, kind)?;
-    let mut arrays = arrays_of(alloc, kind)?;
-    let ran = run_rounds(&kernel, rounds, &extents, &mut arrays);
-    let mut sum = u64::from(ran);
+/// The sum of all cells, modulo 2^64.
+fn sum_of(arrays: &Arrays) -> u64 {
+    let mut sum = 0_u64;
     for row in &arrays.cells {
         for cell in row {
             sum = sum.wrapping_add(*cell);
         }
     }
-    Ok(sum)
+    sum
 }
 
-/// Prints the checksum of so many rounds.
-fn report<R: Print + AllocGlobal>(rt: &R, kind: Kind, rounds: u64) -> io::Result<()> {
-    match sum_after(rt.alloc(), kind, rounds) {
-        Ok(sum) => println!(rt; "{}", sum),
-        Err(_) => println!(rt; "no memory"),
+/// The sum of all cells after so many rounds of the kernel of this text with this data; none where it may not run.
+fn sum_after(alloc: Global, text: &[u8], lines: &[u8], rounds: u64) -> Option<u64> {
+    let Ok(kernel) = read_kernel(alloc, text) else {
+        return None;
+    };
+    let Ok(case) = read_data(alloc, &kernel, lines) else {
+        return None;
+    };
+    let Case {
+        params,
+        extents,
+        arrays,
+    } = case;
+    let mut arrays = arrays;
+    if run_rounds(&kernel, &params, &extents, &mut arrays, rounds) {
+        Some(sum_of(&arrays))
+    } else {
+        None
     }
 }
 
-/// Does what the words of the command line ask for; false where they ask for nothing known.
-fn run_words<R: Print + AllocGlobal + Env>(rt: &R) -> io::Result<bool> {
+/// The words as lines.
+fn lines_of(alloc: Global, words: &[String]) -> Result<Vec<u8>, AllocError> {
+    let mut text = Vec::new(alloc);
+    for word in words {
+        text.extend_from_slice(word.as_bytes())?;
+        text.push(b'\n')?;
+    }
+    Ok(text)
+}
+
+/// Does what the words of the command line ask for; false where they ask for nothing.
+fn run_words(rt: &HostRuntime) -> io::Result<bool> {
     let words: Vec<String> = env::args(rt)?.collect(rt.alloc())?;
     if words.len() < 2 {
-        for kind in [Kind::Product, Kind::Stencil, Kind::Triangle] {
-            report(rt, kind, 1)?;
-        }
-        return Ok(true);
-    }
-    if words.len() != 3 {
         return Ok(false);
     }
-    match (kind_of(words[1].as_str()), words[2].as_str().parse::<u64>()) {
-        (Some(kind), Ok(rounds)) => {
-            report(rt, kind, rounds)?;
+    let Ok(rounds) = words[1].as_str().parse::<u64>() else {
+        return Ok(false);
+    };
+    let mut text = Vec::new(rt.alloc());
+    let _count = rt.stdin().read_to_end(&mut text)?;
+    let lines = lines_of(rt.alloc(), &words[2..])?;
+    match sum_after(rt.alloc(), &text, &lines, rounds) {
+        Some(sum) => {
+            println!(rt; "{}", sum)?;
             Ok(true)
         }
-        _ => Ok(false),
+        None => Ok(false),
     }
 }
 

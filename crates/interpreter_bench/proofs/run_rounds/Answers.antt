@@ -1,4 +1,4 @@
-use Rattle.std.proofs.Common.{◌≡◌, ℕ, List, [], Option, Some, None, subst, refl}
+use Rattle.std.proofs.Common.{◌≡◌, ℕ, List, Option, Some, None, subst, refl}
 use Rattle.std.specs.Option.{option_map}
 use Rattle.scop_syntax.specs.Execution.{layout}
 use Rattle.scop_syntax.specs.Failures.{Failure, VisitsAreRanked, first_outside}
@@ -14,10 +14,11 @@ none_found (Some f) h = absurd cc
 pub run_plain-requires-clause-inside : goal.run_plain-requires-clause-inside
 run_plain-requires-clause-inside c =
     let p = program_of c.args.kernel.now in
+    let params = c.args.params.now in
     let limits = c.requires.limits in
-    let ranked : VisitsAreRanked (layout p []) (walk_of p []) = c.accesses_have_the_ranks_of_arrays.ensures p []
-    limits.kernel limits.count in
-    let none = subst (λ (es : List (List ℕ)). None ≡ option_map outside_of (first_outside es (walk_of p [])))
+    let ranked : VisitsAreRanked (layout p params) (walk_of p params) =
+    c.accesses_have_the_ranks_of_arrays.ensures p params limits.kernel limits.count in
+    let none = subst (λ (es : List (List ℕ)). None ≡ option_map outside_of (first_outside es (walk_of p params)))
     c.requires.extents c.in-None.ensures in
-    c.failures_are_the_first.ensures.inside (layout p []) (walk_of p []) ranked
-    (none_found (first_outside (layout p []) (walk_of p [])) none)
+    c.failures_are_the_first.ensures.inside (layout p params) (walk_of p params) ranked
+    (none_found (first_outside (layout p params) (walk_of p params)) none)

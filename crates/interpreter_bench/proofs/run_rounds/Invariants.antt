@@ -1,7 +1,6 @@
-use Rattle.std.specs.Prelude.{[]}
 use Rattle.scop_syntax.specs.Execution.{IsShaped, layout}
 use Rattle.scop_syntax.specs.View.{program_of}
 use Rattle.interpreter_bench.proofs.run_rounds.Given as goal
 
 abbrev pub invariant-loop : goal.invariant-loop
-invariant-loop l = IsShaped (layout (program_of l.kernel) []) l.arrays
+invariant-loop l = IsShaped (layout (program_of l.kernel) l.params) l.arrays
