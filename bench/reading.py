@@ -8,7 +8,7 @@ import random
 import subprocess
 import sys
 
-from timing import rounds_of
+from timing import measured, rounds_of
 
 LONGEST = 1 << 27
 HEAD = "void copy(int64_t N, uint64_t A[N], uint64_t B[N]) {\n  for (int64_t i = 0; i < N; i++)\n"
@@ -63,16 +63,6 @@ def write(make, source):
         sys.exit(f"{make.__name__}: the input could not be written")
 
 
-def one_run(command, source):
-    """Runs a command on a file: processor seconds, peak of resident bytes, status, what it printed."""
-    with open(source, "rb") as text:
-        child = subprocess.Popen(command, stdin=text, stdout=subprocess.PIPE, stderr=subprocess.DEVNULL)
-        printed = child.stdout.read()
-        _, status, usage = os.wait4(child.pid, 0)
-        child.returncode = os.waitstatus_to_exitcode(status)
-    return usage.ru_utime + usage.ru_stime, usage.ru_maxrss * 1024, child.returncode, printed
-
-
 def compare(make, program, baseline, source, rounds):
     """Prints the shortest times and the highest peaks over one input, and the ratio of the times."""
     write(make, source)
@@ -81,7 +71,7 @@ def compare(make, program, baseline, source, rounds):
     times, peaks = {}, {}
     for _ in range(rounds):
         for name, (command, status, told) in runs.items():
-            seconds, peak, ended, printed = one_run(command, source)
+            seconds, peak, ended, printed = measured(command, source, subprocess.DEVNULL)
             if ended != status or told not in (None, printed):
                 sys.exit(f"{make.__name__}: {name} ended with status {ended} and printed {printed[:80]}")
             times[name] = min(seconds, times.get(name, seconds))

@@ -21,16 +21,22 @@ def rounds_of(words, default):
     return rounds
 
 
-def one_run(command, source=os.devnull):
-    """Runs a command on a file; its processor time in seconds, and what it printed."""
+def measured(command, source=os.devnull, errors=None):
+    """Runs a command on a file: its processor seconds, its peak of resident bytes, its status, and what it printed."""
     with open(source, "rb") as text:
-        child = subprocess.Popen(command, stdin=text, stdout=subprocess.PIPE)
+        child = subprocess.Popen(command, stdin=text, stdout=subprocess.PIPE, stderr=errors)
         printed = child.stdout.read()
         _, status, usage = os.wait4(child.pid, 0)
         child.returncode = os.waitstatus_to_exitcode(status)
-    if child.returncode != 0:
-        sys.exit(f"{command[0]} ended with status {child.returncode}")
-    return usage.ru_utime + usage.ru_stime, printed
+    return usage.ru_utime + usage.ru_stime, usage.ru_maxrss * 1024, child.returncode, printed
+
+
+def one_run(command, source=os.devnull):
+    """Runs a command on a file; its processor time in seconds, and what it printed."""
+    seconds, _, status, printed = measured(command, source)
+    if status != 0:
+        sys.exit(f"{command[0]} ended with status {status}")
+    return seconds, printed
 
 
 def shortest(commands, rounds, source=os.devnull):
