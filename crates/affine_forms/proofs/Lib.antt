@@ -1,5 +1,4 @@
 pub mod Steps
 pub mod Exact
 pub mod Values
-pub mod Multiples
 pub mod Stopping

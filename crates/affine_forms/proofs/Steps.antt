@@ -7,8 +7,9 @@ use Rattle.std.proofs.Math.ListN.{drop_of_length-le}
 use Rattle.std.proofs.lemmas.List.{take_more_set, drop-set-lt, take_all, append-nil}
 use Rattle.wide_math.specs.declared.Wide.{Wide}
 use Rattle.wide_math.specs.Checked.{◌>>=◌}
-use Rattle.whole_numbers.specs.Affine.{Affine}
-use Rattle.affine_forms.specs.Runs.{map_run, zip_run, plus_multiple_run, plus_combination_run}
+use Rattle.whole_numbers.specs.Affine.{Affine, form_of}
+use Rattle.affine_forms.specs.Runs.{map_run, zip_run, multiply_add_run, dot_run_from}
+use Rattle.affine_forms.specs.Runs.{form_run, plus_multiple_run, plus_combination_run}
 
 -- what is done already, in front of what a run gives for the rest
 abbrev pub with_front : List ℤ → Result (List ℤ) Wide → Result (List ℤ) Wide
@@ -54,6 +55,22 @@ pub map_run-end : (step : ℤ → Result ℤ Wide) (xs : List ℤ) (i : ℕ) →
     → with_front (take i xs) (map_run step (drop i xs)) ≡ Ok xs
 map_run-end step xs i h = rw (drop_of_length-le xs h, take_all i xs h) (ap Ok (append-nil xs))
 
+-- a dot product: a term more, a term that fails, and the end
+pub dot_run_from-step : (sum : ℤ) (xs ys : List ℤ) (i : ℕ) (next : ℤ) → i < length xs → i < length ys
+    → multiply_add_run sum (get_or xs i (pos 0)) (get_or ys i (pos 0)) ≡ Ok next
+    → dot_run_from next (drop (i + 1) xs) (drop (i + 1) ys) ≡ dot_run_from sum (drop i xs) (drop i ys)
+dot_run_from-step sum xs ys i next hx hy e =
+    rw (add-one i, drop-cons xs i (pos 0) hx, drop-cons ys i (pos 0) hy, e) refl
+
+pub dot_run_from-stop : (sum : ℤ) (xs ys : List ℤ) (i : ℕ) (w : Wide) → i < length xs → i < length ys
+    → multiply_add_run sum (get_or xs i (pos 0)) (get_or ys i (pos 0)) ≡ Err w
+    → dot_run_from sum (drop i xs) (drop i ys) ≡ Err w
+dot_run_from-stop sum xs ys i w hx hy e = rw (drop-cons xs i (pos 0) hx, drop-cons ys i (pos 0) hy, e) refl
+
+pub dot_run_from-end : (sum : ℤ) (xs ys : List ℤ) (i : ℕ) → length xs ≤ i
+    → dot_run_from sum (drop i xs) ys ≡ Ok sum
+dot_run_from-end sum xs ys i h = rw (drop_of_length-le xs h) refl
+
 -- a form more of a combination
 pub plus_combination_run-step : (sum : Affine) (ks : List ℤ) (gs : List Affine) (i : ℕ)
     (g next : Affine) → i < length ks → i < length gs → g ≡ get_or gs i g
@@ -68,3 +85,9 @@ pub refill_same : {X : Type 0} (xs ws : List X) → length ws ≡ length xs → 
 refill_same xs ws h =
     let none : drop (length ws) xs ≡ [] = drop_of_length-le xs (omega arith) in
     rw (none, append-nil ws) (take_all (length xs) ws (omega arith))
+
+-- a form whose coefficients and constant are written over its own
+pub form_run-written : (row : Result (List ℤ) Wide) (last : Result ℤ Wide) (old new : List ℤ) (z : ℤ)
+    → row ≡ Ok new → last ≡ Ok z → length new ≡ length old
+    → form_run row last ≡ Ok (form_of (refill (length old) old new) z)
+form_run-written row last old new z first second sized = rw (first, second, refill_same old new sized) refl

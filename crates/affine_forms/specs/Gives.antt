@@ -1,3 +1,4 @@
+-- When a call on forms answers what its run gives.
 use Rattle.std.specs.Prelude.{Option, Some, None, Result}
 use Rattle.wide_math.specs.declared.Wide.{Wide}
 use Rattle.wide_math.specs.Gives.{Fails as FailsAs, Gives as GivesAs}

@@ -1,3 +1,4 @@
+-- Arithmetic of lists and forms in 128 bits, number by number.
 use Rattle.std.specs.Prelude.{ℕ, ℤ, pos, List, [], ◌∷◌, Result, Ok}
 use Rattle.whole_numbers.specs.Affine.{Affine, form_of}
 use Rattle.whole_numbers.specs.Lists.{zeros}
@@ -56,35 +57,32 @@ dot_run xs ys = dot_run_from (pos 0) xs ys
 unfoldable pub value_run : Affine → List ℤ → Result ℤ Wide
 value_run f point = dot_run f.coefficients point >>= λ sum. sum_of sum f.constant
 
--- f + g: the coefficients in order, then the constant
+-- the coefficients in order, then the constant
+abbrev pub form_run : Result (List ℤ) Wide → Result ℤ Wide → Result Affine Wide
+form_run coefficients constant = coefficients >>= λ zs. constant >>= λ z. Ok (form_of zs z)
+
+-- f + g
 unfoldable pub plus_run : Affine → Affine → Result Affine Wide
-plus_run f g =
-    added_run f.coefficients g.coefficients >>= λ zs.
-    sum_of f.constant g.constant >>= λ z. Ok (form_of zs z)
+plus_run f g = form_run (added_run f.coefficients g.coefficients) (sum_of f.constant g.constant)
 
--- k f: the coefficients in order, then the constant
+-- k f
 unfoldable pub scaled_run : ℤ → Affine → Result Affine Wide
-scaled_run k f =
-    multiplied_run k f.coefficients >>= λ zs.
-    product_of k f.constant >>= λ z. Ok (form_of zs z)
+scaled_run k f = form_run (multiplied_run k f.coefficients) (product_of k f.constant)
 
--- f + k g: the coefficients in order, then the constant
+-- f + k g
 unfoldable pub plus_multiple_run : Affine → ℤ → Affine → Result Affine Wide
 plus_multiple_run f k g =
-    added_multiple_run f.coefficients k g.coefficients >>= λ zs.
-    multiply_add_run f.constant k g.constant >>= λ z. Ok (form_of zs z)
+    form_run (added_multiple_run f.coefficients k g.coefficients) (multiply_add_run f.constant k g.constant)
 
--- a f + b g: the coefficients in order, then the constant
+-- a f + b g
 unfoldable pub forms_sum_run : ℤ → Affine → ℤ → Affine → Result Affine Wide
 forms_sum_run a f b g =
-    multiples_sum_run a f.coefficients b g.coefficients >>= λ zs.
-    cross_sum_of a f.constant b g.constant >>= λ z. Ok (form_of zs z)
+    form_run (multiples_sum_run a f.coefficients b g.coefficients) (cross_sum_of a f.constant b g.constant)
 
--- a f - b g: the coefficients in order, then the constant
+-- a f - b g
 unfoldable pub forms_difference_run : ℤ → Affine → ℤ → Affine → Result Affine Wide
 forms_difference_run a f b g =
-    multiples_difference_run a f.coefficients b g.coefficients >>= λ zs.
-    cross_of a f.constant b g.constant >>= λ z. Ok (form_of zs z)
+    form_run (multiples_difference_run a f.coefficients b g.coefficients) (cross_of a f.constant b g.constant)
 
 -- f with g in place of a variable: f without the variable, plus its coefficient times g
 unfoldable pub substitute_run : Affine → ℕ → Affine → Result Affine Wide

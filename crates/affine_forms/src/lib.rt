@@ -6,8 +6,6 @@ mod form;
 mod laws;
 mod row;
 mod stop;
-#[cfg(test)]
-mod tests;
 
 pub use form::{Form, INLINE};
 pub use laws::dot_products_stop_at_the_first_wide_number;

@@ -112,6 +112,14 @@ pub fn quotient(a: i128, divisor: u128) -> i128
     if let (Ok(narrow), Ok(by)) = (i64::try_from(a), i64::try_from(divisor)) {
         return i128::from(narrow.div_euclid(by));
     }
+    wide_quotient(a, divisor)
+}
+
+/// `a / divisor`, rounded down, by 128 bits.
+fn wide_quotient(a: i128, divisor: u128) -> i128
+    requires { 2 ≤ divisor }
+    ensures { result ≡ floor a (pos divisor) }
+{
     if a < 0 {
         -1 - ((-1 - a).unsigned_abs() / divisor) as i128
     } else {

@@ -1,6 +1,6 @@
 -- A run of an elimination that is Ok gives the exact elimination.
-use Rattle.std.proofs.Common.{◌≡◌, ℕ, ℤ, pos, negsuc, ◌*ℤ◌, neg_ℤ, unsigned_abs, Bool, List, [], ◌∷◌}
-use Rattle.std.proofs.Common.{◌++◌, get_or, refl, sym, ◌∙◌, ap, ap₂, All, arith}
+use Rattle.std.proofs.Common.{◌≡◌, ℕ, ℤ, pos, negsuc, neg_ℤ, unsigned_abs, Bool, List, [], ◌∷◌}
+use Rattle.std.proofs.Common.{◌++◌, refl, sym, ◌∙◌, ap, ap₂, All, arith}
 use Rattle.std.specs.Prelude.{map, Result, Ok, Option, Some, None}
 use Rattle.std.proofs.lemmas.Int.{ints}
 use Rattle.whole_numbers.specs.Affine.{Affine, sum_of_forms, multiple_of_form}
@@ -8,25 +8,24 @@ use Rattle.whole_numbers.specs.Content.{content_of_form, lowest_of_form}
 use Rattle.whole_numbers.specs.Floor.{floor}
 use Rattle.whole_numbers.specs.Lists.{multiples}
 use Rattle.whole_numbers.proofs.Dot.{length-multiples, length-sums}
-use Rattle.std.proofs.lemmas.List.{length-map}
-use Rattle.std.proofs.lemmas.List.Elements.{All-append}
-use Rattle.fractions.proofs.Content.{map_from}
+use Rattle.std.proofs.lemmas.List.{length-map, map-append}
+use Rattle.std.proofs.lemmas.List.Elements.{All-head, All-tail}
+use Rattle.fractions.proofs.Keeping.{eliminated_all, sums_carry}
 use Rattle.fractions.proofs.Eliminated.{taken_out}
 use Rattle.fractions.specs.Elimination.{coefficient_of, is_zero, is_not_zero, is_positive, is_negative, chosen}
 use Rattle.fractions.specs.Elimination.{combined, paired, pairs, projected_rows, sign, reduced, reduced_all}
 use Rattle.fractions.specs.Elimination.{first_with, eliminated_by, eliminated}
-use Rattle.fractions.proofs.Chosen.{All_head, All_tail, chosen_from, pairs_from}
+use Rattle.fractions.proofs.Chosen.{chosen_from}
 use Rattle.wide_math.specs.declared.Wide.{Wide}
 use Rattle.wide_math.specs.Checked.{difference_of, product_of, ◌>>=◌}
 use Rattle.wide_math.proofs.Steps.{difference_of-ok, product_of-ok, chain-ok}
 use Rattle.affine_forms.specs.Parts.{variables_of}
 use Rattle.affine_forms.specs.Runs.{forms_sum_run, forms_difference_run}
-use Rattle.affine_forms.proofs.Multiples.{forms_sum_run-exact, forms_difference_run-exact}
-use Rattle.integer_sets.specs.Constraints.{Constraints, system_of}
+use Rattle.affine_forms.proofs.Exact.{forms_sum_run-exact, forms_difference_run-exact}
+use Rattle.integer_sets.specs.Constraints.{Constraints, IsSized, system_of}
 use Rattle.fm_projection.specs.Runs.{forms_run, pair_run, pairs_run, size_run, reduced_run, behind}
 use Rattle.fm_projection.specs.Runs.{reduced_all_run, projected_run, eliminated_by_run, eliminated_run}
 use Rattle.fm_projection.specs.Projection.{IsEliminated}
-use Rattle.fm_projection.proofs.Joined.{map_append}
 
 pair_run-exact : (i : ℕ) (p n f : Affine) → variables_of n ≡ variables_of p → pair_run i p n ≡ Ok f → f
     ≡ lowest_of_form (combined i p n)
@@ -74,8 +73,8 @@ forms_run-exact step h P [] gs exact all run = cc
 forms_run-exact step h P (f ∷ fs) gs exact all run =
     let c = chain-ok (step f) (λ (g : Affine). forms_run step fs >>= λ rest. Ok (g ∷ rest)) gs run in
     let d = chain-ok (forms_run step fs) (λ (rest : List Affine). Ok (c.0 ∷ rest)) gs c.2 in
-    let first = exact f c.0 (All_head P f fs all) c.1 in
-    let rest = forms_run-exact step h P fs d.0 exact (All_tail P f fs all) d.1 in
+    let first = exact f c.0 (All-head P f fs all) c.1 in
+    let rest = forms_run-exact step h P fs d.0 exact (All-tail P f fs all) d.1 in
     let last : c.0 ∷ d.0 ≡ gs = cc in
     sym last ∙ ap₂ (λ (z : Affine) (zs : List Affine). z ∷ zs) first rest
 
@@ -93,13 +92,13 @@ pairs_run-exact i v (p ∷ ps) ns gs hp hn run =
     let c = chain-ok (forms_run (pair_run i p) ns)
     (λ (fs : List Affine). pairs_run i ps ns >>= λ rest. Ok (fs ++ rest)) gs run in
     let d = chain-ok (pairs_run i ps ns) (λ (rest : List Affine). Ok (c.0 ++ rest)) gs c.2 in
-    let own : variables_of p ≡ v = All_head Sized p ps hp in
+    let own : variables_of p ≡ v = All-head Sized p ps hp in
     let first = forms_run-exact (pair_run i p) (λ n. lowest_of_form (combined i p n)) Sized ns c.0
     (λ n g same e. pair_run-exact i p n g (same ∙ sym own) e) hn c.1 in
-    let rest = pairs_run-exact i v ps ns d.0 (All_tail Sized p ps hp) hn d.1 in
+    let rest = pairs_run-exact i v ps ns d.0 (All-tail Sized p ps hp) hn d.1 in
     let last : c.0 ++ d.0 ≡ gs = cc in
     sym last ∙ ap₂ (λ (xs ys : List Affine). xs ++ ys) (first ∙ sym (lowest_paired i p ns)) rest
-    ∙ sym (map_append lowest_of_form (paired i p ns) (pairs i ps ns))
+    ∙ sym (map-append lowest_of_form (paired i p ns) (pairs i ps ns))
 
 -- what is behind
 behind_gives : (front : List Affine) (run : Result (List Affine) Wide) (gs : List Affine) → behind front run ≡ Ok gs
@@ -127,7 +126,7 @@ reduced_all_run-exact i e fs gs sized run =
     (λ f. variables_of f ≡ variables_of e) others b.0
     (λ f g same h. reduced_run-exact i e f g same h) (chosen_sized (variables_of e) is_not_zero i fs sized) b.1 in
     b.2 ∙ ap (λ (zs : List Affine). map lowest_of_form (chosen is_zero i fs) ++ zs) (x ∙ sym (map_map others))
-    ∙ sym (map_append lowest_of_form (chosen is_zero i fs) (map (reduced i e) others))
+    ∙ sym (map-append lowest_of_form (chosen is_zero i fs) (map (reduced i e) others))
   where
     map_map : (xs : List Affine) → map lowest_of_form (map (reduced i e) xs) ≡ map
         (λ r. lowest_of_form (reduced i e r)) xs
@@ -143,7 +142,7 @@ projected_run-exact i v rows gs sized run =
     let x = pairs_run-exact i v ps ns b.0 (chosen_sized v is_positive i rows sized)
     (chosen_sized v is_negative i rows sized) b.1 in
     b.2 ∙ ap (λ (zs : List Affine). map lowest_of_form (chosen is_zero i rows) ++ zs) x
-    ∙ sym (map_append lowest_of_form (chosen is_zero i rows) (pairs i ps ns))
+    ∙ sym (map-append lowest_of_form (chosen is_zero i rows) (pairs i ps ns))
 
 -- what is taken out has the size of all
 taken_sized : (v i : ℕ) (es : List Affine) (g : Affine × List Affine) → AreSized v es → first_with i es ≡ Some g
@@ -189,10 +188,6 @@ lowest_sized : (f : Affine) → variables_of (lowest_of_form f) ≡ variables_of
 unfolding lowest_of_form
 lowest_sized f = length-map f.coefficients (λ x. floor x (pos (content_of_form f)))
 
-pub all_lowest_sized : (v : ℕ) (fs : List Affine) → AreSized v fs → AreSized v (map lowest_of_form fs)
-all_lowest_sized v fs all = map_from (λ f. variables_of f ≡ v) lowest_of_form fs
-    (λ k d inside. lowest_sized (get_or fs k d) ∙ all k d inside)
-
 sum_sized : (v : ℕ) (a b : ℤ) (f g : Affine) → variables_of f ≡ v → variables_of g ≡ v
     → variables_of (sum_of_forms (multiple_of_form a f) (multiple_of_form b g)) ≡ v
 sum_sized v a b f g hf hg =
@@ -200,43 +195,15 @@ sum_sized v a b f g hf hg =
     let y = length-multiples b g.coefficients in
     length-sums (multiples a f.coefficients) (multiples b g.coefficients) (omega (arith, x, y)) ∙ x ∙ hf
 
-pub projected_sized : (v i : ℕ) (rows : List Affine) → AreSized v rows
-    → AreSized v (map lowest_of_form (projected_rows i rows))
-projected_sized v i rows sized =
-    let Sized : Affine → Type 0 = λ f. variables_of f ≡ v in
-    let ps = chosen is_positive i rows in
-    let ns = chosen is_negative i rows in
-    let hp = chosen_sized v is_positive i rows sized in
-    let hn = chosen_sized v is_negative i rows sized in
-    all_lowest_sized v (projected_rows i rows)
-    (All-append Sized (chosen is_zero i rows) (pairs i ps ns) (chosen_sized v is_zero i rows sized)
-    (pairs_from Sized i ps ns (λ k d inside. λ l e within.
-    sum_sized v (neg_ℤ (coefficient_of i (get_or ns l e))) (coefficient_of i (get_or ps k d)) (get_or ps k d)
-    (get_or ns l e)
-    (hp k d inside) (hn l e within))))
-
-pub reduced_all_sized : (v i : ℕ) (e : Affine) (fs : List Affine) → variables_of e ≡ v → AreSized v fs
-    → AreSized v (map lowest_of_form (reduced_all i e fs))
-reduced_all_sized v i e fs he sized =
-    let Sized : Affine → Type 0 = λ f. variables_of f ≡ v in
-    let others = chosen is_not_zero i fs in
-    let ho = chosen_sized v is_not_zero i fs sized in
-    all_lowest_sized v (reduced_all i e fs)
-    (All-append Sized (chosen is_zero i fs) (map (reduced i e) others) (chosen_sized v is_zero i fs sized)
-    (map_from Sized (reduced i e) others (λ k d inside.
-    sum_sized v (pos (unsigned_abs (coefficient_of i e)))
-    (neg_ℤ (sign (coefficient_of i e) *ℤ coefficient_of i (get_or others k d)))
-    (get_or others k d) e (ho k d inside) he)))
-
-eliminated_by_sized : (v i : ℕ) (o : Option (Affine × List Affine)) (es rs : List Affine) → AreSized v es
-    → AreSized v rs → first_with i es ≡ o
-    → AreSized v (eliminated_by i o es rs).0 × AreSized v (eliminated_by i o es rs).1
-eliminated_by_sized v i None es rs he hr first = (all_lowest_sized v es he, projected_sized v i rs hr)
-eliminated_by_sized v i (Some g) es rs he hr first =
-    let t = taken_sized v i es g he first in
-    (reduced_all_sized v i g.0 g.1 t.0 t.1, reduced_all_sized v i g.0 rs t.0 hr)
-
 pub eliminated_sized : (v i : ℕ) (es rs : List Affine) → AreSized v es → AreSized v rs
     → AreSized v (eliminated i es rs).0 × AreSized v (eliminated i es rs).1
-unfolding eliminated
-eliminated_sized v i es rs he hr = eliminated_by_sized v i (first_with i es) es rs he hr refl
+eliminated_sized v i es rs he hr =
+    let Sized : Affine → Type 0 = λ f. variables_of f ≡ v in
+    eliminated_all i Sized Sized es rs (sums_carry Sized (sum_sized v) (λ f h. lowest_sized f ∙ h) i) he hr
+
+pub eliminated_run-sized : (i v : ℕ) (s t : Constraints) → IsSized v s.equalities s.rows
+    → eliminated_run i s ≡ Ok t → IsSized v t.equalities t.rows
+eliminated_run-sized i v s t sized run =
+    let e = eliminated_run-exact i v s t sized.equalities_sized sized.rows_sized run in
+    let both = eliminated_sized v i s.equalities s.rows sized.equalities_sized sized.rows_sized in
+    rw e (record { equalities_sized = both.0; rows_sized = both.1 })

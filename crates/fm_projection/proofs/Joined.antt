@@ -2,7 +2,7 @@
 use Rattle.std.proofs.Common.{◌≡◌, ℕ, suc, ◌<◌, ◌≤◌, ℤ, Bool, true, false, List, [], ◌∷◌, ◌++◌, length, get_or}
 use Rattle.std.proofs.Common.{take, drop, refl, sym, ◌∙◌, ap, append_assoc, arith}
 use Rattle.std.specs.Prelude.{map, Result, Ok, Err, Some, None, if◌then◌else◌}
-use Rattle.std.proofs.lemmas.List.{append-nil}
+use Rattle.std.proofs.lemmas.List.{append-nil, map-append}
 use Rattle.whole_numbers.specs.Affine.{Affine}
 use Rattle.whole_numbers.specs.Content.{lowest_of_form}
 use Rattle.fractions.specs.Elimination.{coefficient_of, is_zero, is_not_zero, chosen, first_with, in_front}
@@ -24,10 +24,6 @@ chosen-append test i (f ∷ fs) gs = ap (λ (rest : List Affine). if test (coeff
         ≡ (if b then f ∷ xs else xs) ++ ys
     choice true f xs ys = refl
     choice false f xs ys = refl
-
-pub map_append : {X Y : Type 0} (h : X → Y) (xs ys : List X) → map h (xs ++ ys) ≡ map h xs ++ map h ys
-map_append h [] ys = refl
-map_append h (x ∷ xs) ys = ap (λ zs. h x ∷ zs) (map_append h xs ys)
 
 -- a run over a joined list is the two runs one behind the other
 pub forms_run-append : (out new : List Affine) (step : Affine → Result Affine Wide) (fs gs : List Affine)
@@ -76,7 +72,7 @@ reduced_parts i e before after out new kept first =
     let step = reduced_run i e in
     let front : map lowest_of_form (chosen is_zero i (before ++ after)) ≡ out =
     ap (map lowest_of_form) (chosen-append is_zero i before after)
-    ∙ map_append lowest_of_form (chosen is_zero i before) (chosen is_zero i after) ∙ sym kept in
+    ∙ map-append lowest_of_form (chosen is_zero i before) (chosen is_zero i after) ∙ sym kept in
     ap (λ (zs : List Affine). behind zs (forms_run step (chosen is_not_zero i (before ++ after)))) front
     ∙ ap (λ (zs : List Affine). behind out (forms_run step zs)) (chosen-append is_not_zero i before after)
     ∙ forms_run-append out new step (chosen is_not_zero i before) (chosen is_not_zero i after) first
@@ -92,10 +88,11 @@ reduced_parts-stop i e before after (stop.Wide w) h =
     ≡ Err w = ap (forms_run step) (chosen-append is_not_zero i before after) ∙ run in
     rw all refl
 
-pub behind-stop : (out : List Affine) (run : Result (List Affine) Wide) (stop : FormStop) → Fails stop run
-    → Fails stop (behind out run)
-behind-stop out run stop.NoMemory h = tt
-behind-stop out run (stop.Wide w) h = rw h refl
+-- a chain stops as its first step does
+pub chain-stop : {A B : Type 0} (stop : FormStop) (run : Result A Wide) (f : A → Result B Wide) → Fails stop run
+    → Fails stop (run >>= f)
+chain-stop stop.NoMemory run f h = tt
+chain-stop (stop.Wide w) run f h = rw h refl
 
 -- the first form with the variable stands at its place, the others round it
 abbrev Taken : ℕ → List Affine → Affine → Type 0
@@ -125,14 +122,3 @@ none_step i e es false other more h = let k = rw other at h in absurd (omega (ar
 pub first_with_none : (i : ℕ) (es : List Affine) → length es ≤ place_of i es → first_with i es ≡ None
 first_with_none i [] h = refl
 first_with_none i (e ∷ es) h = none_step i e es (is_zero (coefficient_of i e)) refl (first_with_none i es) h
-
--- the place is at most the number of forms
-bound_step : (i : ℕ) (e : Affine) (es : List Affine) (b : Bool) → is_zero (coefficient_of i e) ≡ b
-    → place_of i es ≤ length es
-    → place_of i (e ∷ es) ≤ length (e ∷ es)
-bound_step i e es true free more = rw free (omega (arith, more))
-bound_step i e es false other more = rw other (omega arith)
-
-pub place_bound : (i : ℕ) (es : List Affine) → place_of i es ≤ length es
-place_bound i [] = omega arith
-place_bound i (e ∷ es) = bound_step i e es (is_zero (coefficient_of i e)) refl (place_bound i es)

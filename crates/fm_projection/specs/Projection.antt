@@ -1,3 +1,4 @@
+-- What an elimination of a variable is, exactly and by its points.
 use Rattle.std.specs.Prelude.{◌≡◌, ℕ, ℤ, pos, List, length, ◌↔◌, All}
 use Rattle.fractions.specs.Fractions.{HoldsOver, HoldsForSome}
 use Rattle.fractions.specs.Elimination.{coefficient_of, eliminated}

@@ -1,3 +1,4 @@
+-- The elimination of a variable in 128 bits, form by form, and how many pairs of rows it forms.
 use Rattle.std.specs.Prelude.{ℕ, suc, ◌*◌, if◌then◌else◌, ℤ, pos, negsuc, List, [], ◌∷◌, ◌++◌, length, map}
 use Rattle.std.specs.Prelude.{Option, Some, None, Result, Ok}
 use Rattle.whole_numbers.specs.Affine.{Affine}
@@ -53,8 +54,7 @@ abbrev pub projected_run : ℕ → List Affine → Result (List Affine) Wide
 projected_run i rows = behind (map lowest_of_form (chosen is_zero i rows))
     (pairs_run i (chosen is_positive i rows) (chosen is_negative i rows))
 
--- the elimination of a variable from a system: by the first equality with it where there is one, else by pairs of
--- rows
+-- the elimination of a variable by the equality that has been found, or else by pairs of rows
 abbrev pub eliminated_by_run : ℕ → Option (Affine × List Affine) → Constraints → Result Constraints Wide
 eliminated_by_run i None s =
     projected_run i s.rows >>= λ rows. Ok (system_of s.dimensions s.parameters
@@ -63,16 +63,18 @@ eliminated_by_run i (Some found) s =
     reduced_all_run i found.0 found.1 >>= λ equalities.
     reduced_all_run i found.0 s.rows >>= λ rows. Ok (system_of s.dimensions s.parameters equalities rows)
 
+-- the elimination of variable i from a system: by the first equality with it where there is one, else by pairs of rows
 unfoldable pub eliminated_run : ℕ → Constraints → Result Constraints Wide
 eliminated_run i s = eliminated_by_run i (first_with i s.equalities) s
 
--- how many pairs of rows an elimination forms; none where it goes by an equality
-abbrev pub pairs_by : ℕ → Option (Affine × List Affine) → Constraints → ℕ
-pairs_by i None s = length (chosen is_positive i s.rows) * length (chosen is_negative i s.rows)
-pairs_by i (Some found) s = 0
+-- how many pairs of rows an elimination forms; none where it goes by the equality that has been found
+abbrev pub pairs_by : ℕ → Option (Affine × List Affine) → List Affine → ℕ
+pairs_by i None rows = length (chosen is_positive i rows) * length (chosen is_negative i rows)
+pairs_by i (Some found) rows = 0
 
+-- how many pairs of rows the elimination of variable i from a system forms
 unfoldable pub pairs_in : ℕ → Constraints → ℕ
-pairs_in i s = pairs_by i (first_with i s.equalities) s
+pairs_in i s = pairs_by i (first_with i s.equalities) s.rows
 
 -- how many forms stand before the first with the variable
 abbrev pub place_of : ℕ → List Affine → ℕ

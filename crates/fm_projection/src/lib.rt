@@ -2,18 +2,18 @@
 //! has the variable, else by pairs of rows (Fourier 1826; Motzkin 1936).
 #![tactic(auto)]
 
-ghost use Rattle.std.specs.Prelude.{◌≡◌, ◌<◌, IfOk, length};
+ghost use Rattle.std.specs.Prelude.{◌≡◌, ◌<◌, ◌≤◌, All, IfOk, length};
 ghost use Rattle.affine_forms.specs.Gives.{Gives};
-ghost use Rattle.integer_sets.specs.Constraints.{variables_in};
+ghost use Rattle.affine_forms.specs.Parts.{variables_of};
+ghost use Rattle.fractions.specs.Elimination.{first_with};
+ghost use Rattle.integer_sets.specs.Constraints.{system_of, variables_in};
 ghost use Rattle.fm_projection.specs.Gives.{Eliminates};
-ghost use Rattle.fm_projection.specs.Projection.{IsEliminated, IsProjection, IsProjectionOver, IsWithout, Projects};
-ghost use Rattle.fm_projection.specs.Runs.{eliminated_run, place_of};
+ghost use Rattle.fm_projection.specs.Projection.{IsEliminated, IsProjection, IsProjectionOver, IsWithout};
+ghost use Rattle.fm_projection.specs.Runs.{eliminated_run, pairs_by, place_of};
 
 mod rows;
-#[cfg(test)]
-mod tests;
 
-use affine_forms::FormStop;
+use affine_forms::{Form, FormStop};
 use integer_sets::System;
 use std::alloc::Global;
 use thiserror::Error;
@@ -48,24 +48,52 @@ pub fn eliminate(alloc: Global, system: &System, variable: usize) -> Result<Syst
     ensures without { IfOk result (IsWithout variable) }
 {
     let place = rows::first_place(system.equalities(), variable);
+    let pairs = count_pairs(system.equalities(), system.rows(), variable, place);
+    if pairs > 4096 {
+        return Err(FmStop::Crowded { pairs });
+    }
+    match constraints(alloc, system, variable, place) {
+        Err(FormStop::Wide(wide)) => Err(FmStop::Wide(wide)),
+        Err(FormStop::NoMemory) => Err(FmStop::NoMemory),
+        Ok((equalities, rows)) => Ok(System::from_parts(
+            system.dimensions(),
+            system.parameters(),
+            equalities,
+            rows,
+        )),
+    }
+}
+
+/// How many pairs of rows the elimination forms: none by an equality.
+fn count_pairs(equalities: &[Form], rows: &[Form], variable: usize, place: usize) -> u128
+    requires variable { All (λ f. variable < variables_of f) rows.now }
+    requires place { place ≡ place_of variable equalities.now }
+    ensures { result ≡ pairs_by variable (first_with variable equalities.now) rows.now }
+{
+    if place < equalities.len() {
+        return 0;
+    }
+    let positive = rows::count_positive(rows, variable);
+    let negative = rows::count_negative(rows, variable);
+    positive as u128 * negative as u128
+}
+
+/// The equalities and the rows that are left.
+fn constraints(
+    alloc: Global,
+    system: &System,
+    variable: usize,
+    place: usize,
+) -> Result<(Vec<Form>, Vec<Form>), FormStop>
+    requires variable { variable < variables_in system.now }
+    requires place { place ≡ place_of variable system.now.equalities }
+    ensures { Gives (λ p. system_of system.now.dimensions system.now.parameters p.0.items p.1.items) result
+        (eliminated_run variable system.now) }
+{
     if place < system.equalities().len() {
-        match by_equality(alloc, system, variable, place) {
-            Ok(result) => Ok(result),
-            Err(FormStop::Wide(wide)) => Err(FmStop::Wide(wide)),
-            Err(FormStop::NoMemory) => Err(FmStop::NoMemory),
-        }
+        by_equality(alloc, system, variable, place)
     } else {
-        let positive = rows::count_positive(system.rows(), variable);
-        let negative = rows::count_negative(system.rows(), variable);
-        let pairs = positive as u128 * negative as u128;
-        if pairs > 4096 {
-            return Err(FmStop::Crowded { pairs });
-        }
-        match by_pairs(alloc, system, variable) {
-            Ok(result) => Ok(result),
-            Err(FormStop::Wide(wide)) => Err(FmStop::Wide(wide)),
-            Err(FormStop::NoMemory) => Err(FmStop::NoMemory),
-        }
+        by_pairs(alloc, system, variable)
     }
 }
 
@@ -74,12 +102,12 @@ fn by_equality(
     system: &System,
     variable: usize,
     place: usize,
-) -> Result<System, FormStop>
+) -> Result<(Vec<Form>, Vec<Form>), FormStop>
     requires variable { variable < variables_in system.now }
     requires place { place ≡ place_of variable system.now.equalities }
     requires inside { place < length system.now.equalities }
-    ensures run { Gives (λ s. s) result (eliminated_run variable system.now) }
-    ensures law { IfOk result (Projects variable system.now) }
+    ensures { Gives (λ p. system_of system.now.dimensions system.now.parameters p.0.items p.1.items) result
+        (eliminated_run variable system.now) }
 {
     let all = system.equalities();
     let equality = &all[place];
@@ -87,21 +115,20 @@ fn by_equality(
         Err(stop) => Err(stop),
         Ok(equalities) => match rows::reduce_all(alloc, equality, &[], system.rows(), variable) {
             Err(stop) => Err(stop),
-            Ok(rows) => Ok(System::from_parts(
-                system.dimensions(),
-                system.parameters(),
-                equalities,
-                rows,
-            )),
+            Ok(rows) => Ok((equalities, rows)),
         },
     }
 }
 
-fn by_pairs(alloc: Global, system: &System, variable: usize) -> Result<System, FormStop>
+fn by_pairs(
+    alloc: Global,
+    system: &System,
+    variable: usize,
+) -> Result<(Vec<Form>, Vec<Form>), FormStop>
     requires variable { variable < variables_in system.now }
-    requires place { place_of variable system.now.equalities ≡ length system.now.equalities }
-    ensures run { Gives (λ s. s) result (eliminated_run variable system.now) }
-    ensures law { IfOk result (Projects variable system.now) }
+    requires place { length system.now.equalities ≤ place_of variable system.now.equalities }
+    ensures { Gives (λ p. system_of system.now.dimensions system.now.parameters p.0.items p.1.items) result
+        (eliminated_run variable system.now) }
 {
     let mut equalities = Vec::new(alloc);
     match rows::append_lowest(&mut equalities, system.equalities()) {
@@ -110,11 +137,6 @@ fn by_pairs(alloc: Global, system: &System, variable: usize) -> Result<System, F
     }
     match rows::project_all(alloc, system.rows(), variable) {
         Err(stop) => Err(stop),
-        Ok(rows) => Ok(System::from_parts(
-            system.dimensions(),
-            system.parameters(),
-            equalities,
-            rows,
-        )),
+        Ok(rows) => Ok((equalities, rows)),
     }
 }

@@ -1,9 +1,9 @@
 -- Fourier's and Motzkin's lemma on lists of any things x that ask 0 <= k r(x) + a(x) n of a fraction n / k.
-use Rattle.std.proofs.Common.{◌≡◌, suc, ℤ, pos, ◌+ℤ◌, ◌*ℤ◌, ◌≤ℤ◌, ◌<ℤ◌, neg_ℤ, List, [], ◌∷◌, get_or, ◌⊎◌, inl}
+use Rattle.std.proofs.Common.{◌≡◌, ℤ, pos, ◌+ℤ◌, ◌*ℤ◌, ◌≤ℤ◌, ◌<ℤ◌, neg_ℤ, List, [], ◌∷◌, get_or, ◌⊎◌, inl}
 use Rattle.std.proofs.Common.{inr, All, ap, arith}
 use Rattle.std.specs.Prelude.{⊤}
 use Rattle.std.proofs.lemmas.Int.{ints, by_lt_z}
-use Rattle.std.proofs.lemmas.List.Elements.{All-cons, All-nil}
+use Rattle.std.proofs.lemmas.List.Elements.{All-cons, All-nil, All-head, All-tail}
 use Rattle.whole_numbers.proofs.Ring.{mul_neg_left, mul_neg_right, mul_distrib_left, left_comm}
 use Rattle.whole_numbers.proofs.Order.{le_or_lt, mul_not_negative, mul_le_left, cancel_le}
 
@@ -18,13 +18,6 @@ bound_trans ap rp aq rq ax rx hp hq hx h k =
     let t = left_comm ax aq rp in
     let u = left_comm aq ap rx in
     cancel_le (ax *ℤ rq) (aq *ℤ rx) ap hp (omega (arith, ints))
-
--- what is left of a list's facts
-tail_all : {X : Type 0} (P : X → Type 0) (x : X) (xs : List X) → All P (x ∷ xs) → All P xs
-tail_all P x xs h k d inside = h (suc k) d (omega arith)
-
-head_all : {X : Type 0} (P : X → Type 0) (x : X) (xs : List X) → All P (x ∷ xs) → P x
-head_all P x xs h = h 0 x (omega arith)
 
 -- no x with 0 < a(x), or one of them whose bound -r / a is the greatest
 pub record IsBest {X : Type 0} (a r : X → ℤ) (Q : X → Type 0) (xs : List X) : Type 0 where
@@ -65,7 +58,7 @@ pub best_of : {X : Type 0} (a r : X → ℤ) (Q : X → Type 0) (xs : List X) �
     → All (λ x. a x ≤ℤ pos 0) xs ⊎ IsBest a r Q xs
 best_of a r Q [] h = inl (All-nil (λ x. a x ≤ℤ pos 0))
 best_of {X} a r Q (x ∷ xs) h =
-    decided (le_or_lt (a x) (pos 0)) (best_of a r Q xs (tail_all Fine x xs h))
+    decided (le_or_lt (a x) (pos 0)) (best_of a r Q xs (All-tail Fine x xs h))
   where
     Fine : X → Type 0
     Fine y = pos 0 <ℤ a y → Q y
@@ -90,11 +83,11 @@ best_of {X} a r Q (x ∷ xs) h =
         inr (record {
           best = x;
           positive = up0;
-          among = head_all Fine x xs h up0;
+          among = All-head Fine x xs h up0;
           greatest = All-cons (Bound x) x xs (λ _. omega (arith, ints))
               (λ k d inside. λ up. let low = none k d inside in absurd (omega (arith, ints)));
         })
-    decided (inr up0) (inr b) = inr (best_cons a r Q x xs up0 (head_all Fine x xs h up0) b)
+    decided (inr up0) (inr b) = inr (best_cons a r Q x xs up0 (All-head Fine x xs h up0) b)
 
 -- what a pair asks: b r(p) + a r(n) is not negative
 abbrev pub PairHolds : {X : Type 0} → (X → ℤ) → (X → ℤ) → X → X → Type 0

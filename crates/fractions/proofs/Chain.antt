@@ -1,11 +1,14 @@
 -- Eliminations one after another, with the variable's column dropped.
 use Rattle.std.proofs.Common.{◌≡◌, ℕ, suc, ◌<◌, ℤ, pos, ◌*ℤ◌, ◌≤ℤ◌, ◌<ℤ◌, List, [], ◌∷◌, ◌++◌, length, set}
-use Rattle.std.proofs.Common.{get_or, ◌↔◌, refl, sym, ◌∙◌, ap, ap₂, subst, All, arith}
+use Rattle.std.proofs.Common.{get_or, ◌↔◌, refl, sym, ◌∙◌, ap, subst, All, arith}
 use Rattle.std.specs.Prelude.{map}
 use Rattle.std.proofs.lemmas.Int.{ints}
 use Rattle.whole_numbers.specs.Lists.{dot, multiples}
 use Rattle.whole_numbers.specs.Affine.{Affine}
 use Rattle.std.proofs.lemmas.List.{append-nil, length-append}
+use Rattle.std.proofs.Math.Seq.{set-append_seam}
+use Rattle.std.proofs.lemmas.List.Elements.{All-map}
+use Rattle.whole_numbers.proofs.Lists.{multiples-append, multiples-multiples, multiples-one}
 use Rattle.whole_numbers.proofs.Order.{mul_positive}
 use Rattle.fractions.proofs.Over.{value_over-scaled}
 use Rattle.fractions.proofs.Reduce.{zero_scales, least_scales}
@@ -14,26 +17,9 @@ use Rattle.whole_numbers.proofs.Dot.{length-multiples}
 use Rattle.fractions.specs.Fractions.{value_over, HoldsOver, HoldsForSome}
 use Rattle.fractions.specs.Elimination.{removed, narrowed, eliminated}
 use Rattle.fractions.specs.Farkas.{HoldsForSomeMore}
-use Rattle.fractions.proofs.Content.{map_to, map_from}
+use Rattle.fractions.proofs.Content.{map_to}
 use Rattle.fractions.proofs.Eliminated.{elimination_is_exact}
 use Rattle.fractions.proofs.Absent.{IsAbsent, eliminated_absent}
-
-pub multiples-append : (k : ℤ) (xs ys : List ℤ) → multiples k (xs ++ ys) ≡ multiples k xs ++ multiples k ys
-multiples-append k [] ys = refl
-multiples-append k (x ∷ xs) ys = ap (λ (zs : List ℤ). (k *ℤ x) ∷ zs) (multiples-append k xs ys)
-
-pub multiples-multiples : (k l : ℤ) (xs : List ℤ) → multiples k (multiples l xs) ≡ multiples (k *ℤ l) xs
-multiples-multiples k l [] = refl
-multiples-multiples k l (x ∷ xs) =
-    ap₂ (λ (z : ℤ) (zs : List ℤ). z ∷ zs) (sym (mul_assoc_int k l x)) (multiples-multiples k l xs)
-
-pub multiples-one : (xs : List ℤ) → multiples (pos 1) xs ≡ xs
-multiples-one [] = refl
-multiples-one (x ∷ xs) = ap₂ (λ (z : ℤ) (zs : List ℤ). z ∷ zs) (mul_one_left x) (multiples-one xs)
-
-pub set_seam : (xs : List ℤ) (x v : ℤ) (ys : List ℤ) → set (xs ++ x ∷ ys) (length xs) v ≡ xs ++ v ∷ ys
-set_seam [] x v ys = refl
-set_seam (w ∷ xs) x v ys = ap (λ (zs : List ℤ). w ∷ zs) (set_seam xs x v ys)
 
 -- a column that is not had may be dropped
 dot-removed : (front : List ℤ) (x : ℤ) (back cs : List ℤ) → get_or cs (length front) (pos 0) ≡ pos 0
@@ -67,8 +53,8 @@ narrowed_holds es rs d front x back i size he hr =
             (map_to Least (narrowed i) rs h.1 j c inside),
       ),
       λ h. (
-        map_from Zero (narrowed i) es (λ j c inside. same (get_or es j c) (he j c inside) ∙ h.0 j c inside),
-        map_from Least (narrowed i) rs
+        All-map Zero (narrowed i) es (λ j c inside. same (get_or es j c) (he j c inside) ∙ h.0 j c inside),
+        All-map Least (narrowed i) rs
             (λ j c inside. subst (λ (z : ℤ). pos 0 ≤ℤ z) (sym (same (get_or rs j c) (hr j c inside)))
             (h.1 j c inside)),
       ),
@@ -82,7 +68,7 @@ seam_point j k xs x v more =
     ∙ ap (λ (zs : List ℤ). zs ++ (j *ℤ x) ∷ multiples j more) (multiples-multiples j k xs))
     ∙ ap (λ (i : ℕ). set (multiples (j *ℤ k) xs ++ (j *ℤ x) ∷ multiples j more) i v)
     (sym (length-multiples (j *ℤ k) xs))
-    ∙ set_seam (multiples (j *ℤ k) xs) (j *ℤ x) v (multiples j more)
+    ∙ set-append_seam (multiples (j *ℤ k) xs) (j *ℤ x) (multiples j more) v
 
 -- the same point over the same denominator, written otherwise
 same_point : (es rs : List Affine) (d e : ℤ) (xs ys : List ℤ) → d ≡ e → xs ≡ ys → HoldsOver es rs d xs
@@ -140,7 +126,7 @@ chain_step n es rs d xs = (there, λ s. back s.factor s.more s.positive s.size s
         let front = multiples k xs in
         let point = front ++ m ∷ ms in
         let moved = ap (λ (zs : List ℤ). set zs i m) (multiples-one point)
-        ∙ ap (λ (j : ℕ). set point j m) (sym (length-multiples k xs)) ∙ set_seam front m m ms in
+        ∙ ap (λ (j : ℕ). set point j m) (sym (length-multiples k xs)) ∙ set-append_seam front m ms m in
         let some : HoldsForSome i es rs (k *ℤ d) point =
         record {
           factor = pos 1;
@@ -185,5 +171,3 @@ chain_end es rs d xs = (λ s. there s.factor s.more s.positive s.size s.holds, b
           holds = same_point es rs d (pos 1 *ℤ d) xs (multiples (pos 1) xs ++ []) (sym (mul_one_left d))
               (sym (append-nil (multiples (pos 1) xs) ∙ multiples-one xs)) h;
         }
-
-pub ruleset chain_laws = (chain_step, chain_end)

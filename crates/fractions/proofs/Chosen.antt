@@ -5,16 +5,10 @@ use Rattle.std.specs.Prelude.{if◌then◌else◌}
 use Rattle.std.proofs.lemmas.Int.{ints}
 use Rattle.std.proofs.lemmas.Bool.{false≢true}
 use Rattle.std.proofs.Math.Seq.{take-append_seam, drop-append_seam}
-use Rattle.std.proofs.lemmas.List.Elements.{All-append, All-cons, All-nil, All-take, All-drop}
+use Rattle.std.proofs.lemmas.List.Elements.{All-append, All-cons, All-nil, All-take, All-drop, All-head, All-tail}
 use Rattle.whole_numbers.specs.Affine.{Affine}
 use Rattle.fractions.specs.Elimination.{coefficient_of, is_zero, is_positive, is_negative, chosen, combined}
 use Rattle.fractions.specs.Elimination.{paired, pairs}
-
-pub All_tail : {X : Type 0} (P : X → Type 0) (x : X) (xs : List X) → All P (x ∷ xs) → All P xs
-All_tail P x xs h k d inside = h (suc k) d (omega arith)
-
-pub All_head : {X : Type 0} (P : X → Type 0) (x : X) (xs : List X) → All P (x ∷ xs) → P x
-All_head P x xs h = h 0 x (omega arith)
 
 -- the fronts of a joined list, and the rest
 pub All-front : {X : Type 0} (P : X → Type 0) (xs ys : List X) → All P (xs ++ ys) → All P xs
@@ -49,15 +43,15 @@ choice_from P f false fs h all = all
 
 choice_to : (P : Affine → Type 0) (f : Affine) (b : Bool) (fs : List Affine) → All P (if b then f ∷ fs else fs)
     → (b ≡ true → P f) × All P fs
-choice_to P f true fs all = (λ _. All_head P f fs all, All_tail P f fs all)
+choice_to P f true fs all = (λ _. All-head P f fs all, All-tail P f fs all)
 choice_to P f false fs all = (λ h. absurd (false≢true h), all)
 
 pub chosen_from : (P : Affine → Type 0) (test : ℤ → Bool) (i : ℕ) (fs : List Affine)
     → All (Passing P test i) fs → All P (chosen test i fs)
 chosen_from P test i [] h = All-nil P
 chosen_from P test i (f ∷ fs) h =
-    choice_from P f (test (coefficient_of i f)) (chosen test i fs) (All_head (Passing P test i) f fs h)
-    (chosen_from P test i fs (All_tail (Passing P test i) f fs h))
+    choice_from P f (test (coefficient_of i f)) (chosen test i fs) (All-head (Passing P test i) f fs h)
+    (chosen_from P test i fs (All-tail (Passing P test i) f fs h))
 
 pub chosen_to : (P : Affine → Type 0) (test : ℤ → Bool) (i : ℕ) (fs : List Affine)
     → All P (chosen test i fs) → All (Passing P test i) fs
@@ -71,23 +65,23 @@ pub paired_from : (P : Affine → Type 0) (i : ℕ) (p : Affine) (ns : List Affi
     → All (λ n. P (combined i p n)) ns → All P (paired i p ns)
 paired_from P i p [] h = All-nil P
 paired_from P i p (n ∷ ns) h =
-    All-cons P (combined i p n) (paired i p ns) (All_head (λ n. P (combined i p n)) n ns h)
-    (paired_from P i p ns (All_tail (λ n. P (combined i p n)) n ns h))
+    All-cons P (combined i p n) (paired i p ns) (All-head (λ n. P (combined i p n)) n ns h)
+    (paired_from P i p ns (All-tail (λ n. P (combined i p n)) n ns h))
 
 pub paired_to : (P : Affine → Type 0) (i : ℕ) (p : Affine) (ns : List Affine)
     → All P (paired i p ns) → All (λ n. P (combined i p n)) ns
 paired_to P i p [] h = All-nil (λ n. P (combined i p n))
 paired_to P i p (n ∷ ns) h =
-    All-cons (λ n. P (combined i p n)) n ns (All_head P (combined i p n) (paired i p ns) h)
-    (paired_to P i p ns (All_tail P (combined i p n) (paired i p ns) h))
+    All-cons (λ n. P (combined i p n)) n ns (All-head P (combined i p n) (paired i p ns) h)
+    (paired_to P i p ns (All-tail P (combined i p n) (paired i p ns) h))
 
 pub pairs_from : (P : Affine → Type 0) (i : ℕ) (ps ns : List Affine)
     → All (λ p. All (λ n. P (combined i p n)) ns) ps → All P (pairs i ps ns)
 pairs_from P i [] ns h = All-nil P
 pairs_from P i (p ∷ ps) ns h =
     let Each : Affine → Type 0 = λ q. All (λ n. P (combined i q n)) ns in
-    All-append P (paired i p ns) (pairs i ps ns) (paired_from P i p ns (All_head Each p ps h))
-    (pairs_from P i ps ns (All_tail Each p ps h))
+    All-append P (paired i p ns) (pairs i ps ns) (paired_from P i p ns (All-head Each p ps h))
+    (pairs_from P i ps ns (All-tail Each p ps h))
 
 pub pairs_to : (P : Affine → Type 0) (i : ℕ) (ps ns : List Affine)
     → All P (pairs i ps ns) → All (λ p. All (λ n. P (combined i p n)) ns) ps

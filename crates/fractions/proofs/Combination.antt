@@ -1,9 +1,10 @@
 -- Combinations of forms, and what Farkas's identity is for.
-use Rattle.std.proofs.Common.{◌≡◌, ℕ, suc, ℤ, pos, negsuc, ◌*ℤ◌, neg_ℤ, ◌≤ℤ◌, List, [], ◌∷◌, ◌++◌, get_or, refl}
-use Rattle.std.proofs.Common.{sym, ◌∙◌, ap, All, arith}
-use Rattle.std.proofs.lemmas.List.Elements.{All-cons, All-nil, All-append}
+use Rattle.std.proofs.Common.{◌≡◌, ℕ, ℤ, pos, negsuc, ◌*ℤ◌, neg_ℤ, ◌≤ℤ◌, List, [], ◌∷◌, ◌++◌, refl}
+use Rattle.std.proofs.Common.{◌∙◌, ap, All, arith}
+use Rattle.std.proofs.lemmas.List.Elements.{All-cons, All-nil, All-append, All-head, All-tail}
 use Rattle.std.specs.Prelude.{map}
 use Rattle.std.proofs.lemmas.Int.{ints}
+use Rattle.whole_numbers.proofs.Lists.{dot_same}
 use Rattle.whole_numbers.specs.Lists.{dot, multiples}
 use Rattle.whole_numbers.specs.Affine.{Affine, multiple_of_form}
 use Rattle.whole_numbers.proofs.Ring.{mul_distrib_right, mul_zero_right, mul_zero_left, mul_assoc_int}
@@ -13,7 +14,6 @@ use Rattle.fractions.specs.Fractions.{value_over, HoldsOver}
 use Rattle.fractions.specs.Elimination.{coefficient_of}
 use Rattle.fractions.specs.Farkas.{two_rows, combination, AreNotNegative, HasFarkas}
 use Rattle.fractions.proofs.Over.{value_over-sum, value_over-multiple}
-use Rattle.fractions.proofs.Chosen.{All_head, All_tail}
 
 -- a combination of rows that are not negative is not negative
 pub combination_not_negative : (ms : List ℤ) (gs : List Affine) (d : ℤ) (xs : List ℤ) → AreNotNegative ms
@@ -21,29 +21,12 @@ pub combination_not_negative : (ms : List ℤ) (gs : List Affine) (d : ℤ) (xs 
 combination_not_negative [] gs d xs h all = let e = mul_zero_left d in omega (arith, ints)
 combination_not_negative (m ∷ ms) [] d xs h all = let e = mul_zero_left d in omega (arith, ints)
 combination_not_negative (m ∷ ms) (g ∷ gs) d xs h all =
-    let more = combination_not_negative ms gs d xs (All_tail (λ x. pos 0 ≤ℤ x) m ms h)
-    (All_tail (λ g. pos 0 ≤ℤ value_over g d xs) g gs all) in
-    let one = mul_not_negative m (value_over g d xs) (All_head (λ x. pos 0 ≤ℤ x) m ms h)
-    (All_head (λ g. pos 0 ≤ℤ value_over g d xs) g gs all) in
+    let more = combination_not_negative ms gs d xs (All-tail (λ x. pos 0 ≤ℤ x) m ms h)
+    (All-tail (λ g. pos 0 ≤ℤ value_over g d xs) g gs all) in
+    let one = mul_not_negative m (value_over g d xs) (All-head (λ x. pos 0 ≤ℤ x) m ms h)
+    (All-head (λ g. pos 0 ≤ℤ value_over g d xs) g gs all) in
     let s = value_over-sum (multiple_of_form m g) (combination ms gs) d xs in
     let t = value_over-multiple m g d xs in
-    omega (arith, ints)
-
--- lists that agree at each place have one dot product
-pub dot_same : (xs ys zs : List ℤ) → ((i : ℕ) → get_or xs i (pos 0) ≡ get_or ys i (pos 0)) → dot xs zs ≡ dot ys zs
-dot_same [] [] zs h = refl
-dot_same xs ys [] h = dot-nil xs ∙ sym (dot-nil ys)
-dot_same [] (y ∷ ys) (z ∷ zs) h =
-    let first = ap (λ (k : ℤ). k *ℤ z) (h 0) in
-    let more = dot_same [] ys zs (λ i. h (suc i)) in
-    omega (arith, ints)
-dot_same (x ∷ xs) [] (z ∷ zs) h =
-    let first = ap (λ (k : ℤ). k *ℤ z) (h 0) in
-    let more = dot_same xs [] zs (λ i. h (suc i)) in
-    omega (arith, ints)
-dot_same (x ∷ xs) (y ∷ ys) (z ∷ zs) h =
-    let first = ap (λ (k : ℤ). k *ℤ z) (h 0) in
-    let more = dot_same xs ys zs (λ i. h (suc i)) in
     omega (arith, ints)
 
 -- what the identity is for: where the rows are not negative the form is not
@@ -52,9 +35,9 @@ pub farkas_not_negative : (rows : List Affine) (form : Affine) (d : ℤ) (xs : L
     → All (λ g. pos 0 ≤ℤ value_over g d xs) rows → pos 0 ≤ℤ value_over form d xs
 farkas_not_negative rows form d xs h hd all =
     let c = combination h.multipliers rows in
-    let free = All_head (λ x. pos 0 ≤ℤ x) h.free h.multipliers h.not_negative in
+    let free = All-head (λ x. pos 0 ≤ℤ x) h.free h.multipliers h.not_negative in
     let one = combination_not_negative h.multipliers rows d xs
-    (All_tail (λ x. pos 0 ≤ℤ x) h.free h.multipliers h.not_negative) all in
+    (All-tail (λ x. pos 0 ≤ℤ x) h.free h.multipliers h.not_negative) all in
     let two = mul_not_negative h.free d free hd in
     let k = h.factor in
     let e = value_over-multiple k form d xs in
@@ -70,13 +53,13 @@ two_rows_hold : (es : List Affine) (d : ℤ) (xs : List ℤ) → All (λ f. valu
 two_rows_hold [] d xs all = All-nil (λ g. pos 0 ≤ℤ value_over g d xs)
 two_rows_hold (e ∷ es) d xs all =
     let Least : Affine → Type 0 = λ g. pos 0 ≤ℤ value_over g d xs in
-    let zero_here = All_head (λ f. value_over f d xs ≡ pos 0) e es all in
+    let zero_here = All-head (λ f. value_over f d xs ≡ pos 0) e es all in
     let turned = multiple_of_form (negsuc 0) e in
     let v = value_over-multiple (negsuc 0) e d xs in
     let n = ap (λ (z : ℤ). negsuc 0 *ℤ z) zero_here in
     All-cons Least e (turned ∷ two_rows es) (omega (arith, ints))
     (All-cons Least turned (two_rows es) (omega (arith, ints))
-    (two_rows_hold es d xs (All_tail (λ f. value_over f d xs ≡ pos 0) e es all)))
+    (two_rows_hold es d xs (All-tail (λ f. value_over f d xs ≡ pos 0) e es all)))
 
 -- the same of a system: at each of its points the form is not negative
 pub farkas_of_system : (es rs : List Affine) (form : Affine) (d : ℤ) (xs : List ℤ)
@@ -106,5 +89,3 @@ combination_constant (m ∷ ms) (g ∷ gs) =
     let more = combination_constant ms gs in
     let u = Rattle.whole_numbers.proofs.Ring.mul_neg_left g.constant m in
     omega (arith, ints)
-
-pub ruleset farkas_laws = (farkas_not_negative)

@@ -3,15 +3,28 @@ use Rattle.std.proofs.Common.{◌≡◌, ℕ, zero, suc, ℤ, pos, ◌*ℤ◌, �
 use Rattle.std.proofs.Common.{sym, ◌∙◌, ap, All, arith}
 use Rattle.std.specs.Prelude.{map}
 use Rattle.std.proofs.lemmas.Int.{ints}
-use Rattle.std.proofs.lemmas.List.Elements.{All-cons, All-nil}
+use Rattle.std.proofs.lemmas.List.Elements.{All-cons, All-nil, All-head, All-tail, All-map}
 use Rattle.whole_numbers.specs.Affine.{Affine, multiple_of_form}
 use Rattle.whole_numbers.proofs.Order.{cancel_le, cancel_eq, mul_not_negative}
 use Rattle.whole_numbers.proofs.Ring.{mul_zero_right}
 use Rattle.whole_numbers.specs.Content.{content_of_form, lowest_of_form}
 use Rattle.fractions.specs.Fractions.{value_over, HoldsOver}
-use Rattle.fractions.proofs.Chosen.{All_head, All_tail}
 use Rattle.fractions.proofs.Over.{value_over-multiple}
 use Rattle.whole_numbers.proofs.Lowest.{lowest_of_form_is, lowest_form_stays}
+
+-- lowest terms keep a linear number of a form at 0
+pub lowest_zero : (z : Affine → ℤ) → ((k : ℤ) (f : Affine) → z (multiple_of_form k f) ≡ k *ℤ z f) → (f : Affine)
+    → z f ≡ pos 0 → z (lowest_of_form f) ≡ pos 0
+lowest_zero z linear f h = by_content (content_of_form f) refl
+  where
+    by_content : (g : ℕ) → content_of_form f ≡ g → z (lowest_of_form f) ≡ pos 0
+    by_content zero c = ap z (lowest_form_stays f (omega arith)) ∙ h
+    by_content (suc g) c =
+        let k = pos (suc g) in
+        let low = lowest_of_form f in
+        let s = ap z (lowest_of_form_is f ∙ ap (λ (n : ℕ). multiple_of_form (pos n) low) c) in
+        let t = linear k low in
+        cancel_eq (z low) (pos 0) k (omega (arith, ints)) (omega (arith, ints))
 
 -- lowest terms keep the sign of each value
 abbrev pub SameSign : Affine → Affine → Type 0
@@ -47,13 +60,7 @@ lowest_sign f = by_content (content_of_form f) refl
 pub map_to : {X Y : Type 0} (P : Y → Type 0) (h : X → Y) (xs : List X) → All P (map h xs) → All (λ x. P (h x)) xs
 map_to P h [] all = All-nil (λ x. P (h x))
 map_to P h (x ∷ xs) all =
-    All-cons (λ x. P (h x)) x xs (All_head P (h x) (map h xs) all) (map_to P h xs (All_tail P (h x) (map h xs) all))
-
-pub map_from : {X Y : Type 0} (P : Y → Type 0) (h : X → Y) (xs : List X) → All (λ x. P (h x)) xs → All P (map h xs)
-map_from P h [] all = All-nil P
-map_from P h (x ∷ xs) all =
-    All-cons P (h x) (map h xs) (All_head (λ x. P (h x)) x xs all)
-    (map_from P h xs (All_tail (λ x. P (h x)) x xs all))
+    All-cons (λ x. P (h x)) x xs (All-head P (h x) (map h xs) all) (map_to P h xs (All-tail P (h x) (map h xs) all))
 
 -- equalities and rows in lowest terms hold at the same points
 pub lowest_holds : (es rs : List Affine) (d : ℤ) (xs : List ℤ)
@@ -66,8 +73,8 @@ lowest_holds es rs d xs =
         λ k e inside. (lowest_sign (get_or rs k e) d xs).1.0 (map_to Least lowest_of_form rs h.1 k e inside),
       ),
       λ h. (
-        map_from Zero lowest_of_form es (λ k e inside. (lowest_sign (get_or es k e) d xs).0.1 (h.0 k e inside)),
-        map_from Least lowest_of_form rs (λ k e inside. (lowest_sign (get_or rs k e) d xs).1.1 (h.1 k e inside)),
+        All-map Zero lowest_of_form es (λ k e inside. (lowest_sign (get_or es k e) d xs).0.1 (h.0 k e inside)),
+        All-map Least lowest_of_form rs (λ k e inside. (lowest_sign (get_or rs k e) d xs).1.1 (h.1 k e inside)),
       ),
     )
 

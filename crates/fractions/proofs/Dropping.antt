@@ -3,7 +3,7 @@ use Rattle.std.proofs.Common.{◌≡◌, ℕ, zero, suc, ◌+◌, ◌≤◌, ℤ
 use Rattle.std.proofs.Common.{length, get_or, ◌↔◌, refl, sym, ◌∙◌, ap, ap₂, subst, All, arith}
 use Rattle.std.specs.Prelude.{map}
 use Rattle.std.proofs.lemmas.Int.{ints}
-use Rattle.std.proofs.lemmas.List.Elements.{All-cons, All-nil, All-append}
+use Rattle.std.proofs.lemmas.List.Elements.{All-cons, All-nil, All-append, All-head, All-tail}
 use Rattle.std.proofs.lemmas.List.{length-append}
 use Rattle.whole_numbers.specs.Lists.{multiples, zeros}
 use Rattle.whole_numbers.specs.Affine.{Affine, form_of}
@@ -13,7 +13,6 @@ use Rattle.whole_numbers.specs.Content.{content, content_from, lowest_of_form}
 use Rattle.fractions.specs.Fractions.{value_over, HoldsOver}
 use Rattle.fractions.specs.Elimination.{coefficient_of, removed, narrowed}
 use Rattle.fractions.specs.Farkas.{HoldsForSomeMore, AreNotNegative, own_rows}
-use Rattle.fractions.proofs.Chosen.{All_head, All_tail}
 use Rattle.fractions.proofs.Matching.{own_rows_sized}
 use Rattle.whole_numbers.proofs.Lowest.{lowest_form_stays}
 use Rattle.whole_numbers.proofs.Contents.{gcd_of_nothing, content_from_one}
@@ -22,8 +21,8 @@ multiples_not_negative : (k : ℤ) (xs : List ℤ) → pos 0 <ℤ k → AreNotNe
 multiples_not_negative k [] hk all = All-nil (λ x. pos 0 ≤ℤ x)
 multiples_not_negative k (x ∷ xs) hk all =
     All-cons (λ x. pos 0 ≤ℤ x) (k *ℤ x) (multiples k xs)
-    (mul_not_negative k x (omega (arith, ints)) (All_head (λ x. pos 0 ≤ℤ x) x xs all))
-    (multiples_not_negative k xs hk (All_tail (λ x. pos 0 ≤ℤ x) x xs all))
+    (mul_not_negative k x (omega (arith, ints)) (All-head (λ x. pos 0 ≤ℤ x) x xs all))
+    (multiples_not_negative k xs hk (All-tail (λ x. pos 0 ≤ℤ x) x xs all))
 
 -- the kept rows hold where all do, say of what is still to be eliminated that it is not negative, and imply all where
 -- nothing is negative: then they hold for some fractions exactly where all do

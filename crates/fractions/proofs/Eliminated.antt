@@ -2,14 +2,14 @@
 use Rattle.std.proofs.Common.{◌≡◌, ℕ, ◌<◌, ℤ, pos, ◌*ℤ◌, ◌≤ℤ◌, unsigned_abs, Bool, true, false, List, [], ◌∷◌}
 use Rattle.std.proofs.Common.{length, set, get_or, ◌↔◌, refl, sym, ◌∙◌, ap, subst, All}
 use Rattle.std.specs.Prelude.{Option, Some, None, if◌then◌else◌}
-use Rattle.std.proofs.lemmas.List.Elements.{All-cons, All-nil}
+use Rattle.std.proofs.lemmas.List.Elements.{All-cons, All-nil, All-head, All-tail}
 use Rattle.whole_numbers.specs.Lists.{multiples}
 use Rattle.whole_numbers.specs.Affine.{Affine}
 use Rattle.fractions.specs.Fractions.{value_over, HoldsOver, HoldsForSome}
 use Rattle.fractions.specs.Elimination.{coefficient_of, is_zero, first_with, in_front, reduced_all}
 use Rattle.fractions.specs.Elimination.{projected_rows, eliminated_by, eliminated}
 use Rattle.fractions.proofs.Over.{value_over-set}
-use Rattle.fractions.proofs.Chosen.{is_zero_iff, All_head, All_tail}
+use Rattle.fractions.proofs.Chosen.{is_zero_iff}
 use Rattle.fractions.proofs.Content.{lowest_holds}
 use Rattle.fractions.proofs.Project.{project_to, project_from}
 use Rattle.fractions.proofs.Reduce.{zero_scales, least_scales, size_positive, asked_numerator, at_fraction}
@@ -36,15 +36,15 @@ taken_step i P f fs true free more g h = below (first_with i fs) refl h
           ap (λ (z : Affine). is_zero (coefficient_of i z)) (sym first) ∙ t.0,
           (
             λ all.
-                let u = t.1.0 (All_tail P f fs all) in (
+                let u = t.1.0 (All-tail P f fs all) in (
                   rw first at u.0,
                   subst (λ (zs : List Affine). All P zs) rest
-                      (All-cons P f q.1 (All_head P f fs all) u.1),
+                      (All-cons P f q.1 (All-head P f fs all) u.1),
                 ),
             λ both.
                 let kept = subst (λ (zs : List Affine). All P zs) (sym rest) both.1 in
                 let one : P q.0 = rw first both.0 in
-                All-cons P f fs (All_head P f q.1 kept) (t.1.1 (one, All_tail P f q.1 kept)),
+                All-cons P f fs (All-head P f q.1 kept) (t.1.1 (one, All-tail P f q.1 kept)),
           ),
         )
 taken_step i P f fs false other more g h =
@@ -52,7 +52,7 @@ taken_step i P f fs false other more g h =
     let rest : fs ≡ g.1 = cc in (
       ap (λ (z : Affine). is_zero (coefficient_of i z)) (sym first) ∙ other,
       (
-        λ all. (rw first at (All_head P f fs all), rw rest at (All_tail P f fs all)),
+        λ all. (rw first at (All-head P f fs all), rw rest at (All-tail P f fs all)),
         λ both.
             let one : P f = rw first both.0 in
             let others : All P fs = rw rest both.1 in
@@ -189,5 +189,3 @@ elimination_is_exact i es rs d xs h =
     let a = lowest_of i o es rs d xs in
     let b = holds_reduced i es rs d xs o h refl in
     (λ s. b.1 (a.0 s), λ s. a.1 (b.0 s))
-
-pub ruleset elimination_laws = (elimination_is_exact)

@@ -57,5 +57,3 @@ implied_row es front r back d xs he hs hr none positive holds = (
               (All-cons Whole (complement r) [] (omega (arith, ints)) (All-nil Whole)),
         )))
         (λ (up : pos 0 ≤ℤ value_over r d xs). up)
-
-pub ruleset implied_laws = (implied_row)

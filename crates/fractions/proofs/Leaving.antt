@@ -2,14 +2,14 @@
 use Rattle.std.proofs.Common.{◌≡◌, ℕ, zero, suc, ◌+◌, ◌≤◌, ℤ, pos, ◌≤ℤ◌, List, [], ◌∷◌, ◌++◌, length, ◌↔◌, inl}
 use Rattle.std.proofs.Common.{inr, sym, ◌∙◌, append_assoc, subst, All}
 use Rattle.std.specs.Prelude.{map}
-use Rattle.std.proofs.lemmas.List.Elements.{All-append}
+use Rattle.std.proofs.lemmas.List.Elements.{All-append, All-head, All-tail}
 use Rattle.std.proofs.lemmas.List.{append-nil}
 use Rattle.whole_numbers.specs.Affine.{Affine}
 use Rattle.fractions.specs.Fractions.{value_over, HoldsOver}
 use Rattle.fractions.specs.Elimination.{narrowed, eliminated}
 use Rattle.fractions.specs.Farkas.{HoldsForSomeMore, AreNotNegative, IsHomogeneous, HasFarkas, form_at}
 use Rattle.fractions.specs.Farkas.{matched_from, own_rows, Dropped, AreAmong, Leaves}
-use Rattle.fractions.proofs.Chosen.{All_head, All_tail, All-front, All-back}
+use Rattle.fractions.proofs.Chosen.{All-front, All-back}
 use Rattle.fractions.proofs.Chain.{chain_step, chain_end}
 use Rattle.fractions.proofs.Implied.{implied_row}
 use Rattle.fractions.proofs.Matching.{matching_is_farkas}
@@ -25,7 +25,7 @@ dropped_among n es front (r ∷ rest) kept P (inl h) all =
 dropped_among n es front (r ∷ rest) kept P (inr h) all =
     dropped_among n es front rest kept P h.1
     (All-append P front rest (All-front P front (r ∷ rest) all)
-    (All_tail P r rest (All-back P front (r ∷ rest) all)))
+    (All-tail P r rest (All-back P front (r ∷ rest) all)))
 
 -- where nothing is negative they imply all
 pub dropped_implied : (es front rest kept : List Affine) (d : ℤ) (xs : List ℤ)
@@ -42,8 +42,8 @@ dropped_implied es front (r ∷ rest) kept d xs (inl h) he hs positive holds =
 dropped_implied es front (r ∷ rest) kept d xs (inr h) he hs positive holds =
     let f = All-front IsHomogeneous front (r ∷ rest) hs in
     let b = All-back IsHomogeneous front (r ∷ rest) hs in
-    let others = All-append IsHomogeneous front rest f (All_tail IsHomogeneous r rest b) in
-    implied_row es front r rest d xs he others (All_head IsHomogeneous r rest b) h.0 positive
+    let others = All-append IsHomogeneous front rest f (All-tail IsHomogeneous r rest b) in
+    implied_row es front r rest d xs he others (All-head IsHomogeneous r rest b) h.0 positive
     (dropped_implied es front rest kept d xs h.1 he others positive holds)
 
 -- one elimination and its dropping
@@ -98,5 +98,3 @@ left_is_farkas ls l0 gs last_es last_rs xs hs h0 sized positive h =
     let a = leaves_exactly (suc (length gs)) (matched_from 0 ls l0 gs) own last_es last_rs (pos 1) xs positive h in
     let b = matching_is_farkas ls l0 gs xs hs h0 sized in
     (λ k. b.0 (a.0 k), λ k. a.1 (b.1 k))
-
-pub ruleset leaving_laws = (left_is_farkas)

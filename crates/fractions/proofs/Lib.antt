@@ -8,6 +8,7 @@ pub mod Implied
 pub mod Matching
 pub mod Project
 pub mod Eliminated
+pub mod Keeping
 pub mod Absent
 pub mod Chain
 pub mod Dropping

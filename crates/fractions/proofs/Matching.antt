@@ -4,8 +4,8 @@ use Rattle.std.proofs.Common.{List, [], ◌∷◌, ◌++◌, length, get_or, ◌
 use Rattle.std.proofs.Common.{All, arith}
 use Rattle.std.specs.Prelude.{map}
 use Rattle.std.proofs.lemmas.Int.{ints}
-use Rattle.std.proofs.lemmas.List.Elements.{All-cons, All-nil}
-use Rattle.std.proofs.lemmas.List.{length-append, length-map}
+use Rattle.std.proofs.lemmas.List.Elements.{All-cons, All-nil, All-head, All-tail}
+use Rattle.std.proofs.lemmas.List.{length-append, length-map, get_or_past}
 use mathlib.Core.Logic.{dite}
 use native.Mathlib.Decide.{dec_lt}
 use Rattle.whole_numbers.specs.Lists.{dot, multiples, zeros}
@@ -17,7 +17,6 @@ use Rattle.fractions.specs.Fractions.{value_over, HoldsOver}
 use Rattle.fractions.specs.Elimination.{coefficient_of}
 use Rattle.fractions.specs.Farkas.{HoldsForSomeMore, combination, AreNotNegative, HasFarkas, form_at, matched}
 use Rattle.fractions.specs.Farkas.{matched_constant, matched_from, own_rows}
-use Rattle.fractions.proofs.Chosen.{All_head, All_tail}
 use Rattle.fractions.proofs.Combination.{combination_linear, combination_constant}
 
 zero_plus : (n : ℕ) → 0 + n ≡ n
@@ -67,18 +66,18 @@ matched_all i [] l0 gs d k xs m ms hs h0 =
     let v = matched_constant_value l0 gs d k xs m ms h0 in (
       λ all. (
         λ j inside. absurd (omega arith),
-        let e = All_head Zero (matched_constant l0 gs) [] all in omega
+        let e = All-head Zero (matched_constant l0 gs) [] all in omega
             (arith, ints),
       ),
       λ h. All-cons Zero (matched_constant l0 gs) [] (let e = h.1 in omega (arith, ints)) (All-nil Zero),
     )
 matched_all i (l ∷ ls) l0 gs d k xs m ms hs h0 =
     let Zero : Affine → Type 0 = λ f. value_over f d (multiples k xs ++ m ∷ ms) ≡ pos 0 in
-    let v = matched_value i l gs d k xs m ms (All_head (λ l. length l ≡ length xs) l ls hs) in
-    let more = matched_all (suc i) ls l0 gs d k xs m ms (All_tail (λ l. length l ≡ length xs) l ls hs) h0 in (
+    let v = matched_value i l gs d k xs m ms (All-head (λ l. length l ≡ length xs) l ls hs) in
+    let more = matched_all (suc i) ls l0 gs d k xs m ms (All-tail (λ l. length l ≡ length xs) l ls hs) h0 in (
       λ all.
-          let e = All_head Zero (matched i l gs) (matched_from (suc i) ls l0 gs) all in
-          let r = more.0 (All_tail Zero (matched i l gs) (matched_from (suc i) ls l0 gs) all) in
+          let e = All-head Zero (matched i l gs) (matched_from (suc i) ls l0 gs) all in
+          let r = more.0 (All-tail Zero (matched i l gs) (matched_from (suc i) ls l0 gs) all) in
           (both i l ls gs k xs ms (omega (arith, ints)) r.0, r.1),
       λ h.
           let e = first i l ls gs k xs ms h.0 in
@@ -136,11 +135,11 @@ own_rows_hold front d (m ∷ ms) =
     let more' : All Least (own_rows (length front + 1) (length ms))
     ↔ AreNotNegative ms = rw (longer, joined) at more in (
       λ all. All-cons (λ x. pos 0 ≤ℤ x) m ms
-          (subst (λ (z : ℤ). pos 0 ≤ℤ z) v (All_head Least own (own_rows (length front + 1) (length ms)) all))
-          (more'.0 (All_tail Least own (own_rows (length front + 1) (length ms)) all)),
+          (subst (λ (z : ℤ). pos 0 ≤ℤ z) v (All-head Least own (own_rows (length front + 1) (length ms)) all))
+          (more'.0 (All-tail Least own (own_rows (length front + 1) (length ms)) all)),
       λ h. All-cons Least own (own_rows (length front + 1) (length ms))
-          (subst (λ (z : ℤ). pos 0 ≤ℤ z) (sym v) (All_head (λ x. pos 0 ≤ℤ x) m ms h))
-          (more'.1 (All_tail (λ x. pos 0 ≤ℤ x) m ms h)),
+          (subst (λ (z : ℤ). pos 0 ≤ℤ z) (sym v) (All-head (λ x. pos 0 ≤ℤ x) m ms h))
+          (more'.1 (All-tail (λ x. pos 0 ≤ℤ x) m ms h)),
     )
 
 pub own_rows_sized : (front : List ℤ) (d : ℤ) (ms : List ℤ) (b n : ℕ) → length front ≡ b → length ms ≡ n
@@ -150,19 +149,14 @@ own_rows_sized front d ms b n hb hn =
     subst (λ (c : ℕ). All Least (own_rows c n) ↔ AreNotNegative ms) hb
     (subst (λ (c : ℕ). All Least (own_rows (length front) c) ↔ AreNotNegative ms) hn (own_rows_hold front d ms))
 
-get_or_past : (xs : List ℤ) (i : ℕ) (d : ℤ) → length xs ≤ i → get_or xs i d ≡ d
-get_or_past [] i d h = refl
-get_or_past (x ∷ xs) zero d h = absurd (omega arith)
-get_or_past (x ∷ xs) (suc i) d h = get_or_past xs i d (omega arith)
-
 -- past the last coefficient of all rows a combination has none
 past : (n : ℕ) (ms : List ℤ) (gs : List Affine) → All (λ g. length g.coefficients ≤ n) gs → (i : ℕ) → n ≤ i
     → coefficient_of i (combination ms gs) ≡ pos 0
 past n [] gs h i le = refl
 past n (m ∷ ms) [] h i le = refl
 past n (m ∷ ms) (g ∷ gs) h i le =
-    let short = All_head (λ g. length g.coefficients ≤ n) g gs h in
-    let more = past n ms gs (All_tail (λ g. length g.coefficients ≤ n) g gs h) i le in
+    let short = All-head (λ g. length g.coefficients ≤ n) g gs h in
+    let more = past n ms gs (All-tail (λ g. length g.coefficients ≤ n) g gs h) i le in
     let s = get_or-sums (multiples m g.coefficients) (combination ms gs).coefficients i in
     let t = get_or-multiples m g.coefficients i in
     let e : coefficient_of i g ≡ pos 0 = get_or_past g.coefficients i (pos 0) (omega arith) in
@@ -231,5 +225,3 @@ matching_is_farkas ls l0 gs xs hs h0 sized = (λ s. there s.factor s.more s.posi
             o.1 f.not_negative,
           );
         }
-
-pub ruleset matching_laws = (matching_is_farkas)

@@ -5,7 +5,7 @@ use Rattle.std.proofs.Common.{arith}
 use Rattle.std.specs.Prelude.{not, map}
 use Rattle.std.proofs.lemmas.Int.{ints}
 use Rattle.std.proofs.lemmas.Bool.{false≢true}
-use Rattle.std.proofs.lemmas.List.Elements.{All-append}
+use Rattle.std.proofs.lemmas.List.Elements.{All-append, All-map}
 use Rattle.whole_numbers.specs.Affine.{Affine, multiple_of_form}
 use Rattle.whole_numbers.proofs.Ring.{mul_zero_right, mul_sub_left, mul_distrib_left, mul_assoc_int}
 use Rattle.whole_numbers.proofs.Ring.{mul_neg_left, mul_neg_right, left_comm}
@@ -14,7 +14,7 @@ use Rattle.fractions.specs.Fractions.{value_over}
 use Rattle.fractions.specs.Elimination.{coefficient_of, is_zero, is_not_zero, chosen, sign, reduced, reduced_all}
 use Rattle.fractions.proofs.Over.{rest_over, value_over-sum, value_over-multiple}
 use Rattle.fractions.proofs.Chosen.{Passing, is_zero_iff, chosen_from, chosen_to, All-front, All-back}
-use Rattle.fractions.proofs.Content.{map_to, map_from}
+use Rattle.fractions.proofs.Content.{map_to}
 
 -- |a| = sign(a) a, and it is positive where a is not 0
 pub size_is : (a : ℤ) → pos (unsigned_abs a) ≡ sign a *ℤ a
@@ -127,7 +127,7 @@ pub reduced_all_to : (S : ℤ → Type 0) → Scales S → (i : ℕ) (e : Affine
 reduced_all_to S scales i e fs d xs k n hk has equal all =
     All-append Holds (chosen is_zero i fs) (map (reduced i e) (chosen is_not_zero i fs))
     (chosen_from Holds is_zero i fs (λ j c inside. kept (get_or fs j c) (all j c inside)))
-    (map_from Holds (reduced i e) (chosen is_not_zero i fs)
+    (All-map Holds (reduced i e) (chosen is_not_zero i fs)
     (chosen_from (λ f. Holds (reduced i e f)) is_not_zero i fs
     (λ j c inside. λ _. changed (get_or fs j c) (all j c inside))))
   where

@@ -1,3 +1,5 @@
+-- The elimination of a variable from equalities and rows: by an equality that has it, else Fourier's and Motzkin's
+-- (Schrijver, Theory of Linear and Integer Programming, section 12.2).
 use Rattle.std.specs.Prelude.{ℕ, zero, suc, ℤ, pos, negsuc, ◌*ℤ◌, neg_ℤ, unsigned_abs, Bool, true, false, not}
 use Rattle.std.specs.Prelude.{if◌then◌else◌, List, [], ◌∷◌, ◌++◌, map, get_or, Option, Some, None}
 use Rattle.whole_numbers.specs.Affine.{Affine, sum_of_forms, multiple_of_form, form_of}
@@ -7,20 +9,23 @@ use Rattle.whole_numbers.specs.Content.{lowest_of_form}
 abbrev pub coefficient_of : ℕ → Affine → ℤ
 coefficient_of i f = get_or f.coefficients i (pos 0)
 
--- z = 0, z /= 0, 0 < z, z < 0
+-- z = 0
 abbrev pub is_zero : ℤ → Bool
 is_zero (pos zero) = true
 is_zero (pos (suc n)) = false
 is_zero (negsuc n) = false
 
+-- z /= 0
 abbrev pub is_not_zero : ℤ → Bool
 is_not_zero z = not (is_zero z)
 
+-- 0 < z
 abbrev pub is_positive : ℤ → Bool
 is_positive (pos zero) = false
 is_positive (pos (suc n)) = true
 is_positive (negsuc n) = false
 
+-- z < 0
 abbrev pub is_negative : ℤ → Bool
 is_negative (pos n) = false
 is_negative (negsuc n) = true
@@ -65,22 +70,24 @@ reduced i e r =
 abbrev pub reduced_all : ℕ → Affine → List Affine → List Affine
 reduced_all i e fs = chosen is_zero i fs ++ map (reduced i e) (chosen is_not_zero i fs)
 
--- the first form with variable i, and the others in order
+-- what has been found, with one form more in front of the others
 abbrev pub in_front : Affine → Option (Affine × List Affine) → Option (Affine × List Affine)
 in_front f None = None
 in_front f (Some found) = Some (found.0, f ∷ found.1)
 
+-- the first form with variable i, and the others in order
 abbrev pub first_with : ℕ → List Affine → Option (Affine × List Affine)
 first_with i [] = None
 first_with i (f ∷ fs) = if is_zero (coefficient_of i f) then in_front f (first_with i fs) else Some (f, fs)
 
--- the elimination of variable i from equalities and rows, all in lowest terms: by the first equality with it where
--- there is one
+-- the elimination of variable i by the equality that has been found, with the others, or else by pairs of rows
 abbrev pub eliminated_by : ℕ → Option (Affine × List Affine) → List Affine → List Affine → List Affine × List Affine
 eliminated_by i None equalities rows = (map lowest_of_form equalities, map lowest_of_form (projected_rows i rows))
 eliminated_by i (Some found) equalities rows =
     (map lowest_of_form (reduced_all i found.0 found.1), map lowest_of_form (reduced_all i found.0 rows))
 
+-- the elimination of variable i from equalities and rows, all in lowest terms: by the first equality with it where
+-- there is one
 unfoldable pub eliminated : ℕ → List Affine → List Affine → List Affine × List Affine
 eliminated i equalities rows = eliminated_by i (first_with i equalities) equalities rows
 

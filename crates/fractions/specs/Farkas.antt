@@ -1,3 +1,5 @@
+-- Farkas's lemma (Schrijver, Theory of Linear and Integer Programming, corollary 7.1h): the identity, its matching of
+-- coefficients, and what is left when the multipliers are eliminated and rows are dropped.
 use Rattle.std.specs.Prelude.{◌≡◌, ℕ, zero, suc, ◌+◌, ℤ, pos, negsuc, ◌+ℤ◌, ◌*ℤ◌, neg_ℤ, ◌≤ℤ◌, ◌<ℤ◌, List}
 use Rattle.std.specs.Prelude.{[], ◌∷◌, ◌++◌, length, map, All, ◌⊎◌}
 use Rattle.whole_numbers.specs.Affine.{Affine, sum_of_forms, multiple_of_form, form_of, complement}
@@ -19,6 +21,7 @@ combination [] gs = form_of [] (pos 0)
 combination (m ∷ ms) [] = form_of [] (pos 0)
 combination (m ∷ ms) (g ∷ gs) = sum_of_forms (multiple_of_form m g) (combination ms gs)
 
+-- no entry is negative
 abbrev pub AreNotNegative : List ℤ → Type 0
 AreNotNegative xs = All (λ x. pos 0 ≤ℤ x) xs
 

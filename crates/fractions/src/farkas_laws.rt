@@ -9,7 +9,6 @@ ghost use Rattle.fractions.specs.Farkas.{HoldsForSomeMore, HasFarkas, form_at, m
 ghost use Rattle.fractions.specs.Farkas.{Leaves, AreNotNegative, IsHomogeneous, HasNoPoint};
 
 /// Where the rows are not negative, a form with Farkas's identity is not.
-#[tactic(auto, using(crate::proofs::Combination::farkas_laws))]
 pub fn farkas_makes_a_form_not_negative()
     ensures { (rows : List Affine) (form : Affine) (d : ℤ) (numerators : List ℤ)
         → HasFarkas rows form
@@ -29,7 +28,6 @@ pub fn farkas_makes_a_form_not_negative_on_a_system()
 
 /// Whole unknowns satisfy the matching of coefficients for some fractions of the multipliers, none negative, exactly
 /// where the form that they make has Farkas's identity.
-#[tactic(auto, using(crate::proofs::Matching::matching_laws))]
 pub fn farkas_is_coefficient_matching()
     ensures { (linear : List (List ℤ)) (constant : List ℤ) (rows : List Affine) (unknowns : List ℤ)
         → All (λ l. length l ≡ length unknowns) linear
@@ -41,7 +39,6 @@ pub fn farkas_is_coefficient_matching()
 {}
 
 /// A row of a homogeneous system whose complement with the other rows has no whole point >= 0 holds wherever they do.
-#[tactic(auto, using(crate::proofs::Implied::implied_laws))]
 pub fn implied_rows_hold_over_fractions()
     ensures { (equalities front : List Affine) (row : Affine) (back : List Affine) (d : ℤ) (numerators : List ℤ)
         → All IsHomogeneous equalities

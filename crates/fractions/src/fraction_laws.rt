@@ -18,7 +18,6 @@ pub fn values_over_a_denominator()
 
 /// A point satisfies the result of an elimination exactly where some fraction for the variable satisfies the system,
 /// and the result does not have the variable.
-#[tactic(auto, using(crate::proofs::Eliminated::elimination_laws))]
 pub fn elimination_is_exact_over_fractions()
     ensures exact { (i : ℕ) (equalities rows : List Affine) (d : ℤ) (numerators : List ℤ)
         → i < length numerators
@@ -31,7 +30,6 @@ pub fn elimination_is_exact_over_fractions()
 
 /// Eliminating the first of n + 1 variables behind a point, and dropping its column, leaves n; with none left the
 /// point itself satisfies.
-#[tactic(auto, using(crate::proofs::Chain::chain_laws))]
 pub fn eliminations_chain()
     ensures step { (n : ℕ) (equalities rows : List Affine) (d : ℤ) (xs : List ℤ)
         → HoldsForSomeMore n (map (narrowed (length xs)) (eliminated (length xs) equalities rows).0)

@@ -1,3 +1,4 @@
+-- The whole points of a system, and its least at given parameters.
 use Rattle.std.specs.Prelude.{◌≡◌, ℤ, pos, ◌≤ℤ◌, List, ◌++◌, All}
 use Rattle.whole_numbers.specs.Affine.{value_of}
 use Rattle.whole_numbers.specs.Lexicographic.{IsLeast}

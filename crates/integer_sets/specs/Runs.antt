@@ -1,3 +1,4 @@
+-- Whether a point satisfies a system, in 128 bits, value by value.
 use Rattle.std.specs.Prelude.{ℤ, pos, negsuc, Bool, true, false, nat_eq, if◌then◌else◌, List, [], ◌∷◌, Result, Ok}
 use Rattle.whole_numbers.specs.Affine.{Affine}
 use Rattle.wide_math.specs.declared.Wide.{Wide}

@@ -1,3 +1,4 @@
+-- Where the question whether a point satisfies a system first leaves 128 bits.
 use Rattle.std.specs.Prelude.{◌≡◌, ℤ, Bool, true, List, ◌∷◌, ◌++◌, Ok, Err, ◌⊎◌}
 use Rattle.whole_numbers.specs.Affine.{Affine}
 use Rattle.wide_math.specs.declared.Wide.{Wide}

@@ -5,8 +5,6 @@
 mod laws;
 mod scan_set;
 mod system;
-#[cfg(test)]
-mod tests;
 
 pub use laws::{
     least_point_is_unique, prefix_decides_the_order, tests_stop_at_the_first_wide_value,

@@ -1,4 +1,6 @@
 //! A set that a loop nest scans: the whole points of a system, for one statement.
+//!
+//! Part of the crate's surface; `run` does not use it.
 
 ghost use Rattle.std.specs.Prelude.{◌≡◌, ◌<◌};
 ghost use Rattle.std.specs.Option.{ForSome};

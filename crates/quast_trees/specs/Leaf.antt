@@ -1,3 +1,4 @@
+-- What a quast answers at a point.
 use Rattle.std.specs.Prelude.{ℤ, List, Option}
 use Rattle.whole_numbers.specs.Affine.{Affine, values_of}
 use Rattle.quast_trees.specs.Source.{Source, source_held}

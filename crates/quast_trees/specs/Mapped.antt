@@ -1,3 +1,4 @@
+-- A quast with forms put on those of each leaf.
 use Rattle.std.specs.Prelude.{◌≡◌, ℕ, ℤ, List, Result, Ok, length, All, ⊤}
 use Rattle.whole_numbers.specs.Affine.{Affine}
 use Rattle.wide_math.specs.declared.Wide.{Wide}

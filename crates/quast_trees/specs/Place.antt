@@ -1,3 +1,4 @@
+-- The places of trees among nodes in postfix order.
 use Rattle.std.specs.Prelude.{◌≡◌, ℕ, ◌+◌, List, ◌++◌, length, take}
 use Rattle.quast_trees.specs.Tree.{Tree, count}
 use Rattle.quast_trees.specs.Postfix.{written, top, standing}
@@ -15,6 +16,7 @@ pub record Spot : Type 0 where
   pub nodes : List Node
   pub at : ℕ
 
+-- the spot at a place among these nodes
 abbrev pub place_in : List Node → ℕ → Spot
 place_in nodes at = record { nodes = nodes; at = at }
 

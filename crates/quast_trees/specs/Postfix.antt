@@ -1,3 +1,4 @@
+-- Trees as their nodes in postfix order, as a stack machine reads them.
 use Rattle.std.specs.Prelude.{◌≡◌, ℕ, ℤ, List, [], ◌∷◌, ◌++◌, length, fold, ⊤}
 use Rattle.whole_numbers.specs.Affine.{Affine}
 use Rattle.quast_trees.specs.Source.{Source, with_source}

@@ -1,3 +1,4 @@
+-- What a part of a quast, as the code shows it, says of the tree.
 use Rattle.std.specs.Prelude.{◌≡◌}
 use Rattle.quast_trees.specs.Tree.{Tree, initial, leaf, branch, bind}
 use Rattle.quast_trees.specs.Place.{subtree}

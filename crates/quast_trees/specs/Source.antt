@@ -1,3 +1,4 @@
+-- The forms of a leaf, and the source that it is an instance of.
 use Rattle.std.specs.Prelude.{ℕ, List, Option, Some, None}
 use Rattle.whole_numbers.specs.Affine.{Affine}
 use Rattle.quast_trees.specs.declared.node.Source.{Source as Held}

@@ -1,3 +1,4 @@
+-- Quasts (Feautrier, Parametric integer programming, 1988) as trees.
 use Rattle.std.specs.Prelude.{◌≡◌, ℕ, ℤ, pos, ◌+◌, ◌≤ℤ◌, length, All, ⊤}
 use Rattle.whole_numbers.specs.Affine.{Affine}
 use Rattle.quast_trees.specs.Source.{Source, Forms, with_source}

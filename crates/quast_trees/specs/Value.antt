@@ -1,3 +1,4 @@
+-- The leaf of a quast at a point, exactly and in 128 bits.
 use Rattle.std.specs.Prelude.{ℤ, pos, negsuc, List, [], ◌∷◌, ◌++◌, Result, Ok}
 use Rattle.whole_numbers.specs.Affine.{Affine, value_of, values_of}
 use Rattle.whole_numbers.specs.Floor.{floor}

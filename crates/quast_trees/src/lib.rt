@@ -22,6 +22,4 @@ mod naming;
 mod node;
 mod place;
 mod quast;
-#[cfg(test)]
-mod tests;
 mod value;

@@ -1,3 +1,4 @@
+-- Affine forms over whole numbers: values at a point, sums, multiples, substitution, composition, complement.
 use Rattle.std.specs.Prelude.{ℕ, ℤ, pos, negsuc, neg_ℤ, ◌+ℤ◌, ◌-ℤ◌, ◌*ℤ◌, List, [], ◌∷◌, map, get_or, set}
 use Rattle.whole_numbers.specs.Lists.{dot, sums, multiples, zeros}
 

@@ -1,3 +1,4 @@
+-- Greatest common divisors by Euclid's algorithm: of two numbers, of a list, of a form, and lowest terms.
 use Rattle.std.specs.Prelude.{ℕ, zero, suc, ◌%◌, ℤ, pos, unsigned_abs, List, [], ◌∷◌}
 use Rattle.whole_numbers.specs.Floor.{floor, floors}
 use Rattle.whole_numbers.specs.Affine.{Affine, form_of}

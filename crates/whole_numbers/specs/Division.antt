@@ -1,3 +1,4 @@
+-- Division of whole numbers by a positive one, as relations: floor, ceiling, Euclid's quotient and remainder.
 use Rattle.std.specs.Prelude.{◌≡◌, ℤ, pos, ◌+ℤ◌, ◌*ℤ◌, ◌≤ℤ◌, ◌<ℤ◌}
 
 -- q is the greatest whole number that is not above a / d, for 0 < d

@@ -1,3 +1,4 @@
+-- Divisibility of whole numbers, and the greatest common divisor by what it divides.
 use Rattle.std.specs.Prelude.{◌≡◌, ℤ, pos, ◌*ℤ◌, ◌≤ℤ◌}
 
 -- d divides a: a is a whole multiple of d

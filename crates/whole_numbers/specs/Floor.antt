@@ -1,3 +1,4 @@
+-- Division of whole numbers by a positive one, as functions: rounded down, rounded up, and what is left.
 use Rattle.std.specs.Prelude.{ℤ, pos, negsuc, ◌/◌, ◌-ℤ◌, ◌*ℤ◌, neg_ℤ, List, map}
 
 -- a / d rounded down, for 0 < d

@@ -1,3 +1,4 @@
+-- The lexicographic order of lists of whole numbers, and the least list with a property.
 use Rattle.std.specs.Prelude.{◌≡◌, ℕ, ℤ, pos, ◌<ℤ◌, List, length, [], ◌∷◌, ◌⊎◌, ⊤}
 
 -- xs comes before ys: at the first place where they differ xs is less, or xs ends first

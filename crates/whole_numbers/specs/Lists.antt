@@ -1,3 +1,4 @@
+-- Lists of whole numbers as vectors: dot product, sums, multiples, products, zeros, signs.
 use Rattle.std.specs.Prelude.{ℕ, zero, suc, ℤ, pos, ◌+ℤ◌, ◌*ℤ◌, ◌≤ℤ◌, ◌<ℤ◌, List, [], ◌∷◌, ⊤}
 
 -- the dot product; past the end of the shorter list entries count as 0

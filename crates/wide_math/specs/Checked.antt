@@ -1,3 +1,4 @@
+-- Arithmetic of 128 bits: exactly the result, or exactly the operation whose result they do not hold.
 use Rattle.std.specs.Prelude.{ℤ, ◌+ℤ◌, ◌-ℤ◌, ◌*ℤ◌, if◌then◌else◌, Result, Ok, Err}
 use Rattle.whole_numbers.specs.Fits.{fits}
 use Rattle.wide_math.specs.declared.Op.{Op}

@@ -1,3 +1,4 @@
+-- When a call answers what its run gives.
 use Rattle.std.specs.Prelude.{◌≡◌, Option, Some, None, Result, Ok, Err, ⊤}
 
 -- `told` sees in a call's error the error that its run may give; None is a cause that no run tells, as want of memory

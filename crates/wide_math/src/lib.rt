@@ -6,8 +6,6 @@ mod divisors;
 mod exactness;
 mod quotients;
 mod sums;
-#[cfg(test)]
-mod tests;
 
 pub use divisors::{gcd, gcd_of_sizes};
 pub use exactness::checked_operations_are_exact;

@@ -1,12 +1,12 @@
 use Rattle.std.proofs.Common.{rules, ◌≡◌, ◌∙◌, sym, ap, subst, List, ◌++◌}
-use Rattle.std.specs.Prelude.{map, Result}
+use Rattle.std.specs.Prelude.{map, Result, Ok}
 use Rattle.whole_numbers.specs.Affine.{Affine}
 use Rattle.wide_math.specs.declared.Wide.{Wide}
 use Rattle.affine_forms.specs.Gives.{Fails}
 use Rattle.whole_numbers.specs.Content.{lowest_of_form}
 use Rattle.fractions.specs.Elimination.{chosen, is_zero, is_not_zero}
 use Rattle.fm_projection.specs.Runs.{forms_run, reduced_run}
-use Rattle.fm_projection.proofs.Joined.{reduced_parts, reduced_parts-stop, behind-stop}
+use Rattle.fm_projection.proofs.Joined.{reduced_parts, reduced_parts-stop, chain-stop}
 use Rattle.fm_projection.proofs.rows.reduce_all.Goals as goal
 
 pub returns-in-Err-append_reduced : goal.returns-in-Err-append_reduced
@@ -29,7 +29,7 @@ returns-in-Err-append_reduced-2 c =
     let run = forms_run (reduced_run i c.args.equality.now) (chosen is_not_zero i after) in
     let stop = c.in-Err-append_reduced-2.stop in
     subst (λ (r : Result (List Affine) Wide). Fails stop r) (sym parts)
-    (behind-stop new run stop c.in-Err-append_reduced-2.ensures)
+    (chain-stop stop run (λ (rest : List Affine). Ok (new ++ rest)) c.in-Err-append_reduced-2.ensures)
 
 pub returns : goal.returns
 returns c =

@@ -2,5 +2,4 @@ use Rattle.fractions.proofs.Combination.{farkas_of_system}
 use Rattle.fractions.proofs.farkas_laws.farkas_makes_a_form_not_negative_on_a_system.Goals as goal
 
 pub returns : goal.returns
-returns c equalities rows form d numerators h hd holds =
-    farkas_of_system equalities rows form d numerators h hd holds
+returns c = farkas_of_system

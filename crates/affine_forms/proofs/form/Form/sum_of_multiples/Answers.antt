@@ -1,5 +1,5 @@
 use Rattle.std.proofs.Common.{rules}
-use Rattle.affine_forms.proofs.Multiples.{forms_sum_run-exact}
+use Rattle.affine_forms.proofs.Exact.{forms_sum_run-exact}
 use Rattle.affine_forms.proofs.form.Form.sum_of_multiples.Goals as goal
 
 pub returns-in-Ok-add_multiples-clause-entries : goal.returns-in-Ok-add_multiples-clause-entries

@@ -1,0 +1,20 @@
+//! Tests of the numeric crates: each call that takes memory is run with ample memory, against values from outside. They
+//! stand in a crate of their own since a crate with tests is proved twice.
+#![tactic(auto)]
+
+#[cfg(test)]
+mod dependence_rows;
+#[cfg(test)]
+mod elimination;
+#[cfg(test)]
+mod forms;
+#[cfg(test)]
+mod numbers;
+#[cfg(test)]
+mod sets;
+#[cfg(test)]
+mod solver;
+#[cfg(test)]
+mod tableaus;
+#[cfg(test)]
+mod trees;
