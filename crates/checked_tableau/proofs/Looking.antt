@@ -1,6 +1,7 @@
 -- A buffer's rows, looked through one after the other.
-use Rattle.std.proofs.Common.{◌≡◌, ℕ, suc, ◌+◌, ◌*◌, ◌<◌, ℤ, pos, negsuc, ◌<ℤ◌, ◌≤ℤ◌, ◌-ℤ◌, Bool, true, false, List, []}
-use Rattle.std.proofs.Common.{◌∷◌, ◌++◌, length, get_or, drop, take, refl, subst, ap, sym, arith, add-one}
+use Rattle.std.proofs.Common.{◌≡◌, ℕ, zero, suc, ◌+◌, ◌*◌, ◌<◌, ◌≤◌, ℤ, pos, negsuc, ◌<ℤ◌, ◌≤ℤ◌, ◌-ℤ◌, Bool, true}
+use Rattle.std.proofs.Common.{false, List, []}
+use Rattle.std.proofs.Common.{◌∷◌, ◌++◌, length, get_or, drop, take, refl, subst, ap, sym, arith}
 use Rattle.std.specs.Prelude.{Option, Some, Result, Ok, if◌then◌else◌}
 use Rattle.std.proofs.lemmas.Int.{ints}
 use Rattle.std.proofs.lemmas.List.{length-append}
@@ -12,11 +13,7 @@ use Rattle.tableau_rows.specs.Rows.{Row, entry}
 use Rattle.tableau_rows.specs.Moves.{line_row, rows_in, is_below, is_positive, precedes_run, better_run, column_run}
 use Rattle.tableau_rows.specs.Moves.{HeadsPositive}
 use Rattle.tableau_rows.specs.Run.{first_row, some_positive}
-
--- an entry of a row that has its denominator in front
-pub entry_at : (row : List ℤ) (j : ℕ) → entry (line_row row) j ≡ get_or row (j + 1) (pos 0)
-entry_at [] j = refl
-entry_at (x ∷ row) j = ap (λ (k : ℕ). get_or (x ∷ row) k (pos 0)) (sym (add-one j))
+use Rattle.tableau_rows.proofs.Lines.{entry_at}
 
 -- the rows of a buffer that begins with a row
 pub rows_more : (stride left k : ℕ) (rest row others : List ℤ) → k ≡ suc left → rest ≡ row ++ others
@@ -38,6 +35,11 @@ length_rest stride left k rest row others more parts size whole =
     let m = suc-mul left stride in
     let e : k * stride ≡ suc left * stride = ap (λ (i : ℕ). i * stride) more in
     omega arith
+
+-- a buffer with lines left has the next one
+pub line_ahead : (left stride n : ℕ) → 0 < left → n ≡ left * stride → stride ≤ n
+line_ahead zero stride n some size = absurd (omega arith)
+line_ahead (suc left) stride n some size = let m = suc-mul left stride in omega arith
 
 pub heads_rest : (stride left k : ℕ) (rest row others : List ℤ) → k ≡ suc left → rest ≡ row ++ others
     → length row ≡ stride → HeadsPositive stride k rest
@@ -94,23 +96,23 @@ positive_past row i left k n run more next passes kept =
     let m = subst (λ (j : ℕ). some_positive row i j ≡ run) more kept in
     subst (λ (j : ℕ). some_positive row j left ≡ run) (sym next) (rw passes at m)
 
--- the comparison of two columns at a row
+-- the comparison of two columns at a row, whose entries in them are x and y, and the rows behind it
+abbrev pub compared_run : ℤ → ℤ → ℤ → ℤ → Result Bool Wide → Result Bool Wide
+compared_run a b x y rest =
+    product_of x b >>= λ new. product_of y a >>= λ old.
+    if is_below (new -ℤ old) then Ok true else if is_below (old -ℤ new) then Ok false else rest
+
 pub precedes_here : (a b : ℤ) (j s stride left k : ℕ) (rest row others : List ℤ) (run : Result Bool Wide) → k ≡ suc left
     → rest ≡ row ++ others → length row ≡ stride
     → precedes_run a b j s (rows_in stride k rest) ≡ run
-    → (product_of (get_or row (j + 1) (pos 0)) b >>= λ new. product_of (get_or row (s + 1) (pos 0)) a >>= λ old.
-    if is_below (new -ℤ old) then Ok true else if is_below (old -ℤ new) then Ok false
-    else precedes_run a b j s (rows_in stride left others))
-    ≡ run
+    → compared_run a b (get_or row (j + 1) (pos 0)) (get_or row (s + 1) (pos 0))
+    (precedes_run a b j s (rows_in stride left others)) ≡ run
 precedes_here a b j s stride left k rest row others run more parts size kept =
     let m = subst (λ (rs : List Row). precedes_run a b j s rs ≡ run)
     (rows_more stride left k rest row others more parts size) kept in
-    let body : ℤ → ℤ → Result Bool Wide = λ new old. if is_below (new -ℤ old) then Ok true else if is_below (old -ℤ new)
-    then Ok false else precedes_run a b j s (rows_in stride left others) in
-    let n = subst (λ (x : ℤ). (product_of x b >>= λ new. product_of (entry (line_row row) s) a >>= λ old. body new old)
-    ≡ run) (entry_at row j) m in
-    subst (λ (y : ℤ). (product_of (get_or row (j + 1) (pos 0)) b >>= λ new. product_of y a >>= λ old. body new old)
-    ≡ run) (entry_at row s) n
+    let behind = precedes_run a b j s (rows_in stride left others) in
+    let n = subst (λ (x : ℤ). compared_run a b x (entry (line_row row) s) behind ≡ run) (entry_at row j) m in
+    subst (λ (y : ℤ). compared_run a b (get_or row (j + 1) (pos 0)) y behind ≡ run) (entry_at row s) n
 
 below_true : (x y : ℤ) → x <ℤ y → is_below (x -ℤ y) ≡ true
 below_true x y h = by_sign (x -ℤ y) (omega (arith, ints))

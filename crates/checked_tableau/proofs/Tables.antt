@@ -37,14 +37,10 @@ line_in stride (suc count) (suc row) cells h =
     ap (λ (k : ℕ). drop k cells) e ∙ sym (drop-drop (row * stride) stride cells) in
     ap (λ (zs : List ℤ). line_row (take stride zs)) d ∙ line_in stride count row (drop stride cells) (omega arith)
 
-pub within_buffer : (stride count row n : ℕ) → row < count → n ≡ count * stride → row * stride + stride ≤ n
-within_buffer stride zero row n h size = absurd (omega arith)
-within_buffer stride (suc count) zero n h size = let m = suc-mul count stride in omega arith
-within_buffer stride (suc count) (suc row) n h size =
-    let m = suc-mul count stride in
-    let k = suc-mul row stride in
-    let more = within_buffer stride count row (count * stride) (omega arith) refl in
-    omega arith
+-- a buffer with lines left has the next one
+pub line_within : (start left stride n : ℕ) → 0 < left → start + left * stride ≡ n → start + stride ≤ n
+line_within start zero stride n some size = absurd (omega arith)
+line_within start (suc left) stride n some size = let m = suc-mul left stride in omega arith
 
 -- the heads of sound rows
 pub heads_sized : (stride m count : ℕ) (cells : List ℤ) → 0 < stride → Sized m (rows_in stride count cells)

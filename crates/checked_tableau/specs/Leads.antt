@@ -1,3 +1,4 @@
+-- Which columns a pivot on a row may take.
 use Rattle.std.specs.Prelude.{ℕ, ◌+◌, ◌<◌, ℤ, pos, ◌<ℤ◌, List, get_or}
 
 -- a column of n with a positive entry in a row that has its denominator in front

@@ -1,3 +1,4 @@
+-- Rows as lines of a buffer, and the cut on a line.
 use Rattle.std.specs.Prelude.{◌≡◌, ℕ, ◌+◌, ◌*◌, ℤ, pos, neg_ℤ, List, ◌∷◌, length, get_or, drop, Option, Some, None}
 use Rattle.std.specs.Prelude.{Result, Ok}
 use Rattle.wide_math.specs.declared.Wide.{Wide}
@@ -11,11 +12,12 @@ use Rattle.tableau_rows.specs.Moves.{cut_entries_run, tied, rows_in}
 unfoldable pub turned_run : ℤ → ℤ → Result ℤ Wide
 turned_run d b = difference_of (pos 0) b >>= λ m. Ok (neg_ℤ (remainder m d))
 
--- the place of a parameter among the constant and the parameters, and among all entries behind n columns
+-- the place of a parameter among the constant and the parameters
 abbrev pub behind_constant : Option ℕ → Option ℕ
 behind_constant None = None
 behind_constant (Some k) = Some (k + 1)
 
+-- the place of a parameter among all entries, behind n columns and the constant
 abbrev pub behind_columns : ℕ → Option ℕ → Option ℕ
 behind_columns n None = None
 behind_columns n (Some k) = Some (n + 1 + k)

@@ -1,3 +1,4 @@
+-- A tableau as its buffer holds it, and when a move on it is its run's.
 use Rattle.std.specs.Prelude.{◌≡◌, ℕ, ◌+◌, ◌*◌, ◌≤◌, ℤ, List, [], ◌∷◌, ◌++◌, length, Option, Some, None, Result, Ok}
 use Rattle.std.specs.Prelude.{Err}
 use Rattle.wide_math.specs.declared.Wide.{Wide}

@@ -5,7 +5,8 @@ use Rattle.std.specs.Prelude.{Result, Ok, Err, if◌then◌else◌}
 use Rattle.std.proofs.lemmas.Int.{ints, by_lt_z}
 use Rattle.std.proofs.lemmas.List.{append-nil}
 use Rattle.whole_numbers.proofs.Lists.{not_negative-append}
-use Rattle.whole_numbers.specs.Lists.{dot, NotNegative}
+use Rattle.whole_numbers.specs.Lists.{dot, zeros, NotNegative}
+use Rattle.whole_numbers.proofs.Dot.{length-zeros}
 use Rattle.whole_numbers.specs.Affine.{Affine, value_of, form_of}
 use Rattle.whole_numbers.specs.Floor.{floor, remainder}
 use Rattle.whole_numbers.proofs.Ring.{mul_zero_left, mul_comm_int, mul_neg_left}
@@ -163,25 +164,12 @@ at_least-value d f g p q size h =
 
 pub at_least-size : (d : ℤ) (f g : Affine) → at_least_run d f ≡ Ok g
     → length g.coefficients ≡ length f.coefficients + 1
-unfolding at_least_run
 at_least-size d f g h =
-    let c = chain-ok (difference_of (pos 0) d) (λ (e : ℤ). Ok (form_of (f.coefficients ++ e ∷ []) f.constant)) g h in
-    let is : g ≡ form_of (f.coefficients ++ c.0 ∷ []) f.constant = cc (c.2) in
-    subst (λ (w : Affine). length w.coefficients ≡ length f.coefficients + 1) (sym is) (simp length-append refl)
+    let k = length f.coefficients in (at_least-value d f g (zeros k) (pos 0) (sym (length-zeros k)) h).1
 
 pub under-size : (d : ℤ) (f g : Affine) → under_run d f ≡ Ok g → length g.coefficients ≡ length f.coefficients + 1
-unfolding under_run
 under-size d f g h =
-    let c = chain-ok (opposites_run f.coefficients)
-    (λ (bs : List ℤ). difference_of d (pos 1) >>= λ c. difference_of c f.constant >>= λ z. Ok
-    (form_of (bs ++ d ∷ []) z)) g h in
-    let e = chain-ok (difference_of d (pos 1))
-    (λ (k : ℤ). difference_of k f.constant >>= λ z. Ok (form_of (c.0 ++ d ∷ []) z)) g c.2 in
-    let i = chain-ok (difference_of e.0 f.constant) (λ (z : ℤ). Ok (form_of (c.0 ++ d ∷ []) z)) g e.2 in
-    let is : g ≡ form_of (c.0 ++ d ∷ []) i.0 = cc (i.2) in
-    let s = (opposites-dot f.coefficients c.0 [] c.1).1 in
-    subst (λ (w : Affine). length w.coefficients ≡ length f.coefficients + 1) (sym is)
-    (simp length-append (omega arith))
+    let k = length f.coefficients in (under-value d f g (zeros k) (pos 0) (sym (length-zeros k)) h).1
 
 -- a point of a node's context
 pub record IsHere (node : Node) (p : List ℤ) : Type 0 where

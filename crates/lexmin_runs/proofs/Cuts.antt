@@ -17,9 +17,9 @@ use Rattle.tableau_rows.specs.Rows.{Row}
 use Rattle.tableau_rows.specs.Moves.{cut_entries}
 use Rattle.tableau_rows.specs.Solutions.{IsTied}
 use Rattle.tableau_rows.proofs.Cutting.{length-cut, remainder_in, cut_constant}
-use Rattle.lexmin_runs.specs.Nodes.{Bound, longer_row, is_zero, same_list, is_bound_as, place_of, taken_off}
+use Rattle.lexmin_runs.specs.Nodes.{Bound, longer_row, is_zero, all_zero, same_list, is_bound_as, place_of, taken_off}
 use Rattle.lexmin_runs.specs.Solutions.{AreBound}
-use Rattle.lexmin_runs.proofs.Longer.{dot-same, zero_true, dot-behind}
+use Rattle.lexmin_runs.proofs.Longer.{dot-same, zero_true, dot-behind, value-constant}
 
 -- what a cut takes off is not negative, and is what the cut's row has without columns
 pub dot-neg : (zs p : List ℤ) → dot (map neg_ℤ zs) p ≡ pos 0 -ℤ dot zs p
@@ -119,6 +119,27 @@ place-says p f d (b ∷ bs) k are h = by_match (is_bound_as f d b) refl h (λ g.
         let v = ap₂ (λ (x y : ℤ). floor x y) s.0 s.1 in
         subst (λ (i : ℕ). (i < length p) × (get_or p i (pos 0) ≡ floor (value_of f p) d)) g (is.0, is.2 ∙ v)
     by_match false e h more = more h
+
+-- where a cut takes off a constant, its quotient is 0; where a parameter is bound to it, it is that parameter's value
+pub constant_floor : (n : ℕ) (row : Row) (p : List ℤ) → pos 0 <ℤ row.denominator
+    → all_zero (taken_off n row).coefficients ≡ true → IsFloor (value_of (taken_off n row) p) row.denominator (pos 0)
+constant_floor n row p positive none =
+    let v = value-constant (taken_off n row) p none in
+    let c = cut_constant n row.denominator row.entries positive in
+    let low = c.0 in
+    let high = c.1 in
+    let z = mul_zero_left row.denominator in
+    record { below = omega (arith, ints); above = omega (arith, ints) }
+
+pub bound_floor : (n : ℕ) (row : Row) (p : List ℤ) (bs : List Bound) (k : ℕ) → pos 0 <ℤ row.denominator
+    → AreBound p bs → place_of (taken_off n row) row.denominator bs ≡ Some k → (ys : List ℤ) → length ys ≡ n
+    → IsFloor (value_of (taken_off n row) p) row.denominator (get_or (ys ++ pos 1 ∷ p) (n + 1 + k) (pos 0))
+bound_floor n row p bs k positive are found ys size =
+    let f = taken_off n row in
+    subst (λ (z : ℤ). IsFloor (value_of f p) row.denominator z)
+    (sym (subst (λ (j : ℕ). get_or (ys ++ pos 1 ∷ p) (j + 1 + k) (pos 0) ≡ get_or p k (pos 0)) size
+    (get_or-behind ys p k) ∙ (place-says p f row.denominator bs k are found).1))
+    (floor_is (value_of f p) row.denominator positive)
 
 -- the bound parameters keep their values under one more
 pub bound-more : (p : List ℤ) (q : ℤ) (bs : List Bound) → AreBound p bs → AreBound (p ++ q ∷ []) bs

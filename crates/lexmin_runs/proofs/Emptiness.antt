@@ -18,7 +18,7 @@ use Rattle.affine_forms.specs.Parts.{variables_of}
 use Rattle.integer_sets.specs.Constraints.{Constraints, variables_in, IsSized}
 use Rattle.tableau_rows.specs.Problem.{problem_of, row_values, IsPoint, Speaks}
 use Rattle.tableau_rows.specs.Run.{point, none, Outcome, question}
-use Rattle.tableau_rows.proofs.Standing.{not_negative-parts}
+use Rattle.tableau_rows.proofs.Points.{not_negative-parts}
 use Rattle.tableau_rows.proofs.Answering.{question-right}
 use Rattle.lexmin_runs.specs.Nodes.{opposites_run}
 use Rattle.lexmin_runs.specs.Emptiness.{negated_run, equality_rows_run, bound_rows, posed_run, emptied, empty_run}

@@ -4,7 +4,7 @@ use Rattle.std.proofs.Common.{Some, None, List, [], ◌∷◌, ◌++◌, length,
 use Rattle.std.proofs.Common.{arith, length-append, add-one}
 use Rattle.std.specs.Prelude.{Ok, if◌then◌else◌}
 use Rattle.std.proofs.lemmas.Int.{ints}
-use Rattle.std.proofs.lemmas.List.{length-take-le, length-map, length-drop}
+use Rattle.std.proofs.lemmas.List.{length-map, length-drop}
 use Rattle.whole_numbers.specs.Lists.{NotNegative}
 use Rattle.whole_numbers.proofs.Lists.{not_negative-append}
 use Rattle.whole_numbers.specs.Affine.{Affine, value_of}
@@ -16,30 +16,27 @@ use Rattle.whole_numbers.proofs.Dot.{dot-past}
 use Rattle.tableau_rows.specs.Rows.{Row, Sized}
 use Rattle.tableau_rows.specs.Moves.{row_at, pivot_run, cut_run}
 use Rattle.tableau_rows.specs.Problem.{IsPoint, problem_of, row_values, Speaks}
-use Rattle.tableau_rows.specs.Run.{some_positive}
 use Rattle.tableau_rows.specs.Solutions.{IsTableau, IsTied, IsPlaced, HaveSameSolutions, tie}
-use Rattle.tableau_rows.proofs.Points.{sized_take, sized_at}
-use Rattle.tableau_rows.proofs.Standing.{not_negative-parts}
+use Rattle.tableau_rows.proofs.Points.{sized_take, sized_at, not_negative-parts}
 use Rattle.tableau_rows.proofs.Keeping.{pivot_run_keeps, cut_keeps_tableau, cut_keeps_solutions, cut_back}
 use Rattle.tableau_rows.proofs.Beginning.{first_tableau, first_solutions}
-use Rattle.tableau_rows.proofs.Cutting.{cut_constant}
-use Rattle.lexmin_runs.specs.Nodes.{Node, Next, Bound, ends, goes, binds, splits, Counted, chained, formed, longer_form}
-use Rattle.lexmin_runs.specs.Nodes.{longer_row, part_of, all_zero, place_of, is_bound_as, opposite_run, under_run}
-use Rattle.lexmin_runs.specs.Nodes.{at_least_run, context_holds, below_somewhere, above_somewhere, broken_somewhere}
-use Rattle.lexmin_runs.specs.Nodes.{first_asked, leaf_tree, side, split, with_rows, pivot, taken_off, bound_node}
-use Rattle.lexmin_runs.specs.Nodes.{cut_bound, cut, cut_or_leaf, pivot_or_empty, treated, looked, step, followed}
+use Rattle.lexmin_runs.specs.Nodes.{Node, Next, Bound, ends, goes, binds, splits, chained, longer_form}
+use Rattle.lexmin_runs.specs.Nodes.{longer_row, part_of, place_of, is_bound_as, opposite_run, under_run}
+use Rattle.lexmin_runs.specs.Nodes.{at_least_run}
+use Rattle.lexmin_runs.specs.Nodes.{side, split, with_rows, pivot, taken_off, bound_node}
+use Rattle.lexmin_runs.specs.Nodes.{cut, step, followed}
 use Rattle.lexmin_runs.specs.Nodes.{tree_run, whole, first_node, lexmin_run}
 use Rattle.lexmin_runs.specs.Solutions.{IsInContext, IsNodeSolution, AreBound, ArePlaced, IsNode, LeadsOn}
 use Rattle.lexmin_runs.specs.Solutions.{KeepsSolutions}
 use Rattle.lexmin_runs.proofs.Speaking.{leaf_tree-speaks}
-use Rattle.lexmin_runs.proofs.Longer.{longer_forth, longer_back, longer_tableau, row_at-longer, value-constant}
+use Rattle.lexmin_runs.proofs.Longer.{longer_forth, longer_back, longer_tableau, row_at-longer}
 use Rattle.lexmin_runs.proofs.Longer.{values-longer, speaks-longer, speaks-append, row_values-append}
-use Rattle.lexmin_runs.proofs.Asking.{chained-ok, formed-ok, same_first, opposite-value, under-value, under-size}
+use Rattle.lexmin_runs.proofs.Asking.{chained-ok, same_first, opposite-value, under-value, under-size}
 use Rattle.lexmin_runs.proofs.Asking.{at_least-value, at_least-size}
-use Rattle.lexmin_runs.proofs.Cuts.{taken_off-value, taken_off_not_negative, taken_off_size, get_or-behind, get_or-last}
-use Rattle.lexmin_runs.proofs.Cuts.{place-says, bound-more, tied_new}
-use Rattle.lexmin_runs.proofs.Trees.{paid-ok, IsAsked, first_asked-says}
-use Rattle.quast_trees.specs.Tree.{Tree, initial, bind, branch}
+use Rattle.lexmin_runs.proofs.Cuts.{taken_off-value, taken_off_not_negative, taken_off_size, get_or-last}
+use Rattle.lexmin_runs.proofs.Cuts.{constant_floor, bound_floor, bound-more, tied_new}
+use Rattle.lexmin_runs.proofs.Cases.{split_by, pivot_by, CutCases, cut_by, step_by}
+use Rattle.quast_trees.specs.Tree.{Tree, bind, branch}
 use Rattle.quast_trees.specs.Tree.{Speaks as TreeSpeaks}
 
 -- one row more of the context
@@ -74,29 +71,31 @@ side_solutions n node f p x = (
   λ h. record { context = (in_side node f p).1 (h.0.context, h.1); solution = h.0.solution },
 )
 
-pub split_keeps : (n left : ℕ) (node : Node) (f : Affine) (next : Next) (l : ℕ) → IsNode n node
-    → length f.coefficients ≡ node.parameters
-    → split left node f ≡ Ok (next, l) → LeadsOn n node.parameters next × KeepsSolutions n node next
-split_keeps n left node f next l is size h =
-    let c = paid-ok left (λ (rest : ℕ). formed left (opposite_run f)
-    (λ g. Ok (splits f (side node f) (side node g), rest))) next l h in
-    let d = formed-ok left (opposite_run f) (λ (g : Affine). Ok (splits f (side node f) (side node g), c.0)) next l
-    c.1 in
-    let e = same_first (splits f (side node f) (side node d.0)) next c.0 l d.2 in
-    let g = d.0 in
-    subst (λ (k : Next). LeadsOn n node.parameters k × KeepsSolutions n node k) e (
-      (side_node n node f is size, side_node n node g is ((opposite-value f g [] d.1).1 ∙ size), refl, refl, size),
-      λ p x. (side_solutions n node f p x, below g d.1 p x),
-    )
+-- what a move leads to is nodes, and they keep the whole solutions
+abbrev pub Keeps : ℕ → Node → Next → Type 0
+Keeps n node next = LeadsOn n node.parameters next × KeepsSolutions n node next
+
+pub split_made : (n : ℕ) (node : Node) (f g : Affine) → IsNode n node → length f.coefficients ≡ node.parameters
+    → opposite_run f ≡ Ok g → Keeps n node (splits f (side node f) (side node g))
+split_made n node f g is size run = (
+  (side_node n node f is size, side_node n node g is ((opposite-value f g [] run).1 ∙ size), refl, refl, size),
+  λ p x. (side_solutions n node f p x, below p x),
+)
   where
-    below : (g : Affine) → opposite_run f ≡ Ok g → (p x : List ℤ)
+    below : (p x : List ℤ)
         → IsNodeSolution n (side node g) p x ↔ (IsNodeSolution n node p x × (value_of f p <ℤ pos 0))
-    below g run p x =
+    below p x =
         let o = (opposite-value f g p run).0 in
         let s = side_solutions n node g p x in (
           λ h. let both = s.0 h in let k = both.1 in (both.0, omega (arith, ints)),
           λ h. let k = h.1 in s.1 (h.0, omega (arith, ints)),
         )
+
+pub split_keeps : (n left : ℕ) (node : Node) (f : Affine) (next : Next) (l : ℕ) → IsNode n node
+    → length f.coefficients ≡ node.parameters
+    → split left node f ≡ Ok (next, l) → LeadsOn n node.parameters next × KeepsSolutions n node next
+split_keeps n left node f next l is size h =
+    split_by left node f next l (Keeps n node) (λ g run. split_made n node f g is size run) h
 
 -- other rows under the same context
 pub rows_node : (n : ℕ) (node : Node) (rows : List Row) → IsNode n node → IsTableau n node.parameters rows
@@ -122,19 +121,18 @@ rows_solutions n node rows p x same = (
       record { context = here; solution = (same here x).1 h.solution },
 )
 
+pub pivot_made : (n : ℕ) (node : Node) (r : ℕ) (rows : List Row) → IsNode n node → r < length node.rows
+    → pivot_run n node.rows r ≡ Ok rows → Keeps n node (goes (with_rows node rows))
+pivot_made n node r rows is within run =
+    let kept = pivot_run_keeps n node.parameters r node.rows rows is.tableau within run in (
+      (rows_node n node rows is kept.0, refl),
+      λ p x. rows_solutions n node rows p x (λ here. kept.1 p here.size),
+    )
+
 pub pivot_keeps : (n left : ℕ) (node : Node) (r : ℕ) (next : Next) (l : ℕ) → IsNode n node → r < length node.rows
     → pivot n left node r ≡ Ok (next, l) → LeadsOn n node.parameters next × KeepsSolutions n node next
 pivot_keeps n left node r next l is within h =
-    let c = paid-ok left (λ (rest : ℕ). formed left (pivot_run n node.rows r)
-    (λ rows. Ok (goes (with_rows node rows), rest))) next l h in
-    let d = formed-ok left (pivot_run n node.rows r) (λ (rows : List Row). Ok (goes (with_rows node rows), c.0)) next
-    l c.1 in
-    let e = same_first (goes (with_rows node d.0)) next c.0 l d.2 in
-    let kept = pivot_run_keeps n node.parameters r node.rows d.0 is.tableau within d.1 in
-    subst (λ (k : Next). LeadsOn n node.parameters k × KeepsSolutions n node k) e (
-      (rows_node n node d.0 is kept.0, refl),
-      λ p x. rows_solutions n node d.0 p x (λ here. kept.1 p here.size),
-    )
+    pivot_by n left node r next l (Keeps n node) (λ rows run. pivot_made n node r rows is within run) h
 
 -- a cut that needs no new parameter
 pub cut_old_keeps : (n : ℕ) (node : Node) (i : ℕ) (place : Option ℕ) (new : Row) → IsNode n node → i < n
@@ -142,13 +140,15 @@ pub cut_old_keeps : (n : ℕ) (node : Node) (i : ℕ) (place : Option ℕ) (new 
     → ((p : List ℤ) → IsInContext node p → (ys : List ℤ) → length ys ≡ n
     → IsFloor (value_of (taken_off n (row_at node.rows i)) p) (row_at node.rows i).denominator
     (tie place (ys ++ pos 1 ∷ p)))
-    → IsNode n (with_rows node (node.rows ++ new ∷ []))
-    × ((p x : List ℤ) → IsNodeSolution n node p x ↔ IsNodeSolution n (with_rows node (node.rows ++ new ∷ [])) p x)
+    → Keeps n node (goes (with_rows node (node.rows ++ new ∷ [])))
 cut_old_keeps n node i place new is below run placed floors =
     let row = row_at node.rows i in
     let within : i < length node.rows = let k = is.tableau.many in omega arith in (
-      rows_node n node (node.rows ++ new ∷ []) is
-          (cut_keeps_tableau n node.parameters i place node.rows new is.tableau within run),
+      (
+        rows_node n node (node.rows ++ new ∷ []) is
+            (cut_keeps_tableau n node.parameters i place node.rows new is.tableau within run),
+        refl,
+      ),
       λ p x. rows_solutions n node (node.rows ++ new ∷ []) p x
           (λ here. cut_keeps_solutions n node.parameters i place node.rows new is.tableau within placed run p here.size
           (λ ys size. subst (λ (z : ℤ). IsFloor z row.denominator (tie place (ys ++ pos 1 ∷ p)))
@@ -223,9 +223,7 @@ pub cut_new_keeps : (n : ℕ) (node : Node) (i : ℕ) (new : Row) (low high : Af
     → cut_run n (Some (n + 1 + node.parameters)) (longer_row (row_at node.rows i)) ≡ Ok new
     → at_least_run (row_at node.rows i).denominator (taken_off n (row_at node.rows i)) ≡ Ok low
     → under_run (row_at node.rows i).denominator (taken_off n (row_at node.rows i)) ≡ Ok high
-    → LeadsOn n node.parameters (binds (taken_off n (row_at node.rows i)) (row_at node.rows i).denominator
-    (bound_node n node (taken_off n (row_at node.rows i)) (row_at node.rows i).denominator new low high))
-    × KeepsSolutions n node (binds (taken_off n (row_at node.rows i)) (row_at node.rows i).denominator
+    → Keeps n node (binds (taken_off n (row_at node.rows i)) (row_at node.rows i).denominator
     (bound_node n node (taken_off n (row_at node.rows i)) (row_at node.rows i).denominator new low high))
 cut_new_keeps n node i new low high is below run at_least under = (
   (
@@ -363,171 +361,53 @@ cut_new_keeps n node i new low high is below run at_least under = (
               (tied p q size h.1) x).0 s;
         }
 
-pub gone_on : (n : ℕ) (node : Node) (new : Row)
-    → IsNode n (with_rows node (node.rows ++ new ∷ []))
-    × ((p x : List ℤ) → IsNodeSolution n node p x ↔ IsNodeSolution n (with_rows node (node.rows ++ new ∷ [])) p x)
-    → LeadsOn n node.parameters (goes (with_rows node (node.rows ++ new ∷ [])))
-    × KeepsSolutions n node (goes (with_rows node (node.rows ++ new ∷ [])))
-gone_on n node new h = ((h.0, refl), h.1)
+pub cut_made : (n : ℕ) (node : Node) (i : ℕ) → IsNode n node → i < n → CutCases n node i (Keeps n node)
+cut_made n node i is below =
+    record {
+      is_constant = λ none new run. cut_old_keeps n node i None new is below run tt
+          (λ p here ys size. constant_floor n (row_at node.rows i) p positive none);
+      is_bound = λ k found new run. cut_old_keeps n node i (Some (n + 1 + k)) new is below run
+          (let w = place_within (taken_off n (row_at node.rows i)) (row_at node.rows i).denominator node.parameters
+          node.bounds k is.placed found in omega arith)
+          (λ p here ys size. bound_floor n (row_at node.rows i) p node.bounds k positive (is.bound p here) found ys
+          size);
+      is_new = λ new low high run least under. cut_new_keeps n node i new low high is below run least under;
+    }
+  where
+    positive : pos 0 <ℤ (row_at node.rows i).denominator
+    positive = (sized_at (n + 1 + node.parameters) node.rows i (let k = is.tableau.many in omega arith)
+        is.tableau.sized).0
 
 pub cut_keeps : (n left : ℕ) (node : Node) (i : ℕ) (next : Next) (l : ℕ) → IsNode n node → i < n
     → cut n left node i ≡ Ok (next, l) → LeadsOn n node.parameters next × KeepsSolutions n node next
-cut_keeps n left node i next l is below h =
-    let c = paid-ok left (λ (rest : ℕ).
-    if all_zero (taken_off n (row_at node.rows i)).coefficients
-    then formed left (cut_run n None (row_at node.rows i))
-    (λ new. Ok (goes (with_rows node (node.rows ++ new ∷ [])), rest))
-    else cut_bound n left rest node i
-    (place_of (taken_off n (row_at node.rows i)) (row_at node.rows i).denominator node.bounds)) next l h in
-    by_form c.0 (all_zero (taken_off n (row_at node.rows i)).coefficients) refl c.1
-  where
-    known : (k : ℕ) → place_of (taken_off n (row_at node.rows i)) (row_at node.rows i).denominator node.bounds ≡ Some k
-        → n + 1 + k < n + 1 + node.parameters
-    known k e =
-        let w = place_within (taken_off n (row_at node.rows i)) (row_at node.rows i).denominator node.parameters
-        node.bounds k is.placed e in omega arith
+cut_keeps n left node i next l is below h = cut_by n left node i next l (Keeps n node) (cut_made n node i is below) h
 
-    row : Row
-    row = row_at node.rows i
-
-    at : (pos 0 <ℤ (row_at node.rows i).denominator) × (length (row_at node.rows i).entries ≡ n + 1 + node.parameters)
-    at = sized_at (n + 1 + node.parameters) node.rows i (let k = is.tableau.many in omega arith) is.tableau.sized
-
-    by_place : (rest : ℕ) (place : Option ℕ)
-        → place_of (taken_off n (row_at node.rows i)) (row_at node.rows i).denominator node.bounds ≡ place
-        → cut_bound n left rest node i place ≡ Ok (next, l)
-        → LeadsOn n node.parameters next × KeepsSolutions n node next
-    by_place rest (Some k) e h =
-        let d = formed-ok left (cut_run n (Some (n + 1 + k)) row)
-        (λ (new : Row). Ok (goes (with_rows node (node.rows ++ new ∷ [])), rest)) next l h in
-        let g = same_first (goes (with_rows node (node.rows ++ d.0 ∷ []))) next rest l d.2 in
-        subst (λ (k : Next). LeadsOn n node.parameters k × KeepsSolutions n node k) g
-        (gone_on n node d.0 (cut_old_keeps n node i (Some (n + 1 + k)) d.0 is below d.1 (known k e)
-        (λ p here ys size. let said = place-says p (taken_off n row) row.denominator node.bounds k (is.bound p here)
-        e in
-        subst (λ (z : ℤ). IsFloor (value_of (taken_off n row) p) row.denominator z)
-        (sym (subst (λ (j : ℕ). get_or (ys ++ pos 1 ∷ p) (j + 1 + k) (pos 0) ≡ get_or p k (pos 0)) size
-        (get_or-behind ys p k) ∙ said.1))
-        (floor_is (value_of (taken_off n row) p) row.denominator at.0))))
-    by_place rest None e h =
-        let f = taken_off n row in
-        let d = row.denominator in
-        let a = formed-ok left (cut_run n (Some (n + 1 + node.parameters)) (longer_row row)) (λ (new : Row).
-        formed left (at_least_run d f)
-        (λ low. formed left (under_run d f) (λ high. Ok (binds f d (bound_node n node f d new low high), rest))))
-        next l h in
-        let b = formed-ok left (at_least_run d f) (λ (low : Affine).
-        formed left (under_run d f) (λ high. Ok (binds f d (bound_node n node f d a.0 low high), rest))) next l
-        a.2 in
-        let c = formed-ok left (under_run d f)
-        (λ (high : Affine). Ok (binds f d (bound_node n node f d a.0 b.0 high), rest)) next l b.2 in
-        let g = same_first (binds f d (bound_node n node f d a.0 b.0 c.0)) next rest l c.2 in
-        subst (λ (k : Next). LeadsOn n node.parameters k × KeepsSolutions n node k) g
-        (cut_new_keeps n node i a.0 b.0 c.0 is below a.1 b.1 c.1)
-
-    by_form : (rest : ℕ) (b : Bool) → all_zero (taken_off n (row_at node.rows i)).coefficients ≡ b
-        → (if b then formed left (cut_run n None (row_at node.rows i))
-        (λ new. Ok (goes (with_rows node (node.rows ++ new ∷ [])), rest))
-        else cut_bound n left rest node i
-        (place_of (taken_off n (row_at node.rows i)) (row_at node.rows i).denominator node.bounds)) ≡ Ok (next, l)
-        → LeadsOn n node.parameters next × KeepsSolutions n node next
-    by_form rest true e h =
-        let d = formed-ok left (cut_run n None row)
-        (λ (new : Row). Ok (goes (with_rows node (node.rows ++ new ∷ [])), rest)) next l h in
-        let g = same_first (goes (with_rows node (node.rows ++ d.0 ∷ []))) next rest l d.2 in
-        subst (λ (k : Next). LeadsOn n node.parameters k × KeepsSolutions n node k) g
-        (gone_on n node d.0 (cut_old_keeps n node i None d.0 is below d.1 tt
-        (λ p here ys size. let v = value-constant (taken_off n row) p e in
-        let c = cut_constant n row.denominator row.entries at.0 in
-        let low = c.0 in
-        let high = c.1 in
-        let z = mul_zero_left row.denominator in
-        record { below = omega (arith, ints); above = omega (arith, ints) })))
-    by_form rest false e h = by_place rest (place_of (taken_off n row) row.denominator node.bounds) refl h
-
--- a node that ends
-pub ended : (n : ℕ) (node : Node) (tree : Tree) (next : Next) (k l : ℕ) → TreeSpeaks node.parameters tree
-    → ◌≡◌ {A = Counted Next} (Ok (ends tree, k)) (Ok (next, l))
-    → LeadsOn n node.parameters next × KeepsSolutions n node next
-ended n node tree next k l speaks h =
-    subst (λ (w : Next). LeadsOn n node.parameters w × KeepsSolutions n node w) (same_first (ends tree) next k l h)
-    (speaks, tt)
+-- a part has the node's parameters
+pub part_size : (n : ℕ) (node : Node) (r : ℕ) → IsNode n node → r < length node.rows
+    → length (part_of n (row_at node.rows r)).coefficients ≡ node.parameters
+part_size n node r is within =
+    let at = sized_at (n + 1 + node.parameters) node.rows r within is.tableau.sized in
+    let l = length-drop (n + 1) (row_at node.rows r).entries in
+    let e = at.1 in
+    omega arith
 
 -- a step
-pub treated_keeps : (n left : ℕ) (node : Node) (r : Option ℕ) (next : Next) (l : ℕ) → IsNode n node
-    → IsAsked (λ l row. below_somewhere l node (part_of n row)) 0 node.rows r → treated n left node r ≡ Ok (next, l)
-    → LeadsOn n node.parameters next × KeepsSolutions n node next
-treated_keeps n left node (Some r) next l is asked h =
-    let f = part_of n (row_at node.rows r) in
-    let c = chained-ok (above_somewhere left node f) (λ (yes : Bool) (rest : ℕ).
-    if yes then split rest node f else pivot_or_empty n rest node r) next l h in
-    let a = asked.1 in
-    let b = asked.2 in
-    let within : r < length node.rows = omega arith in
-    let at = sized_at (n + 1 + node.parameters) node.rows r within is.tableau.sized in
-    let size : length f.coefficients ≡ node.parameters =
-    let d = length-drop (n + 1) (row_at node.rows r).entries in let e = at.1 in omega arith in
-    by_answer within size c.0 c.1 c.3
-  where
-    by_entries : (k : ℕ) → r < length node.rows → (b : Bool)
-        → (if b then pivot n k node r else Ok (ends initial, k)) ≡ Ok (next, l)
-        → LeadsOn n node.parameters next × KeepsSolutions n node next
-    by_entries k within true h = pivot_keeps n k node r next l is within h
-    by_entries k within false h = ended n node initial next k l tt h
-
-    by_answer : r < length node.rows → length (part_of n (row_at node.rows r)).coefficients ≡ node.parameters
-        → (yes : Bool) (k : ℕ)
-        → (if yes then split k node (part_of n (row_at node.rows r)) else pivot_or_empty n k node r) ≡ Ok (next, l)
-        → LeadsOn n node.parameters next × KeepsSolutions n node next
-    by_answer within size true k h = split_keeps n k node (part_of n (row_at node.rows r)) next l is size h
-    by_answer within size false k h = by_entries k within (some_positive (row_at node.rows r) 0 n) h
-treated_keeps n left node None next l is asked h =
-    let test : ℕ → Row → Counted Bool = λ l row. broken_somewhere l node row.denominator (part_of n row) in
-    let us = take n node.rows in
-    let c = chained-ok (first_asked test left 0 us) (λ (i : Option ℕ) (rest : ℕ). cut_or_leaf n rest node i) next l
-    h in
-    by_row c.0 c.1 (first_asked-says test left 0 us c.0 c.1 c.2) c.3
-  where
-    by_row : (i : Option ℕ) (k : ℕ)
-        → IsAsked (λ l row. broken_somewhere l node row.denominator (part_of n row)) 0 (take n node.rows) i
-        → cut_or_leaf n k node i ≡ Ok (next, l) → LeadsOn n node.parameters next × KeepsSolutions n node next
-    by_row None k found h =
-        ended n node (leaf_tree n node.parameters 0 (take n node.rows) []) next k l
-        (leaf_tree-speaks n node.parameters 0 (n + 1 + node.parameters) (take n node.rows) [] tt
-        (sized_take n (n + 1 + node.parameters) node.rows is.tableau.sized) (omega arith) (omega arith)) h
-    by_row (Some i) k found h =
-        let a = found.1 in
-        let b = found.2 in
-        let count = length-take-le n node.rows is.tableau.many in
-        cut_keeps n k node i next l is (omega arith) h
-
-pub looked_keeps : (n left : ℕ) (node : Node) (next : Next) (l : ℕ) → IsNode n node → looked n left node ≡ Ok (next, l)
-    → LeadsOn n node.parameters next × KeepsSolutions n node next
-looked_keeps n left node next l is h =
-    let test : ℕ → Row → Counted Bool = λ l row. below_somewhere l node (part_of n row) in
-    let c = chained-ok (first_asked test left 0 node.rows) (λ (r : Option ℕ) (rest : ℕ). treated n rest node r) next l
-    h in
-    treated_keeps n c.1 node c.0 next l is (first_asked-says test left 0 node.rows c.0 c.1 c.2) c.3
-
 pub step_keeps : (n left : ℕ) (node : Node) (next : Next) (l : ℕ) → IsNode n node → step n left node ≡ Ok (next, l)
-    → LeadsOn n node.parameters next × KeepsSolutions n node next
-unfolding step
-step_keeps n left node next l is h = by_begin node.begins h
-  where
-    by_answer : (yes : Bool) (k : ℕ) → (if yes then looked n k node else Ok (ends initial, k)) ≡ Ok (next, l)
-        → LeadsOn n node.parameters next × KeepsSolutions n node next
-    by_answer true k h = looked_keeps n k node next l is h
-    by_answer false k h = ended n node initial next k l tt h
-
-    by_begin : (b : Bool) → (if b
-        then chained (context_holds left node.parameters node.context)
-        (λ yes rest. if yes then looked n rest node else Ok (ends initial, rest))
-        else looked n left node) ≡ Ok (next, l) → LeadsOn n node.parameters next × KeepsSolutions n node next
-    by_begin true h =
-        let c = chained-ok (context_holds left node.parameters node.context) (λ (yes : Bool) (rest : ℕ).
-        if yes then looked n rest node else Ok (ends initial, rest)) next l h in
-        by_answer c.0 c.1 c.3
-    by_begin false h = looked_keeps n left node next l is h
+    → Keeps n node next
+step_keeps n left node next l is h =
+    step_by n left node next l (Keeps n node) is.tableau.many (record {
+      is_empty = λ left k none. (tt, tt);
+      is_split = λ r within g run.
+          split_made n node (part_of n (row_at node.rows r)) g is (part_size n node r is within) run;
+      is_pivoted = λ r within rows run. pivot_made n node r rows is within run;
+      is_blocked = λ r left k within below none. (tt, tt);
+      is_cut = λ i below. cut_made n node i is below;
+      is_leaf = λ settled whole. (
+        leaf_tree-speaks n node.parameters 0 (n + 1 + node.parameters) (take n node.rows) [] tt
+            (sized_take n (n + 1 + node.parameters) node.rows is.tableau.sized) (omega arith) (omega arith),
+        tt,
+      );
+    }) h
 
 pub step_nodes : (n left : ℕ) (node : Node) (next : Next) (l : ℕ) → IsNode n node → step n left node ≡ Ok (next, l)
     → LeadsOn n node.parameters next

@@ -4,7 +4,8 @@ pub mod Asking
 pub mod Leaves
 pub mod Speaking
 pub mod Cuts
-pub mod Trees
+pub mod Cases
 pub mod Kept
+pub mod Trees
 pub mod Steps
 pub mod Emptiness

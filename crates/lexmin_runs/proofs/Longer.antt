@@ -2,9 +2,10 @@
 use Rattle.std.proofs.Common.{◌≡◌, ℕ, zero, suc, ◌+◌, ◌<◌, ◌≤◌, ℤ, pos, negsuc, ◌+ℤ◌, ◌-ℤ◌, ◌*ℤ◌, Bool, true, false}
 use Rattle.std.proofs.Common.{List, [], ◌∷◌, ◌++◌, length, get_or, map, drop, take, refl, subst, ap, ap₂, sym, ◌∙◌}
 use Rattle.std.proofs.Common.{arith, length-append, append_assoc, add-one}
-use Rattle.std.specs.Prelude.{if◌then◌else◌}
+use Rattle.std.specs.Prelude.{All, if◌then◌else◌}
 use Rattle.std.proofs.lemmas.Int.{ints}
 use Rattle.std.proofs.lemmas.List.{drop-map, take-map, length-map}
+use Rattle.std.proofs.lemmas.List.Elements.{All-cons, All-nil}
 use Rattle.whole_numbers.specs.Lexicographic.{LexNotNegative}
 use Rattle.whole_numbers.specs.Lists.{dot, zeros, NotNegative}
 use Rattle.whole_numbers.specs.Affine.{Affine, value_of}
@@ -286,6 +287,10 @@ speaks-longer m (f ∷ fs) h = (let e = h.0 in simp length-append (omega arith),
 pub speaks-append : (m : ℕ) (fs gs : List Affine) → Speaks m fs → Speaks m gs → Speaks m (fs ++ gs)
 speaks-append m [] gs h k = k
 speaks-append m (f ∷ fs) gs h k = (h.0, speaks-append m fs gs h.1 k)
+
+pub all_speak : (m : ℕ) (fs : List Affine) → Speaks m fs → All (λ f. length f.coefficients ≡ m) fs
+all_speak m [] h = All-nil (λ (f : Affine). length f.coefficients ≡ m)
+all_speak m (f ∷ fs) h = All-cons (λ (f : Affine). length f.coefficients ≡ m) f fs h.0 (all_speak m fs h.1)
 
 pub row_values-append : (fs gs : List Affine) (p : List ℤ)
     → row_values (fs ++ gs) p ≡ row_values fs p ++ row_values gs p

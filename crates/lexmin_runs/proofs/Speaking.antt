@@ -1,22 +1,17 @@
 -- The tree of a leaf speaks of the parameters.
-use Rattle.std.proofs.Common.{◌≡◌, ℕ, suc, ◌+◌, ◌<◌, pos, Bool, true, false, All, List, [], ◌∷◌, ◌++◌, length, map}
+use Rattle.std.proofs.Common.{◌≡◌, ℕ, suc, ◌+◌, ◌<◌, pos, Bool, true, false, List, [], ◌∷◌, ◌++◌, length, map}
 use Rattle.std.proofs.Common.{drop, refl, subst, sym, arith, length-append, add-one}
 use Rattle.std.specs.Prelude.{if◌then◌else◌}
 use Rattle.std.proofs.lemmas.Int.{ints}
 use Rattle.std.proofs.lemmas.List.{length-map, length-drop}
-use Rattle.std.proofs.lemmas.List.Elements.{All-cons, All-nil}
 use Rattle.whole_numbers.specs.Lists.{zeros}
 use Rattle.whole_numbers.specs.Affine.{Affine, form_of}
 use Rattle.whole_numbers.proofs.Dot.{length-zeros}
 use Rattle.tableau_rows.specs.Rows.{Row, entry, Sized}
 use Rattle.tableau_rows.specs.Problem.{Speaks}
 use Rattle.lexmin_runs.specs.Nodes.{longer_form, part_of, all_divided, divided, padded, leaf_tree}
-use Rattle.lexmin_runs.proofs.Longer.{speaks-longer, speaks-append}
+use Rattle.lexmin_runs.proofs.Longer.{speaks-longer, speaks-append, all_speak}
 use Rattle.quast_trees.specs.Tree.{bind, Speaks as TreeSpeaks}
-
-pub all_speak : (m : ℕ) (fs : List Affine) → Speaks m fs → All (λ f. length f.coefficients ≡ m) fs
-all_speak m [] h = All-nil (λ (f : Affine). length f.coefficients ≡ m)
-all_speak m (f ∷ fs) h = All-cons (λ (f : Affine). length f.coefficients ≡ m) f fs h.0 (all_speak m fs h.1)
 
 pub padded_size : (k : ℕ) (f : Affine) → length (padded k f).coefficients ≡ length f.coefficients + k
 padded_size k f = let z = length-zeros k in simp length-append (omega arith)

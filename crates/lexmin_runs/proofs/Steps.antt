@@ -303,45 +303,18 @@ whole_step n left m = by_step (step n left m) (costs_step n left m)
             ap (λ (r : Counted Tree). chained r (λ u end. Ok (branch f t u, end)))
             (agree n left (suc rest) rest b (omega arith) (omega arith))
 
--- A loop with a stack of frames keeps `resumed n frames (whole n left node)`: one law for each thing that a step says.
-pub resumed_ends : (n left : ℕ) (m : Node) (frames : List Frame) (tree : Tree) (k : ℕ)
-    → step n left m ≡ Ok (node.ends tree, k)
-    → resumed n frames (whole n left m) ≡ resumed n frames (Ok (tree, k))
-resumed_ends n left m frames tree k h =
-    ap (λ (r : Counted Tree). resumed n frames r)
-    (whole_step n left m ∙ ap (λ (r : Counted Next). chained r
-    (λ next rest. followed (λ l q. whole n l q) next rest)) h)
-
-pub resumed_goes : (n left : ℕ) (m q : Node) (frames : List Frame) (k : ℕ) → step n left m ≡ Ok (node.goes q, k)
-    → resumed n frames (whole n left m) ≡ resumed n frames (whole n k q)
-resumed_goes n left m q frames k h =
-    ap (λ (r : Counted Tree). resumed n frames r)
-    (whole_step n left m ∙ ap (λ (r : Counted Next). chained r
-    (λ next rest. followed (λ l q. whole n l q) next rest)) h)
-
-pub resumed_binds : (n left : ℕ) (m q : Node) (frames : List Frame) (f : Affine) (d : ℤ) (k : ℕ)
-    → step n left m ≡ Ok (node.binds f d q, k)
-    → resumed n frames (whole n left m) ≡ resumed n (node.binding f d ∷ frames) (whole n k q)
-resumed_binds n left m q frames f d k h =
-    ap (λ (r : Counted Tree). resumed n frames r)
-    (whole_step n left m ∙ ap (λ (r : Counted Next). chained r
-    (λ next rest. followed (λ l q. whole n l q) next rest)) h)
-
-pub resumed_splits : (n left : ℕ) (m a b : Node) (frames : List Frame) (f : Affine) (k : ℕ)
-    → step n left m ≡ Ok (node.splits f a b, k)
-    → resumed n frames (whole n left m) ≡ resumed n (node.second f b ∷ frames) (whole n k a)
-resumed_splits n left m a b frames f k h =
-    ap (λ (r : Counted Tree). resumed n frames r)
-    (whole_step n left m ∙ ap (λ (r : Counted Next). chained r
+-- a loop with a stack of frames keeps `resumed n frames (whole n left node)`
+pub resumed_step : (n left : ℕ) (m : Node) (frames : List Frame) (r : Counted Next) → step n left m ≡ r
+    → resumed n frames (whole n left m)
+    ≡ resumed n frames (chained r (λ next rest. followed (λ l q. whole n l q) next rest))
+resumed_step n left m frames r h =
+    ap (λ (t : Counted Tree). resumed n frames t)
+    (whole_step n left m ∙ ap (λ (q : Counted Next). chained q
     (λ next rest. followed (λ l q. whole n l q) next rest)) h)
 
 pub resumed_stops : (n left : ℕ) (m : Node) (frames : List Frame) (stop : Stop) → step n left m ≡ Err stop
     → resumed n frames (whole n left m) ≡ Err stop
-resumed_stops n left m frames stop h =
-    ap (λ (r : Counted Tree). resumed n frames r)
-    (whole_step n left m ∙ ap (λ (r : Counted Next). chained r
-    (λ next rest. followed (λ l q. whole n l q) next rest)) h)
-    ∙ through frames
+resumed_stops n left m frames stop h = resumed_step n left m frames (Err stop) h ∙ through frames
   where
     through : (frames : List Frame) → resumed n frames (Err stop) ≡ Err stop
     through [] = refl

@@ -1,3 +1,4 @@
+-- What a leaf of a run's tree says of its problem.
 use Rattle.std.specs.Prelude.{ℤ, List}
 use Rattle.tableau_rows.specs.Problem.{Problem, IsLexmin, IsEmpty}
 use Rattle.quast_trees.specs.Leaf.{Leaf, initial, found}

@@ -1,3 +1,4 @@
+-- The question whether a system has a whole point within bounds.
 use Rattle.std.specs.Prelude.{◌≡◌, ℕ, zero, suc, ℤ, pos, negsuc, ◌≤ℤ◌, Bool, true, false, List, [], ◌∷◌, ◌++◌, length}
 use Rattle.std.specs.Prelude.{set, Result, Ok, Err, All}
 use Rattle.whole_numbers.specs.Lists.{zeros, NotNegative}

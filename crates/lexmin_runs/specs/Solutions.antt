@@ -1,3 +1,4 @@
+-- The whole solutions of a node, which the steps of a run keep, and what makes a node one.
 use Rattle.std.specs.Prelude.{◌≡◌, ◌↔◌, ℕ, suc, ◌<◌, ◌≤◌, ℤ, pos, ◌≤ℤ◌, ◌<ℤ◌, List, [], ◌∷◌, ◌++◌, length, get_or, ⊤}
 use Rattle.whole_numbers.specs.Lists.{NotNegative}
 use Rattle.whole_numbers.specs.Affine.{value_of}

@@ -9,8 +9,7 @@ use Rattle.tableau_rows.specs.Run as run
 use Rattle.lexmin_runs.specs.Nodes.{Node, Next, Counted, resumed, whole, step}
 use Rattle.lexmin_runs.specs.Nodes as node
 use Rattle.lexmin_runs.proofs.Kept.{step_nodes}
-use Rattle.lexmin_runs.proofs.Steps.{Costs, costs_step, resumed_ends, resumed_goes, resumed_binds, resumed_splits}
-use Rattle.lexmin_runs.proofs.Steps.{resumed_stops}
+use Rattle.lexmin_runs.proofs.Steps.{Costs, costs_step, resumed_step, resumed_stops}
 use Rattle.tableau_nodes.specs.declared.node.Tableau.{Tableau}
 use Rattle.tableau_nodes.specs.declared.node.Move.TheVariants as move
 use Rattle.tableau_nodes.specs.Node.{node_of, next_of, AreGoing}
@@ -36,7 +35,8 @@ stops_under n left k old trees m stop.NoMemory told = tt
 pub ends_under : (n left k : ℕ) (old : List frame.the_data) (trees : List Tree) (m : Node) (tree : Tree)
     → step n left m ≡ Ok (node.ends tree, k)
     → under n old trees (whole n left m) ≡ under n old trees (Ok (tree, k))
-ends_under n left k old trees m tree h = resumed_ends n left m (framing (reverse old) trees) tree k h
+ends_under n left k old trees m tree h =
+    resumed_step n left m (framing (reverse old) trees) (Ok (node.ends tree, k)) h
 
 pub initial_ends : (n left k : ℕ) (old : List frame.the_data) (trees news : List Tree) (m : Node) (next : Tableau)
     → AreReady n (reverse old) → length trees ≡ joins (reverse old)
@@ -63,7 +63,7 @@ goes_under n left k old new trees m next move.Goes ready sides stands h going is
     let less : k + k + seconds (reverse old) < left + left + seconds (reverse old) = omega arith in
     subst (λ (fs : List frame.the_data). Proceeds n (under n old trees (whole n left (node_of m))) left old fs trees k
     next (Ok progress.Goes)) (sym e) (
-      resumed_goes n left (node_of m) (node_of next) (framing (reverse old) trees) k h,
+      resumed_step n left (node_of m) (framing (reverse old) trees) (Ok (node.goes (node_of next), k)) h,
       stands,
       less,
       sides,
@@ -75,7 +75,8 @@ goes_under n left k old new trees m next (move.Binds form divisor) ready sides s
     let leads = step_nodes n left (node_of m) (node.binds form divisor (node_of next)) k ready.0 h in
     let s = ap (λ (fs : List frame.the_data). seconds fs) e in
     let less : k + k + seconds (reverse new) < left + left + seconds (reverse old) = omega arith in (
-      resumed_binds n left (node_of m) (node_of next) (framing (reverse old) trees) form divisor k h
+      resumed_step n left (node_of m) (framing (reverse old) trees)
+          (Ok (node.binds form divisor (node_of next), k)) h
           ∙ sym (ap (λ (fs : List frame.the_data). resumed n (framing fs trees) (whole n k (node_of next))) e),
       stands ∙ sym (ap (λ (fs : List frame.the_data). joins fs) e),
       less,
@@ -88,7 +89,8 @@ goes_under n left k old new trees m next (move.Splits test second) ready sides s
     let leads = step_nodes n left (node_of m) (node.splits test (node_of next) (node_of second)) k ready.0 h in
     let s = ap (λ (fs : List frame.the_data). seconds fs) e in
     let less : k + k + seconds (reverse new) < left + left + seconds (reverse old) = omega arith in (
-      resumed_splits n left (node_of m) (node_of next) (node_of second) (framing (reverse old) trees) test k h
+      resumed_step n left (node_of m) (framing (reverse old) trees)
+          (Ok (node.splits test (node_of next) (node_of second), k)) h
           ∙ sym (ap (λ (fs : List frame.the_data). resumed n (framing fs trees) (whole n k (node_of next))) e),
       stands ∙ sym (ap (λ (fs : List frame.the_data). joins fs) e),
       less,

@@ -1,6 +1,6 @@
 -- A decision of emptiness is the run's.
-use Rattle.std.proofs.Common.{◌≡◌, ℕ, zero, suc, Bool, not, List, [], ◌∷◌, ◌++◌, length, refl, subst, ap, sym, ◌∙◌}
-use Rattle.std.proofs.Common.{arith, append_assoc, inl}
+use Rattle.std.proofs.Common.{◌≡◌, ℕ, Bool, not, List, [], ◌∷◌, ◌++◌, length, refl, subst, ap, sym, ◌∙◌}
+use Rattle.std.proofs.Common.{append_assoc, inl}
 use Rattle.std.specs.Prelude.{Result, Ok, Err, All}
 use Rattle.wide_math.specs.declared.Wide.{Wide}
 use Rattle.wide_math.specs.Checked.{◌>>=◌}
@@ -15,6 +15,7 @@ use Rattle.tableau_rows.specs.Run.{point, none, wide, Outcome, question, run}
 use Rattle.lexmin_runs.specs.Nodes.{Counted, formed, answered}
 use Rattle.lexmin_runs.specs.Emptiness.{equality_rows_run, bound_rows, posed_run, emptied, empty_run}
 use Rattle.lexmin_runs.proofs.Emptiness.{posed_points}
+use Rattle.lexmin_runs.proofs.Longer.{all_speak}
 use Rattle.checked_tableau.specs.declared.problem.Problem.{Problem}
 use Rattle.pip_solver.specs.declared.stop.Stop.TheVariants as solver
 use Rattle.pip_solver.specs.Answers.{Poses, Decides, Empties, IsPosed, decided}
@@ -62,10 +63,12 @@ pose-ends s old mid late new es (Ok x) formed first second poses =
 pose-ends s old mid late new es (Err (form_stop.Wide w)) formed first second poses = cc
 pose-ends s old mid late new es (Err form_stop.NoMemory) formed first second poses = tt
 
-pub all_speak : (n : ℕ) (fs : List Affine) → Speaks n fs → All (λ f. length f.coefficients ≡ n) fs
-all_speak n [] speaks k d low = absurd (omega arith)
-all_speak n (f ∷ fs) speaks zero d low = speaks.0
-all_speak n (f ∷ fs) speaks (suc k) d low = all_speak n fs speaks.1 k d (omega arith)
+-- forms in the code's slice, and their number of variables in the code's number
+pub speaks_at : (m k : ℕ) (fs gs : List Affine) → Speaks m fs → gs ≡ fs → k ≡ m
+    → All (λ f. length f.coefficients ≡ k) gs
+speaks_at m k fs gs speaks is same =
+    subst (λ (hs : List Affine). All (λ f. length f.coefficients ≡ k) hs) (sym is)
+    (subst (λ (n : ℕ). All (λ f. length f.coefficients ≡ n) fs) (sym same) (all_speak m fs speaks))
 
 pub posed_sized : (s : Constraints) (rows : List Affine) → IsSized (variables_in s) s.equalities s.rows
     → posed_run s ≡ Ok rows → All (λ f. length f.coefficients ≡ variables_in s) rows

@@ -5,7 +5,7 @@ use Rattle.whole_numbers.specs.Affine.{form_of}
 use Rattle.tableau_rows.specs.Rows.{Row}
 use Rattle.tableau_rows.specs.Moves.{line_row}
 use Rattle.lexmin_runs.specs.Nodes.{divided, part_of}
-use Rattle.checked_tableau.proofs.Looking.{entry_at}
+use Rattle.tableau_rows.proofs.Lines.{entry_at}
 
 -- a row's part over its denominator
 pub divided-line : (n : ℕ) (line : List ℤ) (row : Row) → line_row line ≡ row

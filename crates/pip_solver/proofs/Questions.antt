@@ -12,7 +12,7 @@ use Rattle.tableau_rows.specs.Run.{question, run}
 use Rattle.lexmin_runs.specs.Nodes.{Counted, chained, answered, ask, opposite_run, above_run, first_asked}
 use Rattle.lexmin_runs.specs.Solutions.{IsNode}
 use Rattle.lexmin_runs.proofs.Asking.{opposite-value, above-value}
-use Rattle.tableau_nodes.proofs.Read_off.{size_of_part}
+use Rattle.lexmin_runs.proofs.Kept.{part_size}
 use Rattle.tableau_nodes.specs.declared.node.Tableau.{Tableau}
 use Rattle.tableau_nodes.specs.Node.{node_of}
 use Rattle.pip_solver.specs.declared.question.QuestionStop.{QuestionStop}
@@ -36,7 +36,7 @@ above-size d f g h = (above-value d f g (zeros (length f.coefficients)) (pos 0)
     (sym (length-zeros (length f.coefficients))) h).1
 
 pub asks_of : (t : Tableau) (row : ℕ) → IsNode t.rows.unknowns (node_of t) → row < length t.rows.rows → AsksOf t row
-asks_of t row is within = (within, is.speaks, size_of_part t row is within)
+asks_of t row is within = (within, is.speaks, part_size t.rows.unknowns (node_of t) row is within)
 
 -- the first row of which the answer is yes
 pub asked-yes : (test : ℕ → Row → Counted Bool) (left i rest : ℕ) (rows : List Row) → i < length rows

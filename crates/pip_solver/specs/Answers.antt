@@ -1,3 +1,4 @@
+-- When an answer of the solver is its run's, and what a stop tells.
 use Rattle.std.specs.Prelude.{◌≡◌, ℕ, suc, ◌+◌, ◌⊎◌, ◌<◌, length, Bool, List, [], ◌∷◌, ◌++◌, None, Result, Ok, Err, ⊤}
 use Rattle.wide_math.specs.declared.Wide.{Wide}
 use Rattle.wide_math.specs.Checked.{◌>>=◌}

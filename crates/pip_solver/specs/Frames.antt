@@ -1,3 +1,4 @@
+-- The stack of a run with parameters: what waits while a node is run, and what stays of it behind each step.
 use Rattle.std.specs.Prelude.{◌≡◌, ℕ, suc, ◌+◌, ◌<◌, List, [], ◌∷◌, length, drop, reverse, Option, Some, None, Result}
 use Rattle.std.specs.Prelude.{Ok, Err, ⊤}
 use Rattle.quast_trees.specs.Tree.{Tree, initial}
@@ -24,13 +25,14 @@ framing (frame.Joining test ∷ frames) (first ∷ trees) = joining test first �
 abbrev pub under : ℕ → List frame.the_data → List Tree → Counted Tree → Counted Tree
 under n frames trees run = resumed n (framing (reverse frames) trees) run
 
--- how many of the frames have a first side, and how many wait for their first
+-- how many of the frames have a first side
 abbrev pub joins : List frame.the_data → ℕ
 joins [] = 0
 joins (frame.Joining test ∷ frames) = suc (joins frames)
 joins (frame.Binding form divisor ∷ frames) = joins frames
 joins (frame.Second test node ∷ frames) = joins frames
 
+-- how many of the frames wait for their first side
 abbrev pub seconds : List frame.the_data → ℕ
 seconds [] = 0
 seconds (frame.Second test node ∷ frames) = suc (seconds frames)

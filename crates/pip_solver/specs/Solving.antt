@@ -1,3 +1,4 @@
+-- When the quast of a problem is its run's, and what a stop tells.
 use Rattle.std.specs.Prelude.{◌≡◌, ℕ, ◌+◌, length, All, Result, Ok, Err, ⊤}
 use Rattle.wide_math.specs.declared.Wide.{Wide}
 use Rattle.tableau_rows.specs.Problem.{problem_of}

@@ -1,3 +1,4 @@
+-- When a step of a node is its run's.
 use Rattle.std.specs.Prelude.{◌≡◌, ℕ, take, [], Result, Ok, Err}
 use Rattle.quast_trees.specs.Tree.{initial}
 use Rattle.lexmin_runs.specs.Nodes.{Next, ends, Counted, leaf_tree}

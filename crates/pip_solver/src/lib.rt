@@ -13,8 +13,6 @@ mod question;
 mod run;
 mod step;
 mod stop;
-#[cfg(test)]
-mod tests;
 
 pub use emptiness::is_empty;
 pub use minimum::{Solution, lexmin, solve};

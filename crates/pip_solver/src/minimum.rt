@@ -1,6 +1,5 @@
-//! The parametric lexicographic minimum: for each parameters of the context the least whole point x >= 0 of the rows,
-//! or
-//! that there is none, as a quast.
+//! The parametric lexicographic minimum as a quast: for all parameters of the context the least whole point x >= 0 of
+//! the rows, or that there is none.
 ghost use Rattle.std.specs.Prelude.{◌≡◌, ◌+◌, ℤ, List, length, All, IfOk};
 ghost use Rattle.whole_numbers.specs.Lists.{NotNegative};
 ghost use Rattle.affine_forms.specs.Parts.{variables_of};

@@ -1,5 +1,5 @@
 //! Reads problems on standard input, leaves their answers out of account, and prints them again with the solver's own:
-//! a file whose answers are right comes out as it went in.
+//! a file whose answers are right comes out as it went in. In the stored input the answers `spent` are wrong.
 //!
 //! A case is `problem UNKNOWNS PARAMETERS BUDGET`, lines `row A .. B .. CONSTANT`, lines `context B .. CONSTANT`, and
 //! `answer quast MOVES Q`, `answer spent MOVES` or `answer wide MOVES`. Q is `none`, `(leaf F ..)`, `(if F Q Q)` or

@@ -11,16 +11,10 @@ use Rattle.whole_numbers.specs.Affine.{form_of}
 use Rattle.whole_numbers.proofs.Ring.{mul_sub_left, mul_neg_right, mul_one_right}
 use Rattle.whole_numbers.proofs.Euclid.{euclid_unique}
 use Rattle.whole_numbers.proofs.Remainders.{remainder_is}
-use Rattle.tableau_rows.specs.Rows.{Row, Sized}
-use Rattle.tableau_rows.specs.Moves.{line_row, row_at, cut_entries}
-use Rattle.whole_numbers.specs.Lists.{zeros}
-use Rattle.whole_numbers.proofs.Dot.{length-zeros}
-use Rattle.lexmin_runs.specs.Solutions.{IsNode}
-use Rattle.lexmin_runs.proofs.Trees.{part_size}
-use Rattle.tableau_nodes.specs.declared.node.Tableau.{Tableau}
-use Rattle.tableau_nodes.specs.Node.{node_of}
-use Rattle.lexmin_runs.specs.Nodes.{all_zero, same_list, part_of, taken_off}
-use Rattle.checked_tableau.proofs.Looking.{entry_at}
+use Rattle.tableau_rows.specs.Rows.{Row}
+use Rattle.tableau_rows.specs.Moves.{line_row, cut_entries}
+use Rattle.lexmin_runs.specs.Nodes.{all_zero, same_list, taken_off}
+use Rattle.tableau_rows.proofs.Lines.{entry_at}
 
 -- the remainder of an opposite
 pub opposite-zero : (a d : ℤ) → pos 0 <ℤ d → remainder a d ≡ pos 0 → remainder (neg_ℤ a) d ≡ pos 0
@@ -119,12 +113,3 @@ pub same-else : (xs ys : List ℤ) (k : ℕ) → (length xs ≤ k) ⊎ (length y
     → same_list (drop k xs) (drop k ys) ≡ same_list xs ys
     → all_zero (drop k xs) ≡ false → false ≡ same_list xs ys
 same-else xs ys k short kept some = rw some at (same-behind xs ys k short kept)
-
--- a part has the node's parameters
-pub size_of_part : (t : Tableau) (row : ℕ) → IsNode t.rows.unknowns (node_of t) → row < length t.rows.rows
-    → length (part_of t.rows.unknowns (row_at t.rows.rows row)).coefficients ≡ t.rows.parameters
-size_of_part t row is within =
-    let m = t.rows.parameters in
-    let l = length-zeros m in
-    part_size t.rows.unknowns t.rows.rows (zeros m) row
-    (subst (λ (k : ℕ). Sized (t.rows.unknowns + 1 + k) t.rows.rows) (sym l) is.tableau.sized) within ∙ l

@@ -1,3 +1,4 @@
+-- A node as the code holds it, and when a move on it is its run's.
 use Rattle.std.specs.Prelude.{◌≡◌, ℕ, suc, ◌+◌, ℤ, Bool, false, List, [], ◌∷◌, ◌++◌, map, Option, Some, None, Result}
 use Rattle.std.specs.Prelude.{Ok, Err, ⊤}
 use Rattle.wide_math.specs.Checked.{◌>>=◌}
@@ -41,6 +42,7 @@ next_of (move.Splits test second) new = splits test (node_of new) (node_of secon
 abbrev pub IsGoing : ℕ → Tableau → Type 0
 IsGoing n t = (t.rows.unknowns ≡ n) × (t.rows.stopped ≡ None)
 
+-- each node that a move leads to is such a one
 abbrev pub AreGoing : ℕ → move.the_data → Tableau → Type 0
 AreGoing n move.Goes new = IsGoing n new
 AreGoing n (move.Binds form divisor) new = IsGoing n new

@@ -1,17 +1,19 @@
 -- The column that a pivot takes is the least among those with a positive entry in the pivot row.
 use Rattle.std.proofs.Common.{◌≡◌, ◌≢◌, ℕ, zero, suc, ◌+◌, ◌<◌, ℤ, pos, negsuc, ◌+ℤ◌, ◌-ℤ◌, ◌*ℤ◌, ◌≤ℤ◌, ◌<ℤ◌, inl, inr}
-use Rattle.std.proofs.Common.{Bool, true, false, Option, Some, None, List, [], ◌∷◌, refl, subst, ap, sym, ◌∙◌, arith}
+use Rattle.std.proofs.Common.{Bool, true, false, Option, Some, None, List, [], ◌∷◌, take, refl, subst, ap, sym, ◌∙◌}
+use Rattle.std.proofs.Common.{arith}
 use Rattle.std.specs.Prelude.{Ok, if◌then◌else◌}
 use Rattle.std.proofs.lemmas.Int.{ints}
 use mathlib.Core.Logic.{dite}
 use native.Mathlib.Decide.{ℕ_discrete}
 use Rattle.whole_numbers.specs.Lexicographic.{LexNotNegative}
-use Rattle.whole_numbers.proofs.Ring.{mul_comm_int, mul_zero_left, mul_sub_left, left_comm}
-use Rattle.whole_numbers.proofs.Order.{mul_positive, cancel_lt, cancel_eq}
+use Rattle.whole_numbers.proofs.Ring.{mul_comm_int, mul_zero_left, mul_zero_right, mul_sub_left, left_comm}
+use Rattle.whole_numbers.proofs.Order.{mul_positive, mul_not_negative, cancel_lt, cancel_eq}
 use Rattle.wide_math.specs.Checked.{product_of, ◌>>=◌}
 use Rattle.wide_math.proofs.Steps.{product_of-ok, chain-ok}
 use Rattle.tableau_rows.specs.Rows.{Row, entry}
 use Rattle.tableau_rows.specs.Moves.{is_below, is_positive, precedes_run, challenged_run, better_run, column_run}
+use Rattle.tableau_rows.specs.Moves.{row_at, rows_run, pivot_in, pivot_run}
 use Rattle.tableau_rows.proofs.Invariant.{compared}
 
 pub below_true : (z : ℤ) → is_below z ≡ true → z <ℤ pos 0
@@ -61,40 +63,50 @@ pub leads-trans : (s j i : ℕ) (pivot : Row) (rows : List Row) → pos 0 <ℤ e
     → pos 0 <ℤ entry pivot i
     → Leads s j pivot rows → Leads j i pivot rows → Leads s i pivot rows
 leads-trans s j i pivot [] ps pj pi us ui = tt
-leads-trans s j i pivot (row ∷ rows) ps pj pi (inl l) (inl m) =
-    let t = triangle (entry row i) (entry row j) (entry row s) (entry pivot i) (entry pivot j) (entry pivot s) in
-    let a = mul_positive (entry pivot i) ((entry row j *ℤ entry pivot s) -ℤ (entry row s *ℤ entry pivot j)) pi l in
-    let b = mul_positive (entry pivot s) ((entry row i *ℤ entry pivot j) -ℤ (entry row j *ℤ entry pivot i)) ps m in
-    inl (unscaled (entry pivot j) ((entry row i *ℤ entry pivot s) -ℤ (entry row s *ℤ entry pivot i)) pj
-    (omega (arith, ints)))
-leads-trans s j i pivot (row ∷ rows) ps pj pi (inr h) (inl m) =
-    let t = triangle (entry row i) (entry row j) (entry row s) (entry pivot i) (entry pivot j) (entry pivot s) in
-    let a = ap (λ (z : ℤ). z *ℤ entry pivot i) h.0 in
-    let z = mul_zero_left (entry pivot i) in
-    let c = mul_comm_int (entry pivot i) ((entry row j *ℤ entry pivot s) -ℤ (entry row s *ℤ entry pivot j)) in
-    let b = mul_positive (entry pivot s) ((entry row i *ℤ entry pivot j) -ℤ (entry row j *ℤ entry pivot i)) ps m in
-    inl (unscaled (entry pivot j) ((entry row i *ℤ entry pivot s) -ℤ (entry row s *ℤ entry pivot i)) pj
-    (omega (arith, ints)))
-leads-trans s j i pivot (row ∷ rows) ps pj pi (inl l) (inr m) =
-    let t = triangle (entry row i) (entry row j) (entry row s) (entry pivot i) (entry pivot j) (entry pivot s) in
-    let a = mul_positive (entry pivot i) ((entry row j *ℤ entry pivot s) -ℤ (entry row s *ℤ entry pivot j)) pi l in
-    let b = ap (λ (z : ℤ). z *ℤ entry pivot s) m.0 in
-    let z = mul_zero_left (entry pivot s) in
-    let c = mul_comm_int (entry pivot s) ((entry row i *ℤ entry pivot j) -ℤ (entry row j *ℤ entry pivot i)) in
-    inl (unscaled (entry pivot j) ((entry row i *ℤ entry pivot s) -ℤ (entry row s *ℤ entry pivot i)) pj
-    (omega (arith, ints)))
-leads-trans s j i pivot (row ∷ rows) ps pj pi (inr h) (inr m) =
-    let t = triangle (entry row i) (entry row j) (entry row s) (entry pivot i) (entry pivot j) (entry pivot s) in
-    let a = ap (λ (z : ℤ). z *ℤ entry pivot i) h.0 in
-    let b = ap (λ (z : ℤ). z *ℤ entry pivot s) m.0 in
-    let y = mul_zero_left (entry pivot i) in
-    let z = mul_zero_left (entry pivot s) in
-    let c = mul_comm_int (entry pivot i) ((entry row j *ℤ entry pivot s) -ℤ (entry row s *ℤ entry pivot j)) in
-    let d = mul_comm_int (entry pivot s) ((entry row i *ℤ entry pivot j) -ℤ (entry row j *ℤ entry pivot i)) in
-    let w = (entry row i *ℤ entry pivot s) -ℤ (entry row s *ℤ entry pivot i) in
-    let e = mul_comm_int (entry pivot j) w in
-    let f = mul_zero_left (entry pivot j) in
-    inr (cancel_eq w (pos 0) (entry pivot j) pj (omega (arith, ints)), leads-trans s j i pivot rows ps pj pi h.1 m.1)
+leads-trans s j i pivot (row ∷ rows) ps pj pi us ui =
+    by_signs us ui (λ h m. leads-trans s j i pivot rows ps pj pi h m)
+  where
+    u : ℤ
+    u = (entry row j *ℤ entry pivot s) -ℤ (entry row s *ℤ entry pivot j)
+
+    w : ℤ
+    w = (entry row i *ℤ entry pivot j) -ℤ (entry row j *ℤ entry pivot i)
+
+    z : ℤ
+    z = (entry row i *ℤ entry pivot s) -ℤ (entry row s *ℤ entry pivot i)
+
+    sum : entry pivot j *ℤ z ≡ (entry pivot s *ℤ w) +ℤ (entry pivot i *ℤ u)
+    sum = triangle (entry row i) (entry row j) (entry row s) (entry pivot i) (entry pivot j) (entry pivot s)
+
+    first : pos 0 <ℤ u → pos 0 ≤ℤ w → pos 0 <ℤ z
+    first l h =
+        let a = mul_positive (entry pivot i) u pi l in
+        let b = mul_not_negative (entry pivot s) w (omega (arith, ints)) h in
+        let t = sum in
+        unscaled (entry pivot j) z pj (omega (arith, ints))
+
+    second : pos 0 ≤ℤ u → pos 0 <ℤ w → pos 0 <ℤ z
+    second h l =
+        let a = mul_not_negative (entry pivot i) u (omega (arith, ints)) h in
+        let b = mul_positive (entry pivot s) w ps l in
+        let t = sum in
+        unscaled (entry pivot j) z pj (omega (arith, ints))
+
+    by_signs : Leads s j pivot (row ∷ rows) → Leads j i pivot (row ∷ rows)
+        → (Leads s j pivot rows → Leads j i pivot rows → Leads s i pivot rows) → Leads s i pivot (row ∷ rows)
+    by_signs (inl l) (inl m) more = inl (first l (omega (arith, ints)))
+    by_signs (inl l) (inr m) more = inl (first l (let e = m.0 in omega (arith, ints)))
+    by_signs (inr h) (inl m) more = inl (second (let e = h.0 in omega (arith, ints)) m)
+    by_signs (inr h) (inr m) more =
+        let a = ap (λ (k : ℤ). entry pivot i *ℤ k) h.0 in
+        let b = ap (λ (k : ℤ). entry pivot s *ℤ k) m.0 in
+        let c = mul_zero_right (entry pivot i) in
+        let d = mul_zero_right (entry pivot s) in
+        let e = mul_comm_int (entry pivot j) z in
+        let f = mul_zero_left (entry pivot j) in
+        let t = sum in
+        let zero = cancel_eq z (pos 0) (entry pivot j) pj (omega (arith, ints)) in
+        inr (zero, more h.1 m.1)
 
 -- what the comparison says
 abbrev pub Compared : ℕ → ℕ → Row → List Row → Bool → Type 0
@@ -227,3 +239,19 @@ column_run-best pivot rows zero j n best next all is h =
 column_run-best pivot rows (suc k) j n best next all is h =
     let c = chain-ok (better_run rows pivot j best) (λ (b : Option ℕ). column_run rows pivot k (suc j) b) next h in
     column_run-best pivot rows k (suc j) n c.0 next (omega arith) (better_run-best pivot rows j best c.0 is c.1) c.2
+
+-- what holds of the rows, and of those behind a pivot in the best column, holds behind the move; a row without a
+-- positive entry moves nothing
+pub pivot_run_by : (n r : ℕ) (rows news : List Row) (P : List Row → Type 0) → pivot_run n rows r ≡ Ok news → P rows
+    → ((s : ℕ) → IsBest (row_at rows r) (take n rows) n (Some s) → rows_run r s (row_at rows r) 0 rows ≡ Ok news
+    → P news) → P news
+unfolding pivot_run
+pivot_run_by n r rows news P run stays moves =
+    let pivot = row_at rows r in
+    let c = chain-ok (column_run (take n rows) pivot n 0 None) (λ (s : Option ℕ). pivot_in rows r s) news run in
+    let none : IsBest pivot (take n rows) 0 None = λ j below. absurd (omega arith) in
+    chosen c.0 (column_run-best pivot (take n rows) n 0 n None c.0 (omega arith) none c.1) c.2
+  where
+    chosen : (s : Option ℕ) → IsBest (row_at rows r) (take n rows) n s → pivot_in rows r s ≡ Ok news → P news
+    chosen None best h = let e : rows ≡ news = cc in subst P e stays
+    chosen (Some s) best h = moves s best h

@@ -2,13 +2,13 @@
 use Rattle.std.proofs.Math.ListN.{length-set}
 use Rattle.tableau_rows.specs.Rows.{Row, row_of, At}
 use Rattle.tableau_rows.specs.Moves.{cut_entries, cut_entries_run, tied, lowest_row, cut_run}
-use Rattle.tableau_rows.specs.Solutions.{tie}
+use Rattle.tableau_rows.specs.Solutions.{tie, IsPlaced}
 use Rattle.tableau_rows.proofs.Moving.{lowered_sized}
 use Rattle.tableau_rows.proofs.Pivots.{lowered_at}
 use Rattle.tableau_rows.proofs.Least.{dot_apart}
 use Rattle.tableau_rows.proofs.Lowest.{lowest_is}
-use Rattle.std.proofs.Common.{refl, ◌≡◌, ℕ, zero, suc, ◌<◌, ℤ, pos, neg_ℤ, ◌+ℤ◌, ◌-ℤ◌, ◌*ℤ◌, ◌≤ℤ◌, ◌<ℤ◌, Option, Some}
-use Rattle.std.proofs.Common.{None, List, [], ◌∷◌, ◌++◌, length, get_or, subst, ap, ap₂, sym, ◌∙◌, arith}
+use Rattle.std.proofs.Common.{refl, ◌≡◌, ℕ, zero, suc, ◌+◌, ◌<◌, ℤ, pos, neg_ℤ, ◌+ℤ◌, ◌-ℤ◌, ◌*ℤ◌, ◌≤ℤ◌, ◌<ℤ◌, Option}
+use Rattle.std.proofs.Common.{Some, None, List, [], ◌∷◌, ◌++◌, length, get_or, subst, ap, ap₂, sym, ◌∙◌, arith}
 use Rattle.std.specs.Prelude.{Ok}
 use Rattle.std.proofs.lemmas.Int.{ints}
 use Rattle.whole_numbers.specs.Lists.{dot, zeros, NotNegative}
@@ -151,6 +151,12 @@ pub length-cut : (n : ℕ) (d : ℤ) (es : List ℤ) → length (cut_entries n d
 length-cut n d [] = refl
 length-cut zero d (e ∷ es) = let more = length-cut zero d es in omega arith
 length-cut (suc n) d (e ∷ es) = let more = length-cut n d es in omega arith
+
+-- a place among the entries of a row is one of its cut's
+pub is_place : (n m : ℕ) (place : Option ℕ) (row : Row) → IsPlaced n m place → length row.entries ≡ n + 1 + m
+    → IsPlace place (cut_entries n row.denominator row.entries)
+is_place n m None row h size = tt
+is_place n m (Some k) row h size = let l = length-cut n row.denominator row.entries in omega arith
 
 pub length-tied : (d : ℤ) (place : Option ℕ) (es : List ℤ) → length (tied d place es) ≡ length es
 length-tied d None es = refl

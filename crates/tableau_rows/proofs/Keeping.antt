@@ -1,48 +1,38 @@
 -- A pivot and a cut keep a tableau and its whole solutions, in both directions.
-use Rattle.std.proofs.Common.{◌≡◌, ◌≢◌, ℕ, zero, suc, ◌+◌, ◌-◌, ◌<◌, ◌≤◌, ℤ, pos, ◌-ℤ◌, ◌*ℤ◌, ◌<ℤ◌, Option, Some, None}
-use Rattle.std.proofs.Common.{List, [], ◌∷◌, ◌++◌, length, set, get_or, take, refl, subst, ap, sym, ◌∙◌, arith}
+use Rattle.std.proofs.Common.{◌≡◌, ◌≢◌, ℕ, zero, suc, ◌+◌, ◌-◌, ◌<◌, ◌≤◌, ℤ, pos, ◌-ℤ◌, ◌*ℤ◌, ◌<ℤ◌, Option}
+use Rattle.std.proofs.Common.{List, [], ◌∷◌, ◌++◌, length, set, get_or, take, drop, refl, subst, ap, sym, ◌∙◌, arith}
 use Rattle.std.proofs.Common.{append_assoc, length-append}
 use Rattle.std.specs.Prelude.{Ok}
 use Rattle.std.proofs.lemmas.Int.{ints}
-use Rattle.std.proofs.lemmas.List.{set-append_left, length-take-le}
+use Rattle.std.proofs.lemmas.List.{set-append_left, length-take-le, take-append-drop}
 use Rattle.std.proofs.Math.ListN.{length-set}
 use mathlib.Core.Logic.{dite}
 use native.Mathlib.Decide.{ℕ_discrete}
-use Rattle.whole_numbers.proofs.Lists.{not_negative-at, not_negative-append, not_negative-set}
+use Rattle.whole_numbers.proofs.Lists.{dot_same, not_negative-at, not_negative-append, not_negative-set}
 use Rattle.whole_numbers.specs.Lists.{dot, NotNegative}
 use Rattle.whole_numbers.proofs.Ring.{mul_comm_int, mul_zero_left, mul_zero_right, mul_assoc_int, mul_distrib_left}
 use Rattle.whole_numbers.proofs.Ring.{mul_sub_left, left_comm}
 use Rattle.whole_numbers.proofs.Order.{cancel_eq}
 use Rattle.whole_numbers.proofs.Dot.{dot-set, get_or-multiples}
 use Rattle.tableau_rows.specs.Rows.{Row, entry, At, Means, Sized}
-use Rattle.tableau_rows.specs.Moves.{row_at, pivot_run, pivot_in, column_run, rows_run, cut_run, cut_entries}
+use Rattle.tableau_rows.specs.Moves.{row_at, pivot_run, rows_run, cut_run, cut_entries}
 use Rattle.tableau_rows.specs.Solutions.{IsSolution, IsColumn, HasColumn, IsTableau, HaveSameSolutions, IsPlaced}
 use Rattle.tableau_rows.specs.Solutions.{IsTied}
 use Rattle.tableau_rows.proofs.Invariant.{combined, IsLowered, Pivoted}
-use Rattle.tableau_rows.proofs.Points.{means_at, sized_at, means_more, sized_more}
+use Rattle.tableau_rows.proofs.Points.{means_at, sized_at, means_more, sized_more, not_negative-parts}
 use Rattle.tableau_rows.proofs.Pivots.{dot-combined, raised_at, pivot_means}
 use Rattle.tableau_rows.proofs.Least.{combined-at, combined-else}
-use Rattle.tableau_rows.proofs.Choosing.{IsBest, column_run-best}
+use Rattle.tableau_rows.proofs.Choosing.{pivot_run_by}
 use Rattle.tableau_rows.proofs.Moving.{rows_run-pivoted, pivoted_sized}
-use Rattle.tableau_rows.proofs.Cutting.{cut_at, cut_sized, length-cut, IsPlace}
-use Rattle.wide_math.proofs.Steps.{chain-ok}
+use Rattle.tableau_rows.proofs.Cutting.{cut_at, cut_sized, is_place, IsPlace}
 
 -- a list with one number at most
-pub dot-none : (es v : List ℤ) → ((i : ℕ) → get_or es i (pos 0) ≡ pos 0) → dot es v ≡ pos 0
-dot-none [] v none = refl
-dot-none (e ∷ es) [] none = refl
-dot-none (e ∷ es) (x ∷ v) none =
-    let a = ap (λ (k : ℤ). k *ℤ x) (none 0) in
-    let b = mul_zero_left x in
-    let c = dot-none es v (λ i. none (suc i)) in
-    omega (arith, ints)
-
 pub dot-single : (j : ℕ) (es v : List ℤ) → ((i : ℕ) → i ≢ j → get_or es i (pos 0) ≡ pos 0)
     → dot es v ≡ get_or es j (pos 0) *ℤ get_or v j (pos 0)
 dot-single j [] v others = sym (mul_zero_left (get_or v j (pos 0)))
 dot-single j (e ∷ es) [] others = sym (mul_zero_right (get_or (e ∷ es) j (pos 0)))
 dot-single zero (e ∷ es) (x ∷ v) others =
-    let a = dot-none es v (λ i. others (suc i) (λ (h : suc i ≡ zero). omega arith)) in
+    let a = dot_same es [] v (λ i. others (suc i) (λ (h : suc i ≡ zero). omega arith)) in
     omega (arith, ints)
 dot-single (suc j) (e ∷ es) (x ∷ v) others =
     let a = ap (λ (k : ℤ). k *ℤ x) (others 0 (λ (h : zero ≡ suc j). omega arith)) in
@@ -353,11 +343,6 @@ means_front [] more v zs means = tt
 means_front (row ∷ rows) more v [] means = tt
 means_front (row ∷ rows) more v (z ∷ zs) means = (means.0, means_front rows more v zs means.1)
 
-pub not_negative-take : (k : ℕ) (xs : List ℤ) → NotNegative xs → NotNegative (take k xs)
-not_negative-take zero xs h = tt
-not_negative-take (suc k) [] h = tt
-not_negative-take (suc k) (x ∷ xs) h = (h.0, not_negative-take k xs h.1)
-
 pub take-behind : (x more : List ℤ) (k : ℕ) → length x ≤ k → take k (x ++ more) ≡ x ++ take (k - length x) more
 take-behind [] more k h =
     let e : k ≡ k - length {A = ℤ} [] = omega arith in
@@ -382,7 +367,9 @@ cut_back n rows more p x many new =
       columns_size = new.columns_size;
       not_negative = new.not_negative;
       number = subst (λ (zs : List ℤ). length zs ≡ length rows) e (length-take-le k (x ++ new.more) (omega arith));
-      rows_not_negative = subst NotNegative e (not_negative-take k (x ++ new.more) new.rows_not_negative);
+      rows_not_negative = subst NotNegative e
+          (not_negative-parts (take k (x ++ new.more)) (drop k (x ++ new.more))
+          (subst NotNegative (sym (take-append-drop k (x ++ new.more))) new.rows_not_negative)).0;
       means = subst (λ (zs : List ℤ). Means rows v zs) e (means_front rows more v (x ++ new.more) new.means);
     }
 
@@ -425,33 +412,19 @@ pub cut_keeps_solutions : (n m i : ℕ) (place : Option ℕ) (rows : List Row) (
 cut_keeps_solutions n m i place rows new is within placed run p same tied x =
     let at = sized_at (n + 1 + m) rows i within is.sized in (
       cut_forth n rows new p x i place (subst (λ (k : ℕ). Sized (n + 1 + k) rows) (sym same) is.sized) within run
-          (is_place place placed at.1) tied,
+          (is_place n m place (row_at rows i) placed at.1) tied,
       cut_back n rows (new ∷ []) p x is.many,
     )
-  where
-    is_place : (place : Option ℕ) → IsPlaced n m place → length (row_at rows i).entries ≡ n + 1 + m
-        → IsPlace place (cut_entries n (row_at rows i).denominator (row_at rows i).entries)
-    is_place None h size = tt
-    is_place (Some k) h size = let l = length-cut n (row_at rows i).denominator (row_at rows i).entries in omega arith
 
 -- the law of a pivot in the column that its row chooses; a row without a positive entry moves nothing
 pub pivot_run_keeps : (n m r : ℕ) (rows news : List Row) → IsTableau n m rows → r < length rows
     → pivot_run n rows r ≡ Ok news
     → IsTableau n m news × ((p : List ℤ) → length p ≡ m → HaveSameSolutions n rows news p)
-unfolding pivot_run
 pivot_run_keeps n m r rows news is within run =
-    let pivot = row_at rows r in
-    let c = chain-ok (column_run (take n rows) pivot n 0 None) (λ (s : Option ℕ). pivot_in rows r s) news run in
-    let none : IsBest pivot (take n rows) 0 None = λ j below. absurd (omega arith) in
-    chosen c.0 (column_run-best pivot (take n rows) n 0 n None c.0 (omega arith) none c.1) c.2
-  where
-    chosen : (s : Option ℕ) → IsBest (row_at rows r) (take n rows) n s → pivot_in rows r s ≡ Ok news
-        → IsTableau n m news × ((p : List ℤ) → length p ≡ m → HaveSameSolutions n rows news p)
-    chosen None best h =
-        let e : rows ≡ news = cc in
-        subst (λ (k : List Row). IsTableau n m k × ((p : List ℤ) → length p ≡ m → HaveSameSolutions n rows k p)) e
-        (is, λ p size x. (λ h. h, λ h. h))
-    chosen (Some s) best h = (
-      pivot_keeps_tableau n m r s rows news is within best.0 best.1 h,
-      pivot_keeps_solutions n m r s rows news is within best.0 best.1 h,
-    )
+    pivot_run_by n r rows news
+    (λ (k : List Row). IsTableau n m k × ((p : List ℤ) → length p ≡ m → HaveSameSolutions n rows k p)) run
+    (is, λ p size x. (λ h. h, λ h. h))
+    (λ s best moved. (
+      pivot_keeps_tableau n m r s rows news is within best.0 best.1 moved,
+      pivot_keeps_solutions n m r s rows news is within best.0 best.1 moved,
+    ))

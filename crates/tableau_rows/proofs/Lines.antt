@@ -1,12 +1,18 @@
 -- The runs of rows in the parts that the code takes.
 use Rattle.std.proofs.Common.{◌≡◌, ℕ, zero, suc, ◌+◌, ◌<◌, ℤ, pos, List, [], ◌∷◌, ◌++◌, length, set, get_or, drop, take}
-use Rattle.std.proofs.Common.{refl, subst, ap, sym, ◌∙◌, arith, add-one}
+use Rattle.std.proofs.Common.{refl, subst, ap, sym, ◌∙◌, arith, add-one, drop-cons}
 use Rattle.std.specs.Prelude.{Result, Ok, Err}
 use Rattle.wide_math.specs.declared.Wide.{Wide}
 use Rattle.wide_math.specs.Checked.{product_of, cross_of, ◌>>=◌}
 use Rattle.wide_math.specs.Gives.{Becomes}
 use Rattle.std.proofs.lemmas.List.{take-append-drop, length-take-le}
-use Rattle.tableau_rows.specs.Moves.{crossed_run, entries_run, line_run}
+use Rattle.tableau_rows.specs.Rows.{entry}
+use Rattle.tableau_rows.specs.Moves.{crossed_run, entries_run, line_run, line_row}
+
+-- an entry of a row that has its denominator in front
+pub entry_at : (row : List ℤ) (j : ℕ) → entry (line_row row) j ≡ get_or row (j + 1) (pos 0)
+entry_at [] j = refl
+entry_at (x ∷ row) j = ap (λ (k : ℕ). get_or (x ∷ row) k (pos 0)) (sym (add-one j))
 
 step_parts : (c : Result ℤ Wide) (r : Result (List ℤ) Wide) (p : Result ℤ Wide) (q : Result (List ℤ) Wide)
     → (c >>= λ x. (r >>= λ fs. p >>= λ z. q >>= λ bs. Ok (fs ++ z ∷ bs)) >>= λ zs. Ok (x ∷ zs))
@@ -62,15 +68,9 @@ entries_run-split s d es ps front rest (x ∷ []) back same within is size apart
     ∙ entries_run-parts s a b d front x back (take s ps) a (drop (s + 1) ps) size count)
   where
     parted : (s : ℕ) (ps : List ℤ) → s < length ps → ps ≡ take s ps ++ get_or ps s (pos 0) ∷ drop (s + 1) ps
-    parted s ps h = sym (take-append-drop s ps) ∙ ap (λ (r : List ℤ). take s ps ++ r) (drop-cons s ps h)
-      where
-        drop-cons : (s : ℕ) (ps : List ℤ) → s < length ps → drop s ps ≡ get_or ps s (pos 0) ∷ drop (s + 1) ps
-        drop-cons zero [] h = absurd (omega arith)
-        drop-cons zero (p ∷ ps) h = refl
-        drop-cons (suc s) [] h = absurd (omega arith)
-        drop-cons (suc s) (p ∷ ps) h =
-            let e : suc (s + 1) ≡ suc s + 1 = omega arith in
-            subst (λ (k : ℕ). drop s ps ≡ get_or ps s (pos 0) ∷ drop k (p ∷ ps)) e (drop-cons s ps (omega arith))
+    parted s ps h =
+        sym (take-append-drop s ps) ∙ ap (λ (r : List ℤ). take s ps ++ r) (drop-cons ps s (pos 0) h)
+        ∙ ap (λ (k : ℕ). take s ps ++ get_or ps s (pos 0) ∷ drop k ps) (sym (add-one s))
 
 -- a run of three, the first of which failed, then the second, and what comes of the third
 pub first-err : (r : Result (List ℤ) Wide) (p : Result ℤ Wide) (q : Result (List ℤ) Wide) (w : Wide) → r ≡ Err w
@@ -101,11 +101,7 @@ unfolding line_run
 line_run-split s ps row [] es is one = absurd (omega arith)
 line_run-split s ps row (x ∷ y ∷ den) es is one = absurd (omega arith)
 line_run-split s ps row (x ∷ []) es is one =
-    rw (is, behind s ps, behind s (x ∷ es)) refl
-  where
-    behind : (s : ℕ) (xs : List ℤ) → get_or xs (s + 1) (pos 0) ≡ get_or (drop 1 xs) s (pos 0)
-    behind s [] = refl
-    behind s (x ∷ xs) = ap (λ (k : ℕ). get_or (x ∷ xs) k (pos 0)) (add-one s)
+    rw (is, ← entry_at ps s, ← entry_at (x ∷ es) s) refl
 
 pub line_becomes : {U : Type 0} (p : Result ℤ Wide) (q : Result (List ℤ) Wide) (z : ℤ) (den es : List ℤ)
     (u : Result U Wide) → p ≡ Ok z → length den ≡ 1

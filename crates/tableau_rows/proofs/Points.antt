@@ -1,6 +1,7 @@
 -- Lists of values, and the rows that give them.
 use Rattle.std.proofs.Common.{◌≡◌, ℕ, zero, suc, ◌<◌, ◌≤◌, ℤ, pos, ◌<ℤ◌, List, [], ◌∷◌, ◌++◌, length, get_or, take}
 use Rattle.std.proofs.Common.{arith}
+use Rattle.whole_numbers.specs.Lists.{NotNegative}
 use Rattle.tableau_rows.specs.Rows.{Row, At, Means, Sized}
 use Rattle.tableau_rows.specs.Moves.{row_at}
 
@@ -17,13 +18,21 @@ sized_at m [] r within sized = absurd (omega arith)
 sized_at m (row ∷ rows) zero within sized = (sized.0, sized.1)
 sized_at m (row ∷ rows) (suc r) within sized = sized_at m rows r (omega arith) sized.2
 
-pub means_take : (n : ℕ) (rows : List Row) (v xs more : List ℤ) → length xs ≡ n → Means rows v (xs ++ more)
-    → Means (take n rows) v xs
-means_take n rows v [] more size means = tt
-means_take zero rows v (x ∷ xs) more size means = absurd (omega arith)
-means_take (suc n) [] v (x ∷ xs) more size means = absurd means
-means_take (suc n) (row ∷ rows) v (x ∷ xs) more size means =
-    (means.0, means_take n rows v xs more (omega arith) means.1)
+pub means_take : (n : ℕ) (rows : List Row) (v xs : List ℤ) → length xs ≤ n → Means rows v xs → Means (take n rows) v xs
+means_take n rows v [] size means = tt
+means_take zero rows v (x ∷ xs) size means = absurd (omega arith)
+means_take (suc n) [] v (x ∷ xs) size means = absurd means
+means_take (suc n) (row ∷ rows) v (x ∷ xs) size means = (means.0, means_take n rows v xs (omega arith) means.1)
+
+-- the first of the values
+pub means_fewer : (rows : List Row) (v xs more : List ℤ) → Means rows v (xs ++ more) → Means rows v xs
+means_fewer rows v [] more h = tt
+means_fewer [] v (x ∷ xs) more h = absurd h
+means_fewer (row ∷ rows) v (x ∷ xs) more h = (h.0, means_fewer rows v xs more h.1)
+
+pub not_negative-parts : (xs ys : List ℤ) → NotNegative (xs ++ ys) → NotNegative xs × NotNegative ys
+not_negative-parts [] ys h = (tt, h)
+not_negative-parts (x ∷ xs) ys h = let more = not_negative-parts xs ys h.1 in ((h.0, more.0), more.1)
 
 pub sized_take : (n m : ℕ) (rows : List Row) → Sized m rows → Sized m (take n rows)
 sized_take zero m rows h = tt

@@ -1,28 +1,27 @@
 -- Each move keeps what stands, and what stands makes a leaf the least point and an empty node right.
-use Rattle.std.proofs.Common.{◌≡◌, ℕ, zero, suc, ◌+◌, ◌<◌, ◌≤◌, ℤ, pos, ◌≤ℤ◌, ◌<ℤ◌, Option, Some, None, List, [], ◌∷◌}
+use Rattle.std.proofs.Common.{◌≡◌, ℕ, zero, suc, ◌+◌, ◌<◌, ◌≤◌, ℤ, pos, ◌≤ℤ◌, ◌<ℤ◌, Option, Some, List, [], ◌∷◌}
 use Rattle.std.proofs.Common.{◌++◌, length, get_or, drop, take, refl, subst, ap, sym, ◌∙◌, arith, length-append}
 use Rattle.std.specs.Prelude.{Ok}
 use Rattle.std.proofs.lemmas.Int.{ints}
 use Rattle.std.proofs.Math.Seq.{drop-append_seam}
-use Rattle.std.proofs.lemmas.List.{length-drop, drop-append-le, append-nil, take-append-le, length-take-le}
+use Rattle.std.proofs.lemmas.List.{length-drop, drop-append-le, take-append-le, length-take-le}
 use Rattle.whole_numbers.proofs.Lists.{dot_not_positive, not_negative-at}
 use Rattle.whole_numbers.specs.Lists.{dot, zeros, NotNegative}
 use Rattle.whole_numbers.specs.Lexicographic.{LexLe, LexNotNegative}
 use Rattle.whole_numbers.proofs.Ring.{mul_comm_int, mul_zero_left}
 use Rattle.whole_numbers.proofs.Order.{mul_not_negative, cancel_le, cancel_eq}
 use Rattle.whole_numbers.proofs.Dot.{length-zeros}
-use Rattle.wide_math.proofs.Steps.{chain-ok}
 use Rattle.tableau_rows.specs.Rows.{Row, entry, Means, Sized}
-use Rattle.tableau_rows.specs.Moves.{rows_run, row_at, pivot_run, pivot_in, column_run, cut_run, cut_entries}
+use Rattle.tableau_rows.specs.Moves.{rows_run, row_at, pivot_run, cut_run, cut_entries}
 use Rattle.tableau_rows.specs.Solutions.{IsSolution, IsTied}
 use Rattle.tableau_rows.proofs.Invariant.{column, Pivoted, values, part, IsInside, Stands}
 use Rattle.tableau_rows.proofs.Pivots.{pivot_faithful, drop_sized}
 use Rattle.tableau_rows.proofs.Least.{pivot_up, up_dots, least_at_zero, dot_apart}
 use Rattle.tableau_rows.proofs.Moving.{rows_run-pivoted, pivoted_sized}
-use Rattle.tableau_rows.proofs.Choosing.{IsBest, column_run-best}
+use Rattle.tableau_rows.proofs.Choosing.{IsBest, pivot_run_by}
 use Rattle.tableau_rows.proofs.Keeping.{pivot_forth, cut_forth}
-use Rattle.tableau_rows.proofs.Points.{means_at, means_longer, means_shorter, means_take, sized_at, sized_more}
-use Rattle.tableau_rows.proofs.Points.{sized_take}
+use Rattle.tableau_rows.proofs.Points.{means_at, means_longer, means_shorter, means_fewer, means_take, sized_at}
+use Rattle.tableau_rows.proofs.Points.{sized_more, sized_take, not_negative-parts}
 use Rattle.tableau_rows.proofs.Cutting.{cut_sized, IsPlace}
 
 pub take_pivoted : (n s : ℕ) (pivot : Row) (rows news : List Row) → Pivoted s pivot rows news
@@ -63,18 +62,9 @@ stands_pivot n givens rows news p r s stands within best run =
 pub stands_pivot_run : (n : ℕ) (givens : List (List ℤ)) (rows news : List Row) (p : List ℤ) (r : ℕ)
     → Stands n givens rows p → r < length rows
     → pivot_run n rows r ≡ Ok news → Stands n givens news p
-unfolding pivot_run
 stands_pivot_run n givens rows news p r stands within run =
-    let pivot = row_at rows r in
-    let c = chain-ok (column_run (take n rows) pivot n 0 None) (λ (s : Option ℕ). pivot_in rows r s) news run in
-    let none : IsBest pivot (take n rows) 0 None = λ j below. absurd (omega arith) in
-    let best = column_run-best pivot (take n rows) n 0 n None c.0 (omega arith) none c.1 in
-    chosen c.0 best c.2
-  where
-    chosen : (s : Option ℕ) → IsBest (row_at rows r) (take n rows) n s → pivot_in rows r s ≡ Ok news
-        → Stands n givens news p
-    chosen None best h = let e : news ≡ rows = cc in subst (λ (k : List Row). Stands n givens k p) (sym e) stands
-    chosen (Some s) best h = stands_pivot n givens rows news p r s stands within best h
+    pivot_run_by n r rows news (λ (k : List Row). Stands n givens k p) run stands
+    (λ s best moved. stands_pivot n givens rows news p r s stands within best moved)
 
 -- a cut keeps what stands, where its tied parameter has its value
 pub stands_cut : (n : ℕ) (givens : List (List ℤ)) (rows : List Row) (new : Row) (p : List ℤ) (i : ℕ)
@@ -155,13 +145,12 @@ leaf_least n givens rows p xs zs stands size means inside =
     let r = stands.reached zs inside in
     let us = take n rows in
     let count = length-take-le n rows stands.many in
-    let e : xs ++ [] ≡ xs = append-nil xs in
-    let a = means_take n rows (zeros n ++ pos 1 ∷ p) xs [] size
-    (subst (λ (ws : List ℤ). Means rows (zeros n ++ pos 1 ∷ p) ws) (sym e) means) in
+    let a = means_take n rows (zeros n ++ pos 1 ∷ p) xs (omega arith) means in
     let a' = subst (λ (k : ℕ). Means us (zeros k ++ pos 1 ∷ p) xs) (sym r.columns_size) a in
-    let b = means_take n rows (r.columns ++ pos 1 ∷ p) zs r.more inside.size r.means in
     let k = r.columns_size in
     let l = inside.size in
+    let b = means_take n rows (r.columns ++ pos 1 ∷ p) zs (omega arith)
+    (means_fewer rows (r.columns ++ pos 1 ∷ p) zs r.more r.means) in
     let up = up_dots 0 us r.columns (λ i low high. stands.up i (omega arith)) r.not_negative in
     least_at_zero us r.columns (pos 1 ∷ p) xs zs m (sized_take n m rows stands.sized) (omega arith) (omega arith) a' b
     up
@@ -207,10 +196,6 @@ means_drop rows v [] more h = h
 means_drop [] v (x ∷ xs) more h = absurd h
 means_drop (row ∷ rows) v (x ∷ xs) more h = means_drop rows v xs more h.1
 
-pub not_negative-parts : (xs ys : List ℤ) → NotNegative (xs ++ ys) → NotNegative xs × NotNegative ys
-not_negative-parts [] ys h = (tt, h)
-not_negative-parts (x ∷ xs) ys h = let more = not_negative-parts xs ys h.1 in ((h.0, more.0), more.1)
-
 pub means_number : (rows : List Row) (v xs : List ℤ) → Means rows v xs → length xs ≤ length rows
 means_number rows v [] h = omega arith
 means_number [] v (x ∷ xs) h = absurd h
@@ -225,7 +210,7 @@ solution_inside n givens rows p xs stands is =
     let long : n < length v = simp length-append (omega arith) in
     let both = not_negative-parts xs is.more is.rows_not_negative in
     let zs = values givens (xs ++ drop n v) in
-    let f = stands.faithful v xs long is.size (means_shorter_list rows v xs is.more is.means) in
+    let f = stands.faithful v xs long is.size (means_fewer rows v xs is.more is.means) in
     let g = subst (λ (k : ℕ). Means (drop k rows) v is.more) is.size (means_drop rows v xs is.more is.means) in
     let number = means_number (drop n rows) v zs f in
     let l : length (xs ++ is.more) ≡ length xs + length is.more = simp length-append refl in
@@ -241,8 +226,3 @@ solution_inside n givens rows p xs stands is =
           (means_same (n + 1 + length p) (drop n rows) v zs is.more (drop_sized n (n + 1 + length p) rows stands.sized)
           count f g both.1);
     }
-  where
-    means_shorter_list : (rows : List Row) (v xs more : List ℤ) → Means rows v (xs ++ more) → Means rows v xs
-    means_shorter_list rows v [] more h = tt
-    means_shorter_list [] v (x ∷ xs) more h = absurd h
-    means_shorter_list (row ∷ rows) v (x ∷ xs) more h = (h.0, means_shorter_list rows v xs more h.1)

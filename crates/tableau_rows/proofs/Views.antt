@@ -15,12 +15,9 @@ use Rattle.wide_math.proofs.Steps.{chain-ok}
 use Rattle.tableau_rows.specs.Rows.{Row, row_of}
 use Rattle.tableau_rows.specs.Moves.{entries_run, line_run, lowest_row, lowest_line_run, unit_row, unit_line}
 use Rattle.tableau_rows.specs.Moves.{placed_line_run, buffer_run, row_run, rows_run, line_row, rows_in}
+use Rattle.tableau_rows.proofs.Lines.{entry_at}
 use Rattle.tableau_rows.proofs.Pivots.{length-crossed}
 use Rattle.tableau_rows.proofs.Moving.{entries_run-exact}
-
-behind : (s : ℕ) (xs : List ℤ) → get_or xs (s + 1) (pos 0) ≡ get_or (drop 1 xs) s (pos 0)
-behind s [] = refl
-behind s (x ∷ xs) = ap (λ (k : ℕ). get_or (x ∷ xs) k (pos 0)) (add-one s)
 
 -- one row
 pub line-unit : (s : ℕ) (row : List ℤ) → 0 < length row
@@ -33,7 +30,7 @@ pub line-run : (s : ℕ) (ps row : List ℤ)
     → row_run s (line_row ps) (line_row row) ≡ (lowest_line_run s ps row >>= λ zs. Ok (line_row zs))
 unfolding row_run lowest_line_run line_run lowest_row
 line-run s ps row =
-    rw (behind s ps, behind s row)
+    rw (← entry_at ps s, ← entry_at row s)
     (by_cases (product_of (get_or row 0 (pos 0)) (get_or (drop 1 ps) s (pos 0)))
     (entries_run s (get_or (drop 1 ps) s (pos 0)) (get_or (drop 1 row) s (pos 0)) (get_or ps 0 (pos 0))
     (drop 1 row) (drop 1 ps)))

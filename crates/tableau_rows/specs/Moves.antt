@@ -1,3 +1,5 @@
+-- The moves of a tableau: the pivot of the dual simplex method (Feautrier 1988) and Gomory's cut (1958), number by
+-- number in 128 bits, on rows and on the lines of a buffer.
 use Rattle.std.specs.Prelude.{ℕ, zero, suc, ℤ, pos, negsuc, neg_ℤ, ◌+ℤ◌, ◌-ℤ◌, Bool, true, false, nat_eq, if◌then◌else◌}
 use Rattle.std.specs.Prelude.{List, [], ◌∷◌, ◌++◌, length, get_or, set, take, drop, ◌+◌, ⊤, ◌<ℤ◌, Option, Some, None}
 use Rattle.std.specs.Prelude.{Result, Ok}
@@ -19,11 +21,12 @@ lowest_row row =
 abbrev pub unit_row : ℕ → ℕ → Row
 unit_row m s = row_of (pos 1) (set (zeros m) s (pos 1))
 
--- whether z is at most -1, and at least 1
+-- whether z is at most -1
 abbrev pub is_below : ℤ → Bool
 is_below (pos n) = false
 is_below (negsuc n) = true
 
+-- whether z is at least 1
 abbrev pub is_positive : ℤ → Bool
 is_positive (pos zero) = false
 is_positive (pos (suc n)) = true
@@ -40,7 +43,7 @@ entries_run s a b d (x ∷ xs) [] = Ok []
 entries_run zero a b d (x ∷ xs) (y ∷ ys) = product_of b d >>= λ z. crossed_run a b xs ys >>= λ zs. Ok (z ∷ zs)
 entries_run (suc s) a b d (x ∷ xs) (y ∷ ys) = cross_of x a b y >>= λ z. entries_run s a b d xs ys >>= λ zs. Ok (z ∷ zs)
 
--- a row other than the pivot row
+-- a row other than the pivot row, in lowest terms
 unfoldable pub row_run : ℕ → Row → Row → Result Row Wide
 row_run s pivot row =
     product_of row.denominator (entry pivot s) >>= λ d.
@@ -55,13 +58,15 @@ line_run s pivot row =
     (drop 1 pivot) >>= λ es.
     Ok (d ∷ es)
 
--- the row at place i of a buffer, its denominator in front, the pivot row being the one at r
+-- the row of the column s itself, with its denominator in front
 abbrev pub unit_line : ℕ → ℕ → List ℤ
 unit_line m s = set (set (zeros m) 0 (pos 1)) (s + 1) (pos 1)
 
+-- a row other than the pivot row, with its denominator in front, in lowest terms
 unfoldable pub lowest_line_run : ℕ → List ℤ → List ℤ → Result (List ℤ) Wide
 lowest_line_run s pivot row = line_run s pivot row >>= λ zs. Ok (lowest zs)
 
+-- a row of a buffer, its denominator in front: the pivot row becomes the column s itself, any other takes it in
 abbrev pub placed_line_run : Bool → ℕ → List ℤ → List ℤ → Result (List ℤ) Wide
 placed_line_run is_pivot s pivot row = if is_pivot then Ok (unit_line (length row) s) else lowest_line_run s pivot row
 
@@ -96,12 +101,13 @@ precedes_run aj bs j s (row ∷ rows) =
     product_of (entry row s) aj >>= λ old.
     if is_below (new -ℤ old) then Ok true else if is_below (old -ℤ new) then Ok false else precedes_run aj bs j s rows
 
--- the better of the best column so far and column j
+-- of the best column so far, if there is one, and column j, whose entry in the pivot row is positive, the better
 abbrev pub challenged_run : List Row → Row → ℕ → Option ℕ → Result (Option ℕ) Wide
 challenged_run unknowns pivot j None = Ok (Some j)
 challenged_run unknowns pivot j (Some s) =
     precedes_run (entry pivot j) (entry pivot s) j s unknowns >>= λ first. Ok (Some (if first then j else s))
 
+-- the better of the best column so far and column j, which counts only with a positive entry in the pivot row
 abbrev pub better_run : List Row → Row → ℕ → Option ℕ → Result (Option ℕ) Wide
 better_run unknowns pivot j best =
     if is_positive (entry pivot j) then challenged_run unknowns pivot j best else Ok best
@@ -116,11 +122,12 @@ column_run unknowns pivot (suc k) j best =
 abbrev pub row_at : List Row → ℕ → Row
 row_at rows r = get_or rows r (row_of (pos 1) [])
 
--- a pivot on the row r, in the column that the rows of the n unknowns choose
+-- a pivot on the row r in the column s; without a column the rows stay
 abbrev pub pivot_in : List Row → ℕ → Option ℕ → Result (List Row) Wide
 pivot_in rows r None = Ok rows
 pivot_in rows r (Some s) = rows_run r s (row_at rows r) 0 rows
 
+-- a pivot on the row r, in the column that the rows of the n unknowns choose
 unfoldable pub pivot_run : ℕ → List Row → ℕ → Result (List Row) Wide
 pivot_run n rows r = column_run (take n rows) (row_at rows r) n 0 None >>= λ s. pivot_in rows r s
 
@@ -130,6 +137,7 @@ cut_entries n d [] = []
 cut_entries zero d (b ∷ bs) = neg_ℤ (remainder (neg_ℤ b) d) ∷ cut_entries zero d bs
 cut_entries (suc n) d (a ∷ es) = remainder a d ∷ cut_entries n d es
 
+-- the same in 128 bits, where only the -b are formed, in order
 abbrev pub cut_entries_run : ℕ → ℤ → List ℤ → Result (List ℤ) Wide
 cut_entries_run n d [] = Ok []
 cut_entries_run zero d (b ∷ bs) =
@@ -147,10 +155,11 @@ cut_run n place row =
     cut_entries_run n row.denominator row.entries >>= λ es.
     Ok (lowest_row (row_of row.denominator (tied row.denominator place es)))
 
--- the row of numbers with its denominator in front, and the rows of a buffer
+-- the row of numbers with its denominator in front
 abbrev pub line_row : List ℤ → Row
 line_row zs = row_of (get_or zs 0 (pos 0)) (drop 1 zs)
 
+-- the rows of a buffer of `count` lines, each of `stride` numbers
 abbrev pub rows_in : ℕ → ℕ → List ℤ → List Row
 rows_in stride zero cells = []
 rows_in stride (suc count) cells = line_row (take stride cells) ∷ rows_in stride count (drop stride cells)

@@ -1,3 +1,4 @@
+-- The problem of a tableau: the lexicographically least whole point >= 0 of rows at given parameters.
 use Rattle.std.specs.Prelude.{◌≡◌, ℕ, zero, suc, ℤ, pos, List, [], ◌∷◌, ◌++◌, ◌+◌, length, map, take, drop, ⊤}
 use Rattle.whole_numbers.specs.Lists.{NotNegative}
 use Rattle.whole_numbers.specs.Affine.{Affine, value_of}
@@ -36,21 +37,22 @@ IsEmpty problem p = (x : List ℤ) → IsPoint problem p x → ⊥
 abbrev pub entries_of : ℕ → Affine → List ℤ
 entries_of n f = take n f.coefficients ++ (f.constant ∷ drop n f.coefficients)
 
--- the rows at first: each unknown is its column, and then the problem's
+-- k rows of m entries that are the columns themselves, from column i on
 abbrev pub unit_rows : ℕ → ℕ → ℕ → List Row
 unit_rows m i zero = []
 unit_rows m i (suc k) = unit_row m i ∷ unit_rows m (suc i) k
 
+-- the rows of a problem of n unknowns as rows of a tableau
 abbrev pub given_rows : ℕ → List Affine → List Row
 given_rows n [] = []
 given_rows n (f ∷ fs) = row_of (pos 1) (entries_of n f) ∷ given_rows n fs
 
--- the tableau of a problem with m parameters
+-- the tableau of a problem with m parameters: first each unknown is its column, then come the problem's rows
 abbrev pub first_rows : ℕ → Problem → List Row
 first_rows m problem =
     unit_rows (problem.unknowns + 1 + m) 0 problem.unknowns ++ given_rows problem.unknowns problem.rows
 
--- each row speaks of the unknowns and of m parameters
+-- each form speaks of k variables
 abbrev pub Speaks : ℕ → List Affine → Type 0
 Speaks k [] = ⊤
 Speaks k (f ∷ fs) = (length f.coefficients ≡ k) × Speaks k fs

@@ -1,3 +1,4 @@
+-- The rows of a tableau, and the values that they give.
 use Rattle.std.specs.Prelude.{◌≡◌, ℕ, ℤ, pos, ◌*ℤ◌, ◌<ℤ◌, List, [], ◌∷◌, length, get_or, ⊤}
 use Rattle.whole_numbers.specs.Lists.{dot}
 

@@ -1,3 +1,4 @@
+-- The run of a problem without parameters: pivots and cuts, within a budget of moves, to the least point or to none.
 use Rattle.std.specs.Prelude.{ℕ, zero, suc, ℤ, Bool, true, false, if◌then◌else◌, List, [], ◌∷◌, ◌++◌, map, take, Option}
 use Rattle.std.specs.Prelude.{Some, None, Result, Ok, Err}
 use Rattle.whole_numbers.specs.Floor.{floor, remainder}
@@ -33,10 +34,11 @@ abbrev pub some_positive : Row → ℕ → ℕ → Bool
 some_positive row j zero = false
 some_positive row j (suc k) = if is_positive (entry row j) then true else some_positive row (suc j) k
 
--- whether the constant, which stands behind the n columns, is at most -1, or no multiple of the denominator
+-- whether the constant, which stands behind the n columns, is at most -1
 abbrev pub has_below : ℕ → Row → Bool
 has_below n row = is_below (entry row n)
 
+-- whether the constant, which stands behind the n columns, is no multiple of the denominator
 abbrev pub has_fraction : ℕ → Row → Bool
 has_fraction n row = is_positive (remainder (entry row n) row.denominator)
 
@@ -44,10 +46,12 @@ has_fraction n row = is_positive (remainder (entry row n) row.denominator)
 abbrev pub quotients : ℕ → List Row → List ℤ
 quotients n rows = map (λ (row : Row). floor (entry row n) row.denominator) rows
 
+-- the first unknown that is not whole is cut; where all are whole the node is at its point
 abbrev pub cut_or_end : ℕ → List Row → Option ℕ → Step
 cut_or_end n rows None = ends (point (quotients n (take n rows)))
 cut_or_end n rows (Some i) = cuts i
 
+-- the first row below 0 is pivoted on, or shows that there is no point; without one a cut or the end comes next
 abbrev pub pivot_or_cut : ℕ → List Row → Option ℕ → Step
 pivot_or_cut n rows None = cut_or_end n rows (first_row (has_fraction n) 0 (take n rows))
 pivot_or_cut n rows (Some r) = if some_positive (row_at rows r) 0 n then pivots r else ends none
@@ -67,20 +71,24 @@ moved n rows (cuts i) = cut_run n None (row_at rows i) >>= λ row. Ok (rows ++ r
 abbrev pub Outcome : Type 0
 Outcome = Result (Verdict × ℕ) Stop
 
+-- the run goes on from the rows that a move gives; a number that is too wide stops it, with what is left of the budget
 abbrev pub go_on : (List Row → Outcome) → ℕ → Result (List Row) Wide → Outcome
 go_on go left (Ok rows) = go rows
 go_on go left (Err w) = Err (wide w left)
 
+-- what comes of a step where the budget is spent: only an end may still come
 abbrev pub at_spent : Step → Outcome
 at_spent (ends v) = Ok (v, 0)
 at_spent (pivots r) = Err spent
 at_spent (cuts i) = Err spent
 
+-- what comes of a step where `left` + 1 moves are left: an end takes none, a pivot or a cut one
 abbrev pub after : (List Row → Outcome) → ℕ → List Row → ℕ → Step → Outcome
 after go n rows left (ends v) = Ok (v, suc left)
 after go n rows left (pivots r) = go_on go (suc left) (moved n rows (pivots r))
 after go n rows left (cuts i) = go_on go (suc left) (moved n rows (cuts i))
 
+-- the run of rows of n unknowns with a budget of moves
 abbrev pub run : ℕ → ℕ → List Row → Outcome
 run n zero rows = at_spent (next n rows)
 run n (suc left) rows = after (run n left) n rows left (next n rows)

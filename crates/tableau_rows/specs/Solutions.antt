@@ -1,3 +1,4 @@
+-- The whole solutions of a tableau's rows, which moves keep, and what makes rows a tableau.
 use Rattle.std.specs.Prelude.{◌≡◌, ◌≢◌, ◌↔◌, ℕ, ◌+◌, ◌<◌, ◌≤◌, ℤ, pos, List, ◌∷◌, ◌++◌, length, get_or, Option, Some}
 use Rattle.std.specs.Prelude.{None, ⊤, ◌-ℤ◌}
 use Rattle.whole_numbers.specs.Lists.{dot, zeros, NotNegative}

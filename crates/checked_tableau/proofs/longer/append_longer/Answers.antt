@@ -1,12 +1,17 @@
-use Rattle.std.proofs.Common.{rules, ◌≡◌, ◌+◌, ◌-◌, ◌++◌, ◌∙◌, List, ℕ, map, subst, sym, arith, add-one}
+use Rattle.std.proofs.Common.{rules, ◌≡◌, ◌+◌, ◌-◌, ◌++◌, ◌∙◌, List, ℕ, length, map, subst, sym, arith, add-one}
 use Rattle.std.proofs.lemmas.List.{append-nil}
 use Rattle.tableau_rows.specs.Rows.{Row}
 use Rattle.tableau_rows.specs.Moves.{rows_in}
 use Rattle.lexmin_runs.specs.Nodes.{longer_row}
 use Rattle.checked_tableau.specs.Lines.{Holds}
 use Rattle.checked_tableau.proofs.Beginnings.{longer_more}
-use Rattle.checked_tableau.proofs.Looking.{length_rest}
+use Rattle.checked_tableau.proofs.Looking.{length_rest, line_ahead}
 use Rattle.checked_tableau.proofs.longer.append_longer.Goals as goal
+
+pub split_at-requires : goal.split_at-requires
+split_at-requires c =
+    line_ahead (c.args.count - c.loop.counter) c.args.stride (length c.loop.rest.now) (omega arith)
+    c.loop.invariant.0
 
 pub loop-preserved : goal.loop-preserved
 loop-preserved c =

@@ -6,7 +6,26 @@ use borrow.Rule.Slice.PartMut.{put_mid}
 use Rattle.affine_forms.proofs.Steps.{with_front}
 use Rattle.tableau_rows.specs.Moves.{buffer_run, HeadsPositive}
 use Rattle.tableau_rows.proofs.Buffers.{buffer_kept, buffer_end}
+use Rattle.checked_tableau.proofs.Tables.{line_within}
 use Rattle.checked_tableau.proofs.pivot.pivot_rows.Goals as goal
+
+pub overflow_add-start : goal.overflow_add-start
+overflow_add-start c =
+    let l = line_within c.loop-at.start (c.args.count - c.loop-at.at) (length c.args.pivot.now) (length c.loop-at.cells)
+    (omega arith) c.loop-at.invariant.0 in
+    omega arith
+
+pub slice_bounds-place_row-end : goal.slice_bounds-place_row-end
+slice_bounds-place_row-end c =
+    let l = line_within c.loop-at.start (c.args.count - c.loop-at.at) (length c.args.pivot.now) (length c.loop-at.cells)
+    (omega arith) c.loop-at.invariant.0 in
+    omega arith
+
+pub overflow_add-start-in-loop-at : goal.overflow_add-start-in-loop-at
+overflow_add-start-in-loop-at c =
+    let l = line_within c.loop-at.start (c.args.count - c.loop-at.at) (length c.args.pivot.now) (length c.loop-at.cells)
+    (omega arith) c.loop-at.invariant.0 in
+    omega arith
 
 pub loop-at-preserved : goal.loop-at-preserved
 loop-at-preserved c =

@@ -3,13 +3,19 @@ use Rattle.std.proofs.Common.{arith, FitsSigned}
 use Rattle.std.specs.Prelude.{Result}
 use Rattle.std.specs.Int.{w128}
 use Rattle.std.proofs.lemmas.Int.{to_z-of_z}
-use Rattle.std.proofs.lemmas.List.{take_all, length-drop}
+use Rattle.std.proofs.lemmas.List.{take_all, length-drop, length-take-le}
 use Rattle.wide_math.specs.declared.Wide.{Wide}
 use Rattle.wide_math.specs.Checked.{product_of}
 use Rattle.wide_math.specs.Gives.{Becomes}
 use Rattle.tableau_rows.specs.Moves.{crossed_run}
 use Rattle.tableau_rows.proofs.Lines.{entries_run-split, first-err, second-err, third_becomes}
 use Rattle.checked_tableau.proofs.rows.combine_entries.Goals as goal
+
+pub cross_row-requires : goal.cross_row-requires
+cross_row-requires c =
+    c.split_at_mut-front.ensures.front_len
+    ∙ sym (length-take-le c.args.column c.args.pivot.now (let l = c.requires.lengths in let k = c.requires.column in
+    omega arith))
 
 pub returns-in-Err : goal.returns-in-Err
 returns-in-Err c =

@@ -1,8 +1,13 @@
-use Rattle.std.proofs.Common.{rules, arith, add-one, ◌-◌, ◌+◌, ◌++◌, ◌≡◌}
+use Rattle.std.proofs.Common.{rules, arith, add-one, ◌-◌, ◌+◌, ◌++◌, ◌≡◌, length}
 use Rattle.tableau_rows.specs.Moves.{rows_in}
 use Rattle.tableau_rows.specs.Run.{first_row, has_below}
-use Rattle.checked_tableau.proofs.Looking.{first_past, length_rest}
+use Rattle.checked_tableau.proofs.Looking.{first_past, length_rest, line_ahead}
 use Rattle.checked_tableau.proofs.scans.first_below.Goals as goal
+
+pub split_at-requires : goal.split_at-requires
+split_at-requires c =
+    line_ahead (c.args.count - c.loop-at.at) c.args.stride (length c.loop-at.rest.now)
+    (omega arith) c.loop-at.invariant.0
 
 pub loop-at-preserved : goal.loop-at-preserved
 loop-at-preserved c =

@@ -1,127 +1,102 @@
-use Rattle.std.proofs.Common.{rules, arith, ◌-◌, ◌+◌, ◌++◌, ◌≡◌, length, pos, get_or, true, false, FitsSigned}
-use Rattle.std.specs.Prelude.{Ok}
+use Rattle.std.proofs.Common.{rules, arith, ◌-◌, ◌+◌, ◌++◌, ◌≡◌, length, pos, get_or, Bool, true, false, FitsSigned}
+use Rattle.std.proofs.Common.{◌-ℤ◌}
+use Rattle.std.specs.Prelude.{Result, Ok, if◌then◌else◌}
 use Rattle.std.specs.Int.{w128}
 use Rattle.std.proofs.lemmas.Int.{to_z-of_z, ints}
-use Rattle.tableau_rows.specs.Moves.{rows_in, precedes_run}
-use Rattle.checked_tableau.proofs.Looking.{precedes_here, here_before, here_behind, here_equal, length_rest}
+use Rattle.wide_math.specs.declared.Wide.{Wide}
+use Rattle.tableau_rows.specs.Moves.{rows_in, is_below, precedes_run}
+use Rattle.checked_tableau.proofs.Looking.{compared_run, precedes_here, here_before, here_behind, here_equal}
+use Rattle.checked_tableau.proofs.Looking.{length_rest, line_ahead}
 use Rattle.checked_tableau.proofs.scans.precedes.Goals as goal
+use Rattle.checked_tableau.proofs.scans.precedes.Goals.{After-split_at, In-Ok-mul}
+
+pub split_at-requires : goal.split_at-requires
+split_at-requires c =
+    line_ahead (c.args.count - c.loop.counter) (length c.args.pivot.now)
+    (length c.loop.rest.now) (omega arith) c.loop.invariant.0
+
+-- the comparison at the row, with that of the rows behind it, is the whole run
+here : (c : After-split_at)
+    → let a = get_or c.args.pivot.now (c.args.column + 1) (pos 0) in
+    let b = get_or c.args.pivot.now (c.args.best + 1) (pos 0) in
+    let row = c.split_at.result.0.now in
+    let stride = length c.args.pivot.now in
+    compared_run a b (get_or row (c.args.column + 1) (pos 0)) (get_or row (c.args.best + 1) (pos 0))
+    (precedes_run a b c.args.column c.args.best
+    (rows_in stride (c.args.count - (c.loop.counter + 1)) c.split_at.result.1.now))
+    ≡ precedes_run a b c.args.column c.args.best (rows_in stride c.args.count c.args.unknowns.now)
+here c =
+    let ps = c.args.pivot.now in
+    let row = c.split_at.result.0.now in
+    let others = c.split_at.result.1.now in
+    let parts : c.loop.rest.now ≡ row ++ others = search rules in
+    precedes_here (get_or ps (c.args.column + 1) (pos 0)) (get_or ps (c.args.best + 1) (pos 0)) c.args.column
+    c.args.best (length ps) (c.args.count - (c.loop.counter + 1)) (c.args.count - c.loop.counter) c.loop.rest.now row
+    others _ (omega arith) parts c.split_at.ensures.front_len c.loop.invariant.1
+
+-- where both products are formed, their signs decide
+formed : (c : In-Ok-mul) (rest run : Result Bool Wide)
+    → compared_run (get_or c.args.pivot.now (c.args.column + 1) (pos 0))
+    (get_or c.args.pivot.now (c.args.best + 1) (pos 0)) (get_or c.split_at.result.0.now (c.args.column + 1) (pos 0))
+    (get_or c.split_at.result.0.now (c.args.best + 1) (pos 0)) rest ≡ run
+    → (if is_below (c.in-Ok.new -ℤ c.in-Ok-mul.old) then Ok true
+    else if is_below (c.in-Ok-mul.old -ℤ c.in-Ok.new) then Ok false else rest) ≡ run
+formed c rest run kept =
+    let row = c.split_at.result.0.now in
+    let ps = c.args.pivot.now in
+    let fx : FitsSigned w128 (get_or row (c.args.column + 1) (pos 0)) = search rules in
+    let fy : FitsSigned w128 (get_or row (c.args.best + 1) (pos 0)) = search rules in
+    let fa : FitsSigned w128 (get_or ps (c.args.column + 1) (pos 0)) = search rules in
+    let fb : FitsSigned w128 (get_or ps (c.args.best + 1) (pos 0)) = search rules in
+    let new = simp to_z-of_z at c.in-Ok.ensures in
+    let old = simp to_z-of_z at c.in-Ok-mul.ensures in
+    rw (← new, ← old) at kept
 
 pub returns-in-Err : goal.returns-in-Err
 returns-in-Err c =
-    let ps = c.args.pivot.now in
-    let row = c.split_at.result.0.now in
-    let others = c.split_at.result.1.now in
-    let j = c.args.column in
-    let s = c.args.best in
-    let a = get_or ps (j + 1) (pos 0) in
-    let b = get_or ps (s + 1) (pos 0) in
-    let left = c.args.count - (c.loop.counter + 1) in
-    let fx : FitsSigned w128 (get_or row (j + 1) (pos 0)) = search rules in
-    let fb : FitsSigned w128 b = search rules in
+    let fx : FitsSigned w128 (get_or c.split_at.result.0.now (c.args.column + 1) (pos 0)) = search rules in
+    let fb : FitsSigned w128 (get_or c.args.pivot.now (c.args.best + 1) (pos 0)) = search rules in
     let failed = simp to_z-of_z at c.in-Err.ensures in
-    let parts : c.loop.rest.now ≡ row ++ others = search rules in
-    let run = precedes_run a b j s (rows_in (length ps) c.args.count c.args.unknowns.now) in
-    let here = precedes_here a b j s (length ps) left (c.args.count - c.loop.counter) c.loop.rest.now row others run
-    (omega arith) parts c.split_at.ensures.front_len c.loop.invariant.1 in
-    rw (← failed) at here
+    rw (← failed) at (here (goal.at.returns-in-Err c).After-split_at)
 
 pub returns-in-Err-mul : goal.returns-in-Err-mul
 returns-in-Err-mul c =
-    let ps = c.args.pivot.now in
     let row = c.split_at.result.0.now in
-    let others = c.split_at.result.1.now in
-    let j = c.args.column in
-    let s = c.args.best in
-    let a = get_or ps (j + 1) (pos 0) in
-    let b = get_or ps (s + 1) (pos 0) in
-    let left = c.args.count - (c.loop.counter + 1) in
-    let fx : FitsSigned w128 (get_or row (j + 1) (pos 0)) = search rules in
-    let fb : FitsSigned w128 b = search rules in
-    let fy : FitsSigned w128 (get_or row (s + 1) (pos 0)) = search rules in
-    let fa : FitsSigned w128 a = search rules in
+    let ps = c.args.pivot.now in
+    let fx : FitsSigned w128 (get_or row (c.args.column + 1) (pos 0)) = search rules in
+    let fy : FitsSigned w128 (get_or row (c.args.best + 1) (pos 0)) = search rules in
+    let fa : FitsSigned w128 (get_or ps (c.args.column + 1) (pos 0)) = search rules in
+    let fb : FitsSigned w128 (get_or ps (c.args.best + 1) (pos 0)) = search rules in
     let new = simp to_z-of_z at c.in-Ok.ensures in
     let failed = simp to_z-of_z at c.in-Err-mul.ensures in
-    let parts : c.loop.rest.now ≡ row ++ others = search rules in
-    let run = precedes_run a b j s (rows_in (length ps) c.args.count c.args.unknowns.now) in
-    let here = precedes_here a b j s (length ps) left (c.args.count - c.loop.counter) c.loop.rest.now row others run
-    (omega arith) parts c.split_at.ensures.front_len c.loop.invariant.1 in
-    rw (← new, ← failed) at here
+    rw (← new, ← failed) at (here (goal.at.returns-in-Err-mul c).After-split_at)
 
 pub returns-then-new-old : goal.returns-then-new-old
 returns-then-new-old c =
-    let ps = c.args.pivot.now in
-    let row = c.split_at.result.0.now in
-    let others = c.split_at.result.1.now in
-    let j = c.args.column in
-    let s = c.args.best in
-    let a = get_or ps (j + 1) (pos 0) in
-    let b = get_or ps (s + 1) (pos 0) in
-    let left = c.args.count - (c.loop.counter + 1) in
-    let fx : FitsSigned w128 (get_or row (j + 1) (pos 0)) = search rules in
-    let fb : FitsSigned w128 b = search rules in
-    let fy : FitsSigned w128 (get_or row (s + 1) (pos 0)) = search rules in
-    let fa : FitsSigned w128 a = search rules in
-    let new = simp to_z-of_z at c.in-Ok.ensures in
-    let old = simp to_z-of_z at c.in-Ok-mul.ensures in
+    let at = goal.at.returns-then-new-old c in
     let fn : FitsSigned w128 c.in-Ok.new = search rules in
     let fo : FitsSigned w128 c.in-Ok-mul.old = search rules in
-    let parts : c.loop.rest.now ≡ row ++ others = search rules in
-    let run = precedes_run a b j s (rows_in (length ps) c.args.count c.args.unknowns.now) in
-    let here = precedes_here a b j s (length ps) left (c.args.count - c.loop.counter) c.loop.rest.now row others run
-    (omega arith) parts c.split_at.ensures.front_len c.loop.invariant.1 in
-    here_before c.in-Ok.new c.in-Ok-mul.old (Ok true) (Ok false)
-    (precedes_run a b j s (rows_in (length ps) left others)) run (omega (arith, ints)) (rw (← new, ← old) at here)
+    here_before c.in-Ok.new c.in-Ok-mul.old (Ok true) (Ok false) _ _ (omega (arith, ints))
+    (formed at.In-Ok-mul _ _ (here at.After-split_at))
 
 pub returns-then-old-new : goal.returns-then-old-new
 returns-then-old-new c =
-    let ps = c.args.pivot.now in
-    let row = c.split_at.result.0.now in
-    let others = c.split_at.result.1.now in
-    let j = c.args.column in
-    let s = c.args.best in
-    let a = get_or ps (j + 1) (pos 0) in
-    let b = get_or ps (s + 1) (pos 0) in
-    let left = c.args.count - (c.loop.counter + 1) in
-    let fx : FitsSigned w128 (get_or row (j + 1) (pos 0)) = search rules in
-    let fb : FitsSigned w128 b = search rules in
-    let fy : FitsSigned w128 (get_or row (s + 1) (pos 0)) = search rules in
-    let fa : FitsSigned w128 a = search rules in
-    let new = simp to_z-of_z at c.in-Ok.ensures in
-    let old = simp to_z-of_z at c.in-Ok-mul.ensures in
+    let at = goal.at.returns-then-old-new c in
     let fn : FitsSigned w128 c.in-Ok.new = search rules in
     let fo : FitsSigned w128 c.in-Ok-mul.old = search rules in
-    let parts : c.loop.rest.now ≡ row ++ others = search rules in
-    let run = precedes_run a b j s (rows_in (length ps) c.args.count c.args.unknowns.now) in
-    let here = precedes_here a b j s (length ps) left (c.args.count - c.loop.counter) c.loop.rest.now row others run
-    (omega arith) parts c.split_at.ensures.front_len c.loop.invariant.1 in
-    here_behind c.in-Ok.new c.in-Ok-mul.old (Ok true) (Ok false)
-    (precedes_run a b j s (rows_in (length ps) left others)) run (omega (arith, ints)) (rw (← new, ← old) at here)
+    here_behind c.in-Ok.new c.in-Ok-mul.old (Ok true) (Ok false) _ _ (omega (arith, ints))
+    (formed at.In-Ok-mul _ _ (here at.After-split_at))
 
 pub loop-preserved : goal.loop-preserved
 loop-preserved c =
-    let ps = c.args.pivot.now in
+    let at = goal.at.loop-preserved c in
     let row = c.split_at.result.0.now in
     let others = c.split_at.result.1.now in
-    let j = c.args.column in
-    let s = c.args.best in
-    let a = get_or ps (j + 1) (pos 0) in
-    let b = get_or ps (s + 1) (pos 0) in
-    let left = c.args.count - (c.loop.counter + 1) in
-    let fx : FitsSigned w128 (get_or row (j + 1) (pos 0)) = search rules in
-    let fb : FitsSigned w128 b = search rules in
-    let fy : FitsSigned w128 (get_or row (s + 1) (pos 0)) = search rules in
-    let fa : FitsSigned w128 a = search rules in
-    let new = simp to_z-of_z at c.in-Ok.ensures in
-    let old = simp to_z-of_z at c.in-Ok-mul.ensures in
     let fn : FitsSigned w128 c.in-Ok.new = search rules in
     let fo : FitsSigned w128 c.in-Ok-mul.old = search rules in
-    let parts : c.loop.rest.now ≡ row ++ others = search rules in
-    let run = precedes_run a b j s (rows_in (length ps) c.args.count c.args.unknowns.now) in
-    let here = precedes_here a b j s (length ps) left (c.args.count - c.loop.counter) c.loop.rest.now row others run
-    (omega arith) parts c.split_at.ensures.front_len c.loop.invariant.1 in (
-      length_rest (length ps) left (c.args.count - c.loop.counter) c.loop.rest.now row others (omega arith) parts
-          c.split_at.ensures.front_len c.loop.invariant.0,
-      here_equal c.in-Ok.new c.in-Ok-mul.old (Ok true) (Ok false)
-          (precedes_run a b j s (rows_in (length ps) left others)) run (omega (arith, ints)) (omega (arith, ints))
-          (rw (← new, ← old) at here),
+    let parts : c.loop.rest.now ≡ row ++ others = search rules in (
+      length_rest (length c.args.pivot.now) (c.args.count - (c.loop.counter + 1)) (c.args.count - c.loop.counter)
+          c.loop.rest.now row others (omega arith) parts c.split_at.ensures.front_len c.loop.invariant.0,
+      here_equal c.in-Ok.new c.in-Ok-mul.old (Ok true) (Ok false) _ _ (omega (arith, ints)) (omega (arith, ints))
+          (formed at.In-Ok-mul _ _ (here at.After-split_at)),
     )

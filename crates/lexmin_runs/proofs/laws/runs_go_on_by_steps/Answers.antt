@@ -1,21 +1,14 @@
-use Rattle.lexmin_runs.proofs.Steps.{whole_step, resumed_ends, resumed_goes, resumed_binds, resumed_splits}
-use Rattle.lexmin_runs.proofs.Steps.{resumed_stops}
+use Rattle.std.specs.Prelude.{Ok}
+use Rattle.lexmin_runs.specs.Nodes as next
+use Rattle.lexmin_runs.proofs.Steps.{whole_step, resumed_step, resumed_stops}
 use Rattle.lexmin_runs.proofs.laws.runs_go_on_by_steps.Goals as goal
 
-pub returns-clause-step : goal.returns-clause-step
-returns-clause-step c = whole_step
-
-pub returns-clause-ends : goal.returns-clause-ends
-returns-clause-ends c = resumed_ends
-
-pub returns-clause-goes : goal.returns-clause-goes
-returns-clause-goes c = resumed_goes
-
-pub returns-clause-binds : goal.returns-clause-binds
-returns-clause-binds c = resumed_binds
-
-pub returns-clause-splits : goal.returns-clause-splits
-returns-clause-splits c = resumed_splits
-
-pub returns-clause-stops : goal.returns-clause-stops
-returns-clause-stops c = resumed_stops
+pub returns : goal.returns
+returns c = record {
+  step = whole_step;
+  ends = λ n left node frames tree rest h. resumed_step n left node frames (Ok (next.ends tree, rest)) h;
+  goes = λ n left node on frames rest h. resumed_step n left node frames (Ok (next.goes on, rest)) h;
+  binds = λ n left node on frames f d rest h. resumed_step n left node frames (Ok (next.binds f d on, rest)) h;
+  splits = λ n left node a b frames f rest h. resumed_step n left node frames (Ok (next.splits f a b, rest)) h;
+  stops = resumed_stops;
+}

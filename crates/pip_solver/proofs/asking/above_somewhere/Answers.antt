@@ -1,13 +1,8 @@
-use Rattle.std.proofs.Common.{◌≡◌, ℕ, List, subst, sym}
-use Rattle.std.specs.Prelude.{All}
-use Rattle.whole_numbers.specs.Affine.{Affine}
-use Rattle.affine_forms.specs.Parts.{variables_of}
-use Rattle.pip_solver.proofs.Deciding.{all_speak}
+use Rattle.pip_solver.proofs.Deciding.{speaks_at}
 use Rattle.pip_solver.proofs.asking.above_somewhere.Goals as goal
 
 pub ask-requires-clause-forms : goal.ask-requires-clause-forms
 ask-requires-clause-forms c =
     let t = c.args.node.now in
-    subst (λ (fs : List Affine). All (λ f. variables_of f ≡ c.parameters.result) fs) (sym c.deref.ensures.value)
-    (subst (λ (k : ℕ). All (λ f. variables_of f ≡ k) t.context.items) (sym c.parameters.ensures)
-    (all_speak t.rows.parameters t.context.items c.requires.1))
+    speaks_at t.rows.parameters c.parameters.result t.context.items c.deref.result.now c.requires.1
+    c.deref.ensures.value c.parameters.ensures

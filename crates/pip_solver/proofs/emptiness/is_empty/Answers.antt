@@ -6,7 +6,7 @@ use Rattle.integer_sets.specs.Constraints.{IsSized, variables_in}
 use Rattle.lexmin_runs.specs.Emptiness.{posed_run}
 use Rattle.lexmin_runs.proofs.Emptiness.{empty-true, empty-false}
 use Rattle.checked_tableau.specs.declared.problem.Problem.{Problem}
-use Rattle.pip_solver.specs.Answers.{Poses, Decides}
+use Rattle.pip_solver.specs.Answers.{Poses, Decides, Empties}
 use Rattle.pip_solver.specs.declared.stop.Stop.TheVariants as solver
 use Rattle.pip_solver.proofs.Deciding.{posed_sized, empties_decided, empty_unposed}
 use Rattle.pip_solver.proofs.emptiness.is_empty.Goals as goal
@@ -26,6 +26,21 @@ sized : (c : In-Ok) → IsSized (variables_in c.args.system.now) c.args.system.n
 sized c = subst (λ (n : ℕ). IsSized n c.args.system.now.equalities c.args.system.now.rows) (number c)
     c.in-Ok.ensures.sized
 
+-- the problem that is told, and what its decision says of the system
+abbrev told : In-Ok → Problem
+told c = record {
+  unknowns = c.in-Some.unknowns;
+  parameters = 0;
+  rows = c.pose.new.rows;
+  context = c.new-context.result;
+}
+
+decided : (c : In-Ok) (result : Result Bool solver.the_data) → Decides result c.args.budget (told c)
+    → Empties result c.args.budget c.args.system.now
+decided c result decides =
+    empties_decided c.args.budget c.args.system.now (told c) result
+    (record { unknowns = number c; parameters = refl; rows = posed c; context = c.new-context.ensures.items }) decides
+
 pub decide-requires : goal.decide-requires
 decide-requires c k d low = posed_sized c.args.system.now c.pose.new.rows.items (sized c) (posed c) k d low
     ∙ sym (number c)
@@ -39,44 +54,18 @@ returns-in-Err-Wide-clause-run c =
 
 pub returns-in-Ok-clause-run : goal.returns-in-Ok-clause-run
 returns-in-Ok-clause-run c =
-    let s = c.args.system.now in
-    let at = (goal.at.returns-in-Ok-clause-run c).In-Ok in
-    let told : Problem = record {
-      unknowns = c.in-Some.unknowns;
-      parameters = 0;
-      rows = c.pose.new.rows;
-      context = c.new-context.result;
-    } in
-    empties_decided c.args.budget s told c.decide.result
-    (record { unknowns = number at; parameters = refl; rows = posed at; context = c.new-context.ensures.items })
-    c.decide.ensures
+    decided (goal.at.returns-in-Ok-clause-run c).In-Ok c.decide.result c.decide.ensures
 
 pub returns-in-Ok-clause-empty : goal.returns-in-Ok-clause-empty
 returns-in-Ok-clause-empty c h x p is =
-    let s = c.args.system.now in
     let at = (goal.at.returns-in-Ok-clause-empty c).In-Ok in
-    let told : Problem = record {
-      unknowns = c.in-Some.unknowns;
-      parameters = 0;
-      rows = c.pose.new.rows;
-      context = c.new-context.result;
-    } in
-    let run = empties_decided c.args.budget s told (Ok true)
-    (record { unknowns = number at; parameters = refl; rows = posed at; context = c.new-context.ensures.items })
-    (subst (λ (r : Result Bool solver.the_data). Decides r c.args.budget told) h c.decide.ensures) in
-    empty-true c.args.budget s run.0 (sized at) run.1 x p is
+    let run = decided at (Ok true)
+    (subst (λ (r : Result Bool solver.the_data). Decides r c.args.budget (told at)) h c.decide.ensures) in
+    empty-true c.args.budget c.args.system.now run.0 (sized at) run.1 x p is
 
 pub returns-in-Ok-clause-point : goal.returns-in-Ok-clause-point
 returns-in-Ok-clause-point c h =
-    let s = c.args.system.now in
     let at = (goal.at.returns-in-Ok-clause-point c).In-Ok in
-    let told : Problem = record {
-      unknowns = c.in-Some.unknowns;
-      parameters = 0;
-      rows = c.pose.new.rows;
-      context = c.new-context.result;
-    } in
-    let run = empties_decided c.args.budget s told (Ok false)
-    (record { unknowns = number at; parameters = refl; rows = posed at; context = c.new-context.ensures.items })
-    (subst (λ (r : Result Bool solver.the_data). Decides r c.args.budget told) h c.decide.ensures) in
-    empty-false c.args.budget s run.0 (sized at) run.1
+    let run = decided at (Ok false)
+    (subst (λ (r : Result Bool solver.the_data). Decides r c.args.budget (told at)) h c.decide.ensures) in
+    empty-false c.args.budget c.args.system.now run.0 (sized at) run.1

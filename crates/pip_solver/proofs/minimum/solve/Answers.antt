@@ -5,14 +5,16 @@ use Rattle.quast_trees.specs.Postfix.{standing, top}
 use Rattle.quast_trees.specs.Value.{value}
 use Rattle.tableau_rows.specs.Problem.{problem_of}
 use Rattle.lexmin_runs.specs.Answers.{IsAnswer}
-use Rattle.lexmin_runs.specs.Nodes.{Counted}
+use Rattle.lexmin_runs.specs.Nodes.{Counted, whole}
+use Rattle.tableau_nodes.specs.Node.{node_of}
+use Rattle.pip_solver.specs.Frames.{Runs}
 use Rattle.lexmin_runs.proofs.Trees.{lexmin-right}
 use Rattle.pip_solver.specs.Answers.{Tells}
 use Rattle.pip_solver.specs.Solving.{solved}
 use Rattle.pip_solver.specs.declared.question.QuestionStop.{QuestionStop}
 use Rattle.pip_solver.proofs.Minimum_of.{is_sized, first_ready, first_run, tree_speaks}
 use Rattle.pip_solver.proofs.minimum.solve.Goals as goal
-use Rattle.pip_solver.proofs.minimum.solve.Goals.{In-Ok-run}
+use Rattle.pip_solver.proofs.minimum.solve.Goals.{In-Ok-run, After-run}
 
 pub run-requires-clause-ready : goal.run-requires-clause-ready
 run-requires-clause-ready c =
@@ -51,21 +53,24 @@ returns-in-Ok-run-clause-least c p size not inside =
     (lexmin-right c.args.budget x.unknowns x.parameters x.rows.items x.context.items (top (standing c.run.new.builder))
     c.run.new.left sized.rows sized.context (ran at) p size not inside)
 
+-- where the run stops, so does the problem's
+stopped : (c : After-run) (stop : QuestionStop) → c.run.result ≡ Err stop
+    → Tells {A = Tree} (Err stop) c.run.new.left (solved c.args.budget c.args.problem)
+stopped c stop is =
+    subst (λ (q : Counted Tree). Tells {A = Tree} (Err stop) c.run.new.left q)
+    (first_run c.args.budget c.args.problem c.in-Ok.node c.in-Ok.ensures.node c.in-Ok.ensures.going)
+    (subst (λ r. Runs (whole c.in-Ok.node.rows.unknowns c.args.budget (node_of c.in-Ok.node))
+    (standing c.run.new.builder) c.run.new.left r) is c.run.ensures.run)
+
 pub returns-in-Err-Wide-clause-run : goal.returns-in-Err-Wide-clause-run
 returns-in-Err-Wide-clause-run c =
-    let is = sym (first_run c.args.budget c.args.problem c.in-Ok.node c.in-Ok.ensures.node c.in-Ok.ensures.going) in
-    let told = subst (λ (s : QuestionStop). Tells {A = Tree} (Err s) c.run.new.left
-    (solved c.args.budget c.args.problem)) c.in-Err-Wide.field-0-is
-    (subst (λ (q : Counted Tree). Tells {A = Tree} (Err c.in-Err-Wide.field-0) c.run.new.left q) (sym is)
-    c.in-Err-Wide.ensures.run) in
+    let told = stopped (goal.at.returns-in-Err-Wide-clause-run c).After-run _
+    (c.in-Err-Wide.is ∙ ap (λ s. Err s) c.in-Err-Wide.field-0-is) in
     let less = c.run.ensures.less in
     (told.0, c.run.new.left, told.1, omega (arith, less), refl)
 
 pub returns-in-Err-Spent-clause-run : goal.returns-in-Err-Spent-clause-run
 returns-in-Err-Spent-clause-run c =
-    let is = sym (first_run c.args.budget c.args.problem c.in-Ok.node c.in-Ok.ensures.node c.in-Ok.ensures.going) in
-    let told = subst (λ (s : QuestionStop). Tells {A = Tree} (Err s) c.run.new.left
-    (solved c.args.budget c.args.problem)) c.in-Err-Spent.field-0-is
-    (subst (λ (q : Counted Tree). Tells {A = Tree} (Err c.in-Err-Spent.field-0) c.run.new.left q) (sym is)
-    c.in-Err-Spent.ensures.run) in
+    let told = stopped (goal.at.returns-in-Err-Spent-clause-run c).After-run _
+    (c.in-Err-Spent.is ∙ ap (λ s. Err s) c.in-Err-Spent.field-0-is) in
     (told.0, refl, refl)

@@ -3,7 +3,7 @@ use Rattle.std.specs.Prelude.{None}
 use Rattle.tableau_rows.specs.Rows.{Row, entry}
 use Rattle.tableau_rows.specs.Moves.{rows_in, row_at, column_run}
 use Rattle.checked_tableau.specs.Table.{Table, stride_of}
-use Rattle.checked_tableau.proofs.Looking.{entry_at}
+use Rattle.tableau_rows.proofs.Lines.{entry_at}
 use Rattle.checked_tableau.proofs.Tables.{take_rows_in}
 use Rattle.checked_tableau.proofs.table.Rows.column.Goals as goal
 

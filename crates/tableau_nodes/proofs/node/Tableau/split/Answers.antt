@@ -1,8 +1,7 @@
 use Rattle.tableau_rows.specs.Moves.{row_at}
 use Rattle.lexmin_runs.specs.Nodes.{split, part_of}
-use Rattle.lexmin_runs.proofs.Kept.{split_keeps}
+use Rattle.lexmin_runs.proofs.Kept.{split_keeps, part_size}
 use Rattle.tableau_nodes.specs.Node.{node_of}
-use Rattle.tableau_nodes.proofs.Read_off.{size_of_part}
 use Rattle.tableau_nodes.proofs.Moving.{moves-keep}
 use Rattle.tableau_nodes.proofs.node.Tableau.split.Goals as goal
 
@@ -12,4 +11,5 @@ returns-clause-solutions c going is =
     let f = part_of t.rows.unknowns (row_at t.rows.rows c.args.row) in
     moves-keep t c.split_rows.new.self (λ left. split left (node_of t) f) c.split_rows.result
     (c.split_rows.ensures.run going)
-    (λ next ran. split_keeps t.rows.unknowns 1 (node_of t) f next 0 is (size_of_part t c.args.row is c.requires) ran)
+    (λ next ran. split_keeps t.rows.unknowns 1 (node_of t) f next 0 is
+    (part_size t.rows.unknowns (node_of t) c.args.row is c.requires) ran)
