@@ -23,6 +23,7 @@ pub record Side : Type 0 where
   pub number : ℕ
   pub access : Access
 
+-- the access of these parts
 abbrev pub side : Modelled → ℕ → Access → Side
 side s k a = record { statement = s; number = k; access = a }
 
@@ -30,14 +31,16 @@ side s k a = record { statement = s; number = k; access = a }
 abbrev pub loops_of : Side → ℕ
 loops_of s = s.statement.domain.dimensions
 
--- the accesses of a statement, numbered from k
+-- the accesses of a statement, numbered from k on
 abbrev pub sides_from : Modelled → ℕ → List Access → List Side
 sides_from s k [] = []
 sides_from s k (a ∷ rest) = side s k a ∷ sides_from s (k + 1) rest
 
+-- the accesses of a statement, numbered from 0 on
 abbrev pub sides_of : Modelled → List Side
 sides_of s = sides_from s 0 s.accesses
 
+-- the accesses of all statements, in textual order
 abbrev pub sides_in : KernelModel → List Side
 sides_in model = flat_map sides_of model.statements
 
@@ -55,6 +58,7 @@ source_form d e f = form_of (spread e d f.coefficients) f.constant
 abbrev pub target_form : ℕ → Affine → Affine
 target_form d f = form_of (zeros d ++ f.coefficients) f.constant
 
+-- a comparison with its form mapped
 abbrev pub map_test : (Affine → Affine) → Test → Test
 map_test h (at_least f) = at_least (h f)
 map_test h (equal f) = equal (h f)
@@ -75,10 +79,11 @@ abbrev pub equal_turns : ℕ → ℕ → ℕ → List Test
 equal_turns n d zero = []
 equal_turns n d (suc k) = equal_turns n d k ++ equal (step n d k) ∷ []
 
--- the target's turn of the loop behind them is later: target's minus source's minus 1
+-- the form 1
 abbrev pub one_form : ℕ → Affine
 one_form n = form_of (zeros n) (pos 1)
 
+-- the target's turn of the loop behind them is later: target's minus source's minus 1
 abbrev pub later_turn : ℕ → ℕ → ℕ → Test
 later_turn n d k = at_least (difference_of_forms (step n d k) (one_form n))
 
@@ -87,6 +92,7 @@ pub record After : Type 0 where
   pub depth : ℕ
   pub rows : List Test
 
+-- the order of these parts
 abbrev pub after : ℕ → List Test → After
 after depth rows = record { depth = depth; rows = rows }
 
@@ -101,29 +107,35 @@ afters n d k (suc c) earlier =
 abbrev pub pair_size : ℕ → Side → Side → ℕ
 pair_size m s t = loops_of s + loops_of t + m
 
--- both domains, equal subscripts, the order, no parameter negative
+-- the domain of the source over the variables of the pair
 abbrev pub source_rows : Side → Side → List Test
 source_rows s t = map (map_test (source_form (loops_of s) (loops_of t))) (tests_of s.statement.domain)
 
+-- the domain of the target over them
 abbrev pub target_rows : Side → Side → List Test
 target_rows s t = map (map_test (target_form (loops_of s))) (tests_of t.statement.domain)
 
+-- the two accesses touch one cell: equal subscripts
 abbrev pub cell_rows : Side → Side → List Test
 cell_rows s t = same_subscripts (loops_of s) (loops_of t) s.access.subscripts t.access.subscripts
 
+-- no parameter is negative
 abbrev pub parameter_rows : ℕ → Side → Side → List Test
 parameter_rows m s t = map at_least (variables (pair_size m s t) (loops_of s + loops_of t) m)
 
+-- both domains, equal subscripts, the order, no parameter negative
 abbrev pub tests_between : ℕ → Side → Side → After → List Test
 tests_between m s t a = source_rows s t ++ (target_rows s t ++ (cell_rows s t ++ (a.rows ++ parameter_rows m s t)))
 
+-- these as a system over the turns of both and the parameters
 abbrev pub system_between : ℕ → Side → Side → After → Constraints
 system_between m s t a = constraints_of (loops_of s + loops_of t) m (tests_between m s t a)
 
--- the dependence
+-- an access as an end of a dependence
 abbrev pub end_of : Side → DepEnd
 end_of s = record { statement = s.statement.number; loops = loops_of s; access = s.number }
 
+-- the dependence of t on s in one order
 abbrev pub dep_of : ℕ → Side → Side → After → Dependence
 dep_of m s t a = dependence (end_of s) (end_of t) a.depth (system_between m s t a)
 
@@ -138,6 +150,7 @@ abbrev pub may_conflict : Side → Side → Bool
 may_conflict s t =
     if nat_eq s.access.array t.access.array then (if nat_eq s.number 0 then true else nat_eq t.number 0) else false
 
+-- the dependences of t on s, by depth
 abbrev pub deps_between : ℕ → Side → Side → List Dependence
 deps_between m s t = if may_conflict s t then map (dep_of m s t) (afters_of m s t) else []
 

@@ -1,4 +1,4 @@
--- What the code's values stand for, and what its calls ask of them.
+-- What the code's values stand for, and what its calls ask of them; only for the code's own steps.
 use Rattle.std.specs.Prelude.{◌≡◌, ℕ, ◌+◌, ◌≤◌, Bool, List, [], ◌∷◌, ◌++◌, length, if◌then◌else◌, All}
 use Rattle.integer_sets.specs.Constraints.{IsSized}
 use Rattle.scop_syntax.specs.Tree.{Test}
@@ -8,6 +8,7 @@ use Rattle.conflict_deps.specs.Conflicts.{Side, side, loops_of, After, after, eq
 use Rattle.conflict_deps.specs.declared.deps.AccessOf.{AccessOf}
 use Rattle.conflict_deps.specs.declared.deps.PairRows.{PairRows}
 
+-- the access that a value of the code stands for
 abbrev pub side_of : AccessOf → Side
 side_of a = side a.statement.now a.number a.access.now
 

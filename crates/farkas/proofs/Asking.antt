@@ -6,13 +6,12 @@ use Rattle.std.specs.Prelude.{negsuc, if◌then◌else◌, Result, Ok, Err}
 use Rattle.std.proofs.lemmas.List.{take_all}
 use Rattle.std.proofs.Math.ListN.{drop_of_length-le}
 use Rattle.std.proofs.Math.Seq.{take-append_seam}
-use Rattle.std.proofs.lemmas.List.Elements.{All-cons, All-nil, All-append}
+use Rattle.std.proofs.lemmas.List.Elements.{All-cons, All-nil, All-append, All-tail}
 use Rattle.whole_numbers.specs.Affine.{Affine}
 use Rattle.whole_numbers.proofs.Dot.{length-multiples}
 use Rattle.affine_forms.specs.declared.stop.FormStop.{FormStop}
 use Rattle.affine_forms.specs.Gives.{Fails}
 use Rattle.affine_forms.specs.Parts.{variables_of}
-use Rattle.fractions.proofs.Chosen.{All_tail}
 use Rattle.integer_sets.specs.Constraints.{Constraints, IsSized, system_of, variables_in}
 use Rattle.pip_solver.specs.declared.stop.Stop.TheVariants as solver
 use Rattle.pip_solver.specs.Answers.{Empties}
@@ -58,9 +57,9 @@ implied-gives budget n es rest row negation question lost made is h =
 others_all : (P : Affine → Type 0) (rows : List Affine) (at : ℕ) → All P rows → All P (others rows at)
 others_all P [] zero all = all
 others_all P [] (suc at) all = all
-others_all P (r ∷ rows) zero all = All_tail P r rows all
+others_all P (r ∷ rows) zero all = All-tail P r rows all
 others_all P (r ∷ rows) (suc at) all =
-    All-cons P r (others rows at) (all 0 r (omega arith)) (others_all P rows at (All_tail P r rows all))
+    All-cons P r (others rows at) (all 0 r (omega arith)) (others_all P rows at (All-tail P r rows all))
 
 pub question-sized : (s : Constraints) (at : ℕ) (es rows new : List Affine) (row negation : Affine)
     → IsSized (variables_in s) es rows → s.parameters ≡ 0 → at < length rows → row ≡ get_or rows at row

@@ -4,7 +4,7 @@ use Rattle.std.proofs.Common.{◌∙◌, ap, ap₂, All, arith}
 use Rattle.std.specs.Prelude.{map, Ok, ◌*◌}
 use Rattle.std.proofs.lemmas.Int.{ints}
 use Rattle.std.proofs.lemmas.List.{length-append, length-map, map-append}
-use Rattle.std.proofs.lemmas.List.Elements.{All-cons, All-nil}
+use Rattle.std.proofs.lemmas.List.Elements.{All-cons, All-nil, All-head, All-tail}
 use Rattle.whole_numbers.specs.Affine.{Affine, form_of, multiple_of_form}
 use Rattle.whole_numbers.specs.Lists.{zeros}
 use Rattle.whole_numbers.proofs.Ring.{mul_neg_left, mul_one_left}
@@ -13,7 +13,6 @@ use Rattle.wide_math.specs.Checked.{difference_of, ◌>>=◌}
 use Rattle.wide_math.proofs.Steps.{chain-ok, difference_of-ok}
 use Rattle.affine_forms.specs.Parts.{variables_of}
 use Rattle.fractions.specs.Farkas.{two_rows, matched, matched_constant, matched_from, own_rows, IsHomogeneous}
-use Rattle.fractions.proofs.Chosen.{All_head, All_tail}
 use Rattle.integer_sets.specs.Constraints.{Constraints}
 use Rattle.farkas.specs.declared.matching.Entry.{Entry}
 use Rattle.farkas.specs.declared.matching.Entry.TheVariants as entry
@@ -124,9 +123,9 @@ matched_sized n k i [] constant gs hs h0 count =
     (row_sized n k constant (negsuc 0) (λ g. neg_ℤ g.constant) gs h0 count) (All-nil (λ f. variables_of f ≡ n + k))
 matched_sized n k i (l ∷ ls) constant gs hs h0 count =
     All-cons (λ f. variables_of f ≡ n + k) (matched i l gs) (matched_from (suc i) ls constant gs)
-    (row_sized n k l (pos 0) (λ g. neg_ℤ (entry_of (entry.Coefficient i) g)) gs (All_head (λ l. length l ≡ n) l ls
+    (row_sized n k l (pos 0) (λ g. neg_ℤ (entry_of (entry.Coefficient i) g)) gs (All-head (λ l. length l ≡ n) l ls
     hs) count)
-    (matched_sized n k (suc i) ls constant gs (All_tail (λ l. length l ≡ n) l ls hs) h0 count)
+    (matched_sized n k (suc i) ls constant gs (All-tail (λ l. length l ≡ n) l ls hs) h0 count)
 
 pub matched_homogeneous : (i : ℕ) (linear : List (List ℤ)) (constant : List ℤ) (gs : List Affine)
     → All IsHomogeneous (matched_from i linear constant gs)

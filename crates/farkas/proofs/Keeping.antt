@@ -4,7 +4,7 @@ use Rattle.std.proofs.Common.{◌++◌, refl, sym, ◌∙◌, ap₂, subst, All,
 use Rattle.std.specs.Prelude.{Ok, if◌then◌else◌}
 use Rattle.std.proofs.lemmas.Int.{ints}
 use Rattle.std.proofs.lemmas.List.{append-nil}
-use Rattle.std.proofs.lemmas.List.Elements.{All-cons, All-nil, All-append}
+use Rattle.std.proofs.lemmas.List.Elements.{All-cons, All-nil, All-append, All-head, All-tail}
 use Rattle.whole_numbers.specs.Affine.{Affine, form_of, complement}
 use Rattle.whole_numbers.specs.Lists.{multiples}
 use Rattle.whole_numbers.proofs.Ring.{mul_neg_left, mul_one_left}
@@ -16,7 +16,7 @@ use Rattle.affine_forms.specs.Parts.{variables_of}
 use Rattle.affine_forms.specs.Runs.{map_run}
 use Rattle.fractions.specs.Fractions.{HoldsOver}
 use Rattle.fractions.specs.Farkas.{HasNoPoint, Dropped}
-use Rattle.fractions.proofs.Chosen.{All_head, All_tail, All-front, All-back}
+use Rattle.fractions.proofs.Chosen.{All-front, All-back}
 use Rattle.integer_sets.specs.Constraints.{IsSized, system_of, variables_in}
 use Rattle.fm_projection.proofs.Law.{whole_point}
 use Rattle.lexmin_runs.proofs.Emptiness.{empty-true}
@@ -111,7 +111,7 @@ kept-all P budget n es front (r ∷ rest) kept h all =
     let c = then-ok (implied_run budget n es (front ++ rest) r)
     (λ (drops : Bool). kept_run budget n es (if drops then front else front ++ r ∷ []) rest) kept h in
     let others = All-append P front rest (All-front P front (r ∷ rest) all)
-    (All_tail P r rest (All-back P front (r ∷ rest) all)) in
+    (All-tail P r rest (All-back P front (r ∷ rest) all)) in
     let joined = subst (λ (fs : List Affine). All P fs) (sym (append_assoc front (r ∷ []) rest)) all in
     by_answer c.0 (λ h. kept-all P budget n es front rest kept h others)
     (λ h. kept-all P budget n es (front ++ r ∷ []) rest kept h joined) c.2
@@ -133,10 +133,10 @@ kept-dropped budget n es front (r ∷ rest) kept he all h =
     (λ (drops : Bool). kept_run budget n es (if drops then front else front ++ r ∷ []) rest) kept h in
     let f = All-front (λ f. variables_of f ≡ n) front (r ∷ rest) all in
     let b = All-back (λ f. variables_of f ≡ n) front (r ∷ rest) all in
-    let others = All-append (λ f. variables_of f ≡ n) front rest f (All_tail (λ f. variables_of f ≡ n) r rest b) in
+    let others = All-append (λ f. variables_of f ≡ n) front rest f (All-tail (λ f. variables_of f ≡ n) r rest b) in
     let joined = subst (λ (fs : List Affine). All (λ f. variables_of f ≡ n) fs) (sym (append_assoc front (r ∷ [])
     rest)) all in
-    by_answer c.0 others (All_head (λ f. variables_of f ≡ n) r rest b)
+    by_answer c.0 others (All-head (λ f. variables_of f ≡ n) r rest b)
     (λ h. kept-dropped budget n es front rest kept he others h)
     (λ h. kept-dropped budget n es (front ++ r ∷ []) rest kept he joined h) c.1 c.2
   where

@@ -4,6 +4,7 @@ use Rattle.std.proofs.Common.{length, get_or, take, drop, refl, sym, ◌∙◌, 
 use Rattle.std.specs.Prelude.{map, if◌then◌else◌, Option, Some, None, Ok}
 use Rattle.std.proofs.lemmas.List.{map-append, take-append-drop, append_assoc}
 use Rattle.std.proofs.Math.Seq.{take-append_seam}
+use Rattle.std.proofs.lemmas.List.Elements.{All-head, All-tail, All-map}
 use Rattle.whole_numbers.specs.Affine.{Affine, form_of}
 use Rattle.whole_numbers.specs.Lists.{zeros}
 use Rattle.whole_numbers.specs.Content.{lowest_of_form}
@@ -12,8 +13,7 @@ use Rattle.fractions.specs.Fractions.{value_over}
 use Rattle.fractions.specs.Elimination.{coefficient_of, is_zero, is_positive, is_negative, is_not_zero, chosen, pairs}
 use Rattle.fractions.specs.Elimination.{reduced, first_with, eliminated_by, eliminated, removed, narrowed}
 use Rattle.fractions.specs.Farkas.{own_rows, IsHomogeneous, AreAmong, Dropped, Leaves}
-use Rattle.fractions.proofs.Chosen.{All_head, All_tail, All-front}
-use Rattle.fractions.proofs.Content.{map_from}
+use Rattle.fractions.proofs.Chosen.{All-front}
 use Rattle.fractions.proofs.Dropping.{own_rows_stay, own_rows_absent}
 use Rattle.fractions.proofs.Homogeneous.{eliminated_homogeneous, narrowed_homogeneous}
 use Rattle.integer_sets.specs.Constraints.{Constraints, system_of, variables_in}
@@ -38,8 +38,8 @@ chosen_append test i (f ∷ fs) gs = by_test (test (coefficient_of i f)) (chosen
 chosen_absent : (i : ℕ) (fs : List Affine) → All (λ f. coefficient_of i f ≡ pos 0) fs → chosen is_zero i fs ≡ fs
 chosen_absent i [] all = refl
 chosen_absent i (f ∷ fs) all =
-    let none = All_head (λ f. coefficient_of i f ≡ pos 0) f fs all in
-    let more = chosen_absent i fs (All_tail (λ f. coefficient_of i f ≡ pos 0) f fs all) in
+    let none = All-head (λ f. coefficient_of i f ≡ pos 0) f fs all in
+    let more = chosen_absent i fs (All-tail (λ f. coefficient_of i f ≡ pos 0) f fs all) in
     rw none (ap (λ (zs : List Affine). f ∷ zs) more)
 
 own_coefficient : (b : ℕ) (rest : List ℤ) → get_or (zeros b ++ pos 1 ∷ rest) b (pos 0) ≡ pos 1
@@ -100,7 +100,7 @@ removed_length (suc i) (suc n) (x ∷ xs) size inside =
 
 pub narrowed_sized : (i n : ℕ) (fs : List Affine) → AreSized (suc n) fs → i < suc n → AreSized n (map (narrowed i) fs)
 narrowed_sized i n fs all inside =
-    map_from (λ f. variables_of f ≡ n) (narrowed i) fs
+    All-map (λ f. variables_of f ≡ n) (narrowed i) fs
     (λ k d within. removed_length i n (get_or fs k d).coefficients (all k d within)
     (let s = all k d within in omega arith))
 

@@ -4,7 +4,7 @@ use Rattle.std.proofs.Common.{length, get_or, refl, sym, ◌∙◌, ap, subst, A
 use Rattle.std.specs.Prelude.{Ok}
 use Rattle.std.proofs.lemmas.Int.{ints}
 use Rattle.std.proofs.lemmas.List.{append-nil}
-use Rattle.std.proofs.lemmas.List.Elements.{All-cons, All-nil, All-append}
+use Rattle.std.proofs.lemmas.List.Elements.{All-cons, All-nil, All-append, All-head, All-tail}
 use Rattle.whole_numbers.specs.Affine.{Affine, multiple_of_form}
 use Rattle.whole_numbers.specs.Lists.{dot}
 use Rattle.whole_numbers.proofs.Ring.{mul_neg_left, mul_one_left, mul_zero_left}
@@ -12,7 +12,6 @@ use Rattle.whole_numbers.proofs.Dot.{length-multiples}
 use Rattle.affine_forms.specs.Parts.{variables_of}
 use Rattle.fractions.specs.Fractions.{HoldsOver}
 use Rattle.fractions.specs.Farkas.{HasFarkas, Leaves, matched_from, own_rows, two_rows}
-use Rattle.fractions.proofs.Chosen.{All_head, All_tail}
 use Rattle.fractions.proofs.Combination.{farkas_of_system}
 use Rattle.fractions.proofs.Leaving.{left_is_farkas}
 use Rattle.fractions.proofs.Over.{value_over-one}
@@ -37,11 +36,11 @@ two_rows_sized : (n : ℕ) (es : List Affine) → All (λ f. variables_of f ≡ 
     → All (λ g. length g.coefficients ≤ n) (two_rows es)
 two_rows_sized n [] all = All-nil (λ g. length g.coefficients ≤ n)
 two_rows_sized n (e ∷ es) all =
-    let own = All_head (λ f. variables_of f ≡ n) e es all in
+    let own = All-head (λ f. variables_of f ≡ n) e es all in
     let turned = length-multiples (negsuc 0) e.coefficients in
     All-cons (λ g. length g.coefficients ≤ n) e (multiple_of_form (negsuc 0) e ∷ two_rows es) (omega arith)
     (All-cons (λ g. length g.coefficients ≤ n) (multiple_of_form (negsuc 0) e) (two_rows es) (omega arith)
-    (two_rows_sized n es (All_tail (λ f. variables_of f ≡ n) e es all)))
+    (two_rows_sized n es (All-tail (λ f. variables_of f ≡ n) e es all)))
 
 at_most : (n : ℕ) (fs : List Affine) → All (λ f. variables_of f ≡ n) fs → All (λ g. length g.coefficients ≤ n) fs
 at_most n fs all k d inside = let s = all k d inside in omega arith

@@ -1,3 +1,4 @@
+-- The forms of the legality and the bounding claim on a dependence, at given unknowns and as factors of them.
 use Rattle.std.specs.Prelude.{ℕ, zero, suc, ◌+◌, nat_eq, if◌then◌else◌, ℤ, pos, negsuc, ◌+ℤ◌, ◌*ℤ◌, List, [], ◌∷◌}
 use Rattle.std.specs.Prelude.{◌++◌, set, get_or}
 use Rattle.whole_numbers.specs.Affine.{Affine, form_of}
@@ -9,14 +10,18 @@ use Rattle.farkas.specs.Unknowns.{layout_of, coefficients_of, shift_of, bounds_o
 
 -- With which factors the target's row phi_T(t), the source's row phi_S(s) and the bound u.n + w stand in a claimed
 -- form: phi_T(t) - phi_S(s) is the legality form, u.n + w - (phi_T(t) - phi_S(s)) the bounding form.
+
+-- the factor of the target's row
 abbrev pub target_factor : Claim → ℤ
 target_factor Legality = pos 1
 target_factor Bounding = negsuc 0
 
+-- the factor of the source's row
 abbrev pub source_factor : Claim → ℤ
 source_factor Legality = negsuc 0
 source_factor Bounding = pos 1
 
+-- the factor of the bound
 abbrev pub bound_factor : Claim → ℤ
 bound_factor Legality = pos 0
 bound_factor Bounding = pos 1

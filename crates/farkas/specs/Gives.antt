@@ -1,3 +1,4 @@
+-- When a call answers what its run gives, and how a call below makes it stuck.
 use Rattle.std.specs.Prelude.{◌≡◌, ℕ, Bool, if◌then◌else◌, List, ◌++◌, Result, Ok, Err, ⊤}
 use Rattle.wide_math.specs.declared.Wide.{Wide}
 use Rattle.wide_math.specs.Checked.{◌>>=◌}
@@ -47,16 +48,18 @@ Asks budget s at (Ok t) row =
     × (t ≡ system_of s.dimensions 0 s.equalities (if lost then others s.rows at else s.rows))
 Asks budget s at (Err e) row = Halts budget e (implied_run budget s.dimensions s.equalities (others s.rows at) row)
 
--- how a call below, which stops, makes this one stuck
+-- how a call on forms, which stops, makes this one stuck
 abbrev pub stuck_of_form : FormStop → stuck.the_data
 stuck_of_form (form_stop.Wide w) = stuck.Elimination (fm.Wide w)
 stuck_of_form form_stop.NoMemory = stuck.NoMemory
 
+-- how an elimination, which stops, makes this call stuck
 abbrev pub stuck_of_elimination : fm.the_data → stuck.the_data
 stuck_of_elimination (fm.Wide w) = stuck.Elimination (fm.Wide w)
 stuck_of_elimination (fm.Crowded pairs) = stuck.Elimination (fm.Crowded pairs)
 stuck_of_elimination fm.NoMemory = stuck.NoMemory
 
+-- how a question to the solver, which stops, makes this call stuck
 abbrev pub stuck_of_solver : solver.the_data → stuck.the_data
 stuck_of_solver (solver.Wide posed moves) = stuck.Solver (solver.Wide posed moves)
 stuck_of_solver (solver.Spent posed moves) = stuck.Solver (solver.Spent posed moves)

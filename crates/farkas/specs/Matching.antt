@@ -1,3 +1,5 @@
+-- The matching of coefficients in Farkas's identity, number by number in 128 bits: an equality for each coefficient of
+-- the claimed form, and one for its constant.
 use Rattle.std.specs.Prelude.{ℕ, suc, ◌<◌, ◌+◌, ◌*◌, ℤ, pos, negsuc, List, [], ◌∷◌, ◌++◌, length, Result, Ok, ⊤}
 use Rattle.whole_numbers.specs.Affine.{Affine, form_of}
 use Rattle.wide_math.specs.declared.Wide.{Wide}

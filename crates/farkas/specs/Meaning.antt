@@ -1,3 +1,4 @@
+-- What the rows of a claim on a dependence mean: Farkas's identity, and so what they say at each of its whole points.
 use Rattle.std.specs.Prelude.{◌≡◌, ℕ, ℤ, pos, ◌+ℤ◌, ◌≤ℤ◌, List, ◌++◌, length, ◌↔◌, get_or}
 use Rattle.whole_numbers.specs.Affine.{Affine}
 use Rattle.whole_numbers.specs.Lists.{dot}

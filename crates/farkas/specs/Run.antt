@@ -1,3 +1,5 @@
+-- The rows of a claim on a dependence: the matching of coefficients, of which the multipliers are eliminated one by
+-- one, with rows dropped that others imply.
 use Rattle.std.specs.Prelude.{ℕ, zero, suc, ◌+◌, nat_lt, ℤ, pos, Bool, if◌then◌else◌, List, [], ◌∷◌, ◌++◌, take, drop}
 use Rattle.std.specs.Prelude.{map, Result, Ok, Err}
 use Rattle.whole_numbers.specs.Affine.{Affine, form_of}
@@ -38,20 +40,22 @@ formed (Err w) = Err (wide w)
 unfoldable pub eliminating : ℕ → Constraints → Result Constraints Halt
 eliminating i s = if nat_lt 4096 (pairs_in i s) then Err (crowded (pairs_in i s)) else formed (eliminated_run i s)
 
--- the negation of a row, - f - 1: the opposites of the coefficients in order, then that of the constant, less 1
+-- - z - 1
 abbrev pub opposite_less_one_run : ℤ → Result ℤ Wide
 opposite_less_one_run z = difference_of (pos 0) z >>= λ b. difference_of b (pos 1)
 
+-- the negation of a row, - f - 1: the opposites of the coefficients in order, then that of the constant, less 1
 unfoldable pub negation_run : Affine → Result Affine Wide
 negation_run f =
     map_run (difference_of (pos 0)) f.coefficients >>= λ bs.
     opposite_less_one_run f.constant >>= λ c. Ok (form_of bs c)
 
--- whether a system is empty, asked with the whole budget
+-- whether a system is empty, by a counted answer; a stop leaves the system unanswered
 abbrev pub answer : Constraints → Counted Bool → Result Bool Halt
 answer s (Ok counted) = Ok counted.0
 answer s (Err stop) = Err (unanswered s)
 
+-- whether a system is empty, asked with the whole budget
 unfoldable pub emptiness : ℕ → Constraints → Result Bool Halt
 emptiness budget s = answer s (empty_run budget s)
 
@@ -100,6 +104,7 @@ left_run budget b (suc k) s =
 abbrev pub posed : ℕ → ℕ → List Affine → Constraints
 posed n k equalities = system_of (n + k) 0 equalities (own_rows n k)
 
+-- the matching of a claim's coefficients on a dependence
 unfoldable pub posed_run : Claim → DepEnd → DepEnd → Constraints → Result Constraints Halt
 posed_run claim source target s =
     formed (matching_run (linear claim source target s.parameters) (constant claim source target s.parameters) s)

@@ -1,3 +1,4 @@
+-- The unknowns of a dependence and their places.
 use Rattle.std.specs.Prelude.{ℕ, zero, suc, ◌+◌, nat_eq, nat_lt, if◌then◌else◌, ℤ, pos, List, [], ◌∷◌, get_or}
 use Rattle.iteration_domains.specs.declared.dep.DepEnd.{DepEnd}
 use Rattle.farkas.specs.declared.layout.Layout.{Layout}
@@ -9,10 +10,11 @@ use Rattle.farkas.specs.declared.layout.Layout.{Layout}
 abbrev pub behind : ℕ → DepEnd → ℕ
 behind first side = first + side.loops + 1
 
--- how many unknowns, and where the source's and the target's begin
+-- the layout of these parts
 abbrev pub places : ℕ → ℕ → ℕ → Layout
 places unknowns source target = record { unknowns = unknowns; source = source; target = target }
 
+-- how many unknowns a dependence has, and where the source's and the target's begin
 unfoldable pub layout_of : ℕ → DepEnd → DepEnd → Layout
 layout_of parameters source target =
     if nat_eq source.statement target.statement

@@ -22,8 +22,6 @@ mod laws;
 mod layout;
 mod matching;
 mod stuck;
-#[cfg(test)]
-mod tests;
 
 use crate::claim::Claim;
 use crate::elimination::without_multipliers;

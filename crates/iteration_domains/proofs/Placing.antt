@@ -1,6 +1,6 @@
 -- The statements of a tree by their models, from the place at which the tree stands.
 use Rattle.std.proofs.Common.{◌≡◌, ℕ, zero, suc, ◌+◌, ◌-◌, ◌*◌, ◌^◌, ◌<◌, ◌≤◌, List, [], ◌∷◌, ◌++◌, length, map, drop}
-use Rattle.std.proofs.Common.{get_or, ap, ap₂, subst, sym, ◌∙◌, refl, arith, add-one, drop-cons, length-append, inl}
+use Rattle.std.proofs.Common.{get_or, ap, ap₂, subst, sym, ◌∙◌, refl, arith, length-append, inl}
 use Rattle.std.proofs.Common.{inr}
 use Rattle.std.specs.Prelude.{All}
 use Rattle.std.proofs.lemmas.List.{append_assoc, map-append, length-map}
@@ -21,6 +21,8 @@ use Rattle.scop_syntax.specs.Statements.{placed_all, statements_of}
 use Rattle.scop_syntax.specs.Members.{In}
 use Rattle.scop_syntax.specs.View.{tree_of, items_of}
 use Rattle.scop_syntax.specs.declared.tree.Item.{Item}
+use Rattle.scop_syntax.proofs.Statements.{length-placed}
+use Rattle.scop_syntax.proofs.Weights.{item_here}
 use Rattle.iteration_domains.specs.Rows.{variable, variables, composed_test, iterator, within_loop, rows_from}
 use Rattle.iteration_domains.specs.Rows.{forms_from}
 use Rattle.iteration_domains.specs.Constraints.{equalities_in, rows_in, constraints_of}
@@ -427,52 +429,6 @@ models_of_guard path tests (p ∷ ps) =
     }))
     (append_assoc path.scopes (under tests ∷ []) p.scopes))
     (models_of_guard path tests ps)
-
--- how many statements there are
-mutual
-  length-placed : (t : Tree) (n : ℕ) → length (placed t n) ≡ statements_in t
-  length-placed (loop head body) n = length-map (placed_all body n) (in_loop_of n head) ∙ length-placed_all body n
-  length-placed (guard tests body) n = length-map (placed_all body n) (in_guard_of tests) ∙ length-placed_all body n
-  length-placed (statement s) n = refl
-
-  length-placed_all : (ts : Trees) (n : ℕ) → length (placed_all ts n) ≡ statements_in_all ts
-  length-placed_all none n = refl
-  length-placed_all (more t ts) n =
-      let l = length-append (placed t n) (placed_all ts (n + statements_in t)) in
-      let a = length-placed t n in
-      let b = length-placed_all ts (n + statements_in t) in
-      omega arith
-
--- how much of a tree a call goes over
-abbrev mutual
-  pub weight : Tree → ℕ
-  weight (loop head body) = weight_all body + 4
-  weight (guard tests body) = weight_all body + 4
-  weight (statement s) = 1
-
-  pub weight_all : Trees → ℕ
-  weight_all none = 0
-  weight_all (more t ts) = weight t + weight_all ts
-
-weight_member : (items : List Item) (i : ℕ) (d : Item) → i < length items
-    → weight (tree_of (get_or items i d)) ≤ weight_all (items_of items)
-weight_member [] i d h = absurd (omega arith)
-weight_member (x ∷ xs) zero d h = omega arith
-weight_member (x ∷ xs) (suc i) d h = let below = weight_member xs i d (omega arith) in omega arith
-
-pub item_weight : (items : List Item) (i : ℕ) (item : Item) → item ≡ get_or items i item → i < length items
-    → weight (tree_of item) ≤ weight_all (items_of items)
-item_weight items i item found h =
-    subst (λ (x : Item). weight (tree_of x) ≤ weight_all (items_of items)) (sym found) (weight_member items i item h)
-
--- the items from i on begin with the one at i
-item_here : (items : List Item) (i : ℕ) (item : Item) → item ≡ get_or items i item → i < length items
-    → items_of (drop i items) ≡ more (tree_of item) (items_of (drop (i + 1) items))
-item_here items i item found h =
-    let rest = items_of (drop (i + 1) items) in
-    let first : items_of (drop i items)
-    ≡ more (tree_of (get_or items i item)) rest = rw (add-one, drop-cons items i item) refl in
-    first ∙ ap (λ (x : Item). more (tree_of x) rest) (sym found)
 
 -- items, of which the first have been modelled
 pub record Modelling (path now_path : Path) (items : List Item) (i : ℕ) (start now : List Modelled) : Type 0 where

@@ -4,11 +4,13 @@ use Rattle.whole_numbers.specs.Affine.{Affine}
 use Rattle.integer_sets.specs.Constraints.{Constraints, system_of}
 use Rattle.scop_syntax.specs.Tree.{Test, at_least, equal}
 
+-- the forms that are to be 0
 abbrev pub equalities_in : List Test → List Affine
 equalities_in [] = []
 equalities_in (at_least f ∷ tests) = equalities_in tests
 equalities_in (equal f ∷ tests) = f ∷ equalities_in tests
 
+-- the forms that are to be at least 0
 abbrev pub rows_in : List Test → List Affine
 rows_in [] = []
 rows_in (at_least f ∷ tests) = f ∷ rows_in tests

@@ -19,6 +19,7 @@ pub record IsDependence (dep : Dependence) : Type 0 where
   pub turns : dep.system.dimensions ≡ dep.source.loops + dep.target.loops
   pub one : IsOne dep.source dep.target
 
+-- the dependence of these parts
 abbrev pub dependence : DepEnd → DepEnd → ℕ → Constraints → Dependence
 dependence source target depth system =
     record { source = source; target = target; depth = depth; system = system }

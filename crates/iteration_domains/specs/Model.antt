@@ -17,6 +17,7 @@ pub record Modelled : Type 0 where
   pub domain : Constraints
   pub accesses : List Access
 
+-- the modelled statement of these parts
 abbrev pub statement_model : ℕ → List ℕ → Constraints → List Access → Modelled
 statement_model number loops domain accesses =
     record { number = number; loops = loops; domain = domain; accesses = accesses }
@@ -39,12 +40,15 @@ access_over m p f = composed_access (variables_of_statement m p) (point_forms m 
 abbrev pub domain_of : ℕ → Placed → Constraints
 domain_of m p = constraints_of (loops_in p.scopes) m (rows_of m p)
 
+-- the model of a statement, with m parameters
 abbrev pub modelled : ℕ → Placed → Modelled
 modelled m p = statement_model p.number p.loops (domain_of m p) (map (access_over m p) (accesses p.body))
 
+-- the model of these parts
 abbrev pub kernel_model : ℕ → List Modelled → KernelModel
 kernel_model parameters statements = record { parameters = parameters; statements = statements }
 
+-- the model of a program
 abbrev pub model_of : Program → KernelModel
 model_of program =
     kernel_model (length program.parameters)

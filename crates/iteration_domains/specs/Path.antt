@@ -15,18 +15,20 @@ use Rattle.iteration_domains.specs.declared.rows.Scope.{Scope as CodeScope}
 use Rattle.iteration_domains.specs.declared.rows.Scope.TheVariants.{Round, Under}
 use Rattle.iteration_domains.specs.declared.rows.StatementRows.{StatementRows}
 
--- the loop or the guard
+-- the loop or the guard that a value of the code stands for
 abbrev pub scope_of : CodeScope → Scope
 scope_of (Round head) = round head.now
 scope_of (Under guard) = under (map test_of guard.now.tests.items)
 
+-- those that a list of the code's stands for, outermost first
 abbrev pub scopes_of : List CodeScope → List Scope
 scopes_of scopes = map scope_of scopes
 
--- the rows so far
+-- the rows so far, as they stand among their variables and loops
 abbrev pub shown : StatementRows → Standing
 shown s = standing s.variables s.loops s.forms.items s.equalities.items s.rows.items
 
+-- the rows so far alone
 abbrev pub gathered_of : StatementRows → Gathered
 gathered_of s = record { forms = s.forms.items; equalities = s.equalities.items; rows = s.rows.items }
 
@@ -36,9 +38,11 @@ pub record Path : Type 0 where
   pub scopes : List Scope
   pub loops : List ℕ
 
+-- the place of these parts
 abbrev pub path_at : ℕ → List Scope → List ℕ → Path
 path_at parameters scopes loops = record { parameters = parameters; scopes = scopes; loops = loops }
 
+-- the place that a value of the code stands for
 abbrev pub path_of : CodePath → Path
 path_of p = path_at p.parameters (scopes_of p.scopes.items) p.loops.items
 
@@ -75,7 +79,7 @@ pub record CanModel (path : Path) (body : Trees) : Type 0 where
 pub record CanAccess (n : ℕ) (forms : List Affine) (access : Access) : Type 0 where
   pub subscripts : All (CanCompose n forms) access.subscripts
 
--- what an expression reads
+-- so can those of each access that an expression reads
 abbrev pub CanRead : ℕ → List Affine → Expression → Type 0
 CanRead n forms (read access) = CanAccess n forms access
 CanRead n forms (constant c) = ⊤
@@ -87,6 +91,7 @@ CanRead n forms (binary op e f) = CanRead n forms e × CanRead n forms f
 CanRead n forms (shifted_left e k) = CanRead n forms e
 CanRead n forms (shifted_right e k) = CanRead n forms e
 
+-- so can those of each access that the right of a statement reads
 abbrev pub CanReadRight : ℕ → List Affine → Right → Type 0
 CanReadRight n forms (assigned e) = CanRead n forms e
 CanReadRight n forms (combined op e) = CanRead n forms e

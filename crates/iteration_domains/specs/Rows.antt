@@ -43,16 +43,18 @@ forms_from n j [] forms = forms
 forms_from n j (under tests ∷ scopes) forms = forms_from n j scopes forms
 forms_from n j (round head ∷ scopes) forms = forms_from n (j + 1) scopes (within_loop n j head forms)
 
--- how many variables a statement has, with m parameters, and the forms of the parameters
+-- how many variables a statement has, with m parameters: the turns of its loops, then the parameters
 abbrev pub variables_of_statement : ℕ → Placed → ℕ
 variables_of_statement m p = loops_in p.scopes + m
 
+-- the parameters as forms over a statement's variables
 abbrev pub parameter_forms : ℕ → Placed → List Affine
 parameter_forms m p = variables (variables_of_statement m p) (loops_in p.scopes) m
 
--- a statement's rows, and its point's forms
+-- a statement's rows, with m parameters
 abbrev pub rows_of : ℕ → Placed → List Test
 rows_of m p = rows_from (variables_of_statement m p) 0 p.scopes (parameter_forms m p)
 
+-- the forms of a statement's point, with m parameters
 abbrev pub point_forms : ℕ → Placed → List Affine
 point_forms m p = forms_from (variables_of_statement m p) 0 p.scopes (parameter_forms m p)

@@ -6,14 +6,16 @@ use Rattle.scop_syntax.specs.Tree.{Access}
 use Rattle.scop_syntax.specs.Kernel.{AreAtMost}
 use Rattle.iteration_domains.specs.Model.{Modelled, KernelModel}
 
--- the absolute values together: of numbers, of a form, of forms
+-- the sum of the absolute values of numbers
 abbrev pub size : List ℤ → ℕ
 size [] = 0
 size (x ∷ xs) = unsigned_abs x + size xs
 
+-- the same of a form's coefficients and constant
 abbrev pub form_size : Affine → ℕ
 form_size f = size f.coefficients + unsigned_abs f.constant
 
+-- the same of forms together
 abbrev pub forms_size : List Affine → ℕ
 forms_size [] = 0
 forms_size (f ∷ fs) = form_size f + forms_size fs

@@ -17,6 +17,7 @@ pub record Standing : Type 0 where
   pub equalities : List Affine
   pub rows : List Affine
 
+-- the rows with these parts
 abbrev pub standing : ℕ → ℕ → List Affine → List Affine → List Affine → Standing
 standing variables loops forms equalities rows =
     record { variables = variables; loops = loops; forms = forms; equalities = equalities; rows = rows }

@@ -1,4 +1,5 @@
--- The value of an expression where each of its reads has the value that a function gives.
+-- The value of an expression where each of its reads has the value that a function gives; only for the code's own
+-- steps.
 use Rattle.std.specs.Prelude.{ℕ, ◌-◌, ◌*◌, ◌/◌, ◌%◌, ◌^◌, ℤ, List, ⊤}
 use Rattle.whole_numbers.specs.Affine.{value_of}
 use Rattle.scop_syntax.specs.Tree.{

@@ -37,14 +37,15 @@ pub record IsVisitOf (program : Program) (params : List ℤ) (i : Instance) (v :
   pub walked : In v (walk_of program params)
   pub same : instance v ≡ i
 
--- the k-th statement of a tree, in textual order from 0, within these turns of the loops round it
 abbrev mutual
+  -- the k-th statement of a tree, in textual order from 0, within these turns of the loops round it
   pub act_at : Tree → ℕ → List ℤ → List ℤ → Option Act
   act_at (loop head body) k point [] = None
   act_at (loop head body) k point (x ∷ xs) = act_at_all body k (turn_point head point x) xs
   act_at (guard tests body) k point xs = act_at_all body k point xs
   act_at (statement s) k point xs = Some (record { body = s; point = point })
 
+  -- that of trees, one after another
   pub act_at_all : Trees → ℕ → List ℤ → List ℤ → Option Act
   act_at_all none k point xs = None
   act_at_all (more t ts) k point xs =

@@ -42,13 +42,15 @@ abbrev pub around : Affine → ℤ → Affine → Trees → Tree
 around first stride condition items =
     loop (record { iterator = []; first = first; stride = stride; condition = condition }) items
 
+-- one tree and nothing else
 abbrev pub only : Tree → Trees
 only item = more item none
 
--- a kernel over arrays with these extents, with so many parameters
+-- an array with these extents
 abbrev pub array : List Affine → Declaration
 array extents = record { name = []; parameters_before = 0; extents = extents }
 
+-- a kernel of these parameters and arrays
 abbrev pub kernel : List (List ℕ) → List Declaration → Trees → Program
 kernel parameters arrays body = record { name = []; parameters = parameters; arrays = arrays; body = body }
 
@@ -128,13 +130,15 @@ one_too_far =
     (only (store (at 1 (form (pos 0 ∷ pos 1 ∷ []) (pos 0) ∷ []))
     (assigned (read (at 0 (form (pos 0 ∷ pos 1 ∷ []) (pos 1) ∷ []))))))))
 
--- for each i, j, k below N: C[i][j] += A[i][k] * B[k][j];
+-- an array of N rows of N cells
 abbrev pub square : Declaration
 square = array (form (pos 1 ∷ []) (pos 0) ∷ form (pos 1 ∷ []) (pos 0) ∷ [])
 
+-- a form of iterators alone, without N
 abbrev pub iterator : List ℤ → Affine
 iterator coefficients = form (pos 0 ∷ coefficients) (pos 0)
 
+-- for each i, j, k below N: C[i][j] += A[i][k] * B[k][j];
 abbrev pub product : Program
 product =
     let i = iterator (pos 1 ∷ pos 0 ∷ pos 0 ∷ []) in

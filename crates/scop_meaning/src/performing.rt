@@ -1,4 +1,6 @@
 //! One instance, performed by its number alone on a row of all cells: it stores what `value` says where `cell` says.
+//!
+//! Part of the crate's surface; `run` does not use it.
 ghost use Rattle.std.specs.Prelude.{◌≡◌, ◌<◌, length, map, slice_set};
 ghost use Rattle.scop_syntax.specs.Cells.{reads as reads_by, written};
 ghost use Rattle.scop_syntax.specs.Execution.{IsInside, cell_number, layout};

@@ -4,6 +4,7 @@ pub mod Order
 pub mod Falls
 pub mod Loops
 pub mod Statements
+pub mod Weights
 pub mod Memory
 pub mod Writers
 pub mod Acts

@@ -149,8 +149,9 @@ numbered_map : (f : Placed → Placed) (n : ℕ) (ps : List Placed) → ((p : Pl
 numbered_map f n [] same h = tt
 numbered_map f n (p ∷ ps) same h = (same p ∙ h.0, numbered_map f (n + 1) ps same h.1)
 
+-- how many statements there are
 mutual
-  length-placed : (t : Tree) (n : ℕ) → length (placed t n) ≡ statements_in t
+  pub length-placed : (t : Tree) (n : ℕ) → length (placed t n) ≡ statements_in t
   length-placed (loop head body) n = length-map (placed_all body n) (in_loop_of n head) ∙ length-placed_all body n
   length-placed (guard tests body) n = length-map (placed_all body n) (in_guard_of tests) ∙ length-placed_all body n
   length-placed (statement s) n = refl

@@ -26,6 +26,7 @@ reads_with place (combined op e) = place ∷ reads_of e
 reads_with place (moved_left k) = place ∷ []
 reads_with place (moved_right k) = place ∷ []
 
+-- what a statement reads, in the order of the text
 abbrev pub reads : Statement → List Access
 reads s = reads_with s.place s.right
 
@@ -46,10 +47,11 @@ values forms point = map (λ form. value_of form point) forms
 abbrev pub cell_of : Access → List ℤ → Cell
 cell_of access point = record { array = access.array; subscripts = values access.subscripts point }
 
--- the cell that a visit writes, and those that it reads, in the order of the text
+-- the cell that a visit writes
 abbrev pub written : Visit → Cell
 written v = cell_of v.body.place v.point
 
+-- the cells that a visit reads, in the order of the text
 abbrev pub cells_read : Visit → List Cell
 cells_read v = map (λ access. cell_of access v.point) (reads v.body)
 

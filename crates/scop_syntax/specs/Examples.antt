@@ -12,15 +12,19 @@ form coefficients constant = record { coefficients = coefficients; constant = co
 abbrev pub at : ℤ → Access
 at k = record { array = 0; subscripts = form (pos 1 ∷ []) k ∷ [] }
 
+-- one tree and nothing else
 abbrev pub one_item : Tree → Trees
 one_item item = more item none
 
+-- uint64_t X[4]
 abbrev pub four_cells : Declaration
 four_cells = record { name = []; parameters_before = 0; extents = form [] (pos 4) ∷ [] }
 
+-- a kernel over X alone
 abbrev pub over_four_cells : Trees → Program
 over_four_cells body = record { name = []; parameters = []; arrays = four_cells ∷ []; body = body }
 
+-- for (i = first; condition >= 0; i += stride)
 abbrev pub head : ℤ → ℤ → Affine → Head
 head first stride condition = record { iterator = []; first = form [] first; stride = stride; condition = condition }
 

@@ -56,6 +56,7 @@ offset_from offset (extent ∷ extents) [] = offset
 offset_from offset (extent ∷ extents) (subscript ∷ subscripts) =
     offset_from (offset * extent + size_of subscript) extents subscripts
 
+-- where a cell lies among those of its array, from 0
 abbrev pub offset_of : List (List ℕ) → Cell → ℕ
 offset_of extents cell = offset_from 0 (slice_index_or extents cell.array []) cell.subscripts
 
@@ -76,10 +77,11 @@ abbrev pub stored : List (List ℕ) → List (List ℕ) → Cell → ℕ → Lis
 stored extents contents cell value =
     slice_set contents cell.array (slice_set (slice_index_or contents cell.array []) (offset_of extents cell) value)
 
--- the values that a statement reads at a point, and the value that it stores
+-- the values that a statement reads at a point
 abbrev pub values_read_by : List (List ℕ) → List (List ℕ) → Statement → List ℤ → List ℕ
 values_read_by extents contents body point = map (λ access. held extents contents (cell_of access point)) (reads body)
 
+-- the value that a statement stores at a point
 abbrev pub value_stored_by : List (List ℕ) → List (List ℕ) → Statement → List ℤ → ℕ
 value_stored_by extents contents body point = stored_by body.right point (values_read_by extents contents body point)
 
@@ -88,13 +90,15 @@ abbrev pub performed_by : List (List ℕ) → List (List ℕ) → Statement → 
 performed_by extents contents body point =
     stored extents contents (cell_of body.place point) (value_stored_by extents contents body point)
 
+-- the contents after a visit
 abbrev pub performed : List (List ℕ) → List (List ℕ) → Visit → List (List ℕ)
 performed extents contents v = performed_by extents contents v.body v.point
 
--- the contents after these visits, one after another, and before place j of them
+-- the contents after these visits, one after another
 abbrev pub performed_all : List (List ℕ) → List (List ℕ) → List Visit → List (List ℕ)
 performed_all extents contents visits = fold (performed extents) contents visits
 
+-- the contents before place j of these visits
 abbrev pub before_place : List (List ℕ) → List (List ℕ) → List Visit → ℕ → List (List ℕ)
 before_place extents contents visits j = performed_all extents contents (take j visits)
 
@@ -102,20 +106,22 @@ before_place extents contents visits j = performed_all extents contents (take j 
 abbrev pub exec : Program → List ℤ → List (List ℕ) → List (List ℕ)
 exec program params contents = performed_all (layout program params) contents (walk_of program params)
 
--- the values that a visit reads, none where there is no visit, and the value that it stores
+-- the values that a visit reads; none where there is no visit
 abbrev pub values_read : List (List ℕ) → List (List ℕ) → Option Visit → List ℕ
 values_read extents contents None = []
 values_read extents contents (Some v) = values_read_by extents contents v.body v.point
 
+-- the value that a visit stores; 0 where there is no visit
 abbrev pub value_stored : List (List ℕ) → List (List ℕ) → Option Visit → ℕ
 value_stored extents contents None = 0
 value_stored extents contents (Some v) = value_stored_by extents contents v.body v.point
 
--- the values read at place j of the visits, and the value stored there
+-- the values read at place j of the visits
 abbrev pub values_read_at : List (List ℕ) → List (List ℕ) → List Visit → ℕ → List ℕ
 values_read_at extents contents visits j =
     values_read extents (before_place extents contents visits j) (slice_get visits j)
 
+-- the value stored at place j of the visits
 abbrev pub value_stored_at : List (List ℕ) → List (List ℕ) → List Visit → ℕ → ℕ
 value_stored_at extents contents visits j =
     value_stored extents (before_place extents contents visits j) (slice_get visits j)

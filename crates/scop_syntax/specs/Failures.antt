@@ -67,11 +67,12 @@ pub record IsFirstOutside (extents : List (List ℕ)) (visits : List Visit) (f :
       (d e : ℕ) (s : ℤ) → d < f.dimension → slice_get (values touched.subscripts f.visit.point) d ≡ Some s
       → slice_get (slice_index_or extents touched.array []) d ≡ Some e → LiesIn s e
 
--- the accesses name arrays, with a subscript for each dimension
+-- an access names an array, with a subscript for each dimension
 pub record IsRanked (extents : List (List ℕ)) (access : Access) : Type 0 where
   pub array : access.array < length extents
   pub rank : length access.subscripts ≡ length (slice_index_or extents access.array [])
 
+-- each access of these visits does
 abbrev pub VisitsAreRanked : List (List ℕ) → List Visit → Type 0
 VisitsAreRanked extents visits =
     (v : Visit) → In v visits → (access : Access) → In access (accesses v.body) → IsRanked extents access

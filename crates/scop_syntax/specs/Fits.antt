@@ -37,18 +37,21 @@ ExpressionFits (binary op e f) point = ExpressionFits e point × ExpressionFits 
 ExpressionFits (shifted_left e k) point = ExpressionFits e point
 ExpressionFits (shifted_right e k) point = ExpressionFits e point
 
+-- the affine parts and the subscripts on the right of a place
 abbrev pub RightFits : Right → List ℤ → Type 0
 RightFits (assigned e) point = ExpressionFits e point
 RightFits (combined op e) point = ExpressionFits e point
 RightFits (moved_left k) point = ⊤
 RightFits (moved_right k) point = ⊤
 
+-- the subscripts of a statement's place, and what stands on its right
 abbrev pub StatementFits : Statement → List ℤ → Type 0
 StatementFits s point = AccessFits s.place point × RightFits s.right point
 
 -- the iterators and conditions of every turn to which a loop comes, the one that ends it included, and the forms of
 -- guards and statements
 abbrev mutual
+  -- those of a tree at a point
   pub Fits : Tree → List ℤ → Type 0
   Fits (loop head body) point =
       (k : ℕ) → IsReached head point k
@@ -57,6 +60,7 @@ abbrev mutual
   Fits (guard tests body) point = TestsFit tests point × (all_hold tests point ≡ true → FitsAll body point)
   Fits (statement s) point = StatementFits s point
 
+  -- those of trees, one after another
   pub FitsAll : Trees → List ℤ → Type 0
   FitsAll none point = ⊤
   FitsAll (more t ts) point = Fits t point × FitsAll ts point

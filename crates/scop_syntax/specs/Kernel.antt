@@ -34,6 +34,7 @@ IsCondition n form = IsForm n 16 (2 ^ 20 + 1) form
 abbrev pub IsComparison : ℕ → Affine → Type 0
 IsComparison n form = IsForm n 32 (2 ^ 21 + 1) form
 
+-- the form of a comparison
 abbrev pub test_form : Test → Affine
 test_form (at_least form) = form
 test_form (equal form) = form
@@ -69,20 +70,22 @@ IsExpression ranks n (binary op e f) = IsExpression ranks n e × IsExpression ra
 IsExpression ranks n (shifted_left e k) = (k ≤ 63) × IsExpression ranks n e
 IsExpression ranks n (shifted_right e k) = (k ≤ 63) × IsExpression ranks n e
 
+-- the right of a place; shifts have a count below 64 there too
 abbrev pub IsRight : List ℕ → ℕ → Right → Type 0
 IsRight ranks n (assigned e) = IsExpression ranks n e
 IsRight ranks n (combined op e) = IsExpression ranks n e
 IsRight ranks n (moved_left k) = k ≤ 63
 IsRight ranks n (moved_right k) = k ≤ 63
 
+-- a statement: a place, what stands on its right, and at most 16 reads
 pub record IsStatement (ranks : List ℕ) (n : ℕ) (s : Statement) : Type 0 where
   pub place : IsAccess ranks n s.place
   pub right : IsRight ranks n s.right
   pub few_reads : length (reads s) ≤ 16
 
--- a tree at a point with n entries, with at most this many loops in one another and this many comparisons round a
--- statement; no loop or guard is without a statement
 abbrev mutual
+  -- a tree at a point with n entries, with at most this many loops in one another and this many comparisons round
+  -- a statement; no loop or guard is without a statement
   pub IsTree : List ℕ → ℕ → ℕ → ℕ → Tree → Type 0
   IsTree ranks n loops comparisons (loop head body) =
       (0 < loops) × IsHead n head × (0 < statements_in_all body) × AreTrees ranks (n + 1) (loops - 1) comparisons body
@@ -91,6 +94,7 @@ abbrev mutual
       × (0 < statements_in_all body) × AreTrees ranks n loops (comparisons - length tests) body
   IsTree ranks n loops comparisons (statement s) = IsStatement ranks n s
 
+  -- each of these trees is such a one
   pub AreTrees : List ℕ → ℕ → ℕ → ℕ → Trees → Type 0
   AreTrees ranks n loops comparisons none = ⊤
   AreTrees ranks n loops comparisons (more t ts) =
@@ -103,9 +107,11 @@ pub record IsDeclaration (n : ℕ) (declaration : Declaration) : Type 0 where
   pub few : length declaration.extents ≤ 4
   pub extents : All (IsAffine n) declaration.extents
 
+-- how many dimensions each array has
 abbrev pub ranks_of : Program → List ℕ
 ranks_of program = map (λ d. length d.extents) program.arrays
 
+-- a kernel: at most 4 parameters, 16 arrays, 32 statements, 5 loops in one another, 16 comparisons round a statement
 pub record IsKernel (program : Program) : Type 0 where
   pub few_parameters : length program.parameters ≤ 4
   pub few_arrays : length program.arrays ≤ 16

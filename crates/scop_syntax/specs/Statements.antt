@@ -29,22 +29,24 @@ comparisons_in [] = 0
 comparisons_in (under tests ∷ scopes) = length tests + comparisons_in scopes
 comparisons_in (round head ∷ scopes) = comparisons_in scopes
 
--- a statement of a body as one of the loop or of the guard
+-- a statement of a body as one of the loop of number l
 abbrev pub in_loop_of : ℕ → Head → Placed → Placed
 in_loop_of l head p =
     record { number = p.number; loops = l ∷ p.loops; scopes = round head ∷ p.scopes; body = p.body }
 
+-- a statement of a body as one of the guard
 abbrev pub in_guard_of : List Test → Placed → Placed
 in_guard_of tests p =
     record { number = p.number; loops = p.loops; scopes = under tests ∷ p.scopes; body = p.body }
 
--- the statements of a tree in textual order, numbered from n
 abbrev mutual
+  -- the statements of a tree in textual order, numbered from n
   pub placed : Tree → ℕ → List Placed
   placed (loop head body) n = map (in_loop_of n head) (placed_all body n)
   placed (guard tests body) n = map (in_guard_of tests) (placed_all body n)
   placed (statement s) n = record { number = n; loops = []; scopes = []; body = s } ∷ []
 
+  -- those of trees, one after another
   pub placed_all : Trees → ℕ → List Placed
   placed_all none n = []
   placed_all (more t ts) n = placed t n ++ placed_all ts (n + statements_in t)
@@ -65,6 +67,7 @@ abbrev pub Holds : Test → List ℤ → Type 0
 Holds (at_least form) point = pos 0 ≤ℤ value_of form point
 Holds (equal form) point = value_of form point ≡ pos 0
 
+-- all of them do
 abbrev pub AllHold : List Test → List ℤ → Type 0
 AllHold [] point = ⊤
 AllHold (test ∷ tests) point = Holds test point × AllHold tests point

@@ -52,14 +52,15 @@ pub record Head : Type 0 where
   pub stride : ℤ
   pub condition : Affine
 
--- a loop or a guard with its body, or a statement; a list of trees is a type of its own, since a type can't hold a
--- list of itself
+-- a list of trees is a type of its own, since a type can't hold a list of itself
 mutual
+  -- a loop or a guard with its body, or a statement
   pub data Tree : Type 0 where
     loop : Head → Trees → Tree
     guard : List Test → Trees → Tree
     statement : Statement → Tree
 
+  -- trees, one after another
   pub data Trees : Type 0 where
     none : Trees
     more : Tree → Trees → Trees

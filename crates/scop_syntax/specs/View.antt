@@ -21,6 +21,7 @@ use Rattle.scop_syntax.specs.declared.tree.Item.TheFolds.{fold-Item}
 use Rattle.scop_syntax.specs.declared.tree.Item.TheOpen.{Item-F}
 use Rattle.scop_syntax.specs.declared.tree.Kernel.{Kernel}
 
+-- the operator that a value of the code stands for
 abbrev pub operator_of : CodeOperator → Operator
 operator_of Plus = plus
 operator_of Minus = minus
@@ -45,19 +46,23 @@ expression_step (Expr-F.ShiftedRight e k) = shifted_right e.value k
 abbrev pub expression_of : Expr → Expression
 expression_of = fold-Expr Expression expression_step
 
+-- the right of a place that a value of the code stands for
 abbrev pub right_of : CodeRight → Right
 right_of (Assigned e) = assigned (expression_of e)
 right_of (Combined op e) = combined (operator_of op) (expression_of e)
 right_of (ShiftedLeft k) = moved_left k
 right_of (ShiftedRight k) = moved_right k
 
+-- the statement that a value of the code stands for
 abbrev pub statement_of : Stmt → Statement
 statement_of s = record { place = s.place; right = right_of s.right }
 
+-- the comparison that a value of the code stands for
 abbrev pub test_of : CodeTest → Test
 test_of (AtLeast form) = at_least form
 test_of (Equal form) = equal form
 
+-- a list of trees as trees, one after another
 abbrev pub trees_of : List Tree → Trees
 trees_of [] = none
 trees_of (t ∷ ts) = more t (trees_of ts)

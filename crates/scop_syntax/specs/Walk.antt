@@ -49,13 +49,14 @@ pub record RunsFor (condition : ℕ → ℤ) (m : ℕ) : Type 0 where
   pub holds : (k : ℕ) → k < m → pos 0 ≤ℤ condition k
   pub fails : condition m <ℤ pos 0
 
--- how many statements stand in a tree
 abbrev mutual
+  -- how many statements stand in a tree
   pub statements_in : Tree → ℕ
   statements_in (loop head body) = statements_in_all body
   statements_in (guard tests body) = statements_in_all body
   statements_in (statement s) = 1
 
+  -- how many stand in trees, one after another
   pub statements_in_all : Trees → ℕ
   statements_in_all none = 0
   statements_in_all (more t ts) = statements_in t + statements_in_all ts
@@ -75,6 +76,7 @@ pub record Instance : Type 0 where
   pub number : ℕ
   pub turns : List ℤ
 
+-- a visit by its numbers alone
 abbrev pub instance : Visit → Instance
 instance v = record { number = v.number; turns = v.turns }
 
@@ -82,8 +84,8 @@ instance v = record { number = v.number; turns = v.turns }
 abbrev pub within : ℕ → ℤ → Visit → Visit
 within l x v = record { number = v.number; loops = l ∷ v.loops; turns = x ∷ v.turns; point = v.point; body = v.body }
 
--- the visits of a tree whose first statement has number n, at a point
 abbrev mutual
+  -- the visits of a tree whose first statement has number n, at a point
   pub walk : Tree → ℕ → List ℤ → List Visit
   walk (loop head body) n point =
       loop_walk (λ k. condition_at head point (pos k))
@@ -91,6 +93,7 @@ abbrev mutual
   walk (guard tests body) n point = if all_hold tests point then walk_all body n point else []
   walk (statement s) n point = record { number = n; loops = []; turns = []; point = point; body = s } ∷ []
 
+  -- those of trees, one after another
   pub walk_all : Trees → ℕ → List ℤ → List Visit
   walk_all none n point = []
   walk_all (more t ts) n point = walk t n point ++ walk_all ts (n + statements_in t) point

@@ -54,9 +54,10 @@ pub record IsNext (visits : List Visit) (j : ℕ) (c : Cell) (k : ℕ) : Type 0 
   pub wrote : writes (slice_get visits k) c ≡ true
   pub soonest : (i : ℕ) → j < i → i < k → writes (slice_get visits i) c ≡ false
 
--- the last writer of the cell that access a at place j touches, and the next one
+-- the last writer, before place j, of the cell that access a there touches
 abbrev pub last_of : List Visit → ℕ → ℕ → Option ℕ
 last_of visits j a = option_and_then (last_writer visits j) (cell_at visits j a)
 
+-- the next writer, behind place j, of the cell that access a there touches
 abbrev pub next_of : List Visit → ℕ → ℕ → Option ℕ
 next_of visits j a = option_and_then (next_writer visits j) (cell_at visits j a)

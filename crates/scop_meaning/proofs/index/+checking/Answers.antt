@@ -6,9 +6,10 @@ use Rattle.whole_numbers.specs.Affine.{Affine, value_of}
 use Rattle.scop_syntax.specs.Tree.{Trees, Head, more, none}
 use Rattle.scop_syntax.specs.View.{items_of, tree_of}
 use Rattle.scop_syntax.specs.Walk.{turn_point}
+use Rattle.scop_syntax.proofs.Weights.{weight, weight_all, item_weight, item_here}
 use Rattle.scop_meaning.specs.Conditions.{CanCheck, CanTurn}
 use Rattle.scop_meaning.specs.declared.loops.TheConstants.{ROOM}
-use Rattle.scop_meaning.proofs.Walking.{weight, weight_all, item_weight, item_here, can_turn, first_turn_fits}
+use Rattle.scop_meaning.proofs.Walking.{can_turn, first_turn_fits}
 use Rattle.scop_meaning.proofs.Turns.{first_fits}
 use Rattle.scop_meaning.proofs.Checks.{
   ItemsChecked,

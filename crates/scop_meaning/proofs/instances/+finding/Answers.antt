@@ -8,10 +8,10 @@ use Rattle.scop_syntax.specs.declared.tree.Item.{Item}
 use Rattle.scop_syntax.specs.View.{items_of, tree_of}
 use Rattle.scop_syntax.specs.Walk.{turn_point}
 use Rattle.scop_syntax.proofs.Views.{tree_loop}
+use Rattle.scop_syntax.proofs.Weights.{weight, weight_all}
 use Rattle.scop_meaning.specs.Instances.{CanFind, act_at, act_at_all}
 use Rattle.scop_meaning.specs.declared.loops.TheConstants.{ROOM}
 use Rattle.scop_meaning.proofs.Finding.{can_enter, is_entered}
-use Rattle.scop_meaning.proofs.Walking.{weight, weight_all}
 use Rattle.scop_meaning.proofs.instances.+finding.Goals as goal
 
 pub find_in-enter_at-requires-clause-space : goal.find_in-enter_at-requires-clause-space

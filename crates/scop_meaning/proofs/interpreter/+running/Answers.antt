@@ -8,9 +8,10 @@ use Rattle.scop_syntax.specs.Tree.{Tree, Trees, Head, statement, more, none}
 use Rattle.scop_syntax.specs.View.{items_of, tree_of, statement_of}
 use Rattle.scop_syntax.specs.Walk.{turn_point}
 use Rattle.scop_syntax.proofs.Views.{tree_statement}
+use Rattle.scop_syntax.proofs.Weights.{weight, weight_all, item_weight, item_here}
 use Rattle.scop_meaning.specs.Conditions.{CanRun, CanTurn, AreCells}
 use Rattle.scop_meaning.specs.declared.loops.TheConstants.{ROOM}
-use Rattle.scop_meaning.proofs.Walking.{weight, weight_all, item_weight, item_here, can_turn, first_turn_fits}
+use Rattle.scop_meaning.proofs.Walking.{can_turn, first_turn_fits}
 use Rattle.scop_meaning.proofs.Turns.{first_fits}
 use Rattle.scop_meaning.proofs.Runs.{can_first, can_act, item_step, turns_begin, can_body, turn_step}
 use Rattle.scop_meaning.proofs.interpreter.+running.Goals as goal
