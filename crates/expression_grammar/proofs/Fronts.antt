@@ -9,7 +9,7 @@ use Rattle.expression_grammar.specs.declared.node.Node.{Node}
 use Rattle.expression_grammar.specs.declared.node.Mode.TheVariants as mode
 use Rattle.expression_grammar.specs.Tree.{Tree, constant, rank, size, depth, operators, written, WellBracketed}
 use Rattle.expression_grammar.specs.Tree.{tokens_of}
-use Rattle.expression_grammar.specs.Grammar.{IsExpression, Spells, IsFront}
+use Rattle.expression_grammar.specs.Grammar.{IsExpression, IsWithin, Spells, IsFront}
 use Rattle.expression_grammar.specs.Machine.{State, state, start, stops, step, demand, reduced, run, alive, whole}
 use Rattle.expression_grammar.specs.Machine.{complete}
 use Rattle.expression_grammar.proofs.Runs.{spine, shown, last_of, reduced_spine}
@@ -77,6 +77,17 @@ stands_brackets s ts d k =
 -- tokens that lead to a state are a front
 pub is_front : (d n : ℕ) (s : State) (ts : List Token) → Stands s ts d → s.used ≤ n → IsFront d n ts
 is_front d n s ts k u = rw k.tokens (front_shape d n k.shape k.sound k.peak (rw k.is at u))
+
+-- what is spelled within limits is so within wider ones
+pub within_wider : (d n e m : ℕ) (t : Tree) → d ≤ e → n ≤ m → IsWithin d n t → IsWithin e m t
+within_wider d n e m t h k w =
+    let b = w.depth in
+    let u = w.operators in
+    record { depth = omega arith; operators = omega arith }
+
+pub spells_wider : (d n e m : ℕ) (ts : List Token) (t : Tree) → d ≤ e → n ≤ m → Spells d n ts t → Spells e m ts t
+spells_wider d n e m ts t h k s =
+    record { expression = s.expression; within = within_wider d n e m t h k s.within; tokens = s.tokens }
 
 -- the state behind a tree
 abbrev pub final : Tree → State

@@ -9,12 +9,12 @@ use Rattle.expression_grammar.specs.Machine.{deep}
 use Rattle.expression_grammar.proofs.Runs.{run_goes}
 use Rattle.expression_grammar.proofs.Shapes.{Stands, Keeps, keeps}
 
--- the run came to a token with the state before it
+-- the run came to a token with the state before it, and does so within wider limits
 pub record Stop (d n : ℕ) (first : State) (seen ts : List Token) (s : State) (t : Token) : Type 0 where
   pub front : List Token
   pub rest : List Token
   pub split : ts ≡ front ++ t ∷ rest
-  pub run : (more : List Token) → run d n first (front ++ more) ≡ run d n s more
+  pub run : (e m : ℕ) → d ≤ e → n ≤ m → (more : List Token) → run e m first (front ++ more) ≡ run e m s more
   pub stands : Stands s (seen ++ front) d
   pub used : s.used ≤ n
 
@@ -27,6 +27,10 @@ Reached d n first seen ts (deep s t) =
 pub fits_bounds : (d n b u : ℕ) → (nat_le b d && nat_le u n) ≡ true → (b ≤ d) × (u ≤ n)
 fits_bounds d n b u h = grind (arith, nat_tests)
 
+-- what fits fits wider limits
+pub fits_wider : (d n e m : ℕ) (s : State) → d ≤ e → n ≤ m → fits d n s ≡ true → fits e m s ≡ true
+fits_wider d n e m s x y h = grind (arith, nat_tests)
+
 -- one token in front
 pub stop_later : (d n : ℕ) (s next : State) (seen : List Token) (t : Token) (ts : List Token) (last : State) (u : Token)
     → step s t ≡ go next → next.brackets ≤ d → next.used ≤ n
@@ -36,7 +40,8 @@ stop_later d n s next seen t ts last u e b k stop =
       front = t ∷ stop.front;
       rest = stop.rest;
       split = ap (λ (xs : List Token). t ∷ xs) stop.split;
-      run = λ (more : List Token). run_goes d n s next t (stop.front ++ more) e b k ∙ stop.run more;
+      run = λ (c m : ℕ) (x : d ≤ c) (y : n ≤ m) (more : List Token).
+          run_goes c m s next t (stop.front ++ more) e (omega arith) (omega arith) ∙ stop.run c m x y more;
       stands = simp append_assoc at stop.stands;
       used = stop.used;
     }
@@ -58,7 +63,7 @@ here d n s seen t ts k u =
       front = [];
       rest = ts;
       split = refl;
-      run = λ (more : List Token). refl;
+      run = λ (e m : ℕ) (x : d ≤ e) (y : n ≤ m) (more : List Token). refl;
       stands = rw append-nil k;
       used = u;
     }

@@ -7,11 +7,13 @@ use Rattle.expression_grammar.specs.declared.node.Node.{Node}
 use Rattle.expression_grammar.specs.Tree.{Tree, size, written}
 use Rattle.expression_grammar.specs.Grammar.{Spells, IsFront}
 use Rattle.expression_grammar.specs.Machine.{State, start, go, stops, step, fits, run, Outcome, alive, stopped, deep}
-use Rattle.expression_grammar.specs.Machine.{complete, unfit, unended, told_at, or_fault, answer, Answer, read}
-use Rattle.expression_grammar.specs.Answers.{IsNoExpression, IsAnswer}
+use Rattle.expression_grammar.specs.Machine.{complete, unfit, unended, or_fault, answer, Answer, read}
+use Rattle.expression_grammar.specs.Grammar.{told_at}
+use Rattle.expression_grammar.specs.Answers.{IsNoExpression}
+use Rattle.expression_grammar.specs.Claims.{IsAnswer}
 use Rattle.expression_grammar.proofs.Shapes.{Shape, want, cast_word, done, state_of, read_of, Stands, keeps}
 use Rattle.expression_grammar.proofs.Reached.{Stop, Reached, reached}
-use Rattle.expression_grammar.proofs.Fronts.{is_front, final, accepted, final_complete, is_whole}
+use Rattle.expression_grammar.proofs.Fronts.{is_front, final, accepted, final_complete, is_whole, spells_wider}
 
 -- a state knows how many tokens led to it
 pub at_shape : (x : Shape) → (state_of x).at ≡ length (read_of x)
@@ -36,13 +38,14 @@ no_expression d n s ts e h t x =
     let c : complete s ≡ Some (written 0 t) = ap complete same ∙ f in
     cc
 
--- where the machine stops, no text goes on
+-- where the machine stops, no text goes on, however deep
 pub stopped_unfit : (d n : ℕ) (ts : List Token) (s : State) (t : Token) (stop : Stop d n start [] ts s t)
-    → step s t ≡ stops → IsFront d n (stop.front ++ t ∷ []) → ⊥
-stopped_unfit d n ts s t stop e v =
-    let a = accepted d n ((stop.front ++ t ∷ []) ++ v.0) v.1 v.2 in
-    let r : run d n start ((stop.front ++ t ∷ []) ++ v.0) ≡ stopped s =
-    rw append_assoc (stop.run (t ∷ v.0) ∙ rw e refl) in
+    → step s t ≡ stops → (e m : ℕ) → IsFront e m (stop.front ++ t ∷ []) → ⊥
+stopped_unfit d n ts s t stop h e m v =
+    let wide = spells_wider e m (d + e) (n + m) ((stop.front ++ t ∷ []) ++ v.0) v.1 (omega arith) (omega arith) v.2 in
+    let a = accepted (d + e) (n + m) ((stop.front ++ t ∷ []) ++ v.0) v.1 wide in
+    let r : run (d + e) (n + m) start ((stop.front ++ t ∷ []) ++ v.0) ≡ stopped s =
+    rw append_assoc (stop.run (d + e) (n + m) (omega arith) (omega arith) (t ∷ v.0) ∙ rw h refl) in
     cc
 
 pub deep_unfit : (d n : ℕ) (ts : List Token) (s next : State) (t : Token) (stop : Stop d n start [] ts s t)
@@ -50,12 +53,12 @@ pub deep_unfit : (d n : ℕ) (ts : List Token) (s next : State) (t : Token) (sto
 deep_unfit d n ts s next t stop e f v =
     let a = accepted d n ((stop.front ++ t ∷ []) ++ v.0) v.1 v.2 in
     let r : run d n start ((stop.front ++ t ∷ []) ++ v.0) ≡ deep s t =
-    rw append_assoc (stop.run (t ∷ v.0) ∙ rw (e, f) refl) in
+    rw append_assoc (stop.run d n (omega arith) (omega arith) (t ∷ v.0) ∙ rw (e, f) refl) in
     cc
 
 pub front_runs : (d n : ℕ) (ts : List Token) (s : State) (t : Token) (stop : Stop d n start [] ts s t)
     → run d n start stop.front ≡ alive s
-front_runs d n ts s t stop = rw append-nil at (stop.run [])
+front_runs d n ts s t stop = rw append-nil at (stop.run d n (omega arith) (omega arith) [])
 
 pub alive_answer : (d n : ℕ) (ts : List Token) (s : State) → run d n start ts ≡ alive s → Stands s ts d → s.used ≤ n
     → (o : Option (List Node)) → complete s ≡ o → IsAnswer d n ts (or_fault o unended s.at)
@@ -86,7 +89,7 @@ stopped_answer d n ts s t stop h (Some nodes) e =
       tree = w.tree;
       spells = w.spells;
       written = w.written;
-      last = stopped_unfit d n ts s t stop h;
+      last = λ v. stopped_unfit d n ts s t stop h v.0 v.1 v.2;
     }
 stopped_answer d n ts s t stop h None e =
     record {
@@ -96,7 +99,7 @@ stopped_answer d n ts s t stop h None e =
       split = stop.split;
       place = at_length s stop.front d stop.stands;
       fits = is_front d n s stop.front stop.stands stop.used;
-      unfit = stopped_unfit d n ts s t stop h;
+      unfit = λ v. stopped_unfit d n ts s t stop h v.0 v.1 v.2;
       incomplete = no_expression d n s stop.front (front_runs d n ts s t stop) e;
     }
 

@@ -1,21 +1,20 @@
 -- What an answer says of the tokens, in terms of the grammar alone.
-use Rattle.std.specs.Prelude.{◌≡◌, ℕ, List, [], ◌∷◌, ◌++◌, length, Ok, Err, ⊤}
+use Rattle.std.specs.Prelude.{◌≡◌, ℕ, List, [], ◌∷◌, ◌++◌, length, ⊤}
 use Rattle.expression_grammar.specs.declared.token.Token.{Token}
 use Rattle.expression_grammar.specs.declared.node.Node.{Node}
 use Rattle.expression_grammar.specs.Tree.{Tree, written}
-use Rattle.expression_grammar.specs.Grammar.{Spells, IsFront, IsFrontWithoutLimits}
-use Rattle.expression_grammar.specs.Machine.{Answer, unfit, unended, depth, told_at}
+use Rattle.expression_grammar.specs.Grammar.{Spells, IsFront, IsFrontWithoutLimits, told_at}
 
--- no text goes on with the next token
-abbrev pub GoesNoFurther : ℕ → ℕ → List Token → List Token → Type 0
-GoesNoFurther d n front [] = ⊤
-GoesNoFurther d n front (t ∷ rest) = IsFront d n (front ++ t ∷ []) → ⊥
+-- no text goes on with the next token, however deep
+abbrev pub GoesNoFurther : List Token → List Token → Type 0
+GoesNoFurther front [] = ⊤
+GoesNoFurther front (t ∷ rest) = IsFrontWithoutLimits (front ++ t ∷ []) → ⊥
 
 -- no expression is spelled by the tokens
 abbrev pub IsNoExpression : ℕ → ℕ → List Token → Type 0
 IsNoExpression d n ts = (t : Tree) → Spells d n ts t → ⊥
 
--- the first tokens spell an expression that no text goes on from, and the nodes are its own
+-- the first tokens spell an expression that no text goes on from, however deep, and the nodes are its own
 pub record IsRead (d n : ℕ) (ts : List Token) (nodes : List Node) (count : ℕ) : Type 0 where
   pub front : List Token
   pub rest : List Token
@@ -24,9 +23,9 @@ pub record IsRead (d n : ℕ) (ts : List Token) (nodes : List Node) (count : ℕ
   pub tree : Tree
   pub spells : Spells d n front tree
   pub written : nodes ≡ written 0 tree
-  pub last : GoesNoFurther d n front rest
+  pub last : GoesNoFurther front rest
 
--- the token at the place is the first with which no text of the grammar begins so
+-- the token at the place is the first with which no text of the grammar begins so, however deep
 pub record IsUnfit (d n : ℕ) (ts : List Token) (at : ℕ) : Type 0 where
   pub front : List Token
   pub token : Token
@@ -34,7 +33,7 @@ pub record IsUnfit (d n : ℕ) (ts : List Token) (at : ℕ) : Type 0 where
   pub split : ts ≡ front ++ token ∷ rest
   pub place : at ≡ length front
   pub fits : IsFront d n front
-  pub unfit : IsFront d n (front ++ token ∷ []) → ⊥
+  pub unfit : IsFrontWithoutLimits (front ++ token ∷ []) → ⊥
   pub incomplete : IsNoExpression d n front
 
 -- every token fits, and the text ends too early
@@ -53,9 +52,3 @@ pub record IsTooDeep (d n : ℕ) (ts : List Token) (at : ℕ) : Type 0 where
   pub fits : IsFront d n front
   pub deep : IsFront d n (front ++ token ∷ []) → ⊥
   pub without_limits : IsFrontWithoutLimits (front ++ token ∷ [])
-
-abbrev pub IsAnswer : ℕ → ℕ → List Token → Answer → Type 0
-IsAnswer d n ts (Ok (nodes, count)) = IsRead d n ts nodes count
-IsAnswer d n ts (Err (unfit, at)) = IsUnfit d n ts at
-IsAnswer d n ts (Err (unended, at)) = IsUnended d n ts at
-IsAnswer d n ts (Err (depth, at)) = IsTooDeep d n ts at

@@ -8,10 +8,11 @@ use Rattle.expression_grammar.specs.declared.reader.Stop.{Stop}
 use Rattle.expression_grammar.specs.declared.reader.Stop.TheVariants as stop
 use Rattle.expression_grammar.specs.Machine.{Answer, unfit, unended, depth}
 
+-- the nodes of an expression, and how many tokens they took
 abbrev pub pair_of : Expression → List Node × ℕ
 pair_of e = (e.nodes.items, e.count)
 
--- want of memory is free
+-- a result of the code stands for the answer; want of memory is free
 abbrev pub Gives : Result Expression Stop → Answer → Type 0
 Gives (Ok e) a = a ≡ Ok (pair_of e)
 Gives (Err (stop.Unfit at)) a = a ≡ Err (unfit, at)

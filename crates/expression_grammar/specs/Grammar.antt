@@ -1,6 +1,7 @@
 -- What a text of the grammar is, within limits and without, and which fronts can still become one.
-use Rattle.std.specs.Prelude.{◌≡◌, ℕ, ◌≤◌, List, ◌++◌}
+use Rattle.std.specs.Prelude.{◌≡◌, ℕ, ◌-◌, ◌≤◌, List, ◌++◌}
 use Rattle.expression_grammar.specs.declared.token.Token.{Token}
+use Rattle.expression_grammar.specs.declared.token.Token.TheVariants as token
 use Rattle.expression_grammar.specs.Tree.{Tree, tokens_of, rank, WellBracketed, depth, operators}
 
 -- an expression without a comma of its own
@@ -26,3 +27,8 @@ IsFront d n front = (more : List Token) × (t : Tree) × Spells d n (front ++ mo
 -- the tokens can still become an expression
 abbrev pub IsFrontWithoutLimits : List Token → Type 0
 IsFrontWithoutLimits front = (d : ℕ) × (n : ℕ) × IsFront d n front
+
+-- where a token that is too deep is told: a cast, known by its word, at its parenthesis
+abbrev pub told_at : Token → ℕ → ℕ
+told_at token.Uint64 at = at - 1
+told_at t at = at

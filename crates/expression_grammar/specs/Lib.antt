@@ -1,6 +1,7 @@
 pub mod Tree
-pub mod Machine
 pub mod Grammar
+pub mod Machine
 pub mod Answers
+pub mod Claims
 pub mod Steps
 pub mod Gives

@@ -17,8 +17,9 @@ use Rattle.expression_grammar.specs.declared.node.Last.TheVariants as last
 use Rattle.expression_grammar.specs.declared.node.Mode.{Mode}
 use Rattle.expression_grammar.specs.declared.node.Mode.TheVariants as mode
 use Rattle.expression_grammar.specs.Tree.{level, cost}
+use Rattle.expression_grammar.specs.Grammar.{told_at}
 
--- at: the next token's place; brackets: how many are open; used: how many operators were read
+-- the machine's state; at: the next token's place; brackets: how many are open; used: how many operators were read
 pub record State : Type 0 where
   pub mode : Mode
   pub held : List Held
@@ -27,10 +28,12 @@ pub record State : Type 0 where
   pub brackets : ℕ
   pub used : ℕ
 
+-- the state of these parts
 abbrev pub state : Mode → List Held → List Node → ℕ → ℕ → ℕ → State
 state m held nodes at brackets used =
     record { mode = m; held = held; nodes = nodes; at = at; brackets = brackets; used = used }
 
+-- the state before the first token
 abbrev pub start : State
 start = state mode.Want [] [] 0 0 0
 
@@ -115,6 +118,7 @@ abbrev pub cast_closed : State → List Held → Move
 cast_closed s (held.Group at ∷ hs) = closed s mode.Want (held.Cast at ∷ hs) s.nodes
 cast_closed s _ = stops
 
+-- a token behind the word of a cast
 abbrev pub casting : State → Token → Move
 casting s token.Close = cast_closed s s.held
 casting s _ = stops
@@ -137,16 +141,18 @@ joined s o p =
     then go (state mode.Want (held.Binary o s.at ∷ p.0) p.1 (s.at + 1) s.brackets (s.used + cost o))
     else stops
 
+-- a parenthesis that closes behind an operand: that of a group, or of a call with arguments
 abbrev pub closes : State → List Held → List Node → Move
 closes s (held.Group at ∷ hs) nodes = closed s (mode.Done last.Other) hs nodes
 closes s (held.Call at ∷ hs) nodes = closed s (mode.Done last.Other) hs (nodes ++ node.Call at ∷ [])
 closes s hs nodes = stops
 
+-- the bracket of a subscript that closes behind an operand
 abbrev pub closes_index : State → List Held → List Node → Move
 closes_index s (held.Index at ∷ hs) nodes = closed s (mode.Done last.Subscript) hs (nodes ++ node.Index at ∷ [])
 closes_index s hs nodes = stops
 
--- a bracket that closes behind an operand
+-- a bracket that closes behind an operand, what waits and what is complete being this pair
 abbrev pub after_pair : State → Token → Pair → Move
 after_pair s token.Close p = closes s p.0 p.1
 after_pair s token.CloseIndex p = closes_index s p.0 p.1
@@ -159,6 +165,7 @@ after s l token.OpenIndex = index_opened s l
 after s l (token.Binary o) = joined s o (reduced (level o) s.held s.nodes)
 after s l t = after_pair s t (reduced 0 s.held s.nodes)
 
+-- one token in a mode
 abbrev pub step_in : Mode → State → Token → Move
 step_in mode.Want s t = operand s t
 step_in mode.Casting s t = casting s t
@@ -175,9 +182,11 @@ pub data Outcome : Type 0 where
   stopped : State → Outcome
   deep : State → Token → Outcome
 
+-- a state is within the limits: at most d brackets are open and n operators were read
 abbrev pub fits : ℕ → ℕ → State → Bool
 fits d n s = nat_le s.brackets d && nat_le s.used n
 
+-- the run goes on behind a token, where the next state is within the limits, or it ends there
 abbrev pub goes : ℕ → ℕ → State → Token → Move → (State → Outcome) → Outcome
 goes d n s t (go next) run = if fits d n next then run next else deep s t
 goes d n s t stops run = stopped s
@@ -187,37 +196,36 @@ abbrev pub run : ℕ → ℕ → State → List Token → Outcome
 run d n s [] = alive s
 run d n s (t ∷ ts) = goes d n s t (step s t) (λ next. run d n next ts)
 
--- the nodes of a state in which an expression may end
+-- the nodes, where nothing is held any more
 abbrev pub whole : Pair → Option (List Node)
 whole ([], nodes) = Some nodes
 whole (h ∷ hs, nodes) = None
 
+-- the nodes of a state in such a mode, where an expression may end
 abbrev pub nodes_in : Mode → State → Option (List Node)
 nodes_in (mode.Done l) s = whole (reduced 0 s.held s.nodes)
 nodes_in _ s = None
 
+-- the nodes of a state in which an expression may end
 abbrev pub complete : State → Option (List Node)
 complete s = nodes_in s.mode s
 
--- a fault: its kind and the place of the token that it is told at
+-- what is wrong: a token that does not go on, an end that comes too early, or a limit that is passed
 pub data Kind : Type 0 where
   unfit : Kind
   unended : Kind
   depth : Kind
 
--- a cast that is one operator too many is told at its parenthesis
-abbrev pub told_at : Token → ℕ → ℕ
-told_at token.Uint64 at = at - 1
-told_at t at = at
-
--- what reading answers: the nodes and how many tokens they took, or the first fault
+-- what reading answers: the nodes and how many tokens they took, or the first fault and the token that it is told at
 abbrev pub Answer : Type 0
 Answer = Result (List Node × ℕ) (Kind × ℕ)
 
+-- the complete nodes and how many tokens they took, else this fault
 abbrev pub or_fault : Option (List Node) → Kind → ℕ → Answer
 or_fault (Some nodes) k at = Ok (nodes, at)
 or_fault None k at = Err (k, at)
 
+-- what a run answers: the expression that is complete where it ends, or the fault there
 abbrev pub answer : Outcome → Answer
 answer (alive s) = or_fault (complete s) unended s.at
 answer (stopped s) = or_fault (complete s) unfit s.at

@@ -10,6 +10,7 @@ use Rattle.expression_grammar.specs.declared.token.Op.{Op}
 use Rattle.expression_grammar.specs.declared.token.Token.TheVariants as token
 use Rattle.expression_grammar.specs.Machine.{State, state, Move, Pair, go, stops, complete, reduced, joined, after_pair}
 
+-- a list without its first element
 abbrev pub rest : {A : Type 0} → List A → List A
 rest [] = []
 rest (x ∷ xs) = xs
@@ -48,15 +49,18 @@ StepsFrom (Ok false) old new p move =
     (move ≡ stops) × (new ≡ state old.mode p.0 p.1 old.at old.brackets old.used)
 StepsFrom (Err e) old new p move = ⊤
 
+-- the code went on with a binary operator behind an operand as the machine does, or stopped with it
 abbrev pub JoinsAs : {E : Type 0} → Result Bool E → State → State → Op → Type 0
 JoinsAs r old new o =
     StepsFrom r old new (reduced (level o) old.held old.nodes)
     (joined old o (reduced (level o) old.held old.nodes))
 
+-- the same with a parenthesis that closes
 abbrev pub ClosesAs : {E : Type 0} → Result Bool E → State → State → Type 0
 ClosesAs r old new =
     StepsFrom r old new (reduced 0 old.held old.nodes) (after_pair old token.Close (reduced 0 old.held old.nodes))
 
+-- the same with the bracket of a subscript that closes
 abbrev pub ClosesIndexAs : {E : Type 0} → Result Bool E → State → State → Type 0
 ClosesIndexAs r old new =
     StepsFrom r old new (reduced 0 old.held old.nodes)

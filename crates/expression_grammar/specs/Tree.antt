@@ -11,6 +11,7 @@ use Rattle.expression_grammar.specs.declared.token.Token.TheVariants as token
 use Rattle.expression_grammar.specs.declared.node.Node.{Node}
 use Rattle.expression_grammar.specs.declared.node.Node.TheVariants as node
 
+-- an expression with all its spelling; a constant has its suffix alone, since its value is no part of the grammar
 pub data Tree : Type 0 where
   constant : Suffix → Tree
   name : Tree
@@ -27,6 +28,7 @@ pub data Tree : Type 0 where
   cast : Tree → Tree
   binary : Op → Tree → Tree → Tree
 
+-- the token of a sign
 abbrev pub sign_token : Sign → Token
 sign_token sign.Minus = token.Binary op.Minus
 sign_token sign.Complement = token.Complement

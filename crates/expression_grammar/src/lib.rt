@@ -6,6 +6,4 @@ mod laws;
 pub mod node;
 pub mod reader;
 mod stack;
-#[cfg(test)]
-mod tests;
 pub mod token;

@@ -6,7 +6,8 @@ ghost use Rattle.std.specs.Option.{option_map};
 ghost use Rattle.expression_grammar.specs.Tree.{cost, level};
 ghost use Rattle.expression_grammar.specs.Machine.{after, bare_closed, call_opened, cast_closed, cast_word, casting};
 ghost use Rattle.expression_grammar.specs.Machine.{closed, complete, demand, fits, go, index_opened, leaf, opened};
-ghost use Rattle.expression_grammar.specs.Machine.{operand, read, reduced, signed, start, step, told_at};
+ghost use Rattle.expression_grammar.specs.Machine.{operand, read, reduced, signed, start, step};
+ghost use Rattle.expression_grammar.specs.Grammar.{told_at};
 ghost use Rattle.expression_grammar.specs.declared.node.Mode.TheVariants as mode;
 ghost use Rattle.expression_grammar.specs.Answers.{IsRead};
 ghost use Rattle.expression_grammar.specs.Gives.{Gives, IsStop, pair_of};
@@ -500,12 +501,13 @@ fn run(alloc: Global, tokens: &[Token]) -> Result<Expression, Stop>
     }
 }
 
-/// Reads the expression with which the tokens begin.
+/// Reads the expression with which the tokens begin, up to the first token with which no text goes on, however deep.
 ///
 /// # Errors
-/// The first fault: `Unfit` at the first token with which no text goes on so, where the tokens before it are
-/// no expression; `Unended` where every token fits and the tokens end too early; `Depth` at the first token
-/// that only a text beyond the limits has. `NoMemory` is free.
+/// The first fault: `Unfit` at the first token with which no text goes on so, however deep, where the tokens before
+/// it are no expression; `Unended` where every token fits and the tokens end too early; `Depth` at the first token
+/// that only a text beyond the limits has. `NoMemory` may come wherever memory is taken.
+#[tactic(auto, using(crate::proofs::Telling::telling))]
 pub fn read(alloc: Global, tokens: &[Token]) -> Result<Expression, Stop>
     ensures expression { IfOk result (λ e. IsRead MOST_BRACKETS MOST_OPERATORS tokens.now e.nodes.items e.count) }
     ensures stop { IfErr result (IsStop MOST_BRACKETS MOST_OPERATORS tokens.now) }

@@ -10,7 +10,7 @@ use Rattle.expression_grammar.specs.Tree.{Tree, tokens_of, operators}
 use Rattle.expression_grammar.specs.Machine.{State, start, Move, go, stops, step, fits, complete}
 use Rattle.expression_grammar.proofs.Shapes.{Stands, Keeps, keeps}
 use Rattle.expression_grammar.proofs.Reached.{fits_bounds}
-use Rattle.expression_grammar.proofs.Fronts.{is_front, is_whole}
+use Rattle.expression_grammar.proofs.Fronts.{within_wider, is_front, is_whole}
 use Rattle.expression_grammar.proofs.Reading.{begins}
 use Rattle.kernel_grammar.specs.declared.table.Role.{Role}
 use Rattle.kernel_grammar.specs.declared.table.Role.TheVariants as role
@@ -93,17 +93,24 @@ begins_held d n (want.Inner r) u = (begins (room r d), omega arith)
 begins_held d n want.Over u = (refl, refl)
 begins_held d n _ u = (refl, refl)
 
+pub room_wider : (r : Role) (d e : ℕ) → d ≤ e → room r d ≤ room r e
+room_wider role.Subscript d e h = omega arith
+room_wider _ d e h = h
+
+pub left_wider : (r : Role) (n m u : ℕ) → n ≤ m → left r n u ≤ left r m u
+left_wider role.Subscript n m u h = omega arith
+left_wider _ n m u h = h
+
 -- the fits of an expression at higher limits
 pub fits_more : (d n e m u : ℕ) (r : Role) (t : Tree) → d ≤ e → n ≤ m → Fits (room r d) (left r n u) t
     → Fits (room r e) (left r m u) t
-fits_more d n e m u role.Subscript t h k f =
-    let a = f.within.depth in
-    let b = f.within.operators in
-    record { expression = f.expression; within = record { depth = omega arith; operators = omega arith } }
-fits_more d n e m u _ t h k f =
-    let a = f.within.depth in
-    let b = f.within.operators in
-    record { expression = f.expression; within = record { depth = omega arith; operators = omega arith } }
+fits_more d n e m u r t h k f =
+    record {
+      expression = f.expression;
+      within =
+          within_wider (room r d) (left r n u) (room r e) (left r m u) t (room_wider r d e h) (left_wider r n m u k)
+          f.within;
+    }
 
 -- one element more
 pub leads_sign : (d n : ℕ) (w v : Want) (b u : ℕ) (t : Token) (es : List Element) → next w b t ≡ Some v
@@ -209,10 +216,6 @@ outer_front d n w b u es us k l h =
       },
     )
 
-pub room_low : (r : Role) (d b : ℕ) → room r d ≤ room r (max d (b + 1))
-room_low role.Subscript d b = omega arith
-room_low _ d b = omega arith
-
 pub room_high : (r : Role) (d b : ℕ) → b ≤ room r (max d (b + 1))
 room_high role.Subscript d b = omega arith
 room_high _ d b = omega arith
@@ -229,7 +232,7 @@ deeper d n r b u e es us ts k l i q =
     let p = i.peak in
     let c = max d (e.brackets + 1) in
     let m = n + u + e.used in
-    let low = room_low r d e.brackets in
+    let low = room_wider r d c (omega arith) in
     let high = room_high r d e.brackets in
     let stands : Stands e us (room r c) =
     record { shape = i.shape; is = i.is; tokens = i.tokens; sound = i.sound; peak = omega arith } in

@@ -1,38 +1,20 @@
 -- A text that stops at a token within limits stops there within wider ones too: the token is misplaced.
-use Rattle.std.proofs.Common.{◌≡◌, ℕ, ◌+◌, ◌≤◌, Bool, true, false, List, [], ◌∷◌, refl, ap, subst, arith, rules}
-use Rattle.std.specs.Prelude.{nat_le, if◌then◌else◌, Ok, Err, ⊤}
+use Rattle.std.proofs.Common.{◌≡◌, ℕ, ◌+◌, ◌≤◌, Bool, true, false, List, [], ◌∷◌, refl, ap, subst, arith}
+use Rattle.std.specs.Prelude.{if◌then◌else◌, Err, ⊤}
 use Rattle.expression_grammar.specs.declared.token.Token.{Token}
-use Rattle.expression_grammar.specs.Machine.{State, Move, go, stops, step, fits, Kind, unfit, unended, depth}
-use Rattle.expression_grammar.proofs.Reached.{fits_bounds}
+use Rattle.expression_grammar.specs.Machine.{Move, go, stops, step, fits, unfit}
+use Rattle.expression_grammar.proofs.Reached.{fits_wider}
 use Rattle.kernel_grammar.specs.declared.table.Role.{Role}
-use Rattle.kernel_grammar.specs.declared.table.Role.TheVariants as role
 use Rattle.kernel_grammar.specs.declared.table.Want.{Want}
 use Rattle.kernel_grammar.specs.declared.table.Want.TheVariants as want
 use Rattle.kernel_grammar.specs.Table.{room, left}
 use Rattle.kernel_grammar.specs.Machine.{Spot, spot, first_spot, Turn, on, stop, too_deep, inner_turn, turn_in, turn}
 use Rattle.kernel_grammar.specs.Machine.{End, goes_on, stopped_at, deep_at, turns, run, Answer, whole, answer, read}
 use Rattle.kernel_grammar.specs.Kernel.{Piece}
-use Rattle.kernel_grammar.specs.Answers.{IsAnswer, IsMisplaced}
+use Rattle.kernel_grammar.specs.Answers.{IsMisplaced}
+use Rattle.kernel_grammar.specs.Claims.{IsAnswer}
+use Rattle.kernel_grammar.proofs.Keeps.{room_wider, left_wider}
 use Rattle.kernel_grammar.proofs.Reading.{read_answers}
-
-room-wider : (r : Role) (d e : ℕ) → d ≤ e → room r d ≤ room r e
-room-wider role.Subscript d e h = omega (arith, h)
-room-wider r d e h = h
-
-left-wider : (r : Role) (n m u : ℕ) → n ≤ m → left r n u ≤ left r m u
-left-wider role.Subscript n m u h = omega (arith, h)
-left-wider r n m u h = h
-
-upto : (a b : ℕ) → a ≤ b → nat_le a b ≡ true
-upto a b h = search rules
-
--- what fits fits wider limits
-fits-wider : (d n e m : ℕ) (s : State) → fits d n s ≡ true → d ≤ e → n ≤ m → fits e m s ≡ true
-fits-wider d n e m s h x y =
-    let b = fits_bounds d n s.brackets s.used h in
-    let brackets : nat_le s.brackets e ≡ true = upto s.brackets e (omega (arith, b.0, x)) in
-    let used : nat_le s.used m ≡ true = upto s.used m (omega (arith, b.1, y)) in
-    rw (brackets, used) refl
 
 -- a turn that goes on or stops, and not for a limit
 abbrev pub IsWithin : Turn → Type 0
@@ -50,8 +32,8 @@ inner-wider : (d n e m : ℕ) (r : Role) (s : Spot) (t : Token) (x : Move) → d
 inner-wider d n e m r s t (go i) x y w =
     by-fit (fits (room r d) (left r n s.used) i) (fits (room r e) (left r m s.used) i)
     (spot (want.Inner r) s.braces s.used s.pieces (s.at + 1) s.first i)
-    (λ h. fits-wider (room r d) (left r n s.used) (room r e) (left r m s.used) i h (room-wider r d e x)
-    (left-wider r n m s.used y)) w
+    (fits_wider (room r d) (left r n s.used) (room r e) (left r m s.used) i (room_wider r d e x)
+    (left_wider r n m s.used y)) w
 inner-wider d n e m r s t stops x y w = refl
 
 in-wider : (d n e m : ℕ) (w : Want) (s : Spot) (t : Token) → d ≤ e → n ≤ m → IsWithin (turn_in d n w s t)
@@ -73,36 +55,27 @@ stops-wider d n e m x y (t ∷ ts) s o h =
     by-turn d n e m s o t ts (turn d n s t) (λ w. in-wider d n e m s.want s t x y w)
     (λ later. stops-wider d n e m x y ts later o) h
 
--- the fault of an answer
-abbrev told : Answer → Kind × ℕ
-told (Ok ps) = (depth, 0)
-told (Err fault) = fault
-
-ends-too-early : (unended ≡ unfit) → ⊥
-ends-too-early e = absurd (cc)
-
-is-too-deep : (depth ≡ unfit) → ⊥
-is-too-deep e = absurd (cc)
-
-all-fit : (w : Want) (ps : List Piece) (at place : ℕ) → whole w ps at ≡ Err (unfit, place) → ⊥
-all-fit want.Over ps at place e = absurd (cc)
-all-fit w ps at place e = ends-too-early (ap (λ (f : Answer). (told f).0) e)
-
 pub stop-misplaced : (d n : ℕ) (us : List Token) (s : Spot) → 1 ≤ d → run d n first_spot us ≡ stopped_at s
     → IsMisplaced d n us s.at
 stop-misplaced d n us s some e = λ b m x y.
     let same : read b m us ≡ Err (unfit, s.at) = ap answer (stops-wider d n b m x y us first_spot s e) in
     subst (λ (a : Answer). IsAnswer b m us a) same (read_answers b m us (omega (arith, some, x)))
 
-by-end : (d n : ℕ) (us : List Token) (o : End) (at : ℕ) → 1 ≤ d → run d n first_spot us ≡ o
-    → answer o ≡ Err (unfit, at) → IsMisplaced d n us at
-by-end d n us (goes_on s) at some e h = absurd (all-fit s.want s.pieces s.at at h)
-by-end d n us (stopped_at s) at some e h =
-    let same : s.at ≡ at = ap (λ (f : Answer). (told f).1) h in
-    subst (λ (k : ℕ). IsMisplaced d n us k) same (stop-misplaced d n us s some e)
-by-end d n us (deep_at s t) at some e h = absurd (is-too-deep (ap (λ (f : Answer). (told f).0) h))
+-- what an answer says of a token that fits nowhere
+abbrev Tells : ℕ → ℕ → List Token → Answer → Type 0
+Tells d n us (Err (unfit, at)) = IsMisplaced d n us at
+Tells d n us a = ⊤
+
+whole-tells : (d n : ℕ) (us : List Token) (w : Want) (ps : List Piece) (at : ℕ) → Tells d n us (whole w ps at)
+whole-tells d n us want.Over ps at = tt
+whole-tells d n us w ps at = tt
+
+end-tells : (d n : ℕ) (us : List Token) (o : End) → 1 ≤ d → run d n first_spot us ≡ o → Tells d n us (answer o)
+end-tells d n us (goes_on s) some e = whole-tells d n us s.want s.pieces s.at
+end-tells d n us (stopped_at s) some e = stop-misplaced d n us s some e
+end-tells d n us (deep_at s t) some e = tt
 
 -- a token that the machine calls unfit is misplaced
 pub unfit-misplaced : (d n : ℕ) (us : List Token) (at : ℕ) → 1 ≤ d → read d n us ≡ Err (unfit, at)
     → IsMisplaced d n us at
-unfit-misplaced d n us at some h = by-end d n us (run d n first_spot us) at some refl h
+unfit-misplaced d n us at some h = rw h at (end-tells d n us (run d n first_spot us) some refl)

@@ -1,14 +1,14 @@
 -- What an answer for a text says of its tokens, in terms of the grammar alone.
-use Rattle.std.specs.Prelude.{◌≡◌, ◌≤◌, ℕ, List, [], ◌∷◌, ◌++◌, length, Ok, Err}
+use Rattle.std.specs.Prelude.{◌≡◌, ◌≤◌, ℕ, List, [], ◌∷◌, ◌++◌, length}
 use Rattle.expression_grammar.specs.declared.token.Token.{Token}
-use Rattle.expression_grammar.specs.Machine.{unfit, unended, depth, told_at}
+use Rattle.expression_grammar.specs.Grammar.{told_at}
 use Rattle.kernel_grammar.specs.Kernel.{Kernel, kernel_elements, Piece, pieces, Spells, IsFront}
-use Rattle.kernel_grammar.specs.Machine.{Answer}
 
 -- no kernel is spelled by the tokens
 abbrev pub IsNoKernel : ℕ → ℕ → List Token → Type 0
 IsNoKernel d n ts = (k : Kernel) → Spells d n ts k → ⊥
 
+-- the tokens spell a kernel, and the pieces are its own
 pub record IsRead (d n : ℕ) (ts : List Token) (ps : List Piece) : Type 0 where
   pub kernel : Kernel
   pub spells : Spells d n ts kernel
@@ -44,9 +44,3 @@ pub record IsTooDeep (d n : ℕ) (ts : List Token) (at : ℕ) : Type 0 where
   pub fits : IsFront d n front
   pub deep : IsFront d n (front ++ token ∷ []) → ⊥
   pub without_limits : (e : ℕ) × (m : ℕ) × IsFront e m (front ++ token ∷ [])
-
-abbrev pub IsAnswer : ℕ → ℕ → List Token → Answer → Type 0
-IsAnswer d n ts (Ok ps) = IsRead d n ts ps
-IsAnswer d n ts (Err (unfit, at)) = IsUnfit d n ts at
-IsAnswer d n ts (Err (unended, at)) = IsUnended d n ts at
-IsAnswer d n ts (Err (depth, at)) = IsTooDeep d n ts at

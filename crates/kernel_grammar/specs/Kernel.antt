@@ -14,6 +14,7 @@ use Rattle.expression_grammar.specs.Grammar.{IsExpression, IsWithin}
 use Rattle.kernel_grammar.specs.declared.part.Mark.{Mark}
 use Rattle.kernel_grammar.specs.declared.part.Mark.TheVariants as kept
 
+-- a sign between expressions with what it is, where it is kept, or an expression with the sign that ends it
 pub data Element : Type 0 where
   sign : Token → Option Mark → Element
   expression : Tree → Token → Element
@@ -53,6 +54,7 @@ pub data Step : Type 0 where
   -- name += expression
   assigned : Assign → Tree → Step
 
+-- the head of a guarded item or of a loop (C17 6.8.4.1 and 6.8.5.3)
 pub data Head : Type 0 where
   -- if ( condition )
   branch : Tree → Head
@@ -61,6 +63,7 @@ pub data Head : Type 0 where
 
 -- a list of items is a type of its own, since a type can't hold a list of itself
 mutual
+  -- an item: a block, an empty statement, an assignment, or an item behind a head (C17 6.8.2 to 6.8.5)
   pub data Item : Type 0 where
     -- { items }
     block : Items → Item
@@ -70,32 +73,38 @@ mutual
     assign : Assign → Tree → Tree → Item
     headed : Head → Item → Item
 
+  -- items, one behind another
   pub data Items : Type 0 where
     none : Items
     more : Item → Items → Items
 
+-- a parameter of a kernel: a number, or an array with its extents
 pub data Parameter : Type 0 where
   -- int64_t name
   number : Parameter
   -- uint64_t name [ extent ], and further extents
   array : Tree → List Tree → Parameter
 
--- declared: for each declaration, how many names stand behind its first
+-- a kernel; declared: for each declaration, how many names stand behind its first
 pub record Kernel : Type 0 where
   pub first : Parameter
   pub others : List Parameter
   pub declared : List ℕ
   pub items : Items
 
+-- the sign ;
 abbrev pub semicolon : Token
 semicolon = token.Outside outside.Semicolon
 
+-- the sign ,
 abbrev pub comma : Token
 comma = token.Binary op.Comma
 
+-- the sign {, which begins a block
 abbrev pub begins : Element
 begins = sign (token.Outside outside.BraceOpen) (Some kept.Begin)
 
+-- the sign }, which ends a block
 abbrev pub ends : Element
 ends = sign (token.Outside outside.BraceClose) (Some kept.End)
 
@@ -103,6 +112,7 @@ ends = sign (token.Outside outside.BraceClose) (Some kept.End)
 abbrev pub count_sign : Count → Element
 count_sign c = sign (token.Outside (outside.Count c)) (Some (kept.Count c))
 
+-- = or an operator and =
 abbrev pub assign_sign : Assign → Element
 assign_sign a = sign (token.Outside (outside.Assign a)) (Some (kept.Assign a))
 
@@ -112,10 +122,12 @@ step_elements (counted c) = sign token.Name (Some kept.StepName) ∷ count_sign 
 step_elements (counts c) = count_sign c ∷ sign token.Name (Some kept.StepName) ∷ plain token.Close ∷ []
 step_elements (assigned a x) = sign token.Name (Some kept.StepName) ∷ assign_sign a ∷ expression x token.Close ∷ []
 
+-- the name of a loop's iterator, behind int64_t or without
 abbrev pub iterator_elements : Bool → List Element
 iterator_elements true = plain (token.Outside outside.Int64) ∷ sign token.Name (Some kept.NewIterator) ∷ []
 iterator_elements false = sign token.Name (Some kept.Iterator) ∷ []
 
+-- a head, up to its last parenthesis
 abbrev pub head_elements : Head → List Element
 head_elements (branch c) =
     sign (token.Outside outside.If) (Some kept.If) ∷ plain token.Open ∷ expression c token.Close ∷ []
@@ -134,20 +146,24 @@ place_elements (index p i) = place_elements p ++ plain token.OpenIndex ∷ expre
 place_elements _ = []
 
 abbrev mutual
+  -- an item
   pub item_elements : Item → List Element
   item_elements (block is) = begins ∷ (all_elements is ++ ends ∷ [])
   item_elements empty = sign semicolon (Some kept.Empty) ∷ []
   item_elements (assign a p x) = place_elements p ++ assign_sign a ∷ expression x semicolon ∷ []
   item_elements (headed h i) = head_elements h ++ item_elements i
 
+  -- items, one behind another
   pub all_elements : Items → List Element
   all_elements none = []
   all_elements (more i is) = item_elements i ++ all_elements is
 
+-- extents, each in brackets
 abbrev pub extents : List Tree → List Element
 extents [] = []
 extents (x ∷ xs) = plain token.OpenIndex ∷ expression x token.CloseIndex ∷ extents xs
 
+-- a parameter: its type, its name and its extents
 abbrev pub parameter_elements : Parameter → List Element
 parameter_elements number = plain (token.Outside outside.Int64) ∷ sign token.Name (Some kept.Number) ∷ []
 parameter_elements (array x xs) = plain token.Uint64 ∷ sign token.Name (Some kept.Array) ∷ extents (x ∷ xs)
@@ -162,6 +178,7 @@ abbrev pub other_names : ℕ → List Element
 other_names zero = plain semicolon ∷ []
 other_names (suc k) = plain comma ∷ sign token.Name (Some kept.Declared) ∷ other_names k
 
+-- declarations of iterators, one behind another; for each, how many names stand behind its first
 abbrev pub declarations : List ℕ → List Element
 declarations [] = []
 declarations (k ∷ ks) =
@@ -179,6 +196,7 @@ pub record Fits (d n : ℕ) (t : Tree) : Type 0 where
   pub expression : IsExpression t
   pub within : IsWithin d n t
 
+-- each of these expressions is such a one
 abbrev pub AllFit : ℕ → ℕ → List Tree → Type 0
 AllFit d n [] = ⊤
 AllFit d n (x ∷ xs) = Fits d n x × AllFit d n xs
@@ -190,34 +208,40 @@ IsStepAssign set.Plus = ⊤
 IsStepAssign set.Minus = ⊤
 IsStepAssign _ = ⊥
 
+-- the expression of a step is such a one, behind an operator that a step may assign by
 abbrev pub StepFits : ℕ → ℕ → Step → Type 0
 StepFits d n (assigned a x) = IsStepAssign a × Fits d n x
 StepFits d n _ = ⊤
 
+-- each expression of a head is such a one
 abbrev pub HeadFits : ℕ → ℕ → Head → Type 0
 HeadFits d n (branch c) = Fits d n c
 HeadFits d n (loop e a c s) = Fits d n a × Fits d n c × StepFits d n s
 
--- each full expression is one within the limits, a place with all its subscripts
 abbrev mutual
+  -- each full expression of an item is one within the limits, a place with all its subscripts
   pub ItemFits : ℕ → ℕ → Item → Type 0
   ItemFits d n (block is) = ItemsFit d n is
   ItemFits d n empty = ⊤
   ItemFits d n (assign a p x) = IsPlace p × Fits d n p × Fits d n x
   ItemFits d n (headed h i) = HeadFits d n h × ItemFits d n i
 
+  -- each of these items is such a one
   pub ItemsFit : ℕ → ℕ → Items → Type 0
   ItemsFit d n none = ⊤
   ItemsFit d n (more i is) = ItemFits d n i × ItemsFit d n is
 
+-- each extent of a parameter is one within the limits
 abbrev pub ParameterFits : ℕ → ℕ → Parameter → Type 0
 ParameterFits d n number = ⊤
 ParameterFits d n (array x xs) = AllFit d n (x ∷ xs)
 
+-- each of these parameters is such a one
 abbrev pub ParametersFit : ℕ → ℕ → List Parameter → Type 0
 ParametersFit d n [] = ⊤
 ParametersFit d n (p ∷ ps) = ParameterFits d n p × ParametersFit d n ps
 
+-- each full expression of a kernel is one within the limits
 pub record KernelFits (d n : ℕ) (k : Kernel) : Type 0 where
   pub first : ParameterFits d n k.first
   pub others : ParametersFit d n k.others

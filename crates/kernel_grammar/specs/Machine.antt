@@ -4,14 +4,16 @@ use Rattle.std.specs.Prelude.{ℕ, ◌+◌, if◌then◌else◌, List, [], ◌�
 use Rattle.expression_grammar.specs.declared.token.Token.{Token}
 use Rattle.expression_grammar.specs.declared.node.Node.{Node}
 use Rattle.expression_grammar.specs.Machine.{State, start, Move, go, stops, step, fits, complete, Kind, unfit, unended}
-use Rattle.expression_grammar.specs.Machine.{depth, told_at}
+use Rattle.expression_grammar.specs.Machine.{depth}
+use Rattle.expression_grammar.specs.Grammar.{told_at}
 use Rattle.kernel_grammar.specs.declared.table.Role.{Role}
 use Rattle.kernel_grammar.specs.declared.table.Want.{Want}
 use Rattle.kernel_grammar.specs.declared.table.Want.TheVariants as want
 use Rattle.kernel_grammar.specs.Table.{next, behind, mark, braced, room, left, carried}
 use Rattle.kernel_grammar.specs.Kernel.{Piece, nodes_from, marked}
 
--- used: the operators so far of a place; at: the next token's place; first: where the expression in hand begins
+-- where the machine stands; used: the operators so far of a place; at: the next token's place; first: where the
+-- expression in hand begins
 pub record Spot : Type 0 where
   pub want : Want
   pub braces : ℕ
@@ -21,13 +23,15 @@ pub record Spot : Type 0 where
   pub first : ℕ
   pub inner : State
 
+-- the spot of these parts
 abbrev pub spot : Want → ℕ → ℕ → List Piece → ℕ → ℕ → State → Spot
 spot w b u ps at f e = record { want = w; braces = b; used = u; pieces = ps; at = at; first = f; inner = e }
 
--- behind a sign
+-- the spot behind a sign
 abbrev pub ahead : Want → ℕ → ℕ → List Piece → ℕ → Spot
 ahead w b u ps at = spot w b (carried w u) ps at at start
 
+-- the spot before the first token
 abbrev pub first_spot : Spot
 first_spot = ahead want.Void 0 0 [] 0
 
@@ -57,10 +61,12 @@ inner_turn d n r s t (go e) =
     else too_deep
 inner_turn d n r s t stops = leaves s (complete s.inner) (behind r t)
 
+-- one token, by what may come next
 abbrev pub turn_in : ℕ → ℕ → Want → Spot → Token → Turn
 turn_in d n (want.Inner r) s t = inner_turn d n r s t (step s.inner t)
 turn_in d n w s t = sign_turn s t (next w s.braces t)
 
+-- one token
 abbrev pub turn : ℕ → ℕ → Spot → Token → Turn
 turn d n s t = turn_in d n s.want s t
 
@@ -71,22 +77,27 @@ pub data End : Type 0 where
   stopped_at : Spot → End
   deep_at : Spot → Token → End
 
+-- the run goes on behind a token, or ends there
 abbrev pub turns : Spot → Token → Turn → (Spot → End) → End
 turns s t (on next) run = run next
 turns s t stop run = stopped_at s
 turns s t too_deep run = deep_at s t
 
+-- the run over tokens, with at most d brackets open and n operators in an expression
 abbrev pub run : ℕ → ℕ → Spot → List Token → End
 run d n s [] = goes_on s
 run d n s (t ∷ ts) = turns s t (turn d n s t) (λ next. run d n next ts)
 
+-- what reading answers: the pieces, or the first fault and the place of the token that it is told at
 abbrev pub Answer : Type 0
 Answer = Result (List Piece) (Kind × ℕ)
 
+-- the pieces where the kernel is over, else the fault that it is not ended
 abbrev pub whole : Want → List Piece → ℕ → Answer
 whole want.Over ps at = Ok ps
 whole w ps at = Err (unended, at)
 
+-- what a run answers
 abbrev pub answer : End → Answer
 answer (goes_on s) = whole s.want s.pieces s.at
 answer (stopped_at s) = Err (unfit, s.at)

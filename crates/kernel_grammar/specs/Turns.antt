@@ -3,7 +3,8 @@ use Rattle.std.specs.Prelude.{◌≡◌, ℕ, ◌<◌, ◌^◌, ◌++◌, List, 
 use Rattle.expression_grammar.specs.declared.token.Token.{Token}
 use Rattle.expression_grammar.specs.declared.reader.Stop.{Stop}
 use Rattle.expression_grammar.specs.declared.reader.Stop.TheVariants as fault
-use Rattle.expression_grammar.specs.Machine.{unfit, unended, depth, told_at}
+use Rattle.expression_grammar.specs.Machine.{unfit, unended, depth}
+use Rattle.expression_grammar.specs.Grammar.{told_at}
 use Rattle.kernel_grammar.specs.declared.part.Part.{Part}
 use Rattle.kernel_grammar.specs.declared.part.Part.TheVariants as part
 use Rattle.kernel_grammar.specs.declared.reader.Text.{Text}
@@ -18,6 +19,7 @@ abbrev pub piece_of : Part → Piece
 piece_of (part.Sign m at) = mark_at m at
 piece_of (part.Expression at nodes) = nodes_from at nodes.items
 
+-- the pieces that parts stand for
 abbrev pub pieces_of : List Part → List Piece
 pieces_of parts = map piece_of parts
 
@@ -31,11 +33,13 @@ pub record HasSpace (s : Spot) : Type 0 where
 abbrev pub behind : List Piece → Spot → Spot
 behind ps s = record s { pieces = ps ++ s.pieces }
 
+-- a turn with these pieces in front
 abbrev pub turned : List Piece → Turn → Turn
 turned ps (on s) = on (behind ps s)
 turned ps stop = stop
 turned ps too_deep = too_deep
 
+-- an end with these pieces in front
 abbrev pub ended : List Piece → End → End
 ended ps (goes_on s) = goes_on (behind ps s)
 ended ps (stopped_at s) = stopped_at (behind ps s)

@@ -7,5 +7,3 @@ mod laws;
 pub mod part;
 pub mod reader;
 mod table;
-#[cfg(test)]
-mod tests;

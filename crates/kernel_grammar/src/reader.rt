@@ -182,7 +182,8 @@ impl KernelReader {
     /// One token.
     ///
     /// # Errors
-    /// `Unfit` where no text goes on so, `Depth` where only one beyond the limits does. `NoMemory` is free.
+    /// `Unfit` where no text goes on so, `Depth` where only one beyond the limits does. `NoMemory` may come wherever
+    /// memory is taken.
     pub fn feed(&mut self, alloc: Global, token: Token) -> Result<(), Stop>
         requires space { HasSpace self.old }
         requires room { HasRoom self.old.inner }
@@ -244,7 +245,7 @@ fn run(alloc: Global, tokens: &[Token]) -> Result<Text, Stop>
 /// # Errors
 /// The first fault: `Unfit` at the first token with which no text begins so, of any limits; `Unended` where every token
 /// fits and the tokens end too early; `Depth` at the first token that only a text beyond the limits has.
-/// `NoMemory` is free.
+/// `NoMemory` may come wherever memory is taken.
 pub fn read(alloc: Global, tokens: &[Token]) -> Result<Text, Stop>
     ensures text { IfOk result (λ t. IsRead MOST_BRACKETS MOST_OPERATORS tokens.now (pieces_of t.parts.items)) }
     ensures stop { IfErr result (IsStop MOST_BRACKETS MOST_OPERATORS tokens.now) }

@@ -23,11 +23,12 @@ close [] = None
 close (a ∷ []) = None
 close (a ∷ b ∷ bs) = if turns true a b then Some 2 else option_map suc (close (b ∷ bs))
 
--- a text that begins with `/*`
+-- what stands in front where a comment ends after so many bytes of its text, or does not end
 abbrev pub comment_stands_as : Option ℕ → Stand
 comment_stands_as (Some n) = Gap (2 + n)
 comment_stands_as None = Wrong UnendedComment 0
 
+-- a text that begins with `/*`
 abbrev pub comment_stands : Text → Stand
 comment_stands text = comment_stands_as (close (drop 2 text))
 

@@ -23,14 +23,16 @@ IsGap text at to = (lengths : List ℕ) × AreGaps text at lengths to
 abbrev pub IsToken : Text → Token → Type 0
 IsToken text token = (n : ℕ) × (stands_at text token.start ≡ Lexeme token.kind n) × (token.end ≡ token.start + n)
 
--- the token that begins at a place; an empty name where none does
+-- the token that begins at a place where this stands; an empty name where it is none
 abbrev pub token_of : ℕ → Stand → Token
 token_of at (Lexeme kind n) = record { kind = kind; start = at; end = at + n }
 token_of at _ = record { kind = Name; start = at; end = at }
 
+-- the token that begins at a place of a text
 abbrev pub token_at : Text → ℕ → Token
 token_at text at = token_of at (stands_at text at)
 
+-- the tokens that begin at these places
 abbrev pub tokens_at : Text → List ℕ → List Token
 tokens_at text starts = map (token_at text) starts
 

@@ -88,7 +88,8 @@ fn push_start(starts: &mut Vec<u32>, start: usize) -> Result<(), AllocError>
 /// The places where the tokens of a text begin, in order, or its first fault.
 ///
 /// # Errors
-/// The first fault of the tokens. `NoMemory` is free; so it is where a token begins behind 2^32 bytes.
+/// The first fault of the tokens. `NoMemory` may come wherever memory is taken, and where a token begins behind 2^32
+/// bytes.
 pub fn starts(alloc: Global, text: &[u8]) -> Result<Vec<u32>, Stop>
     ensures tokens { IfOk result (λ starts. HasTokens text.now (tokens_at text.now starts.items)) }
     ensures refused { IfErr result (RefusesTokens text.now) }

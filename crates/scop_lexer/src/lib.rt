@@ -11,8 +11,6 @@ mod places;
 mod signs;
 mod stand;
 mod stands;
-#[cfg(test)]
-mod tests;
 mod token;
 mod words;
 

@@ -10,7 +10,7 @@ use Rattle.expression_grammar.specs.declared.token.Token.{Token}
 use Rattle.kernel_grammar.specs.declared.reader.Text.{Text as Parts}
 use Rattle.kernel_grammar.specs.declared.table.Want.{Want}
 use Rattle.kernel_grammar.specs.declared.table.Want.TheVariants as want
-use Rattle.kernel_grammar.specs.Answers.{IsAnswer}
+use Rattle.kernel_grammar.specs.Claims.{IsAnswer}
 use Rattle.kernel_grammar.specs.Kernel.{Kernel, Piece, Spells, kernel_elements, pieces}
 use Rattle.kernel_grammar.specs.Machine.{Spot, first_spot, Answer, turn, run, goes_on, whole, answer, read}
 use Rattle.kernel_grammar.specs.Turns.{behind, Feeds, Gives, IsStop}

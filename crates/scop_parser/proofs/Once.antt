@@ -10,13 +10,16 @@ use Rattle.scop_lexer.specs.Tokens.{HasTokens, HasFault}
 use Rattle.kernel_grammar.specs.Kernel.{Piece, pieces, Kernel, kernel_elements, Spells}
 use Rattle.scop_lexer.proofs.Splits.{one-list, no-fault, one-holds}
 use Rattle.expression_grammar.specs.declared.token.Token.{Token as Kind}
-use Rattle.expression_grammar.specs.Machine.{told_at}
+use Rattle.expression_grammar.specs.Grammar.{told_at}
+use Rattle.expression_grammar.specs.declared.reader.Stop.{Stop}
+use Rattle.expression_grammar.specs.declared.reader.Stop.TheVariants as stop
 use Rattle.kernel_grammar.specs.Kernel.{IsFront}
+use Rattle.kernel_grammar.specs.Turns.{IsStop}
 use Rattle.kernel_grammar.specs.declared.table.Want.{Want}
 use Rattle.kernel_grammar.specs.declared.table.Want.TheVariants as want
 use Rattle.kernel_grammar.specs.Machine.{Spot, first_spot, End, goes_on, stopped_at, deep_at, run as run_machine}
 use Rattle.kernel_grammar.specs.Machine.{whole as whole_answer, answer as machine_answer}
-use Rattle.kernel_grammar.specs.Answers.{IsAnswer}
+use Rattle.kernel_grammar.specs.Claims.{IsAnswer}
 use Rattle.kernel_grammar.proofs.Reading.{one_reading, read_answers}
 use Rattle.kernel_grammar.proofs.Wider.{stop-misplaced}
 use Rattle.scop_syntax.specs.Tree.{Program}
@@ -69,6 +72,15 @@ no-front d n ts front t rest k e never x =
     let split : ts ≡ (front ++ t ∷ []) ++ rest = e ∙ sym (append_assoc front (t ∷ []) rest) in
     never (rest, k, subst (λ (us : List Kind). Spells d n us k) split x)
 
+-- only want of memory stops the grammar in the tokens of a kernel
+pub no-stop : (ts : List Kind) (k : Kernel) (e : Stop) → IsStop 64 256 ts e → Spells 64 256 ts k → e ≡ stop.NoMemory
+no-stop ts k (stop.Unfit at) x spells =
+    let f = x 64 256 (omega arith) (omega arith) in
+    absurd (no-front 64 256 ts f.front f.token f.rest k f.split f.unfit spells)
+no-stop ts k (stop.Unended at) x spells = absurd (x.incomplete k spells)
+no-stop ts k (stop.Depth at) x spells = absurd (no-front 64 256 ts x.front x.token x.rest k x.split x.deep spells)
+no-stop ts k stop.NoMemory x spells = refl
+
 -- no kernel is spelled where the grammar has a fault
 pub no-kernel : (text : Text) (c : RefusalKind) (at : ℕ) (ts : List Token) (k : Kernel) → HasGrammarFault text c at
     → IsText text ts k → ⊥
@@ -82,11 +94,9 @@ no-kernel text c at ts k x y = by_fault x.fault
         y.spells
 
     by_fault : IsGrammarFault us c x.number → ⊥
-    by_fault (inl (e, f)) =
-        let g = f 64 256 (omega arith) (omega arith) in
-        no-front 64 256 us g.front g.token g.rest k g.split g.unfit spells
-    by_fault (inr (inl (e, f))) = f.incomplete k spells
-    by_fault (inr (inr (e, f))) = no-front 64 256 us f.front f.token f.rest k f.split f.deep spells
+    by_fault (inl (e, f)) = let same = no-stop us k (stop.Unfit x.number) f spells in absurd (cc)
+    by_fault (inr (inl (e, f))) = let same = no-stop us k (stop.Unended x.number) f spells in absurd (cc)
+    by_fault (inr (inr (e, f))) = let same = no-stop us k (stop.Depth x.number) f spells in absurd (cc)
 
 -- a text with a fault spells no program
 pub no-program : (text : Text) (c : RefusalKind) (at : ℕ) (p : Program) → IsFirstFault text c at

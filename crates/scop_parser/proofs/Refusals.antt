@@ -8,7 +8,7 @@ use Rattle.scop_lexer.specs.declared.token.Fault.{Fault as TokenFault}
 use Rattle.scop_lexer.specs.declared.token.Token.{Token as Lexeme}
 use Rattle.scop_lexer.proofs.Splits.{one-list, no-fault, one-fault}
 use Rattle.expression_grammar.specs.declared.token.Token.{Token}
-use Rattle.expression_grammar.specs.Machine.{told_at}
+use Rattle.expression_grammar.specs.Grammar.{told_at}
 use Rattle.kernel_grammar.specs.Kernel.{IsFront}
 use Rattle.kernel_grammar.specs.Answers.{IsUnfit, IsMisplaced, IsUnended, IsTooDeep}
 use Rattle.scop_roles.specs.declared.fault.Fault.{Fault}

@@ -35,12 +35,14 @@ pub record SpellsProgram (text : Text) (program : Program) : Type 0 where
   pub faultless : faults_of (words_of text tokens) kernel ≡ []
   pub stands : program ≡ program_of (words_of text tokens) kernel
 
+-- the kind of a refusal for a fault of the tokens
 abbrev pub token_kind : FaultKind → RefusalKind
 token_kind lexical.Character = kind.Character
 token_kind lexical.Directive = kind.Directive
 token_kind lexical.LiteralRange = kind.LiteralRange
 token_kind lexical.UnendedComment = kind.UnendedComment
 
+-- the kind of a refusal for a fault of a kernel of the grammar
 abbrev pub judged_kind : Kind → RefusalKind
 judged_kind judged.UnknownName = kind.UnknownName
 judged_kind judged.Redeclared = kind.Redeclared
@@ -72,6 +74,7 @@ abbrev pub IsGrammarFault : List GrammarToken → RefusalKind → ℕ → Type 0
 IsGrammarFault ts k at = ((k ≡ kind.Token) × IsMisplaced 64 256 ts at)
     ⊎ (((k ≡ kind.Unended) × IsUnended 64 256 ts at) ⊎ ((k ≡ kind.Depth) × IsTooDeep 64 256 ts at))
 
+-- the first fault of the grammar, at the byte where its token begins
 pub record HasGrammarFault (text : Text) (k : RefusalKind) (at : ℕ) : Type 0 where
   pub tokens : List Token
   pub has : HasTokens text tokens

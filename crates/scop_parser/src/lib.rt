@@ -6,5 +6,3 @@
 pub mod laws;
 pub mod reader;
 pub mod refusal;
-#[cfg(test)]
-mod tests;

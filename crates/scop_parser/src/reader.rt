@@ -2,6 +2,7 @@
 //! they spell. Of the tokens only their starts are kept, of the kernel's parts one at a time: the tokens are read again
 //! by the grammar, and once more with each part judged.
 ghost use Rattle.std.specs.Prelude.{◌≡◌, ◌≤◌, IfErr, IfOk, length};
+ghost use Rattle.expression_grammar.specs.declared.reader.Stop.TheVariants as grammar_stop;
 ghost use Rattle.kernel_grammar.specs.Kernel.{Kernel as GrammarKernel, Spells};
 ghost use Rattle.kernel_grammar.specs.Turns.{IsStop};
 ghost use Rattle.scop_lexer.specs.Tokens.{AreBetween, HasTokens, RefusesTokens, StopsWithin, token_at};
@@ -10,6 +11,7 @@ ghost use Rattle.scop_syntax.specs.View.{program_of};
 ghost use Rattle.scop_units.specs.Names.{HasDistinctNames};
 ghost use Rattle.scop_units.specs.View.{tokens_in, words_in};
 ghost use Rattle.scop_units.specs.Words.{grammar_token, grammar_tokens};
+ghost use Rattle.scop_pass.specs.declared.pass.Stop.TheVariants as pass_stop;
 ghost use Rattle.scop_pass.specs.Passing.{Judges};
 ghost use Rattle.scop_parser.specs.Reading.{IsGrammatical, RefusesText, TellsKernel};
 ghost use Rattle.scop_parser.specs.Spelling.{IsFirstFault, SpellsProgram, judged_kind, token_kind};
@@ -150,8 +152,18 @@ fn recognized(alloc: Global, words: &Words) -> Result<(), GrammarStop>
     Ok(())
 }
 
-// The tree of a kernel that the tokens spell, or its first fault: each part is judged and dropped as it comes. All
-// tokens fit, so that a stop of the grammar is want of memory.
+// The grammar has no fault in the tokens of a kernel: only want of memory stops it there.
+fn memory_stop(stop: GrammarStop) -> PassStop
+    requires { stop ≡ grammar_stop.NoMemory }
+    ensures { result ≡ pass_stop.NoMemory }
+{
+    match stop {
+        GrammarStop::NoMemory => PassStop::NoMemory,
+        GrammarStop::Unfit(_) | GrammarStop::Unended(_) | GrammarStop::Depth(_) => unreachable!(),
+    }
+}
+
+// The tree of a kernel that the tokens spell, or its first fault: each part is judged and dropped as it comes.
 fn judged(alloc: Global, words: &Words) -> Result<Kernel, PassStop>
     requires { IsGrammatical words.now }
     ensures { (k : GrammarKernel) → Spells 64 256 (grammar_tokens (tokens_in words.now)) k
@@ -161,10 +173,11 @@ fn judged(alloc: Global, words: &Words) -> Result<Kernel, PassStop>
     let mut pass = Pass::new(alloc);
     for start in words.starts {
         match reader.feed(alloc, seen(words, *start)) {
-            Err(_) => return Err(PassStop::NoMemory),
+            Err(stop) => return Err(memory_stop(stop)),
             Ok(()) => {}
         }
-        match pass.take(alloc, words, &reader.take_parts(alloc)) {
+        let parts = reader.take_parts(alloc);
+        match pass.take(alloc, words, &parts) {
             Err(stop) => return Err(stop),
             Ok(()) => {}
         }
@@ -196,7 +209,7 @@ fn spelled(alloc: Global, words: &Words) -> Result<Kernel, ReadKernelError>
 /// The kernel that a text spells.
 ///
 /// # Errors
-/// The first fault of the text, with its line and column. `NoMemory` is free.
+/// The first fault of the text, with its line and column. `NoMemory` may come wherever memory is taken.
 pub fn read_kernel(alloc: Global, text: &[u8]) -> Result<Kernel, ReadKernelError>
     ensures spells { IfOk result (λ kernel. SpellsProgram text.now (program_of kernel)) }
     ensures kernel { IfOk result (λ kernel. IsKernel (program_of kernel)) }

@@ -12,9 +12,10 @@ use Rattle.scop_units.specs.Loops.{LoopHead, loop_of, loop_faults}
 use Rattle.scop_units.specs.Loops as loops
 use Rattle.scop_units.specs.Judging.{width, formula_in, second_at, step_at, changed, change, loop_head, loop_in}
 use Rattle.scop_units.specs.Judging.{condition}
-use Rattle.scop_pass.specs.Machine.{Frame, guarded, looped, Begun, Pending, idle, condition as condition_wanted}
-use Rattle.scop_pass.specs.Machine.{loop_second, placed, valued, State, completed, complete, expects, guard_opened}
-use Rattle.scop_pass.specs.Machine.{loop_opened, step, run, formula_of_nodes, look_inside, without_loop}
+use Rattle.scop_pass.specs.declared.pending.Begun.{Begun}
+use Rattle.scop_pass.specs.declared.pending.StepRead.TheVariants as read
+use Rattle.scop_pass.specs.Machine.{idle, loop_step, placed, State, expects, guard_opened, loop_opened, step, run}
+use Rattle.scop_pass.specs.Machine.{formula_of_nodes, look_inside}
 use Rattle.scop_pass.specs.Machine as machine
 use Rattle.scop_pass.proofs.Formulas.{formula-of-written}
 use Rattle.scop_pass.proofs.Pieces.{pieces-append, width-append}
@@ -81,7 +82,7 @@ with_step words s h f g at st =
     }
 
 pub step-run : (words : Words) (s : State) (h : Begun) (f g : Formula) (at : ℕ) (st : Step)
-    → run words (expects s (loop_second h f g)) (pieces at (step_elements st))
+    → run words (expects s (loop_step h f g read.Nothing)) (pieces at (step_elements st))
     ≡ loop_opened s (with_step words s h f g at st)
 step-run words s h f g at (counted c) = refl
 step-run words s h f g at (counts c) = refl
@@ -104,9 +105,9 @@ loop-run words s h a c st =
     let g = formula (look_inside words s h) (second_at h.name_at a) c in
     let ps = pieces (step_at h.name_at a c) (step_elements st) in
     let k = formula_of_nodes (look_inside words s h) (second_at h.name_at a) (written 0 c) in
-    ap (λ (x : Formula). run words (expects s (loop_second h x k)) ps)
+    ap (λ (x : Formula). run words (expects s (loop_step h x k read.Nothing)) ps)
     (formula-of-written (look words s.scope) (h.name_at + 1 + 1) a)
-    ∙ (ap (λ (x : Formula). run words (expects s (loop_second h f x)) ps)
+    ∙ (ap (λ (x : Formula). run words (expects s (loop_step h f x read.Nothing)) ps)
     (formula-of-written (look_inside words s h) (second_at h.name_at a) c)
     ∙ step-run words s h f g (step_at h.name_at a c) st)
 

@@ -20,7 +20,7 @@ use Rattle.scop_units.specs.Judging.{width, formula_in, loop_in, condition, head
 use Rattle.scop_units.specs.Judging.{statements_in, statements_in_all, item_faults, items_faults}
 use Rattle.scop_units.specs.Programs.{headed_by, wrapped, item_trees, all_trees}
 use Rattle.scop_pass.specs.Machine.{Frame, guarded, looped, Pending, idle, placed, valued, State, completed, complete}
-use Rattle.scop_pass.specs.Machine.{closed, expects, run, without_loop, whole_statement, stated, valued_step}
+use Rattle.scop_pass.specs.Machine.{expects, run, without_loop, whole_statement, stated}
 use Rattle.scop_pass.specs.Machine as machine
 use Rattle.scop_pass.proofs.Formulas.{formula-of-written}
 use Rattle.scop_pass.proofs.Driving.{run-elements, place-width, place-run, head-run, opened}
@@ -39,17 +39,6 @@ pub adding-more : (s : State) (fs gs : List Fault) (n m : ℕ) (ts us : List Tre
 adding-more s fs gs n m ts us =
     let count : s.before + n + m ≡ s.before + (n + m) = omega arith in
     rw (append_assoc s.faults fs gs, append_assoc s.trees ts us, count) refl
-
--- what is open and what is wanted do not matter to the heads that are completed
-pub completed-same : (fs gs : List Frame) (p : Pending) (s : State)
-    → completed fs (record s { frames = gs; pending = p }) ≡ completed fs s
-completed-same [] gs p s = refl
-completed-same (machine.block ∷ fs) gs p s = refl
-completed-same (guarded xs outer ∷ fs) gs p s =
-    completed-same fs gs p
-    (record s { comparisons = s.comparisons - length xs; trees = outer ++ wrapped (scop.guard xs) s.trees })
-completed-same (looped h outer ∷ fs) gs p s =
-    completed-same fs gs p (record s { scope = without_loop s.scope; trees = outer ++ wrapped (scop.loop h) s.trees })
 
 -- what an item adds
 abbrev pub with_item : Words → State → ℕ → Item → State
@@ -77,13 +66,11 @@ pub less-counted : (n m : ℕ) → n + m - m ≡ n
 less-counted n m = omega arith
 
 -- a head that its item completes
-abbrev pub guard_left : State → List Frame → ℕ → ℕ → List Fault → List Tree → State
-guard_left s frames b c fs ts =
-    record s { faults = fs; before = b; comparisons = c; trees = ts; frames = frames; pending = idle }
+abbrev pub guard_left : State → ℕ → ℕ → List Fault → List Tree → State
+guard_left s b c fs ts = record s { faults = fs; before = b; comparisons = c; trees = ts }
 
-abbrev pub loop_left : State → List Frame → ℕ → Scope → List Fault → List Tree → State
-loop_left s frames b z fs ts =
-    record s { faults = fs; before = b; scope = z; trees = ts; frames = frames; pending = idle }
+abbrev pub loop_left : State → ℕ → Scope → List Fault → List Tree → State
+loop_left s b z fs ts = record s { faults = fs; before = b; scope = z; trees = ts }
 
 pub head-completed : (words : Words) (s : State) (at : ℕ) (h : Head) (fs : List Fault) (n : ℕ) (ts : List Tree)
     → complete (adding (opened words s at h) fs n ts)
@@ -93,24 +80,18 @@ head-completed words s at (branch c) fs n ts =
     let xs = tests (entries s.scope) f in
     let hs = head_faults words s.scope at (branch c) in
     let us = s.trees ++ wrapped (scop.guard xs) ts in
-    let open_frames = guarded xs s.trees ∷ s.frames in
-    ap (λ (k : ℕ). completed s.frames (guard_left s open_frames (s.before + n) k (s.faults ++ hs ++ fs) us))
+    ap (λ (k : ℕ). completed s.frames (guard_left s (s.before + n) k (s.faults ++ hs ++ fs) us))
     (less-counted s.comparisons (length xs))
-    ∙ (ap (λ (gs : List Fault). completed s.frames (guard_left s open_frames (s.before + n) s.comparisons gs us))
+    ∙ ap (λ (gs : List Fault). completed s.frames (guard_left s (s.before + n) s.comparisons gs us))
     (append_assoc s.faults hs fs)
-    ∙ completed-same s.frames open_frames idle
-    (adding s (hs ++ fs) n (wrapped (headed_by words s.scope at (branch c)) ts)))
 head-completed words s at (loop new a c st) fs n ts =
     let h = loop_in words s.scope at new a c st in
     let hs = head_faults words s.scope at (loop new a c st) in
     let us = s.trees ++ wrapped (scop.loop (loop_of s.scope h)) ts in
-    let open_frames = looped (loop_of s.scope h) s.trees ∷ s.frames in
-    ap (λ (z : Scope). completed s.frames (loop_left s open_frames (s.before + n) z ((s.faults ++ hs) ++ fs) us))
+    ap (λ (z : Scope). completed s.frames (loop_left s (s.before + n) z ((s.faults ++ hs) ++ fs) us))
     (without-with s.scope h.iterator)
-    ∙ (ap (λ (gs : List Fault). completed s.frames (loop_left s open_frames (s.before + n) s.scope gs us))
+    ∙ ap (λ (gs : List Fault). completed s.frames (loop_left s (s.before + n) s.scope gs us))
     (append_assoc s.faults hs fs)
-    ∙ completed-same s.frames open_frames idle
-    (adding s (hs ++ fs) n (wrapped (headed_by words s.scope at (loop new a c st)) ts)))
 
 -- a head is read whole
 pub opened-idle : (words : Words) (s : State) (at : ℕ) (h : Head)
@@ -138,23 +119,19 @@ mutual
   item-run d n words s at (block is) fit =
       let t = under s s.frames in
       run-elements words t (at + 1) (all_elements is) (ends ∷ [])
-      ∙ (ap (λ (x : State). run words x (pieces (at + 1 + width (all_elements is)) (ends ∷ [])))
+      ∙ ap (λ (x : State). run words x (pieces (at + 1 + width (all_elements is)) (ends ∷ [])))
       (items-run d n words s s.frames (at + 1) is fit)
-      ∙ completed-same s.frames (machine.block ∷ s.frames) idle (with_items words s (at + 1) is))
-  item-run d n words s at empty fit =
-      completed-same s.frames s.frames idle s ∙ ap (λ (x : State). complete x) (adding-nothing s)
+  item-run d n words s at empty fit = ap (λ (x : State). complete x) (adding-nothing s)
   item-run d n words s at (assign a p x) fit =
       let f = formula_in words s.scope at p in
       let es = assign_sign a ∷ expression x semicolon ∷ [] in
-      let v = valued f a (at + size p) in
       let brackets = fit.1.expression.brackets in
       run-elements words (expects s idle) at (place_elements p) es
       ∙ (ap (λ (t : State). run words t (pieces (at + width (place_elements p)) es))
       (place-run words s at p fit.0 brackets)
       ∙ (ap (λ (k : ℕ). run words (expects s (placed f)) (pieces (at + k) es)) (place-width p fit.0 brackets)
-      ∙ (ap (λ (h : Formula). complete (stated (expects s v) (whole_statement f a (at + size p) h)))
-      (formula-of-written (look words s.scope) (at + size p + 1) x)
-      ∙ completed-same s.frames s.frames v (with_item words s at (assign a p x)))))
+      ∙ ap (λ (h : Formula). complete (stated s (whole_statement f a (at + size p) h)))
+      (formula-of-written (look words s.scope) (at + size p + 1) x)))
   item-run d n words s at (headed h i) fit =
       let o = opened words s at h in
       let place = at + width (head_elements h) in

@@ -14,7 +14,8 @@ use Rattle.scop_roles.specs.declared.fault.Kind.TheVariants as kind
 use Rattle.scop_roles.specs.declared.formula.Meaning.{Meaning}
 use Rattle.scop_roles.specs.declared.formula.Role.{Role}
 use Rattle.scop_roles.specs.declared.formula.Role.TheVariants as role
-use Rattle.scop_roles.specs.Faults.{faults, place_faults, told, judged, named, own, first, first_of, only_where}
+use Rattle.scop_roles.specs.Faults.{faults, place_faults, told, judged, named, own, own_rank, first, first_of}
+use Rattle.scop_roles.specs.Faults.{only_where}
 use Rattle.scop_roles.specs.Formula.{Formula, Lookup, name, index, formula, place}
 use Rattle.scop_roles.specs.Scope.{LiesWithin}
 use Rattle.scop_roles.specs.Values.{read_places}
@@ -23,7 +24,7 @@ use Rattle.scop_units.specs.Scopes.{Scope, entries, redeclared, iterator_fault}
 use Rattle.scop_units.specs.Loops.{LoopHead, Change, counted, assigned, change_faults, part_faults, loop_faults}
 use Rattle.scop_units.specs.Loops.{is_form}
 use Rattle.scop_units.specs.Units.{Stored, name_faults, number_faults, array_faults, extent_faults, statement_faults}
-use Rattle.scop_units.specs.Units.{stored_faults, own_cell, own_assign, own_read, reads_of, read_limit}
+use Rattle.scop_units.specs.Units.{stored_faults, cell_faults, own_cell, own_assign, own_read, reads_of, read_limit}
 use Rattle.scop_pass.specs.Machine.{formula_of_nodes}
 use Rattle.scop_pass.proofs.Formulas.{formula-of-written}
 
@@ -255,14 +256,14 @@ in-loop b e s h l =
     let z = l.below in
     let named = told h.name_at (iterator_fault h.new s h.iterator) in
     let a = faults n role.Affine h.first in
-    let c = faults (n + 1) role.Free h.second in
+    let c = faults (n + 1) role.Loose h.second in
     let d = faults (n + 1) role.Free h.changed in
     let g = change_faults (n + 1) h.change in
     let parts : In b e (part_faults s h) =
     in-append b e named (a ++ (c ++ (d ++ g)))
     (in-told b e h.name_at (iterator_fault h.new s h.iterator) (omega (arith, x, y)) z)
     (in-append b e a (c ++ (d ++ g)) (l.first_lies.told_faults n role.Affine)
-    (in-append b e c (d ++ g) (l.second_lies.told_faults (n + 1) role.Free)
+    (in-append b e c (d ++ g) (l.second_lies.told_faults (n + 1) role.Loose)
     (in-append b e d g (l.changed_lies.told_faults (n + 1) role.Free) (in-change (n + 1) b e h.change l.change_lies))))
     in
     let form = only_where (not (is_form n h)) kind.LoopForm in
@@ -280,15 +281,16 @@ pub in-statement : (n comparisons before b e : ℕ) (x : Stored) → Lies b e x.
     → x.assign_at < e → In b e (statement_faults n comparisons before x)
 in-statement n comparisons before b e x h k low high =
     let p = place x.cell in
-    let cell = told p (own_cell x.cell) in
-    let parts : In b e (judged (place_faults n x.cell) cell) =
-    in-judged b e (place_faults n x.cell) cell (h.told_places n) (in-told b e p (own_cell x.cell) h.from h.below) in
-    let both = judged (place_faults n x.cell) cell ++ faults n role.Value x.value in
+    let rank = told p (own_rank x.cell) in
+    let cell : In b e (cell_faults n x.cell) =
+    in-append b e (told p (own_cell x.cell)) (judged (place_faults n x.cell) rank)
+    (in-told b e p (own_cell x.cell) h.from h.below)
+    (in-judged b e (place_faults n x.cell) rank (h.told_places n) (in-told b e p (own_rank x.cell) h.from h.below)) in
+    let both = cell_faults n x.cell ++ faults n role.Value x.value in
     let last = told x.assign_at (own_assign x.assign x.value) in
     let one : In b e (stored_faults n x) =
     in-judged b e both last
-    (in-append b e (judged (place_faults n x.cell) cell) (faults n role.Value x.value) parts
-    (k.told_faults n role.Value))
+    (in-append b e (cell_faults n x.cell) (faults n role.Value x.value) cell (k.told_faults n role.Value))
     (in-told b e x.assign_at (own_assign x.assign x.value) low high) in
     let limit = read_limit (slice_get (reads_of x) 16) in
     let deep = only_where (nat_lt 16 comparisons) kind.Depth in

@@ -1,11 +1,12 @@
 -- The pass over a kernel's pieces, which needs no tree: what is in scope, the faults so far, the open blocks and heads,
 -- and the trees of the innermost one. An item that is complete completes the heads that it stands under.
-use Rattle.std.specs.Prelude.{ℕ, ◌+◌, ◌-◌, Bool, true, false, List, [], ◌∷◌, ◌++◌, length, map, take}
+use Rattle.std.specs.Prelude.{ℕ, ◌+◌, ◌-◌, true, false, List, [], ◌∷◌, ◌++◌, length, map, take, Option, Some, None}
 use Rattle.expression_grammar.specs.declared.token.Assign.{Assign}
 use Rattle.expression_grammar.specs.declared.token.Count.{Count}
 use Rattle.expression_grammar.specs.declared.node.Node.{Node}
 use Rattle.expression_grammar.specs.declared.node.Node.TheVariants as node
 use Rattle.kernel_grammar.specs.Kernel.{Piece, mark_at, nodes_from}
+use Rattle.kernel_grammar.specs.declared.part.Mark.{Mark}
 use Rattle.kernel_grammar.specs.declared.part.Mark.TheVariants as kept
 use Rattle.scop_lexer.specs.Bytes.{Text}
 use Rattle.scop_syntax.specs.Tree.{Declaration, Test, Head, Tree, Trees, Program}
@@ -20,10 +21,14 @@ use Rattle.scop_roles.specs.Values.{tests}
 use Rattle.scop_units.specs.Words.{Words}
 use Rattle.scop_units.specs.Scopes.{Scope, no_scope, with_parameter, with_array, with_iterator, with_loop, entries}
 use Rattle.scop_units.specs.Scopes.{look}
+use Rattle.scop_units.specs.View.{scope_within}
 use Rattle.scop_units.specs.Loops.{LoopHead, Change, counted, assigned, loop_faults, loop_of}
 use Rattle.scop_units.specs.Units.{Stored, kernel_name_faults, name_faults, number_faults, array_faults, array_of}
 use Rattle.scop_units.specs.Units.{declared_over, statement_faults, statement_of}
 use Rattle.scop_units.specs.Programs.{wrapped}
+use Rattle.scop_pass.specs.declared.pending.Begun.{Begun}
+use Rattle.scop_pass.specs.declared.pending.StepRead.{StepRead}
+use Rattle.scop_pass.specs.declared.pending.StepRead.TheVariants as read
 
 -- formulas out of nodes in postfix order
 
@@ -32,24 +37,28 @@ abbrev pub called : Formula → List Formula → List Formula
 called f (name m at ∷ stack) = call m f at ∷ stack
 called f stack = f ∷ stack
 
+-- the name of a call without arguments is the node on top
 abbrev pub bare_called : List Formula → List Formula
 bare_called (name m at ∷ stack) = bare_call m at ∷ stack
 bare_called stack = stack
 
--- a node over the one that is complete, and over two
+-- a node over the one that is complete: a sign, a cast or a call
 abbrev pub over_one : Lookup → ℕ → Node → Formula → List Formula → List Formula
 over_one see b (node.Unary s at) f stack = unary s f (b + at) ∷ stack
 over_one see b (node.Cast at) f stack = cast f (b + at) ∷ stack
 over_one see b _ f stack = called f stack
 
+-- a node over the two that are complete: a binary operator or a subscript
 abbrev pub over_two : Lookup → ℕ → Node → Formula → Formula → List Formula → List Formula
 over_two see b (node.Binary o at) g f stack = binary o f g (b + at) ∷ stack
 over_two see b _ g f stack = index f g ∷ stack
 
+-- a node over the formula on top
 abbrev pub on_one : Lookup → ℕ → Node → List Formula → List Formula
 on_one see b x [] = []
 on_one see b x (f ∷ stack) = over_one see b x f stack
 
+-- a node over the two formulas on top
 abbrev pub on_two : Lookup → ℕ → Node → List Formula → List Formula
 on_two see b x (g ∷ f ∷ stack) = over_two see b x g f stack
 on_two see b x stack = stack
@@ -65,10 +74,12 @@ put see b stack (node.Cast at) = on_one see b (node.Cast at) stack
 put see b stack (node.Index at) = on_two see b (node.Index at) stack
 put see b stack (node.Binary o at) = on_two see b (node.Binary o at) stack
 
+-- nodes put on the stack, one after another
 abbrev pub stacked : Lookup → ℕ → List Formula → List Node → List Formula
 stacked see b stack [] = stack
 stacked see b stack (x ∷ xs) = stacked see b (put see b stack x) xs
 
+-- the formula on top; of an empty stack nothing is asked
 abbrev pub top : List Formula → Formula
 top [] = name meaning.Unknown 0
 top (f ∷ stack) = f
@@ -85,12 +96,6 @@ pub data Frame : Type 0 where
   guarded : List Test → List Tree → Frame
   looped : Head → List Tree → Frame
 
--- a loop's head up to its name
-pub record Begun : Type 0 where
-  pub place : ℕ
-  pub new : Bool
-  pub name_at : ℕ
-
 -- what of a declaration, a head or a statement was read
 pub data Pending : Type 0 where
   idle : Pending
@@ -99,14 +104,12 @@ pub data Pending : Type 0 where
   loop_begun : ℕ → Pending
   loop_named : Begun → Pending
   loop_first : Begun → Formula → Pending
-  loop_second : Begun → Formula → Formula → Pending
-  step_counted : Begun → Formula → Formula → Count → Pending
-  step_named : Begun → Formula → Formula → ℕ → Pending
-  step_assigned : Begun → Formula → Formula → ℕ → Assign → Pending
+  loop_step : Begun → Formula → Formula → StepRead → Pending
   placed : Formula → Pending
   valued : Formula → Assign → ℕ → Pending
 
--- before: the statements so far; comparisons: those of the open heads; trees: those of the innermost open head
+-- the state of the pass; before: the statements so far; comparisons: those of the open heads; trees: those of the
+-- innermost open head
 pub record State : Type 0 where
   pub name : Text
   pub scope : Scope
@@ -118,6 +121,7 @@ pub record State : Type 0 where
   pub trees : List Tree
   pub pending : Pending
 
+-- the state of these parts
 abbrev pub state : Text → Scope → List Declaration → List Fault → ℕ → ℕ → List Frame → List Tree → Pending → State
 state w s ds fs b c frames ts p =
     record {
@@ -132,6 +136,7 @@ state w s ds fs b c frames ts p =
       pending = p;
     }
 
+-- the state before the first piece
 abbrev pub first_state : State
 first_state = state [] no_scope [] [] 0 0 [] [] idle
 
@@ -139,18 +144,23 @@ first_state = state [] no_scope [] [] 0 0 [] [] idle
 abbrev pub without_loop : Scope → Scope
 without_loop s = record s { open_loops = take (length s.open_loops - 1) s.open_loops }
 
--- an item is complete, and with it each head on top
-abbrev pub completed : List Frame → State → State
-completed [] s = record s { frames = []; pending = idle }
-completed (block ∷ fs) s = record s { frames = block ∷ fs; pending = idle }
-completed (guarded ts outer ∷ fs) s =
-    completed fs (record s {
+-- heads that are completed from the innermost on, by a state without frames of its own
+abbrev pub unwound : List Frame → State → State
+unwound [] s = s
+unwound (block ∷ fs) s = record s { frames = block ∷ fs }
+unwound (guarded ts outer ∷ fs) s =
+    unwound fs (record s {
       comparisons = s.comparisons - length ts;
       trees = outer ++ wrapped (scop.guard ts) s.trees;
     })
-completed (looped h outer ∷ fs) s =
-    completed fs (record s { scope = without_loop s.scope; trees = outer ++ wrapped (scop.loop h) s.trees })
+unwound (looped h outer ∷ fs) s =
+    unwound fs (record s { scope = without_loop s.scope; trees = outer ++ wrapped (scop.loop h) s.trees })
 
+-- an item is complete, and with it each head on top
+abbrev pub completed : List Frame → State → State
+completed fs s = unwound fs (record s { frames = []; pending = idle })
+
+-- an item is complete under the frames of a state
 abbrev pub complete : State → State
 complete s = completed s.frames s
 
@@ -159,12 +169,11 @@ abbrev pub closed : List Frame → State → State
 closed (block ∷ fs) s = completed fs s
 closed _ s = s
 
-abbrev pub adds : State → List Fault → State
-adds s fs = record s { faults = s.faults ++ fs }
-
+-- with this of a declaration, a head or a statement read
 abbrev pub expects : State → Pending → State
 expects s p = record s { pending = p }
 
+-- a parameter that is a number, at its name
 abbrev pub numbered : Words → State → ℕ → State
 numbered words s at =
     record s {
@@ -172,6 +181,7 @@ numbered words s at =
       scope = with_parameter s.scope (words.spelling at);
     }
 
+-- an iterator that is declared at the start, at its name
 abbrev pub declared : Words → State → ℕ → State
 declared words s at =
     record s {
@@ -179,6 +189,7 @@ declared words s at =
       scope = with_iterator s.scope (words.spelling at);
     }
 
+-- the kernel's name
 abbrev pub named : Words → State → ℕ → State
 named words s at = record s { name = words.spelling at; faults = s.faults ++ kernel_name_faults words at }
 
@@ -192,56 +203,31 @@ ranked words s at fs =
       pending = idle;
     }
 
-abbrev pub idle_step : Words → State → Piece → State
-idle_step words s (mark_at kept.Kernel at) = named words s at
-idle_step words s (mark_at kept.Number at) = numbered words s at
-idle_step words s (mark_at kept.Array at) = expects s (extents at [])
-idle_step words s (mark_at kept.Declared at) = declared words s at
-idle_step words s (mark_at kept.Begin at) = record s { frames = block ∷ s.frames }
-idle_step words s (mark_at kept.End at) = closed s.frames s
-idle_step words s (mark_at kept.Empty at) = complete s
-idle_step words s (mark_at kept.If at) = expects s condition
-idle_step words s (mark_at kept.For at) = expects s (loop_begun at)
-idle_step words s (mark_at kept.Place at) = expects s (placed (name ((look words s.scope).meaning at) at))
-idle_step words s _ = s
+-- signs
 
--- an extent more, or what stands behind the array
-abbrev pub extents_step : Words → State → ℕ → List Formula → Piece → State
-extents_step words s at fs (nodes_from b ns) =
-    expects s (extents at (fs ++ formula_of_nodes (look words s.scope) b ns ∷ []))
-extents_step words s at fs (mark_at m p) = idle_step words (ranked words s at fs) (mark_at m p)
+-- a sign where nothing is in hand
+abbrev pub idle_step : Words → State → Mark → ℕ → State
+idle_step words s kept.Kernel at = named words s at
+idle_step words s kept.Number at = numbered words s at
+idle_step words s kept.Array at = expects s (extents at [])
+idle_step words s kept.Declared at = declared words s at
+idle_step words s kept.Begin at = record s { frames = block ∷ s.frames }
+idle_step words s kept.End at = closed s.frames s
+idle_step words s kept.Empty at = complete s
+idle_step words s kept.If at = expects s condition
+idle_step words s kept.For at = expects s (loop_begun at)
+idle_step words s kept.Place at = expects s (placed (name ((look words s.scope).meaning at) at))
+idle_step words s _ at = s
 
-abbrev pub guard_opened : State → Formula → State
-guard_opened s f =
-    record s {
-      faults = s.faults ++ faults (entries s.scope) role.Condition f;
-      comparisons = s.comparisons + length (tests (entries s.scope) f);
-      frames = guarded (tests (entries s.scope) f) s.trees ∷ s.frames;
-      trees = [];
-      pending = idle;
-    }
-
-abbrev pub condition_step : Words → State → Piece → State
-condition_step words s (nodes_from b ns) = guard_opened s (formula_of_nodes (look words s.scope) b ns)
-condition_step words s _ = s
-
-abbrev pub begun_step : State → ℕ → Piece → State
-begun_step s at (mark_at kept.Iterator n) = expects s (loop_named (record { place = at; new = false; name_at = n }))
-begun_step s at (mark_at kept.NewIterator n) = expects s (loop_named (record { place = at; new = true; name_at = n }))
-begun_step s at _ = s
+-- behind a `for` the name of its iterator
+abbrev pub begun_step : State → ℕ → Mark → ℕ → State
+begun_step s p kept.Iterator at = expects s (loop_named (record { place = p; new = false; name_at = at }))
+begun_step s p kept.NewIterator at = expects s (loop_named (record { place = p; new = true; name_at = at }))
+begun_step s p _ at = s
 
 -- what stands at a place within the loop whose head is read
 abbrev pub look_inside : Words → State → Begun → Lookup
 look_inside words s h = look words (with_loop s.scope (words.spelling h.name_at))
-
-abbrev pub first_step : Words → State → Begun → Piece → State
-first_step words s h (nodes_from b ns) = expects s (loop_first h (formula_of_nodes (look words s.scope) b ns))
-first_step words s h _ = s
-
-abbrev pub second_step : Words → State → Begun → Formula → Piece → State
-second_step words s h f (nodes_from b ns) =
-    expects s (loop_second h f (formula_of_nodes (look_inside words s h) b ns))
-second_step words s h f _ = s
 
 -- a head with its last part: v is the place of the name that it changes
 abbrev pub whole_head : Words → State → Begun → Formula → Formula → ℕ → Change → LoopHead
@@ -257,6 +243,7 @@ whole_head words s h f g v ch =
       change = ch;
     }
 
+-- a loop opens, with its head
 abbrev pub loop_opened : State → LoopHead → State
 loop_opened s h =
     record s {
@@ -267,32 +254,63 @@ loop_opened s h =
       pending = idle;
     }
 
-abbrev pub change_step : State → Begun → Formula → Formula → Piece → State
-change_step s h f g (mark_at kept.StepName v) = expects s (step_named h f g v)
-change_step s h f g (mark_at (kept.Count c) at) = expects s (step_counted h f g c)
-change_step s h f g _ = s
+-- the first sign of a loop's step
+abbrev pub first_sign : State → Begun → Formula → Formula → Mark → ℕ → State
+first_sign s h f g kept.StepName at = expects s (loop_step h f g (read.Name at))
+first_sign s h f g (kept.Count c) at = expects s (loop_step h f g (read.Count c))
+first_sign s h f g _ at = s
 
-abbrev pub counted_step : Words → State → Begun → Formula → Formula → Count → Piece → State
-counted_step words s h f g c (mark_at kept.StepName v) =
-    loop_opened s (whole_head words s h f g v (counted c))
-counted_step words s h f g c _ = s
+-- behind `++` or `--` of a step the name that it changes
+abbrev pub counted_sign : Words → State → Begun → Formula → Formula → Count → Mark → ℕ → State
+counted_sign words s h f g c kept.StepName at = loop_opened s (whole_head words s h f g at (counted c))
+counted_sign words s h f g c _ at = s
 
-abbrev pub named_step : Words → State → Begun → Formula → Formula → ℕ → Piece → State
-named_step words s h f g v (mark_at (kept.Count c) at) = loop_opened s (whole_head words s h f g v (counted c))
-named_step words s h f g v (mark_at (kept.Assign a) at) = expects s (step_assigned h f g v a)
-named_step words s h f g v _ = s
+-- behind the name that a step changes `++` or `--`, or the sign that assigns
+abbrev pub named_sign : Words → State → Begun → Formula → Formula → ℕ → Mark → ℕ → State
+named_sign words s h f g v (kept.Count c) at = loop_opened s (whole_head words s h f g v (counted c))
+named_sign words s h f g v (kept.Assign a) at = expects s (loop_step h f g (read.Assignment v a))
+named_sign words s h f g v _ at = s
 
-abbrev pub assigned_step : Words → State → Begun → Formula → Formula → ℕ → Assign → Piece → State
-assigned_step words s h f g v a (nodes_from b ns) =
-    loop_opened s (whole_head words s h f g v (assigned a (formula_of_nodes (look_inside words s h) b ns)))
-assigned_step words s h f g v a _ = s
+-- behind the condition the first sign of the step
+abbrev pub change_step : Words → State → Begun → Formula → Formula → StepRead → Mark → ℕ → State
+change_step words s h f g read.Nothing m at = first_sign s h f g m at
+change_step words s h f g (read.Count c) m at = counted_sign words s h f g c m at
+change_step words s h f g (read.Name v) m at = named_sign words s h f g v m at
+change_step words s h f g (read.Assignment v a) m at = s
 
-abbrev pub placed_step : Words → State → Formula → Piece → State
-placed_step words s p (nodes_from b ns) =
-    expects s (placed (index p (formula_of_nodes (look words s.scope) b ns)))
-placed_step words s p (mark_at (kept.Assign a) at) = expects s (valued p a at)
-placed_step words s p _ = s
+-- behind a place one subscript more, or the sign that assigns
+abbrev pub placed_step : State → Formula → Mark → ℕ → State
+placed_step s p (kept.Assign a) at = expects s (valued p a at)
+placed_step s p _ at = s
 
+-- a sign behind what is in hand
+abbrev pub sign_step : Pending → Words → State → Mark → ℕ → State
+sign_step idle words s m at = idle_step words s m at
+sign_step (extents p fs) words s m at = idle_step words (ranked words s p fs) m at
+sign_step (loop_begun p) words s m at = begun_step s p m at
+sign_step (loop_step h f g r) words s m at = change_step words s h f g r m at
+sign_step (placed f) words s m at = placed_step s f m at
+sign_step _ words s m at = s
+
+-- expressions
+
+-- an `if` opens, with its condition
+abbrev pub guard_opened : State → Formula → State
+guard_opened s f =
+    record s {
+      faults = s.faults ++ faults (entries s.scope) role.Condition f;
+      comparisons = s.comparisons + length (tests (entries s.scope) f);
+      frames = guarded (tests (entries s.scope) f) s.trees ∷ s.frames;
+      trees = [];
+      pending = idle;
+    }
+
+-- behind the sign that assigns the right side of the step, with which the head is whole
+abbrev pub change_whole : Words → State → Begun → Formula → Formula → StepRead → Formula → State
+change_whole words s h f g (read.Assignment v a) e = loop_opened s (whole_head words s h f g v (assigned a e))
+change_whole words s h f g _ e = s
+
+-- one statement more
 abbrev pub stated : State → Stored → State
 stated s x =
     record s {
@@ -301,28 +319,37 @@ stated s x =
       trees = s.trees ++ scop.statement (statement_of (entries s.scope) x) ∷ [];
     }
 
+-- the statement of these parts
 abbrev pub whole_statement : Formula → Assign → ℕ → Formula → Stored
 whole_statement p a at f = record { cell = p; assign = a; assign_at = at; value = f }
 
-abbrev pub valued_step : Words → State → Formula → Assign → ℕ → Piece → State
-valued_step words s p a at (nodes_from b ns) =
-    complete (stated s (whole_statement p a at (formula_of_nodes (look words s.scope) b ns)))
-valued_step words s p a at _ = s
+-- an expression's formula behind what is in hand
+abbrev pub formula_step : Pending → Words → State → Formula → State
+formula_step (extents p fs) words s f = expects s (extents p (fs ++ f ∷ []))
+formula_step condition words s f = guard_opened s f
+formula_step (loop_named h) words s f = expects s (loop_first h f)
+formula_step (loop_first h f) words s g = expects s (loop_step h f g read.Nothing)
+formula_step (loop_step h f g r) words s e = change_whole words s h f g r e
+formula_step (placed p) words s f = expects s (placed (index p f))
+formula_step (valued p a at) words s f = complete (stated s (whole_statement p a at f))
+formula_step _ words s f = s
 
+-- the name of the loop whose head is read
+abbrev pub inner_of : Pending → Option ℕ
+inner_of (loop_first h f) = Some h.name_at
+inner_of (loop_step h f g r) = Some h.name_at
+inner_of _ = None
+
+-- what an expression's names stand for
+abbrev pub look_in : Pending → Words → State → Lookup
+look_in q words s = look words (scope_within words s.scope (inner_of q))
+
+-- one piece, by what was read in front of it of a declaration, a head or a statement
 abbrev pub step_in : Pending → Words → State → Piece → State
-step_in idle words s p = idle_step words s p
-step_in (extents at fs) words s p = extents_step words s at fs p
-step_in condition words s p = condition_step words s p
-step_in (loop_begun at) words s p = begun_step s at p
-step_in (loop_named h) words s p = first_step words s h p
-step_in (loop_first h f) words s p = second_step words s h f p
-step_in (loop_second h f g) words s p = change_step s h f g p
-step_in (step_counted h f g c) words s p = counted_step words s h f g c p
-step_in (step_named h f g v) words s p = named_step words s h f g v p
-step_in (step_assigned h f g v a) words s p = assigned_step words s h f g v a p
-step_in (placed f) words s p = placed_step words s f p
-step_in (valued f a at) words s p = valued_step words s f a at p
+step_in q words s (mark_at m at) = sign_step q words s m at
+step_in q words s (nodes_from b ns) = formula_step q words s (formula_of_nodes (look_in q words s) b ns)
 
+-- one piece
 abbrev pub step : Words → State → Piece → State
 step words s p = step_in s.pending words s p
 
@@ -331,9 +358,11 @@ abbrev pub settled_in : Pending → Words → State → State
 settled_in (extents at fs) words s = ranked words s at fs
 settled_in _ words s = s
 
+-- an array in hand is whole in a state
 abbrev pub settled : Words → State → State
 settled words s = settled_in s.pending words s
 
+-- the pass over pieces
 abbrev pub run : Words → State → List Piece → State
 run words s [] = s
 run words s (p ∷ ps) = run words (step words s p) ps

@@ -9,20 +9,21 @@ use Rattle.scop_units.specs.Programs as programs
 use Rattle.scop_roles.specs.declared.fault.Fault.{Fault}
 use Rattle.scop_roles.specs.Faults.{first}
 use Rattle.scop_roles.specs.Formula.{formula_of}
-use Rattle.scop_pass.specs.declared.pass.Begun.{Begun as CodeBegun}
 use Rattle.scop_pass.specs.declared.frames.Frame.{Frame as CodeFrame}
 use Rattle.scop_pass.specs.declared.frames.Frame.TheVariants as frame
-use Rattle.scop_pass.specs.declared.pass.Pending.{Pending as CodePending}
-use Rattle.scop_pass.specs.declared.pass.Pending.TheVariants as pending
+use Rattle.scop_pass.specs.declared.pending.Hand.{Hand}
+use Rattle.scop_pass.specs.declared.pending.Hand.TheVariants as hand
+use Rattle.scop_pass.specs.declared.pending.Pending.{Pending as CodePending}
+use Rattle.scop_pass.specs.declared.pending.Pending.TheVariants as pending
 use Rattle.scop_pass.specs.declared.pass.Pass.{Pass}
 use Rattle.scop_pass.specs.declared.pass.Stop.{Stop}
 use Rattle.scop_pass.specs.declared.pass.Stop.TheVariants as stop
 use Rattle.scop_roles.specs.Resolving.{IsWritten}
 use Rattle.scop_units.specs.Words.{Words}
 use Rattle.scop_units.specs.View.{scope_of}
-use Rattle.scop_pass.specs.Machine.{Frame, block, guarded, looped, Begun, Pending, idle, extents, condition, loop_begun}
-use Rattle.scop_pass.specs.Machine.{loop_named, loop_first, loop_second, step_counted, step_named, step_assigned}
-use Rattle.scop_pass.specs.Machine.{placed, valued, State, state, expects, completed, settled, step, first_state, run}
+use Rattle.scop_pass.specs.Machine.{Frame, block, guarded, looped, Pending, idle, extents, condition, loop_begun}
+use Rattle.scop_pass.specs.Machine.{loop_named, loop_first, loop_step, placed, valued, State, state, expects, complete}
+use Rattle.scop_pass.specs.Machine.{settled, step, first_state, run}
 
 -- what the code holds as one frame, within these
 abbrev pub within : CodeFrame → List Frame → List Frame
@@ -30,6 +31,7 @@ within (frame.Blocks more) fs = block ∷ replicate more block ++ fs
 within (frame.Guarded tests outer) fs = guarded (map test_of tests.items) (map tree_of outer.items) ∷ fs
 within (frame.Looped head outer) fs = looped head (map tree_of outer.items) ∷ fs
 
+-- what the code holds as frames, the innermost first
 abbrev pub frames_from : List CodeFrame → List Frame
 frames_from [] = []
 frames_from (f ∷ fs) = within f (frames_from fs)
@@ -38,22 +40,21 @@ frames_from (f ∷ fs) = within f (frames_from fs)
 abbrev pub frames_of : List CodeFrame → List Frame
 frames_of fs = frames_from (reverse fs)
 
-abbrev pub begun_of : CodeBegun → Begun
-begun_of b = record { place = b.place; new = b.new; name_at = b.name_at }
+-- what of a head or a statement was read, as the code holds it
+abbrev pub hand_of : Hand → Pending
+hand_of hand.Idle = idle
+hand_of hand.Condition = condition
+hand_of (hand.LoopBegun at) = loop_begun at
+hand_of (hand.LoopNamed h) = loop_named h
+hand_of (hand.LoopFirst h f) = loop_first h (formula_of f)
+hand_of (hand.LoopStep s r) = loop_step s.begun (formula_of s.first) (formula_of s.second) r
+hand_of (hand.Placed f) = placed (formula_of f)
+hand_of (hand.Valued f a at) = valued (formula_of f) a at
 
+-- what of a declaration, a head or a statement was read, as the code holds it
 abbrev pub pending_of : CodePending → Pending
-pending_of pending.Idle = idle
 pending_of (pending.Extents at fs) = extents at (map formula_of fs.items)
-pending_of pending.Condition = condition
-pending_of (pending.LoopBegun at) = loop_begun at
-pending_of (pending.LoopNamed h) = loop_named (begun_of h)
-pending_of (pending.LoopFirst h f) = loop_first (begun_of h) (formula_of f)
-pending_of (pending.LoopSecond h f g) = loop_second (begun_of h) (formula_of f) (formula_of g)
-pending_of (pending.StepCounted h f g c) = step_counted (begun_of h) (formula_of f) (formula_of g) c
-pending_of (pending.StepNamed h f g v) = step_named (begun_of h) (formula_of f) (formula_of g) v
-pending_of (pending.StepAssigned h f g v a) = step_assigned (begun_of h) (formula_of f) (formula_of g) v a
-pending_of (pending.Placed f) = placed (formula_of f)
-pending_of (pending.Valued f a at) = valued (formula_of f) a at
+pending_of (pending.Hand h) = hand_of h
 
 -- the state that a pass stands for: it goes on as long as there is no fault
 abbrev pub state_of : Pass → State
@@ -76,6 +77,7 @@ abbrev pub Comes : {A : Type 0} → Result A Stop → State → State → Type 0
 Comes (Ok _) new next = next ≡ new
 Comes (Err s) new next = Tells s next.faults
 
+-- the piece is a sign
 abbrev pub IsMark : Piece → Type 0
 IsMark (mark_at m at) = ⊤
 IsMark (nodes_from at ns) = ⊥
@@ -97,8 +99,8 @@ Pops (Some f) old new = old ≡ within f new
 
 -- what completes the frames: the innermost was completed and the rest goes on, or nothing is left to complete
 abbrev pub Closes : {E : Type 0} → Result Bool E → State → State → Type 0
-Closes (Ok true) old new = completed new.frames new ≡ completed old.frames old
-Closes (Ok false) old new = completed old.frames old ≡ expects new idle
+Closes (Ok true) old new = complete new ≡ complete old
+Closes (Ok false) old new = complete old ≡ expects new idle
 Closes (Err e) old new = ⊤
 
 -- the pieces come next in a kernel within the limits whose places have room, behind those that led to the state

@@ -4,11 +4,12 @@ ghost use Rattle.std.specs.Prelude.{◌≡◌, ◌+◌, ◌∷◌, IfOk, IfSome,
 ghost use Rattle.scop_pass.specs.Machine as machine;
 ghost use Rattle.scop_pass.specs.Passing.{Pops, frames_of, within};
 
+use crate::lists::push;
 use scop_syntax::tree::{Item, Loop, Test};
 use std::alloc::AllocError;
 
 // What is open: a block and so many round it with nothing between, or a head with the trees in front of it.
-#[derive(Debug, Drop)]
+#[derive(Drop)]
 pub(crate) enum Frame {
     Blocks(usize),
     Guarded(Vec<Test>, Vec<Item>),
@@ -28,10 +29,7 @@ pub(crate) fn raised(count: usize, by: usize) -> Result<usize, AllocError>
 pub(crate) fn push_frame(frames: &mut Vec<Frame>, frame: Frame) -> Result<(), AllocError>
     ensures { OnOk result (frames_of frames.new.items ≡ within frame (frames_of frames.old.items)) }
 {
-    match frames.push(frame) {
-        Err(_) => Err(AllocError),
-        Ok(()) => Ok(()),
-    }
+    push(frames, frame)
 }
 
 pub(crate) fn pop_frame(frames: &mut Vec<Frame>) -> Option<Frame>

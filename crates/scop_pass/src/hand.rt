@@ -1,310 +1,315 @@
-//! The unit in hand, with one more sign or expression: extents, conditions, parts of a loop's head, places and values.
+//! Signs and expressions behind what is in hand.
 
-ghost use Rattle.std.specs.Prelude.{◌≡◌, ◌++◌, ◌∷◌, [], OnOk, map};
-ghost use Rattle.kernel_grammar.specs.Kernel.{mark_at, nodes_from};
-ghost use Rattle.scop_roles.specs.Formula.{formula_of};
-ghost use Rattle.scop_units.specs.Words as code;
-ghost use Rattle.scop_roles.specs.Resolving.{IsWritten};
-ghost use Rattle.scop_pass.specs.Machine.{State, begun_step, change_step, expects, loop_begun, loop_second, placed};
-ghost use Rattle.scop_pass.specs.Machine.{placed_step, step};
-ghost use Rattle.scop_pass.specs.Machine as machine;
-ghost use Rattle.scop_pass.specs.Passing.{Comes, begun_of, pending_of, state_of};
-ghost use Rattle.scop_units.specs.View.{words_in};
+ghost use Rattle.std.specs.Prelude.{◌≡◌};
+ghost use Rattle.scop_roles.specs.Formula.{formula_of, index};
+ghost use Rattle.scop_roles.specs.Formula as formula;
+ghost use Rattle.scop_pass.specs.declared.pending.Hand.TheVariants as hand;
+ghost use Rattle.scop_pass.specs.declared.pending.StepRead.TheVariants as read;
+ghost use Rattle.scop_pass.specs.Machine.{begun_step, change_step, change_whole, counted_sign, expects, first_sign};
+ghost use Rattle.scop_pass.specs.Machine.{formula_step, idle_step, loop_begun, named_sign, placed, placed_step};
+ghost use Rattle.scop_pass.specs.Machine.{sign_step};
+ghost use Rattle.scop_pass.specs.Passing.{Comes, hand_of, pending_of, state_of};
+ghost use Rattle.scop_units.specs.Scopes.{look};
+ghost use Rattle.scop_units.specs.View.{scope_of, words_in};
 
-use crate::pass::{Begun, Pass, Pending, Stop};
-use expression_grammar::node::Node;
-use expression_grammar::token::Assign;
+use crate::pass::{Pass, Stop};
+use crate::pending::{Begun, Hand, Pending, Sides, StepRead};
+use expression_grammar::token::Count;
 use kernel_grammar::part::Mark;
-use scop_roles::formula::{Formula, with_subscript};
+use scop_roles::formula::{Formula, Names, with_subscript};
 use scop_units::loops::Change;
 use scop_units::units::Stored;
 use scop_units::words::Words;
-use std::alloc::{AllocError, Global};
-
-fn push_formula(formulas: &mut Vec<Formula>, formula: Formula) -> Result<(), AllocError>
-    ensures { OnOk result (map formula_of formulas.new.items
-        ≡ map formula_of formulas.old.items ++ formula_of formula ∷ []) }
-{
-    match formulas.push(formula) {
-        Err(_) => Err(AllocError),
-        Ok(()) => Ok(()),
-    }
-}
-
-// What a head in hand is behind a sign.
-pub(crate) fn begun_pending(place: usize, mark: Mark, at: usize) -> Pending
-    ensures { (s : State) → begun_step (expects s (loop_begun place)) place (mark_at mark at)
-        ≡ expects s (pending_of result) }
-{
-    match mark {
-        Mark::Iterator => Pending::LoopNamed(Begun {
-            place,
-            new: false,
-            name_at: at,
-        }),
-        Mark::NewIterator => Pending::LoopNamed(Begun {
-            place,
-            new: true,
-            name_at: at,
-        }),
-        _ => Pending::LoopBegun(place),
-    }
-}
-
-pub(crate) fn second_pending(
-    begun: Begun,
-    first: Formula,
-    second: Formula,
-    mark: Mark,
-    at: usize,
-) -> Pending
-    ensures { (s : State) → change_step
-        (expects s (loop_second (begun_of begun) (formula_of first) (formula_of second)))
-        (begun_of begun) (formula_of first) (formula_of second) (mark_at mark at) ≡ expects s (pending_of result) }
-{
-    match mark {
-        Mark::StepName => Pending::StepNamed(begun, first, second, at),
-        Mark::Count(count) => Pending::StepCounted(begun, first, second, count),
-        _ => Pending::LoopSecond(begun, first, second),
-    }
-}
-
-pub(crate) fn placed_pending(cell: Formula, mark: Mark, at: usize) -> Pending
-    ensures { (words : code.Words) (s : State)
-        → placed_step words (expects s (placed (formula_of cell))) (formula_of cell) (mark_at mark at)
-        ≡ expects s (pending_of result) }
-{
-    match mark {
-        Mark::Assign(assign) => Pending::Valued(cell, assign, at),
-        _ => Pending::Placed(cell),
-    }
-}
+use std::alloc::Global;
+use std::mem;
 
 impl Pass {
-    // An extent of an array.
-    fn extent(
+    // A place begins.
+    fn place(&mut self, words: &Words, at: usize)
+        ensures { state_of self.new ≡ expects (state_of self.old)
+            (placed (formula.name ((look (words_in words.now) (scope_of self.old.scope)).meaning at) at)) }
+    {
+        let meaning = self.scope.meaning(words.spelling(at));
+        self.keep(Pending::Hand(Hand::Placed(Formula::Name(meaning, at))));
+    }
+
+    // Dropped by a call: written out here, the drop of each shape would be proved anew.
+    pub(crate) fn keep(&mut self, pending: Pending)
+        ensures { state_of self.new ≡ expects (state_of self.old) (pending_of pending) }
+    {
+        drop(mem::replace(&mut self.pending, pending));
+    }
+
+    fn hold(&mut self, hand: Hand) -> Result<(), Stop>
+        ensures { Comes result (state_of self.new) (expects (state_of self.old) (hand_of hand)) }
+    {
+        self.keep(Pending::Hand(hand));
+        Ok(())
+    }
+
+    // A sign where nothing is pending.
+    pub(crate) fn idle_step(
         &mut self,
         alloc: Global,
         words: &Words,
+        mark: Mark,
         at: usize,
-        mut extents: Vec<Formula>,
-        first_at: usize,
-        nodes: &[Node],
     ) -> Result<(), Stop>
-        requires { IsWritten nodes.now first_at }
-        ensures { Comes result (state_of self.new) (step (words_in words.now)
-            (expects (state_of self.old) (machine.extents at (map formula_of extents.items)))
-            (nodes_from first_at nodes.now)) }
+        ensures { Comes result (state_of self.new)
+            (idle_step (words_in words.now) (state_of self.old) mark at) }
     {
-        let formula = match self.formula(alloc, words, None, first_at, nodes) {
-            Err(_) => return Err(Stop::NoMemory),
-            Ok(formula) => formula,
-        };
-        match push_formula(&mut extents, formula) {
-            Err(_) => return Err(Stop::NoMemory),
-            Ok(()) => {}
+        match mark {
+            Mark::Kernel => self.named(alloc, words, at),
+            Mark::Number => self.numbered(alloc, words, at),
+            Mark::Declared => self.declared(alloc, words, at),
+            Mark::Array => self.begin_array(alloc, at),
+            Mark::Begin => self.begin(),
+            Mark::End => self.end(),
+            Mark::Empty => self.complete(),
+            Mark::If => self.hold(Hand::Condition),
+            Mark::For => self.hold(Hand::LoopBegun(at)),
+            Mark::Place => {
+                self.place(words, at);
+                Ok(())
+            }
+            _ => Ok(()),
         }
-        self.expect(Pending::Extents(at, extents))
     }
 
-    // A condition.
-    fn condition(
+    // A loop's iterator.
+    fn begun_step(&mut self, place: usize, mark: Mark, at: usize) -> Result<(), Stop>
+        ensures { Comes result (state_of self.new)
+            (begun_step (expects (state_of self.old) (loop_begun place)) place mark at) }
+    {
+        match mark {
+            Mark::Iterator => self.hold(Hand::LoopNamed(Begun {
+                place,
+                new: false,
+                name_at: at,
+            })),
+            Mark::NewIterator => self.hold(Hand::LoopNamed(Begun {
+                place,
+                new: true,
+                name_at: at,
+            })),
+            _ => self.hold(Hand::LoopBegun(place)),
+        }
+    }
+
+    // The first sign of a loop's step.
+    fn first_sign(&mut self, sides: Sides, mark: Mark, at: usize) -> Result<(), Stop>
+        ensures { Comes result (state_of self.new) (first_sign
+            (expects (state_of self.old) (hand_of (hand.LoopStep sides read.Nothing)))
+            sides.begun (formula_of sides.first) (formula_of sides.second) mark at) }
+    {
+        match mark {
+            Mark::StepName => self.hold(Hand::LoopStep(sides, StepRead::Name(at))),
+            Mark::Count(count) => self.hold(Hand::LoopStep(sides, StepRead::Count(count))),
+            _ => self.hold(Hand::LoopStep(sides, StepRead::Nothing)),
+        }
+    }
+
+    // A sign behind `++` or `--`.
+    fn counted_sign(
         &mut self,
         alloc: Global,
         words: &Words,
-        first_at: usize,
-        nodes: &[Node],
+        sides: Sides,
+        count: Count,
+        mark: Mark,
+        at: usize,
     ) -> Result<(), Stop>
-        requires { IsWritten nodes.now first_at }
-        ensures { Comes result (state_of self.new) (step (words_in words.now)
-            (expects (state_of self.old) (machine.condition))
-            (nodes_from first_at nodes.now)) }
+        ensures { Comes result (state_of self.new) (counted_sign (words_in words.now)
+            (expects (state_of self.old) (hand_of (hand.LoopStep sides (read.Count count))))
+            sides.begun (formula_of sides.first) (formula_of sides.second) count mark at) }
     {
-        let formula = match self.formula(alloc, words, None, first_at, nodes) {
-            Err(_) => return Err(Stop::NoMemory),
-            Ok(formula) => formula,
-        };
-        self.guarded(alloc, &formula)
+        match mark {
+            Mark::StepName => self.stepped(alloc, words, sides, at, Change::Counted(count)),
+            _ => self.hold(Hand::LoopStep(sides, StepRead::Count(count))),
+        }
     }
 
-    // A loop's first part.
-    fn first_side(
+    // A sign behind the name that a step changes.
+    fn named_sign(
         &mut self,
         alloc: Global,
         words: &Words,
-        begun: Begun,
-        first_at: usize,
-        nodes: &[Node],
+        sides: Sides,
+        name: usize,
+        mark: Mark,
+        at: usize,
     ) -> Result<(), Stop>
-        requires { IsWritten nodes.now first_at }
-        ensures { Comes result (state_of self.new) (step (words_in words.now)
-            (expects (state_of self.old) (machine.loop_named (begun_of begun)))
-            (nodes_from first_at nodes.now)) }
+        ensures { Comes result (state_of self.new) (named_sign (words_in words.now)
+            (expects (state_of self.old) (hand_of (hand.LoopStep sides (read.Name name))))
+            sides.begun (formula_of sides.first) (formula_of sides.second) name mark at) }
     {
-        let formula = match self.formula(alloc, words, None, first_at, nodes) {
-            Err(_) => return Err(Stop::NoMemory),
-            Ok(formula) => formula,
-        };
-        self.expect(Pending::LoopFirst(begun, formula))
+        match mark {
+            Mark::Count(count) => {
+                self.stepped(alloc, words, sides, name, Change::Counted(count))
+            }
+            Mark::Assign(assign) => {
+                self.hold(Hand::LoopStep(sides, StepRead::Assignment(name, assign)))
+            }
+            _ => self.hold(Hand::LoopStep(sides, StepRead::Name(name))),
+        }
     }
 
-    // A loop's condition.
-    fn second_side(
+    // A sign of a loop's step.
+    fn change_step(
         &mut self,
         alloc: Global,
         words: &Words,
-        begun: Begun,
-        first: Formula,
-        first_at: usize,
-        nodes: &[Node],
+        sides: Sides,
+        read: StepRead,
+        mark: Mark,
+        at: usize,
     ) -> Result<(), Stop>
-        requires { IsWritten nodes.now first_at }
-        ensures { Comes result (state_of self.new) (step (words_in words.now)
-            (expects (state_of self.old) (machine.loop_first (begun_of begun) (formula_of first)))
-            (nodes_from first_at nodes.now)) }
+        ensures { Comes result (state_of self.new) (change_step (words_in words.now)
+            (expects (state_of self.old) (hand_of (hand.LoopStep sides read)))
+            sides.begun (formula_of sides.first) (formula_of sides.second) read mark at) }
     {
-        let formula = match self.formula(alloc, words, Some(begun.name_at), first_at, nodes) {
-            Err(_) => return Err(Stop::NoMemory),
-            Ok(formula) => formula,
-        };
-        self.expect(Pending::LoopSecond(begun, first, formula))
+        match read {
+            StepRead::Nothing => self.first_sign(sides, mark, at),
+            StepRead::Count(count) => self.counted_sign(alloc, words, sides, count, mark, at),
+            StepRead::Name(name) => self.named_sign(alloc, words, sides, name, mark, at),
+            StepRead::Assignment(name, assign) => {
+                self.hold(Hand::LoopStep(sides, StepRead::Assignment(name, assign)))
+            }
+        }
+    }
+
+    fn placed_step(&mut self, cell: Formula, mark: Mark, at: usize) -> Result<(), Stop>
+        ensures { Comes result (state_of self.new) (placed_step
+            (expects (state_of self.old) (placed (formula_of cell))) (formula_of cell) mark at) }
+    {
+        match mark {
+            Mark::Assign(assign) => self.hold(Hand::Valued(cell, assign, at)),
+            _ => self.hold(Hand::Placed(cell)),
+        }
+    }
+
+    // A sign.
+    pub(crate) fn sign_step(
+        &mut self,
+        alloc: Global,
+        words: &Words,
+        hand: Hand,
+        mark: Mark,
+        at: usize,
+    ) -> Result<(), Stop>
+        ensures { Comes result (state_of self.new) (sign_step (hand_of hand) (words_in words.now)
+            (expects (state_of self.old) (hand_of hand)) mark at) }
+    {
+        match hand {
+            Hand::Idle => {
+                self.keep(Pending::Hand(Hand::Idle));
+                self.idle_step(alloc, words, mark, at)
+            }
+            Hand::Condition => self.hold(Hand::Condition),
+            Hand::LoopBegun(place) => self.begun_step(place, mark, at),
+            Hand::LoopNamed(begun) => self.hold(Hand::LoopNamed(begun)),
+            Hand::LoopFirst(begun, first) => self.hold(Hand::LoopFirst(begun, first)),
+            Hand::LoopStep(sides, read) => self.change_step(alloc, words, sides, read, mark, at),
+            Hand::Placed(cell) => self.placed_step(cell, mark, at),
+            Hand::Valued(cell, assign, assign_at) => {
+                self.hold(Hand::Valued(cell, assign, assign_at))
+            }
+        }
+    }
+
+    // An expression where none is wanted.
+    fn unwanted(&mut self, hand: Hand, formula: Formula) -> Result<(), Stop>
+        ensures { Comes result (state_of self.new) (expects (state_of self.old) (hand_of hand)) }
+    {
+        drop(formula);
+        self.hold(hand)
     }
 
     // The right side of a loop's step.
-    fn step_side(
+    fn change_whole(
         &mut self,
         alloc: Global,
         words: &Words,
-        begun: Begun,
-        sides: (Formula, Formula),
-        name: usize,
-        assign: Assign,
-        first_at: usize,
-        nodes: &[Node],
+        sides: Sides,
+        read: StepRead,
+        formula: Formula,
     ) -> Result<(), Stop>
-        requires { IsWritten nodes.now first_at }
-        ensures { Comes result (state_of self.new) (step (words_in words.now)
-            (expects (state_of self.old) (machine.step_assigned
-            (begun_of begun) (formula_of sides.0) (formula_of sides.1) name assign))
-            (nodes_from first_at nodes.now)) }
+        ensures { Comes result (state_of self.new) (change_whole (words_in words.now)
+            (expects (state_of self.old) (hand_of (hand.LoopStep sides read)))
+            sides.begun (formula_of sides.first) (formula_of sides.second) read (formula_of formula)) }
     {
-        let formula = match self.formula(alloc, words, Some(begun.name_at), first_at, nodes) {
-            Err(_) => return Err(Stop::NoMemory),
-            Ok(formula) => formula,
-        };
-        self.stepped(
-            alloc,
-            words,
-            begun,
-            sides,
-            name,
-            Change::Assigned(assign, formula),
-        )
-    }
-
-    // A subscript of a place.
-    fn subscript(
-        &mut self,
-        alloc: Global,
-        words: &Words,
-        cell: Formula,
-        first_at: usize,
-        nodes: &[Node],
-    ) -> Result<(), Stop>
-        requires { IsWritten nodes.now first_at }
-        ensures { Comes result (state_of self.new) (step (words_in words.now)
-            (expects (state_of self.old) (placed (formula_of cell)))
-            (nodes_from first_at nodes.now)) }
-    {
-        let formula = match self.formula(alloc, words, None, first_at, nodes) {
-            Err(_) => return Err(Stop::NoMemory),
-            Ok(formula) => formula,
-        };
-        match with_subscript(alloc, cell, formula) {
-            Err(_) => Err(Stop::NoMemory),
-            Ok(cell) => self.expect(Pending::Placed(cell)),
+        match read {
+            StepRead::Assignment(name, assign) => self.stepped(
+                alloc,
+                words,
+                sides,
+                name,
+                Change::Assigned(assign, formula),
+            ),
+            StepRead::Nothing => {
+                self.unwanted(Hand::LoopStep(sides, StepRead::Nothing), formula)
+            }
+            StepRead::Count(count) => {
+                self.unwanted(Hand::LoopStep(sides, StepRead::Count(count)), formula)
+            }
+            StepRead::Name(name) => {
+                self.unwanted(Hand::LoopStep(sides, StepRead::Name(name)), formula)
+            }
         }
     }
 
-    // The value of a statement.
-    fn value(
-        &mut self,
-        alloc: Global,
-        words: &Words,
-        cell: Formula,
-        assign: Assign,
-        assign_at: usize,
-        first_at: usize,
-        nodes: &[Node],
-    ) -> Result<(), Stop>
-        requires { IsWritten nodes.now first_at }
-        ensures { Comes result (state_of self.new) (step (words_in words.now)
-            (expects (state_of self.old) (machine.valued (formula_of cell) assign assign_at))
-            (nodes_from first_at nodes.now)) }
+    // A subscript of a place.
+    fn subscript(&mut self, alloc: Global, cell: Formula, formula: Formula) -> Result<(), Stop>
+        ensures { Comes result (state_of self.new)
+            (expects (state_of self.old) (placed (index (formula_of cell) (formula_of formula)))) }
     {
-        let formula = match self.formula(alloc, words, None, first_at, nodes) {
-            Err(_) => return Err(Stop::NoMemory),
-            Ok(formula) => formula,
-        };
-        let stored = Stored {
-            cell,
-            assign,
-            assign_at,
-            value: formula,
-        };
-        self.valued(alloc, &stored)
+        match with_subscript(alloc, cell, formula) {
+            Err(_) => Err(Stop::NoMemory),
+            Ok(cell) => self.hold(Hand::Placed(cell)),
+        }
     }
 
-    // An expression.
-    pub(crate) fn nodes_step(
+    // An expression's formula.
+    pub(crate) fn hand_formula(
         &mut self,
         alloc: Global,
         words: &Words,
-        pending: Pending,
-        first_at: usize,
-        nodes: &[Node],
+        hand: Hand,
+        formula: Formula,
     ) -> Result<(), Stop>
-        requires { IsWritten nodes.now first_at }
-        ensures { Comes result (state_of self.new) (step (words_in words.now)
-            (expects (state_of self.old) (pending_of pending))
-            (nodes_from first_at nodes.now)) }
+        ensures { Comes result (state_of self.new) (formula_step (hand_of hand) (words_in words.now)
+            (expects (state_of self.old) (hand_of hand)) (formula_of formula)) }
     {
-        match pending {
-            Pending::Extents(at, extents) => {
-                self.extent(alloc, words, at, extents, first_at, nodes)
+        match hand {
+            Hand::Condition => {
+                let opened = self.guarded(alloc, &formula);
+                drop(formula);
+                opened
             }
-            Pending::Condition => self.condition(alloc, words, first_at, nodes),
-            Pending::LoopNamed(begun) => self.first_side(alloc, words, begun, first_at, nodes),
-            Pending::LoopFirst(begun, first) => {
-                self.second_side(alloc, words, begun, first, first_at, nodes)
-            }
-            Pending::StepAssigned(begun, first, second, name, assign) => {
-                self.step_side(
-                    alloc,
-                    words,
+            Hand::LoopNamed(begun) => self.hold(Hand::LoopFirst(begun, formula)),
+            Hand::LoopFirst(begun, first) => {
+                let sides = Sides {
                     begun,
-                    (first, second),
-                    name,
+                    first,
+                    second: formula,
+                };
+                self.hold(Hand::LoopStep(sides, StepRead::Nothing))
+            }
+            Hand::LoopStep(sides, read) => self.change_whole(alloc, words, sides, read, formula),
+            Hand::Placed(cell) => self.subscript(alloc, cell, formula),
+            Hand::Valued(cell, assign, assign_at) => {
+                let stored = Stored {
+                    cell,
                     assign,
-                    first_at,
-                    nodes,
-                )
+                    assign_at,
+                    value: formula,
+                };
+                let done = self.valued(alloc, &stored);
+                drop(stored);
+                done
             }
-            Pending::Placed(cell) => self.subscript(alloc, words, cell, first_at, nodes),
-            Pending::Valued(cell, assign, assign_at) => {
-                self.value(alloc, words, cell, assign, assign_at, first_at, nodes)
-            }
-            Pending::Idle => self.expect(Pending::Idle),
-            Pending::LoopBegun(place) => self.expect(Pending::LoopBegun(place)),
-            Pending::LoopSecond(begun, first, second) => {
-                self.expect(Pending::LoopSecond(begun, first, second))
-            }
-            Pending::StepCounted(begun, first, second, count) => {
-                self.expect(Pending::StepCounted(begun, first, second, count))
-            }
-            Pending::StepNamed(begun, first, second, name) => {
-                self.expect(Pending::StepNamed(begun, first, second, name))
-            }
+            Hand::Idle => self.unwanted(Hand::Idle, formula),
+            Hand::LoopBegun(place) => self.unwanted(Hand::LoopBegun(place), formula),
         }
     }
 }

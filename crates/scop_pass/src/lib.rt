@@ -6,4 +6,8 @@
 mod frames;
 mod hand;
 pub mod laws;
+mod lists;
+mod names;
+mod open_items;
 pub mod pass;
+mod pending;

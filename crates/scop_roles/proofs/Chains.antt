@@ -3,12 +3,10 @@ use Rattle.std.proofs.Common.{◌≡◌, ℕ, ◌+◌, ◌-◌, ◌<◌, ◌≤�
 use Rattle.std.proofs.Common.{fold, get_or, drop-cons, add-one, ap, sym, subst, ◌∙◌, refl, arith, append_assoc}
 use Rattle.std.proofs.lemmas.List.{drop_all}
 use Rattle.whole_numbers.specs.Affine.{Affine}
-use Rattle.scop_syntax.specs.Tree.{Expression}
 use Rattle.expression_grammar.specs.declared.token.Op.{Op}
-use Rattle.scop_roles.specs.declared.formula.Role.TheVariants as role
 use Rattle.scop_roles.specs.Formula.{Formula, index, binary, place, meaning_of, subscripts}
-use Rattle.scop_roles.specs.Faults.{first, faults, place_faults}
-use Rattle.scop_roles.specs.Values.{subscript_forms, expression, read_places}
+use Rattle.scop_roles.specs.Faults.{first, place_faults}
+use Rattle.scop_roles.specs.Values.{subscript_forms, read_places}
 
 -- a formula of which R holds makes the whole when the rest is put on it
 abbrev pub Makes : {A : Type 0} → (Formula → A → Formula) → (Formula → Type 0) → List A → Formula → Type 0
@@ -71,10 +69,6 @@ index_lacks f p i is count e less = let all = index_subscripts f p i is e in gri
 -- the forms of the subscripts of a place, behind others, where it has no fault
 abbrev pub HasForms : ℕ → List Affine → List Affine → Formula → Type 0
 HasForms n forms before p = first (place_faults n p) ≡ None → forms ≡ before ++ subscript_forms n p
-
--- the value of a formula that has no fault as one
-abbrev pub HasValue : ℕ → Expression → Formula → Type 0
-HasValue n e f = first (faults n role.Value f) ≡ None → e ≡ expression n f
 
 -- the places that a right side reads stand behind those of the left one
 pub read_more : (xs old new : List ℕ) (o : Op) (f g : Formula) (at : ℕ) → old ≡ xs ++ read_places f

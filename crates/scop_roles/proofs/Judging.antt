@@ -30,6 +30,7 @@ faults_at n f j role.Affine h = h.affine
 faults_at n f j role.Signed h = h.summand
 faults_at n f j role.Value h = h.value
 faults_at n f j role.Condition h = h.condition
+faults_at n f j role.Loose h = h.loose
 faults_at n f j role.Free h = h.free
 
 pub name_first : (n : ℕ) (r : Role) (m : Meaning) (at : ℕ)
@@ -120,17 +121,6 @@ left_none (suc s) (suc r) = let same = left_none s r in grind arith
 -- the subscripts that a place lacks are none exactly where it has its rank
 pub lacks_none : (f : Formula) → is_zero (lacking f) ≡ (rank (meaning_of f) == subscripts f)
 lacks_none f = ap is_zero (lacking_is f) ∙ left_none (subscripts f) (rank (meaning_of f))
-
--- an operator's own fault, from that of an affine one
-pub own_is_joined : (n : ℕ) (r : Role) (o : Op) (f g : Formula) (at : ℕ)
-    → own n r (binary o f g at)
-    ≡ own_joined (own_affine n (binary o f g at)) r o (is_signed f) (is_signed g) (are_plain_constants f g)
-    (is_count 0 63 g)
-own_is_joined n role.Affine o f g at = refl
-own_is_joined n role.Signed o f g at = refl
-own_is_joined n role.Value o f g at = refl
-own_is_joined n role.Condition o f g at = refl
-own_is_joined n role.Free o f g at = refl
 
 -- sides in the role of a signed part stand in that role, or in the same as in the affine one
 pub signed_sides : (o : Op) (b : Bool)
@@ -263,6 +253,7 @@ own_same n role.Value o f g at a is h =
     value_same true false p q = rw (p, q) refl
     value_same false s p q = rw p refl
 own_same n role.Condition o f g at a is h = refl
+own_same n role.Loose o f g at a is h = refl
 own_same n role.Free o f g at a is h = refl
 
 pub binary_judged : (n : ℕ) (r : Role) (o : Op) (f g : Formula) (j k : Judgement) (at : ℕ) (a : Option Kind)

@@ -2,6 +2,7 @@
 use Rattle.std.proofs.Common.{◌≡◌, ℕ, zero, suc, ◌+◌, ◌<◌, ◌≤◌, List, [], ◌∷◌, ◌++◌, length, drop, fold, get_or, refl}
 use Rattle.std.proofs.Common.{ap, ◌∙◌, arith, length-append}
 use Rattle.std.specs.Prelude.{⊤}
+use Rattle.std.proofs.lemmas.List.{drop_all}
 use Rattle.expression_grammar.specs.Tree.{Tree, constant, name, group, index, bare_call, call, unary, cast, binary}
 use Rattle.expression_grammar.specs.Tree.{written, size}
 use Rattle.expression_grammar.specs.declared.token.Op.{Op}
@@ -141,19 +142,13 @@ places_below at end (binary o a b) h =
     (below-append end (written (at + size a + 1) b) (node.Binary o (at + size a) ∷ [])
     (places_below (at + size a + 1) end b (omega arith)) (omega arith, tt))
 
-drop_past : {A : Type 0} (xs : List A) (i : ℕ) → length xs ≤ i → drop i xs ≡ []
-drop_past [] zero h = refl
-drop_past [] (suc i) h = refl
-drop_past (x ∷ xs) zero h = absurd (omega arith)
-drop_past (x ∷ xs) (suc i) h = drop_past xs i (omega arith)
-
 -- at the end of the nodes the formula stands on top
 pub resolved : (look : Lookup) (first : ℕ) (t : Tree) (nodes : List Node) (i : ℕ) (stack : List Formula)
     → nodes ≡ written 0 t → length nodes ≤ i
     → fold (built look first) stack (drop i nodes) ≡ fold (built look first) [] nodes
     → top stack ≡ formula look first t
 resolved look first t nodes i stack spelled past e =
-    let all : stack ≡ fold (built look first) [] nodes = rw (drop_past nodes i past) at e in
+    let all : stack ≡ fold (built look first) [] nodes = rw (drop_all i nodes past) at e in
     let zero_more : first + 0 ≡ first = omega arith in
     ap top (all ∙ ap (λ ns. fold (built look first) [] ns) spelled ∙ fold-written look first 0 t [])
     ∙ ap (λ k. formula look k t) zero_more

@@ -1,12 +1,12 @@
 -- How large the numbers of sums and multiples of forms get.
 use Rattle.std.proofs.Common.{◌≡◌, ℕ, zero, suc, ◌+◌, ◌*◌, ◌^◌, ◌≤◌, ℤ, pos, negsuc, Bool, true, false, nat_le, List}
-use Rattle.std.proofs.Common.{[], ◌∷◌, length, get_or, set, length-set, ap, sym, ◌∙◌, refl, arith, mul-le-mul}
+use Rattle.std.proofs.Common.{[], ◌∷◌, length, get_or, set, length-set, ap, ◌∙◌, refl, arith, mul-le-mul}
 use Rattle.std.specs.Prelude.{◌+ℤ◌, ◌*ℤ◌, ◌&&◌, unsigned_abs, replicate}
 use Rattle.std.specs.List.{list_all}
 use Rattle.std.proofs.lemmas.Int.{ints, unsigned_abs-mul}
 use Rattle.whole_numbers.specs.Lists.{sums, multiples, zeros}
-use Rattle.whole_numbers.specs.Affine.{Affine, form_of, sum_of_forms, multiple_of_form}
-use Rattle.whole_numbers.proofs.Dot.{length-multiples, length-sums, length-zeros}
+use Rattle.whole_numbers.specs.Affine.{Affine, form_of, multiple_of_form}
+use Rattle.whole_numbers.proofs.Dot.{length-multiples, length-zeros}
 use Rattle.scop_syntax.specs.Kernel.{AreAtMost, IsForm, IsAffine}
 use Rattle.scop_syntax.proofs.Limits.{abs_low, abs_high, abs_at_most}
 use Rattle.scop_roles.specs.Forms.{is_small, is_within}
@@ -77,11 +77,6 @@ multiple_wide n x f g e a is =
       coefficients = at_most-multiples (2 ^ 20) 16 (2 ^ 40) x f.coefficients a is.coefficients (omega arith);
       constant = let p = abs_product x f.constant (2 ^ 20) (2 ^ 20) a is.constant in omega arith;
     }
-
-pub sum_entries : (n k l : ℕ) (f g : Affine) → IsForm n k l f → IsForm n k l g
-    → length (sum_of_forms f g).coefficients ≡ n
-sum_entries n k l f g a b =
-    length-sums f.coefficients g.coefficients (a.entries ∙ sym b.entries) ∙ a.entries
 
 both_true : (a b : Bool) → (a && b) ≡ true → (a ≡ true) × (b ≡ true)
 both_true true true h = (refl, refl)

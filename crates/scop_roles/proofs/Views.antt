@@ -4,28 +4,17 @@ use Rattle.std.specs.Global.{Box}
 use Rattle.expression_grammar.specs.declared.token.Op.{Op}
 use Rattle.expression_grammar.specs.declared.token.Op.TheVariants as op
 use Rattle.expression_grammar.specs.declared.token.Sign.{Sign}
-use Rattle.expression_grammar.specs.declared.token.Suffix.{Suffix}
 use Rattle.scop_roles.specs.declared.formula.Meaning.{Meaning}
 use Rattle.scop_roles.specs.declared.formula.Argument.{Argument}
 use Rattle.scop_roles.specs.declared.formula.Formula.{Formula as Code}
-use Rattle.scop_roles.specs.declared.formula.Formula.TheVariants.{Constant, Name, Index, BareCall, Call, Unary, Cast}
-use Rattle.scop_roles.specs.declared.formula.Formula.TheVariants.{Commas, Binary, rolls-Constant, rolls-Name}
-use Rattle.scop_roles.specs.declared.formula.Formula.TheVariants.{rolls-Index, rolls-BareCall, rolls-Call, rolls-Unary}
+use Rattle.scop_roles.specs.declared.formula.Formula.TheVariants.{Index, BareCall, Unary, Cast}
+use Rattle.scop_roles.specs.declared.formula.Formula.TheVariants.{Commas, Binary}
+use Rattle.scop_roles.specs.declared.formula.Formula.TheVariants.{rolls-Index, rolls-BareCall, rolls-Unary}
 use Rattle.scop_roles.specs.declared.formula.Formula.TheVariants.{rolls-Cast, rolls-Commas, rolls-Binary}
 use Rattle.scop_roles.specs.declared.formula.Formula.TheFolds.{fold-Argument, fold-roll-Argument, fold-roll-Formula}
 use Rattle.scop_roles.specs.declared.formula.Formula.TheOpen.{Formula-F}
-use Rattle.scop_roles.specs.Formula.{Formula, constant, name, index, bare_call, call, unary, cast, binary}
+use Rattle.scop_roles.specs.Formula.{Formula, index, bare_call, unary, cast, binary}
 use Rattle.scop_roles.specs.Formula.{with_argument, argument_of, argument_step, formula_of, formula_step}
-
-pub formula_constant : (s : Suffix) (v at : ℕ) → formula_of (Constant s v at) ≡ constant s v at
-formula_constant s v at =
-    ap formula_of (sym (rolls-Constant s v at))
-    ∙ fold-roll-Formula Formula (Formula × ℕ) formula_step argument_step (Formula-F.Constant s v at)
-
-pub formula_name : (m : Meaning) (at : ℕ) → formula_of (Name m at) ≡ name m at
-formula_name m at =
-    ap formula_of (sym (rolls-Name m at))
-    ∙ fold-roll-Formula Formula (Formula × ℕ) formula_step argument_step (Formula-F.Name m at)
 
 pub formula_index : (p : Box Code) (is : Vec Code Global) (i : Box Code)
     → formula_of (Index p is i) ≡ index (fold index (formula_of p.value) (map formula_of is.items)) (formula_of i.value)
@@ -37,11 +26,6 @@ pub formula_bare_call : (m : Meaning) (at : ℕ) → formula_of (BareCall m at) 
 formula_bare_call m at =
     ap formula_of (sym (rolls-BareCall m at))
     ∙ fold-roll-Formula Formula (Formula × ℕ) formula_step argument_step (Formula-F.BareCall m at)
-
-pub formula_call : (m : Meaning) (f : Box Code) (at : ℕ) → formula_of (Call m f at) ≡ call m (formula_of f.value) at
-formula_call m f at =
-    ap formula_of (sym (rolls-Call m f at))
-    ∙ fold-roll-Formula Formula (Formula × ℕ) formula_step argument_step (Formula-F.Call m f at)
 
 pub formula_unary : (s : Sign) (f : Box Code) (at : ℕ) → formula_of (Unary s f at) ≡ unary s (formula_of f.value) at
 formula_unary s f at =

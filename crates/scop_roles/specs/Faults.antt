@@ -54,6 +54,7 @@ abbrev pub first : List Fault → Option Fault
 first [] = None
 first (f ∷ fs) = first_of (Some f) (first fs)
 
+-- a fault of this kind at a place, if there is one
 abbrev pub told : ℕ → Option Kind → List Fault
 told at None = []
 told at (Some kind) = record { place = at; kind = kind } ∷ []
@@ -65,12 +66,15 @@ judged (f ∷ fs) own = f ∷ fs
 
 -- the role of an operand of a sign; signed: whether the operand is
 abbrev pub operand_role : Sign → Bool → Role → Role
+operand_role sign.Not signed role.Condition = role.Loose
+operand_role sign.Not signed role.Loose = role.Loose
 operand_role sign.Minus signed role.Affine = role.Affine
 operand_role sign.Minus signed role.Signed = role.Signed
 operand_role sign.Minus signed role.Value = if signed then role.Signed else role.Value
 operand_role s signed role.Value = role.Value
 operand_role s signed r = role.Free
 
+-- the role of the operand of a cast
 abbrev pub cast_role : Role → Role
 cast_role role.Value = role.Value
 cast_role r = role.Free
@@ -82,9 +86,13 @@ term_role signed role.Signed = role.Signed
 term_role signed role.Value = if signed then role.Signed else role.Value
 term_role signed r = role.Free
 
--- the role of the sides of the other operators that are no comparisons
+-- the role of the sides of the other operators that are no comparisons; those of != have none
 abbrev pub other_role : Op → Role → Role
+other_role op.NotEqual r = role.Free
 other_role op.LogicalAnd role.Condition = role.Condition
+other_role op.LogicalAnd role.Loose = role.Loose
+other_role op.LogicalOr role.Condition = role.Loose
+other_role op.LogicalOr role.Loose = role.Loose
 other_role o role.Value = role.Value
 other_role o r = role.Free
 
@@ -104,6 +112,7 @@ abbrev pub is_count : ℕ → ℕ → Formula → Bool
 is_count low high (constant suffix.Absent v at) = nat_le low v && nat_le v high
 is_count low high _ = false
 
+-- this kind where it applies, else none
 abbrev pub only_where : Bool → Kind → Option Kind
 only_where true k = Some k
 only_where false k = None
@@ -119,6 +128,7 @@ own_term n o f g at =
     if is_product o && (has_name f && has_name g) then Some kind.NotAffine
     else only_where (not (is_within (form n (binary o f g at)))) kind.Coefficient
 
+-- what is wrong with a node itself in the role of an affine form over n entries
 abbrev pub own_affine : ℕ → Formula → Option Kind
 own_affine n (constant suffix.Absent v at) = only_where (nat_lt (2 ^ 20) v) kind.Coefficient
 own_affine n (name (meaning.Array k r) at) = Some kind.NotAffine
@@ -138,11 +148,12 @@ own_signed n (binary o f g at) =
     or_else (own_affine n (binary o f g at)) (only_where (are_plain_constants f g) kind.SignedValue)
 own_signed n f = own_affine n f
 
--- a name with another number of subscripts than its declaration has; what is no array has none
+-- how many subscripts a name takes
 abbrev pub rank : Meaning → ℕ
 rank (meaning.Array k r) = r
 rank _ = 0
 
+-- a name with another number of subscripts than its declaration has; what is no array has none
 abbrev pub own_rank : Formula → Option Kind
 own_rank f = only_where (not (rank (meaning_of f) == subscripts f)) kind.Rank
 
@@ -159,6 +170,7 @@ own_operator op.Remainder s t c k = Some (if c then kind.SignedValue else kind.D
 own_operator op.Comma s t c k = None
 own_operator o s t c k = Some kind.Condition
 
+-- what is wrong with a node itself in the role of a value
 abbrev pub own_value : ℕ → Formula → Option Kind
 own_value n (constant s v at) = None
 own_value n (name m at) = own_rank (name m at)
@@ -178,28 +190,37 @@ own_value n (binary o f g at) =
 abbrev pub joins_condition : Op → Bool
 joins_condition o = is_and o || is_comparison o
 
+-- what is wrong with a node itself in the role of a condition
 abbrev pub own_condition : Formula → Option Kind
 own_condition (binary o f g at) = only_where (not (joins_condition o)) kind.Condition
 own_condition _ = Some kind.Condition
 
--- where nothing is asked, what no text may have is still refused; k: the right side is a count below 64
-abbrev pub own_free_operator : Op → Bool → Option Kind
-own_free_operator op.Divide k = Some kind.Division
-own_free_operator op.Remainder k = Some kind.Division
-own_free_operator op.ShiftLeft k = only_where (not k) kind.ShiftCount
-own_free_operator op.ShiftRight k = only_where (not k) kind.ShiftCount
-own_free_operator op.LogicalOr k = Some kind.Condition
-own_free_operator op.NotEqual k = Some kind.Condition
-own_free_operator o k = None
+-- where comparisons may stand and nothing more is asked, what no text may have is still refused; k: the right side is
+-- a count below 64
+abbrev pub own_loose_operator : Op → Bool → Option Kind
+own_loose_operator op.Divide k = Some kind.Division
+own_loose_operator op.Remainder k = Some kind.Division
+own_loose_operator op.ShiftLeft k = only_where (not k) kind.ShiftCount
+own_loose_operator op.ShiftRight k = only_where (not k) kind.ShiftCount
+own_loose_operator op.LogicalOr k = Some kind.Condition
+own_loose_operator op.NotEqual k = Some kind.Condition
+own_loose_operator o k = None
 
+-- the same of any node
+abbrev pub own_loose : Formula → Option Kind
+own_loose (name m at) = own_rank (name m at)
+own_loose (index p i) = own_rank (index p i)
+own_loose (bare_call m at) = Some kind.Call
+own_loose (call m f at) = Some kind.Call
+own_loose (unary sign.Not f at) = Some kind.Condition
+own_loose (binary o f g at) = own_loose_operator o (is_count 0 63 g)
+own_loose _ = None
+
+-- without a role a comparison and && are refused too
 abbrev pub own_free : Formula → Option Kind
-own_free (name m at) = own_rank (name m at)
-own_free (index p i) = own_rank (index p i)
-own_free (bare_call m at) = Some kind.Call
-own_free (call m f at) = Some kind.Call
-own_free (unary sign.Not f at) = Some kind.Condition
-own_free (binary o f g at) = own_free_operator o (is_count 0 63 g)
-own_free _ = None
+own_free (binary o f g at) =
+    if joins_condition o then Some kind.Condition else own_loose_operator o (is_count 0 63 g)
+own_free f = own_loose f
 
 -- what is wrong with a node itself, over n entries
 abbrev pub own : ℕ → Role → Formula → Option Kind
@@ -207,6 +228,7 @@ own n role.Affine f = own_affine n f
 own n role.Signed f = own_signed n f
 own n role.Value f = own_value n f
 own n role.Condition f = own_condition f
+own n role.Loose f = own_loose f
 own n role.Free f = own_free f
 
 -- a name that is not in scope, or an iterator outside its loop
@@ -220,8 +242,8 @@ abbrev pub called : Meaning → Option Kind
 called meaning.Unknown = Some kind.UnknownName
 called _ = None
 
--- the faults of a formula in a role over n entries
 abbrev mutual
+  -- the faults of a formula in a role over n entries
   pub faults : ℕ → Role → Formula → List Fault
   faults n r (constant s v at) = told at (own n r (constant s v at))
   faults n r (name m at) = judged (told at (named m)) (told at (own n r (name m at)))

@@ -20,19 +20,23 @@ is_sum_or_product op.Minus = true
 is_sum_or_product op.Times = true
 is_sum_or_product _ = false
 
+-- *
 abbrev pub is_product : Op → Bool
 is_product op.Times = true
 is_product _ = false
 
+-- << >>
 abbrev pub is_shift : Op → Bool
 is_shift op.ShiftLeft = true
 is_shift op.ShiftRight = true
 is_shift _ = false
 
+-- &&
 abbrev pub is_and : Op → Bool
 is_and op.LogicalAnd = true
 is_and _ = false
 
+-- the sign -
 abbrev pub is_minus : Sign → Bool
 is_minus sign.Minus = true
 is_minus _ = false
@@ -46,6 +50,7 @@ is_comparison op.AtLeast = true
 is_comparison op.Equal = true
 is_comparison _ = false
 
+-- a parameter or an iterator, whose loop may be open or not
 abbrev pub is_number : Meaning → Bool
 is_number (meaning.Variable k) = true
 is_number meaning.Closed = true
@@ -68,11 +73,12 @@ has_name (cast f at) = has_name f
 has_name (binary o f g at) = has_name f || has_name g
 has_name _ = true
 
--- a form times another, of which one is a constant
+-- a form times another, of which one is a constant: the right one where the left formula has a name
 abbrev pub product_of_forms : Bool → Affine → Affine → Affine
 product_of_forms left_has_name f g =
     if left_has_name then multiple_of_form g.constant f else multiple_of_form f.constant g
 
+-- the sum, the difference or the product of two forms; n: whether a name stands in the left formula
 abbrev pub combined_forms : Op → Bool → Affine → Affine → Affine
 combined_forms op.Plus n f g = sum_of_forms f g
 combined_forms op.Minus n f g = sum_of_forms f (multiple_of_form (negsuc 0) g)
@@ -87,6 +93,7 @@ form n (unary sign.Minus f at) = multiple_of_form (negsuc 0) (form n f)
 form n (binary o f g at) = combined_forms o (has_name f) (form n f) (form n g)
 form n _ = form_of (zeros n) (pos 0)
 
+-- a coefficient up to 16 in absolute value
 abbrev pub is_small : ℤ → Bool
 is_small c = nat_le (unsigned_abs c) 16
 

@@ -14,6 +14,7 @@ use Rattle.scop_roles.specs.declared.formula.Formula.{Formula as CodeFormula}
 use Rattle.scop_roles.specs.declared.formula.Formula.TheFolds.{fold-Formula}
 use Rattle.scop_roles.specs.declared.formula.Formula.TheOpen.{Argument-F, Formula-F}
 
+-- a constant with its number, a name with its meaning, and what is made of them, each with the place of its token
 pub data Formula : Type 0 where
   constant : Suffix → ℕ → ℕ → Formula
   name : Meaning → ℕ → Formula
@@ -83,6 +84,7 @@ formula_step (Formula-F.Cast f at) = cast f.value at
 formula_step (Formula-F.Commas f gs g at) = binary op.Comma (fold with_argument f.value gs.items) g.value at
 formula_step (Formula-F.Binary o f g at) = binary o f.value g.value at
 
+-- one level of an argument, with its comma, over the view of the level below
 abbrev pub argument_step : Argument-F Formula (Formula × ℕ) → Formula × ℕ
 argument_step a = (a.value, a.comma)
 

@@ -1,4 +1,5 @@
--- What is known of a formula before its role is: what it is, and its first fault in each role.
+-- What is known of a formula before its role is: what it is, and its first fault in each role; only for the code's own
+-- steps.
 use Rattle.std.specs.Prelude.{◌≡◌, ℕ, zero, suc, ◌≢◌, Bool, true, false, if◌then◌else◌, ◌&&◌, not, Option, Some, None}
 use Rattle.std.specs.Prelude.{⊤}
 use Rattle.whole_numbers.specs.Affine.{Affine}
@@ -15,18 +16,20 @@ use Rattle.scop_roles.specs.declared.judgement.Joined.{Joined}
 use Rattle.scop_roles.specs.Formula.{Formula, name, index, binary, place}
 use Rattle.scop_roles.specs.Forms.{is_sum_or_product, is_signed, has_name, form}
 use Rattle.scop_roles.specs.Faults.{first, told, faults, place_faults, rank, is_plain_constant, is_count, or_else}
-use Rattle.scop_roles.specs.Faults.{only_where, own_affine, own_operator, own_free_operator, joins_condition}
+use Rattle.scop_roles.specs.Faults.{only_where, own_affine, own_operator, own_loose_operator, joins_condition}
 
 -- the first fault of a node: that of its parts, else its own
 abbrev pub part_or_own : Option Fault → ℕ → Option Kind → Option Fault
 part_or_own (Some f) at own = Some f
 part_or_own None at own = first (told at own)
 
+-- the first fault in a role
 abbrev pub in_role : Faults → Role → Option Fault
 in_role fs role.Affine = fs.affine
 in_role fs role.Signed = fs.signed
 in_role fs role.Value = fs.value
 in_role fs role.Condition = fs.condition
+in_role fs role.Loose = fs.loose
 in_role fs role.Free = fs.free
 
 -- one fewer, where there is one
@@ -40,6 +43,7 @@ lacking (name m at) = Some (rank m)
 lacking (index p i) = one_less (lacking p)
 lacking _ = Some 0
 
+-- a number is there, and it is 0
 abbrev pub is_zero : Option ℕ → Bool
 is_zero (Some zero) = true
 is_zero _ = false
@@ -54,7 +58,8 @@ own_joined a role.Value o s t c k =
     then (if s && t then or_else a (only_where c kind.SignedValue) else None)
     else own_operator o s t c k
 own_joined a role.Condition o s t c k = only_where (not (joins_condition o)) kind.Condition
-own_joined a role.Free o s t c k = own_free_operator o k
+own_joined a role.Loose o s t c k = own_loose_operator o k
+own_joined a role.Free o s t c k = if joins_condition o then Some kind.Condition else own_loose_operator o k
 
 -- the form that a formula is; none only of what is not affine
 abbrev pub IsFormOf : ℕ → Formula → Option Affine → Type 0
@@ -79,6 +84,7 @@ pub record IsJudgement (n : ℕ) (f : Formula) (j : Judgement) : Type 0 where
   pub summand : j.faults.signed ≡ first (faults n role.Signed f)
   pub value : j.faults.value ≡ first (faults n role.Value f)
   pub condition : j.faults.condition ≡ first (faults n role.Condition f)
+  pub loose : j.faults.loose ≡ first (faults n role.Loose f)
   pub free : j.faults.free ≡ first (faults n role.Free f)
   pub form : IsFormOf n f j.form
   pub limits : HasForm n j.form

@@ -25,11 +25,12 @@ place_of (node.Unary s at) = at
 place_of (node.Cast at) = at
 place_of (node.Binary o at) = at
 
--- the formula on top, and those below it; of an empty stack nothing is asked
+-- the formula on top; of an empty stack nothing is asked
 abbrev pub top : List Formula → Formula
 top [] = constant suffix.Absent 0 0
 top (f ∷ fs) = f
 
+-- the formulas below the top
 abbrev pub below : List Formula → List Formula
 below [] = []
 below (f ∷ fs) = fs

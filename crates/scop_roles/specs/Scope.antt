@@ -27,11 +27,12 @@ IsInScope ranks (unary s f at) = IsInScope ranks f
 IsInScope ranks (cast f at) = IsInScope ranks f
 IsInScope ranks (binary o f g at) = IsInScope ranks f × IsInScope ranks g
 
--- the name of a place is an array's
+-- the name is an array's
 abbrev pub IsArrayName : Meaning → Type 0
 IsArrayName (meaning.Array k r) = ⊤
 IsArrayName m = ⊥
 
+-- the name of a place is an array's
 abbrev pub IsArray : Formula → Type 0
 IsArray f = IsArrayName (meaning_of f)
 

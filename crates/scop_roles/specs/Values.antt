@@ -1,5 +1,5 @@
 -- What a formula without faults stands for: a value, or the comparisons of a condition.
-use Rattle.std.specs.Prelude.{ℕ, if◌then◌else◌, ℤ, pos, negsuc, List, [], ◌∷◌, ◌++◌}
+use Rattle.std.specs.Prelude.{◌≡◌, ℕ, if◌then◌else◌, ℤ, pos, negsuc, List, [], ◌∷◌, ◌++◌, None}
 use Rattle.whole_numbers.specs.Affine.{Affine, form_of, sum_of_forms, multiple_of_form}
 use Rattle.scop_syntax.specs.Tree.{Access, Operator, plus, minus, times, bits_and, bits_or, bits_xor, Expression, read}
 use Rattle.scop_syntax.specs.Tree.{affine, negated, complemented, shifted_left, shifted_right, Test, at_least, equal}
@@ -10,9 +10,12 @@ use Rattle.expression_grammar.specs.declared.token.Sign.{Sign}
 use Rattle.expression_grammar.specs.declared.token.Sign.TheVariants as sign
 use Rattle.scop_roles.specs.declared.formula.Meaning.{Meaning}
 use Rattle.scop_roles.specs.declared.formula.Meaning.TheVariants as meaning
+use Rattle.scop_roles.specs.declared.formula.Role.TheVariants as role
+use Rattle.scop_roles.specs.Faults.{first, faults}
 use Rattle.scop_roles.specs.Formula.{Formula, constant, name, index, unary, cast, binary, meaning_of, place}
 use Rattle.scop_roles.specs.Forms.{is_and, is_signed, form}
 
+-- the number of an array, in declared order from 0
 abbrev pub array_number : Meaning → ℕ
 array_number (meaning.Array k r) = k
 array_number _ = 0
@@ -26,6 +29,7 @@ subscript_forms n _ = []
 abbrev pub access : ℕ → Formula → Access
 access n p = record { array = array_number (meaning_of p); subscripts = subscript_forms n p }
 
+-- the operator of values that a binary operator is, but for shifts
 abbrev pub operator : Op → Operator
 operator op.Plus = plus
 operator op.Minus = minus
@@ -45,6 +49,7 @@ combined op.ShiftLeft e d k = shifted_left e k
 combined op.ShiftRight e d k = shifted_right e k
 combined o e d k = scop.binary (operator o) e d
 
+-- a sign over the value of its operand
 abbrev pub signed_value : Sign → Expression → Expression
 signed_value sign.Minus e = negated e
 signed_value s e = complemented e
@@ -63,6 +68,10 @@ expression n (binary o f g at) =
     else combined o (expression n f) (expression n g) (count g)
 expression n _ = scop.constant 0
 
+-- an expression is the value of a formula, if that has no fault as one
+abbrev pub IsValueOf : ℕ → Formula → Expression → Type 0
+IsValueOf n f e = first (faults n role.Value f) ≡ None → e ≡ expression n f
+
 -- f - g + k
 abbrev pub difference : Affine → Affine → ℤ → Affine
 difference f g k = sum_of_forms (sum_of_forms f (multiple_of_form (negsuc 0) g)) (form_of [] k)
@@ -74,6 +83,14 @@ comparison op.AtMost f g = at_least (difference g f (pos 0))
 comparison op.Greater f g = at_least (difference f g (negsuc 0))
 comparison op.AtLeast f g = at_least (difference f g (pos 0))
 comparison _ f g = equal (difference f g (pos 0))
+
+-- what is asked of the difference that an operator compares with 0
+abbrev pub asked : Op → Affine → Test
+asked op.Less f = at_least f
+asked op.AtMost f = at_least f
+asked op.Greater f = at_least f
+asked op.AtLeast f = at_least f
+asked _ f = equal f
 
 -- the comparisons that a condition joins, from left to right
 abbrev pub tests : ℕ → Formula → List Test

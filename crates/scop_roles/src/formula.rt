@@ -1,9 +1,10 @@
 //! Expressions without parentheses, each name looked up, each node with the place of its token.
-ghost use Rattle.std.specs.Prelude.{◌≡◌, ◌+◌, ◌==◌, ◌<◌, ◌^◌, ◌∷◌, IfOk, OnOk};
+ghost use Rattle.std.specs.Prelude.{◌≡◌, ◌+◌, ◌==◌, ◌<◌, ◌^◌, ◌∷◌, ℕ, IfOk, OnOk, map};
 ghost use Rattle.expression_grammar.specs.declared.token.Op.TheVariants as op;
 ghost use Rattle.std.specs.List.{fold};
 ghost use Rattle.expression_grammar.specs.Tree.{Tree, written};
-ghost use Rattle.scop_roles.specs.Formula.{Lookup, binary, formula, formula_of, index, meaning_of, place, subscripts};
+ghost use Rattle.scop_roles.specs.Formula.{Lookup, argument_of, bare_call, binary, call, cast, formula, formula_of};
+ghost use Rattle.scop_roles.specs.Formula.{index, meaning_of, place, subscripts, unary, with_argument};
 ghost use Rattle.scop_roles.specs.Resolving.{IsWritten, below, built, held, place_of, top};
 
 use expression_grammar::node::Node;
@@ -61,7 +62,10 @@ pub enum Role {
     Signed,
     Value,
     Condition,
-    /// Where nothing is asked of it: what it stands under is refused, or looks at it by itself.
+    /// Under `||` and `!` in a condition, and a loop's second part: comparisons may stand there, and nothing more is
+    /// asked.
+    Loose,
+    /// Where it has no role: what it stands under is refused, or looks at it by itself.
     Free,
 }
 
@@ -129,6 +133,48 @@ pub fn has_subscripts(formula: &Formula, count: usize) -> bool
     }
 }
 
+// Two formulas in boxes.
+fn boxed(
+    alloc: Global,
+    left: Formula,
+    right: Formula,
+) -> Result<(Box<Formula>, Box<Formula>), AllocError>
+    ensures left { IfOk result (λ boxes. boxes.0.value ≡ left) }
+    ensures right { IfOk result (λ boxes. boxes.1.value ≡ right) }
+{
+    let left = Box::new(alloc, left)?;
+    let right = Box::new(alloc, right)?;
+    Ok((left, right))
+}
+
+// A place with its first subscript.
+fn first_subscript(alloc: Global, place: Formula, subscript: Formula) -> Result<Formula, AllocError>
+    ensures { IfOk result (λ f. formula_of f ≡ index (formula_of place) (formula_of subscript)) }
+{
+    let (place, subscript) = boxed(alloc, place, subscript)?;
+    Ok(Formula::Index(place, Vec::new(alloc), subscript))
+}
+
+// A place with subscripts and one more, which becomes the last.
+fn next_subscript(
+    place: Box<Formula>,
+    earlier: Vec<Formula>,
+    last: Box<Formula>,
+    subscript: Formula,
+) -> Result<Formula, AllocError>
+    ensures { IfOk result (λ f. formula_of f
+        ≡ index (index (fold index (formula_of place.value) (map formula_of earlier.items)) (formula_of last.value))
+        (formula_of subscript)) }
+{
+    let mut earlier = earlier;
+    let mut last = last;
+    let before = mem::replace(&mut *last, subscript);
+    match earlier.push(before) {
+        Err(_) => Err(AllocError),
+        Ok(()) => Ok(Formula::Index(place, earlier, last)),
+    }
+}
+
 /// A place with a subscript more.
 pub fn with_subscript(
     alloc: Global,
@@ -138,18 +184,44 @@ pub fn with_subscript(
     ensures { IfOk result (λ f. formula_of f ≡ index (formula_of place) (formula_of subscript)) }
 {
     match place {
-        Formula::Index(inner, mut earlier, mut last) => {
-            let before = mem::replace(&mut *last, subscript);
-            match earlier.push(before) {
-                Err(_) => Err(AllocError),
-                Ok(()) => Ok(Formula::Index(inner, earlier, last)),
-            }
-        }
-        place => Ok(Formula::Index(
-            Box::new(alloc, place)?,
-            Vec::new(alloc),
-            Box::new(alloc, subscript)?,
-        )),
+        Formula::Index(inner, earlier, last) => next_subscript(inner, earlier, last, subscript),
+        place => first_subscript(alloc, place, subscript),
+    }
+}
+
+// Two arguments, with the comma between them at a place.
+fn first_argument(
+    alloc: Global,
+    first: Formula,
+    argument: Formula,
+    at: usize,
+) -> Result<Formula, AllocError>
+    ensures { IfOk result (λ f. formula_of f ≡ binary op.Comma (formula_of first) (formula_of argument) at) }
+{
+    let (first, argument) = boxed(alloc, first, argument)?;
+    Ok(Formula::Commas(first, Vec::new(alloc), argument, at))
+}
+
+// Arguments and one more behind a comma at a place, which becomes the last; `comma`: that of the last so far.
+fn next_argument(
+    first: Box<Formula>,
+    between: Vec<Argument>,
+    last: Box<Formula>,
+    comma: usize,
+    argument: Formula,
+    at: usize,
+) -> Result<Formula, AllocError>
+    ensures { IfOk result (λ f. formula_of f
+        ≡ binary op.Comma
+        (binary op.Comma (fold with_argument (formula_of first.value) (map argument_of between.items))
+        (formula_of last.value) comma) (formula_of argument) at) }
+{
+    let mut between = between;
+    let mut last = last;
+    let value = mem::replace(&mut *last, argument);
+    match between.push(Argument { value, comma }) {
+        Err(_) => Err(AllocError),
+        Ok(()) => Ok(Formula::Commas(first, between, last, at)),
     }
 }
 
@@ -163,19 +235,10 @@ fn with_argument(
     ensures { IfOk result (λ f. formula_of f ≡ binary op.Comma (formula_of arguments) (formula_of argument) at) }
 {
     match arguments {
-        Formula::Commas(first, mut between, mut last, comma) => {
-            let value = mem::replace(&mut *last, argument);
-            match between.push(Argument { value, comma }) {
-                Err(_) => Err(AllocError),
-                Ok(()) => Ok(Formula::Commas(first, between, last, at)),
-            }
+        Formula::Commas(first, between, last, comma) => {
+            next_argument(first, between, last, comma, argument, at)
         }
-        first => Ok(Formula::Commas(
-            Box::new(alloc, first)?,
-            Vec::new(alloc),
-            Box::new(alloc, argument)?,
-            at,
-        )),
+        first => first_argument(alloc, first, argument, at),
     }
 }
 
@@ -192,7 +255,8 @@ fn with_operator(
     if op == Op::Comma {
         return with_argument(alloc, left, right, at);
     }
-    Ok(Formula::Binary(op, Box::new(alloc, left)?, Box::new(alloc, right)?, at))
+    let (left, right) = boxed(alloc, left, right)?;
+    Ok(Formula::Binary(op, left, right, at))
 }
 
 // A formula on top of the stack.
@@ -216,6 +280,87 @@ fn pop(stack: &mut Vec<Formula>) -> Formula
     }
 }
 
+// The place on the stack with the subscript above it.
+fn join_index(alloc: Global, stack: &mut Vec<Formula>) -> Result<Formula, AllocError>
+    ensures { IfOk result (λ f. formula_of f ∷ held stack.new.items
+        ≡ index (top (below (held stack.old.items))) (top (held stack.old.items))
+        ∷ below (below (held stack.old.items))) }
+{
+    let subscript = pop(stack);
+    let place = pop(stack);
+    with_subscript(alloc, place, subscript)
+}
+
+// What the name on the stack means, and where it is told.
+fn pop_name(stack: &mut Vec<Formula>) -> (Meaning, usize)
+    ensures meaning { result.0 ≡ meaning_of (top (held stack.old.items)) }
+    ensures place { result.1 ≡ place (top (held stack.old.items)) }
+    ensures rest { held stack.new.items ≡ below (held stack.old.items) }
+{
+    let name = pop(stack);
+    (meaning_of(&name), place(&name))
+}
+
+// The call of the name on the stack, without arguments.
+fn join_bare_call(stack: &mut Vec<Formula>) -> Formula
+    ensures { formula_of result ∷ held stack.new.items
+        ≡ bare_call (meaning_of (top (held stack.old.items))) (place (top (held stack.old.items)))
+        ∷ below (held stack.old.items) }
+{
+    let (meaning, place) = pop_name(stack);
+    Formula::BareCall(meaning, place)
+}
+
+// The call of the name on the stack with the arguments above it.
+fn join_call(alloc: Global, stack: &mut Vec<Formula>) -> Result<Formula, AllocError>
+    ensures { IfOk result (λ f. formula_of f ∷ held stack.new.items
+        ≡ call (meaning_of (top (below (held stack.old.items)))) (top (held stack.old.items))
+        (place (top (below (held stack.old.items)))) ∷ below (below (held stack.old.items))) }
+{
+    let arguments = Box::new(alloc, pop(stack))?;
+    let (meaning, place) = pop_name(stack);
+    Ok(Formula::Call(meaning, arguments, place))
+}
+
+// The operand on the stack under a sign at a place.
+fn join_unary(
+    alloc: Global,
+    stack: &mut Vec<Formula>,
+    sign: Sign,
+    place: usize,
+) -> Result<Formula, AllocError>
+    ensures { IfOk result (λ f. formula_of f ∷ held stack.new.items
+        ≡ unary sign (top (held stack.old.items)) place ∷ below (held stack.old.items)) }
+{
+    let operand = Box::new(alloc, pop(stack))?;
+    Ok(Formula::Unary(sign, operand, place))
+}
+
+// The operand on the stack under a cast at a place.
+fn join_cast(alloc: Global, stack: &mut Vec<Formula>, place: usize) -> Result<Formula, AllocError>
+    ensures { IfOk result (λ f. formula_of f ∷ held stack.new.items
+        ≡ cast (top (held stack.old.items)) place ∷ below (held stack.old.items)) }
+{
+    let operand = Box::new(alloc, pop(stack))?;
+    Ok(Formula::Cast(operand, place))
+}
+
+// The two sides on the stack joined by an operator at a place.
+fn join_sides(
+    alloc: Global,
+    stack: &mut Vec<Formula>,
+    op: Op,
+    place: usize,
+) -> Result<Formula, AllocError>
+    ensures { IfOk result (λ f. formula_of f ∷ held stack.new.items
+        ≡ binary op (top (below (held stack.old.items))) (top (held stack.old.items)) place
+        ∷ below (below (held stack.old.items))) }
+{
+    let right = pop(stack);
+    let left = pop(stack);
+    with_operator(alloc, op, left, right, place)
+}
+
 // The formula of a node whose parts wait on the stack.
 fn joined<N: Names>(
     alloc: Global,
@@ -235,33 +380,12 @@ fn joined<N: Names>(
             first + at,
         )),
         Node::Name(at) => Ok(Formula::Name(names.meaning(first + at), first + at)),
-        Node::Index(_) => {
-            let subscript = pop(stack);
-            let inner = pop(stack);
-            with_subscript(alloc, inner, subscript)
-        }
-        Node::BareCall(_) => {
-            let name = pop(stack);
-            Ok(Formula::BareCall(meaning_of(&name), place(&name)))
-        }
-        Node::Call(_) => {
-            let arguments = pop(stack);
-            let name = pop(stack);
-            Ok(Formula::Call(meaning_of(&name), Box::new(alloc, arguments)?, place(&name)))
-        }
-        Node::Unary(sign, at) => {
-            let operand = pop(stack);
-            Ok(Formula::Unary(sign, Box::new(alloc, operand)?, first + at))
-        }
-        Node::Cast(at) => {
-            let operand = pop(stack);
-            Ok(Formula::Cast(Box::new(alloc, operand)?, first + at))
-        }
-        Node::Binary(op, at) => {
-            let right = pop(stack);
-            let left = pop(stack);
-            with_operator(alloc, op, left, right, first + at)
-        }
+        Node::Index(_) => join_index(alloc, stack),
+        Node::BareCall(_) => Ok(join_bare_call(stack)),
+        Node::Call(_) => join_call(alloc, stack),
+        Node::Unary(sign, at) => join_unary(alloc, stack, sign, first + at),
+        Node::Cast(at) => join_cast(alloc, stack, first + at),
+        Node::Binary(op, at) => join_sides(alloc, stack, op, first + at),
     }
 }
 

@@ -7,8 +7,7 @@ ghost use Rattle.whole_numbers.specs.Affine.{Affine};
 ghost use Rattle.scop_syntax.specs.Kernel.{IsAffine};
 ghost use Rattle.scop_roles.specs.declared.formula.Role.TheVariants as role;
 ghost use Rattle.scop_roles.specs.declared.fault.Kind.TheVariants as kind;
-ghost use Rattle.scop_roles.specs.Faults.{called, faults, first, first_of, is_count, is_plain_constant, place_faults};
-ghost use Rattle.scop_roles.specs.Faults.{told};
+ghost use Rattle.scop_roles.specs.Faults.{called, faults, first, first_of, place_faults, told};
 ghost use Rattle.scop_roles.specs.Forms.{combined_forms, form, is_product, is_signed, is_sum_or_product, is_within};
 ghost use Rattle.scop_roles.specs.Formula.{Formula as Tree, argument_of, bare_call, binary, call, cast, constant};
 ghost use Rattle.scop_roles.specs.Formula.{formula_of, index, name, unary, with_argument};
@@ -19,21 +18,22 @@ use crate::fault::{Fault, Kind, first_of, part_or_own, told};
 use crate::forms::{constant_form, is_within, multiple, sum, variable_form};
 use crate::formula::{Argument, Formula, Meaning, Role};
 use crate::roles::{
-    MOST_CONSTANT, called, cast_role, is_number, is_product, is_sum_or_product, named,
-    operand_role, own_call, own_cast, own_constant, own_index, own_joined, own_name, own_unary,
-    rank, side_role,
+    MOST_CONSTANT, called, cast_role, is_between, is_number, is_plain, is_product,
+    is_sum_or_product, named, operand_role, own_call, own_cast, own_constant, own_index,
+    own_joined, own_name, own_unary, rank, side_role,
 };
 use expression_grammar::token::{Op, Sign, Suffix};
 use scop_syntax::tree::Aff;
 use std::alloc::{AllocError, Global};
 
 // The first fault in each role.
-#[derive(Debug, Clone, Copy)]
+#[derive(Clone, Copy)]
 struct Faults {
     affine: Option<Fault>,
     signed: Option<Fault>,
     value: Option<Fault>,
     condition: Option<Fault>,
+    loose: Option<Fault>,
     free: Option<Fault>,
 }
 
@@ -46,13 +46,14 @@ impl Faults {
             Role::Signed => self.signed,
             Role::Value => self.value,
             Role::Condition => self.condition,
+            Role::Loose => self.loose,
             Role::Free => self.free,
         }
     }
 }
 
 // What is known of a formula before its role is.
-#[derive(Debug, Drop)]
+#[derive(Drop)]
 struct Judgement {
     place: usize,
     signed: bool,
@@ -71,7 +72,7 @@ struct Judgement {
 }
 
 // The form that an operator makes of two, or what is wrong with it as an affine one.
-#[derive(Debug, Drop)]
+#[derive(Drop)]
 struct Joined {
     form: Option<Aff>,
     own: Option<Kind>,
@@ -92,26 +93,6 @@ fn one_less(number: Option<usize>) -> Option<usize>
     match number {
         None => None,
         Some(number) => { if number == 0 { None } else { Some(number - 1) } }
-    }
-}
-
-// Whether a constant has no suffix.
-pub(crate) fn is_plain(suffix: Suffix) -> bool
-    ensures { (v at : ℕ) → result ≡ is_plain_constant (constant suffix v at) }
-{
-    match suffix {
-        Suffix::Absent => true,
-        Suffix::Present => false,
-    }
-}
-
-// Whether a constant has no suffix and lies from the one number up to the other.
-pub(crate) fn is_between(suffix: Suffix, value: u64, low: u64, high: u64) -> bool
-    ensures { (at : ℕ) → result ≡ is_count low high (constant suffix value at) }
-{
-    match suffix {
-        Suffix::Absent => low <= value && value <= high,
-        Suffix::Present => false,
     }
 }
 
@@ -171,6 +152,7 @@ fn of_constant(
             signed: constant_fault(Role::Signed, suffix, value, at),
             value: constant_fault(Role::Value, suffix, value, at),
             condition: constant_fault(Role::Condition, suffix, value, at),
+            loose: constant_fault(Role::Loose, suffix, value, at),
             free: constant_fault(Role::Free, suffix, value, at),
         },
         form,
@@ -223,6 +205,7 @@ fn of_name(
             signed: name_fault(Role::Signed, meaning, at),
             value: name_fault(Role::Value, meaning, at),
             condition: name_fault(Role::Condition, meaning, at),
+            loose: name_fault(Role::Loose, meaning, at),
             free: name_fault(Role::Free, meaning, at),
         },
         form,
@@ -256,6 +239,7 @@ fn of_index(place: &Judgement, subscript: &Judgement) -> Judgement
             signed: index_fault(Role::Signed, place, subscript),
             value: index_fault(Role::Value, place, subscript),
             condition: index_fault(Role::Condition, place, subscript),
+            loose: index_fault(Role::Loose, place, subscript),
             free: index_fault(Role::Free, place, subscript),
         },
         form: None,
@@ -282,6 +266,7 @@ fn of_call(part: Option<Fault>, at: usize) -> Judgement
             signed: part_or_own(part, at, own_call(Role::Signed)),
             value: part_or_own(part, at, own_call(Role::Value)),
             condition: part_or_own(part, at, own_call(Role::Condition)),
+            loose: part_or_own(part, at, own_call(Role::Loose)),
             free: part_or_own(part, at, own_call(Role::Free)),
         },
         form: None,
@@ -360,6 +345,7 @@ fn of_unary(
             signed: unary_fault(Role::Signed, sign, operand, at),
             value: unary_fault(Role::Value, sign, operand, at),
             condition: unary_fault(Role::Condition, sign, operand, at),
+            loose: unary_fault(Role::Loose, sign, operand, at),
             free: unary_fault(Role::Free, sign, operand, at),
         },
         form,
@@ -390,6 +376,7 @@ fn of_cast(operand: &Judgement, at: usize) -> Judgement
             signed: cast_fault(Role::Signed, operand, at),
             value: cast_fault(Role::Value, operand, at),
             condition: cast_fault(Role::Condition, operand, at),
+            loose: cast_fault(Role::Loose, operand, at),
             free: cast_fault(Role::Free, operand, at),
         },
         form: None,
@@ -577,10 +564,26 @@ fn of_binary(
             signed: binary_fault(Role::Signed, op, left, right, joined.own, at),
             value: binary_fault(Role::Value, op, left, right, joined.own, at),
             condition: binary_fault(Role::Condition, op, left, right, joined.own, at),
+            loose: binary_fault(Role::Loose, op, left, right, joined.own, at),
             free: binary_fault(Role::Free, op, left, right, joined.own, at),
         },
         form: joined.form,
     })
+}
+
+// Judges a subscript, and the place with it.
+#[cycle(judging)]
+fn judge_subscript(
+    alloc: Global,
+    place: &Judgement,
+    subscript: &Formula,
+    entries: usize,
+) -> Result<Judgement, AllocError>
+    ensures { IfOk result (λ j. (p : Tree) → IsJudgement entries p place.now
+        → IsJudgement entries (index p (formula_of subscript.now)) j) }
+{
+    let subscript = judge(alloc, subscript, entries)?;
+    Ok(of_index(place, &subscript))
 }
 
 // Judges a place with these subscripts more.
@@ -596,13 +599,73 @@ fn judge_subscripts(
 {
     let mut place = place;
     for subscript in subscripts {
-        let subscript = match judge(alloc, subscript, entries) {
-            Err(_) => return Err(AllocError),
-            Ok(subscript) => subscript,
-        };
-        place = of_index(&place, &subscript);
+        place = judge_subscript(alloc, &place, subscript, entries)?;
     }
     Ok(place)
+}
+
+// Judges the arguments of a call, and the call.
+#[cycle(judging)]
+fn judge_call(
+    alloc: Global,
+    meaning: Meaning,
+    arguments: &Formula,
+    at: usize,
+    entries: usize,
+) -> Result<Judgement, AllocError>
+    ensures { IfOk result (IsJudgement entries (call meaning (formula_of arguments.now) at)) }
+{
+    let arguments = judge(alloc, arguments, entries)?;
+    let part = first_of(told(at, called(meaning)), arguments.faults.free);
+    Ok(of_call(part, at))
+}
+
+// Judges the operand of a sign, and both.
+#[cycle(judging)]
+fn judge_unary(
+    alloc: Global,
+    sign: Sign,
+    operand: &Formula,
+    at: usize,
+    entries: usize,
+) -> Result<Judgement, AllocError>
+    ensures { IfOk result (IsJudgement entries (unary sign (formula_of operand.now) at)) }
+{
+    let operand = judge(alloc, operand, entries)?;
+    of_unary(alloc, sign, &operand, at, entries)
+}
+
+// Judges the operand of a cast, and both.
+#[cycle(judging)]
+fn judge_cast(
+    alloc: Global,
+    operand: &Formula,
+    at: usize,
+    entries: usize,
+) -> Result<Judgement, AllocError>
+    ensures { IfOk result (IsJudgement entries (cast (formula_of operand.now) at)) }
+{
+    let operand = judge(alloc, operand, entries)?;
+    Ok(of_cast(&operand, at))
+}
+
+// Judges the right side of an operator, and both sides with it.
+#[cycle(judging)]
+fn judge_right(
+    alloc: Global,
+    op: Op,
+    left: &Judgement,
+    right: &Formula,
+    at: usize,
+    entries: usize,
+) -> Result<Judgement, AllocError>
+    requires { HasForm entries left.now.form }
+    ensures judged { IfOk result (λ j. (f : Tree) → IsJudgement entries f left.now
+        → IsJudgement entries (binary op f (formula_of right.now) at) j) }
+    ensures limits { IfOk result (λ j. HasForm entries j.form) }
+{
+    let right = judge(alloc, right, entries)?;
+    of_binary(alloc, op, left, &right, at, entries)
 }
 
 // Judges arguments with these more.
@@ -620,14 +683,14 @@ fn judge_arguments(
 {
     let mut arguments = first;
     for other in others {
-        let value = match judge(alloc, &other.value, entries) {
-            Err(_) => return Err(AllocError),
-            Ok(value) => value,
-        };
-        arguments = match of_binary(alloc, Op::Comma, &arguments, &value, other.comma, entries) {
-            Err(_) => return Err(AllocError),
-            Ok(arguments) => arguments,
-        };
+        arguments = judge_right(
+            alloc,
+            Op::Comma,
+            &arguments,
+            &other.value,
+            other.comma,
+            entries,
+        )?;
     }
     Ok(arguments)
 }
@@ -643,33 +706,22 @@ fn judge(alloc: Global, formula: &Formula, entries: usize) -> Result<Judgement, 
         Formula::Index(place, earlier, last) => {
             let place = judge(alloc, place, entries)?;
             let place = judge_subscripts(alloc, place, earlier, entries)?;
-            let last = judge(alloc, last, entries)?;
-            Ok(of_index(&place, &last))
+            judge_subscript(alloc, &place, last, entries)
         }
         Formula::BareCall(meaning, at) => Ok(of_call(told(*at, called(*meaning)), *at)),
-        Formula::Call(meaning, arguments, at) => {
-            let arguments = judge(alloc, arguments, entries)?;
-            let part = first_of(told(*at, called(*meaning)), arguments.faults.free);
-            Ok(of_call(part, *at))
-        }
-        Formula::Unary(sign, operand, at) => {
-            let operand = judge(alloc, operand, entries)?;
-            of_unary(alloc, *sign, &operand, *at, entries)
-        }
-        Formula::Cast(operand, at) => {
-            let operand = judge(alloc, operand, entries)?;
-            Ok(of_cast(&operand, *at))
-        }
+        Formula::Call(meaning, arguments, at) => judge_call(
+            alloc, *meaning, arguments, *at, entries,
+        ),
+        Formula::Unary(sign, operand, at) => judge_unary(alloc, *sign, operand, *at, entries),
+        Formula::Cast(operand, at) => judge_cast(alloc, operand, *at, entries),
         Formula::Commas(first, between, last, at) => {
             let first = judge(alloc, first, entries)?;
             let left = judge_arguments(alloc, first, between, entries)?;
-            let last = judge(alloc, last, entries)?;
-            of_binary(alloc, Op::Comma, &left, &last, *at, entries)
+            judge_right(alloc, Op::Comma, &left, last, *at, entries)
         }
         Formula::Binary(op, left, right, at) => {
             let left = judge(alloc, left, entries)?;
-            let right = judge(alloc, right, entries)?;
-            of_binary(alloc, *op, &left, &right, *at, entries)
+            judge_right(alloc, *op, &left, right, *at, entries)
         }
     }
 }

@@ -9,6 +9,4 @@ pub mod formula;
 pub mod judgement;
 pub mod laws;
 pub mod roles;
-#[cfg(test)]
-mod tests;
 pub mod values;

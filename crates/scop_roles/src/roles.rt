@@ -1,7 +1,8 @@
 //! The role of each part of a formula, and what is wrong with a node whose parts have no fault.
 ghost use Rattle.std.specs.Prelude.{◌≡◌, ℕ, ◌+◌, ◌==◌};
-ghost use Rattle.scop_roles.specs.Faults.{called, cast_role, joins_condition, named, operand_role, only_where, or_else};
-ghost use Rattle.scop_roles.specs.Faults.{other_role, own, own_free_operator, own_operator, rank, side_role, term_role};
+ghost use Rattle.scop_roles.specs.Faults.{called, cast_role, is_count, is_plain_constant, joins_condition, named};
+ghost use Rattle.scop_roles.specs.Faults.{operand_role, only_where, or_else, other_role, own, own_loose_operator};
+ghost use Rattle.scop_roles.specs.Faults.{own_operator, rank, side_role, term_role};
 ghost use Rattle.scop_roles.specs.Formula.{Formula as Tree, bare_call, call, cast, constant, index, meaning_of, name};
 ghost use Rattle.scop_roles.specs.Formula.{subscripts, unary};
 ghost use Rattle.scop_roles.specs.Forms.{is_and, is_comparison, is_minus, is_number, is_product, is_shift, is_signed};
@@ -14,9 +15,10 @@ use crate::fault::{Kind, only_where};
 use crate::formula::{Meaning, Role};
 use expression_grammar::token::{Op, Sign, Suffix};
 
-/// The largest constant of an affine form, and the largest coefficient.
+/// The largest constant of an affine form, in absolute value.
 pub const MOST_CONSTANT: u64 = 1 << 20;
 
+/// The largest coefficient, in absolute value.
 pub const MOST_COEFFICIENT: u64 = 16;
 
 // + - *
@@ -81,6 +83,26 @@ fn joins_condition(op: Op) -> bool
     is_and(op) || is_comparison(op)
 }
 
+// Whether a constant has no suffix.
+pub(crate) fn is_plain(suffix: Suffix) -> bool
+    ensures { (v at : ℕ) → result ≡ is_plain_constant (constant suffix v at) }
+{
+    match suffix {
+        Suffix::Absent => true,
+        Suffix::Present => false,
+    }
+}
+
+// Whether a constant has no suffix and lies from the one number up to the other.
+pub(crate) fn is_between(suffix: Suffix, value: u64, low: u64, high: u64) -> bool
+    ensures { (at : ℕ) → result ≡ is_count low high (constant suffix value at) }
+{
+    match suffix {
+        Suffix::Absent => low <= value && value <= high,
+        Suffix::Present => false,
+    }
+}
+
 // Whether a name is a parameter or an iterator.
 pub(crate) fn is_number(meaning: Meaning) -> bool
     ensures { result ≡ is_number meaning }
@@ -131,6 +153,7 @@ pub(crate) fn operand_role(sign: Sign, signed: bool, role: Role) -> Role
         (Sign::Minus, Role::Signed) => Role::Signed,
         (Sign::Minus, Role::Value) => { if signed { Role::Signed } else { Role::Value } }
         (_, Role::Value) => Role::Value,
+        (Sign::Not, Role::Condition | Role::Loose) => Role::Loose,
         _ => Role::Free,
     }
 }
@@ -152,16 +175,19 @@ fn term_role(signed: bool, role: Role) -> Role
         Role::Affine => Role::Affine,
         Role::Signed => Role::Signed,
         Role::Value => { if signed { Role::Signed } else { Role::Value } }
-        Role::Condition | Role::Free => Role::Free,
+        Role::Condition | Role::Loose | Role::Free => Role::Free,
     }
 }
 
-// The role of the sides of the other operators that are no comparisons.
+// The role of the sides of the other operators that are no comparisons; those of `!=` have none.
 fn other_role(op: Op, role: Role) -> Role
     ensures { result ≡ other_role op role }
 {
     match (op, role) {
+        (Op::NotEqual, _) => Role::Free,
         (Op::LogicalAnd, Role::Condition) => Role::Condition,
+        (Op::LogicalAnd, Role::Loose) => Role::Loose,
+        (Op::LogicalOr, Role::Condition | Role::Loose) => Role::Loose,
         (_, Role::Value) => Role::Value,
         _ => Role::Free,
     }
@@ -189,7 +215,7 @@ pub(crate) fn own_constant(role: Role, suffix: Suffix, value: u64) -> Option<Kin
             only_where(MOST_CONSTANT < value, Kind::Coefficient)
         }
         (Role::Condition, _) => Some(Kind::Condition),
-        (Role::Value | Role::Free, _) => None,
+        (Role::Value | Role::Loose | Role::Free, _) => None,
     }
 }
 
@@ -202,7 +228,7 @@ pub(crate) fn own_name(role: Role, meaning: Meaning) -> Option<Kind>
             Meaning::Unknown | Meaning::Closed | Meaning::Variable(_) => None,
         },
         Role::Condition => Some(Kind::Condition),
-        Role::Value | Role::Free => only_where(rank(meaning) != 0, Kind::Rank),
+        Role::Value | Role::Loose | Role::Free => only_where(rank(meaning) != 0, Kind::Rank),
     }
 }
 
@@ -214,7 +240,7 @@ pub(crate) fn own_index(role: Role, ranked: bool) -> Option<Kind>
     match role {
         Role::Affine | Role::Signed => Some(Kind::NotAffine),
         Role::Condition => Some(Kind::Condition),
-        Role::Value | Role::Free => only_where(!ranked, Kind::Rank),
+        Role::Value | Role::Loose | Role::Free => only_where(!ranked, Kind::Rank),
     }
 }
 
@@ -225,7 +251,7 @@ pub(crate) fn own_call(role: Role) -> Option<Kind>
     match role {
         Role::Affine | Role::Signed => Some(Kind::NotAffine),
         Role::Condition => Some(Kind::Condition),
-        Role::Value | Role::Free => Some(Kind::Call),
+        Role::Value | Role::Loose | Role::Free => Some(Kind::Call),
     }
 }
 
@@ -238,7 +264,7 @@ pub(crate) fn own_unary(role: Role, sign: Sign, signed: bool) -> Option<Kind>
         (Role::Affine | Role::Signed, _) => Some(Kind::NotAffine),
         (_, Sign::Not) => Some(Kind::Condition),
         (Role::Value, Sign::Complement) => only_where(signed, Kind::SignedValue),
-        (Role::Free, Sign::Complement) => None,
+        (Role::Loose | Role::Free, Sign::Complement) => None,
     }
 }
 
@@ -248,7 +274,7 @@ pub(crate) fn own_cast(role: Role) -> Option<Kind>
     match role {
         Role::Affine | Role::Signed => Some(Kind::NotAffine),
         Role::Condition => Some(Kind::Condition),
-        Role::Value | Role::Free => None,
+        Role::Value | Role::Loose | Role::Free => None,
     }
 }
 
@@ -277,8 +303,8 @@ fn own_operator(op: Op, left: bool, right: bool, constants: bool, count: bool) -
     }
 }
 
-fn own_free_operator(op: Op, count: bool) -> Option<Kind>
-    ensures { result ≡ own_free_operator op count }
+fn own_loose_operator(op: Op, count: bool) -> Option<Kind>
+    ensures { result ≡ own_loose_operator op count }
 {
     match op {
         Op::Divide | Op::Remainder => Some(Kind::Division),
@@ -323,6 +349,13 @@ pub(crate) fn own_joined(
             }
         }
         Role::Condition => only_where(!joins_condition(op), Kind::Condition),
-        Role::Free => own_free_operator(op, count),
+        Role::Loose => own_loose_operator(op, count),
+        Role::Free => {
+            if joins_condition(op) {
+                Some(Kind::Condition)
+            } else {
+                own_loose_operator(op, count)
+            }
+        }
     }
 }

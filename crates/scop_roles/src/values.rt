@@ -3,20 +3,23 @@ ghost use Rattle.std.specs.Prelude.{[], ◌++◌, ◌∷◌, ◌≡◌, ◌≤�
 ghost use Rattle.std.specs.List.{fold};
 ghost use Rattle.whole_numbers.specs.Affine.{Affine};
 ghost use Rattle.scop_syntax.specs.Kernel.{IsAffine};
-ghost use Rattle.scop_syntax.specs.Tree.{Expression, affine};
+ghost use Rattle.scop_syntax.specs.Tree.{Expression, affine, read};
 ghost use Rattle.scop_syntax.specs.View.{expression_of, operator_of, test_of};
 ghost use Rattle.scop_roles.specs.declared.formula.Role.TheVariants as role;
 ghost use Rattle.scop_roles.specs.Faults.{faults, first, is_count, place_faults};
-ghost use Rattle.scop_roles.specs.Formula.{Formula as Tree, argument_of, constant, formula_of, index, name};
-ghost use Rattle.scop_roles.specs.Formula.{with_argument};
-ghost use Rattle.scop_roles.specs.Forms.{form, is_shift, is_signed};
-ghost use Rattle.scop_roles.specs.Values.{access, array_number, combined, comparison, count, difference, expression};
-ghost use Rattle.scop_roles.specs.Values.{operator, read_places, signed_value, subscript_forms, tests};
+ghost use Rattle.scop_roles.specs.Formula.{Formula as Tree, argument_of, binary, cast, constant, formula_of, index};
+ghost use Rattle.scop_roles.specs.Formula.{name, unary, with_argument};
+ghost use Rattle.scop_roles.specs.Forms.{form, is_and, is_shift, is_signed};
+ghost use Rattle.scop_roles.specs.Values.{IsValueOf, access, array_number, asked, combined, comparison, count};
+ghost use Rattle.scop_roles.specs.Values.{difference, expression, operator, read_places, signed_value, subscript_forms};
+ghost use Rattle.scop_roles.specs.Values.{tests};
 
 use crate::forms::{constant_form, multiple, plus_constant, sum, variable_form};
 use crate::formula::{Argument, Formula, Meaning, meaning_of, place};
-use crate::judgement::{affine_form, is_between, is_plain};
-use crate::roles::{is_and, is_minus, is_number, is_shift, is_sum_or_product};
+use crate::judgement::affine_form;
+use crate::roles::{
+    is_and, is_between, is_minus, is_number, is_plain, is_shift, is_sum_or_product,
+};
 use expression_grammar::token::{Op, Sign, Suffix};
 use scop_syntax::tree::{Access, Aff, Expr, Operator, Test};
 use std::alloc::{AllocError, Global};
@@ -226,16 +229,33 @@ fn constant_count(suffix: Suffix, value: u64) -> u8
     }
 }
 
+// The form of a name that stands for a number, else of 0.
+fn name_form(alloc: Global, meaning: Meaning, entries: usize) -> Result<Aff, AllocError>
+    ensures { IfOk result (λ f. (at : ℕ) → f ≡ form entries (name meaning at)) }
+{
+    match meaning {
+        Meaning::Variable(variable) => variable_form(alloc, entries, variable),
+        Meaning::Unknown | Meaning::Closed | Meaning::Array(_, _) => constant_form(
+            alloc, entries, 0,
+        ),
+    }
+}
+
 // The value of a name.
 fn name_value(alloc: Global, meaning: Meaning, entries: usize) -> Result<Expr, AllocError>
     ensures { IfOk result (λ e. (at : ℕ) → expression_of e ≡ affine (form entries (name meaning at))) }
 {
-    match meaning {
-        Meaning::Variable(variable) => Ok(Expr::Affine(variable_form(alloc, entries, variable)?)),
-        Meaning::Unknown => Ok(Expr::Affine(constant_form(alloc, entries, 0)?)),
-        Meaning::Closed => Ok(Expr::Affine(constant_form(alloc, entries, 0)?)),
-        Meaning::Array(_, _) => Ok(Expr::Affine(constant_form(alloc, entries, 0)?)),
-    }
+    let form = name_form(alloc, meaning, entries)?;
+    Ok(Expr::Affine(form))
+}
+
+// The value of a place: that of its cell.
+fn place_value(alloc: Global, place: &Formula, entries: usize) -> Result<Expr, AllocError>
+    ensures { IfOk result (λ e. first (place_faults entries (formula_of place.now)) ≡ None
+        → expression_of e ≡ read (access entries (formula_of place.now))) }
+{
+    let access = cell(alloc, place, entries)?;
+    Ok(Expr::Read(access))
 }
 
 // A value that is a signed part.
@@ -243,10 +263,8 @@ fn signed_part(alloc: Global, formula: &Formula, entries: usize) -> Result<Expr,
     ensures { IfOk result (λ e. first (faults entries role.Affine (formula_of formula.now)) ≡ None
         → expression_of e ≡ affine (form entries (formula_of formula.now))) }
 {
-    match form_or_zero(alloc, formula, entries) {
-        Err(_) => Err(AllocError),
-        Ok(form) => Ok(Expr::Affine(form)),
-    }
+    let form = form_or_zero(alloc, formula, entries)?;
+    Ok(Expr::Affine(form))
 }
 
 // A shifted value.
@@ -254,9 +272,10 @@ fn shifted(alloc: Global, op: Op, value: Expr, count: u8) -> Result<Expr, AllocE
     requires { is_shift op ≡ true }
     ensures { IfOk result (λ e. (d : Expression) → expression_of e ≡ combined op (expression_of value) d count) }
 {
+    let value = Box::new(alloc, value)?;
     match op {
-        Op::ShiftLeft => Ok(Expr::ShiftedLeft(Box::new(alloc, value)?, count)),
-        Op::ShiftRight => Ok(Expr::ShiftedRight(Box::new(alloc, value)?, count)),
+        Op::ShiftLeft => Ok(Expr::ShiftedLeft(value, count)),
+        Op::ShiftRight => Ok(Expr::ShiftedRight(value, count)),
         _ => unreachable!(),
     }
 }
@@ -265,10 +284,10 @@ fn shifted(alloc: Global, op: Op, value: Expr, count: u8) -> Result<Expr, AllocE
 fn signed_value(alloc: Global, sign: Sign, value: Expr) -> Result<Expr, AllocError>
     ensures { IfOk result (λ e. expression_of e ≡ signed_value sign (expression_of value)) }
 {
+    let value = Box::new(alloc, value)?;
     match sign {
-        Sign::Minus => Ok(Expr::Negated(Box::new(alloc, value)?)),
-        Sign::Complement => Ok(Expr::Complemented(Box::new(alloc, value)?)),
-        Sign::Not => Ok(Expr::Complemented(Box::new(alloc, value)?)),
+        Sign::Minus => Ok(Expr::Negated(value)),
+        Sign::Complement | Sign::Not => Ok(Expr::Complemented(value)),
     }
 }
 
@@ -278,82 +297,104 @@ fn joined(alloc: Global, op: Op, left: Expr, right: Expr) -> Result<Expr, AllocE
     ensures { IfOk result (λ e. (k : ℕ) → expression_of e
         ≡ combined op (expression_of left) (expression_of right) k) }
 {
-    Ok(Expr::Binary(
-        operator(op),
-        Box::new(alloc, left)?,
-        Box::new(alloc, right)?,
-    ))
+    let left = Box::new(alloc, left)?;
+    let right = Box::new(alloc, right)?;
+    Ok(Expr::Binary(operator(op), left, right))
 }
 
-// The value of arguments with these more, if they have no fault as one.
+// The value of both sides of an operator, from that of the left one, where they are no signed part. The right one
+// stands in front of it, since it is what falls.
 #[cycle(valuing)]
-fn with_values(
+fn sides_value(
     alloc: Global,
-    others: &[Argument],
+    right: &Formula,
+    op: Op,
     left: Expr,
     entries: usize,
 ) -> Result<Expr, AllocError>
-    ensures { IfOk result (λ e. (f : Tree)
-        → (first (faults entries role.Value f) ≡ None → expression_of left ≡ expression entries f)
-        → first (faults entries role.Value (fold with_argument f (map argument_of others.now))) ≡ None
-        → expression_of e ≡ expression entries (fold with_argument f (map argument_of others.now))) }
+    ensures { IfOk result (λ e. (f : Tree) (at : ℕ) → is_signed (binary op f (formula_of right.now) at) ≡ false
+        → IsValueOf entries f (expression_of left)
+        → IsValueOf entries (binary op f (formula_of right.now) at) (expression_of e)) }
 {
-    let mut left = left;
+    if is_shift(op) {
+        return shifted(alloc, op, left, count(right));
+    }
+    let right = value(alloc, right, entries)?;
+    joined(alloc, op, left, right)
+}
+
+// The value of arguments with these more.
+#[cycle(valuing)]
+fn arguments_value(
+    alloc: Global,
+    others: &[Argument],
+    first: Expr,
+    entries: usize,
+) -> Result<Expr, AllocError>
+    ensures { IfOk result (λ e. (f : Tree) → IsValueOf entries f (expression_of first)
+        → IsValueOf entries (fold with_argument f (map argument_of others.now)) (expression_of e)) }
+{
+    let mut left = first;
     for other in others {
-        let right = match value(alloc, &other.value, entries) {
-            Err(_) => return Err(AllocError),
-            Ok(right) => right,
-        };
-        left = match joined(alloc, Op::Comma, left, right) {
-            Err(_) => return Err(AllocError),
-            Ok(both) => both,
-        };
+        left = sides_value(alloc, &other.value, Op::Comma, left, entries)?;
     }
     Ok(left)
+}
+
+// The value of an operand under a sign, where both are no signed part.
+#[cycle(valuing)]
+fn unary_value(
+    alloc: Global,
+    sign: Sign,
+    operand: &Formula,
+    entries: usize,
+) -> Result<Expr, AllocError>
+    ensures { IfOk result (λ e. (at : ℕ) → is_signed (unary sign (formula_of operand.now) at) ≡ false
+        → IsValueOf entries (unary sign (formula_of operand.now) at) (expression_of e)) }
+{
+    let operand = value(alloc, operand, entries)?;
+    signed_value(alloc, sign, operand)
+}
+
+// The value of an operand under a cast.
+#[cycle(valuing)]
+fn cast_value(alloc: Global, operand: &Formula, entries: usize) -> Result<Expr, AllocError>
+    ensures { IfOk result (λ e. (at : ℕ) → IsValueOf entries (cast (formula_of operand.now) at) (expression_of e)) }
+{
+    let operand = value(alloc, operand, entries)?;
+    let operand = Box::new(alloc, operand)?;
+    Ok(Expr::Cast(operand))
 }
 
 // The value of a formula, if it has no fault as one.
 #[cycle(valuing)]
 fn value(alloc: Global, formula: &Formula, entries: usize) -> Result<Expr, AllocError>
-    ensures { IfOk result (λ e. first (faults entries role.Value (formula_of formula.now)) ≡ None
-        → expression_of e ≡ expression entries (formula_of formula.now)) }
+    ensures { IfOk result (λ e. IsValueOf entries (formula_of formula.now) (expression_of e)) }
 {
     match formula {
         Formula::Constant(_, value, _) => Ok(Expr::Constant(*value)),
         Formula::Name(meaning, _) => name_value(alloc, *meaning, entries),
-        Formula::Index(_, _, _) => match cell(alloc, formula, entries) {
-            Err(_) => Err(AllocError),
-            Ok(access) => Ok(Expr::Read(access)),
-        },
+        Formula::Index(_, _, _) => place_value(alloc, formula, entries),
         Formula::BareCall(_, _) => Ok(Expr::Constant(0)),
         Formula::Call(_, _, _) => Ok(Expr::Constant(0)),
         Formula::Unary(sign, operand, _) => {
             if is_signed(formula) {
                 return signed_part(alloc, formula, entries);
             }
-            let inner = value(alloc, operand, entries)?;
-            signed_value(alloc, *sign, inner)
+            unary_value(alloc, *sign, operand, entries)
         }
-        Formula::Cast(operand, _) => {
-            let inner = value(alloc, operand, entries)?;
-            Ok(Expr::Cast(Box::new(alloc, inner)?))
-        }
-        Formula::Commas(left, between, right, _) => {
-            let first = value(alloc, left, entries)?;
-            let first = with_values(alloc, between, first, entries)?;
-            let second = value(alloc, right, entries)?;
-            joined(alloc, Op::Comma, first, second)
+        Formula::Cast(operand, _) => cast_value(alloc, operand, entries),
+        Formula::Commas(first, between, last, _) => {
+            let first = value(alloc, first, entries)?;
+            let left = arguments_value(alloc, between, first, entries)?;
+            sides_value(alloc, last, Op::Comma, left, entries)
         }
         Formula::Binary(op, left, right, _) => {
             if is_signed(formula) {
                 return signed_part(alloc, formula, entries);
             }
-            let first = value(alloc, left, entries)?;
-            if is_shift(*op) {
-                return shifted(alloc, *op, first, count(right));
-            }
-            let second = value(alloc, right, entries)?;
-            joined(alloc, *op, first, second)
+            let left = value(alloc, left, entries)?;
+            sides_value(alloc, right, *op, left, entries)
         }
     }
 }
@@ -388,6 +429,36 @@ fn difference(
     }
 }
 
+// The difference of two sides that an operator compares with 0.
+fn compared(
+    alloc: Global,
+    op: Op,
+    left: &Aff,
+    right: &Aff,
+    entries: usize,
+) -> Result<Aff, AllocError>
+    requires left { IsAffine entries left.now }
+    requires right { IsAffine entries right.now }
+    ensures { IfOk result (λ f. asked op f ≡ comparison op left.now right.now) }
+{
+    match op {
+        Op::Less => difference(alloc, right, left, -1, entries),
+        Op::AtMost => difference(alloc, right, left, 0, entries),
+        Op::Greater => difference(alloc, left, right, -1, entries),
+        Op::AtLeast => difference(alloc, left, right, 0, entries),
+        _ => difference(alloc, left, right, 0, entries),
+    }
+}
+
+fn asked(op: Op, difference: Aff) -> Test
+    ensures { test_of result ≡ asked op difference }
+{
+    match op {
+        Op::Less | Op::AtMost | Op::Greater | Op::AtLeast => Test::AtLeast(difference),
+        _ => Test::Equal(difference),
+    }
+}
+
 // One comparison.
 fn comparison(
     alloc: Global,
@@ -400,13 +471,28 @@ fn comparison(
     requires right { IsAffine entries right.now }
     ensures { IfOk result (λ test. test_of test ≡ comparison op left.now right.now) }
 {
-    match op {
-        Op::Less => Ok(Test::AtLeast(difference(alloc, right, left, -1, entries)?)),
-        Op::AtMost => Ok(Test::AtLeast(difference(alloc, right, left, 0, entries)?)),
-        Op::Greater => Ok(Test::AtLeast(difference(alloc, left, right, -1, entries)?)),
-        Op::AtLeast => Ok(Test::AtLeast(difference(alloc, left, right, 0, entries)?)),
-        _ => Ok(Test::Equal(difference(alloc, left, right, 0, entries)?)),
-    }
+    let difference = compared(alloc, op, left, right, entries)?;
+    Ok(asked(op, difference))
+}
+
+// The comparison of two sides, if it has no fault as a condition, behind others.
+fn add_comparison(
+    alloc: Global,
+    op: Op,
+    left: &Formula,
+    right: &Formula,
+    entries: usize,
+    pushed: &mut Vec<Test>,
+) -> Result<(), AllocError>
+    ensures { OnOk result ((at : ℕ) → is_and op ≡ false
+        → first (faults entries role.Condition (binary op (formula_of left.now) (formula_of right.now) at)) ≡ None
+        → map test_of pushed.new.items ≡ map test_of pushed.old.items
+        ++ tests entries (binary op (formula_of left.now) (formula_of right.now) at)) }
+{
+    let left = form_or_zero(alloc, left, entries)?;
+    let right = form_or_zero(alloc, right, entries)?;
+    let test = comparison(alloc, op, &left, &right, entries)?;
+    push_test(pushed, test)
 }
 
 // The comparisons of a formula, if it has no fault as a condition, behind others.
@@ -421,26 +507,13 @@ fn add_tests(
 {
     match formula {
         Formula::Binary(op, left, right, _) => {
-            if is_and(*op) {
-                match add_tests(alloc, left, entries, pushed) {
-                    Err(_) => return Err(AllocError),
-                    Ok(()) => {}
-                }
-                return add_tests(alloc, right, entries, pushed);
+            if !is_and(*op) {
+                return add_comparison(alloc, *op, left, right, entries, pushed);
             }
-            let left = match form_or_zero(alloc, left, entries) {
-                Err(_) => return Err(AllocError),
-                Ok(form) => form,
-            };
-            let right = match form_or_zero(alloc, right, entries) {
-                Err(_) => return Err(AllocError),
-                Ok(form) => form,
-            };
-            let test = match comparison(alloc, *op, &left, &right, entries) {
-                Err(_) => return Err(AllocError),
-                Ok(test) => test,
-            };
-            push_test(pushed, test)
+            match add_tests(alloc, left, entries, pushed) {
+                Err(_) => Err(AllocError),
+                Ok(()) => add_tests(alloc, right, entries, pushed),
+            }
         }
         Formula::Constant(_, _, _) => Ok(()),
         Formula::Name(_, _) => Ok(()),

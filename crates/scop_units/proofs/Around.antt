@@ -1,6 +1,6 @@
 -- A list's elements one by one: what stands before one and behind it.
-use Rattle.std.proofs.Common.{◌≡◌, ℕ, zero, suc, ◌+◌, ◌<◌, ℤ, pos, List, [], ◌∷◌, ◌++◌, length, map, get_or, drop, take}
-use Rattle.std.proofs.Common.{refl, sym, ap, ◌∙◌, append_assoc, add-one, drop-cons}
+use Rattle.std.proofs.Common.{◌≡◌, ℕ, zero, suc, ◌+◌, ◌<◌, ℤ, pos, List, ◌∷◌, ◌++◌, length, map, get_or, drop, take}
+use Rattle.std.proofs.Common.{refl, sym, ap, ◌∙◌, add-one, drop-cons}
 use Rattle.std.proofs.lemmas.List.{take-append-drop, map-append}
 use Rattle.std.specs.Prelude.{replicate}
 use Rattle.whole_numbers.specs.Lists.{zeros}
@@ -9,12 +9,6 @@ pub next_of : {A : Type 0} (i : ℕ) (xs : List A) (x : A) → i < length xs →
     → drop i xs ≡ x ∷ drop (i + 1) xs
 next_of i xs x lt is =
     drop-cons xs i x lt ∙ (ap (λ y. y ∷ drop (suc i) xs) (sym is) ∙ ap (λ (k : ℕ). x ∷ drop k xs) (sym (add-one i)))
-
-pub map_step : {A B : Type 0} (f : A → B) (i : ℕ) (xs : List A) (x : A) (made : List B) → i < length xs
-    → x ≡ get_or xs i x → (made ++ f x ∷ []) ++ map f (drop (i + 1) xs) ≡ made ++ map f (drop i xs)
-map_step f i xs x made lt is =
-    append_assoc made (f x ∷ []) (map f (drop (i + 1) xs))
-    ∙ ap (λ ys. made ++ map f ys) (sym (next_of i xs x lt is))
 
 pub map_around : {A B : Type 0} (f : A → B) (i : ℕ) (xs : List A) (x : A) → i < length xs → x ≡ get_or xs i x
     → map f xs ≡ map f (take i xs) ++ f x ∷ map f (drop (i + 1) xs)

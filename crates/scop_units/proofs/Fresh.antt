@@ -1,6 +1,6 @@
 -- Names that are declared without a fault are fresh, so those in scope stay distinct.
 use Rattle.std.proofs.Common.{◌≡◌, ℕ, zero, suc, ◌+◌, Bool, true, false, ◌||◌, if◌then◌else◌, List, [], ◌∷◌, ◌++◌}
-use Rattle.std.proofs.Common.{length, map, refl, sym, subst, inl, inr, ◌⊎◌, bytes_eq}
+use Rattle.std.proofs.Common.{length, map, refl, sym, ap, subst, inl, inr, ◌⊎◌, bytes_eq}
 use Rattle.std.specs.Prelude.{Option, Some, None}
 use Rattle.std.proofs.lemmas.List.{map-append}
 use Rattle.std.proofs.lemmas.Slice.Eq.{bytes_eq-Decides}
@@ -14,7 +14,7 @@ use Rattle.scop_roles.specs.declared.formula.Meaning.TheVariants as meaning
 use Rattle.scop_roles.specs.Faults.{only_where}
 use Rattle.scop_units.specs.Words.{Words}
 use Rattle.scop_units.specs.Scopes.{Scope, Ranked, with_parameter, with_array, with_iterator, number_from, number_of}
-use Rattle.scop_units.specs.Scopes.{variable_or, closed_or, array_in, outer_meaning, meaning_in, is_known, is_reserved}
+use Rattle.scop_units.specs.Scopes.{variable_or, array_in, outer_meaning, meaning_in, is_known, is_reserved}
 use Rattle.scop_units.specs.Scopes.{redeclared}
 use Rattle.scop_units.specs.Units.{name_faults}
 use Rattle.scop_units.specs.Judging.{width, parameter_faults, behind_parameter, parameters_faults, behind_parameters}
@@ -78,29 +78,18 @@ number_none k w (v ∷ vs) e m =
       | inr rest ↦ number_none (k + 1) w vs parts.1 rest
     ]
 
-some_by : (b : Bool) (v w : Text) (k j : ℕ) (o : Option ℕ) (vs : List Text) → (b ≡ true → w ≡ v)
-    → (o ≡ Some j → In w vs) → (if b then Some k else o) ≡ Some j → In w (v ∷ vs)
-some_by true v w k j o vs h g e = inl (h refl)
-some_by false v w k j o vs h g e = inr (g e)
-
-pub number_some : (k j : ℕ) (w : Text) (names : List Text) → number_from k w names ≡ Some j → In w names
-number_some k j w [] e = absurd (cc)
-number_some k j w (v ∷ vs) e =
-    some_by (bytes_eq v w) v w k j (number_from (k + 1) w vs) vs (λ f. sym ((bytes_eq-Decides v w).0 f))
-    (number_some (k + 1) j w vs) e
-
 abbrev pub array_names : List Ranked → List Text
 array_names xs = map (λ (a : Ranked). a.name) xs
 
-unknown_if : (b : Bool) (k r : ℕ) (m : Meaning) → is_known (if b then meaning.Array k r else m) ≡ false
-    → (b ≡ false) × (is_known m ≡ false)
-unknown_if true k r m e = absurd (cc)
-unknown_if false k r m e = (refl, e)
+unknown_if : (b : Bool) (m n : Meaning) → is_known m ≡ true → is_known (if b then m else n) ≡ false
+    → (b ≡ false) × (is_known n ≡ false)
+unknown_if true m n h e = absurd (cc)
+unknown_if false m n h e = (refl, e)
 
 array_none : (k : ℕ) (w : Text) (xs : List Ranked) → is_known (array_in k w xs) ≡ false → In w (array_names xs) → ⊥
 array_none k w [] e m = m
 array_none k w (a ∷ xs) e m =
-    let parts = unknown_if (bytes_eq a.name w) k a.rank (array_in (k + 1) w xs) e in
+    let parts = unknown_if (bytes_eq a.name w) (meaning.Array k a.rank) (array_in (k + 1) w xs) refl e in
     elim m [
       | inl same ↦ not_equal a.name w parts.0 same
       | inr rest ↦ array_none (k + 1) w xs parts.1 rest
@@ -111,27 +100,23 @@ variable_none : (n : ℕ) (o : Option ℕ) (m : Meaning) → is_known (variable_
 variable_none n (Some k) m e = absurd (cc)
 variable_none n None m e = (refl, e)
 
-closed_none : (o : Option ℕ) (m : Meaning) → is_known (closed_or o m) ≡ false → (o ≡ None) × (is_known m ≡ false)
-closed_none (Some k) m e = absurd (cc)
-closed_none None m e = (refl, e)
-
 -- a name that is nowhere in scope
 pub record IsFresh (s : Scope) (w : Text) : Type 0 where
   pub parameters : In w s.parameters → ⊥
   pub arrays : In w (array_names s.arrays) → ⊥
-  pub declared : In w s.declared → ⊥
+  pub declared : s.declared w ≡ false
   pub loops : In w s.open_loops → ⊥
 
 unknown_fresh : (s : Scope) (w : Text) → is_known (meaning_in s w) ≡ false → IsFresh s w
 unknown_fresh s w e =
     let a = variable_none (length s.parameters) (number_of w s.open_loops) (outer_meaning s w) e in
     let parameter = variable_or 0 (number_of w s.parameters) (array_in 0 w s.arrays) in
-    let b = closed_none (number_of w s.declared) parameter a.1 in
+    let b = unknown_if (s.declared w) meaning.Closed parameter refl a.1 in
     let c = variable_none 0 (number_of w s.parameters) (array_in 0 w s.arrays) b.1 in
     record {
       parameters = number_none 0 w s.parameters c.0;
       arrays = array_none 0 w s.arrays c.1;
-      declared = number_none 0 w s.declared b.0;
+      declared = b.0;
       loops = number_none 0 w s.open_loops a.0;
     }
 
@@ -150,7 +135,10 @@ pub record IsDistinct (s : Scope) : Type 0 where
   pub parameters : AreDistinct s.parameters
   pub arrays : AreDistinct (array_names s.arrays)
   pub apart : (w : Text) → In w s.parameters → In w (array_names s.arrays) → ⊥
-  pub declared : (w : Text) → In w s.declared → (In w s.parameters → ⊥) × (In w (array_names s.arrays) → ⊥)
+  pub declared : (w : Text) → s.declared w ≡ true → (In w s.parameters → ⊥) × (In w (array_names s.arrays) → ⊥)
+
+other_declared : (s : Scope) (v w : Text) → s.declared v ≡ true → s.declared w ≡ false → v ≡ w → ⊥
+other_declared s v w m fresh same = let at = ap s.declared same in absurd (cc)
 
 parameter_distinct : (s : Scope) (w : Text) → IsDistinct s → IsFresh s w → IsDistinct (with_parameter s w)
 parameter_distinct s w d fresh =
@@ -163,7 +151,7 @@ parameter_distinct s w d fresh =
       ];
       declared = λ v m. (
         none_in v s.parameters (w ∷ []) (d.declared v m).0
-            (λ one. fresh.declared (subst (λ (z : Text). In z s.declared) (only_in v w one) m)),
+            (λ one. other_declared s v w m fresh.declared (only_in v w one)),
         (d.declared v m).1,
       );
     }
@@ -182,10 +170,14 @@ array_distinct s w r d fresh =
       declared = λ v m. (
         (d.declared v m).0,
         λ a. none_in v names (w ∷ []) (d.declared v m).1
-            (λ one. fresh.declared (subst (λ (z : Text). In z s.declared) (only_in v w one) m))
+            (λ one. other_declared s v w m fresh.declared (only_in v w one))
             (subst (In v) more_names a),
       );
     }
+
+one_of : (a b : Bool) → (a || b) ≡ true → (a ≡ true) ⊎ (b ≡ true)
+one_of true b e = inl refl
+one_of false b e = inr e
 
 iterator_distinct : (s : Scope) (w : Text) → IsDistinct s → IsFresh s w → IsDistinct (with_iterator s w)
 iterator_distinct s w d fresh =
@@ -193,12 +185,13 @@ iterator_distinct s w d fresh =
       parameters = d.parameters;
       arrays = d.arrays;
       apart = d.apart;
-      declared = λ v m. elim (in_append v s.declared (w ∷ []) m) [
-        | inl old ↦ d.declared v old
-        | inr one ↦ (
-          λ a. fresh.parameters (subst (λ (z : Text). In z s.parameters) (only_in v w one) a),
-          λ a. fresh.arrays (subst (λ (z : Text). In z (array_names s.arrays)) (only_in v w one) a),
-        )
+      declared = λ v m. elim (one_of (bytes_eq w v) (s.declared v) m) [
+        | inl one ↦
+            let same = sym ((bytes_eq-Decides w v).0 one) in (
+              λ a. fresh.parameters (subst (λ (z : Text). In z s.parameters) same a),
+              λ a. fresh.arrays (subst (λ (z : Text). In z (array_names s.arrays)) same a),
+            )
+        | inr old ↦ d.declared v old
       ];
     }
 

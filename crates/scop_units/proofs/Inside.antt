@@ -8,11 +8,6 @@ use Rattle.scop_roles.specs.declared.formula.Meaning.TheVariants as meaning
 use Rattle.scop_units.specs.Scopes.{Scope, with_loop, number_from, number_or, number_inside, variable_or, outer_meaning}
 use Rattle.scop_units.specs.Scopes.{meaning_in}
 
-by-name : (b c : Bool) (k n : ℕ) (o : Option ℕ) → o ≡ (if c then Some n else None)
-    → (if b then Some k else o) ≡ number_or (if b then Some k else None) (if c then Some n else None)
-by-name true c k n o e = refl
-by-name false c k n o e = e
-
 by-names : (b c : Bool) (k n : ℕ) (o p : Option ℕ) → o ≡ number_or p (if c then Some n else None)
     → (if b then Some k else o) ≡ number_or (if b then Some k else p) (if c then Some n else None)
 by-names true c k n o p e = refl

@@ -1,4 +1,5 @@
 pub mod Around
+mod Inserting
 pub mod Parts
 pub mod Inside
 pub mod Spans

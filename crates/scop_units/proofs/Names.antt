@@ -15,7 +15,7 @@ use Rattle.scop_roles.specs.declared.formula.Meaning.{Meaning}
 use Rattle.scop_roles.specs.declared.formula.Meaning.TheVariants as meaning
 use Rattle.scop_roles.specs.Faults.{told, judged}
 use Rattle.scop_units.specs.Words.{Words}
-use Rattle.scop_units.specs.Scopes.{Scope, Ranked, no_scope, number_of, variable_or, closed_or, array_in, meaning_in}
+use Rattle.scop_units.specs.Scopes.{Scope, Ranked, no_scope, number_of, variable_or, array_in, meaning_in}
 use Rattle.scop_units.specs.Scopes.{taken, iterator_fault}
 use Rattle.scop_units.specs.Loops.{part_faults}
 use Rattle.scop_units.specs.Units.{declared_over, kernel_name_faults}
@@ -28,7 +28,7 @@ use Rattle.scop_units.specs.Programs.{headed_by, wrapped, item_trees, all_trees,
 use Rattle.scop_units.specs.Names.{AreDistinct, TakeFresh, header_names, HasDistinctNames}
 use Rattle.scop_units.proofs.Standing.{parts_none, judged_none, told_none}
 use Rattle.scop_units.proofs.Declaring.{changes_nothing}
-use Rattle.scop_units.proofs.Fresh.{array_names, declared_keep, distinct_append, none_in, number_none, number_some}
+use Rattle.scop_units.proofs.Fresh.{array_names, declared_keep, distinct_append, none_in, number_none}
 use Rattle.scop_units.proofs.Fresh.{parameter_keeps, parameters_keep, redeclared_fresh, IsDistinct}
 
 -- the names that a loop may not take
@@ -63,11 +63,11 @@ taken_closed meaning.Unknown e = absurd (cc)
 taken_closed (meaning.Variable k) e = absurd (cc)
 taken_closed (meaning.Array k r) e = absurd (cc)
 
-closed_parts : (n : ℕ) (o p : Option ℕ) (m : Meaning) → (m ≡ meaning.Closed → ⊥)
-    → variable_or n o (closed_or p m) ≡ meaning.Closed → (o ≡ None) × ((j : ℕ) × (p ≡ Some j))
-closed_parts n (Some k) p m h e = absurd (cc)
-closed_parts n None (Some j) m h e = (refl, (j, refl))
-closed_parts n None None m h e = absurd (h e)
+closed_parts : (n : ℕ) (o : Option ℕ) (b : Bool) (m : Meaning) → (m ≡ meaning.Closed → ⊥)
+    → variable_or n o (if b then meaning.Closed else m) ≡ meaning.Closed → (o ≡ None) × (b ≡ true)
+closed_parts n (Some k) b m h e = absurd (cc)
+closed_parts n None true m h e = (refl, refl)
+closed_parts n None false m h e = absurd (h e)
 
 iterator_fresh : (new : Bool) (s : Scope) (w : Text) → IsDistinct s → iterator_fault new s w ≡ None
     → In w (taken_names s) → ⊥
@@ -75,12 +75,12 @@ iterator_fresh true s w d e =
     let fresh = redeclared_fresh s w e in fresh_name s w fresh.parameters fresh.arrays fresh.loops
 iterator_fresh false s w d e =
     let arrays = array_in 0 w s.arrays in
-    let parts = closed_parts (length s.parameters) (number_of w s.open_loops) (number_of w s.declared)
+    let parts = closed_parts (length s.parameters) (number_of w s.open_loops) (s.declared w)
     (variable_or 0 (number_of w s.parameters) arrays)
     (not_closed_variable 0 (number_of w s.parameters) arrays (not_closed_array 0 w s.arrays))
     (taken_closed (meaning_in s w) e) in
-    let name = number_some 0 parts.1.0 w s.declared parts.1.1 in
-    fresh_name s w (d.declared w name).0 (d.declared w name).1 (number_none 0 w s.open_loops parts.0)
+    let outside = d.declared w parts.1 in
+    fresh_name s w outside.0 outside.1 (number_none 0 w s.open_loops parts.0)
 
 -- trees
 
@@ -200,7 +200,7 @@ names_stand words k e =
     let rest = parts_none (parameters_faults words s (others_at k) k.others) _ one.1 in
     let inner = parts_none (declared_faults words header (declared_at k) k.declared) _ rest.1 in
     let nothing : IsDistinct no_scope =
-    record { parameters = tt; arrays = tt; apart = λ w m a. m; declared = λ w m. absurd m } in
+    record { parameters = tt; arrays = tt; apart = λ w m a. m; declared = λ w m. absurd (cc) } in
     let a = parameter_keeps words no_scope 3 k.first nothing one.0 in
     let b = parameters_keep words s (others_at k) k.others a rest.0 in
     let c = declared_keep words header (declared_at k) k.declared b inner.0 in

@@ -17,7 +17,7 @@ use Rattle.scop_roles.specs.Faults.{first}
 use Rattle.scop_roles.specs.Scope.{IsKnown, KnowsArrays}
 use Rattle.scop_roles.specs.Values.{tests}
 use Rattle.scop_units.specs.Words.{Words, HasWorth}
-use Rattle.scop_units.specs.Scopes.{Scope, Ranked, entries, look, number_of, closed_or, variable_or, array_in}
+use Rattle.scop_units.specs.Scopes.{Scope, Ranked, entries, look, number_of, variable_or, array_in}
 use Rattle.scop_units.specs.Scopes.{outer_meaning, meaning_in}
 use Rattle.scop_units.specs.Loops.{loop_of}
 use Rattle.scop_units.specs.Judging.{width, inside, iterator_at, loop_in, condition, head_faults, behind_head, compared}
@@ -65,9 +65,10 @@ known_is ranks meaning.Unknown h = tt
 known_is ranks meaning.Closed h = tt
 known_is ranks (meaning.Variable j) h = tt
 
-closed_known : (ranks : List ℕ) (o : Option ℕ) (m : Meaning) → IsKnown ranks m → IsKnown ranks (closed_or o m)
-closed_known ranks (Some k) m h = tt
-closed_known ranks None m h = h
+closed_known : (ranks : List ℕ) (b : Bool) (m : Meaning) → IsKnown ranks m
+    → IsKnown ranks (if b then meaning.Closed else m)
+closed_known ranks true m h = tt
+closed_known ranks false m h = h
 
 variable_known : (ranks : List ℕ) (n : ℕ) (o : Option ℕ) (m : Meaning) → IsKnown ranks m
     → IsKnown ranks (variable_or n o m)
@@ -79,7 +80,7 @@ meaning_known s w =
     let array = known_is (ranks_in s) (array_in 0 w s.arrays) (arrays_known 0 w s.arrays) in
     let parameter = variable_known (ranks_in s) 0 (number_of w s.parameters) (array_in 0 w s.arrays) array in
     variable_known (ranks_in s) (length s.parameters) (number_of w s.open_loops) (outer_meaning s w)
-    (closed_known (ranks_in s) (number_of w s.declared)
+    (closed_known (ranks_in s) (s.declared w)
     (variable_or 0 (number_of w s.parameters) (array_in 0 w s.arrays)) parameter)
 
 pub knows : (words : Words) (s : Scope) → HasWorth words → KnowsArrays (ranks_in s) (look words s)

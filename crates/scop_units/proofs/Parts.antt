@@ -11,13 +11,14 @@ use Rattle.whole_numbers.specs.Affine.{Affine}
 use Rattle.scop_roles.specs.Forms.{form}
 use Rattle.scop_roles.specs.declared.formula.Formula.{Formula as CodeFormula}
 use Rattle.scop_roles.specs.Formula.{Formula, place, formula_of}
-use Rattle.scop_roles.specs.Faults.{first, first_of, told, judged, faults, place_faults, only_where, is_count}
+use Rattle.scop_roles.specs.Faults.{first, first_of, told, judged, faults, place_faults, own_rank, only_where, is_count}
 use Rattle.scop_roles.proofs.Firsts.{first-append, first_of-assoc, first_of_none, some_first}
 use Rattle.scop_units.specs.Words.{Words}
 use Rattle.scop_units.specs.Scopes.{Scope, entries, iterator_fault}
 use Rattle.scop_units.specs.Loops.{LoopHead, rises, goes, is_form, change_faults, part_faults, loop_faults}
-use Rattle.scop_units.specs.Units.{Stored, or_fault, own_cell, own_assign, reads_of, read_limit, name_faults}
-use Rattle.scop_units.specs.Units.{number_faults, extent_faults, array_faults, stored_faults, statement_faults}
+use Rattle.scop_units.specs.Units.{Stored, or_fault, own_cell, cell_faults, own_assign, reads_of, read_limit}
+use Rattle.scop_units.specs.Units.{name_faults, number_faults, extent_faults, array_faults, stored_faults}
+use Rattle.scop_units.specs.Units.{statement_faults}
 
 next_item : (i : ℕ) (xs : List CodeFormula) (x : CodeFormula) → i < length xs → x ≡ get_or xs i x
     → drop i xs ≡ x ∷ drop (i + 1) xs
@@ -64,17 +65,21 @@ array_parts words s at fs =
     four (name_faults words s at) (told at (only_where (nat_lt 4 (length fs)) kind.Rank))
     (told at (only_where (nat_le 16 (length s.arrays)) kind.Arrays)) (extent_faults (entries s) fs)
 
+cell_parts : (n : ℕ) (f : Formula) → first (cell_faults n f)
+    ≡ first_of (first (told (place f) (own_cell f)))
+    (or_fault (first (place_faults n f)) (first (told (place f) (own_rank f))))
+cell_parts n f =
+    let rank = told (place f) (own_rank f) in
+    two (told (place f) (own_cell f)) (judged (place_faults n f) rank)
+    ∙ ap (first_of (first (told (place f) (own_cell f)))) (judged_first (place_faults n f) rank)
+
 pub stored_parts : (n : ℕ) (s : Stored) → first (stored_faults n s)
-    ≡ or_fault (first_of (or_fault (first (place_faults n s.cell)) (first (told (place s.cell) (own_cell s.cell))))
-    (first (faults n role.Value s.value))) (first (told s.assign_at (own_assign s.assign s.value)))
+    ≡ or_fault (first_of (first (cell_faults n s.cell)) (first (faults n role.Value s.value)))
+    (first (told s.assign_at (own_assign s.assign s.value)))
 stored_parts n s =
-    let cell = judged (place_faults n s.cell) (told (place s.cell) (own_cell s.cell)) in
     let own = told s.assign_at (own_assign s.assign s.value) in
-    judged_first (cell ++ faults n role.Value s.value) own
-    ∙ ap (λ (f : Option Fault). or_fault f (first own))
-    (two cell (faults n role.Value s.value)
-    ∙ ap (λ (f : Option Fault). first_of f (first (faults n role.Value s.value)))
-    (judged_first (place_faults n s.cell) (told (place s.cell) (own_cell s.cell))))
+    judged_first (cell_faults n s.cell ++ faults n role.Value s.value) own
+    ∙ ap (λ (f : Option Fault). or_fault f (first own)) (two (cell_faults n s.cell) (faults n role.Value s.value))
 
 pub statement_parts : (n comparisons before : ℕ) (s : Stored) → first (statement_faults n comparisons before s)
     ≡ first_of (first (stored_faults n s)) (first_of (first (read_limit (slice_get (reads_of s) 16)))
@@ -91,8 +96,8 @@ stored_clean : (n : ℕ) (s : Stored) → first (stored_faults n s) ≡ None
 stored_clean n s e =
     let outer = or_none _ _ (sym (stored_parts n s) ∙ e) in
     let sides = first_of_none _ _ outer.0 in
-    let cell = or_none _ _ sides.0 in
-    (cell.0, sides.1, outer.1)
+    let cell = first_of_none _ _ (sym (cell_parts n s.cell) ∙ sides.0) in
+    ((or_none _ _ cell.1).0, sides.1, outer.1)
 
 pub cell_clean : (n : ℕ) (s : Stored) → first (stored_faults n s) ≡ None → first (place_faults n s.cell) ≡ None
 cell_clean n s e = (stored_clean n s e).0
@@ -121,13 +126,13 @@ is_formed false at e = absurd (cc)
 pub part_parts : (s : Scope) (h : LoopHead) → first (part_faults s h)
     ≡ first_of (first (told h.name_at (iterator_fault h.new s h.iterator)))
     (first_of (first (faults (entries s) role.Affine h.first))
-    (first_of (first (faults (entries s + 1) role.Free h.second))
+    (first_of (first (faults (entries s + 1) role.Loose h.second))
     (first_of (first (faults (entries s + 1) role.Free h.changed))
     (first (change_faults (entries s + 1) h.change)))))
 part_parts s h =
     let fs = told h.name_at (iterator_fault h.new s h.iterator) in
     let gs = faults (entries s) role.Affine h.first in
-    let hs = faults (entries s + 1) role.Free h.second in
+    let hs = faults (entries s + 1) role.Loose h.second in
     let is = faults (entries s + 1) role.Free h.changed in
     let js = change_faults (entries s + 1) h.change in
     two fs (gs ++ (hs ++ (is ++ js))) ∙ ap (first_of (first fs)) (four gs hs is js)
@@ -184,7 +189,7 @@ goes_some None p e = absurd (cc)
 -- what is clean where a loop's head is
 pub loop_clean : (s : Scope) (h : LoopHead) → first (loop_faults s h) ≡ None
     → (first (faults (entries s) role.Affine h.first) ≡ None)
-    × (first (faults (entries s + 1) role.Free h.second) ≡ None) × (is_some (rises (entries s) h.second) ≡ true)
+    × (first (faults (entries s + 1) role.Loose h.second) ≡ None) × (is_some (rises (entries s) h.second) ≡ true)
 loop_clean s h e =
     let outer = first_of_none _ _ (sym (loop_parts s h) ∙ e) in
     let judged_ = or_none _ _ outer.0 in
@@ -210,14 +215,17 @@ pub array_by : (words : Words) (s : Scope) (at : ℕ) (fs : List Formula) (size 
 array_by words s at fs size count n name rank many extent inner outer all e f g h i j k l m o =
     rw (o, m, l, f, e, h, g, j, i, k) (sym (array_parts words s at fs))
 
-pub stored_by : (n : ℕ) (s : Stored) (p : ℕ) (oc oa : Option Kind)
-    (cell own_told node value own sides all : Option Fault)
-    → cell ≡ first (place_faults n s.cell) → p ≡ place s.cell → oc ≡ own_cell s.cell → own_told ≡ first (told p oc)
-    → node ≡ or_fault cell own_told → value ≡ first (faults n role.Value s.value)
-    → oa ≡ own_assign s.assign s.value → own ≡ first (told s.assign_at oa) → sides ≡ first_of node value
+pub cell_by : (n : ℕ) (f : Formula) (p : ℕ) (o r : Option Kind) (parts rank name node all : Option Fault)
+    → p ≡ place f → parts ≡ first (place_faults n f) → r ≡ own_rank f → rank ≡ first (told p r)
+    → o ≡ own_cell f → name ≡ first (told p o) → node ≡ or_fault parts rank → all ≡ first_of name node
+    → all ≡ first (cell_faults n f)
+cell_by n f p o r parts rank name node all e g h i j k l m = rw (m, l, k, j, i, h, g, e) (sym (cell_parts n f))
+
+pub stored_by : (n : ℕ) (s : Stored) (oa : Option Kind) (cell value own sides all : Option Fault)
+    → cell ≡ first (cell_faults n s.cell) → value ≡ first (faults n role.Value s.value)
+    → oa ≡ own_assign s.assign s.value → own ≡ first (told s.assign_at oa) → sides ≡ first_of cell value
     → all ≡ or_fault sides own → all ≡ first (stored_faults n s)
-stored_by n s p oc oa cell own_told node value own sides all e f g h i j k l m o =
-    rw (o, m, l, k, i, h, g, f, e, j) (sym (stored_parts n s))
+stored_by n s oa cell value own sides all e f g h i j = rw (j, i, h, g, e, f) (sym (stored_parts n s))
 
 pub statement_by : (n comparisons before : ℕ) (s : Stored) (p : ℕ)
     (parts reads deep many inner outer all : Option Fault)
@@ -232,7 +240,7 @@ statement_by n comparisons before s p parts reads deep many inner outer all e f 
 pub part_by : (s : Scope) (h : LoopHead) (n : ℕ) (k : Option Kind) (name so inner outer all : Option Fault)
     → n ≡ entries s → k ≡ iterator_fault h.new s h.iterator → name ≡ first (told h.name_at k)
     → so ≡ first (faults n role.Affine h.first)
-    → inner ≡ first_of (first (faults (n + 1) role.Free h.second))
+    → inner ≡ first_of (first (faults (n + 1) role.Loose h.second))
     (first_of (first (faults (n + 1) role.Free h.changed))
     (first (change_faults (n + 1) h.change)))
     → outer ≡ first_of so inner → all ≡ first_of name outer → all ≡ first (part_faults s h)

@@ -1,6 +1,7 @@
 -- The head of a loop without faults rises to a form, or falls to one.
 use Rattle.std.proofs.Common.{◌≡◌, ◌≢◌, ℕ, zero, suc, ◌+◌, ◌<◌, ◌≤◌, Bool, true, false, not, ◌&&◌, if◌then◌else◌, ◌==◌}
-use Rattle.std.proofs.Common.{List, [], ◌∷◌, ◌++◌, length, get_or, set, ℤ, pos, negsuc, ◌+ℤ◌, ◌*ℤ◌, ◌≤ℤ◌, unsigned_abs}
+use Rattle.std.proofs.Common.{List, [], ◌∷◌, ◌++◌, length, get_or, set, ℤ, pos, negsuc, ◌+ℤ◌, ◌-ℤ◌, ◌*ℤ◌, ◌^◌, ◌≤ℤ◌}
+use Rattle.std.proofs.Common.{unsigned_abs}
 use Rattle.std.proofs.Common.{◌⊎◌, inl, inr, refl, sym, ap, subst, ◌∙◌, arith}
 use Rattle.std.specs.Prelude.{Option, Some, None, ⊤, slice_index_or}
 use Rattle.std.proofs.lemmas.Int.{ints}
@@ -88,70 +89,52 @@ pub record IsBound (n : ℕ) (own : ℤ) (f : Affine) : Type 0 where
   pub condition : IsCondition (n + 1) f
   pub own_is : slice_index_or f.coefficients n (pos 0) ≡ own
 
--- the last entry less a form in which it does not stand
-pub last_less : (n : ℕ) (g : Affine) (k : ℤ) → IsAffine (n + 1) g → get_or g.coefficients n (pos 0) ≡ pos 0
-    → unsigned_abs k ≤ 1 → IsBound n (pos 1) (difference (last_entry n) g k)
-last_less n g k is none small =
-    let d = difference (last_entry n) g k in
-    let long : length (last_entry n).coefficients ≡ n + 1 =
-    length-set (zeros (n + 1)) n (pos 1) ∙ length-zeros (n + 1) in
+-- a difference whose entries are small
+difference_bound : (n : ℕ) (f g : Affine) (k own : ℤ) → length f.coefficients ≡ n + 1 → length g.coefficients ≡ n + 1
+    → ((i : ℕ) → unsigned_abs (get_or f.coefficients i (pos 0) -ℤ get_or g.coefficients i (pos 0)) ≤ 16)
+    → get_or f.coefficients n (pos 0) -ℤ get_or g.coefficients n (pos 0) ≡ own
+    → unsigned_abs (difference f g k).constant ≤ 2 ^ 20 + 1 → IsBound n own (difference f g k)
+difference_bound n f g k own a b each is small =
     record {
       condition = record {
-        entries = difference_length (n + 1) (last_entry n) g k long is.entries;
-        coefficients = at_most_all 16 d.coefficients (λ i. each i);
-        constant = let c = is.constant in omega (arith, ints);
+        entries = difference_length (n + 1) f g k a b;
+        coefficients = at_most_all 16 (difference f g k).coefficients
+            (λ i. let d = difference_at f g k i in let e = each i in omega (arith, ints));
+        constant = small;
       };
-      own_is = elim (last_at n n) [
-        | inl e ↦ let a = difference_at (last_entry n) g k n in let f = e.1 in omega (arith, ints)
-        | inr e ↦ absurd (e.0 refl)
-      ];
+      own_is = let d = difference_at f g k n in omega (arith, ints);
     }
-  where
-    each : (i : ℕ) → unsigned_abs (get_or (difference (last_entry n) g k).coefficients i (pos 0)) ≤ 16
-    each i = elim (last_at n i) [
-      | inl e ↦
-          let a = difference_at (last_entry n) g k i in
-          let f = e.1 in
-          let h = ap (λ j. get_or g.coefficients j (pos 0)) e.0 in
-          omega (arith, ints)
-      | inr e ↦
-          let a = difference_at (last_entry n) g k i in
-          let f = e.1 in
-          let h = at_most_at 16 g.coefficients i is.coefficients in
-          omega (arith, ints)
-    ]
 
--- such a form less the last entry
-pub less_last : (n : ℕ) (g : Affine) (k : ℤ) → IsAffine (n + 1) g → get_or g.coefficients n (pos 0) ≡ pos 0
-    → unsigned_abs k ≤ 1 → IsBound n (negsuc 0) (difference g (last_entry n) k)
-less_last n g k is none small =
-    let d = difference g (last_entry n) k in
+-- the last entry and a form in which it does not stand, each less the other
+last_bounds : (n : ℕ) (g : Affine) (k : ℤ) → IsAffine (n + 1) g → get_or g.coefficients n (pos 0) ≡ pos 0
+    → unsigned_abs k ≤ 1 → IsBound n (pos 1) (difference (last_entry n) g k)
+    × IsBound n (negsuc 0) (difference g (last_entry n) k)
+last_bounds n g k is none small =
     let long : length (last_entry n).coefficients ≡ n + 1 =
     length-set (zeros (n + 1)) n (pos 1) ∙ length-zeros (n + 1) in
-    record {
-      condition = record {
-        entries = difference_length (n + 1) g (last_entry n) k is.entries long;
-        coefficients = at_most_all 16 d.coefficients (λ i. each i);
-        constant = let c = is.constant in omega (arith, ints);
-      };
-      own_is = elim (last_at n n) [
-        | inl e ↦ let a = difference_at g (last_entry n) k n in let f = e.1 in omega (arith, ints)
-        | inr e ↦ absurd (e.0 refl)
-      ];
-    }
+    let own : get_or (last_entry n).coefficients n (pos 0) ≡ pos 1 = elim (last_at n n) [
+      | inl e ↦ e.1
+      | inr e ↦ absurd (e.0 refl)
+    ] in
+    let c = is.constant in (
+      difference_bound n (last_entry n) g k (pos 1) long is.entries (λ i. (each i).0) (omega (arith, ints))
+          (omega (arith, ints)),
+      difference_bound n g (last_entry n) k (negsuc 0) is.entries long (λ i. (each i).1) (omega (arith, ints))
+          (omega (arith, ints)),
+    )
   where
-    each : (i : ℕ) → unsigned_abs (get_or (difference g (last_entry n) k).coefficients i (pos 0)) ≤ 16
+    each : (i : ℕ)
+        → (unsigned_abs (get_or (last_entry n).coefficients i (pos 0) -ℤ get_or g.coefficients i (pos 0)) ≤ 16)
+        × (unsigned_abs (get_or g.coefficients i (pos 0) -ℤ get_or (last_entry n).coefficients i (pos 0)) ≤ 16)
     each i = elim (last_at n i) [
       | inl e ↦
-          let a = difference_at g (last_entry n) k i in
           let f = e.1 in
           let h = ap (λ j. get_or g.coefficients j (pos 0)) e.0 in
-          omega (arith, ints)
+          (omega (arith, ints), omega (arith, ints))
       | inr e ↦
-          let a = difference_at g (last_entry n) k i in
           let f = e.1 in
           let h = at_most_at 16 g.coefficients i is.coefficients in
-          omega (arith, ints)
+          (omega (arith, ints), omega (arith, ints))
     ]
 
 -- the form of the iterator's own name
@@ -222,48 +205,43 @@ bounds_by : (n : ℕ) (b : Bool) (r s : Option Bool) (f : Affine) → (b ≡ tru
 bounds_by n true r s f h k = h refl
 bounds_by n false r s f h k = k
 
--- the iterator on one side: where it stands on the left, the loop rises
+-- the iterator alone on one side, and not on the other
+alone_bounds : (laws : RoleLaws) (n : ℕ) (f g : Formula) (k : ℤ) → unsigned_abs k ≤ 1
+    → faults (n + 1) role.Affine g ≡ [] → (is_entry n f && not (names_entry n g)) ≡ true
+    → IsBound n (pos 1) (difference (form (n + 1) f) (form (n + 1) g) k)
+    × IsBound n (negsuc 0) (difference (form (n + 1) g) (form (n + 1) f) k)
+alone_bounds laws n f g k small y e =
+    let b = form (n + 1) g in
+    let c = and_parts (is_entry n f) (not (names_entry n g)) e in
+    subst (λ h. IsBound n (pos 1) (difference h b k) × IsBound n (negsuc 0) (difference b h k))
+    (sym (entry_form n f c.0))
+    (last_bounds n b k (laws.affine (n + 1) g (ap first y))
+    (unnamed (n + 1) n g (not_true (names_entry n g) c.1)) small)
+
+-- where it stands on the left, the loop rises
 between_up : (laws : RoleLaws) (n : ℕ) (f g : Formula) (k : ℤ) → unsigned_abs k ≤ 1
     → faults (n + 1) role.Affine f ≡ [] → faults (n + 1) role.Affine g ≡ []
     → Bounds n (rises_between n true f g) (difference (form (n + 1) g) (form (n + 1) f) k)
 between_up laws n f g k small x y =
-    let a = form (n + 1) f in
-    let b = form (n + 1) g in
-    bounds_by n (is_entry n f && not (names_entry n g)) (Some true) _ (difference b a k)
-    (λ e. let c = and_parts (is_entry n f) (not (names_entry n g)) e in
-    subst (λ h. IsBound n (negsuc 0) (difference b h k)) (sym (entry_form n f c.0))
-    (less_last n b k (laws.affine (n + 1) g (ap first y))
-    (unnamed (n + 1) n g (not_true (names_entry n g) c.1)) small))
-    (bounds_by n (is_entry n g && not (names_entry n f)) (Some false) None (difference b a k)
-    (λ e. let c = and_parts (is_entry n g) (not (names_entry n f)) e in
-    subst (λ h. IsBound n (pos 1) (difference h a k)) (sym (entry_form n g c.0))
-    (last_less n a k (laws.affine (n + 1) f (ap first x))
-    (unnamed (n + 1) n f (not_true (names_entry n f) c.1)) small))
-    tt)
+    let d = difference (form (n + 1) g) (form (n + 1) f) k in
+    bounds_by n (is_entry n f && not (names_entry n g)) (Some true) _ d (λ e. (alone_bounds laws n f g k small y e).1)
+    (bounds_by n (is_entry n g && not (names_entry n f)) (Some false) None d
+    (λ e. (alone_bounds laws n g f k small x e).0) tt)
 
 -- where it stands on the left, the loop falls
 between_down : (laws : RoleLaws) (n : ℕ) (f g : Formula) (k : ℤ) → unsigned_abs k ≤ 1
     → faults (n + 1) role.Affine f ≡ [] → faults (n + 1) role.Affine g ≡ []
     → Bounds n (rises_between n false f g) (difference (form (n + 1) f) (form (n + 1) g) k)
 between_down laws n f g k small x y =
-    let a = form (n + 1) f in
-    let b = form (n + 1) g in
-    bounds_by n (is_entry n f && not (names_entry n g)) (Some false) _ (difference a b k)
-    (λ e. let c = and_parts (is_entry n f) (not (names_entry n g)) e in
-    subst (λ h. IsBound n (pos 1) (difference h b k)) (sym (entry_form n f c.0))
-    (last_less n b k (laws.affine (n + 1) g (ap first y))
-    (unnamed (n + 1) n g (not_true (names_entry n g) c.1)) small))
-    (bounds_by n (is_entry n g && not (names_entry n f)) (Some true) None (difference a b k)
-    (λ e. let c = and_parts (is_entry n g) (not (names_entry n f)) e in
-    subst (λ h. IsBound n (negsuc 0) (difference a h k)) (sym (entry_form n g c.0))
-    (less_last n a k (laws.affine (n + 1) f (ap first x))
-    (unnamed (n + 1) n f (not_true (names_entry n f) c.1)) small))
-    tt)
+    let d = difference (form (n + 1) f) (form (n + 1) g) k in
+    bounds_by n (is_entry n f && not (names_entry n g)) (Some false) _ d (λ e. (alone_bounds laws n f g k small y e).0)
+    (bounds_by n (is_entry n g && not (names_entry n f)) (Some true) None d
+    (λ e. (alone_bounds laws n g f k small x e).1) tt)
 
 sides_none : (fs gs own : List Fault) → judged (fs ++ gs) own ≡ [] → (fs ≡ []) × (gs ≡ [])
 sides_none fs gs own e = parts_none fs gs (judged_none (fs ++ gs) own e).0
 
-pub condition_bounds : (laws : RoleLaws) (n : ℕ) (f : Formula) → faults (n + 1) role.Free f ≡ []
+pub condition_bounds : (laws : RoleLaws) (n : ℕ) (f : Formula) → faults (n + 1) role.Loose f ≡ []
     → Bounds n (rises n f) (condition_form (n + 1) f)
 condition_bounds laws n (binary op.Less f g at) e =
     let s = sides_none (faults (n + 1) role.Affine f) (faults (n + 1) role.Affine g) _ e in
@@ -344,7 +322,7 @@ head_stands laws s h e =
     let formed = only_none (is_form n h) kind.LoopForm form_none in
     let parts = parts_none (told h.name_at (iterator_fault h.new s h.iterator)) _ outer.0 in
     let inner = parts_none (faults n role.Affine h.first) _ parts.1 in
-    let second = parts_none (faults (n + 1) role.Free h.second) _ inner.1 in
+    let second = parts_none (faults (n + 1) role.Loose h.second) _ inner.1 in
     let goes_so = directed n (rises n h.second) (stride n h) (condition_form (n + 1) h.second) formed
     (condition_bounds laws n h.second second.0) (head_strides n h) in (
       record {

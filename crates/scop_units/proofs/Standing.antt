@@ -1,6 +1,6 @@
 -- Loops and statements without faults are within the limits of a kernel.
-use Rattle.std.proofs.Common.{◌≡◌, ℕ, zero, suc, ◌<◌, ◌≤◌, Bool, true, false, not, ◌||◌, if◌then◌else◌, List, [], ◌∷◌}
-use Rattle.std.proofs.Common.{◌++◌, length, refl, ap, arith, All, nat_le, nat_lt, slice_get}
+use Rattle.std.proofs.Common.{◌≡◌, ℕ, zero, suc, ◌<◌, ◌≤◌, Bool, true, false, not, ◌||◌, List, [], ◌∷◌, ◌++◌, length}
+use Rattle.std.proofs.Common.{refl, ap, arith, All, nat_le, nat_lt, slice_get}
 use Rattle.std.specs.Prelude.{Option, Some, None}
 use Rattle.std.proofs.lemmas.Bool.{and_parts, leb-true}
 use Rattle.std.proofs.lemmas.Bool.Decides.{nat_tests}
@@ -22,8 +22,8 @@ use Rattle.scop_roles.specs.Faults.{first, told, judged, faults, place_faults, o
 use Rattle.scop_roles.specs.Forms.{form}
 use Rattle.scop_roles.specs.Scope.{IsArrayName, IsArray, IsInScope, KnowsArrays}
 use Rattle.scop_roles.specs.Values.{access, expression, tests, read_places, count}
-use Rattle.scop_units.specs.Units.{Stored, is_array, own_cell, own_assign, own_read, read_limit, stored_faults}
-use Rattle.scop_units.specs.Units.{statement_faults, right_of, statement_of}
+use Rattle.scop_units.specs.Units.{Stored, is_array, own_cell, cell_faults, own_assign, own_read, read_limit}
+use Rattle.scop_units.specs.Units.{stored_faults, statement_faults, right_of, statement_of}
 use Rattle.scop_units.specs.Units as units
 
 -- what roles promise of formulas without faults
@@ -103,10 +103,6 @@ array_name meaning.Unknown e = absurd (cc)
 array_name meaning.Closed e = absurd (cc)
 array_name (meaning.Variable k) e = absurd (cc)
 
-cell_by : (b : Bool) (own : Option Kind) (k : Kind) → (if b then own else Some k) ≡ None → (b ≡ true) × (own ≡ None)
-cell_by true own k e = (refl, e)
-cell_by false own k e = absurd (cc)
-
 -- a shift's count
 shift_count : (f : Formula) → only_where (not (is_count 0 63 f)) kind.ShiftCount ≡ None → count f ≤ 63
 shift_count f e = (count_bounds 0 63 f (only_none (is_count 0 63 f) kind.ShiftCount e)).1
@@ -164,17 +160,18 @@ statement_stands laws ranks n comparisons before s in_cell in_value e =
     let all = parts_none (stored_faults n s) _ e in
     let limits = parts_none (read_limit (slice_get (units.reads_of s) 16)) _ all.1 in
     let numbers = parts_none (told (place s.cell) (only_where (nat_lt 16 comparisons) kind.Depth)) _ limits.1 in
-    let outer = judged_none (judged (place_faults n s.cell) (told (place s.cell) (own_cell s.cell))
-    ++ faults n role.Value s.value) _ all.0 in
-    let sides = parts_none (judged (place_faults n s.cell) (told (place s.cell) (own_cell s.cell))) _ outer.0 in
-    let cell = judged_none (place_faults n s.cell) _ sides.0 in
-    let own_none = told_none (place s.cell) (own_cell s.cell) cell.1 in
-    let own = cell_by (is_array (meaning_of s.cell)) (own_rank s.cell) _ own_none in
+    let outer = judged_none (cell_faults n s.cell ++ faults n role.Value s.value) _ all.0 in
+    let sides = parts_none (cell_faults n s.cell) _ outer.0 in
+    let cell = parts_none (told (place s.cell) (own_cell s.cell)) _ sides.0 in
+    let own = told_none (place s.cell) (own_cell s.cell) cell.0 in
+    let array = array_name (meaning_of s.cell) (only_none (is_array (meaning_of s.cell)) kind.IteratorOutside own) in
+    let parts = judged_none (place_faults n s.cell) _ cell.1 in
+    let rank = told_none (place s.cell) (own_rank s.cell) parts.1 in
     let assign = told_none s.assign_at (own_assign s.assign s.value) outer.1 in
     let few = short_list 16 (units.reads_of s) (limit_none (slice_get (units.reads_of s) 16) limits.0) in
     record {
       statement = record {
-        place = laws.cell ranks n s.cell in_cell (array_name (meaning_of s.cell) own.0) (ap first cell.0) own.1;
+        place = laws.cell ranks n s.cell in_cell array (ap first parts.0) rank;
         right = stored_right laws ranks n s.assign s.value in_value sides.1 assign;
         few_reads = stored_reads laws n s.cell s.assign s.value (place s.cell) 16 (omega arith) sides.1 assign few;
       };

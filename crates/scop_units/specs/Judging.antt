@@ -35,6 +35,7 @@ abbrev pub extents_in : Words → Scope → ℕ → List Tree → List Formula
 extents_in words s at [] = []
 extents_in words s at (x ∷ xs) = formula_in words s (at + 1) x ∷ extents_in words s (at + 1 + size x + 1) xs
 
+-- the faults of a parameter that begins at a place
 abbrev pub parameter_faults : Words → Scope → ℕ → Parameter → List Fault
 parameter_faults words s at number = number_faults words s (at + 1)
 parameter_faults words s at (array x xs) = array_faults words s (at + 1) (extents_in words s (at + 1 + 1) (x ∷ xs))
@@ -51,6 +52,7 @@ parameters_faults words s at (p ∷ ps) =
     parameter_faults words s (at + 1) p
     ++ parameters_faults words (behind_parameter words s (at + 1) p) (at + 1 + width (parameter_elements p)) ps
 
+-- the scope behind such parameters
 abbrev pub behind_parameters : Words → Scope → ℕ → List Parameter → Scope
 behind_parameters words s at [] = s
 behind_parameters words s at (p ∷ ps) =
@@ -63,6 +65,7 @@ names_faults words s at (suc k) =
     name_faults words s (at + 1)
     ++ names_faults words (with_iterator s (words.spelling (at + 1))) (at + 1 + 1) k
 
+-- the scope behind k such names
 abbrev pub behind_names : Words → Scope → ℕ → ℕ → Scope
 behind_names words s at zero = s
 behind_names words s at (suc k) = behind_names words (with_iterator s (words.spelling (at + 1))) (at + 1 + 1) k
@@ -81,6 +84,7 @@ declared_faults words s at (k ∷ ks) =
     ++ declared_faults words (behind_names words (with_iterator s (words.spelling (at + 1))) (at + 1 + 1) k)
     (names_end (at + 1 + 1) k + 1) ks)
 
+-- the scope behind such declarations
 abbrev pub behind_declared : Words → Scope → ℕ → List ℕ → Scope
 behind_declared words s at [] = s
 behind_declared words s at (k ∷ ks) =
@@ -98,18 +102,20 @@ iterator_at false at = at + 1 + 1
 abbrev pub inside : Words → Scope → Bool → ℕ → Scope
 inside words s new at = with_loop s (words.spelling (iterator_at new at))
 
--- where the parts of a loop's head stand behind its name's place
+-- where a loop's condition stands, behind its name's place and the first part
 abbrev pub second_at : ℕ → Tree → ℕ
 second_at at a = at + 1 + 1 + size a + 1
 
+-- where its step stands, behind the condition
 abbrev pub step_at : ℕ → Tree → Tree → ℕ
 step_at at a c = second_at at a + size c + 1
 
--- the name that a step at a place changes, and how
+-- the name that a step at a place changes
 abbrev pub changed : Lookup → ℕ → Step → Formula
 changed see at (counts c) = name (see.meaning (at + 1)) (at + 1)
 changed see at _ = name (see.meaning at) at
 
+-- how a step at a place changes it
 abbrev pub change : Lookup → ℕ → Step → Change
 change see at (counted c) = loops.counted c
 change see at (counts c) = loops.counted c
@@ -129,12 +135,15 @@ loop_head words s at new n a c st =
       change = change (look words (with_loop s (words.spelling n))) (step_at n a c) st;
     }
 
+-- the parts of the head of a loop at a place
 abbrev pub loop_in : Words → Scope → ℕ → Bool → Tree → Tree → Step → LoopHead
 loop_in words s at new a c st = loop_head words s at new (iterator_at new at) a c st
 
+-- the condition of an `if` at a place
 abbrev pub condition : Words → Scope → ℕ → Tree → Formula
 condition words s at c = formula_in words s (at + 1 + 1) c
 
+-- the faults of a head at a place
 abbrev pub head_faults : Words → Scope → ℕ → Head → List Fault
 head_faults words s at (branch c) = faults (entries s) role.Condition (condition words s at c)
 head_faults words s at (loop new a c st) = loop_faults s (loop_in words s at new a c st)
@@ -159,20 +168,21 @@ stored words s at a p x =
       value = formula_in words s (at + size p + 1) x;
     }
 
--- how many statements stand in items
 abbrev mutual
+  -- how many statements stand in an item
   pub statements_in : Item → ℕ
   statements_in (block is) = statements_in_all is
   statements_in empty = 0
   statements_in (assign a p x) = 1
   statements_in (headed h i) = statements_in i
 
+  -- how many stand in items, one behind another
   pub statements_in_all : Items → ℕ
   statements_in_all none = 0
   statements_in_all (more i is) = statements_in i + statements_in_all is
 
--- the faults of an item that begins at a place, with so many comparisons round it and so many statements in front
 abbrev mutual
+  -- the faults of an item that begins at a place, with so many comparisons round it and statements in front
   pub item_faults : Words → Scope → ℕ → ℕ → ℕ → Item → List Fault
   item_faults words s comparisons before at (block is) = items_faults words s comparisons before (at + 1) is
   item_faults words s comparisons before at empty = []
@@ -183,6 +193,7 @@ abbrev mutual
       ++ item_faults words (behind_head words s at h) (comparisons + compared words s at h) before
       (at + width (head_elements h)) i
 
+  -- those of items, one behind another
   pub items_faults : Words → Scope → ℕ → ℕ → ℕ → Items → List Fault
   items_faults words s comparisons before at none = []
   items_faults words s comparisons before at (more i is) =
@@ -191,23 +202,27 @@ abbrev mutual
 
 -- the kernel: void name ( parameters ) { declarations items }
 
--- where the parts of a kernel stand
+-- where the sign behind the first parameter stands
 abbrev pub others_at : Kernel → ℕ
 others_at k = 3 + width (parameter_elements k.first)
 
+-- where the declarations begin
 abbrev pub declared_at : Kernel → ℕ
 declared_at k = others_at k + width (other_parameters k.others) + 1
 
+-- where the items begin
 abbrev pub items_at : Kernel → ℕ
 items_at k = declared_at k + width (declarations k.declared)
 
--- the scope behind the first parameter, behind the header, and behind the declarations
+-- the scope behind the first parameter
 abbrev pub first_scope : Words → Kernel → Scope
 first_scope words k = behind_parameter words no_scope 3 k.first
 
+-- the scope behind the header
 abbrev pub header_scope : Words → Kernel → Scope
 header_scope words k = behind_parameters words (first_scope words k) (others_at k) k.others
 
+-- the scope behind the declarations
 abbrev pub body_scope : Words → Kernel → Scope
 body_scope words k = behind_declared words (header_scope words k) (declared_at k) k.declared
 

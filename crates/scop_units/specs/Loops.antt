@@ -38,16 +38,17 @@ pub record LoopHead : Type 0 where
   pub changed : Formula
   pub change : Change
 
--- the entry itself
+-- a name means the entry k
 abbrev pub is_variable : ℕ → Meaning → Bool
 is_variable k (meaning.Variable j) = j == k
 is_variable k _ = false
 
+-- a formula is the entry k itself
 abbrev pub is_entry : ℕ → Formula → Bool
 is_entry k (name m at) = is_variable k m
 is_entry k _ = false
 
--- the entry is named
+-- the entry k is named in a formula
 abbrev pub names_entry : ℕ → Formula → Bool
 names_entry k (constant s v at) = false
 names_entry k (name m at) = is_entry k (name m at)
@@ -82,10 +83,11 @@ abbrev pub by_count : Bool → ℕ → ℤ
 by_count true v = pos v
 by_count false v = negsuc (v - 1)
 
--- a constant without suffix from 1 to 16
+-- the stride by a constant without suffix from 1 to 16, up or down
 abbrev pub stride_of : Bool → Formula → Option ℤ
 stride_of up f = if is_count 1 16 f then Some (by_count up (count f)) else None
 
+-- the stride by such a constant added to the entry k, or taken off it
 abbrev pub added_stride : ℕ → Bool → Formula → Formula → Option ℤ
 added_stride k up f g = if is_entry k f then stride_of up g else None
 
@@ -95,6 +97,7 @@ set_stride k (binary op.Plus f g at) = added_stride k true f g
 set_stride k (binary op.Minus f g at) = added_stride k false f g
 set_stride k _ = None
 
+-- the stride of a change: by 1 or such a constant, up or down
 abbrev pub change_stride : ℕ → Change → Option ℤ
 change_stride k (counted count.Up) = Some (pos 1)
 change_stride k (counted count.Down) = Some (negsuc 0)
@@ -117,6 +120,7 @@ goes _ _ = false
 abbrev pub is_form : ℕ → LoopHead → Bool
 is_form k h = goes (rises k h.second) (stride k h)
 
+-- the faults of a change over n entries: of its right side nothing is asked
 abbrev pub change_faults : ℕ → Change → List Fault
 change_faults n (counted c) = []
 change_faults n (assigned a f) = faults n role.Free f
@@ -126,15 +130,16 @@ abbrev pub part_faults : Scope → LoopHead → List Fault
 part_faults s h =
     told h.name_at (iterator_fault h.new s h.iterator)
     ++ (faults (entries s) role.Affine h.first
-    ++ (faults (entries s + 1) role.Free h.second
+    ++ (faults (entries s + 1) role.Loose h.second
     ++ (faults (entries s + 1) role.Free h.changed ++ change_faults (entries s + 1) h.change)))
 
--- the sixth open loop is one too many
+-- the faults of a loop's head; the sixth open loop is one too many
 abbrev pub loop_faults : Scope → LoopHead → List Fault
 loop_faults s h =
     judged (part_faults s h) (told h.place (only_where (not (is_form (entries s) h)) kind.LoopForm))
     ++ told h.place (only_where (nat_le 5 (length s.open_loops)) kind.Depth)
 
+-- a stride; 0 where there is none
 abbrev pub or_zero : Option ℤ → ℤ
 or_zero (Some z) = z
 or_zero None = pos 0

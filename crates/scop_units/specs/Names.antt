@@ -1,20 +1,22 @@
--- No name of a program is declared where it is taken: parameters and arrays have names of their own, and the iterator
--- of a loop another than they and the loops round it.
+-- No name is declared where it is in scope already: parameters and arrays of a program have names of their own, and the
+-- iterator of a loop another than they and the loops round it.
 use Rattle.std.specs.Prelude.{◌≢◌, List, [], ◌∷◌, ◌++◌, map, ⊤}
 use Rattle.scop_lexer.specs.Bytes.{Text}
 use Rattle.scop_syntax.specs.Members.{In, Sorted}
 use Rattle.scop_syntax.specs.Tree.{Tree, loop, guard, statement, Trees, none, more, Declaration, Program}
 
+-- no two of the names are the same
 abbrev pub AreDistinct : List Text → Type 0
 AreDistinct names = Sorted (λ (v w : Text). v ≢ w) names
 
--- each loop takes a name that is not among these, nor among those of the loops round it
 abbrev mutual
+  -- each loop takes a name that is not among these, nor among those of the loops round it
   pub TakesFresh : List Text → Tree → Type 0
   TakesFresh names (loop head body) = (In head.iterator names → ⊥) × TakeFresh (names ++ head.iterator ∷ []) body
   TakesFresh names (guard tests body) = TakeFresh names body
   TakesFresh names (statement s) = ⊤
 
+  -- so it is in each of these trees
   pub TakeFresh : List Text → Trees → Type 0
   TakeFresh names none = ⊤
   TakeFresh names (more t ts) = TakesFresh names t × TakeFresh names ts
@@ -23,6 +25,7 @@ abbrev mutual
 abbrev pub header_names : Program → List Text
 header_names program = program.parameters ++ map (λ (d : Declaration). d.name) program.arrays
 
+-- the names of the header are distinct, and each loop takes a fresh one
 pub record HasDistinctNames (program : Program) : Type 0 where
   pub header : AreDistinct (header_names program)
   pub loops : TakeFresh (header_names program) program.body

@@ -37,8 +37,8 @@ abbrev pub wrapped : (scop.Trees → scop.Tree) → List scop.Tree → List scop
 wrapped head [] = []
 wrapped head (t ∷ ts) = head (trees_of (t ∷ ts)) ∷ []
 
--- the trees of an item that begins at a place
 abbrev mutual
+  -- the trees of an item that begins at a place
   pub item_trees : Words → Scope → ℕ → Item → List scop.Tree
   item_trees words s at (block is) = all_trees words s (at + 1) is
   item_trees words s at empty = []
@@ -48,6 +48,7 @@ abbrev mutual
       wrapped (headed_by words s at h)
       (item_trees words (behind_head words s at h) (at + width (head_elements h)) i)
 
+  -- those of items, one behind another
   pub all_trees : Words → Scope → ℕ → Items → List scop.Tree
   all_trees words s at none = []
   all_trees words s at (more i is) = item_trees words s at i ++ all_trees words s (at + width (item_elements i)) is

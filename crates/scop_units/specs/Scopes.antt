@@ -17,25 +17,30 @@ pub record Ranked : Type 0 where
   pub name : Text
   pub rank : ℕ
 
+-- the names in scope, each list in the order of the text
 pub record Scope : Type 0 where
   pub parameters : List Text
   pub arrays : List Ranked
-  -- iterators declared at the start
-  pub declared : List Text
+  -- whether a name is that of an iterator declared at the start
+  pub declared : Text → Bool
   -- the iterators of the open loops, outermost first
   pub open_loops : List Text
 
+-- nothing is in scope
 abbrev pub no_scope : Scope
-no_scope = record { parameters = []; arrays = []; declared = []; open_loops = [] }
+no_scope = record { parameters = []; arrays = []; declared = λ v. false; open_loops = [] }
 
+-- with one parameter more
 abbrev pub with_parameter : Scope → Text → Scope
 with_parameter s w = record s { parameters = s.parameters ++ w ∷ [] }
 
+-- with one array more, of so many extents
 abbrev pub with_array : Scope → Text → ℕ → Scope
 with_array s w r = record s { arrays = s.arrays ++ record { name = w; rank = r } ∷ [] }
 
+-- with one iterator more that is declared at the start
 abbrev pub with_iterator : Scope → Text → Scope
-with_iterator s w = record s { declared = s.declared ++ w ∷ [] }
+with_iterator s w = record s { declared = λ v. bytes_eq w v || s.declared v }
 
 -- within a loop of this iterator
 abbrev pub with_loop : Scope → Text → Scope
@@ -50,25 +55,25 @@ abbrev pub number_from : ℕ → Text → List Text → Option ℕ
 number_from k w [] = None
 number_from k w (v ∷ vs) = if bytes_eq v w then Some k else number_from (k + 1) w vs
 
+-- the number of a name in a list, from 0
 abbrev pub number_of : Text → List Text → Option ℕ
 number_of w names = number_from 0 w names
 
--- the number of a word among the open loops and, behind them, a loop of this iterator
+-- the number, where there is one, else the other
 abbrev pub number_or : Option ℕ → Option ℕ → Option ℕ
 number_or (Some k) other = Some k
 number_or None other = other
 
+-- the number of a word among the open loops and, behind them, a loop of this iterator
 abbrev pub number_inside : Text → Text → List Text → Option ℕ
 number_inside u w names = number_or (number_of w names) (if bytes_eq u w then Some (length names) else None)
 
+-- an entry behind n others by its number, else another meaning
 abbrev pub variable_or : ℕ → Option ℕ → Meaning → Meaning
 variable_or n (Some k) otherwise = meaning.Variable (n + k)
 variable_or n None otherwise = otherwise
 
-abbrev pub closed_or : Option ℕ → Meaning → Meaning
-closed_or (Some k) otherwise = meaning.Closed
-closed_or None otherwise = otherwise
-
+-- the array of a name among arrays whose first has number k
 abbrev pub array_in : ℕ → Text → List Ranked → Meaning
 array_in k w [] = meaning.Unknown
 array_in k w (a ∷ arrays) = if bytes_eq a.name w then meaning.Array k a.rank else array_in (k + 1) w arrays
@@ -76,7 +81,7 @@ array_in k w (a ∷ arrays) = if bytes_eq a.name w then meaning.Array k a.rank e
 -- what a name means outside of all loops
 abbrev pub outer_meaning : Scope → Text → Meaning
 outer_meaning s w =
-    closed_or (number_of w s.declared) (variable_or 0 (number_of w s.parameters) (array_in 0 w s.arrays))
+    if s.declared w then meaning.Closed else variable_or 0 (number_of w s.parameters) (array_in 0 w s.arrays)
 
 -- what a name means
 abbrev pub meaning_in : Scope → Text → Meaning
@@ -86,11 +91,12 @@ meaning_in s w = variable_or (length s.parameters) (number_of w s.open_loops) (o
 abbrev pub look : Words → Scope → Lookup
 look words s = record { meaning = λ at. meaning_in s (words.spelling at); worth = words.worth }
 
+-- a name means something
 abbrev pub is_known : Meaning → Bool
 is_known meaning.Unknown = false
 is_known _ = true
 
--- names that begin with `pp_` are those of emitted texts
+-- names that begin with `pp_` are kept free
 abbrev pub is_reserved : Text → Bool
 is_reserved w = bytes_eq (take 3 w) (codes "pp_")
 

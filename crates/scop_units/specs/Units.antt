@@ -1,6 +1,6 @@
 -- What is judged at once: a declared name, an array with its extents, a statement.
-use Rattle.std.specs.Prelude.{ℕ, ◌-◌, Bool, true, false, not, nat_le, nat_lt, ◌==◌, if◌then◌else◌, List, [], ◌∷◌, ◌++◌}
-use Rattle.std.specs.Prelude.{length, map, slice_get, Option, Some, None}
+use Rattle.std.specs.Prelude.{ℕ, ◌-◌, Bool, true, false, not, nat_le, nat_lt, List, [], ◌∷◌, ◌++◌, length, map}
+use Rattle.std.specs.Prelude.{slice_get, Option, Some, None}
 use Rattle.whole_numbers.specs.Affine.{Affine, form_of}
 use Rattle.whole_numbers.specs.Lists.{zeros}
 use Rattle.expression_grammar.specs.declared.token.Assign.{Assign}
@@ -13,7 +13,7 @@ use Rattle.scop_roles.specs.declared.fault.Fault.{Fault}
 use Rattle.scop_roles.specs.declared.formula.Meaning.{Meaning}
 use Rattle.scop_roles.specs.declared.formula.Meaning.TheVariants as meaning
 use Rattle.scop_roles.specs.declared.formula.Role.TheVariants as role
-use Rattle.scop_roles.specs.Formula.{Formula, place, meaning_of, subscripts}
+use Rattle.scop_roles.specs.Formula.{Formula, place, meaning_of}
 use Rattle.scop_roles.specs.Faults.{told, judged, faults, place_faults, own_rank, is_count, only_where}
 use Rattle.scop_roles.specs.Forms.{form}
 use Rattle.scop_roles.specs.Values.{access, expression, read_places, count}
@@ -33,6 +33,7 @@ abbrev pub number_faults : Words → Scope → ℕ → List Fault
 number_faults words s at =
     name_faults words s at ++ told at (only_where (nat_le 4 (length s.parameters)) kind.Parameters)
 
+-- extents, each an affine form over n entries
 abbrev pub extent_faults : ℕ → List Formula → List Fault
 extent_faults n [] = []
 extent_faults n (f ∷ fs) = faults n role.Affine f ++ extent_faults n fs
@@ -68,15 +69,19 @@ pub record Stored : Type 0 where
   pub assign_at : ℕ
   pub value : Formula
 
+-- a name means an array
 abbrev pub is_array : Meaning → Bool
 is_array (meaning.Array k r) = true
 is_array _ = false
 
--- a cell of an array; an iterator or a parameter is none, with subscripts or without
+-- only an array has cells: an iterator or a parameter is none, with subscripts or without; of an unknown name
+-- UnknownName is told, which stands at the same place and is the lesser kind
 abbrev pub own_cell : Formula → Option Kind
-own_cell f =
-    if is_array (meaning_of f) then own_rank f
-    else Some (if subscripts f == 0 then kind.IteratorOutside else kind.Rank)
+own_cell f = only_where (not (is_array (meaning_of f))) kind.IteratorOutside
+
+-- the faults of a place that is stored to: a refused subscript silences its rank, and not what its name is
+abbrev pub cell_faults : ℕ → Formula → List Fault
+cell_faults n f = told (place f) (own_cell f) ++ judged (place_faults n f) (told (place f) (own_rank f))
 
 -- an operator that assigns, with its right side
 abbrev pub own_assign : Assign → Formula → Option Kind
@@ -103,10 +108,9 @@ read_limit None = []
 -- the cell, the value, and where both have none the operator
 abbrev pub stored_faults : ℕ → Stored → List Fault
 stored_faults n s =
-    judged (judged (place_faults n s.cell) (told (place s.cell) (own_cell s.cell)) ++ faults n role.Value s.value)
-    (told s.assign_at (own_assign s.assign s.value))
+    judged (cell_faults n s.cell ++ faults n role.Value s.value) (told s.assign_at (own_assign s.assign s.value))
 
--- with so many comparisons round the statement, and so many statements in front of it
+-- the faults of a statement over n entries, with so many comparisons round it and so many statements in front
 abbrev pub statement_faults : ℕ → ℕ → ℕ → Stored → List Fault
 statement_faults n comparisons before s =
     stored_faults n s
@@ -114,6 +118,7 @@ statement_faults n comparisons before s =
     ++ (told (place s.cell) (only_where (nat_lt 16 comparisons) kind.Depth)
     ++ told (place s.cell) (only_where (nat_le 32 before) kind.Statements)))
 
+-- what stands on the right of a place, by the operator and the value
 abbrev pub right_of : ℕ → Assign → Formula → Right
 right_of n assigns.Plus f = combined plus (expression n f)
 right_of n assigns.Minus f = combined minus (expression n f)
@@ -125,6 +130,7 @@ right_of n assigns.ShiftLeft f = moved_left (count f)
 right_of n assigns.ShiftRight f = moved_right (count f)
 right_of n _ f = assigned (expression n f)
 
+-- the statement of a program that a faultless one stands for, over n entries
 abbrev pub statement_of : ℕ → Stored → Statement
 statement_of n s = record { place = access n s.cell; right = right_of n s.assign s.value }
 

@@ -1,5 +1,7 @@
 -- What the code's values stand for.
 use Rattle.std.specs.Prelude.{ℕ, List, map, length, Option, Some, None}
+use Rattle.std.specs.List.{list_any}
+use Rattle.std.specs.Str.{bytes_eq}
 use Rattle.scop_lexer.specs.Tokens.{tokens_at}
 use Rattle.scop_lexer.specs.declared.token.Token.{Token}
 use Rattle.scop_syntax.specs.Tree.{Declaration}
@@ -16,12 +18,15 @@ use Rattle.scop_units.specs.Units.{Stored}
 use Rattle.scop_units.specs.Words.{Words, words_of}
 use Rattle.scop_units.specs.Scopes.{Scope, Ranked, with_loop, look}
 
+-- the tokens of a text that the code holds
 abbrev pub tokens_in : CodeWords → List Token
 tokens_in w = tokens_at w.text.now w.starts.now
 
+-- the words that a value of the code stands for
 abbrev pub words_in : CodeWords → Words
 words_in w = words_of w.text.now (tokens_in w)
 
+-- an array's name, and how many extents it has
 abbrev pub ranked : Declaration → Ranked
 ranked a = record { name = a.name; rank = length a.extents }
 
@@ -31,7 +36,7 @@ scope_of s =
     record {
       parameters = map (λ n. n.items) s.parameters.items;
       arrays = map ranked s.arrays.items;
-      declared = map (λ n. n.items) s.declared.items;
+      declared = λ w. list_any (λ n. bytes_eq n.items w) s.declared.keys;
       open_loops = map (λ n. n.items) s.open_loops.items;
     }
 
@@ -40,13 +45,16 @@ abbrev pub scope_within : Words → Scope → Option ℕ → Scope
 scope_within words s None = s
 scope_within words s (Some at) = with_loop s (words.spelling at)
 
+-- what stands at a place, where a value of the code looks it up
 abbrev pub look_of : Look → Lookup
 look_of l = look (words_in l.words) (scope_within (words_in l.words) (scope_of l.scope.now) l.inner)
 
+-- the change that a value of the code stands for
 abbrev pub change_of : CodeChange → Change
 change_of (change.Counted c) = counted c
 change_of (change.Assigned a f) = assigned a (formula_of f)
 
+-- the loop's head that a value of the code stands for
 abbrev pub head_of : CodeHead → LoopHead
 head_of h =
     record {
@@ -60,6 +68,7 @@ head_of h =
       change = change_of h.change;
     }
 
+-- the statement that a value of the code stands for
 abbrev pub stored_of : CodeStored → Stored
 stored_of s =
     record { cell = formula_of s.cell; assign = s.assign; assign_at = s.assign_at; value = formula_of s.value }

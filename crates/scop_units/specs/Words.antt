@@ -78,6 +78,7 @@ grammar_token (kind.Constant value false) = token.Constant suffix.Absent
 grammar_token (kind.Constant value true) = token.Constant suffix.Present
 grammar_token (kind.Sign s) = sign_token s
 
+-- what tokens are in the grammar
 abbrev pub grammar_tokens : List Lexeme → List Token
 grammar_tokens tokens = map (λ (t : Lexeme). grammar_token t.kind) tokens
 
@@ -88,14 +89,17 @@ pub record Words : Type 0 where
   -- the number that a constant is
   pub worth : ℕ → ℕ
 
+-- the bytes of a token; none where there is no token
 abbrev pub spelling_of : Text → Option Lexeme → Text
 spelling_of text (Some t) = take (t.end - t.start) (drop t.start text)
 spelling_of text None = []
 
+-- the number that a constant is; 0 for what is none
 abbrev pub worth_of_kind : Kind → ℕ
 worth_of_kind (kind.Constant value suffixed) = value
 worth_of_kind _ = 0
 
+-- the number that a token is; 0 where there is no token
 abbrev pub worth_of : Option Lexeme → ℕ
 worth_of (Some t) = worth_of_kind t.kind
 worth_of None = 0
@@ -108,11 +112,12 @@ words_of text tokens =
       worth = λ at. worth_of (slice_get tokens at);
     }
 
--- the byte where a token begins; behind the last the text's end
+-- the byte where a token begins; n where there is no token
 abbrev pub start_or : ℕ → Option Lexeme → ℕ
 start_or n (Some t) = t.start
 start_or n None = n
 
+-- the byte where the token at a place begins; behind the last the text's end
 abbrev pub start_of : Text → List Lexeme → ℕ → ℕ
 start_of text tokens at = start_or (length text) (slice_get tokens at)
 

@@ -274,11 +274,11 @@ fn change_fault(alloc: Global, entries: usize, change: &Change) -> Result<Option
 
 // The first fault of what stands inside.
 fn inner_fault(alloc: Global, entries: usize, head: &LoopHead) -> Result<Option<Fault>, AllocError>
-    ensures { IfOk result (λ fault. fault ≡ first_of (first (faults entries role.Free (head_of head.now).second))
+    ensures { IfOk result (λ fault. fault ≡ first_of (first (faults entries role.Loose (head_of head.now).second))
         (first_of (first (faults entries role.Free (head_of head.now).changed))
         (first (change_faults entries (head_of head.now).change)))) }
 {
-    let second = fault(alloc, &head.second, entries, Role::Free)?;
+    let second = fault(alloc, &head.second, entries, Role::Loose)?;
     let changed = fault(alloc, &head.changed, entries, Role::Free)?;
     let change = change_fault(alloc, entries, &head.change)?;
     Ok(first_of(second, first_of(changed, change)))
@@ -318,7 +318,7 @@ pub fn loop_fault(
 // The condition as a form that is at least 0, over the entries up to the iterator's.
 fn condition_form(alloc: Global, entry: usize, condition: &Formula) -> Result<Aff, AllocError>
     requires room { entry < 2 ^ 63 }
-    requires faultless { first (faults (entry + 1) role.Free (formula_of condition.now)) ≡ None }
+    requires faultless { first (faults (entry + 1) role.Loose (formula_of condition.now)) ≡ None }
     requires compares { is_some (rises entry (formula_of condition.now)) ≡ true }
     ensures { IfOk result (λ form. form ≡ condition_form (entry + 1) (formula_of condition.now)) }
 {

@@ -1,8 +1,9 @@
 //! Names in scope, and what they mean.
 
-ghost use Rattle.std.specs.Prelude.{◌≡◌, ◌<◌, ◌≤◌, ◌++◌, ◌∷◌, [], ℕ, IfOk, IfSome, length, map};
+ghost use Rattle.std.specs.Prelude.{◌≡◌, ◌<◌, ◌≤◌, ◌++◌, ◌∷◌, [], ℕ, IfOk, IfSome, OnOk, length, map};
 ghost use Rattle.scop_units.specs.Scopes.{array_in, entries, is_reserved, iterator_fault, meaning_in, no_scope};
-ghost use Rattle.scop_units.specs.Scopes.{number_inside, number_of, outer_meaning, redeclared, with_loop};
+ghost use Rattle.scop_units.specs.Scopes.{number_inside, number_of, outer_meaning, redeclared, with_iterator};
+ghost use Rattle.scop_units.specs.Scopes.{with_loop};
 ghost use Rattle.scop_units.specs.View.{ranked, scope_of, scope_within, words_in};
 
 use crate::words::Words;
@@ -10,6 +11,7 @@ use scop_roles::fault::Kind;
 use scop_roles::formula::{Meaning, Names};
 use scop_syntax::tree::{Array, Name};
 use std::alloc::{AllocError, Global};
+use std::collections::BTreeSet;
 
 /// The names in scope.
 #[derive(Debug, Drop)]
@@ -17,7 +19,7 @@ pub struct Scope {
     pub parameters: Vec<Name>,
     pub arrays: Vec<Array>,
     // Iterators declared at the start.
-    pub declared: Vec<Name>,
+    pub declared: BTreeSet<Name>,
     // The iterators of the open loops, outermost first.
     pub open_loops: Vec<Name>,
 }
@@ -51,7 +53,7 @@ fn array_in(word: &[u8], arrays: &[Array]) -> Meaning
     Meaning::Unknown
 }
 
-// Names that begin with `pp_` are those of emitted texts.
+// Names that begin with `pp_` are kept free.
 pub(crate) fn is_reserved(word: &[u8]) -> bool
     ensures { result ≡ is_reserved word.now }
 {
@@ -76,7 +78,7 @@ impl Scope {
         Scope {
             parameters: Vec::new(alloc),
             arrays: Vec::new(alloc),
-            declared: Vec::new(alloc),
+            declared: BTreeSet::new(alloc),
             open_loops: Vec::new(alloc),
         }
     }
@@ -88,11 +90,33 @@ impl Scope {
         self.parameters.len() + self.open_loops.len()
     }
 
+    // Whether a name is that of an iterator declared at the start.
+    fn is_declared(&self, word: &[u8]) -> bool
+        ensures { result ≡ (scope_of self.now).declared word.now }
+    {
+        self.declared.contains(word)
+    }
+
+    /// One iterator more is declared at the start.
+    ///
+    /// # Errors
+    /// Want of memory.
+    pub fn declare(&mut self, name: Name) -> Result<(), AllocError>
+        ensures scope { OnOk result (scope_of self.new ≡ with_iterator (scope_of self.old) name.items) }
+        ensures arrays { self.new.arrays ≡ self.old.arrays }
+    {
+        match self.declared.insert(name) {
+            Err(_) => return Err(AllocError),
+            Ok(_) => {}
+        }
+        Ok(())
+    }
+
     // What a name means outside of all loops.
     fn outer_meaning(&self, word: &[u8]) -> Meaning
         ensures { result ≡ outer_meaning (scope_of self.now) word.now }
     {
-        if number_of(word, &self.declared).is_some() {
+        if self.is_declared(word) {
             return Meaning::Closed;
         }
         match number_of(word, &self.parameters) {

@@ -2,14 +2,14 @@
 
 ghost use Rattle.std.specs.Prelude.{◌≡◌, ◌++◌, IfOk, None, map, slice_get, true};
 ghost use Rattle.scop_roles.specs.declared.formula.Role.TheVariants as role;
-ghost use Rattle.scop_roles.specs.Faults.{faults, first, is_count, only_where, told};
+ghost use Rattle.scop_roles.specs.Faults.{faults, first, is_count, only_where, own_rank, told};
 ghost use Rattle.scop_roles.specs.Formula.{formula_of};
 ghost use Rattle.scop_roles.specs.Values.{count};
 ghost use Rattle.scop_syntax.specs.View.{right_of as code_right, statement_of as code_statement};
 ghost use Rattle.scop_units.specs.Scopes.{entries};
-ghost use Rattle.scop_units.specs.Units.{array_faults, array_of, extent_faults, kernel_name_faults, name_faults};
-ghost use Rattle.scop_units.specs.Units.{number_faults, or_fault, own_assign, own_cell, read_limit, reads_of, right_of};
-ghost use Rattle.scop_units.specs.Units.{statement_faults, statement_of, stored_faults};
+ghost use Rattle.scop_units.specs.Units.{array_faults, array_of, cell_faults, extent_faults, kernel_name_faults};
+ghost use Rattle.scop_units.specs.Units.{name_faults, number_faults, or_fault, own_assign, own_cell, read_limit};
+ghost use Rattle.scop_units.specs.Units.{reads_of, right_of, statement_faults, statement_of, stored_faults};
 ghost use Rattle.scop_units.specs.View.{scope_of, stored_of, words_in};
 
 use crate::scope::{Scope, copied, is_reserved};
@@ -161,24 +161,40 @@ pub struct Stored {
     pub value: Formula,
 }
 
-// A cell of an array; an iterator or a parameter is none.
+// Only an array has cells: an iterator or a parameter is none.
 fn own_cell(cell: &Formula) -> Option<Kind>
     ensures { result ≡ own_cell (formula_of cell.now) }
 {
     match meaning_of(cell) {
-        Meaning::Array(_, rank) => {
-            if has_subscripts(cell, rank) {
-                None
-            } else {
-                Some(Kind::Rank)
-            }
-        }
-        _ => Some(if has_subscripts(cell, 0) {
-            Kind::IteratorOutside
-        } else {
-            Kind::Rank
-        }),
+        Meaning::Array(_, _) => None,
+        _ => Some(Kind::IteratorOutside),
     }
+}
+
+// As many subscripts as its declaration has extents; what is no array has none.
+fn own_rank(cell: &Formula) -> Option<Kind>
+    ensures { result ≡ own_rank (formula_of cell.now) }
+{
+    let rank = match meaning_of(cell) {
+        Meaning::Array(_, rank) => rank,
+        _ => 0,
+    };
+    if has_subscripts(cell, rank) {
+        None
+    } else {
+        Some(Kind::Rank)
+    }
+}
+
+// A place that is stored to: its name, its subscripts, and where these have no fault its rank.
+fn cell_fault(alloc: Global, entries: usize, cell: &Formula) -> Result<Option<Fault>, AllocError>
+    ensures { IfOk result (λ fault. fault ≡ first (cell_faults entries (formula_of cell.now))) }
+{
+    let at = place(cell);
+    let parts = place_fault(alloc, cell, entries)?;
+    let rank = told(at, own_rank(cell));
+    let name = told(at, own_cell(cell));
+    Ok(first_of(name, or_fault(parts, rank)))
 }
 
 // An operator that assigns, with its right side.
@@ -224,10 +240,7 @@ fn read_fault(alloc: Global, stored: &Stored) -> Result<Option<Fault>, AllocErro
 fn stored_fault(alloc: Global, entries: usize, stored: &Stored) -> Result<Option<Fault>, AllocError>
     ensures { IfOk result (λ fault. fault ≡ first (stored_faults entries (stored_of stored.now))) }
 {
-    let cell = or_fault(
-        place_fault(alloc, &stored.cell, entries)?,
-        told(place(&stored.cell), own_cell(&stored.cell)),
-    );
+    let cell = cell_fault(alloc, entries, &stored.cell)?;
     let value = fault(alloc, &stored.value, entries, Role::Value)?;
     let own = told(stored.assign_at, own_assign(stored.assign, &stored.value));
     Ok(or_fault(first_of(cell, value), own))

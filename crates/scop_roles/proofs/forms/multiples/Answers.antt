@@ -9,3 +9,8 @@ product-requires-clause-number c =
     let fits : FitsSigned w64 (get_or c.args.numbers.now c.loop-at.at (pos 0)) = search rules in
     let small = at_most-get 16 c.args.numbers.now c.loop-at.at c.requires.numbers in
     simp to_z-of_z (omega arith)
+
+pub product-requires-clause-factor : goal.product-requires-clause-factor
+product-requires-clause-factor c =
+    let fits : FitsSigned w64 c.args.factor = search rules in
+    simp to_z-of_z c.requires.factor

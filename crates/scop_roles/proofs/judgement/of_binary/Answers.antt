@@ -16,7 +16,8 @@ returns-clause-judged c f g h i =
       summand = c.binary_fault-2.ensures c.args.entries f g h i joined.own;
       value = c.binary_fault-3.ensures c.args.entries f g h i joined.own;
       condition = c.binary_fault-4.ensures c.args.entries f g h i joined.own;
-      free = c.binary_fault-5.ensures c.args.entries f g h i joined.own;
+      loose = c.binary_fault-5.ensures c.args.entries f g h i joined.own;
+      free = c.binary_fault-6.ensures c.args.entries f g h i joined.own;
       form = joined.form;
       limits = c.in-Ok.ensures.limits;
     }

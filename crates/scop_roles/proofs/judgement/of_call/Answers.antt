@@ -24,7 +24,9 @@ returns-clause-bare c n m e =
           (bare_first n role.Value m c.args.at);
       condition = rw (c.part_or_own-4.ensures, c.own_call-4.ensures.bare n c.args.at m, e)
           (bare_first n role.Condition m c.args.at);
-      free = rw (c.part_or_own-5.ensures, c.own_call-5.ensures.bare n c.args.at m, e)
+      loose = rw (c.part_or_own-5.ensures, c.own_call-5.ensures.bare n c.args.at m, e)
+          (bare_first n role.Loose m c.args.at);
+      free = rw (c.part_or_own-6.ensures, c.own_call-6.ensures.bare n c.args.at m, e)
           (bare_first n role.Free m c.args.at);
       form = refused (told c.args.at (called m)) c.args.at kind.NotAffine;
       limits = tt;
@@ -48,7 +50,9 @@ returns-clause-call c n m f e =
           (call_first n role.Value m f c.args.at);
       condition = rw (c.part_or_own-4.ensures, c.own_call-4.ensures.call n c.args.at m f, e)
           (call_first n role.Condition m f c.args.at);
-      free = rw (c.part_or_own-5.ensures, c.own_call-5.ensures.call n c.args.at m f, e)
+      loose = rw (c.part_or_own-5.ensures, c.own_call-5.ensures.call n c.args.at m f, e)
+          (call_first n role.Loose m f c.args.at);
+      free = rw (c.part_or_own-6.ensures, c.own_call-6.ensures.call n c.args.at m f, e)
           (call_first n role.Free m f c.args.at);
       form = refused (told c.args.at (called m) ++ faults n role.Free f) c.args.at kind.NotAffine;
       limits = tt;

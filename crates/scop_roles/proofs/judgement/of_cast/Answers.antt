@@ -19,7 +19,8 @@ returns c n f h =
       summand = c.cast_fault-2.ensures n f h;
       value = c.cast_fault-3.ensures n f h;
       condition = c.cast_fault-4.ensures n f h;
-      free = c.cast_fault-5.ensures n f h;
+      loose = c.cast_fault-5.ensures n f h;
+      free = c.cast_fault-6.ensures n f h;
       form = refused (faults n role.Free f) c.args.at kind.NotAffine;
       limits = tt;
     }

@@ -15,7 +15,8 @@ returns c =
       summand = c.constant_fault-2.ensures c.args.entries;
       value = c.constant_fault-3.ensures c.args.entries;
       condition = c.constant_fault-4.ensures c.args.entries;
-      free = c.constant_fault-5.ensures c.args.entries;
+      loose = c.constant_fault-5.ensures c.args.entries;
+      free = c.constant_fault-6.ensures c.args.entries;
       form = c.in-Ok.ensures.form c.args.at;
       limits = c.in-Ok.ensures.limits;
     }

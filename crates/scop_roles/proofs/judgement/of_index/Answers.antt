@@ -23,7 +23,8 @@ returns c n p i h g =
       summand = c.index_fault-2.ensures n p i h g;
       value = c.index_fault-3.ensures n p i h g;
       condition = c.index_fault-4.ensures n p i h g;
-      free = c.index_fault-5.ensures n p i h g;
+      loose = c.index_fault-5.ensures n p i h g;
+      free = c.index_fault-6.ensures n p i h g;
       form = refused (place_faults n p ++ faults n role.Affine i) (place p) kind.NotAffine;
       limits = tt;
     }

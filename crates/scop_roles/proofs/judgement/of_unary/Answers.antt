@@ -15,7 +15,8 @@ returns c f h =
       summand = c.unary_fault-2.ensures c.args.entries f h;
       value = c.unary_fault-3.ensures c.args.entries f h;
       condition = c.unary_fault-4.ensures c.args.entries f h;
-      free = c.unary_fault-5.ensures c.args.entries f h;
+      loose = c.unary_fault-5.ensures c.args.entries f h;
+      free = c.unary_fault-6.ensures c.args.entries f h;
       form = c.in-Ok.ensures.form f c.args.at h.form;
       limits = c.in-Ok.ensures.limits;
     }

@@ -4,8 +4,6 @@ use Rattle.scop_units.proofs.units.stored_fault.Goals as goal
 
 pub returns : goal.returns
 returns c =
-    stored_by c.args.entries (stored_of c.args.stored.now) c.place.result c.own_cell.result c.own_assign.result
-    c.in_ok-place_fault.field-0 c.told.result c.or_fault-cell.result c.in_ok-value.value c.told-own.result
-    c.first_of.result c.or_fault.result c.in_ok-place_fault.ensures c.place.ensures c.own_cell.ensures
-    c.told.ensures c.or_fault-cell.ensures c.in_ok-value.ensures c.own_assign.ensures c.told-own.ensures
-    c.first_of.ensures c.or_fault.ensures
+    stored_by c.args.entries (stored_of c.args.stored.now) c.own_assign.result c.in_ok-cell.cell
+    c.in_ok-value.value c.told-own.result c.first_of.result c.or_fault.result c.in_ok-cell.ensures
+    c.in_ok-value.ensures c.own_assign.ensures c.told-own.ensures c.first_of.ensures c.or_fault.ensures

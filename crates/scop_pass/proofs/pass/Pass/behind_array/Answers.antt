@@ -19,5 +19,5 @@ returns-in-Ok c =
     let new = state_of c.idle_step.new.self in
     let p = mark_at c.args.mark c.args.at in
     steps_of c.idle_step.result words old new p
-    (subst (λ (s : State). Comes c.idle_step.result new (idle_step words s p)) (sym c.in-Ok.ensures)
+    (subst (λ (s : State). Comes c.idle_step.result new (idle_step words s c.args.mark c.args.at)) (sym c.in-Ok.ensures)
     c.idle_step.ensures)

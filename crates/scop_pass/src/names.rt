@@ -1,0 +1,156 @@
+//! Names that are declared, and arrays with their extents.
+
+ghost use Rattle.std.specs.Prelude.{◌≡◌, ◌++◌, ◌∷◌, [], map};
+ghost use Rattle.kernel_grammar.specs.Kernel.{mark_at};
+ghost use Rattle.scop_roles.specs.Formula.{formula_of};
+ghost use Rattle.scop_pass.specs.Machine.{declared, expects, named, numbered, ranked};
+ghost use Rattle.scop_pass.specs.Machine as machine;
+ghost use Rattle.scop_pass.specs.Passing.{Comes, Steps, state_of};
+ghost use Rattle.scop_units.specs.Units.{array_faults};
+ghost use Rattle.scop_units.specs.View.{scope_of, words_in};
+
+use crate::lists::{push, push_formula, push_name};
+use crate::pass::{Pass, Stop, checked};
+use crate::pending::{Hand, Pending};
+use kernel_grammar::part::Mark;
+use scop_roles::formula::Formula;
+use scop_units::scope::copied;
+use scop_units::units::{array_fault, array_of, kernel_name_fault, name_fault, number_fault};
+use scop_units::words::Words;
+use std::alloc::Global;
+
+impl Pass {
+    pub(crate) fn named(&mut self, alloc: Global, words: &Words, at: usize) -> Result<(), Stop>
+        ensures { Comes result (state_of self.new) (named (words_in words.now) (state_of self.old) at) }
+    {
+        match checked(Ok(kernel_name_fault(words, at))) {
+            Err(stop) => return Err(stop),
+            Ok(()) => {}
+        }
+        match copied(alloc, words.spelling(at)) {
+            Err(_) => return Err(Stop::NoMemory),
+            Ok(name) => self.name = name,
+        }
+        Ok(())
+    }
+
+    pub(crate) fn numbered(&mut self, alloc: Global, words: &Words, at: usize) -> Result<(), Stop>
+        ensures { Comes result (state_of self.new) (numbered (words_in words.now) (state_of self.old) at) }
+    {
+        match checked(Ok(number_fault(words, &self.scope, at))) {
+            Err(stop) => return Err(stop),
+            Ok(()) => {}
+        }
+        let name = match copied(alloc, words.spelling(at)) {
+            Err(_) => return Err(Stop::NoMemory),
+            Ok(name) => name,
+        };
+        match push_name(&mut self.scope.parameters, name) {
+            Err(_) => Err(Stop::NoMemory),
+            Ok(()) => Ok(()),
+        }
+    }
+
+    pub(crate) fn declared(&mut self, alloc: Global, words: &Words, at: usize) -> Result<(), Stop>
+        ensures { Comes result (state_of self.new) (declared (words_in words.now) (state_of self.old) at) }
+    {
+        match checked(Ok(name_fault(words, &self.scope, at))) {
+            Err(stop) => return Err(stop),
+            Ok(()) => {}
+        }
+        let name = match copied(alloc, words.spelling(at)) {
+            Err(_) => return Err(Stop::NoMemory),
+            Ok(name) => name,
+        };
+        match self.scope.declare(name) {
+            Err(_) => Err(Stop::NoMemory),
+            Ok(()) => Ok(()),
+        }
+    }
+
+    // An array begins.
+    pub(crate) fn begin_array(&mut self, alloc: Global, at: usize) -> Result<(), Stop>
+        ensures { Comes result (state_of self.new) (expects (state_of self.old) (machine.extents at [])) }
+    {
+        self.keep(Pending::Extents(at, Vec::new(alloc)));
+        Ok(())
+    }
+
+    // An extent more.
+    pub(crate) fn extent(
+        &mut self,
+        at: usize,
+        mut extents: Vec<Formula>,
+        formula: Formula,
+    ) -> Result<(), Stop>
+        ensures { Comes result (state_of self.new) (expects (state_of self.old)
+            (machine.extents at (map formula_of extents.items ++ formula_of formula ∷ []))) }
+    {
+        match push_formula(&mut extents, formula) {
+            Err(_) => return Err(Stop::NoMemory),
+            Ok(()) => {}
+        }
+        self.keep(Pending::Extents(at, extents));
+        Ok(())
+    }
+
+    // An array without faults, with all its extents.
+    fn rank(
+        &mut self,
+        alloc: Global,
+        words: &Words,
+        at: usize,
+        extents: &[Formula],
+    ) -> Result<(), Stop>
+        requires { array_faults (words_in words.now) (scope_of self.old.scope) at (map formula_of extents.now) ≡ [] }
+        ensures { Comes result (state_of self.new)
+            (ranked (words_in words.now) (state_of self.old) at (map formula_of extents.now)) }
+    {
+        let array = match array_of(alloc, words, &self.scope, at, extents) {
+            Err(_) => return Err(Stop::NoMemory),
+            Ok(array) => array,
+        };
+        match push(&mut self.scope.arrays, array) {
+            Err(_) => return Err(Stop::NoMemory),
+            Ok(()) => {}
+        }
+        self.keep(Pending::Hand(Hand::Idle));
+        Ok(())
+    }
+
+    fn ranked(
+        &mut self,
+        alloc: Global,
+        words: &Words,
+        at: usize,
+        extents: &[Formula],
+    ) -> Result<(), Stop>
+        ensures { Comes result (state_of self.new)
+            (ranked (words_in words.now) (state_of self.old) at (map formula_of extents.now)) }
+    {
+        match checked(array_fault(alloc, words, &self.scope, at, extents)) {
+            Err(stop) => Err(stop),
+            Ok(()) => self.rank(alloc, words, at, extents),
+        }
+    }
+
+    // A sign behind an array with its extents.
+    pub(crate) fn behind_array(
+        &mut self,
+        alloc: Global,
+        words: &Words,
+        name_at: usize,
+        extents: &[Formula],
+        mark: Mark,
+        at: usize,
+    ) -> Result<(), Stop>
+        ensures { Steps result (words_in words.now)
+            (expects (state_of self.old) (machine.extents name_at (map formula_of extents.now)))
+            (state_of self.new) (mark_at mark at) }
+    {
+        match self.ranked(alloc, words, name_at, extents) {
+            Err(stop) => Err(stop),
+            Ok(()) => self.idle_step(alloc, words, mark, at),
+        }
+    }
+}
