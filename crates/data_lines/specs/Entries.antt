@@ -32,11 +32,12 @@ value_said line [] = Err (Line line)
 value_said line (word ∷ []) = if is_seed word then Err (Line line) else value_of_number line (number_of word)
 value_said line (word ∷ other ∷ words) = Err (Line line)
 
--- the seed that the words behind `seed` say: one word, which is a number
+-- the seed that a number gives
 abbrev pub seed_of_number : ℕ → Option ℕ → Result Given DataRefusal
 seed_of_number line (Some seed) = Ok (seeded seed)
 seed_of_number line None = Err (Number line)
 
+-- the seed that the words behind `seed` say: one word, which is a number
 abbrev pub seed_said : ℕ → List Text → Result Given DataRefusal
 seed_said line [] = Err (Line line)
 seed_said line (word ∷ []) = seed_of_number line (number_of word)
@@ -52,11 +53,12 @@ abbrev pub row_said : ℕ → List Text → Result Given DataRefusal
 row_said line [] = Err (Line line)
 row_said line (word ∷ words) = if is_seed word then seed_said line words else list_said line (numbers_of (word ∷ words))
 
--- the sheet with a value in a parameter's place, and with what is said of an array in its place
+-- the sheet with a value in a parameter's place
 abbrev pub with_value : Sheet → ℕ → Result ℕ DataRefusal → Result Sheet DataRefusal
 with_value sheet i (Ok value) = Ok (record sheet { values = slice_set sheet.values i (Some value) })
 with_value sheet i (Err refusal) = Err refusal
 
+-- the sheet with what is said of an array in its place
 abbrev pub with_row : Sheet → ℕ → Result Given DataRefusal → Result Sheet DataRefusal
 with_row sheet j (Ok given) = Ok (record sheet { rows = slice_set sheet.rows j given })
 with_row sheet j (Err refusal) = Err refusal
@@ -90,6 +92,7 @@ abbrev pub with_text : Program → Sheet → ℕ → Text → Result Sheet DataR
 with_text program sheet line [] = Ok sheet
 with_text program sheet line (b ∷ text) = with_list program sheet line (named_list (b ∷ text))
 
+-- a line: the blanks in front of it say nothing
 abbrev pub with_line : Program → Sheet → ℕ → Text → Result Sheet DataRefusal
 with_line program sheet line text = with_text program sheet line (unindented text)
 

@@ -3,3 +3,4 @@ pub mod Numbers
 pub mod Heads
 pub mod Sheets
 pub mod Entries
+pub mod Naming

@@ -13,9 +13,11 @@ abbrev pub next_number : ℕ → ℕ → Option ℕ
 next_number value byte = if is_digit byte && nat_lt (10 * value + digit_value byte) (2 ^ 64)
     then Some (10 * value + digit_value byte) else None
 
+-- a word is a number: digits alone, of a value that has 64 bits
 abbrev pub is_number : Text → Bool
 is_number word = list_all is_digit word && nat_lt (decimal_value word) (2 ^ 64)
 
+-- the number that a word is, if it is one
 abbrev pub number_of : Text → Option ℕ
 number_of word = if is_number word then Some (decimal_value word) else None
 

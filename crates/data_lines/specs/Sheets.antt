@@ -16,6 +16,7 @@ pub data Given : Type 0 where
   listed : ℕ → List ℕ → Given
   seeded : ℕ → Given
 
+-- a sheet: for each parameter its value, where it is said, and what is said of each array
 pub record Sheet : Type 0 where
   pub values : List (Option ℕ)
   pub rows : List Given
@@ -25,12 +26,13 @@ abbrev pub empty_sheet : Program → Sheet
 empty_sheet program =
     record { values = replicate (length program.parameters) None; rows = replicate (length program.arrays) nothing }
 
--- the sheet that the code's stands for
+-- what the code's value says of an array
 abbrev pub given_of : CodeGiven → Given
 given_of Nothing = nothing
 given_of (Listed line cells) = listed line cells.items
 given_of (Seeded seed) = seeded seed
 
+-- the sheet that the code's stands for
 abbrev pub sheet_of : CodeSheet → Sheet
 sheet_of sheet = record { values = sheet.values.items; rows = map given_of sheet.rows.items }
 
@@ -38,14 +40,17 @@ sheet_of sheet = record { values = sheet.values.items; rows = map given_of sheet
 abbrev pub found : Text → List Text → Option ℕ
 found name names = position_from (λ other. bytes_eq other name) 0 names
 
+-- the place of the array that has been found, if one has
 abbrev pub array_place : Option ℕ → Place
 array_place (Some j) = Array j
 array_place None = Nowhere
 
+-- the place of the parameter that has been found, else the other one
 abbrev pub parameter_place : Option ℕ → Place → Place
 parameter_place (Some i) other = Parameter i
 parameter_place None other = other
 
+-- the place of a name: that of a parameter, or of an array, or none
 abbrev pub place_of : Program → Text → Place
 place_of program name =
     parameter_place (found name program.parameters) (array_place (found name (map (λ d. d.name) program.arrays)))

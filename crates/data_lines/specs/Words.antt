@@ -3,6 +3,7 @@ use Rattle.std.specs.Prelude.{ℕ, Bool, true, false, ◌==◌, List, [], ◌∷
 use Rattle.std.specs.List.{slice_split, filter, prefix_len}
 use Rattle.scop_lexer.specs.Bytes.{Text, is_blank}
 
+-- a line feed
 abbrev pub is_line_feed : ℕ → Bool
 is_line_feed b = b == 10
 
@@ -10,7 +11,7 @@ is_line_feed b = b == 10
 abbrev pub lines_of : Text → List Text
 lines_of text = slice_split is_line_feed text
 
--- the parts of a text that have bytes
+-- a part of a text that has bytes
 abbrev pub not_empty : Text → Bool
 not_empty [] = false
 not_empty (b ∷ bs) = true

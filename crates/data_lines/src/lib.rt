@@ -5,6 +5,7 @@
 
 mod entry;
 mod head;
+mod laws;
 mod lines;
 mod numbers;
 mod places;
@@ -12,6 +13,7 @@ mod refusal;
 mod sheet;
 mod words;
 
+pub use laws::{lines_say_one_thing, sheets_hold_what_lines_say, sound_lines_break_no_rule};
 pub use lines::read_lines;
 pub use refusal::{DataRefusal, DataStop};
 pub use sheet::{Given, Sheet};

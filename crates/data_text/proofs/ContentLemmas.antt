@@ -61,7 +61,7 @@ one_found best (extents ∷ layouts) (given ∷ rows) none =
     let other = stays best (miscount_of (cell_count extents) given) in
     one_found other.0 layouts rows (ap (λ m. first_miscount m layouts rows) (sym other.1) ∙ none)
 
-none_before : (best : Option Miscount) (layouts : List (List ℕ)) (rows : List Given)
+pub none_before : (best : Option Miscount) (layouts : List (List ℕ)) (rows : List Given)
     → first_miscount best layouts rows ≡ None → best ≡ None
 none_before None layouts rows none = refl
 none_before (Some best) layouts rows none = absurd (one_found best layouts rows none)
@@ -72,7 +72,7 @@ long_by : (n line : ℕ) (cells : List ℕ) (m : Miscount) (same : Bool) → (le
 long_by n line cells m true is none = eqb-true (length cells) n is
 long_by n line cells m false is none = cc
 
-cells_long : (n : ℕ) (given : Given) → miscount_of n given ≡ None → length (cells_said n given) ≡ n
+pub cells_long : (n : ℕ) (given : Given) → miscount_of n given ≡ None → length (cells_said n given) ≡ n
 cells_long n nothing none = length-replicate n 0
 cells_long n (listed line cells) none = long_by n line cells _ (length cells == n) refl none
 cells_long n (seeded seed) none = length-map-range_with_len (seed_cell seed) 0 n

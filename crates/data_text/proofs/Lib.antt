@@ -4,6 +4,7 @@ pub mod ExtentLemmas
 pub mod LayoutLemmas
 pub mod ContentLemmas
 pub mod CaseLemmas
+pub mod DescribedLemmas
+pub mod OneCaseLemmas
 pub mod NumeralLemmas
 pub mod RowLemmas
-pub mod ExampleLemmas

@@ -26,11 +26,12 @@ missing i [] = None
 missing i (Some value ∷ values) = missing (i + 1) values
 missing i (None ∷ values) = Some (Missing i)
 
--- the values of the parameters
+-- the value of a parameter as a whole number; 0 where it has none
 abbrev pub param_of : Option ℕ → ℤ
 param_of (Some value) = pos value
 param_of None = pos 0
 
+-- the values of the parameters
 abbrev pub params_of : List (Option ℕ) → List ℤ
 params_of values = map param_of values
 
@@ -74,6 +75,7 @@ first_miscount best (extents ∷ layouts) [] = best
 first_miscount best (extents ∷ layouts) (given ∷ rows) =
     first_miscount (earlier best (miscount_of (cell_count extents) given)) layouts rows
 
+-- a list that is not as long as its array is told, if there is one
 abbrev pub miscounted : Option Miscount → Option DataRefusal
 miscounted None = None
 miscounted (Some m) = Some (Count m.line m.expected m.found)
@@ -88,6 +90,7 @@ cells_said count nothing = replicate count 0
 cells_said count (listed line cells) = cells
 cells_said count (seeded seed) = map (seed_cell seed) (range_with_len 0 count)
 
+-- the cells of each array, in declared order
 abbrev pub contents_said : List (List ℕ) → List Given → List (List ℕ)
 contents_said [] rows = []
 contents_said (extents ∷ layouts) [] = []
@@ -118,6 +121,7 @@ abbrev pub case_said : Program → Sheet → Result Said DataRefusal
 case_said program sheet =
     told_or (missing 0 sheet.values) (laid_out program (params_of sheet.values) sheet.rows)
 
+-- the case of a sheet that the lines fill, or the rule that they break
 abbrev pub case_of_lines : Program → Result Sheet DataRefusal → Result Said DataRefusal
 case_of_lines program (Ok sheet) = case_said program sheet
 case_of_lines program (Err refusal) = Err refusal
@@ -126,10 +130,11 @@ case_of_lines program (Err refusal) = Err refusal
 abbrev pub data_said : Program → Text → Result Said DataRefusal
 data_said program text = case_of_lines program (sheet_said program text)
 
--- the text says these values of the program's parameters and these contents of its arrays
+-- the answer of these values and these contents
 abbrev pub ok_said : List ℤ → List (List ℕ) → Result Said DataRefusal
 ok_said params contents = Ok (record { params = params; contents = contents })
 
+-- the text says these values of the program's parameters and these contents of its arrays
 abbrev pub Says : Text → Program → List ℤ → List (List ℕ) → Type 0
 Says text program params contents = data_said program text ≡ ok_said params contents
 

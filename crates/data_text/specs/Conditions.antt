@@ -1,4 +1,4 @@
--- What the steps of reading a case require.
+-- What the steps of reading a case require; only for the code's own steps.
 use Rattle.std.specs.Prelude.{ℕ, ◌≤◌, ◌^◌, ℤ, pos, ◌≤ℤ◌, List, length, All}
 use Rattle.scop_syntax.specs.Execution.{total_cells}
 

@@ -1,4 +1,4 @@
 pub mod Cases
 pub mod Conditions
 pub mod ArrayText
-pub mod Examples
+pub mod Described

@@ -12,7 +12,11 @@ ghost use Rattle.data_lines.specs.Entries.{row_said, with_line, with_lines, writ
 ghost use Rattle.scop_lexer.specs.Bytes.{Text};
 ghost use Rattle.scop_syntax.specs.Tree.{Program};
 ghost use Rattle.data_lines.specs.declared.refusal.DataRefusal.{DataRefusal};
+ghost use Rattle.data_lines.specs.Naming.{line_of};
 ghost use Rattle.data_text.specs.Cases.{Says, Said, data_said};
+ghost use Rattle.data_text.specs.Described.{Breaks, Describes};
+
+use data_lines::{lines_say_one_thing, sheets_hold_what_lines_say, sound_lines_break_no_rule};
 
 /// A text says one case of a program, or breaks one rule first; not both, and no other.
 pub fn said_once()
@@ -24,6 +28,20 @@ pub fn said_once()
         → ((said : Said) × Says text program said.params said.contents) ⊎
         ((refusal : DataRefusal) × (data_said program text ≡ Err refusal)) }
 {}
+
+/// A text says the case that its lines describe, and no other; a refusal tells what they break.
+pub fn texts_say_what_lines_describe()
+    ensures says { (text : Text) (program : Program) (params : List ℤ) (contents : List (List ℕ))
+        → Says text program params contents → Describes program (line_of text) params contents }
+    ensures described { (text : Text) (program : Program) (params : List ℤ) (contents : List (List ℕ))
+        → Describes program (line_of text) params contents → Says text program params contents }
+    ensures breaks { (text : Text) (program : Program) (refusal : DataRefusal)
+        → data_said program text ≡ Err refusal → Breaks program (line_of text) refusal }
+{
+    sheets_hold_what_lines_say();
+    lines_say_one_thing();
+    sound_lines_break_no_rule();
+}
 
 /// The lines of a text are those that line feeds part, and they are judged in their order: a refusal stands, whatever
 /// lines are behind it.

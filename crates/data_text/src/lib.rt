@@ -6,17 +6,14 @@ mod array_text;
 mod case;
 mod contents;
 mod counts;
-#[cfg(test)]
-mod example;
 mod extents;
 mod laws;
 mod parameters;
-#[cfg(test)]
-mod tests;
 
 pub use array_text::write_arrays;
 pub use case::{Case, read_data};
 pub use data_lines::{DataRefusal, DataStop};
 pub use laws::{
     array_lines_are_data_lines, decimals_are_numbers, lines_are_judged_in_order, said_once,
+    texts_say_what_lines_describe,
 };
