@@ -1,5 +1,7 @@
 //! What a worker passes on its way into a tile and out of it. It has no meaning for the result; by a
 //! gate of its own a test can hold a worker.
+//!
+//! Part of the crate's surface; `run` does not use it.
 
 /// Called round each tile that a worker does.
 pub trait Gate: Sync {

@@ -4,6 +4,7 @@
 
 ghost use Rattle.std.specs.Prelude.{◌≡◌, ◌+◌, ◌≤◌, ◌++◌, [], OnOk, length};
 ghost use Rattle.io_ports.specs.Writes.{Writes, Puts};
+ghost use Rattle.io_ports.specs.declared.pieces.TheConstants.{ROOM};
 
 use crate::fault::Failed;
 use crate::sink::{Sink, write_whole};
@@ -21,12 +22,13 @@ pub struct Pieces {
 
 impl Model for Pieces {
     ghost use Rattle.std.specs.Prelude.{ℕ, List, ◌≤◌, take};
+    ghost use Rattle.io_ports.specs.declared.pieces.TheConstants.{ROOM};
 
     ghost Value = { List ℕ };
 
     ghost view = { λ p. take p.length p.bytes };
 
-    ghost invariant = { λ p. p.length ≤ 8192 };
+    ghost invariant = { λ p. p.length ≤ ROOM };
 }
 
 impl Pieces {
@@ -68,34 +70,11 @@ impl Pieces {
 
     /// Puts a text for which there is room behind what is pending.
     fn keep(&mut self, text: &[u8])
-        requires { length self.old + length text.now ≤ 8192 }
+        requires { length self.old + length text.now ≤ ROOM }
         ensures { self.new ≡ self.old ++ text.now }
     {
         let end = self.length + text.len();
         self.bytes[self.length..end].copy_from_slice(text);
         self.length = end;
-    }
-}
-
-#[cfg(test)]
-mod tests {
-    use super::*;
-    use crate::sink_in_memory::MemSink;
-    use std::test::Fail;
-
-    #[test]
-    fn writes_short_and_long_texts_in_order(rt: HostRuntime) -> Result<(), Fail> {
-        let long = vec![in rt.alloc(); b'x'; 10000]?;
-        let mut sink = MemSink::of(rt.alloc(), 30000, 4000, &[])?;
-        let mut pieces = Pieces::new();
-        assert_eq!(rt; pieces.put(&mut sink, b"a"), Ok(()));
-        assert_eq!(rt; sink.taken(), b"".as_slice());
-        assert_eq!(rt; pieces.put(&mut sink, &long), Ok(()));
-        assert_eq!(rt; pieces.put(&mut sink, b"b"), Ok(()));
-        assert_eq!(rt; pieces.finish(&mut sink), Ok(()));
-        assert_eq!(rt; sink.taken().len(), 10002);
-        assert_eq!(rt; sink.taken().first(), Some(&b'a'));
-        assert_eq!(rt; sink.taken().last(), Some(&b'b'));
-        Ok(())
     }
 }

@@ -113,27 +113,3 @@ impl Sink for MemSink {
         Ok(())
     }
 }
-
-#[cfg(test)]
-mod tests {
-    use super::*;
-    use std::test::Fail;
-
-    #[test]
-    fn takes_short_steps_and_fails_at_listed_calls_and_without_room(
-        rt: HostRuntime,
-    ) -> Result<(), Fail> {
-        let mut sink = MemSink::of(rt.alloc(), 5, 2, &[3, 5])?;
-        assert_eq!(rt; sink.write(b"abcd"), Ok(2));
-        assert_eq!(rt; sink.write(b"cd"), Ok(2));
-        assert_eq!(rt; sink.write(b"e"), Err(Failed));
-        assert_eq!(rt; sink.flush(), Ok(()));
-        assert_eq!(rt; sink.flush(), Err(Failed));
-        assert_eq!(rt; sink.write(b"efg"), Ok(1));
-        assert_eq!(rt; sink.write(b"fg"), Err(Failed));
-        assert_eq!(rt; sink.write(b""), Ok(0));
-        assert_eq!(rt; sink.taken(), b"abcde".as_slice());
-        assert_eq!(rt; sink.faults(), 3);
-        Ok(())
-    }
-}

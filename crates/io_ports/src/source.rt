@@ -90,36 +90,3 @@ fn make_room(bytes: &mut Vec<u8>, more: usize, most: usize) -> Result<(), AllocE
     let wanted = bytes.len().max(more).min(most - bytes.len());
     bytes.reserve_exact(wanted)
 }
-
-#[cfg(test)]
-mod tests {
-    use super::*;
-    use crate::source_in_memory::MemSource;
-    use std::test::Fail;
-
-    #[test]
-    fn reads_a_stuttering_source_to_its_end(rt: HostRuntime) -> Result<(), Fail> {
-        let text = vec![in rt.alloc(); 7u8; 40000]?;
-        let mut source = MemSource::of(rt.alloc(), &text, 7000, &[])?;
-        let bytes = read_to_end(rt.alloc(), &mut source, 40000)?;
-        assert_eq!(rt; bytes, text);
-        assert!(rt; bytes.capacity() <= 40001);
-        assert_eq!(rt; source.faults(), 0);
-        Ok(())
-    }
-
-    #[test]
-    fn tells_a_failure_and_a_text_too_long(rt: HostRuntime) -> Result<(), Fail> {
-        let mut broken = MemSource::of(rt.alloc(), b"abc", 1, &[3])?;
-        assert_eq!(rt;
-            read_to_end(rt.alloc(), &mut broken, 9),
-            Err(ReadError::Failed)
-        );
-        let mut long = MemSource::of(rt.alloc(), b"abc", 1, &[])?;
-        assert_eq!(rt;
-            read_to_end(rt.alloc(), &mut long, 2),
-            Err(ReadError::TooLong)
-        );
-        Ok(())
-    }
-}

@@ -105,24 +105,3 @@ fn put_front(buf: &mut [u8], bytes: &[u8])
 {
     buf[..bytes.len()].copy_from_slice(bytes);
 }
-
-#[cfg(test)]
-mod tests {
-    use super::*;
-    use std::test::Fail;
-
-    #[test]
-    fn gives_short_steps_and_fails_at_the_listed_call(rt: HostRuntime) -> Result<(), Fail> {
-        let mut source = MemSource::of(rt.alloc(), b"abcdefg", 3, &[2])?;
-        let mut buf = [0u8; 8];
-        assert_eq!(rt; source.read(&mut buf[..2]), Ok(2));
-        assert_eq!(rt; source.read(&mut buf), Err(Failed));
-        assert_eq!(rt; source.left(), b"cdefg".as_slice());
-        assert_eq!(rt; source.read(&mut buf), Ok(3));
-        assert_eq!(rt; &buf[..3], b"cde".as_slice());
-        assert_eq!(rt; source.read(&mut buf), Ok(2));
-        assert_eq!(rt; source.read(&mut buf), Ok(0));
-        assert_eq!(rt; source.faults(), 1);
-        Ok(())
-    }
-}

@@ -4,7 +4,7 @@ use Rattle.std.proofs.Common.{List, [], ◌∷◌, ◌++◌, length, take, drop,
 use Rattle.std.proofs.Common.{append_assoc}
 use Rattle.std.proofs.lemmas.List.{drop-drop}
 use Rattle.std.proofs.Math.Seq.{take-add}
-use Rattle.polypar.specs.Cut.{before_lines, lines_of, is_cut, before_cut, joined, after_cut}
+use Rattle.polypar.specs.Cut.{before_lines, whole_lines, is_cut, before_cut, joined, after_cut}
 
 -- the lines joined are the byte before them and the lines joined
 joined-before_lines : (byte : ℕ) (lines : List (List ℕ)) → joined (before_lines byte lines) ≡ byte ∷ joined lines
@@ -14,9 +14,10 @@ joined-before_lines byte (line ∷ lines) = elim (byte == 10) as
     [ true ↦ refl | false ↦ refl ]
 
 -- the lines of a text joined are the text
-pub joined-lines_of : (text : List ℕ) → joined (lines_of text) ≡ text
-joined-lines_of [] = refl
-joined-lines_of (byte ∷ text) = joined-before_lines byte (lines_of text) ∙ ap (λ t. byte ∷ t) (joined-lines_of text)
+pub joined-whole_lines : (text : List ℕ) → joined (whole_lines text) ≡ text
+joined-whole_lines [] = refl
+joined-whole_lines (byte ∷ text) =
+    joined-before_lines byte (whole_lines text) ∙ ap (λ t. byte ∷ t) (joined-whole_lines text)
 
 -- a line feed ends a line of its own
 line_feed_first : (lines : List (List ℕ)) → before_lines 10 lines ≡ (10 ∷ []) ∷ lines
@@ -31,10 +32,11 @@ other_first byte line lines other = rw (ne_eqb byte 10 other) refl
 -- the first n bytes are the first line: no line feed stands before the last of them, which is one or ends the text
 pub first_line : (text : List ℕ) (n : ℕ) → n < length text → ((k : ℕ) → k < n → get_or text k 0 ≢ 10)
     → ((get_or text n 0 ≡ 10) ⊎ (n + 1 ≡ length text))
-    → lines_of text ≡ take (n + 1) text ∷ lines_of (drop (n + 1) text)
+    → whole_lines text ≡ take (n + 1) text ∷ whole_lines (drop (n + 1) text)
 first_line [] n within before last = absurd (omega arith)
 first_line (byte ∷ text) zero within before (inl feed) =
-    subst (λ b. before_lines b (lines_of text) ≡ (b ∷ []) ∷ lines_of text) (sym feed) (line_feed_first (lines_of text))
+    subst (λ b. before_lines b (whole_lines text) ≡ (b ∷ []) ∷ whole_lines text) (sym feed)
+    (line_feed_first (whole_lines text))
 first_line (byte ∷ []) zero within before (inr end) = refl
 first_line (byte ∷ (other ∷ text)) zero within before (inr end) = absurd (omega arith)
 first_line (byte ∷ text) (suc n) within before last =
@@ -42,37 +44,38 @@ first_line (byte ∷ text) (suc n) within before last =
     let later : (get_or text n 0 ≡ 10) ⊎ (n + 1 ≡ length text) =
     elim last [ inl feed ↦ inl feed | inr end ↦ inr (omega arith) ] in
     let rest = first_line text n (omega arith) (λ k h. before (suc k) (omega arith)) later in
-    rw next (ap (before_lines byte) rest ∙ other_first byte (take (n + 1) text) (lines_of (drop (n + 1) text))
+    rw next (ap (before_lines byte) rest ∙ other_first byte (take (n + 1) text) (whole_lines (drop (n + 1) text))
     (before 0 (omega arith)))
 
 -- the parts of an input whose lines before a place do not cut
 pub record IsCutBehind (input : List ℕ) (at : ℕ) : Type 0 where
-  pub kernel : before_cut (lines_of input) ≡ take at input ++ before_cut (lines_of (drop at input))
-  pub case : after_cut (lines_of input) ≡ after_cut (lines_of (drop at input))
+  pub kernel : before_cut (whole_lines input) ≡ take at input ++ before_cut (whole_lines (drop at input))
+  pub case : after_cut (whole_lines input) ≡ after_cut (whole_lines (drop at input))
 
 -- a line that does not cut
 pub cut_behind_line : (input : List ℕ) (at n : ℕ) → IsCutBehind input at
-    → lines_of (drop at input) ≡ take n (drop at input) ∷ lines_of (drop n (drop at input))
+    → whole_lines (drop at input) ≡ take n (drop at input) ∷ whole_lines (drop n (drop at input))
     → is_cut (take n (drop at input)) ≡ false → IsCutBehind input (at + n)
 cut_behind_line input at n behind first stays =
     let line = take n (drop at input) in
     let rest = drop n (drop at input) in
-    let kernel : before_cut (lines_of (drop at input)) ≡ line ++ before_cut (lines_of rest) =
+    let kernel : before_cut (whole_lines (drop at input)) ≡ line ++ before_cut (whole_lines rest) =
     ap before_cut first ∙ rw stays refl in
-    let case : after_cut (lines_of (drop at input)) ≡ after_cut (lines_of rest) = ap after_cut first ∙ rw stays refl in
+    let case : after_cut (whole_lines (drop at input)) ≡ after_cut (whole_lines rest) =
+    ap after_cut first ∙ rw stays refl in
     record {
       kernel = behind.kernel ∙ (ap (λ t. take at input ++ t) kernel
-          ∙ (sym (append_assoc (take at input) line (before_cut (lines_of rest)))
-          ∙ (ap (λ t. t ++ before_cut (lines_of rest)) (sym (take-add at n input))
-          ∙ ap (λ t. take (at + n) input ++ before_cut (lines_of t)) (drop-drop n at input))));
-      case = behind.case ∙ (case ∙ ap (λ t. after_cut (lines_of t)) (drop-drop n at input));
+          ∙ (sym (append_assoc (take at input) line (before_cut (whole_lines rest)))
+          ∙ (ap (λ t. t ++ before_cut (whole_lines rest)) (sym (take-add at n input))
+          ∙ ap (λ t. take (at + n) input ++ before_cut (whole_lines t)) (drop-drop n at input))));
+      case = behind.case ∙ (case ∙ ap (λ t. after_cut (whole_lines t)) (drop-drop n at input));
     }
 
 -- a line that cuts: the data begins behind it
 pub case_behind : (input : List ℕ) (at n : ℕ) → IsCutBehind input at
-    → lines_of (drop at input) ≡ take n (drop at input) ∷ lines_of (drop n (drop at input))
-    → is_cut (take n (drop at input)) ≡ true → drop n (drop at input) ≡ after_cut (lines_of input)
+    → whole_lines (drop at input) ≡ take n (drop at input) ∷ whole_lines (drop n (drop at input))
+    → is_cut (take n (drop at input)) ≡ true → drop n (drop at input) ≡ after_cut (whole_lines input)
 case_behind input at n behind first cuts =
-    let rest : after_cut (lines_of (drop at input)) ≡ joined (lines_of (drop n (drop at input))) =
+    let rest : after_cut (whole_lines (drop at input)) ≡ joined (whole_lines (drop n (drop at input))) =
     ap after_cut first ∙ rw cuts refl in
-    sym (behind.case ∙ (rest ∙ joined-lines_of (drop n (drop at input))))
+    sym (behind.case ∙ (rest ∙ joined-whole_lines (drop n (drop at input))))

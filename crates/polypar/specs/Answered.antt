@@ -68,6 +68,7 @@ abbrev pub HasRoomForLine : Option (List ℕ) → Status → SinkShows → Type 
 HasRoomForLine left status err = (named : Option Program) → NamesOf left status named
     → HasRoom err (status_text named status)
 
+-- what a call promises: the headline, each status and its cause, and what the source and the sinks show afterwards
 pub record Answered (words : List (List ℕ)) (status : Status) (source source_after : SourceShows)
     (out out_after err err_after : SinkShows) : Type 0 where
   -- the headline: exactly the arrays of the kernel's own sequential execution are printed, and the input was read whole

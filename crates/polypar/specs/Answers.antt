@@ -1,4 +1,5 @@
--- What the statuses of the parts of a call say: of the data, of the input, of the source, and of the sinks.
+-- What the statuses of the parts of a call say: of the data, of the input, of the source, and of the sinks; only for
+-- the code's own steps.
 use Rattle.std.specs.Prelude.{◌≡◌, ◌⊎◌, ℕ, ℤ, ◌≤◌, List, [], Option}
 use Rattle.std.specs.Io.KnownBytes.{IsAtEnd}
 use Rattle.io_ports.specs.Bytes.{IsAllOf}

@@ -1,4 +1,4 @@
--- The command lines that the program takes at this stage.
+-- The command lines that the program takes.
 use Rattle.std.specs.Prelude.{◌≡◌, ℕ, List, [], length, codes}
 use Rattle.std.specs.List.{slice_index_or}
 

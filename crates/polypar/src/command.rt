@@ -1,4 +1,4 @@
-//! The command line at this stage: `polypar run`.
+//! The command line: `polypar run`.
 
 ghost use Rattle.std.specs.Prelude.{◌↔◌, IsTrue, map, string_bytes};
 ghost use Rattle.polypar.specs.Command.{IsRunCommand};

@@ -1,7 +1,7 @@
 //! Cuts an input at its first line `%%` into the kernel's text and the data.
 
 ghost use Rattle.std.specs.Prelude.{◌≡◌, ◌<◌, ◌≤◌, ◌∷◌, length, take, drop};
-ghost use Rattle.polypar.specs.Cut.{lines_of, is_cut as is_cut_line, kernel_part, data_part};
+ghost use Rattle.polypar.specs.Cut.{whole_lines, is_cut as is_cut_line, kernel_part, data_part};
 
 /// The two parts of an input.
 #[derive(Clone, Copy, Debug)]
@@ -40,7 +40,7 @@ fn line_length(text: &[u8]) -> usize
     requires { 0 < length text.now }
     ensures some { 0 < result }
     ensures within { result ≤ length text.now }
-    ensures first { lines_of text.now ≡ take result text.now ∷ lines_of (drop result text.now) }
+    ensures first { whole_lines text.now ≡ take result text.now ∷ whole_lines (drop result text.now) }
 {
     for (at, byte) in text.iter().enumerate() {
         if *byte == b'\n' {

@@ -9,8 +9,6 @@ mod cut;
 mod in_memory;
 mod plain;
 mod run;
-#[cfg(test)]
-mod tests;
 
 pub use in_memory::command_in_memory;
 pub use plain::{deserved_once, plain_command, polypar};

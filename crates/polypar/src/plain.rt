@@ -36,7 +36,7 @@ pub fn plain_command<S: Source, O: Sink, E: Sink>(
     ending.status
 }
 
-/// Does what the words ask for, as `plain_command`: no command of this stage starts a thread or waits.
+/// Does what the words ask for, as `plain_command`: no command starts a thread or waits.
 pub fn polypar<R, S: Source, O: Sink, E: Sink, G: Gate>(
     _rt: &R,
     alloc: Global,

@@ -28,7 +28,7 @@ use scop_syntax::tree::Kernel;
 use std::alloc::Global;
 
 /// The longest input that is read, in bytes.
-pub const LONGEST_INPUT: usize = 134_217_728;
+pub const LONGEST_INPUT: usize = 1 << 27;
 
 /// How a run ended, and the kernel that it read: the line of the status has its names.
 #[derive(Drop)]

@@ -20,10 +20,11 @@ use Rattle.scop_parser.specs.declared.refusal.RefusalKind.TheVariants.{Depth, St
 use Rattle.scop_parser.specs.declared.refusal.RefusalKind.TheVariants.{TooLong}
 use Rattle.scop_parser.specs.declared.refusal.Refusal.{Refusal}
 
--- a number between two texts, and a name between two texts
+-- a number between two texts
 unfoldable pub numbered : List ℕ → ℕ → List ℕ → List ℕ
 numbered front number end = front ++ (decimal number ++ end)
 
+-- a name between two texts
 unfoldable pub named : List ℕ → List ℕ → List ℕ → List ℕ
 named front name end = front ++ (name ++ end)
 
@@ -62,11 +63,12 @@ place_text line column = numbered (codes " ") line (codes ":") ++ numbered [] co
 abbrev pub refusal_text : Refusal → List ℕ
 refusal_text refusal = kind_text refusal.kind ++ place_text refusal.line refusal.column
 
--- the names of a kernel's parameters and arrays, none where no kernel was read
+-- the name of a kernel's parameter; none where no kernel was read
 abbrev pub parameter_name : Option Program → ℕ → List ℕ
 parameter_name (Some program) i = slice_index_or program.parameters i []
 parameter_name None i = []
 
+-- the name of a kernel's array; none where no kernel was read
 abbrev pub array_name : Option Program → ℕ → List ℕ
 array_name (Some program) j = slice_index_or (map (λ d. d.name) program.arrays) j []
 array_name None j = []

@@ -7,8 +7,6 @@ mod line;
 mod outside_line;
 mod parts;
 mod status;
-#[cfg(test)]
-mod tests;
 
 pub use data_text::DataRefusal;
 pub use line::status_line;

@@ -1,7 +1,7 @@
 -- The line at the place cuts, or the place goes on behind it.
 use Rattle.std.proofs.Common.{◌≡◌, ◌∙◌, ◌-◌, sym, ap, subst, length, take, drop, ◌∷◌, false, true, arith, length-drop}
 use Rattle.std.proofs.Common.{take_all}
-use Rattle.polypar.specs.Cut.{lines_of, is_cut}
+use Rattle.polypar.specs.Cut.{whole_lines, is_cut}
 use Rattle.polypar.proofs.CutLemmas.{cut_behind_line, case_behind}
 use Rattle.polypar.proofs.cut.cut.Goals as goal
 
@@ -13,7 +13,8 @@ returns-then-is_cut-clause-case c =
     let rest = take (length input - at) (drop at input) in
     let same : rest ≡ drop at input = take_all (length input - at) (drop at input)
     (omega (arith, length-drop at input)) in
-    let first = subst (λ t. lines_of t ≡ take n t ∷ lines_of (drop n t)) same c.line_length-length.ensures.first in
+    let first =
+    subst (λ t. whole_lines t ≡ take n t ∷ whole_lines (drop n t)) same c.line_length-length.ensures.first in
     let cuts : is_cut (take n (drop at input)) ≡ true =
     ap (λ t. is_cut (take n t)) (sym same) ∙ (sym c.is_cut.ensures ∙ c.if-is_cut.true) in
     let behind : take (length rest - n) (drop n rest) ≡ drop n rest =
@@ -28,7 +29,8 @@ loop-at-preserved c =
     let rest = take (length input - at) (drop at input) in
     let same : rest ≡ drop at input = take_all (length input - at) (drop at input)
     (omega (arith, length-drop at input)) in
-    let first = subst (λ t. lines_of t ≡ take n t ∷ lines_of (drop n t)) same c.line_length-length.ensures.first in
+    let first =
+    subst (λ t. whole_lines t ≡ take n t ∷ whole_lines (drop n t)) same c.line_length-length.ensures.first in
     let stays : is_cut (take n (drop at input)) ≡ false =
     ap (λ t. is_cut (take n t)) (sym same) ∙ (sym c.is_cut.ensures ∙ c.if-is_cut.false) in
     record {

@@ -1,6 +1,6 @@
 -- The first line ends at its line feed, or at the text's end.
 use Rattle.std.proofs.Common.{◌≡◌, ◌-◌, inl, inr, length, take, drop, ◌∷◌, ◌+◌, subst, arith}
-use Rattle.polypar.specs.Cut.{lines_of}
+use Rattle.polypar.specs.Cut.{whole_lines}
 use Rattle.polypar.proofs.CutLemmas.{first_line}
 use Rattle.polypar.proofs.cut.line_length.Goals as goal
 
@@ -12,6 +12,6 @@ pub returns-clause-first : goal.returns-clause-first
 returns-clause-first c =
     let text = c.args.text.now in
     let whole : length text - 1 + 1 ≡ length text = omega (arith, c.requires) in
-    subst (λ n. lines_of text ≡ take n text ∷ lines_of (drop n text)) whole
+    subst (λ n. whole_lines text ≡ take n text ∷ whole_lines (drop n text)) whole
     (first_line text (length text - 1) (omega (arith, c.requires)) (λ k h. c.loop-at.invariant k (omega arith))
     (inr whole))
