@@ -5,14 +5,15 @@
 # starting fall out. Ours has in it a copy of the problem for each call, since the call takes the problem over; isl's
 # a further reference to its set. Prints microseconds a move and the ratio of the times, by the shortest processor
 # times.
-# usage: bench/lexmin.sh [CASES [ROUNDS]]; CASES is a file of cases, without one the program's stored input; at least 5
+# usage: bench/lexmin.sh [CASES [ROUNDS]]; CASES is a file of cases, without one the program's stored input; ROUNDS is at
+# least 5.
 set -eu
 root=$(CDPATH= cd -- "$(dirname -- "$0")/.." && pwd)
 cases=${1:-$root/crates/solver_cases/stdin}
 [ $# -eq 0 ] || shift
 work=$(mktemp -d)
 trap 'rm -rf "$work"' EXIT
-(cd "$root/crates/solver_cases" && rt run >/dev/null 2>"$work/log") || { cat "$work/log" >&2; exit 1; }
+(cd "$root/crates/solver_cases" && rt run <stdin >/dev/null 2>"$work/log") || { cat "$work/log" >&2; exit 1; }
 baseline=
 if gcc -O2 -o "$work/baseline" "$root/bench/lexmin_isl.c" -lisl 2>/dev/null; then
     baseline=$work/baseline

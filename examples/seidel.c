@@ -1,5 +1,5 @@
-/* Sweeps of Gauss and Seidel over a line: each cell becomes the sum of its
-   neighbours, of which the left one is new already. */
+/* Sweeps of Gauss and Seidel over a line: each inner cell becomes the sum of
+   itself and its neighbours, of which the left one is new already. */
 #include <stdint.h>
 
 void seidel(int64_t T, int64_t N, uint64_t A[N]) {
