@@ -46,11 +46,16 @@ abbrev pub resumed : {A : Type 0} → Option Wide → Result A Wide → Result A
 resumed None run = run
 resumed (Some w) run = Err w
 
+-- the rows stopped at a number that is too wide; they are as many as before, over as many unknowns and parameters
+abbrev pub StopsAt : Wide → Table → Table → Type 0
+StopsAt w old new =
+    (new ≡ table_of old.unknowns old.parameters new.rows (Some w)) × (length new.rows ≡ length old.rows)
+
 -- a move leaves the rows that its run gives, or names the number that is too wide and stops the rows
 abbrev pub Moves : {U : Type 0} → Table → Result (List Row) Wide → Table → Result U Wide → Type 0
 Moves old run new (Ok _) =
     (resumed old.stopped run ≡ Ok new.rows) × (new ≡ table_of old.unknowns old.parameters new.rows None)
-Moves old run new (Err w) = (resumed old.stopped run ≡ Err w) × (new.stopped ≡ Some w)
+Moves old run new (Err w) = (resumed old.stopped run ≡ Err w) × StopsAt w old new
 
 -- a line that a run gives is appended, or the cells stay
 abbrev pub Appends : {U : Type 0} → ℕ → List ℤ → List ℤ → Result U TableauStop → Result Row Wide → Type 0
@@ -65,5 +70,5 @@ abbrev pub Cuts : {U : Type 0} → Table → Result Row Wide → Table → Resul
 Cuts old run new (Ok _) =
     (row : Row) × (resumed old.stopped run ≡ Ok row)
     × (new ≡ table_of old.unknowns old.parameters (old.rows ++ row ∷ []) None)
-Cuts old run new (Err (stop.Wide w)) = (resumed old.stopped run ≡ Err w) × (new.stopped ≡ Some w)
+Cuts old run new (Err (stop.Wide w)) = (resumed old.stopped run ≡ Err w) × StopsAt w old new
 Cuts old run new (Err stop.NoMemory) = new ≡ old

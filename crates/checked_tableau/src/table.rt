@@ -270,7 +270,7 @@ impl Rows {
 
     /// Stops the rows at a number that is too wide.
     pub fn stop(&mut self, wide: Wide)
-        ensures { self.new.stopped ≡ Some wide }
+        ensures { self.new ≡ record self.old { stopped = Some wide } }
     {
         self.stopped = Some(wide);
     }

@@ -13,31 +13,32 @@ use Rattle.affine_forms.specs.declared.stop.FormStop.{FormStop}
 use Rattle.affine_forms.specs.Gives.{Fails}
 use Rattle.affine_forms.specs.Parts.{variables_of}
 use Rattle.integer_sets.specs.Constraints.{Constraints, IsSized, system_of, variables_in}
+use Rattle.lexmin_runs.specs.Nodes.{opposite_run}
 use Rattle.pip_solver.specs.declared.stop.Stop.TheVariants as solver
 use Rattle.pip_solver.specs.Answers.{Empties}
 use Rattle.farkas.specs.declared.stuck.Stuck.TheVariants as stuck
-use Rattle.farkas.specs.Run.{Halt, ◌>>◌, formed, negation_run, emptiness, implied_run, kept_run, others, kept_from}
+use Rattle.farkas.specs.Run.{Halt, ◌>>◌, formed, emptiness, implied_run, kept_run, others, kept_from}
 use Rattle.farkas.specs.Run.{dropped_run}
 use Rattle.farkas.specs.Gives.{Halts, stuck_of_form, stuck_of_solver}
 use Rattle.farkas.proofs.Chains.{halts-then, halts-after, halts-same, halts-formed, emptiness-ok, halts-emptiness}
-use Rattle.farkas.proofs.Keeping.{negation_is}
+use Rattle.farkas.proofs.Keeping.{opposite_is}
 
 -- the negation of the row is too wide
 pub implied-unformed : (budget n : ℕ) (es rest : List Affine) (row : Affine) (stop : FormStop)
-    → Fails stop (negation_run row)
+    → Fails stop (opposite_run row)
     → Halts budget (stuck_of_form stop) (implied_run budget n es rest row)
 unfolding implied_run
 implied-unformed budget n es rest row stop h =
-    halts-then budget (stuck_of_form stop) (formed (negation_run row))
-    (λ g. emptiness budget (system_of n 0 es (rest ++ g ∷ []))) (halts-formed budget stop (negation_run row) h)
+    halts-then budget (stuck_of_form stop) (formed (opposite_run row))
+    (λ g. emptiness budget (system_of n 0 es (rest ++ g ∷ []))) (halts-formed budget stop (opposite_run row) h)
 
 -- the question stops
 pub implied-unanswered : (budget n : ℕ) (es rest : List Affine) (row negation : Affine) (question : Constraints)
-    (stop : solver.the_data) → negation_run row ≡ Ok negation → question ≡ system_of n 0 es (rest ++ negation ∷ [])
+    (stop : solver.the_data) → opposite_run row ≡ Ok negation → question ≡ system_of n 0 es (rest ++ negation ∷ [])
     → Empties (Err stop) budget question → Halts budget (stuck_of_solver stop) (implied_run budget n es rest row)
 unfolding implied_run
 implied-unanswered budget n es rest row negation question stop made is h =
-    halts-after budget (stuck_of_solver stop) (formed (negation_run row)) negation
+    halts-after budget (stuck_of_solver stop) (formed (opposite_run row)) negation
     (λ g. emptiness budget (system_of n 0 es (rest ++ g ∷ []))) (ap (λ r. formed r) made)
     (halts-emptiness budget (system_of n 0 es (rest ++ negation ∷ [])) stop
     (subst (λ (s : Constraints). Empties (Err stop) budget s) is h))
@@ -45,7 +46,7 @@ implied-unanswered budget n es rest row negation question stop made is h =
 -- the question is answered
 pub implied-gives : (budget n : ℕ) (es rest : List Affine) (row negation : Affine) (question : Constraints) (lost :
     Bool)
-    → negation_run row ≡ Ok negation → question ≡ system_of n 0 es (rest ++ negation ∷ [])
+    → opposite_run row ≡ Ok negation → question ≡ system_of n 0 es (rest ++ negation ∷ [])
     → Empties (Ok lost) budget question → implied_run budget n es rest row ≡ Ok lost
 unfolding implied_run
 implied-gives budget n es rest row negation question lost made is h =
@@ -63,7 +64,7 @@ others_all P (r ∷ rows) (suc at) all =
 
 pub question-sized : (s : Constraints) (at : ℕ) (es rows new : List Affine) (row negation : Affine)
     → IsSized (variables_in s) es rows → s.parameters ≡ 0 → at < length rows → row ≡ get_or rows at row
-    → negation_run row ≡ Ok negation → new ≡ others rows at ++ negation ∷ [] → IsSized (s.dimensions + 0) es new
+    → opposite_run row ≡ Ok negation → new ≡ others rows at ++ negation ∷ [] → IsSized (s.dimensions + 0) es new
 question-sized s at es rows new row negation sized flat inside is made all =
     let n = s.dimensions in
     let whole : variables_in s ≡ n + 0 = omega arith in
@@ -72,7 +73,7 @@ question-sized s at es rows new row negation sized flat inside is made all =
     let own : variables_of row ≡ n + 0 =
     subst (λ (f : Affine). variables_of f ≡ n + 0) (sym is) (rest at row inside) in
     let turned : variables_of negation ≡ n + 0 =
-    ap (λ (f : Affine). variables_of f) (negation_is row negation made)
+    ap (λ (f : Affine). variables_of f) (opposite_is row negation made)
     ∙ length-multiples (negsuc 0) row.coefficients ∙ own in
     record {
       equalities_sized = subst (λ (m : ℕ). All (λ f. variables_of f ≡ m) es) whole sized.equalities_sized;

@@ -9,8 +9,8 @@ use Rattle.affine_forms.specs.Gives.{Fails}
 use Rattle.integer_sets.specs.Constraints.{Constraints}
 use Rattle.fm_projection.specs.Runs.{eliminated_run, pairs_in}
 use Rattle.fm_projection.specs.Gives.{Eliminates}
-use Rattle.fm_projection.specs.declared.FmStop.{FmStop}
-use Rattle.fm_projection.specs.declared.FmStop.TheVariants as fm
+use Rattle.fm_projection.specs.declared.stop.FmStop.{FmStop}
+use Rattle.fm_projection.specs.declared.stop.FmStop.TheVariants as fm
 use Rattle.lexmin_runs.specs.Nodes.{Counted}
 use Rattle.lexmin_runs.specs.Emptiness.{empty_run}
 use Rattle.pip_solver.specs.declared.stop.Stop.TheVariants as solver

@@ -1,6 +1,6 @@
 -- The claimed form is linear in the unknowns, with the factors that the matching has.
 use Rattle.std.proofs.Common.{◌≡◌, ℕ, zero, suc, ◌+◌, ◌<◌, ◌≤◌, ℤ, pos, ◌+ℤ◌, ◌-ℤ◌, ◌*ℤ◌, Bool, true, false, List}
-use Rattle.std.proofs.Common.{◌∷◌, ◌++◌, length, get_or, set, refl, sym, ◌∙◌, ap, ap₂, All, arith}
+use Rattle.std.proofs.Common.{◌∷◌, ◌++◌, length, get_or, set, refl, sym, ◌∙◌, ap, ap₂, subst, All, arith}
 use Rattle.std.specs.Prelude.{map, nat_eq, nat_lt, if◌then◌else◌}
 use Rattle.std.proofs.lemmas.Int.{ints}
 use Rattle.std.proofs.lemmas.Bool.{eqb-true}
@@ -67,11 +67,13 @@ facts_by p source target false false same h = record {
   two = λ e at. omega arith;
 }
 
-pub facts : (p : ℕ) (source target : DepEnd) → IsOne source target → Facts p source target (layout_of p source target)
+pub facts : (p : ℕ) (source target : DepEnd) (l : Layout) → l ≡ layout_of p source target → IsOne source target
+    → Facts p source target l
 unfolding layout_of
-facts p source target same =
-    facts_by p source target (nat_eq source.statement target.statement) (nat_lt source.statement target.statement)
-    same refl
+facts p source target l is same =
+    subst (λ (k : Layout). Facts p source target k) (sym is)
+    (facts_by p source target (nat_eq source.statement target.statement) (nat_lt source.statement target.statement)
+    same refl)
 
 -- factors and their values
 pub only_length : (n place : ℕ) (k : ℤ) → length (only n place k) ≡ n
@@ -236,7 +238,7 @@ unfolding linear constant claimed
 claimed_is claim source target p xs same =
     let l = layout_of p source target in
     let n = l.unknowns in
-    let f = facts p source target same in
+    let f = facts p source target l refl same in
     let value : List ℤ → ℤ = λ z. dot z xs in
     let first = iterators n l.source (source_factor claim) source.loops in
     let second = iterators n l.target (target_factor claim) target.loops in

@@ -29,12 +29,22 @@ abbrev pub together : Result (List Affine) Wide → Result (List Affine) Wide �
     → Result (List Affine) Wide
 together a b c = a >>= λ fs. (b >>= λ gs. c >>= λ hs. Ok (gs ++ hs)) >>= λ gs. Ok (fs ++ gs)
 
+-- the equalities of the source's iterators, of the target's, and of the parameters
+abbrev pub source_run : Claim → DepEnd → Layout → Constraints → Result (List Affine) Wide
+source_run claim source l s =
+    coefficients_run 0 (iterators l.unknowns l.source (source_factor claim) source.loops) s
+
+abbrev pub target_run : Claim → DepEnd → DepEnd → Layout → Constraints → Result (List Affine) Wide
+target_run claim source target l s =
+    coefficients_run source.loops (iterators l.unknowns l.target (target_factor claim) target.loops) s
+
+abbrev pub bound_run : Claim → Layout → Constraints → Result (List Affine) Wide
+bound_run claim l s = coefficients_run s.dimensions (parameters l.unknowns 0 (bound_factor claim) s.parameters) s
+
 pub linear_run : (claim : Claim) (source target : DepEnd) (l : Layout) (s : Constraints)
     → l ≡ layout_of s.parameters source target → s.dimensions ≡ source.loops + target.loops
     → coefficients_run 0 (linear claim source target s.parameters) s
-    ≡ together (coefficients_run 0 (iterators l.unknowns l.source (source_factor claim) source.loops) s)
-    (coefficients_run source.loops (iterators l.unknowns l.target (target_factor claim) target.loops) s)
-    (coefficients_run s.dimensions (parameters l.unknowns 0 (bound_factor claim) s.parameters) s)
+    ≡ together (source_run claim source l s) (target_run claim source target l s) (bound_run claim l s)
 unfolding linear
 linear_run claim source target l s is dims =
     let m = layout_of s.parameters source target in
@@ -57,9 +67,7 @@ linear_run claim source target l s is dims =
     ∙ ap (λ (i : ℕ). together (coefficients_run 0 first s) (coefficients_run source.loops second s) (coefficients_run
     i third s)) behind in
     subst (λ (k : Layout). coefficients_run 0 (first ++ (second ++ third)) s
-    ≡ together (coefficients_run 0 (iterators k.unknowns k.source (source_factor claim) source.loops) s)
-    (coefficients_run source.loops (iterators k.unknowns k.target (target_factor claim) target.loops) s)
-    (coefficients_run s.dimensions (parameters k.unknowns 0 (bound_factor claim) s.parameters) s)) (sym is) whole
+    ≡ together (source_run claim source k s) (target_run claim source target k s) (bound_run claim k s)) (sym is) whole
 
 pub fails-same : (stop : FormStop) (r q : Result (List Affine) Wide) → r ≡ q → Fails stop r → Fails stop q
 fails-same (form_stop.Wide w) r q same h = sym same ∙ h

@@ -5,7 +5,7 @@ use Rattle.whole_numbers.specs.Affine.{Affine}
 use Rattle.affine_forms.specs.Parts.{variables_of}
 use Rattle.fractions.specs.Elimination.{narrowed}
 use Rattle.integer_sets.specs.Constraints.{Constraints, IsSized, system_of, variables_in}
-use Rattle.fm_projection.specs.declared.FmStop.{FmStop}
+use Rattle.fm_projection.specs.declared.stop.FmStop.{FmStop}
 use Rattle.fm_projection.specs.Gives.{Eliminates}
 use Rattle.farkas.specs.declared.claim.Claim.{Claim}
 use Rattle.iteration_domains.specs.declared.dep.DepEnd.{DepEnd}

@@ -1,53 +1,34 @@
 -- Rows that a run drops are implied by those that it keeps.
-use Rattle.std.proofs.Common.{◌≡◌, ℕ, ◌+◌, ℤ, pos, negsuc, ◌-ℤ◌, ◌*ℤ◌, neg_ℤ, ◌≤ℤ◌, Bool, true, false, List, [], ◌∷◌}
-use Rattle.std.proofs.Common.{◌++◌, refl, sym, ◌∙◌, ap₂, subst, All, arith, inl, inr, append_assoc}
+use Rattle.std.proofs.Common.{◌≡◌, ℕ, ◌+◌, ℤ, pos, negsuc, ◌≤ℤ◌, Bool, true, false, List, [], ◌∷◌}
+use Rattle.std.proofs.Common.{◌++◌, length, refl, sym, ◌∙◌, subst, All, arith, inl, inr, append_assoc}
 use Rattle.std.specs.Prelude.{Ok, if◌then◌else◌}
 use Rattle.std.proofs.lemmas.Int.{ints}
 use Rattle.std.proofs.lemmas.List.{append-nil}
 use Rattle.std.proofs.lemmas.List.Elements.{All-cons, All-nil, All-append, All-head, All-tail}
-use Rattle.whole_numbers.specs.Affine.{Affine, form_of, complement}
-use Rattle.whole_numbers.specs.Lists.{multiples}
-use Rattle.whole_numbers.proofs.Ring.{mul_neg_left, mul_one_left}
+use Rattle.whole_numbers.specs.Affine.{Affine, complement}
 use Rattle.whole_numbers.proofs.Dot.{length-multiples}
 use Rattle.whole_numbers.proofs.Lists.{not_negative_all}
-use Rattle.wide_math.specs.Checked.{difference_of, ◌>>=◌}
-use Rattle.wide_math.proofs.Steps.{chain-ok, difference_of-ok}
+use Rattle.whole_numbers.proofs.Values.{value_of-complement, form_same}
 use Rattle.affine_forms.specs.Parts.{variables_of}
-use Rattle.affine_forms.specs.Runs.{map_run}
 use Rattle.fractions.specs.Fractions.{HoldsOver}
 use Rattle.fractions.specs.Farkas.{HasNoPoint, Dropped}
 use Rattle.fractions.proofs.Chosen.{All-front, All-back}
 use Rattle.integer_sets.specs.Constraints.{IsSized, system_of, variables_in}
 use Rattle.fm_projection.proofs.Law.{whole_point}
+use Rattle.lexmin_runs.specs.Nodes.{opposite_run}
+use Rattle.lexmin_runs.proofs.Asking.{opposite-value}
 use Rattle.lexmin_runs.proofs.Emptiness.{empty-true}
-use Rattle.farkas.specs.Run.{formed, opposite_less_one_run, negation_run, emptiness, implied_run, kept_run}
+use Rattle.farkas.specs.Run.{formed, emptiness, implied_run, kept_run}
 use Rattle.farkas.proofs.Chains.{then-ok, formed-ok, emptiness-run}
 
-opposites_are : (xs bs : List ℤ) → map_run (difference_of (pos 0)) xs ≡ Ok bs → bs ≡ multiples (negsuc 0) xs
-opposites_are [] bs h = cc
-opposites_are (x ∷ xs) bs h =
-    let c = chain-ok (difference_of (pos 0) x)
-    (λ (z : ℤ). map_run (difference_of (pos 0)) xs >>= λ zs. Ok (z ∷ zs)) bs h in
-    let d = chain-ok (map_run (difference_of (pos 0)) xs) (λ (zs : List ℤ). Ok (c.0 ∷ zs)) bs c.2 in
-    let is : c.0 ∷ d.0 ≡ bs = cc (d.2) in
-    let s = ((difference_of-ok (pos 0) x c.0).0 c.1).0 in
-    let n = mul_neg_left (pos 1) x in
-    let o = mul_one_left x in
-    let first : c.0 ≡ negsuc 0 *ℤ x = omega (arith, ints) in
-    sym is ∙ ap₂ (λ (z : ℤ) (zs : List ℤ). z ∷ zs) first (opposites_are xs d.0 d.1)
-
-pub negation_is : (f g : Affine) → negation_run f ≡ Ok g → g ≡ complement f
-unfolding negation_run
-negation_is f g h =
-    let c = chain-ok (map_run (difference_of (pos 0)) f.coefficients)
-    (λ (bs : List ℤ). opposite_less_one_run f.constant >>= λ k. Ok (form_of bs k)) g h in
-    let d = chain-ok (opposite_less_one_run f.constant) (λ (k : ℤ). Ok (form_of c.0 k)) g c.2 in
-    let e = chain-ok (difference_of (pos 0) f.constant) (λ (b : ℤ). difference_of b (pos 1)) d.0 d.1 in
-    let is : form_of c.0 d.0 ≡ g = cc (d.2) in
-    let a = ((difference_of-ok (pos 0) f.constant e.0).0 e.1).0 in
-    let b = ((difference_of-ok e.0 (pos 1) d.0).0 e.2).0 in
-    let last : d.0 ≡ neg_ℤ f.constant -ℤ pos 1 = omega (arith, ints) in
-    sym is ∙ ap₂ (λ (bs : List ℤ) (k : ℤ). form_of bs k) (opposites_are f.coefficients c.0 c.1) last
+-- what the negation is
+pub opposite_is : (f g : Affine) → opposite_run f ≡ Ok g → g ≡ complement f
+opposite_is f g h =
+    let n = length f.coefficients in
+    form_same n g (complement f) (opposite-value f g [] h).1 (length-multiples (negsuc 0) f.coefficients) (λ point size.
+    let own = (opposite-value f g point h).0 in
+    let value = value_of-complement f point in
+    omega (arith, ints))
 
 -- a system that the solver finds empty has no whole point that is not negative
 pub empty_has_no_point : (budget n : ℕ) (es rs : List Affine) → All (λ f. variables_of f ≡ n) es
@@ -75,9 +56,9 @@ pub implied_has_no_point : (budget n : ℕ) (es others : List Affine) (row : Aff
     → HasNoPoint n es (others ++ complement row ∷ [])
 unfolding implied_run
 implied_has_no_point budget n es others row he ho hr h =
-    let c = then-ok (formed (negation_run row))
+    let c = then-ok (formed (opposite_run row))
     (λ (g : Affine). emptiness budget (system_of n 0 es (others ++ g ∷ []))) true h in
-    let is = negation_is row c.0 (formed-ok (negation_run row) c.0 c.1) in
+    let is = opposite_is row c.0 (formed-ok (opposite_run row) c.0 c.1) in
     let asked = subst (λ (g : Affine). emptiness budget (system_of n 0 es (others ++ g ∷ [])) ≡ Ok true) is c.2 in
     let Sized : Affine → Type 0 = λ f. variables_of f ≡ n in
     empty_has_no_point budget n es (others ++ complement row ∷ []) he

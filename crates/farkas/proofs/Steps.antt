@@ -11,7 +11,7 @@ use Rattle.fractions.specs.Farkas.{own_rows}
 use Rattle.integer_sets.specs.Constraints.{Constraints}
 use Rattle.farkas.specs.declared.matching.Entry.{Entry}
 use Rattle.farkas.specs.declared.matching.Entry.TheVariants as entry
-use Rattle.farkas.specs.Claims.{only, iterators, parameters}
+use Rattle.farkas.specs.Claims.{only}
 use Rattle.farkas.specs.Matching.{entry_of, equality_columns_run, row_columns_run, matched_run, coefficients_run}
 use Rattle.affine_forms.specs.declared.stop.FormStop.{FormStop}
 use Rattle.affine_forms.specs.declared.stop.FormStop.TheVariants as form_stop
@@ -93,51 +93,25 @@ equality_stop e rows i f w inside is h =
     ∙ ap (λ (r : Result ℤ Wide). r >>= λ b. equality_columns_run e (drop (suc i) rows) >>= λ bs. Ok (b ∷ entry_of e f
     ∷ bs)) h
 
--- an iterator more, from the outermost
-pub iterators_more : (n first : ℕ) (k : ℤ) (m d variable : ℕ) (s : Constraints) (front : List Affine) (f : Affine)
-    (all : Result (List Affine) Wide)
-    → matched_run (entry.Coefficient (variable + d)) (only n (first + m) k) (pos 0) s ≡ Ok f
-    → with_more front (coefficients_run (variable + d) (iterators n first k (suc m)) s) ≡ all
-    → with_more (front ++ f ∷ []) (coefficients_run (variable + (d + 1)) (iterators n first k m) s) ≡ all
-iterators_more n first k m d variable s front f all made h =
-    let at : variable + (d + 1) ≡ suc (variable + d) = omega arith in
-    ap (λ (i : ℕ). with_more (front ++ f ∷ []) (coefficients_run i (iterators n first k m) s)) at
-    ∙ sym (with_more-step front f (coefficients_run (suc (variable + d)) (iterators n first k m) s))
-    ∙ sym (ap (λ (r : Result Affine Wide). with_more front (r >>= λ g. coefficients_run (suc (variable + d))
-    (iterators n first k m) s >>= λ gs. Ok (g ∷ gs))) made)
+-- a coefficient more
+pub coefficient_more : (i : ℕ) (own : List ℤ) (owns : List (List ℤ)) (s : Constraints) (front : List Affine)
+    (f : Affine) (all : Result (List Affine) Wide) → matched_run (entry.Coefficient i) own (pos 0) s ≡ Ok f
+    → with_more front (coefficients_run i (own ∷ owns) s) ≡ all
+    → with_more (front ++ f ∷ []) (coefficients_run (suc i) owns s) ≡ all
+coefficient_more i own owns s front f all made h =
+    sym (with_more-step front f (coefficients_run (suc i) owns s))
+    ∙ sym (ap (λ (r : Result Affine Wide). with_more front (r >>= λ g. coefficients_run (suc i) owns s >>= λ gs.
+    Ok (g ∷ gs))) made)
     ∙ h
 
-pub iterators_stop : (n first : ℕ) (k : ℤ) (m d variable : ℕ) (s : Constraints) (front : List Affine) (w : Wide) (all
-    : Result (List Affine) Wide)
-    → matched_run (entry.Coefficient (variable + d)) (only n (first + m) k) (pos 0) s ≡ Err w
-    → with_more front (coefficients_run (variable + d) (iterators n first k (suc m)) s) ≡ all → all ≡ Err w
-iterators_stop n first k m d variable s front w all made h =
-    sym h ∙ ap (λ (r : Result Affine Wide). with_more front (r >>= λ g. coefficients_run (suc (variable + d))
-    (iterators n first k m) s >>= λ gs. Ok (g ∷ gs))) made
-
--- a parameter more
-pub parameters_more : (n i : ℕ) (k : ℤ) (m variable : ℕ) (s : Constraints) (front : List Affine) (f : Affine) (all :
-    Result (List Affine) Wide)
-    → matched_run (entry.Coefficient (variable + i)) (only n i k) (pos 0) s ≡ Ok f
-    → with_more front (coefficients_run (variable + i) (parameters n i k (suc m)) s) ≡ all
-    → with_more (front ++ f ∷ []) (coefficients_run (variable + (i + 1)) (parameters n (i + 1) k m) s) ≡ all
-parameters_more n i k m variable s front f all made h =
-    let at : variable + (i + 1) ≡ suc (variable + i) = omega arith in
-    ap (λ (j : ℕ). with_more (front ++ f ∷ []) (coefficients_run j (parameters n (i + 1) k m) s)) at
-    ∙ ap (λ (j : ℕ). with_more (front ++ f ∷ []) (coefficients_run (suc (variable + i)) (parameters n j k m) s))
-    (add-one i)
-    ∙ sym (with_more-step front f (coefficients_run (suc (variable + i)) (parameters n (suc i) k m) s))
-    ∙ sym (ap (λ (r : Result Affine Wide). with_more front (r >>= λ g. coefficients_run (suc (variable + i))
-    (parameters n (suc i) k m) s >>= λ gs. Ok (g ∷ gs))) made)
-    ∙ h
-
-pub parameters_stop : (n i : ℕ) (k : ℤ) (m variable : ℕ) (s : Constraints) (front : List Affine) (w : Wide) (all :
-    Result (List Affine) Wide)
-    → matched_run (entry.Coefficient (variable + i)) (only n i k) (pos 0) s ≡ Err w
-    → with_more front (coefficients_run (variable + i) (parameters n i k (suc m)) s) ≡ all → all ≡ Err w
-parameters_stop n i k m variable s front w all made h =
-    sym h ∙ ap (λ (r : Result Affine Wide). with_more front (r >>= λ g. coefficients_run (suc (variable + i))
-    (parameters n (suc i) k m) s >>= λ gs. Ok (g ∷ gs))) made
+pub coefficient_fails : (stop : FormStop) (i : ℕ) (own : List ℤ) (owns : List (List ℤ)) (s : Constraints)
+    (front old : List Affine) (run : Result (List Affine) Wide)
+    → Fails stop (matched_run (entry.Coefficient i) own (pos 0) s)
+    → with_more front (coefficients_run i (own ∷ owns) s) ≡ with_more old run → Fails stop run
+coefficient_fails (form_stop.Wide w) i own owns s front old run made h =
+    with_more-err old run w (sym h ∙ ap (λ (r : Result Affine Wide). with_more front (r >>= λ g.
+    coefficients_run (suc i) owns s >>= λ gs. Ok (g ∷ gs))) made)
+coefficient_fails form_stop.NoMemory i own owns s front old run made h = tt
 
 -- two runs of coefficients, one behind the other
 pub coefficients_append : (i : ℕ) (xs ys : List (List ℤ)) (s : Constraints)
@@ -191,23 +165,3 @@ pub read_at : (rows : List Affine) (i : ℕ) (row d : Affine) → i < length row
 read_at [] i row d inside h = absurd (omega arith)
 read_at (r ∷ rows) zero row d inside h = h
 read_at (r ∷ rows) (suc i) row d inside h = read_at rows i row d (omega arith) h
-
--- calls that fail
-pub iterators_fail : (stop : FormStop) (n first : ℕ) (k : ℤ) (m d variable : ℕ) (s : Constraints) (front old : List
-    Affine)
-    (run : Result (List Affine) Wide)
-    → Fails stop (matched_run (entry.Coefficient (variable + d)) (only n (first + m) k) (pos 0) s)
-    → with_more front (coefficients_run (variable + d) (iterators n first k (suc m)) s) ≡ with_more old run
-    → Fails stop run
-iterators_fail (form_stop.Wide w) n first k m d variable s front old run made h =
-    with_more-err old run w (iterators_stop n first k m d variable s front w (with_more old run) made h)
-iterators_fail form_stop.NoMemory n first k m d variable s front old run made h = tt
-
-pub parameters_fail : (stop : FormStop) (n i : ℕ) (k : ℤ) (m variable : ℕ) (s : Constraints) (front old : List Affine)
-    (run : Result (List Affine) Wide)
-    → Fails stop (matched_run (entry.Coefficient (variable + i)) (only n i k) (pos 0) s)
-    → with_more front (coefficients_run (variable + i) (parameters n i k (suc m)) s) ≡ with_more old run
-    → Fails stop run
-parameters_fail (form_stop.Wide w) n i k m variable s front old run made h =
-    with_more-err old run w (parameters_stop n i k m variable s front w (with_more old run) made h)
-parameters_fail form_stop.NoMemory n i k m variable s front old run made h = tt

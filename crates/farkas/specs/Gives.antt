@@ -7,7 +7,7 @@ use Rattle.affine_forms.specs.declared.stop.FormStop.TheVariants as form_stop
 use Rattle.affine_forms.specs.Gives.{Fails}
 use Rattle.whole_numbers.specs.Affine.{Affine}
 use Rattle.integer_sets.specs.Constraints.{Constraints, system_of}
-use Rattle.fm_projection.specs.declared.FmStop.TheVariants as fm
+use Rattle.fm_projection.specs.declared.stop.FmStop.TheVariants as fm
 use Rattle.pip_solver.specs.declared.stop.Stop.TheVariants as solver
 use Rattle.pip_solver.specs.Answers.{Empties}
 use Rattle.farkas.specs.declared.stuck.Stuck.TheVariants as stuck

@@ -1,16 +1,14 @@
 -- The rows of a claim on a dependence: the matching of coefficients, of which the multipliers are eliminated one by
 -- one, with rows dropped that others imply.
-use Rattle.std.specs.Prelude.{ℕ, zero, suc, ◌+◌, nat_lt, ℤ, pos, Bool, if◌then◌else◌, List, [], ◌∷◌, ◌++◌, take, drop}
+use Rattle.std.specs.Prelude.{ℕ, zero, suc, ◌+◌, nat_lt, Bool, if◌then◌else◌, List, [], ◌∷◌, ◌++◌, take, drop}
 use Rattle.std.specs.Prelude.{map, Result, Ok, Err}
-use Rattle.whole_numbers.specs.Affine.{Affine, form_of}
+use Rattle.whole_numbers.specs.Affine.{Affine}
 use Rattle.wide_math.specs.declared.Wide.{Wide}
-use Rattle.wide_math.specs.Checked.{difference_of, ◌>>=◌}
-use Rattle.affine_forms.specs.Runs.{map_run}
 use Rattle.fractions.specs.Elimination.{narrowed}
 use Rattle.fractions.specs.Farkas.{own_rows}
 use Rattle.integer_sets.specs.Constraints.{Constraints, system_of}
 use Rattle.fm_projection.specs.Runs.{eliminated_run, pairs_in}
-use Rattle.lexmin_runs.specs.Nodes.{Counted}
+use Rattle.lexmin_runs.specs.Nodes.{Counted, opposite_run}
 use Rattle.lexmin_runs.specs.Emptiness.{empty_run}
 use Rattle.farkas.specs.declared.claim.Claim.{Claim}
 use Rattle.iteration_domains.specs.declared.dep.DepEnd.{DepEnd}
@@ -40,16 +38,6 @@ formed (Err w) = Err (wide w)
 unfoldable pub eliminating : ℕ → Constraints → Result Constraints Halt
 eliminating i s = if nat_lt 4096 (pairs_in i s) then Err (crowded (pairs_in i s)) else formed (eliminated_run i s)
 
--- - z - 1
-abbrev pub opposite_less_one_run : ℤ → Result ℤ Wide
-opposite_less_one_run z = difference_of (pos 0) z >>= λ b. difference_of b (pos 1)
-
--- the negation of a row, - f - 1: the opposites of the coefficients in order, then that of the constant, less 1
-unfoldable pub negation_run : Affine → Result Affine Wide
-negation_run f =
-    map_run (difference_of (pos 0)) f.coefficients >>= λ bs.
-    opposite_less_one_run f.constant >>= λ c. Ok (form_of bs c)
-
 -- whether a system is empty, by a counted answer; a stop leaves the system unanswered
 abbrev pub answer : Constraints → Counted Bool → Result Bool Halt
 answer s (Ok counted) = Ok counted.0
@@ -59,10 +47,10 @@ answer s (Err stop) = Err (unanswered s)
 unfoldable pub emptiness : ℕ → Constraints → Result Bool Halt
 emptiness budget s = answer s (empty_run budget s)
 
--- whether the others imply a row of n variables: with its negation behind them they are empty
+-- whether the others imply a row of n variables: with its negation, - f - 1, behind them they are empty
 unfoldable pub implied_run : ℕ → ℕ → List Affine → List Affine → Affine → Result Bool Halt
 implied_run budget n equalities others row =
-    formed (negation_run row) >> λ negation. emptiness budget (system_of n 0 equalities (others ++ negation ∷ []))
+    formed (opposite_run row) >> λ negation. emptiness budget (system_of n 0 equalities (others ++ negation ∷ []))
 
 -- going through the rest of the rows behind those in front: a row is dropped where all others that are left, the later
 -- ones too, imply it

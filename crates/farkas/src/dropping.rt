@@ -1,61 +1,14 @@
 //! Rows that the others imply are dropped.
 
-ghost use Rattle.std.specs.Prelude.{◌≡◌, ◌<◌, pos, HoldsAt, length};
-ghost use Rattle.affine_forms.specs.Gives.{Gives};
-ghost use Rattle.affine_forms.specs.Runs.{map_run};
-ghost use Rattle.wide_math.specs.Checked.{difference_of};
-ghost use Rattle.wide_math.specs.Gives.{Becomes};
-ghost use Rattle.farkas.specs.Run.{negation_run, opposite_less_one_run, dropped_run};
+ghost use Rattle.std.specs.Prelude.{◌≡◌, ◌<◌, HoldsAt, length};
+ghost use Rattle.farkas.specs.Run.{dropped_run};
 ghost use Rattle.farkas.specs.Gives.{Follows, Asks};
 
 use crate::stuck::{Stuck, by_form, by_solver};
-use affine_forms::{Form, FormStop};
 use integer_sets::System;
 use pip_solver::is_empty;
 use std::alloc::Global;
-use wide_math::{Wide, sub};
-
-/// Turns the sign of each number.
-fn oppose(numbers: &mut [i128]) -> Result<(), Wide>
-    ensures { Becomes numbers.new result (map_run (difference_of (pos 0)) numbers.old) }
-{
-    for at in 0..numbers.len() {
-        match sub(0, numbers[at]) {
-            Err(wide) => return Err(wide),
-            Ok(opposite) => numbers[at] = opposite,
-        }
-    }
-    Ok(())
-}
-
-/// A number less 1, with the opposite sign.
-fn opposite_less_one(number: i128) -> Result<i128, Wide>
-    ensures { result ≡ opposite_less_one_run number }
-{
-    match sub(0, number) {
-        Err(wide) => Err(wide),
-        Ok(opposite) => sub(opposite, 1),
-    }
-}
-
-/// The negation of a row: at whole points it is at least 0 exactly where the row is not.
-#[tactic(auto, unfolding(crate::specs::Run::negation_run))]
-fn negation(alloc: Global, row: &Form) -> Result<Form, FormStop>
-    ensures { Gives (λ f. f) result (negation_run row.now) }
-{
-    let mut numbers = match Vec::from_slice(alloc, row.coefficients()) {
-        Err(_) => return Err(FormStop::NoMemory),
-        Ok(numbers) => numbers,
-    };
-    match oppose(&mut numbers) {
-        Err(wide) => return Err(FormStop::Wide(wide)),
-        Ok(()) => {}
-    }
-    match opposite_less_one(row.constant()) {
-        Err(wide) => Err(FormStop::Wide(wide)),
-        Ok(constant) => Form::of(alloc, &numbers, constant),
-    }
-}
+use tableau_nodes::opposite;
 
 /// Asks whether the others imply the row at a place, and drops it where they do. It stays a function of its own in the
 /// program, so that a debugger can count the questions.
@@ -69,7 +22,7 @@ fn ask(alloc: Global, system: System, at: usize, budget: u64) -> Result<System, 
     let count = system.rows().len() - 1;
     let (equalities, mut rows) = system.into_parts();
     let row = rows.remove(at);
-    match negation(alloc, &row) {
+    match opposite(alloc, &row) {
         Err(stop) => return Err(by_form(stop)),
         Ok(negation) => match rows.push(negation) {
             Err(_) => return Err(Stuck::NoMemory),

@@ -1,3 +1,4 @@
 pub mod Joined
+pub mod Loops
 pub mod Exact
 pub mod Law

@@ -17,6 +17,10 @@ abbrev pub forms_run : (Affine → Result Affine Wide) → List Affine → Resul
 forms_run step [] = Ok []
 forms_run step (f ∷ fs) = step f >>= λ g. forms_run step fs >>= λ gs. Ok (g ∷ gs)
 
+-- the list of the one form that a run gives
+abbrev pub single : Result Affine Wide → Result (List Affine) Wide
+single run = run >>= λ f. Ok (f ∷ [])
+
 -- b P + a N in lowest terms, for coefficients a > 0 in P and -b < 0 in N
 unfoldable pub pair_run : ℕ → Affine → Affine → Result Affine Wide
 pair_run i p n =

@@ -1,6 +1,8 @@
 //! The loops of an elimination, each of which appends forms to a list.
 
-ghost use Rattle.std.specs.Prelude.{◌≡◌, ◌≢◌, ◌<◌, ◌≤◌, ◌++◌, pos, All, IfOk, OnOk, length, map, take, slice_index_or};
+ghost use Rattle.std.specs.Prelude.{◌≡◌, ◌≢◌, ◌<◌, ◌≤◌, ◌∷◌, [], ◌++◌, pos, length, map, take, slice_index_or};
+ghost use Rattle.std.specs.Prelude.{All, IfOk, OnOk, Result};
+ghost use Rattle.wide_math.specs.declared.Wide.{Wide};
 ghost use Rattle.whole_numbers.specs.Affine.{Affine};
 ghost use Rattle.whole_numbers.specs.Content.{lowest_of_form};
 ghost use Rattle.fractions.specs.Elimination.{coefficient_of, chosen, sign};
@@ -8,7 +10,7 @@ ghost use Rattle.fractions.specs.Elimination.{is_zero, is_not_zero, is_positive,
 ghost use Rattle.affine_forms.specs.Parts.{variables_of};
 ghost use Rattle.affine_forms.specs.Gives.{Gives};
 ghost use Rattle.fm_projection.specs.Runs.{forms_run, pair_run, pairs_run, place_of, projected_run};
-ghost use Rattle.fm_projection.specs.Runs.{reduced_all_run, reduced_run, size_run};
+ghost use Rattle.fm_projection.specs.Runs.{reduced_all_run, reduced_run, single, size_run};
 ghost use Rattle.fm_projection.specs.Gives.{Gains};
 
 use affine_forms::{Form, FormStop};
@@ -24,15 +26,37 @@ pub fn coefficient(form: &Form, variable: usize) -> i128
     form.coefficients()[variable]
 }
 
-/// A copy of the form in lowest terms.
-fn lowest_copy(form: &Form) -> Result<Form, AllocError>
-    ensures { IfOk result (λ f. f ≡ lowest_of_form form.now) }
+/// Appends a form.
+fn push(out: &mut Vec<Form>, form: Form) -> Result<(), AllocError>
+    ensures { OnOk result (out.new.items ≡ out.old.items ++ form ∷ []) }
+{
+    out.push(form)?;
+    Ok(())
+}
+
+/// Appends a form that was made, or stops as its making did.
+fn append(out: &mut Vec<Form>, made: Result<Form, FormStop>) -> Result<(), FormStop>
+    ensures { (run : Result Affine Wide) → Gives (λ f. f) made run
+        → Gains out.old.items out.new.items result (single run) }
+{
+    match made {
+        Err(stop) => Err(stop),
+        Ok(form) => match push(out, form) {
+            Err(_) => Err(FormStop::NoMemory),
+            Ok(()) => Ok(()),
+        },
+    }
+}
+
+/// Appends the form in lowest terms.
+fn append_copy(out: &mut Vec<Form>, form: &Form) -> Result<(), AllocError>
+    ensures { OnOk result (out.new.items ≡ out.old.items ++ lowest_of_form form.now ∷ []) }
 {
     match form.copy() {
         Err(_) => Err(AllocError),
         Ok(mut copy) => {
             copy.lower();
-            Ok(copy)
+            push(out, copy)
         }
     }
 }
@@ -42,13 +66,7 @@ pub fn append_lowest(out: &mut Vec<Form>, forms: &[Form]) -> Result<(), AllocErr
     ensures { OnOk result (out.new.items ≡ out.old.items ++ map lowest_of_form forms.now) }
 {
     for form in forms {
-        match lowest_copy(form) {
-            Err(_) => return Err(AllocError),
-            Ok(copy) => match out.push(copy) {
-                Err(_) => return Err(AllocError),
-                Ok(()) => {}
-            },
-        }
+        append_copy(out, form)?;
     }
     Ok(())
 }
@@ -64,13 +82,7 @@ pub fn append_without(
 {
     for form in forms {
         if coefficient(form, variable) == 0 {
-            match lowest_copy(form) {
-                Err(_) => return Err(AllocError),
-                Ok(copy) => match out.push(copy) {
-                    Err(_) => return Err(AllocError),
-                    Ok(()) => {}
-                },
-            }
+            append_copy(out, form)?;
         }
     }
     Ok(())
@@ -110,12 +122,9 @@ fn append_pairs_with(
 {
     for row in rows {
         if coefficient(row, variable) < 0 {
-            match pair(upper, row, variable) {
+            match append(out, pair(upper, row, variable)) {
                 Err(stop) => return Err(stop),
-                Ok(sum) => match out.push(sum) {
-                    Err(_) => return Err(FormStop::NoMemory),
-                    Ok(()) => {}
-                },
+                Ok(()) => {}
             }
         }
     }
@@ -195,12 +204,9 @@ pub fn append_reduced(
 {
     for form in forms {
         if coefficient(form, variable) != 0 {
-            match reduced(equality, form, variable) {
+            match append(out, reduced(equality, form, variable)) {
                 Err(stop) => return Err(stop),
-                Ok(new) => match out.push(new) {
-                    Err(_) => return Err(FormStop::NoMemory),
-                    Ok(()) => {}
-                },
+                Ok(()) => {}
             }
         }
     }

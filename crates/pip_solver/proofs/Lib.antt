@@ -1,6 +1,7 @@
 pub mod Running
 pub mod Posing
 pub mod Deciding
+pub mod Dividing
 pub mod Questions
 pub mod Stepping
 pub mod Leaf_trees

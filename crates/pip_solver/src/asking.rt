@@ -6,7 +6,8 @@ ghost use Rattle.affine_forms.specs.Parts.{variables_of};
 ghost use Rattle.tableau_rows.specs.Problem.{Speaks};
 ghost use Rattle.tableau_rows.specs.Moves.{row_at};
 ghost use Rattle.lexmin_runs.specs.Nodes.{ask, context_holds, below_somewhere, above_somewhere, broken_somewhere};
-ghost use Rattle.lexmin_runs.specs.Nodes.{none_below, part_of, longer_form};
+ghost use Rattle.lexmin_runs.specs.Nodes.{none_below, part_of, longer_form, formed};
+ghost use Rattle.lexmin_runs.specs.Nodes.{opposite_run, above_run, under_run};
 ghost use Rattle.tableau_nodes.specs.Node.{node_of};
 ghost use Rattle.pip_solver.specs.Answers.{Tells, AsksOf};
 
@@ -78,14 +79,35 @@ pub fn below_somewhere(
     if is_constant(&node.rows, row) {
         return Ok(constant_of(&node.rows, row) < 0);
     }
-    let part = match part_of(alloc, &node.rows, row) {
-        Err(_) => return Err(QuestionStop::NoMemory),
-        Ok(part) => part,
-    };
-    match opposite(alloc, &part) {
+    match part_of(alloc, &node.rows, row) {
+        Err(_) => Err(QuestionStop::NoMemory),
+        Ok(part) => ask_opposite(alloc, node, &part, left),
+    }
+}
+
+/// Whether a form is at most -1 somewhere in the context.
+fn ask_opposite(
+    alloc: Global,
+    node: &Tableau,
+    form: &Form,
+    left: &mut u64,
+) -> Result<bool, QuestionStop>
+    requires speaks { Speaks node.now.rows.parameters node.now.context.items }
+    requires form { variables_of form.now ≡ node.now.rows.parameters }
+    ensures run { Tells result left.new (formed left.old (opposite_run form.now)
+        (λ g. ask left.old node.now.rows.parameters (node.now.context.items ++ g ∷ []))) }
+    ensures less { left.new ≤ left.old }
+{
+    match opposite(alloc, form) {
         Err(FormStop::NoMemory) => Err(QuestionStop::NoMemory),
         Err(FormStop::Wide(_)) => Err(QuestionStop::Wide),
-        Ok(form) => ask(alloc, node.rows.parameters(), &node.context, &[form], left),
+        Ok(opposite) => ask(
+            alloc,
+            node.rows.parameters(),
+            &node.context,
+            &[opposite],
+            left,
+        ),
     }
 }
 
@@ -128,21 +150,56 @@ pub fn broken_somewhere(
     if is_constant(&node.rows, row) {
         return Ok(remainder_of(constant_of(&node.rows, row), divisor) > 0);
     }
-    let part = match part_of(alloc, &node.rows, row) {
-        Err(_) => return Err(QuestionStop::NoMemory),
-        Ok(part) => part,
-    };
-    let first = match above(alloc, divisor, &part) {
-        Err(FormStop::NoMemory) => return Err(QuestionStop::NoMemory),
-        Err(FormStop::Wide(_)) => return Err(QuestionStop::Wide),
-        Ok(first) => first,
-    };
-    let second = match under(alloc, divisor, &part) {
-        Err(FormStop::NoMemory) => return Err(QuestionStop::NoMemory),
-        Err(FormStop::Wide(_)) => return Err(QuestionStop::Wide),
-        Ok(second) => second,
-    };
-    ask_longer(alloc, node, first, second, left)
+    match part_of(alloc, &node.rows, row) {
+        Err(_) => Err(QuestionStop::NoMemory),
+        Ok(part) => ask_between(alloc, node, divisor, &part, left),
+    }
+}
+
+/// Whether a form lies between two multiples of a divisor somewhere in the context.
+fn ask_between(
+    alloc: Global,
+    node: &Tableau,
+    divisor: i128,
+    form: &Form,
+    left: &mut u64,
+) -> Result<bool, QuestionStop>
+    requires speaks { Speaks node.now.rows.parameters node.now.context.items }
+    requires form { variables_of form.now ≡ node.now.rows.parameters }
+    ensures run { Tells result left.new (formed left.old (above_run divisor form.now)
+        (λ g. formed left.old (under_run divisor form.now) (λ h. ask left.old (node.now.rows.parameters + 1)
+        (map longer_form node.now.context.items ++ g ∷ h ∷ [])))) }
+    ensures less { left.new ≤ left.old }
+{
+    match above(alloc, divisor, form) {
+        Err(FormStop::NoMemory) => Err(QuestionStop::NoMemory),
+        Err(FormStop::Wide(_)) => Err(QuestionStop::Wide),
+        Ok(first) => ask_under(alloc, node, divisor, form, first, left),
+    }
+}
+
+/// The same with the form of the lower multiple in hand.
+fn ask_under(
+    alloc: Global,
+    node: &Tableau,
+    divisor: i128,
+    form: &Form,
+    first: Form,
+    left: &mut u64,
+) -> Result<bool, QuestionStop>
+    requires speaks { Speaks node.now.rows.parameters node.now.context.items }
+    requires form { variables_of form.now ≡ node.now.rows.parameters }
+    requires first { variables_of first ≡ node.now.rows.parameters + 1 }
+    ensures run { Tells result left.new (formed left.old (under_run divisor form.now)
+        (λ h. ask left.old (node.now.rows.parameters + 1)
+        (map longer_form node.now.context.items ++ first ∷ h ∷ []))) }
+    ensures less { left.new ≤ left.old }
+{
+    match under(alloc, divisor, form) {
+        Err(FormStop::NoMemory) => Err(QuestionStop::NoMemory),
+        Err(FormStop::Wide(_)) => Err(QuestionStop::Wide),
+        Ok(second) => ask_longer(alloc, node, first, second, left),
+    }
 }
 
 /// Whether two forms over one unknown more have a whole point in the context.

@@ -1,5 +1,6 @@
 //! Whether a system has no whole point with dimensions from 0 on and parameters in 0..=65536.
-ghost use Rattle.std.specs.Prelude.{◌≡◌, ◌<◌, ◌≤◌, ◌-◌, [], ◌∷◌, set, Ok, negsuc, pos, All, true, false, ℤ, List};
+ghost use Rattle.std.specs.Prelude.{◌≡◌, ◌<◌, ◌≤◌, ◌-◌, [], ◌∷◌, ◌++◌, OnOk, set, Ok, negsuc, pos};
+ghost use Rattle.std.specs.Prelude.{All, true, false, ℤ, List};
 ghost use Rattle.affine_forms.specs.Gives.{Gives};
 ghost use Rattle.whole_numbers.specs.Affine.{form_of};
 ghost use Rattle.affine_forms.specs.Parts.{variables_of};
@@ -9,12 +10,13 @@ ghost use Rattle.lexmin_runs.specs.Emptiness.{negated_run, equality_rows_run, bo
 ghost use Rattle.lexmin_runs.specs.Emptiness.{HasBoundedPoint};
 ghost use Rattle.pip_solver.specs.Answers.{Decides, Empties, Poses, equality_run};
 
+use crate::lists::{push, push_copy};
 use crate::question::{QuestionStop, question};
 use crate::stop::Stop;
 use affine_forms::{Form, FormStop};
 use checked_tableau::{Problem, Rows};
 use integer_sets::System;
-use std::alloc::Global;
+use std::alloc::{AllocError, Global};
 use tableau_nodes::oppose;
 use wide_math::sub;
 
@@ -36,25 +38,26 @@ fn negated(alloc: Global, form: &Form) -> Result<Form, FormStop>
     }
 }
 
+/// Appends a copy of a form, and one more.
+fn push_both(rows: &mut Vec<Form>, form: &Form, second: Form) -> Result<(), AllocError>
+    ensures { OnOk result (rows.new.items ≡ rows.old.items ++ form.now ∷ second ∷ []) }
+{
+    match push_copy(rows, form) {
+        Err(error) => Err(error),
+        Ok(()) => push(rows, second),
+    }
+}
+
 /// Appends the two rows of an equality: the form, and the form with each sign turned.
 fn pose_equality(alloc: Global, rows: &mut Vec<Form>, form: &Form) -> Result<(), FormStop>
     ensures { Poses rows.old.items rows.new.items result (equality_run form.now) }
 {
-    let first = match form.copy() {
-        Err(_) => return Err(FormStop::NoMemory),
-        Ok(first) => first,
-    };
-    let second = match negated(alloc, form) {
-        Err(stop) => return Err(stop),
-        Ok(second) => second,
-    };
-    match rows.push(first) {
-        Err(_) => return Err(FormStop::NoMemory),
-        Ok(()) => {}
-    }
-    match rows.push(second) {
-        Err(_) => Err(FormStop::NoMemory),
-        Ok(()) => Ok(()),
+    match negated(alloc, form) {
+        Err(stop) => Err(stop),
+        Ok(second) => match push_both(rows, form, second) {
+            Err(_) => Err(FormStop::NoMemory),
+            Ok(()) => Ok(()),
+        },
     }
 }
 
@@ -76,12 +79,9 @@ fn pose_rows(rows: &mut Vec<Form>, forms: &[Form]) -> Result<(), FormStop>
     ensures { Poses rows.old.items rows.new.items result (Ok forms.now) }
 {
     for form in forms {
-        match form.copy() {
+        match push_copy(rows, form) {
             Err(_) => return Err(FormStop::NoMemory),
-            Ok(copy) => match rows.push(copy) {
-                Err(_) => return Err(FormStop::NoMemory),
-                Ok(()) => {}
-            },
+            Ok(()) => {}
         }
     }
     Ok(())
@@ -115,7 +115,7 @@ fn pose_bounds(
             Err(stop) => return Err(stop),
             Ok(form) => form,
         };
-        match rows.push(form) {
+        match push(rows, form) {
             Err(_) => return Err(FormStop::NoMemory),
             Ok(()) => {}
         }

@@ -1,7 +1,7 @@
 //! What waits while a node is run: binds round its tree, the second side of a split behind it, a test with its first
 //! side
 //! in front of it. The tree's nodes go out in postfix order when a frame is taken off; so nothing recurses.
-ghost use Rattle.std.specs.Prelude.{◌≡◌, suc, length, reverse};
+ghost use Rattle.std.specs.Prelude.{◌≡◌, suc, [], ◌∷◌, ◌++◌, length, reverse, OnOk};
 ghost use Rattle.quast_trees.specs.Postfix.{standing};
 ghost use Rattle.pip_solver.specs.Frames.{joins, Resumes};
 
@@ -21,6 +21,14 @@ pub enum Frame {
     Joining { test: Form },
 }
 
+/// Puts a frame on.
+pub fn put(frames: &mut Vec<Frame>, frame: Frame) -> Result<(), AllocError>
+    ensures { OnOk result (frames.new.items ≡ frames.old.items ++ frame ∷ []) }
+{
+    frames.push(frame)?;
+    Ok(())
+}
+
 /// Takes off the frames behind a tree that stands on top, up to the next second side, which is to be run; None where
 /// the tree is whole.
 pub fn resume(frames: &mut Vec<Frame>, builder: &mut Builder) -> Result<Option<Tableau>, AllocError>
@@ -38,8 +46,8 @@ pub fn resume(frames: &mut Vec<Frame>, builder: &mut Builder) -> Result<Option<T
                 Err(error) => return Err(error),
                 Ok(()) => {}
             },
-            Some(Frame::Second { test, node }) => match frames.push(Frame::Joining { test }) {
-                Err(_) => return Err(AllocError),
+            Some(Frame::Second { test, node }) => match put(frames, Frame::Joining { test }) {
+                Err(error) => return Err(error),
                 Ok(()) => return Ok(Some(node)),
             },
         }

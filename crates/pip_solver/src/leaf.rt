@@ -12,11 +12,13 @@ ghost use Rattle.quast_trees.specs.Postfix.{standing, top};
 ghost use Rattle.lexmin_runs.specs.Nodes.{all_divided, divided, padded, part_of, leaf_tree, longer_form};
 ghost use Rattle.pip_solver.specs.Frames.{under, KeepsSides};
 
-use crate::frames::Frame;
+use crate::frames::{Frame, put};
+use crate::lists::push;
 use affine_forms::Form;
 use checked_tableau::{Rows, remainder_of};
 use quast_trees::Builder;
 use std::alloc::{AllocError, Global};
+use std::mem;
 use tableau_nodes::longer_forms;
 
 /// Whether a divisor divides each number.
@@ -188,8 +190,8 @@ fn place(
             Err(error) => return Err(error),
             Ok(form) => form,
         };
-        return match leaf.forms.push(form) {
-            Err(_) => Err(AllocError),
+        return match push(&mut leaf.forms, form) {
+            Err(error) => Err(error),
             Ok(()) => Ok(()),
         };
     }
@@ -201,20 +203,20 @@ fn place(
         None => return Err(AllocError),
         Some(bound) => bound,
     };
-    let form = match padded_part(alloc, rows, row, leaf.bound) {
-        Err(error) => return Err(error),
-        Ok(form) => form,
-    };
     let forms = match with_last(alloc, &leaf.forms, variables) {
         Err(error) => return Err(error),
         Ok(forms) => forms,
     };
+    let form = match padded_part(alloc, rows, row, leaf.bound) {
+        Err(error) => return Err(error),
+        Ok(form) => form,
+    };
     let divisor = rows.line(row)[0];
-    match frames.push(Frame::Binding { form, divisor }) {
-        Err(_) => Err(AllocError),
+    match put(frames, Frame::Binding { form, divisor }) {
+        Err(error) => Err(error),
         Ok(()) => {
             leaf.bound = bound;
-            leaf.forms = forms;
+            drop(mem::replace(&mut leaf.forms, forms));
             Ok(())
         }
     }
@@ -233,8 +235,8 @@ fn with_last(alloc: Global, forms: &[Form], variables: usize) -> Result<Vec<Form
         Err(error) => return Err(error),
         Ok(last) => last,
     };
-    match all.push(last) {
-        Err(_) => Err(AllocError),
+    match push(&mut all, last) {
+        Err(error) => Err(error),
         Ok(()) => Ok(all),
     }
 }

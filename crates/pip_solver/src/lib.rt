@@ -7,6 +7,7 @@ mod asking;
 mod emptiness;
 mod frames;
 mod leaf;
+mod lists;
 mod looking;
 mod minimum;
 mod question;

@@ -5,12 +5,13 @@ ghost use Rattle.lexmin_runs.specs.Nodes.{whole};
 ghost use Rattle.tableau_nodes.specs.Node.{node_of};
 ghost use Rattle.pip_solver.specs.Frames.{under, joins, frames_for, IsReady, AreReady, Proceeds, Runs};
 
-use crate::frames::{Frame, resume};
+use crate::frames::{Frame, put, resume};
 use crate::leaf::leaf;
 use crate::question::QuestionStop;
 use crate::step::{Next, step};
 use quast_trees::Builder;
 use std::alloc::{AllocError, Global};
+use std::mem;
 use tableau_nodes::{Move, Tableau};
 
 /// How far a step brings a run.
@@ -19,16 +20,6 @@ pub enum Progress {
     Ended,
     /// The run goes on with the node.
     Goes,
-}
-
-/// Puts a frame on.
-fn put(frames: &mut Vec<Frame>, frame: Frame) -> Result<(), AllocError>
-    ensures { OnOk result (frames.new.items ≡ frames.old.items ++ frame ∷ []) }
-{
-    match frames.push(frame) {
-        Err(_) => Err(AllocError),
-        Ok(()) => Ok(()),
-    }
 }
 
 /// Puts on the frame that waits behind a move, if one does.
@@ -90,16 +81,34 @@ pub fn run(
     ensures run { Runs (whole first.rows.unknowns left.old (node_of first)) (standing builder.new) left.new result }
     ensures less { left.new ≤ left.old }
 {
-    let mut frames = Vec::new(alloc);
     let mut node = first;
+    let mut frames = Vec::new(alloc);
+    run_on(alloc, &mut node, &mut frames, builder, left)
+}
+
+/// The loop of a run.
+fn run_on(
+    alloc: Global,
+    node: &mut Tableau,
+    frames: &mut Vec<Frame>,
+    builder: &mut Builder,
+    left: &mut u64,
+) -> Result<(), QuestionStop>
+    requires ready { IsReady node.old.rows.unknowns node.old }
+    requires alone { frames.old.items ≡ [] }
+    requires none { standing builder.old ≡ [] }
+    ensures run { Runs (whole node.old.rows.unknowns left.old (node_of node.old)) (standing builder.new) left.new
+        result }
+    ensures less { left.new ≤ left.old }
+{
     loop {
-        match advance(alloc, &mut node, &mut frames, builder, left) {
+        match advance(alloc, node, frames, builder, left) {
             Err(stop) => return Err(stop),
             Ok(Progress::Goes) => {}
-            Ok(Progress::Ended) => match resume(&mut frames, builder) {
+            Ok(Progress::Ended) => match resume(frames, builder) {
                 Err(_) => return Err(QuestionStop::NoMemory),
                 Ok(None) => return Ok(()),
-                Ok(Some(next)) => node = next,
+                Ok(Some(next)) => drop(mem::replace(node, next)),
             },
         }
     }

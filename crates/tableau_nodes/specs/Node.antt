@@ -12,6 +12,7 @@ use Rattle.lexmin_runs.specs.Nodes.{Node, Bound, Next, goes, binds, splits, Coun
 use Rattle.lexmin_runs.specs.Nodes.{cut_bound, longer_row, longer_form, at_least_run, under_run}
 use Rattle.lexmin_runs.specs.Solutions.{LeadsOn, KeepsSolutions}
 use Rattle.checked_tableau.specs.Table.{Table, table_of}
+use Rattle.checked_tableau.specs.Table as checked
 use Rattle.checked_tableau.specs.declared.stop.TableauStop.{TableauStop}
 use Rattle.checked_tableau.specs.declared.stop.TableauStop.TheVariants as stop
 use Rattle.tableau_nodes.specs.declared.node.Tableau.{Tableau}
@@ -42,6 +43,11 @@ next_of (move.Splits test second) new = splits test (node_of new) (node_of secon
 abbrev pub IsGoing : ℕ → Tableau → Type 0
 IsGoing n t = (t.rows.unknowns ≡ n) × (t.rows.stopped ≡ None)
 
+-- the node stopped at a number that is too wide: its rows did, and all else stays
+abbrev pub StopsAt : Wide → Tableau → Tableau → Type 0
+StopsAt w old new =
+    checked.StopsAt w old.rows new.rows × (node_of new ≡ node_in old.begins new.rows old.context.items old.bounds.items)
+
 -- each node that a move leads to is such a one
 abbrev pub AreGoing : ℕ → move.the_data → Tableau → Type 0
 AreGoing n move.Goes new = IsGoing n new
@@ -54,8 +60,7 @@ Pivots old row new (Ok _) =
     ((left : ℕ) → pivot old.rows.unknowns (suc left) (node_of old) row ≡ Ok (goes (node_of new), left))
     × IsGoing old.rows.unknowns new
 Pivots old row new (Err w) =
-    ((left : ℕ) → pivot old.rows.unknowns (suc left) (node_of old) row ≡ Err (wide w (suc left)))
-    × (new.rows.stopped ≡ Some w)
+    ((left : ℕ) → pivot old.rows.unknowns (suc left) (node_of old) row ≡ Err (wide w (suc left))) × StopsAt w old new
 
 -- a move is the run's with any budget that has a move left, or names its number that is too wide, and stops the node;
 -- where there is no memory the node stays
@@ -63,7 +68,7 @@ abbrev pub Moves : Tableau → (ℕ → Counted Next) → Tableau → Result mov
 Moves old run new (Ok move) =
     ((left : ℕ) → run (suc left) ≡ Ok (next_of move new, left)) × AreGoing old.rows.unknowns move new
 Moves old run new (Err (stop.Wide w)) =
-    ((left : ℕ) → run (suc left) ≡ Err (wide w (suc left))) × (new.rows.stopped ≡ Some w)
+    ((left : ℕ) → run (suc left) ≡ Err (wide w (suc left))) × StopsAt w old new
 Moves old run new (Err stop.NoMemory) = (node_of new ≡ node_of old) × (new.rows ≡ old.rows)
 
 -- what a move leads to are nodes, and it keeps the whole solutions

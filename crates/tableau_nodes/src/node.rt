@@ -9,7 +9,7 @@ ghost use Rattle.lexmin_runs.specs.Nodes.{first_node, goes, part_of, side, split
 ghost use Rattle.lexmin_runs.specs.Solutions.{ArePlaced, IsNode};
 ghost use Rattle.checked_tableau.specs.declared.stop.TableauStop.TheVariants as stop;
 ghost use Rattle.tableau_nodes.specs.Node.{node_of, next_of, IsGoing, Keeps, Pivots, Moves, cut_known, cut_new};
-ghost use Rattle.tableau_nodes.specs.Node.{tied_run, TiesParts, BindsOn};
+ghost use Rattle.tableau_nodes.specs.Node.{StopsAt, tied_run, TiesParts, BindsOn};
 
 use crate::bounds::{Bound, copied_bounds, place_of};
 use crate::forms::{at_least, copies, longer_forms, opposite, under};
@@ -84,7 +84,8 @@ impl Tableau {
     pub fn pivot(&mut self, row: usize) -> Result<(), Wide>
         requires { row < length self.old.rows.rows }
         ensures run { self.old.rows.stopped ≡ None → Pivots self.old row self.new result }
-        ensures again { (w : Wide) → self.old.rows.stopped ≡ Some w → result ≡ Err w }
+        ensures again { (w : Wide) → self.old.rows.stopped ≡ Some w
+            → (result ≡ Err w) × StopsAt w self.old self.new }
         ensures solutions { self.old.rows.stopped ≡ None → IsNode self.old.rows.unknowns (node_of self.old)
             → OnOk result (Keeps self.old (goes (node_of self.new))) }
     {
@@ -95,7 +96,8 @@ impl Tableau {
     fn pivot_rows(&mut self, row: usize) -> Result<(), Wide>
         requires { row < length self.old.rows.rows }
         ensures run { self.old.rows.stopped ≡ None → Pivots self.old row self.new result }
-        ensures again { (w : Wide) → self.old.rows.stopped ≡ Some w → result ≡ Err w }
+        ensures again { (w : Wide) → self.old.rows.stopped ≡ Some w
+            → (result ≡ Err w) × StopsAt w self.old self.new }
     {
         match self.rows.pivot_on(row) {
             Err(wide) => Err(wide),
@@ -117,7 +119,8 @@ impl Tableau {
         ensures run { self.old.rows.stopped ≡ None → Moves self.old
             (λ left. split left (node_of self.old) (part_of self.old.rows.unknowns (row_at self.old.rows.rows row)))
             self.new result }
-        ensures again { (w : Wide) → self.old.rows.stopped ≡ Some w → result ≡ Err (stop.Wide w) }
+        ensures again { (w : Wide) → self.old.rows.stopped ≡ Some w
+            → (result ≡ Err (stop.Wide w)) × StopsAt w self.old self.new }
         ensures solutions { self.old.rows.stopped ≡ None → IsNode self.old.rows.unknowns (node_of self.old)
             → IfOk result (λ move. Keeps self.old (next_of move self.new)) }
     {
@@ -130,7 +133,8 @@ impl Tableau {
         ensures run { self.old.rows.stopped ≡ None → Moves self.old
             (λ left. split left (node_of self.old) (part_of self.old.rows.unknowns (row_at self.old.rows.rows row)))
             self.new result }
-        ensures again { (w : Wide) → self.old.rows.stopped ≡ Some w → result ≡ Err (stop.Wide w) }
+        ensures again { (w : Wide) → self.old.rows.stopped ≡ Some w
+            → (result ≡ Err (stop.Wide w)) × StopsAt w self.old self.new }
     {
         if let Some(wide) = self.rows.stopped() {
             return Err(TableauStop::Wide(wide));
@@ -175,7 +179,8 @@ impl Tableau {
         requires placed { self.old.rows.stopped ≡ None → ArePlaced self.old.rows.parameters self.old.bounds.items }
         ensures run { self.old.rows.stopped ≡ None
             → Moves self.old (λ left. cut self.old.rows.unknowns left (node_of self.old) row) self.new result }
-        ensures again { (w : Wide) → self.old.rows.stopped ≡ Some w → result ≡ Err (stop.Wide w) }
+        ensures again { (w : Wide) → self.old.rows.stopped ≡ Some w
+            → (result ≡ Err (stop.Wide w)) × StopsAt w self.old self.new }
         ensures solutions { self.old.rows.stopped ≡ None → IsNode self.old.rows.unknowns (node_of self.old)
             → row < self.old.rows.unknowns → IfOk result (λ move. Keeps self.old (next_of move self.new)) }
     {
@@ -188,7 +193,8 @@ impl Tableau {
         requires placed { self.old.rows.stopped ≡ None → ArePlaced self.old.rows.parameters self.old.bounds.items }
         ensures run { self.old.rows.stopped ≡ None
             → Moves self.old (λ left. cut self.old.rows.unknowns left (node_of self.old) row) self.new result }
-        ensures again { (w : Wide) → self.old.rows.stopped ≡ Some w → result ≡ Err (stop.Wide w) }
+        ensures again { (w : Wide) → self.old.rows.stopped ≡ Some w
+            → (result ≡ Err (stop.Wide w)) × StopsAt w self.old self.new }
     {
         if let Some(wide) = self.rows.stopped() {
             return Err(TableauStop::Wide(wide));

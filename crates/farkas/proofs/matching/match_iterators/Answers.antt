@@ -1,11 +1,10 @@
-use Rattle.std.proofs.Common.{rules, ◌≡◌, ◌+◌, ◌-◌, ◌++◌, ◌∷◌, [], suc, sym, subst, arith, ℕ, List, FitsSigned}
+use Rattle.std.proofs.Common.{rules, ◌≡◌, ◌+◌, ◌-◌, ◌++◌, ◌∷◌, [], suc, subst, arith, ℕ, FitsSigned}
 use Rattle.std.specs.Int.{w128}
 use Rattle.std.proofs.lemmas.Int.{to_z-of_z}
-use Rattle.whole_numbers.specs.Affine.{Affine}
-use Rattle.farkas.specs.Claims.{iterators}
+use Rattle.farkas.specs.Claims.{only, iterators}
 use Rattle.farkas.specs.Matching.{coefficients_run}
 use Rattle.farkas.specs.Gives.{with_more}
-use Rattle.farkas.proofs.Steps.{iterators_more, iterators_fail}
+use Rattle.farkas.proofs.Steps.{coefficient_more, coefficient_fails}
 use Rattle.farkas.proofs.matching.match_iterators.Goals as goal
 
 pub returns-in-Err : goal.returns-in-Err
@@ -25,7 +24,8 @@ returns-in-Err c =
     simp to_z-of_z at c.loop-depth.invariant in
     let failed =
     simp to_z-of_z at c.in-Err.ensures in
-    iterators_fail c.in-Err.stop n first k m d c.args.variable s front old run failed
+    coefficient_fails c.in-Err.stop (c.args.variable + d) (only n (first + m) k) (iterators n first k m) s front old run
+    failed
     (subst (λ (j : ℕ). with_more front (coefficients_run (c.args.variable + d) (iterators n first k j) s)
     ≡ with_more old run) count kept)
 
@@ -49,13 +49,12 @@ loop-depth-preserved c =
     let made =
     simp to_z-of_z at c.in-Ok.ensures in
     let pushed : c.push.new.self.items ≡ front ++ form ∷ [] = search rules in
-    let more = iterators_more n first k m d c.args.variable s front form all made
+    let more = coefficient_more (c.args.variable + d) (only n (first + m) k) (iterators n first k m) s front form all
+    made
     (subst (λ (j : ℕ). with_more front (coefficients_run (c.args.variable + d) (iterators n first k j) s) ≡ all)
     count kept) in
+    let at : c.args.variable + (d + 1) ≡ suc (c.args.variable + d) = omega arith in
     let next : with_more c.push.new.self.items
     (coefficients_run (c.args.variable + (d + 1)) (iterators n first k (c.args.loops - (d + 1))) s) ≡ all =
-    subst (λ (zs : List Affine). with_more zs
-    (coefficients_run (c.args.variable + (d + 1)) (iterators n first k (c.args.loops - (d + 1))) s) ≡ all) (sym pushed)
-    (subst (λ (j : ℕ). with_more (front ++ form ∷ [])
-    (coefficients_run (c.args.variable + (d + 1)) (iterators n first k j) s) ≡ all) left more) in
+    rw (pushed, ← left, at) more in
     simp to_z-of_z next

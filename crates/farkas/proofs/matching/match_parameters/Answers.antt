@@ -1,15 +1,14 @@
-use Rattle.std.proofs.Common.{rules, ◌≡◌, ◌+◌, ◌-◌, ◌<◌, ◌++◌, ◌∷◌, [], suc, sym, subst, arith, ℕ, pos, List}
+use Rattle.std.proofs.Common.{rules, ◌≡◌, ◌+◌, ◌-◌, ◌<◌, ◌++◌, ◌∷◌, [], suc, subst, arith, ℕ, pos, add-one}
 use Rattle.std.proofs.Common.{FitsSigned}
 use Rattle.std.specs.Prelude.{Ok}
 use Rattle.std.specs.Int.{w128}
 use Rattle.std.proofs.lemmas.Int.{to_z-of_z}
-use Rattle.whole_numbers.specs.Affine.{Affine}
 use Rattle.affine_forms.specs.Gives.{Fails}
 use Rattle.farkas.specs.declared.matching.Entry.TheVariants as entry
 use Rattle.farkas.specs.Claims.{only, parameters}
 use Rattle.farkas.specs.Matching.{matched_run, coefficients_run}
 use Rattle.farkas.specs.Gives.{with_more}
-use Rattle.farkas.proofs.Steps.{parameters_more, parameters_fail}
+use Rattle.farkas.proofs.Steps.{coefficient_more, coefficient_fails}
 use Rattle.farkas.proofs.matching.match_parameters.Goals as goal
 
 pub returns-in-Err : goal.returns-in-Err
@@ -33,7 +32,7 @@ returns-in-Err c =
     simp to_z-of_z at c.in-Err.ensures in
     let failed = subst (λ (j : ℕ). Fails c.in-Err.stop (matched_run (entry.Coefficient (j + i)) (only n i k) (pos 0) s))
     c.dimensions-variable.ensures told in
-    parameters_fail c.in-Err.stop n i k m s.dimensions s front old run failed
+    coefficient_fails c.in-Err.stop (s.dimensions + i) (only n i k) (parameters n (suc i) k m) s front old run failed
     (subst (λ (j : ℕ). with_more front (coefficients_run (s.dimensions + i) (parameters n i k j) s) ≡ with_more old run)
     count kept)
 
@@ -61,13 +60,11 @@ loop-place-preserved c =
     let made = subst (λ (j : ℕ). matched_run (entry.Coefficient (j + i)) (only n i k) (pos 0) s ≡ Ok form)
     c.dimensions-variable.ensures told in
     let pushed : c.push.new.self.items ≡ front ++ form ∷ [] = search rules in
-    let more = parameters_more n i k m s.dimensions s front form all made
+    let more = coefficient_more (s.dimensions + i) (only n i k) (parameters n (suc i) k m) s front form all made
     (subst (λ (j : ℕ). with_more front (coefficients_run (s.dimensions + i) (parameters n i k j) s) ≡ all) count
     kept) in
+    let at : s.dimensions + (i + 1) ≡ suc (s.dimensions + i) = omega arith in
     let next : with_more c.push.new.self.items
     (coefficients_run (s.dimensions + (i + 1)) (parameters n (i + 1) k (p - (i + 1))) s) ≡ all =
-    subst (λ (zs : List Affine). with_more zs
-    (coefficients_run (s.dimensions + (i + 1)) (parameters n (i + 1) k (p - (i + 1))) s) ≡ all) (sym pushed)
-    (subst (λ (j : ℕ). with_more (front ++ form ∷ [])
-    (coefficients_run (s.dimensions + (i + 1)) (parameters n (i + 1) k j) s) ≡ all) left more) in
+    rw (pushed, ← left, at, add-one i) more in
     simp to_z-of_z next

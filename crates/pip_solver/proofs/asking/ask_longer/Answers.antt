@@ -1,4 +1,4 @@
-use Rattle.std.proofs.Common.{rules, ◌≡◌, ◌+◌, map}
+use Rattle.std.proofs.Common.{rules, ◌+◌, map}
 use Rattle.lexmin_runs.specs.Nodes.{longer_form}
 use Rattle.lexmin_runs.proofs.Longer.{speaks-longer}
 use Rattle.pip_solver.proofs.Deciding.{speaks_at}

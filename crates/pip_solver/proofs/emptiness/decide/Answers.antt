@@ -1,12 +1,10 @@
-use Rattle.std.proofs.Common.{◌≡◌, ◌∙◌, ◌++◌, [], ap, subst, refl, Bool, arith}
+use Rattle.std.proofs.Common.{◌∙◌, ap, subst, refl, Bool, arith}
 use Rattle.std.proofs.lemmas.List.{append-nil}
-use Rattle.std.specs.Prelude.{Result, Ok, Err, None}
-use Rattle.whole_numbers.specs.Affine.{Affine}
+use Rattle.std.specs.Prelude.{Result, Err, None}
 use Rattle.tableau_rows.specs.Problem.{problem_of, first_rows}
 use Rattle.tableau_rows.specs.Run.{run}
 use Rattle.lexmin_runs.specs.Nodes.{Counted, answered}
 use Rattle.checked_tableau.specs.Table.{Table, table_of}
-use Rattle.checked_tableau.specs.declared.problem.Problem.{Problem}
 use Rattle.pip_solver.specs.Answers.{Tells}
 use Rattle.pip_solver.specs.declared.question.QuestionStop.{QuestionStop}
 use Rattle.pip_solver.proofs.Deciding.{decided_is, turned}

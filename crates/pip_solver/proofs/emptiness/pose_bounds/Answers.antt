@@ -13,7 +13,7 @@ loop-place-preserved c =
     let inv = c.loop-place.invariant in
     let f = form_of (set (zeros v) i (negsuc 0)) (pos 65536) in
     let form : c.in-Ok.form ≡ f = cc (c.in-Ok.ensures) in
-    let pushed : c.push.new.self.items ≡ c.loop-place.rows.items ++ c.in-Ok.form ∷ [] = search rules in (
+    let pushed : c.push.new.forms.items ≡ c.loop-place.rows.items ++ c.in-Ok.form ∷ [] = search rules in (
       inv.0 ++ f ∷ [],
       pushed ∙ ap (λ (rs : List Affine). rs ++ c.in-Ok.form ∷ []) inv.1
           ∙ append_assoc c.args.rows.now.items inv.0 (c.in-Ok.form ∷ [])

@@ -29,13 +29,13 @@ loop-form-preserved c =
     popped inv.0 c.in_Ok-error-in-Some-Joining.ensures.joined in
     (t.stands, λ n left. inv.1 n left ∙ t.runs n left, inv.2 ∙ t.waiting, λ n are. t.ready n (inv.3 n are))
 
-pub returns-in-Ok-push : goal.returns-in-Ok-push
-returns-in-Ok-push c =
+pub returns-in-Ok-put : goal.returns-in-Ok-put
+returns-in-Ok-put c =
     let inv = c.loop-form.invariant in
     let x = c.in-Some-Second in
     let trees = standing c.loop-form.builder in
     let popped : c.loop-form.frames.items ≡ c.pop.new.self.items ++ frame.Second x.test x.node ∷ [] = search rules in
-    let pushed : c.push.new.self.items ≡ c.pop.new.self.items ++ frame.Joining x.test ∷ [] = search rules in
-    let t = take_second c.loop-form.frames.items c.pop.new.self.items c.push.new.self.items x.test x.node trees popped
+    let pushed : c.put.new.frames.items ≡ c.pop.new.self.items ++ frame.Joining x.test ∷ [] = search rules in
+    let t = take_second c.loop-form.frames.items c.pop.new.self.items c.put.new.frames.items x.test x.node trees popped
     pushed inv.0 in
     (λ n left. inv.1 n left ∙ t.runs n left, t.stands, inv.2 ∙ t.waiting, λ n are. t.ready n (inv.3 n are))

@@ -1,4 +1,4 @@
-use Rattle.std.proofs.Common.{◌≡◌, ◌∙◌, Bool, true, false, ℕ, [], ◌<◌, length, pos, take, subst, sym, ap, arith}
+use Rattle.std.proofs.Common.{◌≡◌, ◌∙◌, Bool, ℕ, [], ◌<◌, length, pos, take, subst, sym, ap, arith}
 use Rattle.std.specs.Prelude.{Option, Ok, Err}
 use Rattle.std.proofs.lemmas.List.{get_or-take, length-take-le}
 use Rattle.tableau_rows.specs.Rows.{Row, row_of}

@@ -1,4 +1,4 @@
-use Rattle.std.proofs.Common.{◌≡◌, ◌∙◌, ap, sym, subst, refl}
+use Rattle.std.proofs.Common.{rules, ◌≡◌, ◌∙◌, ap, sym, subst}
 use Rattle.std.specs.Prelude.{Some, None, Ok, Err, Option}
 use Rattle.tableau_rows.specs.Moves.{pivot_run}
 use Rattle.checked_tableau.specs.Table.{Table, table_of}
@@ -18,7 +18,7 @@ returns-in-Err c =
     let going : t.stopped ≡ None = subst (λ (t : Table). t.stopped ≡ None) c.self.view_is c.in_default.is in (
       resumed-going t.stopped (pivot_run t.unknowns t.rows c.args.row) (Err c.in-Err.wide) going
           (pivot_run-err t.unknowns t.rows c.args.row c.in-Err.wide (sym c.column.ensures.run ∙ c.in-Err.is)),
-      refl,
+      search rules,
     )
 
 pub returns-in-Ok-None : goal.returns-in-Ok-None

@@ -1,7 +1,7 @@
 use Rattle.std.proofs.Common.{ℕ, arith, refl, ap₂, [], pos, ◌*◌}
 use Rattle.whole_numbers.specs.Affine.{form_of}
 use Rattle.fm_projection.proofs.Joined.{first_with_place, first_with_none}
-use Rattle.fm_projection.proofs.count_pairs.Goals as goal
+use Rattle.fm_projection.proofs.elimination.count_pairs.Goals as goal
 
 pub returns-then-place-equalities : goal.returns-then-place-equalities
 returns-then-place-equalities c =

@@ -7,11 +7,11 @@ use Rattle.tableau_nodes.specs.declared.node.Tableau.{Tableau}
 use Rattle.tableau_nodes.specs.Node.{node_of}
 use Rattle.pip_solver.specs.declared.run.Progress.TheVariants as progress
 use Rattle.pip_solver.specs.Frames.{under, Proceeds, Resumes}
-use Rattle.pip_solver.proofs.run.run.Goals as goal
+use Rattle.pip_solver.proofs.run.run_on.Goals as goal
 
 pub loop-stop-preserved : goal.loop-stop-preserved
 loop-stop-preserved c =
-    let n = c.args.first.rows.unknowns in
+    let n = c.args.node.now.rows.unknowns in
     let l = c.loop-stop in
     let inv = l.invariant in
     let old = l.frames.items in
@@ -29,4 +29,5 @@ loop-stop-preserved c =
     let ready = res.3 n adv.3 in
     let a = c.advance.ensures.less in
     let b = inv.3 in
+    rw c.replace.ensures.after
     (sym (adv.0 ∙ res.0 n c.advance.new.left) ∙ inv.0, res.1, ready.1, omega (arith, a, b), ready.0)

@@ -5,7 +5,7 @@ use Rattle.integer_sets.specs.Constraints.{Constraints, IsSized, system_of, vari
 use Rattle.fm_projection.specs.Runs.{eliminated_run, pairs_in, pairs_by}
 use Rattle.fm_projection.proofs.Exact.{eliminated_run-sized}
 use Rattle.fm_projection.proofs.Law.{projects}
-use Rattle.fm_projection.proofs.eliminate.Goals as goal
+use Rattle.fm_projection.proofs.elimination.eliminate.Goals as goal
 
 -- the pairs of a system by its parts
 pairs_are : (i n : ℕ) (s : Constraints) (es rows : List Affine) → es ≡ s.equalities → rows ≡ s.rows
@@ -13,17 +13,17 @@ pairs_are : (i n : ℕ) (s : Constraints) (es rows : List Affine) → es ≡ s.e
 unfolding pairs_in
 pairs_are i n s es rows e r h = rw (e, r) at h
 
-pub returns-then-pairs-gt4096-clause-run : goal.returns-then-pairs-gt4096-clause-run
-returns-then-pairs-gt4096-clause-run c =
+pub returns-then-pairs-gt-MOST_PAIRS-clause-run : goal.returns-then-pairs-gt-MOST_PAIRS-clause-run
+returns-then-pairs-gt-MOST_PAIRS-clause-run c =
     let n = pairs_are c.args.variable c.count_pairs-pairs.result c.args.system.now c.equalities-2.result.now
     c.rows.result.now c.equalities-2.ensures.forms c.rows.ensures.forms c.count_pairs-pairs.ensures in
-    (omega (arith, n, c.if-pairs-gt4096.true), n)
+    (omega (arith, n, c.if-pairs-gt-MOST_PAIRS.true), n)
 
 pub returns-in-Err-Wide-clause-run : goal.returns-in-Err-Wide-clause-run
 returns-in-Err-Wide-clause-run c =
     let n = pairs_are c.args.variable c.count_pairs-pairs.result c.args.system.now c.equalities-2.result.now
     c.rows.result.now c.equalities-2.ensures.forms c.rows.ensures.forms c.count_pairs-pairs.ensures in
-    (omega (arith, n, c.if-pairs-gt4096.false), rw c.in-Err-Wide.field-0-is at c.in-Err-Wide.ensures)
+    (omega (arith, n, c.if-pairs-gt-MOST_PAIRS.false), rw c.in-Err-Wide.field-0-is at c.in-Err-Wide.ensures)
 
 pub from_parts-requires : goal.from_parts-requires
 from_parts-requires c =
@@ -52,7 +52,7 @@ returns-in-Ok c =
     let run : eliminated_run c.args.variable s ≡ Ok c.from_parts.result = search rules in
     let p = projects c.args.variable s c.from_parts.result c.requires sized run in
     record {
-      run = (omega (arith, n, c.if-pairs-gt4096.false), run);
+      run = (omega (arith, n, c.if-pairs-gt-MOST_PAIRS.false), run);
       exact = p.exact;
       points = p.points;
       fractions = p.fractions;

@@ -1,0 +1,18 @@
+//! Why an elimination stops.
+
+use thiserror::Error;
+use wide_math::Wide;
+
+/// Why an elimination stops.
+#[derive(Clone, Copy, Debug, PartialEq, Eq, Error)]
+pub enum FmStop {
+    /// The first number on the way that does not fit 128 bits.
+    #[error("{0}")]
+    Wide(Wide),
+    /// More than 4,096 pairs of rows.
+    #[error("{pairs} pairs of rows")]
+    Crowded { pairs: u128 },
+    /// There is no memory for the result.
+    #[error("out of memory")]
+    NoMemory,
+}
