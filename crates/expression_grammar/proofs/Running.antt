@@ -1,11 +1,10 @@
 -- The loop of the code is the machine's run.
-use Rattle.std.proofs.Common.{◌≡◌, ℕ, ◌+◌, ◌<◌, ◌≤◌, Bool, true, List, [], ◌∷◌, ◌++◌, length, take, drop, get_or}
+use Rattle.std.proofs.Common.{◌≡◌, ℕ, ◌+◌, ◌<◌, ◌≤◌, true, List, [], ◌∷◌, ◌++◌, length, take, drop, get_or}
 use Rattle.std.proofs.Common.{add-one, refl, sym, ap, ◌∙◌, length-append, arith}
-use Rattle.std.specs.Prelude.{max, Result, Ok}
+use Rattle.std.specs.Prelude.{max}
 use Rattle.std.proofs.Math.Seq.{drop-cons, take-suc}
 use Rattle.expression_grammar.specs.declared.token.Token.{Token}
-use Rattle.expression_grammar.specs.Machine.{State, start, Move, go, step, fits, run}
-use Rattle.expression_grammar.specs.Steps.{Steps}
+use Rattle.expression_grammar.specs.Machine.{State, start, go, step, fits, run}
 use Rattle.expression_grammar.proofs.Runs.{run_goes}
 use Rattle.expression_grammar.proofs.Shapes.{Stands}
 use Rattle.expression_grammar.proofs.Reached.{fits_bounds}
@@ -60,7 +59,3 @@ runs_on d n ts i s next t0 r h e f =
       brackets = b;
       used = u;
     }
-
-pub steps_true : {E : Type 0} (r : Result Bool E) (x : Bool) (old new : State) (m : Move)
-    → r ≡ Ok x → x ≡ true → Steps r old new m → m ≡ go new
-steps_true r x old new m e f h = rw (e, f) at h

@@ -1,4 +1,4 @@
-//! Expressions of C within limits: the nodes in postfix order of the only tree that the tokens spell, or the
+//! Expressions of C within limits: the nodes in postfix order of each tree that the tokens spell, or the
 //! exact first fault. The grammar is in specs/Tree and specs/Grammar, what an answer says in specs/Answers.
 #![tactic(auto)]
 

@@ -1,5 +1,5 @@
 //! The reader of one expression: a machine of one step a token, and the call that runs it over a list of tokens.
-//! Promises the nodes of the only tree that the tokens spell, or the first fault.
+//! Promises the nodes of each tree that the tokens spell, or the first fault.
 //! E. W. Dijkstra, "Algol 60 translation", Mathematisch Centrum MR 34/61, 1961.
 ghost use Rattle.std.specs.Prelude.{◌≡◌, ℕ, Ok, IfErr, IfOk, OnOk};
 ghost use Rattle.std.specs.Option.{option_map};
@@ -9,6 +9,7 @@ ghost use Rattle.expression_grammar.specs.Machine.{closed, complete, demand, fit
 ghost use Rattle.expression_grammar.specs.Machine.{operand, read, reduced, signed, start, step};
 ghost use Rattle.expression_grammar.specs.Grammar.{told_at};
 ghost use Rattle.expression_grammar.specs.declared.node.Mode.TheVariants as mode;
+ghost use Rattle.expression_grammar.specs.declared.reader.Stop.TheVariants as stop;
 ghost use Rattle.expression_grammar.specs.Answers.{IsRead};
 ghost use Rattle.expression_grammar.specs.Gives.{Gives, IsStop, pair_of};
 ghost use Rattle.expression_grammar.specs.declared.reader.TheConstants.{MOST_BRACKETS, MOST_OPERATORS};
@@ -102,10 +103,7 @@ fn reduce(least: usize, held: &mut Stack, nodes: &mut Vec<Node>) -> Result<(), A
     while let Some(top) = held.pop() {
         match tight(least, top) {
             None => return held.push(top),
-            Some(node) => match nodes.push(node) {
-                Err(_) => return Err(AllocError),
-                Ok(()) => {}
-            },
+            Some(node) => nodes.push(node)?,
         }
     }
     Ok(())
@@ -150,10 +148,7 @@ impl Reader {
         requires { HasRoom self.old }
         ensures { Steps result self.old self.new (leaf self.old last node) }
     {
-        match self.nodes.push(node) {
-            Err(_) => return Err(AllocError),
-            Ok(()) => {}
-        }
+        self.nodes.push(node)?;
         self.mode = Mode::Done(last);
         self.at += 1;
         Ok(true)
@@ -164,10 +159,7 @@ impl Reader {
         requires { HasRoom self.old }
         ensures { Steps result self.old self.new (opened self.old held) }
     {
-        match self.held.push(held) {
-            Err(_) => return Err(AllocError),
-            Ok(()) => {}
-        }
+        self.held.push(held)?;
         self.mode = Mode::Want;
         self.at += 1;
         self.brackets += 1;
@@ -179,10 +171,7 @@ impl Reader {
         requires { HasRoom self.old }
         ensures { Steps result self.old self.new (signed self.old sign) }
     {
-        match self.held.push(Held::Unary(sign, self.at)) {
-            Err(_) => return Err(AllocError),
-            Ok(()) => {}
-        }
+        self.held.push(Held::Unary(sign, self.at))?;
         self.mode = Mode::Want;
         self.at += 1;
         self.used += 1;
@@ -214,17 +203,11 @@ impl Reader {
         ensures { JoinsAs result self.old self.new op }
     {
         let least = level(op);
-        match reduce(least, &mut self.held, &mut self.nodes) {
-            Err(_) => return Err(AllocError),
-            Ok(()) => {}
-        }
+        reduce(least, &mut self.held, &mut self.nodes)?;
         if demand(&self.held) > least {
             return Ok(false);
         }
-        match self.held.push(Held::Binary(op, self.at)) {
-            Err(_) => return Err(AllocError),
-            Ok(()) => {}
-        }
+        self.held.push(Held::Binary(op, self.at))?;
         self.mode = Mode::Want;
         self.at += 1;
         self.used += cost(op);
@@ -246,16 +229,10 @@ impl Reader {
         requires { HasRoom self.old }
         ensures { ClosesAs result self.old self.new }
     {
-        match reduce(0, &mut self.held, &mut self.nodes) {
-            Err(_) => return Err(AllocError),
-            Ok(()) => {}
-        }
+        reduce(0, &mut self.held, &mut self.nodes)?;
         match self.held.top() {
             Some(Held::Group(_)) => {}
-            Some(Held::Call(at)) => match self.nodes.push(Node::Call(at)) {
-                Err(_) => return Err(AllocError),
-                Ok(()) => {}
-            },
+            Some(Held::Call(at)) => self.nodes.push(Node::Call(at))?,
             _ => return Ok(false),
         }
         let _bracket = self.held.pop();
@@ -268,15 +245,9 @@ impl Reader {
         requires { HasRoom self.old }
         ensures { ClosesIndexAs result self.old self.new }
     {
-        match reduce(0, &mut self.held, &mut self.nodes) {
-            Err(_) => return Err(AllocError),
-            Ok(()) => {}
-        }
+        reduce(0, &mut self.held, &mut self.nodes)?;
         match self.held.top() {
-            Some(Held::Index(at)) => match self.nodes.push(Node::Index(at)) {
-                Err(_) => return Err(AllocError),
-                Ok(()) => {}
-            },
+            Some(Held::Index(at)) => self.nodes.push(Node::Index(at))?,
             _ => return Ok(false),
         }
         let _bracket = self.held.pop();
@@ -347,10 +318,7 @@ impl Reader {
             _ => return Ok(false),
         };
         let _bracket = self.held.pop();
-        match self.held.push(Held::Cast(at)) {
-            Err(_) => return Err(AllocError),
-            Ok(()) => {}
-        }
+        self.held.push(Held::Cast(at))?;
         self.closed(Mode::Want);
         Ok(true)
     }
@@ -365,10 +333,7 @@ impl Reader {
             _ => return Ok(false),
         };
         let _bracket = self.held.pop();
-        match self.nodes.push(Node::BareCall(at)) {
-            Err(_) => return Err(AllocError),
-            Ok(()) => {}
-        }
+        self.nodes.push(Node::BareCall(at))?;
         self.closed(Mode::Done(Last::Other));
         Ok(true)
     }
@@ -411,12 +376,10 @@ impl Reader {
             Mode::Done(_) => {}
             Mode::Want | Mode::Casting => return Ok(false),
         }
-        match reduce(0, &mut self.held, &mut self.nodes) {
-            Err(_) => Err(AllocError),
-            Ok(()) => match self.held.top() {
-                None => Ok(true),
-                Some(_) => Ok(false),
-            },
+        reduce(0, &mut self.held, &mut self.nodes)?;
+        match self.held.top() {
+            None => Ok(true),
+            Some(_) => Ok(false),
         }
     }
 }
@@ -438,6 +401,14 @@ pub enum Stop {
     /// The token passes a limit.
     Depth(usize),
     NoMemory,
+}
+
+impl From<AllocError> for Stop {
+    ghost from_gives = { λ _ s. s ≡ stop.NoMemory };
+
+    fn from(_: AllocError) -> Stop {
+        Stop::NoMemory
+    }
 }
 
 /// The most brackets that are open at once.
@@ -462,14 +433,13 @@ fn ended(reader: Reader) -> Result<Option<Expression>, AllocError>
 {
     let mut reader = reader;
     let count = reader.at;
-    match reader.finish() {
-        Err(_) => Err(AllocError),
-        Ok(false) => Ok(None),
-        Ok(true) => Ok(Some(Expression {
-            nodes: reader.nodes,
-            count,
-        })),
+    if !reader.finish()? {
+        return Ok(None);
     }
+    Ok(Some(Expression {
+        nodes: reader.nodes,
+        count,
+    }))
 }
 
 // The machine's run over the tokens.
@@ -479,26 +449,15 @@ fn run(alloc: Global, tokens: &[Token]) -> Result<Expression, Stop>
     let mut reader = Reader::new(alloc);
     for token in tokens {
         let at = reader.at;
-        match reader.step(*token) {
-            Err(_) => return Err(Stop::NoMemory),
-            Ok(false) => return match ended(reader) {
-                Err(_) => Err(Stop::NoMemory),
-                Ok(None) => Err(Stop::Unfit(at)),
-                Ok(Some(expression)) => Ok(expression),
-            },
-            Ok(true) => {
-                if !reader.fits(MOST_BRACKETS, MOST_OPERATORS) {
-                    return Err(Stop::Depth(told_at(*token, at)));
-                }
-            }
+        if !reader.step(*token)? {
+            return ended(reader)?.ok_or(Stop::Unfit(at));
+        }
+        if !reader.fits(MOST_BRACKETS, MOST_OPERATORS) {
+            return Err(Stop::Depth(told_at(*token, at)));
         }
     }
     let at = reader.at;
-    match ended(reader) {
-        Err(_) => Err(Stop::NoMemory),
-        Ok(None) => Err(Stop::Unended(at)),
-        Ok(Some(expression)) => Ok(expression),
-    }
+    ended(reader)?.ok_or(Stop::Unended(at))
 }
 
 /// Reads the expression with which the tokens begin, up to the first token with which no text goes on, however deep.

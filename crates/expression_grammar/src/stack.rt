@@ -32,10 +32,8 @@ impl Stack {
     pub(crate) fn push(&mut self, held: Held) -> Result<(), AllocError>
         ensures { OnOk result (self.new ≡ held ∷ self.old) }
     {
-        match self.items.push(held) {
-            Err(_) => Err(AllocError),
-            Ok(()) => Ok(()),
-        }
+        self.items.push(held)?;
+        Ok(())
     }
 
     pub(crate) fn pop(&mut self) -> Option<Held>

@@ -1,5 +1,5 @@
 //! The text of a kernel as a list of parts: what each sign between expressions is, and each expression's nodes in
-//! postfix order, of the only tree that the tokens spell, or the exact first fault. The grammar is in specs/Kernel,
+//! postfix order, of each tree that the tokens spell, or the exact first fault. The grammar is in specs/Kernel,
 //! what an answer says in specs/Answers.
 #![tactic(auto)]
 

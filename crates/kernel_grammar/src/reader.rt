@@ -1,6 +1,6 @@
 //! The reader of a kernel: a machine of one step a token, and the call that runs it over a list of tokens.
 //! Nothing recurses over the nesting of items: a count of braces is all that is kept of it.
-//! Promises the parts of the only tree that the tokens spell, or the first fault.
+//! Promises the parts of each tree that the tokens spell, or the first fault.
 ghost use Rattle.std.specs.Prelude.{◌≡◌, ◌<◌, ◌^◌, ◌++◌, ◌+◌, [], Some, IfErr, IfOk, OnOk};
 ghost use Rattle.expression_grammar.specs.Machine.{step};
 ghost use Rattle.expression_grammar.specs.Steps.{HasRoom};
@@ -57,10 +57,10 @@ fn keep(parts: &mut Vec<Part>, mark: Option<Mark>, at: usize) -> Result<(), Allo
 {
     match mark {
         None => Ok(()),
-        Some(mark) => match parts.push(Part::Sign(mark, at)) {
-            Err(_) => Err(AllocError),
-            Ok(()) => Ok(()),
-        },
+        Some(mark) => {
+            parts.push(Part::Sign(mark, at))?;
+            Ok(())
+        }
     }
 }
 
@@ -107,10 +107,7 @@ impl KernelReader {
             None => return Ok(Went::Stop),
             Some(want) => want,
         };
-        match keep(&mut self.parts, mark(self.want, token), self.at) {
-            Err(_) => return Err(AllocError),
-            Ok(()) => {}
-        }
+        keep(&mut self.parts, mark(self.want, token), self.at)?;
         self.go(
             alloc,
             want,
@@ -132,10 +129,7 @@ impl KernelReader {
         };
         let used = self.used + self.inner.used;
         let inner = mem::replace(&mut self.inner, Reader::new(alloc));
-        match self.parts.push(Part::Expression(self.first, inner.nodes)) {
-            Err(_) => return Err(AllocError),
-            Ok(()) => {}
-        }
+        self.parts.push(Part::Expression(self.first, inner.nodes))?;
         self.go(alloc, want, self.braces, used);
         Ok(Went::On)
     }
@@ -148,14 +142,11 @@ impl KernelReader {
         ensures { Turns result self.new
             (inner_turn MOST_BRACKETS MOST_OPERATORS role self.old token (step self.old.inner token)) }
     {
-        match self.inner.step(token) {
-            Err(_) => return Err(AllocError),
-            Ok(true) => {}
-            Ok(false) => return match self.inner.finish() {
-                Err(_) => Err(AllocError),
-                Ok(false) => Ok(Went::Stop),
-                Ok(true) => self.leave(alloc, behind(role, token)),
-            },
+        if !self.inner.step(token)? {
+            if !self.inner.finish()? {
+                return Ok(Went::Stop);
+            }
+            return self.leave(alloc, behind(role, token));
         }
         if !self.inner.fits(
             room(role, MOST_BRACKETS),
@@ -190,11 +181,10 @@ impl KernelReader {
         ensures { Feeds result self.old self.new token (turn MOST_BRACKETS MOST_OPERATORS self.old token) }
     {
         let at = self.at;
-        match self.turn(alloc, token) {
-            Err(_) => Err(Stop::NoMemory),
-            Ok(Went::Stop) => Err(Stop::Unfit(at)),
-            Ok(Went::Deep) => Err(Stop::Depth(told_at(token, at))),
-            Ok(Went::On) => Ok(()),
+        match self.turn(alloc, token)? {
+            Went::On => Ok(()),
+            Went::Stop => Err(Stop::Unfit(at)),
+            Went::Deep => Err(Stop::Depth(told_at(token, at))),
         }
     }
 

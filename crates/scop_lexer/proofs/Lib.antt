@@ -4,3 +4,4 @@ pub mod GapLemmas
 pub mod Rooms
 pub mod Splits
 pub mod SignLemmas
+pub mod NameLemmas

@@ -1,8 +1,8 @@
 -- Words: keywords, names of types and names (C17 6.4.1 and 6.4.2.1).
-use Rattle.std.specs.Prelude.{nat_le, if◌then◌else◌, List, [], ◌∷◌, length, codes}
-use Rattle.std.specs.List.{list_any}
+use Rattle.std.specs.Prelude.{◌≡◌, true, nat_le, if◌then◌else◌, List, [], ◌∷◌, length, get_or, codes}
+use Rattle.std.specs.List.{list_all, list_any}
 use Rattle.std.specs.Str.{bytes_eq}
-use Rattle.scop_lexer.specs.Bytes.{Text}
+use Rattle.scop_lexer.specs.Bytes.{Text, is_letter, is_word_byte}
 use Rattle.scop_lexer.specs.declared.token.Kind.{Kind}
 use Rattle.scop_lexer.specs.declared.token.Kind.TheVariants.{Void, For, If, Int64, Uint64, Keyword, Name}
 use Rattle.scop_lexer.specs.declared.token.FaultKind.TheVariants.{Character}
@@ -32,3 +32,9 @@ kind_of_word word = if bytes_eq word (codes "void") then Void
 -- a word that begins with a letter; its 64th byte is wrong (C17 5.2.4.1 asks for 63)
 abbrev pub word_stands : Text → Stand
 word_stands word = if nat_le (length word) 63 then Lexeme (kind_of_word word) (length word) else Wrong Character 63
+
+-- a name, from its first byte, a letter or `_`, to its last
+pub record IsName (name : Text) : Type 0 where
+  pub letter : is_letter (get_or name 0 0) ≡ true
+  pub bytes : list_all is_word_byte name ≡ true
+  pub word : word_stands name ≡ Lexeme Name (length name)

@@ -1,9 +1,13 @@
 //! Laws of tokens and faults, as contracts of functions that do nothing.
 
-ghost use Rattle.std.specs.Prelude.{◌≡◌, ◌⊎◌, List};
+ghost use Rattle.std.specs.Prelude.{◌≡◌, ◌⊎◌, ℕ, List, take, drop};
 ghost use Rattle.scop_lexer.specs.Bytes.{Text};
+ghost use Rattle.scop_lexer.specs.Words.{IsName};
+ghost use Rattle.scop_lexer.specs.Stands.{stands_at};
 ghost use Rattle.scop_lexer.specs.Signs.{StandsAsSign, sign_stands};
 ghost use Rattle.scop_lexer.specs.Tokens.{HasTokens, HasFault};
+ghost use Rattle.scop_lexer.specs.declared.stand.Stand.TheVariants.{Lexeme};
+ghost use Rattle.scop_lexer.specs.declared.token.Kind.TheVariants.{Name};
 ghost use Rattle.scop_lexer.specs.declared.token.Token.{Token};
 ghost use Rattle.scop_lexer.specs.declared.token.Fault.{Fault};
 
@@ -33,4 +37,9 @@ pub fn first_fault_is_unique()
 /// that begins none is wrong.
 pub fn longest_sign_is_told()
     ensures { (text : Text) → StandsAsSign text (sign_stands text) }
+{}
+
+/// What stands as a name in a text is a name by itself.
+pub fn names_stand_by_themselves()
+    ensures { (text : Text) (at n : ℕ) → stands_at text at ≡ Lexeme Name n → IsName (take n (drop at text)) }
 {}

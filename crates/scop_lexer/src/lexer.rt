@@ -75,14 +75,11 @@ pub fn token_at(text: &[u8], at: usize) -> Token
 fn push_start(starts: &mut Vec<u32>, start: usize) -> Result<(), AllocError>
     ensures { OnOk result (starts.new.items ≡ starts.old.items ++ start ∷ []) }
 {
-    let start = match u32::try_from(start) {
-        Err(_) => return Err(AllocError),
-        Ok(start) => start,
+    let Ok(start) = u32::try_from(start) else {
+        return Err(AllocError);
     };
-    match starts.push(start) {
-        Err(_) => Err(AllocError),
-        Ok(()) => Ok(()),
-    }
+    starts.push(start)?;
+    Ok(())
 }
 
 /// The places where the tokens of a text begin, in order, or its first fault.
@@ -111,4 +108,28 @@ pub fn starts(alloc: Global, text: &[u8]) -> Result<Vec<u32>, Stop>
             Err(fault) => return Err(Stop::Refused(fault)),
         }
     }
+}
+
+fn tokens_from(alloc: Global, text: &[u8], starts: &[u32]) -> Result<Vec<Token>, AllocError>
+    ensures { IfOk result (λ tokens. tokens.items ≡ tokens_at text.now starts.now) }
+{
+    let mut tokens = Vec::new(alloc);
+    for start in starts {
+        tokens.push(token_at(text, *start as usize))?;
+    }
+    Ok(tokens)
+}
+
+/// The tokens of a text, in order, each by its kind and its span, or the text's first fault.
+///
+/// # Errors
+/// As those of `starts`, which keeps four bytes of each token.
+pub fn tokens(alloc: Global, text: &[u8]) -> Result<Vec<Token>, Stop>
+    ensures tokens { IfOk result (λ tokens. HasTokens text.now tokens.items) }
+    ensures refused { IfErr result (RefusesTokens text.now) }
+    ensures order { IfOk result (λ tokens. AreBetween 0 tokens.items (length text.now)) }
+    ensures place { IfErr result (StopsWithin (length text.now)) }
+{
+    let starts = starts(alloc, text)?;
+    Ok(tokens_from(alloc, text, &starts)?)
 }

@@ -15,9 +15,9 @@ mod token;
 mod words;
 
 pub use laws::{
-    first_fault_is_unique, longest_sign_is_told, text_has_tokens_or_a_fault, tokens_are_unique,
-    tokens_exclude_a_fault,
+    first_fault_is_unique, longest_sign_is_told, names_stand_by_themselves,
+    text_has_tokens_or_a_fault, tokens_are_unique, tokens_exclude_a_fault,
 };
-pub use lexer::{next_token, starts, token_at};
+pub use lexer::{next_token, starts, token_at, tokens};
 pub use places::{Place, position};
 pub use token::{Fault, FaultKind, Kind, Punctuator, Stop, Token};

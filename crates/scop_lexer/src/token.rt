@@ -1,5 +1,10 @@
 //! The tokens of a kernel's text: their kinds, their spans, and what is wrong where a token would begin.
 
+ghost use Rattle.std.specs.Prelude.{◌≡◌};
+ghost use Rattle.scop_lexer.specs.declared.token.Stop.TheVariants as stop;
+
+use std::alloc::AllocError;
+
 /// The kind of a token.
 #[derive(Clone, Copy, Debug, PartialEq, Eq)]
 pub enum Kind {
@@ -147,4 +152,12 @@ pub enum Stop {
     Refused(Fault),
     /// There is no memory for the tokens.
     NoMemory,
+}
+
+impl From<AllocError> for Stop {
+    ghost from_gives = { λ _ s. s ≡ stop.NoMemory };
+
+    fn from(_: AllocError) -> Stop {
+        Stop::NoMemory
+    }
 }

@@ -1,6 +1,6 @@
 use Rattle.std.proofs.Common.{◌∙◌, sym}
 use Rattle.expression_grammar.specs.declared.reader.TheConstants.{MOST_BRACKETS, MOST_OPERATORS}
-use Rattle.expression_grammar.proofs.Running.{runs_first, runs_on, steps_true}
+use Rattle.expression_grammar.proofs.Running.{runs_first, runs_on}
 use Rattle.expression_grammar.proofs.reader.run.Goals as goal
 
 pub loop-token-init : goal.loop-token-init
@@ -12,5 +12,4 @@ loop-token-preserved c =
     let next = c.step.new.self in
     runs_on MOST_BRACKETS MOST_OPERATORS c.args.tokens.now l.token-index l.reader next _ l.invariant
     c.loop-token-test.true
-    (steps_true c.step.result c.in-Ok-true.field-0 l.reader next _ c.in-Ok-true.is c.in-Ok-true.field-0-test
-    c.step.ensures) (sym c.fits.ensures ∙ c.if-not-fits.false)
+    (rw c.if-not-branch.false at c.in_ok-step.ensures) (sym c.fits.ensures ∙ c.if-not-fits.false)
