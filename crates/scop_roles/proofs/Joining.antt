@@ -10,7 +10,7 @@ use Rattle.scop_roles.specs.declared.fault.Kind.{Kind}
 use Rattle.scop_roles.specs.declared.fault.Kind.TheVariants as kind
 use Rattle.scop_roles.specs.declared.formula.Role.TheVariants as role
 use Rattle.scop_roles.specs.declared.judgement.Judgement.{Judgement}
-use Rattle.scop_roles.specs.declared.judgement.Joined.{Joined}
+use Rattle.scop_roles.specs.declared.sides.Joined.{Joined}
 use Rattle.scop_roles.specs.Formula.{Formula, unary, binary}
 use Rattle.scop_roles.specs.Forms.{is_sum_or_product, is_product, is_signed, has_name, form, combined_forms, is_within}
 use Rattle.scop_roles.specs.Faults.{first, first_of, told, judged, faults, side_role, own, own_affine, only_where}

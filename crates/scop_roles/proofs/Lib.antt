@@ -1,5 +1,6 @@
 pub mod Firsts
 pub mod Sizes
+pub mod Multiples
 pub mod Judging
 pub mod Joining
 pub mod Views

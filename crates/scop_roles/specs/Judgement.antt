@@ -12,7 +12,7 @@ use Rattle.scop_roles.specs.declared.formula.Role.{Role}
 use Rattle.scop_roles.specs.declared.formula.Role.TheVariants as role
 use Rattle.scop_roles.specs.declared.judgement.Faults.{Faults}
 use Rattle.scop_roles.specs.declared.judgement.Judgement.{Judgement}
-use Rattle.scop_roles.specs.declared.judgement.Joined.{Joined}
+use Rattle.scop_roles.specs.declared.sides.Joined.{Joined}
 use Rattle.scop_roles.specs.Formula.{Formula, name, index, binary, place}
 use Rattle.scop_roles.specs.Forms.{is_sum_or_product, is_signed, has_name, form}
 use Rattle.scop_roles.specs.Faults.{first, told, faults, place_faults, rank, is_plain_constant, is_count, or_else}

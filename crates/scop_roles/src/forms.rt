@@ -23,28 +23,22 @@ pub(crate) fn constant_form(alloc: Global, entries: usize, value: u64) -> Result
     ensures form { IfOk result (λ form. form ≡ form_of (zeros entries) (pos value)) }
     ensures limits { IfOk result (IsAffine entries) }
 {
-    match zeros(alloc, entries) {
-        Err(_) => Err(AllocError),
-        Ok(coefficients) => Ok(Aff {
-            coefficients,
-            constant: value as i64,
-        }),
-    }
+    let coefficients = zeros(alloc, entries)?;
+    Ok(Aff {
+        coefficients,
+        constant: value as i64,
+    })
 }
 
 // One 1 among zeros.
 fn unit(alloc: Global, count: usize, place: usize) -> Result<Vec<i64>, AllocError>
     ensures { IfOk result (λ v. v.items ≡ set (zeros count) place (pos 1)) }
 {
-    match zeros(alloc, count) {
-        Err(_) => Err(AllocError),
-        Ok(mut numbers) => {
-            if place < numbers.len() {
-                numbers[place] = 1;
-            }
-            Ok(numbers)
-        }
+    let mut numbers = zeros(alloc, count)?;
+    if place < numbers.len() {
+        numbers[place] = 1;
     }
+    Ok(numbers)
 }
 
 // The form of a parameter or an iterator.
@@ -57,13 +51,11 @@ pub(crate) fn variable_form(
     ensures form { IfOk result (λ form. form ≡ form_of (set (zeros entries) variable (pos 1)) (pos 0)) }
     ensures limits { IfOk result (IsAffine entries) }
 {
-    match unit(alloc, entries, variable) {
-        Err(_) => Err(AllocError),
-        Ok(coefficients) => Ok(Aff {
-            coefficients,
-            constant: 0,
-        }),
-    }
+    let coefficients = unit(alloc, entries, variable)?;
+    Ok(Aff {
+        coefficients,
+        constant: 0,
+    })
 }
 
 // A product of numbers within 24 bits.
@@ -90,8 +82,8 @@ fn multiples(alloc: Global, factor: i64, numbers: &[i64]) -> Result<Vec<i64>, Al
     ensures { IfOk result (λ products. products.items ≡ multiples factor numbers.now) }
 {
     let mut products = Vec::new(alloc);
-    for at in 0..numbers.len() {
-        match products.push(product(factor, numbers[at])) {
+    for number in numbers {
+        match products.push(product(factor, *number)) {
             Err(_) => return Err(AllocError),
             Ok(()) => {}
         }
@@ -128,13 +120,11 @@ pub(crate) fn multiple(
     ensures form { IfOk result (λ product. product ≡ multiple_of_form factor form.now) }
     ensures entries { IfOk result (λ product. length product.coefficients ≡ entries) }
 {
-    match multiples(alloc, factor, &form.coefficients) {
-        Err(_) => Err(AllocError),
-        Ok(coefficients) => Ok(Aff {
-            coefficients,
-            constant: product(factor, form.constant),
-        }),
-    }
+    let coefficients = multiples(alloc, factor, &form.coefficients)?;
+    Ok(Aff {
+        coefficients,
+        constant: product(factor, form.constant),
+    })
 }
 
 // A sum of forms.
@@ -144,13 +134,11 @@ pub(crate) fn sum(alloc: Global, form: &Aff, other: &Aff, entries: usize) -> Res
     ensures form { IfOk result (λ total. total ≡ sum_of_forms form.now other.now) }
     ensures entries { IfOk result (λ total. length total.coefficients ≡ entries) }
 {
-    match sums(alloc, &form.coefficients, &other.coefficients) {
-        Err(_) => Err(AllocError),
-        Ok(coefficients) => Ok(Aff {
-            coefficients,
-            constant: plus(form.constant, other.constant),
-        }),
-    }
+    let coefficients = sums(alloc, &form.coefficients, &other.coefficients)?;
+    Ok(Aff {
+        coefficients,
+        constant: plus(form.constant, other.constant),
+    })
 }
 
 // A form with its constant greater by a number.

@@ -1,5 +1,5 @@
 //! Expressions without parentheses, each name looked up, each node with the place of its token.
-ghost use Rattle.std.specs.Prelude.{◌≡◌, ◌+◌, ◌==◌, ◌<◌, ◌^◌, ◌∷◌, ℕ, IfOk, OnOk, map};
+ghost use Rattle.std.specs.Prelude.{[], ◌++◌, ◌≡◌, ◌+◌, ◌==◌, ◌<◌, ◌^◌, ◌∷◌, ℕ, IfOk, OnOk, map};
 ghost use Rattle.expression_grammar.specs.declared.token.Op.TheVariants as op;
 ghost use Rattle.std.specs.List.{fold};
 ghost use Rattle.expression_grammar.specs.Tree.{Tree, written};
@@ -10,7 +10,7 @@ ghost use Rattle.scop_roles.specs.Resolving.{IsWritten, below, built, held, plac
 use expression_grammar::node::Node;
 use expression_grammar::token::{Op, Sign, Suffix};
 use std::alloc::{AllocError, Global};
-use std::mem;
+use std::{fmt, mem};
 
 /// What a name means where it stands.
 #[derive(Debug, Clone, Copy, PartialEq, Eq)]
@@ -27,7 +27,7 @@ pub enum Meaning {
 
 /// An argument behind others, and the place of the comma in front of it.
 #[cycle(formula)]
-#[derive(Debug, Drop)]
+#[derive(Drop)]
 pub struct Argument {
     pub value: Formula,
     pub comma: usize,
@@ -36,7 +36,7 @@ pub struct Argument {
 /// An expression. A place is that of the operator, else of the first token. Subscripts and arguments, of which a text
 /// may have any number in a row, lie in vectors, so that nothing recurses along them.
 #[cycle(formula)]
-#[derive(Debug, Drop)]
+#[derive(Drop)]
 pub enum Formula {
     Constant(Suffix, u64, usize),
     Name(Meaning, usize),
@@ -53,8 +53,20 @@ pub enum Formula {
     Binary(Op, Box<Formula>, Box<Formula>, usize),
 }
 
+impl fmt::Debug for Argument {
+    fn fmt<W: fmt::Write>(&self, f: &mut fmt::Formatter<W>) -> fmt::Result {
+        f.debug_struct("Argument").finish_non_exhaustive()
+    }
+}
+
+impl fmt::Debug for Formula {
+    fn fmt<W: fmt::Write>(&self, f: &mut fmt::Formatter<W>) -> fmt::Result {
+        f.debug_struct("Formula").finish_non_exhaustive()
+    }
+}
+
 /// Where an expression stands.
-#[derive(Debug, Clone, Copy, PartialEq, Eq)]
+#[derive(Debug, Clone, Copy)]
 pub enum Role {
     /// A subscript, a bound, an extent or a side of a comparison.
     Affine,
@@ -155,6 +167,14 @@ fn first_subscript(alloc: Global, place: Formula, subscript: Formula) -> Result<
     Ok(Formula::Index(place, Vec::new(alloc), subscript))
 }
 
+// A value behind others.
+pub(crate) fn push_behind<T: Drop>(values: &mut Vec<T>, value: T) -> Result<(), AllocError>
+    ensures { OnOk result (values.new.items ≡ values.old.items ++ value ∷ []) }
+{
+    values.push(value)?;
+    Ok(())
+}
+
 // A place with subscripts and one more, which becomes the last.
 fn next_subscript(
     place: Box<Formula>,
@@ -169,8 +189,11 @@ fn next_subscript(
     let mut earlier = earlier;
     let mut last = last;
     let before = mem::replace(&mut *last, subscript);
-    match earlier.push(before) {
-        Err(_) => Err(AllocError),
+    match push_behind(&mut earlier, before) {
+        Err(_) => {
+            drop((place, earlier, last));
+            Err(AllocError)
+        }
         Ok(()) => Ok(Formula::Index(place, earlier, last)),
     }
 }
@@ -219,8 +242,11 @@ fn next_argument(
     let mut between = between;
     let mut last = last;
     let value = mem::replace(&mut *last, argument);
-    match between.push(Argument { value, comma }) {
-        Err(_) => Err(AllocError),
+    match push_behind(&mut between, Argument { value, comma }) {
+        Err(_) => {
+            drop((first, between, last));
+            Err(AllocError)
+        }
         Ok(()) => Ok(Formula::Commas(first, between, last, at)),
     }
 }
@@ -263,10 +289,8 @@ fn with_operator(
 fn push(stack: &mut Vec<Formula>, formula: Formula) -> Result<(), AllocError>
     ensures { OnOk result (held stack.new.items ≡ formula_of formula ∷ held stack.old.items) }
 {
-    match stack.push(formula) {
-        Err(_) => Err(AllocError),
-        Ok(()) => Ok(()),
-    }
+    stack.push(formula)?;
+    Ok(())
 }
 
 // The formula on top of the stack; of an empty stack nothing is asked.
@@ -298,7 +322,9 @@ fn pop_name(stack: &mut Vec<Formula>) -> (Meaning, usize)
     ensures rest { held stack.new.items ≡ below (held stack.old.items) }
 {
     let name = pop(stack);
-    (meaning_of(&name), place(&name))
+    let named = (meaning_of(&name), place(&name));
+    drop(name);
+    named
 }
 
 // The call of the name on the stack, without arguments.

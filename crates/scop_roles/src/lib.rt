@@ -8,5 +8,7 @@ mod forms;
 pub mod formula;
 pub mod judgement;
 pub mod laws;
+mod nodes;
 pub mod roles;
+mod sides;
 pub mod values;

@@ -7,7 +7,7 @@ ghost use Rattle.scop_syntax.specs.Tree.{Expression, affine, read};
 ghost use Rattle.scop_syntax.specs.View.{expression_of, operator_of, test_of};
 ghost use Rattle.scop_roles.specs.declared.formula.Role.TheVariants as role;
 ghost use Rattle.scop_roles.specs.Faults.{faults, first, is_count, place_faults};
-ghost use Rattle.scop_roles.specs.Formula.{Formula as Tree, argument_of, binary, cast, constant, formula_of, index};
+ghost use Rattle.scop_roles.specs.Formula.{Formula as Tree, argument_of, binary, cast, formula_of, index};
 ghost use Rattle.scop_roles.specs.Formula.{name, unary, with_argument};
 ghost use Rattle.scop_roles.specs.Forms.{form, is_and, is_shift, is_signed};
 ghost use Rattle.scop_roles.specs.Values.{IsValueOf, access, array_number, asked, combined, comparison, count};
@@ -15,12 +15,12 @@ ghost use Rattle.scop_roles.specs.Values.{difference, expression, operator, read
 ghost use Rattle.scop_roles.specs.Values.{tests};
 
 use crate::forms::{constant_form, multiple, plus_constant, sum, variable_form};
-use crate::formula::{Argument, Formula, Meaning, meaning_of, place};
+use crate::formula::{Argument, Formula, Meaning, meaning_of, place, push_behind};
 use crate::judgement::affine_form;
 use crate::roles::{
     is_and, is_between, is_minus, is_number, is_plain, is_shift, is_sum_or_product,
 };
-use expression_grammar::token::{Op, Sign, Suffix};
+use expression_grammar::token::{Op, Sign};
 use scop_syntax::tree::{Access, Aff, Expr, Operator, Test};
 use std::alloc::{AllocError, Global};
 
@@ -70,22 +70,11 @@ fn array_number(meaning: Meaning) -> usize
     }
 }
 
-fn push_form(forms: &mut Vec<Aff>, form: Aff) -> Result<(), AllocError>
-    ensures { OnOk result (forms.new.items ≡ forms.old.items ++ form ∷ []) }
-{
-    match forms.push(form) {
-        Err(_) => Err(AllocError),
-        Ok(()) => Ok(()),
-    }
-}
-
 fn push_test(pushed: &mut Vec<Test>, test: Test) -> Result<(), AllocError>
     ensures { OnOk result (map test_of pushed.new.items ≡ map test_of pushed.old.items ++ test_of test ∷ []) }
 {
-    match pushed.push(test) {
-        Err(_) => Err(AllocError),
-        Ok(()) => Ok(()),
-    }
+    pushed.push(test)?;
+    Ok(())
 }
 
 // The form of a formula that is affine.
@@ -94,12 +83,10 @@ fn form_or_zero(alloc: Global, formula: &Formula, entries: usize) -> Result<Aff,
         → f ≡ form entries (formula_of formula.now)) }
     ensures limits { IfOk result (IsAffine entries) }
 {
-    match affine_form(alloc, formula, entries) {
-        Err(_) => Err(AllocError),
-        Ok(found) => match found {
-            Some(form) => Ok(form),
-            None => constant_form(alloc, entries, 0),
-        },
+    let found = affine_form(alloc, formula, entries)?;
+    match found {
+        Some(form) => Ok(form),
+        None => constant_form(alloc, entries, 0),
     }
 }
 
@@ -120,7 +107,7 @@ fn push_forms(
             Err(_) => return Err(AllocError),
             Ok(form) => form,
         };
-        match push_form(forms, form) {
+        match push_behind(forms, form) {
             Err(_) => return Err(AllocError),
             Ok(()) => {}
         }
@@ -140,19 +127,10 @@ fn push_subscripts(
 {
     match place {
         Formula::Index(inner, earlier, last) => {
-            match push_subscripts(alloc, inner, entries, forms) {
-                Err(_) => return Err(AllocError),
-                Ok(()) => {}
-            }
-            match push_forms(alloc, earlier, entries, forms) {
-                Err(_) => return Err(AllocError),
-                Ok(()) => {}
-            }
-            let form = match form_or_zero(alloc, last, entries) {
-                Err(_) => return Err(AllocError),
-                Ok(form) => form,
-            };
-            push_form(forms, form)
+            push_subscripts(alloc, inner, entries, forms)?;
+            push_forms(alloc, earlier, entries, forms)?;
+            let form = form_or_zero(alloc, last, entries)?;
+            push_behind(forms, form)
         }
         Formula::Constant(_, _, _) => Ok(()),
         Formula::Name(_, _) => Ok(()),
@@ -171,13 +149,11 @@ fn cell(alloc: Global, place: &Formula, entries: usize) -> Result<Access, AllocE
         → a ≡ access entries (formula_of place.now)) }
 {
     let mut subscripts = Vec::new(alloc);
-    match push_subscripts(alloc, place, entries, &mut subscripts) {
-        Err(_) => Err(AllocError),
-        Ok(()) => Ok(Access {
-            array: array_number(meaning_of(place)),
-            subscripts,
-        }),
-    }
+    push_subscripts(alloc, place, entries, &mut subscripts)?;
+    Ok(Access {
+        array: array_number(meaning_of(place)),
+        subscripts,
+    })
 }
 
 /// The cell of a place whose name and subscripts have no fault.
@@ -207,7 +183,13 @@ fn count(formula: &Formula) -> u8
     ensures { is_count 0 63 (formula_of formula.now) ≡ true → result ≡ count (formula_of formula.now) }
 {
     match formula {
-        Formula::Constant(suffix, value, _) => constant_count(*suffix, *value),
+        Formula::Constant(suffix, value, _) => {
+            if is_between(*suffix, *value, 0, 63) && *value <= 63 {
+                *value as u8
+            } else {
+                0
+            }
+        }
         Formula::Name(_, _) => 0,
         Formula::Index(_, _, _) => 0,
         Formula::BareCall(_, _) => 0,
@@ -216,16 +198,6 @@ fn count(formula: &Formula) -> u8
         Formula::Cast(_, _) => 0,
         Formula::Commas(_, _, _, _) => 0,
         Formula::Binary(_, _, _, _) => 0,
-    }
-}
-
-fn constant_count(suffix: Suffix, value: u64) -> u8
-    ensures { (at : ℕ) → is_count 0 63 (constant suffix value at) ≡ true → result ≡ value }
-{
-    if is_between(suffix, value, 0, 63) && value <= 63 {
-        value as u8
-    } else {
-        0
     }
 }
 
@@ -420,13 +392,9 @@ fn difference(
     requires constant { unsigned_abs constant ≤ 1 }
     ensures { IfOk result (λ f. f ≡ difference form.now other.now constant) }
 {
-    match multiple(alloc, -1, other, entries) {
-        Err(_) => Err(AllocError),
-        Ok(opposite) => match sum(alloc, form, &opposite, entries) {
-            Err(_) => Err(AllocError),
-            Ok(form) => Ok(plus_constant(form, constant)),
-        },
-    }
+    let opposite = multiple(alloc, -1, other, entries)?;
+    let form = sum(alloc, form, &opposite, entries)?;
+    Ok(plus_constant(form, constant))
 }
 
 // The difference of two sides that an operator compares with 0.
@@ -510,10 +478,8 @@ fn add_tests(
             if !is_and(*op) {
                 return add_comparison(alloc, *op, left, right, entries, pushed);
             }
-            match add_tests(alloc, left, entries, pushed) {
-                Err(_) => Err(AllocError),
-                Ok(()) => add_tests(alloc, right, entries, pushed),
-            }
+            add_tests(alloc, left, entries, pushed)?;
+            add_tests(alloc, right, entries, pushed)
         }
         Formula::Constant(_, _, _) => Ok(()),
         Formula::Name(_, _) => Ok(()),
@@ -537,10 +503,8 @@ pub fn push_tests(
     ensures { OnOk result (map test_of pushed.new.items
         ≡ map test_of pushed.old.items ++ tests entries (formula_of formula.now)) }
 {
-    match add_tests(alloc, formula, entries, pushed) {
-        Err(_) => Err(AllocError),
-        Ok(()) => Ok(()),
-    }
+    add_tests(alloc, formula, entries, pushed)?;
+    Ok(())
 }
 
 // The places of the cells that these arguments more read, behind those of the others.
@@ -564,28 +528,19 @@ pub fn push_read_places(formula: &Formula, places: &mut Vec<usize>) -> Result<()
     ensures { OnOk result (places.new.items ≡ places.old.items ++ read_places (formula_of formula.now)) }
 {
     match formula {
-        Formula::Index(inner, _, _) => match places.push(place(inner)) {
-            Err(_) => Err(AllocError),
-            Ok(()) => Ok(()),
-        },
+        Formula::Index(inner, _, _) => {
+            places.push(place(inner))?;
+            Ok(())
+        }
         Formula::Unary(_, operand, _) => push_read_places(operand, places),
         Formula::Cast(operand, _) => push_read_places(operand, places),
         Formula::Commas(first, between, last, _) => {
-            match push_read_places(first, places) {
-                Err(_) => return Err(AllocError),
-                Ok(()) => {}
-            }
-            match push_places(between, places) {
-                Err(_) => return Err(AllocError),
-                Ok(()) => {}
-            }
+            push_read_places(first, places)?;
+            push_places(between, places)?;
             push_read_places(last, places)
         }
         Formula::Binary(_, left, right, _) => {
-            match push_read_places(left, places) {
-                Err(_) => return Err(AllocError),
-                Ok(()) => {}
-            }
+            push_read_places(left, places)?;
             push_read_places(right, places)
         }
         Formula::Constant(_, _, _) => Ok(()),

@@ -2,6 +2,6 @@ use Rattle.std.proofs.Common.{◌≡◌, ◌++◌, drop}
 use Rattle.whole_numbers.specs.Lists.{multiples}
 use Rattle.scop_roles.proofs.forms.multiples.Given as goal
 
-abbrev pub invariant-loop-at : goal.invariant-loop-at
-invariant-loop-at l =
-    l.products.items ++ multiples l.fn.factor (drop l.at l.numbers) ≡ multiples l.fn.factor l.numbers
+abbrev pub invariant-loop-number : goal.invariant-loop-number
+invariant-loop-number l =
+    l.products.items ++ multiples l.fn.factor (drop l.number-index l.numbers) ≡ multiples l.fn.factor l.numbers

@@ -2,8 +2,8 @@ use Rattle.std.proofs.Common.{rules, ◌≡◌, length, ap, sym, ◌∙◌}
 use Rattle.whole_numbers.proofs.Dot.{length-sums}
 use Rattle.scop_roles.proofs.forms.sum.Goals as goal
 
-pub returns-in-Ok-clause-entries : goal.returns-in-Ok-clause-entries
-returns-in-Ok-clause-entries c =
+pub returns-clause-entries : goal.returns-clause-entries
+returns-clause-entries c =
     let a : length c.deref.result.now ≡ c.args.entries = search rules in
     let b : length c.deref-2.result.now ≡ c.args.entries = search rules in
-    ap length c.in-Ok.ensures ∙ length-sums c.deref.result.now c.deref-2.result.now (a ∙ sym b) ∙ a
+    ap length c.in_ok-coefficients.ensures ∙ length-sums c.deref.result.now c.deref-2.result.now (a ∙ sym b) ∙ a

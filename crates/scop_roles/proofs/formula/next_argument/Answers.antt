@@ -13,9 +13,9 @@ returns-in-Ok c =
     let comma = c.args.comma in
     let before : c.replace-value.result ≡ c.args.last.value = search rules in
     let after : c.replace-value.new.dest ≡ c.args.argument = search rules in
-    let more : c.push.new.self.items ≡ gs ++ record { value = c.replace-value.result; comma = comma } ∷ [] =
-    c.in-Ok.ensures.items in
-    formula_commas c.args.first c.push.new.self (with_value c.args.last c.replace-value.new.dest) c.args.at
+    let more : c.push_behind.new.values.items ≡ gs ++ record { value = c.replace-value.result; comma = comma } ∷ [] =
+    c.in-Ok.ensures in
+    formula_commas c.args.first c.push_behind.new.values (with_value c.args.last c.replace-value.new.dest) c.args.at
     ∙ ap₂ (λ g h. binary op.Comma g h c.args.at) (ap (λ xs. fold with_argument f (map argument_of xs)) more
     ∙ made_more argument_of with_argument f gs record { value = c.replace-value.result; comma = comma }
     ∙ ap (λ v. binary op.Comma (fold with_argument f (map argument_of gs)) (formula_of v) comma) before)

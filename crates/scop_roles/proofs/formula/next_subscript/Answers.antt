@@ -11,8 +11,8 @@ returns-in-Ok c =
     let es = c.args.earlier.items in
     let before : c.replace-before.result ≡ c.args.last.value = search rules in
     let after : c.replace-before.new.dest ≡ c.args.subscript = search rules in
-    let more : c.push.new.self.items ≡ es ++ c.args.last.value ∷ [] =
-    c.in-Ok.ensures.items ∙ ap (λ x. es ++ x ∷ []) before in
-    formula_index c.args.place c.push.new.self (with_value c.args.last c.replace-before.new.dest)
+    let more : c.push_behind.new.values.items ≡ es ++ c.args.last.value ∷ [] =
+    c.in-Ok.ensures ∙ ap (λ x. es ++ x ∷ []) before in
+    formula_index c.args.place c.push_behind.new.values (with_value c.args.last c.replace-before.new.dest)
     ∙ ap₂ index (ap (λ xs. fold index p (map formula_of xs)) more
     ∙ made_more formula_of index p es c.args.last.value) (ap formula_of after)

@@ -1,19 +1,18 @@
-use Rattle.std.proofs.Common.{◌≡◌, map, fold, ap, subst, ◌∙◌}
+use Rattle.std.proofs.Common.{map, fold, ap, sym, subst, ◌∙◌}
+use Rattle.std.specs.Prelude.{IfOk}
 use Rattle.expression_grammar.specs.declared.token.Op.TheVariants as op
-use Rattle.scop_roles.specs.Formula.{argument_of, binary, index, bare_call, formula_of, with_argument}
-use Rattle.scop_roles.specs.Faults.{first, told}
+use Rattle.scop_roles.specs.Formula.{argument_of, binary, cast, index, formula_of, unary, with_argument}
 use Rattle.scop_roles.specs.Judgement.{IsJudgement}
-use Rattle.scop_roles.proofs.Views.{formula_index, formula_bare_call, formula_commas}
+use Rattle.scop_roles.proofs.Views.{formula_index, formula_bare_call, formula_unary, formula_cast, formula_commas}
+use Rattle.scop_roles.proofs.Views.{formula_binary}
 use Rattle.scop_roles.proofs.Chains.{makes_next}
 use Rattle.scop_roles.proofs.Making.{if_ok}
 use Rattle.scop_roles.proofs.judgement.+judging.Goals as goal
 
 pub judge-returns-in-BareCall : goal.judge-returns-in-BareCall
 judge-returns-in-BareCall t c =
-    let e : formula_of c.args.formula.now ≡ bare_call c.in-BareCall.meaning c.in-BareCall.at =
-    ap formula_of c.in-BareCall.is ∙ formula_bare_call c.in-BareCall.meaning c.in-BareCall.at in
-    rw e (c.of_call.ensures.bare c.args.entries c.in-BareCall.meaning
-    (c.told.ensures ∙ ap (λ k. first (told c.in-BareCall.at k)) c.called.ensures))
+    let e = ap formula_of c.in-BareCall.is ∙ formula_bare_call c.in-BareCall.meaning c.in-BareCall.at in
+    subst (λ f. IsJudgement c.args.entries f c.of_bare_call.result) (sym e) (c.of_bare_call.ensures c.args.entries)
 
 pub judge-returns-in_ok-place-in-Index-2 : goal.judge-returns-in_ok-place-in-Index-2
 judge-returns-in_ok-place-in-Index-2 t c =
@@ -27,6 +26,32 @@ judge-returns-in_ok-place-in-Index-2 t c =
     c.deref-in-Index.ensures.value (c.in_ok-place-in-Index-2.ensures p here) in
     rw e (if_ok c.judge_subscript.result (λ j judged. subst (λ v. IsJudgement n (index whole (formula_of v)) j)
     c.deref-in-Index-2.ensures (judged whole there)) c.judge_subscript.ensures)
+
+pub judge-returns-in-Unary : goal.judge-returns-in-Unary
+judge-returns-in-Unary t c =
+    let at = c.in-Unary.at in
+    let e = ap formula_of c.in-Unary.is ∙ formula_unary c.in-Unary.sign c.in-Unary.operand at
+    ∙ ap (λ v. unary c.in-Unary.sign (formula_of v) at) (sym c.deref-in-Unary.ensures) in
+    subst (λ f. IfOk c.judge_unary.result (IsJudgement c.args.entries f)) (sym e) c.judge_unary.ensures
+
+pub judge-returns-in-Cast : goal.judge-returns-in-Cast
+judge-returns-in-Cast t c =
+    let at = c.in-Cast.at in
+    let e = ap formula_of c.in-Cast.is ∙ formula_cast c.in-Cast.operand at
+    ∙ ap (λ v. cast (formula_of v) at) (sym c.deref-in-Cast.ensures) in
+    subst (λ f. IfOk c.judge_cast.result (IsJudgement c.args.entries f)) (sym e) c.judge_cast.ensures
+
+pub judge-returns-in_ok-left-in-Binary : goal.judge-returns-in_ok-left-in-Binary
+judge-returns-in_ok-left-in-Binary t c =
+    let n = c.args.entries in
+    let at = c.in-Binary.at in
+    let f = formula_of c.in-Binary.left.value in
+    let e = ap formula_of c.in-Binary.is ∙ formula_binary c.in-Binary.op c.in-Binary.left c.in-Binary.right at
+    ∙ ap (λ v. binary c.in-Binary.op f (formula_of v) at) (sym c.deref-in-Binary-2.ensures) in
+    let here = subst (λ v. IsJudgement n (formula_of v) c.in_ok-left-in-Binary.left) c.deref-in-Binary.ensures
+    c.in_ok-left-in-Binary.ensures in
+    if_ok c.judge_right-in-Binary.result (λ j judged. subst (λ f. IsJudgement n f j) (sym e) (judged f here))
+    c.judge_right-in-Binary.ensures.judged
 
 pub judge-returns-in_ok-left-in-Commas : goal.judge-returns-in_ok-left-in-Commas
 judge-returns-in_ok-left-in-Commas t c =

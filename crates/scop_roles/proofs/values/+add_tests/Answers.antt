@@ -24,23 +24,23 @@ returns-then-not-is_and t c =
     (subst (λ f. first (faults n role.Condition f) ≡ None) e h) ∙ ap (λ f. old ++ tests n f) (sym e))
     c.add_comparison.ensures
 
-pub returns-in-Ok : goal.returns-in-Ok
-returns-in-Ok t c =
+pub returns-in_ok-add_tests-in-Binary : goal.returns-in_ok-add_tests-in-Binary
+returns-in_ok-add_tests-in-Binary t c =
     let n = c.args.entries in
     let old = map test_of c.args.pushed.now.items in
     let mid = map test_of c.add_tests.new.pushed.items in
-    let new = map test_of c.add_tests-in-Ok.new.pushed.items in
+    let new = map test_of c.add_tests-in-Binary.new.pushed.items in
     let e = ap formula_of c.in-Binary.is ∙ formula_binary c.in-Binary.op c.in-Binary.left c.in-Binary.right
     c.in-Binary.field-3 in
     let before = subst (λ v. first (faults n role.Condition (formula_of v)) ≡ None
-    → mid ≡ old ++ tests n (formula_of v)) c.deref-in-Binary.ensures c.in-Ok.ensures in
-    on_ok c.add_tests-in-Ok.result
+    → mid ≡ old ++ tests n (formula_of v)) c.deref-in-Binary.ensures c.in_ok-add_tests-in-Binary.ensures in
+    on_ok c.add_tests-in-Binary.result
     (λ here. joined_tests n (formula_of c.args.formula.now) c.in-Binary.op (formula_of c.in-Binary.left.value)
     (formula_of c.in-Binary.right.value) c.in-Binary.field-3 old mid new e
     (sym c.is_and.ensures ∙ c.if-not-is_and.false) before
     (subst (λ v. first (faults n role.Condition (formula_of v)) ≡ None → new ≡ mid ++ tests n (formula_of v))
-    c.deref-in-Ok.ensures here))
-    c.add_tests-in-Ok.ensures
+    c.deref-in-Binary-2.ensures here))
+    c.add_tests-in-Binary.ensures
 
 pub returns-in-Commas : goal.returns-in-Commas
 returns-in-Commas t c h =

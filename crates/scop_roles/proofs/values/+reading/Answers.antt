@@ -19,19 +19,19 @@ push_places-loop-other-preserved t c f xs h =
     (λ q here. read_more xs old new op.Comma q (formula_of other.value) other.comma here c.in-Ok.ensures)
     (l.invariant f xs h)
 
-pub push_read_places-returns-in-Ok : goal.push_read_places-returns-in-Ok
-push_read_places-returns-in-Ok t c =
+pub push_read_places-returns-in_ok-push-in-Index : goal.push_read_places-returns-in_ok-push-in-Index
+push_read_places-returns-in_ok-push-in-Index t c =
     let old = c.args.places.now.items in
     let p = formula_of c.in-Index.inner.value in
     let e = ap formula_of c.in-Index.is ∙ formula_index c.in-Index.inner c.in-Index.field-1 c.in-Index.field-2 in
     let d : c.deref.result.now ≡ c.in-Index.inner.value = search rules in
-    c.in-Ok.ensures.items
+    c.in_ok-push-in-Index.ensures.items
     ∙ ap (λ at. old ++ at ∷ []) (c.place.ensures ∙ ap (λ v. place (formula_of v)) d
     ∙ sym (place_indexed p (map formula_of c.in-Index.field-1.items)))
     ∙ ap (λ f. old ++ read_places f) (sym e)
 
-pub push_read_places-returns-in-Ok-push_places : goal.push_read_places-returns-in-Ok-push_places
-push_read_places-returns-in-Ok-push_places t c =
+pub push_read_places-returns-in_ok-push_places-in-Commas : goal.push_read_places-returns-in_ok-push_places-in-Commas
+push_read_places-returns-in_ok-push_places-in-Commas t c =
     let old = c.args.places.now.items in
     let one = c.push_read_places-in-Commas.new.places.items in
     let two = c.push_places.new.places.items in
@@ -42,17 +42,18 @@ push_read_places-returns-in-Ok-push_places t c =
     let e = ap formula_of c.in-Commas.is
     ∙ formula_commas c.in-Commas.first c.in-Commas.between c.in-Commas.last c.in-Commas.field-3 in
     let one_is = subst (λ v. one ≡ old ++ read_places (formula_of v)) c.deref-in-Commas.ensures
-    c.in-Ok-push_read_places.ensures in
+    c.in_ok-push_read_places-in-Commas.ensures in
     let two_is = subst (λ gs. two ≡ old ++ read_places (fold with_argument f (map argument_of gs)))
-    c.deref-in-Commas-2.ensures.value (c.in-Ok-push_places.ensures f old one_is) in
+    c.deref-in-Commas-2.ensures.value (c.in_ok-push_places-in-Commas.ensures f old one_is) in
     on_ok c.push_read_places-in-Commas-2.result
     (λ last. read_more old two all op.Comma left g c.in-Commas.field-3 two_is
     (subst (λ v. all ≡ two ++ read_places (formula_of v)) c.deref-in-Commas-3.ensures last)
     ∙ ap (λ f. old ++ read_places f) (sym e))
     c.push_read_places-in-Commas-2.ensures
 
-pub push_read_places-returns-in-Ok-push_read_places-2 : goal.push_read_places-returns-in-Ok-push_read_places-2
-push_read_places-returns-in-Ok-push_read_places-2 t c =
+pub push_read_places-returns-in_ok-push_read_places-in-Binary
+    : goal.push_read_places-returns-in_ok-push_read_places-in-Binary
+push_read_places-returns-in_ok-push_read_places-in-Binary t c =
     let old = c.args.places.now.items in
     let one = c.push_read_places-in-Binary.new.places.items in
     let all = c.push_read_places-in-Binary-2.new.places.items in
@@ -61,7 +62,7 @@ push_read_places-returns-in-Ok-push_read_places-2 t c =
     let e = ap formula_of c.in-Binary.is
     ∙ formula_binary c.in-Binary.field-0 c.in-Binary.left c.in-Binary.right c.in-Binary.field-3 in
     let one_is = subst (λ v. one ≡ old ++ read_places (formula_of v)) c.deref-in-Binary.ensures
-    c.in-Ok-push_read_places-2.ensures in
+    c.in_ok-push_read_places-in-Binary.ensures in
     on_ok c.push_read_places-in-Binary-2.result
     (λ last. read_more old one all c.in-Binary.field-0 f g c.in-Binary.field-3 one_is
     (subst (λ v. all ≡ one ++ read_places (formula_of v)) c.deref-in-Binary-2.ensures last)

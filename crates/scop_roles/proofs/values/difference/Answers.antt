@@ -7,5 +7,5 @@ sum-requires-clause-form c = affine_wide c.args.entries c.args.form.now c.requir
 
 pub sum-requires-clause-other : goal.sum-requires-clause-other
 sum-requires-clause-other c =
-    multiple_wide c.args.entries (negsuc 0) c.args.other.now c.in-Ok.opposite c.in-Ok.ensures.form (omega arith)
-    c.requires.other
+    multiple_wide c.args.entries (negsuc 0) c.args.other.now c.in_ok-opposite.opposite c.in_ok-opposite.ensures.form
+    (omega arith) c.requires.other
