@@ -21,7 +21,7 @@ use Rattle.scop_lexer.specs.Bytes.{Text}
 use Rattle.scop_lexer.specs.Tokens.{token_at, tokens_at}
 use Rattle.scop_lexer.specs.declared.token.Token.{Token as Lexeme}
 use Rattle.scop_units.specs.Judging.{faults_of}
-use Rattle.scop_units.specs.Programs.{program_of}
+use Rattle.scop_units.specs.Programs.{program_spelled}
 use Rattle.scop_units.specs.Words.{Words, grammar_token, grammar_tokens}
 use Rattle.scop_pass.specs.Machine as machine
 use Rattle.scop_pass.specs.Machine.{State, first_state, program_at}
@@ -198,7 +198,7 @@ passed_on words ts done i s rest p fed is so =
 -- behind the last token it has judged the kernel
 pub all_passed : (words : Words) (text : Text) (starts : List ℕ) (k : Kernel) (i : ℕ) (s : Spot) (p : State)
     → Spells 64 256 (all_seen text starts) k → Passed words (all_seen text starts) i s p → length starts ≤ i
-    → (faults_of words k ≡ p.faults) × (program_at p ≡ program_of words k)
+    → (faults_of words k ≡ p.faults) × (program_at p ≡ program_spelled words k)
 all_passed words text starts k i s p spells passed past =
     let done = passed.done in
     let all = pieces 0 (kernel_elements k) in

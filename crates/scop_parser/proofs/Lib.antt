@@ -3,3 +3,4 @@ pub mod Fronts
 pub mod Refusals
 pub mod Worth
 pub mod Feeding
+pub mod Named

@@ -27,7 +27,7 @@ use Rattle.scop_roles.specs.declared.fault.Fault.{Fault}
 use Rattle.scop_roles.specs.Faults.{first, first_of, precedes}
 use Rattle.scop_units.specs.Words.{start_of, words_of, grammar_tokens}
 use Rattle.scop_units.specs.Judging.{faults_of}
-use Rattle.scop_units.specs.Programs.{program_of}
+use Rattle.scop_units.specs.Programs.{program_spelled}
 use Rattle.scop_pass.specs.Machine.{first_state, run, program_at}
 use Rattle.scop_parser.specs.declared.refusal.RefusalKind.{RefusalKind}
 use Rattle.scop_parser.specs.declared.refusal.RefusalKind.TheVariants as refusal
@@ -41,7 +41,7 @@ pub same-pieces : (text : Text) (ts : List Token) (k l : Kernel) → IsText text
 same-pieces text ts k l x y = one_reading 64 256 (grammar_tokens ts) k l x.spells y.spells
 
 pub same-program : (text : Text) (ts : List Token) (k l : Kernel) → IsText text ts k → IsText text ts l
-    → program_of (words_of text ts) k ≡ program_of (words_of text ts) l
+    → program_spelled (words_of text ts) k ≡ program_spelled (words_of text ts) l
 same-program text ts k l x y =
     let words = words_of text ts in
     sym (run-program 64 256 words k x.spells.fits)
@@ -63,7 +63,7 @@ one-program text p q x y =
     let z = subst (λ (ts : List Token). IsText text ts y.kernel) (sym e) y.is_text in
     x.stands
     ∙ (same-program text x.tokens x.kernel y.kernel x.is_text z
-    ∙ (ap (λ (ts : List Token). program_of (words_of text ts) y.kernel) e ∙ sym y.stands))
+    ∙ (ap (λ (ts : List Token). program_spelled (words_of text ts) y.kernel) e ∙ sym y.stands))
 
 -- a front with which no text begins is in front of none
 no-front : (d n : ℕ) (ts front : List Kind) (t : Kind) (rest : List Kind) (k : Kernel) → ts ≡ front ++ t ∷ rest
@@ -128,7 +128,7 @@ by-faults : (text : Text) (ts : List Token) (k : Kernel) (fs : List Fault) (f : 
     → faults_of (words_of text ts) k ≡ fs → first fs ≡ f → Decided text
 by-faults text ts k [] f x e g =
     inl (
-      program_of (words_of text ts) k,
+      program_spelled (words_of text ts) k,
       record { tokens = ts; kernel = k; is_text = x; faultless = e; stands = refl },
     )
 by-faults text ts k (h ∷ fs) (Some f) x e g =

@@ -20,7 +20,7 @@ use Rattle.scop_parser.specs.declared.refusal.RefusalKind.{RefusalKind}
 use Rattle.scop_parser.specs.declared.refusal.RefusalKind.TheVariants as kind
 use Rattle.scop_units.specs.Words.{words_of, grammar_tokens, start_of}
 use Rattle.scop_units.specs.Judging.{faults_of}
-use Rattle.scop_units.specs.Programs.{program_of}
+use Rattle.scop_units.specs.Programs.{program_spelled}
 
 -- the tokens of the text are a kernel of the grammar, with at most 64 brackets open and 256 operators
 pub record IsText (text : Text) (tokens : List Token) (kernel : Kernel) : Type 0 where
@@ -33,7 +33,7 @@ pub record SpellsProgram (text : Text) (program : Program) : Type 0 where
   pub kernel : Kernel
   pub is_text : IsText text tokens kernel
   pub faultless : faults_of (words_of text tokens) kernel ≡ []
-  pub stands : program ≡ program_of (words_of text tokens) kernel
+  pub stands : program ≡ program_spelled (words_of text tokens) kernel
 
 -- the kind of a refusal for a fault of the tokens
 abbrev pub token_kind : FaultKind → RefusalKind

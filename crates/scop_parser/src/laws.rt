@@ -1,14 +1,16 @@
 //! Laws of texts and programs, as contracts of functions that do nothing.
-ghost use Rattle.std.specs.Prelude.{◌≡◌, ◌⊎◌, ℕ};
+ghost use Rattle.std.specs.Prelude.{◌≡◌, ◌⊎◌, ℕ, All};
 ghost use Rattle.scop_lexer.specs.Bytes.{Text};
+ghost use Rattle.scop_lexer.specs.Words.{IsName};
 ghost use Rattle.scop_syntax.specs.Kernel.{IsKernel};
 ghost use Rattle.scop_syntax.specs.Tree.{Program};
-ghost use Rattle.scop_units.specs.Names.{HasDistinctNames};
+ghost use Rattle.scop_units.specs.Names.{HasDistinctNames, header_names};
 ghost use Rattle.scop_parser.specs.declared.refusal.Refusal.{Refusal};
 ghost use Rattle.scop_parser.specs.declared.refusal.RefusalKind.{RefusalKind};
 ghost use Rattle.scop_parser.specs.Spelling.{IsFirstFault, IsRefusedAs, SpellsProgram};
 
-use scop_units::laws::faultless_kernels_are_within_limits;
+use scop_lexer::names_stand_by_themselves;
+use scop_units::laws::{faultless_kernels_are_within_limits, names_are_those_of_tokens};
 
 /// A text spells one program at most.
 pub fn texts_spell_one_program()
@@ -35,10 +37,14 @@ pub fn texts_have_one_first_fault()
         → IsRefusedAs text refusal → IsRefusedAs text other → refusal ≡ other }
 {}
 
-/// The program that a text spells is a kernel within the limits, whose names are distinct.
+/// The program that a text spells is a kernel within the limits. Its names are distinct, and those of its parameters
+/// and arrays are names by themselves, as data lines have them.
 pub fn spelled_programs_are_kernels()
     ensures kernel { (text : Text) (p : Program) → SpellsProgram text p → IsKernel p }
     ensures names { (text : Text) (p : Program) → SpellsProgram text p → HasDistinctNames p }
+    ensures words { (text : Text) (p : Program) → SpellsProgram text p → All IsName (header_names p) }
 {
     faultless_kernels_are_within_limits();
+    names_stand_by_themselves();
+    names_are_those_of_tokens();
 }

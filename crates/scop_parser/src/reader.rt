@@ -182,11 +182,7 @@ fn judged(alloc: Global, words: &Words) -> Result<Kernel, PassStop>
             Ok(()) => {}
         }
     }
-    let kernel = match pass.finish(alloc) {
-        Err(_) => return Err(PassStop::NoMemory),
-        Ok(kernel) => kernel,
-    };
-    Ok(kernel)
+    Ok(pass.finish(alloc)?)
 }
 
 // The kernel that a text's tokens spell.

@@ -11,7 +11,7 @@ use Rattle.scop_units.specs.Units.{kernel_name_faults, declared_over}
 use Rattle.scop_units.specs.Judging.{width, parameter_faults, parameters_faults, declared_faults, items_faults}
 use Rattle.scop_units.specs.Judging.{behind_names, names_end, behind_declared, others_at, declared_at, items_at}
 use Rattle.scop_units.specs.Judging.{first_scope, header_scope, body_scope, faults_of}
-use Rattle.scop_units.specs.Programs.{program_of, arrays_of}
+use Rattle.scop_units.specs.Programs.{program_spelled, arrays_of}
 use Rattle.scop_pass.specs.Machine.{idle, State, expects, completed, first_state, named, run, program_at}
 use Rattle.scop_pass.specs.Machine as machine
 use Rattle.scop_pass.proofs.Pieces.{pieces-append}
@@ -99,7 +99,7 @@ declared-parameters words s at (k ∷ ks) =
 
 -- the program that the pass makes
 pub run-program : (d n : ℕ) (words : Words) (k : Kernel) → KernelFits d n k
-    → program_at (run words first_state (pieces 0 (kernel_elements k))) ≡ program_of words k
+    → program_at (run words first_state (pieces 0 (kernel_elements k))) ≡ program_spelled words k
 run-program d n words k fits =
     let t = at_items words k in
     let ds = arrays_of words k in

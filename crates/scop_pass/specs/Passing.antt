@@ -5,7 +5,7 @@ use Rattle.kernel_grammar.specs.Kernel.{Kernel, KernelFits, kernel_elements, Pie
 use Rattle.scop_syntax.specs.View.{program_of, test_of, tree_of}
 use Rattle.scop_syntax.specs.declared.tree.Kernel.{Kernel as CodeKernel}
 use Rattle.scop_units.specs.Judging.{faults_of, width}
-use Rattle.scop_units.specs.Programs as programs
+use Rattle.scop_units.specs.Programs.{program_spelled}
 use Rattle.scop_roles.specs.declared.fault.Fault.{Fault}
 use Rattle.scop_roles.specs.Faults.{first}
 use Rattle.scop_roles.specs.Formula.{formula_of}
@@ -120,5 +120,5 @@ Takes (Err s) words k seen new = Tells s (faults_of words k)
 
 -- the tree of a kernel that has no faults is its program, or the first fault is told
 abbrev pub Judges : Result CodeKernel Stop → Words → Kernel → Type 0
-Judges (Ok made) words k = (faults_of words k ≡ []) × (program_of made ≡ programs.program_of words k)
+Judges (Ok made) words k = (faults_of words k ≡ []) × (program_of made ≡ program_spelled words k)
 Judges (Err s) words k = Tells s (faults_of words k)

@@ -263,10 +263,8 @@ impl Pass {
         ensures { Comes result (state_of self.new)
             (expects (state_of self.old) (placed (index (formula_of cell) (formula_of formula)))) }
     {
-        match with_subscript(alloc, cell, formula) {
-            Err(_) => Err(Stop::NoMemory),
-            Ok(cell) => self.hold(Hand::Placed(cell)),
-        }
+        let cell = with_subscript(alloc, cell, formula)?;
+        self.hold(Hand::Placed(cell))
     }
 
     // An expression's formula.

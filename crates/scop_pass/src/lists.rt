@@ -11,10 +11,8 @@ use std::alloc::AllocError;
 pub(crate) fn push<T: Drop>(list: &mut Vec<T>, last: T) -> Result<(), AllocError>
     ensures { OnOk result (list.new.items ≡ list.old.items ++ last ∷ []) }
 {
-    match list.push(last) {
-        Err(_) => Err(AllocError),
-        Ok(()) => Ok(()),
-    }
+    list.push(last)?;
+    Ok(())
 }
 
 pub(crate) fn push_tree(trees: &mut Vec<Item>, tree: Item) -> Result<(), AllocError>

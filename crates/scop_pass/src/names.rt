@@ -23,49 +23,27 @@ impl Pass {
     pub(crate) fn named(&mut self, alloc: Global, words: &Words, at: usize) -> Result<(), Stop>
         ensures { Comes result (state_of self.new) (named (words_in words.now) (state_of self.old) at) }
     {
-        match checked(Ok(kernel_name_fault(words, at))) {
-            Err(stop) => return Err(stop),
-            Ok(()) => {}
-        }
-        match copied(alloc, words.spelling(at)) {
-            Err(_) => return Err(Stop::NoMemory),
-            Ok(name) => self.name = name,
-        }
+        checked(Ok(kernel_name_fault(words, at)))?;
+        self.name = copied(alloc, words.spelling(at))?;
         Ok(())
     }
 
     pub(crate) fn numbered(&mut self, alloc: Global, words: &Words, at: usize) -> Result<(), Stop>
         ensures { Comes result (state_of self.new) (numbered (words_in words.now) (state_of self.old) at) }
     {
-        match checked(Ok(number_fault(words, &self.scope, at))) {
-            Err(stop) => return Err(stop),
-            Ok(()) => {}
-        }
-        let name = match copied(alloc, words.spelling(at)) {
-            Err(_) => return Err(Stop::NoMemory),
-            Ok(name) => name,
-        };
-        match push_name(&mut self.scope.parameters, name) {
-            Err(_) => Err(Stop::NoMemory),
-            Ok(()) => Ok(()),
-        }
+        checked(Ok(number_fault(words, &self.scope, at)))?;
+        let name = copied(alloc, words.spelling(at))?;
+        push_name(&mut self.scope.parameters, name)?;
+        Ok(())
     }
 
     pub(crate) fn declared(&mut self, alloc: Global, words: &Words, at: usize) -> Result<(), Stop>
         ensures { Comes result (state_of self.new) (declared (words_in words.now) (state_of self.old) at) }
     {
-        match checked(Ok(name_fault(words, &self.scope, at))) {
-            Err(stop) => return Err(stop),
-            Ok(()) => {}
-        }
-        let name = match copied(alloc, words.spelling(at)) {
-            Err(_) => return Err(Stop::NoMemory),
-            Ok(name) => name,
-        };
-        match self.scope.declare(name) {
-            Err(_) => Err(Stop::NoMemory),
-            Ok(()) => Ok(()),
-        }
+        checked(Ok(name_fault(words, &self.scope, at)))?;
+        let name = copied(alloc, words.spelling(at))?;
+        self.scope.declare(name)?;
+        Ok(())
     }
 
     // An array begins.
@@ -86,10 +64,7 @@ impl Pass {
         ensures { Comes result (state_of self.new) (expects (state_of self.old)
             (machine.extents at (map formula_of extents.items ++ formula_of formula ∷ []))) }
     {
-        match push_formula(&mut extents, formula) {
-            Err(_) => return Err(Stop::NoMemory),
-            Ok(()) => {}
-        }
+        push_formula(&mut extents, formula)?;
         self.keep(Pending::Extents(at, extents));
         Ok(())
     }
@@ -106,14 +81,8 @@ impl Pass {
         ensures { Comes result (state_of self.new)
             (ranked (words_in words.now) (state_of self.old) at (map formula_of extents.now)) }
     {
-        let array = match array_of(alloc, words, &self.scope, at, extents) {
-            Err(_) => return Err(Stop::NoMemory),
-            Ok(array) => array,
-        };
-        match push(&mut self.scope.arrays, array) {
-            Err(_) => return Err(Stop::NoMemory),
-            Ok(()) => {}
-        }
+        let array = array_of(alloc, words, &self.scope, at, extents)?;
+        push(&mut self.scope.arrays, array)?;
         self.keep(Pending::Hand(Hand::Idle));
         Ok(())
     }
@@ -128,10 +97,8 @@ impl Pass {
         ensures { Comes result (state_of self.new)
             (ranked (words_in words.now) (state_of self.old) at (map formula_of extents.now)) }
     {
-        match checked(array_fault(alloc, words, &self.scope, at, extents)) {
-            Err(stop) => Err(stop),
-            Ok(()) => self.rank(alloc, words, at, extents),
-        }
+        checked(array_fault(alloc, words, &self.scope, at, extents))?;
+        self.rank(alloc, words, at, extents)
     }
 
     // A sign behind an array with its extents.
@@ -148,9 +115,7 @@ impl Pass {
             (expects (state_of self.old) (machine.extents name_at (map formula_of extents.now)))
             (state_of self.new) (mark_at mark at) }
     {
-        match self.ranked(alloc, words, name_at, extents) {
-            Err(stop) => Err(stop),
-            Ok(()) => self.idle_step(alloc, words, mark, at),
-        }
+        self.ranked(alloc, words, name_at, extents)?;
+        self.idle_step(alloc, words, mark, at)
     }
 }

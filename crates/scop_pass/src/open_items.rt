@@ -63,25 +63,21 @@ impl Pass {
     {
         match pop_frame(&mut self.frames) {
             None => Ok(false),
-            Some(Frame::Blocks(more)) => match push_frame(&mut self.frames, Frame::Blocks(more)) {
-                Err(_) => Err(AllocError),
-                Ok(()) => Ok(false),
-            },
+            Some(Frame::Blocks(more)) => {
+                push_frame(&mut self.frames, Frame::Blocks(more))?;
+                Ok(false)
+            }
             Some(Frame::Guarded(tests, outer)) => {
                 self.comparisons = self.comparisons.saturating_sub(tests.len());
                 let body = mem::replace(&mut self.trees, outer);
-                match wrap_guard(&mut self.trees, tests, body) {
-                    Err(_) => Err(AllocError),
-                    Ok(()) => Ok(true),
-                }
+                wrap_guard(&mut self.trees, tests, body)?;
+                Ok(true)
             }
             Some(Frame::Looped(head, outer)) => {
                 pop_name(&mut self.scope.open_loops);
                 let body = mem::replace(&mut self.trees, outer);
-                match wrap_loop(&mut self.trees, head, body) {
-                    Err(_) => Err(AllocError),
-                    Ok(()) => Ok(true),
-                }
+                wrap_loop(&mut self.trees, head, body)?;
+                Ok(true)
             }
         }
     }
@@ -92,10 +88,8 @@ impl Pass {
     {
         let count = self.frames.len();
         for _ in 0..count {
-            match self.close() {
-                Err(_) => return Err(AllocError),
-                Ok(false) => return Ok(()),
-                Ok(true) => {}
+            if !self.close()? {
+                return Ok(());
             }
         }
         Ok(())
@@ -105,10 +99,7 @@ impl Pass {
     pub(crate) fn complete(&mut self) -> Result<(), Stop>
         ensures { Comes result (state_of self.new) (complete (state_of self.old)) }
     {
-        match self.close_all() {
-            Err(_) => return Err(Stop::NoMemory),
-            Ok(()) => {}
-        }
+        self.close_all()?;
         self.keep(Pending::Hand(Hand::Idle));
         Ok(())
     }
@@ -130,21 +121,17 @@ impl Pass {
     {
         match pop_frame(&mut self.frames) {
             None => Ok(()),
-            Some(Frame::Blocks(more)) => match self.end_block(more) {
-                Err(_) => Err(Stop::NoMemory),
-                Ok(()) => self.complete(),
-            },
+            Some(Frame::Blocks(more)) => {
+                self.end_block(more)?;
+                self.complete()
+            }
             Some(Frame::Guarded(tests, outer)) => {
-                match push_frame(&mut self.frames, Frame::Guarded(tests, outer)) {
-                    Err(_) => Err(Stop::NoMemory),
-                    Ok(()) => Ok(()),
-                }
+                push_frame(&mut self.frames, Frame::Guarded(tests, outer))?;
+                Ok(())
             }
             Some(Frame::Looped(head, outer)) => {
-                match push_frame(&mut self.frames, Frame::Looped(head, outer)) {
-                    Err(_) => Err(Stop::NoMemory),
-                    Ok(()) => Ok(()),
-                }
+                push_frame(&mut self.frames, Frame::Looped(head, outer))?;
+                Ok(())
             }
         }
     }
@@ -154,10 +141,8 @@ impl Pass {
         ensures { Comes result (state_of self.new)
             (record (state_of self.old) { frames = machine.block ∷ (state_of self.old).frames }) }
     {
-        match push_block(&mut self.frames) {
-            Err(_) => Err(Stop::NoMemory),
-            Ok(()) => Ok(()),
-        }
+        push_block(&mut self.frames)?;
+        Ok(())
     }
 
     // A condition without faults.
@@ -166,19 +151,10 @@ impl Pass {
         ensures { Comes result (state_of self.new) (guard_opened (state_of self.old) (formula_of condition.now)) }
     {
         let mut tests = Vec::new(alloc);
-        match push_tests(alloc, condition, self.scope.entries(), &mut tests) {
-            Err(_) => return Err(Stop::NoMemory),
-            Ok(()) => {}
-        }
-        match raised(self.comparisons, tests.len()) {
-            Err(_) => return Err(Stop::NoMemory),
-            Ok(sum) => self.comparisons = sum,
-        }
+        push_tests(alloc, condition, self.scope.entries(), &mut tests)?;
+        self.comparisons = raised(self.comparisons, tests.len())?;
         let outer = mem::replace(&mut self.trees, Vec::new(alloc));
-        match push_frame(&mut self.frames, Frame::Guarded(tests, outer)) {
-            Err(_) => return Err(Stop::NoMemory),
-            Ok(()) => {}
-        }
+        push_frame(&mut self.frames, Frame::Guarded(tests, outer))?;
         self.keep(Pending::Hand(Hand::Idle));
         Ok(())
     }
@@ -186,10 +162,8 @@ impl Pass {
     pub(crate) fn guarded(&mut self, alloc: Global, condition: &Formula) -> Result<(), Stop>
         ensures { Comes result (state_of self.new) (guard_opened (state_of self.old) (formula_of condition.now)) }
     {
-        match checked(fault(alloc, condition, self.scope.entries(), Role::Condition)) {
-            Err(stop) => Err(stop),
-            Ok(()) => self.guard(alloc, condition),
-        }
+        checked(fault(alloc, condition, self.scope.entries(), Role::Condition))?;
+        self.guard(alloc, condition)
     }
 
     // A loop's head without faults.
@@ -198,23 +172,11 @@ impl Pass {
         requires clean { loop_faults (scope_of self.old.scope) (head_of head.now) ≡ [] }
         ensures { Comes result (state_of self.new) (loop_opened (state_of self.old) (head_of head.now)) }
     {
-        let name = match copied(alloc, head.iterator) {
-            Err(_) => return Err(Stop::NoMemory),
-            Ok(name) => name,
-        };
-        let looped = match loop_of(alloc, &self.scope, head) {
-            Err(_) => return Err(Stop::NoMemory),
-            Ok(looped) => looped,
-        };
+        let name = copied(alloc, head.iterator)?;
+        let looped = loop_of(alloc, &self.scope, head)?;
         let outer = mem::replace(&mut self.trees, Vec::new(alloc));
-        match push_frame(&mut self.frames, Frame::Looped(looped, outer)) {
-            Err(_) => return Err(Stop::NoMemory),
-            Ok(()) => {}
-        }
-        match push_name(&mut self.scope.open_loops, name) {
-            Err(_) => return Err(Stop::NoMemory),
-            Ok(()) => {}
-        }
+        push_frame(&mut self.frames, Frame::Looped(looped, outer))?;
+        push_name(&mut self.scope.open_loops, name)?;
         self.keep(Pending::Hand(Hand::Idle));
         Ok(())
     }
@@ -225,10 +187,8 @@ impl Pass {
         if MOST_NAMES <= self.scope.entries() {
             return Err(Stop::NoMemory);
         }
-        match checked(loop_fault(alloc, &self.scope, head)) {
-            Err(stop) => Err(stop),
-            Ok(()) => self.open_loop(alloc, head),
-        }
+        checked(loop_fault(alloc, &self.scope, head))?;
+        self.open_loop(alloc, head)
     }
 
     // A head with its last part; the step changes the name at a place.
@@ -274,18 +234,9 @@ impl Pass {
             (stored_of stored.now) ≡ [] }
         ensures { Comes result (state_of self.new) (stated (state_of self.old) (stored_of stored.now)) }
     {
-        let statement = match statement_of(alloc, self.scope.entries(), stored) {
-            Err(_) => return Err(Stop::NoMemory),
-            Ok(statement) => statement,
-        };
-        match push_tree(&mut self.trees, Item::Stmt(statement)) {
-            Err(_) => return Err(Stop::NoMemory),
-            Ok(()) => {}
-        }
-        match raised(self.before, 1) {
-            Err(_) => return Err(Stop::NoMemory),
-            Ok(sum) => self.before = sum,
-        }
+        let statement = statement_of(alloc, self.scope.entries(), stored)?;
+        push_tree(&mut self.trees, Item::Stmt(statement))?;
+        self.before = raised(self.before, 1)?;
         Ok(())
     }
 
@@ -293,10 +244,8 @@ impl Pass {
         ensures { Comes result (state_of self.new) (stated (state_of self.old) (stored_of stored.now)) }
     {
         let entries = self.scope.entries();
-        match checked(statement_fault(alloc, entries, self.comparisons, self.before, stored)) {
-            Err(stop) => Err(stop),
-            Ok(()) => self.state(alloc, stored),
-        }
+        checked(statement_fault(alloc, entries, self.comparisons, self.before, stored))?;
+        self.state(alloc, stored)
     }
 
     // A statement, and what it completes.
@@ -304,9 +253,7 @@ impl Pass {
         ensures { Comes result (state_of self.new)
             (complete (stated (state_of self.old) (stored_of stored.now))) }
     {
-        match self.stated(alloc, stored) {
-            Err(stop) => Err(stop),
-            Ok(()) => self.complete(),
-        }
+        self.stated(alloc, stored)?;
+        self.complete()
     }
 }

@@ -11,6 +11,7 @@ ghost use Rattle.scop_roles.specs.declared.fault.Fault.{Fault};
 ghost use Rattle.scop_roles.specs.Faults.{first};
 ghost use Rattle.scop_roles.specs.Formula.{formula_of};
 ghost use Rattle.scop_roles.specs.Resolving.{IsWritten};
+ghost use Rattle.scop_pass.specs.declared.pass.Stop.TheVariants as stop;
 ghost use Rattle.scop_pass.specs.Machine.{expects, first_state, formula_of_nodes, formula_step, program_at, run, step};
 ghost use Rattle.scop_pass.specs.Passing.{Clears, ComeNext, Comes, IsWhole, Steps, Takes, pending_of, state_of};
 ghost use Rattle.scop_units.specs.Scopes.{look};
@@ -36,6 +37,14 @@ use std::{fmt, mem};
 pub enum Stop {
     Refused(Fault),
     NoMemory,
+}
+
+impl From<AllocError> for Stop {
+    ghost from_gives = { λ _ s. s ≡ stop.NoMemory };
+
+    fn from(_: AllocError) -> Stop {
+        Stop::NoMemory
+    }
 }
 
 /// The pass.
@@ -83,15 +92,13 @@ fn kernel_of(
 {
     let parameters = scope.parameters;
     let arrays = scope.arrays;
-    match all_over(alloc, &arrays, parameters.len()) {
-        Err(_) => Err(AllocError),
-        Ok(arrays) => Ok(Kernel {
-            name,
-            parameters,
-            arrays,
-            items,
-        }),
-    }
+    let arrays = all_over(alloc, &arrays, parameters.len())?;
+    Ok(Kernel {
+        name,
+        parameters,
+        arrays,
+        items,
+    })
 }
 
 impl Pass {
@@ -212,10 +219,7 @@ impl Pass {
         passes_may_stop_at_a_fault();
         passes_may_stop_at_an_array();
         for part in parts {
-            match self.step(alloc, words, part) {
-                Err(stop) => return Err(stop),
-                Ok(()) => {}
-            }
+            self.step(alloc, words, part)?;
         }
         Ok(())
     }

@@ -25,7 +25,7 @@ use Rattle.scop_units.specs.Units.{name_faults, extent_faults, array_of, padded,
 use Rattle.scop_units.specs.Judging.{width, extents_in, parameter_faults, behind_parameter, parameters_faults}
 use Rattle.scop_units.specs.Judging.{behind_parameters, behind_names, names_end, declared_faults, behind_declared}
 use Rattle.scop_units.specs.Judging.{others_at, declared_at, items_at, first_scope, header_scope, body_scope, faults_of}
-use Rattle.scop_units.specs.Programs.{array_in, arrays_in, arrays_of, all_trees, program_of}
+use Rattle.scop_units.specs.Programs.{array_in, arrays_in, arrays_of, all_trees, program_spelled}
 use Rattle.scop_units.proofs.Standing.{RoleLaws, parts_none, fewer, at_most}
 use Rattle.scop_units.proofs.Nested.{ranks_in, items_stand, stand_trees, items_few, items_count}
 
@@ -245,7 +245,7 @@ trees_same ranks rs n m l c ts a b d e h =
     (subst (λ (x : ℕ). AreTrees ranks n (5 - l) x (trees_of ts)) rest h)))
 
 pub kernel_stands : (laws : RoleLaws) (words : Words) (k : Kernel) → HasWorth words → faults_of words k ≡ []
-    → IsKernel (program_of words k)
+    → IsKernel (program_spelled words k)
 kernel_stands laws words k worth e =
     let s = first_scope words k in
     let header = header_scope words k in
@@ -264,7 +264,7 @@ kernel_stands laws words k worth e =
     let none = ap length (keeps.2 ∙ all.loops) in
     let same = ap length keeps.0 in
     let over : entries body ≡ n = omega (arith, none, same) in
-    let ranks : ranks_in body ≡ ranks_of (program_of words k) =
+    let ranks : ranks_in body ≡ ranks_of (program_spelled words k) =
     ap (λ (xs : List Ranked). map (λ (x : Ranked). x.rank) xs) keeps.1 ∙ (all.ranks ∙ sym (ranks_over n ds)) in
     let stand = items_stand laws words worth body 0 0 (items_at k) k.items inner.1 in
     let few = items_few laws words worth body 0 0 (items_at k) k.items inner.1 (omega arith) in
@@ -280,6 +280,7 @@ kernel_stands laws words k worth e =
       few_statements = omega (arith, few, count);
       declarations = rows_all n 0 ds all.rows;
       in_order = rows_sorted n 0 n ds all.rows;
-      body = trees_same (ranks_in body) (ranks_of (program_of words k)) (entries body) n (length body.open_loops) 0 ts
+      body = trees_same (ranks_in body) (ranks_of (program_spelled words k)) (entries body) n (length body.open_loops)
+          0 ts
           ranks over none refl (stand_trees (ranks_in body) (entries body) (length body.open_loops) 0 ts stand);
     }

@@ -10,3 +10,4 @@ pub mod Nested
 pub mod Declaring
 pub mod Fresh
 pub mod Names
+pub mod Spelled

@@ -24,7 +24,7 @@ use Rattle.scop_units.specs.Judging.{item_faults, items_faults, parameter_faults
 use Rattle.scop_units.specs.Judging.{behind_parameters, declared_faults, others_at, declared_at, items_at, first_scope}
 use Rattle.scop_units.specs.Judging.{header_scope, body_scope, faults_of}
 use Rattle.scop_units.specs.Programs as programs
-use Rattle.scop_units.specs.Programs.{headed_by, wrapped, item_trees, all_trees, arrays_in, arrays_of, program_of}
+use Rattle.scop_units.specs.Programs.{headed_by, wrapped, item_trees, all_trees, arrays_in, arrays_of, program_spelled}
 use Rattle.scop_units.specs.Names.{AreDistinct, TakeFresh, header_names, HasDistinctNames}
 use Rattle.scop_units.proofs.Standing.{parts_none, judged_none, told_none}
 use Rattle.scop_units.proofs.Declaring.{changes_nothing}
@@ -188,7 +188,7 @@ parameters_loops words s at (p ∷ ps) =
     ∙ parameter_loops words s (at + 1) p
 
 -- the program of a kernel without faults has distinct names
-pub names_stand : (words : Words) (k : Kernel) → faults_of words k ≡ [] → HasDistinctNames (program_of words k)
+pub names_stand : (words : Words) (k : Kernel) → faults_of words k ≡ [] → HasDistinctNames (program_spelled words k)
 names_stand words k e =
     let s = first_scope words k in
     let header = header_scope words k in
@@ -213,7 +213,7 @@ names_stand words k e =
     ∙ sym (over_names n ds))) in
     let loops : body.open_loops ≡ [] =
     keeps.2 ∙ (parameters_loops words s (others_at k) k.others ∙ parameter_loops words no_scope 3 k.first) in
-    let same : taken_names body ≡ header_names (program_of words k) =
+    let same : taken_names body ≡ header_names (program_spelled words k) =
     ap (λ (ls : List Text). (body.parameters ++ array_names body.arrays) ++ ls) loops
     ∙ (append-nil (body.parameters ++ array_names body.arrays)
     ∙ (ap (λ (ps : List Text). ps ++ array_names body.arrays) keeps.0

@@ -1,9 +1,13 @@
 -- No name is declared where it is in scope already: parameters and arrays of a program have names of their own, and the
 -- iterator of a loop another than they and the loops round it.
-use Rattle.std.specs.Prelude.{◌≢◌, List, [], ◌∷◌, ◌++◌, map, ⊤}
+use Rattle.std.specs.Prelude.{◌≡◌, ◌≢◌, ℕ, List, [], ◌∷◌, ◌++◌, map, slice_get, Some, ⊤}
 use Rattle.scop_lexer.specs.Bytes.{Text}
+use Rattle.scop_lexer.specs.Words.{IsName}
+use Rattle.expression_grammar.specs.declared.token.Token.{Token}
+use Rattle.expression_grammar.specs.declared.token.Token.TheVariants.{Name}
 use Rattle.scop_syntax.specs.Members.{In, Sorted}
 use Rattle.scop_syntax.specs.Tree.{Tree, loop, guard, statement, Trees, none, more, Declaration, Program}
+use Rattle.scop_units.specs.Words.{Words}
 
 -- no two of the names are the same
 abbrev pub AreDistinct : List Text → Type 0
@@ -29,3 +33,7 @@ header_names program = program.parameters ++ map (λ (d : Declaration). d.name) 
 pub record HasDistinctNames (program : Program) : Type 0 where
   pub header : AreDistinct (header_names program)
   pub loops : TakeFresh (header_names program) program.body
+
+-- where the tokens have a name, the words spell one
+abbrev pub SpellNames : Words → List Token → Type 0
+SpellNames words ts = (at : ℕ) → slice_get ts at ≡ Some Name → IsName (words.spelling at)

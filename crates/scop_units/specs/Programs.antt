@@ -58,9 +58,9 @@ abbrev pub arrays_of : Words → Kernel → List Declaration
 arrays_of words k =
     array_in words no_scope 3 k.first ++ arrays_in words (first_scope words k) (others_at k) k.others
 
--- the program of a kernel
-abbrev pub program_of : Words → Kernel → Program
-program_of words k =
+-- the program that a kernel's text spells
+abbrev pub program_spelled : Words → Kernel → Program
+program_spelled words k =
     record {
       name = words.spelling 1;
       parameters = (header_scope words k).parameters;

@@ -327,7 +327,7 @@ fn condition_form(alloc: Global, entry: usize, condition: &Formula) -> Result<Af
     match tests.pop() {
         Some(Test::AtLeast(form)) => Ok(form),
         Some(Test::Equal(form)) => Ok(form),
-        None => Err(AllocError),
+        None => unreachable!(),
     }
 }
 

@@ -18,18 +18,9 @@ fn zeros(alloc: Global, count: usize) -> Result<Vec<i64>, AllocError>
 fn padded(alloc: Global, form: &Aff, count: usize) -> Result<Aff, AllocError>
     ensures { IfOk result (λ f. f ≡ padded count form.now) }
 {
-    let mut coefficients = match Vec::from_slice(alloc, &form.coefficients) {
-        Err(_) => return Err(AllocError),
-        Ok(coefficients) => coefficients,
-    };
-    let zeros = match zeros(alloc, count.saturating_sub(coefficients.len())) {
-        Err(_) => return Err(AllocError),
-        Ok(zeros) => zeros,
-    };
-    match coefficients.extend_from_slice(&zeros) {
-        Err(_) => return Err(AllocError),
-        Ok(()) => {}
-    }
+    let mut coefficients = Vec::from_slice(alloc, &form.coefficients)?;
+    let zeros = zeros(alloc, count.saturating_sub(coefficients.len()))?;
+    coefficients.extend_from_slice(&zeros)?;
     Ok(Aff {
         coefficients,
         constant: form.constant,
@@ -41,14 +32,8 @@ fn padded_all(alloc: Global, forms: &[Aff], count: usize) -> Result<Vec<Aff>, Al
 {
     let mut made = Vec::new(alloc);
     for form in forms {
-        let next = match padded(alloc, form, count) {
-            Err(_) => return Err(AllocError),
-            Ok(next) => next,
-        };
-        match made.push(next) {
-            Err(_) => return Err(AllocError),
-            Ok(()) => {}
-        }
+        let next = padded(alloc, form, count)?;
+        made.push(next)?;
     }
     Ok(made)
 }
@@ -57,18 +42,11 @@ fn padded_all(alloc: Global, forms: &[Aff], count: usize) -> Result<Vec<Aff>, Al
 fn declared_over(alloc: Global, array: &Array, count: usize) -> Result<Array, AllocError>
     ensures { IfOk result (λ a. a ≡ declared_over count array.now) }
 {
-    let name = match copied(alloc, &array.name) {
-        Err(_) => return Err(AllocError),
-        Ok(name) => name,
-    };
-    match padded_all(alloc, &array.extents, count) {
-        Err(_) => Err(AllocError),
-        Ok(extents) => Ok(Array {
-            name,
-            parameters_before: array.parameters_before,
-            extents,
-        }),
-    }
+    Ok(Array {
+        name: copied(alloc, &array.name)?,
+        parameters_before: array.parameters_before,
+        extents: padded_all(alloc, &array.extents, count)?,
+    })
 }
 
 /// The arrays with their extents over so many parameters.
@@ -77,14 +55,8 @@ pub fn all_over(alloc: Global, arrays: &[Array], count: usize) -> Result<Vec<Arr
 {
     let mut made = Vec::new(alloc);
     for array in arrays {
-        let next = match declared_over(alloc, array, count) {
-            Err(_) => return Err(AllocError),
-            Ok(next) => next,
-        };
-        match made.push(next) {
-            Err(_) => return Err(AllocError),
-            Ok(()) => {}
-        }
+        let next = declared_over(alloc, array, count)?;
+        made.push(next)?;
     }
     Ok(made)
 }

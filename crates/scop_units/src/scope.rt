@@ -64,10 +64,7 @@ pub(crate) fn is_reserved(word: &[u8]) -> bool
 pub fn copied(alloc: Global, word: &[u8]) -> Result<Name, AllocError>
     ensures { IfOk result (λ name. name.items ≡ word.now) }
 {
-    match Vec::from_slice(alloc, word) {
-        Err(_) => Err(AllocError),
-        Ok(name) => Ok(name),
-    }
+    Vec::from_slice(alloc, word)
 }
 
 impl Scope {
@@ -105,10 +102,7 @@ impl Scope {
         ensures scope { OnOk result (scope_of self.new ≡ with_iterator (scope_of self.old) name.items) }
         ensures arrays { self.new.arrays ≡ self.old.arrays }
     {
-        match self.declared.insert(name) {
-            Err(_) => return Err(AllocError),
-            Ok(_) => {}
-        }
+        self.declared.insert(name)?;
         Ok(())
     }
 

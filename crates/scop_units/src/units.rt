@@ -140,10 +140,7 @@ pub fn array_of(
 {
     let mut forms = Vec::new(alloc);
     for extent in extents {
-        match forms.push(form(alloc, extent, scope.entries())?) {
-            Err(_) => return Err(AllocError),
-            Ok(()) => {}
-        }
+        forms.push(form(alloc, extent, scope.entries())?)?;
     }
     Ok(Array {
         name: copied(alloc, words.spelling(at))?,
@@ -221,10 +218,7 @@ fn read_fault(alloc: Global, stored: &Stored) -> Result<Option<Fault>, AllocErro
     let mut places = Vec::new(alloc);
     match stored.assign {
         Assign::Set => {}
-        _ => match places.push(place(&stored.cell)) {
-            Err(_) => return Err(AllocError),
-            Ok(()) => {}
-        },
+        _ => places.push(place(&stored.cell))?,
     }
     push_read_places(&stored.value, &mut places)?;
     match places.get(MOST_READS) {

@@ -77,4 +77,4 @@ returns c k spells =
     let all =
     all_passed (words_in words) words.text.now words.starts.now k l.start-index l.reader (state_of l.pass) spells
     l.invariant c.loop-start-test.false in
-    (all.0, c.in-Ok-finish.ensures ∙ all.1)
+    (all.0, c.in_ok-finish.ensures ∙ all.1)

@@ -22,4 +22,4 @@ loop-extent-preserved c =
     let step = forms_step n c.loop-extent.extent-index c.args.extents.now c.extent-item.result
     c.loop-extent.forms.items (map (form n) (map formula_of c.args.extents.now)) c.in_ok-form.field-0
     c.loop-extent-test.true c.extent-item.is made c.loop-extent.invariant.forms in
-    record { forms = rw c.in-Ok.ensures.items step; clean = clean.1 }
+    record { forms = rw c.in_ok-push.ensures.items step; clean = clean.1 }

@@ -8,8 +8,8 @@ use Rattle.scop_units.specs.Programs.{wrapped}
 use Rattle.scop_pass.proofs.Closing.{close_guard, close_loop}
 use Rattle.scop_pass.proofs.pass.Pass.close.Goals as goal
 
-pub returns-in-Ok-wrap_guard-clause-state : goal.returns-in-Ok-wrap_guard-clause-state
-returns-in-Ok-wrap_guard-clause-state c =
+pub returns-in_ok-wrap_guard-in-Some-Guarded-clause-state : goal.returns-in_ok-wrap_guard-in-Some-Guarded-clause-state
+returns-in_ok-wrap_guard-in-Some-Guarded-clause-state c =
     let old = state_of c.args.self.now in
     let ts = map test_of c.in-Some-Guarded.tests.items in
     let outer = map tree_of c.in-Some-Guarded.outer.items in
@@ -22,8 +22,8 @@ returns-in-Ok-wrap_guard-clause-state c =
     let grown : trees ≡ outer ++ wrapped (scop.guard ts) old.trees = search rules in
     close_guard old ts outer trees fs c.saturating_sub-self.result is counts grown
 
-pub returns-in-Ok-wrap_loop-clause-state : goal.returns-in-Ok-wrap_loop-clause-state
-returns-in-Ok-wrap_loop-clause-state c =
+pub returns-in_ok-wrap_loop-in-Some-Looped-clause-state : goal.returns-in_ok-wrap_loop-in-Some-Looped-clause-state
+returns-in_ok-wrap_loop-in-Some-Looped-clause-state c =
     let old = state_of c.args.self.now in
     let outer = map tree_of c.in-Some-Looped.outer.items in
     let fs = frames_of c.pop_frame.new.frames.items in

@@ -8,4 +8,4 @@ pub guard-requires : goal.guard-requires
 guard-requires c =
     let f = formula_of c.args.condition.now in
     subst (λ n. faults n role.Condition f ≡ []) c.entries.ensures
-    (c.in-Ok.ensures (faults c.entries.result role.Condition f) c.fault.ensures)
+    (c.in_ok-checked.ensures (faults c.entries.result role.Condition f) c.fault.ensures)

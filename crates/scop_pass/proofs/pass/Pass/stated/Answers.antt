@@ -9,4 +9,4 @@ state-requires c =
     let n = c.args.self.now.comparisons in
     let k = c.args.self.now.before in
     subst (λ e. statement_faults e n k s ≡ []) c.entries-entries.ensures
-    (c.in-Ok.ensures (statement_faults c.entries-entries.result n k s) c.statement_fault.ensures)
+    (c.in_ok-checked.ensures (statement_faults c.entries-entries.result n k s) c.statement_fault.ensures)

@@ -1,5 +1,6 @@
 use Rattle.std.proofs.Common.{rules, ◌+◌, ◌≤◌, ◌++◌, List, length, take, drop, sym, ap, ◌∙◌}
 use Rattle.std.proofs.lemmas.List.{take_all}
+use Rattle.std.proofs.lemmas.Result.{err_from_is_err_and}
 use Rattle.kernel_grammar.specs.declared.part.Part.{Part}
 use Rattle.kernel_grammar.specs.Kernel.{kernel_elements, pieces}
 use Rattle.kernel_grammar.specs.Turns.{piece_of, pieces_of}
@@ -14,24 +15,26 @@ step-requires c =
     part_whole (words_in c.args.words.now) (state_of c.args.self.now) c.args.parts.now c.loop-part.part-index
     c.part-item.result c.requires c.loop-part-test.true c.part-item.is
 
-pub returns-in-Err : goal.returns-in-Err
-returns-in-Err c k front rest fits is so =
+pub returns-in_err-step : goal.returns-in_err-step
+returns-in_err-step c k front rest fits is so =
     let words = words_in c.args.words.now in
     let parts = c.args.parts.now in
     let i = c.loop-part.part-index in
     let x = c.part-item.result in
     let before = pieces_of (take i parts) in
-    stop_tells c.passes_may_stop_at_a_fault.ensures c.passes_may_stop_at_an_array.ensures words k (front ++ before)
-    (pieces_of (drop (i + 1) parts) ++ rest) (piece_of x) (state_of c.loop-part.self) c.in-Err.stop fits
+    let told = err_from_is_err_and c.from_residual.result c.from_residual.ensures.1 in
+    rw (told.1, told.2)
+    (stop_tells c.passes_may_stop_at_a_fault.ensures c.passes_may_stop_at_an_array.ensures words k (front ++ before)
+    (pieces_of (drop (i + 1) parts) ++ rest) (piece_of x) (state_of c.loop-part.self) _ fits
     (split_at (pieces 0 (kernel_elements k)) front rest parts i x is c.loop-part-test.true c.part-item.is)
     (run_on words front before (state_of c.args.self.now) (state_of c.loop-part.self) so c.loop-part.invariant)
-    c.in-Err.ensures
+    c.in_err-step.ensures)
 
 pub loop-part-preserved : goal.loop-part-preserved
 loop-part-preserved c =
     part_run (words_in c.args.words.now) (state_of c.args.self.now) c.args.parts.now c.loop-part.part-index
     c.part-item.result (state_of c.loop-part.self) (state_of c.step.new.self) c.loop-part-test.true c.part-item.is
-    c.loop-part.invariant c.in-Ok.ensures
+    c.loop-part.invariant c.in_ok-step.ensures
 
 pub returns : goal.returns
 returns c k front rest fits is so =

@@ -1,12 +1,13 @@
-use Rattle.std.proofs.Common.{List, subst, sym}
-use Rattle.scop_roles.specs.declared.fault.Fault.{Fault}
-use Rattle.scop_pass.specs.Machine.{stated}
-use Rattle.scop_pass.specs.Passing.{Tells, state_of}
+use Rattle.std.proofs.Common.{[]}
+use Rattle.std.proofs.lemmas.Result.{err_from_is_err_and}
+use Rattle.scop_pass.specs.Machine.{idle, stated}
+use Rattle.scop_pass.specs.Passing.{state_of}
 use Rattle.scop_units.specs.View.{stored_of}
 use Rattle.scop_pass.proofs.Closing.{unwound_faults}
 use Rattle.scop_pass.proofs.pass.Pass.valued.Goals as goal
 
-pub returns-in-Err : goal.returns-in-Err
-returns-in-Err c =
+pub returns-in_err-stated : goal.returns-in_err-stated
+returns-in_err-stated c =
     let s = stated (state_of c.args.self.now) (stored_of c.args.stored.now) in
-    subst (λ (fs : List Fault). Tells c.in-Err.stop fs) (sym (unwound_faults s.frames _)) c.in-Err.ensures
+    let told = err_from_is_err_and c.from_residual.result c.from_residual.ensures.1 in
+    rw (told.1, told.2, unwound_faults s.frames (record s { frames = []; pending = idle })) c.in_err-stated.ensures

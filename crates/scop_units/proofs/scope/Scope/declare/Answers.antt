@@ -8,4 +8,4 @@ pub returns-clause-scope : goal.returns-clause-scope
 returns-clause-scope c =
     let old = c.args.self.now in
     ap (λ (d : Text → Bool). record (scope_of old) { declared = d })
-    (among_inserted (λ n. n.items) c.args.name old.declared.keys c.insert.new.self.keys c.in-Ok.ensures.keys)
+    (among_inserted (λ n. n.items) c.args.name old.declared.keys c.insert.new.self.keys c.in_ok-insert.ensures.keys)
