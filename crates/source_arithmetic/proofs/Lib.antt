@@ -1,0 +1,11 @@
+pub mod Wholes
+pub mod Conditions
+pub mod Signs
+pub mod Places
+pub mod Words
+pub mod Commas
+pub mod Extents
+pub mod Storing
+pub mod Loops
+pub mod Iterators
+pub mod Defined
