@@ -12,7 +12,7 @@ use Rattle.scop_syntax.specs.Tree.{Program}
 use Rattle.data_lines.specs.declared.places.Place.{Place}
 use Rattle.data_lines.specs.declared.places.Place.TheVariants.{Nowhere, Parameter, Array}
 use Rattle.data_lines.specs.declared.refusal.DataRefusal.{DataRefusal}
-use Rattle.data_lines.specs.declared.refusal.DataRefusal.TheVariants.{Line, Repeated, Number}
+use Rattle.data_lines.specs.declared.refusal.DataRefusal.TheVariants.{Line, UnknownName, Repeated, Number}
 use Rattle.data_lines.specs.declared.refusal.DataRefusal.TheVariants.{ParameterRange}
 use Rattle.data_lines.specs.Words.{lines_of, unindented, words_of}
 use Rattle.data_lines.specs.Heads.{named_list}
@@ -21,11 +21,12 @@ use Rattle.data_lines.specs.Sheets.{Given, nothing, listed, seeded, Sheet, empty
 use Rattle.data_lines.specs.Entries.{is_given, is_seed, list_said, row_said, seed_of_number, seed_said, sheet_said}
 use Rattle.data_lines.specs.Entries.{value_of_number, value_said, with_line, with_lines, with_list, with_row, with_text}
 use Rattle.data_lines.specs.Entries.{with_value, with_words, written_at}
-use Rattle.data_lines.specs.Naming.{AreLines, Breaks, Holds, HoldsRow, HoldsValue, IsBlank}
-use Rattle.data_lines.specs.Naming.{IsUnnamed, IsValue, Lists, Names}
-use Rattle.data_lines.specs.Naming.{at, line_of, numerals, takes}
+use Rattle.data_lines.specs.Naming.{AreInOrder, AreLines, Breaks, Holds, HoldsRow, HoldsValue, IsBlank, IsFirstBroken}
+use Rattle.data_lines.specs.Naming.{IsInOrder, IsRepeated, IsUnnamed, IsValue, KeepsForm, KeepsLesser, Lists, Names}
+use Rattle.data_lines.specs.Naming.{at, line_of, line_told, numerals, takes}
 use Rattle.data_lines.proofs.NamingLemmas.{array_within, blank_lists, cons_not_nil, numerals_all}
-use Rattle.data_lines.proofs.NamingLemmas.{numerals_behind, parameter_within, same_line, some_not_none}
+use Rattle.data_lines.proofs.NamingLemmas.{numerals_behind, parameter_within, same_line, some_not_none, true_not_false}
+use Rattle.data_lines.proofs.OrderLemmas.{all_in_order, line_in_order, none_again}
 
 -- a line is met behind others, which the sheet holds, among all lines
 record Spot : Type 0 where
@@ -42,6 +43,7 @@ record Spot : Type 0 where
   here : all k ≡ line
   front : (n : ℕ) (place : Place) (words : List Text) → Lists program place words (old n)
       → (n < k) × Lists program place words (all n)
+  before : (n : ℕ) → n < k → all n ≡ old n
   holds : Holds program old sheet
 
 abbrev ListsAt : Spot → Place → List Text → Type 0
@@ -54,7 +56,7 @@ IsOther s place = (words : List Text) → ListsAt s place words → ⊥
 -- what the line leaves
 abbrev Leaves : Spot → Result Sheet DataRefusal → Type 0
 Leaves s (Ok sheet) = Holds s.program s.new sheet
-Leaves s (Err refusal) = Breaks s.program s.all refusal
+Leaves s (Err refusal) = IsFirstBroken s.program s.all refusal
 
 -- a line among the new ones is this line or an old one
 lists_before : (s : Spot) (n : ℕ) (place : Place) (words : List Text) → Lists s.program place words (s.old n)
@@ -219,78 +221,148 @@ row_holds s j given words lists unnamed is = record {
       (λ l same. subst (λ n. HoldsRow s.program n s.new given) (sym same) is);
 }
 
--- a line with words that its place does not take
+-- the lines before this one break no rule
+line_before : (s : Spot) (n : ℕ) → n < s.k → IsInOrder s.program (s.all n)
+line_before s n within = subst (IsInOrder s.program) (sym (s.before n within))
+    (line_in_order s.program s.old s.sheet n s.holds)
+
+apart_before : (s : Spot) (n : ℕ) → n < s.k → IsRepeated s.program s.all n → ⊥
+apart_before s n within is = none_again s.program s.old n s.holds.lines_are (record {
+  earlier = is.earlier;
+  place = is.place;
+  known = is.known;
+  before = is.before;
+  first = subst (Names s.program is.place) (s.before is.earlier (omega (arith, within, is.before))) is.first;
+  second = subst (Names s.program is.place) (s.before n within) is.second;
+})
+
+-- so the first rule that it breaks is told
+told_here : (s : Spot) (refusal : DataRefusal) → line_told refusal ≡ s.k → Breaks s.program s.all refusal
+    → KeepsLesser s.program s.all refusal → Leaves s (Err refusal)
+told_here s refusal here broken lesser = record {
+  broken = broken;
+  lesser = lesser;
+  before = record {
+    each = λ n within. line_before s n (omega (arith, within, here));
+    apart = λ n within. apart_before s n (omega (arith, within, here));
+  };
+}
+
+-- what no old line names is not named again
+not_again : (s : Spot) (place : Place) (words : List Text) → ListsAt s place words
+    → IsUnnamed s.program place s.old → IsRepeated s.program s.all s.k → ⊥
+not_again s place words lists unnamed is =
+    let same = same_line s.program is.place place is.second.0 words (s.all s.k) is.second.1
+    (lists_all s place words lists) in
+    unnamed is.earlier is.first.0 (subst (λ p. Lists s.program p is.first.0 (s.old is.earlier)) same.0
+    (subst (Lists s.program is.place is.first.0) (s.before is.earlier is.before) is.first.1))
+
+-- a line with other words than its place takes
 formless : (s : Spot) (place : Place) (words : List Text) → ListsAt s place words → takes place words ≡ false
-    → Leaves s (Err (Line s.k))
-formless s place words lists none = record {
+    → KeepsLesser s.program s.all (Line s.k) → Leaves s (Err (Line s.k))
+formless s place words lists none lesser = told_here s (Line s.k) refl (record {
   marked = λ blank. blank_lists s.program place words (s.all s.k) blank (lists_all s place words lists);
   formless = λ other others there.
       let same = same_line s.program place other words others (s.all s.k) (lists_all s place words lists) there in
       sym (ap₂ takes same.0 same.1) ∙ none;
-}
+}) lesser
+
+unfit : (s : Spot) (place : Place) (words : List Text) → ListsAt s place words → IsUnnamed s.program place s.old
+    → takes place words ≡ false → Leaves s (Err (Line s.k))
+unfit s place words lists unnamed none =
+    formless s place words lists none (λ again. absurd (not_again s place words lists unnamed again))
+
+wordless : (s : Spot) (place : Place) → ListsAt s place [] → takes place [] ≡ false → Leaves s (Err (Line s.k))
+wordless s place lists none = formless s place [] lists none (λ again. record {
+  marked = λ blank. blank_lists s.program place [] (s.all s.k) blank (lists_all s place [] lists);
+  wordless = λ other others there.
+      sym (same_line s.program place other [] others (s.all s.k) (lists_all s place [] lists) there).1;
+})
 
 -- a line that names what an old line names
-repeated : (s : Spot) (place : Place) (words : List Text) → (place ≡ Nowhere → ⊥) → ListsAt s place words
-    → (n : ℕ) (others : List Text) → Lists s.program place others (s.old n) → Leaves s (Err (Repeated s.k))
-repeated s place words known lists n others there = record {
+repeated : (s : Spot) (place : Place) (word : Text) (words : List Text) → (place ≡ Nowhere → ⊥)
+    → ListsAt s place (word ∷ words) → (n : ℕ) (others : List Text) → Lists s.program place others (s.old n)
+    → Leaves s (Err (Repeated s.k))
+repeated s place word words known lists n others there = told_here s (Repeated s.k) refl (record {
   earlier = n;
   place = place;
   known = known;
   before = (s.front n place others there).0;
   first = (others, (s.front n place others there).1);
-  second = (words, lists_all s place words lists);
+  second = (word ∷ words, lists_all s place (word ∷ words) lists);
+}) (λ none. cons_not_nil word words (none.wordless place (word ∷ words) (lists_all s place (word ∷ words) lists)))
+
+-- a line whose name is known and new, with as many words as its place takes
+keeps_form : (s : Spot) (place : Place) (words : List Text) → (place ≡ Nowhere → ⊥) → ListsAt s place words
+    → IsUnnamed s.program place s.old → takes place words ≡ true → KeepsForm s.program s.all s.k
+keeps_form s place words known lists unnamed taken = record {
+  formed = λ none. true_not_false (sym taken ∙ none.formless place words (lists_all s place words lists));
+  known = λ other. known (same_line s.program place Nowhere words other.0 (s.all s.k) (lists_all s place words lists)
+      other.1).0;
+  new = not_again s place words lists unnamed;
 }
 
 -- a line with a word that is no number
-no_number_told : (s : Spot) (place : Place) (words : List Text) → ListsAt s place words
-    → numbers_of (numerals words) ≡ None → Leaves s (Err (Number s.k))
-no_number_told s place words lists none = (place, words, lists_all s place words lists, none)
+no_number_told : (s : Spot) (place : Place) (words : List Text) → (place ≡ Nowhere → ⊥) → ListsAt s place words
+    → IsUnnamed s.program place s.old → takes place words ≡ true → numbers_of (numerals words) ≡ None
+    → Leaves s (Err (Number s.k))
+no_number_told s place words known lists unnamed taken none = told_here s (Number s.k) refl
+    (place, words, lists_all s place words lists, none) (keeps_form s place words known lists unnamed taken)
 
 one_number : (word : Text) → number_of word ≡ None → numbers_of (word ∷ []) ≡ None
 one_number word none = ap (λ o. with_number o (Some [])) none
 
 -- a line that names a parameter
 value_by_size : (s : Spot) (i value : ℕ) (word : Text) (small : Bool) → ListsAt s (Parameter i) (word ∷ [])
-    → IsUnnamed s.program (Parameter i) s.old → number_of word ≡ Some value → leb value 65536 ≡ small
+    → IsUnnamed s.program (Parameter i) s.old → is_seed word ≡ false → number_of word ≡ Some value
+    → leb value 65536 ≡ small
     → Leaves s (with_value s.sheet i (if small then Ok value else Err (ParameterRange s.k)))
-value_by_size s i value word true lists unnamed number is = value_holds s i value (word ∷ []) lists unnamed
+value_by_size s i value word true lists unnamed plain number is = value_holds s i value (word ∷ []) lists unnamed
     (record { word = word; one = refl; number = number; small = omega (arith, leb-true value 65536 is) })
-value_by_size s i value word false lists unnamed number is = record {
-  parameter = i;
-  word = word;
-  value = value;
-  lists = lists_all s (Parameter i) (word ∷ []) lists;
-  number = number;
-  above = leb-false value 65536 is;
-}
+value_by_size s i value word false lists unnamed plain number is =
+    let here = lists_all s (Parameter i) (word ∷ []) lists in
+    let numeral : numbers_of (numerals (word ∷ [])) ≡ Some (value ∷ []) =
+    ap numbers_of (numerals_all word [] plain) ∙ ap (λ o. with_number o (Some [])) number in
+    told_here s (ParameterRange s.k) refl (record {
+      parameter = i;
+      word = word;
+      value = value;
+      lists = here;
+      number = number;
+      above = leb-false value 65536 is;
+    }) (
+      keeps_form s (Parameter i) (word ∷ []) (λ same. cc) lists unnamed (ap not plain),
+      λ other. let same = same_line s.program (Parameter i) other.0 (word ∷ []) other.1 (s.all s.k) here other.2 in
+          some_not_none (value ∷ []) (sym numeral ∙ (ap (λ ws. numbers_of (numerals ws)) same.1 ∙ other.3)),
+    )
 
 value_by_number : (s : Spot) (i : ℕ) (word : Text) (o : Option ℕ) → ListsAt s (Parameter i) (word ∷ [])
     → IsUnnamed s.program (Parameter i) s.old → is_seed word ≡ false → number_of word ≡ o
     → Leaves s (with_value s.sheet i (value_of_number s.k o))
 value_by_number s i word (Some value) lists unnamed plain is =
-    value_by_size s i value word (leb value 65536) lists unnamed is refl
-value_by_number s i word None lists unnamed plain is = no_number_told s (Parameter i) (word ∷ []) lists
+    value_by_size s i value word (leb value 65536) lists unnamed plain is refl
+value_by_number s i word None lists unnamed plain is =
+    no_number_told s (Parameter i) (word ∷ []) (λ same. cc) lists unnamed (ap not plain)
     (ap numbers_of (numerals_all word [] plain) ∙ one_number word is)
 
 value_by_word : (s : Spot) (i : ℕ) (word : Text) (seed : Bool) → ListsAt s (Parameter i) (word ∷ [])
     → IsUnnamed s.program (Parameter i) s.old → is_seed word ≡ seed
     → Leaves s (with_value s.sheet i (if seed then Err (Line s.k) else value_of_number s.k (number_of word)))
-value_by_word s i word true lists unnamed is = formless s (Parameter i) (word ∷ []) lists (ap not is)
+value_by_word s i word true lists unnamed is = unfit s (Parameter i) (word ∷ []) lists unnamed (ap not is)
 value_by_word s i word false lists unnamed is = value_by_number s i word (number_of word) lists unnamed is refl
 
-value_leaves : (s : Spot) (i : ℕ) (words : List Text) → ListsAt s (Parameter i) words
-    → IsUnnamed s.program (Parameter i) s.old → Leaves s (with_value s.sheet i (value_said s.k words))
-value_leaves s i [] lists unnamed = formless s (Parameter i) [] lists refl
-value_leaves s i (word ∷ []) lists unnamed = value_by_word s i word (is_seed word) lists unnamed refl
-value_leaves s i (word ∷ other ∷ words) lists unnamed =
-    formless s (Parameter i) (word ∷ other ∷ words) lists refl
+value_leaves : (s : Spot) (i : ℕ) (word : Text) (words : List Text) → ListsAt s (Parameter i) (word ∷ words)
+    → IsUnnamed s.program (Parameter i) s.old → Leaves s (with_value s.sheet i (value_said s.k (word ∷ words)))
+value_leaves s i word [] lists unnamed = value_by_word s i word (is_seed word) lists unnamed refl
+value_leaves s i word (other ∷ words) lists unnamed =
+    unfit s (Parameter i) (word ∷ other ∷ words) lists unnamed refl
 
-parameter_leaves : (s : Spot) (i : ℕ) (words : List Text) (o : Option ℕ) → ListsAt s (Parameter i) words
-    → HoldsValue s.program i s.old o
-    → Leaves s (if is_some o then Err (Repeated s.k) else with_value s.sheet i (value_said s.k words))
-parameter_leaves s i words (Some value) lists held =
-    repeated s (Parameter i) words (λ same. cc) lists held.0 held.1 held.2
-parameter_leaves s i words None lists held = value_leaves s i words lists held
+parameter_leaves : (s : Spot) (i : ℕ) (word : Text) (words : List Text) (o : Option ℕ)
+    → ListsAt s (Parameter i) (word ∷ words) → HoldsValue s.program i s.old o
+    → Leaves s (if is_some o then Err (Repeated s.k) else with_value s.sheet i (value_said s.k (word ∷ words)))
+parameter_leaves s i word words (Some value) lists held =
+    repeated s (Parameter i) word words (λ same. cc) lists held.0 held.1 held.2
+parameter_leaves s i word words None lists held = value_leaves s i word words lists held
 
 -- a line that names an array
 seed_by_number : (s : Spot) (j : ℕ) (first word : Text) (o : Option ℕ) → ListsAt s (Array j) (first ∷ word ∷ [])
@@ -304,18 +376,24 @@ seed_by_number s j first word (Some seed) lists unnamed keyword is =
       record { first = first; word = word; two = refl; keyword = keyword; number = is },
     )
 seed_by_number s j first word None lists unnamed keyword is =
-    no_number_told s (Array j) (first ∷ word ∷ []) lists
+    no_number_told s (Array j) (first ∷ word ∷ []) (λ same. cc) lists unnamed refl
     (ap numbers_of (numerals_behind first (word ∷ []) keyword) ∙ one_number word is)
 
 seed_leaves : (s : Spot) (j : ℕ) (first : Text) (words : List Text) → ListsAt s (Array j) (first ∷ words)
     → IsUnnamed s.program (Array j) s.old → is_seed first ≡ true
     → Leaves s (with_row s.sheet j (seed_said s.k words))
 seed_leaves s j first [] lists unnamed keyword =
-    formless s (Array j) (first ∷ []) lists (ap not keyword)
+    unfit s (Array j) (first ∷ []) lists unnamed (ap not keyword)
 seed_leaves s j first (word ∷ []) lists unnamed keyword =
     seed_by_number s j first word (number_of word) lists unnamed keyword refl
 seed_leaves s j first (word ∷ other ∷ words) lists unnamed keyword =
-    formless s (Array j) (first ∷ word ∷ other ∷ words) lists (ap not keyword)
+    unfit s (Array j) (first ∷ word ∷ other ∷ words) lists unnamed (ap not keyword)
+
+plain_taken : (j : ℕ) (first : Text) (words : List Text) → is_seed first ≡ false
+    → takes (Array j) (first ∷ words) ≡ true
+plain_taken j first [] plain = ap not plain
+plain_taken j first (word ∷ []) plain = refl
+plain_taken j first (word ∷ other ∷ words) plain = ap not plain
 
 list_leaves : (s : Spot) (j : ℕ) (first : Text) (words : List Text) (o : Option (List ℕ))
     → ListsAt s (Array j) (first ∷ words) → IsUnnamed s.program (Array j) s.old → is_seed first ≡ false
@@ -326,7 +404,8 @@ list_leaves s j first words (Some cells) lists unnamed plain is =
       lists_new s (Array j) (first ∷ words) lists,
       record { numbers = is; some = omega arith },
     )
-list_leaves s j first words None lists unnamed plain is = no_number_told s (Array j) (first ∷ words) lists
+list_leaves s j first words None lists unnamed plain is =
+    no_number_told s (Array j) (first ∷ words) (λ same. cc) lists unnamed (plain_taken j first words plain)
     (ap numbers_of (numerals_all first words plain) ∙ is)
 
 row_by_word : (s : Spot) (j : ℕ) (first : Text) (words : List Text) (seed : Bool)
@@ -337,44 +416,45 @@ row_by_word s j first words true lists unnamed is = seed_leaves s j first words 
 row_by_word s j first words false lists unnamed is =
     list_leaves s j first words (numbers_of (first ∷ words)) lists unnamed is refl
 
-row_leaves : (s : Spot) (j : ℕ) (words : List Text) → ListsAt s (Array j) words
-    → IsUnnamed s.program (Array j) s.old → Leaves s (with_row s.sheet j (row_said s.k words))
-row_leaves s j [] lists unnamed = formless s (Array j) [] lists refl
-row_leaves s j (first ∷ words) lists unnamed = row_by_word s j first words (is_seed first) lists unnamed refl
-
-array_leaves : (s : Spot) (j : ℕ) (words : List Text) (given : Given) → ListsAt s (Array j) words
-    → HoldsRow s.program j s.old given
-    → Leaves s (if is_given given then Err (Repeated s.k) else with_row s.sheet j (row_said s.k words))
-array_leaves s j words nothing lists held = row_leaves s j words lists held
-array_leaves s j words (listed line cells) lists held =
-    repeated s (Array j) words (λ same. cc) lists line held.0 held.1
-array_leaves s j words (seeded seed) lists held =
-    repeated s (Array j) words (λ same. cc) lists held.0 held.1 held.2
+array_leaves : (s : Spot) (j : ℕ) (first : Text) (words : List Text) (given : Given)
+    → ListsAt s (Array j) (first ∷ words) → HoldsRow s.program j s.old given
+    → Leaves s (if is_given given then Err (Repeated s.k) else with_row s.sheet j (row_said s.k (first ∷ words)))
+array_leaves s j first words nothing lists held = row_by_word s j first words (is_seed first) lists held refl
+array_leaves s j first words (listed line cells) lists held =
+    repeated s (Array j) first words (λ same. cc) lists line held.0 held.1
+array_leaves s j first words (seeded seed) lists held =
+    repeated s (Array j) first words (λ same. cc) lists held.0 held.1 held.2
 
 -- a line by its name and its words
-written_leaves : (s : Spot) (place : Place) (words : List Text) → ListsAt s place words
-    → Leaves s (written_at s.sheet s.k place words)
-written_leaves s Nowhere words lists = (words, lists_all s Nowhere words lists)
-written_leaves s (Parameter i) words lists =
-    parameter_leaves s i words (get_or s.sheet.values i None) lists (s.holds.value i)
-written_leaves s (Array j) words lists =
-    array_leaves s j words (get_or s.sheet.rows j nothing) lists (s.holds.row j)
+written_leaves : (s : Spot) (place : Place) (word : Text) (words : List Text) → ListsAt s place (word ∷ words)
+    → Leaves s (written_at s.sheet s.k place (word ∷ words))
+written_leaves s Nowhere word words lists =
+    let here = lists_all s Nowhere (word ∷ words) lists in
+    told_here s (UnknownName s.k) refl (word ∷ words, here)
+    (λ none. true_not_false (none.formless Nowhere (word ∷ words) here))
+written_leaves s (Parameter i) word words lists =
+    parameter_leaves s i word words (get_or s.sheet.values i None) lists (s.holds.value i)
+written_leaves s (Array j) word words lists =
+    array_leaves s j word words (get_or s.sheet.rows j nothing) lists (s.holds.row j)
 
 words_leave : (s : Spot) (name : Text) (words : List Text) → ListsAt s (place_of s.program name) words
     → Leaves s (with_words s.program s.sheet s.k name words)
-words_leave s name [] lists = formless s (place_of s.program name) [] lists refl
-words_leave s name (word ∷ words) lists = written_leaves s (place_of s.program name) (word ∷ words) lists
+words_leave s name [] lists = wordless s (place_of s.program name) lists refl
+words_leave s name (word ∷ words) lists = written_leaves s (place_of s.program name) word words lists
 
-no_head : (s : Spot) (line : Text) (place : Place) (words : List Text) → named_list (unindented line) ≡ None
-    → Lists s.program place words line → takes place words ≡ false
-no_head s line place words none lists = absurd (some_not_none (lists.name, lists.list) (sym lists.head ∙ none))
+no_head : (program : Program) (line : Text) (place : Place) (words : List Text) {P : Type 0}
+    → named_list (unindented line) ≡ None → Lists program place words line → P
+no_head program line place words none lists =
+    absurd (some_not_none (lists.name, lists.list) (sym lists.head ∙ none))
 
 list_leaves_of : (s : Spot) (o : Option (Text × Text)) → (IsBlank s.line → ⊥)
     → named_list (unindented s.line) ≡ o → Leaves s (with_list s.program s.sheet s.k o)
-list_leaves_of s None marked is = record {
-  marked = subst (λ line. IsBlank line → ⊥) (sym s.here) marked;
-  formless = λ place words. no_head s (s.all s.k) place words (ap (λ line. named_list (unindented line)) s.here ∙ is);
-}
+list_leaves_of s None marked is =
+    let here : named_list (unindented (s.all s.k)) ≡ None = ap (λ line. named_list (unindented line)) s.here ∙ is in
+    let full : IsBlank (s.all s.k) → ⊥ = subst (λ line. IsBlank line → ⊥) (sym s.here) marked in
+    told_here s (Line s.k) refl
+    (record { marked = full; formless = λ place words. no_head s.program (s.all s.k) place words here })
+    (λ again. record { marked = full; wordless = λ place words. no_head s.program (s.all s.k) place words here })
 list_leaves_of s (Some (name, list)) marked is = words_leave s name (words_of list)
     (record { name = name; list = list; head = is; place_is = refl; words_are = refl })
 
@@ -415,26 +495,27 @@ spot_at program sheet front back line holds = record {
   others = one_more front line;
   here = get_or-append_seam front line back [];
   front = in_front program front (line ∷ back);
+  before = get_or_append_left front (line ∷ back) [];
   holds = holds;
 }
 
 -- lines, one after another, behind others
 abbrev Stands : Program → List Text → List Text → Result Sheet DataRefusal → Type 0
 Stands program front back (Ok sheet) = Holds program (at front) sheet
-Stands program front back (Err refusal) = Breaks program (at (front ++ back)) refusal
+Stands program front back (Err refusal) = IsFirstBroken program (at (front ++ back)) refusal
 
 stands_next : (program : Program) (sheet : Sheet) (front back : List Text) (line : Text)
     (holds : Holds program (at front) sheet) (result : Result Sheet DataRefusal)
     → Leaves (spot_at program sheet front back line holds) result → Stands program (front ++ line ∷ []) back result
 stands_next program sheet front back line holds (Ok after) leaves = leaves
 stands_next program sheet front back line holds (Err refusal) leaves =
-    subst (λ lines. Breaks program (at lines) refusal) (sym (append_assoc front (line ∷ []) back)) leaves
+    subst (λ lines. IsFirstBroken program (at lines) refusal) (sym (append_assoc front (line ∷ []) back)) leaves
 
 lines_stand : (program : Program) (k : ℕ) (result : Result Sheet DataRefusal) (front back : List Text)
     → k ≡ length front → Stands program front back result
     → Stands program (front ++ back) [] (with_lines program k result back)
 lines_stand program k (Err refusal) front back count stands =
-    subst (λ lines. Breaks program (at lines) refusal) (sym (append-nil (front ++ back))) stands
+    subst (λ lines. IsFirstBroken program (at lines) refusal) (sym (append-nil (front ++ back))) stands
 lines_stand program k (Ok sheet) front [] count stands =
     subst (λ lines. Holds program (at lines) sheet) (sym (append-nil front)) stands
 lines_stand program k (Ok sheet) front (line ∷ back) count stands =
@@ -486,8 +567,13 @@ pub sheet_holds : (program : Program) (text : Text) (sheet : Sheet) → sheet_sa
     → Holds program (line_of text) sheet
 sheet_holds program text sheet is = subst (Stands program (([] ∷ []) ++ lines_of text) []) is (text_stands program text)
 
+pub lines_in_order : (program : Program) (text : Text) (sheet : Sheet) → sheet_said program text ≡ Ok sheet
+    → AreInOrder program (line_of text)
+lines_in_order program text sheet is =
+    all_in_order program (line_of text) sheet (sheet_holds program text sheet is)
+
 pub line_breaks : (program : Program) (text : Text) (refusal : DataRefusal) → sheet_said program text ≡ Err refusal
-    → Breaks program (line_of text) refusal
+    → IsFirstBroken program (line_of text) refusal
 line_breaks program text refusal is =
-    subst (λ lines. Breaks program (at lines) refusal) (append-nil (([] ∷ []) ++ lines_of text))
+    subst (λ lines. IsFirstBroken program (at lines) refusal) (append-nil (([] ∷ []) ++ lines_of text))
     (subst (Stands program (([] ∷ []) ++ lines_of text) []) is (text_stands program text))

@@ -3,5 +3,7 @@ pub mod NumberLemmas
 pub mod HeadLemmas
 pub mod LineLemmas
 pub mod NamingLemmas
+pub mod OrderLemmas
 pub mod HoldingLemmas
 pub mod SoundLemmas
+pub mod EachLemmas

@@ -1,6 +1,6 @@
 -- What a line names and lists is one thing, and blanks name nothing; the place of a name is one of the program's.
-use Rattle.std.proofs.Common.{◌≡◌, ◌∙◌, sym, ap, refl, ℕ, suc, ◌+◌, ◌<◌, Bool, true, false, List, [], ◌∷◌, length, map}
-use Rattle.std.proofs.Common.{arith, if◌then◌else◌}
+use Rattle.std.proofs.Common.{◌≡◌, ◌∙◌, sym, ap, subst, refl, ℕ, suc, ◌+◌, ◌<◌, Bool, true, false, List, [], ◌∷◌}
+use Rattle.std.proofs.Common.{length, map, arith, if◌then◌else◌}
 use Rattle.std.proofs.lemmas.List.{length-map}
 use Rattle.std.specs.Prelude.{Option, Some, None, cond}
 use Rattle.std.specs.List.{position_from}
@@ -14,7 +14,7 @@ use Rattle.data_lines.specs.Words.{words_of}
 use Rattle.data_lines.specs.Heads.{named_list}
 use Rattle.data_lines.specs.Sheets.{array_place, found, parameter_place, place_of}
 use Rattle.data_lines.specs.Entries.{is_seed}
-use Rattle.data_lines.specs.Naming.{IsBlank, Lists, numerals}
+use Rattle.data_lines.specs.Naming.{AreLines, IsBlank, Lists, numerals}
 
 no_list : named_list [] ≡ None
 unfolding stands_at
@@ -25,6 +25,9 @@ some_not_none x is = cc
 
 pub cons_not_nil : {X : Type 0} → (x : X) (xs : List X) → x ∷ xs ≡ [] → ⊥
 cons_not_nil x xs is = cc
+
+pub true_not_false : true ≡ false → ⊥
+true_not_false is = cc
 
 pub blank_lists : (program : Program) (place : Place) (words : List Text) (line : Text) → IsBlank line
     → Lists program place words line → ⊥
@@ -43,6 +46,15 @@ same_line program p q words others line one other =
       sym one.place_is ∙ (ap (λ (h : Text × Text). place_of program h.0) same ∙ other.place_is),
       sym one.words_are ∙ (ap (λ (h : Text × Text). words_of h.1) same ∙ other.words_are),
     )
+
+-- two lines that name one thing are one, with the same words
+pub same_words : (program : Program) (lines : ℕ → Text) (place : Place) (m n : ℕ) (words others : List Text)
+    → AreLines program lines → Lists program place words (lines m) → Lists program place others (lines n)
+    → words ≡ others
+same_words program lines place m n words others are first second =
+    let one = are.once m n place (words, first) (others, second) in
+    (same_line program place place words others (lines n)
+    (subst (λ k. Lists program place words (lines k)) one first) second).1
 
 -- the place of a name is one of the program's
 position_step : (X : Type 0) (t : X → Bool) (k i : ℕ) (x : X) (xs : List X) (passes : Bool)

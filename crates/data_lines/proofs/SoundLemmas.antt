@@ -1,5 +1,5 @@
 -- Lines that are in order say one thing of each parameter and each array, and break no rule.
-use Rattle.std.proofs.Common.{◌≡◌, ◌∙◌, sym, ap, subst, refl, inl, inr, ◌⊎◌, ℕ, true, false, not, List, []}
+use Rattle.std.proofs.Common.{◌≡◌, ◌∙◌, sym, ap, subst, refl, inl, inr, ℕ, true, false, not, List, []}
 use Rattle.std.proofs.Common.{◌∷◌, arith}
 use Rattle.std.proofs.lemmas.Bool.{false_from_ne_true}
 use Rattle.std.proofs.lemmas.Slice.Eq.{bytes_eq-Decides}
@@ -14,18 +14,9 @@ use Rattle.data_lines.specs.declared.refusal.DataRefusal.TheVariants.{ParameterR
 use Rattle.data_lines.specs.Entries.{is_seed}
 use Rattle.data_lines.specs.Numbers.{number_of, numbers_of, with_number}
 use Rattle.data_lines.specs.Naming.{AreLines, AreNumbers, AreSound, Breaks, IsAbove, IsFormless, IsSeed, IsValue, Lists}
-use Rattle.data_lines.specs.Naming.{SaysCells, SaysSeed, SaysValue, numerals, takes}
-use Rattle.data_lines.proofs.NamingLemmas.{array_within, blank_lists, parameter_within, same_line}
+use Rattle.data_lines.specs.Naming.{SayInOrder, SaysCells, SaysSeed, SaysValue, numerals, takes}
+use Rattle.data_lines.proofs.NamingLemmas.{array_within, blank_lists, parameter_within, same_line, same_words}
 use Rattle.data_lines.proofs.NamingLemmas.{numerals_all, numerals_behind, some_not_none, some_same}
-
--- two lines that name one thing are one, with the same words
-same_words : (program : Program) (lines : ℕ → Text) (place : Place) (m n : ℕ) (words others : List Text)
-    → AreLines program lines → Lists program place words (lines m) → Lists program place others (lines n)
-    → words ≡ others
-same_words program lines place m n words others are first second =
-    let one = are.once m n place (words, first) (others, second) in
-    (same_line program place place words others (lines n)
-    (subst (λ k. Lists program place words (lines k)) one first) second).1
 
 -- `seed` is no number, and is not among numbers
 seed_no_number : (word : Text) → is_seed word ≡ true → number_of word ≡ None
@@ -86,13 +77,8 @@ cells_or_seed program lines j cells seed are first second =
     not_both second.1 cells seed (subst (AreNumbers cells) same first.3) second.3
 
 -- what the words of a line in order are
-abbrev InOrder : Place → List Text → Type 0
-InOrder Nowhere words = ⊥
-InOrder (Parameter i) words = (value : ℕ) × IsValue value words
-InOrder (Array j) words = ((cells : List ℕ) × AreNumbers cells words) ⊎ ((seed : ℕ) × IsSeed seed words)
-
 in_order : (program : Program) (lines : ℕ → Text) (place : Place) (n : ℕ) (words : List Text)
-    → AreSound program lines → (place ≡ Nowhere → ⊥) → Lists program place words (lines n) → InOrder place words
+    → AreSound program lines → (place ≡ Nowhere → ⊥) → Lists program place words (lines n) → SayInOrder place words
 in_order program lines Nowhere n words sound known lists = known refl
 in_order program lines (Parameter i) n words sound known lists =
     let says = sound.value i (parameter_within program i words (lines n) lists) in
@@ -119,7 +105,7 @@ numbers_taken j (word ∷ other ∷ []) cells are = refl
 numbers_taken j (word ∷ other ∷ third ∷ words) cells are =
     ap not (plain_first word (other ∷ third ∷ words) cells are.numbers)
 
-taken : (place : Place) (words : List Text) → InOrder place words → takes place words ≡ true
+taken : (place : Place) (words : List Text) → SayInOrder place words → takes place words ≡ true
 taken Nowhere words order = absurd order
 taken (Parameter i) words order =
     ap (takes (Parameter i)) order.1.one
@@ -134,7 +120,7 @@ plain_numbers (word ∷ words) cells is none =
     let same : numerals (word ∷ words) ≡ word ∷ words = numerals_all word words (plain_first word words cells is) in
     some_not_none cells (sym is ∙ (ap numbers_of (sym same) ∙ none))
 
-all_numbers : (place : Place) (words : List Text) → InOrder place words → numbers_of (numerals words) ≡ None → ⊥
+all_numbers : (place : Place) (words : List Text) → SayInOrder place words → numbers_of (numerals words) ≡ None → ⊥
 all_numbers Nowhere words order none = order
 all_numbers (Parameter i) words order none = plain_numbers words (order.0 ∷ [])
     (ap numbers_of order.1.one ∙ one_number order.1.word order.0 order.1.number) none

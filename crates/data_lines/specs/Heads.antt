@@ -1,9 +1,6 @@
 -- The head of a line: a name and `=`, with blanks round both as one likes.
-use Rattle.std.specs.Prelude.{◌≡◌, ℕ, ◌==◌, true, nat_lt, if◌then◌else◌, [], ◌∷◌, length, take, drop, get_or}
-use Rattle.std.specs.Prelude.{Option, Some, None}
-use Rattle.std.specs.List.{list_all}
-use Rattle.scop_lexer.specs.Bytes.{Text, is_letter, is_word_byte}
-use Rattle.scop_lexer.specs.Words.{word_stands}
+use Rattle.std.specs.Prelude.{ℕ, ◌==◌, nat_lt, if◌then◌else◌, [], ◌∷◌, take, drop, Option, Some, None}
+use Rattle.scop_lexer.specs.Bytes.{Text}
 use Rattle.scop_lexer.specs.Stands.{stands_at}
 use Rattle.scop_lexer.specs.declared.stand.Stand.{Stand}
 use Rattle.scop_lexer.specs.declared.stand.Stand.TheVariants.{Lexeme}
@@ -28,9 +25,3 @@ behind_name name (b ∷ list) = if b == 61 then Some (name, list) else None
 abbrev pub named_list : Text → Option (Text × Text)
 named_list text = if nat_lt 0 (name_len text)
     then behind_name (take (name_len text) text) (unindented (drop (name_len text) text)) else None
-
--- a name as kernels have it: the lexer's, from its first byte, a letter or `_`, to its last
-pub record IsName (name : Text) : Type 0 where
-  pub letter : is_letter (get_or name 0 0) ≡ true
-  pub bytes : list_all is_word_byte name ≡ true
-  pub word : word_stands name ≡ Lexeme Name (length name)

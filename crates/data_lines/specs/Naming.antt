@@ -1,7 +1,7 @@
--- What lines say, each by itself: what a line names and lists. Here no sheet is filled, and no line is judged before
--- another. Lines are numbered from 1.
+-- What lines say, each by itself: what a line names and lists. Here no sheet is filled, and lines stand in order only
+-- where it is said which rule they break first. Lines are numbered from 1.
 use Rattle.std.specs.Prelude.{◌≡◌, ◌≢◌, ◌⊎◌, ℕ, ◌<◌, ◌≤◌, Bool, true, false, not, if◌then◌else◌, List, []}
-use Rattle.std.specs.Prelude.{◌∷◌, length, slice_index_or, Option, Some, None}
+use Rattle.std.specs.Prelude.{◌∷◌, length, slice_index_or, Option, Some, None, ⊤}
 use Rattle.scop_lexer.specs.Bytes.{Text}
 use Rattle.scop_syntax.specs.Tree.{Program}
 use Rattle.data_lines.specs.declared.places.Place.{Place}
@@ -158,7 +158,7 @@ pub record IsRepeated (program : Program) (lines : ℕ → Text) (n : ℕ) : Typ
   pub first : Names program place (lines earlier)
   pub second : Names program place (lines n)
 
--- what a refusal of a line says of the lines
+-- which rule a refusal of a line says that the lines break
 abbrev pub Breaks : Program → (ℕ → Text) → DataRefusal → Type 0
 Breaks program lines (Line n) = IsFormless program (lines n)
 Breaks program lines (UnknownName n) = Names program Nowhere (lines n)
@@ -166,6 +166,63 @@ Breaks program lines (Repeated n) = IsRepeated program lines n
 Breaks program lines (Number n) = ListsNoNumber program (lines n)
 Breaks program lines (ParameterRange n) = IsAbove program (lines n)
 Breaks program lines other = ⊥
+
+-- words that say what their place asks for: a value of a parameter; cells of an array, or a seed
+abbrev pub SayInOrder : Place → List Text → Type 0
+SayInOrder Nowhere words = ⊥
+SayInOrder (Parameter i) words = (value : ℕ) × IsValue value words
+SayInOrder (Array j) words = ((cells : List ℕ) × AreNumbers cells words) ⊎ ((seed : ℕ) × IsSeed seed words)
+
+-- a line by itself breaks no rule: it is blank, or names a parameter or an array and says what that asks for
+abbrev pub IsInOrder : Program → Text → Type 0
+IsInOrder program line = IsBlank line
+    ⊎ ((place : Place) × (words : List Text) × Lists program place words line × SayInOrder place words)
+
+-- the lines below this number break no rule: each is in order, and none names what an earlier one names
+pub record AreInOrderBefore (program : Program) (lines : ℕ → Text) (end : ℕ) : Type 0 where
+  pub each : (n : ℕ) → n < end → IsInOrder program (lines n)
+  pub apart : (n : ℕ) → n < end → IsRepeated program lines n → ⊥
+
+-- no line breaks a rule
+abbrev pub AreInOrder : Program → (ℕ → Text) → Type 0
+AreInOrder program lines = (end : ℕ) → AreInOrderBefore program lines end
+
+-- a line is not blank, and no name with a word
+pub record IsWordless (program : Program) (line : Text) : Type 0 where
+  pub marked : IsBlank line → ⊥
+  pub wordless : (place : Place) (words : List Text) → Lists program place words line → words ≡ []
+
+-- a line keeps rules 1 to 3: it has the form that its place takes, and its name is known and that of no earlier line
+pub record KeepsForm (program : Program) (lines : ℕ → Text) (n : ℕ) : Type 0 where
+  pub formed : IsFormless program (lines n) → ⊥
+  pub known : Names program Nowhere (lines n) → ⊥
+  pub new : IsRepeated program lines n → ⊥
+
+-- the line that a refusal tells breaks no lesser rule. Rule 1 has two parts: whether a line is a name with a word is
+-- looked at before rules 2 and 3, which words its place takes behind them
+abbrev pub KeepsLesser : Program → (ℕ → Text) → DataRefusal → Type 0
+KeepsLesser program lines (Line n) = IsRepeated program lines n → IsWordless program (lines n)
+KeepsLesser program lines (UnknownName n) = IsFormless program (lines n) → ⊥
+KeepsLesser program lines (Repeated n) = IsWordless program (lines n) → ⊥
+KeepsLesser program lines (Number n) = KeepsForm program lines n
+KeepsLesser program lines (ParameterRange n) = KeepsForm program lines n × (ListsNoNumber program (lines n) → ⊥)
+KeepsLesser program lines other = ⊤
+
+-- the line that a refusal tells
+abbrev pub line_told : DataRefusal → ℕ
+line_told (Line n) = n
+line_told (UnknownName n) = n
+line_told (Repeated n) = n
+line_told (Number n) = n
+line_told (ParameterRange n) = n
+line_told other = 0
+
+-- what a refusal of a line says of the lines: they break this rule, the line breaks no lesser one, and those before it
+-- none
+pub record IsFirstBroken (program : Program) (lines : ℕ → Text) (refusal : DataRefusal) : Type 0 where
+  pub broken : Breaks program lines refusal
+  pub lesser : KeepsLesser program lines refusal
+  pub before : AreInOrderBefore program lines (line_told refusal)
 
 -- every line is in order: of each parameter they say a value, and of each array nothing, or cells, or a seed
 pub record AreSound (program : Program) (lines : ℕ → Text) : Type 0 where

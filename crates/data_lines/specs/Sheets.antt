@@ -1,5 +1,6 @@
 -- What data says so far: a sheet with a place for each parameter and each array, in the order of declaration.
-use Rattle.std.specs.Prelude.{◌≡◌, ◌<◌, ◌≤◌, ⊤, ℕ, All, IfSome, List, map, length, replicate, Option, Some, None}
+use Rattle.std.specs.Prelude.{◌≡◌, ◌<◌, ◌≤◌, ⊤, ℕ, All, IfSome, List, ◌++◌, map, length, replicate, Option, Some}
+use Rattle.std.specs.Prelude.{None}
 use Rattle.std.specs.List.{position_from}
 use Rattle.std.specs.Str.{bytes_eq}
 use Rattle.scop_syntax.specs.Tree.{Program}
@@ -35,6 +36,10 @@ given_of (Seeded seed) = seeded seed
 -- the sheet that the code's stands for
 abbrev pub sheet_of : CodeSheet → Sheet
 sheet_of sheet = record { values = sheet.values.items; rows = map given_of sheet.rows.items }
+
+-- the names of a program's parameters and arrays
+abbrev pub names_of : Program → List Text
+names_of program = program.parameters ++ map (λ d. d.name) program.arrays
 
 -- where the name stands among these names
 abbrev pub found : Text → List Text → Option ℕ

@@ -6,14 +6,18 @@ ghost use Rattle.scop_syntax.specs.Tree.{Program};
 ghost use Rattle.data_lines.specs.declared.refusal.DataRefusal.{DataRefusal};
 ghost use Rattle.data_lines.specs.Sheets.{Sheet};
 ghost use Rattle.data_lines.specs.Entries.{sheet_said};
-ghost use Rattle.data_lines.specs.Naming.{AreLines, AreSound, Breaks, Holds, SaysCells, SaysSeed, SaysValue, line_of};
+ghost use Rattle.data_lines.specs.Naming.{AreInOrder, AreLines, AreSound, Breaks, Holds, IsFirstBroken, SaysCells};
+ghost use Rattle.data_lines.specs.Naming.{SaysSeed, SaysValue, line_of};
 
-/// The sheet of a text holds exactly what its lines say; where there is none, a line breaks the rule that is told.
+/// The sheet of a text holds exactly what its lines say, and these break no rule; where there is none, the rule that is
+/// told is the first that a line breaks.
 pub fn sheets_hold_what_lines_say()
     ensures holds { (program : Program) (text : Text) (sheet : Sheet) → sheet_said program text ≡ Ok sheet
         → Holds program (line_of text) sheet }
+    ensures order { (program : Program) (text : Text) (sheet : Sheet) → sheet_said program text ≡ Ok sheet
+        → AreInOrder program (line_of text) }
     ensures breaks { (program : Program) (text : Text) (refusal : DataRefusal)
-        → sheet_said program text ≡ Err refusal → Breaks program (line_of text) refusal }
+        → sheet_said program text ≡ Err refusal → IsFirstBroken program (line_of text) refusal }
 {}
 
 /// Lines of which no two name the same say one value of a parameter, and one list or one seed of an array.

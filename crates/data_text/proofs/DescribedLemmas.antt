@@ -1,13 +1,10 @@
 -- What a sheet makes of its values and rows is the case that the lines describe; each rule that it breaks, they break.
-use Rattle.std.proofs.Common.{◌≡◌, ◌∙◌, sym, ap, subst, refl, inl, inr, ◌⊎◌, ℕ, zero, suc, ◌+◌, ◌^◌, ◌<◌, ◌≤◌, Bool}
-use Rattle.std.proofs.Common.{true, false, ltb, if◌then◌else◌, ◌==◌, List, [], ◌∷◌, map, length, get_or, arith}
-use Rattle.std.proofs.Common.{leb-true, ltb-true, ltb-false}
-use Rattle.std.proofs.lemmas.Bool.{eqb-false}
-use Rattle.std.proofs.lemmas.Int.{ints}
+use Rattle.std.proofs.Common.{◌≡◌, ◌∙◌, sym, ap, subst, refl, inl, inr, ℕ, zero, suc, ◌+◌, ◌^◌, ◌<◌, ◌≤◌, Bool}
+use Rattle.std.proofs.Common.{true, false, ltb, if◌then◌else◌, List, [], ◌∷◌, map, length, get_or, arith}
+use Rattle.std.proofs.Common.{ltb-true, ltb-false}
 use Rattle.std.proofs.lemmas.List.{get_or-map, get_or-replicate, length-map, length-replicate}
 use Rattle.std.proofs.lemmas.List.FromFn.{get_or-map-range_with_len, length-map-range_with_len}
-use Rattle.std.specs.Prelude.{All, ℤ, pos, negsuc, ◌≤ℤ◌, int_le, Option, Some, None, Result, Ok, Err, slice_get}
-use Rattle.whole_numbers.specs.Affine.{Affine, value_of}
+use Rattle.std.specs.Prelude.{ℤ, pos, Option, Some, None, Result, Ok, Err}
 use Rattle.scop_lexer.specs.Bytes.{Text}
 use Rattle.scop_syntax.specs.Tree.{Declaration, Program}
 use Rattle.scop_syntax.specs.Cells.{values}
@@ -17,25 +14,38 @@ use Rattle.data_lines.specs.declared.refusal.DataRefusal.TheVariants.{Missing, E
 use Rattle.data_lines.specs.declared.refusal.DataRefusal.TheVariants.{Line, UnknownName, Repeated, Number}
 use Rattle.data_lines.specs.declared.refusal.DataRefusal.TheVariants.{ParameterRange}
 use Rattle.data_lines.specs.Sheets.{Given, nothing, listed, seeded, Sheet}
-use Rattle.data_lines.specs.Naming.{Holds, HoldsRow, HoldsValue, line_of}
-use Rattle.data_lines.specs.Naming.{Breaks as BreaksLine}
+use Rattle.data_lines.specs.Naming.{AreInOrder, AreLines, AreSound, Breaks, Holds, HoldsRow, HoldsValue, SaysCells}
+use Rattle.data_lines.specs.Naming.{SaysSeed, SaysValue, line_of}
+use Rattle.data_lines.specs.Naming.{IsFirstBroken as IsFirstBrokenLine}
 use Rattle.data_lines.specs.Entries.{sheet_said}
 use Rattle.data_text.specs.declared.counts.Miscount.{Miscount}
-use Rattle.data_text.specs.Cases.{Said, bad_dimension, bad_extent, case_of_lines, case_said, cells_said, contents_said}
-use Rattle.data_text.specs.Cases.{earlier, filled, first_miscount, laid_out, miscount_of, miscounted, missing, or_else}
+use Rattle.data_text.specs.Cases.{Said, bad_extent, case_of_lines, cells_said, contents_said}
+use Rattle.data_text.specs.Cases.{filled, first_miscount, laid_out, miscount_of, miscounted, missing, or_else}
 use Rattle.data_text.specs.Cases.{data_said, param_of, params_of, seed_cell, told_or, too_many}
-use Rattle.data_text.specs.Described.{AreContents, AreGiven, AreHeld, Breaks, Describes, IsFirstMissing}
-use Rattle.data_text.specs.Described.{IsLow}
-use Rattle.data_text.proofs.ContentLemmas.{cells_long, none_before}
+use Rattle.data_text.specs.Described.{AreComplete, AreContents, AreExtents, AreGiven, AreHeld, Describes}
+use Rattle.data_text.specs.Described.{IsFirstBroken, IsFirstMissing, IsMiscounted, cells_in}
+use Rattle.data_text.proofs.ContentLemmas.{cells_long}
+use Rattle.data_text.proofs.FirstLemmas.{least_line, low_array, miscount_found, miscount_is, miscount_told_of}
+use Rattle.data_text.proofs.FirstLemmas.{none_found}
 use Rattle.data_text.proofs.LayoutLemmas.{arrays_positive}
 
-abbrev ArePositive : Program → List ℤ → Type 0
-ArePositive program params = All (λ d. All (λ form. pos 1 ≤ℤ value_of form params) d.extents) program.arrays
+-- what is known of lines by themselves
+pub record LineLaws : Type 0 where
+  pub value : (program : Program) (lines : ℕ → Text) (i v w : ℕ) → AreLines program lines
+      → SaysValue program i v lines → SaysValue program i w lines → v ≡ w
+  pub cells : (program : Program) (lines : ℕ → Text) (j : ℕ) (cells others : List ℕ) → AreLines program lines
+      → SaysCells program j cells lines → SaysCells program j others lines → cells ≡ others
+  pub seed : (program : Program) (lines : ℕ → Text) (j v w : ℕ) → AreLines program lines
+      → SaysSeed program j v lines → SaysSeed program j w lines → v ≡ w
+  pub either : (program : Program) (lines : ℕ → Text) (j : ℕ) (cells : List ℕ) (seed : ℕ)
+      → AreLines program lines → SaysCells program j cells lines → SaysSeed program j seed lines → ⊥
+  pub sound : (program : Program) (lines : ℕ → Text) (refusal : DataRefusal) → AreSound program lines
+      → Breaks program lines refusal → ⊥
 
 -- what an answer tells of the lines
 abbrev pub Tells : Program → (ℕ → Text) → Result Said DataRefusal → Type 0
 Tells program lines (Ok said) = Describes program lines said.params said.contents
-Tells program lines (Err refusal) = Breaks program lines refusal
+Tells program lines (Err refusal) = IsFirstBroken program lines refusal
 
 -- a value for each parameter, or the first without
 abbrev IsThere : List (Option ℕ) → ℕ → Type 0
@@ -84,12 +94,13 @@ first_missing program lines sheet i holds away = record {
 }
 
 missing_told : (program : Program) (lines : ℕ → Text) (sheet : Sheet) (refusal : DataRefusal)
-    → Holds program lines sheet → missing 0 sheet.values ≡ Some refusal → Breaks program lines refusal
-missing_told program lines sheet refusal holds told =
+    → Holds program lines sheet → AreInOrder program lines → missing 0 sheet.values ≡ Some refusal
+    → IsFirstBroken program lines refusal
+missing_told program lines sheet refusal holds order told =
     let away = away_at 0 sheet.values refusal told in
     let same : 0 + away.0 ≡ away.0 = omega arith in
-    subst (Breaks program lines) (sym (away.1 ∙ ap (λ n. Missing n) same))
-    (first_missing program lines sheet away.0 holds away.2)
+    subst (IsFirstBroken program lines) (sym (away.1 ∙ ap (λ n. Missing n) same))
+    (order, first_missing program lines sheet away.0 holds away.2)
 
 all_given : (program : Program) (lines : ℕ → Text) (sheet : Sheet) → Holds program lines sheet
     → missing 0 sheet.values ≡ None → AreGiven program lines (params_of sheet.values)
@@ -105,178 +116,76 @@ all_given program lines sheet holds none = record {
 }
 
 -- the first extent that is not positive
-int_low : (z : ℤ) → int_le z (pos 0) ≡ true → z ≤ℤ pos 0
-int_low (pos zero) low = omega (arith, ints)
-int_low (pos (suc n)) low = absurd (omega (arith, leb-true (suc n) 0 low))
-int_low (negsuc n) low = omega (arith, ints)
-
-one_of : (low : Bool) (refusal told : DataRefusal) (rest : Option DataRefusal)
-    → (if low then Some refusal else rest) ≡ Some told → ((low ≡ true) × (told ≡ refusal)) ⊎ (rest ≡ Some told)
-one_of true refusal told rest is = let same : refusal ≡ told = cc in inl (refl, sym same)
-one_of false refusal told rest is = inr is
-
-abbrev IsLowIn : List ℤ → List Affine → ℕ → ℕ → DataRefusal → Type 0
-IsLowIn params forms j k told = (i : ℕ) × (form : Affine) × (slice_get forms i ≡ Some form)
-    × (told ≡ Extent j (k + i) (value_of form params)) × (value_of form params ≤ℤ pos 0)
-
-low_dimension : (params : List ℤ) (j k : ℕ) (forms : List Affine) (told : DataRefusal)
-    → bad_dimension j k (values forms params) ≡ Some told → IsLowIn params forms j k told
-low_dimension params j k [] told is = cc
-low_dimension params j k (form ∷ forms) told is =
-    let z = value_of form params in
-    elim (one_of (int_le z (pos 0)) (Extent j k z) told (bad_dimension j (k + 1) (values forms params)) is) [
-      | inl here ↦ let same : k ≡ k + 0 = omega arith in
-          (0, form, refl, here.1 ∙ ap (λ n. Extent j n z) same, int_low z here.0)
-      | inr there ↦ let rest = low_dimension params j (k + 1) forms told there in
-          let same : (k + 1) + rest.0 ≡ k + suc rest.0 = omega arith in
-          (suc rest.0, rest.1, rest.2, rest.3 ∙ ap (λ n. Extent j n (value_of rest.1 params)) same, rest.4)
-    ]
-
-either_rule : (rule other : Option DataRefusal) (told : DataRefusal) → or_else rule other ≡ Some told
-    → (rule ≡ Some told) ⊎ ((rule ≡ None) × (other ≡ Some told))
-either_rule (Some refusal) other told is = inl is
-either_rule None other told is = inr (refl, is)
-
-abbrev IsLowAmong : List ℤ → List Declaration → ℕ → DataRefusal → Type 0
-IsLowAmong params ds j told = (m : ℕ) × (k : ℕ) × (v : ℤ) × (told ≡ Extent (j + m) k v) × IsLow params ds m k v
-
-low_array : (params : List ℤ) (j : ℕ) (ds : List Declaration) (told : DataRefusal)
-    → bad_extent params j ds ≡ Some told → IsLowAmong params ds j told
-low_array params j [] told is = cc
-low_array params j (d ∷ ds) told is =
-    elim (either_rule (bad_dimension j 1 (values d.extents params)) (bad_extent params (j + 1) ds) told is) [
-      | inl here ↦ let low = low_dimension params j 1 d.extents told here in
-          let same : j ≡ j + 0 = omega arith in (
-            0,
-            1 + low.0,
-            value_of low.1 params,
-            low.3 ∙ ap (λ n. Extent n (1 + low.0) (value_of low.1 params)) same,
-            record {
-              array = d;
-              form = low.1;
-              before = low.0;
-              is_array = refl;
-              is_extent = low.2;
-              number = omega arith;
-              value_is = refl;
-              low = low.4;
-            },
-          )
-      | inr there ↦ let rest = low_array params (j + 1) ds told there.1 in
-          let same : (j + 1) + rest.0 ≡ j + suc rest.0 = omega arith in (
-            suc rest.0,
-            rest.1,
-            rest.2,
-            rest.3 ∙ ap (λ n. Extent n rest.1 rest.2) same,
-            record {
-              array = rest.4.array;
-              form = rest.4.form;
-              before = rest.4.before;
-              is_array = rest.4.is_array;
-              is_extent = rest.4.is_extent;
-              number = rest.4.number;
-              value_is = rest.4.value_is;
-              low = rest.4.low;
-            },
-          )
-    ]
-
 extent_told : (program : Program) (lines : ℕ → Text) (params : List ℤ) (told : DataRefusal)
-    → AreGiven program lines params → bad_extent params 0 program.arrays ≡ Some told → Breaks program lines told
-extent_told program lines params told given is =
+    → AreComplete program lines params → bad_extent params 0 program.arrays ≡ Some told
+    → IsFirstBroken program lines told
+extent_told program lines params told complete is =
     let low = low_array params 0 program.arrays told is in
     let same : 0 + low.0 ≡ low.0 = omega arith in
-    subst (Breaks program lines) (sym (low.3 ∙ ap (λ n. Extent n low.1 low.2) same)) (params, given, low.4)
+    subst (IsFirstBroken program lines) (sym (low.3 ∙ ap (λ n. Extent n low.1 low.2) same)) (params, complete, low.4)
 
--- lists that are as long as their arrays, and one that is not
-one_earlier : (best other : Option Miscount) (m : Miscount) → earlier best other ≡ Some m
-    → (best ≡ Some m) ⊎ (other ≡ Some m)
-one_earlier None other m is = inr is
-one_earlier (Some best) None m is = inl is
-one_earlier (Some best) (Some other) m is = by (ltb other.line best.line) is
-  where
-    by : (before : Bool) → (if before then Some other else Some best) ≡ Some m
-        → (Some best ≡ Some m) ⊎ (Some other ≡ Some m)
-    by true is = inr is
-    by false is = inl is
-
-abbrev row_count_of : List (List ℕ) → List Given → ℕ → Option Miscount
-row_count_of layouts rows j = miscount_of (cell_count (get_or layouts j [])) (get_or rows j nothing)
-
-abbrev IsFound : List (List ℕ) → List Given → Miscount → Type 0
-IsFound layouts rows m = (j : ℕ) × (j < length layouts) × (row_count_of layouts rows j ≡ Some m)
-
-miscount_found : (best : Option Miscount) (layouts : List (List ℕ)) (rows : List Given) (m : Miscount)
-    → first_miscount best layouts rows ≡ Some m → (best ≡ Some m) ⊎ IsFound layouts rows m
-miscount_found best [] rows m is = inl is
-miscount_found best (extents ∷ layouts) [] m is = inl is
-miscount_found best (extents ∷ layouts) (given ∷ rows) m is =
-    elim (miscount_found (earlier best (miscount_of (cell_count extents) given)) layouts rows m is) [
-      | inl now ↦ elim (one_earlier best (miscount_of (cell_count extents) given) m now) [
-        | inl old ↦ inl old
-        | inr here ↦ inr (0, omega arith, here)
-      ]
-      | inr later ↦ inr (suc later.0, omega (arith, later.1), later.2)
-    ]
-
-none_found : (layouts : List (List ℕ)) (rows : List Given) (j : ℕ) → first_miscount None layouts rows ≡ None
-    → length rows ≡ length layouts → j < length layouts → row_count_of layouts rows j ≡ None
-none_found [] rows j none count within = absurd (omega (arith, within))
-none_found (extents ∷ layouts) [] j none count within = absurd (omega (arith, count))
-none_found (extents ∷ layouts) (given ∷ rows) zero none count within =
-    none_before (miscount_of (cell_count extents) given) layouts rows none
-none_found (extents ∷ layouts) (given ∷ rows) (suc j) none count within =
-    let here = none_before (miscount_of (cell_count extents) given) layouts rows none in
-    none_found layouts rows j (ap (λ m. first_miscount m layouts rows) (sym here) ∙ none)
-    (omega (arith, count)) (omega (arith, within))
-
-abbrev IsMiscount : ℕ → Given → Miscount → Type 0
-IsMiscount n given m = (cells : List ℕ) × (given ≡ listed m.line cells) × (n ≡ m.expected) × (length cells ≡ m.found)
-    × (length cells ≡ n → ⊥)
-
-miscount_by : (n line : ℕ) (cells : List ℕ) (m : Miscount) (same : Bool) → (length cells == n) ≡ same
-    → (let r : Miscount = record { line = line; expected = n; found = length cells } in
-    (if same then None else Some r) ≡ Some m) → IsMiscount n (listed line cells) m
-miscount_by n line cells m true is told = cc
-miscount_by n line cells m false is told =
-    let r : Miscount = record { line = line; expected = n; found = length cells } in
-    let same : r ≡ m = cc in (
-      cells,
-      ap (λ (c : Miscount). listed c.line cells) same,
-      ap (λ (c : Miscount). c.expected) same,
-      ap (λ (c : Miscount). c.found) same,
-      eqb-false (length cells) n is,
-    )
-
-miscount_is : (n : ℕ) (given : Given) (m : Miscount) → miscount_of n given ≡ Some m → IsMiscount n given m
-miscount_is n nothing m told = cc
-miscount_is n (listed line cells) m told = miscount_by n line cells m (length cells == n) refl told
-miscount_is n (seeded seed) m told = cc
-
-layout_count : (program : Program) (params : List ℤ) → length (layout program params) ≡ length program.arrays
+-- the first list that is not as long as its array
+pub layout_count : (program : Program) (params : List ℤ) → length (layout program params) ≡ length program.arrays
 layout_count program params = length-map program.arrays (λ (d : Declaration). map size_of (values d.extents params))
 
-miscount_told : (program : Program) (lines : ℕ → Text) (sheet : Sheet) (params : List ℤ) (m : Miscount)
-    → Holds program lines sheet → AreGiven program lines params
-    → first_miscount None (layout program params) sheet.rows ≡ Some m
-    → Breaks program lines (Count m.line m.expected m.found)
-miscount_told program lines sheet params m holds given told =
+row_long : (program : Program) (lines : ℕ → Text) (sheet : Sheet) (params : List ℤ) → Holds program lines sheet
+    → length sheet.rows ≡ length (layout program params)
+row_long program lines sheet params holds = holds.row_count ∙ sym (layout_count program params)
+
+miscount_here : (program : Program) (lines : ℕ → Text) (sheet : Sheet) (params : List ℤ) (m : Miscount)
+    → Holds program lines sheet → first_miscount None (layout program params) sheet.rows ≡ Some m
+    → IsMiscounted program (lines m.line) params m.expected m.found
+miscount_here program lines sheet params m holds told =
     elim (miscount_found None (layout program params) sheet.rows m told) [
       | inl none ↦ cc
-      | inr found ↦ let is = miscount_is _ (get_or sheet.rows found.0 nothing) m found.2 in (
-        params,
-        given,
-        record {
-          array = found.0;
-          cells = is.0;
-          within = omega (arith, found.1, layout_count program params);
-          lists = subst (HoldsRow program found.0 lines) is.1 (holds.row found.0);
-          expected_is = is.2;
-          found_is = is.3;
-          differ = λ same. is.4 (is.3 ∙ (sym same ∙ sym is.2));
-        },
-      )
+      | inr found ↦ let is = miscount_is _ (get_or sheet.rows found.0 nothing) m found.2 in
+          record {
+            array = found.0;
+            cells = is.0;
+            within = omega (arith, found.1, layout_count program params);
+            lists = subst (HoldsRow program found.0 lines) is.1 (holds.row found.0);
+            expected_is = is.2;
+            found_is = is.3;
+            differ = λ same. is.4 (is.3 ∙ (sym same ∙ sym is.2));
+          }
     ]
+
+-- a list of another length is found by its array
+row_miscounted : (laws : LineLaws) (program : Program) (lines : ℕ → Text) (params : List ℤ) (n other count : ℕ)
+    (is : IsMiscounted program (lines n) params other count) (given : Given) → AreLines program lines
+    → HoldsRow program is.array lines given
+    → (m : Miscount) × (miscount_of (cells_in program params is.array) given ≡ Some m) × (m.line ≡ n)
+row_miscounted laws program lines params n other count is nothing are held =
+    absurd (held n is.lists.0 is.lists.1)
+row_miscounted laws program lines params n other count is (listed line cells) are held =
+    let says : SaysCells program is.array is.cells lines = (n, is.lists.0, is.lists.1, is.lists.2) in
+    let same = laws.cells program lines is.array cells is.cells are (line, held.0, held.1, held.2) says in
+    let differ : length cells ≡ cells_in program params is.array → ⊥ =
+    λ long. is.differ (sym is.expected_is ∙ (sym long ∙ (ap length same ∙ is.found_is))) in
+    let m : Miscount = record {
+      line = line;
+      expected = cells_in program params is.array;
+      found = length cells;
+    } in (
+      m,
+      miscount_told_of (cells_in program params is.array) line cells differ,
+      are.once line n _ (held.0, held.1) (is.lists.0, is.lists.1),
+    )
+row_miscounted laws program lines params n other count is (seeded seed) are held =
+    absurd (laws.either program lines is.array is.cells seed are (n, is.lists.0, is.lists.1, is.lists.2) held)
+
+none_miscounted : (laws : LineLaws) (program : Program) (lines : ℕ → Text) (sheet : Sheet) (params : List ℤ)
+    (m : Miscount) (n other count : ℕ) → Holds program lines sheet
+    → first_miscount None (layout program params) sheet.rows ≡ Some m → n < m.line
+    → IsMiscounted program (lines n) params other count → ⊥
+none_miscounted laws program lines sheet params m n other count holds told before is =
+    let found = row_miscounted laws program lines params n other count is (get_or sheet.rows is.array nothing)
+    holds.lines_are (holds.row is.array) in
+    let within : is.array < length (layout program params) =
+    omega (arith, is.within, layout_count program params) in
+    let least = least_line (layout program params) sheet.rows m is.array found.0
+    (row_long program lines sheet params holds) told within found.1 in
+    omega (arith, before, least, found.2)
 
 -- contents, array by array
 contents_count : (layouts : List (List ℕ)) (rows : List Given) → length rows ≡ length layouts
@@ -320,7 +229,7 @@ contents_are : (program : Program) (lines : ℕ → Text) (sheet : Sheet) (param
     → AreContents program lines params (contents_said (layout program params) sheet.rows)
 contents_are program lines sheet params holds none =
     let layouts = layout program params in
-    let long : length sheet.rows ≡ length layouts = holds.row_count ∙ sym (layout_count program params) in
+    let long = row_long program lines sheet params holds in
     record {
       count = contents_count layouts sheet.rows long ∙ layout_count program params;
       each = λ j within.
@@ -332,79 +241,93 @@ contents_are program lines sheet params holds none =
     }
 
 -- rule by rule
-filled_tells : (program : Program) (lines : ℕ → Text) (sheet : Sheet) (params : List ℤ) (o : Option Miscount)
-    → Holds program lines sheet → AreGiven program lines params → ArePositive program params
+filled_tells : (laws : LineLaws) (program : Program) (lines : ℕ → Text) (sheet : Sheet) (params : List ℤ)
+    (o : Option Miscount) → Holds program lines sheet → AreComplete program lines params → AreExtents program params
     → total_cells (layout program params) ≤ 2 ^ 22 → first_miscount None (layout program params) sheet.rows ≡ o
     → Tells program lines (told_or (miscounted o)
     (Ok (record { params = params; contents = contents_said (layout program params) sheet.rows })))
-filled_tells program lines sheet params (Some m) holds given positive few is =
-    miscount_told program lines sheet params m holds given is
-filled_tells program lines sheet params None holds given positive few is = record {
+filled_tells laws program lines sheet params (Some m) holds complete positive few is = (
+  params,
+  complete,
+  positive,
+  few,
+  record {
+    is_miscounted = miscount_here program lines sheet params m holds is;
+    before = λ n other count. none_miscounted laws program lines sheet params m n other count holds is;
+  },
+)
+filled_tells laws program lines sheet params None holds complete positive few is = record {
   lines_are = holds.lines_are;
-  params_are = given;
+  params_are = complete.given;
   contents_are = contents_are program lines sheet params holds is;
   extents = positive;
   cells = few;
 }
 
-counted_tells : (program : Program) (lines : ℕ → Text) (sheet : Sheet) (params : List ℤ) (many : Bool)
-    → Holds program lines sheet → AreGiven program lines params → ArePositive program params
+counted_tells : (laws : LineLaws) (program : Program) (lines : ℕ → Text) (sheet : Sheet) (params : List ℤ)
+    (many : Bool) → Holds program lines sheet → AreComplete program lines params → AreExtents program params
     → ltb (2 ^ 22) (total_cells (layout program params)) ≡ many
     → Tells program lines (told_or (if many then Some (Cells (total_cells (layout program params))) else None)
     (filled params (layout program params) sheet.rows))
-counted_tells program lines sheet params true holds given positive is =
-    (params, given, refl, ltb-true (2 ^ 22) (total_cells (layout program params)) is)
-counted_tells program lines sheet params false holds given positive is =
-    filled_tells program lines sheet params (first_miscount None (layout program params) sheet.rows) holds given
+counted_tells laws program lines sheet params true holds complete positive is =
+    (params, complete, positive, refl, ltb-true (2 ^ 22) (total_cells (layout program params)) is)
+counted_tells laws program lines sheet params false holds complete positive is =
+    filled_tells laws program lines sheet params (first_miscount None (layout program params) sheet.rows) holds complete
     positive (ltb-false (2 ^ 22) (total_cells (layout program params)) is) refl
 
-laid_tells : (program : Program) (lines : ℕ → Text) (sheet : Sheet) (params : List ℤ) (o : Option DataRefusal)
-    → Holds program lines sheet → AreGiven program lines params → bad_extent params 0 program.arrays ≡ o
+laid_tells : (laws : LineLaws) (program : Program) (lines : ℕ → Text) (sheet : Sheet) (params : List ℤ)
+    (o : Option DataRefusal) → Holds program lines sheet → AreComplete program lines params
+    → bad_extent params 0 program.arrays ≡ o
     → Tells program lines (told_or (or_else o (too_many (total_cells (layout program params))))
     (filled params (layout program params) sheet.rows))
-laid_tells program lines sheet params (Some told) holds given is = extent_told program lines params told given is
-laid_tells program lines sheet params None holds given is = counted_tells program lines sheet params
-    (ltb (2 ^ 22) (total_cells (layout program params))) holds given (arrays_positive params 0 program.arrays is) refl
+laid_tells laws program lines sheet params (Some told) holds complete is =
+    extent_told program lines params told complete is
+laid_tells laws program lines sheet params None holds complete is = counted_tells laws program lines sheet params
+    (ltb (2 ^ 22) (total_cells (layout program params))) holds complete (arrays_positive params 0 program.arrays is)
+    refl
 
-case_by : (program : Program) (lines : ℕ → Text) (sheet : Sheet) (o : Option DataRefusal)
-    → Holds program lines sheet → missing 0 sheet.values ≡ o
+case_by : (laws : LineLaws) (program : Program) (lines : ℕ → Text) (sheet : Sheet) (o : Option DataRefusal)
+    → Holds program lines sheet → AreInOrder program lines → missing 0 sheet.values ≡ o
     → Tells program lines (told_or o (laid_out program (params_of sheet.values) sheet.rows))
-case_by program lines sheet (Some refusal) holds is = missing_told program lines sheet refusal holds is
-case_by program lines sheet None holds is =
-    laid_tells program lines sheet (params_of sheet.values) (bad_extent (params_of sheet.values) 0 program.arrays)
-    holds (all_given program lines sheet holds is) refl
-
-pub case_tells : (program : Program) (lines : ℕ → Text) (sheet : Sheet) → Holds program lines sheet
-    → Tells program lines (case_said program sheet)
-case_tells program lines sheet holds = case_by program lines sheet (missing 0 sheet.values) holds refl
+case_by laws program lines sheet (Some refusal) holds order is =
+    missing_told program lines sheet refusal holds order is
+case_by laws program lines sheet None holds order is =
+    laid_tells laws program lines sheet (params_of sheet.values)
+    (bad_extent (params_of sheet.values) 0 program.arrays) holds
+    (record { order = order; given = all_given program lines sheet holds is }) refl
 
 -- a line that breaks a rule of lines
-line_told : (program : Program) (lines : ℕ → Text) (refusal : DataRefusal) → BreaksLine program lines refusal
-    → Breaks program lines refusal
+line_told : (program : Program) (lines : ℕ → Text) (refusal : DataRefusal) → IsFirstBrokenLine program lines refusal
+    → IsFirstBroken program lines refusal
 line_told program lines (Line n) breaks = breaks
 line_told program lines (UnknownName n) breaks = breaks
 line_told program lines (Repeated n) breaks = breaks
 line_told program lines (Number n) breaks = breaks
 line_told program lines (ParameterRange n) breaks = breaks
-line_told program lines (Missing i) breaks = absurd breaks
-line_told program lines (Extent j k value) breaks = absurd breaks
-line_told program lines (Cells total) breaks = absurd breaks
-line_told program lines (Count n expected found) breaks = absurd breaks
+line_told program lines (Missing i) breaks = absurd breaks.broken
+line_told program lines (Extent j k value) breaks = absurd breaks.broken
+line_told program lines (Cells total) breaks = absurd breaks.broken
+line_told program lines (Count n expected found) breaks = absurd breaks.broken
 
 -- what is known of the lines by their sheet
 pub record SheetLaws : Type 0 where
   pub holds : (program : Program) (text : Text) (sheet : Sheet) → sheet_said program text ≡ Ok sheet
       → Holds program (line_of text) sheet
+  pub order : (program : Program) (text : Text) (sheet : Sheet) → sheet_said program text ≡ Ok sheet
+      → AreInOrder program (line_of text)
   pub breaks : (program : Program) (text : Text) (refusal : DataRefusal) → sheet_said program text ≡ Err refusal
-      → BreaksLine program (line_of text) refusal
+      → IsFirstBrokenLine program (line_of text) refusal
 
-lines_tell : (laws : SheetLaws) (program : Program) (text : Text) (answer : Result Sheet DataRefusal)
-    → sheet_said program text ≡ answer → Tells program (line_of text) (case_of_lines program answer)
-lines_tell laws program text (Ok sheet) is = case_tells program (line_of text) sheet (laws.holds program text sheet is)
-lines_tell laws program text (Err refusal) is =
-    line_told program (line_of text) refusal (laws.breaks program text refusal is)
+lines_tell : (sheets : SheetLaws) (laws : LineLaws) (program : Program) (text : Text)
+    (answer : Result Sheet DataRefusal) → sheet_said program text ≡ answer
+    → Tells program (line_of text) (case_of_lines program answer)
+lines_tell sheets laws program text (Ok sheet) is =
+    case_by laws program (line_of text) sheet (missing 0 sheet.values) (sheets.holds program text sheet is)
+    (sheets.order program text sheet is) refl
+lines_tell sheets laws program text (Err refusal) is =
+    line_told program (line_of text) refusal (sheets.breaks program text refusal is)
 
-pub text_tells : (laws : SheetLaws) (program : Program) (text : Text) (answer : Result Said DataRefusal)
-    → data_said program text ≡ answer → Tells program (line_of text) answer
-text_tells laws program text answer is =
-    subst (Tells program (line_of text)) is (lines_tell laws program text (sheet_said program text) refl)
+pub text_tells : (sheets : SheetLaws) (laws : LineLaws) (program : Program) (text : Text)
+    (answer : Result Said DataRefusal) → data_said program text ≡ answer → Tells program (line_of text) answer
+text_tells sheets laws program text answer is =
+    subst (Tells program (line_of text)) is (lines_tell sheets laws program text (sheet_said program text) refl)

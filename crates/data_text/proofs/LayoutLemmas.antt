@@ -119,7 +119,7 @@ positive (pos (suc n)) refusal rest none = (
 )
 positive (negsuc n) refusal rest none = cc
 
-extents_positive : (params : List ℤ) (j k : ℕ) (forms : List Affine)
+pub extents_positive : (params : List ℤ) (j k : ℕ) (forms : List Affine)
     → bad_dimension j k (values forms params) ≡ None → All (λ form. pos 1 ≤ℤ value_of form params) forms
 extents_positive params j k [] none = all_none (IsPositive params)
 extents_positive params j k (form ∷ forms) none =

@@ -4,7 +4,9 @@ pub mod ExtentLemmas
 pub mod LayoutLemmas
 pub mod ContentLemmas
 pub mod CaseLemmas
+pub mod FirstLemmas
 pub mod DescribedLemmas
 pub mod OneCaseLemmas
 pub mod NumeralLemmas
 pub mod RowLemmas
+pub mod WrittenLemmas

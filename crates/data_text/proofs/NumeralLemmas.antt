@@ -66,6 +66,9 @@ no_blanks : (digits : Text) → AreDigits digits → All (λ b. is_blank b ≡ f
 no_blanks digits are = λ k d h. ap is_blank (get_or_default digits k d 0 h)
     ∙ digit_not_blank (get_or digits k 0) (are k h)
 
+pub decimal_no_blank : (n : ℕ) → n < 2 ^ 64 → All (λ b. is_blank b ≡ false) (decimal n)
+decimal_no_blank n small = no_blanks (decimal n) (digits_decimal own n small)
+
 not_seed : (digits : Text) → AreDigits digits → is_seed digits ≡ false
 not_seed [] are = refl
 not_seed (b ∷ bs) are = rw (ne_eqb b 115 (λ e. let high = (are 0 (omega arith)).1 in omega (arith, e, high))) refl
@@ -97,7 +100,8 @@ words_of_cells (cell ∷ other ∷ cells) small =
     (decimal_nonempty cell fits) ∙ ap (λ ws. decimal cell ∷ ws) rest)
 
 -- the decimals are these numbers
-numbers_of_cells : (cells : List ℕ) → All (λ cell. cell < 2 ^ 64) cells → numbers_of (map decimal cells) ≡ Some cells
+pub numbers_of_cells : (cells : List ℕ) → All (λ cell. cell < 2 ^ 64) cells
+    → numbers_of (map decimal cells) ≡ Some cells
 numbers_of_cells [] small = refl
 numbers_of_cells (cell ∷ cells) small =
     rw (

@@ -13,26 +13,12 @@ use Rattle.data_lines.specs.declared.refusal.DataRefusal.{DataRefusal}
 use Rattle.data_lines.specs.declared.refusal.DataRefusal.TheVariants.{Missing, Extent, Cells, Count}
 use Rattle.data_lines.specs.declared.refusal.DataRefusal.TheVariants.{Line, UnknownName, Repeated, Number}
 use Rattle.data_lines.specs.declared.refusal.DataRefusal.TheVariants.{ParameterRange}
-use Rattle.data_lines.specs.Naming.{AreLines, AreSound, IsLeftOut, SaysCells, SaysSeed, SaysValue, line_of}
-use Rattle.data_lines.specs.Naming.{Breaks as BreaksLine}
+use Rattle.data_lines.specs.Naming.{AreLines, AreSound, IsLeftOut, SaysCells, SaysSeed, line_of}
 use Rattle.scop_syntax.specs.Execution.{layout, total_cells}
 use Rattle.data_text.specs.Cases.{Said, data_said, ok_said, seed_cell}
-use Rattle.data_text.specs.Described.{AreCells, AreContents, AreGiven, AreHeld, Breaks, Describes, IsLow, IsMiscounted}
-use Rattle.data_text.specs.Described.{cells_in}
-use Rattle.data_text.proofs.DescribedLemmas.{SheetLaws, text_tells}
-
--- what is known of lines by themselves
-pub record LineLaws : Type 0 where
-  pub value : (program : Program) (lines : ℕ → Text) (i v w : ℕ) → AreLines program lines
-      → SaysValue program i v lines → SaysValue program i w lines → v ≡ w
-  pub cells : (program : Program) (lines : ℕ → Text) (j : ℕ) (cells others : List ℕ) → AreLines program lines
-      → SaysCells program j cells lines → SaysCells program j others lines → cells ≡ others
-  pub seed : (program : Program) (lines : ℕ → Text) (j v w : ℕ) → AreLines program lines
-      → SaysSeed program j v lines → SaysSeed program j w lines → v ≡ w
-  pub either : (program : Program) (lines : ℕ → Text) (j : ℕ) (cells : List ℕ) (seed : ℕ)
-      → AreLines program lines → SaysCells program j cells lines → SaysSeed program j seed lines → ⊥
-  pub sound : (program : Program) (lines : ℕ → Text) (refusal : DataRefusal) → AreSound program lines
-      → BreaksLine program lines refusal → ⊥
+use Rattle.data_text.specs.Described.{AreCells, AreContents, AreGiven, AreHeld, Describes, IsFirstBroken, IsLow}
+use Rattle.data_text.specs.Described.{IsMiscounted, cells_in}
+use Rattle.data_text.proofs.DescribedLemmas.{LineLaws, SheetLaws, text_tells}
 
 -- one value of each parameter
 one_given : (laws : LineLaws) (program : Program) (lines : ℕ → Text) (p q : List ℤ) → AreLines program lines
@@ -141,33 +127,34 @@ miscounted_not laws program lines params n e f cells found are (inr (inr held)) 
 
 no_rule_broken : (laws : LineLaws) (program : Program) (lines : ℕ → Text) (params : List ℤ)
     (contents : List (List ℕ)) (refusal : DataRefusal) → Describes program lines params contents
-    → Breaks program lines refusal → ⊥
+    → IsFirstBroken program lines refusal → ⊥
 no_rule_broken laws program lines params contents (Missing i) is breaks =
-    let says = (are_sound program lines params contents is).value i breaks.within in
-    breaks.missing says.1.0 says.1.1 says.1.2
+    let says = (are_sound program lines params contents is).value i breaks.1.within in
+    breaks.1.missing says.1.0 says.1.1 says.1.2
 no_rule_broken laws program lines params contents (Extent j k v) is breaks =
-    let same = one_given laws program lines breaks.0 params is.lines_are breaks.1 is.params_are in
-    low_not params program.arrays j k v is.extents (subst (λ ps. IsLow ps program.arrays j k v) same breaks.2)
+    let same = one_given laws program lines breaks.0 params is.lines_are breaks.1.given is.params_are in
+    low_not params program.arrays j k v is.extents
+    (subst (λ ps. IsLow ps program.arrays j k v) same breaks.2.is_low)
 no_rule_broken laws program lines params contents (Cells total) is breaks =
-    let same = one_given laws program lines breaks.0 params is.lines_are breaks.1 is.params_are in
+    let same = one_given laws program lines breaks.0 params is.lines_are breaks.1.given is.params_are in
     let few = subst (λ ps. total_cells (layout program ps) ≤ 2 ^ 22) (sym same) is.cells in
-    omega (arith, few, breaks.2, breaks.3)
+    omega (arith, few, breaks.3, breaks.4)
 no_rule_broken laws program lines params contents (Count n e f) is breaks =
-    let same = one_given laws program lines breaks.0 params is.lines_are breaks.1 is.params_are in
-    let found = subst (λ ps. IsMiscounted program (lines n) ps e f) same breaks.2 in
+    let same = one_given laws program lines breaks.0 params is.lines_are breaks.1.given is.params_are in
+    let found = subst (λ ps. IsMiscounted program (lines n) ps e f) same breaks.4.is_miscounted in
     let there : found.array < length contents = omega (arith, found.within, is.contents_are.count) in
     miscounted_not laws program lines params n e f (get_or contents found.array []) found is.lines_are
     (is.contents_are.each found.array there)
 no_rule_broken laws program lines params contents (Line n) is breaks =
-    laws.sound program lines (Line n) (are_sound program lines params contents is) breaks
+    laws.sound program lines (Line n) (are_sound program lines params contents is) breaks.broken
 no_rule_broken laws program lines params contents (UnknownName n) is breaks =
-    laws.sound program lines (UnknownName n) (are_sound program lines params contents is) breaks
+    laws.sound program lines (UnknownName n) (are_sound program lines params contents is) breaks.broken
 no_rule_broken laws program lines params contents (Repeated n) is breaks =
-    laws.sound program lines (Repeated n) (are_sound program lines params contents is) breaks
+    laws.sound program lines (Repeated n) (are_sound program lines params contents is) breaks.broken
 no_rule_broken laws program lines params contents (Number n) is breaks =
-    laws.sound program lines (Number n) (are_sound program lines params contents is) breaks
+    laws.sound program lines (Number n) (are_sound program lines params contents is) breaks.broken
 no_rule_broken laws program lines params contents (ParameterRange n) is breaks =
-    laws.sound program lines (ParameterRange n) (are_sound program lines params contents is) breaks
+    laws.sound program lines (ParameterRange n) (are_sound program lines params contents is) breaks.broken
 
 -- so a text says the case that its lines describe
 said_by : (sheets : SheetLaws) (laws : LineLaws) (program : Program) (text : Text) (params : List ℤ)
@@ -175,10 +162,10 @@ said_by : (sheets : SheetLaws) (laws : LineLaws) (program : Program) (text : Tex
     → data_said program text ≡ answer → answer ≡ ok_said params contents
 said_by sheets laws program text params contents (Ok said) is told =
     one_case laws program (line_of text) said.params params said.contents contents
-    (text_tells sheets program text (Ok said) told) is
+    (text_tells sheets laws program text (Ok said) told) is
 said_by sheets laws program text params contents (Err refusal) is told =
     absurd (no_rule_broken laws program (line_of text) params contents refusal is
-    (text_tells sheets program text (Err refusal) told))
+    (text_tells sheets laws program text (Err refusal) told))
 
 pub described_is_said : (sheets : SheetLaws) (laws : LineLaws) (text : Text) (program : Program) (params : List ℤ)
     (contents : List (List ℕ)) → Describes program (line_of text) params contents

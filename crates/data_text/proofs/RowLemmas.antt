@@ -6,15 +6,16 @@ use Rattle.std.specs.Prelude.{All, Some, None, cond, nat_lt}
 use Rattle.std.specs.List.{list_all, prefix_len}
 use Rattle.std.proofs.Math.Seq.{take-append_seam, drop-append_seam}
 use Rattle.scop_lexer.specs.Bytes.{Text, is_blank, is_letter, is_word_byte}
-use Rattle.scop_lexer.specs.Words.{word_stands}
+use Rattle.scop_lexer.specs.Words.{IsName, word_stands}
 use Rattle.scop_lexer.specs.Stands.{stands_at, word_of}
 use Rattle.scop_lexer.specs.declared.stand.Stand.{Stand}
 use Rattle.scop_lexer.specs.declared.stand.Stand.TheVariants.{Gap}
 use Rattle.scop_syntax.specs.Tree.{Program}
 use Rattle.data_lines.specs.Words.{unindented, words_of}
-use Rattle.data_lines.specs.Heads.{IsName, behind_name, name_bytes, name_len, named_list}
+use Rattle.data_lines.specs.Heads.{behind_name, name_bytes, name_len, named_list}
 use Rattle.data_lines.specs.Sheets.{Sheet, place_of}
 use Rattle.data_lines.specs.Entries.{with_line, with_list, with_text, with_words, written_at}
+use Rattle.data_lines.proofs.EachLemmas.{HasHead}
 use Rattle.data_text.specs.ArrayText.{cells_text, row_text}
 use Rattle.data_text.proofs.NumeralLemmas.{words_of_cells}
 
@@ -77,6 +78,20 @@ head_is b bs list is =
     then behind_name (take (length name) text) (unindented (drop (length name) text)) else None) =
     ap (λ n. if nat_lt 0 n then behind_name (take n text) (unindented (drop n text)) else None) long in
     by_length ∙ rw (some, take-append_seam name (32 ∷ 61 ∷ list), drop-append_seam name (32 ∷ 61 ∷ list)) refl
+
+pub row_head : (name : Text) (cells : List ℕ) → IsName name → All (λ cell. cell < 2 ^ 64) cells
+    → HasHead name (map decimal cells) (row_text name cells)
+row_head [] cells is small = absurd (let wrong = is.letter in cc)
+row_head (b ∷ bs) cells is small =
+    let list = cells_text cells in
+    let text = (b ∷ bs) ++ 32 ∷ 61 ∷ list in
+    let same : unindented text ≡ text = rw (letter_not_blank b is.letter) refl in
+    record {
+      list = list;
+      head = ap (λ t. named_list (unindented t)) (append_assoc (b ∷ bs) (codes " =") list)
+          ∙ (ap named_list same ∙ head_is b bs list is);
+      words_are = words_of_cells cells small;
+    }
 
 -- the whole line
 line_is : (program : Program) (sheet : Sheet) (line : ℕ) (b : ℕ) (bs list : Text) → IsName (b ∷ bs)

@@ -1,5 +1,5 @@
--- What data says of a kernel, in its own words: what the lines say of each parameter and each array. Here no sheet is
--- filled, and no line is judged before another.
+-- What data says of a kernel, in its own words: what the lines say of each parameter and each array, or which rule they
+-- break first. Here no sheet is filled.
 use Rattle.std.specs.Prelude.{◌≡◌, ◌≢◌, ◌⊎◌, ℕ, ◌+◌, ◌^◌, ◌<◌, ◌≤◌, ℤ, pos, ◌≤ℤ◌, List, [], length, All, Some}
 use Rattle.std.specs.Prelude.{slice_get, slice_index, slice_index_or}
 use Rattle.whole_numbers.specs.Affine.{Affine, value_of}
@@ -8,8 +8,9 @@ use Rattle.scop_syntax.specs.Tree.{Declaration, Program}
 use Rattle.scop_syntax.specs.Execution.{layout, cell_count, total_cells}
 use Rattle.data_lines.specs.declared.refusal.DataRefusal.{DataRefusal}
 use Rattle.data_lines.specs.declared.refusal.DataRefusal.TheVariants.{Missing, Extent, Cells, Count}
-use Rattle.data_lines.specs.Naming.{AreLines, IsLeftOut, IsMissing, ListsCells, SaysCells, SaysSeed, SaysValue}
-use Rattle.data_lines.specs.Naming.{Breaks as BreaksLine}
+use Rattle.data_lines.specs.Naming.{AreInOrder, AreLines, IsLeftOut, IsMissing, ListsCells, SaysCells, SaysSeed}
+use Rattle.data_lines.specs.Naming.{SaysValue}
+use Rattle.data_lines.specs.Naming.{IsFirstBroken as IsFirstBrokenLine}
 use Rattle.data_text.specs.Cases.{seed_cell}
 
 -- each parameter has the value that a line says
@@ -67,6 +68,14 @@ pub record IsLow (params : List ℤ) (arrays : List Declaration) (j dimension : 
   pub value_is : value_of form params ≡ value
   pub low : value ≤ℤ pos 0
 
+-- it is the first: each extent of an earlier array, and each lesser one of its own, is positive
+pub record IsFirstLow (params : List ℤ) (arrays : List Declaration) (j dimension : ℕ) (value : ℤ) : Type 0 where
+  pub is_low : IsLow params arrays j dimension value
+  pub earlier : (i : ℕ) (d : Declaration) → i < j → slice_get arrays i ≡ Some d
+      → All (λ form. pos 1 ≤ℤ value_of form params) d.extents
+  pub lesser : (k : ℕ) (form : Affine) → k + 1 < dimension → slice_get is_low.array.extents k ≡ Some form
+      → pos 1 ≤ℤ value_of form params
+
 -- a line lists another number of cells than its array has
 pub record IsMiscounted (program : Program) (line : Text) (params : List ℤ) (expected found : ℕ) : Type 0 where
   pub array : ℕ
@@ -77,13 +86,29 @@ pub record IsMiscounted (program : Program) (line : Text) (params : List ℤ) (e
   pub found_is : length cells ≡ found
   pub differ : expected ≢ found
 
--- what a refusal says of the lines
-abbrev pub Breaks : Program → (ℕ → Text) → DataRefusal → Type 0
-Breaks program lines (Missing i) = IsFirstMissing program lines i
-Breaks program lines (Extent j dimension value) =
-    (params : List ℤ) × AreGiven program lines params × IsLow params program.arrays j dimension value
-Breaks program lines (Cells total) = (params : List ℤ) × AreGiven program lines params
-    × (total_cells (layout program params) ≡ total) × (2 ^ 22 < total)
-Breaks program lines (Count n expected found) =
-    (params : List ℤ) × AreGiven program lines params × IsMiscounted program (lines n) params expected found
-Breaks program lines other = BreaksLine program lines other
+-- it is the first such line
+pub record IsFirstMiscounted (program : Program) (lines : ℕ → Text) (params : List ℤ) (n expected found : ℕ) : Type 0
+  where
+    pub is_miscounted : IsMiscounted program (lines n) params expected found
+    pub before : (m other count : ℕ) → m < n → IsMiscounted program (lines m) params other count → ⊥
+
+-- no line breaks a rule, and each parameter has the value that a line says
+pub record AreComplete (program : Program) (lines : ℕ → Text) (params : List ℤ) : Type 0 where
+  pub order : AreInOrder program lines
+  pub given : AreGiven program lines params
+
+-- every extent is positive
+abbrev pub AreExtents : Program → List ℤ → Type 0
+AreExtents program params = All (λ d. All (λ form. pos 1 ≤ℤ value_of form params) d.extents) program.arrays
+
+-- what a refusal says of the lines: they break this rule, and none that comes before it
+abbrev pub IsFirstBroken : Program → (ℕ → Text) → DataRefusal → Type 0
+IsFirstBroken program lines (Missing i) = AreInOrder program lines × IsFirstMissing program lines i
+IsFirstBroken program lines (Extent j dimension value) =
+    (params : List ℤ) × AreComplete program lines params × IsFirstLow params program.arrays j dimension value
+IsFirstBroken program lines (Cells total) = (params : List ℤ) × AreComplete program lines params
+    × AreExtents program params × (total_cells (layout program params) ≡ total) × (2 ^ 22 < total)
+IsFirstBroken program lines (Count n expected found) = (params : List ℤ) × AreComplete program lines params
+    × AreExtents program params × (total_cells (layout program params) ≤ 2 ^ 22)
+    × IsFirstMiscounted program lines params n expected found
+IsFirstBroken program lines other = IsFirstBrokenLine program lines other

@@ -4,7 +4,7 @@ ghost use Rattle.std.specs.Prelude.{◌≡◌, All, ◌⊎◌, ◌+◌, ◌^◌,
 ghost use Rattle.std.specs.Prelude.{length, map};
 ghost use Rattle.std.specs.List.{join_with_byte};
 ghost use Rattle.data_lines.specs.Words.{lines_of};
-ghost use Rattle.data_lines.specs.Heads.{IsName};
+ghost use Rattle.scop_lexer.specs.Words.{IsName};
 ghost use Rattle.data_text.specs.ArrayText.{row_text};
 ghost use Rattle.data_lines.specs.Numbers.{number_of};
 ghost use Rattle.data_lines.specs.Sheets.{Sheet, listed, place_of};
@@ -14,9 +14,11 @@ ghost use Rattle.scop_syntax.specs.Tree.{Program};
 ghost use Rattle.data_lines.specs.declared.refusal.DataRefusal.{DataRefusal};
 ghost use Rattle.data_lines.specs.Naming.{line_of};
 ghost use Rattle.data_text.specs.Cases.{Says, Said, data_said};
-ghost use Rattle.data_text.specs.Described.{Breaks, Describes};
+ghost use Rattle.data_text.specs.Described.{Describes, IsFirstBroken};
+ghost use Rattle.data_text.specs.Written.{IsWritable, case_text};
 
 use data_lines::{lines_say_one_thing, sheets_hold_what_lines_say, sound_lines_break_no_rule};
+use scop_syntax::limit_laws::cells_lie_within_22_bits;
 
 /// A text says one case of a program, or breaks one rule first; not both, and no other.
 pub fn said_once()
@@ -29,14 +31,14 @@ pub fn said_once()
         ((refusal : DataRefusal) × (data_said program text ≡ Err refusal)) }
 {}
 
-/// A text says the case that its lines describe, and no other; a refusal tells what they break.
+/// A text says the case that its lines describe, and no other; a refusal tells the first rule that they break.
 pub fn texts_say_what_lines_describe()
     ensures says { (text : Text) (program : Program) (params : List ℤ) (contents : List (List ℕ))
         → Says text program params contents → Describes program (line_of text) params contents }
     ensures described { (text : Text) (program : Program) (params : List ℤ) (contents : List (List ℕ))
         → Describes program (line_of text) params contents → Says text program params contents }
     ensures breaks { (text : Text) (program : Program) (refusal : DataRefusal)
-        → data_said program text ≡ Err refusal → Breaks program (line_of text) refusal }
+        → data_said program text ≡ Err refusal → IsFirstBroken program (line_of text) refusal }
 {
     sheets_hold_what_lines_say();
     lines_say_one_thing();
@@ -70,3 +72,12 @@ pub fn array_lines_are_data_lines()
     ensures cells { (line : ℕ) (cells : List ℕ) → 0 < length cells → All (λ cell. cell < 2 ^ 64) cells
         → row_said line (map decimal cells) ≡ Ok (listed line cells) }
 {}
+
+/// What `write_arrays` writes of a case, behind a line for each parameter, says the case again.
+pub fn written_cases_are_read_back()
+    ensures { (program : Program) (params : List ℤ) (contents : List (List ℕ)) → IsWritable program params contents
+        → Says (case_text program params contents) program params contents }
+{
+    cells_lie_within_22_bits();
+    texts_say_what_lines_describe();
+}

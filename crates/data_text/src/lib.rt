@@ -15,5 +15,5 @@ pub use case::{Case, read_data};
 pub use data_lines::{DataRefusal, DataStop};
 pub use laws::{
     array_lines_are_data_lines, decimals_are_numbers, lines_are_judged_in_order, said_once,
-    texts_say_what_lines_describe,
+    texts_say_what_lines_describe, written_cases_are_read_back,
 };
