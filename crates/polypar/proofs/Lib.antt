@@ -3,3 +3,4 @@ pub mod CutLemmas
 pub mod MemoryLemmas
 pub mod OnceLemmas
 pub mod RunLemmas
+pub mod VerdictLemmas

@@ -1,6 +1,6 @@
 -- The status that words and an input deserve where nothing fails: check after check in the order of work, and the
 -- status of the first that is not passed.
-use Rattle.std.specs.Prelude.{◌≡◌, ◌⊎◌, ℕ, ◌^◌, ◌<◌, ℤ, List, length, Some, Err}
+use Rattle.std.specs.Prelude.{◌≡◌, ◌⊎◌, ℕ, ◌^◌, ◌<◌, ℤ, List, length, Some, Err, ⊤}
 use Rattle.scop_syntax.specs.Tree.{Program}
 use Rattle.scop_syntax.specs.Walk.{walk_of}
 use Rattle.scop_syntax.specs.Execution.{layout, IsInside}
@@ -12,7 +12,8 @@ use Rattle.scop_parser.specs.declared.refusal.RefusalKind.TheVariants.{TooLong}
 use Rattle.data_lines.specs.declared.refusal.DataRefusal.{DataRefusal}
 use Rattle.data_text.specs.Cases.{Says, data_said}
 use Rattle.report_text.specs.declared.status.Status.{Status}
-use Rattle.report_text.specs.declared.status.Status.TheVariants.{Done, Usage, Refused, BadData, Outside}
+use Rattle.report_text.specs.declared.status.Status.TheVariants.{Done, Usage, Refused, BadData, Outside, ReadFault}
+use Rattle.report_text.specs.declared.status.Status.TheVariants.{WriteFault, NoMemory}
 use Rattle.polypar.specs.Command.{IsRunCommand}
 use Rattle.polypar.specs.Cut.{kernel_part, data_part}
 use Rattle.polypar.specs.Case.{IsShort, Accepted, asked_text}
@@ -52,6 +53,13 @@ abbrev pub Deserves : List (List ℕ) → List ℕ → Status → Type 0
 Deserves words input status =
     (IsRunCommand words × DeservesInput input status)
     ⊎ ((IsRunCommand words → ⊥) × (status ≡ Usage))
+
+-- a status that words and an input decide: no fault of a port, and no want of memory
+abbrev pub IsVerdict : Status → Type 0
+IsVerdict ReadFault = ⊥
+IsVerdict WriteFault = ⊥
+IsVerdict NoMemory = ⊥
+IsVerdict other = ⊤
 
 -- the words and the input ask for the text
 abbrev pub Asks : List (List ℕ) → List ℕ → List ℕ → Type 0

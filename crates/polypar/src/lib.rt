@@ -7,10 +7,12 @@
 mod command;
 mod cut;
 mod in_memory;
+mod laws;
 mod plain;
 mod run;
 
 pub use in_memory::command_in_memory;
+pub use laws::printed_arrays_are_data;
 pub use plain::{deserved_once, plain_command, polypar};
 pub use report_text::{DataRefusal, Outside, Refusal, RefusalKind, Status};
 pub use run::LONGEST_INPUT;

@@ -3,19 +3,21 @@
 ghost use Rattle.std.specs.Prelude.{◌≡◌, ℕ, List, map, string_bytes, option_map};
 ghost use Rattle.scop_syntax.specs.View.{program_of};
 ghost use Rattle.report_text.specs.declared.status.Status.{Status};
-ghost use Rattle.polypar.specs.Deserves.{Deserves};
+ghost use Rattle.polypar.specs.Deserves.{Deserves, IsVerdict};
 ghost use Rattle.polypar.specs.Answers.{AnswersWords, IsReadOn, TellsStatus};
 ghost use Rattle.polypar.specs.Answered.{Answered, NamesOf};
 
 use crate::command::is_run;
 use crate::run::{Ending, run};
-use data_text::said_once;
+use data_text::{said_once, texts_say_what_lines_describe};
 use io_ports::{Failed, Gate, Sink, Source};
 use report_text::{Status, status_line};
 use scop_parser::laws::{
-    faults_leave_no_program, texts_have_one_first_fault, texts_spell_one_program,
+    faults_leave_no_program, spelled_programs_are_kernels, texts_have_one_first_fault,
+    texts_spell_a_program_or_have_a_fault, texts_spell_one_program,
 };
 use scop_syntax::failure_laws::failures_are_the_first;
+use scop_syntax::limit_laws::accesses_have_the_ranks_of_arrays;
 use scop_syntax::tree::Kernel;
 use std::alloc::Global;
 
@@ -52,16 +54,22 @@ pub fn polypar<R, S: Source, O: Sink, E: Sink, G: Gate>(
     plain_command(alloc, words, source, out, err)
 }
 
-/// Words and an input deserve one status.
+/// Any words and any input deserve a status, and only one; it is no fault and no want of memory.
 pub fn deserved_once()
-    ensures { (words : List (List ℕ)) (input : List ℕ) (a b : Status) → Deserves words input a → Deserves words input b
-        → a ≡ b }
+    ensures one { (words : List (List ℕ)) (input : List ℕ) (a b : Status) → Deserves words input a
+        → Deserves words input b → a ≡ b }
+    ensures some { (words : List (List ℕ)) (input : List ℕ)
+        → (status : Status) × IsVerdict status × Deserves words input status }
 {
     failures_are_the_first();
+    accesses_have_the_ranks_of_arrays();
     texts_spell_one_program();
+    texts_spell_a_program_or_have_a_fault();
+    spelled_programs_are_kernels();
     faults_leave_no_program();
     texts_have_one_first_fault();
     said_once();
+    texts_say_what_lines_describe();
 }
 
 /// All of a command but the line that tells its status.

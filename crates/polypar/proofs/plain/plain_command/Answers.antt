@@ -10,4 +10,4 @@ returns g c =
     let before = g.E.Sink.shows c.answer-ending.new.err in
     let told = subst (λ named. TellsStatus named c.answer-ending.result.status before (g.E.Sink.shows c.tell.new.err))
     (lent_program c.as_ref.result c.answer-ending.result.kernel c.as_ref.ensures.value) c.tell.ensures in
-    answered c.deserved_once.ensures _ _ _ _ _ _ _ _ before _ ending.answer ending.names ending.read_on told
+    answered c.deserved_once.ensures.one _ _ _ _ _ _ _ _ before _ ending.answer ending.names ending.read_on told

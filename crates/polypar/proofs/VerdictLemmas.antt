@@ -1,0 +1,102 @@
+-- Each check in the order of work has an outcome, so words and an input deserve a status.
+use Rattle.std.proofs.Common.{◌≡◌, ◌⊎◌, refl, inl, inr, ℕ, ◌==◌, ◌^◌, ltb, Bool, true, false, ℤ, List, []}
+use Rattle.std.proofs.Common.{length, Option, None, Some, get_or, ltb-true, ltb-false}
+use Rattle.std.proofs.lemmas.Bool.{eqb-false, eqb-true}
+use Rattle.std.proofs.lemmas.Slice.Eq.{bytes_eq-Decides}
+use Rattle.std.specs.Prelude.{Err, take, codes}
+use Rattle.std.specs.Str.{bytes_eq}
+use Rattle.scop_lexer.specs.Lines.{line_behind, column_behind}
+use Rattle.scop_syntax.specs.Tree.{Program}
+use Rattle.scop_syntax.specs.Walk.{Visit, walk_of}
+use Rattle.scop_syntax.specs.Kernel.{IsKernel}
+use Rattle.scop_syntax.specs.Execution.{AreInside, layout}
+use Rattle.scop_syntax.specs.Failures.{Failure, VisitsAreRanked, first_outside}
+use Rattle.scop_meaning.specs.Outside.{outside_of}
+use Rattle.scop_parser.specs.Spelling.{SpellsProgram, IsFirstFault}
+use Rattle.scop_parser.specs.declared.refusal.Refusal.{Refusal}
+use Rattle.scop_parser.specs.declared.refusal.RefusalKind.{RefusalKind}
+use Rattle.data_lines.specs.declared.refusal.DataRefusal.{DataRefusal}
+use Rattle.data_lines.specs.Naming.{line_of}
+use Rattle.data_text.specs.Cases.{Said, Says, data_said}
+use Rattle.data_text.specs.Described.{Describes}
+use Rattle.report_text.specs.declared.status.Status.{Status}
+use Rattle.report_text.specs.declared.status.Status.TheVariants.{Done, Usage, Outside, Refused, BadData}
+use Rattle.polypar.specs.Command.{IsRunCommand}
+use Rattle.polypar.specs.Cut.{kernel_part, data_part}
+use Rattle.polypar.specs.Deserves.{DeservesCase, DeservesData, DeservesText, DeservesInput, Deserves, IsVerdict}
+use Rattle.polypar.specs.Deserves.{too_long}
+
+-- the laws of texts, of data and of failures on which this stands
+pub record Laws : Type 0 where
+  pub text : (text : List ℕ) → ((p : Program) × SpellsProgram text p)
+      ⊎ ((kind : RefusalKind) × (at : ℕ) × IsFirstFault text kind at)
+  pub kernel : (text : List ℕ) (p : Program) → SpellsProgram text p → IsKernel p
+  pub said : (text : List ℕ) (program : Program) → ((said : Said) × Says text program said.params said.contents)
+      ⊎ ((refusal : DataRefusal) × (data_said program text ≡ Err refusal))
+  pub described : (text : List ℕ) (program : Program) (params : List ℤ) (contents : List (List ℕ))
+      → Says text program params contents → Describes program (line_of text) params contents
+  pub ranked : (program : Program) (params : List ℤ) → IsKernel program
+      → length params ≡ length program.parameters → VisitsAreRanked (layout program params) (walk_of program params)
+  pub inside : (extents : List (List ℕ)) (visits : List Visit) → VisitsAreRanked extents visits
+      → first_outside extents visits ≡ None → AreInside extents visits
+
+-- some verdict is deserved
+abbrev HasVerdict : (Status → Type 0) → Type 0
+HasVerdict Earns = (status : Status) × IsVerdict status × Earns status
+
+case_deserves : Laws → (program : Program) (params : List ℤ) → IsKernel program
+    → length params ≡ length program.parameters → (found : Option Failure)
+    → first_outside (layout program params) (walk_of program params) ≡ found → HasVerdict (DeservesCase program params)
+case_deserves laws program params kernel count None is =
+    (Done, tt, inl (laws.inside _ _ (laws.ranked program params kernel count) is, refl))
+case_deserves laws program params kernel count (Some f) is = (Outside (outside_of f), tt, inr (f, is, refl))
+
+data_deserves : Laws → (program : Program) (text : List ℕ) → IsKernel program
+    → ((said : Said) × Says text program said.params said.contents)
+    ⊎ ((refusal : DataRefusal) × (data_said program text ≡ Err refusal)) → HasVerdict (DeservesData program text)
+data_deserves laws program text kernel (inl said) =
+    let params = said.0.params in
+    let count = (laws.described text program params said.0.contents said.1).params_are.count in
+    let rest = case_deserves laws program params kernel count _ refl in
+    (rest.0, rest.1, inl (params, said.0.contents, said.1, rest.2))
+data_deserves laws program text kernel (inr broken) = (BadData broken.0, tt, inr (broken.0, broken.1, refl))
+
+text_deserves : Laws → (kernel text : List ℕ) → ((p : Program) × SpellsProgram kernel p)
+    ⊎ ((kind : RefusalKind) × (at : ℕ) × IsFirstFault kernel kind at) → HasVerdict (DeservesText kernel text)
+text_deserves laws kernel text (inl spelled) =
+    let rest = data_deserves laws spelled.0 text (laws.kernel kernel spelled.0 spelled.1) (laws.said text spelled.0) in
+    (rest.0, rest.1, inl (spelled.0, spelled.1, rest.2))
+text_deserves laws kernel text (inr fault) =
+    let refusal : Refusal = record {
+      kind = fault.0;
+      line = line_behind (take fault.1 kernel);
+      column = column_behind (take fault.1 kernel);
+    } in
+    (Refused refusal, tt, inr (refusal, record { at = fault.1; fault = fault.2; line = refl; column = refl }, refl))
+
+input_deserves : Laws → (input : List ℕ) (long : Bool) → ltb (2 ^ 27) (length input) ≡ long
+    → HasVerdict (DeservesInput input)
+input_deserves laws input true is = (too_long, tt, inr (ltb-true (2 ^ 27) (length input) is, refl))
+input_deserves laws input false is =
+    let rest = text_deserves laws (kernel_part input) (data_part input) (laws.text (kernel_part input)) in
+    (rest.0, rest.1, inl (ltb-false (2 ^ 27) (length input) is, rest.2))
+
+-- words are a command, or none
+run_or_not : (words : List (List ℕ)) (two run : Bool) → (length words == 2) ≡ two
+    → bytes_eq (get_or words 1 []) (codes "run") ≡ run → IsRunCommand words ⊎ (IsRunCommand words → ⊥)
+run_or_not words true true count second =
+    inl (eqb-true (length words) 2 count, (bytes_eq-Decides (get_or words 1 []) (codes "run")).0 second)
+run_or_not words true false count second =
+    inr (λ command. let is = (bytes_eq-Decides (get_or words 1 []) (codes "run")).1 command.1 in cc)
+run_or_not words false run count second = inr (λ command. eqb-false (length words) 2 count command.0)
+
+words_by : Laws → (words : List (List ℕ)) (input : List ℕ) → IsRunCommand words ⊎ (IsRunCommand words → ⊥)
+    → HasVerdict (Deserves words input)
+words_by laws words input (inl command) =
+    let rest = input_deserves laws input _ refl in (rest.0, rest.1, inl (command, rest.2))
+words_by laws words input (inr none) = (Usage, tt, inr (none, refl))
+
+-- words and an input deserve a status that is no fault and no want of memory
+pub words_deserve : Laws → (words : List (List ℕ)) (input : List ℕ)
+    → (status : Status) × IsVerdict status × Deserves words input status
+words_deserve laws words input = words_by laws words input (run_or_not words _ _ refl refl)
