@@ -5,12 +5,12 @@
 # starting fall out. Ours has in it a copy of the problem for each call, since the call takes the problem over; isl's
 # a further reference to its set. Prints microseconds a move and the ratio of the times, by the shortest processor
 # times.
-# usage: bench/lexmin.sh [CASES [ROUNDS]]; CASES is a file of cases, without one the program's stored input; ROUNDS is at
-# least 5.
+# usage: bench/lexmin.sh [ROUNDS [CASES]]; ROUNDS is at least 5; CASES is a file of cases, without one the program's
+# stored input.
 set -eu
 root=$(CDPATH= cd -- "$(dirname -- "$0")/.." && pwd)
-cases=${1:-$root/crates/solver_cases/stdin}
-[ $# -eq 0 ] || shift
+rounds=${1:-}
+cases=${2:-$root/crates/solver_cases/stdin}
 work=$(mktemp -d)
 trap 'rm -rf "$work"' EXIT
 (cd "$root/crates/solver_cases" && rt run <stdin >/dev/null 2>"$work/log") || { cat "$work/log" >&2; exit 1; }
@@ -20,4 +20,4 @@ if gcc -O2 -o "$work/baseline" "$root/bench/lexmin_isl.c" -lisl 2>/dev/null; the
 else
     echo "isl is missing (libisl-dev): no comparison"
 fi
-python3 -B "$root/bench/lexmin.py" "$root/crates/solver_cases/out/solver_cases" "$baseline" "$cases" "$@"
+python3 -B "$root/bench/lexmin.py" "$root/crates/solver_cases/out/solver_cases" "$baseline" "$cases" $rounds

@@ -11,7 +11,7 @@ passed=0
 failed=0
 
 # The stand-in: `rt version` tells the contents of $work/version; `rt run` makes the program, which prints its words
-# and exits with 7, or fails where $work/refuse stands, or takes a second where $work/slow does.
+# and exits with 7, or fails where $work/refuse stands, or takes five seconds where $work/slow does.
 make_stand_in() {
     mkdir -p "$work/bin" "$work/tmp"
     echo "kit 1" >"$work/version"
@@ -21,7 +21,7 @@ case \$1 in
 version) cat "$work/version" ;;
 run)
     echo built >>"$work/builds"
-    [ ! -e "$work/slow" ] || sleep 1
+    [ ! -e "$work/slow" ] || sleep 5
     [ ! -e "$work/refuse" ] || { echo "error: not proved" >&2; exit 1; }
     printf '#!/bin/sh\necho "\$*"\nexit 7\n' >out/polypar_main
     chmod +x out/polypar_main
@@ -135,7 +135,7 @@ expect "the proof mended" 7 8
 fresh
 : >"$work/slow"
 PATH=$work/bin:$PATH TMPDIR=$work/tmp setsid "$copy/polypar" >/dev/null 2>&1 &
-sleep 0.5
+until [ -e "$work/builds" ]; do sleep 0.1; done
 kill -TERM "-$!" 2>/dev/null
 wait "$!"
 status=$?

@@ -1,6 +1,6 @@
 //! Texts with their tokens or their first fault, told by hand.
 
-use scop_lexer::{FaultKind, Place, Stop, position, starts};
+use scop_lexer::{FaultKind, Place, Stop, position, starts, tokens};
 
 /// Texts that are read, and how many tokens they have.
 const READ: [(&str, usize); 13] = [
@@ -62,7 +62,7 @@ const REFUSED: [(&str, FaultKind, u64, u64); 32] = [
 
 /// How many tokens a text has.
 fn count(rt: &HostRuntime, text: &str) -> Option<usize> {
-    match starts(rt.alloc(), text.as_bytes()) {
+    match tokens(rt.alloc(), text.as_bytes()) {
         Ok(found) => Some(found.len()),
         Err(_) => None,
     }
@@ -78,8 +78,8 @@ fn fault_of(rt: &HostRuntime, text: &str) -> Option<(FaultKind, Place)> {
 
 #[test]
 fn texts_are_read(rt: HostRuntime) {
-    for (text, tokens) in READ {
-        assert_eq!(rt; count(&rt, text), Some(tokens), "{text}");
+    for (text, many) in READ {
+        assert_eq!(rt; count(&rt, text), Some(many), "{text}");
     }
 }
 
