@@ -52,14 +52,7 @@ ranked_array (meaning.Variable k) s e = absurd (omega arith)
 pub has_count : (f : Formula) → is_count 0 63 f ≡ true → IsCount f
 has_count (constant suffix.Absent v at) e =
     let small = leb-true v 63 (and_parts (nat_le 0 v) (nat_le v 63) e).1 in omega arith
-has_count (constant suffix.Present v at) e = absurd (cc)
-has_count (name m at) e = absurd (cc)
-has_count (index q i) e = absurd (cc)
-has_count (bare_call m at) e = absurd (cc)
-has_count (call m f at) e = absurd (cc)
-has_count (unary s f at) e = absurd (cc)
-has_count (cast f at) e = absurd (cc)
-has_count (binary o f g at) e = absurd (cc)
+has_count _ e = absurd (cc)
 
 -- a whole number has a word
 whole_word : (f : Formula) → HasWhole f → HasWord f

@@ -18,7 +18,7 @@ use Rattle.scop_roles.specs.declared.formula.Meaning.TheVariants as meaning
 use Rattle.scop_roles.specs.declared.formula.Role.TheVariants as role
 use Rattle.scop_roles.specs.Faults.{first, told, judged, faults, only_where, is_count}
 use Rattle.scop_roles.specs.Forms.{form}
-use Rattle.scop_roles.specs.Formula.{Formula, constant, name, index, bare_call, call, unary, cast, binary}
+use Rattle.scop_roles.specs.Formula.{Formula, constant, name, binary}
 use Rattle.scop_roles.specs.Values.{count}
 use Rattle.scop_units.specs.Scopes.{Scope, entries, iterator_fault}
 use Rattle.scop_units.specs.Loops.{Change, counted, assigned, LoopHead, is_entry, rises, condition_form, by_count}
@@ -70,13 +70,7 @@ some_if false o z e = absurd (cc)
 
 count_whole : (q : List ℤ) (f : Formula) → is_count 1 16 f ≡ true → whole q f ≡ pos (count f)
 count_whole q (constant s v at) e = refl
-count_whole q (name m at) e = absurd (cc)
-count_whole q (index p i) e = absurd (cc)
-count_whole q (bare_call m at) e = absurd (cc)
-count_whole q (call m f at) e = absurd (cc)
-count_whole q (unary s f at) e = absurd (cc)
-count_whole q (cast f at) e = absurd (cc)
-count_whole q (binary o f g at) e = absurd (cc)
+count_whole q _ e = absurd (cc)
 
 stride_up : (q : List ℤ) (f : Formula) (x z : ℤ) → stride_of true f ≡ Some z → x +ℤ z ≡ x +ℤ whole q f
 stride_up q f x z e =
@@ -96,29 +90,11 @@ stride_down q f x z e =
 -- the name of an entry is worth the entry
 entry_whole : (k : ℕ) (f : Formula) (q : List ℤ) → is_entry k f ≡ true → whole q f ≡ get_or q k (pos 0)
 entry_whole k (name (meaning.Variable j) at) q e = ap (λ i. get_or q i (pos 0)) (eqb-true j k e)
-entry_whole k (name meaning.Unknown at) q e = absurd (cc)
-entry_whole k (name meaning.Closed at) q e = absurd (cc)
-entry_whole k (name (meaning.Array i r) at) q e = absurd (cc)
-entry_whole k (constant s v at) q e = absurd (cc)
-entry_whole k (index p i) q e = absurd (cc)
-entry_whole k (bare_call m at) q e = absurd (cc)
-entry_whole k (call m f at) q e = absurd (cc)
-entry_whole k (unary s f at) q e = absurd (cc)
-entry_whole k (cast f at) q e = absurd (cc)
-entry_whole k (binary o f g at) q e = absurd (cc)
+entry_whole k _ q e = absurd (cc)
 
 entry_name : (k : ℕ) (f : Formula) → is_entry k f ≡ true → IsNameOf k f
 entry_name k (name (meaning.Variable j) at) e = eqb-true j k e
-entry_name k (name meaning.Unknown at) e = absurd (cc)
-entry_name k (name meaning.Closed at) e = absurd (cc)
-entry_name k (name (meaning.Array i r) at) e = absurd (cc)
-entry_name k (constant s v at) e = absurd (cc)
-entry_name k (index p i) e = absurd (cc)
-entry_name k (bare_call m at) e = absurd (cc)
-entry_name k (call m f at) e = absurd (cc)
-entry_name k (unary s f at) e = absurd (cc)
-entry_name k (cast f at) e = absurd (cc)
-entry_name k (binary o f g at) e = absurd (cc)
+entry_name k _ e = absurd (cc)
 
 set_step : (k : ℕ) (f : Formula) (q : List ℤ) (z : ℤ) → set_stride k f ≡ Some z → get_or q k (pos 0) +ℤ z ≡ whole q f
 set_step k (binary op.Plus f g at) q z e =
@@ -144,23 +120,13 @@ change_step k (assigned _ f) q z e = absurd (cc)
 -- a change by a count is one that has a step
 count_has : (f : Formula) → is_count 1 16 f ≡ true → HasWhole f
 count_has (constant suffix.Absent v at) e = tt
-count_has (constant suffix.Present v at) e = absurd (cc)
-count_has (name m at) e = absurd (cc)
-count_has (index p i) e = absurd (cc)
-count_has (bare_call m at) e = absurd (cc)
-count_has (call m f at) e = absurd (cc)
-count_has (unary s f at) e = absurd (cc)
-count_has (cast f at) e = absurd (cc)
-count_has (binary o f g at) e = absurd (cc)
+count_has _ e = absurd (cc)
 
 stride_has : (up : Bool) (f : Formula) (z : ℤ) → stride_of up f ≡ Some z → HasWhole f
 stride_has up f z e = count_has f (some_if (is_count 1 16 f) (Some (by_count up (count f))) z e).0
 
 named_whole : (k : ℕ) (f : Formula) → IsNameOf k f → HasWhole f
 named_whole k (name (meaning.Variable j) at) h = tt
-named_whole k (name meaning.Unknown at) h = absurd h
-named_whole k (name meaning.Closed at) h = absurd h
-named_whole k (name (meaning.Array i r) at) h = absurd h
 named_whole k _ h = absurd h
 
 added_has : (k : ℕ) (up : Bool) (f g : Formula) (z : ℤ) → added_stride k up f g ≡ Some z → HasWhole f × HasWhole g

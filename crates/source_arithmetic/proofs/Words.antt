@@ -71,14 +71,7 @@ binary_worth k e d p held v w x y more =
 pub count_word : (held : Cell → ℕ) (p : List ℤ) (g : Formula) → is_count 0 63 g ≡ true → word held p g ≡ count g
 count_word held p (constant suffix.Absent v at) e =
     let small : v ≤ 63 = grind arith in omega arith
-count_word held p (constant suffix.Present v at) e = absurd (cc)
-count_word held p (name m at) e = absurd (cc)
-count_word held p (index q i) e = absurd (cc)
-count_word held p (bare_call m at) e = absurd (cc)
-count_word held p (call m f at) e = absurd (cc)
-count_word held p (unary s f at) e = absurd (cc)
-count_word held p (cast f at) e = absurd (cc)
-count_word held p (binary o f g at) e = absurd (cc)
+count_word held p _ e = absurd (cc)
 
 -- an operator of unsigned values
 unsigned_worth : (n : ℕ) (o : Op) (e d : Expression) (f g : Formula) (at : ℕ) (p : List ℤ) (held : Cell → ℕ)
