@@ -9,6 +9,7 @@ mod pivot;
 mod problem;
 mod rows;
 mod scans;
+mod staying;
 mod stop;
 mod table;
 

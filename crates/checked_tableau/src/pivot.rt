@@ -5,6 +5,7 @@ ghost use Rattle.tableau_rows.specs.Moves.{unit_line, placed_line_run, buffer_ru
 
 use crate::contents::reduce;
 use crate::rows::combine;
+use crate::staying::surely_fit;
 use wide_math::Wide;
 
 /// The row that is the column itself.
@@ -27,6 +28,11 @@ fn place_row(row: &mut [i128], pivot: &[i128], is_pivot: bool, column: usize) ->
 {
     if is_pivot {
         write_unit(row, column);
+        return Ok(());
+    }
+    // The pivot would only multiply the row, and its lowest terms stay.
+    if row[column + 1] == 0 && surely_fit(row, pivot[column + 1]) {
+        reduce(row);
         return Ok(());
     }
     match combine(row, pivot, column) {

@@ -1,6 +1,8 @@
 -- A decision of emptiness is the run's.
-use Rattle.std.proofs.Common.{◌≡◌, ℕ, Bool, not, List, ◌++◌, length, refl, subst, ap, sym, ◌∙◌}
+use Rattle.std.proofs.Common.{◌≡◌, ℕ, Bool, not, List, [], ◌∷◌, ◌++◌, length, refl, subst, ap, sym, ◌∙◌}
 use Rattle.std.proofs.Common.{append_assoc, inl}
+use Rattle.std.proofs.lemmas.List.{append-nil}
+use Rattle.std.proofs.lemmas.List.Elements.{All-nil, All-cons, All-head, All-tail}
 use Rattle.std.specs.Prelude.{Result, Ok, Err, All}
 use Rattle.wide_math.specs.declared.Wide.{Wide}
 use Rattle.wide_math.specs.Checked.{◌>>=◌}
@@ -18,7 +20,7 @@ use Rattle.lexmin_runs.proofs.Emptiness.{posed_points}
 use Rattle.lexmin_runs.proofs.Longer.{all_speak}
 use Rattle.checked_tableau.specs.declared.problem.Problem.{Problem}
 use Rattle.pip_solver.specs.declared.stop.Stop.TheVariants as solver
-use Rattle.pip_solver.specs.Answers.{Poses, Decides, Empties, IsPosed, decided}
+use Rattle.pip_solver.specs.Answers.{Poses, Decides, Empties, IsPosed, IsProblem, decided}
 
 -- the answer turned
 abbrev pub turned : Counted Bool → Counted Bool
@@ -30,12 +32,10 @@ emptied_is (Ok (point x, left)) = refl
 emptied_is (Ok (none, left)) = refl
 emptied_is (Err stop) = refl
 
-pub decided_is : (budget : ℕ) (posed : Problem)
-    → decided budget posed ≡ turned (answered
-    (run posed.unknowns budget (first_rows 0 (problem_of posed.unknowns posed.rows.items))))
+pub decided_is : (budget n : ℕ) (rows : List Affine)
+    → decided budget n rows ≡ turned (answered (run n budget (first_rows 0 (problem_of n rows))))
 unfolding question
-decided_is budget posed = emptied_is (run posed.unknowns budget
-    (first_rows 0 (problem_of posed.unknowns posed.rows.items)))
+decided_is budget n rows = emptied_is (run n budget (first_rows 0 (problem_of n rows)))
 
 -- posing
 pub pose-stops : (U : Type 0) (s : Constraints) (old new : List Affine) (stop : FormStop)
@@ -77,28 +77,65 @@ posed_sized s rows sized posed =
     (posed_points s rows (zeros s.dimensions) (zeros s.parameters) sized posed (length-zeros s.dimensions)
     (length-zeros s.parameters)).0
 
-empty_is : (budget : ℕ) (s : Constraints) (posed : Problem) → IsPosed s posed
-    → empty_run budget s ≡ decided budget posed
-unfolding empty_run
-empty_is budget s posed is =
-    ap (λ (q : Result (List Affine) Wide). formed budget q
-    (λ rows. emptied (question budget (problem_of (variables_in s) rows)))) is.rows
-    ∙ ap (λ (n : ℕ). emptied (question budget (problem_of n posed.rows.items))) (sym is.unknowns)
+-- without parameters there are no bounds
+pub posed_flat : (s : Constraints) (es : List Affine) → s.parameters ≡ 0 → equality_rows_run s.equalities ≡ Ok es
+    → posed_run s ≡ Ok (es ++ s.rows)
+unfolding posed_run
+posed_flat s es flat formed =
+    ap (λ (q : Result (List Affine) Wide). q >>= λ es. Ok
+    (es ++ (s.rows ++ bound_rows (variables_in s) s.dimensions s.parameters))) formed
+    ∙ ap (λ (k : ℕ). Ok (es ++ (s.rows ++ bound_rows (variables_in s) s.dimensions k))) flat
+    ∙ ap (λ (fs : List Affine). Ok (es ++ fs)) (append-nil s.rows)
 
-pub empties_decided : (budget : ℕ) (s : Constraints) (posed : Problem) (result : Result Bool solver.the_data)
-    → IsPosed s posed → Decides result budget posed → Empties result budget s
-empties_decided budget s posed (Ok empty) is decides = (decides.0, empty_is budget s posed is ∙ decides.1)
-empties_decided budget s posed (Err (solver.Wide told moves)) is decides = (
+-- the first part's forms are sized as all are
+all_front : {X : Type 0} (P : X → Type 0) (xs ys : List X) → All P (xs ++ ys) → All P xs
+all_front P [] ys all = All-nil P
+all_front P (x ∷ xs) ys all =
+    All-cons P x xs (All-head P x (xs ++ ys) all) (all_front P xs ys (All-tail P x (xs ++ ys) all))
+
+pub front_sized : (s : Constraints) (n : ℕ) (es : List Affine) → IsSized (variables_in s) s.equalities s.rows
+    → posed_run s ≡ Ok (es ++ s.rows) → n ≡ variables_in s
+    → All (λ f. length f.coefficients ≡ n) es
+front_sized s n es sized posed same =
+    subst (λ (k : ℕ). All (λ f. length f.coefficients ≡ k) es) (sym same)
+    (all_front (λ f. length f.coefficients ≡ variables_in s) es s.rows (posed_sized s (es ++ s.rows) sized posed))
+
+empty_rows : (budget n : ℕ) (s : Constraints) (rows : List Affine) → posed_run s ≡ Ok rows → n ≡ variables_in s
+    → empty_run budget s ≡ decided budget n rows
+unfolding empty_run
+empty_rows budget n s rows posed same =
+    ap (λ (q : Result (List Affine) Wide). formed budget q
+    (λ rows. emptied (question budget (problem_of (variables_in s) rows)))) posed
+    ∙ ap (λ (k : ℕ). emptied (question budget (problem_of k rows))) (sym same)
+
+posed_of : (s : Constraints) (n : ℕ) (rows : List Affine) (told : Problem) → posed_run s ≡ Ok rows
+    → n ≡ variables_in s → IsProblem n rows told
+    → IsPosed s told
+posed_of s n rows told posed same is = record {
+  unknowns = is.unknowns ∙ same;
+  parameters = is.parameters;
+  rows = posed ∙ ap (λ (fs : List Affine). Ok fs) (sym is.rows);
+  context = is.context;
+}
+
+pub empties_rows : (budget n : ℕ) (s : Constraints) (rows : List Affine) (result : Result Bool solver.the_data)
+    → posed_run s ≡ Ok rows → n ≡ variables_in s → Decides result budget n rows
+    → Empties result budget s
+empties_rows budget n s rows (Ok empty) posed same decides =
+    (decides.0, empty_rows budget n s rows posed same ∙ decides.1)
+empties_rows budget n s rows (Err (solver.Wide told moves)) posed same decides = (
   decides.0,
   decides.1,
-  empty_is budget s posed is
-      ∙ decides.2,
+  empty_rows budget n s rows posed same ∙ decides.2,
   decides.3,
-  inl (subst (λ (p : Problem). IsPosed s p) (sym decides.4) is),
+  inl (posed_of s n rows told posed same decides.4),
 )
-empties_decided budget s posed (Err (solver.Spent told moves)) is decides =
-    (empty_is budget s posed is ∙ decides.0, decides.1, subst (λ (p : Problem). IsPosed s p) (sym decides.2) is)
-empties_decided budget s posed (Err solver.NoMemory) is decides = tt
+empties_rows budget n s rows (Err (solver.Spent told moves)) posed same decides = (
+  empty_rows budget n s rows posed same ∙ decides.0,
+  decides.1,
+  posed_of s n rows told posed same decides.2,
+)
+empties_rows budget n s rows (Err solver.NoMemory) posed same decides = tt
 
 -- a number that is too wide before the problem is posed
 pub empty_unposed : (budget : ℕ) (s : Constraints) (w : Wide) → posed_run s ≡ Err w

@@ -53,18 +53,26 @@ Poses old new (Ok _) run = (more : List Affine) × (run ≡ Ok more) × (new ≡
 Poses old new (Err (form_stop.Wide w)) run = run ≡ Err w
 Poses old new (Err form_stop.NoMemory) run = ⊤
 
--- whether the run finds that a posed problem without parameters has no point
-abbrev pub decided : ℕ → Problem → Counted Bool
-decided budget posed = emptied (run.question budget (problem_of posed.unknowns posed.rows.items))
+-- the problem of n unknowns and of rows, without parameters
+pub record IsProblem (n : ℕ) (fs : List Affine) (posed : Problem) : Type 0 where
+  pub unknowns : posed.unknowns ≡ n
+  pub parameters : posed.parameters ≡ 0
+  pub rows : posed.rows.items ≡ fs
+  pub context : posed.context.items ≡ []
 
--- a decision is the run's; a stop tells the problem and the moves made
-abbrev pub Decides : Result Bool solver.the_data → ℕ → Problem → Type 0
-Decides (Ok empty) budget posed = (left : ℕ) × (decided budget posed ≡ Ok (empty, left))
-Decides (Err (solver.Wide told moves)) budget posed =
-    (w : Wide) × (left : ℕ) × (decided budget posed ≡ Err (run.wide w left)) × (moves + left ≡ budget) × (told ≡ posed)
-Decides (Err (solver.Spent told moves)) budget posed =
-    (decided budget posed ≡ Err run.spent) × (moves ≡ budget) × (told ≡ posed)
-Decides (Err solver.NoMemory) budget posed = ⊤
+-- whether the run finds that rows over n unknowns have no point
+abbrev pub decided : ℕ → ℕ → List Affine → Counted Bool
+decided budget n rows = emptied (run.question budget (problem_of n rows))
+
+-- a decision is the run's; a stop tells the problem of the rows and the moves made
+abbrev pub Decides : Result Bool solver.the_data → ℕ → ℕ → List Affine → Type 0
+Decides (Ok empty) budget n rows = (left : ℕ) × (decided budget n rows ≡ Ok (empty, left))
+Decides (Err (solver.Wide told moves)) budget n rows =
+    (w : Wide) × (left : ℕ) × (decided budget n rows ≡ Err (run.wide w left)) × (moves + left ≡ budget)
+    × IsProblem n rows told
+Decides (Err (solver.Spent told moves)) budget n rows =
+    (decided budget n rows ≡ Err run.spent) × (moves ≡ budget) × IsProblem n rows told
+Decides (Err solver.NoMemory) budget n rows = ⊤
 
 -- the problem that a system poses
 pub record IsPosed (s : Constraints) (posed : Problem) : Type 0 where

@@ -1,6 +1,6 @@
 //! Whether a system has no whole point with dimensions from 0 on and parameters in 0..=65536.
 ghost use Rattle.std.specs.Prelude.{◌≡◌, ◌<◌, ◌≤◌, ◌-◌, [], ◌∷◌, ◌++◌, OnOk, set, Ok, negsuc, pos};
-ghost use Rattle.std.specs.Prelude.{All, true, false, ℤ, List};
+ghost use Rattle.std.specs.Prelude.{All, IfOk, true, false, ℤ, List};
 ghost use Rattle.affine_forms.specs.Gives.{Gives};
 ghost use Rattle.whole_numbers.specs.Affine.{form_of};
 ghost use Rattle.affine_forms.specs.Parts.{variables_of};
@@ -8,7 +8,7 @@ ghost use Rattle.integer_sets.specs.Constraints.{IsSized, variables_in};
 ghost use Rattle.whole_numbers.specs.Lists.{zeros};
 ghost use Rattle.lexmin_runs.specs.Emptiness.{negated_run, equality_rows_run, bound_rows, posed_run, IsBoundedPoint};
 ghost use Rattle.lexmin_runs.specs.Emptiness.{HasBoundedPoint};
-ghost use Rattle.pip_solver.specs.Answers.{Decides, Empties, Poses, equality_run};
+ghost use Rattle.pip_solver.specs.Answers.{Decides, IsProblem, Empties, Poses, equality_run};
 
 use crate::lists::{push, push_copy};
 use crate::question::{QuestionStop, question};
@@ -146,27 +146,89 @@ fn pose(
     pose_bounds(alloc, rows, variables, system.dimensions())
 }
 
-/// Whether the posed rows have no point.
-fn decide(alloc: Global, posed: Problem, budget: u64) -> Result<bool, Stop>
-    requires { All (λ f. variables_of f ≡ posed.unknowns) posed.rows.items }
-    ensures { Decides result budget posed }
+/// The problem of rows in two parts, which a stop tells.
+fn told(
+    alloc: Global,
+    unknowns: usize,
+    front: Vec<Form>,
+    own: &[Form],
+) -> Result<Problem, AllocError>
+    ensures { IfOk result (IsProblem unknowns (front.items ++ own.now)) }
 {
-    let mut rows = match Rows::of(alloc, posed.unknowns, 0, &posed.rows, &[]) {
+    let mut rows = front;
+    match pose_rows(&mut rows, own) {
+        Err(_) => Err(AllocError),
+        Ok(()) => Ok(Problem {
+            unknowns,
+            parameters: 0,
+            rows,
+            context: Vec::new(alloc),
+        }),
+    }
+}
+
+/// Whether rows in two parts have no point. The second part stays where it is; only a stop copies it.
+fn decide(
+    alloc: Global,
+    unknowns: usize,
+    front: Vec<Form>,
+    own: &[Form],
+    budget: u64,
+) -> Result<bool, Stop>
+    requires front { All (λ f. variables_of f ≡ unknowns) front.items }
+    requires own { All (λ f. variables_of f ≡ unknowns) own.now }
+    ensures { Decides result budget unknowns (front.items ++ own.now) }
+{
+    let mut rows = match Rows::of(alloc, unknowns, 0, &front, own) {
         Err(_) => return Err(Stop::NoMemory),
         Ok(rows) => rows,
     };
     let mut left = budget;
-    match question(&mut rows, &mut left) {
-        Ok(found) => Ok(!found),
-        Err(QuestionStop::Wide) => Err(Stop::Wide {
+    let stop = match question(&mut rows, &mut left) {
+        Ok(found) => return Ok(!found),
+        Err(stop) => stop,
+    };
+    if matches!(stop, QuestionStop::NoMemory) {
+        return Err(Stop::NoMemory);
+    }
+    let posed = match told(alloc, unknowns, front, own) {
+        Err(_) => return Err(Stop::NoMemory),
+        Ok(posed) => posed,
+    };
+    match stop {
+        QuestionStop::Wide => Err(Stop::Wide {
             posed,
             moves: budget - left,
         }),
-        Err(QuestionStop::Spent) => Err(Stop::Spent {
+        QuestionStop::Spent => Err(Stop::Spent {
             posed,
             moves: budget,
         }),
-        Err(QuestionStop::NoMemory) => Err(Stop::NoMemory),
+        QuestionStop::NoMemory => Err(Stop::NoMemory),
+    }
+}
+
+/// The same as `is_empty`, of a system without parameters.
+fn is_empty_flat(alloc: Global, system: &System, budget: u64) -> Result<bool, Stop>
+    requires { system.now.parameters ≡ 0 }
+    ensures run { Empties result budget system.now }
+    ensures sized { IsSized (variables_in system.now) system.now.equalities system.now.rows }
+{
+    let unknowns = system.dimensions();
+    let own = system.rows();
+    let mut front = Vec::new(alloc);
+    match pose_equalities(alloc, &mut front, system.equalities()) {
+        Err(FormStop::NoMemory) => Err(Stop::NoMemory),
+        Err(FormStop::Wide(_)) => {
+            let posed = Problem {
+                unknowns,
+                parameters: 0,
+                rows: front,
+                context: Vec::new(alloc),
+            };
+            Err(Stop::Wide { posed, moves: 0 })
+        }
+        Ok(()) => decide(alloc, unknowns, front, own, budget),
     }
 }
 
@@ -180,12 +242,14 @@ pub fn is_empty(alloc: Global, system: &System, budget: u64) -> Result<bool, Sto
     ensures empty { result ≡ Ok true → (x p : List ℤ) → IsBoundedPoint system.now x p → ⊥ }
     ensures point { result ≡ Ok false → HasBoundedPoint system.now }
 {
+    if system.parameters() == 0 {
+        return is_empty_flat(alloc, system, budget);
+    }
     let unknowns = match system.dimensions().checked_add(system.parameters()) {
         None => return Err(Stop::NoMemory),
         Some(unknowns) => unknowns,
     };
     let mut rows = Vec::new(alloc);
-    let context = Vec::new(alloc);
     match pose(alloc, &mut rows, system, unknowns) {
         Err(FormStop::NoMemory) => Err(Stop::NoMemory),
         Err(FormStop::Wide(_)) => {
@@ -193,18 +257,10 @@ pub fn is_empty(alloc: Global, system: &System, budget: u64) -> Result<bool, Sto
                 unknowns,
                 parameters: 0,
                 rows,
-                context,
+                context: Vec::new(alloc),
             };
             Err(Stop::Wide { posed, moves: 0 })
         }
-        Ok(()) => {
-            let posed = Problem {
-                unknowns,
-                parameters: 0,
-                rows,
-                context,
-            };
-            decide(alloc, posed, budget)
-        }
+        Ok(()) => decide(alloc, unknowns, rows, &[], budget),
     }
 }

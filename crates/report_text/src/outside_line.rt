@@ -23,7 +23,7 @@ pub(crate) fn put_outside<K: Sink>(
 }
 
 /// Puts `outside: SN access A`.
-#[tactic(auto, using(io_ports::proofs::Writing::putting))]
+#[tactic(auto, using(crate::proofs::Joining::joining))]
 fn put_access<K: Sink>(
     pieces: &mut Pieces,
     sink: &mut K,
@@ -33,9 +33,10 @@ fn put_access<K: Sink>(
     ensures { Puts (K.shows sink.old) pieces.old (K.shows sink.new) pieces.new
         (numbered (codes "outside: S") stmt [] ++ numbered (codes " access ") access []) result }
 {
-    put_numbered(pieces, sink, b"outside: S", stmt, b"")?;
-    put_numbered(pieces, sink, b" access ", access, b"")?;
-    Ok(())
+    match put_numbered(pieces, sink, b"outside: S", stmt, b"") {
+        Err(failed) => Err(failed),
+        Ok(()) => put_numbered(pieces, sink, b" access ", access, b""),
+    }
 }
 
 /// Puts ` dimension D value V extent E` and a line feed.

@@ -78,7 +78,7 @@ pub(crate) fn put_signed<K: Sink>(
 }
 
 /// Puts three texts.
-#[tactic(auto, using(io_ports::proofs::Writing::putting))]
+#[tactic(auto, using(crate::proofs::Joining::joining))]
 fn put_three<K: Sink>(
     pieces: &mut Pieces,
     sink: &mut K,
@@ -89,13 +89,14 @@ fn put_three<K: Sink>(
     ensures { Puts (K.shows sink.old) pieces.old (K.shows sink.new) pieces.new (front.now ++ (text.now ++ end.now))
         result }
 {
-    pieces.put(sink, front)?;
-    put_two(pieces, sink, text, end)?;
-    Ok(())
+    match pieces.put(sink, front) {
+        Err(failed) => Err(failed),
+        Ok(()) => put_two(pieces, sink, text, end),
+    }
 }
 
 /// Puts two texts.
-#[tactic(auto, using(io_ports::proofs::Writing::putting))]
+#[tactic(auto, using(crate::proofs::Joining::joining))]
 fn put_two<K: Sink>(
     pieces: &mut Pieces,
     sink: &mut K,
@@ -104,7 +105,8 @@ fn put_two<K: Sink>(
 ) -> Result<(), Failed>
     ensures { Puts (K.shows sink.old) pieces.old (K.shows sink.new) pieces.new (text.now ++ end.now) result }
 {
-    pieces.put(sink, text)?;
-    pieces.put(sink, end)?;
-    Ok(())
+    match pieces.put(sink, text) {
+        Err(failed) => Err(failed),
+        Ok(()) => pieces.put(sink, end),
+    }
 }

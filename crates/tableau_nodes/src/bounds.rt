@@ -93,3 +93,17 @@ pub fn copied_bounds(alloc: Global, bounds: &[Bound]) -> Result<Vec<Bound>, Allo
     }
     Ok(all)
 }
+
+/// The bound of a parameter at a place: the quotient of a form by a divisor.
+pub fn bound_of(alloc: Global, form: &Form, divisor: i128, place: usize) -> Result<Bound, AllocError>
+    ensures { IfOk result (λ b. b ≡ record { form = form.now; divisor = divisor; place = place }) }
+{
+    match form.copy() {
+        Err(_) => Err(AllocError),
+        Ok(form) => Ok(Bound {
+            form,
+            divisor,
+            place,
+        }),
+    }
+}

@@ -28,20 +28,14 @@ pub fn oppose(numbers: &mut [i128]) -> Result<(), Wide>
 fn opposites(alloc: Global, numbers: &[i128]) -> Result<Vec<i128>, FormStop>
     ensures { Gives (λ v. v.items) result (opposites_run numbers.now) }
 {
-    let mut opposites = match Vec::with_capacity(alloc, numbers.len()) {
+    let mut opposites = match Vec::from_slice(alloc, numbers) {
         Err(_) => return Err(FormStop::NoMemory),
         Ok(opposites) => opposites,
     };
-    for number in numbers {
-        match sub(0, *number) {
-            Err(wide) => return Err(FormStop::Wide(wide)),
-            Ok(opposite) => match opposites.push(opposite) {
-                Err(_) => return Err(FormStop::NoMemory),
-                Ok(()) => {}
-            },
-        }
+    match oppose(&mut opposites) {
+        Err(wide) => Err(FormStop::Wide(wide)),
+        Ok(()) => Ok(opposites),
     }
-    Ok(opposites)
 }
 
 /// The form of these coefficients, one more behind them, and a constant.
@@ -176,4 +170,22 @@ pub fn copies(alloc: Global, forms: &[Form]) -> Result<Vec<Form>, AllocError>
         }
     }
     Ok(all)
+}
+
+/// The forms over one unknown more, and two forms behind them.
+pub fn tied_forms(alloc: Global, forms: &[Form], low: Form, high: Form) -> Result<Vec<Form>, AllocError>
+    ensures { IfOk result (λ v. v.items ≡ map longer_form forms.now ++ low ∷ high ∷ []) }
+{
+    let mut all = match longer_forms(alloc, forms) {
+        Err(error) => return Err(error),
+        Ok(all) => all,
+    };
+    match all.push(low) {
+        Err(_) => return Err(AllocError),
+        Ok(()) => {}
+    }
+    match all.push(high) {
+        Err(_) => Err(AllocError),
+        Ok(()) => Ok(all),
+    }
 }

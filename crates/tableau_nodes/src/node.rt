@@ -1,18 +1,19 @@
 //! A node: a tableau, a context of rows over its parameters, and the parameters that cuts have bound. A move changes
 //! it in place; a cut or a split takes its memory before it changes anything.
 ghost use Rattle.std.specs.Prelude.{◌≡◌, ℕ, suc, ◌+◌, ◌<◌, length, All, None, Some, Ok, Err, IfOk, OnOk};
+ghost use Rattle.affine_forms.specs.Gives.{Gives};
 ghost use Rattle.affine_forms.specs.Parts.{variables_of};
 ghost use Rattle.wide_math.specs.declared.Wide.{Wide};
 ghost use Rattle.tableau_rows.specs.Moves.{row_at};
 ghost use Rattle.tableau_rows.specs.Problem.{problem_of};
-ghost use Rattle.lexmin_runs.specs.Nodes.{first_node, goes, part_of, side, split, cut, taken_off};
+ghost use Rattle.lexmin_runs.specs.Nodes.{first_node, goes, opposite_run, part_of, side, split, cut, taken_off};
 ghost use Rattle.lexmin_runs.specs.Solutions.{ArePlaced, IsNode};
 ghost use Rattle.checked_tableau.specs.declared.stop.TableauStop.TheVariants as stop;
 ghost use Rattle.tableau_nodes.specs.Node.{node_of, next_of, IsGoing, Keeps, Pivots, Moves, cut_known, cut_new};
 ghost use Rattle.tableau_nodes.specs.Node.{StopsAt, tied_run, TiesParts, BindsOn};
 
-use crate::bounds::{Bound, copied_bounds, place_of};
-use crate::forms::{at_least, copies, longer_forms, opposite, under};
+use crate::bounds::{Bound, bound_of, copied_bounds, place_of};
+use crate::forms::{at_least, copies, opposite, tied_forms, under};
 use crate::parts::{all_zero, part_of, taken_off};
 use affine_forms::{Form, FormStop};
 use checked_tableau::{Problem, Rows, TableauStop};
@@ -139,21 +140,13 @@ impl Tableau {
         if let Some(wide) = self.rows.stopped() {
             return Err(TableauStop::Wide(wide));
         }
-        let part = match part_of(alloc, &self.rows, row) {
-            Err(_) => return Err(TableauStop::NoMemory),
-            Ok(part) => part,
-        };
-        let test = match part.copy() {
-            Err(_) => return Err(TableauStop::NoMemory),
-            Ok(test) => test,
-        };
-        let opposite = match opposite(alloc, &part) {
+        let (part, test, opposite) = match split_forms(alloc, &self.rows, row) {
             Err(FormStop::NoMemory) => return Err(TableauStop::NoMemory),
             Err(FormStop::Wide(wide)) => {
                 self.rows.stop(wide);
                 return Err(TableauStop::Wide(wide));
             }
-            Ok(opposite) => opposite,
+            Ok(forms) => forms,
         };
         let second = match self.side(alloc, opposite) {
             Err(_) => return Err(TableauStop::NoMemory),
@@ -295,27 +288,13 @@ impl Tableau {
     ) -> Result<(), AllocError>
         ensures { BindsOn self.old rows form.now divisor low high self.new result }
     {
-        let mut context = match longer_forms(alloc, &self.context) {
+        let context = match tied_forms(alloc, &self.context, low, high) {
             Err(error) => return Err(error),
             Ok(context) => context,
         };
-        match context.push(low) {
-            Err(_) => return Err(AllocError),
-            Ok(()) => {}
-        }
-        match context.push(high) {
-            Err(_) => return Err(AllocError),
-            Ok(()) => {}
-        }
-        let form = match form.copy() {
-            Err(_) => return Err(AllocError),
-            Ok(form) => form,
-        };
-        let place = self.rows.parameters();
-        let bound = Bound {
-            form,
-            divisor,
-            place,
+        let bound = match bound_of(alloc, form, divisor, self.rows.parameters()) {
+            Err(error) => return Err(error),
+            Ok(bound) => bound,
         };
         match self.bounds.insert(0, bound) {
             Err(_) => Err(AllocError),
@@ -355,5 +334,26 @@ impl Tableau {
             context,
             bounds,
         })
+    }
+}
+
+// A row's part, twice, and its opposite.
+fn split_forms(alloc: Global, rows: &Rows, row: usize) -> Result<(Form, Form, Form), FormStop>
+    requires { row < length rows.now.rows }
+    ensures part { IfOk result (λ p. p.0 ≡ part_of rows.now.unknowns (row_at rows.now.rows row)) }
+    ensures test { IfOk result (λ p. p.1 ≡ part_of rows.now.unknowns (row_at rows.now.rows row)) }
+    ensures opposite { Gives (λ p. p.2) result (opposite_run (part_of rows.now.unknowns (row_at rows.now.rows row))) }
+{
+    let part = match part_of(alloc, rows, row) {
+        Err(_) => return Err(FormStop::NoMemory),
+        Ok(part) => part,
+    };
+    let opposite = match opposite(alloc, &part) {
+        Err(stop) => return Err(stop),
+        Ok(opposite) => opposite,
+    };
+    match part.copy() {
+        Err(_) => Err(FormStop::NoMemory),
+        Ok(test) => Ok((part, test, opposite)),
     }
 }

@@ -69,17 +69,7 @@ fn opposite_remainders(
     requires { pos 1 ≤ℤ divisor }
     ensures { IfOk result (λ v. v.items ≡ map (λ z. remainder (neg_ℤ z) divisor) numbers.now) }
 {
-    let mut all = match Vec::with_capacity(alloc, numbers.len()) {
-        Err(error) => return Err(error),
-        Ok(all) => all,
-    };
-    for number in numbers {
-        match all.push(opposite_remainder(*number, divisor)) {
-            Err(_) => return Err(AllocError),
-            Ok(()) => {}
-        }
-    }
-    Ok(all)
+    numbers.iter().map(|number| opposite_remainder(*number, divisor)).collect(alloc)
 }
 
 /// What a cut on a row takes off.

@@ -70,6 +70,15 @@ pub fn cross(a: i128, b: i128, c: i128, d: i128) -> Result<i128, Wide>
     ) {
         return Ok(narrow_cross(a, b, c, d));
     }
+    wide_cross(a, b, c, d)
+}
+
+// The same of any numbers. It stays a call, so that the other way is short enough to stand in a loop.
+#[inline(never)]
+#[tactic(auto, unfolding(crate::specs::Checked::cross_of))]
+fn wide_cross(a: i128, b: i128, c: i128, d: i128) -> Result<i128, Wide>
+    ensures { result ≡ cross_of a b c d }
+{
     match mul(a, b) {
         Err(wide) => Err(wide),
         Ok(left) => match mul(c, d) {

@@ -17,8 +17,3 @@ returns-then-row-eq1 c =
     subst (λ (z : ℤ). Divides (pos (content row)) z) one (content_divides row 0 (pos 0) c.requires.length) in
     let l = divides-le (pos (content row)) (pos 1) (omega (arith, ints)) d in
     sym (lowest_stays row (omega (arith, ints)))
-
-pub returns-else-divisor-gt1 : goal.returns-else-divisor-gt1
-returns-else-divisor-gt1 c =
-    let e = c.content-divisor.ensures in
-    sym (lowest_stays c.args.row.now (omega arith))
