@@ -4,3 +4,4 @@ pub mod Pairs
 pub mod Sources
 pub mod Shapes
 pub mod Gathering
+pub mod Parts

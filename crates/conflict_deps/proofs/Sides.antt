@@ -15,13 +15,13 @@ use Rattle.iteration_domains.specs.Dependence.{Dependence}
 use Rattle.conflict_deps.specs.Conflicts.{Side, side, sides_from, sides_of, After, dep_of, afters_of, may_conflict}
 use Rattle.conflict_deps.specs.Conflicts.{deps_between, conflicts_of}
 
-in_flat_map : {A B : Type 0} (f : A → List B) (xs : List A) (x : A) (y : B) → In x xs → In y (f x)
+pub in_flat_map : {A B : Type 0} (f : A → List B) (xs : List A) (x : A) (y : B) → In x xs → In y (f x)
     → In y (flat_map f xs)
 in_flat_map f [] x y h g = absurd h
 in_flat_map f (z ∷ zs) x y (inl e) g = in_front y (f z) (flat_map f zs) (subst (λ u. In y (f u)) e g)
 in_flat_map f (z ∷ zs) x y (inr h) g = in_back y (f z) (flat_map f zs) (in_flat_map f zs x y h g)
 
-in_flat_map_from : {A B : Type 0} (f : A → List B) (xs : List A) (y : B) → In y (flat_map f xs)
+pub in_flat_map_from : {A B : Type 0} (f : A → List B) (xs : List A) (y : B) → In y (flat_map f xs)
     → (x : A) × In x xs × In y (f x)
 in_flat_map_from f [] y h = absurd h
 in_flat_map_from f (x ∷ xs) y h = elim (in_append y (f x) (flat_map f xs) h) [
@@ -30,7 +30,7 @@ in_flat_map_from f (x ∷ xs) y h = elim (in_append y (f x) (flat_map f xs) h) [
 ]
 
 -- the accesses of a statement with their numbers
-side_to : (p : Modelled) (k : ℕ) (fs : List Access) (s : Side) → In s (sides_from p k fs)
+pub side_to : (p : Modelled) (k : ℕ) (fs : List Access) (s : Side) → In s (sides_from p k fs)
     → (s.statement ≡ p) × ((j : ℕ) × (s.number ≡ k + j) × (slice_get fs j ≡ Some s.access))
 side_to p k [] s h = absurd h
 side_to p k (f ∷ fs) s (inl e) = (

@@ -2,3 +2,4 @@ pub mod Conflicts
 pub mod Pairs
 pub mod View
 pub mod Examples
+pub mod Parts

@@ -6,7 +6,12 @@ ghost use Rattle.scop_syntax.specs.Kernel.{IsKernel};
 ghost use Rattle.scop_syntax.specs.Tree.{Program};
 ghost use Rattle.scop_syntax.specs.Walk.{walk_of};
 ghost use Rattle.iteration_domains.specs.Dependence.{Dependence};
+ghost use Rattle.scop_syntax.specs.Members.{In};
+ghost use Rattle.iteration_domains.specs.Model.{KernelModel};
+ghost use Rattle.iteration_domains.specs.Sizes.{IsKernelModel};
+ghost use Rattle.conflict_deps.specs.Conflicts.{conflicts_of};
 ghost use Rattle.conflict_deps.specs.Pairs.{IsEnd, IsPair, IsPoint};
+ghost use Rattle.conflict_deps.specs.Parts.{HasParts};
 
 use scop_syntax::walk_laws::{
     instances_are_those_of_statements, statements_are_numbered, walks_are_in_order,
@@ -31,3 +36,10 @@ pub fn conflicts_are_the_points_of_the_systems()
     statements_are_numbered();
     walks_are_in_order();
 }
+
+/// The system of each conflict falls into its parts: the domains of both instances, the subscripts, the order, and that
+/// no parameter is negative; its ends are statements of the model.
+pub fn systems_have_parts()
+    ensures { (model : KernelModel) (dep : Dependence) → IsKernelModel model → In dep (conflicts_of model)
+        → HasParts model dep }
+{}

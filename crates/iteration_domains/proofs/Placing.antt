@@ -2,7 +2,7 @@
 use Rattle.std.proofs.Common.{◌≡◌, ℕ, zero, suc, ◌+◌, ◌-◌, ◌*◌, ◌^◌, ◌<◌, ◌≤◌, List, [], ◌∷◌, ◌++◌, length, map, drop}
 use Rattle.std.proofs.Common.{get_or, ap, ap₂, subst, sym, ◌∙◌, refl, arith, length-append, inl}
 use Rattle.std.proofs.Common.{inr}
-use Rattle.std.specs.Prelude.{All}
+use Rattle.std.specs.Prelude.{All, slice_get, Some}
 use Rattle.std.proofs.lemmas.List.{append_assoc, map-append, length-map}
 use Rattle.std.proofs.lemmas.List.Elements.{All-nil, All-cons, All-head, All-tail, All-append}
 use Rattle.whole_numbers.specs.Affine.{Affine, composed}
@@ -528,10 +528,20 @@ of_each P m [] h = All-nil P
 of_each P m (p ∷ ps) h =
     All-cons P (modelled m p) (map (modelled m) ps) (h p (inl refl)) (of_each P m ps (λ q among. h q (inr among)))
 
+-- a statement of the model stands at the place of its number
+at_place : (m k j : ℕ) (ps : List Placed) (s : Modelled) → ((p : Placed) → slice_get ps j ≡ Some p → p.number ≡ k)
+    → slice_get (map (modelled m) ps) j ≡ Some s → s.number ≡ k
+at_place m k j [] s number at = absurd cc
+at_place m k zero (p ∷ ps) s number at =
+    let is : modelled m p ≡ s = cc in
+    ap (λ (z : Modelled). z.number) (sym is) ∙ number p refl
+at_place m k (suc j) (p ∷ ps) s number at = at_place m k j ps s number at
+
 pub model_is_one : (program : Program) (m : ℕ) (now : List Modelled) → IsKernel program
     → ((p q : Placed) → In p (statements_of program) → In q (statements_of program) → p.number ≡ q.number → p ≡ q)
+    → ((k : ℕ) (p : Placed) → slice_get (statements_of program) k ≡ Some p → p.number ≡ k)
     → kernel_model m now ≡ model_of program → IsKernelModel (kernel_model m now)
-model_is_one program m now is same e =
+model_is_one program m now is same number e =
     let n = length program.parameters in
     let ps = statements_of program in
     subst IsKernelModel (sym e)
@@ -541,6 +551,7 @@ model_is_one program m now is same e =
       numbers = of_each (λ s. All (HaveOneCount s) (map (modelled n) ps)) n ps
           (λ p a. of_each (HaveOneCount (modelled n p)) n ps (λ q b number.
           ap (λ (r : Placed). loops_in r.scopes) (same p q a b number)));
+      places = λ k s at. at_place n k k ps s (number k) at;
     })
 
 -- the accesses of a statement of a kernel

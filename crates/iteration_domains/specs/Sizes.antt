@@ -1,5 +1,5 @@
 -- How large the numbers of forms get.
-use Rattle.std.specs.Prelude.{◌≡◌, ℕ, zero, suc, ◌+◌, ◌*◌, ◌^◌, ◌≤◌, ℤ, List, [], ◌∷◌, All, length, unsigned_abs}
+use Rattle.std.specs.Prelude.{◌≡◌, ℕ, zero, suc, ◌+◌, ◌*◌, ◌^◌, ◌≤◌, ℤ, List, [], ◌∷◌, All, length, unsigned_abs, slice_get, Some}
 use Rattle.whole_numbers.specs.Affine.{Affine}
 use Rattle.affine_forms.specs.Parts.{variables_of}
 use Rattle.scop_syntax.specs.Tree.{Access}
@@ -50,8 +50,10 @@ pub record IsModelled (s : Modelled) : Type 0 where
 abbrev pub HaveOneCount : Modelled → Modelled → Type 0
 HaveOneCount s t = s.number ≡ t.number → s.domain.dimensions ≡ t.domain.dimensions
 
--- a model: a few parameters, domains over just them, and numbers by which its statements have their loops
+-- a model: a few parameters, domains over just them, numbers by which its statements have their loops, and each
+-- statement at the place of its number
 pub record IsKernelModel (model : KernelModel) : Type 0 where
   pub few_parameters : model.parameters ≤ 4
   pub domains : All (λ s. s.domain.parameters ≡ model.parameters) model.statements
   pub numbers : All (λ s. All (HaveOneCount s) model.statements) model.statements
+  pub places : (k : ℕ) (s : Modelled) → slice_get model.statements k ≡ Some s → s.number ≡ k

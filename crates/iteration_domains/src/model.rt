@@ -1,8 +1,8 @@
 //! The model of a kernel: its statements in textual order, each with its domain and its accesses.
-ghost use Rattle.std.specs.Prelude.{◌≡◌, ◌≤◌, All, IfOk};
+ghost use Rattle.std.specs.Prelude.{◌≡◌, ◌≤◌, ℕ, All, IfOk, slice_get, Some};
 ghost use Rattle.scop_syntax.specs.Kernel.{IsKernel};
 ghost use Rattle.scop_syntax.specs.View.{program_of};
-ghost use Rattle.iteration_domains.specs.Model.{model_of};
+ghost use Rattle.iteration_domains.specs.Model.{Modelled, model_of};
 ghost use Rattle.iteration_domains.specs.Sizes.{HaveOneCount};
 
 use crate::items::{Path, model_items};
@@ -66,6 +66,7 @@ impl Model {
         ensures statements { result.now ≡ self.now.statements }
         ensures parameters { All (λ s. s.domain.parameters ≡ self.now.parameters) result.now }
         ensures numbers { All (λ s. All (HaveOneCount s) result.now) result.now }
+        ensures places { (k : ℕ) (s : Modelled) → slice_get result.now k ≡ Some s → s.number ≡ k }
     {
         self.statements.as_slice()
     }

@@ -4,7 +4,7 @@ use Rattle.std.proofs.Common.{Some, None, List, [], ◌∷◌, ◌++◌, length,
 use Rattle.std.proofs.Common.{arith, length-append, add-one}
 use Rattle.std.specs.Prelude.{Ok, if◌then◌else◌}
 use Rattle.std.proofs.lemmas.Int.{ints}
-use Rattle.std.proofs.lemmas.List.{length-map, length-drop}
+use Rattle.std.proofs.lemmas.List.{length-map, length-drop, length-take-le}
 use Rattle.whole_numbers.specs.Lists.{NotNegative}
 use Rattle.whole_numbers.proofs.Lists.{not_negative-append}
 use Rattle.whole_numbers.specs.Affine.{Affine, value_of}
@@ -20,7 +20,7 @@ use Rattle.tableau_rows.specs.Solutions.{IsTableau, IsTied, IsPlaced, HaveSameSo
 use Rattle.tableau_rows.proofs.Points.{sized_take, sized_at, not_negative-parts}
 use Rattle.tableau_rows.proofs.Keeping.{pivot_run_keeps, cut_keeps_tableau, cut_keeps_solutions, cut_back}
 use Rattle.tableau_rows.proofs.Beginning.{first_tableau, first_solutions}
-use Rattle.lexmin_runs.specs.Nodes.{Node, Next, Bound, ends, goes, binds, splits, chained, longer_form}
+use Rattle.lexmin_runs.specs.Nodes.{leaf_tree, Node, Next, Bound, ends, goes, binds, splits, chained, longer_form}
 use Rattle.lexmin_runs.specs.Nodes.{longer_row, part_of, place_of, is_bound_as, opposite_run, under_run}
 use Rattle.lexmin_runs.specs.Nodes.{at_least_run}
 use Rattle.lexmin_runs.specs.Nodes.{side, split, with_rows, pivot, taken_off, bound_node}
@@ -28,7 +28,7 @@ use Rattle.lexmin_runs.specs.Nodes.{cut, step, followed}
 use Rattle.lexmin_runs.specs.Nodes.{tree_run, whole, first_node, lexmin_run}
 use Rattle.lexmin_runs.specs.Solutions.{IsInContext, IsNodeSolution, AreBound, ArePlaced, IsNode, LeadsOn}
 use Rattle.lexmin_runs.specs.Solutions.{KeepsSolutions}
-use Rattle.lexmin_runs.proofs.Speaking.{leaf_tree-speaks}
+use Rattle.lexmin_runs.proofs.Speaking.{leaf_tree-speaks, leaf_tree-forms}
 use Rattle.lexmin_runs.proofs.Longer.{longer_forth, longer_back, longer_tableau, row_at-longer}
 use Rattle.lexmin_runs.proofs.Longer.{values-longer, speaks-longer, speaks-append, row_values-append}
 use Rattle.lexmin_runs.proofs.Asking.{chained-ok, same_first, opposite-value, under-value, under-size}
@@ -36,7 +36,7 @@ use Rattle.lexmin_runs.proofs.Asking.{at_least-value, at_least-size}
 use Rattle.lexmin_runs.proofs.Cuts.{taken_off-value, taken_off_not_negative, taken_off_size, get_or-last}
 use Rattle.lexmin_runs.proofs.Cuts.{constant_floor, bound_floor, bound-more, tied_new}
 use Rattle.lexmin_runs.proofs.Cases.{split_by, pivot_by, CutCases, cut_by, step_by}
-use Rattle.quast_trees.specs.Tree.{Tree, bind, branch}
+use Rattle.quast_trees.specs.Tree.{LeavesHave, Tree, bind, branch}
 use Rattle.quast_trees.specs.Tree.{Speaks as TreeSpeaks}
 
 -- one row more of the context
@@ -396,15 +396,20 @@ pub step_keeps : (n left : ℕ) (node : Node) (next : Next) (l : ℕ) → IsNode
     → Keeps n node next
 step_keeps n left node next l is h =
     step_by n left node next l (Keeps n node) is.tableau.many (record {
-      is_empty = λ left k none. (tt, tt);
+      is_empty = λ left k none. ((tt, tt), tt);
       is_split = λ r within g run.
           split_made n node (part_of n (row_at node.rows r)) g is (part_size n node r is within) run;
       is_pivoted = λ r within rows run. pivot_made n node r rows is within run;
-      is_blocked = λ r left k within below none. (tt, tt);
+      is_blocked = λ r left k within below none. ((tt, tt), tt);
       is_cut = λ i below. cut_made n node i is below;
       is_leaf = λ settled whole. (
-        leaf_tree-speaks n node.parameters 0 (n + 1 + node.parameters) (take n node.rows) [] tt
-            (sized_take n (n + 1 + node.parameters) node.rows is.tableau.sized) (omega arith) (omega arith),
+        (
+          leaf_tree-speaks n node.parameters 0 (n + 1 + node.parameters) (take n node.rows) [] tt
+              (sized_take n (n + 1 + node.parameters) node.rows is.tableau.sized) (omega arith) (omega arith),
+          subst (λ (j : ℕ). LeavesHave j (leaf_tree n node.parameters 0 (take n node.rows) []))
+              (let e = length-take-le n node.rows is.tableau.many in omega arith)
+              (leaf_tree-forms n node.parameters 0 (take n node.rows) []),
+        ),
         tt,
       );
     }) h
@@ -431,10 +436,13 @@ first_node_solutions n m fs context speaks p x = (
   λ h. record { context = h.0; solution = (first_solutions n m fs speaks p x h.0.size).0 h.1 },
 )
 
--- the tree of a run speaks of its node's parameters
+-- the tree of a run speaks of its node's parameters, and has a form for each unknown at each leaf
+abbrev Fits : ℕ → ℕ → Tree → Type 0
+Fits n m t = TreeSpeaks m t × LeavesHave n t
+
 pub tree-speaks : (n k left : ℕ) (node : Node) (tree : Tree) (l : ℕ) → IsNode n node
     → tree_run n k left node ≡ Ok (tree, l)
-    → TreeSpeaks node.parameters tree
+    → Fits n node.parameters tree
 tree-speaks n zero left node tree l is h = cc
 tree-speaks n (suc k) left node tree l is h =
     let c = chained-ok (step n left node) (λ (next : Next) (rest : ℕ). followed (tree_run n k) next rest) tree l h in
@@ -442,33 +450,41 @@ tree-speaks n (suc k) left node tree l is h =
   where
     by_next : (next : Next) (rest : ℕ) → LeadsOn n node.parameters next
         → followed (tree_run n k) next rest ≡ Ok (tree, l)
-        → ((left : ℕ) (m : Node) (t : Tree) (e : ℕ) → IsNode n m → tree_run n k left m ≡ Ok (t, e) → TreeSpeaks
+        → ((left : ℕ) (m : Node) (t : Tree) (e : ℕ) → IsNode n m → tree_run n k left m ≡ Ok (t, e) → Fits n
         m.parameters t)
-        → TreeSpeaks node.parameters tree
-    by_next (ends t) rest on h more = subst (TreeSpeaks node.parameters) (same_first t tree rest l h) on
-    by_next (goes m) rest on h more = subst (λ (j : ℕ). TreeSpeaks j tree) on.1 (more rest m tree l on.0 h)
+        → Fits n node.parameters tree
+    by_next (ends t) rest on h more = subst (Fits n node.parameters) (same_first t tree rest l h) on
+    by_next (goes m) rest on h more = subst (λ (j : ℕ). Fits n j tree) on.1 (more rest m tree l on.0 h)
     by_next (binds f d m) rest on h more =
         let c = chained-ok (tree_run n k rest m) (λ (t : Tree) (end : ℕ). Ok (bind f d t, end)) tree l h in
-        subst (TreeSpeaks node.parameters) (same_first (bind f d c.0) tree c.1 l c.3) (
-          on.2,
-          on.3,
-          subst (λ (j : ℕ). TreeSpeaks j c.0) (on.1 ∙ sym (add-one node.parameters))
-              (more rest m c.0 c.1 on.0 c.2),
-        )
+        subst (Fits n node.parameters) (same_first (bind f d c.0) tree c.1 l c.3) (
+        let body = more rest m c.0 c.1 on.0 c.2 in (
+          (on.2, on.3, subst (λ (j : ℕ). TreeSpeaks j c.0) (on.1 ∙ sym (add-one node.parameters)) body.0),
+          body.1,
+        ))
     by_next (splits f a b) rest on h more =
         let c = chained-ok (tree_run n k rest a)
         (λ (t : Tree) (end : ℕ). chained (tree_run n k end b) (λ u stop. Ok (branch f t u, stop))) tree l h in
         let d = chained-ok (tree_run n k c.1 b) (λ (u : Tree) (stop : ℕ). Ok (branch f c.0 u, stop)) tree l c.3 in
-        subst (TreeSpeaks node.parameters) (same_first (branch f c.0 d.0) tree d.1 l d.3) (
-          on.4,
-          subst (λ (j : ℕ). TreeSpeaks j c.0) on.2 (more rest a c.0 c.1 on.0 c.2),
-          subst (λ (j : ℕ). TreeSpeaks j d.0) on.3 (more c.1 b d.0 d.1 on.1 d.2),
-        )
+        subst (Fits n node.parameters) (same_first (branch f c.0 d.0) tree d.1 l d.3) (
+        let x = more rest a c.0 c.1 on.0 c.2 in
+        let y = more c.1 b d.0 d.1 on.1 d.2 in (
+          (on.4, subst (λ (j : ℕ). TreeSpeaks j c.0) on.2 x.0, subst (λ (j : ℕ). TreeSpeaks j d.0) on.3 y.0),
+          (x.1, y.1),
+        ))
 
 pub lexmin-speaks : (budget n m : ℕ) (fs context : List Affine) (tree : Tree) (l : ℕ) → Speaks (n + m) fs
     → Speaks m context
     → lexmin_run budget m (problem_of n fs) context ≡ Ok (tree, l) → TreeSpeaks m tree
 unfolding lexmin_run whole
 lexmin-speaks budget n m fs context tree l speaks about h =
-    tree-speaks n (suc budget) budget (first_node m (problem_of n fs) context) tree l
-    (first_is_node n m fs context speaks about) h
+    (tree-speaks n (suc budget) budget (first_node m (problem_of n fs) context) tree l
+    (first_is_node n m fs context speaks about) h).0
+
+pub lexmin-forms : (budget n m : ℕ) (fs context : List Affine) (tree : Tree) (l : ℕ) → Speaks (n + m) fs
+    → Speaks m context
+    → lexmin_run budget m (problem_of n fs) context ≡ Ok (tree, l) → LeavesHave n tree
+unfolding lexmin_run whole
+lexmin-forms budget n m fs context tree l speaks about h =
+    (tree-speaks n (suc budget) budget (first_node m (problem_of n fs) context) tree l
+    (first_is_node n m fs context speaks about) h).1

@@ -11,7 +11,7 @@ use Rattle.tableau_rows.specs.Rows.{Row, entry, Sized}
 use Rattle.tableau_rows.specs.Problem.{Speaks}
 use Rattle.lexmin_runs.specs.Nodes.{longer_form, part_of, all_divided, divided, padded, leaf_tree}
 use Rattle.lexmin_runs.proofs.Longer.{speaks-longer, speaks-append, all_speak}
-use Rattle.quast_trees.specs.Tree.{bind, Speaks as TreeSpeaks}
+use Rattle.quast_trees.specs.Tree.{bind, LeavesHave, Speaks as TreeSpeaks}
 
 pub padded_size : (k : ℕ) (f : Affine) → length (padded k f).coefficients ≡ length f.coefficients + k
 padded_size k f = let z = length-zeros k in simp length-append (omega arith)
@@ -59,3 +59,33 @@ leaf_tree-speaks n m k size (row ∷ rows) forms speaks sized h more =
           subst (λ (j : ℕ). TreeSpeaks j (leaf_tree n (suc m) (suc k) rows (map longer_form forms ++ last ∷ [])))
               (sym (add-one m)) one,
         )
+
+-- and has a form for each row
+pub leaf_tree-forms : (n m k : ℕ) (rows : List Row) (forms : List Affine)
+    → LeavesHave (length forms + length rows) (leaf_tree n m k rows forms)
+leaf_tree-forms n m k [] forms = omega arith
+leaf_tree-forms n m k (row ∷ rows) forms =
+    by_division (all_divided row.denominator (entry row n ∷ drop (n + 1) row.entries))
+    (λ fs. leaf_tree-forms n m k rows fs) (λ fs. leaf_tree-forms n (suc m) (suc k) rows fs)
+  where
+    one_more : (fs : List Affine) (f : Affine) → length fs ≡ length forms
+        → length (fs ++ f ∷ []) + length rows ≡ length forms + suc (length rows)
+    one_more fs f same = let l = length-append fs (f ∷ []) in omega arith
+
+    by_division : (b : Bool)
+        → ((fs : List Affine) → LeavesHave (length fs + length rows) (leaf_tree n m k rows fs))
+        → ((fs : List Affine) → LeavesHave (length fs + length rows) (leaf_tree n (suc m) (suc k) rows fs))
+        → LeavesHave (length forms + suc (length rows))
+        (if b
+        then leaf_tree n m k rows (forms ++ padded k (divided row.denominator (part_of n row)) ∷ [])
+        else bind (padded k (part_of n row)) row.denominator
+        (leaf_tree n (suc m) (suc k) rows (map longer_form forms ++ form_of (zeros m ++ pos 1 ∷ []) (pos 0) ∷ [])))
+    by_division true same further =
+        let f = padded k (divided row.denominator (part_of n row)) in
+        subst (λ (j : ℕ). LeavesHave j (leaf_tree n m k rows (forms ++ f ∷ []))) (one_more forms f refl)
+        (same (forms ++ f ∷ []))
+    by_division false same further =
+        let f = form_of (zeros m ++ pos 1 ∷ []) (pos 0) in
+        let longer : length (map longer_form forms) ≡ length forms = length-map forms longer_form in
+        subst (λ (j : ℕ). LeavesHave j (leaf_tree n (suc m) (suc k) rows (map longer_form forms ++ f ∷ [])))
+        (one_more (map longer_form forms) f longer) (further (map longer_form forms ++ f ∷ []))

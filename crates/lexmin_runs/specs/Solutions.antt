@@ -7,7 +7,7 @@ use Rattle.whole_numbers.specs.Division.{IsFloor}
 use Rattle.tableau_rows.specs.Problem.{row_values, Speaks}
 use Rattle.tableau_rows.specs.Solutions.{IsSolution, IsTableau}
 use Rattle.lexmin_runs.specs.Nodes.{Node, Bound, Next, ends, goes, binds, splits}
-use Rattle.quast_trees.specs.Tree.{Speaks as TreeSpeaks}
+use Rattle.quast_trees.specs.Tree.{LeavesHave, Speaks as TreeSpeaks}
 
 -- p is a point of a node's context
 pub record IsInContext (node : Node) (p : List ℤ) : Type 0 where
@@ -41,9 +41,10 @@ pub record IsNode (n : ℕ) (node : Node) : Type 0 where
   pub placed : ArePlaced node.parameters node.bounds
   pub bound : (p : List ℤ) → IsInContext node p → AreBound p node.bounds
 
--- what a step of a node with m parameters leads to: a tree over them, or nodes, with one parameter more behind a bind
+-- what a step of a node with m parameters leads to: a tree over them with a form for each of the n unknowns, or nodes,
+-- with one parameter more behind a bind
 abbrev pub LeadsOn : ℕ → ℕ → Next → Type 0
-LeadsOn n m (ends tree) = TreeSpeaks m tree
+LeadsOn n m (ends tree) = TreeSpeaks m tree × LeavesHave n tree
 LeadsOn n m (goes node) = IsNode n node × (node.parameters ≡ m)
 LeadsOn n m (binds f d node) =
     IsNode n node × (node.parameters ≡ suc m) × (length f.coefficients ≡ m) × (pos 1 ≤ℤ d)

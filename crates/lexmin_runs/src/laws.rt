@@ -6,7 +6,7 @@ ghost use Rattle.integer_sets.specs.Constraints.{Constraints, variables_in, IsSi
 ghost use Rattle.lexmin_runs.specs.Emptiness.{empty_run, IsBoundedPoint, HasBoundedPoint};
 ghost use Rattle.tableau_rows.specs.Problem.{IsPoint, problem_of, row_values, Speaks};
 ghost use Rattle.tableau_rows.specs.Run.{Stop};
-ghost use Rattle.quast_trees.specs.Tree.{Tree, Speaks as TreeSpeaks};
+ghost use Rattle.quast_trees.specs.Tree.{Tree, LeavesHave, Speaks as TreeSpeaks};
 ghost use Rattle.quast_trees.specs.Value.{value};
 ghost use Rattle.lexmin_runs.specs.Answers.{IsAnswer};
 ghost use Rattle.lexmin_runs.specs.Nodes as next;
@@ -15,7 +15,7 @@ ghost use Rattle.lexmin_runs.specs.Nodes.{whole, first_node, lexmin_run};
 ghost use Rattle.lexmin_runs.specs.Solutions.{IsInContext, IsNodeSolution, IsNode, LeadsOn, KeepsSolutions};
 
 /// Where the run of a problem with parameters ends, the tree's value at each point of the context is
-/// the least whole point of the problem there, or says that there is none.
+/// the least whole point of the problem there, or says that there is none; each leaf has a form for each unknown.
 pub fn trees_are_right()
     ensures answers { (budget n m : ℕ) (rows context : List Affine) (tree : Tree) (left : ℕ)
         → Speaks (n + m) rows
@@ -31,6 +31,11 @@ pub fn trees_are_right()
         → Speaks m context
         → lexmin_run budget m (problem_of n rows) context ≡ Ok (tree, left)
         → TreeSpeaks m tree }
+    ensures forms { (budget n m : ℕ) (rows context : List Affine) (tree : Tree) (left : ℕ)
+        → Speaks (n + m) rows
+        → Speaks m context
+        → lexmin_run budget m (problem_of n rows) context ≡ Ok (tree, left)
+        → LeavesHave n tree }
 {}
 
 /// A run goes on by its steps: what a loop with a stack of frames keeps.

@@ -4,6 +4,7 @@ ghost use Rattle.std.specs.Prelude.{◌≡◌, ◌+◌, ℤ, List, length, All, 
 ghost use Rattle.whole_numbers.specs.Lists.{NotNegative};
 ghost use Rattle.affine_forms.specs.Parts.{variables_of};
 ghost use Rattle.tableau_rows.specs.Problem.{problem_of, row_values};
+ghost use Rattle.quast_trees.specs.Tree.{LeavesHave};
 ghost use Rattle.quast_trees.specs.Postfix.{tree_of};
 ghost use Rattle.quast_trees.specs.Value.{value};
 ghost use Rattle.lexmin_runs.specs.Answers.{IsAnswer};
@@ -35,6 +36,7 @@ pub fn lexmin(alloc: Global, problem: Problem, budget: u64) -> Result<Quast, Sto
     ensures least { IfOk result (λ q. (p : List ℤ) → length p ≡ problem.parameters → NotNegative p
         → NotNegative (row_values problem.context.items p)
         → IsAnswer (problem_of problem.unknowns problem.rows.items) p (value (tree_of q) p)) }
+    ensures forms { IfOk result (λ q. LeavesHave problem.unknowns (tree_of q)) }
 {
     match solve(alloc, problem, budget) {
         Err(stop) => Err(stop),
@@ -53,6 +55,7 @@ pub fn solve(alloc: Global, problem: Problem, budget: u64) -> Result<Solution, S
     ensures least { IfOk result (λ s. (p : List ℤ) → length p ≡ problem.parameters → NotNegative p
         → NotNegative (row_values problem.context.items p)
         → IsAnswer (problem_of problem.unknowns problem.rows.items) p (value (tree_of s.quast) p)) }
+    ensures forms { IfOk result (λ s. LeavesHave problem.unknowns (tree_of s.quast)) }
 {
     let node = match Tableau::of(alloc, &problem) {
         Err(_) => return Err(Stop::NoMemory),

@@ -9,3 +9,12 @@ pub mod Mapping
 pub mod Named
 pub mod Stacking
 pub mod Placing
+pub mod Joining
+pub mod Speaking
+pub mod Counting
+pub mod Sizing
+pub mod JoinSteps
+pub mod JoinCounting
+pub mod JoinForming
+pub mod JoinSuiting
+pub mod NeverWide

@@ -7,3 +7,11 @@ pub mod Value
 pub mod Mapped
 pub mod Place
 pub mod Shows
+pub mod Ways
+pub mod Shifts
+pub mod Joins
+pub mod Counts
+pub mod JoinSteps
+pub mod Sizes
+pub mod JoinLimits
+pub mod JoinAnswers

@@ -34,3 +34,10 @@ named s initial = initial
 named s (leaf l) = leaf (with_source s l)
 named s (branch test first second) = branch test (named s first) (named s second)
 named s (bind form divisor body) = bind form divisor (named s body)
+
+-- each leaf of forms has n of them
+abbrev pub LeavesHave : ℕ → Tree → Type 0
+LeavesHave n initial = ⊤
+LeavesHave n (leaf l) = length l.forms ≡ n
+LeavesHave n (branch test first second) = LeavesHave n first × LeavesHave n second
+LeavesHave n (bind form divisor body) = LeavesHave n body

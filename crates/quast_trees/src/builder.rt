@@ -1,6 +1,7 @@
 //! A quast made node by node, in postfix order, by a run that goes depth first: no node moves.
 ghost use Rattle.std.specs.Prelude.{◌≡◌, ◌≤◌, pos, ◌≤ℤ◌, [], ◌∷◌, length, OnOk, OnErr};
 ghost use Rattle.quast_trees.specs.Tree.{initial, leaf, Speaks};
+ghost use Rattle.quast_trees.specs.Tree as Tree;
 ghost use Rattle.quast_trees.specs.Source.{unnamed};
 ghost use Rattle.quast_trees.specs.Postfix.{tree_of, read, built, standing, branched, bound, IsLeaf};
 
@@ -67,6 +68,14 @@ impl Builder {
             variables,
             forms,
         }))
+    }
+
+    /// Forms on top, with what they are an instance of, where that is known.
+    pub fn source_leaf(&mut self, leaf: Forms) -> Result<(), AllocError>
+        ensures pushed { OnOk result (standing self.new ≡ Tree.leaf leaf ∷ standing self.old) }
+        ensures kept { OnErr result (self.new ≡ self.old) }
+    {
+        self.start(Node::Forms(leaf))
     }
 
     /// The two trees on top joined: the lower one where `test` is at least 0, else the upper one.

@@ -17,7 +17,7 @@ use Rattle.scop_syntax.specs.Failures.{IsRanked, VisitsAreRanked}
 use Rattle.scop_syntax.specs.Fits.{FitsAll}
 use Rattle.scop_syntax.specs.Kernel.{AreAtMost, IsAffine, IsAccess, IsExpression, IsRight, IsStatement, AreTrees}
 use Rattle.scop_syntax.specs.Kernel.{IsKernel, AreScopes, ranks_of}
-use Rattle.scop_syntax.specs.Limits.{WithinLimits}
+use Rattle.scop_syntax.specs.Limits.{HasParameters, WithinLimits}
 use Rattle.scop_syntax.specs.Statements.{Scope, round, under, Placed, Runs, loops_in, point_of, statements_of}
 use Rattle.scop_syntax.specs.Walk.{turn_point}
 use Rattle.scop_syntax.proofs.Members.{in_append}
@@ -40,21 +40,21 @@ size_params (x ∷ xs) all =
     parameter_size (pos n) low high = omega (arith, ints)
     parameter_size (negsuc n) low high = absurd (omega (arith, ints))
 
-params_size : (program : Program) (params : List ℤ) → WithinLimits program params → size params ≤ 2 ^ 18
+params_size : (program : Program) (params : List ℤ) → HasParameters program params → size params ≤ 2 ^ 18
 params_size program params w =
     let s = size_params params w.parameters in
     let few = w.kernel.few_parameters in
     let count = w.count in
     omega arith
 
-pub kernel_fits : (program : Program) (params : List ℤ) → WithinLimits program params → FitsAll program.body params
+pub kernel_fits : (program : Program) (params : List ℤ) → HasParameters program params → FitsAll program.body params
 kernel_fits program params w =
     let m = grown_more 5 (size params) (2 ^ 18) (params_size program params w) in
     let f = five 5 (omega arith) in
     fits_all (ranks_of program) 5 16 program.body params
     (subst (λ n. AreTrees (ranks_of program) n 5 16 program.body) (sym w.count) w.kernel.body) (omega arith)
 
-scopes_at : (program : Program) (params : List ℤ) (p : Placed) → WithinLimits program params
+scopes_at : (program : Program) (params : List ℤ) (p : Placed) → HasParameters program params
     → In p (statements_of program) → AreScopes (length params) p.scopes × (loops_in p.scopes ≤ 5)
 scopes_at program params p w h =
     let is = kernel_placed program p w.kernel h in
@@ -64,7 +64,7 @@ entries_at_most : (k : ℕ) (xs : List ℤ) → size xs ≤ k → AreAtMost k xs
 entries_at_most k [] h = tt
 entries_at_most k (x ∷ xs) h = (omega arith, entries_at_most k xs (omega arith))
 
-pub point_small : (program : Program) (params xs : List ℤ) (p : Placed) → WithinLimits program params
+pub point_small : (program : Program) (params xs : List ℤ) (p : Placed) → HasParameters program params
     → In p (statements_of program) → Runs p.scopes params xs → AreAtMost (2 ^ 40) (point_of p.scopes params xs)
 point_small program params xs p w h runs =
     let s = scopes_at program params p w h in
@@ -72,7 +72,7 @@ point_small program params xs p w h runs =
     (point_within p.scopes params xs s.0 runs s.1 (params_size program params w))
 
 pub value_small : (program : Program) (params xs : List ℤ) (p : Placed) (n : ℕ) (form : Affine)
-    → WithinLimits program params → In p (statements_of program) → Runs p.scopes params xs → IsAffine n form
+    → HasParameters program params → In p (statements_of program) → Runs p.scopes params xs → IsAffine n form
     → unsigned_abs (value_of form (point_of p.scopes params xs)) ≤ 2 ^ 45
 value_small program params xs p n form w h runs is =
     let s = scopes_at program params p w h in
@@ -92,7 +92,7 @@ turns_from (round head ∷ scopes) point (x ∷ xs) runs small =
     turn_below (pos n) low small = omega (arith, ints)
     turn_below (negsuc n) low small = absurd (omega (arith, ints))
 
-pub turns_small : (program : Program) (params xs : List ℤ) (p : Placed) → WithinLimits program params
+pub turns_small : (program : Program) (params xs : List ℤ) (p : Placed) → HasParameters program params
     → In p (statements_of program) → Runs p.scopes params xs → All (λ x. (pos 0 ≤ℤ x) × (x <ℤ pos (2 ^ 46))) xs
 turns_small program params xs p w h runs =
     let s = scopes_at program params p w h in

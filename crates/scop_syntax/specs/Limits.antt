@@ -5,6 +5,12 @@ use Rattle.scop_syntax.specs.Tree.{Program}
 use Rattle.scop_syntax.specs.Kernel.{IsKernel}
 use Rattle.scop_syntax.specs.Execution.{layout, total_cells}
 
+-- a kernel, and a value from 0 to 65536 for each of its parameters
+pub record HasParameters (program : Program) (params : List ℤ) : Type 0 where
+  pub kernel : IsKernel program
+  pub count : length params ≡ length program.parameters
+  pub parameters : All (λ p. (pos 0 ≤ℤ p) × (p ≤ℤ pos 65536)) params
+
 -- a value from 0 to 65536 for each parameter, each extent at least 1 (C17 6.7.6.2p5), and 2^22 cells in all
 pub record WithinLimits (program : Program) (params : List ℤ) : Type 0 where
   pub kernel : IsKernel program
@@ -12,3 +18,8 @@ pub record WithinLimits (program : Program) (params : List ℤ) : Type 0 where
   pub parameters : All (λ p. (pos 0 ≤ℤ p) × (p ≤ℤ pos 65536)) params
   pub extents : All (λ d. All (λ form. pos 1 ≤ℤ value_of form params) d.extents) program.arrays
   pub cells : total_cells (layout program params) ≤ 2 ^ 22
+
+-- a kernel within the limits has its parameters
+abbrev pub has_parameters : {program : Program} {params : List ℤ} → WithinLimits program params
+    → HasParameters program params
+has_parameters w = record { kernel = w.kernel; count = w.count; parameters = w.parameters }

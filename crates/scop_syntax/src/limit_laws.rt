@@ -10,25 +10,25 @@ ghost use Rattle.scop_syntax.specs.Execution.{IsCell, cell_count, cell_number, l
 ghost use Rattle.scop_syntax.specs.Failures.{VisitsAreRanked};
 ghost use Rattle.scop_syntax.specs.Fits.{FitsAll};
 ghost use Rattle.scop_syntax.specs.Kernel.{AreAtMost, IsAffine, IsKernel};
-ghost use Rattle.scop_syntax.specs.Limits.{WithinLimits};
+ghost use Rattle.scop_syntax.specs.Limits.{HasParameters, WithinLimits};
 ghost use Rattle.scop_syntax.specs.Statements.{Placed, Runs, point_of, statements_of};
 
-/// Within the limits every number that a run forms fits 64 bits.
+/// For parameters in 0..=65536 every number that a run forms fits 64 bits.
 pub fn numbers_of_runs_fit()
-    ensures { (program : Program) (params : List ℤ) → WithinLimits program params → FitsAll program.body params }
+    ensures { (program : Program) (params : List ℤ) → HasParameters program params → FitsAll program.body params }
 {}
 
-/// Within the limits the entries of a point at which a statement runs lie within 2^40, the values of
+/// For parameters in 0..=65536 the entries of a point at which a statement runs lie within 2^40, the values of
 /// affine forms there within 2^45, and the turns below 2^46.
 #[tactic(auto, using(crate::proofs::Bounds::bound_laws))]
 pub fn values_lie_within_45_bits()
-    ensures points { (program : Program) (params xs : List ℤ) (p : Placed) → WithinLimits program params
+    ensures points { (program : Program) (params xs : List ℤ) (p : Placed) → HasParameters program params
         → In p (statements_of program) → Runs p.scopes params xs → AreAtMost (2 ^ 40) (point_of p.scopes params xs) }
     ensures values { (program : Program) (params xs : List ℤ) (p : Placed) (n : ℕ) (form : Affine)
-        → WithinLimits program params
+        → HasParameters program params
         → In p (statements_of program) → Runs p.scopes params xs → IsAffine n form
         → unsigned_abs (value_of form (point_of p.scopes params xs)) ≤ 2 ^ 45 }
-    ensures turns { (program : Program) (params xs : List ℤ) (p : Placed) → WithinLimits program params
+    ensures turns { (program : Program) (params xs : List ℤ) (p : Placed) → HasParameters program params
         → In p (statements_of program) → Runs p.scopes params xs
         → All (λ x. (pos 0 ≤ℤ x) × (x <ℤ pos (2 ^ 46))) xs }
 {}

@@ -173,7 +173,12 @@ pub fn copies(alloc: Global, forms: &[Form]) -> Result<Vec<Form>, AllocError>
 }
 
 /// The forms over one unknown more, and two forms behind them.
-pub fn tied_forms(alloc: Global, forms: &[Form], low: Form, high: Form) -> Result<Vec<Form>, AllocError>
+pub fn tied_forms(
+    alloc: Global,
+    forms: &[Form],
+    low: Form,
+    high: Form,
+) -> Result<Vec<Form>, AllocError>
     ensures { IfOk result (λ v. v.items ≡ map longer_form forms.now ++ low ∷ high ∷ []) }
 {
     let mut all = match longer_forms(alloc, forms) {

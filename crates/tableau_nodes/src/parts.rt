@@ -69,7 +69,10 @@ fn opposite_remainders(
     requires { pos 1 ≤ℤ divisor }
     ensures { IfOk result (λ v. v.items ≡ map (λ z. remainder (neg_ℤ z) divisor) numbers.now) }
 {
-    numbers.iter().map(|number| opposite_remainder(*number, divisor)).collect(alloc)
+    numbers
+        .iter()
+        .map(|number| opposite_remainder(*number, divisor))
+        .collect(alloc)
 }
 
 /// What a cut on a row takes off.

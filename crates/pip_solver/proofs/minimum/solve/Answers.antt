@@ -1,6 +1,6 @@
 use Rattle.std.proofs.Common.{◌≡◌, ◌∙◌, List, refl, subst, ap, sym, arith}
 use Rattle.std.specs.Prelude.{Ok, Err}
-use Rattle.quast_trees.specs.Tree.{Tree}
+use Rattle.quast_trees.specs.Tree.{Tree, LeavesHave}
 use Rattle.quast_trees.specs.Postfix.{standing, top}
 use Rattle.quast_trees.specs.Value.{value}
 use Rattle.tableau_rows.specs.Problem.{problem_of}
@@ -9,6 +9,7 @@ use Rattle.lexmin_runs.specs.Nodes.{Counted, whole}
 use Rattle.tableau_nodes.specs.Node.{node_of}
 use Rattle.pip_solver.specs.Frames.{Runs}
 use Rattle.lexmin_runs.proofs.Trees.{lexmin-right}
+use Rattle.lexmin_runs.proofs.Kept.{lexmin-forms}
 use Rattle.pip_solver.specs.Answers.{Tells}
 use Rattle.pip_solver.specs.Solving.{solved}
 use Rattle.pip_solver.specs.declared.question.QuestionStop.{QuestionStop}
@@ -52,6 +53,15 @@ returns-in-Ok-run-clause-least c p size not inside =
     subst (λ (t : Tree). IsAnswer (problem_of x.unknowns x.rows.items) p (value t p)) (sym c.finish.ensures.tree)
     (lexmin-right c.args.budget x.unknowns x.parameters x.rows.items x.context.items (top (standing c.run.new.builder))
     c.run.new.left sized.rows sized.context (ran at) p size not inside)
+
+pub returns-in-Ok-run-clause-forms : goal.returns-in-Ok-run-clause-forms
+returns-in-Ok-run-clause-forms c =
+    let at = (goal.at.returns-in-Ok-run-clause-forms c).In-Ok-run in
+    let x = c.args.problem in
+    let sized = is_sized x c.requires.rows c.requires.context in
+    subst (λ (t : Tree). LeavesHave x.unknowns t) (sym c.finish.ensures.tree)
+    (lexmin-forms c.args.budget x.unknowns x.parameters x.rows.items x.context.items (top (standing c.run.new.builder))
+    c.run.new.left sized.rows sized.context (ran at))
 
 -- where the run stops, so does the problem's
 stopped : (c : After-run) (stop : QuestionStop) → c.run.result ≡ Err stop

@@ -1,3 +1,4 @@
+use Rattle.scop_syntax.specs.Limits.{has_parameters}
 use Rattle.std.proofs.Common.{ℕ, List, sym, subst}
 use Rattle.std.specs.Prelude.{ℤ}
 use Rattle.scop_syntax.specs.declared.tree.Item.{Item}
@@ -12,7 +13,7 @@ outside_items-requires c =
     let p = program_of c.args.kernel.now in
     let params = c.args.params.now in
     let limits = c.requires.limits in
-    let checks = kernel_checks p params limits (c.numbers_of_runs_fit.ensures p params limits) in
+    let checks = kernel_checks p params limits (c.numbers_of_runs_fit.ensures p params (has_parameters limits)) in
     subst (λ (es : List (List ℕ)). CanCheck 9 es (items_of c.deref.result.now) 0 c.point_at-point.result.items)
     (sym c.requires.extents)
     (subst (λ (items : List Item). CanCheck 9 (layout p params) (items_of items) 0 c.point_at-point.result.items)

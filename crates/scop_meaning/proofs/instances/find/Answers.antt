@@ -1,3 +1,4 @@
+use Rattle.scop_syntax.specs.Limits.{has_parameters}
 use Rattle.std.proofs.Common.{◌≤◌, List, length, ap, subst, sym, refl}
 use Rattle.std.specs.Prelude.{ℤ}
 use Rattle.scop_syntax.specs.Acts.{Act}
@@ -19,7 +20,7 @@ find_among-requires c =
     let s = c.instances_are_those_of_statements.ensures.found p params u.0 u.1 in
     let can = can_find p params u.0 s c.requires.limits
     (c.statements_are_numbered.ensures.placed p s.0 c.requires.limits.kernel s.2)
-    (c.values_lie_within_45_bits.ensures.points p params s.1 s.0 c.requires.limits s.2 s.3) in
+    (c.values_lie_within_45_bits.ensures.points p params s.1 s.0 (has_parameters c.requires.limits) s.2 s.3) in
     subst (λ (l : List ℤ). CanFind 9 (items_of c.deref.result.now) i.number c.args.point.now.items l)
     (sym c.turns.ensures)
     (subst (λ (x : List ℤ). CanFind 9 (items_of c.deref.result.now) i.number x i.turns) (sym c.requires.point)

@@ -18,7 +18,7 @@ invariant_of-result c =
     let p = program_of c.args.kernel.now in
     let count : c.len-parameters.result ≡ length c.args.kernel.now.parameters.items = search rules in
     model_is_one p c.len-parameters.result c.model_items.new.statements.items c.requires
-    (c.statements_are_numbered.ensures.same p)
+    (c.statements_are_numbered.ensures.same p) (c.statements_are_numbered.ensures.number p)
     (root_models p c.len-parameters.result (scopes_of c.new.result.items) c.new-2.result.items
     (items_of c.deref.result.now) c.new-statements.result.items c.model_items.new.statements.items
     (count ∙ sym (length-map c.args.kernel.now.parameters.items (λ n. n.items)))

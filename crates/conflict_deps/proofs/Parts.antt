@@ -1,0 +1,100 @@
+-- The system of a conflict, taken apart.
+use Rattle.std.proofs.Common.{◌≡◌, ℕ, ◌+◌, zero, suc, List, [], ◌∷◌, ◌++◌, length, map, Some, ap, ap₂, subst, sym, ◌∙◌, refl}
+use Rattle.std.specs.Prelude.{slice_get}
+use Rattle.std.specs.List.{flat_map}
+use Rattle.std.proofs.lemmas.List.{append-nil}
+use Rattle.whole_numbers.specs.Affine.{Affine}
+use Rattle.integer_sets.specs.Constraints.{Constraints}
+use Rattle.scop_syntax.specs.Tree.{Access, Test, at_least, equal}
+use Rattle.scop_syntax.specs.Members.{In}
+use Rattle.scop_syntax.proofs.Members.{in_map_from, in_if_from, place_of}
+use Rattle.iteration_domains.specs.Rows.{variables}
+use Rattle.iteration_domains.specs.Constraints.{equalities_in, rows_in, tests_of}
+use Rattle.iteration_domains.specs.Model.{KernelModel, Modelled}
+use Rattle.iteration_domains.specs.Sizes.{IsKernelModel}
+use Rattle.iteration_domains.specs.Dependence.{Dependence}
+use Rattle.iteration_domains.proofs.Points.{equalities_in-append, rows_in-append}
+use Rattle.conflict_deps.specs.Conflicts.{Side, sides_of, sides_in, loops_of, source_form, target_form, map_test, After, same_subscripts}
+use Rattle.conflict_deps.specs.Conflicts.{source_rows, target_rows, cell_rows, parameter_rows, pair_size, dep_of, afters_of, may_conflict, deps_between, conflicts_of}
+use Rattle.conflict_deps.specs.Parts.{HasParts}
+use Rattle.conflict_deps.proofs.Sides.{in_flat_map_from, side_to}
+
+equals_mapped : (h : Affine → Affine) (fs : List Affine) (gs : List Affine)
+    → equalities_in (map (map_test h) (map equal fs ++ map at_least gs)) ≡ map h fs
+equals_mapped h [] [] = refl
+equals_mapped h [] (g ∷ gs) = equals_mapped h [] gs
+equals_mapped h (f ∷ fs) gs = ap (λ us. h f ∷ us) (equals_mapped h fs gs)
+
+rows_mapped : (h : Affine → Affine) (fs : List Affine) (gs : List Affine)
+    → rows_in (map (map_test h) (map equal fs ++ map at_least gs)) ≡ map h gs
+rows_mapped h [] [] = refl
+rows_mapped h [] (g ∷ gs) = ap (λ us. h g ∷ us) (rows_mapped h [] gs)
+rows_mapped h (f ∷ fs) gs = rows_mapped h fs gs
+
+no_equal : (fs : List Affine) → equalities_in (map at_least fs) ≡ []
+no_equal [] = refl
+no_equal (f ∷ fs) = no_equal fs
+
+all_rows : (fs : List Affine) → rows_in (map at_least fs) ≡ fs
+all_rows [] = refl
+all_rows (f ∷ fs) = ap (λ us. f ∷ us) (all_rows fs)
+
+cell_equal : (d e : ℕ) (fs gs : List Affine) → rows_in (same_subscripts d e fs gs) ≡ []
+cell_equal d e [] gs = refl
+cell_equal d e (f ∷ fs) [] = refl
+cell_equal d e (f ∷ fs) (g ∷ gs) = cell_equal d e fs gs
+
+-- a side of the model stands at its statement's place
+stands : (model : KernelModel) (s : Side) → IsKernelModel model → In s (sides_in model)
+    → slice_get model.statements s.statement.number ≡ Some s.statement
+stands model s is h =
+    let q = in_flat_map_from sides_of model.statements s h in
+    let r = side_to q.0 0 q.0.accesses s q.2 in
+    let at = place_of model.statements q.0 q.1 in
+    let k = is.places at.0 q.0 at.1 in
+    subst (λ (p : Modelled). slice_get model.statements p.number ≡ Some p) (sym r.0)
+    (subst (λ (i : ℕ). slice_get model.statements i ≡ Some q.0) (sym k) at.1)
+
+pub parts_of : (model : KernelModel) (dep : Dependence) → IsKernelModel model → In dep (conflicts_of model)
+    → HasParts model dep
+parts_of model dep is h =
+    let m = model.parameters in
+    let all = sides_in model in
+    let s = in_flat_map_from (λ (s : Side). flat_map (deps_between m s) all) all dep h in
+    let t = in_flat_map_from (deps_between m s.0) all dep s.2 in
+    let b = in_if_from (may_conflict s.0 t.0) dep (map (dep_of m s.0 t.0) (afters_of m s.0 t.0)) t.2 in
+    let a = in_map_from (dep_of m s.0 t.0) dep (afters_of m s.0 t.0) b.1 in
+    let u = source_rows s.0 t.0 in
+    let v = target_rows s.0 t.0 in
+    let c = cell_rows s.0 t.0 in
+    let o = a.0.rows in
+    let w = parameter_rows m s.0 t.0 in
+    let ps = variables (pair_size m s.0 t.0) (loops_of s.0 + loops_of t.0) m in
+    let du = s.0.statement.domain in
+    let dv = t.0.statement.domain in
+    record {
+      from = s.0;
+      to = t.0;
+      order = a.0;
+      is = a.2;
+      source = subst (λ (d : Dependence). slice_get model.statements d.source.statement ≡ Some s.0.statement) (sym a.2)
+          (stands model s.0 is s.1);
+      target = subst (λ (d : Dependence). slice_get model.statements d.target.statement ≡ Some t.0.statement) (sym a.2)
+          (stands model t.0 is t.1);
+      equalities = ap (λ (d : Dependence). d.system.equalities) a.2
+          ∙ (equalities_in-append u (v ++ (c ++ (o ++ w)))
+          ∙ ap₂ (λ (x y : List Affine). x ++ y) (equals_mapped (source_form (loops_of s.0) (loops_of t.0)) du.equalities du.rows)
+          (equalities_in-append v (c ++ (o ++ w))
+          ∙ ap₂ (λ (x y : List Affine). x ++ y) (equals_mapped (target_form (loops_of s.0)) dv.equalities dv.rows)
+          (equalities_in-append c (o ++ w)
+          ∙ ap (λ (y : List Affine). equalities_in c ++ y)
+          (equalities_in-append o w ∙ (ap (λ (y : List Affine). equalities_in o ++ y) (no_equal ps) ∙ append-nil (equalities_in o))))));
+      rows = ap (λ (d : Dependence). d.system.rows) a.2
+          ∙ (rows_in-append u (v ++ (c ++ (o ++ w)))
+          ∙ ap₂ (λ (x y : List Affine). x ++ y) (rows_mapped (source_form (loops_of s.0) (loops_of t.0)) du.equalities du.rows)
+          (rows_in-append v (c ++ (o ++ w))
+          ∙ ap₂ (λ (x y : List Affine). x ++ y) (rows_mapped (target_form (loops_of s.0)) dv.equalities dv.rows)
+          (rows_in-append c (o ++ w)
+          ∙ ap₂ (λ (x y : List Affine). x ++ y) (cell_equal (loops_of s.0) (loops_of t.0) s.0.access.subscripts t.0.access.subscripts)
+          (rows_in-append o w ∙ ap (λ (y : List Affine). rows_in o ++ y) (all_rows ps)))));
+    }
