@@ -1,5 +1,5 @@
 #!/bin/sh
-# Times the conflicts of the kernels in examples/ and the rows of all of them by Farkas's lemma (crates/planner_bench), and
+# Times the conflicts of the kernels in examples/ and the rows of all of them by Farkas's lemma (crates/bench_cases), and
 # the same eliminations with the same order of variables by isl over rational sets (libisl-dev; left out with a word where
 # it is missing). Prints of each kernel its dependences, the milliseconds of each call for all of them, by the shortest
 # processor times, how many questions were asked of the solver (counted by gdb; left out where it is missing), and the
@@ -12,14 +12,13 @@ rounds=${1:-5}
 [ $# -ne 0 ] || set -- "$root"/examples/*.c
 work=$(mktemp -d)
 trap 'rm -rf "$work"' EXIT
-for program in planner_bench planner_cases; do
-  (cd "$root/crates/$program" && rt run <stdin >/dev/null 2>"$work/log") || { cat "$work/log" >&2; exit 1; }
-done
+(cd "$root/crates/bench_cases" && rt run -- conflicts 1 <stdin >/dev/null 2>"$work/log" &&
+  cd ../planner_cases && rt run <stdin >/dev/null 2>"$work/log") || { cat "$work/log" >&2; exit 1; }
 baseline=
 if gcc -O2 -o "$work/baseline" "$root/bench/farkas_baseline.c" -lisl 2>"$work/missing"; then
   baseline=$work/baseline
 else
   echo "libisl-dev is missing: no ratio"
 fi
-python3 -B "$root/bench/farkas.py" "$root/crates/planner_bench/out/planner_bench" \
+python3 -B "$root/bench/farkas.py" "$root/crates/bench_cases/out/bench_cases" \
   "$root/crates/planner_cases/out/planner_cases" "$baseline" "$rounds" "$@"

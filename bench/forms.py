@@ -1,4 +1,4 @@
-"""Times the steps of crates/forms_bench against plain C. Called by forms.sh."""
+"""Times the steps of crates/bench_cases against plain C. Called by forms.sh."""
 
 import sys
 

@@ -1,5 +1,5 @@
 #!/bin/sh
-# Times the steps of crates/forms_bench against plain C with __int128 and the compiler's overflow tests (gcc -O2):
+# Times the steps of crates/bench_cases against plain C with __int128 and the compiler's overflow tests (gcc -O2):
 # checked products and sums within 64 bits and above, the value of a form of eight coefficients, and a pivot's
 # combination of 60 rows of 40 numbers. Prints nanoseconds a step, by the shortest processor times, and the ratios.
 # usage: bench/forms.sh [ROUNDS], at least 5
@@ -7,6 +7,6 @@ set -eu
 root=$(CDPATH= cd -- "$(dirname -- "$0")/.." && pwd)
 work=$(mktemp -d)
 trap 'rm -rf "$work"' EXIT
-(cd "$root/crates/forms_bench" && rt run >/dev/null 2>"$work/log") || { cat "$work/log" >&2; exit 1; }
+(cd "$root/crates/bench_cases" && rt run -- value_at 1 >/dev/null 2>"$work/log") || { cat "$work/log" >&2; exit 1; }
 gcc -O2 -o "$work/baseline" "$root/bench/forms_baseline.c"
-python3 -B "$root/bench/forms.py" "$root/crates/forms_bench/out/forms_bench" "$work/baseline" "$@"
+python3 -B "$root/bench/forms.py" "$root/crates/bench_cases/out/bench_cases" "$work/baseline" "$@"

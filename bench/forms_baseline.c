@@ -1,4 +1,4 @@
-/* The steps of crates/forms_bench with C's 128-bit integers and the compiler's overflow tests.
+/* The steps of crates/bench_cases with C's 128-bit integers and the compiler's overflow tests.
    The baseline of forms.sh. */
 #include <stdint.h>
 #include <stdio.h>

@@ -17,7 +17,7 @@ rounds = rounds_of(sys.argv[4:], 11)
 for kind, instances in INSTANCES.items():
     commands = {}
     for start, runs in {"": RUNS, "start of ": 0}.items():
-        commands[start + "polypar"] = [program, str(runs), *DATA[kind]]
+        commands[start + "polypar"] = [program, "run", str(runs), *DATA[kind]]
         commands[start + "gcc -O0"] = [baseline, kind, str(runs)]
     times, printed = shortest(commands, rounds, f"{kernels}/{kind}.c")
     if printed["polypar"] != printed["gcc -O0"]:

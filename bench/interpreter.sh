@@ -4,10 +4,10 @@
 # usage: bench/interpreter.sh [ROUNDS], at least 5
 set -eu
 root=$(CDPATH= cd -- "$(dirname -- "$0")/.." && pwd)
-crate=$root/crates/interpreter_bench
+crate=$root/crates/bench_cases
 work=$(mktemp -d)
 trap 'rm -rf "$work"' EXIT
-(cd "$crate" && rt run -- 1 "N = 2" <"$root/bench/kernels/product.c" >/dev/null 2>"$work/log") \
+(cd "$crate" && rt run -- run 1 "N = 2" <"$root/bench/kernels/product.c" >/dev/null 2>"$work/log") \
   || { cat "$work/log" >&2; exit 1; }
 gcc -O0 -o "$work/baseline" "$root/bench/interpreter_baseline.c"
-python3 -B "$root/bench/interpreter.py" "$crate/out/interpreter_bench" "$work/baseline" "$root/bench/kernels" "$@"
+python3 -B "$root/bench/interpreter.py" "$crate/out/bench_cases" "$work/baseline" "$root/bench/kernels" "$@"

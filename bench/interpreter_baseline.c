@@ -1,4 +1,4 @@
-/* The kernels of bench/kernels as a C compiler takes them, over the arrays that crates/interpreter_bench has for the
+/* The kernels of bench/kernels as a C compiler takes them, over the arrays that crates/bench_cases has for the
    data in interpreter.py: each array by the seed 0. The baseline of interpreter.sh. */
 #include "kernels/product.c"
 #include "kernels/stencil.c"

@@ -10,30 +10,41 @@ copy=$work/copy
 passed=0
 failed=0
 
-# The stand-in: `rt version` tells the contents of $work/version; `rt run` makes the program, which prints its words
-# and exits with 7, or fails where $work/refuse stands, or takes five seconds where $work/slow does.
+# The stand-in: `rt version` tells the contents of $work/version; `rt lib` proves a crate that has not been proved; `rt
+# run` makes the program, which prints its words and exits with 7. The crate that $work/refuse names is not proved, and
+# that in $work/slow takes five seconds. $work/calls tells the crates that `rt` was called for, $work/proofs those that
+# it proved, $work/builds the programs, $work/process the process that is slow.
 make_stand_in() {
     mkdir -p "$work/bin" "$work/tmp"
     echo "kit 1" >"$work/version"
     cat >"$work/bin/rt" <<STAND_IN
 #!/bin/sh
-case \$1 in
-version) cat "$work/version" ;;
-run)
-    echo built >>"$work/builds"
-    [ ! -e "$work/slow" ] || sleep 5
-    [ ! -e "$work/refuse" ] || { echo "error: not proved" >&2; exit 1; }
+[ "\$1" != version ] || exec cat "$work/version"
+case "\$1 \$2 \$3" in
+"lib --jobs "[1-8] | "run --jobs "[1-8]) ;;
+*) echo "unknown: rt \$*" >&2; exit 2 ;;
+esac
+crate=\${PWD##*/}
+echo "\$crate" >>"$work/calls"
+[ "\$1" = lib ] || echo built >>"$work/builds"
+[ "\$(cat "$work/refuse" 2>/dev/null)" != "\$crate" ] || { echo "error: \$crate has no proof" >&2; exit 1; }
+[ "\$(cat "$work/slow" 2>/dev/null)" != "\$crate" ] || { echo \$\$ >"$work/process"; exec sleep 5; }
+[ -e out/proved ] || echo "\$crate" >>"$work/proofs"
+mkdir -p out
+: >out/proved
+if [ "\$1" = run ]; then
     printf '#!/bin/sh\necho "\$*"\nexit 7\n' >out/polypar_main
     chmod +x out/polypar_main
-    ;;
-esac
+fi
 STAND_IN
     chmod +x "$work/bin/rt"
 }
 
 # A fresh copy of what the launcher looks at, and no build yet.
 fresh() {
-    rm -rf "$copy" "$work/builds" "$work/refuse" "$work/slow"
+    for old in copy builds refuse slow calls proofs process; do
+        rm -rf "${work:?}/$old"
+    done
     mkdir -p "$copy/crates"
     cp -p "$root/polypar" "$root/crates.txt" "$root/HANDLES" "$copy"
     cp -Rp "$root/examples" "$copy"
@@ -74,12 +85,45 @@ expect_word() {
     esac
 }
 
+# Whether $2 and $3 are the same; $1 says what was tried.
+expect_same() {
+    if [ "$2" = "$3" ]; then
+        passed=$((passed + 1))
+    else
+        failed=$((failed + 1))
+        printf '%s: "%s" for "%s"\n' "$1" "$2" "$3"
+    fi
+}
+
+# The crates of $work/calls that stand in front of one that they stand on.
+too_early() {
+    awk 'NR == FNR { sub(/#.*/, ""); name = $1; sub(/:.*/, "", name); sub(/^[^:]*:/, ""); needs[name] = $0; next }
+        { count = split(needs[$1], word, " "); called[$1] = 1
+          for (i = 1; i <= count; i++) if (word[i] in needs && !called[word[i]]) print $1 }' "$root/crates.txt" "$work/calls"
+}
+
+# Starts a call, sends it alone the signal $1 once the slow process is there, and waits; sets `status` and `builds`.
+interrupt() {
+    PATH=$work/bin:$PATH TMPDIR=$work/tmp env --default-signal="$1" "$copy/polypar" >/dev/null 2>"$work/said" &
+    until [ -s "$work/process" ]; do sleep 0.1; done
+    kill "-$1" "$!"
+    wait "$!"
+    status=$?
+    said=$(cat "$work/said")
+    builds=$(cat "$work/builds" 2>/dev/null | wc -l)
+}
+
 make_stand_in
 fresh
 call "$copy/polypar"
 expect "the first call builds" 7 1
+expect_same "the first call tells of it in one line" "$(wc -l <"$work/said")" 1
 expect_word "the first call tells of it" "proving and building"
-[ "$printed" = "one two" ] || { failed=$((failed + 1)); echo "the words are handed on"; }
+expect_same "the words are handed on" "$printed" "one two"
+expect_same "each crate once" "$(sort "$work/calls" | uniq -d)" ""
+expect_same "each behind those that it stands on" "$(too_early)" ""
+expect_same "the program is the last" "$(tail -n 1 "$work/calls")" polypar_main
+crates=$(wc -l <"$work/calls")
 call "$copy/polypar"
 expect "the second call does not" 7 1
 
@@ -109,7 +153,7 @@ expect "an edited source" 7 3
 cp -p "$work/old.rt" "$copy/crates/polypar/src/lib.rt"
 call "$copy/polypar"
 expect "an older file put over a source" 7 4
-echo "// edited" >>"$copy/crates/forms_bench/src/main.rt"
+echo "// edited" >>"$copy/crates/bench_cases/src/main.rt"
 call "$copy/polypar"
 expect "a source that the program does not use" 7 4
 
@@ -122,29 +166,57 @@ call "$copy/polypar"
 expect "the same kit, touched" 7 5
 
 echo "// edited" >>"$copy/crates/polypar/src/lib.rt"
-: >"$work/refuse"
+echo polypar_main >"$work/refuse"
 call "$copy/polypar"
-expect "a proof that fails" 70 6
-expect_word "a proof that fails is shown" "error: not proved"
+expect "a program that is not proved" 70 6
+expect_word "a program that is not proved is shown" "error: polypar_main has no proof"
 call "$copy/polypar"
-expect "a proof that fails again" 70 7
+expect "a program that is not proved again" 70 7
 rm "$work/refuse"
 call "$copy/polypar"
 expect "the proof mended" 7 8
 
 fresh
-: >"$work/slow"
-PATH=$work/bin:$PATH TMPDIR=$work/tmp setsid "$copy/polypar" >/dev/null 2>&1 &
-until [ -e "$work/builds" ]; do sleep 0.1; done
-kill -TERM "-$!" 2>/dev/null
+echo scop_units >"$work/refuse"
+call "$copy/polypar"
+expect "a crate that is not proved" 70 0
+expect_word "a crate that is not proved is shown" "error: scop_units has no proof"
+expect_word "a crate that is not proved is named" "polypar: scop_units was not proved"
+expect_same "none is tried behind it" "$(tail -n 1 "$work/calls")" scop_units
+
+for signal in TERM:143 INT:130; do
+    fresh
+    echo scop_units >"$work/slow"
+    interrupt "${signal%:*}"
+    expect "interrupted by ${signal%:*}" "${signal#*:}" 0
+    kill -0 "$(cat "$work/process")" 2>/dev/null
+    expect_same "what was under way has ended" "$?" 1
+    expect_same "no temporary file is left" "$(ls "$work/tmp")" ""
+    rm "$work/slow"
+    call "$copy/polypar"
+    expect "after an interrupt" 7 1
+    expect_same "nothing is proved twice" "$(sort "$work/proofs" | uniq -d)" ""
+    expect_same "each crate is proved" "$(wc -l <"$work/proofs")" "$crates"
+done
+
+fresh
+PATH=$work/bin:$PATH TMPDIR=$work/tmp "$copy/polypar" >/dev/null 2>&1 &
+call "$copy/polypar"
+expect "one of two calls at once" 7 1
 wait "$!"
 status=$?
-builds=$(wc -l <"$work/builds")
-expect "an interrupted build" 143 1
-[ -z "$(ls "$work/tmp")" ] || { failed=$((failed + 1)); echo "temporary files are left"; }
-rm "$work/slow"
-call "$copy/polypar"
-expect "after an interrupt" 7 2
+expect "the other of two calls at once" 7 1
+
+if command -v script >/dev/null; then
+    fresh
+    PATH=$work/bin:$PATH TMPDIR=$work/tmp script -qec "$copy/polypar one two" /dev/null </dev/null >"$work/said"
+    status=$?
+    said=$(cat "$work/said")
+    builds=$(wc -l <"$work/builds")
+    expect "on a terminal" 7 1
+    expect_same "each library is told" "$(grep -c '^polypar: [a-z_]* is proved, [0-9]* to go' "$work/said")" $((crates - 1))
+    expect_word "the last of them is told" "polypar: polypar_program is proved, 1 to go"
+fi
 
 fresh
 mkdir -p "$copy/crates/polypar_main"

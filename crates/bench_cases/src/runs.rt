@@ -1,8 +1,4 @@
-//! Runs a kernel by the plain interpreter and prints a checksum: the program that `bench/interpreter.sh` times.
-//!
-//! `interpreter_bench ROUNDS LINE ..` reads the kernel's text on standard input, takes each further word as a line of
-//! its data, runs it so many times, and prints the sum of all cells modulo 2^64; where it may not run, nothing.
-#![tactic(auto)]
+//! Runs of a kernel by the plain interpreter, and the sum of all cells modulo 2^64.
 
 ghost use Rattle.std.specs.Prelude.{◌≡◌};
 ghost use Rattle.scop_syntax.specs.Execution.{IsShaped, layout};
@@ -18,10 +14,7 @@ use scop_syntax::failure_laws::failures_are_the_first;
 use scop_syntax::limit_laws::accesses_have_the_ranks_of_arrays;
 use scop_syntax::tree::Kernel;
 use std::alloc::{AllocError, Global};
-use std::io::Read;
-use std::process::ExitCode;
-use std::rt::Env;
-use std::{env, io};
+use std::io;
 
 /// Runs a kernel so many times, if every subscript lies within its extent.
 fn run_rounds(
@@ -90,30 +83,19 @@ fn lines_of(alloc: Global, words: &[String]) -> Result<Vec<u8>, AllocError> {
     Ok(text)
 }
 
-/// Does what the words of the command line ask for; false where they ask for nothing.
-fn run_words(rt: &HostRuntime) -> io::Result<bool> {
-    let words: Vec<String> = env::args(rt)?.collect(rt.alloc())?;
-    if words.len() < 2 {
-        return Ok(false);
-    }
-    let Ok(rounds) = words[1].as_str().parse::<u64>() else {
-        return Ok(false);
-    };
-    let mut text = Vec::new(rt.alloc());
-    let _count = rt.stdin().read_to_end(&mut text)?;
-    let lines = lines_of(rt.alloc(), &words[2..])?;
-    match sum_after(rt.alloc(), &text, &lines, rounds) {
+/// Runs the kernel of this text with these lines of data, and prints the sum; false where it may not run.
+pub fn report<R: Print + AllocGlobal>(
+    rt: &R,
+    rounds: u64,
+    text: &[u8],
+    lines: &[String],
+) -> io::Result<bool> {
+    let lines = lines_of(rt.alloc(), lines)?;
+    match sum_after(rt.alloc(), text, &lines, rounds) {
         Some(sum) => {
             println!(rt; "{}", sum)?;
             Ok(true)
         }
         None => Ok(false),
-    }
-}
-
-fn main(rt: HostRuntime) -> ExitCode {
-    match run_words(&rt) {
-        Ok(true) => ExitCode::from(0),
-        _ => ExitCode::from(1),
     }
 }

@@ -1,17 +1,13 @@
-//! Repeats the planner's innermost steps and prints a checksum: the program that `bench/forms.sh` times.
+//! The planner's innermost steps, repeated, and a checksum of what they give.
 //!
-//! `forms_bench KIND ROUNDS` repeats one kind: `multiply_add`, checked products and sums of numbers from
-//! memory within 40 bits; `multiply_add_wide`, the same of numbers above 2^64; `value_at`, a form of eight
-//! coefficients; `row_operation`, a pivot's combination of 60 rows of 40 numbers. Without words each kind is
-//! done a few times.
-#![tactic(auto)]
+//! `multiply_add` is checked products and sums of numbers from memory within 40 bits; `multiply_add_wide` the same of
+//! numbers above 2^64; `value_at` a form of eight coefficients; `row_operation` a pivot's combination of 60 rows of 40
+//! numbers.
 
 ghost use Rattle.std.specs.Prelude.{◌≡◌, length};
 
 use affine_forms::Form;
-use std::process::ExitCode;
-use std::rt::Env;
-use std::{env, io};
+use std::io;
 use wide_math::{add, cross, mul};
 
 /// The coefficients of the form that is evaluated.
@@ -24,27 +20,23 @@ const ROWS: usize = 60;
 
 const COLUMNS: usize = 40;
 
-/// What is repeated.
-#[derive(Clone, Copy)]
-enum Kind {
+/// A step that is repeated.
+#[derive(Debug, Clone, Copy)]
+pub enum Step {
     MultiplyAdd,
     MultiplyAddWide,
     ValueAt,
     RowOperation,
 }
 
-/// The kind that a word names.
-fn kind_of(word: &str) -> Option<Kind> {
-    if word == "multiply_add" {
-        Some(Kind::MultiplyAdd)
-    } else if word == "multiply_add_wide" {
-        Some(Kind::MultiplyAddWide)
-    } else if word == "value_at" {
-        Some(Kind::ValueAt)
-    } else if word == "row_operation" {
-        Some(Kind::RowOperation)
-    } else {
-        None
+/// The step of this name.
+pub fn step_of(word: &str) -> Option<Step> {
+    match word {
+        "multiply_add" => Some(Step::MultiplyAdd),
+        "multiply_add_wide" => Some(Step::MultiplyAddWide),
+        "value_at" => Some(Step::ValueAt),
+        "row_operation" => Some(Step::RowOperation),
+        _ => None,
     }
 }
 
@@ -62,7 +54,7 @@ fn operands(seed: u64, scale: u32) -> [i128; OPERANDS] {
 }
 
 /// One checked product and sum; 0 or 1 where it leaves 128 bits.
-fn step(sum: i128, left: i128, right: i128) -> i128 {
+fn product_and_sum(sum: i128, left: i128, right: i128) -> i128 {
     match mul(left, right) {
         Ok(product) => match add(product, sum) {
             Ok(next) => next,
@@ -77,7 +69,7 @@ fn multiply_add(left: &[i128; OPERANDS], right: &[i128; OPERANDS], rounds: u64) 
     let mut sum = 0i128;
     for round in 0..rounds {
         let at = (round & 1023) as usize;
-        sum = step(sum, left[at], right[at]);
+        sum = product_and_sum(sum, left[at], right[at]);
     }
     sum
 }
@@ -153,59 +145,25 @@ fn row_operation(rounds: u64) -> i128 {
     mixed
 }
 
-/// Prints the checksum of a kind.
-fn run<R: Print + AllocGlobal>(rt: &R, kind: Kind, rounds: u64) -> io::Result<()> {
-    match kind {
-        Kind::MultiplyAdd => {
+/// Prints the checksum of so many rounds of a step.
+pub fn report<R: Print + AllocGlobal>(rt: &R, step: Step, rounds: u64) -> io::Result<()> {
+    match step {
+        Step::MultiplyAdd => {
             println!(rt;
                 "{}",
                 multiply_add(&operands(1, 1), &operands(2, 1), rounds)
             )
         }
-        Kind::MultiplyAddWide => {
+        Step::MultiplyAddWide => {
             println!(rt;
                 "{}",
                 multiply_add(&operands(1, 4294967295), &operands(2, 1), rounds)
             )
         }
-        Kind::ValueAt => match Form::of(rt.alloc(), &COEFFICIENTS, 29) {
+        Step::ValueAt => match Form::of(rt.alloc(), &COEFFICIENTS, 29) {
             Ok(form) => println!(rt; "{}", value_at(&form, &operands(3, 1), rounds)),
             Err(_) => println!(rt; "no memory"),
         },
-        Kind::RowOperation => println!(rt; "{}", row_operation(rounds)),
-    }
-}
-
-/// Each kind a few times.
-fn run_each<R: Print + AllocGlobal>(rt: &R) -> io::Result<()> {
-    run(rt, Kind::MultiplyAdd, 1000)?;
-    run(rt, Kind::MultiplyAddWide, 1000)?;
-    run(rt, Kind::ValueAt, 1000)?;
-    run(rt, Kind::RowOperation, 10)
-}
-
-/// What the words of the command line ask for; false where they ask for nothing known.
-fn run_words<R: Print + AllocGlobal + Env>(rt: &R) -> io::Result<bool> {
-    let words: Vec<String> = env::args(rt)?.collect(rt.alloc())?;
-    if words.len() < 2 {
-        run_each(rt)?;
-        return Ok(true);
-    }
-    if words.len() != 3 {
-        return Ok(false);
-    }
-    match (kind_of(words[1].as_str()), words[2].as_str().parse::<u64>()) {
-        (Some(kind), Ok(rounds)) => {
-            run(rt, kind, rounds)?;
-            Ok(true)
-        }
-        _ => Ok(false),
-    }
-}
-
-fn main(rt: HostRuntime) -> ExitCode {
-    match run_words(&rt) {
-        Ok(true) => ExitCode::from(0),
-        _ => ExitCode::from(1),
+        Step::RowOperation => println!(rt; "{}", row_operation(rounds)),
     }
 }

@@ -5,7 +5,7 @@ use Rattle.scop_syntax.specs.Failures.{Failure, VisitsAreRanked, first_outside}
 use Rattle.scop_syntax.specs.View.{program_of}
 use Rattle.scop_syntax.specs.Walk.{walk_of}
 use Rattle.scop_meaning.specs.Outside.{outside_of}
-use Rattle.interpreter_bench.proofs.run_rounds.Goals as goal
+use Rattle.bench_cases.proofs.runs.run_rounds.Goals as goal
 
 none_found : (o : Option Failure) → None ≡ option_map outside_of o → o ≡ None
 none_found None h = refl
