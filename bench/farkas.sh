@@ -1,9 +1,9 @@
 #!/bin/sh
-# Times the conflicts of the kernels in examples/ and the rows of all of them by Farkas's lemma (crates/bench_cases), and
-# the same eliminations with the same order of variables by isl over rational sets (libisl-dev; left out with a word where
-# it is missing). Prints of each kernel its dependences, the milliseconds of each call for all of them, by the shortest
-# processor times, how many questions were asked of the solver (counted by gdb; left out where it is missing), and the
-# ratio of both claims' rows to isl.
+# Times the conflicts of the kernels in examples/ and the rows of all of them by Farkas's lemma (crates/bench_cases),
+# and the same eliminations with the same order of variables by isl over rational sets (libisl-dev; left out with a word
+# where it is missing). Prints of each kernel its dependences, the milliseconds of each call for all of them, by the
+# shortest processor times, how many questions were asked of the solver (counted by gdb; left out where it is missing),
+# and the ratio of both claims' rows to isl.
 # usage: bench/farkas.sh [ROUNDS [FILE..]], the kernels of examples/ where no file is given; at least 5 rounds
 set -eu
 root=$(CDPATH= cd -- "$(dirname -- "$0")/.." && pwd)

@@ -97,9 +97,12 @@ expect_same() {
 
 # The crates of $work/calls that stand in front of one that they stand on.
 too_early() {
-    awk 'NR == FNR { sub(/#.*/, ""); name = $1; sub(/:.*/, "", name); sub(/^[^:]*:/, ""); needs[name] = $0; next }
-        { count = split(needs[$1], word, " "); called[$1] = 1
-          for (i = 1; i <= count; i++) if (word[i] in needs && !called[word[i]]) print $1 }' "$root/crates.txt" "$work/calls"
+    awk 'NR == FNR { if (split($0, side, ":") == 2) needs[side[1]] = side[2]; next }
+        {
+            called[$1] = 1
+            count = split(needs[$1], word, " ")
+            for (i = 1; i <= count; i++) if (word[i] in needs && !called[word[i]]) print $1
+        }' "$root/crates.txt" "$work/calls"
 }
 
 # Starts a call, sends it alone the signal $1 once the slow process is there, and waits; sets `status` and `builds`.
@@ -214,7 +217,8 @@ if command -v script >/dev/null; then
     said=$(cat "$work/said")
     builds=$(wc -l <"$work/builds")
     expect "on a terminal" 7 1
-    expect_same "each library is told" "$(grep -c '^polypar: [a-z_]* is proved, [0-9]* to go' "$work/said")" $((crates - 1))
+    told=$(grep -c '^polypar: [a-z_]* is proved, [0-9]* to go' "$work/said")
+    expect_same "each library is told" "$told" $((crates - 1))
     expect_word "the last of them is told" "polypar: polypar_program is proved, 1 to go"
 fi
 

@@ -1,9 +1,9 @@
-//! Repeats what the benches time, and prints what it leaves: the program of `bench/forms.sh`, `bench/interpreter.sh` and
-//! `bench/farkas.sh`.
+//! Repeats what the benches time, and prints what it leaves: the program of `bench/forms.sh`,
+//! `bench/interpreter.sh` and `bench/farkas.sh`.
 //!
-//! `bench_cases CASE ROUNDS LINE ..` does a case so many times. `multiply_add`, `multiply_add_wide`, `value_at` and
-//! `row_operation` are the planner's innermost steps; `run` runs the kernel on standard input with these lines of data;
-//! `conflicts`, `legal` and `bounded` are the planner's calls on that kernel; `all` is each of them in turn.
+//! `bench_cases CASE ROUNDS LINE ..` does a case so many times. `multiply_add`, `multiply_add_wide`, `value_at`
+//! and `row_operation` are the planner's innermost steps; `run` runs the kernel on standard input with these lines
+//! of data; `conflicts`, `legal` and `bounded` are the planner's calls on that kernel; `all` is each in turn.
 #![tactic(auto)]
 
 mod rows;
@@ -39,9 +39,11 @@ fn repeat(
         steps::report(rt, step, rounds)?;
         return Ok(true);
     }
+    if case == "run" {
+        return runs::report(rt, rounds, text, lines);
+    }
     match rows::call_of(case) {
         Some(call) => rows::report(rt, call, rounds, text),
-        None if case == "run" => runs::report(rt, rounds, text, lines),
         None => Ok(false),
     }
 }

@@ -21,7 +21,7 @@ const ROWS: usize = 60;
 const COLUMNS: usize = 40;
 
 /// A step that is repeated.
-#[derive(Debug, Clone, Copy)]
+#[derive(Clone, Copy)]
 pub enum Step {
     MultiplyAdd,
     MultiplyAddWide,
