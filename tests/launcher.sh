@@ -187,6 +187,18 @@ expect_word "a crate that is not proved is shown" "error: scop_units has no proo
 expect_word "a crate that is not proved is named" "polypar: scop_units was not proved"
 expect_same "none is tried behind it" "$(tail -n 1 "$work/calls")" scop_units
 
+fresh
+echo scop_lexer >"$work/slow"
+PATH=$work/bin:$PATH TMPDIR=$work/tmp "$copy/polypar" >/dev/null 2>&1 &
+until grep -qs kernel_grammar "$work/calls"; do sleep 0.1; done
+kill -0 "$(cat "$work/process")" 2>/dev/null
+expect_same "independent crates are proved side by side" "$?" 0
+wait "$!"
+status=$?
+builds=$(wc -l <"$work/builds")
+expect "after a slow crate" 7 1
+expect_same "each behind those that it stands on, side by side" "$(too_early)" ""
+
 for signal in TERM:143 INT:130; do
     fresh
     echo scop_units >"$work/slow"
