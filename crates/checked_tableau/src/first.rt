@@ -1,6 +1,5 @@
 //! The lines of a problem's first rows.
 ghost use Rattle.std.specs.Prelude.{◌≡◌, ℕ, suc, ◌+◌, ◌*◌, ◌<◌, ◌≤◌, pos, List, [], ◌∷◌, ◌++◌, length, All, IfOk, OnOk};
-ghost use Rattle.std.specs.Option.{ForSome};
 ghost use Rattle.affine_forms.specs.Parts.{variables_of};
 ghost use Rattle.tableau_rows.specs.Rows.{Row};
 ghost use Rattle.tableau_rows.specs.Problem.{entries_of, unit_rows, given_rows};
@@ -10,16 +9,6 @@ use crate::pivot::write_unit;
 use affine_forms::Form;
 use std::alloc::{AllocError, Global};
 
-/// How many lines there are: one an unknown, and one a form.
-pub fn lines_for(unknowns: usize, forms: usize, more: usize) -> Option<usize>
-    ensures { ForSome result (λ n. n ≡ (unknowns + forms) + more) }
-{
-    match unknowns.checked_add(forms) {
-        None => None,
-        Some(front) => front.checked_add(more),
-    }
-}
-
 /// No lines yet, with room for so many.
 pub fn room_for(alloc: Global, lines: usize, stride: usize) -> Result<Vec<i128>, AllocError>
     ensures { IfOk result (λ v. v.items ≡ []) }
@@ -28,7 +17,7 @@ pub fn room_for(alloc: Global, lines: usize, stride: usize) -> Result<Vec<i128>,
 }
 
 /// Writes the lines of the unknowns: each is its column. `line` is room for one.
-fn append_units(
+pub fn append_units(
     cells: &mut Vec<i128>,
     line: &mut [i128],
     unknowns: usize,
@@ -70,7 +59,7 @@ fn append_form(cells: &mut Vec<i128>, form: &Form, unknowns: usize) -> Result<()
 }
 
 /// Appends the lines of forms.
-fn append_forms(
+pub fn append_forms(
     cells: &mut Vec<i128>,
     forms: &[Form],
     unknowns: usize,
@@ -89,58 +78,4 @@ fn append_forms(
         }
     }
     Ok(())
-}
-
-/// The lines of the unknowns and of the forms, which stand in two parts. `line` is room for one.
-pub fn first_lines(
-    alloc: Global,
-    line: &mut [i128],
-    unknowns: usize,
-    forms: &[Form],
-    more: &[Form],
-) -> Result<Vec<i128>, AllocError>
-    requires room { unknowns + 2 ≤ length line.old }
-    requires forms { All (λ f. variables_of f + 2 ≡ length line.old) forms.now }
-    requires more { All (λ f. variables_of f + 2 ≡ length line.old) more.now }
-    ensures { (m : ℕ) → length line.old ≡ suc m
-        → IfOk result (λ v. Holds (suc m) ((unknowns + length forms.now) + length more.now) v.items
-        ((unit_rows m 0 unknowns ++ given_rows unknowns forms.now) ++ given_rows unknowns more.now)) }
-{
-    let stride = line.len();
-    let lines = unknowns
-        .saturating_add(forms.len())
-        .saturating_add(more.len());
-    let mut cells = match room_for(alloc, lines, stride) {
-        Err(error) => return Err(error),
-        Ok(cells) => cells,
-    };
-    match append_units(&mut cells, line, unknowns) {
-        Err(error) => return Err(error),
-        Ok(()) => {}
-    }
-    match append_parts(&mut cells, forms, more, unknowns, stride) {
-        Err(error) => Err(error),
-        Ok(()) => Ok(cells),
-    }
-}
-
-/// Appends the lines of forms that stand in two parts.
-fn append_parts(
-    cells: &mut Vec<i128>,
-    forms: &[Form],
-    more: &[Form],
-    unknowns: usize,
-    stride: usize,
-) -> Result<(), AllocError>
-    requires forms { All (λ f. variables_of f + 2 ≡ stride) forms.now }
-    requires more { All (λ f. variables_of f + 2 ≡ stride) more.now }
-    requires unknowns { unknowns + 2 ≤ stride }
-    ensures { (count : ℕ) (rows : List Row) → Holds stride count cells.old.items rows
-        → OnOk result (Holds stride ((count + length forms.now) + length more.now) cells.new.items
-        ((rows ++ given_rows unknowns forms.now) ++ given_rows unknowns more.now)) }
-{
-    match append_forms(cells, forms, unknowns, stride) {
-        Err(error) => Err(error),
-        Ok(()) => append_forms(cells, more, unknowns, stride),
-    }
 }

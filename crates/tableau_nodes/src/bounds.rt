@@ -98,12 +98,7 @@ pub fn copied_bounds(alloc: Global, bounds: &[Bound]) -> Result<Vec<Bound>, Allo
 }
 
 /// The bound of a parameter at a place: the quotient of a form by a divisor.
-fn bound_of(
-    alloc: Global,
-    form: &Form,
-    divisor: i128,
-    place: usize,
-) -> Result<Bound, AllocError>
+fn bound_of(alloc: Global, form: &Form, divisor: i128, place: usize) -> Result<Bound, AllocError>
     ensures { IfOk result (λ b. b ≡ record { form = form.now; divisor = divisor; place = place }) }
 {
     match form.copy() {

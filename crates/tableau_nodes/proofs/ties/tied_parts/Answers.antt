@@ -36,7 +36,7 @@ returns c =
     let told = simp to_z-of_z at c.in-Ok-ties.ensures in
     let is = c.in-Ok.ensures in (
       is.0,
-      tied-run t.unknowns t.parameters (row_at t.rows c.args.row) is.0 d f (Ok (c.in-Ok-ties.low, c.in-Ok-ties.high)) is.1
-          told,
+      tied-run t.unknowns t.parameters (row_at t.rows c.args.row) is.0 d f (Ok (c.in-Ok-ties.low, c.in-Ok-ties.high))
+          is.1 told,
       is.2,
     )

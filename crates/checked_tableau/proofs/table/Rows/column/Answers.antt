@@ -5,7 +5,7 @@ use Rattle.tableau_rows.specs.Moves.{rows_in, row_at, column_run}
 use Rattle.checked_tableau.specs.Table.{Table, stride_of}
 use Rattle.tableau_rows.proofs.Lines.{entry_at}
 use Rattle.checked_tableau.proofs.Tables.{take_rows_in}
-use Rattle.std.proofs.Common.{◌*◌, ℕ, List, ap, arith}
+use Rattle.std.proofs.Common.{◌*◌, ℕ, ap, arith}
 use Rattle.checked_tableau.proofs.Tables.{lines_within}
 use Rattle.checked_tableau.proofs.table.Rows.column.Goals as goal
 

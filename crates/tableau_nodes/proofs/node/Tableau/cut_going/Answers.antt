@@ -1,4 +1,4 @@
-use Rattle.std.proofs.Common.{rules, ◌≡◌, ◌∙◌, ◌<◌, ℕ, sym, subst}
+use Rattle.std.proofs.Common.{◌≡◌, ◌∙◌, ◌<◌, ℕ, sym, subst}
 use Rattle.lexmin_runs.proofs.Kept.{place_within}
 use Rattle.tableau_nodes.proofs.node.Tableau.cut_going.Goals as goal
 
