@@ -140,20 +140,9 @@ impl Tableau {
         ensures again { (w : Wide) → self.old.rows.stopped ≡ Some w
             → (result ≡ Err (stop.Wide w)) × StopsAt w self.old self.new }
     {
-        match self.rows.stopped() {
-            Some(wide) => Err(TableauStop::Wide(wide)),
-            None => self.split_going(alloc, row),
+        if let Some(wide) = self.rows.stopped() {
+            return Err(TableauStop::Wide(wide));
         }
-    }
-
-    // The split of a node at which no number was too wide.
-    fn split_going(&mut self, alloc: Global, row: usize) -> Result<Move, TableauStop>
-        requires row { row < length self.old.rows.rows }
-        requires going { self.old.rows.stopped ≡ None }
-        ensures { Moves self.old
-            (λ left. split left (node_of self.old) (part_of self.old.rows.unknowns (row_at self.old.rows.rows row)))
-            self.new result }
-    {
         let (part, test, opposite) = match split_forms(alloc, &self.rows, row) {
             Err(FormStop::NoMemory) => return Err(TableauStop::NoMemory),
             Err(FormStop::Wide(wide)) => {
