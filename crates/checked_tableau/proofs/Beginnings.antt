@@ -82,12 +82,11 @@ speaks_all n [] all = tt
 speaks_all n (f ∷ fs) all = (all 0 f (omega arith), speaks_all n fs (λ k d below. all (suc k) d (omega arith)))
 
 -- the first rows in a buffer
-pub sound_first : (n m count stride : ℕ) (cells units line : List ℤ) (fs : List Affine) → stride ≡ stride_of n m
+pub sound_first : (n m count stride : ℕ) (cells line : List ℤ) (fs : List Affine) → stride ≡ stride_of n m
     → length line ≡ stride → Speaks (n + m) fs → count ≡ n + length fs
-    → Holds stride n units (unit_rows (n + 1 + m) 0 n)
     → Holds stride (n + length fs) cells (unit_rows (n + 1 + m) 0 n ++ given_rows n fs)
     → IsSound n m count cells line None × (rows_in (stride_of n m) count cells ≡ first_rows m (problem_of n fs))
-sound_first n m count stride cells units line fs is room speaks number unit held =
+sound_first n m count stride cells line fs is room speaks number held =
     let lines : rows_in (stride_of n m) count cells ≡ first_rows m (problem_of n fs) =
     ap (λ (k : ℕ). rows_in (stride_of n m) k cells) number ∙ ap (λ (k : ℕ). rows_in k (n + length fs) cells) (sym is)
     ∙ held.lines in (
@@ -106,20 +105,20 @@ given_rows-append n [] gs = refl
 given_rows-append n (f ∷ fs) gs = ap (λ (rows : List Row). row_of (pos 1) (entries_of n f) ∷ rows)
     (given_rows-append n fs gs)
 
-pub sound_parts : (n m count stride : ℕ) (cells units line : List ℤ) (fs gs : List Affine) → stride ≡ stride_of n m
+pub sound_parts : (n m count stride : ℕ) (cells line : List ℤ) (fs gs : List Affine) → stride ≡ stride_of n m
     → length line ≡ stride → Speaks (n + m) fs → Speaks (n + m) gs
-    → count ≡ (n + length fs) + length gs → Holds stride n units (unit_rows (n + 1 + m) 0 n)
+    → count ≡ (n + length fs) + length gs
     → Holds stride ((n + length fs) + length gs) cells
     ((unit_rows (n + 1 + m) 0 n ++ given_rows n fs) ++ given_rows n gs)
     → IsSound n m count cells line None × (rows_in (stride_of n m) count cells ≡ first_rows m (problem_of n (fs ++ gs)))
-sound_parts n m count stride cells units line fs gs is room first second number unit held =
+sound_parts n m count stride cells line fs gs is room first second number held =
     let units_are = unit_rows (n + 1 + m) 0 n in
     let l : (n + length fs) + length gs ≡ n + length (fs ++ gs) = let a = length-append fs gs in omega arith in
     let e : (units_are ++ given_rows n fs) ++ given_rows n gs ≡ units_are ++ given_rows n (fs ++ gs) =
     append_assoc units_are (given_rows n fs) (given_rows n gs)
     ∙ ap (λ (rows : List Row). units_are ++ rows) (sym (given_rows-append n fs gs)) in
-    sound_first n m count stride cells units line (fs ++ gs) is room (speaks-append (n + m) fs gs first second)
-    (number ∙ l) unit
+    sound_first n m count stride cells line (fs ++ gs) is room (speaks-append (n + m) fs gs first second)
+    (number ∙ l)
     (subst (λ (k : ℕ). Holds stride k cells (units_are ++ given_rows n (fs ++ gs))) l
     (subst (λ (rows : List Row). Holds stride ((n + length fs) + length gs) cells rows) e held))
 

@@ -7,6 +7,8 @@ use Rattle.std.proofs.lemmas.Int.{ints}
 use Rattle.std.proofs.lemmas.List.{length-append}
 use Rattle.std.proofs.Math.Nat.{suc-mul}
 use Rattle.std.proofs.Math.Seq.{take-append_seam, drop-append_seam}
+use Rattle.whole_numbers.specs.Floor.{remainder}
+use Rattle.whole_numbers.proofs.Remainders.{remainder_is}
 use Rattle.wide_math.specs.declared.Wide.{Wide}
 use Rattle.wide_math.specs.Checked.{product_of, ◌>>=◌}
 use Rattle.tableau_rows.specs.Rows.{Row, entry}
@@ -57,6 +59,19 @@ head_here stride left k rest [] others more parts size some heads = absurd (omeg
 head_here stride left k rest (x ∷ row) others more parts size some heads =
     let h = subst (λ (i : ℕ). HeadsPositive stride i rest) more heads in
     subst (λ (zs : List ℤ). pos 0 <ℤ get_or zs 0 (pos 0)) parts h.0
+
+-- 1 divides each number
+pub by_one : (a d : ℤ) → d ≡ pos 1 → is_positive (remainder a d) ≡ false
+by_one a d one =
+    let e = remainder_is a d (omega (arith, ints)) in
+    let l = e.not_negative in
+    let b = e.below in
+    not_positive (remainder a d) (omega (arith, ints))
+  where
+    not_positive : (z : ℤ) → z ≤ℤ pos 0 → is_positive z ≡ false
+    not_positive (pos zero) h = refl
+    not_positive (pos (suc n)) h = absurd (omega (arith, ints))
+    not_positive (negsuc n) h = refl
 
 -- the first row that passes a test
 pub first_found : (test : Row → Bool) (i stride left k : ℕ) (rest row others : List ℤ) (run : Option ℕ) → k ≡ suc left

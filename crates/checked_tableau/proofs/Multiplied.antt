@@ -49,10 +49,12 @@ crossed_alone x a y h =
     rw (checked-fits Mul x a (x *ℤ a) h, nothing_times y)
     (checked-fits Sub (x *ℤ a) (pos 0) ((x *ℤ a) -ℤ pos 0) f ∙ ap (λ (z : ℤ). Ok z) (e ∙ mul_comm_int x a))
 
+-- a first number, then the rest
 chained : (r : Result ℤ Wide) (q : Result (List ℤ) Wide) (z : ℤ) (zs : List ℤ) → r ≡ Ok z → q ≡ Ok zs
     → (r >>= λ k. q >>= λ ks. Ok (k ∷ ks)) ≡ Ok (z ∷ zs)
 chained r q z zs h k = rw (h, k) refl
 
+-- entries, with nothing of the pivot row taken off
 crossed_all : (a : ℤ) (xs ys : List ℤ) → length xs ≡ length ys → All (λ x. IsTrue (fits (x *ℤ a))) xs
     → crossed_run a (pos 0) xs ys ≡ Ok (multiples a xs)
 unfolding crossed_run
@@ -64,6 +66,7 @@ crossed_all a (x ∷ xs) (y ∷ ys) h all =
     (crossed_alone x a y (All-head P x xs all))
     (crossed_all a xs ys (omega arith) (All-tail P x xs all))
 
+-- the entries of a row with 0 in the pivot's column
 entries_all : (s : ℕ) (a d : ℤ) (xs ys : List ℤ) → length xs ≡ length ys → get_or xs s (pos 0) ≡ pos 0
     → All (λ x. IsTrue (fits (x *ℤ a))) xs
     → entries_run s a (pos 0) d xs ys ≡ Ok (multiples a xs)
@@ -81,7 +84,7 @@ entries_all (suc s) a d (x ∷ xs) (y ∷ ys) h e all =
     (crossed_alone x a y (All-head P x xs all))
     (entries_all s a d xs ys (omega arith) e (All-tail P x xs all))
 
--- the line is multiplied
+-- the line, with its denominator in front, is multiplied
 line_multiplied : (s : ℕ) (ps row : List ℤ) → length row ≡ length ps → 0 < length row
     → get_or row (s + 1) (pos 0) ≡ pos 0
     → All (λ x. IsTrue (fits (x *ℤ get_or ps (s + 1) (pos 0)))) row
@@ -98,11 +101,13 @@ line_multiplied s (y ∷ ys) (x ∷ xs) h some e all =
     (checked-fits Mul x a (x *ℤ a) (All-head P x xs all) ∙ ap (λ (k : ℤ). Ok k) (mul_comm_int x a))
     (entries_all s a y xs ys (omega arith) e2 (All-tail P x xs all)))
 
+-- a positive factor leaves the lowest terms
 same_lowest : (a : ℤ) (xs : List ℤ) → pos 0 <ℤ a → lowest (multiples a xs) ≡ lowest xs
 same_lowest (pos zero) xs h = absurd (omega (arith, ints))
 same_lowest (pos (suc k)) xs h = lowest_of_multiples k xs
 same_lowest (negsuc k) xs h = absurd (omega (arith, ints))
 
+-- the row after the pivot has the lowest terms that it had
 pub placed_alone : (b : Bool) (s : ℕ) (ps row new : List ℤ) → b ≡ false → length row ≡ length ps → 0 < length row
     → get_or row (s + 1) (pos 0) ≡ pos 0 → pos 0 <ℤ get_or ps (s + 1) (pos 0)
     → All (λ x. IsTrue (fits (x *ℤ get_or ps (s + 1) (pos 0)))) row → new ≡ lowest row

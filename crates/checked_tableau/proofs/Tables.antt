@@ -1,9 +1,11 @@
 -- A buffer of lines as rows.
+use Rattle.std.proofs.Common.{◌-◌}
 use Rattle.std.proofs.Common.{◌≡◌, ℕ, zero, suc, ◌+◌, ◌*◌, ◌<◌, ◌≤◌, ℤ, pos, ◌<ℤ◌, List, [], ◌∷◌, ◌++◌, length, get_or}
 use Rattle.std.proofs.Common.{drop, take, refl, subst, ap, ap₂, sym, ◌∙◌, arith, add-one, drop-drop}
 use Rattle.std.specs.Prelude.{Result, Ok, Err, Option, Some, None}
 use Rattle.std.proofs.lemmas.List.{length-take-le, length-drop, length-append, get_or-take, drop-take, take_all}
 use Rattle.std.proofs.lemmas.List.{append-nil, take-append-le, drop-append-le}
+use Rattle.std.proofs.lemmas.Nat.{mul-le}
 use Rattle.std.proofs.Math.ListN.{drop_of_length-le}
 use Rattle.std.proofs.Math.Nat.{suc-mul}
 use Rattle.std.proofs.Math.Seq.{take-append_seam, take-add}
@@ -41,6 +43,24 @@ line_in stride (suc count) (suc row) cells h =
 pub line_within : (start left stride n : ℕ) → 0 < left → start + left * stride ≡ n → start + stride ≤ n
 line_within start zero stride n some size = absurd (omega arith)
 line_within start (suc left) stride n some size = let m = suc-mul left stride in omega arith
+
+-- the first lines lie within a buffer
+pub lines_within : (n count stride m : ℕ) → n ≤ count → m ≡ count * stride → n * stride ≤ m
+lines_within n count stride m few size = let l = mul-le n stride count stride few (omega arith) in omega arith
+
+-- the line at a place, as the code takes it: its length, its head
+pub line_length : (start stride : ℕ) (cells : List ℤ) → start + stride ≤ length cells
+    → length (take ((start + stride) - start) (drop start cells)) ≡ stride
+line_length start stride cells within =
+    length-take-le ((start + stride) - start) (drop start cells) (omega (arith, length-drop start cells)) ∙ omega arith
+
+pub line_head : (start stride left : ℕ) (cells : List ℤ) → 0 < left → 0 < stride
+    → HeadsPositive stride left (drop start cells)
+    → pos 0 <ℤ get_or (take ((start + stride) - start) (drop start cells)) 0 (pos 0)
+line_head start stride zero cells some long heads = absurd (omega arith)
+line_head start stride (suc left) cells some long heads =
+    subst (λ (z : ℤ). pos 0 <ℤ z)
+    (sym (get_or-take ((start + stride) - start) (drop start cells) 0 (pos 0) (omega arith))) heads.0
 
 -- the heads of sound rows
 pub heads_sized : (stride m count : ℕ) (cells : List ℤ) → 0 < stride → Sized m (rows_in stride count cells)

@@ -10,6 +10,7 @@ use crate::contents::reduce;
 use wide_math::{Wide, sub};
 
 /// `a` modulo `divisor`.
+#[inline]
 pub fn remainder_of(a: i128, divisor: i128) -> i128
     requires { pos 1 ≤ℤ divisor }
     ensures value { result ≡ remainder a divisor }

@@ -8,6 +8,7 @@ ghost use Rattle.tableau_rows.specs.Moves.{better_run};
 ghost use Rattle.checked_tableau.specs.Leads.{Leads};
 ghost use Rattle.tableau_rows.specs.Run.{first_row, has_below, has_fraction, some_positive};
 
+use crate::cuts::remainder_of;
 use wide_math::{Wide, mul};
 
 /// Whether the constant is below 0.
@@ -35,13 +36,25 @@ pub fn first_below(cells: &[i128], stride: usize, count: usize, unknowns: usize)
     None
 }
 
+/// Whether a number is positive.
+#[inline]
+fn is_positive(number: i128) -> bool
+    ensures { result ≡ is_positive number }
+{
+    number > 0
+}
+
 /// Whether the denominator does not divide the constant.
 fn is_fraction(row: &[i128], unknowns: usize) -> bool
     requires constant { unknowns + 1 < length row.now }
     requires positive { pos 0 <ℤ slice_index_or row.now 0 (pos 0) }
     ensures { result ≡ has_fraction unknowns (line_row row.now) }
 {
-    row[0] != 1 && row[unknowns + 1].rem_euclid(row[0]) != 0
+    let divisor = row[0];
+    if divisor == 1 {
+        return false;
+    }
+    is_positive(remainder_of(row[unknowns + 1], divisor))
 }
 
 /// The first of `count` rows whose constant its denominator does not divide.

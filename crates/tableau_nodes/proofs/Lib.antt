@@ -1,3 +1,4 @@
 pub mod Opposites
 pub mod Read_off
 pub mod Moving
+pub mod Copying

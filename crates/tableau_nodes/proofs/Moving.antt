@@ -1,7 +1,8 @@
 -- The moves of a node, from those of its rows.
-use Rattle.std.proofs.Common.{◌≡◌, ℕ, ◌+◌, ◌<◌, ℤ, [], ◌∷◌, ◌++◌, length, map, refl, subst}
+use Rattle.std.proofs.Common.{◌≡◌, ℕ, ◌+◌, ◌<◌, ℤ, [], ◌∷◌, ◌++◌, length, map, refl, subst, ap, ◌∙◌}
 use Rattle.std.specs.Prelude.{Some, None, Result, Ok, Err, IfOk, OnOk}
 use Rattle.wide_math.specs.declared.Wide.{Wide}
+use Rattle.wide_math.specs.Checked.{◌>>=◌}
 use Rattle.whole_numbers.specs.Affine.{Affine}
 use Rattle.tableau_rows.specs.Rows.{Row}
 use Rattle.tableau_rows.specs.Moves.{cut_run, row_at}
@@ -9,10 +10,12 @@ use Rattle.checked_tableau.specs.Lines.{behind_columns}
 use Rattle.lexmin_runs.proofs.Longer.{row_at-longer}
 use Rattle.lexmin_runs.specs.Nodes.{Next, goes, Counted, pivot, longer_row, at_least_run, under_run}
 use Rattle.checked_tableau.specs.Table.{Table, table_of, resumed}
-use Rattle.tableau_nodes.specs.Node.{node_of, next_of, tied_run, Moves, Pivots, Keeps}
+use Rattle.tableau_nodes.specs.Node.{node_of, next_of, tied_run, ties_run, TiesRows, TiesParts, Moves}
+use Rattle.tableau_nodes.specs.Node.{Pivots, Keeps}
 use Rattle.tableau_nodes.specs.declared.node.Tableau.{Tableau}
 use Rattle.tableau_nodes.specs.declared.node.Move.TheVariants as move
 use Rattle.checked_tableau.specs.declared.stop.TableauStop.{TableauStop}
+use Rattle.checked_tableau.specs.declared.stop.TableauStop.TheVariants as stop
 
 -- the cut on a row of the wider rows
 pub widened-cut : (old wider new : Table) (i place : ℕ)
@@ -36,17 +39,31 @@ widened-cut old wider new i place is within placed h =
       g.2,
     )
 
-pub tied-ok : (n m : ℕ) (row new : Row) (d : ℤ) (f low high : Affine)
-    → cut_run n (behind_columns n (Some m)) (longer_row row) ≡ Ok new → at_least_run d f ≡ Ok low
-    → under_run d f ≡ Ok high
-    → tied_run n m row d f ≡ Ok (new, low, high)
-tied-ok n m row new d f low high made first second = rw (made, first, second) refl
+-- the run of all parts, from those of the row and of the two forms
+in_turn : (new : Row) (low high : Result Affine Wide)
+    → ◌>>=◌ {B = Row × Affine × Affine} low (λ f. high >>= λ g. Ok (new, f, g))
+    ≡ ◌>>=◌ {B = Row × Affine × Affine} (◌>>=◌ {B = Affine × Affine} low (λ f. high >>= λ g. Ok (f, g)))
+    (λ p. Ok (new, p.0, p.1))
+in_turn new (Err w) high = refl
+in_turn new (Ok f) (Err w) = refl
+in_turn new (Ok f) (Ok g) = refl
 
-pub tied-high : (n m : ℕ) (row new : Row) (d : ℤ) (f low : Affine) (w : Wide)
-    → cut_run n (behind_columns n (Some m)) (longer_row row) ≡ Ok new → at_least_run d f ≡ Ok low
-    → under_run d f ≡ Err w
-    → tied_run n m row d f ≡ Err w
-tied-high n m row new d f low w made first second = rw (made, first, second) refl
+pub tied-run : (n m : ℕ) (row new : Row) (d : ℤ) (f : Affine) (ties : Result (Affine × Affine) Wide)
+    → cut_run n (behind_columns n (Some m)) (longer_row row) ≡ Ok new → ties_run d f ≡ ties
+    → tied_run n m row d f ≡ (ties >>= λ p. Ok (new, p.0, p.1))
+tied-run n m row new d f ties made tied =
+    rw made (in_turn new (at_least_run d f) (under_run d f)
+    ∙ ap (λ (q : Result (Affine × Affine) Wide). q >>= λ p. Ok (new, p.0, p.1)) tied)
+
+tied-err : (n m : ℕ) (row : Row) (d : ℤ) (f : Affine) (w : Wide)
+    → cut_run n (behind_columns n (Some m)) (longer_row row) ≡ Err w → tied_run n m row d f ≡ Err w
+tied-err n m row d f w failed = rw failed refl
+
+pub parts-err : (old : Table) (row : Row) (d : ℤ) (f : Affine) (e : TableauStop)
+    → TiesRows old (Err e) (cut_run old.unknowns (behind_columns old.unknowns (Some old.parameters)) (longer_row row))
+    → TiesParts old (Err e) (tied_run old.unknowns old.parameters row d f)
+parts-err old row d f (stop.Wide w) failed = tied-err old.unknowns old.parameters row d f w failed
+parts-err old row d f stop.NoMemory failed = tt
 
 -- a move that is the run's keeps the solutions as the run's does
 pub moves-keep : (old new : Tableau) (run : ℕ → Counted Next) (result : Result move.the_data TableauStop)

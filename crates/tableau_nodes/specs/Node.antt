@@ -86,11 +86,24 @@ cut_known n left node i parameter =
 abbrev pub cut_new : ℕ → ℕ → Node → ℕ → Counted Next
 cut_new n left node i = paid left (λ rest. cut_bound n left rest node i None)
 
+-- the two forms that tie a parameter, the quotient of a form by a divisor
+abbrev pub ties_run : ℤ → Affine → Result (Affine × Affine) Wide
+ties_run divisor form =
+    at_least_run divisor form >>= λ low. under_run divisor form >>= λ high. Ok (low, high)
+
 -- the new row, and the two forms that tie the new parameter
 abbrev pub tied_run : ℕ → ℕ → Row → ℤ → Affine → Result (Row × Affine × Affine) Wide
 tied_run n m row divisor form =
     cut_run n (behind_columns n (Some m)) (longer_row row) >>= λ new. at_least_run divisor form >>= λ low.
     under_run divisor form >>= λ high. Ok (new, low, high)
+
+-- longer rows with the new one behind them, or the number that is too wide
+abbrev pub TiesRows : Table → Result Table TableauStop → Result Row Wide → Type 0
+TiesRows old (Ok rows) run =
+    (new : Row) × (run ≡ Ok new)
+    × (rows ≡ table_of old.unknowns (old.parameters + 1) (map longer_row old.rows ++ new ∷ []) None)
+TiesRows old (Err (stop.Wide w)) run = run ≡ Err w
+TiesRows old (Err stop.NoMemory) run = ⊤
 
 -- longer rows with the new one behind them, and the two forms, or the number that is too wide
 abbrev pub TiesParts : Table → Result (Table × Affine × Affine) TableauStop → Result (Row × Affine × Affine) Wide

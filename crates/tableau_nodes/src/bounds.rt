@@ -1,5 +1,5 @@
 //! The parameters that cuts have bound, and the one that a form and a divisor have bound before.
-ghost use Rattle.std.specs.Prelude.{◌≡◌, ◌≤◌, ◌⊎◌, IfOk};
+ghost use Rattle.std.specs.Prelude.{◌≡◌, ◌≤◌, ◌⊎◌, [], ◌∷◌, ◌++◌, IfOk, OnOk, OnErr};
 ghost use Rattle.lexmin_runs.specs.Nodes.{same_list, is_bound_as, place_of};
 
 use crate::parts::all_zero;
@@ -68,6 +68,18 @@ pub fn place_of(form: &Form, divisor: i128, bounds: &[Bound]) -> Option<usize>
     None
 }
 
+/// Appends a copy of a bound.
+fn push_copy(alloc: Global, bounds: &mut Vec<Bound>, bound: &Bound) -> Result<(), AllocError>
+    ensures { OnOk result (bounds.new.items ≡ bounds.old.items ++ bound.now ∷ []) }
+{
+    let copy = match bound_of(alloc, &bound.form, bound.divisor, bound.place) {
+        Err(error) => return Err(error),
+        Ok(copy) => copy,
+    };
+    bounds.push(copy)?;
+    Ok(())
+}
+
 /// A copy of each bound.
 pub fn copied_bounds(alloc: Global, bounds: &[Bound]) -> Result<Vec<Bound>, AllocError>
     ensures { IfOk result (λ v. v.items ≡ bounds.now) }
@@ -77,17 +89,8 @@ pub fn copied_bounds(alloc: Global, bounds: &[Bound]) -> Result<Vec<Bound>, Allo
         Ok(all) => all,
     };
     for bound in bounds {
-        let form = match bound.form.copy() {
-            Err(_) => return Err(AllocError),
-            Ok(form) => form,
-        };
-        let copy = Bound {
-            form,
-            divisor: bound.divisor,
-            place: bound.place,
-        };
-        match all.push(copy) {
-            Err(_) => return Err(AllocError),
+        match push_copy(alloc, &mut all, bound) {
+            Err(error) => return Err(error),
             Ok(()) => {}
         }
     }
@@ -95,12 +98,7 @@ pub fn copied_bounds(alloc: Global, bounds: &[Bound]) -> Result<Vec<Bound>, Allo
 }
 
 /// The bound of a parameter at a place: the quotient of a form by a divisor.
-pub fn bound_of(
-    alloc: Global,
-    form: &Form,
-    divisor: i128,
-    place: usize,
-) -> Result<Bound, AllocError>
+fn bound_of(alloc: Global, form: &Form, divisor: i128, place: usize) -> Result<Bound, AllocError>
     ensures { IfOk result (λ b. b ≡ record { form = form.now; divisor = divisor; place = place }) }
 {
     match form.copy() {
@@ -110,5 +108,27 @@ pub fn bound_of(
             divisor,
             place,
         }),
+    }
+}
+
+/// Puts the bound of a parameter at a place in front: the quotient of a form by a divisor.
+pub fn bind_front(
+    alloc: Global,
+    bounds: &mut Vec<Bound>,
+    form: &Form,
+    divisor: i128,
+    place: usize,
+) -> Result<(), AllocError>
+    ensures bound { OnOk result (bounds.new.items
+        ≡ record { form = form.now; divisor = divisor; place = place } ∷ bounds.old.items) }
+    ensures stays { OnErr result (bounds.new.items ≡ bounds.old.items) }
+{
+    let bound = match bound_of(alloc, form, divisor, place) {
+        Err(error) => return Err(error),
+        Ok(bound) => bound,
+    };
+    match bounds.insert(0, bound) {
+        Err(_) => Err(AllocError),
+        Ok(()) => Ok(()),
     }
 }

@@ -1,5 +1,5 @@
 //! The forms that a node's questions and ties are made of.
-ghost use Rattle.std.specs.Prelude.{◌≡◌, pos, [], ◌∷◌, ◌++◌, map, Ok, IfOk};
+ghost use Rattle.std.specs.Prelude.{◌≡◌, pos, [], ◌∷◌, ◌++◌, map, Ok, IfOk, OnOk};
 ghost use Rattle.wide_math.specs.Checked.{difference_of};
 ghost use Rattle.wide_math.specs.Gives.{Becomes};
 ghost use Rattle.whole_numbers.specs.Affine.{form_of};
@@ -122,13 +122,21 @@ pub fn at_least(alloc: Global, divisor: i128, form: &Form) -> Result<Form, FormS
     }
 }
 
-/// The form over one variable more, of which it does not speak.
-fn longer(alloc: Global, form: &Form) -> Result<Form, AllocError>
-    ensures { IfOk result (λ f. f ≡ longer_form form.now) }
+/// Appends a form.
+fn push(forms: &mut Vec<Form>, form: Form) -> Result<(), AllocError>
+    ensures { OnOk result (forms.new.items ≡ forms.old.items ++ form ∷ []) }
+{
+    forms.push(form)?;
+    Ok(())
+}
+
+/// Appends the form over one variable more, of which it does not speak.
+fn push_longer(alloc: Global, forms: &mut Vec<Form>, form: &Form) -> Result<(), AllocError>
+    ensures { OnOk result (forms.new.items ≡ forms.old.items ++ longer_form form.now ∷ []) }
 {
     match extended(alloc, form.coefficients(), 0, form.constant()) {
         Err(_) => Err(AllocError),
-        Ok(form) => Ok(form),
+        Ok(longer) => push(forms, longer),
     }
 }
 
@@ -141,15 +149,22 @@ pub fn longer_forms(alloc: Global, forms: &[Form]) -> Result<Vec<Form>, AllocErr
         Ok(all) => all,
     };
     for form in forms {
-        match longer(alloc, form) {
+        match push_longer(alloc, &mut all, form) {
             Err(error) => return Err(error),
-            Ok(longer) => match all.push(longer) {
-                Err(_) => return Err(AllocError),
-                Ok(()) => {}
-            },
+            Ok(()) => {}
         }
     }
     Ok(all)
+}
+
+/// Appends a copy of a form.
+fn push_copy(forms: &mut Vec<Form>, form: &Form) -> Result<(), AllocError>
+    ensures { OnOk result (forms.new.items ≡ forms.old.items ++ form.now ∷ []) }
+{
+    match form.copy() {
+        Err(_) => Err(AllocError),
+        Ok(copy) => push(forms, copy),
+    }
 }
 
 /// A copy of each form.
@@ -161,15 +176,36 @@ pub fn copies(alloc: Global, forms: &[Form]) -> Result<Vec<Form>, AllocError>
         Ok(all) => all,
     };
     for form in forms {
-        match form.copy() {
-            Err(_) => return Err(AllocError),
-            Ok(copy) => match all.push(copy) {
-                Err(_) => return Err(AllocError),
-                Ok(()) => {}
-            },
+        match push_copy(&mut all, form) {
+            Err(error) => return Err(error),
+            Ok(()) => {}
         }
     }
     Ok(all)
+}
+
+/// A copy of each form, and one form behind them.
+pub fn copies_with(alloc: Global, forms: &[Form], last: Form) -> Result<Vec<Form>, AllocError>
+    ensures { IfOk result (λ v. v.items ≡ forms.now ++ last ∷ []) }
+{
+    let mut all = match copies(alloc, forms) {
+        Err(error) => return Err(error),
+        Ok(all) => all,
+    };
+    match push(&mut all, last) {
+        Err(error) => Err(error),
+        Ok(()) => Ok(all),
+    }
+}
+
+/// Appends two forms.
+fn push_both(forms: &mut Vec<Form>, first: Form, second: Form) -> Result<(), AllocError>
+    ensures { OnOk result (forms.new.items ≡ forms.old.items ++ first ∷ second ∷ []) }
+{
+    match push(forms, first) {
+        Err(error) => Err(error),
+        Ok(()) => push(forms, second),
+    }
 }
 
 /// The forms over one unknown more, and two forms behind them.
@@ -185,12 +221,8 @@ pub fn tied_forms(
         Err(error) => return Err(error),
         Ok(all) => all,
     };
-    match all.push(low) {
-        Err(_) => return Err(AllocError),
-        Ok(()) => {}
-    }
-    match all.push(high) {
-        Err(_) => Err(AllocError),
+    match push_both(&mut all, low, high) {
+        Err(error) => Err(error),
         Ok(()) => Ok(all),
     }
 }

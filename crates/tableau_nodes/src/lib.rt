@@ -7,6 +7,7 @@ mod bounds;
 mod forms;
 mod node;
 mod parts;
+mod ties;
 
 pub use bounds::Bound;
 pub use forms::{above, at_least, copies, longer_forms, oppose, opposite, under};

@@ -1,6 +1,6 @@
 //! A node: a tableau, a context of rows over its parameters, and the parameters that cuts have bound. A move changes
 //! it in place; a cut or a split takes its memory before it changes anything.
-ghost use Rattle.std.specs.Prelude.{◌≡◌, ℕ, suc, ◌+◌, ◌<◌, length, All, None, Some, Ok, Err, IfOk, OnOk};
+ghost use Rattle.std.specs.Prelude.{◌≡◌, ℕ, suc, ◌+◌, ◌<◌, length, All, None, Some, Ok, Err, IfOk, IfErr, OnOk};
 ghost use Rattle.affine_forms.specs.Gives.{Gives};
 ghost use Rattle.affine_forms.specs.Parts.{variables_of};
 ghost use Rattle.wide_math.specs.declared.Wide.{Wide};
@@ -9,15 +9,18 @@ ghost use Rattle.tableau_rows.specs.Problem.{problem_of};
 ghost use Rattle.lexmin_runs.specs.Nodes.{first_node, goes, opposite_run, part_of, side, split, cut, taken_off};
 ghost use Rattle.lexmin_runs.specs.Solutions.{ArePlaced, IsNode};
 ghost use Rattle.checked_tableau.specs.declared.stop.TableauStop.TheVariants as stop;
+ghost use Rattle.tableau_nodes.specs.declared.node.Move.TheVariants as move;
 ghost use Rattle.tableau_nodes.specs.Node.{node_of, next_of, IsGoing, Keeps, Pivots, Moves, cut_known, cut_new};
-ghost use Rattle.tableau_nodes.specs.Node.{StopsAt, tied_run, TiesParts, BindsOn};
+ghost use Rattle.tableau_nodes.specs.Node.{StopsAt, BindsOn};
 
-use crate::bounds::{Bound, bound_of, copied_bounds, place_of};
-use crate::forms::{at_least, copies, opposite, tied_forms, under};
+use crate::bounds::{Bound, bind_front, copied_bounds, place_of};
+use crate::forms::{copies, copies_with, opposite, tied_forms};
 use crate::parts::{all_zero, part_of, taken_off};
+use crate::ties::tied_parts;
 use affine_forms::{Form, FormStop};
 use checked_tableau::{Problem, Rows, TableauStop};
 use std::alloc::{AllocError, Global};
+use std::mem;
 use wide_math::Wide;
 
 /// A node of the run.
@@ -189,9 +192,19 @@ impl Tableau {
         ensures again { (w : Wide) → self.old.rows.stopped ≡ Some w
             → (result ≡ Err (stop.Wide w)) × StopsAt w self.old self.new }
     {
-        if let Some(wide) = self.rows.stopped() {
-            return Err(TableauStop::Wide(wide));
+        match self.rows.stopped() {
+            Some(wide) => Err(TableauStop::Wide(wide)),
+            None => self.cut_going(alloc, row),
         }
+    }
+
+    // The cut of a node at which no number was too wide.
+    fn cut_going(&mut self, alloc: Global, row: usize) -> Result<Move, TableauStop>
+        requires row { row < length self.old.rows.rows }
+        requires going { self.old.rows.stopped ≡ None }
+        requires placed { ArePlaced self.old.rows.parameters self.old.bounds.items }
+        ensures { Moves self.old (λ left. cut self.old.rows.unknowns left (node_of self.old) row) self.new result }
+    {
         let form = match taken_off(alloc, &self.rows, row) {
             Err(_) => return Err(TableauStop::NoMemory),
             Ok(form) => form,
@@ -230,49 +243,40 @@ impl Tableau {
         ensures { Moves self.old (λ left. cut_new self.old.rows.unknowns left (node_of self.old) row) self.new result }
     {
         let divisor = self.rows.line(row)[0];
-        match self.tied_parts(alloc, row, divisor, &form) {
+        match self.cut_tied(alloc, row, &form, divisor) {
+            Err(stop) => Err(stop),
+            Ok(()) => Ok(Move::Binds { form, divisor }),
+        }
+    }
+
+    // The cut on a row, tied to a new parameter, without what is told of it.
+    fn cut_tied(
+        &mut self,
+        alloc: Global,
+        row: usize,
+        form: &Form,
+        divisor: i128,
+    ) -> Result<(), TableauStop>
+        requires row { row < length self.old.rows.rows }
+        requires going { self.old.rows.stopped ≡ None }
+        requires form { form.now ≡ taken_off self.old.rows.unknowns (row_at self.old.rows.rows row) }
+        requires divisor { divisor ≡ (row_at self.old.rows.rows row).denominator }
+        ensures binds { OnOk result (Moves self.old
+            (λ left. cut_new self.old.rows.unknowns left (node_of self.old) row)
+            self.new (Ok (move.Binds form.now divisor))) }
+        ensures stops { IfErr result (λ e. Moves self.old
+            (λ left. cut_new self.old.rows.unknowns left (node_of self.old) row) self.new (Err e)) }
+    {
+        match tied_parts(alloc, &self.rows, row, divisor, form) {
             Err(TableauStop::NoMemory) => Err(TableauStop::NoMemory),
             Err(TableauStop::Wide(wide)) => {
                 self.rows.stop(wide);
                 Err(TableauStop::Wide(wide))
             }
-            Ok((rows, low, high)) => match self.bind(alloc, rows, &form, divisor, low, high) {
+            Ok((rows, low, high)) => match self.bind(alloc, rows, form, divisor, low, high) {
                 Err(_) => Err(TableauStop::NoMemory),
-                Ok(()) => Ok(Move::Binds { form, divisor }),
+                Ok(()) => Ok(()),
             },
-        }
-    }
-
-    // The rows with a new parameter and the cut on a row, tied to it, and the two forms that tie the parameter.
-    fn tied_parts(
-        &self,
-        alloc: Global,
-        row: usize,
-        divisor: i128,
-        form: &Form,
-    ) -> Result<(Rows, Form, Form), TableauStop>
-        requires row { row < length self.now.rows.rows }
-        requires going { self.now.rows.stopped ≡ None }
-        ensures { TiesParts self.now.rows result (tied_run self.now.rows.unknowns self.now.rows.parameters
-            (row_at self.now.rows.rows row) divisor form.now) }
-    {
-        let mut rows = match self.rows.widened(alloc) {
-            Err(_) => return Err(TableauStop::NoMemory),
-            Ok(rows) => rows,
-        };
-        match rows.cut(row, Some(self.rows.parameters())) {
-            Err(stop) => return Err(stop),
-            Ok(()) => {}
-        }
-        let low = match at_least(alloc, divisor, form) {
-            Err(FormStop::NoMemory) => return Err(TableauStop::NoMemory),
-            Err(FormStop::Wide(wide)) => return Err(TableauStop::Wide(wide)),
-            Ok(low) => low,
-        };
-        match under(alloc, divisor, form) {
-            Err(FormStop::NoMemory) => Err(TableauStop::NoMemory),
-            Err(FormStop::Wide(wide)) => Err(TableauStop::Wide(wide)),
-            Ok(high) => Ok((rows, low, high)),
         }
     }
 
@@ -292,16 +296,13 @@ impl Tableau {
             Err(error) => return Err(error),
             Ok(context) => context,
         };
-        let bound = match bound_of(alloc, form, divisor, self.rows.parameters()) {
-            Err(error) => return Err(error),
-            Ok(bound) => bound,
-        };
-        match self.bounds.insert(0, bound) {
-            Err(_) => Err(AllocError),
+        let place = self.rows.parameters();
+        match bind_front(alloc, &mut self.bounds, form, divisor, place) {
+            Err(error) => Err(error),
             Ok(()) => {
                 self.begins = false;
-                self.rows = rows;
-                self.context = context;
+                drop(mem::replace(&mut self.rows, rows));
+                drop(mem::replace(&mut self.context, context));
                 Ok(())
             }
         }
@@ -312,28 +313,23 @@ impl Tableau {
         ensures node { IfOk result (λ t. node_of t ≡ side (node_of self.now) form) }
         ensures rows { IfOk result (λ t. t.rows ≡ self.now.rows) }
     {
-        let rows = match self.rows.copy(alloc) {
-            Err(error) => return Err(error),
-            Ok(rows) => rows,
-        };
-        let mut context = match copies(alloc, &self.context) {
+        let context = match copies_with(alloc, &self.context, form) {
             Err(error) => return Err(error),
             Ok(context) => context,
         };
-        match context.push(form) {
-            Err(_) => return Err(AllocError),
-            Ok(()) => {}
-        }
         let bounds = match copied_bounds(alloc, &self.bounds) {
             Err(error) => return Err(error),
             Ok(bounds) => bounds,
         };
-        Ok(Tableau {
-            begins: true,
-            rows,
-            context,
-            bounds,
-        })
+        match self.rows.copy(alloc) {
+            Err(error) => Err(error),
+            Ok(rows) => Ok(Tableau {
+                begins: true,
+                rows,
+                context,
+                bounds,
+            }),
+        }
     }
 }
 

@@ -7,7 +7,28 @@ use Rattle.affine_forms.proofs.Steps.{with_front}
 use Rattle.tableau_rows.specs.Moves.{buffer_run, HeadsPositive}
 use Rattle.tableau_rows.proofs.Buffers.{buffer_kept, buffer_end}
 use Rattle.checked_tableau.proofs.Tables.{line_within}
+use Rattle.checked_tableau.proofs.Tables.{line_length, line_head}
 use Rattle.checked_tableau.proofs.pivot.pivot_rows.Goals as goal
+
+pub place_row-requires-clause-lengths : goal.place_row-requires-clause-lengths
+place_row-requires-clause-lengths c =
+    let l = line_within c.loop-at.start (c.args.count - c.loop-at.at) (length c.args.pivot.now) (length c.loop-at.cells)
+    (omega arith) c.loop-at.invariant.0 in
+    line_length c.loop-at.start (length c.args.pivot.now) c.loop-at.cells l
+
+pub place_row-requires-clause-column : goal.place_row-requires-clause-column
+place_row-requires-clause-column c =
+    let l = line_within c.loop-at.start (c.args.count - c.loop-at.at) (length c.args.pivot.now) (length c.loop-at.cells)
+    (omega arith) c.loop-at.invariant.0 in
+    let e = line_length c.loop-at.start (length c.args.pivot.now) c.loop-at.cells l in
+    let k = c.requires.column in
+    omega arith
+
+pub place_row-requires-clause-positive : goal.place_row-requires-clause-positive
+place_row-requires-clause-positive c =
+    let k = c.requires.column in
+    line_head c.loop-at.start (length c.args.pivot.now) (c.args.count - c.loop-at.at) c.loop-at.cells (omega arith)
+    (omega arith) c.loop-at.invariant.2
 
 pub overflow_add-start : goal.overflow_add-start
 overflow_add-start c =

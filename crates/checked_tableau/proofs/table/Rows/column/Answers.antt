@@ -5,7 +5,18 @@ use Rattle.tableau_rows.specs.Moves.{rows_in, row_at, column_run}
 use Rattle.checked_tableau.specs.Table.{Table, stride_of}
 use Rattle.tableau_rows.proofs.Lines.{entry_at}
 use Rattle.checked_tableau.proofs.Tables.{take_rows_in}
+use Rattle.std.proofs.Common.{◌*◌, ℕ, ap, arith}
+use Rattle.checked_tableau.proofs.Tables.{lines_within}
 use Rattle.checked_tableau.proofs.table.Rows.column.Goals as goal
+
+pub overflow_mul-unknowns : goal.overflow_mul-unknowns
+overflow_mul-unknowns c =
+    let i = c.self.inside in
+    let k : c.len-stride.result ≡ stride_of i.unknowns i.parameters = search rules in
+    let size : length i.cells.items ≡ i.count * c.len-stride.result = c.self.invariant.size
+    ∙ ap (λ (n : ℕ). i.count * n) (sym k) in
+    let l = lines_within i.unknowns i.count c.len-stride.result (length i.cells.items) c.self.invariant.many size in
+    omega arith
 
 pub returns-clause-run : goal.returns-clause-run
 returns-clause-run c =

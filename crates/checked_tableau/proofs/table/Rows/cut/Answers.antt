@@ -9,7 +9,20 @@ use Rattle.tableau_rows.specs.Moves.{line_row, row_at, rows_in, cut_run}
 use Rattle.checked_tableau.specs.Table.{Table, Appends, IsSound, stride_of, table_of, resumed}
 use Rattle.checked_tableau.specs.Lines.{behind_columns}
 use Rattle.checked_tableau.proofs.Tables.{length-rows_in, placed-behind, sound_cut, sound_stopped, written_whole}
+use Rattle.std.proofs.Common.{◌*◌, ℕ}
 use Rattle.checked_tableau.proofs.table.Rows.cut.Goals as goal
+
+pub append_cut-requires-clause-size : goal.append_cut-requires-clause-size
+append_cut-requires-clause-size c =
+    let i = c.self.inside in
+    let k : stride_of i.unknowns i.parameters ≡ length c.deref_mut.result.now = search rules in
+    c.self.invariant.size ∙ ap (λ (n : ℕ). i.count * n) k
+
+pub append_cut-requires-clause-constant : goal.append_cut-requires-clause-constant
+append_cut-requires-clause-constant c =
+    let i = c.self.inside in
+    let k : stride_of i.unknowns i.parameters ≡ length c.deref_mut.result.now = search rules in
+    omega arith
 
 pub append_cut-requires-clause-row : goal.append_cut-requires-clause-row
 append_cut-requires-clause-row c =

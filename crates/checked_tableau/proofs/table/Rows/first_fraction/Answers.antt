@@ -7,7 +7,17 @@ use Rattle.tableau_rows.proofs.Points.{sized_take}
 use Rattle.checked_tableau.specs.Table.{Table, stride_of}
 use Rattle.checked_tableau.proofs.Looking.{first_inside}
 use Rattle.checked_tableau.proofs.Tables.{heads_sized, length-rows_in, take_rows_in}
+use Rattle.checked_tableau.proofs.Tables.{lines_within}
 use Rattle.checked_tableau.proofs.table.Rows.first_fraction.Goals as goal
+
+pub overflow_mul-unknowns : goal.overflow_mul-unknowns
+overflow_mul-unknowns c =
+    let i = c.self.inside in
+    let k : c.len-stride.result ≡ stride_of i.unknowns i.parameters = search rules in
+    let size : length i.cells.items ≡ i.count * c.len-stride.result = c.self.invariant.size
+    ∙ ap (λ (n : ℕ). i.count * n) (sym k) in
+    let l = lines_within i.unknowns i.count c.len-stride.result (length i.cells.items) c.self.invariant.many size in
+    omega arith
 
 pub first_fraction-requires-clause-positive : goal.first_fraction-requires-clause-positive
 first_fraction-requires-clause-positive c =

@@ -35,9 +35,8 @@ made c =
     let both = c.in-Ok-append_forms-2.ensures (n + length fs) (unit_rows (n + 1 + m) 0 n ++ given_rows n fs) all in
     let front : c.in-Some-checked_add.front ≡ n + length fs = search rules in
     let number : c.in-Some-checked_add-2.count ≡ (n + length fs) + length gs = search rules in
-    sound_parts n m c.in-Some-checked_add-2.count stride c.append_forms-2.new.cells.items c.append_units.new.cells.items
-    c.append_units.new.line fs gs is (same ∙ room)
-    (speaks_all (n + m) fs c.requires.forms) (speaks_all (n + m) gs c.requires.more) number held both
+    sound_parts n m c.in-Some-checked_add-2.count stride c.append_forms-2.new.cells.items c.append_units.new.line fs gs
+    is (same ∙ room) (speaks_all (n + m) fs c.requires.forms) (speaks_all (n + m) gs c.requires.more) number both
 
 pub invariant_of-result : goal.invariant_of-result
 invariant_of-result c =

@@ -6,7 +6,40 @@ use Rattle.tableau_rows.proofs.Keeping.{pivot_keeps_solutions}
 use Rattle.tableau_rows.specs.Moves.{rows_in, row_at, HeadsPositive}
 use Rattle.checked_tableau.specs.Table.{Table, stride_of}
 use Rattle.checked_tableau.proofs.Tables.{heads_sized, length-rows_in, sound_pivot, written_whole}
+use Rattle.std.proofs.Common.{◌*◌}
+use Rattle.std.specs.Prelude.{None}
 use Rattle.checked_tableau.proofs.table.Rows.pivot.Goals as goal
+
+pub pivot_lines-requires-clause-size : goal.pivot_lines-requires-clause-size
+pivot_lines-requires-clause-size c =
+    let i = c.self.inside in
+    let k : stride_of i.unknowns i.parameters ≡ length c.deref_mut-2.result.now = search rules in
+    ap (λ (zs : List ℤ). length zs) c.deref_mut.ensures.value ∙ c.self.invariant.size ∙ ap (λ (n : ℕ). i.count * n) k
+
+pub pivot_lines-requires-clause-row : goal.pivot_lines-requires-clause-row
+pivot_lines-requires-clause-row c =
+    let i = c.self.inside in
+    let l = length-rows_in (stride_of i.unknowns i.parameters) i.count i.cells.items in
+    let low = subst (λ (t : Table). c.args.row < length t.rows) (sym c.self.view_is) c.requires.row in
+    omega arith
+
+pub pivot_lines-requires-clause-column : goal.pivot_lines-requires-clause-column
+pivot_lines-requires-clause-column c =
+    let i = c.self.inside in
+    let k : stride_of i.unknowns i.parameters ≡ length c.deref_mut-2.result.now = search rules in
+    let low = subst (λ (t : Table). c.args.column < t.unknowns) (sym c.self.view_is) c.requires.column in
+    omega arith
+
+pub pivot_lines-requires-clause-entry : goal.pivot_lines-requires-clause-entry
+pivot_lines-requires-clause-entry c =
+    let i = c.self.inside in
+    let k : stride_of i.unknowns i.parameters ≡ length c.deref_mut-2.result.now = search rules in
+    let here = subst (λ (t : Table). t.stopped ≡ None → pos 0 <ℤ entry (row_at t.rows c.args.row) c.args.column)
+    (sym c.self.view_is) c.requires.entry c.in_default.is in
+    subst (λ (zs : List ℤ). pos 0 <ℤ
+    entry (row_at (rows_in (length c.deref_mut-2.result.now) i.count zs) c.args.row) c.args.column)
+    (sym c.deref_mut.ensures.value)
+    (subst (λ (n : ℕ). pos 0 <ℤ entry (row_at (rows_in n i.count i.cells.items) c.args.row) c.args.column) k here)
 
 pub pivot_lines-requires-clause-heads : goal.pivot_lines-requires-clause-heads
 pivot_lines-requires-clause-heads c =
