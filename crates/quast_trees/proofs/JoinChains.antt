@@ -1,6 +1,6 @@
 -- The tests between two leaves, one common loop behind another.
-use Rattle.std.proofs.Common.{◌≡◌, ℕ, zero, suc, ◌+◌, ◌<◌, ◌≤◌, Bool, true, false, ℤ, List, [], ◌∷◌, length, drop, get_or}
-use Rattle.std.proofs.Common.{refl, sym, ap, ap₂, subst, ◌∙◌, arith}
+use Rattle.std.proofs.Common.{◌≡◌, ℕ, zero, suc, ◌+◌, ◌<◌, ◌≤◌, Bool, true, false, ℤ, List, [], ◌∷◌, length, drop}
+use Rattle.std.proofs.Common.{get_or, refl, sym, ap, ap₂, subst, ◌∙◌, arith}
 use Rattle.std.specs.Prelude.{nat_eq, if◌then◌else◌}
 use Rattle.whole_numbers.specs.Affine.{Affine}
 use Rattle.quast_trees.specs.Source.{Forms, loops_of}
@@ -25,8 +25,8 @@ chain_end way a b end (i ∷ ks) (l ∷ ls) (f ∷ fs) (g ∷ gs) zero h k = by_
   where
     by_same : (c : Bool) → (if c then suc (tested ks ls fs gs) else 0) ≤ 0
         → (if c
-          then branch (test_of way f g) a (branch (test_of way g f) b (chain way a b end ks ls fs gs))
-          else end) ≡ end
+        then branch (test_of way f g) a (branch (test_of way g f) b (chain way a b end ks ls fs gs))
+        else end) ≡ end
     by_same true h = absurd (omega arith)
     by_same false h = refl
 chain_end way a b end [] ls fs gs (suc at) h k = absurd (omega arith)

@@ -32,7 +32,8 @@ each_shifted n k j fs h =
     (λ i d inside. length-shifted n k _ j (h i d inside))
 
 -- a moved leaf
-pub shifted-speaks : (n k j : ℕ) (b : Forms) → Speaks (n + j) (leaf b) → Speaks ((n + k) + j) (leaf (shifted_leaf n k b))
+pub shifted-speaks : (n k j : ℕ) (b : Forms) → Speaks (n + j) (leaf b)
+    → Speaks ((n + k) + j) (leaf (shifted_leaf n k b))
 shifted-speaks n k j b h = let e = h.0 in (omega arith, each_shifted n k j b.forms h.1)
 
 -- a leaf over more variables

@@ -8,8 +8,8 @@ use Rattle.quast_trees.specs.Postfix.{written, branched, bound}
 use Rattle.quast_trees.specs.Shifts.{shifted_form}
 use Rattle.quast_trees.specs.Joins.{under, moved, join_from}
 use Rattle.quast_trees.specs.Sizes.{LeavesWithin}
-use Rattle.quast_trees.specs.JoinSteps.{Placed_node, at, paired, pairs, Depths, depths_of, depth_step, from_last, depths}
-use Rattle.quast_trees.specs.JoinSteps.{steps, under_step, moved_step, join_step, Enough, AllFit}
+use Rattle.quast_trees.specs.JoinSteps.{Placed_node, at, paired, pairs, Depths, depths_of, depth_step, from_last}
+use Rattle.quast_trees.specs.JoinSteps.{depths, steps, under_step, moved_step, join_step, Enough, AllFit}
 use Rattle.quast_trees.specs.declared.node.Node.{Node}
 use Rattle.quast_trees.specs.declared.node.Node.TheVariants as node
 use Rattle.quast_trees.specs.declared.way.Way.{Way}

@@ -87,8 +87,8 @@ step_value : (same e : Bool) (f g : Affine) (a b rest : Tree) (p : List ℤ) (r 
     → value rest p ≡ (if r then value a p else value b p)
     → value (if same then branch f a (branch g b rest) else (if e then a else b)) p
     ≡ (if (if same then by_sign (value_of f p) true (by_sign (value_of g p) false r) else e)
-      then value a p
-      else value b p)
+    then value a p
+    else value b p)
 step_value true e f g a b rest p r h =
     sign_choice (value_of f p) (value_of g p) r (value a p) (value b p) (value rest p) h
 step_value false e f g a b rest p r h = end_value e a b p
@@ -106,8 +106,8 @@ chain-value way a b s t (k ∷ ks) (l ∷ ls) (f ∷ fs) (g ∷ gs) p =
     step_value (nat_eq k l) (text way s t) (test_of way f g) (test_of way g f) a b
     (chain way a b (if text way s t then a else b) ks ls fs gs) p r (chain-value way a b s t ks ls fs gs p)
     ∙ ap₂ (λ (x y : ℤ). if (if nat_eq k l then by_sign x true (by_sign y false r) else text way s t)
-      then value a p
-      else value b p) (test-value way f g p) (test-value way g f p)
+    then value a p
+    else value b p) (test-value way f g p) (test-value way g f p)
 
 -- where two leaves meet, the wanted one's values stand
 meet-value : (way : Way) (a b : Forms) (p : List ℤ)

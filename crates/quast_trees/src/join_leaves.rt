@@ -74,12 +74,7 @@ fn push_both(builder: &mut Builder, first: &Forms, second: &Forms) -> Result<(),
 }
 
 // The test that is at least 0 just where the first form's value is wanted before the second's.
-fn push_test(
-    builder: &mut Builder,
-    way: Way,
-    first: &Form,
-    second: &Form,
-) -> Result<(), AllocError>
+fn push_test(builder: &mut Builder, way: Way, first: &Form, second: &Form) -> Result<(), AllocError>
     requires stands { 2 ≤ length (standing builder.old) }
     requires variables { variables_of second.now ≡ variables_of first.now }
     requires first { IsFormWithin leaf_limit first.now }

@@ -160,7 +160,9 @@ pub fn push_nodes(
         (pairs nodes.now rounds.now)) }
 {
     for at in 0..nodes.len() {
-        match push_join(builder, way, variables, &nodes[at], rounds[at], others, binds) {
+        match push_join(
+            builder, way, variables, &nodes[at], rounds[at], others, binds,
+        ) {
             Err(error) => return Err(error),
             Ok(()) => {}
         }

@@ -1,6 +1,6 @@
-use Rattle.std.proofs.Common.{rules, ◌≡◌, [], ◌∷◌, ℕ, drop, ap, sym, ◌∙◌, append-nil}
+use Rattle.std.proofs.Common.{rules, ◌≡◌, [], ◌∷◌, drop, ap, sym, ◌∙◌, append-nil}
 use Rattle.std.specs.Prelude.{reverse}
-use Rattle.quast_trees.specs.Postfix.{tree_of, written}
+use Rattle.quast_trees.specs.Postfix.{tree_of}
 use Rattle.quast_trees.specs.JoinSteps.{Depths, depths, depths_of, from_last}
 use Rattle.quast_trees.proofs.JoinSteps.{depths_found}
 use Rattle.quast_trees.proofs.binds.binds_round.Goals as goal

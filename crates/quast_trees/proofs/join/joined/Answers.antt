@@ -1,11 +1,11 @@
-use Rattle.std.proofs.Common.{◌≡◌, ◌≤◌, ℕ, subst, sym, ap, ap₂, ◌∙◌, arith}
+use Rattle.std.proofs.Common.{◌≡◌, ℕ, subst, sym, ap, ap₂, ◌∙◌, arith}
 use Rattle.std.specs.Prelude.{sum_by}
 use Rattle.quast_trees.specs.Tree.{Tree, count, Speaks}
 use Rattle.quast_trees.specs.Postfix.{tree_of, read, top}
 use Rattle.quast_trees.specs.Value.{value}
 use Rattle.quast_trees.specs.Joins.{join}
 use Rattle.quast_trees.specs.Counts.{capped, join_count, join_node}
-use Rattle.quast_trees.specs.JoinLimits.{most_told, node_limit}
+use Rattle.quast_trees.specs.JoinLimits.{most_told}
 use Rattle.quast_trees.proofs.JoinCounts.{join-count, join_added}
 use Rattle.quast_trees.proofs.JoinValues.{join-value}
 use Rattle.quast_trees.proofs.JoinSpeaking.{join-speaks}

@@ -12,4 +12,5 @@ returns c =
     ≡ c.push_zeros.new.numbers.items ++ take (length f.coefficients - n) (drop n f.coefficients) = search rules in
     let form : c.in-Ok.form ≡ form_of c.extend_from_slice-2.new.self.items f.constant = search rules in
     shifted_put n c.args.more f c.in-Ok.form c.new-numbers.result.items c.extend_from_slice.new.self.items
-    c.push_zeros.new.numbers.items c.extend_from_slice-2.new.self.items c.requires c.new-numbers.ensures.items b c.in_ok-push_zeros.ensures d form
+    c.push_zeros.new.numbers.items c.extend_from_slice-2.new.self.items c.requires c.new-numbers.ensures.items b
+    c.in_ok-push_zeros.ensures d form

@@ -36,7 +36,8 @@ loop-at-preserved c =
     let inside : c.loop-at.at < length c.args.nodes.now = search rules in
     (step_at (join_step c.args.way c.args.variables (pairs c.args.others.now c.args.binds.now)) c.args.variables
     c.args.nodes.now c.args.rounds.now (standing c.args.builder.now) c.loop-at.at (standing c.loop-at.builder)
-    c.index-nodes-at.result c.requires.nodes inside c.index-nodes-at.is c.loop-at.invariant).next (standing c.push_join.new.builder) c.in-Ok.ensures
+    c.index-nodes-at.result c.requires.nodes inside c.index-nodes-at.is c.loop-at.invariant).next
+    (standing c.push_join.new.builder) c.in-Ok.ensures
 
 pub returns : goal.returns
 returns c =
