@@ -1,6 +1,6 @@
 -- Runs over the elements of a list, in order.
 use Rattle.std.proofs.Common.{◌≡◌, ℕ, ◌+◌, ◌<◌, ◌≤◌, List, [], ◌∷◌, ◌++◌, length, get_or, drop, Result, Ok, Err}
-use Rattle.std.proofs.Common.{refl, sym, ap, ◌∙◌, append-nil, add-one, drop-cons, map, All}
+use Rattle.std.proofs.Common.{refl, sym, ap, ◌∙◌, append_assoc, append-nil, add-one, drop-cons, map, All}
 use Rattle.std.proofs.lemmas.List.{drop_all}
 use Rattle.std.proofs.lemmas.List.Elements.{All-nil, All-cons, All-head, All-tail}
 use Rattle.wide_math.specs.declared.Wide.{Wide}
@@ -25,6 +25,24 @@ after-nil (Err e) = refl
 each_drop : {A B : Type 0} (run : A → Result B Wide) (xs : List A) (i : ℕ) (d : A) → i < length xs
     → each_run run (drop i xs) ≡ (run (get_or xs i d) >>= λ y. each_run run (drop (i + 1) xs) >>= λ ys. Ok (y ∷ ys))
 each_drop run xs i d h = rw (add-one, drop-cons xs i d) refl
+
+-- results in front, and one more behind them
+after_more : {B : Type 0} (done : List B) (y : B) (rest : Result (List B) Wide)
+    → after (done ++ y ∷ []) rest ≡ after done (rest >>= λ ys. Ok (y ∷ ys))
+after_more done y (Ok ys) = ap Ok (append_assoc done (y ∷ []) ys)
+after_more done y (Err w) = refl
+
+-- an element whose run gives a result
+pub each_more : {A B : Type 0} (run : A → Result B Wide) (xs : List A) (i : ℕ) (done next : List B) (d : A) (y : B)
+    → i < length xs → EachSoFar run xs i done → run (get_or xs i d) ≡ Ok y → next ≡ done ++ y ∷ []
+    → EachSoFar run xs (i + 1) next
+each_more run xs i done next d y h s e is =
+    let rest = each_run run (drop (i + 1) xs) in
+    record {
+      so_far = ap (λ zs. after zs rest) is ∙ after_more done y rest
+          ∙ ap (λ r. after done (r >>= λ z. rest >>= λ zs. Ok (z ∷ zs))) (sym e)
+          ∙ ap (after done) (sym (each_drop run xs i d h)) ∙ s.so_far;
+    }
 
 -- an element whose run fails
 pub each_stops : {A B : Type 0} (run : A → Result B Wide) (xs : List A) (i : ℕ) (done : List B) (d : A)

@@ -1,5 +1,5 @@
 -- How many nodes a join has, by the two trees alone.
-use Rattle.std.specs.Prelude.{◌≡◌, ℕ, suc, ◌+◌, ◌*◌, List, [], ◌∷◌, length, min, ⊤, nat_eq, if◌then◌else◌}
+use Rattle.std.specs.Prelude.{◌≡◌, ℕ, suc, ◌+◌, ◌*◌, List, ◌∷◌, length, min, sum_by, ⊤, nat_eq, if◌then◌else◌}
 use Rattle.whole_numbers.specs.Affine.{Affine}
 use Rattle.quast_trees.specs.Source.{Forms, loops_of}
 use Rattle.quast_trees.specs.Tree.{Tree, initial, leaf, branch, bind, count}
@@ -15,12 +15,14 @@ tested _ _ _ _ = 0
 abbrev pub meet_count : Forms → Forms → ℕ
 meet_count a b = 4 * tested (loops_of a.source) (loops_of b.source) a.forms b.forms + 1
 
+-- a tree under a leaf that names an instance
 abbrev pub under_count : Forms → Tree → ℕ
 under_count a initial = 1
 under_count a (leaf b) = meet_count a b
 under_count a (branch f x y) = (under_count a x + under_count a y) + 1
 under_count a (bind f d x) = under_count a x + 1
 
+-- the join of two trees
 abbrev pub join_count : Tree → Tree → ℕ
 join_count initial b = count b
 join_count (leaf a) b = under_count a b
@@ -30,25 +32,21 @@ join_count (bind f d x) b = join_count x b + 1
 -- each leaf has a form for each loop round it
 abbrev pub HasForms : Tree → Type 0
 HasForms initial = ⊤
-HasForms (leaf s) = length s.forms ≡ length (loops_of s.source)
+HasForms (leaf l) = length l.forms ≡ length (loops_of l.source)
 HasForms (branch f x y) = HasForms x × HasForms y
 HasForms (bind f d x) = HasForms x
 
--- f of each element, added up
-abbrev pub added : {A : Type 0} → (A → ℕ) → List A → ℕ
-added f [] = 0
-added f (x ∷ xs) = f x + added f xs
-
--- the same over nodes in postfix order: one number a node, added up
+-- how many nodes a node of the second tree becomes under a leaf of the first
 abbrev pub under_node : Forms → Node → ℕ
 under_node a (node.Forms b) = meet_count a b
 under_node a _ = 1
 
+-- how many nodes a node of the first tree becomes, where the second's are these
 abbrev pub join_node : List Node → Node → ℕ
 join_node bs node.Initial = length bs
-join_node bs (node.Forms a) = added (under_node a) bs
+join_node bs (node.Forms a) = sum_by (under_node a) bs
 join_node bs _ = 1
 
--- capped at a greatest number, as a number that saturates is
+-- a number, or the greatest one that is told
 abbrev pub capped : ℕ → ℕ → ℕ
 capped most x = min x most

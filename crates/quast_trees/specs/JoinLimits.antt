@@ -1,5 +1,8 @@
--- The bounds of joins.
-use Rattle.std.specs.Prelude.{ℕ, ◌^◌, ◌-◌, ℤ, pos}
+-- The bounds of joins, and why a join is refused.
+use Rattle.std.specs.Prelude.{◌≡◌, ℕ, ◌^◌, ◌-◌, ◌<◌, ◌≤◌, ℤ, pos}
+use Rattle.quast_trees.specs.Counts.{capped}
+use Rattle.quast_trees.specs.declared.way.JoinStop.{JoinStop}
+use Rattle.quast_trees.specs.declared.way.JoinStop.TheVariants as stop
 
 -- the greatest number of nodes that a join may have
 abbrev pub node_limit : ℕ
@@ -12,3 +15,8 @@ most_told = 2 ^ 128 - 1
 -- the greatest number of a leaf's forms, in absolute value
 abbrev pub leaf_limit : ℤ
 leaf_limit = pos (2 ^ 125)
+
+-- why a join of so many nodes is refused: it has too many, which are told, or it has not, and memory is wanting
+abbrev pub IsStopOf : ℕ → JoinStop → Type 0
+IsStopOf nodes (stop.Spent told) = (node_limit < nodes) × (told ≡ capped most_told nodes)
+IsStopOf nodes stop.NoMemory = nodes ≤ node_limit

@@ -11,7 +11,6 @@ pub mod Ways
 pub mod Shifts
 pub mod Joins
 pub mod Counts
-pub mod JoinSteps
 pub mod Sizes
+pub mod JoinSteps
 pub mod JoinLimits
-pub mod JoinAnswers

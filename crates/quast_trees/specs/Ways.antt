@@ -20,7 +20,9 @@ text Earlier s t = if nat_lt t s then false else true
 -- whether of two instances the first stands: their common iterators from the outermost, then the text
 abbrev pub first_stands : Way → ℕ → ℕ → List ℕ → List ℕ → List ℤ → List ℤ → Bool
 first_stands way s t (k ∷ ks) (l ∷ ls) (x ∷ xs) (y ∷ ys) =
-    if nat_eq k l then by_sign (ahead way x y) true (by_sign (ahead way y x) false (first_stands way s t ks ls xs ys)) else text way s t
+    if nat_eq k l
+    then by_sign (ahead way x y) true (by_sign (ahead way y x) false (first_stands way s t ks ls xs ys))
+    else text way s t
 first_stands way s t _ _ _ _ = text way s t
 
 -- whether of two leaves' values those of the first stand

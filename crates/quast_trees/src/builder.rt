@@ -5,6 +5,7 @@ ghost use Rattle.quast_trees.specs.Tree as Tree;
 ghost use Rattle.quast_trees.specs.Source.{unnamed};
 ghost use Rattle.quast_trees.specs.Postfix.{tree_of, read, built, standing, branched, bound, IsLeaf};
 
+use crate::lists::push;
 use crate::node::{Forms, Node};
 use crate::quast::Quast;
 use affine_forms::Form;
@@ -86,8 +87,8 @@ impl Builder {
     {
         let top = self.starts.len() - 1;
         let second = self.nodes.len() - self.starts[top];
-        match self.nodes.push(Node::Branch { test, second }) {
-            Err(_) => Err(AllocError),
+        match push(&mut self.nodes, Node::Branch { test, second }) {
+            Err(error) => Err(error),
             Ok(()) => {
                 self.starts.truncate(top);
                 Ok(())
@@ -101,10 +102,7 @@ impl Builder {
         ensures bound { OnOk result (standing self.new ≡ bound form divisor (standing self.old)) }
         ensures kept { OnErr result (self.new ≡ self.old) }
     {
-        match self.nodes.push(Node::Bind { form, divisor }) {
-            Err(_) => Err(AllocError),
-            Ok(()) => Ok(()),
-        }
+        push(&mut self.nodes, Node::Bind { form, divisor })
     }
 
     /// The quast of the only tree that stands.
@@ -117,18 +115,23 @@ impl Builder {
         Quast::of_nodes(parameters, self.nodes)
     }
 
+    // Where the trees take their memory.
+    pub(crate) fn allocator(&self) -> Global {
+        *self.nodes.allocator()
+    }
+
     // A leaf's node on top, as a tree of its own.
     fn start(&mut self, leaf: Node) -> Result<(), AllocError>
         requires { IsLeaf leaf }
         ensures pushed { OnOk result (standing self.new ≡ built (standing self.old) leaf) }
         ensures kept { OnErr result (self.new ≡ self.old) }
     {
-        let trees = self.starts.len();
-        match self.starts.push(self.nodes.len()) {
-            Err(_) => Err(AllocError),
-            Ok(()) => match self.nodes.push(leaf) {
+        let nodes = self.nodes.len();
+        match push(&mut self.nodes, leaf) {
+            Err(error) => Err(error),
+            Ok(()) => match self.starts.push(nodes) {
                 Err(_) => {
-                    self.starts.truncate(trees);
+                    self.nodes.truncate(nodes);
                     Err(AllocError)
                 }
                 Ok(()) => Ok(()),

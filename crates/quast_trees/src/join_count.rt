@@ -1,13 +1,13 @@
 //! How many nodes a join has, told by the two quasts' nodes before any is made.
-ghost use Rattle.std.specs.Prelude.{◌≡◌};
+ghost use Rattle.std.specs.Prelude.{◌≡◌, sum_by};
 ghost use Rattle.quast_trees.specs.Source.{loops_of, source_held};
-ghost use Rattle.quast_trees.specs.Counts.{added, capped, join_node, tested, under_node};
+ghost use Rattle.quast_trees.specs.Counts.{capped, join_node, tested, under_node};
 ghost use Rattle.quast_trees.specs.JoinLimits.{most_told};
 
 use crate::node::{Forms, Node, Source};
 
-/// The loops round the instances of a leaf; none where its source is not known.
-pub fn loops_round(source: &Option<Source>) -> &[usize]
+// The loops round the instances of a leaf; none where its source is not known.
+fn loops_round(source: &Option<Source>) -> &[usize]
     ensures { result.now ≡ loops_of (source_held source.now) }
 {
     match source {
@@ -18,7 +18,8 @@ pub fn loops_round(source: &Option<Source>) -> &[usize]
 
 /// How many loops two leaves have in common, of those with a form on both sides.
 pub fn common_loops(first: &Forms, second: &Forms) -> usize
-    ensures { result ≡ tested (loops_of first.now.source) (loops_of second.now.source) first.now.forms second.now.forms }
+    ensures { result
+        ≡ tested (loops_of first.now.source) (loops_of second.now.source) first.now.forms second.now.forms }
 {
     let loops = loops_round(&first.source);
     let others = loops_round(&second.source);
@@ -44,7 +45,7 @@ fn under_node(leaf: &Forms, node: &Node) -> u128
 
 // The nodes that the second quast's become under a leaf of the first.
 fn under_leaf(leaf: &Forms, nodes: &[Node]) -> u128
-    ensures { result ≡ capped most_told (added (under_node leaf.now) nodes.now) }
+    ensures { result ≡ capped most_told (sum_by (under_node leaf.now) nodes.now) }
 {
     let mut count: u128 = 0;
     for node in nodes {
@@ -66,7 +67,7 @@ fn join_node(nodes: &[Node], node: &Node) -> u128
 
 /// How many nodes the join of two quasts with these nodes has; 2^128 - 1 where there are more.
 pub fn count_nodes(first: &[Node], second: &[Node]) -> u128
-    ensures { result ≡ capped most_told (added (join_node second.now) first.now) }
+    ensures { result ≡ capped most_told (sum_by (join_node second.now) first.now) }
 {
     let mut count: u128 = 0;
     for node in first {

@@ -1,14 +1,16 @@
-//! The forms of a join: moved, widened, and the tests between two leaves.
-ghost use Rattle.std.specs.Prelude.{◌≡◌, ◌+◌, ◌≤◌, ◌++◌, IfOk, OnOk, All, length, map};
+//! The forms of a join: those of leaves, tests and binds with variables put in, and the tests between two leaves.
+ghost use Rattle.std.specs.Prelude.{◌≡◌, ◌+◌, ◌≤◌, ◌++◌, IfOk, OnOk, All, map};
 ghost use Rattle.whole_numbers.specs.Lists.{zeros};
 ghost use Rattle.affine_forms.specs.Parts.{variables_of};
 ghost use Rattle.quast_trees.specs.Joins.{test_of, less_by_one};
 ghost use Rattle.quast_trees.specs.JoinLimits.{leaf_limit};
-ghost use Rattle.quast_trees.specs.Shifts.{shifted, shifted_form, shifted_leaf, widened, widened_form};
+ghost use Rattle.quast_trees.specs.Shifts.{shifted_form, shifted_leaf, widened};
 ghost use Rattle.quast_trees.specs.Sizes.{IsFormWithin};
 
+use crate::lists::push;
 use crate::naming::copied_source;
 use crate::node::Forms;
+use crate::quast::copied_forms;
 use crate::way::Way;
 use affine_forms::{Form, FormStop, INLINE};
 use smallvec::SmallVec;
@@ -51,21 +53,34 @@ pub fn move_form(
     }
 }
 
-/// The form over `more` variables more, which it does not use.
-pub fn widen_form(alloc: Global, form: &Form, more: usize) -> Result<Form, AllocError>
-    ensures { IfOk result (λ f. f ≡ widened_form more form.now) }
+// Each form with its variables from `variables` on moved by `more`.
+fn move_forms(
+    alloc: Global,
+    forms: &[Form],
+    variables: usize,
+    more: usize,
+) -> Result<Vec<Form>, AllocError>
+    requires { All (λ f. variables ≤ variables_of f) forms.now }
+    ensures { IfOk result (λ v. v.items ≡ map (shifted_form variables more) forms.now) }
 {
-    let mut numbers = Numbers::new(alloc);
-    numbers.extend_from_slice(form.coefficients())?;
-    push_zeros(&mut numbers, more)?;
-    match Form::of(alloc, numbers.as_slice(), form.constant()) {
-        Err(_) => Err(AllocError),
-        Ok(form) => Ok(form),
+    let mut moved = match Vec::with_capacity(alloc, forms.len()) {
+        Err(error) => return Err(error),
+        Ok(moved) => moved,
+    };
+    for form in forms {
+        match move_form(alloc, form, variables, more) {
+            Err(error) => return Err(error),
+            Ok(form) => match push(&mut moved, form) {
+                Err(error) => return Err(error),
+                Ok(()) => {}
+            },
+        }
     }
+    Ok(moved)
 }
 
 // A leaf over `more` variables more, with other forms.
-fn with_more(
+fn with_forms(
     alloc: Global,
     leaf: &Forms,
     more: usize,
@@ -97,62 +112,31 @@ pub fn move_leaf(
     requires { All (λ f. variables ≤ variables_of f) leaf.now.forms }
     ensures { IfOk result (λ l. l ≡ shifted_leaf variables more leaf.now) }
 {
-    let mut forms = match Vec::with_capacity(alloc, leaf.forms.len()) {
-        Err(error) => return Err(error),
-        Ok(forms) => forms,
-    };
-    for form in &leaf.forms {
-        match move_form(alloc, form, variables, more) {
-            Err(error) => return Err(error),
-            Ok(form) => match forms.push(form) {
-                Err(_) => return Err(AllocError),
-                Ok(()) => {}
-            },
-        }
+    match move_forms(alloc, &leaf.forms, variables, more) {
+        Err(error) => Err(error),
+        Ok(forms) => with_forms(alloc, leaf, more, forms),
     }
-    with_more(alloc, leaf, more, forms)
 }
 
-/// A leaf over `more` variables more, which its forms do not use.
+/// A leaf over `more` variables more behind its own, which its forms do not use.
 pub fn widen_leaf(alloc: Global, leaf: &Forms, more: usize) -> Result<Forms, AllocError>
+    requires { All (λ f. leaf.now.variables ≤ variables_of f) leaf.now.forms }
     ensures { IfOk result (λ l. l ≡ widened more leaf.now) }
 {
-    let mut forms = match Vec::with_capacity(alloc, leaf.forms.len()) {
-        Err(error) => return Err(error),
-        Ok(forms) => forms,
-    };
-    for form in &leaf.forms {
-        match widen_form(alloc, form, more) {
-            Err(error) => return Err(error),
-            Ok(form) => match forms.push(form) {
-                Err(_) => return Err(AllocError),
-                Ok(()) => {}
-            },
-        }
-    }
-    with_more(alloc, leaf, more, forms)
+    move_leaf(alloc, leaf, leaf.variables, more)
 }
 
 /// The same leaf again.
 pub fn copy_leaf(alloc: Global, leaf: &Forms) -> Result<Forms, AllocError>
     ensures { IfOk result (λ l. l ≡ leaf.now) }
 {
-    let mut forms = match Vec::with_capacity(alloc, leaf.forms.len()) {
+    let source = match copied_source(alloc, &leaf.source) {
         Err(error) => return Err(error),
-        Ok(forms) => forms,
+        Ok(source) => source,
     };
-    for form in &leaf.forms {
-        match form.copy() {
-            Err(_) => return Err(AllocError),
-            Ok(form) => match forms.push(form) {
-                Err(_) => return Err(AllocError),
-                Ok(()) => {}
-            },
-        }
-    }
-    match copied_source(alloc, &leaf.source) {
+    match copied_forms(alloc, &leaf.forms) {
         Err(error) => Err(error),
-        Ok(source) => Ok(Forms {
+        Ok(forms) => Ok(Forms {
             source,
             variables: leaf.variables,
             forms,

@@ -17,13 +17,17 @@ pub use place::{Part, Place};
 pub use quast::Quast;
 pub use way::{JoinStop, Way};
 
+mod binds;
 mod builder;
 mod join;
 mod join_count;
 mod join_forms;
 mod join_laws;
+mod join_leaves;
+mod join_nodes;
 mod laws;
 mod leaf;
+mod lists;
 mod map;
 mod naming;
 mod node;

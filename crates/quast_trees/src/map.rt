@@ -4,6 +4,7 @@ ghost use Rattle.affine_forms.specs.Gives.{Gives};
 ghost use Rattle.quast_trees.specs.Postfix.{tree_of};
 ghost use Rattle.quast_trees.specs.Mapped.{Suits, SuitsNode, IsMapped, map_run, node_run, leaf_run, composed_run};
 
+use crate::lists::push;
 use crate::naming::copied_source;
 use crate::node::{Forms, Node};
 use crate::quast::Quast;
@@ -32,7 +33,7 @@ impl Quast {
         for node in nodes {
             match mapped_node(alloc, node, forms) {
                 Err(stop) => return Err(stop),
-                Ok(node) => match mapped.push(node) {
+                Ok(node) => match push(&mut mapped, node) {
                     Err(_) => return Err(FormStop::NoMemory),
                     Ok(()) => {}
                 },
@@ -108,7 +109,7 @@ fn composed(
     for form in forms {
         match form.compose(inner, variables) {
             Err(stop) => return Err(stop),
-            Ok(form) => match composed.push(form) {
+            Ok(form) => match push(&mut composed, form) {
                 Err(_) => return Err(FormStop::NoMemory),
                 Ok(()) => {}
             },

@@ -5,6 +5,7 @@ ghost use Rattle.quast_trees.specs.Tree.{initial, leaf, branch, bind, count, Spe
 ghost use Rattle.quast_trees.specs.Source.{unnamed};
 ghost use Rattle.quast_trees.specs.Postfix.{held, tree_of, written, IsQuast};
 
+use crate::lists::push;
 use crate::node::{Forms, Node};
 use affine_forms::Form;
 use std::alloc::{AllocError, Global};
@@ -42,7 +43,7 @@ impl Quast {
         ensures parameters { IfOk result (λ q. q.parameters ≡ parameters) }
         ensures tree { IfOk result (λ q. tree_of q ≡ leaf (unnamed parameters forms.now)) }
     {
-        let forms = match copied(alloc, forms) {
+        let forms = match copied_forms(alloc, forms) {
             Err(error) => return Err(error),
             Ok(forms) => forms,
         };
@@ -129,8 +130,8 @@ impl Quast {
         requires { IsQuast (held parameters (nodes.items ++ root ∷ [])) }
         ensures { IfOk result (λ q. q ≡ held parameters (nodes.items ++ root ∷ [])) }
     {
-        match nodes.push(root) {
-            Err(_) => Err(AllocError),
+        match push(&mut nodes, root) {
+            Err(error) => Err(error),
             Ok(()) => Ok(Quast::of_nodes(parameters, nodes)),
         }
     }
@@ -145,7 +146,7 @@ impl Quast {
 }
 
 // A copy of each form.
-fn copied(alloc: Global, forms: &[Form]) -> Result<Vec<Form>, AllocError>
+pub(crate) fn copied_forms(alloc: Global, forms: &[Form]) -> Result<Vec<Form>, AllocError>
     ensures { IfOk result (λ v. v.items ≡ forms.now) }
 {
     let mut copies = match Vec::with_capacity(alloc, forms.len()) {
@@ -155,8 +156,8 @@ fn copied(alloc: Global, forms: &[Form]) -> Result<Vec<Form>, AllocError>
     for form in forms {
         match form.copy() {
             Err(_) => return Err(AllocError),
-            Ok(copy) => match copies.push(copy) {
-                Err(_) => return Err(AllocError),
+            Ok(copy) => match push(&mut copies, copy) {
+                Err(error) => return Err(error),
                 Ok(()) => {}
             },
         }

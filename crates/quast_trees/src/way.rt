@@ -12,5 +12,6 @@ pub enum Way {
 pub enum JoinStop {
     /// The join has more than 4,096 nodes: so many, or 2^128 - 1 where there are more.
     Spent { nodes: u128 },
+    /// The join has few enough nodes, and memory is wanting.
     NoMemory,
 }

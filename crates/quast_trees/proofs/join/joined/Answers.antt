@@ -1,21 +1,23 @@
 use Rattle.std.proofs.Common.{◌≡◌, ℕ, subst, sym, ap, ap₂, ◌∙◌, arith}
+use Rattle.std.specs.Prelude.{sum_by}
 use Rattle.quast_trees.specs.Tree.{Tree, count, Speaks}
 use Rattle.quast_trees.specs.Postfix.{tree_of, read, top}
 use Rattle.quast_trees.specs.Value.{value}
 use Rattle.quast_trees.specs.Joins.{join}
-use Rattle.quast_trees.specs.Counts.{added, capped, join_count, join_node}
+use Rattle.quast_trees.specs.Counts.{capped, join_count, join_node}
 use Rattle.quast_trees.specs.JoinLimits.{most_told}
-use Rattle.quast_trees.proofs.Counting.{join-count, join_added}
-use Rattle.quast_trees.proofs.Joining.{join-value}
-use Rattle.quast_trees.proofs.Speaking.{join-speaks}
+use Rattle.quast_trees.proofs.JoinCounts.{join-count, join_added}
+use Rattle.quast_trees.proofs.JoinValues.{join-value}
+use Rattle.quast_trees.proofs.JoinSpeaking.{join-speaks}
 use Rattle.quast_trees.proofs.join.joined.Goals as goal
 use Rattle.quast_trees.proofs.join.joined.Goals.{After-count_nodes-nodes, In-Ok}
 
 -- what is counted
-told : (c : After-count_nodes-nodes) → c.count_nodes-nodes.result ≡ capped most_told (join_count (tree_of c.args.first.now) (tree_of c.args.second.now))
+told : (c : After-count_nodes-nodes)
+    → c.count_nodes-nodes.result ≡ capped most_told (join_count (tree_of c.args.first.now) (tree_of c.args.second.now))
 told c =
     c.count_nodes-nodes.ensures
-    ∙ (ap₂ (λ xs ys. capped most_told (added (join_node ys) xs)) c.nodes.ensures.nodes c.nodes-2.ensures.nodes
+    ∙ (ap₂ (λ xs ys. capped most_told (sum_by (join_node ys) xs)) c.nodes.ensures.nodes c.nodes-2.ensures.nodes
     ∙ ap (capped most_told) (sym (join_added (tree_of c.args.first.now) (tree_of c.args.second.now))))
 
 pub returns-then-nodes-gt4096-clause-spent : goal.returns-then-nodes-gt4096-clause-spent
@@ -24,8 +26,15 @@ returns-then-nodes-gt4096-clause-spent c =
     let h = c.if-nodes-gt4096.true in
     (omega arith, t)
 
+pub returns-in-Err-clause-spent : goal.returns-in-Err-clause-spent
+returns-in-Err-clause-spent c =
+    let t = told (goal.at.returns-in-Err-clause-spent c).After-count_nodes-nodes in
+    let h = c.if-nodes-gt4096.false in
+    omega arith
+
 -- the tree that is made
-made : (c : In-Ok) → read c.push_all.new.builder ≡ join c.args.way c.args.first.now.parameters (tree_of c.args.first.now) (tree_of c.args.second.now)
+made : (c : In-Ok) → read c.push_quasts.new.builder
+    ≡ join c.args.way c.args.first.now.parameters (tree_of c.args.first.now) (tree_of c.args.second.now)
 made c = ap top c.in-Ok.ensures
 
 pub finish-requires-clause-speaks : goal.finish-requires-clause-speaks
@@ -36,7 +45,8 @@ finish-requires-clause-speaks c =
     let u = tree_of c.args.second.now in
     let s : Speaks n t = c.nodes.ensures.speaks in
     let r : Speaks n u = subst (λ (i : ℕ). Speaks i u) (sym c.requires.parameters) c.nodes-2.ensures.speaks in
-    subst (Speaks c.parameters.result) (sym (made at)) (subst (λ (i : ℕ). Speaks i (join c.args.way n t u)) (sym c.parameters.ensures) (join-speaks c.args.way n t u s r))
+    subst (Speaks c.parameters.result) (sym (made at))
+    (subst (λ (i : ℕ). Speaks i (join c.args.way n t u)) (sym c.parameters.ensures) (join-speaks c.args.way n t u s r))
 
 pub returns-in-Ok-clause-value : goal.returns-in-Ok-clause-value
 returns-in-Ok-clause-value c = λ point size.
@@ -44,8 +54,8 @@ returns-in-Ok-clause-value c = λ point size.
     let n = c.args.first.now.parameters in
     let t = tree_of c.args.first.now in
     let u = tree_of c.args.second.now in
-    let s : Speaks n t = c.nodes.ensures.speaks in
-    ap (λ (z : Tree). value z point) (c.finish.ensures.tree ∙ made at) ∙ join-value c.args.way n t u point size s
+    ap (λ (z : Tree). value z point) (c.finish.ensures.tree ∙ made at)
+    ∙ join-value c.args.way n t u point size c.nodes.ensures.speaks
 
 pub returns-in-Ok-clause-few : goal.returns-in-Ok-clause-few
 returns-in-Ok-clause-few c =
@@ -54,7 +64,8 @@ returns-in-Ok-clause-few c =
     let n = c.args.first.now.parameters in
     let t = tree_of c.args.first.now in
     let u = tree_of c.args.second.now in
-    let e : count (tree_of c.finish.result) ≡ join_count t u = ap count (c.finish.ensures.tree ∙ made at) ∙ join-count c.args.way n t u in
+    let e : count (tree_of c.finish.result) ≡ join_count t u =
+    ap count (c.finish.ensures.tree ∙ made at) ∙ join-count c.args.way n t u in
     let k = told start in
     let h = c.if-nodes-gt4096.false in
     omega arith

@@ -1,5 +1,5 @@
 use Rattle.std.proofs.Common.{rules, ◌≡◌, ◌<◌, ◌≤◌, length, min, get_or, arith, add-one}
-use Rattle.quast_trees.proofs.JoinCounting.{tested_past, tested_more}
+use Rattle.quast_trees.proofs.JoinCounts.{tested_past, tested_more}
 use Rattle.quast_trees.proofs.join_count.common_loops.Goals as goal
 
 pub loop-at-preserved : goal.loop-at-preserved

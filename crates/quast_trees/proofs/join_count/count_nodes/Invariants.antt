@@ -1,8 +1,11 @@
 use Rattle.std.proofs.Common.{◌≡◌, ◌+◌, ◌≤◌, drop}
-use Rattle.quast_trees.specs.Counts.{added, capped, join_node}
+use Rattle.std.specs.Prelude.{sum_by}
+use Rattle.quast_trees.specs.Counts.{capped, join_node}
 use Rattle.quast_trees.specs.JoinLimits.{most_told}
 use Rattle.quast_trees.proofs.join_count.count_nodes.Given as goal
 
 abbrev pub invariant-loop-node : goal.invariant-loop-node
 invariant-loop-node l =
-    (l.count ≤ most_told) × (capped most_told (l.count + added (join_node l.second) (drop l.node-index l.first)) ≡ capped most_told (added (join_node l.second) l.first))
+    (l.count ≤ most_told)
+    × (capped most_told (l.count + sum_by (join_node l.second) (drop l.node-index l.first))
+    ≡ capped most_told (sum_by (join_node l.second) l.first))

@@ -1,11 +1,12 @@
 use Rattle.std.proofs.Common.{rules, ◌≤◌, length}
 use Rattle.quast_trees.specs.Counts.{under_node}
 use Rattle.quast_trees.specs.JoinLimits.{most_told}
-use Rattle.quast_trees.proofs.JoinCounting.{counted}
+use Rattle.quast_trees.proofs.JoinCounts.{counted}
 use Rattle.quast_trees.proofs.join_count.under_leaf.Goals as goal
 
 pub returns : goal.returns
 returns c =
     let past : length c.args.nodes.now ≤ c.loop-node.node-index = search rules in
     let few : c.loop-node.count ≤ most_told = c.loop-node.invariant.0 in
-    counted (under_node c.args.leaf.now) most_told c.loop-node.count c.loop-node.node-index c.args.nodes.now past few c.loop-node.invariant.1
+    counted (under_node c.args.leaf.now) most_told c.loop-node.count c.loop-node.node-index c.args.nodes.now past few
+    c.loop-node.invariant.1

@@ -2,8 +2,8 @@ use Rattle.std.proofs.Common.{rules, ◌≡◌, pos, negsuc, ◌-ℤ◌}
 use Rattle.whole_numbers.specs.Affine.{sum_of_forms, multiple_of_form}
 use Rattle.affine_forms.specs.Gives.{Fails}
 use Rattle.affine_forms.specs.Runs.{forms_difference_run}
-use Rattle.quast_trees.proofs.JoinForming.{less_put}
-use Rattle.quast_trees.proofs.NeverWide.{difference_ok, ok_or_err}
+use Rattle.quast_trees.proofs.JoinForms.{less_put}
+use Rattle.quast_trees.proofs.JoinSizes.{never_wide}
 use Rattle.quast_trees.proofs.join_forms.less_by_one.Goals as goal
 
 pub returns : goal.returns
@@ -18,8 +18,8 @@ returns c =
 
 pub unreachable-requires : goal.unreachable-requires
 unreachable-requires c =
-    let ok = difference_ok c.args.first.now c.args.second.now c.requires.first c.requires.second in
-    let fits = ok.1 in
-    let run : Fails c.in-Err-Wide.field-0 (forms_difference_run (pos 1) c.args.first.now (pos 1) c.args.second.now) = search rules in
+    let f = c.args.first.now in
+    let g = c.args.second.now in
+    let run : Fails c.in-Err-Wide.field-0 (forms_difference_run (pos 1) f (pos 1) g) = search rules in
     let wide = rw c.in-Err-Wide.field-0-is at run in
-    absurd (ok_or_err (forms_difference_run (pos 1) c.args.first.now (pos 1) c.args.second.now) ok.0 c.in-Err-Wide.field-0-0 fits wide)
+    absurd (never_wide f g c.in-Err-Wide.field-0-0 c.requires.first c.requires.second wide)

@@ -1,6 +1,6 @@
 use Rattle.std.proofs.Common.{◌++◌}
 use Rattle.whole_numbers.specs.Lists.{zeros}
-use Rattle.quast_trees.proofs.JoinForming.{zeros_step}
+use Rattle.quast_trees.proofs.JoinForms.{zeros_step}
 use Rattle.quast_trees.proofs.join_forms.push_zeros.Goals as goal
 
 pub loop-place-preserved : goal.loop-place-preserved

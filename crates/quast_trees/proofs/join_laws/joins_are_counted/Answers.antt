@@ -1,4 +1,4 @@
-use Rattle.quast_trees.proofs.Counting.{join-count, join-forms, join_added, capped_sum}
+use Rattle.quast_trees.proofs.JoinCounts.{join-count, join-forms, join_added, capped_sum}
 use Rattle.quast_trees.proofs.join_laws.joins_are_counted.Goals as goal
 
 pub returns-clause-count : goal.returns-clause-count

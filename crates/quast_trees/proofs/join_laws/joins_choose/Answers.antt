@@ -1,5 +1,5 @@
-use Rattle.quast_trees.proofs.Joining.{join-value}
-use Rattle.quast_trees.proofs.Speaking.{join-speaks}
+use Rattle.quast_trees.proofs.JoinValues.{join-value}
+use Rattle.quast_trees.proofs.JoinSpeaking.{join-speaks}
 use Rattle.quast_trees.proofs.join_laws.joins_choose.Goals as goal
 
 pub returns-clause-value : goal.returns-clause-value

@@ -1,4 +1,4 @@
-use Rattle.quast_trees.proofs.Sizing.{test_within, join_within}
+use Rattle.quast_trees.proofs.JoinSizes.{test_within, join_within}
 use Rattle.quast_trees.proofs.join_laws.tests_are_small.Goals as goal
 
 pub returns-clause-test : goal.returns-clause-test

@@ -47,7 +47,7 @@ invariant_of-self-in-Ok c =
     let len : c.len.result ≡ length nodes = search rules in
     let read : c.index.result.now ≡ get_or places (c.len-top.result - 1) c.index.result.now = search rules in
     let at = read ∙ ap (λ n. get_or places (n - 1) c.index.result.now) is in
-    let pushed : c.push.new.self.items ≡ nodes ++ node.Branch c.args.test (c.len.result - c.index.result.now)
+    let pushed : c.push.new.list.items ≡ nodes ++ node.Branch c.args.test (c.len.result - c.index.result.now)
     ∷ [] = search rules in
     let kept : c.truncate.new.self.items ≡ take (c.len-top.result - 1) places = search rules in
     rw (pushed, kept, len, at, is) j.stack

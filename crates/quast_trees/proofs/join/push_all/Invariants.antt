@@ -1,8 +1,0 @@
-use Rattle.quast_trees.specs.Postfix.{standing}
-use Rattle.quast_trees.specs.JoinSteps.{pairs, join_step}
-use Rattle.quast_trees.proofs.JoinSuiting.{Stepped}
-use Rattle.quast_trees.proofs.join.push_all.Given as goal
-
-abbrev pub invariant-loop-at : goal.invariant-loop-at
-invariant-loop-at l =
-    Stepped (join_step l.way l.variables (pairs l.others l.binds.items)) (pairs l.nodes l.rounds.items) (standing l.fn.builder) l.at (standing l.builder)
