@@ -1,44 +1,49 @@
 -- The system of a conflict, taken apart.
-use Rattle.std.proofs.Common.{◌≡◌, ℕ, ◌+◌, zero, suc, List, [], ◌∷◌, ◌++◌, length, map, Some, ap, ap₂, subst, sym, ◌∙◌, refl}
+use Rattle.std.proofs.Common.{◌≡◌, ℕ, ◌+◌, List, [], ◌∷◌, ◌++◌, map, Some, ap, ap₂, subst, sym, ◌∙◌, refl}
 use Rattle.std.specs.Prelude.{slice_get}
 use Rattle.std.specs.List.{flat_map}
 use Rattle.std.proofs.lemmas.List.{append-nil}
 use Rattle.whole_numbers.specs.Affine.{Affine}
-use Rattle.integer_sets.specs.Constraints.{Constraints}
-use Rattle.scop_syntax.specs.Tree.{Access, Test, at_least, equal}
+use Rattle.scop_syntax.specs.Tree.{at_least, equal}
 use Rattle.scop_syntax.specs.Members.{In}
 use Rattle.scop_syntax.proofs.Members.{in_map_from, in_if_from, place_of}
 use Rattle.iteration_domains.specs.Rows.{variables}
-use Rattle.iteration_domains.specs.Constraints.{equalities_in, rows_in, tests_of}
+use Rattle.iteration_domains.specs.Constraints.{equalities_in, rows_in}
 use Rattle.iteration_domains.specs.Model.{KernelModel, Modelled}
 use Rattle.iteration_domains.specs.Sizes.{IsKernelModel}
 use Rattle.iteration_domains.specs.Dependence.{Dependence}
 use Rattle.iteration_domains.proofs.Points.{equalities_in-append, rows_in-append}
-use Rattle.conflict_deps.specs.Conflicts.{Side, sides_of, sides_in, loops_of, source_form, target_form, map_test, After, same_subscripts}
-use Rattle.conflict_deps.specs.Conflicts.{source_rows, target_rows, cell_rows, parameter_rows, pair_size, dep_of, afters_of, may_conflict, deps_between, conflicts_of}
+use Rattle.conflict_deps.specs.Conflicts.{Side, sides_of, sides_in, loops_of, source_form, target_form, map_test}
+use Rattle.conflict_deps.specs.Conflicts.{same_subscripts, source_rows, target_rows, cell_rows, parameter_rows}
+use Rattle.conflict_deps.specs.Conflicts.{pair_size, dep_of, afters_of, may_conflict, deps_between, conflicts_of}
 use Rattle.conflict_deps.specs.Parts.{HasParts}
 use Rattle.conflict_deps.proofs.Sides.{in_flat_map_from, side_to}
 
+-- the equalities of a domain's tests, each with the same done to its form
 equals_mapped : (h : Affine → Affine) (fs : List Affine) (gs : List Affine)
     → equalities_in (map (map_test h) (map equal fs ++ map at_least gs)) ≡ map h fs
 equals_mapped h [] [] = refl
 equals_mapped h [] (g ∷ gs) = equals_mapped h [] gs
 equals_mapped h (f ∷ fs) gs = ap (λ us. h f ∷ us) (equals_mapped h fs gs)
 
+-- and its rows
 rows_mapped : (h : Affine → Affine) (fs : List Affine) (gs : List Affine)
     → rows_in (map (map_test h) (map equal fs ++ map at_least gs)) ≡ map h gs
 rows_mapped h [] [] = refl
 rows_mapped h [] (g ∷ gs) = ap (λ us. h g ∷ us) (rows_mapped h [] gs)
 rows_mapped h (f ∷ fs) gs = rows_mapped h fs gs
 
+-- inequalities have no equality
 no_equal : (fs : List Affine) → equalities_in (map at_least fs) ≡ []
 no_equal [] = refl
 no_equal (f ∷ fs) = no_equal fs
 
+-- they are rows
 all_rows : (fs : List Affine) → rows_in (map at_least fs) ≡ fs
 all_rows [] = refl
 all_rows (f ∷ fs) = ap (λ us. f ∷ us) (all_rows fs)
 
+-- subscripts that are one have no row
 cell_equal : (d e : ℕ) (fs gs : List Affine) → rows_in (same_subscripts d e fs gs) ≡ []
 cell_equal d e [] gs = refl
 cell_equal d e (f ∷ fs) [] = refl
@@ -55,6 +60,7 @@ stands model s is h =
     subst (λ (p : Modelled). slice_get model.statements p.number ≡ Some p) (sym r.0)
     (subst (λ (i : ℕ). slice_get model.statements i ≡ Some q.0) (sym k) at.1)
 
+-- a conflict of the model, taken apart
 pub parts_of : (model : KernelModel) (dep : Dependence) → IsKernelModel model → In dep (conflicts_of model)
     → HasParts model dep
 parts_of model dep is h =
@@ -83,18 +89,23 @@ parts_of model dep is h =
           (stands model t.0 is t.1);
       equalities = ap (λ (d : Dependence). d.system.equalities) a.2
           ∙ (equalities_in-append u (v ++ (c ++ (o ++ w)))
-          ∙ ap₂ (λ (x y : List Affine). x ++ y) (equals_mapped (source_form (loops_of s.0) (loops_of t.0)) du.equalities du.rows)
+          ∙ ap₂ (λ (x y : List Affine). x ++ y)
+          (equals_mapped (source_form (loops_of s.0) (loops_of t.0)) du.equalities du.rows)
           (equalities_in-append v (c ++ (o ++ w))
-          ∙ ap₂ (λ (x y : List Affine). x ++ y) (equals_mapped (target_form (loops_of s.0)) dv.equalities dv.rows)
+          ∙ ap₂ (λ (x y : List Affine). x ++ y)
+          (equals_mapped (target_form (loops_of s.0)) dv.equalities dv.rows)
           (equalities_in-append c (o ++ w)
           ∙ ap (λ (y : List Affine). equalities_in c ++ y)
-          (equalities_in-append o w ∙ (ap (λ (y : List Affine). equalities_in o ++ y) (no_equal ps) ∙ append-nil (equalities_in o))))));
+          (equalities_in-append o w
+          ∙ (ap (λ (y : List Affine). equalities_in o ++ y) (no_equal ps) ∙ append-nil (equalities_in o))))));
       rows = ap (λ (d : Dependence). d.system.rows) a.2
           ∙ (rows_in-append u (v ++ (c ++ (o ++ w)))
-          ∙ ap₂ (λ (x y : List Affine). x ++ y) (rows_mapped (source_form (loops_of s.0) (loops_of t.0)) du.equalities du.rows)
+          ∙ ap₂ (λ (x y : List Affine). x ++ y)
+          (rows_mapped (source_form (loops_of s.0) (loops_of t.0)) du.equalities du.rows)
           (rows_in-append v (c ++ (o ++ w))
           ∙ ap₂ (λ (x y : List Affine). x ++ y) (rows_mapped (target_form (loops_of s.0)) dv.equalities dv.rows)
           (rows_in-append c (o ++ w)
-          ∙ ap₂ (λ (x y : List Affine). x ++ y) (cell_equal (loops_of s.0) (loops_of t.0) s.0.access.subscripts t.0.access.subscripts)
+          ∙ ap₂ (λ (x y : List Affine). x ++ y)
+          (cell_equal (loops_of s.0) (loops_of t.0) s.0.access.subscripts t.0.access.subscripts)
           (rows_in-append o w ∙ ap (λ (y : List Affine). rows_in o ++ y) (all_rows ps)))));
     }

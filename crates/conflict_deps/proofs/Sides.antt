@@ -15,7 +15,7 @@ use Rattle.iteration_domains.specs.Dependence.{Dependence}
 use Rattle.conflict_deps.specs.Conflicts.{Side, side, sides_from, sides_of, After, dep_of, afters_of, may_conflict}
 use Rattle.conflict_deps.specs.Conflicts.{deps_between, conflicts_of}
 
-pub in_flat_map : {A B : Type 0} (f : A → List B) (xs : List A) (x : A) (y : B) → In x xs → In y (f x)
+in_flat_map : {A B : Type 0} (f : A → List B) (xs : List A) (x : A) (y : B) → In x xs → In y (f x)
     → In y (flat_map f xs)
 in_flat_map f [] x y h g = absurd h
 in_flat_map f (z ∷ zs) x y (inl e) g = in_front y (f z) (flat_map f zs) (subst (λ u. In y (f u)) e g)

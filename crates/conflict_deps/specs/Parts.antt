@@ -4,7 +4,8 @@ use Rattle.iteration_domains.specs.Rows.{variables}
 use Rattle.iteration_domains.specs.Constraints.{equalities_in, rows_in}
 use Rattle.iteration_domains.specs.Model.{KernelModel}
 use Rattle.iteration_domains.specs.Dependence.{Dependence}
-use Rattle.conflict_deps.specs.Conflicts.{Side, After, loops_of, source_form, target_form, cell_rows, dep_of, pair_size}
+use Rattle.conflict_deps.specs.Conflicts.{Side, After, loops_of, source_form, target_form, cell_rows, dep_of}
+use Rattle.conflict_deps.specs.Conflicts.{pair_size}
 
 -- a dependence of a model is put together from two accesses and an order; its equalities and rows are those of the
 -- source's domain, of the target's, of the subscripts and of the order, and that no parameter is negative
@@ -22,4 +23,5 @@ pub record HasParts (model : KernelModel) (dep : Dependence) : Type 0 where
   pub rows : dep.system.rows
       ≡ map (source_form (loops_of from) (loops_of to)) from.statement.domain.rows
       ++ (map (target_form (loops_of from)) to.statement.domain.rows
-      ++ (rows_in order.rows ++ variables (pair_size model.parameters from to) (loops_of from + loops_of to) model.parameters))
+      ++ (rows_in order.rows
+      ++ variables (pair_size model.parameters from to) (loops_of from + loops_of to) model.parameters))

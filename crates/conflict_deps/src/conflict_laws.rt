@@ -1,12 +1,12 @@
-//! The law of the conflicts, as the contract of a function that does nothing.
+//! Laws of conflicts, as contracts of functions that do nothing.
 ghost use Rattle.std.specs.Prelude.{◌≡◌, ℕ, ℤ, List, length};
 ghost use Rattle.whole_numbers.specs.Lists.{NotNegative};
 ghost use Rattle.scop_syntax.specs.Cells.{PlacesConflict};
 ghost use Rattle.scop_syntax.specs.Kernel.{IsKernel};
+ghost use Rattle.scop_syntax.specs.Members.{In};
 ghost use Rattle.scop_syntax.specs.Tree.{Program};
 ghost use Rattle.scop_syntax.specs.Walk.{walk_of};
 ghost use Rattle.iteration_domains.specs.Dependence.{Dependence};
-ghost use Rattle.scop_syntax.specs.Members.{In};
 ghost use Rattle.iteration_domains.specs.Model.{KernelModel};
 ghost use Rattle.iteration_domains.specs.Sizes.{IsKernelModel};
 ghost use Rattle.conflict_deps.specs.Conflicts.{conflicts_of};
@@ -37,8 +37,8 @@ pub fn conflicts_are_the_points_of_the_systems()
     walks_are_in_order();
 }
 
-/// The system of each conflict falls into its parts: the domains of both instances, the subscripts, the order, and that
-/// no parameter is negative; its ends are statements of the model.
+/// The system of each conflict falls into its parts: the domains of both instances, the subscripts, the order, and
+/// that no parameter is negative; its ends are statements of the model.
 pub fn systems_have_parts()
     ensures { (model : KernelModel) (dep : Dependence) → IsKernelModel model → In dep (conflicts_of model)
         → HasParts model dep }

@@ -1,5 +1,6 @@
 -- How large the numbers of forms get.
-use Rattle.std.specs.Prelude.{◌≡◌, ℕ, zero, suc, ◌+◌, ◌*◌, ◌^◌, ◌≤◌, ℤ, List, [], ◌∷◌, All, length, unsigned_abs, slice_get, Some}
+use Rattle.std.specs.Prelude.{◌≡◌, ℕ, zero, suc, ◌+◌, ◌*◌, ◌^◌, ◌≤◌, ℤ, List, [], ◌∷◌, All, length, unsigned_abs}
+use Rattle.std.specs.Prelude.{slice_get, Some}
 use Rattle.whole_numbers.specs.Affine.{Affine}
 use Rattle.affine_forms.specs.Parts.{variables_of}
 use Rattle.scop_syntax.specs.Tree.{Access}

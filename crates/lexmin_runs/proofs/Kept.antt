@@ -20,12 +20,12 @@ use Rattle.tableau_rows.specs.Solutions.{IsTableau, IsTied, IsPlaced, HaveSameSo
 use Rattle.tableau_rows.proofs.Points.{sized_take, sized_at, not_negative-parts}
 use Rattle.tableau_rows.proofs.Keeping.{pivot_run_keeps, cut_keeps_tableau, cut_keeps_solutions, cut_back}
 use Rattle.tableau_rows.proofs.Beginning.{first_tableau, first_solutions}
-use Rattle.lexmin_runs.specs.Nodes.{leaf_tree, Node, Next, Bound, ends, goes, binds, splits, chained, longer_form}
+use Rattle.lexmin_runs.specs.Nodes.{Node, Next, Bound, ends, goes, binds, splits, chained, longer_form}
 use Rattle.lexmin_runs.specs.Nodes.{longer_row, part_of, place_of, is_bound_as, opposite_run, under_run}
 use Rattle.lexmin_runs.specs.Nodes.{at_least_run}
 use Rattle.lexmin_runs.specs.Nodes.{side, split, with_rows, pivot, taken_off, bound_node}
 use Rattle.lexmin_runs.specs.Nodes.{cut, step, followed}
-use Rattle.lexmin_runs.specs.Nodes.{tree_run, whole, first_node, lexmin_run}
+use Rattle.lexmin_runs.specs.Nodes.{leaf_tree, tree_run, whole, first_node, lexmin_run}
 use Rattle.lexmin_runs.specs.Solutions.{IsInContext, IsNodeSolution, AreBound, ArePlaced, IsNode, LeadsOn}
 use Rattle.lexmin_runs.specs.Solutions.{KeepsSolutions}
 use Rattle.lexmin_runs.proofs.Speaking.{leaf_tree-speaks, leaf_tree-forms}
@@ -436,17 +436,18 @@ first_node_solutions n m fs context speaks p x = (
   λ h. record { context = h.0; solution = (first_solutions n m fs speaks p x h.0.size).0 h.1 },
 )
 
--- the tree of a run speaks of its node's parameters, and has a form for each unknown at each leaf
+-- a tree speaks of m parameters, and has a form for each of the n unknowns at each leaf
 abbrev Fits : ℕ → ℕ → Tree → Type 0
 Fits n m t = TreeSpeaks m t × LeavesHave n t
 
-pub tree-speaks : (n k left : ℕ) (node : Node) (tree : Tree) (l : ℕ) → IsNode n node
+-- so does the tree of a run, of its node's parameters
+pub tree-fits : (n k left : ℕ) (node : Node) (tree : Tree) (l : ℕ) → IsNode n node
     → tree_run n k left node ≡ Ok (tree, l)
     → Fits n node.parameters tree
-tree-speaks n zero left node tree l is h = cc
-tree-speaks n (suc k) left node tree l is h =
+tree-fits n zero left node tree l is h = cc
+tree-fits n (suc k) left node tree l is h =
     let c = chained-ok (step n left node) (λ (next : Next) (rest : ℕ). followed (tree_run n k) next rest) tree l h in
-    by_next c.0 c.1 (step_keeps n left node c.0 c.1 is c.2).0 c.3 (λ b d t e q g. tree-speaks n k b d t e q g)
+    by_next c.0 c.1 (step_keeps n left node c.0 c.1 is c.2).0 c.3 (λ b d t e q g. tree-fits n k b d t e q g)
   where
     by_next : (next : Next) (rest : ℕ) → LeadsOn n node.parameters next
         → followed (tree_run n k) next rest ≡ Ok (tree, l)
@@ -457,34 +458,35 @@ tree-speaks n (suc k) left node tree l is h =
     by_next (goes m) rest on h more = subst (λ (j : ℕ). Fits n j tree) on.1 (more rest m tree l on.0 h)
     by_next (binds f d m) rest on h more =
         let c = chained-ok (tree_run n k rest m) (λ (t : Tree) (end : ℕ). Ok (bind f d t, end)) tree l h in
+        let body = more rest m c.0 c.1 on.0 c.2 in
         subst (Fits n node.parameters) (same_first (bind f d c.0) tree c.1 l c.3) (
-        let body = more rest m c.0 c.1 on.0 c.2 in (
           (on.2, on.3, subst (λ (j : ℕ). TreeSpeaks j c.0) (on.1 ∙ sym (add-one node.parameters)) body.0),
           body.1,
-        ))
+        )
     by_next (splits f a b) rest on h more =
         let c = chained-ok (tree_run n k rest a)
         (λ (t : Tree) (end : ℕ). chained (tree_run n k end b) (λ u stop. Ok (branch f t u, stop))) tree l h in
         let d = chained-ok (tree_run n k c.1 b) (λ (u : Tree) (stop : ℕ). Ok (branch f c.0 u, stop)) tree l c.3 in
-        subst (Fits n node.parameters) (same_first (branch f c.0 d.0) tree d.1 l d.3) (
         let x = more rest a c.0 c.1 on.0 c.2 in
-        let y = more c.1 b d.0 d.1 on.1 d.2 in (
+        let y = more c.1 b d.0 d.1 on.1 d.2 in
+        subst (Fits n node.parameters) (same_first (branch f c.0 d.0) tree d.1 l d.3) (
           (on.4, subst (λ (j : ℕ). TreeSpeaks j c.0) on.2 x.0, subst (λ (j : ℕ). TreeSpeaks j d.0) on.3 y.0),
           (x.1, y.1),
-        ))
+        )
 
 pub lexmin-speaks : (budget n m : ℕ) (fs context : List Affine) (tree : Tree) (l : ℕ) → Speaks (n + m) fs
     → Speaks m context
     → lexmin_run budget m (problem_of n fs) context ≡ Ok (tree, l) → TreeSpeaks m tree
 unfolding lexmin_run whole
 lexmin-speaks budget n m fs context tree l speaks about h =
-    (tree-speaks n (suc budget) budget (first_node m (problem_of n fs) context) tree l
+    (tree-fits n (suc budget) budget (first_node m (problem_of n fs) context) tree l
     (first_is_node n m fs context speaks about) h).0
 
+-- each leaf of a problem's tree has a form for each unknown
 pub lexmin-forms : (budget n m : ℕ) (fs context : List Affine) (tree : Tree) (l : ℕ) → Speaks (n + m) fs
     → Speaks m context
     → lexmin_run budget m (problem_of n fs) context ≡ Ok (tree, l) → LeavesHave n tree
 unfolding lexmin_run whole
 lexmin-forms budget n m fs context tree l speaks about h =
-    (tree-speaks n (suc budget) budget (first_node m (problem_of n fs) context) tree l
+    (tree-fits n (suc budget) budget (first_node m (problem_of n fs) context) tree l
     (first_is_node n m fs context speaks about) h).1

@@ -1,4 +1,3 @@
-use Rattle.scop_syntax.specs.Limits.{has_parameters}
 use Rattle.std.proofs.Common.{◌≤◌, List, length, ap, subst, sym, refl}
 use Rattle.std.specs.Prelude.{ℤ}
 use Rattle.scop_syntax.specs.Acts.{Act}
@@ -6,6 +5,7 @@ use Rattle.scop_syntax.specs.Cells.{reads as reads_by}
 use Rattle.scop_syntax.specs.declared.tree.Item.{Item}
 use Rattle.scop_syntax.specs.View.{instance_of, items_of, program_of}
 use Rattle.scop_syntax.specs.Walk.{Instance, Visit, instance, walk_of}
+use Rattle.scop_syntax.specs.Limits.{has_parameters}
 use Rattle.scop_syntax.proofs.Members.{in_map_from}
 use Rattle.scop_meaning.specs.Instances.{CanFind}
 use Rattle.scop_meaning.proofs.Finding.{can_find, found_visit}

@@ -1,10 +1,10 @@
-use Rattle.scop_syntax.specs.Limits.{has_parameters}
 use Rattle.std.proofs.Common.{List, ap, sym, subst, ◌∙◌, arith}
 use Rattle.std.specs.Prelude.{ℤ, ℕ}
 use Rattle.scop_syntax.specs.declared.tree.Item.{Item}
 use Rattle.scop_syntax.specs.View.{program_of, items_of}
 use Rattle.scop_syntax.specs.Execution.{IsShaped, held, layout}
 use Rattle.scop_syntax.specs.Acts.{acts_all}
+use Rattle.scop_syntax.specs.Limits.{has_parameters}
 use Rattle.scop_meaning.specs.Conditions.{CanRun, ran}
 use Rattle.scop_meaning.proofs.Kernels.{kernel_runs, exec_is}
 use Rattle.scop_meaning.proofs.interpreter.run_plain.Goals as goal
@@ -20,7 +20,8 @@ run_items-requires c =
     let p = program_of c.args.kernel.now in
     let params = c.args.params.now in
     let limits = c.requires.limits in
-    let runs = kernel_runs p params c.args.arrays.now limits (c.numbers_of_runs_fit.ensures p params (has_parameters limits))
+    let runs = kernel_runs p params c.args.arrays.now limits
+    (c.numbers_of_runs_fit.ensures p params (has_parameters limits))
     (c.cells_lie_within_22_bits.ensures.counts p params limits) c.requires.inside c.requires.shape in
     subst (λ (es : List (List ℕ)). CanRun 9 es (items_of c.deref.result.now) c.point_at-point.result.items
     c.args.arrays.now) (sym c.of-layout.ensures)
