@@ -117,11 +117,7 @@ fn push_bounds(
 }
 
 /// The rows of a system behind its equalities' pairs: its own, and last the bounds of its parameters.
-fn bounded_rows(
-    alloc: Global,
-    system: &System,
-    variables: usize,
-) -> Result<Vec<Form>, AllocError>
+fn bounded_rows(alloc: Global, system: &System, variables: usize) -> Result<Vec<Form>, AllocError>
     requires { variables ≡ variables_in system.now }
     ensures { IfOk result (λ v. v.items
         ≡ system.now.rows ++ bound_rows variables system.now.dimensions system.now.parameters) }

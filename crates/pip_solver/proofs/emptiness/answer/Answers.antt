@@ -2,7 +2,6 @@ use Rattle.std.proofs.Common.{rules, ◌≡◌, subst, refl, arith, inr, List}
 use Rattle.std.specs.Prelude.{Err}
 use Rattle.whole_numbers.specs.Affine.{Affine}
 use Rattle.affine_forms.specs.declared.stop.FormStop.{FormStop}
-use Rattle.affine_forms.specs.declared.stop.FormStop.TheVariants as form_stop
 use Rattle.integer_sets.specs.Constraints.{variables_in}
 use Rattle.pip_solver.specs.Answers.{Forms, FormedUntil}
 use Rattle.pip_solver.proofs.Deciding.{unposed, empty_unposed}
