@@ -50,7 +50,8 @@ pub record CutCases (n : ℕ) (node : Node) (i : ℕ) (P : Next → Type 0) : Ty
       → place_of (taken_off n (row_at node.rows i)) (row_at node.rows i).denominator node.bounds ≡ Some k
       → (new : Row) → cut_run n (Some (n + 1 + k)) (row_at node.rows i) ≡ Ok new
       → P (goes (with_rows node (node.rows ++ new ∷ [])))
-  pub is_new : (new : Row) (low high : Affine)
+  pub is_new : all_zero (taken_off n (row_at node.rows i)).coefficients ≡ false
+      → (new : Row) (low high : Affine)
       → cut_run n (Some (n + 1 + node.parameters)) (longer_row (row_at node.rows i)) ≡ Ok new
       → at_least_run (row_at node.rows i).denominator (taken_off n (row_at node.rows i)) ≡ Ok low
       → under_run (row_at node.rows i).denominator (taken_off n (row_at node.rows i)) ≡ Ok high
@@ -78,11 +79,11 @@ cut_by n left node i next l P cases h =
         (λ (new : Row). Ok (goes (with_rows node (node.rows ++ new ∷ [])), rest)) next l h in
         subst P (same_first (goes (with_rows node (node.rows ++ d.0 ∷ []))) next rest l d.2) (made d.0 d.1)
 
-    by_place : (rest : ℕ) (place : Option ℕ)
+    by_place : (rest : ℕ) → all_zero (taken_off n (row_at node.rows i)).coefficients ≡ false → (place : Option ℕ)
         → place_of (taken_off n (row_at node.rows i)) (row_at node.rows i).denominator node.bounds ≡ place
         → cut_bound n left rest node i place ≡ Ok (next, l) → P next
-    by_place rest (Some k) e h = by_row rest (Some (n + 1 + k)) h (λ new run. cases.is_bound k e new run)
-    by_place rest None e h =
+    by_place rest some (Some k) e h = by_row rest (Some (n + 1 + k)) h (λ new run. cases.is_bound k e new run)
+    by_place rest some None e h =
         let row = row_at node.rows i in
         let f = taken_off n row in
         let d = row.denominator in
@@ -96,7 +97,7 @@ cut_by n left node i next l P cases h =
         let c = formed-ok left (under_run d f)
         (λ (high : Affine). Ok (binds f d (bound_node n node f d a.0 b.0 high), rest)) next l b.2 in
         subst P (same_first (binds f d (bound_node n node f d a.0 b.0 c.0)) next rest l c.2)
-        (cases.is_new a.0 b.0 c.0 a.1 b.1 c.1)
+        (cases.is_new some a.0 b.0 c.0 a.1 b.1 c.1)
 
     by_form : (rest : ℕ) (b : Bool) → all_zero (taken_off n (row_at node.rows i)).coefficients ≡ b
         → (if b then formed left (cut_run n None (row_at node.rows i))
@@ -106,16 +107,22 @@ cut_by n left node i next l P cases h =
         → P next
     by_form rest true e h = by_row rest None h (λ new run. cases.is_constant e new run)
     by_form rest false e h =
-        by_place rest (place_of (taken_off n (row_at node.rows i)) (row_at node.rows i).denominator node.bounds) refl h
+        by_place rest e (place_of (taken_off n (row_at node.rows i)) (row_at node.rows i).denominator node.bounds) refl h
 
 -- rows that were all answered no
 abbrev pub AllNo : (ℕ → Row → Counted Bool) → List Row → Type 0
 AllNo test [] = Unit {0}
 AllNo test (row ∷ rows) = ((l : ℕ) × (k : ℕ) × (test l row ≡ Ok (false, k))) × AllNo test rows
 
+-- a row that was answered yes
+pub record IsYes (test : ℕ → Row → Counted Bool) (row : Row) : Type 0 where
+  pub left : ℕ
+  pub rest : ℕ
+  pub says : test left row ≡ Ok (true, rest)
+
 abbrev pub IsAsked : (ℕ → Row → Counted Bool) → ℕ → List Row → Option ℕ → Type 0
 IsAsked test i rows None = AllNo test rows
-IsAsked test i rows (Some k) = (j : ℕ) × (j < length rows) × (k ≡ i + j)
+IsAsked test i rows (Some k) = (j : ℕ) × (j < length rows) × (k ≡ i + j) × IsYes test (row_at rows j)
 
 pub first_asked-says : (test : ℕ → Row → Counted Bool) (left i : ℕ) (rows : List Row) (r : Option ℕ) (l : ℕ)
     → first_asked test left i rows ≡ Ok (r, l)
@@ -129,20 +136,25 @@ first_asked-says test left i (row ∷ rows) r l h =
     further : (r : Option ℕ) → (k : ℕ) → test left row ≡ Ok (false, k) → IsAsked test (suc i) rows r
         → IsAsked test i (row ∷ rows) r
     further None k e is = ((left, k, e), is)
-    further (Some j) k e is = (suc is.0, omega (arith, is.1), omega (arith, is.2))
+    further (Some j) k e is = (suc is.0, omega (arith, is.1), omega (arith, is.2), is.3)
 
     by_answer : (yes : Bool) (k : ℕ) → test left row ≡ Ok (yes, k)
         → (if yes then Ok (Some i, k) else first_asked test k (suc i) rows) ≡ Ok (r, l)
         → ((k : ℕ) → first_asked test k (suc i) rows ≡ Ok (r, l) → IsAsked test (suc i) rows r)
         → IsAsked test i (row ∷ rows) r
     by_answer true k e h more =
-        let f = same_first (Some i) r k l h in subst (IsAsked test i (row ∷ rows)) f (0, omega arith, omega arith)
+        let f = same_first (Some i) r k l h in
+        subst (IsAsked test i (row ∷ rows)) f
+        (0, omega arith, omega arith, record { left = left; rest = k; says = e })
     by_answer false k e h more = further r k e (more k h)
 
 -- what a step can be: no point, a split or a pivot at a row below 0, such a row that shows no point, a cut, a leaf
 pub record StepCases (n : ℕ) (node : Node) (P : Next → Type 0) : Type 0 where
   pub is_empty : (left k : ℕ) → context_holds left node.parameters node.context ≡ Ok (false, k) → P (ends initial)
-  pub is_split : (r : ℕ) → r < length node.rows → (g : Affine) → opposite_run (part_of n (row_at node.rows r)) ≡ Ok g
+  pub is_split : (r : ℕ) → r < length node.rows
+      → IsYes (λ l row. below_somewhere l node (part_of n row)) (row_at node.rows r)
+      → IsYes (λ l row. above_somewhere l node (part_of n row)) (row_at node.rows r)
+      → (g : Affine) → opposite_run (part_of n (row_at node.rows r)) ≡ Ok g
       → P (splits (part_of n (row_at node.rows r)) (side node (part_of n (row_at node.rows r))) (side node g))
   pub is_pivoted : (r : ℕ) → r < length node.rows → (rows : List Row) → pivot_run n node.rows r ≡ Ok rows
       → P (goes (with_rows node rows))
@@ -164,7 +176,10 @@ treated_by n left node (Some r) next l P many cases is h =
     (λ (yes : Bool) (rest : ℕ). if yes then split rest node f else pivot_or_empty n rest node r) next l h in
     let a = is.1 in
     let b = is.2 in
-    by_answer (omega arith) c.0 c.1 c.2 c.3
+    let same : is.0 ≡ r = omega arith in
+    by_answer (omega arith)
+    (subst (λ (j : ℕ). IsYes (λ l row. below_somewhere l node (part_of n row)) (row_at node.rows j)) same is.3) c.0 c.1
+    c.2 c.3
   where
     by_entries : r < length node.rows → (k : ℕ)
         → above_somewhere left node (part_of n (row_at node.rows r)) ≡ Ok (false, k)
@@ -174,13 +189,16 @@ treated_by n left node (Some r) next l P many cases is h =
     by_entries within k e false none h =
         subst P (same_first (ends initial) next k l h) (cases.is_blocked r left k within e none)
 
-    by_answer : r < length node.rows → (yes : Bool) (k : ℕ)
+    by_answer : r < length node.rows
+        → IsYes (λ l row. below_somewhere l node (part_of n row)) (row_at node.rows r)
+        → (yes : Bool) (k : ℕ)
         → above_somewhere left node (part_of n (row_at node.rows r)) ≡ Ok (yes, k)
         → (if yes then split k node (part_of n (row_at node.rows r)) else pivot_or_empty n k node r) ≡ Ok (next, l)
         → P next
-    by_answer within true k e h =
-        split_by k node (part_of n (row_at node.rows r)) next l P (λ g run. cases.is_split r within g run) h
-    by_answer within false k e h = by_entries within k e (some_positive (row_at node.rows r) 0 n) refl h
+    by_answer within below true k e h =
+        split_by k node (part_of n (row_at node.rows r)) next l P
+        (λ g run. cases.is_split r within below (record { left = left; rest = k; says = e }) g run) h
+    by_answer within below false k e h = by_entries within k e (some_positive (row_at node.rows r) 0 n) refl h
 treated_by n left node None next l P many cases is h =
     let test : ℕ → Row → Counted Bool = λ l row. broken_somewhere l node row.denominator (part_of n row) in
     let c = chained-ok (first_asked test left 0 (take n node.rows))

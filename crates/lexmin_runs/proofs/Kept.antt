@@ -371,7 +371,7 @@ cut_made n node i is below =
           node.bounds k is.placed found in omega arith)
           (λ p here ys size. bound_floor n (row_at node.rows i) p node.bounds k positive (is.bound p here) found ys
           size);
-      is_new = λ new low high run least under. cut_new_keeps n node i new low high is below run least under;
+      is_new = λ some new low high run least under. cut_new_keeps n node i new low high is below run least under;
     }
   where
     positive : pos 0 <ℤ (row_at node.rows i).denominator
@@ -397,7 +397,7 @@ pub step_keeps : (n left : ℕ) (node : Node) (next : Next) (l : ℕ) → IsNode
 step_keeps n left node next l is h =
     step_by n left node next l (Keeps n node) is.tableau.many (record {
       is_empty = λ left k none. ((tt, tt), tt);
-      is_split = λ r within g run.
+      is_split = λ r within below above g run.
           split_made n node (part_of n (row_at node.rows r)) g is (part_size n node r is within) run;
       is_pivoted = λ r within rows run. pivot_made n node r rows is within run;
       is_blocked = λ r left k within below none. ((tt, tt), tt);

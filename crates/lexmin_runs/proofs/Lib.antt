@@ -7,5 +7,6 @@ pub mod Cuts
 pub mod Cases
 pub mod Kept
 pub mod Trees
+pub mod Flat
 pub mod Steps
 pub mod Emptiness

@@ -220,7 +220,7 @@ cut_says n givens node p i serves below =
           node.bounds k serves.is.placed found in omega arith)
           (λ ys size. bound_floor n (row_at node.rows i) p node.bounds k positive (serves.is.bound p serves.inside)
           found ys size);
-      is_new = λ new low high run least under. cut_new n givens node p i new low high serves below run least under;
+      is_new = λ some new low high run least under. cut_new n givens node p i new low high serves below run least under;
     }
   where
     positive : pos 0 <ℤ (row_at node.rows i).denominator
@@ -234,7 +234,7 @@ pub step-says : (n : ℕ) (givens : List (List ℤ)) (left : ℕ) (node : Node) 
 step-says n givens left node p next l serves h =
     step_by n left node next l (IsNext n givens p) serves.stands.many (record {
       is_empty = λ left k none. absurd (context-false left node k p here none);
-      is_split = λ r within g run. split_says r within g run;
+      is_split = λ r within below above g run. split_says r within g run;
       is_pivoted = λ r within rows run. serves_rows n givens node p rows serves
           (pivot_run_keeps n node.parameters r node.rows rows serves.is.tableau within run).0
           (stands_pivot_run n givens node.rows rows p r serves.stands within run);

@@ -8,7 +8,7 @@ ghost use Rattle.tableau_rows.specs.Problem.{IsPoint, problem_of, row_values, Sp
 ghost use Rattle.tableau_rows.specs.Run.{Stop};
 ghost use Rattle.quast_trees.specs.Tree.{Tree, LeavesHave, Speaks as TreeSpeaks};
 ghost use Rattle.quast_trees.specs.Value.{value};
-ghost use Rattle.lexmin_runs.specs.Answers.{IsAnswer};
+ghost use Rattle.lexmin_runs.specs.Answers.{IsAnswer, IsOneLeaf};
 ghost use Rattle.lexmin_runs.specs.Nodes as next;
 ghost use Rattle.lexmin_runs.specs.Nodes.{Frame, resumed, Node, Next, chained, pivot, cut, split, step, followed};
 ghost use Rattle.lexmin_runs.specs.Nodes.{whole, first_node, lexmin_run};
@@ -36,6 +36,15 @@ pub fn trees_are_right()
         → Speaks m context
         → lexmin_run budget m (problem_of n rows) context ≡ Ok (tree, left)
         → LeavesHave n tree }
+{}
+
+/// Without parameters no node splits, and no cut or leaf binds one: the tree of a run is one leaf.
+pub fn trees_without_parameters_are_leaves()
+    ensures { (budget n : ℕ) (rows context : List Affine) (tree : Tree) (left : ℕ)
+        → Speaks n rows
+        → Speaks 0 context
+        → lexmin_run budget 0 (problem_of n rows) context ≡ Ok (tree, left)
+        → IsOneLeaf tree }
 {}
 
 /// A run goes on by its steps: what a loop with a stack of frames keeps.

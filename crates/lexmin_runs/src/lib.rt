@@ -7,5 +7,5 @@ mod laws;
 
 pub use laws::{
     emptiness_is_answered_right, runs_begin_with_their_problem, runs_go_on_by_steps,
-    steps_keep_the_solutions, trees_are_right,
+    steps_keep_the_solutions, trees_are_right, trees_without_parameters_are_leaves,
 };

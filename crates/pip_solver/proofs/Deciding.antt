@@ -1,6 +1,6 @@
 -- A decision of emptiness is the run's.
 use Rattle.std.proofs.Common.{◌≡◌, ℕ, Bool, not, List, [], ◌∷◌, ◌++◌, length, refl, subst, ap, sym, ◌∙◌}
-use Rattle.std.proofs.Common.{append_assoc, inl}
+use Rattle.std.proofs.Common.{◌+◌, arith, inl}
 use Rattle.std.proofs.lemmas.List.{append-nil}
 use Rattle.std.proofs.lemmas.List.Elements.{All-nil, All-cons, All-head, All-tail}
 use Rattle.std.specs.Prelude.{Result, Ok, Err, All}
@@ -9,8 +9,6 @@ use Rattle.wide_math.specs.Checked.{◌>>=◌}
 use Rattle.whole_numbers.specs.Lists.{zeros}
 use Rattle.whole_numbers.proofs.Dot.{length-zeros}
 use Rattle.whole_numbers.specs.Affine.{Affine}
-use Rattle.affine_forms.specs.declared.stop.FormStop.{FormStop}
-use Rattle.affine_forms.specs.declared.stop.FormStop.TheVariants as form_stop
 use Rattle.integer_sets.specs.Constraints.{Constraints, IsSized, variables_in}
 use Rattle.tableau_rows.specs.Problem.{problem_of, first_rows, Speaks}
 use Rattle.tableau_rows.specs.Run.{point, none, wide, Outcome, question, run}
@@ -20,7 +18,8 @@ use Rattle.lexmin_runs.proofs.Emptiness.{posed_points}
 use Rattle.lexmin_runs.proofs.Longer.{all_speak}
 use Rattle.checked_tableau.specs.declared.problem.Problem.{Problem}
 use Rattle.pip_solver.specs.declared.stop.Stop.TheVariants as solver
-use Rattle.pip_solver.specs.Answers.{Poses, Decides, Empties, IsPosed, IsProblem, decided}
+use Rattle.pip_solver.specs.Answers.{Decides, Empties, IsPosed, IsProblem, FormedUntil, decided}
+use Rattle.pip_solver.proofs.Posing.{until-stops}
 
 -- the answer turned
 abbrev pub turned : Counted Bool → Counted Bool
@@ -37,31 +36,22 @@ pub decided_is : (budget n : ℕ) (rows : List Affine)
 unfolding question
 decided_is budget n rows = emptied_is (run n budget (first_rows 0 (problem_of n rows)))
 
--- posing
-pub pose-stops : (U : Type 0) (s : Constraints) (old new : List Affine) (stop : FormStop)
-    → Poses {U = U} old new (Err stop) (equality_rows_run s.equalities) → Poses {U = U} old new (Err stop) (posed_run s)
+-- the posed rows, of which those of the equalities come first
+pub posed_parts : (s : Constraints) (es own : List Affine) → equality_rows_run s.equalities ≡ Ok es
+    → own ≡ s.rows ++ bound_rows (variables_in s) s.dimensions s.parameters → posed_run s ≡ Ok (es ++ own)
 unfolding posed_run
-pose-stops U s old new (form_stop.Wide w) h =
-    ap (λ (q : Result (List Affine) Wide). q >>= λ es.
-    Ok (es ++ (s.rows ++ bound_rows (variables_in s) s.dimensions s.parameters))) h
-pose-stops U s old new form_stop.NoMemory h = tt
+posed_parts s es own formed is =
+    ap (λ (q : Result (List Affine) Wide). q >>= λ es. Ok
+    (es ++ (s.rows ++ bound_rows (variables_in s) s.dimensions s.parameters))) formed
+    ∙ ap (λ (fs : List Affine). Ok (es ++ fs)) (sym is)
 
-pub pose-ends : {U : Type 0} (s : Constraints) (old mid late new es : List Affine) (result : Result U FormStop)
-    → equality_rows_run s.equalities ≡ Ok es → mid ≡ old ++ es → late ≡ mid ++ s.rows
-    → Poses late new result (Ok (bound_rows (variables_in s) s.dimensions s.parameters))
-    → Poses old new result (posed_run s)
-unfolding posed_run
-pose-ends s old mid late new es (Ok x) formed first second poses =
-    let bounds = bound_rows (variables_in s) s.dimensions s.parameters in
-    let e : bounds ≡ poses.0 = cc (poses.1) in (
-      es ++ (s.rows ++ bounds),
-      ap (λ (q : Result (List Affine) Wide). q >>= λ es. Ok (es ++ (s.rows ++ bounds))) formed,
-      poses.2 ∙ ap (λ (zs : List Affine). zs ++ poses.0) (second ∙ ap (λ (zs : List Affine). zs ++ s.rows) first)
-          ∙ append_assoc (old ++ es) s.rows poses.0 ∙ append_assoc old es (s.rows ++ poses.0)
-          ∙ ap (λ (bs : List Affine). old ++ (es ++ (s.rows ++ bs))) (sym e),
-    )
-pose-ends s old mid late new es (Err (form_stop.Wide w)) formed first second poses = cc
-pose-ends s old mid late new es (Err form_stop.NoMemory) formed first second poses = tt
+-- without parameters there are no bounds
+pub posed_flat : (s : Constraints) (es own : List Affine) → s.parameters ≡ 0 → own ≡ s.rows
+    → equality_rows_run s.equalities ≡ Ok es → posed_run s ≡ Ok (es ++ own)
+posed_flat s es own flat is formed =
+    posed_parts s es own formed
+    (is ∙ sym (append-nil s.rows)
+    ∙ sym (ap (λ (k : ℕ). s.rows ++ bound_rows (variables_in s) s.dimensions k) flat))
 
 -- forms in the code's slice, and their number of variables in the code's number
 pub speaks_at : (m k : ℕ) (fs gs : List Affine) → Speaks m fs → gs ≡ fs → k ≡ m
@@ -70,36 +60,39 @@ speaks_at m k fs gs speaks is same =
     subst (λ (hs : List Affine). All (λ f. length f.coefficients ≡ k) hs) (sym is)
     (subst (λ (n : ℕ). All (λ f. length f.coefficients ≡ n) fs) (sym same) (all_speak m fs speaks))
 
-pub posed_sized : (s : Constraints) (rows : List Affine) → IsSized (variables_in s) s.equalities s.rows
-    → posed_run s ≡ Ok rows → All (λ f. length f.coefficients ≡ variables_in s) rows
-posed_sized s rows sized posed =
-    all_speak (variables_in s) rows
+pub posed_sized : (s : Constraints) (n : ℕ) (rows : List Affine) → IsSized (variables_in s) s.equalities s.rows
+    → posed_run s ≡ Ok rows → n ≡ variables_in s → All (λ f. length f.coefficients ≡ n) rows
+posed_sized s n rows sized posed same =
+    subst (λ (k : ℕ). All (λ f. length f.coefficients ≡ k) rows) (sym same)
+    (all_speak (variables_in s) rows
     (posed_points s rows (zeros s.dimensions) (zeros s.parameters) sized posed (length-zeros s.dimensions)
-    (length-zeros s.parameters)).0
+    (length-zeros s.parameters)).0)
 
--- without parameters there are no bounds
-pub posed_flat : (s : Constraints) (es : List Affine) → s.parameters ≡ 0 → equality_rows_run s.equalities ≡ Ok es
-    → posed_run s ≡ Ok (es ++ s.rows)
-unfolding posed_run
-posed_flat s es flat formed =
-    ap (λ (q : Result (List Affine) Wide). q >>= λ es. Ok
-    (es ++ (s.rows ++ bound_rows (variables_in s) s.dimensions s.parameters))) formed
-    ∙ ap (λ (k : ℕ). Ok (es ++ (s.rows ++ bound_rows (variables_in s) s.dimensions k))) flat
-    ∙ ap (λ (fs : List Affine). Ok (es ++ fs)) (append-nil s.rows)
-
--- the first part's forms are sized as all are
+-- the forms of each of two parts
 all_front : {X : Type 0} (P : X → Type 0) (xs ys : List X) → All P (xs ++ ys) → All P xs
 all_front P [] ys all = All-nil P
 all_front P (x ∷ xs) ys all =
     All-cons P x xs (All-head P x (xs ++ ys) all) (all_front P xs ys (All-tail P x (xs ++ ys) all))
 
-pub front_sized : (s : Constraints) (n : ℕ) (es : List Affine) → IsSized (variables_in s) s.equalities s.rows
-    → posed_run s ≡ Ok (es ++ s.rows) → n ≡ variables_in s
-    → All (λ f. length f.coefficients ≡ n) es
-front_sized s n es sized posed same =
-    subst (λ (k : ℕ). All (λ f. length f.coefficients ≡ k) es) (sym same)
-    (all_front (λ f. length f.coefficients ≡ variables_in s) es s.rows (posed_sized s (es ++ s.rows) sized posed))
+all_behind : {X : Type 0} (P : X → Type 0) (xs ys : List X) → All P (xs ++ ys) → All P ys
+all_behind P [] ys all = all
+all_behind P (x ∷ xs) ys all = all_behind P xs ys (All-tail P x (xs ++ ys) all)
 
+sized_at : (n : ℕ) (fs gs : List Affine) → All (λ f. length f.coefficients ≡ n) gs → fs ≡ gs
+    → All (λ f. length f.coefficients ≡ n + 0) fs
+sized_at n fs gs all is =
+    subst (λ (hs : List Affine). All (λ f. length f.coefficients ≡ n + 0) hs) (sym is)
+    (subst (λ (k : ℕ). All (λ f. length f.coefficients ≡ k) gs) (omega arith) all)
+
+pub front_sized : (n : ℕ) (fs front own : List Affine) → All (λ f. length f.coefficients ≡ n) (front ++ own)
+    → fs ≡ front → All (λ f. length f.coefficients ≡ n + 0) fs
+front_sized n fs front own all is = sized_at n fs front (all_front (λ f. length f.coefficients ≡ n) front own all) is
+
+pub own_sized : (n : ℕ) (front own : List Affine) → All (λ f. length f.coefficients ≡ n) (front ++ own)
+    → All (λ f. length f.coefficients ≡ n + 0) own
+own_sized n front own all = sized_at n own own (all_behind (λ f. length f.coefficients ≡ n) front own all) refl
+
+-- the decision of the posed rows is the system's
 empty_rows : (budget n : ℕ) (s : Constraints) (rows : List Affine) → posed_run s ≡ Ok rows → n ≡ variables_in s
     → empty_run budget s ≡ decided budget n rows
 unfolding empty_run
@@ -138,6 +131,13 @@ empties_rows budget n s rows (Err (solver.Spent told moves)) posed same decides 
 empties_rows budget n s rows (Err solver.NoMemory) posed same decides = tt
 
 -- a number that is too wide before the problem is posed
+pub unposed : (s : Constraints) (w : Wide) (rows : List Affine) → FormedUntil w s.equalities rows
+    → posed_run s ≡ Err w
+unfolding posed_run
+unposed s w rows until =
+    ap (λ (q : Result (List Affine) Wide). q >>= λ es. Ok
+    (es ++ (s.rows ++ bound_rows (variables_in s) s.dimensions s.parameters))) (until-stops w s.equalities rows until)
+
 pub empty_unposed : (budget : ℕ) (s : Constraints) (w : Wide) → posed_run s ≡ Err w
     → empty_run budget s ≡ Err (wide w budget)
 unfolding empty_run

@@ -8,3 +8,4 @@ pub mod Leaf_trees
 pub mod Framing
 pub mod Advancing
 pub mod Minimum_of
+pub mod Pointing

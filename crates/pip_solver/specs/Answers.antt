@@ -1,11 +1,10 @@
 -- When an answer of the solver is its run's, and what a stop tells.
 use Rattle.std.specs.Prelude.{◌≡◌, ℕ, suc, ◌+◌, ◌⊎◌, ◌<◌, length, Bool, List, [], ◌∷◌, ◌++◌, None, Result, Ok, Err, ⊤}
 use Rattle.wide_math.specs.declared.Wide.{Wide}
-use Rattle.wide_math.specs.Checked.{◌>>=◌}
 use Rattle.whole_numbers.specs.Affine.{Affine}
 use Rattle.affine_forms.specs.declared.stop.FormStop.{FormStop}
 use Rattle.affine_forms.specs.declared.stop.FormStop.TheVariants as form_stop
-use Rattle.lexmin_runs.specs.Emptiness.{negated_run, posed_run, emptied, empty_run}
+use Rattle.lexmin_runs.specs.Emptiness.{negated_run, equality_rows_run, posed_run, emptied, empty_run}
 use Rattle.integer_sets.specs.Constraints.{Constraints, variables_in}
 use Rattle.tableau_rows.specs.Problem.{problem_of, Speaks}
 use Rattle.checked_tableau.specs.declared.problem.Problem.{Problem}
@@ -43,15 +42,20 @@ Advances old left new rest (Err stop.Wide) = (w : Wide) × (run.run old.unknowns
 Advances old left new rest (Err stop.Spent) = (run.run old.unknowns left old.rows ≡ Err run.spent) × (rest ≡ 0)
 Advances old left new rest (Err stop.NoMemory) = ⊤
 
--- the two rows of an equality
-abbrev pub equality_run : Affine → Result (List Affine) Wide
-equality_run f = negated_run f >>= λ g. Ok (f ∷ g ∷ [])
+-- rows of the equalities in front of the first whose opposite is too wide
+pub record FormedUntil (w : Wide) (equalities rows : List Affine) : Type 0 where
+  pub front : List Affine
+  pub equality : Affine
+  pub behind : List Affine
+  pub whole : equalities ≡ front ++ equality ∷ behind
+  pub formed : equality_rows_run front ≡ Ok rows
+  pub wide : negated_run equality ≡ Err w
 
--- rows that a run gives are appended, or it names the number that is too wide; want of memory is free
-abbrev pub Poses : {U : Type 0} → List Affine → List Affine → Result U FormStop → Result (List Affine) Wide → Type 0
-Poses old new (Ok _) run = (more : List Affine) × (run ≡ Ok more) × (new ≡ old ++ more)
-Poses old new (Err (form_stop.Wide w)) run = run ≡ Err w
-Poses old new (Err form_stop.NoMemory) run = ⊤
+-- the rows of equalities are formed, or those in front of the first number that is too wide; want of memory is free
+abbrev pub Forms : {U : Type 0} → Result U FormStop → List Affine → List Affine → Type 0
+Forms (Ok _) equalities rows = equality_rows_run equalities ≡ Ok rows
+Forms (Err (form_stop.Wide w)) equalities rows = FormedUntil w equalities rows
+Forms (Err form_stop.NoMemory) equalities rows = ⊤
 
 -- the problem of n unknowns and of rows, without parameters
 pub record IsProblem (n : ℕ) (fs : List Affine) (posed : Problem) : Type 0 where
@@ -81,12 +85,20 @@ pub record IsPosed (s : Constraints) (posed : Problem) : Type 0 where
   pub rows : posed_run s ≡ Ok posed.rows.items
   pub context : posed.context.items ≡ []
 
--- an answer is the run's on the system; a stop tells the posed problem, as far as its numbers fit, and the moves made
+-- the problem of the rows that a system's equalities form in front of the first number that is too wide
+pub record IsBegun (s : Constraints) (w : Wide) (posed : Problem) : Type 0 where
+  pub unknowns : posed.unknowns ≡ variables_in s
+  pub parameters : posed.parameters ≡ 0
+  pub rows : FormedUntil w s.equalities posed.rows.items
+  pub context : posed.context.items ≡ []
+
+-- an answer is the run's on the system; a stop tells the posed problem, or before any move the part of it that is
+-- formed, and the moves made
 abbrev pub Empties : Result Bool solver.the_data → ℕ → Constraints → Type 0
 Empties (Ok empty) budget s = (left : ℕ) × (empty_run budget s ≡ Ok (empty, left))
 Empties (Err (solver.Wide posed moves)) budget s =
     (w : Wide) × (left : ℕ) × (empty_run budget s ≡ Err (run.wide w left)) × (moves + left ≡ budget)
-    × (IsPosed s posed ⊎ (posed_run s ≡ Err w))
+    × (IsPosed s posed ⊎ ((posed_run s ≡ Err w) × IsBegun s w posed × (moves ≡ 0)))
 Empties (Err (solver.Spent posed moves)) budget s =
     (empty_run budget s ≡ Err run.spent) × (moves ≡ budget) × IsPosed s posed
 Empties (Err solver.NoMemory) budget s = ⊤

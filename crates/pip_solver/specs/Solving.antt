@@ -1,10 +1,14 @@
 -- When the quast of a problem is its run's, and what a stop tells.
-use Rattle.std.specs.Prelude.{◌≡◌, ℕ, ◌+◌, length, All, Result, Ok, Err, ⊤}
+use Rattle.std.specs.Prelude.{◌≡◌, ℕ, ◌+◌, ℤ, [], length, All, Option, Some, None, Result, Ok, Err, Vec, ⊤}
+use Rattle.std.specs.declared.alloc.Global.{Global}
 use Rattle.wide_math.specs.declared.Wide.{Wide}
 use Rattle.tableau_rows.specs.Problem.{problem_of}
 use Rattle.tableau_rows.specs.Run as run
 use Rattle.quast_trees.specs.Tree.{Tree}
 use Rattle.quast_trees.specs.Postfix.{Postfix, tree_of}
+use Rattle.quast_trees.specs.Source.{Source}
+use Rattle.quast_trees.specs.Leaf.{Leaf, initial, found}
+use Rattle.quast_trees.specs.Value.{value}
 use Rattle.lexmin_runs.specs.Nodes.{Counted, lexmin_run}
 use Rattle.checked_tableau.specs.declared.problem.Problem.{Problem}
 use Rattle.pip_solver.specs.declared.stop.Stop.TheVariants as solver
@@ -42,3 +46,14 @@ Counts (Ok solution) budget problem =
     (left : ℕ) × (solved budget problem ≡ Ok (tree_of solution.quast, left)) × (solution.moves + left ≡ budget)
     × (solution.quast.parameters ≡ problem.parameters)
 Counts (Err stop) budget problem = Stops stop budget problem
+
+-- the point that a leaf gives; none where it is the initial one
+abbrev pub IsGiven : Option (Vec ℤ Global) → Leaf → Type 0
+IsGiven None leaf = leaf ≡ initial
+IsGiven (Some point) leaf = (source : Option Source) × (leaf ≡ found source point.items)
+
+-- an answer is what the run's tree gives where there are no parameters
+abbrev pub Finds : Result (Option (Vec ℤ Global)) solver.the_data → ℕ → Problem → Type 0
+Finds (Ok point) budget problem =
+    (tree : Tree) × (left : ℕ) × (solved budget problem ≡ Ok (tree, left)) × IsGiven point (value tree [])
+Finds (Err stop) budget problem = Stops stop budget problem

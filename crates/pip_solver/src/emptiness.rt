@@ -6,9 +6,9 @@ ghost use Rattle.whole_numbers.specs.Affine.{form_of};
 ghost use Rattle.affine_forms.specs.Parts.{variables_of};
 ghost use Rattle.integer_sets.specs.Constraints.{IsSized, variables_in};
 ghost use Rattle.whole_numbers.specs.Lists.{zeros};
-ghost use Rattle.lexmin_runs.specs.Emptiness.{negated_run, equality_rows_run, bound_rows, posed_run, IsBoundedPoint};
-ghost use Rattle.lexmin_runs.specs.Emptiness.{HasBoundedPoint};
-ghost use Rattle.pip_solver.specs.Answers.{Decides, IsProblem, Empties, Poses, equality_run};
+ghost use Rattle.lexmin_runs.specs.Emptiness.{negated_run, equality_rows_run, bound_rows};
+ghost use Rattle.lexmin_runs.specs.Emptiness.{IsBoundedPoint, HasBoundedPoint};
+ghost use Rattle.pip_solver.specs.Answers.{Decides, IsProblem, Empties, Forms};
 
 use crate::lists::{push, push_copy};
 use crate::question::{QuestionStop, question};
@@ -48,39 +48,30 @@ fn push_both(rows: &mut Vec<Form>, form: &Form, second: Form) -> Result<(), Allo
     }
 }
 
-/// Appends the two rows of an equality: the form, and the form with each sign turned.
-fn pose_equality(alloc: Global, rows: &mut Vec<Form>, form: &Form) -> Result<(), FormStop>
-    ensures { Poses rows.old.items rows.new.items result (equality_run form.now) }
-{
-    match negated(alloc, form) {
-        Err(stop) => Err(stop),
-        Ok(second) => match push_both(rows, form, second) {
-            Err(_) => Err(FormStop::NoMemory),
-            Ok(()) => Ok(()),
-        },
-    }
-}
-
-/// Appends the rows of equalities.
+/// Forms the rows of equalities: of each the form, and the form with each sign turned.
 fn pose_equalities(alloc: Global, rows: &mut Vec<Form>, forms: &[Form]) -> Result<(), FormStop>
-    ensures { Poses rows.old.items rows.new.items result (equality_rows_run forms.now) }
+    requires { rows.old.items ≡ [] }
+    ensures { Forms result forms.now rows.new.items }
 {
     for form in forms {
-        match pose_equality(alloc, rows, form) {
+        match negated(alloc, form) {
             Err(stop) => return Err(stop),
-            Ok(()) => {}
+            Ok(second) => match push_both(rows, form, second) {
+                Err(_) => return Err(FormStop::NoMemory),
+                Ok(()) => {}
+            },
         }
     }
     Ok(())
 }
 
 /// Appends copies of forms.
-fn pose_rows(rows: &mut Vec<Form>, forms: &[Form]) -> Result<(), FormStop>
-    ensures { Poses rows.old.items rows.new.items result (Ok forms.now) }
+fn push_copies(rows: &mut Vec<Form>, forms: &[Form]) -> Result<(), AllocError>
+    ensures { OnOk result (rows.new.items ≡ rows.old.items ++ forms.now) }
 {
     for form in forms {
         match push_copy(rows, form) {
-            Err(_) => return Err(FormStop::NoMemory),
+            Err(error) => return Err(error),
             Ok(()) => {}
         }
     }
@@ -88,62 +79,58 @@ fn pose_rows(rows: &mut Vec<Form>, forms: &[Form]) -> Result<(), FormStop>
 }
 
 /// 65536 less a variable.
-fn bound(alloc: Global, variables: usize, place: usize) -> Result<Form, FormStop>
+fn bound(alloc: Global, variables: usize, place: usize) -> Result<Form, AllocError>
     requires { place < variables }
-    ensures { Gives (λ f. f) result (Ok (form_of (set (zeros variables) place (negsuc 0)) (pos 65536))) }
+    ensures { IfOk result (λ f. f ≡ form_of (set (zeros variables) place (negsuc 0)) (pos 65536)) }
 {
     let mut coefficients = match Vec::from_elem(alloc, 0i128, variables) {
-        Err(_) => return Err(FormStop::NoMemory),
+        Err(error) => return Err(error),
         Ok(coefficients) => coefficients,
     };
     coefficients[place] = -1;
-    Form::of(alloc, &coefficients, 65536)
+    match Form::of(alloc, &coefficients, 65536) {
+        Err(_) => Err(AllocError),
+        Ok(form) => Ok(form),
+    }
 }
 
 /// Appends the bounds of the last variables.
-fn pose_bounds(
+fn push_bounds(
     alloc: Global,
     rows: &mut Vec<Form>,
     variables: usize,
     first: usize,
-) -> Result<(), FormStop>
+) -> Result<(), AllocError>
     requires { first ≤ variables }
-    ensures { Poses rows.old.items rows.new.items result (Ok (bound_rows variables first (variables - first))) }
+    ensures { OnOk result (rows.new.items ≡ rows.old.items ++ bound_rows variables first (variables - first)) }
 {
     for place in first..variables {
-        let form = match bound(alloc, variables, place) {
-            Err(stop) => return Err(stop),
-            Ok(form) => form,
-        };
-        match push(rows, form) {
-            Err(_) => return Err(FormStop::NoMemory),
-            Ok(()) => {}
+        match bound(alloc, variables, place) {
+            Err(error) => return Err(error),
+            Ok(form) => match push(rows, form) {
+                Err(error) => return Err(error),
+                Ok(()) => {}
+            },
         }
     }
     Ok(())
 }
 
-/// Appends the rows of a system: its equalities' pairs, its own, and last the bounds of its parameters.
-fn pose(
-    alloc: Global,
-    rows: &mut Vec<Form>,
-    system: &System,
-    variables: usize,
-) -> Result<(), FormStop>
+/// The rows of a system behind its equalities' pairs: its own, and last the bounds of its parameters.
+fn bounded_rows(alloc: Global, system: &System, variables: usize) -> Result<Vec<Form>, AllocError>
     requires { variables ≡ variables_in system.now }
-    ensures poses { Poses rows.old.items rows.new.items result (posed_run system.now) }
-    ensures sized { IsSized variables system.now.equalities system.now.rows }
+    ensures { IfOk result (λ v. v.items
+        ≡ system.now.rows ++ bound_rows variables system.now.dimensions system.now.parameters) }
 {
-    let own = system.rows();
-    match pose_equalities(alloc, rows, system.equalities()) {
-        Err(stop) => return Err(stop),
+    let mut rows = Vec::new(alloc);
+    match push_copies(&mut rows, system.rows()) {
+        Err(error) => return Err(error),
         Ok(()) => {}
     }
-    match pose_rows(rows, own) {
-        Err(stop) => return Err(stop),
-        Ok(()) => {}
+    match push_bounds(alloc, &mut rows, variables, system.dimensions()) {
+        Err(error) => Err(error),
+        Ok(()) => Ok(rows),
     }
-    pose_bounds(alloc, rows, variables, system.dimensions())
 }
 
 /// The problem of rows in two parts, which a stop tells.
@@ -156,8 +143,8 @@ fn told(
     ensures { IfOk result (IsProblem unknowns (front.items ++ own.now)) }
 {
     let mut rows = front;
-    match pose_rows(&mut rows, own) {
-        Err(_) => Err(AllocError),
+    match push_copies(&mut rows, own) {
+        Err(error) => Err(error),
         Ok(()) => Ok(Problem {
             unknowns,
             parameters: 0,
@@ -175,8 +162,7 @@ fn decide(
     own: &[Form],
     budget: u64,
 ) -> Result<bool, Stop>
-    requires front { All (λ f. variables_of f ≡ unknowns) front.items }
-    requires own { All (λ f. variables_of f ≡ unknowns) own.now }
+    requires { All (λ f. variables_of f ≡ unknowns) (front.items ++ own.now) }
     ensures { Decides result budget unknowns (front.items ++ own.now) }
 {
     let mut rows = match Rows::of(alloc, unknowns, 0, &front, own) {
@@ -208,16 +194,43 @@ fn decide(
     }
 }
 
-/// The same as `is_empty`, of a system without parameters.
-fn is_empty_flat(alloc: Global, system: &System, budget: u64) -> Result<bool, Stop>
-    requires { system.now.parameters ≡ 0 }
+/// Whether a system has no point, with the rows of its equalities in hand, and its own.
+fn decide_system(
+    alloc: Global,
+    system: &System,
+    unknowns: usize,
+    front: Vec<Form>,
+    own: &[Form],
+    budget: u64,
+) -> Result<bool, Stop>
+    requires unknowns { unknowns ≡ variables_in system.now }
+    requires own { own.now ≡ system.now.rows }
+    requires front { equality_rows_run system.now.equalities ≡ Ok front.items }
+    requires sized { IsSized (variables_in system.now) system.now.equalities system.now.rows }
+    ensures { Empties result budget system.now }
+{
+    if system.parameters() == 0 {
+        return decide(alloc, unknowns, front, own, budget);
+    }
+    match bounded_rows(alloc, system, unknowns) {
+        Err(_) => Err(Stop::NoMemory),
+        Ok(bounded) => decide(alloc, unknowns, front, &bounded, budget),
+    }
+}
+
+/// The answer of `is_empty`, as its run gives it.
+fn answer(alloc: Global, system: &System, budget: u64) -> Result<bool, Stop>
     ensures run { Empties result budget system.now }
     ensures sized { IsSized (variables_in system.now) system.now.equalities system.now.rows }
 {
-    let unknowns = system.dimensions();
+    let equalities = system.equalities();
     let own = system.rows();
+    let unknowns = match system.dimensions().checked_add(system.parameters()) {
+        None => return Err(Stop::NoMemory),
+        Some(unknowns) => unknowns,
+    };
     let mut front = Vec::new(alloc);
-    match pose_equalities(alloc, &mut front, system.equalities()) {
+    match pose_equalities(alloc, &mut front, equalities) {
         Err(FormStop::NoMemory) => Err(Stop::NoMemory),
         Err(FormStop::Wide(_)) => {
             let posed = Problem {
@@ -228,12 +241,13 @@ fn is_empty_flat(alloc: Global, system: &System, budget: u64) -> Result<bool, St
             };
             Err(Stop::Wide { posed, moves: 0 })
         }
-        Ok(()) => decide(alloc, unknowns, front, own, budget),
+        Ok(()) => decide_system(alloc, system, unknowns, front, own, budget),
     }
 }
 
 /// Whether no whole point with dimensions from 0 on and parameters in 0..=65536 satisfies the system, in so many
-/// moves. The posed problem has the dimensions, then the parameters, as its unknowns.
+/// moves. The posed problem has the dimensions, then the parameters, as its unknowns; where an equality's opposite is
+/// too wide, it has the rows of the equalities before.
 ///
 /// # Errors
 /// `Wide` and `Spent` exactly where the run stops so, after so many moves; `NoMemory`.
@@ -242,25 +256,5 @@ pub fn is_empty(alloc: Global, system: &System, budget: u64) -> Result<bool, Sto
     ensures empty { result ≡ Ok true → (x p : List ℤ) → IsBoundedPoint system.now x p → ⊥ }
     ensures point { result ≡ Ok false → HasBoundedPoint system.now }
 {
-    if system.parameters() == 0 {
-        return is_empty_flat(alloc, system, budget);
-    }
-    let unknowns = match system.dimensions().checked_add(system.parameters()) {
-        None => return Err(Stop::NoMemory),
-        Some(unknowns) => unknowns,
-    };
-    let mut rows = Vec::new(alloc);
-    match pose(alloc, &mut rows, system, unknowns) {
-        Err(FormStop::NoMemory) => Err(Stop::NoMemory),
-        Err(FormStop::Wide(_)) => {
-            let posed = Problem {
-                unknowns,
-                parameters: 0,
-                rows,
-                context: Vec::new(alloc),
-            };
-            Err(Stop::Wide { posed, moves: 0 })
-        }
-        Ok(()) => decide(alloc, unknowns, rows, &[], budget),
-    }
+    answer(alloc, system, budget)
 }

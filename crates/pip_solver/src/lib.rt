@@ -10,6 +10,7 @@ mod leaf;
 mod lists;
 mod looking;
 mod minimum;
+mod point;
 mod question;
 mod run;
 mod step;
@@ -17,4 +18,5 @@ mod stop;
 
 pub use emptiness::is_empty;
 pub use minimum::{Solution, lexmin, solve};
+pub use point::least_point;
 pub use stop::Stop;

@@ -1,8 +1,7 @@
-use Rattle.std.proofs.Common.{◌≡◌, ◌∙◌, ap, subst, ℤ, List, pos, set}
-use Rattle.std.specs.Prelude.{negsuc, Ok}
+use Rattle.std.proofs.Common.{◌≡◌, ◌∙◌, ap, sym, ℤ, List, pos, set}
+use Rattle.std.specs.Prelude.{negsuc}
 use Rattle.whole_numbers.specs.Lists.{zeros}
-use Rattle.whole_numbers.specs.Affine.{Affine, form_of}
-use Rattle.affine_forms.specs.Gives.{Gives}
+use Rattle.whole_numbers.specs.Affine.{form_of}
 use Rattle.tableau_rows.proofs.Buffers.{zeros-replicate}
 use Rattle.pip_solver.proofs.emptiness.bound.Goals as goal
 
@@ -11,5 +10,5 @@ returns c =
     let z = c.in-Ok.ensures.items_if_clones_equal (λ y e. e) ∙ zeros-replicate c.args.variables in
     let line : c.deref.result.now ≡ set (zeros c.args.variables) c.args.place (negsuc 0) =
     c.deref.ensures.value ∙ ap (λ (zs : List ℤ). set zs c.args.place (negsuc 0)) z in
-    subst (λ (zs : List ℤ). Gives {X = Affine} {Y = Affine} (λ f. f) c.of.result (Ok (form_of zs (pos 65536)))) line
-    c.of.ensures.form
+    let made : form_of c.deref.result.now (pos 65536) ≡ c.in-Ok-of.form = cc (c.in-Ok-of.ensures.form) in
+    sym made ∙ ap (λ (zs : List ℤ). form_of zs (pos 65536)) line

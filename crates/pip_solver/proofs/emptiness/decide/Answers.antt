@@ -6,9 +6,16 @@ use Rattle.lexmin_runs.specs.Nodes.{Counted, answered}
 use Rattle.checked_tableau.specs.Table.{Table, table_of}
 use Rattle.pip_solver.specs.Answers.{Tells}
 use Rattle.pip_solver.specs.declared.question.QuestionStop.{QuestionStop}
-use Rattle.pip_solver.proofs.Deciding.{decided_is, turned}
+use Rattle.pip_solver.proofs.Deciding.{decided_is, turned, front_sized, own_sized}
 use Rattle.pip_solver.proofs.emptiness.decide.Goals as goal
 use Rattle.pip_solver.proofs.emptiness.decide.Goals.{After-question}
+
+pub of-requires-clause-forms : goal.of-requires-clause-forms
+of-requires-clause-forms c =
+    front_sized c.args.unknowns c.deref.result.now c.args.front.items c.args.own.now c.requires c.deref.ensures.value
+
+pub of-requires-clause-more : goal.of-requires-clause-more
+of-requires-clause-more c = own_sized c.args.unknowns c.args.front.items c.args.own.now c.requires
 
 -- the question is that of both parts
 abbrev asked : After-question → Counted Bool

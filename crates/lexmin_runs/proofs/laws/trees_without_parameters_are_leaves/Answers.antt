@@ -1,0 +1,5 @@
+use Rattle.lexmin_runs.proofs.Flat.{lexmin-alone}
+use Rattle.lexmin_runs.proofs.laws.trees_without_parameters_are_leaves.Goals as goal
+
+pub returns : goal.returns
+returns c = lexmin-alone
