@@ -90,6 +90,24 @@ fn form_or_zero(alloc: Global, formula: &Formula, entries: usize) -> Result<Aff,
     }
 }
 
+// The form of a further subscript of a place without fault, behind those of the others.
+fn push_form(
+    alloc: Global,
+    subscript: &Formula,
+    entries: usize,
+    forms: &mut Vec<Aff>,
+) -> Result<(), AllocError>
+    ensures { OnOk result ((p : Tree) (xs : List Affine)
+        → (first (place_faults entries p) ≡ None → forms.old.items ≡ xs ++ subscript_forms entries p)
+        → first (place_faults entries (index p (formula_of subscript.now))) ≡ None
+        → forms.new.items ≡ xs ++ subscript_forms entries (index p (formula_of subscript.now))) }
+{
+    match form_or_zero(alloc, subscript, entries) {
+        Err(_) => Err(AllocError),
+        Ok(form) => push_behind(forms, form),
+    }
+}
+
 // The forms of further subscripts of a place without fault, behind those of the others.
 fn push_forms(
     alloc: Global,
@@ -103,11 +121,7 @@ fn push_forms(
         → forms.new.items ≡ xs ++ subscript_forms entries (fold index p (map formula_of subscripts.now))) }
 {
     for subscript in subscripts {
-        let form = match form_or_zero(alloc, subscript, entries) {
-            Err(_) => return Err(AllocError),
-            Ok(form) => form,
-        };
-        match push_behind(forms, form) {
+        match push_form(alloc, subscript, entries, forms) {
             Err(_) => return Err(AllocError),
             Ok(()) => {}
         }
@@ -127,10 +141,15 @@ fn push_subscripts(
 {
     match place {
         Formula::Index(inner, earlier, last) => {
-            push_subscripts(alloc, inner, entries, forms)?;
-            push_forms(alloc, earlier, entries, forms)?;
-            let form = form_or_zero(alloc, last, entries)?;
-            push_behind(forms, form)
+            match push_subscripts(alloc, inner, entries, forms) {
+                Err(_) => return Err(AllocError),
+                Ok(()) => {}
+            }
+            match push_forms(alloc, earlier, entries, forms) {
+                Err(_) => return Err(AllocError),
+                Ok(()) => {}
+            }
+            push_form(alloc, last, entries, forms)
         }
         Formula::Constant(_, _, _) => Ok(()),
         Formula::Name(_, _) => Ok(()),
@@ -528,21 +547,24 @@ pub fn push_read_places(formula: &Formula, places: &mut Vec<usize>) -> Result<()
     ensures { OnOk result (places.new.items ≡ places.old.items ++ read_places (formula_of formula.now)) }
 {
     match formula {
-        Formula::Index(inner, _, _) => {
-            places.push(place(inner))?;
-            Ok(())
-        }
+        Formula::Index(inner, _, _) => push_behind(places, place(inner)),
         Formula::Unary(_, operand, _) => push_read_places(operand, places),
         Formula::Cast(operand, _) => push_read_places(operand, places),
         Formula::Commas(first, between, last, _) => {
-            push_read_places(first, places)?;
-            push_places(between, places)?;
+            match push_read_places(first, places) {
+                Err(_) => return Err(AllocError),
+                Ok(()) => {}
+            }
+            match push_places(between, places) {
+                Err(_) => return Err(AllocError),
+                Ok(()) => {}
+            }
             push_read_places(last, places)
         }
-        Formula::Binary(_, left, right, _) => {
-            push_read_places(left, places)?;
-            push_read_places(right, places)
-        }
+        Formula::Binary(_, left, right, _) => match push_read_places(left, places) {
+            Err(_) => Err(AllocError),
+            Ok(()) => push_read_places(right, places),
+        },
         Formula::Constant(_, _, _) => Ok(()),
         Formula::Name(_, _) => Ok(()),
         Formula::BareCall(_, _) => Ok(()),
