@@ -1,5 +1,5 @@
 //! What is known of a constant or a name, and of a subscript, a call, a sign or a cast from what is known of its parts.
-ghost use Rattle.std.specs.Prelude.{◌≡◌, ℕ, IfOk, Ok};
+ghost use Rattle.std.specs.Prelude.{◌≡◌, ℕ, IfOk};
 ghost use Rattle.scop_roles.specs.declared.formula.Role.TheVariants as role;
 ghost use Rattle.scop_roles.specs.Faults.{called, faults, first, first_of, told};
 ghost use Rattle.scop_roles.specs.Forms.{is_signed};
@@ -11,6 +11,7 @@ use crate::fault::{Fault, first_of, part_or_own, told};
 use crate::forms::{constant_form, multiple, variable_form};
 use crate::formula::{Meaning, Role};
 use crate::judgement::{Faults, Judgement};
+use crate::pairs::both;
 use crate::roles::{
     MOST_CONSTANT, called, cast_role, is_between, is_number, is_plain, named, operand_role,
     own_call, own_cast, own_constant, own_index, own_name, own_unary, rank,
@@ -177,29 +178,6 @@ fn indexed(place: &Judgement, subscript: &Judgement) -> Judgement
             free: index_fault(Role::Free, place, subscript),
         },
         form: None,
-    }
-}
-
-// Both, where there was memory for both.
-pub(crate) fn both(
-    first: Result<Judgement, AllocError>,
-    second: Result<Judgement, AllocError>,
-) -> Result<(Judgement, Judgement), AllocError>
-    ensures first { IfOk result (λ pair. first ≡ Ok pair.0) }
-    ensures second { IfOk result (λ pair. second ≡ Ok pair.1) }
-{
-    match first {
-        Err(_) => {
-            drop(second);
-            Err(AllocError)
-        }
-        Ok(first) => match second {
-            Err(_) => {
-                drop(first);
-                Err(AllocError)
-            }
-            Ok(second) => Ok((first, second)),
-        },
     }
 }
 

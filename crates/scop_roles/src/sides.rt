@@ -11,7 +11,7 @@ use crate::fault::{Fault, Kind, first_of, part_or_own};
 use crate::forms::{is_within, multiple, sum};
 use crate::formula::Role;
 use crate::judgement::{Faults, Judgement};
-use crate::nodes::both;
+use crate::pairs::both;
 use crate::roles::{is_product, is_sum_or_product, own_joined, side_role};
 use expression_grammar::token::Op;
 use scop_syntax::tree::Aff;
