@@ -1,14 +1,15 @@
 //! The line of data that was refused.
 
-ghost use Rattle.std.specs.Prelude.{◌≡◌, ◌++◌, [], codes, option_map};
+ghost use Rattle.std.specs.Prelude.{◌≡◌, codes, option_map};
 ghost use Rattle.scop_syntax.specs.View.{program_of};
 ghost use Rattle.io_ports.specs.Writes.{Puts};
-ghost use Rattle.report_text.specs.StatusText.{array_name, count_text, data_text, dimension_text, numbered};
-ghost use Rattle.report_text.specs.StatusText.{parameter_name, value_line};
+ghost use Rattle.report_text.specs.StatusText.{array_name, count_text, data_text, extent_text, numbered};
+ghost use Rattle.report_text.specs.StatusText.{parameter_name};
 
-use crate::parts::{put_named, put_numbered, put_signed, put_total};
+use crate::parts::{Part, put_named, put_numbered, put_parts};
 use data_text::DataRefusal;
 use io_ports::{Failed, Pieces, Sink};
+use itoa::Buffer;
 use scop_syntax::tree::Kernel;
 
 /// Puts the line of a refusal of data.
@@ -46,17 +47,8 @@ pub(crate) fn put_data<K: Sink>(
             array,
             dimension,
             value,
-        } => {
-            put_extent(
-                pieces,
-                sink,
-                b"data: Extent ",
-                array_name(kernel, array),
-                dimension,
-                value,
-            )
-        },
-        DataRefusal::Cells(total) => put_total(pieces, sink, b"data: Cells ", total, b"\n"),
+        } => { put_extent(pieces, sink, array_name(kernel, array), dimension, value) },
+        DataRefusal::Cells(total) => put_total(pieces, sink, total),
         DataRefusal::Count {
             line,
             expected,
@@ -91,53 +83,47 @@ fn array_name(kernel: Option<&Kernel>, j: usize) -> &[u8]
     }
 }
 
-/// Puts a name behind a text, `DIM value V` behind a space, and a line feed.
-#[tactic(auto, using(io_ports::proofs::Writing::putting))]
+/// Puts `data: Cells TOTAL` and a line feed.
+fn put_total<K: Sink>(pieces: &mut Pieces, sink: &mut K, total: u128) -> Result<(), Failed>
+    ensures { Puts (K.shows sink.old) pieces.old (K.shows sink.new) pieces.new
+        (numbered (codes "data: Cells ") total (codes "\n")) result }
+{
+    put_named(
+        pieces,
+        sink,
+        b"data: Cells ",
+        Buffer::new().format(total).as_bytes(),
+        b"\n",
+    )
+}
+
+/// Puts `data: Extent NAME DIM value V` and a line feed.
 fn put_extent<K: Sink>(
     pieces: &mut Pieces,
     sink: &mut K,
-    front: &[u8],
     name: &[u8],
     dimension: u64,
     value: i64,
 ) -> Result<(), Failed>
     ensures { Puts (K.shows sink.old) pieces.old (K.shows sink.new) pieces.new
-        (dimension_text front.now name.now dimension ++ value_line value) result }
+        (extent_text name.now dimension value) result }
 {
-    put_dimension(pieces, sink, front, name, dimension)?;
-    put_value(pieces, sink, value)?;
-    Ok(())
-}
-
-/// Puts a name behind a text, and `DIM value ` behind a space.
-#[tactic(auto, using(io_ports::proofs::Writing::putting))]
-fn put_dimension<K: Sink>(
-    pieces: &mut Pieces,
-    sink: &mut K,
-    front: &[u8],
-    name: &[u8],
-    dimension: u64,
-) -> Result<(), Failed>
-    ensures { Puts (K.shows sink.old) pieces.old (K.shows sink.new) pieces.new
-        (dimension_text front.now name.now dimension) result }
-{
-    put_named(pieces, sink, front, name, b"")?;
-    put_numbered(pieces, sink, b" ", dimension, b" value ")?;
-    Ok(())
-}
-
-/// Puts a number with its sign, and a line feed.
-#[tactic(auto, using(io_ports::proofs::Writing::putting))]
-fn put_value<K: Sink>(pieces: &mut Pieces, sink: &mut K, value: i64) -> Result<(), Failed>
-    ensures { Puts (K.shows sink.old) pieces.old (K.shows sink.new) pieces.new (value_line value) result }
-{
-    put_signed(pieces, sink, value)?;
-    pieces.put(sink, b"\n")?;
-    Ok(())
+    put_parts(
+        pieces,
+        sink,
+        &[
+            Part::Text(b"data: Extent "),
+            Part::Text(name),
+            Part::Text(b" "),
+            Part::Number(dimension),
+            Part::Text(b" value "),
+            Part::Signed(value),
+            Part::Text(b"\n"),
+        ],
+    )
 }
 
 /// Puts `data: Count line L expected E found F` and a line feed.
-#[tactic(auto, using(io_ports::proofs::Writing::putting))]
 fn put_count<K: Sink>(
     pieces: &mut Pieces,
     sink: &mut K,
@@ -147,23 +133,17 @@ fn put_count<K: Sink>(
 ) -> Result<(), Failed>
     ensures { Puts (K.shows sink.old) pieces.old (K.shows sink.new) pieces.new (count_text line expected found) result }
 {
-    put_expected(pieces, sink, line, expected)?;
-    put_numbered(pieces, sink, b" found ", found, b"\n")?;
-    Ok(())
-}
-
-/// Puts `data: Count line L expected E`.
-#[tactic(auto, using(io_ports::proofs::Writing::putting))]
-fn put_expected<K: Sink>(
-    pieces: &mut Pieces,
-    sink: &mut K,
-    line: u64,
-    expected: u64,
-) -> Result<(), Failed>
-    ensures { Puts (K.shows sink.old) pieces.old (K.shows sink.new) pieces.new
-        (numbered (codes "data: Count line ") line [] ++ numbered (codes " expected ") expected []) result }
-{
-    put_numbered(pieces, sink, b"data: Count line ", line, b"")?;
-    put_numbered(pieces, sink, b" expected ", expected, b"")?;
-    Ok(())
+    put_parts(
+        pieces,
+        sink,
+        &[
+            Part::Text(b"data: Count line "),
+            Part::Number(line),
+            Part::Text(b" expected "),
+            Part::Number(expected),
+            Part::Text(b" found "),
+            Part::Number(found),
+            Part::Text(b"\n"),
+        ],
+    )
 }

@@ -1,13 +1,13 @@
 //! The line on the error stream that tells a status. It takes no memory.
 
-ghost use Rattle.std.specs.Prelude.{◌≡◌, ◌++◌, [], codes, option_map};
+ghost use Rattle.std.specs.Prelude.{◌≡◌, option_map};
 ghost use Rattle.scop_syntax.specs.View.{program_of};
 ghost use Rattle.io_ports.specs.Writes.{Writes, Puts};
-ghost use Rattle.report_text.specs.StatusText.{kind_text, numbered, place_text, refusal_text, status_text};
+ghost use Rattle.report_text.specs.StatusText.{kind_text, refusal_text, status_text};
 
 use crate::data_line::put_data;
 use crate::outside_line::put_outside;
-use crate::parts::put_numbered;
+use crate::parts::{Part, put_parts};
 use crate::status::Status;
 use io_ports::{Failed, Pieces, Sink};
 use scop_parser::refusal::{Refusal, RefusalKind};
@@ -69,28 +69,21 @@ const USAGE: &[u8] =
     b"usage: polypar run|schedule|deps|emit|gen [--workers 1..64] [--tile 1..1024] [--budget 1..20000] [--report]\n";
 
 /// Puts `refused: KIND LINE:COLUMN` and a line feed.
-#[tactic(auto, using(io_ports::proofs::Writing::putting))]
 fn put_refusal<K: Sink>(pieces: &mut Pieces, sink: &mut K, refusal: Refusal) -> Result<(), Failed>
     ensures { Puts (K.shows sink.old) pieces.old (K.shows sink.new) pieces.new (refusal_text refusal) result }
 {
-    pieces.put(sink, kind_text(refusal.kind))?;
-    put_place(pieces, sink, refusal.line, refusal.column)?;
-    Ok(())
-}
-
-/// Puts ` LINE:COLUMN` and a line feed.
-#[tactic(auto, using(io_ports::proofs::Writing::putting))]
-fn put_place<K: Sink>(
-    pieces: &mut Pieces,
-    sink: &mut K,
-    line: u64,
-    column: u64,
-) -> Result<(), Failed>
-    ensures { Puts (K.shows sink.old) pieces.old (K.shows sink.new) pieces.new (place_text line column) result }
-{
-    put_numbered(pieces, sink, b" ", line, b":")?;
-    put_numbered(pieces, sink, b"", column, b"\n")?;
-    Ok(())
+    put_parts(
+        pieces,
+        sink,
+        &[
+            Part::Text(kind_text(refusal.kind)),
+            Part::Text(b" "),
+            Part::Number(refusal.line),
+            Part::Text(b":"),
+            Part::Number(refusal.column),
+            Part::Text(b"\n"),
+        ],
+    )
 }
 
 /// `refused: KIND`.

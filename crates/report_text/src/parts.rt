@@ -1,112 +1,81 @@
-//! The parts of status lines: a number or a name between two texts.
+//! The parts of status lines, put one after another.
 
 ghost use Rattle.std.specs.Prelude.{◌≡◌, ◌++◌, decimal};
-ghost use Rattle.std.specs.Fmt.{signed_decimal};
 ghost use Rattle.io_ports.specs.Writes.{Puts};
+ghost use Rattle.report_text.specs.Parts.{part_text, parts_text};
 ghost use Rattle.report_text.specs.StatusText.{named, numbered};
 
 use io_ports::{Failed, Pieces, Sink};
 use itoa::Buffer;
 
-/// Puts a number between two texts.
-#[tactic(auto, unfolding(crate::specs::StatusText::numbered))]
-pub(crate) fn put_numbered<K: Sink>(
-    pieces: &mut Pieces,
-    sink: &mut K,
-    front: &[u8],
-    number: u64,
-    end: &[u8],
-) -> Result<(), Failed>
-    ensures { Puts (K.shows sink.old) pieces.old (K.shows sink.new) pieces.new (numbered front.now number end.now)
-        result }
-{
-    put_three(
-        pieces,
-        sink,
-        front,
-        Buffer::new().format(number).as_bytes(),
-        end,
-    )
+/// A part of a line: a text, or a number.
+#[derive(Clone, Copy)]
+pub(crate) enum Part<'a> {
+    Number(u64),
+    Signed(i64),
+    Text(&'a [u8]),
 }
 
-/// Puts a wide number between two texts.
-#[tactic(auto, unfolding(crate::specs::StatusText::numbered))]
-pub(crate) fn put_total<K: Sink>(
+/// Puts a part.
+fn put_part<K: Sink>(pieces: &mut Pieces, sink: &mut K, part: Part) -> Result<(), Failed>
+    ensures { Puts (K.shows sink.old) pieces.old (K.shows sink.new) pieces.new (part_text part.entry) result }
+{
+    match part {
+        Part::Text(text) => pieces.put(sink, text),
+        Part::Number(number) => pieces.put(sink, Buffer::new().format(number).as_bytes()),
+        Part::Signed(number) => pieces.put(sink, Buffer::new().format(number).as_bytes()),
+    }
+}
+
+/// Puts some parts.
+pub(crate) fn put_parts<K: Sink>(
     pieces: &mut Pieces,
     sink: &mut K,
-    front: &[u8],
-    number: u128,
-    end: &[u8],
+    parts: &[Part],
+) -> Result<(), Failed>
+    ensures { Puts (K.shows sink.old) pieces.old (K.shows sink.new) pieces.new (parts_text parts.now) result }
+{
+    for part in parts {
+        match put_part(pieces, sink, *part) {
+            Ok(()) => {}
+            Err(failed) => return Err(failed),
+        }
+    }
+    Ok(())
+}
+
+/// Puts a number between two texts.
+pub(crate) fn put_numbered<'a, K: Sink>(
+    pieces: &mut Pieces,
+    sink: &mut K,
+    front: &'a [u8],
+    number: u64,
+    end: &'a [u8],
 ) -> Result<(), Failed>
     ensures { Puts (K.shows sink.old) pieces.old (K.shows sink.new) pieces.new (numbered front.now number end.now)
         result }
 {
-    put_three(
+    put_parts(
         pieces,
         sink,
-        front,
-        Buffer::new().format(number).as_bytes(),
-        end,
+        &[Part::Text(front), Part::Number(number), Part::Text(end)],
     )
 }
 
 /// Puts a name between two texts.
-#[tactic(auto, unfolding(crate::specs::StatusText::named))]
-pub(crate) fn put_named<K: Sink>(
+pub(crate) fn put_named<'a, K: Sink>(
     pieces: &mut Pieces,
     sink: &mut K,
-    front: &[u8],
-    name: &[u8],
-    end: &[u8],
+    front: &'a [u8],
+    name: &'a [u8],
+    end: &'a [u8],
 ) -> Result<(), Failed>
     ensures { Puts (K.shows sink.old) pieces.old (K.shows sink.new) pieces.new
         (named front.now name.now end.now) result }
 {
-    put_three(pieces, sink, front, name, end)
-}
-
-/// Puts the decimal of a number with its sign.
-pub(crate) fn put_signed<K: Sink>(
-    pieces: &mut Pieces,
-    sink: &mut K,
-    number: i64,
-) -> Result<(), Failed>
-    ensures { Puts (K.shows sink.old) pieces.old (K.shows sink.new) pieces.new (signed_decimal number) result }
-{
-    let mut buffer = Buffer::new();
-    pieces.put(sink, buffer.format(number).as_bytes())
-}
-
-/// Puts three texts.
-#[tactic(auto, using(crate::proofs::Joining::joining))]
-fn put_three<K: Sink>(
-    pieces: &mut Pieces,
-    sink: &mut K,
-    front: &[u8],
-    text: &[u8],
-    end: &[u8],
-) -> Result<(), Failed>
-    ensures { Puts (K.shows sink.old) pieces.old (K.shows sink.new) pieces.new (front.now ++ (text.now ++ end.now))
-        result }
-{
-    match pieces.put(sink, front) {
-        Err(failed) => Err(failed),
-        Ok(()) => put_two(pieces, sink, text, end),
-    }
-}
-
-/// Puts two texts.
-#[tactic(auto, using(crate::proofs::Joining::joining))]
-fn put_two<K: Sink>(
-    pieces: &mut Pieces,
-    sink: &mut K,
-    text: &[u8],
-    end: &[u8],
-) -> Result<(), Failed>
-    ensures { Puts (K.shows sink.old) pieces.old (K.shows sink.new) pieces.new (text.now ++ end.now) result }
-{
-    match pieces.put(sink, text) {
-        Err(failed) => Err(failed),
-        Ok(()) => pieces.put(sink, end),
-    }
+    put_parts(
+        pieces,
+        sink,
+        &[Part::Text(front), Part::Text(name), Part::Text(end)],
+    )
 }

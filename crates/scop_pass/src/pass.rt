@@ -33,7 +33,7 @@ use std::alloc::{AllocError, Global};
 use std::{fmt, mem};
 
 /// Why the pass stops.
-#[derive(Debug, Clone, Copy)]
+#[derive(Clone, Copy)]
 pub enum Stop {
     Refused(Fault),
     NoMemory,

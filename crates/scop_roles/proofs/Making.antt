@@ -2,6 +2,7 @@
 use Rattle.std.proofs.Common.{◌≡◌, ℕ, true, false, List, [], ◌∷◌, ◌++◌, None, Result, Ok, Err, ap, sym, subst, ◌∙◌}
 use Rattle.std.proofs.Common.{refl, append_assoc}
 use Rattle.std.specs.Prelude.{OnOk, IfOk}
+use Rattle.std.specs.declared.alloc.AllocError.{AllocError}
 use Rattle.whole_numbers.specs.Affine.{Affine}
 use Rattle.scop_syntax.specs.Tree.{Access, Expression, affine, read, Test}
 use Rattle.scop_syntax.specs.Tree as scop
@@ -13,6 +14,8 @@ use Rattle.scop_roles.specs.Forms.{is_shift, is_and, is_signed, form}
 use Rattle.scop_roles.specs.Faults.{first, faults, place_faults, is_count}
 use Rattle.scop_roles.specs.Values.{access, subscript_forms, expression, IsValueOf, signed_value, combined, count}
 use Rattle.scop_roles.specs.Values.{comparison, tests}
+use Rattle.scop_roles.specs.declared.judgement.Judgement.{Judgement}
+use Rattle.scop_roles.specs.Judgement.{HasForm, IsJudgement}
 use Rattle.scop_roles.proofs.Judging.{signed_is_affine}
 use Rattle.scop_roles.proofs.Parts.{place_parts, index_value, cast_value, unary_value, signed_unary, signed_binary}
 use Rattle.scop_roles.proofs.Parts.{binary_value, shift_count, condition_sides, comparison_sides}
@@ -24,6 +27,11 @@ on_ok (Err e) f h = tt
 pub if_ok : {T E : Type 0} {P Q : T → Type 0} (r : Result T E) → ((x : T) → P x → Q x) → IfOk r P → IfOk r Q
 if_ok (Ok x) f h = f x h
 if_ok (Err e) f h = tt
+
+-- what was judged, if there was memory for it, is within the limits
+pub judged_limits : (n : ℕ) (f : Formula) (r : Result Judgement AllocError) → IfOk r (IsJudgement n f)
+    → IfOk r (λ j. HasForm n j.form)
+judged_limits n f r judged = if_ok r (λ j known. known.limits) judged
 
 pub pushed_subscripts : (n : ℕ) (f p i : Formula) (old mid new : List Affine) (x : Affine) → f ≡ index p i
     → (first (place_faults n p) ≡ None → mid ≡ old ++ subscript_forms n p)

@@ -1,6 +1,6 @@
 -- The stack of formulas reads a tree's nodes as the tree's formula.
 use Rattle.std.proofs.Common.{◌≡◌, ℕ, zero, suc, ◌+◌, ◌<◌, ◌≤◌, List, [], ◌∷◌, ◌++◌, length, drop, fold, get_or, refl}
-use Rattle.std.proofs.Common.{ap, ◌∙◌, arith, length-append}
+use Rattle.std.proofs.Common.{ap, sym, ◌∙◌, arith, length-append, add-one, drop-cons}
 use Rattle.std.specs.Prelude.{⊤}
 use Rattle.std.proofs.lemmas.List.{drop_all}
 use Rattle.expression_grammar.specs.Tree.{Tree, constant, name, group, index, bare_call, call, unary, cast, binary}
@@ -72,6 +72,15 @@ fold-written look first at (binary o a b) stack =
       one_more first (at + size a) 1,
       one_more first at (size a),
     ) refl
+
+-- one node more was read
+pub read_next : (look : Lookup) (first : ℕ) (old new all : List Formula) (nodes : List Node) (i : ℕ) (d : Node)
+    → i < length nodes → new ≡ built look first old (get_or nodes i d)
+    → fold (built look first) old (drop i nodes) ≡ all → fold (built look first) new (drop (i + 1) nodes) ≡ all
+read_next look first old new all nodes i d less new_is so_far =
+    let rest = drop (i + 1) nodes in
+    let here : drop i nodes ≡ get_or nodes i d ∷ rest = rw (add-one, drop-cons nodes i d) refl in
+    ap (λ fs. fold (built look first) fs rest) new_is ∙ ap (λ xs. fold (built look first) old xs) (sym here) ∙ so_far
 
 -- nodes whose places lie below an end
 abbrev pub AreBelow : ℕ → List Node → Type 0

@@ -4,7 +4,7 @@ ghost use Rattle.scop_roles.specs.Faults.{first, first_of, number, only_where, p
 ghost use Rattle.scop_roles.specs.Judgement.{part_or_own};
 
 /// The kinds of faults of roles, scopes and limits.
-#[derive(Debug, Clone, Copy)]
+#[derive(Clone, Copy)]
 pub enum Kind {
     /// A name is not in scope.
     UnknownName,
@@ -43,7 +43,7 @@ pub enum Kind {
 }
 
 /// A fault, and the place of its token among the tokens.
-#[derive(Debug, Clone, Copy)]
+#[derive(Clone, Copy)]
 pub struct Fault {
     pub place: usize,
     pub kind: Kind,

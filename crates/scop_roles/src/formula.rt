@@ -7,13 +7,14 @@ ghost use Rattle.scop_roles.specs.Formula.{Lookup, argument_of, bare_call, binar
 ghost use Rattle.scop_roles.specs.Formula.{index, meaning_of, place, subscripts, unary, with_argument};
 ghost use Rattle.scop_roles.specs.Resolving.{IsWritten, below, built, held, place_of, top};
 
+use crate::pairs::{boxed, in_box, push_behind};
 use expression_grammar::node::Node;
 use expression_grammar::token::{Op, Sign, Suffix};
 use std::alloc::{AllocError, Global};
 use std::{fmt, mem};
 
 /// What a name means where it stands.
-#[derive(Debug, Clone, Copy, PartialEq, Eq)]
+#[derive(Clone, Copy, PartialEq, Eq)]
 pub enum Meaning {
     /// It is not in scope.
     Unknown,
@@ -66,7 +67,7 @@ impl fmt::Debug for Formula {
 }
 
 /// Where an expression stands.
-#[derive(Debug, Clone, Copy)]
+#[derive(Clone, Copy)]
 pub enum Role {
     /// A subscript, a bound, an extent or a side of a comparison.
     Affine,
@@ -145,34 +146,14 @@ pub fn has_subscripts(formula: &Formula, count: usize) -> bool
     }
 }
 
-// Two formulas in boxes.
-fn boxed(
-    alloc: Global,
-    left: Formula,
-    right: Formula,
-) -> Result<(Box<Formula>, Box<Formula>), AllocError>
-    ensures left { IfOk result (λ boxes. boxes.0.value ≡ left) }
-    ensures right { IfOk result (λ boxes. boxes.1.value ≡ right) }
-{
-    let left = Box::new(alloc, left)?;
-    let right = Box::new(alloc, right)?;
-    Ok((left, right))
-}
-
 // A place with its first subscript.
 fn first_subscript(alloc: Global, place: Formula, subscript: Formula) -> Result<Formula, AllocError>
     ensures { IfOk result (λ f. formula_of f ≡ index (formula_of place) (formula_of subscript)) }
 {
-    let (place, subscript) = boxed(alloc, place, subscript)?;
-    Ok(Formula::Index(place, Vec::new(alloc), subscript))
-}
-
-// A value behind others.
-pub(crate) fn push_behind<T: Drop>(values: &mut Vec<T>, value: T) -> Result<(), AllocError>
-    ensures { OnOk result (values.new.items ≡ values.old.items ++ value ∷ []) }
-{
-    values.push(value)?;
-    Ok(())
+    match boxed(alloc, place, subscript) {
+        Err(_) => Err(AllocError),
+        Ok((place, subscript)) => Ok(Formula::Index(place, Vec::new(alloc), subscript)),
+    }
 }
 
 // A place with subscripts and one more, which becomes the last.
@@ -221,8 +202,10 @@ fn first_argument(
 ) -> Result<Formula, AllocError>
     ensures { IfOk result (λ f. formula_of f ≡ binary op.Comma (formula_of first) (formula_of argument) at) }
 {
-    let (first, argument) = boxed(alloc, first, argument)?;
-    Ok(Formula::Commas(first, Vec::new(alloc), argument, at))
+    match boxed(alloc, first, argument) {
+        Err(_) => Err(AllocError),
+        Ok((first, argument)) => Ok(Formula::Commas(first, Vec::new(alloc), argument, at)),
+    }
 }
 
 // Arguments and one more behind a comma at a place, which becomes the last; `comma`: that of the last so far.
@@ -281,8 +264,10 @@ fn with_operator(
     if op == Op::Comma {
         return with_argument(alloc, left, right, at);
     }
-    let (left, right) = boxed(alloc, left, right)?;
-    Ok(Formula::Binary(op, left, right, at))
+    match boxed(alloc, left, right) {
+        Err(_) => Err(AllocError),
+        Ok((left, right)) => Ok(Formula::Binary(op, left, right, at)),
+    }
 }
 
 // A formula on top of the stack.
@@ -358,8 +343,10 @@ fn join_unary(
     ensures { IfOk result (λ f. formula_of f ∷ held stack.new.items
         ≡ unary sign (top (held stack.old.items)) place ∷ below (held stack.old.items)) }
 {
-    let operand = Box::new(alloc, pop(stack))?;
-    Ok(Formula::Unary(sign, operand, place))
+    match in_box(alloc, pop(stack)) {
+        Err(_) => Err(AllocError),
+        Ok(operand) => Ok(Formula::Unary(sign, operand, place)),
+    }
 }
 
 // The operand on the stack under a cast at a place.
@@ -367,8 +354,10 @@ fn join_cast(alloc: Global, stack: &mut Vec<Formula>, place: usize) -> Result<Fo
     ensures { IfOk result (λ f. formula_of f ∷ held stack.new.items
         ≡ cast (top (held stack.old.items)) place ∷ below (held stack.old.items)) }
 {
-    let operand = Box::new(alloc, pop(stack))?;
-    Ok(Formula::Cast(operand, place))
+    match in_box(alloc, pop(stack)) {
+        Err(_) => Err(AllocError),
+        Ok(operand) => Ok(Formula::Cast(operand, place)),
+    }
 }
 
 // The two sides on the stack joined by an operator at a place.

@@ -6,16 +6,14 @@ ghost use Rattle.scop_syntax.specs.Kernel.{IsAffine};
 ghost use Rattle.scop_roles.specs.declared.formula.Role.TheVariants as role;
 ghost use Rattle.scop_roles.specs.Faults.{faults, first, place_faults};
 ghost use Rattle.scop_roles.specs.Forms.{form};
-ghost use Rattle.scop_roles.specs.Formula.{Formula as Tree, argument_of, binary, call, cast, formula_of};
-ghost use Rattle.scop_roles.specs.Formula.{index, unary, with_argument};
+ghost use Rattle.scop_roles.specs.Formula.{Formula as Tree, argument_of, formula_of, index, with_argument};
 ghost use Rattle.scop_roles.specs.Judgement.{HasForm, IsFormOf, IsJudgement, in_role};
 
-use crate::fault::{Fault, first_of, told};
-use crate::formula::{Argument, Formula, Meaning, Role};
+use crate::fault::Fault;
+use crate::formula::{Argument, Formula, Role};
 use crate::nodes::{of_bare_call, of_call, of_cast, of_constant, of_index, of_name, of_unary};
-use crate::roles::called;
 use crate::sides::of_binary;
-use expression_grammar::token::{Op, Sign};
+use expression_grammar::token::Op;
 use scop_syntax::tree::Aff;
 use std::alloc::{AllocError, Global};
 
@@ -64,132 +62,50 @@ pub(crate) struct Judgement {
     pub(crate) form: Option<Aff>,
 }
 
-// Judges a subscript, and the place with it.
-#[cycle(judging)]
-fn judge_subscript(
-    alloc: Global,
-    place: &Judgement,
-    subscript: &Formula,
-    entries: usize,
-) -> Result<Judgement, AllocError>
-    ensures { IfOk result (λ j. (p : Tree) → IsJudgement entries p place.now
-        → IsJudgement entries (index p (formula_of subscript.now)) j) }
-{
-    let subscript = judge(alloc, subscript, entries)?;
-    Ok(of_index(place, &subscript))
-}
-
 // Judges a place with these subscripts more.
 #[cycle(judging)]
 fn judge_subscripts(
     alloc: Global,
-    place: Judgement,
     subscripts: &[Formula],
+    place: Result<Judgement, AllocError>,
     entries: usize,
 ) -> Result<Judgement, AllocError>
-    ensures { IfOk result (λ j. (p : Tree) → IsJudgement entries p place
-        → IsJudgement entries (fold index p (map formula_of subscripts.now)) j) }
+    ensures { (p : Tree) → IfOk place (IsJudgement entries p)
+        → IfOk result (IsJudgement entries (fold index p (map formula_of subscripts.now))) }
 {
     let mut place = place;
     for subscript in subscripts {
-        place = judge_subscript(alloc, &place, subscript, entries)?;
+        let subscript = judge(alloc, subscript, entries);
+        place = of_index(place, subscript);
     }
-    Ok(place)
-}
-
-// Judges the arguments of a call, and the call.
-#[cycle(judging)]
-fn judge_call(
-    alloc: Global,
-    meaning: Meaning,
-    arguments: &Formula,
-    at: usize,
-    entries: usize,
-) -> Result<Judgement, AllocError>
-    ensures { IfOk result (IsJudgement entries (call meaning (formula_of arguments.now) at)) }
-{
-    let arguments = judge(alloc, arguments, entries)?;
-    let part = first_of(told(at, called(meaning)), arguments.faults.free);
-    Ok(of_call(part, at))
-}
-
-// Judges the operand of a sign, and both.
-#[cycle(judging)]
-fn judge_unary(
-    alloc: Global,
-    sign: Sign,
-    operand: &Formula,
-    at: usize,
-    entries: usize,
-) -> Result<Judgement, AllocError>
-    ensures { IfOk result (IsJudgement entries (unary sign (formula_of operand.now) at)) }
-{
-    let operand = judge(alloc, operand, entries)?;
-    of_unary(alloc, sign, &operand, at, entries)
-}
-
-// Judges the operand of a cast, and both.
-#[cycle(judging)]
-fn judge_cast(
-    alloc: Global,
-    operand: &Formula,
-    at: usize,
-    entries: usize,
-) -> Result<Judgement, AllocError>
-    ensures { IfOk result (IsJudgement entries (cast (formula_of operand.now) at)) }
-{
-    let operand = judge(alloc, operand, entries)?;
-    Ok(of_cast(&operand, at))
-}
-
-// Judges the right side of an operator, and both sides with it.
-#[cycle(judging)]
-fn judge_right(
-    alloc: Global,
-    op: Op,
-    left: &Judgement,
-    right: &Formula,
-    at: usize,
-    entries: usize,
-) -> Result<Judgement, AllocError>
-    requires { HasForm entries left.now.form }
-    ensures judged { IfOk result (λ j. (f : Tree) → IsJudgement entries f left.now
-        → IsJudgement entries (binary op f (formula_of right.now) at) j) }
-    ensures limits { IfOk result (λ j. HasForm entries j.form) }
-{
-    let right = judge(alloc, right, entries)?;
-    of_binary(alloc, op, left, &right, at, entries)
+    place
 }
 
 // Judges arguments with these more.
 #[cycle(judging)]
+#[tactic(auto, using(crate::proofs::Making::judged_limits))]
 fn judge_arguments(
     alloc: Global,
-    first: Judgement,
     others: &[Argument],
+    first: Result<Judgement, AllocError>,
     entries: usize,
 ) -> Result<Judgement, AllocError>
-    requires { HasForm entries first.form }
-    ensures judged { IfOk result (λ j. (f : Tree) → IsJudgement entries f first
-        → IsJudgement entries (fold with_argument f (map argument_of others.now)) j) }
+    requires { IfOk first (λ j. HasForm entries j.form) }
+    ensures judged { (f : Tree) → IfOk first (IsJudgement entries f)
+        → IfOk result (IsJudgement entries (fold with_argument f (map argument_of others.now))) }
     ensures limits { IfOk result (λ j. HasForm entries j.form) }
 {
     let mut arguments = first;
     for other in others {
-        arguments = judge_right(
-            alloc,
-            Op::Comma,
-            &arguments,
-            &other.value,
-            other.comma,
-            entries,
-        )?;
+        let value = judge(alloc, &other.value, entries);
+        arguments = of_binary(alloc, Op::Comma, arguments, value, other.comma, entries);
     }
-    Ok(arguments)
+    arguments
 }
 
-// Judges a formula.
+// Judges a formula. What is known of a part goes on as it is, so that want of memory is looked at outside the recursion.
 #[cycle(judging)]
+#[tactic(auto, using(crate::proofs::Making::judged_limits))]
 fn judge(alloc: Global, formula: &Formula, entries: usize) -> Result<Judgement, AllocError>
     ensures { IfOk result (IsJudgement entries (formula_of formula.now)) }
 {
@@ -197,24 +113,34 @@ fn judge(alloc: Global, formula: &Formula, entries: usize) -> Result<Judgement, 
         Formula::Constant(suffix, value, at) => of_constant(alloc, *suffix, *value, *at, entries),
         Formula::Name(meaning, at) => of_name(alloc, *meaning, *at, entries),
         Formula::Index(place, earlier, last) => {
-            let place = judge(alloc, place, entries)?;
-            let place = judge_subscripts(alloc, place, earlier, entries)?;
-            judge_subscript(alloc, &place, last, entries)
+            let place = judge(alloc, place, entries);
+            let place = judge_subscripts(alloc, earlier, place, entries);
+            let last = judge(alloc, last, entries);
+            of_index(place, last)
         }
         Formula::BareCall(meaning, at) => Ok(of_bare_call(*meaning, *at)),
-        Formula::Call(meaning, arguments, at) => judge_call(
-            alloc, *meaning, arguments, *at, entries,
-        ),
-        Formula::Unary(sign, operand, at) => judge_unary(alloc, *sign, operand, *at, entries),
-        Formula::Cast(operand, at) => judge_cast(alloc, operand, *at, entries),
+        Formula::Call(meaning, arguments, at) => {
+            let arguments = judge(alloc, arguments, entries);
+            of_call(*meaning, arguments, *at)
+        }
+        Formula::Unary(sign, operand, at) => {
+            let operand = judge(alloc, operand, entries);
+            of_unary(alloc, *sign, operand, *at, entries)
+        }
+        Formula::Cast(operand, at) => {
+            let operand = judge(alloc, operand, entries);
+            of_cast(operand, *at)
+        }
         Formula::Commas(first, between, last, at) => {
-            let first = judge(alloc, first, entries)?;
-            let left = judge_arguments(alloc, first, between, entries)?;
-            judge_right(alloc, Op::Comma, &left, last, *at, entries)
+            let first = judge(alloc, first, entries);
+            let left = judge_arguments(alloc, between, first, entries);
+            let last = judge(alloc, last, entries);
+            of_binary(alloc, Op::Comma, left, last, *at, entries)
         }
         Formula::Binary(op, left, right, at) => {
-            let left = judge(alloc, left, entries)?;
-            judge_right(alloc, *op, &left, right, *at, entries)
+            let left = judge(alloc, left, entries);
+            let right = judge(alloc, right, entries);
+            of_binary(alloc, *op, left, right, *at, entries)
         }
     }
 }

@@ -9,6 +9,7 @@ pub mod formula;
 pub mod judgement;
 pub mod laws;
 mod nodes;
+mod pairs;
 pub mod roles;
 mod sides;
 pub mod values;

@@ -11,6 +11,7 @@ use crate::fault::{Fault, first_of, part_or_own, told};
 use crate::forms::{constant_form, multiple, variable_form};
 use crate::formula::{Meaning, Role};
 use crate::judgement::{Faults, Judgement};
+use crate::pairs::both;
 use crate::roles::{
     MOST_CONSTANT, called, cast_role, is_between, is_number, is_plain, named, operand_role,
     own_call, own_cast, own_constant, own_index, own_name, own_unary, rank,
@@ -155,7 +156,8 @@ fn index_fault(role: Role, place: &Judgement, subscript: &Judgement) -> Option<F
     part_or_own(part, place.place, own_index(role, ranked))
 }
 
-pub(crate) fn of_index(place: &Judgement, subscript: &Judgement) -> Judgement
+// A place with a subscript more.
+fn indexed(place: &Judgement, subscript: &Judgement) -> Judgement
     ensures { (n : ℕ) (p i : Tree) → IsJudgement n p place.now → IsJudgement n i subscript.now
         → IsJudgement n (index p i) result }
 {
@@ -179,8 +181,25 @@ pub(crate) fn of_index(place: &Judgement, subscript: &Judgement) -> Judgement
     }
 }
 
+pub(crate) fn of_index(
+    place: Result<Judgement, AllocError>,
+    subscript: Result<Judgement, AllocError>,
+) -> Result<Judgement, AllocError>
+    ensures { (n : ℕ) (p i : Tree) → IfOk place (IsJudgement n p) → IfOk subscript (IsJudgement n i)
+        → IfOk result (IsJudgement n (index p i)) }
+{
+    match both(place, subscript) {
+        Err(_) => Err(AllocError),
+        Ok(parts) => {
+            let whole = indexed(&parts.0, &parts.1);
+            drop(parts);
+            Ok(whole)
+        }
+    }
+}
+
 // A call whose parts have this first fault.
-pub(crate) fn of_call(part: Option<Fault>, at: usize) -> Judgement
+fn called_with(part: Option<Fault>, at: usize) -> Judgement
     ensures bare { (n : ℕ) (m : Meaning) → part ≡ first (told at (called m)) → IsJudgement n (bare_call m at) result }
     ensures call { (n : ℕ) (m : Meaning) (f : Tree)
         → part ≡ first_of (first (told at (called m))) (first (faults n role.Free f))
@@ -209,7 +228,26 @@ pub(crate) fn of_call(part: Option<Fault>, at: usize) -> Judgement
 pub(crate) fn of_bare_call(meaning: Meaning, at: usize) -> Judgement
     ensures { (n : ℕ) → IsJudgement n (bare_call meaning at) result }
 {
-    of_call(told(at, called(meaning)), at)
+    called_with(told(at, called(meaning)), at)
+}
+
+pub(crate) fn of_call(
+    meaning: Meaning,
+    arguments: Result<Judgement, AllocError>,
+    at: usize,
+) -> Result<Judgement, AllocError>
+    ensures { (n : ℕ) (f : Tree) → IfOk arguments (IsJudgement n f)
+        → IfOk result (IsJudgement n (call meaning f at)) }
+{
+    match arguments {
+        Err(_) => Err(AllocError),
+        Ok(arguments) => {
+            let free = arguments.faults.free;
+            drop(arguments);
+            let part = first_of(told(at, called(meaning)), free);
+            Ok(called_with(part, at))
+        }
+    }
 }
 
 // The first fault of a sign over its operand.
@@ -256,7 +294,8 @@ fn is_signed_under(sign: Sign, operand: &Judgement) -> bool
     }
 }
 
-pub(crate) fn of_unary(
+// An operand under a sign.
+fn under_sign(
     alloc: Global,
     sign: Sign,
     operand: &Judgement,
@@ -288,6 +327,27 @@ pub(crate) fn of_unary(
     })
 }
 
+pub(crate) fn of_unary(
+    alloc: Global,
+    sign: Sign,
+    operand: Result<Judgement, AllocError>,
+    at: usize,
+    entries: usize,
+) -> Result<Judgement, AllocError>
+    requires { IfOk operand (λ j. HasForm entries j.form) }
+    ensures { (f : Tree) → IfOk operand (IsJudgement entries f)
+        → IfOk result (IsJudgement entries (unary sign f at)) }
+{
+    match operand {
+        Err(_) => Err(AllocError),
+        Ok(operand) => {
+            let whole = under_sign(alloc, sign, &operand, at, entries);
+            drop(operand);
+            whole
+        }
+    }
+}
+
 // The first fault of a cast over its operand.
 fn cast_fault(role: Role, operand: &Judgement, at: usize) -> Option<Fault>
     ensures { (n : ℕ) (f : Tree) → IsJudgement n f operand.now → result ≡ first (faults n role (cast f at)) }
@@ -296,7 +356,8 @@ fn cast_fault(role: Role, operand: &Judgement, at: usize) -> Option<Fault>
     part_or_own(part, at, own_cast(role))
 }
 
-pub(crate) fn of_cast(operand: &Judgement, at: usize) -> Judgement
+// An operand under a cast.
+fn under_cast(operand: &Judgement, at: usize) -> Judgement
     ensures { (n : ℕ) (f : Tree) → IsJudgement n f operand.now → IsJudgement n (cast f at) result }
 {
     Judgement {
@@ -316,5 +377,21 @@ pub(crate) fn of_cast(operand: &Judgement, at: usize) -> Judgement
             free: cast_fault(Role::Free, operand, at),
         },
         form: None,
+    }
+}
+
+pub(crate) fn of_cast(
+    operand: Result<Judgement, AllocError>,
+    at: usize,
+) -> Result<Judgement, AllocError>
+    ensures { (n : ℕ) (f : Tree) → IfOk operand (IsJudgement n f) → IfOk result (IsJudgement n (cast f at)) }
+{
+    match operand {
+        Err(_) => Err(AllocError),
+        Ok(operand) => {
+            let whole = under_cast(&operand, at);
+            drop(operand);
+            Ok(whole)
+        }
     }
 }

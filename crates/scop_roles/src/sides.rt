@@ -11,6 +11,7 @@ use crate::fault::{Fault, Kind, first_of, part_or_own};
 use crate::forms::{is_within, multiple, sum};
 use crate::formula::Role;
 use crate::judgement::{Faults, Judgement};
+use crate::pairs::both;
 use crate::roles::{is_product, is_sum_or_product, own_joined, side_role};
 use expression_grammar::token::Op;
 use scop_syntax::tree::Aff;
@@ -171,7 +172,8 @@ fn binary_fault(
     part_or_own(part, at, own)
 }
 
-pub(crate) fn of_binary(
+// Two sides under an operator.
+fn over_sides(
     alloc: Global,
     op: Op,
     left: &Judgement,
@@ -204,4 +206,28 @@ pub(crate) fn of_binary(
         },
         form: joined.form,
     })
+}
+
+pub(crate) fn of_binary(
+    alloc: Global,
+    op: Op,
+    left: Result<Judgement, AllocError>,
+    right: Result<Judgement, AllocError>,
+    at: usize,
+    entries: usize,
+) -> Result<Judgement, AllocError>
+    requires left { IfOk left (λ j. HasForm entries j.form) }
+    requires right { IfOk right (λ j. HasForm entries j.form) }
+    ensures judged { (f g : Tree) → IfOk left (IsJudgement entries f) → IfOk right (IsJudgement entries g)
+        → IfOk result (IsJudgement entries (binary op f g at)) }
+    ensures limits { IfOk result (λ j. HasForm entries j.form) }
+{
+    match both(left, right) {
+        Err(_) => Err(AllocError),
+        Ok(sides) => {
+            let whole = over_sides(alloc, op, &sides.0, &sides.1, at, entries);
+            drop(sides);
+            whole
+        }
+    }
 }

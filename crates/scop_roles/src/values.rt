@@ -3,6 +3,7 @@ ghost use Rattle.std.specs.Prelude.{[], ◌++◌, ◌∷◌, ◌≡◌, ◌≤�
 ghost use Rattle.std.specs.List.{fold};
 ghost use Rattle.whole_numbers.specs.Affine.{Affine};
 ghost use Rattle.scop_syntax.specs.Kernel.{IsAffine};
+ghost use Rattle.scop_syntax.specs.Tree as scop;
 ghost use Rattle.scop_syntax.specs.Tree.{Expression, affine, read};
 ghost use Rattle.scop_syntax.specs.View.{expression_of, operator_of, test_of};
 ghost use Rattle.scop_roles.specs.declared.formula.Role.TheVariants as role;
@@ -15,8 +16,9 @@ ghost use Rattle.scop_roles.specs.Values.{difference, expression, operator, read
 ghost use Rattle.scop_roles.specs.Values.{tests};
 
 use crate::forms::{constant_form, multiple, plus_constant, sum, variable_form};
-use crate::formula::{Argument, Formula, Meaning, meaning_of, place, push_behind};
+use crate::formula::{Argument, Formula, Meaning, meaning_of, place};
 use crate::judgement::affine_form;
+use crate::pairs::{both, boxed, in_box, push_behind};
 use crate::roles::{
     is_and, is_between, is_minus, is_number, is_plain, is_shift, is_sum_or_product,
 };
@@ -90,6 +92,24 @@ fn form_or_zero(alloc: Global, formula: &Formula, entries: usize) -> Result<Aff,
     }
 }
 
+// The form of a further subscript of a place without fault, behind those of the others.
+fn push_form(
+    alloc: Global,
+    subscript: &Formula,
+    entries: usize,
+    forms: &mut Vec<Aff>,
+) -> Result<(), AllocError>
+    ensures { OnOk result ((p : Tree) (xs : List Affine)
+        → (first (place_faults entries p) ≡ None → forms.old.items ≡ xs ++ subscript_forms entries p)
+        → first (place_faults entries (index p (formula_of subscript.now))) ≡ None
+        → forms.new.items ≡ xs ++ subscript_forms entries (index p (formula_of subscript.now))) }
+{
+    match form_or_zero(alloc, subscript, entries) {
+        Err(_) => Err(AllocError),
+        Ok(form) => push_behind(forms, form),
+    }
+}
+
 // The forms of further subscripts of a place without fault, behind those of the others.
 fn push_forms(
     alloc: Global,
@@ -103,11 +123,7 @@ fn push_forms(
         → forms.new.items ≡ xs ++ subscript_forms entries (fold index p (map formula_of subscripts.now))) }
 {
     for subscript in subscripts {
-        let form = match form_or_zero(alloc, subscript, entries) {
-            Err(_) => return Err(AllocError),
-            Ok(form) => form,
-        };
-        match push_behind(forms, form) {
+        match push_form(alloc, subscript, entries, forms) {
             Err(_) => return Err(AllocError),
             Ok(()) => {}
         }
@@ -127,10 +143,15 @@ fn push_subscripts(
 {
     match place {
         Formula::Index(inner, earlier, last) => {
-            push_subscripts(alloc, inner, entries, forms)?;
-            push_forms(alloc, earlier, entries, forms)?;
-            let form = form_or_zero(alloc, last, entries)?;
-            push_behind(forms, form)
+            match push_subscripts(alloc, inner, entries, forms) {
+                Err(_) => return Err(AllocError),
+                Ok(()) => {}
+            }
+            match push_forms(alloc, earlier, entries, forms) {
+                Err(_) => return Err(AllocError),
+                Ok(()) => {}
+            }
+            push_form(alloc, last, entries, forms)
         }
         Formula::Constant(_, _, _) => Ok(()),
         Formula::Name(_, _) => Ok(()),
@@ -244,7 +265,10 @@ fn shifted(alloc: Global, op: Op, value: Expr, count: u8) -> Result<Expr, AllocE
     requires { is_shift op ≡ true }
     ensures { IfOk result (λ e. (d : Expression) → expression_of e ≡ combined op (expression_of value) d count) }
 {
-    let value = Box::new(alloc, value)?;
+    let value = match in_box(alloc, value) {
+        Err(_) => return Err(AllocError),
+        Ok(value) => value,
+    };
     match op {
         Op::ShiftLeft => Ok(Expr::ShiftedLeft(value, count)),
         Op::ShiftRight => Ok(Expr::ShiftedRight(value, count)),
@@ -252,14 +276,72 @@ fn shifted(alloc: Global, op: Op, value: Expr, count: u8) -> Result<Expr, AllocE
     }
 }
 
+// The value of a shift, from that of its left side.
+fn shift_value(
+    alloc: Global,
+    op: Op,
+    left: Result<Expr, AllocError>,
+    right: &Formula,
+) -> Result<Expr, AllocError>
+    requires { is_shift op ≡ true }
+    ensures { (n : ℕ) (f : Tree) (at : ℕ) → is_signed (binary op f (formula_of right.now) at) ≡ false
+        → IfOk left (λ e. IsValueOf n f (expression_of e))
+        → IfOk result (λ e. IsValueOf n (binary op f (formula_of right.now) at) (expression_of e)) }
+{
+    match left {
+        Err(_) => Err(AllocError),
+        Ok(left) => shifted(alloc, op, left, count(right)),
+    }
+}
+
 // The opposite of a value, or its complement.
 fn signed_value(alloc: Global, sign: Sign, value: Expr) -> Result<Expr, AllocError>
     ensures { IfOk result (λ e. expression_of e ≡ signed_value sign (expression_of value)) }
 {
-    let value = Box::new(alloc, value)?;
+    let value = match in_box(alloc, value) {
+        Err(_) => return Err(AllocError),
+        Ok(value) => value,
+    };
     match sign {
         Sign::Minus => Ok(Expr::Negated(value)),
         Sign::Complement | Sign::Not => Ok(Expr::Complemented(value)),
+    }
+}
+
+// The value of an operand under a sign, where both are no signed part.
+fn unary_value(
+    alloc: Global,
+    sign: Sign,
+    operand: Result<Expr, AllocError>,
+) -> Result<Expr, AllocError>
+    ensures { (n : ℕ) (f : Tree) (at : ℕ) → is_signed (unary sign f at) ≡ false
+        → IfOk operand (λ e. IsValueOf n f (expression_of e))
+        → IfOk result (λ e. IsValueOf n (unary sign f at) (expression_of e)) }
+{
+    match operand {
+        Err(_) => Err(AllocError),
+        Ok(operand) => signed_value(alloc, sign, operand),
+    }
+}
+
+// A value under a cast.
+fn under_cast(alloc: Global, value: Expr) -> Result<Expr, AllocError>
+    ensures { IfOk result (λ e. expression_of e ≡ scop.cast (expression_of value)) }
+{
+    match in_box(alloc, value) {
+        Err(_) => Err(AllocError),
+        Ok(value) => Ok(Expr::Cast(value)),
+    }
+}
+
+// The value of an operand under a cast.
+fn cast_value(alloc: Global, operand: Result<Expr, AllocError>) -> Result<Expr, AllocError>
+    ensures { (n : ℕ) (f : Tree) (at : ℕ) → IfOk operand (λ e. IsValueOf n f (expression_of e))
+        → IfOk result (λ e. IsValueOf n (cast f at) (expression_of e)) }
+{
+    match operand {
+        Err(_) => Err(AllocError),
+        Ok(operand) => under_cast(alloc, operand),
     }
 }
 
@@ -269,30 +351,28 @@ fn joined(alloc: Global, op: Op, left: Expr, right: Expr) -> Result<Expr, AllocE
     ensures { IfOk result (λ e. (k : ℕ) → expression_of e
         ≡ combined op (expression_of left) (expression_of right) k) }
 {
-    let left = Box::new(alloc, left)?;
-    let right = Box::new(alloc, right)?;
-    Ok(Expr::Binary(operator(op), left, right))
+    match boxed(alloc, left, right) {
+        Err(_) => Err(AllocError),
+        Ok((left, right)) => Ok(Expr::Binary(operator(op), left, right)),
+    }
 }
 
-// The value of both sides of an operator, from that of the left one, where they are no signed part. The right one
-// stands in front of it, since it is what falls.
-#[cycle(valuing)]
+// The value of both sides of an operator, where they are no signed part.
 fn sides_value(
     alloc: Global,
-    right: &Formula,
     op: Op,
-    left: Expr,
-    entries: usize,
+    left: Result<Expr, AllocError>,
+    right: Result<Expr, AllocError>,
 ) -> Result<Expr, AllocError>
-    ensures { IfOk result (λ e. (f : Tree) (at : ℕ) → is_signed (binary op f (formula_of right.now) at) ≡ false
-        → IsValueOf entries f (expression_of left)
-        → IsValueOf entries (binary op f (formula_of right.now) at) (expression_of e)) }
+    requires { is_shift op ≡ false }
+    ensures { (n : ℕ) (f g : Tree) (at : ℕ) → is_signed (binary op f g at) ≡ false
+        → IfOk left (λ e. IsValueOf n f (expression_of e)) → IfOk right (λ e. IsValueOf n g (expression_of e))
+        → IfOk result (λ e. IsValueOf n (binary op f g at) (expression_of e)) }
 {
-    if is_shift(op) {
-        return shifted(alloc, op, left, count(right));
+    match both(left, right) {
+        Err(_) => Err(AllocError),
+        Ok((left, right)) => joined(alloc, op, left, right),
     }
-    let right = value(alloc, right, entries)?;
-    joined(alloc, op, left, right)
 }
 
 // The value of arguments with these more.
@@ -300,45 +380,22 @@ fn sides_value(
 fn arguments_value(
     alloc: Global,
     others: &[Argument],
-    first: Expr,
+    first: Result<Expr, AllocError>,
     entries: usize,
 ) -> Result<Expr, AllocError>
-    ensures { IfOk result (λ e. (f : Tree) → IsValueOf entries f (expression_of first)
-        → IsValueOf entries (fold with_argument f (map argument_of others.now)) (expression_of e)) }
+    ensures { (f : Tree) → IfOk first (λ e. IsValueOf entries f (expression_of e))
+        → IfOk result (λ e. IsValueOf entries (fold with_argument f (map argument_of others.now)) (expression_of e)) }
 {
     let mut left = first;
     for other in others {
-        left = sides_value(alloc, &other.value, Op::Comma, left, entries)?;
+        let right = value(alloc, &other.value, entries);
+        left = sides_value(alloc, Op::Comma, left, right);
     }
-    Ok(left)
+    left
 }
 
-// The value of an operand under a sign, where both are no signed part.
-#[cycle(valuing)]
-fn unary_value(
-    alloc: Global,
-    sign: Sign,
-    operand: &Formula,
-    entries: usize,
-) -> Result<Expr, AllocError>
-    ensures { IfOk result (λ e. (at : ℕ) → is_signed (unary sign (formula_of operand.now) at) ≡ false
-        → IsValueOf entries (unary sign (formula_of operand.now) at) (expression_of e)) }
-{
-    let operand = value(alloc, operand, entries)?;
-    signed_value(alloc, sign, operand)
-}
-
-// The value of an operand under a cast.
-#[cycle(valuing)]
-fn cast_value(alloc: Global, operand: &Formula, entries: usize) -> Result<Expr, AllocError>
-    ensures { IfOk result (λ e. (at : ℕ) → IsValueOf entries (cast (formula_of operand.now) at) (expression_of e)) }
-{
-    let operand = value(alloc, operand, entries)?;
-    let operand = Box::new(alloc, operand)?;
-    Ok(Expr::Cast(operand))
-}
-
-// The value of a formula, if it has no fault as one.
+// The value of a formula, if it has no fault as one. That of a part goes on as it is, so that want of memory is looked
+// at outside the recursion.
 #[cycle(valuing)]
 fn value(alloc: Global, formula: &Formula, entries: usize) -> Result<Expr, AllocError>
     ensures { IfOk result (λ e. IsValueOf entries (formula_of formula.now) (expression_of e)) }
@@ -353,20 +410,29 @@ fn value(alloc: Global, formula: &Formula, entries: usize) -> Result<Expr, Alloc
             if is_signed(formula) {
                 return signed_part(alloc, formula, entries);
             }
-            unary_value(alloc, *sign, operand, entries)
+            let operand = value(alloc, operand, entries);
+            unary_value(alloc, *sign, operand)
         }
-        Formula::Cast(operand, _) => cast_value(alloc, operand, entries),
+        Formula::Cast(operand, _) => {
+            let operand = value(alloc, operand, entries);
+            cast_value(alloc, operand)
+        }
         Formula::Commas(first, between, last, _) => {
-            let first = value(alloc, first, entries)?;
-            let left = arguments_value(alloc, between, first, entries)?;
-            sides_value(alloc, last, Op::Comma, left, entries)
+            let first = value(alloc, first, entries);
+            let left = arguments_value(alloc, between, first, entries);
+            let last = value(alloc, last, entries);
+            sides_value(alloc, Op::Comma, left, last)
         }
         Formula::Binary(op, left, right, _) => {
             if is_signed(formula) {
                 return signed_part(alloc, formula, entries);
             }
-            let left = value(alloc, left, entries)?;
-            sides_value(alloc, right, *op, left, entries)
+            let left = value(alloc, left, entries);
+            if is_shift(*op) {
+                return shift_value(alloc, *op, left, right);
+            }
+            let right = value(alloc, right, entries);
+            sides_value(alloc, *op, left, right)
         }
     }
 }
@@ -528,21 +594,24 @@ pub fn push_read_places(formula: &Formula, places: &mut Vec<usize>) -> Result<()
     ensures { OnOk result (places.new.items ≡ places.old.items ++ read_places (formula_of formula.now)) }
 {
     match formula {
-        Formula::Index(inner, _, _) => {
-            places.push(place(inner))?;
-            Ok(())
-        }
+        Formula::Index(inner, _, _) => push_behind(places, place(inner)),
         Formula::Unary(_, operand, _) => push_read_places(operand, places),
         Formula::Cast(operand, _) => push_read_places(operand, places),
         Formula::Commas(first, between, last, _) => {
-            push_read_places(first, places)?;
-            push_places(between, places)?;
+            match push_read_places(first, places) {
+                Err(_) => return Err(AllocError),
+                Ok(()) => {}
+            }
+            match push_places(between, places) {
+                Err(_) => return Err(AllocError),
+                Ok(()) => {}
+            }
             push_read_places(last, places)
         }
-        Formula::Binary(_, left, right, _) => {
-            push_read_places(left, places)?;
-            push_read_places(right, places)
-        }
+        Formula::Binary(_, left, right, _) => match push_read_places(left, places) {
+            Err(_) => Err(AllocError),
+            Ok(()) => push_read_places(right, places),
+        },
         Formula::Constant(_, _, _) => Ok(()),
         Formula::Name(_, _) => Ok(()),
         Formula::BareCall(_, _) => Ok(()),

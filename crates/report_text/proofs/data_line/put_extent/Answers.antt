@@ -1,12 +1,16 @@
-use Rattle.std.proofs.Common.{rules, FitsSigned}
+use Rattle.std.proofs.Common.{rules, subst, FitsSigned}
 use Rattle.std.specs.Int.{w64}
 use Rattle.std.proofs.lemmas.Int.{to_z-of_z}
-use Rattle.io_ports.proofs.Writing.{send_then}
+use Rattle.io_ports.specs.Writes.{Puts}
+use Rattle.report_text.proofs.Lines.{extent_is}
+use Rattle.std.specs.Prelude.{codes}
+use Rattle.std.specs.Fmt.{signed_decimal}
 use Rattle.report_text.proofs.data_line.put_extent.Goals as goal
 
 pub returns : goal.returns
 returns g c =
     let fits : FitsSigned w64 c.args.value = search rules in
-    let second = simp to_z-of_z at c.in_ok-put_value.ensures in
-    send_then _ (g.K.Sink.shows c.put_dimension.new.sink) _ _ c.put_dimension.new.pieces _ _ _
-    c.in_ok-put_dimension.ensures second
+    subst (λ text. Puts (g.K.Sink.shows c.args.sink.now) c.args.pieces.now (g.K.Sink.shows c.put_parts.new.sink)
+    c.put_parts.new.pieces text c.put_parts.result)
+    (extent_is (codes "data: Extent ") c.args.name.now (codes " ") (codes " value ") (signed_decimal c.args.value)
+    (codes "\n") c.args.dimension) (simp to_z-of_z at c.put_parts.ensures)

@@ -1,9 +1,9 @@
-use Rattle.std.proofs.Common.{rules, ◌<◌, ◌≤◌, length, sym, subst, ◌∙◌, arith}
+use Rattle.std.proofs.Common.{rules, ◌<◌, ◌≤◌, [], length, fold, sym, subst, ◌∙◌, arith}
 use Rattle.expression_grammar.specs.Tree.{size}
 use Rattle.expression_grammar.specs.declared.node.Node.TheVariants as node
 use Rattle.expression_grammar.specs.declared.token.Suffix.TheVariants as suffix
-use Rattle.scop_roles.specs.Resolving.{held}
-use Rattle.scop_roles.proofs.Resolving.{AreBelow, place_below, places_below, resolved}
+use Rattle.scop_roles.specs.Resolving.{built, held}
+use Rattle.scop_roles.proofs.Resolving.{AreBelow, place_below, places_below, read_next, resolved}
 use Rattle.scop_roles.proofs.formula.resolve.Goals as goal
 
 pub joined-requires : goal.joined-requires
@@ -15,6 +15,14 @@ joined-requires g c =
     let small = place_below (size t) c.args.nodes.now c.loop-node.node-index (node.Constant suffix.Absent 0) all less in
     let room = c.requires.room in
     omega arith
+
+pub loop-node-preserved : goal.loop-node-preserved
+loop-node-preserved g c =
+    let look = g.N.Names.lookup c.args.names.now in
+    let l = c.loop-node in
+    read_next look c.args.first (held l.stack.items) (held c.push.new.stack.items)
+    (fold (built look c.args.first) [] c.args.nodes.now) c.args.nodes.now l.node-index
+    (node.Constant suffix.Absent 0) c.loop-node-test.true (c.in-Ok-push.ensures ∙ c.in-Ok.ensures) l.invariant
 
 pub returns : goal.returns
 returns g c t e =

@@ -4,4 +4,4 @@ use Rattle.scop_roles.proofs.nodes.of_bare_call.Goals as goal
 
 pub returns : goal.returns
 returns c n =
-    c.of_call.ensures.bare n c.args.meaning (c.told.ensures ∙ ap (λ k. first (told c.args.at k)) c.called.ensures)
+    c.called_with.ensures.bare n c.args.meaning (c.told.ensures ∙ ap (λ k. first (told c.args.at k)) c.called.ensures)

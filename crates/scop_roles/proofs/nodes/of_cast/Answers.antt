@@ -1,26 +1,7 @@
-use Rattle.std.proofs.Common.{refl}
-use Rattle.scop_roles.specs.declared.fault.Kind.TheVariants as kind
-use Rattle.scop_roles.specs.declared.formula.Role.TheVariants as role
-use Rattle.scop_roles.specs.Faults.{faults}
-use Rattle.scop_roles.proofs.Joining.{refused}
+use Rattle.std.proofs.Common.{subst}
+use Rattle.std.specs.Prelude.{IfOk}
+use Rattle.scop_roles.specs.Judgement.{IsJudgement}
 use Rattle.scop_roles.proofs.nodes.of_cast.Goals as goal
 
-pub returns : goal.returns
-returns c n f h =
-    record {
-      place = refl;
-      signed = refl;
-      named = h.named;
-      constant = refl;
-      count = refl;
-      lacking = refl;
-      place_fault = refl;
-      affine = c.cast_fault.ensures n f h;
-      summand = c.cast_fault-2.ensures n f h;
-      value = c.cast_fault-3.ensures n f h;
-      condition = c.cast_fault-4.ensures n f h;
-      loose = c.cast_fault-5.ensures n f h;
-      free = c.cast_fault-6.ensures n f h;
-      form = refused (faults n role.Free f) c.args.at kind.NotAffine;
-      limits = tt;
-    }
+pub returns-in-Ok : goal.returns-in-Ok
+returns-in-Ok c n f h = c.under_cast-whole.ensures n f (subst (λ r. IfOk r (IsJudgement n f)) c.in-Ok.is h)

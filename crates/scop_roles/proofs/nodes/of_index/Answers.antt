@@ -1,30 +1,9 @@
-use Rattle.std.proofs.Common.{◌++◌, ap, sym, ◌∙◌, refl}
-use Rattle.scop_roles.specs.declared.fault.Kind.TheVariants as kind
-use Rattle.scop_roles.specs.declared.formula.Role.TheVariants as role
-use Rattle.scop_roles.specs.Formula.{place}
-use Rattle.scop_roles.specs.Faults.{faults, place_faults}
-use Rattle.scop_roles.specs.Judgement.{one_less}
-use Rattle.scop_roles.proofs.Firsts.{first-append}
-use Rattle.scop_roles.proofs.Joining.{refused}
+use Rattle.std.proofs.Common.{subst}
+use Rattle.std.specs.Prelude.{IfOk}
+use Rattle.scop_roles.specs.Judgement.{IsJudgement}
 use Rattle.scop_roles.proofs.nodes.of_index.Goals as goal
 
-pub returns : goal.returns
-returns c n p i h g =
-    record {
-      place = h.place;
-      signed = refl;
-      named = refl;
-      constant = refl;
-      count = refl;
-      lacking = c.one_less.ensures ∙ ap one_less h.lacking;
-      place_fault = rw (c.first_of.ensures, h.place_fault, g.affine)
-          (sym (first-append (place_faults n p) (faults n role.Affine i)));
-      affine = c.index_fault.ensures n p i h g;
-      summand = c.index_fault-2.ensures n p i h g;
-      value = c.index_fault-3.ensures n p i h g;
-      condition = c.index_fault-4.ensures n p i h g;
-      loose = c.index_fault-5.ensures n p i h g;
-      free = c.index_fault-6.ensures n p i h g;
-      form = refused (place_faults n p ++ faults n role.Affine i) (place p) kind.NotAffine;
-      limits = tt;
-    }
+pub returns-in-Ok : goal.returns-in-Ok
+returns-in-Ok c n p i h g =
+    c.indexed-whole.ensures n p i (subst (λ r. IfOk r (IsJudgement n p)) c.in-Ok.ensures.first h)
+    (subst (λ r. IfOk r (IsJudgement n i)) c.in-Ok.ensures.second g)

@@ -1,22 +1,14 @@
-use Rattle.std.proofs.Common.{refl}
+use Rattle.std.proofs.Common.{subst}
+use Rattle.std.specs.Prelude.{IfOk}
+use Rattle.scop_roles.specs.Judgement.{HasForm, IsJudgement}
+use Rattle.scop_roles.proofs.Making.{if_ok}
 use Rattle.scop_roles.proofs.nodes.of_unary.Goals as goal
 
-pub returns : goal.returns
-returns c f h =
-    record {
-      place = refl;
-      signed = c.is_signed_under.ensures f c.args.at h.signed;
-      named = h.named;
-      constant = refl;
-      count = refl;
-      lacking = refl;
-      place_fault = refl;
-      affine = c.unary_fault.ensures c.args.entries f h;
-      summand = c.unary_fault-2.ensures c.args.entries f h;
-      value = c.unary_fault-3.ensures c.args.entries f h;
-      condition = c.unary_fault-4.ensures c.args.entries f h;
-      loose = c.unary_fault-5.ensures c.args.entries f h;
-      free = c.unary_fault-6.ensures c.args.entries f h;
-      form = c.in_ok-form.ensures.form f c.args.at h.form;
-      limits = c.in_ok-form.ensures.limits;
-    }
+pub under_sign-whole-requires : goal.under_sign-whole-requires
+under_sign-whole-requires c = subst (λ r. IfOk r (λ j. HasForm c.args.entries j.form)) c.in-Ok.is c.requires
+
+pub returns-in-Ok : goal.returns-in-Ok
+returns-in-Ok c f h =
+    if_ok c.under_sign-whole.result
+    (λ j judged. judged f (subst (λ r. IfOk r (IsJudgement c.args.entries f)) c.in-Ok.is h))
+    c.under_sign-whole.ensures

@@ -1,23 +1,19 @@
-use Rattle.std.proofs.Common.{refl}
+use Rattle.std.proofs.Common.{subst}
+use Rattle.std.specs.Prelude.{IfOk}
+use Rattle.scop_roles.specs.Judgement.{HasForm, IsJudgement}
+use Rattle.scop_roles.proofs.Making.{if_ok}
 use Rattle.scop_roles.proofs.sides.of_binary.Goals as goal
 
-pub returns-clause-judged : goal.returns-clause-judged
-returns-clause-judged c f g h i =
-    let joined = c.in_ok-joined.ensures.joined f g c.args.at h i in
-    record {
-      place = refl;
-      signed = rw (c.joins_signed.ensures, h.signed, i.signed) refl;
-      named = rw (c.is_either_named.ensures, h.named, i.named) refl;
-      constant = refl;
-      count = refl;
-      lacking = refl;
-      place_fault = refl;
-      affine = c.binary_fault.ensures c.args.entries f g h i joined.own;
-      summand = c.binary_fault-2.ensures c.args.entries f g h i joined.own;
-      value = c.binary_fault-3.ensures c.args.entries f g h i joined.own;
-      condition = c.binary_fault-4.ensures c.args.entries f g h i joined.own;
-      loose = c.binary_fault-5.ensures c.args.entries f g h i joined.own;
-      free = c.binary_fault-6.ensures c.args.entries f g h i joined.own;
-      form = joined.form;
-      limits = c.in_ok-joined.ensures.limits;
-    }
+pub over_sides-whole-requires-clause-left : goal.over_sides-whole-requires-clause-left
+over_sides-whole-requires-clause-left c =
+    subst (λ r. IfOk r (λ j. HasForm c.args.entries j.form)) c.in-Ok.ensures.first c.requires.left
+
+pub over_sides-whole-requires-clause-right : goal.over_sides-whole-requires-clause-right
+over_sides-whole-requires-clause-right c =
+    subst (λ r. IfOk r (λ j. HasForm c.args.entries j.form)) c.in-Ok.ensures.second c.requires.right
+
+pub returns-in-Ok-clause-judged : goal.returns-in-Ok-clause-judged
+returns-in-Ok-clause-judged c f g h i =
+    let n = c.args.entries in
+    if_ok c.over_sides-whole.result (λ j judged. judged f g (subst (λ r. IfOk r (IsJudgement n f)) c.in-Ok.ensures.first h)
+    (subst (λ r. IfOk r (IsJudgement n g)) c.in-Ok.ensures.second i)) c.over_sides-whole.ensures.judged

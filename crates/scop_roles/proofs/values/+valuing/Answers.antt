@@ -1,16 +1,13 @@
-use Rattle.std.proofs.Common.{rules, ◌≡◌, false, map, fold, ap, sym, subst, ◌∙◌, refl}
-use Rattle.scop_syntax.specs.Tree as scop
+use Rattle.std.proofs.Common.{rules, ◌≡◌, ◌≤◌, false, length, map, fold, ap, sym, subst, ◌∙◌, refl}
+use Rattle.std.specs.Prelude.{IfOk}
 use Rattle.scop_syntax.specs.View.{expression_of}
-use Rattle.scop_syntax.specs.declared.tree.Expr.TheVariants as code
-use Rattle.scop_syntax.proofs.Views.{expression_cast}
 use Rattle.expression_grammar.specs.declared.token.Op.TheVariants as op
 use Rattle.scop_roles.specs.Formula.{argument_of, formula_of, index, unary, cast, binary, with_argument}
 use Rattle.scop_roles.specs.Forms.{is_signed}
 use Rattle.scop_roles.specs.Values.{IsValueOf}
 use Rattle.scop_roles.proofs.Views.{formula_index, formula_unary, formula_cast, formula_commas, formula_binary}
-use Rattle.scop_roles.proofs.Making.{if_ok, read_value, signed_unary_value, signed_binary_value, unsigned_unary_value}
-use Rattle.scop_roles.proofs.Making.{cast_of_value, shift_value, joined_value}
-use Rattle.scop_roles.proofs.Chains.{makes_next}
+use Rattle.scop_roles.proofs.Making.{if_ok, read_value, signed_unary_value, signed_binary_value}
+use Rattle.scop_roles.proofs.Chains.{makes_next, makes_whole}
 use Rattle.scop_roles.proofs.values.+valuing.Goals as goal
 
 pub value-returns-in-Index : goal.value-returns-in-Index
@@ -31,25 +28,27 @@ value-returns-then-is_signed t c =
 
 pub value-returns-else-is_signed : goal.value-returns-else-is_signed
 value-returns-else-is_signed t c =
+    let n = c.args.entries in
     let s = c.in-Unary.sign in
     let at = c.in-Unary.field-2 in
+    let f = formula_of c.deref.result.now in
     let e = ap formula_of c.in-Unary.is ∙ formula_unary s c.in-Unary.operand at
     ∙ ap (λ v. unary s (formula_of v) at) (sym c.deref.ensures) in
     let unsigned = subst (λ f. is_signed f ≡ false) e (sym c.is_signed.ensures ∙ c.if-is_signed.false) in
-    if_ok c.unary_value.result
-    (λ x x_is. subst (λ f. IsValueOf c.args.entries f (expression_of x)) (sym e) (x_is at unsigned))
-    c.unary_value.ensures
+    if_ok c.unary_value.result (λ x x_is. subst (λ f. IsValueOf n f (expression_of x)) (sym e) x_is)
+    (c.unary_value.ensures n f at unsigned c.value-operand.ensures)
 
 pub value-returns-in-Cast : goal.value-returns-in-Cast
 value-returns-in-Cast t c =
+    let n = c.args.entries in
     let at = c.in-Cast.field-1 in
     let e = ap formula_of c.in-Cast.is ∙ formula_cast c.in-Cast.operand at
     ∙ ap (λ v. cast (formula_of v) at) (sym c.deref-in-Cast.ensures) in
-    if_ok c.cast_value.result (λ x x_is. subst (λ f. IsValueOf c.args.entries f (expression_of x)) (sym e) (x_is at))
-    c.cast_value.ensures
+    if_ok c.cast_value.result (λ x x_is. subst (λ f. IsValueOf n f (expression_of x)) (sym e) x_is)
+    (c.cast_value.ensures n (formula_of c.deref-in-Cast.result.now) at c.value-operand-in-Cast.ensures)
 
-pub value-returns-in_ok-left-in-Commas : goal.value-returns-in_ok-left-in-Commas
-value-returns-in_ok-left-in-Commas t c =
+pub value-returns-in-Commas : goal.value-returns-in-Commas
+value-returns-in-Commas t c =
     let n = c.args.entries in
     let at = c.in-Commas.field-3 in
     let f = formula_of c.in-Commas.first.value in
@@ -57,13 +56,13 @@ value-returns-in_ok-left-in-Commas t c =
     let e = ap formula_of c.in-Commas.is
     ∙ formula_commas c.in-Commas.first c.in-Commas.between c.in-Commas.last at
     ∙ ap (λ v. binary op.Comma left (formula_of v) at) (sym c.deref-in-Commas-3.ensures) in
-    let here = subst (λ v. IsValueOf n (formula_of v) (expression_of c.in_ok-first-in-Commas.first))
-    c.deref-in-Commas.ensures c.in_ok-first-in-Commas.ensures in
-    let there = subst (λ gs. IsValueOf n (fold with_argument f (map argument_of gs))
-    (expression_of c.in_ok-left-in-Commas.left)) c.deref-in-Commas-2.ensures.value
-    (c.in_ok-left-in-Commas.ensures f here) in
-    if_ok c.sides_value.result
-    (λ x x_is. subst (λ f. IsValueOf n f (expression_of x)) (sym e) (x_is left at refl there)) c.sides_value.ensures
+    let here = subst (λ v. IfOk c.value-first.result (λ x. IsValueOf n (formula_of v) (expression_of x)))
+    c.deref-in-Commas.ensures c.value-first.ensures in
+    let there = subst (λ gs. IfOk c.arguments_value-left.result
+    (λ x. IsValueOf n (fold with_argument f (map argument_of gs)) (expression_of x)))
+    c.deref-in-Commas-2.ensures.value (c.arguments_value-left.ensures f here) in
+    if_ok c.sides_value.result (λ x x_is. subst (λ f. IsValueOf n f (expression_of x)) (sym e) x_is)
+    (c.sides_value.ensures n left (formula_of c.deref-in-Commas-3.result.now) at refl there c.value-last.ensures)
 
 pub value-returns-then-is_signed-2 : goal.value-returns-then-is_signed-2
 value-returns-then-is_signed-2 t c =
@@ -74,56 +73,47 @@ value-returns-then-is_signed-2 t c =
     (formula_of c.in-Binary.left.value) (formula_of c.in-Binary.right.value) c.in-Binary.field-3 (expression_of x) e
     (sym c.is_signed-in-Binary.ensures ∙ c.if-is_signed-2.true) x_is) c.signed_part-then-is_signed-2.ensures
 
-pub value-returns-in_ok-left-in-Binary : goal.value-returns-in_ok-left-in-Binary
-value-returns-in_ok-left-in-Binary t c =
+pub value-returns-then-is_shift : goal.value-returns-then-is_shift
+value-returns-then-is_shift t c =
+    let n = c.args.entries in
+    let at = c.in-Binary.field-3 in
+    let f = formula_of c.in-Binary.left.value in
+    let e = ap formula_of c.in-Binary.is ∙ formula_binary c.in-Binary.op c.in-Binary.left c.in-Binary.right at
+    ∙ ap (λ v. binary c.in-Binary.op f (formula_of v) at) (sym c.deref-then-is_shift.ensures) in
+    let unsigned = subst (λ f. is_signed f ≡ false) e (sym c.is_signed-in-Binary.ensures ∙ c.if-is_signed-2.false) in
+    let here = subst (λ v. IfOk c.value-left.result (λ x. IsValueOf n (formula_of v) (expression_of x)))
+    c.deref-in-Binary.ensures c.value-left.ensures in
+    if_ok c.shift_value.result (λ x x_is. subst (λ f. IsValueOf n f (expression_of x)) (sym e) x_is)
+    (c.shift_value.ensures n f at unsigned here)
+
+pub value-returns-else-is_shift : goal.value-returns-else-is_shift
+value-returns-else-is_shift t c =
     let n = c.args.entries in
     let at = c.in-Binary.field-3 in
     let f = formula_of c.in-Binary.left.value in
     let e = ap formula_of c.in-Binary.is ∙ formula_binary c.in-Binary.op c.in-Binary.left c.in-Binary.right at
     ∙ ap (λ v. binary c.in-Binary.op f (formula_of v) at) (sym c.deref-in-Binary-2.ensures) in
     let unsigned = subst (λ f. is_signed f ≡ false) e (sym c.is_signed-in-Binary.ensures ∙ c.if-is_signed-2.false) in
-    let here = subst (λ v. IsValueOf n (formula_of v) (expression_of c.in_ok-left-in-Binary.left))
-    c.deref-in-Binary.ensures c.in_ok-left-in-Binary.ensures in
-    if_ok c.sides_value-in-Binary.result
-    (λ x x_is. subst (λ f. IsValueOf n f (expression_of x)) (sym e) (x_is f at unsigned here))
-    c.sides_value-in-Binary.ensures
-
-pub sides_value-returns-then-is_shift : goal.sides_value-returns-then-is_shift
-sides_value-returns-then-is_shift t c =
-    if_ok c.shifted.result
-    (λ x x_is f at unsigned y_is. shift_value c.args.entries c.args.op f (formula_of c.args.right.now) at
-    (expression_of x) (expression_of c.args.left) c.count.result unsigned
-    (sym c.is_shift.ensures ∙ c.if-is_shift.true) y_is x_is c.count.ensures) c.shifted.ensures
-
-pub sides_value-returns : goal.sides_value-returns
-sides_value-returns t c =
-    if_ok c.joined.result
-    (λ x x_is f at unsigned y_is. joined_value c.args.entries c.args.op f (formula_of c.args.right.now) at
-    (expression_of x) (expression_of c.args.left) (expression_of c.in_ok-right.right) unsigned y_is
-    c.in_ok-right.ensures x_is) c.joined.ensures
-
-pub unary_value-returns : goal.unary_value-returns
-unary_value-returns t c =
-    if_ok c.signed_value.result
-    (λ x x_is at unsigned. unsigned_unary_value c.args.entries c.args.sign (formula_of c.args.operand.now) at
-    (expression_of x) (expression_of c.in_ok-operand.operand) unsigned c.in_ok-operand.ensures x_is)
-    c.signed_value.ensures
-
-pub cast_value-returns : goal.cast_value-returns
-cast_value-returns t c at =
-    let inner : c.in_ok-operand-2.operand.value ≡ c.in_ok-operand.operand = search rules in
-    cast_of_value c.args.entries (formula_of c.args.operand.now) at
-    (expression_of (code.Cast c.in_ok-operand-2.operand)) (expression_of c.in_ok-operand.operand)
-    c.in_ok-operand.ensures
-    (expression_cast c.in_ok-operand-2.operand ∙ ap (λ v. scop.cast (expression_of v)) inner)
+    let here = subst (λ v. IfOk c.value-left.result (λ x. IsValueOf n (formula_of v) (expression_of x)))
+    c.deref-in-Binary.ensures c.value-left.ensures in
+    if_ok c.sides_value-in-Binary.result (λ x x_is. subst (λ f. IsValueOf n f (expression_of x)) (sym e) x_is)
+    (c.sides_value-in-Binary.ensures n f (formula_of c.deref-in-Binary-2.result.now) at unsigned here
+    c.value-right.ensures)
 
 pub arguments_value-loop-other-preserved : goal.arguments_value-loop-other-preserved
 arguments_value-loop-other-preserved t c f h =
     let n = c.args.entries in
     let l = c.loop-other in
     let other = c.other-item.result in
-    makes_next argument_of with_argument (λ q. IsValueOf n q (expression_of l.left))
-    (λ q. IsValueOf n q (expression_of c.in_ok-left.left)) c.args.others.now l.other-index other
+    makes_next argument_of with_argument (λ q. IfOk l.left (λ x. IsValueOf n q (expression_of x)))
+    (λ q. IfOk c.sides_value-left.result (λ x. IsValueOf n q (expression_of x))) c.args.others.now l.other-index other
     (fold with_argument f (map argument_of c.args.others.now)) c.other-item.is c.loop-other-test.true
-    (λ q here. c.in_ok-left.ensures q other.comma refl here)
+    (λ q here. c.sides_value-left.ensures n q (formula_of other.value) other.comma refl here c.value-right.ensures)
     (l.invariant f h)
+
+pub arguments_value-returns : goal.arguments_value-returns
+arguments_value-returns t c f h =
+    let l = c.loop-other in
+    let past : length c.args.others.now ≤ l.other-index = search rules in
+    makes_whole argument_of with_argument (λ q. IfOk l.left (λ x. IsValueOf c.args.entries q (expression_of x)))
+    c.args.others.now l.other-index (fold with_argument f (map argument_of c.args.others.now)) past (l.invariant f h)

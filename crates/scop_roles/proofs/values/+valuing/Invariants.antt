@@ -1,4 +1,5 @@
 use Rattle.std.proofs.Common.{map, drop, fold}
+use Rattle.std.specs.Prelude.{IfOk}
 use Rattle.scop_syntax.specs.View.{expression_of}
 use Rattle.scop_roles.specs.Formula.{Formula, argument_of, with_argument}
 use Rattle.scop_roles.specs.Values.{IsValueOf}
@@ -7,6 +8,6 @@ use Rattle.scop_roles.proofs.values.+valuing.Given as goal
 
 abbrev pub invariant-arguments_value-loop-other : goal.invariant-arguments_value-loop-other
 invariant-arguments_value-loop-other l =
-    (f : Formula) → IsValueOf l.entries f (expression_of l.fn.first)
-    → Makes with_argument (λ q. IsValueOf l.entries q (expression_of l.left))
+    (f : Formula) → IfOk l.fn.first (λ e. IsValueOf l.entries f (expression_of e))
+    → Makes with_argument (λ q. IfOk l.left (λ e. IsValueOf l.entries q (expression_of e)))
     (map argument_of (drop l.other-index l.others)) (fold with_argument f (map argument_of l.others))

@@ -1,22 +1,16 @@
-use Rattle.std.proofs.Common.{rules, ◌≤◌, length, map, fold, refl}
+use Rattle.std.proofs.Common.{rules, ◌≤◌, length, map, fold}
 use Rattle.scop_roles.specs.Formula.{formula_of, index}
 use Rattle.scop_roles.proofs.Chains.{HasForms, makes_next, makes_whole}
-use Rattle.scop_roles.proofs.Making.{pushed_subscripts}
 use Rattle.scop_roles.proofs.values.push_forms.Goals as goal
 
 pub loop-subscript-preserved : goal.loop-subscript-preserved
 loop-subscript-preserved c p xs h =
     let n = c.args.entries in
     let l = c.loop-subscript in
-    let old = l.forms.items in
-    let new = c.push_behind.new.values.items in
-    let i = formula_of c.subscript-item.result in
-    makes_next formula_of index (HasForms n old xs) (HasForms n new xs) c.args.subscripts.now l.subscript-index
-    c.subscript-item.result (fold index p (map formula_of c.args.subscripts.now)) c.subscript-item.is
-    c.loop-subscript-test.true
-    (λ q before. pushed_subscripts n (index q i) q i xs old new c.in-Ok.form refl before c.in-Ok.ensures.form
-    c.in-Ok-push_behind.ensures)
-    (l.invariant p xs h)
+    makes_next formula_of index (HasForms n l.forms.items xs) (HasForms n c.push_form.new.forms.items xs)
+    c.args.subscripts.now l.subscript-index c.subscript-item.result
+    (fold index p (map formula_of c.args.subscripts.now)) c.subscript-item.is c.loop-subscript-test.true
+    (λ q before. c.in-Ok.ensures q xs before) (l.invariant p xs h)
 
 pub returns : goal.returns
 returns c p xs h =
