@@ -13,7 +13,10 @@ fn are_within(n: usize, edges: &[(usize, usize)]) -> bool
 {
     for at in 0..edges.len() {
         let (source, target) = edges[at];
-        if source >= n || target >= n {
+        if source >= n {
+            return false;
+        }
+        if target >= n {
             return false;
         }
     }

@@ -58,18 +58,14 @@ fn kernel<const N: usize, const C: usize>(
 }
 
 /// That they are those, in order.
-fn expect<const N: usize, const C: usize>(
-    rt: &impl Abort,
-    vectors: Result<Option<Rows>, AllocError>,
-    want: [[i128; C]; N],
-) {
+fn expect(rt: &impl Abort, vectors: Result<Option<Rows>, AllocError>, want: &[&[i128]]) {
     match vectors {
         Err(_) => {}
         Ok(None) => panic!(rt; "the rows have small coefficients"),
         Ok(Some(vectors)) => {
-            assert_eq!(rt; vectors.len(), N);
-            for at in 0..N {
-                expect_vector(rt, &vectors, at, &want[at]);
+            assert_eq!(rt; vectors.len(), want.len());
+            for at in 0..want.len() {
+                expect_vector(rt, &vectors, at, want[at]);
             }
         }
     }
@@ -84,14 +80,18 @@ fn expect_vector(rt: &impl Abort, vectors: &[Vec<i128>], at: usize, want: &[i128
 
 #[test]
 fn one_row_of_two_columns(rt: HostRuntime) {
-    expect(&rt, kernel(rt.alloc(), [[1, 0]]), [[0, 1]]);
+    expect(&rt, kernel(rt.alloc(), [[1, 0]]), &[&[0, 1]]);
 }
 
 #[test]
 fn a_third_row_that_adds_the_others(rt: HostRuntime) {
     let rows = [[1, 2, 0, 3, 1], [0, 0, 1, 1, 0], [1, 2, 1, 4, 1]];
-    let want = [[-2, 1, 0, 0, 0], [-3, 0, -1, 1, 0], [-1, 0, 0, 0, 1]];
-    expect(&rt, kernel(rt.alloc(), rows), want);
+    let vectors = kernel(rt.alloc(), rows);
+    expect(
+        &rt,
+        vectors,
+        &[&[-2, 1, 0, 0, 0], &[-3, 0, -1, 1, 0], &[-1, 0, 0, 0, 1]],
+    );
 }
 
 #[test]
@@ -102,12 +102,12 @@ fn four_rows_of_great_coefficients(rt: HostRuntime) {
         [4096, 4095, 0, 4096, 3909],
         [0, 4093, 4093, 1, 3564],
     ];
-    let want = [[
+    let vector = [
         257571701350311,
         -476579080024251,
         -257428664266782,
         -585736857051255,
         843119931043841,
-    ]];
-    expect(&rt, kernel(rt.alloc(), rows), want);
+    ];
+    expect(&rt, kernel(rt.alloc(), rows), &[&vector]);
 }

@@ -13,7 +13,8 @@ loop-at-preserved c =
     let fits : FitsSigned w128 (get_or row i (pos 0)) = search rules in
     let low = c.if-row-at-lt0.false in
     let high = c.if-row-at-gt4096.false in
-    All-more (IsWithin (2 ^ 14)) row i (pos 0) (omega arith) c.loop-at.invariant (omega (arith, ints, low, high))
+    All-more (IsWithin (2 ^ 14)) row i (pos 0) (omega arith) c.loop-at.invariant
+    (omega (arith, ints, low, high))
 
 pub returns-clause-coefficients : goal.returns-clause-coefficients
 returns-clause-coefficients c =
