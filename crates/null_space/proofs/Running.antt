@@ -12,7 +12,7 @@ use Rattle.whole_numbers.specs.Lists.{dot, sums, multiples, zeros}
 use Rattle.whole_numbers.specs.Content.{content}
 use Rattle.whole_numbers.proofs.Dot.{length-sums, length-multiples, length-zeros}
 use Rattle.whole_numbers.proofs.Remainders.{length-floors}
-use Rattle.null_space.specs.Narrowing.{is_zero, made_flat, against, narrowed_by, narrowed_all, units_from}
+use Rattle.null_space.specs.Narrowing.{made_flat, against, narrowed_by, narrowed_all, units_from}
 use Rattle.null_space.specs.Narrowing.{kernel_vectors, Grows}
 use Rattle.null_space.specs.Sizes.{AreWithin, AreLong, AreNarrow}
 use Rattle.null_space.proofs.Stages.{zero_of, narrowed_yes, narrowed_off}
@@ -32,17 +32,6 @@ sums_step a b xs ys i h e =
 pub zeros_are : (n : ℕ) → zeros n ≡ replicate n (pos 0)
 zeros_are zero = refl
 zeros_are (suc n) = ap (λ (l : List ℤ). pos 0 ∷ l) (zeros_are n)
-
--- lists of vectors
-pub map_step : (f : List ℤ → List ℤ) (vs : List (List ℤ)) (i : ℕ) → i < length vs
-    → f (get_or vs i []) ∷ map f (drop (i + 1) vs) ≡ map f (drop i vs)
-map_step f vs i h = rw (add-one i, drop-cons vs i [] h) refl
-
-pub stays : (c : List ℤ) (vs : List (List ℤ)) (i : ℕ) → i < length vs → dot (get_or vs i []) c ≡ pos 0
-    → get_or vs i [] ∷ narrowed_by c (drop (i + 1) vs) ≡ narrowed_by c (drop i vs)
-stays c vs i h e =
-    rw (add-one i, drop-cons vs i [] h)
-    (sym (narrowed_yes c (get_or vs i []) (drop (suc i) vs) (ap is_zero e)))
 
 pub goes : (c : List ℤ) (vs : List (List ℤ)) (i : ℕ) → i < length vs → (dot (get_or vs i []) c ≡ pos 0 → ⊥)
     → map (against c (get_or vs i [])) (drop (i + 1) vs) ≡ narrowed_by c (drop i vs)
@@ -117,11 +106,6 @@ pub small_at : (i : ℕ) (vs : List (List ℤ)) (xs : List ℤ) → xs ≡ get_o
     → 2 ≤ length vs → AreNarrow vs → AreWithin (2 ^ 47) xs
 small_at i vs xs e h two s =
     subst (AreWithin (2 ^ 47)) (sym e) (All-get_or (AreWithin (2 ^ 47)) vs i [] h (s.several two))
-
-pub last_at : (i : ℕ) (vs : List (List ℤ)) (xs : List ℤ) → xs ≡ get_or vs i [] → i < length vs → AreNarrow vs
-    → AreWithin (2 ^ 109) xs
-last_at i vs xs e h s =
-    subst (AreWithin (2 ^ 109)) (sym e) (All-get_or (AreWithin (2 ^ 109)) vs i [] h s.last)
 
 -- what the code's vectors stand for
 abbrev pub views : List (Vec ℤ Global) → List (List ℤ)

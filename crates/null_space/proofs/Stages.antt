@@ -275,10 +275,6 @@ kernel_stage m n rows five all =
     stage_narrowed_all m n rows (units_from n 0 n) five all
     (units (let e = units_length n 0 n in omega (arith, e)) (units_each n 0 n (omega arith)))
 
--- in numbers
-all_more : (m k : ℕ) (ns : List (List ℤ)) → m ≤ k → All (AreWithin m) ns → All (AreWithin k) ns
-all_more m k ns h all = All-weaker (AreWithin m) (AreWithin k) (λ v. are_within_more m k v h) ns all
-
 stage_within : (m k n : ℕ) (ns : List (List ℤ)) → 1 ≤ k → two m 1 ≤ k → three m 1 ≤ k → four m 1 ≤ k
     → (length ns + 4 ≤ n → great m ≤ k)
     → Stage m n ns → All (AreWithin k) ns

@@ -145,7 +145,3 @@ get_or_last [] y zero d h = refl
 get_or_last [] y (suc i) d h = absurd (omega (arith, h))
 get_or_last (x ∷ xs) y zero d h = absurd (omega (arith, h))
 get_or_last (x ∷ xs) y (suc i) d h = get_or_last xs y i d (omega (arith, h))
-
-pub not_false : (b : Bool) → (b ≡ false → ⊥) → b ≡ true
-not_false true h = refl
-not_false false h = absurd (h refl)
