@@ -3,11 +3,15 @@
 #![tactic(auto)]
 
 #[cfg(test)]
+mod components;
+#[cfg(test)]
 mod dependence_rows;
 #[cfg(test)]
 mod elimination;
 #[cfg(test)]
 mod forms;
+#[cfg(test)]
+mod kernel_vectors;
 #[cfg(test)]
 mod numbers;
 #[cfg(test)]

@@ -1,0 +1,10 @@
+pub mod Minors
+pub mod Within
+pub mod Along
+pub mod Stages
+pub mod Running
+pub mod Spans
+pub mod Orthogonal
+pub mod Reduced
+pub mod Echelon
+pub mod Spanned

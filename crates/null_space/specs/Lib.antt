@@ -1,0 +1,3 @@
+pub mod Echelon
+pub mod Narrowing
+pub mod Sizes

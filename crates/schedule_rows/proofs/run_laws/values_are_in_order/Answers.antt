@@ -1,0 +1,6 @@
+use Rattle.std.specs.Prelude.{◌≡◌}
+use Rattle.schedule_rows.proofs.Along.{along_values}
+use Rattle.schedule_rows.proofs.run_laws.values_are_in_order.Goals as goal
+
+pub returns : goal.returns
+returns c blocks x y a = along_values blocks x y (x.number ≡ y.number) a

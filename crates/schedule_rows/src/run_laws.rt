@@ -1,0 +1,92 @@
+//! What the determined run gives.
+ghost use Rattle.std.specs.Prelude.{◌≡◌, ℕ, ◌≤◌, ℤ, pos, ◌<ℤ◌, List, [], ◌∷◌, ◌++◌, length, ◌⊎◌};
+ghost use Rattle.whole_numbers.specs.Lexicographic.{LexLess};
+ghost use Rattle.scop_syntax.specs.Members.{In};
+ghost use Rattle.scop_syntax.specs.Walk.{Instance};
+ghost use Rattle.schedule_rows.specs.Items.{Row, Block, values};
+ghost use Rattle.schedule_rows.specs.Bands.{Along};
+ghost use Rattle.iteration_domains.specs.Dependence.{Dependence};
+ghost use Rattle.schedule_rows.specs.Dependences.{Relates};
+ghost use Rattle.schedule_rows.specs.Next.{State, IsSizedDep};
+ghost use Rattle.schedule_rows.specs.Outcomes.{Runs, IsSchedule, Outcome, Next};
+ghost use Rattle.schedule_rows.specs.Posed.{IsLeast};
+ghost use Rattle.schedule_rows.specs.Measure.{measure};
+ghost use Rattle.schedule_rows.specs.Tiles.{IsGoodPair};
+
+use null_space::{full_rank_leaves_only_0, kernel_vectors_are_kept, rows_take_kernel_vectors};
+use stmt_graph::numberings_are_unique;
+
+/// Along a schedule no scalar falls at a pair of any dependence, and as long as all values before are equal no row of a
+/// band does; rows that are marked parallel stay; if all are equal the pair is of one statement.
+pub fn schedules_keep_every_band()
+    ensures { (m : ℕ) (loops : List ℕ) (deps : List Dependence) (blocks : List Block)
+        → ((d : Dependence) → In d deps → IsSizedDep loops d)
+        → IsSchedule m loops deps blocks
+        → (d : Dependence) (params : List ℤ) (x y : Instance)
+        → In d deps
+        → length params ≡ m
+        → Relates params d x y
+        → Along blocks x y (x.number ≡ y.number) }
+{}
+
+/// Then the item values come in order, or are equal.
+pub fn values_are_in_order()
+    ensures { (blocks : List Block) (x y : Instance)
+        → Along blocks x y (x.number ≡ y.number)
+        → LexLess (values blocks x) (values blocks y)
+        ⊎ ((values blocks x ≡ values blocks y) × (x.number ≡ y.number)) }
+{}
+
+/// A schedule with any size of tiles is a good plan, for dependences whose pairs of one statement are in order.
+pub fn schedules_are_good_plans()
+    ensures { (m : ℕ) (loops : List ℕ) (deps : List Dependence) (blocks : List Block) (size : ℤ) (n : ℕ)
+        → pos 0 <ℤ size
+        → ((d : Dependence) → In d deps → IsSizedDep loops d)
+        → IsSchedule m loops deps blocks
+        → (d : Dependence) (params : List ℤ) (x y : Instance)
+        → In d deps
+        → length params ≡ m
+        → Relates params d x y
+        → (x.number ≡ y.number → LexLess x.turns y.turns)
+        → IsGoodPair size blocks n x y }
+{}
+
+/// A run has no more steps than the measure: twice the kernel vectors and the dependences, and the open band.
+pub fn runs_are_short()
+    ensures { (m : ℕ) (loops : List ℕ) (s : State) (states : List State) (blocks : List Block)
+        → Runs m loops s states blocks
+        → length states ≤ measure loops s }
+{
+    kernel_vectors_are_kept();
+    rows_take_kernel_vectors();
+}
+
+/// What comes next is determined: a state has one outcome.
+pub fn each_state_has_one_outcome()
+    ensures { (m : ℕ) (loops : List ℕ) (s : State) (o q : Outcome) → Next m loops s o → Next m loops s q → o ≡ q }
+{
+    numberings_are_unique();
+}
+
+/// The time of the earlier of two dependent instances, its item values and its statement's number, comes first.
+pub fn times_rise_along_dependences()
+    ensures { (m : ℕ) (loops : List ℕ) (deps : List Dependence) (blocks : List Block)
+        → ((d : Dependence) → In d deps → IsSizedDep loops d)
+        → IsSchedule m loops deps blocks
+        → (d : Dependence) (params : List ℤ) (x y : Instance)
+        → In d deps
+        → length params ≡ m
+        → Relates params d x y
+        → (x.number ≡ y.number → LexLess x.turns y.turns)
+        → LexLess (values blocks x ++ pos x.number ∷ []) (values blocks y ++ pos y.number ∷ []) }
+{
+    full_rank_leaves_only_0();
+}
+
+/// A posed set has one least row.
+pub fn least_rows_are_unique()
+    ensures { (m : ℕ) (loops : List ℕ) (deps : List Dependence) (before : List Row) (r q : Row)
+        → IsLeast m loops deps before r
+        → IsLeast m loops deps before q
+        → r ≡ q }
+{}
