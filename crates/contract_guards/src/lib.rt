@@ -1,0 +1,13 @@
+//! Callers that hold public promises in place: each function calls a public call or law of a crate below, and its own
+//! contract follows from one clause of that call alone. Where such a clause is emptied or weakened, and no proof above
+//! cites it, the caller here no longer proves. Nothing is built on this crate.
+#![tactic(auto)]
+
+pub mod domains;
+pub mod forms;
+pub mod nodes;
+pub mod numbers;
+pub mod ports;
+pub mod systems;
+pub mod texts;
+pub mod trees;
