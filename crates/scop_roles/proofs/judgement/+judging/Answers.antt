@@ -1,12 +1,10 @@
 use Rattle.std.proofs.Common.{map, fold, ap, sym, subst, ◌∙◌}
 use Rattle.std.specs.Prelude.{IfOk}
-use Rattle.expression_grammar.specs.declared.token.Op.TheVariants as op
-use Rattle.scop_roles.specs.Formula.{argument_of, binary, call, cast, index, formula_of, unary, with_argument}
+use Rattle.scop_roles.specs.Formula.{argument_of, binary, cast, index, formula_of, unary, with_argument}
 use Rattle.scop_roles.specs.Judgement.{IsJudgement}
 use Rattle.scop_roles.proofs.Views.{formula_index, formula_bare_call, formula_unary, formula_cast, formula_commas}
 use Rattle.scop_roles.proofs.Views.{formula_binary}
 use Rattle.scop_roles.proofs.Chains.{makes_next}
-use Rattle.scop_roles.proofs.Making.{judged_limits}
 use Rattle.scop_roles.proofs.judgement.+judging.Goals as goal
 
 pub judge-returns-in-BareCall : goal.judge-returns-in-BareCall

@@ -1,7 +1,5 @@
-use Rattle.std.proofs.Common.{rules, ◌≡◌, ◌++◌, None, map, fold, ap, sym, subst, ◌∙◌}
+use Rattle.std.proofs.Common.{rules, ◌≡◌, map, fold, ap, sym, subst, ◌∙◌}
 use Rattle.scop_roles.specs.Formula.{formula_of, index}
-use Rattle.scop_roles.specs.Faults.{first, place_faults}
-use Rattle.scop_roles.specs.Values.{subscript_forms}
 use Rattle.scop_roles.proofs.Views.{formula_index}
 use Rattle.scop_roles.proofs.Chains.{HasForms}
 use Rattle.scop_roles.proofs.Making.{on_ok}

@@ -1,4 +1,4 @@
-use Rattle.std.proofs.Common.{rules, ◌≡◌, [], ◌∷◌, ◌++◌, map, fold, ap, sym, subst, ◌∙◌}
+use Rattle.std.proofs.Common.{◌≡◌, [], ◌∷◌, ◌++◌, map, fold, ap, sym, subst, ◌∙◌}
 use Rattle.expression_grammar.specs.declared.token.Op.TheVariants as op
 use Rattle.scop_roles.specs.Formula.{argument_of, formula_of, place, with_argument}
 use Rattle.scop_roles.specs.Values.{read_places}
