@@ -8,3 +8,4 @@ pub mod Meaning
 pub mod Asking
 pub mod Forming
 pub mod Going
+pub mod Placing

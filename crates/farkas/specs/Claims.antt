@@ -1,12 +1,12 @@
 -- The forms of the legality and the bounding claim on a dependence, at given unknowns and as factors of them.
-use Rattle.std.specs.Prelude.{ℕ, zero, suc, ◌+◌, nat_eq, if◌then◌else◌, ℤ, pos, negsuc, ◌+ℤ◌, ◌*ℤ◌, List, [], ◌∷◌}
-use Rattle.std.specs.Prelude.{◌++◌, set, get_or}
+use Rattle.std.specs.Prelude.{ℕ, zero, suc, ◌+◌, nat_eq, if◌then◌else◌, ℤ, pos, negsuc, ◌+ℤ◌, ◌-ℤ◌, ◌*ℤ◌, List}
+use Rattle.std.specs.Prelude.{[], ◌∷◌, ◌++◌, set, get_or}
 use Rattle.whole_numbers.specs.Affine.{Affine, form_of}
 use Rattle.whole_numbers.specs.Lists.{zeros, multiples}
 use Rattle.farkas.specs.declared.claim.Claim.{Claim}
 use Rattle.farkas.specs.declared.claim.Claim.TheVariants.{Legality, Bounding}
 use Rattle.iteration_domains.specs.declared.dep.DepEnd.{DepEnd}
-use Rattle.farkas.specs.Unknowns.{layout_of, coefficients_of, shift_of, bounds_of}
+use Rattle.farkas.specs.Unknowns.{layout_of, coefficients_of, shift_of, bounds_of, Unknowns}
 
 -- With which factors the target's row phi_T(t), the source's row phi_S(s) and the bound u.n + w stand in a claimed
 -- form: phi_T(t) - phi_S(s) is the legality form, u.n + w - (phi_T(t) - phi_S(s)) the bounding form.
@@ -38,7 +38,21 @@ claimed claim source target p unknowns =
     +ℤ ((source_factor claim *ℤ shift_of unknowns places.source source.loops)
     +ℤ (target_factor claim *ℤ shift_of unknowns places.target target.loops)))
 
--- Its numbers as lists of factors of the unknowns.
+-- The claimed forms of unknowns by name.
+
+-- how much later the target comes, phi_T(t) - phi_S(s), over both's iterators and p parameters
+abbrev pub distance : ℕ → Unknowns → Affine
+distance p x =
+    form_of (multiples (negsuc 0) x.source.coefficients ++ (x.target.coefficients ++ zeros p))
+    (x.target.shift -ℤ x.source.shift)
+
+-- what the bound leaves of it, u.n + w - (phi_T(t) - phi_S(s))
+abbrev pub slack : Unknowns → Affine
+slack x =
+    form_of (x.source.coefficients ++ (multiples (negsuc 0) x.target.coefficients ++ x.u))
+    (x.w +ℤ (x.source.shift -ℤ x.target.shift))
+
+-- The claimed form's numbers as lists of factors of the unknowns.
 
 -- n factors, of which only the one at a place is not 0
 abbrev pub only : ℕ → ℕ → ℤ → List ℤ

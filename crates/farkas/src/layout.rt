@@ -7,11 +7,15 @@ ghost use Rattle.farkas.specs.Unknowns.{layout_of, behind};
 
 use iteration_domains::DepEnd;
 
-/// How many unknowns there are, and where the coefficients of source and target begin.
+/// The columns of a dependence's rows: a `u` for each parameter from 0 on, `w` behind them, then the unknowns of each
+/// statement.
 #[derive(Clone, Copy)]
 pub struct Layout {
+    /// How many unknowns there are.
     pub unknowns: usize,
+    /// Where the source's begin: its coefficients, innermost first, then its shift.
     pub source: usize,
+    /// Where the target's begin; one statement's stand once.
     pub target: usize,
 }
 
@@ -23,7 +27,8 @@ fn place_behind(first: usize, side: DepEnd) -> Option<usize>
     first.checked_add(side.loops)?.checked_add(1)
 }
 
-/// The layout; nothing where a place does not fit its type.
+/// The layout of the rows of a dependence with so many parameters between these ends; nothing where a place does not
+/// fit its type.
 #[tactic(auto, unfolding(crate::specs::Unknowns::layout_of))]
 pub fn lay_out(parameters: usize, source: DepEnd, target: DepEnd) -> Option<Layout>
     ensures layout { ForSome result (λ l. l ≡ layout_of parameters source target) }

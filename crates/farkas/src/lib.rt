@@ -25,12 +25,14 @@ mod stuck;
 
 use crate::claim::Claim;
 use crate::elimination::without_multipliers;
-use crate::layout::{Layout, lay_out};
 use crate::matching::{last_rows, matching};
 use crate::stuck::by_form;
 use integer_sets::System;
 use iteration_domains::{Dep, DepEnd};
-pub use laws::claimed_forms_are_distances;
+pub use laws::{
+    claimed_forms_are_distances, rows_speak_of_the_layout, unknowns_stand_by_the_layout,
+};
+pub use layout::{Layout, lay_out};
 use std::alloc::Global;
 pub use stuck::Stuck;
 

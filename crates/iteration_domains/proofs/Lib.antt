@@ -5,3 +5,4 @@ pub mod Sizes
 pub mod Small
 pub mod Entering
 pub mod Placing
+pub mod Restricting

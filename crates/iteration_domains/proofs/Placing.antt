@@ -15,7 +15,7 @@ use Rattle.scop_syntax.specs.Tree.{more, Program}
 use Rattle.scop_syntax.specs.Cells.{reads_of, reads_with}
 use Rattle.scop_syntax.specs.Kernel.{IsAffine, IsAccess, IsExpression, IsRight, IsStatement, AreScopes, AreTrees}
 use Rattle.scop_syntax.specs.Kernel.{IsKernel, ranks_of}
-use Rattle.scop_syntax.specs.Walk.{statements_in, statements_in_all}
+use Rattle.scop_syntax.specs.Walk.{statements_in}
 use Rattle.scop_syntax.specs.Statements.{Scope, round, under, loops_in, Placed, in_loop_of, in_guard_of, placed}
 use Rattle.scop_syntax.specs.Statements.{placed_all, statements_of}
 use Rattle.scop_syntax.specs.Members.{In}

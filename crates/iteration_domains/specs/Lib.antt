@@ -6,3 +6,4 @@ pub mod Instances
 pub mod Standing
 pub mod Path
 pub mod Dependence
+pub mod Restrictions

@@ -1,6 +1,16 @@
 //! A dependence between two accesses: an ordered pair of them with a system over the turns of both instances and the
 //! parameters.
+ghost use Rattle.std.specs.Prelude.{◌≡◌, ℤ, pos, ◌≤ℤ◌, List, ◌++◌, ◌∷◌, [], ◌↔◌, IfOk};
+ghost use Rattle.whole_numbers.specs.Affine.{value_of};
+ghost use Rattle.affine_forms.specs.Parts.{variables_of};
+ghost use Rattle.integer_sets.specs.Constraints.{system_of, variables_in};
+ghost use Rattle.integer_sets.specs.Points.{Satisfies};
+ghost use Rattle.iteration_domains.specs.Restrictions.{equality_behind, row_behind};
+
+use crate::forms::push_form;
+use affine_forms::Form;
 use integer_sets::System;
+use std::alloc::{AllocError, Global};
 use std::marker::Model;
 
 /// One end of a dependence: a statement's number from 0, how many loops stand round it, and which of its accesses.
@@ -30,4 +40,83 @@ impl Model for Dep {
     ghost view = { λ d. dependence d.source d.target d.depth d.system };
 
     ghost invariant = { λ d. IsDependence (dependence d.source d.target d.depth d.system) };
+}
+
+impl Dep {
+    /// The dependence at the points at which a form is 0 too: with an equality behind those that stand.
+    ///
+    /// # Errors
+    /// `AllocError` alone.
+    pub fn with_equality(&self, alloc: Global, form: Form) -> Result<Dep, AllocError>
+        requires { variables_of form ≡ variables_in self.now.system }
+        ensures dependence { IfOk result (λ d. d ≡ equality_behind self.now form) }
+        ensures points { IfOk result (λ d. (point : List ℤ) → Satisfies d.system point
+            ↔ (Satisfies self.now.system point × (value_of form point ≡ pos 0))) }
+    {
+        match with_equality(alloc, &self.system, form) {
+            Err(_) => Err(AllocError),
+            Ok(system) => Ok(Dep {
+                source: self.source,
+                target: self.target,
+                depth: self.depth,
+                system,
+            }),
+        }
+    }
+
+    /// The dependence at the points at which a form is not negative too: with a row behind those that stand.
+    ///
+    /// # Errors
+    /// `AllocError` alone.
+    pub fn with_row(&self, alloc: Global, form: Form) -> Result<Dep, AllocError>
+        requires { variables_of form ≡ variables_in self.now.system }
+        ensures dependence { IfOk result (λ d. d ≡ row_behind self.now form) }
+        ensures points { IfOk result (λ d. (point : List ℤ) → Satisfies d.system point
+            ↔ (Satisfies self.now.system point × (pos 0 ≤ℤ value_of form point))) }
+    {
+        match with_row(alloc, &self.system, form) {
+            Err(_) => Err(AllocError),
+            Ok(system) => Ok(Dep {
+                source: self.source,
+                target: self.target,
+                depth: self.depth,
+                system,
+            }),
+        }
+    }
+}
+
+/// A copy of a system.
+fn copied(alloc: Global, system: &System) -> Result<System, AllocError>
+    ensures { IfOk result (λ s. s ≡ system.now) }
+{
+    System::of(
+        alloc,
+        system.dimensions(),
+        system.parameters(),
+        system.equalities(),
+        system.rows(),
+    )
+}
+
+/// A copy of a system, with an equality more.
+fn with_equality(alloc: Global, system: &System, form: Form) -> Result<System, AllocError>
+    requires { variables_of form ≡ variables_in system.now }
+    ensures { IfOk result (λ s. s ≡ system_of system.now.dimensions system.now.parameters
+        (system.now.equalities ++ form ∷ []) system.now.rows) }
+{
+    let (mut equalities, rows) = copied(alloc, system)?.into_parts();
+    push_form(&mut equalities, form)?;
+    Ok(System::from_parts(system.dimensions(), system.parameters(), equalities, rows))
+}
+
+/// A copy of a system, with a row more.
+fn with_row(alloc: Global, system: &System, form: Form) -> Result<System, AllocError>
+    requires { variables_of form ≡ variables_in system.now }
+    ensures { IfOk result (λ s. s ≡ system_of system.now.dimensions system.now.parameters
+        system.now.equalities (system.now.rows ++ form ∷ [])) }
+{
+    let (equalities, mut rows) = copied(alloc, system)?.into_parts();
+    push_form(&mut rows, form)?;
+    Ok(System::from_parts(system.dimensions(), system.parameters(), equalities, rows))
 }
