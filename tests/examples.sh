@@ -1,6 +1,7 @@
 #!/bin/sh
-# Runs each kernel of examples/ and compares what it prints with the arrays beside it; also looks that the stored calls
-# of crates/command_cases have each of these files, byte for byte.
+# Runs each kernel of examples/ and compares what it prints with the arrays beside it; looks that the stored calls of
+# crates/command_cases have each of these files, byte for byte; and that a process ends with each exit status that its
+# streams can be brought to give.
 set -u
 root=$(CDPATH= cd -- "$(dirname -- "$0")/.." && pwd)
 failed=0
@@ -18,5 +19,31 @@ for kernel in "$root"/examples/*.c; do
         echo "$kernel is not among the stored calls"
     }
 done
+
+# Whether `polypar` with the words behind $3, on the text $3, ends with status $1 and says $2.
+expect() {
+    status=$1 line=$2 text=$3
+    shift 3
+    said=$(printf '%b' "$text" | "$root/polypar" "$@" 2>&1 >/dev/null)
+    ended=$?
+    if [ "$ended" -eq "$status" ] && [ "${said%%"$line"*}" != "$said" ]; then
+        passed=$((passed + 1))
+    else
+        failed=$((failed + 1))
+        echo "$line: status $ended for $status, and it says $said"
+    fi
+}
+
+copy='void c(int64_t N, uint64_t A[N]) { for (int64_t i = 0; i < N; i++) A[i] = A[i + 1]; }\n%%\n'
+expect 1 'usage: ' '' walk
+expect 2 'refused: Unended 1:7' 'void c' run
+expect 3 'data: Missing N' "$copy" run
+expect 4 'outside: S1 access 1 dimension 1 value 1 extent 1' "${copy}N = 1\n" run
+if [ -c /dev/full ]; then
+    "$root/polypar" run <"$root/examples/copy.c" 2>/dev/null >/dev/full
+    if [ $? -eq 6 ]; then passed=$((passed + 1)); else failed=$((failed + 1)) && echo "a full device is no write fault"; fi
+fi
+"$root/polypar" run <"$root" 2>/dev/null >/dev/null
+if [ $? -eq 5 ]; then passed=$((passed + 1)); else failed=$((failed + 1)) && echo "a folder is no read fault"; fi
 echo "$passed passed, $failed failed"
 [ "$failed" -eq 0 ]
