@@ -1,6 +1,6 @@
 //! The multipliers are eliminated one after another.
 
-ghost use Rattle.std.specs.Prelude.{◌≡◌, ℕ, ◌<◌, ◌≤◌, ◌+◌, ◌-◌, All, IfOk, map};
+ghost use Rattle.std.specs.Prelude.{◌≡◌, ℕ, ◌<◌, ◌≤◌, ◌-◌, All, IfOk, map};
 ghost use Rattle.affine_forms.specs.Parts.{variables_of};
 ghost use Rattle.fractions.specs.Elimination.{narrowed};
 ghost use Rattle.farkas.specs.Run.{without_column, narrowing, left_run};
