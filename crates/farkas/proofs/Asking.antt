@@ -1,12 +1,12 @@
 -- Questions of rows, one after another.
 use Rattle.std.proofs.Common.{◌≡◌, ℕ, zero, suc, ◌+◌, ◌<◌, ◌≤◌, Bool, true, false, List, [], ◌∷◌, ◌++◌, length}
 use Rattle.std.proofs.Common.{get_or, take, drop, refl, sym, ◌∙◌, ap, ap₂, subst, All, arith, inl, inr, ◌⊎◌, add-one}
-use Rattle.std.proofs.Common.{drop-cons}
+use Rattle.std.proofs.Common.{drop-cons, ◌-◌}
 use Rattle.std.specs.Prelude.{negsuc, if◌then◌else◌, Result, Ok, Err}
-use Rattle.std.proofs.lemmas.List.{take_all}
+use Rattle.std.proofs.lemmas.List.{take_all, length-append}
 use Rattle.std.proofs.Math.ListN.{drop_of_length-le}
 use Rattle.std.proofs.Math.Seq.{take-append_seam}
-use Rattle.std.proofs.lemmas.List.Elements.{All-cons, All-nil, All-append, All-tail}
+use Rattle.std.proofs.lemmas.List.Elements.{All-cons, All-nil, All-append, All-tail, All-take, All-drop}
 use Rattle.whole_numbers.specs.Affine.{Affine}
 use Rattle.whole_numbers.proofs.Dot.{length-multiples}
 use Rattle.affine_forms.specs.declared.stop.FormStop.{FormStop}
@@ -19,6 +19,7 @@ use Rattle.pip_solver.specs.Answers.{Empties}
 use Rattle.farkas.specs.declared.stuck.Stuck.TheVariants as stuck
 use Rattle.farkas.specs.Run.{Halt, ◌>>◌, formed, emptiness, implied_run, kept_run, others, kept_from}
 use Rattle.farkas.specs.Run.{dropped_run}
+use Rattle.farkas.specs.Questions.{asking, settled}
 use Rattle.farkas.specs.Gives.{Halts, stuck_of_form, stuck_of_solver}
 use Rattle.farkas.proofs.Chains.{halts-then, halts-after, halts-same, halts-formed, emptiness-ok, halts-emptiness}
 use Rattle.farkas.proofs.Keeping.{opposite_is}
@@ -82,32 +83,62 @@ question-sized s at es rows new row negation sized flat inside is made all =
           (All-cons Sized negation [] turned (All-nil Sized)));
     }
 
-pub same-sized : (s : Constraints) (es rows new : List Affine) → IsSized (variables_in s) es rows
-    → s.parameters ≡ 0 → new ≡ rows → IsSized (s.dimensions + 0) es new
-same-sized s es rows new sized flat is =
-    let whole : variables_in s ≡ s.dimensions + 0 = omega arith in
+pub settled-sized : (q : Constraints) (n count at : ℕ) (es rows rest new : List Affine) (row : Affine)
+    → n ≡ q.dimensions → q.parameters ≡ 0 → IsSized (variables_in q) es rows → variables_of row ≡ q.dimensions
+    → rest ≡ take count rows → new ≡ take at rest ++ row ∷ drop at rest → IsSized (n + 0) es new
+settled-sized q n count at es rows rest new row own flat sized size first is =
+    let whole : variables_in q ≡ n + 0 = omega arith in
+    let Sized : Affine → Type 0 = λ f. variables_of f ≡ n + 0 in
+    let all = subst (λ (m : ℕ). All (λ f. variables_of f ≡ m) rows) whole sized.rows_sized in
+    let left = subst (λ (fs : List Affine). All Sized fs) (sym first) (All-take Sized count rows all) in
+    let fits : variables_of row ≡ n + 0 = omega arith in
     record {
       equalities_sized = subst (λ (m : ℕ). All (λ f. variables_of f ≡ m) es) whole sized.equalities_sized;
-      rows_sized = subst (λ (fs : List Affine). All (λ f. variables_of f ≡ s.dimensions + 0) fs) (sym is)
-          (subst (λ (m : ℕ). All (λ f. variables_of f ≡ m) rows) whole sized.rows_sized);
+      rows_sized = subst (λ (fs : List Affine). All Sized fs) (sym is)
+          (All-append Sized (take at rest) (row ∷ drop at rest) (All-take Sized at rest left)
+          (All-cons Sized row (drop at rest) fits (All-drop Sized at rest left)));
     }
 
 -- the others in front of one more
-pub others_length : (rows : List Affine) (at : ℕ) → at < length rows → suc (length (others rows at)) ≡ length rows
+others_length : (rows : List Affine) (at : ℕ) → at < length rows → suc (length (others rows at)) ≡ length rows
 others_length [] at inside = absurd (omega arith)
 others_length (r ∷ rows) zero inside = refl
 others_length (r ∷ rows) (suc at) inside = ap suc (others_length rows at (omega arith))
 
-pub others_taken : (rest : List Affine) (f : Affine) (count : ℕ) → count ≡ length rest
+others_taken : (rest : List Affine) (f : Affine) (count : ℕ) → count ≡ length rest
     → take count (rest ++ f ∷ []) ≡ rest
 others_taken rest f count h = ap (λ (n : ℕ). take n (rest ++ f ∷ [])) h ∙ take-append_seam rest (f ∷ [])
 
 -- the row put back
-pub put_back : (rows : List Affine) (at : ℕ) (row : Affine) → at < length rows → row ≡ get_or rows at row
+put_back : (rows : List Affine) (at : ℕ) (row : Affine) → at < length rows → row ≡ get_or rows at row
     → take at (others rows at) ++ row ∷ drop at (others rows at) ≡ rows
 put_back [] at row inside is = absurd (omega arith)
 put_back (r ∷ rows) zero row inside is = ap (λ (f : Affine). f ∷ rows) is
 put_back (r ∷ rows) (suc at) row inside is = ap (λ (fs : List Affine). r ∷ fs) (put_back rows at row (omega arith) is)
+
+-- what a question leaves of the system
+pub asked-inside : (s q : Constraints) (at : ℕ) (f : Affine) → at < length s.rows → q ≡ asking s at f
+    → at < length q.rows
+asked-inside s q at f inside is =
+    let rest = others s.rows at in
+    let size : length (rest ++ f ∷ []) ≡ length rest + 1 = length-append rest (f ∷ []) in
+    let more = others_length s.rows at inside in
+    let all : at < length (rest ++ f ∷ []) = omega arith in
+    subst (λ (u : Constraints). at < length u.rows) (sym is) all
+
+pub settled-is : (s q : Constraints) (at : ℕ) (f row : Affine) (lost : Bool) → at < length s.rows
+    → row ≡ get_or s.rows at row → q ≡ asking s at f
+    → settled q at lost row ≡ system_of s.dimensions 0 s.equalities (if lost then others s.rows at else s.rows)
+settled-is s q at f row lost inside is question =
+    ap (λ (u : Constraints). settled u at lost row) question
+    ∙ ap (λ (fs : List Affine). system_of s.dimensions 0 s.equalities (if lost then fs else take at fs ++ row ∷ drop at
+    fs))
+    (others_taken (others s.rows at) f (length (others s.rows at ++ f ∷ []) - 1) (more (others s.rows at)))
+    ∙ ap (λ (fs : List Affine). system_of s.dimensions 0 s.equalities (if lost then others s.rows at else fs))
+    (put_back s.rows at row inside is)
+  where
+    more : (rest : List Affine) → length (rest ++ f ∷ []) - 1 ≡ length rest
+    more rest = let size : length (rest ++ f ∷ []) ≡ length rest + 1 = length-append rest (f ∷ []) in omega arith
 
 others_front : (rows : List Affine) (at : ℕ) → at < length rows → take at (others rows at) ≡ take at rows
 others_front [] at inside = absurd (omega arith)

@@ -29,14 +29,11 @@ narrowing-halts budget n i s stop h =
     halts-then budget (stuck_of_elimination stop) (eliminating i s) (λ (t : Constraints). Ok (without_column n i t))
     (halts-eliminating budget i s stop h)
 
-pub narrowing-gives : (i : ℕ) (s t u : Constraints) (es rows : List Affine) (n m : ℕ) → Eliminates i s (Ok t) → m ≡ n
-    → es ≡ map (narrowed i) t.equalities → rows ≡ map (narrowed i) t.rows → u ≡ system_of m 0 es rows
+pub narrowing-gives : (n i : ℕ) (s t u : Constraints) → Eliminates i s (Ok t) → u ≡ without_column n i t
     → narrowing n i s ≡ Ok u
-narrowing-gives i s t u es rows n m h size first second is =
+narrowing-gives n i s t u h is =
     ap (λ (r : Result Constraints Halt). r >> λ t. Ok (without_column n i t)) (eliminating-ok i s t h.0 h.1)
-    ∙ ap (λ (w : Constraints). Ok w)
-    (sym (is ∙ ap (λ (k : ℕ). system_of k 0 es rows) size
-    ∙ ap₂ (λ (fs gs : List Affine). system_of n 0 fs gs) first second))
+    ∙ ap (λ (w : Constraints). Ok w) (sym is)
 
 pub narrow-sized : (i n : ℕ) (fs gs : List Affine) → All (λ f. variables_of f ≡ suc n) fs → i < suc n
     → gs ≡ map (narrowed i) fs → All (λ f. variables_of f ≡ n) gs

@@ -158,10 +158,3 @@ own_rows_more v b i n m front all f size count is h =
     append_assoc front (f ∷ []) (own_rows (b + (i + 1)) m)
     ∙ ap₂ (λ (g : Affine) (j : ℕ). front ++ (g ∷ own_rows j m)) own at
     ∙ subst (λ (j : ℕ). front ++ own_rows (b + i) j ≡ all) count h
-
--- a row that is read, whatever stands for one past the end
-pub read_at : (rows : List Affine) (i : ℕ) (row d : Affine) → i < length rows → row ≡ get_or rows i row
-    → row ≡ get_or rows i d
-read_at [] i row d inside h = absurd (omega arith)
-read_at (r ∷ rows) zero row d inside h = h
-read_at (r ∷ rows) (suc i) row d inside h = read_at rows i row d (omega arith) h

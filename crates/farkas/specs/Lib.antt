@@ -4,3 +4,4 @@ pub mod Matching
 pub mod Run
 pub mod Gives
 pub mod Meaning
+pub mod Questions

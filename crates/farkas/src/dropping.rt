@@ -1,14 +1,57 @@
 //! Rows that the others imply are dropped.
 
-ghost use Rattle.std.specs.Prelude.{◌≡◌, ◌<◌, HoldsAt, length};
+ghost use Rattle.std.specs.Prelude.{◌≡◌, ◌<◌, HoldsAt, IfOk, length};
+ghost use Rattle.affine_forms.specs.Parts.{variables_of};
 ghost use Rattle.farkas.specs.Run.{dropped_run};
 ghost use Rattle.farkas.specs.Gives.{Follows, Asks};
+ghost use Rattle.farkas.specs.Questions.{Poses, settled};
 
 use crate::stuck::{Stuck, by_form, by_solver};
+use affine_forms::{Form, FormStop};
 use integer_sets::System;
 use pip_solver::is_empty;
-use std::alloc::Global;
+use std::alloc::{AllocError, Global};
 use tableau_nodes::opposite;
+
+/// The question whether the others imply the row at a place, which has its negation behind the others; and the row.
+fn pose(alloc: Global, system: System, at: usize) -> Result<(System, Form), FormStop>
+    requires place { at < length system.rows }
+    requires flat { system.parameters ≡ 0 }
+    ensures question { HoldsAt (Poses system at result) system.rows at }
+    ensures sized { IfOk result (λ p. variables_of p.1 ≡ p.0.dimensions) }
+{
+    let dimensions = system.dimensions();
+    let (equalities, mut rows) = system.into_parts();
+    let row = rows.remove(at);
+    let negation = match opposite(alloc, &row) {
+        Err(stop) => return Err(stop),
+        Ok(negation) => negation,
+    };
+    match rows.push(negation) {
+        Err(_) => Err(FormStop::NoMemory),
+        Ok(()) => Ok((System::from_parts(dimensions, 0, equalities, rows), row)),
+    }
+}
+
+/// The system that a question was of: without the form behind the others, and the row put back unless it is lost.
+fn settle(question: System, row: Form, at: usize, lost: bool) -> Result<System, AllocError>
+    requires place { at < length question.rows }
+    requires flat { question.parameters ≡ 0 }
+    requires sized { variables_of row ≡ question.dimensions }
+    ensures { IfOk result (λ t. t ≡ settled question at lost row) }
+{
+    let dimensions = question.dimensions();
+    let count = question.rows().len() - 1;
+    let (equalities, mut rows) = question.into_parts();
+    rows.truncate(count);
+    if lost {
+        return Ok(System::from_parts(dimensions, 0, equalities, rows));
+    }
+    match rows.insert(at, row) {
+        Err(_) => Err(AllocError),
+        Ok(()) => Ok(System::from_parts(dimensions, 0, equalities, rows)),
+    }
+}
 
 /// Asks whether the others imply the row at a place, and drops it where they do. It stays a function of its own in the
 /// program, so that a debugger can count the questions.
@@ -18,30 +61,17 @@ fn ask(alloc: Global, system: System, at: usize, budget: u64) -> Result<System, 
     requires flat { system.parameters ≡ 0 }
     ensures { HoldsAt (Asks budget system at result) system.rows at }
 {
-    let dimensions = system.dimensions();
-    let count = system.rows().len() - 1;
-    let (equalities, mut rows) = system.into_parts();
-    let row = rows.remove(at);
-    match opposite(alloc, &row) {
+    let (question, row) = match pose(alloc, system, at) {
         Err(stop) => return Err(by_form(stop)),
-        Ok(negation) => match rows.push(negation) {
-            Err(_) => return Err(Stuck::NoMemory),
-            Ok(()) => {}
-        },
-    }
-    let question = System::from_parts(dimensions, 0, equalities, rows);
+        Ok(posed) => posed,
+    };
     let lost = match is_empty(alloc, &question, budget) {
         Err(stop) => return Err(by_solver(stop)),
         Ok(lost) => lost,
     };
-    let (equalities, mut rows) = question.into_parts();
-    rows.truncate(count);
-    if lost {
-        return Ok(System::from_parts(dimensions, 0, equalities, rows));
-    }
-    match rows.insert(at, row) {
+    match settle(question, row, at, lost) {
         Err(_) => Err(Stuck::NoMemory),
-        Ok(()) => Ok(System::from_parts(dimensions, 0, equalities, rows)),
+        Ok(left) => Ok(left),
     }
 }
 

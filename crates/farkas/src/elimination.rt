@@ -1,9 +1,9 @@
 //! The multipliers are eliminated one after another.
 
-ghost use Rattle.std.specs.Prelude.{◌≡◌, ℕ, ◌<◌, ◌≤◌, ◌+◌, ◌-◌, All, IfOk, map};
+ghost use Rattle.std.specs.Prelude.{◌≡◌, ℕ, ◌<◌, ◌≤◌, ◌-◌, All, IfOk, map};
 ghost use Rattle.affine_forms.specs.Parts.{variables_of};
 ghost use Rattle.fractions.specs.Elimination.{narrowed};
-ghost use Rattle.farkas.specs.Run.{narrowing, left_run};
+ghost use Rattle.farkas.specs.Run.{without_column, narrowing, left_run};
 ghost use Rattle.farkas.specs.Gives.{Follows};
 
 use crate::dropping::without_implied;
@@ -39,6 +39,22 @@ fn narrow(alloc: Global, forms: &[Form], variable: usize) -> Result<Vec<Form>, A
     Ok(out)
 }
 
+/// The system without the column of a variable.
+fn narrow_system(alloc: Global, system: &System, variable: usize) -> Result<System, AllocError>
+    requires inside { variable < system.now.dimensions }
+    requires flat { system.now.parameters ≡ 0 }
+    ensures { IfOk result (λ t. t ≡ without_column (system.now.dimensions - 1) variable system.now) }
+{
+    let equalities = match narrow(alloc, system.equalities(), variable) {
+        Err(stop) => return Err(stop),
+        Ok(equalities) => equalities,
+    };
+    match narrow(alloc, system.rows(), variable) {
+        Err(stop) => Err(stop),
+        Ok(rows) => Ok(System::from_parts(system.dimensions() - 1, 0, equalities, rows)),
+    }
+}
+
 /// The system without a variable and its column.
 fn eliminated(alloc: Global, system: &System, variable: usize) -> Result<System, Stuck>
     requires inside { variable < system.now.dimensions }
@@ -46,19 +62,13 @@ fn eliminated(alloc: Global, system: &System, variable: usize) -> Result<System,
     ensures { (budget : ℕ)
         → Follows (λ s. s) budget result (narrowing (system.now.dimensions - 1) variable system.now) }
 {
-    let result = match eliminate(alloc, system, variable) {
-        Err(stop) => return Err(by_elimination(stop)),
-        Ok(result) => result,
-    };
-    let equalities = match narrow(alloc, result.equalities(), variable) {
-        Err(_) => return Err(Stuck::NoMemory),
-        Ok(equalities) => equalities,
-    };
-    let rows = match narrow(alloc, result.rows(), variable) {
-        Err(_) => return Err(Stuck::NoMemory),
-        Ok(rows) => rows,
-    };
-    Ok(System::from_parts(result.dimensions() - 1, 0, equalities, rows))
+    match eliminate(alloc, system, variable) {
+        Err(stop) => Err(by_elimination(stop)),
+        Ok(wide) => match narrow_system(alloc, &wide, variable) {
+            Err(_) => Err(Stuck::NoMemory),
+            Ok(left) => Ok(left),
+        },
+    }
 }
 
 /// Eliminates the variables behind the unknowns, from the first on. Behind each elimination the rows that the others

@@ -3,7 +3,7 @@
 
 ghost use Rattle.std.specs.Prelude.{◌≡◌, ◌≤◌, ◌^◌};
 ghost use Rattle.std.specs.Option.{ForSome, IfNone};
-ghost use Rattle.farkas.specs.Unknowns.{layout_of, behind};
+ghost use Rattle.farkas.specs.Unknowns.{layout_of, behind, places};
 
 use iteration_domains::DepEnd;
 
@@ -27,6 +27,33 @@ fn place_behind(first: usize, side: DepEnd) -> Option<usize>
     first.checked_add(side.loops)?.checked_add(1)
 }
 
+/// The layout of one statement's unknowns from a place on.
+fn lay_one(first: usize, side: DepEnd) -> Option<Layout>
+    ensures layout { ForSome result (λ l. l ≡ places (behind first side) first first) }
+    ensures none { IfNone result (2 ^ 64 ≤ behind first side) }
+{
+    match place_behind(first, side) {
+        None => None,
+        Some(unknowns) => Some(Layout {
+            unknowns,
+            source: first,
+            target: first,
+        }),
+    }
+}
+
+/// The places of an earlier and a later statement from a place on: where the later's unknowns begin, and where they end.
+fn lay_two(first: usize, early: DepEnd, late: DepEnd) -> Option<(usize, usize)>
+    ensures places { ForSome result (λ p. (p.0 ≡ behind first early) × (p.1 ≡ behind (behind first early) late)) }
+    ensures none { IfNone result (2 ^ 64 ≤ behind (behind first early) late) }
+{
+    let second = place_behind(first, early)?;
+    match place_behind(second, late) {
+        None => None,
+        Some(unknowns) => Some((second, unknowns)),
+    }
+}
+
 /// The layout of the rows of a dependence with so many parameters between these ends; nothing where a place does not
 /// fit its type.
 #[tactic(auto, unfolding(crate::specs::Unknowns::layout_of))]
@@ -36,27 +63,24 @@ pub fn lay_out(parameters: usize, source: DepEnd, target: DepEnd) -> Option<Layo
 {
     let first = parameters.checked_add(1)?;
     if source.statement == target.statement {
-        let unknowns = place_behind(first, source)?;
-        Some(Layout {
-            unknowns,
-            source: first,
-            target: first,
-        })
+        lay_one(first, source)
     } else if source.statement < target.statement {
-        let second = place_behind(first, source)?;
-        let unknowns = place_behind(second, target)?;
-        Some(Layout {
-            unknowns,
-            source: first,
-            target: second,
-        })
+        match lay_two(first, source, target) {
+            None => None,
+            Some((second, unknowns)) => Some(Layout {
+                unknowns,
+                source: first,
+                target: second,
+            }),
+        }
     } else {
-        let second = place_behind(first, target)?;
-        let unknowns = place_behind(second, source)?;
-        Some(Layout {
-            unknowns,
-            source: second,
-            target: first,
-        })
+        match lay_two(first, target, source) {
+            None => None,
+            Some((second, unknowns)) => Some(Layout {
+                unknowns,
+                source: second,
+                target: first,
+            }),
+        }
     }
 }
