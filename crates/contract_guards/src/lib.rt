@@ -3,11 +3,13 @@
 //! cites it, the caller here no longer proves. Nothing is built on this crate.
 #![tactic(auto)]
 
+pub mod dependence_rows;
 pub mod domains;
 pub mod forms;
 pub mod nodes;
 pub mod numbers;
 pub mod ports;
+pub mod solver;
 pub mod systems;
 pub mod texts;
 pub mod trees;
