@@ -5,7 +5,11 @@ ghost use Rattle.stmt_graph.specs.Graph.{AreWithin, IsNumbering, number_in};
 use std::alloc::{AllocError, Global};
 
 /// Each statement has a number, by the clause of `components`.
-pub fn numbers_of_statements(alloc: Global, n: usize, edges: &[(usize, usize)]) -> Result<Vec<usize>, AllocError>
+pub fn numbers_of_statements(
+    alloc: Global,
+    n: usize,
+    edges: &[(usize, usize)],
+) -> Result<Vec<usize>, AllocError>
     requires { AreWithin n edges.now }
     ensures { IfOk result (λ numbers. length numbers.items ≡ n) }
 {

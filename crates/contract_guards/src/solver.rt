@@ -1,5 +1,6 @@
 //! Callers of the solver.
 ghost use Rattle.std.specs.Prelude.{◌≡◌, ◌+◌, ◌≤◌, ◌++◌, [], ℕ, ℤ, List, Ok, Err, IfOk, All, true, false, length};
+ghost use Rattle.std.specs.Option.{ForSome, IfNone};
 ghost use Rattle.whole_numbers.specs.Lists.{NotNegative};
 ghost use Rattle.affine_forms.specs.Parts.{variables_of};
 ghost use Rattle.integer_sets.specs.Points.{Satisfies};
@@ -8,14 +9,14 @@ ghost use Rattle.quast_trees.specs.Postfix.{tree_of};
 ghost use Rattle.quast_trees.specs.Source.{Forms};
 ghost use Rattle.quast_trees.specs.Tree.{leaf};
 ghost use Rattle.quast_trees.specs.Value.{value};
-ghost use Rattle.tableau_rows.specs.Problem.{IsEmpty, problem_of, row_values};
+ghost use Rattle.tableau_rows.specs.Problem.{IsEmpty, IsLexmin, problem_of, row_values};
 ghost use Rattle.lexmin_runs.specs.Emptiness.{IsBoundedPoint};
 ghost use Rattle.checked_tableau.specs.declared.problem.Problem.{Problem};
 ghost use Rattle.pip_solver.specs.declared.stop.Stop.TheVariants.{Spent};
 
 use checked_tableau::Problem;
 use integer_sets::System;
-use pip_solver::{Solution, Stop, is_empty, lexmin, solve};
+use pip_solver::{Solution, Stop, is_empty, least_point, lexmin, solve};
 use quast_trees::Quast;
 use std::alloc::Global;
 
@@ -37,7 +38,12 @@ pub fn minimum(alloc: Global, problem: Problem, budget: u64, point: &[i128]) -> 
 }
 
 /// The same with the moves made, which are within the budget, by `run` of `solve`; by its `least` and its `forms`.
-pub fn counted_minimum(alloc: Global, problem: Problem, budget: u64, point: &[i128]) -> Result<Solution, Stop>
+pub fn counted_minimum(
+    alloc: Global,
+    problem: Problem,
+    budget: u64,
+    point: &[i128],
+) -> Result<Solution, Stop>
     requires rows { All (λ f. variables_of f ≡ problem.unknowns + problem.parameters) problem.rows.items }
     requires context { All (λ f. variables_of f ≡ problem.parameters) problem.context.items }
     requires point { length point.now ≡ problem.parameters }
@@ -50,6 +56,25 @@ pub fn counted_minimum(alloc: Global, problem: Problem, budget: u64, point: &[i1
         (λ solution. (l : Forms) → tree_of solution.quast ≡ leaf l → length l.forms ≡ problem.unknowns) }
 {
     solve(alloc, problem, budget)
+}
+
+/// The least point without parameters: who spends the budget has made all its moves, by `run` of `least_point`; the point
+/// is the minimum, by `least`; and without one there is none, by `none`.
+pub fn minimum_without_parameters(
+    alloc: Global,
+    problem: Problem,
+    budget: u64,
+) -> Result<Option<Vec<i128>>, Stop>
+    requires rows { All (λ f. variables_of f ≡ problem.unknowns) problem.rows.items }
+    requires parameters { problem.parameters ≡ 0 }
+    requires context { problem.context.items ≡ [] }
+    ensures run { (posed : Problem) (moves : ℕ) → result ≡ Err (Spent posed moves) → moves ≡ budget }
+    ensures least { IfOk result (λ point. ForSome point (λ x.
+        IsLexmin (problem_of problem.unknowns problem.rows.items) [] x.items)) }
+    ensures none { IfOk result (λ point. IfNone point
+        (IsEmpty (problem_of problem.unknowns problem.rows.items) [])) }
+{
+    least_point(alloc, problem, budget)
 }
 
 /// A system that is empty has no bounded point, by `empty` of `is_empty`; one that is not has a point, by `point`.

@@ -9,7 +9,11 @@ use null_space::Rows;
 use std::alloc::{AllocError, Global};
 
 /// Each vector is that of a column, by `are` of `kernel_vectors`.
-pub fn vectors_of_columns(alloc: Global, columns: usize, rows: &[Vec<i128>]) -> Result<Rows, AllocError>
+pub fn vectors_of_columns(
+    alloc: Global,
+    columns: usize,
+    rows: &[Vec<i128>],
+) -> Result<Rows, AllocError>
     requires columns { columns ≤ 5 }
     requires lengths { AreLong columns (map (λ v. v.items) rows.now) }
     requires coefficients { All AreCoefficients (map (λ v. v.items) rows.now) }
