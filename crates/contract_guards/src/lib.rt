@@ -3,11 +3,18 @@
 //! cites it, the caller here no longer proves. Nothing is built on this crate.
 #![tactic(auto)]
 
+pub mod dependence_rows;
 pub mod domains;
 pub mod forms;
+pub mod graphs;
+pub mod instances;
+pub mod joins;
 pub mod nodes;
 pub mod numbers;
 pub mod ports;
+pub mod quasts;
+pub mod solver;
 pub mod systems;
 pub mod texts;
 pub mod trees;
+pub mod vectors;

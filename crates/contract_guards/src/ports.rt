@@ -6,10 +6,8 @@ ghost use Rattle.io_ports.specs.Streams.{read_faults, write_faults};
 use io_ports::{Failed, MemSink, MemSource, Sink, Source, StdSink, StdSource};
 use std::io::{Read, Write};
 
-/// A source in memory of which no call is to fail gives at most its step a call and counts the call, by `exact` of its
-/// `read`.
+/// A source in memory gives at most its step a call, and counts the fault where it fails, by `exact` of its `read`.
 pub fn read_from_memory(source: &mut MemSource, buf: &mut [u8]) -> Result<usize, Failed>
-    ensures fails { source.old.fails ≡ [] → IsOk result }
     ensures given { IfOk result (λ count. count ≤ source.old.step) }
     ensures failed { OnErr result (source.new.faults ≡ next_count source.old.faults) }
 {

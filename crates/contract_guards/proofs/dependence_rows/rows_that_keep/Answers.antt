@@ -1,0 +1,10 @@
+use Rattle.std.proofs.Common.{[]}
+use Rattle.contract_guards.proofs.Results.{if_ok}
+use Rattle.contract_guards.proofs.dependence_rows.rows_that_keep.Goals as goal
+
+pub returns-clause-farkas : goal.returns-clause-farkas
+returns-clause-farkas c = if_ok c.legal_rows.result
+    (λ rows is unknowns size signs taken. (is.exact unknowns size signs).0 taken) c.legal_rows.ensures.farkas
+
+pub returns-clause-keeps : goal.returns-clause-keeps
+returns-clause-keeps c = if_ok c.legal_rows.result (λ rows holds unknowns i j. holds unknowns i j []) c.legal_rows.ensures.keeps

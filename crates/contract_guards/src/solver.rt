@@ -1,0 +1,87 @@
+//! Callers of the solver.
+ghost use Rattle.std.specs.Prelude.{◌≡◌, ◌+◌, ◌≤◌, ◌++◌, [], ℕ, ℤ, List, Ok, Err, IfOk, All, true, false, length};
+ghost use Rattle.std.specs.Option.{ForSome, IfNone};
+ghost use Rattle.whole_numbers.specs.Lists.{NotNegative};
+ghost use Rattle.affine_forms.specs.Parts.{variables_of};
+ghost use Rattle.integer_sets.specs.Points.{Satisfies};
+ghost use Rattle.quast_trees.specs.Leaf as answer;
+ghost use Rattle.quast_trees.specs.Postfix.{tree_of};
+ghost use Rattle.quast_trees.specs.Source.{Forms};
+ghost use Rattle.quast_trees.specs.Tree.{leaf};
+ghost use Rattle.quast_trees.specs.Value.{value};
+ghost use Rattle.tableau_rows.specs.Problem.{IsEmpty, IsLexmin, problem_of, row_values};
+ghost use Rattle.lexmin_runs.specs.Emptiness.{IsBoundedPoint};
+ghost use Rattle.checked_tableau.specs.declared.problem.Problem.{Problem};
+ghost use Rattle.pip_solver.specs.declared.stop.Stop.TheVariants.{Spent};
+
+use checked_tableau::Problem;
+use integer_sets::System;
+use pip_solver::{Solution, Stop, is_empty, least_point, lexmin, solve};
+use quast_trees::Quast;
+use std::alloc::Global;
+
+/// The minimum at a point of the context: who spends the budget has made all its moves, by `run` of `lexmin`; where the
+/// quast answers the initial value, no whole point satisfies the rows, by `least`; a leaf has a form for each unknown, by
+/// `forms`.
+pub fn minimum(alloc: Global, problem: Problem, budget: u64, point: &[i128]) -> Result<Quast, Stop>
+    requires rows { All (λ f. variables_of f ≡ problem.unknowns + problem.parameters) problem.rows.items }
+    requires context { All (λ f. variables_of f ≡ problem.parameters) problem.context.items }
+    requires point { length point.now ≡ problem.parameters }
+    requires signs { NotNegative point.now }
+    requires inside { NotNegative (row_values problem.context.items point.now) }
+    ensures run { (posed : Problem) (moves : ℕ) → result ≡ Err (Spent posed moves) → moves ≡ budget }
+    ensures least { IfOk result (λ quast. value (tree_of quast) point.now ≡ answer.initial
+        → IsEmpty (problem_of problem.unknowns problem.rows.items) point.now) }
+    ensures forms { IfOk result (λ quast. (l : Forms) → tree_of quast ≡ leaf l → length l.forms ≡ problem.unknowns) }
+{
+    lexmin(alloc, problem, budget)
+}
+
+/// The same with the moves made, which are within the budget, by `run` of `solve`; by its `least` and its `forms`.
+pub fn counted_minimum(
+    alloc: Global,
+    problem: Problem,
+    budget: u64,
+    point: &[i128],
+) -> Result<Solution, Stop>
+    requires rows { All (λ f. variables_of f ≡ problem.unknowns + problem.parameters) problem.rows.items }
+    requires context { All (λ f. variables_of f ≡ problem.parameters) problem.context.items }
+    requires point { length point.now ≡ problem.parameters }
+    requires signs { NotNegative point.now }
+    requires inside { NotNegative (row_values problem.context.items point.now) }
+    ensures run { IfOk result (λ solution. solution.moves ≤ budget) }
+    ensures least { IfOk result (λ solution. value (tree_of solution.quast) point.now ≡ answer.initial
+        → IsEmpty (problem_of problem.unknowns problem.rows.items) point.now) }
+    ensures forms { IfOk result
+        (λ solution. (l : Forms) → tree_of solution.quast ≡ leaf l → length l.forms ≡ problem.unknowns) }
+{
+    solve(alloc, problem, budget)
+}
+
+/// The least point without parameters: who spends the budget has made all its moves, by `run` of `least_point`; the point
+/// is the minimum, by `least`; and without one there is none, by `none`.
+pub fn minimum_without_parameters(
+    alloc: Global,
+    problem: Problem,
+    budget: u64,
+) -> Result<Option<Vec<i128>>, Stop>
+    requires rows { All (λ f. variables_of f ≡ problem.unknowns) problem.rows.items }
+    requires parameters { problem.parameters ≡ 0 }
+    requires context { problem.context.items ≡ [] }
+    ensures run { (posed : Problem) (moves : ℕ) → result ≡ Err (Spent posed moves) → moves ≡ budget }
+    ensures least { IfOk result (λ point. ForSome point (λ x.
+        IsLexmin (problem_of problem.unknowns problem.rows.items) [] x.items)) }
+    ensures none { IfOk result (λ point. IfNone point
+        (IsEmpty (problem_of problem.unknowns problem.rows.items) [])) }
+{
+    least_point(alloc, problem, budget)
+}
+
+/// A system that is empty has no bounded point, by `empty` of `is_empty`; one that is not has a point, by `point`.
+pub fn has_no_point(alloc: Global, system: &System, budget: u64) -> Result<bool, Stop>
+    ensures empty { result ≡ Ok true → (x : List ℤ) → IsBoundedPoint system.now x [] → ⊥ }
+    ensures point { result ≡ Ok false → (x : List ℤ) × (p : List ℤ) × NotNegative (x ++ p)
+        × Satisfies system.now (x ++ p) }
+{
+    is_empty(alloc, system, budget)
+}
