@@ -1,15 +1,16 @@
 //! Systems whose answers are known from outside.
 
-ghost use Rattle.std.specs.Prelude.{◌≡◌, IfOk};
+ghost use Rattle.std.specs.Prelude.{◌≡◌, All, IfOk};
 ghost use Rattle.affine_forms.specs.Parts.{variables_of};
 ghost use Rattle.pip_solver.specs.Solving.{IsOver};
 
 use affine_forms::Form;
 use checked_tableau::Problem;
 use integer_sets::System;
-use pip_solver::{Solution, Stop, is_empty, lexmin, solve};
+use pip_solver::{Solution, Stop, is_empty, least_point, lexmin, solve};
 use quast_trees::{Leaf, Quast};
 use std::alloc::{AllocError, Global};
+use std::test::Fail;
 
 fn form(alloc: Global, row: [i128; 3], constant: i128) -> Result<Form, AllocError>
     ensures { IfOk result (λ f. variables_of f ≡ 3) }
@@ -66,10 +67,10 @@ fn one(alloc: Global, unknown: i128, constant: i128) -> Result<Form, AllocError>
     }
 }
 
-fn two(alloc: Global, unknown: i128, parameter: i128) -> Result<Form, AllocError>
+fn two(alloc: Global, row: [i128; 2], constant: i128) -> Result<Form, AllocError>
     ensures { IfOk result (λ f. variables_of f ≡ 2) }
 {
-    match Form::of(alloc, &[unknown, parameter], 0) {
+    match Form::of(alloc, &row, constant) {
         Err(_) => Err(AllocError),
         Ok(form) => Ok(form),
     }
@@ -96,7 +97,7 @@ fn no_half(alloc: Global) -> Result<Problem, AllocError>
 fn rounded_up(alloc: Global) -> Result<Problem, AllocError>
     ensures { IfOk result (IsOver 1 1) }
 {
-    let row = two(alloc, 2, -1)?;
+    let row = two(alloc, [2, -1], 0)?;
     let least = one(alloc, 1, 0)?;
     let most = one(alloc, -1, 65536)?;
     let mut rows = Vec::new(alloc);
@@ -166,6 +167,42 @@ fn moves(alloc: Global, budget: u64) -> Result<(u8, u64), AllocError> {
     Ok(moves_told(solve(alloc, problem, budget)))
 }
 
+/// The least point of rows without parameters.
+fn least(alloc: Global, unknowns: usize, rows: Vec<Form>) -> Result<Option<Vec<i128>>, AllocError>
+    requires { All (λ f. variables_of f ≡ unknowns) rows.items }
+{
+    let problem = Problem {
+        unknowns,
+        parameters: 0,
+        rows,
+        context: Vec::new(alloc),
+    };
+    match least_point(alloc, problem, 20000) {
+        Err(_) => Err(AllocError),
+        Ok(point) => Ok(point),
+    }
+}
+
+/// 2 x = 1.
+fn least_half(alloc: Global) -> Result<Option<Vec<i128>>, AllocError> {
+    let above = one(alloc, 2, -1)?;
+    let below = one(alloc, -2, 1)?;
+    let mut rows = Vec::new(alloc);
+    rows.push(above)?;
+    rows.push(below)?;
+    least(alloc, 1, rows)
+}
+
+/// x >= 3 and y >= x + 2.
+fn least_pair(alloc: Global) -> Result<Option<Vec<i128>>, AllocError> {
+    let first = two(alloc, [1, 0], -3)?;
+    let second = two(alloc, [-1, 1], -2)?;
+    let mut rows = Vec::new(alloc);
+    rows.push(first)?;
+    rows.push(second)?;
+    least(alloc, 2, rows)
+}
+
 /// No half is whole: with a budget of 3 that is found out, with 2 the budget is spent.
 #[test]
 fn a_budget_of_three(rt: HostRuntime) {
@@ -199,4 +236,15 @@ fn three_moves(rt: HostRuntime) {
 #[test]
 fn wide_at_once(rt: HostRuntime) {
     assert_eq!(rt; asked(rt.alloc(), [i128::MIN, 0, 0], 0), Ok((2, 0)));
+}
+
+/// The least point of a problem without parameters, or that it has none.
+#[test]
+fn least_points(rt: HostRuntime) -> Result<(), Fail> {
+    assert!(rt; least_half(rt.alloc())?.is_none());
+    match least_pair(rt.alloc())? {
+        Some(point) => assert_eq!(rt; point.as_slice(), [3, 5].as_slice()),
+        None => panic!(rt; "no point"),
+    }
+    Ok(())
 }
