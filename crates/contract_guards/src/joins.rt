@@ -1,15 +1,15 @@
 //! Callers of the laws of joins: most with the initial value as the first quast.
 ghost use Rattle.std.specs.Prelude.{◌≡◌, ◌≤ℤ◌, ◌+ℤ◌, ◌+◌, ◌++◌, ◌∷◌, [], ℕ, ℤ, List, length, map, pos, sum_by};
 ghost use Rattle.whole_numbers.specs.Affine.{Affine};
-ghost use Rattle.quast_trees.specs.Counts.{HasForms, capped, join_node};
-ghost use Rattle.quast_trees.specs.JoinSteps.{Placed_node, depths, depths_of, from_last, join_step, paired, steps};
-ghost use Rattle.quast_trees.specs.Joins.{join, test_of};
+ghost use Rattle.quast_joins.specs.Counts.{HasForms, capped, join_node};
+ghost use Rattle.quast_joins.specs.Steps.{Placed_node, depths, depths_of, from_last, join_step, paired, steps};
+ghost use Rattle.quast_joins.specs.Joins.{join, test_of};
 ghost use Rattle.quast_trees.specs.Postfix.{written};
-ghost use Rattle.quast_trees.specs.Sizes.{IsFormWithin, IsWithin, LeavesWithin};
+ghost use Rattle.quast_joins.specs.Sizes.{IsFormWithin, IsWithin, LeavesWithin};
 ghost use Rattle.quast_trees.specs.Tree.{Speaks, Tree, count, initial};
 ghost use Rattle.quast_trees.specs.Value.{value};
 ghost use Rattle.quast_trees.specs.declared.node.Node.TheVariants as node;
-ghost use Rattle.quast_trees.specs.declared.way.Way.{Way};
+ghost use Rattle.quast_joins.specs.declared.way.Way.{Way};
 
 /// A join with the initial value answers as the other quast, by `value` of `joins_choose`, and speaks of its variables,
 /// by `speaks`.
@@ -18,7 +18,7 @@ pub fn joins_with_the_initial_value()
         → value (join way n initial tree) point ≡ value tree point }
     ensures speaks { (way : Way) (n : ℕ) (tree : Tree) → Speaks n tree → Speaks n (join way n initial tree) }
 {
-    quast_trees::joins_choose();
+    quast_joins::joins_choose();
 }
 
 /// It has as many nodes as the other quast, by `count` of `joins_are_counted`; that many for its one node, by `nodes`;
@@ -29,7 +29,7 @@ pub fn nodes_of_joins_with_the_initial_value()
     ensures capped { (x y : ℕ) → capped 10 (capped 10 x + capped 10 y) ≡ capped 10 (x + y) }
     ensures forms { (way : Way) (n : ℕ) (tree : Tree) → HasForms tree → HasForms (join way n initial tree) }
 {
-    quast_trees::joins_are_counted();
+    quast_joins::joins_are_counted();
 }
 
 /// The constant of a test is small, by `test` of `tests_are_small`, and so are a join's leaves, by `leaves`.
@@ -39,7 +39,7 @@ pub fn constants_of_tests_are_small()
     ensures leaves { (way : Way) (bound : ℤ) (n : ℕ) (tree : Tree) → pos 0 ≤ℤ bound → LeavesWithin bound tree
         → LeavesWithin bound (join way n initial tree) }
 {
-    quast_trees::tests_are_small();
+    quast_joins::tests_are_small();
 }
 
 /// How joins are built on an empty stack: clause by clause of `joins_are_built`.
@@ -51,5 +51,5 @@ pub fn joins_on_an_empty_stack()
     ensures found { (tree : Tree) (found : List ℕ)
         → from_last (written tree) (depths_of (0 ∷ []) found) ≡ depths_of [] (depths 0 tree ++ found) }
 {
-    quast_trees::joins_are_built();
+    quast_joins::joins_are_built();
 }

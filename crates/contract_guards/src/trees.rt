@@ -3,21 +3,22 @@ ghost use Rattle.std.specs.Prelude.{◌≡◌, ◌+◌, ◌<◌, ◌≤◌, ◌�
 ghost use Rattle.whole_numbers.specs.Affine.{Affine, values_of};
 ghost use Rattle.wide_math.specs.declared.Wide.{Wide};
 ghost use Rattle.affine_forms.specs.declared.stop.FormStop.TheVariants as stop;
-ghost use Rattle.quast_trees.specs.Counts.{join_count};
-ghost use Rattle.quast_trees.specs.JoinLimits.{leaf_limit, node_limit};
 ghost use Rattle.quast_trees.specs.Leaf as answer;
 ghost use Rattle.quast_trees.specs.Leaf.{leaf_of};
 ghost use Rattle.quast_trees.specs.Mapped.{Suits};
 ghost use Rattle.quast_trees.specs.Postfix.{tree_of};
-ghost use Rattle.quast_trees.specs.Sizes.{LeavesWithin};
 ghost use Rattle.quast_trees.specs.Source.{Forms, source_of, with_source};
 ghost use Rattle.quast_trees.specs.Tree.{Tree, initial, leaf, branch, bind, count};
 ghost use Rattle.quast_trees.specs.Value.{value};
 ghost use Rattle.quast_trees.specs.declared.node.Node.TheVariants as node;
-ghost use Rattle.quast_trees.specs.declared.way.JoinStop.TheVariants.{Spent};
+ghost use Rattle.quast_joins.specs.Counts.{join_count};
+ghost use Rattle.quast_joins.specs.Limits.{leaf_limit, node_limit};
+ghost use Rattle.quast_joins.specs.Sizes.{LeavesWithin};
+ghost use Rattle.quast_joins.specs.declared.way.JoinStop.TheVariants.{Spent};
 
 use affine_forms::{Form, FormStop};
-use quast_trees::{JoinStop, Leaf, Node, Part, Quast, earlier_of, later_of};
+use quast_joins::{JoinStop, earlier_of, later_of};
+use quast_trees::{Leaf, Node, Part, Quast};
 use std::alloc::AllocError;
 
 /// No number of an initial quast is too wide, by `run` of `Quast::value_at`; a quast of a leaf answers the values of its

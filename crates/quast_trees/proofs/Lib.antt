@@ -9,11 +9,3 @@ pub mod Mapping
 pub mod Named
 pub mod Stacking
 pub mod Placing
-pub mod JoinValues
-pub mod JoinSpeaking
-pub mod JoinCounts
-pub mod JoinSizes
-pub mod JoinForms
-pub mod JoinChains
-pub mod JoinSteps
-pub mod JoinMarks

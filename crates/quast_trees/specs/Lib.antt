@@ -7,10 +7,3 @@ pub mod Value
 pub mod Mapped
 pub mod Place
 pub mod Shows
-pub mod Ways
-pub mod Shifts
-pub mod Joins
-pub mod Counts
-pub mod Sizes
-pub mod JoinSteps
-pub mod JoinLimits

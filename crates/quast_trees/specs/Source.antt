@@ -1,5 +1,5 @@
 -- The forms of a leaf, and the source that it is an instance of.
-use Rattle.std.specs.Prelude.{ℕ, List, [], Option, Some, None}
+use Rattle.std.specs.Prelude.{ℕ, List, Option, Some, None}
 use Rattle.whole_numbers.specs.Affine.{Affine}
 use Rattle.quast_trees.specs.declared.node.Source.{Source as Held}
 
@@ -30,12 +30,3 @@ unnamed variables forms = record { source = None; variables = variables; forms =
 -- the forms as those of an instance of a source
 abbrev pub with_source : Source → Forms → Forms
 with_source s l = record { source = Some s; variables = l.variables; forms = l.forms }
-
--- a leaf without a source counts as an instance of the first statement, in no loop
-abbrev pub statement_of : Option Source → ℕ
-statement_of None = 0
-statement_of (Some s) = s.statement
-
-abbrev pub loops_of : Option Source → List ℕ
-loops_of None = []
-loops_of (Some s) = s.loops

@@ -115,8 +115,8 @@ impl Builder {
         Quast::of_nodes(parameters, self.nodes)
     }
 
-    // Where the trees take their memory.
-    pub(crate) fn allocator(&self) -> Global {
+    /// Where the trees take their memory.
+    pub fn allocator(&self) -> Global {
         *self.nodes.allocator()
     }
 

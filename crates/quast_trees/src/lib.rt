@@ -5,26 +5,17 @@
 #![tactic(auto)]
 
 pub use builder::Builder;
-pub use join::{earlier_of, later_of};
-pub use join_laws::{joins_are_built, joins_are_counted, joins_choose, tests_are_small};
 pub use laws::{
     binds_divide, binds_round_down, branches_test_the_sign, maps_keep_the_points,
     nodes_are_read_as_their_tree, runs_are_exact, tests_may_be_scaled,
 };
 pub use leaf::Leaf;
+pub use naming::copied_source;
 pub use node::{Forms, Node, Source};
 pub use place::{Part, Place};
-pub use quast::Quast;
-pub use way::{JoinStop, Way};
+pub use quast::{Quast, copied_forms};
 
-mod binds;
 mod builder;
-mod join;
-mod join_count;
-mod join_forms;
-mod join_laws;
-mod join_leaves;
-mod join_nodes;
 mod laws;
 mod leaf;
 mod lists;
@@ -34,4 +25,3 @@ mod node;
 mod place;
 mod quast;
 mod value;
-mod way;

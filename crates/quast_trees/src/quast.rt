@@ -111,8 +111,8 @@ impl Quast {
         &self.nodes
     }
 
-    // Where the quast takes its memory.
-    pub(crate) fn allocator(&self) -> Global {
+    /// Where the quast takes its memory.
+    pub fn allocator(&self) -> Global {
         *self.nodes.allocator()
     }
 
@@ -145,8 +145,8 @@ impl Quast {
     }
 }
 
-// A copy of each form.
-pub(crate) fn copied_forms(alloc: Global, forms: &[Form]) -> Result<Vec<Form>, AllocError>
+/// A copy of each form.
+pub fn copied_forms(alloc: Global, forms: &[Form]) -> Result<Vec<Form>, AllocError>
     ensures { IfOk result (λ v. v.items ≡ forms.now) }
 {
     let mut copies = match Vec::with_capacity(alloc, forms.len()) {

@@ -1,0 +1,231 @@
+-- How many nodes a join has, by its two trees and by their nodes, and as the code counts them.
+use Rattle.std.proofs.Common.{◌≡◌, ℕ, zero, suc, ◌+◌, ◌*◌, ◌<◌, ◌≤◌, Bool, true, false, List, [], ◌∷◌, ◌++◌, length}
+use Rattle.std.proofs.Common.{map, drop, get_or, min, refl, sym, ap, ap₂, ◌∙◌, arith, drop-cons}
+use Rattle.std.specs.Prelude.{nat_eq, pos, sum_by, if◌then◌else◌}
+use Rattle.std.proofs.lemmas.Bool.{eq-eqb}
+use Rattle.std.proofs.lemmas.List.{length-map, drop_all}
+use Rattle.std.proofs.lemmas.List.Sums.{sum_by-append}
+use Rattle.whole_numbers.specs.Affine.{Affine, form_of}
+use Rattle.quast_trees.specs.Source.{Forms}
+use Rattle.quast_trees.specs.Tree.{Tree, initial, leaf, branch, bind, count}
+use Rattle.quast_trees.specs.Postfix.{written}
+use Rattle.quast_trees.specs.declared.node.Node.TheVariants as node
+use Rattle.quast_trees.proofs.Reading.{length-written}
+use Rattle.quast_joins.specs.Ways.{statement_of, loops_of, text}
+use Rattle.quast_joins.specs.declared.way.Way.{Way}
+use Rattle.quast_joins.specs.Shifts.{shifted_form, shifted_leaf, widened}
+use Rattle.quast_joins.specs.Joins.{test_of, last_leaf, chain, meet, under, moved, join_from, join}
+use Rattle.quast_joins.specs.Counts.{tested, under_node, join_node, capped, meet_count, under_count, join_count}
+use Rattle.quast_joins.specs.Counts.{HasForms}
+
+-- a choice of two leaves is one node
+leaf_count : (b : Bool) (s t : Forms) → count (if b then leaf s else leaf t) ≡ 1
+leaf_count true s t = refl
+leaf_count false s t = refl
+
+-- one loop of the chain
+step_count : (same : Bool) (f g : Affine) (a b : Forms) (rest end : Tree) (c : ℕ) → count rest ≡ 4 * c + 1
+    → count end ≡ 1
+    → count (if same then branch f (leaf a) (branch g (leaf b) rest) else end) ≡ 4 * (if same then suc c else 0) + 1
+step_count true f g a b rest end c h e = omega arith
+step_count false f g a b rest end c h e = e
+
+-- the tests over the common loops
+chain-count : (way : Way) (a b : Forms) (end : Tree) (ks ls : List ℕ) (fs gs : List Affine) → count end ≡ 1
+    → count (chain way (leaf a) (leaf b) end ks ls fs gs) ≡ 4 * tested ks ls fs gs + 1
+chain-count way a b end [] ls fs gs e = e
+chain-count way a b end (i ∷ ks) [] fs gs e = e
+chain-count way a b end (i ∷ ks) (l ∷ ls) [] gs e = e
+chain-count way a b end (i ∷ ks) (l ∷ ls) (f ∷ fs) [] e = e
+chain-count way a b end (i ∷ ks) (l ∷ ls) (f ∷ fs) (g ∷ gs) e =
+    step_count (nat_eq i l) (test_of way f g) (test_of way g f) a b (chain way (leaf a) (leaf b) end ks ls fs gs) end
+    (tested ks ls fs gs) (chain-count way a b end ks ls fs gs e) e
+
+-- the number of forms alone counts
+tested-map : (p q : Affine → Affine) (ks ls : List ℕ) (fs gs : List Affine)
+    → tested ks ls (map p fs) (map q gs) ≡ tested ks ls fs gs
+tested-map p q [] ls fs gs = refl
+tested-map p q (i ∷ ks) [] fs gs = refl
+tested-map p q (i ∷ ks) (l ∷ ls) [] gs = refl
+tested-map p q (i ∷ ks) (l ∷ ls) (f ∷ fs) [] = refl
+tested-map p q (i ∷ ks) (l ∷ ls) (f ∷ fs) (g ∷ gs) =
+    ap (λ (n : ℕ). if nat_eq i l then suc n else 0) (tested-map p q ks ls fs gs)
+
+-- where two leaves meet
+meet-count : (way : Way) (a b : Forms) → count (meet way a b) ≡ meet_count a b
+meet-count way a b =
+    chain-count way a b (last_leaf way a b) (loops_of a.source) (loops_of b.source) a.forms b.forms
+    (leaf_count (text way (statement_of a.source) (statement_of b.source)) a b)
+
+-- a tree under a leaf
+under-count : (way : Way) (n k : ℕ) (a : Forms) (j : ℕ) (b : Tree) → count (under way n k a j b) ≡ under_count a b
+under-count way n k a j initial = refl
+under-count way n k a j (leaf b) =
+    meet-count way (widened j a) (shifted_leaf n k b)
+    ∙ ap (λ (t : ℕ). 4 * t + 1) (tested-map (shifted_form a.variables j) (shifted_form n k) (loops_of a.source)
+    (loops_of b.source) a.forms b.forms)
+under-count way n k a j (branch f x y) =
+    ap₂ (λ (p q : ℕ). (p + q) + 1) (under-count way n k a j x) (under-count way n k a j y)
+under-count way n k a j (bind f d x) = ap (λ (p : ℕ). p + 1) (under-count way n k a (suc j) x)
+
+-- a tree under the initial value
+moved-count : (n k : ℕ) (b : Tree) → count (moved n k b) ≡ count b
+moved-count n k initial = refl
+moved-count n k (leaf b) = refl
+moved-count n k (branch f x y) = ap₂ (λ (p q : ℕ). (p + q) + 1) (moved-count n k x) (moved-count n k y)
+moved-count n k (bind f d x) = ap (λ (p : ℕ). p + 1) (moved-count n k x)
+
+-- the join where parameters are bound already
+join_from-count : (way : Way) (n k : ℕ) (a b : Tree) → count (join_from way n k a b) ≡ join_count a b
+join_from-count way n k initial b = moved-count n k b
+join_from-count way n k (leaf a) b = under-count way n k a 0 b
+join_from-count way n k (branch f x y) b =
+    ap₂ (λ (p q : ℕ). (p + q) + 1) (join_from-count way n k x b) (join_from-count way n k y b)
+join_from-count way n k (bind f d x) b = ap (λ (p : ℕ). p + 1) (join_from-count way n (suc k) x b)
+
+-- the two trees alone tell how many nodes the join has
+pub join-count : (way : Way) (n : ℕ) (a b : Tree) → count (join way n a b) ≡ join_count a b
+join-count way n a b = join_from-count way n 0 a b
+
+-- a choice of two trees
+either_forms : (b : Bool) (x y : Tree) → HasForms x → HasForms y → HasForms (if b then x else y)
+either_forms true x y h k = h
+either_forms false x y h k = k
+
+-- the tests over the common loops have leaves with a form for each loop
+chain-forms : (way : Way) (a b end : Tree) (ks ls : List ℕ) (fs gs : List Affine) → HasForms a → HasForms b
+    → HasForms end → HasForms (chain way a b end ks ls fs gs)
+chain-forms way a b end [] ls fs gs p q r = r
+chain-forms way a b end (i ∷ ks) [] fs gs p q r = r
+chain-forms way a b end (i ∷ ks) (l ∷ ls) [] gs p q r = r
+chain-forms way a b end (i ∷ ks) (l ∷ ls) (f ∷ fs) [] p q r = r
+chain-forms way a b end (i ∷ ks) (l ∷ ls) (f ∷ fs) (g ∷ gs) p q r =
+    either_forms (nat_eq i l)
+    (branch (test_of way f g) a (branch (test_of way g f) b (chain way a b end ks ls fs gs))) end
+    (p, (q, chain-forms way a b end ks ls fs gs p q r)) r
+
+-- so has the place where two leaves meet
+meet-forms : (way : Way) (a b : Forms) → HasForms (leaf a) → HasForms (leaf b) → HasForms (meet way a b)
+meet-forms way a b p q =
+    chain-forms way (leaf a) (leaf b) (last_leaf way a b) (loops_of a.source) (loops_of b.source) a.forms b.forms p q
+    (either_forms (text way (statement_of a.source) (statement_of b.source)) (leaf a) (leaf b) p q)
+
+-- so has a moved leaf
+shifted-forms : (n k : ℕ) (b : Forms) → HasForms (leaf b) → HasForms (leaf (shifted_leaf n k b))
+shifted-forms n k b s = length-map b.forms (shifted_form n k) ∙ s
+
+-- so has a tree under a leaf
+under-forms : (way : Way) (n k : ℕ) (a : Forms) (j : ℕ) (b : Tree) → HasForms (leaf a) → HasForms b
+    → HasForms (under way n k a j b)
+under-forms way n k a j initial h s = shifted-forms a.variables j a h
+under-forms way n k a j (leaf b) h s =
+    meet-forms way (widened j a) (shifted_leaf n k b) (shifted-forms a.variables j a h) (shifted-forms n k b s)
+under-forms way n k a j (branch f x y) h s = (under-forms way n k a j x h s.0, under-forms way n k a j y h s.1)
+under-forms way n k a j (bind f d x) h s = under-forms way n k a (suc j) x h s
+
+-- so has a tree under the initial value
+moved-forms : (n k : ℕ) (b : Tree) → HasForms b → HasForms (moved n k b)
+moved-forms n k initial s = tt
+moved-forms n k (leaf b) s = shifted-forms n k b s
+moved-forms n k (branch f x y) s = (moved-forms n k x s.0, moved-forms n k y s.1)
+moved-forms n k (bind f d x) s = moved-forms n k x s
+
+-- so has the join where parameters are bound already
+join_from-forms : (way : Way) (n k : ℕ) (a b : Tree) → HasForms a → HasForms b → HasForms (join_from way n k a b)
+join_from-forms way n k initial b h s = moved-forms n k b s
+join_from-forms way n k (leaf a) b h s = under-forms way n k a 0 b h s
+join_from-forms way n k (branch f x y) b h s = (join_from-forms way n k x b h.0 s, join_from-forms way n k y b h.1 s)
+join_from-forms way n k (bind f d x) b h s = join_from-forms way n (suc k) x b h s
+
+-- the join keeps a form for each loop
+pub join-forms : (way : Way) (n : ℕ) (a b : Tree) → HasForms a → HasForms b → HasForms (join way n a b)
+join-forms way n a b h s = join_from-forms way n 0 a b h s
+
+-- a tree under a leaf, counted over the tree's nodes
+under_added : (a : Forms) (b : Tree) → under_count a b ≡ sum_by (under_node a) (written b)
+under_added m initial = refl
+under_added m (leaf b) = omega arith
+under_added m (branch f x y) =
+    let a = sum_by-append (under_node m) (written x ++ written y) (node.Branch f (count y) ∷ []) in
+    let c = sum_by-append (under_node m) (written x) (written y) in
+    let p = under_added m x in
+    let q = under_added m y in
+    omega arith
+under_added m (bind f d x) =
+    let a = sum_by-append (under_node m) (written x) (node.Bind f d ∷ []) in
+    let p = under_added m x in
+    omega arith
+
+-- the join, counted over the first tree's nodes
+pub join_added : (a b : Tree) → join_count a b ≡ sum_by (join_node (written b)) (written a)
+join_added initial b = let e = length-written b in omega arith
+join_added (leaf a) b = let e = under_added a b in omega arith
+join_added (branch f x y) b =
+    let a = sum_by-append (join_node (written b)) (written x ++ written y) (node.Branch f (count y) ∷ []) in
+    let c = sum_by-append (join_node (written b)) (written x) (written y) in
+    let p = join_added x b in
+    let q = join_added y b in
+    omega arith
+join_added (bind f d x) b =
+    let a = sum_by-append (join_node (written b)) (written x) (node.Bind f d ∷ []) in
+    let p = join_added x b in
+    omega arith
+
+-- numbers that saturate add up to the sum that saturates
+pub capped_sum : (most x y : ℕ) → capped most (capped most x + capped most y) ≡ capped most (x + y)
+capped_sum most x y = omega arith
+
+-- a loop that adds up, at its end
+pub counted : {A : Type 0} (f : A → ℕ) (most count i : ℕ) (xs : List A) → length xs ≤ i → count ≤ most
+    → capped most (count + sum_by f (drop i xs)) ≡ capped most (sum_by f xs) → count ≡ capped most (sum_by f xs)
+counted f most count i xs past few so_far =
+    let none : sum_by f (drop i xs) ≡ 0 = ap (sum_by f) (drop_all i xs past) in
+    sym (omega arith) ∙ so_far
+
+-- how many loops have a number and a form on both sides
+abbrev pub both_sides : List ℕ → List ℕ → List Affine → List Affine → ℕ
+both_sides ks ls fs gs = min (min (length ks) (length ls)) (min (length fs) (length gs))
+
+-- one more loop in common
+pub tested_more : (ks ls : List ℕ) (fs gs : List Affine) (at d e : ℕ) → at < both_sides ks ls fs gs
+    → get_or ks at d ≡ get_or ls at e
+    → tested (drop at ks) (drop at ls) (drop at fs) (drop at gs)
+    ≡ suc (tested (drop (suc at) ks) (drop (suc at) ls) (drop (suc at) fs) (drop (suc at) gs))
+tested_more ks ls fs gs at d e h same =
+    let z = form_of [] (pos 0) in
+    rw (
+      drop-cons ks at d (omega arith),
+      drop-cons ls at e (omega arith),
+      drop-cons fs at z (omega arith),
+      drop-cons gs at z (omega arith),
+      eq-eqb (get_or ks at d) (get_or ls at e) same,
+    ) refl
+
+no_second : (ks : List ℕ) (fs gs : List Affine) → tested ks [] fs gs ≡ 0
+no_second [] fs gs = refl
+no_second (k ∷ ks) fs gs = refl
+
+no_third : (ks ls : List ℕ) (gs : List Affine) → tested ks ls [] gs ≡ 0
+no_third [] ls gs = refl
+no_third (k ∷ ks) [] gs = refl
+no_third (k ∷ ks) (l ∷ ls) gs = refl
+
+no_fourth : (ks ls : List ℕ) (fs : List Affine) → tested ks ls fs [] ≡ 0
+no_fourth [] ls fs = refl
+no_fourth (k ∷ ks) [] fs = refl
+no_fourth (k ∷ ks) (l ∷ ls) [] = refl
+no_fourth (k ∷ ks) (l ∷ ls) (f ∷ fs) = refl
+
+-- past the end of one of the lists there is none
+pub tested_past : (ks ls : List ℕ) (fs gs : List Affine) (at : ℕ) → both_sides ks ls fs gs ≤ at
+    → tested (drop at ks) (drop at ls) (drop at fs) (drop at gs) ≡ 0
+tested_past [] ls fs gs zero h = refl
+tested_past [] ls fs gs (suc at) h = refl
+tested_past (k ∷ ks) [] fs gs zero h = refl
+tested_past (k ∷ ks) [] fs gs (suc at) h = no_second (drop at ks) (drop (suc at) fs) (drop (suc at) gs)
+tested_past (k ∷ ks) (l ∷ ls) [] gs zero h = refl
+tested_past (k ∷ ks) (l ∷ ls) [] gs (suc at) h = no_third (drop at ks) (drop at ls) (drop (suc at) gs)
+tested_past (k ∷ ks) (l ∷ ls) (f ∷ fs) [] zero h = refl
+tested_past (k ∷ ks) (l ∷ ls) (f ∷ fs) [] (suc at) h = no_fourth (drop at ks) (drop at ls) (drop at fs)
+tested_past (k ∷ ks) (l ∷ ls) (f ∷ fs) (g ∷ gs) zero h = absurd (omega arith)
+tested_past (k ∷ ks) (l ∷ ls) (f ∷ fs) (g ∷ gs) (suc at) h = tested_past ks ls fs gs at (omega arith)

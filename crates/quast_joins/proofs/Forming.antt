@@ -1,0 +1,66 @@
+-- The forms of a join, as the code puts them together.
+use Rattle.std.proofs.Common.{◌≡◌, ℕ, zero, suc, ◌+◌, ◌-◌, ◌<◌, ◌≤◌, ℤ, pos, negsuc, ◌+ℤ◌, ◌-ℤ◌, ◌*ℤ◌, List, [], ◌∷◌}
+use Rattle.std.proofs.Common.{◌++◌, length, map, get_or, take, drop, drop-cons, add-one, refl, sym, ap, ap₂, ◌∙◌}
+use Rattle.std.proofs.Common.{arith, append_assoc}
+use Rattle.std.specs.Prelude.{neg_ℤ}
+use Rattle.std.proofs.lemmas.Int.{ints}
+use Rattle.std.proofs.lemmas.List.{length-drop}
+use Rattle.std.proofs.Math.Seq.{take-length}
+use Rattle.whole_numbers.specs.Lists.{zeros, multiples, sums}
+use Rattle.whole_numbers.specs.Affine.{Affine, form_of, sum_of_forms, multiple_of_form}
+use Rattle.whole_numbers.proofs.Lists.{multiples-one}
+use Rattle.quast_joins.specs.Shifts.{shifted, shifted_form}
+use Rattle.quast_joins.specs.Joins.{less_by_one}
+
+-- one form more of those that are mapped
+pub mapped_more : {A B : Type 0} (f : A → B) (xs : List A) (done next : List B) (i : ℕ) (x : A) (y : B) → i < length xs
+    → x ≡ get_or xs i x → y ≡ f x → next ≡ done ++ y ∷ [] → done ++ map f (drop i xs) ≡ map f xs
+    → next ++ map f (drop (i + 1) xs) ≡ map f xs
+mapped_more f xs done next i x y h at is pushed so_far =
+    let rest = map f (drop (i + 1) xs) in
+    let here : map f (drop i xs) ≡ f x ∷ rest = rw (drop-cons xs i x h, ← at, add-one i) refl in
+    ap (λ zs. zs ++ rest) pushed
+    ∙ (append_assoc done (y ∷ []) rest
+    ∙ (ap (λ z. done ++ (z ∷ rest)) is ∙ (ap (λ zs. done ++ zs) (sym here) ∙ so_far)))
+
+-- one zero more
+pub zeros_step : (xs next whole : List ℤ) (n k : ℕ) → k < n → xs ++ zeros (n - k) ≡ whole → next ≡ xs ++ pos 0 ∷ []
+    → next ++ zeros (n - (k + 1)) ≡ whole
+zeros_step xs next whole n k h so_far is =
+    let rest = zeros (n - (k + 1)) in
+    let e : n - k ≡ suc (n - (k + 1)) = omega arith in
+    let here : zeros (n - k) ≡ pos 0 ∷ rest = ap zeros e in
+    ap (λ (zs : List ℤ). zs ++ rest) is
+    ∙ (append_assoc xs (pos 0 ∷ []) rest ∙ (ap (λ (zs : List ℤ). xs ++ zs) (sym here) ∙ so_far))
+
+-- a list with zeros put in, in three parts
+shifted_parts : (n k : ℕ) (cs : List ℤ) → n ≤ length cs → shifted n k cs ≡ take n cs ++ (zeros k ++ drop n cs)
+shifted_parts zero k cs h = refl
+shifted_parts (suc n) k [] h = absurd (omega arith)
+shifted_parts (suc n) k (c ∷ cs) h = ap (λ zs. c ∷ zs) (shifted_parts n k cs (omega arith))
+
+-- the parts put together one by one
+pub shifted_put : (n k : ℕ) (f g : Affine) (first second third fourth : List ℤ) → n ≤ length f.coefficients
+    → first ≡ [] → second ≡ first ++ take n f.coefficients → third ≡ second ++ zeros k
+    → fourth ≡ third ++ take (length f.coefficients - n) (drop n f.coefficients) → g ≡ form_of fourth f.constant
+    → g ≡ shifted_form n k f
+shifted_put n k f g first second third fourth h begin a b c is =
+    let cs = f.coefficients in
+    let rest : take (length cs - n) (drop n cs) ≡ drop n cs =
+    ap (λ m. take m (drop n cs)) (sym (length-drop n cs)) ∙ take-length (drop n cs) in
+    is ∙ ap (λ (zs : List ℤ). form_of zs f.constant)
+    (c ∙ (ap₂ (λ (xs ys : List ℤ). xs ++ ys)
+    (b ∙ ap (λ (xs : List ℤ). xs ++ zeros k) (a ∙ ap (λ (xs : List ℤ). xs ++ take n cs) begin)) rest
+    ∙ (append_assoc (take n cs) (zeros k) (drop n cs) ∙ sym (shifted_parts n k cs h))))
+
+-- a difference with 1 taken off its constant
+pub less_put : (f g d h : Affine) → d ≡ sum_of_forms (multiple_of_form (pos 1) f) (multiple_of_form (negsuc 0) g)
+    → h.coefficients ≡ d.coefficients → h.constant ≡ d.constant -ℤ pos 1 → h ≡ less_by_one f g
+less_put f g d h entries cs k =
+    let others = multiples (negsuc 0) g.coefficients in
+    let a : d.coefficients ≡ sums f.coefficients others =
+    ap (λ (e : Affine). e.coefficients) entries ∙ ap (λ xs. sums xs others) (multiples-one f.coefficients) in
+    let b : d.constant ≡ (pos 1 *ℤ f.constant) +ℤ (negsuc 0 *ℤ g.constant) =
+    ap (λ (e : Affine). e.constant) entries in
+    let e : h.constant ≡ f.constant +ℤ (neg_ℤ g.constant -ℤ pos 1) = omega (arith, ints) in
+    ap₂ form_of (cs ∙ a) e

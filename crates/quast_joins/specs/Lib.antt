@@ -1,0 +1,7 @@
+pub mod Ways
+pub mod Shifts
+pub mod Joins
+pub mod Counts
+pub mod Sizes
+pub mod Steps
+pub mod Limits

@@ -1,8 +1,0 @@
-use Rattle.std.proofs.Common.{◌≡◌, ◌+◌, drop}
-use Rattle.quast_trees.specs.Counts.{tested}
-use Rattle.quast_trees.proofs.join_count.common_loops.Given as goal
-
-abbrev pub invariant-loop-at : goal.invariant-loop-at
-invariant-loop-at l =
-    l.at + tested (drop l.at l.loops) (drop l.at l.others) (drop l.at l.first.forms) (drop l.at l.second.forms)
-    ≡ tested l.loops l.others l.first.forms l.second.forms

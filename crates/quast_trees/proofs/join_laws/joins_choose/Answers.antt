@@ -1,9 +1,0 @@
-use Rattle.quast_trees.proofs.JoinValues.{join-value}
-use Rattle.quast_trees.proofs.JoinSpeaking.{join-speaks}
-use Rattle.quast_trees.proofs.join_laws.joins_choose.Goals as goal
-
-pub returns-clause-value : goal.returns-clause-value
-returns-clause-value c = join-value
-
-pub returns-clause-speaks : goal.returns-clause-speaks
-returns-clause-speaks c = join-speaks

@@ -1,5 +1,0 @@
-use Rattle.std.proofs.Common.{◌-◌}
-use Rattle.quast_trees.proofs.join_leaves.+push_chain.Given as goal
-
-abbrev pub decreases-push_chain : goal.decreases-push_chain
-decreases-push_chain l = l.common - l.at

@@ -1,9 +1,0 @@
-use Rattle.quast_trees.specs.Postfix.{standing}
-use Rattle.quast_trees.specs.JoinSteps.{pairs, under_step}
-use Rattle.quast_trees.proofs.JoinMarks.{Stepped}
-use Rattle.quast_trees.proofs.join_nodes.push_all_under.Given as goal
-
-abbrev pub invariant-loop-at : goal.invariant-loop-at
-invariant-loop-at l =
-    Stepped (under_step l.way l.variables l.more l.leaf) (pairs l.nodes l.binds) (standing l.fn.builder) l.at
-    (standing l.builder)
