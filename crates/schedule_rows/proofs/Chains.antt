@@ -1,4 +1,4 @@
--- Pairs that are joined by a third instance: what dependences that cover the others need (R16).
+-- Pairs that are joined by a third instance: what dependences that cover the others need.
 use Rattle.std.proofs.Common.{List, [], ◌∷◌, ◌∙◌, inl, inr, arith}
 use Rattle.std.proofs.lemmas.Int.{ints}
 use Rattle.scop_syntax.specs.Walk.{Instance}
