@@ -123,17 +123,17 @@ ends_gathered : (s t : DepEnd) (x : Unknowns) (ps : List Part) → s.statement <
     → gathered_parts s.statement t.statement 0 ps ≡ end_numbers s t x
 ends_gathered s t x ps ls lt es et = elim (three s.statement t.statement) [
   | inl h ↦
-    both_one s.statement t.statement 0 s.statement ps (omega arith) (omega arith) ls
-    ∙ (ap part_numbers (sym es)
-    ∙ sym (ends_by s t x true (nat_lt s.statement t.statement) (eq_yes s.statement t.statement h) refl))
+      both_one s.statement t.statement 0 s.statement ps (omega arith) (omega arith) ls
+      ∙ (ap part_numbers (sym es)
+      ∙ sym (ends_by s t x true (nat_lt s.statement t.statement) (eq_yes s.statement t.statement h) refl))
   | inr (inl h) ↦
-    both_less s.statement t.statement 0 s.statement t.statement ps (omega arith) (omega arith) h lt
-    ∙ (ap₂ (λ (p q : Part). part_numbers p ++ part_numbers q) (sym es) (sym et)
-    ∙ sym (ends_by s t x false true (eq_no s.statement t.statement (inl h)) (lt_yes s.statement t.statement h)))
+      both_less s.statement t.statement 0 s.statement t.statement ps (omega arith) (omega arith) h lt
+      ∙ (ap₂ (λ (p q : Part). part_numbers p ++ part_numbers q) (sym es) (sym et)
+      ∙ sym (ends_by s t x false true (eq_no s.statement t.statement (inl h)) (lt_yes s.statement t.statement h)))
   | inr (inr h) ↦
-    both_more s.statement t.statement 0 s.statement t.statement ps (omega arith) (omega arith) h ls
-    ∙ (ap₂ (λ (p q : Part). part_numbers p ++ part_numbers q) (sym et) (sym es)
-    ∙ sym (ends_by s t x false false (eq_no s.statement t.statement (inr h)) (lt_no s.statement t.statement (omega arith))))
+      both_more s.statement t.statement 0 s.statement t.statement ps (omega arith) (omega arith) h ls
+      ∙ (ap₂ (λ (p q : Part). part_numbers p ++ part_numbers q) (sym et) (sym es)
+      ∙ sym (ends_by s t x false false (eq_no s.statement t.statement (inr h)) (lt_no s.statement t.statement (omega arith))))
 ]
 
 -- what is gathered for a dependence are its unknowns

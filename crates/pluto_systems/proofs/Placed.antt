@@ -49,22 +49,22 @@ parts_value a b s [] (p ∷ ps) cs h e = absurd h
 parts_value a b s (l ∷ ls) [] cs h e = absurd h
 parts_value a b s (l ∷ ls) (p ∷ ps) cs h e = elim (either (is_end a b s)) [
   | inl t ↦
-    let g = gathered_parts a b (suc s) ps in
-    let k = length-part p ∙ ap (λ (n : ℕ). n + 1) h.0 in
-    let size = e ∙ ap length (gathered_end a b s p ps t) ∙ length-append (part_numbers p) g in
-    let le : l + 1 ≤ length cs = omega arith in
-    let more = length-drop (l + 1) cs in
-    ap (λ (z : List ℤ). dot z (part_numbers p ++ flat_map part_numbers ps)) (placed_end a b s l ls cs t)
-    ∙ (dot-append (take (l + 1) cs) (placed_parts a b (suc s) ls (drop (l + 1) cs)) (part_numbers p) (flat_map part_numbers ps) (length-take-le (l + 1) cs le ∙ sym k)
-    ∙ (ap (λ (z : ℤ). dot (take (l + 1) cs) (part_numbers p) +ℤ z) (parts_value a b (suc s) ls ps (drop (l + 1) cs) h.1 (omega arith))
-    ∙ (sym (split_dot (l + 1) cs (part_numbers p) g k le) ∙ ap (λ (z : List ℤ). dot cs z) (sym (gathered_end a b s p ps t)))))
+      let g = gathered_parts a b (suc s) ps in
+      let k = length-part p ∙ ap (λ (n : ℕ). n + 1) h.0 in
+      let size = e ∙ ap length (gathered_end a b s p ps t) ∙ length-append (part_numbers p) g in
+      let le : l + 1 ≤ length cs = omega arith in
+      let more = length-drop (l + 1) cs in
+      ap (λ (z : List ℤ). dot z (part_numbers p ++ flat_map part_numbers ps)) (placed_end a b s l ls cs t)
+      ∙ (dot-append (take (l + 1) cs) (placed_parts a b (suc s) ls (drop (l + 1) cs)) (part_numbers p) (flat_map part_numbers ps) (length-take-le (l + 1) cs le ∙ sym k)
+      ∙ (ap (λ (z : ℤ). dot (take (l + 1) cs) (part_numbers p) +ℤ z) (parts_value a b (suc s) ls ps (drop (l + 1) cs) h.1 (omega arith))
+      ∙ (sym (split_dot (l + 1) cs (part_numbers p) g k le) ∙ ap (λ (z : List ℤ). dot cs z) (sym (gathered_end a b s p ps t)))))
   | inr t ↦
-    let k = length-part p ∙ ap (λ (n : ℕ). n + 1) h.0 in
-    let z = dot-zeros (l + 1) (part_numbers p) in
-    let r = parts_value a b (suc s) ls ps cs h.1 (e ∙ ap length (gathered_other a b s p ps t)) in
-    let d = dot-append (zeros (l + 1)) (placed_parts a b (suc s) ls cs) (part_numbers p) (flat_map part_numbers ps) (length-zeros (l + 1) ∙ sym k) in
-    ap (λ (z : List ℤ). dot z (part_numbers p ++ flat_map part_numbers ps)) (placed_other a b s l ls cs t)
-    ∙ (omega (arith, ints) ∙ ap (λ (z : List ℤ). dot cs z) (sym (gathered_other a b s p ps t)))
+      let k = length-part p ∙ ap (λ (n : ℕ). n + 1) h.0 in
+      let z = dot-zeros (l + 1) (part_numbers p) in
+      let r = parts_value a b (suc s) ls ps cs h.1 (e ∙ ap length (gathered_other a b s p ps t)) in
+      let d = dot-append (zeros (l + 1)) (placed_parts a b (suc s) ls cs) (part_numbers p) (flat_map part_numbers ps) (length-zeros (l + 1) ∙ sym k) in
+      ap (λ (z : List ℤ). dot z (part_numbers p ++ flat_map part_numbers ps)) (placed_other a b s l ls cs t)
+      ∙ (omega (arith, ints) ∙ ap (λ (z : List ℤ). dot cs z) (sym (gathered_other a b s p ps t)))
 ]
 
 pub apart_front : (us more : List ℤ) (w : ℤ) → us ++ w ∷ more ≡ (us ++ w ∷ []) ++ more
@@ -84,7 +84,7 @@ placed_value m a b loops f r h e =
     let more = length-drop (m + 1) cs in
     let one : length front ≡ m + 1 = omega arith in
     let whole = ap (λ (z : List ℤ). dot (placed m a b loops f).coefficients z) (apart_front r.u (flat_map part_numbers r.parts) r.w)
-      ∙ dot-append (take (m + 1) cs) (placed_parts a b 0 loops (drop (m + 1) cs)) front (flat_map part_numbers r.parts) (length-take-le (m + 1) cs le ∙ sym one) in
+    ∙ dot-append (take (m + 1) cs) (placed_parts a b 0 loops (drop (m + 1) cs)) front (flat_map part_numbers r.parts) (length-take-le (m + 1) cs le ∙ sym one) in
     let parts = parts_value a b 0 loops r.parts (drop (m + 1) cs) h.parts (omega arith) in
     let back = split_dot (m + 1) cs front g one le in
     let same = ap (λ (z : List ℤ). dot cs z) (apart_front r.u g r.w) in

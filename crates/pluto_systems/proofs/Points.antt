@@ -162,13 +162,14 @@ dep_to m loops x r h s f a b =
     let xs = numbers_of r in
     let move = placed m source target loops in
     let value : (n : ℕ) → length g ≡ n → (q : Affine) → variables_of q ≡ n → value_of (move q) xs ≡ value_of q g =
-      λ n e q v. placed_value m source target loops q r s (v ∙ sym e) in
-    (f.legal.0 (one_to x.legal move xs g (value (variables_in x.legal) f.legal_size) h.legal_sized
-    (all_front (λ q. Zero (value_of q xs)) (map move x.legal.equalities) (map move x.bounded.equalities) a)
-    (all_front (λ q. Least (value_of q xs)) (map move x.legal.rows) (map move x.bounded.rows) b)),
-    f.bounded.0 (one_to x.bounded move xs g (value (variables_in x.bounded) f.bounded_size) h.bounded_sized
-    (all_back (λ q. Zero (value_of q xs)) (map move x.legal.equalities) (map move x.bounded.equalities) a)
-    (all_back (λ q. Least (value_of q xs)) (map move x.legal.rows) (map move x.bounded.rows) b)))
+    λ n e q v. placed_value m source target loops q r s (v ∙ sym e) in (
+      f.legal.0 (one_to x.legal move xs g (value (variables_in x.legal) f.legal_size) h.legal_sized
+          (all_front (λ q. Zero (value_of q xs)) (map move x.legal.equalities) (map move x.bounded.equalities) a)
+          (all_front (λ q. Least (value_of q xs)) (map move x.legal.rows) (map move x.bounded.rows) b)),
+      f.bounded.0 (one_to x.bounded move xs g (value (variables_in x.bounded) f.bounded_size) h.bounded_sized
+          (all_back (λ q. Zero (value_of q xs)) (map move x.legal.equalities) (map move x.bounded.equalities) a)
+          (all_back (λ q. Least (value_of q xs)) (map move x.legal.rows) (map move x.bounded.rows) b)),
+    )
 
 dep_from : (m : ℕ) (loops : List ℕ) (x : RuledDep) (r : Row) → IsRuled x → IsShaped m loops r → Facts m x r
     → IsLegal m r x.dep → IsBounded r x.dep → AreZero (numbers_of r) (equalities_for m loops x) × AreLeast (numbers_of r) (rows_for m loops x)
@@ -179,11 +180,12 @@ dep_from m loops x r h s f l b =
     let xs = numbers_of r in
     let move = placed m source target loops in
     let value : (n : ℕ) → length g ≡ n → (q : Affine) → variables_of q ≡ n → value_of (move q) xs ≡ value_of q g =
-      λ n e q v. placed_value m source target loops q r s (v ∙ sym e) in
+    λ n e q v. placed_value m source target loops q r s (v ∙ sym e) in
     let p = one_from x.legal move xs g (value (variables_in x.legal) f.legal_size) h.legal_sized (f.legal.1 l) in
-    let k = one_from x.bounded move xs g (value (variables_in x.bounded) f.bounded_size) h.bounded_sized (f.bounded.1 b) in
-    (All-append (λ q. Zero (value_of q xs)) (map move x.legal.equalities) (map move x.bounded.equalities) p.0 k.0,
-    All-append (λ q. Least (value_of q xs)) (map move x.legal.rows) (map move x.bounded.rows) p.1 k.1)
+    let k = one_from x.bounded move xs g (value (variables_in x.bounded) f.bounded_size) h.bounded_sized (f.bounded.1 b) in (
+      All-append (λ q. Zero (value_of q xs)) (map move x.legal.equalities) (map move x.bounded.equalities) p.0 k.0,
+      All-append (λ q. Least (value_of q xs)) (map move x.legal.rows) (map move x.bounded.rows) p.1 k.1,
+    )
 
 abbrev pub AreRuled : ℕ → List ℕ → List RuledDep → Type 0
 AreRuled m loops ruled = (x : RuledDep) → In x ruled → IsRuled x × IsBetween m loops x.dep
@@ -214,9 +216,10 @@ deps_from laws m loops (x ∷ ruled) r h s n all =
     let k = h x (inl refl) in
     let own = all x.dep (inl refl) in
     let one = dep_from m loops x r k.0 s (facts laws m loops x r k.0 k.1 s n) own.0 own.1 in
-    let more = deps_from laws m loops ruled r (λ y j. h y (inr j)) s n (λ d i. all d (inr i)) in
-    (All-append (λ q. Zero (value_of q xs)) (equalities_for m loops x) (flat_map (equalities_for m loops) ruled) one.0 more.0,
-    All-append (λ q. Least (value_of q xs)) (rows_for m loops x) (flat_map (rows_for m loops) ruled) one.1 more.1)
+    let more = deps_from laws m loops ruled r (λ y j. h y (inr j)) s n (λ d i. all d (inr i)) in (
+      All-append (λ q. Zero (value_of q xs)) (equalities_for m loops x) (flat_map (equalities_for m loops) ruled) one.0 more.0,
+      All-append (λ q. Least (value_of q xs)) (rows_for m loops x) (flat_map (rows_for m loops) ruled) one.1 more.1,
+    )
 
 -- the rows of kernel vectors
 dot-reverse : (xs ys : List ℤ) → length xs ≡ length ys → dot (reverse xs) (reverse ys) ≡ dot xs ys
@@ -345,8 +348,8 @@ from_to m loops s (vs ∷ more) r h l long all (suc k) lk =
     let e : suc s + k ≡ s + suc k = omega arith in
     let Q : Affine → Type 0 = λ q. Least (value_of q (numbers_of r)) in
     let next : AllLong (suc s) more r = λ j lj.
-      let f : s + suc j ≡ suc s + j = omega arith in
-      subst (λ (z : ℕ). AreLong (length (part_of r z).coefficients) (slice_index_or more j [])) f (long (suc j) (omega (arith, lj))) in
+    let f : s + suc j ≡ suc s + j = omega arith in
+    subst (λ (z : ℕ). AreLong (length (part_of r z).coefficients) (slice_index_or more j [])) f (long (suc j) (omega (arith, lj))) in
     subst (λ (z : ℕ). (slice_index_or more k [] ≡ []) ⊎ Grows (part_of r z).coefficients (slice_index_or more k [])) e
     (from_to m loops (suc s) more r h (omega (arith, l)) next (all_back Q (growth_rows m loops s vs) (growth_from m loops (suc s) more) all) k (omega (arith, lk)))
 
@@ -360,11 +363,11 @@ from_back m loops s (vs ∷ more) r h l long all =
     let first = subst (λ (z : ℕ). AreLong (length (part_of r z).coefficients) vs) e (long zero pos_k) in
     let own = subst (λ (z : ℕ). (vs ≡ []) ⊎ Grows (part_of r z).coefficients vs) e (all zero pos_k) in
     let next : AllLong (suc s) more r = λ j lj.
-      let f : s + suc j ≡ suc s + j = omega arith in
-      subst (λ (z : ℕ). AreLong (length (part_of r z).coefficients) (slice_index_or more j [])) f (long (suc j) (omega (arith, lj))) in
+    let f : s + suc j ≡ suc s + j = omega arith in
+    subst (λ (z : ℕ). AreLong (length (part_of r z).coefficients) (slice_index_or more j [])) f (long (suc j) (omega (arith, lj))) in
     let rest : AllGrow (suc s) more r = λ j lj.
-      let f : s + suc j ≡ suc s + j = omega arith in
-      subst (λ (z : ℕ). (slice_index_or more j [] ≡ []) ⊎ Grows (part_of r z).coefficients (slice_index_or more j [])) f (all (suc j) (omega (arith, lj))) in
+    let f : s + suc j ≡ suc s + j = omega arith in
+    subst (λ (z : ℕ). (slice_index_or more j [] ≡ []) ⊎ Grows (part_of r z).coefficients (slice_index_or more j [])) f (all (suc j) (omega (arith, lj))) in
     All-append Q (growth_rows m loops s vs) (growth_from m loops (suc s) more)
     (growth_back m loops s vs r h (omega (arith, l)) first own) (from_back m loops (suc s) more r h (omega (arith, l)) next rest)
 
@@ -405,18 +408,19 @@ has_posed laws lengths m loops ruled before vectors h v r shaped nn =
     let long = all_long lengths m loops before vectors r shaped v in
     let Q : Affine → Type 0 = λ q. Least (value_of q xs) in
     let own = flat_map (rows_for m loops) ruled in
-    let more = growth_from m loops 0 vectors in
-    (λ s.
-      let d = deps_to laws m loops ruled r h shaped nn s.0 (all_front Q own more s.1) in
-      record {
-        bounds = shaped.bounds;
-        statements = shaped_length loops r.parts shaped.parts;
-        sized = λ k. shaped_at loops r.parts k shaped.parts;
-        not_negative = nn;
-        legal = λ e i. (d e i).0;
-        bounded = λ e i. (d e i).1;
-        grows = grow_to m loops before vectors r v (from_to m loops 0 vectors r shaped (omega arith) long (all_back Q own more s.1));
-      },
-    λ p.
-      let d = deps_from laws m loops ruled r h shaped nn (λ e i. (p.legal e i, p.bounded e i)) in
-      (d.0, All-append Q own more d.1 (from_back m loops 0 vectors r shaped (omega arith) long (grow_from m loops before vectors r v p.grows))))
+    let more = growth_from m loops 0 vectors in (
+      λ s.
+          let d = deps_to laws m loops ruled r h shaped nn s.0 (all_front Q own more s.1) in
+          record {
+            bounds = shaped.bounds;
+            statements = shaped_length loops r.parts shaped.parts;
+            sized = λ k. shaped_at loops r.parts k shaped.parts;
+            not_negative = nn;
+            legal = λ e i. (d e i).0;
+            bounded = λ e i. (d e i).1;
+            grows = grow_to m loops before vectors r v (from_to m loops 0 vectors r shaped (omega arith) long (all_back Q own more s.1));
+          },
+      λ p.
+          let d = deps_from laws m loops ruled r h shaped nn (λ e i. (p.legal e i, p.bounded e i)) in
+          (d.0, All-append Q own more d.1 (from_back m loops 0 vectors r shaped (omega arith) long (grow_from m loops before vectors r v p.grows))),
+    )

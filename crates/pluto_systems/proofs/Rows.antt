@@ -85,10 +85,10 @@ least_row m loops deps before s xs h l =
     record {
       posed = (h r (row_shaped m loops xs l.size) nn).0 (subst (λ (z : List ℤ). Satisfies s z) (sym e) l.inside.1);
       least = λ other p less.
-        let shape = posed_shape m loops deps before other p in
-        l.least (numbers_of other) (row_length m loops other shape)
-        (p.not_negative, (h other shape p.not_negative).1 p)
-        (subst (λ (z : List ℤ). LexLess (numbers_of other) z) e less);
+          let shape = posed_shape m loops deps before other p in
+          l.least (numbers_of other) (row_length m loops other shape)
+          (p.not_negative, (h other shape p.not_negative).1 p)
+          (subst (λ (z : List ℤ). LexLess (numbers_of other) z) e less);
     }
 
 pub no_row : (m : ℕ) (loops : List ℕ) (deps : List Dependence) (before : List Row) (s : Constraints) → HasPosed m loops deps before s

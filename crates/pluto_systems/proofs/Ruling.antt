@@ -1,5 +1,5 @@
 -- Dependences and systems that stand beside them, one by one; systems put together of their forms.
-use Rattle.std.proofs.Common.{◌≡◌, ℕ, zero, suc, ◌+◌, ◌<◌, List, [], ◌∷◌, ◌++◌, refl, sym, ◌∙◌, ap, ap₂, subst}
+use Rattle.std.proofs.Common.{◌≡◌, ℤ, ℕ, zero, suc, ◌+◌, ◌<◌, List, [], ◌∷◌, ◌++◌, refl, sym, ◌∙◌, ap, ap₂, subst}
 use Rattle.std.proofs.Common.{◌⊎◌, inl, inr, arith, length, drop, map, All, get_or, add-one}
 use Rattle.std.specs.Prelude.{◌≤◌, Result, Ok, Err, IfOk}
 use Rattle.std.specs.List.{flat_map}
@@ -30,11 +30,11 @@ rest_behind (x ∷ ds) (y ∷ ls) (z ∷ bs) (suc i) d l b h e f =
     rest_behind ds ls bs i d l b (omega (arith, h)) (omega (arith, e)) (omega (arith, f))
 
 -- given what stands there
-pub rest_step : (ds : List Dependence) (ls bs : List Constraints) (i : ℕ) {c : Dependence} {k a : Constraints}
+pub rest_step : (ds : List Dependence) (ls bs : List Constraints) (i : ℕ) (c : Dependence) (k a : Constraints)
     (d : Dependence) (l b : Constraints) → d ≡ get_or ds i c → l ≡ get_or ls i k → b ≡ get_or bs i a
     → i < length ds → length ls ≡ length ds → length bs ≡ length ds
     → rest ds ls bs i ≡ ruled_dep d l b ∷ rest ds ls bs (i + 1)
-rest_step ds ls bs i {c} {k} {a} d l b p q r h e f =
+rest_step ds ls bs i c k a d l b p q r h e f =
     rest_behind ds ls bs i c k a h e f
     ∙ (ap (λ (n : ℕ). ruled_dep (get_or ds i c) (get_or ls i k) (get_or bs i a) ∷ rest ds ls bs n) (sym (add-one i))
     ∙ (ap (λ (z : Dependence). ruled_dep z (get_or ls i k) (get_or bs i a) ∷ rest ds ls bs (i + 1)) (sym p)
@@ -110,21 +110,44 @@ pub is_ruled : (x : RuledDep) → IsFarkasOf x → HaveSizes x → IsRuled x
 is_ruled x f s =
     record { legal = f.legal; bounded = f.bounded; legal_sized = s.legal; bounded_sized = s.bounded }
 
--- the posed system of these forms
-pub posed_is : (m : ℕ) (loops : List ℕ) (ruled : List RuledDep) (growth es rs : List Affine) (s : Constraints)
-    → es ≡ flat_map (equalities_for m loops) ruled → rs ≡ flat_map (rows_for m loops) ruled
-    → s ≡ system_of (columns_of m loops) 0 es (rs ++ growth)
-    → s ≡ system_of (columns_of m loops) 0 (flat_map (equalities_for m loops) ruled)
-    (flat_map (rows_for m loops) ruled ++ growth)
-posed_is m loops ruled growth es rs s a b e =
-    e ∙ ap₂ (λ (x y : List Affine). system_of (columns_of m loops) 0 x (y ++ growth)) a b
+-- the parts are those of a posed system
+pub record ArePosed (m : ℕ) (loops : List ℕ) (ruled : List RuledDep) (vectors : List (List (List ℤ)))
+    (n : ℕ) (es rs : List Affine) : Type 0 where
+  pub columns : n ≡ columns_of m loops
+  pub equalities : es ≡ flat_map (equalities_for m loops) ruled
+  pub rows : rs ≡ flat_map (rows_for m loops) ruled ++ growth_from m loops 0 vectors
+
+-- made over numbers and lists that are the same
+pub are_posed : (m p : ℕ) (loops k l : List ℕ) (ruled : List RuledDep) (vs ws : List (List (List ℤ)))
+    (es rs : List Affine) → p ≡ m → k ≡ loops → l ≡ loops → ws ≡ vs → es ≡ flat_map (equalities_for p k) ruled
+    → rs ≡ flat_map (rows_for p k) ruled
+    → ArePosed m loops ruled vs (columns_of p l) es (rs ++ growth_from p l 0 ws)
+are_posed m p loops k l ruled vs ws es rs a b c d e f =
+    record {
+      columns = ap₂ columns_of a c;
+      equalities = e ∙ ap₂ (λ (i : ℕ) (x : List ℕ). flat_map (equalities_for i x) ruled) a b;
+      rows = ap₂ (λ (x y : List Affine). x ++ y) (f ∙ ap₂ (λ (i : ℕ) (x : List ℕ). flat_map (rows_for i x) ruled) a b)
+          (ap₂ (λ (i : ℕ) (x : List ℕ). growth_from i x 0 ws) a c ∙ ap (growth_from m loops 0) d);
+    }
 
 -- they are sized as its forms are
-pub sized_as : (n : ℕ) (growth es fs rs ss : List Affine) → es ≡ fs → rs ≡ ss → IsSized n fs (ss ++ growth)
-    → IsSized n es (rs ++ growth)
-sized_as n growth es fs rs ss a b h =
-    subst (λ (z : List Affine). IsSized n z (rs ++ growth)) (sym a)
-    (subst (λ (z : List Affine). IsSized n fs (z ++ growth)) (sym b) h)
+pub posed_sizes : (m : ℕ) (loops : List ℕ) (ruled : List RuledDep) (vectors : List (List (List ℤ))) (n : ℕ)
+    (es rs : List Affine) → ArePosed m loops ruled vectors n es rs
+    → IsSized (columns_of m loops) (flat_map (equalities_for m loops) ruled)
+    (flat_map (rows_for m loops) ruled ++ growth_from m loops 0 vectors)
+    → IsSized n es rs
+posed_sizes m loops ruled vectors n es rs h s =
+    subst (λ (i : ℕ). IsSized i es rs) (sym h.columns)
+    (subst (λ (x : List Affine). IsSized (columns_of m loops) x rs) (sym h.equalities)
+    (subst (λ (x : List Affine). IsSized (columns_of m loops) (flat_map (equalities_for m loops) ruled) x) (sym h.rows) s))
+
+-- and make that system
+pub posed_is : (m : ℕ) (loops : List ℕ) (ruled : List RuledDep) (vectors : List (List (List ℤ))) (n : ℕ)
+    (es rs : List Affine) (s : Constraints) → ArePosed m loops ruled vectors n es rs → s ≡ system_of n 0 es rs
+    → s ≡ posed_system m loops ruled vectors
+posed_is m loops ruled vectors n es rs s h e =
+    e ∙ (ap (λ (i : ℕ). system_of i 0 es rs) h.columns
+    ∙ ap₂ (λ (x y : List Affine). system_of (columns_of m loops) 0 x y) h.equalities h.rows)
 
 -- what holds of a call's value holds of it
 pub if_ok : {T E : Type 0} {P Q : T → Type 0} (r : Result T E) → ((x : T) → P x → Q x) → IfOk r P → IfOk r Q

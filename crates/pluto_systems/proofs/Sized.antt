@@ -34,20 +34,20 @@ parts_columns a b s [] (p ∷ ps) cs h e = absurd h
 parts_columns a b s (l ∷ ls) [] cs h e = absurd h
 parts_columns a b s (l ∷ ls) (p ∷ ps) cs h e = elim (either (is_end a b s)) [
   | inl t ↦
-    let g = gathered_parts a b (suc s) ps in
-    let k = length-part p in
-    let q = h.0 in
-    let size = e ∙ ap length (gathered_end a b s p ps t) ∙ length-append (part_numbers p) g in
-    let d = length-drop (l + 1) cs in
-    let r = parts_columns a b (suc s) ls ps (drop (l + 1) cs) h.1 (omega arith) in
-    let w = ap length (placed_end a b s l ls cs t) ∙ length-append (take (l + 1) cs) (placed_parts a b (suc s) ls (drop (l + 1) cs)) in
-    let f = length-take-le (l + 1) cs (omega arith) in
-    omega arith
+      let g = gathered_parts a b (suc s) ps in
+      let k = length-part p in
+      let q = h.0 in
+      let size = e ∙ ap length (gathered_end a b s p ps t) ∙ length-append (part_numbers p) g in
+      let d = length-drop (l + 1) cs in
+      let r = parts_columns a b (suc s) ls ps (drop (l + 1) cs) h.1 (omega arith) in
+      let w = ap length (placed_end a b s l ls cs t) ∙ length-append (take (l + 1) cs) (placed_parts a b (suc s) ls (drop (l + 1) cs)) in
+      let f = length-take-le (l + 1) cs (omega arith) in
+      omega arith
   | inr t ↦
-    let r = parts_columns a b (suc s) ls ps cs h.1 (e ∙ ap length (gathered_other a b s p ps t)) in
-    let w = ap length (placed_other a b s l ls cs t) ∙ length-append (zeros (l + 1)) (placed_parts a b (suc s) ls cs) in
-    let f = length-zeros (l + 1) in
-    omega arith
+      let r = parts_columns a b (suc s) ls ps cs h.1 (e ∙ ap length (gathered_other a b s p ps t)) in
+      let w = ap length (placed_other a b s l ls cs t) ∙ length-append (zeros (l + 1)) (placed_parts a b (suc s) ls cs) in
+      let f = length-zeros (l + 1) in
+      omega arith
 ]
 
 placed_sized : (m a b : ℕ) (loops : List ℕ) (f : Affine) (r : Row) → IsShaped m loops r → length f.coefficients ≡ length (gathered a b r)
@@ -96,15 +96,16 @@ dep_sized laws m loops x h b =
     let move = placed m source target loops in
     let n = columns_of m loops in
     let size : (k : ℕ) → length (gathered source target r) ≡ k → (q : Affine) → variables_of q ≡ k → variables_of (move q) ≡ n =
-      λ k e q v. placed_sized m source target loops q r shape (v ∙ sym e) in
+    λ k e q v. placed_sized m source target loops q r shape (v ∙ sym e) in
     let l = size (variables_in x.legal) f.legal_size in
-    let u = size (variables_in x.bounded) f.bounded_size in
-    (All-append (Sized n) (map move x.legal.equalities) (map move x.bounded.equalities)
-    (map_sized (variables_in x.legal) n move x.legal.equalities l h.legal_sized.equalities_sized)
-    (map_sized (variables_in x.bounded) n move x.bounded.equalities u h.bounded_sized.equalities_sized),
-    All-append (Sized n) (map move x.legal.rows) (map move x.bounded.rows)
-    (map_sized (variables_in x.legal) n move x.legal.rows l h.legal_sized.rows_sized)
-    (map_sized (variables_in x.bounded) n move x.bounded.rows u h.bounded_sized.rows_sized))
+    let u = size (variables_in x.bounded) f.bounded_size in (
+      All-append (Sized n) (map move x.legal.equalities) (map move x.bounded.equalities)
+          (map_sized (variables_in x.legal) n move x.legal.equalities l h.legal_sized.equalities_sized)
+          (map_sized (variables_in x.bounded) n move x.bounded.equalities u h.bounded_sized.equalities_sized),
+      All-append (Sized n) (map move x.legal.rows) (map move x.bounded.rows)
+          (map_sized (variables_in x.legal) n move x.legal.rows l h.legal_sized.rows_sized)
+          (map_sized (variables_in x.bounded) n move x.bounded.rows u h.bounded_sized.rows_sized),
+    )
 
 deps_sized : RowLaws → (m : ℕ) (loops : List ℕ) (ruled : List RuledDep) → AreRuled m loops ruled
     → All (Sized (columns_of m loops)) (flat_map (equalities_for m loops) ruled) × All (Sized (columns_of m loops)) (flat_map (rows_for m loops) ruled)
@@ -113,9 +114,10 @@ deps_sized laws m loops (x ∷ ruled) h =
     let k = h x (inl refl) in
     let n = columns_of m loops in
     let one = dep_sized laws m loops x k.0 k.1 in
-    let more = deps_sized laws m loops ruled (λ y i. h y (inr i)) in
-    (All-append (Sized n) (equalities_for m loops x) (flat_map (equalities_for m loops) ruled) one.0 more.0,
-    All-append (Sized n) (rows_for m loops x) (flat_map (rows_for m loops) ruled) one.1 more.1)
+    let more = deps_sized laws m loops ruled (λ y i. h y (inr i)) in (
+      All-append (Sized n) (equalities_for m loops x) (flat_map (equalities_for m loops) ruled) one.0 more.0,
+      All-append (Sized n) (rows_for m loops x) (flat_map (rows_for m loops) ruled) one.1 more.1,
+    )
 
 own_sized : (m : ℕ) (loops : List ℕ) (s : ℕ) (k : ℤ) (v : List ℤ) → s < length loops → length v ≡ slice_index_or loops s 0
     → variables_of (own_row m loops s k v) ≡ columns_of m loops
@@ -167,8 +169,8 @@ from_sized m loops s (vs ∷ more) l long =
     All-append (Sized (columns_of m loops)) (growth_rows m loops s vs) (growth_from m loops (suc s) more)
     (growth_sized m loops s vs (omega (arith, l)) first)
     (from_sized m loops (suc s) more (omega (arith, l)) (λ k lk.
-      let f : s + suc k ≡ suc s + k = omega arith in
-      subst (λ (z : ℕ). AreLong (slice_index_or loops z 0) (slice_index_or more k [])) f (long (suc k) (omega (arith, lk)))))
+    let f : s + suc k ≡ suc s + k = omega arith in
+    subst (λ (z : ℕ). AreLong (slice_index_or loops z 0) (slice_index_or more k [])) f (long (suc k) (omega (arith, lk)))))
 
 pub posed_sized : RowLaws → (m : ℕ) (loops : List ℕ) (ruled : List RuledDep) (vectors : List (List (List ℤ))) → AreRuled m loops ruled → AreSmallVectors loops vectors
     → IsSized (columns_of m loops) (flat_map (equalities_for m loops) ruled) (flat_map (rows_for m loops) ruled ++ growth_from m loops 0 vectors)
@@ -178,7 +180,7 @@ posed_sized laws m loops ruled vectors h v =
     record {
       equalities_sized = d.0;
       rows_sized = All-append (Sized (columns_of m loops)) (flat_map (rows_for m loops) ruled) (growth_from m loops 0 vectors) d.1
-        (from_sized m loops 0 vectors (omega arith) (λ k lk.
+          (from_sized m loops 0 vectors (omega arith) (λ k lk.
           let e : k ≡ 0 + k = omega arith in
           subst (λ (i : ℕ). AreLong (slice_index_or loops i 0) (slice_index_or vectors k [])) e (v.long k (omega arith))));
     }

@@ -47,16 +47,16 @@ small_vectors laws loops rows five h =
     record {
       size = for_length loops rows h.size;
       few = λ s l.
-        let k = kernel_count laws (slice_index_or loops s 0) (slice_index_or rows s []) in
-        let f = All-get_or (λ (n : ℕ). n ≤ 5) loops s 0 l five in
-        subst (λ (z : List (List ℤ)). length z ≤ 5) (sym (for_at loops rows s h.size l)) (omega arith);
+          let k = kernel_count laws (slice_index_or loops s 0) (slice_index_or rows s []) in
+          let f = All-get_or (λ (n : ℕ). n ≤ 5) loops s 0 l five in
+          subst (λ (z : List (List ℤ)). length z ≤ 5) (sym (for_at loops rows s h.size l)) (omega arith);
       long = λ s l.
-        subst (λ (z : List (List ℤ)). AreLong (slice_index_or loops s 0) z) (sym (for_at loops rows s h.size l))
-        (laws.long (slice_index_or loops s 0) (slice_index_or rows s []));
+          subst (λ (z : List (List ℤ)). AreLong (slice_index_or loops s 0) z) (sym (for_at loops rows s h.size l))
+          (laws.long (slice_index_or loops s 0) (slice_index_or rows s []));
       small = λ s l.
-        let f = All-get_or (λ (n : ℕ). n ≤ 5) loops s 0 l five in
-        subst (λ (z : List (List ℤ)). All (AreWithin (2 ^ 109)) z) (sym (for_at loops rows s h.size l))
-        (laws.narrow (slice_index_or loops s 0) (slice_index_or rows s []) f (h.small s l)).last;
+          let f = All-get_or (λ (n : ℕ). n ≤ 5) loops s 0 l five in
+          subst (λ (z : List (List ℤ)). All (AreWithin (2 ^ 109)) z) (sym (for_at loops rows s h.size l))
+          (laws.narrow (slice_index_or loops s 0) (slice_index_or rows s []) f (h.small s l)).last;
     }
 
 for_behind : (loops : List ℕ) (rows : List (List (List ℤ))) (i : ℕ) → i < length loops → length rows ≡ length loops

@@ -43,8 +43,24 @@ fn push_equalities(
     ensures bounded { OnOk result (All (λ f. variables_of f ≡ variables_in bounded.now) bounded.now.equalities) }
 {
     let (source, target) = (dep.source.statement, dep.target.statement);
-    place_all(alloc, out, parameters, source, target, loops, legal.equalities())?;
-    place_all(alloc, out, parameters, source, target, loops, bounded.equalities())
+    place_all(
+        alloc,
+        out,
+        parameters,
+        source,
+        target,
+        loops,
+        legal.equalities(),
+    )?;
+    place_all(
+        alloc,
+        out,
+        parameters,
+        source,
+        target,
+        loops,
+        bounded.equalities(),
+    )
 }
 
 /// Appends the rows of a dependence over all columns.
@@ -66,7 +82,15 @@ fn push_rows(
 {
     let (source, target) = (dep.source.statement, dep.target.statement);
     place_all(alloc, out, parameters, source, target, loops, legal.rows())?;
-    place_all(alloc, out, parameters, source, target, loops, bounded.rows())
+    place_all(
+        alloc,
+        out,
+        parameters,
+        source,
+        target,
+        loops,
+        bounded.rows(),
+    )
 }
 
 /// The equalities and the rows of dependences over all columns.
@@ -85,7 +109,15 @@ fn forms_over(
     let mut rows = Vec::new(alloc);
     for one in ruled {
         let (dep, legal, bounded) = (one.dep(), one.legal(), one.bounded());
-        push_equalities(alloc, &mut equalities, parameters, loops, dep, legal, bounded)?;
+        push_equalities(
+            alloc,
+            &mut equalities,
+            parameters,
+            loops,
+            dep,
+            legal,
+            bounded,
+        )?;
         push_rows(alloc, &mut rows, parameters, loops, dep, legal, bounded)?;
     }
     Ok((equalities, rows))
@@ -114,7 +146,15 @@ fn forms_of(
     let mut rows = Vec::new(alloc);
     for at in 0..deps.len() {
         let (dep, keeps, bounds) = (&deps[at], &legal[at], &bounded[at]);
-        push_equalities(alloc, &mut equalities, parameters, loops, dep, keeps, bounds)?;
+        push_equalities(
+            alloc,
+            &mut equalities,
+            parameters,
+            loops,
+            dep,
+            keeps,
+            bounds,
+        )?;
         push_rows(alloc, &mut rows, parameters, loops, dep, keeps, bounds)?;
     }
     Ok((equalities, rows))

@@ -17,7 +17,7 @@ loop-at-preserved c =
     let here = rest ds ls bs i in
     let more = rest ds ls bs (i + 1) in
     let step : here ≡ one ∷ more =
-    rest_step ds ls bs i c.index-deps-at.result c.index-legal-at.result c.index-bounded-at.result c.index-deps-at.is
+    rest_step ds ls bs i _ _ _ c.index-deps-at.result c.index-legal-at.result c.index-bounded-at.result c.index-deps-at.is
     c.index-legal-at.is c.index-bounded-at.is c.loop-at-test.true c.requires.legal c.requires.bounded in
     let sizes : HaveSizes one = record {
       legal = record {
@@ -28,12 +28,13 @@ loop-at-preserved c =
         equalities_sized = c.in_ok-push_equalities.ensures.bounded;
         rows_sized = c.in_ok-push_rows.ensures.bounded;
       };
-    } in
-    (forms_step (equalities_for m loops) c.loop-at.equalities.items c.push_equalities.new.out.items one more here whole
-    step c.in_ok-push_equalities.ensures.forms c.loop-at.invariant.0,
-    forms_step (rows_for m loops) c.loop-at.rows.items c.push_rows.new.out.items one more here whole
-    step c.in_ok-push_rows.ensures.forms c.loop-at.invariant.1,
-    sized_step whole here more one step sizes c.loop-at.invariant.2)
+    } in (
+      forms_step (equalities_for m loops) c.loop-at.equalities.items c.push_equalities.new.out.items one more here whole
+          step c.in_ok-push_equalities.ensures.forms c.loop-at.invariant.0,
+      forms_step (rows_for m loops) c.loop-at.rows.items c.push_rows.new.out.items one more here whole
+          step c.in_ok-push_rows.ensures.forms c.loop-at.invariant.1,
+      sized_step whole here more one step sizes c.loop-at.invariant.2,
+    )
 
 pub returns-clause-sized : goal.returns-clause-sized
 returns-clause-sized c =
