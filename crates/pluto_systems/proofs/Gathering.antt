@@ -46,33 +46,43 @@ end_none a b s h k = ap (λ (x : Bool). if x then true else nat_eq s b) (eq_no s
 -- past both
 none_left : (a b s : ℕ) (ps : List Part) → a < s → b < s → gathered_parts a b s ps ≡ []
 none_left a b s [] h k = refl
-none_left a b s (p ∷ ps) h k = gathered_other a b s p ps (end_none a b s (inr h) (inr k)) ∙ none_left a b (suc s) ps (omega arith) (omega arith)
+none_left a b s (p ∷ ps) h k = gathered_other a b s p ps (end_none a b s (inr h) (inr k))
+    ∙ none_left a b (suc s) ps (omega arith) (omega arith)
 
 -- one more to come
-one_left : (a b s k : ℕ) (ps : List Part) → a < s → b ≡ s + k → k < length ps → gathered_parts a b s ps ≡ part_numbers (nth ps k)
+one_left : (a b s k : ℕ) (ps : List Part) → a < s → b ≡ s + k → k < length ps
+    → gathered_parts a b s ps ≡ part_numbers (nth ps k)
 one_left a b s k [] h e l = absurd (omega arith)
 one_left a b s zero (p ∷ ps) h e l =
     gathered_end a b s p ps (end_second a b s (omega arith))
-    ∙ (ap (λ (z : List ℤ). part_numbers p ++ z) (none_left a b (suc s) ps (omega arith) (omega arith)) ∙ append-nil (part_numbers p))
+    ∙ (ap (λ (z : List ℤ). part_numbers p ++ z) (none_left a b (suc s) ps (omega arith) (omega arith))
+    ∙ append-nil (part_numbers p))
 one_left a b s (suc k) (p ∷ ps) h e l =
-    gathered_other a b s p ps (end_none a b s (inr h) (inl (omega arith))) ∙ one_left a b (suc s) k ps (omega arith) (omega arith) (omega (arith, l))
+    gathered_other a b s p ps (end_none a b s (inr h) (inl (omega arith)))
+    ∙ one_left a b (suc s) k ps (omega arith) (omega arith) (omega (arith, l))
 
-one_left_first : (a b s k : ℕ) (ps : List Part) → b < s → a ≡ s + k → k < length ps → gathered_parts a b s ps ≡ part_numbers (nth ps k)
+one_left_first : (a b s k : ℕ) (ps : List Part) → b < s → a ≡ s + k → k < length ps
+    → gathered_parts a b s ps ≡ part_numbers (nth ps k)
 one_left_first a b s k [] h e l = absurd (omega arith)
 one_left_first a b s zero (p ∷ ps) h e l =
     gathered_end a b s p ps (end_first a b s (omega arith))
-    ∙ (ap (λ (z : List ℤ). part_numbers p ++ z) (none_left a b (suc s) ps (omega arith) (omega arith)) ∙ append-nil (part_numbers p))
+    ∙ (ap (λ (z : List ℤ). part_numbers p ++ z) (none_left a b (suc s) ps (omega arith) (omega arith))
+    ∙ append-nil (part_numbers p))
 one_left_first a b s (suc k) (p ∷ ps) h e l =
-    gathered_other a b s p ps (end_none a b s (inl (omega arith)) (inr h)) ∙ one_left_first a b (suc s) k ps (omega arith) (omega arith) (omega (arith, l))
+    gathered_other a b s p ps (end_none a b s (inl (omega arith)) (inr h))
+    ∙ one_left_first a b (suc s) k ps (omega arith) (omega arith) (omega (arith, l))
 
 -- one statement
-pub both_one : (a b s k : ℕ) (ps : List Part) → a ≡ s + k → b ≡ s + k → k < length ps → gathered_parts a b s ps ≡ part_numbers (nth ps k)
+pub both_one : (a b s k : ℕ) (ps : List Part) → a ≡ s + k → b ≡ s + k → k < length ps
+    → gathered_parts a b s ps ≡ part_numbers (nth ps k)
 both_one a b s k [] e f l = absurd (omega arith)
 both_one a b s zero (p ∷ ps) e f l =
     gathered_end a b s p ps (end_first a b s (omega arith))
-    ∙ (ap (λ (z : List ℤ). part_numbers p ++ z) (none_left a b (suc s) ps (omega arith) (omega arith)) ∙ append-nil (part_numbers p))
+    ∙ (ap (λ (z : List ℤ). part_numbers p ++ z) (none_left a b (suc s) ps (omega arith) (omega arith))
+    ∙ append-nil (part_numbers p))
 both_one a b s (suc k) (p ∷ ps) e f l =
-    gathered_other a b s p ps (end_none a b s (inl (omega arith)) (inl (omega arith))) ∙ both_one a b (suc s) k ps (omega arith) (omega arith) (omega (arith, l))
+    gathered_other a b s p ps (end_none a b s (inl (omega arith)) (inl (omega arith)))
+    ∙ both_one a b (suc s) k ps (omega arith) (omega arith) (omega (arith, l))
 
 -- the first before the second
 both_less : (a b s j k : ℕ) (ps : List Part) → a ≡ s + j → b ≡ s + k → j < k → k < length ps
@@ -81,7 +91,8 @@ both_less a b s j k [] e f l m = absurd (omega arith)
 both_less a b s j zero (p ∷ ps) e f l m = absurd (omega arith)
 both_less a b s zero (suc k) (p ∷ ps) e f l m =
     gathered_end a b s p ps (end_first a b s (omega arith))
-    ∙ ap (λ (z : List ℤ). part_numbers p ++ z) (one_left a b (suc s) k ps (omega arith) (omega arith) (omega (arith, m)))
+    ∙ ap (λ (z : List ℤ). part_numbers p ++ z) (one_left a b (suc s) k ps (omega arith) (omega arith) (omega
+    (arith, m)))
 both_less a b s (suc j) (suc k) (p ∷ ps) e f l m =
     gathered_other a b s p ps (end_none a b s (inl (omega arith)) (inl (omega arith)))
     ∙ both_less a b (suc s) j k ps (omega arith) (omega arith) (omega (arith, l)) (omega (arith, m))
@@ -92,7 +103,8 @@ both_more a b s j k [] e f l m = absurd (omega arith)
 both_more a b s zero k (p ∷ ps) e f l m = absurd (omega arith)
 both_more a b s (suc j) zero (p ∷ ps) e f l m =
     gathered_end a b s p ps (end_second a b s (omega arith))
-    ∙ ap (λ (z : List ℤ). part_numbers p ++ z) (one_left_first a b (suc s) j ps (omega arith) (omega arith) (omega (arith, m)))
+    ∙ ap (λ (z : List ℤ). part_numbers p ++ z) (one_left_first a b (suc s) j ps (omega arith) (omega arith) (omega
+    (arith, m)))
 both_more a b s (suc j) (suc k) (p ∷ ps) e f l m =
     gathered_other a b s p ps (end_none a b s (inl (omega arith)) (inl (omega arith)))
     ∙ both_more a b (suc s) j k ps (omega arith) (omega arith) (omega (arith, l)) (omega (arith, m))
@@ -133,7 +145,8 @@ ends_gathered s t x ps ls lt es et = elim (three s.statement t.statement) [
   | inr (inr h) ↦
       both_more s.statement t.statement 0 s.statement t.statement ps (omega arith) (omega arith) h ls
       ∙ (ap₂ (λ (p q : Part). part_numbers p ++ part_numbers q) (sym et) (sym es)
-      ∙ sym (ends_by s t x false false (eq_no s.statement t.statement (inr h)) (lt_no s.statement t.statement (omega arith))))
+      ∙ sym (ends_by s t x false false (eq_no s.statement t.statement (inr h)) (lt_no s.statement t.statement
+      (omega arith))))
 ]
 
 -- what is gathered for a dependence are its unknowns

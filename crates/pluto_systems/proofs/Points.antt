@@ -24,7 +24,7 @@ use Rattle.null_space.specs.Sizes.{AreLong}
 use Rattle.schedule_rows.proofs.Pairs.{all_front, all_back}
 use Rattle.farkas.specs.Unknowns.{Part, Unknowns, AreOf, part_numbers}
 use Rattle.farkas.specs.Unknowns as unknowns
-use Rattle.farkas.specs.Claims.{distance, slack}
+use Rattle.farkas.specs.Claims.{distance}
 use Rattle.schedule_rows.specs.Items.{Row, part_of, numbers_of}
 use Rattle.schedule_rows.specs.Dependences.{unknowns_of}
 use Rattle.schedule_rows.specs.Posed.{IsLegal, IsBounded, loops_of, coefficients_in, vectors_of}
@@ -42,7 +42,8 @@ shaped_length [] (p ∷ ps) h = absurd h
 shaped_length (l ∷ ls) [] h = absurd h
 shaped_length (l ∷ ls) (p ∷ ps) h = ap suc (shaped_length ls ps h.1)
 
-pub shaped_at : (ls : List ℕ) (ps : List Part) (s : ℕ) → AreShaped ls ps → length (nth ps s).coefficients ≡ slice_index_or ls s 0
+pub shaped_at : (ls : List ℕ) (ps : List Part) (s : ℕ) → AreShaped ls ps
+    → length (nth ps s).coefficients ≡ slice_index_or ls s 0
 shaped_at [] [] s h = refl
 shaped_at [] (p ∷ ps) s h = absurd h
 shaped_at (l ∷ ls) [] s h = absurd h
@@ -50,14 +51,16 @@ shaped_at (l ∷ ls) (p ∷ ps) zero h = h.0
 shaped_at (l ∷ ls) (p ∷ ps) (suc s) h = shaped_at ls ps s h.1
 
 -- members that are not negative
-gathered_not_negative : (a b s : ℕ) (ps : List Part) → AreNotNegative (flat_map part_numbers ps) → AreNotNegative (gathered_parts a b s ps)
+gathered_not_negative : (a b s : ℕ) (ps : List Part) → AreNotNegative (flat_map part_numbers ps)
+    → AreNotNegative (gathered_parts a b s ps)
 gathered_not_negative a b s [] h = h
 gathered_not_negative a b s (p ∷ ps) h =
     let P : ℤ → Type 0 = λ x. pos 0 ≤ℤ x in
     let front = all_front P (part_numbers p) (flat_map part_numbers ps) h in
     let rest = gathered_not_negative a b (suc s) ps (all_back P (part_numbers p) (flat_map part_numbers ps) h) in
     elim (either (is_end a b s)) [
-      | inl t ↦ subst (λ (z : List ℤ). All P z) (sym (gathered_end a b s p ps t)) (All-append P (part_numbers p) (gathered_parts a b (suc s) ps) front rest)
+      | inl t ↦ subst (λ (z : List ℤ). All P z) (sym (gathered_end a b s p ps t)) (All-append P (part_numbers p)
+          (gathered_parts a b (suc s) ps) front rest)
       | inr t ↦ subst (λ (z : List ℤ). All P z) (sym (gathered_other a b s p ps t)) rest
     ]
 
@@ -77,8 +80,10 @@ moved_to : (Z : ℤ → Type 0) (n : ℕ) (h : Affine → Affine) (xs g : List �
 moved_to Z n h xs g [] e s all = All-nil (λ f. Z (value_of f g))
 moved_to Z n h xs g (f ∷ fs) e s all =
     All-cons (λ f. Z (value_of f g)) f fs
-    (subst Z (e f (All-head (λ f. variables_of f ≡ n) f fs s)) (All-head (λ f. Z (value_of f xs)) (h f) (map h fs) all))
-    (moved_to Z n h xs g fs e (All-tail (λ f. variables_of f ≡ n) f fs s) (All-tail (λ f. Z (value_of f xs)) (h f) (map h fs) all))
+    (subst Z (e f (All-head (λ f. variables_of f ≡ n) f fs s)) (All-head (λ f. Z (value_of f xs)) (h f)
+    (map h fs) all))
+    (moved_to Z n h xs g fs e (All-tail (λ f. variables_of f ≡ n) f fs s) (All-tail (λ f. Z (value_of f xs)) (h f)
+    (map h fs) all))
 
 moved_from : (Z : ℤ → Type 0) (n : ℕ) (h : Affine → Affine) (xs g : List ℤ) (fs : List Affine)
     → ((f : Affine) → variables_of f ≡ n → value_of (h f) xs ≡ value_of f g) → All (λ f. variables_of f ≡ n) fs
@@ -87,7 +92,8 @@ moved_from Z n h xs g [] e s all = All-nil (λ f. Z (value_of f xs))
 moved_from Z n h xs g (f ∷ fs) e s all =
     All-cons (λ f. Z (value_of f xs)) (h f) (map h fs)
     (subst Z (sym (e f (All-head (λ f. variables_of f ≡ n) f fs s))) (All-head (λ f. Z (value_of f g)) f fs all))
-    (moved_from Z n h xs g fs e (All-tail (λ f. variables_of f ≡ n) f fs s) (All-tail (λ f. Z (value_of f g)) f fs all))
+    (moved_from Z n h xs g fs e (All-tail (λ f. variables_of f
+    ≡ n) f fs s) (All-tail (λ f. Z (value_of f g)) f fs all))
 
 abbrev Zero : ℤ → Type 0
 Zero z = z ≡ pos 0
@@ -103,16 +109,24 @@ AreLeast xs fs = All (λ f. Least (value_of f xs)) fs
 
 -- one system of a dependence
 one_to : (t : Constraints) (h : Affine → Affine) (xs g : List ℤ)
-    → ((f : Affine) → variables_of f ≡ variables_in t → value_of (h f) xs ≡ value_of f g) → IsSized (variables_in t) t.equalities t.rows
+    → ((f : Affine) → variables_of f ≡ variables_in t → value_of (h f) xs ≡ value_of f g)
+    → IsSized (variables_in t) t.equalities t.rows
     → AreZero xs (map h t.equalities) → AreLeast xs (map h t.rows) → Satisfies t g
-one_to t h xs g e s a b =
-    (moved_to Zero (variables_in t) h xs g t.equalities e s.equalities_sized a, moved_to Least (variables_in t) h xs g t.rows e s.rows_sized b)
+one_to t h xs g e s a b = (
+  moved_to Zero (variables_in t) h xs g t.equalities e s.equalities_sized a,
+  moved_to Least
+      (variables_in t) h xs g t.rows e s.rows_sized b,
+)
 
 one_from : (t : Constraints) (h : Affine → Affine) (xs g : List ℤ)
-    → ((f : Affine) → variables_of f ≡ variables_in t → value_of (h f) xs ≡ value_of f g) → IsSized (variables_in t) t.equalities t.rows
+    → ((f : Affine) → variables_of f ≡ variables_in t → value_of (h f) xs ≡ value_of f g)
+    → IsSized (variables_in t) t.equalities t.rows
     → Satisfies t g → AreZero xs (map h t.equalities) × AreLeast xs (map h t.rows)
-one_from t h xs g e s k =
-    (moved_from Zero (variables_in t) h xs g t.equalities e s.equalities_sized k.0, moved_from Least (variables_in t) h xs g t.rows e s.rows_sized k.1)
+one_from t h xs g e s k = (
+  moved_from Zero (variables_in t) h xs g t.equalities e s.equalities_sized k.0,
+  moved_from Least
+      (variables_in t) h xs g t.rows e s.rows_sized k.1,
+)
 
 -- what holds of one dependence
 pub record Facts (m : ℕ) (x : RuledDep) (r : Row) : Type 0 where
@@ -154,7 +168,8 @@ facts laws m loops x r h b s n =
     }
 
 dep_to : (m : ℕ) (loops : List ℕ) (x : RuledDep) (r : Row) → IsRuled x → IsShaped m loops r → Facts m x r
-    → AreZero (numbers_of r) (equalities_for m loops x) → AreLeast (numbers_of r) (rows_for m loops x) → IsLegal m r x.dep × IsBounded r x.dep
+    → AreZero (numbers_of r) (equalities_for m loops x) → AreLeast (numbers_of r) (rows_for m loops x)
+    → IsLegal m r x.dep × IsBounded r x.dep
 dep_to m loops x r h s f a b =
     let source = x.dep.source.statement in
     let target = x.dep.target.statement in
@@ -172,7 +187,8 @@ dep_to m loops x r h s f a b =
     )
 
 dep_from : (m : ℕ) (loops : List ℕ) (x : RuledDep) (r : Row) → IsRuled x → IsShaped m loops r → Facts m x r
-    → IsLegal m r x.dep → IsBounded r x.dep → AreZero (numbers_of r) (equalities_for m loops x) × AreLeast (numbers_of r) (rows_for m loops x)
+    → IsLegal m r x.dep → IsBounded r x.dep → AreZero (numbers_of r) (equalities_for m loops x) × AreLeast
+    (numbers_of r) (rows_for m loops x)
 dep_from m loops x r h s f l b =
     let source = x.dep.source.statement in
     let target = x.dep.target.statement in
@@ -182,7 +198,8 @@ dep_from m loops x r h s f l b =
     let value : (n : ℕ) → length g ≡ n → (q : Affine) → variables_of q ≡ n → value_of (move q) xs ≡ value_of q g =
     λ n e q v. placed_value m source target loops q r s (v ∙ sym e) in
     let p = one_from x.legal move xs g (value (variables_in x.legal) f.legal_size) h.legal_sized (f.legal.1 l) in
-    let k = one_from x.bounded move xs g (value (variables_in x.bounded) f.bounded_size) h.bounded_sized (f.bounded.1 b) in (
+    let k = one_from x.bounded move xs g (value (variables_in x.bounded) f.bounded_size) h.bounded_sized
+    (f.bounded.1 b) in (
       All-append (λ q. Zero (value_of q xs)) (map move x.legal.equalities) (map move x.bounded.equalities) p.0 k.0,
       All-append (λ q. Least (value_of q xs)) (map move x.legal.rows) (map move x.bounded.rows) p.1 k.1,
     )
@@ -190,8 +207,10 @@ dep_from m loops x r h s f l b =
 abbrev pub AreRuled : ℕ → List ℕ → List RuledDep → Type 0
 AreRuled m loops ruled = (x : RuledDep) → In x ruled → IsRuled x × IsBetween m loops x.dep
 
-deps_to : RowLaws → (m : ℕ) (loops : List ℕ) (ruled : List RuledDep) (r : Row) → AreRuled m loops ruled → IsShaped m loops r → AreNotNegative (numbers_of r)
-    → AreZero (numbers_of r) (flat_map (equalities_for m loops) ruled) → AreLeast (numbers_of r) (flat_map (rows_for m loops) ruled)
+deps_to : RowLaws → (m : ℕ) (loops : List ℕ) (ruled : List RuledDep) (r : Row) → AreRuled m loops ruled
+    → IsShaped m loops r → AreNotNegative (numbers_of r)
+    → AreZero (numbers_of r) (flat_map (equalities_for m loops) ruled)
+    → AreLeast (numbers_of r) (flat_map (rows_for m loops) ruled)
     → (d : Dependence) → In d (map dep_of ruled) → IsLegal m r d × IsBounded r d
 deps_to laws m loops [] r h s n a b d i = absurd i
 deps_to laws m loops (x ∷ ruled) r h s n a b d (inl e) =
@@ -207,17 +226,24 @@ deps_to laws m loops (x ∷ ruled) r h s n a b d (inr i) =
     (all_back (λ q. Zero (value_of q xs)) (equalities_for m loops x) (flat_map (equalities_for m loops) ruled) a)
     (all_back (λ q. Least (value_of q xs)) (rows_for m loops x) (flat_map (rows_for m loops) ruled) b) d i
 
-deps_from : RowLaws → (m : ℕ) (loops : List ℕ) (ruled : List RuledDep) (r : Row) → AreRuled m loops ruled → IsShaped m loops r → AreNotNegative (numbers_of r)
+deps_from : RowLaws → (m : ℕ) (loops : List ℕ) (ruled : List RuledDep) (r : Row) → AreRuled m loops ruled
+    → IsShaped m loops r → AreNotNegative (numbers_of r)
     → ((d : Dependence) → In d (map dep_of ruled) → IsLegal m r d × IsBounded r d)
-    → AreZero (numbers_of r) (flat_map (equalities_for m loops) ruled) × AreLeast (numbers_of r) (flat_map (rows_for m loops) ruled)
-deps_from laws m loops [] r h s n all = (All-nil (λ q. Zero (value_of q (numbers_of r))), All-nil (λ q. Least (value_of q (numbers_of r))))
+    → AreZero (numbers_of r) (flat_map (equalities_for m loops) ruled) × AreLeast (numbers_of r) (flat_map
+    (rows_for m loops) ruled)
+deps_from laws m loops [] r h s n all = (
+  All-nil (λ q. Zero (value_of q (numbers_of r))),
+  All-nil (λ q. Least
+      (value_of q (numbers_of r))),
+)
 deps_from laws m loops (x ∷ ruled) r h s n all =
     let xs = numbers_of r in
     let k = h x (inl refl) in
     let own = all x.dep (inl refl) in
     let one = dep_from m loops x r k.0 s (facts laws m loops x r k.0 k.1 s n) own.0 own.1 in
     let more = deps_from laws m loops ruled r (λ y j. h y (inr j)) s n (λ d i. all d (inr i)) in (
-      All-append (λ q. Zero (value_of q xs)) (equalities_for m loops x) (flat_map (equalities_for m loops) ruled) one.0 more.0,
+      All-append (λ q. Zero (value_of q xs)) (equalities_for m loops x) (flat_map
+          (equalities_for m loops) ruled) one.0 more.0,
       All-append (λ q. Least (value_of q xs)) (rows_for m loops x) (flat_map (rows_for m loops) ruled) one.1 more.1,
     )
 
@@ -242,7 +268,8 @@ own_value m loops s k v r h l e =
     let front = r.u ++ r.w ∷ [] in
     let count = shaped_length loops r.parts h.parts in
     let g = both_one s s 0 s r.parts (omega arith) (omega arith) (omega arith) in
-    let whole : gathered s s r ≡ front ++ part_numbers p = ap (λ (z : List ℤ). r.u ++ r.w ∷ z) g ∙ apart_front r.u (part_numbers p) r.w in
+    let whole : gathered s s r ≡ front ++ part_numbers p = ap (λ (z : List ℤ). r.u ++ r.w ∷ z) g
+    ∙ apart_front r.u (part_numbers p) r.w in
     let f = length-append r.u (r.w ∷ []) in
     let b = h.bounds in
     let one : length front ≡ m + 1 = omega arith in
@@ -262,11 +289,13 @@ own_value m loops s k v r h l e =
     let y = mul_zero_left p.shift in
     placed_is ∙ (ap (λ (zs : List ℤ). value_of (own_form m v k) zs) whole ∙ omega (arith, ints))
 
-added_value : (sum : List ℤ) (vs : List (List ℤ)) (c : List ℤ) → dot (added sum vs) c ≡ dot sum c +ℤ sum_of_products c vs
+added_value : (sum : List ℤ) (vs : List (List ℤ)) (c : List ℤ)
+    → dot (added sum vs) c ≡ dot sum c +ℤ sum_of_products c vs
 added_value sum [] c = omega (arith, ints)
 added_value sum (v ∷ vs) c = let r = added_value (sums sum v) vs c in let d = dot-sums sum v c in omega (arith, ints)
 
-pub added_length : (n : ℕ) (sum : List ℤ) (vs : List (List ℤ)) → length sum ≡ n → AreLong n vs → length (added sum vs) ≡ n
+pub added_length : (n : ℕ) (sum : List ℤ) (vs : List (List ℤ)) → length sum ≡ n → AreLong n vs
+    → length (added sum vs) ≡ n
 added_length n sum [] h all = h
 added_length n sum (v ∷ vs) h all =
     let P : List ℤ → Type 0 = λ u. length u ≡ n in
@@ -279,10 +308,12 @@ vectors_to m loops s [] r h l long all = All-nil (λ n. pos 0 ≤ℤ dot n (part
 vectors_to m loops s (v ∷ vs) r h l long all =
     let P : List ℤ → Type 0 = λ u. length u ≡ length (part_of r s).coefficients in
     let e = own_value m loops s (pos 0) v r h l (All-head P v vs long) in
-    let one = All-head (λ q. Least (value_of q (numbers_of r))) (own_row m loops s (pos 0) v) (map (own_row m loops s (pos 0)) vs) all in
+    let one = All-head (λ q. Least (value_of q (numbers_of r))) (own_row m loops s (pos 0) v) (map
+    (own_row m loops s (pos 0)) vs) all in
     All-cons (λ n. pos 0 ≤ℤ dot n (part_of r s).coefficients) v vs (omega (arith, ints))
     (vectors_to m loops s vs r h l (All-tail P v vs long)
-    (All-tail (λ q. Least (value_of q (numbers_of r))) (own_row m loops s (pos 0) v) (map (own_row m loops s (pos 0)) vs) all))
+    (All-tail (λ q. Least (value_of q (numbers_of r))) (own_row m loops s (pos 0) v) (map (own_row m loops s
+    (pos 0)) vs) all))
 
 vectors_from : (m : ℕ) (loops : List ℕ) (s : ℕ) (vs : List (List ℤ)) (r : Row) → IsShaped m loops r → s < length loops
     → AreLong (length (part_of r s).coefficients) vs → All (λ n. pos 0 ≤ℤ dot n (part_of r s).coefficients) vs
@@ -292,8 +323,10 @@ vectors_from m loops s (v ∷ vs) r h l long all =
     let P : List ℤ → Type 0 = λ u. length u ≡ length (part_of r s).coefficients in
     let e = own_value m loops s (pos 0) v r h l (All-head P v vs long) in
     let one = All-head (λ n. pos 0 ≤ℤ dot n (part_of r s).coefficients) v vs all in
-    All-cons (λ q. Least (value_of q (numbers_of r))) (own_row m loops s (pos 0) v) (map (own_row m loops s (pos 0)) vs) (omega (arith, ints))
-    (vectors_from m loops s vs r h l (All-tail P v vs long) (All-tail (λ n. pos 0 ≤ℤ dot n (part_of r s).coefficients) v vs all))
+    All-cons (λ q. Least (value_of q (numbers_of r))) (own_row m loops s (pos 0) v) (map (own_row m loops s
+    (pos 0)) vs) (omega (arith, ints))
+    (vectors_from m loops s vs r h l (All-tail P v vs long) (All-tail (λ n. pos 0 ≤ℤ dot n
+    (part_of r s).coefficients) v vs all))
 
 growth_to : (m : ℕ) (loops : List ℕ) (s : ℕ) (vs : List (List ℤ)) (r : Row) → IsShaped m loops r → s < length loops
     → AreLong (length (part_of r s).coefficients) vs → AreLeast (numbers_of r) (growth_rows m loops s vs)
@@ -325,7 +358,8 @@ growth_back m loops s (v ∷ vs) r h l long (inr g) =
     let e = own_value m loops s (negsuc 0) (added v vs) r h l long_sum in
     let f = added_value v vs c in
     let k = g.1 in
-    All-append Q (map (own_row m loops s (pos 0)) (v ∷ vs)) (last ∷ []) (vectors_from m loops s (v ∷ vs) r h l long g.0)
+    All-append Q (map (own_row m loops s (pos 0)) (v ∷ vs)) (last ∷ []) (vectors_from m loops s
+    (v ∷ vs) r h l long g.0)
     (All-cons Q last [] (omega (arith, ints)) (All-nil Q))
 
 abbrev AllGrow : ℕ → List (List (List ℤ)) → Row → Type 0
@@ -333,9 +367,11 @@ AllGrow s vectors r = (k : ℕ) → k < length vectors
     → (slice_index_or vectors k [] ≡ []) ⊎ Grows (part_of r (s + k)).coefficients (slice_index_or vectors k [])
 
 abbrev AllLong : ℕ → List (List (List ℤ)) → Row → Type 0
-AllLong s vectors r = (k : ℕ) → k < length vectors → AreLong (length (part_of r (s + k)).coefficients) (slice_index_or vectors k [])
+AllLong s vectors r = (k : ℕ) → k < length vectors → AreLong (length (part_of r (s + k)).coefficients)
+    (slice_index_or vectors k [])
 
-from_to : (m : ℕ) (loops : List ℕ) (s : ℕ) (vectors : List (List (List ℤ))) (r : Row) → IsShaped m loops r → s + length vectors ≤ length loops
+from_to : (m : ℕ) (loops : List ℕ) (s : ℕ) (vectors : List (List (List ℤ))) (r : Row) → IsShaped m loops r
+    → s + length vectors ≤ length loops
     → AllLong s vectors r → AreLeast (numbers_of r) (growth_from m loops s vectors) → AllGrow s vectors r
 from_to m loops s [] r h l long all k lk = absurd (omega arith)
 from_to m loops s (vs ∷ more) r h l long all zero lk =
@@ -343,17 +379,21 @@ from_to m loops s (vs ∷ more) r h l long all zero lk =
     let Q : Affine → Type 0 = λ q. Least (value_of q (numbers_of r)) in
     let first = subst (λ (z : ℕ). AreLong (length (part_of r z).coefficients) vs) e (long zero lk) in
     subst (λ (z : ℕ). (vs ≡ []) ⊎ Grows (part_of r z).coefficients vs) (sym e)
-    (growth_to m loops s vs r h (omega (arith, l)) first (all_front Q (growth_rows m loops s vs) (growth_from m loops (suc s) more) all))
+    (growth_to m loops s vs r h (omega (arith, l)) first (all_front Q (growth_rows m loops s vs)
+    (growth_from m loops (suc s) more) all))
 from_to m loops s (vs ∷ more) r h l long all (suc k) lk =
     let e : suc s + k ≡ s + suc k = omega arith in
     let Q : Affine → Type 0 = λ q. Least (value_of q (numbers_of r)) in
     let next : AllLong (suc s) more r = λ j lj.
     let f : s + suc j ≡ suc s + j = omega arith in
-    subst (λ (z : ℕ). AreLong (length (part_of r z).coefficients) (slice_index_or more j [])) f (long (suc j) (omega (arith, lj))) in
+    subst (λ (z : ℕ). AreLong (length (part_of r z).coefficients) (slice_index_or more j [])) f (long (suc j) (omega
+    (arith, lj))) in
     subst (λ (z : ℕ). (slice_index_or more k [] ≡ []) ⊎ Grows (part_of r z).coefficients (slice_index_or more k [])) e
-    (from_to m loops (suc s) more r h (omega (arith, l)) next (all_back Q (growth_rows m loops s vs) (growth_from m loops (suc s) more) all) k (omega (arith, lk)))
+    (from_to m loops (suc s) more r h (omega (arith, l)) next (all_back Q (growth_rows m loops s vs)
+    (growth_from m loops (suc s) more) all) k (omega (arith, lk)))
 
-from_back : (m : ℕ) (loops : List ℕ) (s : ℕ) (vectors : List (List (List ℤ))) (r : Row) → IsShaped m loops r → s + length vectors ≤ length loops
+from_back : (m : ℕ) (loops : List ℕ) (s : ℕ) (vectors : List (List (List ℤ))) (r : Row) → IsShaped m loops r
+    → s + length vectors ≤ length loops
     → AllLong s vectors r → AllGrow s vectors r → AreLeast (numbers_of r) (growth_from m loops s vectors)
 from_back m loops s [] r h l long all = All-nil (λ q. Least (value_of q (numbers_of r)))
 from_back m loops s (vs ∷ more) r h l long all =
@@ -364,14 +404,18 @@ from_back m loops s (vs ∷ more) r h l long all =
     let own = subst (λ (z : ℕ). (vs ≡ []) ⊎ Grows (part_of r z).coefficients vs) e (all zero pos_k) in
     let next : AllLong (suc s) more r = λ j lj.
     let f : s + suc j ≡ suc s + j = omega arith in
-    subst (λ (z : ℕ). AreLong (length (part_of r z).coefficients) (slice_index_or more j [])) f (long (suc j) (omega (arith, lj))) in
+    subst (λ (z : ℕ). AreLong (length (part_of r z).coefficients) (slice_index_or more j [])) f (long (suc j) (omega
+    (arith, lj))) in
     let rest : AllGrow (suc s) more r = λ j lj.
     let f : s + suc j ≡ suc s + j = omega arith in
-    subst (λ (z : ℕ). (slice_index_or more j [] ≡ []) ⊎ Grows (part_of r z).coefficients (slice_index_or more j [])) f (all (suc j) (omega (arith, lj))) in
+    subst (λ (z : ℕ). (slice_index_or more j [] ≡ []) ⊎ Grows (part_of r z).coefficients
+    (slice_index_or more j [])) f (all (suc j) (omega (arith, lj))) in
     All-append Q (growth_rows m loops s vs) (growth_from m loops (suc s) more)
-    (growth_back m loops s vs r h (omega (arith, l)) first own) (from_back m loops (suc s) more r h (omega (arith, l)) next rest)
+    (growth_back m loops s vs r h (omega (arith, l)) first own) (from_back m loops (suc s) more r h (omega
+    (arith, l)) next rest)
 
-all_long : VectorsAreLong → (m : ℕ) (loops : List ℕ) (before : List Row) (vectors : List (List (List ℤ))) (r : Row) → IsShaped m loops r → AreVectorsOf loops before vectors → AllLong 0 vectors r
+all_long : VectorsAreLong → (m : ℕ) (loops : List ℕ) (before : List Row) (vectors : List (List (List ℤ))) (r : Row)
+    → IsShaped m loops r → AreVectorsOf loops before vectors → AllLong 0 vectors r
 all_long lengths m loops before vectors r h v k lk =
     let e : 0 + k ≡ k = omega arith in
     let z = v.size in
@@ -379,29 +423,38 @@ all_long lengths m loops before vectors r h v k lk =
     let s = shaped_at loops r.parts k h.parts in
     subst (λ (i : ℕ). AreLong (length (part_of r i).coefficients) (slice_index_or vectors k [])) (sym e)
     (subst (λ (i : ℕ). AreLong i (slice_index_or vectors k [])) (sym s)
-    (subst (λ (vs : List (List ℤ)). AreLong n vs) (sym (v.each k (omega arith))) (lengths n (coefficients_in before k))))
+    (subst (λ (vs : List (List ℤ)). AreLong n vs) (sym (v.each k (omega arith))) (lengths n
+    (coefficients_in before k))))
 
-grow_to : (m : ℕ) (loops : List ℕ) (before : List Row) (vectors : List (List (List ℤ))) (r : Row) → AreVectorsOf loops before vectors → AllGrow 0 vectors r
-    → (s : ℕ) → s < length loops → (vectors_of loops before s ≡ []) ⊎ Grows (part_of r s).coefficients (vectors_of loops before s)
+grow_to : (m : ℕ) (loops : List ℕ) (before : List Row) (vectors : List (List (List ℤ))) (r : Row)
+    → AreVectorsOf loops before vectors → AllGrow 0 vectors r
+    → (s : ℕ) → s < length loops → (vectors_of loops before s
+    ≡ []) ⊎ Grows (part_of r s).coefficients (vectors_of loops before s)
 grow_to m loops before vectors r v all s l =
     let z = v.size in
     let e : 0 + s ≡ s = omega arith in
     subst (λ (vs : List (List ℤ)). (vs ≡ []) ⊎ Grows (part_of r s).coefficients vs) (v.each s l)
-    (subst (λ (i : ℕ). (slice_index_or vectors s [] ≡ []) ⊎ Grows (part_of r i).coefficients (slice_index_or vectors s [])) e (all s (omega arith)))
+    (subst (λ (i : ℕ). (slice_index_or vectors s [] ≡ []) ⊎ Grows (part_of r i).coefficients
+    (slice_index_or vectors s [])) e (all s (omega arith)))
 
-grow_from : (m : ℕ) (loops : List ℕ) (before : List Row) (vectors : List (List (List ℤ))) (r : Row) → AreVectorsOf loops before vectors
-    → ((s : ℕ) → s < length loops → (vectors_of loops before s ≡ []) ⊎ Grows (part_of r s).coefficients (vectors_of loops before s))
+grow_from : (m : ℕ) (loops : List ℕ) (before : List Row) (vectors : List (List (List ℤ))) (r : Row)
+    → AreVectorsOf loops before vectors
+    → ((s : ℕ) → s < length loops → (vectors_of loops before s
+    ≡ []) ⊎ Grows (part_of r s).coefficients (vectors_of loops before s))
     → AllGrow 0 vectors r
 grow_from m loops before vectors r v all s l =
     let z = v.size in
     let e : 0 + s ≡ s = omega arith in
     let ls : s < length loops = omega arith in
-    subst (λ (i : ℕ). (slice_index_or vectors s [] ≡ []) ⊎ Grows (part_of r i).coefficients (slice_index_or vectors s [])) (sym e)
+    subst (λ (i : ℕ). (slice_index_or vectors s [] ≡ []) ⊎ Grows (part_of r i).coefficients
+    (slice_index_or vectors s [])) (sym e)
     (subst (λ (vs : List (List ℤ)). (vs ≡ []) ⊎ Grows (part_of r s).coefficients vs) (sym (v.each s ls)) (all s ls))
 
 -- the whole
-pub has_posed : RowLaws → VectorsAreLong → (m : ℕ) (loops : List ℕ) (ruled : List RuledDep) (before : List Row) (vectors : List (List (List ℤ)))
-    → AreRuled m loops ruled → AreVectorsOf loops before vectors → HasPosed m loops (map dep_of ruled) before (posed_system m loops ruled vectors)
+pub has_posed : RowLaws → VectorsAreLong → (m : ℕ) (loops : List ℕ) (ruled : List RuledDep) (before : List Row)
+    (vectors : List (List (List ℤ)))
+    → AreRuled m loops ruled → AreVectorsOf loops before vectors
+    → HasPosed m loops (map dep_of ruled) before (posed_system m loops ruled vectors)
 has_posed laws lengths m loops ruled before vectors h v r shaped nn =
     let xs = numbers_of r in
     let size = v.size in
@@ -418,9 +471,13 @@ has_posed laws lengths m loops ruled before vectors h v r shaped nn =
             not_negative = nn;
             legal = λ e i. (d e i).0;
             bounded = λ e i. (d e i).1;
-            grows = grow_to m loops before vectors r v (from_to m loops 0 vectors r shaped (omega arith) long (all_back Q own more s.1));
+            grows = grow_to m loops before vectors r v (from_to m loops 0 vectors r shaped (omega arith) long
+                (all_back Q own more s.1));
           },
       λ p.
-          let d = deps_from laws m loops ruled r h shaped nn (λ e i. (p.legal e i, p.bounded e i)) in
-          (d.0, All-append Q own more d.1 (from_back m loops 0 vectors r shaped (omega arith) long (grow_from m loops before vectors r v p.grows))),
+          let d = deps_from laws m loops ruled r h shaped nn (λ e i. (p.legal e i, p.bounded e i)) in (
+            d.0,
+            All-append Q own more d.1 (from_back m loops 0 vectors r shaped (omega arith) long
+                (grow_from m loops before vectors r v p.grows)),
+          ),
     )

@@ -1,16 +1,15 @@
 -- Dependences and systems that stand beside them, one by one; systems put together of their forms.
 use Rattle.std.proofs.Common.{◌≡◌, ℤ, ℕ, zero, suc, ◌+◌, ◌<◌, List, [], ◌∷◌, ◌++◌, refl, sym, ◌∙◌, ap, ap₂, subst}
-use Rattle.std.proofs.Common.{◌⊎◌, inl, inr, arith, length, drop, map, All, get_or, add-one}
+use Rattle.std.proofs.Common.{◌⊎◌, inl, inr, arith, length, drop, map, get_or, add-one}
 use Rattle.std.specs.Prelude.{◌≤◌, Result, Ok, Err, IfOk}
 use Rattle.std.specs.List.{flat_map}
 use Rattle.std.proofs.lemmas.List.{append-nil}
 use Rattle.whole_numbers.specs.Affine.{Affine}
-use Rattle.affine_forms.specs.Parts.{variables_of}
-use Rattle.integer_sets.specs.Constraints.{Constraints, system_of, IsSized, variables_in}
+use Rattle.integer_sets.specs.Constraints.{Constraints, system_of, IsSized}
 use Rattle.scop_syntax.specs.Members.{In}
 use Rattle.iteration_domains.specs.Dependence.{Dependence}
 use Rattle.pluto_systems.specs.Placing.{columns_of}
-use Rattle.pluto_systems.specs.Posing.{RuledDep, IsFarkasOf, HaveSizes, IsRuled, IsBetween, dep_of, ruled_dep}
+use Rattle.pluto_systems.specs.Posing.{RuledDep, IsFarkasOf, HaveSizes, IsRuled, dep_of, ruled_dep}
 use Rattle.pluto_systems.specs.Posing.{ruled_deps}
 use Rattle.pluto_systems.specs.Posing.{equalities_for, rows_for, growth_from, posed_system}
 
@@ -66,7 +65,8 @@ ruled_alone (d ∷ ds) (l ∷ ls) (b ∷ bs) e f =
     ap (λ (z : List Dependence). d ∷ z) (ruled_alone ds ls bs (omega (arith, e)) (omega (arith, f)))
 
 -- a step over the forms of dependences
-pub forms_step : (f : RuledDep → List Affine) (out new : List Affine) (one : RuledDep) (more here whole : List RuledDep)
+pub forms_step : (f : RuledDep → List Affine) (out new : List Affine) (one : RuledDep)
+    (more here whole : List RuledDep)
     → here ≡ one ∷ more → new ≡ out ++ f one → out ++ flat_map f here ≡ flat_map f whole
     → new ++ flat_map f more ≡ flat_map f whole
 forms_step f out new one more here whole e n h =
@@ -139,7 +139,8 @@ pub posed_sizes : (m : ℕ) (loops : List ℕ) (ruled : List RuledDep) (vectors 
 posed_sizes m loops ruled vectors n es rs h s =
     subst (λ (i : ℕ). IsSized i es rs) (sym h.columns)
     (subst (λ (x : List Affine). IsSized (columns_of m loops) x rs) (sym h.equalities)
-    (subst (λ (x : List Affine). IsSized (columns_of m loops) (flat_map (equalities_for m loops) ruled) x) (sym h.rows) s))
+    (subst (λ (x : List Affine). IsSized (columns_of m loops) (flat_map (equalities_for m loops) ruled) x)
+    (sym h.rows) s))
 
 -- and make that system
 pub posed_is : (m : ℕ) (loops : List ℕ) (ruled : List RuledDep) (vectors : List (List (List ℤ))) (n : ℕ)

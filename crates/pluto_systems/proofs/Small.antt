@@ -1,5 +1,5 @@
 -- The kernel vectors of each statement's rows are few and small.
-use Rattle.std.proofs.Common.{◌≡◌, ℕ, zero, suc, ◌+◌, ◌<◌, ◌^◌, ℤ, List, [], ◌∷◌, ◌++◌, refl, sym, ◌∙◌, ap, subst}
+use Rattle.std.proofs.Common.{◌≡◌, ℕ, zero, suc, ◌+◌, ◌<◌, ◌^◌, ℤ, List, [], ◌∷◌, refl, sym, ◌∙◌, ap, subst}
 use Rattle.std.proofs.Common.{ap₂, arith, length, drop, All, add-one}
 use Rattle.std.specs.Prelude.{◌≤◌, slice_index_or}
 use Rattle.std.proofs.lemmas.List.Elements.{All-get_or}
@@ -17,7 +17,8 @@ for_length (l ∷ loops) (cs ∷ rows) e = ap suc (for_length loops rows (omega 
 
 -- those of statement s
 for_at : (loops : List ℕ) (rows : List (List (List ℤ))) (s : ℕ) → length rows ≡ length loops → s < length loops
-    → slice_index_or (vectors_for loops rows) s [] ≡ kernel_vectors (slice_index_or loops s 0) (slice_index_or rows s [])
+    → slice_index_or (vectors_for loops rows) s [] ≡ kernel_vectors (slice_index_or loops s 0)
+    (slice_index_or rows s [])
 for_at [] rows s e h = absurd (omega (arith, h))
 for_at (l ∷ loops) [] s e h = absurd (omega (arith, e))
 for_at (l ∷ loops) (cs ∷ rows) zero e h = refl
@@ -61,7 +62,8 @@ small_vectors laws loops rows five h =
 
 for_behind : (loops : List ℕ) (rows : List (List (List ℤ))) (i : ℕ) → i < length loops → length rows ≡ length loops
     → vectors_for (drop i loops) (drop i rows)
-    ≡ kernel_vectors (slice_index_or loops i 0) (slice_index_or rows i []) ∷ vectors_for (drop (suc i) loops) (drop (suc i) rows)
+    ≡ kernel_vectors (slice_index_or loops i 0) (slice_index_or rows i []) ∷ vectors_for (drop (suc i) loops) (drop
+    (suc i) rows)
 for_behind [] rows i h e = absurd (omega (arith, h))
 for_behind (k ∷ loops) [] i h e = absurd (omega (arith, e))
 for_behind (k ∷ loops) (ds ∷ rows) zero h e = refl

@@ -12,7 +12,8 @@ use Rattle.pluto_systems.specs.Posing.{added}
 use Rattle.pluto_systems.specs.Placing.{is_end, placed_parts}
 use Rattle.pluto_systems.proofs.Placed.{placed_end, placed_other}
 
-pub more : {X : Type 0} (xs ys new rest rest' whole : List X) → new ≡ xs ++ ys → ys ++ rest' ≡ rest → xs ++ rest ≡ whole → new ++ rest' ≡ whole
+pub more : {X : Type 0} (xs ys new rest rest' whole : List X) → new ≡ xs ++ ys → ys ++ rest' ≡ rest
+    → xs ++ rest ≡ whole → new ++ rest' ≡ whole
 more xs ys new rest rest' whole e f h =
     ap (λ z. z ++ rest') e ∙ (append_assoc xs ys rest' ∙ (ap (λ z. xs ++ z) f ∙ h))
 
@@ -23,7 +24,8 @@ pub zeros_end : (n i : ℕ) (xs whole : List ℤ) → n - i ≡ 0 → xs ++ zero
 zeros_end n i xs whole h e = sym (ap (λ k. xs ++ zeros k) h ∙ append-nil xs) ∙ e
 
 pub end_step : (a b i : ℕ) (loops : List ℕ) (rest : List ℤ) → i < length loops → is_end a b i ≡ true
-    → take (get_or loops i 0 + 1) rest ++ placed_parts a b (i + 1) (drop (i + 1) loops) (drop (get_or loops i 0 + 1) rest)
+    → take (get_or loops i 0 + 1) rest ++ placed_parts a b (i + 1) (drop (i + 1) loops) (drop
+    (get_or loops i 0 + 1) rest)
     ≡ placed_parts a b i (drop i loops) rest
 end_step a b i loops rest h t =
     rw (add-one i, drop-cons loops i 0 h) (sym (placed_end a b i (get_or loops i 0) (drop (suc i) loops) rest t))
@@ -43,17 +45,21 @@ pub flat_step : {X Y : Type 0} (f : X → List Y) (xs : List X) (i : ℕ) (d : X
 flat_step f xs i d h = rw (add-one i, drop-cons xs i d h) refl
 
 pub sums_step : (xs ys : List ℤ) (i : ℕ) → i < length xs → length xs ≡ length ys
-    → (get_or xs i (pos 0) +ℤ get_or ys i (pos 0)) ∷ sums (drop (i + 1) xs) (drop (i + 1) ys) ≡ sums (drop i xs) (drop i ys)
+    → (get_or xs i (pos 0) +ℤ get_or ys i (pos 0)) ∷ sums (drop (i + 1) xs) (drop (i + 1) ys)
+    ≡ sums (drop i xs) (drop i ys)
 sums_step xs ys i h e = rw (add-one i, drop-cons xs i (pos 0) h, drop-cons ys i (pos 0) (omega arith)) refl
 
 -- one vector more is added up
-pub added_step : (sum new : List ℤ) (vs : List (List ℤ)) (i : ℕ) (whole : List ℤ) → i < length vs → new ≡ sums sum (get_or vs i [])
+pub added_step : (sum new : List ℤ) (vs : List (List ℤ)) (i : ℕ) (whole : List ℤ) → i < length vs
+    → new ≡ sums sum (get_or vs i [])
     → added sum (drop i vs) ≡ whole → added new (drop (i + 1) vs) ≡ whole
 added_step sum new vs i whole h e k =
     ap (λ z. added z (drop (i + 1) vs)) e
-    ∙ (ap (λ n. added (sums sum (get_or vs i [])) (drop n vs)) (add-one i) ∙ (sym (ap (λ z. added sum z) (drop-cons vs i [] h)) ∙ k))
+    ∙ (ap (λ n. added (sums sum (get_or vs i [])) (drop n vs)) (add-one i)
+    ∙ (sym (ap (λ z. added sum z) (drop-cons vs i [] h)) ∙ k))
 
-pub sums_within : (k m n : ℕ) (xs ys : List ℤ) → m + n ≤ k → length xs ≡ length ys → AreWithin m xs → AreWithin n ys → AreWithin k (sums xs ys)
+pub sums_within : (k m n : ℕ) (xs ys : List ℤ) → m + n ≤ k → length xs ≡ length ys → AreWithin m xs
+    → AreWithin n ys → AreWithin k (sums xs ys)
 sums_within k m n [] [] l h a b = All-nil (IsWithin k)
 sums_within k m n [] (y ∷ ys) l h a b = absurd (omega (arith, h))
 sums_within k m n (x ∷ xs) [] l h a b = absurd (omega (arith, h))

@@ -63,7 +63,8 @@ pub record IsShaped (m : ℕ) (loops : List ℕ) (r : Row) : Type 0 where
 abbrev pub parts_from : List ℕ → List ℤ → List Part
 parts_from [] xs = []
 parts_from (l ∷ ls) xs =
-    record { coefficients = reverse (take l xs); shift = slice_index_or xs l (pos 0) } ∷ parts_from ls (drop (l + 1) xs)
+    record { coefficients = reverse (take l xs); shift = slice_index_or xs l (pos 0) } ∷ parts_from ls (drop
+    (l + 1) xs)
 
 -- the row of these numbers
 abbrev pub row_from : ℕ → List ℕ → List ℤ → Row

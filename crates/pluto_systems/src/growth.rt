@@ -1,5 +1,5 @@
-//! Rows by which a statement's coefficients grow the rank of those before: their products with the kernel vectors are not
-//! negative, and some product is positive.
+//! Rows by which a statement's coefficients grow the rank of those before: their products with the kernel vectors are
+//! not negative, and some product is positive.
 ghost use Rattle.std.specs.Prelude.{◌≡◌, ◌≤◌, ◌<◌, ◌*◌, ◌+◌, ◌^◌, ◌++◌, ℤ, ◌+ℤ◌, pos, negsuc, [], ◌∷◌, All, IfOk};
 ghost use Rattle.std.specs.Prelude.{OnOk, length, drop, map, slice_index_or};
 ghost use Rattle.whole_numbers.specs.Lists.{sums};

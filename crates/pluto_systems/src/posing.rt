@@ -1,5 +1,5 @@
-//! The posed set of a row: of each dependence the rows that keep it and those that bound it, then those by which the row
-//! grows the rank of each statement's rows before.
+//! The posed set of a row: of each dependence the rows that keep it and those that bound it, then those by which the
+//! row grows the rank of each statement's rows before.
 ghost use Rattle.std.specs.Prelude.{◌≡◌, ◌≤◌, ◌++◌, List, All, IfOk, OnOk, length, map};
 ghost use Rattle.std.specs.List.{flat_map};
 ghost use Rattle.std.specs.Option.{ForSome};
@@ -247,11 +247,11 @@ pub fn posed_over(
     with_growth(alloc, parameters, loops, equalities, rows, vectors)
 }
 
-/// The posed set of a row of a schedule of this model, of at most 5 loops round a statement: `legal` and `bounded` are
-/// the systems by Farkas's lemma of each of the dependences, in order, and `rows` the coefficients of the rows before,
-/// one list for each statement, each row with one for each of its loops. Over u for each parameter, w, and for each
-/// statement its coefficients from the innermost loop and its shift, it is the system whose points that are not negative
-/// are exactly the rows that keep and bound all dependences and grow the rank of the rows before.
+/// The posed set of a row of a schedule of this model: `legal` and `bounded` are the systems by Farkas's lemma of each
+/// of the dependences, in order, and `rows` the coefficients of the rows before, up to 2^14 in size, a list for each
+/// statement. Over u for each parameter, w, and for each statement its coefficients from the innermost loop and its
+/// shift, it is the system whose points that are not negative are exactly the rows that keep and bound all dependences
+/// and grow the rank of the rows before.
 ///
 /// # Errors
 /// `AllocError` alone.

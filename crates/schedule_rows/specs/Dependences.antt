@@ -1,5 +1,5 @@
 -- Dependences, and what restricting them is.
-use Rattle.std.specs.Prelude.{◌≡◌, ℕ, ℤ, pos, negsuc, ◌+ℤ◌, ◌≤ℤ◌, List, [], ◌∷◌, ◌++◌, length, map, All}
+use Rattle.std.specs.Prelude.{◌≡◌, ℕ, ℤ, pos, negsuc, ◌+ℤ◌, ◌≤ℤ◌, List, ◌++◌, length, map, All}
 use Rattle.whole_numbers.specs.Affine.{value_of, form_of}
 use Rattle.fractions.specs.Farkas.{AreNotNegative}
 use Rattle.scop_syntax.specs.Walk.{Instance}

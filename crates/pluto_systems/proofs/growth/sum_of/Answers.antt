@@ -39,4 +39,5 @@ loop-at-preserved c =
     let rest = sums (drop (i + 1) xs) (drop (i + 1) ys) in
     let more = simp to_z-of_z at c.in_ok-push.ensures.items in
     ap (λ (l : List ℤ). l ++ rest) more ∙ (append_assoc c.loop-at.both.items (c.sum_of_two.result ∷ []) rest
-    ∙ (ap (λ (z : ℤ). c.loop-at.both.items ++ z ∷ rest) e ∙ (ap (λ (l : List ℤ). c.loop-at.both.items ++ l) s ∙ c.loop-at.invariant)))
+    ∙ (ap (λ (z : ℤ). c.loop-at.both.items ++ z ∷ rest) e ∙ (ap (λ (l : List ℤ). c.loop-at.both.items ++ l) s
+    ∙ c.loop-at.invariant)))

@@ -1,6 +1,5 @@
-use Rattle.std.proofs.Common.{◌≡◌, ◌+◌, ◌∷◌, arith, length}
-use Rattle.integer_sets.specs.Constraints.{Constraints}
-use Rattle.pluto_systems.specs.Posing.{RuledDep, HaveSizes, ruled_dep, ruled_deps, equalities_for, rows_for}
+use Rattle.std.proofs.Common.{◌≡◌, ◌+◌, ◌∷◌, arith}
+use Rattle.pluto_systems.specs.Posing.{HaveSizes, ruled_dep, ruled_deps, equalities_for, rows_for}
 use Rattle.pluto_systems.proofs.Ruling.{rest, rest_step, rest_end, forms_step, sized_step, sized_end}
 use Rattle.pluto_systems.proofs.posing.forms_of.Goals as goal
 
@@ -17,7 +16,8 @@ loop-at-preserved c =
     let here = rest ds ls bs i in
     let more = rest ds ls bs (i + 1) in
     let step : here ≡ one ∷ more =
-    rest_step ds ls bs i _ _ _ c.index-deps-at.result c.index-legal-at.result c.index-bounded-at.result c.index-deps-at.is
+    rest_step ds ls bs i _ _ _ c.index-deps-at.result c.index-legal-at.result c.index-bounded-at.result
+    c.index-deps-at.is
     c.index-legal-at.is c.index-bounded-at.is c.loop-at-test.true c.requires.legal c.requires.bounded in
     let sizes : HaveSizes one = record {
       legal = record {
@@ -29,7 +29,8 @@ loop-at-preserved c =
         rows_sized = c.in_ok-push_rows.ensures.bounded;
       };
     } in (
-      forms_step (equalities_for m loops) c.loop-at.equalities.items c.push_equalities.new.out.items one more here whole
+      forms_step (equalities_for m loops) c.loop-at.equalities.items c.push_equalities.new.out.items one more here
+          whole
           step c.in_ok-push_equalities.ensures.forms c.loop-at.invariant.0,
       forms_step (rows_for m loops) c.loop-at.rows.items c.push_rows.new.out.items one more here whole
           step c.in_ok-push_rows.ensures.forms c.loop-at.invariant.1,

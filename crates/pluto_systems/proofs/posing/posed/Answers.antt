@@ -1,4 +1,4 @@
-use Rattle.std.proofs.Common.{◌≡◌, ℕ, ℤ, List, ◌++◌, map, Vec, Global, refl, sym, ◌∙◌, ap, subst, All}
+use Rattle.std.proofs.Common.{◌≡◌, ℕ, ℤ, List, ◌++◌, map, Vec, Global, sym, ◌∙◌, ap, subst, All}
 use Rattle.std.specs.Prelude.{◌≤◌}
 use Rattle.integer_sets.specs.Constraints.{Constraints, system_of}
 use Rattle.schedule_rows.specs.Items.{Row}
@@ -24,7 +24,8 @@ ruled c x i =
 
 parts : (c : After-deref-4)
     → ArePosed c.args.model.now.parameters (loops_in c.args.model.now)
-    (ruled_deps c.args.deps.now c.args.legal.now c.args.bounded.now) (vectors_for (loops_in c.args.model.now) (views c.args.rows.now))
+    (ruled_deps c.args.deps.now c.args.legal.now c.args.bounded.now) (vectors_for (loops_in c.args.model.now)
+    (views c.args.rows.now))
     (columns_of c.parameters-parameters.result c.deref-3.result.now) c.in_ok-equalities.equalities.items
     (c.in_ok-equalities.rules.items
     ++ growth_from c.parameters-parameters.result c.deref-3.result.now 0 (views c.deref-4.result.now))
@@ -54,7 +55,8 @@ with_growth-requires-clause-sized c =
     c.in_ok-equalities.equalities.items
     (c.in_ok-equalities.rules.items
     ++ growth_from c.parameters-parameters.result c.deref-3.result.now 0 (views c.deref-4.result.now))
-    (parts c) (c.posed_systems_are_sized.ensures m loops all vs (ruled (goal.at.with_growth-requires-clause-sized c).In_ok-equalities) small)
+    (parts c) (c.posed_systems_are_sized.ensures m loops all vs (ruled
+    (goal.at.with_growth-requires-clause-sized c).In_ok-equalities) small)
 
 pub returns-clause-points : goal.returns-clause-points
 returns-clause-points c =
@@ -75,5 +77,6 @@ returns-clause-points c =
     subst (λ (t : Constraints). HasPosed m loops deps before t)
     (sym (posed_is m loops all vs n es rs s (parts (goal.at.returns-clause-points c).After-deref-4) e))
     (subst (λ (ds : List Dependence). HasPosed m loops ds before (posed_system m loops all vs)) alone
-    (c.posed_systems_hold_the_posed_rows.ensures m loops all before vs (ruled (goal.at.returns-clause-points c).In_ok-equalities) v)))
+    (c.posed_systems_hold_the_posed_rows.ensures m loops all before vs (ruled
+    (goal.at.returns-clause-points c).In_ok-equalities) v)))
     c.with_growth.ensures

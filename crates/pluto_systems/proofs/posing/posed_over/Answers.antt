@@ -1,13 +1,9 @@
-use Rattle.std.proofs.Common.{◌≡◌, ℕ, ℤ, List, ◌++◌, map, Vec, Global, refl, sym, ◌∙◌, ap, subst, All}
-use Rattle.std.specs.Prelude.{◌≤◌}
+use Rattle.std.proofs.Common.{◌≡◌, ℤ, List, ◌++◌, map, Vec, Global, refl, sym, subst}
 use Rattle.integer_sets.specs.Constraints.{Constraints, system_of}
 use Rattle.schedule_rows.specs.Items.{Row}
-use Rattle.scop_syntax.specs.Members.{In}
-use Rattle.iteration_domains.specs.Dependence.{Dependence}
 use Rattle.pluto_systems.specs.Placing.{columns_of}
-use Rattle.pluto_systems.specs.Posing.{RuledDep, IsRuled, IsBetween, growth_from, AreVectorsOf, HasPosed, dep_of}
-use Rattle.pluto_systems.specs.Posing.{ruled_deps, vectors_for, loops_in, AreSmallVectors}
-use Rattle.pluto_systems.proofs.Ruling.{ArePosed, are_posed, posed_sizes, posed_is, is_ruled, ruled_alone, if_ok}
+use Rattle.pluto_systems.specs.Posing.{growth_from, AreVectorsOf, HasPosed, dep_of}
+use Rattle.pluto_systems.proofs.Ruling.{ArePosed, are_posed, posed_sizes, posed_is, if_ok}
 use Rattle.pluto_systems.proofs.posing.posed_over.Goals as goal
 use Rattle.pluto_systems.proofs.posing.posed_over.Goals.{In_ok-equalities}
 
@@ -48,6 +44,7 @@ returns-clause-points c =
     c.with_growth.result
     (λ s e before v.
     subst (λ (t : Constraints). HasPosed m loops (map dep_of ruled) before t)
-    (sym (posed_is m loops ruled vs (columns_of m loops) es rs s (parts (goal.at.returns-clause-points c).In_ok-equalities) e))
+    (sym (posed_is m loops ruled vs (columns_of m loops) es rs s (parts
+    (goal.at.returns-clause-points c).In_ok-equalities) e))
     (c.posed_systems_hold_the_posed_rows.ensures m loops ruled before vs c.requires.between v))
     c.with_growth.ensures
