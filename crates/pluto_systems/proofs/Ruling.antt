@@ -1,6 +1,6 @@
 -- Dependences and systems that stand beside them, one by one; systems put together of their forms.
 use Rattle.std.proofs.Common.{◌≡◌, ℤ, ℕ, zero, suc, ◌+◌, ◌<◌, List, [], ◌∷◌, ◌++◌, refl, sym, ◌∙◌, ap, ap₂, subst}
-use Rattle.std.proofs.Common.{◌⊎◌, inl, inr, arith, length, drop, map, get_or, add-one}
+use Rattle.std.proofs.Common.{◌⊎◌, inl, inr, arith, length, drop, map, get_or, drop-cons, add-one}
 use Rattle.std.specs.Prelude.{◌≤◌, Result, Ok, Err, IfOk}
 use Rattle.std.specs.List.{flat_map}
 use Rattle.std.proofs.lemmas.List.{append-nil}
@@ -77,6 +77,20 @@ forms_step f out new one more here whole e n h =
     append_assoc : (xs ys zs : List Affine) → (xs ++ ys) ++ zs ≡ xs ++ (ys ++ zs)
     append_assoc [] ys zs = refl
     append_assoc (x ∷ xs) ys zs = ap (λ (z : List Affine). x ∷ z) (append_assoc xs ys zs)
+
+-- one where each stands with its rows
+pub ruled_step : (f : RuledDep → List Affine) (out new : List Affine) (xs : List RuledDep) (i : ℕ) (x one : RuledDep)
+    (d : Dependence) (l b : Constraints) → i < length xs → one ≡ get_or xs i x → d ≡ one.dep → l ≡ one.legal
+    → b ≡ one.bounded → new ≡ out ++ f (ruled_dep d l b) → out ++ flat_map f (drop i xs) ≡ flat_map f xs
+    → new ++ flat_map f (drop (i + 1) xs) ≡ flat_map f xs
+ruled_step f out new xs i x one d l b h e p q r n w =
+    let same : ruled_dep d l b ≡ one =
+    ap (λ (z : Dependence). ruled_dep z l b) p
+    ∙ ap₂ (λ (y z : Constraints). ruled_dep one.dep y z) q r in
+    let step : drop i xs ≡ one ∷ drop (i + 1) xs =
+    drop-cons xs i x h
+    ∙ ap₂ (λ (z : RuledDep) (k : ℕ). z ∷ drop k xs) (sym e) (sym (add-one i)) in
+    forms_step f out new one (drop (i + 1) xs) (drop i xs) xs step (n ∙ ap (λ (z : RuledDep). out ++ f z) same) w
 
 -- and their end
 pub forms_end : (f : RuledDep → List Affine) (out : List Affine) (here whole : List RuledDep) → here ≡ []

@@ -2,7 +2,7 @@
 use Rattle.std.proofs.Common.{◌≡◌, ℕ, zero, suc, ◌+◌, ◌<◌, ◌^◌, ℤ, List, [], ◌∷◌, refl, sym, ◌∙◌, ap, subst}
 use Rattle.std.proofs.Common.{ap₂, arith, length, drop, All, add-one}
 use Rattle.std.specs.Prelude.{◌≤◌, slice_index_or}
-use Rattle.std.proofs.lemmas.List.Elements.{All-get_or}
+use Rattle.std.proofs.lemmas.List.Elements.{All-nil, All-get_or, All-head}
 use Rattle.null_space.specs.Narrowing.{narrowed_by, narrowed_all, units_from, kernel_vectors}
 use Rattle.null_space.specs.Sizes.{AreWithin, AreLong}
 use Rattle.pluto_systems.specs.Posing.{AreCoefficientRows, AreSmallVectors, vectors_for}
@@ -76,3 +76,26 @@ pub for_step : (loops : List ℕ) (rows : List (List (List ℤ))) (i : ℕ) (vs 
 for_step loops rows i vs h e f =
     for_behind loops rows i h e
     ∙ ap₂ (λ (v : List (List ℤ)) (n : ℕ). v ∷ vectors_for (drop n loops) (drop n rows)) (sym f) (sym (add-one i))
+
+-- the vectors of one statement, as a call gives them
+pub record AreSmall (vs : List (List ℤ)) : Type 0 where
+  pub few : length vs ≤ 5
+  pub long : AreLong (length (slice_index_or vs 0 [])) vs
+  pub small : All (AreWithin (2 ^ 109)) vs
+
+own_long : (n : ℕ) (vs : List (List ℤ)) → AreLong n vs → AreLong (length (slice_index_or vs 0 [])) vs
+own_long n [] h = All-nil (λ (u : List ℤ). length u ≡ 0)
+own_long n (v ∷ vs) h =
+    subst (λ (k : ℕ). AreLong k (v ∷ vs)) (sym (All-head (λ (u : List ℤ). length u ≡ n) v vs h)) h
+
+pub small_at : (loops : List ℕ) (vectors : List (List (List ℤ))) (s : ℕ) (vs : List (List ℤ))
+    → AreSmallVectors loops vectors → s < length vectors → vs ≡ slice_index_or vectors s [] → AreSmall vs
+small_at loops vectors s vs h l e =
+    let z = h.size in
+    let k : s < length loops = omega arith in
+    subst AreSmall (sym e)
+    (record {
+      few = h.few s k;
+      long = own_long (slice_index_or loops s 0) (slice_index_or vectors s []) (h.long s k);
+      small = h.small s k;
+    })

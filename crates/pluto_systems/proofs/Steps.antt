@@ -8,7 +8,7 @@ use Rattle.whole_numbers.specs.Lists.{zeros, sums}
 use Rattle.std.proofs.lemmas.List.Elements.{All-nil, All-cons, All-head, All-tail}
 use Rattle.null_space.specs.Sizes.{IsWithin, AreWithin}
 use Rattle.null_space.proofs.Within.{within_add}
-use Rattle.pluto_systems.specs.Posing.{added}
+use Rattle.pluto_systems.specs.Posing.{added, growth_rows, growth_from}
 use Rattle.pluto_systems.specs.Placing.{is_end, placed_parts}
 use Rattle.pluto_systems.proofs.Placed.{placed_end, placed_other}
 
@@ -67,3 +67,12 @@ sums_within k m n (x ∷ xs) (y ∷ ys) l h a b =
     let s = within_add m n x y (All-head (IsWithin m) x xs a) (All-head (IsWithin n) y ys b) in
     All-cons (IsWithin k) (x +ℤ y) (sums xs ys) (omega (arith, s, l))
     (sums_within k m n xs ys l (omega (arith, h)) (All-tail (IsWithin m) x xs a) (All-tail (IsWithin n) y ys b))
+
+-- the rows of one statement more
+pub growth_step : (m : ℕ) (loops : List ℕ) (vectors : List (List (List ℤ))) (i : ℕ) (vs : List (List ℤ))
+    → i < length vectors → vs ≡ get_or vectors i []
+    → growth_rows m loops i vs ++ growth_from m loops (i + 1) (drop (i + 1) vectors)
+    ≡ growth_from m loops i (drop i vectors)
+growth_step m loops vectors i vs h e =
+    ap (λ z. growth_rows m loops i z ++ growth_from m loops (i + 1) (drop (i + 1) vectors)) e
+    ∙ rw (add-one i, drop-cons vectors i [] h) refl

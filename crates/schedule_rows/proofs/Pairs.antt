@@ -103,7 +103,7 @@ above_from m d r params x y s h l =
     let Least = λ (f : Affine). pos 0 ≤ℤ value_of f (point_of params x y) in
     let v = distance-value m d r params x y h.source h.target h.source_size h.target_size s in
     let k = above_value (distance m (unknowns_of d r)).coefficients (distance m (unknowns_of d r)).constant
-      (point_of params x y) in
+    (point_of params x y) in
     record {
       range = h.range;
       source = h.source;
@@ -115,7 +115,7 @@ above_from m d r params x y s h l =
       equalities = h.equalities;
       rows = All-push Least d.system.rows
           (form_of (distance m (unknowns_of d r)).coefficients ((distance m
-            (unknowns_of d r)).constant +ℤ negsuc 0)) h.rows
+          (unknowns_of d r)).constant +ℤ negsuc 0)) h.rows
           (omega (arith, ints));
     }
 
@@ -124,11 +124,11 @@ pub above_to : (m : ℕ) (d : Dependence) (r : Row) (params : List ℤ) (x y : I
 above_to m d r params x y s h =
     let Least = λ (f : Affine). pos 0 ≤ℤ value_of f (point_of params x y) in
     let g = form_of (distance m (unknowns_of d r)).coefficients ((distance m
-      (unknowns_of d r)).constant +ℤ negsuc 0) in
+    (unknowns_of d r)).constant +ℤ negsuc 0) in
     let e = All-head Least g [] (all_back Least d.system.rows (g ∷ []) h.rows) in
     let v = distance-value m d r params x y h.source h.target h.source_size h.target_size s in
     let k = above_value (distance m (unknowns_of d r)).coefficients (distance m (unknowns_of d r)).constant
-      (point_of params x y) in (
+    (point_of params x y) in (
       record {
         range = h.range;
         source = h.source;
@@ -190,7 +190,7 @@ slack_value : (d : Dependence) (r : Row) (params : List ℤ) (x y : Instance)
     → x.number ≡ d.source.statement → y.number ≡ d.target.statement → length x.turns ≡ d.source.loops
     → length y.turns ≡ d.target.loops
     → Suits d r → value_of (slack (unknowns_of d r)) (point_of params x y)
-      ≡ (dot r.u params +ℤ r.w) -ℤ (phi r y -ℤ phi r x)
+    ≡ (dot r.u params +ℤ r.w) -ℤ (phi r y -ℤ phi r x)
 slack_value d r params x y hs ht ls lt h =
     let p = part_of r d.source.statement in
     let q = part_of r d.target.statement in
