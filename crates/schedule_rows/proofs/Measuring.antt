@@ -126,7 +126,8 @@ rows_appended s t r a b =
     ap₂ (λ (x : List Row) (y : List Row). x ++ y) (ap rows_in a) (ap band_rows b ∙ band_rows_more s.rows r)
     ∙ sym (append_assoc (rows_in s.closed) (band_rows s.rows) (r.row ∷ []))
 
-pub step_falls : VectorLaws → (m : ℕ) (loops : List ℕ) (s t : State) → Goes m loops s t → measure loops t < measure loops s
+pub step_falls : VectorLaws → (m : ℕ) (loops : List ℕ) (s t : State) → Goes m loops s t
+    → measure loops t < measure loops s
 step_falls laws m loops s t (inl a) =
     let e = ap (missing loops) (rows_appended s t a.row a.closed a.rows) in
     let f = missing_falls laws loops (rows_of s) a.row.row a.more a.least.posed.grows in

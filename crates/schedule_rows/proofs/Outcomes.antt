@@ -65,7 +65,8 @@ cutting_one loops s numbers o q (l, u, inr h) (l', u', inl k) =
     let a = h.0 in let b = k.0 in absurd (omega arith)
 cutting_one loops s numbers o q (l, u, inr h) (l', u', inr k) = h.1 ∙ sym k.1
 
-lacks_one : HasOneNumbering → (m : ℕ) (loops : List ℕ) (s : State) (o q : Outcome) → Lacks m loops s o → Lacks m loops s q
+lacks_one : HasOneNumbering → (m : ℕ) (loops : List ℕ) (s : State) (o q : Outcome) → Lacks m loops s o
+    → Lacks m loops s q
     → o ≡ q
 lacks_one one m loops s o q (inl h) (inl k) =
     h.1.2 ∙ (ap (λ (z : List Dependence). goes (state (closed_by s.closed s.rows) [] z))
@@ -76,7 +77,8 @@ lacks_one one m loops s o q (inr h) (inr k) =
     let w = one (length loops) (edges_of s.remaining) k.1.0 h.1.0 k.1.1 h.1.1 in
     cutting_one loops s h.1.0 o q h.1.2 (subst (λ (z : List ℕ). Cutting loops s z q) w k.1.2)
 
-pub determined : HasOneNumbering → (m : ℕ) (loops : List ℕ) (s : State) (o q : Outcome) → Next m loops s o → Next m loops s q
+pub determined : HasOneNumbering → (m : ℕ) (loops : List ℕ) (s : State) (o q : Outcome) → Next m loops s o
+    → Next m loops s q
     → o ≡ q
 determined one m loops s o q (inl h) (inl k) = finishes_one one m loops s o q h.1 k.1
 determined one m loops s o q (inl h) (inr k) = absurd (k.0 h.0)

@@ -113,7 +113,8 @@ pub uncuts_in : (numbers : List ℕ) (ds kept : List Dependence) (d : Dependence
     → number_in numbers d.source.statement ≡ number_in numbers d.target.statement → In d kept
 uncuts_in numbers [] kept d u i e = absurd i
 uncuts_in numbers (c ∷ ds) kept d (inl u) (inl i) e =
-    absurd (u.0 (subst (λ (z : Dependence). number_in numbers z.source.statement ≡ number_in numbers z.target.statement) i e))
+    absurd (u.0 (subst (λ (z : Dependence). number_in numbers z.source.statement
+    ≡ number_in numbers z.target.statement) i e))
 uncuts_in numbers (c ∷ ds) kept d (inl u) (inr i) e = uncuts_in numbers ds kept d u.1 i e
 uncuts_in numbers (c ∷ ds) kept d (inr u) (inl i) e =
     subst (λ (l : List Dependence). In d l) (sym u.3) (inl i)
@@ -185,7 +186,11 @@ through m loops deps closed rows remaining kept h re d params x y i size r =
       k,
       elim (rises_or_equal rows x y k) [
         | inl u ↦ inl u
-        | inr e ↦ inr (e, restricts_pair m loops rows remaining kept l.0 params x y h.sized h.sized_rows size re l.1 l.2 e)
+        | inr e ↦ inr (
+          e,
+          restricts_pair m loops rows remaining kept l.0 params x y h.sized h.sized_rows size re l.1
+              l.2 e,
+        )
       ],
     ))
     (h.pairs d params x y i size r))
