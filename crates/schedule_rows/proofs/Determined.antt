@@ -6,7 +6,8 @@ use Rattle.std.specs.List.{flat_map}
 use Rattle.std.proofs.lemmas.List.{length-append, length-reverse, reverse-reverse}
 use Rattle.std.proofs.lemmas.Bool.{false≢true}
 use Rattle.whole_numbers.proofs.Lexicographic.{lex_total}
-use Rattle.schedule_rows.specs.Items.{Row, Part, Marked, part_numbers, numbers_of}
+use Rattle.farkas.specs.Unknowns.{Part, part_numbers}
+use Rattle.schedule_rows.specs.Items.{Row, Marked, numbers_of}
 use Rattle.iteration_domains.specs.Dependence.{Dependence}
 use Rattle.schedule_rows.specs.Posed.{IsPosed, IsLeast}
 use Rattle.schedule_rows.specs.Next.{restricted, Restricts, Uncuts}

@@ -12,20 +12,21 @@ use Rattle.fractions.specs.Fractions.{value_over}
 use Rattle.fractions.specs.Farkas.{HasFarkas, two_rows}
 use Rattle.fractions.proofs.Combination.{farkas_of_system}
 use Rattle.whole_numbers.proofs.Ring.{mul_one_right}
-use Rattle.schedule_rows.specs.Posed.{IsLegal, IsBounded, slack}
+use Rattle.farkas.specs.Claims.{distance, slack}
+use Rattle.schedule_rows.specs.Posed.{IsLegal, IsBounded}
 use Rattle.schedule_rows.proofs.Along.{le_apart}
 use Rattle.scop_syntax.specs.Walk.{Instance}
 use Rattle.schedule_rows.specs.Items.{Row, part_of, phi}
 use Rattle.iteration_domains.specs.Dependence.{Dependence}
-use Rattle.schedule_rows.specs.Dependences.{Relates, IsEmptyDep, difference, Suits, equal_at, above_at}
+use Rattle.schedule_rows.specs.Dependences.{Relates, IsEmptyDep, unknowns_of, Suits, equal_at, above_at}
 use Rattle.schedule_rows.specs.Dependences.{IsKept, IsEqualAt, point_of}
 
 -- the form's value is the difference of the values
-pub difference-value : (m : ℕ) (d : Dependence) (r : Row) (params : List ℤ) (x y : Instance)
+pub distance-value : (m : ℕ) (d : Dependence) (r : Row) (params : List ℤ) (x y : Instance)
     → x.number ≡ d.source.statement → y.number ≡ d.target.statement → length x.turns ≡ d.source.loops
     → length y.turns ≡ d.target.loops
-    → Suits d r → value_of (difference m d r) (point_of params x y) ≡ phi r y -ℤ phi r x
-difference-value m d r params x y hs ht ls lt h =
+    → Suits d r → value_of (distance m (unknowns_of d r)) (point_of params x y) ≡ phi r y -ℤ phi r x
+distance-value m d r params x y hs ht ls lt h =
     let p = part_of r d.source.statement in
     let q = part_of r d.target.statement in
     let ps : part_of r x.number ≡ p = ap (λ (s : ℕ). part_of r s) hs in
@@ -57,9 +58,9 @@ pub equal_to : (m : ℕ) (d : Dependence) (r : Row) (params : List ℤ) (x y : I
 equal_to m d r params x y s h =
     let all = h.equalities in
     let Zero = λ (f : Affine). value_of f (point_of params x y) ≡ pos 0 in
-    let e = All-head Zero (difference m d r) []
-    (all_back Zero d.system.equalities (difference m d r ∷ []) all) in
-    let v = difference-value m d r params x y h.source h.target h.source_size h.target_size s in (
+    let e = All-head Zero (distance m (unknowns_of d r)) []
+    (all_back Zero d.system.equalities (distance m (unknowns_of d r) ∷ []) all) in
+    let v = distance-value m d r params x y h.source h.target h.source_size h.target_size s in (
       record {
         range = h.range;
         source = h.source;
@@ -68,7 +69,7 @@ equal_to m d r params x y s h =
         target_size = h.target_size;
         source_from_0 = h.source_from_0;
         target_from_0 = h.target_from_0;
-        equalities = all_front Zero d.system.equalities (difference m d r ∷ []) all;
+        equalities = all_front Zero d.system.equalities (distance m (unknowns_of d r) ∷ []) all;
         rows = h.rows;
       },
       omega (arith, ints),
@@ -78,7 +79,7 @@ pub equal_from : (m : ℕ) (d : Dependence) (r : Row) (params : List ℤ) (x y :
     → Relates params d x y → phi r x ≡ phi r y → Relates params (equal_at m r d) x y
 equal_from m d r params x y s h e =
     let Zero = λ (f : Affine). value_of f (point_of params x y) ≡ pos 0 in
-    let v = difference-value m d r params x y h.source h.target h.source_size h.target_size s in
+    let v = distance-value m d r params x y h.source h.target h.source_size h.target_size s in
     record {
       range = h.range;
       source = h.source;
@@ -87,7 +88,7 @@ equal_from m d r params x y s h e =
       target_size = h.target_size;
       source_from_0 = h.source_from_0;
       target_from_0 = h.target_from_0;
-      equalities = All-push Zero d.system.equalities (difference m d r) h.equalities (omega (arith, ints));
+      equalities = All-push Zero d.system.equalities (distance m (unknowns_of d r)) h.equalities (omega (arith, ints));
       rows = h.rows;
     }
 
@@ -100,8 +101,9 @@ pub above_from : (m : ℕ) (d : Dependence) (r : Row) (params : List ℤ) (x y :
     → Relates params d x y → phi r x <ℤ phi r y → Relates params (above_at m r d) x y
 above_from m d r params x y s h l =
     let Least = λ (f : Affine). pos 0 ≤ℤ value_of f (point_of params x y) in
-    let v = difference-value m d r params x y h.source h.target h.source_size h.target_size s in
-    let k = above_value (difference m d r).coefficients (difference m d r).constant (point_of params x y) in
+    let v = distance-value m d r params x y h.source h.target h.source_size h.target_size s in
+    let k = above_value (distance m (unknowns_of d r)).coefficients (distance m (unknowns_of d r)).constant
+      (point_of params x y) in
     record {
       range = h.range;
       source = h.source;
@@ -112,7 +114,8 @@ above_from m d r params x y s h l =
       target_from_0 = h.target_from_0;
       equalities = h.equalities;
       rows = All-push Least d.system.rows
-          (form_of (difference m d r).coefficients ((difference m d r).constant +ℤ negsuc 0)) h.rows
+          (form_of (distance m (unknowns_of d r)).coefficients ((distance m
+            (unknowns_of d r)).constant +ℤ negsuc 0)) h.rows
           (omega (arith, ints));
     }
 
@@ -120,10 +123,12 @@ pub above_to : (m : ℕ) (d : Dependence) (r : Row) (params : List ℤ) (x y : I
     → Relates params (above_at m r d) x y → Relates params d x y × (phi r x <ℤ phi r y)
 above_to m d r params x y s h =
     let Least = λ (f : Affine). pos 0 ≤ℤ value_of f (point_of params x y) in
-    let g = form_of (difference m d r).coefficients ((difference m d r).constant +ℤ negsuc 0) in
+    let g = form_of (distance m (unknowns_of d r)).coefficients ((distance m
+      (unknowns_of d r)).constant +ℤ negsuc 0) in
     let e = All-head Least g [] (all_back Least d.system.rows (g ∷ []) h.rows) in
-    let v = difference-value m d r params x y h.source h.target h.source_size h.target_size s in
-    let k = above_value (difference m d r).coefficients (difference m d r).constant (point_of params x y) in (
+    let v = distance-value m d r params x y h.source h.target h.source_size h.target_size s in
+    let k = above_value (distance m (unknowns_of d r)).coefficients (distance m (unknowns_of d r)).constant
+      (point_of params x y) in (
       record {
         range = h.range;
         source = h.source;
@@ -177,14 +182,15 @@ farkas_at d form params x y f h =
 -- a legal row is kept
 pub legal_kept : (m : ℕ) (d : Dependence) (r : Row) → Suits d r → IsLegal m r d → IsKept m r d
 legal_kept m d r s f params x y size h =
-    let v = difference-value m d r params x y h.source h.target h.source_size h.target_size s in
-    let k = farkas_at d (difference m d r) params x y f h in
+    let v = distance-value m d r params x y h.source h.target h.source_size h.target_size s in
+    let k = farkas_at d (distance m (unknowns_of d r)) params x y f h in
     omega (arith, ints)
 
 slack_value : (d : Dependence) (r : Row) (params : List ℤ) (x y : Instance)
     → x.number ≡ d.source.statement → y.number ≡ d.target.statement → length x.turns ≡ d.source.loops
     → length y.turns ≡ d.target.loops
-    → Suits d r → value_of (slack d r) (point_of params x y) ≡ (dot r.u params +ℤ r.w) -ℤ (phi r y -ℤ phi r x)
+    → Suits d r → value_of (slack (unknowns_of d r)) (point_of params x y)
+      ≡ (dot r.u params +ℤ r.w) -ℤ (phi r y -ℤ phi r x)
 slack_value d r params x y hs ht ls lt h =
     let p = part_of r d.source.statement in
     let q = part_of r d.target.statement in
@@ -207,5 +213,5 @@ pub bounded_distance : (d : Dependence) (r : Row) (params : List ℤ) (x y : Ins
     → (phi r y -ℤ phi r x) ≤ℤ (dot r.u params +ℤ r.w)
 bounded_distance d r params x y s f h =
     let v = slack_value d r params x y h.source h.target h.source_size h.target_size s in
-    let k = farkas_at d (slack d r) params x y f h in
+    let k = farkas_at d (slack (unknowns_of d r)) params x y f h in
     omega (arith, ints)

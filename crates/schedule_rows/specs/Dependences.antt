@@ -1,10 +1,12 @@
 -- Dependences, and what restricting them is.
-use Rattle.std.specs.Prelude.{◌≡◌, ℕ, ℤ, pos, negsuc, ◌+ℤ◌, ◌-ℤ◌, ◌≤ℤ◌, List, [], ◌∷◌, ◌++◌, length, map, All}
-use Rattle.whole_numbers.specs.Affine.{Affine, value_of, form_of}
-use Rattle.whole_numbers.specs.Lists.{multiples, zeros}
+use Rattle.std.specs.Prelude.{◌≡◌, ℕ, ℤ, pos, negsuc, ◌+ℤ◌, ◌≤ℤ◌, List, ◌++◌, length, map, All}
+use Rattle.whole_numbers.specs.Affine.{value_of, form_of}
 use Rattle.fractions.specs.Farkas.{AreNotNegative}
 use Rattle.scop_syntax.specs.Walk.{Instance}
 use Rattle.iteration_domains.specs.Dependence.{Dependence}
+use Rattle.iteration_domains.specs.Restrictions.{equality_behind, row_behind}
+use Rattle.farkas.specs.Unknowns.{Unknowns}
+use Rattle.farkas.specs.Claims.{distance}
 use Rattle.schedule_rows.specs.Items.{Row, part_of, phi}
 
 -- parameters in 0..=65536
@@ -31,13 +33,10 @@ pub record Relates (params : List ℤ) (d : Dependence) (x y : Instance) : Type 
 abbrev pub IsEmptyDep : ℕ → Dependence → Type 0
 IsEmptyDep m d = (params : List ℤ) (x y : Instance) → length params ≡ m → Relates params d x y → ⊥
 
--- phi_T - phi_S over the dependence's variables, m of them parameters
-abbrev pub difference : ℕ → Dependence → Row → Affine
-difference m d r =
-    form_of
-    (multiples (negsuc 0)
-    (part_of r d.source.statement).coefficients ++ ((part_of r d.target.statement).coefficients ++ zeros m))
-    ((part_of r d.target.statement).shift -ℤ (part_of r d.source.statement).shift)
+-- the row's unknowns of the dependence: u, w, and the parts of its source's and of its target's statement
+abbrev pub unknowns_of : Dependence → Row → Unknowns
+unknowns_of d r =
+    record { u = r.u; w = r.w; source = part_of r d.source.statement; target = part_of r d.target.statement }
 
 -- the row has a coefficient for each loop of the dependence's statements
 abbrev pub Suits : Dependence → Row → Type 0
@@ -47,18 +46,13 @@ Suits d r =
 
 -- the pairs at which the row has equal values
 abbrev pub equal_at : ℕ → Row → Dependence → Dependence
-equal_at m r d =
-    record d { system = record d.system { equalities = d.system.equalities ++ difference m d r ∷ [] } }
+equal_at m r d = equality_behind d (distance m (unknowns_of d r))
 
 -- the pairs at which phi_T - phi_S >= 1: this row stands last
 abbrev pub above_at : ℕ → Row → Dependence → Dependence
 above_at m r d =
-    record d {
-      system = record d.system {
-        rows = d.system.rows ++ form_of (difference m d r).coefficients
-            ((difference m d r).constant +ℤ negsuc 0) ∷ [];
-      };
-    }
+    row_behind d
+    (form_of (distance m (unknowns_of d r)).coefficients ((distance m (unknowns_of d r)).constant +ℤ negsuc 0))
 
 -- no pair of the dependence has falling values
 abbrev pub IsKept : ℕ → Row → Dependence → Type 0

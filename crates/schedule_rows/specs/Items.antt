@@ -1,14 +1,10 @@
 -- The items of a schedule, grouped by bands, and their values at instances.
-use Rattle.std.specs.Prelude.{ℕ, ℤ, pos, ◌+ℤ◌, List, [], ◌∷◌, ◌++◌, slice_index_or, Bool, reverse}
+use Rattle.std.specs.Prelude.{ℕ, ℤ, pos, ◌+ℤ◌, List, [], ◌∷◌, ◌++◌, slice_index_or, Bool}
 use Rattle.std.specs.List.{flat_map}
 use Rattle.whole_numbers.specs.Lists.{dot}
 use Rattle.scop_syntax.specs.Walk.{Instance}
 use Rattle.stmt_graph.specs.Graph.{number_in}
-
--- a statement's part of a row: a coefficient for each loop, outermost first, and the shift
-pub record Part : Type 0 where
-  pub coefficients : List ℤ
-  pub shift : ℤ
+use Rattle.farkas.specs.Unknowns.{Part, part_numbers}
 
 -- a row: the bound u.n + w of its distances, and each statement's part
 pub record Row : Type 0 where
@@ -25,10 +21,6 @@ abbrev pub phi : Row → Instance → ℤ
 phi r x = dot (part_of r x.number).coefficients x.turns +ℤ (part_of r x.number).shift
 
 -- a row's numbers in the objective's order: u, w, then by statement the coefficients from the innermost, the shift
-abbrev pub part_numbers : Part → List ℤ
-part_numbers p = reverse p.coefficients ++ p.shift ∷ []
-
--- all of them, in that order
 abbrev pub numbers_of : Row → List ℤ
 numbers_of r = r.u ++ r.w ∷ flat_map part_numbers r.parts
 

@@ -1,32 +1,22 @@
 -- The posed set of a next row and its least point.
-use Rattle.std.specs.Prelude.{◌≡◌, ℕ, ◌<◌, ℤ, negsuc, ◌+ℤ◌, ◌-ℤ◌, List, [], ◌++◌, length, map, slice_index_or}
+use Rattle.std.specs.Prelude.{◌≡◌, ℕ, ◌<◌, ℤ, List, [], ◌++◌, length, map, slice_index_or}
 use Rattle.std.specs.Prelude.{◌⊎◌}
-use Rattle.whole_numbers.specs.Affine.{Affine}
-use Rattle.whole_numbers.specs.Lists.{multiples}
 use Rattle.whole_numbers.specs.Lexicographic.{LexLess}
-use Rattle.whole_numbers.specs.Affine.{form_of}
 use Rattle.fractions.specs.Farkas.{AreNotNegative, HasFarkas, two_rows}
 use Rattle.scop_syntax.specs.Members.{In}
 use Rattle.schedule_rows.specs.Items.{Row, part_of, numbers_of}
 use Rattle.iteration_domains.specs.Dependence.{Dependence}
-use Rattle.schedule_rows.specs.Dependences.{difference}
+use Rattle.farkas.specs.Claims.{distance, slack}
+use Rattle.schedule_rows.specs.Dependences.{unknowns_of}
 use Rattle.null_space.specs.Narrowing.{kernel_vectors, Grows}
-
--- u.n + w - (phi_T - phi_S)
-abbrev pub slack : Dependence → Row → Affine
-slack d r =
-    form_of
-    ((part_of r d.source.statement).coefficients ++ (multiples (negsuc 0)
-    (part_of r d.target.statement).coefficients ++ r.u))
-    (r.w +ℤ ((part_of r d.source.statement).shift -ℤ (part_of r d.target.statement).shift))
 
 -- legality and bounding by Farkas's identity over the dependence's rows
 abbrev pub IsLegal : ℕ → Row → Dependence → Type 0
-IsLegal m r d = HasFarkas (two_rows d.system.equalities ++ d.system.rows) (difference m d r)
+IsLegal m r d = HasFarkas (two_rows d.system.equalities ++ d.system.rows) (distance m (unknowns_of d r))
 
 -- the same of the bound of its distances
 abbrev pub IsBounded : Row → Dependence → Type 0
-IsBounded r d = HasFarkas (two_rows d.system.equalities ++ d.system.rows) (slack d r)
+IsBounded r d = HasFarkas (two_rows d.system.equalities ++ d.system.rows) (slack (unknowns_of d r))
 
 -- how many loops a statement has
 abbrev pub loops_of : List ℕ → ℕ → ℕ

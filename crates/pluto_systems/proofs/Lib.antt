@@ -1,0 +1,9 @@
+pub mod Placed
+pub mod Gathering
+pub mod Lower
+pub mod Points
+pub mod Rows
+pub mod Steps
+pub mod Sized
+pub mod Ruling
+pub mod Small

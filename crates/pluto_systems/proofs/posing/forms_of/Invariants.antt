@@ -1,0 +1,13 @@
+use Rattle.std.proofs.Common.{◌≡◌, ◌++◌}
+use Rattle.std.specs.List.{flat_map}
+use Rattle.pluto_systems.specs.Posing.{equalities_for, rows_for, ruled_deps}
+use Rattle.pluto_systems.proofs.Ruling.{rest, AreSizedTo}
+use Rattle.pluto_systems.proofs.posing.forms_of.Given as goal
+
+abbrev pub invariant-loop-at : goal.invariant-loop-at
+invariant-loop-at l =
+    (l.equalities.items ++ flat_map (equalities_for l.parameters l.loops) (rest l.deps l.legal l.bounded l.at)
+    ≡ flat_map (equalities_for l.parameters l.loops) (ruled_deps l.deps l.legal l.bounded))
+    × (l.rows.items ++ flat_map (rows_for l.parameters l.loops) (rest l.deps l.legal l.bounded l.at)
+    ≡ flat_map (rows_for l.parameters l.loops) (ruled_deps l.deps l.legal l.bounded))
+    × AreSizedTo (ruled_deps l.deps l.legal l.bounded) (rest l.deps l.legal l.bounded l.at)

@@ -1,0 +1,11 @@
+use Rattle.std.proofs.Common.{◌≡◌, ◌++◌, drop}
+use Rattle.std.specs.List.{flat_map}
+use Rattle.pluto_systems.specs.Posing.{equalities_for, rows_for}
+use Rattle.pluto_systems.proofs.posing.forms_over.Given as goal
+
+abbrev pub invariant-loop-one : goal.invariant-loop-one
+invariant-loop-one l =
+    (l.equalities.items ++ flat_map (equalities_for l.parameters l.loops) (drop l.one-index l.ruled)
+    ≡ flat_map (equalities_for l.parameters l.loops) l.ruled)
+    × (l.rows.items ++ flat_map (rows_for l.parameters l.loops) (drop l.one-index l.ruled)
+    ≡ flat_map (rows_for l.parameters l.loops) l.ruled)

@@ -1,0 +1,50 @@
+use Rattle.std.proofs.Common.{◌≡◌, ℤ, List, ◌++◌, map, Vec, Global, refl, sym, subst}
+use Rattle.integer_sets.specs.Constraints.{Constraints, system_of}
+use Rattle.schedule_rows.specs.Items.{Row}
+use Rattle.pluto_systems.specs.Placing.{columns_of}
+use Rattle.pluto_systems.specs.Posing.{growth_from, AreVectorsOf, HasPosed, dep_of}
+use Rattle.pluto_systems.proofs.Ruling.{ArePosed, are_posed, posed_sizes, posed_is, if_ok}
+use Rattle.pluto_systems.proofs.posing.posed_over.Goals as goal
+use Rattle.pluto_systems.proofs.posing.posed_over.Goals.{In_ok-equalities}
+
+-- the vectors as plain lists
+abbrev views : List (Vec (Vec ℤ Global) Global) → List (List (List ℤ))
+views vectors = map (λ (vs : Vec (Vec ℤ Global) Global). map (λ (v : Vec ℤ Global). v.items) vs.items) vectors
+
+parts : (c : In_ok-equalities)
+    → ArePosed c.args.parameters c.args.loops.now c.args.ruled.now (views c.args.vectors.now)
+    (columns_of c.args.parameters c.args.loops.now) c.in_ok-equalities.equalities.items
+    (c.in_ok-equalities.rows.items ++ growth_from c.args.parameters c.args.loops.now 0 (views c.args.vectors.now))
+parts c =
+    are_posed c.args.parameters c.args.parameters c.args.loops.now c.args.loops.now c.args.loops.now c.args.ruled.now
+    (views c.args.vectors.now) (views c.args.vectors.now) c.in_ok-equalities.equalities.items
+    c.in_ok-equalities.rows.items refl refl refl refl c.in_ok-equalities.ensures.equalities
+    c.in_ok-equalities.ensures.rows
+
+pub with_growth-requires-clause-sized : goal.with_growth-requires-clause-sized
+with_growth-requires-clause-sized c =
+    let m = c.args.parameters in
+    let loops = c.args.loops.now in
+    let ruled = c.args.ruled.now in
+    let vs = views c.args.vectors.now in
+    posed_sizes m loops ruled vs (columns_of m loops) c.in_ok-equalities.equalities.items
+    (c.in_ok-equalities.rows.items ++ growth_from m loops 0 vs) (parts c)
+    (c.posed_systems_are_sized.ensures m loops ruled vs c.requires.between c.requires.vectors)
+
+pub returns-clause-points : goal.returns-clause-points
+returns-clause-points c =
+    let m = c.args.parameters in
+    let loops = c.args.loops.now in
+    let ruled = c.args.ruled.now in
+    let vs = views c.args.vectors.now in
+    let es = c.in_ok-equalities.equalities.items in
+    let rs = c.in_ok-equalities.rows.items ++ growth_from m loops 0 vs in
+    if_ok {P = λ s. s ≡ system_of (columns_of m loops) 0 es rs}
+    {Q = λ s. (before : List Row) → AreVectorsOf loops before vs → HasPosed m loops (map dep_of ruled) before s}
+    c.with_growth.result
+    (λ s e before v.
+    subst (λ (t : Constraints). HasPosed m loops (map dep_of ruled) before t)
+    (sym (posed_is m loops ruled vs (columns_of m loops) es rs s (parts
+    (goal.at.returns-clause-points c).In_ok-equalities) e))
+    (c.posed_systems_hold_the_posed_rows.ensures m loops ruled before vs c.requires.between v))
+    c.with_growth.ensures

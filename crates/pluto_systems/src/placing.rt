@@ -1,0 +1,110 @@
+//! Forms over the unknowns of a dependence's two statements as forms over all columns of the objective.
+ghost use Rattle.std.specs.Prelude.{◌≡◌, ◌≤◌, ◌++◌, All, IfOk, OnOk, length, take, drop, map};
+ghost use Rattle.whole_numbers.specs.Lists.{zeros};
+ghost use Rattle.pluto_systems.specs.Placing.{is_end, placed_parts, placed};
+
+use affine_forms::Form;
+use std::alloc::{AllocError, Global};
+
+/// The first so many numbers, and what is behind them.
+fn cut_at(numbers: &[i128], count: usize) -> (&[i128], &[i128])
+    ensures front { result.0.now ≡ take count numbers.now }
+    ensures behind { result.1.now ≡ drop count numbers.now }
+{
+    if count < numbers.len() {
+        numbers.split_at(count)
+    } else {
+        (numbers, &[])
+    }
+}
+
+/// Appends zeros.
+pub fn push_zeros(out: &mut Vec<i128>, count: usize) -> Result<(), AllocError>
+    ensures { OnOk result (out.new.items ≡ out.old.items ++ zeros count) }
+{
+    for _at in 0..count {
+        out.push(0)?;
+    }
+    Ok(())
+}
+
+/// Whether a statement is one of the two.
+fn is_one(source: usize, target: usize, s: usize) -> bool
+    ensures { result ≡ is_end source target s }
+{
+    s == source || s == target
+}
+
+/// Appends the factors of the columns of all statements: those of the two, and 0 for all others.
+fn place_parts(
+    out: &mut Vec<i128>,
+    source: usize,
+    target: usize,
+    loops: &[usize],
+    factors: &[i128],
+) -> Result<(), AllocError>
+    requires loops { All (λ l. l ≤ 5) loops.now }
+    ensures { OnOk result (out.new.items ≡ out.old.items ++ placed_parts source target 0 loops.now factors.now) }
+{
+    let mut rest = factors;
+    for s in 0..loops.len() {
+        let count = loops[s] + 1;
+        if is_one(source, target, s) {
+            let (own, behind) = cut_at(rest, count);
+            out.extend_from_slice(own)?;
+            rest = behind;
+        } else {
+            push_zeros(out, count)?;
+        }
+    }
+    Ok(())
+}
+
+/// The form over all columns.
+pub fn placed(
+    alloc: Global,
+    parameters: usize,
+    source: usize,
+    target: usize,
+    loops: &[usize],
+    form: &Form,
+) -> Result<Form, AllocError>
+    requires parameters { parameters ≤ 4 }
+    requires loops { All (λ l. l ≤ 5) loops.now }
+    ensures { IfOk result (λ f. f ≡ placed parameters source target loops.now form.now) }
+{
+    let (front, rest) = cut_at(form.coefficients(), parameters + 1);
+    let mut coefficients = Vec::new(alloc);
+    coefficients.extend_from_slice(front)?;
+    place_parts(&mut coefficients, source, target, loops, rest)?;
+    match Form::of(alloc, &coefficients, form.constant()) {
+        Ok(placed) => Ok(placed),
+        Err(_) => Err(AllocError),
+    }
+}
+
+/// Appends forms over all columns.
+pub fn place_all(
+    alloc: Global,
+    out: &mut Vec<Form>,
+    parameters: usize,
+    source: usize,
+    target: usize,
+    loops: &[usize],
+    forms: &[Form],
+) -> Result<(), AllocError>
+    requires parameters { parameters ≤ 4 }
+    requires loops { All (λ l. l ≤ 5) loops.now }
+    ensures { OnOk result (out.new.items ≡ out.old.items ++ map (placed parameters source target loops.now) forms.now) }
+{
+    for form in forms {
+        match placed(alloc, parameters, source, target, loops, form) {
+            Err(_) => return Err(AllocError),
+            Ok(placed) => match out.push(placed) {
+                Err(_) => return Err(AllocError),
+                Ok(()) => {}
+            },
+        }
+    }
+    Ok(())
+}

@@ -1,0 +1,287 @@
+//! The posed set of a row: of each dependence the rows that keep it and those that bound it, then those by which the
+//! row grows the rank of each statement's rows before.
+ghost use Rattle.std.specs.Prelude.{◌≡◌, ◌≤◌, ◌++◌, List, All, IfOk, OnOk, length, map};
+ghost use Rattle.std.specs.List.{flat_map};
+ghost use Rattle.std.specs.Option.{ForSome};
+ghost use Rattle.affine_forms.specs.Parts.{variables_of};
+ghost use Rattle.integer_sets.specs.Constraints.{IsSized, system_of, variables_in};
+ghost use Rattle.scop_syntax.specs.Members.{In};
+ghost use Rattle.schedule_rows.specs.Items.{Row};
+ghost use Rattle.pluto_systems.specs.Placing.{columns_of};
+ghost use Rattle.pluto_systems.specs.Posing.{RuledDep, IsRuled, IsFarkasOf, IsBetween, dep_of, ruled_dep, ruled_deps};
+ghost use Rattle.pluto_systems.specs.Posing.{equalities_for, rows_for, growth_from, posed_system, HasPosed, HaveSizes};
+ghost use Rattle.pluto_systems.specs.Posing.{AreVectorsOf, AreSmallVectors, AreCoefficientRows, vectors_for, loops_in};
+
+use crate::growth::push_growth;
+use crate::laws::{
+    kernel_vectors_of_rows_are_small, posed_systems_are_sized, posed_systems_hold_the_posed_rows,
+};
+use crate::placing::place_all;
+use crate::ruled::Ruled;
+use crate::vectors::{loops_in, vectors_at, vectors_for};
+use affine_forms::Form;
+use integer_sets::System;
+use iteration_domains::{Dep, Model};
+use null_space::Rows;
+use std::alloc::{AllocError, Global};
+
+/// Appends the equalities of a dependence over all columns.
+fn push_equalities(
+    alloc: Global,
+    out: &mut Vec<Form>,
+    parameters: usize,
+    loops: &[usize],
+    dep: &Dep,
+    legal: &System,
+    bounded: &System,
+) -> Result<(), AllocError>
+    requires parameters { parameters ≤ 4 }
+    requires loops { All (λ l. l ≤ 5) loops.now }
+    ensures forms { OnOk result (out.new.items ≡ out.old.items
+        ++ equalities_for parameters loops.now (ruled_dep dep.now legal.now bounded.now)) }
+    ensures legal { OnOk result (All (λ f. variables_of f ≡ variables_in legal.now) legal.now.equalities) }
+    ensures bounded { OnOk result (All (λ f. variables_of f ≡ variables_in bounded.now) bounded.now.equalities) }
+{
+    let (source, target) = (dep.source.statement, dep.target.statement);
+    place_all(
+        alloc,
+        out,
+        parameters,
+        source,
+        target,
+        loops,
+        legal.equalities(),
+    )?;
+    place_all(
+        alloc,
+        out,
+        parameters,
+        source,
+        target,
+        loops,
+        bounded.equalities(),
+    )
+}
+
+/// Appends the rows of a dependence over all columns.
+fn push_rows(
+    alloc: Global,
+    out: &mut Vec<Form>,
+    parameters: usize,
+    loops: &[usize],
+    dep: &Dep,
+    legal: &System,
+    bounded: &System,
+) -> Result<(), AllocError>
+    requires parameters { parameters ≤ 4 }
+    requires loops { All (λ l. l ≤ 5) loops.now }
+    ensures forms { OnOk result (out.new.items ≡ out.old.items
+        ++ rows_for parameters loops.now (ruled_dep dep.now legal.now bounded.now)) }
+    ensures legal { OnOk result (All (λ f. variables_of f ≡ variables_in legal.now) legal.now.rows) }
+    ensures bounded { OnOk result (All (λ f. variables_of f ≡ variables_in bounded.now) bounded.now.rows) }
+{
+    let (source, target) = (dep.source.statement, dep.target.statement);
+    place_all(alloc, out, parameters, source, target, loops, legal.rows())?;
+    place_all(
+        alloc,
+        out,
+        parameters,
+        source,
+        target,
+        loops,
+        bounded.rows(),
+    )
+}
+
+/// The equalities and the rows of dependences over all columns.
+fn forms_over(
+    alloc: Global,
+    parameters: usize,
+    loops: &[usize],
+    ruled: &[Ruled],
+) -> Result<(Vec<Form>, Vec<Form>), AllocError>
+    requires parameters { parameters ≤ 4 }
+    requires loops { All (λ l. l ≤ 5) loops.now }
+    ensures equalities { IfOk result (λ v. v.0.items ≡ flat_map (equalities_for parameters loops.now) ruled.now) }
+    ensures rows { IfOk result (λ v. v.1.items ≡ flat_map (rows_for parameters loops.now) ruled.now) }
+{
+    let mut equalities = Vec::new(alloc);
+    let mut rows = Vec::new(alloc);
+    for one in ruled {
+        let (dep, legal, bounded) = (one.dep(), one.legal(), one.bounded());
+        push_equalities(
+            alloc,
+            &mut equalities,
+            parameters,
+            loops,
+            dep,
+            legal,
+            bounded,
+        )?;
+        push_rows(alloc, &mut rows, parameters, loops, dep, legal, bounded)?;
+    }
+    Ok((equalities, rows))
+}
+
+/// The same of dependences whose systems stand beside them.
+fn forms_of(
+    alloc: Global,
+    parameters: usize,
+    loops: &[usize],
+    deps: &[Dep],
+    legal: &[System],
+    bounded: &[System],
+) -> Result<(Vec<Form>, Vec<Form>), AllocError>
+    requires parameters { parameters ≤ 4 }
+    requires loops { All (λ l. l ≤ 5) loops.now }
+    requires legal { length legal.now ≡ length deps.now }
+    requires bounded { length bounded.now ≡ length deps.now }
+    ensures equalities { IfOk result (λ v. v.0.items
+        ≡ flat_map (equalities_for parameters loops.now) (ruled_deps deps.now legal.now bounded.now)) }
+    ensures rows { IfOk result (λ v. v.1.items
+        ≡ flat_map (rows_for parameters loops.now) (ruled_deps deps.now legal.now bounded.now)) }
+    ensures sized { IfOk result (λ _. (x : RuledDep) → In x (ruled_deps deps.now legal.now bounded.now) → HaveSizes x) }
+{
+    let mut equalities = Vec::new(alloc);
+    let mut rows = Vec::new(alloc);
+    for at in 0..deps.len() {
+        let (dep, keeps, bounds) = (&deps[at], &legal[at], &bounded[at]);
+        push_equalities(
+            alloc,
+            &mut equalities,
+            parameters,
+            loops,
+            dep,
+            keeps,
+            bounds,
+        )?;
+        push_rows(alloc, &mut rows, parameters, loops, dep, keeps, bounds)?;
+    }
+    Ok((equalities, rows))
+}
+
+/// Appends the rows of all statements for their kernel vectors.
+fn push_all_growth(
+    alloc: Global,
+    out: &mut Vec<Form>,
+    parameters: usize,
+    loops: &[usize],
+    vectors: &[Rows],
+) -> Result<(), AllocError>
+    requires parameters { parameters ≤ 4 }
+    requires loops { All (λ l. l ≤ 5) loops.now }
+    requires vectors { AreSmallVectors loops.now (map (λ vs. map (λ v. v.items) vs.items) vectors.now) }
+    ensures { OnOk result (out.new.items ≡ out.old.items
+        ++ growth_from parameters loops.now 0 (map (λ vs. map (λ v. v.items) vs.items) vectors.now)) }
+{
+    for s in 0..vectors.len() {
+        push_growth(alloc, out, parameters, loops, s, vectors_at(vectors, s))?;
+    }
+    Ok(())
+}
+
+/// How many columns there are.
+fn columns(parameters: usize, loops: &[usize]) -> Option<usize>
+    requires parameters { parameters ≤ 4 }
+    requires loops { All (λ l. l ≤ 5) loops.now }
+    ensures { ForSome result (λ n. n ≡ columns_of parameters loops.now) }
+{
+    let mut count = parameters + 1;
+    for at in 0..loops.len() {
+        count = count.checked_add(loops[at] + 1)?;
+    }
+    Some(count)
+}
+
+/// The system of these equalities, these rows and those of all statements for their kernel vectors.
+fn with_growth(
+    alloc: Global,
+    parameters: usize,
+    loops: &[usize],
+    equalities: Vec<Form>,
+    mut rows: Vec<Form>,
+    vectors: &[Rows],
+) -> Result<System, AllocError>
+    requires parameters { parameters ≤ 4 }
+    requires loops { All (λ l. l ≤ 5) loops.now }
+    requires vectors { AreSmallVectors loops.now (map (λ vs. map (λ v. v.items) vs.items) vectors.now) }
+    requires sized { IsSized (columns_of parameters loops.now) equalities.items (rows.items
+        ++ growth_from parameters loops.now 0 (map (λ vs. map (λ v. v.items) vs.items) vectors.now)) }
+    ensures { IfOk result (λ s. s ≡ system_of (columns_of parameters loops.now) 0 equalities.items (rows.items
+        ++ growth_from parameters loops.now 0 (map (λ vs. map (λ v. v.items) vs.items) vectors.now))) }
+{
+    push_all_growth(alloc, &mut rows, parameters, loops, vectors)?;
+    match columns(parameters, loops) {
+        // So many columns do not fit the memory.
+        None => Err(AllocError),
+        Some(columns) => Ok(System::from_parts(columns, 0, equalities, rows)),
+    }
+}
+
+/// The posed set of a row: over u for each parameter, w, and for each statement its coefficients from the innermost
+/// loop and its shift, the system whose points that are not negative are exactly the rows that keep and bound all
+/// dependences and grow the rank of the rows before, of which `vectors` are the kernel vectors, statement by statement.
+///
+/// # Errors
+/// `AllocError` alone.
+pub fn posed_over(
+    alloc: Global,
+    parameters: usize,
+    loops: &[usize],
+    ruled: &[Ruled],
+    vectors: &[Rows],
+) -> Result<System, AllocError>
+    requires parameters { parameters ≤ 4 }
+    requires loops { All (λ l. l ≤ 5) loops.now }
+    requires between { (x : RuledDep) → In x ruled.now → IsRuled x × IsBetween parameters loops.now x.dep }
+    requires vectors { AreSmallVectors loops.now (map (λ vs. map (λ v. v.items) vs.items) vectors.now) }
+    ensures exact { IfOk result (λ s. s
+        ≡ posed_system parameters loops.now ruled.now (map (λ vs. map (λ v. v.items) vs.items) vectors.now)) }
+    ensures points { IfOk result (λ s. (before : List Row)
+        → AreVectorsOf loops.now before (map (λ vs. map (λ v. v.items) vs.items) vectors.now)
+        → HasPosed parameters loops.now (map dep_of ruled.now) before s) }
+{
+    posed_systems_are_sized();
+    posed_systems_hold_the_posed_rows();
+    let (equalities, rows) = forms_over(alloc, parameters, loops, ruled)?;
+    with_growth(alloc, parameters, loops, equalities, rows, vectors)
+}
+
+/// The posed set of a row of a schedule of this model: `legal` and `bounded` are the systems by Farkas's lemma of each
+/// of the dependences, in order, and `rows` the coefficients of the rows before, up to 2^14 in size, a list for each
+/// statement. Over u for each parameter, w, and for each statement its coefficients from the innermost loop and its
+/// shift, it is the system whose points that are not negative are exactly the rows that keep and bound all dependences
+/// and grow the rank of the rows before.
+///
+/// # Errors
+/// `AllocError` alone.
+pub fn posed(
+    alloc: Global,
+    model: &Model,
+    deps: &[Dep],
+    rows: &[Rows],
+    legal: &[System],
+    bounded: &[System],
+) -> Result<System, AllocError>
+    requires rows { AreCoefficientRows (loops_in model.now) (map (λ vs. map (λ v. v.items) vs.items) rows.now) }
+    requires legal { length legal.now ≡ length deps.now }
+    requires bounded { length bounded.now ≡ length deps.now }
+    requires farkas { (x : RuledDep) → In x (ruled_deps deps.now legal.now bounded.now)
+        → IsFarkasOf x × IsBetween model.now.parameters (loops_in model.now) x.dep }
+    ensures exact { IfOk result (λ s. s ≡ posed_system model.now.parameters (loops_in model.now)
+        (ruled_deps deps.now legal.now bounded.now)
+        (vectors_for (loops_in model.now) (map (λ vs. map (λ v. v.items) vs.items) rows.now))) }
+    ensures points { IfOk result (λ s. (before : List Row)
+        → AreVectorsOf (loops_in model.now) before
+        (vectors_for (loops_in model.now) (map (λ vs. map (λ v. v.items) vs.items) rows.now))
+        → HasPosed model.now.parameters (loops_in model.now) deps.now before s) }
+{
+    kernel_vectors_of_rows_are_small();
+    posed_systems_are_sized();
+    posed_systems_hold_the_posed_rows();
+    let parameters = model.parameters();
+    let loops = loops_in(alloc, model)?;
+    let vectors = vectors_for(alloc, &loops, rows)?;
+    let (equalities, rules) = forms_of(alloc, parameters, &loops, deps, legal, bounded)?;
+    with_growth(alloc, parameters, &loops, equalities, rules, &vectors)
+}
