@@ -5,12 +5,12 @@ use Rattle.std.specs.Prelude.{replicate, option_map}
 use Rattle.std.proofs.Common.{Bor}
 use Rattle.std.specs.Option.{option_copied}
 use Rattle.std.proofs.lemmas.List.{length-replicate}
-use Rattle.std.specs.Io.KnownBytes.{IsAtEnd}
+use Rattle.std.specs.Io.KnownBytes.{Appends, IsAtEnd}
 use Rattle.std.proofs.KnownBytes.{Appends-trans}
 use Rattle.io_ports.specs.Faults.{Rose}
 use Rattle.io_ports.specs.Bytes.{IsAllOf, IsLonger}
 use Rattle.io_ports.specs.Reads.{SourceShows, IsSteady}
-use Rattle.io_ports.specs.Writes.{SinkShows, HasRoom, Takes, FailsToTake}
+use Rattle.io_ports.specs.Writes.{SinkShows, HasRoom, Takes, FailsToTake, CutsOff}
 use Rattle.io_ports.proofs.Writing.{take_then, take_then_cut, front_then, whole_is_front, kept_is_nothing}
 use Rattle.io_ports.proofs.Writing.{room_for_front, room_next, calm_then}
 use Rattle.scop_syntax.specs.declared.tree.Kernel.{Kernel}
@@ -19,13 +19,15 @@ use Rattle.scop_syntax.specs.Tree.{Program}
 use Rattle.report_text.specs.declared.status.Status.{Status}
 use Rattle.report_text.specs.declared.status.Status.TheVariants.{Done, Usage, Refused, BadData, Outside, ReadFault}
 use Rattle.report_text.specs.declared.status.Status.TheVariants.{WriteFault, NoMemory}
-use Rattle.polypar.specs.Command.{IsRunCommand}
+use Rattle.polypar.specs.declared.command.Command.{Command}
+use Rattle.polypar.specs.declared.command.Command.TheVariants.{Run, Schedule}
+use Rattle.polypar.specs.Command.{IsTaken, command_of}
 use Rattle.polypar.specs.Case.{Accepted, asked_text}
-use Rattle.polypar.specs.Deserves.{DeservesInput, Deserves}
+use Rattle.polypar.specs.Deserves.{DeservesInput, DeservesFor, Deserves, AsksFor}
 use Rattle.report_text.specs.StatusText.{status_text}
-use Rattle.polypar.specs.Answers.{AnswersInput, AnswersWords, IsReadOn, TellsStatus}
-use Rattle.polypar.specs.Answered.{Prints, PrintsFront, IsDeserved, NamesOf, GainsLine, NoneRose, HasRoomForText}
-use Rattle.polypar.specs.Answered.{Answered}
+use Rattle.polypar.specs.Answers.{AnswersInput, AnswersPlan, AnswersFor, AnswersWords, IsReadOn, TellsStatus}
+use Rattle.polypar.specs.Answered.{PrintsArrays, PrintsPlan, PrintsFront, IsDeserved, NamesOf, GainsLine, NoneRose}
+use Rattle.polypar.specs.Answered.{HasRoomForText, Answered}
 
 -- an accepted input deserves Done
 accepted_is_done : (input : List ℕ) → Accepted input → DeservesInput input Done
@@ -58,45 +60,121 @@ long_input None limit long = (replicate (limit + 1) 0, tt, omega (arith, length-
 long_input (Some left) limit long = (left, refl, long)
 
 -- what the answer to an input says: the status is deserved, `out` is untouched, and no fault was counted
-record IsInputEnd (status : Status) (input : List ℕ) (out out_after : SinkShows) : Type 0 where
-  is_deserved : status ≢ WriteFault → status ≢ NoMemory → DeservesInput input status
+record IsInputEnd (command : Command) (status : Status) (input : List ℕ) (out out_after : SinkShows) : Type 0 where
+  is_deserved : status ≢ WriteFault → status ≢ NoMemory → DeservesFor command input status
   untouched : status ≢ Done → status ≢ WriteFault → out_after ≡ out
-  calm : ((accepted : Accepted input) → HasRoom out (asked_text accepted)) → out_after.faults ≡ out.faults
+  calm : ((text : List ℕ) → AsksFor command input text → HasRoom out text) → out_after.faults ≡ out.faults
 
-input_end : (status : Status) (input : List ℕ) (out out_after : SinkShows) → AnswersInput status input out out_after
-    → IsInputEnd status input out out_after
-input_end Done input out after answer = record {
-  is_deserved = λ _ _. accepted_is_done input answer.0;
+-- a status that is deserved, where `out` is untouched
+untouched_end : (command : Command) (status : Status) (input : List ℕ) (out out_after : SinkShows)
+    → DeservesFor command input status → out_after ≡ out → IsInputEnd command status input out out_after
+untouched_end command status input out after deserves same = record {
+  is_deserved = λ _ _. deserves;
+  untouched = λ _ _. same;
+  calm = λ room. ap (λ sink. sink.faults) same;
+}
+
+-- want of memory
+memory_end : (command : Command) (input : List ℕ) (out out_after : SinkShows) → out_after ≡ out
+    → IsInputEnd command NoMemory input out out_after
+memory_end command input out after same = record {
+  is_deserved = λ _ memory. absurd (memory refl);
+  untouched = λ _ _. same;
+  calm = λ room. ap (λ sink. sink.faults) same;
+}
+
+-- a text that is asked for was printed
+done_end : (command : Command) (input text : List ℕ) (out out_after : SinkShows) → DeservesFor command input Done
+    → AsksFor command input text → Takes out out_after text → IsInputEnd command Done input out out_after
+done_end command input text out after deserves asks takes = record {
+  is_deserved = λ _ _. deserves;
   untouched = λ done _. absurd (done refl);
-  calm = λ room. (answer.1.calm (room answer.0)).faults;
+  calm = λ room. (takes.calm (room text asks)).faults;
 }
-input_end Usage input out after answer = absurd answer
-input_end (Refused refusal) input out after answer = record {
-  is_deserved = λ _ _. answer.0;
-  untouched = λ _ _. answer.1;
-  calm = λ room. ap (λ sink. sink.faults) answer.1;
-}
-input_end (BadData refusal) input out after answer = record {
-  is_deserved = λ _ _. answer.0;
-  untouched = λ _ _. answer.1;
-  calm = λ room. ap (λ sink. sink.faults) answer.1;
-}
-input_end (Outside f) input out after answer = record {
-  is_deserved = λ _ _. answer.0;
-  untouched = λ _ _. answer.1;
-  calm = λ room. ap (λ sink. sink.faults) answer.1;
-}
-input_end ReadFault input out after answer = absurd answer
-input_end WriteFault input out after answer = record {
+
+-- or cut off
+cut_end : (command : Command) (input text : List ℕ) (out out_after : SinkShows) → AsksFor command input text
+    → CutsOff out out_after text → IsInputEnd command WriteFault input out out_after
+cut_end command input text out after asks cut = record {
   is_deserved = λ fault _. absurd (fault refl);
   untouched = λ _ fault. absurd (fault refl);
-  calm = λ room. absurd (answer.1.cause.full (room answer.0));
+  calm = λ room. absurd (cut.cause.full (room text asks));
 }
-input_end NoMemory input out after answer = record {
-  is_deserved = λ _ memory. absurd (memory refl);
-  untouched = λ _ _. answer;
-  calm = λ room. ap (λ sink. sink.faults) answer;
-}
+
+input_end : (status : Status) (input : List ℕ) (out out_after : SinkShows) → AnswersInput status input out out_after
+    → IsInputEnd Run status input out out_after
+input_end Done input out after answer =
+    done_end Run input (asked_text answer.0) out after (accepted_is_done input answer.0) (answer.0, refl) answer.1
+input_end Usage input out after answer = absurd answer
+input_end (Refused refusal) input out after answer = untouched_end Run (Refused refusal) input out after answer.0 answer.1
+input_end (BadData refusal) input out after answer = untouched_end Run (BadData refusal) input out after answer.0 answer.1
+input_end (Outside f) input out after answer = untouched_end Run (Outside f) input out after answer.0 answer.1
+input_end ReadFault input out after answer = absurd answer
+input_end WriteFault input out after answer =
+    cut_end Run input (asked_text answer.0) out after (answer.0, refl) answer.1
+input_end NoMemory input out after answer = memory_end Run input out after answer
+
+plan_end : (budget : ℕ) (status : Status) (input : List ℕ) (out out_after : SinkShows)
+    → AnswersPlan budget status input out out_after → IsInputEnd (Schedule budget) status input out out_after
+plan_end budget Done input out after answer =
+    done_end (Schedule budget) input answer.1 out after
+    (inl (answer.0.short, inl (answer.0.program, answer.0.spelled, refl))) (answer.0, answer.2) answer.3
+plan_end budget Usage input out after answer = absurd answer
+plan_end budget (Refused refusal) input out after answer =
+    untouched_end (Schedule budget) (Refused refusal) input out after answer.0 answer.1
+plan_end budget (BadData refusal) input out after answer = absurd answer
+plan_end budget (Outside f) input out after answer = absurd answer
+plan_end budget ReadFault input out after answer = absurd answer
+plan_end budget WriteFault input out after answer =
+    cut_end (Schedule budget) input answer.1 out after (answer.0, answer.2) answer.3
+plan_end budget NoMemory input out after answer = memory_end (Schedule budget) input out after answer
+
+command_end : (command : Command) (status : Status) (input : List ℕ) (out out_after : SinkShows)
+    → AnswersFor command status input out out_after → IsInputEnd command status input out out_after
+command_end Run status input out after answer = input_end status input out after answer
+command_end (Schedule budget) status input out after answer = plan_end budget status input out after answer
+
+-- what was printed at Done is asked for
+done_text : (command : Command) (input : List ℕ) (out out_after : SinkShows)
+    → AnswersFor command Done input out out_after
+    → (text : List ℕ) × AsksFor command input text × Takes out out_after text
+done_text Run input out after answer = (asked_text answer.0, (answer.0, refl), answer.1)
+done_text (Schedule budget) input out after answer = (answer.1, (answer.0, answer.2), answer.3)
+
+-- and at a write fault a front of what is asked for was
+cut_text : (command : Command) (input : List ℕ) (out out_after : SinkShows)
+    → AnswersFor command WriteFault input out out_after
+    → (text : List ℕ) × AsksFor command input text × CutsOff out out_after text
+cut_text Run input out after answer = (asked_text answer.0, (answer.0, refl), answer.1)
+cut_text (Schedule budget) input out after answer = (answer.1, (answer.0, answer.2), answer.3)
+
+-- an input is answered by no Usage and no read fault
+no_usage : (command : Command) (input : List ℕ) (out out_after : SinkShows)
+    → AnswersFor command Usage input out out_after → ⊥
+no_usage Run input out after answer = answer
+no_usage (Schedule budget) input out after answer = answer
+
+no_read_fault : (command : Command) (input : List ℕ) (out out_after : SinkShows)
+    → AnswersFor command ReadFault input out out_after → ⊥
+no_read_fault Run input out after answer = answer
+no_read_fault (Schedule budget) input out after answer = answer
+
+-- an input was read, and exactly a text that it asks the command for was printed
+abbrev PrintsFor : Command → Option (List ℕ) → Option (List ℕ) → Option (List ℕ) → Type 0
+PrintsFor command left old new =
+    (input : List ℕ) × (text : List ℕ) × IsAllOf left input × AsksFor command input text × Appends old new text
+
+prints_arrays : (command : Command) (left old new : Option (List ℕ)) → command ≡ Run → PrintsFor command left old new
+    → PrintsArrays left old new
+prints_arrays command left old new is printed =
+    let run = subst (λ c. PrintsFor c left old new) is printed in
+    (run.0, run.3.0, run.2, subst (λ text. Appends old new text) run.3.1 run.4)
+
+prints_plan : (budget : ℕ) (command : Command) (left old new : Option (List ℕ)) → command ≡ Schedule budget
+    → PrintsFor command left old new → PrintsPlan budget left old new
+prints_plan budget command left old new is printed =
+    let plan = subst (λ c. PrintsFor c left old new) is printed in
+    (plan.0, plan.3.0, plan.1, plan.2, plan.3.1, plan.4)
 
 -- the program of a kernel that is lent is the kernel's
 pub lent_program : (lent : Option (Bor Kernel)) (kernel : Option Kernel) → option_copied lent ≡ kernel
@@ -123,103 +201,119 @@ fault_or_not NoMemory = inl refl
 one_status : {P : Type 0} (status a b : Status) → status ≡ a → status ≡ b → (a ≡ b → ⊥) → P
 one_status status a b is_a is_b apart = absurd (apart (sym is_a ∙ is_b))
 
+-- where nothing was begun, the status is Usage or want of memory
+not_begun : {P Q : Type 0} (status known : Status) → ((status ≡ Usage) × Q) ⊎ (status ≡ NoMemory) → status ≡ known
+    → (Usage ≡ known → ⊥) → (NoMemory ≡ known → ⊥) → P
+not_begun status known (inl usage) is not_usage not_memory = one_status status Usage known usage.0 is not_usage
+not_begun status known (inr memory) is not_usage not_memory = one_status status NoMemory known memory is not_memory
+
 module _ (words : List (List ℕ)) (named : Option Program) (source source_after : SourceShows)
     (out out_after err mid after : SinkShows) where
   abbrev Ends : Status → Type 0
   Ends status = AnswersWords words status source source_after out out_after err mid
 
   -- the answer to an input, for a status that is known
-  answer_at : (status known : Status) (input : List ℕ) → status ≡ known → AnswersInput status input out out_after
-      → AnswersInput known input out out_after
-  answer_at status known input is answer = subst (λ s. AnswersInput s input out out_after) is answer
+  answer_at : (status known : Status) (input : List ℕ) → status ≡ known
+      → AnswersFor (command_of words) status input out out_after
+      → AnswersFor (command_of words) known input out out_after
+  answer_at status known input is answer =
+      subst (λ s. AnswersFor (command_of words) s input out out_after) is answer
 
   done : (status : Status) → Ends status → status ≡ Done
-      → Prints words source.left out.taken out_after.taken × IsAtEnd source_after.left
-  done status (inl none) is = one_status status Usage Done none.0.usage is (λ e. cc)
-  done status (inr (inl (command, inl read, quiet))) is =
-      let answer = answer_at status Done read.input is read.answer in
-      ((read.input, asked_text answer.0, read.whole, (command, answer.0, refl), answer.1.gained), read.at_end is)
-  done status (inr (inl (command, inr broken, quiet))) is = one_status status ReadFault Done broken.fault is (λ e. cc)
-  done status (inr (inr (command, unflushed))) is = one_status status WriteFault Done unflushed.fault is (λ e. cc)
+      → PrintsFor (command_of words) source.left out.taken out_after.taken × IsAtEnd source_after.left
+  done status (inl none) is = not_begun status Done none.0.usage is (λ e. cc) (λ e. cc)
+  done status (inr (taken, inl (inl read, quiet))) is =
+      let printed = done_text (command_of words) read.input out out_after
+      (answer_at status Done read.input is read.answer) in
+      ((read.input, printed.0, read.whole, printed.1, printed.2.gained), read.at_end is)
+  done status (inr (taken, inl (inr broken, quiet))) is = one_status status ReadFault Done broken.fault is (λ e. cc)
+  done status (inr (taken, inr unflushed)) is = one_status status WriteFault Done unflushed.fault is (λ e. cc)
 
-  usage : (status : Status) → Ends status → status ≡ Usage → (IsRunCommand words → ⊥) × (source_after ≡ source)
-  usage status (inl none) is = (none.0.none, none.0.unread)
-  usage status (inr (inl (command, inl read, quiet))) is = absurd (answer_at status Usage read.input is read.answer)
-  usage status (inr (inl (command, inr broken, quiet))) is = one_status status ReadFault Usage broken.fault is (λ e. cc)
-  usage status (inr (inr (command, unflushed))) is = one_status status WriteFault Usage unflushed.fault is (λ e. cc)
+  usage : (status : Status) → Ends status → status ≡ Usage → (IsTaken words → ⊥) × (source_after ≡ source)
+  usage status (inl none) is = (
+    elim none.0.usage [
+      | inl told ↦ told.1
+      | inr memory ↦ one_status status NoMemory Usage memory is (λ e. cc)
+    ],
+    none.0.unread,
+  )
+  usage status (inr (taken, inl (inl read, quiet))) is =
+      absurd (no_usage (command_of words) read.input out out_after (answer_at status Usage read.input is read.answer))
+  usage status (inr (taken, inl (inr broken, quiet))) is = one_status status ReadFault Usage broken.fault is (λ e. cc)
+  usage status (inr (taken, inr unflushed)) is = one_status status WriteFault Usage unflushed.fault is (λ e. cc)
 
-  no_command : (status : Status) → Ends status → (IsRunCommand words → ⊥) → status ≡ Usage
-  no_command status (inl none) stranger = none.0.usage
-  no_command status (inr (inl (command, run, quiet))) stranger = absurd (stranger command)
-  no_command status (inr (inr (command, unflushed))) stranger = absurd (stranger command)
+  stranger : (status : Status) → Ends status → (IsTaken words → ⊥) → (status ≡ Usage) ⊎ (status ≡ NoMemory)
+  stranger status (inl none) apart = elim none.0.usage [ inl told ↦ inl told.0 | inr memory ↦ inr memory ]
+  stranger status (inr answer) apart = absurd (apart answer.0)
 
   deserved : (status : Status) → Ends status → status ≢ ReadFault → status ≢ WriteFault → status ≢ NoMemory
       → IsDeserved words source.left status
   deserved status (inl none) read write memory =
-      let input = some_input source.left in (input.0, input.1, inr (none.0.none, none.0.usage))
-  deserved status (inr (inl (command, inl read_input, quiet))) read write memory = (
+      let input = some_input source.left in
+      elim none.0.usage [
+        | inl told ↦ (input.0, input.1, inr (told.1, told.0))
+        | inr no_memory ↦ absurd (memory no_memory)
+      ]
+  deserved status (inr (taken, inl (inl read_input, quiet))) read write memory = (
     read_input.input,
     read_input.whole,
-    inl
-        (command, (input_end status read_input.input out out_after read_input.answer).is_deserved write memory),
+    inl (
+      taken,
+      (command_end (command_of words) status read_input.input out out_after read_input.answer).is_deserved write memory,
+    ),
   )
-  deserved status (inr (inl (command, inr broken, quiet))) read write memory = absurd (read broken.fault)
-  deserved status (inr (inr (command, unflushed))) read write memory = absurd (write unflushed.fault)
+  deserved status (inr (taken, inl (inr broken, quiet))) read write memory = absurd (read broken.fault)
+  deserved status (inr (taken, inr unflushed)) read write memory = absurd (write unflushed.fault)
 
   read_fault : (status : Status) → Ends status → status ≡ ReadFault → Rose source.faults source_after.faults
-  read_fault status (inl none) is = one_status status Usage ReadFault none.0.usage is (λ e. cc)
-  read_fault status (inr (inl (command, inl read, quiet))) is =
-      absurd (answer_at status ReadFault read.input is read.answer)
-  read_fault status (inr (inl (command, inr broken, quiet))) is = broken.cause.rose
-  read_fault status (inr (inr (command, unflushed))) is =
+  read_fault status (inl none) is = not_begun status ReadFault none.0.usage is (λ e. cc) (λ e. cc)
+  read_fault status (inr (taken, inl (inl read, quiet))) is =
+      absurd (no_read_fault (command_of words) read.input out out_after
+      (answer_at status ReadFault read.input is read.answer))
+  read_fault status (inr (taken, inl (inr broken, quiet))) is = broken.cause.rose
+  read_fault status (inr (taken, inr unflushed)) is =
       one_status status WriteFault ReadFault unflushed.fault is (λ e. cc)
 
   -- a write fault has its cause before the line, and a front of the text was printed
   write_fault : (status : Status) → Ends status → status ≡ WriteFault
       → (Rose out.faults out_after.faults ⊎ Rose err.faults mid.faults)
       × PrintsFront words source.left out.taken out_after.taken
-  write_fault status (inl none) is = one_status status Usage WriteFault none.0.usage is (λ e. cc)
-  write_fault status (inr (inl (command, inl read, quiet))) is =
-      let answer = answer_at status WriteFault read.input is read.answer in (
-        inl answer.1.cause.rose,
-        (
-          read.input,
-          asked_text answer.0,
-          read.whole,
-          (command, answer.0, refl),
-          answer.1.gained,
-        ),
-      )
-  write_fault status (inr (inl (command, inr broken, quiet))) is =
+  write_fault status (inl none) is = not_begun status WriteFault none.0.usage is (λ e. cc) (λ e. cc)
+  write_fault status (inr (taken, inl (inl read, quiet))) is =
+      let cut = cut_text (command_of words) read.input out out_after
+      (answer_at status WriteFault read.input is read.answer) in
+      (inl cut.2.cause.rose, (read.input, cut.0, read.whole, (taken, cut.1), cut.2.gained))
+  write_fault status (inr (taken, inl (inr broken, quiet))) is =
       one_status status ReadFault WriteFault broken.fault is (λ e. cc)
-  write_fault status (inr (inr (command, unflushed))) is =
+  write_fault status (inr (taken, inr unflushed)) is =
       let rose = unflushed.failed.cause.rose in
       elim unflushed.printed [
-        | inl read ↦ (
-          inr rose,
-          (
-            read.input,
-            asked_text read.answer.0,
-            read.whole,
-            (command, read.answer.0, refl),
-            whole_is_front out.taken out_after.taken _ read.answer.1.gained,
-          ),
-        )
+        | inl read ↦
+            let printed = done_text (command_of words) read.input out out_after read.answer in (
+              inr rose,
+              (
+                read.input,
+                printed.0,
+                read.whole,
+                (taken, printed.1),
+                whole_is_front out.taken out_after.taken printed.0 printed.2.gained,
+              ),
+            )
         | inr broken ↦ one_status Done Done ReadFault refl broken.fault (λ e. cc)
       ]
 
   untouched : (status : Status) → Ends status → status ≢ Done → status ≢ WriteFault → out_after ≡ out
   untouched status (inl none) not_done write = none.0.untouched
-  untouched status (inr (inl (command, inl read, quiet))) not_done write =
-      (input_end status read.input out out_after read.answer).untouched not_done write
-  untouched status (inr (inl (command, inr broken, quiet))) not_done write = broken.untouched
-  untouched status (inr (inr (command, unflushed))) not_done write = absurd (write unflushed.fault)
+  untouched status (inr (taken, inl (inl read, quiet))) not_done write =
+      (command_end (command_of words) status read.input out out_after read.answer).untouched not_done write
+  untouched status (inr (taken, inl (inr broken, quiet))) not_done write = broken.untouched
+  untouched status (inr (taken, inr unflushed)) not_done write = absurd (write unflushed.fault)
 
   -- `err` was flushed, or failed to, before the line
   before_line : (status : Status) → Ends status → Takes err mid [] ⊎ FailsToTake err mid []
   before_line status (inl none) = inl none.1
-  before_line status (inr (inl (command, run, quiet))) = inl quiet
-  before_line status (inr (inr (command, unflushed))) = inr unflushed.failed
+  before_line status (inr (taken, inl (answer, quiet))) = inl quiet
+  before_line status (inr (taken, inr unflushed)) = inr unflushed.failed
 
   line_later : (status : Status) → TellsStatus named status mid after → mid.faults ≤ after.faults
   line_later status (inl told) = told.later
@@ -248,11 +342,11 @@ module _ (words : List (List ℕ)) (named : Option Program) (source source_after
   out_calm : (status : Status) → Ends status → IsSteady source → HasRoomForText words source.left out → HasRoom err []
       → out_after.faults ≡ out.faults
   out_calm status (inl none) steady room line = ap (λ sink. sink.faults) none.0.untouched
-  out_calm status (inr (inl (command, inl read, quiet))) steady room line =
-      (input_end status read.input out out_after read.answer).calm
-      (λ a. room read.input (asked_text a) read.whole (command, a, refl))
-  out_calm status (inr (inl (command, inr broken, quiet))) steady room line = absurd (broken.cause.unsteady steady)
-  out_calm status (inr (inr (command, unflushed))) steady room line = absurd (unflushed.failed.cause.full line)
+  out_calm status (inr (taken, inl (inl read, quiet))) steady room line =
+      (command_end (command_of words) status read.input out out_after read.answer).calm
+      (λ text asks. room read.input text read.whole (taken, asks))
+  out_calm status (inr (taken, inl (inr broken, quiet))) steady room line = absurd (broken.cause.unsteady steady)
+  out_calm status (inr (taken, inr unflushed)) steady room line = absurd (unflushed.failed.cause.full line)
 
   err_calm : (status : Status) → Takes err mid [] ⊎ FailsToTake err mid [] → TellsStatus named status mid after
       → HasRoom err (status_text named status) → after.faults ≡ err.faults
@@ -296,13 +390,14 @@ answered law words status named source source_after out out_after err mid after 
     let fault = write_fault words named source source_after out out_after err mid after status ends in
     let later = line_later words named source source_after out out_after err mid after status told in
     record {
-      done = λ is. (done words named source source_after out out_after err mid after status ends is).0;
+      done = λ run is. prints_arrays (command_of words) source.left out.taken out_after.taken run.1
+          (done words named source source_after out out_after err mid after status ends is).0;
+      scheduled = λ budget plan is.
+          prints_plan budget (command_of words) source.left out.taken out_after.taken plan.1
+          (done words named source source_after out out_after err mid after status ends is).0;
       read_whole = λ is. (done words named source source_after out out_after err mid after status ends is).1;
-      usage = (
-        λ is. (usage words named source source_after out out_after err mid after status ends is).0,
-        no_command
-            words named source source_after out out_after err mid after status ends,
-      );
+      usage = λ is. (usage words named source source_after out out_after err mid after status ends is).0;
+      stranger = stranger words named source source_after out out_after err mid after status ends;
       unread = λ is. (usage words named source source_after out out_after err mid after status ends is).1;
       deserved = deserved words named source source_after out out_after err mid after status ends;
       read_fault = read_fault words named source source_after out out_after err mid after status ends;

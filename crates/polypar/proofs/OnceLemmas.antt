@@ -15,7 +15,11 @@ use Rattle.data_text.specs.Cases.{Says, data_said}
 use Rattle.report_text.specs.declared.status.Status.{Status}
 use Rattle.report_text.specs.declared.status.Status.TheVariants.{Outside, Refused, BadData}
 use Rattle.polypar.specs.Cut.{kernel_part, data_part}
-use Rattle.polypar.specs.Deserves.{DeservesCase, DeservesData, DeservesText, DeservesInput, Deserves}
+use Rattle.polypar.specs.declared.command.Command.{Command}
+use Rattle.polypar.specs.declared.command.Command.TheVariants.{Run, Schedule}
+use Rattle.polypar.specs.Command.{command_of}
+use Rattle.polypar.specs.Deserves.{DeservesCase, DeservesData, DeservesText, DeservesInput, DeservesKernel}
+use Rattle.polypar.specs.Deserves.{DeservesPlan, DeservesFor, Deserves}
 
 -- the laws of failures, of texts and of data on which this stands
 pub record Laws : Type 0 where
@@ -75,10 +79,27 @@ input_once laws input a b (inl x) (inr y) = let short : length input ≤ 2 ^ 27 
 input_once laws input a b (inr x) (inl y) = let short : length input ≤ 2 ^ 27 = y.0 in absurd (omega (arith, x.0))
 input_once laws input a b (inr x) (inr y) = x.1 ∙ sym y.1
 
+kernel_once : Laws → (kernel : List ℕ) (a b : Status) → DeservesKernel kernel a → DeservesKernel kernel b → a ≡ b
+kernel_once laws kernel a b (inl x) (inl y) = x.2 ∙ sym y.2
+kernel_once laws kernel a b (inl x) (inr y) = absurd (laws.fault kernel y.0.kind y.1.at x.0 y.1.fault x.1)
+kernel_once laws kernel a b (inr x) (inl y) = absurd (laws.fault kernel x.0.kind x.1.at y.0 x.1.fault y.1)
+kernel_once laws kernel a b (inr x) (inr y) = x.2 ∙ (ap Refused (laws.refusal kernel x.0 y.0 x.1 y.1) ∙ sym y.2)
+
+plan_once : Laws → (input : List ℕ) (a b : Status) → DeservesPlan input a → DeservesPlan input b → a ≡ b
+plan_once laws input a b (inl x) (inl y) = kernel_once laws (kernel_part input) a b x.1 y.1
+plan_once laws input a b (inl x) (inr y) = let short : length input ≤ 2 ^ 27 = x.0 in absurd (omega (arith, y.0))
+plan_once laws input a b (inr x) (inl y) = let short : length input ≤ 2 ^ 27 = y.0 in absurd (omega (arith, x.0))
+plan_once laws input a b (inr x) (inr y) = x.1 ∙ sym y.1
+
+command_once : Laws → (command : Command) (input : List ℕ) (a b : Status) → DeservesFor command input a
+    → DeservesFor command input b → a ≡ b
+command_once laws Run input a b x y = input_once laws input a b x y
+command_once laws (Schedule budget) input a b x y = plan_once laws input a b x y
+
 -- words and an input deserve one status
 pub words_once : Laws → (words : List (List ℕ)) (input : List ℕ) (a b : Status) → Deserves words input a
     → Deserves words input b → a ≡ b
-words_once laws words input a b (inl x) (inl y) = input_once laws input a b x.1 y.1
+words_once laws words input a b (inl x) (inl y) = command_once laws (command_of words) input a b x.1 y.1
 words_once laws words input a b (inl x) (inr y) = absurd (y.0 x.0)
 words_once laws words input a b (inr x) (inl y) = absurd (x.0 y.0)
 words_once laws words input a b (inr x) (inr y) = x.1 ∙ sym y.1

@@ -1,15 +1,20 @@
 -- From what a status says of a kernel's data to what it says of the whole input.
-use Rattle.std.proofs.Common.{◌≡◌, subst, inl, ℕ, ℤ, List}
+use Rattle.std.proofs.Common.{◌≡◌, subst, refl, inl, inr, ℕ, ◌^◌, ◌<◌, ℤ, List, length}
 use Rattle.io_ports.specs.Writes.{SinkShows}
 use Rattle.scop_syntax.specs.Tree.{Program}
-use Rattle.scop_parser.specs.Spelling.{SpellsProgram}
+use Rattle.scop_parser.specs.Spelling.{SpellsProgram, IsRefusedAs}
+use Rattle.scop_parser.specs.declared.refusal.Refusal.{Refusal}
 use Rattle.data_text.specs.Cases.{Says}
 use Rattle.report_text.specs.declared.status.Status.{Status}
 use Rattle.report_text.specs.declared.status.Status.TheVariants.{Done, Usage, Refused, BadData, Outside, ReadFault}
 use Rattle.report_text.specs.declared.status.Status.TheVariants.{WriteFault, NoMemory}
 use Rattle.polypar.specs.Cut.{kernel_part, data_part}
 use Rattle.polypar.specs.Case.{IsShort}
-use Rattle.polypar.specs.Answers.{AnswersCase, AnswersData, AnswersInput}
+use Rattle.polypar.specs.Deserves.{too_long}
+use Rattle.polypar.specs.declared.command.Command.{Command}
+use Rattle.polypar.specs.declared.command.Command.TheVariants.{Run, Schedule}
+use Rattle.polypar.specs.Answers.{AnswersCase, AnswersData, AnswersInput, AnswersProgram, AnswersPlan}
+use Rattle.polypar.specs.Answers.{AnswersKernel, AnswersFor}
 
 -- the answer to a case that the data says is the answer to the data
 pub data_answers : (status : Status) (program : Program) (text : List ℕ) (params : List ℤ) (contents : List (List ℕ))
@@ -62,10 +67,56 @@ input_answers_of WriteFault input program old new short spelled answer = (
 )
 input_answers_of NoMemory input program old new short spelled answer = answer
 
+-- the answer to a program is the answer to an input that spells it
+plan_answers_of : (budget : ℕ) (status : Status) (input : List ℕ) (program : Program) (old new : SinkShows)
+    → IsShort input → SpellsProgram (kernel_part input) program
+    → AnswersProgram budget status program old new → AnswersPlan budget status input old new
+plan_answers_of budget Done input program old new short spelled answer =
+    (record { short = short; program = program; spelled = spelled }, answer.0, answer.1, answer.2)
+plan_answers_of budget Usage input program old new short spelled answer = absurd answer
+plan_answers_of budget (Refused refusal) input program old new short spelled answer = absurd answer
+plan_answers_of budget (BadData refusal) input program old new short spelled answer = absurd answer
+plan_answers_of budget (Outside f) input program old new short spelled answer = absurd answer
+plan_answers_of budget ReadFault input program old new short spelled answer = absurd answer
+plan_answers_of budget WriteFault input program old new short spelled answer =
+    (record { short = short; program = program; spelled = spelled }, answer.0, answer.1, answer.2)
+plan_answers_of budget NoMemory input program old new short spelled answer = answer
+
+-- of a command
+command_answers_of : (command : Command) (status : Status) (input : List ℕ) (program : Program) (old new : SinkShows)
+    → IsShort input → SpellsProgram (kernel_part input) program
+    → AnswersKernel command status program (data_part input) old new → AnswersFor command status input old new
+command_answers_of Run status input program old new short spelled answer =
+    input_answers_of status input program old new short spelled answer
+command_answers_of (Schedule budget) status input program old new short spelled answer =
+    plan_answers_of budget status input program old new short spelled answer
+
 -- the same of the parts that were cut off the input
-pub input_answers : (status : Status) (input kernel text : List ℕ) (program : Program) (old new : SinkShows)
+pub command_answers : (command : Command) (status : Status) (input kernel text : List ℕ) (program : Program)
+    (old new : SinkShows)
     → IsShort input → kernel ≡ kernel_part input → text ≡ data_part input
-    → SpellsProgram kernel program → AnswersData status program text old new → AnswersInput status input old new
-input_answers status input kernel text program old new short front back spelled answer =
-    input_answers_of status input program old new short (subst (λ t. SpellsProgram t program) front spelled)
-    (subst (λ t. AnswersData status program t old new) back answer)
+    → SpellsProgram kernel program → AnswersKernel command status program text old new
+    → AnswersFor command status input old new
+command_answers command status input kernel text program old new short front back spelled answer =
+    command_answers_of command status input program old new short (subst (λ t. SpellsProgram t program) front spelled)
+    (subst (λ t. AnswersKernel command status program t old new) back answer)
+
+-- an input that is too long is refused
+pub long_answers : (command : Command) (input : List ℕ) (out : SinkShows) → 2 ^ 27 < length input
+    → AnswersFor command too_long input out out
+long_answers Run input out long = (inr (long, refl), refl)
+long_answers (Schedule budget) input out long = (inr (long, refl), refl)
+
+-- a text that is refused
+pub refused_answers : (command : Command) (input kernel : List ℕ) (refusal : Refusal) (out : SinkShows)
+    → IsShort input → kernel ≡ kernel_part input → IsRefusedAs kernel refusal
+    → AnswersFor command (Refused refusal) input out out
+refused_answers Run input kernel refusal out short front refused =
+    (inl (short, inr (refusal, subst (λ t. IsRefusedAs t refusal) front refused, refl)), refl)
+refused_answers (Schedule budget) input kernel refusal out short front refused =
+    (inl (short, inr (refusal, subst (λ t. IsRefusedAs t refusal) front refused, refl)), refl)
+
+-- want of memory
+pub memory_answers : (command : Command) (input : List ℕ) (out : SinkShows) → AnswersFor command NoMemory input out out
+memory_answers Run input out = refl
+memory_answers (Schedule budget) input out = refl

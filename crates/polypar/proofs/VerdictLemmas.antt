@@ -1,10 +1,7 @@
 -- Each check in the order of work has an outcome, so words and an input deserve a status.
-use Rattle.std.proofs.Common.{◌≡◌, ◌⊎◌, refl, inl, inr, ℕ, ◌==◌, ◌^◌, ltb, Bool, true, false, ℤ, List, []}
-use Rattle.std.proofs.Common.{length, Option, None, Some, get_or, ltb-true, ltb-false}
-use Rattle.std.proofs.lemmas.Bool.{eqb-false, eqb-true}
-use Rattle.std.proofs.lemmas.Slice.Eq.{bytes_eq-Decides}
-use Rattle.std.specs.Prelude.{Err, take, codes}
-use Rattle.std.specs.Str.{bytes_eq}
+use Rattle.std.proofs.Common.{◌≡◌, ◌⊎◌, ◌∙◌, sym, refl, inl, inr, ℕ, ◌^◌, ltb, Bool, true, false, ℤ, List, [], ◌∷◌}
+use Rattle.std.proofs.Common.{length, Option, None, Some, ltb-true, ltb-false}
+use Rattle.std.specs.Prelude.{Err, take}
 use Rattle.scop_lexer.specs.Lines.{line_behind, column_behind}
 use Rattle.scop_syntax.specs.Tree.{Program}
 use Rattle.scop_syntax.specs.Walk.{Visit, walk_of}
@@ -21,10 +18,14 @@ use Rattle.data_text.specs.Cases.{Said, Says, data_said}
 use Rattle.data_text.specs.Described.{Describes}
 use Rattle.report_text.specs.declared.status.Status.{Status}
 use Rattle.report_text.specs.declared.status.Status.TheVariants.{Done, Usage, Outside, Refused, BadData}
-use Rattle.polypar.specs.Command.{IsRunCommand}
+use Rattle.clap.specs.Words.{fault_of}
+use Rattle.clap.specs.Kinds.{Kinds}
+use Rattle.polypar.specs.declared.command.Command.{Command}
+use Rattle.polypar.specs.declared.command.Command.TheVariants.{Run, Schedule}
+use Rattle.polypar.specs.Command.{tool, IsTaken, command_of}
 use Rattle.polypar.specs.Cut.{kernel_part, data_part}
-use Rattle.polypar.specs.Deserves.{DeservesCase, DeservesData, DeservesText, DeservesInput, Deserves, IsVerdict}
-use Rattle.polypar.specs.Deserves.{too_long}
+use Rattle.polypar.specs.Deserves.{DeservesCase, DeservesData, DeservesText, DeservesInput, DeservesKernel}
+use Rattle.polypar.specs.Deserves.{DeservesPlan, DeservesFor, Deserves, IsVerdict, too_long}
 
 -- the laws of texts, of data and of failures on which this stands
 pub record Laws : Type 0 where
@@ -81,22 +82,41 @@ input_deserves laws input false is =
     let rest = text_deserves laws (kernel_part input) (data_part input) (laws.text (kernel_part input)) in
     (rest.0, rest.1, inl (ltb-false (2 ^ 27) (length input) is, rest.2))
 
--- words are a command, or none
-run_or_not : (words : List (List ℕ)) (two run : Bool) → (length words == 2) ≡ two
-    → bytes_eq (get_or words 1 []) (codes "run") ≡ run → IsRunCommand words ⊎ (IsRunCommand words → ⊥)
-run_or_not words true true count second =
-    inl (eqb-true (length words) 2 count, (bytes_eq-Decides (get_or words 1 []) (codes "run")).0 second)
-run_or_not words true false count second =
-    inr (λ command. let is = (bytes_eq-Decides (get_or words 1 []) (codes "run")).1 command.1 in cc)
-run_or_not words false run count second = inr (λ command. eqb-false (length words) 2 count command.0)
+kernel_deserves : (kernel : List ℕ) → ((p : Program) × SpellsProgram kernel p)
+    ⊎ ((kind : RefusalKind) × (at : ℕ) × IsFirstFault kernel kind at) → HasVerdict (DeservesKernel kernel)
+kernel_deserves kernel (inl spelled) = (Done, tt, inl (spelled.0, spelled.1, refl))
+kernel_deserves kernel (inr fault) =
+    let refusal : Refusal = record {
+      kind = fault.0;
+      line = line_behind (take fault.1 kernel);
+      column = column_behind (take fault.1 kernel);
+    } in
+    (Refused refusal, tt, inr (refusal, record { at = fault.1; fault = fault.2; line = refl; column = refl }, refl))
 
-words_by : Laws → (words : List (List ℕ)) (input : List ℕ) → IsRunCommand words ⊎ (IsRunCommand words → ⊥)
+plan_deserves : Laws → (input : List ℕ) (long : Bool) → ltb (2 ^ 27) (length input) ≡ long
+    → HasVerdict (DeservesPlan input)
+plan_deserves laws input true is = (too_long, tt, inr (ltb-true (2 ^ 27) (length input) is, refl))
+plan_deserves laws input false is =
+    let rest = kernel_deserves (kernel_part input) (laws.text (kernel_part input)) in
+    (rest.0, rest.1, inl (ltb-false (2 ^ 27) (length input) is, rest.2))
+
+command_deserves : Laws → (command : Command) (input : List ℕ) → HasVerdict (DeservesFor command input)
+command_deserves laws Run input = input_deserves laws input _ refl
+command_deserves laws (Schedule budget) input = plan_deserves laws input _ refl
+
+-- words are taken, or not
+taken_or_not : (words : List (List ℕ)) (faults : Kinds) → fault_of tool words ≡ faults
+    → IsTaken words ⊎ (IsTaken words → ⊥)
+taken_or_not words [] is = inl is
+taken_or_not words (k ∷ ks) is = inr (λ taken. let both = sym is ∙ taken in cc)
+
+words_by : Laws → (words : List (List ℕ)) (input : List ℕ) → IsTaken words ⊎ (IsTaken words → ⊥)
     → HasVerdict (Deserves words input)
-words_by laws words input (inl command) =
-    let rest = input_deserves laws input _ refl in (rest.0, rest.1, inl (command, rest.2))
+words_by laws words input (inl taken) =
+    let rest = command_deserves laws (command_of words) input in (rest.0, rest.1, inl (taken, rest.2))
 words_by laws words input (inr none) = (Usage, tt, inr (none, refl))
 
 -- words and an input deserve a status that is no fault and no want of memory
 pub words_deserve : Laws → (words : List (List ℕ)) (input : List ℕ)
     → (status : Status) × IsVerdict status × Deserves words input status
-words_deserve laws words input = words_by laws words input (run_or_not words _ _ refl refl)
+words_deserve laws words input = words_by laws words input (taken_or_not words _ refl)

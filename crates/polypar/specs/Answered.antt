@@ -1,5 +1,5 @@
 -- What a call of the program promises, from the words and from what the source and the sinks show before and after it.
-use Rattle.std.specs.Prelude.{◌≡◌, ◌≢◌, ◌⊎◌, ◌↔◌, ℕ, ◌≤◌, List, Option, Some, None, ⊤}
+use Rattle.std.specs.Prelude.{◌≡◌, ◌≢◌, ◌⊎◌, ℕ, ◌≤◌, List, Option, Some, None, ⊤}
 use Rattle.std.specs.Io.KnownBytes.{Appends, IsAtEnd}
 use Rattle.io_ports.specs.Faults.{Rose}
 use Rattle.io_ports.specs.Bytes.{IsAllOf, GainsFront}
@@ -9,17 +9,26 @@ use Rattle.report_text.specs.declared.status.Status.{Status}
 use Rattle.report_text.specs.declared.status.Status.TheVariants.{Done, Usage, BadData, ReadFault, WriteFault, NoMemory}
 use Rattle.scop_syntax.specs.Tree.{Program}
 use Rattle.scop_parser.specs.Spelling.{SpellsProgram}
-use Rattle.polypar.specs.Command.{IsRunCommand}
+use Rattle.polypar.specs.Case.{Accepted, asked_text, Spelled}
+use Rattle.polypar.specs.Planning.{IsPlanText}
+use Rattle.polypar.specs.Command.{IsTaken, IsRunCommand, IsScheduleCommand}
 use Rattle.polypar.specs.Cut.{kernel_part}
 use Rattle.polypar.specs.Deserves.{Deserves, Asks}
 use Rattle.report_text.specs.StatusText.{status_text}
 
--- exactly the text that the words and the input ask for was printed
-abbrev pub Prints : List (List ℕ) → Option (List ℕ) → Option (List ℕ) → Option (List ℕ) → Type 0
-Prints words left old new = (input : List ℕ) × (text : List ℕ) × IsAllOf left input × Asks words input text
-    × Appends old new text
+-- an accepted input was read, and exactly the text of the arrays that it asks for was printed
+abbrev pub PrintsArrays : Option (List ℕ) → Option (List ℕ) → Option (List ℕ) → Type 0
+PrintsArrays left old new =
+    (input : List ℕ) × (accepted : Accepted input) × IsAllOf left input × Appends old new (asked_text accepted)
 
--- a front of it was printed
+-- an input that spells a kernel was read, and exactly the text of its schedule was printed, or the kept line of a cause
+-- that holds
+abbrev pub PrintsPlan : ℕ → Option (List ℕ) → Option (List ℕ) → Option (List ℕ) → Type 0
+PrintsPlan budget left old new =
+    (input : List ℕ) × (kernel : Spelled input) × (text : List ℕ) × IsAllOf left input
+    × IsPlanText budget kernel.program text × Appends old new text
+
+-- a front of the text that the words and the input ask for was printed
 abbrev pub PrintsFront : List (List ℕ) → Option (List ℕ) → Option (List ℕ) → Option (List ℕ) → Type 0
 PrintsFront words left old new = (input : List ℕ) × (text : List ℕ) × IsAllOf left input × Asks words input text
     × GainsFront old new text
@@ -71,11 +80,15 @@ HasRoomForLine left status err = (named : Option Program) → NamesOf left statu
 -- what a call promises: the headline, each status and its cause, and what the source and the sinks show afterwards
 pub record Answered (words : List (List ℕ)) (status : Status) (source source_after : SourceShows)
     (out out_after err err_after : SinkShows) : Type 0 where
-  -- the headline: exactly the arrays of the kernel's own sequential execution are printed, and the input was read whole
-  pub done : status ≡ Done → Prints words source.left out.taken out_after.taken
+  -- the headline: of `run` exactly the arrays of the kernel's own sequential execution are printed, of `schedule` the
+  -- schedule of the determined run over the kernel's conflicts, or why its order is kept; and the input was read whole
+  pub done : IsRunCommand words → status ≡ Done → PrintsArrays source.left out.taken out_after.taken
+  pub scheduled : (budget : ℕ) → IsScheduleCommand budget words → status ≡ Done
+      → PrintsPlan budget source.left out.taken out_after.taken
   pub read_whole : status ≡ Done → IsAtEnd source_after.left
-  -- each status and its cause
-  pub usage : (status ≡ Usage) ↔ (IsRunCommand words → ⊥)
+  -- each status and its cause; want of memory may come over words too
+  pub usage : status ≡ Usage → IsTaken words → ⊥
+  pub stranger : (IsTaken words → ⊥) → (status ≡ Usage) ⊎ (status ≡ NoMemory)
   pub unread : status ≡ Usage → source_after ≡ source
   pub deserved : status ≢ ReadFault → status ≢ WriteFault → status ≢ NoMemory → IsDeserved words source.left status
   pub read_fault : status ≡ ReadFault → Rose source.faults source_after.faults

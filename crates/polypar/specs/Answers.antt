@@ -10,10 +10,13 @@ use Rattle.scop_syntax.specs.Execution.{IsInside}
 use Rattle.report_text.specs.declared.status.Status.{Status}
 use Rattle.report_text.specs.declared.status.Status.TheVariants.{Done, Usage, Refused, BadData, Outside, ReadFault}
 use Rattle.report_text.specs.declared.status.Status.TheVariants.{WriteFault, NoMemory}
-use Rattle.polypar.specs.Command.{IsRunCommand}
+use Rattle.polypar.specs.declared.command.Command.{Command}
+use Rattle.polypar.specs.declared.command.Command.TheVariants.{Run, Schedule}
+use Rattle.polypar.specs.Command.{IsTaken, command_of}
 use Rattle.data_text.specs.Cases.{Says}
-use Rattle.polypar.specs.Case.{Accepted, final_text, asked_text}
-use Rattle.polypar.specs.Deserves.{DeservesCase, DeservesData, DeservesInput}
+use Rattle.polypar.specs.Case.{Accepted, final_text, asked_text, Spelled}
+use Rattle.polypar.specs.Planning.{IsPlanText}
+use Rattle.polypar.specs.Deserves.{DeservesCase, DeservesData, DeservesInput, DeservesPlan}
 use Rattle.report_text.specs.StatusText.{status_text}
 
 -- of a case of a program, and of `out`
@@ -48,16 +51,45 @@ AnswersInput (Outside f) input old new = DeservesInput input (Outside f) × (new
 AnswersInput NoMemory input old new = new ≡ old
 AnswersInput _ input old new = ⊥
 
+-- of a program whose schedule is asked for with this budget, and of `out`
+abbrev pub AnswersProgram : ℕ → Status → Program → SinkShows → SinkShows → Type 0
+AnswersProgram budget Done program old new = (text : List ℕ) × IsPlanText budget program text × Takes old new text
+AnswersProgram budget WriteFault program old new =
+    (text : List ℕ) × IsPlanText budget program text × CutsOff old new text
+AnswersProgram budget NoMemory program old new = new ≡ old
+AnswersProgram budget _ program old new = ⊥
+
+-- of a program, its data and a command, and of `out`
+abbrev pub AnswersKernel : Command → Status → Program → List ℕ → SinkShows → SinkShows → Type 0
+AnswersKernel Run status program text old new = AnswersData status program text old new
+AnswersKernel (Schedule budget) status program text old new = AnswersProgram budget status program old new
+
+-- of an input whose kernel's schedule is asked for, and of `out`
+abbrev pub AnswersPlan : ℕ → Status → List ℕ → SinkShows → SinkShows → Type 0
+AnswersPlan budget Done input old new =
+    (kernel : Spelled input) × (text : List ℕ) × IsPlanText budget kernel.program text × Takes old new text
+AnswersPlan budget WriteFault input old new =
+    (kernel : Spelled input) × (text : List ℕ) × IsPlanText budget kernel.program text × CutsOff old new text
+AnswersPlan budget (Refused refusal) input old new = DeservesPlan input (Refused refusal) × (new ≡ old)
+AnswersPlan budget NoMemory input old new = new ≡ old
+AnswersPlan budget _ input old new = ⊥
+
+-- of an input that a command was given, and of `out`
+abbrev pub AnswersFor : Command → Status → List ℕ → SinkShows → SinkShows → Type 0
+AnswersFor Run status input old new = AnswersInput status input old new
+AnswersFor (Schedule budget) status input old new = AnswersPlan budget status input old new
+
 -- the source was read, to its end or not; a steady one counted no fault
 pub record IsReadOn (old new : SourceShows) : Type 0 where
   pub later : old.faults ≤ new.faults
   pub steady : IsSteady old → new.faults ≡ old.faults
 
 -- the input was read, and answered
-pub record ReadsInput (status : Status) (source source_after : SourceShows) (out out_after : SinkShows) : Type 0 where
+pub record ReadsInput (command : Command) (status : Status) (source source_after : SourceShows)
+    (out out_after : SinkShows) : Type 0 where
   pub input : List ℕ
   pub whole : IsAllOf source.left input
-  pub answer : AnswersInput status input out out_after
+  pub answer : AnswersFor command status input out out_after
   pub at_end : status ≡ Done → IsAtEnd source_after.left
 
 -- the source failed
@@ -66,33 +98,38 @@ pub record IsBroken (status : Status) (source source_after : SourceShows) (out o
   pub cause : IsReadFault source source_after
   pub untouched : out_after ≡ out
 
--- of the command `run`
-abbrev pub AnswersRun : Status → SourceShows → SourceShows → SinkShows → SinkShows → Type 0
-AnswersRun status source source_after out out_after =
-    ReadsInput status source source_after out out_after ⊎ IsBroken status source source_after out out_after
+-- of a command
+abbrev pub AnswersCommand : Command → Status → SourceShows → SourceShows → SinkShows → SinkShows → Type 0
+AnswersCommand command status source source_after out out_after =
+    ReadsInput command status source source_after out out_after ⊎ IsBroken status source source_after out out_after
 
--- the words are no command, and nothing was done
+-- the words were not taken, or memory ran out over them, and nothing was done
 pub record IsNoCommand (words : List (List ℕ)) (status : Status) (source source_after : SourceShows)
     (out out_after : SinkShows) : Type 0 where
-  pub usage : status ≡ Usage
-  pub none : IsRunCommand words → ⊥
+  pub usage : ((status ≡ Usage) × (IsTaken words → ⊥)) ⊎ (status ≡ NoMemory)
   pub unread : source_after ≡ source
   pub untouched : out_after ≡ out
 
 -- all was printed, and then the error stream could not be flushed
-pub record IsUnflushed (status : Status) (source source_after : SourceShows) (out out_after err err_after : SinkShows) :
-    Type 0 where
+pub record IsUnflushed (command : Command) (status : Status) (source source_after : SourceShows)
+    (out out_after err err_after : SinkShows) : Type 0 where
   pub fault : status ≡ WriteFault
-  pub printed : AnswersRun Done source source_after out out_after
+  pub printed : AnswersCommand command Done source source_after out out_after
   pub failed : FailsToTake err err_after []
 
--- of all of a command but the line that tells its status: `err` has gained nothing by then
+-- of a command, and of `err` too: it has gained nothing
+abbrev pub AnswersTaken : Command → Status → SourceShows → SourceShows → SinkShows → SinkShows → SinkShows → SinkShows
+    → Type 0
+AnswersTaken command status source source_after out out_after err err_after =
+    (AnswersCommand command status source source_after out out_after × Takes err err_after [])
+    ⊎ IsUnflushed command status source source_after out out_after err err_after
+
+-- of all of a call but the line that tells its status: `err` has gained nothing by then
 abbrev pub AnswersWords : List (List ℕ) → Status → SourceShows → SourceShows → SinkShows → SinkShows → SinkShows
     → SinkShows → Type 0
 AnswersWords words status source source_after out out_after err err_after =
     (IsNoCommand words status source source_after out out_after × Takes err err_after [])
-    ⊎ ((IsRunCommand words × AnswersRun status source source_after out out_after × Takes err err_after [])
-    ⊎ (IsRunCommand words × IsUnflushed status source source_after out out_after err err_after))
+    ⊎ (IsTaken words × AnswersTaken (command_of words) status source source_after out out_after err err_after)
 
 -- of the line, with the names of the program that was read: it was written, or cut off
 abbrev pub TellsStatus : Option Program → Status → SinkShows → SinkShows → Type 0

@@ -1,4 +1,4 @@
--- What an input says, and what `run` prints of it.
+-- What an input says, and what `run` and `schedule` print of it.
 use Rattle.std.specs.Prelude.{ℕ, ◌^◌, ◌≤◌, ℤ, List, length}
 use Rattle.scop_syntax.specs.Tree.{Program}
 use Rattle.scop_syntax.specs.Execution.{exec, IsInside}
@@ -29,3 +29,9 @@ final_text program params contents = array_text program (exec program params con
 -- the text that an accepted input asks for
 abbrev pub asked_text : {input : List ℕ} → Accepted input → List ℕ
 asked_text accepted = final_text accepted.program accepted.params accepted.contents
+
+-- an input whose text before its first line `%%` spells the program; what stands behind that line is not looked at
+pub record Spelled (input : List ℕ) : Type 0 where
+  pub short : IsShort input
+  pub program : Program
+  pub spelled : SpellsProgram (kernel_part input) program

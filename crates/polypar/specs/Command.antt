@@ -1,7 +1,71 @@
--- The command lines that the program takes.
-use Rattle.std.specs.Prelude.{◌≡◌, ℕ, List, [], length, codes}
-use Rattle.std.specs.List.{slice_index_or}
+-- The command lines that the program takes: those of the stated command, as `clap` reads them.
+use Rattle.std.specs.Prelude.{◌≡◌, ℕ, true, List, [], codes, Option, Some, if◌then◌else◌}
+use Rattle.std.specs.Option.{option_map_or}
+use Rattle.std.specs.Str.{bytes_eq}
+use Rattle.std.specs.Str.Parse.{digits_value, without_leading_plus}
+use Rattle.clap.specs.Words.{App, Rule, Row, Text, new_app, new_rule, with_rule, with_subcommand, fault_of}
+use Rattle.clap.specs.Words.{subcommand_of, one_of}
+use Rattle.clap.specs.Simple.{on_top}
+use Rattle.clap.specs.ValueTests.{is_unsigned_in}
+use Rattle.clap.specs.declared.builder.action.ArgAction.TheVariants.{Set}
+use Rattle.clap.specs.declared.builder.value_parser.ValueParser.TheVariants as parser
+use Rattle.polypar.specs.declared.command.Command.{Command}
+use Rattle.polypar.specs.declared.command.Command.TheVariants.{Run, Schedule}
 
--- two words, of which the second is `run`; the first is the program's name
-abbrev pub IsRunCommand : List (List ℕ) → Type 0
-IsRunCommand words = (length words ≡ 2) × (slice_index_or words 1 [] ≡ codes "run")
+-- `--budget B`, a number from 1 to 20,000
+abbrev pub budget_option : Rule
+budget_option =
+    record (new_rule (codes "budget")) {
+      long = Some (codes "budget");
+      action = Some Set;
+      parser = Some (parser.Unsigned 1 20000);
+    }
+
+-- `polypar`, which wants one of its commands
+abbrev pub bare_tool : App
+bare_tool = on_top (λ top. record top { subcommand_required = true }) (new_app (codes "polypar"))
+
+-- `schedule [--budget B]`
+abbrev pub schedule_tool : App
+schedule_tool = with_rule (new_app (codes "schedule")) budget_option
+
+-- the stated command: `polypar run`, or `polypar schedule [--budget B]`
+abbrev pub tool : App
+tool = with_subcommand (with_subcommand bare_tool (new_app (codes "run")).top) schedule_tool.top
+
+-- the stated command takes the words; the first is the program's name
+abbrev pub IsTaken : List Text → Type 0
+IsTaken words = fault_of tool words ≡ []
+
+-- the budget where none is given
+abbrev pub most_moves : ℕ
+most_moves = 20000
+
+-- the number of 64 bits that a text reads as; the most where it reads as none
+abbrev pub number_of : Text → ℕ
+number_of text =
+    if is_unsigned_in 0 18446744073709551615 text then digits_value 10 (without_leading_plus text) else most_moves
+
+-- the value of `--budget`
+abbrev pub budget_in : List Row → ℕ
+budget_in rows = option_map_or number_of (one_of (codes "budget") rows) most_moves
+
+-- the command of this name with these matches
+abbrev pub command_named : Text × List Row → Command
+command_named named = if bytes_eq named.0 (codes "schedule") then Schedule (budget_in named.1) else Run
+
+-- the command that is met, or `run` where none is; where words are taken one is met
+abbrev pub command_met : Option (Text × List Row) → Command
+command_met met = option_map_or command_named met Run
+
+-- the command that words which are taken name
+abbrev pub command_of : List Text → Command
+command_of words = command_met (subcommand_of tool words)
+
+-- the words are `run`
+abbrev pub IsRunCommand : List Text → Type 0
+IsRunCommand words = IsTaken words × (command_of words ≡ Run)
+
+-- the words are `schedule` with this budget
+abbrev pub IsScheduleCommand : ℕ → List Text → Type 0
+IsScheduleCommand budget words = IsTaken words × (command_of words ≡ Schedule budget)

@@ -14,9 +14,12 @@ use Rattle.data_text.specs.Cases.{Says, data_said}
 use Rattle.report_text.specs.declared.status.Status.{Status}
 use Rattle.report_text.specs.declared.status.Status.TheVariants.{Done, Usage, Refused, BadData, Outside, ReadFault}
 use Rattle.report_text.specs.declared.status.Status.TheVariants.{WriteFault, NoMemory}
-use Rattle.polypar.specs.Command.{IsRunCommand}
+use Rattle.polypar.specs.declared.command.Command.{Command}
+use Rattle.polypar.specs.declared.command.Command.TheVariants.{Run, Schedule}
+use Rattle.polypar.specs.Command.{IsTaken, command_of}
 use Rattle.polypar.specs.Cut.{kernel_part, data_part}
-use Rattle.polypar.specs.Case.{IsShort, Accepted, asked_text}
+use Rattle.polypar.specs.Case.{IsShort, Accepted, asked_text, Spelled}
+use Rattle.polypar.specs.Planning.{IsPlanText}
 
 -- every subscript lies in its extent, or the first that does not is told
 abbrev pub DeservesCase : Program → List ℤ → Status → Type 0
@@ -48,11 +51,28 @@ DeservesInput input status =
     (IsShort input × DeservesText (kernel_part input) (data_part input) status)
     ⊎ ((2 ^ 27 < length input) × (status ≡ too_long))
 
--- the words are a command, or none
+-- of `schedule`: the text spells a program, or its first fault is told
+abbrev pub DeservesKernel : List ℕ → Status → Type 0
+DeservesKernel kernel status =
+    ((program : Program) × SpellsProgram kernel program × (status ≡ Done))
+    ⊎ ((refusal : Refusal) × IsRefusedAs kernel refusal × (status ≡ Refused refusal))
+
+-- of `schedule`: the input is short enough, or too long
+abbrev pub DeservesPlan : List ℕ → Status → Type 0
+DeservesPlan input status =
+    (IsShort input × DeservesKernel (kernel_part input) status)
+    ⊎ ((2 ^ 27 < length input) × (status ≡ too_long))
+
+-- of a command
+abbrev pub DeservesFor : Command → List ℕ → Status → Type 0
+DeservesFor Run input status = DeservesInput input status
+DeservesFor (Schedule budget) input status = DeservesPlan input status
+
+-- the words are taken, or not
 abbrev pub Deserves : List (List ℕ) → List ℕ → Status → Type 0
 Deserves words input status =
-    (IsRunCommand words × DeservesInput input status)
-    ⊎ ((IsRunCommand words → ⊥) × (status ≡ Usage))
+    (IsTaken words × DeservesFor (command_of words) input status)
+    ⊎ ((IsTaken words → ⊥) × (status ≡ Usage))
 
 -- a status that words and an input decide: no fault of a port, and no want of memory
 abbrev pub IsVerdict : Status → Type 0
@@ -61,6 +81,11 @@ IsVerdict WriteFault = ⊥
 IsVerdict NoMemory = ⊥
 IsVerdict other = ⊤
 
+-- an input asks a command for the text
+abbrev pub AsksFor : Command → List ℕ → List ℕ → Type 0
+AsksFor Run input text = (accepted : Accepted input) × (text ≡ asked_text accepted)
+AsksFor (Schedule budget) input text = (kernel : Spelled input) × IsPlanText budget kernel.program text
+
 -- the words and the input ask for the text
 abbrev pub Asks : List (List ℕ) → List ℕ → List ℕ → Type 0
-Asks words input text = IsRunCommand words × (accepted : Accepted input) × (text ≡ asked_text accepted)
+Asks words input text = IsTaken words × AsksFor (command_of words) input text

@@ -5,3 +5,4 @@ pub mod Command
 pub mod Cut
 pub mod Deserves
 pub mod InMemory
+pub mod Planning

@@ -1,11 +1,116 @@
-//! The command line: `polypar run`.
+//! The command line, read with `clap`: `polypar run`, `polypar schedule [--budget B]`.
 
-ghost use Rattle.std.specs.Prelude.{◌↔◌, IsTrue, map, string_bytes};
-ghost use Rattle.polypar.specs.Command.{IsRunCommand};
+ghost use Rattle.std.specs.Prelude.{◌≡◌, IfOk, IsErrOf, false, map, string_bytes};
+ghost use Rattle.clap.specs.Words.{app_of, found_of, rows_of, subcommand_rows_of};
+ghost use Rattle.clap.specs.declared.builder.command.Command.TheViews.{out-Command};
+ghost use Rattle.polypar.specs.Command.{bare_tool, schedule_tool, tool, IsTaken, budget_in, command_named};
+ghost use Rattle.polypar.specs.Command.{command_met, command_of};
 
-/// Whether the words, the program's name first, are `run` without options.
-pub(crate) fn is_run(words: &[String]) -> bool
-    ensures { IsTrue result ↔ IsRunCommand (map string_bytes words.now) }
+use clap::error::ErrorKind;
+use clap::{Arg, ArgAction, ArgMatches};
+use std::alloc::{AllocError, Global};
+
+/// The most moves of a question, and the budget where none is given.
+const MOST_MOVES: u64 = 20_000;
+
+/// What a command line asks for.
+#[derive(Clone, Copy, Debug, PartialEq, Eq)]
+pub(crate) enum Command {
+    /// The final arrays of a kernel and its data.
+    Run,
+    /// The schedule of a kernel, each question of which may make so many moves.
+    Schedule { budget: u64 },
+}
+
+/// Why a command line asks for nothing.
+#[derive(Clone, Copy, Debug, PartialEq, Eq)]
+pub(crate) enum CommandStop {
+    /// The stated command does not take the words, or they ask for its help.
+    Usage,
+    /// Memory ran out.
+    NoMemory,
+}
+
+/// The stated command without its commands, of which it wants one.
+fn bare<'a>(alloc: Global) -> clap::Command<'a>
+    ensures command { app_of result ≡ bare_tool }
+    ensures plain { (out-Command result).has_globals ≡ false }
 {
-    words.len() == 2 && words[1].as_str() == "run"
+    clap::Command::new(alloc, "polypar").subcommand_required(true)
+}
+
+/// The command `schedule` with its option.
+fn schedule_command<'a>(alloc: Global) -> Result<clap::Command<'a>, AllocError>
+    ensures command { IfOk result (λ c. app_of c ≡ schedule_tool) }
+    ensures plain { IfOk result (λ c. (out-Command c).has_globals ≡ false) }
+{
+    let budget = Arg::new(alloc, "budget")
+        .long("budget")
+        .action(ArgAction::Set)
+        .value_parser(clap::value_parser!(u64).range(1..=20_000));
+    clap::Command::new(alloc, "schedule").arg(budget)
+}
+
+/// The stated command. Its definition in specs/Command.antt says which words it takes.
+fn stated<'a>(alloc: Global) -> Result<clap::Command<'a>, AllocError>
+    ensures command { IfOk result (λ c. app_of c ≡ tool) }
+    ensures plain { IfOk result (λ c. (out-Command c).has_globals ≡ false) }
+{
+    let run = clap::Command::new(alloc, "run");
+    let schedule = schedule_command(alloc)?;
+    bare(alloc).subcommand(run)?.subcommand(schedule)
+}
+
+/// The budget that the matches of `schedule` have.
+fn budget_in(matches: &ArgMatches) -> u64
+    ensures { result ≡ budget_in (rows_of (found_of matches.now)) }
+{
+    match matches.get_one::<u64>("budget") {
+        Some(budget) => budget,
+        None => MOST_MOVES,
+    }
+}
+
+/// The command of this name with these matches.
+fn command_named(name: &str, matches: &ArgMatches) -> Command
+    ensures { result ≡ command_named (name.now, rows_of (found_of matches.now)) }
+{
+    if name == "schedule" {
+        return Command::Schedule {
+            budget: budget_in(matches),
+        };
+    }
+    Command::Run
+}
+
+/// The command that matches of the stated command name.
+fn command_met(matches: &ArgMatches) -> Command
+    ensures { result ≡ command_met (subcommand_rows_of matches.now) }
+{
+    match matches.subcommand() {
+        Some((name, inner)) => command_named(name, inner),
+        None => Command::Run,
+    }
+}
+
+/// The command that words ask for, the program's name first.
+///
+/// # Errors
+/// `Usage` only where the stated command does not take the words; `NoMemory`.
+pub(crate) fn command_of<'a>(alloc: Global, words: &'a [String]) -> Result<Command, CommandStop>
+    ensures taken { IfOk result (λ _. IsTaken (map string_bytes words.now)) }
+    ensures command { IfOk result (λ c. c ≡ command_of (map string_bytes words.now)) }
+    ensures usage { IsErrOf result CommandStop.Usage → IsTaken (map string_bytes words.now) → ⊥ }
+{
+    let tool: clap::Command<'a> = match stated(alloc) {
+        Ok(tool) => tool,
+        Err(_) => return Err(CommandStop::NoMemory),
+    };
+    match tool.try_get_matches_from(words) {
+        Ok(matches) => Ok(command_met(&matches)),
+        Err(error) => match error.kind() {
+            ErrorKind::OutOfMemory => Err(CommandStop::NoMemory),
+            _ => Err(CommandStop::Usage),
+        },
+    }
 }

@@ -1,7 +1,8 @@
 //! The top call of Polypar: words, a source and two sinks in; the answer on the sinks and a status out.
 //!
-//! The clause of `plain_command` and `polypar` carries the whole claim: what `run` prints are exactly the
-//! arrays of the kernel's own sequential execution, and each status comes from its cause alone.
+//! The clause of `plain_command` and `polypar` carries the whole claim: what `run` prints are exactly the arrays of the
+//! kernel's own sequential execution, what `schedule` prints is the schedule of the determined run over the kernel's
+//! conflicts, or why its order is kept, and each status comes from its cause alone.
 #![tactic(auto)]
 
 mod command;
@@ -9,6 +10,7 @@ mod cut;
 mod in_memory;
 mod laws;
 mod plain;
+mod plan;
 mod run;
 
 pub use in_memory::command_in_memory;

@@ -4,10 +4,10 @@ ghost use Rattle.std.specs.Prelude.{◌≡◌, ℕ, List, map, string_bytes, opt
 ghost use Rattle.scop_syntax.specs.View.{program_of};
 ghost use Rattle.report_text.specs.declared.status.Status.{Status};
 ghost use Rattle.polypar.specs.Deserves.{Deserves, IsVerdict};
-ghost use Rattle.polypar.specs.Answers.{AnswersWords, IsReadOn, TellsStatus};
+ghost use Rattle.polypar.specs.Answers.{AnswersTaken, AnswersWords, IsReadOn, TellsStatus};
 ghost use Rattle.polypar.specs.Answered.{Answered, NamesOf};
 
-use crate::command::is_run;
+use crate::command::{Command, CommandStop, command_of};
 use crate::run::{Ending, run};
 use data_text::{said_once, texts_say_what_lines_describe};
 use io_ports::{Failed, Gate, Sink, Source};
@@ -72,7 +72,7 @@ pub fn deserved_once()
     texts_say_what_lines_describe();
 }
 
-/// All of a command but the line that tells its status.
+/// All of a call but the line that tells its status.
 fn answer<S: Source, O: Sink, E: Sink>(
     alloc: Global,
     words: &[String],
@@ -85,10 +85,27 @@ fn answer<S: Source, O: Sink, E: Sink>(
     ensures names { NamesOf (S.shows source.old).left result.status (option_map program_of result.kernel) }
     ensures read_on { IsReadOn (S.shows source.old) (S.shows source.new) }
 {
-    if !is_run(words) {
-        return Ending::of(Status::Usage);
+    match command_of(alloc, words) {
+        Ok(command) => answer_command(alloc, command, source, out, err),
+        Err(CommandStop::Usage) => Ending::of(Status::Usage),
+        Err(CommandStop::NoMemory) => Ending::of(Status::NoMemory),
     }
-    let ending = run(alloc, source, out);
+}
+
+/// All of a command but the line that tells its status.
+fn answer_command<S: Source, O: Sink, E: Sink>(
+    alloc: Global,
+    command: Command,
+    source: &mut S,
+    out: &mut O,
+    err: &mut E,
+) -> Ending
+    ensures answer { AnswersTaken command result.status (S.shows source.old) (S.shows source.new) (O.shows out.old)
+        (O.shows out.new) (E.shows err.old) (E.shows err.new) }
+    ensures names { NamesOf (S.shows source.old).left result.status (option_map program_of result.kernel) }
+    ensures read_on { IsReadOn (S.shows source.old) (S.shows source.new) }
+{
+    let ending = run(alloc, command, source, out);
     if ending.status != Status::Done {
         return ending;
     }

@@ -1,5 +1,5 @@
-//! The command `run`: the source is read to its end and cut into a kernel and its data, the kernel is
-//! executed in its own order, and the final arrays are printed.
+//! What a command does: the source is read to its end and cut into a kernel and its data. For `run` the kernel is
+//! executed in its own order, and the final arrays are printed; for `schedule` see `plan`.
 
 ghost use Rattle.std.specs.Prelude.{◌≡◌, None, Some, option_map};
 ghost use Rattle.io_ports.specs.Writes.{Writes};
@@ -12,10 +12,12 @@ ghost use Rattle.scop_syntax.specs.Limits.{WithinLimits};
 ghost use Rattle.data_text.specs.ArrayText.{array_text};
 ghost use Rattle.polypar.specs.Case.{IsShort};
 ghost use Rattle.polypar.specs.Deserves.{too_long};
-ghost use Rattle.polypar.specs.Answers.{AnswersCase, AnswersData, AnswersInput, AnswersRun, IsReadOn};
+ghost use Rattle.polypar.specs.Answers.{AnswersCase, AnswersData, AnswersKernel, AnswersFor, AnswersCommand, IsReadOn};
 ghost use Rattle.polypar.specs.Answered.{NamesOf};
 
+use crate::command::Command;
 use crate::cut::cut;
+use crate::plan::plan_kernel;
 use data_text::{Case, DataStop, read_data, write_arrays};
 use io_ports::{Failed, ReadError, Sink, Source, read_to_end};
 use report_text::{Refusal, RefusalKind, Status};
@@ -49,15 +51,20 @@ impl Ending {
     }
 }
 
-/// Reads the source to its end, and prints the final arrays of what it says.
-pub(crate) fn run<S: Source, O: Sink>(alloc: Global, source: &mut S, out: &mut O) -> Ending
-    ensures answer { AnswersRun result.status (S.shows source.old) (S.shows source.new) (O.shows out.old)
+/// Reads the source to its end, and prints what the command asks for.
+pub(crate) fn run<S: Source, O: Sink>(
+    alloc: Global,
+    command: Command,
+    source: &mut S,
+    out: &mut O,
+) -> Ending
+    ensures answer { AnswersCommand command result.status (S.shows source.old) (S.shows source.new) (O.shows out.old)
         (O.shows out.new) }
     ensures names { NamesOf (S.shows source.old).left result.status (option_map program_of result.kernel) }
     ensures read_on { IsReadOn (S.shows source.old) (S.shows source.new) }
 {
     match read_to_end(alloc, source, LONGEST_INPUT) {
-        Ok(input) => run_input(alloc, &input, out),
+        Ok(input) => run_input(alloc, command, &input, out),
         Err(ReadError::Failed) => Ending::of(Status::ReadFault),
         Err(ReadError::TooLong) => Ending::of(too_long()),
         Err(ReadError::NoMemory) => Ending::of(Status::NoMemory),
@@ -75,16 +82,16 @@ fn too_long() -> Status
     })
 }
 
-/// Reads the kernel of an input, and goes on with its data.
-fn run_input<O: Sink>(alloc: Global, input: &[u8], out: &mut O) -> Ending
+/// Reads the kernel of an input, and goes on with its data or its schedule.
+fn run_input<O: Sink>(alloc: Global, command: Command, input: &[u8], out: &mut O) -> Ending
     requires { IsShort input.now }
-    ensures answer { AnswersInput result.status input.now (O.shows out.old) (O.shows out.new) }
+    ensures answer { AnswersFor command result.status input.now (O.shows out.old) (O.shows out.new) }
     ensures names { NamesOf (Some input.now) result.status (option_map program_of result.kernel) }
 {
     let parts = cut(input);
     match read_kernel(alloc, parts.kernel) {
         Ok(kernel) => {
-            let status = run_kernel(alloc, &kernel, parts.case, out);
+            let status = run_command(alloc, command, &kernel, parts.case, out);
             Ending {
                 status,
                 kernel: Some(kernel),
@@ -92,6 +99,23 @@ fn run_input<O: Sink>(alloc: Global, input: &[u8], out: &mut O) -> Ending
         }
         Err(ReadKernelError::Refused(refusal)) => Ending::of(Status::Refused(refusal)),
         Err(ReadKernelError::NoMemory) => Ending::of(Status::NoMemory),
+    }
+}
+
+/// Goes on with what the command asks of a kernel; `text` is its data.
+fn run_command<O: Sink>(
+    alloc: Global,
+    command: Command,
+    kernel: &Kernel,
+    text: &[u8],
+    out: &mut O,
+) -> Status
+    requires { IsKernel (program_of kernel.now) }
+    ensures { AnswersKernel command result (program_of kernel.now) text.now (O.shows out.old) (O.shows out.new) }
+{
+    match command {
+        Command::Run => run_kernel(alloc, kernel, text, out),
+        Command::Schedule { budget } => plan_kernel(alloc, kernel, budget, out),
     }
 }
 

@@ -29,7 +29,7 @@ append_nil : {A : Type 0} (xs : List A) → xs ++ [] ≡ xs
 append_nil [] = refl
 append_nil (x ∷ xs) = ap (λ l. x ∷ l) (append_nil xs)
 
-coefficients_append : (rows more : List Row) (s : ℕ)
+pub coefficients_append : (rows more : List Row) (s : ℕ)
     → coefficients_in (rows ++ more) s ≡ coefficients_in rows s ++ coefficients_in more s
 coefficients_append [] more s = refl
 coefficients_append (r ∷ rows) more s =
@@ -120,7 +120,7 @@ is_open_some [] h = absurd (h refl)
 is_open_some (m ∷ ms) h = refl
 
 -- the rows of the states, step by step
-rows_appended : (s t : State) (r : Marked) → t.closed ≡ s.closed → t.rows ≡ s.rows ++ r ∷ []
+pub rows_appended : (s t : State) (r : Marked) → t.closed ≡ s.closed → t.rows ≡ s.rows ++ r ∷ []
     → rows_of t ≡ rows_of s ++ r.row ∷ []
 rows_appended s t r a b =
     ap₂ (λ (x : List Row) (y : List Row). x ++ y) (ap rows_in a) (ap band_rows b ∙ band_rows_more s.rows r)

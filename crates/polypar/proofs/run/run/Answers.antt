@@ -1,7 +1,8 @@
 -- An input that was not read is answered too.
-use Rattle.std.proofs.Common.{refl, inl, inr, Err, ap, subst, sym}
-use Rattle.polypar.specs.Answers.{AnswersRun}
+use Rattle.std.proofs.Common.{inl, Err, ap, subst, sym}
+use Rattle.polypar.specs.Answers.{AnswersCommand}
 use Rattle.polypar.proofs.AnswerLemmas.{some_input, long_input}
+use Rattle.polypar.proofs.RunLemmas.{long_answers, memory_answers}
 use Rattle.polypar.proofs.run.run.Goals as goal
 
 pub returns-in-Err-TooLong-clause-answer : goal.returns-in-Err-TooLong-clause-answer
@@ -11,9 +12,9 @@ returns-in-Err-TooLong-clause-answer g c =
     let out = g.O.Sink.shows c.args.out.now in
     let input = long_input source.left 134217728
     (c.in-Err-TooLong.ensures.too_long (ap Err c.in-Err-TooLong.field-0-is)) in
-    subst (λ ending. AnswersRun ending.status source after out out) (sym c.of-in-Err-TooLong.ensures)
-    (subst (λ status. AnswersRun status source after out out) (sym c.too_long.ensures)
-    (inl (record { input = input.0; whole = input.1; answer = (inr (input.2, refl), refl); at_end = λ e. cc })))
+    subst (λ ending. AnswersCommand c.args.command ending.status source after out out) (sym c.of-in-Err-TooLong.ensures)
+    (subst (λ status. AnswersCommand c.args.command status source after out out) (sym c.too_long.ensures)
+    (inl (record { input = input.0; whole = input.1; answer = long_answers c.args.command input.0 out input.2; at_end = λ e. cc })))
 
 pub returns-in-Err-NoMemory-clause-answer : goal.returns-in-Err-NoMemory-clause-answer
 returns-in-Err-NoMemory-clause-answer g c =
@@ -21,5 +22,5 @@ returns-in-Err-NoMemory-clause-answer g c =
     let after = g.S.Source.shows c.read_to_end.new.source in
     let out = g.O.Sink.shows c.args.out.now in
     let input = some_input source.left in
-    subst (λ ending. AnswersRun ending.status source after out out) (sym c.of-in-Err-NoMemory.ensures)
-    (inl (record { input = input.0; whole = input.1; answer = refl; at_end = λ e. cc }))
+    subst (λ ending. AnswersCommand c.args.command ending.status source after out out) (sym c.of-in-Err-NoMemory.ensures)
+    (inl (record { input = input.0; whole = input.1; answer = memory_answers c.args.command input.0 out; at_end = λ e. cc }))

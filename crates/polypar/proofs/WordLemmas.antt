@@ -1,0 +1,95 @@
+-- What `clap` reads of the command line.
+use Rattle.std.proofs.Common.{◌≡◌, ◌∙◌, sym, ap, refl, ℕ, Bool, true, false, List, Option, None, Some}
+use Rattle.std.proofs.Common.{Result, Ok, Err, if◌then◌else◌, arith}
+use Rattle.std.specs.Prelude.{◌||◌, codes, IfOk, option_map, unwrap_or, Box}
+use Rattle.std.specs.Box.{box_value}
+use Rattle.std.specs.Option.{option_map_or}
+use Rattle.std.specs.Str.Parse.{ParsesUnsigned, digits_value, without_leading_plus}
+use Rattle.clap.specs.Matches.{ReadsOne}
+use Rattle.clap.specs.Walk.{Row, Text}
+use Rattle.clap.specs.Built.{AddsSubcommand}
+use Rattle.clap.specs.Simple.{App, app_of, app_of_fields, new_app, on_top, shape_of, subcommand_rows, with_subcommand}
+use Rattle.clap.specs.ValueTests.{is_unsigned_in}
+use Rattle.clap.specs.declared.builder.command.Command as clap_command
+use Rattle.clap.specs.declared.builder.command.Command.TheViews.{out-Command}
+use Rattle.clap.specs.declared.builder.value_parser.ValueParser.TheVariants as vp
+use Rattle.clap.specs.declared.parser.matches.ArgMatches.TheViews.{out-SubCommand}
+use Rattle.clap.specs.declared.parser.matches.SubCommand.{SubCommand}
+use Rattle.clap.proofs.ValueTestLemmas.{accepts-Accepts, Accepts-accepts}
+use Rattle.polypar.specs.Command.{bare_tool, schedule_tool, tool, number_of, most_moves}
+
+-- a text that reads as a number
+number_read : (E : Type 0) (t : Text) (n : ℕ) → ParsesUnsigned {E = E} 64 10 t (Ok n) → n ≡ number_of t
+number_read E t n parsed =
+    let value = digits_value 10 (without_leading_plus t) in
+    let accepted : is_unsigned_in 0 18446744073709551615 t ≡ true =
+    Accepts-accepts false (vp.Unsigned 0 18446744073709551615) t
+    (parsed.0.0, parsed.0.1, omega arith, omega (arith, parsed.0.1)) in
+    parsed.1 ∙ sym (ap (λ b. if b then value else most_moves) accepted)
+
+-- a text that reads as none
+no_number : {E : Type 0} (t : Text) (e : E) → ParsesUnsigned 64 10 t (Err e) → most_moves ≡ number_of t
+no_number t e parsed = go (is_unsigned_in 0 18446744073709551615 t) refl
+  where
+    go : (b : Bool) → is_unsigned_in 0 18446744073709551615 t ≡ b
+        → most_moves ≡ (if b then digits_value 10 (without_leading_plus t) else most_moves)
+    go true is =
+        let accepted = accepts-Accepts false (vp.Unsigned 0 18446744073709551615) t is in
+        absurd (parsed (accepted.0, accepted.1))
+    go false is = refl
+
+-- the number that a getter gives, or the most
+pub number_is : {E : Type 0} (G : List ℕ → Result ℕ E → Type 0) (text : Option Text) (result : Option ℕ)
+    → ((t : List ℕ) (r : Result ℕ E) → G t r → ParsesUnsigned 64 10 t r)
+    → (text ≡ None → result ≡ None) → ((t : List ℕ) → text ≡ Some t → ReadsOne G t result)
+    → unwrap_or result most_moves ≡ option_map_or number_of text most_moves
+number_is G None result parses none value = ap (λ r. unwrap_or r most_moves) (none refl)
+number_is G (Some t) None parses none value =
+    let read = value t refl in no_number t read.0 (parses t (Err read.0) read.1)
+number_is {E = E} G (Some t) (Some n) parses none value = number_read E t n (parses t (Ok n) (value t refl))
+
+module _ {Z : Type 0} where
+  -- the name and the matches that are met
+  pub met_is : (met : Option (Box SubCommand Z)) (name : Text) (rows : List Row)
+      → Some name ≡ option_map (λ b. (out-SubCommand (box_value b)).name.now) met
+      → Some rows ≡ option_map (λ p. p.1) (subcommand_rows met)
+      → subcommand_rows met ≡ Some (name, rows)
+  met_is None name rows named matched = cc
+  met_is (Some b) name rows named matched = cc
+
+  -- none is met
+  pub none_met : (met : Option (Box SubCommand Z)) → None ≡ option_map (λ p. p.1) (subcommand_rows met)
+      → subcommand_rows met ≡ None
+  none_met None is = refl
+  none_met (Some b) is = cc
+
+-- a command that wants one of its subcommands
+pub wanting_is : (old new : clap_command.Command)
+    → out-Command new ≡ record (out-Command old) { subcommand_required = true }
+    → app_of new ≡ on_top (λ top. record top { subcommand_required = true }) (app_of old)
+wanting_is old new is = ap app_of_fields is
+
+-- the two commands make the stated one
+pub stated_is : {E : Type 0} (bare run one schedule : clap_command.Command) (result : Result clap_command.Command E)
+    → app_of bare ≡ bare_tool → app_of run ≡ new_app (codes "run") → app_of schedule ≡ schedule_tool
+    → (out-Command run).has_globals ≡ false → (out-Command schedule).has_globals ≡ false
+    → AddsSubcommand bare run one → IfOk result (AddsSubcommand one schedule) → IfOk result (λ c. app_of c ≡ tool)
+stated_is bare run one schedule (Ok c) bare_app run_app schedule_app run_plain schedule_plain first second =
+    let before : app_of one ≡ with_subcommand bare_tool (new_app (codes "run")).top = first.shape run_plain
+    ∙ (ap (λ (a : App). with_subcommand a (shape_of run)) bare_app
+    ∙ ap (λ (a : App). with_subcommand bare_tool a.top) run_app) in
+    second.shape schedule_plain
+    ∙ (ap (λ (a : App). with_subcommand a (shape_of schedule)) before
+    ∙ ap (λ (a : App). with_subcommand (with_subcommand bare_tool (new_app (codes "run")).top) a.top) schedule_app)
+stated_is bare run one schedule (Err e) bare_app run_app schedule_app run_plain schedule_plain first second = tt
+
+-- and it has no argument that all its commands share
+pub stated_plain : {E : Type 0} (bare run one schedule : clap_command.Command)
+    (result : Result clap_command.Command E)
+    → (out-Command bare).has_globals ≡ false → (out-Command run).has_globals ≡ false
+    → (out-Command schedule).has_globals ≡ false → AddsSubcommand bare run one
+    → IfOk result (AddsSubcommand one schedule) → IfOk result (λ c. (out-Command c).has_globals ≡ false)
+stated_plain bare run one schedule (Ok c) bare_plain run_plain schedule_plain first second =
+    second.globals ∙ (ap (λ b. b || (out-Command schedule).has_globals)
+    (first.globals ∙ (ap (λ b. b || (out-Command run).has_globals) bare_plain ∙ run_plain)) ∙ schedule_plain)
+stated_plain bare run one schedule (Err e) bare_plain run_plain schedule_plain first second = tt
