@@ -14,7 +14,7 @@ use std::test::Fail;
 const TWO_ARRAYS: &str = "void k(int64_t N, int64_t M, uint64_t A[N - 1], uint64_t B[N][M]) { }";
 
 /// Data that says a case, and the text of its arrays.
-const SAID: [(&str, &str); 6] = [
+const SAID: &[(&str, &str)] = &[
     ("N = 2\nM = 1", "A = 0\nB = 0 0\n"),
     ("N=2\nM=1\nB=1 2\nA=3\n", "A = 3\nB = 1 2\n"),
     (
@@ -33,7 +33,7 @@ const SAID: [(&str, &str); 6] = [
 ];
 
 /// Data that breaks a rule, and the refusal.
-const REFUSED: [(&str, DataRefusal); 31] = [
+const REFUSED: &[(&str, DataRefusal)] = &[
     ("", DataRefusal::Missing(0)),
     ("N = 2\n", DataRefusal::Missing(1)),
     ("N 2\n", DataRefusal::Line(1)),
@@ -165,7 +165,8 @@ fn write(alloc: Global, data: &str, sink: &mut MemSink) -> Result<(), Failed> {
 
 #[test]
 fn reads_cases_and_writes_their_arrays(rt: HostRuntime) -> Result<(), Fail> {
-    for (data, arrays) in SAID {
+    for case in SAID {
+        let (data, arrays) = *case;
         let mut sink = MemSink::of(rt.alloc(), 200, 4096, &[])?;
         assert!(rt; write(rt.alloc(), data, &mut sink).is_ok(), "{data}");
         assert!(rt; sink.taken() == arrays.as_bytes(), "{data}");
@@ -175,8 +176,9 @@ fn reads_cases_and_writes_their_arrays(rt: HostRuntime) -> Result<(), Fail> {
 
 #[test]
 fn tells_the_first_rule_that_is_broken(rt: HostRuntime) {
-    for (data, refusal) in REFUSED {
-        assert_eq!(rt; refusal_of(rt.alloc(), data), Some(refusal), "{data}");
+    for case in REFUSED {
+        let (data, refusal) = *case;
+        assert!(rt; refusal_of(rt.alloc(), data) == Some(refusal), "{data}");
     }
 }
 

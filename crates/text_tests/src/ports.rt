@@ -12,7 +12,7 @@ use std::test::Fail;
 
 /// Reads of `abcdefg`, whose second call fails, by at most 3 bytes a call: the size of the buffer, what is read, and
 /// what is left.
-const READS: [(usize, Result<&[u8], Failed>, &[u8]); 5] = [
+const READS: &[(usize, Result<&[u8], Failed>, &[u8])] = &[
     (2, Ok(b"ab"), b"cdefg"),
     (8, Err(Failed), b"cdefg"),
     (8, Ok(b"cde"), b"fg"),
@@ -38,7 +38,8 @@ fn is_read(source: &mut MemSource, size: usize, want: Result<&[u8], Failed>) -> 
 #[test]
 fn gives_short_steps_and_fails_at_the_listed_call(rt: HostRuntime) -> Result<(), Fail> {
     let mut source = MemSource::of(rt.alloc(), b"abcdefg", 3, &[2])?;
-    for (size, want, left) in READS {
+    for case in READS {
+        let (size, want, left) = *case;
         assert!(rt; is_read(&mut source, size, want), "in front of {left:?}");
         assert!(rt; source.left() == left, "{left:?}");
     }
@@ -48,7 +49,7 @@ fn gives_short_steps_and_fails_at_the_listed_call(rt: HostRuntime) -> Result<(),
 
 /// Writes and flushes of a sink with room for 5 bytes, whose third and fifth calls fail, by at most 2 bytes a call: the
 /// piece, where there is one, and how many bytes are taken, 0 for a flush.
-const WRITES: [(Option<&[u8]>, Result<usize, Failed>); 8] = [
+const WRITES: &[(Option<&[u8]>, Result<usize, Failed>)] = &[
     (Some(b"abcd"), Ok(2)),
     (Some(b"cd"), Ok(2)),
     (Some(b"e"), Err(Failed)),
@@ -75,7 +76,8 @@ fn takes_short_steps_and_fails_at_listed_calls_and_without_room(
     rt: HostRuntime,
 ) -> Result<(), Fail> {
     let mut sink = MemSink::of(rt.alloc(), 5, 2, &[3, 5])?;
-    for (piece, want) in WRITES {
+    for case in WRITES {
+        let (piece, want) = *case;
         assert!(rt; write_or_flush(&mut sink, piece) == want, "{piece:?}");
     }
     assert!(rt; sink.taken() == b"abcde".as_slice());

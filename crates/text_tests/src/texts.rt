@@ -10,7 +10,7 @@ use std::test::Fail;
 const HEADER: &str = "void k(int64_t n, uint64_t A[n]) {\n";
 
 /// Bodies that are refused, and the kind, line and column.
-const REFUSED: [(&str, RefusalKind, u64, u64); 16] = [
+const REFUSED: &[(&str, RefusalKind, u64, u64)] = &[
     ("A[0] = ;\n@ }", RefusalKind::Character, 3, 1),
     ("B[0] = 1;\nA[0] = ; }", RefusalKind::Token, 3, 8),
     ("A[0] = 1;\n", RefusalKind::Unended, 3, 1),
@@ -101,7 +101,8 @@ fn a_kernel_is_read(rt: HostRuntime) -> Result<(), Fail> {
 
 #[test]
 fn the_first_fault_is_told(rt: HostRuntime) -> Result<(), Fail> {
-    for (body, kind, line, column) in REFUSED {
+    for case in REFUSED {
+        let (body, kind, line, column) = *case;
         let text = text_of(rt.alloc(), &[body])?;
         assert!(rt; is_refused(rt.alloc(), &text, kind, line, column), "{body}");
     }
