@@ -3,6 +3,7 @@
 //! cites it, the caller here no longer proves. Nothing is built on this crate.
 #![tactic(auto)]
 
+pub mod conflicts;
 pub mod dependence_rows;
 pub mod domains;
 pub mod forms;

@@ -3,9 +3,18 @@
 ghost use Rattle.std.specs.Prelude.{◌≡◌, true};
 ghost use Rattle.stmt_graph.specs.Graph.{AreWithin};
 
-use std::alloc::Global;
-use std::process::Abort;
+use std::alloc::{AllocError, Global};
+use std::test::Fail;
 use stmt_graph::components;
+
+/// Edges between statements, and the number of each statement's component: a statement before an earlier one; else the
+/// least statement comes first; a cycle behind two others.
+const CASES: &[(&[(usize, usize)], &[usize])] = &[
+    (&[(1, 0)], &[1, 0]),
+    (&[], &[0, 1, 2]),
+    (&[(2, 1)], &[0, 2, 1]),
+    (&[(3, 0), (0, 3), (4, 3), (2, 1), (2, 2)], &[3, 1, 0, 3, 2]),
+];
 
 /// Whether both ends of each edge are below n.
 fn are_within(n: usize, edges: &[(usize, usize)]) -> bool
@@ -23,32 +32,20 @@ fn are_within(n: usize, edges: &[(usize, usize)]) -> bool
     true
 }
 
-fn expect(rt: &impl Abort, alloc: Global, edges: &[(usize, usize)], want: &[usize]) {
-    if !are_within(want.len(), edges) {
-        panic!(rt; "an edge leads out");
+/// The numbers of so many statements; an error where an edge leads out.
+fn numbers(alloc: Global, n: usize, edges: &[(usize, usize)]) -> Result<Vec<usize>, AllocError> {
+    if !are_within(n, edges) {
+        return Err(AllocError);
     }
-    match components(alloc, want.len(), edges) {
-        Err(_) => {}
-        Ok(numbers) => assert_eq!(rt; numbers.as_slice(), want),
+    components(alloc, n, edges)
+}
+
+#[test]
+fn components_are_numbered_in_order(rt: HostRuntime) -> Result<(), Fail> {
+    for case in CASES {
+        let (edges, want) = *case;
+        let numbers = numbers(rt.alloc(), want.len(), edges)?;
+        assert!(rt; numbers.as_slice() == want, "{edges:?}");
     }
-}
-
-#[test]
-fn a_statement_before_an_earlier_one(rt: HostRuntime) {
-    let alloc = rt.alloc();
-    expect(&rt, alloc, &[(1, 0)], &[1, 0]);
-}
-
-#[test]
-fn the_least_statement_comes_first(rt: HostRuntime) {
-    let alloc = rt.alloc();
-    expect(&rt, alloc, &[], &[0, 1, 2]);
-    expect(&rt, alloc, &[(2, 1)], &[0, 2, 1]);
-}
-
-#[test]
-fn a_cycle_behind_two_others(rt: HostRuntime) {
-    let alloc = rt.alloc();
-    let edges = [(3, 0), (0, 3), (4, 3), (2, 1), (2, 2)];
-    expect(&rt, alloc, &edges, &[3, 1, 0, 3, 2]);
+    Ok(())
 }

@@ -5,6 +5,8 @@
 #[cfg(test)]
 mod components;
 #[cfg(test)]
+mod conflicts;
+#[cfg(test)]
 mod dependence_rows;
 #[cfg(test)]
 mod elimination;
@@ -12,6 +14,8 @@ mod elimination;
 mod forms;
 #[cfg(test)]
 mod kernel_vectors;
+#[cfg(test)]
+mod made;
 #[cfg(test)]
 mod numbers;
 #[cfg(test)]

@@ -1,103 +1,83 @@
-//! Outside values, computed by Python's integers.
+//! Points of systems, computed by Python's integers. The systems have the dimensions `i` and `j` and the parameter `n`.
 
-ghost use Rattle.std.specs.Prelude.{◌≡◌, IfOk};
-ghost use Rattle.affine_forms.specs.Parts.{variables_of};
-
-use affine_forms::Form;
-use integer_sets::{ScanSet, System};
+use crate::made::system;
+use integer_sets::ScanSet;
 use std::alloc::{AllocError, Global};
+use std::test::Fail;
 use wide_math::{Op, Wide};
 
 const TWO_126: i128 = 85070591730234615865843651857942052864;
 
-fn form(alloc: Global, row: [i128; 3], constant: i128) -> Result<Form, AllocError>
-    ensures { IfOk result (λ f. variables_of f ≡ 3) }
-{
-    match Form::of(alloc, &row, constant) {
-        Err(_) => Err(AllocError),
-        Ok(form) => Ok(form),
-    }
-}
+/// The sum that is too wide.
+const WIDE: Wide = Wide {
+    op: Op::Add,
+    a: TWO_126,
+    b: TWO_126,
+};
 
-/// The system of one equality and one row over the dimensions `i`, `j` and the parameter `n`.
-fn system(alloc: Global, zero: [i128; 3], least: [i128; 3]) -> Result<System, AllocError>
-    ensures dimensions { IfOk result (λ s. s.dimensions ≡ 2) }
-    ensures parameters { IfOk result (λ s. s.parameters ≡ 1) }
-{
-    let zero = form(alloc, zero, 0)?;
-    let least = form(alloc, least, 0)?;
-    System::of(alloc, 2, 1, &[zero], &[least])
-}
+/// An equality, a row, a point, and whether it satisfies both: `j = 2 i` and `i <= n`, and then sums that are too wide,
+/// which a failure before them hides.
+const POINTS: &[([i128; 4], [i128; 4], [i128; 3], Result<bool, Wide>)] = &[
+    ([2, -1, 0, 0], [-1, 0, 1, 0], [0, 0, 0], Ok(true)),
+    ([2, -1, 0, 0], [-1, 0, 1, 0], [3, 6, 3], Ok(true)),
+    ([2, -1, 0, 0], [-1, 0, 1, 0], [4, 8, 3], Ok(false)),
+    ([2, -1, 0, 0], [-1, 0, 1, 0], [3, 5, 3], Ok(false)),
+    ([1, 0, 0, 0], [0, TWO_126, TWO_126, 0], [0, 1, 1], Err(WIDE)),
+    ([1, 0, 0, 0], [0, TWO_126, TWO_126, 0], [1, 1, 1], Ok(false)),
+    ([1, 0, 0, 0], [0, TWO_126, TWO_126, 0], [0, 1, 0], Ok(true)),
+];
 
-fn at(
+/// Whether a point satisfies an equality and a row.
+fn holds(
     alloc: Global,
-    zero: [i128; 3],
-    least: [i128; 3],
+    equality: &[i128],
+    row: &[i128],
     point: [i128; 3],
 ) -> Result<Result<bool, Wide>, AllocError> {
-    let system = system(alloc, zero, least)?;
+    let system = system(alloc, 2, 1, &[equality], &[row])?;
     Ok(system.holds_at(&point))
 }
 
 #[test]
 fn points(rt: HostRuntime) {
-    // j = 2 i and i <= n
-    let (zero, least) = ([2, -1, 0], [-1, 0, 1]);
-    let cases = [
-        ([0, 0, 0], true),
-        ([3, 6, 3], true),
-        ([4, 8, 3], false),
-        ([3, 5, 3], false),
-    ];
-    for (point, want) in cases {
-        assert_eq!(rt; at(rt.alloc(), zero, least, point), Ok(Ok(want)));
+    for case in POINTS {
+        let (equality, row, point, want) = *case;
+        assert!(rt;
+            holds(rt.alloc(), &equality, &row, point) == Ok(want),
+            "{row:?} at {point:?}"
+        );
     }
-}
-
-#[test]
-fn the_first_failure_ends(rt: HostRuntime) {
-    let least = [0, TWO_126, TWO_126];
-    let wide = Wide {
-        op: Op::Add,
-        a: TWO_126,
-        b: TWO_126,
-    };
-    assert_eq!(rt; at(rt.alloc(), [1, 0, 0], least, [0, 1, 1]), Ok(Err(wide)));
-    assert_eq!(rt; at(rt.alloc(), [1, 0, 0], least, [1, 1, 1]), Ok(Ok(false)));
-    assert_eq!(rt; at(rt.alloc(), [1, 0, 0], least, [0, 1, 0]), Ok(Ok(true)));
 }
 
 /// The numbers of equalities and rows of an intersection, and whether the point lies in it.
 fn both(alloc: Global, point: [i128; 3]) -> Result<(usize, usize, Result<bool, Wide>), AllocError> {
-    let first = system(alloc, [2, -1, 0], [-1, 0, 1])?;
-    let second = system(alloc, [0, 1, -2], [1, 0, -1])?;
+    let first = system(alloc, 2, 1, &[&[2, -1, 0, 0]], &[&[-1, 0, 1, 0]])?;
+    let second = system(alloc, 2, 1, &[&[0, 1, -2, 0]], &[&[1, 0, -1, 0]])?;
     let both = first.and(&second)?;
-    Ok((
-        both.equalities().len(),
-        both.rows().len(),
-        both.holds_at(&point),
-    ))
+    let holds = both.holds_at(&point);
+    Ok((both.equalities().len(), both.rows().len(), holds))
 }
 
 #[test]
 fn intersections(rt: HostRuntime) {
-    assert_eq!(rt; both(rt.alloc(), [5, 10, 5]), Ok((2, 2, Ok(true))));
-    assert_eq!(rt; both(rt.alloc(), [3, 6, 5]), Ok((2, 2, Ok(false))));
+    for (point, want) in [([5, 10, 5], true), ([3, 6, 5], false)] {
+        assert!(rt;
+            both(rt.alloc(), point) == Ok((2, 2, Ok(want))),
+            "{point:?}"
+        );
+    }
 }
 
 #[test]
-fn scan_sets(rt: HostRuntime) {
-    match system(rt.alloc(), [2, -1, 0], [-1, 0, 1]) {
-        Err(_) => panic!(rt; "there is memory"),
-        Ok(system) => {
-            let set = ScanSet {
-                statement: 4,
-                dimensions: 2,
-                parallel: Some(1),
-                system,
-            };
-            assert_eq!(rt; set.system.dimensions(), set.dimensions);
-            assert_eq!(rt; set.system.parameters(), 1);
-        }
-    }
+fn scan_sets(rt: HostRuntime) -> Result<(), Fail> {
+    let system = system(rt.alloc(), 2, 1, &[], &[])?;
+    let set = ScanSet {
+        statement: 4,
+        dimensions: 2,
+        parallel: Some(1),
+        system,
+    };
+    assert!(rt; set.system.dimensions() == set.dimensions);
+    assert!(rt; set.system.parameters() == 1);
+    Ok(())
 }

@@ -1,35 +1,82 @@
 //! Outside values, computed by hand and by Python's integers.
-ghost use Rattle.std.specs.Prelude.{◌≡◌, ◌+◌, pos, [], ◌∷◌, length, All, IfOk};
-ghost use Rattle.whole_numbers.specs.Affine.{form_of};
+ghost use Rattle.std.specs.Prelude.{◌≡◌, pos, [], ◌∷◌, List, length, All, IfOk};
+ghost use Rattle.whole_numbers.specs.Affine.{Affine, form_of};
 ghost use Rattle.quast_trees.specs.Postfix.{tree_of};
 ghost use Rattle.quast_trees.specs.Mapped.{Suits};
 ghost use Rattle.quast_trees.specs.Source.{source_of, unnamed, with_source};
 ghost use Rattle.quast_trees.specs.Tree.{leaf};
 
+use crate::made::forms;
 use affine_forms::{Form, FormStop};
 use quast_trees::{Builder, Leaf, Part, Quast, Source};
 use std::alloc::{AllocError, Global};
+use std::process::Abort;
 use std::test::Fail;
 use wide_math::{Op, Wide};
 
 const TWO_126: i128 = 85070591730234615865843651857942052864;
 
-fn leaf(
-    alloc: Global,
-    statement: usize,
-    loops: &[usize],
-    values: &[i128],
-) -> Result<Leaf, AllocError> {
-    Ok(Leaf::Found {
-        source: Some(Source {
-            statement,
-            loops: Vec::from_slice(alloc, loops)?,
-        }),
-        values: Vec::from_slice(alloc, values)?,
-    })
+/// What a quast answers.
+#[derive(Clone, Copy)]
+enum Want<'a> {
+    Initial,
+    /// Values of a leaf without a source.
+    Values(&'a [i128]),
+    /// The statement, the loops and the values of a leaf.
+    Found(usize, &'a [usize], &'a [i128]),
+    /// The product of two numbers is too wide.
+    Wide(i128, i128),
 }
 
-// A leaf of forms with its source.
+/// Whether a leaf has the source and the values.
+fn is_found(source: &Option<Source>, values: &[i128], want: Want) -> bool {
+    match want {
+        Want::Values(numbers) => source.is_none() && values == numbers,
+        Want::Found(statement, loops, numbers) => match source {
+            None => false,
+            Some(source) => {
+                source.statement == statement
+                    && source.loops.as_slice() == loops
+                    && values == numbers
+            }
+        },
+        _ => false,
+    }
+}
+
+/// Whether the answer is that.
+fn is_answer(answer: Result<Leaf, FormStop>, want: Want) -> bool {
+    match answer {
+        Ok(Leaf::Initial) => matches!(want, Want::Initial),
+        Ok(Leaf::Found { source, values }) => is_found(&source, &values, want),
+        Err(FormStop::NoMemory) => false,
+        Err(FormStop::Wide(wide)) => match want {
+            Want::Wide(a, b) => wide == Wide { op: Op::Mul, a, b },
+            _ => false,
+        },
+    }
+}
+
+/// That the quast has one parameter and so many nodes, and answers so at values of the parameter.
+fn expect(rt: &impl Abort, quast: &Quast, count: usize, answers: &[(i128, Want)]) {
+    assert!(rt; quast.parameters() == 1);
+    assert!(rt; quast.count() == count, "{count} nodes");
+    assert!(rt; quast.nodes().len() == count, "{count} nodes");
+    for (value, want) in answers {
+        assert!(rt;
+            is_answer(quast.value_at(&[*value]), *want),
+            "{count} nodes, at {value}"
+        );
+    }
+}
+
+/// That of a quast that it lets go.
+fn expect_made(rt: &impl Abort, quast: Quast, count: usize, answers: &[(i128, Want)]) {
+    expect(rt, &quast, count, answers);
+    drop(quast);
+}
+
+/// A leaf of forms with its source.
 fn source(
     alloc: Global,
     parameters: usize,
@@ -45,56 +92,57 @@ fn source(
     Quast::leaf(alloc, parameters, forms)?.named(statement, loops)
 }
 
+/// p - 1 where that is not negative, else the initial value.
+fn branch(alloc: Global) -> Result<Quast, Fail> {
+    let forms = forms(alloc, 1, &[&[1, -1]])?;
+    let first = source(alloc, 1, 2, &[0, 3], &forms)?;
+    Ok(Quast::branch(Form::of(alloc, &[1], -1)?, first, Quast::initial(alloc, 1)?)?)
+}
+
+/// What `branch` answers.
+const BRANCH: &[(i128, Want)] = &[
+    (-7, Want::Initial),
+    (0, Want::Initial),
+    (1, Want::Found(2, &[0, 3], &[0])),
+    (2, Want::Found(2, &[0, 3], &[1])),
+    (5, Want::Found(2, &[0, 3], &[4])),
+];
+
 #[test]
 fn a_branch_selects_by_the_sign(rt: HostRuntime) -> Result<(), Fail> {
-    let alloc = rt.alloc();
-    let before = [Form::of(alloc, &[1], -1)?];
-    let first = source(alloc, 1, 2, &[0, 3], &before)?;
-    let second = Quast::initial(alloc, 1)?;
-    let quast = Quast::branch(Form::of(alloc, &[1], -1)?, first, second)?;
-    assert_eq!(rt; quast.parameters(), 1);
-    assert_eq!(rt; quast.count(), 3);
-    assert_eq!(rt; quast.nodes().len(), 3);
-    for p in [-7, 0] {
-        assert_eq!(rt; quast.value_at(&[p])?, Leaf::Initial, "at {p}");
-    }
-    for (p, iterator) in [(1, 0), (2, 1), (5, 4)] {
-        assert_eq!(rt;
-            quast.value_at(&[p])?,
-            leaf(alloc, 2, &[0, 3], &[iterator])?,
-            "at {p}"
-        );
-    }
+    expect_made(&rt, branch(rt.alloc())?, 3, BRANCH);
     Ok(())
 }
+
+/// What halving p, rounded down, leaves, and the half.
+fn halved(alloc: Global) -> Result<Quast, Fail> {
+    let forms = forms(alloc, 2, &[&[1, -2, 0], &[0, 1, 0]])?;
+    let body = source(alloc, 2, 0, &[], &forms)?;
+    Ok(Quast::bind(Form::of(alloc, &[1], 0)?, 2, body)?)
+}
+
+/// What `halved` answers.
+const HALVED: &[(i128, Want)] = &[
+    (-4, Want::Found(0, &[], &[0, -2])),
+    (-3, Want::Found(0, &[], &[1, -2])),
+    (-1, Want::Found(0, &[], &[1, -1])),
+    (0, Want::Found(0, &[], &[0, 0])),
+    (3, Want::Found(0, &[], &[1, 1])),
+    (i128::MIN, Want::Wide(-2, -TWO_126)),
+];
 
 #[test]
 fn a_bind_rounds_down(rt: HostRuntime) -> Result<(), Fail> {
-    let alloc = rt.alloc();
-    let parts = [Form::of(alloc, &[1, -2], 0)?, Form::of(alloc, &[0, 1], 0)?];
-    let body = source(alloc, 2, 0, &[], &parts)?;
-    let halved = Quast::bind(Form::of(alloc, &[1], 0)?, 2, body)?;
-    assert_eq!(rt; halved.parameters(), 1);
-    assert_eq!(rt; halved.count(), 2);
-    for (p, rest, half) in [(-4, 0, -2), (-3, 1, -2), (-1, 1, -1), (0, 0, 0), (3, 1, 1)] {
-        assert_eq!(rt;
-            halved.value_at(&[p])?,
-            leaf(alloc, 0, &[], &[rest, half])?,
-            "at {p}"
-        );
-    }
-    let wide = Wide {
-        op: Op::Mul,
-        a: -2,
-        b: -TWO_126,
-    };
-    assert_eq!(rt; halved.value_at(&[i128::MIN]), Err(FormStop::Wide(wide)));
+    expect_made(&rt, halved(rt.alloc())?, 2, HALVED);
     Ok(())
 }
 
-#[test]
-fn forms_are_applied_at_each_leaf(rt: HostRuntime) -> Result<(), Fail> {
-    let alloc = rt.alloc();
+/// p - 1 and 2 p + 3 where p is at least 0, behind a bind to a third of p.
+fn bound(alloc: Global) -> Result<Quast, Fail>
+    ensures parameters { IfOk result (λ q. q.parameters ≡ 1) }
+    ensures leaves { IfOk result (λ q. (forms : List Affine) → All (λ f. length f.coefficients ≡ 2) forms
+        → Suits forms (tree_of q)) }
+{
     let iterators = [Form::of(alloc, &[1, 0], -1)?, Form::of(alloc, &[2, 0], 3)?];
     let first = source(alloc, 2, 7, &[4], &iterators)?;
     let branch = Quast::branch(
@@ -102,48 +150,77 @@ fn forms_are_applied_at_each_leaf(rt: HostRuntime) -> Result<(), Fail> {
         first,
         Quast::initial(alloc, 2)?,
     )?;
-    let quast = Quast::bind(Form::of(alloc, &[1], 0)?, 3, branch)?;
-    let forms = [Form::of(alloc, &[1, 1], -5)?, Form::of(alloc, &[-3, 0], 7)?];
-    let mapped = quast.map(&forms)?;
-    assert_eq!(rt; mapped.parameters(), 1);
-    assert_eq!(rt; mapped.count(), 4);
-    assert_eq!(rt; mapped.value_at(&[-1])?, Leaf::Initial);
-    for (p, sum, multiple) in [(0, -3, 10), (1, 0, 7), (4, 9, -2), (9, 24, -17)] {
-        assert_eq!(rt;
-            mapped.value_at(&[p])?,
-            leaf(alloc, 7, &[4], &[sum, multiple])?,
-            "at {p}"
-        );
+    Ok(Quast::bind(Form::of(alloc, &[1], 0)?, 3, branch)?)
+}
+
+/// Forms over two values at each leaf.
+fn applied(alloc: Global, rows: &[&[i128]]) -> Result<Result<Quast, FormStop>, Fail> {
+    let forms = forms(alloc, 2, rows)?;
+    let quast = bound(alloc)?;
+    Ok(quast.map(&forms))
+}
+
+/// What `bound` answers with two forms applied.
+const APPLIED: &[(i128, Want)] = &[
+    (-1, Want::Initial),
+    (0, Want::Found(7, &[4], &[-3, 10])),
+    (1, Want::Found(7, &[4], &[0, 7])),
+    (4, Want::Found(7, &[4], &[9, -2])),
+    (9, Want::Found(7, &[4], &[24, -17])),
+];
+
+#[test]
+fn forms_are_applied_at_each_leaf(rt: HostRuntime) -> Result<(), Fail> {
+    let made = applied(rt.alloc(), &[&[1, 1, -5], &[-3, 0, 7]])??;
+    expect_made(&rt, made, 4, APPLIED);
+    Ok(())
+}
+
+/// What stops a quast from being made.
+fn stop_of(made: Result<Quast, FormStop>) -> Option<FormStop> {
+    match made {
+        Err(stop) => Some(stop),
+        Ok(quast) => {
+            drop(quast);
+            None
+        }
     }
-    let large = [Form::of(alloc, &[0, TWO_126], 0)?];
+}
+
+#[test]
+fn a_form_at_a_leaf_is_too_wide(rt: HostRuntime) -> Result<(), Fail> {
+    let large = applied(rt.alloc(), &[&[0, TWO_126, 0]])?;
     let wide = Wide {
         op: Op::Mul,
         a: TWO_126,
         b: 2,
     };
-    assert_eq!(rt; quast.map(&large).err(), Some(FormStop::Wide(wide)));
+    assert!(rt; stop_of(large) == Some(FormStop::Wide(wide)));
     Ok(())
 }
+
+/// A great multiple of p where p is at least 0.
+fn great(alloc: Global) -> Result<Quast, Fail> {
+    let forms = forms(alloc, 1, &[&[TWO_126, 0]])?;
+    let first = source(alloc, 1, 0, &[], &forms)?;
+    Ok(Quast::branch(Form::of(alloc, &[1], 0)?, first, Quast::initial(alloc, 1)?)?)
+}
+
+/// What `great` answers.
+const GREAT: &[(i128, Want)] = &[
+    (-5, Want::Initial),
+    (1, Want::Found(0, &[], &[TWO_126])),
+    (4, Want::Wide(TWO_126, 4)),
+];
 
 #[test]
 fn only_the_way_of_the_point_is_told(rt: HostRuntime) -> Result<(), Fail> {
-    let alloc = rt.alloc();
-    let large = [Form::of(alloc, &[TWO_126], 0)?];
-    let first = source(alloc, 1, 0, &[], &large)?;
-    let quast = Quast::branch(Form::of(alloc, &[1], 0)?, first, Quast::initial(alloc, 1)?)?;
-    assert_eq!(rt; quast.value_at(&[-5])?, Leaf::Initial);
-    assert_eq!(rt; quast.value_at(&[1])?, leaf(alloc, 0, &[], &[TWO_126])?);
-    let wide = Wide {
-        op: Op::Mul,
-        a: TWO_126,
-        b: 4,
-    };
-    assert_eq!(rt; quast.value_at(&[4]), Err(FormStop::Wide(wide)));
+    expect_made(&rt, great(rt.alloc())?, 3, GREAT);
     Ok(())
 }
 
-// The greatest place from 0 to 4095 that is not above p, by a branch a place, whose first side or second
-// is all the rest.
+/// The greatest place from 0 to 4095 that is not above p, by a branch a place, whose first side or second
+/// is all the rest.
 fn staircase(alloc: Global, deep_first: bool) -> Result<Quast, Fail>
     ensures parameters { IfOk result (λ q. q.parameters ≡ 1) }
     ensures leaves { IfOk result (λ q. Suits (form_of (pos 1 ∷ []) (pos 7) ∷ []) (tree_of q)) }
@@ -161,29 +238,61 @@ fn staircase(alloc: Global, deep_first: bool) -> Result<Quast, Fail>
     Ok(quast)
 }
 
+/// The quast with 7 added to its value.
+fn moved(alloc: Global, quast: &Quast) -> Result<Quast, FormStop>
+    requires { Suits (form_of (pos 1 ∷ []) (pos 7) ∷ []) (tree_of quast.now) }
+{
+    match Form::of(alloc, &[1], 7) {
+        Err(stop) => Err(stop),
+        Ok(form) => quast.map(&[form]),
+    }
+}
+
+/// That a quast, which it lets go, and the one with 7 added have so many nodes and answer so.
+fn expect_both(
+    rt: &impl Abort,
+    alloc: Global,
+    quast: Quast,
+    count: usize,
+    answers: &[(i128, Want)],
+    moved_answers: &[(i128, Want)],
+)
+    requires { Suits (form_of (pos 1 ∷ []) (pos 7) ∷ []) (tree_of quast) }
+{
+    expect(rt, &quast, count, answers);
+    match moved(alloc, &quast) {
+        Err(_) => panic!(rt; "{count} nodes are moved"),
+        Ok(moved) => expect_made(rt, moved, count, moved_answers),
+    }
+    drop(quast);
+}
+
+/// What `staircase` answers.
+const STAIRCASE: &[(i128, Want)] = &[
+    (-1, Want::Initial),
+    (0, Want::Found(0, &[0], &[0])),
+    (2000, Want::Found(2000, &[2000], &[2000])),
+    (9999, Want::Found(4095, &[4095], &[4095])),
+];
+
+/// What it answers with 7 added.
+const MOVED_STAIRCASE: &[(i128, Want)] = &[
+    (-1, Want::Initial),
+    (0, Want::Found(0, &[0], &[7])),
+    (2000, Want::Found(2000, &[2000], &[2007])),
+    (9999, Want::Found(4095, &[4095], &[4102])),
+];
+
 #[test]
 fn deep_branches_need_no_stack(rt: HostRuntime) -> Result<(), Fail> {
-    let alloc = rt.alloc();
     for deep_first in [true, false] {
-        let quast = staircase(alloc, deep_first)?;
-        let mapped = quast.map(&[Form::of(alloc, &[1], 7)?])?;
-        assert_eq!(rt; mapped.count(), 8193);
-        assert_eq!(rt; quast.value_at(&[-1])?, Leaf::Initial);
-        for (p, place, moved) in [(0, 0, 7), (2000, 2000, 2007), (9999, 4095, 4102)] {
-            assert_eq!(rt;
-                quast.value_at(&[p])?,
-                leaf(alloc, place, &[place], &[place as i128])?
-            );
-            assert_eq!(rt;
-                mapped.value_at(&[p])?,
-                leaf(alloc, place, &[place], &[moved])?
-            );
-        }
+        let quast = staircase(rt.alloc(), deep_first)?;
+        expect_both(&rt, rt.alloc(), quast, 8193, STAIRCASE, MOVED_STAIRCASE);
     }
     Ok(())
 }
 
-// p + 1024, by 1,024 binds that each add 1 to the last variable.
+/// p + 1024, by 1,024 binds that each add 1 to the last variable.
 fn ladder(alloc: Global) -> Result<Quast, Fail>
     ensures parameters { IfOk result (λ q. q.parameters ≡ 1) }
     ensures leaves { IfOk result (λ q. Suits (form_of (pos 1 ∷ []) (pos 7) ∷ []) (tree_of q)) }
@@ -198,42 +307,48 @@ fn ladder(alloc: Global) -> Result<Quast, Fail>
     Ok(quast)
 }
 
+/// What `ladder` answers.
+const LADDER: &[(i128, Want)] = &[(-2024, Want::Found(0, &[], &[-1000]))];
+
+/// What it answers with 7 added.
+const MOVED_LADDER: &[(i128, Want)] = &[(-2024, Want::Found(0, &[], &[-993]))];
+
 #[test]
 fn deep_binds_need_no_stack(rt: HostRuntime) -> Result<(), Fail> {
-    let alloc = rt.alloc();
-    let quast = ladder(alloc)?;
-    let mapped = quast.map(&[Form::of(alloc, &[1], 7)?])?;
-    assert_eq!(rt; mapped.count(), 1025);
-    assert_eq!(rt; quast.value_at(&[-2024])?, leaf(alloc, 0, &[], &[-1000])?);
-    assert_eq!(rt; mapped.value_at(&[-2024])?, leaf(alloc, 0, &[], &[-993])?);
+    let quast = ladder(rt.alloc())?;
+    expect_both(&rt, rt.alloc(), quast, 1025, LADDER, MOVED_LADDER);
     Ok(())
 }
 
-#[test]
-fn a_builder_keeps_a_stack_of_trees(rt: HostRuntime) -> Result<(), Fail> {
-    let alloc = rt.alloc();
+/// Whether the root is a branch of a bind by 2 and the initial value.
+fn is_branch_of_a_bind(root: Part) -> bool {
+    match root {
+        Part::Branch { first, second, .. } => {
+            matches!(first.part(), Part::Bind { divisor: 2, .. })
+                && matches!(second.part(), Part::Initial)
+        }
+        _ => false,
+    }
+}
+
+/// Half of p, rounded down, twice taken off p where p is at least 0, by a builder that at last holds two trees.
+fn built(rt: &impl Abort, alloc: Global) -> Result<Quast, Fail> {
     let mut builder = Builder::new(alloc);
-    let mut forms = Vec::new(alloc);
-    forms.push(Form::of(alloc, &[1, -2], 0)?)?;
-    builder.leaf(2, forms)?;
+    builder.leaf(2, forms(alloc, 2, &[&[1, -2, 0]])?)?;
     builder.bind(Form::of(alloc, &[1], 0)?, 2)?;
     builder.initial()?;
-    assert_eq!(rt; builder.count(), 2);
+    assert!(rt; builder.count() == 2);
     builder.branch(Form::of(alloc, &[1], 0)?)?;
     let quast = builder.finish(1);
-    assert_eq!(rt; quast.count(), 4);
-    if let Part::Branch { first, second, .. } = quast.root().part() {
-        assert!(rt; matches!(first.part(), Part::Bind { divisor: 2, .. }));
-        assert!(rt; matches!(second.part(), Part::Initial));
-    } else {
-        assert!(rt; false, "the root is a branch");
-    }
-    assert_eq!(rt; quast.value_at(&[-1])?, Leaf::Initial);
-    let values = Vec::from_slice(alloc, &[1])?;
-    let found = Leaf::Found {
-        source: None,
-        values,
-    };
-    assert_eq!(rt; quast.value_at(&[7])?, found);
+    assert!(rt; is_branch_of_a_bind(quast.root().part()));
+    Ok(quast)
+}
+
+/// What `built` answers.
+const BUILT: &[(i128, Want)] = &[(-1, Want::Initial), (7, Want::Values(&[1]))];
+
+#[test]
+fn a_builder_keeps_a_stack_of_trees(rt: HostRuntime) -> Result<(), Fail> {
+    expect_made(&rt, built(&rt, rt.alloc())?, 4, BUILT);
     Ok(())
 }

@@ -19,8 +19,6 @@ mod dependences;
 mod elimination;
 mod model;
 mod systems;
-#[cfg(test)]
-mod tests;
 
 use case_lines::Lines;
 use dependences::farkas_rows;

@@ -1,8 +1,12 @@
 //! Data of one kernel: what it says, and each rule that it may break.
 
-use data_text::{Case, DataRefusal, DataStop, read_data, write_arrays};
+ghost use Rattle.scop_syntax.specs.Kernel.{IsKernel};
+ghost use Rattle.scop_syntax.specs.View.{program_of};
+
+use data_text::{DataRefusal, DataStop, read_data, write_arrays};
 use io_ports::{Failed, MemSink};
 use scop_parser::reader::read_kernel;
+use scop_syntax::tree::Kernel;
 use std::alloc::Global;
 use std::test::Fail;
 
@@ -10,7 +14,7 @@ use std::test::Fail;
 const TWO_ARRAYS: &str = "void k(int64_t N, int64_t M, uint64_t A[N - 1], uint64_t B[N][M]) { }";
 
 /// Data that says a case, and the text of its arrays.
-const SAID: [(&str, &str); 6] = [
+const SAID: &[(&str, &str)] = &[
     ("N = 2\nM = 1", "A = 0\nB = 0 0\n"),
     ("N=2\nM=1\nB=1 2\nA=3\n", "A = 3\nB = 1 2\n"),
     (
@@ -29,7 +33,7 @@ const SAID: [(&str, &str); 6] = [
 ];
 
 /// Data that breaks a rule, and the refusal.
-const REFUSED: [(&str, DataRefusal); 31] = [
+const REFUSED: &[(&str, DataRefusal)] = &[
     ("", DataRefusal::Missing(0)),
     ("N = 2\n", DataRefusal::Missing(1)),
     ("N 2\n", DataRefusal::Line(1)),
@@ -107,54 +111,81 @@ const REFUSED: [(&str, DataRefusal); 31] = [
     ),
 ];
 
-/// Reads data of the kernel.
-fn read(alloc: Global, data: &str) -> Result<Case, DataStop> {
-    match read_kernel(alloc, TWO_ARRAYS.as_bytes()) {
-        Ok(kernel) => read_data(alloc, &kernel, data.as_bytes()),
-        Err(_) => Err(DataStop::NoMemory),
+/// The rule that the data of a kernel breaks.
+fn refusal_for(alloc: Global, kernel: &Kernel, data: &str) -> Option<DataRefusal>
+    requires { IsKernel (program_of kernel.now) }
+{
+    match read_data(alloc, kernel, data.as_bytes()) {
+        Ok(case) => {
+            drop(case);
+            None
+        }
+        Err(DataStop::Refused(refusal)) => Some(refusal),
+        Err(DataStop::NoMemory) => None,
     }
 }
 
-/// What `write_arrays` writes of the case that data says.
-fn written(alloc: Global, data: &str, room: usize) -> Result<(MemSink, Result<(), Failed>), Fail> {
-    let mut sink = MemSink::of(alloc, room, 4096, &[])?;
-    let Ok(kernel) = read_kernel(alloc, TWO_ARRAYS.as_bytes()) else {
-        return Ok((sink, Err(Failed)));
-    };
-    match read_data(alloc, &kernel, data.as_bytes()) {
-        Ok(case) => {
-            let done = write_arrays(&kernel, &case, &mut sink);
-            Ok((sink, done))
+/// The rule that data of the kernel breaks; none where it says a case.
+fn refusal_of(alloc: Global, data: &str) -> Option<DataRefusal> {
+    match read_kernel(alloc, TWO_ARRAYS.as_bytes()) {
+        Ok(kernel) => {
+            let refusal = refusal_for(alloc, &kernel, data);
+            drop(kernel);
+            refusal
         }
-        Err(_) => Ok((sink, Err(Failed))),
+        Err(_) => None,
+    }
+}
+
+/// Writes the arrays of the case of a kernel that data says.
+fn write_case(alloc: Global, kernel: &Kernel, data: &str, sink: &mut MemSink) -> Result<(), Failed>
+    requires { IsKernel (program_of kernel.now) }
+{
+    match read_data(alloc, kernel, data.as_bytes()) {
+        Ok(case) => {
+            let done = write_arrays(kernel, &case, sink);
+            drop(case);
+            done
+        }
+        Err(_) => Err(Failed),
+    }
+}
+
+/// Writes the arrays of the kernel's case that data says.
+fn write(alloc: Global, data: &str, sink: &mut MemSink) -> Result<(), Failed> {
+    match read_kernel(alloc, TWO_ARRAYS.as_bytes()) {
+        Ok(kernel) => {
+            let done = write_case(alloc, &kernel, data, sink);
+            drop(kernel);
+            done
+        }
+        Err(_) => Err(Failed),
     }
 }
 
 #[test]
 fn reads_cases_and_writes_their_arrays(rt: HostRuntime) -> Result<(), Fail> {
-    for (data, arrays) in SAID {
-        let (sink, done) = written(rt.alloc(), data, 200)?;
-        assert_eq!(rt; done, Ok(()), "{data}");
-        assert_eq!(rt; sink.taken(), arrays.as_bytes(), "{data}");
+    for case in SAID {
+        let (data, arrays) = *case;
+        let mut sink = MemSink::of(rt.alloc(), 200, 4096, &[])?;
+        assert!(rt; write(rt.alloc(), data, &mut sink).is_ok(), "{data}");
+        assert!(rt; sink.taken() == arrays.as_bytes(), "{data}");
     }
     Ok(())
 }
 
 #[test]
-fn tells_the_first_rule_that_is_broken(rt: HostRuntime) -> Result<(), Fail> {
-    for (data, refusal) in REFUSED {
-        match read(rt.alloc(), data) {
-            Ok(_) => assert_eq!(rt; "read", "refused", "{data}"),
-            Err(stop) => assert_eq!(rt; stop, DataStop::Refused(refusal), "{data}"),
-        }
+fn tells_the_first_rule_that_is_broken(rt: HostRuntime) {
+    for case in REFUSED {
+        let (data, refusal) = *case;
+        assert!(rt; refusal_of(rt.alloc(), data) == Some(refusal), "{data}");
     }
-    Ok(())
 }
 
 #[test]
 fn writes_a_front_where_there_is_no_room(rt: HostRuntime) -> Result<(), Fail> {
-    let (sink, done) = written(rt.alloc(), "N = 2\nM = 1\n", 5)?;
-    assert_eq!(rt; done, Err(Failed));
-    assert_eq!(rt; sink.taken(), b"A = 0".as_slice());
+    let mut sink = MemSink::of(rt.alloc(), 5, 4096, &[])?;
+    assert!(rt; write(rt.alloc(), "N = 2\nM = 1\n", &mut sink).is_err());
+    assert!(rt; sink.taken() == b"A = 0".as_slice());
     Ok(())
 }

@@ -3,7 +3,7 @@
 use expression_grammar::node::Node;
 use expression_grammar::reader::{Stop, read};
 use expression_grammar::token::{Op, Suffix, Token};
-use std::test::Fail;
+use std::alloc::Global;
 
 const NAME: Token = Token::Name;
 
@@ -13,11 +13,33 @@ const MINUS: Token = Token::Binary(Op::Minus);
 
 const TIMES: Token = Token::Binary(Op::Times);
 
+/// What stops the reading of tokens.
+fn stop_of(alloc: Global, tokens: &[Token]) -> Option<Stop> {
+    match read(alloc, tokens) {
+        Ok(expression) => {
+            drop(expression);
+            None
+        }
+        Err(stop) => Some(stop),
+    }
+}
+
+/// Whether the tokens are read as these nodes.
+fn are_read_as(alloc: Global, tokens: &[Token], nodes: &[Node]) -> bool {
+    match read(alloc, tokens) {
+        Ok(expression) => {
+            let are_these = expression.count == tokens.len()
+                && expression.nodes.as_slice() == nodes;
+            drop(expression);
+            are_these
+        }
+        Err(_) => false,
+    }
+}
+
 #[test]
-fn differences_group_to_the_left(rt: HostRuntime) -> Result<(), Fail> {
+fn differences_group_to_the_left(rt: HostRuntime) {
     let text = [NAME, MINUS, NAME, MINUS, ONE, TIMES, ONE];
-    let found = read(rt.alloc(), &text).ok();
-    assert!(rt; found.is_some());
     let nodes = [
         Node::Name(0),
         Node::Name(2),
@@ -27,30 +49,25 @@ fn differences_group_to_the_left(rt: HostRuntime) -> Result<(), Fail> {
         Node::Binary(Op::Times, 5),
         Node::Binary(Op::Minus, 3),
     ];
-    if let Some(expression) = found {
-        assert_eq!(rt; expression.count, 7);
-        assert_eq!(rt; expression.nodes.as_slice(), nodes.as_slice());
-    }
-    Ok(())
+    assert!(rt; are_read_as(rt.alloc(), &text, &nodes));
 }
 
 #[test]
-fn a_missing_operand_is_told_at_the_next_token(rt: HostRuntime) -> Result<(), Fail> {
+fn a_missing_operand_is_told_at_the_next_token(rt: HostRuntime) {
     let text = [NAME, Token::OpenIndex, ONE, TIMES, Token::CloseIndex];
-    assert_eq!(rt; read(rt.alloc(), &text).err(), Some(Stop::Unfit(4)));
-    Ok(())
+    assert_eq!(rt; stop_of(rt.alloc(), &text), Some(Stop::Unfit(4)));
 }
 
 #[test]
-fn an_open_bracket_is_unended(rt: HostRuntime) -> Result<(), Fail> {
+fn an_open_bracket_is_unended(rt: HostRuntime) {
     let text = [Token::Open, Token::Uint64, Token::Close, ONE, MINUS];
-    assert_eq!(rt; read(rt.alloc(), &text).err(), Some(Stop::Unended(5)));
-    Ok(())
+    assert_eq!(rt; stop_of(rt.alloc(), &text), Some(Stop::Unended(5)));
 }
 
 #[test]
-fn the_sixty_fifth_bracket_is_too_deep(rt: HostRuntime) -> Result<(), Fail> {
-    let text = [Token::Open; 65];
-    assert_eq!(rt; read(rt.alloc(), &text).err(), Some(Stop::Depth(64)));
-    Ok(())
+fn the_sixty_fifth_bracket_is_too_deep(rt: HostRuntime) {
+    assert_eq!(rt;
+        stop_of(rt.alloc(), &[Token::Open; 65]),
+        Some(Stop::Depth(64))
+    );
 }

@@ -3,7 +3,7 @@
 use expression_grammar::reader::Stop;
 use expression_grammar::token::{Assign, Outside, Suffix, Token};
 use kernel_grammar::reader::read;
-use std::test::Fail;
+use std::alloc::Global;
 
 const VOID: Token = Token::Outside(Outside::Void);
 
@@ -38,29 +38,31 @@ const TEXT: [Token; 15] = [
     END,
 ];
 
-#[test]
-fn a_kernel_is_read(rt: HostRuntime) -> Result<(), Fail> {
-    let found = read(rt.alloc(), &TEXT).ok();
-    assert!(rt; found.is_some());
-    if let Some(text) = found {
-        assert_eq!(rt; text.parts.len(), 8);
+/// How many parts are read of tokens, or what stops that.
+fn count_of(alloc: Global, tokens: &[Token]) -> Result<usize, Stop> {
+    match read(alloc, tokens) {
+        Ok(text) => {
+            let count = text.parts.len();
+            drop(text);
+            Ok(count)
+        }
+        Err(stop) => Err(stop),
     }
-    Ok(())
 }
 
 #[test]
-fn a_missing_semicolon_is_told_at_the_next_token(rt: HostRuntime) -> Result<(), Fail> {
+fn a_kernel_is_read(rt: HostRuntime) {
+    assert_eq!(rt; count_of(rt.alloc(), &TEXT), Ok(8));
+}
+
+#[test]
+fn a_missing_semicolon_is_told_at_the_next_token(rt: HostRuntime) {
     let mut text = TEXT;
     text[13] = END;
-    assert_eq!(rt; read(rt.alloc(), &text).err(), Some(Stop::Unfit(13)));
-    Ok(())
+    assert_eq!(rt; count_of(rt.alloc(), &text), Err(Stop::Unfit(13)));
 }
 
 #[test]
-fn an_open_block_is_unended(rt: HostRuntime) -> Result<(), Fail> {
-    assert_eq!(rt;
-        read(rt.alloc(), &TEXT[..14]).err(),
-        Some(Stop::Unended(14))
-    );
-    Ok(())
+fn an_open_block_is_unended(rt: HostRuntime) {
+    assert_eq!(rt; count_of(rt.alloc(), &TEXT[..14]), Err(Stop::Unended(14)));
 }

@@ -5,7 +5,7 @@ use conflict_deps::conflicts;
 use iteration_domains::{Dep, Model};
 use scop_parser::reader::read_kernel;
 use std::alloc::{AllocError, Global};
-use std::process::Abort;
+use std::test::Fail;
 
 /// How many turns of each loop are tried: more than any of the kernels makes.
 const TURNS: usize = 6;
@@ -14,7 +14,7 @@ const TURNS: usize = 6;
 type Cell = (usize, [usize; 2]);
 
 /// An access of an instance: its place in the walk, and what it touches.
-#[derive(Debug, Clone, Copy)]
+#[derive(Clone, Copy)]
 struct Touch {
     place: usize,
     end: End,
@@ -22,7 +22,7 @@ struct Touch {
 }
 
 /// One end of a conflict: a statement from 0, the turns of the loops round it, a missing one being 0, and the access.
-#[derive(Debug, Clone, Copy, PartialEq, Eq)]
+#[derive(Clone, Copy, PartialEq, Eq)]
 struct End {
     statement: usize,
     turns: [usize; 2],
@@ -30,14 +30,14 @@ struct End {
 }
 
 /// Two accesses, the earlier first.
-#[derive(Debug, Clone, Copy, PartialEq, Eq)]
+#[derive(Clone, Copy, PartialEq, Eq)]
 struct Pair {
     source: End,
     target: End,
 }
 
 /// What a kernel touches, instance after instance.
-#[derive(Debug, Drop)]
+#[derive(Drop)]
 struct Walk {
     touches: Vec<Touch>,
     places: usize,
@@ -154,17 +154,17 @@ fn push_all_points(
     Ok(())
 }
 
-/// The points of a kernel's conflicts; nothing where the text is no kernel.
-fn points(alloc: Global, text: &str, parameter: usize) -> Result<Option<Vec<Pair>>, AllocError> {
+/// The points of a kernel's conflicts; an error where the text is no kernel.
+fn points(alloc: Global, text: &str, parameter: usize) -> Result<Vec<Pair>, AllocError> {
     match read_kernel(alloc, text.as_bytes()) {
-        Err(_) => Ok(None),
+        Err(_) => Err(AllocError),
         Ok(kernel) => {
             let model = Model::of(alloc, &kernel)?;
             let mut pairs = Vec::new(alloc);
             for dep in &conflicts(alloc, &model)? {
                 push_all_points(&mut pairs, alloc, dep, parameter)?;
             }
-            Ok(Some(pairs))
+            Ok(pairs)
         }
     }
 }
@@ -179,28 +179,29 @@ fn is_walked(
     alloc: Global,
     text: &str,
     parameter: usize,
-    walk: Result<Walk, AllocError>,
+    walk: &Walk,
     count: usize,
 ) -> Result<bool, AllocError> {
-    let walk = walk?;
-    let wanted = walked_pairs(alloc, &walk)?;
-    match points(alloc, text, parameter)? {
-        None => Ok(false),
-        Some(found) => Ok(wanted.len() == count && agree(&found, &wanted)),
-    }
-}
-
-fn expect(rt: &impl Abort, answer: Result<bool, AllocError>) {
-    match answer {
-        Err(_) => panic!(rt; "there is memory"),
-        Ok(agrees) => assert!(rt; agrees),
-    }
+    let wanted = walked_pairs(alloc, walk)?;
+    let found = points(alloc, text, parameter)?;
+    Ok(wanted.len() == count && agree(&found, &wanted))
 }
 
 const ARRAY: usize = 0;
 
 const OTHER: usize = 1;
 
+/// The kernels that are walked.
+#[derive(Clone, Copy)]
+enum Kernel {
+    Ahead,
+    Even,
+    Triangle,
+    Downwards,
+    Sums,
+}
+
+/// The second statement reads what the first writes a turn later.
 fn ahead(alloc: Global) -> Result<Walk, AllocError> {
     let mut walk = Walk::new(alloc);
     for i in 0..3usize {
@@ -210,31 +211,7 @@ fn ahead(alloc: Global) -> Result<Walk, AllocError> {
     Ok(walk)
 }
 
-/// The second statement reads what the first writes a turn later: 0 before 1, 1 before 2, and no other pair.
-#[test]
-fn a_read_before_the_next_write(rt: HostRuntime) {
-    let text = "void k(int64_t N, uint64_t A[N+1], uint64_t B[N]) {
-        for (int64_t i = 0; i < N; i++) { A[i] = A[i] + 1; B[i] = A[i+1]; } }";
-    let alloc = rt.alloc();
-    expect(&rt, is_walked(alloc, text, 3, ahead(alloc), 2));
-    let pair = |first: usize| Pair {
-        source: End {
-            statement: 1,
-            turns: [first, 0],
-            access: 1,
-        },
-        target: End {
-            statement: 0,
-            turns: [first.saturating_add(1), 0],
-            access: 0,
-        },
-    };
-    match points(alloc, text, 3) {
-        Ok(Some(found)) => assert_eq!(rt; found.as_slice(), [pair(0), pair(1)].as_slice()),
-        _ => panic!(rt; "there is memory, and the text is a kernel"),
-    }
-}
-
+/// Writes at even places, reads at odd ones.
 fn even(alloc: Global) -> Result<Walk, AllocError> {
     let mut walk = Walk::new(alloc);
     for j in 0..4usize {
@@ -243,15 +220,7 @@ fn even(alloc: Global) -> Result<Walk, AllocError> {
     Ok(walk)
 }
 
-/// Even cells are written, odd ones read: no pair.
-#[test]
-fn even_and_odd_cells(rt: HostRuntime) {
-    let text = "void k(int64_t N, uint64_t A[2*N]) {
-        for (int64_t j = 0; j < N; j++) A[2*j] = A[2*j+1]; }";
-    let alloc = rt.alloc();
-    expect(&rt, is_walked(alloc, text, 4, even(alloc), 0));
-}
-
+/// A triangle, in which cells are read before they are written.
 fn triangle(alloc: Global) -> Result<Walk, AllocError> {
     let mut walk = Walk::new(alloc);
     for i in 0..4usize {
@@ -263,15 +232,7 @@ fn triangle(alloc: Global) -> Result<Walk, AllocError> {
     Ok(walk)
 }
 
-/// A triangle, in which cells are read before they are written.
-#[test]
-fn cells_below_a_diagonal(rt: HostRuntime) {
-    let text = "void k(int64_t N, uint64_t A[N]) {
-        for (int64_t i = 0; i < N; i++) for (int64_t j = 0; j < i; j++) A[j] += A[i]; }";
-    let alloc = rt.alloc();
-    expect(&rt, is_walked(alloc, text, 4, triangle(alloc), 16));
-}
-
+/// A loop downwards by 2 under a guard: at 5 it runs at 4 and 2.
 fn downwards(alloc: Global) -> Result<Walk, AllocError> {
     let mut walk = Walk::new(alloc);
     for (turn, i) in [(0usize, 4usize), (1, 2)] {
@@ -281,15 +242,7 @@ fn downwards(alloc: Global) -> Result<Walk, AllocError> {
     Ok(walk)
 }
 
-/// A loop downwards by 2 under a guard: at 5 it runs at 4 and 2.
-#[test]
-fn downwards_by_two(rt: HostRuntime) {
-    let text = "void k(int64_t N, uint64_t A[N]) {
-        for (int64_t i = N - 1; i >= 0; i -= 2) if (i >= 1) { A[i-1] = A[i]; A[i] = A[i-2]; } }";
-    let alloc = rt.alloc();
-    expect(&rt, is_walked(alloc, text, 5, downwards(alloc), 3));
-}
-
+/// Statements within loops of different depths, all by one cell.
 fn sums(alloc: Global) -> Result<Walk, AllocError> {
     let mut walk = Walk::new(alloc);
     let total = (OTHER, [0, 0]);
@@ -305,13 +258,85 @@ fn sums(alloc: Global) -> Result<Walk, AllocError> {
     Ok(walk)
 }
 
-/// Statements within loops of different depths, all by one cell.
-#[test]
-fn a_sum_and_what_reads_it(rt: HostRuntime) {
-    let text = "void k(int64_t N, uint64_t A[N], uint64_t S[1]) {
+fn walked(alloc: Global, kernel: Kernel) -> Result<Walk, AllocError> {
+    match kernel {
+        Kernel::Ahead => ahead(alloc),
+        Kernel::Even => even(alloc),
+        Kernel::Triangle => triangle(alloc),
+        Kernel::Downwards => downwards(alloc),
+        Kernel::Sums => sums(alloc),
+    }
+}
+
+const AHEAD: &str = "void k(int64_t N, uint64_t A[N+1], uint64_t B[N]) {
+    for (int64_t i = 0; i < N; i++) { A[i] = A[i] + 1; B[i] = A[i+1]; } }";
+
+/// Kernels, the value of their parameter, and how many pairs of accesses conflict.
+const KERNELS: &[(Kernel, &str, usize, usize)] = &[
+    (Kernel::Ahead, AHEAD, 3, 2),
+    (
+        Kernel::Even,
+        "void k(int64_t N, uint64_t A[2*N]) {
+        for (int64_t j = 0; j < N; j++) A[2*j] = A[2*j+1]; }",
+        4,
+        0,
+    ),
+    (
+        Kernel::Triangle,
+        "void k(int64_t N, uint64_t A[N]) {
+        for (int64_t i = 0; i < N; i++) for (int64_t j = 0; j < i; j++) A[j] += A[i]; }",
+        4,
+        16,
+    ),
+    (
+        Kernel::Downwards,
+        "void k(int64_t N, uint64_t A[N]) {
+        for (int64_t i = N - 1; i >= 0; i -= 2) if (i >= 1) { A[i-1] = A[i]; A[i] = A[i-2]; } }",
+        5,
+        3,
+    ),
+    (
+        Kernel::Sums,
+        "void k(int64_t N, uint64_t A[N], uint64_t S[1]) {
         S[0] = 0;
         for (int64_t i = 0; i < N; i++) S[0] += A[i];
-        for (int64_t i = 0; i < N; i++) for (int64_t j = 0; j < 2; j++) A[i] += S[0]; }";
-    let alloc = rt.alloc();
-    expect(&rt, is_walked(alloc, text, 3, sums(alloc), 54));
+        for (int64_t i = 0; i < N; i++) for (int64_t j = 0; j < 2; j++) A[i] += S[0]; }",
+        3,
+        54,
+    ),
+];
+
+#[test]
+fn conflicts_are_those_of_the_walk(rt: HostRuntime) -> Result<(), Fail> {
+    for case in KERNELS {
+        let (kernel, text, parameter, count) = *case;
+        let walk = walked(rt.alloc(), kernel)?;
+        let agrees = is_walked(rt.alloc(), text, parameter, &walk, count)?;
+        assert!(rt; agrees, "{text}");
+    }
+    Ok(())
+}
+
+/// A turn's read in the second statement, before the next turn's write in the first.
+fn ahead_at(turn: usize) -> Pair {
+    Pair {
+        source: End {
+            statement: 1,
+            turns: [turn, 0],
+            access: 1,
+        },
+        target: End {
+            statement: 0,
+            turns: [turn.saturating_add(1), 0],
+            access: 0,
+        },
+    }
+}
+
+/// 0 before 1, 1 before 2, and no other pair.
+#[test]
+fn a_read_before_the_next_write(rt: HostRuntime) -> Result<(), Fail> {
+    let found = points(rt.alloc(), AHEAD, 3)?;
+    assert!(rt; found.as_slice() == [ahead_at(0), ahead_at(1)].as_slice());
+    Ok(())
 }
