@@ -1,0 +1,40 @@
+"""Times `polypar schedule` on kernels against gcc's own polyhedral passes. Called by schedule.sh.
+
+usage: schedule.py PROGRAM FOLDER ROUNDS FILE..
+"""
+
+import os
+import sys
+
+from timing import rounds_of, shortest
+
+GCC = ["gcc", "-O2", "-floop-nest-optimize", "-floop-parallelize-all", "-ftree-parallelize-loops=4", "-c", "-o", os.devnull]
+
+
+def kernel_in(folder, file):
+    """The kernel as a file for gcc: what stands before the line `%%`, behind the header that it wants."""
+    with open(file, encoding="utf-8") as source:
+        text = source.read().split("\n%%\n")[0] + "\n"
+    kernel = os.path.join(folder, os.path.basename(file))
+    with open(kernel, "w", encoding="utf-8") as out:
+        out.write("#include <stdint.h>\n" + text)
+    return kernel
+
+
+def main():
+    program, folder, rounds, *files = sys.argv[1:]
+    sums = {"schedule": 0.0, "gcc": 0.0}
+    for file in files:
+        commands = {"schedule": [program, "schedule"], "gcc": GCC + [kernel_in(folder, file)]}
+        times, printed = shortest(commands, rounds_of([rounds], 5), file)
+        for name in sums:
+            sums[name] += times[name]
+        kept = printed["schedule"].decode().strip() if printed["schedule"].startswith(b"kept") else ""
+        own, other = 1000 * times["schedule"], 1000 * times["gcc"]
+        name = os.path.basename(file)
+        print(f"{name:24} schedule {own:9.2f} ms  gcc {other:8.2f} ms  ratio {own / other:6.2f}  {kept}", flush=True)
+    own, other = 1000 * sums["schedule"], 1000 * sums["gcc"]
+    print(f"{'sum':24} schedule {own:9.2f} ms  gcc {other:8.2f} ms  ratio {own / other:6.2f}")
+
+
+main()
