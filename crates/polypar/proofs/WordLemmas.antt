@@ -1,6 +1,6 @@
 -- What `clap` reads of the command line.
-use Rattle.std.proofs.Common.{[], ◌∷◌, ◌⊎◌, inl, inr, cond, is_some, ◌≡◌, ◌∙◌, sym, ap, refl, ℕ, Bool, true, false, List, Option, None, Some}
-use Rattle.std.proofs.Common.{Result, Ok, Err, if◌then◌else◌, arith}
+use Rattle.std.proofs.Common.{◌≡◌, ◌∙◌, sym, ap, refl, ◌⊎◌, inl, inr, ℕ, Bool, true, false, cond, List, [], ◌∷◌, Option}
+use Rattle.std.proofs.Common.{None, Some, is_some, Result, Ok, Err, if◌then◌else◌, arith}
 use Rattle.std.specs.Prelude.{◌||◌, slice_index_or, codes, IfOk, option_map, unwrap_or, Box}
 use Rattle.std.specs.Box.{box_value}
 use Rattle.std.specs.Option.{option_map_or}
@@ -9,9 +9,11 @@ use Rattle.clap.specs.Matches.{ReadsOne}
 use Rattle.std.specs.List.{find}
 use Rattle.clap.specs.Kinds.{Kinds, or_else}
 use Rattle.clap.specs.Faults.{check_fault, defaults_fault, entered_fault, level_fault, settle_fault, walk_fault}
-use Rattle.clap.specs.Walk.{answers_to, finished, Held, Names, nothing_held, rows_after, settled, stop_after, walk, walk_from, Row, Text}
+use Rattle.clap.specs.Walk.{Held, Names, Row, Text, answers_to, finished, nothing_held, rows_after, settled, stop_after}
+use Rattle.clap.specs.Walk.{walk, walk_from}
 use Rattle.clap.specs.Built.{AddsSubcommand}
-use Rattle.clap.specs.Simple.{Shape, argument_words, names_of, built, entered, label_of, rows_at, App, app_of, app_of_fields, new_app, on_top, shape_of, subcommand_rows, with_subcommand}
+use Rattle.clap.specs.Simple.{App, Shape, app_of, app_of_fields, argument_words, built, entered, label_of, names_of}
+use Rattle.clap.specs.Simple.{new_app, on_top, rows_at, shape_of, subcommand_rows, with_subcommand}
 use Rattle.clap.specs.ValueTests.{is_unsigned_in}
 use Rattle.clap.specs.declared.builder.command.Command as clap_command
 use Rattle.clap.specs.declared.builder.command.Command.TheViews.{out-Command}
@@ -161,7 +163,8 @@ wants_one rows true none = refl
 wants_one rows false none = cc
 
 -- words that are taken name a command
-pub taken_names : (words : List Text) → IsTaken words → NamesCommand (codes "run") words ⊎ NamesCommand (codes "schedule") words
+pub taken_names : (words : List Text) → IsTaken words
+    → NamesCommand (codes "run") words ⊎ NamesCommand (codes "schedule") words
 taken_names words taken =
     let a = built tool in
     let stop = stop_after a.top.rules (names_of a) (argument_words tool words) in
