@@ -106,8 +106,10 @@ input_end : (status : Status) (input : List ℕ) (out out_after : SinkShows) →
 input_end Done input out after answer =
     done_end Run input (asked_text answer.0) out after (accepted_is_done input answer.0) (answer.0, refl) answer.1
 input_end Usage input out after answer = absurd answer
-input_end (Refused refusal) input out after answer = untouched_end Run (Refused refusal) input out after answer.0 answer.1
-input_end (BadData refusal) input out after answer = untouched_end Run (BadData refusal) input out after answer.0 answer.1
+input_end (Refused refusal) input out after answer =
+    untouched_end Run (Refused refusal) input out after answer.0 answer.1
+input_end (BadData refusal) input out after answer =
+    untouched_end Run (BadData refusal) input out after answer.0 answer.1
 input_end (Outside f) input out after answer = untouched_end Run (Outside f) input out after answer.0 answer.1
 input_end ReadFault input out after answer = absurd answer
 input_end WriteFault input out after answer =

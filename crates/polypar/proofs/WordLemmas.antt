@@ -1,14 +1,19 @@
 -- What `clap` reads of the command line.
-use Rattle.std.proofs.Common.{◌≡◌, ◌∙◌, sym, ap, refl, ℕ, Bool, true, false, List, Option, None, Some}
-use Rattle.std.proofs.Common.{Result, Ok, Err, if◌then◌else◌, arith}
-use Rattle.std.specs.Prelude.{◌||◌, codes, IfOk, option_map, unwrap_or, Box}
+use Rattle.std.proofs.Common.{◌≡◌, ◌∙◌, sym, ap, refl, ◌⊎◌, inl, inr, ℕ, Bool, true, false, cond, List, [], ◌∷◌, Option}
+use Rattle.std.proofs.Common.{None, Some, is_some, Result, Ok, Err, if◌then◌else◌, arith}
+use Rattle.std.specs.Prelude.{◌||◌, slice_index_or, codes, IfOk, option_map, unwrap_or, Box}
 use Rattle.std.specs.Box.{box_value}
 use Rattle.std.specs.Option.{option_map_or}
 use Rattle.std.specs.Str.Parse.{ParsesUnsigned, digits_value, without_leading_plus}
 use Rattle.clap.specs.Matches.{ReadsOne}
-use Rattle.clap.specs.Walk.{Row, Text}
+use Rattle.std.specs.List.{find}
+use Rattle.clap.specs.Kinds.{Kinds, or_else}
+use Rattle.clap.specs.Faults.{check_fault, defaults_fault, entered_fault, level_fault, settle_fault, walk_fault}
+use Rattle.clap.specs.Walk.{Held, Names, Row, Text, answers_to, finished, nothing_held, rows_after, settled, stop_after}
+use Rattle.clap.specs.Walk.{walk, walk_from}
 use Rattle.clap.specs.Built.{AddsSubcommand}
-use Rattle.clap.specs.Simple.{App, app_of, app_of_fields, new_app, on_top, shape_of, subcommand_rows, with_subcommand}
+use Rattle.clap.specs.Simple.{App, Shape, app_of, app_of_fields, argument_words, built, entered, label_of, names_of}
+use Rattle.clap.specs.Simple.{new_app, on_top, rows_at, shape_of, subcommand_rows, with_subcommand}
 use Rattle.clap.specs.ValueTests.{is_unsigned_in}
 use Rattle.clap.specs.declared.builder.command.Command as clap_command
 use Rattle.clap.specs.declared.builder.command.Command.TheViews.{out-Command}
@@ -16,7 +21,7 @@ use Rattle.clap.specs.declared.builder.value_parser.ValueParser.TheVariants as v
 use Rattle.clap.specs.declared.parser.matches.ArgMatches.TheViews.{out-SubCommand}
 use Rattle.clap.specs.declared.parser.matches.SubCommand.{SubCommand}
 use Rattle.clap.proofs.ValueTestLemmas.{accepts-Accepts, Accepts-accepts}
-use Rattle.polypar.specs.Command.{bare_tool, schedule_tool, tool, number_of, most_moves}
+use Rattle.polypar.specs.Command.{bare_tool, schedule_tool, tool, number_of, most_moves, IsTaken, NamesCommand}
 
 -- a text that reads as a number
 number_read : (E : Type 0) (t : Text) (n : ℕ) → ParsesUnsigned {E = E} 64 10 t (Ok n) → n ≡ number_of t
@@ -63,11 +68,18 @@ module _ {Z : Type 0} where
   none_met None is = refl
   none_met (Some b) is = cc
 
--- a command that wants one of its subcommands
-pub wanting_is : (old new : clap_command.Command)
-    → out-Command new ≡ record (out-Command old) { subcommand_required = true }
-    → app_of new ≡ on_top (λ top. record top { subcommand_required = true }) (app_of old)
-wanting_is old new is = ap app_of_fields is
+-- a command that wants one of its subcommands, of which `help` is none
+pub wanting_is : (old mid new : clap_command.Command)
+    → out-Command mid ≡ record (out-Command old) { subcommand_required = true }
+    → out-Command new ≡ record (out-Command mid) { disable_help_subcommand = true }
+    → app_of new
+    ≡ on_top (λ top. record top { subcommand_required = true; disable_help_subcommand = true }) (app_of old)
+wanting_is old mid new wants helps =
+    let first : app_of mid ≡ on_top (λ top. record top { subcommand_required = true }) (app_of old) =
+    ap app_of_fields wants in
+    let second : app_of new ≡ on_top (λ top. record top { disable_help_subcommand = true }) (app_of mid) =
+    ap app_of_fields helps in
+    second ∙ ap (λ (a : App). on_top (λ top. record top { disable_help_subcommand = true }) a) first
 
 -- the two commands make the stated one
 pub stated_is : {E : Type 0} (bare run one schedule : clap_command.Command) (result : Result clap_command.Command E)
@@ -93,3 +105,69 @@ stated_plain bare run one schedule (Ok c) bare_plain run_plain schedule_plain fi
     second.globals ∙ (ap (λ b. b || (out-Command schedule).has_globals)
     (first.globals ∙ (ap (λ b. b || (out-Command run).has_globals) bare_plain ∙ run_plain)) ∙ schedule_plain)
 stated_plain bare run one schedule (Err e) bare_plain run_plain schedule_plain first second = tt
+
+-- ---- words that are taken
+
+-- where one thing or another fails by no kind, the other does
+none_behind : (a b : Kinds) → or_else a b ≡ [] → b ≡ []
+none_behind [] b none = none
+none_behind (k ∷ ks) b none = cc
+
+-- where a level of a parse fails by no kind, its last check does not
+last_check : (s : Shape) (names : Names) (h : Held) (words : List Text) (met : Bool) (below : Kinds)
+    → level_fault s names h words met below ≡ [] → (rows : List Row) × (check_fault s rows met ≡ [])
+last_check s names h words met below none =
+    let end = (walk s.rules names h words).held in
+    let defaults = defaults_fault (settled s.rules end).rows s.rules in
+    let check = check_fault s (finished s.rules end) met in
+    let settles = settle_fault s.rules s.args_override_self end in
+    let behind_walk = none_behind (walk_fault s names (walk_from h) words)
+    (or_else below (or_else settles (or_else defaults check))) none in
+    let behind_below = none_behind below (or_else settles (or_else defaults check)) behind_walk in
+    let behind_settles = none_behind settles (or_else defaults check) behind_below in
+    (finished s.rules end, none_behind defaults check behind_settles)
+
+-- of two commands the one that answers to a word
+one_of_two : (a b : Shape) (answers : Shape → Bool) (words : List Text)
+    → is_some (option_map (λ s. rows_at s words) (find answers (a ∷ b ∷ []))) ≡ true
+    → ((rows : List Row) × (option_map (λ s. rows_at s words) (find answers (a ∷ b ∷ [])) ≡ Some (a.name, rows)))
+    ⊎ ((rows : List Row) × (option_map (λ s. rows_at s words) (find answers (a ∷ b ∷ [])) ≡ Some (b.name, rows)))
+one_of_two a b answers words some = go (answers a) (answers b) refl refl
+  where
+    Met : Bool → Bool → Option (Text × List Row)
+    Met p q = option_map (λ s. rows_at s words) (cond p (Some a) (cond q (Some b) None))
+
+    go : (p q : Bool) → answers a ≡ p → answers b ≡ q
+        → ((rows : List Row) × (option_map (λ s. rows_at s words) (find answers (a ∷ b ∷ [])) ≡ Some (a.name, rows)))
+        ⊎ ((rows : List Row) × (option_map (λ s. rows_at s words) (find answers (a ∷ b ∷ [])) ≡ Some (b.name, rows)))
+    go true q is_a is_b = inl (rows_after a.rules [] words, ap (λ p. Met p (answers b)) is_a)
+    go false true is_a is_b =
+        inr (rows_after b.rules [] words, ap (λ p. Met p (answers b)) is_a ∙ ap (λ q. Met false q) is_b)
+    go false false is_a is_b =
+        let none = ap (λ p. Met p (answers b)) is_a ∙ ap (λ q. Met false q) is_b in
+        let bad : false ≡ true = sym (ap is_some none) ∙ some in cc
+
+-- the command at which a parse stopped
+stopped_at : (stop : Option (Text × List Text)) → is_some (entered (built tool) stop) ≡ true
+    → ((rows : List Row) × (entered (built tool) stop ≡ Some (codes "run", rows)))
+    ⊎ ((rows : List Row) × (entered (built tool) stop ≡ Some (codes "schedule", rows)))
+stopped_at None some = cc
+stopped_at (Some stop) some =
+    let spare = (new_app []).top in
+    one_of_two (slice_index_or (built tool).subs 0 spare) (slice_index_or (built tool).subs 1 spare)
+    (λ s. answers_to stop.0 (label_of s)) stop.1 some
+
+-- the stated command wants one of its commands
+wants_one : (rows : List Row) (met : Bool) → check_fault (built tool).top rows met ≡ [] → met ≡ true
+wants_one rows true none = refl
+wants_one rows false none = cc
+
+-- words that are taken name a command
+pub taken_names : (words : List Text) → IsTaken words
+    → NamesCommand (codes "run") words ⊎ NamesCommand (codes "schedule") words
+taken_names words taken =
+    let a = built tool in
+    let stop = stop_after a.top.rules (names_of a) (argument_words tool words) in
+    let last = last_check a.top (names_of a) nothing_held (argument_words tool words) (is_some (entered a stop))
+    (entered_fault a stop) taken in
+    stopped_at stop (wants_one last.0 (is_some (entered a stop)) last.1)

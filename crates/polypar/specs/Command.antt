@@ -21,9 +21,11 @@ budget_option =
       parser = Some (parser.Unsigned 1 20000);
     }
 
--- `polypar`, which wants one of its commands
+-- `polypar`, which wants one of its commands; `help` is none of them
 abbrev pub bare_tool : App
-bare_tool = on_top (λ top. record top { subcommand_required = true }) (new_app (codes "polypar"))
+bare_tool =
+    on_top (λ top. record top { subcommand_required = true; disable_help_subcommand = true })
+    (new_app (codes "polypar"))
 
 -- `schedule [--budget B]`
 abbrev pub schedule_tool : App
@@ -54,7 +56,7 @@ budget_in rows = option_map_or number_of (one_of (codes "budget") rows) most_mov
 abbrev pub command_named : Text × List Row → Command
 command_named named = if bytes_eq named.0 (codes "schedule") then Schedule (budget_in named.1) else Run
 
--- the command that is met, or `run` where none is; where words are taken one is met
+-- the command that is met, or `run` where none is; but words that are taken name one (law `taken_words_name_a_command`)
 abbrev pub command_met : Option (Text × List Row) → Command
 command_met met = option_map_or command_named met Run
 
@@ -69,3 +71,7 @@ IsRunCommand words = IsTaken words × (command_of words ≡ Run)
 -- the words are `schedule` with this budget
 abbrev pub IsScheduleCommand : ℕ → List Text → Type 0
 IsScheduleCommand budget words = IsTaken words × (command_of words ≡ Schedule budget)
+
+-- the words name this command, with some matches
+abbrev pub NamesCommand : Text → List Text → Type 0
+NamesCommand name words = (rows : List Row) × (subcommand_of tool words ≡ Some (name, rows))

@@ -36,7 +36,9 @@ fn bare<'a>(alloc: Global) -> clap::Command<'a>
     ensures command { app_of result ≡ bare_tool }
     ensures plain { (out-Command result).has_globals ≡ false }
 {
-    clap::Command::new(alloc, "polypar").subcommand_required(true)
+    clap::Command::new(alloc, "polypar")
+        .subcommand_required(true)
+        .disable_help_subcommand(true)
 }
 
 /// The command `schedule` with its option.

@@ -1,12 +1,14 @@
-//! What is printed is data again: a law, as the contract of a function that does nothing.
+//! What is printed is data again, and words that are taken name a command: laws, as contracts of functions that do
+//! nothing.
 
-ghost use Rattle.std.specs.Prelude.{All, ◌<◌, ◌^◌, ℕ, ℤ, List};
+ghost use Rattle.std.specs.Prelude.{All, ◌⊎◌, ◌<◌, ◌^◌, ℕ, ℤ, List, codes};
 ghost use Rattle.scop_syntax.specs.Tree.{Program};
 ghost use Rattle.scop_syntax.specs.Execution.{IsShaped, layout};
 ghost use Rattle.scop_syntax.specs.Limits.{WithinLimits};
 ghost use Rattle.scop_parser.specs.Spelling.{SpellsProgram};
 ghost use Rattle.data_text.specs.Cases.{Says};
 ghost use Rattle.data_text.specs.Written.{case_text};
+ghost use Rattle.polypar.specs.Command.{IsTaken, NamesCommand};
 
 use data_text::written_cases_are_read_back;
 use scop_parser::laws::spelled_programs_are_kernels;
@@ -22,3 +24,9 @@ pub fn printed_arrays_are_data()
     spelled_programs_are_kernels();
     written_cases_are_read_back();
 }
+
+/// Words that the stated command takes name `run` or `schedule`.
+pub fn taken_words_name_a_command()
+    ensures { (words : List (List ℕ)) → IsTaken words
+        → NamesCommand (codes "run") words ⊎ NamesCommand (codes "schedule") words }
+{}

@@ -14,7 +14,7 @@ mod plan;
 mod run;
 
 pub use in_memory::command_in_memory;
-pub use laws::printed_arrays_are_data;
+pub use laws::{printed_arrays_are_data, taken_words_name_a_command};
 pub use plain::{deserved_once, plain_command, polypar};
 pub use report_text::{DataRefusal, Outside, Refusal, RefusalKind, Status};
 pub use run::LONGEST_INPUT;

@@ -103,8 +103,9 @@ blocks_lines [] at count bands is = refl
 blocks_lines (scalar numbers ∷ bs) at count bands is =
     let none = ap (λ b. begins b at) is ∙ begins_later (suc at) at bs (omega arith) in
     let same = stays bands count at none in
-    ap (λ c. item_text (suc at) c false (plain.scalar numbers) ++ items_text (suc at) c bands (items_of bs) (marks_of bs))
-    same ∙ ap (λ t. item_text (suc at) count false (plain.scalar numbers) ++ t) (blocks_lines bs (suc at) count bands is)
+    let line = item_text (suc at) count false (plain.scalar numbers) in
+    ap (λ c. line ++ items_text (suc at) c bands (items_of bs) (marks_of bs)) same
+    ∙ ap (λ t. line ++ t) (blocks_lines bs (suc at) count bands is)
 blocks_lines (band [] ∷ bs) at count bands is = blocks_lines bs at count bands is
 blocks_lines (band (m ∷ ms) ∷ bs) at count bands is =
     let first : begins (drop count bands) at ≡ true = ap (λ b. begins b at) is ∙ eq-eqb at at refl in

@@ -14,7 +14,12 @@ returns-in-Err-TooLong-clause-answer g c =
     (c.in-Err-TooLong.ensures.too_long (ap Err c.in-Err-TooLong.field-0-is)) in
     subst (λ ending. AnswersCommand c.args.command ending.status source after out out) (sym c.of-in-Err-TooLong.ensures)
     (subst (λ status. AnswersCommand c.args.command status source after out out) (sym c.too_long.ensures)
-    (inl (record { input = input.0; whole = input.1; answer = long_answers c.args.command input.0 out input.2; at_end = λ e. cc })))
+    (inl (record {
+      input = input.0;
+      whole = input.1;
+      answer = long_answers c.args.command input.0 out input.2;
+      at_end = λ e. cc;
+    })))
 
 pub returns-in-Err-NoMemory-clause-answer : goal.returns-in-Err-NoMemory-clause-answer
 returns-in-Err-NoMemory-clause-answer g c =
@@ -22,5 +27,11 @@ returns-in-Err-NoMemory-clause-answer g c =
     let after = g.S.Source.shows c.read_to_end.new.source in
     let out = g.O.Sink.shows c.args.out.now in
     let input = some_input source.left in
-    subst (λ ending. AnswersCommand c.args.command ending.status source after out out) (sym c.of-in-Err-NoMemory.ensures)
-    (inl (record { input = input.0; whole = input.1; answer = memory_answers c.args.command input.0 out; at_end = λ e. cc }))
+    subst (λ ending. AnswersCommand c.args.command ending.status source after out out)
+    (sym c.of-in-Err-NoMemory.ensures)
+    (inl (record {
+      input = input.0;
+      whole = input.1;
+      answer = memory_answers c.args.command input.0 out;
+      at_end = λ e. cc;
+    }))

@@ -19,5 +19,6 @@ returns-in-Err-Refused-clause-answer g c =
 pub returns-in-Err-NoMemory-clause-answer : goal.returns-in-Err-NoMemory-clause-answer
 returns-in-Err-NoMemory-clause-answer g c =
     let out = g.O.Sink.shows c.args.out.now in
-    subst (λ ending. AnswersFor c.args.command ending.status c.args.input.now out out) (sym c.of-in-Err-NoMemory.ensures)
+    subst (λ ending. AnswersFor c.args.command ending.status c.args.input.now out out)
+    (sym c.of-in-Err-NoMemory.ensures)
     (memory_answers c.args.command c.args.input.now out)

@@ -42,6 +42,7 @@ returns c =
     record {
       blocks = is.blocks;
       run = is.run;
-      text_is = schedule_lines schedule.items schedule.parallel schedule.bands is.blocks c.loop-at.text.items c.loop-at.at
+      text_is = schedule_lines schedule.items schedule.parallel schedule.bands is.blocks c.loop-at.text.items
+          c.loop-at.at
           c.loop-at.count is.items is.bands is.parallel past c.loop-at.invariant.whole;
     }
