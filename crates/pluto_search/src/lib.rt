@@ -4,8 +4,18 @@
 //! question that stops.
 #![tactic(auto)]
 
+mod begin;
+mod ends;
 mod kept;
+mod laws;
+mod next;
+mod question;
+mod restricting;
+mod rows;
 mod searching;
+mod state;
+mod stops;
 
 pub use kept::Kept;
+pub use laws::schedules_order_conflicts;
 pub use searching::search;
