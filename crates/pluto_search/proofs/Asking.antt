@@ -1,5 +1,5 @@
 -- The least point of the problem that a system poses is the system's.
-use Rattle.std.proofs.Common.{◌≡◌, ℕ, ◌+◌, ℤ, pos, List, [], ◌∷◌, ◌++◌, refl, sym, ◌∙◌, ap, subst, inl, inr, arith, length, All, None, Some}
+use Rattle.std.proofs.Common.{◌≡◌, ℕ, ◌+◌, ℤ, pos, List, [], ◌∷◌, refl, sym, ◌∙◌, ap, subst, inl, inr, arith, length, None, Some}
 use Rattle.std.specs.Prelude.{◌≤ℤ◌, Option, Vec, Result, Ok, Err, IfOk}
 use Rattle.std.specs.Option.{ForSome, IfNone}
 use Rattle.std.specs.Global.{Global}
@@ -11,7 +11,7 @@ use Rattle.fractions.specs.Farkas.{AreNotNegative}
 use Rattle.integer_sets.specs.Constraints.{Constraints, IsSized, variables_in}
 use Rattle.integer_sets.specs.Points.{Satisfies}
 use Rattle.tableau_rows.specs.Problem.{problem_of, IsPoint, IsLexmin, IsEmpty}
-use Rattle.lexmin_runs.specs.Emptiness.{posed_run, IsBoundedPoint}
+use Rattle.lexmin_runs.specs.Emptiness.{posed_run}
 use Rattle.lexmin_runs.proofs.Emptiness.{posed_points}
 use Rattle.checked_tableau.specs.declared.problem.Problem.{Problem}
 use Rattle.pip_solver.specs.declared.stop.Stop.TheVariants as solver
@@ -40,16 +40,16 @@ points s rows xs flat sized posed size =
     let p = posed_points s rows xs [] sized posed size (sym flat) in
     let same = append-nil xs in (
       λ h.
-        let b = p.1.0 (subst (λ (z : List ℤ). IsPoint (problem_of (variables_in s) rows) [] z) (sym same) h) in
-        (nested_all xs (subst NotNegative same b.not_negative), subst (λ (z : List ℤ). Satisfies s z) same b.inside),
+          let b = p.1.0 (subst (λ (z : List ℤ). IsPoint (problem_of (variables_in s) rows) [] z) (sym same) h) in
+          (nested_all xs (subst NotNegative same b.not_negative), subst (λ (z : List ℤ). Satisfies s z) same b.inside),
       λ t.
-        subst (λ (z : List ℤ). IsPoint (problem_of (variables_in s) rows) [] z) same (p.1.1 (record {
-          dimensions = size;
-          parameters = sym flat;
-          not_negative = subst NotNegative (sym same) (all_nested xs t.0);
-          bounded = All-nil (λ (z : ℤ). z ≤ℤ pos 65536);
-          inside = subst (λ (z : List ℤ). Satisfies s z) (sym same) t.1;
-        })),
+          subst (λ (z : List ℤ). IsPoint (problem_of (variables_in s) rows) [] z) same (p.1.1 (record {
+            dimensions = size;
+            parameters = sym flat;
+            not_negative = subst NotNegative (sym same) (all_nested xs t.0);
+            bounded = All-nil (λ (z : ℤ). z ≤ℤ pos 65536);
+            inside = subst (λ (z : List ℤ). Satisfies s z) (sym same) t.1;
+          })),
     )
 
 pub wide_at : (s : Constraints) → s.parameters ≡ 0 → variables_in s ≡ s.dimensions
@@ -73,7 +73,7 @@ least_is s posed xs flat a h =
       size = size;
       inside = (points s posed.rows.items xs flat a.1 a.0.rows size).0 l.inside;
       least = λ other e t less.
-        l.least other (e ∙ sym (wide_at s flat)) ((points s posed.rows.items other flat a.1 a.0.rows e).1 t) less;
+          l.least other (e ∙ sym (wide_at s flat)) ((points s posed.rows.items other flat a.1 a.0.rows e).1 t) less;
     }
 
 -- what the least point's call tells of the problem, it tells of the system

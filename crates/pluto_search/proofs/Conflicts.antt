@@ -1,7 +1,6 @@
 -- The conflicts of a kernel's model are dependences between its statements.
-use Rattle.std.proofs.Common.{◌≡◌, ℕ, zero, suc, ◌+◌, ◌<◌, List, [], ◌∷◌, refl, sym, ◌∙◌, ap, subst, arith, length, map, Some, All}
-use Rattle.std.specs.Prelude.{◌≤◌, slice_get, slice_index_or, Option}
-use Rattle.std.proofs.lemmas.List.{length-map}
+use Rattle.std.proofs.Common.{◌≡◌, ℕ, zero, suc, ◌+◌, ◌<◌, List, [], ◌∷◌, sym, ◌∙◌, ap, subst, arith, length, map, Some}
+use Rattle.std.specs.Prelude.{slice_get, slice_index_or, Option}
 use Rattle.scop_syntax.specs.Members.{In}
 use Rattle.iteration_domains.specs.Dependence.{Dependence, IsDependence}
 use Rattle.iteration_domains.specs.Model.{Modelled, KernelModel}
@@ -38,11 +37,11 @@ between model d h =
       },
       record {
         turns = ap (λ (z : Dependence). z.system.dimensions) is
-          ∙ sym (ap (λ (z : Dependence). z.source.loops + z.target.loops) is);
+            ∙ sym (ap (λ (z : Dependence). z.source.loops + z.target.loops) is);
         one = λ e.
-          ap (λ (z : Dependence). z.source.loops) is
-          ∙ (from.1 ∙ (ap (λ (k : ℕ). slice_index_or (loops_in model) k 0) e ∙ (sym to.1
-          ∙ sym (ap (λ (z : Dependence). z.target.loops) is))));
+            ap (λ (z : Dependence). z.source.loops) is
+            ∙ (from.1 ∙ (ap (λ (k : ℕ). slice_index_or (loops_in model) k 0) e ∙ (sym to.1
+            ∙ sym (ap (λ (z : Dependence). z.target.loops) is))));
       },
     )
 

@@ -1,20 +1,19 @@
 -- How large the numbers of rows are, by what they are rows over.
-use Rattle.std.proofs.Common.{◌≡◌, ℕ, zero, suc, ◌+◌, ◌<◌, ◌^◌, ℤ, pos, negsuc, List, [], ◌∷◌, ◌++◌, refl, sym, ◌∙◌, ap, subst, arith, length, map, All, reverse, append_assoc}
-use Rattle.std.specs.Prelude.{◌≤◌, ◌≤ℤ◌, slice_index_or, unsigned_abs}
+use Rattle.std.proofs.Common.{◌≡◌, ℕ, zero, suc, ◌<◌, ◌^◌, ℤ, pos, List, [], ◌∷◌, refl, sym, ◌∙◌, ap, subst, arith, length, All, reverse}
+use Rattle.std.specs.Prelude.{◌≤ℤ◌, slice_index_or}
 use Rattle.std.specs.List.{flat_map}
 use Rattle.std.proofs.lemmas.Int.{ints}
-use Rattle.std.proofs.lemmas.List.{length-map, reverse-reverse}
+use Rattle.std.proofs.lemmas.List.{reverse-reverse}
 use mathlib.Core.List.{reverse-cons}
 use Rattle.std.proofs.lemmas.List.Elements.{All-nil, All-cons, All-head, All-tail, All-append, All-get_or}
 use Rattle.fractions.specs.Farkas.{AreNotNegative}
 use Rattle.iteration_domains.specs.Dependence.{Dependence, IsDependence}
-use Rattle.null_space.specs.Sizes.{IsWithin, AreWithin, AreCoefficients}
-use Rattle.schedule_rows.specs.Items.{Row, Marked, part_of, numbers_of}
+use Rattle.null_space.specs.Sizes.{IsWithin, AreCoefficients}
+use Rattle.schedule_rows.specs.Items.{Marked}
 use Rattle.farkas.specs.Unknowns.{part_numbers}
 use Rattle.farkas.specs.Unknowns as unknowns
-use Rattle.schedule_rows.specs.Next as next
 use Rattle.schedule_rows.proofs.Pairs.{all_front, all_back}
-use Rattle.pluto_systems.specs.Placing.{AreShaped, IsShaped}
+use Rattle.pluto_systems.specs.Placing.{AreShaped}
 use Rattle.pluto_systems.specs.Posing.{IsBetween}
 use Rattle.pluto_search.specs.Sizes.{IsCount, AreCounts, CanTell, CanNarrowEach}
 use Rattle.pluto_search.specs.Steps.{IsGoodRow}

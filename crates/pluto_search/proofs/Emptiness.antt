@@ -1,5 +1,5 @@
 -- What a question of emptiness says of a dependence.
-use Rattle.std.proofs.Common.{◌≡◌, ℕ, ℤ, pos, List, [], ◌∷◌, ◌++◌, refl, sym, ◌∙◌, ap, subst, arith, length, All, take, drop, append_assoc}
+use Rattle.std.proofs.Common.{◌≡◌, ℕ, ℤ, pos, List, [], ◌∷◌, ◌++◌, refl, sym, ◌∙◌, ap, subst, arith, All, take, drop, append_assoc}
 use Rattle.std.specs.Prelude.{◌≤ℤ◌}
 use Rattle.std.proofs.lemmas.List.{length-append, length-take-le, length-drop, take-append-drop}
 use Rattle.std.proofs.lemmas.List.Elements.{All-nil, All-cons, All-head, All-tail, All-append}
@@ -38,7 +38,7 @@ empty_is m d e i none params x y size r =
       dimensions = omega arith;
       parameters = size ∙ sym e;
       not_negative = (not_negative_all ((x.turns ++ y.turns) ++ params)).1
-        (All-append (λ z. pos 0 ≤ℤ z) (x.turns ++ y.turns) params (All-append (λ z. pos 0 ≤ℤ z) x.turns y.turns r.source_from_0 r.target_from_0) k.0);
+          (All-append (λ z. pos 0 ≤ℤ z) (x.turns ++ y.turns) params (All-append (λ z. pos 0 ≤ℤ z) x.turns y.turns r.source_from_0 r.target_from_0) k.0);
       bounded = k.1;
       inside = subst (λ (z : List ℤ). Satisfies d.system z) (sym same) (r.equalities, r.rows);
     })

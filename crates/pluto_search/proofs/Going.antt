@@ -1,21 +1,20 @@
 -- From one state to the next: what holds between steps.
-use Rattle.std.proofs.Common.{◌≡◌, ℕ, zero, suc, ◌+◌, ◌<◌, ◌^◌, ℤ, List, [], ◌∷◌, ◌++◌, refl, sym, ◌∙◌, ap, ap₂, subst, inl, inr, arith, length, map, All, Vec, Global, append_assoc}
+use Rattle.std.proofs.Common.{◌≡◌, ℕ, zero, suc, ◌+◌, ◌<◌, ◌^◌, ℤ, List, [], ◌∷◌, ◌++◌, refl, sym, ◌∙◌, ap, ap₂, subst, inl, inr, arith, length, map, All, Vec, Global}
 use Rattle.std.specs.Prelude.{◌≤◌, slice_index_or}
-use Rattle.std.proofs.lemmas.List.{append-nil, length-map, get_or-map, map-append}
-use Rattle.std.proofs.lemmas.List.Elements.{All-nil, All-cons, All-head, All-tail, All-append, All-get_or}
+use Rattle.std.proofs.lemmas.List.{append-nil, length-map, get_or-map}
+use Rattle.std.proofs.lemmas.List.Elements.{All-nil, All-cons, All-head, All-tail, All-get_or}
 use Rattle.scop_syntax.specs.Members.{In}
 use Rattle.scop_syntax.proofs.Members.{in_map}
-use Rattle.iteration_domains.specs.Dependence.{Dependence, IsDependence}
+use Rattle.iteration_domains.specs.Dependence.{Dependence}
 use Rattle.null_space.specs.Narrowing.{kernel_vectors, narrowed_all, narrowed_by, units_from}
 use Rattle.null_space.specs.Sizes.{AreWithin, AreLong, AreCoefficients}
-use Rattle.null_space.proofs.Running.{kernel_long, narrowed_length, narrowed_grows, kernel_more}
+use Rattle.null_space.proofs.Running.{kernel_long, narrowed_length}
 use Rattle.null_space.proofs.Stages.{kernel_narrow}
-use Rattle.schedule_rows.specs.Items.{Row, Marked, Block, part_of, rows_in, band_rows, scalar, closed_by}
+use Rattle.schedule_rows.specs.Items.{Row}
 use Rattle.schedule_rows.specs.Next.{State, rows_of}
 use Rattle.schedule_rows.specs.Outcomes.{state}
-use Rattle.schedule_rows.specs.Posed.{IsFull, coefficients_in, loops_of}
+use Rattle.schedule_rows.specs.Posed.{IsFull, coefficients_in}
 use Rattle.schedule_rows.specs.Schedule.{block_of, marked_of}
-use Rattle.schedule_rows.proofs.Measuring.{VectorLaws, coefficients_append, vectors_more, rows_closed, rows_scalar, rows_appended}
 use Rattle.pluto_systems.specs.Posing.{RuledDep, IsRuled, dep_of, IsBetween, AreVectorsOf, AreSmallVectors}
 use Rattle.pluto_search.specs.declared.state.Progress.{Progress}
 use Rattle.pluto_search.specs.Questions.{AreRuledBy}
@@ -35,12 +34,12 @@ good_first m loops budget p r q e v b =
     let f : ℕ → List (List ℤ) = λ l. kernel_vectors l [] in
     record {
       vectors = subst (λ (s : State). AreVectorsOf loops (rows_of s) (vectors_in p)) (sym e)
-        (record {
-          size = ap length v ∙ length-map loops f;
-          each = λ s l. ap (λ (z : List (List (List ℤ))). slice_index_or z s []) v ∙ get_or-map f loops s 0 [] l;
-        });
+          (record {
+            size = ap length v ∙ length-map loops f;
+            each = λ s l. ap (λ (z : List (List (List ℤ))). slice_index_or z s []) v ∙ get_or-map f loops s 0 [] l;
+          });
       small = subst (λ (s : State). (k : ℕ) → k < length loops → All AreCoefficients (coefficients_in (rows_of s) k)) (sym e)
-        (λ k l. All-nil AreCoefficients);
+          (λ k l. All-nil AreCoefficients);
       rows = subst (λ (s : State). All (IsGoodRow m loops) s.rows) (sym e) (All-nil (IsGoodRow m loops));
       between = subst (λ (s : State). AreBetween m loops s.remaining) (sym e) b;
       ruled = λ x i. absurd (subst (λ (l : List RuledDep). In x l) q i);
@@ -71,9 +70,9 @@ pub not_full_is : (loops : List ℕ) (rows : List Row) (p : Progress) → AreVec
     → (All (λ v. v.items ≡ []) p.vectors.items → ⊥) → IsFull loops rows → ⊥
 not_full_is loops rows p v h full =
     h (all_empty p.vectors.items (λ s l.
-      let e = v.size in
-      let k = length-map p.vectors.items shown in
-      v.each s (omega arith) ∙ full s (omega arith)))
+    let e = v.size in
+    let k = length-map p.vectors.items shown in
+    v.each s (omega arith) ∙ full s (omega arith)))
 
 -- there are no more kernel vectors than loops
 narrowed_all_length : (cs ns : List (List ℤ)) → length (narrowed_all cs ns) ≤ length ns
@@ -96,16 +95,16 @@ small_vectors m loops budget p five g =
     record {
       size = g.vectors.size;
       few = λ s l.
-        let e = g.vectors.each s l in
-        let k = kernel_count (slice_index_or loops s 0) (coefficients_in rows s) in
-        let f = All-get_or (λ (n : ℕ). n ≤ 5) loops s 0 l five in
-        subst (λ (z : List (List ℤ)). length z ≤ 5) (sym e) (omega arith);
+          let e = g.vectors.each s l in
+          let k = kernel_count (slice_index_or loops s 0) (coefficients_in rows s) in
+          let f = All-get_or (λ (n : ℕ). n ≤ 5) loops s 0 l five in
+          subst (λ (z : List (List ℤ)). length z ≤ 5) (sym e) (omega arith);
       long = λ s l. subst (λ (z : List (List ℤ)). AreLong (slice_index_or loops s 0) z) (sym (g.vectors.each s l))
-        (kernel_long (slice_index_or loops s 0) (coefficients_in rows s));
+          (kernel_long (slice_index_or loops s 0) (coefficients_in rows s));
       small = λ s l.
-        let f = All-get_or (λ (n : ℕ). n ≤ 5) loops s 0 l five in
-        subst (λ (z : List (List ℤ)). All (AreWithin (2 ^ 109)) z) (sym (g.vectors.each s l))
-        (kernel_narrow (slice_index_or loops s 0) (coefficients_in rows s) f (g.small s l)).last;
+          let f = All-get_or (λ (n : ℕ). n ≤ 5) loops s 0 l five in
+          subst (λ (z : List (List ℤ)). All (AreWithin (2 ^ 109)) z) (sym (g.vectors.each s l))
+          (kernel_narrow (slice_index_or loops s 0) (coefficients_in rows s) f (g.small s l)).last;
     }
 
 -- all dependences have their rows now
@@ -122,7 +121,7 @@ pub good_ruled : (m : ℕ) (loops : List ℕ) (budget : ℕ) (p q : Progress) �
 good_ruled m loops budget p q g e v h k =
     record {
       vectors = subst (λ (s : State). AreVectorsOf loops (rows_of s) (vectors_in q)) (sym e)
-        (subst (λ (z : List Vectors). AreVectorsOf loops (rows_of (state_of p)) (map shown z)) (sym v) g.vectors);
+          (subst (λ (z : List Vectors). AreVectorsOf loops (rows_of (state_of p)) (map shown z)) (sym v) g.vectors);
       small = subst (λ (s : State). (k : ℕ) → k < length loops → All AreCoefficients (coefficients_in (rows_of s) k)) (sym e) g.small;
       rows = subst (λ (s : State). All (IsGoodRow m loops) s.rows) (sym e) g.rows;
       between = subst (λ (s : State). AreBetween m loops s.remaining) (sym e) g.between;

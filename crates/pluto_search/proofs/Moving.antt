@@ -1,10 +1,10 @@
 -- The next state is a good one, and the step is that of the run.
-use Rattle.std.proofs.Common.{◌≡◌, ℕ, zero, suc, ◌+◌, ◌<◌, ℤ, pos, List, [], ◌∷◌, ◌++◌, refl, sym, ◌∙◌, ap, ap₂, subst, ◌⊎◌, inl, inr, arith, length, map, All, Vec, Global, append_assoc}
+use Rattle.std.proofs.Common.{◌≡◌, ℕ, zero, suc, ◌+◌, ◌<◌, ℤ, pos, List, [], ◌∷◌, ◌++◌, refl, sym, ◌∙◌, ap, ap₂, subst, ◌⊎◌, inl, inr, arith, length, map, All, Vec, Global}
 use Rattle.std.specs.Prelude.{◌≤◌, ◌↔◌, Bool, true, false, slice_index_or}
 use Rattle.std.proofs.lemmas.List.{append-nil, length-map, map-append}
 use Rattle.std.proofs.lemmas.List.Elements.{All-nil, All-cons, All-head, All-tail, All-append, All-get_or}
 use Rattle.scop_syntax.specs.Members.{In}
-use Rattle.iteration_domains.specs.Dependence.{Dependence, IsDependence}
+use Rattle.iteration_domains.specs.Dependence.{Dependence}
 use Rattle.null_space.specs.Narrowing.{narrowed_by}
 use Rattle.null_space.specs.Sizes.{AreLong, AreCoefficients}
 use Rattle.null_space.specs.Sizes as null_sizes
@@ -16,7 +16,7 @@ use Rattle.farkas.specs.Unknowns as unknowns
 use Rattle.schedule_rows.specs.Dependences.{IsEqualAt, edges_of}
 use Rattle.schedule_rows.specs.Next.{State, rows_of, Restricts, Uncuts, IsWithin}
 use Rattle.schedule_rows.specs.Outcomes.{Outcome, goes, ends, no_row, no_order, large, state, items_in, Next}
-use Rattle.schedule_rows.specs.Posed.{IsFull, IsLeast, HasNone, coefficients_in, loops_of, vectors_of}
+use Rattle.schedule_rows.specs.Posed.{IsFull, IsLeast, HasNone, coefficients_in}
 use Rattle.schedule_rows.specs.Schedule.{block_of, marked_of, row_of}
 use Rattle.schedule_rows.specs.declared.item.Row as code_row
 use Rattle.schedule_rows.specs.declared.item.Part as code_part
@@ -24,8 +24,8 @@ use Rattle.schedule_rows.specs.declared.item.Block.TheVariants as code_block
 use Rattle.pluto_search.specs.declared.state.Step.TheVariants as step
 use Rattle.schedule_rows.proofs.Measuring.{VectorLaws, coefficients_append, vectors_more, rows_closed, rows_scalar, rows_appended}
 use Rattle.schedule_rows.proofs.Running.{uncuts_from}
-use Rattle.pluto_systems.specs.Placing.{AreShaped, IsShaped}
-use Rattle.pluto_systems.specs.Posing.{RuledDep, IsRuled, dep_of, IsBetween, AreVectorsOf}
+use Rattle.pluto_systems.specs.Placing.{AreShaped}
+use Rattle.pluto_systems.specs.Posing.{RuledDep, dep_of, AreVectorsOf}
 use Rattle.pluto_systems.proofs.Rows.{posed_shape}
 use Rattle.pluto_search.specs.declared.state.Progress.{Progress}
 use Rattle.pluto_search.specs.Moves.{AreWithin, IsClosed, IsCut, DropsNone, Cuts, EndsWith, Ended, IsAppended}
@@ -36,13 +36,12 @@ use Rattle.pluto_search.proofs.Halting.{stop_of, stop_at}
 use Rattle.integer_sets.specs.Constraints.{Constraints}
 use Rattle.pluto_systems.specs.Posing.{HasPosed}
 use Rattle.pluto_search.specs.Questions.{AreRuledBy}
-use Rattle.pluto_search.specs.Sizes.{CanNarrow, CanNarrowEach, narrowed_each}
+use Rattle.pluto_search.specs.Sizes.{CanNarrowEach, narrowed_each}
 use Rattle.pluto_search.specs.Steps.{state_of, vectors_in, IsGood, IsGoodRow, AreBetween, Steps, going, KeepsAt}
 use Rattle.std.specs.Prelude.{Result, Ok, Err, IfOk, IfErr}
 use Rattle.pluto_search.proofs.Counts.{IsSmallPart, row_small, small_part, shaped_length, counts_within}
 use Rattle.schedule_rows.proofs.Pairs.{legal_kept, parallel_exact}
 use Rattle.schedule_rows.specs.Dependences.{IsEmptyDep, Suits, above_at}
-use Rattle.pluto_search.specs.Sizes.{CanTell}
 use Rattle.pluto_search.proofs.Counts.{can_tell}
 use Rattle.pluto_search.proofs.Leading.{restricts_between}
 
@@ -62,11 +61,11 @@ fresh : (m : ℕ) (loops : List ℕ) (budget : ℕ) (p q : Progress) → IsGood 
     → AreBetween m loops q.bare.items → IsGood m loops budget q
 fresh m loops budget p q g r u e v b =
     let same : rows_of (state_of q) ≡ rows_of (state_of p) =
-      ap (λ z. rows_in (map block_of q.closed.items) ++ band_rows (map marked_of z)) r
-      ∙ (append-nil (rows_in (map block_of q.closed.items)) ∙ e) in
+    ap (λ z. rows_in (map block_of q.closed.items) ++ band_rows (map marked_of z)) r
+    ∙ (append-nil (rows_in (map block_of q.closed.items)) ∙ e) in
     record {
       vectors = subst (λ (z : List Row). AreVectorsOf loops z (vectors_in q)) (sym same)
-        (subst (λ (z : List (List (List ℤ))). AreVectorsOf loops (rows_of (state_of p)) z) (sym v) g.vectors);
+          (subst (λ (z : List (List (List ℤ))). AreVectorsOf loops (rows_of (state_of p)) z) (sym v) g.vectors);
       small = subst (λ (z : List Row). (k : ℕ) → k < length loops → All AreCoefficients (coefficients_in z k)) (sym same) g.small;
       rows = subst (λ z. All (IsGoodRow m loops) (map marked_of z)) (sym r) (All-nil (IsGoodRow m loops));
       between = subst (λ z. AreBetween m loops (map dep_of z ++ q.bare.items)) (sym u) b;
@@ -93,7 +92,7 @@ closed_next m loops budget p q deps g e more none some c =
     let r = subst (λ (z : List Dependence). Restricts m s.rows z q.bare.items) e c.bare in (
       inr (more, inr (none, inl (some, (q.bare.items, r, ap (λ z. goes z) (fresh_state q (closed_by s.closed s.rows) c.closed_are c.none_open c.none_ruled))))),
       fresh m loops budget p q g c.none_open c.none_ruled (ap rows_in c.closed_are ∙ rows_closed s.closed s.rows) c.vectors_are
-      (restricts_between m loops s.rows s.remaining q.bare.items g.between r),
+          (restricts_between m loops s.rows s.remaining q.bare.items g.between r),
     )
 
 -- a scalar item cuts
@@ -108,12 +107,31 @@ cut_next m loops budget p q deps g e more none empty c =
     let u = subst (λ (z : List Dependence). Uncuts c.numbers z q.bare.items) e c.bare in
     let f = subst (λ (z : List Dependence). length q.bare.items < length z) e c.fewer in
     let same : rows_in (map block_of q.closed.items) ≡ rows_of s =
-      ap rows_in c.closed_are ∙ (rows_scalar s.closed c.numbers ∙ (sym (append-nil (rows_in s.closed))
-      ∙ ap (λ (z : List Marked). rows_in s.closed ++ band_rows z) (sym empty))) in (
-      inr (more, inr (none, inr (empty, (c.numbers, n, (q.bare.items, u, inl (f,
-      ap (λ z. goes z) (fresh_state q (s.closed ++ scalar c.numbers ∷ []) c.closed_are c.none_open c.none_ruled))))))),
+    ap rows_in c.closed_are ∙ (rows_scalar s.closed c.numbers ∙ (sym (append-nil (rows_in s.closed))
+    ∙ ap (λ (z : List Marked). rows_in s.closed ++ band_rows z) (sym empty))) in (
+      inr (
+        more,
+        inr (
+          none,
+          inr (
+            empty,
+            (
+              c.numbers,
+              n,
+              (
+                q.bare.items,
+                u,
+                inl (
+                  f,
+                  ap (λ z. goes z) (fresh_state q (s.closed ++ scalar c.numbers ∷ []) c.closed_are c.none_open c.none_ruled),
+                ),
+              ),
+            ),
+          ),
+        ),
+      ),
       fresh m loops budget p q g c.none_open c.none_ruled same c.vectors_are
-      (λ d i. g.between d (uncuts_from c.numbers s.remaining q.bare.items d u i)),
+          (λ d i. g.between d (uncuts_from c.numbers s.remaining q.bare.items d u i)),
     )
 
 -- nothing goes on
@@ -131,8 +149,14 @@ pub end_next : (m : ℕ) (loops : List ℕ) (s : State) (deps left : List Depend
     → deps ≡ s.remaining → IsFull loops (rows_of s) → Restricts m s.rows deps left → blocks ≡ closed_by s.closed s.rows
     → EndsWith loops blocks left o → Next m loops s o
 end_next m loops s deps left blocks o e full r b w =
-    inl (full, (left, subst (λ (z : List Dependence). Restricts m s.rows z left) e r,
-    subst (λ (z : List Block). EndsWith loops z left o) b w))
+    inl (
+      full,
+      (
+        left,
+        subst (λ (z : List Dependence). Restricts m s.rows z left) e r,
+        subst (λ (z : List Block). EndsWith loops z left o) b w,
+      ),
+    )
 
 -- the least row is too large
 pub large_next : (m : ℕ) (loops : List ℕ) (s : State) (r : Row) (n : ℕ) → (IsFull loops (rows_of s) → ⊥)
@@ -178,7 +202,7 @@ can_narrow_from (p ∷ ps) (l ∷ ls) (v ∷ vs) h k e f long narrow =
         narrow = narrow 0 (omega arith);
       },
       can_narrow_from ps ls vs h.1 (All-tail IsSmallPart p ps k) (omega (arith, e)) (All-tail (λ (n : ℕ). n ≤ 5) l ls f)
-      (λ s i. long (suc s) (omega (arith, i))) (λ s i. narrow (suc s) (omega (arith, i))),
+          (λ s i. long (suc s) (omega (arith, i))) (λ s i. narrow (suc s) (omega (arith, i))),
     )
 
 abbrev pub plain_part : code_part.Part → unknowns.Part
@@ -200,10 +224,10 @@ can_narrow m loops budget p row r five g e good =
     (subst (λ (z : List unknowns.Part). CanNarrowEach (map (λ (p : unknowns.Part). p.coefficients) z) (vectors_in p)) (sym parts)
     (can_narrow_from r.row.parts loops (vectors_in p) good.shaped.parts (row_small m loops r good) g.vectors.size five
     (λ s l. subst (λ (z : List (List ℤ)). AreLong (slice_index_or loops s 0) z) (sym (g.vectors.each s l))
-      (kernel_long (slice_index_or loops s 0) (coefficients_in rows s)))
+    (kernel_long (slice_index_or loops s 0) (coefficients_in rows s)))
     (λ s l. subst (λ (z : List (List ℤ)). null_sizes.AreNarrow z) (sym (g.vectors.each s l))
-      (kernel_narrow (slice_index_or loops s 0) (coefficients_in rows s)
-      (All-get_or (λ (n : ℕ). n ≤ 5) loops s 0 l five) (g.small s l)))))
+    (kernel_narrow (slice_index_or loops s 0) (coefficients_in rows s)
+    (All-get_or (λ (n : ℕ). n ≤ 5) loops s 0 l five) (g.small s l)))))
 
 appended_state : (p q : Progress) (row : code_row.Row) (parallel : Bool) → IsAppended p row parallel q
     → state_of q ≡ state (state_of p).closed ((state_of p).rows ++ record { row = row_of row; parallel = parallel } ∷ []) (state_of p).remaining
@@ -225,14 +249,14 @@ append_next m loops budget p q row r g e good more least exact a =
     let s = state_of p in
     let rows = rows_of s in
     let is : state_of q ≡ state s.closed (s.rows ++ r ∷ []) s.remaining =
-      appended_state p q row r.parallel a
-      ∙ ap (λ (z : Row). state s.closed (s.rows ++ record { row = z; parallel = r.parallel } ∷ []) s.remaining) e in
+    appended_state p q row r.parallel a
+    ∙ ap (λ (z : Row). state s.closed (s.rows ++ record { row = z; parallel = r.parallel } ∷ []) s.remaining) e in
     let all : rows_of (state_of q) ≡ rows ++ r.row ∷ [] =
-      rows_appended s (state_of q) r (ap (λ (z : State). z.closed) is) (ap (λ (z : State). z.rows) is) in
+    rows_appended s (state_of q) r (ap (λ (z : State). z.closed) is) (ap (λ (z : State). z.rows) is) in
     let parts = ap (λ (z : Row). z.parts) e in
     let vectors : vectors_in q ≡ narrowed_each (map (λ (p : unknowns.Part). p.coefficients) r.row.parts) (vectors_in p) =
-      a.vectors ∙ ap (λ z. narrowed_each z (vectors_in p)) (coefficients_are row.parts.items
-      ∙ ap (λ (z : List unknowns.Part). map (λ (p : unknowns.Part). p.coefficients) z) parts) in
+    a.vectors ∙ ap (λ z. narrowed_each z (vectors_in p)) (coefficients_are row.parts.items
+    ∙ ap (λ (z : List unknowns.Part). map (λ (p : unknowns.Part). p.coefficients) z) parts) in
     let count = shaped_length loops r.row.parts good.shaped.parts in
     let size = g.vectors.size in
     let same : length r.row.parts ≡ length (vectors_in p) = count ∙ sym size in
@@ -240,23 +264,23 @@ append_next m loops budget p q row r g e good more least exact a =
       inr (more, inl (r.row, least, inl (good.within, (r.parallel, exact, ap (λ z. goes z) is)))),
       record {
         vectors = subst (λ (z : List Row). AreVectorsOf loops z (vectors_in q)) (sym all)
-          (record {
-            size = ap length vectors ∙ (narrowed_length_each (map (λ (p : unknowns.Part). p.coefficients) r.row.parts) (vectors_in p)
-              (length-map r.row.parts (λ (p : unknowns.Part). p.coefficients) ∙ same) ∙ size);
-            each = λ k l.
-              ap (λ (z : List (List (List ℤ))). slice_index_or z k []) vectors
-              ∙ (narrowed_at r.row.parts (vectors_in p) k same (subst (λ (n : ℕ). k < n) (sym size) l)
-              ∙ (ap (λ (z : List (List ℤ)). narrowed_by (part_of r.row k).coefficients z) (g.vectors.each k l)
-              ∙ sym (vectors_more laws loops rows r.row k)));
-          });
+            (record {
+              size = ap length vectors ∙ (narrowed_length_each (map (λ (p : unknowns.Part). p.coefficients) r.row.parts) (vectors_in p)
+                  (length-map r.row.parts (λ (p : unknowns.Part). p.coefficients) ∙ same) ∙ size);
+              each = λ k l.
+                  ap (λ (z : List (List (List ℤ))). slice_index_or z k []) vectors
+                  ∙ (narrowed_at r.row.parts (vectors_in p) k same (subst (λ (n : ℕ). k < n) (sym size) l)
+                  ∙ (ap (λ (z : List (List ℤ)). narrowed_by (part_of r.row k).coefficients z) (g.vectors.each k l)
+                  ∙ sym (vectors_more laws loops rows r.row k)));
+            });
         small = subst (λ (z : List Row). (k : ℕ) → k < length loops → All AreCoefficients (coefficients_in z k)) (sym all)
-          (λ k l. subst (λ (z : List (List ℤ)). All AreCoefficients z) (sym (coefficients_append rows (r.row ∷ []) k))
-          (All-append AreCoefficients (coefficients_in rows k) ((part_of r.row k).coefficients ∷ []) (g.small k l)
-          (All-cons AreCoefficients (part_of r.row k).coefficients []
-          (counts_within (part_of r.row k).coefficients (small_part r.row.parts k (subst (λ (n : ℕ). k < n) (sym count) l) small).0)
-          (All-nil AreCoefficients))));
+            (λ k l. subst (λ (z : List (List ℤ)). All AreCoefficients z) (sym (coefficients_append rows (r.row ∷ []) k))
+            (All-append AreCoefficients (coefficients_in rows k) ((part_of r.row k).coefficients ∷ []) (g.small k l)
+            (All-cons AreCoefficients (part_of r.row k).coefficients []
+            (counts_within (part_of r.row k).coefficients (small_part r.row.parts k (subst (λ (n : ℕ). k < n) (sym count) l) small).0)
+            (All-nil AreCoefficients))));
         rows = subst (λ (z : List Marked). All (IsGoodRow m loops) z) (sym (ap (λ (z : State). z.rows) is))
-          (All-append (IsGoodRow m loops) s.rows (r ∷ []) g.rows (All-cons (IsGoodRow m loops) r [] good (All-nil (IsGoodRow m loops))));
+            (All-append (IsGoodRow m loops) s.rows (r ∷ []) g.rows (All-cons (IsGoodRow m loops) r [] good (All-nil (IsGoodRow m loops))));
         between = subst (λ (z : State). AreBetween m loops z.remaining) (sym is) g.between;
         ruled = λ x i. g.ruled x (subst (λ (l : List RuledDep). In x l) a.ruled i);
         by_run = subst (λ (l : List RuledDep). AreRuledBy budget l) (sym a.ruled) g.by_run;
@@ -277,9 +301,9 @@ pub exact_mark : (m : ℕ) (loops : List ℕ) (deps : List Dependence) (before :
     → (r.parallel ≡ true) ↔ ((d : Dependence) → In d deps → IsEqualAt m r.row d)
 exact_mark m loops deps before r between least within level rises =
     let level_is : (d : Dependence) → In d deps → IsEmptyDep m (above_at m r.row d) ↔ IsEqualAt m r.row d = λ d i.
-      let t = can_tell m loops r d (least_good m loops deps before r least within) (between d i) in
-      let s : Suits d r.row = (t.source_loops, t.target_loops) in
-      parallel_exact m d r.row s (legal_kept m d r.row s (least.posed.legal d i)) in (
+    let t = can_tell m loops r d (least_good m loops deps before r least within) (between d i) in
+    let s : Suits d r.row = (t.source_loops, t.target_loops) in
+    parallel_exact m d r.row s (legal_kept m d r.row s (least.posed.legal d i)) in (
       λ e d i. (level_is d i).0 (level e d i),
       λ all. by_mark r.parallel rises (λ d i. (level_is d i).1 (all d i)),
     )
@@ -297,9 +321,10 @@ pub cut_steps : (m : ℕ) (loops : List ℕ) (budget : ℕ) (p : Progress) (deps
     → Cuts loops (state_of p).closed deps (vectors_in p) posed result → Steps m loops budget (state_of p) (going result)
 cut_steps m loops budget p deps posed (Ok q) g e more none empty has h = cut_next m loops budget p q deps g e more none empty h
 cut_steps m loops budget p deps posed (Err (kept.Stuck stuck)) g e more none empty has h = absurd h
-cut_steps m loops budget p deps posed (Err (kept.NoRow told)) g e more none empty has h =
-    (no_row_next m loops (state_of p) deps e more none empty h.1,
-    subst (λ (z : Constraints). HasPosed m loops (state_of p).remaining (rows_of (state_of p)) z) (sym h.0) has)
+cut_steps m loops budget p deps posed (Err (kept.NoRow told)) g e more none empty has h = (
+  no_row_next m loops (state_of p) deps e more none empty h.1,
+  subst (λ (z : Constraints). HasPosed m loops (state_of p).remaining (rows_of (state_of p)) z) (sym h.0) has,
+)
 cut_steps m loops budget p deps posed (Err (kept.NoOrder component)) g e more none empty has h = absurd h
 cut_steps m loops budget p deps posed (Err kept.NoMemory) g e more none empty has h = tt
 cut_steps m loops budget p deps posed (Err (kept.Large row)) g e more none empty has h = absurd h

@@ -1,6 +1,6 @@
 -- Along a schedule of a kernel's conflicts the values of conflicting places rise.
-use Rattle.std.proofs.Common.{◌≡◌, ℕ, zero, suc, ◌<◌, ℤ, pos, List, [], ◌∷◌, ◌++◌, refl, sym, ◌∙◌, ap, subst, inl, inr, arith, length, Some, All}
-use Rattle.std.specs.Prelude.{◌≤ℤ◌, slice_get, Option}
+use Rattle.std.proofs.Common.{◌≡◌, ℕ, zero, suc, ◌<◌, ℤ, pos, List, [], ◌∷◌, refl, sym, ◌∙◌, ap, subst, inl, inr, length, Some}
+use Rattle.std.specs.Prelude.{◌≤ℤ◌, slice_get}
 use Rattle.std.proofs.lemmas.List.Elements.{All-nil, All-cons, All-head, All-tail}
 use Rattle.whole_numbers.specs.Lexicographic.{LexLess}
 use Rattle.whole_numbers.specs.Lists.{NotNegative}
@@ -14,14 +14,12 @@ use Rattle.iteration_domains.specs.Dependence.{Dependence, IsDependence}
 use Rattle.iteration_domains.specs.Model.{model_of}
 use Rattle.iteration_domains.specs.Sizes.{IsKernelModel}
 use Rattle.iteration_domains.proofs.Placing.{model_is_one}
-use Rattle.conflict_deps.specs.Conflicts.{conflicts_of}
 use Rattle.conflict_deps.specs.Pairs.{IsPoint, IsEnd}
 use Rattle.schedule_rows.specs.Dependences.{InRange, Relates}
 use Rattle.schedule_rows.specs.Items.{Block, values}
 use Rattle.schedule_rows.specs.Next.{IsSizedDep}
 use Rattle.schedule_rows.specs.Outcomes.{IsSchedule, state}
 use Rattle.schedule_rows.specs.Posed.{loops_of}
-use Rattle.schedule_rows.specs.Schedule.{loops_in}
 use Rattle.schedule_rows.proofs.Along.{along_values}
 use Rattle.schedule_rows.proofs.Running.{schedule_along}
 use Rattle.schedule_rows.proofs.Timing.{LeavesOnly0, turns_same, runs_full}

@@ -1,11 +1,10 @@
 -- The least component with two statements.
-use Rattle.std.proofs.Common.{◌≡◌, ℕ, zero, suc, ◌+◌, ◌<◌, List, refl, sym, ◌∙◌, ap, subst, ◌⊎◌, inl, inr, arith, length, None, Some}
-use Rattle.std.specs.Prelude.{◌≤◌, Option}
+use Rattle.std.proofs.Common.{◌≡◌, ℕ, zero, suc, ◌<◌, List, refl, sym, ◌∙◌, ap, subst, ◌⊎◌, inl, inr, arith, length, None, Some}
+use Rattle.std.specs.Prelude.{◌≤◌}
 use Rattle.stmt_graph.specs.Graph.{number_in}
 use Rattle.schedule_rows.specs.Next.{AreSingle}
-use Rattle.schedule_rows.specs.Items.{Block, scalar}
-use Rattle.schedule_rows.specs.Outcomes.{IsShared, Orders, ends, no_order}
-use Rattle.pluto_search.specs.Shared.{IsTwin, FindsBelow, Finds}
+use Rattle.schedule_rows.specs.Outcomes.{IsShared}
+use Rattle.pluto_search.specs.Shared.{IsTwin, Finds}
 
 same_or : (a b : ℕ) → (a ≡ b) ⊎ (a ≡ b → ⊥)
 same_or zero zero = inl refl

@@ -1,5 +1,5 @@
 -- What the parts of a step say.
-use Rattle.std.specs.Prelude.{◌≡◌, ℕ, ◌+◌, ◌<◌, ◌≤◌, suc, ℤ, Bool, List, [], ◌∷◌, ◌++◌, map, length, All, ◌⊎◌, Vec, Result, Ok, Err, ⊤}
+use Rattle.std.specs.Prelude.{◌≡◌, ℕ, ◌<◌, ◌≤◌, ℤ, Bool, List, [], ◌∷◌, ◌++◌, map, length, All, ◌⊎◌, Vec, Result, Ok, Err, ⊤}
 use Rattle.std.specs.Global.{Global}
 use Rattle.integer_sets.specs.Constraints.{Constraints}
 use Rattle.iteration_domains.specs.Dependence.{Dependence}
@@ -14,7 +14,6 @@ use Rattle.schedule_rows.specs.declared.item.Row as code_row
 use Rattle.pluto_search.specs.Sizes.{narrowed_each}
 use Rattle.pluto_search.specs.Steps.{vectors_in}
 use Rattle.pluto_search.specs.declared.state.Progress.{Progress}
-use Rattle.pluto_search.specs.declared.state.Step.TheVariants as step
 use Rattle.pluto_search.specs.declared.kept.Kept.TheVariants as kept
 
 -- both statements of each dependence are among n

@@ -1,5 +1,5 @@
 -- The search's states, and what a step from one says.
-use Rattle.std.specs.Prelude.{◌≡◌, ℕ, ◌<◌, ℤ, List, ◌++◌, map, length, All, Result, Ok, Err, ⊤}
+use Rattle.std.specs.Prelude.{ℕ, ◌<◌, ℤ, List, ◌++◌, map, length, All, Result, Ok, Err, ⊤}
 use Rattle.fractions.specs.Farkas.{AreNotNegative}
 use Rattle.scop_syntax.specs.Members.{In}
 use Rattle.iteration_domains.specs.Dependence.{Dependence, IsDependence}

@@ -166,13 +166,7 @@ fn lesser(least: Option<usize>, component: usize) -> usize
 {
     match least {
         None => component,
-        Some(k) => {
-            if k <= component {
-                k
-            } else {
-                component
-            }
-        }
+        Some(k) => { if k <= component { k } else { component } }
     }
 }
 

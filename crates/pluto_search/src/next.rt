@@ -66,12 +66,7 @@ fn order(
 }
 
 /// The end, with nothing left, or with a last scalar item that orders what is left; or why nothing orders it.
-fn end(
-    alloc: Global,
-    loops: &[usize],
-    closed: Vec<Block>,
-    left: &[Dep],
-) -> Result<Vec<Block>, Kept>
+fn end(alloc: Global, loops: &[usize], closed: Vec<Block>, left: &[Dep]) -> Result<Vec<Block>, Kept>
     requires { AreWithin (length loops.now) left.now }
     ensures { Ended loops.now (map block_of closed.items) left.now result }
 {

@@ -102,8 +102,17 @@ fn difference_and(
 {
     let source = part_at(row, dep.source.statement);
     let target = part_at(row, dep.target.statement);
-    let numbers = difference_numbers(alloc, parameters, &source.coefficients, &target.coefficients)?;
-    match Form::of(alloc, &numbers, shift_between(source.shift, target.shift, more)) {
+    let numbers = difference_numbers(
+        alloc,
+        parameters,
+        &source.coefficients,
+        &target.coefficients,
+    )?;
+    match Form::of(
+        alloc,
+        &numbers,
+        shift_between(source.shift, target.shift, more),
+    ) {
         Err(_) => Err(AllocError),
         Ok(form) => Ok(form),
     }

@@ -113,11 +113,7 @@ fn narrow(alloc: Global, part: &Part, vectors: &Rows) -> Result<Rows, AllocError
 }
 
 /// Each statement's kernel vectors, narrowed by its coefficients.
-pub fn narrow_all(
-    alloc: Global,
-    row: &Row,
-    vectors: &[Rows],
-) -> Result<Vec<Rows>, AllocError>
+pub fn narrow_all(alloc: Global, row: &Row, vectors: &[Rows]) -> Result<Vec<Rows>, AllocError>
     requires { CanNarrowEach (map (λ p. p.coefficients.items) row.now.parts.items)
         (map (λ vs. map (λ v. v.items) vs.items) vectors.now) }
     ensures { IfOk result (λ all. map (λ vs. map (λ v. v.items) vs.items) all.items
@@ -136,7 +132,13 @@ pub fn narrow_all(
 }
 
 /// Whether a dependence has no pair at which a row rises.
-fn is_level(alloc: Global, parameters: usize, row: &Row, dep: &Dep, budget: u64) -> Result<bool, Kept>
+fn is_level(
+    alloc: Global,
+    parameters: usize,
+    row: &Row,
+    dep: &Dep,
+    budget: u64,
+) -> Result<bool, Kept>
     requires { CanTell parameters (row_of row.now) dep.now }
     ensures level { result ≡ Ok true → IsEmptyDep parameters (above_at parameters (row_of row.now) dep.now) }
     ensures rises { result ≡ Ok false → IsEmptyDep parameters (above_at parameters (row_of row.now) dep.now) → ⊥ }

@@ -1,4 +1,4 @@
-use Rattle.std.proofs.Common.{◌≡◌, ℕ, ◌<◌}
+use Rattle.std.proofs.Common.{ℕ, ◌<◌}
 use Rattle.pluto_search.specs.Shared.{IsTwin}
 use Rattle.pluto_search.proofs.ends.has_twin.Given as goal
 

@@ -1,12 +1,10 @@
-use Rattle.std.proofs.Common.{◌≡◌, ◌∙◌, ◌++◌, ◌<◌, List, All, length, map, refl, sym, ap, subst, Ok, Err}
-use Rattle.scop_syntax.specs.Members.{In}
+use Rattle.std.proofs.Common.{◌≡◌, ◌∙◌, ◌++◌, List, All, map, sym, ap, subst, Ok, Err}
 use Rattle.iteration_domains.specs.Dependence.{Dependence}
 use Rattle.schedule_rows.specs.declared.item.Marked as code
 use Rattle.schedule_rows.specs.Items.{Marked}
 use Rattle.schedule_rows.specs.Next.{Restricts}
 use Rattle.schedule_rows.specs.Schedule.{block_of, marked_of}
 use Rattle.pluto_systems.specs.Posing.{RuledDep, dep_of}
-use Rattle.pluto_search.specs.Moves.{AreWithin}
 use Rattle.pluto_search.specs.Sizes.{CanTell}
 use Rattle.pluto_search.specs.Steps.{state_of, AreBetween}
 use Rattle.pluto_search.proofs.Counts.{all_can_tell}

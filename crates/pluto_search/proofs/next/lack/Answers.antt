@@ -1,9 +1,7 @@
-use Rattle.std.proofs.Common.{rules, ◌≡◌, ◌∙◌, ◌++◌, List, [], All, length, map, sym, ap, subst, arith}
-use Rattle.scop_syntax.specs.Members.{In}
+use Rattle.std.proofs.Common.{rules, ◌≡◌, ◌∙◌, ◌++◌, List, length, map, sym, ap, subst, arith}
 use Rattle.std.proofs.lemmas.List.{length-map}
 use Rattle.iteration_domains.specs.Dependence.{Dependence}
 use Rattle.schedule_rows.specs.declared.item.Marked as code
-use Rattle.schedule_rows.specs.Items.{Marked}
 use Rattle.schedule_rows.specs.Schedule.{marked_of}
 use Rattle.pluto_systems.specs.Posing.{RuledDep, dep_of}
 use Rattle.pluto_search.specs.Steps.{state_of, Steps, AreBetween}

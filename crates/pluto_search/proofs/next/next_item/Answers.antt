@@ -1,5 +1,5 @@
-use Rattle.std.proofs.Common.{◌≡◌, ℕ, ℤ, List, [], ◌++◌, map, All, length, refl, sym, ◌∙◌, ap, subst, inl, inr, None, Some, Ok, Err}
-use Rattle.std.specs.Prelude.{Option, false}
+use Rattle.std.proofs.Common.{◌≡◌, ℕ, ℤ, List, [], ◌++◌, map, All, refl, sym, ◌∙◌, ap, subst, inl, inr, None, Some, Err}
+use Rattle.std.specs.Prelude.{false}
 use Rattle.std.proofs.lemmas.List.{append-nil}
 use Rattle.scop_syntax.specs.Members.{In}
 use Rattle.scop_syntax.proofs.Members.{in_back}
@@ -17,7 +17,7 @@ use Rattle.pluto_search.specs.declared.kept.Kept.TheVariants as kept
 use Rattle.pluto_search.specs.Minimum.{IsMinimum, held}
 use Rattle.pluto_search.specs.Questions.{StopsAt, StopsMinimum}
 use Rattle.pluto_search.specs.Steps.{state_of, vectors_in, IsGood, Steps}
-use Rattle.pluto_search.specs.Stopping.{IsStop, StopsRowsOf}
+use Rattle.pluto_search.specs.Stopping.{StopsRowsOf}
 use Rattle.pluto_search.proofs.Going.{Vectors, shown, full_is, not_full_is, small_vectors, same_state, good_ruled, are_between}
 use Rattle.pluto_search.proofs.Halting.{stop_of, stop_at, minimum_stops}
 use Rattle.pluto_search.proofs.next.next_item.Goals as goal
@@ -78,8 +78,10 @@ returns-in-Err c =
     let s = state_of p in
     stop_at m loops budget s c.in-Err.kept
     (stop_of (StopsRowsOf budget p.bare.items) (StopsAt m loops budget s) c.in-Err.kept
-    (λ stop h. inr (more (goal.at.returns-in-Err c).After-is_full c.if-is_full.false,
-      inr (inl (h.0, in_back h.0 (map dep_of p.ruled.items) p.bare.items h.1, h.2))))
+    (λ stop h. inr (
+      more (goal.at.returns-in-Err c).After-is_full c.if-is_full.false,
+      inr (inl (h.0, in_back h.0 (map dep_of p.ruled.items) p.bare.items h.1, h.2)),
+    ))
     c.in-Err.ensures.stops)
 
 pub posed_over-requires-clause-between : goal.posed_over-requires-clause-between
@@ -110,7 +112,7 @@ lack-requires-clause-none c =
     let q = ruled at in
     let sys = c.in-Ok-posed_over.system in
     let has = has_at m loops c.args.budget q c.deref-2.result.now c.deref-3.result.now sys c.deref-2.ensures.value c.deref-3.ensures.value
-      c.new.ensures.items (good at) c.in-Ok-posed_over.ensures.points in
+    c.new.ensures.items (good at) c.in-Ok-posed_over.ensures.points in
     none_at m loops (state_of q) sys has (ap (λ (z : Constraints). z.dimensions) c.in-Ok-posed_over.ensures.exact)
     (subst (λ f. IsMinimum sys (held f)) c.in-Ok-None.field-0-is c.in-Ok-None.ensures.minimum)
 
@@ -143,7 +145,7 @@ take-requires-clause-least c =
     let q = ruled at in
     let sys = c.in-Ok-posed_over.system in
     let has = has_at m loops c.args.budget q c.deref-2.result.now c.deref-3.result.now sys c.deref-2.ensures.value c.deref-3.ensures.value
-      c.new.ensures.items (good at) c.in-Ok-posed_over.ensures.points in
+    c.new.ensures.items (good at) c.in-Ok-posed_over.ensures.points in
     least_at m loops (state_of q) sys c.in-Ok-Some.numbers.items has (ap (λ (z : Constraints). z.dimensions) c.in-Ok-posed_over.ensures.exact)
     (subst (λ f. IsMinimum sys (held f)) c.in-Ok-Some.field-0-is c.in-Ok-Some.ensures.minimum)
 
@@ -158,13 +160,21 @@ returns-in-Err-minimum c =
     let sys = c.in-Ok-posed_over.system in
     let all = c.in-Ok.all.items in
     let exact : sys ≡ posed_system m loops all (vectors_in p) =
-      c.in-Ok-posed_over.ensures.exact
-      ∙ (ap (λ (z : List RuledDep). posed_system m loops z (map shown c.deref-3.result.now)) c.deref-2.ensures.value
-      ∙ ap (λ (z : List Vectors). posed_system m loops all (map shown z)) c.deref-3.ensures.value) in
+    c.in-Ok-posed_over.ensures.exact
+    ∙ (ap (λ (z : List RuledDep). posed_system m loops z (map shown c.deref-3.result.now)) c.deref-2.ensures.value
+    ∙ ap (λ (z : List Vectors). posed_system m loops all (map shown z)) c.deref-3.ensures.value) in
     subst (λ (k : kept.the_data). Steps m loops budget s (Err k)) (sym c.by_solver.ensures)
     (stop_at m loops budget s _
     (stop_of (StopsMinimum budget sys) (StopsAt m loops budget s) _
-    (λ stop h. inr (more (goal.at.returns-in-Err-minimum c).After-is_full c.if-is_full.false,
-      inr (inr (all, vectors_in p, c.in-Ok.ensures.deps, c.in-Ok.ensures.by_run c.requires.good.by_run, c.requires.good.vectors,
-      subst (λ (z : Constraints). StopsMinimum budget z stop) exact h))))
+    (λ stop h. inr (
+      more (goal.at.returns-in-Err-minimum c).After-is_full c.if-is_full.false,
+      inr (inr (
+        all,
+        vectors_in p,
+        c.in-Ok.ensures.deps,
+        c.in-Ok.ensures.by_run c.requires.good.by_run,
+        c.requires.good.vectors,
+        subst (λ (z : Constraints). StopsMinimum budget z stop) exact h,
+      )),
+    ))
     (minimum_stops budget sys c.in-Err-minimum.stop c.in-Err-minimum.ensures.run)))

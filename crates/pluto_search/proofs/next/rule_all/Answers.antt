@@ -1,4 +1,4 @@
-use Rattle.std.proofs.Common.{◌≡◌, List, [], ◌∷◌, ◌++◌, map, All, refl, sym, ◌∙◌, ap, subst, append_assoc, inl, inr, Ok}
+use Rattle.std.proofs.Common.{◌≡◌, List, [], ◌∷◌, ◌++◌, map, refl, sym, ◌∙◌, ap, subst, append_assoc, inl, inr, Ok}
 use Rattle.std.proofs.lemmas.List.{map-append}
 use Rattle.std.proofs.lemmas.List.Elements.{All-push}
 use Rattle.scop_syntax.specs.Members.{In}
@@ -29,15 +29,17 @@ loop-dep-preserved c =
     let budget = c.args.budget in
     let e = c.in-Ok-push.ensures.items in
     let steps = c.in-Some.ensures.steps.0 in
-    let own = c.in-Ok.ensures.dep in
-    (tt, tt,
-    ap (λ (z : List RuledDep). map dep_of z ++ rest) e
-    ∙ (ap (λ (z : List Dependence). z ++ rest) (map-append dep_of all (x ∷ []))
-    ∙ (append_assoc (map dep_of all) (x.dep ∷ []) rest
-    ∙ (ap (λ (z : Dependence). map dep_of all ++ (z ∷ rest)) own
-    ∙ (ap (λ (z : List Dependence). map dep_of all ++ z) (sym steps) ∙ c.loop-dep.invariant.2)))),
-    (λ h. subst AllRuled (sym e) (ruled_more all x (c.loop-dep.invariant.3 h) c.in-Ok.ensures.ruled)),
-    (λ h. subst (λ (z : List RuledDep). AreRuledBy budget z) (sym e)
-      (All-push (λ (y : RuledDep). ruled_run budget y.dep ≡ Ok y) all x (c.loop-dep.invariant.4 h)
-      (ap (λ (z : Dependence). ruled_run budget z) own ∙ c.in-Ok.ensures.run))),
-    (λ z i. c.loop-dep.invariant.5 z (subst (λ (l : List Dependence). In z l) (sym steps) (inr i))))
+    let own = c.in-Ok.ensures.dep in (
+      tt,
+      tt,
+      ap (λ (z : List RuledDep). map dep_of z ++ rest) e
+          ∙ (ap (λ (z : List Dependence). z ++ rest) (map-append dep_of all (x ∷ []))
+          ∙ (append_assoc (map dep_of all) (x.dep ∷ []) rest
+          ∙ (ap (λ (z : Dependence). map dep_of all ++ (z ∷ rest)) own
+          ∙ (ap (λ (z : List Dependence). map dep_of all ++ z) (sym steps) ∙ c.loop-dep.invariant.2)))),
+      (λ h. subst AllRuled (sym e) (ruled_more all x (c.loop-dep.invariant.3 h) c.in-Ok.ensures.ruled)),
+      (λ h. subst (λ (z : List RuledDep). AreRuledBy budget z) (sym e)
+          (All-push (λ (y : RuledDep). ruled_run budget y.dep ≡ Ok y) all x (c.loop-dep.invariant.4 h)
+          (ap (λ (z : Dependence). ruled_run budget z) own ∙ c.in-Ok.ensures.run))),
+      (λ z i. c.loop-dep.invariant.5 z (subst (λ (l : List Dependence). In z l) (sym steps) (inr i))),
+    )

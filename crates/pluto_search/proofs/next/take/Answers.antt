@@ -1,11 +1,11 @@
-use Rattle.std.proofs.Common.{◌≡◌, ◌∙◌, ◌+◌, suc, ℤ, List, sym, ap, subst, arith, length, map, inl, inr, refl, Ok}
-use Rattle.std.specs.Prelude.{Bool, true}
+use Rattle.std.proofs.Common.{◌∙◌, ◌+◌, suc, ℤ, List, sym, ap, subst, arith, length, map, inl, inr, refl, Ok}
+use Rattle.std.specs.Prelude.{true}
 use Rattle.std.proofs.lemmas.List.{length-map}
 use Rattle.scop_syntax.specs.Members.{In}
 use Rattle.scop_syntax.proofs.Members.{in_map}
 use Rattle.iteration_domains.specs.Dependence.{Dependence}
 use Rattle.schedule_rows.specs.Items.{Row, Marked}
-use Rattle.schedule_rows.specs.Next.{rows_of, IsWithin}
+use Rattle.schedule_rows.specs.Next.{rows_of}
 use Rattle.schedule_rows.specs.Outcomes.{items_in}
 use Rattle.schedule_rows.specs.Posed.{IsLeast}
 use Rattle.schedule_rows.specs.Schedule.{row_of, block_of, marked_of}
@@ -67,8 +67,15 @@ returns-in-Err-is_parallel c =
     let same = ap (λ (l : List RuledDep). map dep_of l) c.deref-2.ensures.value in
     stop_at m loops budget s c.in-Err-is_parallel.kept
     (stop_of (StopsAbove m r budget (map dep_of c.deref-2.result.now)) (StopsAt m loops budget s) c.in-Err-is_parallel.kept
-    (λ stop h. inr (c.requires.more, inl (r, least at, within,
-      (h.0, ruled_remains p h.0 (subst (λ (l : List Dependence). In h.0 l) same h.1), h.2))))
+    (λ stop h. inr (
+      c.requires.more,
+      inl (
+        r,
+        least at,
+        within,
+        (h.0, ruled_remains p h.0 (subst (λ (l : List Dependence). In h.0 l) same h.1), h.2),
+      ),
+    ))
     c.in-Err-is_parallel.ensures.stops)
 
 pub append-requires : goal.append-requires
@@ -98,8 +105,8 @@ returns c =
     (least_good m loops s.remaining (rows_of s) r l within) c.requires.more l
     (exact_mark m loops s.remaining (rows_of s) r c.requires.good.between l within
     (λ e d i. c.in-Ok-is_parallel.ensures.parallel (ap Ok e) d
-      (subst (λ (l : List Dependence). In d l) (sym same) (all_remain p d c.requires.ruled i)))
+    (subst (λ (l : List Dependence). In d l) (sym same) (all_remain p d c.requires.ruled i)))
     (λ e.
-      let x = c.in-Ok-is_parallel.ensures.carries (ap Ok e) in
-      (x.0, ruled_remains p x.0 (subst (λ (l : List Dependence). In x.0 l) same x.1), x.2)))
+    let x = c.in-Ok-is_parallel.ensures.carries (ap Ok e) in
+    (x.0, ruled_remains p x.0 (subst (λ (l : List Dependence). In x.0 l) same x.1), x.2)))
     c.in-Ok-append.ensures

@@ -1,4 +1,4 @@
-use Rattle.std.proofs.Common.{◌≡◌, ap, subst, List, ℤ, Ok, Err}
+use Rattle.std.proofs.Common.{ap, subst, List, ℤ, Ok, Err}
 use Rattle.std.specs.Prelude.{Bool, true, Result}
 use Rattle.integer_sets.specs.Constraints.{Constraints}
 use Rattle.lexmin_runs.specs.Emptiness.{IsBoundedPoint, HasBoundedPoint}

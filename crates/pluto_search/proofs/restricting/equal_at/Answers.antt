@@ -1,4 +1,4 @@
-use Rattle.std.proofs.Common.{◌≡◌, ◌+◌, ap, arith, length, ◌++◌}
+use Rattle.std.proofs.Common.{ap, arith, length, ◌++◌}
 use Rattle.std.specs.Prelude.{negsuc}
 use Rattle.std.proofs.lemmas.List.{length-append}
 use Rattle.whole_numbers.specs.Affine.{Affine}

@@ -1,5 +1,4 @@
-use Rattle.std.proofs.Common.{◌≡◌, ◌∙◌, ◌+◌, ℕ, ◌<◌, List, [], ◌∷◌, All, arith, length, map, drop, sym, ap, subst}
-use Rattle.std.proofs.lemmas.List.Elements.{All-get_or}
+use Rattle.std.proofs.Common.{◌≡◌, ◌∙◌, ◌+◌, List, ◌∷◌, All, arith, map, drop, sym, ap, subst}
 use Rattle.iteration_domains.specs.Dependence.{Dependence}
 use Rattle.schedule_rows.specs.declared.item.Marked as code
 use Rattle.schedule_rows.specs.Items.{Marked}
@@ -30,9 +29,9 @@ loop-marked-preserved c =
     let rest = map marked_of (drop (c.loop-marked.marked-index + 1) rows) in
     let r = row_of c.marked-item.result.row in (
       ap (λ (z : Dependence). restricted m rest z) c.in-Ok.ensures
-      ∙ (sym (ap (λ (z : List code.Marked). restricted m (map marked_of z) old) (row_next at)) ∙ c.loop-marked.invariant.0),
+          ∙ (sym (ap (λ (z : List code.Marked). restricted m (map marked_of z) old) (row_next at)) ∙ c.loop-marked.invariant.0),
       subst (λ (z : Dependence). All (λ (q : Marked). CanTell m q.row z) (map marked_of rows)) (sym c.in-Ok.ensures)
-      (all_tell_more m (map marked_of rows) r old c.loop-marked.invariant.1),
+          (all_tell_more m (map marked_of rows) r old c.loop-marked.invariant.1),
     )
 
 pub returns : goal.returns
@@ -45,6 +44,7 @@ returns c =
 pub loop-marked-init : goal.loop-marked-init
 loop-marked-init c =
     let m = c.args.parameters in
-    let rows = map marked_of c.args.rows.now in
-    (ap (λ (z : Dependence). restricted m rows z) c.in_ok-equal.ensures,
-    subst (λ (z : Dependence). All (λ (q : Marked). CanTell m q.row z) rows) (sym c.in_ok-equal.ensures) c.requires)
+    let rows = map marked_of c.args.rows.now in (
+      ap (λ (z : Dependence). restricted m rows z) c.in_ok-equal.ensures,
+      subst (λ (z : Dependence). All (λ (q : Marked). CanTell m q.row z) rows) (sym c.in_ok-equal.ensures) c.requires,
+    )

@@ -1,4 +1,4 @@
-use Rattle.std.proofs.Common.{◌≡◌, ℕ, ◌<◌, ◌+◌, List, [], ◌∷◌, arith, length, map, drop, sym, subst, ◌∙◌, refl, ap, inl, inr, Ok}
+use Rattle.std.proofs.Common.{◌≡◌, ◌+◌, List, ◌∷◌, arith, map, drop, sym, subst, ap, inl, inr, Ok}
 use Rattle.scop_syntax.specs.Members.{In}
 use Rattle.scop_syntax.proofs.Members.{in_map}
 use Rattle.iteration_domains.specs.Dependence.{Dependence}
@@ -41,24 +41,26 @@ returns-in-Err-clause-stops c =
 pub returns-in-Ok-false-clause-carries : goal.returns-in-Ok-false-clause-carries
 returns-in-Ok-false-clause-carries c h =
     let d = c.dep.result.now in
-    let i = in_map dep_of c.index-ruled-at.result c.args.ruled.now (asked_among (goal.at.returns-in-Ok-false-clause-carries c).After-dep) in
-    (d, subst (λ (z : Dependence). In z (map dep_of c.args.ruled.now)) (sym c.dep.ensures) i,
-    c.in-Ok-false.ensures.rises (ap Ok c.in-Ok-false.field-0-test))
+    let i = in_map dep_of c.index-ruled-at.result c.args.ruled.now (asked_among (goal.at.returns-in-Ok-false-clause-carries c).After-dep) in (
+      d,
+      subst (λ (z : Dependence). In z (map dep_of c.args.ruled.now)) (sym c.dep.ensures) i,
+      c.in-Ok-false.ensures.rises (ap Ok c.in-Ok-false.field-0-test),
+    )
 
 pub loop-at-preserved : goal.loop-at-preserved
 loop-at-preserved c h =
     let m = c.args.parameters in
     let r = row_of c.args.row.now in
     let own = subst (λ (z : Dependence). IsEmptyDep m (above_at m r z)) c.dep.ensures
-      (c.in-Ok-true.ensures.level (ap Ok c.in-Ok-true.field-0-test)) in
+    (c.in-Ok-true.ensures.level (ap Ok c.in-Ok-true.field-0-test)) in
     let next = asked_next (goal.at.loop-at-preserved c).After-dep in
     c.loop-at.invariant (λ d i.
-      elim (subst (λ (l : List RuledDep). In d (map dep_of l)) next i) [
-        | inl e ↦ subst (λ (z : Dependence). IsEmptyDep m (above_at m r z)) (sym e) own
-        | inr j ↦ h d j
-      ])
+    elim (subst (λ (l : List RuledDep). In d (map dep_of l)) next i) [
+      | inl e ↦ subst (λ (z : Dependence). IsEmptyDep m (above_at m r z)) (sym e) own
+      | inr j ↦ h d j
+    ])
 
 pub returns-clause-parallel : goal.returns-clause-parallel
 returns-clause-parallel c h =
     c.loop-at.invariant (λ d i. absurd (subst (λ (l : List RuledDep). In d (map dep_of l))
-      (none_left c.args.ruled.now c.loop-at.at (omega (arith, c.loop-at-test.false))) i))
+    (none_left c.args.ruled.now c.loop-at.at (omega (arith, c.loop-at-test.false))) i))

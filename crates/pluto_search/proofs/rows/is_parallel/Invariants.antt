@@ -1,4 +1,4 @@
-use Rattle.std.proofs.Common.{drop, map, List}
+use Rattle.std.proofs.Common.{drop, map}
 use Rattle.scop_syntax.specs.Members.{In}
 use Rattle.iteration_domains.specs.Dependence.{Dependence}
 use Rattle.schedule_rows.specs.Dependences.{IsEmptyDep, above_at}

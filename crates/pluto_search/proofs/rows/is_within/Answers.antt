@@ -1,4 +1,4 @@
-use Rattle.std.proofs.Common.{rules, ◌≡◌, ℕ, ◌<◌, ℤ, pos, List, arith, length, map, All, sym, subst, ◌∙◌, refl}
+use Rattle.std.proofs.Common.{rules, ◌≡◌, ℕ, ◌<◌, pos, List, arith, length, map, All, sym, subst}
 use Rattle.std.specs.Prelude.{◌≤ℤ◌, slice_index_or}
 use Rattle.std.proofs.lemmas.List.{get_or-map, length-map}
 use Rattle.std.proofs.lemmas.List.Elements.{All-nil, All-map, All-get_or}

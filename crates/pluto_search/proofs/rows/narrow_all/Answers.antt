@@ -1,4 +1,4 @@
-use Rattle.std.proofs.Common.{rules, ◌≡◌, ◌∙◌, ℕ, ◌<◌, ◌+◌, ℤ, List, [], ◌∷◌, ◌++◌, arith, length, map, drop, sym, ap, ap₂, subst, Vec, Global, append_assoc}
+use Rattle.std.proofs.Common.{rules, ◌≡◌, ◌∙◌, ◌+◌, ℤ, List, [], ◌∷◌, ◌++◌, arith, length, map, drop, sym, ap, ap₂, subst, append_assoc}
 use Rattle.std.specs.Vec.{vec_len}
 use Rattle.std.proofs.lemmas.List.{append-nil, length-map, map-append}
 use Rattle.schedule_rows.specs.declared.item.Part as code_part
@@ -56,10 +56,10 @@ loop-at-preserved c =
     let rest = narrowed_each (drop (i + 1) (map numbers c.args.row.now.parts.items)) (drop (i + 1) (map shown c.args.vectors.now)) in
     let next = c.in_ok-next.next in (
       ap (λ (z : List Vectors). map shown z ++ rest) c.in-Ok.ensures.items
-      ∙ (ap (λ (z : List (List (List ℤ))). z ++ rest) (map-append shown all (next ∷ []))
-      ∙ (append_assoc (map shown all) (shown next ∷ []) rest
-      ∙ (ap (λ (z : List (List ℤ)). map shown all ++ (z ∷ rest)) c.in_ok-next.ensures
-      ∙ (ap (λ (z : List (List (List ℤ))). map shown all ++ z) (sym (ap₂ narrowed_each (part_next at) (vectors_next at))) ∙ c.loop-at.invariant.0)))),
+          ∙ (ap (λ (z : List (List (List ℤ))). z ++ rest) (map-append shown all (next ∷ []))
+          ∙ (append_assoc (map shown all) (shown next ∷ []) rest
+          ∙ (ap (λ (z : List (List ℤ)). map shown all ++ (z ∷ rest)) c.in_ok-next.ensures
+          ∙ (ap (λ (z : List (List (List ℤ))). map shown all ++ z) (sym (ap₂ narrowed_each (part_next at) (vectors_next at))) ∙ c.loop-at.invariant.0)))),
       (can_next at).1,
     )
 

@@ -1,6 +1,4 @@
-use Rattle.std.proofs.Common.{◌≡◌, sym, ◌∙◌, ap, subst, Ok, Err, map}
-use Rattle.schedule_rows.specs.Outcomes.{ends}
-use Rattle.schedule_rows.specs.Schedule.{block_of}
+use Rattle.std.proofs.Common.{◌∙◌, ap, subst, Ok}
 use Rattle.schedule_rows.proofs.Began.{reached_more}
 use Rattle.pluto_search.specs.declared.state.Step.TheVariants as step
 use Rattle.pluto_search.specs.Steps.{state_of, Steps}
@@ -23,7 +21,7 @@ loop-kept-smaller c =
     let loops = c.args.loops.now in
     let s = state_of c.loop-kept.progress in
     let steps : Steps m loops c.args.budget s (Ok (step.Goes c.in-Ok-Goes.next)) =
-      subst (λ r. Steps m loops c.args.budget s r) (c.in-Ok-Goes.is ∙ ap Ok c.in-Ok-Goes.field-0-is) c.next_item.ensures in
+    subst (λ r. Steps m loops c.args.budget s r) (c.in-Ok-Goes.is ∙ ap Ok c.in-Ok-Goes.field-0-is) c.next_item.ensures in
     falls m loops s (state_of c.in-Ok-Goes.next) steps.0
 
 pub loop-kept-preserved : goal.loop-kept-preserved
@@ -32,5 +30,5 @@ loop-kept-preserved c =
     let loops = c.args.loops.now in
     let s = state_of c.loop-kept.progress in
     let steps : Steps m loops c.args.budget s (Ok (step.Goes c.in-Ok-Goes.next)) =
-      subst (λ r. Steps m loops c.args.budget s r) (c.in-Ok-Goes.is ∙ ap Ok c.in-Ok-Goes.field-0-is) c.next_item.ensures in
+    subst (λ r. Steps m loops c.args.budget s r) (c.in-Ok-Goes.is ∙ ap Ok c.in-Ok-Goes.field-0-is) c.next_item.ensures in
     (steps.1, reached_more m loops c.args.deps.now s (state_of c.in-Ok-Goes.next) c.loop-kept.invariant.1 steps.0)

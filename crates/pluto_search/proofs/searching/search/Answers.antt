@@ -1,6 +1,6 @@
 use Rattle.std.proofs.Common.{◌≡◌, ◌∙◌, ℕ, List, All, map, sym, subst, Some}
 use Rattle.std.specs.Prelude.{◌≤◌, slice_get}
-use Rattle.iteration_domains.specs.Model.{Modelled, KernelModel}
+use Rattle.iteration_domains.specs.Model.{Modelled}
 use Rattle.iteration_domains.specs.Sizes.{HaveOneCount, IsKernelModel}
 use Rattle.schedule_rows.specs.Outcomes.{ends}
 use Rattle.schedule_rows.specs.Reaching.{Comes}

@@ -1,4 +1,4 @@
-use Rattle.std.proofs.Common.{List, [], sym, subst}
+use Rattle.std.proofs.Common.{[], sym, subst}
 use Rattle.schedule_rows.specs.Next.{State}
 use Rattle.schedule_rows.specs.Reaching.{Reached}
 use Rattle.schedule_rows.proofs.Began.{reached_first}
@@ -14,6 +14,7 @@ returns-in-Ok-begin c =
     let loops = c.args.loops.now in
     let deps = c.args.deps.now in
     let taken = c.in-Ok.taken.items in
-    let takes = c.in-Ok.ensures.kept in
-    (c.in-Ok-begin.ensures.good m c.args.budget (restricts_between m loops [] deps taken c.requires.between takes),
-    subst (λ (s : State). Reached m loops deps s) (sym c.in-Ok-begin.ensures.first) (reached_first m loops deps taken takes))
+    let takes = c.in-Ok.ensures.kept in (
+      c.in-Ok-begin.ensures.good m c.args.budget (restricts_between m loops [] deps taken c.requires.between takes),
+      subst (λ (s : State). Reached m loops deps s) (sym c.in-Ok-begin.ensures.first) (reached_first m loops deps taken takes),
+    )
