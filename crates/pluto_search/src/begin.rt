@@ -45,7 +45,8 @@ fn first_vectors(alloc: Global, loops: &[usize]) -> Result<Vec<Rows>, AllocError
 pub fn begin(alloc: Global, loops: &[usize], taken: Vec<Dep>) -> Result<Progress, AllocError>
     requires { All (λ l. l ≤ 5) loops.now }
     ensures first { IfOk result (λ p. state_of p ≡ state [] [] taken.items) }
-    ensures good { IfOk result (λ p. (m budget : ℕ) → AreBetween m loops.now taken.items → IsGood m loops.now budget p) }
+    ensures good { IfOk result (λ p. (m budget : ℕ) → AreBetween m loops.now taken.items
+        → IsGood m loops.now budget p) }
 {
     let vectors = first_vectors(alloc, loops)?;
     Ok(Progress {

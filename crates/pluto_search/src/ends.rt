@@ -43,7 +43,8 @@ fn size(block: &Block) -> usize
 
 /// The blocks with a band that ends, if it has rows.
 pub fn close(closed: Vec<Block>, rows: Vec<Marked>) -> Result<Vec<Block>, AllocError>
-    ensures { IfOk result (λ v. map block_of v.items ≡ closed_by (map block_of closed.items) (map marked_of rows.items)) }
+    ensures { IfOk result (λ v. map block_of v.items
+        ≡ closed_by (map block_of closed.items) (map marked_of rows.items)) }
 {
     if rows.is_empty() {
         return Ok(closed);
@@ -162,7 +163,8 @@ fn has_twin(numbers: &[usize], a: usize) -> bool
 /// The least component with two statements, of those up to now and one more.
 fn lesser(least: Option<usize>, component: usize) -> usize
     ensures none { least ≡ None → result ≡ component }
-    ensures some { (k : ℕ) → least ≡ Some k → (result ≤ k) × (result ≤ component) × ((result ≡ k) ⊎ (result ≡ component)) }
+    ensures some { (k : ℕ) → least ≡ Some k
+        → (result ≤ k) × (result ≤ component) × ((result ≡ k) ⊎ (result ≡ component)) }
 {
     match least {
         None => component,

@@ -18,13 +18,14 @@ use scop_syntax::walk_laws::{
     instances_are_those_of_statements, statements_are_numbered, walks_are_in_order,
 };
 
-/// Along the schedule of a kernel's conflicts the item values of two conflicting places rise from the earlier to the later,
-/// for parameters in 0..=65536.
+/// Along the schedule of a kernel's conflicts the item values of two conflicting places rise from the earlier to the
+/// later, for parameters in 0..=65536.
 pub fn schedules_order_conflicts()
     ensures { (program : Program) (blocks : List Block) (params : List ℤ) (i j : ℕ)
         (c : PlacesConflict (walk_of program params) i j) → IsKernel program
         → length params ≡ length program.parameters → InRange params
-        → IsSchedule (model_of program).parameters (loops_in (model_of program)) (conflicts_of (model_of program)) blocks
+        → IsSchedule (model_of program).parameters (loops_in (model_of program)) (conflicts_of (model_of program))
+        blocks
         → LexLess (values blocks (instance c.earlier)) (values blocks (instance c.later)) }
 {
     conflicts_are_the_points_of_the_systems();

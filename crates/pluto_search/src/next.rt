@@ -124,7 +124,8 @@ fn close_band(
     vectors: Vec<Rows>,
     budget: u64,
 ) -> Result<Progress, Kept>
-    requires tells { (d : Dependence) → In d deps.items → All (λ r. CanTell parameters r.row d) (map marked_of rows.items) }
+    requires tells { (d : Dependence) → In d deps.items
+        → All (λ r. CanTell parameters r.row d) (map marked_of rows.items) }
     requires parameters { (d : Dependence) → In d deps.items → d.system.parameters ≡ parameters }
     ensures closed { IfOk result (IsClosed parameters (map block_of closed.items) (map marked_of rows.items) deps.items
         (map (λ vs. map (λ v. v.items) vs.items) vectors.items)) }
@@ -227,7 +228,8 @@ fn lack(
 
 /// The least row is too large; it would be the next item.
 fn too_large(progress: &Progress) -> Kept
-    ensures { IsLarge (suc (items_in (map block_of progress.now.closed.items) + length progress.now.rows.items)) result }
+    ensures { IsLarge
+        (suc (items_in (map block_of progress.now.closed.items) + length progress.now.rows.items)) result }
 {
     match items_in(&progress.closed) {
         None => Kept::NoMemory,
