@@ -1,5 +1,5 @@
 -- The questions that the search asks, and that one of them stops.
-use Rattle.std.specs.Prelude.{◌≡◌, ℕ, ℤ, List, [], map, All, ◌⊎◌, Option, Vec, Result, Ok, Err, ⊤}
+use Rattle.std.specs.Prelude.{◌≡◌, ℕ, ℤ, List, map, All, ◌⊎◌, Option, Vec, Result, Ok, Err, ⊤}
 use Rattle.std.specs.Global.{Global}
 use Rattle.wide_math.specs.declared.Wide.{Wide}
 use Rattle.scop_syntax.specs.Members.{In}

@@ -1,11 +1,21 @@
-//! The search for a schedule, row by row: each row is the least of its posed set, a band ends where there is none, and a
-//! scalar item goes between (U. Bondhugula and others, "A practical automatic polyhedral parallelizer and locality
+//! The search for a schedule, row by row: each row is the least of its posed set, a band ends where there is none, and
+//! a scalar item goes between (U. Bondhugula and others, "A practical automatic polyhedral parallelizer and locality
 //! optimizer", PLDI 2008). Promises exactly the schedule of the determined run, or why the run has none, or exactly the
 //! question that stops.
 #![tactic(auto)]
 
+mod begin;
+mod ends;
 mod kept;
+mod laws;
+mod next;
+mod question;
+mod restricting;
+mod rows;
 mod searching;
+mod state;
+mod stops;
 
 pub use kept::Kept;
+pub use laws::schedules_order_conflicts;
 pub use searching::search;

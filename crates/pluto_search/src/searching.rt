@@ -1,19 +1,73 @@
 //! The search, item by item.
-ghost use Rattle.std.specs.Prelude.{◌≡◌};
+ghost use Rattle.std.specs.Prelude.{◌≡◌, ◌≤◌, All};
 ghost use Rattle.conflict_deps.specs.Conflicts.{conflicts_of};
-ghost use Rattle.pluto_search.specs.Searching.{Searches};
+ghost use Rattle.pluto_search.specs.Searching.{Runs, Starts, Searches};
+ghost use Rattle.pluto_search.specs.Steps.{AreBetween};
 
+use crate::begin::{begin, loops_in};
 use crate::kept::Kept;
+use crate::next::next_item;
+use crate::restricting::restrict_all;
+use crate::state::{Progress, Step};
+use conflict_deps::conflict_laws::systems_have_parts;
 use iteration_domains::{Dep, Model};
-use schedule_rows::Schedule;
+use schedule_rows::{Block, Schedule};
 use std::alloc::Global;
+
+/// The first state: the dependences that have a point.
+fn take_up(
+    alloc: Global,
+    parameters: usize,
+    loops: &[usize],
+    deps: &[Dep],
+    budget: u64,
+) -> Result<Progress, Kept>
+    requires loops { All (λ l. l ≤ 5) loops.now }
+    requires between { AreBetween parameters loops.now deps.now }
+    ensures { Starts parameters loops.now deps.now budget result }
+{
+    let taken = match restrict_all(alloc, parameters, &[], deps, budget) {
+        Err(kept) => return Err(kept),
+        Ok(taken) => taken,
+    };
+    match begin(alloc, loops, taken) {
+        Err(_) => Err(Kept::NoMemory),
+        Ok(progress) => Ok(progress),
+    }
+}
+
+/// The blocks of the determined run, item by item.
+fn run(
+    alloc: Global,
+    parameters: usize,
+    loops: &[usize],
+    deps: &[Dep],
+    budget: u64,
+) -> Result<Vec<Block>, Kept>
+    requires parameters { parameters ≤ 4 }
+    requires loops { All (λ l. l ≤ 5) loops.now }
+    requires between { AreBetween parameters loops.now deps.now }
+    ensures { Runs parameters loops.now deps.now budget result }
+{
+    let mut progress = match take_up(alloc, parameters, loops, deps, budget) {
+        Err(kept) => return Err(kept),
+        Ok(progress) => progress,
+    };
+    loop {
+        match next_item(alloc, parameters, loops, progress, budget) {
+            Err(kept) => return Err(kept),
+            Ok(Step::Ends(blocks)) => return Ok(blocks),
+            Ok(Step::Goes(next)) => progress = next,
+        }
+    }
+}
 
 /// The schedule of a kernel's conflicts: each row the least of its posed set, a scalar item where there is no row. Each
 /// question has the whole budget.
 ///
 /// # Errors
-/// `NoRow`, `NoOrder` and `Large` exactly where the determined run ends so and no question before stopped, `Stuck` where
-/// one did; `NoMemory`.
+/// `NoRow`, `NoOrder` and `Large` exactly where the determined run ends so and no question before stopped, `Stuck`
+/// where one did; `NoMemory`.
 pub fn search<'a>(
     alloc: Global,
     model: &'a Model,
@@ -23,5 +77,19 @@ pub fn search<'a>(
     requires { deps.now ≡ conflicts_of model.now }
     ensures search { Searches model.now deps.now budget result }
 {
-    Err(Kept::NoMemory)
+    systems_have_parts();
+    let _statements = model.statements();
+    let parameters = model.parameters();
+    let loops = match loops_in(alloc, model) {
+        Err(_) => return Err(Kept::NoMemory),
+        Ok(loops) => loops,
+    };
+    let blocks = match run(alloc, parameters, &loops, deps, budget) {
+        Err(kept) => return Err(kept),
+        Ok(blocks) => blocks,
+    };
+    match Schedule::of(alloc, model, deps, blocks) {
+        Err(_) => Err(Kept::NoMemory),
+        Ok(schedule) => Ok(schedule),
+    }
 }

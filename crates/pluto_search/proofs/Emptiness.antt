@@ -1,0 +1,74 @@
+-- What a question of emptiness says of a dependence.
+use Rattle.std.proofs.Common.{◌≡◌, ℕ, ℤ, pos, List, [], ◌∷◌, ◌++◌, refl, sym, ◌∙◌, ap, subst, arith, All, take, drop, append_assoc}
+use Rattle.std.specs.Prelude.{◌≤ℤ◌}
+use Rattle.std.proofs.lemmas.List.{length-append, length-take-le, length-drop, take-append-drop}
+use Rattle.std.proofs.lemmas.List.Elements.{All-nil, All-cons, All-head, All-tail, All-append}
+use Rattle.whole_numbers.proofs.Lists.{not_negative_all}
+use Rattle.fractions.specs.Farkas.{AreNotNegative}
+use Rattle.integer_sets.specs.Points.{Satisfies}
+use Rattle.lexmin_runs.specs.Emptiness.{IsBoundedPoint, HasBoundedPoint}
+use Rattle.iteration_domains.specs.Dependence.{Dependence, IsDependence}
+use Rattle.schedule_rows.specs.Dependences.{IsEmptyDep, InRange}
+use Rattle.schedule_rows.proofs.Pairs.{all_front, all_back}
+
+range_to : (params : List ℤ) → InRange params → AreNotNegative params × All (λ z. z ≤ℤ pos 65536) params
+range_to [] h = (All-nil (λ x. pos 0 ≤ℤ x), All-nil (λ z. z ≤ℤ pos 65536))
+range_to (p ∷ ps) h =
+    let P : ℤ → Type 0 = λ z. (pos 0 ≤ℤ z) × (z ≤ℤ pos 65536) in
+    let k = range_to ps (All-tail P p ps h) in
+    let o = All-head P p ps h in
+    (All-cons (λ x. pos 0 ≤ℤ x) p ps o.0 k.0, All-cons (λ z. z ≤ℤ pos 65536) p ps o.1 k.1)
+
+range_from : (params : List ℤ) → AreNotNegative params → All (λ z. z ≤ℤ pos 65536) params → InRange params
+range_from [] a b = All-nil (λ z. (pos 0 ≤ℤ z) × (z ≤ℤ pos 65536))
+range_from (p ∷ ps) a b =
+    All-cons (λ z. (pos 0 ≤ℤ z) × (z ≤ℤ pos 65536)) p ps (All-head (λ x. pos 0 ≤ℤ x) p ps a, All-head (λ z. z ≤ℤ pos 65536) p ps b)
+    (range_from ps (All-tail (λ x. pos 0 ≤ℤ x) p ps a) (All-tail (λ z. z ≤ℤ pos 65536) p ps b))
+
+-- no bounded point: no pair
+pub empty_is : (m : ℕ) (d : Dependence) → d.system.parameters ≡ m → IsDependence d → ((x p : List ℤ) → IsBoundedPoint d.system x p → ⊥) → IsEmptyDep m d
+empty_is m d e i none params x y size r =
+    let l = length-append x.turns y.turns in
+    let a = r.source_size in
+    let b = r.target_size in
+    let t = i.turns in
+    let k = range_to params r.range in
+    let same : (x.turns ++ y.turns) ++ params ≡ x.turns ++ (y.turns ++ params) = append_assoc x.turns y.turns params in
+    none (x.turns ++ y.turns) params (record {
+      dimensions = omega arith;
+      parameters = size ∙ sym e;
+      not_negative = (not_negative_all ((x.turns ++ y.turns) ++ params)).1
+          (All-append (λ z. pos 0 ≤ℤ z) (x.turns ++ y.turns) params (All-append (λ z. pos 0 ≤ℤ z) x.turns y.turns r.source_from_0 r.target_from_0) k.0);
+      bounded = k.1;
+      inside = subst (λ (z : List ℤ). Satisfies d.system z) (sym same) (r.equalities, r.rows);
+    })
+
+-- a bounded point is a pair
+pub point_is : (m : ℕ) (d : Dependence) → d.system.parameters ≡ m → IsDependence d → HasBoundedPoint d.system → IsEmptyDep m d → ⊥
+point_is m d e i h empty =
+    let x = h.x in
+    let p = h.p in
+    let n = d.source.loops in
+    let t = i.turns in
+    let z = h.is.dimensions in
+    let xs = take n x in
+    let ys = drop n x in
+    let ls = length-take-le n x (omega arith) in
+    let ld = length-drop n x in
+    let whole : x ++ p ≡ xs ++ (ys ++ p) = ap (λ (w : List ℤ). w ++ p) (sym (take-append-drop n x)) ∙ append_assoc xs ys p in
+    let nn = (not_negative_all (x ++ p)).0 h.is.not_negative in
+    let all = subst (λ (w : List ℤ). AreNotNegative w) whole nn in
+    let P : ℤ → Type 0 = λ w. pos 0 ≤ℤ w in
+    let back = all_back P xs (ys ++ p) all in
+    let inside = subst (λ (w : List ℤ). Satisfies d.system w) whole h.is.inside in
+    empty p (record { number = d.source.statement; turns = xs }) (record { number = d.target.statement; turns = ys }) (h.is.parameters ∙ e) (record {
+      range = range_from p (all_back P ys p back) h.is.bounded;
+      source = refl;
+      target = refl;
+      source_size = ls;
+      target_size = omega arith;
+      source_from_0 = all_front P xs (ys ++ p) all;
+      target_from_0 = all_front P ys p back;
+      equalities = inside.0;
+      rows = inside.1;
+    })

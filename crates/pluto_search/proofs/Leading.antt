@@ -1,0 +1,141 @@
+-- Dependence by dependence: restricted, asked, dropped.
+use Rattle.std.proofs.Common.{◌≡◌, ℕ, zero, suc, ◌+◌, ◌<◌, List, [], ◌∷◌, ◌++◌, refl, sym, ◌∙◌, ap, subst, inl, inr, arith, length, map, All, drop, append_assoc, add-one, drop-cons}
+use Rattle.std.specs.Prelude.{slice_index_or}
+use Rattle.std.specs.Prelude.{◌≤◌}
+use Rattle.std.proofs.lemmas.List.{append-nil, length-drop, length-map, get_or-map}
+use Rattle.std.proofs.lemmas.List.Elements.{All-nil, All-cons, All-head, All-tail}
+use Rattle.scop_syntax.specs.Members.{In}
+use Rattle.iteration_domains.specs.Dependence.{Dependence, IsDependence}
+use Rattle.schedule_rows.specs.Items.{Row, Marked}
+use Rattle.schedule_rows.specs.declared.item.Marked as code
+use Rattle.schedule_rows.specs.Schedule.{row_of, marked_of}
+use Rattle.schedule_rows.specs.Dependences.{IsEmptyDep, equal_at}
+use Rattle.schedule_rows.specs.Next.{restricted, Restricts}
+use Rattle.pluto_systems.specs.Posing.{IsBetween}
+use Rattle.pluto_search.specs.Sizes.{CanTell}
+use Rattle.pluto_search.specs.Steps.{AreBetween}
+
+-- what is asked of the rest goes behind what is kept
+abbrev pub Leads : ℕ → List Marked → List Dependence → List Dependence → List Dependence → Type 0
+Leads m rows rest kept deps = (more : List Dependence) → Restricts m rows rest more → Restricts m rows deps (kept ++ more)
+
+pub dropped : (m : ℕ) (rows : List Marked) (d : Dependence) (rest kept deps : List Dependence)
+    → IsEmptyDep m (restricted m rows d) → Leads m rows (d ∷ rest) kept deps → Leads m rows rest kept deps
+dropped m rows d rest kept deps e h more r = h more (inl (e, r))
+
+pub held_back : (m : ℕ) (rows : List Marked) (d e : Dependence) (rest kept deps : List Dependence)
+    → e ≡ restricted m rows d → (IsEmptyDep m (restricted m rows d) → ⊥)
+    → Leads m rows (d ∷ rest) kept deps → Leads m rows rest (kept ++ e ∷ []) deps
+held_back m rows d e rest kept deps is some h more r =
+    subst (λ (z : List Dependence). Restricts m rows deps z) (sym (append_assoc kept (e ∷ []) more))
+    (h (e ∷ more) (inr (more, some, r, ap (λ (z : Dependence). z ∷ more) is)))
+
+pub leads_first : (m : ℕ) (rows : List Marked) (deps kept : List Dependence) → kept ≡ [] → Leads m rows deps kept deps
+leads_first m rows deps kept e more r = subst (λ (z : List Dependence). Restricts m rows deps (z ++ more)) (sym e) r
+
+pub leads_last : (m : ℕ) (rows : List Marked) (kept deps : List Dependence) → Leads m rows [] kept deps
+    → Restricts m rows deps kept
+leads_last m rows kept deps h =
+    subst (λ (l : List Dependence). Restricts m rows deps l) (append-nil kept) (h [] refl)
+
+-- the next one
+pub next_of : {X : Type 0} (xs : List X) (i : ℕ) (x : X) (d : X) → i < length xs → x ≡ slice_index_or xs i d
+    → drop i xs ≡ x ∷ drop (i + 1) xs
+next_of xs i x d h e =
+    drop-cons xs i d h ∙ (ap (λ (z : _). z ∷ drop (suc i) xs) (sym e) ∙ ap (λ (n : ℕ). x ∷ drop n xs) (sym (add-one i)))
+
+pub in_drop : {X : Type 0} (xs : List X) (i : ℕ) (x : X) → In x (drop i xs) → In x xs
+in_drop xs zero x h = h
+in_drop [] (suc i) x h = absurd h
+in_drop (y ∷ xs) (suc i) x h = inr (in_drop xs i x h)
+
+-- it stands among them
+pub is_among : {X : Type 0} (xs rest : List X) (i : ℕ) (x : X) → drop i xs ≡ x ∷ rest → In x xs
+is_among xs rest i x e = in_drop xs i x (subst (λ l. In x l) (sym e) (inl refl))
+
+-- a restricted dependence is told by the same rows
+pub tell_more : (m : ℕ) (r q : Row) (d : Dependence) → CanTell m r d → CanTell m r (equal_at m q d)
+tell_more m r q d h =
+    record {
+      source = h.source;
+      target = h.target;
+      source_loops = h.source_loops;
+      target_loops = h.target_loops;
+      parameters = h.parameters;
+      turns = h.turns;
+      source_counts = h.source_counts;
+      source_shift = h.source_shift;
+      target_shift = h.target_shift;
+    }
+
+pub all_tell_more : (m : ℕ) (rows : List Marked) (q : Row) (d : Dependence) → All (λ r. CanTell m r.row d) rows
+    → All (λ r. CanTell m r.row (equal_at m q d)) rows
+all_tell_more m [] q d h = All-nil (λ (r : Marked). CanTell m r.row (equal_at m q d))
+all_tell_more m (r ∷ rows) q d h =
+    let P : Marked → Type 0 = λ r. CanTell m r.row d in
+    let Q : Marked → Type 0 = λ r. CanTell m r.row (equal_at m q d) in
+    All-cons Q r rows (tell_more m r.row q d (All-head P r rows h)) (all_tell_more m rows q d (All-tail P r rows h))
+
+-- what is kept stands between the same statements
+restricted_between : (m : ℕ) (loops : List ℕ) (rows : List Marked) (d : Dependence) → IsBetween m loops d × IsDependence d
+    → IsBetween m loops (restricted m rows d) × IsDependence (restricted m rows d)
+restricted_between m loops [] d h = h
+restricted_between m loops (r ∷ rows) d h =
+    restricted_between m loops rows (equal_at m r.row d) (
+      record {
+        source = h.0.source;
+        target = h.0.target;
+        source_loops = h.0.source_loops;
+        target_loops = h.0.target_loops;
+        parameters = h.0.parameters;
+      },
+      record { turns = h.1.turns; one = h.1.one },
+    )
+
+pub restricts_between : (m : ℕ) (loops : List ℕ) (rows : List Marked) (ds kept : List Dependence)
+    → AreBetween m loops ds → Restricts m rows ds kept → AreBetween m loops kept
+restricts_between m loops rows [] kept h r d i = absurd (subst (λ (l : List Dependence). In d l) r i)
+restricts_between m loops rows (c ∷ ds) kept h (inl r) d i =
+    restricts_between m loops rows ds kept (λ e j. h e (inr j)) r.1 d i
+restricts_between m loops rows (c ∷ ds) kept h (inr r) d i =
+    elim (subst (λ (l : List Dependence). In d l) r.3 i) [
+      | inl e ↦ subst (λ (z : Dependence). IsBetween m loops z × IsDependence z) (sym e)
+          (restricted_between m loops rows c (h c (inl refl)))
+      | inr j ↦ restricts_between m loops rows ds r.0 (λ e k. h e (inr k)) r.2 d j
+    ]
+
+pub no_more : {X : Type 0} (xs : List X) → length xs ≡ 0 → xs ≡ []
+no_more [] h = refl
+no_more (x ∷ xs) h = absurd (omega (arith, h))
+
+-- one more of which P holds, in front of the rest
+pub all_next : {X : Type 0} (P : X → Type 0) (xs : List X) (i : ℕ) (d : X) → i < length xs → P (slice_index_or xs i d)
+    → All P (drop (i + 1) xs) → All P (drop i xs)
+all_next P xs i d l p h =
+    subst (All P) (sym (next_of xs i (slice_index_or xs i d) d l refl))
+    (All-cons P (slice_index_or xs i d) (drop (i + 1) xs) p h)
+
+-- nothing is left
+pub none_left : {X : Type 0} (xs : List X) (i : ℕ) → length xs ≤ i → drop i xs ≡ []
+none_left xs i h = let l = length-drop i xs in no_more (drop i xs) (omega arith)
+
+-- the next of a list that is made from another entry by entry
+pub mapped_next : {X Y : Type 0} (f : X → Y) (xs : List X) (i : ℕ) (x : X) → i < length xs → x ≡ slice_index_or xs i x
+    → drop i (map f xs) ≡ f x ∷ drop (i + 1) (map f xs)
+mapped_next f xs i x l e =
+    let n = length-map xs f in
+    next_of (map f xs) i (f x) (f x) (omega arith) (ap f e ∙ sym (get_or-map f xs i x (f x) l))
+
+pub restricted_parameters : (m : ℕ) (rows : List Marked) (d : Dependence)
+    → (restricted m rows d).system.parameters ≡ d.system.parameters
+restricted_parameters m [] d = refl
+restricted_parameters m (r ∷ rows) d = restricted_parameters m rows (equal_at m r.row d)
+
+pub all_among : (m : ℕ) (rows : List code.Marked) (d : Dependence) (r : code.Marked)
+    → All (λ q. CanTell m q.row d) (map marked_of rows) → In r rows → CanTell m (row_of r.row) d
+all_among m [] d r h i = absurd i
+all_among m (q ∷ rows) d r h (inl e) =
+    subst (λ (z : code.Marked). CanTell m (row_of z.row) d) (sym e)
+    (All-head (λ (q : Marked). CanTell m q.row d) (marked_of q) (map marked_of rows) h)
+all_among m (q ∷ rows) d r h (inr i) =
+    all_among m rows d r (All-tail (λ (q : Marked). CanTell m q.row d) (marked_of q) (map marked_of rows) h) i

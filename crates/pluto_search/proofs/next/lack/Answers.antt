@@ -1,0 +1,50 @@
+use Rattle.std.proofs.Common.{rules, ◌≡◌, ◌∙◌, ◌++◌, List, length, map, sym, ap, subst, arith}
+use Rattle.std.proofs.lemmas.List.{length-map}
+use Rattle.iteration_domains.specs.Dependence.{Dependence}
+use Rattle.schedule_rows.specs.declared.item.Marked as code
+use Rattle.schedule_rows.specs.Schedule.{marked_of}
+use Rattle.pluto_systems.specs.Posing.{RuledDep, dep_of}
+use Rattle.pluto_search.specs.Steps.{state_of, Steps, AreBetween}
+use Rattle.pluto_search.proofs.Counts.{all_can_tell}
+use Rattle.pluto_search.proofs.Leading.{no_more}
+use Rattle.pluto_search.proofs.Moving.{are_within, cut_steps, band_steps}
+use Rattle.pluto_search.proofs.next.lack.Goals as goal
+use Rattle.pluto_search.proofs.next.lack.Goals.{After-is_empty}
+
+-- what remains, in one list
+left : (c : After-is_empty) → c.in-Ok.deps.items ≡ (state_of c.args.progress).remaining
+left c = c.in-Ok.ensures ∙ ap (λ (z : List RuledDep). map dep_of z ++ c.args.progress.bare.items) c.deref.ensures.value
+
+between : (c : After-is_empty) → AreBetween c.args.parameters c.args.loops.now c.in-Ok.deps.items
+between c = subst (λ (l : List Dependence). AreBetween c.args.parameters c.args.loops.now l) (sym (left c)) c.requires.good.between
+
+pub cut-requires : goal.cut-requires
+cut-requires c =
+    are_within c.args.parameters c.args.loops.now c.in-Ok.deps.items (between (goal.at.cut-requires c).After-is_empty)
+
+pub returns-then-is_empty : goal.returns-then-is_empty
+returns-then-is_empty c =
+    let at = (goal.at.returns-then-is_empty c).After-is_empty in
+    let p = c.args.progress in
+    let none : length p.rows.items ≡ 0 = search rules in
+    subst (λ r. Steps c.args.parameters c.args.loops.now c.args.budget (state_of p) r) (sym c.goes.ensures)
+    (cut_steps c.args.parameters c.args.loops.now c.args.budget p c.in-Ok.deps.items c.args.posed c.cut.result c.requires.good (left at)
+    c.requires.more c.requires.none (ap (λ (z : List code.Marked). map marked_of z) (no_more p.rows.items none)) c.requires.posed c.cut.ensures)
+
+pub close_band-requires-clause-tells : goal.close_band-requires-clause-tells
+close_band-requires-clause-tells c d i =
+    all_can_tell c.args.parameters c.args.loops.now (state_of c.args.progress).rows d c.requires.good.rows
+    (between (goal.at.close_band-requires-clause-tells c).After-is_empty d i)
+
+pub close_band-requires-clause-parameters : goal.close_band-requires-clause-parameters
+close_band-requires-clause-parameters c d i = (between (goal.at.close_band-requires-clause-parameters c).After-is_empty d i).0.parameters
+
+pub returns : goal.returns
+returns c =
+    let at = (goal.at.returns c).After-is_empty in
+    let p = c.args.progress in
+    let some : length p.rows.items ≡ 0 → ⊥ = search rules in
+    let l = length-map p.rows.items marked_of in
+    subst (λ r. Steps c.args.parameters c.args.loops.now c.args.budget (state_of p) r) (sym c.goes-2.ensures)
+    (band_steps c.args.parameters c.args.loops.now c.args.budget p c.in-Ok.deps.items c.close_band.result c.requires.good (left at)
+    c.requires.more c.requires.none (λ e. some (let n = ap length e in omega arith)) c.close_band.ensures.closed c.close_band.ensures.stops)

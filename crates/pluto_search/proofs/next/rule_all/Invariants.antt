@@ -1,0 +1,15 @@
+use Rattle.std.proofs.Common.{◌≡◌, ◌++◌, map}
+use Rattle.scop_syntax.specs.Members.{In}
+use Rattle.iteration_domains.specs.Dependence.{Dependence}
+use Rattle.pluto_systems.specs.Posing.{dep_of}
+use Rattle.pluto_search.specs.Questions.{AreRuledBy}
+use Rattle.pluto_search.specs.Steps.{AllRuled}
+use Rattle.pluto_search.proofs.next.rule_all.Given as goal
+
+abbrev pub invariant-loop-dep : goal.invariant-loop-dep
+invariant-loop-dep l =
+    goal.iterator-loop-dep.can_next l.dep-iterator × goal.iterator-loop-dep.is_finite l.dep-iterator
+    × (map dep_of l.all.items ++ l.dep-iterator.rest.items ≡ map dep_of l.fn.ruled.items ++ l.fn.bare.items)
+    × (AllRuled l.fn.ruled.items → AllRuled l.all.items)
+    × (AreRuledBy l.budget l.fn.ruled.items → AreRuledBy l.budget l.all.items)
+    × ((d : Dependence) → In d l.dep-iterator.rest.items → In d l.fn.bare.items)

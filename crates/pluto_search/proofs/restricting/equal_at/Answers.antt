@@ -1,0 +1,27 @@
+use Rattle.std.proofs.Common.{ap, arith, length, ◌++◌}
+use Rattle.std.specs.Prelude.{negsuc}
+use Rattle.std.proofs.lemmas.List.{length-append}
+use Rattle.whole_numbers.specs.Affine.{Affine}
+use Rattle.whole_numbers.specs.Lists.{multiples, zeros}
+use Rattle.whole_numbers.proofs.Dot.{length-multiples, length-zeros}
+use Rattle.schedule_rows.specs.Items.{part_of}
+use Rattle.schedule_rows.specs.Schedule.{row_of}
+use Rattle.pluto_search.proofs.restricting.equal_at.Goals as goal
+
+pub with_equality-requires : goal.with_equality-requires
+with_equality-requires c =
+    let m = c.args.parameters in
+    let r = row_of c.args.row.now in
+    let d = c.args.dep.now in
+    let xs = (part_of r d.source.statement).coefficients in
+    let ys = (part_of r d.target.statement).coefficients in
+    let e = ap (λ (f : Affine). length f.coefficients) c.in_ok-form.ensures in
+    let l = length-append (multiples (negsuc 0) xs) (ys ++ zeros m) in
+    let k = length-append ys (zeros m) in
+    let n = length-multiples (negsuc 0) xs in
+    let z = length-zeros m in
+    let a = c.requires.source_loops in
+    let b = c.requires.target_loops in
+    let t = c.requires.turns in
+    let p = c.requires.parameters in
+    omega arith

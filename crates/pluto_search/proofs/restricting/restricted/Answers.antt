@@ -1,0 +1,50 @@
+use Rattle.std.proofs.Common.{◌≡◌, ◌∙◌, ◌+◌, List, ◌∷◌, All, arith, map, drop, sym, ap, subst}
+use Rattle.iteration_domains.specs.Dependence.{Dependence}
+use Rattle.schedule_rows.specs.declared.item.Marked as code
+use Rattle.schedule_rows.specs.Items.{Marked}
+use Rattle.schedule_rows.specs.Next.{restricted}
+use Rattle.schedule_rows.specs.Schedule.{row_of, marked_of}
+use Rattle.pluto_search.specs.Sizes.{CanTell}
+use Rattle.pluto_search.proofs.Leading.{next_of, none_left, is_among, all_tell_more, all_among}
+use Rattle.pluto_search.proofs.restricting.restricted.Goals as goal
+use Rattle.pluto_search.proofs.restricting.restricted.Goals.{After-marked-item}
+
+row_next : (c : After-marked-item) → drop c.loop-marked.marked-index c.args.rows.now
+    ≡ c.marked-item.result ∷ drop (c.loop-marked.marked-index + 1) c.args.rows.now
+row_next c =
+    next_of c.args.rows.now c.loop-marked.marked-index c.marked-item.result c.marked-item.result (omega (arith, c.loop-marked-test.true)) c.marked-item.is
+
+pub equal_at-requires : goal.equal_at-requires
+equal_at-requires c =
+    let at = (goal.at.equal_at-requires c).After-marked-item in
+    all_among c.args.parameters c.args.rows.now c.loop-marked.equal c.marked-item.result c.loop-marked.invariant.1
+    (is_among c.args.rows.now (drop (c.loop-marked.marked-index + 1) c.args.rows.now) c.loop-marked.marked-index c.marked-item.result (row_next at))
+
+pub loop-marked-preserved : goal.loop-marked-preserved
+loop-marked-preserved c =
+    let at = (goal.at.loop-marked-preserved c).After-marked-item in
+    let m = c.args.parameters in
+    let rows = c.args.rows.now in
+    let old = c.loop-marked.equal in
+    let rest = map marked_of (drop (c.loop-marked.marked-index + 1) rows) in
+    let r = row_of c.marked-item.result.row in (
+      ap (λ (z : Dependence). restricted m rest z) c.in-Ok.ensures
+          ∙ (sym (ap (λ (z : List code.Marked). restricted m (map marked_of z) old) (row_next at)) ∙ c.loop-marked.invariant.0),
+      subst (λ (z : Dependence). All (λ (q : Marked). CanTell m q.row z) (map marked_of rows)) (sym c.in-Ok.ensures)
+          (all_tell_more m (map marked_of rows) r old c.loop-marked.invariant.1),
+    )
+
+pub returns : goal.returns
+returns c =
+    let m = c.args.parameters in
+    let rows = c.args.rows.now in
+    sym (ap (λ (z : List code.Marked). restricted m (map marked_of z) c.loop-marked.equal)
+    (none_left rows c.loop-marked.marked-index (omega (arith, c.loop-marked-test.false)))) ∙ c.loop-marked.invariant.0
+
+pub loop-marked-init : goal.loop-marked-init
+loop-marked-init c =
+    let m = c.args.parameters in
+    let rows = map marked_of c.args.rows.now in (
+      ap (λ (z : Dependence). restricted m rows z) c.in_ok-equal.ensures,
+      subst (λ (z : Dependence). All (λ (q : Marked). CanTell m q.row z) rows) (sym c.in_ok-equal.ensures) c.requires,
+    )

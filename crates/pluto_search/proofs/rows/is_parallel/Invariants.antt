@@ -1,0 +1,12 @@
+use Rattle.std.proofs.Common.{drop, map}
+use Rattle.scop_syntax.specs.Members.{In}
+use Rattle.iteration_domains.specs.Dependence.{Dependence}
+use Rattle.schedule_rows.specs.Dependences.{IsEmptyDep, above_at}
+use Rattle.schedule_rows.specs.Schedule.{row_of}
+use Rattle.pluto_systems.specs.Posing.{dep_of}
+use Rattle.pluto_search.proofs.rows.is_parallel.Given as goal
+
+abbrev pub invariant-loop-at : goal.invariant-loop-at
+invariant-loop-at l =
+    ((d : Dependence) → In d (map dep_of (drop l.at l.ruled)) → IsEmptyDep l.parameters (above_at l.parameters (row_of l.row) d))
+    → (d : Dependence) → In d (map dep_of l.ruled) → IsEmptyDep l.parameters (above_at l.parameters (row_of l.row) d)

@@ -1,0 +1,20 @@
+use Rattle.std.proofs.Common.{[], sym, subst}
+use Rattle.schedule_rows.specs.Next.{State}
+use Rattle.schedule_rows.specs.Reaching.{Reached}
+use Rattle.schedule_rows.proofs.Began.{reached_first}
+use Rattle.pluto_search.proofs.Leading.{restricts_between}
+use Rattle.pluto_search.proofs.searching.take_up.Goals as goal
+
+pub restrict_all-requires-clause-parameters : goal.restrict_all-requires-clause-parameters
+restrict_all-requires-clause-parameters c d i = (c.requires.between d i).0.parameters
+
+pub returns-in-Ok-begin : goal.returns-in-Ok-begin
+returns-in-Ok-begin c =
+    let m = c.args.parameters in
+    let loops = c.args.loops.now in
+    let deps = c.args.deps.now in
+    let taken = c.in-Ok.taken.items in
+    let takes = c.in-Ok.ensures.kept in (
+      c.in-Ok-begin.ensures.good m c.args.budget (restricts_between m loops [] deps taken c.requires.between takes),
+      subst (λ (s : State). Reached m loops deps s) (sym c.in-Ok-begin.ensures.first) (reached_first m loops deps taken takes),
+    )

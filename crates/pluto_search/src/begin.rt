@@ -1,0 +1,59 @@
+//! Where the search begins.
+ghost use Rattle.std.specs.Prelude.{◌≡◌, ℕ, ◌≤◌, [], All, IfOk, length, map};
+ghost use Rattle.iteration_domains.specs.Dependence.{Dependence};
+ghost use Rattle.null_space.specs.Narrowing.{kernel_vectors};
+ghost use Rattle.schedule_rows.specs.Outcomes.{state};
+ghost use Rattle.schedule_rows.specs.Schedule.{loops_in};
+ghost use Rattle.pluto_search.specs.Steps.{AreBetween, state_of, IsGood};
+
+use crate::state::Progress;
+use iteration_domains::{Dep, Model};
+use null_space::{Rows, kernel_vectors};
+use std::alloc::{AllocError, Global};
+
+/// How many loops stand round each statement.
+pub fn loops_in(alloc: Global, model: &Model) -> Result<Vec<usize>, AllocError>
+    ensures loops { IfOk result (λ v. v.items ≡ loops_in model.now) }
+    ensures few { IfOk result (λ v. All (λ l. l ≤ 5) v.items) }
+{
+    let statements = model.statements();
+    let mut loops = Vec::new(alloc);
+    for at in 0..statements.len() {
+        loops.push(statements[at].loops().len())?;
+    }
+    Ok(loops)
+}
+
+/// The units of each statement's loops.
+fn first_vectors(alloc: Global, loops: &[usize]) -> Result<Vec<Rows>, AllocError>
+    requires { All (λ l. l ≤ 5) loops.now }
+    ensures { IfOk result (λ vs. map (λ v. map (λ u. u.items) v.items) vs.items
+        ≡ map (λ l. kernel_vectors l []) loops.now) }
+{
+    let mut vectors = Vec::new(alloc);
+    for at in 0..loops.len() {
+        let units = kernel_vectors(alloc, loops[at], &[])?;
+        match vectors.push(units) {
+            Err(_) => return Err(AllocError),
+            Ok(()) => {}
+        }
+    }
+    Ok(vectors)
+}
+
+/// Nothing is done yet.
+pub fn begin(alloc: Global, loops: &[usize], taken: Vec<Dep>) -> Result<Progress, AllocError>
+    requires { All (λ l. l ≤ 5) loops.now }
+    ensures first { IfOk result (λ p. state_of p ≡ state [] [] taken.items) }
+    ensures good { IfOk result (λ p. (m budget : ℕ) → AreBetween m loops.now taken.items
+        → IsGood m loops.now budget p) }
+{
+    let vectors = first_vectors(alloc, loops)?;
+    Ok(Progress {
+        closed: Vec::new(alloc),
+        rows: Vec::new(alloc),
+        ruled: Vec::new(alloc),
+        bare: taken,
+        vectors,
+    })
+}

@@ -1,0 +1,388 @@
+//! The next item, or why there is none.
+ghost use Rattle.std.specs.Prelude.{◌≡◌, true, false, ◌≤◌, ◌++◌, [], All, IfOk, IfErr, length, map, suc, ◌+◌};
+ghost use Rattle.scop_syntax.specs.Members.{In};
+ghost use Rattle.iteration_domains.specs.Dependence.{Dependence};
+ghost use Rattle.schedule_rows.specs.Next.{rows_of, Restricts};
+ghost use Rattle.schedule_rows.specs.Posed.{IsFull, IsLeast, HasNone};
+ghost use Rattle.schedule_rows.specs.Outcomes.{items_in};
+ghost use Rattle.schedule_rows.specs.Schedule.{block_of, marked_of};
+ghost use Rattle.pluto_systems.specs.Placing.{columns_of, row_from};
+ghost use Rattle.pluto_systems.specs.Posing.{HasPosed, dep_of};
+ghost use Rattle.pluto_search.specs.Moves.{AreWithin, Ended, IsClosed, Cuts, IsLarge, IsAppended};
+ghost use Rattle.pluto_search.specs.Questions.{AreRuledBy};
+ghost use Rattle.pluto_search.specs.Sizes.{CanTell, CanNarrowEach};
+ghost use Rattle.pluto_search.specs.Steps.{AllRuled, going, state_of, vectors_in, IsGood, Steps};
+ghost use Rattle.pluto_search.specs.Stopping.{IsStop, StopsRestricted, StopsRowsOf};
+
+use crate::ends::{close, items_in, numbered, remaining, shared, uncut, with_scalar};
+use crate::kept::Kept;
+use crate::question::minimum;
+use crate::restricting::restrict_all;
+use crate::rows::{is_parallel, is_within, narrow_all, row_from};
+use crate::state::{Progress, Step};
+use crate::stops::{by_rows, by_solver};
+use integer_sets::System;
+use iteration_domains::Dep;
+use null_space::Rows;
+use pluto_systems::{Ruled, posed_over};
+use schedule_rows::{Block, Marked, Row};
+use std::alloc::{AllocError, Global};
+
+/// Whether no kernel vector is left.
+fn is_full(vectors: &[Rows]) -> bool
+    ensures full { result ≡ true → All (λ vs. vs.items ≡ []) vectors.now }
+    ensures more { result ≡ false → All (λ vs. vs.items ≡ []) vectors.now → ⊥ }
+{
+    for at in 0..vectors.len() {
+        if !vectors[at].is_empty() {
+            return false;
+        }
+    }
+    true
+}
+
+/// The blocks with a last scalar item that orders what is left, or why nothing orders it.
+fn order(
+    alloc: Global,
+    loops: &[usize],
+    closed: Vec<Block>,
+    left: &[Dep],
+) -> Result<Vec<Block>, Kept>
+    requires some { left.now ≡ [] → ⊥ }
+    requires within { AreWithin (length loops.now) left.now }
+    ensures { Ended loops.now (map block_of closed.items) left.now result }
+{
+    let numbers = match numbered(alloc, loops.len(), left) {
+        Err(_) => return Err(Kept::NoMemory),
+        Ok(numbers) => numbers,
+    };
+    match shared(&numbers) {
+        Some(component) => Err(Kept::NoOrder { component }),
+        None => match with_scalar(closed, numbers) {
+            Err(_) => Err(Kept::NoMemory),
+            Ok(blocks) => Ok(blocks),
+        },
+    }
+}
+
+/// The end, with nothing left, or with a last scalar item that orders what is left; or why nothing orders it.
+fn end(alloc: Global, loops: &[usize], closed: Vec<Block>, left: &[Dep]) -> Result<Vec<Block>, Kept>
+    requires { AreWithin (length loops.now) left.now }
+    ensures { Ended loops.now (map block_of closed.items) left.now result }
+{
+    if left.is_empty() {
+        Ok(closed)
+    } else {
+        order(alloc, loops, closed, left)
+    }
+}
+
+/// All statements have full rank: the last restriction, and the end.
+fn finish(
+    alloc: Global,
+    parameters: usize,
+    loops: &[usize],
+    progress: Progress,
+    budget: u64,
+) -> Result<Step, Kept>
+    requires good { IsGood parameters loops.now budget progress }
+    requires full { IsFull loops.now (rows_of (state_of progress)) }
+    ensures { Steps parameters loops.now budget (state_of progress) result }
+{
+    let Progress {
+        closed,
+        rows,
+        ruled,
+        bare,
+        vectors,
+    } = progress;
+    let deps = match remaining(alloc, &ruled, bare) {
+        Err(_) => return Err(Kept::NoMemory),
+        Ok(deps) => deps,
+    };
+    let left = match restrict_all(alloc, parameters, &rows, &deps, budget) {
+        Err(kept) => return Err(kept),
+        Ok(left) => left,
+    };
+    let blocks = match close(closed, rows) {
+        Err(_) => return Err(Kept::NoMemory),
+        Ok(blocks) => blocks,
+    };
+    match end(alloc, loops, blocks, &left) {
+        Err(kept) => Err(kept),
+        Ok(blocks) => Ok(Step::Ends(blocks)),
+    }
+}
+
+/// The band is closed.
+fn close_band(
+    alloc: Global,
+    parameters: usize,
+    closed: Vec<Block>,
+    rows: Vec<Marked>,
+    deps: Vec<Dep>,
+    vectors: Vec<Rows>,
+    budget: u64,
+) -> Result<Progress, Kept>
+    requires tells { (d : Dependence) → In d deps.items
+        → All (λ r. CanTell parameters r.row d) (map marked_of rows.items) }
+    requires parameters { (d : Dependence) → In d deps.items → d.system.parameters ≡ parameters }
+    ensures closed { IfOk result (IsClosed parameters (map block_of closed.items) (map marked_of rows.items) deps.items
+        (map (λ vs. map (λ v. v.items) vs.items) vectors.items)) }
+    ensures stops { IfErr result (IsStop (StopsRestricted parameters (map marked_of rows.items) budget deps.items)) }
+{
+    let kept = match restrict_all(alloc, parameters, &rows, &deps, budget) {
+        Err(kept) => return Err(kept),
+        Ok(kept) => kept,
+    };
+    match close(closed, rows) {
+        Err(_) => Err(Kept::NoMemory),
+        Ok(closed) => Ok(Progress {
+            closed,
+            rows: Vec::new(alloc),
+            ruled: Vec::new(alloc),
+            bare: kept,
+            vectors,
+        }),
+    }
+}
+
+/// A scalar item drops the dependences between components, or nothing goes on.
+fn cut(
+    alloc: Global,
+    loops: &[usize],
+    closed: Vec<Block>,
+    deps: Vec<Dep>,
+    vectors: Vec<Rows>,
+    posed: System,
+) -> Result<Progress, Kept>
+    requires { AreWithin (length loops.now) deps.items }
+    ensures { Cuts loops.now (map block_of closed.items) deps.items
+        (map (λ vs. map (λ v. v.items) vs.items) vectors.items) posed result }
+{
+    let count = deps.len();
+    let numbers = match numbered(alloc, loops.len(), &deps) {
+        Err(_) => return Err(Kept::NoMemory),
+        Ok(numbers) => numbers,
+    };
+    let kept = match uncut(alloc, &numbers, deps) {
+        Err(_) => return Err(Kept::NoMemory),
+        Ok(kept) => kept,
+    };
+    if kept.len() >= count {
+        return Err(Kept::NoRow { posed });
+    }
+    match with_scalar(closed, numbers) {
+        Err(_) => Err(Kept::NoMemory),
+        Ok(closed) => Ok(Progress {
+            closed,
+            rows: Vec::new(alloc),
+            ruled: Vec::new(alloc),
+            bare: kept,
+            vectors,
+        }),
+    }
+}
+
+/// A step that goes on, where it does.
+fn goes(progress: Result<Progress, Kept>) -> Result<Step, Kept>
+    ensures { result ≡ going progress }
+{
+    match progress {
+        Err(kept) => Err(kept),
+        Ok(progress) => Ok(Step::Goes(progress)),
+    }
+}
+
+/// There is no row: the band is closed, or a scalar item drops dependences, or nothing goes on.
+fn lack(
+    alloc: Global,
+    parameters: usize,
+    loops: &[usize],
+    progress: Progress,
+    posed: System,
+    budget: u64,
+) -> Result<Step, Kept>
+    requires good { IsGood parameters loops.now budget progress }
+    requires more { IsFull loops.now (rows_of (state_of progress)) → ⊥ }
+    requires none { HasNone parameters loops.now (state_of progress).remaining (rows_of (state_of progress)) }
+    requires posed { HasPosed parameters loops.now (state_of progress).remaining (rows_of (state_of progress)) posed }
+    ensures { Steps parameters loops.now budget (state_of progress) result }
+{
+    let Progress {
+        closed,
+        rows,
+        ruled,
+        bare,
+        vectors,
+    } = progress;
+    let deps = match remaining(alloc, &ruled, bare) {
+        Err(_) => return Err(Kept::NoMemory),
+        Ok(deps) => deps,
+    };
+    if rows.is_empty() {
+        return goes(cut(alloc, loops, closed, deps, vectors, posed));
+    }
+    goes(close_band(alloc, parameters, closed, rows, deps, vectors, budget))
+}
+
+/// The least row is too large; it would be the next item.
+fn too_large(progress: &Progress) -> Kept
+    ensures { IsLarge
+        (suc (items_in (map block_of progress.now.closed.items) + length progress.now.rows.items)) result }
+{
+    match items_in(&progress.closed) {
+        None => Kept::NoMemory,
+        Some(count) => match count.checked_add(progress.rows.len()) {
+            None => Kept::NoMemory,
+            Some(before) => match before.checked_add(1) {
+                None => Kept::NoMemory,
+                Some(row) => Kept::Large { row },
+            },
+        },
+    }
+}
+
+/// The least row is appended with its mark.
+fn append(
+    alloc: Global,
+    progress: Progress,
+    row: Row,
+    parallel: bool,
+) -> Result<Progress, AllocError>
+    requires { CanNarrowEach (map (λ c. c.coefficients.items) row.parts.items) (vectors_in progress) }
+    ensures { IfOk result (IsAppended progress row parallel) }
+{
+    let Progress {
+        closed,
+        rows,
+        ruled,
+        bare,
+        vectors,
+    } = progress;
+    let vectors = narrow_all(alloc, &row, &vectors)?;
+    let mut rows = rows;
+    match rows.push(Marked { row, parallel }) {
+        Err(_) => Err(AllocError),
+        Ok(()) => Ok(Progress {
+            closed,
+            rows,
+            ruled,
+            bare,
+            vectors,
+        }),
+    }
+}
+
+/// The least row is appended, marked by the questions of `phi_T - phi_S >= 1`; or it is too large.
+fn take(
+    alloc: Global,
+    parameters: usize,
+    loops: &[usize],
+    progress: Progress,
+    numbers: Vec<i128>,
+    budget: u64,
+) -> Result<Step, Kept>
+    requires loops { All (λ l. l ≤ 5) loops.now }
+    requires good { IsGood parameters loops.now budget progress }
+    requires ruled { progress.bare.items ≡ [] }
+    requires more { IsFull loops.now (rows_of (state_of progress)) → ⊥ }
+    requires size { length numbers.items ≡ columns_of parameters loops.now }
+    requires least { IsLeast parameters loops.now (state_of progress).remaining (rows_of (state_of progress))
+        (row_from parameters loops.now numbers.items) }
+    ensures { Steps parameters loops.now budget (state_of progress) result }
+{
+    let row = match row_from(alloc, parameters, loops, &numbers) {
+        Err(_) => return Err(Kept::NoMemory),
+        Ok(row) => row,
+    };
+    if !is_within(&row) {
+        return Err(too_large(&progress));
+    }
+    let parallel = match is_parallel(alloc, parameters, &row, &progress.ruled, budget) {
+        Err(kept) => return Err(kept),
+        Ok(parallel) => parallel,
+    };
+    match append(alloc, progress, row, parallel) {
+        Err(_) => Err(Kept::NoMemory),
+        Ok(progress) => Ok(Step::Goes(progress)),
+    }
+}
+
+/// The rows by Farkas's lemma of all dependences that remain, asked in order where they are not made yet.
+fn rule_all(
+    alloc: Global,
+    ruled: Vec<Ruled>,
+    bare: Vec<Dep>,
+    budget: u64,
+) -> Result<Vec<Ruled>, Kept>
+    ensures deps { IfOk result (λ v. map dep_of v.items ≡ map dep_of ruled.items ++ bare.items) }
+    ensures ruled { IfOk result (λ v. AllRuled ruled.items → AllRuled v.items) }
+    ensures by_run { IfOk result (λ v. AreRuledBy budget ruled.items → AreRuledBy budget v.items) }
+    ensures stops { IfErr result (IsStop (StopsRowsOf budget bare.items)) }
+{
+    let mut all = ruled;
+    for dep in bare {
+        match Ruled::of(alloc, dep, budget) {
+            Err(stuck) => return Err(by_rows(stuck)),
+            Ok(next) => match all.push(next) {
+                Err(_) => return Err(Kept::NoMemory),
+                Ok(()) => {}
+            },
+        }
+    }
+    Ok(all)
+}
+
+/// The next item of the determined run, or why there is none. The questions: rows of the dependences that remain, in
+/// order, then the minimum; of a new row whether it is parallel, up to the first dependence at which it rises; where a
+/// band ends the restricted dependences in order.
+pub fn next_item(
+    alloc: Global,
+    parameters: usize,
+    loops: &[usize],
+    progress: Progress,
+    budget: u64,
+) -> Result<Step, Kept>
+    requires parameters { parameters ≤ 4 }
+    requires loops { All (λ l. l ≤ 5) loops.now }
+    requires good { IsGood parameters loops.now budget progress }
+    ensures { Steps parameters loops.now budget (state_of progress) result }
+{
+    if is_full(&progress.vectors) {
+        return finish(alloc, parameters, loops, progress, budget);
+    }
+    let Progress {
+        closed,
+        rows,
+        ruled,
+        bare,
+        vectors,
+    } = progress;
+    let all = match rule_all(alloc, ruled, bare, budget) {
+        Err(kept) => return Err(kept),
+        Ok(all) => all,
+    };
+    let ruled_progress = Progress {
+        closed,
+        rows,
+        ruled: all,
+        bare: Vec::new(alloc),
+        vectors,
+    };
+    let system = match posed_over(
+        alloc,
+        parameters,
+        loops,
+        &ruled_progress.ruled,
+        &ruled_progress.vectors,
+    ) {
+        Err(_) => return Err(Kept::NoMemory),
+        Ok(system) => system,
+    };
+    match minimum(alloc, &system, budget) {
+        Err(stop) => Err(by_solver(stop)),
+        Ok(None) => lack(alloc, parameters, loops, ruled_progress, system, budget),
+        Ok(Some(numbers)) => take(alloc, parameters, loops, ruled_progress, numbers, budget),
+    }
+}

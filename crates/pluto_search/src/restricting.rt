@@ -1,0 +1,242 @@
+//! Dependences restricted to equal values of rows, or to pairs at which a row rises, and whether they are empty.
+ghost use Rattle.std.specs.Prelude.{◌≡◌, ◌<◌, ◌++◌, pos, negsuc, ◌+ℤ◌, ◌-ℤ◌, ◌*ℤ◌, ◌⊎◌, true, false, ℕ, List, All, IfErr, IfOk, OnOk, length, map, Ok};
+ghost use Rattle.whole_numbers.specs.Affine.{form_of};
+ghost use Rattle.whole_numbers.specs.Lists.{multiples, zeros};
+ghost use Rattle.scop_syntax.specs.Members.{In};
+ghost use Rattle.iteration_domains.specs.Dependence.{Dependence};
+ghost use Rattle.farkas.specs.Claims.{distance};
+ghost use Rattle.schedule_rows.specs.Items.{part_of};
+ghost use Rattle.schedule_rows.specs.Dependences.{IsEmptyDep, unknowns_of, equal_at, above_at};
+ghost use Rattle.schedule_rows.specs.Next.{Restricts, restricted};
+ghost use Rattle.schedule_rows.specs.Schedule.{row_of, marked_of};
+ghost use Rattle.pluto_search.specs.Questions.{StopsEmptiness};
+ghost use Rattle.pluto_search.specs.Sizes.{IsCount, AreCounts, CanTell};
+ghost use Rattle.pluto_search.specs.Stopping.{IsStop, StopsRestricted, Restrictions};
+
+use crate::kept::Kept;
+use crate::stops::by_solver;
+use affine_forms::Form;
+use integer_sets::System;
+use iteration_domains::Dep;
+use pip_solver::is_empty;
+use schedule_rows::{Marked, Part, Row};
+use std::alloc::{AllocError, Global};
+
+/// Appends the opposites of numbers.
+fn push_opposites(out: &mut Vec<i128>, numbers: &[i128]) -> Result<(), AllocError>
+    requires { AreCounts numbers.now }
+    ensures { OnOk result (out.new.items ≡ out.old.items ++ multiples (negsuc 0) numbers.now) }
+{
+    for at in 0..numbers.len() {
+        out.push(opposite(numbers[at]))?;
+    }
+    Ok(())
+}
+
+/// `-number`.
+fn opposite(number: i128) -> i128
+    requires { IsCount number }
+    ensures { result ≡ negsuc 0 *ℤ number }
+{
+    -number
+}
+
+/// Appends zeros.
+fn push_zeros(out: &mut Vec<i128>, count: usize) -> Result<(), AllocError>
+    ensures { OnOk result (out.new.items ≡ out.old.items ++ zeros count) }
+{
+    for _at in 0..count {
+        out.push(0)?;
+    }
+    Ok(())
+}
+
+/// A statement's part of a row.
+fn part_at(row: &Row, s: usize) -> &Part
+    requires { s < length row.now.parts.items }
+    ensures coefficients { result.now.coefficients.items ≡ (part_of (row_of row.now) s).coefficients }
+    ensures shift { result.now.shift ≡ (part_of (row_of row.now) s).shift }
+{
+    &row.parts[s]
+}
+
+/// The coefficients of `phi_T - phi_S`.
+fn difference_numbers(
+    alloc: Global,
+    parameters: usize,
+    source: &[i128],
+    target: &[i128],
+) -> Result<Vec<i128>, AllocError>
+    requires { AreCounts source.now }
+    ensures { IfOk result (λ v. v.items ≡ multiples (negsuc 0) source.now ++ (target.now ++ zeros parameters)) }
+{
+    let mut numbers = Vec::new(alloc);
+    push_opposites(&mut numbers, source)?;
+    numbers.extend_from_slice(target)?;
+    push_zeros(&mut numbers, parameters)?;
+    Ok(numbers)
+}
+
+/// `target - source + more`.
+fn shift_between(source: i128, target: i128, more: i128) -> i128
+    requires source { IsCount source }
+    requires target { IsCount target }
+    requires more { (more ≡ pos 0) ⊎ (more ≡ negsuc 0) }
+    ensures { result ≡ (target -ℤ source) +ℤ more }
+{
+    target - source + more
+}
+
+/// `phi_T - phi_S + more` over a dependence's variables.
+fn difference_and(
+    alloc: Global,
+    parameters: usize,
+    row: &Row,
+    dep: &Dep,
+    more: i128,
+) -> Result<Form, AllocError>
+    requires tells { CanTell parameters (row_of row.now) dep.now }
+    requires more { (more ≡ pos 0) ⊎ (more ≡ negsuc 0) }
+    ensures { IfOk result (λ f. f ≡ form_of (distance parameters (unknowns_of dep.now (row_of row.now))).coefficients
+        ((distance parameters (unknowns_of dep.now (row_of row.now))).constant +ℤ more)) }
+{
+    let source = part_at(row, dep.source.statement);
+    let target = part_at(row, dep.target.statement);
+    let numbers = difference_numbers(
+        alloc,
+        parameters,
+        &source.coefficients,
+        &target.coefficients,
+    )?;
+    match Form::of(
+        alloc,
+        &numbers,
+        shift_between(source.shift, target.shift, more),
+    ) {
+        Err(_) => Err(AllocError),
+        Ok(form) => Ok(form),
+    }
+}
+
+/// The pairs at which a row has equal values.
+fn equal_at(alloc: Global, parameters: usize, row: &Row, dep: &Dep) -> Result<Dep, AllocError>
+    requires { CanTell parameters (row_of row.now) dep.now }
+    ensures { IfOk result (λ d. d ≡ equal_at parameters (row_of row.now) dep.now) }
+{
+    let form = difference_and(alloc, parameters, row, dep, 0)?;
+    dep.with_equality(alloc, form)
+}
+
+/// The pairs at which `phi_T - phi_S >= 1`.
+pub fn above_at(alloc: Global, parameters: usize, row: &Row, dep: &Dep) -> Result<Dep, AllocError>
+    requires { CanTell parameters (row_of row.now) dep.now }
+    ensures { IfOk result (λ d. d ≡ above_at parameters (row_of row.now) dep.now) }
+{
+    let form = difference_and(alloc, parameters, row, dep, -1)?;
+    dep.with_row(alloc, form)
+}
+
+/// A copy of a dependence.
+pub fn copied(alloc: Global, dep: &Dep) -> Result<Dep, AllocError>
+    ensures { IfOk result (λ d. d ≡ dep.now) }
+{
+    let own = &dep.system;
+    match System::of(
+        alloc,
+        own.dimensions(),
+        own.parameters(),
+        own.equalities(),
+        own.rows(),
+    ) {
+        Err(_) => Err(AllocError),
+        Ok(system) => Ok(Dep {
+            source: dep.source,
+            target: dep.target,
+            depth: dep.depth,
+            system,
+        }),
+    }
+}
+
+/// The pairs at which all rows have equal values.
+fn restricted(
+    alloc: Global,
+    parameters: usize,
+    rows: &[Marked],
+    dep: &Dep,
+) -> Result<Dep, AllocError>
+    requires { All (λ r. CanTell parameters r.row dep.now) (map marked_of rows.now) }
+    ensures { IfOk result (λ d. d ≡ restricted parameters (map marked_of rows.now) dep.now) }
+{
+    let mut equal = copied(alloc, dep)?;
+    for marked in rows {
+        match equal_at(alloc, parameters, &marked.row, &equal) {
+            Err(_) => return Err(AllocError),
+            Ok(next) => equal = next,
+        }
+    }
+    Ok(equal)
+}
+
+/// Whether a dependence is empty.
+pub fn asked(alloc: Global, parameters: usize, dep: &Dep, budget: u64) -> Result<bool, Kept>
+    requires { dep.now.system.parameters ≡ parameters }
+    ensures empty { result ≡ Ok true → IsEmptyDep parameters dep.now }
+    ensures point { result ≡ Ok false → IsEmptyDep parameters dep.now → ⊥ }
+    ensures stops { IfErr result (IsStop (StopsEmptiness budget dep.now)) }
+{
+    match is_empty(alloc, &dep.system, budget) {
+        Err(stop) => Err(by_solver(stop)),
+        Ok(empty) => Ok(empty),
+    }
+}
+
+/// A dependence restricted to equal values of rows, and whether it is empty then.
+fn restrict(
+    alloc: Global,
+    parameters: usize,
+    rows: &[Marked],
+    dep: &Dep,
+    budget: u64,
+) -> Result<Option<Dep>, Kept>
+    requires tells { All (λ r. CanTell parameters r.row dep.now) (map marked_of rows.now) }
+    requires parameters { dep.now.system.parameters ≡ parameters }
+    ensures { Restrictions parameters (map marked_of rows.now) budget dep.now result }
+{
+    let dep = match restricted(alloc, parameters, rows, dep) {
+        Err(_) => return Err(Kept::NoMemory),
+        Ok(dep) => dep,
+    };
+    match asked(alloc, parameters, &dep, budget) {
+        Err(kept) => Err(kept),
+        Ok(true) => Ok(None),
+        Ok(false) => Ok(Some(dep)),
+    }
+}
+
+/// The dependences restricted to equal values of rows, asked in order; those that are empty are dropped.
+pub fn restrict_all(
+    alloc: Global,
+    parameters: usize,
+    rows: &[Marked],
+    deps: &[Dep],
+    budget: u64,
+) -> Result<Vec<Dep>, Kept>
+    requires tells { (d : Dependence) → In d deps.now → All (λ r. CanTell parameters r.row d) (map marked_of rows.now) }
+    requires parameters { (d : Dependence) → In d deps.now → d.system.parameters ≡ parameters }
+    ensures kept { IfOk result (λ v. Restricts parameters (map marked_of rows.now) deps.now v.items) }
+    ensures stops { IfErr result (IsStop (StopsRestricted parameters (map marked_of rows.now) budget deps.now)) }
+{
+    let mut kept = Vec::new(alloc);
+    for at in 0..deps.len() {
+        match restrict(alloc, parameters, rows, &deps[at], budget) {
+            Err(stopped) => return Err(stopped),
+            Ok(None) => continue,
+            Ok(Some(dep)) => match kept.push(dep) {
+                Err(_) => return Err(Kept::NoMemory),
+                Ok(()) => {}
+            },
+        }
+    }
+    Ok(kept)
+}

@@ -1,0 +1,176 @@
+//! A next row: made of its numbers, within bounds, parallel or not, and what it leaves of the kernel vectors.
+ghost use Rattle.std.specs.Prelude.{◌≡◌, ◌<◌, ◌++◌, ◌∷◌, [], true, false, ℕ, ℤ, pos, ◌≤ℤ◌, List, All, IfErr, IfOk, Ok, length, map, reverse, take, slice_index_or, ◌↔◌};
+ghost use Rattle.scop_syntax.specs.Members.{In};
+ghost use Rattle.iteration_domains.specs.Dependence.{Dependence};
+ghost use Rattle.null_space.specs.Narrowing.{narrowed_by};
+ghost use Rattle.schedule_rows.specs.Dependences.{IsEmptyDep, IsEqualAt, above_at};
+ghost use Rattle.schedule_rows.specs.Next.{IsWithin};
+ghost use Rattle.schedule_rows.specs.Schedule.{row_of};
+ghost use Rattle.pluto_systems.specs.Placing.{columns_of, row_from};
+ghost use Rattle.pluto_systems.specs.Posing.{RuledDep, dep_of};
+ghost use Rattle.pluto_search.specs.Questions.{StopsEmptiness};
+ghost use Rattle.pluto_search.specs.Sizes.{CanTell, CanNarrow, CanNarrowEach, narrowed_each};
+ghost use Rattle.pluto_search.specs.Stopping.{IsStop, StopsAbove};
+
+use crate::kept::Kept;
+use crate::restricting::{above_at, asked};
+use iteration_domains::Dep;
+use null_space::{Rows, narrowed_by};
+use pluto_systems::Ruled;
+use schedule_rows::{Part, Row};
+use std::alloc::{AllocError, Global};
+
+/// The part of these numbers: so many coefficients from the innermost on, then the shift.
+fn part_from(alloc: Global, numbers: &[i128], loops: usize) -> Result<Part, AllocError>
+    requires { loops < length numbers.now }
+    ensures coefficients { IfOk result (λ p. p.coefficients.items ≡ reverse (take loops numbers.now)) }
+    ensures shift { IfOk result (λ p. p.shift ≡ slice_index_or numbers.now loops (pos 0)) }
+{
+    let mut coefficients = Vec::new(alloc);
+    coefficients.extend_from_slice(&numbers[..loops])?;
+    coefficients.reverse();
+    Ok(Part {
+        coefficients,
+        shift: numbers[loops],
+    })
+}
+
+/// The row of these numbers in the objective's order.
+pub fn row_from(
+    alloc: Global,
+    parameters: usize,
+    loops: &[usize],
+    numbers: &[i128],
+) -> Result<Row, AllocError>
+    requires { length numbers.now ≡ columns_of parameters loops.now }
+    ensures { IfOk result (λ r. row_of r ≡ row_from parameters loops.now numbers.now) }
+{
+    let mut u = Vec::new(alloc);
+    u.extend_from_slice(&numbers[..parameters])?;
+    let mut parts = Vec::new(alloc);
+    let mut rest = &numbers[parameters + 1..];
+    for s in 0..loops.len() {
+        let part = part_from(alloc, rest, loops[s])?;
+        match parts.push(part) {
+            Err(_) => return Err(AllocError),
+            Ok(()) => {}
+        }
+        rest = &rest[loops[s] + 1..];
+    }
+    Ok(Row {
+        u,
+        w: numbers[parameters],
+        parts,
+    })
+}
+
+/// Whether no number is above 4,096.
+fn are_small(numbers: &[i128]) -> bool
+    ensures small { result ≡ true → All (λ c. c ≤ℤ pos 4096) numbers.now }
+    ensures great { result ≡ false → All (λ c. c ≤ℤ pos 4096) numbers.now → ⊥ }
+{
+    for at in 0..numbers.len() {
+        if numbers[at] > 4096 {
+            return false;
+        }
+    }
+    true
+}
+
+/// Whether no coefficient and no shift of a part is.
+fn is_small(part: &Part) -> bool
+    ensures small { result ≡ true
+        → All (λ c. c ≤ℤ pos 4096) part.now.coefficients.items × (part.now.shift ≤ℤ pos 4096) }
+    ensures great { result ≡ false
+        → All (λ c. c ≤ℤ pos 4096) part.now.coefficients.items × (part.now.shift ≤ℤ pos 4096) → ⊥ }
+{
+    if part.shift > 4096 {
+        return false;
+    }
+    are_small(&part.coefficients)
+}
+
+/// Whether no coefficient and no shift of a row is.
+pub fn is_within(row: &Row) -> bool
+    ensures within { result ≡ true → IsWithin (row_of row.now) }
+    ensures great { result ≡ false → IsWithin (row_of row.now) → ⊥ }
+{
+    for at in 0..row.parts.len() {
+        if !is_small(&row.parts[at]) {
+            return false;
+        }
+    }
+    true
+}
+
+/// One statement's kernel vectors, narrowed by its coefficients.
+fn narrow(alloc: Global, part: &Part, vectors: &Rows) -> Result<Rows, AllocError>
+    requires { CanNarrow part.now.coefficients.items (map (λ v. v.items) vectors.now.items) }
+    ensures { IfOk result (λ vs. map (λ v. v.items) vs.items
+        ≡ narrowed_by part.now.coefficients.items (map (λ v. v.items) vectors.now.items)) }
+{
+    narrowed_by(alloc, &part.coefficients, vectors)
+}
+
+/// Each statement's kernel vectors, narrowed by its coefficients.
+pub fn narrow_all(alloc: Global, row: &Row, vectors: &[Rows]) -> Result<Vec<Rows>, AllocError>
+    requires { CanNarrowEach (map (λ p. p.coefficients.items) row.now.parts.items)
+        (map (λ vs. map (λ v. v.items) vs.items) vectors.now) }
+    ensures { IfOk result (λ all. map (λ vs. map (λ v. v.items) vs.items) all.items
+        ≡ narrowed_each (map (λ p. p.coefficients.items) row.now.parts.items)
+        (map (λ vs. map (λ v. v.items) vs.items) vectors.now)) }
+{
+    let mut all = Vec::new(alloc);
+    for at in 0..vectors.len() {
+        let next = narrow(alloc, &row.parts[at], &vectors[at])?;
+        match all.push(next) {
+            Err(_) => return Err(AllocError),
+            Ok(()) => {}
+        }
+    }
+    Ok(all)
+}
+
+/// Whether a dependence has no pair at which a row rises.
+fn is_level(
+    alloc: Global,
+    parameters: usize,
+    row: &Row,
+    dep: &Dep,
+    budget: u64,
+) -> Result<bool, Kept>
+    requires { CanTell parameters (row_of row.now) dep.now }
+    ensures level { result ≡ Ok true → IsEmptyDep parameters (above_at parameters (row_of row.now) dep.now) }
+    ensures rises { result ≡ Ok false → IsEmptyDep parameters (above_at parameters (row_of row.now) dep.now) → ⊥ }
+    ensures stops { IfErr result (IsStop (StopsEmptiness budget (above_at parameters (row_of row.now) dep.now))) }
+{
+    match above_at(alloc, parameters, row, dep) {
+        Err(_) => Err(Kept::NoMemory),
+        Ok(above) => asked(alloc, parameters, &above, budget),
+    }
+}
+
+/// Whether a row is parallel: the dependences are asked in order, up to the first at which it rises.
+pub fn is_parallel(
+    alloc: Global,
+    parameters: usize,
+    row: &Row,
+    ruled: &[Ruled],
+    budget: u64,
+) -> Result<bool, Kept>
+    requires { (x : RuledDep) → In x ruled.now → CanTell parameters (row_of row.now) x.dep }
+    ensures parallel { result ≡ Ok true → (d : Dependence) → In d (map dep_of ruled.now)
+        → IsEmptyDep parameters (above_at parameters (row_of row.now) d) }
+    ensures carries { result ≡ Ok false → (d : Dependence) × In d (map dep_of ruled.now)
+        × (IsEmptyDep parameters (above_at parameters (row_of row.now) d) → ⊥) }
+    ensures stops { IfErr result (IsStop (StopsAbove parameters (row_of row.now) budget (map dep_of ruled.now))) }
+{
+    for at in 0..ruled.len() {
+        match is_level(alloc, parameters, row, ruled[at].dep(), budget) {
+            Err(kept) => return Err(kept),
+            Ok(true) => {}
+            Ok(false) => return Ok(false),
+        }
+    }
+    Ok(true)
+}
