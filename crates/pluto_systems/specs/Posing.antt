@@ -10,7 +10,6 @@ use Rattle.fractions.specs.Farkas.{AreNotNegative}
 use Rattle.integer_sets.specs.Constraints.{Constraints, system_of, IsSized, variables_in}
 use Rattle.integer_sets.specs.Points.{Satisfies}
 use Rattle.iteration_domains.specs.Dependence.{Dependence}
-use Rattle.iteration_domains.specs.Model.{KernelModel}
 use Rattle.farkas.specs.Meaning.{IsFarkas}
 use Rattle.farkas.specs.Run.{Halt, ◌>>◌, rows_run}
 use Rattle.farkas.specs.declared.claim.Claim.TheVariants.{Legality, Bounding}
@@ -146,7 +145,3 @@ abbrev pub vectors_for : List ℕ → List (List (List ℤ)) → List (List (Lis
 vectors_for [] rows = []
 vectors_for (l ∷ ls) [] = []
 vectors_for (l ∷ ls) (cs ∷ rows) = kernel_vectors l cs ∷ vectors_for ls rows
-
--- how many loops stand round each statement
-abbrev pub loops_in : KernelModel → List ℕ
-loops_in model = map (λ s. s.domain.dimensions) model.statements

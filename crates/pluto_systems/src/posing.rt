@@ -10,7 +10,8 @@ ghost use Rattle.schedule_rows.specs.Items.{Row};
 ghost use Rattle.pluto_systems.specs.Placing.{columns_of};
 ghost use Rattle.pluto_systems.specs.Posing.{RuledDep, IsRuled, IsFarkasOf, IsBetween, dep_of, ruled_dep, ruled_deps};
 ghost use Rattle.pluto_systems.specs.Posing.{equalities_for, rows_for, growth_from, posed_system, HasPosed, HaveSizes};
-ghost use Rattle.pluto_systems.specs.Posing.{AreVectorsOf, AreSmallVectors, AreCoefficientRows, vectors_for, loops_in};
+ghost use Rattle.pluto_systems.specs.Posing.{AreVectorsOf, AreSmallVectors, AreCoefficientRows, vectors_for};
+ghost use Rattle.schedule_rows.specs.Schedule.{loops_in};
 
 use crate::growth::push_growth;
 use crate::laws::{

@@ -1,6 +1,7 @@
 //! The kernel vectors of each statement's rows.
 ghost use Rattle.std.specs.Prelude.{◌≡◌, ◌≤◌, ◌<◌, [], All, IfOk, length, map, slice_index_or};
-ghost use Rattle.pluto_systems.specs.Posing.{AreCoefficientRows, vectors_for, loops_in};
+ghost use Rattle.pluto_systems.specs.Posing.{AreCoefficientRows, vectors_for};
+ghost use Rattle.schedule_rows.specs.Schedule.{loops_in};
 
 use iteration_domains::Model;
 use null_space::{Rows, kernel_vectors};
