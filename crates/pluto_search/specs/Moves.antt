@@ -1,5 +1,6 @@
 -- What the parts of a step say.
-use Rattle.std.specs.Prelude.{◌≡◌, ℕ, ◌<◌, ◌≤◌, ℤ, Bool, List, [], ◌∷◌, ◌++◌, map, length, All, ◌⊎◌, Vec, Result, Ok, Err, ⊤}
+use Rattle.std.specs.Prelude.{◌≡◌, ℕ, ◌<◌, ◌≤◌, ℤ, Bool, List, [], ◌∷◌}
+use Rattle.std.specs.Prelude.{◌++◌, map, length, All, ◌⊎◌, Vec, Result, Ok, Err, ⊤}
 use Rattle.std.specs.Global.{Global}
 use Rattle.integer_sets.specs.Constraints.{Constraints}
 use Rattle.iteration_domains.specs.Dependence.{Dependence}
@@ -28,7 +29,8 @@ EndsWith loops blocks left o =
     × Orders loops blocks numbers o))
 
 -- the end, or that what is left has no order
-abbrev pub Ended : List ℕ → List Block → List Dependence → Result (Vec code_block.the_data Global) kept.the_data → Type 0
+abbrev pub Ended : List ℕ → List Block → List Dependence → Result (Vec code_block.the_data Global) kept.the_data
+    → Type 0
 Ended loops blocks left (Ok bs) = EndsWith loops blocks left (ends (map block_of bs.items))
 Ended loops blocks left (Err (kept.Stuck stuck)) = ⊥
 Ended loops blocks left (Err (kept.NoRow posed)) = ⊥
@@ -37,8 +39,8 @@ Ended loops blocks left (Err kept.NoMemory) = ⊤
 Ended loops blocks left (Err (kept.Large row)) = ⊥
 
 -- a band is closed behind blocks
-pub record IsClosed (m : ℕ) (closed : List Block) (rows : List Marked) (deps : List Dependence) (vectors : List (List (List ℤ)))
-    (p : Progress) : Type 0 where
+pub record IsClosed (m : ℕ) (closed : List Block) (rows : List Marked) (deps : List Dependence)
+    (vectors : List (List (List ℤ))) (p : Progress) : Type 0 where
   pub closed_are : map block_of p.closed.items ≡ closed_by closed rows
   pub none_open : p.rows.items ≡ []
   pub none_ruled : p.ruled.items ≡ []
@@ -46,8 +48,8 @@ pub record IsClosed (m : ℕ) (closed : List Block) (rows : List Marked) (deps :
   pub vectors_are : vectors_in p ≡ vectors
 
 -- a scalar item stands behind blocks and drops dependences
-pub record IsCut (loops : List ℕ) (closed : List Block) (deps : List Dependence) (vectors : List (List (List ℤ)))
-    (p : Progress) : Type 0 where
+pub record IsCut (loops : List ℕ) (closed : List Block) (deps : List Dependence)
+    (vectors : List (List (List ℤ))) (p : Progress) : Type 0 where
   pub numbers : List ℕ
   pub numbering : IsNumbering (length loops) (edges_of deps) numbers
   pub closed_are : map block_of p.closed.items ≡ closed ++ scalar numbers ∷ []
@@ -66,7 +68,8 @@ pub record DropsNone (loops : List ℕ) (deps : List Dependence) : Type 0 where
   pub all : length deps ≤ length kept
 
 -- the one or the other, with the posed set that is told
-abbrev pub Cuts : List ℕ → List Block → List Dependence → List (List (List ℤ)) → Constraints → Result Progress kept.the_data → Type 0
+abbrev pub Cuts : List ℕ → List Block → List Dependence → List (List (List ℤ)) → Constraints
+    → Result Progress kept.the_data → Type 0
 Cuts loops closed deps vectors posed (Ok p) = IsCut loops closed deps vectors p
 Cuts loops closed deps vectors posed (Err (kept.Stuck stuck)) = ⊥
 Cuts loops closed deps vectors posed (Err (kept.NoRow told)) = (told ≡ posed) × DropsNone loops deps

@@ -1,5 +1,6 @@
 //! Where a band ends: a scalar item that drops dependences, the end of the search, or why nothing goes on.
-ghost use Rattle.std.specs.Prelude.{◌≡◌, ◌<◌, ◌≤◌, ◌++◌, ◌∷◌, [], true, false, ℕ, List, All, IfOk, OnOk, length, map, Option, None, Some, ◌⊎◌};
+ghost use Rattle.std.specs.Prelude.{◌≡◌, ◌<◌, ◌≤◌, ◌++◌, ◌∷◌, [], true, false, ℕ};
+ghost use Rattle.std.specs.Prelude.{List, All, IfOk, OnOk, length, map, Option, None, Some, ◌⊎◌};
 ghost use Rattle.std.specs.Option.{ForSome};
 ghost use Rattle.scop_syntax.specs.Members.{In};
 ghost use Rattle.iteration_domains.specs.Dependence.{Dependence};
