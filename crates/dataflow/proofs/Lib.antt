@@ -6,3 +6,9 @@ pub mod Flipping
 pub mod Posing
 pub mod Solving
 pub mod Lasting
+pub mod Sizes
+pub mod Posable
+pub mod Lists
+pub mod Fitting
+pub mod Solved
+pub mod Gathering

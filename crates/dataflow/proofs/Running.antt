@@ -9,16 +9,20 @@ use Rattle.quast_joins.specs.Counts.{join_count}
 use Rattle.dataflow.specs.Candidates.{joined}
 use Rattle.dataflow.specs.Runs.{Halt, nodes, then_join, sources_run, or_initial}
 
-passes : {E : Type 0} (b : Bool) (k : ℕ) (rest : Result Tree (Halt E)) (u : Tree) → (if b then Err (nodes k) else rest) ≡ Ok u → rest ≡ Ok u
+passes : {E : Type 0} (b : Bool) (k : ℕ) (rest : Result Tree (Halt E)) (u : Tree)
+    → (if b then Err (nodes k) else rest) ≡ Ok u → rest ≡ Ok u
 passes true k rest u h = absurd cc
 passes false k rest u h = h
 
-solved_first : {E : Type 0} (way : Way) (n : ℕ) (acc : Tree) (r : Result Tree E) (go_on : Tree → Result Tree (Halt E)) (u : Tree) → then_join way n acc r go_on ≡ Ok u
+solved_first : {E : Type 0} (way : Way) (n : ℕ) (acc : Tree) (r : Result Tree E) (go_on : Tree → Result Tree (Halt E))
+    (u : Tree) → then_join way n acc r go_on ≡ Ok u
     → (r ≡ Ok (or_initial r)) × (go_on (join way n acc (or_initial r)) ≡ Ok u)
 solved_first way n acc (Err e) go_on u h = absurd cc
-solved_first way n acc (Ok t) go_on u h = (refl, passes (nat_lt 4096 (join_count acc t)) (join_count acc t) (go_on (join way n acc t)) u h)
+solved_first way n acc (Ok t) go_on u h = (refl, passes (nat_lt 4096 (join_count acc t)) (join_count acc t)
+    (go_on (join way n acc t)) u h)
 
-pub run_joined : {C E : Type 0} (way : Way) (n : ℕ) (solve : C → Result Tree E) (cs : List C) (acc u : Tree) → sources_run way n solve acc cs ≡ Ok u
+pub run_joined : {C E : Type 0} (way : Way) (n : ℕ) (solve : C → Result Tree E) (cs : List C) (acc u : Tree)
+    → sources_run way n solve acc cs ≡ Ok u
     → (u ≡ joined way n (λ c. or_initial (solve c)) acc cs) × ((c : C) → In c cs → solve c ≡ Ok (or_initial (solve c)))
 run_joined way n solve [] acc u h = (cc, λ c i. absurd i)
 run_joined way n solve (c ∷ cs) acc u h =

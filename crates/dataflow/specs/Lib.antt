@@ -6,3 +6,6 @@ pub mod Runs
 pub mod Flips
 pub mod Problems
 pub mod LastRuns
+pub mod Posed
+pub mod Answers
+pub mod Steps

@@ -1,5 +1,5 @@
 -- The candidates of an access: the systems between it and the writes before it or behind it.
-use Rattle.std.specs.Prelude.{◌≡◌, ℕ, ℤ, List, [], length, Option, Some, None, slice_get}
+use Rattle.std.specs.Prelude.{◌≡◌, ℕ, ℤ, List, [], Option, Some, None, slice_get}
 use Rattle.quast_trees.specs.Tree.{Tree, Speaks}
 use Rattle.quast_trees.specs.Value.{value}
 use Rattle.quast_joins.specs.declared.way.Way.{Way}

@@ -5,4 +5,12 @@
 //! 20(1), 1991).
 #![tactic(auto)]
 
+mod candidate;
+mod forms;
+mod problem;
+mod reads;
+mod source;
 pub mod source_laws;
+
+pub use reads::last_writes;
+pub use source::{ReadSource, SourceStop};
