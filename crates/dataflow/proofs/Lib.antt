@@ -1,0 +1,14 @@
+pub mod Choosing
+pub mod Candidates
+pub mod Sourcing
+pub mod Running
+pub mod Flipping
+pub mod Posing
+pub mod Solving
+pub mod Lasting
+pub mod Sizes
+pub mod Posable
+pub mod Lists
+pub mod Fitting
+pub mod Solved
+pub mod Gathering

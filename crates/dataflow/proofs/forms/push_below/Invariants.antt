@@ -1,0 +1,8 @@
+use Rattle.std.proofs.Common.{◌≡◌, ◌+◌, ◌-◌, ◌++◌, pos}
+use Rattle.dataflow.specs.Problems.{all_below}
+use Rattle.dataflow.proofs.forms.push_below.Given as goal
+
+abbrev pub invariant-loop-step : goal.invariant-loop-step
+invariant-loop-step l =
+    l.out.items ++ all_below (pos l.most) l.of (l.from + l.step) (l.count - l.step)
+    ≡ l.fn.out.items ++ all_below (pos l.most) l.of l.from l.count

@@ -1,0 +1,9 @@
+use Rattle.std.proofs.Common.{◌≡◌, ◌++◌, map, drop}
+use Rattle.whole_numbers.specs.Affine.{composed}
+use Rattle.dataflow.specs.Problems.{flat}
+use Rattle.dataflow.proofs.forms.push_flat.Given as goal
+
+abbrev pub invariant-loop-form : goal.invariant-loop-form
+invariant-loop-form l =
+    l.out.items ++ flat (map (λ f. composed f l.inner l.of) (drop l.form-index l.forms))
+    ≡ l.fn.out.items ++ flat (map (λ f. composed f l.inner l.of) l.forms)

@@ -1,0 +1,10 @@
+use Rattle.std.proofs.Common.{◌++◌, arith}
+use Rattle.iteration_domains.specs.Rows.{variables}
+use Rattle.dataflow.proofs.Lists.{variables_put}
+use Rattle.dataflow.proofs.forms.push_variables.Goals as goal
+
+pub loop-step-preserved : goal.loop-step-preserved
+loop-step-preserved c =
+    variables_put c.loop-step.out.items c.push_form.new.forms.items
+    (c.args.out.now.items ++ variables c.args.of c.args.from c.args.count) c.in_ok-form.form c.args.of c.args.from
+    c.loop-step.step c.args.count (omega arith) c.loop-step.invariant c.in_ok-form.ensures c.in_ok-push_form.ensures

@@ -1,0 +1,9 @@
+use Rattle.std.proofs.Common.{drop}
+use Rattle.dataflow.specs.Answers.{reads_in}
+use Rattle.dataflow.proofs.Gathering.{Gathered}
+use Rattle.dataflow.proofs.reads.last_writes.Given as goal
+
+abbrev pub invariant-loop-statement : goal.invariant-loop-statement
+invariant-loop-statement l =
+    Gathered l.model l.budget (reads_in l.statement-items) (reads_in (drop l.statement-index l.statement-items))
+    l.sources.items

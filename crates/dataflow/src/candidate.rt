@@ -1,0 +1,174 @@
+//! A candidate solved: its problem's minimum, turned back into the greatest writer's turns, as a quast over the
+//! kernel's parameters and then the reader's turns.
+ghost use Rattle.std.specs.Prelude.{◌≡◌, ◌≤◌, IfOk, ℕ, ℤ, Some, pos, slice_get};
+ghost use Rattle.quast_trees.specs.Postfix.{tree_of, written};
+ghost use Rattle.quast_trees.specs.Mapped.{map_run};
+ghost use Rattle.quast_trees.specs.Tree.{LeavesHave};
+ghost use Rattle.quast_joins.specs.Limits.{leaf_limit};
+ghost use Rattle.scop_syntax.specs.Members.{In};
+ghost use Rattle.conflict_deps.specs.Conflicts.{conflicts_of};
+ghost use Rattle.dataflow.specs.Answers.{TellsStop};
+ghost use Rattle.dataflow.specs.LastRuns.{form_fits, forms_fit, fitting, number_fits};
+ghost use Rattle.dataflow.specs.LastRuns.{wide_leaf};
+ghost use Rattle.dataflow.specs.Posed.{CanPose, IsOfKernel};
+ghost use Rattle.dataflow.specs.Problems.{all_below, top};
+ghost use Rattle.dataflow.specs.Steps.{HeldOver, IsToldAs, Solves, node_fits, nodes_fit, tree_held};
+
+use crate::forms::push_below;
+use crate::problem::{TOP, posed};
+use affine_forms::{Form, FormStop};
+use conflict_deps::conflict_laws::systems_have_parts;
+use iteration_domains::{Dep, Model, StatementModel};
+use pip_solver::{Stop, lexmin};
+use quast_trees::{Node, Quast};
+use scop_syntax::walk_laws::statements_are_numbered;
+use std::alloc::{AllocError, Global};
+
+// 2^125.
+const LIMIT: i128 = 42_535_295_865_117_307_932_921_825_928_971_026_432;
+
+// Whether a number is at most 2^125 in absolute value.
+fn number_fits(number: i128) -> bool
+    ensures { result ≡ number_fits leaf_limit number }
+{
+    -LIMIT <= number && number <= LIMIT
+}
+
+// Whether each number of a form is.
+fn form_fits(form: &Form) -> bool
+    ensures { result ≡ form_fits leaf_limit form.now }
+{
+    for coefficient in form.coefficients() {
+        if !number_fits(*coefficient) {
+            return false;
+        }
+    }
+    number_fits(form.constant())
+}
+
+// Whether each number of some forms is.
+fn forms_fit(forms: &[Form]) -> bool
+    ensures { result ≡ forms_fit leaf_limit forms.now }
+{
+    for form in forms {
+        if !form_fits(form) {
+            return false;
+        }
+    }
+    true
+}
+
+// Whether each number of a node's forms is, if it is a leaf's.
+fn node_fits(node: &Node) -> bool
+    ensures { result ≡ node_fits leaf_limit node.now }
+{
+    match node {
+        Node::Forms(leaf) => forms_fit(&leaf.forms),
+        _ => true,
+    }
+}
+
+// Whether those of each node are.
+fn nodes_fit(nodes: &[Node]) -> bool
+    ensures { result ≡ nodes_fit leaf_limit nodes.now }
+{
+    for node in nodes {
+        if !node_fits(node) {
+            return false;
+        }
+    }
+    true
+}
+
+// The quast with 2^46 less each form of its leaves in the form's place, if its leaves are not too wide.
+fn turned_back(alloc: Global, unknowns: usize, least: &Quast) -> Result<Option<Quast>, AllocError>
+    requires { LeavesHave unknowns (tree_of least.now) }
+    ensures tree { IfOk result
+        (λ o. tree_held o ≡ fitting (map_run (all_below top unknowns 0 unknowns) (tree_of least.now))) }
+    ensures parameters { IfOk result (HeldOver least.now.parameters) }
+{
+    let mut forms = Vec::new(alloc);
+    push_below(&mut forms, alloc, TOP, unknowns, 0, unknowns)?;
+    match least.map(&forms) {
+        Err(FormStop::NoMemory) => Err(AllocError),
+        Err(FormStop::Wide(_)) => Ok(None),
+        Ok(greatest) => {
+            if nodes_fit(greatest.nodes()) {
+                Ok(Some(greatest))
+            } else {
+                Ok(None)
+            }
+        }
+    }
+}
+
+// A number of a leaf is too wide: told with 0 moves.
+fn too_wide(
+    alloc: Global,
+    model: &Model,
+    source: &StatementModel,
+    target: &StatementModel,
+    dep: &Dep,
+) -> Stop
+    requires can { CanPose model.now.parameters source.now target.now dep.now }
+    requires source { slice_get model.now.statements dep.now.source.statement ≡ Some source.now }
+    requires target { slice_get model.now.statements dep.now.target.statement ≡ Some target.now }
+    ensures { (budget : ℕ) → IsToldAs model.now budget result (wide_leaf dep.now) }
+{
+    match posed(alloc, model.parameters(), source, target, dep) {
+        Err(_) => Stop::NoMemory,
+        Ok(problem) => Stop::Wide {
+            posed: problem,
+            moves: 0,
+        },
+    }
+}
+
+// The quast of a candidate between two statements.
+fn solved_between(
+    alloc: Global,
+    model: &Model,
+    source: &StatementModel,
+    target: &StatementModel,
+    dep: &Dep,
+    budget: u64,
+) -> Result<Quast, Stop>
+    requires can { CanPose model.now.parameters source.now target.now dep.now }
+    requires source { slice_get model.now.statements dep.now.source.statement ≡ Some source.now }
+    requires target { slice_get model.now.statements dep.now.target.statement ≡ Some target.now }
+    ensures { Solves model.now budget dep.now result }
+{
+    let problem = match posed(alloc, model.parameters(), source, target, dep) {
+        Err(_) => return Err(Stop::NoMemory),
+        Ok(problem) => problem,
+    };
+    let least = match lexmin(alloc, problem, budget) {
+        Err(stop) => return Err(stop),
+        Ok(least) => least,
+    };
+    match turned_back(alloc, source.loops().len(), &least) {
+        Err(_) => Err(Stop::NoMemory),
+        Ok(None) => Err(too_wide(alloc, model, source, target, dep)),
+        Ok(Some(greatest)) => match greatest.named(dep.source.statement, source.loops()) {
+            Err(_) => Err(Stop::NoMemory),
+            Ok(named) => Ok(named),
+        },
+    }
+}
+
+/// The quast of a candidate of a kernel's model.
+///
+/// # Errors
+/// The stop of its problem; `Wide` after 0 moves where a number of a leaf is beyond 2^125.
+pub fn solved(alloc: Global, model: &Model, dep: &Dep, budget: u64) -> Result<Quast, Stop>
+    requires kernel { IsOfKernel model.now }
+    requires dep { In dep.now (conflicts_of model.now) }
+    ensures { Solves model.now budget dep.now result }
+{
+    statements_are_numbered();
+    systems_have_parts();
+    let statements = model.statements();
+    let source = &statements[dep.source.statement];
+    let target = &statements[dep.target.statement];
+    solved_between(alloc, model, source, target, dep, budget)
+}

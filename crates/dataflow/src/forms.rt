@@ -1,0 +1,135 @@
+//! Forms for a candidate's problem: a number less a variable, and forms with others in place of their variables, whose
+//! numbers are small, so that only memory may run out.
+ghost use Rattle.std.specs.Prelude.{◌≡◌, ◌+◌, ◌^◌, ◌≤◌, ◌<◌, ◌++◌, ◌∷◌, [], All, IfOk, OnOk, map, negsuc, pos};
+ghost use Rattle.whole_numbers.specs.Affine.{composed, multiple_of_form};
+ghost use Rattle.iteration_domains.specs.Rows.{variables};
+ghost use Rattle.iteration_domains.specs.Sizes.{CanCompose, form_size};
+ghost use Rattle.dataflow.specs.Problems.{all_below, below, flat};
+
+use affine_forms::{Form, FormStop, INLINE};
+use iteration_domains::{push_form, variable_form};
+use smallvec::SmallVec;
+use std::alloc::{AllocError, Global};
+
+// A number less the variable `at` of so many variables.
+fn below_form(alloc: Global, most: u64, of: usize, at: usize) -> Result<Form, AllocError>
+    requires { at < of }
+    ensures { IfOk result (λ f. f ≡ below (pos most) of at) }
+{
+    match SmallVec::<i128, INLINE>::from_elem(alloc, 0, of) {
+        Err(_) => Err(AllocError),
+        Ok(mut coefficients) => {
+            coefficients[at] = -1;
+            match Form::of(alloc, coefficients.as_slice(), most as i128) {
+                Err(_) => Err(AllocError),
+                Ok(form) => Ok(form),
+            }
+        }
+    }
+}
+
+/// Appends a number less each of `count` variables from `from` on.
+pub fn push_below(
+    out: &mut Vec<Form>,
+    alloc: Global,
+    most: u64,
+    of: usize,
+    from: usize,
+    count: usize,
+) -> Result<(), AllocError>
+    requires { from + count ≤ of }
+    ensures { OnOk result (out.new.items ≡ out.old.items ++ all_below (pos most) of from count) }
+{
+    for step in 0..count {
+        let form = below_form(alloc, most, of, from + step)?;
+        push_form(out, form)?;
+    }
+    Ok(())
+}
+
+/// Appends `count` variables from `from` on.
+pub fn push_variables(
+    out: &mut Vec<Form>,
+    alloc: Global,
+    of: usize,
+    from: usize,
+    count: usize,
+) -> Result<(), AllocError>
+    requires { from + count ≤ of }
+    ensures { OnOk result (out.new.items ≡ out.old.items ++ variables of from count) }
+{
+    for step in 0..count {
+        let form = variable_form(alloc, of, from + step)?;
+        push_form(out, form)?;
+    }
+    Ok(())
+}
+
+// The form with the inner forms in place of its variables.
+fn compose(form: &Form, inner: &[Form], of: usize) -> Result<Form, AllocError>
+    requires { CanCompose of inner.now form.now }
+    ensures { IfOk result (λ f. f ≡ composed form.now inner.now of) }
+{
+    match form.compose(inner, of) {
+        Ok(composition) => Ok(composition),
+        Err(FormStop::Wide(_)) => unreachable!(),
+        Err(FormStop::NoMemory) => Err(AllocError),
+    }
+}
+
+/// Appends forms with the inner forms in place of their variables.
+pub fn push_composed(
+    out: &mut Vec<Form>,
+    forms: &[Form],
+    inner: &[Form],
+    of: usize,
+) -> Result<(), AllocError>
+    requires { All (CanCompose of inner.now) forms.now }
+    ensures { OnOk result (out.new.items ≡ out.old.items ++ map (λ f. composed f inner.now of) forms.now) }
+{
+    for form in forms {
+        let composition = compose(form, inner, of)?;
+        push_form(out, composition)?;
+    }
+    Ok(())
+}
+
+// The form times -1.
+fn opposite(form: &Form) -> Result<Form, AllocError>
+    requires { form_size form.now ≤ 2 ^ 100 }
+    ensures { IfOk result (λ f. f ≡ multiple_of_form (negsuc 0) form.now) }
+{
+    match form.scaled(-1) {
+        Ok(multiple) => Ok(multiple),
+        Err(FormStop::Wide(_)) => unreachable!(),
+        Err(FormStop::NoMemory) => Err(AllocError),
+    }
+}
+
+// Appends a form that is 0 as two rows.
+fn push_both(out: &mut Vec<Form>, form: Form) -> Result<(), AllocError>
+    requires { form_size form ≤ 2 ^ 100 }
+    ensures { OnOk result (out.new.items ≡ out.old.items ++ flat (form ∷ [])) }
+{
+    let second = opposite(&form)?;
+    push_form(out, form)?;
+    push_form(out, second)
+}
+
+/// Appends equalities with the inner forms in place of their variables, each as two rows.
+pub fn push_flat(
+    out: &mut Vec<Form>,
+    forms: &[Form],
+    inner: &[Form],
+    of: usize,
+) -> Result<(), AllocError>
+    requires { All (CanCompose of inner.now) forms.now }
+    ensures { OnOk result
+        (out.new.items ≡ out.old.items ++ flat (map (λ f. composed f inner.now of) forms.now)) }
+{
+    for form in forms {
+        let composition = compose(form, inner, of)?;
+        push_both(out, composition)?;
+    }
+    Ok(())
+}

@@ -1,0 +1,105 @@
+//! What the joins over all candidates answer, as contracts of functions that do nothing.
+ghost use Rattle.std.specs.Prelude.{◌≡◌, ℕ, ℤ, ◌+◌, ◌++◌, List, length, Ok};
+ghost use Rattle.whole_numbers.specs.Lists.{NotNegative};
+ghost use Rattle.whole_numbers.specs.Affine.{values_of};
+ghost use Rattle.whole_numbers.specs.Lexicographic.{LexLe};
+ghost use Rattle.tableau_rows.specs.Problem.{problem_of, row_values};
+ghost use Rattle.lexmin_runs.specs.Answers.{IsAnswer};
+ghost use Rattle.quast_trees.specs.Tree.{Tree, initial};
+ghost use Rattle.quast_trees.specs.Value.{value};
+ghost use Rattle.quast_joins.specs.declared.way.Way.TheVariants.{Later, Earlier};
+ghost use Rattle.scop_syntax.specs.Cells.{Cell};
+ghost use Rattle.scop_syntax.specs.Kernel.{IsKernel};
+ghost use Rattle.scop_syntax.specs.Limits.{HasParameters};
+ghost use Rattle.scop_syntax.specs.Members.{In};
+ghost use Rattle.scop_syntax.specs.Tree.{Program};
+ghost use Rattle.scop_syntax.specs.Walk.{Visit, walk_of};
+ghost use Rattle.scop_syntax.specs.Writers.{last_writer, next_writer};
+ghost use Rattle.iteration_domains.specs.Dependence.{Dependence};
+ghost use Rattle.iteration_domains.specs.Model.{model_of};
+ghost use Rattle.conflict_deps.specs.Conflicts.{loops_of};
+ghost use Rattle.conflict_deps.specs.Pairs.{IsPoint, TouchesAt};
+ghost use Rattle.conflict_deps.specs.Parts.{HasParts};
+ghost use Rattle.dataflow.specs.Candidates.{joined, IsWanted};
+ghost use Rattle.dataflow.specs.Flips.{flipped};
+ghost use Rattle.dataflow.specs.LastRuns.{last_run};
+ghost use Rattle.dataflow.specs.Places.{Names};
+ghost use Rattle.dataflow.specs.Problems.{all_below, posed_rows, posed_context, turned_leaf};
+ghost use Rattle.dataflow.specs.Sources.{IsCandidate, IsSolved};
+
+use iteration_domains::domain_laws::domains_hold_the_instances;
+use scop_syntax::limit_laws::values_lie_within_45_bits;
+use scop_syntax::walk_laws::{
+    instances_are_those_of_statements, statements_are_numbered, walks_are_in_order,
+};
+
+/// The join over all candidates of an access names the last writer of its cell before it, or the next behind it, and
+/// the initial value where there is none.
+pub fn joins_are_the_writers()
+    ensures last { (program : Program) (params : List ℤ) (j : ℕ) (w : Visit) (b : ℕ) (c : Cell) (n : ℕ)
+        (point : List ℤ) (tree_of : Dependence → Tree) (deps : List Dependence) → IsKernel program
+        → length params ≡ length program.parameters → NotNegative params → TouchesAt program params j w b c
+        → length point ≡ n → ((dep : Dependence) → IsCandidate Later program w b dep → In dep deps)
+        → ((dep : Dependence) → In dep deps → IsCandidate Later program w b dep)
+        → ((dep : Dependence) → In dep deps → IsSolved Later program params w n point dep (tree_of dep))
+        → Names (walk_of program params) (value (joined Later n tree_of initial deps) point)
+        (last_writer (walk_of program params) j c) }
+    ensures next { (program : Program) (params : List ℤ) (j : ℕ) (w : Visit) (b : ℕ) (c : Cell) (n : ℕ)
+        (point : List ℤ) (tree_of : Dependence → Tree) (deps : List Dependence) → IsKernel program
+        → length params ≡ length program.parameters → NotNegative params → TouchesAt program params j w b c
+        → length point ≡ n → ((dep : Dependence) → IsCandidate Earlier program w b dep → In dep deps)
+        → ((dep : Dependence) → In dep deps → IsCandidate Earlier program w b dep)
+        → ((dep : Dependence) → In dep deps → IsSolved Earlier program params w n point dep (tree_of dep))
+        → Names (walk_of program params) (value (joined Earlier n tree_of initial deps) point)
+        (next_writer (walk_of program params) j c) }
+{
+    instances_are_those_of_statements();
+    statements_are_numbered();
+    walks_are_in_order();
+}
+
+/// A minimum in x' is a maximum in x where x = top - x'.
+pub fn minima_are_maxima()
+    ensures values { (top : ℤ) (xs : List ℤ)
+        → values_of (all_below top (length xs) 0 (length xs)) xs ≡ flipped top xs }
+    ensures order { (top : ℤ) (xs ys : List ℤ) → length xs ≡ length ys → LexLe xs ys
+        → LexLe (flipped top ys) (flipped top xs) }
+    ensures twice { (top : ℤ) (xs : List ℤ) → flipped top (flipped top xs) ≡ xs }
+{}
+
+/// The minimum of a candidate's problem, turned back by x = 2^46 - x' and with the candidate's source, is the greatest
+/// writer's turns at each walked instance of the reader, or the initial value where the candidate has no writer.
+pub fn minima_are_the_last_writers()
+    ensures { (program : Program) (params : List ℤ) (j : ℕ) (w : Visit) (b : ℕ) (c : Cell) (dep : Dependence)
+        (p : HasParts (model_of program) dep) (number : ℕ) (loops : List ℕ) (t : Tree)
+        → HasParameters program params → TouchesAt program params j w b c → IsCandidate Later program w b dep
+        → p.to.statement.number ≡ w.number
+        → ((q : List ℤ) → length q ≡ length params + loops_of p.to → NotNegative q
+        → NotNegative (row_values (posed_context p.to.statement (length params)) q)
+        → IsAnswer (problem_of (loops_of p.from) (posed_rows p.from.statement p.to.statement (length params) dep)) q
+        (value t q))
+        → IsWanted Later number loops (λ xs. IsPoint program params dep xs w.turns)
+        (turned_leaf number loops (value t (params ++ w.turns))) }
+{
+    instances_are_those_of_statements();
+    statements_are_numbered();
+    walks_are_in_order();
+    values_lie_within_45_bits();
+    domains_hold_the_instances();
+}
+
+/// Where the run over a read's candidates ends well, its quast names at each walked instance the last writer of the
+/// cell that the read touches, and the initial value exactly where nothing wrote it before.
+pub fn resolved_reads_have_their_last_writer()
+    ensures { (program : Program) (params : List ℤ) (j : ℕ) (w : Visit) (access : ℕ) (c : Cell) (budget : ℕ) (u : Tree)
+        → HasParameters program params → TouchesAt program params j w access c
+        → last_run (model_of program) budget w.number access ≡ Ok u
+        → Names (walk_of program params) (value u (params ++ w.turns))
+        (last_writer (walk_of program params) j c) }
+{
+    instances_are_those_of_statements();
+    statements_are_numbered();
+    walks_are_in_order();
+    values_lie_within_45_bits();
+    domains_hold_the_instances();
+}
