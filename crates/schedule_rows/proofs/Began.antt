@@ -1,5 +1,5 @@
 -- Where the bands of a schedule began, and what their marks say.
-use Rattle.std.proofs.Common.{◌≡◌, ℕ, zero, suc, ◌+◌, List, [], ◌∷◌, ◌++◌, refl, sym, ◌∙◌, ap, ap₂, subst, ◌⊎◌, inl, inr, arith, length, map, All, append_assoc, Some}
+use Rattle.std.proofs.Common.{◌≡◌, ℕ, zero, suc, ◌+◌, List, [], ◌∷◌, ◌++◌, refl, sym, ◌∙◌, ap, ap₂, subst, ◌⊎◌, inl, inr, arith, length, All, append_assoc, Some}
 use Rattle.std.specs.Prelude.{Bool, true, ⊤, ◌↔◌, slice_get, Option}
 use Rattle.std.proofs.lemmas.List.{append-nil, length-append, length-map}
 use Rattle.std.proofs.lemmas.List.Elements.{All-nil, All-cons, All-head, All-tail, All-append}
@@ -8,7 +8,7 @@ use Rattle.iteration_domains.specs.Dependence.{Dependence}
 use Rattle.schedule_rows.specs.Items.{Row, Marked, Block, scalar, band, closed_by}
 use Rattle.schedule_rows.specs.Dependences.{IsEqualAt}
 use Rattle.schedule_rows.specs.Next.{State, Restricts, Goes, Ends}
-use Rattle.schedule_rows.specs.Outcomes.{goes, ends, state, Next, Runs, IsSchedule}
+use Rattle.schedule_rows.specs.Outcomes.{goes, state, Next, Runs, IsSchedule}
 use Rattle.schedule_rows.specs.Reaching.{Path, Reached}
 use Rattle.schedule_rows.specs.Schedule as plain
 use Rattle.schedule_rows.specs.Schedule.{Item, items_of, marks_of, loops_in, Scheduled, IsScheduled, IsMarked}

@@ -1,6 +1,5 @@
-use Rattle.std.proofs.Common.{rules, ◌≡◌, ◌<◌, refl, ap, subst, arith, length, List, Some}
-use Rattle.std.specs.Prelude.{Bool, slice_get}
-use Rattle.std.specs.Vec.{vec_len}
+use Rattle.std.proofs.Common.{rules, ◌≡◌, ◌<◌, refl, ap, subst, arith, length, Some}
+use Rattle.std.specs.Prelude.{slice_get}
 use Rattle.std.proofs.lemmas.Option.{slice_get_read}
 use Rattle.schedule_rows.specs.Schedule.{Scheduled, IsScheduled}
 use Rattle.schedule_rows.proofs.Began.{marked_at}
