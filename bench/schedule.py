@@ -8,7 +8,8 @@ import sys
 
 from timing import rounds_of, shortest
 
-GCC = ["gcc", "-O2", "-floop-nest-optimize", "-floop-parallelize-all", "-ftree-parallelize-loops=4", "-c", "-o", os.devnull]
+PASSES = ["-floop-nest-optimize", "-floop-parallelize-all", "-ftree-parallelize-loops=4"]
+GCC = ["gcc", "-O2", *PASSES, "-c", "-o", os.devnull]
 
 
 def kernel_in(folder, file):

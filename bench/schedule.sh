@@ -1,7 +1,7 @@
 #!/bin/sh
 # Times `polypar schedule` on kernels, those of examples/ where none is given, beside what gcc takes to compile the same
 # kernel with its own polyhedral passes (-O2 -floop-nest-optimize -floop-parallelize-all -ftree-parallelize-loops=4 -c),
-# in one run. Prints of each kernel the milliseconds of both by the shortest processor times and their ratio, and the sums.
+# in one run. Prints of each kernel the milliseconds of both by the shortest processor times, their ratio, and the sums.
 # usage: bench/schedule.sh [ROUNDS [FILE..]], at least 5 rounds
 set -eu
 root=$(CDPATH= cd -- "$(dirname -- "$0")/.." && pwd)

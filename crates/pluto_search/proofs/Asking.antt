@@ -1,5 +1,6 @@
 -- The least point of the problem that a system poses is the system's.
-use Rattle.std.proofs.Common.{◌≡◌, ℕ, ◌+◌, ℤ, pos, List, [], ◌∷◌, refl, sym, ◌∙◌, ap, subst, inl, inr, arith, length, None, Some}
+use Rattle.std.proofs.Common.{◌≡◌, ℕ, ◌+◌, ℤ, pos, List, [], ◌∷◌, refl, sym, ◌∙◌, ap, subst, inl, inr, arith, length}
+use Rattle.std.proofs.Common.{None, Some}
 use Rattle.std.specs.Prelude.{◌≤ℤ◌, Option, Vec, Result, Ok, Err, IfOk}
 use Rattle.std.specs.Option.{ForSome, IfNone}
 use Rattle.std.specs.Global.{Global}
@@ -35,7 +36,8 @@ asked s posed = IsPosed s posed × IsSized (variables_in s) s.equalities s.rows
 -- the question's points are the system's
 points : (s : Constraints) (rows : List Affine) (xs : List ℤ) → s.parameters ≡ 0
     → IsSized (variables_in s) s.equalities s.rows → posed_run s ≡ Ok rows → length xs ≡ s.dimensions
-    → (IsPoint (problem_of (variables_in s) rows) [] xs → IsTaken s xs) × (IsTaken s xs → IsPoint (problem_of (variables_in s) rows) [] xs)
+    → (IsPoint (problem_of (variables_in s) rows) [] xs → IsTaken s xs)
+        × (IsTaken s xs → IsPoint (problem_of (variables_in s) rows) [] xs)
 points s rows xs flat sized posed size =
     let p = posed_points s rows xs [] sized posed size (sym flat) in
     let same = append-nil xs in (
@@ -77,7 +79,8 @@ least_is s posed xs flat a h =
     }
 
 -- what the least point's call tells of the problem, it tells of the system
-pub minimizes : (s : Constraints) (budget : ℕ) (posed : Problem) (result : Result (Option (Vec ℤ Global)) solver.the_data)
+pub minimizes : (s : Constraints) (budget : ℕ) (posed : Problem) (result : Result (Option (Vec ℤ Global))
+    solver.the_data)
     → IsPosed s posed → Finds result budget posed → Minimizes result budget s
 minimizes s budget posed (Ok found) p h = (posed, p, h)
 minimizes s budget posed (Err (solver.Wide told moves)) p h =
@@ -89,13 +92,15 @@ minimizes s budget posed (Err (solver.Spent told moves)) p h =
 minimizes s budget posed (Err solver.NoMemory) p h = tt
 
 -- a stop before any move
-pub unposed : (s : Constraints) (budget : ℕ) (stop : solver.the_data) → Poses s (Err stop) → Minimizes (Err stop) budget s
+pub unposed : (s : Constraints) (budget : ℕ) (stop : solver.the_data) → Poses s (Err stop)
+    → Minimizes (Err stop) budget s
 unposed s budget (solver.Wide told moves) h = inr h
 unposed s budget (solver.Spent told moves) h = absurd h
 unposed s budget solver.NoMemory h = tt
 
 -- the answers of the least point's call are those of the system
-pub minimum_of : (s : Constraints) (posed : Problem) (result : Result (Option (Vec ℤ Global)) solver.the_data) → s.parameters ≡ 0
+pub minimum_of : (s : Constraints) (posed : Problem) (result : Result (Option (Vec ℤ Global)) solver.the_data)
+    → s.parameters ≡ 0
     → asked s posed
     → IfOk result (λ point. ForSome point (λ x. IsLexmin (problem_of posed.unknowns posed.rows.items) [] x.items))
     → IfOk result (λ point. IfNone point (IsEmpty (problem_of posed.unknowns posed.rows.items) []))

@@ -1,5 +1,6 @@
 -- How large the numbers of rows are, by what they are rows over.
-use Rattle.std.proofs.Common.{◌≡◌, ℕ, zero, suc, ◌<◌, ◌^◌, ℤ, pos, List, [], ◌∷◌, refl, sym, ◌∙◌, ap, subst, arith, length, All, reverse}
+use Rattle.std.proofs.Common.{◌≡◌, ℕ, zero, suc, ◌<◌, ◌^◌, ℤ, pos, List, [], ◌∷◌, refl, sym, ◌∙◌, ap, subst, arith}
+use Rattle.std.proofs.Common.{length, All, reverse}
 use Rattle.std.specs.Prelude.{◌≤ℤ◌, slice_index_or}
 use Rattle.std.specs.List.{flat_map}
 use Rattle.std.proofs.lemmas.Int.{ints}
@@ -22,7 +23,8 @@ all_turned : {X : Type 0} (P : X → Type 0) (xs : List X) → All P xs → All 
 all_turned P [] h = h
 all_turned P (x ∷ xs) h =
     subst (All P) (sym (reverse-cons x xs))
-    (All-append P (reverse xs) (x ∷ []) (all_turned P xs (All-tail P x xs h)) (All-cons P x [] (All-head P x xs h) (All-nil P)))
+    (All-append P (reverse xs) (x ∷ []) (all_turned P xs (All-tail P x xs h))
+        (All-cons P x [] (All-head P x xs h) (All-nil P)))
 
 all_reversed : {X : Type 0} (P : X → Type 0) (xs : List X) → All P (reverse xs) → All P xs
 all_reversed P xs h = subst (All P) (reverse-reverse xs) (all_turned P (reverse xs) h)
@@ -55,7 +57,8 @@ pub row_small : (m : ℕ) (loops : List ℕ) (r : Marked) → IsGoodRow m loops 
 row_small m loops r g =
     let P : ℤ → Type 0 = λ x. pos 0 ≤ℤ x in
     let q = r.row in
-    parts_small q.parts (All-tail P q.w (flat_map part_numbers q.parts) (all_back P q.u (q.w ∷ flat_map part_numbers q.parts) g.not_negative)) g.within
+    parts_small q.parts (All-tail P q.w (flat_map part_numbers q.parts)
+        (all_back P q.u (q.w ∷ flat_map part_numbers q.parts) g.not_negative)) g.within
 
 pub shaped_length : (loops : List ℕ) (ps : List unknowns.Part) → AreShaped loops ps → length ps ≡ length loops
 shaped_length [] [] h = refl
@@ -110,7 +113,8 @@ count_within z h = let a = h.0 in let b = h.1 in omega (arith, ints)
 pub counts_within : (cs : List ℤ) → AreCounts cs → AreCoefficients cs
 counts_within [] h = All-nil (IsWithin (2 ^ 14))
 counts_within (c ∷ cs) h =
-    All-cons (IsWithin (2 ^ 14)) c cs (count_within c (All-head IsCount c cs h)) (counts_within cs (All-tail IsCount c cs h))
+    All-cons (IsWithin (2 ^ 14)) c cs (count_within c (All-head IsCount c cs h))
+        (counts_within cs (All-tail IsCount c cs h))
 
 pub narrow_lengths : (cs : List (List ℤ)) (vs : List (List (List ℤ))) → CanNarrowEach cs vs → length cs ≡ length vs
 narrow_lengths [] [] h = refl

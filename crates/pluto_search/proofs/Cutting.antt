@@ -24,6 +24,7 @@ passed_on numbers d rest kept deps same h more u =
 pub passes_first : (numbers : List ℕ) (deps kept : List Dependence) → kept ≡ [] → Passes numbers deps kept deps
 passes_first numbers deps kept e more u = subst (λ (z : List Dependence). Uncuts numbers deps (z ++ more)) (sym e) u
 
-pub passes_last : (numbers : List ℕ) (kept deps : List Dependence) → Passes numbers [] kept deps → Uncuts numbers deps kept
+pub passes_last : (numbers : List ℕ) (kept deps : List Dependence) → Passes numbers [] kept deps
+    → Uncuts numbers deps kept
 passes_last numbers kept deps h =
     subst (λ (z : List Dependence). Uncuts numbers deps z) (append-nil kept) (h [] refl)

@@ -1,5 +1,6 @@
 -- From one state to the next: what holds between steps.
-use Rattle.std.proofs.Common.{◌≡◌, ℕ, zero, suc, ◌+◌, ◌<◌, ◌^◌, ℤ, List, [], ◌∷◌, ◌++◌, refl, sym, ◌∙◌, ap, ap₂, subst, inl, inr, arith, length, map, All, Vec, Global}
+use Rattle.std.proofs.Common.{◌≡◌, ℕ, zero, suc, ◌+◌, ◌<◌, ◌^◌, ℤ, List, [], ◌∷◌, ◌++◌, refl, sym, ◌∙◌, ap, ap₂, subst}
+use Rattle.std.proofs.Common.{inl, inr, arith, length, map, All, Vec, Global}
 use Rattle.std.specs.Prelude.{◌≤◌, slice_index_or}
 use Rattle.std.proofs.lemmas.List.{append-nil, length-map, get_or-map}
 use Rattle.std.proofs.lemmas.List.Elements.{All-nil, All-cons, All-head, All-tail, All-get_or}
@@ -38,7 +39,8 @@ good_first m loops budget p r q e v b =
             size = ap length v ∙ length-map loops f;
             each = λ s l. ap (λ (z : List (List (List ℤ))). slice_index_or z s []) v ∙ get_or-map f loops s 0 [] l;
           });
-      small = subst (λ (s : State). (k : ℕ) → k < length loops → All AreCoefficients (coefficients_in (rows_of s) k)) (sym e)
+      small = subst (λ (s : State). (k : ℕ) → k < length loops → All AreCoefficients (coefficients_in (rows_of s) k))
+          (sym e)
           (λ k l. All-nil AreCoefficients);
       rows = subst (λ (s : State). All (IsGoodRow m loops) s.rows) (sym e) (All-nil (IsGoodRow m loops));
       between = subst (λ (s : State). AreBetween m loops s.remaining) (sym e) b;
@@ -115,14 +117,16 @@ same_state p q a b c d =
     ∙ ap (λ z. state (map block_of p.closed.items) (map marked_of p.rows.items) z)
     (ap (λ z. map dep_of q.ruled.items ++ z) c ∙ (append-nil (map dep_of q.ruled.items) ∙ d))
 
-pub good_ruled : (m : ℕ) (loops : List ℕ) (budget : ℕ) (p q : Progress) → IsGood m loops budget p → state_of q ≡ state_of p
+pub good_ruled : (m : ℕ) (loops : List ℕ) (budget : ℕ) (p q : Progress) → IsGood m loops budget p → state_of q
+    ≡ state_of p
     → q.vectors.items ≡ p.vectors.items → (AllRuled p.ruled.items → AllRuled q.ruled.items)
     → (AreRuledBy budget p.ruled.items → AreRuledBy budget q.ruled.items) → IsGood m loops budget q
 good_ruled m loops budget p q g e v h k =
     record {
       vectors = subst (λ (s : State). AreVectorsOf loops (rows_of s) (vectors_in q)) (sym e)
           (subst (λ (z : List Vectors). AreVectorsOf loops (rows_of (state_of p)) (map shown z)) (sym v) g.vectors);
-      small = subst (λ (s : State). (k : ℕ) → k < length loops → All AreCoefficients (coefficients_in (rows_of s) k)) (sym e) g.small;
+      small = subst (λ (s : State). (k : ℕ) → k < length loops → All AreCoefficients (coefficients_in (rows_of s) k))
+          (sym e) g.small;
       rows = subst (λ (s : State). All (IsGoodRow m loops) s.rows) (sym e) g.rows;
       between = subst (λ (s : State). AreBetween m loops s.remaining) (sym e) g.between;
       ruled = h g.ruled;
@@ -137,7 +141,8 @@ in_front x (y ∷ xs) ys (inr h) = inr (in_front x xs ys h)
 pub are_between : (m : ℕ) (loops : List ℕ) (budget : ℕ) (q : Progress) → IsGood m loops budget q → (x : RuledDep)
     → In x q.ruled.items → IsRuled x × IsBetween m loops x.dep
 are_between m loops budget q g x i =
-    (g.ruled x i, (g.between x.dep (in_front x.dep (map dep_of q.ruled.items) q.bare.items (in_map dep_of x q.ruled.items i))).0)
+    (g.ruled x i, (g.between x.dep (in_front x.dep (map dep_of q.ruled.items) q.bare.items
+        (in_map dep_of x q.ruled.items i))).0)
 
 -- one more with its rows
 pub ruled_more : (xs : List RuledDep) (y : RuledDep) → AllRuled xs → IsRuled y → AllRuled (xs ++ y ∷ [])
@@ -150,7 +155,8 @@ ruled_more (z ∷ xs) y h k x (inr i) = ruled_more xs y (λ w j. h w (inr j)) k 
 pub ruled_remains : (p : Progress) (d : Dependence) → In d (map dep_of p.ruled.items) → In d (state_of p).remaining
 ruled_remains p d i = in_front d (map dep_of p.ruled.items) p.bare.items i
 
-pub all_remain : (p : Progress) (d : Dependence) → p.bare.items ≡ [] → In d (state_of p).remaining → In d (map dep_of p.ruled.items)
+pub all_remain : (p : Progress) (d : Dependence) → p.bare.items ≡ [] → In d (state_of p).remaining
+    → In d (map dep_of p.ruled.items)
 all_remain p d e i =
     subst (λ (l : List Dependence). In d l)
     (ap (λ (z : List Dependence). map dep_of p.ruled.items ++ z) e ∙ append-nil (map dep_of p.ruled.items)) i

@@ -1,5 +1,6 @@
 -- Dependence by dependence: restricted, asked, dropped.
-use Rattle.std.proofs.Common.{◌≡◌, ℕ, zero, suc, ◌+◌, ◌<◌, List, [], ◌∷◌, ◌++◌, refl, sym, ◌∙◌, ap, subst, inl, inr, arith, length, map, All, drop, append_assoc, add-one, drop-cons}
+use Rattle.std.proofs.Common.{◌≡◌, ℕ, zero, suc, ◌+◌, ◌<◌, List, [], ◌∷◌, ◌++◌, refl, sym, ◌∙◌, ap, subst, inl, inr}
+use Rattle.std.proofs.Common.{arith, length, map, All, drop, append_assoc, add-one, drop-cons}
 use Rattle.std.specs.Prelude.{slice_index_or}
 use Rattle.std.specs.Prelude.{◌≤◌}
 use Rattle.std.proofs.lemmas.List.{append-nil, length-drop, length-map, get_or-map}
@@ -17,7 +18,8 @@ use Rattle.pluto_search.specs.Steps.{AreBetween}
 
 -- what is asked of the rest goes behind what is kept
 abbrev pub Leads : ℕ → List Marked → List Dependence → List Dependence → List Dependence → Type 0
-Leads m rows rest kept deps = (more : List Dependence) → Restricts m rows rest more → Restricts m rows deps (kept ++ more)
+Leads m rows rest kept deps = (more : List Dependence) → Restricts m rows rest more
+    → Restricts m rows deps (kept ++ more)
 
 pub dropped : (m : ℕ) (rows : List Marked) (d : Dependence) (rest kept deps : List Dependence)
     → IsEmptyDep m (restricted m rows d) → Leads m rows (d ∷ rest) kept deps → Leads m rows rest kept deps
@@ -77,7 +79,8 @@ all_tell_more m (r ∷ rows) q d h =
     All-cons Q r rows (tell_more m r.row q d (All-head P r rows h)) (all_tell_more m rows q d (All-tail P r rows h))
 
 -- what is kept stands between the same statements
-restricted_between : (m : ℕ) (loops : List ℕ) (rows : List Marked) (d : Dependence) → IsBetween m loops d × IsDependence d
+restricted_between : (m : ℕ) (loops : List ℕ) (rows : List Marked) (d : Dependence) → IsBetween m loops d
+    × IsDependence d
     → IsBetween m loops (restricted m rows d) × IsDependence (restricted m rows d)
 restricted_between m loops [] d h = h
 restricted_between m loops (r ∷ rows) d h =

@@ -1,5 +1,6 @@
 -- The next state is a good one, and the step is that of the run.
-use Rattle.std.proofs.Common.{◌≡◌, ℕ, zero, suc, ◌+◌, ◌<◌, ℤ, pos, List, [], ◌∷◌, ◌++◌, refl, sym, ◌∙◌, ap, ap₂, subst, ◌⊎◌, inl, inr, arith, length, map, All, Vec, Global}
+use Rattle.std.proofs.Common.{◌≡◌, ℕ, zero, suc, ◌+◌, ◌<◌, ℤ, pos, List, [], ◌∷◌, ◌++◌, refl, sym, ◌∙◌, ap, ap₂, subst}
+use Rattle.std.proofs.Common.{◌⊎◌, inl, inr, arith, length, map, All, Vec, Global}
 use Rattle.std.specs.Prelude.{◌≤◌, ◌↔◌, Bool, true, false, slice_index_or}
 use Rattle.std.proofs.lemmas.List.{append-nil, length-map, map-append}
 use Rattle.std.proofs.lemmas.List.Elements.{All-nil, All-cons, All-head, All-tail, All-append, All-get_or}
@@ -22,7 +23,8 @@ use Rattle.schedule_rows.specs.declared.item.Row as code_row
 use Rattle.schedule_rows.specs.declared.item.Part as code_part
 use Rattle.schedule_rows.specs.declared.item.Block.TheVariants as code_block
 use Rattle.pluto_search.specs.declared.state.Step.TheVariants as step
-use Rattle.schedule_rows.proofs.Measuring.{VectorLaws, coefficients_append, vectors_more, rows_closed, rows_scalar, rows_appended}
+use Rattle.schedule_rows.proofs.Measuring.{VectorLaws, coefficients_append, vectors_more, rows_closed, rows_scalar}
+use Rattle.schedule_rows.proofs.Measuring.{rows_appended}
 use Rattle.schedule_rows.proofs.Running.{uncuts_from}
 use Rattle.pluto_systems.specs.Placing.{AreShaped}
 use Rattle.pluto_systems.specs.Posing.{RuledDep, dep_of, AreVectorsOf}
@@ -49,8 +51,10 @@ pub laws : VectorLaws
 laws = record { most = narrowed_length; grows = narrowed_grows; more = kernel_more }
 
 -- both statements of each dependence are among those there are
-pub are_within : (m : ℕ) (loops : List ℕ) (deps : List Dependence) → AreBetween m loops deps → AreWithin (length loops) deps
-are_within m loops [] h = All-nil (λ (d : Dependence). (d.source.statement < length loops) × (d.target.statement < length loops))
+pub are_within : (m : ℕ) (loops : List ℕ) (deps : List Dependence) → AreBetween m loops deps
+    → AreWithin (length loops) deps
+are_within m loops [] h = All-nil (λ (d : Dependence). (d.source.statement < length loops)
+    × (d.target.statement < length loops))
 are_within m loops (d ∷ deps) h =
     All-cons (λ (c : Dependence). (c.source.statement < length loops) × (c.target.statement < length loops)) d deps
     ((h d (inl refl)).0.source, (h d (inl refl)).0.target) (are_within m loops deps (λ c i. h c (inr i)))
@@ -66,7 +70,8 @@ fresh m loops budget p q g r u e v b =
     record {
       vectors = subst (λ (z : List Row). AreVectorsOf loops z (vectors_in q)) (sym same)
           (subst (λ (z : List (List (List ℤ))). AreVectorsOf loops (rows_of (state_of p)) z) (sym v) g.vectors);
-      small = subst (λ (z : List Row). (k : ℕ) → k < length loops → All AreCoefficients (coefficients_in z k)) (sym same) g.small;
+      small = subst (λ (z : List Row). (k : ℕ) → k < length loops → All AreCoefficients (coefficients_in z k))
+          (sym same) g.small;
       rows = subst (λ z. All (IsGoodRow m loops) (map marked_of z)) (sym r) (All-nil (IsGoodRow m loops));
       between = subst (λ z. AreBetween m loops (map dep_of z ++ q.bare.items)) (sym u) b;
       ruled = λ x i. absurd (subst (λ (l : List RuledDep). In x l) u i);
@@ -82,7 +87,8 @@ fresh_state q closed c r u =
     ∙ ap (λ z. state closed [] (map dep_of z ++ q.bare.items)) u)
 
 -- the band is closed
-pub closed_next : (m : ℕ) (loops : List ℕ) (budget : ℕ) (p q : Progress) (deps : List Dependence) → IsGood m loops budget p
+pub closed_next : (m : ℕ) (loops : List ℕ) (budget : ℕ) (p q : Progress) (deps : List Dependence)
+    → IsGood m loops budget p
     → deps ≡ (state_of p).remaining → (IsFull loops (rows_of (state_of p)) → ⊥)
     → HasNone m loops (state_of p).remaining (rows_of (state_of p)) → ((state_of p).rows ≡ [] → ⊥)
     → IsClosed m (state_of p).closed (state_of p).rows deps (vectors_in p) q
@@ -90,8 +96,10 @@ pub closed_next : (m : ℕ) (loops : List ℕ) (budget : ℕ) (p q : Progress) (
 closed_next m loops budget p q deps g e more none some c =
     let s = state_of p in
     let r = subst (λ (z : List Dependence). Restricts m s.rows z q.bare.items) e c.bare in (
-      inr (more, inr (none, inl (some, (q.bare.items, r, ap (λ z. goes z) (fresh_state q (closed_by s.closed s.rows) c.closed_are c.none_open c.none_ruled))))),
-      fresh m loops budget p q g c.none_open c.none_ruled (ap rows_in c.closed_are ∙ rows_closed s.closed s.rows) c.vectors_are
+      inr (more, inr (none, inl (some, (q.bare.items, r, ap (λ z. goes z)
+          (fresh_state q (closed_by s.closed s.rows) c.closed_are c.none_open c.none_ruled))))),
+      fresh m loops budget p q g c.none_open c.none_ruled (ap rows_in c.closed_are ∙ rows_closed s.closed s.rows)
+          c.vectors_are
           (restricts_between m loops s.rows s.remaining q.bare.items g.between r),
     )
 
@@ -123,7 +131,8 @@ cut_next m loops budget p q deps g e more none empty c =
                 u,
                 inl (
                   f,
-                  ap (λ z. goes z) (fresh_state q (s.closed ++ scalar c.numbers ∷ []) c.closed_are c.none_open c.none_ruled),
+                  ap (λ z. goes z) (fresh_state q (s.closed ++ scalar c.numbers ∷ []) c.closed_are c.none_open
+                      c.none_ruled),
                 ),
               ),
             ),
@@ -165,7 +174,8 @@ pub large_next : (m : ℕ) (loops : List ℕ) (s : State) (r : Row) (n : ℕ) �
 large_next m loops s r n more least great e = inr (more, inl (r, least, inr (great, ap (λ z. large z) e)))
 
 -- the vectors are narrowed
-narrowed_length_each : (cs : List (List ℤ)) (vs : List (List (List ℤ))) → length cs ≡ length vs → length (narrowed_each cs vs) ≡ length vs
+narrowed_length_each : (cs : List (List ℤ)) (vs : List (List (List ℤ))) → length cs ≡ length vs
+    → length (narrowed_each cs vs) ≡ length vs
 narrowed_length_each [] [] h = refl
 narrowed_length_each [] (v ∷ vs) h = absurd (omega (arith, h))
 narrowed_length_each (c ∷ cs) [] h = absurd (omega (arith, h))
@@ -173,7 +183,8 @@ narrowed_length_each (c ∷ cs) (v ∷ vs) h = ap suc (narrowed_length_each cs v
 
 narrowed_at : (ps : List unknowns.Part) (vs : List (List (List ℤ))) (s : ℕ) → length ps ≡ length vs → s < length vs
     → slice_index_or (narrowed_each (map (λ p. p.coefficients) ps) vs) s []
-    ≡ narrowed_by (slice_index_or ps s (record { coefficients = []; shift = pos 0 })).coefficients (slice_index_or vs s [])
+    ≡ narrowed_by (slice_index_or ps s (record { coefficients = []; shift = pos 0 })).coefficients
+        (slice_index_or vs s [])
 narrowed_at [] [] s h l = absurd (omega (arith, l))
 narrowed_at [] (v ∷ vs) s h l = absurd (omega (arith, h))
 narrowed_at (p ∷ ps) [] s h l = absurd (omega (arith, h))
@@ -181,7 +192,8 @@ narrowed_at (p ∷ ps) (v ∷ vs) zero h l = refl
 narrowed_at (p ∷ ps) (v ∷ vs) (suc s) h l = narrowed_at ps vs s (omega (arith, h)) (omega (arith, l))
 
 -- they can be
-can_narrow_from : (ps : List unknowns.Part) (loops : List ℕ) (vs : List (List (List ℤ))) → AreShaped loops ps → All IsSmallPart ps
+can_narrow_from : (ps : List unknowns.Part) (loops : List ℕ) (vs : List (List (List ℤ))) → AreShaped loops ps
+    → All IsSmallPart ps
     → length vs ≡ length loops → All (λ l. l ≤ 5) loops
     → ((s : ℕ) → s < length loops → AreLong (slice_index_or loops s 0) (slice_index_or vs s []))
     → ((s : ℕ) → s < length loops → null_sizes.AreNarrow (slice_index_or vs s []))
@@ -221,7 +233,8 @@ can_narrow m loops budget p row r five g e good =
     let rows = rows_of (state_of p) in
     let parts = ap (λ (z : Row). z.parts) e in
     subst (λ (z : List (List ℤ)). CanNarrowEach z (vectors_in p)) (sym (coefficients_are row.parts.items))
-    (subst (λ (z : List unknowns.Part). CanNarrowEach (map (λ (p : unknowns.Part). p.coefficients) z) (vectors_in p)) (sym parts)
+    (subst (λ (z : List unknowns.Part). CanNarrowEach (map (λ (p : unknowns.Part). p.coefficients) z) (vectors_in p))
+        (sym parts)
     (can_narrow_from r.row.parts loops (vectors_in p) good.shaped.parts (row_small m loops r good) g.vectors.size five
     (λ s l. subst (λ (z : List (List ℤ)). AreLong (slice_index_or loops s 0) z) (sym (g.vectors.each s l))
     (kernel_long (slice_index_or loops s 0) (coefficients_in rows s)))
@@ -230,13 +243,15 @@ can_narrow m loops budget p row r five g e good =
     (All-get_or (λ (n : ℕ). n ≤ 5) loops s 0 l five) (g.small s l)))))
 
 appended_state : (p q : Progress) (row : code_row.Row) (parallel : Bool) → IsAppended p row parallel q
-    → state_of q ≡ state (state_of p).closed ((state_of p).rows ++ record { row = row_of row; parallel = parallel } ∷ []) (state_of p).remaining
+    → state_of q ≡ state (state_of p).closed ((state_of p).rows ++ record { row = row_of row; parallel = parallel } ∷
+        []) (state_of p).remaining
 appended_state p q row parallel a =
     ap (λ z. state (map block_of z) (map marked_of q.rows.items) (map dep_of q.ruled.items ++ q.bare.items)) a.closed
     ∙ (ap (λ z. state (map block_of p.closed.items) (map marked_of z) (map dep_of q.ruled.items ++ q.bare.items)) a.rows
     ∙ (ap (λ z. state (map block_of p.closed.items) z (map dep_of q.ruled.items ++ q.bare.items))
     (map-append marked_of p.rows.items (record { row = row; parallel = parallel } ∷ []))
-    ∙ ap₂ (λ x y. state (map block_of p.closed.items) (map marked_of p.rows.items ++ record { row = row_of row; parallel = parallel } ∷ []) (map dep_of x ++ y)) a.ruled a.bare))
+    ∙ ap₂ (λ x y. state (map block_of p.closed.items) (map marked_of p.rows.items
+        ++ record { row = row_of row; parallel = parallel } ∷ []) (map dep_of x ++ y)) a.ruled a.bare))
 
 -- the least row is appended
 pub append_next : (m : ℕ) (loops : List ℕ) (budget : ℕ) (p q : Progress) (row : code_row.Row) (r : Marked)
@@ -254,7 +269,8 @@ append_next m loops budget p q row r g e good more least exact a =
     let all : rows_of (state_of q) ≡ rows ++ r.row ∷ [] =
     rows_appended s (state_of q) r (ap (λ (z : State). z.closed) is) (ap (λ (z : State). z.rows) is) in
     let parts = ap (λ (z : Row). z.parts) e in
-    let vectors : vectors_in q ≡ narrowed_each (map (λ (p : unknowns.Part). p.coefficients) r.row.parts) (vectors_in p) =
+    let vectors : vectors_in q ≡ narrowed_each (map (λ (p : unknowns.Part). p.coefficients) r.row.parts) (vectors_in p)
+        =
     a.vectors ∙ ap (λ z. narrowed_each z (vectors_in p)) (coefficients_are row.parts.items
     ∙ ap (λ (z : List unknowns.Part). map (λ (p : unknowns.Part). p.coefficients) z) parts) in
     let count = shaped_length loops r.row.parts good.shaped.parts in
@@ -265,7 +281,8 @@ append_next m loops budget p q row r g e good more least exact a =
       record {
         vectors = subst (λ (z : List Row). AreVectorsOf loops z (vectors_in q)) (sym all)
             (record {
-              size = ap length vectors ∙ (narrowed_length_each (map (λ (p : unknowns.Part). p.coefficients) r.row.parts) (vectors_in p)
+              size = ap length vectors ∙ (narrowed_length_each (map (λ (p : unknowns.Part). p.coefficients) r.row.parts)
+                  (vectors_in p)
                   (length-map r.row.parts (λ (p : unknowns.Part). p.coefficients) ∙ same) ∙ size);
               each = λ k l.
                   ap (λ (z : List (List (List ℤ))). slice_index_or z k []) vectors
@@ -273,14 +290,17 @@ append_next m loops budget p q row r g e good more least exact a =
                   ∙ (ap (λ (z : List (List ℤ)). narrowed_by (part_of r.row k).coefficients z) (g.vectors.each k l)
                   ∙ sym (vectors_more laws loops rows r.row k)));
             });
-        small = subst (λ (z : List Row). (k : ℕ) → k < length loops → All AreCoefficients (coefficients_in z k)) (sym all)
+        small = subst (λ (z : List Row). (k : ℕ) → k < length loops → All AreCoefficients (coefficients_in z k))
+            (sym all)
             (λ k l. subst (λ (z : List (List ℤ)). All AreCoefficients z) (sym (coefficients_append rows (r.row ∷ []) k))
             (All-append AreCoefficients (coefficients_in rows k) ((part_of r.row k).coefficients ∷ []) (g.small k l)
             (All-cons AreCoefficients (part_of r.row k).coefficients []
-            (counts_within (part_of r.row k).coefficients (small_part r.row.parts k (subst (λ (n : ℕ). k < n) (sym count) l) small).0)
+            (counts_within (part_of r.row k).coefficients (small_part r.row.parts k
+                (subst (λ (n : ℕ). k < n) (sym count) l) small).0)
             (All-nil AreCoefficients))));
         rows = subst (λ (z : List Marked). All (IsGoodRow m loops) z) (sym (ap (λ (z : State). z.rows) is))
-            (All-append (IsGoodRow m loops) s.rows (r ∷ []) g.rows (All-cons (IsGoodRow m loops) r [] good (All-nil (IsGoodRow m loops))));
+            (All-append (IsGoodRow m loops) s.rows (r ∷ []) g.rows (All-cons (IsGoodRow m loops) r [] good
+                (All-nil (IsGoodRow m loops))));
         between = subst (λ (z : State). AreBetween m loops z.remaining) (sym is) g.between;
         ruled = λ x i. g.ruled x (subst (λ (l : List RuledDep). In x l) a.ruled i);
         by_run = subst (λ (l : List RuledDep). AreRuledBy budget l) (sym a.ruled) g.by_run;
@@ -291,7 +311,8 @@ append_next m loops budget p q row r g e good more least exact a =
 pub least_good : (m : ℕ) (loops : List ℕ) (deps : List Dependence) (before : List Row) (r : Marked)
     → IsLeast m loops deps before r.row → IsWithin r.row → IsGoodRow m loops r
 least_good m loops deps before r least within =
-    record { shaped = posed_shape m loops deps before r.row least.posed; not_negative = least.posed.not_negative; within = within }
+    record { shaped = posed_shape m loops deps before r.row least.posed; not_negative = least.posed.not_negative; within
+        = within }
 
 -- it is parallel exactly where no dependence has a pair at which it rises
 pub exact_mark : (m : ℕ) (loops : List ℕ) (deps : List Dependence) (before : List Row) (r : Marked)
@@ -319,7 +340,8 @@ pub cut_steps : (m : ℕ) (loops : List ℕ) (budget : ℕ) (p : Progress) (deps
     → (IsFull loops (rows_of (state_of p)) → ⊥) → HasNone m loops (state_of p).remaining (rows_of (state_of p))
     → (state_of p).rows ≡ [] → HasPosed m loops (state_of p).remaining (rows_of (state_of p)) posed
     → Cuts loops (state_of p).closed deps (vectors_in p) posed result → Steps m loops budget (state_of p) (going result)
-cut_steps m loops budget p deps posed (Ok q) g e more none empty has h = cut_next m loops budget p q deps g e more none empty h
+cut_steps m loops budget p deps posed (Ok q) g e more none empty has h = cut_next m loops budget p q deps g e more none
+    empty h
 cut_steps m loops budget p deps posed (Err (kept.Stuck stuck)) g e more none empty has h = absurd h
 cut_steps m loops budget p deps posed (Err (kept.NoRow told)) g e more none empty has h = (
   no_row_next m loops (state_of p) deps e more none empty h.1,
@@ -344,8 +366,10 @@ pub band_steps : (m : ℕ) (loops : List ℕ) (budget : ℕ) (p : Progress) (dep
     → (IsFull loops (rows_of (state_of p)) → ⊥) → HasNone m loops (state_of p).remaining (rows_of (state_of p))
     → ((state_of p).rows ≡ [] → ⊥)
     → IfOk result (IsClosed m (state_of p).closed (state_of p).rows deps (vectors_in p))
-    → IfErr result (IsStop (StopsRestricted m (state_of p).rows budget deps)) → Steps m loops budget (state_of p) (going result)
-band_steps m loops budget p deps (Ok q) g e more none some closed stops = closed_next m loops budget p q deps g e more none some closed
+    → IfErr result (IsStop (StopsRestricted m (state_of p).rows budget deps))
+        → Steps m loops budget (state_of p) (going result)
+band_steps m loops budget p deps (Ok q) g e more none some closed stops = closed_next m loops budget p q deps g e more
+    none some closed
 band_steps m loops budget p deps (Err k) g e more none some closed stops =
     stops_restricted m loops budget (state_of p) deps k e (inr none) stops
 
@@ -358,7 +382,8 @@ pub end_steps : (m : ℕ) (loops : List ℕ) (budget : ℕ) (s : State) (deps le
     (result : Result (Vec code_block.the_data Global) kept.the_data) → deps ≡ s.remaining → IsFull loops (rows_of s)
     → Restricts m s.rows deps left → blocks ≡ closed_by s.closed s.rows → Ended loops blocks left result
     → Steps m loops budget s (ending result)
-end_steps m loops budget s deps left blocks (Ok bs) e full r b h = end_next m loops s deps left blocks (ends (map block_of bs.items)) e full r b h
+end_steps m loops budget s deps left blocks (Ok bs) e full r b h = end_next m loops s deps left blocks
+    (ends (map block_of bs.items)) e full r b h
 end_steps m loops budget s deps left blocks (Err (kept.Stuck stuck)) e full r b h = absurd h
 end_steps m loops budget s deps left blocks (Err (kept.NoRow posed)) e full r b h = absurd h
 end_steps m loops budget s deps left blocks (Err (kept.NoOrder component)) e full r b h =

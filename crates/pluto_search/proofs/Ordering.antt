@@ -1,5 +1,6 @@
 -- Along a schedule of a kernel's conflicts the values of conflicting places rise.
-use Rattle.std.proofs.Common.{◌≡◌, ℕ, zero, suc, ◌<◌, ℤ, pos, List, [], ◌∷◌, refl, sym, ◌∙◌, ap, subst, inl, inr, length, Some}
+use Rattle.std.proofs.Common.{◌≡◌, ℕ, zero, suc, ◌<◌, ℤ, pos, List, [], ◌∷◌, refl, sym, ◌∙◌, ap, subst, inl, inr}
+use Rattle.std.proofs.Common.{length, Some}
 use Rattle.std.specs.Prelude.{◌≤ℤ◌, slice_get}
 use Rattle.std.proofs.lemmas.List.Elements.{All-nil, All-cons, All-head, All-tail}
 use Rattle.whole_numbers.specs.Lexicographic.{LexLess}
@@ -57,11 +58,13 @@ pub turns_from_0 : (program : Program) (params : List ℤ) (i : ℕ) (v : Visit)
     → slice_get (walk_of program params) i ≡ Some v → AreNotNegative v.turns
 turns_from_0 program params i v found h =
     let f = found v (in_get (walk_of program params) i v h) in
-    subst (λ (z : List ℤ). AreNotNegative z) (sym (ap (λ (z : Visit). z.turns) f.4)) (runs_not_negative f.0.scopes params f.1 f.3)
+    subst (λ (z : List ℤ). AreNotNegative z) (sym (ap (λ (z : Visit). z.turns) f.4))
+        (runs_not_negative f.0.scopes params f.1 f.3)
 
 pub one_model : (program : Program) → IsKernel program
     → ((p q : Placed) → In p (statements_of program) → In q (statements_of program) → p.number ≡ q.number → p ≡ q)
-    → ((k : ℕ) (p : Placed) → slice_get (statements_of program) k ≡ Some p → p.number ≡ k) → IsKernelModel (model_of program)
+    → ((k : ℕ) (p : Placed) → slice_get (statements_of program) k ≡ Some p → p.number ≡ k)
+        → IsKernelModel (model_of program)
 one_model program k same number =
     model_is_one program (length program.parameters) (model_of program).statements k same number refl
 

@@ -1,5 +1,6 @@
 -- The least component with two statements.
-use Rattle.std.proofs.Common.{◌≡◌, ℕ, zero, suc, ◌<◌, List, refl, sym, ◌∙◌, ap, subst, ◌⊎◌, inl, inr, arith, length, None, Some}
+use Rattle.std.proofs.Common.{◌≡◌, ℕ, zero, suc, ◌<◌, List, refl, sym, ◌∙◌, ap, subst, ◌⊎◌, inl, inr, arith, length}
+use Rattle.std.proofs.Common.{None, Some}
 use Rattle.std.specs.Prelude.{◌≤◌}
 use Rattle.stmt_graph.specs.Graph.{number_in}
 use Rattle.schedule_rows.specs.Next.{AreSingle}

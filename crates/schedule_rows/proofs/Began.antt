@@ -1,5 +1,6 @@
 -- Where the bands of a schedule began, and what their marks say.
-use Rattle.std.proofs.Common.{◌≡◌, ℕ, zero, suc, ◌+◌, List, [], ◌∷◌, ◌++◌, refl, sym, ◌∙◌, ap, ap₂, subst, ◌⊎◌, inl, inr, arith, length, All, append_assoc, Some}
+use Rattle.std.proofs.Common.{◌≡◌, ℕ, zero, suc, ◌+◌, List, [], ◌∷◌, ◌++◌, refl, sym, ◌∙◌, ap, ap₂, subst, ◌⊎◌, inl}
+use Rattle.std.proofs.Common.{inr, arith, length, All, append_assoc, Some}
 use Rattle.std.specs.Prelude.{Bool, true, ⊤, ◌↔◌, slice_get, Option}
 use Rattle.std.proofs.lemmas.List.{append-nil, length-append, length-map}
 use Rattle.std.proofs.lemmas.List.Elements.{All-nil, All-cons, All-head, All-tail, All-append}
@@ -40,10 +41,11 @@ abbrev pub IsExact : ℕ → List Dependence → Marked → Type 0
 IsExact m remaining r = (r.parallel ≡ true) ↔ ((d : Dependence) → In d remaining → IsEqualAt m r.row d)
 
 -- a band, when it began
-pub record Began (m : ℕ) (loops : List ℕ) (deps : List Dependence) (before : List Block) (ms : List Marked) : Type 0 where
-  pub remaining : List Dependence
-  pub reached : Reached m loops deps (state before [] remaining)
-  pub exact : All (IsExact m remaining) ms
+pub record Began (m : ℕ) (loops : List ℕ) (deps : List Dependence) (before : List Block) (ms : List Marked) : Type 0
+  where
+    pub remaining : List Dependence
+    pub reached : Reached m loops deps (state before [] remaining)
+    pub exact : All (IsExact m remaining) ms
 
 -- the bands among blocks that stand behind others
 abbrev pub AreBegun : ℕ → List ℕ → List Dependence → List Block → List Block → Type 0
@@ -53,15 +55,18 @@ AreBegun m loops deps before (band ms ∷ bs) =
     Began m loops deps before ms × AreBegun m loops deps (before ++ band ms ∷ []) bs
 
 begun_append : (m : ℕ) (loops : List ℕ) (deps : List Dependence) (before bs cs : List Block)
-    → AreBegun m loops deps before bs → AreBegun m loops deps (before ++ bs) cs → AreBegun m loops deps before (bs ++ cs)
+    → AreBegun m loops deps before bs → AreBegun m loops deps (before ++ bs) cs
+    → AreBegun m loops deps before (bs ++ cs)
 begun_append m loops deps before [] cs h k =
     subst (λ (z : List Block). AreBegun m loops deps z cs) (append-nil before) k
 begun_append m loops deps before (scalar numbers ∷ bs) cs h k =
     begun_append m loops deps (before ++ scalar numbers ∷ []) bs cs h
     (subst (λ (z : List Block). AreBegun m loops deps z cs) (sym (append_assoc before (scalar numbers ∷ []) bs)) k)
-begun_append m loops deps before (band ms ∷ bs) cs h k =
-    (h.0, begun_append m loops deps (before ++ band ms ∷ []) bs cs h.1
-    (subst (λ (z : List Block). AreBegun m loops deps z cs) (sym (append_assoc before (band ms ∷ []) bs)) k))
+begun_append m loops deps before (band ms ∷ bs) cs h k = (
+  h.0,
+  begun_append m loops deps (before ++ band ms ∷ []) bs cs h.1
+      (subst (λ (z : List Block). AreBegun m loops deps z cs) (sym (append_assoc before (band ms ∷ []) bs)) k),
+)
 
 -- what holds at a state that is reached
 record Stands (m : ℕ) (loops : List ℕ) (deps : List Dependence) (s : State) : Type 0 where
@@ -93,14 +98,14 @@ stands_goes : (m : ℕ) (loops : List ℕ) (deps : List Dependence) (s t : State
     → Reached m loops deps t → Goes m loops s t → Stands m loops deps t
 stands_goes m loops deps s t h r (inl a) =
     let rows = All-append (IsExact m s.remaining) s.rows (a.row ∷ []) h.rows
-      (All-cons (IsExact m s.remaining) a.row [] a.parallel (All-nil (IsExact m s.remaining))) in
+    (All-cons (IsExact m s.remaining) a.row [] a.parallel (All-nil (IsExact m s.remaining))) in
     record {
       reached = r;
       began = subst (λ (z : List Block). Reached m loops deps (state z [] t.remaining)) (sym a.closed)
-        (subst (λ (z : List Dependence). Reached m loops deps (state s.closed [] z)) (sym a.remaining) h.began);
+          (subst (λ (z : List Dependence). Reached m loops deps (state s.closed [] z)) (sym a.remaining) h.began);
       closed = subst (λ (z : List Block). AreBegun m loops deps [] z) (sym a.closed) h.closed;
       rows = subst (λ (z : List Marked). All (IsExact m t.remaining) z) (sym a.rows)
-        (subst (λ (z : List Dependence). All (IsExact m z) (s.rows ++ a.row ∷ [])) (sym a.remaining) rows);
+          (subst (λ (z : List Dependence). All (IsExact m z) (s.rows ++ a.row ∷ [])) (sym a.remaining) rows);
     }
 stands_goes m loops deps s t h r (inr (inl c)) =
     fresh m loops deps t (closed_by s.closed s.rows) r c.rows c.closed
@@ -127,7 +132,8 @@ run_begun m loops deps s (t ∷ ts) blocks h e =
     (stands_goes m loops deps s t h (reached_more m loops deps s t h.reached e.0) (next_goes m loops s t e.0)) e.1
 
 -- the bands of a schedule
-schedule_begun : (m : ℕ) (loops : List ℕ) (deps : List Dependence) (blocks : List Block) → IsSchedule m loops deps blocks
+schedule_begun : (m : ℕ) (loops : List ℕ) (deps : List Dependence) (blocks : List Block)
+    → IsSchedule m loops deps blocks
     → AreBegun m loops deps [] blocks
 schedule_begun m loops deps blocks s =
     let first = reached_first m loops deps s.taken s.takes in
@@ -167,7 +173,8 @@ exact_at m remaining (q ∷ ms) zero r h e =
 exact_at m remaining (q ∷ ms) (suc k) r h e = exact_at m remaining ms k r (All-tail (IsExact m remaining) q ms h) e
 
 -- where a row is found among blocks that stand behind others
-record Found (m : ℕ) (loops : List ℕ) (deps : List Dependence) (all : List Block) (k : ℕ) (r : Row) (mark : Bool) : Type 0 where
+record Found (m : ℕ) (loops : List ℕ) (deps : List Dependence) (all : List Block) (k : ℕ) (r : Row) (mark : Bool) : Type
+    0 where
   pub before : List Block
   pub rows : List Marked
   pub behind : List Block
@@ -196,7 +203,8 @@ moved m loops deps all other k j r mark e f h =
     }
 
 find_row : (m : ℕ) (loops : List ℕ) (deps : List Dependence) (before bs : List Block) (k : ℕ) (r : Row) (mark : Bool)
-    → AreBegun m loops deps before bs → slice_get (items_of bs) k ≡ Some (plain.row r) → slice_get (marks_of bs) k ≡ Some mark
+    → AreBegun m loops deps before bs → slice_get (items_of bs) k ≡ Some (plain.row r) → slice_get (marks_of bs) k
+    ≡ Some mark
     → Found m loops deps (before ++ bs) (length (items_of before) + k) r mark
 find_row m loops deps before [] k r mark h i g = absurd cc
 find_row m loops deps before (scalar numbers ∷ bs) zero r mark h i g = absurd cc
@@ -209,37 +217,38 @@ find_row m loops deps before (scalar numbers ∷ bs) (suc k) r mark h i g =
     (find_row m loops deps (before ++ one) bs k r mark h i g)
 find_row m loops deps before (band ms ∷ bs) k r mark h i g = elim (in_band ms (items_of bs) (marks_of bs) k r mark i g) [
   | inl own ↦ record {
-      before = before;
-      rows = ms;
-      behind = bs;
-      at = k;
-      remaining = h.0.remaining;
-      whole = refl;
-      began = h.0.reached;
-      place = refl;
-      own = own;
-      exact = exact_at m h.0.remaining ms k (record { row = r; parallel = mark }) h.0.exact own;
-    }
+    before = before;
+    rows = ms;
+    behind = bs;
+    at = k;
+    remaining = h.0.remaining;
+    whole = refl;
+    began = h.0.reached;
+    place = refl;
+    own = own;
+    exact = exact_at m h.0.remaining ms k (record { row = r; parallel = mark }) h.0.exact own;
+  }
   | inr e ↦
-    let one = band ms ∷ [] in
-    let a = ap length (items_append before one) in
-    let b = length-append (items_of before) (items_of one) in
-    let c = length-append (rows_as_items ms) [] in
-    let d = length-map ms (λ z. plain.row z.row) in
-    let at = e.1 in
-    moved m loops deps ((before ++ one) ++ bs) (before ++ band ms ∷ bs) (length (items_of (before ++ one)) + e.0)
-    (length (items_of before) + k) r mark (sym (append_assoc before one bs)) (omega arith)
-    (find_row m loops deps (before ++ one) bs e.0 r mark h.1 e.2 e.3)
+      let one = band ms ∷ [] in
+      let a = ap length (items_append before one) in
+      let b = length-append (items_of before) (items_of one) in
+      let c = length-append (rows_as_items ms) [] in
+      let d = length-map ms (λ z. plain.row z.row) in
+      let at = e.1 in
+      moved m loops deps ((before ++ one) ++ bs) (before ++ band ms ∷ bs) (length (items_of (before ++ one)) + e.0)
+      (length (items_of before) + k) r mark (sym (append_assoc before one bs)) (omega arith)
+      (find_row m loops deps (before ++ one) bs e.0 r mark h.1 e.2 e.3)
 ]
 
 -- what an item's mark says
-pub row_marked : (m : ℕ) (loops : List ℕ) (deps : List Dependence) (items : List Item) (marks : List Bool) (blocks : List Block)
+pub row_marked : (m : ℕ) (loops : List ℕ) (deps : List Dependence) (items : List Item) (marks : List Bool)
+    (blocks : List Block)
     (k : ℕ) (r : Row) (mark : Bool) → IsSchedule m loops deps blocks → items ≡ items_of blocks → marks ≡ marks_of blocks
     → slice_get items k ≡ Some (plain.row r) → slice_get marks k ≡ Some mark → IsMarked m loops deps items k r mark
 row_marked m loops deps items marks blocks k r mark s e f i g =
     let found = find_row m loops deps [] blocks k r mark (schedule_begun m loops deps blocks s)
-      (subst (λ (z : List Item). slice_get z k ≡ Some (plain.row r)) e i)
-      (subst (λ (z : List Bool). slice_get z k ≡ Some mark) f g) in
+    (subst (λ (z : List Item). slice_get z k ≡ Some (plain.row r)) e i)
+    (subst (λ (z : List Bool). slice_get z k ≡ Some mark) f g) in
     let place = found.place in
     record {
       before = found.before;
@@ -259,4 +268,5 @@ pub marked_at : (s : Scheduled) (k : ℕ) (r : Row) (mark : Bool) → IsSchedule
     → slice_get s.items k ≡ Some (plain.row r) → slice_get s.parallel k ≡ Some mark
     → IsMarked s.model.parameters (loops_in s.model) s.deps s.items k r mark
 marked_at s k r mark h i g =
-    row_marked s.model.parameters (loops_in s.model) s.deps s.items s.parallel h.blocks k r mark h.run h.items h.parallel i g
+    row_marked s.model.parameters (loops_in s.model) s.deps s.items s.parallel h.blocks k r mark h.run h.items
+    h.parallel i g

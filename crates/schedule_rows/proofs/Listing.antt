@@ -1,5 +1,6 @@
 -- Items, bands and marks of blocks, block by block.
-use Rattle.std.proofs.Common.{◌≡◌, ℕ, suc, ◌+◌, List, [], ◌∷◌, ◌++◌, refl, sym, ◌∙◌, ap, arith, length, map, append_assoc}
+use Rattle.std.proofs.Common.{◌≡◌, ℕ, suc, ◌+◌, List, [], ◌∷◌, ◌++◌, refl, sym, ◌∙◌, ap, arith, length, map}
+use Rattle.std.proofs.Common.{append_assoc}
 use Rattle.std.specs.Prelude.{Bool}
 use Rattle.std.proofs.lemmas.List.{append-nil, length-append, length-map}
 use Rattle.schedule_rows.specs.Items.{Marked, Block, scalar, band}
@@ -54,12 +55,14 @@ block_size (band (m ∷ ms)) k bs =
 pub items_next : (done all : List Item) (b : Block) (bs : List Block) → done ++ items_of (b ∷ bs) ≡ all
     → (done ++ items_of (b ∷ [])) ++ items_of bs ≡ all
 items_next done all b bs h =
-    append_assoc done (items_of (b ∷ [])) (items_of bs) ∙ (ap (λ (z : List Item). done ++ z) (sym (items_more b bs)) ∙ h)
+    append_assoc done (items_of (b ∷ [])) (items_of bs) ∙ (ap (λ (z : List Item). done ++ z) (sym (items_more b bs)) ∙
+    h)
 
 pub marks_next : (done all : List Bool) (b : Block) (bs : List Block) → done ++ marks_of (b ∷ bs) ≡ all
     → (done ++ marks_of (b ∷ [])) ++ marks_of bs ≡ all
 marks_next done all b bs h =
-    append_assoc done (marks_of (b ∷ [])) (marks_of bs) ∙ (ap (λ (z : List Bool). done ++ z) (sym (marks_more b bs)) ∙ h)
+    append_assoc done (marks_of (b ∷ [])) (marks_of bs) ∙ (ap (λ (z : List Bool). done ++ z) (sym (marks_more b bs)) ∙
+    h)
 
 pub bands_next : (done all : List Band) (b : Block) (bs : List Block) (k n : ℕ) → n ≡ k + length (items_of (b ∷ []))
     → done ++ bands_from k (b ∷ bs) ≡ all

@@ -1,5 +1,5 @@
-//! Rows and bands of a schedule: the posed set of a next row, the determined run of a search that takes the least row, and
-//! what it is for: conflicting instances in order (U. Bondhugula and others, "A practical automatic polyhedral
+//! Rows and bands of a schedule: the posed set of a next row, the determined run of a search that takes the least row,
+//! and what it is for: conflicting instances in order (U. Bondhugula and others, "A practical automatic polyhedral
 //! parallelizer and locality optimizer", PLDI 2008). A `Schedule` is always that of the determined run. Each law is the
 //! contract of a function that does nothing, or that calls the laws which its proof uses.
 #![tactic(auto)]

@@ -2,7 +2,8 @@
 ghost use Rattle.std.specs.Prelude.{◌≡◌, ◌<◌, ◌-◌, ◌++◌, ◌∷◌, [], IfOk, OnOk, Some, length, map, slice_get};
 ghost use Rattle.schedule_rows.specs.Items.{Row};
 ghost use Rattle.schedule_rows.specs.Outcomes.{IsSchedule};
-ghost use Rattle.schedule_rows.specs.Schedule.{row, item_of, marked_of, block_of, loops_in, items_of, bands_from, marks_of};
+ghost use Rattle.schedule_rows.specs.Schedule.{row, item_of, marked_of, block_of, loops_in};
+ghost use Rattle.schedule_rows.specs.Schedule.{items_of, bands_from, marks_of};
 ghost use Rattle.schedule_rows.specs.Schedule.{scheduled, IsScheduled, IsMarked};
 ghost use Rattle.schedule_rows.specs.Items.{band};
 
@@ -64,7 +65,10 @@ fn push_rows(
         ≡ parallel.old.items ++ map (λ m. m.parallel) (map marked_of rows.items)) }
 {
     for marked in rows {
-        let Marked { row, parallel: mark } = marked;
+        let Marked {
+            row,
+            parallel: mark,
+        } = marked;
         match push_item(items, parallel, Item::Row(row), mark) {
             Err(_) => return Err(AllocError),
             Ok(()) => {}

@@ -12,7 +12,8 @@ loop-dep-preserved-then-is_cut c =
     let rest = c.next.new.self.rest.items in
     let e = c.in-Some.ensures.steps.0 in
     let before = c.loop-dep.invariant in
-    let P : Dependence → Type 0 = λ d. (d.source.statement < length numbers) × (d.target.statement < length numbers) in (
+    let P : Dependence → Type 0 = λ d. (d.source.statement < length numbers)
+        × (d.target.statement < length numbers) in (
       tt,
       tt,
       All-tail P d rest (subst (λ (l : List Dependence). All P l) e before.2),
@@ -27,7 +28,8 @@ loop-dep-preserved c =
     let rest = c.next.new.self.rest.items in
     let e = c.in-Some.ensures.steps.0 in
     let before = c.loop-dep.invariant in
-    let P : Dependence → Type 0 = λ d. (d.source.statement < length numbers) × (d.target.statement < length numbers) in (
+    let P : Dependence → Type 0 = λ d. (d.source.statement < length numbers)
+        × (d.target.statement < length numbers) in (
       tt,
       tt,
       All-tail P d rest (subst (λ (l : List Dependence). All P l) e before.2),
@@ -41,4 +43,5 @@ returns c =
     let left = c.loop-dep.dep-iterator.rest in
     let none = no_more left.items (sym left.ok.0 ∙ c.in-None.ensures.steps.0) in
     passes_last c.args.numbers.now c.loop-dep.kept.items c.args.deps.items
-    (subst (λ (l : List Dependence). Passes c.args.numbers.now l c.loop-dep.kept.items c.args.deps.items) none c.loop-dep.invariant.3)
+    (subst (λ (l : List Dependence). Passes c.args.numbers.now l c.loop-dep.kept.items c.args.deps.items) none
+        c.loop-dep.invariant.3)

@@ -16,7 +16,8 @@ left : (c : After-is_empty) → c.in-Ok.deps.items ≡ (state_of c.args.progress
 left c = c.in-Ok.ensures ∙ ap (λ (z : List RuledDep). map dep_of z ++ c.args.progress.bare.items) c.deref.ensures.value
 
 between : (c : After-is_empty) → AreBetween c.args.parameters c.args.loops.now c.in-Ok.deps.items
-between c = subst (λ (l : List Dependence). AreBetween c.args.parameters c.args.loops.now l) (sym (left c)) c.requires.good.between
+between c = subst (λ (l : List Dependence). AreBetween c.args.parameters c.args.loops.now l) (sym (left c))
+    c.requires.good.between
 
 pub cut-requires : goal.cut-requires
 cut-requires c =
@@ -28,8 +29,10 @@ returns-then-is_empty c =
     let p = c.args.progress in
     let none : length p.rows.items ≡ 0 = search rules in
     subst (λ r. Steps c.args.parameters c.args.loops.now c.args.budget (state_of p) r) (sym c.goes.ensures)
-    (cut_steps c.args.parameters c.args.loops.now c.args.budget p c.in-Ok.deps.items c.args.posed c.cut.result c.requires.good (left at)
-    c.requires.more c.requires.none (ap (λ (z : List code.Marked). map marked_of z) (no_more p.rows.items none)) c.requires.posed c.cut.ensures)
+    (cut_steps c.args.parameters c.args.loops.now c.args.budget p c.in-Ok.deps.items c.args.posed c.cut.result
+        c.requires.good (left at)
+    c.requires.more c.requires.none (ap (λ (z : List code.Marked). map marked_of z) (no_more p.rows.items none))
+        c.requires.posed c.cut.ensures)
 
 pub close_band-requires-clause-tells : goal.close_band-requires-clause-tells
 close_band-requires-clause-tells c d i =
@@ -37,7 +40,8 @@ close_band-requires-clause-tells c d i =
     (between (goal.at.close_band-requires-clause-tells c).After-is_empty d i)
 
 pub close_band-requires-clause-parameters : goal.close_band-requires-clause-parameters
-close_band-requires-clause-parameters c d i = (between (goal.at.close_band-requires-clause-parameters c).After-is_empty d i).0.parameters
+close_band-requires-clause-parameters c d i = (between (goal.at.close_band-requires-clause-parameters c).After-is_empty
+    d i).0.parameters
 
 pub returns : goal.returns
 returns c =
@@ -46,5 +50,7 @@ returns c =
     let some : length p.rows.items ≡ 0 → ⊥ = search rules in
     let l = length-map p.rows.items marked_of in
     subst (λ r. Steps c.args.parameters c.args.loops.now c.args.budget (state_of p) r) (sym c.goes-2.ensures)
-    (band_steps c.args.parameters c.args.loops.now c.args.budget p c.in-Ok.deps.items c.close_band.result c.requires.good (left at)
-    c.requires.more c.requires.none (λ e. some (let n = ap length e in omega arith)) c.close_band.ensures.closed c.close_band.ensures.stops)
+    (band_steps c.args.parameters c.args.loops.now c.args.budget p c.in-Ok.deps.items c.close_band.result
+        c.requires.good (left at)
+    c.requires.more c.requires.none (λ e. some (let n = ap length e in omega arith)) c.close_band.ensures.closed
+        c.close_band.ensures.stops)

@@ -9,7 +9,8 @@ use Rattle.schedule_rows.specs.Items.{Row}
 use Rattle.schedule_rows.specs.Next.{State, rows_of}
 use Rattle.schedule_rows.specs.Posed.{IsFull, IsLeast, HasNone}
 use Rattle.whole_numbers.specs.Lexicographic as lexicographic
-use Rattle.pluto_systems.specs.Posing.{RuledDep, IsRuled, dep_of, IsBetween, AreVectorsOf, AreSmallVectors, HasPosed, IsTaken, posed_system}
+use Rattle.pluto_systems.specs.Posing.{RuledDep, IsRuled, dep_of, IsBetween, AreVectorsOf, AreSmallVectors, HasPosed}
+use Rattle.pluto_systems.specs.Posing.{IsTaken, posed_system}
 use Rattle.pluto_systems.specs.Placing.{columns_of, row_from}
 use Rattle.pluto_systems.proofs.Rows.{least_row, no_row}
 use Rattle.pluto_search.specs.declared.state.Progress.{Progress}
@@ -18,12 +19,14 @@ use Rattle.pluto_search.specs.Minimum.{IsMinimum, held}
 use Rattle.pluto_search.specs.Questions.{StopsAt, StopsMinimum}
 use Rattle.pluto_search.specs.Steps.{state_of, vectors_in, IsGood, Steps}
 use Rattle.pluto_search.specs.Stopping.{StopsRowsOf}
-use Rattle.pluto_search.proofs.Going.{Vectors, shown, full_is, not_full_is, small_vectors, same_state, good_ruled, are_between}
+use Rattle.pluto_search.proofs.Going.{Vectors, shown, full_is, not_full_is, small_vectors, same_state, good_ruled}
+use Rattle.pluto_search.proofs.Going.{are_between}
 use Rattle.pluto_search.proofs.Halting.{stop_of, stop_at, minimum_stops}
 use Rattle.pluto_search.proofs.next.next_item.Goals as goal
 use Rattle.pluto_search.proofs.next.next_item.Goals.{After-is_full, After-new}
 
-has_at : (m : ℕ) (loops : List ℕ) (budget : ℕ) (q : Progress) (ruled : List RuledDep) (vs : List Vectors) (s : Constraints)
+has_at : (m : ℕ) (loops : List ℕ) (budget : ℕ) (q : Progress) (ruled : List RuledDep) (vs : List Vectors)
+    (s : Constraints)
     → ruled ≡ q.ruled.items → vs ≡ q.vectors.items → q.bare.items ≡ [] → IsGood m loops budget q
     → ((before : List Row) → AreVectorsOf loops before (map shown vs) → HasPosed m loops (map dep_of ruled) before s)
     → HasPosed m loops (state_of q).remaining (rows_of (state_of q)) s
@@ -38,8 +41,10 @@ none_at : (m : ℕ) (loops : List ℕ) (t : State) (s : Constraints) → HasPose
     → s.dimensions ≡ columns_of m loops → IsMinimum s None → HasNone m loops t.remaining (rows_of t)
 none_at m loops t s h d min = no_row m loops t.remaining (rows_of t) s h (λ xs e k. min xs (e ∙ sym d) k)
 
-least_at : (m : ℕ) (loops : List ℕ) (t : State) (s : Constraints) (xs : List ℤ) → HasPosed m loops t.remaining (rows_of t) s
-    → s.dimensions ≡ columns_of m loops → IsMinimum s (Some xs) → IsLeast m loops t.remaining (rows_of t) (row_from m loops xs)
+least_at : (m : ℕ) (loops : List ℕ) (t : State) (s : Constraints) (xs : List ℤ)
+    → HasPosed m loops t.remaining (rows_of t) s
+    → s.dimensions ≡ columns_of m loops → IsMinimum s (Some xs) → IsLeast m loops t.remaining (rows_of t)
+        (row_from m loops xs)
 least_at m loops t s xs h d min =
     least_row m loops t.remaining (rows_of t) s xs h (subst (λ (n : ℕ). lexicographic.IsLeast (IsTaken s) n xs) d min)
 
@@ -47,7 +52,8 @@ more : (c : After-is_full) → c.is_full.result ≡ false → IsFull c.args.loop
 more c e =
     let p = c.args.progress in
     not_full_is c.args.loops.now (rows_of (state_of p)) p c.requires.good.vectors
-    (λ all. c.is_full.ensures.more e (subst (λ (z : List Vectors). All (λ v. v.items ≡ []) z) (sym c.deref.ensures.value) all))
+    (λ all. c.is_full.ensures.more e (subst (λ (z : List Vectors). All (λ v. v.items ≡ []) z)
+        (sym c.deref.ensures.value) all))
 
 -- the state with all rows by Farkas's lemma
 abbrev ruled : After-new → Progress
@@ -67,7 +73,8 @@ pub finish-requires-clause-full : goal.finish-requires-clause-full
 finish-requires-clause-full c =
     let p = c.args.progress in
     full_is c.args.loops.now (rows_of (state_of p)) p c.requires.good.vectors
-    (subst (λ (z : List Vectors). All (λ v. v.items ≡ []) z) c.deref.ensures.value (c.is_full.ensures.full c.if-is_full.true))
+    (subst (λ (z : List Vectors). All (λ v. v.items ≡ []) z) c.deref.ensures.value
+        (c.is_full.ensures.full c.if-is_full.true))
 
 pub returns-in-Err : goal.returns-in-Err
 returns-in-Err c =
@@ -87,7 +94,8 @@ returns-in-Err c =
 pub posed_over-requires-clause-between : goal.posed_over-requires-clause-between
 posed_over-requires-clause-between c =
     let at = (goal.at.posed_over-requires-clause-between c).After-new in
-    subst (λ (z : List RuledDep). (x : RuledDep) → In x z → IsRuled x × IsBetween c.args.parameters c.args.loops.now x.dep) (sym c.deref-2.ensures.value)
+    subst (λ (z : List RuledDep). (x : RuledDep) → In x z → IsRuled x
+        × IsBetween c.args.parameters c.args.loops.now x.dep) (sym c.deref-2.ensures.value)
     (are_between c.args.parameters c.args.loops.now c.args.budget (ruled at) (good at))
 
 pub posed_over-requires-clause-vectors : goal.posed_over-requires-clause-vectors
@@ -111,7 +119,8 @@ lack-requires-clause-none c =
     let loops = c.args.loops.now in
     let q = ruled at in
     let sys = c.in-Ok-posed_over.system in
-    let has = has_at m loops c.args.budget q c.deref-2.result.now c.deref-3.result.now sys c.deref-2.ensures.value c.deref-3.ensures.value
+    let has = has_at m loops c.args.budget q c.deref-2.result.now c.deref-3.result.now sys c.deref-2.ensures.value
+        c.deref-3.ensures.value
     c.new.ensures.items (good at) c.in-Ok-posed_over.ensures.points in
     none_at m loops (state_of q) sys has (ap (λ (z : Constraints). z.dimensions) c.in-Ok-posed_over.ensures.exact)
     (subst (λ f. IsMinimum sys (held f)) c.in-Ok-None.field-0-is c.in-Ok-None.ensures.minimum)
@@ -119,7 +128,8 @@ lack-requires-clause-none c =
 pub lack-requires-clause-posed : goal.lack-requires-clause-posed
 lack-requires-clause-posed c =
     let at = (goal.at.lack-requires-clause-posed c).After-new in
-    has_at c.args.parameters c.args.loops.now c.args.budget (ruled at) c.deref-2.result.now c.deref-3.result.now c.in-Ok-posed_over.system
+    has_at c.args.parameters c.args.loops.now c.args.budget (ruled at) c.deref-2.result.now c.deref-3.result.now
+        c.in-Ok-posed_over.system
     c.deref-2.ensures.value c.deref-3.ensures.value c.new.ensures.items (good at) c.in-Ok-posed_over.ensures.points
 
 pub take-requires-clause-good : goal.take-requires-clause-good
@@ -144,9 +154,11 @@ take-requires-clause-least c =
     let loops = c.args.loops.now in
     let q = ruled at in
     let sys = c.in-Ok-posed_over.system in
-    let has = has_at m loops c.args.budget q c.deref-2.result.now c.deref-3.result.now sys c.deref-2.ensures.value c.deref-3.ensures.value
+    let has = has_at m loops c.args.budget q c.deref-2.result.now c.deref-3.result.now sys c.deref-2.ensures.value
+        c.deref-3.ensures.value
     c.new.ensures.items (good at) c.in-Ok-posed_over.ensures.points in
-    least_at m loops (state_of q) sys c.in-Ok-Some.numbers.items has (ap (λ (z : Constraints). z.dimensions) c.in-Ok-posed_over.ensures.exact)
+    least_at m loops (state_of q) sys c.in-Ok-Some.numbers.items has
+        (ap (λ (z : Constraints). z.dimensions) c.in-Ok-posed_over.ensures.exact)
     (subst (λ f. IsMinimum sys (held f)) c.in-Ok-Some.field-0-is c.in-Ok-Some.ensures.minimum)
 
 pub returns-in-Err-minimum : goal.returns-in-Err-minimum

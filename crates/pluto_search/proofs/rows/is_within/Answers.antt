@@ -26,14 +26,16 @@ small_at ps i p l e h =
 pub returns-then-not-is_small-clause-great : goal.returns-then-not-is_small-clause-great
 returns-then-not-is_small-clause-great c h within =
     c.is_small.ensures.great c.if-not-is_small.true
-    (small_at c.args.row.now.parts.items c.loop-at.at c.index.result.now (omega (arith, c.loop-at-test.true)) c.index.ensures within)
+    (small_at c.args.row.now.parts.items c.loop-at.at c.index.result.now (omega (arith, c.loop-at-test.true))
+        c.index.ensures within)
 
 pub loop-at-preserved : goal.loop-at-preserved
 loop-at-preserved c h =
     let ps = c.args.row.now.parts.items in
     let i = c.loop-at.at in
     let own = c.is_small.ensures.small c.if-not-is_small.false in
-    c.loop-at.invariant (all_next IsSmall ps i c.index.result.now (omega (arith, c.loop-at-test.true)) (subst IsSmall c.index.ensures own) h)
+    c.loop-at.invariant (all_next IsSmall ps i c.index.result.now (omega (arith, c.loop-at-test.true))
+        (subst IsSmall c.index.ensures own) h)
 
 pub returns-clause-within : goal.returns-clause-within
 returns-clause-within c h =

@@ -16,5 +16,6 @@ returns-in-Ok-begin c =
     let taken = c.in-Ok.taken.items in
     let takes = c.in-Ok.ensures.kept in (
       c.in-Ok-begin.ensures.good m c.args.budget (restricts_between m loops [] deps taken c.requires.between takes),
-      subst (λ (s : State). Reached m loops deps s) (sym c.in-Ok-begin.ensures.first) (reached_first m loops deps taken takes),
+      subst (λ (s : State). Reached m loops deps s) (sym c.in-Ok-begin.ensures.first)
+          (reached_first m loops deps taken takes),
     )

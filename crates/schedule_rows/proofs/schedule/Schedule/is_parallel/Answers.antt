@@ -21,7 +21,8 @@ mark_is : (c : After-index) → c.args.item < length c.self.inside.parallel.item
     → slice_get c.args.self.now.parallel c.args.item ≡ Some c.index.result.now
 mark_is c l =
     subst (λ (z : Scheduled). slice_get z.parallel c.args.item ≡ Some c.index.result.now) c.self.view_is
-    (slice_get_read c.self.inside.parallel.items (length c.self.inside.parallel.items) c.args.item c.index.result.now refl l
+    (slice_get_read c.self.inside.parallel.items (length c.self.inside.parallel.items) c.args.item c.index.result.now
+    refl l
     c.index.ensures)
 
 pub index-requires : goal.index-requires

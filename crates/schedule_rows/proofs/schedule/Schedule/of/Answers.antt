@@ -27,12 +27,13 @@ loop-block-preserved c =
       tt,
       tt,
       ap (λ (z : List Item). z ++ items_of rest) gain.items
-      ∙ items_next (map item_of old) (items_of all) b rest
-      (subst (λ (z : List code.the_data). map item_of old ++ items_of (map block_of z) ≡ items_of all) e before.2),
+          ∙ items_next (map item_of old) (items_of all) b rest
+          (subst (λ (z : List code.the_data). map item_of old ++ items_of (map block_of z) ≡ items_of all) e before.2),
       ap (λ (z : List Band). z ++ bands_from (length new) rest) gain.bands
-      ∙ bands_next bands (bands_from 0 all) b rest (length old) (length new) size
-      (subst (λ (z : List code.the_data). bands ++ bands_from (length old) (map block_of z) ≡ bands_from 0 all) e before.3),
+          ∙ bands_next bands (bands_from 0 all) b rest (length old) (length new) size
+          (subst (λ (z : List code.the_data). bands ++ bands_from (length old) (map block_of z) ≡ bands_from 0 all) e
+          before.3),
       ap (λ (z : List Bool). z ++ marks_of rest) gain.parallel
-      ∙ marks_next marks (marks_of all) b rest
-      (subst (λ (z : List code.the_data). marks ++ marks_of (map block_of z) ≡ marks_of all) e before.4),
+          ∙ marks_next marks (marks_of all) b rest
+          (subst (λ (z : List code.the_data). marks ++ marks_of (map block_of z) ≡ marks_of all) e before.4),
     )
