@@ -46,9 +46,12 @@ use Rattle.dataflow.specs.declared.source.SourceStop.TheVariants as stop
 pub stops_here : (model : KernelModel) (budget n : ℕ) (first : Tree) (dep : Dependence) (told : solver.the_data)
     → (why : Stopped) × (solve_run model budget dep ≡ Err why) × TellsStop model budget told why
     → GoesOn model budget n first dep (Err (halt.Stop (stop.Solver told)))
-stops_here model budget n first dep told h = λ deps.
-    (h.0, ap (λ (r : Result Tree Stopped). then_join Later n first r
-        (λ t. sources_run Later n (solve_run model budget) t deps)) h.1, h.2)
+stops_here model budget n first dep told h = λ deps. (
+  h.0,
+  ap (λ (r : Result Tree Stopped). then_join Later n first r
+      (λ t. sources_run Later n (solve_run model budget) t deps)) h.1,
+  h.2,
+)
 
 -- so does a join with too many nodes
 pub joins_too_many : (model : KernelModel) (budget n : ℕ) (first second : Tree) (dep : Dependence) (told : ℕ)

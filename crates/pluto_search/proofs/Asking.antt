@@ -37,7 +37,7 @@ asked s posed = IsPosed s posed × IsSized (variables_in s) s.equalities s.rows
 points : (s : Constraints) (rows : List Affine) (xs : List ℤ) → s.parameters ≡ 0
     → IsSized (variables_in s) s.equalities s.rows → posed_run s ≡ Ok rows → length xs ≡ s.dimensions
     → (IsPoint (problem_of (variables_in s) rows) [] xs → IsTaken s xs)
-        × (IsTaken s xs → IsPoint (problem_of (variables_in s) rows) [] xs)
+    × (IsTaken s xs → IsPoint (problem_of (variables_in s) rows) [] xs)
 points s rows xs flat sized posed size =
     let p = posed_points s rows xs [] sized posed size (sym flat) in
     let same = append-nil xs in (

@@ -24,7 +24,7 @@ all_turned P [] h = h
 all_turned P (x ∷ xs) h =
     subst (All P) (sym (reverse-cons x xs))
     (All-append P (reverse xs) (x ∷ []) (all_turned P xs (All-tail P x xs h))
-        (All-cons P x [] (All-head P x xs h) (All-nil P)))
+    (All-cons P x [] (All-head P x xs h) (All-nil P)))
 
 all_reversed : {X : Type 0} (P : X → Type 0) (xs : List X) → All P (reverse xs) → All P xs
 all_reversed P xs h = subst (All P) (reverse-reverse xs) (all_turned P (reverse xs) h)
@@ -58,7 +58,7 @@ row_small m loops r g =
     let P : ℤ → Type 0 = λ x. pos 0 ≤ℤ x in
     let q = r.row in
     parts_small q.parts (All-tail P q.w (flat_map part_numbers q.parts)
-        (all_back P q.u (q.w ∷ flat_map part_numbers q.parts) g.not_negative)) g.within
+    (all_back P q.u (q.w ∷ flat_map part_numbers q.parts) g.not_negative)) g.within
 
 pub shaped_length : (loops : List ℕ) (ps : List unknowns.Part) → AreShaped loops ps → length ps ≡ length loops
 shaped_length [] [] h = refl
@@ -114,7 +114,7 @@ pub counts_within : (cs : List ℤ) → AreCounts cs → AreCoefficients cs
 counts_within [] h = All-nil (IsWithin (2 ^ 14))
 counts_within (c ∷ cs) h =
     All-cons (IsWithin (2 ^ 14)) c cs (count_within c (All-head IsCount c cs h))
-        (counts_within cs (All-tail IsCount c cs h))
+    (counts_within cs (All-tail IsCount c cs h))
 
 pub narrow_lengths : (cs : List (List ℤ)) (vs : List (List (List ℤ))) → CanNarrowEach cs vs → length cs ≡ length vs
 narrow_lengths [] [] h = refl

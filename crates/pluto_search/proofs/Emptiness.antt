@@ -23,8 +23,11 @@ range_to (p ∷ ps) h =
 range_from : (params : List ℤ) → AreNotNegative params → All (λ z. z ≤ℤ pos 65536) params → InRange params
 range_from [] a b = All-nil (λ z. (pos 0 ≤ℤ z) × (z ≤ℤ pos 65536))
 range_from (p ∷ ps) a b =
-    All-cons (λ z. (pos 0 ≤ℤ z) × (z ≤ℤ pos 65536)) p ps (All-head (λ x. pos 0 ≤ℤ x) p ps a, All-head
-        (λ z. z ≤ℤ pos 65536) p ps b)
+    All-cons (λ z. (pos 0 ≤ℤ z) × (z ≤ℤ pos 65536)) p ps (
+      All-head (λ x. pos 0 ≤ℤ x) p ps a,
+      All-head
+          (λ z. z ≤ℤ pos 65536) p ps b,
+    )
     (range_from ps (All-tail (λ x. pos 0 ≤ℤ x) p ps a) (All-tail (λ z. z ≤ℤ pos 65536) p ps b))
 
 -- no bounded point: no pair
@@ -42,7 +45,7 @@ empty_is m d e i none params x y size r =
       parameters = size ∙ sym e;
       not_negative = (not_negative_all ((x.turns ++ y.turns) ++ params)).1
           (All-append (λ z. pos 0 ≤ℤ z) (x.turns ++ y.turns) params
-              (All-append (λ z. pos 0 ≤ℤ z) x.turns y.turns r.source_from_0 r.target_from_0) k.0);
+          (All-append (λ z. pos 0 ≤ℤ z) x.turns y.turns r.source_from_0 r.target_from_0) k.0);
       bounded = k.1;
       inside = subst (λ (z : List ℤ). Satisfies d.system z) (sym same) (r.equalities, r.rows);
     })
@@ -61,14 +64,14 @@ point_is m d e i h empty =
     let ls = length-take-le n x (omega arith) in
     let ld = length-drop n x in
     let whole : x ++ p ≡ xs ++ (ys ++ p) = ap (λ (w : List ℤ). w ++ p) (sym (take-append-drop n x)) ∙ append_assoc xs ys
-        p in
+    p in
     let nn = (not_negative_all (x ++ p)).0 h.is.not_negative in
     let all = subst (λ (w : List ℤ). AreNotNegative w) whole nn in
     let P : ℤ → Type 0 = λ w. pos 0 ≤ℤ w in
     let back = all_back P xs (ys ++ p) all in
     let inside = subst (λ (w : List ℤ). Satisfies d.system w) whole h.is.inside in
     empty p (record { number = d.source.statement; turns = xs }) (record { number = d.target.statement; turns = ys })
-        (h.is.parameters ∙ e) (record {
+    (h.is.parameters ∙ e) (record {
       range = range_from p (all_back P ys p back) h.is.bounded;
       source = refl;
       target = refl;

@@ -140,9 +140,11 @@ in_front x (y ∷ xs) ys (inr h) = inr (in_front x xs ys h)
 
 pub are_between : (m : ℕ) (loops : List ℕ) (budget : ℕ) (q : Progress) → IsGood m loops budget q → (x : RuledDep)
     → In x q.ruled.items → IsRuled x × IsBetween m loops x.dep
-are_between m loops budget q g x i =
-    (g.ruled x i, (g.between x.dep (in_front x.dep (map dep_of q.ruled.items) q.bare.items
-        (in_map dep_of x q.ruled.items i))).0)
+are_between m loops budget q g x i = (
+  g.ruled x i,
+  (g.between x.dep (in_front x.dep (map dep_of q.ruled.items) q.bare.items
+      (in_map dep_of x q.ruled.items i))).0,
+)
 
 -- one more with its rows
 pub ruled_more : (xs : List RuledDep) (y : RuledDep) → AllRuled xs → IsRuled y → AllRuled (xs ++ y ∷ [])

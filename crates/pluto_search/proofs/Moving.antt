@@ -96,8 +96,21 @@ pub closed_next : (m : ℕ) (loops : List ℕ) (budget : ℕ) (p q : Progress) (
 closed_next m loops budget p q deps g e more none some c =
     let s = state_of p in
     let r = subst (λ (z : List Dependence). Restricts m s.rows z q.bare.items) e c.bare in (
-      inr (more, inr (none, inl (some, (q.bare.items, r, ap (λ z. goes z)
-          (fresh_state q (closed_by s.closed s.rows) c.closed_are c.none_open c.none_ruled))))),
+      inr (
+        more,
+        inr (
+          none,
+          inl (
+            some,
+            (
+              q.bare.items,
+              r,
+              ap (λ z. goes z)
+                  (fresh_state q (closed_by s.closed s.rows) c.closed_are c.none_open c.none_ruled),
+            ),
+          ),
+        ),
+      ),
       fresh m loops budget p q g c.none_open c.none_ruled (ap rows_in c.closed_are ∙ rows_closed s.closed s.rows)
           c.vectors_are
           (restricts_between m loops s.rows s.remaining q.bare.items g.between r),
@@ -184,7 +197,7 @@ narrowed_length_each (c ∷ cs) (v ∷ vs) h = ap suc (narrowed_length_each cs v
 narrowed_at : (ps : List unknowns.Part) (vs : List (List (List ℤ))) (s : ℕ) → length ps ≡ length vs → s < length vs
     → slice_index_or (narrowed_each (map (λ p. p.coefficients) ps) vs) s []
     ≡ narrowed_by (slice_index_or ps s (record { coefficients = []; shift = pos 0 })).coefficients
-        (slice_index_or vs s [])
+    (slice_index_or vs s [])
 narrowed_at [] [] s h l = absurd (omega (arith, l))
 narrowed_at [] (v ∷ vs) s h l = absurd (omega (arith, h))
 narrowed_at (p ∷ ps) [] s h l = absurd (omega (arith, h))
@@ -234,7 +247,7 @@ can_narrow m loops budget p row r five g e good =
     let parts = ap (λ (z : Row). z.parts) e in
     subst (λ (z : List (List ℤ)). CanNarrowEach z (vectors_in p)) (sym (coefficients_are row.parts.items))
     (subst (λ (z : List unknowns.Part). CanNarrowEach (map (λ (p : unknowns.Part). p.coefficients) z) (vectors_in p))
-        (sym parts)
+    (sym parts)
     (can_narrow_from r.row.parts loops (vectors_in p) good.shaped.parts (row_small m loops r good) g.vectors.size five
     (λ s l. subst (λ (z : List (List ℤ)). AreLong (slice_index_or loops s 0) z) (sym (g.vectors.each s l))
     (kernel_long (slice_index_or loops s 0) (coefficients_in rows s)))
@@ -244,14 +257,14 @@ can_narrow m loops budget p row r five g e good =
 
 appended_state : (p q : Progress) (row : code_row.Row) (parallel : Bool) → IsAppended p row parallel q
     → state_of q ≡ state (state_of p).closed ((state_of p).rows ++ record { row = row_of row; parallel = parallel } ∷
-        []) (state_of p).remaining
+    []) (state_of p).remaining
 appended_state p q row parallel a =
     ap (λ z. state (map block_of z) (map marked_of q.rows.items) (map dep_of q.ruled.items ++ q.bare.items)) a.closed
     ∙ (ap (λ z. state (map block_of p.closed.items) (map marked_of z) (map dep_of q.ruled.items ++ q.bare.items)) a.rows
     ∙ (ap (λ z. state (map block_of p.closed.items) z (map dep_of q.ruled.items ++ q.bare.items))
     (map-append marked_of p.rows.items (record { row = row; parallel = parallel } ∷ []))
     ∙ ap₂ (λ x y. state (map block_of p.closed.items) (map marked_of p.rows.items
-        ++ record { row = row_of row; parallel = parallel } ∷ []) (map dep_of x ++ y)) a.ruled a.bare))
+    ++ record { row = row_of row; parallel = parallel } ∷ []) (map dep_of x ++ y)) a.ruled a.bare))
 
 -- the least row is appended
 pub append_next : (m : ℕ) (loops : List ℕ) (budget : ℕ) (p q : Progress) (row : code_row.Row) (r : Marked)
@@ -270,7 +283,7 @@ append_next m loops budget p q row r g e good more least exact a =
     rows_appended s (state_of q) r (ap (λ (z : State). z.closed) is) (ap (λ (z : State). z.rows) is) in
     let parts = ap (λ (z : Row). z.parts) e in
     let vectors : vectors_in q ≡ narrowed_each (map (λ (p : unknowns.Part). p.coefficients) r.row.parts) (vectors_in p)
-        =
+    =
     a.vectors ∙ ap (λ z. narrowed_each z (vectors_in p)) (coefficients_are row.parts.items
     ∙ ap (λ (z : List unknowns.Part). map (λ (p : unknowns.Part). p.coefficients) z) parts) in
     let count = shaped_length loops r.row.parts good.shaped.parts in
@@ -296,11 +309,11 @@ append_next m loops budget p q row r g e good more least exact a =
             (All-append AreCoefficients (coefficients_in rows k) ((part_of r.row k).coefficients ∷ []) (g.small k l)
             (All-cons AreCoefficients (part_of r.row k).coefficients []
             (counts_within (part_of r.row k).coefficients (small_part r.row.parts k
-                (subst (λ (n : ℕ). k < n) (sym count) l) small).0)
+            (subst (λ (n : ℕ). k < n) (sym count) l) small).0)
             (All-nil AreCoefficients))));
         rows = subst (λ (z : List Marked). All (IsGoodRow m loops) z) (sym (ap (λ (z : State). z.rows) is))
             (All-append (IsGoodRow m loops) s.rows (r ∷ []) g.rows (All-cons (IsGoodRow m loops) r [] good
-                (All-nil (IsGoodRow m loops))));
+            (All-nil (IsGoodRow m loops))));
         between = subst (λ (z : State). AreBetween m loops z.remaining) (sym is) g.between;
         ruled = λ x i. g.ruled x (subst (λ (l : List RuledDep). In x l) a.ruled i);
         by_run = subst (λ (l : List RuledDep). AreRuledBy budget l) (sym a.ruled) g.by_run;
@@ -311,8 +324,12 @@ append_next m loops budget p q row r g e good more least exact a =
 pub least_good : (m : ℕ) (loops : List ℕ) (deps : List Dependence) (before : List Row) (r : Marked)
     → IsLeast m loops deps before r.row → IsWithin r.row → IsGoodRow m loops r
 least_good m loops deps before r least within =
-    record { shaped = posed_shape m loops deps before r.row least.posed; not_negative = least.posed.not_negative; within
-        = within }
+    record {
+      shaped = posed_shape m loops deps before r.row least.posed;
+      not_negative = least.posed.not_negative;
+      within
+          = within;
+    }
 
 -- it is parallel exactly where no dependence has a pair at which it rises
 pub exact_mark : (m : ℕ) (loops : List ℕ) (deps : List Dependence) (before : List Row) (r : Marked)
@@ -367,7 +384,7 @@ pub band_steps : (m : ℕ) (loops : List ℕ) (budget : ℕ) (p : Progress) (dep
     → ((state_of p).rows ≡ [] → ⊥)
     → IfOk result (IsClosed m (state_of p).closed (state_of p).rows deps (vectors_in p))
     → IfErr result (IsStop (StopsRestricted m (state_of p).rows budget deps))
-        → Steps m loops budget (state_of p) (going result)
+    → Steps m loops budget (state_of p) (going result)
 band_steps m loops budget p deps (Ok q) g e more none some closed stops = closed_next m loops budget p q deps g e more
     none some closed
 band_steps m loops budget p deps (Err k) g e more none some closed stops =

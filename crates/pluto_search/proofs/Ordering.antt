@@ -59,12 +59,12 @@ pub turns_from_0 : (program : Program) (params : List ℤ) (i : ℕ) (v : Visit)
 turns_from_0 program params i v found h =
     let f = found v (in_get (walk_of program params) i v h) in
     subst (λ (z : List ℤ). AreNotNegative z) (sym (ap (λ (z : Visit). z.turns) f.4))
-        (runs_not_negative f.0.scopes params f.1 f.3)
+    (runs_not_negative f.0.scopes params f.1 f.3)
 
 pub one_model : (program : Program) → IsKernel program
     → ((p q : Placed) → In p (statements_of program) → In q (statements_of program) → p.number ≡ q.number → p ≡ q)
     → ((k : ℕ) (p : Placed) → slice_get (statements_of program) k ≡ Some p → p.number ≡ k)
-        → IsKernelModel (model_of program)
+    → IsKernelModel (model_of program)
 one_model program k same number =
     model_is_one program (length program.parameters) (model_of program).statements k same number refl
 

@@ -9,12 +9,18 @@ pub returns-clause-good : goal.returns-clause-good
 returns-clause-good c m budget between =
     let loops = c.args.loops.now in
     good_first m loops budget
-    (record { closed = c.new.result; rows = c.new-2.result; ruled = c.new-3.result; bare = c.args.taken; vectors =
-        c.in_ok-vectors.vectors })
+    (record {
+      closed = c.new.result;
+      rows = c.new-2.result;
+      ruled = c.new-3.result;
+      bare = c.args.taken;
+      vectors =
+          c.in_ok-vectors.vectors;
+    })
     c.new-2.ensures.items c.new-3.ensures.items
     (ap (λ z. state (map block_of z) (map marked_of c.new-2.result.items)
-        (map dep_of c.new-3.result.items ++ c.args.taken.items)) c.new.ensures.items
+    (map dep_of c.new-3.result.items ++ c.args.taken.items)) c.new.ensures.items
     ∙ (ap (λ z. state [] (map marked_of z) (map dep_of c.new-3.result.items ++ c.args.taken.items))
-        c.new-2.ensures.items
+    c.new-2.ensures.items
     ∙ ap (λ z. state [] [] (map dep_of z ++ c.args.taken.items)) c.new-3.ensures.items))
     c.in_ok-vectors.ensures between

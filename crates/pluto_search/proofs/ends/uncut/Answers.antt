@@ -13,7 +13,7 @@ loop-dep-preserved-then-is_cut c =
     let e = c.in-Some.ensures.steps.0 in
     let before = c.loop-dep.invariant in
     let P : Dependence → Type 0 = λ d. (d.source.statement < length numbers)
-        × (d.target.statement < length numbers) in (
+    × (d.target.statement < length numbers) in (
       tt,
       tt,
       All-tail P d rest (subst (λ (l : List Dependence). All P l) e before.2),
@@ -29,7 +29,7 @@ loop-dep-preserved c =
     let e = c.in-Some.ensures.steps.0 in
     let before = c.loop-dep.invariant in
     let P : Dependence → Type 0 = λ d. (d.source.statement < length numbers)
-        × (d.target.statement < length numbers) in (
+    × (d.target.statement < length numbers) in (
       tt,
       tt,
       All-tail P d rest (subst (λ (l : List Dependence). All P l) e before.2),
@@ -44,4 +44,4 @@ returns c =
     let none = no_more left.items (sym left.ok.0 ∙ c.in-None.ensures.steps.0) in
     passes_last c.args.numbers.now c.loop-dep.kept.items c.args.deps.items
     (subst (λ (l : List Dependence). Passes c.args.numbers.now l c.loop-dep.kept.items c.args.deps.items) none
-        c.loop-dep.invariant.3)
+    c.loop-dep.invariant.3)

@@ -12,7 +12,7 @@ returns c program blocks params i j p kernel size range schedule =
     let loops = loops_in model in
     let deps = conflicts_of model in
     let found = c.conflicts_are_the_points_of_the_systems.ensures.conflicts program params i j p size
-        (range_nested params range) in
+    (range_nested params range) in
     let one = one_model program kernel (c.statements_are_numbered.ensures.same program)
     (c.statements_are_numbered.ensures.number program) in
     let between = all_between model deps (λ d k. c.systems_have_parts.ensures model d one k) refl in
@@ -21,10 +21,10 @@ returns c program blocks params i j p kernel size range schedule =
     let y = turns_from_0 program params j p.later runs p.is_later in
     let pair = pair_of program params found.0 p.earlier p.later p.first p.second range found.1 found.2 found.3 x y in
     values_rise c.full_rank_leaves_only_0.ensures model.parameters loops deps blocks found.0 params p.earlier p.later
-        between
+    between
     schedule found.1.among size pair
     (λ same turns.
     let at = c.walks_are_in_order.ensures.once program params i j p.earlier p.later p.is_earlier p.is_later same turns
-        in
+    in
     let less = p.order in
     absurd (omega arith))

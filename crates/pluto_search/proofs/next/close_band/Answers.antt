@@ -10,7 +10,7 @@ use Rattle.pluto_search.proofs.next.close_band.Goals as goal
 pub restrict_all-requires-clause-tells : goal.restrict_all-requires-clause-tells
 restrict_all-requires-clause-tells c d i =
     subst (λ (z : List code.Marked). All (λ (r : Marked). CanTell c.args.parameters r.row d) (map marked_of z))
-        (sym c.deref.ensures.value)
+    (sym c.deref.ensures.value)
     (c.requires.tells d (subst (λ (l : List Dependence). In d l) c.deref-2.ensures.value i))
 
 pub restrict_all-requires-clause-parameters : goal.restrict_all-requires-clause-parameters

@@ -27,9 +27,9 @@ pub restrict_all-requires-clause-tells : goal.restrict_all-requires-clause-tells
 restrict_all-requires-clause-tells c d i =
     let at = (goal.at.restrict_all-requires-clause-tells c).After-deref-3 in
     subst (λ (z : List code.Marked). All (λ (r : Marked). CanTell c.args.parameters r.row d) (map marked_of z))
-        (sym c.deref-2.ensures.value)
+    (sym c.deref-2.ensures.value)
     (all_can_tell c.args.parameters c.args.loops.now (state_of c.args.progress).rows d c.requires.good.rows
-        (between at d i))
+    (between at d i))
 
 pub restrict_all-requires-clause-parameters : goal.restrict_all-requires-clause-parameters
 restrict_all-requires-clause-parameters c d i =
@@ -40,30 +40,30 @@ kept : (c : After-deref-4) → Restricts c.args.parameters (state_of c.args.prog
     c.deref-4.result.now
 kept c =
     subst (λ (l : List Dependence). Restricts c.args.parameters (state_of c.args.progress).rows c.deref-3.result.now l)
-        (sym c.deref-4.ensures.value)
+    (sym c.deref-4.ensures.value)
     (subst (λ (z : List code.Marked). Restricts c.args.parameters (map marked_of z) c.deref-3.result.now
-        c.in-Ok-restrict_all.left.items)
+    c.in-Ok-restrict_all.left.items)
     c.deref-2.ensures.value c.in-Ok-restrict_all.ensures.kept)
 
 pub end-requires : goal.end-requires
 end-requires c =
     are_within c.args.parameters c.args.loops.now c.deref-4.result.now
     (restricts_between c.args.parameters c.args.loops.now (state_of c.args.progress).rows c.deref-3.result.now
-        c.deref-4.result.now
+    c.deref-4.result.now
     (between (goal.at.end-requires c).After-deref-3) (kept (goal.at.end-requires c).After-deref-4))
 
 pub returns-in-Err-end : goal.returns-in-Err-end
 returns-in-Err-end c =
     end_steps c.args.parameters c.args.loops.now c.args.budget (state_of c.args.progress) c.deref-3.result.now
-        c.deref-4.result.now
+    c.deref-4.result.now
     (map block_of c.in-Ok-close.blocks.items) (Err c.in-Err-end.kept)
-        (left (goal.at.returns-in-Err-end c).After-deref-3) c.requires.full
+    (left (goal.at.returns-in-Err-end c).After-deref-3) c.requires.full
     (kept (goal.at.returns-in-Err-end c).After-deref-4) c.in-Ok-close.ensures c.in-Err-end.ensures
 
 pub returns : goal.returns
 returns c =
     end_steps c.args.parameters c.args.loops.now c.args.budget (state_of c.args.progress) c.deref-3.result.now
-        c.deref-4.result.now
+    c.deref-4.result.now
     (map block_of c.in-Ok-close.blocks.items) (Ok c.in-Ok-end.blocks) (left (goal.at.returns c).After-deref-3)
-        c.requires.full
+    c.requires.full
     (kept (goal.at.returns c).After-deref-4) c.in-Ok-close.ensures c.in-Ok-end.ensures

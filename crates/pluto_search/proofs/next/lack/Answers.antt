@@ -30,9 +30,9 @@ returns-then-is_empty c =
     let none : length p.rows.items ≡ 0 = search rules in
     subst (λ r. Steps c.args.parameters c.args.loops.now c.args.budget (state_of p) r) (sym c.goes.ensures)
     (cut_steps c.args.parameters c.args.loops.now c.args.budget p c.in-Ok.deps.items c.args.posed c.cut.result
-        c.requires.good (left at)
+    c.requires.good (left at)
     c.requires.more c.requires.none (ap (λ (z : List code.Marked). map marked_of z) (no_more p.rows.items none))
-        c.requires.posed c.cut.ensures)
+    c.requires.posed c.cut.ensures)
 
 pub close_band-requires-clause-tells : goal.close_band-requires-clause-tells
 close_band-requires-clause-tells c d i =
@@ -51,6 +51,6 @@ returns c =
     let l = length-map p.rows.items marked_of in
     subst (λ r. Steps c.args.parameters c.args.loops.now c.args.budget (state_of p) r) (sym c.goes-2.ensures)
     (band_steps c.args.parameters c.args.loops.now c.args.budget p c.in-Ok.deps.items c.close_band.result
-        c.requires.good (left at)
+    c.requires.good (left at)
     c.requires.more c.requires.none (λ e. some (let n = ap length e in omega arith)) c.close_band.ensures.closed
-        c.close_band.ensures.stops)
+    c.close_band.ensures.stops)

@@ -44,7 +44,7 @@ none_at m loops t s h d min = no_row m loops t.remaining (rows_of t) s h (λ xs 
 least_at : (m : ℕ) (loops : List ℕ) (t : State) (s : Constraints) (xs : List ℤ)
     → HasPosed m loops t.remaining (rows_of t) s
     → s.dimensions ≡ columns_of m loops → IsMinimum s (Some xs) → IsLeast m loops t.remaining (rows_of t)
-        (row_from m loops xs)
+    (row_from m loops xs)
 least_at m loops t s xs h d min =
     least_row m loops t.remaining (rows_of t) s xs h (subst (λ (n : ℕ). lexicographic.IsLeast (IsTaken s) n xs) d min)
 
@@ -53,7 +53,7 @@ more c e =
     let p = c.args.progress in
     not_full_is c.args.loops.now (rows_of (state_of p)) p c.requires.good.vectors
     (λ all. c.is_full.ensures.more e (subst (λ (z : List Vectors). All (λ v. v.items ≡ []) z)
-        (sym c.deref.ensures.value) all))
+    (sym c.deref.ensures.value) all))
 
 -- the state with all rows by Farkas's lemma
 abbrev ruled : After-new → Progress
@@ -74,7 +74,7 @@ finish-requires-clause-full c =
     let p = c.args.progress in
     full_is c.args.loops.now (rows_of (state_of p)) p c.requires.good.vectors
     (subst (λ (z : List Vectors). All (λ v. v.items ≡ []) z) c.deref.ensures.value
-        (c.is_full.ensures.full c.if-is_full.true))
+    (c.is_full.ensures.full c.if-is_full.true))
 
 pub returns-in-Err : goal.returns-in-Err
 returns-in-Err c =
@@ -95,7 +95,7 @@ pub posed_over-requires-clause-between : goal.posed_over-requires-clause-between
 posed_over-requires-clause-between c =
     let at = (goal.at.posed_over-requires-clause-between c).After-new in
     subst (λ (z : List RuledDep). (x : RuledDep) → In x z → IsRuled x
-        × IsBetween c.args.parameters c.args.loops.now x.dep) (sym c.deref-2.ensures.value)
+    × IsBetween c.args.parameters c.args.loops.now x.dep) (sym c.deref-2.ensures.value)
     (are_between c.args.parameters c.args.loops.now c.args.budget (ruled at) (good at))
 
 pub posed_over-requires-clause-vectors : goal.posed_over-requires-clause-vectors
@@ -120,7 +120,7 @@ lack-requires-clause-none c =
     let q = ruled at in
     let sys = c.in-Ok-posed_over.system in
     let has = has_at m loops c.args.budget q c.deref-2.result.now c.deref-3.result.now sys c.deref-2.ensures.value
-        c.deref-3.ensures.value
+    c.deref-3.ensures.value
     c.new.ensures.items (good at) c.in-Ok-posed_over.ensures.points in
     none_at m loops (state_of q) sys has (ap (λ (z : Constraints). z.dimensions) c.in-Ok-posed_over.ensures.exact)
     (subst (λ f. IsMinimum sys (held f)) c.in-Ok-None.field-0-is c.in-Ok-None.ensures.minimum)
@@ -129,7 +129,7 @@ pub lack-requires-clause-posed : goal.lack-requires-clause-posed
 lack-requires-clause-posed c =
     let at = (goal.at.lack-requires-clause-posed c).After-new in
     has_at c.args.parameters c.args.loops.now c.args.budget (ruled at) c.deref-2.result.now c.deref-3.result.now
-        c.in-Ok-posed_over.system
+    c.in-Ok-posed_over.system
     c.deref-2.ensures.value c.deref-3.ensures.value c.new.ensures.items (good at) c.in-Ok-posed_over.ensures.points
 
 pub take-requires-clause-good : goal.take-requires-clause-good
@@ -155,10 +155,10 @@ take-requires-clause-least c =
     let q = ruled at in
     let sys = c.in-Ok-posed_over.system in
     let has = has_at m loops c.args.budget q c.deref-2.result.now c.deref-3.result.now sys c.deref-2.ensures.value
-        c.deref-3.ensures.value
+    c.deref-3.ensures.value
     c.new.ensures.items (good at) c.in-Ok-posed_over.ensures.points in
     least_at m loops (state_of q) sys c.in-Ok-Some.numbers.items has
-        (ap (λ (z : Constraints). z.dimensions) c.in-Ok-posed_over.ensures.exact)
+    (ap (λ (z : Constraints). z.dimensions) c.in-Ok-posed_over.ensures.exact)
     (subst (λ f. IsMinimum sys (held f)) c.in-Ok-Some.field-0-is c.in-Ok-Some.ensures.minimum)
 
 pub returns-in-Err-minimum : goal.returns-in-Err-minimum

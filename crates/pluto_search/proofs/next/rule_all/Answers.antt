@@ -16,9 +16,9 @@ pub returns-in-Err-clause-stops : goal.returns-in-Err-clause-stops
 returns-in-Err-clause-stops c =
     let d = c.in-Some.dep in
     let i = c.loop-dep.invariant.5 d (subst (λ (l : List Dependence). In d l) (sym c.in-Some.ensures.steps.0)
-        (inl refl)) in
+    (inl refl)) in
     stop_of (StopsRows c.args.budget d) (StopsRowsOf c.args.budget c.args.bare.items) c.by_rows.result
-        (λ stop h. (d, i, h))
+    (λ stop h. (d, i, h))
     (subst (λ (k : kept.the_data). IsStop (StopsRows c.args.budget d) k) (sym c.by_rows.ensures)
     (rows_stop c.args.budget d c.in-Err.stuck c.in-Err.ensures.run))
 

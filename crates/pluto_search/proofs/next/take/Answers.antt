@@ -67,7 +67,7 @@ returns-in-Err-is_parallel c =
     let same = ap (λ (l : List RuledDep). map dep_of l) c.deref-2.ensures.value in
     stop_at m loops budget s c.in-Err-is_parallel.kept
     (stop_of (StopsAbove m r budget (map dep_of c.deref-2.result.now)) (StopsAt m loops budget s)
-        c.in-Err-is_parallel.kept
+    c.in-Err-is_parallel.kept
     (λ stop h. inr (
       c.requires.more,
       inl (

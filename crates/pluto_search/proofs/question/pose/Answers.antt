@@ -18,11 +18,16 @@ returns-in-Err-Wide c =
     let until : FormedUntil w s.equalities rows =
     subst (λ (fs : List Affine). FormedUntil w fs rows) c.equalities.ensures.forms
     (subst (λ (e : FormStop). Forms {U = Unit {0}} (Err e) c.equalities.result.now rows) c.in-Err-Wide.field-0-is
-        c.in-Err-Wide.ensures) in (
+    c.in-Err-Wide.ensures) in (
       w,
       unposed s w rows until,
-      record { unknowns = c.dimensions.ensures ∙ sym (wide_at s c.requires); parameters = refl; rows = until; context =
-          c.new.ensures.items },
+      record {
+        unknowns = c.dimensions.ensures ∙ sym (wide_at s c.requires);
+        parameters = refl;
+        rows = until;
+        context =
+            c.new.ensures.items;
+      },
       refl,
     )
 

@@ -16,7 +16,7 @@ returns-in-Ok-clause-empty c h =
     let same = ap (λ (z : Dependence). z.system) c.dep.view_is in
     empty_is c.args.parameters c.args.dep.now c.requires (subst IsDependence c.dep.view_is c.dep.invariant)
     (subst (λ (s : Constraints). (x p : List ℤ) → IsBoundedPoint s x p → ⊥) same
-        (c.in-Ok.ensures.empty (ap Ok (ap truth h))))
+    (c.in-Ok.ensures.empty (ap Ok (ap truth h))))
 
 pub returns-in-Ok-clause-point : goal.returns-in-Ok-clause-point
 returns-in-Ok-clause-point c h =

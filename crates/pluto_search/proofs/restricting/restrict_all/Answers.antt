@@ -15,7 +15,7 @@ dep_next : (c : After-index-deps-at) → drop c.loop-at.at c.args.deps.now
     ≡ c.index-deps-at.result ∷ drop (c.loop-at.at + 1) c.args.deps.now
 dep_next c =
     next_of c.args.deps.now c.loop-at.at c.index-deps-at.result c.index-deps-at.result
-        (omega (arith, c.loop-at-test.true)) c.index-deps-at.is
+    (omega (arith, c.loop-at-test.true)) c.index-deps-at.is
 
 dep_among : (c : After-index-deps-at) → In c.index-deps-at.result c.args.deps.now
 dep_among c =
@@ -28,7 +28,7 @@ restrict-requires-clause-tells c = c.requires.tells c.index-deps-at.result
 pub restrict-requires-clause-parameters : goal.restrict-requires-clause-parameters
 restrict-requires-clause-parameters c =
     c.requires.parameters c.index-deps-at.result (dep_among (goal.at.restrict-requires-clause-parameters
-        c).After-index-deps-at)
+    c).After-index-deps-at)
 
 pub returns-in-Err-clause-stops : goal.returns-in-Err-clause-stops
 returns-in-Err-clause-stops c =
@@ -37,7 +37,7 @@ returns-in-Err-clause-stops c =
     let d = c.index-deps-at.result in
     let i = dep_among (goal.at.returns-in-Err-clause-stops c).After-index-deps-at in
     stop_of (StopsEmptiness c.args.budget (restricted m rows d)) (StopsRestricted m rows c.args.budget c.args.deps.now)
-        c.in-Err.stopped
+    c.in-Err.stopped
     (λ stop h. (d, i, h)) c.in-Err.ensures
 
 pub loop-at-preserved-in-Ok-None : goal.loop-at-preserved-in-Ok-None
@@ -48,7 +48,7 @@ loop-at-preserved-in-Ok-None c =
     let next = dep_next (goal.at.loop-at-preserved-in-Ok-None c).After-index-deps-at in
     dropped m rows d (drop (c.loop-at.at + 1) c.args.deps.now) c.loop-at.kept.items c.args.deps.now
     (subst (λ (f : Option Dependence). Restrictions m rows c.args.budget d (Ok f)) c.in-Ok-None.field-0-is
-        c.in-Ok-None.ensures)
+    c.in-Ok-None.ensures)
     (subst (λ (l : List Dependence). Leads m rows l c.loop-at.kept.items c.args.deps.now) next c.loop-at.invariant)
 
 pub loop-at-preserved : goal.loop-at-preserved
@@ -59,7 +59,7 @@ loop-at-preserved c =
     let rest = drop (c.loop-at.at + 1) c.args.deps.now in
     let next = dep_next (goal.at.loop-at-preserved c).After-index-deps-at in
     let told = subst (λ (f : Option Dependence). Restrictions m rows c.args.budget d (Ok f)) c.in-Ok-Some.field-0-is
-        c.in-Ok-Some.ensures in
+    c.in-Ok-Some.ensures in
     subst (λ (l : List Dependence). Leads m rows rest l c.args.deps.now) (sym c.in-Ok.ensures.items)
     (held_back m rows d c.in-Ok-Some.dep rest c.loop-at.kept.items c.args.deps.now told.0 told.1
     (subst (λ (l : List Dependence). Leads m rows l c.loop-at.kept.items c.args.deps.now) next c.loop-at.invariant))

@@ -13,14 +13,14 @@ row_next : (c : After-marked-item) → drop c.loop-marked.marked-index c.args.ro
     ≡ c.marked-item.result ∷ drop (c.loop-marked.marked-index + 1) c.args.rows.now
 row_next c =
     next_of c.args.rows.now c.loop-marked.marked-index c.marked-item.result c.marked-item.result
-        (omega (arith, c.loop-marked-test.true)) c.marked-item.is
+    (omega (arith, c.loop-marked-test.true)) c.marked-item.is
 
 pub equal_at-requires : goal.equal_at-requires
 equal_at-requires c =
     let at = (goal.at.equal_at-requires c).After-marked-item in
     all_among c.args.parameters c.args.rows.now c.loop-marked.equal c.marked-item.result c.loop-marked.invariant.1
     (is_among c.args.rows.now (drop (c.loop-marked.marked-index + 1) c.args.rows.now) c.loop-marked.marked-index
-        c.marked-item.result (row_next at))
+    c.marked-item.result (row_next at))
 
 pub loop-marked-preserved : goal.loop-marked-preserved
 loop-marked-preserved c =
@@ -32,7 +32,7 @@ loop-marked-preserved c =
     let r = row_of c.marked-item.result.row in (
       ap (λ (z : Dependence). restricted m rest z) c.in-Ok.ensures
           ∙ (sym (ap (λ (z : List code.Marked). restricted m (map marked_of z) old) (row_next at)) ∙
-              c.loop-marked.invariant.0),
+          c.loop-marked.invariant.0),
       subst (λ (z : Dependence). All (λ (q : Marked). CanTell m q.row z) (map marked_of rows)) (sym c.in-Ok.ensures)
           (all_tell_more m (map marked_of rows) r old c.loop-marked.invariant.1),
     )

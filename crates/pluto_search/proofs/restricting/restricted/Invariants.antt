@@ -7,5 +7,5 @@ use Rattle.pluto_search.proofs.restricting.restricted.Given as goal
 abbrev pub invariant-loop-marked : goal.invariant-loop-marked
 invariant-loop-marked l =
     (restricted l.parameters (map marked_of (drop l.marked-index l.rows)) l.equal
-        ≡ restricted l.parameters (map marked_of l.rows) l.dep)
+    ≡ restricted l.parameters (map marked_of l.rows) l.dep)
     × All (λ r. CanTell l.parameters r.row l.equal) (map marked_of l.rows)

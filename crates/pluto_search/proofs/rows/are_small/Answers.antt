@@ -12,5 +12,5 @@ loop-at-preserved c h =
     let inside : i < length xs = omega (arith, c.loop-at-test.true) in
     let fits : FitsSigned w128 (get_or xs i (pos 0)) = search rules in
     let small : slice_index_or xs i (pos 0) ≤ℤ pos 4096 = let f = c.if-numbers-at-gt4096.false in search (rules, ints)
-        in
+    in
     c.loop-at.invariant (all_next (λ z. z ≤ℤ pos 4096) xs i (pos 0) inside small h)

@@ -18,12 +18,12 @@ asked_next : (c : After-dep) → drop c.loop-at.at c.args.ruled.now ≡ c.index-
     c.args.ruled.now
 asked_next c =
     next_of c.args.ruled.now c.loop-at.at c.index-ruled-at.result c.index-ruled-at.result
-        (omega (arith, c.loop-at-test.true)) c.index-ruled-at.is
+    (omega (arith, c.loop-at-test.true)) c.index-ruled-at.is
 
 asked_among : (c : After-dep) → In c.index-ruled-at.result c.args.ruled.now
 asked_among c =
     is_among c.args.ruled.now (drop (c.loop-at.at + 1) c.args.ruled.now) c.loop-at.at c.index-ruled-at.result
-        (asked_next c)
+    (asked_next c)
 
 pub is_level-requires : goal.is_level-requires
 is_level-requires c =
@@ -39,14 +39,14 @@ returns-in-Err-clause-stops c =
     let i = in_map dep_of x c.args.ruled.now (asked_among (goal.at.returns-in-Err-clause-stops c).After-dep) in
     let j = subst (λ (z : Dependence). In z (map dep_of c.args.ruled.now)) (sym c.dep.ensures) i in
     stop_of (StopsEmptiness c.args.budget (above_at m r d)) (StopsAbove m r c.args.budget (map dep_of c.args.ruled.now))
-        c.in-Err.kept
+    c.in-Err.kept
     (λ stop h. (d, j, h)) c.in-Err.ensures.stops
 
 pub returns-in-Ok-false-clause-carries : goal.returns-in-Ok-false-clause-carries
 returns-in-Ok-false-clause-carries c h =
     let d = c.dep.result.now in
     let i = in_map dep_of c.index-ruled-at.result c.args.ruled.now (asked_among
-        (goal.at.returns-in-Ok-false-clause-carries c).After-dep) in (
+    (goal.at.returns-in-Ok-false-clause-carries c).After-dep) in (
       d,
       subst (λ (z : Dependence). In z (map dep_of c.args.ruled.now)) (sym c.dep.ensures) i,
       c.in-Ok-false.ensures.rises (ap Ok c.in-Ok-false.field-0-test),

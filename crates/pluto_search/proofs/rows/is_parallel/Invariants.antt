@@ -9,5 +9,5 @@ use Rattle.pluto_search.proofs.rows.is_parallel.Given as goal
 abbrev pub invariant-loop-at : goal.invariant-loop-at
 invariant-loop-at l =
     ((d : Dependence) → In d (map dep_of (drop l.at l.ruled)) → IsEmptyDep l.parameters
-        (above_at l.parameters (row_of l.row) d))
+    (above_at l.parameters (row_of l.row) d))
     → (d : Dependence) → In d (map dep_of l.ruled) → IsEmptyDep l.parameters (above_at l.parameters (row_of l.row) d)

@@ -27,7 +27,7 @@ pub returns-then-not-is_small-clause-great : goal.returns-then-not-is_small-clau
 returns-then-not-is_small-clause-great c h within =
     c.is_small.ensures.great c.if-not-is_small.true
     (small_at c.args.row.now.parts.items c.loop-at.at c.index.result.now (omega (arith, c.loop-at-test.true))
-        c.index.ensures within)
+    c.index.ensures within)
 
 pub loop-at-preserved : goal.loop-at-preserved
 loop-at-preserved c h =
@@ -35,7 +35,7 @@ loop-at-preserved c h =
     let i = c.loop-at.at in
     let own = c.is_small.ensures.small c.if-not-is_small.false in
     c.loop-at.invariant (all_next IsSmall ps i c.index.result.now (omega (arith, c.loop-at-test.true))
-        (subst IsSmall c.index.ensures own) h)
+    (subst IsSmall c.index.ensures own) h)
 
 pub returns-clause-within : goal.returns-clause-within
 returns-clause-within c h =

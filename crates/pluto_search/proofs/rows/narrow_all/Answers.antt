@@ -34,24 +34,24 @@ part_next : (c : After-index-vectors-at) → drop c.loop-at.at (map numbers c.ar
 part_next c =
     let e = as_many c.args.row.now.parts.items c.args.vectors.now c.requires in
     mapped_next numbers c.args.row.now.parts.items c.loop-at.at c.index.result.now
-        (let l = c.loop-at-test.true in omega arith) c.index.ensures
+    (let l = c.loop-at-test.true in omega arith) c.index.ensures
 
 vectors_next : (c : After-index-vectors-at) → drop c.loop-at.at (map shown c.args.vectors.now)
     ≡ shown c.index-vectors-at.result ∷ drop (c.loop-at.at + 1) (map shown c.args.vectors.now)
 vectors_next c =
     mapped_next shown c.args.vectors.now c.loop-at.at c.index-vectors-at.result
-        (let l = c.loop-at-test.true in omega arith) c.index-vectors-at.is
+    (let l = c.loop-at-test.true in omega arith) c.index-vectors-at.is
 
 can_next : (c : After-index-vectors-at) → CanNarrow c.index.result.now.coefficients.items
     (shown c.index-vectors-at.result)
     × CanNarrowEach (drop (c.loop-at.at + 1) (map numbers c.args.row.now.parts.items))
-        (drop (c.loop-at.at + 1) (map shown c.args.vectors.now))
+    (drop (c.loop-at.at + 1) (map shown c.args.vectors.now))
 can_next c =
     subst (λ (z : List (List (List ℤ))). CanNarrowEach (c.index.result.now.coefficients.items ∷ drop (c.loop-at.at + 1)
-        (map numbers c.args.row.now.parts.items)) z)
+    (map numbers c.args.row.now.parts.items)) z)
     (vectors_next c)
     (subst (λ (z : List (List ℤ)). CanNarrowEach z (drop c.loop-at.at (map shown c.args.vectors.now))) (part_next c)
-        c.loop-at.invariant.1)
+    c.loop-at.invariant.1)
 
 pub narrow-requires : goal.narrow-requires
 narrow-requires c = (can_next c).0
@@ -62,14 +62,14 @@ loop-at-preserved c =
     let all = c.loop-at.all.items in
     let i = c.loop-at.at in
     let rest = narrowed_each (drop (i + 1) (map numbers c.args.row.now.parts.items))
-        (drop (i + 1) (map shown c.args.vectors.now)) in
+    (drop (i + 1) (map shown c.args.vectors.now)) in
     let next = c.in_ok-next.next in (
       ap (λ (z : List Vectors). map shown z ++ rest) c.in-Ok.ensures.items
           ∙ (ap (λ (z : List (List (List ℤ))). z ++ rest) (map-append shown all (next ∷ []))
           ∙ (append_assoc (map shown all) (shown next ∷ []) rest
           ∙ (ap (λ (z : List (List ℤ)). map shown all ++ (z ∷ rest)) c.in_ok-next.ensures
           ∙ (ap (λ (z : List (List (List ℤ))). map shown all ++ z) (sym
-              (ap₂ narrowed_each (part_next at) (vectors_next at))) ∙ c.loop-at.invariant.0)))),
+          (ap₂ narrowed_each (part_next at) (vectors_next at))) ∙ c.loop-at.invariant.0)))),
       (can_next at).1,
     )
 
@@ -86,4 +86,4 @@ returns c =
     let a = none_left cs i (omega arith) in
     let b = none_left vs i (omega arith) in
     sym (append-nil all) ∙ (ap (λ (z : List (List (List ℤ))). all ++ z) (sym (ap₂ narrowed_each a b)) ∙
-        c.loop-at.invariant.0)
+    c.loop-at.invariant.0)

@@ -6,8 +6,8 @@ abbrev pub invariant-loop-at : goal.invariant-loop-at
 invariant-loop-at l =
     (map (λ vs. map (λ v. v.items) vs.items) l.all.items
     ++ narrowed_each (drop l.at (map (λ p. p.coefficients.items) l.row.parts.items))
-        (drop l.at (map (λ vs. map (λ v. v.items) vs.items) l.vectors))
+    (drop l.at (map (λ vs. map (λ v. v.items) vs.items) l.vectors))
     ≡ narrowed_each (map (λ p. p.coefficients.items) l.row.parts.items)
-        (map (λ vs. map (λ v. v.items) vs.items) l.vectors))
+    (map (λ vs. map (λ v. v.items) vs.items) l.vectors))
     × CanNarrowEach (drop l.at (map (λ p. p.coefficients.items) l.row.parts.items))
-        (drop l.at (map (λ vs. map (λ v. v.items) vs.items) l.vectors))
+    (drop l.at (map (λ vs. map (λ v. v.items) vs.items) l.vectors))

@@ -13,7 +13,7 @@ returns-in-Err c =
 pub returns-in-Err-next_item : goal.returns-in-Err-next_item
 returns-in-Err-next_item c =
     keeps c.args.parameters c.args.loops.now c.args.deps.now c.args.budget (state_of c.loop-kept.progress)
-        c.in-Err-next_item.kept
+    c.in-Err-next_item.kept
     c.loop-kept.invariant.1 c.in-Err-next_item.ensures
 
 pub loop-kept-smaller : goal.loop-kept-smaller
@@ -23,7 +23,7 @@ loop-kept-smaller c =
     let s = state_of c.loop-kept.progress in
     let steps : Steps m loops c.args.budget s (Ok (step.Goes c.in-Ok-Goes.next)) =
     subst (λ r. Steps m loops c.args.budget s r) (c.in-Ok-Goes.is ∙ ap Ok c.in-Ok-Goes.field-0-is) c.next_item.ensures
-        in
+    in
     falls m loops s (state_of c.in-Ok-Goes.next) steps.0
 
 pub loop-kept-preserved : goal.loop-kept-preserved
@@ -33,5 +33,5 @@ loop-kept-preserved c =
     let s = state_of c.loop-kept.progress in
     let steps : Steps m loops c.args.budget s (Ok (step.Goes c.in-Ok-Goes.next)) =
     subst (λ r. Steps m loops c.args.budget s r) (c.in-Ok-Goes.is ∙ ap Ok c.in-Ok-Goes.field-0-is) c.next_item.ensures
-        in
+    in
     (steps.1, reached_more m loops c.args.deps.now s (state_of c.in-Ok-Goes.next) c.loop-kept.invariant.1 steps.0)

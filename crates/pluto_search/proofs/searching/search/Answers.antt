@@ -33,7 +33,7 @@ run-requires-clause-between c =
     let one = kernel c in
     subst (λ (m : ℕ). AreBetween m c.deref.result.now deps) (sym c.parameters-parameters.ensures.parameters)
     (subst (λ (loops : List ℕ). AreBetween model.parameters loops deps)
-        (sym (c.deref.ensures.value ∙ c.in-Ok.ensures.loops))
+    (sym (c.deref.ensures.value ∙ c.in-Ok.ensures.loops))
     (all_between model deps (λ d k. c.systems_have_parts.ensures model d one k) c.requires))
 
 pub of-requires : goal.of-requires
@@ -44,5 +44,5 @@ of-requires c =
     comes_schedule model.parameters (loops_in model) deps blocks
     (subst (λ (m : ℕ). Comes m (loops_in model) deps (ends blocks)) c.parameters-parameters.ensures.parameters
     (subst (λ (loops : List ℕ). Comes c.parameters-parameters.result loops deps (ends blocks))
-        (c.deref.ensures.value ∙ c.in-Ok.ensures.loops)
+    (c.deref.ensures.value ∙ c.in-Ok.ensures.loops)
     c.in-Ok-run.ensures))
