@@ -41,15 +41,15 @@ pub own_order : (v w : Visit) → length v.loops ≡ length v.turns → length w
     → v.loops ≡ w.loops → Before v w → LexLess v.turns w.turns
 own_order v w e f number loops h =
     let c : common v.loops w.loops ≡ length v.turns = subst (λ ls. common v.loops ls ≡ length v.turns) loops
-        (all_common v.loops ∙ e) in
+    (all_common v.loops ∙ e) in
     let same : length v.turns ≡ length w.turns = sym e ∙ (ap length loops ∙ f) in
     let h1 : LexLess (key (length v.turns) v) (key (length v.turns) w) = subst (λ n. LexLess (key n v) (key n w)) c h in
     let a : key (length v.turns) v ≡ v.turns ++ pos v.number ∷ [] = ap (λ us. us ++ pos v.number ∷ [])
-        (take_all_of (length v.turns) v.turns refl) in
+    (take_all_of (length v.turns) v.turns refl) in
     let b : key (length v.turns) w ≡ w.turns ++ pos w.number ∷ [] = ap (λ us. us ++ pos w.number ∷ [])
-        (take_all_of (length v.turns) w.turns (sym same)) in
+    (take_all_of (length v.turns) w.turns (sym same)) in
     let h2 : LexLess (v.turns ++ pos v.number ∷ []) (w.turns ++ pos w.number ∷ []) = subst
-        (λ us. LexLess (v.turns ++ pos v.number ∷ []) us) b (subst (λ us. LexLess us (key (length v.turns) w)) a h1) in
+    (λ us. LexLess (v.turns ++ pos v.number ∷ []) us) b (subst (λ us. LexLess us (key (length v.turns) w)) a h1) in
     decided (LexLess-append v.turns w.turns (pos v.number ∷ []) (pos w.number ∷ []) same h2)
   where
     decided : LexLess v.turns w.turns ⊎ ((v.turns ≡ w.turns) × LexLess (pos v.number ∷ []) (pos w.number ∷ []))
@@ -69,11 +69,11 @@ place_at_most Later visits o i k v w a b number loops h =
     (λ less. omega arith)
     (λ same. omega arith)
     (λ large. absurd (not_both w.turns v.turns (own_order w v (o.loops k w b) (o.loops i v a) (sym number) (sym loops)
-        (o.order k i w v b a large)) h))
+    (o.order k i w v b a large)) h))
 place_at_most Earlier visits o i k v w a b number loops h =
     nat_cases i k
     (λ less. absurd (not_both v.turns w.turns (own_order v w (o.loops i v a) (o.loops k w b) number loops
-        (o.order i k v w a b less)) h))
+    (o.order i k v w a b less)) h))
     (λ same. omega arith)
     (λ large. omega arith)
 
@@ -82,7 +82,7 @@ pub candidate_finds : (way : Way) (visits : List Visit) (number : ℕ) (loops : 
     → IsOrdered visits
     → ((k : ℕ) (v : Visit) → slice_get visits k ≡ Some v → v.number ≡ number → v.loops ≡ loops)
     → ((xs : List ℤ) → Q xs → (k : ℕ) × (v : Visit) × (slice_get visits k ≡ Some v) × (v.number ≡ number) ×
-        (v.turns ≡ xs))
+    (v.turns ≡ xs))
     → IsWanted way number loops Q l → Finds way visits (IsAmong visits number Q) l
 candidate_finds way visits number loops Q initial order own stands wanted = (None, refl, λ k h. wanted h.0.turns h.3)
 candidate_finds way visits number loops Q (found o xs) order own stands wanted =
@@ -95,7 +95,7 @@ candidate_finds way visits number loops Q (found o xs) order own stands wanted =
     let its : v.loops ≡ loops = own k v got number_is in
     let named : found o xs ≡ answer v =
     ap₂ (λ p us. found p us) (wanted.0 ∙ ap₂ (λ (n : ℕ) (ls : List ℕ). Some (source_of n ls)) (sym number_is)
-        (sym its)) (sym turns) in (
+    (sym its)) (sym turns) in (
       Some k,
       (v, got, named),
       (
@@ -109,7 +109,7 @@ candidate_finds way visits number loops Q (found o xs) order own stands wanted =
 pub join_finds : (way : Way) (visits : List Visit) (n : ℕ) (point : List ℤ) (P Q : ℕ → Type 0) (a b : Tree)
     → IsOrdered visits → length point ≡ n → Speaks n a
     → Finds way visits P (value a point) → Finds way visits Q (value b point)
-        → Finds way visits (λ k. P k ⊎ Q k) (value (join way n a b) point)
+    → Finds way visits (λ k. P k ⊎ Q k) (value (join way n a b) point)
 join_finds way visits n point P Q a b order h s f g = (
   better way f.0 g.0,
   subst (λ l. Names visits l (better way f.0 g.0)) (sym (join-value way n a b point h s))
@@ -133,14 +133,14 @@ pub joined_finds : (way : Way) (visits : List Visit) (n : ℕ) (point : List ℤ
     → Finds way visits (λ k. P0 k ⊎ ((c : C) × In c cs × P c k)) (value (joined way n tree_of acc cs) point)
 joined_finds way visits n point C tree_of P [] P0 acc order h s f each =
     same_finds way visits P0 (λ k. P0 k ⊎ ((c : C) × In c [] × P c k)) (value acc point) (λ k p. inl p)
-        (λ k q. elim q [ inl p ↦ p | inr r ↦ absurd r.1 ]) f
+    (λ k q. elim q [ inl p ↦ p | inr r ↦ absurd r.1 ]) f
 joined_finds way visits n point C tree_of P (c ∷ cs) P0 acc order h s f each =
     let own = each c (inl refl) in
     let now = join_finds way visits n point P0 (P c) acc (tree_of c) order h s f own.1 in
     let rest = joined_finds way visits n point C tree_of P cs (λ k. P0 k ⊎ P c k) (join way n acc (tree_of c)) order h
-        (join-speaks way n acc (tree_of c) s own.0) now (λ d i. each d (inr i)) in
+    (join-speaks way n acc (tree_of c) s own.0) now (λ d i. each d (inr i)) in
     same_finds way visits (λ k. (P0 k ⊎ P c k) ⊎ ((d : C) × In d cs × P d k))
-        (λ k. P0 k ⊎ ((d : C) × In d (c ∷ cs) × P d k)) (value (joined way n tree_of acc (c ∷ cs)) point)
+    (λ k. P0 k ⊎ ((d : C) × In d (c ∷ cs) × P d k)) (value (joined way n tree_of acc (c ∷ cs)) point)
     (λ k q. elim q [
       | inl p ↦ elim p [ inl a ↦ inl a | inr b ↦ inr (c, inl refl, b) ]
       | inr r ↦ inr (r.0, inr r.1, r.2)

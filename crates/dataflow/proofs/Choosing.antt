@@ -35,21 +35,21 @@ number_less s t (inr h) = absurd h.1
 second_step : (same : Bool) (c : ℕ) (x y : ℤ) (xs ys : List ℤ) (s t : ℕ) (r : Bool)
     → (LexLess (take c xs ++ pos s ∷ []) (take c ys ++ pos t ∷ []) → r ≡ false)
     → LexLess (take (if same then suc c else 0) (x ∷ xs) ++ pos s ∷ [])
-        (take (if same then suc c else 0) (y ∷ ys) ++ pos t ∷ [])
+    (take (if same then suc c else 0) (y ∷ ys) ++ pos t ∷ [])
     → (if same then by_sign (ahead Later x y) true (by_sign (ahead Later y x) false r) else text Later s t) ≡ false
 second_step false c x y xs ys s t r ih h = text_second s t (number_less s t h)
 second_step true c x y xs ys s t r ih (inl l) =
     by_sign_second (ahead Later x y) true (by_sign (ahead Later y x) false r) (omega (arith, ints))
-        ∙ by_sign_first (ahead Later y x) false r (omega (arith, ints))
+    ∙ by_sign_first (ahead Later y x) false r (omega (arith, ints))
 second_step true c x y xs ys s t r ih (inr h) =
     let e = h.0 in
     by_sign_second (ahead Later x y) true (by_sign (ahead Later y x) false r) (omega (arith, ints))
-        ∙ (by_sign_second (ahead Later y x) false r (omega (arith, ints)) ∙ ih h.1)
+    ∙ (by_sign_second (ahead Later y x) false r (omega (arith, ints)) ∙ ih h.1)
 
 first_step : (same : Bool) (c : ℕ) (x y : ℤ) (xs ys : List ℤ) (s t : ℕ) (r : Bool)
     → (LexLess (take c ys ++ pos t ∷ []) (take c xs ++ pos s ∷ []) → r ≡ true)
     → LexLess (take (if same then suc c else 0) (y ∷ ys) ++ pos t ∷ [])
-        (take (if same then suc c else 0) (x ∷ xs) ++ pos s ∷ [])
+    (take (if same then suc c else 0) (x ∷ xs) ++ pos s ∷ [])
     → (if same then by_sign (ahead Later x y) true (by_sign (ahead Later y x) false r) else text Later s t) ≡ true
 first_step false c x y xs ys s t r ih h = text_first s t (number_less t s h)
 first_step true c x y xs ys s t r ih (inl l) = by_sign_first (ahead Later x y) true (by_sign (ahead Later y x) false r)
@@ -57,31 +57,31 @@ first_step true c x y xs ys s t r ih (inl l) = by_sign_first (ahead Later x y) t
 first_step true c x y xs ys s t r ih (inr h) =
     let e = h.0 in
     by_sign_second (ahead Later x y) true (by_sign (ahead Later y x) false r) (omega (arith, ints))
-        ∙ (by_sign_second (ahead Later y x) false r (omega (arith, ints)) ∙ ih h.1)
+    ∙ (by_sign_second (ahead Later y x) false r (omega (arith, ints)) ∙ ih h.1)
 
 -- where the first comes before the second in the order of the walk, the second stands
 second_stands : (s t : ℕ) (ks ls : List ℕ) (xs ys : List ℤ) → length ks ≡ length xs → length ls ≡ length ys
     → LexLess (take (common ks ls) xs ++ pos s ∷ []) (take (common ks ls) ys ++ pos t ∷ [])
-        → first_stands Later s t ks ls xs ys ≡ false
+    → first_stands Later s t ks ls xs ys ≡ false
 second_stands s t [] ls xs ys e f h = text_second s t (number_less s t h)
 second_stands s t (k ∷ ks) [] xs ys e f h = text_second s t (number_less s t h)
 second_stands s t (k ∷ ks) (l ∷ ls) [] ys e f h = absurd (omega arith)
 second_stands s t (k ∷ ks) (l ∷ ls) (x ∷ xs) [] e f h = absurd (omega arith)
 second_stands s t (k ∷ ks) (l ∷ ls) (x ∷ xs) (y ∷ ys) e f h =
     second_step (nat_eq k l) (common ks ls) x y xs ys s t (first_stands Later s t ks ls xs ys)
-        (second_stands s t ks ls xs ys (omega arith) (omega arith)) h
+    (second_stands s t ks ls xs ys (omega arith) (omega arith)) h
 
 -- and where it comes behind it, the first
 first_wins : (s t : ℕ) (ks ls : List ℕ) (xs ys : List ℤ) → length ks ≡ length xs → length ls ≡ length ys
     → LexLess (take (common ks ls) ys ++ pos t ∷ []) (take (common ks ls) xs ++ pos s ∷ [])
-        → first_stands Later s t ks ls xs ys ≡ true
+    → first_stands Later s t ks ls xs ys ≡ true
 first_wins s t [] ls xs ys e f h = text_first s t (number_less t s h)
 first_wins s t (k ∷ ks) [] xs ys e f h = text_first s t (number_less t s h)
 first_wins s t (k ∷ ks) (l ∷ ls) [] ys e f h = absurd (omega arith)
 first_wins s t (k ∷ ks) (l ∷ ls) (x ∷ xs) [] e f h = absurd (omega arith)
 first_wins s t (k ∷ ks) (l ∷ ls) (x ∷ xs) (y ∷ ys) e f h =
     first_step (nat_eq k l) (common ks ls) x y xs ys s t (first_stands Later s t ks ls xs ys)
-        (first_wins s t ks ls xs ys (omega arith) (omega arith)) h
+    (first_wins s t ks ls xs ys (omega arith) (omega arith)) h
 
 -- the other way is this way with the two exchanged
 nat_eq-comm : (k l : ℕ) → nat_eq k l ≡ nat_eq l k
@@ -100,7 +100,7 @@ mirror s t (k ∷ ks) (l ∷ ls) [] (y ∷ ys) = refl
 mirror s t (k ∷ ks) (l ∷ ls) (x ∷ xs) [] = refl
 mirror s t (k ∷ ks) (l ∷ ls) (x ∷ xs) (y ∷ ys) =
     ap₂ (λ (b r : Bool). if b then by_sign (ahead Later y x) true (by_sign (ahead Later x y) false r)
-        else text Earlier s t) (nat_eq-comm k l) (mirror s t ks ls xs ys)
+    else text Earlier s t) (nat_eq-comm k l) (mirror s t ks ls xs ys)
 
 common-comm : (ks ls : List ℕ) → common ks ls ≡ common ls ks
 common-comm [] [] = refl
@@ -133,8 +133,12 @@ chosen_two Later visits o i k v w a b =
     nat_cases i k
     (λ less. rw (before_second v w lv lw (o.order i k v w a b less), lt_true i k less) (w, b, refl))
     (λ same. let e : v ≡ w = cc in
-    rw (lt_false i k (omega arith)) (v, a, same_either
-        (first_stands Later v.number w.number v.loops w.loops v.turns w.turns) (answer v) (answer w) (ap answer e)))
+    rw (lt_false i k (omega arith)) (
+      v,
+      a,
+      same_either
+          (first_stands Later v.number w.number v.loops w.loops v.turns w.turns) (answer v) (answer w) (ap answer e),
+    ))
     (λ large. rw (behind_first v w lv lw (o.order k i w v b a large), lt_false i k (omega arith)) (v, a, refl))
 chosen_two Earlier visits o i k v w a b =
     let lv = o.loops i v a in
@@ -143,8 +147,12 @@ chosen_two Earlier visits o i k v w a b =
     nat_cases i k
     (λ less. rw (m, behind_first w v lw lv (o.order i k v w a b less), lt_false k i (omega arith)) (v, a, refl))
     (λ same. let e : v ≡ w = cc in
-    rw (lt_false k i (omega arith)) (v, a, same_either
-        (first_stands Earlier v.number w.number v.loops w.loops v.turns w.turns) (answer v) (answer w) (ap answer e)))
+    rw (lt_false k i (omega arith)) (
+      v,
+      a,
+      same_either
+          (first_stands Earlier v.number w.number v.loops w.loops v.turns w.turns) (answer v) (answer w) (ap answer e),
+    ))
     (λ large. rw (m, before_second w v lw lv (o.order k i w v b a large), lt_true k i large) (w, b, refl))
 
 chosen_none : (way : Way) (l : Leaf) → chosen way l initial ≡ l
@@ -159,7 +167,7 @@ chosen_names way visits l m (Some i) None order a b = subst (λ z. Names visits 
 chosen_names way visits l m (Some i) (Some k) order a b =
     subst (λ z. Names visits (chosen way z m) (better way (Some i) (Some k))) (sym a.2)
     (subst (λ z. Names visits (chosen way (answer a.0) z) (better way (Some i) (Some k))) (sym b.2)
-        (chosen_two way visits order i k a.0 b.0 a.1 b.1))
+    (chosen_two way visits order i k a.0 b.0 a.1 b.1))
 
 -- the wanted place of two kinds of places
 pub best_of_two : (way : Way) (P Q : ℕ → Type 0) (o u : Option ℕ) → IsBest way P o → IsBest way Q u
@@ -170,17 +178,37 @@ best_of_two Later P Q (Some i) None a b = (inl a.0, λ k h. elim h [ inl p ↦ a
 best_of_two Earlier P Q (Some i) None a b = (inl a.0, λ k h. elim h [ inl p ↦ a.1 k p | inr q ↦ absurd (b k q) ])
 best_of_two Later P Q (Some i) (Some k) a b =
     nat_cases i k
-    (λ less. rw (lt_true i k less) (inr b.0, λ n h. elim h [ inl p ↦
-        (let c : n ≤ i = a.1 n p in omega arith) | inr q ↦ b.1 n q ]))
-    (λ same. rw (lt_false i k (omega arith)) (inl a.0,
-        λ n h. elim h [ inl p ↦ a.1 n p | inr q ↦ (let c : n ≤ k = b.1 n q in omega arith) ]))
-    (λ large. rw (lt_false i k (omega arith)) (inl a.0,
-        λ n h. elim h [ inl p ↦ a.1 n p | inr q ↦ (let c : n ≤ k = b.1 n q in omega arith) ]))
+    (λ less. rw (lt_true i k less) (
+      inr b.0,
+      λ n h. elim h [
+        | inl p ↦
+            (let c : n ≤ i = a.1 n p in omega arith)
+        | inr q ↦ b.1 n q
+      ],
+    ))
+    (λ same. rw (lt_false i k (omega arith)) (
+      inl a.0,
+      λ n h. elim h [ inl p ↦ a.1 n p | inr q ↦ (let c : n ≤ k = b.1 n q in omega arith) ],
+    ))
+    (λ large. rw (lt_false i k (omega arith)) (
+      inl a.0,
+      λ n h. elim h [ inl p ↦ a.1 n p | inr q ↦ (let c : n ≤ k = b.1 n q in omega arith) ],
+    ))
 best_of_two Earlier P Q (Some i) (Some k) a b =
     nat_cases k i
-    (λ less. rw (lt_true k i less) (inr b.0, λ n h. elim h [ inl p ↦
-        (let c : i ≤ n = a.1 n p in omega arith) | inr q ↦ b.1 n q ]))
-    (λ same. rw (lt_false k i (omega arith)) (inl a.0,
-        λ n h. elim h [ inl p ↦ a.1 n p | inr q ↦ (let c : k ≤ n = b.1 n q in omega arith) ]))
-    (λ large. rw (lt_false k i (omega arith)) (inl a.0,
-        λ n h. elim h [ inl p ↦ a.1 n p | inr q ↦ (let c : k ≤ n = b.1 n q in omega arith) ]))
+    (λ less. rw (lt_true k i less) (
+      inr b.0,
+      λ n h. elim h [
+        | inl p ↦
+            (let c : i ≤ n = a.1 n p in omega arith)
+        | inr q ↦ b.1 n q
+      ],
+    ))
+    (λ same. rw (lt_false k i (omega arith)) (
+      inl a.0,
+      λ n h. elim h [ inl p ↦ a.1 n p | inr q ↦ (let c : k ≤ n = b.1 n q in omega arith) ],
+    ))
+    (λ large. rw (lt_false k i (omega arith)) (
+      inl a.0,
+      λ n h. elim h [ inl p ↦ a.1 n p | inr q ↦ (let c : k ≤ n = b.1 n q in omega arith) ],
+    ))

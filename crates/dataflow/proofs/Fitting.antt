@@ -66,8 +66,11 @@ fitting_is (Ok u) t h = by_fit (leaves_fit leaf_limit u) refl h
   where
     by_fit : (b : Bool) → leaves_fit leaf_limit u ≡ b → (if b then Some u else None) ≡ Some t
         → (◌≡◌ {A = Result Tree Wide} (Ok u) (Ok t)) × LeavesWithin leaf_limit t
-    by_fit true e h = let same : u ≡ t = cc in (ap Ok same, subst (LeavesWithin leaf_limit) same
-        (leaves_within leaf_limit u e))
+    by_fit true e h = let same : u ≡ t = cc in (
+      ap Ok same,
+      subst (LeavesWithin leaf_limit) same
+          (leaves_within leaf_limit u e),
+    )
     by_fit false e h = absurd cc
 
 -- the nodes of a tree, one by one

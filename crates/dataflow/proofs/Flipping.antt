@@ -30,7 +30,7 @@ flip_twice top (x ∷ xs) = let e : top -ℤ (top -ℤ x) ≡ x = omega (arith, 
 pub max_from_min : (top : ℤ) (n : ℕ) (Q P : List ℤ → Type 0) (x : List ℤ) → ((ys : List ℤ) → Q ys → P (flipped top ys))
     → ((ys : List ℤ) → P ys → Q (flipped top ys)) → ((ys : List ℤ) → P ys → length ys ≡ n)
     → P x → ((y : List ℤ) → P y → LexLess y x → ⊥) → Q (flipped top x) ×
-        ((ys : List ℤ) → Q ys → LexLe ys (flipped top x))
+    ((ys : List ℤ) → Q ys → LexLe ys (flipped top x))
 max_from_min top n Q P x to of size inside least = (of x inside, λ ys q. at_most ys (to ys q))
   where
     at_most : (ys : List ℤ) → P (flipped top ys) → LexLe ys (flipped top x)

@@ -89,7 +89,7 @@ pub candidate_of : (program : Program) (w : Visit) (access : ℕ) (d : Dependenc
 candidate_of program w access d h =
     let c = chosen_in (is_candidate w.number access) (conflicts_of (model_of program)) d h in
     let a = first (nat_eq d.target.statement w.number)
-        (if nat_eq d.target.access access then nat_eq d.source.access 0 else false) c.1 in
+    (if nat_eq d.target.access access then nat_eq d.source.access 0 else false) c.1 in
     let b = first (nat_eq d.target.access access) (nat_eq d.source.access 0) a.1 in
     record {
       among = c.0;
@@ -106,9 +106,11 @@ pub of_candidate : (program : Program) (w : Visit) (access : ℕ) (d : Dependenc
     → In d (candidates_of (model_of program) w.number access)
 of_candidate program w access d is =
     in_chosen (is_candidate w.number access) (conflicts_of (model_of program)) d is.among
-    (rw
-        (eq-eqb d.target.statement w.number is.access.statement, eq-eqb d.target.access access is.access.access,
-        eq-eqb d.source.access 0 is.writes) refl)
+    (rw (
+      eq-eqb d.target.statement w.number is.access.statement,
+      eq-eqb d.target.access access is.access.access,
+      eq-eqb d.source.access 0 is.writes,
+    ) refl)
 
 -- forms over all variables
 all-append : (P : Affine → Type 0) (xs ys : List Affine) → All P xs → All P ys → All P (xs ++ ys)
@@ -131,7 +133,7 @@ pub size-below : (most : ℤ) (n j m : ℕ) → All (OfSize n) (all_below most n
 size-below most n j zero = All-nil (OfSize n)
 size-below most n j (suc m) =
     All-cons (OfSize n) (below most n j) (all_below most n (j + 1) m)
-        (length-multiples (negsuc 0) (variable n j).coefficients ∙ size-set n j) (size-below most n (j + 1) m)
+    (length-multiples (negsuc 0) (variable n j).coefficients ∙ size-set n j) (size-below most n (j + 1) m)
 
 size-composed : (f : Affine) (inner : List Affine) (n : ℕ) → All (OfSize n) inner → OfSize n (composed f inner n)
 size-composed f inner n all = length-combination n (form_of (zeros n) f.constant) f.coefficients inner
@@ -163,27 +165,27 @@ posed-speaks s t m dep =
     let all : All (OfSize n) (turned_variables d m e) =
     all-append (OfSize n) (all_below top n 0 d) (variables n (d + m) e ++ variables n d m) (size-below top n 0 d)
     (all-append (OfSize n) (variables n (d + m) e) (variables n d m) (size-variables n (d + m) e)
-        (size-variables n d m)) in
+    (size-variables n d m)) in
     let each : (f : Affine) → OfSize n (turned d m e f) = λ f. size-composed f (turned_variables d m e) n all in
     let es = own (length s.domain.equalities) (length t.domain.equalities) dep.system.equalities in
     let rs = own_rows (length s.domain.rows) (length t.domain.rows) m dep.system.rows in
     rows-append n (flat (map (turned d m e) es)) (map (turned d m e) rs)
-        (rows-flat n (map (turned d m e) es) (rows-mapped n (turned d m e) es each))
-        (rows-mapped n (turned d m e) rs each)
+    (rows-flat n (map (turned d m e) es) (rows-mapped n (turned d m e) es each))
+    (rows-mapped n (turned d m e) rs each)
 
 pub context-speaks : (t : Modelled) (m : ℕ) → RowsSpeak (m + t.domain.dimensions) (posed_context t m)
 context-speaks t m =
     let e = t.domain.dimensions in
     let n = m + e in
     let all : All (OfSize n) (moved_variables m e) = all-append (OfSize n) (variables n m e) (variables n 0 m)
-        (size-variables n m e) (size-variables n 0 m) in
+    (size-variables n m e) (size-variables n 0 m) in
     let each : (f : Affine) → OfSize n (moved m e f) = λ f. size-composed f (moved_variables m e) n all in
     rows-append n (flat (map (moved m e) t.domain.equalities))
-        (map (moved m e) t.domain.rows ++ all_below (pos 65536) n 0 m)
-        (rows-flat n (map (moved m e) t.domain.equalities) (rows-mapped n (moved m e) t.domain.equalities each))
+    (map (moved m e) t.domain.rows ++ all_below (pos 65536) n 0 m)
+    (rows-flat n (map (moved m e) t.domain.equalities) (rows-mapped n (moved m e) t.domain.equalities each))
     (rows-append n (map (moved m e) t.domain.rows) (all_below (pos 65536) n 0 m)
-        (rows-mapped n (moved m e) t.domain.rows each)
-        (rows-all n (all_below (pos 65536) n 0 m) (size-below (pos 65536) n 0 m)))
+    (rows-mapped n (moved m e) t.domain.rows each)
+    (rows-all n (all_below (pos 65536) n 0 m) (size-below (pos 65536) n 0 m)))
 
 -- the answer of a named tree
 abbrev renamed : Source → Leaf → Leaf
@@ -227,11 +229,18 @@ solved_of m budget dep s t tree h = by_run (lexmin_run budget (m + t.domain.dime
     by_map : (t0 : Tree) (left : ℕ) → lexmin_run budget (m + t.domain.dimensions)
         (problem_of s.domain.dimensions (posed_rows s t m dep)) (posed_context t m) ≡ Ok (t0, left)
         → (r : Result Tree Wide) → map_run (all_below top d 0 d) t0 ≡ r → sourced dep s.loops (fitting r) ≡ Ok tree
-            → Solved m budget dep s t tree
+        → Solved m budget dep s t tree
     by_map t0 left run (Err w) e h = absurd cc
     by_map t0 left run (Ok q) e h =
-        record { minimum = t0; left = left; run = run; turned_back = q; mapped = e; is = by_fit
-        (leaves_fit leaf_limit q) q h }
+        record {
+          minimum = t0;
+          left = left;
+          run = run;
+          turned_back = q;
+          mapped = e;
+          is = by_fit
+              (leaves_fit leaf_limit q) q h;
+        }
 
     by_run : (r : Counted Tree) → lexmin_run budget (m + t.domain.dimensions)
         (problem_of s.domain.dimensions (posed_rows s t m dep)) (posed_context t m) ≡ r
@@ -246,7 +255,7 @@ sign_case P (negsuc n) a b h k = k
 
 leaf_value : (number : ℕ) (loops : List ℕ) (d : ℕ) (t : Tree) (p : List ℤ) → LeavesHave d t
     → renamed (source_of number loops) (mapped_leaf (all_below top d 0 d) (value t p)) ≡ turned_leaf number loops
-        (value t p)
+    (value t p)
 leaf_value number loops d initial p h = refl
 leaf_value number loops d (leaf l) p h =
     let x = values_of l.forms p in
@@ -254,7 +263,7 @@ leaf_value number loops d (leaf l) p h =
     ap (found (Some (source_of number loops))) (all_below-values top d 0 d x x (sym long) long (goes_on_last [] x))
 leaf_value number loops d (branch f a b) p h =
     sign_case (λ (l : Leaf). renamed (source_of number loops) (mapped_leaf (all_below top d 0 d) l)
-        ≡ turned_leaf number loops l) (value_of f p) (value a p) (value b p)
+    ≡ turned_leaf number loops l) (value_of f p) (value a p) (value b p)
     (leaf_value number loops d a p h.0) (leaf_value number loops d b p h.1)
 leaf_value number loops d (bind f e x) p h = leaf_value number loops d x (p ++ floor (value_of f p) e ∷ []) h
 
@@ -265,7 +274,7 @@ placed_slot : (program : Program) (p : Placed) → ((k : ℕ) (q : Placed) → s
 placed_slot program p number is =
     let f = place_of (statements_of program) p is in
     let here : slice_get (statements_of program) p.number ≡ Some p = subst
-        (λ (k : ℕ). slice_get (statements_of program) k ≡ Some p) (sym (number f.0 p f.1)) f.1 in
+    (λ (k : ℕ). slice_get (statements_of program) k ≡ Some p) (sym (number f.0 p f.1)) f.1 in
     get_map (modelled (length program.parameters)) (statements_of program) p.number p here
 
 visit_turns : (program : Program) (params : List ℤ) → Laws program params → (j : ℕ) (w : Visit)
@@ -276,21 +285,21 @@ visit_turns program params laws j w got =
     let s = placed_slot program f.0 laws.number f.2 in
     let e = laws.places.walk.turns f.0.scopes params f.1 f.3 in
     subst (λ (u : Visit). length u.turns ≡ turns_in (slice_get (model_of program).statements u.number)) (sym f.4)
-        (e ∙ sym (ap turns_in s))
+    (e ∙ sym (ap turns_in s))
 
 -- a candidate that the run solves is solved
 candidate_solved : (program : Program) (params : List ℤ) (j : ℕ) (w : Visit) (access : ℕ) (c : Cell) (budget : ℕ)
     (dep : Dependence) (tree : Tree)
     → Laws program params → IsKernelModel (model_of program) → length params ≡ length program.parameters
-        → All (λ x. (pos 0 ≤ℤ x) × (x ≤ℤ pos 65536)) params
+    → All (λ x. (pos 0 ≤ℤ x) × (x ≤ℤ pos 65536)) params
     → ((k : ℕ) (u : Visit) → slice_get (walk_of program params) k ≡ Some u
-        → All (λ x. (pos 0 ≤ℤ x) × (x <ℤ pos (2 ^ 46))) u.turns)
+    → All (λ x. (pos 0 ≤ℤ x) × (x <ℤ pos (2 ^ 46))) u.turns)
     → ((t : Modelled) → In t (model_of program).statements → w.number ≡ t.number
-        → (length w.turns ≡ t.domain.dimensions) × Satisfies t.domain (w.turns ++ params))
+    → (length w.turns ≡ t.domain.dimensions) × Satisfies t.domain (w.turns ++ params))
     → TouchesAt program params j w access c → IsCandidate Later program w access dep
-        → solve_run (model_of program) budget dep ≡ Ok tree
+    → solve_run (model_of program) budget dep ≡ Ok tree
     → IsSolved Later program params w (length program.parameters + turns_in
-        (slice_get (model_of program).statements w.number)) (params ++ w.turns) dep tree
+    (slice_get (model_of program).statements w.number)) (params ++ w.turns) dep tree
 unfolding solve_run
 candidate_solved program params j w access c budget dep tree laws model_is count bounds small inside touches cand run =
     let model = model_of program in
@@ -305,31 +314,31 @@ candidate_solved program params j w access c budget dep tree laws model_is count
     let context = context-speaks t m in
     let q = solved.minimum in
     let speaks : Speaks n q = lexmin-speaks budget d n (posed_rows s t m dep)
-        (posed_context t m) q solved.left rows context solved.run in
+    (posed_context t m) q solved.left rows context solved.run in
     let forms : LeavesHave d q = lexmin-forms budget d n (posed_rows s t m dep)
-        (posed_context t m) q solved.left rows context solved.run in
+    (posed_context t m) q solved.left rows context solved.run in
     let slot : slice_get model.statements w.number ≡ Some t = subst
-        (λ (k : ℕ). slice_get model.statements k ≡ Some t) cand.access.statement p.target in
+    (λ (k : ℕ). slice_get model.statements k ≡ Some t) cand.access.statement p.target in
     let same : n ≡ m + turns_in (slice_get model.statements w.number) = ap (λ (o : Option Modelled). m + turns_in o)
-        (sym slot) in
+    (sym slot) in
     let number = dep.source.statement in
     let number_is : w.number ≡ t.number = sym (model_is.places w.number t slot) in
     let dims = inside t (in_statements program dep p) number_is in
     let long : length (params ++ w.turns) ≡ n =
-        (let a = length-append params w.turns in let b = dims.0 in omega arith) in
+    (let a = length-append params w.turns in let b = dims.0 in omega arith) in
     let back = solved.turned_back in
     let value_is : value tree (params ++ w.turns) ≡ turned_leaf number s.loops (value q (params ++ w.turns)) =
     ap (λ (z : Tree). value z (params ++ w.turns)) solved.is
     ∙ (named-value (source_of number s.loops) back (params ++ w.turns)
     ∙ (ap (renamed (source_of number s.loops)) (map_run-value (all_below top d 0 d) q back (params ++ w.turns)
-        (subst (λ (i : ℕ). Speaks i q) (sym long) speaks) solved.mapped)
+    (subst (λ (i : ℕ). Speaks i q) (sym long) speaks) solved.mapped)
     ∙ leaf_value number s.loops d q (params ++ w.turns) forms)) in
     let wanted = minimum_wanted program params j w access c dep p number s.loops q laws count bounds small touches
-        cand dims
+    cand dims
     (λ z size up above.
     subst (λ (i : ℕ). IsAnswer (problem_of d (posed_rows s t i dep)) z (value q z)) (sym count)
     (lexmin-right budget d n (posed_rows s t m dep) (posed_context t m) q solved.left rows context solved.run z
-        (size ∙ ap (λ (i : ℕ). i + t.domain.dimensions) count) up
+    (size ∙ ap (λ (i : ℕ). i + t.domain.dimensions) count) up
     (subst (λ (i : ℕ). NotNegative (row_values (posed_context t i) z)) count above))) in
     record {
       speaks = subst (λ (i : ℕ). Speaks i tree) same (subst (Speaks n) (sym solved.is)
@@ -337,7 +346,7 @@ candidate_solved program params j w access c budget dep tree laws model_is count
           (map_run-speaks (all_below top d 0 d) n q back speaks solved.mapped)));
       wanted =
           subst (λ (ls : List ℕ). IsWanted Later number ls (λ xs. IsPoint program params dep xs w.turns)
-              (value tree (params ++ w.turns))) (sym (ap loops_in p.source))
+          (value tree (params ++ w.turns))) (sym (ap loops_in p.source))
           (subst (IsWanted Later number s.loops (λ xs. IsPoint program params dep xs w.turns)) (sym value_is) wanted);
     }
 
@@ -345,11 +354,11 @@ candidate_solved program params j w access c budget dep tree laws model_is count
 pub resolved_last : (program : Program) (params : List ℤ) (j : ℕ) (w : Visit) (access : ℕ) (c : Cell) (budget : ℕ)
     (u : Tree)
     → Laws program params → IsKernelModel (model_of program) → length params ≡ length program.parameters
-        → All (λ x. (pos 0 ≤ℤ x) × (x ≤ℤ pos 65536)) params
+    → All (λ x. (pos 0 ≤ℤ x) × (x ≤ℤ pos 65536)) params
     → ((k : ℕ) (v : Visit) → slice_get (walk_of program params) k ≡ Some v
-        → All (λ x. (pos 0 ≤ℤ x) × (x <ℤ pos (2 ^ 46))) v.turns)
+    → All (λ x. (pos 0 ≤ℤ x) × (x <ℤ pos (2 ^ 46))) v.turns)
     → ((t : Modelled) → In t (model_of program).statements → w.number ≡ t.number
-        → (length w.turns ≡ t.domain.dimensions) × Satisfies t.domain (w.turns ++ params))
+    → (length w.turns ≡ t.domain.dimensions) × Satisfies t.domain (w.turns ++ params))
     → TouchesAt program params j w access c → last_run (model_of program) budget w.number access ≡ Ok u
     → Names (walk_of program params) (value u (params ++ w.turns)) (last_writer (walk_of program params) j c)
 resolved_last program params j w access c budget u laws model_is count bounds small inside touches run =
@@ -359,15 +368,15 @@ resolved_last program params j w access c budget u laws model_is count bounds sm
     let solve = solve_run model budget in
     let r = run_joined Later n solve deps initial u run in
     let long : length (params ++ w.turns) ≡ n =
-        (let a = length-append params w.turns in let b = visit_turns program params laws j w touches.place in omega
-        arith) in
+    (let a = length-append params w.turns in let b = visit_turns program params laws j w touches.place in omega
+    arith) in
     ap_names (sym r.0)
     (last_is_found program params j w access c n (params ++ w.turns) (λ d. or_initial (solve d)) deps laws count
-        (up_bounded (pos 65536) params bounds) touches long
+    (up_bounded (pos 65536) params bounds) touches long
     (λ d h. of_candidate program w access d h) (λ d h. candidate_of program w access d h)
     (λ d h. candidate_solved program params j w access c budget d
-        (or_initial (solve d)) laws model_is count bounds small inside touches (candidate_of program w access d h)
-        (r.1 d h)))
+    (or_initial (solve d)) laws model_is count bounds small inside touches (candidate_of program w access d h)
+    (r.1 d h)))
   where
     ap_names : {x y : Tree} → x ≡ y → Names (walk_of program params) (value x (params ++ w.turns))
         (last_writer (walk_of program params) j c)

@@ -18,8 +18,11 @@ solved_first : {E : Type 0} (way : Way) (n : ℕ) (acc : Tree) (r : Result Tree 
     (u : Tree) → then_join way n acc r go_on ≡ Ok u
     → (r ≡ Ok (or_initial r)) × (go_on (join way n acc (or_initial r)) ≡ Ok u)
 solved_first way n acc (Err e) go_on u h = absurd cc
-solved_first way n acc (Ok t) go_on u h = (refl, passes (nat_lt 4096 (join_count acc t)) (join_count acc t)
-    (go_on (join way n acc t)) u h)
+solved_first way n acc (Ok t) go_on u h = (
+  refl,
+  passes (nat_lt 4096 (join_count acc t)) (join_count acc t)
+      (go_on (join way n acc t)) u h,
+)
 
 pub run_joined : {C E : Type 0} (way : Way) (n : ℕ) (solve : C → Result Tree E) (cs : List C) (acc u : Tree)
     → sources_run way n solve acc cs ≡ Ok u

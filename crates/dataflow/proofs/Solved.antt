@@ -100,12 +100,18 @@ pub leaf_told : (model : KernelModel) (budget : ℕ) (dep : Dependence) (s t : M
     → solved budget problem ≡ Ok (least, left)
     → fitting (map_run (all_below top s.domain.dimensions 0 s.domain.dimensions) least) ≡ None
     → IsToldAs model budget stop (last.wide_leaf dep) → Solves model budget dep (Err stop)
-leaf_told model budget dep s t problem least left (solver.Wide told moves) is e wide tells =
-    (last.wide_leaf dep, between_is model budget dep s t problem (Ok (least, left)) is e
-        ∙ ap (sourced dep s.loops) wide, tells)
-leaf_told model budget dep s t problem least left (solver.Spent told moves) is e wide tells =
-    (last.wide_leaf dep, between_is model budget dep s t problem (Ok (least, left)) is e
-        ∙ ap (sourced dep s.loops) wide, tells)
+leaf_told model budget dep s t problem least left (solver.Wide told moves) is e wide tells = (
+  last.wide_leaf dep,
+  between_is model budget dep s t problem (Ok (least, left)) is e
+      ∙ ap (sourced dep s.loops) wide,
+  tells,
+)
+leaf_told model budget dep s t problem least left (solver.Spent told moves) is e wide tells = (
+  last.wide_leaf dep,
+  between_is model budget dep s t problem (Ok (least, left)) is e
+      ∙ ap (sourced dep s.loops) wide,
+  tells,
+)
 leaf_told model budget dep s t problem least left solver.NoMemory is e wide tells = tt
 
 -- a quast with its source
@@ -117,7 +123,7 @@ pub found_told : (model : KernelModel) (budget : ℕ) (dep : Dependence) (s t : 
     → quast.parameters ≡ problem.parameters → Solves model budget dep (Ok quast)
 found_told model budget dep s t problem least left greatest quast is e fits name over =
     let f = fitting_is (map_run (all_below top s.domain.dimensions 0 s.domain.dimensions) least)
-        (tree_of greatest) fits in
+    (tree_of greatest) fits in
     let source = source_of dep.source.statement s.loops in (
       between_is model budget dep s t problem (Ok (least, left)) is e
           ∙ (ap (sourced dep s.loops) fits ∙ ap Ok (sym name)),

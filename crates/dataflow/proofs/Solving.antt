@@ -65,7 +65,7 @@ pub posed_is : (program : Program) (dep : Dependence) (p : HasParts (model_of pr
     → m ≡ length program.parameters
     → posed_rows p.from.statement p.to.statement m dep
     ≡ flat (map (turned (loops_of p.from) m (loops_of p.to)) (E1 p.from p.to ++ E3 p.from p.to p.order)) ++ map
-        (turned (loops_of p.from) m (loops_of p.to)) (R1 p.from p.to ++ rows_in p.order.rows)
+    (turned (loops_of p.from) m (loops_of p.to)) (R1 p.from p.to ++ rows_in p.order.rows)
 posed_is program dep p m count =
     let s = p.from in
     let t = p.to in
@@ -76,16 +76,16 @@ posed_is program dep p m count =
     let c = length-map s.statement.domain.rows (source_form (loops_of s) (loops_of t)) in
     let d = length-map t.statement.domain.rows (target_form (loops_of s)) in
     let eqs : own (length s.statement.domain.equalities) (length t.statement.domain.equalities) dep.system.equalities
-        ≡ E1 s t ++ E3 s t p.order =
+    ≡ E1 s t ++ E3 s t p.order =
     ap₂ (λ (i k : ℕ). own i k dep.system.equalities) (sym a) (sym b)
     ∙ (ap (own (length (E1 s t)) (length (E2 s t))) p.equalities ∙ own_is (E1 s t) (E2 s t) (E3 s t p.order)) in
     let rows : own_rows (length s.statement.domain.rows) (length t.statement.domain.rows) m dep.system.rows ≡ R1 s t
-        ++ rows_in p.order.rows =
+    ++ rows_in p.order.rows =
     ap₂ (λ (i k : ℕ). own_rows i k m dep.system.rows) (sym c) (sym d)
     ∙ (ap (λ (i : ℕ). own_rows (length (R1 s t)) (length (R2 s t)) i dep.system.rows)
-        (count ∙ sym (length-variables (pair_size M s t) (loops_of s + loops_of t) M))
+    (count ∙ sym (length-variables (pair_size M s t) (loops_of s + loops_of t) M))
     ∙ (ap (own_rows (length (R1 s t)) (length (R2 s t)) (length (V M s t))) p.rows
-        ∙ own_rows_is (R1 s t) (R2 s t) (rows_in p.order.rows) (V M s t))) in
+    ∙ own_rows_is (R1 s t) (R2 s t) (rows_in p.order.rows) (V M s t))) in
     ap₂ (λ (xs ys : List Affine). flat (map h xs) ++ map h ys) eqs rows
 
 -- the reader's instance: in its domain, over parameters that are not negative
@@ -98,7 +98,7 @@ pub record Reads (params ys : List ℤ) (t : Modelled) : Type 0 where
 pub turned_back : (program : Program) (params ys : List ℤ) (dep : Dependence) (p : HasParts (model_of program) dep)
     → length params ≡ length program.parameters → Reads params ys p.to.statement
     → (xs : List ℤ) → IsProblemPoint (problem_of (loops_of p.from)
-        (posed_rows p.from.statement p.to.statement (length params) dep)) (params ++ ys) xs
+    (posed_rows p.from.statement p.to.statement (length params) dep)) (params ++ ys) xs
     → Satisfies dep.system (flipped top xs ++ (ys ++ params))
 turned_back program params ys dep p count reads xs point =
     let s = p.from in
@@ -110,51 +110,51 @@ turned_back program params ys dep p count reads xs point =
     let x = flipped top xs ++ (ys ++ params) in
     let y = xs ++ (params ++ ys) in
     let same : (f : Affine) → value_of (h f) y ≡ value_of f x =
-        λ f. turned-value d m e xs params ys f point.size refl reads.size in
+    λ f. turned-value d m e xs params ys f point.size refl reads.size in
     let long : length (flipped top xs) ≡ d = length-map xs (λ (z : ℤ). top -ℤ z) ∙ point.size in
     let target : (f : Affine) → value_of (target_form d f) x ≡ value_of f (ys ++ params) = λ f. value_of-target d f
-        (flipped top xs) (ys ++ params) long in
+    (flipped top xs) (ys ++ params) long in
     let rows : Up (flat (map h (E1 s t ++ E3 s t p.order)) ++ map h (R1 s t ++ rows_in p.order.rows)) y =
     subst (λ (fs : List Affine). Up fs y) (posed_is program dep p m count)
-        (rows_up (posed_rows s.statement t.statement m dep) y point.rows) in
+    (rows_up (posed_rows s.statement t.statement m dep) y point.rows) in
     let both = up_parts (flat (map h (E1 s t ++ E3 s t p.order))) (map h (R1 s t ++ rows_in p.order.rows)) y rows in
     let eqs = zero_parts (E1 s t) (E3 s t p.order) x (zero_unmapped h (E1 s t ++ E3 s t p.order) x y same
-        (up_flat (map h (E1 s t ++ E3 s t p.order)) y both.0)) in
+    (up_flat (map h (E1 s t ++ E3 s t p.order)) y both.0)) in
     let ups = up_parts (R1 s t) (rows_in p.order.rows) x
-        (up_unmapped h (R1 s t ++ rows_in p.order.rows) x y same both.1) in
+    (up_unmapped h (R1 s t ++ rows_in p.order.rows) x y same both.1) in
     let e2 : Zero (E2 s t) x = zero_mapped (target_form d) t.statement.domain.equalities (ys ++ params) x target
-        (zero_of_all t.statement.domain.equalities (ys ++ params) reads.holds.0) in
+    (zero_of_all t.statement.domain.equalities (ys ++ params) reads.holds.0) in
     let r2 : Up (R2 s t) x = up_mapped (target_form d) t.statement.domain.rows (ys ++ params) x target
-        (up_of_all t.statement.domain.rows (ys ++ params) reads.holds.1) in
+    (up_of_all t.statement.domain.rows (ys ++ params) reads.holds.1) in
     let M = length program.parameters in
     let size : pair_size M s t ≡ length x = (let a = length-append (flipped top xs)
-        (ys ++ params) in let b = length-append ys params in let c = reads.size in omega arith) in
+    (ys ++ params) in let b = length-append ys params in let c = reads.size in omega arith) in
     let front : length (flipped top xs ++ ys) ≡ d + e =
-        (let a = length-append (flipped top xs) ys in let c = reads.size in omega arith) in
+    (let a = length-append (flipped top xs) ys in let c = reads.size in omega arith) in
     let at : GoesOn x (d + e) params =
     subst (λ (i : ℕ). GoesOn x i params) front
     (subst (λ (z : List ℤ). GoesOn z (length (flipped top xs ++ ys)) params) (append_assoc (flipped top xs) ys params)
-        (goes_on_last (flipped top xs ++ ys) params)) in
+    (goes_on_last (flipped top xs ++ ys) params)) in
     let v : Up (V M s t) x = rows_up (V M s t) x (subst NotNegative
-        (sym (values-variables (pair_size M s t) (d + e) M x params size count at)) reads.up) in (
+    (sym (values-variables (pair_size M s t) (d + e) M x params size count at)) reads.up) in (
       all_of_zero dep.system.equalities x
           (subst (λ (fs : List Affine). Zero fs x) (sym p.equalities)
-              (zero-append (E1 s t) (E2 s t ++ E3 s t p.order) x eqs.0
-              (zero-append (E2 s t) (E3 s t p.order) x e2 eqs.1))),
+          (zero-append (E1 s t) (E2 s t ++ E3 s t p.order) x eqs.0
+          (zero-append (E2 s t) (E3 s t p.order) x e2 eqs.1))),
       all_of_up dep.system.rows x
           (subst (λ (fs : List Affine). Up fs x) (sym p.rows)
           (up-append (R1 s t) (R2 s t ++ (rows_in p.order.rows ++ V M s t)) x ups.0
           (up-append (R2 s t) (rows_in p.order.rows ++ V M s t) x r2
-              (up-append (rows_in p.order.rows) (V M s t) x ups.1 v)))),
+          (up-append (rows_in p.order.rows) (V M s t) x ups.1 v)))),
     )
 
 -- and a point of the system, turned, is one of the problem
 pub turned_to : (program : Program) (params ys : List ℤ) (dep : Dependence) (p : HasParts (model_of program) dep)
     → length params ≡ length program.parameters → length ys ≡ loops_of p.to
     → (xs : List ℤ) → length xs ≡ loops_of p.from → NotNegative (flipped top xs)
-        → Satisfies dep.system (xs ++ (ys ++ params))
+    → Satisfies dep.system (xs ++ (ys ++ params))
     → IsProblemPoint (problem_of (loops_of p.from) (posed_rows p.from.statement p.to.statement (length params) dep))
-        (params ++ ys) (flipped top xs)
+    (params ++ ys) (flipped top xs)
 turned_to program params ys dep p count wide xs size up holds =
     let s = p.from in
     let t = p.to in
@@ -167,23 +167,23 @@ turned_to program params ys dep p count wide xs size up holds =
     let y = zs ++ (params ++ ys) in
     let long : length zs ≡ d = length-map xs (λ (z : ℤ). top -ℤ z) ∙ size in
     let same : (f : Affine) → value_of (h f) y ≡ value_of f x = λ f. turned-value d m e zs params ys f long refl wide
-        ∙ ap (λ (us : List ℤ). value_of f (us ++ (ys ++ params))) (flip_twice top xs) in
+    ∙ ap (λ (us : List ℤ). value_of f (us ++ (ys ++ params))) (flip_twice top xs) in
     let M = length program.parameters in
     let eqs0 = zero_parts (E1 s t) (E2 s t ++ E3 s t p.order) x
-        (subst (λ (fs : List Affine). Zero fs x) p.equalities (zero_of_all dep.system.equalities x holds.0)) in
+    (subst (λ (fs : List Affine). Zero fs x) p.equalities (zero_of_all dep.system.equalities x holds.0)) in
     let eqs1 = zero_parts (E2 s t) (E3 s t p.order) x eqs0.1 in
     let ups0 = up_parts (R1 s t) (R2 s t ++ (rows_in p.order.rows ++ V M s t)) x
-        (subst (λ (fs : List Affine). Up fs x) p.rows (up_of_all dep.system.rows x holds.1)) in
+    (subst (λ (fs : List Affine). Up fs x) p.rows (up_of_all dep.system.rows x holds.1)) in
     let ups1 = up_parts (R2 s t) (rows_in p.order.rows ++ V M s t) x ups0.1 in
     let ups2 = up_parts (rows_in p.order.rows) (V M s t) x ups1.1 in
     let eqs : Zero (map h (E1 s t ++ E3 s t p.order)) y = zero_mapped h (E1 s t ++ E3 s t p.order) x y same
-        (zero-append (E1 s t) (E3 s t p.order) x eqs0.0 eqs1.1) in
+    (zero-append (E1 s t) (E3 s t p.order) x eqs0.0 eqs1.1) in
     let ups : Up (map h (R1 s t ++ rows_in p.order.rows)) y = up_mapped h (R1 s t ++ rows_in p.order.rows) x y same
-        (up-append (R1 s t) (rows_in p.order.rows) x ups0.0 ups2.0) in
+    (up-append (R1 s t) (rows_in p.order.rows) x ups0.0 ups2.0) in
     let all : Up (posed_rows s.statement t.statement m dep) y =
     subst (λ (fs : List Affine). Up fs y) (sym (posed_is program dep p m count))
     (up-append (flat (map h (E1 s t ++ E3 s t p.order))) (map h (R1 s t ++ rows_in p.order.rows)) y
-        (flat_up (map h (E1 s t ++ E3 s t p.order)) y eqs) ups) in
+    (flat_up (map h (E1 s t ++ E3 s t p.order)) y eqs) ups) in
     record { size = long; not_negative = up; rows = up_rows (posed_rows s.statement t.statement m dep) y all }
 
 not_above : (xs : List ℤ) → All (λ x. (pos 0 ≤ℤ x) × (x <ℤ pos (2 ^ 46))) xs → NotNegative (flipped top xs)
@@ -198,11 +198,11 @@ pub answer_wanted : (program : Program) (params : List ℤ) (j : ℕ) (w : Visit
     (p : HasParts (model_of program) dep) (number : ℕ) (loops : List ℕ) (l : Leaf)
     → Laws program params → length params ≡ length program.parameters
     → ((k : ℕ) (u : Visit) → slice_get (walk_of program params) k ≡ Some u
-        → All (λ x. (pos 0 ≤ℤ x) × (x <ℤ pos (2 ^ 46))) u.turns)
+    → All (λ x. (pos 0 ≤ℤ x) × (x <ℤ pos (2 ^ 46))) u.turns)
     → TouchesAt program params j w b c → IsCandidate Later program w b dep → Reads params w.turns p.to.statement
     → dep.source.loops ≡ loops_of p.from → dep.target.loops ≡ loops_of p.to
     → IsAnswer (problem_of (loops_of p.from) (posed_rows p.from.statement p.to.statement (length params) dep))
-        (params ++ w.turns) l
+    (params ++ w.turns) l
     → IsWanted Later number loops (λ xs. IsPoint program params dep xs w.turns) (turned_leaf number loops l)
 answer_wanted program params j w b c dep p number loops l laws count small touches cand reads source target answer =
     by_leaf l answer
@@ -215,7 +215,7 @@ answer_wanted program params j w b c dep p number loops l laws count small touch
     to xs q =
         let r = point_is_writer Later program params j w b c dep xs laws count touches q cand.writes cand.access in
         let up = not_above xs (subst (λ (us : List ℤ). All (λ x. (pos 0 ≤ℤ x) × (x <ℤ pos (2 ^ 46))) us) r.5
-            (small r.0 r.1 r.2)) in
+        (small r.0 r.1 r.2)) in
         turned_to program params w.turns dep p count reads.size xs (q.source ∙ source) up q.holds
 
     of : (xs : List ℤ) → IsProblemPoint problem (params ++ w.turns) xs
@@ -233,7 +233,7 @@ answer_wanted program params j w b c dep p number loops l laws count small touch
     by_leaf initial none = λ xs q. none (flipped top xs) (to xs q)
     by_leaf (found o x) least =
         let m = max_from_min top (loops_of p.from) (λ xs. IsPoint program params dep xs w.turns)
-            (λ xs. IsProblemPoint problem (params ++ w.turns) xs) x to of (λ ys q. q.size) least.inside
+        (λ xs. IsProblemPoint problem (params ++ w.turns) xs) x to of (λ ys q. q.size) least.inside
         (λ ys q less. least.least ys q.size q less) in
         (refl, m.0, m.1)
 
@@ -243,15 +243,19 @@ up_front (x ∷ xs) ys h k = (h.0, up_front xs ys h.1 k)
 
 pub up_bounded : (most : ℤ) (xs : List ℤ) → All (λ x. (pos 0 ≤ℤ x) × (x ≤ℤ most)) xs → NotNegative xs
 up_bounded most [] all = tt
-up_bounded most (x ∷ xs) all =
-    ((All-head (λ (z : ℤ). (pos 0 ≤ℤ z) × (z ≤ℤ most)) x xs all).0, up_bounded most xs
-        (All-tail (λ (z : ℤ). (pos 0 ≤ℤ z) × (z ≤ℤ most)) x xs all))
+up_bounded most (x ∷ xs) all = (
+  (All-head (λ (z : ℤ). (pos 0 ≤ℤ z) × (z ≤ℤ most)) x xs all).0,
+  up_bounded most xs
+      (All-tail (λ (z : ℤ). (pos 0 ≤ℤ z) × (z ≤ℤ most)) x xs all),
+)
 
 up_turns : (xs : List ℤ) → All (λ x. (pos 0 ≤ℤ x) × (x <ℤ pos (2 ^ 46))) xs → NotNegative xs
 up_turns [] all = tt
-up_turns (x ∷ xs) all =
-    ((All-head (λ (z : ℤ). (pos 0 ≤ℤ z) × (z <ℤ pos (2 ^ 46))) x xs all).0, up_turns xs
-        (All-tail (λ (z : ℤ). (pos 0 ≤ℤ z) × (z <ℤ pos (2 ^ 46))) x xs all))
+up_turns (x ∷ xs) all = (
+  (All-head (λ (z : ℤ). (pos 0 ≤ℤ z) × (z <ℤ pos (2 ^ 46))) x xs all).0,
+  up_turns xs
+      (All-tail (λ (z : ℤ). (pos 0 ≤ℤ z) × (z <ℤ pos (2 ^ 46))) x xs all),
+)
 
 -- the context holds at the kernel's parameters and an instance's turns
 pub context_up : (params ys : List ℤ) (t : Modelled) → Reads params ys t
@@ -263,10 +267,10 @@ context_up params ys t reads bounds =
     let x = params ++ ys in
     let h = moved m e in
     let same : (f : Affine) → value_of (h f) x ≡ value_of f (ys ++ params) =
-        λ f. moved-value m e params ys f refl reads.size in
+    λ f. moved-value m e params ys f refl reads.size in
     let size : m + e ≡ length x = (let a = length-append params ys in let c = reads.size in omega arith) in
     let eqs = flat_up (map h t.domain.equalities) x (zero_mapped h t.domain.equalities (ys ++ params) x same
-        (zero_of_all t.domain.equalities (ys ++ params) reads.holds.0)) in
+    (zero_of_all t.domain.equalities (ys ++ params) reads.holds.0)) in
     let rows = up_mapped h t.domain.rows (ys ++ params) x same (up_of_all t.domain.rows (ys ++ params) reads.holds.1) in
     let most = below_up (pos 65536) (m + e) 0 m x params size refl (goes_on [] params ys) bounds in
     up_rows (posed_context t m) x
@@ -277,27 +281,27 @@ context_up params ys t reads bounds =
 pub minimum_wanted : (program : Program) (params : List ℤ) (j : ℕ) (w : Visit) (b : ℕ) (c : Cell) (dep : Dependence)
     (p : HasParts (model_of program) dep) (number : ℕ) (loops : List ℕ) (t : Tree)
     → Laws program params → length params ≡ length program.parameters
-        → All (λ x. (pos 0 ≤ℤ x) × (x ≤ℤ pos 65536)) params
+    → All (λ x. (pos 0 ≤ℤ x) × (x ≤ℤ pos 65536)) params
     → ((k : ℕ) (u : Visit) → slice_get (walk_of program params) k ≡ Some u
-        → All (λ x. (pos 0 ≤ℤ x) × (x <ℤ pos (2 ^ 46))) u.turns)
+    → All (λ x. (pos 0 ≤ℤ x) × (x <ℤ pos (2 ^ 46))) u.turns)
     → TouchesAt program params j w b c → IsCandidate Later program w b dep
     → (length w.turns ≡ p.to.statement.domain.dimensions) × Satisfies p.to.statement.domain (w.turns ++ params)
     → ((q : List ℤ) → length q ≡ length params + loops_of p.to → NotNegative q
-        → NotNegative (row_values (posed_context p.to.statement (length params)) q)
+    → NotNegative (row_values (posed_context p.to.statement (length params)) q)
     → IsAnswer (problem_of (loops_of p.from) (posed_rows p.from.statement p.to.statement (length params) dep)) q
-        (value t q))
+    (value t q))
     → IsWanted Later number loops (λ xs. IsPoint program params dep xs w.turns)
-        (turned_leaf number loops (value t (params ++ w.turns)))
+    (turned_leaf number loops (value t (params ++ w.turns)))
 minimum_wanted program params j w b c dep p number loops t laws count bounds small touches cand inside least =
     let up = up_bounded (pos 65536) params bounds in
     let reads : Reads params w.turns p.to.statement = record { size = inside.0; holds = inside.1; up = up } in
     let long : length (params ++ w.turns) ≡ length params + loops_of p.to =
-        (let a = length-append params w.turns in let e = inside.0 in omega arith) in
+    (let a = length-append params w.turns in let e = inside.0 in omega arith) in
     answer_wanted program params j w b c dep p number loops
-        (value t (params ++ w.turns)) laws count small touches cand reads
+    (value t (params ++ w.turns)) laws count small touches cand reads
     (ap (λ (d : Dependence). d.source.loops) p.is) (ap (λ (d : Dependence). d.target.loops) p.is)
     (least (params ++ w.turns) long (up_front params w.turns up (up_turns w.turns (small j w touches.place)))
-        (context_up params w.turns p.to.statement reads bounds))
+    (context_up params w.turns p.to.statement reads bounds))
 
 pub in_statements : (program : Program) (dep : Dependence) (p : HasParts (model_of program) dep)
     → In p.to.statement (model_of program).statements

@@ -65,8 +65,8 @@ pub writer_is_point : (way : Way) (program : Program) (params : List ℤ) (j k :
     → PlaceLaws program params → length params ≡ length program.parameters → NotNegative params
     → TouchesAt program params j w b c → Writes way (walk_of program params) j c k
     → (dep : Dependence) × (u : Visit) × (slice_get (walk_of program params) k ≡ Some u)
-        × IsWritePoint way program params dep u.turns w.turns × IsEnd (writer_end way dep) u 0 × IsEnd
-        (reader_end way dep) w b
+    × IsWritePoint way program params dep u.turns w.turns × IsEnd (writer_end way dep) u 0 × IsEnd
+    (reader_end way dep) w b
 writer_is_point Later program params j k w b c places count up reads h =
     let u = written_by program params k c (slice_get (walk_of program params) k) refl h.1 in
     let r = conflicts_are_points program params k j
@@ -79,8 +79,15 @@ writer_is_point Later program params j k w b c places count up reads h =
       is_earlier = u.1;
       is_later = reads.place;
       conflict =
-          record { first = u.0.body.place; second = reads.access; is_first = refl; is_second = reads.is_access; writes
-          = inl refl; cell = u.2 ∙ sym reads.cell };
+          record {
+            first = u.0.body.place;
+            second = reads.access;
+            is_first = refl;
+            is_second = reads.is_access;
+            writes
+                = inl refl;
+            cell = u.2 ∙ sym reads.cell;
+          };
     })
     places count up in
     (r.0, u.0, u.1, r.1, r.2, r.3)
@@ -96,8 +103,15 @@ writer_is_point Earlier program params j k w b c places count up reads h =
       is_earlier = reads.place;
       is_later = u.1;
       conflict =
-          record { first = reads.access; second = u.0.body.place; is_first = reads.is_access; is_second = refl; writes
-          = inr refl; cell = reads.cell ∙ sym u.2 };
+          record {
+            first = reads.access;
+            second = u.0.body.place;
+            is_first = reads.is_access;
+            is_second = refl;
+            writes
+                = inr refl;
+            cell = reads.cell ∙ sym u.2;
+          };
     })
     places count up in
     (r.0, u.0, u.1, r.1, r.3, r.2)
@@ -106,9 +120,9 @@ writer_is_point Earlier program params j k w b c places count up reads h =
 pub point_is_writer : (way : Way) (program : Program) (params : List ℤ) (j : ℕ) (w : Visit) (b : ℕ) (c : Cell)
     (dep : Dependence) (xs : List ℤ) → Laws program params → length params ≡ length program.parameters
     → TouchesAt program params j w b c → IsWritePoint way program params dep xs w.turns
-        → (writer_end way dep).access ≡ 0 → IsEnd (reader_end way dep) w b
+    → (writer_end way dep).access ≡ 0 → IsEnd (reader_end way dep) w b
     → (k : ℕ) × (u : Visit) × (slice_get (walk_of program params) k ≡ Some u) × Writes way
-        (walk_of program params) j c k × (u.number ≡ (writer_end way dep).statement) × (u.turns ≡ xs)
+    (walk_of program params) j c k × (u.number ≡ (writer_end way dep).statement) × (u.turns ≡ xs)
 point_is_writer Later program params j w b c dep xs laws count reads point write its =
     let r = points_conflict program params dep xs w.turns laws.places laws.kernel count point in
     let k = r.0 in
@@ -118,26 +132,34 @@ point_is_writer Later program params j w b c dep xs laws count reads point write
     let w' = pair.conflict.later in
     let touch = pair.conflict.conflict in
     let same : j' ≡ j = laws.once j' j w' w pair.conflict.is_later reads.place
-        (sym pair.target.statement ∙ its.statement) pair.target_turns in
+    (sym pair.target.statement ∙ its.statement) pair.target_turns in
     let there : slice_get (walk_of program params) j ≡ Some w' = subst
-        (λ (n : ℕ). slice_get (walk_of program params) n ≡ Some w') same pair.conflict.is_later in
+    (λ (n : ℕ). slice_get (walk_of program params) n ≡ Some w') same pair.conflict.is_later in
     let here = reads.place in
     let visit : w' ≡ w = cc in
     let zeroth : pair.conflict.first ≡ 0 = sym pair.source.access ∙ write in
     let bth : pair.conflict.second ≡ b = sym pair.target.access ∙ its.access in
     let first0 : slice_get (accesses u.body) 0 ≡ Some touch.first = ap (λ (n : ℕ). slice_get (accesses u.body) n)
-        (sym zeroth) ∙ touch.is_first in
+    (sym zeroth) ∙ touch.is_first in
     let first : u.body.place ≡ touch.first = cc in
     let second0 : slice_get (accesses w.body) b ≡ Some touch.second = ap₂
-        (λ (z : Visit) (n : ℕ). slice_get (accesses z.body) n) (sym visit) (sym bth) ∙ touch.is_second in
+    (λ (z : Visit) (n : ℕ). slice_get (accesses z.body) n) (sym visit) (sym bth) ∙ touch.is_second in
     let is_b = reads.is_access in
     let second : touch.second ≡ reads.access = cc in
     let cell : written u ≡ c = ap (λ (f : Access). cell_of f u.point) first
-        ∙ (touch.cell ∙ (ap₂ (λ (f : Access) (z : Visit). cell_of f z.point) second visit ∙ reads.cell)) in
-    let less : k < j = subst (λ (n : ℕ). k < n) same pair.conflict.order in
-    (k, u, pair.conflict.is_earlier,
-        (less, writes_so
-        (walk_of program params) k u c pair.conflict.is_earlier cell), sym pair.source.statement, pair.source_turns)
+    ∙ (touch.cell ∙ (ap₂ (λ (f : Access) (z : Visit). cell_of f z.point) second visit ∙ reads.cell)) in
+    let less : k < j = subst (λ (n : ℕ). k < n) same pair.conflict.order in (
+      k,
+      u,
+      pair.conflict.is_earlier,
+      (
+        less,
+        writes_so
+            (walk_of program params) k u c pair.conflict.is_earlier cell,
+      ),
+      sym pair.source.statement,
+      pair.source_turns,
+    )
 point_is_writer Earlier program params j w b c dep xs laws count reads point write its =
     let r = points_conflict program params dep w.turns xs laws.places laws.kernel count point in
     let j' = r.0 in
@@ -147,26 +169,34 @@ point_is_writer Earlier program params j w b c dep xs laws count reads point wri
     let u = pair.conflict.later in
     let touch = pair.conflict.conflict in
     let same : j' ≡ j = laws.once j' j w' w pair.conflict.is_earlier reads.place
-        (sym pair.source.statement ∙ its.statement) pair.source_turns in
+    (sym pair.source.statement ∙ its.statement) pair.source_turns in
     let there : slice_get (walk_of program params) j ≡ Some w' = subst
-        (λ (n : ℕ). slice_get (walk_of program params) n ≡ Some w') same pair.conflict.is_earlier in
+    (λ (n : ℕ). slice_get (walk_of program params) n ≡ Some w') same pair.conflict.is_earlier in
     let here = reads.place in
     let visit : w' ≡ w = cc in
     let zeroth : pair.conflict.second ≡ 0 = sym pair.target.access ∙ write in
     let bth : pair.conflict.first ≡ b = sym pair.source.access ∙ its.access in
     let first0 : slice_get (accesses u.body) 0 ≡ Some touch.second = ap (λ (n : ℕ). slice_get (accesses u.body) n)
-        (sym zeroth) ∙ touch.is_second in
+    (sym zeroth) ∙ touch.is_second in
     let first : u.body.place ≡ touch.second = cc in
     let second0 : slice_get (accesses w.body) b ≡ Some touch.first = ap₂
-        (λ (z : Visit) (n : ℕ). slice_get (accesses z.body) n) (sym visit) (sym bth) ∙ touch.is_first in
+    (λ (z : Visit) (n : ℕ). slice_get (accesses z.body) n) (sym visit) (sym bth) ∙ touch.is_first in
     let is_b = reads.is_access in
     let second : touch.first ≡ reads.access = cc in
     let cell : written u ≡ c = ap (λ (f : Access). cell_of f u.point) first
-        ∙ (sym touch.cell ∙ (ap₂ (λ (f : Access) (z : Visit). cell_of f z.point) second visit ∙ reads.cell)) in
-    let less : j < k = subst (λ (n : ℕ). n < k) same pair.conflict.order in
-    (k, u, pair.conflict.is_later,
-        (less, writes_so
-        (walk_of program params) k u c pair.conflict.is_later cell), sym pair.target.statement, pair.target_turns)
+    ∙ (sym touch.cell ∙ (ap₂ (λ (f : Access) (z : Visit). cell_of f z.point) second visit ∙ reads.cell)) in
+    let less : j < k = subst (λ (n : ℕ). n < k) same pair.conflict.order in (
+      k,
+      u,
+      pair.conflict.is_later,
+      (
+        less,
+        writes_so
+            (walk_of program params) k u c pair.conflict.is_later cell,
+      ),
+      sym pair.target.statement,
+      pair.target_turns,
+    )
 
 -- the loops round a statement of the text are those of its number in the model
 pub get_map : {A B : Type 0} (h : A → B) (xs : List A) (k : ℕ) (x : A) → slice_get xs k ≡ Some x
@@ -181,7 +211,7 @@ pub placed_loops : (program : Program) (p : Placed) → ((k : ℕ) (q : Placed)
 placed_loops program p number is =
     let f = place_of (statements_of program) p is in
     let here : slice_get (statements_of program) p.number ≡ Some p = subst
-        (λ (k : ℕ). slice_get (statements_of program) k ≡ Some p) (sym (number f.0 p f.1)) f.1 in
+    (λ (k : ℕ). slice_get (statements_of program) k ≡ Some p) (sym (number f.0 p f.1)) f.1 in
     ap loops_in (get_map (modelled (length program.parameters)) (statements_of program) p.number p here)
 
 -- a visit has the loops of its number
@@ -195,7 +225,7 @@ visit_loops program params laws k v got =
 -- a dependence's writing side is a statement of the tree
 side_loops : (way : Way) (program : Program) (params : List ℤ) (dep : Dependence) → Laws program params
     → (k : ℕ) (v : Visit) → slice_get (walk_of program params) k ≡ Some v → v.number ≡ (writer_end way dep).statement
-        → v.loops ≡ loops_round (model_of program) (writer_end way dep).statement
+    → v.loops ≡ loops_round (model_of program) (writer_end way dep).statement
 side_loops way program params dep laws k v got number = visit_loops program params laws k v got
     ∙ ap (loops_round (model_of program)) number
 
@@ -212,18 +242,18 @@ Mine way program params w dep = IsAmong (walk_of program params) (writer_end way
 all_found : (way : Way) (program : Program) (params : List ℤ) (j : ℕ) (w : Visit) (b : ℕ) (c : Cell) (n : ℕ)
     (point : List ℤ) (tree_of : Dependence → Tree) (deps : List Dependence)
     → Laws program params → length params ≡ length program.parameters → NotNegative params
-        → TouchesAt program params j w b c → length point ≡ n
+    → TouchesAt program params j w b c → length point ≡ n
     → ((dep : Dependence) → IsCandidate way program w b dep → In dep deps)
-        → ((dep : Dependence) → In dep deps → IsCandidate way program w b dep)
+    → ((dep : Dependence) → In dep deps → IsCandidate way program w b dep)
     → ((dep : Dependence) → In dep deps → IsSolved way program params w n point dep (tree_of dep))
     → Finds way (walk_of program params) (Writes way (walk_of program params) j c)
-        (value (joined way n tree_of tree.initial deps) point)
+    (value (joined way n tree_of tree.initial deps) point)
 all_found way program params j w b c n point tree_of deps laws count up reads long whole only solved =
     let visits = walk_of program params in
     let ordered = walk_ordered program params laws.places in
     let nothing : Finds way visits (λ k. ⊥) (value tree.initial point) = (None, refl, λ k h. h) in
     let found = joined_finds way visits n point Dependence tree_of (Mine way program params w) deps
-        (λ k. ⊥) tree.initial ordered long tt nothing
+    (λ k. ⊥) tree.initial ordered long tt nothing
     (λ dep h.
     let i = only dep h in
     let s = solved dep h in
@@ -233,11 +263,11 @@ all_found way program params j w b c n point tree_of deps laws count up reads lo
           (λ xs. IsWritePoint way program params dep xs w.turns) (value (tree_of dep) point) ordered
           (side_loops way program params dep laws)
           (λ xs q. let r = point_is_writer way program params j w b c dep xs laws count reads q i.writes i.access in
-              (r.0, r.1, r.2, r.4, r.5))
+          (r.0, r.1, r.2, r.4, r.5))
           s.wanted,
     )) in
     same_finds way visits (λ k. ⊥ ⊎ ((d : Dependence) × In d deps × Mine way program params w d k))
-        (Writes way visits j c) (value (joined way n tree_of tree.initial deps) point)
+    (Writes way visits j c) (value (joined way n tree_of tree.initial deps) point)
     (λ k p. elim p [
       | inl h ↦ absurd h
       | inr q ↦
@@ -250,32 +280,32 @@ all_found way program params j w b c n point tree_of deps laws count up reads lo
     (λ k h.
     let r = writer_is_point way program params j k w b c laws.places count up reads h in
     let candidate : IsCandidate way program w b r.0 =
-        record { among = among_of way program params r.0 r.1.turns w.turns r.3; writes = r.4.access; access = r.5 } in
+    record { among = among_of way program params r.0 r.1.turns w.turns r.3; writes = r.4.access; access = r.5 } in
     inr (r.0, whole r.0 candidate, (r.1, r.2, sym r.4.statement, r.3)))
     found
 
 pub last_is_found : (program : Program) (params : List ℤ) (j : ℕ) (w : Visit) (b : ℕ) (c : Cell) (n : ℕ)
     (point : List ℤ) (tree_of : Dependence → Tree) (deps : List Dependence)
     → Laws program params → length params ≡ length program.parameters → NotNegative params
-        → TouchesAt program params j w b c → length point ≡ n
+    → TouchesAt program params j w b c → length point ≡ n
     → ((dep : Dependence) → IsCandidate Later program w b dep → In dep deps)
-        → ((dep : Dependence) → In dep deps → IsCandidate Later program w b dep)
+    → ((dep : Dependence) → In dep deps → IsCandidate Later program w b dep)
     → ((dep : Dependence) → In dep deps → IsSolved Later program params w n point dep (tree_of dep))
     → Names (walk_of program params) (value (joined Later n tree_of tree.initial deps) point)
-        (last_writer (walk_of program params) j c)
+    (last_writer (walk_of program params) j c)
 last_is_found program params j w b c n point tree_of deps laws count up reads long whole only solved =
     finds_last (walk_of program params) j c (value (joined Later n tree_of tree.initial deps) point)
-        (all_found Later program params j w b c n point tree_of deps laws count up reads long whole only solved)
+    (all_found Later program params j w b c n point tree_of deps laws count up reads long whole only solved)
 
 pub next_is_found : (program : Program) (params : List ℤ) (j : ℕ) (w : Visit) (b : ℕ) (c : Cell) (n : ℕ)
     (point : List ℤ) (tree_of : Dependence → Tree) (deps : List Dependence)
     → Laws program params → length params ≡ length program.parameters → NotNegative params
-        → TouchesAt program params j w b c → length point ≡ n
+    → TouchesAt program params j w b c → length point ≡ n
     → ((dep : Dependence) → IsCandidate Earlier program w b dep → In dep deps)
-        → ((dep : Dependence) → In dep deps → IsCandidate Earlier program w b dep)
+    → ((dep : Dependence) → In dep deps → IsCandidate Earlier program w b dep)
     → ((dep : Dependence) → In dep deps → IsSolved Earlier program params w n point dep (tree_of dep))
     → Names (walk_of program params) (value (joined Earlier n tree_of tree.initial deps) point)
-        (next_writer (walk_of program params) j c)
+    (next_writer (walk_of program params) j c)
 next_is_found program params j w b c n point tree_of deps laws count up reads long whole only solved =
     finds_next (walk_of program params) j c (value (joined Earlier n tree_of tree.initial deps) point)
-        (all_found Earlier program params j w b c n point tree_of deps laws count up reads long whole only solved)
+    (all_found Earlier program params j w b c n point tree_of deps laws count up reads long whole only solved)
