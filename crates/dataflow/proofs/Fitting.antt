@@ -101,11 +101,6 @@ nodes_fit-written most (bind f d x) =
     nodes_fit-append most (written x) (node.Bind f d ∷ [])
     ∙ (last_fits (nodes_fit most (written x)) ∙ nodes_fit-written most x)
 
--- a list of numbers or forms is as its head and its rest are
-pub rest_fits : (b c d : Bool) → b ≡ true → (if b then c else false) ≡ d → c ≡ d
-rest_fits true c d h e = e
-rest_fits false c d h e = absurd cc
-
 -- the forms of a map suit a tree whose leaves have as many
 pub suits_below : (most : ℤ) (d : ℕ) (t : Tree) → LeavesHave d t → Suits (all_below most d 0 d) t
 suits_below most d initial h = tt

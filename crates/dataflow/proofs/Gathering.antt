@@ -6,7 +6,6 @@ use Rattle.std.proofs.Common.{append_assoc, add-one, drop-cons, inl, inr}
 use Rattle.std.specs.Prelude.{slice_get, nat_eq, nat_lt, if◌then◌else◌}
 use Rattle.std.proofs.lemmas.Bool.{eqb-true}
 use Rattle.std.proofs.lemmas.List.{append-nil}
-use Rattle.pip_solver.specs.declared.stop.Stop.TheVariants as solver
 use Rattle.quast_trees.specs.Tree.{Tree, initial}
 use Rattle.quast_trees.specs.Postfix.{Postfix, tree_of}
 use Rattle.quast_joins.specs.Joins.{join}
@@ -30,7 +29,7 @@ use Rattle.iteration_domains.specs.Sizes.{IsKernelModel}
 use Rattle.iteration_domains.proofs.Placing.{model_is_one}
 use Rattle.conflict_deps.specs.Pairs.{TouchesAt}
 use Rattle.iteration_domains.specs.Dependence.{Dependence}
-use Rattle.dataflow.specs.Answers.{TellsStop, Unresolves, IsSourceOf, AreSources, reads_from, reads_in}
+use Rattle.dataflow.specs.Answers.{IsSourceOf, AreSources, reads_from, reads_in}
 use Rattle.dataflow.specs.Answers.{reads_of_statement, reads_of, NameLastWriters}
 use Rattle.dataflow.specs.Places.{Names}
 use Rattle.dataflow.specs.LastRuns.{Stopped, last_run, solve_run, is_candidate, chosen_deps, turns_in, read_variables}
@@ -39,21 +38,9 @@ use Rattle.dataflow.specs.Steps.{IsJoinable, GoesOn, GainsSources}
 use Rattle.dataflow.specs.declared.reads.Halted.TheVariants as halt
 use Rattle.dataflow.specs.declared.source.ReadSource.{ReadSource}
 use Rattle.dataflow.specs.declared.source.ReadSource.TheVariants as source
-use Rattle.dataflow.specs.declared.source.SourceStop.{SourceStop}
 use Rattle.dataflow.specs.declared.source.SourceStop.TheVariants as stop
 
--- the stop of a candidate's problem ends the run
-pub stops_here : (model : KernelModel) (budget n : ℕ) (first : Tree) (dep : Dependence) (told : solver.the_data)
-    → (why : Stopped) × (solve_run model budget dep ≡ Err why) × TellsStop model budget told why
-    → GoesOn model budget n first dep (Err (halt.Stop (stop.Solver told)))
-stops_here model budget n first dep told h = λ deps. (
-  h.0,
-  ap (λ (r : Result Tree Stopped). then_join Later n first r
-      (λ t. sources_run Later n (solve_run model budget) t deps)) h.1,
-  h.2,
-)
-
--- so does a join with too many nodes
+-- a join with too many nodes ends the run
 pub joins_too_many : (model : KernelModel) (budget n : ℕ) (first second : Tree) (dep : Dependence) (told : ℕ)
     → solve_run model budget dep ≡ Ok second → node_limit < join_count first second
     → told ≡ capped most_told (join_count first second)
@@ -184,24 +171,6 @@ run_past model budget statement access deps i found dep r here h is =
       run = ap (sources_run Later (read_variables model statement) (solve_run model budget) (tree_of found))
           (sym (left_out (is_candidate statement access) deps i dep here h is)) ∙ r.run;
     }
-
--- a candidate that stops
-pub run_stops : (model : KernelModel) (budget statement access : ℕ) (deps : List Dependence) (i : ℕ) (found : Postfix)
-    (dep : Dependence) (told : SourceStop) → Running model budget statement access deps i found
-    → dep ≡ get_or deps i dep → i < length deps → is_candidate statement access dep ≡ true
-    → GoesOn model budget (read_variables model dep.target.statement) (tree_of found) dep (Err (halt.Stop told))
-    → Unresolves model budget told
-    (sources_run Later (read_variables model statement) (solve_run model budget) initial
-    (chosen_deps (is_candidate statement access) deps))
-run_stops model budget statement access deps i found dep told r here h is goes =
-    let n = read_variables model statement in
-    let test = is_candidate statement access in
-    let on : GoesOn model budget n (tree_of found) dep (Err (halt.Stop told)) =
-    subst (λ (k : ℕ). GoesOn model budget (read_variables model k) (tree_of found) dep (Err (halt.Stop told)))
-    (reader_is statement access dep is) goes in
-    subst (Unresolves model budget told)
-    (ap (sources_run Later n (solve_run model budget) (tree_of found)) (sym (taken test deps i dep here h is)) ∙ r.run)
-    (on (chosen_deps test (drop (i + 1) deps)))
 
 -- sources of the first reads, and those that are left
 pub record Gathered (model : KernelModel) (budget : ℕ) (whole rest : List (ℕ × ℕ))

@@ -19,7 +19,7 @@ use Rattle.affine_forms.specs.Runs.{map_run, multiplied_run, scaled_run}
 use Rattle.iteration_domains.specs.Rows.{variable, variables}
 use Rattle.iteration_domains.specs.Sizes.{size, form_size, CanCompose}
 use Rattle.iteration_domains.proofs.Sizes.{size-composed}
-use Rattle.dataflow.specs.Problems.{below, all_below, flat, own, own_rows}
+use Rattle.dataflow.specs.Problems.{below, all_below, flat, own}
 
 -- the opposite of a unit
 opposite_zeros : (n : ℕ) → multiples (negsuc 0) (zeros n) ≡ zeros n
@@ -139,15 +139,3 @@ equalities_put h fs a b start first second one two =
     ∙ ap (λ (us : List Affine). start ++ us)
     (sym (ap flat (map-append h (take a fs) (drop (a + b) fs))
     ∙ flat-append (map h (take a fs)) (map h (drop (a + b) fs))))))
-
--- and its rows but some
-pub rows_put : (h : Affine → Affine) (fs : List Affine) (a b m : ℕ) (start first second : List Affine)
-    → first ≡ start ++ map h (take a fs)
-    → second ≡ first ++ map h (take ((length fs - m) - (a + b)) (drop (a + b) fs))
-    → second ≡ start ++ map h (own_rows a b m fs)
-rows_put h fs a b m start first second one two =
-    let e : (length fs - m) - (a + b) ≡ length fs - (a + b) - m = omega arith in
-    let rest = take (length fs - (a + b) - m) (drop (a + b) fs) in
-    two ∙ (ap₂ (λ (us : List Affine) (n : ℕ). us ++ map h (take n (drop (a + b) fs))) one e
-    ∙ (append_assoc start (map h (take a fs)) (map h rest)
-    ∙ ap (λ (us : List Affine). start ++ us) (sym (map-append h (take a fs) rest))))

@@ -1,7 +1,8 @@
-use Rattle.std.proofs.Common.{rules, ◌≡◌, ◌+◌, ◌-◌, ◌∙◌, All, ap, drop, length}
+use Rattle.std.proofs.Common.{◌+◌, ◌-◌, ◌∙◌, All, ap, drop, length}
 use Rattle.std.proofs.lemmas.List.Elements.{All-take, All-drop}
 use Rattle.whole_numbers.specs.Affine.{Affine}
 use Rattle.integer_sets.specs.Constraints.{Constraints}
+use Rattle.iteration_domains.specs.Dependence.{Dependence}
 use Rattle.iteration_domains.specs.Sizes.{CanCompose}
 use Rattle.dataflow.proofs.Posable.{own_can, own_put}
 use Rattle.dataflow.proofs.problem.push_own_equalities.Goals as goal
@@ -11,7 +12,7 @@ use Rattle.dataflow.proofs.problem.push_own_equalities.Goals.{After-equalities-s
 can : (c : After-equalities-system) → All (CanCompose (length c.loops.result.now + (c.args.parameters + length
     c.loops-2.result.now)) c.args.inner.now) c.equalities-system.result.now
 can c =
-    let system : c.dep.inside.system ≡ c.args.dep.now.system = search rules in
+    let system = ap (λ (d : Dependence). d.system) c.dep.view_is in
     own_can c.args.parameters c.args.source.now c.args.target.now c.args.dep.now c.dep.inside.system c.args.inner.now
     (length c.loops.result.now) (length c.loops-2.result.now) c.equalities-system.result.now
     c.args.dep.now.system.equalities c.requires.can system c.requires.inner c.loops.ensures.dimensions
@@ -36,7 +37,7 @@ push_flat-requires-2 c =
 
 pub returns : goal.returns
 returns c =
-    let system : c.dep.inside.system ≡ c.args.dep.now.system = search rules in
+    let system = ap (λ (d : Dependence). d.system) c.dep.view_is in
     own_put c.args.parameters c.args.source.now c.args.target.now c.args.dep.now c.args.inner.now
     (length c.loops.result.now) (length c.loops-2.result.now) (length c.equalities-first.result.now)
     (length c.equalities.result.now) c.equalities-system.result.now c.args.rows.now.items c.push_flat.new.out.items

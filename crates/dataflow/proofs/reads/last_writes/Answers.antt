@@ -2,7 +2,7 @@ use Rattle.std.proofs.Common.{List, subst}
 use Rattle.scop_syntax.specs.Members.{In}
 use Rattle.iteration_domains.specs.Model.{Modelled}
 use Rattle.dataflow.specs.Answers.{AreSources, reads_in}
-use Rattle.dataflow.proofs.Gathering.{Gathered, all_gathered, at_in, dropped, last_named}
+use Rattle.dataflow.proofs.Gathering.{Gathered, all_gathered, at_in, dropped, last_named, statement_gathered}
 use Rattle.dataflow.proofs.reads.last_writes.Goals as goal
 
 pub push_reads-requires-clause-statement : goal.push_reads-requires-clause-statement
@@ -10,6 +10,13 @@ push_reads-requires-clause-statement c =
     subst (λ (ss : List Modelled). In c.statement-item.result ss) c.statements-statement-items.ensures.statements
     (at_in c.statements-statement-items.result.now c.loop-statement.statement-index c.statement-item.result
     c.statement-item.is c.loop-statement-test.true)
+
+pub loop-statement-preserved : goal.loop-statement-preserved
+loop-statement-preserved c =
+    statement_gathered c.args.model.now c.args.budget c.statements-statement-items.result.now
+    c.loop-statement.statement-index c.statement-item.result c.loop-statement.sources.items
+    c.push_reads.new.sources.items c.statement-item.is c.loop-statement-test.true c.loop-statement.invariant
+    c.in_ok-push_reads.ensures
 
 pub returns-clause-last : goal.returns-clause-last
 returns-clause-last c =

@@ -1,8 +1,10 @@
-use Rattle.std.proofs.Common.{◌+◌, ◌∙◌, ℕ, List, ap₂, subst}
+use Rattle.std.proofs.Common.{◌+◌, ◌∙◌, ℕ, List, ap, ap₂, subst, sym}
 use Rattle.scop_syntax.specs.Members.{In}
 use Rattle.iteration_domains.specs.Dependence.{Dependence}
-use Rattle.dataflow.proofs.Gathering.{at_in, numbers_are, run_begins}
+use Rattle.dataflow.specs.LastRuns.{is_candidate}
+use Rattle.dataflow.proofs.Gathering.{Running, at_in, numbers_are, run_begins, run_on, run_past}
 use Rattle.dataflow.proofs.reads.source_of.Goals as goal
+use Rattle.dataflow.proofs.reads.source_of.Goals.{then-is_candidate+in-Ok-joined, else-is_candidate}
 
 pub loop-dep-init : goal.loop-dep-init
 loop-dep-init c =
@@ -18,3 +20,22 @@ pub joined-requires-clause-dep : goal.joined-requires-clause-dep
 joined-requires-clause-dep c =
     subst (λ (ds : List Dependence). In c.dep-item.result ds) c.requires.deps
     (at_in c.args.deps.now c.loop-dep.dep-index c.dep-item.result c.dep-item.is c.loop-dep-test.true)
+
+pub loop-dep-preserved : goal.loop-dep-preserved
+loop-dep-preserved c =
+    let model = c.args.model.now in
+    let number = c.args.statement.now.number in
+    let deps = c.args.deps.now in
+    let i = c.loop-dep.dep-index in
+    let dep = c.dep-item.result in
+    let same = c.is_candidate.ensures ∙ ap (λ (k : ℕ). is_candidate k c.args.access dep) c.number.ensures in
+    elim c.if-is_candidate.branch [
+      | then-is_candidate+in-Ok-joined w ↦ subst (Running model c.args.budget number c.args.access deps (i + 1))
+          (sym w.found-is)
+          (run_on model c.args.budget number c.args.access deps i c.loop-dep.found w.in-Ok-joined.next dep
+          c.loop-dep.invariant c.dep-item.is c.loop-dep-test.true (sym same ∙ w.if-is_candidate.true)
+          w.in-Ok-joined.ensures)
+      | else-is_candidate w ↦ subst (Running model c.args.budget number c.args.access deps (i + 1)) (sym w.found-is)
+          (run_past model c.args.budget number c.args.access deps i c.loop-dep.found dep c.loop-dep.invariant
+          c.dep-item.is c.loop-dep-test.true (sym same ∙ w.if-is_candidate.false))
+    ]
