@@ -1,0 +1,91 @@
+//! Callers of what the determined run gives.
+ghost use Rattle.std.specs.Prelude.{◌≡◌, ◌∷◌, [], ◌⊎◌, ◌≤◌, ℕ, ℤ, pos, ◌<ℤ◌, List};
+ghost use Rattle.whole_numbers.specs.Lexicographic.{LexLess};
+ghost use Rattle.scop_syntax.specs.Cells.{PlacesConflict};
+ghost use Rattle.scop_syntax.specs.Kernel.{IsKernel};
+ghost use Rattle.scop_syntax.specs.Members.{In};
+ghost use Rattle.scop_syntax.specs.Tree.{Program};
+ghost use Rattle.scop_syntax.specs.Walk.{Instance, instance, walk_of};
+ghost use Rattle.iteration_domains.specs.Dependence.{Dependence};
+ghost use Rattle.iteration_domains.specs.Model.{model_of};
+ghost use Rattle.conflict_deps.specs.Conflicts.{conflicts_of};
+ghost use Rattle.schedule_rows.specs.Bands.{Along};
+ghost use Rattle.schedule_rows.specs.Dependences.{Relates};
+ghost use Rattle.schedule_rows.specs.Items.{Block, Row, values};
+ghost use Rattle.schedule_rows.specs.Measure.{measure};
+ghost use Rattle.schedule_rows.specs.Next.{IsSizedDep, State};
+ghost use Rattle.schedule_rows.specs.Outcomes.{IsSchedule, Next, Outcome, Runs, ends};
+ghost use Rattle.schedule_rows.specs.Posed.{IsLeast};
+ghost use Rattle.schedule_rows.specs.Schedule.{loops_in};
+ghost use Rattle.schedule_rows.specs.Tiles.{IsGoodPair};
+
+/// Where a schedule has no item, all pairs are of one statement, by the clause of `schedules_keep_every_band`.
+pub fn pairs_without_items()
+    ensures { (loops : List ℕ) (deps : List Dependence) (d : Dependence) (x y : Instance)
+        → ((d : Dependence) → In d deps → IsSizedDep loops d) → IsSchedule 0 loops deps [] → In d deps
+        → Relates [] d x y → x.number ≡ y.number }
+{
+    schedule_rows::schedules_keep_every_band();
+}
+
+/// The values of one block come in order or are equal, by the clause of `values_are_in_order`.
+pub fn values_of_one_block()
+    ensures { (block : Block) (x y : Instance) → Along (block ∷ []) x y (x.number ≡ y.number)
+        → LexLess (values (block ∷ []) x) (values (block ∷ []) y)
+        ⊎ ((values (block ∷ []) x ≡ values (block ∷ []) y) × (x.number ≡ y.number)) }
+{
+    schedule_rows::values_are_in_order();
+}
+
+/// A schedule without items is a good plan, by the clause of `schedules_are_good_plans`.
+pub fn plans_without_items()
+    ensures { (loops : List ℕ) (deps : List Dependence) (size : ℤ) (n : ℕ) (d : Dependence) (x y : Instance)
+        → pos 0 <ℤ size → ((d : Dependence) → In d deps → IsSizedDep loops d) → IsSchedule 0 loops deps []
+        → In d deps → Relates [] d x y → LexLess x.turns y.turns → IsGoodPair size [] n x y }
+{
+    schedule_rows::schedules_are_good_plans();
+}
+
+/// Where a run has a step the measure is not 0, by the clause of `runs_are_short`.
+pub fn measure_of_a_step()
+    ensures { (m : ℕ) (loops : List ℕ) (s t : State) (blocks : List Block) → Runs m loops s (t ∷ []) blocks
+        → 1 ≤ measure loops s }
+{
+    schedule_rows::runs_are_short();
+}
+
+/// A state at which the run ends has no other outcome, by the clause of `each_state_has_one_outcome`.
+pub fn ends_are_the_only_outcome()
+    ensures { (m : ℕ) (loops : List ℕ) (s : State) (blocks : List Block) (o : Outcome) → Next m loops s (ends blocks)
+        → Next m loops s o → ends blocks ≡ o }
+{
+    schedule_rows::each_state_has_one_outcome();
+}
+
+/// Where a schedule has no item, statements' numbers rise along dependences unless turns do, by the clause of
+/// `times_rise_along_dependences`.
+pub fn times_without_items()
+    ensures { (loops : List ℕ) (deps : List Dependence) (d : Dependence) (x y : Instance)
+        → ((d : Dependence) → In d deps → IsSizedDep loops d) → IsSchedule 0 loops deps [] → In d deps
+        → Relates [] d x y → (x.number ≡ y.number → LexLess x.turns y.turns)
+        → LexLess (pos x.number ∷ []) (pos y.number ∷ []) }
+{
+    schedule_rows::times_rise_along_dependences();
+}
+
+/// There is one least first row without dependences, by the clause of `least_rows_are_unique`.
+pub fn least_first_rows_are_unique()
+    ensures { (m : ℕ) (loops : List ℕ) (r q : Row) → IsLeast m loops [] [] r → IsLeast m loops [] [] q → r ≡ q }
+{
+    schedule_rows::least_rows_are_unique();
+}
+
+/// Conflicting places of a kernel without parameters are in order, by the clause of `schedules_order_conflicts`.
+pub fn conflicts_of_kernels_without_parameters_are_in_order()
+    ensures { (program : Program) (blocks : List Block) (i j : ℕ) (c : PlacesConflict (walk_of program []) i j)
+        → IsKernel program → program.parameters ≡ []
+        → IsSchedule (model_of program).parameters (loops_in (model_of program)) (conflicts_of (model_of program)) blocks
+        → LexLess (values blocks (instance c.earlier)) (values blocks (instance c.later)) }
+{
+    pluto_search::schedules_order_conflicts();
+}
