@@ -40,7 +40,7 @@ fn end(statement: usize) -> DepEnd
 }
 
 /// The dependence, with `least` as the coefficient of `n` in the loop's end.
-fn sweep(alloc: Global, source: usize, target: usize, least: i128) -> Result<Dep, AllocError> {
+pub fn sweep(alloc: Global, source: usize, target: usize, least: i128) -> Result<Dep, AllocError> {
     let rows: [&[i128]; 3] = [&[1, 0, 0, 0], &[-1, 0, least, -2], &[0, 0, 1, 0]];
     let system = system(alloc, 2, 1, &[&[1, -1, 0, 1]], &rows)?;
     Ok(Dep {

@@ -19,9 +19,13 @@ mod made;
 #[cfg(test)]
 mod numbers;
 #[cfg(test)]
+mod posed_sets;
+#[cfg(test)]
 mod sets;
 #[cfg(test)]
 mod solver;
+#[cfg(test)]
+mod sources;
 #[cfg(test)]
 mod tableaus;
 #[cfg(test)]

@@ -84,7 +84,8 @@ pub fn least_first_rows_are_unique()
 pub fn conflicts_of_kernels_without_parameters_are_in_order()
     ensures { (program : Program) (blocks : List Block) (i j : ℕ) (c : PlacesConflict (walk_of program []) i j)
         → IsKernel program → program.parameters ≡ []
-        → IsSchedule (model_of program).parameters (loops_in (model_of program)) (conflicts_of (model_of program)) blocks
+        → IsSchedule (model_of program).parameters (loops_in (model_of program)) (conflicts_of (model_of program))
+        blocks
         → LexLess (values blocks (instance c.earlier)) (values blocks (instance c.later)) }
 {
     pluto_search::schedules_order_conflicts();
