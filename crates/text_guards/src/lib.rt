@@ -5,4 +5,5 @@
 #![tactic(auto)]
 
 pub mod arithmetic;
+pub mod expressions;
 pub mod statuses;
