@@ -66,8 +66,8 @@ fn run(
 /// question has the whole budget.
 ///
 /// # Errors
-/// `NoRow`, `NoOrder` and `Large` exactly where the determined run ends so and no question before stopped, `Stuck`
-/// where one did; `NoMemory`.
+/// `NoRow`, `NoOrder` and `Large` only where the determined run ends so, `Stuck` only where a question that it poses
+/// stops, and with that stop; `NoMemory`.
 pub fn search<'a>(
     alloc: Global,
     model: &'a Model,
