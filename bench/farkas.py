@@ -10,16 +10,11 @@ import subprocess
 import sys
 import tempfile
 
+from kernel_texts import kernel_of
 from timing import one_run, rounds_of, shortest
 
 CALLS = ("conflicts", "legal", "bounded")
 WANTED_SECONDS = 0.2
-
-
-def kernel_of(file):
-    """The kernel's text: what stands before the line `%%`."""
-    with open(file, encoding="utf-8") as source:
-        return source.read().split("\n%%\n")[0] + "\n"
 
 
 def cases_of(program, text):

@@ -6,6 +6,7 @@ usage: schedule.py PROGRAM FOLDER ROUNDS FILE..
 import os
 import sys
 
+from kernel_texts import kernel_of
 from timing import rounds_of, shortest
 
 PASSES = ["-floop-nest-optimize", "-floop-parallelize-all", "-ftree-parallelize-loops=4"]
@@ -13,12 +14,10 @@ GCC = ["gcc", "-O2", *PASSES, "-c", "-o", os.devnull]
 
 
 def kernel_in(folder, file):
-    """The kernel as a file for gcc: what stands before the line `%%`, behind the header that it wants."""
-    with open(file, encoding="utf-8") as source:
-        text = source.read().split("\n%%\n")[0] + "\n"
+    """The kernel as a file for gcc, behind the header that it wants."""
     kernel = os.path.join(folder, os.path.basename(file))
     with open(kernel, "w", encoding="utf-8") as out:
-        out.write("#include <stdint.h>\n" + text)
+        out.write("#include <stdint.h>\n" + kernel_of(file))
     return kernel
 
 

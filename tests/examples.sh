@@ -6,19 +6,20 @@ set -u
 root=$(CDPATH= cd -- "$(dirname -- "$0")/.." && pwd)
 failed=0
 passed=0
+
+# Compares what `polypar $1` prints of the kernel $2 with the file $3.
+compare() {
+    if "$root/polypar" "$1" <"$2" | cmp -s - "$3"; then
+        passed=$((passed + 1))
+    else
+        failed=$((failed + 1))
+        echo "$1 of $2 does not print ${3##*/}"
+    fi
+}
+
 for kernel in "$root"/examples/*.c; do
-    if "$root/polypar" run <"$kernel" | cmp -s - "${kernel%.c}.out"; then
-        passed=$((passed + 1))
-    else
-        failed=$((failed + 1))
-        echo "$kernel prints other arrays"
-    fi
-    if "$root/polypar" schedule <"$kernel" | cmp -s - "${kernel%.c}.schedule"; then
-        passed=$((passed + 1))
-    else
-        failed=$((failed + 1))
-        echo "$kernel has another schedule"
-    fi
+    compare run "$kernel" "${kernel%.c}.out"
+    compare schedule "$kernel" "${kernel%.c}.schedule"
     python3 -c 'import sys; sys.exit(open(sys.argv[1], "rb").read() not in open(sys.argv[2], "rb").read())' \
         "$kernel" "$root/crates/command_cases/stdin" || {
         failed=$((failed + 1))
