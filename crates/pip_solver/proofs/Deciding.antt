@@ -1,6 +1,6 @@
 -- A decision of emptiness is the run's.
 use Rattle.std.proofs.Common.{◌≡◌, ℕ, Bool, not, List, [], ◌∷◌, ◌++◌, length, refl, subst, ap, sym, ◌∙◌}
-use Rattle.std.proofs.Common.{◌+◌, arith, inl}
+use Rattle.std.proofs.Common.{◌+◌, arith, inl, inr}
 use Rattle.std.proofs.lemmas.List.{append-nil}
 use Rattle.std.proofs.lemmas.List.Elements.{All-nil, All-cons, All-head, All-tail}
 use Rattle.std.specs.Prelude.{Result, Ok, Err, All}
@@ -18,7 +18,7 @@ use Rattle.lexmin_runs.proofs.Emptiness.{posed_points}
 use Rattle.lexmin_runs.proofs.Longer.{all_speak}
 use Rattle.checked_tableau.specs.declared.problem.Problem.{Problem}
 use Rattle.pip_solver.specs.declared.stop.Stop.TheVariants as solver
-use Rattle.pip_solver.specs.Answers.{Decides, Empties, IsPosed, IsProblem, FormedUntil, decided}
+use Rattle.pip_solver.specs.Answers.{Decides, Empties, IsPosed, IsProblem, IsUnposed, FormedUntil, decided}
 use Rattle.pip_solver.proofs.Posing.{until-stops}
 
 -- the answer turned
@@ -138,9 +138,17 @@ unposed s w rows until =
     ap (λ (q : Result (List Affine) Wide). q >>= λ es. Ok
     (es ++ (s.rows ++ bound_rows (variables_in s) s.dimensions s.parameters))) (until-stops w s.equalities rows until)
 
-pub empty_unposed : (budget : ℕ) (s : Constraints) (w : Wide) → posed_run s ≡ Err w
+empty_unposed : (budget : ℕ) (s : Constraints) (w : Wide) → posed_run s ≡ Err w
     → empty_run budget s ≡ Err (wide w budget)
 unfolding empty_run
 empty_unposed budget s w failed =
     ap (λ (q : Result (List Affine) Wide). formed budget q
     (λ rows. emptied (question budget (problem_of (variables_in s) rows)))) failed
+
+-- a stop before any move
+pub unposed_stops : (budget : ℕ) (s : Constraints) (stop : solver.the_data) → IsUnposed stop s
+    → Empties (Err stop) budget s
+unposed_stops budget s (solver.Wide told moves) h =
+    let none = h.3 in (h.0, budget, empty_unposed budget s h.0 h.1, omega arith, inr (h.1, h.2, h.3))
+unposed_stops budget s (solver.Spent told moves) h = absurd h
+unposed_stops budget s solver.NoMemory h = tt

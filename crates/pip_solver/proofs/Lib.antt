@@ -9,3 +9,4 @@ pub mod Framing
 pub mod Advancing
 pub mod Minimum_of
 pub mod Pointing
+pub mod Systems

@@ -1,5 +1,7 @@
 -- When an answer of the solver is its run's, and what a stop tells.
 use Rattle.std.specs.Prelude.{◌≡◌, ℕ, suc, ◌+◌, ◌⊎◌, ◌<◌, length, Bool, List, [], ◌∷◌, ◌++◌, None, Result, Ok, Err, ⊤}
+use Rattle.std.specs.Prelude.{Vec}
+use Rattle.std.specs.declared.alloc.Global.{Global}
 use Rattle.wide_math.specs.declared.Wide.{Wide}
 use Rattle.whole_numbers.specs.Affine.{Affine}
 use Rattle.affine_forms.specs.declared.stop.FormStop.{FormStop}
@@ -91,6 +93,18 @@ pub record IsBegun (s : Constraints) (w : Wide) (posed : Problem) : Type 0 where
   pub parameters : posed.parameters ≡ 0
   pub rows : FormedUntil w s.equalities posed.rows.items
   pub context : posed.context.items ≡ []
+
+-- a stop before any move: it tells the rows of the equalities in front of the first number that is too wide; want of
+-- memory is free
+abbrev pub IsUnposed : solver.the_data → Constraints → Type 0
+IsUnposed (solver.Wide posed moves) s = (w : Wide) × (posed_run s ≡ Err w) × IsBegun s w posed × (moves ≡ 0)
+IsUnposed (solver.Spent posed moves) s = ⊥
+IsUnposed solver.NoMemory s = ⊤
+
+-- the rows of a system's equalities are formed, or how that stops
+abbrev pub FormsEqualities : Result (Vec Affine Global) solver.the_data → Constraints → Type 0
+FormsEqualities (Ok rows) s = equality_rows_run s.equalities ≡ Ok rows.items
+FormsEqualities (Err stop) s = IsUnposed stop s
 
 -- an answer is the run's on the system; a stop tells the posed problem, or before any move the part of it that is
 -- formed, and the moves made

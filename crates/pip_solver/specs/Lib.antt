@@ -2,3 +2,4 @@ pub mod Answers
 pub mod Steps
 pub mod Frames
 pub mod Solving
+pub mod Minimum

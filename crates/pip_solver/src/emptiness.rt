@@ -1,82 +1,22 @@
 //! Whether a system has no whole point with dimensions from 0 on and parameters in 0..=65536.
-ghost use Rattle.std.specs.Prelude.{◌≡◌, ◌<◌, ◌≤◌, ◌-◌, [], ◌∷◌, ◌++◌, OnOk, set, Ok, negsuc, pos};
+ghost use Rattle.std.specs.Prelude.{◌≡◌, ◌<◌, ◌≤◌, ◌-◌, ◌++◌, OnOk, set, Ok, negsuc, pos};
 ghost use Rattle.std.specs.Prelude.{All, IfOk, true, false, ℤ, List};
-ghost use Rattle.affine_forms.specs.Gives.{Gives};
 ghost use Rattle.whole_numbers.specs.Affine.{form_of};
 ghost use Rattle.affine_forms.specs.Parts.{variables_of};
 ghost use Rattle.integer_sets.specs.Constraints.{IsSized, variables_in};
 ghost use Rattle.whole_numbers.specs.Lists.{zeros};
-ghost use Rattle.lexmin_runs.specs.Emptiness.{negated_run, equality_rows_run, bound_rows};
+ghost use Rattle.lexmin_runs.specs.Emptiness.{equality_rows_run, bound_rows};
 ghost use Rattle.lexmin_runs.specs.Emptiness.{IsBoundedPoint, HasBoundedPoint};
-ghost use Rattle.pip_solver.specs.Answers.{Decides, IsProblem, Empties, Forms};
+ghost use Rattle.pip_solver.specs.Answers.{Decides, Empties};
 
-use crate::lists::{push, push_copy};
+use crate::lists::{push, push_copies};
 use crate::question::{QuestionStop, question};
 use crate::stop::Stop;
-use affine_forms::{Form, FormStop};
-use checked_tableau::{Problem, Rows};
+use crate::system_rows::{equality_rows, joined};
+use affine_forms::Form;
+use checked_tableau::Rows;
 use integer_sets::System;
 use std::alloc::{AllocError, Global};
-use tableau_nodes::oppose;
-use wide_math::sub;
-
-/// The form with each sign turned: the coefficients in order, then the constant.
-fn negated(alloc: Global, form: &Form) -> Result<Form, FormStop>
-    ensures { Gives (λ f. f) result (negated_run form.now) }
-{
-    let mut coefficients = match Vec::from_slice(alloc, form.coefficients()) {
-        Err(_) => return Err(FormStop::NoMemory),
-        Ok(coefficients) => coefficients,
-    };
-    match oppose(&mut coefficients) {
-        Err(wide) => return Err(FormStop::Wide(wide)),
-        Ok(()) => {}
-    }
-    match sub(0, form.constant()) {
-        Err(wide) => Err(FormStop::Wide(wide)),
-        Ok(constant) => Form::of(alloc, &coefficients, constant),
-    }
-}
-
-/// Appends a copy of a form, and one more.
-fn push_both(rows: &mut Vec<Form>, form: &Form, second: Form) -> Result<(), AllocError>
-    ensures { OnOk result (rows.new.items ≡ rows.old.items ++ form.now ∷ second ∷ []) }
-{
-    match push_copy(rows, form) {
-        Err(error) => Err(error),
-        Ok(()) => push(rows, second),
-    }
-}
-
-/// Forms the rows of equalities: of each the form, and the form with each sign turned.
-fn pose_equalities(alloc: Global, rows: &mut Vec<Form>, forms: &[Form]) -> Result<(), FormStop>
-    requires { rows.old.items ≡ [] }
-    ensures { Forms result forms.now rows.new.items }
-{
-    for form in forms {
-        match negated(alloc, form) {
-            Err(stop) => return Err(stop),
-            Ok(second) => match push_both(rows, form, second) {
-                Err(_) => return Err(FormStop::NoMemory),
-                Ok(()) => {}
-            },
-        }
-    }
-    Ok(())
-}
-
-/// Appends copies of forms.
-fn push_copies(rows: &mut Vec<Form>, forms: &[Form]) -> Result<(), AllocError>
-    ensures { OnOk result (rows.new.items ≡ rows.old.items ++ forms.now) }
-{
-    for form in forms {
-        match push_copy(rows, form) {
-            Err(error) => return Err(error),
-            Ok(()) => {}
-        }
-    }
-    Ok(())
-}
 
 /// 65536 less a variable.
 fn bound(alloc: Global, variables: usize, place: usize) -> Result<Form, AllocError>
@@ -133,27 +73,6 @@ fn bounded_rows(alloc: Global, system: &System, variables: usize) -> Result<Vec<
     }
 }
 
-/// The problem of rows in two parts, which a stop tells.
-fn told(
-    alloc: Global,
-    unknowns: usize,
-    front: Vec<Form>,
-    own: &[Form],
-) -> Result<Problem, AllocError>
-    ensures { IfOk result (IsProblem unknowns (front.items ++ own.now)) }
-{
-    let mut rows = front;
-    match push_copies(&mut rows, own) {
-        Err(error) => Err(error),
-        Ok(()) => Ok(Problem {
-            unknowns,
-            parameters: 0,
-            rows,
-            context: Vec::new(alloc),
-        }),
-    }
-}
-
 /// Whether rows in two parts have no point. The second part stays where it is; only a stop copies it.
 fn decide(
     alloc: Global,
@@ -177,7 +96,7 @@ fn decide(
     if matches!(stop, QuestionStop::NoMemory) {
         return Err(Stop::NoMemory);
     }
-    let posed = match told(alloc, unknowns, front, own) {
+    let posed = match joined(alloc, unknowns, front, own) {
         Err(_) => return Err(Stop::NoMemory),
         Ok(posed) => posed,
     };
@@ -221,27 +140,16 @@ fn decide_system(
 /// The answer of `is_empty`, as its run gives it.
 fn answer(alloc: Global, system: &System, budget: u64) -> Result<bool, Stop>
     ensures run { Empties result budget system.now }
-    ensures sized { IsSized (variables_in system.now) system.now.equalities system.now.rows }
+    ensures sized { IfOk result (λ _. IsSized (variables_in system.now) system.now.equalities system.now.rows) }
 {
-    let equalities = system.equalities();
     let own = system.rows();
     let unknowns = match system.dimensions().checked_add(system.parameters()) {
         None => return Err(Stop::NoMemory),
         Some(unknowns) => unknowns,
     };
-    let mut front = Vec::new(alloc);
-    match pose_equalities(alloc, &mut front, equalities) {
-        Err(FormStop::NoMemory) => Err(Stop::NoMemory),
-        Err(FormStop::Wide(_)) => {
-            let posed = Problem {
-                unknowns,
-                parameters: 0,
-                rows: front,
-                context: Vec::new(alloc),
-            };
-            Err(Stop::Wide { posed, moves: 0 })
-        }
-        Ok(()) => decide_system(alloc, system, unknowns, front, own, budget),
+    match equality_rows(alloc, system, unknowns) {
+        Err(stop) => Err(stop),
+        Ok(front) => decide_system(alloc, system, unknowns, front, own, budget),
     }
 }
 

@@ -15,8 +15,11 @@ mod question;
 mod run;
 mod step;
 mod stop;
+mod system_point;
+mod system_rows;
 
 pub use emptiness::is_empty;
 pub use minimum::{Solution, lexmin, solve};
 pub use point::least_point;
 pub use stop::Stop;
+pub use system_point::least_point_in;

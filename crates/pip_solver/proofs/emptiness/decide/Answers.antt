@@ -49,7 +49,7 @@ returns-in-Wide c =
       left,
       decided_is c.args.budget c.args.unknowns (c.args.front.items ++ c.args.own.now) ∙ ap turned is.1,
       omega arith,
-      c.in-Ok-told.ensures,
+      c.in-Ok-joined.ensures,
     )
 
 pub returns-in-Spent : goal.returns-in-Spent
@@ -59,5 +59,5 @@ returns-in-Spent c =
     (c.in-Err-question.is ∙ ap (λ e. Err e) c.in-Spent.is) (told at) in (
       decided_is c.args.budget c.args.unknowns (c.args.front.items ++ c.args.own.now) ∙ ap turned is.0,
       refl,
-      c.in-Ok-told.ensures,
+      c.in-Ok-joined.ensures,
     )

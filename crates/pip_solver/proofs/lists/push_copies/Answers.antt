@@ -1,7 +1,7 @@
 use Rattle.std.proofs.Common.{◌≡◌, ◌∙◌, ◌+◌, ◌++◌, ◌∷◌, [], List, ap, take, append_assoc, add-one, sym, refl}
 use Rattle.std.proofs.Math.Seq.{take-suc}
 use Rattle.whole_numbers.specs.Affine.{Affine}
-use Rattle.pip_solver.proofs.emptiness.push_copies.Goals as goal
+use Rattle.pip_solver.proofs.lists.push_copies.Goals as goal
 
 pub loop-form-preserved : goal.loop-form-preserved
 loop-form-preserved c =
