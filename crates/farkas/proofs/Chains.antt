@@ -33,6 +33,7 @@ pub halts-then : {A B : Type 0} (budget : ℕ) (e : stuck.the_data) (r : Result 
     → Halts budget e r → Halts budget e (r >> f)
 halts-then budget (stuck.Elimination (fm.Wide w)) r f h = ap (λ q. q >> f) h
 halts-then budget (stuck.Elimination (fm.Crowded n)) r f h = ap (λ q. q >> f) h
+halts-then budget (stuck.Elimination (fm.Large n)) r f h = absurd h
 halts-then budget (stuck.Elimination fm.NoMemory) r f h = absurd h
 halts-then budget (stuck.Solver (solver.Wide posed moves)) r f h = (h.0, ap (λ q. q >> f) h.1, h.2)
 halts-then budget (stuck.Solver (solver.Spent posed moves)) r f h = (h.0, ap (λ q. q >> f) h.1, h.2)
@@ -44,6 +45,7 @@ pub halts-same : {A : Type 0} (budget : ℕ) (e : stuck.the_data) (r q : Result 
     → Halts budget e q
 halts-same budget (stuck.Elimination (fm.Wide w)) r q s h = sym s ∙ h
 halts-same budget (stuck.Elimination (fm.Crowded n)) r q s h = sym s ∙ h
+halts-same budget (stuck.Elimination (fm.Large n)) r q s h = h
 halts-same budget (stuck.Elimination fm.NoMemory) r q s h = h
 halts-same budget (stuck.Solver (solver.Wide posed moves)) r q s h = (h.0, sym s ∙ h.1, h.2)
 halts-same budget (stuck.Solver (solver.Spent posed moves)) r q s h = (h.0, sym s ∙ h.1, h.2)
@@ -101,6 +103,7 @@ halts-eliminating budget i s (fm.Crowded n) h =
     chosen-true (nat_lt 4096 (pairs_in i s)) (pairs_in i s) (formed (eliminated_run i s)) (lt-ltb 4096 (pairs_in i s)
     h.0)
     ∙ ap (λ m. Err (crowded m)) (sym h.1)
+halts-eliminating budget i s (fm.Large number) h = h
 halts-eliminating budget i s fm.NoMemory h = tt
 
 -- a question

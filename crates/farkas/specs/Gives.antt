@@ -30,6 +30,7 @@ IsUnanswered budget told run = (s : Constraints) × (run ≡ Err (unanswered s))
 abbrev pub Halts : {Y : Type 0} → ℕ → stuck.the_data → Result Y Halt → Type 0
 Halts budget (stuck.Elimination (fm.Wide w)) run = run ≡ Err (wide w)
 Halts budget (stuck.Elimination (fm.Crowded pairs)) run = run ≡ Err (crowded pairs)
+Halts budget (stuck.Elimination (fm.Large number)) run = ⊥
 Halts budget (stuck.Elimination fm.NoMemory) run = ⊥
 Halts budget (stuck.Solver (solver.Wide posed moves)) run = IsUnanswered budget (Err (solver.Wide posed moves)) run
 Halts budget (stuck.Solver (solver.Spent posed moves)) run = IsUnanswered budget (Err (solver.Spent posed moves)) run
@@ -57,6 +58,7 @@ stuck_of_form form_stop.NoMemory = stuck.NoMemory
 abbrev pub stuck_of_elimination : fm.the_data → stuck.the_data
 stuck_of_elimination (fm.Wide w) = stuck.Elimination (fm.Wide w)
 stuck_of_elimination (fm.Crowded pairs) = stuck.Elimination (fm.Crowded pairs)
+stuck_of_elimination (fm.Large number) = stuck.Elimination (fm.Large number)
 stuck_of_elimination fm.NoMemory = stuck.NoMemory
 
 -- how a question to the solver, which stops, makes this call stuck

@@ -39,6 +39,7 @@ pub fn by_elimination(stop: FmStop) -> Stuck
     match stop {
         FmStop::Wide(wide) => Stuck::Elimination(FmStop::Wide(wide)),
         FmStop::Crowded { pairs } => Stuck::Elimination(FmStop::Crowded { pairs }),
+        FmStop::Large { number } => Stuck::Elimination(FmStop::Large { number }),
         FmStop::NoMemory => Stuck::NoMemory,
     }
 }

@@ -2,3 +2,9 @@ pub mod Joined
 pub mod Loops
 pub mod Exact
 pub mod Law
+pub mod Narrowing
+pub mod Following
+pub mod Passing
+pub mod Ranging
+pub mod Ranges
+pub mod Between

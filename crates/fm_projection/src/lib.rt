@@ -1,10 +1,19 @@
 //! The elimination of a variable from a system of affine constraints, exact over fractions: by an equality where one
-//! has the variable, else by pairs of rows (Fourier 1826; Motzkin 1936).
+//! has the variable, else by pairs of rows (Fourier 1826; Motzkin 1936); and of several, one after another, for the
+//! projections of a set and the range of one dimension.
 #![tactic(auto)]
 
+mod alone;
+mod columns;
 mod elimination;
+mod projecting;
+mod projection_laws;
 mod rows;
 mod stop;
 
+pub use alone::{last_alone, place_form};
+pub use columns::{narrow_form, without_column};
 pub use elimination::eliminate;
+pub use projecting::{project, without};
+pub use projection_laws::{eliminations_are_exact_one_after_another, eliminations_keep_the_points};
 pub use stop::FmStop;

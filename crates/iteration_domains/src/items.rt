@@ -65,7 +65,7 @@ fn model_statement(
 }
 
 /// Goes into a loop or a guard.
-fn enter_scope<'a>(path: &mut Path<'a>, scope: Scope<'a>) -> Result<(), AllocError>
+pub fn enter_scope<'a>(path: &mut Path<'a>, scope: Scope<'a>) -> Result<(), AllocError>
     ensures { OnOk result (path_of path.new ≡ path_at path.old.parameters
         (scopes_of path.old.scopes.items ++ scope_of scope.entry ∷ []) path.old.loops.items) }
 {
@@ -76,7 +76,7 @@ fn enter_scope<'a>(path: &mut Path<'a>, scope: Scope<'a>) -> Result<(), AllocErr
 }
 
 /// Goes into the loop whose first statement has this number.
-fn enter_loop(path: &mut Path, number: usize) -> Result<(), AllocError>
+pub fn enter_loop(path: &mut Path, number: usize) -> Result<(), AllocError>
     ensures { OnOk result (path_of path.new ≡ path_at path.old.parameters (scopes_of path.old.scopes.items)
         (path.old.loops.items ++ number ∷ [])) }
 {

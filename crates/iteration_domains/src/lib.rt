@@ -16,6 +16,8 @@ mod rows;
 mod statement;
 
 pub use dep::{Dep, DepEnd};
-pub use forms::{plus_multiple, push_form, variable_form};
+pub use forms::{compose, plus_multiple, push_form, variable_form};
+pub use items::{Path, enter_loop, enter_scope};
 pub use model::Model;
+pub use rows::{Scope, StatementRows, rows_within};
 pub use statement::{AccessForms, StatementModel};

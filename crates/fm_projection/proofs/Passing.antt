@@ -1,0 +1,90 @@
+-- Eliminations one after another, each of which passes or stops.
+use Rattle.std.proofs.Common.{◌≡◌, ℕ, zero, suc, ◌+◌, ◌-◌, ◌<◌, inl, inr, sym, ◌∙◌, ap, subst, arith}
+use Rattle.std.specs.Prelude.{◌≤◌, Ok, Err}
+use Rattle.std.proofs.lemmas.Bool.{cases_lt}
+use Rattle.integer_sets.specs.Constraints.{Constraints}
+use Rattle.fm_projection.specs.declared.stop.FmStop.{FmStop}
+use Rattle.fm_projection.specs.declared.stop.FmStop.TheVariants as fm
+use Rattle.fm_projection.specs.Gives.{Eliminates}
+use Rattle.fm_projection.specs.Projecting.{Drops, Passes, PassProjecting, Projecting, StopsProjecting, gone, projected}
+use Rattle.fm_projection.specs.Projecting.{all_gone}
+use Rattle.fm_projection.specs.Alone.{AllPass, Going}
+
+-- what holds of the first n numbers and of n holds of the first n + 1
+one_more_below : (P : ℕ → Type 0) (n : ℕ) → ((k : ℕ) → k < n → P k) → P n → (k : ℕ) → k < suc n → P k
+one_more_below P n all last k less = elim (cases_lt k n) [
+  | inl small ↦ all k small
+  | inr past ↦ subst P (let e : n ≡ k = omega (arith, less, past) in e) last
+]
+
+-- one more elimination of a projection
+pub projected_more : (s t u : Constraints) → t.dimensions ≤ s.dimensions → 0 < t.dimensions
+    → PassProjecting (s.dimensions - t.dimensions) s → t ≡ projected (s.dimensions - t.dimensions) s
+    → Drops (t.dimensions - 1) t (Ok u)
+    → (u.dimensions ≡ t.dimensions - 1) × PassProjecting (s.dimensions - u.dimensions) s
+    × (u ≡ projected (s.dimensions - u.dimensions) s)
+projected_more s t u less some passed is step =
+    let before = s.dimensions - t.dimensions in
+    let d : u.dimensions ≡ t.dimensions - 1 = ap (λ (w : Constraints). w.dimensions) step.1 in
+    let n : s.dimensions - u.dimensions ≡ suc before = omega (arith, d, less, some) in
+    let place : t.dimensions - 1 ≡ s.dimensions - suc before = omega (arith, less, some) in
+    let here : Passes (s.dimensions - suc before) (projected before s) =
+    subst (λ k. Passes k (projected before s)) place (subst (Passes (t.dimensions - 1)) is step.0) in (
+      d,
+      subst (λ k. PassProjecting k s) (sym n)
+          (one_more_below (λ k. Passes (s.dimensions - suc k) (projected k s)) before passed here),
+      step.1 ∙ ap (λ k. gone k t) place ∙ ap (λ w. gone (s.dimensions - suc before) w) is
+          ∙ ap (λ k. projected k s) (sym n),
+    )
+
+-- a stop of the next one
+stops_at : (kept : ℕ) (s t : Constraints) (stop : FmStop) → t.dimensions ≤ s.dimensions → kept < t.dimensions
+    → PassProjecting (s.dimensions - t.dimensions) s → t ≡ projected (s.dimensions - t.dimensions) s
+    → Eliminates (t.dimensions - 1) t (Err stop)
+    → StopsProjecting (s.dimensions - kept) s stop
+stops_at kept s t stop less more passed is stops =
+    record {
+      before = s.dimensions - t.dimensions;
+      less = omega (arith, less, more);
+      passed = passed;
+      stops = subst (λ k. Eliminates k (projected (s.dimensions - t.dimensions) s) (Err stop))
+          (let e : t.dimensions - 1 ≡ s.dimensions - suc (s.dimensions - t.dimensions) = omega (arith, less, more) in e)
+          (subst (λ w. Eliminates (t.dimensions - 1) w (Err stop)) is stops);
+    }
+
+pub stops_projecting : (kept : ℕ) (s t : Constraints) (stop : FmStop) → t.dimensions ≤ s.dimensions
+    → kept < t.dimensions
+    → PassProjecting (s.dimensions - t.dimensions) s → t ≡ projected (s.dimensions - t.dimensions) s
+    → Eliminates (t.dimensions - 1) t (Err stop)
+    → Projecting (s.dimensions - kept) s (Err stop)
+stops_projecting kept s t (fm.Wide w) less more passed is stops = stops_at kept s t (fm.Wide w) less more passed is
+    stops
+stops_projecting kept s t (fm.Crowded n) less more passed is stops =
+    stops_at kept s t (fm.Crowded n) less more passed is stops
+stops_projecting kept s t (fm.Large z) less more passed is stops = stops
+stops_projecting kept s t fm.NoMemory less more passed is stops = tt
+
+-- one more elimination at a place
+pub gone_more : (i n : ℕ) (s t u : Constraints) → AllPass i n s → t ≡ all_gone i n s → Drops i t (Ok u)
+    → AllPass i (n + 1) s × (u ≡ all_gone i (n + 1) s)
+gone_more i n s t u passed is step =
+    let one : suc n ≡ n + 1 = omega arith in (
+      subst (λ k. AllPass i k s) one
+          (one_more_below (λ k. Passes i (all_gone i k s)) n passed (subst (Passes i) is step.0)),
+      step.1 ∙ ap (λ w. gone i w) is ∙ ap (λ k. all_gone i k s) one,
+    )
+
+pub stops_going : (i n k : ℕ) (s t : Constraints) (stop : FmStop) → k < n → AllPass i k s → t ≡ all_gone i k s
+    → Eliminates i t (Err stop)
+    → Going i n s (Err stop)
+stops_going i n k s t stop less passed is stops = by_stop stop (subst (λ w. Eliminates i w (Err stop)) is stops)
+  where
+    by_stop : (e : FmStop) → Eliminates i (all_gone i k s) (Err e) → Going i n s (Err e)
+    by_stop (fm.Wide w) h = record { before = k; less = less; passed = passed; stops = h }
+    by_stop (fm.Crowded w) h = record { before = k; less = less; passed = passed; stops = h }
+    by_stop (fm.Large w) h = h
+    by_stop fm.NoMemory h = tt
+
+pub gone_dimensions : (i n : ℕ) (s : Constraints) → (all_gone i n s).dimensions ≡ s.dimensions - n
+gone_dimensions i zero s = omega arith
+gone_dimensions i (suc n) s = let more = gone_dimensions i n s in omega (arith, more)
