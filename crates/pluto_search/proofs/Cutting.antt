@@ -21,9 +21,6 @@ passed_on numbers d rest kept deps same h more u =
     subst (λ (z : List Dependence). Uncuts numbers deps z) (sym (append_assoc kept (d ∷ []) more))
     (h (d ∷ more) (inr (more, same, u, refl)))
 
-pub passes_first : (numbers : List ℕ) (deps kept : List Dependence) → kept ≡ [] → Passes numbers deps kept deps
-passes_first numbers deps kept e more u = subst (λ (z : List Dependence). Uncuts numbers deps (z ++ more)) (sym e) u
-
 pub passes_last : (numbers : List ℕ) (kept deps : List Dependence) → Passes numbers [] kept deps
     → Uncuts numbers deps kept
 passes_last numbers kept deps h =

@@ -1,7 +1,7 @@
 -- From one state to the next: what holds between steps.
 use Rattle.std.proofs.Common.{◌≡◌, ℕ, zero, suc, ◌+◌, ◌<◌, ◌^◌, ℤ, List, [], ◌∷◌, ◌++◌, refl, sym, ◌∙◌, ap, ap₂, subst}
 use Rattle.std.proofs.Common.{inl, inr, arith, length, map, All, Vec, Global}
-use Rattle.std.specs.Prelude.{◌≤◌, slice_index_or}
+use Rattle.std.specs.Prelude.{◌≤◌, slice_index_or, Ok}
 use Rattle.std.proofs.lemmas.List.{append-nil, length-map, get_or-map}
 use Rattle.std.proofs.lemmas.List.Elements.{All-nil, All-cons, All-head, All-tail, All-get_or}
 use Rattle.scop_syntax.specs.Members.{In}
@@ -16,9 +16,11 @@ use Rattle.schedule_rows.specs.Next.{State, rows_of}
 use Rattle.schedule_rows.specs.Outcomes.{state}
 use Rattle.schedule_rows.specs.Posed.{IsFull, coefficients_in}
 use Rattle.schedule_rows.specs.Schedule.{block_of, marked_of}
+use Rattle.integer_sets.specs.Constraints.{Constraints}
 use Rattle.pluto_systems.specs.Posing.{RuledDep, IsRuled, dep_of, IsBetween, AreVectorsOf, AreSmallVectors}
+use Rattle.pluto_systems.specs.Posing.{posed_system, ruled_run}
 use Rattle.pluto_search.specs.declared.state.Progress.{Progress}
-use Rattle.pluto_search.specs.Questions.{AreRuledBy}
+use Rattle.pluto_search.specs.Questions.{AreRuledBy, IsRuledBy, IsPosedAt}
 use Rattle.pluto_search.specs.Steps.{state_of, vectors_in, IsGood, IsGoodRow, AllRuled, AreBetween}
 
 abbrev pub Vectors : Type 0
@@ -157,8 +159,31 @@ ruled_more (z ∷ xs) y h k x (inr i) = ruled_more xs y (λ w j. h w (inr j)) k 
 pub ruled_remains : (p : Progress) (d : Dependence) → In d (map dep_of p.ruled.items) → In d (state_of p).remaining
 ruled_remains p d i = in_front d (map dep_of p.ruled.items) p.bare.items i
 
-pub all_remain : (p : Progress) (d : Dependence) → p.bare.items ≡ [] → In d (state_of p).remaining
-    → In d (map dep_of p.ruled.items)
-all_remain p d e i =
-    subst (λ (l : List Dependence). In d l)
-    (ap (λ (z : List Dependence). map dep_of p.ruled.items ++ z) e ∙ append-nil (map dep_of p.ruled.items)) i
+-- all remaining ones, where no others do
+pub remains : (p : Progress) (ruled : List RuledDep) → ruled ≡ p.ruled.items → p.bare.items ≡ []
+    → map dep_of ruled ≡ (state_of p).remaining
+remains p ruled e b =
+    ap (λ (z : List RuledDep). map dep_of z) e ∙ (sym (append-nil (map dep_of p.ruled.items))
+    ∙ ap (λ (z : List Dependence). map dep_of p.ruled.items ++ z) (sym b))
+
+-- their rows are those of the run
+pub all_ruled : (budget : ℕ) (xs : List RuledDep) → AreRuledBy budget xs → All (IsRuledBy budget) (map dep_of xs)
+all_ruled budget [] h = All-nil (IsRuledBy budget)
+all_ruled budget (x ∷ xs) h =
+    let P : RuledDep → Type 0 = λ y. ruled_run budget y.dep ≡ Ok y in
+    All-cons (IsRuledBy budget) x.dep (map dep_of xs) (x, All-head P x xs h) (all_ruled budget xs (All-tail P x xs h))
+
+-- the posed system of the state
+pub posed_at : (m : ℕ) (loops : List ℕ) (budget : ℕ) (p : Progress) (ruled : List RuledDep) (vs : List Vectors)
+    (posed : Constraints) → ruled ≡ p.ruled.items → vs ≡ p.vectors.items → p.bare.items ≡ [] → IsGood m loops budget p
+    → posed ≡ posed_system m loops ruled (map shown vs) → IsPosedAt m loops budget (state_of p) posed
+posed_at m loops budget p ruled vs posed e f b g is =
+    record {
+      ruled = ruled;
+      vectors = map shown vs;
+      deps = remains p ruled e b;
+      by_run = subst (λ (l : List RuledDep). AreRuledBy budget l) (sym e) g.by_run;
+      vectors_are = subst (λ (z : List Vectors). AreVectorsOf loops (rows_of (state_of p)) (map shown z)) (sym f)
+          g.vectors;
+      system = is;
+    }

@@ -32,9 +32,6 @@ held_back m rows d e rest kept deps is some h more r =
     subst (λ (z : List Dependence). Restricts m rows deps z) (sym (append_assoc kept (e ∷ []) more))
     (h (e ∷ more) (inr (more, some, r, ap (λ (z : Dependence). z ∷ more) is)))
 
-pub leads_first : (m : ℕ) (rows : List Marked) (deps kept : List Dependence) → kept ≡ [] → Leads m rows deps kept deps
-leads_first m rows deps kept e more r = subst (λ (z : List Dependence). Restricts m rows deps (z ++ more)) (sym e) r
-
 pub leads_last : (m : ℕ) (rows : List Marked) (kept deps : List Dependence) → Leads m rows [] kept deps
     → Restricts m rows deps kept
 leads_last m rows kept deps h =

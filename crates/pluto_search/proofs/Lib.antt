@@ -1,12 +1,11 @@
+pub mod Firsts
 pub mod Halting
 pub mod Emptiness
 pub mod Leading
 pub mod Counts
 pub mod Going
 pub mod Moving
-pub mod Asking
 pub mod Running
 pub mod Conflicts
-pub mod Twins
 pub mod Cutting
 pub mod Ordering

@@ -1,6 +1,6 @@
 -- The next state is a good one, and the step is that of the run.
 use Rattle.std.proofs.Common.{◌≡◌, ℕ, zero, suc, ◌+◌, ◌<◌, ℤ, pos, List, [], ◌∷◌, ◌++◌, refl, sym, ◌∙◌, ap, ap₂, subst}
-use Rattle.std.proofs.Common.{◌⊎◌, inl, inr, arith, length, map, All, Vec, Global}
+use Rattle.std.proofs.Common.{inl, inr, arith, length, map, All, Vec, Global}
 use Rattle.std.specs.Prelude.{◌≤◌, ◌↔◌, Bool, true, false, slice_index_or}
 use Rattle.std.proofs.lemmas.List.{append-nil, length-map, map-append}
 use Rattle.std.proofs.lemmas.List.Elements.{All-nil, All-cons, All-head, All-tail, All-append, All-get_or}
@@ -30,13 +30,12 @@ use Rattle.pluto_systems.specs.Placing.{AreShaped}
 use Rattle.pluto_systems.specs.Posing.{RuledDep, dep_of, AreVectorsOf}
 use Rattle.pluto_systems.proofs.Rows.{posed_shape}
 use Rattle.pluto_search.specs.declared.state.Progress.{Progress}
-use Rattle.pluto_search.specs.Moves.{AreWithin, IsClosed, IsCut, DropsNone, Cuts, EndsWith, Ended, IsAppended}
+use Rattle.pluto_search.specs.StepParts.{AreWithin, IsClosed, IsCut, DropsNone, Cuts, EndsWith, Ended, IsAppended}
 use Rattle.pluto_search.specs.declared.kept.Kept.TheVariants as kept
-use Rattle.pluto_search.specs.Questions.{StopsAt}
-use Rattle.pluto_search.specs.Stopping.{IsStop, StopsRestricted}
+use Rattle.pluto_search.specs.Questions.{AnswersRestricted, FindsNone, IsPosedAt, StopsAt, StopsRestricted}
+use Rattle.pluto_search.specs.Stopping.{IsStop}
 use Rattle.pluto_search.proofs.Halting.{stop_of, stop_at}
 use Rattle.integer_sets.specs.Constraints.{Constraints}
-use Rattle.pluto_systems.specs.Posing.{HasPosed}
 use Rattle.pluto_search.specs.Questions.{AreRuledBy}
 use Rattle.pluto_search.specs.Sizes.{CanNarrowEach, narrowed_each}
 use Rattle.pluto_search.specs.Steps.{state_of, vectors_in, IsGood, IsGoodRow, AreBetween, Steps, going, KeepsAt}
@@ -354,41 +353,57 @@ exact_mark m loops deps before r between least within level rises =
 -- a step without an open band
 pub cut_steps : (m : ℕ) (loops : List ℕ) (budget : ℕ) (p : Progress) (deps : List Dependence) (posed : Constraints)
     (result : Result Progress kept.the_data) → IsGood m loops budget p → deps ≡ (state_of p).remaining
-    → (IsFull loops (rows_of (state_of p)) → ⊥) → HasNone m loops (state_of p).remaining (rows_of (state_of p))
-    → (state_of p).rows ≡ [] → HasPosed m loops (state_of p).remaining (rows_of (state_of p)) posed
-    → Cuts loops (state_of p).closed deps (vectors_in p) posed result → Steps m loops budget (state_of p) (going result)
-cut_steps m loops budget p deps posed (Ok q) g e more none empty has h = cut_next m loops budget p q deps g e more none
-    empty h
-cut_steps m loops budget p deps posed (Err (kept.Stuck stuck)) g e more none empty has h = absurd h
-cut_steps m loops budget p deps posed (Err (kept.NoRow told)) g e more none empty has h = (
-  no_row_next m loops (state_of p) deps e more none empty h.1,
-  subst (λ (z : Constraints). HasPosed m loops (state_of p).remaining (rows_of (state_of p)) z) (sym h.0) has,
+    → (IsFull loops (rows_of (state_of p)) → ⊥) → FindsNone m loops budget (state_of p) → (state_of p).rows ≡ []
+    → IsPosedAt m loops budget (state_of p) posed → Cuts loops (state_of p).closed deps (vectors_in p) posed result
+    → Steps m loops budget (state_of p) (going result)
+cut_steps m loops budget p deps posed (Ok q) g e more none empty is h =
+    let n = cut_next m loops budget p q deps g e more none.1 empty h in
+    (inr (more, inr (none, inl empty)), n.0, n.1)
+cut_steps m loops budget p deps posed (Err (kept.Stuck stuck)) g e more none empty is h = absurd h
+cut_steps m loops budget p deps posed (Err (kept.NoRow told)) g e more none empty is h = (
+  inr (more, inr (none, inl empty)),
+  no_row_next m loops (state_of p) deps e more none.1 empty h.1,
+  subst (λ (z : Constraints). IsPosedAt m loops budget (state_of p) z) (sym h.0) is,
 )
-cut_steps m loops budget p deps posed (Err (kept.NoOrder component)) g e more none empty has h = absurd h
-cut_steps m loops budget p deps posed (Err kept.NoMemory) g e more none empty has h = tt
-cut_steps m loops budget p deps posed (Err (kept.Large row)) g e more none empty has h = absurd h
+cut_steps m loops budget p deps posed (Err (kept.NoOrder component)) g e more none empty is h = absurd h
+cut_steps m loops budget p deps posed (Err kept.NoMemory) g e more none empty is h = tt
+cut_steps m loops budget p deps posed (Err (kept.Large row)) g e more none empty is h = absurd h
 
--- a question where a band ends, by full rank or since there is no row
-pub stops_restricted : (m : ℕ) (loops : List ℕ) (budget : ℕ) (s : State) (deps : List Dependence) (k : kept.the_data)
-    → deps ≡ s.remaining → IsFull loops (rows_of s) ⊎ HasNone m loops s.remaining (rows_of s)
-    → IsStop (StopsRestricted m s.rows budget deps) k → KeepsAt m loops budget s k
-stops_restricted m loops budget s deps k e why h =
+-- a question where a band ends, by full rank
+pub full_stops : (m : ℕ) (loops : List ℕ) (budget : ℕ) (s : State) (deps : List Dependence) (k : kept.the_data)
+    → deps ≡ s.remaining → IsFull loops (rows_of s) → IsStop (StopsRestricted m s.rows budget deps) k
+    → KeepsAt m loops budget s k
+full_stops m loops budget s deps k e full h =
     stop_at m loops budget s k
     (stop_of (StopsRestricted m s.rows budget deps) (StopsAt m loops budget s) k
-    (λ stop x. inl (why, (x.0, subst (λ (l : List Dependence). In x.0 l) e x.1, x.2))) h)
+    (λ stop x. inl (full, subst (λ (l : List Dependence). StopsRestricted m s.rows budget l stop) e x)) h)
+
+-- or since there is no row
+pub band_stops : (m : ℕ) (loops : List ℕ) (budget : ℕ) (s : State) (deps : List Dependence) (k : kept.the_data)
+    → deps ≡ s.remaining → (IsFull loops (rows_of s) → ⊥) → FindsNone m loops budget s → (s.rows ≡ [] → ⊥)
+    → IsStop (StopsRestricted m s.rows budget deps) k → KeepsAt m loops budget s k
+band_stops m loops budget s deps k e more none some h =
+    stop_at m loops budget s k
+    (stop_of (StopsRestricted m s.rows budget deps) (StopsAt m loops budget s) k
+    (λ stop x.
+    let asks = subst (λ (l : List Dependence). StopsRestricted m s.rows budget l stop) e x in
+    inr (more, inr (inr (inr (none, some, asks))))) h)
 
 -- a step that closes the open band
 pub band_steps : (m : ℕ) (loops : List ℕ) (budget : ℕ) (p : Progress) (deps : List Dependence)
     (result : Result Progress kept.the_data) → IsGood m loops budget p → deps ≡ (state_of p).remaining
-    → (IsFull loops (rows_of (state_of p)) → ⊥) → HasNone m loops (state_of p).remaining (rows_of (state_of p))
+    → (IsFull loops (rows_of (state_of p)) → ⊥) → FindsNone m loops budget (state_of p)
     → ((state_of p).rows ≡ [] → ⊥)
     → IfOk result (IsClosed m (state_of p).closed (state_of p).rows deps (vectors_in p))
+    → IfOk result (λ _. AnswersRestricted m (state_of p).rows budget deps)
     → IfErr result (IsStop (StopsRestricted m (state_of p).rows budget deps))
     → Steps m loops budget (state_of p) (going result)
-band_steps m loops budget p deps (Ok q) g e more none some closed stops = closed_next m loops budget p q deps g e more
-    none some closed
-band_steps m loops budget p deps (Err k) g e more none some closed stops =
-    stops_restricted m loops budget (state_of p) deps k e (inr none) stops
+band_steps m loops budget p deps (Ok q) g e more none some closed answered stops =
+    let all = subst (λ (l : List Dependence). AnswersRestricted m (state_of p).rows budget l) e answered in
+    let n = closed_next m loops budget p q deps g e more none.1 some closed in
+    (inr (more, inr (none, inr (some, all))), n.0, n.1)
+band_steps m loops budget p deps (Err k) g e more none some closed answered stops =
+    band_stops m loops budget (state_of p) deps k e more none some stops
 
 -- the end of the run, or that nothing orders what is left
 abbrev pub ending : Result (Vec code_block.the_data Global) kept.the_data → Result step.the_data kept.the_data
@@ -397,13 +412,17 @@ ending (Err k) = Err k
 
 pub end_steps : (m : ℕ) (loops : List ℕ) (budget : ℕ) (s : State) (deps left : List Dependence) (blocks : List Block)
     (result : Result (Vec code_block.the_data Global) kept.the_data) → deps ≡ s.remaining → IsFull loops (rows_of s)
-    → Restricts m s.rows deps left → blocks ≡ closed_by s.closed s.rows → Ended loops blocks left result
-    → Steps m loops budget s (ending result)
-end_steps m loops budget s deps left blocks (Ok bs) e full r b h = end_next m loops s deps left blocks
-    (ends (map block_of bs.items)) e full r b h
-end_steps m loops budget s deps left blocks (Err (kept.Stuck stuck)) e full r b h = absurd h
-end_steps m loops budget s deps left blocks (Err (kept.NoRow posed)) e full r b h = absurd h
-end_steps m loops budget s deps left blocks (Err (kept.NoOrder component)) e full r b h =
-    end_next m loops s deps left blocks (no_order component) e full r b h
-end_steps m loops budget s deps left blocks (Err kept.NoMemory) e full r b h = tt
-end_steps m loops budget s deps left blocks (Err (kept.Large row)) e full r b h = absurd h
+    → AnswersRestricted m s.rows budget deps → Restricts m s.rows deps left → blocks ≡ closed_by s.closed s.rows
+    → Ended loops blocks left result → Steps m loops budget s (ending result)
+end_steps m loops budget s deps left blocks (Ok bs) e full a r b h = (
+  inl (full, subst (λ (l : List Dependence). AnswersRestricted m s.rows budget l) e a),
+  end_next m loops s deps left blocks (ends (map block_of bs.items)) e full r b h,
+)
+end_steps m loops budget s deps left blocks (Err (kept.Stuck stuck)) e full a r b h = absurd h
+end_steps m loops budget s deps left blocks (Err (kept.NoRow posed)) e full a r b h = absurd h
+end_steps m loops budget s deps left blocks (Err (kept.NoOrder component)) e full a r b h = (
+  inl (full, subst (λ (l : List Dependence). AnswersRestricted m s.rows budget l) e a),
+  end_next m loops s deps left blocks (no_order component) e full r b h,
+)
+end_steps m loops budget s deps left blocks (Err kept.NoMemory) e full a r b h = tt
+end_steps m loops budget s deps left blocks (Err (kept.Large row)) e full a r b h = absurd h

@@ -4,42 +4,45 @@ use Rattle.std.specs.Global.{Global}
 use Rattle.integer_sets.specs.Constraints.{Constraints}
 use Rattle.iteration_domains.specs.Dependence.{Dependence}
 use Rattle.iteration_domains.specs.Model.{KernelModel}
-use Rattle.schedule_rows.specs.Next.{State, rows_of}
+use Rattle.schedule_rows.specs.Next.{State}
 use Rattle.schedule_rows.specs.Outcomes.{ends, no_row, no_order, large, Next}
-use Rattle.schedule_rows.specs.Reaching.{Reached, Comes}
 use Rattle.schedule_rows.specs.Schedule.{Scheduled, IsScheduled, block_of, loops_in}
 use Rattle.schedule_rows.specs.declared.item.Block.TheVariants as code_block
-use Rattle.pluto_systems.specs.Posing.{HasPosed}
-use Rattle.pluto_search.specs.Questions.{AsksFirst, Stops}
+use Rattle.pluto_search.specs.Questions.{AnswersAt, AsksFirst, Answered, ComesAnswered, IsPosedAt, Stops}
 use Rattle.pluto_search.specs.Stopping.{IsStop}
 use Rattle.pluto_search.specs.Steps.{state_of, IsGood}
 use Rattle.pluto_search.specs.declared.state.Progress.{Progress}
 use Rattle.pluto_search.specs.declared.kept.Kept.TheVariants as kept
 
--- the determined run comes to a state without a row to come, and the system is that state's posed set
-abbrev pub LacksRow : ℕ → List ℕ → List Dependence → Constraints → Type 0
-LacksRow m loops deps posed =
-    (s : State) × Reached m loops deps s × Next m loops s no_row × HasPosed m loops s.remaining (rows_of s) posed
+-- the determined run comes to a state without a row to come, all questions answered, and the system is that state's
+-- posed system
+abbrev pub LacksRow : ℕ → List ℕ → ℕ → List Dependence → Constraints → Type 0
+LacksRow m loops budget deps posed =
+    (s : State) × Answered m loops budget deps s × AnswersAt m loops budget s × Next m loops s no_row
+    × IsPosedAt m loops budget s posed
 
--- why the order is kept: where the determined run ends so, or a question stops
+-- why the order is kept: the determined run ends so, all questions answered, or a question is the first that stops
 abbrev pub Keeps : ℕ → List ℕ → List Dependence → ℕ → kept.the_data → Type 0
 Keeps m loops deps budget (kept.Stuck stuck) = Stops m loops budget deps stuck
-Keeps m loops deps budget (kept.NoRow posed) = LacksRow m loops deps posed
-Keeps m loops deps budget (kept.NoOrder component) = Comes m loops deps (no_order component)
+Keeps m loops deps budget (kept.NoRow posed) = LacksRow m loops budget deps posed
+Keeps m loops deps budget (kept.NoOrder component) = ComesAnswered m loops budget deps (no_order component)
 Keeps m loops deps budget kept.NoMemory = ⊤
-Keeps m loops deps budget (kept.Large row) = Comes m loops deps (large row)
+Keeps m loops deps budget (kept.Large row) = ComesAnswered m loops budget deps (large row)
 
--- the schedule of a model's dependences, which is that of the determined run, or why the order is kept
+-- the schedule of a model's dependences, which is that of the determined run, all questions answered; or why the order
+-- is kept
 abbrev pub Searches : KernelModel → List Dependence → ℕ → Result Scheduled kept.the_data → Type 0
-Searches model deps budget (Ok s) = (s.model ≡ model) × (s.deps ≡ deps) × IsScheduled s
+Searches model deps budget (Ok s) =
+    (s.model ≡ model) × (s.deps ≡ deps) × (run : IsScheduled s)
+    × ComesAnswered model.parameters (loops_in model) budget deps (ends run.blocks)
 Searches model deps budget (Err kept) = Keeps model.parameters (loops_in model) deps budget kept
 
--- the first state, or a stop of one of the first questions
+-- the first state, or the first stop among the first questions
 abbrev pub Starts : ℕ → List ℕ → List Dependence → ℕ → Result Progress kept.the_data → Type 0
-Starts m loops deps budget (Ok p) = IsGood m loops budget p × Reached m loops deps (state_of p)
+Starts m loops deps budget (Ok p) = IsGood m loops budget p × Answered m loops budget deps (state_of p)
 Starts m loops deps budget (Err kept) = IsStop (AsksFirst budget deps) kept
 
 -- the blocks of the determined run, or why the order is kept
 abbrev pub Runs : ℕ → List ℕ → List Dependence → ℕ → Result (Vec code_block.the_data Global) kept.the_data → Type 0
-Runs m loops deps budget (Ok blocks) = Comes m loops deps (ends (map block_of blocks.items))
+Runs m loops deps budget (Ok blocks) = ComesAnswered m loops budget deps (ends (map block_of blocks.items))
 Runs m loops deps budget (Err kept) = Keeps m loops deps budget kept

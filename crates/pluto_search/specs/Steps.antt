@@ -10,8 +10,8 @@ use Rattle.schedule_rows.specs.Next.{State, rows_of, IsWithin}
 use Rattle.schedule_rows.specs.Outcomes.{goes, ends, no_row, no_order, large, state, Next}
 use Rattle.schedule_rows.specs.Schedule.{block_of, marked_of}
 use Rattle.pluto_systems.specs.Placing.{IsShaped}
-use Rattle.pluto_systems.specs.Posing.{RuledDep, IsRuled, dep_of, IsBetween, AreVectorsOf, HasPosed}
-use Rattle.pluto_search.specs.Questions.{AreRuledBy, IsTold, StopsAt}
+use Rattle.pluto_systems.specs.Posing.{RuledDep, IsRuled, dep_of, IsBetween, AreVectorsOf}
+use Rattle.pluto_search.specs.Questions.{AnswersAt, AreRuledBy, IsPosedAt, IsTold, StopsAt}
 use Rattle.pluto_search.specs.declared.state.Progress.{Progress}
 use Rattle.pluto_search.specs.declared.state.Step.TheVariants as step
 use Rattle.pluto_search.specs.declared.kept.Kept.TheVariants as kept
@@ -44,18 +44,21 @@ pub record IsGood (m : ℕ) (loops : List ℕ) (budget : ℕ) (p : Progress) : T
   pub ruled : (x : RuledDep) → In x p.ruled.items → IsRuled x
   pub by_run : AreRuledBy budget p.ruled.items
 
--- why nothing comes behind a state
+-- why nothing comes behind a state: all its questions are answered, or one stops
 abbrev pub KeepsAt : ℕ → List ℕ → ℕ → State → kept.the_data → Type 0
 KeepsAt m loops budget s (kept.Stuck stuck) = IsTold stuck × StopsAt m loops budget s stuck
-KeepsAt m loops budget s (kept.NoRow posed) = Next m loops s no_row × HasPosed m loops s.remaining (rows_of s) posed
-KeepsAt m loops budget s (kept.NoOrder component) = Next m loops s (no_order component)
+KeepsAt m loops budget s (kept.NoRow posed) =
+    AnswersAt m loops budget s × Next m loops s no_row × IsPosedAt m loops budget s posed
+KeepsAt m loops budget s (kept.NoOrder component) = AnswersAt m loops budget s × Next m loops s (no_order component)
 KeepsAt m loops budget s kept.NoMemory = ⊤
-KeepsAt m loops budget s (kept.Large row) = Next m loops s (large row)
+KeepsAt m loops budget s (kept.Large row) = AnswersAt m loops budget s × Next m loops s (large row)
 
--- what comes next, or why nothing does
+-- what comes next, all questions answered, or why nothing does
 abbrev pub Steps : ℕ → List ℕ → ℕ → State → Result step.the_data kept.the_data → Type 0
-Steps m loops budget s (Ok (step.Goes p)) = Next m loops s (goes (state_of p)) × IsGood m loops budget p
-Steps m loops budget s (Ok (step.Ends blocks)) = Next m loops s (ends (map block_of blocks.items))
+Steps m loops budget s (Ok (step.Goes p)) =
+    AnswersAt m loops budget s × Next m loops s (goes (state_of p)) × IsGood m loops budget p
+Steps m loops budget s (Ok (step.Ends blocks)) =
+    AnswersAt m loops budget s × Next m loops s (ends (map block_of blocks.items))
 Steps m loops budget s (Err kept) = KeepsAt m loops budget s kept
 
 -- a step that goes on, where a part of it does

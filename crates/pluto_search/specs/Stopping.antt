@@ -1,13 +1,12 @@
 -- How a question that stops keeps the order.
-use Rattle.std.specs.Prelude.{◌≡◌, ℕ, List, Option, None, Some, Result, Ok, Err, ⊤}
-use Rattle.scop_syntax.specs.Members.{In}
+use Rattle.std.specs.Prelude.{◌≡◌, ℕ, List, Option, None, Some, Result, Ok, Err, ⊤, true, false}
 use Rattle.iteration_domains.specs.Dependence.{Dependence}
 use Rattle.pip_solver.specs.declared.stop.Stop.TheVariants as solver
 use Rattle.farkas.specs.declared.stuck.Stuck.TheVariants as stuck
-use Rattle.schedule_rows.specs.Items.{Marked, Row}
-use Rattle.schedule_rows.specs.Dependences.{IsEmptyDep, above_at}
+use Rattle.schedule_rows.specs.Items.{Marked}
+use Rattle.schedule_rows.specs.Dependences.{IsEmptyDep}
 use Rattle.schedule_rows.specs.Next.{restricted}
-use Rattle.pluto_search.specs.Questions.{IsTold, StopsEmptiness, StopsRows}
+use Rattle.pluto_search.specs.Questions.{IsTold, AnswersEmptiness, StopsEmptiness}
 use Rattle.pluto_search.specs.declared.kept.Kept.TheVariants as kept
 
 -- a question to the solver that stops keeps it so
@@ -30,21 +29,11 @@ IsStop P (kept.NoOrder component) = ⊥
 IsStop P kept.NoMemory = ⊤
 IsStop P (kept.Large row) = ⊥
 
--- the question whether one of the dependences is empty at equal values of rows stops so
-abbrev pub StopsRestricted : ℕ → List Marked → ℕ → List Dependence → stuck.the_data → Type 0
-StopsRestricted m rows budget deps stuck =
-    (d : Dependence) × In d deps × StopsEmptiness budget (restricted m rows d) stuck
-
--- the question whether one of them is empty where a row rises does
-abbrev pub StopsAbove : ℕ → Row → ℕ → List Dependence → stuck.the_data → Type 0
-StopsAbove m r budget deps stuck = (d : Dependence) × In d deps × StopsEmptiness budget (above_at m r d) stuck
-
--- the rows of one of them do
-abbrev pub StopsRowsOf : ℕ → List Dependence → stuck.the_data → Type 0
-StopsRowsOf budget deps stuck = (d : Dependence) × In d deps × StopsRows budget d stuck
-
 -- a dependence restricted to equal values of rows, where it is not empty then
 abbrev pub Restrictions : ℕ → List Marked → ℕ → Dependence → Result (Option Dependence) kept.the_data → Type 0
-Restrictions m rows budget d (Ok None) = IsEmptyDep m (restricted m rows d)
-Restrictions m rows budget d (Ok (Some e)) = (e ≡ restricted m rows d) × (IsEmptyDep m (restricted m rows d) → ⊥)
+Restrictions m rows budget d (Ok None) =
+    IsEmptyDep m (restricted m rows d) × AnswersEmptiness budget true (restricted m rows d)
+Restrictions m rows budget d (Ok (Some e)) =
+    (e ≡ restricted m rows d) × (IsEmptyDep m (restricted m rows d) → ⊥)
+    × AnswersEmptiness budget false (restricted m rows d)
 Restrictions m rows budget d (Err kept) = IsStop (StopsEmptiness budget (restricted m rows d)) kept

@@ -3,26 +3,12 @@ ghost use Rattle.std.specs.Prelude.{◌≡◌, ℕ, ◌≤◌, [], All, IfOk, le
 ghost use Rattle.iteration_domains.specs.Dependence.{Dependence};
 ghost use Rattle.null_space.specs.Narrowing.{kernel_vectors};
 ghost use Rattle.schedule_rows.specs.Outcomes.{state};
-ghost use Rattle.schedule_rows.specs.Schedule.{loops_in};
 ghost use Rattle.pluto_search.specs.Steps.{AreBetween, state_of, IsGood};
 
 use crate::state::Progress;
-use iteration_domains::{Dep, Model};
+use iteration_domains::Dep;
 use null_space::{Rows, kernel_vectors};
 use std::alloc::{AllocError, Global};
-
-/// How many loops stand round each statement.
-pub fn loops_in(alloc: Global, model: &Model) -> Result<Vec<usize>, AllocError>
-    ensures loops { IfOk result (λ v. v.items ≡ loops_in model.now) }
-    ensures few { IfOk result (λ v. All (λ l. l ≤ 5) v.items) }
-{
-    let statements = model.statements();
-    let mut loops = Vec::new(alloc);
-    for at in 0..statements.len() {
-        loops.push(statements[at].loops().len())?;
-    }
-    Ok(loops)
-}
 
 /// The units of each statement's loops.
 fn first_vectors(alloc: Global, loops: &[usize]) -> Result<Vec<Rows>, AllocError>

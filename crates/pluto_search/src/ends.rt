@@ -11,10 +11,12 @@ ghost use Rattle.schedule_rows.specs.Next.{Uncuts};
 ghost use Rattle.schedule_rows.specs.Outcomes.{items_in};
 ghost use Rattle.schedule_rows.specs.Schedule.{block_of, marked_of};
 ghost use Rattle.pluto_systems.specs.Posing.{dep_of};
-ghost use Rattle.pluto_search.specs.Moves.{AreWithin};
-ghost use Rattle.pluto_search.specs.Shared.{HasTwin, Finds};
+ghost use Rattle.pluto_search.specs.StepParts.{AreWithin};
+ghost use Rattle.pluto_search.specs.Shared.{SharesComponent, Finds};
+ghost use Rattle.pluto_search.specs.Steps.{state_of};
 
 use crate::restricting::copied;
+use crate::state::Progress;
 use iteration_domains::Dep;
 use pluto_systems::Ruled;
 use schedule_rows::{Block, Marked};
@@ -69,11 +71,12 @@ pub fn with_scalar(closed: Vec<Block>, numbers: Vec<usize>) -> Result<Vec<Block>
 }
 
 /// The dependences that remain: those with their rows, then the others.
-pub fn remaining(alloc: Global, ruled: &[Ruled], bare: Vec<Dep>) -> Result<Vec<Dep>, AllocError>
-    ensures { IfOk result (λ v. v.items ≡ map dep_of ruled.now ++ bare.items) }
+pub fn remaining(alloc: Global, progress: &Progress) -> Result<Vec<Dep>, AllocError>
+    ensures { IfOk result (λ v. v.items ≡ (state_of progress.now).remaining) }
 {
-    let mut deps = copies(alloc, ruled)?;
-    for dep in bare {
+    let mut deps = copies(alloc, &progress.ruled)?;
+    for at in 0..progress.bare.len() {
+        let dep = copied(alloc, &progress.bare[at])?;
         match deps.push(dep) {
             Err(_) => return Err(AllocError),
             Ok(()) => {}
@@ -149,9 +152,9 @@ pub fn uncut(alloc: Global, numbers: &[usize], deps: Vec<Dep>) -> Result<Vec<Dep
 }
 
 /// Whether another statement is in a statement's component.
-fn has_twin(numbers: &[usize], a: usize) -> bool
+fn shares_component(numbers: &[usize], a: usize) -> bool
     requires { a < length numbers.now }
-    ensures { HasTwin numbers.now a result }
+    ensures { SharesComponent numbers.now a result }
 {
     for b in 0..numbers.len() {
         if b != a && numbers[b] == numbers[a] {
@@ -179,7 +182,7 @@ pub fn shared(numbers: &[usize]) -> Option<usize>
 {
     let mut least = None;
     for a in 0..numbers.len() {
-        if has_twin(numbers, a) {
+        if shares_component(numbers, a) {
             least = Some(lesser(least, numbers[a]));
         }
     }

@@ -1,7 +1,7 @@
 //! The search for a schedule, row by row: each row is the least of its posed set, a band ends where there is none, and
 //! a scalar item goes between (U. Bondhugula and others, "A practical automatic polyhedral parallelizer and locality
-//! optimizer", PLDI 2008). Promises exactly the schedule of the determined run, or why the run has none, or a question
-//! of that run that stops.
+//! optimizer", PLDI 2008). Promises exactly the schedule of the determined run, or why the run has none, or the first
+//! question of that run that stops.
 #![tactic(auto)]
 
 mod begin;
@@ -9,7 +9,6 @@ mod ends;
 mod kept;
 mod laws;
 mod next;
-mod question;
 mod restricting;
 mod rows;
 mod searching;

@@ -3,20 +3,20 @@ ghost use Rattle.std.specs.Prelude.{◌≡◌, true, false, ◌≤◌, ◌++◌,
 ghost use Rattle.scop_syntax.specs.Members.{In};
 ghost use Rattle.iteration_domains.specs.Dependence.{Dependence};
 ghost use Rattle.schedule_rows.specs.Next.{rows_of, Restricts};
-ghost use Rattle.schedule_rows.specs.Posed.{IsFull, IsLeast, HasNone};
+ghost use Rattle.schedule_rows.specs.Posed.{IsFull};
 ghost use Rattle.schedule_rows.specs.Outcomes.{items_in};
 ghost use Rattle.schedule_rows.specs.Schedule.{block_of, marked_of};
 ghost use Rattle.pluto_systems.specs.Placing.{columns_of, row_from};
-ghost use Rattle.pluto_systems.specs.Posing.{HasPosed, dep_of};
-ghost use Rattle.pluto_search.specs.Moves.{AreWithin, Ended, IsClosed, Cuts, IsLarge, IsAppended};
-ghost use Rattle.pluto_search.specs.Questions.{AreRuledBy};
+ghost use Rattle.pluto_systems.specs.Posing.{dep_of};
+ghost use Rattle.pluto_search.specs.StepParts.{AreWithin, Ended, IsClosed, Cuts, IsLarge, IsAppended, HasAllRows};
+ghost use Rattle.pluto_search.specs.Questions.{AnswersRestricted, AreRuledBy, FindsNone, FindsRow, IsPosedAt};
+ghost use Rattle.pluto_search.specs.Questions.{StopsRestricted, StopsRowsOf};
 ghost use Rattle.pluto_search.specs.Sizes.{CanTell, CanNarrowEach};
 ghost use Rattle.pluto_search.specs.Steps.{AllRuled, going, state_of, vectors_in, IsGood, Steps};
-ghost use Rattle.pluto_search.specs.Stopping.{IsStop, StopsRestricted, StopsRowsOf};
+ghost use Rattle.pluto_search.specs.Stopping.{IsStop};
 
 use crate::ends::{close, items_in, numbered, remaining, shared, uncut, with_scalar};
 use crate::kept::Kept;
-use crate::question::minimum;
 use crate::restricting::restrict_all;
 use crate::rows::{is_parallel, is_within, narrow_all, row_from};
 use crate::state::{Progress, Step};
@@ -24,6 +24,7 @@ use crate::stops::{by_rows, by_solver};
 use integer_sets::System;
 use iteration_domains::Dep;
 use null_space::Rows;
+use pip_solver::least_point_in;
 use pluto_systems::{Ruled, posed_over};
 use schedule_rows::{Block, Marked, Row};
 use std::alloc::{AllocError, Global};
@@ -89,17 +90,11 @@ fn finish(
     requires full { IsFull loops.now (rows_of (state_of progress)) }
     ensures { Steps parameters loops.now budget (state_of progress) result }
 {
-    let Progress {
-        closed,
-        rows,
-        ruled,
-        bare,
-        vectors,
-    } = progress;
-    let deps = match remaining(alloc, &ruled, bare) {
+    let deps = match remaining(alloc, &progress) {
         Err(_) => return Err(Kept::NoMemory),
         Ok(deps) => deps,
     };
+    let Progress { closed, rows, .. } = progress;
     let left = match restrict_all(alloc, parameters, &rows, &deps, budget) {
         Err(kept) => return Err(kept),
         Ok(left) => left,
@@ -129,6 +124,7 @@ fn close_band(
     requires parameters { (d : Dependence) → In d deps.items → d.system.parameters ≡ parameters }
     ensures closed { IfOk result (IsClosed parameters (map block_of closed.items) (map marked_of rows.items) deps.items
         (map (λ vs. map (λ v. v.items) vs.items) vectors.items)) }
+    ensures answered { IfOk result (λ _. AnswersRestricted parameters (map marked_of rows.items) budget deps.items) }
     ensures stops { IfErr result (IsStop (StopsRestricted parameters (map marked_of rows.items) budget deps.items)) }
 {
     let kept = match restrict_all(alloc, parameters, &rows, &deps, budget) {
@@ -205,21 +201,20 @@ fn lack(
 ) -> Result<Step, Kept>
     requires good { IsGood parameters loops.now budget progress }
     requires more { IsFull loops.now (rows_of (state_of progress)) → ⊥ }
-    requires none { HasNone parameters loops.now (state_of progress).remaining (rows_of (state_of progress)) }
-    requires posed { HasPosed parameters loops.now (state_of progress).remaining (rows_of (state_of progress)) posed }
+    requires none { FindsNone parameters loops.now budget (state_of progress) }
+    requires posed { IsPosedAt parameters loops.now budget (state_of progress) posed }
     ensures { Steps parameters loops.now budget (state_of progress) result }
 {
-    let Progress {
-        closed,
-        rows,
-        ruled,
-        bare,
-        vectors,
-    } = progress;
-    let deps = match remaining(alloc, &ruled, bare) {
+    let deps = match remaining(alloc, &progress) {
         Err(_) => return Err(Kept::NoMemory),
         Ok(deps) => deps,
     };
+    let Progress {
+        closed,
+        rows,
+        vectors,
+        ..
+    } = progress;
     if rows.is_empty() {
         return goes(cut(alloc, loops, closed, deps, vectors, posed));
     }
@@ -288,7 +283,7 @@ fn take(
     requires ruled { progress.bare.items ≡ [] }
     requires more { IsFull loops.now (rows_of (state_of progress)) → ⊥ }
     requires size { length numbers.items ≡ columns_of parameters loops.now }
-    requires least { IsLeast parameters loops.now (state_of progress).remaining (rows_of (state_of progress))
+    requires least { FindsRow parameters loops.now budget (state_of progress)
         (row_from parameters loops.now numbers.items) }
     ensures { Steps parameters loops.now budget (state_of progress) result }
 {
@@ -334,6 +329,57 @@ fn rule_all(
     Ok(all)
 }
 
+/// All dependences that remain have their rows then.
+fn with_all_rows(alloc: Global, progress: Progress, budget: u64) -> Result<Progress, Kept>
+    ensures ruled { IfOk result (HasAllRows budget progress) }
+    ensures stops { IfErr result (IsStop (StopsRowsOf budget progress.bare.items)) }
+{
+    let Progress {
+        closed,
+        rows,
+        ruled,
+        bare,
+        vectors,
+    } = progress;
+    match rule_all(alloc, ruled, bare, budget) {
+        Err(kept) => Err(kept),
+        Ok(ruled) => Ok(Progress {
+            closed,
+            rows,
+            ruled,
+            bare: Vec::new(alloc),
+            vectors,
+        }),
+    }
+}
+
+/// The item that comes next where all dependences that remain have their rows: the least row, or what there is where
+/// the posed set has no point.
+fn next_row(
+    alloc: Global,
+    parameters: usize,
+    loops: &[usize],
+    progress: Progress,
+    budget: u64,
+) -> Result<Step, Kept>
+    requires parameters { parameters ≤ 4 }
+    requires loops { All (λ l. l ≤ 5) loops.now }
+    requires good { IsGood parameters loops.now budget progress }
+    requires ruled { progress.bare.items ≡ [] }
+    requires more { IsFull loops.now (rows_of (state_of progress)) → ⊥ }
+    ensures { Steps parameters loops.now budget (state_of progress) result }
+{
+    let posed = match posed_over(alloc, parameters, loops, &progress.ruled, &progress.vectors) {
+        Err(_) => return Err(Kept::NoMemory),
+        Ok(posed) => posed,
+    };
+    match least_point_in(alloc, &posed, budget) {
+        Err(stop) => Err(by_solver(stop)),
+        Ok(None) => lack(alloc, parameters, loops, progress, posed, budget),
+        Ok(Some(numbers)) => take(alloc, parameters, loops, progress, numbers, budget),
+    }
+}
+
 /// The next item of the determined run, or why there is none. The questions: rows of the dependences that remain, in
 /// order, then the minimum; of a new row whether it is parallel, up to the first dependence at which it rises; where a
 /// band ends the restricted dependences in order.
@@ -352,37 +398,8 @@ pub fn next_item(
     if is_full(&progress.vectors) {
         return finish(alloc, parameters, loops, progress, budget);
     }
-    let Progress {
-        closed,
-        rows,
-        ruled,
-        bare,
-        vectors,
-    } = progress;
-    let all = match rule_all(alloc, ruled, bare, budget) {
-        Err(kept) => return Err(kept),
-        Ok(all) => all,
-    };
-    let ruled_progress = Progress {
-        closed,
-        rows,
-        ruled: all,
-        bare: Vec::new(alloc),
-        vectors,
-    };
-    let system = match posed_over(
-        alloc,
-        parameters,
-        loops,
-        &ruled_progress.ruled,
-        &ruled_progress.vectors,
-    ) {
-        Err(_) => return Err(Kept::NoMemory),
-        Ok(system) => system,
-    };
-    match minimum(alloc, &system, budget) {
-        Err(stop) => Err(by_solver(stop)),
-        Ok(None) => lack(alloc, parameters, loops, ruled_progress, system, budget),
-        Ok(Some(numbers)) => take(alloc, parameters, loops, ruled_progress, numbers, budget),
+    match with_all_rows(alloc, progress, budget) {
+        Err(kept) => Err(kept),
+        Ok(ruled) => next_row(alloc, parameters, loops, ruled, budget),
     }
 }

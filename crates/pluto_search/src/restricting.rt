@@ -10,9 +10,9 @@ ghost use Rattle.schedule_rows.specs.Items.{part_of};
 ghost use Rattle.schedule_rows.specs.Dependences.{IsEmptyDep, unknowns_of, equal_at, above_at};
 ghost use Rattle.schedule_rows.specs.Next.{Restricts, restricted};
 ghost use Rattle.schedule_rows.specs.Schedule.{row_of, marked_of};
-ghost use Rattle.pluto_search.specs.Questions.{StopsEmptiness};
+ghost use Rattle.pluto_search.specs.Questions.{AnswersEmptiness, AnswersRestricted, StopsEmptiness, StopsRestricted};
 ghost use Rattle.pluto_search.specs.Sizes.{IsCount, AreCounts, CanTell};
-ghost use Rattle.pluto_search.specs.Stopping.{IsStop, StopsRestricted, Restrictions};
+ghost use Rattle.pluto_search.specs.Stopping.{IsStop, Restrictions};
 
 use crate::kept::Kept;
 use crate::stops::by_solver;
@@ -184,6 +184,7 @@ pub fn asked(alloc: Global, parameters: usize, dep: &Dep, budget: u64) -> Result
     requires { dep.now.system.parameters ≡ parameters }
     ensures empty { result ≡ Ok true → IsEmptyDep parameters dep.now }
     ensures point { result ≡ Ok false → IsEmptyDep parameters dep.now → ⊥ }
+    ensures answered { IfOk result (λ empty. AnswersEmptiness budget empty dep.now) }
     ensures stops { IfErr result (IsStop (StopsEmptiness budget dep.now)) }
 {
     match is_empty(alloc, &dep.system, budget) {
@@ -226,6 +227,7 @@ pub fn restrict_all(
     requires tells { (d : Dependence) → In d deps.now → All (λ r. CanTell parameters r.row d) (map marked_of rows.now) }
     requires parameters { (d : Dependence) → In d deps.now → d.system.parameters ≡ parameters }
     ensures kept { IfOk result (λ v. Restricts parameters (map marked_of rows.now) deps.now v.items) }
+    ensures answered { IfOk result (λ _. AnswersRestricted parameters (map marked_of rows.now) budget deps.now) }
     ensures stops { IfErr result (IsStop (StopsRestricted parameters (map marked_of rows.now) budget deps.now)) }
 {
     let mut kept = Vec::new(alloc);

@@ -9,9 +9,9 @@ ghost use Rattle.schedule_rows.specs.Next.{IsWithin};
 ghost use Rattle.schedule_rows.specs.Schedule.{row_of};
 ghost use Rattle.pluto_systems.specs.Placing.{columns_of, row_from};
 ghost use Rattle.pluto_systems.specs.Posing.{RuledDep, dep_of};
-ghost use Rattle.pluto_search.specs.Questions.{StopsEmptiness};
+ghost use Rattle.pluto_search.specs.Questions.{AnswersMark, AnswersMarks, StopsEmptiness, StopsMarks};
 ghost use Rattle.pluto_search.specs.Sizes.{CanTell, CanNarrow, CanNarrowEach, narrowed_each};
-ghost use Rattle.pluto_search.specs.Stopping.{IsStop, StopsAbove};
+ghost use Rattle.pluto_search.specs.Stopping.{IsStop};
 
 use crate::kept::Kept;
 use crate::restricting::{above_at, asked};
@@ -143,6 +143,7 @@ fn is_level(
     requires { CanTell parameters (row_of row.now) dep.now }
     ensures level { result ≡ Ok true → IsEmptyDep parameters (above_at parameters (row_of row.now) dep.now) }
     ensures rises { result ≡ Ok false → IsEmptyDep parameters (above_at parameters (row_of row.now) dep.now) → ⊥ }
+    ensures answered { IfOk result (λ level. AnswersMark parameters (row_of row.now) budget level dep.now) }
     ensures stops { IfErr result (IsStop (StopsEmptiness budget (above_at parameters (row_of row.now) dep.now))) }
 {
     match above_at(alloc, parameters, row, dep) {
@@ -164,7 +165,8 @@ pub fn is_parallel(
         → IsEmptyDep parameters (above_at parameters (row_of row.now) d) }
     ensures carries { result ≡ Ok false → (d : Dependence) × In d (map dep_of ruled.now)
         × (IsEmptyDep parameters (above_at parameters (row_of row.now) d) → ⊥) }
-    ensures stops { IfErr result (IsStop (StopsAbove parameters (row_of row.now) budget (map dep_of ruled.now))) }
+    ensures answered { IfOk result (λ _. AnswersMarks parameters (row_of row.now) budget (map dep_of ruled.now)) }
+    ensures stops { IfErr result (IsStop (StopsMarks parameters (row_of row.now) budget (map dep_of ruled.now))) }
 {
     for at in 0..ruled.len() {
         match is_level(alloc, parameters, row, ruled[at].dep(), budget) {

@@ -4,13 +4,14 @@ ghost use Rattle.conflict_deps.specs.Conflicts.{conflicts_of};
 ghost use Rattle.pluto_search.specs.Searching.{Runs, Starts, Searches};
 ghost use Rattle.pluto_search.specs.Steps.{AreBetween};
 
-use crate::begin::{begin, loops_in};
+use crate::begin::begin;
 use crate::kept::Kept;
 use crate::next::next_item;
 use crate::restricting::restrict_all;
 use crate::state::{Progress, Step};
 use conflict_deps::conflict_laws::systems_have_parts;
 use iteration_domains::{Dep, Model};
+use pluto_systems::loops_in;
 use schedule_rows::{Block, Schedule};
 use std::alloc::Global;
 
@@ -66,8 +67,8 @@ fn run(
 /// question has the whole budget.
 ///
 /// # Errors
-/// `NoRow`, `NoOrder` and `Large` only where the determined run ends so, `Stuck` only where a question that it poses
-/// stops, and with that stop; `NoMemory`.
+/// `NoRow`, `NoOrder` and `Large` exactly where the determined run ends so and no question before stops, `Stuck` exactly
+/// where one stops, with the stop of the first; `NoMemory`.
 pub fn search<'a>(
     alloc: Global,
     model: &'a Model,

@@ -3,7 +3,6 @@ use Rattle.std.proofs.Common.{◌≡◌, ℤ, ℕ, zero, suc, ◌+◌, ◌<◌, 
 use Rattle.std.proofs.Common.{◌⊎◌, inl, inr, arith, length, drop, map, get_or, drop-cons, add-one}
 use Rattle.std.specs.Prelude.{◌≤◌, Result, Ok, Err, IfOk}
 use Rattle.std.specs.List.{flat_map}
-use Rattle.std.proofs.lemmas.List.{append-nil}
 use Rattle.whole_numbers.specs.Affine.{Affine}
 use Rattle.integer_sets.specs.Constraints.{Constraints, system_of, IsSized}
 use Rattle.scop_syntax.specs.Members.{In}
@@ -91,12 +90,6 @@ ruled_step f out new xs i x one d l b h e p q r n w =
     drop-cons xs i x h
     ∙ ap₂ (λ (z : RuledDep) (k : ℕ). z ∷ drop k xs) (sym e) (sym (add-one i)) in
     forms_step f out new one (drop (i + 1) xs) (drop i xs) xs step (n ∙ ap (λ (z : RuledDep). out ++ f z) same) w
-
--- and their end
-pub forms_end : (f : RuledDep → List Affine) (out : List Affine) (here whole : List RuledDep) → here ≡ []
-    → out ++ flat_map f here ≡ flat_map f whole → out ≡ flat_map f whole
-forms_end f out here whole e h =
-    sym (append-nil out) ∙ (sym (ap (λ (z : List RuledDep). out ++ flat_map f z) e) ∙ h)
 
 -- each has its sizes, or is left
 abbrev pub AreSizedTo : List RuledDep → List RuledDep → Type 0

@@ -1,6 +1,6 @@
 -- The kernel vectors of each statement's rows are few and small.
-use Rattle.std.proofs.Common.{◌≡◌, ℕ, zero, suc, ◌+◌, ◌<◌, ◌^◌, ℤ, List, [], ◌∷◌, refl, sym, ◌∙◌, ap, subst}
-use Rattle.std.proofs.Common.{ap₂, arith, length, drop, All, add-one}
+use Rattle.std.proofs.Common.{◌≡◌, ℕ, zero, suc, ◌+◌, ◌<◌, ◌^◌, ℤ, List, [], ◌∷◌, refl, sym, ap, subst}
+use Rattle.std.proofs.Common.{arith, length, All}
 use Rattle.std.specs.Prelude.{◌≤◌, slice_index_or}
 use Rattle.std.proofs.lemmas.List.Elements.{All-nil, All-get_or, All-head}
 use Rattle.null_space.specs.Narrowing.{narrowed_by, narrowed_all, units_from, kernel_vectors}
@@ -59,23 +59,6 @@ small_vectors laws loops rows five h =
           subst (λ (z : List (List ℤ)). All (AreWithin (2 ^ 109)) z) (sym (for_at loops rows s h.size l))
           (laws.narrow (slice_index_or loops s 0) (slice_index_or rows s []) f (h.small s l)).last;
     }
-
-for_behind : (loops : List ℕ) (rows : List (List (List ℤ))) (i : ℕ) → i < length loops → length rows ≡ length loops
-    → vectors_for (drop i loops) (drop i rows)
-    ≡ kernel_vectors (slice_index_or loops i 0) (slice_index_or rows i []) ∷ vectors_for (drop (suc i) loops) (drop
-    (suc i) rows)
-for_behind [] rows i h e = absurd (omega (arith, h))
-for_behind (k ∷ loops) [] i h e = absurd (omega (arith, e))
-for_behind (k ∷ loops) (ds ∷ rows) zero h e = refl
-for_behind (k ∷ loops) (ds ∷ rows) (suc i) h e = for_behind loops rows i (omega (arith, h)) (omega (arith, e))
-
--- one statement's vectors more
-pub for_step : (loops : List ℕ) (rows : List (List (List ℤ))) (i : ℕ) (vs : List (List ℤ)) → i < length loops
-    → length rows ≡ length loops → vs ≡ kernel_vectors (slice_index_or loops i 0) (slice_index_or rows i [])
-    → vectors_for (drop i loops) (drop i rows) ≡ vs ∷ vectors_for (drop (i + 1) loops) (drop (i + 1) rows)
-for_step loops rows i vs h e f =
-    for_behind loops rows i h e
-    ∙ ap₂ (λ (v : List (List ℤ)) (n : ℕ). v ∷ vectors_for (drop n loops) (drop n rows)) (sym f) (sym (add-one i))
 
 -- the vectors of one statement, as a call gives them
 pub record AreSmall (vs : List (List ℤ)) : Type 0 where

@@ -1,16 +1,12 @@
 -- Steps of loops.
-use Rattle.std.proofs.Common.{◌≡◌, ℕ, suc, ◌+◌, ◌-◌, ◌<◌, true, false, ℤ, pos, List, [], ◌∷◌, ◌++◌, refl, sym, ◌∙◌, ap}
-use Rattle.std.proofs.Common.{arith, length, take, drop, map, add-one, drop-cons, append_assoc, get_or}
+use Rattle.std.proofs.Common.{◌≡◌, ℕ, suc, ◌+◌, ◌-◌, ◌<◌, ℤ, pos, List, [], ◌∷◌, ◌++◌, refl, sym, ◌∙◌, ap}
+use Rattle.std.proofs.Common.{arith, length, drop, add-one, drop-cons, append_assoc, get_or}
 use Rattle.std.specs.Prelude.{◌≤◌, ◌+ℤ◌}
-use Rattle.std.specs.List.{flat_map}
-use Rattle.std.proofs.lemmas.List.{append-nil}
 use Rattle.whole_numbers.specs.Lists.{zeros, sums}
 use Rattle.std.proofs.lemmas.List.Elements.{All-nil, All-cons, All-head, All-tail}
 use Rattle.null_space.specs.Sizes.{IsWithin, AreWithin}
 use Rattle.null_space.proofs.Within.{within_add}
 use Rattle.pluto_systems.specs.Posing.{added, growth_rows, growth_from}
-use Rattle.pluto_systems.specs.Placing.{is_end, placed_parts}
-use Rattle.pluto_systems.proofs.Placed.{placed_end, placed_other}
 
 pub more : {X : Type 0} (xs ys new rest rest' whole : List X) → new ≡ xs ++ ys → ys ++ rest' ≡ rest
     → xs ++ rest ≡ whole → new ++ rest' ≡ whole
@@ -19,30 +15,6 @@ more xs ys new rest rest' whole e f h =
 
 pub zeros_step : (n i : ℕ) → i < n → (pos 0 ∷ []) ++ zeros (n - (i + 1)) ≡ zeros (n - i)
 zeros_step n i h = let e : n - i ≡ suc (n - (i + 1)) = omega arith in rw e refl
-
-pub zeros_end : (n i : ℕ) (xs whole : List ℤ) → n - i ≡ 0 → xs ++ zeros (n - i) ≡ whole → xs ≡ whole
-zeros_end n i xs whole h e = sym (ap (λ k. xs ++ zeros k) h ∙ append-nil xs) ∙ e
-
-pub end_step : (a b i : ℕ) (loops : List ℕ) (rest : List ℤ) → i < length loops → is_end a b i ≡ true
-    → take (get_or loops i 0 + 1) rest ++ placed_parts a b (i + 1) (drop (i + 1) loops) (drop
-    (get_or loops i 0 + 1) rest)
-    ≡ placed_parts a b i (drop i loops) rest
-end_step a b i loops rest h t =
-    rw (add-one i, drop-cons loops i 0 h) (sym (placed_end a b i (get_or loops i 0) (drop (suc i) loops) rest t))
-
-pub other_step : (a b i : ℕ) (loops : List ℕ) (rest : List ℤ) → i < length loops → is_end a b i ≡ false
-    → zeros (get_or loops i 0 + 1) ++ placed_parts a b (i + 1) (drop (i + 1) loops) rest
-    ≡ placed_parts a b i (drop i loops) rest
-other_step a b i loops rest h t =
-    rw (add-one i, drop-cons loops i 0 h) (sym (placed_other a b i (get_or loops i 0) (drop (suc i) loops) rest t))
-
-pub map_step : {X Y : Type 0} (f : X → Y) (xs : List X) (i : ℕ) (d : X) → i < length xs
-    → (f (get_or xs i d) ∷ []) ++ map f (drop (i + 1) xs) ≡ map f (drop i xs)
-map_step f xs i d h = rw (add-one i, drop-cons xs i d h) refl
-
-pub flat_step : {X Y : Type 0} (f : X → List Y) (xs : List X) (i : ℕ) (d : X) → i < length xs
-    → f (get_or xs i d) ++ flat_map f (drop (i + 1) xs) ≡ flat_map f (drop i xs)
-flat_step f xs i d h = rw (add-one i, drop-cons xs i d h) refl
 
 pub sums_step : (xs ys : List ℤ) (i : ℕ) → i < length xs → length xs ≡ length ys
     → (get_or xs i (pos 0) +ℤ get_or ys i (pos 0)) ∷ sums (drop (i + 1) xs) (drop (i + 1) ys)

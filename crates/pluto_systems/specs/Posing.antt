@@ -117,10 +117,6 @@ HasPosed m loops deps before s =
     (r : Row) → IsShaped m loops r → AreNotNegative (numbers_of r)
     → Satisfies s (numbers_of r) ↔ IsPosed m loops deps before r
 
--- a point of a system that is not negative
-abbrev pub IsTaken : Constraints → List ℤ → Type 0
-IsTaken s xs = AreNotNegative xs × Satisfies s xs
-
 -- both claims of a dependence, legality first
 abbrev pub ruled_run : ℕ → Dependence → Result RuledDep Halt
 ruled_run budget d =

@@ -7,8 +7,9 @@ ghost use Rattle.iteration_domains.specs.Dependence.{Dependence};
 ghost use Rattle.scop_syntax.specs.Members.{In};
 ghost use Rattle.schedule_rows.specs.Items.{Row, numbers_of};
 ghost use Rattle.schedule_rows.specs.Posed.{IsLeast, HasNone};
+ghost use Rattle.pip_solver.specs.Minimum.{IsTaken};
 ghost use Rattle.pluto_systems.specs.Placing.{columns_of, row_from, IsShaped};
-ghost use Rattle.pluto_systems.specs.Posing.{RuledDep, IsRuled, IsBetween, AreVectorsOf, HasPosed, IsTaken};
+ghost use Rattle.pluto_systems.specs.Posing.{RuledDep, IsRuled, IsBetween, AreVectorsOf, HasPosed};
 ghost use Rattle.pluto_systems.specs.Posing.{posed_system};
 ghost use Rattle.pluto_systems.specs.Posing.{dep_of, AreSmallVectors, AreCoefficientRows, vectors_for};
 

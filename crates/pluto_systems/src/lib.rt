@@ -20,3 +20,4 @@ pub use laws::{
 pub use null_space::{Rows, kernel_vectors};
 pub use posing::{posed, posed_over};
 pub use ruled::Ruled;
+pub use vectors::loops_in;

@@ -16,7 +16,7 @@ use Rattle.schedule_rows.specs.Schedule.{Item, items_of, marks_of, loops_in, Sch
 use Rattle.schedule_rows.proofs.Reading.{next_goes, next_ends}
 use Rattle.schedule_rows.proofs.Listing.{rows_as_items, marks_in, items_append}
 
-path_more : (m : ℕ) (loops : List ℕ) (s : State) (vs : List State) (t u : State) → Path m loops s vs t
+pub path_more : (m : ℕ) (loops : List ℕ) (s : State) (vs : List State) (t u : State) → Path m loops s vs t
     → Next m loops t (goes u) → Path m loops s (vs ++ u ∷ []) u
 path_more m loops s [] t u p n = (subst (λ (z : State). Next m loops z (goes u)) (sym p) n, refl)
 path_more m loops s (v ∷ vs) t u p n = (p.0, path_more m loops v vs t u p.1 n)

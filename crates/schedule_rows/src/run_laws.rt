@@ -5,6 +5,7 @@ ghost use Rattle.scop_syntax.specs.Members.{In};
 ghost use Rattle.scop_syntax.specs.Walk.{Instance};
 ghost use Rattle.schedule_rows.specs.Items.{Row, Block, values};
 ghost use Rattle.schedule_rows.specs.Bands.{Along};
+ghost use Rattle.schedule_rows.specs.Sized.{AreSized};
 ghost use Rattle.iteration_domains.specs.Dependence.{Dependence};
 ghost use Rattle.schedule_rows.specs.Dependences.{Relates};
 ghost use Rattle.schedule_rows.specs.Next.{State, IsSizedDep};
@@ -15,6 +16,14 @@ ghost use Rattle.schedule_rows.specs.Tiles.{IsGoodPair};
 
 use null_space::{full_rank_leaves_only_0, kernel_vectors_are_kept, rows_take_kernel_vectors};
 use stmt_graph::numberings_are_unique;
+
+/// A schedule's bands have rows, and its items have a part or a number for each statement, a row a coefficient for each
+/// loop round it, and no number of a row is negative or above 4096.
+pub fn schedules_have_small_items()
+    ensures { (m : ℕ) (loops : List ℕ) (deps : List Dependence) (blocks : List Block)
+        → IsSchedule m loops deps blocks
+        → AreSized loops blocks }
+{}
 
 /// Along a schedule no scalar falls at a pair of any dependence, and as long as all values before are equal no row of a
 /// band does; rows that are marked parallel stay; if all are equal the pair is of one statement.

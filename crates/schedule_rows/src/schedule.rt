@@ -153,6 +153,13 @@ impl<'a> Schedule<'a> {
         })
     }
 
+    /// The model that it is a schedule of.
+    pub fn model(&self) -> &Model
+        ensures { result.now ≡ self.now.model }
+    {
+        self.model
+    }
+
     /// The items in order: the rows of the bands, and the scalar items.
     pub fn items(&self) -> &[Item]
         ensures items { map item_of result.now ≡ self.now.items }

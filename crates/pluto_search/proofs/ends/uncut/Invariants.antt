@@ -1,5 +1,5 @@
 use Rattle.std.proofs.Common.{length}
-use Rattle.pluto_search.specs.Moves.{AreWithin}
+use Rattle.pluto_search.specs.StepParts.{AreWithin}
 use Rattle.pluto_search.proofs.Cutting.{Passes}
 use Rattle.pluto_search.proofs.ends.uncut.Given as goal
 

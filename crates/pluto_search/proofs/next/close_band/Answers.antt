@@ -4,6 +4,7 @@ use Rattle.iteration_domains.specs.Dependence.{Dependence}
 use Rattle.schedule_rows.specs.declared.item.Marked as code
 use Rattle.schedule_rows.specs.Items.{Marked}
 use Rattle.schedule_rows.specs.Schedule.{marked_of}
+use Rattle.pluto_search.specs.Questions.{AnswersRestricted}
 use Rattle.pluto_search.specs.Sizes.{CanTell}
 use Rattle.pluto_search.proofs.next.close_band.Goals as goal
 
@@ -16,3 +17,10 @@ restrict_all-requires-clause-tells c d i =
 pub restrict_all-requires-clause-parameters : goal.restrict_all-requires-clause-parameters
 restrict_all-requires-clause-parameters c d i =
     c.requires.parameters d (subst (λ (l : List Dependence). In d l) c.deref-2.ensures.value i)
+
+pub returns-clause-answered : goal.returns-clause-answered
+returns-clause-answered c =
+    subst (λ (z : List code.Marked). AnswersRestricted c.args.parameters (map marked_of z) c.args.budget
+    c.args.deps.items) c.deref.ensures.value
+    (subst (λ (l : List Dependence). AnswersRestricted c.args.parameters (map marked_of c.deref.result.now)
+    c.args.budget l) c.deref-2.ensures.value c.in-Ok.ensures.answered)

@@ -1,9 +1,8 @@
-use Rattle.std.proofs.Common.{rules, ◌≡◌, ◌∙◌, ◌++◌, List, length, map, sym, ap, subst, arith}
+use Rattle.std.proofs.Common.{rules, ◌≡◌, List, length, map, sym, ap, subst, arith}
 use Rattle.std.proofs.lemmas.List.{length-map}
 use Rattle.iteration_domains.specs.Dependence.{Dependence}
 use Rattle.schedule_rows.specs.declared.item.Marked as code
 use Rattle.schedule_rows.specs.Schedule.{marked_of}
-use Rattle.pluto_systems.specs.Posing.{RuledDep, dep_of}
 use Rattle.pluto_search.specs.Steps.{state_of, Steps, AreBetween}
 use Rattle.pluto_search.proofs.Counts.{all_can_tell}
 use Rattle.pluto_search.proofs.Leading.{no_more}
@@ -13,7 +12,7 @@ use Rattle.pluto_search.proofs.next.lack.Goals.{After-is_empty}
 
 -- what remains, in one list
 left : (c : After-is_empty) → c.in-Ok.deps.items ≡ (state_of c.args.progress).remaining
-left c = c.in-Ok.ensures ∙ ap (λ (z : List RuledDep). map dep_of z ++ c.args.progress.bare.items) c.deref.ensures.value
+left c = c.in-Ok.ensures
 
 between : (c : After-is_empty) → AreBetween c.args.parameters c.args.loops.now c.in-Ok.deps.items
 between c = subst (λ (l : List Dependence). AreBetween c.args.parameters c.args.loops.now l) (sym (left c))
@@ -53,4 +52,4 @@ returns c =
     (band_steps c.args.parameters c.args.loops.now c.args.budget p c.in-Ok.deps.items c.close_band.result
     c.requires.good (left at)
     c.requires.more c.requires.none (λ e. some (let n = ap length e in omega arith)) c.close_band.ensures.closed
-    c.close_band.ensures.stops)
+    c.close_band.ensures.answered c.close_band.ensures.stops)

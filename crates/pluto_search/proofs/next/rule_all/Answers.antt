@@ -1,13 +1,12 @@
-use Rattle.std.proofs.Common.{◌≡◌, List, [], ◌∷◌, ◌++◌, map, refl, sym, ◌∙◌, ap, subst, append_assoc, inl, inr, Ok}
+use Rattle.std.proofs.Common.{◌≡◌, List, [], ◌∷◌, ◌++◌, map, sym, ◌∙◌, ap, subst, append_assoc, inl, inr, Ok}
 use Rattle.std.proofs.lemmas.List.{map-append}
 use Rattle.std.proofs.lemmas.List.Elements.{All-push}
-use Rattle.scop_syntax.specs.Members.{In}
 use Rattle.iteration_domains.specs.Dependence.{Dependence}
 use Rattle.pluto_systems.specs.Posing.{RuledDep, dep_of, ruled_run}
 use Rattle.pluto_search.specs.declared.kept.Kept.TheVariants as kept
-use Rattle.pluto_search.specs.Questions.{AreRuledBy, StopsRows}
+use Rattle.pluto_search.specs.Questions.{AreRuledBy, StopsRows, StopsRowsOf}
 use Rattle.pluto_search.specs.Steps.{AllRuled}
-use Rattle.pluto_search.specs.Stopping.{IsStop, StopsRowsOf}
+use Rattle.pluto_search.specs.Stopping.{IsStop}
 use Rattle.pluto_search.proofs.Going.{ruled_more}
 use Rattle.pluto_search.proofs.Halting.{stop_of, rows_stop}
 use Rattle.pluto_search.proofs.next.rule_all.Goals as goal
@@ -15,10 +14,10 @@ use Rattle.pluto_search.proofs.next.rule_all.Goals as goal
 pub returns-in-Err-clause-stops : goal.returns-in-Err-clause-stops
 returns-in-Err-clause-stops c =
     let d = c.in-Some.dep in
-    let i = c.loop-dep.invariant.5 d (subst (λ (l : List Dependence). In d l) (sym c.in-Some.ensures.steps.0)
-    (inl refl)) in
-    stop_of (StopsRows c.args.budget d) (StopsRowsOf c.args.budget c.args.bare.items) c.by_rows.result
-    (λ stop h. (d, i, h))
+    let budget = c.args.budget in
+    stop_of (StopsRows budget d) (StopsRowsOf budget c.args.bare.items) c.by_rows.result
+    (λ stop h. c.loop-dep.invariant.5 stop
+    (subst (λ (l : List Dependence). StopsRowsOf budget l stop) (sym c.in-Some.ensures.steps.0) (inl h)))
     (subst (λ (k : kept.the_data). IsStop (StopsRows c.args.budget d) k) (sym c.by_rows.ensures)
     (rows_stop c.args.budget d c.in-Err.stuck c.in-Err.ensures.run))
 
@@ -43,5 +42,6 @@ loop-dep-preserved c =
       (λ h. subst (λ (z : List RuledDep). AreRuledBy budget z) (sym e)
           (All-push (λ (y : RuledDep). ruled_run budget y.dep ≡ Ok y) all x (c.loop-dep.invariant.4 h)
           (ap (λ (z : Dependence). ruled_run budget z) own ∙ c.in-Ok.ensures.run))),
-      (λ z i. c.loop-dep.invariant.5 z (subst (λ (l : List Dependence). In z l) (sym steps) (inr i))),
+      (λ stop h. c.loop-dep.invariant.5 stop
+          (subst (λ (l : List Dependence). StopsRowsOf budget l stop) (sym steps) (inr ((x, c.in-Ok.ensures.run), h)))),
     )

@@ -1,8 +1,7 @@
 use Rattle.std.proofs.Common.{◌≡◌, ◌++◌, map}
-use Rattle.scop_syntax.specs.Members.{In}
-use Rattle.iteration_domains.specs.Dependence.{Dependence}
+use Rattle.farkas.specs.declared.stuck.Stuck.TheVariants as stuck
 use Rattle.pluto_systems.specs.Posing.{dep_of}
-use Rattle.pluto_search.specs.Questions.{AreRuledBy}
+use Rattle.pluto_search.specs.Questions.{AreRuledBy, StopsRowsOf}
 use Rattle.pluto_search.specs.Steps.{AllRuled}
 use Rattle.pluto_search.proofs.next.rule_all.Given as goal
 
@@ -12,4 +11,5 @@ invariant-loop-dep l =
     × (map dep_of l.all.items ++ l.dep-iterator.rest.items ≡ map dep_of l.fn.ruled.items ++ l.fn.bare.items)
     × (AllRuled l.fn.ruled.items → AllRuled l.all.items)
     × (AreRuledBy l.budget l.fn.ruled.items → AreRuledBy l.budget l.all.items)
-    × ((d : Dependence) → In d l.dep-iterator.rest.items → In d l.fn.bare.items)
+    × ((stop : stuck.the_data) → StopsRowsOf l.budget l.dep-iterator.rest.items stop
+    → StopsRowsOf l.budget l.fn.bare.items stop)

@@ -7,26 +7,23 @@ use Rattle.iteration_domains.specs.Dependence.{Dependence}
 use Rattle.schedule_rows.specs.Items.{Row, Marked}
 use Rattle.schedule_rows.specs.Next.{rows_of}
 use Rattle.schedule_rows.specs.Outcomes.{items_in}
-use Rattle.schedule_rows.specs.Posed.{IsLeast}
 use Rattle.schedule_rows.specs.Schedule.{row_of, block_of, marked_of}
 use Rattle.pluto_systems.specs.Placing.{row_from}
 use Rattle.pluto_systems.specs.Posing.{RuledDep, dep_of}
-use Rattle.pluto_search.specs.Questions.{StopsAt}
+use Rattle.pluto_search.specs.Questions.{AnswersMarks, FindsRow, StopsAt, StopsMarks}
 use Rattle.pluto_search.specs.Steps.{state_of}
-use Rattle.pluto_search.specs.Stopping.{StopsAbove}
 use Rattle.pluto_search.proofs.Counts.{can_tell}
-use Rattle.pluto_search.proofs.Going.{ruled_remains, all_remain}
+use Rattle.pluto_search.proofs.Going.{ruled_remains, remains}
 use Rattle.pluto_search.proofs.Halting.{stop_of, stop_at, large_keeps}
 use Rattle.pluto_search.proofs.Moving.{least_good, exact_mark, can_narrow, large_next, append_next}
 use Rattle.pluto_search.proofs.next.take.Goals as goal
 use Rattle.pluto_search.proofs.next.take.Goals.{After-is_within}
 
--- the row that the numbers make is the least
-least : (c : After-is_within) → IsLeast c.args.parameters c.args.loops.now (state_of c.args.progress).remaining
-    (rows_of (state_of c.args.progress)) (row_of c.in-Ok.row)
-least c =
-    let s = state_of c.args.progress in
-    subst (λ (z : Row). IsLeast c.args.parameters c.args.loops.now s.remaining (rows_of s) z)
+-- the row that the numbers make is found
+found : (c : After-is_within) → FindsRow c.args.parameters c.args.loops.now c.args.budget (state_of c.args.progress)
+    (row_of c.in-Ok.row)
+found c =
+    subst (λ (z : Row). FindsRow c.args.parameters c.args.loops.now c.args.budget (state_of c.args.progress) z)
     (sym (c.in-Ok.ensures ∙ ap (λ (z : List ℤ). row_from c.args.parameters c.args.loops.now z) c.deref.ensures.value))
     c.requires.least
 
@@ -37,9 +34,11 @@ returns-then-not-is_within c =
     let s = state_of p in
     let n = suc (items_in (map block_of p.closed.items) + length p.rows.items) in
     let l = length-map p.rows.items marked_of in
+    let great = c.is_within.ensures.great c.if-not-is_within.true in
     large_keeps c.args.parameters c.args.loops.now c.args.budget s n c.too_large.result c.too_large.ensures
-    (large_next c.args.parameters c.args.loops.now s (row_of c.in-Ok.row) n c.requires.more (least at)
-    (c.is_within.ensures.great c.if-not-is_within.true) (omega arith))
+    (inr (c.requires.more, inl (row_of c.in-Ok.row, found at, inr great)))
+    (large_next c.args.parameters c.args.loops.now s (row_of c.in-Ok.row) n c.requires.more (found at).1 great
+    (omega arith))
 
 pub is_parallel-requires : goal.is_parallel-requires
 is_parallel-requires c x i =
@@ -51,7 +50,7 @@ is_parallel-requires c x i =
     let r : Marked = record { row = row_of c.in-Ok.row; parallel = true } in
     let j = in_map dep_of x p.ruled.items (subst (λ (l : List RuledDep). In x l) c.deref-2.ensures.value i) in
     can_tell m loops r x.dep
-    (least_good m loops s.remaining (rows_of s) r (least at) (c.is_within.ensures.within c.if-not-is_within.false))
+    (least_good m loops s.remaining (rows_of s) r (found at).1 (c.is_within.ensures.within c.if-not-is_within.false))
     (c.requires.good.between x.dep (ruled_remains p x.dep j))
 
 pub returns-in-Err-is_parallel : goal.returns-in-Err-is_parallel
@@ -64,19 +63,13 @@ returns-in-Err-is_parallel c =
     let s = state_of p in
     let r = row_of c.in-Ok.row in
     let within = c.is_within.ensures.within c.if-not-is_within.false in
-    let same = ap (λ (l : List RuledDep). map dep_of l) c.deref-2.ensures.value in
+    let same = remains p c.deref-2.result.now c.deref-2.ensures.value c.requires.ruled in
     stop_at m loops budget s c.in-Err-is_parallel.kept
-    (stop_of (StopsAbove m r budget (map dep_of c.deref-2.result.now)) (StopsAt m loops budget s)
+    (stop_of (StopsMarks m r budget (map dep_of c.deref-2.result.now)) (StopsAt m loops budget s)
     c.in-Err-is_parallel.kept
-    (λ stop h. inr (
-      c.requires.more,
-      inl (
-        r,
-        least at,
-        within,
-        (h.0, ruled_remains p h.0 (subst (λ (l : List Dependence). In h.0 l) same h.1), h.2),
-      ),
-    ))
+    (λ stop h.
+    let asks = subst (λ (l : List Dependence). StopsMarks m r budget l stop) same h in
+    inr (c.requires.more, inr (inr (inl (r, found at, within, asks)))))
     c.in-Err-is_parallel.ensures.stops)
 
 pub append-requires : goal.append-requires
@@ -88,26 +81,30 @@ append-requires c =
     let s = state_of p in
     let r : Marked = record { row = row_of c.in-Ok.row; parallel = true } in
     can_narrow m loops c.args.budget p c.in-Ok.row r c.requires.loops c.requires.good refl
-    (least_good m loops s.remaining (rows_of s) r (least at) (c.is_within.ensures.within c.if-not-is_within.false))
+    (least_good m loops s.remaining (rows_of s) r (found at).1 (c.is_within.ensures.within c.if-not-is_within.false))
 
 pub returns : goal.returns
 returns c =
     let at = (goal.at.returns c).After-is_within in
     let m = c.args.parameters in
     let loops = c.args.loops.now in
+    let budget = c.args.budget in
     let p = c.args.progress in
     let s = state_of p in
     let mark = c.in-Ok-is_parallel.parallel in
     let r : Marked = record { row = row_of c.in-Ok.row; parallel = mark } in
     let within = c.is_within.ensures.within c.if-not-is_within.false in
-    let l = least at in
-    let same = ap (λ (l : List RuledDep). map dep_of l) c.deref-2.ensures.value in
-    append_next m loops c.args.budget p c.in-Ok-append.progress c.in-Ok.row r c.requires.good refl
+    let l = (found at).1 in
+    let same = remains p c.deref-2.result.now c.deref-2.ensures.value c.requires.ruled in
+    let marks = subst (λ (l : List Dependence). AnswersMarks m r.row budget l) same c.in-Ok-is_parallel.ensures.answered
+    in
+    let n = append_next m loops budget p c.in-Ok-append.progress c.in-Ok.row r c.requires.good refl
     (least_good m loops s.remaining (rows_of s) r l within) c.requires.more l
     (exact_mark m loops s.remaining (rows_of s) r c.requires.good.between l within
     (λ e d i. c.in-Ok-is_parallel.ensures.parallel (ap Ok e) d
-    (subst (λ (l : List Dependence). In d l) (sym same) (all_remain p d c.requires.ruled i)))
+    (subst (λ (l : List Dependence). In d l) (sym same) i))
     (λ e.
     let x = c.in-Ok-is_parallel.ensures.carries (ap Ok e) in
-    (x.0, ruled_remains p x.0 (subst (λ (l : List Dependence). In x.0 l) same x.1), x.2)))
-    c.in-Ok-append.ensures
+    (x.0, subst (λ (l : List Dependence). In x.0 l) same x.1, x.2)))
+    c.in-Ok-append.ensures in
+    (inr (c.requires.more, inl (r.row, found at, inl (within, marks))), n.0, n.1)

@@ -1,11 +1,12 @@
-use Rattle.std.proofs.Common.{◌≡◌, ◌+◌, List, ◌∷◌, arith, map, drop, sym, subst}
+use Rattle.std.proofs.Common.{◌≡◌, ◌+◌, List, ◌∷◌, arith, map, drop, take, sym, subst}
 use Rattle.scop_syntax.specs.Members.{In}
 use Rattle.iteration_domains.specs.Dependence.{Dependence}
 use Rattle.schedule_rows.specs.Next.{restricted}
 use Rattle.schedule_rows.specs.Schedule.{marked_of}
-use Rattle.pluto_search.specs.Questions.{StopsEmptiness}
-use Rattle.std.specs.Prelude.{Option, Ok}
-use Rattle.pluto_search.specs.Stopping.{StopsRestricted, Restrictions}
+use Rattle.pluto_search.specs.Questions.{AnswersRestricted, IsAnswered, StopsEmptiness, StopsRestricted}
+use Rattle.std.specs.Prelude.{Option, Ok, true, false}
+use Rattle.pluto_search.specs.Stopping.{Restrictions}
+use Rattle.pluto_search.proofs.Firsts.{first_next, taken_more, all_taken}
 use Rattle.pluto_search.proofs.Halting.{stop_of}
 use Rattle.pluto_search.proofs.Leading.{Leads, dropped, held_back, leads_last, next_of, is_among, none_left}
 use Rattle.pluto_search.proofs.restricting.restrict_all.Goals as goal
@@ -33,12 +34,26 @@ restrict-requires-clause-parameters c =
 pub returns-in-Err-clause-stops : goal.returns-in-Err-clause-stops
 returns-in-Err-clause-stops c =
     let m = c.args.parameters in
+    let budget = c.args.budget in
+    let deps = c.args.deps.now in
     let rows = map marked_of c.args.rows.now in
     let d = c.index-deps-at.result in
-    let i = dep_among (goal.at.returns-in-Err-clause-stops c).After-index-deps-at in
-    stop_of (StopsEmptiness c.args.budget (restricted m rows d)) (StopsRestricted m rows c.args.budget c.args.deps.now)
-    c.in-Err.stopped
-    (λ stop h. (d, i, h)) c.in-Err.ensures
+    let next = dep_next (goal.at.returns-in-Err-clause-stops c).After-index-deps-at in
+    stop_of (StopsEmptiness budget (restricted m rows d)) (StopsRestricted m rows budget deps) c.in-Err.stopped
+    (λ stop h. first_next (λ e. IsAnswered budget (restricted m rows e))
+    (λ e. StopsEmptiness budget (restricted m rows e) stop) deps (drop (c.loop-at.at + 1) deps) c.loop-at.at d next
+    c.loop-at.invariant.1 h)
+    c.in-Err.ensures
+
+-- one more is answered
+answered_more : (c : After-index-deps-at) → IsAnswered c.args.budget
+    (restricted c.args.parameters (map marked_of c.args.rows.now) c.index-deps-at.result)
+    → AnswersRestricted c.args.parameters (map marked_of c.args.rows.now) c.args.budget
+    (take (c.loop-at.at + 1) c.args.deps.now)
+answered_more c h =
+    taken_more (λ e. IsAnswered c.args.budget (restricted c.args.parameters (map marked_of c.args.rows.now) e))
+    c.args.deps.now c.loop-at.at c.index-deps-at.result c.index-deps-at.result (omega (arith, c.loop-at-test.true))
+    c.index-deps-at.is h c.loop-at.invariant.1
 
 pub loop-at-preserved-in-Ok-None : goal.loop-at-preserved-in-Ok-None
 loop-at-preserved-in-Ok-None c =
@@ -46,10 +61,13 @@ loop-at-preserved-in-Ok-None c =
     let rows = map marked_of c.args.rows.now in
     let d = c.index-deps-at.result in
     let next = dep_next (goal.at.loop-at-preserved-in-Ok-None c).After-index-deps-at in
-    dropped m rows d (drop (c.loop-at.at + 1) c.args.deps.now) c.loop-at.kept.items c.args.deps.now
-    (subst (λ (f : Option Dependence). Restrictions m rows c.args.budget d (Ok f)) c.in-Ok-None.field-0-is
-    c.in-Ok-None.ensures)
-    (subst (λ (l : List Dependence). Leads m rows l c.loop-at.kept.items c.args.deps.now) next c.loop-at.invariant)
+    let told = subst (λ (f : Option Dependence). Restrictions m rows c.args.budget d (Ok f)) c.in-Ok-None.field-0-is
+    c.in-Ok-None.ensures in (
+      dropped m rows d (drop (c.loop-at.at + 1) c.args.deps.now) c.loop-at.kept.items c.args.deps.now told.0
+          (subst (λ (l : List Dependence). Leads m rows l c.loop-at.kept.items c.args.deps.now) next
+          c.loop-at.invariant.0),
+      answered_more (goal.at.loop-at-preserved-in-Ok-None c).After-index-deps-at (true, told.1),
+    )
 
 pub loop-at-preserved : goal.loop-at-preserved
 loop-at-preserved c =
@@ -59,10 +77,13 @@ loop-at-preserved c =
     let rest = drop (c.loop-at.at + 1) c.args.deps.now in
     let next = dep_next (goal.at.loop-at-preserved c).After-index-deps-at in
     let told = subst (λ (f : Option Dependence). Restrictions m rows c.args.budget d (Ok f)) c.in-Ok-Some.field-0-is
-    c.in-Ok-Some.ensures in
-    subst (λ (l : List Dependence). Leads m rows rest l c.args.deps.now) (sym c.in-Ok.ensures.items)
-    (held_back m rows d c.in-Ok-Some.dep rest c.loop-at.kept.items c.args.deps.now told.0 told.1
-    (subst (λ (l : List Dependence). Leads m rows l c.loop-at.kept.items c.args.deps.now) next c.loop-at.invariant))
+    c.in-Ok-Some.ensures in (
+      subst (λ (l : List Dependence). Leads m rows rest l c.args.deps.now) (sym c.in-Ok.ensures.items)
+          (held_back m rows d c.in-Ok-Some.dep rest c.loop-at.kept.items c.args.deps.now told.0 told.1
+          (subst (λ (l : List Dependence). Leads m rows l c.loop-at.kept.items c.args.deps.now) next
+          c.loop-at.invariant.0)),
+      answered_more (goal.at.loop-at-preserved c).After-index-deps-at (false, told.2),
+    )
 
 pub returns-clause-kept : goal.returns-clause-kept
 returns-clause-kept c =
@@ -70,4 +91,10 @@ returns-clause-kept c =
     let rows = map marked_of c.args.rows.now in
     leads_last m rows c.loop-at.kept.items c.args.deps.now
     (subst (λ (l : List Dependence). Leads m rows l c.loop-at.kept.items c.args.deps.now)
-    (none_left c.args.deps.now c.loop-at.at (omega (arith, c.loop-at-test.false))) c.loop-at.invariant)
+    (none_left c.args.deps.now c.loop-at.at (omega (arith, c.loop-at-test.false))) c.loop-at.invariant.0)
+
+pub returns-clause-answered : goal.returns-clause-answered
+returns-clause-answered c =
+    all_taken
+    (λ e. IsAnswered c.args.budget (restricted c.args.parameters (map marked_of c.args.rows.now) e)) c.args.deps.now
+    c.loop-at.at (omega (arith, c.loop-at-test.false)) c.loop-at.invariant.1

@@ -1,13 +1,15 @@
 use Rattle.std.proofs.Common.{◌≡◌, ◌+◌, List, ◌∷◌, arith, map, drop, sym, subst, ap, inl, inr, Ok}
 use Rattle.scop_syntax.specs.Members.{In}
 use Rattle.scop_syntax.proofs.Members.{in_map}
+use Rattle.std.specs.Prelude.{Bool, true, false}
+use Rattle.std.proofs.lemmas.List.Elements.{All-map}
 use Rattle.iteration_domains.specs.Dependence.{Dependence}
 use Rattle.schedule_rows.specs.Dependences.{IsEmptyDep, above_at}
 use Rattle.schedule_rows.specs.Schedule.{row_of}
 use Rattle.pluto_systems.specs.Posing.{RuledDep, dep_of}
-use Rattle.pluto_search.specs.Questions.{StopsEmptiness}
+use Rattle.pluto_search.specs.Questions.{IsFirst, AnswersMark, StopsEmptiness, StopsMarks}
 use Rattle.pluto_search.specs.Sizes.{CanTell}
-use Rattle.pluto_search.specs.Stopping.{StopsAbove}
+use Rattle.pluto_search.proofs.Firsts.{first_next, first_mapped, taken_more, all_taken}
 use Rattle.pluto_search.proofs.Halting.{stop_of}
 use Rattle.pluto_search.proofs.Leading.{next_of, is_among, none_left}
 use Rattle.pluto_search.proofs.rows.is_parallel.Goals as goal
@@ -25,6 +27,15 @@ asked_among c =
     is_among c.args.ruled.now (drop (c.loop-at.at + 1) c.args.ruled.now) c.loop-at.at c.index-ruled-at.result
     (asked_next c)
 
+-- it is the first of which P holds, where the row rises on none before
+first_asked : (c : After-dep) (P : Dependence → Type 0) → P c.index-ruled-at.result.dep
+    → IsFirst (AnswersMark c.args.parameters (row_of c.args.row.now) c.args.budget true) P (map dep_of c.args.ruled.now)
+first_asked c P h =
+    let Q : Dependence → Type 0 = AnswersMark c.args.parameters (row_of c.args.row.now) c.args.budget true in
+    first_mapped dep_of Q P c.args.ruled.now
+    (first_next (λ x. Q x.dep) (λ x. P x.dep) c.args.ruled.now (drop (c.loop-at.at + 1) c.args.ruled.now) c.loop-at.at
+    c.index-ruled-at.result (asked_next c) c.loop-at.invariant.1 h)
+
 pub is_level-requires : goal.is_level-requires
 is_level-requires c =
     subst (λ (d : Dependence). CanTell c.args.parameters (row_of c.args.row.now) d) (sym c.dep.ensures)
@@ -35,12 +46,19 @@ returns-in-Err-clause-stops c =
     let m = c.args.parameters in
     let r = row_of c.args.row.now in
     let d = c.dep.result.now in
-    let x = c.index-ruled-at.result in
-    let i = in_map dep_of x c.args.ruled.now (asked_among (goal.at.returns-in-Err-clause-stops c).After-dep) in
-    let j = subst (λ (z : Dependence). In z (map dep_of c.args.ruled.now)) (sym c.dep.ensures) i in
-    stop_of (StopsEmptiness c.args.budget (above_at m r d)) (StopsAbove m r c.args.budget (map dep_of c.args.ruled.now))
-    c.in-Err.kept
-    (λ stop h. (d, j, h)) c.in-Err.ensures.stops
+    let budget = c.args.budget in
+    stop_of (StopsEmptiness budget (above_at m r d)) (StopsMarks m r budget (map dep_of c.args.ruled.now)) c.in-Err.kept
+    (λ stop h. first_asked (goal.at.returns-in-Err-clause-stops c).After-dep
+    (λ e. StopsEmptiness budget (above_at m r e) stop)
+    (subst (λ (e : Dependence). StopsEmptiness budget (above_at m r e) stop) c.dep.ensures h))
+    c.in-Err.ensures.stops
+
+pub returns-in-Ok-false-clause-answered : goal.returns-in-Ok-false-clause-answered
+returns-in-Ok-false-clause-answered c =
+    let P : Dependence → Type 0 = AnswersMark c.args.parameters (row_of c.args.row.now) c.args.budget false in
+    inr (first_asked (goal.at.returns-in-Ok-false-clause-answered c).After-dep P
+    (subst P c.dep.ensures (subst (λ (level : Bool). AnswersMark c.args.parameters (row_of c.args.row.now) c.args.budget
+    level c.dep.result.now) c.in-Ok-false.field-0-test c.in-Ok-false.ensures.answered)))
 
 pub returns-in-Ok-false-clause-carries : goal.returns-in-Ok-false-clause-carries
 returns-in-Ok-false-clause-carries c h =
@@ -53,19 +71,32 @@ returns-in-Ok-false-clause-carries c h =
     )
 
 pub loop-at-preserved : goal.loop-at-preserved
-loop-at-preserved c h =
+loop-at-preserved c =
     let m = c.args.parameters in
     let r = row_of c.args.row.now in
+    let Q : Dependence → Type 0 = AnswersMark m r c.args.budget true in
     let own = subst (λ (z : Dependence). IsEmptyDep m (above_at m r z)) c.dep.ensures
     (c.in-Ok-true.ensures.level (ap Ok c.in-Ok-true.field-0-test)) in
-    let next = asked_next (goal.at.loop-at-preserved c).After-dep in
-    c.loop-at.invariant (λ d i.
-    elim (subst (λ (l : List RuledDep). In d (map dep_of l)) next i) [
-      | inl e ↦ subst (λ (z : Dependence). IsEmptyDep m (above_at m r z)) (sym e) own
-      | inr j ↦ h d j
-    ])
+    let next = asked_next (goal.at.loop-at-preserved c).After-dep in (
+      λ h. c.loop-at.invariant.0 (λ d i.
+          elim (subst (λ (l : List RuledDep). In d (map dep_of l)) next i) [
+            | inl e ↦ subst (λ (z : Dependence). IsEmptyDep m (above_at m r z)) (sym e) own
+            | inr j ↦ h d j
+          ]),
+      taken_more (λ x. Q x.dep) c.args.ruled.now c.loop-at.at c.index-ruled-at.result c.index-ruled-at.result
+          (omega (arith, c.loop-at-test.true)) c.index-ruled-at.is
+          (subst Q c.dep.ensures (subst (λ (level : Bool). AnswersMark m r c.args.budget level c.dep.result.now)
+          c.in-Ok-true.field-0-test c.in-Ok-true.ensures.answered)) c.loop-at.invariant.1,
+    )
+
+pub returns-clause-answered : goal.returns-clause-answered
+returns-clause-answered c =
+    let Q : Dependence → Type 0 = AnswersMark c.args.parameters (row_of c.args.row.now) c.args.budget true in
+    inl (All-map Q dep_of c.args.ruled.now
+    (all_taken (λ x. Q x.dep) c.args.ruled.now c.loop-at.at (omega (arith, c.loop-at-test.false))
+    c.loop-at.invariant.1))
 
 pub returns-clause-parallel : goal.returns-clause-parallel
 returns-clause-parallel c h =
-    c.loop-at.invariant (λ d i. absurd (subst (λ (l : List RuledDep). In d (map dep_of l))
+    c.loop-at.invariant.0 (λ d i. absurd (subst (λ (l : List RuledDep). In d (map dep_of l))
     (none_left c.args.ruled.now c.loop-at.at (omega (arith, c.loop-at-test.false))) i))

@@ -1,13 +1,16 @@
-use Rattle.std.proofs.Common.{drop, map}
+use Rattle.std.proofs.Common.{drop, take, map, All}
+use Rattle.std.specs.Prelude.{true}
 use Rattle.scop_syntax.specs.Members.{In}
 use Rattle.iteration_domains.specs.Dependence.{Dependence}
 use Rattle.schedule_rows.specs.Dependences.{IsEmptyDep, above_at}
 use Rattle.schedule_rows.specs.Schedule.{row_of}
 use Rattle.pluto_systems.specs.Posing.{dep_of}
+use Rattle.pluto_search.specs.Questions.{AnswersMark}
 use Rattle.pluto_search.proofs.rows.is_parallel.Given as goal
 
 abbrev pub invariant-loop-at : goal.invariant-loop-at
 invariant-loop-at l =
-    ((d : Dependence) → In d (map dep_of (drop l.at l.ruled)) → IsEmptyDep l.parameters
+    (((d : Dependence) → In d (map dep_of (drop l.at l.ruled)) → IsEmptyDep l.parameters
     (above_at l.parameters (row_of l.row) d))
-    → (d : Dependence) → In d (map dep_of l.ruled) → IsEmptyDep l.parameters (above_at l.parameters (row_of l.row) d)
+    → (d : Dependence) → In d (map dep_of l.ruled) → IsEmptyDep l.parameters (above_at l.parameters (row_of l.row) d))
+    × All (λ x. AnswersMark l.parameters (row_of l.row) l.budget true x.dep) (take l.at l.ruled)

@@ -1,9 +1,8 @@
 use Rattle.std.proofs.Common.{◌∙◌, ap, subst, Ok}
-use Rattle.schedule_rows.proofs.Began.{reached_more}
 use Rattle.pluto_search.specs.declared.state.Step.TheVariants as step
 use Rattle.pluto_search.specs.Steps.{state_of, Steps}
 use Rattle.pluto_search.proofs.Halting.{stop_first, keeps}
-use Rattle.pluto_search.proofs.Running.{falls}
+use Rattle.pluto_search.proofs.Running.{falls, answered_more}
 use Rattle.pluto_search.proofs.searching.run.Goals as goal
 
 pub returns-in-Err : goal.returns-in-Err
@@ -24,7 +23,7 @@ loop-kept-smaller c =
     let steps : Steps m loops c.args.budget s (Ok (step.Goes c.in-Ok-Goes.next)) =
     subst (λ r. Steps m loops c.args.budget s r) (c.in-Ok-Goes.is ∙ ap Ok c.in-Ok-Goes.field-0-is) c.next_item.ensures
     in
-    falls m loops s (state_of c.in-Ok-Goes.next) steps.0
+    falls m loops s (state_of c.in-Ok-Goes.next) steps.1
 
 pub loop-kept-preserved : goal.loop-kept-preserved
 loop-kept-preserved c =
@@ -33,5 +32,8 @@ loop-kept-preserved c =
     let s = state_of c.loop-kept.progress in
     let steps : Steps m loops c.args.budget s (Ok (step.Goes c.in-Ok-Goes.next)) =
     subst (λ r. Steps m loops c.args.budget s r) (c.in-Ok-Goes.is ∙ ap Ok c.in-Ok-Goes.field-0-is) c.next_item.ensures
-    in
-    (steps.1, reached_more m loops c.args.deps.now s (state_of c.in-Ok-Goes.next) c.loop-kept.invariant.1 steps.0)
+    in (
+      steps.2,
+      answered_more m loops c.args.budget c.args.deps.now s (state_of c.in-Ok-Goes.next) c.loop-kept.invariant.1 steps.0
+          steps.1,
+    )

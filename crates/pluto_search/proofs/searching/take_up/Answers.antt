@@ -1,7 +1,6 @@
-use Rattle.std.proofs.Common.{[], sym, subst}
-use Rattle.schedule_rows.specs.Next.{State}
-use Rattle.schedule_rows.specs.Reaching.{Reached}
-use Rattle.schedule_rows.proofs.Began.{reached_first}
+use Rattle.std.proofs.Common.{[]}
+use Rattle.pluto_search.specs.Steps.{state_of}
+use Rattle.pluto_search.proofs.Running.{answered_first}
 use Rattle.pluto_search.proofs.Leading.{restricts_between}
 use Rattle.pluto_search.proofs.searching.take_up.Goals as goal
 
@@ -16,6 +15,6 @@ returns-in-Ok-begin c =
     let taken = c.in-Ok.taken.items in
     let takes = c.in-Ok.ensures.kept in (
       c.in-Ok-begin.ensures.good m c.args.budget (restricts_between m loops [] deps taken c.requires.between takes),
-      subst (λ (s : State). Reached m loops deps s) (sym c.in-Ok-begin.ensures.first)
-          (reached_first m loops deps taken takes),
+      answered_first m loops c.args.budget deps taken (state_of c.in-Ok-begin.progress) c.in-Ok-begin.ensures.first takes
+          c.in-Ok.ensures.answered,
     )

@@ -13,7 +13,8 @@ use Rattle.schedule_rows.specs.Schedule.{block_of}
 use Rattle.schedule_rows.specs.declared.item.Block.TheVariants as code_block
 use Rattle.schedule_rows.specs.declared.item.Row as code_row
 use Rattle.pluto_search.specs.Sizes.{narrowed_each}
-use Rattle.pluto_search.specs.Steps.{vectors_in}
+use Rattle.pluto_search.specs.Questions.{AreRuledBy}
+use Rattle.pluto_search.specs.Steps.{AllRuled, state_of, vectors_in}
 use Rattle.pluto_search.specs.declared.state.Progress.{Progress}
 use Rattle.pluto_search.specs.declared.kept.Kept.TheVariants as kept
 
@@ -84,6 +85,14 @@ IsLarge n (kept.NoRow posed) = ⊥
 IsLarge n (kept.NoOrder component) = ⊥
 IsLarge n kept.NoMemory = ⊤
 IsLarge n (kept.Large row) = row ≡ n
+
+-- the same state, where all dependences that remain have their rows
+pub record HasAllRows (budget : ℕ) (p q : Progress) : Type 0 where
+  pub same : state_of q ≡ state_of p
+  pub vectors : q.vectors.items ≡ p.vectors.items
+  pub none_bare : q.bare.items ≡ []
+  pub ruled : AllRuled p.ruled.items → AllRuled q.ruled.items
+  pub by_run : AreRuledBy budget p.ruled.items → AreRuledBy budget q.ruled.items
 
 -- a row with its mark is appended to the open band
 pub record IsAppended (p : Progress) (row : code_row.Row) (parallel : Bool) (q : Progress) : Type 0 where

@@ -1,0 +1,41 @@
+-- The first of a list that meets one thing, all before it meeting another; going through the list one by one.
+use Rattle.std.proofs.Common.{◌≡◌, ℕ, ◌+◌, ◌<◌, List, [], ◌∷◌, ◌++◌, sym, ◌∙◌, ap, subst, inl, inr, length, map, All}
+use Rattle.std.proofs.Common.{take, drop, add-one}
+use Rattle.std.specs.Prelude.{◌≤◌, slice_index_or}
+use Rattle.std.proofs.Math.Seq.{take-suc}
+use Rattle.std.proofs.lemmas.List.{take-append-drop, take_all}
+use Rattle.std.proofs.lemmas.List.Elements.{All-head, All-tail, All-push}
+use Rattle.pluto_search.specs.Questions.{IsFirst}
+
+-- behind others that meet P
+pub first_behind : {A : Type 0} (P Q : A → Type 0) (xs ys : List A) → All P xs → IsFirst P Q ys
+    → IsFirst P Q (xs ++ ys)
+first_behind P Q [] ys h k = k
+first_behind P Q (x ∷ xs) ys h k = inr (All-head P x xs h, first_behind P Q xs ys (All-tail P x xs h) k)
+
+-- the next one does
+pub first_next : {A : Type 0} (P Q : A → Type 0) (xs rest : List A) (i : ℕ) (x : A) → drop i xs ≡ x ∷ rest
+    → All P (take i xs) → Q x → IsFirst P Q xs
+first_next {A} P Q xs rest i x e h q =
+    subst (IsFirst P Q) (ap (λ (z : List A). take i xs ++ z) (sym e) ∙ take-append-drop i xs)
+    (first_behind P Q (take i xs) (x ∷ rest) h (inl q))
+
+-- one more of which P holds
+pub taken_more : {A : Type 0} (P : A → Type 0) (xs : List A) (i : ℕ) (x d : A) → i < length xs
+    → x ≡ slice_index_or xs i d → P x → All P (take i xs) → All P (take (i + 1) xs)
+taken_more {A} P xs i x d l e p h =
+    subst (All P)
+    (sym (ap (λ (n : ℕ). take n xs) (add-one i)
+    ∙ (take-suc xs i d l ∙ ap (λ (z : A). take i xs ++ z ∷ []) (sym e))))
+    (All-push P (take i xs) x h p)
+
+-- all were taken
+pub all_taken : {A : Type 0} (P : A → Type 0) (xs : List A) (i : ℕ) → length xs ≤ i → All P (take i xs) → All P xs
+all_taken P xs i l h = subst (All P) (take_all i xs l) h
+
+-- of a list that is made from another
+pub first_mapped : {A B : Type 0} (f : A → B) (P Q : B → Type 0) (xs : List A)
+    → IsFirst (λ x. P (f x)) (λ x. Q (f x)) xs → IsFirst P Q (map f xs)
+first_mapped f P Q [] h = h
+first_mapped f P Q (x ∷ xs) (inl q) = inl q
+first_mapped f P Q (x ∷ xs) (inr h) = inr (h.0, first_mapped f P Q xs h.1)

@@ -1,0 +1,6 @@
+use Rattle.std.proofs.Common.{ℕ, ◌<◌}
+use Rattle.pluto_search.specs.Shared.{IsInComponent}
+use Rattle.pluto_search.proofs.ends.shares_component.Given as goal
+
+abbrev pub invariant-loop-b : goal.invariant-loop-b
+invariant-loop-b l = (c : ℕ) → c < l.b → IsInComponent l.numbers l.a c → ⊥

@@ -1,7 +1,0 @@
-use Rattle.std.proofs.Common.{◌≡◌, take}
-use Rattle.std.specs.Prelude.{Ok}
-use Rattle.lexmin_runs.specs.Emptiness.{equality_rows_run}
-use Rattle.pluto_search.proofs.question.pose_equalities.Given as goal
-
-abbrev pub invariant-loop-form : goal.invariant-loop-form
-invariant-loop-form l = equality_rows_run (take l.form-index l.forms) ≡ Ok l.rows.items
