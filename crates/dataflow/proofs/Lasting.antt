@@ -213,7 +213,7 @@ pub record Solved (m budget : ℕ) (dep : Dependence) (s t : Modelled) (tree : T
   pub mapped : map_run (all_below top s.domain.dimensions 0 s.domain.dimensions) minimum ≡ Ok turned_back
   pub is : tree ≡ named (source_of dep.source.statement s.loops) turned_back
 
-solved_of : (m budget : ℕ) (dep : Dependence) (s t : Modelled) (tree : Tree)
+pub solved_of : (m budget : ℕ) (dep : Dependence) (s t : Modelled) (tree : Tree)
     → solve_between m budget dep (Some s) (Some t) ≡ Ok tree → Solved m budget dep s t tree
 solved_of m budget dep s t tree h = by_run (lexmin_run budget (m + t.domain.dimensions)
     (problem_of s.domain.dimensions (posed_rows s t m dep)) (posed_context t m)) refl h

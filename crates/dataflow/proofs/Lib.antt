@@ -12,3 +12,5 @@ pub mod Lists
 pub mod Fitting
 pub mod Solved
 pub mod Gathering
+pub mod Holding
+pub mod Telling

@@ -8,4 +8,5 @@ pub mod Problems
 pub mod LastRuns
 pub mod Posed
 pub mod Answers
+pub mod Told
 pub mod Steps

@@ -1,6 +1,7 @@
 -- What the parts of the work promise.
 use Rattle.std.specs.Prelude.{◌≡◌, ℕ, Bool, true, false, ℤ, List, [], ◌∷◌, ◌++◌, Option, Some, None, Result, Ok, Err, ⊤}
-use Rattle.std.specs.Prelude.{if◌then◌else◌}
+use Rattle.std.specs.Prelude.{if◌then◌else◌, All}
+use Rattle.whole_numbers.specs.Fits.{fits}
 use Rattle.pip_solver.specs.declared.stop.Stop.TheVariants as solver
 use Rattle.quast_trees.specs.Tree.{Tree}
 use Rattle.quast_trees.specs.Postfix.{Postfix, tree_of}
@@ -17,6 +18,8 @@ use Rattle.dataflow.specs.Runs.{sources_run}
 use Rattle.dataflow.specs.declared.reads.Halted.{Halted}
 use Rattle.dataflow.specs.declared.reads.Halted.TheVariants as halt
 use Rattle.dataflow.specs.declared.source.ReadSource.{ReadSource}
+use Rattle.dataflow.specs.declared.source.ReadSource.TheVariants as source
+use Rattle.dataflow.specs.Told.{IsHeld, HoldsNumbers}
 
 -- whether each number of a node's forms, if it is a leaf's, fits
 abbrev pub node_fits : ℤ → Node → Bool
@@ -72,3 +75,15 @@ GoesOn model budget n first dep (Err halt.NoMemory) = ⊤
 abbrev pub GainsSources : KernelModel → ℕ → List ReadSource → List ReadSource → List (ℕ × ℕ) → Type 0
 GainsSources model budget old new gains =
     (reads : List (ℕ × ℕ)) → AreSources model budget reads old → AreSources model budget (reads ++ gains) new
+
+-- 128 bits hold each number of a node
+abbrev pub IsHeldNode : Node → Type 0
+IsHeldNode node.Initial = ⊤
+IsHeldNode (node.Forms l) = All IsHeld l.forms
+IsHeldNode (node.Branch test second) = IsHeld test
+IsHeldNode (node.Bind form divisor) = IsHeld form × (fits divisor ≡ true)
+
+-- they hold each number of a source's quast, where it has one
+abbrev pub IsHeldSource : ReadSource → Type 0
+IsHeldSource (source.Resolved quast) = HoldsNumbers (tree_of quast)
+IsHeldSource (source.Unresolved told) = ⊤

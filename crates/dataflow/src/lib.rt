@@ -7,6 +7,7 @@
 
 mod candidate;
 mod forms;
+mod numbers;
 mod problem;
 mod reads;
 mod source;

@@ -1,17 +1,19 @@
 //! The sources of all reads of a model: the candidates of each read are solved and joined one after the other, up to
 //! the first that stops.
-ghost use Rattle.std.specs.Prelude.{◌≡◌, ◌++◌, ◌∷◌, [], IfOk, OnOk};
+ghost use Rattle.std.specs.Prelude.{◌≡◌, ◌++◌, ◌∷◌, [], All, IfOk, OnOk};
 ghost use Rattle.scop_syntax.specs.Members.{In};
 ghost use Rattle.quast_trees.specs.Postfix.{tree_of};
 ghost use Rattle.conflict_deps.specs.Conflicts.{conflicts_of};
 ghost use Rattle.dataflow.specs.Answers.{IsSourceOf, AreSources, NameLastWriters, reads_of, reads_of_statement};
 ghost use Rattle.dataflow.specs.LastRuns.{is_candidate, read_variables};
 ghost use Rattle.dataflow.specs.Posed.{IsOfKernel};
-ghost use Rattle.dataflow.specs.Steps.{GainsSources, GoesOn, IsJoinable};
+ghost use Rattle.dataflow.specs.Steps.{GainsSources, GoesOn, IsHeldSource, IsJoinable};
+ghost use Rattle.dataflow.specs.Told.{AreTold};
 
 use crate::candidate::solved;
+use crate::numbers::look_at_numbers;
 use crate::source::{ReadSource, SourceStop};
-use crate::source_laws::resolved_reads_have_their_last_writer;
+use crate::source_laws::{resolved_reads_have_their_last_writer, sources_are_told};
 use conflict_deps::conflicts;
 use iteration_domains::{Dep, Model, StatementModel};
 use pip_solver::Stop;
@@ -72,7 +74,8 @@ fn source_of(
     requires kernel { IsOfKernel model.now }
     requires deps { deps.now ≡ conflicts_of model.now }
     requires statement { In statement.now model.now.statements }
-    ensures { IfOk result (IsSourceOf model.now budget statement.now.number access) }
+    ensures run { IfOk result (IsSourceOf model.now budget statement.now.number access) }
+    ensures numbers { IfOk result IsHeldSource }
 {
     statements_are_numbered();
     let variables = model.parameters() + statement.loops().len();
@@ -89,6 +92,7 @@ fn source_of(
             }
         }
     }
+    look_at_numbers(&found);
     Ok(ReadSource::Resolved(found))
 }
 
@@ -114,8 +118,9 @@ fn push_reads(
     requires kernel { IsOfKernel model.now }
     requires deps { deps.now ≡ conflicts_of model.now }
     requires statement { In statement.now model.now.statements }
-    ensures { OnOk result
+    ensures run { OnOk result
         (GainsSources model.now budget sources.old.items sources.new.items (reads_of_statement statement.now)) }
+    ensures numbers { OnOk result (All IsHeldSource sources.old.items → All IsHeldSource sources.new.items) }
 {
     for access in 1..statement.accesses().len() {
         let source = source_of(alloc, model, deps, statement, access, budget)?;
@@ -133,8 +138,10 @@ pub fn last_writes(alloc: Global, model: &Model, budget: u64) -> Result<Vec<Read
     requires { IsOfKernel model.now }
     ensures sources { IfOk result (λ v. AreSources model.now budget (reads_of model.now) v.items) }
     ensures last { IfOk result (λ v. NameLastWriters model.now v.items) }
+    ensures told { IfOk result (λ v. AreTold model.now (reads_of model.now) v.items) }
 {
     resolved_reads_have_their_last_writer();
+    sources_are_told();
     let deps = conflicts(alloc, model)?;
     let mut sources = Vec::new(alloc);
     for statement in model.statements() {

@@ -1,5 +1,5 @@
 //! What the joins over all candidates answer, as contracts of functions that do nothing.
-ghost use Rattle.std.specs.Prelude.{◌≡◌, ℕ, ℤ, ◌+◌, ◌++◌, List, length, Ok};
+ghost use Rattle.std.specs.Prelude.{◌≡◌, ℕ, ℤ, ◌+◌, ◌++◌, ◌<◌, ◌^◌, All, List, length, Ok};
 ghost use Rattle.whole_numbers.specs.Lists.{NotNegative};
 ghost use Rattle.whole_numbers.specs.Affine.{values_of};
 ghost use Rattle.whole_numbers.specs.Lexicographic.{LexLe};
@@ -16,16 +16,21 @@ ghost use Rattle.scop_syntax.specs.Tree.{Program};
 ghost use Rattle.scop_syntax.specs.Walk.{Visit, walk_of};
 ghost use Rattle.scop_syntax.specs.Writers.{last_writer, next_writer};
 ghost use Rattle.iteration_domains.specs.Dependence.{Dependence};
-ghost use Rattle.iteration_domains.specs.Model.{model_of};
+ghost use Rattle.iteration_domains.specs.Model.{KernelModel, model_of};
 ghost use Rattle.conflict_deps.specs.Conflicts.{loops_of};
 ghost use Rattle.conflict_deps.specs.Pairs.{IsPoint, TouchesAt};
 ghost use Rattle.conflict_deps.specs.Parts.{HasParts};
+ghost use Rattle.dataflow.specs.Answers.{AreSources, reads_of};
 ghost use Rattle.dataflow.specs.Candidates.{joined, IsWanted};
 ghost use Rattle.dataflow.specs.Flips.{flipped};
 ghost use Rattle.dataflow.specs.LastRuns.{last_run};
 ghost use Rattle.dataflow.specs.Places.{Names};
 ghost use Rattle.dataflow.specs.Problems.{all_below, posed_rows, posed_context, turned_leaf};
+ghost use Rattle.dataflow.specs.Posed.{IsOfKernel};
 ghost use Rattle.dataflow.specs.Sources.{IsCandidate, IsSolved};
+ghost use Rattle.dataflow.specs.Steps.{IsHeldSource};
+ghost use Rattle.dataflow.specs.Told.{AreTold};
+ghost use Rattle.dataflow.specs.declared.source.ReadSource.{ReadSource};
 
 use iteration_domains::domain_laws::domains_hold_the_instances;
 use scop_syntax::limit_laws::values_lie_within_45_bits;
@@ -102,4 +107,15 @@ pub fn resolved_reads_have_their_last_writer()
     walks_are_in_order();
     values_lie_within_45_bits();
     domains_hold_the_instances();
+}
+
+/// What the sources of a kernel's reads are made of: each read has one; a quast speaks of the parameters, the reader's
+/// turns and what is bound round the place, names instances of the kernel's statements, and has few nodes; no read is
+/// unresolved for want of memory.
+pub fn sources_are_told()
+    ensures { (model : KernelModel) (budget : ℕ) (sources : List ReadSource) → IsOfKernel model → budget < 2 ^ 64
+        → AreSources model budget (reads_of model) sources → All IsHeldSource sources
+        → AreTold model (reads_of model) sources }
+{
+    statements_are_numbered();
 }

@@ -1,35 +1,15 @@
 -- The lines of a schedule, item by item, and block by block.
 use Rattle.std.proofs.Common.{◌≡◌, ◌∙◌, sym, ap, refl, ℕ, zero, suc, ◌+◌, ◌<◌, ◌≤◌, Bool, true, false}
-use Rattle.std.proofs.Common.{ℤ, List, [], ◌∷◌, ◌++◌, map, length, drop, get_or, add-one, drop-cons, append_assoc}
+use Rattle.std.proofs.Common.{List, [], ◌∷◌, ◌++◌, map, length, drop, get_or, add-one, drop-cons, append_assoc}
 use Rattle.std.proofs.Common.{append-nil, arith, if◌then◌else◌, drop_of_length-le}
-use Rattle.std.specs.Prelude.{Some, slice_get, codes}
-use Rattle.std.specs.Fmt.{signed_decimal}
+use Rattle.std.specs.Prelude.{Some, slice_get}
 use Rattle.std.proofs.lemmas.Bool.{ne_eqb, eq-eqb}
 use Rattle.schedule_rows.specs.Items.{Marked, Block, scalar, band}
 use Rattle.schedule_rows.specs.Schedule as plain
 use Rattle.schedule_rows.specs.Schedule.{Item, items_of, bands_from, marks_of}
 use Rattle.schedule_rows.specs.declared.item.Band.{Band}
-use Rattle.schedule_rows.specs.declared.item.Part as code_part
-use Rattle.report_text.specs.ScheduleText.{before, numbers_from, statement_text, statements_from, component_text}
-use Rattle.report_text.specs.ScheduleText.{components_from, rows_text, blocks_text, row_line, schedule_text}
-use Rattle.report_text.specs.ScheduleLines.{begins, entered, item_text, items_text, part_view}
-
--- the number at a place, and those behind it
-pub numbers_next : (zs : List ℤ) (i : ℕ) (d : ℤ) → i < length zs
-    → (before i (codes " ") ++ signed_decimal (get_or zs i d)) ++ numbers_from (i + 1) (drop (i + 1) zs)
-    ≡ numbers_from i (drop i zs)
-numbers_next zs i d less = rw (add-one, drop-cons zs i d less) refl
-
--- the statement at a place, and those behind it
-pub statements_next : (ps : List code_part.Part) (i : ℕ) (d : code_part.Part) → i < length ps
-    → statement_text i (part_view (get_or ps i d)) ++ statements_from (i + 1) (map part_view (drop (i + 1) ps))
-    ≡ statements_from i (map part_view (drop i ps))
-statements_next ps i d less = rw (add-one, drop-cons ps i d less) refl
-
--- the same of a scalar item
-pub components_next : (ns : List ℕ) (i : ℕ) (d : ℕ) → i < length ns
-    → component_text i (get_or ns i d) ++ components_from (i + 1) (drop (i + 1) ns) ≡ components_from i (drop i ns)
-components_next ns i d less = rw (add-one, drop-cons ns i d less) refl
+use Rattle.report_text.specs.ScheduleText.{rows_text, blocks_text, row_line, schedule_text}
+use Rattle.report_text.specs.ScheduleLines.{begins, entered, item_text, items_text}
 
 -- the mark at a place, and those behind it
 marks_next : (marks : List Bool) (at : ℕ) (mark : Bool) → slice_get marks at ≡ Some mark

@@ -1,3 +1,6 @@
+pub mod DepsExamples
+pub mod DepsReading
+pub mod DepsText
 pub mod KeptText
 pub mod Parts
 pub mod Pieces

@@ -71,7 +71,7 @@ fn parameter_name(kernel: Option<&Kernel>, i: usize) -> &[u8]
 }
 
 /// The name of an array, nothing where no kernel was read.
-fn array_name(kernel: Option<&Kernel>, j: usize) -> &[u8]
+pub(crate) fn array_name(kernel: Option<&Kernel>, j: usize) -> &[u8]
     ensures { result.now ≡ array_name (option_map (λ k. program_of k.now) kernel.entry) j }
 {
     match kernel {

@@ -1,8 +1,12 @@
 //! The statuses that a call can end with, the exit status that each has, and the line on the error stream that
-//! tells it; the text of a schedule, and the line that tells why a kernel's order is kept.
+//! tells it; the text of a schedule, and the line that tells why a kernel's order is kept; the text of the sources of
+//! reads.
 #![tactic(auto)]
 
 mod data_line;
+mod deps_laws;
+mod deps_lines;
+mod deps_names;
 mod kept_line;
 mod line;
 mod outside_line;
@@ -12,6 +16,10 @@ mod schedule_lines;
 mod status;
 
 pub use data_text::DataRefusal;
+pub use deps_laws::{
+    deps_texts_are_read_in_one_way, printed_sources_are_read_in_one_way, texts_of_two_kernels,
+};
+pub use deps_lines::deps_text;
 pub use kept_line::{KeptLine, kept_text};
 pub use line::status_line;
 pub use schedule_lines::schedule_text;

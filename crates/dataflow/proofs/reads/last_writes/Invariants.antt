@@ -1,5 +1,6 @@
-use Rattle.std.proofs.Common.{drop}
+use Rattle.std.proofs.Common.{All, drop}
 use Rattle.dataflow.specs.Answers.{reads_in}
+use Rattle.dataflow.specs.Steps.{IsHeldSource}
 use Rattle.dataflow.proofs.Gathering.{Gathered}
 use Rattle.dataflow.proofs.reads.last_writes.Given as goal
 
@@ -7,3 +8,4 @@ abbrev pub invariant-loop-statement : goal.invariant-loop-statement
 invariant-loop-statement l =
     Gathered l.model l.budget (reads_in l.statement-items) (reads_in (drop l.statement-index l.statement-items))
     l.sources.items
+    × All IsHeldSource l.sources.items

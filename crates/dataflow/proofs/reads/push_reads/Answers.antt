@@ -1,13 +1,23 @@
-use Rattle.std.proofs.Common.{◌++◌, ◌<◌, ℕ, ap, length, subst}
+use Rattle.std.proofs.Common.{◌++◌, ◌<◌, ℕ, All, List, ap, length, subst, sym}
+use Rattle.std.proofs.lemmas.List.Elements.{All-push}
 use Rattle.dataflow.specs.Answers.{reads_of_statement}
+use Rattle.dataflow.specs.Steps.{IsHeldSource}
+use Rattle.dataflow.specs.declared.source.ReadSource.{ReadSource}
 use Rattle.dataflow.proofs.Gathering.{read_gathered}
 use Rattle.dataflow.proofs.reads.push_reads.Goals as goal
 
 pub loop-access-preserved : goal.loop-access-preserved
-loop-access-preserved c = λ reads are.
+loop-access-preserved c =
     let s = c.args.statement.now in
+    let new = c.in_ok-source.source in
+    let old = c.loop-access.sources.items in
     let less = subst (λ (n : ℕ). c.loop-access.access < n) (ap length c.accesses-access-end.ensures.accesses)
-    c.loop-access-test.true in
-    read_gathered c.args.model.now c.args.budget s.number c.loop-access.access (length s.accesses)
-    (reads ++ reads_of_statement s) c.loop-access.sources.items c.push.new.sources.items c.in_ok-source.source less
-    (c.loop-access.invariant reads are) c.in_ok-source.ensures c.in_ok-push.ensures
+    c.loop-access-test.true in (
+      λ reads are.
+          read_gathered c.args.model.now c.args.budget s.number c.loop-access.access (length s.accesses)
+          (reads ++ reads_of_statement s) old c.push.new.sources.items new less
+          (c.loop-access.invariant.0 reads are) c.in_ok-source.ensures.run c.in_ok-push.ensures,
+      λ held.
+          subst (λ (ss : List ReadSource). All IsHeldSource ss) (sym c.in_ok-push.ensures)
+          (All-push IsHeldSource old new (c.loop-access.invariant.1 held) c.in_ok-source.ensures.numbers),
+    )

@@ -1,10 +1,12 @@
-use Rattle.std.proofs.Common.{ℕ, List, ◌++◌, ◌-◌, length}
+use Rattle.std.proofs.Common.{ℕ, List, ◌++◌, ◌-◌, All, length}
 use Rattle.dataflow.specs.Answers.{AreSources, reads_from, reads_of_statement}
+use Rattle.dataflow.specs.Steps.{IsHeldSource}
 use Rattle.dataflow.proofs.Gathering.{Gathered}
 use Rattle.dataflow.proofs.reads.push_reads.Given as goal
 
 abbrev pub invariant-loop-access : goal.invariant-loop-access
 invariant-loop-access l =
-    (reads : List (ℕ × ℕ)) → AreSources l.model l.budget reads l.fn.sources.items
+    ((reads : List (ℕ × ℕ)) → AreSources l.model l.budget reads l.fn.sources.items
     → Gathered l.model l.budget (reads ++ reads_of_statement l.statement)
-    (reads_from l.statement.number l.access (length l.statement.accesses - l.access)) l.sources.items
+    (reads_from l.statement.number l.access (length l.statement.accesses - l.access)) l.sources.items)
+    × (All IsHeldSource l.fn.sources.items → All IsHeldSource l.sources.items)

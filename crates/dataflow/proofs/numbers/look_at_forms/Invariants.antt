@@ -1,0 +1,6 @@
+use Rattle.std.proofs.Common.{All, take}
+use Rattle.dataflow.specs.Told.{IsHeld}
+use Rattle.dataflow.proofs.numbers.look_at_forms.Given as goal
+
+abbrev pub invariant-loop-form : goal.invariant-loop-form
+invariant-loop-form l = All IsHeld (take l.form-index l.forms)

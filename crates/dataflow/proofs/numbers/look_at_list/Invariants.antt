@@ -1,0 +1,6 @@
+use Rattle.std.proofs.Common.{◌≡◌, All, take, true}
+use Rattle.whole_numbers.specs.Fits.{fits}
+use Rattle.dataflow.proofs.numbers.look_at_list.Given as goal
+
+abbrev pub invariant-loop-number : goal.invariant-loop-number
+invariant-loop-number l = All (λ z. fits z ≡ true) (take l.number-index l.numbers)

@@ -1,0 +1,12 @@
+use Rattle.std.proofs.Common.{subst}
+use Rattle.std.specs.Prelude.{All, List}
+use Rattle.quast_trees.specs.declared.node.Node.{Node}
+use Rattle.quast_trees.specs.Postfix.{tree_of}
+use Rattle.dataflow.specs.Steps.{IsHeldNode}
+use Rattle.dataflow.proofs.Holding.{tree_holds}
+use Rattle.dataflow.proofs.numbers.look_at_numbers.Goals as goal
+
+pub returns : goal.returns
+returns c =
+    tree_holds (tree_of c.args.quast.now)
+    (subst (λ (ns : List Node). All IsHeldNode ns) c.nodes.ensures.nodes c.look_at_nodes.ensures)

@@ -1,0 +1,67 @@
+//! What the types of a quast's numbers promise of them: 128 bits hold each. These functions look at each number once
+//! and change nothing.
+ghost use Rattle.std.specs.Prelude.{◌≡◌, All, true};
+ghost use Rattle.whole_numbers.specs.Fits.{fits};
+ghost use Rattle.quast_trees.specs.Postfix.{tree_of};
+ghost use Rattle.dataflow.specs.Steps.{IsHeldNode};
+ghost use Rattle.dataflow.specs.Told.{HoldsNumbers, IsHeld};
+
+use affine_forms::Form;
+use quast_trees::{Node, Quast};
+
+// The numbers of a list.
+fn look_at_list(numbers: &[i128])
+    ensures { All (λ z. fits z ≡ true) numbers.now }
+{
+    for number in numbers {
+        let _number = *number;
+    }
+}
+
+// Those of a form.
+fn look_at_form(form: &Form)
+    ensures { IsHeld form.now }
+{
+    look_at_list(form.coefficients());
+    let _constant = form.constant();
+}
+
+// Those of some forms.
+fn look_at_forms(forms: &[Form])
+    ensures { All IsHeld forms.now }
+{
+    for form in forms {
+        look_at_form(form);
+    }
+}
+
+// Those of a node.
+fn look_at_node(node: &Node)
+    ensures { IsHeldNode node.now }
+{
+    match node {
+        Node::Initial => {}
+        Node::Forms(leaf) => look_at_forms(&leaf.forms),
+        Node::Branch { test, .. } => look_at_form(test),
+        Node::Bind { form, divisor } => {
+            let _divisor = *divisor;
+            look_at_form(form);
+        }
+    }
+}
+
+// Those of some nodes.
+fn look_at_nodes(nodes: &[Node])
+    ensures { All IsHeldNode nodes.now }
+{
+    for node in nodes {
+        look_at_node(node);
+    }
+}
+
+/// The numbers of a quast.
+pub fn look_at_numbers(quast: &Quast)
+    ensures { HoldsNumbers (tree_of quast.now) }
+{
+    look_at_nodes(quast.nodes());
+}

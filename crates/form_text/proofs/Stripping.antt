@@ -1,0 +1,179 @@
+-- What the code's own words for fronts of slices say, and numbers that are read up to 2^128 - 1.
+use Rattle.std.proofs.Common.{◌≡◌, ◌∙◌, ap, sym, refl, ℕ, suc, Bool, true, false, [], ◌∷◌, ◌++◌, take, drop, arith, ◌+◌}
+use Rattle.std.proofs.Common.{List, ◌-◌, ◌*◌, ◌^◌, ◌<◌, length, get_or, ne_eqb}
+use Rattle.std.specs.Prelude.{ℤ, Option, Some, None, MatchOption, ◌≢◌, ◌==◌, nat_lt, nat_le, if◌then◌else◌}
+use Rattle.std.specs.Borrow.{Bor}
+use Rattle.std.specs.List.{prefix_len}
+use Rattle.std.proofs.lemmas.Bool.{eqb-true, eq-eqb, ltb-true, ltb-false, leb-true, leb-false, le-ltb, lt-leb}
+use Rattle.std.proofs.lemmas.List.{append_assoc}
+use Rattle.whole_numbers.specs.Affine.{Affine, form_of}
+use Rattle.scop_lexer.specs.Bytes.{Text, is_digit}
+use Rattle.form_text.specs.Names.{is_name_byte}
+use Rattle.form_text.specs.Reading.{strip, when, name_in_front, behind_name, Factor, factor_of, named_as, named}
+use Rattle.form_text.specs.Reading.{number_in_front, numbered, plus, minus, with_coefficient}
+use Rattle.form_text.specs.View.{text_in, saturated, saturated_factor}
+use Rattle.form_text.proofs.Calls.{strip_front}
+
+none_some : (r : Text) → None ≡ Some r → ⊥
+none_some r e = let p : ◌≡◌ {A = Option Text} None (Some r) = e in cc
+
+abbrev text_or : Text → Option Text → Text
+text_or t (Some u) = u
+text_or t None = t
+
+some_text : (s r : Text) → Some s ≡ Some r → s ≡ r
+some_text s r e = let p : text_or s (Some s) ≡ text_or s (Some r) = ap (text_or s) e in p
+
+name_of_length : (one : Bool) (b : ℕ) (bs : Text) → is_name_byte b ≡ one
+    → take (prefix_len is_name_byte bs) bs ≡ name_in_front bs
+    → take (prefix_len is_name_byte (b ∷ bs)) (b ∷ bs) ≡ name_in_front (b ∷ bs)
+name_of_length true b bs e h =
+    let more : 1 + prefix_len is_name_byte bs ≡ suc (prefix_len is_name_byte bs) = omega arith in
+    rw (e, more) (ap (λ (t : Text). b ∷ t) h)
+name_of_length false b bs e h = rw e refl
+
+pub name_taken : (bs : Text) → take (prefix_len is_name_byte bs) bs ≡ name_in_front bs
+name_taken [] = refl
+name_taken (b ∷ bs) = name_of_length (is_name_byte b) b bs refl (name_taken bs)
+
+behind_length : (one : Bool) (b : ℕ) (bs : Text) → is_name_byte b ≡ one
+    → drop (prefix_len is_name_byte bs) bs ≡ behind_name bs
+    → drop (prefix_len is_name_byte (b ∷ bs)) (b ∷ bs) ≡ behind_name (b ∷ bs)
+behind_length true b bs e h =
+    let more : 1 + prefix_len is_name_byte bs ≡ suc (prefix_len is_name_byte bs) = omega arith in rw (e, more) h
+behind_length false b bs e h = rw e refl
+
+pub name_dropped : (bs : Text) → drop (prefix_len is_name_byte bs) bs ≡ behind_name bs
+name_dropped [] = refl
+name_dropped (b ∷ bs) = behind_length (is_name_byte b) b bs refl (name_dropped bs)
+
+either_some : (t : Bool) (o : Option Text) (r : Text) → (if t then o else None) ≡ Some r → (t ≡ true) × (o ≡ Some r)
+either_some true o r e = (refl, e)
+either_some false o r e = absurd (none_some r e)
+
+-- what is stripped stood in front
+strip_some : (p s r : Text) → strip p s ≡ Some r → s ≡ p ++ r
+strip_some [] s r e = some_text s r e
+strip_some (a ∷ p) [] r e = absurd (none_some r e)
+strip_some (a ∷ p) (b ∷ s) r e =
+    let both = either_some (a == b) (strip p s) r e in
+    ap (λ x. x ∷ s) (sym (eqb-true a b both.0)) ∙ ap (λ (t : Text). a ∷ t) (strip_some p s r both.1)
+
+not_stripped : (p s : Text) → ((r : Text) → s ≡ p ++ r → ⊥) → (o : Option Text) → strip p s ≡ o → None ≡ o
+not_stripped p s h None e = refl
+not_stripped p s h (Some r) e = absurd (h r (strip_some p s r e))
+
+pub stripped : (s p : Text) (r : Option (Bor Text))
+    → MatchOption r ((rest : Text) → s ≢ p ++ rest) (λ x. s ≡ p ++ x.now) → text_in r ≡ strip p s
+stripped s p (Some x) h = sym (ap (strip p) h ∙ strip_front p x.now)
+stripped s p None h = not_stripped p s h (strip p s) refl
+
+-- a name that is there, with no bracket behind it
+pub not_called : (m : ℕ) (name rest : Text) → 0 < length name → 0 < length rest → (get_or rest 0 0 ≡ 40 → ⊥)
+    → named_as m name rest ≡ Some (factor_of m name rest)
+not_called m [] rest some there h = absurd (omega (arith, some))
+not_called m (b ∷ bs) [] some there h = refl
+not_called m (b ∷ bs) (r ∷ rs) some there h = rw (ne_eqb r 40 h) refl
+
+pub called : (m : ℕ) (name rest : Text) → 0 < length rest → get_or rest 0 0 ≡ 40 → named_as m name rest ≡ None
+called m [] rest there h = refl
+called m (b ∷ bs) [] there h = absurd (omega (arith, there))
+called m (b ∷ bs) (r ∷ rs) there h = rw (eq-eqb r 40 h) refl
+
+pub ended : (m : ℕ) (name rest : Text) → 0 < length name → length rest ≡ 0
+    → named_as m name rest ≡ Some (factor_of m name rest)
+ended m [] rest some h = absurd (omega (arith, some))
+ended m (b ∷ bs) [] some h = refl
+ended m (b ∷ bs) (r ∷ rs) some h = absurd (omega (arith, h))
+
+pub nameless : (m : ℕ) (name rest : Text) → length name ≡ 0 → named_as m name rest ≡ None
+nameless m [] rest h = refl
+nameless m (b ∷ bs) rest h = absurd (omega (arith, h))
+
+pub ruleset naming = (not_called, called, ended, nameless)
+
+pub ruleset stripping = (name_taken, name_dropped)
+
+-- numbers that are the same up to the greatest stay so with more digits behind them
+pub saturated_same : (v w : ℕ) (bs : Text) → saturated v ≡ saturated w
+    → saturated (number_in_front v bs) ≡ saturated (number_in_front w bs)
+saturated_same v w [] e = e
+saturated_same v w (b ∷ bs) e = by_digit (is_digit b) (b - 48)
+    (saturated_same (v * 10 + (b - 48)) (w * 10 + (b - 48)) bs (omega (arith, e)))
+  where
+    by_digit : (t : Bool) (d : ℕ)
+        → saturated (number_in_front (v * 10 + (b - 48)) bs) ≡ saturated (number_in_front (w * 10 + (b - 48)) bs)
+        → saturated (if t then number_in_front (v * 10 + (b - 48)) bs else v)
+        ≡ saturated (if t then number_in_front (w * 10 + (b - 48)) bs else w)
+    by_digit true d h = h
+    by_digit false d h = e
+
+named_saturated : (m : ℕ) (name rest : Text)
+    → saturated_factor (named_as m name rest) ≡ named_as (saturated m) name rest
+named_saturated m [] rest = refl
+named_saturated m (b ∷ bs) [] = refl
+named_saturated m (b ∷ bs) (r ∷ rs) = either (r == 40)
+  where
+    either : (t : Bool) → saturated_factor (if t then None else Some (factor_of m (b ∷ bs) (r ∷ rs)))
+        ≡ (if t then None else Some (factor_of (saturated m) (b ∷ bs) (r ∷ rs)))
+    either true = refl
+    either false = refl
+
+-- a number that is read up to the greatest
+pub numbered_saturated : (m : ℕ) (text : Text) → saturated_factor (numbered m text) ≡ numbered (saturated m) text
+numbered_saturated m [] = refl
+numbered_saturated m (b ∷ bs) = either (b == 42)
+  where
+    either : (t : Bool) → saturated_factor (if t then named m bs else Some (factor_of m [] (b ∷ bs)))
+        ≡ (if t then named (saturated m) bs else Some (factor_of (saturated m) [] (b ∷ bs)))
+    either true = named_saturated m (name_in_front bs) (behind_name bs)
+    either false = refl
+
+pub named_once : (text : Text) → saturated_factor (named 1 text) ≡ named 1 text
+named_once text = named_saturated 1 (name_in_front text) (behind_name text)
+
+-- what has no sign of its own is no term where its number is too wide
+plus_is : (t : Bool) (f : Factor) → nat_lt f.number (2 ^ 127) ≡ t
+    → plus (factor_of (saturated f.number) f.name f.rest) ≡ plus f
+plus_is true f e =
+    let l = ltb-true f.number (2 ^ 127) e in
+    let same : saturated f.number ≡ f.number = omega (arith, l) in
+    ap (λ n. plus (factor_of n f.name f.rest)) same
+plus_is false f e =
+    let l = ltb-false f.number (2 ^ 127) e in
+    rw (e, le-ltb (saturated f.number) (2 ^ 127) (omega (arith, l))) refl
+
+minus_is : (t : Bool) (f : Factor) → nat_le f.number (2 ^ 127) ≡ t
+    → minus (factor_of (saturated f.number) f.name f.rest) ≡ minus f
+minus_is true f e =
+    let l = leb-true f.number (2 ^ 127) e in
+    let same : saturated f.number ≡ f.number = omega (arith, l) in
+    ap (λ n. minus (factor_of n f.name f.rest)) same
+minus_is false f e =
+    let l = leb-false f.number (2 ^ 127) e in
+    rw (e, lt-leb (saturated f.number) (2 ^ 127) (omega (arith, l))) refl
+
+pub plus_saturated : (o : Option Factor) → when (saturated_factor o) plus ≡ when o plus
+plus_saturated None = refl
+plus_saturated (Some f) = plus_is (nat_lt f.number (2 ^ 127)) f refl
+
+pub minus_saturated : (o : Option Factor) → when (saturated_factor o) minus ≡ when o minus
+minus_saturated None = refl
+minus_saturated (Some f) = minus_is (nat_le f.number (2 ^ 127)) f refl
+
+pub ruleset saturating = (numbered_saturated, named_once, plus_saturated, minus_saturated)
+
+-- coefficients that were read, in front of those of what is still read
+abbrev pub joined : List ℤ → Option (Affine × Text) → Option (Affine × Text)
+joined cs r = when r (λ f. Some (form_of (cs ++ f.0.coefficients) f.0.constant, f.1))
+
+pub joined_more : (cs : List ℤ) (c : ℤ) (r : Option (Affine × Text))
+    → joined (cs ++ (c ∷ [])) r ≡ joined cs (with_coefficient c r)
+joined_more cs c None = refl
+joined_more cs c (Some f) =
+    ap (λ (ds : List ℤ). Some (form_of ds f.0.constant, f.1)) (append_assoc cs (c ∷ []) f.0.coefficients)
+
+-- no digit stands in front of nothing
+pub stops_at_end : (v : ℕ) (text : Text) → length text ≡ 0 → number_in_front v text ≡ v
+stops_at_end v [] e = refl
+stops_at_end v (b ∷ bs) e = absurd (omega (arith, e))

@@ -1,0 +1,9 @@
+-- The coefficients so far, in front of what is still read, are those of all.
+use Rattle.std.proofs.Common.{◌≡◌, map, drop, true}
+use Rattle.form_text.specs.Reading.{read_terms}
+use Rattle.form_text.proofs.Stripping.{joined}
+use Rattle.form_text.proofs.form_reader.read_form.Given as goal
+
+abbrev pub invariant-loop-at : goal.invariant-loop-at
+invariant-loop-at l = joined l.coefficients.items (read_terms l.front (map (λ n. n.items) (drop l.at l.names)) l.rest)
+    ≡ read_terms true (map (λ n. n.items) l.names) l.text

@@ -1,0 +1,8 @@
+use Rattle.std.proofs.lemmas.Slice.Eq.{strip_prefix_is}
+use Rattle.std.proofs.lemmas.Bool.Decides.{Decides-eqb}
+use Rattle.form_text.proofs.Stripping.{stripped}
+use Rattle.form_text.proofs.form_reader.strip.Goals as goal
+
+pub returns : goal.returns
+returns c = stripped c.args.text.now c.args.front.now c.strip_prefix.result
+    (strip_prefix_is Decides-eqb c.args.text.now c.args.front.now c.strip_prefix.result c.strip_prefix.ensures.cases)

@@ -1,0 +1,4 @@
+pub mod Forms
+pub mod Names
+pub mod Reading
+pub mod View

@@ -1,0 +1,4 @@
+pub mod Names
+pub mod Numbers
+mod Quasts
+mod Waiting

@@ -1,0 +1,283 @@
+-- The text of a quast is read in one way.
+use Rattle.std.proofs.Common.{◌≡◌, ◌∙◌, ap, ap₂, sym, subst, refl, ℕ, zero, suc, ◌+◌, ◌^◌, ◌<◌, ◌≤◌, true}
+use Rattle.std.proofs.Common.{List, [], ◌∷◌, ◌++◌, drop, get_or, length, arith}
+use Rattle.std.proofs.Common.{append_assoc, append-nil, ℤ, pos, negsuc}
+use Rattle.std.proofs.Common.{◌≤ℤ◌, decimal, Option, Some, None, ltb-true}
+use Rattle.std.specs.Prelude.{All, codes, slice_get}
+use Rattle.std.specs.Fmt.{signed_decimal}
+use Rattle.std.proofs.lemmas.Int.{ints}
+use Rattle.std.proofs.lemmas.List.{append_cancel_left, length-append}
+use Rattle.std.proofs.lemmas.List.Elements.{All-head, All-tail}
+use Rattle.whole_numbers.specs.Affine.{Affine}
+use Rattle.whole_numbers.specs.Fits.{fits}
+use Rattle.scop_lexer.specs.Bytes.{Text}
+use Rattle.quast_trees.specs.Source.{Source, source_of, Forms}
+use Rattle.quast_trees.specs.Tree.{Tree, initial, leaf, branch, bind}
+use Rattle.form_text.specs.Forms.{form_text}
+use Rattle.form_text.specs.Names.{AreNames, IsFormOver}
+use Rattle.form_text.specs.Reading.{read_terms, read_form, term_in_front, with_coefficient, EndsForm}
+use Rattle.quast_text.specs.Text.{names_within, bound_name, comma, forms_from, statement_name, leaf_text, quast_text}
+use Rattle.quast_text.specs.Reading.{AreOuter, IsOneOf, IsTellable}
+use Rattle.quast_text.proofs.Names.{names_told}
+use Rattle.quast_text.proofs.Numbers.{EndsDigits, one_number}
+
+-- the laws of forms' texts
+pub record FormLaws : Type 0 where
+  pub back : (names : List Text) (form : Affine) (rest : Text) → AreNames names → IsFormOver (length names) form
+      → EndsForm rest → read_form names (form_text names form ++ rest) ≡ Some (form, rest)
+  pub one : (names : List Text) (f g : Affine) (r s : Text) → AreNames names → IsFormOver (length names) f
+      → IsFormOver (length names) g → EndsForm r → EndsForm s
+      → form_text names f ++ r ≡ form_text names g ++ s → (f ≡ g) × (r ≡ s)
+  pub at_least : (rest : Text) → EndsForm (codes " >= 0" ++ rest)
+  pub comma : (rest : Text) → EndsForm (codes "," ++ rest)
+  pub parenthesis : (rest : Text) → EndsForm (codes ")" ++ rest)
+  pub divisor : (rest : Text) → EndsForm (codes " / " ++ rest)
+
+-- the first byte of a text, 0 where there is none
+abbrev pub first : Text → ℕ
+first t = get_or t 0 0
+
+-- ---- numbers
+
+-- two divisors with one text in front of what no digit begins are one
+pub one_divisor : (y z : ℤ) (r s : Text) → pos 1 ≤ℤ y → pos 1 ≤ℤ z → fits y ≡ true → fits z ≡ true → EndsDigits r
+    → EndsDigits s → signed_decimal y ++ r ≡ signed_decimal z ++ s → (y ≡ z) × (r ≡ s)
+one_divisor (pos m) (pos n) r s a b f g c d e =
+    let low : m < 2 ^ 128 = omega (arith, ltb-true m (2 ^ 127) f) in
+    let small : n < 2 ^ 128 = omega (arith, ltb-true n (2 ^ 127) g) in
+    let t = one_number m n r s low small c d e in (ap pos t.0, t.1)
+one_divisor (pos m) (negsuc n) r s a b f g c d e = absurd (omega (arith, ints, b))
+one_divisor (negsuc m) z r s a b f g c d e = absurd (omega (arith, ints, a))
+
+-- ---- lists of forms
+
+-- no form stands in front of `)`
+none_read : (names : List Text) (x : Text) → read_terms true names (41 ∷ x) ≡ None
+unfolding term_in_front
+none_read [] x = refl
+none_read (name ∷ names) x = ap (with_coefficient (pos 0)) (none_read names x)
+
+no_form : (laws : FormLaws) (names : List Text) (f : Affine) (r x : Text) → AreNames names
+    → IsFormOver (length names) f → EndsForm r → form_text names f ++ r ≡ 41 ∷ x → ⊥
+unfolding read_form
+no_form laws names f r x n over ends e =
+    let none : ◌≡◌ {A = Option (Affine × Text)} None (Some (f, r)) =
+    sym (none_read names x) ∙ (ap (read_form names) (sym e) ∙ laws.back names f r n over ends) in
+    cc
+
+-- what stands behind the first form of a list ends it
+forms_end : (laws : FormLaws) (names : List Text) (at : ℕ) (fs : List Affine) (x : Text)
+    → EndsForm (forms_from names (suc at) fs ++ 41 ∷ x)
+forms_end laws names at [] x = laws.parenthesis x
+forms_end laws names at (f ∷ fs) x = laws.comma (drop 1 (forms_from names (suc at) (f ∷ fs) ++ 41 ∷ x))
+
+-- the text of a form that stands at a place, and what stands behind it
+parted : (p f fs x : Text) → ((p ++ f) ++ fs) ++ x ≡ p ++ (f ++ (fs ++ x))
+parted p f fs x = simp append_assoc refl
+
+one_list : (laws : FormLaws) (names : List Text) (at : ℕ) (fs gs : List Affine) (x y : Text) → AreNames names
+    → All (IsFormOver (length names)) fs → All (IsFormOver (length names)) gs
+    → forms_from names at fs ++ 41 ∷ x ≡ forms_from names at gs ++ 41 ∷ y → (fs ≡ gs) × (x ≡ y)
+one_list laws names at [] [] x y n a b e = (refl, ap (drop 1) e)
+one_list laws names zero [] (g ∷ gs) x y n a b e =
+    absurd (no_form laws names g (forms_from names 1 gs ++ 41 ∷ y) x n (All-head (IsFormOver (length names)) g gs b)
+    (forms_end laws names 0 gs y) (sym (parted [] (form_text names g) (forms_from names 1 gs) (41 ∷ y)) ∙ sym e))
+one_list laws names (suc at) [] (g ∷ gs) x y n a b e =
+    let same : 41 ≡ 44 = ap first e in absurd (omega (arith, same))
+one_list laws names zero (f ∷ fs) [] x y n a b e =
+    absurd (no_form laws names f (forms_from names 1 fs ++ 41 ∷ x) y n (All-head (IsFormOver (length names)) f fs a)
+    (forms_end laws names 0 fs x) (sym (parted [] (form_text names f) (forms_from names 1 fs) (41 ∷ x)) ∙ e))
+one_list laws names (suc at) (f ∷ fs) [] x y n a b e =
+    let same : 44 ≡ 41 = ap first e in absurd (omega (arith, same))
+one_list laws names at (f ∷ fs) (g ∷ gs) x y n a b e =
+    let p = comma at in
+    let t = laws.one names f g (forms_from names (suc at) fs ++ 41 ∷ x) (forms_from names (suc at) gs ++ 41 ∷ y) n
+    (All-head (IsFormOver (length names)) f fs a) (All-head (IsFormOver (length names)) g gs b)
+    (forms_end laws names at fs x) (forms_end laws names at gs y)
+    (append_cancel_left p (form_text names f ++ (forms_from names (suc at) fs ++ 41 ∷ x))
+    (form_text names g ++ (forms_from names (suc at) gs ++ 41 ∷ y))
+    (sym (parted p (form_text names f) (forms_from names (suc at) fs) (41 ∷ x)) ∙ (e
+    ∙ parted p (form_text names g) (forms_from names (suc at) gs) (41 ∷ y)))) in
+    let u = one_list laws names (suc at) fs gs x y n (All-tail (IsFormOver (length names)) f fs a)
+    (All-tail (IsFormOver (length names)) g gs b) t.1 in
+    (ap₂ (λ (h : Affine) (hs : List Affine). h ∷ hs) t.0 u.0, u.1)
+
+-- ---- leaves
+
+-- a leaf's text begins with `S`
+leaf_first : (loops : List (List ℕ)) (names : List Text) (l : Forms) (x : Text) → IsOneOf loops l.source
+    → first (leaf_text names l ++ x) ≡ 83
+leaf_first loops names l x is = by l.source is
+  where
+    by : (s : Option Source) → IsOneOf loops s
+        → first ((statement_name s ++ (codes "(" ++ (forms_from names 0 l.forms ++ (codes ")" ++ [])))) ++ x) ≡ 83
+    by None h = absurd h
+    by (Some s) h = refl
+
+-- loops of one number are one
+one_source : (loops : List (List ℕ)) (s t : Source) → IsOneOf loops (Some s) → IsOneOf loops (Some t)
+    → s.statement ≡ t.statement → s ≡ t
+one_source loops s t a b same =
+    ap₂ (λ (n : ℕ) (ls : List ℕ). source_of n ls) same
+    (some_one s.loops t.loops (sym a ∙ (ap (slice_get loops) same ∙ b)))
+  where
+    some_one : (xs ys : List ℕ) → Some xs ≡ Some ys → xs ≡ ys
+    some_one xs ys e = cc
+
+-- the parts of a leaf's text
+leaf_parts : (d fs x : Text)
+    → ((83 ∷ (d ++ (32 ∷ []))) ++ (40 ∷ (fs ++ (41 ∷ [])))) ++ x ≡ 83 ∷ (d ++ (32 ∷ 40 ∷ (fs ++ 41 ∷ x)))
+leaf_parts d fs x = simp append_assoc refl
+
+inside : {A : Type 0} (xs : List A) (k : ℕ) (x : A) → slice_get xs k ≡ Some x → k < length xs
+inside [] k x e = absurd cc
+inside (y ∷ xs) zero x e = omega arith
+inside (y ∷ xs) (suc k) x e = let h = inside xs k x e in omega (arith, h)
+
+-- the parts of two leaves' texts
+leaf_told : (laws : FormLaws) (loops : List (List ℕ)) (names : List Text) (s t : Option Source)
+    (fs gs : List Affine) (x y : Text) → length loops ≤ 2 ^ 64 → AreNames names → IsOneOf loops s
+    → IsOneOf loops t → All (IsFormOver (length names)) fs → All (IsFormOver (length names)) gs
+    → (statement_name s ++ (codes "(" ++ (forms_from names 0 fs ++ (codes ")" ++ [])))) ++ x
+    ≡ (statement_name t ++ (codes "(" ++ (forms_from names 0 gs ++ (codes ")" ++ [])))) ++ y
+    → (s ≡ t) × (fs ≡ gs) × (x ≡ y)
+leaf_told laws loops names None t fs gs x y few n a b over other e = absurd a
+leaf_told laws loops names (Some s) None fs gs x y few n a b over other e = absurd b
+leaf_told laws loops names (Some s) (Some t) fs gs x y few n a b over other e =
+    let low = inside loops s.statement s.loops a in
+    let small = inside loops t.statement t.loops b in
+    let number = one_number (suc s.statement) (suc t.statement) (32 ∷ 40 ∷ (forms_from names 0 fs ++ 41 ∷ x))
+    (32 ∷ 40 ∷ (forms_from names 0 gs ++ 41 ∷ y)) (omega (arith, low, few)) (omega (arith, small, few)) refl refl
+    (ap (drop 1) (sym (leaf_parts (decimal (suc s.statement)) (forms_from names 0 fs) x) ∙ (e
+    ∙ leaf_parts (decimal (suc t.statement)) (forms_from names 0 gs) y))) in
+    let forms = one_list laws names 0 fs gs x y n over other (ap (drop 2) number.1) in (
+      ap Some (one_source loops s t a b (let same = number.0 in omega (arith, same))),
+      forms.0,
+      forms.1,
+    )
+
+-- a leaf of these parts
+leaf_of : Option Source → ℕ → List Affine → Forms
+leaf_of source variables forms = record { source = source; variables = variables; forms = forms }
+
+one_leaf : (laws : FormLaws) (loops : List (List ℕ)) (names : List Text) (l m : Forms) (x y : Text)
+    → length loops ≤ 2 ^ 64 → AreNames names → IsOneOf loops l.source → IsOneOf loops m.source
+    → l.variables ≡ m.variables → All (IsFormOver (length names)) l.forms → All (IsFormOver (length names)) m.forms
+    → leaf_text names l ++ x ≡ leaf_text names m ++ y → (l ≡ m) × (x ≡ y)
+unfolding leaf_of
+one_leaf laws loops names l m x y few n a b v over other e =
+    let t = leaf_told laws loops names l.source m.source l.forms m.forms x y few n a b over other e in (
+      ap (λ s. leaf_of s l.variables l.forms) t.0
+          ∙ (ap (λ k. leaf_of m.source k l.forms) v ∙ ap (λ fs. leaf_of m.source m.variables fs) t.1),
+      t.2,
+    )
+
+-- ---- quasts
+
+branch_parts : (p f q a r b s x : Text)
+    → ((p ++ (f ++ (q ++ []))) ++ (a ++ (r ++ (b ++ (s ++ []))))) ++ x
+    ≡ p ++ (f ++ (q ++ (a ++ (r ++ (b ++ (s ++ x))))))
+branch_parts p f q a r b s x = simp (append_assoc, append-nil) refl
+
+bind_parts : (p m q f r d s a t x : Text)
+    → ((p ++ (m ++ (q ++ (f ++ (r ++ (d ++ (s ++ []))))))) ++ (a ++ (t ++ []))) ++ x
+    ≡ (p ++ (m ++ q)) ++ (f ++ (r ++ (d ++ (s ++ (a ++ (t ++ x))))))
+bind_parts p m q f r d s a t x = simp (append_assoc, append-nil) refl
+
+-- forms over the names within k `let`s
+over_names : (n m : ℕ) (f : Affine) → n ≡ m → IsFormOver n f → IsFormOver m f
+over_names n m f e over = subst (λ i. IsFormOver i f) e over
+
+all_over_names : (n m : ℕ) (fs : List Affine) → n ≡ m → All (IsFormOver n) fs → All (IsFormOver m) fs
+all_over_names n m fs e over = subst (λ i. All (IsFormOver i) fs) e over
+
+-- two quasts with one text in front of others are one, and so are the others
+pub one_quast : (laws : FormLaws) (loops : List (List ℕ)) (outer : List Text) (k n : ℕ) (t u : Tree) (x y : Text)
+    → length loops ≤ 2 ^ 64 → AreOuter outer → k < 2 ^ 64 → n ≡ length (names_within outer k)
+    → IsTellable loops n k t → IsTellable loops n k u
+    → quast_text outer k t ++ x ≡ quast_text outer k u ++ y → (t ≡ u) × (x ≡ y)
+one_quast laws loops outer k n initial initial x y few o low count a b e = (refl, ap (drop 7) e)
+one_quast laws loops outer k n initial (leaf m) x y few o low count a b e =
+    let same : 105 ≡ 83 = ap first e ∙ leaf_first loops (names_within outer k) m y b.0 in
+    absurd (omega (arith, same))
+one_quast laws loops outer k n initial (branch g c d) x y few o low count a b e =
+    let same : 110 ≡ 102 = ap (λ (s : Text). get_or s 1 0) e in absurd (omega (arith, same))
+one_quast laws loops outer k n initial (bind g d c) x y few o low count a b e =
+    let same : 105 ≡ 108 = ap first e in absurd (omega (arith, same))
+one_quast laws loops outer k n (leaf l) initial x y few o low count a b e =
+    let same : 83 ≡ 105 = sym (leaf_first loops (names_within outer k) l x a.0) ∙ ap first e in
+    absurd (omega (arith, same))
+one_quast laws loops outer k n (leaf l) (leaf m) x y few o low count a b e =
+    let names = names_within outer k in
+    let t = one_leaf laws loops names l m x y few (names_told outer k o low) a.0 b.0 (a.1 ∙ sym b.1)
+    (all_over_names n (length names) l.forms count a.2) (all_over_names n (length names) m.forms count b.2) e in
+    (ap leaf t.0, t.1)
+one_quast laws loops outer k n (leaf l) (branch g c d) x y few o low count a b e =
+    let same : 83 ≡ 105 = sym (leaf_first loops (names_within outer k) l x a.0) ∙ ap first e in
+    absurd (omega (arith, same))
+one_quast laws loops outer k n (leaf l) (bind g d c) x y few o low count a b e =
+    let same : 83 ≡ 108 = sym (leaf_first loops (names_within outer k) l x a.0) ∙ ap first e in
+    absurd (omega (arith, same))
+one_quast laws loops outer k n (branch f c d) initial x y few o low count a b e =
+    let same : 102 ≡ 110 = ap (λ (s : Text). get_or s 1 0) e in absurd (omega (arith, same))
+one_quast laws loops outer k n (branch f c d) (leaf m) x y few o low count a b e =
+    let same : 105 ≡ 83 = ap first e ∙ leaf_first loops (names_within outer k) m y b.0 in
+    absurd (omega (arith, same))
+one_quast laws loops outer k n (branch f c d) (branch g v w) x y few o low count a b e =
+    let names = names_within outer k in
+    let q = λ (s : Tree). quast_text outer k s in
+    let behind = λ (s r : Tree) (z : Text). q s ++ (codes " } else { " ++ (q r ++ (codes " }" ++ z))) in
+    let test = laws.one names f g (codes " >= 0 { " ++ behind c d x) (codes " >= 0 { " ++ behind v w y)
+    (names_told outer k o low) (over_names n (length names) f count a.0) (over_names n (length names) g count b.0)
+    (laws.at_least (codes " { " ++ behind c d x)) (laws.at_least (codes " { " ++ behind v w y))
+    (ap (drop 3) (sym (branch_parts (codes "if ") (form_text names f) (codes " >= 0 { ") (q c)
+    (codes " } else { ") (q d)
+    (codes " }") x) ∙ (e
+    ∙ branch_parts (codes "if ") (form_text names g) (codes " >= 0 { ") (q v) (codes " } else { ") (q w) (codes " }")
+    y))) in
+    let one = one_quast laws loops outer k n c v (codes " } else { " ++ (q d ++ (codes " }" ++ x)))
+    (codes " } else { " ++ (q w ++ (codes " }" ++ y))) few o low count a.1 b.1 (ap (drop 8) test.1) in
+    let two = one_quast laws loops outer k n d w (codes " }" ++ x) (codes " }" ++ y) few o low count a.2 b.2
+    (ap (drop 10) one.1) in (
+      ap (λ h. branch h c d) test.0 ∙ (ap (λ s. branch g s d) one.0 ∙ ap (λ s. branch g v s) two.0),
+      ap (drop 2) two.1,
+    )
+one_quast laws loops outer k n (branch f c d) (bind g z v) x y few o low count a b e =
+    let same : 105 ≡ 108 = ap first e in absurd (omega (arith, same))
+one_quast laws loops outer k n (bind f d c) initial x y few o low count a b e =
+    let same : 108 ≡ 105 = ap first e in absurd (omega (arith, same))
+one_quast laws loops outer k n (bind f d c) (leaf m) x y few o low count a b e =
+    let same : 108 ≡ 83 = ap first e ∙ leaf_first loops (names_within outer k) m y b.0 in
+    absurd (omega (arith, same))
+one_quast laws loops outer k n (bind f d c) (branch g v w) x y few o low count a b e =
+    let same : 108 ≡ 105 = ap first e in absurd (omega (arith, same))
+one_quast laws loops outer k n (bind f d c) (bind g z v) x y few o low count a b e =
+    let names = names_within outer k in
+    let q = λ (s : Tree). quast_text outer (suc k) s in
+    let head = codes "let " ++ (bound_name (suc k) ++ codes " = floor(") in
+    let behind = λ (i : ℤ) (s : Tree) (r : Text). signed_decimal i ++ (codes ") { " ++ (q s ++ (codes " }" ++ r))) in
+    let parts = λ (h : Affine) (i : ℤ) (s : Tree) (r : Text). bind_parts (codes "let ") (bound_name (suc k))
+    (codes " = floor(") (form_text names h) (codes " / ") (signed_decimal i) (codes ") { ") (q s) (codes " }") r in
+    let form = laws.one names f g (codes " / " ++ behind d c x) (codes " / " ++ behind z v y)
+    (names_told outer k o low) (over_names n (length names) f count a.1) (over_names n (length names) g count b.1)
+    (laws.divisor (behind d c x)) (laws.divisor (behind z v y))
+    (append_cancel_left head (form_text names f ++ (codes " / " ++ behind d c x))
+    (form_text names g ++ (codes " / " ++ behind z v y)) (sym (parts f d c x) ∙ (e ∙ parts g z v y))) in
+    let divisor = one_divisor d z (codes ") { " ++ (q c ++ (codes " }" ++ x))) (codes ") { " ++ (q v ++
+    (codes " }" ++ y)))
+    a.2 b.2 a.3 b.3 refl refl (ap (drop 3) form.1) in
+    let more = length-append names (bound_name (suc k) ∷ []) in
+    let body = one_quast laws loops outer (suc k) (n + 1) c v (codes " }" ++ x) (codes " }" ++ y) few o a.0
+    (omega (arith, count, more)) a.4 b.4 (ap (drop 4) divisor.1) in (
+      ap (λ h. bind h d c) form.0 ∙ (ap (λ i. bind g i c) divisor.0 ∙ ap (λ s. bind g z s) body.0),
+      ap (drop 2) body.1,
+    )
+
+-- no quast's text begins with `u`
+pub quast_first : (loops : List (List ℕ)) (outer : List Text) (k n : ℕ) (t : Tree) (x : Text)
+    → IsTellable loops n k t → first (quast_text outer k t ++ x) ≡ 117 → ⊥
+quast_first loops outer k n initial x a e = let same : 105 ≡ 117 = e in omega (arith, same)
+quast_first loops outer k n (leaf l) x a e =
+    let same : 83 ≡ 117 = sym (leaf_first loops (names_within outer k) l x a.0) ∙ e in omega (arith, same)
+quast_first loops outer k n (branch f c d) x a e = let same : 105 ≡ 117 = e in omega (arith, same)
+quast_first loops outer k n (bind f d c) x a e = let same : 108 ≡ 117 = e in omega (arith, same)

@@ -1,0 +1,111 @@
+-- The names that forms of sources speak of are told apart.
+use Rattle.std.proofs.Common.{◌≡◌, ◌∙◌, ap, sym, subst, refl, ℕ, zero, suc, ◌^◌, ◌<◌, true, false}
+use Rattle.std.proofs.Common.{List, [], ◌∷◌, ◌++◌, drop, get_or, map, decimal}
+use Rattle.std.proofs.Common.{arith, append-nil, append_assoc, inr, inl}
+use Rattle.std.specs.Prelude.{◌≢◌, All}
+use Rattle.std.specs.List.{list_all}
+use Rattle.std.proofs.lemmas.Bool.{false≢true, and_parts, or_left}
+use Rattle.std.proofs.lemmas.List.Elements.{All-nil, All-cons, All-head, All-tail}
+use Rattle.std.proofs.lemmas.Fmt.{decimal_injective}
+use Rattle.scop_lexer.specs.Bytes.{Text, is_letter, is_word_byte}
+use Rattle.scop_lexer.specs.Words.{IsName}
+use Rattle.scop_syntax.specs.Members.{In, Sorted}
+use Rattle.scop_syntax.specs.Tree.{Declaration, Program}
+use Rattle.scop_syntax.proofs.Members.{in_front}
+use Rattle.scop_units.specs.Names.{HasDistinctNames, header_names}
+use Rattle.form_text.specs.Names.{is_mark, is_name_byte, AreNameBytes, IsVariableName, IsFresh, AreNames}
+use Rattle.quast_text.specs.Text.{bound_name}
+use Rattle.quast_text.specs.Reading.{AreOuter}
+use Rattle.quast_text.proofs.Names.{fresh_behind, names_behind, decimal_bytes}
+use Rattle.report_text.specs.DepsText.{turn_name, turn_names}
+
+-- none of some, nor of others
+fresh_of_both : (name : Text) (xs ys : List Text) → IsFresh name xs → IsFresh name ys → IsFresh name (xs ++ ys)
+fresh_of_both name [] ys f g = g
+fresh_of_both name (x ∷ xs) ys f g = (f.0, fresh_of_both name xs ys f.1 g)
+
+-- ---- words
+
+word_is_name : (b : ℕ) → is_word_byte b ≡ true → is_name_byte b ≡ true
+word_is_name b h = or_left (is_word_byte b) (is_mark b) h
+
+words_are_names : (bs : Text) → list_all is_word_byte bs ≡ true → AreNameBytes bs
+words_are_names [] h = tt
+words_are_names (b ∷ bs) h =
+    let both = and_parts (is_word_byte b) (list_all is_word_byte bs) h in
+    (word_is_name b both.0, words_are_names bs both.1)
+
+variable_name : (name : Text) → IsName name → IsVariableName name
+variable_name [] w = absurd (false≢true w.letter)
+variable_name (b ∷ bs) w = (or_left (is_letter b) (is_mark b) w.letter, (words_are_names (b ∷ bs) w.bytes).1)
+
+-- a name that no letter begins is none of the kernel's
+marked_is_fresh : (b : ℕ) (bs : Text) (names : List Text) → is_letter b ≡ false → All IsName names
+    → IsFresh (b ∷ bs) names
+marked_is_fresh b bs [] h w = tt
+marked_is_fresh b bs (name ∷ names) h w = (
+  (λ e. false≢true (sym h ∙ (ap (λ (t : Text). is_letter (get_or t 0 0)) e ∙ (All-head IsName name names w).letter))),
+  marked_is_fresh b bs names h (All-tail IsName name names w),
+)
+
+fresh_among : (name : Text) (names : List Text) → ((y : Text) → In y names → name ≢ y) → IsFresh name names
+fresh_among name [] apart = tt
+fresh_among name (x ∷ xs) apart = (apart x (inl refl), fresh_among name xs (λ y i. apart y (inr i)))
+
+words_told : (names : List Text) → Sorted (λ (v w : Text). v ≢ w) names → All IsName names → AreNames names
+words_told [] s w = tt
+words_told (x ∷ xs) s w =
+    (variable_name x (All-head IsName x xs w), fresh_among x xs s.0, words_told xs s.1 (All-tail IsName x xs w))
+
+sorted_front : {A : Type 0} (R : A → A → Type 0) (xs ys : List A) → Sorted R (xs ++ ys) → Sorted R xs
+sorted_front R [] ys s = tt
+sorted_front R (x ∷ xs) ys s = ((λ y i. s.0 y (in_front y xs ys i)), sorted_front R xs ys s.1)
+
+all_front : {A : Type 0} (P : A → Type 0) (xs ys : List A) → All P (xs ++ ys) → All P xs
+all_front P [] ys all = All-nil P
+all_front P (x ∷ xs) ys all =
+    All-cons P x xs (All-head P x (xs ++ ys) all) (all_front P xs ys (All-tail P x (xs ++ ys) all))
+
+-- ---- numbered names
+
+turn_apart : (i j : ℕ) → i < 2 ^ 64 → j < 2 ^ 64 → j < i → turn_name i ≢ turn_name j
+turn_apart i j a b less e =
+    let same : i ≡ j = decimal_injective i j a b (ap (drop 1) e) in
+    omega (arith, same, less)
+
+mark_apart : (i j : ℕ) → bound_name i ≢ turn_name j
+mark_apart i j e = let same : 35 ≡ 36 = ap (λ (t : Text). get_or t 0 0) e in omega (arith, same)
+
+turn_fresh : (i d : ℕ) → i < 2 ^ 64 → d < i → IsFresh (turn_name i) (turn_names d)
+turn_fresh i zero a less = tt
+turn_fresh i (suc d) a less =
+    fresh_behind (turn_name i) (turn_name (suc d)) (turn_names d) (turn_fresh i d a (omega (arith, less)))
+    (turn_apart i (suc d) a (omega (arith, a, less)) less)
+
+no_turn : (j d : ℕ) → IsFresh (bound_name j) (turn_names d)
+no_turn j zero = tt
+no_turn j (suc d) = fresh_behind (bound_name j) (turn_name (suc d)) (turn_names d) (no_turn j d) (mark_apart j (suc d))
+
+turns_told : (names : List Text) (d : ℕ) → AreNames names → All IsName names → d < 2 ^ 64
+    → AreNames (names ++ turn_names d)
+turns_told names zero told w a = subst AreNames (sym (append-nil names)) told
+turns_told names (suc d) told w a =
+    subst AreNames (append_assoc names (turn_names d) (turn_name (suc d) ∷ []))
+    (names_behind (names ++ turn_names d) (turn_name (suc d)) (turns_told names d told w (omega (arith, a)))
+    (refl, decimal_bytes (suc d) a)
+    (fresh_of_both (turn_name (suc d)) names (turn_names d)
+    (marked_is_fresh 36 (decimal (suc d)) names refl w) (turn_fresh (suc d) d a (omega arith))))
+
+-- a kernel's parameters and the turns of loops stand round quasts
+pub outer_names : (program : Program) (d : ℕ) → HasDistinctNames program → All IsName (header_names program)
+    → d < 2 ^ 64 → AreOuter (program.parameters ++ turn_names d)
+outer_names program d distinct words a =
+    let arrays = map (λ (x : Declaration). x.name) program.arrays in
+    let own = all_front IsName program.parameters arrays words in
+    let told = words_told program.parameters
+    (sorted_front (λ (v w : Text). v ≢ w) program.parameters arrays distinct.header) own in
+    record {
+      names = turns_told program.parameters d told own a;
+      fresh = λ j. fresh_of_both (bound_name j) program.parameters (turn_names d)
+          (marked_is_fresh 35 (decimal j) program.parameters refl own) (no_turn j d);
+    }
