@@ -1,7 +1,7 @@
 #!/bin/sh
-# Runs each kernel of examples/ and compares what it prints with the arrays beside it, and its schedule with the one
-# beside it; looks that the stored calls of crates/command_cases have each of these files, byte for byte; and that a
-# process ends with each exit status that its streams can be brought to give.
+# Runs each kernel of examples/ and compares what it prints with the arrays beside it, and its schedule and the sources
+# of its reads with those beside it; looks that the stored calls of crates/command_cases have each of these files, byte
+# for byte; and that a process ends with each exit status that its streams can be brought to give.
 set -u
 root=$(CDPATH= cd -- "$(dirname -- "$0")/.." && pwd)
 failed=0
@@ -20,6 +20,7 @@ compare() {
 for kernel in "$root"/examples/*.c; do
     compare run "$kernel" "${kernel%.c}.out"
     compare schedule "$kernel" "${kernel%.c}.schedule"
+    compare deps "$kernel" "${kernel%.c}.deps"
     python3 -c 'import sys; sys.exit(open(sys.argv[1], "rb").read() not in open(sys.argv[2], "rb").read())' \
         "$kernel" "$root/crates/command_cases/stdin" || {
         failed=$((failed + 1))
@@ -44,6 +45,7 @@ expect() {
 copy='void c(int64_t N, uint64_t A[N]) { for (int64_t i = 0; i < N; i++) A[i] = A[i + 1]; }\n%%\n'
 expect 1 'usage: ' '' walk
 expect 1 'usage: ' '' schedule --budget 0
+expect 1 'usage: ' '' deps --budget 20001
 expect 2 'refused: Unended 1:7' 'void c' run
 expect 3 'data: Missing N' "$copy" run
 expect 4 'outside: S1 access 1 dimension 1 value 1 extent 1' "${copy}N = 1\n" run

@@ -231,7 +231,7 @@ if command -v script >/dev/null; then
     expect "on a terminal" 7 1
     told=$(grep -c '^polypar: [a-z_]* is proved, [0-9]* to go' "$work/said")
     expect_same "each library is told" "$told" $((crates - 1))
-    expect_word "the last of them is told" "polypar: polypar_program is proved, 1 to go"
+    expect_word "the last of them is told" "polypar: polypar is proved, 1 to go"
 fi
 
 fresh

@@ -20,13 +20,16 @@ use Rattle.report_text.specs.declared.status.Status.{Status}
 use Rattle.report_text.specs.declared.status.Status.TheVariants.{Done, Usage, Refused, BadData, Outside, ReadFault}
 use Rattle.report_text.specs.declared.status.Status.TheVariants.{WriteFault, NoMemory}
 use Rattle.polypar.specs.declared.command.Command.{Command}
-use Rattle.polypar.specs.declared.command.Command.TheVariants.{Run, Schedule}
+use Rattle.polypar.specs.declared.command.Command.TheVariants.{Run, OfKernel}
+use Rattle.polypar.specs.declared.command.KernelCommand.{KernelCommand}
+use Rattle.polypar.specs.declared.command.KernelCommand.TheVariants.{Schedule, Deps}
 use Rattle.polypar.specs.Command.{IsTaken, command_of}
 use Rattle.polypar.specs.Case.{Accepted, asked_text}
 use Rattle.polypar.specs.Deserves.{DeservesInput, DeservesFor, Deserves, AsksFor}
 use Rattle.report_text.specs.StatusText.{status_text}
-use Rattle.polypar.specs.Answers.{AnswersInput, AnswersPlan, AnswersFor, AnswersWords, IsReadOn, TellsStatus}
-use Rattle.polypar.specs.Answered.{PrintsArrays, PrintsPlan, PrintsFront, IsDeserved, NamesOf, GainsLine, NoneRose}
+use Rattle.polypar.specs.KernelText.{IsTextFor}
+use Rattle.polypar.specs.Answers.{AnswersInput, AnswersSpelled, AnswersFor, AnswersWords, IsReadOn, TellsStatus}
+use Rattle.polypar.specs.Answered.{PrintsArrays, PrintsText, PrintsFront, IsDeserved, NamesOf, GainsLine, NoneRose}
 use Rattle.polypar.specs.Answered.{HasRoomForText, Answered}
 
 -- an accepted input deserves Done
@@ -116,50 +119,50 @@ input_end WriteFault input out after answer =
     cut_end Run input (asked_text answer.0) out after (answer.0, refl) answer.1
 input_end NoMemory input out after answer = memory_end Run input out after answer
 
-plan_end : (budget : ℕ) (status : Status) (input : List ℕ) (out out_after : SinkShows)
-    → AnswersPlan budget status input out out_after → IsInputEnd (Schedule budget) status input out out_after
-plan_end budget Done input out after answer =
-    done_end (Schedule budget) input answer.1 out after
+spelled_end : (asked : KernelCommand) (status : Status) (input : List ℕ) (out out_after : SinkShows)
+    → AnswersSpelled asked status input out out_after → IsInputEnd (OfKernel asked) status input out out_after
+spelled_end asked Done input out after answer =
+    done_end (OfKernel asked) input answer.1 out after
     (inl (answer.0.short, inl (answer.0.program, answer.0.spelled, refl))) (answer.0, answer.2) answer.3
-plan_end budget Usage input out after answer = absurd answer
-plan_end budget (Refused refusal) input out after answer =
-    untouched_end (Schedule budget) (Refused refusal) input out after answer.0 answer.1
-plan_end budget (BadData refusal) input out after answer = absurd answer
-plan_end budget (Outside f) input out after answer = absurd answer
-plan_end budget ReadFault input out after answer = absurd answer
-plan_end budget WriteFault input out after answer =
-    cut_end (Schedule budget) input answer.1 out after (answer.0, answer.2) answer.3
-plan_end budget NoMemory input out after answer = memory_end (Schedule budget) input out after answer
+spelled_end asked Usage input out after answer = absurd answer
+spelled_end asked (Refused refusal) input out after answer =
+    untouched_end (OfKernel asked) (Refused refusal) input out after answer.0 answer.1
+spelled_end asked (BadData refusal) input out after answer = absurd answer
+spelled_end asked (Outside f) input out after answer = absurd answer
+spelled_end asked ReadFault input out after answer = absurd answer
+spelled_end asked WriteFault input out after answer =
+    cut_end (OfKernel asked) input answer.1 out after (answer.0, answer.2) answer.3
+spelled_end asked NoMemory input out after answer = memory_end (OfKernel asked) input out after answer
 
 command_end : (command : Command) (status : Status) (input : List ℕ) (out out_after : SinkShows)
     → AnswersFor command status input out out_after → IsInputEnd command status input out out_after
 command_end Run status input out after answer = input_end status input out after answer
-command_end (Schedule budget) status input out after answer = plan_end budget status input out after answer
+command_end (OfKernel asked) status input out after answer = spelled_end asked status input out after answer
 
 -- what was printed at Done is asked for
 done_text : (command : Command) (input : List ℕ) (out out_after : SinkShows)
     → AnswersFor command Done input out out_after
     → (text : List ℕ) × AsksFor command input text × Takes out out_after text
 done_text Run input out after answer = (asked_text answer.0, (answer.0, refl), answer.1)
-done_text (Schedule budget) input out after answer = (answer.1, (answer.0, answer.2), answer.3)
+done_text (OfKernel asked) input out after answer = (answer.1, (answer.0, answer.2), answer.3)
 
 -- and at a write fault a front of what is asked for was
 cut_text : (command : Command) (input : List ℕ) (out out_after : SinkShows)
     → AnswersFor command WriteFault input out out_after
     → (text : List ℕ) × AsksFor command input text × CutsOff out out_after text
 cut_text Run input out after answer = (asked_text answer.0, (answer.0, refl), answer.1)
-cut_text (Schedule budget) input out after answer = (answer.1, (answer.0, answer.2), answer.3)
+cut_text (OfKernel asked) input out after answer = (answer.1, (answer.0, answer.2), answer.3)
 
 -- an input is answered by no Usage and no read fault
 no_usage : (command : Command) (input : List ℕ) (out out_after : SinkShows)
     → AnswersFor command Usage input out out_after → ⊥
 no_usage Run input out after answer = answer
-no_usage (Schedule budget) input out after answer = answer
+no_usage (OfKernel asked) input out after answer = answer
 
 no_read_fault : (command : Command) (input : List ℕ) (out out_after : SinkShows)
     → AnswersFor command ReadFault input out out_after → ⊥
 no_read_fault Run input out after answer = answer
-no_read_fault (Schedule budget) input out after answer = answer
+no_read_fault (OfKernel asked) input out after answer = answer
 
 -- an input was read, and exactly a text that it asks the command for was printed
 abbrev PrintsFor : Command → Option (List ℕ) → Option (List ℕ) → Option (List ℕ) → Type 0
@@ -172,11 +175,11 @@ prints_arrays command left old new is printed =
     let run = subst (λ c. PrintsFor c left old new) is printed in
     (run.0, run.3.0, run.2, subst (λ text. Appends old new text) run.3.1 run.4)
 
-prints_plan : (budget : ℕ) (command : Command) (left old new : Option (List ℕ)) → command ≡ Schedule budget
-    → PrintsFor command left old new → PrintsPlan budget left old new
-prints_plan budget command left old new is printed =
-    let plan = subst (λ c. PrintsFor c left old new) is printed in
-    (plan.0, plan.3.0, plan.1, plan.2, plan.3.1, plan.4)
+prints_text : (asked : KernelCommand) (command : Command) (left old new : Option (List ℕ)) → command ≡ OfKernel asked
+    → PrintsFor command left old new → PrintsText (IsTextFor asked) left old new
+prints_text asked command left old new is printed =
+    let text = subst (λ c. PrintsFor c left old new) is printed in
+    (text.0, text.3.0, text.1, text.2, text.3.1, text.4)
 
 -- the program of a kernel that is lent is the kernel's
 pub lent_program : (lent : Option (Bor Kernel)) (kernel : Option Kernel) → option_copied lent ≡ kernel
@@ -395,7 +398,10 @@ answered law words status named source source_after out out_after err mid after 
       done = λ run is. prints_arrays (command_of words) source.left out.taken out_after.taken run.1
           (done words named source source_after out out_after err mid after status ends is).0;
       scheduled = λ budget plan is.
-          prints_plan budget (command_of words) source.left out.taken out_after.taken plan.1
+          prints_text (Schedule budget) (command_of words) source.left out.taken out_after.taken plan.1
+          (done words named source source_after out out_after err mid after status ends is).0;
+      sourced = λ budget deps is.
+          prints_text (Deps budget) (command_of words) source.left out.taken out_after.taken deps.1
           (done words named source source_after out out_after err mid after status ends is).0;
       read_whole = λ is. (done words named source source_after out out_after err mid after status ends is).1;
       usage = λ is. (usage words named source source_after out out_after err mid after status ends is).0;

@@ -4,5 +4,6 @@ pub mod MemoryLemmas
 pub mod OnceLemmas
 pub mod PlanLemmas
 pub mod RunLemmas
+pub mod SourcesLemmas
 pub mod VerdictLemmas
 pub mod WordLemmas

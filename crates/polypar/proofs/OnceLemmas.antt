@@ -16,10 +16,10 @@ use Rattle.report_text.specs.declared.status.Status.{Status}
 use Rattle.report_text.specs.declared.status.Status.TheVariants.{Outside, Refused, BadData}
 use Rattle.polypar.specs.Cut.{kernel_part, data_part}
 use Rattle.polypar.specs.declared.command.Command.{Command}
-use Rattle.polypar.specs.declared.command.Command.TheVariants.{Run, Schedule}
+use Rattle.polypar.specs.declared.command.Command.TheVariants.{Run, OfKernel}
 use Rattle.polypar.specs.Command.{command_of}
 use Rattle.polypar.specs.Deserves.{DeservesCase, DeservesData, DeservesText, DeservesInput, DeservesKernel}
-use Rattle.polypar.specs.Deserves.{DeservesPlan, DeservesFor, Deserves}
+use Rattle.polypar.specs.Deserves.{DeservesSpelled, DeservesFor, Deserves}
 
 -- the laws of failures, of texts and of data on which this stands
 pub record Laws : Type 0 where
@@ -85,16 +85,16 @@ kernel_once laws kernel a b (inl x) (inr y) = absurd (laws.fault kernel y.0.kind
 kernel_once laws kernel a b (inr x) (inl y) = absurd (laws.fault kernel x.0.kind x.1.at y.0 x.1.fault y.1)
 kernel_once laws kernel a b (inr x) (inr y) = x.2 ∙ (ap Refused (laws.refusal kernel x.0 y.0 x.1 y.1) ∙ sym y.2)
 
-plan_once : Laws → (input : List ℕ) (a b : Status) → DeservesPlan input a → DeservesPlan input b → a ≡ b
-plan_once laws input a b (inl x) (inl y) = kernel_once laws (kernel_part input) a b x.1 y.1
-plan_once laws input a b (inl x) (inr y) = let short : length input ≤ 2 ^ 27 = x.0 in absurd (omega (arith, y.0))
-plan_once laws input a b (inr x) (inl y) = let short : length input ≤ 2 ^ 27 = y.0 in absurd (omega (arith, x.0))
-plan_once laws input a b (inr x) (inr y) = x.1 ∙ sym y.1
+spelled_once : Laws → (input : List ℕ) (a b : Status) → DeservesSpelled input a → DeservesSpelled input b → a ≡ b
+spelled_once laws input a b (inl x) (inl y) = kernel_once laws (kernel_part input) a b x.1 y.1
+spelled_once laws input a b (inl x) (inr y) = let short : length input ≤ 2 ^ 27 = x.0 in absurd (omega (arith, y.0))
+spelled_once laws input a b (inr x) (inl y) = let short : length input ≤ 2 ^ 27 = y.0 in absurd (omega (arith, x.0))
+spelled_once laws input a b (inr x) (inr y) = x.1 ∙ sym y.1
 
 command_once : Laws → (command : Command) (input : List ℕ) (a b : Status) → DeservesFor command input a
     → DeservesFor command input b → a ≡ b
 command_once laws Run input a b x y = input_once laws input a b x y
-command_once laws (Schedule budget) input a b x y = plan_once laws input a b x y
+command_once laws (OfKernel asked) input a b x y = spelled_once laws input a b x y
 
 -- words and an input deserve one status
 pub words_once : Laws → (words : List (List ℕ)) (input : List ℕ) (a b : Status) → Deserves words input a

@@ -1,9 +1,9 @@
 -- From what a search answers to the text that is printed.
-use Rattle.std.proofs.Common.{◌≡◌, subst, inl, inr, ℕ, List, Option, Result, Ok, Err, IfOk}
+use Rattle.std.proofs.Common.{◌≡◌, sym, subst, inl, inr, ℕ, List, Option, Result, Ok, Err, IfOk}
 use Rattle.std.specs.Prelude.{Vec}
 use Rattle.std.specs.Global.{Global}
 use Rattle.iteration_domains.specs.Dependence.{Dependence}
-use Rattle.iteration_domains.specs.Model.{KernelModel}
+use Rattle.iteration_domains.specs.Model.{KernelModel, model_of}
 use Rattle.conflict_deps.specs.Conflicts.{conflicts_of}
 use Rattle.schedule_rows.specs.Outcomes.{IsSchedule}
 use Rattle.schedule_rows.specs.Schedule.{Scheduled, loops_in}
@@ -11,6 +11,10 @@ use Rattle.pluto_search.specs.Searching.{Keeps}
 use Rattle.pluto_search.specs.declared.kept.Kept.{Kept}
 use Rattle.report_text.specs.declared.kept_line.KeptLine.{KeptLine}
 use Rattle.report_text.specs.ScheduleText.{IsTextOf}
+use Rattle.scop_syntax.specs.Tree.{Program}
+use Rattle.polypar.specs.declared.command.KernelCommand.{KernelCommand}
+use Rattle.polypar.specs.declared.command.KernelCommand.TheVariants.{Schedule}
+use Rattle.polypar.specs.KernelText.{IsTextFor}
 use Rattle.polypar.specs.Planning.{line_of_kept, IsLineText, IsPlanOf}
 
 -- the text of a schedule of the model's conflicts
@@ -48,3 +52,12 @@ module _ {E : Type 0} where
       kept_is_plan budget model deps cause text.items conflicts keeps
       (subst (λ l. IsLineText l text.items) same told)
   kept_plans budget model deps cause line (Err e) conflicts keeps same told = tt
+
+  -- the text of a program's model is the one that `schedule` asks for
+  pub plan_asked : (asked : KernelCommand) (budget : ℕ) (program : Program) (model : KernelModel)
+      (result : Result (Vec ℕ Global) E) → asked ≡ Schedule budget → model ≡ model_of program
+      → IfOk result (λ text. IsPlanOf budget model text.items) → IfOk result (λ text. IsTextFor asked program text.items)
+  plan_asked asked budget program model (Ok text) schedule own is =
+      subst (λ command. IsTextFor command program text.items) (sym schedule)
+      (subst (λ m. IsPlanOf budget m text.items) own is)
+  plan_asked asked budget program model (Err e) schedule own is = tt

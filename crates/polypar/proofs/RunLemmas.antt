@@ -12,8 +12,9 @@ use Rattle.polypar.specs.Cut.{kernel_part, data_part}
 use Rattle.polypar.specs.Case.{IsShort}
 use Rattle.polypar.specs.Deserves.{too_long}
 use Rattle.polypar.specs.declared.command.Command.{Command}
-use Rattle.polypar.specs.declared.command.Command.TheVariants.{Run, Schedule}
-use Rattle.polypar.specs.Answers.{AnswersCase, AnswersData, AnswersInput, AnswersProgram, AnswersPlan}
+use Rattle.polypar.specs.declared.command.Command.TheVariants.{Run, OfKernel}
+use Rattle.polypar.specs.declared.command.KernelCommand.{KernelCommand}
+use Rattle.polypar.specs.Answers.{AnswersCase, AnswersData, AnswersInput, AnswersProgram, AnswersSpelled}
 use Rattle.polypar.specs.Answers.{AnswersKernel, AnswersFor}
 
 -- the answer to a case that the data says is the answer to the data
@@ -68,19 +69,19 @@ input_answers_of WriteFault input program old new short spelled answer = (
 input_answers_of NoMemory input program old new short spelled answer = answer
 
 -- the answer to a program is the answer to an input that spells it
-plan_answers_of : (budget : ℕ) (status : Status) (input : List ℕ) (program : Program) (old new : SinkShows)
+spelled_answers_of : (asked : KernelCommand) (status : Status) (input : List ℕ) (program : Program) (old new : SinkShows)
     → IsShort input → SpellsProgram (kernel_part input) program
-    → AnswersProgram budget status program old new → AnswersPlan budget status input old new
-plan_answers_of budget Done input program old new short spelled answer =
+    → AnswersProgram asked status program old new → AnswersSpelled asked status input old new
+spelled_answers_of asked Done input program old new short spelled answer =
     (record { short = short; program = program; spelled = spelled }, answer.0, answer.1, answer.2)
-plan_answers_of budget Usage input program old new short spelled answer = absurd answer
-plan_answers_of budget (Refused refusal) input program old new short spelled answer = absurd answer
-plan_answers_of budget (BadData refusal) input program old new short spelled answer = absurd answer
-plan_answers_of budget (Outside f) input program old new short spelled answer = absurd answer
-plan_answers_of budget ReadFault input program old new short spelled answer = absurd answer
-plan_answers_of budget WriteFault input program old new short spelled answer =
+spelled_answers_of asked Usage input program old new short spelled answer = absurd answer
+spelled_answers_of asked (Refused refusal) input program old new short spelled answer = absurd answer
+spelled_answers_of asked (BadData refusal) input program old new short spelled answer = absurd answer
+spelled_answers_of asked (Outside f) input program old new short spelled answer = absurd answer
+spelled_answers_of asked ReadFault input program old new short spelled answer = absurd answer
+spelled_answers_of asked WriteFault input program old new short spelled answer =
     (record { short = short; program = program; spelled = spelled }, answer.0, answer.1, answer.2)
-plan_answers_of budget NoMemory input program old new short spelled answer = answer
+spelled_answers_of asked NoMemory input program old new short spelled answer = answer
 
 -- of a command
 command_answers_of : (command : Command) (status : Status) (input : List ℕ) (program : Program) (old new : SinkShows)
@@ -88,8 +89,8 @@ command_answers_of : (command : Command) (status : Status) (input : List ℕ) (p
     → AnswersKernel command status program (data_part input) old new → AnswersFor command status input old new
 command_answers_of Run status input program old new short spelled answer =
     input_answers_of status input program old new short spelled answer
-command_answers_of (Schedule budget) status input program old new short spelled answer =
-    plan_answers_of budget status input program old new short spelled answer
+command_answers_of (OfKernel asked) status input program old new short spelled answer =
+    spelled_answers_of asked status input program old new short spelled answer
 
 -- the same of the parts that were cut off the input
 pub command_answers : (command : Command) (status : Status) (input kernel text : List ℕ) (program : Program)
@@ -105,7 +106,7 @@ command_answers command status input kernel text program old new short front bac
 pub long_answers : (command : Command) (input : List ℕ) (out : SinkShows) → 2 ^ 27 < length input
     → AnswersFor command too_long input out out
 long_answers Run input out long = (inr (long, refl), refl)
-long_answers (Schedule budget) input out long = (inr (long, refl), refl)
+long_answers (OfKernel asked) input out long = (inr (long, refl), refl)
 
 -- a text that is refused
 pub refused_answers : (command : Command) (input kernel : List ℕ) (refusal : Refusal) (out : SinkShows)
@@ -113,10 +114,10 @@ pub refused_answers : (command : Command) (input kernel : List ℕ) (refusal : R
     → AnswersFor command (Refused refusal) input out out
 refused_answers Run input kernel refusal out short front refused =
     (inl (short, inr (refusal, subst (λ t. IsRefusedAs t refusal) front refused, refl)), refl)
-refused_answers (Schedule budget) input kernel refusal out short front refused =
+refused_answers (OfKernel asked) input kernel refusal out short front refused =
     (inl (short, inr (refusal, subst (λ t. IsRefusedAs t refusal) front refused, refl)), refl)
 
 -- want of memory
 pub memory_answers : (command : Command) (input : List ℕ) (out : SinkShows) → AnswersFor command NoMemory input out out
 memory_answers Run input out = refl
-memory_answers (Schedule budget) input out = refl
+memory_answers (OfKernel asked) input out = refl

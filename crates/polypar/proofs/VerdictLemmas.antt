@@ -21,11 +21,11 @@ use Rattle.report_text.specs.declared.status.Status.TheVariants.{Done, Usage, Ou
 use Rattle.clap.specs.Words.{fault_of}
 use Rattle.clap.specs.Kinds.{Kinds}
 use Rattle.polypar.specs.declared.command.Command.{Command}
-use Rattle.polypar.specs.declared.command.Command.TheVariants.{Run, Schedule}
+use Rattle.polypar.specs.declared.command.Command.TheVariants.{Run, OfKernel}
 use Rattle.polypar.specs.Command.{tool, IsTaken, command_of}
 use Rattle.polypar.specs.Cut.{kernel_part, data_part}
 use Rattle.polypar.specs.Deserves.{DeservesCase, DeservesData, DeservesText, DeservesInput, DeservesKernel}
-use Rattle.polypar.specs.Deserves.{DeservesPlan, DeservesFor, Deserves, IsVerdict, too_long}
+use Rattle.polypar.specs.Deserves.{DeservesSpelled, DeservesFor, Deserves, IsVerdict, too_long}
 
 -- the laws of texts, of data and of failures on which this stands
 pub record Laws : Type 0 where
@@ -93,16 +93,16 @@ kernel_deserves kernel (inr fault) =
     } in
     (Refused refusal, tt, inr (refusal, record { at = fault.1; fault = fault.2; line = refl; column = refl }, refl))
 
-plan_deserves : Laws → (input : List ℕ) (long : Bool) → ltb (2 ^ 27) (length input) ≡ long
-    → HasVerdict (DeservesPlan input)
-plan_deserves laws input true is = (too_long, tt, inr (ltb-true (2 ^ 27) (length input) is, refl))
-plan_deserves laws input false is =
+spelled_deserves : Laws → (input : List ℕ) (long : Bool) → ltb (2 ^ 27) (length input) ≡ long
+    → HasVerdict (DeservesSpelled input)
+spelled_deserves laws input true is = (too_long, tt, inr (ltb-true (2 ^ 27) (length input) is, refl))
+spelled_deserves laws input false is =
     let rest = kernel_deserves (kernel_part input) (laws.text (kernel_part input)) in
     (rest.0, rest.1, inl (ltb-false (2 ^ 27) (length input) is, rest.2))
 
 command_deserves : Laws → (command : Command) (input : List ℕ) → HasVerdict (DeservesFor command input)
 command_deserves laws Run input = input_deserves laws input _ refl
-command_deserves laws (Schedule budget) input = plan_deserves laws input _ refl
+command_deserves laws (OfKernel asked) input = spelled_deserves laws input _ refl
 
 -- words are taken, or not
 taken_or_not : (words : List (List ℕ)) (faults : Kinds) → fault_of tool words ≡ faults

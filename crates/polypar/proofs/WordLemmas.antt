@@ -1,7 +1,7 @@
 -- What `clap` reads of the command line.
-use Rattle.std.proofs.Common.{◌≡◌, ◌∙◌, sym, ap, refl, ◌⊎◌, inl, inr, ℕ, Bool, true, false, cond, List, [], ◌∷◌, Option}
+use Rattle.std.proofs.Common.{◌≡◌, ◌∙◌, sym, ap, refl, inl, inr, ℕ, Bool, true, false, cond, List, [], ◌∷◌, Option}
 use Rattle.std.proofs.Common.{None, Some, is_some, Result, Ok, Err, if◌then◌else◌, arith}
-use Rattle.std.specs.Prelude.{◌||◌, slice_index_or, codes, IfOk, option_map, unwrap_or, Box}
+use Rattle.std.specs.Prelude.{◌||◌, IfOk, option_map, unwrap_or, Box}
 use Rattle.std.specs.Box.{box_value}
 use Rattle.std.specs.Option.{option_map_or}
 use Rattle.std.specs.Str.Parse.{ParsesUnsigned, digits_value, without_leading_plus}
@@ -13,7 +13,7 @@ use Rattle.clap.specs.Walk.{Held, Names, Row, Text, answers_to, finished, nothin
 use Rattle.clap.specs.Walk.{walk, walk_from}
 use Rattle.clap.specs.Built.{AddsSubcommand}
 use Rattle.clap.specs.Simple.{App, Shape, app_of, app_of_fields, argument_words, built, entered, label_of, names_of}
-use Rattle.clap.specs.Simple.{new_app, on_top, rows_at, shape_of, subcommand_rows, with_subcommand}
+use Rattle.clap.specs.Simple.{on_top, rows_at, shape_of, subcommand_rows, with_subcommand}
 use Rattle.clap.specs.ValueTests.{is_unsigned_in}
 use Rattle.clap.specs.declared.builder.command.Command as clap_command
 use Rattle.clap.specs.declared.builder.command.Command.TheViews.{out-Command}
@@ -21,7 +21,9 @@ use Rattle.clap.specs.declared.builder.value_parser.ValueParser.TheVariants as v
 use Rattle.clap.specs.declared.parser.matches.ArgMatches.TheViews.{out-SubCommand}
 use Rattle.clap.specs.declared.parser.matches.SubCommand.{SubCommand}
 use Rattle.clap.proofs.ValueTestLemmas.{accepts-Accepts, Accepts-accepts}
-use Rattle.polypar.specs.Command.{bare_tool, schedule_tool, tool, number_of, most_moves, IsTaken, NamesCommand}
+use Rattle.scop_syntax.specs.Members.{In}
+use Rattle.scop_syntax.proofs.Members.{in_map}
+use Rattle.polypar.specs.Command.{tool, number_of, most_moves, IsTaken, command_names, NamesCommand}
 
 -- a text that reads as a number
 number_read : (E : Type 0) (t : Text) (n : ℕ) → ParsesUnsigned {E = E} 64 10 t (Ok n) → n ≡ number_of t
@@ -81,30 +83,35 @@ wanting_is old mid new wants helps =
     ap app_of_fields helps in
     second ∙ ap (λ (a : App). on_top (λ top. record top { disable_help_subcommand = true }) a) first
 
--- the two commands make the stated one
-pub stated_is : {E : Type 0} (bare run one schedule : clap_command.Command) (result : Result clap_command.Command E)
-    → app_of bare ≡ bare_tool → app_of run ≡ new_app (codes "run") → app_of schedule ≡ schedule_tool
-    → (out-Command run).has_globals ≡ false → (out-Command schedule).has_globals ≡ false
-    → AddsSubcommand bare run one → IfOk result (AddsSubcommand one schedule) → IfOk result (λ c. app_of c ≡ tool)
-stated_is bare run one schedule (Ok c) bare_app run_app schedule_app run_plain schedule_plain first second =
-    let before : app_of one ≡ with_subcommand bare_tool (new_app (codes "run")).top = first.shape run_plain
-    ∙ (ap (λ (a : App). with_subcommand a (shape_of run)) bare_app
-    ∙ ap (λ (a : App). with_subcommand bare_tool a.top) run_app) in
-    second.shape schedule_plain
-    ∙ (ap (λ (a : App). with_subcommand a (shape_of schedule)) before
-    ∙ ap (λ (a : App). with_subcommand (with_subcommand bare_tool (new_app (codes "run")).top) a.top) schedule_app)
-stated_is bare run one schedule (Err e) bare_app run_app schedule_app run_plain schedule_plain first second = tt
+-- what is known of a command that was built: what it is, and that it has no argument that all its commands share
+pub record IsBuiltAs (a : App) (c : clap_command.Command) : Type 0 where
+  pub app : app_of c ≡ a
+  pub plain : (out-Command c).has_globals ≡ false
 
--- and it has no argument that all its commands share
-pub stated_plain : {E : Type 0} (bare run one schedule : clap_command.Command)
-    (result : Result clap_command.Command E)
-    → (out-Command bare).has_globals ≡ false → (out-Command run).has_globals ≡ false
-    → (out-Command schedule).has_globals ≡ false → AddsSubcommand bare run one
-    → IfOk result (AddsSubcommand one schedule) → IfOk result (λ c. (out-Command c).has_globals ≡ false)
-stated_plain bare run one schedule (Ok c) bare_plain run_plain schedule_plain first second =
-    second.globals ∙ (ap (λ b. b || (out-Command schedule).has_globals)
-    (first.globals ∙ (ap (λ b. b || (out-Command run).has_globals) bare_plain ∙ run_plain)) ∙ schedule_plain)
-stated_plain bare run one schedule (Err e) bare_plain run_plain schedule_plain first second = tt
+-- a command with one subcommand more
+pub one_more : (a s : App) (old sub new : clap_command.Command) → IsBuiltAs a old → IsBuiltAs s sub
+    → AddsSubcommand old sub new → IsBuiltAs (with_subcommand a s.top) new
+one_more a s old sub new of_old of_sub adds = record {
+  app = adds.shape of_sub.plain
+      ∙ (ap (λ (x : App). with_subcommand x (shape_of sub)) of_old.app
+      ∙ ap (λ (x : App). with_subcommand a x.top) of_sub.app);
+  plain = adds.globals ∙ (ap (λ b. b || (out-Command sub).has_globals) of_old.plain ∙ of_sub.plain);
+}
+
+module _ {E : Type 0} where
+  -- where it was made, what it is
+  pub more_is : (a s : App) (old sub : clap_command.Command) (result : Result clap_command.Command E)
+      → IsBuiltAs a old → IsBuiltAs s sub → IfOk result (AddsSubcommand old sub)
+      → IfOk result (λ c. app_of c ≡ with_subcommand a s.top)
+  more_is a s old sub (Ok c) of_old of_sub adds = (one_more a s old sub c of_old of_sub adds).app
+  more_is a s old sub (Err e) of_old of_sub adds = tt
+
+  -- and that it has no argument that all its commands share
+  pub more_plain : (a s : App) (old sub : clap_command.Command) (result : Result clap_command.Command E)
+      → IsBuiltAs a old → IsBuiltAs s sub → IfOk result (AddsSubcommand old sub)
+      → IfOk result (λ c. (out-Command c).has_globals ≡ false)
+  more_plain a s old sub (Ok c) of_old of_sub adds = (one_more a s old sub c of_old of_sub adds).plain
+  more_plain a s old sub (Err e) of_old of_sub adds = tt
 
 -- ---- words that are taken
 
@@ -127,35 +134,33 @@ last_check s names h words met below none =
     let behind_settles = none_behind settles (or_else defaults check) behind_below in
     (finished s.rules end, none_behind defaults check behind_settles)
 
--- of two commands the one that answers to a word
-one_of_two : (a b : Shape) (answers : Shape → Bool) (words : List Text)
-    → is_some (option_map (λ s. rows_at s words) (find answers (a ∷ b ∷ []))) ≡ true
-    → ((rows : List Row) × (option_map (λ s. rows_at s words) (find answers (a ∷ b ∷ [])) ≡ Some (a.name, rows)))
-    ⊎ ((rows : List Row) × (option_map (λ s. rows_at s words) (find answers (a ∷ b ∷ [])) ≡ Some (b.name, rows)))
-one_of_two a b answers words some = go (answers a) (answers b) refl refl
+-- of some commands the one that answers to a word
+answering : (shapes : List Shape) (answers : Shape → Bool) (words : List Text)
+    → is_some (option_map (λ s. rows_at s words) (find answers shapes)) ≡ true
+    → (one : Shape) × In one shapes
+    × (option_map (λ s. rows_at s words) (find answers shapes) ≡ Some (rows_at one words))
+answering [] answers words some = cc
+answering (s ∷ shapes) answers words some = go (answers s) refl (answering shapes answers words)
   where
-    Met : Bool → Bool → Option (Text × List Row)
-    Met p q = option_map (λ s. rows_at s words) (cond p (Some a) (cond q (Some b) None))
+    Met : Bool → Option (Text × List Row)
+    Met b = option_map (λ s. rows_at s words) (cond b (Some s) (find answers shapes))
 
-    go : (p q : Bool) → answers a ≡ p → answers b ≡ q
-        → ((rows : List Row) × (option_map (λ s. rows_at s words) (find answers (a ∷ b ∷ [])) ≡ Some (a.name, rows)))
-        ⊎ ((rows : List Row) × (option_map (λ s. rows_at s words) (find answers (a ∷ b ∷ [])) ≡ Some (b.name, rows)))
-    go true q is_a is_b = inl (rows_after a.rules [] words, ap (λ p. Met p (answers b)) is_a)
-    go false true is_a is_b =
-        inr (rows_after b.rules [] words, ap (λ p. Met p (answers b)) is_a ∙ ap (λ q. Met false q) is_b)
-    go false false is_a is_b =
-        let none = ap (λ p. Met p (answers b)) is_a ∙ ap (λ q. Met false q) is_b in
-        let bad : false ≡ true = sym (ap is_some none) ∙ some in cc
+    go : (b : Bool) → answers s ≡ b
+        → (is_some (Met false) ≡ true → (one : Shape) × In one shapes × (Met false ≡ Some (rows_at one words)))
+        → (one : Shape) × In one (s ∷ shapes) × (Met (answers s) ≡ Some (rows_at one words))
+    go true is behind = (s, inl refl, ap Met is)
+    go false is behind =
+        let found = behind (sym (ap is_some (ap Met is)) ∙ some) in
+        (found.0, inr found.1, ap Met is ∙ found.2)
 
 -- the command at which a parse stopped
 stopped_at : (stop : Option (Text × List Text)) → is_some (entered (built tool) stop) ≡ true
-    → ((rows : List Row) × (entered (built tool) stop ≡ Some (codes "run", rows)))
-    ⊎ ((rows : List Row) × (entered (built tool) stop ≡ Some (codes "schedule", rows)))
+    → (name : Text) × In name command_names × (rows : List Row) × (entered (built tool) stop ≡ Some (name, rows))
 stopped_at None some = cc
 stopped_at (Some stop) some =
-    let spare = (new_app []).top in
-    one_of_two (slice_index_or (built tool).subs 0 spare) (slice_index_or (built tool).subs 1 spare)
-    (λ s. answers_to stop.0 (label_of s)) stop.1 some
+    let subs = (built tool).subs in
+    let found = answering subs (λ s. answers_to stop.0 (label_of s)) stop.1 some in
+    (found.0.name, in_map (λ s. s.name) found.0 subs found.1, rows_after found.0.rules [] stop.1, found.2)
 
 -- the stated command wants one of its commands
 wants_one : (rows : List Row) (met : Bool) → check_fault (built tool).top rows met ≡ [] → met ≡ true
@@ -164,10 +169,11 @@ wants_one rows false none = cc
 
 -- words that are taken name a command
 pub taken_names : (words : List Text) → IsTaken words
-    → NamesCommand (codes "run") words ⊎ NamesCommand (codes "schedule") words
+    → (name : Text) × In name command_names × NamesCommand name words
 taken_names words taken =
     let a = built tool in
     let stop = stop_after a.top.rules (names_of a) (argument_words tool words) in
     let last = last_check a.top (names_of a) nothing_held (argument_words tool words) (is_some (entered a stop))
     (entered_fault a stop) taken in
-    stopped_at stop (wants_one last.0 (is_some (entered a stop)) last.1)
+    let named = stopped_at stop (wants_one last.0 (is_some (entered a stop)) last.1) in
+    (named.0, named.1, (named.2, named.3))

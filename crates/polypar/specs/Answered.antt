@@ -11,7 +11,8 @@ use Rattle.scop_syntax.specs.Tree.{Program}
 use Rattle.scop_parser.specs.Spelling.{SpellsProgram}
 use Rattle.polypar.specs.Case.{Accepted, asked_text, Spelled}
 use Rattle.polypar.specs.Planning.{IsPlanText}
-use Rattle.polypar.specs.Command.{IsTaken, IsRunCommand, IsScheduleCommand}
+use Rattle.polypar.specs.Sources.{IsSourcesText}
+use Rattle.polypar.specs.Command.{IsTaken, IsRunCommand, IsScheduleCommand, IsDepsCommand}
 use Rattle.polypar.specs.Cut.{kernel_part}
 use Rattle.polypar.specs.Deserves.{Deserves, Asks}
 use Rattle.report_text.specs.StatusText.{status_text}
@@ -21,12 +22,19 @@ abbrev pub PrintsArrays : Option (List ℕ) → Option (List ℕ) → Option (Li
 PrintsArrays left old new =
     (input : List ℕ) × (accepted : Accepted input) × IsAllOf left input × Appends old new (asked_text accepted)
 
--- an input that spells a kernel was read, and exactly the text of its schedule was printed, or the kept line of a cause
--- that holds
-abbrev pub PrintsPlan : ℕ → Option (List ℕ) → Option (List ℕ) → Option (List ℕ) → Type 0
-PrintsPlan budget left old new =
+-- an input that spells a kernel was read, and exactly a text that is one of its program was printed
+abbrev pub PrintsText : (Program → List ℕ → Type 0) → Option (List ℕ) → Option (List ℕ) → Option (List ℕ) → Type 0
+PrintsText IsTextOf left old new =
     (input : List ℕ) × (kernel : Spelled input) × (text : List ℕ) × IsAllOf left input
-    × IsPlanText budget kernel.program text × Appends old new text
+    × IsTextOf kernel.program text × Appends old new text
+
+-- the text of its schedule, or the kept line of a cause that holds
+abbrev pub PrintsPlan : ℕ → Option (List ℕ) → Option (List ℕ) → Option (List ℕ) → Type 0
+PrintsPlan budget left old new = PrintsText (IsPlanText budget) left old new
+
+-- the text of the sources of its reads, each of which, where it is resolved, names the last writer
+abbrev pub PrintsSources : ℕ → Option (List ℕ) → Option (List ℕ) → Option (List ℕ) → Type 0
+PrintsSources budget left old new = PrintsText (IsSourcesText budget) left old new
 
 -- a front of the text that the words and the input ask for was printed
 abbrev pub PrintsFront : List (List ℕ) → Option (List ℕ) → Option (List ℕ) → Option (List ℕ) → Type 0
@@ -81,10 +89,13 @@ HasRoomForLine left status err = (named : Option Program) → NamesOf left statu
 pub record Answered (words : List (List ℕ)) (status : Status) (source source_after : SourceShows)
     (out out_after err err_after : SinkShows) : Type 0 where
   -- the headline: of `run` exactly the arrays of the kernel's own sequential execution are printed, of `schedule` the
-  -- schedule of the determined run over the kernel's conflicts, or why its order is kept; and the input was read whole
+  -- schedule of the determined run over the kernel's conflicts, or why its order is kept, of `deps` for each read that is
+  -- resolved its last write; and the input was read whole
   pub done : IsRunCommand words → status ≡ Done → PrintsArrays source.left out.taken out_after.taken
   pub scheduled : (budget : ℕ) → IsScheduleCommand budget words → status ≡ Done
       → PrintsPlan budget source.left out.taken out_after.taken
+  pub sourced : (budget : ℕ) → IsDepsCommand budget words → status ≡ Done
+      → PrintsSources budget source.left out.taken out_after.taken
   pub read_whole : status ≡ Done → IsAtEnd source_after.left
   -- each status and its cause; want of memory may come over words too
   pub usage : status ≡ Usage → IsTaken words → ⊥

@@ -11,12 +11,13 @@ use Rattle.report_text.specs.declared.status.Status.{Status}
 use Rattle.report_text.specs.declared.status.Status.TheVariants.{Done, Usage, Refused, BadData, Outside, ReadFault}
 use Rattle.report_text.specs.declared.status.Status.TheVariants.{WriteFault, NoMemory}
 use Rattle.polypar.specs.declared.command.Command.{Command}
-use Rattle.polypar.specs.declared.command.Command.TheVariants.{Run, Schedule}
+use Rattle.polypar.specs.declared.command.Command.TheVariants.{Run, OfKernel}
+use Rattle.polypar.specs.declared.command.KernelCommand.{KernelCommand}
 use Rattle.polypar.specs.Command.{IsTaken, command_of}
 use Rattle.data_text.specs.Cases.{Says}
 use Rattle.polypar.specs.Case.{Accepted, final_text, asked_text, Spelled}
-use Rattle.polypar.specs.Planning.{IsPlanText}
-use Rattle.polypar.specs.Deserves.{DeservesCase, DeservesData, DeservesInput, DeservesPlan}
+use Rattle.polypar.specs.KernelText.{IsTextFor}
+use Rattle.polypar.specs.Deserves.{DeservesCase, DeservesData, DeservesInput, DeservesSpelled}
 use Rattle.report_text.specs.StatusText.{status_text}
 
 -- of a case of a program, and of `out`
@@ -51,33 +52,33 @@ AnswersInput (Outside f) input old new = DeservesInput input (Outside f) × (new
 AnswersInput NoMemory input old new = new ≡ old
 AnswersInput _ input old new = ⊥
 
--- of a program whose schedule is asked for with this budget, and of `out`
-abbrev pub AnswersProgram : ℕ → Status → Program → SinkShows → SinkShows → Type 0
-AnswersProgram budget Done program old new = (text : List ℕ) × IsPlanText budget program text × Takes old new text
-AnswersProgram budget WriteFault program old new =
-    (text : List ℕ) × IsPlanText budget program text × CutsOff old new text
-AnswersProgram budget NoMemory program old new = new ≡ old
-AnswersProgram budget _ program old new = ⊥
+-- of a program of which alone something is asked, and of `out`
+abbrev pub AnswersProgram : KernelCommand → Status → Program → SinkShows → SinkShows → Type 0
+AnswersProgram asked Done program old new = (text : List ℕ) × IsTextFor asked program text × Takes old new text
+AnswersProgram asked WriteFault program old new =
+    (text : List ℕ) × IsTextFor asked program text × CutsOff old new text
+AnswersProgram asked NoMemory program old new = new ≡ old
+AnswersProgram asked _ program old new = ⊥
 
 -- of a program, its data and a command, and of `out`
 abbrev pub AnswersKernel : Command → Status → Program → List ℕ → SinkShows → SinkShows → Type 0
 AnswersKernel Run status program text old new = AnswersData status program text old new
-AnswersKernel (Schedule budget) status program text old new = AnswersProgram budget status program old new
+AnswersKernel (OfKernel asked) status program text old new = AnswersProgram asked status program old new
 
--- of an input whose kernel's schedule is asked for, and of `out`
-abbrev pub AnswersPlan : ℕ → Status → List ℕ → SinkShows → SinkShows → Type 0
-AnswersPlan budget Done input old new =
-    (kernel : Spelled input) × (text : List ℕ) × IsPlanText budget kernel.program text × Takes old new text
-AnswersPlan budget WriteFault input old new =
-    (kernel : Spelled input) × (text : List ℕ) × IsPlanText budget kernel.program text × CutsOff old new text
-AnswersPlan budget (Refused refusal) input old new = DeservesPlan input (Refused refusal) × (new ≡ old)
-AnswersPlan budget NoMemory input old new = new ≡ old
-AnswersPlan budget _ input old new = ⊥
+-- of an input whose kernel alone is looked at, and of `out`
+abbrev pub AnswersSpelled : KernelCommand → Status → List ℕ → SinkShows → SinkShows → Type 0
+AnswersSpelled asked Done input old new =
+    (kernel : Spelled input) × (text : List ℕ) × IsTextFor asked kernel.program text × Takes old new text
+AnswersSpelled asked WriteFault input old new =
+    (kernel : Spelled input) × (text : List ℕ) × IsTextFor asked kernel.program text × CutsOff old new text
+AnswersSpelled asked (Refused refusal) input old new = DeservesSpelled input (Refused refusal) × (new ≡ old)
+AnswersSpelled asked NoMemory input old new = new ≡ old
+AnswersSpelled asked _ input old new = ⊥
 
 -- of an input that a command was given, and of `out`
 abbrev pub AnswersFor : Command → Status → List ℕ → SinkShows → SinkShows → Type 0
 AnswersFor Run status input old new = AnswersInput status input old new
-AnswersFor (Schedule budget) status input old new = AnswersPlan budget status input old new
+AnswersFor (OfKernel asked) status input old new = AnswersSpelled asked status input old new
 
 -- the source was read, to its end or not; a steady one counted no fault
 pub record IsReadOn (old new : SourceShows) : Type 0 where

@@ -1,4 +1,4 @@
--- What an input says, and what `run` and `schedule` print of it.
+-- What an input says, and what `run` prints of it.
 use Rattle.std.specs.Prelude.{ℕ, ◌^◌, ◌≤◌, ℤ, List, length}
 use Rattle.scop_syntax.specs.Tree.{Program}
 use Rattle.scop_syntax.specs.Execution.{exec, IsInside}

@@ -1,5 +1,5 @@
 -- The command lines that the program takes: those of the stated command, as `clap` reads them.
-use Rattle.std.specs.Prelude.{◌≡◌, ℕ, true, List, [], codes, Option, Some, if◌then◌else◌}
+use Rattle.std.specs.Prelude.{◌≡◌, ℕ, true, List, [], ◌∷◌, codes, Option, Some, if◌then◌else◌}
 use Rattle.std.specs.Option.{option_map_or}
 use Rattle.std.specs.Str.{bytes_eq}
 use Rattle.std.specs.Str.Parse.{digits_value, without_leading_plus}
@@ -10,15 +10,20 @@ use Rattle.clap.specs.ValueTests.{is_unsigned_in}
 use Rattle.clap.specs.declared.builder.action.ArgAction.TheVariants.{Set}
 use Rattle.clap.specs.declared.builder.value_parser.ValueParser.TheVariants as parser
 use Rattle.polypar.specs.declared.command.Command.{Command}
-use Rattle.polypar.specs.declared.command.Command.TheVariants.{Run, Schedule}
+use Rattle.polypar.specs.declared.command.Command.TheVariants.{Run, OfKernel}
+use Rattle.polypar.specs.declared.command.KernelCommand.TheVariants.{Schedule, Deps}
 
--- `--budget B`, a number from 1 to 20,000
+-- the greatest budget, and the one where none is given
+abbrev pub most_moves : ℕ
+most_moves = 20000
+
+-- `--budget B`, a number from 1 to the greatest budget
 abbrev pub budget_option : Rule
 budget_option =
     record (new_rule (codes "budget")) {
       long = Some (codes "budget");
       action = Some Set;
-      parser = Some (parser.Unsigned 1 20000);
+      parser = Some (parser.Unsigned 1 most_moves);
     }
 
 -- `polypar`, which wants one of its commands; `help` is none of them
@@ -27,21 +32,24 @@ bare_tool =
     on_top (λ top. record top { subcommand_required = true; disable_help_subcommand = true })
     (new_app (codes "polypar"))
 
--- `schedule [--budget B]`
-abbrev pub schedule_tool : App
-schedule_tool = with_rule (new_app (codes "schedule")) budget_option
+-- `run`
+abbrev pub run_tool : App
+run_tool = new_app (codes "run")
 
--- the stated command: `polypar run`, or `polypar schedule [--budget B]`
+-- a command of this name with `[--budget B]`
+abbrev pub budget_tool : Text → App
+budget_tool name = with_rule (new_app name) budget_option
+
+-- the stated command: `polypar run`, `polypar schedule [--budget B]`, or `polypar deps [--budget B]`
 abbrev pub tool : App
-tool = with_subcommand (with_subcommand bare_tool (new_app (codes "run")).top) schedule_tool.top
+tool =
+    with_subcommand
+    (with_subcommand (with_subcommand bare_tool run_tool.top) (budget_tool (codes "schedule")).top)
+    (budget_tool (codes "deps")).top
 
 -- the stated command takes the words; the first is the program's name
 abbrev pub IsTaken : List Text → Type 0
 IsTaken words = fault_of tool words ≡ []
-
--- the budget where none is given
-abbrev pub most_moves : ℕ
-most_moves = 20000
 
 -- the number of 64 bits that a text reads as; the most where it reads as none
 abbrev pub number_of : Text → ℕ
@@ -54,7 +62,9 @@ budget_in rows = option_map_or number_of (one_of (codes "budget") rows) most_mov
 
 -- the command of this name with these matches
 abbrev pub command_named : Text × List Row → Command
-command_named named = if bytes_eq named.0 (codes "schedule") then Schedule (budget_in named.1) else Run
+command_named named =
+    if bytes_eq named.0 (codes "schedule") then OfKernel (Schedule (budget_in named.1))
+    else (if bytes_eq named.0 (codes "deps") then OfKernel (Deps (budget_in named.1)) else Run)
 
 -- the command that is met, or `run` where none is; but words that are taken name one (law `taken_words_name_a_command`)
 abbrev pub command_met : Option (Text × List Row) → Command
@@ -70,7 +80,15 @@ IsRunCommand words = IsTaken words × (command_of words ≡ Run)
 
 -- the words are `schedule` with this budget
 abbrev pub IsScheduleCommand : ℕ → List Text → Type 0
-IsScheduleCommand budget words = IsTaken words × (command_of words ≡ Schedule budget)
+IsScheduleCommand budget words = IsTaken words × (command_of words ≡ OfKernel (Schedule budget))
+
+-- the words are `deps` with this budget
+abbrev pub IsDepsCommand : ℕ → List Text → Type 0
+IsDepsCommand budget words = IsTaken words × (command_of words ≡ OfKernel (Deps budget))
+
+-- the names of the commands
+abbrev pub command_names : List Text
+command_names = codes "run" ∷ codes "schedule" ∷ codes "deps" ∷ []
 
 -- the words name this command, with some matches
 abbrev pub NamesCommand : Text → List Text → Type 0

@@ -15,11 +15,11 @@ use Rattle.report_text.specs.declared.status.Status.{Status}
 use Rattle.report_text.specs.declared.status.Status.TheVariants.{Done, Usage, Refused, BadData, Outside, ReadFault}
 use Rattle.report_text.specs.declared.status.Status.TheVariants.{WriteFault, NoMemory}
 use Rattle.polypar.specs.declared.command.Command.{Command}
-use Rattle.polypar.specs.declared.command.Command.TheVariants.{Run, Schedule}
+use Rattle.polypar.specs.declared.command.Command.TheVariants.{Run, OfKernel}
 use Rattle.polypar.specs.Command.{IsTaken, command_of}
 use Rattle.polypar.specs.Cut.{kernel_part, data_part}
 use Rattle.polypar.specs.Case.{IsShort, Accepted, asked_text, Spelled}
-use Rattle.polypar.specs.Planning.{IsPlanText}
+use Rattle.polypar.specs.KernelText.{IsTextFor}
 
 -- every subscript lies in its extent, or the first that does not is told
 abbrev pub DeservesCase : Program → List ℤ → Status → Type 0
@@ -51,22 +51,22 @@ DeservesInput input status =
     (IsShort input × DeservesText (kernel_part input) (data_part input) status)
     ⊎ ((2 ^ 27 < length input) × (status ≡ too_long))
 
--- of `schedule`: the text spells a program, or its first fault is told
+-- of a command that looks at the kernel alone: the text spells a program, or its first fault is told
 abbrev pub DeservesKernel : List ℕ → Status → Type 0
 DeservesKernel kernel status =
     ((program : Program) × SpellsProgram kernel program × (status ≡ Done))
     ⊎ ((refusal : Refusal) × IsRefusedAs kernel refusal × (status ≡ Refused refusal))
 
--- of `schedule`: the input is short enough, or too long
-abbrev pub DeservesPlan : List ℕ → Status → Type 0
-DeservesPlan input status =
+-- of such a command: the input is short enough, or too long
+abbrev pub DeservesSpelled : List ℕ → Status → Type 0
+DeservesSpelled input status =
     (IsShort input × DeservesKernel (kernel_part input) status)
     ⊎ ((2 ^ 27 < length input) × (status ≡ too_long))
 
 -- of a command
 abbrev pub DeservesFor : Command → List ℕ → Status → Type 0
 DeservesFor Run input status = DeservesInput input status
-DeservesFor (Schedule budget) input status = DeservesPlan input status
+DeservesFor (OfKernel asked) input status = DeservesSpelled input status
 
 -- the words are taken, or not
 abbrev pub Deserves : List (List ℕ) → List ℕ → Status → Type 0
@@ -84,7 +84,7 @@ IsVerdict other = ⊤
 -- an input asks a command for the text
 abbrev pub AsksFor : Command → List ℕ → List ℕ → Type 0
 AsksFor Run input text = (accepted : Accepted input) × (text ≡ asked_text accepted)
-AsksFor (Schedule budget) input text = (kernel : Spelled input) × IsPlanText budget kernel.program text
+AsksFor (OfKernel asked) input text = (kernel : Spelled input) × IsTextFor asked kernel.program text
 
 -- the words and the input ask for the text
 abbrev pub Asks : List (List ℕ) → List ℕ → List ℕ → Type 0

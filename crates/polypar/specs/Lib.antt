@@ -5,4 +5,6 @@ pub mod Command
 pub mod Cut
 pub mod Deserves
 pub mod InMemory
+pub mod KernelText
 pub mod Planning
+pub mod Sources

@@ -25,6 +25,7 @@ line_of (stuck.Solver (solver.Spent posed moves)) = Some (line.Spent moves)
 line_of (stuck.Solver solver.NoMemory) = None
 line_of (stuck.Elimination (elimination.Wide wide)) = Some line.Wide
 line_of (stuck.Elimination (elimination.Crowded pairs)) = Some (line.Crowded pairs)
+line_of (stuck.Elimination (elimination.Large number)) = Some line.Large
 line_of (stuck.Elimination elimination.NoMemory) = None
 line_of stuck.NoMemory = None
 

@@ -1,9 +1,9 @@
-//! The command line, read with `clap`: `polypar run`, `polypar schedule [--budget B]`.
+//! The command line, read with `clap`: `polypar run`, `polypar schedule [--budget B]`, `polypar deps [--budget B]`.
 
 ghost use Rattle.std.specs.Prelude.{◌≡◌, IfOk, IsErrOf, false, map, string_bytes};
 ghost use Rattle.clap.specs.Words.{app_of, found_of, rows_of, subcommand_rows_of};
 ghost use Rattle.clap.specs.declared.builder.command.Command.TheViews.{out-Command};
-ghost use Rattle.polypar.specs.Command.{bare_tool, schedule_tool, tool, IsTaken, budget_in, command_named};
+ghost use Rattle.polypar.specs.Command.{bare_tool, budget_tool, tool, IsTaken, budget_in, command_named};
 ghost use Rattle.polypar.specs.Command.{command_met, command_of};
 
 use clap::error::ErrorKind;
@@ -18,8 +18,17 @@ const MOST_MOVES: u64 = 20_000;
 pub(crate) enum Command {
     /// The final arrays of a kernel and its data.
     Run,
-    /// The schedule of a kernel, each question of which may make so many moves.
+    /// What is told of a kernel alone.
+    OfKernel(KernelCommand),
+}
+
+/// What a command line asks of a kernel alone: its data is not looked at.
+#[derive(Clone, Copy, Debug, PartialEq, Eq)]
+pub(crate) enum KernelCommand {
+    /// The schedule, each question of whose search may make so many moves.
     Schedule { budget: u64 },
+    /// The source of each read, where each candidate's problem may make so many moves.
+    Deps { budget: u64 },
 }
 
 /// Why a command line asks for nothing.
@@ -41,16 +50,16 @@ fn bare<'a>(alloc: Global) -> clap::Command<'a>
         .disable_help_subcommand(true)
 }
 
-/// The command `schedule` with its option.
-fn schedule_command<'a>(alloc: Global) -> Result<clap::Command<'a>, AllocError>
-    ensures command { IfOk result (λ c. app_of c ≡ schedule_tool) }
+/// A command of this name with the option `--budget`.
+fn budget_command<'a>(alloc: Global, name: &'a str) -> Result<clap::Command<'a>, AllocError>
+    ensures command { IfOk result (λ c. app_of c ≡ budget_tool name.entry.now) }
     ensures plain { IfOk result (λ c. (out-Command c).has_globals ≡ false) }
 {
     let budget = Arg::new(alloc, "budget")
         .long("budget")
         .action(ArgAction::Set)
-        .value_parser(clap::value_parser!(u64).range(1..=20_000));
-    clap::Command::new(alloc, "schedule").arg(budget)
+        .value_parser(clap::value_parser!(u64).range(1..=MOST_MOVES as i64));
+    clap::Command::new(alloc, name).arg(budget)
 }
 
 /// The stated command. Its definition in specs/Command.antt says which words it takes.
@@ -59,11 +68,13 @@ fn stated<'a>(alloc: Global) -> Result<clap::Command<'a>, AllocError>
     ensures plain { IfOk result (λ c. (out-Command c).has_globals ≡ false) }
 {
     let run = clap::Command::new(alloc, "run");
-    let schedule = schedule_command(alloc)?;
-    bare(alloc).subcommand(run)?.subcommand(schedule)
+    let schedule = budget_command(alloc, "schedule")?;
+    let deps = budget_command(alloc, "deps")?;
+    let tool = bare(alloc).subcommand(run)?;
+    tool.subcommand(schedule)?.subcommand(deps)
 }
 
-/// The budget that the matches of `schedule` have.
+/// The budget that the matches of a command with `--budget` have.
 fn budget_in(matches: &ArgMatches) -> u64
     ensures { result ≡ budget_in (rows_of (found_of matches.now)) }
 {
@@ -78,9 +89,12 @@ fn command_named(name: &str, matches: &ArgMatches) -> Command
     ensures { result ≡ command_named (name.now, rows_of (found_of matches.now)) }
 {
     if name == "schedule" {
-        return Command::Schedule {
-            budget: budget_in(matches),
-        };
+        let budget = budget_in(matches);
+        return Command::OfKernel(KernelCommand::Schedule { budget });
+    }
+    if name == "deps" {
+        let budget = budget_in(matches);
+        return Command::OfKernel(KernelCommand::Deps { budget });
     }
     Command::Run
 }

@@ -1,16 +1,23 @@
-//! What is printed is data again, and words that are taken name a command: laws, as contracts of functions that do
-//! nothing.
+//! What `run` prints is data again, what `deps` prints tells last writes, and words that are taken name a command: laws,
+//! as contracts of functions that do nothing.
 
-ghost use Rattle.std.specs.Prelude.{All, ◌⊎◌, ◌<◌, ◌^◌, ℕ, ℤ, List, codes};
+ghost use Rattle.std.specs.Prelude.{All, ◌<◌, ◌^◌, ℕ, ℤ, List};
+ghost use Rattle.io_ports.specs.Reads.{SourceShows};
+ghost use Rattle.io_ports.specs.Writes.{SinkShows};
 ghost use Rattle.scop_syntax.specs.Tree.{Program};
 ghost use Rattle.scop_syntax.specs.Execution.{IsShaped, layout};
 ghost use Rattle.scop_syntax.specs.Limits.{WithinLimits};
+ghost use Rattle.scop_syntax.specs.Members.{In};
 ghost use Rattle.scop_parser.specs.Spelling.{SpellsProgram};
 ghost use Rattle.data_text.specs.Cases.{Says};
 ghost use Rattle.data_text.specs.Written.{case_text};
-ghost use Rattle.polypar.specs.Command.{IsTaken, NamesCommand};
+ghost use Rattle.report_text.specs.declared.status.Status.TheVariants.{Done};
+ghost use Rattle.polypar.specs.Answered.{Answered, PrintsText};
+ghost use Rattle.polypar.specs.Command.{IsDepsCommand, IsTaken, command_names, NamesCommand};
+ghost use Rattle.polypar.specs.Sources.{TellsLastWrites};
 
 use data_text::written_cases_are_read_back;
+use iteration_domains::domain_laws::{accesses_touch_the_cells, domains_hold_the_instances};
 use scop_parser::laws::spelled_programs_are_kernels;
 
 /// The text of the arrays of a kernel that a text spells, behind a line for each parameter, says these parameters and
@@ -25,8 +32,20 @@ pub fn printed_arrays_are_data()
     written_cases_are_read_back();
 }
 
-/// Words that the stated command takes name `run` or `schedule`.
+/// What `deps` prints tells the last writes: at Done some input, which is all that the source told, spells a kernel, and
+/// `out` has gained exactly a text of sources that for all parameters in 0..=65536 name the last write of each read.
+pub fn printed_sources_tell_last_writes()
+    ensures { (words : List (List ℕ)) (budget : ℕ) (source source_after : SourceShows)
+        (out out_after err err_after : SinkShows)
+        → Answered words Done source source_after out out_after err err_after → IsDepsCommand budget words
+        → PrintsText TellsLastWrites source.left out.taken out_after.taken }
+{
+    domains_hold_the_instances();
+    accesses_touch_the_cells();
+}
+
+/// Words that the stated command takes name one of its commands.
 pub fn taken_words_name_a_command()
     ensures { (words : List (List ℕ)) → IsTaken words
-        → NamesCommand (codes "run") words ⊎ NamesCommand (codes "schedule") words }
+        → (name : List ℕ) × In name command_names × NamesCommand name words }
 {}

@@ -1,24 +1,17 @@
-//! The command `schedule`: the schedule of a kernel's conflicts is searched and printed, or why the kernel's order is
+//! The command `schedule`: the schedule of a kernel's conflicts is searched, or it is told why the kernel's order is
 //! kept.
 
 ghost use Rattle.std.specs.Prelude.{◌≡◌, IfOk, None, Some};
-ghost use Rattle.io_ports.specs.Writes.{Writes};
-ghost use Rattle.scop_syntax.specs.Kernel.{IsKernel};
-ghost use Rattle.scop_syntax.specs.View.{program_of};
-ghost use Rattle.iteration_domains.specs.Model.{model_of};
 ghost use Rattle.conflict_deps.specs.Conflicts.{conflicts_of};
-ghost use Rattle.polypar.specs.Planning.{line_of, line_of_kept, IsLineText, IsPlanOf, IsPlanText};
-ghost use Rattle.polypar.specs.Answers.{AnswersProgram};
+ghost use Rattle.polypar.specs.Planning.{line_of, line_of_kept, IsLineText, IsPlanOf};
 
 use conflict_deps::conflicts;
 use farkas::Stuck;
 use fm_projection::FmStop;
-use io_ports::{Failed, Sink, write_whole};
 use iteration_domains::Model;
 use pip_solver::Stop;
 use pluto_search::{Kept, search};
-use report_text::{KeptLine, Status, kept_text, schedule_text};
-use scop_syntax::tree::Kernel;
+use report_text::{KeptLine, kept_text, schedule_text};
 use std::alloc::{AllocError, Global};
 
 /// The line of a question or an elimination that stops; none for want of memory.
@@ -31,6 +24,7 @@ fn line_of(stuck: &Stuck) -> Option<KeptLine>
         Stuck::Solver(Stop::NoMemory) => None,
         Stuck::Elimination(FmStop::Wide(_)) => Some(KeptLine::Wide),
         Stuck::Elimination(FmStop::Crowded { pairs }) => Some(KeptLine::Crowded(*pairs)),
+        Stuck::Elimination(FmStop::Large { .. }) => Some(KeptLine::Large),
         Stuck::Elimination(FmStop::NoMemory) => None,
         Stuck::NoMemory => None,
     }
@@ -60,7 +54,7 @@ fn line_text(alloc: Global, line: Option<KeptLine>) -> Result<Vec<u8>, AllocErro
 }
 
 /// The text of a model's schedule, or the kept line.
-fn plan_text(alloc: Global, model: &Model, budget: u64) -> Result<Vec<u8>, AllocError>
+pub(crate) fn plan_text(alloc: Global, model: &Model, budget: u64) -> Result<Vec<u8>, AllocError>
     ensures { IfOk result (λ text. IsPlanOf budget model.now text.items) }
 {
     let deps = match conflicts(alloc, model) {
@@ -74,46 +68,5 @@ fn plan_text(alloc: Global, model: &Model, budget: u64) -> Result<Vec<u8>, Alloc
             drop(kept);
             line_text(alloc, line)
         }
-    }
-}
-
-/// The text of a kernel's schedule, or the kept line.
-fn kernel_plan_text(alloc: Global, kernel: &Kernel, budget: u64) -> Result<Vec<u8>, AllocError>
-    requires { IsKernel (program_of kernel.now) }
-    ensures { IfOk result (λ text. IsPlanText budget (program_of kernel.now) text.items) }
-{
-    match Model::of(alloc, kernel) {
-        Ok(model) => plan_text(alloc, &model, budget),
-        Err(_) => Err(AllocError),
-    }
-}
-
-/// Writes a text, and flushes it.
-#[tactic(auto, using(io_ports::proofs::Writing::flushed))]
-fn print_text<O: Sink>(text: &[u8], out: &mut O) -> Result<(), Failed>
-    ensures { Writes (O.shows out.old) (O.shows out.new) text.now result }
-{
-    match write_whole(out, text) {
-        Ok(()) => out.flush(),
-        Err(failed) => Err(failed),
-    }
-}
-
-/// Searches the schedule of a kernel, and prints it, or why the order is kept.
-pub(crate) fn plan_kernel<O: Sink>(
-    alloc: Global,
-    kernel: &Kernel,
-    budget: u64,
-    out: &mut O,
-) -> Status
-    requires { IsKernel (program_of kernel.now) }
-    ensures { AnswersProgram budget result (program_of kernel.now) (O.shows out.old) (O.shows out.new) }
-{
-    match kernel_plan_text(alloc, kernel, budget) {
-        Ok(text) => match print_text(&text, out) {
-            Ok(()) => Status::Done,
-            Err(Failed) => Status::WriteFault,
-        },
-        Err(_) => Status::NoMemory,
     }
 }

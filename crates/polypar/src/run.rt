@@ -1,5 +1,5 @@
 //! What a command does: the source is read to its end and cut into a kernel and its data. For `run` the kernel is
-//! executed in its own order, and the final arrays are printed; for `schedule` see `plan`.
+//! executed in its own order, and the final arrays are printed; for the other commands see `kernel`.
 
 ghost use Rattle.std.specs.Prelude.{◌≡◌, None, Some, option_map};
 ghost use Rattle.io_ports.specs.Writes.{Writes};
@@ -17,7 +17,7 @@ ghost use Rattle.polypar.specs.Answered.{NamesOf};
 
 use crate::command::Command;
 use crate::cut::cut;
-use crate::plan::plan_kernel;
+use crate::kernel::print_asked;
 use data_text::{Case, DataStop, read_data, write_arrays};
 use io_ports::{Failed, ReadError, Sink, Source, read_to_end};
 use report_text::{Refusal, RefusalKind, Status};
@@ -82,7 +82,7 @@ fn too_long() -> Status
     })
 }
 
-/// Reads the kernel of an input, and goes on with its data or its schedule.
+/// Reads the kernel of an input, and goes on with what the command asks.
 fn run_input<O: Sink>(alloc: Global, command: Command, input: &[u8], out: &mut O) -> Ending
     requires { IsShort input.now }
     ensures answer { AnswersFor command result.status input.now (O.shows out.old) (O.shows out.new) }
@@ -115,7 +115,7 @@ fn run_command<O: Sink>(
 {
     match command {
         Command::Run => run_kernel(alloc, kernel, text, out),
-        Command::Schedule { budget } => plan_kernel(alloc, kernel, budget, out),
+        Command::OfKernel(asked) => print_asked(alloc, kernel, asked, out),
     }
 }
 

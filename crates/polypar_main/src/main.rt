@@ -1,9 +1,35 @@
-//! The program, on the process's own streams. Its stored run is Done.
+//! The program: makes the process's own streams and the open gate, calls `polypar`, and gives the exit status of its
+//! answer. Its stored run is Done.
 #![tactic(auto)]
 
-use polypar_program::run_on_streams;
+use io_ports::{OpenGate, StdSink, StdSource};
+use polypar::polypar;
+use std::env;
 use std::process::ExitCode;
+use std::rt::Env;
 
+/// The words of the command line; none where they cannot be read as a whole, which is no command.
+fn words<R: Env + AllocGlobal>(rt: &R) -> Vec<String> {
+    match env::args(rt) {
+        Ok(args) => args.collect(rt.alloc()).unwrap_or(Vec::new(rt.alloc())),
+        Err(_) => Vec::new(rt.alloc()),
+    }
+}
+
+/// Does what the words ask for over standard input, output and error.
 fn main(rt: HostRuntime) -> ExitCode {
-    run_on_streams(&rt)
+    let words = words(&rt);
+    let mut source = StdSource::of(rt.stdin());
+    let mut out = StdSink::of(rt.stdout());
+    let mut err = StdSink::of(rt.stderr());
+    let status = polypar(
+        &rt,
+        rt.alloc(),
+        &words,
+        &mut source,
+        &mut out,
+        &mut err,
+        &OpenGate,
+    );
+    ExitCode::from(status.exit_code())
 }

@@ -377,12 +377,14 @@ fn refuses_with_the_place(rt: HostRuntime) -> Result<(), Fail> {
 
 #[test]
 fn refuses_other_words(rt: HostRuntime) -> Result<(), Fail> {
-    let cases: [&[&str]; 6] = [
+    let cases: [&[&str]; 8] = [
         &[],
         &["polypar"],
         &["polypar", "copy"],
         &["polypar", "run", "--workers", "0"],
         &["polypar", "run", ""],
+        &["polypar", "deps", "--budget", "0"],
+        &["polypar", "deps", "--budget", "20001"],
         &["run"],
     ];
     for words in cases {

@@ -1,15 +1,42 @@
 -- Each command is added to the one that stands.
-use Rattle.polypar.proofs.WordLemmas.{stated_is, stated_plain}
+use Rattle.std.specs.Prelude.{codes}
+use Rattle.clap.specs.Words.{App, with_subcommand}
+use Rattle.polypar.specs.Command.{bare_tool, run_tool, budget_tool}
+use Rattle.polypar.proofs.WordLemmas.{IsBuiltAs, one_more, more_is, more_plain}
 use Rattle.polypar.proofs.command.stated.Goals as goal
+
+-- the command with `run` alone
+abbrev tool_with_run : App
+tool_with_run = with_subcommand bare_tool run_tool.top
+
+-- and with `schedule`
+abbrev tool_with_schedule : App
+tool_with_schedule = with_subcommand tool_with_run (budget_tool (codes "schedule")).top
+
+-- the command to which `deps` is added
+before_deps : (c : goal.After-subcommand-3) → IsBuiltAs tool_with_schedule c.in_ok-subcommand.field-0
+before_deps c =
+    let bare : IsBuiltAs bare_tool c.bare.result =
+    record { app = c.bare.ensures.command; plain = c.bare.ensures.plain } in
+    let run : IsBuiltAs run_tool c.new-run.result =
+    record { app = c.new-run.ensures.app; plain = c.new-run.ensures.local } in
+    let schedule : IsBuiltAs (budget_tool (codes "schedule")) c.in_ok-schedule.schedule =
+    record { app = c.in_ok-schedule.ensures.command; plain = c.in_ok-schedule.ensures.plain } in
+    let first = one_more bare_tool run_tool c.bare.result c.new-run.result c.in_ok-tool.tool bare run
+    c.in_ok-tool.ensures in
+    one_more tool_with_run (budget_tool (codes "schedule")) c.in_ok-tool.tool c.in_ok-schedule.schedule
+    c.in_ok-subcommand.field-0 first schedule c.in_ok-subcommand.ensures
+
+-- the command `deps`
+deps : (c : goal.After-subcommand-3) → IsBuiltAs (budget_tool (codes "deps")) c.in_ok-deps.deps
+deps c = record { app = c.in_ok-deps.ensures.command; plain = c.in_ok-deps.ensures.plain }
 
 pub returns-clause-command : goal.returns-clause-command
 returns-clause-command c =
-    stated_is c.bare.result c.new-run.result c.in_ok-subcommand.field-0 c.in_ok-schedule.schedule c.subcommand-2.result
-    c.bare.ensures.command c.new-run.ensures.app c.in_ok-schedule.ensures.command c.new-run.ensures.local
-    c.in_ok-schedule.ensures.plain c.in_ok-subcommand.ensures c.subcommand-2.ensures
+    more_is tool_with_schedule (budget_tool (codes "deps")) c.in_ok-subcommand.field-0 c.in_ok-deps.deps
+    c.subcommand-3.result (before_deps c) (deps c) c.subcommand-3.ensures
 
 pub returns-clause-plain : goal.returns-clause-plain
 returns-clause-plain c =
-    stated_plain c.bare.result c.new-run.result c.in_ok-subcommand.field-0 c.in_ok-schedule.schedule
-    c.subcommand-2.result c.bare.ensures.plain c.new-run.ensures.local c.in_ok-schedule.ensures.plain
-    c.in_ok-subcommand.ensures c.subcommand-2.ensures
+    more_plain tool_with_schedule (budget_tool (codes "deps")) c.in_ok-subcommand.field-0 c.in_ok-deps.deps
+    c.subcommand-3.result (before_deps c) (deps c) c.subcommand-3.ensures

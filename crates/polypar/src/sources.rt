@@ -1,0 +1,30 @@
+//! The command `deps`: where the value of each read of a kernel comes from.
+
+ghost use Rattle.std.specs.Prelude.{◌≡◌, IfOk};
+ghost use Rattle.scop_syntax.specs.Kernel.{IsKernel};
+ghost use Rattle.scop_syntax.specs.View.{program_of};
+ghost use Rattle.iteration_domains.specs.Model.{model_of};
+ghost use Rattle.polypar.specs.Sources.{IsSourcesText};
+
+use dataflow::last_writes;
+use iteration_domains::Model;
+use report_text::deps_text;
+use scop_syntax::tree::Kernel;
+use std::alloc::{AllocError, Global};
+
+/// The text of the sources of a kernel's reads, where each candidate's problem may make so many moves.
+pub(crate) fn sources_text(
+    alloc: Global,
+    kernel: &Kernel,
+    model: &Model,
+    budget: u64,
+) -> Result<Vec<u8>, AllocError>
+    requires kernel { IsKernel (program_of kernel.now) }
+    requires model { model.now ≡ model_of (program_of kernel.now) }
+    ensures { IfOk result (λ text. IsSourcesText budget (program_of kernel.now) text.items) }
+{
+    match last_writes(alloc, model, budget) {
+        Ok(sources) => deps_text(alloc, kernel, &sources),
+        Err(_) => Err(AllocError),
+    }
+}
