@@ -1,0 +1,14 @@
+-- The values of a chain of loops, at each kind.
+use Rattle.std.proofs.Common.{◌≡◌, ℤ, List, [], ◌∷◌, ◌++◌, Bor, ap, sym, ◌∙◌}
+use Rattle.loop_tree.specs.declared.outer.Outer.{Outer}
+use Rattle.loop_tree.specs.declared.outer.Outer.TheVariants.{Top, Within, rolls-Top, rolls-Within}
+use Rattle.loop_tree.specs.declared.outer.Outer.TheFolds.{fold-roll-Outer}
+use Rattle.loop_tree.specs.declared.outer.Outer.TheOpen.{Outer-F}
+use Rattle.loop_tree.specs.steps.Chain.{chain_step, values_in}
+
+pub values_top : values_in Top ≡ []
+values_top = ap values_in (sym rolls-Top) ∙ fold-roll-Outer (List ℤ) chain_step Outer-F.Top
+
+pub values_within : (inner : Bor Outer) (x : ℤ) → values_in (Within inner x) ≡ values_in inner.now ++ x ∷ []
+values_within inner x =
+    ap values_in (sym (rolls-Within inner x)) ∙ fold-roll-Outer (List ℤ) chain_step (Outer-F.Within inner x)

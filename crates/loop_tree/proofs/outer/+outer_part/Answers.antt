@@ -1,0 +1,77 @@
+use Rattle.std.proofs.Common.{◌≡◌, ◌∙◌, ℤ, pos, List, [], ◌∷◌, length, drop, ap}
+use Rattle.std.proofs.Common.{ap₂, subst, sym, rules, to_z, of_z}
+use Rattle.std.proofs.Common.{◌<◌, arith, length-append}
+use Rattle.std.specs.Prelude.{◌+ℤ◌, FitsSigned}
+use Rattle.std.specs.Int.{w128}
+use Rattle.std.proofs.lemmas.Int.{to_z-of_z}
+use Rattle.whole_numbers.specs.Lists.{dot}
+use Rattle.whole_numbers.proofs.Dot.{dot-nil}
+use Rattle.whole_numbers.proofs.Ring.{add_zero_left}
+use Rattle.loop_tree.specs.steps.Chain.{values_in}
+use Rattle.loop_tree.specs.Fits.{SumsFit}
+use Rattle.loop_tree.proofs.Chains.{values_top, values_within}
+use Rattle.loop_tree.proofs.Products.{dot_parts, drop_parts, fits_back, fits_front}
+use Rattle.loop_tree.proofs.outer.+outer_part.Goals as goal
+
+pub outer_part-part-requires : goal.outer_part-part-requires
+outer_part-part-requires t c =
+    let inner = c.in-Within.inner in
+    let cs = c.args.coefficients.now in
+    let within = ap values_in c.in-Within.is ∙ values_within inner c.in-Within.value in
+    let fits : SumsFit (pos 0) cs (values_in inner.now) =
+    fits_front (pos 0) cs (values_in inner.now) (c.in-Within.value ∷ [])
+    (subst (SumsFit (pos 0) cs) within c.requires) in
+    let l = ap (λ (xs : List ℤ). length xs) within ∙ length-append (values_in inner.now) (c.in-Within.value ∷ []) in
+    let less : length (values_in inner.now) < length (values_in c.args.outer.now) = omega (arith, l) in
+    search rules
+
+pub with_entry-requires : goal.with_entry-requires
+with_entry-requires t c =
+    let inner = c.in-Within.inner in
+    let x = c.in-Within.value in
+    let cs = c.args.coefficients.now in
+    let part = c.outer_part-part.result in
+    let vs = values_in inner.now in
+    let within = ap values_in c.in-Within.is ∙ values_within inner x in
+    let back = fits_back (pos 0) cs vs (x ∷ []) (subst (SumsFit (pos 0) cs) within c.requires) in
+    let zero : pos 0 +ℤ dot cs vs ≡ part.sum = add_zero_left (dot cs vs) ∙ sym c.outer_part-part.ensures.sum in
+    let whole : SumsFit part.sum part.rest.now (x ∷ []) =
+    subst (λ (n : ℤ). SumsFit n part.rest.now (x ∷ [])) zero
+    (subst (λ (ds : List ℤ). SumsFit (pos 0 +ℤ dot cs vs) ds (x ∷ [])) (sym c.outer_part-part.ensures.rest) back) in
+    let fits_sum : FitsSigned w128 part.sum = search rules in
+    let fits_value : FitsSigned w128 x = search rules in
+    subst (λ (n : ℤ). SumsFit n part.rest.now (to_z w128 (of_z w128 x) ∷ [])) (sym (to_z-of_z w128 part.sum fits_sum))
+    (subst (λ (y : ℤ). SumsFit part.sum part.rest.now (y ∷ [])) (sym (to_z-of_z w128 x fits_value)) whole)
+
+pub returns-in-Top-clause-sum : goal.returns-in-Top-clause-sum
+returns-in-Top-clause-sum t c =
+    let cs = c.args.coefficients.now in
+    sym (ap (λ (xs : List ℤ). dot cs xs) (ap values_in c.in-Top.is ∙ values_top) ∙ dot-nil cs)
+
+pub returns-in-Within-clause-sum : goal.returns-in-Within-clause-sum
+returns-in-Within-clause-sum t c =
+    let inner = c.in-Within.inner in
+    let x = c.in-Within.value in
+    let cs = c.args.coefficients.now in
+    let part = c.outer_part-part.result in
+    let vs = values_in inner.now in
+    let within = ap values_in c.in-Within.is ∙ values_within inner x in
+    let fits_sum : FitsSigned w128 part.sum = search rules in
+    let fits_value : FitsSigned w128 x = search rules in
+    let told : c.with_entry.result.sum ≡ part.sum +ℤ dot part.rest.now (x ∷ []) =
+    c.with_entry.ensures.sum
+    ∙ ap₂ (λ (n y : ℤ). n +ℤ dot part.rest.now (y ∷ [])) (to_z-of_z w128 part.sum fits_sum)
+    (to_z-of_z w128 x fits_value) in
+    told
+    ∙ (ap₂ (λ (n : ℤ) (ds : List ℤ). n +ℤ dot ds (x ∷ [])) c.outer_part-part.ensures.sum c.outer_part-part.ensures.rest
+    ∙ (sym (dot_parts cs vs (x ∷ [])) ∙ ap (λ (xs : List ℤ). dot cs xs) (sym within)))
+
+pub returns-in-Within-clause-rest : goal.returns-in-Within-clause-rest
+returns-in-Within-clause-rest t c =
+    let inner = c.in-Within.inner in
+    let x = c.in-Within.value in
+    let cs = c.args.coefficients.now in
+    let within = ap values_in c.in-Within.is ∙ values_within inner x in
+    c.with_entry.ensures.rest
+    ∙ (ap (λ (ds : List ℤ). drop 1 ds) c.outer_part-part.ensures.rest
+    ∙ (sym (drop_parts cs (values_in inner.now) (x ∷ [])) ∙ ap (λ (xs : List ℤ). drop (length xs) cs) (sym within)))

@@ -1,0 +1,15 @@
+use Rattle.std.proofs.Common.{◌≡◌, ℤ, List, pos, ap, rules, ◌∙◌}
+use Rattle.whole_numbers.specs.Affine.{form_of}
+use Rattle.whole_numbers.specs.Lists.{zeros}
+use Rattle.affine_forms.proofs.Values.{replicate-zeros}
+use Rattle.loop_tree.specs.Tree.{Bound}
+use Rattle.loop_tree.proofs.source.first_bound.Goals as goal
+
+abbrev made : List ℤ → Bound
+made cs = record { form = form_of cs (pos 0); divisor = pos 1 }
+
+pub returns-in-Ok : goal.returns-in-Ok
+returns-in-Ok c =
+    let zero : c.in-Ok.coefficients.items ≡ zeros c.args.variables =
+    c.in-Ok.ensures.items_if_clones_equal (search rules) ∙ replicate-zeros c.args.variables in
+    ap made zero

@@ -1,0 +1,10 @@
+use Rattle.std.proofs.Common.{ℕ, ℤ, List, length, ◌<◌, ◌≤◌, ◌^◌, subst, sym, arith}
+use Rattle.std.specs.Prelude.{slice_index_or, unsigned_abs}
+use Rattle.loop_tree.proofs.Placings.{entries_small}
+use Rattle.loop_tree.proofs.source.narrow.Goals as goal
+
+pub narrow_numbers-requires : goal.narrow_numbers-requires
+narrow_numbers-requires c =
+    let small = c.requires in
+    subst (λ (xs : List ℤ). (k : ℕ) → (d : ℤ) → k < length xs → unsigned_abs (slice_index_or xs k d) ≤ 2 ^ 50)
+    (sym c.coefficients.ensures) (entries_small (2 ^ 50) c.args.form.now.coefficients (omega (arith, small)))

@@ -1,0 +1,189 @@
+use Rattle.std.proofs.Common.{◌≡◌, ◌∙◌, ℤ, pos, ◌+◌, ◌<◌, List, [], ◌∷◌, ◌++◌, drop}
+use Rattle.std.proofs.Common.{map, ap, subst, sym, rules, arith}
+use Rattle.std.proofs.Common.{drop_of_length-le, ap₂, to_z, of_z}
+use Rattle.std.specs.Prelude.{◌+ℤ◌, ◌≤ℤ◌, ◌<ℤ◌, FitsSigned}
+use Rattle.std.specs.Int.{w128}
+use Rattle.std.proofs.lemmas.Int.{ints, to_z-of_z}
+use Rattle.scop_syntax.specs.Walk.{Instance}
+use Rattle.loop_tree.specs.steps.Chain.{values_in}
+use Rattle.loop_tree.specs.Conditions.{CanWalk}
+use Rattle.loop_tree.specs.Tree.{Trees, more, none}
+use Rattle.loop_tree.specs.Tree.{Tree, Bound, bounds_of}
+use Rattle.loop_tree.specs.View.{bounds_in, nodes_of, tree_of}
+use Rattle.loop_tree.specs.Walk.{lower, upper, given, walk_all}
+use Rattle.loop_tree.proofs.Views.{tree_instance}
+use Rattle.loop_tree.specs.declared.tree.Node.{Node}
+use Rattle.loop_tree.proofs.Walked.{shown_by, shown_here, so_far_ends, so_far_step, walk_first, walk_rest, SoFar}
+use Rattle.loop_tree.proofs.Walked.{leaf_held, loop_shown, shown_none, shown_turn, turns_shown, walk_turn}
+use Rattle.loop_tree.proofs.Weights.{node_here, node_weight, weight, weight_all}
+use Rattle.loop_tree.proofs.walking.+walking.Goals as goal
+
+pub walk_nodes-walk_node-requires : goal.walk_nodes-walk_node-requires
+walk_nodes-walk_node-requires g t c =
+    let l = c.loop-node in
+    let nodes = c.args.nodes.now in
+    let node = c.node-item.result in
+    let params = c.args.params.now in
+    let outer = values_in c.args.outer.now in
+    let here = node_here nodes l.node-index node c.node-item.is c.loop-node-test.true in
+    let can : CanWalk (more (tree_of node) none) params outer =
+    walk_first (tree_of node) (nodes_of (drop (l.node-index + 1) nodes)) params outer
+    (subst (λ (ts : Trees). CanWalk ts params outer) here l.invariant.0) in
+    let heavy = node_weight nodes l.node-index node c.node-item.is c.loop-node-test.true in
+    let less : weight (tree_of node) < weight_all (nodes_of nodes) + 1 = omega arith in
+    search rules
+
+pub walk_nodes-loop-node-preserved : goal.walk_nodes-loop-node-preserved
+walk_nodes-loop-node-preserved g t c =
+    let l = c.loop-node in
+    let nodes = c.args.nodes.now in
+    let node = c.node-item.result in
+    let params = c.args.params.now in
+    let outer = values_in c.args.outer.now in
+    let here = node_here nodes l.node-index node c.node-item.is c.loop-node-test.true in (
+      walk_rest (tree_of node) (nodes_of (drop (l.node-index + 1) nodes)) params outer
+          (subst (λ (ts : Trees). CanWalk ts params outer) here l.invariant.0),
+      so_far_step (g.V.Visitor.stands c.args.visitor.now) (g.V.Visitor.stands l.visitor)
+          (g.V.Visitor.stands c.walk_node.new.visitor) (shown_by (drop l.node-index nodes) params outer) _
+          (shown_by (drop (l.node-index + 1) nodes) params outer) (shown_by nodes params outer) l.invariant.1
+          (shown_here nodes l.node-index node params outer c.node-item.is c.loop-node-test.true) c.walk_node.ensures,
+    )
+
+pub walk_nodes-returns : goal.walk_nodes-returns
+walk_nodes-returns g t c =
+    let l = c.loop-node in
+    let nodes = c.args.nodes.now in
+    let params = c.args.params.now in
+    let outer = values_in c.args.outer.now in
+    so_far_ends (g.V.Visitor.stands c.args.visitor.now) (g.V.Visitor.stands l.visitor)
+    (shown_by (drop l.node-index nodes) params outer) (shown_by nodes params outer) l.invariant.1
+    (ap (λ (ns : List Node). shown_by ns params outer) (drop_of_length-le nodes (omega arith)))
+
+pub walk_node-instance_at-requires-clause-held : goal.walk_node-instance_at-requires-clause-held
+walk_node-instance_at-requires-clause-held g t c =
+    let leaf = c.in-Instance.leaf in
+    let params = c.args.params.now in
+    let outer = values_in c.args.outer.now in
+    let is = ap tree_of c.in-Instance.is ∙ tree_instance leaf in
+    leaf_held leaf.statement leaf.turns.items params outer
+    (subst (λ (u : Tree). CanWalk (more u none) params outer) is c.requires)
+
+pub walk_loop-walk_values-requires : goal.walk_loop-walk_values-requires
+walk_loop-walk_values-requires g t c κs within =
+    let head = c.args.head.now in
+    let params = c.args.params.now in
+    let outer = values_in c.args.outer.now in
+    let point = outer ++ params in
+    let body = nodes_of c.args.body.now in
+    let fits_low : FitsSigned w128 c.lower_at-first.result = search rules in
+    let fits_high : FitsSigned w128 c.upper_at-last.result = search rules in
+    let first = to_z w128 (of_z w128 c.lower_at-first.result) in
+    let last = to_z w128 (of_z w128 c.upper_at-last.result) in
+    let low_is : first ≡ lower (bounds_in head.lower) point =
+    to_z-of_z w128 c.lower_at-first.result fits_low
+    ∙ (c.lower_at-first.ensures
+    ∙ ap (λ (bs : List Bound). lower (bounds_of head.lower.first bs) point) c.deref.ensures.value) in
+    let high_is : last ≡ upper (bounds_in head.upper) point =
+    to_z-of_z w128 c.upper_at-last.result fits_high
+    ∙ (c.upper_at-last.ensures
+    ∙ ap (λ (bs : List Bound). upper (bounds_of head.upper.first bs) point) c.deref-2.ensures.value) in
+    let each : (x : ℤ) → first ≤ℤ x → x ≤ℤ last → CanWalk body params (outer ++ x ∷ []) =
+    λ x a b.
+    walk_turn head.parallel (bounds_in head.lower) (bounds_in head.upper) body params outer x c.requires
+    (subst (λ (z : ℤ). z ≤ℤ x) low_is a) (subst (λ (z : ℤ). x ≤ℤ z) high_is b) in
+    let less : weight_all body + 4 < weight_all body + 5 = omega arith in
+    search rules
+
+pub walk_loop-returns : goal.walk_loop-returns
+walk_loop-returns g t c =
+    let head = c.args.head.now in
+    let params = c.args.params.now in
+    let outer = values_in c.args.outer.now in
+    let point = outer ++ params in
+    let body = nodes_of c.args.body.now in
+    let fits_low : FitsSigned w128 c.lower_at-first.result = search rules in
+    let fits_high : FitsSigned w128 c.upper_at-last.result = search rules in
+    let first = to_z w128 (of_z w128 c.lower_at-first.result) in
+    let last = to_z w128 (of_z w128 c.upper_at-last.result) in
+    let low_is : first ≡ lower (bounds_in head.lower) point =
+    to_z-of_z w128 c.lower_at-first.result fits_low
+    ∙ (c.lower_at-first.ensures
+    ∙ ap (λ (bs : List Bound). lower (bounds_of head.lower.first bs) point) c.deref.ensures.value) in
+    let high_is : last ≡ upper (bounds_in head.upper) point =
+    to_z-of_z w128 c.upper_at-last.result fits_high
+    ∙ (c.upper_at-last.ensures
+    ∙ ap (λ (bs : List Bound). upper (bounds_of head.upper.first bs) point) c.deref-2.ensures.value) in
+    let shown = ap₂ (λ (a b : ℤ). turns_shown body params outer a b) low_is high_is
+    ∙ sym (loop_shown head.parallel (bounds_in head.lower) (bounds_in head.upper) body params outer) in
+    λ l s. subst (λ (is : List Instance). g.V.Visitor.stands c.walk_values.new.visitor (l ++ is)) shown
+    (c.walk_values.ensures l s)
+
+pub walk_values-loop-value-preserved : goal.walk_values-loop-value-preserved
+walk_values-loop-value-preserved g t c =
+    let params = c.args.params.now in
+    let outer = values_in c.args.outer.now in
+    let body = nodes_of c.args.body.now in
+    let v = to_z w128 c.loop-value.value-bits in
+    let first = to_z w128 (of_z w128 c.args.first) in
+    let last = to_z w128 (of_z w128 c.args.last) in
+    let first_is = to_z-of_z w128 c.args.first c.ranges.first in
+    let last_is = to_z-of_z w128 c.args.last c.ranges.last in
+    let low : first ≤ℤ v = c.loop-value.invariant.0 in
+    let less : v <ℤ c.args.last = grind (arith, ints, c.loop-value-test.true) in
+    let fits_first = c.ranges.first in
+    let fits_last = c.ranges.last in
+    let up : FitsSigned w128 (v +ℤ pos 1) = omega (arith, ints) in
+    let next_is = to_z-of_z w128 (v +ℤ pos 1) up in
+    let here : v ≤ℤ last = omega (arith, ints) in
+    let whole = turns_shown body params outer first last in
+    let step = so_far_step (g.V.Visitor.stands c.args.visitor.now) (g.V.Visitor.stands c.loop-value.visitor)
+    (g.V.Visitor.stands c.walk_turn.new.visitor) (turns_shown body params outer v last)
+    (map given (walk_all body params (outer ++ v ∷ []))) (turns_shown body params outer (v +ℤ pos 1) last) whole
+    c.loop-value.invariant.1 (shown_turn body params outer v last here) c.walk_turn.ensures in
+    let higher : first ≤ℤ (v +ℤ pos 1) = omega (arith, ints) in (
+      subst (λ (n : ℤ). first ≤ℤ n) (sym next_is) higher,
+      subst (λ (n : ℤ). SoFar (g.V.Visitor.stands c.args.visitor.now) (g.V.Visitor.stands c.walk_turn.new.visitor)
+          (turns_shown body params outer n last) whole) (sym next_is) step,
+    )
+
+pub walk_values-returns-then-value-last : goal.walk_values-returns-then-value-last
+walk_values-returns-then-value-last g t c =
+    let params = c.args.params.now in
+    let outer = values_in c.args.outer.now in
+    let body = nodes_of c.args.body.now in
+    let v = to_z w128 c.loop-value.value-bits in
+    let first = to_z w128 (of_z w128 c.args.first) in
+    let last = to_z w128 (of_z w128 c.args.last) in
+    let first_is = to_z-of_z w128 c.args.first c.ranges.first in
+    let last_is = to_z-of_z w128 c.args.last c.ranges.last in
+    let same : v ≡ c.args.last = grind (arith, ints, c.if-value-last.true) in
+    let here : v ≤ℤ last = omega (arith, ints) in
+    let past : last <ℤ (v +ℤ pos 1) = omega (arith, ints) in
+    let new = g.V.Visitor.stands c.walk_turn-then-value-last.new.visitor in
+    let whole = turns_shown body params outer first last in
+    let step = so_far_step (g.V.Visitor.stands c.args.visitor.now) (g.V.Visitor.stands c.loop-value.visitor) new
+    (turns_shown body params outer v last) (map given (walk_all body params (outer ++ v ∷ [])))
+    (turns_shown body params outer (v +ℤ pos 1) last) whole
+    c.loop-value.invariant.1 (shown_turn body params outer v last here) c.walk_turn-then-value-last.ensures in
+    let end = so_far_ends (g.V.Visitor.stands c.args.visitor.now) new (turns_shown body params outer (v +ℤ pos 1) last)
+    whole step (shown_none body params outer (v +ℤ pos 1) last past) in
+    λ l s. subst (λ (is : List Instance). new (l ++ is))
+    (ap₂ (λ (a b : ℤ). turns_shown body params outer a b) first_is last_is) (end l s)
+
+pub walk_values-returns-else-value-last : goal.walk_values-returns-else-value-last
+walk_values-returns-else-value-last g t c =
+    let params = c.args.params.now in
+    let outer = values_in c.args.outer.now in
+    let body = nodes_of c.args.body.now in
+    let v = to_z w128 c.loop-value.value-bits in
+    let first = to_z w128 (of_z w128 c.args.first) in
+    let last = to_z w128 (of_z w128 c.args.last) in
+    let first_is = to_z-of_z w128 c.args.first c.ranges.first in
+    let last_is = to_z-of_z w128 c.args.last c.ranges.last in
+    let beyond : c.args.last <ℤ v = grind (arith, ints, c.loop-value-test.false, c.if-value-last.false) in
+    let past : last <ℤ v = omega (arith, ints) in
+    let now = g.V.Visitor.stands c.loop-value.visitor in
+    let end = so_far_ends (g.V.Visitor.stands c.args.visitor.now) now (turns_shown body params outer v last)
+    (turns_shown body params outer first last) c.loop-value.invariant.1 (shown_none body params outer v last past) in
+    λ l s. subst (λ (is : List Instance). now (l ++ is))
+    (ap₂ (λ (a b : ℤ). turns_shown body params outer a b) first_is last_is) (end l s)

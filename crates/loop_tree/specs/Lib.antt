@@ -1,0 +1,15 @@
+pub mod Tree
+pub mod Walk
+pub mod Scans
+pub mod Marks
+pub mod Fits
+pub mod Shape
+pub mod Conditions
+pub mod Source
+pub mod Spot
+pub mod SpotView
+pub mod Examples
+pub mod View
+pub mod Tiling
+pub mod TilingView
+pub mod steps

@@ -1,0 +1,4 @@
+-- What only proofs and private contracts need.
+pub mod Chain
+pub mod Going
+pub mod Placing

@@ -1,0 +1,14 @@
+-- The values that a chain of loops stands for.
+use Rattle.std.specs.Prelude.{ℤ, List, [], ◌∷◌, ◌++◌}
+use Rattle.loop_tree.specs.declared.outer.Outer.{Outer}
+use Rattle.loop_tree.specs.declared.outer.Outer.TheFolds.{fold-Outer}
+use Rattle.loop_tree.specs.declared.outer.Outer.TheOpen.{Outer-F}
+
+-- one loop of the chain, over the values of those round it
+abbrev pub chain_step : Outer-F (List ℤ) → List ℤ
+chain_step Outer-F.Top = []
+chain_step (Outer-F.Within inner value) = inner.now ++ value ∷ []
+
+-- the values of the chain's loops, outermost first
+abbrev pub values_in : Outer → List ℤ
+values_in = fold-Outer (List ℤ) chain_step

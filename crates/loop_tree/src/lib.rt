@@ -1,0 +1,25 @@
+//! Loop trees: loops upwards, guards and instances, the list of instances that a tree visits, and
+//! what makes that list exactly the points of a predicate, each once and in order.
+//! The three languages of a polyhedral code generator, here the one of loops: Bastoul, "Code generation in the
+//! polyhedral model is easier than you think" (PACT 2004).
+#![tactic(auto)]
+
+mod examples;
+mod guards;
+mod outer;
+mod ranges;
+mod source;
+mod source_laws;
+mod spot;
+mod tiling;
+mod tree;
+mod tree_laws;
+mod visitor;
+mod walking;
+
+pub use source_laws::source_trees_visit_the_walk;
+pub use spot::{Mark, Spot};
+pub use tiling::{TileItem, TileItems, TileRow, Tiling};
+pub use tree::{Bound, Bounds, Guard, Leaf, Loop, Node, Test, Tree};
+pub use tree_laws::marks_are_the_parallel_loops;
+pub use visitor::Visitor;

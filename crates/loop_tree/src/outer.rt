@@ -1,0 +1,83 @@
+//! Values of forms at a node. The values of the loops round it stand in a chain on the call stack, so that a walk of
+//! any depth takes no memory. Sums of products are exact: each of them fits by the calls' conditions.
+ghost use Rattle.std.specs.Prelude.{◌≡◌, ◌+ℤ◌, ◌++◌, ◌∷◌, [], drop, length, pos};
+ghost use Rattle.whole_numbers.specs.Affine.{value_of};
+ghost use Rattle.whole_numbers.specs.Lists.{dot};
+ghost use Rattle.loop_tree.specs.Fits.{FormFits, SumsFit};
+ghost use Rattle.loop_tree.specs.steps.Chain.{values_in};
+
+use scop_syntax::tree::Aff;
+
+/// The values of the loops round a node: none, or those round a loop and the loop's own.
+#[derive(Drop)]
+pub enum Outer<'a> {
+    Top,
+    Within(&'a Outer<'a>, i128),
+}
+
+/// A sum of products, and the coefficients that are left.
+#[derive(Drop)]
+struct Part<'a> {
+    sum: i128,
+    rest: &'a [i64],
+}
+
+/// The sum with the product of the next coefficient, if there is one, and a value.
+fn with_entry<'a>(sum: i128, coefficients: &'a [i64], value: i128) -> Part<'a>
+    requires { SumsFit sum coefficients.now (value ∷ []) }
+    ensures sum { result.sum ≡ sum +ℤ dot coefficients.now (value ∷ []) }
+    ensures rest { result.rest.now ≡ drop 1 coefficients.now }
+{
+    match coefficients.split_first() {
+        None => Part {
+            sum,
+            rest: coefficients,
+        },
+        Some((coefficient, rest)) => Part {
+            sum: sum + *coefficient as i128 * value,
+            rest,
+        },
+    }
+}
+
+/// The products of the first coefficients with the values of the loops.
+fn outer_part<'a>(outer: &Outer, coefficients: &'a [i64]) -> Part<'a>
+    requires { SumsFit (pos 0) coefficients.now (values_in outer.now) }
+    ensures sum { result.sum ≡ dot coefficients.now (values_in outer.now) }
+    ensures rest { result.rest.now ≡ drop (length (values_in outer.now)) coefficients.now }
+{
+    match outer {
+        Outer::Top => Part {
+            sum: 0,
+            rest: coefficients,
+        },
+        Outer::Within(inner, value) => {
+            let part = outer_part(inner, coefficients);
+            with_entry(part.sum, part.rest, *value)
+        }
+    }
+}
+
+/// The sum with the products of the next coefficients and the parameters.
+fn with_params(sum: i128, coefficients: &[i64], params: &[i64]) -> i128
+    requires { SumsFit sum coefficients.now params.now }
+    ensures { result ≡ sum +ℤ dot coefficients.now params.now }
+{
+    let mut sum = sum;
+    let mut rest = coefficients;
+    for param in params {
+        let part = with_entry(sum, rest, *param as i128);
+        sum = part.sum;
+        rest = part.rest;
+    }
+    sum
+}
+
+/// The value of a form within these loops, for these parameters.
+pub fn value_at(form: &Aff, outer: &Outer, params: &[i64]) -> i128
+    requires { FormFits form.now (values_in outer.now ++ params.now) }
+    ensures { result ≡ value_of form.now (values_in outer.now ++ params.now) }
+{
+    let part = outer_part(outer, form.coefficients.as_slice());
+    with_params(part.sum, part.rest, params) + form.constant as i128
+}

@@ -1,0 +1,337 @@
+//! A place in a tree's visits, which goes on from one instance to the next and takes no memory for it: all room is
+//! made with the spot. What a spot gives, with what is then still to come of the visits, is what was to come.
+ghost use Rattle.std.specs.Prelude.{
+  ◌≡◌,
+  ◌^◌,
+  ◌-◌,
+  ◌↔◌,
+  ◌++◌,
+  ◌∷◌,
+  [],
+  IfOk,
+  IsNone,
+  IsSome,
+  List,
+  false,
+  if◌then◌else◌,
+  length,
+  max,
+  min,
+  pos,
+  true,
+  ℤ,
+};
+ghost use Rattle.loop_tree.specs.steps.Chain.{values_in};
+ghost use Rattle.loop_tree.specs.steps.Going.{CanGo, CanTurn, HasGone, HasTurned, alone, rest_from, restarted};
+ghost use Rattle.loop_tree.specs.Conditions.{CanWalk};
+ghost use Rattle.loop_tree.specs.Spot.{deep, deep_all, mark as marked_at, rest_of};
+ghost use Rattle.loop_tree.specs.SpotView.{IsSpotOf, found_in, mark_of, marks_in, marks_of, to_come};
+ghost use Rattle.loop_tree.specs.Tree.{loop as loops, more, none};
+ghost use Rattle.loop_tree.specs.View.{bounds_in, nodes_of, tree_of, trees_in};
+ghost use Rattle.loop_tree.specs.Walk.{visits};
+
+use crate::guards::plus;
+use crate::outer::Outer;
+use crate::ranges::{all_hold, lower_at, upper_at};
+use crate::tree::{Loop, Node, Tree};
+use crate::walking::instance_at;
+use scop_syntax::instance::Instance;
+use std::alloc::{AllocError, Global};
+
+/// The place of a node in a sequence, whether it was begun, and its value where it is a loop.
+#[derive(Debug, Clone, Copy)]
+pub struct Mark {
+    pub place: usize,
+    pub begun: bool,
+    pub value: i128,
+}
+
+/// A place in a tree's visits: a mark for each sequence of nodes that may stand in one another.
+#[derive(Debug, Drop)]
+pub struct Spot {
+    pub marks: Vec<Mark>,
+}
+
+/// The greater of two numbers.
+fn greater(a: u64, b: u64) -> u64
+    ensures { result ≡ max a b }
+{
+    if a <= b { b } else { a }
+}
+
+/// How many sequences of nodes stand in one another; 2^64 - 1 also where there are more.
+#[cycle(deepening)]
+fn depth_of(nodes: &[Node]) -> u64
+    ensures { result ≡ min (deep_all (nodes_of nodes.now)) (2 ^ 64 - 1) }
+{
+    let mut depth = 1u64;
+    for node in nodes {
+        depth = greater(depth, plus(depth_in(node), 1));
+    }
+    depth
+}
+
+/// How many in a node.
+#[cycle(deepening)]
+fn depth_in(node: &Node) -> u64
+    ensures { result ≡ min (deep (tree_of node.now)) (2 ^ 64 - 1) }
+{
+    match node {
+        Node::Loop(_, body) => depth_of(body),
+        Node::Guard(_, body) => depth_of(body),
+        Node::Instance(_) => 0,
+    }
+}
+
+/// A place where nothing was begun.
+fn fresh() -> Mark
+    ensures { mark_of result ≡ marked_at 0 false (pos 0) }
+{
+    Mark {
+        place: 0,
+        begun: false,
+        value: 0,
+    }
+}
+
+/// Stands before all.
+fn restart(marks: &mut [Mark])
+    ensures { marks_of marks.new ≡ restarted (marks_of marks.old) }
+{
+    if let Some(mark) = marks.first_mut() {
+        *mark = fresh();
+    }
+}
+
+/// Begins a node at this value, where it was not begun.
+fn begin(mark: &mut Mark, value: i128, deeper: &mut [Mark])
+    requires { mark.old.begun ≡ false }
+    ensures mark { mark_of mark.new ≡ marked_at mark.old.place true value }
+    ensures deeper { marks_of deeper.new ≡ restarted (marks_of deeper.old) }
+{
+    mark.begun = true;
+    mark.value = value;
+    restart(deeper);
+}
+
+/// Begins a node at this value, unless it was begun.
+fn begin_once(mark: &mut Mark, value: i128, deeper: &mut [Mark])
+    ensures mark { mark_of mark.new ≡ marked_at mark.old.place true (if mark.old.begun then mark.old.value else value) }
+    ensures deeper { marks_of deeper.new
+        ≡ (if mark.old.begun then marks_of deeper.old else restarted (marks_of deeper.old)) }
+{
+    if !mark.begun {
+        begin(mark, value, deeper);
+    }
+}
+
+/// The next instance of nodes.
+#[cycle(going)]
+fn next_of(nodes: &[Node], marks: &mut [Mark], outer: &Outer, params: &[i64]) -> Option<Instance>
+    requires { CanGo (nodes_of nodes.now) (marks_of marks.old) params.now (values_in outer.now) }
+    ensures gone { HasGone (nodes_of nodes.now) (marks_of marks.old) (marks_of marks.new) (found_in result) params.now
+        (values_in outer.now) }
+    ensures none { IsNone result
+        → rest_of (nodes_of nodes.now) (marks_of marks.old) params.now (values_in outer.now) ≡ [] }
+{
+    match marks.split_first_mut() {
+        None => None,
+        Some((mark, deeper)) => next_from(nodes, mark, deeper, outer, params),
+    }
+}
+
+/// The next instance of nodes from the one at a mark on.
+#[cycle(going)]
+fn next_from(
+    nodes: &[Node],
+    mark: &mut Mark,
+    deeper: &mut [Mark],
+    outer: &Outer,
+    params: &[i64],
+) -> Option<Instance>
+    requires { CanGo (nodes_of nodes.now) (marks_of (mark.old ∷ deeper.old)) params.now (values_in outer.now) }
+    ensures gone { HasGone (nodes_of nodes.now) (marks_of (mark.old ∷ deeper.old)) (marks_of (mark.new ∷ deeper.new))
+        (found_in result) params.now (values_in outer.now) }
+    ensures none { IsNone result
+        → rest_of (nodes_of nodes.now) (marks_of (mark.old ∷ deeper.old)) params.now (values_in outer.now) ≡ [] }
+{
+    while mark.place < nodes.len() {
+        let node = &nodes[mark.place];
+        match next_in(node, mark, deeper, outer, params) {
+            Some(instance) => return Some(instance),
+            None => {
+                mark.place += 1;
+                mark.begun = false;
+            }
+        }
+    }
+    None
+}
+
+/// The next instance of the node at a mark.
+#[cycle(going)]
+fn next_in(
+    node: &Node,
+    mark: &mut Mark,
+    deeper: &mut [Mark],
+    outer: &Outer,
+    params: &[i64],
+) -> Option<Instance>
+    requires { CanGo (more (tree_of node.now) none) (alone (mark_of mark.old) (marks_of deeper.old)) params.now
+        (values_in outer.now) }
+    ensures gone { IsSome result → HasGone (more (tree_of node.now) none)
+        (alone (mark_of mark.old) (marks_of deeper.old)) (alone (mark_of mark.new) (marks_of deeper.new))
+        (found_in result) params.now (values_in outer.now) }
+    ensures none { IsNone result → rest_of (more (tree_of node.now) none)
+        (alone (mark_of mark.old) (marks_of deeper.old)) params.now (values_in outer.now) ≡ [] }
+    ensures place { mark.new.place ≡ mark.old.place }
+    ensures room { length deeper.new ≡ length deeper.old }
+    ensures begun { IsSome result → mark.new.begun ≡ true }
+{
+    match node {
+        Node::Loop(head, body) => next_loop(head, body, mark, deeper, outer, params),
+        Node::Guard(guard, body) => {
+            begin_once(mark, 0, deeper);
+            if all_hold(&guard.tests, outer, params) {
+                next_of(body, deeper, outer, params)
+            } else {
+                None
+            }
+        }
+        Node::Instance(leaf) => {
+            if mark.begun {
+                return None;
+            }
+            begin(mark, 0, deeper);
+            Some(instance_at(leaf, outer, params))
+        }
+    }
+}
+
+/// The next instance of a loop.
+#[cycle(going)]
+fn next_loop(
+    head: &Loop,
+    body: &[Node],
+    mark: &mut Mark,
+    deeper: &mut [Mark],
+    outer: &Outer,
+    params: &[i64],
+) -> Option<Instance>
+    requires { CanGo (more (loops head.now.parallel (bounds_in head.now.lower) (bounds_in head.now.upper)
+        (nodes_of body.now)) none) (alone (mark_of mark.old) (marks_of deeper.old)) params.now (values_in outer.now) }
+    ensures gone { IsSome result → HasGone (more (loops head.now.parallel (bounds_in head.now.lower)
+        (bounds_in head.now.upper) (nodes_of body.now)) none)
+        (alone (mark_of mark.old) (marks_of deeper.old)) (alone (mark_of mark.new) (marks_of deeper.new))
+        (found_in result) params.now (values_in outer.now) }
+    ensures none { IsNone result → rest_of (more (loops head.now.parallel (bounds_in head.now.lower)
+        (bounds_in head.now.upper) (nodes_of body.now)) none)
+        (alone (mark_of mark.old) (marks_of deeper.old)) params.now (values_in outer.now) ≡ [] }
+    ensures place { mark.new.place ≡ mark.old.place }
+    ensures room { length deeper.new ≡ length deeper.old }
+    ensures begun { IsSome result → mark.new.begun ≡ true }
+{
+    let first = lower_at(&head.lower.first, &head.lower.others, outer, params);
+    begin_once(mark, first, deeper);
+    let last = upper_at(&head.upper.first, &head.upper.others, outer, params);
+    next_turn(body, last, mark, deeper, outer, params)
+}
+
+/// The next instance of a loop's body from the value at a mark on.
+#[cycle(going)]
+fn next_turn(
+    body: &[Node],
+    last: i128,
+    mark: &mut Mark,
+    deeper: &mut [Mark],
+    outer: &Outer,
+    params: &[i64],
+) -> Option<Instance>
+    requires { CanTurn (nodes_of body.now) (marks_of deeper.old) mark.old.value last params.now (values_in outer.now) }
+    ensures gone { IsSome result → HasTurned (nodes_of body.now) mark.old.value (marks_of deeper.old) mark.new.value
+        (marks_of deeper.new) last (found_in result) params.now (values_in outer.now) }
+    ensures none { IsNone result
+        → rest_from (nodes_of body.now) (marks_of deeper.old) mark.old.value last params.now (values_in outer.now)
+        ≡ [] }
+    ensures place { mark.new.place ≡ mark.old.place }
+    ensures begun { mark.new.begun ≡ mark.old.begun }
+    ensures room { length deeper.new ≡ length deeper.old }
+{
+    while mark.value <= last {
+        match next_within(body, mark.value, deeper, outer, params) {
+            Some(instance) => return Some(instance),
+            None => {
+                if last <= mark.value {
+                    return None;
+                }
+                mark.value += 1;
+                restart(deeper);
+            }
+        }
+    }
+    None
+}
+
+/// The next instance of a loop's body at a value.
+#[cycle(going)]
+fn next_within(
+    body: &[Node],
+    value: i128,
+    deeper: &mut [Mark],
+    outer: &Outer,
+    params: &[i64],
+) -> Option<Instance>
+    requires { CanGo (nodes_of body.now) (marks_of deeper.old) params.now (values_in outer.now ++ value ∷ []) }
+    ensures gone { HasGone (nodes_of body.now) (marks_of deeper.old) (marks_of deeper.new) (found_in result) params.now
+        (values_in outer.now ++ value ∷ []) }
+    ensures none { IsNone result
+        → rest_of (nodes_of body.now) (marks_of deeper.old) params.now (values_in outer.now ++ value ∷ []) ≡ [] }
+{
+    let within = Outer::Within(&*outer, value);
+    next_of(body, deeper, &within, params)
+}
+
+impl Spot {
+    /// The place before the first instance of `tree`, whatever the parameters.
+    ///
+    /// # Errors
+    /// `AllocError` alone.
+    pub fn of(alloc: Global, tree: &Tree) -> Result<Spot, AllocError>
+        ensures spot { IfOk result (λ s. (params : List ℤ) → IsSpotOf (trees_in tree.now) params s) }
+        ensures rest { IfOk result (λ s. (params : List ℤ)
+            → to_come (trees_in tree.now) params s ≡ visits (trees_in tree.now) params) }
+    {
+        match Vec::from_elem(alloc, fresh(), depth_of(tree.nodes.as_slice()) as usize) {
+            Err(_) => Err(AllocError),
+            Ok(marks) => Ok(Spot { marks }),
+        }
+    }
+
+    /// The next instance that `tree`, of which this is a spot, visits for `params`, with which it came to its place;
+    /// None exactly where none is left, and then again and again. It takes no memory.
+    pub fn next(&mut self, tree: &Tree, params: &[i64]) -> Option<Instance>
+        requires walk { CanWalk (trees_in tree.now) params.now [] }
+        requires spot { IsSpotOf (trees_in tree.now) params.now self.old }
+        ensures rest { to_come (trees_in tree.now) params.now self.old
+            ≡ found_in result ++ to_come (trees_in tree.now) params.now self.new }
+        ensures none { IsNone result ↔ (to_come (trees_in tree.now) params.now self.old ≡ []) }
+        ensures spot { IsSpotOf (trees_in tree.now) params.now self.new }
+    {
+        next_of(
+            tree.nodes.as_slice(),
+            self.marks.as_mut_slice(),
+            &Outer::Top,
+            params,
+        )
+    }
+
+    /// Goes to the place of another spot of the same tree, which has as many marks. It takes no memory.
+    pub fn set(&mut self, other: &Spot)
+        requires { length self.old.marks.items ≡ length other.now.marks.items }
+        ensures { marks_in self.new ≡ marks_in other.now }
+    {
+        self.marks
+            .as_mut_slice()
+            .copy_from_slice(other.marks.as_slice());
+    }
+}
