@@ -1,0 +1,58 @@
+-- The items of a schedule's statements fit: a coefficient for each loop, and small numbers.
+use Rattle.std.proofs.Common.{ℕ, List, [], ◌∷◌, arith}
+use Rattle.std.specs.Prelude.{All}
+use Rattle.std.proofs.lemmas.List.Elements.{All-nil, All-cons, All-append}
+use Rattle.stmt_graph.specs.Graph.{number_in}
+use Rattle.loop_tree.specs.Tiling.{TileRow, row, scalar as number}
+use Rattle.schedule_rows.specs.Items.{Row, Marked, Block, scalar, band, part_of}
+use Rattle.schedule_rows.specs.Posed.{loops_of}
+use Rattle.schedule_rows.specs.Sized.{IsSizedRow, AreSizedRows, AreSized}
+use Rattle.tile_skew.specs.steps.Sizes.{FitsTurns, FitsItem}
+use Rattle.tile_skew.specs.Tilings.{form_at, rows_at, row_items, block_items, first_band_at, behind_at}
+use Rattle.tile_skew.proofs.Widths.{size-few, small_number}
+
+form_fits : (loops : List ℕ) (r : Row) (k : ℕ) → IsSizedRow loops r → FitsTurns (loops_of loops k) (form_at r k)
+form_fits loops r k h =
+    let few = size-few (part_of r k).coefficients (h.coefficients k) in
+    let one = small_number (part_of r k).shift (h.shift k) in
+    let many = h.sized k in
+    (many, omega (arith, few, one, many))
+
+rows_fit : (loops : List ℕ) (ms : List Marked) (k : ℕ) → AreSizedRows loops ms
+    → All (λ r. FitsTurns (loops_of loops k) r.form) (rows_at ms k)
+rows_fit loops [] k h = All-nil (λ (r : TileRow). FitsTurns (loops_of loops k) r.form)
+rows_fit loops (m ∷ ms) k h =
+    All-cons (λ (r : TileRow). FitsTurns (loops_of loops k) r.form) _ (rows_at ms k) (form_fits loops m.row k h.0)
+    (rows_fit loops ms k h.1)
+
+row_items_fit : (loops : List ℕ) (ms : List Marked) (k : ℕ) → AreSizedRows loops ms
+    → All (FitsItem (loops_of loops k)) (row_items ms k)
+row_items_fit loops [] k h = All-nil (FitsItem (loops_of loops k))
+row_items_fit loops (m ∷ ms) k h =
+    All-cons (FitsItem (loops_of loops k)) (row (form_at m.row k)) (row_items ms k) (form_fits loops m.row k h.0)
+    (row_items_fit loops ms k h.1)
+
+block_items_fit : (loops : List ℕ) (bs : List Block) (k : ℕ) → AreSized loops bs
+    → All (FitsItem (loops_of loops k)) (block_items bs k)
+block_items_fit loops [] k h = All-nil (FitsItem (loops_of loops k))
+block_items_fit loops (scalar numbers ∷ bs) k h =
+    All-cons (FitsItem (loops_of loops k)) (number (number_in numbers k)) (block_items bs k) tt
+    (block_items_fit loops bs k h.1)
+block_items_fit loops (band [] ∷ bs) k h = absurd h.0
+block_items_fit loops (band (m ∷ ms) ∷ bs) k h =
+    All-append (FitsItem (loops_of loops k)) (row_items (m ∷ ms) k) (block_items bs k)
+    (row_items_fit loops (m ∷ ms) k h.0) (block_items_fit loops bs k h.1)
+
+pub first_fit : (loops : List ℕ) (bs : List Block) (k : ℕ) → AreSized loops bs
+    → All (λ r. FitsTurns (loops_of loops k) r.form) (first_band_at bs k)
+first_fit loops [] k h = All-nil (λ (r : TileRow). FitsTurns (loops_of loops k) r.form)
+first_fit loops (scalar numbers ∷ bs) k h = first_fit loops bs k h.1
+first_fit loops (band [] ∷ bs) k h = absurd h.0
+first_fit loops (band (m ∷ ms) ∷ bs) k h = rows_fit loops (m ∷ ms) k h.0
+
+pub behind_fit : (loops : List ℕ) (bs : List Block) (k : ℕ) → AreSized loops bs
+    → All (FitsItem (loops_of loops k)) (behind_at bs k)
+behind_fit loops [] k h = All-nil (FitsItem (loops_of loops k))
+behind_fit loops (scalar numbers ∷ bs) k h = behind_fit loops bs k h.1
+behind_fit loops (band [] ∷ bs) k h = absurd h.0
+behind_fit loops (band (m ∷ ms) ∷ bs) k h = block_items_fit loops bs k h.1

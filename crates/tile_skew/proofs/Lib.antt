@@ -1,0 +1,14 @@
+pub mod Conflicting
+pub mod Agreeing
+pub mod Planning
+pub mod Valued
+pub mod Points
+pub mod Splitting
+pub mod Instances
+pub mod Ordering
+pub mod Alike
+pub mod Reading_off
+pub mod Widths
+pub mod Shaped
+pub mod Fitting
+pub mod Taking

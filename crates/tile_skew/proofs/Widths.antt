@@ -1,0 +1,165 @@
+-- How many variables a scan set's forms have, and how large they are.
+use Rattle.std.proofs.Common.{◌≡◌, ℕ, suc, ◌+◌, ◌-◌, ◌*◌, ◌^◌, ◌<◌, ◌≤◌, Bool, true, false, ℤ, pos, negsuc, List, []}
+use Rattle.std.proofs.Common.{◌∷◌, ◌++◌, refl, sym, ◌∙◌, ap, subst, arith, length, mul-le-mul, length-append, to_z}
+use Rattle.std.proofs.Common.{of_z}
+use Rattle.std.specs.Prelude.{◌≤ℤ◌, ◌-ℤ◌, unsigned_abs, if◌then◌else◌, All}
+use Rattle.std.specs.Int.{w128}
+use Rattle.std.proofs.lemmas.Int.{ints, to_z-of_z, fits_signed_from_abs}
+use Rattle.std.proofs.lemmas.List.Elements.{All-head, All-tail}
+use Rattle.whole_numbers.specs.Affine.{Affine, sum_of_forms, multiple_of_form}
+use Rattle.whole_numbers.specs.Lists.{zeros, multiples}
+use Rattle.whole_numbers.proofs.Dot.{length-zeros, length-sums, length-multiples}
+use Rattle.affine_forms.specs.Parts.{variables_of}
+use Rattle.scop_syntax.proofs.Limits.{abs_at_most}
+use Rattle.iteration_domains.specs.Sizes.{size, form_size}
+use Rattle.iteration_domains.specs.Rows.{variable}
+use Rattle.iteration_domains.proofs.Entering.{length-variable}
+use Rattle.iteration_domains.proofs.Sizes.{size-zeros, size-sum, size-multiple, size-variable}
+use Rattle.loop_tree.specs.Tiling.{TileRow}
+use Rattle.schedule_rows.specs.Sized.{IsSmall}
+use Rattle.tile_skew.specs.declared.layout.Layout.{Layout}
+use Rattle.tile_skew.specs.steps.Sizes.{FitsTurns}
+use Rattle.tile_skew.specs.ScanSets.{width, row_form, number_form, carried, carried_form}
+
+pub size-append : (xs ys : List ℤ) → size (xs ++ ys) ≡ size xs + size ys
+size-append [] ys = omega arith
+size-append (x ∷ xs) ys = let r = size-append xs ys in omega arith
+
+pub length-row : (l : Layout) (f : Affine) → variables_of f ≡ l.turns → variables_of (row_form l f) ≡ width l
+length-row l f h =
+    let a = length-append (zeros l.front) (f.coefficients ++ zeros (l.missing + l.parameters)) in
+    let b = length-append f.coefficients (zeros (l.missing + l.parameters)) in
+    let z = length-zeros l.front in
+    let y = length-zeros (l.missing + l.parameters) in
+    omega (arith, h)
+
+pub size-row : (l : Layout) (f : Affine) → form_size (row_form l f) ≡ form_size f
+size-row l f =
+    let a = size-append (zeros l.front) (f.coefficients ++ zeros (l.missing + l.parameters)) in
+    let b = size-append f.coefficients (zeros (l.missing + l.parameters)) in
+    let z = size-zeros l.front in
+    let y = size-zeros (l.missing + l.parameters) in
+    omega arith
+
+pub length-number : (l : Layout) (k : ℤ) → variables_of (number_form l k) ≡ width l
+length-number l k = length-zeros (width l)
+
+pub size-number : (l : Layout) (k : ℤ) → form_size (number_form l k) ≡ unsigned_abs k
+size-number l k = let z = size-zeros (width l) in omega arith
+
+size-carried : (rows : List TileRow) → size (carried rows) ≤ length rows
+size-carried [] = omega arith
+size-carried (r ∷ rs) = let more = size-carried rs in let one = entry r.carries in omega arith
+  where
+    entry : (b : Bool) → unsigned_abs (if b then pos 1 else pos 0) ≤ 1
+    entry true = omega arith
+    entry false = omega arith
+
+length-carried : (rows : List TileRow) → length (carried rows) ≡ length rows
+length-carried [] = refl
+length-carried (r ∷ rs) = ap suc (length-carried rs)
+
+pub length-carried_form : (l : Layout) (j : ℕ) (rows : List TileRow) → j + length rows ≤ width l
+    → variables_of (carried_form l j rows) ≡ width l
+length-carried_form l j rows h =
+    let rest = zeros (width l - (j + length rows)) in
+    let a = length-append (zeros j) (carried rows ++ rest) in
+    let b = length-append (carried rows) rest in
+    let z = length-zeros j in
+    let y = length-zeros (width l - (j + length rows)) in
+    let c = length-carried rows in
+    omega (arith, h)
+
+pub size-carried_form : (l : Layout) (j : ℕ) (rows : List TileRow) → form_size (carried_form l j rows) ≤ length rows
+size-carried_form l j rows =
+    let rest = zeros (width l - (j + length rows)) in
+    let a = size-append (zeros j) (carried rows ++ rest) in
+    let b = size-append (carried rows) rest in
+    let z = size-zeros j in
+    let y = size-zeros (width l - (j + length rows)) in
+    let c = size-carried rows in
+    omega arith
+
+-- small numbers, few of them
+pub small_number : (z : ℤ) → IsSmall z → unsigned_abs z ≤ 4096
+small_number (pos n) k = let up = k.1 in omega (arith, ints)
+small_number (negsuc n) k = let low = k.0 in absurd (omega (arith, ints))
+
+pub size-few : (cs : List ℤ) → All IsSmall cs → size cs ≤ 4096 * length cs
+size-few [] h = omega arith
+size-few (c ∷ cs) h =
+    let more = size-few cs (All-tail IsSmall c cs h) in
+    let one = small_number c (All-head IsSmall c cs h) in
+    omega arith
+
+-- the size of a tile and its opposite, as the code holds them
+pub tile_size : (s : ℤ) → (pos 1 ≤ℤ s) × (s ≤ℤ pos 1024) → unsigned_abs s ≤ 1024
+tile_size s h = let low = h.0 in let high = h.1 in abs_at_most s 1024 (omega (arith, ints)) (omega (arith, ints))
+
+pub opposite_size : (s : ℤ) → (pos 1 ≤ℤ s) × (s ≤ℤ pos 1024) → unsigned_abs (pos 0 -ℤ s) ≤ 1024
+opposite_size s h =
+    let low = h.0 in let high = h.1 in abs_at_most (pos 0 -ℤ s) 1024 (omega (arith, ints)) (omega (arith, ints))
+
+pub last_size : (s : ℤ) → (pos 1 ≤ℤ s) × (s ≤ℤ pos 1024) → unsigned_abs (s -ℤ pos 1) ≤ 1024
+last_size s h =
+    let low = h.0 in let high = h.1 in abs_at_most (s -ℤ pos 1) 1024 (omega (arith, ints)) (omega (arith, ints))
+
+pub as_held : (z : ℤ) → unsigned_abs z ≤ 1024 → to_z w128 (of_z w128 z) ≡ z
+as_held z h = to_z-of_z w128 z (fits_signed_from_abs w128 z (omega arith))
+
+pub opposite_held : (s : ℤ) → (pos 1 ≤ℤ s) × (s ≤ℤ pos 1024)
+    → to_z w128 (of_z w128 (pos 0 -ℤ to_z w128 (of_z w128 s))) ≡ pos 0 -ℤ s
+opposite_held s h =
+    ap (λ z. to_z w128 (of_z w128 (pos 0 -ℤ z))) (as_held s (tile_size s h)) ∙ as_held (pos 0 -ℤ s) (opposite_size s h)
+
+pub last_held : (s : ℤ) → (pos 1 ≤ℤ s) × (s ≤ℤ pos 1024)
+    → to_z w128 (of_z w128 (to_z w128 (of_z w128 s) -ℤ pos 1)) ≡ s -ℤ pos 1
+last_held s h =
+    ap (λ z. to_z w128 (of_z w128 (z -ℤ pos 1))) (as_held s (tile_size s h)) ∙ as_held (s -ℤ pos 1) (last_size s h)
+
+-- a multiple of a dimension behind a form stays small
+pub small_sum : (f d k : ℕ) → f ≤ 2 ^ 99 → k ≤ 1024 → d ≤ 1 → f + k * d ≤ 2 ^ 100
+small_sum f d k h a b = let m : k * d ≤ 1024 * 1 = mul-le-mul a b in omega arith
+
+-- the end of a tile less 0: size * T + size - 1
+abbrev pub end_form : Layout → ℤ → ℕ → Affine
+end_form l s at = sum_of_forms (number_form l (s -ℤ pos 1)) (multiple_of_form s (variable (width l) at))
+
+pub length-end : (l : Layout) (s : ℤ) (at : ℕ) → variables_of (end_form l s at) ≡ width l
+length-end l s at =
+    let v = variable (width l) at in
+    let m = length-multiples s v.coefficients ∙ length-variable (width l) at in
+    length-sums (zeros (width l)) (multiples s v.coefficients) (length-zeros (width l) ∙ sym m) ∙ length-zeros (width l)
+
+pub size-end : (l : Layout) (s : ℤ) (at : ℕ) → (pos 1 ≤ℤ s) × (s ≤ℤ pos 1024) → form_size (end_form l s at) ≤ 2048
+size-end l s at h =
+    let v = variable (width l) at in
+    let a = size-sum (number_form l (s -ℤ pos 1)) (multiple_of_form s v) in
+    let n = size-number l (s -ℤ pos 1) in
+    let m = size-multiple s v in
+    let k = last_size s h in
+    let p : unsigned_abs s * form_size v ≤ 1024 * 1 = mul-le-mul (tile_size s h) (size-variable (width l) at) in
+    omega arith
+
+-- a form that is a row's or a number's
+pub row_small : (l : Layout) (f g : Affine) → g ≡ row_form l f → FitsTurns l.turns f → width l < 2 ^ 64
+    → (variables_of g ≡ width l) × (form_size g ≤ 2 ^ 99)
+row_small l f g e h fits =
+    let s = size-row l f in
+    let k = h.1 in
+    let small : form_size (row_form l f) ≤ 2 ^ 99 = omega (arith, fits, k, s) in
+    (ap variables_of e ∙ length-row l f h.0, subst (λ (z : Affine). form_size z ≤ 2 ^ 99) (sym e) small)
+
+pub number_small : (l : Layout) (k : ℤ) (g : Affine) → g ≡ number_form l k → unsigned_abs k < 2 ^ 64
+    → (variables_of g ≡ width l) × (form_size g ≤ 2 ^ 99)
+number_small l k g e h =
+    let s = size-number l k in
+    let small : form_size (number_form l k) ≤ 2 ^ 99 = omega arith in
+    (ap variables_of e ∙ length-number l k, subst (λ (z : Affine). form_size z ≤ 2 ^ 99) (sym e) small)
+
+pub carried_small : (l : Layout) (j : ℕ) (rows : List TileRow) (g : Affine) → g ≡ carried_form l j rows
+    → j + length rows ≤ width l → width l < 2 ^ 64 → (variables_of g ≡ width l) × (form_size g ≤ 2 ^ 99)
+carried_small l j rows g e h fits =
+    let s = size-carried_form l j rows in
+    let small : form_size (carried_form l j rows) ≤ 2 ^ 99 = omega (arith, h, fits) in
+    (ap variables_of e ∙ length-carried_form l j rows h, subst (λ (z : Affine). form_size z ≤ 2 ^ 99) (sym e) small)

@@ -1,0 +1,120 @@
+use Rattle.std.proofs.Common.{◌≡◌, ◌∙◌, ◌+◌, ◌<◌, sym, subst, ap, arith, length, map, drop}
+use Rattle.std.specs.Prelude.{All}
+use Rattle.std.proofs.lemmas.List.{length-map}
+use Rattle.iteration_domains.specs.Model.{Modelled}
+use Rattle.loop_tree.specs.Tiling.{Items, TileRow}
+use Rattle.loop_tree.specs.TilingView.{item_of as tile_item_of}
+use Rattle.schedule_rows.specs.Posed.{loops_of}
+use Rattle.tile_skew.specs.steps.Sizes.{FitsTurns, FitsItem}
+use Rattle.schedule_rows.specs.Schedule.{item_of, loops_in, items_of}
+use Rattle.tile_skew.specs.steps.Listed.{HasStatement, IsInside, AreBounds, leading_in, item_at}
+use Rattle.tile_skew.proofs.Splitting.{band_inside, bounds_are, ends_within, items_have, all_unmapped, told_items}
+use Rattle.tile_skew.proofs.Fitting.{first_fit, behind_fit}
+use Rattle.tile_skew.proofs.items.statement.Goals as goal
+
+pub band_bounds-first-requires : goal.band_bounds-first-requires
+band_bounds-first-requires c =
+    let schedule = c.args.schedule.now in
+    let is = c.items-items.ensures.schedule in
+    let own = c.items-items.result.now in
+    let sized = c.schedules_have_small_items.ensures schedule.model.parameters (loops_in schedule.model) schedule.deps
+    is.blocks is.run in
+    let many : length own ≡ 0 + length (items_of is.blocks) =
+    sym (length-map own item_of) ∙ (ap length (c.items-items.ensures.items ∙ is.items) ∙ omega arith) in
+    subst (λ bs. IsInside bs (length own)) (sym (c.bands.ensures ∙ is.bands))
+    (band_inside (loops_in schedule.model) is.blocks 0 (length own) sized many)
+
+pub leading-requires : goal.leading-requires
+leading-requires c =
+    let schedule = c.args.schedule.now in
+    let is = c.items-items.ensures.schedule in
+    let own = c.items-items.result.now in
+    let k = c.args.k in
+    let sized = c.schedules_have_small_items.ensures schedule.model.parameters (loops_in schedule.model) schedule.deps
+    is.blocks is.run in
+    let within = c.requires in
+    let here : k < length (loops_in schedule.model) =
+    omega (arith, within, length-map schedule.model.statements (λ (s : Modelled). s.domain.dimensions)) in
+    all_unmapped (HasStatement k) item_of own
+    (subst (All (HasStatement k)) (sym (c.items-items.ensures.items ∙ is.items))
+    (items_have (loops_in schedule.model) is.blocks k here sized))
+
+pub first_band-requires-clause-place : goal.first_band-requires-clause-place
+first_band-requires-clause-place c =
+    let schedule = c.args.schedule.now in
+    let is = c.items-items.ensures.schedule in
+    let own = c.items-items.result.now in
+    let sized = c.schedules_have_small_items.ensures schedule.model.parameters (loops_in schedule.model) schedule.deps
+    is.blocks is.run in
+    let many : length own ≡ 0 + length (items_of is.blocks) =
+    sym (length-map own item_of) ∙ (ap length (c.items-items.ensures.items ∙ is.items) ∙ omega arith) in
+    let bounds = bounds_are (loops_in schedule.model) is.blocks 0 (length own) c.band_bounds-first.result.0
+    c.band_bounds-first.result.1 sized many
+    (subst (λ bs. AreBounds bs (length own) c.band_bounds-first.result.0 c.band_bounds-first.result.1)
+    (c.bands.ensures ∙ is.bands) c.band_bounds-first.ensures) in
+    let few = ends_within is.blocks in
+    let whole = ap length is.items in
+    omega (arith, bounds.1, few, whole)
+
+pub first_band-requires-clause-statement : goal.first_band-requires-clause-statement
+first_band-requires-clause-statement c =
+    let schedule = c.args.schedule.now in
+    let is = c.items-items.ensures.schedule in
+    let k = c.args.k in
+    let sized = c.schedules_have_small_items.ensures schedule.model.parameters (loops_in schedule.model) schedule.deps
+    is.blocks is.run in
+    let within = c.requires in
+    let here : k < length (loops_in schedule.model) =
+    omega (arith, within, length-map schedule.model.statements (λ (s : Modelled). s.domain.dimensions)) in
+    subst (All (HasStatement k)) (sym is.items) (items_have (loops_in schedule.model) is.blocks k here sized)
+
+pub tile_items-requires : goal.tile_items-requires
+tile_items-requires c =
+    let schedule = c.args.schedule.now in
+    let is = c.items-items.ensures.schedule in
+    let own = c.items-items.result.now in
+    let k = c.args.k in
+    let sized = c.schedules_have_small_items.ensures schedule.model.parameters (loops_in schedule.model) schedule.deps
+    is.blocks is.run in
+    let within = c.requires in
+    let here : k < length (loops_in schedule.model) =
+    omega (arith, within, length-map schedule.model.statements (λ (s : Modelled). s.domain.dimensions)) in
+    all_unmapped (HasStatement k) item_of own
+    (subst (All (HasStatement k)) (sym (c.items-items.ensures.items ∙ is.items))
+    (items_have (loops_in schedule.model) is.blocks k here sized))
+
+pub returns-clause-items : goal.returns-clause-items
+returns-clause-items c s =
+    let schedule = c.args.schedule.now in
+    let own = c.items-items.result.now in
+    let shown = c.items-items.ensures.items in
+    let k = c.args.k in
+    let sized = c.schedules_have_small_items.ensures schedule.model.parameters (loops_in schedule.model) schedule.deps
+    s.blocks s.run in
+    let many : length own ≡ length schedule.items = sym (length-map own item_of) ∙ ap length shown in
+    told_items (loops_in schedule.model) s.blocks k c.band_bounds-first.result.0 c.band_bounds-first.result.1
+    (length own) schedule.items schedule.parallel c.bands.result.now _ _ _ sized s.items s.parallel
+    (c.bands.ensures ∙ s.bands) many c.band_bounds-first.ensures
+    (c.in_ok-leading.ensures ∙ ap (λ zs. leading_in zs k) shown) c.in_ok-first_band.ensures
+    (c.in_ok-tile_items.ensures ∙ ap (λ zs. map (item_at k) (drop c.band_bounds-first.result.1 zs)) shown)
+
+pub returns-clause-rows : goal.returns-clause-rows
+returns-clause-rows c =
+    let schedule = c.args.schedule.now in
+    let is = c.items-items.ensures.schedule in
+    let loops = loops_in schedule.model in
+    let k = c.args.k in
+    let sized = c.schedules_have_small_items.ensures schedule.model.parameters loops schedule.deps is.blocks is.run in
+    subst (λ (t : Items). All (λ (r : TileRow). FitsTurns (loops_of loops k) r.form) t.band)
+    (sym (returns-clause-items c is)) (first_fit loops is.blocks k sized)
+
+pub returns-clause-behind : goal.returns-clause-behind
+returns-clause-behind c =
+    let schedule = c.args.schedule.now in
+    let is = c.items-items.ensures.schedule in
+    let loops = loops_in schedule.model in
+    let k = c.args.k in
+    let sized = c.schedules_have_small_items.ensures schedule.model.parameters loops schedule.deps is.blocks is.run in
+    all_unmapped (FitsItem (loops_of loops k)) tile_item_of _
+    (subst (λ (t : Items). All (FitsItem (loops_of loops k)) t.behind) (sym (returns-clause-items c is))
+    (behind_fit loops is.blocks k sized))

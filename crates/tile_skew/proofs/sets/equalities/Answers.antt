@@ -1,0 +1,53 @@
+use Rattle.std.proofs.Common.{◌≡◌, ◌+◌, ◌∙◌, ◌++◌, ap, sym, subst, arith, map}
+use Rattle.std.specs.Prelude.{All}
+use Rattle.std.proofs.lemmas.List.Elements.{All-append}
+use Rattle.integer_sets.specs.Constraints.{Constraints, variables_in}
+use Rattle.loop_tree.specs.TilingView.{items_of}
+use Rattle.tile_skew.specs.ScanSets.{domain_form, dimension_equalities, wave_equalities, item_equalities}
+use Rattle.tile_skew.specs.ScanSets.{missing_equalities}
+use Rattle.tile_skew.proofs.Reading_off.{four_put}
+use Rattle.tile_skew.proofs.Shaped.{Over, all_wide, resized, domain_over, dimensions_over, items_fit}
+use Rattle.tile_skew.proofs.sets.equalities.Goals as goal
+
+pub push_domain-requires : goal.push_domain-requires
+push_domain-requires c =
+    let e = ap variables_in c.domain.ensures in
+    let d = c.requires.domain in
+    all_wide c.args.layout.turns (variables_in c.domain.result.now) c.equalities.result.now (omega (arith, d, e))
+    c.equalities.ensures.sized
+
+pub returns-clause-forms : goal.returns-clause-forms
+returns-clause-forms c =
+    let l = c.args.layout in
+    let s = items_of c.args.items.now in
+    let none = c.new-out.result.items in
+    let shown = c.equalities.ensures.forms ∙ ap (λ (d : Constraints). d.equalities) c.domain.ensures in
+    four_put none c.push_domain.new.out.items c.push_waves.new.out.items c.push_item_values.new.out.items
+    c.push_missing.new.out.items (map (domain_form l) c.args.statement.now.domain.equalities) (wave_equalities l s)
+    (item_equalities l s) (missing_equalities l) c.new-out.ensures.items
+    (c.in_ok-push_domain.ensures ∙ ap (λ fs. none ++ map (domain_form l) fs) shown) c.in_ok-push_waves.ensures
+    c.in_ok-push_item_values.ensures c.in_ok-push_missing.ensures
+
+pub returns-clause-sized : goal.returns-clause-sized
+returns-clause-sized c =
+    let l = c.args.layout in
+    let s = items_of c.args.items.now in
+    let none = c.new-out.result.items in
+    let own = c.args.statement.now.domain in
+    let shown = c.equalities.ensures.forms ∙ ap (λ (d : Constraints). d.equalities) c.domain.ensures in
+    let all = four_put none c.push_domain.new.out.items c.push_waves.new.out.items c.push_item_values.new.out.items
+    c.push_missing.new.out.items (map (domain_form l) own.equalities) (wave_equalities l s)
+    (item_equalities l s) (missing_equalities l) c.new-out.ensures.items
+    (c.in_ok-push_domain.ensures ∙ ap (λ fs. none ++ map (domain_form l) fs) shown) c.in_ok-push_waves.ensures
+    c.in_ok-push_item_values.ensures c.in_ok-push_missing.ensures in
+    let many : variables_in c.domain.result.now ≡ l.turns + l.parameters =
+    let e = ap variables_in c.domain.ensures in
+    let d = c.requires.domain in
+    let p = c.requires.parameters in
+    omega (arith, d, p, e) in
+    let domain = domain_over l own.equalities (resized (variables_in c.domain.result.now) (l.turns + l.parameters)
+    c.equalities.result.now own.equalities many shown c.equalities.ensures.sized) in
+    subst (All (Over l)) (sym all)
+    (All-append (Over l) (map (domain_form l) own.equalities) (dimension_equalities l s) domain
+    (dimensions_over l s c.requires.place c.requires.rows
+    (items_fit l.turns c.args.items.now.behind.items c.requires.behind)))

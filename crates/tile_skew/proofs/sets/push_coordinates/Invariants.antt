@@ -1,0 +1,8 @@
+use Rattle.std.proofs.Common.{◌≡◌, ◌+◌, ◌++◌, drop, pos}
+use Rattle.tile_skew.specs.ScanSets.{are_coordinates}
+use Rattle.tile_skew.proofs.sets.push_coordinates.Given as goal
+
+abbrev pub invariant-loop-at : goal.invariant-loop-at
+invariant-loop-at l =
+    l.out.items ++ are_coordinates l.layout (pos l.size) (l.first + l.at) (drop l.at l.rows)
+    ≡ l.fn.out.items ++ are_coordinates l.layout (pos l.size) l.first l.rows

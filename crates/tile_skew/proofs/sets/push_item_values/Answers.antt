@@ -1,0 +1,45 @@
+use Rattle.std.proofs.Common.{◌≡◌, ◌+◌, ◌∙◌, rules, ap, sym, subst, arith, length, map, pos, ◌++◌}
+use Rattle.std.specs.Prelude.{All}
+use Rattle.std.proofs.lemmas.List.{length-map}
+use Rattle.loop_tree.specs.TilingView.{item_of}
+use Rattle.tile_skew.specs.ScanSets.{have_values, number_form, row_form, item_form}
+use Rattle.tile_skew.specs.steps.Sizes.{FitsTurns, FitsItem}
+use Rattle.tile_skew.proofs.Reading_off.{items_put}
+use Rattle.tile_skew.proofs.sets.push_item_values.Goals as goal
+
+pub push_rows-requires-clause-small : goal.push_rows-requires-clause-small
+push_rows-requires-clause-small c =
+    subst (λ rs. All (λ r. FitsTurns c.args.layout.turns r.form) rs) (sym c.as_slice-2.ensures.value) c.requires.rows
+
+pub push_items-requires-clause-small : goal.push_items-requires-clause-small
+push_items-requires-clause-small c =
+    subst (λ is. All (λ i. FitsItem c.args.layout.turns (item_of i)) is) (sym c.as_slice-3.ensures.value)
+    c.requires.behind
+
+pub returns : goal.returns
+returns c =
+    let l = c.args.layout in
+    let s = c.args.items.now in
+    let old = c.args.out.now.items in
+    let a : c.len-leading.result ≡ length s.leading.items = search rules in
+    let b : c.len-band.result ≡ length s.band.items = search rules in
+    let j = c.len-leading.result + (1 + c.len-band.result) in
+    let k = j + c.len-leading.result in
+    let m = k + c.len-band.result in
+    let numbers = map (λ n. number_form l (pos n)) s.leading.items in
+    let rows = map (λ r. row_form l r.form) s.band.items in
+    let items = map (item_form l) (map item_of s.behind.items) in
+    let p = length-map s.leading.items (λ n. number_form l (pos n)) in
+    let q = length-map s.band.items (λ r. row_form l r.form) in
+    let from : j ≡ length s.leading.items + (1 + length s.band.items) = omega (arith, a, b) in
+    items_put l j k m numbers rows items old c.push_leading.new.out.items c.push_rows.new.out.items
+    c.push_items.new.out.items (omega (arith, a, p)) (omega (arith, b, q))
+    (c.in_ok-push_leading.ensures
+    ∙ ap (λ ns. old ++ have_values l j (map (λ n. number_form l (pos n)) ns)) c.as_slice.ensures.value)
+    (c.in_ok-push_rows.ensures
+    ∙ ap (λ rs. c.push_leading.new.out.items ++ have_values l k (map (λ r. row_form l r.form) rs))
+    c.as_slice-2.ensures.value)
+    (c.in_ok-push_items.ensures
+    ∙ ap (λ is. c.push_rows.new.out.items ++ have_values l m (map (item_form l) (map item_of is)))
+    c.as_slice-3.ensures.value)
+    ∙ ap (λ n. old ++ have_values l n (numbers ++ (rows ++ items))) from

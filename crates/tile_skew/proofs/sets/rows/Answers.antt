@@ -1,0 +1,33 @@
+use Rattle.std.proofs.Common.{◌≡◌, ◌+◌, ap, sym, subst, arith, map, pos, refl}
+use Rattle.std.specs.Prelude.{All}
+use Rattle.integer_sets.specs.Constraints.{variables_in}
+use Rattle.tile_skew.specs.ScanSets.{domain_form}
+use Rattle.tile_skew.specs.steps.Sizes.{FitsTurns}
+use Rattle.tile_skew.proofs.Shaped.{all_wide, resized, domain_over, coordinates_over, two_over}
+use Rattle.tile_skew.proofs.sets.rows.Goals as goal
+
+pub push_domain-requires : goal.push_domain-requires
+push_domain-requires c =
+    let e = ap variables_in c.domain.ensures in
+    let d = c.requires.domain in
+    all_wide c.args.layout.turns (variables_in c.domain.result.now) c.rows.result.now (omega (arith, d, e))
+    c.rows.ensures.sized
+
+pub push_coordinates-requires-clause-small : goal.push_coordinates-requires-clause-small
+push_coordinates-requires-clause-small c =
+    subst (λ rs. All (λ r. FitsTurns c.args.layout.turns r.form) rs) (sym c.as_slice.ensures.value) c.requires.rows
+
+pub returns-clause-sized : goal.returns-clause-sized
+returns-clause-sized c =
+    let l = c.args.layout in
+    let many : variables_in c.domain.result.now ≡ l.turns + l.parameters =
+    let e = ap variables_in c.domain.ensures in
+    let d = c.requires.domain in
+    let p = c.requires.parameters in
+    omega (arith, d, p, e) in
+    let domain = domain_over l c.rows.result.now (resized (variables_in c.domain.result.now) (l.turns + l.parameters)
+    c.rows.result.now c.rows.result.now many refl c.rows.ensures.sized) in
+    let small = subst (λ rs. All (λ r. FitsTurns l.turns r.form) rs) (sym c.as_slice.ensures.value) c.requires.rows in
+    two_over l c.new-out.result.items c.push_domain.new.out.items c.push_coordinates.new.out.items
+    (map (domain_form l) c.rows.result.now) _ c.new-out.ensures.items c.in_ok-push_domain.ensures
+    c.in_ok-push_coordinates.ensures domain (coordinates_over l (pos c.args.size) _ c.as_slice.result.now small)

@@ -1,0 +1,38 @@
+use Rattle.std.proofs.Common.{◌≡◌, ◌<◌, ◌≤◌, ◌∙◌, ◌++◌, ◌∷◌, [], ap, ap₂, sym, subst, arith, length, pos, get_or}
+use Rattle.integer_sets.specs.Scanned.{Scanned}
+use Rattle.iteration_domains.specs.Model.{Modelled, KernelModel}
+use Rattle.tile_skew.specs.ScanSets.{scan_set, most_iterators}
+use Rattle.tile_skew.specs.Tilings.{statement_items}
+use Rattle.tile_skew.proofs.Reading_off.{mapped_step}
+use Rattle.tile_skew.proofs.Taking.{within_there, found_there}
+use Rattle.tile_skew.proofs.statement_sets.tiled.Goals as goal
+
+pub scan_set-requires-clause-most : goal.scan_set-requires-clause-most
+scan_set-requires-clause-most c =
+    let ss = c.statements-statements.result.now in
+    let x = c.index-statements-k.result in
+    let few : c.loop-k.k < length ss = omega (arith, c.loop-k-test.true) in
+    subst (λ n. x.domain.dimensions ≤ n) (sym c.most_iterators-most.ensures)
+    (within_there ss c.loop-k.k x few c.index-statements-k.is)
+
+pub loop-k-preserved : goal.loop-k-preserved
+loop-k-preserved c s =
+    let size = pos c.args.size in
+    let own = c.statements-statements.result.now in
+    let ss = c.args.schedule.now.model.statements in
+    let x = c.index-statements-k.result in
+    let k = c.loop-k.k in
+    let done = c.loop-k.sets.items in
+    let shown : own ≡ ss =
+    c.statements-statements.ensures.statements ∙ ap (λ (m : KernelModel). m.statements) c.model.ensures in
+    let few : k < length own = omega (arith, c.loop-k-test.true) in
+    let many = ap length shown in
+    let number : x.number ≡ k =
+    c.statements-statements.ensures.places k x (found_there own k x few c.index-statements-k.is) in
+    let Set : Modelled → Scanned = λ m. scan_set size (most_iterators ss) m (statement_items s.blocks m.number) in
+    let made = c.in_ok-set.ensures
+    ∙ ap₂ (λ n t. scan_set size n x t) (c.most_iterators-most.ensures ∙ ap most_iterators shown)
+    (c.in_ok-items.ensures.items s ∙ ap (statement_items s.blocks) (sym number)) in
+    mapped_step Set ss k x done c.push.new.self.items _ (omega (arith, few, many))
+    (sym (c.index-statements-k.is ∙ ap (λ zs. get_or zs k x) shown))
+    (c.in-Ok.ensures.items ∙ ap (λ z. done ++ z ∷ []) made) (c.loop-k.invariant s)

@@ -1,0 +1,4 @@
+pub mod Tilings
+pub mod Places
+pub mod ScanSets
+pub mod steps

@@ -1,0 +1,30 @@
+-- Items whose rows have a coefficient for each turn.
+use Rattle.std.specs.Prelude.{◌≡◌, ℕ, suc, ◌*◌, ◌≤◌, List, [], ◌∷◌, length, ⊤}
+use Rattle.whole_numbers.specs.Affine.{Affine}
+use Rattle.iteration_domains.specs.Sizes.{form_size}
+use Rattle.loop_tree.specs.Tiling.{TileRow, Item, row, scalar, Items}
+
+-- the rows of a band
+abbrev pub AreRowsOver : ℕ → List TileRow → Type 0
+AreRowsOver n [] = ⊤
+AreRowsOver n (r ∷ rs) = (length r.form.coefficients ≡ n) × AreRowsOver n rs
+
+-- the rows among items
+abbrev pub AreItemsOver : ℕ → List Item → Type 0
+AreItemsOver n [] = ⊤
+AreItemsOver n (row f ∷ items) = (length f.coefficients ≡ n) × AreItemsOver n items
+AreItemsOver n (scalar k ∷ items) = ⊤ × AreItemsOver n items
+
+-- all rows of a statement
+pub record AreOver (n : ℕ) (s : Items) : Type 0 where
+  pub band : AreRowsOver n s.band
+  pub behind : AreItemsOver n s.behind
+
+-- a form over n turns, with small numbers
+abbrev pub FitsTurns : ℕ → Affine → Type 0
+FitsTurns n f = (length f.coefficients ≡ n) × (form_size f ≤ 4096 * suc n)
+
+-- an item of a statement with n turns
+abbrev pub FitsItem : ℕ → Item → Type 0
+FitsItem n (row f) = FitsTurns n f
+FitsItem n (scalar k) = ⊤

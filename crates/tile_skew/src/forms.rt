@@ -1,0 +1,220 @@
+//! Forms over the variables of a scan set.
+ghost use Rattle.std.specs.Prelude.{◌≡◌, ◌+◌, ◌<◌, ◌≤◌, ◌^◌, ◌++◌, ◌∷◌, [], pos, neg_ℤ, ◌≤ℤ◌, IfOk, OnOk, length, map};
+ghost use Rattle.affine_forms.specs.Parts.{variables_of};
+ghost use Rattle.iteration_domains.specs.Sizes.{form_size};
+ghost use Rattle.whole_numbers.specs.Affine.{form_of};
+ghost use Rattle.whole_numbers.specs.Lists.{zeros};
+ghost use Rattle.conflict_deps.specs.Conflicts.{spread};
+ghost use Rattle.tile_skew.specs.ScanSets.{carried, carried_form, domain_form, have_values, number_form, row_form};
+ghost use Rattle.tile_skew.specs.ScanSets.{tile_begins};
+ghost use Rattle.tile_skew.specs.ScanSets.{tile_ends, width};
+
+use crate::layout::Layout;
+use affine_forms::{Form, INLINE};
+use iteration_domains::{plus_multiple, push_form, variable_form};
+use loop_tree::TileRow;
+use scop_syntax::tree::Aff;
+use smallvec::SmallVec;
+use std::alloc::{AllocError, Global};
+
+/// A form's coefficients while they are put together.
+type Numbers = SmallVec<i128, INLINE>;
+
+/// Appends zeros.
+fn push_zeros(numbers: &mut Numbers, count: usize) -> Result<(), AllocError>
+    ensures { OnOk result (numbers.new.items ≡ numbers.old.items ++ zeros count) }
+{
+    for place in 0..count {
+        match numbers.push(0) {
+            Err(_) => return Err(AllocError),
+            Ok(()) => {}
+        }
+    }
+    Ok(())
+}
+
+/// Appends numbers.
+fn push_numbers(numbers: &mut Numbers, more: &[i64]) -> Result<(), AllocError>
+    ensures { OnOk result (numbers.new.items ≡ numbers.old.items ++ more.now) }
+{
+    for number in more {
+        match numbers.push(*number as i128) {
+            Err(_) => return Err(AllocError),
+            Ok(()) => {}
+        }
+    }
+    Ok(())
+}
+
+/// Appends 1 for each row that carries, and 0 for each other.
+fn push_carried(numbers: &mut Numbers, rows: &[TileRow]) -> Result<(), AllocError>
+    ensures { OnOk result (numbers.new.items ≡ numbers.old.items ++ carried rows.now) }
+{
+    for row in rows {
+        match numbers.push(if row.carries { 1 } else { 0 }) {
+            Err(_) => return Err(AllocError),
+            Ok(()) => {}
+        }
+    }
+    Ok(())
+}
+
+/// The form with these numbers.
+fn form_from(alloc: Global, coefficients: &[i128], constant: i128) -> Result<Form, AllocError>
+    ensures { IfOk result (λ f. f ≡ form_of coefficients.now constant) }
+{
+    match Form::of(alloc, coefficients, constant) {
+        Err(_) => Err(AllocError),
+        Ok(form) => Ok(form),
+    }
+}
+
+/// The coefficients of a form of the domain, over turns and parameters, over all variables.
+fn domain_numbers(
+    alloc: Global,
+    layout: Layout,
+    coefficients: &[i128],
+) -> Result<Numbers, AllocError>
+    requires { layout.turns ≤ length coefficients.now }
+    ensures { IfOk result (λ all. all.items
+        ≡ zeros layout.front ++ spread layout.missing layout.turns coefficients.now) }
+{
+    let mut numbers = Numbers::new(alloc);
+    push_zeros(&mut numbers, layout.front)?;
+    numbers.extend_from_slice(&coefficients[..layout.turns])?;
+    push_zeros(&mut numbers, layout.missing)?;
+    numbers.extend_from_slice(&coefficients[layout.turns..])?;
+    Ok(numbers)
+}
+
+/// That form.
+pub fn domain_form(alloc: Global, layout: Layout, form: &Form) -> Result<Form, AllocError>
+    requires { layout.turns ≤ variables_of form.now }
+    ensures { IfOk result (λ f. f ≡ domain_form layout form.now) }
+{
+    let numbers = domain_numbers(alloc, layout, form.coefficients())?;
+    form_from(alloc, numbers.as_slice(), form.constant())
+}
+
+/// A number as a form.
+pub fn number_form(alloc: Global, layout: Layout, number: i128) -> Result<Form, AllocError>
+    requires { width layout < 2 ^ 64 }
+    ensures { IfOk result (λ f. f ≡ number_form layout number) }
+{
+    let mut numbers = Numbers::new(alloc);
+    push_zeros(&mut numbers, layout.width())?;
+    form_from(alloc, numbers.as_slice(), number)
+}
+
+/// A row's form.
+pub fn row_form(alloc: Global, layout: Layout, form: &Aff) -> Result<Form, AllocError>
+    requires { width layout < 2 ^ 64 }
+    ensures { IfOk result (λ f. f ≡ row_form layout form.now) }
+{
+    let mut numbers = Numbers::new(alloc);
+    push_zeros(&mut numbers, layout.front)?;
+    push_numbers(&mut numbers, form.coefficients.as_slice())?;
+    push_zeros(&mut numbers, layout.missing + layout.parameters)?;
+    form_from(alloc, numbers.as_slice(), form.constant as i128)
+}
+
+/// The sum of the tile coordinates, from dimension `first` on, of the rows that carry.
+pub fn carried_form(
+    alloc: Global,
+    layout: Layout,
+    first: usize,
+    rows: &[TileRow],
+) -> Result<Form, AllocError>
+    requires fits { width layout < 2 ^ 64 }
+    requires place { first + length rows.now ≤ width layout }
+    ensures { IfOk result (λ f. f ≡ carried_form layout first rows.now) }
+{
+    let mut numbers = Numbers::new(alloc);
+    push_zeros(&mut numbers, first)?;
+    push_carried(&mut numbers, rows)?;
+    push_zeros(&mut numbers, layout.width() - (first + rows.len()))?;
+    form_from(alloc, numbers.as_slice(), 0)
+}
+
+/// Appends that dimension `at` has the value of the form.
+pub fn push_value(
+    out: &mut Vec<Form>,
+    alloc: Global,
+    layout: Layout,
+    at: usize,
+    form: &Form,
+) -> Result<(), AllocError>
+    requires fits { width layout < 2 ^ 64 }
+    requires place { at < width layout }
+    requires sized { variables_of form.now ≡ width layout }
+    requires small { form_size form.now ≤ 2 ^ 99 }
+    ensures { OnOk result (out.new.items ≡ out.old.items ++ have_values layout at (form.now ∷ [])) }
+{
+    let dimension = variable_form(alloc, layout.width(), at)?;
+    let equality = plus_multiple(form, -1, &dimension)?;
+    push_form(out, equality)
+}
+
+/// `row - size * T`, T being dimension `at`.
+fn tile_begins(
+    alloc: Global,
+    layout: Layout,
+    size: i128,
+    at: usize,
+    form: &Form,
+) -> Result<Form, AllocError>
+    requires fits { width layout < 2 ^ 64 }
+    requires place { at < width layout }
+    requires size { (pos 1 ≤ℤ size) × (size ≤ℤ pos 1024) }
+    requires sized { variables_of form.now ≡ width layout }
+    requires small { form_size form.now ≤ 2 ^ 99 }
+    ensures { IfOk result (λ f. f ≡ tile_begins layout size at form.now) }
+{
+    let dimension = variable_form(alloc, layout.width(), at)?;
+    plus_multiple(form, -size, &dimension)
+}
+
+/// `size * T + size - 1 - row`, T being dimension `at`.
+fn tile_ends(
+    alloc: Global,
+    layout: Layout,
+    size: i128,
+    at: usize,
+    form: &Form,
+) -> Result<Form, AllocError>
+    requires fits { width layout < 2 ^ 64 }
+    requires place { at < width layout }
+    requires size { (pos 1 ≤ℤ size) × (size ≤ℤ pos 1024) }
+    requires sized { variables_of form.now ≡ width layout }
+    requires small { form_size form.now ≤ 2 ^ 99 }
+    ensures { IfOk result (λ f. f ≡ tile_ends layout size at form.now) }
+{
+    let dimension = variable_form(alloc, layout.width(), at)?;
+    let last = number_form(alloc, layout, size - 1)?;
+    let end = plus_multiple(&last, size, &dimension)?;
+    plus_multiple(&end, -1, form)
+}
+
+/// Appends that dimension `at` is the tile coordinate of the row.
+pub fn push_coordinate(
+    out: &mut Vec<Form>,
+    alloc: Global,
+    layout: Layout,
+    size: u64,
+    at: usize,
+    form: &Form,
+) -> Result<(), AllocError>
+    requires fits { width layout < 2 ^ 64 }
+    requires place { at < width layout }
+    requires size { (0 < size) × (size ≤ 1024) }
+    requires sized { variables_of form.now ≡ width layout }
+    requires small { form_size form.now ≤ 2 ^ 99 }
+    ensures { OnOk result (out.new.items
+        ≡ out.old.items ++ tile_begins layout (pos size) at form.now ∷ tile_ends layout (pos size) at form.now ∷ []) }
+{
+    let size = size as i128;
+    let begins = tile_begins(alloc, layout, size, at, form)?;
+    push_form(out, begins)?;
+    let ends = tile_ends(alloc, layout, size, at, form)?;
+    push_form(out, ends)
+}

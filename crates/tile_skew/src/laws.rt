@@ -1,0 +1,101 @@
+//! What tiles and scan sets are for, as contracts of functions that call the laws which their proofs use.
+ghost use Rattle.std.specs.Prelude.{◌≡◌, ℕ, ◌<◌, ◌≤◌, ℤ, pos, List, [], ◌∷◌, ◌++◌, length, ◌↔◌, not, slice_get, Some};
+ghost use Rattle.whole_numbers.specs.Lexicographic.{LexLess};
+ghost use Rattle.integer_sets.specs.Points.{Satisfies};
+ghost use Rattle.integer_sets.specs.Scanned.{Scanned};
+ghost use Rattle.scop_syntax.specs.Kernel.{IsKernel};
+ghost use Rattle.scop_syntax.specs.Members.{In};
+ghost use Rattle.scop_syntax.specs.Tree.{Program};
+ghost use Rattle.scop_syntax.specs.Walk.{Instance, Visit};
+ghost use Rattle.iteration_domains.specs.Instances.{IsInstanceOf};
+ghost use Rattle.iteration_domains.specs.Model.{KernelModel, Modelled, model_of};
+ghost use Rattle.conflict_deps.specs.Conflicts.{conflicts_of};
+ghost use Rattle.loop_tree.specs.Tiling.{IsGoodPlan, item_values, kept, order_of};
+ghost use Rattle.schedule_rows.specs.Dependences.{InRange};
+ghost use Rattle.schedule_rows.specs.Items.{Block, Marked, values};
+ghost use Rattle.schedule_rows.specs.Outcomes.{IsSchedule};
+ghost use Rattle.schedule_rows.specs.Schedule.{loops_in};
+ghost use Rattle.schedule_rows.specs.Sized.{AreSized};
+ghost use Rattle.tile_skew.specs.Places.{place_of};
+ghost use Rattle.tile_skew.specs.ScanSets.{scan_set, scan_sets};
+ghost use Rattle.tile_skew.specs.Tilings.{first_band, form_at, schedule_tiling, statement_items, statements_from};
+
+use conflict_deps::conflict_laws::{conflicts_are_the_points_of_the_systems, systems_have_parts};
+use iteration_domains::domain_laws::domains_hold_the_instances;
+use schedule_rows::schedules_are_good_plans;
+use scop_syntax::walk_laws::{
+    instances_are_those_of_statements, statements_are_numbered, walks_are_in_order,
+};
+
+/// The tiling of a schedule of a kernel's conflicts is a good plan, for any size of tiles and parameters in 0..=65536:
+/// two conflicting places lie in one tile, the earlier first, or the wave rises from the earlier to the later.
+pub fn tiled_schedules_are_good_plans()
+    ensures { (program : Program) (blocks : List Block) (params : List ℤ) (size : ℕ) → IsKernel program
+        → length params ≡ length program.parameters → InRange params → 0 < size
+        → IsSchedule (model_of program).parameters (loops_in (model_of program)) (conflicts_of (model_of program))
+        blocks
+        → IsGoodPlan program params (schedule_tiling size (length (model_of program).statements) blocks) }
+{
+    conflicts_are_the_points_of_the_systems();
+    systems_have_parts();
+    instances_are_those_of_statements();
+    statements_are_numbered();
+    walks_are_in_order();
+    schedules_are_good_plans();
+}
+
+/// The whole points of a statement's scan set are exactly the places of its instances, at all parameters.
+pub fn scan_sets_hold_the_instances()
+    ensures points { (program : Program) (blocks : List Block) (params : List ℤ) (size n : ℕ) (s : Modelled)
+        (xs : List ℤ) → IsKernel program → length params ≡ length program.parameters → 0 < size
+        → AreSized (loops_in (model_of program)) blocks → In s (model_of program).statements
+        → length xs ≡ (scan_set (pos size) n s (statement_items blocks s.number)).system.dimensions
+        → Satisfies (scan_set (pos size) n s (statement_items blocks s.number)).system (xs ++ params)
+        → (v : Visit) × IsInstanceOf program params s v
+        × (xs ≡ place_of (pos size) n (statement_items blocks s.number) v.turns) }
+    ensures instances { (program : Program) (blocks : List Block) (params : List ℤ) (size n : ℕ) (s : Modelled)
+        (v : Visit) → IsKernel program → length params ≡ length program.parameters → 0 < size
+        → AreSized (loops_in (model_of program)) blocks → IsInstanceOf program params s v
+        → Satisfies (scan_set (pos size) n s (statement_items blocks s.number)).system
+        (place_of (pos size) n (statement_items blocks s.number) v.turns ++ params) }
+{
+    domains_hold_the_instances();
+    statements_are_numbered();
+}
+
+/// The lexicographic order of places, and of statements at one place, is the order of the tiling.
+pub fn places_are_in_order()
+    ensures { (blocks : List Block) (size count n : ℕ) (x y : Instance) → x.number < count → y.number < count
+        → length x.turns ≤ n → length y.turns ≤ n → n ≤ 5
+        → LexLess (place_of (pos size) n (statement_items blocks x.number) x.turns ++ pos x.number ∷ [])
+        (place_of (pos size) n (statement_items blocks y.number) y.turns ++ pos y.number ∷ [])
+        ↔ LexLess (order_of size (statements_from blocks 0 count) x)
+        (order_of size (statements_from blocks 0 count) y) }
+{}
+
+/// The values of a tiling's items are those of the schedule's items.
+pub fn tilings_have_the_items_of_schedules()
+    ensures { (blocks : List Block) (x : Instance)
+        → item_values (statement_items blocks x.number) x.turns ≡ values blocks x }
+{}
+
+/// The tile rows of each statement are the rows of the first band, in order, and those carry that are not parallel.
+pub fn rows_that_are_not_parallel_carry()
+    ensures rows { (blocks : List Block) (k i : ℕ) (m : Marked) → slice_get (first_band blocks) i ≡ Some m
+        → slice_get (statement_items blocks k).band i
+        ≡ Some (record { form = form_at m.row k; carries = not m.parallel }) }
+    ensures count { (blocks : List Block) (k : ℕ)
+        → length (statement_items blocks k).band ≡ length (first_band blocks) }
+{}
+
+/// The source's order, kept, is a good plan at all parameters.
+pub fn kept_orders_are_good_plans()
+    ensures { (program : Program) (params : List ℤ) → IsGoodPlan program params kept }
+{}
+
+/// All scan sets of a schedule have one number of dimensions, and mark one same place, or all mark none.
+pub fn scan_sets_are_alike()
+    ensures { (size : ℤ) (blocks : List Block) (model : KernelModel) (x y : Scanned)
+        → In x (scan_sets size blocks model) → In y (scan_sets size blocks model)
+        → (x.system.dimensions ≡ y.system.dimensions) × (x.parallel ≡ y.parallel) }
+{}

@@ -1,0 +1,18 @@
+//! Tiles of a schedule and their wavefronts: the tiling that a schedule and a size of tiles give, and of each statement
+//! the set of its instances at their places in the scanned order, tile by tile within rising waves (U. Bondhugula and
+//! others, "A practical automatic polyhedral parallelizer and locality optimizer", PLDI 2008; scattering dimensions:
+//! C. Bastoul, "Code generation in the polyhedral model is easier than you think", PACT 2004).
+//! Promises that `tiling` is exactly that of specs/Tilings.antt and `tiled` gives exactly the sets of specs/ScanSets.antt,
+//! that a tiling of a kernel's conflicts is a good plan at all parameters, that the whole points of those sets are the
+//! places of the instances, each once, and that places come in the tiling's order (`laws`).
+#![tactic(auto)]
+
+mod forms;
+mod items;
+pub mod laws;
+mod layout;
+mod sets;
+mod statement_sets;
+
+pub use items::tiling;
+pub use statement_sets::tiled;

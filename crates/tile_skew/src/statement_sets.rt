@@ -1,0 +1,122 @@
+//! The scan sets of a schedule's statements, in textual order.
+ghost use Rattle.std.specs.Prelude.{◌≡◌, ◌+◌, ◌<◌, ◌≤◌, ◌^◌, All, pos, IfOk, length, max};
+ghost use Rattle.loop_tree.specs.TilingView.{item_of, items_of};
+ghost use Rattle.schedule_rows.specs.Schedule.{IsScheduled};
+ghost use Rattle.tile_skew.specs.ScanSets.{front_of, most_iterators as greatest, parallel_place as place_in, points_of};
+ghost use Rattle.tile_skew.specs.ScanSets.{scan_set as set_of, scan_sets, width};
+ghost use Rattle.tile_skew.specs.steps.Sizes.{FitsItem, FitsTurns};
+
+use crate::items::statement;
+use crate::layout::{Layout, layout_of};
+use crate::sets::{equalities, rows};
+use integer_sets::{ScanSet, System};
+use iteration_domains::StatementModel;
+use loop_tree::TileItems;
+use schedule_rows::Schedule;
+use std::alloc::{AllocError, Global};
+
+/// The points of a statement's scan set.
+fn points(
+    alloc: Global,
+    layout: Layout,
+    size: u64,
+    statement: &StatementModel,
+    items: &TileItems,
+) -> Result<System, AllocError>
+    requires fits { width layout < 2 ^ 64 }
+    requires size { (0 < size) × (size ≤ 1024) }
+    requires domain { layout.turns ≡ statement.now.domain.dimensions }
+    requires parameters { layout.parameters ≡ statement.now.domain.parameters }
+    requires place { front_of (items_of items.now) ≤ width layout }
+    requires rows { All (λ r. FitsTurns layout.turns r.form) items.now.band.items }
+    requires behind { All (λ i. FitsItem layout.turns (item_of i)) items.now.behind.items }
+    ensures { IfOk result (λ s. s ≡ points_of layout (pos size) statement.now (items_of items.now)) }
+{
+    let equal = equalities(alloc, layout, statement, items)?;
+    let least = rows(alloc, layout, size, statement, items)?;
+    let dimensions = layout.front + (layout.turns + layout.missing);
+    Ok(System::from_parts(dimensions, layout.parameters, equal, least))
+}
+
+/// The dimension of the first tile coordinate, which may run in parallel.
+fn parallel_place(items: &TileItems) -> Option<usize>
+    ensures { result ≡ place_in (length items.now.leading.items + 1) items.now.band.items }
+{
+    if items.band.is_empty() {
+        None
+    } else {
+        Some(items.leading.len() + 1)
+    }
+}
+
+/// The scan set of a statement, where `most` is the greatest number of iterators of a statement.
+fn scan_set(
+    alloc: Global,
+    size: u64,
+    most: usize,
+    statement: &StatementModel,
+    items: &TileItems,
+) -> Result<ScanSet, AllocError>
+    requires size { (0 < size) × (size ≤ 1024) }
+    requires most { statement.now.domain.dimensions ≤ most }
+    requires rows { All (λ r. FitsTurns statement.now.domain.dimensions r.form) items.now.band.items }
+    requires behind { All (λ i. FitsItem statement.now.domain.dimensions (item_of i)) items.now.behind.items }
+    ensures { IfOk result (λ s. s ≡ set_of (pos size) most statement.now (items_of items.now)) }
+{
+    let layout = match layout_of(statement, items, most) {
+        None => return Err(AllocError),
+        Some(layout) => layout,
+    };
+    let points = points(alloc, layout, size, statement, items)?;
+    let parallel = parallel_place(items);
+    Ok(ScanSet::of(
+        statement.number(),
+        parallel,
+        layout.front,
+        layout.turns,
+        points,
+    ))
+}
+
+/// The larger of two numbers.
+fn larger(first: usize, second: usize) -> usize
+    ensures { result ≡ max first second }
+{
+    if first < second { second } else { first }
+}
+
+/// The greatest number of iterators of a statement.
+fn most_iterators(statements: &[StatementModel]) -> usize
+    ensures { result ≡ greatest statements.now }
+{
+    let mut most = 0;
+    for statement in statements {
+        most = larger(most, statement.domain().dimensions());
+    }
+    most
+}
+
+/// The scan sets of a schedule's statements, in textual order, for tiles of this size. A set's dimensions: the scalars
+/// before the first row, the wave sum, the tile coordinates, all items, the iterators, and zeros where another
+/// statement has more of them. The mark is the first tile coordinate's dimension.
+///
+/// # Errors
+/// `AllocError` alone.
+pub fn tiled(alloc: Global, schedule: &Schedule, size: u64) -> Result<Vec<ScanSet>, AllocError>
+    requires { (0 < size) × (size ≤ 1024) }
+    ensures { IfOk result (λ sets. (s : IsScheduled schedule.now)
+        → sets.items ≡ scan_sets (pos size) s.blocks schedule.now.model) }
+{
+    let statements = schedule.model().statements();
+    let most = most_iterators(statements);
+    let mut sets = Vec::new(alloc);
+    for k in 0..statements.len() {
+        let items = statement(alloc, schedule, k)?;
+        let set = scan_set(alloc, size, most, &statements[k], &items)?;
+        match sets.push(set) {
+            Err(_) => return Err(AllocError),
+            Ok(()) => {}
+        }
+    }
+    Ok(sets)
+}
