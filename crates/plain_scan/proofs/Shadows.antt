@@ -1,0 +1,71 @@
+-- From a set down to its first dimensions.
+use Rattle.std.proofs.Common.{◌≡◌, ℕ, suc, ◌<◌, ℤ, pos, List, [], ◌∷◌, ◌++◌, length, ap, subst, sym, refl, ◌∙◌, arith}
+use Rattle.std.proofs.lemmas.Int.{ints}
+use Rattle.whole_numbers.specs.Affine.{Affine}
+use Rattle.integer_sets.specs.Scanned.{Scanned}
+use Rattle.plain_scan.specs.Sets.{AllZero, AllAtLeast, IsKeyOf}
+use Rattle.fractions.specs.Farkas.{two_rows}
+use Rattle.integer_sets.specs.Constraints.{Constraints}
+use Rattle.integer_sets.specs.Points.{Satisfies}
+use Rattle.plain_scan.specs.Shadows.{IsShadow, Follow}
+use Rattle.plain_scan.proofs.Nodes.{append_one}
+use Rattle.plain_scan.proofs.Rows.{negated}
+use Rattle.plain_scan.proofs.Pieces.{length_one}
+use Rattle.plain_scan.proofs.Nested.{zeros_of, rows_of}
+
+-- the set itself
+whole_same : (xs ys r : List ℤ) (y : ℤ) → length xs ≡ length ys → xs ++ r ≡ ys ++ y ∷ [] → xs ≡ ys
+whole_same [] [] r y l e = refl
+whole_same [] (b ∷ ys) r y l e = absurd (omega arith)
+whole_same (a ∷ xs) [] r y l e = absurd (omega arith)
+whole_same (a ∷ xs) (b ∷ ys) r y l e =
+    let t : xs ++ r ≡ ys ++ y ∷ [] = cc in
+    let h : a ≡ b = cc in
+    cons_same a b xs ys h (whole_same xs ys r y (omega arith) t)
+  where
+    cons_same : (a b : ℤ) (xs ys : List ℤ) → a ≡ b → xs ≡ ys → (a ∷ xs) ≡ (b ∷ ys)
+    cons_same a b xs ys h k = cc
+
+pub whole_shadow : (s : Scanned) → IsShadow s.system.dimensions s s.system
+whole_shadow s params outer r l k =
+    let e = whole_same outer k.values r (pos s.statement) (l ∙ sym k.size) k.is in
+    subst (λ xs. Satisfies s.system (xs ++ params)) (sym e) k.inside
+
+-- one dimension less
+pub shadow_less : (m : ℕ) (s : Scanned) (t u : Constraints) → m < s.system.dimensions → IsShadow (suc m) s t
+    → Follow m t u → IsShadow m s u
+shadow_less m s t u less shadow follow params outer [] l k =
+    absurd (too_short outer k.values (pos s.statement) k.is (let d = k.size in omega (arith, l, d, less)))
+  where
+    length_back : (xs : List ℤ) (x : ℤ) → length (xs ++ x ∷ []) ≡ suc (length xs)
+    length_back xs x = length_one xs x
+
+    length_nil : (xs : List ℤ) → length (xs ++ []) ≡ length xs
+    length_nil [] = refl
+    length_nil (x ∷ xs) = ap suc (length_nil xs)
+
+    too_short : (xs ys : List ℤ) (y : ℤ) → xs ++ [] ≡ ys ++ y ∷ [] → length xs < length ys → ⊥
+    too_short xs ys y e l = let a = ap length e in let b = length_back ys y in let c = length_nil xs in
+        omega (arith, a, b, c, l)
+shadow_less m s t u less shadow follow params outer (x ∷ r) l k =
+    let n = length_one outer x ∙ ap suc l in
+    let h = shadow params (outer ++ x ∷ []) r n (subst (IsKeyOf params s) (sym (append_one outer x r)) k) in
+    follow outer x params l (subst (Satisfies t) (append_one outer x params) h)
+
+-- its rows, and equalities as two rows, are rows that the set implies
+pub two_rows_hold : (es rs : List Affine) (point : List ℤ) → AllZero es point → AllAtLeast rs point
+    → AllAtLeast (two_rows es ++ rs) point
+two_rows_hold [] rs point e h = h
+two_rows_hold (f ∷ es) rs point e h =
+    let z = e.0 in let n = negated f point in
+    (omega (arith, ints, z), (omega (arith, ints, z, n), two_rows_hold es rs point e.1 h))
+
+pub shadow_rows : (m : ℕ) (s : Scanned) (t : Constraints) → IsShadow (suc m) s t
+    → (params outer : List ℤ) → length outer ≡ m → (x : ℤ) (r : List ℤ) → IsKeyOf params s (outer ++ x ∷ r)
+    → AllAtLeast (two_rows t.equalities ++ t.rows) (outer ++ x ∷ params)
+shadow_rows m s t shadow params outer l x r k =
+    let n = length_one outer x ∙ ap suc l in
+    let h = shadow params (outer ++ x ∷ []) r n (subst (IsKeyOf params s) (sym (append_one outer x r)) k) in
+    let p = subst (Satisfies t) (append_one outer x params) h in
+    two_rows_hold t.equalities t.rows (outer ++ x ∷ params) (zeros_of t.equalities (outer ++ x ∷ params) p.0)
+    (rows_of t.rows (outer ++ x ∷ params) p.1)

@@ -1,0 +1,9 @@
+use Rattle.std.proofs.Common.{subst, sym}
+use Rattle.plain_scan.specs.Between.{HasSmallNumbers}
+use Rattle.plain_scan.proofs.Smallness.{narrowed_has_small}
+use Rattle.plain_scan.proofs.bounds.high_bound.Goals as goal
+
+pub aff_of-requires : goal.aff_of-requires
+aff_of-requires c =
+    subst HasSmallNumbers (sym c.in_ok-narrow.ensures)
+    (narrowed_has_small c.args.place c.args.row.now c.requires.small)

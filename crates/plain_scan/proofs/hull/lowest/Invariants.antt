@@ -1,0 +1,12 @@
+use Rattle.std.proofs.Common.{ℕ, ◌<◌, get_or}
+use Rattle.std.specs.Prelude.{◌≤ℤ◌, ◌≤◌, ◌^◌, unsigned_abs}
+use Rattle.plain_scan.specs.declared.outline.Shadow.{Shadow}
+use Rattle.plain_scan.specs.declared.set_outline.Outline.{Outline}
+use Rattle.plain_scan.proofs.hull.lowest.Given as goal
+
+abbrev pub invariant-loop-outline : goal.invariant-loop-outline
+invariant-loop-outline l = record {
+  low : (k : ℕ) (d : Outline) (e : Shadow) → k < l.outline-index
+      → l.low ≤ℤ (get_or (get_or l.outlines k d).shadows.items l.depth e).low;
+  small : unsigned_abs l.low ≤ 2 ^ 40;
+}

@@ -1,0 +1,54 @@
+use Rattle.std.proofs.Common.{rules, ◌∙◌, ◌+◌, ℕ, ◌<◌, ℤ, pos, ◌≤ℤ◌, List, get_or, ap, subst, sym, FitsSigned}
+use Rattle.std.specs.Int.{w128}
+use Rattle.std.proofs.lemmas.Int.{to_z-of_z}
+use Rattle.whole_numbers.specs.Affine.{form_of, value_of}
+use Rattle.affine_forms.specs.Parts.{variables_of}
+use Rattle.fm_projection.specs.Projecting.{projected}
+use Rattle.plain_scan.specs.declared.outline.Shadow.{Shadow}
+use Rattle.plain_scan.specs.declared.set_outline.Outline.{Outline}
+use Rattle.plain_scan.specs.Outlines.{AreRows}
+use Rattle.plain_scan.specs.Hulls.{Hold, HoldsAt, IsAlike}
+use Rattle.plain_scan.proofs.Hulling.{weaker, next_at, own_row}
+use Rattle.plain_scan.proofs.hull.weakest.Goals as goal
+use Rattle.plain_scan.proofs.hull.weakest.Goals.{After-as_slice}
+
+-- the rows of the set's shadow at the dimension
+rows_there : (c : After-as_slice) → AreRows (projected c.args.depth c.outline-item.result.set.now.system)
+    c.as_slice.result.now
+rows_there c =
+    let depth = c.args.depth in
+    let o = c.outline-item.result in
+    let n = variables_of c.args.row.now in
+    let alike : IsAlike depth n o =
+    subst (IsAlike depth n) (sym c.outline-item.is)
+    (c.requires.alike c.loop-outline.outline-index o c.loop-outline-test.true) in
+    subst (AreRows (projected depth o.set.now.system))
+    (sym (c.as_slice.ensures.value ∙ ap (λ (h : Shadow). h.rows.items) c.index.ensures))
+    (o.are.each depth _ alike.inside).rows
+
+pub least_constant-requires-clause-small : goal.least_constant-requires-clause-small
+least_constant-requires-clause-small c = let rows = rows_there (goal.at.least_constant-requires-clause-small c).After-as_slice in λ k d inside. (rows k d inside).small
+
+pub loop-outline-preserved : goal.loop-outline-preserved
+loop-outline-preserved c =
+    let depth = c.args.depth in
+    let cs = c.args.row.now.coefficients in
+    let o = c.outline-item.result in
+    let i = c.loop-outline.outline-index in
+    let w = c.greater-worst.result in
+    let inv = c.loop-outline.invariant in
+    let fits : FitsSigned w128 w = search rules in
+    let fits2 : FitsSigned w128 c.in-Some.constant = search rules in
+    let second : c.in-Some.constant ≤ℤ w = simp to_z-of_z at c.greater-worst.ensures.second in
+    let rows = rows_there (goal.at.loop-outline-preserved c).After-as_slice in
+    let own : (point : List ℤ) → Hold c.as_slice.result.now point
+    → pos 0 ≤ℤ value_of (form_of cs c.in-Some.constant) point =
+    subst (λ (xs : List ℤ). (point : List ℤ) → Hold c.as_slice.result.now point
+    → pos 0 ≤ℤ value_of (form_of xs c.in-Some.constant) point) c.coefficients.ensures c.in-Some.ensures.holds in
+    let all : (k : ℕ) (d : Outline) → k < i + 1 → HoldsAt depth (form_of cs w) (get_or c.args.outlines.now k d) =
+    next_at (HoldsAt depth (form_of cs w)) c.args.outlines.now i o c.outline-item.is c.loop-outline-test.true
+    (λ k d l. weaker depth cs _ w (get_or c.args.outlines.now k d) c.greater-worst.ensures.first (inv.holds k d l))
+    (weaker depth cs c.in-Some.constant w o second
+    (own_row depth cs c.in-Some.constant o c.as_slice.result.now rows own)) in
+    let small = simp to_z-of_z at c.greater-worst.ensures.small in
+    record { holds = simp to_z-of_z all; small = simp to_z-of_z (small inv.small c.in-Some.ensures.small) }

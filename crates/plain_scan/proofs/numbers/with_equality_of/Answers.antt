@@ -1,0 +1,14 @@
+use Rattle.std.proofs.Common.{rules, FitsSigned}
+use Rattle.std.specs.Int.{w128}
+use Rattle.std.proofs.lemmas.Int.{to_z-of_z}
+use Rattle.plain_scan.proofs.Values.{equality_parts}
+use Rattle.plain_scan.proofs.numbers.with_equality_of.Goals as goal
+
+pub returns-clause-between : goal.returns-clause-between
+returns-clause-between c x p b =
+    let a = c.coefficient.result in
+    let k = c.constant.result in
+    let fits : FitsSigned w128 a = search rules in
+    let fits2 : FitsSigned w128 k = search rules in
+    c.with_equality.ensures.between x
+    (simp to_z-of_z (equality_parts c.args.form.now a k x c.requires c.coefficient.ensures c.constant.ensures p)) b

@@ -1,0 +1,12 @@
+pub mod Sets
+pub mod Rows
+pub mod Pieces
+pub mod Sorting
+pub mod Shadows
+pub mod Shape
+pub mod Between
+pub mod Outlines
+pub mod Hulls
+pub mod Scanning
+pub mod Leaving
+pub mod Giving

@@ -1,0 +1,50 @@
+-- What a scan asks of its sets, and why it stops.
+use Rattle.std.specs.Prelude.{◌≡◌, ℕ, ◌+◌, ◌<◌, ◌≤◌, ◌^◌, List, [], ◌∷◌, Option, None, All, ⊤}
+use Rattle.integer_sets.specs.Scanned.{Scanned, iterators_at}
+use Rattle.scop_syntax.specs.Members.{In}
+use Rattle.fm_projection.specs.declared.stop.FmStop.{FmStop}
+use Rattle.fm_projection.specs.declared.stop.FmStop.TheVariants as fm
+use Rattle.fm_projection.specs.Alone.{IsBounded}
+use Rattle.loop_tree.specs.Walk.{Visit}
+use Rattle.plain_scan.specs.Outlines.{StopsSet}
+
+-- how many dimensions sets have, whose number is that of the first
+abbrev pub dimensions_of : List Scanned → ℕ
+dimensions_of [] = 0
+dimensions_of (s ∷ sets) = s.system.dimensions
+
+-- how many parameters
+abbrev pub parameters_of : List Scanned → ℕ
+parameters_of [] = 0
+parameters_of (s ∷ sets) = s.system.parameters
+
+-- the dimension that they mark
+abbrev pub mark_of : List Scanned → Option ℕ
+mark_of [] = None
+mark_of (s ∷ sets) = s.parallel
+
+-- a set of n dimensions and p parameters, not too many, that marks one place and is bounded
+pub record IsScanned (n p : ℕ) (mark : Option ℕ) (s : Scanned) : Type 0 where
+  pub dimensions : s.system.dimensions ≡ n
+  pub parameters : s.system.parameters ≡ p
+  pub few : n + p < 2 ^ 32
+  pub marks : s.parallel ≡ mark
+  pub iterators : s.first + s.iterators ≤ s.system.dimensions
+  pub bounded : IsBounded s.system
+
+-- sets of one shape that mark one place, and are bounded
+abbrev pub AreScanned : List Scanned → Type 0
+AreScanned sets = All (IsScanned (dimensions_of sets) (parameters_of sets) (mark_of sets)) sets
+
+-- each visit is one of the statement of a set, and gives the iterators of its point
+abbrev pub GiveIterators : List Scanned → List Visit → Type 0
+GiveIterators sets visits =
+    (v : Visit) → In v visits
+    → (s : Scanned) × In s sets × (s.statement ≡ v.number) × (v.turns ≡ iterators_at s v.values)
+
+-- one of the sets stops so; want of memory is free
+abbrev pub StopsScan : List Scanned → FmStop → Type 0
+StopsScan sets (fm.Wide w) = (s : Scanned) × In s sets × StopsSet s.system (fm.Wide w)
+StopsScan sets (fm.Crowded pairs) = (s : Scanned) × In s sets × StopsSet s.system (fm.Crowded pairs)
+StopsScan sets (fm.Large number) = (s : Scanned) × In s sets × StopsSet s.system (fm.Large number)
+StopsScan sets fm.NoMemory = ⊤

@@ -1,0 +1,180 @@
+//! The projections of a set, dimension by dimension: rows that hold there, and numbers between which the dimension
+//! lies.
+
+ghost use Rattle.std.specs.Prelude.{◌≡◌, ◌<◌, ◌^◌, ◌++◌, [], ◌∷◌, IfErr};
+ghost use Rattle.std.specs.Prelude.{IfOk, MatchOption, None, OnOk, IfSome, Ok, Err};
+ghost use Rattle.affine_forms.specs.Parts.{variables_of};
+ghost use Rattle.integer_sets.specs.Constraints.{Constraints, variables_in};
+ghost use Rattle.plain_scan.specs.Between.{HasSmallNumbers};
+ghost use Rattle.fm_projection.specs.Alone.{last_alone};
+ghost use Rattle.fm_projection.specs.declared.stop.FmStop.TheVariants.{Large};
+ghost use Rattle.plain_scan.specs.Between.{AreNumbersOf, IsLargeOf};
+ghost use Rattle.plain_scan.specs.Outlines.{AreRows, AreShadows, HasSmallConstraints};
+ghost use Rattle.plain_scan.specs.Outlines.{IsEquality, IsOpen, IsOpenSomewhere};
+ghost use Rattle.plain_scan.specs.Outlines.{IsRow, IsShadowOf, StopsSet, StopsShadow};
+
+use crate::numbers::{Numbers, has_small_numbers, large_among, numbers_alone};
+use affine_forms::{Form, FormStop};
+use fm_projection::{FmStop, last_alone, without};
+use integer_sets::{ScanSet, System};
+use std::alloc::{AllocError, Global};
+
+/// Rows of small numbers of a projection, and two numbers between which its last dimension lies.
+#[derive(Debug, Drop)]
+pub struct Shadow {
+    pub rows: Vec<Form>,
+    pub low: i128,
+    pub high: i128,
+}
+
+/// Appends a copy of the form.
+fn push_copy(out: &mut Vec<Form>, form: &Form) -> Result<(), AllocError>
+    ensures { OnOk result (out.new.items ≡ out.old.items ++ form.now ∷ []) }
+{
+    match form.copy() {
+        Err(_) => Err(AllocError),
+        Ok(copy) => {
+            out.push(copy)?;
+            Ok(())
+        }
+    }
+}
+
+/// Appends a copy of the form where its numbers are small.
+fn push_small(out: &mut Vec<Form>, form: &Form) -> Result<(), AllocError>
+    ensures { OnOk result ((t : Constraints) → (HasSmallNumbers form.now → IsRow t form.now)
+        → AreRows t out.old.items → AreRows t out.new.items) }
+{
+    if has_small_numbers(form) {
+        push_copy(out, form)
+    } else {
+        Ok(())
+    }
+}
+
+/// Appends an equality as two rows; one whose numbers are not small is left out.
+fn push_both(out: &mut Vec<Form>, form: &Form) -> Result<(), AllocError>
+    ensures { OnOk result ((t : Constraints) → IsEquality t form.now → AreRows t out.old.items
+        → AreRows t out.new.items) }
+{
+    push_small(out, form)?;
+    match form.scaled(-1) {
+        Ok(other) => push_small(out, &other),
+        Err(FormStop::Wide(_)) => Ok(()),
+        Err(FormStop::NoMemory) => Err(AllocError),
+    }
+}
+
+/// The rows of a system, and its equalities as two rows, as far as their numbers are small.
+fn rows_of(alloc: Global, system: &System) -> Result<Vec<Form>, AllocError>
+    ensures { IfOk result (λ v. AreRows system.now v.items) }
+{
+    let mut out = Vec::new(alloc);
+    for form in system.equalities() {
+        push_both(&mut out, form)?;
+    }
+    for form in system.rows() {
+        push_small(&mut out, form)?;
+    }
+    Ok(out)
+}
+
+/// A number of a system's constraints that is beyond 2^40.
+fn large_of(system: &System) -> Option<i128>
+    ensures none { result ≡ None → HasSmallConstraints system.now }
+    ensures some { IfSome result (IsLargeOf system.now) }
+{
+    match large_among(system.equalities()) {
+        Some(number) => Some(number),
+        None => large_among(system.rows()),
+    }
+}
+
+/// No shadow: since a number is too large, or else none is there.
+fn without_shadow(large: Option<i128>) -> Result<Option<Shadow>, FmStop>
+    ensures { MatchOption large (result ≡ Ok None) (λ number. result ≡ Err (Large number)) }
+{
+    match large {
+        Some(number) => Err(FmStop::Large { number }),
+        None => Ok(None),
+    }
+}
+
+/// The shadow of a projection whose last dimension lies between these numbers.
+fn shadow_between(
+    alloc: Global,
+    projection: &System,
+    numbers: Numbers,
+) -> Result<Option<Shadow>, FmStop>
+    requires { AreNumbersOf (last_alone projection.now) numbers }
+    ensures found { IfOk result (λ found. MatchOption found (IsOpen projection.now) (IsShadowOf projection.now)) }
+    ensures stops { IfErr result (StopsShadow projection.now) }
+{
+    match numbers.low {
+        None => without_shadow(numbers.large),
+        Some(low) => match numbers.high {
+            None => without_shadow(numbers.large),
+            Some(high) => match rows_of(alloc, projection) {
+                Err(_) => Err(FmStop::NoMemory),
+                Ok(rows) => Ok(Some(Shadow { rows, low, high })),
+            },
+        },
+    }
+}
+
+/// The shadow of a projection; None where its last dimension has no bound from one side.
+fn shadow_of(alloc: Global, projection: &System) -> Result<Option<Shadow>, FmStop>
+    requires some { 0 < projection.now.dimensions }
+    requires few { variables_in projection.now < 2 ^ 32 }
+    ensures found { IfOk result (λ found. MatchOption found (IsOpen projection.now) (IsShadowOf projection.now)) }
+    ensures stops { IfErr result (StopsShadow projection.now) }
+{
+    match last_alone(alloc, projection) {
+        Err(stop) => Err(stop),
+        Ok(alone) => shadow_between(alloc, projection, numbers_alone(&alone)),
+    }
+}
+
+/// The shadows of a set's projections, that on all dimensions first; None where a dimension has no bound from one side.
+///
+/// # Errors
+/// `Wide` or `Crowded` of an elimination of a projection's last dimension, or of all its others and of the parameters;
+/// `Large` with a number beyond 2^40 of a constraint of the set or of what is left of a last dimension alone;
+/// `NoMemory`.
+pub fn outline_of(alloc: Global, set: &ScanSet) -> Result<Option<Vec<Shadow>>, FmStop>
+    requires few { variables_in set.now.system < 2 ^ 32 }
+    ensures found { IfOk result (λ found. MatchOption found (IsOpenSomewhere set.now.system)
+        (λ v. AreShadows set.now.system v.items)) }
+    ensures stops { IfErr result (StopsSet set.now.system) }
+{
+    let system = set.system();
+    let mut left = match System::of(
+        alloc,
+        system.dimensions(),
+        system.parameters(),
+        system.equalities(),
+        system.rows(),
+    ) {
+        Err(_) => return Err(FmStop::NoMemory),
+        Ok(copy) => copy,
+    };
+    let mut shadows = Vec::new(alloc);
+    while left.dimensions() > 0 {
+        match shadow_of(alloc, &left) {
+            Err(stop) => return Err(stop),
+            Ok(None) => return Ok(None),
+            Ok(Some(shadow)) => match shadows.push(shadow) {
+                Err(_) => return Err(FmStop::NoMemory),
+                Ok(()) => {}
+            },
+        }
+        match without(alloc, &left, left.dimensions() - 1) {
+            Err(stop) => return Err(stop),
+            Ok(next) => left = next,
+        }
+    }
+    match large_of(system) {
+        Some(number) => Err(FmStop::Large { number }),
+        None => Ok(Some(shadows)),
+    }
+}
