@@ -1,0 +1,11 @@
+use Rattle.std.proofs.Common.{rules, ◌+◌, ◌<◌, arith}
+use Rattle.loop_tree.specs.View.{nodes_of, tree_of}
+use Rattle.c_printer.proofs.Weights.{weight, weight_all, node_weight}
+use Rattle.c_printer.proofs.nodes.+printing.Goals as goal
+
+pub put_nodes-put_node-requires : goal.put_nodes-put_node-requires
+put_nodes-put_node-requires t c =
+    let nodes = c.args.nodes.now in
+    let heavy = node_weight nodes c.loop-node.node-index c.node-item.result c.node-item.is c.loop-node-test.true in
+    let less : weight (tree_of c.node-item.result) < weight_all (nodes_of nodes) + 1 = omega arith in
+    search rules

@@ -1,0 +1,90 @@
+-- A small kernel, a loop tree for it with each kind of node, and its text.
+use Rattle.std.specs.Prelude.{ℕ, ℤ, true, false, pos, negsuc, List, [], ◌∷◌, ◌++◌, codes}
+use Rattle.whole_numbers.specs.Affine.{Affine, form_of}
+use Rattle.scop_lexer.specs.Bytes.{Text}
+use Rattle.scop_syntax.specs.Tree as source
+use Rattle.scop_syntax.specs.Tree.{Program, Access, Head, Expression}
+use Rattle.loop_tree.specs.Tree.{Bound, only, besides, Test, at_least, equal, multiple, loop, guard, instance}
+use Rattle.loop_tree.specs.Tree.{Trees, none, more}
+
+-- a cell of an array
+abbrev cell : ℕ → List Affine → Access
+cell array subscripts = record { array = array; subscripts = subscripts }
+
+-- a form over a divisor
+abbrev bound : Affine → ℤ → Bound
+bound form divisor = record { form = form; divisor = divisor }
+
+-- `(~-A[N - i] * 5 + (uint64_t)(2 * i - 3)) << 2`
+abbrev value : Expression
+value =
+    source.shifted_left (source.binary source.plus
+    (source.binary source.times (source.complemented (source.negated
+    (source.read (cell 0 (form_of (pos 1 ∷ negsuc 0 ∷ []) (pos 0) ∷ []))))) (source.constant 5))
+    (source.cast (source.affine (form_of (pos 0 ∷ pos 2 ∷ []) (negsuc 2))))) 2
+
+-- `for (int64_t i = N; i >= 0; i -= 2)`
+abbrev head : Head
+head =
+    record {
+      iterator = codes "i";
+      first = form_of (pos 1 ∷ []) (pos 0);
+      stride = negsuc 1;
+      condition = form_of (pos 0 ∷ pos 1 ∷ []) (pos 0);
+    }
+
+-- `void k(int64_t N, uint64_t A[N + 1])`, whose loop's body is `A[i] += ..`
+abbrev pub kernel : Program
+kernel =
+    record {
+      name = codes "k";
+      parameters = codes "N" ∷ [];
+      arrays =
+          record {
+            name = codes "A";
+            parameters_before = 1;
+            extents = form_of (pos 1 ∷ []) (pos 1) ∷ [];
+          } ∷ [];
+      body = source.more (source.loop head (source.more (source.statement (record {
+        place = cell 0 (form_of (pos 0 ∷ pos 1 ∷ []) (pos 0) ∷ []);
+        right = source.combined source.plus value;
+      })) source.none)) source.none;
+    }
+
+-- the tests of the tree's guard, within two loops
+abbrev tests : List Test
+tests =
+    at_least (form_of (negsuc 1 ∷ pos 0 ∷ pos 1 ∷ []) (negsuc 0))
+    ∷ multiple (form_of (pos 1 ∷ pos 1 ∷ pos 0 ∷ []) (pos 0)) (pos 3)
+    ∷ equal (form_of (pos 0 ∷ pos 0 ∷ pos 0 ∷ []) (pos 0)) ∷ []
+
+-- forms of the tree speak of loops' values, then of N; the turn is `pp_2 - 1`
+abbrev pub tree : Trees
+tree =
+    more (loop true
+    (besides (bound (form_of (negsuc 0 ∷ []) (pos 3)) (pos 2)) (only (bound (form_of (pos 0 ∷ []) (pos 0)) (pos 1))))
+    (only (bound (form_of (pos 1 ∷ []) (pos 0)) (pos 32)))
+    (more (loop false (only (bound (form_of (pos 32 ∷ pos 0 ∷ []) (pos 0)) (pos 1)))
+    (besides (bound (form_of (pos 32 ∷ pos 0 ∷ []) (pos 31)) (pos 1))
+    (only (bound (form_of (pos 0 ∷ pos 1 ∷ []) (pos 0)) (pos 1))))
+    (more (guard tests
+    (more (instance 0 (form_of (pos 0 ∷ pos 1 ∷ pos 0 ∷ []) (negsuc 0) ∷ [])) none)) none)) none)) none
+
+-- the text of the tree
+abbrev pub text : Text
+text = codes "#include <stdint.h>\n"
+    ++ codes "static int64_t pp_floord(int64_t n, int64_t d) { return n < 0 ? -((-n + d - 1) / d) : n / d; }\n"
+    ++ codes "static int64_t pp_ceild(int64_t n, int64_t d) { return n < 0 ? -((-n) / d) : (n + d - 1) / d; }\n"
+    ++ codes "static int64_t pp_max(int64_t a, int64_t b) { return a > b ? a : b; }\n"
+    ++ codes "static int64_t pp_min(int64_t a, int64_t b) { return a < b ? a : b; }\n"
+    ++ codes "void k(int64_t N, uint64_t A[N + 1]) {\n"
+    ++ codes "  #pragma omp parallel for\n"
+    ++ codes "  for (int64_t pp_1 = pp_max(pp_ceild(-N + 3, 2), 0); pp_1 <= pp_floord(N, 32); pp_1++) {\n"
+    ++ codes "    for (int64_t pp_2 = 32*pp_1; pp_2 <= pp_min(32*pp_1 + 31, N); pp_2++) {\n"
+    ++ codes "      if (N - 2*pp_1 - 1 >= 0 && pp_1 + pp_2 - 3*pp_floord(pp_1 + pp_2, 3) == 0 && 0 == 0) {\n"
+    ++ codes "        { /* S1 */ const int64_t i = N - 2*pp_2 + 2; "
+    ++ codes "A[i] += ((((~(-A[N - i])) * 5ULL) + (uint64_t)(uint64_t)(2*i - 3)) << 2ULL); }\n"
+    ++ codes "      }\n"
+    ++ codes "    }\n"
+    ++ codes "  }\n"
+    ++ codes "}\n"

@@ -1,0 +1,11 @@
+pub mod Forms
+pub mod Standings
+pub mod Statements
+pub mod Nodes
+pub mod Gathered
+pub mod Reading
+pub mod Printable
+pub mod Naming
+pub mod Examples
+pub mod Iterators
+pub mod Divisions

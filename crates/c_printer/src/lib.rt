@@ -1,0 +1,28 @@
+//! Loop trees as C text: the program that runs a kernel's statements in the order of a loop tree, each loop and guard
+//! on a line of its own, parallel loops marked for OpenMP. Promises exactly that text.
+//! Abstract syntax trees of a polyhedral code generator, printed: Bastoul, "Code generation in the polyhedral model is
+//! easier than you think" (PACT 2004), section 4.
+#![tactic(auto)]
+
+mod bounds;
+mod examples;
+mod forms;
+mod header;
+mod instances;
+mod meaning_laws;
+mod nodes;
+mod standings;
+mod text_laws;
+mod texts;
+mod values;
+
+pub use examples::a_tree_and_its_text;
+pub use meaning_laws::{
+    printed_divisions_are_those_of_the_tree, printed_iterators_are_the_source_s,
+    the_functions_of_a_text_round_and_choose,
+};
+pub use nodes::print;
+pub use text_laws::{
+    kernels_tell_their_names_apart, printed_trees_are_read_back, texts_are_of_one_tree,
+    unread_texts_are_of_no_tree,
+};

@@ -1,0 +1,282 @@
+//! Puts the nodes of a loop tree, and prints a whole one.
+
+ghost use Rattle.std.specs.Prelude.{◌≡◌, ◌++◌, ◌∷◌, [], suc, true, if◌then◌else◌, codes, map, IfOk, OnOk};
+ghost use Rattle.loop_tree.specs.Tree.{guard, loop};
+ghost use Rattle.loop_tree.specs.View.{bounds_in, nodes_of, test_of, tree_of, trees_in};
+ghost use Rattle.scop_syntax.specs.View.{program_of};
+ghost use Rattle.c_printer.specs.Forms.{loop_name, names_in};
+ghost use Rattle.c_printer.specs.Gathered.{standing_of};
+ghost use Rattle.c_printer.specs.Nodes.{closing_text, head_text, node_text, nodes_text, pragma_text, tests_text};
+ghost use Rattle.c_printer.specs.Nodes.{text_of};
+ghost use Rattle.c_printer.specs.Standings.{standings_of};
+ghost use Rattle.c_printer.specs.Statements.{between};
+
+use crate::bounds::{put_lower, put_tests, put_upper};
+use crate::header::put_front;
+use crate::instances::put_instance;
+use crate::standings::{Standing, standings_of};
+use crate::texts::{copies, name_of_loop, push_name, put_between, put_repeated};
+use form_text::put_bytes;
+use loop_tree::{Guard, Loop, Node, Tree};
+use scop_syntax::tree::{Kernel, Name};
+use std::alloc::{AllocError, Global};
+
+/// Where nodes stand: the names that their forms speak of, the level of indentation, and how many loops are round them.
+#[derive(Debug, Drop)]
+struct Place {
+    names: Vec<Name>,
+    level: usize,
+    loops: usize,
+}
+
+/// Puts a closing brace on its line.
+#[tactic(auto, using(crate::proofs::Putting::putting), unfolding(crate::specs::Nodes::closing_text))]
+fn put_closing(out: &mut Vec<u8>, level: usize) -> Result<(), AllocError>
+    ensures { OnOk result (out.new.items ≡ out.old.items ++ closing_text level) }
+{
+    put_repeated(out, b"  ", level)?;
+    put_bytes(out, b"}\n")
+}
+
+/// Puts the line in front of a parallel loop, and that loop's indentation.
+#[tactic(auto, using(crate::proofs::Putting::putting), unfolding(crate::specs::Nodes::pragma_text))]
+fn put_pragma(out: &mut Vec<u8>, level: usize) -> Result<(), AllocError>
+    ensures { OnOk result (out.new.items ≡ out.old.items ++ pragma_text level) }
+{
+    put_bytes(out, b"#pragma omp parallel for\n")?;
+    put_repeated(out, b"  ", level)
+}
+
+/// Puts what stands in front of a loop, if it is parallel.
+fn put_mark(out: &mut Vec<u8>, parallel: bool, level: usize) -> Result<(), AllocError>
+    ensures { OnOk result (out.new.items ≡ out.old.items ++ (if parallel then pragma_text level else [])) }
+{
+    if parallel {
+        return put_pragma(out, level);
+    }
+    Ok(())
+}
+
+/// Puts the line of a loop with this iterator behind its indentation.
+fn put_head(
+    alloc: Global,
+    out: &mut Vec<u8>,
+    name: &[u8],
+    names: &[Name],
+    loops: usize,
+    head: &Loop,
+) -> Result<(), AllocError>
+    ensures { OnOk result (out.new.items ≡ out.old.items
+        ++ head_text name.now (map (λ n. n.items) names.now) loops (bounds_in head.now.lower)
+        (bounds_in head.now.upper)) }
+{
+    put_between(out, b"for (int64_t ", name, b" = ")?;
+    put_lower(alloc, out, names, loops, &head.lower)?;
+    put_between(out, b"; ", name, b" <= ")?;
+    put_upper(alloc, out, names, loops, &head.upper)?;
+    put_between(out, b"; ", name, b"++) {\n")
+}
+
+/// Puts the line of a loop that stands at a place.
+fn put_head_at(
+    alloc: Global,
+    out: &mut Vec<u8>,
+    place: &Place,
+    head: &Loop,
+) -> Result<(), AllocError>
+    ensures { OnOk result (out.new.items ≡ out.old.items
+        ++ head_text (loop_name place.now.loops) (map (λ n. n.items) place.now.names.items) place.now.loops
+        (bounds_in head.now.lower) (bounds_in head.now.upper)) }
+{
+    let name = name_of_loop(alloc, place.loops)?;
+    put_head(alloc, out, &name, &place.names, place.loops, head)
+}
+
+/// The place within a guard.
+fn within_guard(alloc: Global, place: &Place) -> Result<Place, AllocError>
+    ensures names { IfOk result (λ p. map (λ n. n.items) p.names.items ≡ map (λ n. n.items) place.now.names.items) }
+    ensures level { IfOk result (λ p. p.level ≡ suc place.now.level) }
+    ensures loops { IfOk result (λ p. p.loops ≡ place.now.loops) }
+{
+    let names = copies(alloc, &place.names)?;
+    // no memory holds so deep a tree
+    match place.level.checked_add(1) {
+        Some(level) => Ok(Place {
+            names,
+            level,
+            loops: place.loops,
+        }),
+        None => Err(AllocError),
+    }
+}
+
+/// The place within a loop.
+fn within_loop(alloc: Global, place: &Place) -> Result<Place, AllocError>
+    ensures names { IfOk result (λ p. map (λ n. n.items) p.names.items
+        ≡ map (λ n. n.items) place.now.names.items ++ loop_name place.now.loops ∷ []) }
+    ensures level { IfOk result (λ p. p.level ≡ suc place.now.level) }
+    ensures loops { IfOk result (λ p. p.loops ≡ suc place.now.loops) }
+{
+    let mut inner = within_guard(alloc, place)?;
+    let name = name_of_loop(alloc, place.loops)?;
+    push_name(alloc, &mut inner.names, &name)?;
+    match place.loops.checked_add(1) {
+        Some(loops) => {
+            inner.loops = loops;
+            Ok(inner)
+        }
+        None => Err(AllocError),
+    }
+}
+
+/// Puts nodes, one after another.
+#[cycle(printing)]
+#[tactic(auto, using(crate::proofs::Putting::putting))]
+fn put_nodes(
+    nodes: &[Node],
+    alloc: Global,
+    out: &mut Vec<u8>,
+    kernel: &Kernel,
+    statements: &[Standing],
+    place: &Place,
+) -> Result<(), AllocError>
+    requires statements { map standing_of statements.now ≡ standings_of (program_of kernel.now) }
+    requires names { map (λ n. n.items) place.now.names.items
+        ≡ names_in (program_of kernel.now).parameters place.now.loops }
+    ensures { OnOk result (out.new.items ≡ out.old.items
+        ++ nodes_text (program_of kernel.now) place.now.level place.now.loops (nodes_of nodes.now)) }
+{
+    for node in nodes {
+        match put_repeated(out, b"  ", place.level) {
+            Ok(()) => {}
+            Err(_) => return Err(AllocError),
+        }
+        match put_node(node, alloc, out, kernel, statements, place) {
+            Ok(()) => {}
+            Err(_) => return Err(AllocError),
+        }
+    }
+    Ok(())
+}
+
+/// Puts a node behind its indentation.
+#[cycle(printing)]
+#[tactic(auto, using(crate::proofs::Putting::putting))]
+fn put_node(
+    node: &Node,
+    alloc: Global,
+    out: &mut Vec<u8>,
+    kernel: &Kernel,
+    statements: &[Standing],
+    place: &Place,
+) -> Result<(), AllocError>
+    requires statements { map standing_of statements.now ≡ standings_of (program_of kernel.now) }
+    requires names { map (λ n. n.items) place.now.names.items
+        ≡ names_in (program_of kernel.now).parameters place.now.loops }
+    ensures { OnOk result (out.new.items ≡ out.old.items
+        ++ node_text (program_of kernel.now) place.now.level place.now.loops (tree_of node.now)) }
+{
+    match node {
+        Node::Loop(head, body) => put_loop(body, alloc, out, kernel, statements, place, head),
+        Node::Guard(guarded, body) => {
+            put_guard(body, alloc, out, kernel, statements, place, guarded)
+        }
+        Node::Instance(leaf) => put_instance(
+            alloc,
+            out,
+            kernel,
+            statements,
+            &place.names,
+            place.loops,
+            leaf,
+        ),
+    }
+}
+
+/// Puts a loop.
+#[cycle(printing)]
+#[tactic(auto, using(crate::proofs::Putting::putting))]
+fn put_loop(
+    body: &[Node],
+    alloc: Global,
+    out: &mut Vec<u8>,
+    kernel: &Kernel,
+    statements: &[Standing],
+    place: &Place,
+    head: &Loop,
+) -> Result<(), AllocError>
+    requires statements { map standing_of statements.now ≡ standings_of (program_of kernel.now) }
+    requires names { map (λ n. n.items) place.now.names.items
+        ≡ names_in (program_of kernel.now).parameters place.now.loops }
+    ensures { OnOk result (out.new.items ≡ out.old.items ++ node_text (program_of kernel.now) place.now.level
+        place.now.loops (loop head.now.parallel (bounds_in head.now.lower) (bounds_in head.now.upper)
+        (nodes_of body.now))) }
+{
+    put_mark(out, head.parallel, place.level)?;
+    put_head_at(alloc, out, place, head)?;
+    let inner = within_loop(alloc, place)?;
+    put_nodes(body, alloc, out, kernel, statements, &inner)?;
+    put_closing(out, place.level)
+}
+
+/// Puts a guard.
+#[cycle(printing)]
+#[tactic(auto, using(crate::proofs::Putting::putting))]
+fn put_guard(
+    body: &[Node],
+    alloc: Global,
+    out: &mut Vec<u8>,
+    kernel: &Kernel,
+    statements: &[Standing],
+    place: &Place,
+    guarded: &Guard,
+) -> Result<(), AllocError>
+    requires statements { map standing_of statements.now ≡ standings_of (program_of kernel.now) }
+    requires names { map (λ n. n.items) place.now.names.items
+        ≡ names_in (program_of kernel.now).parameters place.now.loops }
+    ensures { OnOk result (out.new.items ≡ out.old.items ++ node_text (program_of kernel.now) place.now.level
+        place.now.loops (guard (map test_of guarded.now.tests.items) (nodes_of body.now))) }
+{
+    put_condition(alloc, out, place, guarded)?;
+    let inner = within_guard(alloc, place)?;
+    put_nodes(body, alloc, out, kernel, statements, &inner)?;
+    put_closing(out, place.level)
+}
+
+/// Puts the line of a guard behind its indentation.
+#[tactic(auto, using(crate::proofs::Putting::putting), unfolding(crate::specs::Statements::between))]
+fn put_condition(
+    alloc: Global,
+    out: &mut Vec<u8>,
+    place: &Place,
+    guarded: &Guard,
+) -> Result<(), AllocError>
+    ensures { OnOk result (out.new.items ≡ out.old.items ++ between (codes "if (")
+        (tests_text true (map (λ n. n.items) place.now.names.items) place.now.loops
+        (map test_of guarded.now.tests.items)) (codes ") {\n")) }
+{
+    put_bytes(out, b"if (")?;
+    put_tests(alloc, out, &place.names, place.loops, &guarded.tests)?;
+    put_bytes(out, b") {\n")
+}
+
+/// The text of a kernel's loop tree: a C function that runs the kernel's statements in the order of the tree.
+///
+/// # Errors
+/// `AllocError` alone.
+#[tactic(auto, using(crate::proofs::Putting::putting))]
+pub fn print(alloc: Global, kernel: &Kernel, tree: &Tree) -> Result<Vec<u8>, AllocError>
+    ensures { IfOk result (λ text. text.items ≡ text_of (program_of kernel.now) (trees_in tree.now)) }
+{
+    let statements = standings_of(alloc, kernel)?;
+    let place = Place {
+        names: copies(alloc, &kernel.parameters)?,
+        level: 1,
+        loops: 0,
+    };
+    let mut out = Vec::new(alloc);
+    put_front(&mut out, kernel)?;
+    put_nodes(&tree.nodes, alloc, &mut out, kernel, &statements, &place)?;
+    put_bytes(&mut out, b"}\n")?;
+    Ok(out)
+}
