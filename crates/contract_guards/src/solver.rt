@@ -1,5 +1,6 @@
 //! Callers of the solver.
-ghost use Rattle.std.specs.Prelude.{◌≡◌, ◌+◌, ◌≤◌, ◌++◌, [], ℕ, ℤ, List, Ok, Err, IfOk, All, true, false, length};
+ghost use Rattle.std.specs.Prelude.{◌≡◌, ◌+◌, ◌≤◌, ◌++◌, [], ℕ, ℤ, List, None, Ok, Err, IfOk, All, true, false};
+ghost use Rattle.std.specs.Prelude.{length};
 ghost use Rattle.std.specs.Option.{ForSome, IfNone};
 ghost use Rattle.whole_numbers.specs.Lists.{NotNegative};
 ghost use Rattle.affine_forms.specs.Parts.{variables_of};
@@ -12,11 +13,12 @@ ghost use Rattle.quast_trees.specs.Value.{value};
 ghost use Rattle.tableau_rows.specs.Problem.{IsEmpty, IsLexmin, problem_of, row_values};
 ghost use Rattle.lexmin_runs.specs.Emptiness.{IsBoundedPoint};
 ghost use Rattle.checked_tableau.specs.declared.problem.Problem.{Problem};
+ghost use Rattle.pip_solver.specs.Minimum.{IsTaken, held};
 ghost use Rattle.pip_solver.specs.declared.stop.Stop.TheVariants.{Spent};
 
 use checked_tableau::Problem;
 use integer_sets::System;
-use pip_solver::{Solution, Stop, is_empty, least_point, lexmin, solve};
+use pip_solver::{Solution, Stop, is_empty, least_point, least_point_in, lexmin, solve};
 use quast_trees::Quast;
 use std::alloc::Global;
 
@@ -84,4 +86,19 @@ pub fn has_no_point(alloc: Global, system: &System, budget: u64) -> Result<bool,
         × Satisfies system.now (x ++ p) }
 {
     is_empty(alloc, system, budget)
+}
+
+/// The least point of a system without parameters: who spends the budget has made all its moves, by `run` of
+/// `least_point_in`; without one there is none, by `minimum`.
+pub fn minimum_of_system(
+    alloc: Global,
+    system: &System,
+    budget: u64,
+) -> Result<Option<Vec<i128>>, Stop>
+    requires { system.now.parameters ≡ 0 }
+    ensures run { (posed : Problem) (moves : ℕ) → result ≡ Err (Spent posed moves) → moves ≡ budget }
+    ensures minimum { IfOk result (λ found. held found ≡ None
+        → (xs : List ℤ) → length xs ≡ system.now.dimensions → IsTaken system.now xs → ⊥) }
+{
+    least_point_in(alloc, system, budget)
 }

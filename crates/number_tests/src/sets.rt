@@ -71,13 +71,10 @@ fn intersections(rt: HostRuntime) {
 #[test]
 fn scan_sets(rt: HostRuntime) -> Result<(), Fail> {
     let system = system(rt.alloc(), 2, 1, &[], &[])?;
-    let set = ScanSet {
-        statement: 4,
-        dimensions: 2,
-        parallel: Some(1),
-        system,
-    };
-    assert!(rt; set.system.dimensions() == set.dimensions);
-    assert!(rt; set.system.parameters() == 1);
+    let set = ScanSet::of(4, Some(1), 0, 2, system);
+    assert!(rt; set.statement() == 4);
+    assert!(rt; set.parallel() == Some(1));
+    assert!(rt; set.first() + set.iterators() == set.system().dimensions());
+    assert!(rt; set.system().parameters() == 1);
     Ok(())
 }

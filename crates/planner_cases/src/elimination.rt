@@ -31,6 +31,7 @@ fn print_answer<R: Print + AllocGlobal>(rt: &R, system: &System, variable: usize
     match eliminate(rt.alloc(), system, variable) {
         Err(FmStop::Wide(_)) => println!(rt; "wide"),
         Err(FmStop::Crowded { pairs }) => println!(rt; "crowded {pairs}"),
+        Err(FmStop::Large { number }) => println!(rt; "large {number}"),
         Err(FmStop::NoMemory) => println!(rt; "no memory"),
         Ok(result) => {
             print_forms(rt, "equality", result.equalities())?;

@@ -3,9 +3,11 @@
 //! and no proof above cites it, the caller here no longer proves. Nothing is built on this crate.
 #![tactic(auto)]
 
+pub mod loop_trees;
 pub mod pairs;
 pub mod posed_sets;
 pub mod runs;
 pub mod schedules;
 pub mod sources;
+pub mod tiles;
 pub mod writers;

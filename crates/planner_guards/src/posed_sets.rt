@@ -6,7 +6,8 @@ ghost use Rattle.schedule_rows.specs.Items.{Row, numbers_of};
 ghost use Rattle.schedule_rows.specs.Posed.{IsPosed, HasNone};
 ghost use Rattle.schedule_rows.specs.Schedule.{loops_in};
 ghost use Rattle.pluto_systems.specs.Placing.{columns_of, row_from};
-ghost use Rattle.pluto_systems.specs.Posing.{AreCoefficientRows, AreVectorsOf, HasPosed, IsTaken, vectors_for};
+ghost use Rattle.pip_solver.specs.Minimum.{IsTaken};
+ghost use Rattle.pluto_systems.specs.Posing.{AreCoefficientRows, AreVectorsOf, HasPosed, vectors_for};
 
 use integer_sets::System;
 use iteration_domains::Model;

@@ -1,14 +1,16 @@
 //! Callers of schedules.
-ghost use Rattle.std.specs.Prelude.{◌≡◌, ◌<◌, [], true, List, Some, length, slice_get};
+ghost use Rattle.std.specs.Prelude.{◌≡◌, ◌<◌, ◌≤◌, ◌∷◌, [], true, All, IfOk, List, Some, ℕ, length, slice_get};
 ghost use Rattle.scop_syntax.specs.Members.{In};
 ghost use Rattle.iteration_domains.specs.Dependence.{Dependence};
 ghost use Rattle.schedule_rows.specs.Dependences.{IsEqualAt};
-ghost use Rattle.schedule_rows.specs.Items.{Block, Row};
-ghost use Rattle.schedule_rows.specs.Outcomes.{state};
+ghost use Rattle.schedule_rows.specs.Items.{Block, Row, scalar};
+ghost use Rattle.schedule_rows.specs.Outcomes.{IsSchedule, state};
 ghost use Rattle.schedule_rows.specs.Reaching.{Reached};
 ghost use Rattle.schedule_rows.specs.Schedule.{loops_in, row};
 
+use iteration_domains::Model;
 use schedule_rows::Schedule;
+use std::alloc::{AllocError, Global};
 
 /// A row that is told as parallel has equal values at all pairs that remained where its band began, by `exact` of
 /// `is_parallel`.
@@ -21,4 +23,27 @@ pub fn is_parallel_row(schedule: &Schedule, item: usize) -> bool
         × ((d : Dependence) → In d remaining → IsEqualAt schedule.now.model.parameters r d) }
 {
     schedule.is_parallel(item)
+}
+
+/// The model of a schedule has its parameters, by the clause of `Schedule::model`.
+pub fn model_of_schedule<'a>(schedule: &'a Schedule) -> &'a Model
+    ensures { result.now.parameters ≡ schedule.now.model.parameters }
+{
+    schedule.model()
+}
+
+/// A scalar of a schedule of no statement has no number, by the clause of `schedules_have_small_items`.
+pub fn scalars_of_no_statement()
+    ensures { (deps : List Dependence) (numbers : List ℕ) → IsSchedule 0 [] deps (scalar numbers ∷ [])
+        → length numbers ≡ 0 }
+{
+    schedule_rows::schedules_have_small_items();
+}
+
+/// Without statements there are no loops, by `loops` of `loops_in`; at most five stand round each, by `few`.
+pub fn loops_round_statements(alloc: Global, model: &Model) -> Result<Vec<usize>, AllocError>
+    ensures loops { IfOk result (λ v. model.now.statements ≡ [] → v.items ≡ []) }
+    ensures few { IfOk result (λ v. All (λ l. l ≤ 5) v.items) }
+{
+    pluto_systems::loops_in(alloc, model)
 }

@@ -1,5 +1,5 @@
 //! Callers of the sources of reads.
-ghost use Rattle.std.specs.Prelude.{◌≡◌, [], ℕ, List, IfOk, None, Some, slice_get};
+ghost use Rattle.std.specs.Prelude.{◌≡◌, ◌≢◌, [], ℕ, List, IfOk, None, Some, slice_get};
 ghost use Rattle.quast_trees.specs.Leaf.{initial};
 ghost use Rattle.quast_trees.specs.Postfix.{Postfix, tree_of};
 ghost use Rattle.quast_trees.specs.Value.{value};
@@ -13,13 +13,15 @@ ghost use Rattle.conflict_deps.specs.Pairs.{TouchesAt};
 ghost use Rattle.dataflow.specs.Answers.{reads_of};
 ghost use Rattle.dataflow.specs.Posed.{IsOfKernel};
 ghost use Rattle.dataflow.specs.declared.source.ReadSource.TheVariants as source;
+ghost use Rattle.dataflow.specs.declared.source.SourceStop.TheVariants as stop;
+ghost use Rattle.pip_solver.specs.declared.stop.Stop.TheVariants as solver;
 
 use dataflow::{ReadSource, last_writes};
 use iteration_domains::Model;
 use std::alloc::{AllocError, Global};
 
 /// Without statements there is no source, by `sources` of `last_writes`; in a kernel without parameters a resolved read
-/// of a cell that nothing wrote before is initial, by `last`.
+/// of a cell that nothing wrote before is initial, by `last`. No read is unresolved for want of memory, by `told`.
 pub fn sources_of_reads(
     alloc: Global,
     model: &Model,
@@ -32,6 +34,8 @@ pub fn sources_of_reads(
         → TouchesAt program [] j w access c → slice_get (reads_of model.now) k ≡ Some (w.number, access)
         → slice_get v.items k ≡ Some (source.Resolved quast) → last_writer (walk_of program []) j c ≡ None
         → value (tree_of quast) w.turns ≡ initial) }
+    ensures told { IfOk result (λ v. (k : ℕ)
+        → slice_get v.items k ≢ Some (source.Unresolved (stop.Solver solver.NoMemory))) }
 {
     last_writes(alloc, model, budget)
 }

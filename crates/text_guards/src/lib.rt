@@ -6,4 +6,7 @@
 
 pub mod arithmetic;
 pub mod expressions;
+pub mod forms;
+pub mod printed;
+pub mod quasts;
 pub mod statuses;

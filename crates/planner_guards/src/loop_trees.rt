@@ -1,0 +1,130 @@
+//! Callers of loop trees: the source's own, walks, guards, and what marks say.
+ghost use Rattle.std.specs.Prelude.{◌≡◌, ◌^◌, ◌++◌, [], ◌∷◌, IfOk, IsNone, List, false, map, true, ℤ};
+ghost use Rattle.scop_syntax.specs.Kernel.{IsKernel};
+ghost use Rattle.scop_syntax.specs.Limits.{HasParameters};
+ghost use Rattle.scop_syntax.specs.Members.{In};
+ghost use Rattle.scop_syntax.specs.Tree.{Program, none as nothing};
+ghost use Rattle.scop_syntax.specs.View.{program_of};
+ghost use Rattle.scop_syntax.specs.Walk.{instance, walk_of};
+ghost use Rattle.loop_tree.specs.Conditions.{CanWalk};
+ghost use Rattle.loop_tree.specs.Marks.{FlatAll, MarksAll, ShowsAll, marked};
+ghost use Rattle.loop_tree.specs.Shape.{AreSerial, TreesAreOf, TreesAreOver, TreesAreUpTo};
+ghost use Rattle.loop_tree.specs.Source.{source_of};
+ghost use Rattle.loop_tree.specs.SpotView.{IsSpotOf, found_in, to_come};
+ghost use Rattle.loop_tree.specs.Tree.{Trees, none};
+ghost use Rattle.loop_tree.specs.View.{trees_in};
+ghost use Rattle.loop_tree.specs.Walk.{Visit, visits, walk_all};
+
+use loop_tree::{Spot, Tree, Visitor, marks_are_the_parallel_loops, source_trees_visit_the_walk};
+use scop_syntax::instance::Instance;
+use scop_syntax::tree::Kernel;
+use std::alloc::{AllocError, Global};
+
+/// The loops of a kernel without items are none, by `tree` of `Tree::of_source`; without parameters its tree visits the
+/// walk, can be walked and is over no variable, by `visits`, `walk` and `over`; it is flat, serial, of the kernel and
+/// of small numbers, by the clauses `flat`, `serial`, `instances` and `small`.
+pub fn source_tree(alloc: Global, kernel: &Kernel) -> Result<Tree, AllocError>
+    requires { IsKernel (program_of kernel.now) }
+    ensures tree { IfOk result (λ t. (program_of kernel.now).body ≡ nothing → trees_in t ≡ none) }
+    ensures visits { IfOk result (λ t. (program_of kernel.now).parameters ≡ []
+        → visits (trees_in t) [] ≡ map instance (walk_of (program_of kernel.now) [])) }
+    ensures walk { IfOk result (λ t. HasParameters (program_of kernel.now) [] → CanWalk (trees_in t) [] []) }
+    ensures flat { IfOk result (λ t. FlatAll (trees_in t)) }
+    ensures serial { IfOk result (λ t. AreSerial (trees_in t)) }
+    ensures over { IfOk result (λ t. (program_of kernel.now).parameters ≡ [] → TreesAreOver 0 (trees_in t)) }
+    ensures instances { IfOk result (λ t. TreesAreOf (program_of kernel.now) (trees_in t)) }
+    ensures small { IfOk result (λ t. TreesAreUpTo (2 ^ 45) (trees_in t)) }
+{
+    Tree::of_source(alloc, kernel)
+}
+
+/// The same of the definition without parameters, by the clauses of `source_trees_visit_the_walk` of these names.
+pub fn source_trees_without_parameters()
+    ensures visits { (program : Program) → IsKernel program → program.parameters ≡ []
+        → visits (source_of program) [] ≡ map instance (walk_of program []) }
+    ensures walk { (program : Program) → HasParameters program [] → CanWalk (source_of program) [] [] }
+    ensures flat { (program : Program) → IsKernel program → FlatAll (source_of program) }
+    ensures serial { (program : Program) → AreSerial (source_of program) }
+    ensures over { (program : Program) → IsKernel program → program.parameters ≡ []
+        → TreesAreOver 0 (source_of program) }
+    ensures instances { (program : Program) → program.parameters ≡ [] → TreesAreOf program (source_of program) }
+    ensures small { (program : Program) → IsKernel program → program.parameters ≡ []
+        → TreesAreUpTo (2 ^ 45) (source_of program) }
+{
+    source_trees_visit_the_walk();
+}
+
+/// A visit of one parallel loop stands in it, by `parallel` of `marks_are_the_parallel_loops`; where no turns are shown
+/// none are given, by `turns`.
+pub fn visits_of_one_parallel_loop()
+    ensures parallel { (ts : Trees) (v : Visit) → MarksAll (true ∷ []) ts → In v (walk_all ts [] [])
+        → v.parallel ≡ marked (true ∷ []) v.values }
+    ensures turns { (ts : Trees) (v : Visit) → ShowsAll (λ key. []) ts [] [] → In v (walk_all ts [] [])
+        → v.turns ≡ [] }
+{
+    marks_are_the_parallel_loops();
+}
+
+/// Whether an instance was seen.
+#[derive(Drop)]
+pub struct Seen {
+    pub any: bool,
+}
+
+impl Visitor for Seen {
+    ghost stands = { λ s l. s.any ≡ false → l ≡ [] };
+
+    fn visit(&mut self, instance: Instance) {
+        self.any = true;
+    }
+}
+
+/// Where a walk shows nothing the tree visits nothing, by the clause of `Tree::walk`.
+pub fn visits_any(tree: &Tree, params: &[i64]) -> bool
+    requires { CanWalk (trees_in tree.now) params.now [] }
+    ensures { result ≡ false → visits (trees_in tree.now) params.now ≡ [] }
+{
+    let mut seen = Seen { any: false };
+    tree.walk(params, &mut seen);
+    seen.any
+}
+
+/// An empty tree has no guard, by the clause of `Tree::guards`.
+pub fn guards_in(tree: &Tree) -> u64
+    ensures { trees_in tree.now ≡ none → result ≡ 0 }
+{
+    tree.guards()
+}
+
+/// A new spot is one of its tree and has all of it to come, without parameters too, by `spot` and `rest` of `Spot::of`.
+pub fn spot_of(alloc: Global, tree: &Tree) -> Result<Spot, AllocError>
+    ensures spot { IfOk result (λ s. IsSpotOf (trees_in tree.now) [] s) }
+    ensures rest { IfOk result (λ s. to_come (trees_in tree.now) [] s ≡ visits (trees_in tree.now) []) }
+{
+    Spot::of(alloc, tree)
+}
+
+/// A spot that gives nothing stays with what is to come, by `rest` of `Spot::next`; where nothing is to come it gives
+/// nothing, and it stays a spot of its tree, by `none` and `spot`.
+pub fn next_of(spot: &mut Spot, tree: &Tree, params: &[i64]) -> Option<Instance>
+    requires walk { CanWalk (trees_in tree.now) params.now [] }
+    requires spot { IsSpotOf (trees_in tree.now) params.now spot.old }
+    ensures rest { IsNone result
+        → to_come (trees_in tree.now) params.now spot.old ≡ to_come (trees_in tree.now) params.now spot.new }
+    ensures none { to_come (trees_in tree.now) params.now spot.old ≡ [] → IsNone result }
+    ensures spot { IsSpotOf (trees_in tree.now) params.now spot.new }
+{
+    spot.next(tree, params)
+}
+
+/// A spot goes on from the place of another, by the clauses of `Spot::set` and of `Spot::next`.
+pub fn next_from(spot: &mut Spot, other: &Spot, tree: &Tree, params: &[i64]) -> Option<Instance>
+    requires walk { CanWalk (trees_in tree.now) params.now [] }
+    requires spot { IsSpotOf (trees_in tree.now) params.now spot.old }
+    requires other { IsSpotOf (trees_in tree.now) params.now other.now }
+    ensures { to_come (trees_in tree.now) params.now other.now
+        ≡ found_in result ++ to_come (trees_in tree.now) params.now spot.new }
+{
+    spot.set(other);
+    spot.next(tree, params)
+}
