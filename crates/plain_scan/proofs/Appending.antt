@@ -3,7 +3,6 @@ use Rattle.std.proofs.Common.{◌≡◌, ℕ, zero, suc, ◌+◌, ◌-◌, ◌<�
 use Rattle.std.proofs.Common.{refl, ap, subst, sym, ◌∙◌, All, arith}
 use Rattle.std.specs.Prelude.{◌≤◌, ◌^◌, ◌≤ℤ◌, unsigned_abs}
 use Rattle.std.proofs.lemmas.Int.{ints}
-use Rattle.std.proofs.lemmas.List.Elements.{All-append, All-cons, All-nil}
 use Rattle.whole_numbers.specs.Affine.{Affine, value_of, multiple_of_form}
 use Rattle.whole_numbers.proofs.Dot.{length-multiples}
 use Rattle.affine_forms.specs.Parts.{variables_of}
@@ -17,18 +16,8 @@ use Rattle.plain_scan.specs.declared.outline.Shadow.{Shadow}
 use Rattle.std.specs.Prelude.{Err, Ok, OnOk, Result, Some}
 use Rattle.plain_scan.specs.declared.numbers.Numbers.{Numbers}
 use Rattle.plain_scan.specs.Between.{IsAtLeast, IsAtMost, IsSmallIf, LiesBetween, AreSmall}
-use Rattle.plain_scan.specs.Outlines.{IsRow, IsEquality, AreRows, IsShadowOf}
+use Rattle.plain_scan.specs.Outlines.{IsRow, IsEquality, IsShadowOf}
 use Rattle.plain_scan.proofs.Rows.{negated}
-
-pub one_row : (t : Constraints) (old new : List Affine) (f : Affine) → new ≡ old ++ f ∷ [] → AreRows t old → IsRow t f
-    → AreRows t new
-one_row t old new f is rows h =
-    subst (AreRows t) (sym is) (All-append (IsRow t) old (f ∷ []) rows (All-cons (IsRow t) f [] h (All-nil (IsRow t))))
-
--- a form of small numbers is a row where it is copied
-pub small_row : (t : Constraints) (old new : List Affine) (f : Affine) → new ≡ old ++ f ∷ [] → HasSmallNumbers f
-    → (HasSmallNumbers f → IsRow t f) → AreRows t old → AreRows t new
-small_row t old new f is small row rows = one_row t old new f is rows (row small)
 
 pub row_of_equality : (t : Constraints) (f : Affine) → IsEquality t f → HasSmallNumbers f → IsRow t f
 row_of_equality t f h small =

@@ -60,20 +60,6 @@ loop_scans k all inner flag lo up body params outer h =
     let g : (r : List ℤ) → Q r → P r = λ r q. subst (Keys inner params) (sym (append_one outer x r)) (s.2 r q) in
     ((λ y r q. s.0.covers y r (g (y ∷ r) q)), scans_same_all k P Q body params (outer ++ x ∷ []) f g s.0.scans)
 
--- the hull: one loop whose bounds no point leaves
-pub hull_serves : (k : ℕ) (sets : List Scanned) (flag : Bool) (lo up : Bounds) (body : Trees) (params outer : List ℤ)
-    → ((x : ℤ) (r : List ℤ) → Keys sets params (outer ++ x ∷ r) → Within lo up (outer ++ params) x)
-    → ((x : ℤ) → Within lo up (outer ++ params) x → Serves k sets body params (outer ++ x ∷ []))
-    → Serves (suc k) sets (more (loop flag lo up body) none) params outer
-hull_serves k sets flag lo up body params outer bounds each = record {
-  covers = λ x r p. inl (bounds x r p);
-  scans = (
-    loop_scans k sets sets flag lo up body params outer (λ x w. (each x w, (λ r p. p), (λ r p. p))),
-    tt,
-    (λ x y a b. absurd b),
-  );
-}
-
 -- a set's tests are its constraints
 zero_holds : (z : ℤ) → z ≡ pos 0 → (if le_z (pos 0) z then le_z z (pos 0) else false) ≡ true
 zero_holds z e = rw e refl

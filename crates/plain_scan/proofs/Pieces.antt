@@ -172,19 +172,3 @@ pub scanned_exact : (n : ℕ) (sets : List Scanned) (ts : Trees) (params : List 
     → Exact (Keys sets params) (walk_all ts params [])
 scanned_exact n sets ts params sized s range =
     serves_exact n sets ts params sized (s params [] (record { parameters = range; size = refl; inside = tt }))
-
-pub bounds_from : (m : ℕ) (p : Piece) (params outer : List ℤ) (x : ℤ) → length outer ≡ m → AreLow m (p.low ∷ p.lows)
-    → AreHigh m (p.high ∷ p.highs)
-    → Within (low_bounds m p.low p.lows) (high_bounds m p.high p.highs) (outer ++ params) x
-    → AllAtLeast (bounding p) (outer ++ x ∷ params)
-bounds_from m p params outer x e l h w =
-    let r = within_rows m p params outer x e l h w in
-    all_append (p.low ∷ p.lows) (p.high ∷ p.highs) (outer ++ x ∷ params) r.0 r.1
-
-pub bounds_to : (m : ℕ) (p : Piece) (params outer : List ℤ) (x : ℤ) → length outer ≡ m → AreLow m (p.low ∷ p.lows)
-    → AreHigh m (p.high ∷ p.highs)
-    → AllAtLeast (bounding p) (outer ++ x ∷ params)
-    → Within (low_bounds m p.low p.lows) (high_bounds m p.high p.highs) (outer ++ params) x
-bounds_to m p params outer x e l h a =
-    let r = append_all (p.low ∷ p.lows) (p.high ∷ p.highs) (outer ++ x ∷ params) a in
-    rows_within m p params outer x e l h r.0 r.1

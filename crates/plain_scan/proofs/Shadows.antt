@@ -11,7 +11,6 @@ use Rattle.plain_scan.specs.Shadows.{IsShadow, Follow}
 use Rattle.plain_scan.proofs.Nodes.{append_one}
 use Rattle.plain_scan.proofs.Rows.{negated}
 use Rattle.plain_scan.proofs.Pieces.{length_one}
-use Rattle.plain_scan.proofs.Nested.{zeros_of, rows_of}
 
 -- the set itself
 whole_same : (xs ys r : List ℤ) (y : ℤ) → length xs ≡ length ys → xs ++ r ≡ ys ++ y ∷ [] → xs ≡ ys
@@ -59,13 +58,3 @@ two_rows_hold [] rs point e h = h
 two_rows_hold (f ∷ es) rs point e h =
     let z = e.0 in let n = negated f point in
     (omega (arith, ints, z), (omega (arith, ints, z, n), two_rows_hold es rs point e.1 h))
-
-pub shadow_rows : (m : ℕ) (s : Scanned) (t : Constraints) → IsShadow (suc m) s t
-    → (params outer : List ℤ) → length outer ≡ m → (x : ℤ) (r : List ℤ) → IsKeyOf params s (outer ++ x ∷ r)
-    → AllAtLeast (two_rows t.equalities ++ t.rows) (outer ++ x ∷ params)
-shadow_rows m s t shadow params outer l x r k =
-    let n = length_one outer x ∙ ap suc l in
-    let h = shadow params (outer ++ x ∷ []) r n (subst (IsKeyOf params s) (sym (append_one outer x r)) k) in
-    let p = subst (Satisfies t) (append_one outer x params) h in
-    two_rows_hold t.equalities t.rows (outer ++ x ∷ params) (zeros_of t.equalities (outer ++ x ∷ params) p.0)
-    (rows_of t.rows (outer ++ x ∷ params) p.1)

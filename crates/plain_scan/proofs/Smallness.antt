@@ -1,5 +1,5 @@
 -- The numbers of a scanned tree are small, and each loop has a number on each side.
-use Rattle.std.proofs.Common.{◌≡◌, ℕ, zero, suc, ◌<◌, Bool, ℤ, pos, negsuc, List, [], ◌∷◌, length, get_or, set}
+use Rattle.std.proofs.Common.{◌≡◌, ℕ, zero, suc, Bool, ℤ, pos, negsuc, List, [], ◌∷◌, get_or, set}
 use Rattle.std.proofs.Common.{inl, map, refl, sym, ap, subst, All, arith}
 use Rattle.std.specs.Prelude.{◌≤◌, ◌^◌, neg_ℤ, ◌*ℤ◌, unsigned_abs}
 use Rattle.std.proofs.lemmas.Int.{ints}
@@ -90,12 +90,6 @@ place_has_small n i k c factor constant =
 pub narrowed_has_small : (i : ℕ) (f : Affine) → HasSmallNumbers f → HasSmallNumbers (narrowed i f)
 narrowed_has_small i f h =
     (of_at_most (removed i f.coefficients) (small_removed i f.coefficients (at_most f.coefficients h.0)), h.1)
-
-pub coefficient_small : (cs : List ℤ) (i : ℕ) (d : ℤ) → AreAtMost (2 ^ 40) cs → i < length cs
-    → unsigned_abs (get_or cs i d) ≤ 2 ^ 40
-coefficient_small [] i d h inside = absurd (omega (arith, inside))
-coefficient_small (c ∷ cs) zero d h inside = h.0
-coefficient_small (c ∷ cs) (suc i) d h inside = coefficient_small cs i d h.1 (omega (arith, inside))
 
 -- the number of a loop on each side
 zeros_zeros : (n i : ℕ) (k : ℤ) → AreZeros (removed i (set (zeros n) i k))

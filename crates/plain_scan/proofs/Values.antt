@@ -8,7 +8,7 @@ use Rattle.whole_numbers.specs.Division.{IsFloor, IsCeiling}
 use Rattle.whole_numbers.proofs.Ring.{mul_comm_int, mul_neg_left, mul_neg_right, mul_one_right}
 use Rattle.whole_numbers.proofs.Order.{mul_le_left}
 use Rattle.scop_syntax.proofs.Limits.{abs_low, abs_high, abs_at_most}
-use Rattle.whole_numbers.proofs.Floors.{floor_at_least, floor_at_most, ceiling_at_most, ceiling_at_least}
+use Rattle.whole_numbers.proofs.Floors.{floor_at_least, ceiling_at_most, ceiling_at_least}
 
 pub low_row : (a c q x : ℤ) → pos 0 <ℤ a → IsCeiling (neg_ℤ c) a q → pos 0 ≤ℤ ((a *ℤ x) +ℤ c) → q ≤ℤ x
 low_row a c q x h is p =
@@ -63,17 +63,4 @@ small_ceiling c a q h is small =
     let below : q ≤ℤ n = (ceiling_at_most c a q n h is).1 (omega (arith, ints, up, one, high, small)) in
     let minus = mul_neg_left n a in
     let above : m ≤ℤ q = (ceiling_at_least c a q m h is).1 (omega (arith, ints, up, one, low, small, minus, h)) in
-    abs_at_most q (2 ^ 40) above below
-
-pub small_floor : (c a q : ℤ) → pos 0 <ℤ a → IsFloor c a q → unsigned_abs c ≤ 2 ^ 40 → unsigned_abs q ≤ 2 ^ 40
-small_floor c a q h is small =
-    let n = pos (2 ^ 40) in
-    let m = neg_ℤ n in
-    let low = abs_low c in
-    let high = abs_high c in
-    let up = mul_le_left (pos 1) a n (omega (arith, ints, h)) (omega (arith, ints)) in
-    let one = mul_one_right n in
-    let below : q ≤ℤ n = (floor_at_most c a q n h is).1 (omega (arith, ints, up, one, high, small, h)) in
-    let minus = mul_neg_left n a in
-    let above : m ≤ℤ q = (floor_at_least c a q m h is).1 (omega (arith, ints, up, one, low, small, minus)) in
     abs_at_most q (2 ^ 40) above below

@@ -19,10 +19,8 @@ use Rattle.plain_scan.specs.Hulls.{sets_in}
 use Rattle.plain_scan.specs.Giving.{HasIterators, TurnsOn}
 use Rattle.plain_scan.specs.Leaving.{LeavesOut}
 use Rattle.plain_scan.specs.Scanning.{AreScanned, GiveIterators, IsScanned, dimensions_of, mark_of, parameters_of}
-use Rattle.std.specs.Prelude.{Option}
-use Rattle.integer_sets.specs.Constraints.{variables_in}
 use Rattle.plain_scan.specs.Outlines.{HasNoPoint}
-use Rattle.plain_scan.proofs.Bounding.{take_next, take_none}
+use Rattle.plain_scan.proofs.Bounding.{take_next}
 use Rattle.plain_scan.proofs.Leaving.{all_keys, keeps_more, kept_all, kept_in, kept_keys, kept_rise, leaves_more}
 use Rattle.plain_scan.proofs.Pieces.{scanned_exact}
 
@@ -117,16 +115,6 @@ pub left_next : (sets : List Scanned) (i : ℕ) (s : Scanned) (kept : List Scann
     → i < length sets → HasNoPoint s.system → LeavesOut (take i sets) kept → LeavesOut (take (i + 1) sets) kept
 left_next sets i s kept is inside empty left =
     subst (λ ss. LeavesOut ss kept) (sym (take_next sets i s is inside)) (leaves_more (take i sets) kept s empty left)
-
-pub none_left : (sets : List Scanned) → LeavesOut (take 0 sets) []
-none_left sets = subst (λ ss. LeavesOut ss []) (sym (take_none sets)) tt
-
-pub few_of : (n p : ℕ) (mark : Option ℕ) (s : Scanned) → IsScanned n p mark s → variables_in s.system < 2 ^ 32
-few_of n p mark s h =
-    let d = h.dimensions in
-    let q = h.parameters in
-    let f = h.few in
-    omega (arith, d, q, f)
 
 -- those kept have the shape of all
 pub shaped : (sets : List Scanned) (os : List Outline) → AreScanned sets → LeavesOut sets (sets_in os)

@@ -37,11 +37,9 @@ bounds-sets-0-2 c =
 pub scan_outlines-requires-clause-few : goal.scan_outlines-requires-clause-few
 scan_outlines-requires-clause-few c =
     let sets = c.args.sets.now in
-    let os = c.deref.result.now in
     let d = c.index-sets-0.result in
     let some : 0 < length c.in-Ok.outlines.items = search rules in
     let more = some_sets sets c.in-Ok.outlines.items c.in-Ok.ensures.kept some in
-    let left = subst (λ os. LeavesOut sets (sets_in os)) (sym c.deref.ensures.value) c.in-Ok.ensures.kept in
     let n : c.dimensions.result ≡ dimensions_of sets =
     c.dimensions.ensures ∙ ap (λ (w : Constraints). w.dimensions) c.system-system.ensures
     ∙ ap (λ (q : Scanned). q.system.dimensions) c.index-sets-0.is ∙ first_dimensions sets d more in
@@ -62,9 +60,6 @@ scan_outlines-requires-clause-dimensions c =
     let n : c.dimensions.result ≡ dimensions_of sets =
     c.dimensions.ensures ∙ ap (λ (w : Constraints). w.dimensions) c.system-system.ensures
     ∙ ap (λ (q : Scanned). q.system.dimensions) c.index-sets-0.is ∙ first_dimensions sets d more in
-    let p : c.parameters.result ≡ parameters_of sets =
-    c.parameters.ensures ∙ ap (λ (w : Constraints). w.parameters) c.system-system.ensures
-    ∙ ap (λ (q : Scanned). q.system.parameters) c.index-sets-0.is ∙ first_parameters sets d more in
     λ k o inside. (shaped sets os c.requires.sets left k o inside).dimensions ∙ sym n
 
 pub scan_outlines-requires-clause-parameters : goal.scan_outlines-requires-clause-parameters
@@ -75,9 +70,6 @@ scan_outlines-requires-clause-parameters c =
     let some : 0 < length c.in-Ok.outlines.items = search rules in
     let more = some_sets sets c.in-Ok.outlines.items c.in-Ok.ensures.kept some in
     let left = subst (λ os. LeavesOut sets (sets_in os)) (sym c.deref.ensures.value) c.in-Ok.ensures.kept in
-    let n : c.dimensions.result ≡ dimensions_of sets =
-    c.dimensions.ensures ∙ ap (λ (w : Constraints). w.dimensions) c.system-system.ensures
-    ∙ ap (λ (q : Scanned). q.system.dimensions) c.index-sets-0.is ∙ first_dimensions sets d more in
     let p : c.parameters.result ≡ parameters_of sets =
     c.parameters.ensures ∙ ap (λ (w : Constraints). w.parameters) c.system-system.ensures
     ∙ ap (λ (q : Scanned). q.system.parameters) c.index-sets-0.is ∙ first_parameters sets d more in
@@ -94,9 +86,6 @@ scan_outlines-requires-clause-iterators c =
     let n : c.dimensions.result ≡ dimensions_of sets =
     c.dimensions.ensures ∙ ap (λ (w : Constraints). w.dimensions) c.system-system.ensures
     ∙ ap (λ (q : Scanned). q.system.dimensions) c.index-sets-0.is ∙ first_dimensions sets d more in
-    let p : c.parameters.result ≡ parameters_of sets =
-    c.parameters.ensures ∙ ap (λ (w : Constraints). w.parameters) c.system-system.ensures
-    ∙ ap (λ (q : Scanned). q.system.parameters) c.index-sets-0.is ∙ first_parameters sets d more in
     subst (λ m. All (HasIterators m) (sets_in os)) (sym n) (iterators_kept sets os c.requires.sets left)
 
 pub returns-clause-exact : goal.returns-clause-exact
@@ -110,9 +99,6 @@ returns-clause-exact c =
     let n : c.dimensions.result ≡ dimensions_of sets =
     c.dimensions.ensures ∙ ap (λ (w : Constraints). w.dimensions) c.system-system.ensures
     ∙ ap (λ (q : Scanned). q.system.dimensions) c.index-sets-0.is ∙ first_dimensions sets d more in
-    let p : c.parameters.result ≡ parameters_of sets =
-    c.parameters.ensures ∙ ap (λ (w : Constraints). w.parameters) c.system-system.ensures
-    ∙ ap (λ (q : Scanned). q.system.parameters) c.index-sets-0.is ∙ first_parameters sets d more in
     let ts = trees_in c.in-Ok-scan_outlines.tree in
     let made = c.in-Ok-scan_outlines.ensures in
     let sized = dims_in c.dimensions.result os
@@ -123,16 +109,7 @@ pub returns-clause-iterators : goal.returns-clause-iterators
 returns-clause-iterators c =
     let sets = c.args.sets.now in
     let os = c.deref.result.now in
-    let d = c.index-sets-0.result in
-    let some : 0 < length c.in-Ok.outlines.items = search rules in
-    let more = some_sets sets c.in-Ok.outlines.items c.in-Ok.ensures.kept some in
     let left = subst (λ os. LeavesOut sets (sets_in os)) (sym c.deref.ensures.value) c.in-Ok.ensures.kept in
-    let n : c.dimensions.result ≡ dimensions_of sets =
-    c.dimensions.ensures ∙ ap (λ (w : Constraints). w.dimensions) c.system-system.ensures
-    ∙ ap (λ (q : Scanned). q.system.dimensions) c.index-sets-0.is ∙ first_dimensions sets d more in
-    let p : c.parameters.result ≡ parameters_of sets =
-    c.parameters.ensures ∙ ap (λ (w : Constraints). w.parameters) c.system-system.ensures
-    ∙ ap (λ (q : Scanned). q.system.parameters) c.index-sets-0.is ∙ first_parameters sets d more in
     let ts = trees_in c.in-Ok-scan_outlines.tree in
     let made = c.in-Ok-scan_outlines.ensures in
     whole_gives sets (sets_in os) ts left made.turns
@@ -140,11 +117,9 @@ returns-clause-iterators c =
 pub returns-clause-fits : goal.returns-clause-fits
 returns-clause-fits c =
     let sets = c.args.sets.now in
-    let os = c.deref.result.now in
     let d = c.index-sets-0.result in
     let some : 0 < length c.in-Ok.outlines.items = search rules in
     let more = some_sets sets c.in-Ok.outlines.items c.in-Ok.ensures.kept some in
-    let left = subst (λ os. LeavesOut sets (sets_in os)) (sym c.deref.ensures.value) c.in-Ok.ensures.kept in
     let n : c.dimensions.result ≡ dimensions_of sets =
     c.dimensions.ensures ∙ ap (λ (w : Constraints). w.dimensions) c.system-system.ensures
     ∙ ap (λ (q : Scanned). q.system.dimensions) c.index-sets-0.is ∙ first_dimensions sets d more in
@@ -160,17 +135,12 @@ returns-clause-fits c =
 pub returns-clause-marks : goal.returns-clause-marks
 returns-clause-marks c =
     let sets = c.args.sets.now in
-    let os = c.deref.result.now in
     let d = c.index-sets-0.result in
     let some : 0 < length c.in-Ok.outlines.items = search rules in
     let more = some_sets sets c.in-Ok.outlines.items c.in-Ok.ensures.kept some in
-    let left = subst (λ os. LeavesOut sets (sets_in os)) (sym c.deref.ensures.value) c.in-Ok.ensures.kept in
     let n : c.dimensions.result ≡ dimensions_of sets =
     c.dimensions.ensures ∙ ap (λ (w : Constraints). w.dimensions) c.system-system.ensures
     ∙ ap (λ (q : Scanned). q.system.dimensions) c.index-sets-0.is ∙ first_dimensions sets d more in
-    let p : c.parameters.result ≡ parameters_of sets =
-    c.parameters.ensures ∙ ap (λ (w : Constraints). w.parameters) c.system-system.ensures
-    ∙ ap (λ (q : Scanned). q.system.parameters) c.index-sets-0.is ∙ first_parameters sets d more in
     let ts = trees_in c.in-Ok-scan_outlines.tree in
     let made = c.in-Ok-scan_outlines.ensures in
     let e = c.index-sets-0-2.result in
