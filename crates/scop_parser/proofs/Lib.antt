@@ -4,3 +4,5 @@ pub mod Refusals
 pub mod Worth
 pub mod Feeding
 pub mod Named
+pub mod Unreserved
+pub mod Iterating

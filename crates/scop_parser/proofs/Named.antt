@@ -58,11 +58,17 @@ tokens_spell laws text from to (t ∷ ts) zero h is =
     token_spells laws text t h.1 (kind_of_name t.kind (ap is_name same))
 tokens_spell laws text from to (t ∷ ts) (suc at) h is = tokens_spell laws text t.end to ts at h.2 is
 
--- so the names of a program that a text spells are names by themselves
-pub names_are_words : NameLaws → (text : Text) (p : Program) → SpellsProgram text p → All IsName (header_names p)
-names_are_words laws text p x =
+-- so the tokens of a text that spells a program spell its kernel's names
+pub spells_names : NameLaws → (text : Text) (p : Program) (x : SpellsProgram text p)
+    → SpellNames (words_of text x.tokens) (spelled (kernel_elements x.kernel))
+spells_names laws text p x =
     let words = words_of text x.tokens in
     let spell : SpellNames words (grammar_tokens x.tokens) =
     λ at is. tokens_spell laws text 0 _ x.tokens at x.is_text.has is in
+    subst (SpellNames words) x.is_text.spells.tokens spell
+
+-- and the names of the program are names by themselves
+pub names_are_words : NameLaws → (text : Text) (p : Program) → SpellsProgram text p → All IsName (header_names p)
+names_are_words laws text p x =
     subst (λ q. All IsName (header_names q)) (sym x.stands)
-    (laws.spelled words x.kernel (subst (SpellNames words) x.is_text.spells.tokens spell))
+    (laws.spelled (words_of text x.tokens) x.kernel (spells_names laws text p x))

@@ -7,6 +7,7 @@ ghost use Rattle.scop_syntax.specs.Tree.{Program};
 ghost use Rattle.scop_units.specs.Names.{HasDistinctNames, header_names};
 ghost use Rattle.scop_parser.specs.declared.refusal.Refusal.{Refusal};
 ghost use Rattle.scop_parser.specs.declared.refusal.RefusalKind.{RefusalKind};
+ghost use Rattle.scop_parser.specs.Names.{HasFreeNames};
 ghost use Rattle.scop_parser.specs.Spelling.{IsFirstFault, IsRefusedAs, SpellsProgram};
 
 use scop_lexer::names_stand_by_themselves;
@@ -45,6 +46,17 @@ pub fn spelled_programs_are_kernels()
     ensures words { (text : Text) (p : Program) → SpellsProgram text p → All IsName (header_names p) }
 {
     faultless_kernels_are_within_limits();
+    names_stand_by_themselves();
+    names_are_those_of_tokens();
+}
+
+/// The parameters of the program that a text spells have distinct names, the iterator of each loop has a name that is
+/// none of theirs, nor that of a loop round it, and no such name begins with `pp_`, nor does that of an array or of the
+/// program.
+pub fn spelled_names_are_words()
+    ensures { (text : Text) (p : Program) → SpellsProgram text p → HasFreeNames p }
+{
+    spelled_programs_are_kernels();
     names_stand_by_themselves();
     names_are_those_of_tokens();
 }
