@@ -12,4 +12,6 @@ pub mod Examples
 pub mod View
 pub mod Tiling
 pub mod TilingView
+pub mod Plans
+pub mod Runs
 pub mod steps

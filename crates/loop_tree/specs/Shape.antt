@@ -1,6 +1,6 @@
 -- What a tree is like, whatever it visits: no loop is parallel, each form has a coefficient for each variable, each
 -- instance is one of a program's statement, how large the numbers are; guards within loops.
-use Rattle.std.specs.Prelude.{◌≡◌, ℕ, suc, ◌+◌, ◌≤◌, ℤ, Bool, true, false, List, length, All, ⊤, if◌then◌else◌}
+use Rattle.std.specs.Prelude.{◌≡◌, ℕ, zero, suc, ◌+◌, ◌≤◌, ℤ, Bool, true, false, List, length, All, ⊤, if◌then◌else◌}
 use Rattle.std.specs.Prelude.{slice_get, Some, unsigned_abs}
 use Rattle.whole_numbers.specs.Affine.{Affine}
 use Rattle.scop_syntax.specs.Kernel.{AreAtMost}
@@ -91,6 +91,19 @@ abbrev mutual
   pub TreesAreUpTo : ℕ → Trees → Type 0
   TreesAreUpTo n none = ⊤
   TreesAreUpTo n (more t ts) = TreeIsUpTo n t × TreesAreUpTo n ts
+
+abbrev mutual
+  -- at most n loops of the tree stand in one another
+  pub NestsTo : ℕ → Tree → Type 0
+  NestsTo zero (loop flag lo up body) = ⊥
+  NestsTo (suc n) (loop flag lo up body) = NestAllTo n body
+  NestsTo n (guard tests body) = NestAllTo n body
+  NestsTo n (instance k forms) = ⊤
+
+  -- nor of these trees
+  pub NestAllTo : ℕ → Trees → Type 0
+  NestAllTo n none = ⊤
+  NestAllTo n (more t ts) = NestsTo n t × NestAllTo n ts
 
 abbrev mutual
   -- how many guards of a tree stand within a loop, which one round the tree is, too

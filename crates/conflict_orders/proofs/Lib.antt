@@ -1,0 +1,4 @@
+pub mod Standing
+pub mod Sorting
+mod Commuting
+mod Alike
