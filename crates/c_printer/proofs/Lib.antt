@@ -1,11 +1,11 @@
 pub mod Putting
-pub mod Weights
 pub mod Gathering
 pub mod Multiples
 pub mod Declaring
 pub mod ExampleTexts
 pub mod FormsRead
 pub mod FormsOver
+pub mod FlatTrees
 pub mod BoundsRead
 pub mod TestsRead
 pub mod InstancesRead
@@ -14,5 +14,8 @@ pub mod Lengths
 pub mod TextsRead
 pub mod NamesTold
 pub mod Shapes
+pub mod Narrowing
+pub mod Stepping
+pub mod Bounding
 pub mod Divisions
 pub mod Iterators

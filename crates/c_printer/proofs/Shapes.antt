@@ -16,10 +16,12 @@ use Rattle.c_printer.specs.Forms.{names_in, loop_name, loop_names, spread}
 use Rattle.c_printer.specs.Standings.{Standing, iterators_of, standings_of}
 use Rattle.c_printer.specs.Statements.{statement_text, front_text}
 use Rattle.c_printer.specs.Nodes.{indent, text_of}
-use Rattle.c_printer.specs.Reading.{is_narrow_form, narrowed, turned_back, read_tree_form, quotients, turn_of, read_turn}
+use Rattle.c_printer.specs.Reading.{is_narrow_form, narrowed, turned_back, read_tree_form, quotients, turn_of}
+use Rattle.c_printer.specs.Reading.{read_turn}
 use Rattle.c_printer.specs.Reading.{read_divisor, bound_at, read_bound, bounds_at, read_bounds, read_lower, read_upper}
 use Rattle.c_printer.specs.Reading.{multiple_at, test_at, read_test, tests_at}
-use Rattle.c_printer.specs.Reading.{read_more_tests, read_tests, read_givens, body_at, instance_at, read_instance, closed}
+use Rattle.c_printer.specs.Reading.{read_more_tests, read_tests, read_givens, body_at, instance_at, read_instance}
+use Rattle.c_printer.specs.Reading.{closed}
 use Rattle.c_printer.specs.Reading.{guard_at, upper_at, read_loop, node_at, read_node, nodes_at, read_nodes}
 use Rattle.c_printer.specs.Reading.{read_text}
 use Rattle.c_printer.specs.Printable.{IsTreeForm, IsDivisor, IsBound, AreBounds, IsTest, AreTests, AreTurns, IsNode}

@@ -4,6 +4,8 @@ pub mod Statements
 pub mod Nodes
 pub mod Gathered
 pub mod Reading
+pub mod View
+pub mod steps
 pub mod Printable
 pub mod Naming
 pub mod Examples

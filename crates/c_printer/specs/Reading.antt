@@ -43,9 +43,10 @@ unfoldable pub read_tree_form : ℕ → List Text → Text → Option (Affine ×
 read_tree_form parameters names text =
     when (read_form names text) (λ r. narrowed (form_of (turned_back parameters r.0.coefficients) r.0.constant) r.1)
 
--- z over s, for a z that s divides
+-- z over s, for a z that s divides; 0 over 0
 abbrev pub quotient : ℤ → ℤ → ℤ
-quotient (pos d) z = floor z (pos d)
+quotient (pos zero) z = pos 0
+quotient (pos (suc d)) z = floor z (pos (suc d))
 quotient (negsuc d) z = floor (neg_ℤ z) (pos (suc d))
 
 -- what numbers are above others, over s

@@ -4,8 +4,8 @@ ghost use Rattle.std.specs.Prelude.{◌≡◌, ◌++◌, true, codes, map, OnOk}
 ghost use Rattle.loop_tree.specs.Tree.{multiple};
 ghost use Rattle.loop_tree.specs.View.{bounds_in, test_of};
 ghost use Rattle.c_printer.specs.Forms.{tree_form_text};
-ghost use Rattle.c_printer.specs.Nodes.{bound_text, bounds_text, conjunction, divisor_text, lower_text, test_text};
-ghost use Rattle.c_printer.specs.Nodes.{tests_text, upper_text};
+ghost use Rattle.c_printer.specs.Nodes.{bound_text, bounds_text, conjunction, divisor_text, test_text};
+ghost use Rattle.c_printer.specs.Nodes.{tests_text};
 ghost use Rattle.c_printer.specs.Statements.{between};
 
 use crate::forms::put_tree_form;
@@ -73,7 +73,7 @@ fn put_choice(
 
 /// Puts the bounds of one side.
 #[tactic(auto, using(crate::proofs::Putting::putting))]
-fn put_bounds(
+pub fn put_bounds(
     alloc: Global,
     out: &mut Vec<u8>,
     names: &[Name],
@@ -94,36 +94,6 @@ fn put_bounds(
     }
     put_bound(alloc, out, names, loops, divided, bound)?;
     put_repeated(out, b")", bounds.others.len())
-}
-
-/// Puts where a loop starts.
-#[tactic(auto, unfolding(crate::specs::Nodes::lower_text))]
-pub fn put_lower(
-    alloc: Global,
-    out: &mut Vec<u8>,
-    names: &[Name],
-    loops: usize,
-    bounds: &Bounds,
-) -> Result<(), AllocError>
-    ensures { OnOk result (out.new.items
-        ≡ out.old.items ++ lower_text (map (λ n. n.items) names.now) loops (bounds_in bounds.now)) }
-{
-    put_bounds(alloc, out, names, loops, b"pp_ceild(", b"pp_max(", bounds)
-}
-
-/// Puts where a loop ends.
-#[tactic(auto, unfolding(crate::specs::Nodes::upper_text))]
-pub fn put_upper(
-    alloc: Global,
-    out: &mut Vec<u8>,
-    names: &[Name],
-    loops: usize,
-    bounds: &Bounds,
-) -> Result<(), AllocError>
-    ensures { OnOk result (out.new.items
-        ≡ out.old.items ++ upper_text (map (λ n. n.items) names.now) loops (bounds_in bounds.now)) }
-{
-    put_bounds(alloc, out, names, loops, b"pp_floord(", b"pp_min(", bounds)
 }
 
 /// Puts that a form is a multiple of a number.

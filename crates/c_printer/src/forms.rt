@@ -46,7 +46,7 @@ fn parts(numbers: &[i64], at: usize) -> (&[i64], &[i64])
 }
 
 /// The coefficients of a form of the tree in the order of the text.
-fn turned(alloc: Global, loops: usize, coefficients: &[i64]) -> Result<Vec<i64>, AllocError>
+pub fn turned(alloc: Global, loops: usize, coefficients: &[i64]) -> Result<Vec<i64>, AllocError>
     ensures { IfOk result (λ v. v.items ≡ turned loops coefficients.now) }
 {
     let (front, back) = parts(coefficients, loops);
@@ -56,7 +56,7 @@ fn turned(alloc: Global, loops: usize, coefficients: &[i64]) -> Result<Vec<i64>,
 }
 
 /// The coefficients of a form of the source in the order of the text.
-fn spread(
+pub fn spread(
     alloc: Global,
     parameters: usize,
     loops: usize,

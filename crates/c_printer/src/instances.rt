@@ -79,7 +79,11 @@ fn put_givens(
 }
 
 /// The parameters and the iterators of these loops.
-fn names_of(alloc: Global, parameters: &[Name], heads: &[&Loop]) -> Result<Vec<Name>, AllocError>
+pub fn names_of(
+    alloc: Global,
+    parameters: &[Name],
+    heads: &[&Loop],
+) -> Result<Vec<Name>, AllocError>
     ensures { IfOk result (λ names. map (λ n. n.items) names.items
         ≡ map (λ n. n.items) parameters.now ++ iterators_of (map (λ h. h.now) heads.now)) }
 {

@@ -11,6 +11,13 @@ mod header;
 mod instances;
 mod meaning_laws;
 mod nodes;
+mod part;
+mod place;
+mod read_bounds;
+mod read_forms;
+mod read_instances;
+mod read_nodes;
+mod read_tests;
 mod standings;
 mod text_laws;
 mod texts;
@@ -22,7 +29,8 @@ pub use meaning_laws::{
     the_functions_of_a_text_round_and_choose,
 };
 pub use nodes::print;
+pub use read_nodes::read_back;
 pub use text_laws::{
-    kernels_tell_their_names_apart, printed_trees_are_read_back, texts_are_of_one_tree,
-    unread_texts_are_of_no_tree,
+    flat_trees_can_be_printed, kernels_tell_their_names_apart, printed_trees_are_read_back,
+    texts_are_of_one_tree, unread_texts_are_of_no_tree,
 };

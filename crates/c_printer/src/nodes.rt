@@ -1,6 +1,6 @@
 //! Puts the nodes of a loop tree, and prints a whole one.
 
-ghost use Rattle.std.specs.Prelude.{◌≡◌, ◌++◌, ◌∷◌, [], suc, true, if◌then◌else◌, codes, map, IfOk, OnOk};
+ghost use Rattle.std.specs.Prelude.{◌≡◌, ◌++◌, [], true, if◌then◌else◌, codes, map, IfOk, OnOk};
 ghost use Rattle.loop_tree.specs.Tree.{guard, loop};
 ghost use Rattle.loop_tree.specs.View.{bounds_in, nodes_of, test_of, tree_of, trees_in};
 ghost use Rattle.scop_syntax.specs.View.{program_of};
@@ -11,23 +11,16 @@ ghost use Rattle.c_printer.specs.Nodes.{text_of};
 ghost use Rattle.c_printer.specs.Standings.{standings_of};
 ghost use Rattle.c_printer.specs.Statements.{between};
 
-use crate::bounds::{put_lower, put_tests, put_upper};
+use crate::bounds::{put_bounds, put_tests};
 use crate::header::put_front;
 use crate::instances::put_instance;
+use crate::place::{Place, within_guard, within_loop};
 use crate::standings::{Standing, standings_of};
-use crate::texts::{copies, name_of_loop, push_name, put_between, put_repeated};
+use crate::texts::{copies, name_of_loop, put_between, put_repeated};
 use form_text::put_bytes;
 use loop_tree::{Guard, Loop, Node, Tree};
 use scop_syntax::tree::{Kernel, Name};
 use std::alloc::{AllocError, Global};
-
-/// Where nodes stand: the names that their forms speak of, the level of indentation, and how many loops are round them.
-#[derive(Debug, Drop)]
-struct Place {
-    names: Vec<Name>,
-    level: usize,
-    loops: usize,
-}
 
 /// Puts a closing brace on its line.
 #[tactic(auto, using(crate::proofs::Putting::putting), unfolding(crate::specs::Nodes::closing_text))]
@@ -71,9 +64,25 @@ fn put_head(
         (bounds_in head.now.upper)) }
 {
     put_between(out, b"for (int64_t ", name, b" = ")?;
-    put_lower(alloc, out, names, loops, &head.lower)?;
+    put_bounds(
+        alloc,
+        out,
+        names,
+        loops,
+        b"pp_ceild(",
+        b"pp_max(",
+        &head.lower,
+    )?;
     put_between(out, b"; ", name, b" <= ")?;
-    put_upper(alloc, out, names, loops, &head.upper)?;
+    put_bounds(
+        alloc,
+        out,
+        names,
+        loops,
+        b"pp_floord(",
+        b"pp_min(",
+        &head.upper,
+    )?;
     put_between(out, b"; ", name, b"++) {\n")
 }
 
@@ -90,43 +99,6 @@ fn put_head_at(
 {
     let name = name_of_loop(alloc, place.loops)?;
     put_head(alloc, out, &name, &place.names, place.loops, head)
-}
-
-/// The place within a guard.
-fn within_guard(alloc: Global, place: &Place) -> Result<Place, AllocError>
-    ensures names { IfOk result (λ p. map (λ n. n.items) p.names.items ≡ map (λ n. n.items) place.now.names.items) }
-    ensures level { IfOk result (λ p. p.level ≡ suc place.now.level) }
-    ensures loops { IfOk result (λ p. p.loops ≡ place.now.loops) }
-{
-    let names = copies(alloc, &place.names)?;
-    // no memory holds so deep a tree
-    match place.level.checked_add(1) {
-        Some(level) => Ok(Place {
-            names,
-            level,
-            loops: place.loops,
-        }),
-        None => Err(AllocError),
-    }
-}
-
-/// The place within a loop.
-fn within_loop(alloc: Global, place: &Place) -> Result<Place, AllocError>
-    ensures names { IfOk result (λ p. map (λ n. n.items) p.names.items
-        ≡ map (λ n. n.items) place.now.names.items ++ loop_name place.now.loops ∷ []) }
-    ensures level { IfOk result (λ p. p.level ≡ suc place.now.level) }
-    ensures loops { IfOk result (λ p. p.loops ≡ suc place.now.loops) }
-{
-    let mut inner = within_guard(alloc, place)?;
-    let name = name_of_loop(alloc, place.loops)?;
-    push_name(alloc, &mut inner.names, &name)?;
-    match place.loops.checked_add(1) {
-        Some(loops) => {
-            inner.loops = loops;
-            Ok(inner)
-        }
-        None => Err(AllocError),
-    }
 }
 
 /// Puts nodes, one after another.
@@ -177,9 +149,16 @@ fn put_node(
         ++ node_text (program_of kernel.now) place.now.level place.now.loops (tree_of node.now)) }
 {
     match node {
-        Node::Loop(head, body) => put_loop(body, alloc, out, kernel, statements, place, head),
+        Node::Loop(head, body) => {
+            put_mark(out, head.parallel, place.level)?;
+            put_head_at(alloc, out, place, head)?;
+            let inner = within_loop(alloc, place)?;
+            put_body(body, alloc, out, kernel, statements, &inner, place.level)
+        }
         Node::Guard(guarded, body) => {
-            put_guard(body, alloc, out, kernel, statements, place, guarded)
+            put_condition(alloc, out, place, guarded)?;
+            let inner = within_guard(alloc, place)?;
+            put_body(body, alloc, out, kernel, statements, &inner, place.level)
         }
         Node::Instance(leaf) => put_instance(
             alloc,
@@ -193,54 +172,27 @@ fn put_node(
     }
 }
 
-/// Puts a loop.
+/// Puts the body of a loop or a guard at its place, and the closing brace.
 #[cycle(printing)]
 #[tactic(auto, using(crate::proofs::Putting::putting))]
-fn put_loop(
+fn put_body(
     body: &[Node],
     alloc: Global,
     out: &mut Vec<u8>,
     kernel: &Kernel,
     statements: &[Standing],
-    place: &Place,
-    head: &Loop,
+    inner: &Place,
+    level: usize,
 ) -> Result<(), AllocError>
     requires statements { map standing_of statements.now ≡ standings_of (program_of kernel.now) }
-    requires names { map (λ n. n.items) place.now.names.items
-        ≡ names_in (program_of kernel.now).parameters place.now.loops }
-    ensures { OnOk result (out.new.items ≡ out.old.items ++ node_text (program_of kernel.now) place.now.level
-        place.now.loops (loop head.now.parallel (bounds_in head.now.lower) (bounds_in head.now.upper)
-        (nodes_of body.now))) }
+    requires names { map (λ n. n.items) inner.now.names.items
+        ≡ names_in (program_of kernel.now).parameters inner.now.loops }
+    ensures { OnOk result (out.new.items ≡ out.old.items
+        ++ (nodes_text (program_of kernel.now) inner.now.level inner.now.loops (nodes_of body.now)
+        ++ closing_text level)) }
 {
-    put_mark(out, head.parallel, place.level)?;
-    put_head_at(alloc, out, place, head)?;
-    let inner = within_loop(alloc, place)?;
-    put_nodes(body, alloc, out, kernel, statements, &inner)?;
-    put_closing(out, place.level)
-}
-
-/// Puts a guard.
-#[cycle(printing)]
-#[tactic(auto, using(crate::proofs::Putting::putting))]
-fn put_guard(
-    body: &[Node],
-    alloc: Global,
-    out: &mut Vec<u8>,
-    kernel: &Kernel,
-    statements: &[Standing],
-    place: &Place,
-    guarded: &Guard,
-) -> Result<(), AllocError>
-    requires statements { map standing_of statements.now ≡ standings_of (program_of kernel.now) }
-    requires names { map (λ n. n.items) place.now.names.items
-        ≡ names_in (program_of kernel.now).parameters place.now.loops }
-    ensures { OnOk result (out.new.items ≡ out.old.items ++ node_text (program_of kernel.now) place.now.level
-        place.now.loops (guard (map test_of guarded.now.tests.items) (nodes_of body.now))) }
-{
-    put_condition(alloc, out, place, guarded)?;
-    let inner = within_guard(alloc, place)?;
-    put_nodes(body, alloc, out, kernel, statements, &inner)?;
-    put_closing(out, place.level)
+    put_nodes(body, alloc, out, kernel, statements, inner)?;
+    put_closing(out, level)
 }
 
 /// Puts the line of a guard behind its indentation.

@@ -1,9 +1,11 @@
 //! The laws of emitted text, as contracts of functions that do nothing.
 
-ghost use Rattle.std.specs.Prelude.{◌≡◌, ◌<◌, ◌^◌, length, None, Some};
+ghost use Rattle.std.specs.Prelude.{◌≡◌, ℕ, ◌<◌, ◌^◌, length, None, Some};
 ghost use Rattle.scop_lexer.specs.Bytes.{Text};
 ghost use Rattle.scop_syntax.specs.Kernel.{IsKernel};
 ghost use Rattle.scop_syntax.specs.Tree.{Program};
+ghost use Rattle.loop_tree.specs.Marks.{FlatAll};
+ghost use Rattle.loop_tree.specs.Shape.{NestAllTo, TreesAreOf, TreesAreOver, TreesAreUpTo};
 ghost use Rattle.loop_tree.specs.Tree.{Trees};
 ghost use Rattle.c_printer.specs.Naming.{HasWords};
 ghost use Rattle.c_printer.specs.Nodes.{text_of};
@@ -36,4 +38,12 @@ pub fn unread_texts_are_of_no_tree()
 /// In a kernel of distinct words that do not begin with `pp_` all names are told apart, those of emitted loops too.
 pub fn kernels_tell_their_names_apart()
     ensures { (program : Program) → IsKernel program → HasWords program → IsNamed program }
+{}
+
+/// A flat tree of a program's statements can be printed, where its forms are over its loops and the parameters, its
+/// numbers lie within 2^45, and not too many loops stand in one another.
+pub fn flat_trees_can_be_printed()
+    ensures { (program : Program) (n : ℕ) (ts : Trees) → FlatAll ts → TreesAreOf program ts
+        → TreesAreOver (length program.parameters) ts → TreesAreUpTo (2 ^ 45) ts → NestAllTo n ts → n < 2 ^ 32
+        → AreNodes program 0 ts }
 {}

@@ -1,6 +1,6 @@
 use Rattle.std.proofs.Common.{rules, ◌+◌, ◌<◌, arith}
 use Rattle.loop_tree.specs.View.{nodes_of, tree_of}
-use Rattle.c_printer.proofs.Weights.{weight, weight_all, node_weight}
+use Rattle.loop_tree.proofs.Weights.{weight, weight_all, node_weight}
 use Rattle.c_printer.proofs.nodes.+printing.Goals as goal
 
 pub put_nodes-put_node-requires : goal.put_nodes-put_node-requires

@@ -3,7 +3,7 @@ use Rattle.std.proofs.Common.{◌≡◌, ◌+◌, ◌++◌, drop}
 use Rattle.loop_tree.specs.View.{nodes_of, tree_of}
 use Rattle.scop_syntax.specs.View.{program_of}
 use Rattle.c_printer.specs.Nodes.{nodes_text}
-use Rattle.c_printer.proofs.Weights.{weight, weight_all}
+use Rattle.loop_tree.proofs.Weights.{weight, weight_all}
 use Rattle.c_printer.proofs.nodes.+printing.Given as goal
 
 abbrev pub decreases-put_nodes : goal.decreases-put_nodes
@@ -12,11 +12,8 @@ decreases-put_nodes l = weight_all (nodes_of l.nodes.now) + 1
 abbrev pub decreases-put_node : goal.decreases-put_node
 decreases-put_node l = weight (tree_of l.node.now)
 
-abbrev pub decreases-put_loop : goal.decreases-put_loop
-decreases-put_loop l = weight_all (nodes_of l.body.now) + 3
-
-abbrev pub decreases-put_guard : goal.decreases-put_guard
-decreases-put_guard l = weight_all (nodes_of l.body.now) + 3
+abbrev pub decreases-put_body : goal.decreases-put_body
+decreases-put_body l = weight_all (nodes_of l.body.now) + 3
 
 abbrev pub invariant-put_nodes-loop-node : goal.invariant-put_nodes-loop-node
 invariant-put_nodes-loop-node l = l.out.items

@@ -1,0 +1,12 @@
+-- The quotients so far, in front of those to come, are all of them.
+use Rattle.std.proofs.Common.{◌≡◌, ◌-◌, drop, take}
+use Rattle.c_printer.specs.Reading.{quotients}
+use Rattle.c_printer.specs.steps.Reading.{narrow_list}
+use Rattle.c_printer.proofs.Narrowing.{in_front}
+use Rattle.c_printer.proofs.read_forms.quotients.Given as goal
+
+abbrev pub invariant-loop-at : goal.invariant-loop-at
+invariant-loop-at l =
+    in_front l.all.items
+    (narrow_list (take (l.count - l.at) (quotients l.stride (drop l.at l.starts) (drop l.at l.numbers))))
+    ≡ narrow_list (take l.count (quotients l.stride l.starts l.numbers))
