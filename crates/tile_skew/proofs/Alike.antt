@@ -116,7 +116,7 @@ band_there [] k i m e = absurd cc
 band_there (scalar numbers ∷ bs) k i m e = band_there bs k i m e
 band_there (band ms ∷ bs) k i m e = rows_there ms k i m e
 
-rows_many : (ms : List Marked) (k : ℕ) → length (rows_at ms k) ≡ length ms
+pub rows_many : (ms : List Marked) (k : ℕ) → length (rows_at ms k) ≡ length ms
 rows_many [] k = refl
 rows_many (m ∷ ms) k = ap suc (rows_many ms k)
 

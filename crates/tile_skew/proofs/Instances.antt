@@ -87,7 +87,7 @@ parted l s xs ps h k f =
     }
 
 -- the parameters behind a point
-behind_point : (fs ts zs ps : List ℤ) → (fs ++ (ts ++ zs)) ++ ps ≡ fs ++ (ts ++ (zs ++ ps))
+pub behind_point : (fs ts zs ps : List ℤ) → (fs ++ (ts ++ zs)) ++ ps ≡ fs ++ (ts ++ (zs ++ ps))
 behind_point fs ts zs ps =
     append_assoc fs (ts ++ zs) ps ∙ ap (λ (ys : List ℤ). fs ++ ys) (append_assoc ts zs ps)
 

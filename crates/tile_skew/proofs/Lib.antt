@@ -12,3 +12,10 @@ pub mod Widths
 pub mod Shaped
 pub mod Fitting
 pub mod Taking
+pub mod Numbers
+pub mod Ranks
+pub mod Counts
+pub mod Bounding
+pub mod Scannable
+pub mod Composing
+pub mod Turning

@@ -22,7 +22,7 @@ use Rattle.tile_skew.specs.ScanSets.{are_coordinates, forms_of_items, wave_equal
 use Rattle.tile_skew.specs.ScanSets.{missing_equalities, points_of}
 use Rattle.tile_skew.specs.steps.Sizes.{AreOver}
 use Rattle.tile_skew.proofs.Valued.{domain-value, carried-value, segment, values_from, values_to, rows_agree}
-use Rattle.tile_skew.proofs.Valued.{next_place}
+use Rattle.tile_skew.proofs.Valued.{AreValues, next_place, whole_values}
 use Rattle.tile_skew.proofs.Valued.{coordinates_from, coordinates_to, numbers-values, items-values}
 
 -- a point in parts: leading scalars and wave sum, coordinates, items, turns, missing iterators, parameters
@@ -38,7 +38,7 @@ pub record Parts (l : Layout) (s : Items) (hs bs cs ts zs ps : List ℤ) : Type 
 abbrev pub point : List ℤ → List ℤ → List ℤ → List ℤ → List ℤ → List ℤ → List ℤ
 point hs bs cs ts zs ps = (hs ++ (bs ++ cs)) ++ (ts ++ (zs ++ ps))
 
-front_size : (l : Layout) (s : Items) (hs bs cs ts zs ps : List ℤ) → Parts l s hs bs cs ts zs ps
+pub front_size : (l : Layout) (s : Items) (hs bs cs ts zs ps : List ℤ) → Parts l s hs bs cs ts zs ps
     → length (hs ++ (bs ++ cs)) ≡ l.front
 front_size l s hs bs cs ts zs ps p =
     let a = length-append hs (bs ++ cs) in
@@ -49,7 +49,7 @@ front_size l s hs bs cs ts zs ps p =
     let f = p.front in
     omega arith
 
-point_size : (l : Layout) (s : Items) (hs bs cs ts zs ps : List ℤ) → Parts l s hs bs cs ts zs ps
+pub point_size : (l : Layout) (s : Items) (hs bs cs ts zs ps : List ℤ) → Parts l s hs bs cs ts zs ps
     → length (point hs bs cs ts zs ps) ≡ width l
 point_size l s hs bs cs ts zs ps p =
     let f = front_size l s hs bs cs ts zs ps p in
@@ -61,17 +61,15 @@ point_size l s hs bs cs ts zs ps p =
     let q = p.parameters in
     omega arith
 
--- the domain's forms at the point
-domain_from : (l : Layout) (P : ℤ → Type 0) (forms : List Affine) (fs ts zs ps : List ℤ) → length fs ≡ l.front
-    → length ts ≡ l.turns → length zs ≡ l.missing
-    → All (λ f. P (value_of f (fs ++ (ts ++ (zs ++ ps))))) (map (domain_form l) forms)
-    → All (λ f. P (value_of f (ts ++ ps))) forms
-domain_from l P [] fs ts zs ps h k m a = All-nil (λ f. P (value_of f (ts ++ ps)))
-domain_from l P (f ∷ forms) fs ts zs ps h k m a =
-    let Q : Affine → Type 0 = λ g. P (value_of g (fs ++ (ts ++ (zs ++ ps)))) in
-    All-cons (λ g. P (value_of g (ts ++ ps))) f forms
-    (subst P (domain-value l f fs ts zs ps h k m) (All-head Q (domain_form l f) (map (domain_form l) forms) a))
-    (domain_from l P forms fs ts zs ps h k m (All-tail Q (domain_form l f) (map (domain_form l) forms) a))
+-- the domain's forms have the values at the point that W gives them over turns and parameters
+pub domain_from : (l : Layout) (P : ℤ → Type 0) (V W : Affine → ℤ) → ((f : Affine) → V (domain_form l f) ≡ W f)
+    → (forms : List Affine) → All (λ f. P (V f)) (map (domain_form l) forms) → All (λ f. P (W f)) forms
+domain_from l P V W e [] a = All-nil (λ f. P (W f))
+domain_from l P V W e (f ∷ forms) a =
+    let Q : Affine → Type 0 = λ g. P (V g) in
+    All-cons (λ g. P (W g)) f forms
+    (subst P (e f) (All-head Q (domain_form l f) (map (domain_form l) forms) a))
+    (domain_from l P V W e forms (All-tail Q (domain_form l f) (map (domain_form l) forms) a))
 
 domain_to : (l : Layout) (P : ℤ → Type 0) (forms : List Affine) (fs ts zs ps : List ℤ) → length fs ≡ l.front
     → length ts ≡ l.turns → length zs ≡ l.missing → All (λ f. P (value_of f (ts ++ ps))) forms
@@ -84,18 +82,19 @@ domain_to l P (f ∷ forms) fs ts zs ps h k m a =
     (domain_to l P forms fs ts zs ps h k m (All-tail Q f forms a))
 
 -- variables from j on that are 0
-zero_from : (n j m : ℕ) (x : List ℤ) → j + m ≤ n → j + m ≤ length x
-    → All (λ f. value_of f x ≡ pos 0) (variables n j m) → take m (drop j x) ≡ zeros m
-zero_from n j zero x h k a = refl
-zero_from n j (suc m) x h k a =
-    let P : Affine → Type 0 = λ f. value_of f x ≡ pos 0 in
+zero_from : (l : Layout) (d : ℤ) (V : Affine → ℤ) (j m : ℕ) (x : List ℤ) → AreValues l d x V → j + m ≤ width l
+    → j + m ≤ length x → All (λ f. V f ≡ pos 0) (variables (width l) j m) → take m (drop j x) ≡ zeros m
+zero_from l d V j zero x v h k a = refl
+zero_from l d V j (suc m) x v h k a =
+    let P : Affine → Type 0 = λ f. V f ≡ pos 0 in
+    let n = width l in
     let e : suc j ≡ j + 1 = omega arith in
-    let head = sym (value_of-variable n j x (omega arith))
-    ∙ All-head P (variable n j) (variables n (j + 1) m) a in
+    let head = sym (v.variables j (omega arith)) ∙ All-head P (variable n j) (variables n (j + 1) m) a in
     next_place x j m (omega arith)
     ∙ ap₂ (λ (z : ℤ) (zs : List ℤ). z ∷ zs) head
     (ap (λ (i : ℕ). take m (drop i x)) e
-    ∙ zero_from n (j + 1) m x (omega arith) (omega arith) (All-tail P (variable n j) (variables n (j + 1) m) a))
+    ∙ zero_from l d V (j + 1) m x v (omega arith) (omega arith)
+    (All-tail P (variable n j) (variables n (j + 1) m) a))
 
 zero_to : (n j m : ℕ) (x : List ℤ) → j + m ≤ n → j + m ≤ length x → take m (drop j x) ≡ zeros m
     → All (λ f. value_of f x ≡ pos 0) (variables n j m)
@@ -111,7 +110,7 @@ zero_to n j (suc m) x h k e =
     (subst (λ (i : ℕ). take m (drop i x) ≡ zeros m) at rest))
 
 -- where the parts stand in the point
-at_tiles : (hs bs cs r : List ℤ) → (hs ++ (bs ++ cs)) ++ r ≡ hs ++ (bs ++ (cs ++ r))
+pub at_tiles : (hs bs cs r : List ℤ) → (hs ++ (bs ++ cs)) ++ r ≡ hs ++ (bs ++ (cs ++ r))
 at_tiles hs bs cs r = append_assoc hs (bs ++ cs) r ∙ ap (λ (ys : List ℤ). hs ++ ys) (append_assoc bs cs r)
 
 at_items : (hs bs cs r : List ℤ) → (hs ++ (bs ++ cs)) ++ r ≡ (hs ++ bs) ++ (cs ++ r)
@@ -137,7 +136,7 @@ waves_are l size s hs bs cs ts zs ps p e =
     map-append (λ (f : Affine). value_of f x) numbers (carried_form l (length s.leading + 1) s.band ∷ [])
     ∙ ap₂ (λ (us : List ℤ) (z : ℤ). us ++ z ∷ []) (numbers-values l s.leading x) sum
 
-abbrev wave_forms : Layout → Items → List Affine
+abbrev pub wave_forms : Layout → Items → List Affine
 wave_forms l s = map (λ k. number_form l (pos k)) s.leading ++ carried_form l (length s.leading + 1) s.band ∷ []
 
 length-wave_forms : (l : Layout) (s : Items) → length (wave_forms l s) ≡ length s.leading + 1
@@ -167,15 +166,25 @@ pub record Says (size : ℤ) (m : Modelled) (s : Items) (hs bs cs ts zs ps : Lis
   pub items : cs ≡ item_values s ts
   pub missing : zs ≡ zeros (length zs)
 
-pub point_from : (l : Layout) (size : ℤ) (m : Modelled) (s : Items) (hs bs cs ts zs ps : List ℤ) → pos 0 <ℤ size
-    → Parts l s hs bs cs ts zs ps → AreOver (length ts) s → Satisfies (points_of l size m s) (point hs bs cs ts zs ps)
-    → Says size m s hs bs cs ts zs ps
-point_from l size m s hs bs cs ts zs ps h p over holds =
+-- what the system says of the parts of a point x over d at which forms have the values V
+pub record Tells (l : Layout) (V : Affine → ℤ) (size : ℤ) (m : Modelled) (s : Items) (hs cs zs : List ℤ) : Type 0 where
+  pub equalities : All (λ f. V f ≡ pos 0) (map (domain_form l) m.domain.equalities)
+  pub rows : All (λ f. pos 0 ≤ℤ V f) (map (domain_form l) m.domain.rows)
+  pub waves : hs ≡ map V (wave_forms l s)
+  pub tiles : All (λ f. pos 0 ≤ℤ V f) (are_coordinates l size (length s.leading + 1) s.band)
+  pub items : cs ≡ map V (forms_of_items l s)
+  pub missing : zs ≡ zeros (length zs)
+
+pub tells : (l : Layout) (d : ℤ) (V : Affine → ℤ) (size : ℤ) (m : Modelled) (s : Items)
+    (hs bs cs ts zs ps : List ℤ) → Parts l s hs bs cs ts zs ps → AreValues l d (point hs bs cs ts zs ps) V
+    → All (λ f. V f ≡ pos 0) (points_of l size m s).equalities
+    → All (λ f. pos 0 ≤ℤ V f) (points_of l size m s).rows → Tells l V size m s hs cs zs
+tells l d V size m s hs bs cs ts zs ps p v equal rising =
     let x = point hs bs cs ts zs ps in
     let fs = hs ++ (bs ++ cs) in
     let r = ts ++ (zs ++ ps) in
-    let E : Affine → Type 0 = λ f. value_of f x ≡ pos 0 in
-    let G : Affine → Type 0 = λ f. pos 0 ≤ℤ value_of f x in
+    let E : Affine → Type 0 = λ f. V f ≡ pos 0 in
+    let G : Affine → Type 0 = λ f. pos 0 ≤ℤ V f in
     let size_f = front_size l s hs bs cs ts zs ps p in
     let size_x = point_size l s hs bs cs ts zs ps p in
     let w = p.waves in
@@ -185,45 +194,64 @@ point_from l size m s hs bs cs ts zs ps h p over holds =
     let u = p.turns in
     let lw = length-wave_forms l s in
     let li = length-forms l s in
-    let j = length s.leading + 1 in
     let k = length s.leading + (1 + length s.band) in
     let own = map (domain_form l) m.domain.equalities in
     let waves = wave_equalities l s in
     let items = item_equalities l s in
     let missing = missing_equalities l in
-    let equal = all_back E own (waves ++ (items ++ missing)) holds.0 in
-    let behind = all_back E waves (items ++ missing) equal in
+    let dimensions = all_back E own (waves ++ (items ++ missing)) equal in
+    let behind = all_back E waves (items ++ missing) dimensions in
     let rows = map (domain_form l) m.domain.rows in
-    let tiles = are_coordinates l size j s.band in
-    let agree = rows_agree l s.band fs ts (zs ++ ps) size_f over.band in
-    let coordinates_are = coordinates_from l size j s.band x ts h (omega arith) (omega arith) agree
-    (all_back G rows tiles holds.1) in
-    let bs_are : bs ≡ coordinates size s.band ts =
-    sym (segment hs bs (cs ++ r) x j (length s.band) (at_tiles hs bs cs r) w t) ∙ coordinates_are in
-    let waves_at = values_from l 0 (wave_forms l s) x (omega arith) (omega arith)
-    (all_front E waves (items ++ missing) equal) in
-    let as_are = sym (segment [] hs ((bs ++ cs) ++ r) x 0 (length (wave_forms l s)) (append_assoc hs (bs ++ cs) r) refl
-    (w ∙ sym lw)) ∙ (waves_at ∙ waves_are l size s hs bs cs ts zs ps p bs_are) in
-    let items_at = values_from l k (forms_of_items l s) x (omega arith) (omega arith)
-    (all_front E items missing behind) in
+    let tiles = are_coordinates l size (length s.leading + 1) s.band in
     let place : length (hs ++ bs) ≡ k = length-append hs bs ∙ omega arith in
-    let cs_are = sym (segment (hs ++ bs) cs r x k (length (forms_of_items l s)) (at_items hs bs cs r) place
-    (p.items ∙ sym li)) ∙ (items_at ∙ items-values l s fs ts (zs ++ ps) size_f over) in
-    let zero_at = zero_from (width l) (l.front + l.turns) l.missing x (omega arith) (omega arith)
-    (all_back E items missing behind) in
     let last : length (fs ++ ts) ≡ l.front + l.turns = length-append fs ts ∙ omega arith in
-    let zs_are = sym (segment (fs ++ ts) zs ps x (l.front + l.turns) l.missing (at_missing fs ts zs ps) last z)
-    ∙ (zero_at ∙ ap zeros (sym z)) in
+    record {
+      equalities = all_front E own (waves ++ (items ++ missing)) equal;
+      rows = all_front G rows tiles rising;
+      waves = sym (segment [] hs ((bs ++ cs) ++ r) x 0 (length (wave_forms l s)) (append_assoc hs (bs ++ cs) r) refl
+          (w ∙ sym lw))
+          ∙ values_from l d V 0 (wave_forms l s) x v (omega arith) (omega arith)
+          (all_front E waves (items ++ missing) dimensions);
+      tiles = all_back G rows tiles rising;
+      items = sym (segment (hs ++ bs) cs r x k (length (forms_of_items l s)) (at_items hs bs cs r) place
+          (p.items ∙ sym li))
+          ∙ values_from l d V k (forms_of_items l s) x v (omega arith) (omega arith)
+          (all_front E items missing behind);
+      missing = sym (segment (fs ++ ts) zs ps x (l.front + l.turns) l.missing (at_missing fs ts zs ps) last z)
+          ∙ (zero_from l d V (l.front + l.turns) l.missing x v (omega arith) (omega arith)
+          (all_back E items missing behind) ∙ ap zeros (sym z));
+    }
+
+pub point_from : (l : Layout) (size : ℤ) (m : Modelled) (s : Items) (hs bs cs ts zs ps : List ℤ) → pos 0 <ℤ size
+    → Parts l s hs bs cs ts zs ps → AreOver (length ts) s → Satisfies (points_of l size m s) (point hs bs cs ts zs ps)
+    → Says size m s hs bs cs ts zs ps
+point_from l size m s hs bs cs ts zs ps h p over holds =
+    let x = point hs bs cs ts zs ps in
+    let fs = hs ++ (bs ++ cs) in
+    let V : Affine → ℤ = λ f. value_of f x in
+    let W : Affine → ℤ = λ f. value_of f (ts ++ ps) in
+    let told = tells l (pos 1) V size m s hs bs cs ts zs ps p (whole_values l x) holds.0 holds.1 in
+    let size_f = front_size l s hs bs cs ts zs ps p in
+    let size_x = point_size l s hs bs cs ts zs ps p in
+    let w = p.waves in
+    let t = p.tiles in
+    let q = p.front in
+    let j = length s.leading + 1 in
+    let own : (f : Affine) → V (domain_form l f) ≡ W f = λ f. domain-value l f fs ts zs ps size_f p.turns p.missing in
+    let agree = rows_agree l s.band fs ts (zs ++ ps) size_f over.band in
+    let coordinates_are = coordinates_from l size j s.band x ts h (omega arith) (omega arith) agree told.tiles in
+    let bs_are : bs ≡ coordinates size s.band ts =
+    sym (segment hs bs (cs ++ (ts ++ (zs ++ ps))) x j (length s.band) (at_tiles hs bs cs (ts ++ (zs ++ ps))) w t)
+    ∙ coordinates_are in
     record {
       domain = (
-        domain_from l (λ v. v ≡ pos 0) m.domain.equalities fs ts zs ps size_f u z
-            (all_front E own (waves ++ (items ++ missing)) holds.0),
-        domain_from l (λ v. pos 0 ≤ℤ v) m.domain.rows fs ts zs ps size_f u z (all_front G rows tiles holds.1),
+        domain_from l (λ v. v ≡ pos 0) V W own m.domain.equalities told.equalities,
+        domain_from l (λ v. pos 0 ≤ℤ v) V W own m.domain.rows told.rows,
       );
-      waves = as_are;
+      waves = told.waves ∙ waves_are l size s hs bs cs ts zs ps p bs_are;
       tiles = bs_are;
-      items = cs_are;
-      missing = zs_are;
+      items = told.items ∙ items-values l s fs ts (zs ++ ps) size_f over;
+      missing = told.missing;
     }
 
 pub point_to : (l : Layout) (size : ℤ) (m : Modelled) (s : Items) (hs bs cs ts zs ps : List ℤ) → pos 0 <ℤ size

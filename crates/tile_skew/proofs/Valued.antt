@@ -9,7 +9,7 @@ use Rattle.whole_numbers.specs.Affine.{Affine, value_of, values_of, sum_of_forms
 use Rattle.whole_numbers.specs.Division.{IsFloor}
 use Rattle.whole_numbers.specs.Floor.{floor}
 use Rattle.whole_numbers.specs.Lists.{dot, zeros}
-use Rattle.whole_numbers.proofs.Ring.{mul_one_left, mul_neg_left, mul_zero_left}
+use Rattle.whole_numbers.proofs.Ring.{mul_one_left, mul_one_right, mul_neg_left, mul_zero_left}
 use Rattle.whole_numbers.proofs.Dot.{dot-append, dot-zeros, dot-padded, dot-past, length-zeros}
 use Rattle.whole_numbers.proofs.Floors.{floor_is, floor_unique}
 use Rattle.whole_numbers.proofs.Values.{value_of-sum, value_of-multiple}
@@ -24,14 +24,6 @@ use Rattle.tile_skew.specs.ScanSets.{width, domain_form, row_form, number_form, 
 use Rattle.tile_skew.specs.ScanSets.{have_values, tile_begins, tile_ends, are_coordinates, forms_of_items}
 use Rattle.tile_skew.specs.steps.Sizes.{AreRowsOver, AreItemsOver, AreOver}
 
--- f - g
-pub value_of-difference : (f g : Affine) (x : List ℤ)
-    → value_of (difference_of_forms f g) x ≡ value_of f x -ℤ value_of g x
-value_of-difference f g x =
-    let s = value_of-sum f (multiple_of_form (negsuc 0) g) x in
-    let m = value_of-multiple (negsuc 0) g x in
-    omega (arith, ints)
-
 -- a form of the domain
 pub domain-value : (l : Layout) (f : Affine) (fs ts zs ps : List ℤ) → length fs ≡ l.front → length ts ≡ l.turns
     → length zs ≡ l.missing → value_of (domain_form l f) (fs ++ (ts ++ (zs ++ ps))) ≡ value_of f (ts ++ ps)
@@ -40,7 +32,7 @@ domain-value l f fs ts zs ps h k m =
     ∙ value_of-source l.turns l.missing f ts zs ps k m
 
 -- zeros, coefficients, zeros
-middle : (j k : ℕ) (cs fs ts rest : List ℤ) → length fs ≡ j → length cs ≤ length ts
+pub middle : (j k : ℕ) (cs fs ts rest : List ℤ) → length fs ≡ j → length cs ≤ length ts
     → dot (zeros j ++ (cs ++ zeros k)) (fs ++ (ts ++ rest)) ≡ dot cs ts
 middle j k cs fs ts rest h few =
     let front = dot-append (zeros j) (cs ++ zeros k) fs (ts ++ rest) (length-zeros j ∙ sym h) in
@@ -60,6 +52,31 @@ row-value l f fs ts rest h few =
 pub number-value : (l : Layout) (k : ℤ) (x : List ℤ) → value_of (number_form l k) x ≡ k
 number-value l k x = let z = dot-zeros (width l) x in omega (arith, ints)
 
+-- values that forms have at a point x over d; at a whole point d is 1
+pub record AreValues (l : Layout) (d : ℤ) (x : List ℤ) (V : Affine → ℤ) : Type 0 where
+  pub sums : (f g : Affine) → V (sum_of_forms f g) ≡ V f +ℤ V g
+  pub multiples : (k : ℤ) (f : Affine) → V (multiple_of_form k f) ≡ k *ℤ V f
+  pub variables : (j : ℕ) → j < width l → V (variable (width l) j) ≡ get_or x j (pos 0)
+  pub numbers : (k : ℤ) → V (number_form l k) ≡ k *ℤ d
+
+-- those at a whole point
+pub whole_values : (l : Layout) (x : List ℤ) → AreValues l (pos 1) x (λ f. value_of f x)
+whole_values l x =
+    record {
+      sums = λ f g. value_of-sum f g x;
+      multiples = λ k f. value_of-multiple k f x;
+      variables = λ j h. value_of-variable (width l) j x h;
+      numbers = λ k. number-value l k x ∙ sym (mul_one_right k);
+    }
+
+-- f - g
+value-difference : (l : Layout) (d : ℤ) (x : List ℤ) (V : Affine → ℤ) (f g : Affine) → AreValues l d x V
+    → V (difference_of_forms f g) ≡ V f -ℤ V g
+value-difference l d x V f g a =
+    let s = a.sums f (multiple_of_form (negsuc 0) g) in
+    let m = a.multiples (negsuc 0) g in
+    omega (arith, ints)
+
 -- the rows that carry pick their coordinates
 carried-dot : (size : ℤ) (rows : List TileRow) (ts : List ℤ)
     → dot (carried rows) (coordinates size rows ts) ≡ wave_sum size rows ts
@@ -71,7 +88,7 @@ carried-dot size (r ∷ rs) ts =
     picked true z = mul_one_left z
     picked false z = mul_zero_left z
 
-length-carried : (rows : List TileRow) → length (carried rows) ≡ length rows
+pub length-carried : (rows : List TileRow) → length (carried rows) ≡ length rows
 length-carried [] = refl
 length-carried (r ∷ rs) = ap suc (length-carried rs)
 
@@ -105,21 +122,21 @@ next_place x j n h =
     ap (take (suc n)) (drop_more x j (pos 0) h ∙ ap (λ (k : ℕ). get_or x j (pos 0) ∷ drop k x) e)
 
 -- the dimensions from j on have the values of the forms
-pub values_from : (l : Layout) (j : ℕ) (fs : List Affine) (x : List ℤ) → j + length fs ≤ width l
-    → j + length fs ≤ length x → All (λ f. value_of f x ≡ pos 0) (have_values l j fs)
-    → take (length fs) (drop j x) ≡ values_of fs x
-values_from l j [] x h k a = refl
-values_from l j (f ∷ fs) x h k a =
-    let P : Affine → Type 0 = λ g. value_of g x ≡ pos 0 in
-    let v = variable (width l) j in
-    let one = All-head P (difference_of_forms f v) (have_values l (suc j) fs) a in
-    let d = value_of-difference f v x in
-    let at = value_of-variable (width l) j x (omega arith) in
-    let head : get_or x j (pos 0) ≡ value_of f x = omega (arith, ints) in
+pub values_from : (l : Layout) (d : ℤ) (V : Affine → ℤ) (j : ℕ) (fs : List Affine) (x : List ℤ) → AreValues l d x V
+    → j + length fs ≤ width l → j + length fs ≤ length x → All (λ f. V f ≡ pos 0) (have_values l j fs)
+    → take (length fs) (drop j x) ≡ map V fs
+values_from l d V j [] x v h k a = refl
+values_from l d V j (f ∷ fs) x v h k a =
+    let P : Affine → Type 0 = λ g. V g ≡ pos 0 in
+    let w = variable (width l) j in
+    let one = All-head P (difference_of_forms f w) (have_values l (suc j) fs) a in
+    let e = value-difference l d x V f w v in
+    let at = v.variables j (omega arith) in
+    let head : get_or x j (pos 0) ≡ V f = omega (arith, ints) in
     next_place x j (length fs) (omega arith)
     ∙ ap₂ (λ (z : ℤ) (zs : List ℤ). z ∷ zs) head
-    (values_from l (suc j) fs x (omega arith) (omega arith)
-    (All-tail P (difference_of_forms f v) (have_values l (suc j) fs) a))
+    (values_from l d V (suc j) fs x v (omega arith) (omega arith)
+    (All-tail P (difference_of_forms f w) (have_values l (suc j) fs) a))
 
 pub values_to : (l : Layout) (j : ℕ) (fs : List Affine) (x : List ℤ) → j + length fs ≤ width l
     → j + length fs ≤ length x → take (length fs) (drop j x) ≡ values_of fs x
@@ -131,34 +148,34 @@ values_to l j (f ∷ fs) x h k e =
     let more = take (length fs) (drop (suc j) x) in
     let head = same_head (get_or x j (pos 0)) (value_of f x) more (values_of fs x) both in
     let rest = same_tail (get_or x j (pos 0)) (value_of f x) more (values_of fs x) both in
-    let d = value_of-difference f v x in
+    let d = value-difference l (pos 1) x (λ g. value_of g x) f v (whole_values l x) in
     let at = value_of-variable (width l) j x (omega arith) in
     All-cons (λ g. value_of g x ≡ pos 0) (difference_of_forms f v) (have_values l (suc j) fs) (omega (arith, ints))
     (values_to l (suc j) fs x (omega arith) (omega arith) rest)
 
 -- both rows of a tile coordinate
-begins-value : (l : Layout) (size : ℤ) (j : ℕ) (f : Affine) (x : List ℤ) → j < width l
-    → value_of (tile_begins l size j f) x ≡ value_of f x -ℤ (get_or x j (pos 0) *ℤ size)
-begins-value l size j f x h =
+pub begins-value : (l : Layout) (d : ℤ) (x : List ℤ) (V : Affine → ℤ) (size : ℤ) (j : ℕ) (f : Affine)
+    → AreValues l d x V → j < width l → V (tile_begins l size j f) ≡ V f -ℤ (get_or x j (pos 0) *ℤ size)
+begins-value l d x V size j f a h =
     let v = variable (width l) j in
-    let s = value_of-sum f (multiple_of_form (neg_ℤ size) v) x in
-    let m = value_of-multiple (neg_ℤ size) v x in
-    let at = value_of-variable (width l) j x h in
+    let s = a.sums f (multiple_of_form (neg_ℤ size) v) in
+    let m = a.multiples (neg_ℤ size) v in
+    let at = a.variables j h in
     let n = mul_neg_left size (get_or x j (pos 0)) in
     let p = ap (λ (z : ℤ). neg_ℤ size *ℤ z) at in
     omega (arith, ints)
 
-ends-value : (l : Layout) (size : ℤ) (j : ℕ) (f : Affine) (x : List ℤ) → j < width l
-    → value_of (tile_ends l size j f) x
-    ≡ ((size -ℤ pos 1) +ℤ (get_or x j (pos 0) *ℤ size)) -ℤ value_of f x
-ends-value l size j f x h =
+pub ends-value : (l : Layout) (d : ℤ) (x : List ℤ) (V : Affine → ℤ) (size : ℤ) (j : ℕ) (f : Affine)
+    → AreValues l d x V → j < width l
+    → V (tile_ends l size j f) ≡ (((size -ℤ pos 1) *ℤ d) +ℤ (get_or x j (pos 0) *ℤ size)) -ℤ V f
+ends-value l d x V size j f a h =
     let v = variable (width l) j in
     let n = number_form l (size -ℤ pos 1) in
-    let d = value_of-difference (sum_of_forms n (multiple_of_form size v)) f x in
-    let s = value_of-sum n (multiple_of_form size v) x in
-    let k = number-value l (size -ℤ pos 1) x in
-    let m = value_of-multiple size v x in
-    let at = value_of-variable (width l) j x h in
+    let e = value-difference l d x V (sum_of_forms n (multiple_of_form size v)) f a in
+    let s = a.sums n (multiple_of_form size v) in
+    let k = a.numbers (size -ℤ pos 1) in
+    let m = a.multiples size v in
+    let at = a.variables j h in
     let p = ap (λ (z : ℤ). size *ℤ z) at in
     omega (arith, ints)
 
@@ -180,8 +197,10 @@ coordinates_from l size j (r ∷ rs) x ts p h k g a =
     let low = All-head P (tile_begins l size j f) (tile_ends l size j f ∷ rest) a in
     let behind = All-tail P (tile_begins l size j f) (tile_ends l size j f ∷ rest) a in
     let high = All-head P (tile_ends l size j f) rest behind in
-    let b = begins-value l size j f x (omega arith) in
-    let e = ends-value l size j f x (omega arith) in
+    let V : Affine → ℤ = λ g. value_of g x in
+    let b = begins-value l (pos 1) x V size j f (whole_values l x) (omega arith) in
+    let e = ends-value l (pos 1) x V size j f (whole_values l x) (omega arith) in
+    let o = mul_one_right (size -ℤ pos 1) in
     let own = g.0 in
     let t = get_or x j (pos 0) in
     let is : IsFloor (value_of r.form ts) size t =
@@ -210,8 +229,10 @@ coordinates_to l size j (r ∷ rs) x ts p h k g e =
     let is = subst (IsFloor (value_of r.form ts) size) (sym head) (floor_is (value_of r.form ts) size p) in
     let below = is.below in
     let above = is.above in
-    let b = begins-value l size j f x (omega arith) in
-    let o = ends-value l size j f x (omega arith) in
+    let V : Affine → ℤ = λ g. value_of g x in
+    let b = begins-value l (pos 1) x V size j f (whole_values l x) (omega arith) in
+    let e = ends-value l (pos 1) x V size j f (whole_values l x) (omega arith) in
+    let o = mul_one_right (size -ℤ pos 1) in
     let own = g.0 in
     All-cons P (tile_begins l size j f) (tile_ends l size j f ∷ rest) (omega (arith, ints))
     (All-cons P (tile_ends l size j f) rest (omega (arith, ints))

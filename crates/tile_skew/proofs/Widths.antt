@@ -47,7 +47,7 @@ length-number l k = length-zeros (width l)
 pub size-number : (l : Layout) (k : ℤ) → form_size (number_form l k) ≡ unsigned_abs k
 size-number l k = let z = size-zeros (width l) in omega arith
 
-size-carried : (rows : List TileRow) → size (carried rows) ≤ length rows
+pub size-carried : (rows : List TileRow) → size (carried rows) ≤ length rows
 size-carried [] = omega arith
 size-carried (r ∷ rs) = let more = size-carried rs in let one = entry r.carries in omega arith
   where

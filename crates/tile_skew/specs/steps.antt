@@ -1,3 +1,4 @@
 -- What only proofs and private contracts need.
 pub mod Sizes
 pub mod Listed
+pub mod Facts

@@ -1,10 +1,14 @@
 //! What tiles and scan sets are for, as contracts of functions that call the laws which their proofs use.
-ghost use Rattle.std.specs.Prelude.{◌≡◌, ℕ, ◌<◌, ◌≤◌, ℤ, pos, List, [], ◌∷◌, ◌++◌, length, ◌↔◌, not, slice_get, Some};
+ghost use Rattle.std.specs.Prelude.{◌≡◌, ℕ, ◌+◌, ◌^◌, ◌<◌, ◌≤◌, ℤ, pos, List, [], ◌∷◌, ◌++◌, length};
+ghost use Rattle.std.specs.Prelude.{◌↔◌, not, slice_get, Some};
 ghost use Rattle.whole_numbers.specs.Lexicographic.{LexLess};
+ghost use Rattle.fm_projection.specs.Alone.{IsBounded};
 ghost use Rattle.integer_sets.specs.Points.{Satisfies};
 ghost use Rattle.integer_sets.specs.Scanned.{Scanned};
 ghost use Rattle.scop_syntax.specs.Kernel.{IsKernel};
-ghost use Rattle.scop_syntax.specs.Members.{In};
+ghost use Rattle.scop_syntax.specs.Members.{In, Sorted};
+ghost use Rattle.scop_syntax.specs.Statements as source;
+ghost use Rattle.scop_syntax.specs.Statements.{Placed, statements_of};
 ghost use Rattle.scop_syntax.specs.Tree.{Program};
 ghost use Rattle.scop_syntax.specs.Walk.{Instance, Visit};
 ghost use Rattle.iteration_domains.specs.Instances.{IsInstanceOf};
@@ -22,7 +26,8 @@ ghost use Rattle.tile_skew.specs.Tilings.{first_band, form_at, schedule_tiling, 
 
 use conflict_deps::conflict_laws::{conflicts_are_the_points_of_the_systems, systems_have_parts};
 use iteration_domains::domain_laws::domains_hold_the_instances;
-use schedule_rows::schedules_are_good_plans;
+use null_space::{kernel_vectors_are_kept, rows_take_kernel_vectors};
+use schedule_rows::{schedules_are_good_plans, schedules_have_small_items};
 use scop_syntax::walk_laws::{
     instances_are_those_of_statements, statements_are_numbered, walks_are_in_order,
 };
@@ -99,3 +104,31 @@ pub fn scan_sets_are_alike()
         → In x (scan_sets size blocks model) → In y (scan_sets size blocks model)
         → (x.system.dimensions ≡ y.system.dimensions) × (x.parallel ≡ y.parallel) }
 {}
+
+/// The scan sets of a schedule of a kernel's conflicts can be scanned, for tiles of sizes 1 to 1024: they are bounded
+/// for parameters in 0..=65536, of a few dimensions, and stand in the order of their statements, with an iterator for
+/// each loop round the statement.
+pub fn scan_sets_can_be_scanned()
+    ensures bounded { (program : Program) (blocks : List Block) (size : ℕ) (s : Scanned) → IsKernel program
+        → 0 < size → size ≤ 1024
+        → IsSchedule (model_of program).parameters (loops_in (model_of program)) (conflicts_of (model_of program))
+        blocks
+        → In s (scan_sets (pos size) blocks (model_of program)) → IsBounded s.system }
+    ensures parts { (program : Program) (blocks : List Block) (size : ℕ) (s : Scanned) → IsKernel program
+        → IsSchedule (model_of program).parameters (loops_in (model_of program)) (conflicts_of (model_of program))
+        blocks
+        → In s (scan_sets (pos size) blocks (model_of program))
+        → (s.system.parameters ≡ length program.parameters) × (s.first + s.iterators ≤ s.system.dimensions)
+        × (s.system.dimensions + s.system.parameters < 2 ^ 32) }
+    ensures rise { (program : Program) (blocks : List Block) (size : ℕ) → IsKernel program
+        → Sorted (λ (x y : Scanned). x.statement < y.statement) (scan_sets (pos size) blocks (model_of program)) }
+    ensures statements { (program : Program) (blocks : List Block) (size : ℕ) (s : Scanned)
+        → In s (scan_sets (pos size) blocks (model_of program))
+        → (p : Placed) × (slice_get (statements_of program) s.statement ≡ Some p)
+        × (s.iterators ≡ source.loops_in p.scopes) }
+{
+    statements_are_numbered();
+    kernel_vectors_are_kept();
+    rows_take_kernel_vectors();
+    schedules_have_small_items();
+}

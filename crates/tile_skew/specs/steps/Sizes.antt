@@ -1,5 +1,5 @@
 -- Items whose rows have a coefficient for each turn.
-use Rattle.std.specs.Prelude.{◌≡◌, ℕ, suc, ◌*◌, ◌≤◌, List, [], ◌∷◌, length, ⊤}
+use Rattle.std.specs.Prelude.{◌≡◌, ℕ, suc, ◌*◌, ◌<◌, ◌≤◌, List, [], ◌∷◌, length, All, ⊤}
 use Rattle.whole_numbers.specs.Affine.{Affine}
 use Rattle.iteration_domains.specs.Sizes.{form_size}
 use Rattle.loop_tree.specs.Tiling.{TileRow, Item, row, scalar, Items}
@@ -28,3 +28,16 @@ FitsTurns n f = (length f.coefficients ≡ n) × (form_size f ≤ 4096 * suc n)
 abbrev pub FitsItem : ℕ → Item → Type 0
 FitsItem n (row f) = FitsTurns n f
 FitsItem n (scalar k) = ⊤
+
+-- an item whose scalar is below n
+abbrev pub IsLow : ℕ → Item → Type 0
+IsLow n (row f) = ⊤
+IsLow n (scalar k) = k < n
+
+-- a statement's items: rows over n turns with small numbers, a few in the first band, and scalars below 32
+pub record AreModest (n : ℕ) (s : Items) : Type 0 where
+  pub few : length s.band ≤ 5
+  pub leading : All (λ k. k < 32) s.leading
+  pub band : All (λ r. FitsTurns n r.form) s.band
+  pub behind : All (FitsItem n) s.behind
+  pub low : All (IsLow 32) s.behind
