@@ -27,8 +27,8 @@ row_of_equality t f h small =
       holds = λ point s. let e = h.holds point s in omega (arith, ints, e);
     }
 
-pub other_of_equality : (t : Constraints) (f : Affine) → IsEquality t f → HasSmallNumbers (multiple_of_form (negsuc 0) f)
-    → IsRow t (multiple_of_form (negsuc 0) f)
+pub other_of_equality : (t : Constraints) (f : Affine) → IsEquality t f
+    → HasSmallNumbers (multiple_of_form (negsuc 0) f) → IsRow t (multiple_of_form (negsuc 0) f)
 other_of_equality t f h small =
     record {
       sized = length-multiples (negsuc 0) f.coefficients ∙ h.sized;

@@ -42,8 +42,8 @@ places_value n i (suc m) outer params few all =
     let e = front_entry outer params i (omega (arith, few)) in
     let o = mul_one_left (get_or outer i (pos 0)) in
     let first : value_of (place_form n i (pos 1) (pos 0)) (outer ++ params) ≡ get_or outer i (pos 0) =
-    v ∙ ap (λ z. (pos 1 *ℤ z) +ℤ pos 0) e ∙ (let q : (pos 1 *ℤ get_or outer i (pos 0)) +ℤ pos 0 ≡ get_or outer i (pos 0) =
-    omega (arith, ints, o) in q) in
+    v ∙ ap (λ z. (pos 1 *ℤ z) +ℤ pos 0) e
+    ∙ (let q : (pos 1 *ℤ get_or outer i (pos 0)) +ℤ pos 0 ≡ get_or outer i (pos 0) = omega (arith, ints, o) in q) in
     ap₂ (λ (z : ℤ) (zs : List ℤ). z ∷ zs) first (places_value n (suc i) m outer params (omega (arith, few)) all)
     ∙ next_entry m outer i (omega (arith, few))
 
@@ -78,7 +78,8 @@ in_leaves : (sets all : List Scanned) (m : ℕ) (params outer : List ℤ) → Al
 in_leaves [] all m params outer has size inside v h = absurd h
 in_leaves (s ∷ sets) all m params outer has size inside v h =
     let t = instance s.statement (turn_forms s) in
-    elim (in_append v (walk (under (tests_of s) t) params outer) (walk_all (leaves (map own_leaf sets)) params outer) h) [
+    let rest = walk_all (leaves (map own_leaf sets)) params outer in
+    elim (in_append v (walk (under (tests_of s) t) params outer) rest h) [
       | inl k ↦
           leaf_gives m s all params outer (All-head (HasIterators m) s sets has) size (inside s (inl refl)) v
           (in_under (tests_of s) t params outer v k)
@@ -86,7 +87,8 @@ in_leaves (s ∷ sets) all m params outer has size inside v h =
           in_leaves sets all m params outer (All-tail (HasIterators m) s sets has) size (λ q i. inside q (inr i)) v k
     ]
 
-pub leaves_give : (sets : List Scanned) (m : ℕ) → All (HasIterators m) sets → TurnsOn m sets (leaves (map own_leaf sets))
+pub leaves_give : (sets : List Scanned) (m : ℕ) → All (HasIterators m) sets
+    → TurnsOn m sets (leaves (map own_leaf sets))
 leaves_give sets m has params outer size v h = in_leaves sets sets m params outer has size (λ s i. i) v h
 
 -- a loop round what gives them

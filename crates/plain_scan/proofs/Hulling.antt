@@ -149,30 +149,33 @@ pub hull_start : (depth place n : ℕ) (outlines : List Outline) (fs : List Affi
     → All (λ o. (d : Shadow) → (get_or o.shadows.items depth d).high ≤ℤ high) outlines
     → fs ≡ place_form n place (pos 1) number ∷ place_form n place (negsuc 0) high ∷ []
     → IsHull depth place n outlines fs
-hull_start depth place n outlines fs low number high inside alike dims opposite small_low small_high least most is = record {
-  low = number;
-  high = high;
-  others = [];
-  is = is;
-  rows =
-      subst (AreHullRows depth n outlines) (sym is)
-      (All-cons (IsHullRow depth n outlines) (place_form n place (pos 1) number) (place_form n place (negsuc 0) high ∷
-      [])
-      (record {
-        sized = length-set (zeros n) place (pos 1) ∙ length-zeros n;
-        small = place_has_small n place (pos 1) number (omega arith) small_low;
-        holds = λ k d here. low_holds depth place n low number (get_or outlines k d) inside (dims k d here)
-            (alike k d here).inside opposite (least k d here);
-      })
-      (All-cons (IsHullRow depth n outlines) (place_form n place (negsuc 0) high) []
-      (record {
-        sized = length-set (zeros n) place (negsuc 0) ∙ length-zeros n;
-        small = place_has_small n place (negsuc 0) high (omega arith) small_high;
-        holds = λ k d here. high_holds depth place n high (get_or outlines k d) inside (dims k d here)
-            (alike k d here).inside (most k d here);
-      })
-      (All-nil (IsHullRow depth n outlines))));
-}
+hull_start depth place n outlines fs low number high inside alike dims opposite small_low small_high least most is =
+    let P = IsHullRow depth n outlines in
+    let first = place_form n place (pos 1) number in
+    let second = place_form n place (negsuc 0) high in
+    record {
+      low = number;
+      high = high;
+      others = [];
+      is = is;
+      rows =
+          subst (AreHullRows depth n outlines) (sym is)
+          (All-cons P first (second ∷ [])
+          (record {
+            sized = length-set (zeros n) place (pos 1) ∙ length-zeros n;
+            small = place_has_small n place (pos 1) number (omega arith) small_low;
+            holds = λ k d here. low_holds depth place n low number (get_or outlines k d) inside (dims k d here)
+                (alike k d here).inside opposite (least k d here);
+          })
+          (All-cons P second []
+          (record {
+            sized = length-set (zeros n) place (negsuc 0) ∙ length-zeros n;
+            small = place_has_small n place (negsuc 0) high (omega arith) small_high;
+            holds = λ k d here. high_holds depth place n high (get_or outlines k d) inside (dims k d here)
+                (alike k d here).inside (most k d here);
+          })
+          (All-nil P)));
+    }
 
 pub hull_row_more : (depth n : ℕ) (outlines : List Outline) (old new : List Affine) (f : Affine) → new ≡ old ++ f ∷ []
     → AreHullRows depth n outlines old → IsHullRow depth n outlines f → AreHullRows depth n outlines new

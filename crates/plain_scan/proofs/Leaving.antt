@@ -9,7 +9,8 @@ use Rattle.plain_scan.specs.Outlines.{HasNoPoint}
 use Rattle.plain_scan.specs.Leaving.{LeavesOut}
 
 -- one more set, kept
-pub keeps_more : (sets kept : List Scanned) (s : Scanned) → LeavesOut sets kept → LeavesOut (sets ++ s ∷ []) (kept ++ s ∷ [])
+pub keeps_more : (sets kept : List Scanned) (s : Scanned) → LeavesOut sets kept
+    → LeavesOut (sets ++ s ∷ []) (kept ++ s ∷ [])
 keeps_more [] [] s h = inl (refl, tt)
 keeps_more [] (k ∷ kept) s h = absurd h
 keeps_more (t ∷ sets) [] s h = inr (h.0, keeps_more sets [] s h.1)

@@ -14,6 +14,7 @@ pub mod Stepping
 pub mod Bounding
 pub mod Smallness
 pub mod Giving
+pub mod Shaping
 pub mod Opening
 pub mod Stopping
 pub mod Leaving

@@ -1,6 +1,7 @@
 -- A bounded set one of whose projections is open in its last dimension has no point.
-use Rattle.std.proofs.Common.{◌≡◌, ℕ, zero, suc, ◌+◌, ◌*◌, ◌-◌, ◌<◌, ℤ, pos, negsuc, List, [], ◌∷◌, ◌++◌, length, get_or}
-use Rattle.std.proofs.Common.{inl, inr, refl, sym, ◌∙◌, ap, subst, All, arith, append_assoc, length-append, mul-le-mul}
+use Rattle.std.proofs.Common.{◌≡◌, ℕ, zero, suc, ◌+◌, ◌*◌, ◌-◌, ◌<◌, ℤ, pos, negsuc, List, [], ◌∷◌, ◌++◌, length}
+use Rattle.std.proofs.Common.{get_or, inl, inr, refl, sym, ◌∙◌, ap, subst, All, arith, append_assoc, length-append}
+use Rattle.std.proofs.Common.{mul-le-mul}
 use Rattle.std.specs.Prelude.{◌≤◌, ◌^◌, ◌≤ℤ◌, ◌<ℤ◌, ◌+ℤ◌, ◌*ℤ◌, unsigned_abs}
 use Rattle.std.proofs.lemmas.Int.{ints, unsigned_abs-mul}
 use Rattle.std.proofs.lemmas.List.{append-nil}
@@ -8,7 +9,8 @@ use Rattle.std.proofs.lemmas.Bool.{cases_lt}
 use Rattle.std.proofs.lemmas.List.Elements.{All-cons, All-head, All-nil, All-tail}
 use Rattle.whole_numbers.specs.Lists.{dot, multiples}
 use Rattle.whole_numbers.specs.Affine.{Affine, value_of}
-use Rattle.whole_numbers.proofs.Ring.{mul_zero_left, mul_assoc_int, mul_comm_int, mul_one_right, mul_one_left, mul_neg_left}
+use Rattle.whole_numbers.proofs.Ring.{mul_zero_left, mul_assoc_int, mul_comm_int, mul_one_right, mul_one_left}
+use Rattle.whole_numbers.proofs.Ring.{mul_neg_left}
 use Rattle.whole_numbers.proofs.Order.{mul_positive, mul_le_left, mul_not_negative}
 use Rattle.whole_numbers.proofs.Dot.{length-multiples}
 use Rattle.whole_numbers.proofs.Lists.{multiples-append}
@@ -97,7 +99,8 @@ parted i [] inside = absurd (omega (arith, inside))
 parted zero (x ∷ xs) inside = record { front = []; value = x; back = xs; is = refl; size = refl }
 parted (suc i) (x ∷ xs) inside =
     let p = parted i xs (omega (arith, inside)) in
-    record { front = x ∷ p.front; value = p.value; back = p.back; is = ap (λ (zs : List ℤ). x ∷ zs) p.is; size = ap suc p.size }
+    let is = ap (λ (zs : List ℤ). x ∷ zs) p.is in
+    record { front = x ∷ p.front; value = p.value; back = p.back; is = is; size = ap suc p.size }
 
 -- a row of the range tells that its variable is in range
 range_over : (n i m : ℕ) (d : ℤ) (xs : List ℤ) → i + m ≤ n → All (λ f. pos 0 ≤ℤ value_over f d xs) (range_rows n i m)
@@ -228,15 +231,16 @@ far_value s n y less bounded h =
     let params = multiples m a.params in
     let count : length params ≡ s.parameters = length-multiples m a.params ∙ a.count ∙ tp in
     let positive = mul_positive m d b.positive a.positive in
+    let joined = sym (append_assoc (multiples m front) b.between params) in
     let all = bounded (m *ℤ d) values params positive total count (range_times m d a.params b.positive a.range)
-    (subst (HoldsOver s.equalities s.rows (m *ℤ d)) (sym (append_assoc (multiples m front) b.between params)) b.holds) in
+    (subst (HoldsOver s.equalities s.rows (m *ℤ d)) joined b.holds) in
     let point : values ≡ multiples m a.front ++ (m *ℤ x) ∷ b.between =
     ap (λ (zs : List ℤ). zs ++ b.between) (multiples-append m a.front (x ∷ []))
     ∙ one_more (multiples m a.front) (m *ℤ x) b.between in
-    let here = subst (All (λ z. unsigned_abs z ≤ 2 ^ 64 * unsigned_abs (m *ℤ d))) point all in
-    let own = middle (λ z. unsigned_abs z ≤ 2 ^ 64 * unsigned_abs (m *ℤ d)) (multiples m a.front) (m *ℤ x) b.between here in
+    let P : ℤ → Type 0 = λ z. unsigned_abs z ≤ 2 ^ 64 * unsigned_abs (m *ℤ d) in
+    let own = middle P (multiples m a.front) (m *ℤ x) b.between (subst (All P) point all) in
     let same : m *ℤ x ≡ (m *ℤ d) *ℤ y = sym (mul_assoc_int m d y) in
-    within (m *ℤ d) y positive (subst (λ z. unsigned_abs z ≤ 2 ^ 64 * unsigned_abs (m *ℤ d)) same own)
+    within (m *ℤ d) y positive (subst P same own)
   where
     range_times : (k e : ℤ) (ps : List ℤ) → pos 0 <ℤ k → AreInRangeOver e ps → AreInRangeOver (k *ℤ e) (multiples k ps)
     range_times k e [] h r = All-nil (λ q. (pos 0 ≤ℤ q) × (q ≤ℤ (pos 65536 *ℤ (k *ℤ e))))

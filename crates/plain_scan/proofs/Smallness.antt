@@ -22,14 +22,16 @@ use Rattle.plain_scan.specs.Between.{HasSmallNumbers}
 use Rattle.plain_scan.specs.Outlines.{HasSmallConstraints}
 
 -- the numbers of lists and of forms made of others
-small_negative : (c : ℤ) → unsigned_abs c ≤ 2 ^ 40 → unsigned_abs (neg_ℤ c) ≤ 2 ^ 40
+pub small_negative : (c : ℤ) → unsigned_abs c ≤ 2 ^ 40 → unsigned_abs (neg_ℤ c) ≤ 2 ^ 40
 small_negative (pos zero) h = h
 small_negative (pos (suc n)) h = h
 small_negative (negsuc n) h = h
 
 small_opposite : (c : ℤ) → unsigned_abs c ≤ 2 ^ 40 → unsigned_abs (neg_ℤ (pos 1) *ℤ c) ≤ 2 ^ 40
 small_opposite c h =
-    let e : neg_ℤ (pos 1) *ℤ c ≡ neg_ℤ c = let a = mul_neg_left (pos 1) c in let b = mul_one_left c in omega (arith, ints) in
+    let a = mul_neg_left (pos 1) c in
+    let b = mul_one_left c in
+    let e : neg_ℤ (pos 1) *ℤ c ≡ neg_ℤ c = omega (arith, ints) in
     subst (λ z. unsigned_abs z ≤ 2 ^ 40) (sym e) (small_negative c h)
 
 small_multiples : (cs : List ℤ) → AreAtMost (2 ^ 40) cs → AreAtMost (2 ^ 40) (multiples (neg_ℤ (pos 1)) cs)
@@ -105,7 +107,8 @@ zeros_times : (cs : List ℤ) → AreZeros cs → AreZeros (multiples (neg_ℤ (
 zeros_times [] h = tt
 zeros_times (c ∷ cs) h = (subst (λ z. neg_ℤ (pos 1) *ℤ z ≡ pos 0) (sym h.0) refl, zeros_times cs h.1)
 
-pub low_is_number : (n place : ℕ) (low : ℤ) → unsigned_abs low ≤ 2 ^ 40 → get_or (set (zeros n) place (pos 1)) place (pos 0) ≡ pos 1
+pub low_is_number : (n place : ℕ) (low : ℤ) → unsigned_abs low ≤ 2 ^ 40
+    → get_or (set (zeros n) place (pos 1)) place (pos 0) ≡ pos 1
     → IsNumber (low_bound place (place_form n place (pos 1) low))
 low_is_number n place low small one =
     record {

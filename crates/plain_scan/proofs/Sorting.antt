@@ -1,12 +1,12 @@
--- Sorted rows hold where the rows hold.
-use Rattle.std.proofs.Common.{◌≡◌, ℕ, zero, suc, ℤ, pos, negsuc, List, [], ◌∷◌, refl, arith}
+-- What holds of rows holds of those that are sorted out.
+use Rattle.std.proofs.Common.{◌≡◌, ℕ, zero, suc, ℤ, pos, negsuc, List, [], ◌∷◌, All, refl, arith}
 use Rattle.std.specs.Prelude.{◌≤ℤ◌}
 use Rattle.std.proofs.lemmas.Int.{ints}
+use Rattle.std.proofs.lemmas.List.Elements.{All-cons, All-head, All-tail}
 use Rattle.whole_numbers.specs.Affine.{Affine, value_of}
 use Rattle.plain_scan.specs.Sets.{AllAtLeast}
 use Rattle.plain_scan.specs.Rows.{AreLow, AreHigh}
 use Rattle.fractions.specs.Elimination.{coefficient_of}
-use Rattle.loop_tree.specs.Fits.{IsSmall, AreSmallForms}
 use Rattle.plain_scan.specs.Sorting.{if_above, if_below, lows_in, highs_in}
 
 -- sorted rows bound as they are named
@@ -52,21 +52,22 @@ highs_hold m [] point h = tt
 highs_hold m (f ∷ fs) point h =
     high_holds (coefficient_of m f) f (highs_in m fs) point h.0 (highs_hold m fs point h.1)
 
--- small rows, sorted
-low_small : (z : ℤ) (f : Affine) (fs : List Affine) → IsSmall f → AreSmallForms fs → AreSmallForms (if_above z f fs)
-low_small (pos zero) f fs h all = all
-low_small (pos (suc n)) f fs h all = (h, all)
-low_small (negsuc n) f fs h all = all
+-- what holds of rows holds of those that bound a variable from one side
+low_of : (P : Affine → Type 0) (z : ℤ) (f : Affine) (fs : List Affine) → P f → All P fs → All P (if_above z f fs)
+low_of P (pos zero) f fs h all = all
+low_of P (pos (suc n)) f fs h all = All-cons P f fs h all
+low_of P (negsuc n) f fs h all = all
 
-high_small : (z : ℤ) (f : Affine) (fs : List Affine) → IsSmall f → AreSmallForms fs
-    → AreSmallForms (if_below z f fs)
-high_small (pos n) f fs h all = all
-high_small (negsuc n) f fs h all = (h, all)
+high_of : (P : Affine → Type 0) (z : ℤ) (f : Affine) (fs : List Affine) → P f → All P fs → All P (if_below z f fs)
+high_of P (pos n) f fs h all = all
+high_of P (negsuc n) f fs h all = All-cons P f fs h all
 
-pub lows_small : (m : ℕ) (fs : List Affine) → AreSmallForms fs → AreSmallForms (lows_in m fs)
-lows_small m [] h = tt
-lows_small m (f ∷ fs) h = low_small (coefficient_of m f) f (lows_in m fs) h.0 (lows_small m fs h.1)
+pub lows_of : (P : Affine → Type 0) (m : ℕ) (fs : List Affine) → All P fs → All P (lows_in m fs)
+lows_of P m [] h = h
+lows_of P m (f ∷ fs) h =
+    low_of P (coefficient_of m f) f (lows_in m fs) (All-head P f fs h) (lows_of P m fs (All-tail P f fs h))
 
-pub highs_small : (m : ℕ) (fs : List Affine) → AreSmallForms fs → AreSmallForms (highs_in m fs)
-highs_small m [] h = tt
-highs_small m (f ∷ fs) h = high_small (coefficient_of m f) f (highs_in m fs) h.0 (highs_small m fs h.1)
+pub highs_of : (P : Affine → Type 0) (m : ℕ) (fs : List Affine) → All P fs → All P (highs_in m fs)
+highs_of P m [] h = h
+highs_of P m (f ∷ fs) h =
+    high_of P (coefficient_of m f) f (highs_in m fs) (All-head P f fs h) (highs_of P m fs (All-tail P f fs h))

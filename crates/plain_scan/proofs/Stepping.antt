@@ -38,7 +38,7 @@ use Rattle.plain_scan.specs.Giving.{TurnsOn}
 use Rattle.plain_scan.specs.Outlines.{HasSmallConstraints}
 use Rattle.plain_scan.proofs.Giving.{loop_gives}
 use Rattle.plain_scan.proofs.Smallness.{high_is_number, is_small, loop_small, low_is_number}
-use Rattle.plain_scan.proofs.Sorting.{lows_are_low, highs_are_high, lows_hold, highs_hold, lows_small, highs_small}
+use Rattle.plain_scan.proofs.Sorting.{lows_are_low, highs_are_high, lows_hold, highs_hold, lows_of, highs_of}
 
 -- a set's projections are its shadows
 pub projected_shadow : (n m : ℕ) (s : Scanned) → n + m ≡ s.system.dimensions → IsShadow m s (projected n s.system)
@@ -52,7 +52,7 @@ projected_shadow (suc n) m s count =
     ∙ sym place) h)
 
 -- rows that hold at a key of one of the sets
-row_holds : (depth place : ℕ) (f : Affine) (o : Outline) → o.set.now.system.dimensions ≡ place + suc depth
+pub row_holds : (depth place : ℕ) (f : Affine) (o : Outline) → o.set.now.system.dimensions ≡ place + suc depth
     → HoldsAt depth f o
     → (params outer : List ℤ) (x : ℤ) (r : List ℤ) → AreInRange params → length outer ≡ place
     → IsKeyOf params (o.set.now) (outer ++ x ∷ r)
@@ -78,7 +78,7 @@ key_holds depth place f (o ∷ os) dims h params outer x r range size (inr k) =
     key_holds depth place f os (All-tail (λ o. o.set.now.system.dimensions ≡ place + suc depth) o os dims)
     (All-tail (HoldsAt depth f) o os h) params outer x r range size k
 
-keys_hold : (depth place n : ℕ) (os : List Outline) (fs : List Affine)
+pub keys_hold : (depth place n : ℕ) (os : List Outline) (fs : List Affine)
     → All (λ o. o.set.now.system.dimensions ≡ place + suc depth) os → AreHullRows depth n os fs
     → (params outer : List ℤ) (x : ℤ) (r : List ℤ) → AreInRange params → length outer ≡ place
     → Keys (sets_in os) params (outer ++ x ∷ r)
@@ -89,7 +89,7 @@ keys_hold depth place n os (f ∷ fs) dims h params outer x r range size k = (
   keys_hold depth place n os fs dims (All-tail (IsHullRow depth n os) f fs h) params outer x r range size k,
 )
 
-own_coefficient : (n place : ℕ) (k c : ℤ) → place < n → coefficient_of place (place_form n place k c) ≡ k
+pub own_coefficient : (n place : ℕ) (k c : ℤ) → place < n → coefficient_of place (place_form n place k c) ≡ k
 own_coefficient n place k c inside = get_or-set_same (zeros n) place k (pos 0) (omega (arith, inside, length-zeros n))
 
 pub hull_step : (depth place n : ℕ) (os : List Outline) (fs : List Affine) (h : IsHull depth place n os fs) → place < n
@@ -263,12 +263,14 @@ next_small depth place n p os fs rows h same less at flag body ts inner made =
     let rest = All-tail IsSmall low (high ∷ h.others) all in
     let first = All-head IsSmall low (high ∷ h.others) all in
     let second = All-head IsSmall high h.others rest in
-    let others = nested_small h.others (All-tail IsSmall high h.others rest) in
+    let others = All-tail IsSmall high h.others rest in
+    let lows = nested_small (lows_in place h.others) (lows_of IsSmall place h.others others) in
+    let highs = nested_small (highs_in place h.others) (highs_of IsSmall place h.others others) in
     let one : suc depth ≡ depth + 1 = omega arith in
     subst (λ k. AreSmallTrees k ts) one
     (subst (AreSmallTrees (suc depth)) (sym (made low high h.others (same ∙ h.is)))
-    (loop_small depth place flag low high (lows_in place h.others) (highs_in place h.others) body first second
-    (lows_small place h.others others) (highs_small place h.others others)
+    (loop_small depth place flag low high (lows_in place h.others) (highs_in place h.others) body first second lows
+    highs
     (low_is_number v place h.low first.constant (own_coefficient v place (pos 1) h.low inside))
     (high_is_number v place h.high second.constant (own_coefficient v place (negsuc 0) h.high inside)) inner))
 

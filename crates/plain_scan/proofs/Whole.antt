@@ -1,6 +1,6 @@
 -- From the hull of the sets that are kept to the scan of all.
-use Rattle.std.proofs.Common.{◌≡◌, ℕ, zero, suc, ◌+◌, ◌*◌, ◌<◌, ℤ, pos, List, [], ◌∷◌, ◌++◌, length, get_or, take, refl, sym}
-use Rattle.std.proofs.Common.{◌∙◌, ap, subst, All, arith}
+use Rattle.std.proofs.Common.{◌≡◌, ℕ, zero, ◌+◌, ◌*◌, ◌<◌, ℤ, pos, List, [], ◌∷◌, ◌++◌, length, get_or, take}
+use Rattle.std.proofs.Common.{refl, sym, ◌∙◌, ap, subst, All, arith}
 use Rattle.std.specs.Prelude.{◌≤◌, ◌^◌, ◌≤ℤ◌, unsigned_abs}
 use Rattle.std.proofs.lemmas.Int.{ints}
 use Rattle.std.proofs.lemmas.List.Elements.{All-cons, All-head, All-nil, All-tail}
@@ -76,26 +76,6 @@ over_outlines P (o ∷ os) h =
     All-cons (λ o. P o.set.now) o os (All-head P o.set.now (sets_in os) h)
     (over_outlines P os (All-tail P o.set.now (sets_in os) h))
 
--- where one is kept there is one, and the first has the shape of all
-pub some_kept : (sets kept : List Scanned) → LeavesOut sets kept → 0 < length kept → 0 < length sets
-some_kept sets [] left some = absurd (omega (arith, some))
-some_kept [] (k ∷ kept) left some = absurd left
-some_kept (s ∷ sets) (k ∷ kept) left some = omega arith
-
-pub first_dimensions : (sets : List Scanned) (d : Scanned) → 0 < length sets
-    → (get_or sets 0 d).system.dimensions ≡ dimensions_of sets
-first_dimensions [] d some = absurd (omega (arith, some))
-first_dimensions (s ∷ sets) d some = refl
-
-pub first_parameters : (sets : List Scanned) (d : Scanned) → 0 < length sets
-    → (get_or sets 0 d).system.parameters ≡ parameters_of sets
-first_parameters [] d some = absurd (omega (arith, some))
-first_parameters (s ∷ sets) d some = refl
-
-pub first_mark : (sets : List Scanned) (d : Scanned) → 0 < length sets → (get_or sets 0 d).parallel ≡ mark_of sets
-first_mark [] d some = absurd (omega (arith, some))
-first_mark (s ∷ sets) d some = refl
-
 -- sets gone through one by one, each kept or left out
 sets_more : (os : List Outline) (o : Outline) → sets_in (os ++ o ∷ []) ≡ sets_in os ++ o.set.now ∷ []
 sets_more [] o = refl
@@ -137,13 +117,17 @@ iterators_kept sets os are left =
         let i = h.iterators in
         (omega (arith, d, i), omega (arith, d))
 
-outlines_count : (os : List Outline) → length (sets_in os) ≡ length os
-outlines_count [] = refl
-outlines_count (o ∷ os) = ap suc (outlines_count os)
+-- where one is kept their variables are few
+pub few_kept : (sets : List Scanned) (os : List Outline) → AreScanned sets → LeavesOut sets (sets_in os) → 0 < length os
+    → dimensions_of sets + parameters_of sets < 2 ^ 32
+few_kept sets [] are left some = absurd (omega (arith, some))
+few_kept sets (o ∷ os) are left some = (shaped sets (o ∷ os) are left 0 o some).few
 
-pub some_sets : (sets : List Scanned) (os : List Outline) → LeavesOut sets (sets_in os) → 0 < length os → 0 < length sets
-some_sets sets os left some =
-    let n = outlines_count os in some_kept sets (sets_in os) left (omega (arith, n, some))
+-- of no set none is kept
+pub none_kept : (sets : List Scanned) (os : List Outline) → LeavesOut sets (sets_in os) → 0 < length os → sets ≡ []
+    → ⊥
+none_kept sets [] left some e = absurd (omega (arith, some))
+none_kept sets (o ∷ os) left some e = subst (λ ss. LeavesOut ss (sets_in (o ∷ os))) e left
 
 pub empty_list : {X : Type 0} (xs : List X) → length xs ≡ 0 → xs ≡ []
 empty_list [] e = refl

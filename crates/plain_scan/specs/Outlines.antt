@@ -8,8 +8,8 @@ use Rattle.integer_sets.specs.Points.{Satisfies}
 use Rattle.fm_projection.specs.declared.stop.FmStop.{FmStop}
 use Rattle.fm_projection.specs.declared.stop.FmStop.TheVariants as fm
 use Rattle.fm_projection.specs.Gives.{Eliminates}
-use Rattle.fm_projection.specs.Projecting.{projected}
-use Rattle.fm_projection.specs.Alone.{AreInRange, StopsAlone, last_alone}
+use Rattle.fm_projection.specs.Projecting.{PassProjecting, projected}
+use Rattle.fm_projection.specs.Alone.{AllPass, AreInRange, StopsAlone, last_alone, last_with_parameters, ranged}
 use Rattle.plain_scan.specs.Between.{HasSmallNumbers}
 use Rattle.plain_scan.specs.declared.outline.Shadow.{Shadow}
 use Rattle.plain_scan.specs.Between.{IsLargeOf, IsOpenAbove, IsOpenBelow}
@@ -62,25 +62,41 @@ abbrev pub HasNoPoint : Constraints → Type 0
 HasNoPoint s =
     (params values : List ℤ) → AreInRange params → length values ≡ s.dimensions → Satisfies s (values ++ params) → ⊥
 
--- the shadow of a projection is not found, since an elimination stops or a number is beyond 2^40; want of memory is free
+-- the eliminations that leave a system's last dimension alone pass
+abbrev pub PassAlone : Constraints → Type 0
+PassAlone t = AllPass 0 (t.dimensions - 1) (ranged t) × AllPass 1 t.parameters (last_with_parameters t)
+
+-- so do those of each of the first n projections
+abbrev pub PassEachAlone : ℕ → Constraints → Type 0
+PassEachAlone n s = (k : ℕ) → k < n → PassAlone (projected k s)
+
+-- the shadow of a projection is not found, since an elimination stops or a number is beyond 2^40; want of memory is
+-- free
 abbrev pub StopsShadow : Constraints → FmStop → Type 0
 StopsShadow t (fm.Wide w) = StopsAlone t (fm.Wide w)
 StopsShadow t (fm.Crowded pairs) = StopsAlone t (fm.Crowded pairs)
-StopsShadow t (fm.Large number) = IsLargeOf (last_alone t) number
+StopsShadow t (fm.Large number) = PassAlone t × IsLargeOf (last_alone t) number
 StopsShadow t fm.NoMemory = ⊤
 
--- an elimination of a set's projections stops so: of the last dimension, or of the others and the parameters
+-- the first elimination of a set's projections that stops does so: of the others and the parameters, for the last
+-- dimension alone, or then of the last dimension
 pub record StopsAt (s : Constraints) (stop : FmStop) : Type 0 where
   pub before : ℕ
   pub less : before < s.dimensions
-  pub stops : Eliminates (s.dimensions - suc before) (projected before s) (Err stop)
-      ⊎ StopsAlone (projected before s) stop
+  pub passed : PassProjecting before s
+  pub alone : PassEachAlone before s
+  pub stops : StopsAlone (projected before s) stop
+      ⊎ (PassAlone (projected before s) × Eliminates (s.dimensions - suc before) (projected before s) (Err stop))
 
--- a number beyond 2^40 is one of a projection's, or of what is left of its last dimension alone
+-- a number beyond 2^40 is one of what is left of a projection's last dimension alone, where the eliminations on the way
+-- pass; or it is one of the set's own, where all pass
 pub record IsLargeAt (s : Constraints) (number : ℤ) : Type 0 where
   pub before : ℕ
-  pub few : before ≤ s.dimensions
-  pub large : IsLargeOf (projected before s) number ⊎ IsLargeOf (last_alone (projected before s)) number
+  pub passed : PassProjecting before s
+  pub alone : PassEachAlone before s
+  pub large : ((before < s.dimensions) × PassAlone (projected before s)
+      × IsLargeOf (last_alone (projected before s)) number)
+      ⊎ ((before ≡ s.dimensions) × IsLargeOf s number)
 
 -- why the shadows of a set are not found; want of memory is free
 abbrev pub StopsSet : Constraints → FmStop → Type 0

@@ -1,10 +1,11 @@
--- What a scan asks of its sets, and why it stops.
-use Rattle.std.specs.Prelude.{◌≡◌, ℕ, ◌+◌, ◌<◌, ◌≤◌, ◌^◌, List, [], ◌∷◌, Option, None, All, ⊤}
+-- What a scan asks of its sets, whose its instances are, and why it stops.
+use Rattle.std.specs.Prelude.{◌≡◌, ℕ, ◌+◌, ◌<◌, ◌≤◌, ◌^◌, List, [], ◌∷◌, length, Option, None, All, ⊤}
 use Rattle.integer_sets.specs.Scanned.{Scanned, iterators_at}
 use Rattle.scop_syntax.specs.Members.{In}
 use Rattle.fm_projection.specs.declared.stop.FmStop.{FmStop}
 use Rattle.fm_projection.specs.declared.stop.FmStop.TheVariants as fm
 use Rattle.fm_projection.specs.Alone.{IsBounded}
+use Rattle.loop_tree.specs.Tree.{Tree, loop, guard, instance, Trees, none, more}
 use Rattle.loop_tree.specs.Walk.{Visit}
 use Rattle.plain_scan.specs.Outlines.{StopsSet}
 
@@ -41,6 +42,19 @@ abbrev pub GiveIterators : List Scanned → List Visit → Type 0
 GiveIterators sets visits =
     (v : Visit) → In v visits
     → (s : Scanned) × In s sets × (s.statement ≡ v.number) × (v.turns ≡ iterators_at s v.values)
+
+abbrev mutual
+  -- each instance is one of a set's statement, with a form for each of its iterators
+  pub IsOfSets : List Scanned → Tree → Type 0
+  IsOfSets sets (loop flag lo up body) = AreOfSets sets body
+  IsOfSets sets (guard tests body) = AreOfSets sets body
+  IsOfSets sets (instance n forms) =
+      (s : Scanned) × In s sets × (s.statement ≡ n) × (length forms ≡ s.iterators)
+
+  -- so it is in each of these trees
+  pub AreOfSets : List Scanned → Trees → Type 0
+  AreOfSets sets none = ⊤
+  AreOfSets sets (more t ts) = IsOfSets sets t × AreOfSets sets ts
 
 -- one of the sets stops so; want of memory is free
 abbrev pub StopsScan : List Scanned → FmStop → Type 0

@@ -229,7 +229,8 @@ fn turns(alloc: Global, set: &ScanSet) -> Result<Vec<Aff>, AllocError>
 
 /// A statement under tests.
 fn guarded(alloc: Global, tests: Vec<Test>, leaf: Leaf) -> Result<Node, AllocError>
-    ensures { IfOk result (λ n. tree_of n ≡ under (map test_of tests.items) (instance leaf.statement leaf.turns.items)) }
+    ensures { IfOk result (λ n. tree_of n
+        ≡ under (map test_of tests.items) (instance leaf.statement leaf.turns.items)) }
 {
     if tests.len() == 0 {
         return Ok(Node::Instance(leaf));

@@ -8,6 +8,7 @@ mod hull;
 mod numbers;
 mod outline;
 mod set_outline;
+pub mod shared;
 mod tree_of_sets;
 
 pub use tree_of_sets::scan;

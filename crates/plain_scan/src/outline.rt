@@ -11,7 +11,7 @@ ghost use Rattle.fm_projection.specs.declared.stop.FmStop.TheVariants.{Large};
 ghost use Rattle.plain_scan.specs.Between.{AreNumbersOf, IsLargeOf};
 ghost use Rattle.plain_scan.specs.Outlines.{AreRows, AreShadows, HasSmallConstraints};
 ghost use Rattle.plain_scan.specs.Outlines.{IsEquality, IsOpen, IsOpenSomewhere};
-ghost use Rattle.plain_scan.specs.Outlines.{IsRow, IsShadowOf, StopsSet, StopsShadow};
+ghost use Rattle.plain_scan.specs.Outlines.{IsRow, IsShadowOf, PassAlone, StopsSet, StopsShadow};
 
 use crate::numbers::{Numbers, has_small_numbers, large_among, numbers_alone};
 use affine_forms::{Form, FormStop};
@@ -106,7 +106,8 @@ fn shadow_between(
     projection: &System,
     numbers: Numbers,
 ) -> Result<Option<Shadow>, FmStop>
-    requires { AreNumbersOf (last_alone projection.now) numbers }
+    requires numbers { AreNumbersOf (last_alone projection.now) numbers }
+    requires passed { PassAlone projection.now }
     ensures found { IfOk result (λ found. MatchOption found (IsOpen projection.now) (IsShadowOf projection.now)) }
     ensures stops { IfErr result (StopsShadow projection.now) }
 {
@@ -126,6 +127,7 @@ fn shadow_between(
 fn shadow_of(alloc: Global, projection: &System) -> Result<Option<Shadow>, FmStop>
     requires some { 0 < projection.now.dimensions }
     requires few { variables_in projection.now < 2 ^ 32 }
+    ensures passed { IfOk result (λ found. PassAlone projection.now) }
     ensures found { IfOk result (λ found. MatchOption found (IsOpen projection.now) (IsShadowOf projection.now)) }
     ensures stops { IfErr result (StopsShadow projection.now) }
 {
@@ -138,9 +140,9 @@ fn shadow_of(alloc: Global, projection: &System) -> Result<Option<Shadow>, FmSto
 /// The shadows of a set's projections, that on all dimensions first; None where a dimension has no bound from one side.
 ///
 /// # Errors
-/// `Wide` or `Crowded` of an elimination of a projection's last dimension, or of all its others and of the parameters;
-/// `Large` with a number beyond 2^40 of a constraint of the set or of what is left of a last dimension alone;
-/// `NoMemory`.
+/// `Wide` or `Crowded` as the first elimination that stops: of a projection's others and of the parameters, for its
+/// last dimension alone, or then of that dimension; `Large` with a number beyond 2^40 of what is left of a last
+/// dimension alone, or of a constraint of the set; `NoMemory`.
 pub fn outline_of(alloc: Global, set: &ScanSet) -> Result<Option<Vec<Shadow>>, FmStop>
     requires few { variables_in set.now.system < 2 ^ 32 }
     ensures found { IfOk result (λ found. MatchOption found (IsOpenSomewhere set.now.system)

@@ -7,13 +7,16 @@ ghost use Rattle.loop_tree.specs.Walk.{walk_all};
 ghost use Rattle.loop_tree.specs.Scans.{Exact};
 ghost use Rattle.loop_tree.specs.Fits.{AreSmallTrees, FitsAll};
 ghost use Rattle.loop_tree.specs.Marks.{FlatAll, MarksAll};
+ghost use Rattle.loop_tree.specs.Shape.{NestAllTo, TreesAreOver, TreesAreUpTo};
+ghost use Rattle.loop_tree.specs.Tree.{none};
 ghost use Rattle.loop_tree.specs.View.{trees_in};
 ghost use Rattle.plain_scan.specs.Sets.{Keys, NumbersRise};
 ghost use Rattle.plain_scan.specs.Rows.{ServesOn};
 ghost use Rattle.plain_scan.specs.Hulls.{flags, sets_in};
 ghost use Rattle.plain_scan.specs.Giving.{HasIterators, TurnsOn};
+ghost use Rattle.plain_scan.specs.Shape.{AreShaped};
 ghost use Rattle.plain_scan.specs.Leaving.{LeavesOut};
-ghost use Rattle.plain_scan.specs.Scanning.{AreScanned, GiveIterators, StopsScan};
+ghost use Rattle.plain_scan.specs.Scanning.{AreOfSets, AreScanned, GiveIterators, StopsScan};
 ghost use Rattle.plain_scan.specs.Scanning.{dimensions_of, mark_of, parameters_of};
 
 use crate::bounds::{leaves, loop_round};
@@ -43,6 +46,7 @@ fn scan_outlines(
         → ServesOn dimensions zero (sets_in outlines.now) [] (trees_in t)) }
     ensures turns { IfOk result (λ t. TurnsOn zero (sets_in outlines.now) (trees_in t)) }
     ensures small { IfOk result (λ t. AreSmallTrees dimensions (trees_in t)) }
+    ensures shaped { IfOk result (λ t. AreShaped parameters (sets_in outlines.now) (trees_in t)) }
     ensures flat { IfOk result (λ t. FlatAll (trees_in t)) }
     ensures marks { IfOk result (λ t. MarksAll (flags parallel zero dimensions) (trees_in t)) }
 {
@@ -56,7 +60,7 @@ fn scan_outlines(
 }
 
 /// The outlines of sets, without the sets that have no point.
-fn outlines_of(alloc: Global, sets: &[ScanSet]) -> Result<Vec<Outline>, FmStop>
+pub fn outlines_of(alloc: Global, sets: &[ScanSet]) -> Result<Vec<Outline>, FmStop>
     requires { AreScanned sets.now }
     ensures kept { IfOk result (λ v. LeavesOut sets.now (sets_in v.items)) }
     ensures stops { IfErr result (StopsScan sets.now) }
@@ -75,14 +79,44 @@ fn outlines_of(alloc: Global, sets: &[ScanSet]) -> Result<Vec<Outline>, FmStop>
     Ok(outlines)
 }
 
+/// How many dimensions the sets have.
+pub fn dimensions_in(sets: &[ScanSet]) -> usize
+    ensures { result ≡ dimensions_of sets.now }
+{
+    match sets.first() {
+        None => 0,
+        Some(set) => set.system().dimensions(),
+    }
+}
+
+/// How many parameters the sets have.
+pub fn parameters_in(sets: &[ScanSet]) -> usize
+    ensures { result ≡ parameters_of sets.now }
+{
+    match sets.first() {
+        None => 0,
+        Some(set) => set.system().parameters(),
+    }
+}
+
+/// The dimension that the sets mark.
+pub fn mark_in(sets: &[ScanSet]) -> Option<usize>
+    ensures { result ≡ mark_of sets.now }
+{
+    match sets.first() {
+        None => None,
+        Some(set) => set.parallel(),
+    }
+}
+
 /// The tree that visits the points of sets, one set a statement and by rising numbers, in the lexicographic order of
 /// their dimensions, and at one point by statement. The sets have one number of dimensions and one of parameters, mark
 /// one place or none, and are bounded.
 ///
 /// # Errors
-/// `Wide` or `Crowded` only where an elimination of a set stops so: of the last dimension of its projection on the
-/// first, or, for the bounds of that dimension alone, of the others and of the parameters; `Large` only where a number
-/// of such a projection, or of what is left of one dimension alone, is beyond 2^40 in absolute value; `NoMemory`.
+/// `Wide` or `Crowded` only where the first elimination of a set that stops does so: of the others and the parameters
+/// of a projection on the first dimensions, for the bounds of its last alone, or then of that last; `Large` only where
+/// a number of what is left of such a dimension alone, or of the set, is beyond 2^40 in absolute value; `NoMemory`.
 pub fn scan(alloc: Global, sets: &[ScanSet]) -> Result<Tree, FmStop>
     requires sets { AreScanned sets.now }
     requires rise { NumbersRise sets.now }
@@ -92,8 +126,14 @@ pub fn scan(alloc: Global, sets: &[ScanSet]) -> Result<Tree, FmStop>
         → GiveIterators sets.now (walk_all (trees_in t) params [])) }
     ensures fits { IfOk result (λ t. (params : List ℤ) → AreInRange params → length params ≡ parameters_of sets.now
         → FitsAll (trees_in t) params []) }
+    ensures small { IfOk result (λ t. TreesAreUpTo (2 ^ 40) (trees_in t)) }
+    ensures numbers { IfOk result (λ t. AreSmallTrees (dimensions_of sets.now) (trees_in t)) }
+    ensures over { IfOk result (λ t. TreesAreOver (parameters_of sets.now) (trees_in t)) }
+    ensures nested { IfOk result (λ t. NestAllTo (dimensions_of sets.now) (trees_in t)) }
+    ensures instances { IfOk result (λ t. AreOfSets sets.now (trees_in t)) }
     ensures flat { IfOk result (λ t. FlatAll (trees_in t)) }
     ensures marks { IfOk result (λ t. MarksAll (flags (mark_of sets.now) zero (dimensions_of sets.now)) (trees_in t)) }
+    ensures empty { IfOk result (λ t. sets.now ≡ [] → trees_in t ≡ none) }
     ensures stops { IfErr result (StopsScan sets.now) }
 {
     let outlines = match outlines_of(alloc, sets) {
@@ -105,13 +145,12 @@ pub fn scan(alloc: Global, sets: &[ScanSet]) -> Result<Tree, FmStop>
             nodes: Vec::new(alloc),
         });
     }
-    let system = sets[0].system();
     match scan_outlines(
         alloc,
         &outlines,
-        system.dimensions(),
-        system.parameters(),
-        sets[0].parallel(),
+        dimensions_in(sets),
+        parameters_in(sets),
+        mark_in(sets),
     ) {
         Err(_) => Err(FmStop::NoMemory),
         Ok(tree) => Ok(tree),

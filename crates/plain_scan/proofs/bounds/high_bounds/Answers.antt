@@ -13,6 +13,6 @@ loop-row-preserved c =
 
 pub returns : goal.returns
 returns c =
-    high_end c.args.place c.args.first.now c.args.rows.now c.in_ok-first.first c.loop-row.others.items c.in_ok-first.ensures
-    (c.loop-row.invariant ∙ ap (λ fs. map (high_bound c.args.place) (highs_in c.args.place fs))
+    high_end c.args.place c.args.first.now c.args.rows.now c.in_ok-first.first c.loop-row.others.items
+    c.in_ok-first.ensures (c.loop-row.invariant ∙ ap (λ fs. map (high_bound c.args.place) (highs_in c.args.place fs))
     (take_all c.args.rows.now c.loop-row.row-index c.loop-row-test.false))

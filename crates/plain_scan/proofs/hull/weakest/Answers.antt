@@ -27,7 +27,9 @@ rows_there c =
     (o.are.each depth _ alike.inside).rows
 
 pub least_constant-requires-clause-small : goal.least_constant-requires-clause-small
-least_constant-requires-clause-small c = let rows = rows_there (goal.at.least_constant-requires-clause-small c).After-as_slice in λ k d inside. (rows k d inside).small
+least_constant-requires-clause-small c =
+    let rows = rows_there (goal.at.least_constant-requires-clause-small c).After-as_slice in
+    λ k d inside. (rows k d inside).small
 
 pub loop-outline-preserved : goal.loop-outline-preserved
 loop-outline-preserved c =

@@ -38,8 +38,14 @@ loop-form-2-init c =
     record {
       between = inv.between;
       small = inv.small;
-      below = λ n l. (subst (All zero_at) gone (inv.below n l), all_none (λ f. coefficient_of 0 f ≤ℤ pos 0) c.rows-form-items.result.now);
-      above = λ n l. (subst (All zero_at) gone (inv.above n l), all_none (λ f. pos 0 ≤ℤ coefficient_of 0 f) c.rows-form-items.result.now);
+      below = λ n l. (
+        subst (All zero_at) gone (inv.below n l),
+        all_none (λ f. coefficient_of 0 f ≤ℤ pos 0) c.rows-form-items.result.now,
+      );
+      above = λ n l. (
+        subst (All zero_at) gone (inv.above n l),
+        all_none (λ f. pos 0 ≤ℤ coefficient_of 0 f) c.rows-form-items.result.now,
+      );
       large = inv.large;
     }
 

@@ -13,6 +13,6 @@ returns-in-None-clause-between c x e b =
     let fits3 : FitsSigned w128 c.opposite.result = search rules in
     let fits4 : FitsSigned w128 c.opposite-in-None.result = search rules in
     c.with_small_row-in-None.ensures.between x
-    (simp to_z-of_z (other_parts a k c.opposite.result c.opposite-in-None.result x (simp to_z-of_z at c.opposite.ensures.exact)
-    (simp to_z-of_z at c.opposite-in-None.ensures.exact) e))
+    (simp to_z-of_z (other_parts a k c.opposite.result c.opposite-in-None.result x
+    (simp to_z-of_z at c.opposite.ensures.exact) (simp to_z-of_z at c.opposite-in-None.ensures.exact) e))
     (c.with_small_row.ensures.between x (simp to_z-of_z (zero_least _ e)) b)

@@ -13,9 +13,9 @@ returns-in-Ok-clause-found c =
     let high = c.in-Some-high.high in
     let fits : FitsSigned w128 low = search rules in
     let fits2 : FitsSigned w128 high = search rules in
-    let small = small_both n low high c.in-Some.is c.in-Some-high.is c.requires.small in
+    let small = small_both n low high c.in-Some.is c.in-Some-high.is c.requires.numbers.small in
     let between : (x : ℤ) → Satisfies (last_alone c.args.projection.now) (x ∷ []) → (low ≤ℤ x) × (x ≤ℤ high) =
-    λ x h. low_high n low high x c.in-Some.is c.in-Some-high.is (c.requires.between x h) in
+    λ x h. low_high n low high x c.in-Some.is c.in-Some-high.is (c.requires.numbers.between x h) in
     record {
       rows = c.in-Ok.ensures;
       between = simp to_z-of_z between;

@@ -1,0 +1,13 @@
+use Rattle.std.proofs.Common.{◌∙◌, ap}
+use Rattle.std.proofs.lemmas.Result.{IfOk-weaker}
+use Rattle.split_scan.specs.Copies.{bounding_in}
+use Rattle.split_scan.proofs.Barring.{hull_bars}
+use Rattle.split_scan.proofs.bars.bars.Goals as goal
+
+pub returns : goal.returns
+returns c =
+    let h = c.in_ok-rows.ensures in
+    IfOk-weaker c.bounding.result _ _ (λ v made. hull_bars c.args.depth c.args.place c.args.variables
+    c.args.outlines.now
+    c.in_ok-rows.rows.items v.items c.requires.inside h (made ∙ ap (bounding_in c.args.place) c.deref.ensures.value))
+    c.bounding.ensures

@@ -1,0 +1,6 @@
+use Rattle.std.proofs.Common.{take}
+use Rattle.split_scan.specs.Copies.{AreCopies}
+use Rattle.split_scan.proofs.copies.shadows_again.Given as goal
+
+abbrev pub invariant-loop-shadow : goal.invariant-loop-shadow
+invariant-loop-shadow l = AreCopies (take l.shadow-index l.shadows) l.out.items

@@ -1,0 +1,7 @@
+use Rattle.std.proofs.Common.{◌≡◌, take}
+use Rattle.plain_scan.specs.Hulls.{sets_in}
+use Rattle.split_scan.specs.Parts.{staying}
+use Rattle.split_scan.proofs.copies.staying.Given as goal
+
+abbrev pub invariant-loop-at : goal.invariant-loop-at
+invariant-loop-at l = sets_in l.out.items ≡ staying l.stays (sets_in (take l.at l.outlines))

@@ -1,0 +1,7 @@
+pub mod Questions
+pub mod Parts
+pub mod Ordering
+pub mod Copies
+pub mod Nodes
+pub mod Bounding
+pub mod steps
