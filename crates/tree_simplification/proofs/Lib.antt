@@ -1,0 +1,15 @@
+pub mod Joined
+pub mod Composed
+pub mod Inside
+pub mod Inlining
+pub mod Heads
+pub mod Nodes
+pub mod RowValues
+pub mod Contexts
+pub mod Leaving
+pub mod Shapes
+pub mod Walks
+pub mod Trees
+pub mod Trimmed
+pub mod Larger
+pub mod Together

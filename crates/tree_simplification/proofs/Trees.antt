@@ -1,0 +1,84 @@
+-- What is left of nodes, one by one, as code goes over them.
+use Rattle.std.proofs.Common.{◌≡◌, ℕ, zero, suc, ◌+◌, ◌<◌, List, [], ◌∷◌, ◌++◌, length, drop, get_or, ap, subst, sym}
+use Rattle.std.proofs.Common.{◌∙◌, refl}
+use Rattle.std.proofs.Common.{arith}
+use Rattle.std.specs.Prelude.{Bool, Result, Ok, Err, OnOk, is_ok, if◌then◌else◌}
+use Rattle.loop_tree.specs.Shape.{TreesAreOver}
+use Rattle.loop_tree.specs.Tree.{Bounds, Test, loop, guard, Trees, none, more}
+use Rattle.loop_tree.specs.View.{nodes_of, tree_of}
+use Rattle.loop_tree.specs.declared.tree.Node.{Node}
+use Rattle.loop_tree.proofs.Weights.{node_here}
+use Rattle.tree_simplification.specs.steps.Context.{Context, tested}
+use Rattle.tree_simplification.specs.steps.Trimmed.{CanTrim, IsEntered, Trims, TrimsAll, joined}
+use Rattle.tree_simplification.proofs.Shapes.{flat_body}
+use Rattle.tree_simplification.proofs.Walks.{one_more}
+
+-- nodes one behind the other
+pub nodes_joined : (xs ys : List Node) → nodes_of (xs ++ ys) ≡ joined (nodes_of xs) (nodes_of ys)
+nodes_joined [] ys = refl
+nodes_joined (x ∷ xs) ys = ap (more (tree_of x)) (nodes_joined xs ys)
+
+joined_none : (ts : Trees) → joined ts none ≡ ts
+joined_none none = refl
+joined_none (more t ts) = ap (more t) (joined_none ts)
+
+joined_on : (ts us vs : Trees) → joined (joined ts us) vs ≡ joined ts (joined us vs)
+joined_on none us vs = refl
+joined_on (more t ts) us vs = ap (more t) (joined_on ts us vs)
+
+-- what a call that may fail leaves where it does not
+pub left_at_ok : {A E X : Type 0} (r : Result A E) (new both old : X) → new ≡ (if is_ok r then both else old)
+    → OnOk r (new ≡ both)
+left_at_ok (Ok a) new both old h = h
+left_at_ok (Err e) new both old h = tt
+
+can_at : (c : Context) (nodes : List Node) (i : ℕ) (d : Node) → i < length nodes → CanTrim c (nodes_of nodes)
+    → CanTrim c (more (tree_of (get_or nodes i d)) none)
+can_at c [] i d inside can = absurd (omega (arith, inside))
+can_at c (x ∷ xs) zero d inside can = record { flat = (can.flat.0, tt); over = (can.over.0, tt) }
+can_at c (x ∷ xs) (suc i) d inside can =
+    can_at c xs i d (omega (arith, inside)) (record { flat = can.flat.1; over = can.over.1 })
+
+-- a node among nodes
+pub can_one : (c : Context) (nodes : List Node) (i : ℕ) (node : Node) → node ≡ get_or nodes i node → i < length nodes
+    → CanTrim c (nodes_of nodes) → CanTrim c (more (tree_of node) none)
+can_one c nodes i node found inside can =
+    subst (λ (x : Node). CanTrim c (more (tree_of x) none)) (sym found) (can_at c nodes i node inside can)
+
+-- a loop's body, and a guard's
+pub can_loop : (c within : Context) (flag : Bool) (lo up : Bounds) (body : Trees)
+    → CanTrim c (more (loop flag lo up body) none) → IsEntered c lo up within → CanTrim within body
+can_loop c within flag lo up body can e =
+    subst (λ (d : Context). CanTrim d body) (sym e.1) (record {
+      flat = can.flat.0.2;
+      over = subst (λ k. TreesAreOver k body) (one_more c.loops c.parameters) can.over.0.2;
+    })
+
+pub can_guard : (c within : Context) (tests : List Test) (body : Trees) → CanTrim c (more (guard tests body) none)
+    → within ≡ tested c tests → CanTrim within body
+can_guard c within tests body can e =
+    subst (λ (d : Context). CanTrim d body) (sym e)
+    (record { flat = flat_body tests body can.flat; over = can.over.0.1 })
+
+-- what is left so far, with what is left of the rest, is what is left of all
+abbrev pub Leaves : Context → List Node → ℕ → List Node → Type 0
+Leaves c nodes i out =
+    (rest : Trees) → TrimsAll c (nodes_of (drop i nodes)) rest
+    → TrimsAll c (nodes_of nodes) (joined (nodes_of out) rest)
+
+-- one node more, and no more
+pub leaves_next : (c : Context) (nodes : List Node) (i : ℕ) (node : Node) (out new : List Node) (left : Trees)
+    → node ≡ get_or nodes i node → i < length nodes → Leaves c nodes i out → Trims c (tree_of node) left
+    → nodes_of new ≡ joined (nodes_of out) left → Leaves c nodes (i + 1) new
+leaves_next c nodes i node out new left found inside so_far here e rest h =
+    let whole : TrimsAll c (nodes_of (drop i nodes)) (joined left rest) =
+    subst (λ (ts : Trees). TrimsAll c ts (joined left rest)) (sym (node_here nodes i node found inside))
+    (left, rest, refl, here, h) in
+    subst (TrimsAll c (nodes_of nodes))
+    (sym (ap (λ (ts : Trees). joined ts rest) e ∙ joined_on (nodes_of out) left rest)) (so_far (joined left rest) whole)
+
+pub leaves_all : (c : Context) (nodes : List Node) (i : ℕ) (out : List Node) → drop i nodes ≡ [] → Leaves c nodes i out
+    → TrimsAll c (nodes_of nodes) (nodes_of out)
+leaves_all c nodes i out e so_far =
+    subst (TrimsAll c (nodes_of nodes)) (joined_none (nodes_of out))
+    (so_far none (subst (λ (ns : List Node). TrimsAll c (nodes_of ns) none) (sym e) refl))

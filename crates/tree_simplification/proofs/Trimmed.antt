@@ -1,0 +1,119 @@
+-- A tree without what is implied visits what it visits, and is like it.
+use Rattle.std.proofs.Common.{◌≡◌, ℕ, ◌+◌, ◌*◌, ◌^◌, ◌<◌, ◌≤◌, inl, inr, ℤ, pos, List, [], ◌∷◌, ◌++◌, length, subst}
+use Rattle.std.proofs.Common.{sym, refl}
+use Rattle.std.proofs.Common.{arith}
+use Rattle.std.specs.Prelude.{Bool, true, false, unsigned_abs, ⊤, ◌-ℤ◌, ◌*ℤ◌, ◌≤ℤ◌}
+use Rattle.std.proofs.lemmas.Int.{ints}
+use Rattle.std.proofs.lemmas.List.Elements.{All-head, All-nil, All-tail}
+use Rattle.whole_numbers.specs.Affine.{Affine, value_of}
+use Rattle.affine_forms.specs.Parts.{variables_of}
+use Rattle.fm_projection.specs.Alone.{AreInRange}
+use Rattle.scop_syntax.specs.Members.{In}
+use Rattle.scop_syntax.specs.Walk.{Instance}
+use Rattle.scop_syntax.proofs.Limits.{abs_at_most, size}
+use Rattle.loop_tree.specs.Fits.{AreSmallTrees}
+use Rattle.loop_tree.specs.Marks.{AreBounds, FlatAll}
+use Rattle.loop_tree.specs.Plans.{Conflict}
+use Rattle.loop_tree.specs.Shape.{TreesAreOver, TreesAreUpTo}
+use Rattle.loop_tree.specs.Tree.{Bound, Bounds, Trees, only, besides}
+use Rattle.loop_tree.proofs.Fits.{small_fits_all}
+use Rattle.tree_simplification.specs.steps.Context.{Context, Meets, OnSide, TrimsSide, outside, parts, sign_of}
+use Rattle.tree_simplification.specs.steps.Trimmed.{Among, IsTrimmed, TrimsAll, TrimsBounds}
+use Rattle.tree_simplification.proofs.Contexts.{high_from, high_to, low_from, low_to}
+use Rattle.tree_simplification.proofs.Shapes.{alike_all, bounds_flat}
+use Rattle.tree_simplification.proofs.Walks.{Agrees, agree_all, stays_all}
+
+-- there is always a part
+pub some_part : (bs : Bounds) → 0 < length (parts bs)
+some_part (only b) = omega arith
+some_part (besides b bs) = omega arith
+
+-- a part of a side, and some of its parts
+on_member : (turned : Bool) (b : Bound) (bs : List Bound) (point : List ℤ) (x : ℤ) → In b bs → OnSide turned bs point x
+    → pos 0 ≤ℤ (sign_of turned *ℤ (value_of b.form point -ℤ (x *ℤ b.divisor)))
+on_member turned b [] point x i on = absurd i
+on_member turned b (a ∷ bs) point x (inl e) on =
+    subst (λ (c : Bound). pos 0 ≤ℤ (sign_of turned *ℤ (value_of c.form point -ℤ (x *ℤ c.divisor)))) (sym e) on.0
+on_member turned b (a ∷ bs) point x (inr i) on = on_member turned b bs point x i on.1
+
+on_among : (turned : Bool) (kept bs : List Bound) (point : List ℤ) (x : ℤ) → Among kept bs → OnSide turned bs point x
+    → OnSide turned kept point x
+on_among turned [] bs point x among on = tt
+on_among turned (a ∷ kept) bs point x among on =
+    (on_member turned a bs point x (among a (inl refl)) on, on_among turned kept bs point x (λ b i. among b (inr i)) on)
+
+-- both sides, the lower one first
+pub trims_both : (c : Context) (lo up low high : Bounds) → AreBounds lo → AreBounds up
+    → TrimsSide c true (parts lo) (parts up) (parts low) → TrimsSide c false (parts up) (parts low) (parts high)
+    → TrimsBounds c lo up low high
+trims_both c lo up low high flat_lo flat_up f g =
+    let flat_low = bounds_flat lo low f.among flat_lo in
+    let flat_high = bounds_flat up high g.among flat_up in
+    record {
+      lower_parts = f.among;
+      upper_parts = g.among;
+      values = λ params outer m x.
+          let point = outer ++ params in (
+            (λ w. (
+              low_from low point x flat_low
+                  (on_among true (parts low) (parts lo) point x f.among (low_to lo point x flat_lo w.0)),
+              high_from high point x flat_high
+                  (on_among false (parts high) (parts up) point x g.among (high_to up point x flat_up w.1)),
+            )),
+            (λ w.
+                let above = low_to low point x flat_low w.0 in
+                let below = g.implied params outer m x (high_to high point x flat_high w.1) above in (
+                  low_from lo point x flat_lo (f.implied params outer m x above below),
+                  high_from up point x flat_up below,
+                )),
+          );
+    }
+
+-- parameters in range are small
+size_in_range : (params : List ℤ) → AreInRange params → size params ≤ length params * 65536
+size_in_range [] h = omega arith
+size_in_range (x ∷ xs) h =
+    let P : ℤ → Type 0 = λ p. (pos 0 ≤ℤ p) × (p ≤ℤ pos 65536) in
+    let here = All-head P x xs h in
+    let r = size_in_range xs (All-tail P x xs h) in
+    let a = within x here.0 here.1 in
+    omega (arith, r, a)
+  where
+    within : (z : ℤ) → pos 0 ≤ℤ z → z ≤ℤ pos 65536 → unsigned_abs z ≤ 65536
+    within z low high = abs_at_most z 65536 (omega (arith, ints, low)) high
+
+-- at no loop only parameters are known
+meets_outside : (parameters : ℕ) (params : List ℤ) → length params ≡ parameters → AreInRange params
+    → Meets (outside parameters) params []
+meets_outside parameters params e range =
+    record { loops_are = refl; parameters_are = e; range = range; whole = λ _. tt; inside = tt }
+
+-- what is left at no loop visits what all visits, and is like it
+pub trimmed_is : (parameters : ℕ) (old new : Trees) → parameters < 2 ^ 32 → FlatAll old → TreesAreOver parameters old
+    → TreesAreUpTo (2 ^ 40) old → (d : ℕ) → d < 2 ^ 32 → AreSmallTrees d old → TrimsAll (outside parameters) old new
+    → IsTrimmed parameters old new
+trimmed_is parameters old new few flat over numbers d less small trims =
+    let alike = alike_all (outside parameters) old new trims in
+    let sized = All-nil (λ (f : Affine). variables_of f ≡ 0 + parameters) in
+    let total : parameters ≡ 0 + parameters = omega arith in
+    let sized_over = subst (λ k. TreesAreOver k old) total over in
+    let agrees : (C : Instance → Instance → Type 0) (params : List ℤ) → length params ≡ parameters → AreInRange params
+    → Agrees C params [] old new =
+    λ C params e range. agree_all C (outside parameters) old new params [] trims sized sized_over flat
+    (meets_outside parameters params e range) in
+    record {
+      walk = λ params e range. (agrees (λ x y. ⊤) params e range).visits;
+      free = λ program params e range. (agrees (Conflict program params) params e range).free;
+      fits = λ params e range.
+          let s = size_in_range params range in
+          (agrees (λ x y. ⊤) params e range).fits
+          (small_fits_all d old params [] small (omega (arith, s, e, few, less)));
+      within = λ params e range. (agrees (λ x y. ⊤) params e range).stays (2 ^ 40)
+          (stays_all d old params [] small flat);
+      serial = alike.serial;
+      flat = alike.flat flat;
+      statements = alike.statements;
+      over = alike.over parameters over;
+      small = alike.small (2 ^ 40) numbers;
+      nested = alike.nested;
+    }

@@ -1,0 +1,6 @@
+use Rattle.std.proofs.Common.{drop}
+use Rattle.whole_numbers.specs.Lists.{NotNegative}
+use Rattle.tree_simplification.proofs.asking.are_natural.Given as goal
+
+abbrev pub invariant-loop-number : goal.invariant-loop-number
+invariant-loop-number l = NotNegative (drop l.number-index l.numbers) → NotNegative l.numbers

@@ -1,0 +1,13 @@
+use Rattle.std.proofs.Common.{◌≡◌, subst, List, ℤ, pos, ◌++◌, ap}
+use Rattle.std.specs.Prelude.{IfOk, true, ◌≤ℤ◌}
+use Rattle.whole_numbers.specs.Affine.{Affine, value_of}
+use Rattle.loop_tree.specs.Tree.{Bound}
+use Rattle.tree_simplification.specs.steps.Context.{Meets}
+use Rattle.tree_simplification.specs.steps.ContextView.{context_of}
+use Rattle.tree_simplification.proofs.asking.starts_natural.Goals as goal
+
+pub returns : goal.returns
+returns c =
+    subst (λ (f : Affine). IfOk c.never_falls.result (λ b. b ≡ true → (params outer : List ℤ)
+    → Meets (context_of c.args.context.now) params outer → pos 0 ≤ℤ value_of f (outer ++ params)))
+    (ap (λ (b : Bound). b.form) c.part.view_is) c.never_falls.ensures

@@ -1,0 +1,6 @@
+use Rattle.std.proofs.Common.{◌≡◌, ◌++◌, drop, map}
+use Rattle.loop_tree.specs.View.{test_of}
+use Rattle.tree_simplification.proofs.copies.copied_tests.Given as goal
+
+abbrev pub invariant-loop-test : goal.invariant-loop-test
+invariant-loop-test l = map test_of l.out.items ++ map test_of (drop l.test-index l.tests) ≡ map test_of l.tests

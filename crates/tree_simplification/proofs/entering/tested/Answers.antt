@@ -1,0 +1,20 @@
+use Rattle.std.proofs.Common.{◌≡◌, ap, ◌∙◌, sym, subst, map, ◌++◌, List, All, ◌+◌}
+use Rattle.whole_numbers.specs.Affine.{Affine}
+use Rattle.affine_forms.specs.Parts.{variables_of}
+use Rattle.loop_tree.specs.View.{test_of}
+use Rattle.tree_simplification.specs.steps.Context.{tests_rows}
+use Rattle.tree_simplification.specs.steps.ContextView.{context_of}
+use Rattle.tree_simplification.proofs.Contexts.{sized_tested}
+use Rattle.tree_simplification.proofs.entering.tested.Goals as goal
+
+pub invariant_of-result : goal.invariant_of-result
+invariant_of-result c =
+    let old = c.args.context.now in
+    let tests = map test_of c.args.tests.now in
+    let rows : c.push_tests.new.rows.items ≡ old.rows.items ++ tests_rows tests =
+    c.in_ok-push_tests.ensures
+    ∙ ap (λ (rs : List Affine). rs ++ tests_rows tests) (c.in_ok-rows.ensures ∙ c.deref.ensures.value) in
+    record {
+      sized = subst (λ (rs : List Affine). All (λ f. variables_of f ≡ old.loops + old.parameters) rs) (sym rows)
+          (sized_tested (context_of old) tests old.sized c.requires);
+    }

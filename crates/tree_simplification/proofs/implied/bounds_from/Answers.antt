@@ -1,0 +1,12 @@
+use Rattle.std.proofs.Common.{List, ◌∷◌, ap, sym, ◌∙◌}
+use Rattle.loop_tree.specs.Tree.{Bound}
+use Rattle.tree_simplification.proofs.Contexts.{parts_behind}
+use Rattle.tree_simplification.proofs.Leaving.{first_and_rest}
+use Rattle.tree_simplification.proofs.implied.bounds_from.Goals as goal
+
+pub returns : goal.returns
+returns c =
+    let first = c.remove-first.result in
+    parts_behind first c.remove-first.new.self.items
+    ∙ ap (λ (bs : List Bound). first ∷ bs) c.remove-first.ensures.items
+    ∙ sym (first_and_rest c.args.kept.items first c.remove-first.ensures.value c.requires)

@@ -1,0 +1,10 @@
+use Rattle.std.proofs.Common.{◌≡◌, ◌^◌, map, take}
+use Rattle.std.specs.Prelude.{All}
+use Rattle.whole_numbers.specs.Affine.{composed}
+use Rattle.loop_tree.specs.Shape.{IsUpTo}
+use Rattle.tree_simplification.proofs.single.heads.all_forms.Given as goal
+
+abbrev pub invariant-loop-form : goal.invariant-loop-form
+invariant-loop-form l =
+    (l.all.items ≡ map (λ f. composed f l.forms l.variables) (take l.form-index l.old))
+    × All (IsUpTo (2 ^ 45)) l.all.items

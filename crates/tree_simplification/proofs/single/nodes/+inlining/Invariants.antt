@@ -1,0 +1,22 @@
+use Rattle.std.proofs.Common.{◌+◌}
+use Rattle.loop_tree.specs.View.{nodes_of, tree_of}
+use Rattle.loop_tree.proofs.Weights.{weight, weight_all}
+use Rattle.tree_simplification.proofs.Nodes.{HaveGone}
+use Rattle.tree_simplification.proofs.single.nodes.+inlining.Given as goal
+
+abbrev pub decreases-inline_nodes : goal.decreases-inline_nodes
+decreases-inline_nodes l = weight_all (nodes_of l.nodes.now) + 1
+
+abbrev pub decreases-inline_node : goal.decreases-inline_node
+decreases-inline_node l = weight (tree_of l.node.now)
+
+abbrev pub decreases-inline_loop : goal.decreases-inline_loop
+decreases-inline_loop l = weight_all (nodes_of l.body.now) + 3
+
+abbrev pub decreases-inline_guard : goal.decreases-inline_guard
+decreases-inline_guard l = weight_all (nodes_of l.body.now) + 3
+
+abbrev pub invariant-inline_nodes-loop-node : goal.invariant-inline_nodes-loop-node
+invariant-inline_nodes-loop-node l =
+    HaveGone l.place.parameters l.place.kept l.place.loops.items l.nodes l.node-index (nodes_of l.fn.out.items)
+    (nodes_of l.out.items)

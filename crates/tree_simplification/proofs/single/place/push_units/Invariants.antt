@@ -1,0 +1,7 @@
+use Rattle.std.proofs.Common.{◌≡◌, ◌-◌, ◌++◌}
+use Rattle.iteration_domains.specs.Rows.{variables}
+use Rattle.tree_simplification.proofs.single.place.push_units.Given as goal
+
+abbrev pub invariant-loop-at : goal.invariant-loop-at
+invariant-loop-at l =
+    l.forms.items ++ variables l.of l.at (l.of - l.at) ≡ l.fn.forms.items ++ variables l.of l.from (l.of - l.from)

@@ -1,0 +1,7 @@
+use Rattle.tree_simplification.specs.steps.Context.{TrimsSide}
+use Rattle.tree_simplification.specs.steps.ContextView.{context_of}
+use Rattle.tree_simplification.proofs.trimming.trim_parts.Given as goal
+
+abbrev pub invariant-loop : goal.invariant-loop
+invariant-loop l =
+    TrimsSide (context_of l.fn.context) l.fn.turned l.fn.left.items l.fn.others l.left.items

@@ -1,0 +1,5 @@
+-- What only proofs and private contracts need.
+pub mod Inlined
+pub mod Context
+pub mod ContextView
+pub mod Trimmed

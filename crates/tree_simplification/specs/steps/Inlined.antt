@@ -1,0 +1,118 @@
+-- Trees in which the loops that run once have given way to their values.
+use Rattle.std.specs.Prelude.{◌≡◌, ℕ, ◌+◌, ◌^◌, ◌≤◌, true, ℤ, List, [], ◌∷◌, ◌++◌, All, length, map, pos, take, drop}
+use Rattle.std.specs.Prelude.{◌⊎◌}
+use Rattle.whole_numbers.specs.Affine.{Affine, composed, form_of, values_of}
+use Rattle.fm_projection.specs.Alone.{AreInRange}
+use Rattle.scop_syntax.specs.Kernel.{AreAtMost}
+use Rattle.scop_syntax.specs.Tree.{Program}
+use Rattle.iteration_domains.specs.Rows.{variable, variables}
+use Rattle.loop_tree.specs.Fits.{FitsAll, form_in}
+use Rattle.loop_tree.specs.Marks.{AreTests, FlatAll}
+use Rattle.loop_tree.specs.Plans.{AreFree, Conflict}
+use Rattle.loop_tree.specs.Shape.{AreSerial, IsOver, NestAllTo, TestIsUpTo, TreesAreOf, TreesAreOver, TreesAreUpTo}
+use Rattle.loop_tree.specs.Tree.{Bound, Bounds, only, besides, Test, at_least, equal, multiple, Trees, none, more}
+use Rattle.loop_tree.specs.View.{test_of}
+use Rattle.loop_tree.specs.Walk.{all_hold, holds, walk_all}
+use Rattle.loop_tree.specs.declared.tree.Test.{Test as CodeTest}
+use Rattle.tree_simplification.specs.Simplified.{shown, shows, StayWithin}
+
+-- for all parameters the new trees show what the old ones show, and iterations of parallel loops that were free of
+-- conflicts are so; the numbers fit for parameters in 0..=65536 for which the values of the old loops lie within 2^40
+pub record IsInlined (parameters : ℕ) (old new : Trees) : Type 0 where
+  pub alike : (params : List ℤ) → length params ≡ parameters → shows new params ≡ shows old params
+  pub free : (program : Program) (params : List ℤ) → length params ≡ parameters
+      → AreFree (Conflict program params) old params [] → AreFree (Conflict program params) new params []
+  pub fits : (params : List ℤ) → length params ≡ parameters → AreInRange params → StayWithin (2 ^ 40) old params []
+      → FitsAll new params []
+  pub serial : AreSerial old → AreSerial new
+  pub flat : FlatAll old → FlatAll new
+  pub statements : (program : Program) → TreesAreOf program old → TreesAreOf program new
+  pub over : TreesAreOver parameters new
+  pub small : TreesAreUpTo (2 ^ 45) new
+  pub nested : (n : ℕ) → NestAllTo n old → NestAllTo n new
+
+-- few small values of loops and parameters, also with d loops more
+pub record AreNear (d : ℕ) (params outer : List ℤ) : Type 0 where
+  pub few_parameters : length params ≤ 2 ^ 32
+  pub few_loops : length outer + d ≤ 2 ^ 32
+  pub small_parameters : AreAtMost (2 ^ 16) params
+  pub small_values : AreAtMost (2 ^ 40) outer
+
+-- the same within loops: new loops, so many, stand round the new trees, and over them and the parameters the forms give
+-- the values of the old loops round the old trees
+pub record Inlines (parameters kept : ℕ) (loops : List Affine) (old new : Trees) : Type 0 where
+  pub alike : (params outer : List ℤ) → length params ≡ parameters → length outer ≡ kept
+      → map shown (walk_all new params outer) ≡ map shown (walk_all old params (values_of loops (outer ++ params)))
+  pub free : (program : Program) (params outer : List ℤ) → length params ≡ parameters → length outer ≡ kept
+      → AreFree (Conflict program params) old params (values_of loops (outer ++ params))
+      → AreFree (Conflict program params) new params outer
+  pub fits : (d : ℕ) (params outer : List ℤ) → length params ≡ parameters → length outer ≡ kept → NestAllTo d old
+      → AreNear d params outer → StayWithin (2 ^ 40) old params (values_of loops (outer ++ params))
+      → FitsAll new params outer
+  pub serial : AreSerial old → AreSerial new
+  pub flat : FlatAll old → FlatAll new
+  pub statements : (program : Program) → TreesAreOf program old → TreesAreOf program new
+  pub over : TreesAreOver (kept + parameters) new
+  pub small : TreesAreUpTo (2 ^ 45) new
+  pub nested : (n m : ℕ) → n ≤ m → NestAllTo n old → NestAllTo m new
+
+-- trees and others behind them
+abbrev pub joined : Trees → Trees → Trees
+joined none us = us
+joined (more t ts) us = more t (joined ts us)
+
+-- forms over the new loops and the parameters: one for each old loop, and then the parameters
+pub record IsPlace (parameters kept : ℕ) (loops forms : List Affine) : Type 0 where
+  pub are : forms ≡ loops ++ variables (kept + parameters) kept parameters
+  pub sized : All (IsOver (kept + parameters)) loops
+
+-- a form with one loop more round it, behind k others, of which it does not speak
+abbrev pub widened : ℕ → Affine → Affine
+widened k f = form_of (take k f.coefficients ++ pos 0 ∷ drop k f.coefficients) f.constant
+
+-- the forms of the old loops within a loop that stays, behind k others
+abbrev pub inside : ℕ → ℕ → List Affine → List Affine
+inside parameters k loops = map (widened k) loops ++ variable (k + 1 + parameters) k ∷ []
+
+-- a bound over n variables, where the forms stand for its variables
+abbrev pub bound_over : ℕ → List Affine → Bound → Bound
+bound_over n forms b = record { form = composed b.form forms n; divisor = b.divisor }
+
+-- so are bounds
+abbrev pub bounds_over : ℕ → List Affine → Bounds → Bounds
+bounds_over n forms (only b) = only (bound_over n forms b)
+bounds_over n forms (besides b bs) = besides (bound_over n forms b) (bounds_over n forms bs)
+
+-- a test
+abbrev pub test_over : ℕ → List Affine → Test → Test
+test_over n forms (at_least f) = at_least (composed f forms n)
+test_over n forms (equal f) = equal (composed f forms n)
+test_over n forms (multiple f d) = multiple (composed f forms n) d
+
+-- the bound that is one form
+abbrev pub once : Affine → Bounds
+once f = only (record { form = f; divisor = pos 1 })
+
+-- tests over n variables that hold where the old ones do
+pub record AreTestsFor (n : ℕ) (forms : List Affine) (old new : List Test) : Type 0 where
+  pub same : (point : List ℤ) → all_hold new point ≡ all_hold (map (test_over n forms) old) point
+  pub over : All (λ test. IsOver n (form_in test)) new
+  pub small : All (TestIsUpTo (2 ^ 45)) new
+  pub flat : AreTests old → AreTests new
+
+-- the tests and one more behind them, or only they, where that one holds everywhere
+abbrev pub AreWith : List CodeTest → CodeTest → List CodeTest → Type 0
+AreWith old test new = (new ≡ old ++ test ∷ []) ⊎ ((new ≡ old) × ((point : List ℤ) → holds (test_of test) point ≡ true))
+
+-- what the code asks of trees: few loops and parameters, forms over the loops round them, and small numbers
+pub record CanInline (parameters kept : ℕ) (loops forms : List Affine) (ts : Trees) : Type 0 where
+  pub place : IsPlace parameters kept loops forms
+  pub few : parameters ≤ 2 ^ 32
+  pub deep : (d : ℕ) × (kept + d ≤ 2 ^ 32) × NestAllTo d ts
+  pub over : TreesAreOver (length loops + parameters) ts
+  pub small : TreesAreUpTo (2 ^ 40) ts
+
+-- behind the trees there were stand those that the old ones gave way to
+abbrev pub Extends : ℕ → ℕ → List Affine → Trees → Trees → Trees → Type 0
+Extends parameters kept loops old before after =
+    (new : Trees) × (after ≡ joined before new) × Inlines parameters kept loops old new

@@ -1,0 +1,199 @@
+//! Rows of a context. Promises exactly those of specs/steps/Context.antt.
+
+ghost use Rattle.std.specs.Prelude.{◌≡◌, ◌≤◌, ◌++◌, ◌∷◌, [], ◌+ℤ◌, ◌*ℤ◌, All, IfOk, OnOk, false, insert, length, map};
+ghost use Rattle.whole_numbers.specs.Affine.{form_of};
+ghost use Rattle.whole_numbers.specs.Lists.{multiples};
+ghost use Rattle.affine_forms.specs.Parts.{variables_of};
+ghost use Rattle.loop_tree.specs.View.{test_of};
+ghost use Rattle.tree_simplification.specs.steps.Context.{form_row, less_of, part_row, sign_of};
+ghost use Rattle.tree_simplification.specs.steps.Context.{test_rows, tests_rows, widened};
+
+use affine_forms::Form;
+use loop_tree::{Bound, Test};
+use scop_syntax::tree::Aff;
+use std::alloc::{AllocError, Global};
+
+/// Appends a value.
+pub fn push<T: Drop>(list: &mut Vec<T>, value: T) -> Result<(), AllocError>
+    ensures { OnOk result (list.new.items ≡ list.old.items ++ value ∷ []) }
+{
+    match list.push(value) {
+        Err(_) => Err(AllocError),
+        Ok(()) => Ok(()),
+    }
+}
+
+/// The number or its opposite.
+fn signed(number: i64, turned: bool) -> i128
+    ensures { result ≡ sign_of turned *ℤ number }
+{
+    if turned {
+        -(number as i128)
+    } else {
+        number as i128
+    }
+}
+
+/// The number or its opposite, or 1 less.
+fn signed_less(number: i64, turned: bool, less: bool) -> i128
+    ensures { result ≡ (sign_of turned *ℤ number) +ℤ less_of less }
+{
+    let number = signed(number, turned);
+    if less { number - 1 } else { number }
+}
+
+/// The numbers or their opposites.
+fn signed_all(alloc: Global, numbers: &[i64], turned: bool) -> Result<Vec<i128>, AllocError>
+    ensures { IfOk result (λ v. v.items ≡ multiples (sign_of turned) numbers.now) }
+{
+    let mut out = Vec::new(alloc);
+    for number in numbers {
+        push(&mut out, signed(*number, turned))?;
+    }
+    Ok(out)
+}
+
+/// A form's coefficients or their opposites.
+fn signed_coefficients(alloc: Global, form: &Aff, turned: bool) -> Result<Vec<i128>, AllocError>
+    ensures { IfOk result (λ v. v.items ≡ multiples (sign_of turned) form.now.coefficients) }
+{
+    signed_all(alloc, &form.coefficients, turned)
+}
+
+/// The form of these numbers.
+fn made(alloc: Global, coefficients: &[i128], constant: i128) -> Result<Form, AllocError>
+    ensures { IfOk result (λ f. f ≡ form_of coefficients.now constant) }
+{
+    match Form::of(alloc, coefficients, constant) {
+        Err(_) => Err(AllocError),
+        Ok(form) => Ok(form),
+    }
+}
+
+/// The numbers with one more at a place.
+fn put_at(numbers: &mut Vec<i128>, place: usize, number: i128) -> Result<(), AllocError>
+    requires { place ≤ length numbers.old.items }
+    ensures { OnOk result (numbers.new.items ≡ insert numbers.old.items place number) }
+{
+    match numbers.insert(place, number) {
+        Err(_) => Err(AllocError),
+        Ok(()) => Ok(()),
+    }
+}
+
+/// A form or its opposite, or 1 less.
+pub fn form_row(alloc: Global, form: &Aff, turned: bool, less: bool) -> Result<Form, AllocError>
+    ensures { IfOk result (λ f. f ≡ form_row turned less form.now) }
+{
+    let numbers = signed_coefficients(alloc, form, turned)?;
+    made(alloc, &numbers, signed_less(form.constant, turned, less))
+}
+
+/// A form less the divisor times the value of the loop behind so many others; or the opposite, or 1 less.
+fn spread(
+    alloc: Global,
+    form: &Aff,
+    divisor: i64,
+    loops: usize,
+    turned: bool,
+    less: bool,
+) -> Result<Form, AllocError>
+    requires { loops ≤ variables_of form.now }
+    ensures { IfOk result (λ f. f ≡ part_row loops turned less (record { form = form.now; divisor = divisor })) }
+{
+    let mut numbers = signed_coefficients(alloc, form, turned)?;
+    put_at(&mut numbers, loops, signed(divisor, !turned))?;
+    made(alloc, &numbers, signed_less(form.constant, turned, less))
+}
+
+/// A part of the bounds of the loop behind so many others as a row, or its opposite, or 1 less.
+pub fn part_row(
+    alloc: Global,
+    part: &Bound,
+    loops: usize,
+    turned: bool,
+    less: bool,
+) -> Result<Form, AllocError>
+    requires { loops ≤ variables_of part.now.form }
+    ensures { IfOk result (λ f. f ≡ part_row loops turned less part.now) }
+{
+    spread(alloc, &part.form, part.divisor, loops, turned, less)
+}
+
+/// A row within one loop more, behind so many others.
+fn widen(alloc: Global, row: &Form, loops: usize) -> Result<Form, AllocError>
+    requires { loops ≤ variables_of row.now }
+    ensures { IfOk result (λ f. f ≡ widened loops row.now) }
+{
+    let mut numbers = Vec::new(alloc);
+    numbers.extend_from_slice(row.coefficients())?;
+    put_at(&mut numbers, loops, 0)?;
+    made(alloc, &numbers, row.constant())
+}
+
+/// Rows within one loop more, behind so many others.
+pub fn widen_all(alloc: Global, rows: &[Form], loops: usize) -> Result<Vec<Form>, AllocError>
+    requires { All (λ f. loops ≤ variables_of f) rows.now }
+    ensures { IfOk result (λ v. v.items ≡ map (widened loops) rows.now) }
+{
+    let mut out = Vec::new(alloc);
+    for row in rows {
+        push(&mut out, widen(alloc, row, loops)?)?;
+    }
+    Ok(out)
+}
+
+/// The same rows again.
+pub fn copied(alloc: Global, rows: &[Form]) -> Result<Vec<Form>, AllocError>
+    ensures { IfOk result (λ v. v.items ≡ rows.now) }
+{
+    let mut out = Vec::new(alloc);
+    for row in rows {
+        match row.copy() {
+            Err(_) => return Err(AllocError),
+            Ok(copy) => push(&mut out, copy)?,
+        }
+    }
+    Ok(out)
+}
+
+/// Appends the rows of parts of bounds.
+pub fn push_parts(
+    alloc: Global,
+    rows: &mut Vec<Form>,
+    parts: &[Bound],
+    loops: usize,
+    turned: bool,
+) -> Result<(), AllocError>
+    requires { All (λ b. loops ≤ variables_of b.form) parts.now }
+    ensures { OnOk result (rows.new.items ≡ rows.old.items ++ map (part_row loops turned false) parts.now) }
+{
+    for part in parts {
+        push(rows, part_row(alloc, part, loops, turned, false)?)?;
+    }
+    Ok(())
+}
+
+/// Appends the rows of a test.
+fn push_test(alloc: Global, rows: &mut Vec<Form>, test: &Test) -> Result<(), AllocError>
+    ensures { OnOk result (rows.new.items ≡ rows.old.items ++ test_rows (test_of test.now)) }
+{
+    match test {
+        Test::AtLeast(form) => push(rows, form_row(alloc, form, false, false)?),
+        Test::Equal(form) => {
+            push(rows, form_row(alloc, form, false, false)?)?;
+            push(rows, form_row(alloc, form, true, false)?)
+        }
+        Test::Multiple(_, _) => Ok(()),
+    }
+}
+
+/// Appends the rows of tests.
+pub fn push_tests(alloc: Global, rows: &mut Vec<Form>, tests: &[Test]) -> Result<(), AllocError>
+    ensures { OnOk result (rows.new.items ≡ rows.old.items ++ tests_rows (map test_of tests.now)) }
+{
+    for test in tests {
+        push_test(alloc, rows, test)?;
+    }
+    Ok(())
+}

@@ -1,0 +1,152 @@
+//! The nodes of a tree, gone down with the place at which they stand.
+ghost use Rattle.std.specs.Prelude.{◌<◌, ◌^◌, IfOk, IfSome, OnOk, map, ℕ};
+ghost use Rattle.loop_tree.specs.Shape.{NestAllTo, TreesAreOver, TreesAreUpTo};
+ghost use Rattle.loop_tree.specs.Tree.{guard as guarded, loop as loops, more, none};
+ghost use Rattle.loop_tree.specs.View.{bounds_in, nodes_of, test_of, tree_of, trees_in};
+ghost use Rattle.tree_simplification.specs.steps.Inlined.{CanInline, Extends, IsInlined};
+
+use crate::single::heads::{bounds_at, leaf_at, runs_once, tests_at};
+use crate::single::numbers::{Stop, push};
+use crate::single::place::{Place, place_of, within_loop, within_once};
+use loop_tree::{Guard, Loop, Node, Tree};
+use std::alloc::{AllocError, Global};
+
+/// Appends the nodes that stand for these.
+#[cycle(inlining)]
+fn inline_nodes(
+    alloc: Global,
+    nodes: &[Node],
+    place: &Place,
+    out: &mut Vec<Node>,
+) -> Result<(), Stop>
+    requires { CanInline place.now.parameters place.now.kept place.now.loops.items place.now.forms.items
+        (nodes_of nodes.now) }
+    ensures { OnOk result (Extends place.now.parameters place.now.kept place.now.loops.items (nodes_of nodes.now)
+        (nodes_of out.old.items) (nodes_of out.new.items)) }
+{
+    for node in nodes {
+        inline_node(alloc, node, place, out)?;
+    }
+    Ok(())
+}
+
+/// Appends those that stand for a node.
+#[cycle(inlining)]
+fn inline_node(alloc: Global, node: &Node, place: &Place, out: &mut Vec<Node>) -> Result<(), Stop>
+    requires { CanInline place.now.parameters place.now.kept place.now.loops.items place.now.forms.items
+        (more (tree_of node.now) none) }
+    ensures { OnOk result (Extends place.now.parameters place.now.kept place.now.loops.items
+        (more (tree_of node.now) none) (nodes_of out.old.items) (nodes_of out.new.items)) }
+{
+    match node {
+        Node::Loop(head, body) => inline_loop(alloc, head, body, place, out),
+        Node::Guard(guard, body) => inline_guard(alloc, guard, body, place, out),
+        Node::Instance(leaf) => {
+            let variables = place.kept + place.parameters;
+            let leaf = leaf_at(alloc, leaf, place.forms.as_slice(), variables)?;
+            push(out, Node::Instance(leaf))
+        }
+    }
+}
+
+/// Appends those that stand for a loop.
+#[cycle(inlining)]
+fn inline_loop(
+    alloc: Global,
+    head: &Loop,
+    body: &[Node],
+    place: &Place,
+    out: &mut Vec<Node>,
+) -> Result<(), Stop>
+    requires { CanInline place.now.parameters place.now.kept place.now.loops.items place.now.forms.items
+        (more (loops head.now.parallel (bounds_in head.now.lower) (bounds_in head.now.upper) (nodes_of body.now))
+        none) }
+    ensures { OnOk result (Extends place.now.parameters place.now.kept place.now.loops.items
+        (more (loops head.now.parallel (bounds_in head.now.lower) (bounds_in head.now.upper) (nodes_of body.now)) none)
+        (nodes_of out.old.items) (nodes_of out.new.items)) }
+{
+    let variables = place.kept + place.parameters;
+    let lower = bounds_at(alloc, &head.lower, place.forms.as_slice(), variables)?;
+    let upper = bounds_at(alloc, &head.upper, place.forms.as_slice(), variables)?;
+    if runs_once(head.parallel, &lower, &upper) {
+        let within = within_once(alloc, place, &lower)?;
+        return inline_nodes(alloc, body, &within, out);
+    }
+    let within = within_loop(alloc, place)?;
+    let mut nodes = Vec::new(alloc);
+    inline_nodes(alloc, body, &within, &mut nodes)?;
+    let parallel = head.parallel;
+    let head = Loop {
+        parallel,
+        lower,
+        upper,
+    };
+    push(out, Node::Loop(head, nodes))
+}
+
+/// Appends those that stand for a guard.
+#[cycle(inlining)]
+fn inline_guard(
+    alloc: Global,
+    guard: &Guard,
+    body: &[Node],
+    place: &Place,
+    out: &mut Vec<Node>,
+) -> Result<(), Stop>
+    requires { CanInline place.now.parameters place.now.kept place.now.loops.items place.now.forms.items
+        (more (guarded (map test_of guard.now.tests.items) (nodes_of body.now)) none) }
+    ensures { OnOk result (Extends place.now.parameters place.now.kept place.now.loops.items
+        (more (guarded (map test_of guard.now.tests.items) (nodes_of body.now)) none)
+        (nodes_of out.old.items) (nodes_of out.new.items)) }
+{
+    let variables = place.kept + place.parameters;
+    let tests = tests_at(
+        alloc,
+        guard.tests.as_slice(),
+        place.forms.as_slice(),
+        variables,
+    )?;
+    if tests.is_empty() {
+        return inline_nodes(alloc, body, place, out);
+    }
+    let mut nodes = Vec::new(alloc);
+    inline_nodes(alloc, body, place, &mut nodes)?;
+    push(out, Node::Guard(Guard { tests }, nodes))
+}
+
+/// The tree without the loops that run once.
+fn inlined_tree(alloc: Global, tree: &Tree, parameters: usize) -> Result<Tree, Stop>
+    requires few { parameters < 2 ^ 32 }
+    requires over { TreesAreOver parameters (trees_in tree.now) }
+    requires numbers { TreesAreUpTo (2 ^ 40) (trees_in tree.now) }
+    requires nested { (d : ℕ) × (d < 2 ^ 32) × NestAllTo d (trees_in tree.now) }
+    ensures { IfOk result (λ t. IsInlined parameters (trees_in tree.now) (trees_in t)) }
+{
+    let place = place_of(alloc, Vec::new(alloc), 0, parameters)?;
+    let mut nodes = Vec::new(alloc);
+    inline_nodes(alloc, tree.nodes.as_slice(), &place, &mut nodes)?;
+    Ok(Tree { nodes })
+}
+
+/// The tree without the loops that run once: one that is not parallel and starts and ends at one same form. The form
+/// stands for the loop's value within. Nothing where a number would pass 2^45.
+///
+/// # Errors
+/// `AllocError` alone.
+pub(crate) fn without_single(
+    alloc: Global,
+    tree: &Tree,
+    parameters: usize,
+) -> Result<Option<Tree>, AllocError>
+    requires few { parameters < 2 ^ 32 }
+    requires over { TreesAreOver parameters (trees_in tree.now) }
+    requires numbers { TreesAreUpTo (2 ^ 40) (trees_in tree.now) }
+    requires nested { (d : ℕ) × (d < 2 ^ 32) × NestAllTo d (trees_in tree.now) }
+    ensures { IfOk result (λ r. IfSome r (λ t. IsInlined parameters (trees_in tree.now) (trees_in t))) }
+{
+    match inlined_tree(alloc, tree, parameters) {
+        Ok(tree) => Ok(Some(tree)),
+        Err(Stop::Large) => Ok(None),
+        Err(Stop::NoMemory) => Err(AllocError),
+    }
+}

@@ -1,0 +1,103 @@
+//! Forms of a tree, wide for sums and narrow again: each number of a new tree lies within 2^45.
+ghost use Rattle.std.specs.Prelude.{◌≡◌, ◌≤◌, ◌^◌, ◌++◌, ◌∷◌, [], All, IfOk, IfSome, OnOk, length, unsigned_abs};
+ghost use Rattle.whole_numbers.specs.Affine.{composed};
+ghost use Rattle.scop_syntax.specs.Kernel.{AreAtMost};
+ghost use Rattle.loop_tree.specs.Shape.{IsOver, IsUpTo};
+
+use affine_forms::{Form, FormStop, INLINE};
+use scop_syntax::tree::Aff;
+use smallvec::SmallVec;
+use std::alloc::Global;
+
+/// Why a tree is not made: a number would pass 2^45, or there is no memory.
+#[derive(Drop)]
+pub enum Stop {
+    Large,
+    NoMemory,
+}
+
+/// The greatest number of a new tree.
+const MOST: u128 = 35_184_372_088_832;
+
+/// Appends a value.
+pub fn push<T: Drop>(list: &mut Vec<T>, value: T) -> Result<(), Stop>
+    ensures { OnOk result (list.new.items ≡ list.old.items ++ value ∷ []) }
+{
+    match list.push(value) {
+        Err(_) => Err(Stop::NoMemory),
+        Ok(()) => Ok(()),
+    }
+}
+
+/// A form of a tree with wide numbers.
+pub fn wide(alloc: Global, form: &Aff) -> Result<Form, Stop>
+    ensures { IfOk result (λ f. f ≡ form.now) }
+{
+    let mut coefficients = SmallVec::<i128, INLINE>::new(alloc);
+    for coefficient in form.coefficients.as_slice() {
+        match coefficients.push(*coefficient as i128) {
+            Err(_) => return Err(Stop::NoMemory),
+            Ok(()) => {}
+        }
+    }
+    match Form::of(alloc, coefficients.as_slice(), form.constant as i128) {
+        Err(_) => Err(Stop::NoMemory),
+        Ok(wide) => Ok(wide),
+    }
+}
+
+/// A number as one of a tree, if it lies within 2^45.
+fn narrow_number(number: i128) -> Option<i64>
+    ensures { IfSome result (λ x. (x ≡ number) × (unsigned_abs x ≤ 2 ^ 45)) }
+{
+    if number.unsigned_abs() <= MOST {
+        Some(number as i64)
+    } else {
+        None
+    }
+}
+
+/// Numbers as those of a tree.
+fn narrow_numbers(alloc: Global, numbers: &[i128]) -> Result<Vec<i64>, Stop>
+    ensures same { IfOk result (λ xs. xs.items ≡ numbers.now) }
+    ensures small { IfOk result (λ xs. AreAtMost (2 ^ 45) numbers.now) }
+{
+    let mut narrowed = Vec::new(alloc);
+    for number in numbers {
+        match narrow_number(*number) {
+            None => return Err(Stop::Large),
+            Some(narrow) => push(&mut narrowed, narrow)?,
+        }
+    }
+    Ok(narrowed)
+}
+
+/// A form as one of a tree.
+fn narrow(alloc: Global, form: &Form) -> Result<Aff, Stop>
+    ensures form { IfOk result (λ a. a ≡ form.now) }
+    ensures small { IfOk result (λ a. IsUpTo (2 ^ 45) form.now) }
+{
+    let coefficients = narrow_numbers(alloc, form.coefficients())?;
+    match narrow_number(form.constant()) {
+        None => Err(Stop::Large),
+        Some(constant) => Ok(Aff {
+            coefficients,
+            constant,
+        }),
+    }
+}
+
+/// The form over `variables` variables that puts `forms`, in order, in place of the variables of `form`.
+pub fn composition(alloc: Global, form: &Aff, forms: &[Form], variables: usize) -> Result<Aff, Stop>
+    requires count { IsOver (length forms.now) form.now }
+    requires sized { All (IsOver variables) forms.now }
+    ensures form { IfOk result (λ a. a ≡ composed form.now forms.now variables) }
+    ensures small { IfOk result (IsUpTo (2 ^ 45)) }
+{
+    let wide = wide(alloc, form)?;
+    match wide.compose(forms, variables) {
+        Ok(composition) => narrow(alloc, &composition),
+        Err(FormStop::Wide(_)) => Err(Stop::Large),
+        Err(FormStop::NoMemory) => Err(Stop::NoMemory),
+    }
+}
