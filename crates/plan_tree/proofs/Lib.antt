@@ -1,0 +1,17 @@
+pub mod Ending
+pub mod Exacts
+pub mod Frees
+pub mod Kept
+pub mod Marked
+pub mod Modelling
+pub mod Nests
+pub mod Orders
+pub mod Parallel
+pub mod Running
+pub mod Scannable
+pub mod Scans
+pub mod Scheduling
+pub mod Shapes
+pub mod Shuffling
+pub mod Waves
+pub mod Simpler

@@ -1,0 +1,117 @@
+-- Conflicting places of the walk are visited in their order by a tree that carries out a plan.
+use Rattle.std.proofs.Common.{◌≡◌, ℕ, ◌-◌, ◌<◌, ℤ, pos, List, [], ◌∷◌, ◌++◌, length, inl, inr, ap, subst, sym}
+use Rattle.std.proofs.Common.{◌∙◌, arith}
+use Rattle.std.specs.Prelude.{slice_get, Some}
+use Rattle.std.specs.Option.{option_map}
+use Rattle.std.proofs.lemmas.List.{length-map}
+use Rattle.std.proofs.lemmas.Option.{slice_get-map, slice_get_within}
+use Rattle.whole_numbers.specs.Lists.{zeros}
+use Rattle.whole_numbers.proofs.Lexicographic.{LexLess-irrefl, LexLess-asym, LexLess-front}
+use Rattle.scop_syntax.specs.Cells.{PlacesConflict}
+use Rattle.scop_syntax.specs.Members.{In, Sorted}
+use Rattle.scop_syntax.specs.Statements.{statements_of}
+use Rattle.scop_syntax.specs.Tree.{Program}
+use Rattle.scop_syntax.specs.Walk.{Instance, instance, Visit, walk_of}
+use Rattle.scop_syntax.proofs.Members.{in_from_place, in_map, nat_cases, place_of, sorted_places}
+use Rattle.scop_syntax.proofs.Statements.{found_at, placed_number}
+use Rattle.iteration_domains.specs.Model.{model_of, modelled}
+use Rattle.loop_tree.specs.Plans.{AreInOrder, CarryOut, Precedes, walked}
+use Rattle.loop_tree.specs.Tiling.{Items, Tiling, kept, tiled, item_values, items_at, order_of, tile_of, wave_of}
+use Rattle.loop_tree.specs.Tiling.{IsGoodPlan, IsInOrder}
+use Rattle.loop_tree.specs.Tree.{Trees}
+use Rattle.loop_tree.specs.Walk.{visits}
+use Rattle.schedule_rows.specs.Items.{Block}
+use Rattle.tile_skew.proofs.Agreeing.{items_found}
+use Rattle.tile_skew.proofs.Ordering.{band_lengths, leading_lengths}
+use Rattle.plan_tree.specs.Trees.{AreEven, StandInOrder, tiling_of}
+use Rattle.plan_tree.proofs.Waves.{length_wave}
+
+-- the tiling of a schedule has waves and tiles of one length
+pub tilings_are_even : (program : Program) (size : ℕ) (blocks : List Block)
+    → AreEven program (tiling_of program size blocks)
+tilings_are_even program size blocks j k a b =
+    let count = length (model_of program).statements in
+    let many = length-map (statements_of program) (modelled (length program.parameters)) in
+    let first = items_found blocks count j (omega (arith, a, many)) in
+    let second = items_found blocks count k (omega (arith, b, many)) in
+    let Leading : Items → ℕ = λ s. length s.leading in
+    let Rows : Items → ℕ = λ s. length s.band in (
+      ap Leading first ∙ (leading_lengths blocks j k ∙ sym (ap Leading second)),
+      ap Rows first ∙ (band_lengths blocks j k ∙ sym (ap Rows second)),
+    )
+
+-- a walked instance is one of a statement
+walked_number : (program : Program) (params : List ℤ) (v : Visit) → In v (walk_of program params)
+    → v.number < length (statements_of program)
+walked_number program params v i =
+    let f = found_at program.body 0 params v i in
+    let at = place_of (statements_of program) f.0 f.2 in
+    let within = slice_get_within (statements_of program) at.0 f.0 at.1 in
+    let number = ap (λ (w : Visit). w.number) f.4 ∙ placed_number program.body 0 at.0 f.0 at.1 in
+    omega (arith, within, number)
+
+-- where waves have one length, instances in order stand in the order of tiles
+precedes : (size : ℕ) (statements : List Items) (i j : ℕ) (x y : Instance)
+    → length (items_at statements x.number).leading ≡ length (items_at statements y.number).leading
+    → IsInOrder (tiled size statements) i x j y → Precedes size statements x y
+precedes size statements i j x y even (inl less) =
+    let plan = tiled size statements in
+    let s = items_at statements x.number in
+    let t = items_at statements y.number in
+    let Rest : Instance → List ℤ = λ z.
+    tile_of plan z
+    ++ (item_values (items_at statements z.number) z.turns
+    ++ (z.turns ++ (zeros (5 - length z.turns) ++ pos z.number ∷ []))) in
+    let a = length_wave (pos size) s.leading s.band x.turns in
+    let b = length_wave (pos size) t.leading t.band y.turns in
+    LexLess-front (wave_of plan x) (wave_of plan y) (Rest x) (Rest y) (omega (arith, a, b, even)) less
+precedes size statements i j x y even (inr (tile, before)) = before
+
+-- two elements of a list in order stand in their order
+sorted_stand : (R : Instance → Instance → Type 0) (xs : List Instance) → ((x : Instance) → R x x → ⊥)
+    → ((x y : Instance) → R x y → R y x → ⊥) → Sorted R xs → (x y : Instance) → In x xs → In y xs → R x y
+    → StandInOrder xs x y
+sorted_stand R xs irreflexive asymmetric sorted x y i j less =
+    let a = place_of xs x i in
+    let b = place_of xs y j in
+    nat_cases a.0 b.0 (λ l. (a.0, b.0, l, a.1, b.1))
+    (λ e. let same : x ≡ y = one a.0 b.0 e a.1 b.1 in absurd (irreflexive y (subst (λ z. R z y) same less)))
+    (λ l. absurd (asymmetric x y less (sorted_places R xs sorted b.0 a.0 y x b.1 a.1 l)))
+  where
+    one : (a b : ℕ) → a ≡ b → slice_get xs a ≡ Some x → slice_get xs b ≡ Some y → x ≡ y
+    one a b e g h = cc
+
+-- a place of the walk as one of its instances
+instance_there : (program : Program) (params : List ℤ) (k : ℕ) (v : Visit)
+    → slice_get (walk_of program params) k ≡ Some v → slice_get (walked program params) k ≡ Some (instance v)
+instance_there program params k v h =
+    slice_get-map instance (walk_of program params) k ∙ ap (option_map instance) h
+
+-- what is listed in the plan's order has conflicting places in theirs
+listed : (program : Program) (params : List ℤ) (plan : Tiling) (xs : List Instance) → AreEven program plan
+    → IsGoodPlan program params plan → AreInOrder program params plan xs → (i j : ℕ)
+    (c : PlacesConflict (walk_of program params) i j) → StandInOrder xs (instance c.earlier) (instance c.later)
+listed program params kept xs even good same i j c = (
+  i,
+  j,
+  c.order,
+  ap (λ ys. slice_get ys i) same ∙ instance_there program params i c.earlier c.is_earlier,
+  ap (λ ys. slice_get ys j) same ∙ instance_there program params j c.later c.is_later,
+)
+listed program params (tiled size statements) xs even good (sorted, all) i j c =
+    let v = c.earlier in
+    let w = c.later in
+    let first = in_from_place (walk_of program params) i v c.is_earlier in
+    let second = in_from_place (walk_of program params) j w c.is_later in
+    let alike = even v.number w.number (walked_number program params v first) (walked_number program params w second) in
+    sorted_stand (Precedes size statements) xs (λ x. LexLess-irrefl (order_of size statements x))
+    (λ x y. LexLess-asym (order_of size statements x) (order_of size statements y)) sorted (instance v) (instance w)
+    ((all (instance v)).1 (in_map instance v (walk_of program params) first))
+    ((all (instance w)).1 (in_map instance w (walk_of program params) second))
+    (precedes size statements i j (instance v) (instance w) alike.0 (good i j c))
+
+pub conflicts_in_order : (program : Program) (params : List ℤ) (plan : Tiling) (ts : Trees) → AreEven program plan
+    → CarryOut program params plan ts → (i j : ℕ) (c : PlacesConflict (walk_of program params) i j)
+    → StandInOrder (visits ts params) (instance c.earlier) (instance c.later)
+conflicts_in_order program params plan ts even carry i j c =
+    listed program params plan (visits ts params) even carry.good carry.exact i j c

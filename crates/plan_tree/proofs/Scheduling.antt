@@ -1,0 +1,32 @@
+-- A schedule of a program's conflicts, its blocks and its scan sets.
+use Rattle.std.proofs.Common.{◌≡◌, ℕ, ◌<◌, ◌≤◌, ◌∙◌, List, pos, ap, subst}
+use Rattle.iteration_domains.specs.Dependence.{Dependence}
+use Rattle.iteration_domains.specs.Model.{KernelModel, model_of}
+use Rattle.conflict_deps.specs.Conflicts.{conflicts_of}
+use Rattle.scop_syntax.specs.Tree.{Program}
+use Rattle.schedule_rows.specs.Outcomes.{IsSchedule}
+use Rattle.schedule_rows.specs.Schedule.{IsScheduled, Scheduled, loops_in}
+use Rattle.tile_skew.specs.ScanSets.{scan_sets}
+use Rattle.plan_tree.specs.Trees.{IsScheduleFor}
+use Rattle.plan_tree.specs.steps.Scanning.{IsTiled, sets_of}
+
+-- its blocks are those of a tiling
+pub tiled_blocks : (program : Program) (size : ℕ) (s : Scheduled) (r : IsScheduled s) → 0 < size → size ≤ 1024
+    → IsScheduleFor program s → IsTiled program size r.blocks
+tiled_blocks program size s r some few is =
+    let deps = is.deps ∙ ap conflicts_of is.model in
+    let own = subst (λ (ds : List Dependence). IsSchedule s.model.parameters (loops_in s.model) ds r.blocks) deps r.run
+    in
+    record {
+      kernel = is.kernel;
+      some = some;
+      few = few;
+      schedule = subst
+          (λ (m : KernelModel). IsSchedule m.parameters (loops_in m) (conflicts_of (model_of program)) r.blocks)
+          is.model own;
+    }
+
+-- its scan sets are those of the tiling
+pub tiled_sets_of : (program : Program) (size : ℕ) (s : Scheduled) (r : IsScheduled s) → IsScheduleFor program s
+    → scan_sets (pos size) r.blocks s.model ≡ sets_of program size r.blocks
+tiled_sets_of program size s r is = ap (scan_sets (pos size) r.blocks) is.model

@@ -1,0 +1,61 @@
+-- The loop tree of a plan for all parameters at once, and why a schedule has none.
+use Rattle.std.specs.Prelude.{◌≡◌, ℕ, ◌^◌, ◌<◌, ℤ, pos, List, [], length, slice_get, Some, ⊤}
+use Rattle.scop_syntax.specs.Kernel.{IsKernel}
+use Rattle.scop_syntax.specs.Limits.{HasParameters}
+use Rattle.scop_syntax.specs.Statements.{statements_of}
+use Rattle.scop_syntax.specs.Tree.{Program}
+use Rattle.scop_syntax.specs.Walk.{Instance}
+use Rattle.iteration_domains.specs.Model.{KernelModel, model_of}
+use Rattle.conflict_deps.specs.Conflicts.{conflicts_of}
+use Rattle.fm_projection.specs.declared.stop.FmStop.{FmStop}
+use Rattle.loop_tree.specs.Fits.{FitsAll}
+use Rattle.loop_tree.specs.Marks.{FlatAll}
+use Rattle.loop_tree.specs.Plans.{CarryOut}
+use Rattle.loop_tree.specs.Shape.{NestAllTo, TreesAreOf, TreesAreOver, TreesAreUpTo}
+use Rattle.loop_tree.specs.Tiling.{Tiling, kept, tiled, items_at}
+use Rattle.loop_tree.specs.Tree.{Trees}
+use Rattle.schedule_rows.specs.Items.{Block}
+use Rattle.schedule_rows.specs.Schedule.{Scheduled}
+use Rattle.tile_skew.specs.ScanSets.{scan_sets}
+use Rattle.tile_skew.specs.Tilings.{schedule_tiling}
+use Rattle.plain_scan.specs.Scanning.{StopsScan}
+
+-- a plan by which the statements of the program have as many leading scalars, and as many rows in the first band, so
+-- that waves have one length, and so have tiles
+abbrev pub AreEven : Program → Tiling → Type 0
+AreEven program kept = ⊤
+AreEven program (tiled size statements) =
+    (j k : ℕ) → j < length (statements_of program) → k < length (statements_of program)
+    → (length (items_at statements j).leading ≡ length (items_at statements k).leading)
+    × (length (items_at statements j).band ≡ length (items_at statements k).band)
+
+-- x stands in the list, and y behind it
+abbrev pub StandInOrder : List Instance → Instance → Instance → Type 0
+StandInOrder xs x y = (a : ℕ) × (b : ℕ) × (a < b) × (slice_get xs a ≡ Some x) × (slice_get xs b ≡ Some y)
+
+-- trees of a plan of the program: flat, of its statements, forms over loops and parameters, of numbers within 2^45, not
+-- too many loops in one another; the plan has waves and tiles of one length; for all parameters in 0..=65536 each
+-- number of their walk fits, and they carry out the plan
+pub record AreTreesOf (program : Program) (plan : Tiling) (ts : Trees) : Type 0 where
+  pub flat : FlatAll ts
+  pub statements : TreesAreOf program ts
+  pub over : TreesAreOver (length program.parameters) ts
+  pub small : TreesAreUpTo (2 ^ 45) ts
+  pub nested : (n : ℕ) × (n < 2 ^ 32) × NestAllTo n ts
+  pub even : AreEven program plan
+  pub fits : (params : List ℤ) → HasParameters program params → FitsAll ts params []
+  pub carry_out : (params : List ℤ) → HasParameters program params → CarryOut program params plan ts
+
+-- the schedule is one of the program's conflicts
+pub record IsScheduleFor (program : Program) (s : Scheduled) : Type 0 where
+  pub kernel : IsKernel program
+  pub model : s.model ≡ model_of program
+  pub deps : s.deps ≡ conflicts_of s.model
+
+-- the tiling of a program's schedule by tiles of a size
+abbrev pub tiling_of : Program → ℕ → List Block → Tiling
+tiling_of program size blocks = schedule_tiling size (length (model_of program).statements) blocks
+
+-- the scan of the schedule's scan sets stops so
+abbrev pub StopsTiled : KernelModel → ℕ → List Block → FmStop → Type 0
+StopsTiled model size blocks stop = StopsScan (scan_sets (pos size) blocks model) stop

@@ -1,0 +1,77 @@
+-- What a tree that scans the sets of a schedule is, and where its visits stand.
+use Rattle.std.specs.Prelude.{◌≡◌, ℕ, zero, ◌^◌, ◌<◌, ◌≤◌, ℤ, pos, List, [], length, map}
+use Rattle.fm_projection.specs.Alone.{AreInRange}
+use Rattle.scop_syntax.specs.Kernel.{IsKernel}
+use Rattle.scop_syntax.specs.Members.{In}
+use Rattle.scop_syntax.specs.Tree.{Program}
+use Rattle.scop_syntax.specs.Walk.{Instance, instance, Visit as Walked}
+use Rattle.integer_sets.specs.Scanned.{Scanned}
+use Rattle.iteration_domains.specs.Instances.{IsInstanceOf}
+use Rattle.iteration_domains.specs.Model.{Modelled, model_of}
+use Rattle.conflict_deps.specs.Conflicts.{conflicts_of}
+use Rattle.loop_tree.specs.Fits.{FitsAll}
+use Rattle.loop_tree.specs.Marks.{FlatAll, MarksAll}
+use Rattle.loop_tree.specs.Plans.{AreInOrder}
+use Rattle.loop_tree.specs.Scans.{Exact}
+use Rattle.loop_tree.specs.Shape.{NestAllTo, TreesAreOver, TreesAreUpTo}
+use Rattle.loop_tree.specs.Tree.{Trees}
+use Rattle.loop_tree.specs.Walk.{Visit, given, walk_all}
+use Rattle.schedule_rows.specs.Items.{Block}
+use Rattle.schedule_rows.specs.Outcomes.{IsSchedule}
+use Rattle.schedule_rows.specs.Schedule.{loops_in}
+use Rattle.tile_skew.specs.Places.{place_of}
+use Rattle.tile_skew.specs.ScanSets.{most_iterators, scan_set, scan_sets}
+use Rattle.tile_skew.specs.Tilings.{statement_items}
+use Rattle.plain_scan.specs.Hulls.{flags}
+use Rattle.plain_scan.specs.Scanning.{AreOfSets, GiveIterators, dimensions_of, mark_of}
+use Rattle.plain_scan.specs.Sets.{Keys}
+use Rattle.plan_tree.specs.Trees.{tiling_of}
+
+-- the blocks are those of a schedule of the kernel's conflicts, for tiles of a size within 1 to 1024
+pub record IsTiled (program : Program) (size : ℕ) (blocks : List Block) : Type 0 where
+  pub kernel : IsKernel program
+  pub some : 0 < size
+  pub few : size ≤ 1024
+  pub schedule : IsSchedule (model_of program).parameters (loops_in (model_of program))
+      (conflicts_of (model_of program)) blocks
+
+-- its scan sets
+abbrev pub sets_of : Program → ℕ → List Block → List Scanned
+sets_of program size blocks = scan_sets (pos size) blocks (model_of program)
+
+-- that of a statement
+abbrev pub set_of : Program → ℕ → List Block → Modelled → Scanned
+set_of program size blocks s =
+    scan_set (pos size) (most_iterators (model_of program).statements) s (statement_items blocks s.number)
+
+-- the place of an instance
+abbrev pub place_in : Program → ℕ → List Block → Instance → List ℤ
+place_in program size blocks x =
+    place_of (pos size) (most_iterators (model_of program).statements) (statement_items blocks x.number) x.turns
+
+-- the visit gives an instance of the walk, and stands at its place
+pub record IsPlaced (program : Program) (params : List ℤ) (size : ℕ) (blocks : List Block) (v : Visit) : Type 0 where
+  pub statement : Modelled
+  pub walked : Walked
+  pub is : IsInstanceOf program params statement walked
+  pub gives : given v ≡ instance walked
+  pub values : v.values ≡ place_in program size blocks (given v)
+
+-- each of these visits stands so, and they give the walked instances, each once, in the tiling's order
+pub record AreVisits (program : Program) (params : List ℤ) (size : ℕ) (blocks : List Block) (vs : List Visit)
+    : Type 0 where
+  pub placed : (v : Visit) → In v vs → IsPlaced program params size blocks v
+  pub order : AreInOrder program params (tiling_of program size blocks) (map given vs)
+
+-- trees that scan sets over p parameters: they visit the keys in order, give the iterators and are parallel at the
+-- mark; their numbers are small and fit, and their instances are those of the sets
+pub record IsScan (p : ℕ) (sets : List Scanned) (ts : Trees) : Type 0 where
+  pub exact : (params : List ℤ) → AreInRange params → Exact (Keys sets params) (walk_all ts params [])
+  pub iterators : (params : List ℤ) → AreInRange params → GiveIterators sets (walk_all ts params [])
+  pub fits : (params : List ℤ) → AreInRange params → length params ≡ p → FitsAll ts params []
+  pub flat : FlatAll ts
+  pub marks : MarksAll (flags (mark_of sets) zero (dimensions_of sets)) ts
+  pub small : TreesAreUpTo (2 ^ 40) ts
+  pub over : TreesAreOver p ts
+  pub nested : NestAllTo (dimensions_of sets) ts
+  pub instances : AreOfSets sets ts

@@ -1,0 +1,47 @@
+//! What a tree of a plan is for, as contracts of functions that call the laws which their proofs use.
+ghost use Rattle.std.specs.Prelude.{◌≡◌, ℕ, ℤ, List, [], map};
+ghost use Rattle.scop_syntax.specs.Cells.{PlacesConflict};
+ghost use Rattle.scop_syntax.specs.Execution.{IsInside, IsShaped, exec, layout, performed_all};
+ghost use Rattle.scop_syntax.specs.Limits.{HasParameters};
+ghost use Rattle.scop_syntax.specs.Tree.{Program};
+ghost use Rattle.scop_syntax.specs.Walk.{instance, Visit as Walked, walk_of};
+ghost use Rattle.conflict_orders.specs.Orders.{IsOrderOf};
+ghost use Rattle.loop_tree.specs.Plans.{CarryOut, walked};
+ghost use Rattle.loop_tree.specs.Runs.{MayRunAll};
+ghost use Rattle.loop_tree.specs.Tiling.{Tiling};
+ghost use Rattle.loop_tree.specs.Tree.{Trees};
+ghost use Rattle.loop_tree.specs.Walk.{Visit, given, visits, walk_all};
+ghost use Rattle.plan_tree.specs.Executions.{AreVisitsOf};
+ghost use Rattle.plan_tree.specs.Trees.{AreEven, AreTreesOf, StandInOrder};
+
+use conflict_orders::laws::orders_of_walks_end_as_they_do;
+use scop_syntax::walk_laws::walks_are_in_order;
+
+/// Of two places of the walk that conflict, a tree that carries out a plan visits the earlier one's instance before the
+/// later one's, where all statements have as many leading scalars and rows in the first band.
+pub fn trees_keep_conflicts_in_order()
+    ensures { (program : Program) (params : List ℤ) (plan : Tiling) (ts : Trees) → AreEven program plan
+        → CarryOut program params plan ts → (i j : ℕ) (c : PlacesConflict (walk_of program params) i j)
+        → StandInOrder (visits ts params) (instance c.earlier) (instance c.later) }
+{}
+
+/// In whichever order an execution of a plan's trees interleaves the iterations of their parallel loops, it visits each
+/// walked instance once, and these, performed in the run's order, leave the arrays of the source's own execution, where
+/// every subscript is inside. The trees' visits in their own order are such a run.
+pub fn loops_end_as_the_source_does()
+    ensures ends { (program : Program) (params : List ℤ) (plan : Tiling) (ts : Trees) (contents : List (List ℕ))
+        (run : List Visit) (order : List Walked) → AreTreesOf program plan ts → HasParameters program params
+        → IsInside program params → IsShaped (layout program params) contents → MayRunAll ts params [] run
+        → AreVisitsOf program params (map given run) order
+        → performed_all (layout program params) contents order ≡ exec program params contents }
+    ensures visits { (program : Program) (params : List ℤ) (plan : Tiling) (ts : Trees) (run : List Visit)
+        → AreTreesOf program plan ts → HasParameters program params → MayRunAll ts params [] run
+        → (order : List Walked) × AreVisitsOf program params (map given run) order }
+    ensures once { (program : Program) (params : List ℤ) (plan : Tiling) (ts : Trees) (run : List Visit)
+        → AreTreesOf program plan ts → HasParameters program params → MayRunAll ts params [] run
+        → IsOrderOf (map given run) (walked program params) }
+    ensures walk { (ts : Trees) (params : List ℤ) → MayRunAll ts params [] (walk_all ts params []) }
+{
+    orders_of_walks_end_as_they_do();
+    walks_are_in_order();
+}

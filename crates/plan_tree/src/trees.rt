@@ -1,0 +1,113 @@
+//! The trees of both kinds of plans.
+
+ghost use Rattle.std.specs.Prelude.{◌≡◌, ◌≤◌, ◌<◌, ◌^◌, ℕ, pos, IfErr, IfOk};
+ghost use Rattle.scop_syntax.specs.Kernel.{IsKernel};
+ghost use Rattle.scop_syntax.specs.Tree.{Program};
+ghost use Rattle.scop_syntax.specs.View.{program_of};
+ghost use Rattle.loop_tree.specs.Fits.{AreSmallTrees};
+ghost use Rattle.loop_tree.specs.Shape.{TreesAreUpTo};
+ghost use Rattle.loop_tree.specs.Source.{source_of};
+ghost use Rattle.loop_tree.specs.Tiling.{kept};
+ghost use Rattle.loop_tree.specs.View.{trees_in};
+ghost use Rattle.plain_scan.specs.Scanning.{AreScanned, dimensions_of};
+ghost use Rattle.plain_scan.specs.Sets.{NumbersRise};
+ghost use Rattle.schedule_rows.specs.Schedule.{IsScheduled};
+ghost use Rattle.tile_skew.specs.ScanSets.{scan_sets};
+ghost use Rattle.plan_tree.specs.Trees.{AreTreesOf, IsScheduleFor, StopsTiled, tiling_of};
+
+use crate::tiles::{scans_are_trees_of_tilings, sets_can_be_scanned};
+use fm_projection::FmStop;
+use integer_sets::ScanSet;
+use loop_tree::Tree;
+use schedule_rows::Schedule;
+use scop_syntax::tree::Kernel;
+use split_scan::scan;
+use std::alloc::{AllocError, Global};
+use tile_skew::laws::kept_orders_are_good_plans;
+use tile_skew::tiled;
+use tree_simplification::simplified;
+
+/// The scan sets of a schedule of a kernel's conflicts, which can be scanned together.
+fn tiled_sets(alloc: Global, schedule: &Schedule, size: u64) -> Result<Vec<ScanSet>, AllocError>
+    requires size { (0 < size) × (size ≤ 1024) }
+    requires schedule { (program : Program) × IsScheduleFor program schedule.now }
+    ensures sets { IfOk result (λ sets. (s : IsScheduled schedule.now)
+        → sets.items ≡ scan_sets (pos size) s.blocks schedule.now.model) }
+    ensures scanned { IfOk result (λ sets. AreScanned sets.items) }
+    ensures rise { IfOk result (λ sets. NumbersRise sets.items) }
+    ensures few { IfOk result (λ sets. dimensions_of sets.items < 2 ^ 32) }
+{
+    sets_can_be_scanned();
+    let _items = schedule.items();
+    let sets = tiled(alloc, schedule, size)?;
+    Ok(sets)
+}
+
+/// The tree that scans the sets of a schedule of a kernel's conflicts, for tiles of this size.
+fn scanned_tree(alloc: Global, schedule: &Schedule, size: u64, budget: u64) -> Result<Tree, FmStop>
+    requires size { (0 < size) × (size ≤ 1024) }
+    requires schedule { (program : Program) × IsScheduleFor program schedule.now }
+    ensures tree { IfOk result (λ t. (program : Program) → IsScheduleFor program schedule.now
+        → (s : IsScheduled schedule.now) → AreTreesOf program (tiling_of program size s.blocks) (trees_in t)) }
+    ensures numbers { IfOk result (λ t. TreesAreUpTo (2 ^ 40) (trees_in t)) }
+    ensures small { IfOk result (λ t. (d : ℕ) × (d < 2 ^ 32) × AreSmallTrees d (trees_in t)) }
+    ensures stops { IfErr result (λ stop. (s : IsScheduled schedule.now)
+        → StopsTiled schedule.now.model size s.blocks stop) }
+{
+    scans_are_trees_of_tilings();
+    sets_can_be_scanned();
+    let sets = match tiled_sets(alloc, schedule, size) {
+        Err(_) => return Err(FmStop::NoMemory),
+        Ok(sets) => sets,
+    };
+    match scan(alloc, &sets, budget) {
+        Err(stop) => Err(stop),
+        Ok(tree) => Ok(tree),
+    }
+}
+
+/// The loop tree of a schedule of a kernel's conflicts, for tiles of this size: tile by tile within rising waves, the
+/// loop over the first tile coordinate parallel. Each question of the separation of the schedule's scan sets, and each
+/// whether a test or a bound is implied, may make so many moves of the solver; where it wants more the tree is another
+/// one that does the same.
+///
+/// # Errors
+/// `Wide`, `Crowded` and `Large` only where the scan of the schedule's scan sets stops so; `NoMemory`.
+pub fn tiled_tree(
+    alloc: Global,
+    schedule: &Schedule,
+    size: u64,
+    budget: u64,
+) -> Result<Tree, FmStop>
+    requires size { (0 < size) × (size ≤ 1024) }
+    requires schedule { (program : Program) × IsScheduleFor program schedule.now }
+    ensures tree { IfOk result (λ t. (program : Program) → IsScheduleFor program schedule.now
+        → (s : IsScheduled schedule.now) → AreTreesOf program (tiling_of program size s.blocks) (trees_in t)) }
+    ensures stops { IfErr result (λ stop. (s : IsScheduled schedule.now)
+        → StopsTiled schedule.now.model size s.blocks stop) }
+{
+    let _items = schedule.items();
+    let parameters = schedule.model().parameters();
+    let scanned = match scanned_tree(alloc, schedule, size, budget) {
+        Err(stop) => return Err(stop),
+        Ok(scanned) => scanned,
+    };
+    match simplified(alloc, &scanned, parameters, budget) {
+        Err(_) => Err(FmStop::NoMemory),
+        Ok(tree) => Ok(tree),
+    }
+}
+
+/// The loop tree of a kernel's own order, without a parallel loop.
+///
+/// # Errors
+/// `AllocError` alone.
+pub fn source_tree(alloc: Global, kernel: &Kernel) -> Result<Tree, AllocError>
+    requires { IsKernel (program_of kernel.now) }
+    ensures own { IfOk result (λ t. trees_in t ≡ source_of (program_of kernel.now)) }
+    ensures trees { IfOk result (λ t. AreTreesOf (program_of kernel.now) kept (trees_in t)) }
+{
+    kept_orders_are_good_plans();
+    let tree = Tree::of_source(alloc, kernel)?;
+    Ok(tree)
+}
