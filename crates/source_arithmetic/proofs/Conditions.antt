@@ -68,7 +68,7 @@ all_append (t ∷ ts) us p =
     )
 
 -- a condition that joins none compares
-is_compared : (n : ℕ) (o : Op) (f g : Formula) (at : ℕ) → is_and o ≡ false
+pub is_compared : (n : ℕ) (o : Op) (f g : Formula) (at : ℕ) → is_and o ≡ false
     → first (faults n role.Condition (binary o f g at)) ≡ None → is_comparison o ≡ true
 is_compared n o f g at a h =
     let side = side_role o (is_signed f && is_signed g) role.Condition in
@@ -89,11 +89,11 @@ alone n o f g at p a long h =
     )
 
 -- what is no operator is no condition
-abbrev IsNoOperator : Formula → Type 0
+abbrev pub IsNoOperator : Formula → Type 0
 IsNoOperator (binary o f g at) = ⊥
 IsNoOperator _ = ⊤
 
-no_condition : (n : ℕ) (f : Formula) → IsNoOperator f → first (faults n role.Condition f) ≡ None → ⊥
+pub no_condition : (n : ℕ) (f : Formula) → IsNoOperator f → first (faults n role.Condition f) ≡ None → ⊥
 no_condition n (constant s v at) o h = absurd (cc (judged_none [] at (Some kind.Condition) h).1)
 no_condition n (name m at) o h = absurd (cc (judged_none (told at (named m)) at (Some kind.Condition) h).1)
 no_condition n (index q i) o h =

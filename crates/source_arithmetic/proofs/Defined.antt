@@ -42,7 +42,7 @@ has_cell n (index q i) a h =
     let parts = place_parts n q i h in (has_cell n q a parts.0, has_whole n i parts.1)
 has_cell n _ a h = absurd a
 
-ranked_array : (m : Meaning) (k : ℕ) → rank m ≡ k + 1 → IsArrayName m
+pub ranked_array : (m : Meaning) (k : ℕ) → rank m ≡ k + 1 → IsArrayName m
 ranked_array (meaning.Array k r) s e = tt
 ranked_array meaning.Unknown s e = absurd (omega arith)
 ranked_array meaning.Closed s e = absurd (omega arith)
@@ -80,7 +80,7 @@ unsigned_word n op.Comma f g at u e c shift x y = absurd c
 unsigned_word n _ f g at u e c shift x y = absurd (cc)
 
 -- a name that is a value is a number's: every array has an extent
-name_word : (ranks : List ℕ) (n : ℕ) (m : Meaning) (at : ℕ) → All (λ r. 1 ≤ r) ranks → IsInScope ranks (name m at)
+pub name_word : (ranks : List ℕ) (n : ℕ) (m : Meaning) (at : ℕ) → All (λ r. 1 ≤ r) ranks → IsInScope ranks (name m at)
     → first (faults n role.Value (name m at)) ≡ None → HasWord (name m at)
 name_word ranks n (meaning.Variable k) at some s h = tt
 name_word ranks n meaning.Unknown at some s h =

@@ -63,10 +63,10 @@ outer_below s w j e =
         omega arith
     by_name false None below e = absurd (array_none 0 w s.arrays j e)
 
-same_text : (u w : Text) → bytes_eq u w ≡ true → w ≡ u
+pub same_text : (u w : Text) → bytes_eq u w ≡ true → w ≡ u
 same_text u w e = sym ((bytes_eq-Decides u w).0 e)
 
-equal_text : (u : Text) → bytes_eq u u ≡ true
+pub equal_text : (u : Text) → bytes_eq u u ≡ true
 equal_text u = (bytes_eq-Decides u u).1 refl
 
 only_own : (s : Scope) (u w : Text) (o : Option ℕ) (b : Bool)

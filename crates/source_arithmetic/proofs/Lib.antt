@@ -9,3 +9,10 @@ pub mod Storing
 pub mod Loops
 pub mod Iterators
 pub mod Defined
+pub mod Meanings
+pub mod Orders
+pub mod Headers
+pub mod Fitting
+pub mod Turning
+pub mod Accepted
+pub mod Standing

@@ -64,7 +64,8 @@ bound_truth m k _ up e r = absurd (cc)
 
 -- steps
 
-some_if : {A : Type 0} (b : Bool) (o : Option A) (z : A) → (if b then o else None) ≡ Some z → (b ≡ true) × (o ≡ Some z)
+pub some_if : {A : Type 0} (b : Bool) (o : Option A) (z : A) → (if b then o else None) ≡ Some z
+    → (b ≡ true) × (o ≡ Some z)
 some_if true o z e = (refl, e)
 some_if false o z e = absurd (cc)
 
@@ -92,7 +93,7 @@ entry_whole : (k : ℕ) (f : Formula) (q : List ℤ) → is_entry k f ≡ true �
 entry_whole k (name (meaning.Variable j) at) q e = ap (λ i. get_or q i (pos 0)) (eqb-true j k e)
 entry_whole k _ q e = absurd (cc)
 
-entry_name : (k : ℕ) (f : Formula) → is_entry k f ≡ true → IsNameOf k f
+pub entry_name : (k : ℕ) (f : Formula) → is_entry k f ≡ true → IsNameOf k f
 entry_name k (name (meaning.Variable j) at) e = eqb-true j k e
 entry_name k _ e = absurd (cc)
 
@@ -147,8 +148,9 @@ change_has k (assigned assigns.Set f) z e = set_has k f z e
 change_has k (assigned _ f) z e = absurd (cc)
 
 -- a direction and a stride that fit are there
-goes_parts : (r : Option Bool) (o : Option ℤ) → goes r o ≡ true → (up : Bool) × (z : ℤ) × (r ≡ Some up) × (o ≡ Some z)
-goes_parts (Some up) (Some z) e = (up, z, refl, refl)
+goes_parts : (r : Option Bool) (o : Option ℤ) → goes r o ≡ true
+    → (up : Bool) × (z : ℤ) × (r ≡ Some up) × (o ≡ Some z) × (goes (Some up) (Some z) ≡ true)
+goes_parts (Some up) (Some z) e = (up, z, refl, refl, e)
 goes_parts (Some true) None e = absurd (cc)
 goes_parts (Some false) None e = absurd (cc)
 goes_parts None o e = absurd (cc)
@@ -163,6 +165,7 @@ pub record IsLoop (s : Scope) (h : LoopHead) : Type 0 where
   pub step : ℤ
   pub changes : change_stride (entries s) h.change ≡ Some step
   pub changed : is_entry (entries s) h.changed ≡ true
+  pub goes : goes (Some up) (Some step) ≡ true
 
 pub loop_parts : (s : Scope) (h : LoopHead) → loop_faults s h ≡ [] → IsLoop s h
 loop_parts s h e =
@@ -186,6 +189,7 @@ loop_parts s h e =
       step = g.1;
       changes = t.1;
       changed = t.0;
+      goes = g.4;
     }
 
 -- turns

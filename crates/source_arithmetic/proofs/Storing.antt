@@ -31,13 +31,13 @@ array_name meaning.Closed e = absurd (cc)
 array_name (meaning.Variable k) e = absurd (cc)
 
 -- a place and a value without faults, and an operator that may stand between them
-record IsStored (n : ℕ) (s : Stored) : Type 0 where
-  place : first (place_faults n s.cell) ≡ None
-  value : first (faults n role.Value s.value) ≡ None
-  own : own_assign s.assign s.value ≡ None
-  array : IsArray s.cell
+pub record IsStored (n : ℕ) (s : Stored) : Type 0 where
+  pub place : first (place_faults n s.cell) ≡ None
+  pub value : first (faults n role.Value s.value) ≡ None
+  pub own : own_assign s.assign s.value ≡ None
+  pub array : IsArray s.cell
 
-stored_parts : (n : ℕ) (s : Stored) → stored_faults n s ≡ [] → IsStored n s
+pub stored_parts : (n : ℕ) (s : Stored) → stored_faults n s ≡ [] → IsStored n s
 stored_parts n s e =
     let outer = judged_none (cell_faults n s.cell ++ faults n role.Value s.value) _ e in
     let sides = parts_none (cell_faults n s.cell) _ outer.0 in

@@ -73,7 +73,7 @@ product_value false c f g p x y e =
     m ∙ ap (λ z. z *ℤ value_of g p) (sym one)
 
 -- a sum, a difference or a product of forms that are worth their sides
-term_value : (n : ℕ) (o : Op) (f g : Formula) (at : ℕ) (p : List ℤ) → is_sum_or_product o ≡ true
+pub term_value : (n : ℕ) (o : Op) (f g : Formula) (at : ℕ) (p : List ℤ) → is_sum_or_product o ≡ true
     → (is_product o && (has_name f && has_name g)) ≡ false → value_of (form n f) p ≡ whole p f
     → value_of (form n g) p ≡ whole p g → value_of (form n (binary o f g at)) p ≡ whole p (binary o f g at)
 term_value n op.Plus f g at p s e x y = let v = value_of-sum (form n f) (form n g) p in omega (arith, ints)
@@ -102,7 +102,7 @@ name_value n meaning.Closed at p long = let z = dot-zeros n p in omega (arith, i
 name_value n (meaning.Array k r) at p long = let z = dot-zeros n p in omega (arith, ints)
 
 -- an operator of an affine expression
-own_parts : (s p w : Bool) → (if s then (if p then Some kind.NotAffine else only_where (not w) kind.Coefficient)
+pub own_parts : (s p w : Bool) → (if s then (if p then Some kind.NotAffine else only_where (not w) kind.Coefficient)
     else Some kind.NotAffine) ≡ None
     → (s ≡ true) × (p ≡ false)
 own_parts true true w e = absurd (cc)
@@ -110,7 +110,7 @@ own_parts true false w e = (refl, refl)
 own_parts false p w e = absurd (cc)
 
 -- the sides of an affine operator are affine
-affine_sides : (n : ℕ) (o : Op) (f g : Formula) (at : ℕ) → first (faults n role.Affine (binary o f g at)) ≡ None
+pub affine_sides : (n : ℕ) (o : Op) (f g : Formula) (at : ℕ) → first (faults n role.Affine (binary o f g at)) ≡ None
     → (is_sum_or_product o ≡ true) × ((is_product o && (has_name f && has_name g)) ≡ false)
     × (first (faults n role.Affine f) ≡ None) × (first (faults n role.Affine g) ≡ None)
 affine_sides n o f g at h =

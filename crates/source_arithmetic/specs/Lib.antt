@@ -1,1 +1,4 @@
 pub mod Arithmetic
+pub mod Meaning
+pub mod Tokens
+pub mod Limits

@@ -3,11 +3,14 @@
 ghost use Rattle.std.specs.Prelude.{◌+ℤ◌, ◌++◌, ◌<◌, ◌↔◌, ◌∷◌, ◌≡◌, ◌≢◌, ◌≤◌, ◌≤ℤ◌, ℕ, ℤ, [], All, List, None, length};
 ghost use Rattle.std.specs.Prelude.{◌^◌, false, map, pos, unsigned_abs};
 ghost use Rattle.expression_grammar.specs.Grammar.{IsExpression};
-ghost use Rattle.expression_grammar.specs.Tree.{Tree};
+ghost use Rattle.expression_grammar.specs.Tree.{Tree, tokens_of, written};
+ghost use Rattle.kernel_grammar.specs.Kernel.{Kernel};
 ghost use Rattle.whole_numbers.specs.Affine.{value_of};
 ghost use Rattle.scop_lexer.specs.Bytes.{Text};
+ghost use Rattle.scop_lexer.specs.declared.token.Token.{Token};
 ghost use Rattle.scop_syntax.specs.Cells.{Cell, cell_of, reads, reads_of, values};
 ghost use Rattle.scop_syntax.specs.Statements.{AllHold};
+ghost use Rattle.scop_syntax.specs.Tree.{Program};
 ghost use Rattle.scop_syntax.specs.Values.{stored_by, value_on};
 ghost use Rattle.scop_syntax.specs.Walk.{condition_at, turn_point};
 ghost use Rattle.scop_roles.specs.declared.formula.Meaning.TheVariants as meaning;
@@ -19,14 +22,20 @@ ghost use Rattle.scop_roles.specs.Scope.{IsArray, IsInScope};
 ghost use Rattle.scop_roles.specs.Values.{access, expression, tests};
 ghost use Rattle.scop_units.specs.Loops.{LoopHead, loop_faults, loop_of};
 ghost use Rattle.scop_units.specs.Scopes.{Scope, entries, meaning_in, with_loop};
-ghost use Rattle.scop_units.specs.Units.{Stored, array_faults, array_of, declared_over, statement_of, stored_faults};
-ghost use Rattle.scop_units.specs.Words.{Words};
+ghost use Rattle.scop_units.specs.Units.{Stored, array_faults, array_of, declared_over, extent_faults, statement_of};
+ghost use Rattle.scop_units.specs.Units.{stored_faults};
+ghost use Rattle.scop_units.specs.Words.{Words, grammar_tokens, words_of};
+ghost use Rattle.scop_parser.specs.Spelling.{IsText, SpellsProgram};
 ghost use Rattle.source_arithmetic.specs.Arithmetic.{HasCell, HasNoComma, HasStep, HasStored, HasTruth, HasWhole};
 ghost use Rattle.source_arithmetic.specs.Arithmetic.{HasWord};
 ghost use Rattle.source_arithmetic.specs.Arithmetic.{Holds, IsNameOf, after_step, cell, cells_in};
 ghost use Rattle.source_arithmetic.specs.Arithmetic.{cells_read, stored, whole, word};
+ghost use Rattle.source_arithmetic.specs.Limits.{IsFitLoop, IsFitStored, IsFitWord, IsLinear, IsLinearPlace};
+ghost use Rattle.source_arithmetic.specs.Limits.{IsLinearTruth};
+ghost use Rattle.source_arithmetic.specs.Meaning.{Means};
+ghost use Rattle.source_arithmetic.specs.Tokens.{KernelStands, NodeStands};
 
-use scop_roles::laws::faultless_formulas_are_within_limits;
+use scop_roles::laws::{faultless_formulas_are_within_limits, formulas_are_in_scope};
 
 /// What has no fault in its role is of those expressions that the definitions speak of, and names mean entries that are
 /// there: no law below rests on what is worth 0 for want of a meaning.
@@ -125,3 +134,48 @@ pub fn loops_count_as_they_say()
     ensures condition { (s : Scope) (h : LoopHead) (p : List ℤ) (x : ℤ) → length p ≡ entries s → loop_faults s h ≡ []
         → (pos 0 ≤ℤ condition_at (loop_of s h) p x) ↔ Holds (turn_point (loop_of s h) p x) h.second }
 {}
+
+/// The program that a text spells means what the text does: along the tree of its kernel each extent, condition, loop's
+/// head and statement is worth at each point what its expressions are.
+pub fn spelled_texts_mean_their_programs()
+    ensures { (text : Text) (p : Program) (x : SpellsProgram text p) → Means (words_of text x.tokens) x.kernel p }
+{
+    formulas_are_in_scope();
+    faultless_formulas_are_within_limits();
+}
+
+/// Each name, constant, operator and sign of a text stands at a token of its kind, and means what is looked up there;
+/// the parts of an expression stand in the order of the text.
+pub fn formulas_stand_at_their_tokens()
+    ensures nodes { (t : Tree) → All (NodeStands (tokens_of t)) (written 0 t) }
+    ensures kernel { (text : Text) (tokens : List Token) (k : Kernel) → IsText text tokens k
+        → KernelStands (grammar_tokens tokens) (words_of text tokens) k }
+{}
+
+/// What means something within the limits has no fault where it stands: no more is refused of expressions.
+pub fn texts_within_the_limits_have_no_fault()
+    ensures affine { (n : ℕ) (f : Formula) → IsLinear n f → faults n role.Affine f ≡ [] }
+    ensures condition { (n : ℕ) (f : Formula) → IsLinearTruth n f → faults n role.Condition f ≡ [] }
+    ensures place { (n : ℕ) (f : Formula) → IsLinearPlace n f → place_faults n f ≡ [] }
+    ensures value { (n : ℕ) (f : Formula) → IsFitWord n f → faults n role.Value f ≡ [] }
+    ensures statement { (n : ℕ) (s : Stored) → IsFitStored n s → stored_faults n s ≡ [] }
+    ensures loops { (s : Scope) (h : LoopHead) → IsFitLoop s h → loop_faults s h ≡ [] }
+    ensures extents { (n : ℕ) (fs : List Formula) → All (IsLinear n) fs → extent_faults n fs ≡ [] }
+{
+    faultless_formulas_are_within_limits();
+}
+
+/// What has no fault where it stands means something within the limits; so by the law above just that is accepted.
+pub fn faultless_texts_lie_within_the_limits()
+    ensures affine { (n : ℕ) (f : Formula) → first (faults n role.Affine f) ≡ None → IsLinear n f }
+    ensures condition { (n : ℕ) (f : Formula) → first (faults n role.Condition f) ≡ None → IsLinearTruth n f }
+    ensures place { (n : ℕ) (f : Formula) → IsArray f → first (place_faults n f) ≡ None → IsLinearPlace n f }
+    ensures value { (ranks : List ℕ) (n : ℕ) (f : Formula) → All (λ r. 1 ≤ r) ranks → IsInScope ranks f → HasNoComma f
+        → first (faults n role.Value f) ≡ None → IsFitWord n f }
+    ensures statement { (ranks : List ℕ) (n : ℕ) (s : Stored) → All (λ r. 1 ≤ r) ranks → IsInScope ranks s.value
+        → HasNoComma s.value → stored_faults n s ≡ [] → IsFitStored n s }
+    ensures loops { (s : Scope) (h : LoopHead) → loop_faults s h ≡ [] → IsFitLoop s h }
+    ensures extents { (n : ℕ) (fs : List Formula) → extent_faults n fs ≡ [] → All (IsLinear n) fs }
+{
+    faultless_formulas_are_within_limits();
+}
