@@ -1,18 +1,17 @@
 -- From what the parts of a call answer to what the call promises.
-use Rattle.std.proofs.Common.{◌≡◌, ◌≢◌, ◌⊎◌, ◌∙◌, sym, subst, ap, refl, inl, inr, ℕ, ◌+◌, ◌≤◌, ◌<◌, List, [], length}
-use Rattle.std.proofs.Common.{Option, None, Some, arith}
+use Rattle.std.proofs.Common.{◌≡◌, ◌≢◌, ◌⊎◌, ◌∙◌, sym, subst, ap, refl, inl, inr, ℕ, ◌+◌, ◌≤◌, ◌<◌, List, [], ◌∷◌, ◌++◌}
+use Rattle.std.proofs.Common.{length, Option, None, Some, append-nil, arith}
 use Rattle.std.specs.Prelude.{replicate, option_map}
 use Rattle.std.proofs.Common.{Bor}
 use Rattle.std.specs.Option.{option_copied}
 use Rattle.std.proofs.lemmas.List.{length-replicate}
 use Rattle.std.specs.Io.KnownBytes.{Appends, IsAtEnd}
-use Rattle.std.proofs.KnownBytes.{Appends-trans}
+use Rattle.std.proofs.KnownBytes.{Appends-nil, Appends-trans}
 use Rattle.io_ports.specs.Faults.{Rose}
-use Rattle.io_ports.specs.Bytes.{IsAllOf, IsLonger}
-use Rattle.io_ports.specs.Reads.{SourceShows, IsSteady}
-use Rattle.io_ports.specs.Writes.{SinkShows, HasRoom, Takes, FailsToTake, CutsOff}
-use Rattle.io_ports.proofs.Writing.{take_then, take_then_cut, front_then, whole_is_front, kept_is_nothing}
-use Rattle.io_ports.proofs.Writing.{room_for_front, room_next, calm_then}
+use Rattle.io_ports.specs.Bytes.{IsAllOf, IsLonger, GainsFront}
+use Rattle.io_ports.specs.Reads.{SourceShows}
+use Rattle.io_ports.specs.Writes.{SinkShows, HasRoom, Takes, FailsToTake}
+use Rattle.io_ports.proofs.Writing.{take_then, whole_is_front, kept_is_nothing, room_next}
 use Rattle.scop_syntax.specs.declared.tree.Kernel.{Kernel}
 use Rattle.scop_syntax.specs.View.{program_of}
 use Rattle.scop_syntax.specs.Tree.{Program}
@@ -22,15 +21,19 @@ use Rattle.report_text.specs.declared.status.Status.TheVariants.{WriteFault, NoM
 use Rattle.polypar.specs.declared.command.Command.{Command}
 use Rattle.polypar.specs.declared.command.Command.TheVariants.{Run, OfKernel}
 use Rattle.polypar.specs.declared.command.KernelCommand.{KernelCommand}
-use Rattle.polypar.specs.declared.command.KernelCommand.TheVariants.{Schedule, Deps}
+use Rattle.polypar.specs.declared.command.KernelCommand.TheVariants.{Schedule, Deps, Emit}
 use Rattle.polypar.specs.Command.{IsTaken, command_of}
-use Rattle.polypar.specs.Case.{Accepted, asked_text}
-use Rattle.polypar.specs.Deserves.{DeservesInput, DeservesFor, Deserves, AsksFor}
+use Rattle.polypar.specs.Case.{Accepted}
+use Rattle.polypar.specs.Planning.{IsPlanText}
+use Rattle.polypar.specs.Sources.{IsSourcesText}
+use Rattle.polypar.specs.Told.{Told, IsTextAlone}
+use Rattle.polypar.specs.Deserves.{DeservesInput, DeservesFor, Deserves, AsksFor, Asks}
 use Rattle.report_text.specs.StatusText.{status_text}
 use Rattle.polypar.specs.KernelText.{IsTextFor}
-use Rattle.polypar.specs.Answers.{AnswersInput, AnswersSpelled, AnswersFor, AnswersWords, IsReadOn, TellsStatus}
-use Rattle.polypar.specs.Answered.{PrintsArrays, PrintsText, PrintsFront, IsDeserved, NamesOf, GainsLine, NoneRose}
-use Rattle.polypar.specs.Answered.{HasRoomForText, Answered}
+use Rattle.polypar.specs.Answers.{WritesTold, CutsTold, AreUntouched, AnswersFor, AnswersCommand, AnswersWords}
+use Rattle.polypar.specs.Answers.{IsReadOn, TellsStatus}
+use Rattle.polypar.specs.Answered.{PrintsArrays, PrintsText, PrintsTold, PrintsFront, IsDeserved, NamesOf, IsFrontOf}
+use Rattle.polypar.specs.Answered.{HasLines, GainsTo, GainsLine, NoneRose, HasRoomForText, Answered}
 
 -- an accepted input deserves Done
 accepted_is_done : (input : List ℕ) → Accepted input → DeservesInput input Done
@@ -43,6 +46,12 @@ accepted_is_done input a = inl (
         (a.params, a.contents, a.said, inl (a.inside, refl)),
   ),
 )
+
+-- so does one that asks a command for something
+asks_is_done : (command : Command) (input : List ℕ) (told : Told) → AsksFor command input told
+    → DeservesFor command input Done
+asks_is_done Run input told asks = accepted_is_done input asks.0
+asks_is_done (OfKernel asked) input told asks = inl (asks.0.short, inl (asks.0.program, asks.0.spelled, refl))
 
 -- words and an input deserve one status
 abbrev pub OneVerdict : Type 0
@@ -62,124 +71,124 @@ pub long_input : (left : Option (List ℕ)) (limit : ℕ) → IsLonger left limi
 long_input None limit long = (replicate (limit + 1) 0, tt, omega (arith, length-replicate {A = ℕ} (limit + 1) 0))
 long_input (Some left) limit long = (left, refl, long)
 
--- what the answer to an input says: the status is deserved, `out` is untouched, and no fault was counted
-record IsInputEnd (command : Command) (status : Status) (input : List ℕ) (out out_after : SinkShows) : Type 0 where
-  is_deserved : status ≢ WriteFault → status ≢ NoMemory → DeservesFor command input status
-  untouched : status ≢ Done → status ≢ WriteFault → out_after ≡ out
-  calm : ((text : List ℕ) → AsksFor command input text → HasRoom out text) → out_after.faults ≡ out.faults
+-- an answer that is neither a fault nor want of memory is deserved
+answer_deserves : (command : Command) (status : Status) (input : List ℕ) (out out_after err err_after : SinkShows)
+    → AnswersFor command status input out out_after err err_after → status ≢ WriteFault → status ≢ NoMemory
+    → DeservesFor command input status
+answer_deserves command Done input out out_after err err_after answer write memory =
+    asks_is_done command input answer.0 answer.1
+answer_deserves command Usage input out out_after err err_after answer write memory = absurd answer
+answer_deserves command (Refused refusal) input out out_after err err_after answer write memory = answer.0
+answer_deserves command (BadData refusal) input out out_after err err_after answer write memory = answer.0
+answer_deserves command (Outside f) input out out_after err err_after answer write memory = answer.0
+answer_deserves command ReadFault input out out_after err err_after answer write memory = absurd answer
+answer_deserves command WriteFault input out out_after err err_after answer write memory = absurd (write refl)
+answer_deserves command NoMemory input out out_after err err_after answer write memory = absurd (memory refl)
 
--- a status that is deserved, where `out` is untouched
-untouched_end : (command : Command) (status : Status) (input : List ℕ) (out out_after : SinkShows)
-    → DeservesFor command input status → out_after ≡ out → IsInputEnd command status input out out_after
-untouched_end command status input out after deserves same = record {
-  is_deserved = λ _ _. deserves;
-  untouched = λ _ _. same;
-  calm = λ room. ap (λ sink. sink.faults) same;
+-- an answer but Done and a write fault leaves the sinks untouched
+answer_leaves : (command : Command) (status : Status) (input : List ℕ) (out out_after err err_after : SinkShows)
+    → AnswersFor command status input out out_after err err_after → status ≢ Done → status ≢ WriteFault
+    → AreUntouched out out_after err err_after
+answer_leaves command Done input out out_after err err_after answer not_done write = absurd (not_done refl)
+answer_leaves command Usage input out out_after err err_after answer not_done write = absurd answer
+answer_leaves command (Refused refusal) input out out_after err err_after answer not_done write = answer.1
+answer_leaves command (BadData refusal) input out out_after err err_after answer not_done write = answer.1
+answer_leaves command (Outside f) input out out_after err err_after answer not_done write = answer.1
+answer_leaves command ReadFault input out out_after err err_after answer not_done write = absurd answer
+answer_leaves command WriteFault input out out_after err err_after answer not_done write = absurd (write refl)
+answer_leaves command NoMemory input out out_after err err_after answer not_done write = answer
+
+-- what was told and then flushed was told
+told_flushed : (told : Told) (out out_after err mid after : SinkShows) → WritesTold told out out_after err mid
+    → Takes mid after [] → WritesTold told out out_after err after
+told_flushed told out out_after err mid after writes flushed = record {
+  text = writes.text;
+  lines = subst (λ t. Takes err after t) (append-nil told.lines)
+      (take_then err mid after told.lines [] writes.lines flushed);
 }
 
--- want of memory
-memory_end : (command : Command) (input : List ℕ) (out out_after : SinkShows) → out_after ≡ out
-    → IsInputEnd command NoMemory input out out_after
-memory_end command input out after same = record {
-  is_deserved = λ _ memory. absurd (memory refl);
-  untouched = λ _ _. same;
-  calm = λ room. ap (λ sink. sink.faults) same;
+-- where that flush fails, all was told
+told_unflushed : (told : Told) (out out_after err mid after : SinkShows) → WritesTold told out out_after err mid
+    → FailsToTake mid after [] → CutsTold told out out_after err after
+told_unflushed told out out_after err mid after writes failed = record {
+  gained = inr (
+    subst (λ t. Appends err.taken after.taken t) (append-nil told.lines)
+        (Appends-trans err.taken mid.taken after.taken told.lines [] writes.lines.gained
+        (kept_is_nothing mid.taken after.taken failed.kept)),
+    whole_is_front out.taken out_after.taken told.text writes.text.gained,
+  );
+  later = omega (arith, writes.lines.later, failed.later);
+  rose = inr (omega (arith, writes.lines.later, failed.cause.rose));
+  full = λ room line.
+      failed.cause.full
+      (room_next err mid told.lines [] writes.lines
+      (subst (λ t. HasRoom err t) (sym (append-nil told.lines)) line)).1;
 }
 
--- a text that is asked for was printed
-done_end : (command : Command) (input text : List ℕ) (out out_after : SinkShows) → DeservesFor command input Done
-    → AsksFor command input text → Takes out out_after text → IsInputEnd command Done input out out_after
-done_end command input text out after deserves asks takes = record {
-  is_deserved = λ _ _. deserves;
-  untouched = λ done _. absurd (done refl);
-  calm = λ room. (takes.calm (room text asks)).faults;
-}
+-- a command that is done, and then flushes `err`
+pub done_flushed : (command : Command) (status : Status) (source source_after : SourceShows)
+    (out out_after err mid after : SinkShows) → status ≡ Done
+    → AnswersCommand command status source source_after out out_after err mid → Takes mid after []
+    → AnswersCommand command status source source_after out out_after err after
+done_flushed command status source source_after out out_after err mid after is (inl read) flushed =
+    let answer = subst (λ s. AnswersFor command s read.input out out_after err mid) is read.answer in
+    inl (record {
+      input = read.input;
+      whole = read.whole;
+      answer = subst (λ s. AnswersFor command s read.input out out_after err after) (sym is)
+          (answer.0, answer.1, told_flushed answer.0 out out_after err mid after answer.2 flushed);
+      at_end = read.at_end;
+    })
+done_flushed command status source source_after out out_after err mid after is (inr broken) flushed =
+    absurd (let both = sym is ∙ broken.fault in cc)
 
--- or cut off
-cut_end : (command : Command) (input text : List ℕ) (out out_after : SinkShows) → AsksFor command input text
-    → CutsOff out out_after text → IsInputEnd command WriteFault input out out_after
-cut_end command input text out after asks cut = record {
-  is_deserved = λ fault _. absurd (fault refl);
-  untouched = λ _ fault. absurd (fault refl);
-  calm = λ room. absurd (cut.cause.full (room text asks));
-}
+-- or fails to
+pub done_unflushed : (command : Command) (status : Status) (source source_after : SourceShows)
+    (out out_after err mid after : SinkShows) → status ≡ Done
+    → AnswersCommand command status source source_after out out_after err mid → FailsToTake mid after []
+    → AnswersCommand command WriteFault source source_after out out_after err after
+done_unflushed command status source source_after out out_after err mid after is (inl read) failed =
+    let answer = subst (λ s. AnswersFor command s read.input out out_after err mid) is read.answer in
+    inl (record {
+      input = read.input;
+      whole = read.whole;
+      answer = (answer.0, answer.1, told_unflushed answer.0 out out_after err mid after answer.2 failed);
+      at_end = λ e. cc;
+    })
+done_unflushed command status source source_after out out_after err mid after is (inr broken) failed =
+    absurd (let both = sym is ∙ broken.fault in cc)
 
-input_end : (status : Status) (input : List ℕ) (out out_after : SinkShows) → AnswersInput status input out out_after
-    → IsInputEnd Run status input out out_after
-input_end Done input out after answer =
-    done_end Run input (asked_text answer.0) out after (accepted_is_done input answer.0) (answer.0, refl) answer.1
-input_end Usage input out after answer = absurd answer
-input_end (Refused refusal) input out after answer =
-    untouched_end Run (Refused refusal) input out after answer.0 answer.1
-input_end (BadData refusal) input out after answer =
-    untouched_end Run (BadData refusal) input out after answer.0 answer.1
-input_end (Outside f) input out after answer = untouched_end Run (Outside f) input out after answer.0 answer.1
-input_end ReadFault input out after answer = absurd answer
-input_end WriteFault input out after answer =
-    cut_end Run input (asked_text answer.0) out after (answer.0, refl) answer.1
-input_end NoMemory input out after answer = memory_end Run input out after answer
+-- ---- what was printed
 
-spelled_end : (asked : KernelCommand) (status : Status) (input : List ℕ) (out out_after : SinkShows)
-    → AnswersSpelled asked status input out out_after → IsInputEnd (OfKernel asked) status input out out_after
-spelled_end asked Done input out after answer =
-    done_end (OfKernel asked) input answer.1 out after
-    (inl (answer.0.short, inl (answer.0.program, answer.0.spelled, refl))) (answer.0, answer.2) answer.3
-spelled_end asked Usage input out after answer = absurd answer
-spelled_end asked (Refused refusal) input out after answer =
-    untouched_end (OfKernel asked) (Refused refusal) input out after answer.0 answer.1
-spelled_end asked (BadData refusal) input out after answer = absurd answer
-spelled_end asked (Outside f) input out after answer = absurd answer
-spelled_end asked ReadFault input out after answer = absurd answer
-spelled_end asked WriteFault input out after answer =
-    cut_end (OfKernel asked) input answer.1 out after (answer.0, answer.2) answer.3
-spelled_end asked NoMemory input out after answer = memory_end (OfKernel asked) input out after answer
+-- an input was read, and exactly what it asks the command for was written
+abbrev PrintsFor : Command → Option (List ℕ) → SinkShows → SinkShows → SinkShows → SinkShows → Type 0
+PrintsFor command left out out_after err err_after =
+    (input : List ℕ) × (told : Told) × IsAllOf left input × AsksFor command input told
+    × Appends out.taken out_after.taken told.text × Appends err.taken err_after.taken told.lines
 
-command_end : (command : Command) (status : Status) (input : List ℕ) (out out_after : SinkShows)
-    → AnswersFor command status input out out_after → IsInputEnd command status input out out_after
-command_end Run status input out after answer = input_end status input out after answer
-command_end (OfKernel asked) status input out after answer = spelled_end asked status input out after answer
+prints_arrays : (command : Command) (left : Option (List ℕ)) (out out_after err err_after : SinkShows) → command ≡ Run
+    → PrintsFor command left out out_after err err_after → PrintsArrays left out.taken out_after.taken
+prints_arrays command left out out_after err err_after is printed =
+    let run = subst (λ c. PrintsFor c left out out_after err err_after) is printed in (
+      run.0,
+      run.3.0,
+      run.2,
+      subst (λ told. Appends out.taken out_after.taken told.text) run.3.1 run.4,
+    )
 
--- what was printed at Done is asked for
-done_text : (command : Command) (input : List ℕ) (out out_after : SinkShows)
-    → AnswersFor command Done input out out_after
-    → (text : List ℕ) × AsksFor command input text × Takes out out_after text
-done_text Run input out after answer = (asked_text answer.0, (answer.0, refl), answer.1)
-done_text (OfKernel asked) input out after answer = (answer.1, (answer.0, answer.2), answer.3)
+prints_told : (asked : KernelCommand) (command : Command) (left : Option (List ℕ))
+    (out out_after err err_after : SinkShows) → command ≡ OfKernel asked
+    → PrintsFor command left out out_after err err_after
+    → PrintsTold (IsTextFor asked) left out out_after err err_after
+prints_told asked command left out out_after err err_after is printed =
+    let all = subst (λ c. PrintsFor c left out out_after err err_after) is printed in
+    (all.0, all.3.0, all.1, all.2, all.3.1, all.4, all.5)
 
--- and at a write fault a front of what is asked for was
-cut_text : (command : Command) (input : List ℕ) (out out_after : SinkShows)
-    → AnswersFor command WriteFault input out out_after
-    → (text : List ℕ) × AsksFor command input text × CutsOff out out_after text
-cut_text Run input out after answer = (asked_text answer.0, (answer.0, refl), answer.1)
-cut_text (OfKernel asked) input out after answer = (answer.1, (answer.0, answer.2), answer.3)
-
--- an input is answered by no Usage and no read fault
-no_usage : (command : Command) (input : List ℕ) (out out_after : SinkShows)
-    → AnswersFor command Usage input out out_after → ⊥
-no_usage Run input out after answer = answer
-no_usage (OfKernel asked) input out after answer = answer
-
-no_read_fault : (command : Command) (input : List ℕ) (out out_after : SinkShows)
-    → AnswersFor command ReadFault input out out_after → ⊥
-no_read_fault Run input out after answer = answer
-no_read_fault (OfKernel asked) input out after answer = answer
-
--- an input was read, and exactly a text that it asks the command for was printed
-abbrev PrintsFor : Command → Option (List ℕ) → Option (List ℕ) → Option (List ℕ) → Type 0
-PrintsFor command left old new =
-    (input : List ℕ) × (text : List ℕ) × IsAllOf left input × AsksFor command input text × Appends old new text
-
-prints_arrays : (command : Command) (left old new : Option (List ℕ)) → command ≡ Run → PrintsFor command left old new
-    → PrintsArrays left old new
-prints_arrays command left old new is printed =
-    let run = subst (λ c. PrintsFor c left old new) is printed in
-    (run.0, run.3.0, run.2, subst (λ text. Appends old new text) run.3.1 run.4)
-
-prints_text : (asked : KernelCommand) (command : Command) (left old new : Option (List ℕ)) → command ≡ OfKernel asked
-    → PrintsFor command left old new → PrintsText (IsTextFor asked) left old new
-prints_text asked command left old new is printed =
-    let text = subst (λ c. PrintsFor c left old new) is printed in
-    (text.0, text.3.0, text.1, text.2, text.3.1, text.4)
+-- where it is a text alone
+prints_text : (IsTextOf : Program → List ℕ → Type 0) (left : Option (List ℕ)) (out out_after err err_after : SinkShows)
+    → PrintsTold (λ program told. IsTextAlone (IsTextOf program) told) left out out_after err err_after
+    → PrintsText IsTextOf left out.taken out_after.taken
+prints_text IsTextOf left out out_after err err_after all = (all.0, all.1, all.2.text, all.3, all.4.0, all.5)
 
 -- the program of a kernel that is lent is the kernel's
 pub lent_program : (lent : Option (Bor Kernel)) (kernel : Option Kernel) → option_copied lent ≡ kernel
@@ -212,156 +221,230 @@ not_begun : {P Q : Type 0} (status known : Status) → ((status ≡ Usage) × Q)
 not_begun status known (inl usage) is not_usage not_memory = one_status status Usage known usage.0 is not_usage
 not_begun status known (inr memory) is not_usage not_memory = one_status status NoMemory known memory is not_memory
 
+-- what a sink gained of a text is some front of it
+front_gained : (old new : Option (List ℕ)) (text : List ℕ) → GainsFront old new text
+    → (front : List ℕ) × IsFrontOf front text × Appends old new front
+front_gained None new text gained = ([], (text, refl), tt)
+front_gained (Some old) None text gained = absurd gained
+front_gained (Some old) (Some new) text gained = (gained.0, (gained.1, gained.2), gained.3)
+
+-- nothing is a front of each text
+front_of_none : (old : Option (List ℕ)) (text : List ℕ) → GainsFront old old text
+front_of_none None text = tt
+front_of_none (Some old) text = ([], text, refl, sym (append-nil old))
+
+-- of nothing it is nothing
+front_of_nothing : (old new : Option (List ℕ)) → GainsFront old new [] → Appends old new []
+front_of_nothing None new gained = tt
+front_of_nothing (Some old) None gained = gained
+front_of_nothing (Some old) (Some new) (front, rest, both, is) = go front rest both is
+  where
+    go : (front rest : List ℕ) → [] ≡ front ++ rest → new ≡ old ++ front → new ≡ old ++ []
+    go [] rest both is = is
+    go (x ∷ xs) rest both is = cc
+
 module _ (words : List (List ℕ)) (named : Option Program) (source source_after : SourceShows)
     (out out_after err mid after : SinkShows) where
   abbrev Ends : Status → Type 0
   Ends status = AnswersWords words status source source_after out out_after err mid
 
+  -- something that the words and the input ask for was written like this
+  abbrev WritesAsked : (Told → Type 0) → Type 0
+  WritesAsked How = (input : List ℕ) × (told : Told) × IsAllOf source.left input × Asks words input told × How told
+
   -- the answer to an input, for a status that is known
   answer_at : (status known : Status) (input : List ℕ) → status ≡ known
-      → AnswersFor (command_of words) status input out out_after
-      → AnswersFor (command_of words) known input out out_after
+      → AnswersFor (command_of words) status input out out_after err mid
+      → AnswersFor (command_of words) known input out out_after err mid
   answer_at status known input is answer =
-      subst (λ s. AnswersFor (command_of words) s input out out_after) is answer
+      subst (λ s. AnswersFor (command_of words) s input out out_after err mid) is answer
 
   done : (status : Status) → Ends status → status ≡ Done
-      → PrintsFor (command_of words) source.left out.taken out_after.taken × IsAtEnd source_after.left
-  done status (inl none) is = not_begun status Done none.0.usage is (λ e. cc) (λ e. cc)
-  done status (inr (taken, inl (inl read, quiet))) is =
-      let printed = done_text (command_of words) read.input out out_after
-      (answer_at status Done read.input is read.answer) in
-      ((read.input, printed.0, read.whole, printed.1, printed.2.gained), read.at_end is)
-  done status (inr (taken, inl (inr broken, quiet))) is = one_status status ReadFault Done broken.fault is (λ e. cc)
-  done status (inr (taken, inr unflushed)) is = one_status status WriteFault Done unflushed.fault is (λ e. cc)
+      → WritesAsked (λ told. WritesTold told out out_after err mid) × IsAtEnd source_after.left
+  done status (inl none) is = not_begun status Done none.usage is (λ e. cc) (λ e. cc)
+  done status (inr (taken, inl read)) is =
+      let answer = answer_at status Done read.input is read.answer in
+      ((read.input, answer.0, read.whole, (taken, answer.1), answer.2), read.at_end is)
+  done status (inr (taken, inr broken)) is = one_status status ReadFault Done broken.fault is (λ e. cc)
+
+  cut : (status : Status) → Ends status → status ≡ WriteFault
+      → WritesAsked (λ told. CutsTold told out out_after err mid)
+  cut status (inl none) is = not_begun status WriteFault none.usage is (λ e. cc) (λ e. cc)
+  cut status (inr (taken, inl read)) is =
+      let answer = answer_at status WriteFault read.input is read.answer in
+      (read.input, answer.0, read.whole, (taken, answer.1), answer.2)
+  cut status (inr (taken, inr broken)) is = one_status status ReadFault WriteFault broken.fault is (λ e. cc)
+
+  untouched : (status : Status) → Ends status → status ≢ Done → status ≢ WriteFault
+      → AreUntouched out out_after err mid
+  untouched status (inl none) not_done write = none.untouched
+  untouched status (inr (taken, inl read)) not_done write =
+      answer_leaves (command_of words) status read.input out out_after err mid read.answer not_done write
+  untouched status (inr (taken, inr broken)) not_done write = broken.untouched
 
   usage : (status : Status) → Ends status → status ≡ Usage → (IsTaken words → ⊥) × (source_after ≡ source)
   usage status (inl none) is = (
-    elim none.0.usage [
+    elim none.usage [
       | inl told ↦ told.1
       | inr memory ↦ one_status status NoMemory Usage memory is (λ e. cc)
     ],
-    none.0.unread,
+    none.unread,
   )
-  usage status (inr (taken, inl (inl read, quiet))) is =
-      absurd (no_usage (command_of words) read.input out out_after (answer_at status Usage read.input is read.answer))
-  usage status (inr (taken, inl (inr broken, quiet))) is = one_status status ReadFault Usage broken.fault is (λ e. cc)
-  usage status (inr (taken, inr unflushed)) is = one_status status WriteFault Usage unflushed.fault is (λ e. cc)
+  usage status (inr (taken, inl read)) is = absurd (answer_at status Usage read.input is read.answer)
+  usage status (inr (taken, inr broken)) is = one_status status ReadFault Usage broken.fault is (λ e. cc)
 
   stranger : (status : Status) → Ends status → (IsTaken words → ⊥) → (status ≡ Usage) ⊎ (status ≡ NoMemory)
-  stranger status (inl none) apart = elim none.0.usage [ inl told ↦ inl told.0 | inr memory ↦ inr memory ]
+  stranger status (inl none) apart = elim none.usage [ inl told ↦ inl told.0 | inr memory ↦ inr memory ]
   stranger status (inr answer) apart = absurd (apart answer.0)
 
   deserved : (status : Status) → Ends status → status ≢ ReadFault → status ≢ WriteFault → status ≢ NoMemory
       → IsDeserved words source.left status
   deserved status (inl none) read write memory =
       let input = some_input source.left in
-      elim none.0.usage [
+      elim none.usage [
         | inl told ↦ (input.0, input.1, inr (told.1, told.0))
         | inr no_memory ↦ absurd (memory no_memory)
       ]
-  deserved status (inr (taken, inl (inl read_input, quiet))) read write memory = (
+  deserved status (inr (taken, inl read_input)) read write memory = (
     read_input.input,
     read_input.whole,
     inl (
       taken,
-      (command_end (command_of words) status read_input.input out out_after read_input.answer).is_deserved write memory,
+      answer_deserves (command_of words) status read_input.input out out_after err mid read_input.answer write memory,
     ),
   )
-  deserved status (inr (taken, inl (inr broken, quiet))) read write memory = absurd (read broken.fault)
-  deserved status (inr (taken, inr unflushed)) read write memory = absurd (write unflushed.fault)
+  deserved status (inr (taken, inr broken)) read write memory = absurd (read broken.fault)
 
   read_fault : (status : Status) → Ends status → status ≡ ReadFault → Rose source.faults source_after.faults
-  read_fault status (inl none) is = not_begun status ReadFault none.0.usage is (λ e. cc) (λ e. cc)
-  read_fault status (inr (taken, inl (inl read, quiet))) is =
-      absurd (no_read_fault (command_of words) read.input out out_after
-      (answer_at status ReadFault read.input is read.answer))
-  read_fault status (inr (taken, inl (inr broken, quiet))) is = broken.cause.rose
-  read_fault status (inr (taken, inr unflushed)) is =
-      one_status status WriteFault ReadFault unflushed.fault is (λ e. cc)
+  read_fault status (inl none) is = not_begun status ReadFault none.usage is (λ e. cc) (λ e. cc)
+  read_fault status (inr (taken, inl read)) is = absurd (answer_at status ReadFault read.input is read.answer)
+  read_fault status (inr (taken, inr broken)) is = broken.cause.rose
 
-  -- a write fault has its cause before the line, and a front of the text was printed
-  write_fault : (status : Status) → Ends status → status ≡ WriteFault
-      → (Rose out.faults out_after.faults ⊎ Rose err.faults mid.faults)
-      × PrintsFront words source.left out.taken out_after.taken
-  write_fault status (inl none) is = not_begun status WriteFault none.0.usage is (λ e. cc) (λ e. cc)
-  write_fault status (inr (taken, inl (inl read, quiet))) is =
-      let cut = cut_text (command_of words) read.input out out_after
-      (answer_at status WriteFault read.input is read.answer) in
-      (inl cut.2.cause.rose, (read.input, cut.0, read.whole, (taken, cut.1), cut.2.gained))
-  write_fault status (inr (taken, inl (inr broken, quiet))) is =
-      one_status status ReadFault WriteFault broken.fault is (λ e. cc)
-  write_fault status (inr (taken, inr unflushed)) is =
-      let rose = unflushed.failed.cause.rose in
-      elim unflushed.printed [
-        | inl read ↦
-            let printed = done_text (command_of words) read.input out out_after read.answer in (
-              inr rose,
-              (
-                read.input,
-                printed.0,
-                read.whole,
-                (taken, printed.1),
-                whole_is_front out.taken out_after.taken printed.0 printed.2.gained,
-              ),
+  -- what `err` has before the status line: nothing where the sinks are untouched
+  abbrev Lines : Status → Type 0
+  Lines status = (lines : List ℕ) × HasLines words source.left status out out_after lines × GainsTo err mid lines
+
+  no_lines : (status : Status) → HasLines words source.left status out out_after []
+      → AreUntouched out out_after err mid → Lines status
+  no_lines status none same = (
+    [],
+    none,
+    subst (λ sink. GainsTo err sink []) (sym same.err_is)
+        (record { gained = Appends-nil err.taken; later = omega arith }),
+  )
+
+  lines : (status : Status) → Ends status → Lines status
+  lines Done ends =
+      let all = (done Done ends refl).0 in (
+        all.1.lines,
+        (all.0, all.1, all.2, all.3, all.4.text.gained, refl),
+        record { gained = all.4.lines.gained; later = all.4.lines.later },
+      )
+  lines WriteFault ends =
+      let part = cut WriteFault ends refl in
+      elim part.4.gained [
+        | inl stopped ↦
+            let front = front_gained err.taken mid.taken part.1.lines stopped.0 in (
+              front.0,
+              (part.0, part.1, part.2, part.3, inr (front.1, stopped.1)),
+              record { gained = front.2; later = part.4.later },
             )
-        | inr broken ↦ one_status Done Done ReadFault refl broken.fault (λ e. cc)
+        | inr behind ↦ (
+          part.1.lines,
+          (part.0, part.1, part.2, part.3, inl (refl, behind.1)),
+          record { gained = behind.0; later = part.4.later },
+        )
       ]
+  lines Usage ends = no_lines Usage refl (untouched Usage ends (λ e. cc) (λ e. cc))
+  lines (Refused refusal) ends = no_lines (Refused refusal) refl (untouched (Refused refusal) ends (λ e. cc) (λ e. cc))
+  lines (BadData refusal) ends = no_lines (BadData refusal) refl (untouched (BadData refusal) ends (λ e. cc) (λ e. cc))
+  lines (Outside f) ends = no_lines (Outside f) refl (untouched (Outside f) ends (λ e. cc) (λ e. cc))
+  lines ReadFault ends = no_lines ReadFault refl (untouched ReadFault ends (λ e. cc) (λ e. cc))
+  lines NoMemory ends = no_lines NoMemory refl (untouched NoMemory ends (λ e. cc) (λ e. cc))
 
-  untouched : (status : Status) → Ends status → status ≢ Done → status ≢ WriteFault → out_after ≡ out
-  untouched status (inl none) not_done write = none.0.untouched
-  untouched status (inr (taken, inl (inl read, quiet))) not_done write =
-      (command_end (command_of words) status read.input out out_after read.answer).untouched not_done write
-  untouched status (inr (taken, inl (inr broken, quiet))) not_done write = broken.untouched
-  untouched status (inr (taken, inr unflushed)) not_done write = absurd (write unflushed.fault)
-
-  -- `err` was flushed, or failed to, before the line
-  before_line : (status : Status) → Ends status → Takes err mid [] ⊎ FailsToTake err mid []
-  before_line status (inl none) = inl none.1
-  before_line status (inr (taken, inl (answer, quiet))) = inl quiet
-  before_line status (inr (taken, inr unflushed)) = inr unflushed.failed
+  -- a write fault wrote a front of the text
+  written : (status : Status) → Ends status → status ≡ WriteFault
+      → PrintsFront words source.left out.taken out_after.taken
+  written status ends is =
+      let part = cut status ends is in
+      let nothing : (same : out_after ≡ out) → GainsFront out.taken out_after.taken part.1.text = λ same.
+      subst (λ sink. GainsFront out.taken sink.taken part.1.text) (sym same) (front_of_none out.taken part.1.text) in (
+        part.0,
+        part.1,
+        part.2,
+        part.3,
+        elim part.4.gained [ inl stopped ↦ nothing stopped.1 | inr behind ↦ behind.1 ],
+      )
 
   line_later : (status : Status) → TellsStatus named status mid after → mid.faults ≤ after.faults
   line_later status (inl told) = told.later
   line_later status (inr cut) = cut.later
 
-  error_line : (status : Status) → (status ≡ WriteFault → Rose out.faults out_after.faults ⊎ Rose err.faults mid.faults)
-      → Takes err mid [] ⊎ FailsToTake err mid []
-      → TellsStatus named status mid after → GainsLine named status out out_after err after
-  error_line status fault (inl quiet) (inl told) =
-      inl (take_then err mid after [] (status_text named status) quiet told).gained
-  error_line status fault (inl quiet) (inr cut) =
-      inr (
-        (take_then_cut err mid after [] (status_text named status) quiet cut).gained,
-        (mid.faults, quiet.later, cut.cause.rose, fault),
-      )
-  error_line status fault (inr failed) (inl told) =
-      inl (Appends-trans err.taken mid.taken after.taken [] (status_text named status)
-      (kept_is_nothing err.taken mid.taken failed.kept) told.gained)
-  error_line status fault (inr failed) (inr cut) =
-      inr (
-        front_then err.taken mid.taken after.taken [] (status_text named status)
-            (kept_is_nothing err.taken mid.taken failed.kept) cut.gained,
-        (mid.faults, failed.later, cut.cause.rose, fault),
+  line : (status : Status) → (status ≡ WriteFault → Rose out.faults out_after.faults ⊎ Rose err.faults mid.faults)
+      → TellsStatus named status mid after → GainsLine named status out out_after err mid after
+  line status fault (inl told) = inl told.gained
+  line status fault (inr cut) = inr (cut.gained, (cut.cause.rose, fault))
+
+  -- at Done no line tells the status
+  quiet : (status : Status) → status ≡ Done → TellsStatus named status mid after → Appends mid.taken after.taken []
+  quiet status is (inl told) =
+      subst (λ s. Appends mid.taken after.taken (status_text named s)) is told.gained
+  quiet status is (inr cut) =
+      front_of_nothing mid.taken after.taken
+      (subst (λ s. GainsFront mid.taken after.taken (status_text named s)) is cut.gained)
+
+  -- what was printed at Done
+  printed : (status : Status) → Ends status → TellsStatus named status mid after → status ≡ Done
+      → PrintsFor (command_of words) source.left out out_after err after
+  printed status ends told is =
+      let all = (done status ends is).0 in (
+        all.0,
+        all.1,
+        all.2,
+        all.3.1,
+        all.4.text.gained,
+        subst (λ t. Appends err.taken after.taken t) (append-nil all.1.lines)
+            (Appends-trans err.taken mid.taken after.taken all.1.lines [] all.4.lines.gained (quiet status is told)),
       )
 
-  out_calm : (status : Status) → Ends status → IsSteady source → HasRoomForText words source.left out → HasRoom err []
-      → out_after.faults ≡ out.faults
-  out_calm status (inl none) steady room line = ap (λ sink. sink.faults) none.0.untouched
-  out_calm status (inr (taken, inl (inl read, quiet))) steady room line =
-      (command_end (command_of words) status read.input out out_after read.answer).calm
-      (λ text asks. room read.input text read.whole (taken, asks))
-  out_calm status (inr (taken, inl (inr broken, quiet))) steady room line = absurd (broken.cause.unsteady steady)
-  out_calm status (inr (taken, inr unflushed)) steady room line = absurd (unflushed.failed.cause.full line)
+  -- where there is room, `out` counted no fault, and `err` none before the status line, for which it has room
+  record IsReady (status : Status) : Type 0 where
+    of_out : out_after.faults ≡ out.faults
+    of_err : mid.faults ≡ err.faults
+    room : HasRoom mid (status_text named status)
 
-  err_calm : (status : Status) → Takes err mid [] ⊎ FailsToTake err mid [] → TellsStatus named status mid after
-      → HasRoom err (status_text named status) → after.faults ≡ err.faults
-  err_calm status (inl quiet) (inl told) room =
-      let next = room_next err mid [] (status_text named status) quiet room in
-      (calm_then err mid after next.0 (told.calm next.1)).faults
-  err_calm status (inl quiet) (inr cut) room =
-      absurd (cut.cause.full (room_next err mid [] (status_text named status) quiet room).1)
-  err_calm status (inr failed) told room = absurd
-      (failed.cause.full (room_for_front err.limit err.taken [] (status_text named status) room))
+  untouched_ready : (status : Status) → AreUntouched out out_after err mid → HasRoom err (status_text named status)
+      → IsReady status
+  untouched_ready status same room = record {
+    of_out = ap (λ sink. sink.faults) same.out_is;
+    of_err = ap (λ sink. sink.faults) same.err_is;
+    room = subst (λ sink. HasRoom sink (status_text named status)) (sym same.err_is) room;
+  }
+
+  ready : (status : Status) → Ends status → HasRoomForText words source.left out err
+      → HasRoom err (status_text named status) → IsReady status
+  ready Done ends room line =
+      let all = (done Done ends refl).0 in
+      let rooms = room all.0 all.1 all.2 all.3 in
+      let next = room_next err mid all.1.lines [] all.4.lines
+      (subst (λ t. HasRoom err t) (sym (append-nil all.1.lines)) rooms.1) in
+      record { of_out = (all.4.text.calm rooms.0).faults; of_err = next.0.faults; room = next.1 }
+  ready WriteFault ends room line =
+      let part = cut WriteFault ends refl in
+      let rooms = room part.0 part.1 part.2 part.3 in
+      absurd (part.4.full rooms.0 rooms.1)
+  ready Usage ends room line = untouched_ready Usage (untouched Usage ends (λ e. cc) (λ e. cc)) line
+  ready (Refused refusal) ends room line =
+      untouched_ready (Refused refusal) (untouched (Refused refusal) ends (λ e. cc) (λ e. cc)) line
+  ready (BadData refusal) ends room line =
+      untouched_ready (BadData refusal) (untouched (BadData refusal) ends (λ e. cc) (λ e. cc)) line
+  ready (Outside f) ends room line = untouched_ready (Outside f) (untouched (Outside f) ends (λ e. cc) (λ e. cc)) line
+  ready ReadFault ends room line = untouched_ready ReadFault (untouched ReadFault ends (λ e. cc) (λ e. cc)) line
+  ready NoMemory ends room line = untouched_ready NoMemory (untouched NoMemory ends (λ e. cc) (λ e. cc)) line
+
+  err_calm : (status : Status) → IsReady status → TellsStatus named status mid after → after.faults ≡ err.faults
+  err_calm status is (inl told) = (told.calm is.room).faults ∙ is.of_err
+  err_calm status is (inr cut) = absurd (cut.cause.full is.room)
 
   decided_by : OneVerdict → (status : Status) → Ends status → TellsStatus named status mid after
       → (input : List ℕ) (verdict : Status) → source.left ≡ Some input → Deserves words input verdict
@@ -374,7 +457,7 @@ module _ (words : List (List ℕ)) (named : Option Program) (source source_after
       absurd (none.of_source (read_fault status ends read))
   decided_by law status ends told input verdict whole deserves none (inr (inr (inl write))) =
       let later = line_later status told in
-      elim (write_fault status ends write).0 [
+      elim (cut status ends write).4.rose [
         | inl rose ↦ absurd (none.of_out rose)
         | inr rose ↦ absurd
             (none.of_err (omega (arith, rose, later)))
@@ -391,41 +474,47 @@ pub answered : OneVerdict → (words : List (List ℕ)) (status : Status) (named
     → IsReadOn source source_after → TellsStatus named status mid after
     → Answered words status source source_after out out_after err after
 answered law words status named source source_after out out_after err mid after ends names read_on told =
-    let line = before_line words named source source_after out out_after err mid after status ends in
-    let fault = write_fault words named source source_after out out_after err mid after status ends in
+    let part = cut words named source source_after out out_after err mid after status ends in
     let later = line_later words named source source_after out out_after err mid after status told in
+    let own = lines words named source source_after out out_after err mid after status ends in
+    let all = printed words named source source_after out out_after err mid after status ends told in
+    let asked = λ (k : KernelCommand) (is : command_of words ≡ OfKernel k) (finished : status ≡ Done).
+    prints_told k (command_of words) source.left out out_after err after is (all finished) in
     record {
-      done = λ run is. prints_arrays (command_of words) source.left out.taken out_after.taken run.1
-          (done words named source source_after out out_after err mid after status ends is).0;
-      scheduled = λ budget plan is.
-          prints_text (Schedule budget) (command_of words) source.left out.taken out_after.taken plan.1
-          (done words named source source_after out out_after err mid after status ends is).0;
-      sourced = λ budget deps is.
-          prints_text (Deps budget) (command_of words) source.left out.taken out_after.taken deps.1
-          (done words named source source_after out out_after err mid after status ends is).0;
+      done = λ run is. prints_arrays (command_of words) source.left out out_after err after run.1 (all is);
+      scheduled = λ budget plan is. prints_text (IsPlanText budget) source.left out out_after err after
+          (asked (Schedule budget) plan.1 is);
+      sourced = λ budget deps is. prints_text (IsSourcesText budget) source.left out out_after err after
+          (asked (Deps budget) deps.1 is);
+      emitted = λ tile budget emit is. asked (Emit tile budget) emit.1 is;
       read_whole = λ is. (done words named source source_after out out_after err mid after status ends is).1;
       usage = λ is. (usage words named source source_after out out_after err mid after status ends is).0;
       stranger = stranger words named source source_after out out_after err mid after status ends;
       unread = λ is. (usage words named source source_after out out_after err mid after status ends is).1;
       deserved = deserved words named source source_after out out_after err mid after status ends;
       read_fault = read_fault words named source source_after out out_after err mid after status ends;
-      write_fault = λ is. elim (fault is).0 [ inl rose ↦ inl rose | inr rose ↦ inr (omega (arith, rose, later)) ];
-      written = λ is. (fault is).1;
-      nothing = untouched words named source source_after out out_after err mid after status ends;
+      write_fault = λ is. elim (part is).4.rose [ inl rose ↦ inl rose | inr rose ↦ inr (omega (arith, rose, later)) ];
+      written = written words named source source_after out out_after err mid after status ends;
+      nothing = λ not_done write.
+          (untouched words named source source_after out out_after err mid after status ends not_done write).out_is;
       error_line = (
         named,
         names,
-        error_line words named source source_after out out_after err mid after status
-            (λ is. (fault is).0) line told,
+        own.0,
+        mid,
+        own.1,
+        own.2,
+        line words named source source_after out out_after err mid after status (λ is. (part is).4.rose) told,
       );
       decided = λ input verdict whole deserves none.
           decided_by words named source source_after out out_after err mid after law status ends told input verdict
           whole deserves none (fault_or_not status);
-      calm = λ steady room line_room. record {
-        of_source = read_on.steady steady;
-        of_out = out_calm words named source source_after out out_after err mid after status ends steady room
-            (room_for_front err.limit err.taken [] (status_text named status) (line_room named names));
-        of_err = err_calm words named source source_after out out_after err mid after status line told
-            (line_room named names);
-      };
+      calm = λ steady room line_room.
+          let is = ready words named source source_after out out_after err mid after status ends room
+          (line_room named names) in
+          record {
+            of_source = read_on.steady steady;
+            of_out = is.of_out;
+            of_err = err_calm words named source source_after out out_after err mid after status is told;
+          };
     }

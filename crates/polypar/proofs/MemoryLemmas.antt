@@ -29,13 +29,14 @@ pub stays_in_memory : (words : List (List ℕ)) (status : Status) (source source
     (out out_after err err_after : SinkState)
     → Answered words status (source_shows source) (source_shows source_after) (sink_shows out) (sink_shows out_after)
     (sink_shows err) (sink_shows err_after)
-    → NeverFail source out err → HoldsText words source.left out → HoldsLine source.left status err
+    → NeverFail source out err → HoldsText words source.left out err → HoldsLine source.left status err
     → CountsStay (source_shows source) (source_shows source_after) (sink_shows out) (sink_shows out_after)
     (sink_shows err) (sink_shows err_after)
 stays_in_memory words status source source_after out out_after err err_after answered never room line =
     answered.calm (none_listed source.fails source.calls never.source_fails)
-    (λ input text whole asked. room_held out text never.out_fails
-    (room text (subst (λ i. Asks words i text) (sym whole) asked)))
+    (λ input told whole asked.
+    let holds = room told (subst (λ i. Asks words i told) (sym whole) asked) in
+    (room_held out told.text never.out_fails holds.0, room_held err told.lines never.err_fails holds.1))
     (λ named names. room_held err (status_text named status) never.err_fails (line named names))
 
 -- and the status is the one deserved, or memory ran out
@@ -43,7 +44,7 @@ pub decided_in_memory : (words : List (List ℕ)) (status verdict : Status) (sou
     (out out_after err err_after : SinkState)
     → Answered words status (source_shows source) (source_shows source_after) (sink_shows out) (sink_shows out_after)
     (sink_shows err) (sink_shows err_after)
-    → NeverFail source out err → Deserves words source.left verdict → HoldsText words source.left out
+    → NeverFail source out err → Deserves words source.left verdict → HoldsText words source.left out err
     → HoldsLine source.left status err
     → (status ≡ verdict) ⊎ (status ≡ NoMemory)
 decided_in_memory words status verdict source source_after out out_after err err_after answered never deserves room

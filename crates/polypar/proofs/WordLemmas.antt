@@ -23,37 +23,39 @@ use Rattle.clap.specs.declared.parser.matches.SubCommand.{SubCommand}
 use Rattle.clap.proofs.ValueTestLemmas.{accepts-Accepts, Accepts-accepts}
 use Rattle.scop_syntax.specs.Members.{In}
 use Rattle.scop_syntax.proofs.Members.{in_map}
-use Rattle.polypar.specs.Command.{tool, number_of, most_moves, IsTaken, command_names, NamesCommand}
+use Rattle.polypar.specs.Command.{tool, number_of, IsTaken, command_names, NamesCommand}
 
 -- a text that reads as a number
-number_read : (E : Type 0) (t : Text) (n : ℕ) → ParsesUnsigned {E = E} 64 10 t (Ok n) → n ≡ number_of t
-number_read E t n parsed =
+number_read : (E : Type 0) (usual : ℕ) (t : Text) (n : ℕ) → ParsesUnsigned {E = E} 64 10 t (Ok n)
+    → n ≡ number_of usual t
+number_read E usual t n parsed =
     let value = digits_value 10 (without_leading_plus t) in
     let accepted : is_unsigned_in 0 18446744073709551615 t ≡ true =
     Accepts-accepts false (vp.Unsigned 0 18446744073709551615) t
     (parsed.0.0, parsed.0.1, omega arith, omega (arith, parsed.0.1)) in
-    parsed.1 ∙ sym (ap (λ b. if b then value else most_moves) accepted)
+    parsed.1 ∙ sym (ap (λ b. if b then value else usual) accepted)
 
 -- a text that reads as none
-no_number : {E : Type 0} (t : Text) (e : E) → ParsesUnsigned 64 10 t (Err e) → most_moves ≡ number_of t
-no_number t e parsed = go (is_unsigned_in 0 18446744073709551615 t) refl
+no_number : {E : Type 0} (usual : ℕ) (t : Text) (e : E) → ParsesUnsigned 64 10 t (Err e) → usual ≡ number_of usual t
+no_number usual t e parsed = go (is_unsigned_in 0 18446744073709551615 t) refl
   where
     go : (b : Bool) → is_unsigned_in 0 18446744073709551615 t ≡ b
-        → most_moves ≡ (if b then digits_value 10 (without_leading_plus t) else most_moves)
+        → usual ≡ (if b then digits_value 10 (without_leading_plus t) else usual)
     go true is =
         let accepted = accepts-Accepts false (vp.Unsigned 0 18446744073709551615) t is in
         absurd (parsed (accepted.0, accepted.1))
     go false is = refl
 
--- the number that a getter gives, or the most
-pub number_is : {E : Type 0} (G : List ℕ → Result ℕ E → Type 0) (text : Option Text) (result : Option ℕ)
+-- the number that a getter gives, or the usual one
+pub number_is : {E : Type 0} (usual : ℕ) (G : List ℕ → Result ℕ E → Type 0) (text : Option Text) (result : Option ℕ)
     → ((t : List ℕ) (r : Result ℕ E) → G t r → ParsesUnsigned 64 10 t r)
     → (text ≡ None → result ≡ None) → ((t : List ℕ) → text ≡ Some t → ReadsOne G t result)
-    → unwrap_or result most_moves ≡ option_map_or number_of text most_moves
-number_is G None result parses none value = ap (λ r. unwrap_or r most_moves) (none refl)
-number_is G (Some t) None parses none value =
-    let read = value t refl in no_number t read.0 (parses t (Err read.0) read.1)
-number_is {E = E} G (Some t) (Some n) parses none value = number_read E t n (parses t (Ok n) (value t refl))
+    → unwrap_or result usual ≡ option_map_or (number_of usual) text usual
+number_is usual G None result parses none value = ap (λ r. unwrap_or r usual) (none refl)
+number_is usual G (Some t) None parses none value =
+    let read = value t refl in no_number usual t read.0 (parses t (Err read.0) read.1)
+number_is {E = E} usual G (Some t) (Some n) parses none value =
+    number_read E usual t n (parses t (Ok n) (value t refl))
 
 module _ {Z : Type 0} where
   -- the name and the matches that are met

@@ -1,5 +1,5 @@
 -- What a call of the program promises, from the words and from what the source and the sinks show before and after it.
-use Rattle.std.specs.Prelude.{◌≡◌, ◌≢◌, ◌⊎◌, ℕ, ◌≤◌, List, Option, Some, None, ⊤}
+use Rattle.std.specs.Prelude.{◌≡◌, ◌≢◌, ◌⊎◌, ℕ, ◌≤◌, List, [], ◌++◌, Option, Some, None, ⊤}
 use Rattle.std.specs.Io.KnownBytes.{Appends, IsAtEnd}
 use Rattle.io_ports.specs.Faults.{Rose}
 use Rattle.io_ports.specs.Bytes.{IsAllOf, GainsFront}
@@ -12,7 +12,9 @@ use Rattle.scop_parser.specs.Spelling.{SpellsProgram}
 use Rattle.polypar.specs.Case.{Accepted, asked_text, Spelled}
 use Rattle.polypar.specs.Planning.{IsPlanText}
 use Rattle.polypar.specs.Sources.{IsSourcesText}
-use Rattle.polypar.specs.Command.{IsTaken, IsRunCommand, IsScheduleCommand, IsDepsCommand}
+use Rattle.polypar.specs.Emitting.{IsLoopsText}
+use Rattle.polypar.specs.Told.{Told}
+use Rattle.polypar.specs.Command.{IsTaken, IsRunCommand, IsScheduleCommand, IsDepsCommand, IsEmitCommand}
 use Rattle.polypar.specs.Cut.{kernel_part}
 use Rattle.polypar.specs.Deserves.{Deserves, Asks}
 use Rattle.report_text.specs.StatusText.{status_text}
@@ -36,10 +38,23 @@ PrintsPlan budget left old new = PrintsText (IsPlanText budget) left old new
 abbrev pub PrintsSources : ℕ → Option (List ℕ) → Option (List ℕ) → Option (List ℕ) → Type 0
 PrintsSources budget left old new = PrintsText (IsSourcesText budget) left old new
 
+-- an input that spells a kernel was read, and exactly what is told of its program was written: the text to `out`, the
+-- lines to `err`
+abbrev pub PrintsTold : (Program → Told → Type 0) → Option (List ℕ) → SinkShows → SinkShows → SinkShows → SinkShows
+    → Type 0
+PrintsTold IsToldOf left out out_after err err_after =
+    (input : List ℕ) × (kernel : Spelled input) × (told : Told) × IsAllOf left input × IsToldOf kernel.program told
+    × Appends out.taken out_after.taken told.text × Appends err.taken err_after.taken told.lines
+
+-- the text of loops that carry out its plan, and, if the order is kept, the line of the cause
+abbrev pub PrintsLoops : ℕ → ℕ → Option (List ℕ) → SinkShows → SinkShows → SinkShows → SinkShows → Type 0
+PrintsLoops tile budget left out out_after err err_after =
+    PrintsTold (IsLoopsText tile budget) left out out_after err err_after
+
 -- a front of the text that the words and the input ask for was printed
 abbrev pub PrintsFront : List (List ℕ) → Option (List ℕ) → Option (List ℕ) → Option (List ℕ) → Type 0
-PrintsFront words left old new = (input : List ℕ) × (text : List ℕ) × IsAllOf left input × Asks words input text
-    × GainsFront old new text
+PrintsFront words left old new = (input : List ℕ) × (told : Told) × IsAllOf left input × Asks words input told
+    × GainsFront old new told.text
 
 -- the status is the one that the words and the input deserve
 abbrev pub IsDeserved : List (List ℕ) → Option (List ℕ) → Status → Type 0
@@ -52,17 +67,39 @@ NamesOf left status (Some program) = (input : List ℕ) × IsAllOf left input ×
 NamesOf left (BadData refusal) None = ⊥
 NamesOf left status None = ⊤
 
--- the count of `err` rose at the status line: before it that count was `mid`, by which a write fault had its cause
-abbrev pub RoseAtLine : Status → SinkShows → SinkShows → SinkShows → SinkShows → Type 0
-RoseAtLine status out out_after err err_after =
-    (mid : ℕ) × (err.faults ≤ mid) × Rose mid err_after.faults
-    × (status ≡ WriteFault → Rose out.faults out_after.faults ⊎ Rose err.faults mid)
+-- a text begins with another
+abbrev pub IsFrontOf : List ℕ → List ℕ → Type 0
+IsFrontOf front text = (rest : List ℕ) × (text ≡ front ++ rest)
 
--- `err` gained the status line; a front of it where its count of faults rose at this line
-abbrev pub GainsLine : Option Program → Status → SinkShows → SinkShows → SinkShows → SinkShows → Type 0
-GainsLine named status out out_after err err_after =
-    Appends err.taken err_after.taken (status_text named status)
-    ⊎ (GainsFront err.taken err_after.taken (status_text named status) × RoseAtLine status out out_after err err_after)
+-- what the sinks have gained of what the words and the input ask for, where `err` has these lines of it: at Done all;
+-- at a write fault all lines and a front of the text, or a front of the lines and nothing of the text; else nothing
+abbrev pub HasLines : List (List ℕ) → Option (List ℕ) → Status → SinkShows → SinkShows → List ℕ → Type 0
+HasLines words left Done out out_after lines =
+    (input : List ℕ) × (told : Told) × IsAllOf left input × Asks words input told
+    × Appends out.taken out_after.taken told.text × (lines ≡ told.lines)
+HasLines words left WriteFault out out_after lines =
+    (input : List ℕ) × (told : Told) × IsAllOf left input × Asks words input told
+    × (((lines ≡ told.lines) × GainsFront out.taken out_after.taken told.text)
+    ⊎ (IsFrontOf lines told.lines × (out_after ≡ out)))
+HasLines words left other out out_after lines = lines ≡ []
+
+-- `err` gained these lines, and showed `mid` then
+pub record GainsTo (err mid : SinkShows) (lines : List ℕ) : Type 0 where
+  pub gained : Appends err.taken mid.taken lines
+  pub later : err.faults ≤ mid.faults
+
+-- the count of `err` rose at the status line, before which it showed `mid`; a write fault had its cause by then
+abbrev pub RoseAtLine : Status → SinkShows → SinkShows → SinkShows → SinkShows → SinkShows → Type 0
+RoseAtLine status out out_after err mid err_after =
+    Rose mid.faults err_after.faults
+    × (status ≡ WriteFault → Rose out.faults out_after.faults ⊎ Rose err.faults mid.faults)
+
+-- from `mid` on `err` gained the status line; a front of it where its count of faults rose at this line
+abbrev pub GainsLine : Option Program → Status → SinkShows → SinkShows → SinkShows → SinkShows → SinkShows → Type 0
+GainsLine named status out out_after err mid err_after =
+    Appends mid.taken err_after.taken (status_text named status)
+    ⊎ (GainsFront mid.taken err_after.taken (status_text named status)
+    × RoseAtLine status out out_after err mid err_after)
 
 -- no count of faults rose
 pub record NoneRose (source source_after : SourceShows) (out out_after err err_after : SinkShows) : Type 0 where
@@ -76,9 +113,10 @@ pub record CountsStay (source source_after : SourceShows) (out out_after err err
   pub of_out : out_after.faults ≡ out.faults
   pub of_err : err_after.faults ≡ err.faults
 
--- there is room for each text that the words and the input may ask for
-abbrev pub HasRoomForText : List (List ℕ) → Option (List ℕ) → SinkShows → Type 0
-HasRoomForText words left out = (input text : List ℕ) → IsAllOf left input → Asks words input text → HasRoom out text
+-- there is room for each text and for the lines that the words and the input may ask for
+abbrev pub HasRoomForText : List (List ℕ) → Option (List ℕ) → SinkShows → SinkShows → Type 0
+HasRoomForText words left out err = (input : List ℕ) (told : Told) → IsAllOf left input → Asks words input told
+    → HasRoom out told.text × HasRoom err told.lines
 
 -- there is room for each line that may tell the status
 abbrev pub HasRoomForLine : Option (List ℕ) → Status → SinkShows → Type 0
@@ -89,13 +127,16 @@ HasRoomForLine left status err = (named : Option Program) → NamesOf left statu
 pub record Answered (words : List (List ℕ)) (status : Status) (source source_after : SourceShows)
     (out out_after err err_after : SinkShows) : Type 0 where
   -- the headline: of `run` exactly the arrays of the kernel's own sequential execution are printed, of `schedule` the
-  -- schedule of the determined run over the kernel's conflicts, or why its order is kept, of `deps` for each read that is
-  -- resolved its last write; and the input was read whole
+  -- schedule of the determined run over the kernel's conflicts, or why its order is kept, of `deps` for each read that
+  -- is resolved its last write, of `emit` loops that visit each instance once, conflicting ones in order; and the input
+  -- was read whole
   pub done : IsRunCommand words → status ≡ Done → PrintsArrays source.left out.taken out_after.taken
   pub scheduled : (budget : ℕ) → IsScheduleCommand budget words → status ≡ Done
       → PrintsPlan budget source.left out.taken out_after.taken
   pub sourced : (budget : ℕ) → IsDepsCommand budget words → status ≡ Done
       → PrintsSources budget source.left out.taken out_after.taken
+  pub emitted : (tile budget : ℕ) → IsEmitCommand tile budget words → status ≡ Done
+      → PrintsLoops tile budget source.left out out_after err err_after
   pub read_whole : status ≡ Done → IsAtEnd source_after.left
   -- each status and its cause; want of memory may come over words too
   pub usage : status ≡ Usage → IsTaken words → ⊥
@@ -104,14 +145,15 @@ pub record Answered (words : List (List ℕ)) (status : Status) (source source_a
   pub deserved : status ≢ ReadFault → status ≢ WriteFault → status ≢ NoMemory → IsDeserved words source.left status
   pub read_fault : status ≡ ReadFault → Rose source.faults source_after.faults
   pub write_fault : status ≡ WriteFault → Rose out.faults out_after.faults ⊎ Rose err.faults err_after.faults
-  -- what the sinks have gained
+  -- what the sinks have gained; `err` first the lines of the command, then that of the status
   pub written : status ≡ WriteFault → PrintsFront words source.left out.taken out_after.taken
   pub nothing : status ≢ Done → status ≢ WriteFault → out_after ≡ out
   pub error_line : (named : Option Program) × NamesOf source.left status named
-      × GainsLine named status out out_after err err_after
+      × (lines : List ℕ) × (mid : SinkShows) × HasLines words source.left status out out_after lines
+      × GainsTo err mid lines × GainsLine named status out out_after err mid err_after
   -- a told input gets the status that it deserves, or memory ran out, where no count of faults rose
   pub decided : (input : List ℕ) (verdict : Status) → source.left ≡ Some input → Deserves words input verdict
       → NoneRose source source_after out out_after err err_after → (status ≡ verdict) ⊎ (status ≡ NoMemory)
-  -- a steady source, and room for the text and for the line, leave every count as it was
-  pub calm : IsSteady source → HasRoomForText words source.left out → HasRoomForLine source.left status err
+  -- a steady source, and room for the text, the lines and the status line, leave every count as it was
+  pub calm : IsSteady source → HasRoomForText words source.left out err → HasRoomForLine source.left status err
       → CountsStay source source_after out out_after err err_after

@@ -1,23 +1,30 @@
 -- What the statuses of the parts of a call say: of the data, of the input, of the source, and of the sinks; only for
 -- the code's own steps.
-use Rattle.std.specs.Prelude.{◌≡◌, ◌⊎◌, ℕ, ℤ, ◌≤◌, List, [], Option}
-use Rattle.std.specs.Io.KnownBytes.{IsAtEnd}
-use Rattle.io_ports.specs.Bytes.{IsAllOf}
+use Rattle.std.specs.Prelude.{◌≡◌, ◌⊎◌, ℕ, ℤ, ◌≤◌, List, Option, ⊤}
+use Rattle.std.specs.Io.KnownBytes.{Appends, IsAtEnd}
+use Rattle.io_ports.specs.Faults.{Rose}
+use Rattle.io_ports.specs.Bytes.{IsAllOf, GainsFront}
 use Rattle.io_ports.specs.Reads.{SourceShows, IsSteady, IsReadFault}
-use Rattle.io_ports.specs.Writes.{SinkShows, Takes, FailsToTake, CutsOff}
+use Rattle.io_ports.specs.Writes.{SinkShows, HasRoom, Takes, CutsOff}
 use Rattle.scop_syntax.specs.Tree.{Program}
 use Rattle.scop_syntax.specs.Execution.{IsInside}
+use Rattle.loop_tree.specs.Source.{source_of}
+use Rattle.loop_tree.specs.Tiling.{kept}
+use Rattle.plan_tree.specs.Trees.{AreTreesOf}
+use Rattle.c_printer.specs.Nodes.{text_of}
 use Rattle.report_text.specs.declared.status.Status.{Status}
-use Rattle.report_text.specs.declared.status.Status.TheVariants.{Done, Usage, Refused, BadData, Outside, ReadFault}
-use Rattle.report_text.specs.declared.status.Status.TheVariants.{WriteFault, NoMemory}
+use Rattle.report_text.specs.declared.status.Status.TheVariants.{Done, Usage, BadData, Outside, ReadFault, WriteFault}
+use Rattle.report_text.specs.declared.status.Status.TheVariants.{NoMemory}
 use Rattle.polypar.specs.declared.command.Command.{Command}
 use Rattle.polypar.specs.declared.command.Command.TheVariants.{Run, OfKernel}
 use Rattle.polypar.specs.declared.command.KernelCommand.{KernelCommand}
-use Rattle.polypar.specs.Command.{IsTaken, command_of}
+use Rattle.polypar.specs.declared.command.KernelCommand.TheVariants.{Emit}
+use Rattle.polypar.specs.Command.{most_tile, IsTaken, command_of}
 use Rattle.data_text.specs.Cases.{Says}
-use Rattle.polypar.specs.Case.{Accepted, final_text, asked_text, Spelled}
+use Rattle.polypar.specs.Case.{final_text}
+use Rattle.polypar.specs.Told.{Told, IsHeld}
 use Rattle.polypar.specs.KernelText.{IsTextFor}
-use Rattle.polypar.specs.Deserves.{DeservesCase, DeservesData, DeservesInput, DeservesSpelled}
+use Rattle.polypar.specs.Deserves.{DeservesCase, DeservesData, DeservesFor, AsksFor}
 use Rattle.report_text.specs.StatusText.{status_text}
 
 -- of a case of a program, and of `out`
@@ -42,43 +49,67 @@ AnswersData (Outside f) program text old new = DeservesData program text (Outsid
 AnswersData NoMemory program text old new = new ≡ old
 AnswersData _ program text old new = ⊥
 
--- of an input that was read, and of `out`
-abbrev pub AnswersInput : Status → List ℕ → SinkShows → SinkShows → Type 0
-AnswersInput Done input old new = (accepted : Accepted input) × Takes old new (asked_text accepted)
-AnswersInput WriteFault input old new = (accepted : Accepted input) × CutsOff old new (asked_text accepted)
-AnswersInput (Refused refusal) input old new = DeservesInput input (Refused refusal) × (new ≡ old)
-AnswersInput (BadData refusal) input old new = DeservesInput input (BadData refusal) × (new ≡ old)
-AnswersInput (Outside f) input old new = DeservesInput input (Outside f) × (new ≡ old)
-AnswersInput NoMemory input old new = new ≡ old
-AnswersInput _ input old new = ⊥
+-- tiles have a size from 1 to the greatest
+abbrev pub IsSized : KernelCommand → Type 0
+IsSized (Emit tile budget) = (1 ≤ tile) × (tile ≤ most_tile)
+IsSized other = ⊤
 
--- of a program of which alone something is asked, and of `out`
-abbrev pub AnswersProgram : KernelCommand → Status → Program → SinkShows → SinkShows → Type 0
-AnswersProgram asked Done program old new = (text : List ℕ) × IsTextFor asked program text × Takes old new text
-AnswersProgram asked WriteFault program old new =
-    (text : List ℕ) × IsTextFor asked program text × CutsOff old new text
-AnswersProgram asked NoMemory program old new = new ≡ old
-AnswersProgram asked _ program old new = ⊥
+-- so it is where a command asks for tiles
+abbrev pub HasSize : Command → Type 0
+HasSize Run = ⊤
+HasSize (OfKernel asked) = IsSized asked
 
--- of a program, its data and a command, and of `out`
-abbrev pub AnswersKernel : Command → Status → Program → List ℕ → SinkShows → SinkShows → Type 0
-AnswersKernel Run status program text old new = AnswersData status program text old new
-AnswersKernel (OfKernel asked) status program text old new = AnswersProgram asked status program old new
+-- the text is that of the source's own loops, which carry out the kept order
+abbrev pub TellsSource : Program → Told → Type 0
+TellsSource program told =
+    AreTreesOf program kept (source_of program) × (told.text ≡ text_of program (source_of program))
 
--- of an input whose kernel alone is looked at, and of `out`
-abbrev pub AnswersSpelled : KernelCommand → Status → List ℕ → SinkShows → SinkShows → Type 0
-AnswersSpelled asked Done input old new =
-    (kernel : Spelled input) × (text : List ℕ) × IsTextFor asked kernel.program text × Takes old new text
-AnswersSpelled asked WriteFault input old new =
-    (kernel : Spelled input) × (text : List ℕ) × IsTextFor asked kernel.program text × CutsOff old new text
-AnswersSpelled asked (Refused refusal) input old new = DeservesSpelled input (Refused refusal) × (new ≡ old)
-AnswersSpelled asked NoMemory input old new = new ≡ old
-AnswersSpelled asked _ input old new = ⊥
+-- all that is told was written: the text to `out`, the lines to `err`
+pub record WritesTold (told : Told) (out out_after err err_after : SinkShows) : Type 0 where
+  pub text : Takes out out_after told.text
+  pub lines : Takes err err_after told.lines
 
--- of an input that a command was given, and of `out`
-abbrev pub AnswersFor : Command → Status → List ℕ → SinkShows → SinkShows → Type 0
-AnswersFor Run status input old new = AnswersInput status input old new
-AnswersFor (OfKernel asked) status input old new = AnswersSpelled asked status input old new
+-- it was cut off: in the lines, before anything of the text; or behind the lines, in the text or at its end. A count of
+-- faults rose, and there was no room for all
+pub record CutsTold (told : Told) (out out_after err err_after : SinkShows) : Type 0 where
+  pub gained : (GainsFront err.taken err_after.taken told.lines × (out_after ≡ out))
+      ⊎ (Appends err.taken err_after.taken told.lines × GainsFront out.taken out_after.taken told.text)
+  pub later : err.faults ≤ err_after.faults
+  pub rose : Rose out.faults out_after.faults ⊎ Rose err.faults err_after.faults
+  pub full : HasRoom out told.text → HasRoom err told.lines → ⊥
+
+-- both sinks are as they were
+pub record AreUntouched (out out_after err err_after : SinkShows) : Type 0 where
+  pub out_is : out_after ≡ out
+  pub err_is : err_after ≡ err
+
+-- of a program of which alone something is asked, and of the sinks
+abbrev pub AnswersProgram : KernelCommand → Status → Program → SinkShows → SinkShows → SinkShows → SinkShows → Type 0
+AnswersProgram asked Done program out out_after err err_after =
+    (told : Told) × IsTextFor asked program told × IsHeld told × WritesTold told out out_after err err_after
+AnswersProgram asked WriteFault program out out_after err err_after =
+    (told : Told) × IsTextFor asked program told × IsHeld told × CutsTold told out out_after err err_after
+AnswersProgram asked NoMemory program out out_after err err_after = AreUntouched out out_after err err_after
+AnswersProgram asked _ program out out_after err err_after = ⊥
+
+-- of a program, its data and a command, and of the sinks
+abbrev pub AnswersKernel : Command → Status → Program → List ℕ → SinkShows → SinkShows → SinkShows → SinkShows → Type 0
+AnswersKernel Run status program text out out_after err err_after =
+    AnswersData status program text out out_after × (err_after ≡ err)
+AnswersKernel (OfKernel asked) status program text out out_after err err_after =
+    AnswersProgram asked status program out out_after err err_after
+
+-- of an input that a command was given, and of the sinks
+abbrev pub AnswersFor : Command → Status → List ℕ → SinkShows → SinkShows → SinkShows → SinkShows → Type 0
+AnswersFor command Done input out out_after err err_after =
+    (told : Told) × AsksFor command input told × WritesTold told out out_after err err_after
+AnswersFor command WriteFault input out out_after err err_after =
+    (told : Told) × AsksFor command input told × CutsTold told out out_after err err_after
+AnswersFor command NoMemory input out out_after err err_after = AreUntouched out out_after err err_after
+AnswersFor command Usage input out out_after err err_after = ⊥
+AnswersFor command ReadFault input out out_after err err_after = ⊥
+AnswersFor command refusal input out out_after err err_after =
+    DeservesFor command input refusal × AreUntouched out out_after err err_after
 
 -- the source was read, to its end or not; a steady one counted no fault
 pub record IsReadOn (old new : SourceShows) : Type 0 where
@@ -87,50 +118,39 @@ pub record IsReadOn (old new : SourceShows) : Type 0 where
 
 -- the input was read, and answered
 pub record ReadsInput (command : Command) (status : Status) (source source_after : SourceShows)
-    (out out_after : SinkShows) : Type 0 where
+    (out out_after err err_after : SinkShows) : Type 0 where
   pub input : List ℕ
   pub whole : IsAllOf source.left input
-  pub answer : AnswersFor command status input out out_after
+  pub answer : AnswersFor command status input out out_after err err_after
   pub at_end : status ≡ Done → IsAtEnd source_after.left
 
 -- the source failed
-pub record IsBroken (status : Status) (source source_after : SourceShows) (out out_after : SinkShows) : Type 0 where
+pub record IsBroken (status : Status) (source source_after : SourceShows) (out out_after err err_after : SinkShows)
+    : Type 0 where
   pub fault : status ≡ ReadFault
   pub cause : IsReadFault source source_after
-  pub untouched : out_after ≡ out
+  pub untouched : AreUntouched out out_after err err_after
 
 -- of a command
-abbrev pub AnswersCommand : Command → Status → SourceShows → SourceShows → SinkShows → SinkShows → Type 0
-AnswersCommand command status source source_after out out_after =
-    ReadsInput command status source source_after out out_after ⊎ IsBroken status source source_after out out_after
+abbrev pub AnswersCommand : Command → Status → SourceShows → SourceShows → SinkShows → SinkShows → SinkShows
+    → SinkShows → Type 0
+AnswersCommand command status source source_after out out_after err err_after =
+    ReadsInput command status source source_after out out_after err err_after
+    ⊎ IsBroken status source source_after out out_after err err_after
 
 -- the words were not taken, or memory ran out over them, and nothing was done
 pub record IsNoCommand (words : List (List ℕ)) (status : Status) (source source_after : SourceShows)
-    (out out_after : SinkShows) : Type 0 where
+    (out out_after err err_after : SinkShows) : Type 0 where
   pub usage : ((status ≡ Usage) × (IsTaken words → ⊥)) ⊎ (status ≡ NoMemory)
   pub unread : source_after ≡ source
-  pub untouched : out_after ≡ out
+  pub untouched : AreUntouched out out_after err err_after
 
--- all was printed, and then the error stream could not be flushed
-pub record IsUnflushed (command : Command) (status : Status) (source source_after : SourceShows)
-    (out out_after err err_after : SinkShows) : Type 0 where
-  pub fault : status ≡ WriteFault
-  pub printed : AnswersCommand command Done source source_after out out_after
-  pub failed : FailsToTake err err_after []
-
--- of a command, and of `err` too: it has gained nothing
-abbrev pub AnswersTaken : Command → Status → SourceShows → SourceShows → SinkShows → SinkShows → SinkShows → SinkShows
-    → Type 0
-AnswersTaken command status source source_after out out_after err err_after =
-    (AnswersCommand command status source source_after out out_after × Takes err err_after [])
-    ⊎ IsUnflushed command status source source_after out out_after err err_after
-
--- of all of a call but the line that tells its status: `err` has gained nothing by then
+-- of all of a call but the line that tells its status
 abbrev pub AnswersWords : List (List ℕ) → Status → SourceShows → SourceShows → SinkShows → SinkShows → SinkShows
     → SinkShows → Type 0
 AnswersWords words status source source_after out out_after err err_after =
-    (IsNoCommand words status source source_after out out_after × Takes err err_after [])
-    ⊎ (IsTaken words × AnswersTaken (command_of words) status source source_after out out_after err err_after)
+    IsNoCommand words status source source_after out out_after err err_after
+    ⊎ (IsTaken words × AnswersCommand (command_of words) status source source_after out out_after err err_after)
 
 -- of the line, with the names of the program that was read: it was written, or cut off
 abbrev pub TellsStatus : Option Program → Status → SinkShows → SinkShows → Type 0

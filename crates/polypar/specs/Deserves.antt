@@ -19,6 +19,7 @@ use Rattle.polypar.specs.declared.command.Command.TheVariants.{Run, OfKernel}
 use Rattle.polypar.specs.Command.{IsTaken, command_of}
 use Rattle.polypar.specs.Cut.{kernel_part, data_part}
 use Rattle.polypar.specs.Case.{IsShort, Accepted, asked_text, Spelled}
+use Rattle.polypar.specs.Told.{Told, IsHeld, text_alone}
 use Rattle.polypar.specs.KernelText.{IsTextFor}
 
 -- every subscript lies in its extent, or the first that does not is told
@@ -81,11 +82,12 @@ IsVerdict WriteFault = ⊥
 IsVerdict NoMemory = ⊥
 IsVerdict other = ⊤
 
--- an input asks a command for the text
-abbrev pub AsksFor : Command → List ℕ → List ℕ → Type 0
-AsksFor Run input text = (accepted : Accepted input) × (text ≡ asked_text accepted)
-AsksFor (OfKernel asked) input text = (kernel : Spelled input) × IsTextFor asked kernel.program text
+-- an input asks a command for this: `run` for the text of the arrays, another for what it tells of the kernel, as far
+-- as memory can hold that
+abbrev pub AsksFor : Command → List ℕ → Told → Type 0
+AsksFor Run input told = (accepted : Accepted input) × (told ≡ text_alone (asked_text accepted))
+AsksFor (OfKernel asked) input told = (kernel : Spelled input) × IsTextFor asked kernel.program told × IsHeld told
 
--- the words and the input ask for the text
-abbrev pub Asks : List (List ℕ) → List ℕ → List ℕ → Type 0
-Asks words input text = IsTaken words × AsksFor (command_of words) input text
+-- the words and the input ask for this
+abbrev pub Asks : List (List ℕ) → List ℕ → Told → Type 0
+Asks words input told = IsTaken words × AsksFor (command_of words) input told

@@ -4,6 +4,7 @@ use Rattle.io_ports.specs.Memory.{SourceState, SinkState}
 use Rattle.scop_syntax.specs.Tree.{Program}
 use Rattle.report_text.specs.declared.status.Status.{Status}
 use Rattle.report_text.specs.StatusText.{status_text}
+use Rattle.polypar.specs.Told.{Told}
 use Rattle.polypar.specs.Deserves.{Asks}
 use Rattle.polypar.specs.Answered.{NamesOf}
 
@@ -20,11 +21,11 @@ pub record NeverFail (source : SourceState) (out err : SinkState) : Type 0 where
 abbrev pub Holds : SinkState → List ℕ → Type 0
 Holds sink text = length sink.taken + length text ≤ sink.capacity
 
--- it has room for each text that the words and the input may ask for
-abbrev pub HoldsText : List (List ℕ) → List ℕ → SinkState → Type 0
-HoldsText words input out = (text : List ℕ) → Asks words input text → Holds out text
+-- the sinks have room for each text and for the lines that the words and the input may ask for
+abbrev pub HoldsText : List (List ℕ) → List ℕ → SinkState → SinkState → Type 0
+HoldsText words input out err = (told : Told) → Asks words input told → Holds out told.text × Holds err told.lines
 
--- and for each line that may tell the status
+-- it has room for each line that may tell the status
 abbrev pub HoldsLine : List ℕ → Status → SinkState → Type 0
 HoldsLine input status err = (named : Option Program) → NamesOf (Some input) status named
     → Holds err (status_text named status)

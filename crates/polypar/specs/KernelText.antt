@@ -1,12 +1,15 @@
--- What the commands that look at a kernel alone print of it.
-use Rattle.std.specs.Prelude.{ℕ, List}
+-- What the commands that look at a kernel alone tell of it.
 use Rattle.scop_syntax.specs.Tree.{Program}
 use Rattle.polypar.specs.declared.command.KernelCommand.{KernelCommand}
-use Rattle.polypar.specs.declared.command.KernelCommand.TheVariants.{Schedule, Deps}
+use Rattle.polypar.specs.declared.command.KernelCommand.TheVariants.{Schedule, Deps, Emit}
+use Rattle.polypar.specs.Told.{Told, IsTextAlone}
 use Rattle.polypar.specs.Planning.{IsPlanText}
 use Rattle.polypar.specs.Sources.{IsSourcesText}
+use Rattle.polypar.specs.Emitting.{IsLoopsText}
 
--- of `schedule` the schedule, or why the order is kept; of `deps` the source of each read
-abbrev pub IsTextFor : KernelCommand → Program → List ℕ → Type 0
-IsTextFor (Schedule budget) program text = IsPlanText budget program text
-IsTextFor (Deps budget) program text = IsSourcesText budget program text
+-- of `schedule` the schedule, or why the order is kept; of `deps` the source of each read; of `emit` the loops, and, if
+-- the order is kept, on a line why
+abbrev pub IsTextFor : KernelCommand → Program → Told → Type 0
+IsTextFor (Schedule budget) program told = IsTextAlone (IsPlanText budget program) told
+IsTextFor (Deps budget) program told = IsTextAlone (IsSourcesText budget program) told
+IsTextFor (Emit tile budget) program told = IsLoopsText tile budget program told

@@ -4,7 +4,10 @@ pub mod Case
 pub mod Command
 pub mod Cut
 pub mod Deserves
+pub mod Emitting
 pub mod InMemory
 pub mod KernelText
 pub mod Planning
+pub mod Running
 pub mod Sources
+pub mod Told

@@ -8,8 +8,9 @@ use Rattle.pip_solver.specs.declared.stop.Stop.TheVariants as solver
 use Rattle.farkas.specs.declared.stuck.Stuck.{Stuck}
 use Rattle.farkas.specs.declared.stuck.Stuck.TheVariants as stuck
 use Rattle.schedule_rows.specs.Items.{Block}
-use Rattle.schedule_rows.specs.Outcomes.{IsSchedule}
+use Rattle.schedule_rows.specs.Outcomes.{ends, IsSchedule}
 use Rattle.schedule_rows.specs.Schedule.{loops_in}
+use Rattle.pluto_search.specs.Questions.{ComesAnswered}
 use Rattle.pluto_search.specs.Searching.{Keeps}
 use Rattle.pluto_search.specs.declared.kept.Kept.{Kept}
 use Rattle.pluto_search.specs.declared.kept.Kept.TheVariants as kept
@@ -45,6 +46,12 @@ IsLineText told text = (some : KeptLine) × (told ≡ Some some) × (text ≡ ke
 abbrev pub IsScheduleOf : KernelModel → List Block → Type 0
 IsScheduleOf model blocks = IsSchedule model.parameters (loops_in model) (conflicts_of model) blocks
 
+-- it is what a search with this budget finds: all questions that the run poses are answered within it
+abbrev pub IsSearched : ℕ → KernelModel → List Block → Type 0
+IsSearched budget model blocks =
+    IsScheduleOf model blocks
+    × ComesAnswered model.parameters (loops_in model) budget (conflicts_of model) (ends blocks)
+
 -- what a kept line tells holds: the determined run over the model's conflicts comes to that outcome, or a question that
 -- the search for it poses with this budget stops so
 abbrev pub IsCauseOf : ℕ → KernelModel → KeptLine → Type 0
@@ -52,10 +59,10 @@ IsCauseOf budget model told =
     (cause : Kept) × Keeps model.parameters (loops_in model) (conflicts_of model) budget cause
     × (line_of_kept cause ≡ Some told)
 
--- the text is that of the schedule, or the kept line of a cause that holds
+-- the text is that of the schedule that is found, or the kept line of a cause that holds
 abbrev pub IsPlanOf : ℕ → KernelModel → List ℕ → Type 0
 IsPlanOf budget model text =
-    ((blocks : List Block) × IsScheduleOf model blocks × (text ≡ schedule_text blocks))
+    ((blocks : List Block) × IsSearched budget model blocks × (text ≡ schedule_text blocks))
     ⊎ ((told : KeptLine) × IsCauseOf budget model told × (text ≡ kept_text told))
 
 -- the same of a program's model

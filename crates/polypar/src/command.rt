@@ -1,10 +1,12 @@
-//! The command line, read with `clap`: `polypar run`, `polypar schedule [--budget B]`, `polypar deps [--budget B]`.
+//! The command line, read with `clap`: `polypar run`, `polypar schedule [--budget B]`, `polypar deps [--budget B]`,
+//! `polypar emit [--tile T] [--budget B]`.
 
-ghost use Rattle.std.specs.Prelude.{◌≡◌, IfOk, IsErrOf, false, map, string_bytes};
+ghost use Rattle.std.specs.Prelude.{◌≡◌, ◌≤◌, IfOk, IsErrOf, false, map, string_bytes};
 ghost use Rattle.clap.specs.Words.{app_of, found_of, rows_of, subcommand_rows_of};
 ghost use Rattle.clap.specs.declared.builder.command.Command.TheViews.{out-Command};
-ghost use Rattle.polypar.specs.Command.{bare_tool, budget_tool, tool, IsTaken, budget_in, command_named};
-ghost use Rattle.polypar.specs.Command.{command_met, command_of};
+ghost use Rattle.polypar.specs.Command.{bare_tool, budget_tool, emit_tool, tool, most_tile, IsTaken};
+ghost use Rattle.polypar.specs.Command.{number_in, budget_in, tile_in, command_named, command_met, command_of};
+ghost use Rattle.polypar.specs.Answers.{HasSize};
 
 use clap::error::ErrorKind;
 use clap::{Arg, ArgAction, ArgMatches};
@@ -12,6 +14,12 @@ use std::alloc::{AllocError, Global};
 
 /// The most moves of a question, and the budget where none is given.
 const MOST_MOVES: u64 = 20_000;
+
+/// The greatest size of tiles.
+const MOST_TILE: u64 = 1024;
+
+/// The size of tiles where none is given.
+const USUAL_TILE: u64 = 32;
 
 /// What a command line asks for.
 #[derive(Clone, Copy, Debug, PartialEq, Eq)]
@@ -29,6 +37,8 @@ pub(crate) enum KernelCommand {
     Schedule { budget: u64 },
     /// The source of each read, where each candidate's problem may make so many moves.
     Deps { budget: u64 },
+    /// The loops of the schedule's tiles of this size; the budget is that of the schedule.
+    Emit { tile: u64, budget: u64 },
 }
 
 /// Why a command line asks for nothing.
@@ -62,6 +72,19 @@ fn budget_command<'a>(alloc: Global, name: &'a str) -> Result<clap::Command<'a>,
     clap::Command::new(alloc, name).arg(budget)
 }
 
+/// The command `emit` with its options.
+fn emit_command<'a>(alloc: Global) -> Result<clap::Command<'a>, AllocError>
+    ensures command { IfOk result (λ c. app_of c ≡ emit_tool) }
+    ensures plain { IfOk result (λ c. (out-Command c).has_globals ≡ false) }
+{
+    let tile = Arg::new(alloc, "tile")
+        .long("tile")
+        .action(ArgAction::Set)
+        .value_parser(clap::value_parser!(u64).range(1..=MOST_TILE as i64));
+    let emit = budget_command(alloc, "emit")?;
+    emit.arg(tile)
+}
+
 /// The stated command. Its definition in specs/Command.antt says which words it takes.
 fn stated<'a>(alloc: Global) -> Result<clap::Command<'a>, AllocError>
     ensures command { IfOk result (λ c. app_of c ≡ tool) }
@@ -70,23 +93,46 @@ fn stated<'a>(alloc: Global) -> Result<clap::Command<'a>, AllocError>
     let run = clap::Command::new(alloc, "run");
     let schedule = budget_command(alloc, "schedule")?;
     let deps = budget_command(alloc, "deps")?;
-    let tool = bare(alloc).subcommand(run)?;
-    tool.subcommand(schedule)?.subcommand(deps)
+    let emit = emit_command(alloc)?;
+    let with_run = bare(alloc).subcommand(run)?;
+    let with_schedule = with_run.subcommand(schedule)?;
+    let with_deps = with_schedule.subcommand(deps)?;
+    with_deps.subcommand(emit)
+}
+
+/// The number that the matches of a command have for an option, or the usual one.
+fn number_in(matches: &ArgMatches, name: &str, usual: u64) -> u64
+    ensures { result ≡ number_in name.now usual (rows_of (found_of matches.now)) }
+{
+    match matches.get_one::<u64>(name) {
+        Some(number) => number,
+        None => usual,
+    }
 }
 
 /// The budget that the matches of a command with `--budget` have.
 fn budget_in(matches: &ArgMatches) -> u64
     ensures { result ≡ budget_in (rows_of (found_of matches.now)) }
 {
-    match matches.get_one::<u64>("budget") {
-        Some(budget) => budget,
-        None => MOST_MOVES,
+    number_in(matches, "budget", MOST_MOVES)
+}
+
+/// The size of tiles that the matches of a command with `--tile` have.
+fn tile_in(matches: &ArgMatches) -> u64
+    ensures tile { result ≡ tile_in (rows_of (found_of matches.now)) }
+    ensures size { (1 ≤ result) × (result ≤ most_tile) }
+{
+    let tile = number_in(matches, "tile", USUAL_TILE);
+    if 1 <= tile && tile <= MOST_TILE {
+        return tile;
     }
+    USUAL_TILE
 }
 
 /// The command of this name with these matches.
 fn command_named(name: &str, matches: &ArgMatches) -> Command
-    ensures { result ≡ command_named (name.now, rows_of (found_of matches.now)) }
+    ensures command { result ≡ command_named (name.now, rows_of (found_of matches.now)) }
+    ensures size { HasSize result }
 {
     if name == "schedule" {
         let budget = budget_in(matches);
@@ -96,12 +142,18 @@ fn command_named(name: &str, matches: &ArgMatches) -> Command
         let budget = budget_in(matches);
         return Command::OfKernel(KernelCommand::Deps { budget });
     }
+    if name == "emit" {
+        let tile = tile_in(matches);
+        let budget = budget_in(matches);
+        return Command::OfKernel(KernelCommand::Emit { tile, budget });
+    }
     Command::Run
 }
 
 /// The command that matches of the stated command name.
 fn command_met(matches: &ArgMatches) -> Command
-    ensures { result ≡ command_met (subcommand_rows_of matches.now) }
+    ensures command { result ≡ command_met (subcommand_rows_of matches.now) }
+    ensures size { HasSize result }
 {
     match matches.subcommand() {
         Some((name, inner)) => command_named(name, inner),
@@ -116,6 +168,7 @@ fn command_met(matches: &ArgMatches) -> Command
 pub(crate) fn command_of<'a>(alloc: Global, words: &'a [String]) -> Result<Command, CommandStop>
     ensures taken { IfOk result (λ _. IsTaken (map string_bytes words.now)) }
     ensures command { IfOk result (λ c. c ≡ command_of (map string_bytes words.now)) }
+    ensures size { IfOk result HasSize }
     ensures usage { IsErrOf result CommandStop.Usage → IsTaken (map string_bytes words.now) → ⊥ }
 {
     let tool: clap::Command<'a> = match stated(alloc) {

@@ -22,9 +22,9 @@ pub fn command_in_memory(
     requires { NeverFail source.old out.old err.old }
     ensures whole { result ≡ Status.Done → source.new.left ≡ [] }
     ensures decided { (verdict : Status) → Deserves (map string_bytes words.now) source.old.left verdict
-        → HoldsText (map string_bytes words.now) source.old.left out.old → HoldsLine source.old.left result err.old
-        → (result ≡ verdict) ⊎ (result ≡ Status.NoMemory) }
-    ensures calm { HoldsText (map string_bytes words.now) source.old.left out.old
+        → HoldsText (map string_bytes words.now) source.old.left out.old err.old
+        → HoldsLine source.old.left result err.old → (result ≡ verdict) ⊎ (result ≡ Status.NoMemory) }
+    ensures calm { HoldsText (map string_bytes words.now) source.old.left out.old err.old
         → HoldsLine source.old.left result err.old
         → (source.new.faults ≡ 0) × (out.new.faults ≡ 0) × (err.new.faults ≡ 0) }
 {

@@ -1,46 +1,52 @@
-//! The commands that look at a kernel alone: what they ask of it is told as a text, and printed.
+//! The commands that look at a kernel alone: what they ask of it is told, and printed.
 
-ghost use Rattle.std.specs.Prelude.{◌≡◌, IfOk};
+ghost use Rattle.std.specs.Prelude.{◌≡◌, IfOk, MatchResult};
 ghost use Rattle.io_ports.specs.Writes.{Writes};
 ghost use Rattle.scop_syntax.specs.Kernel.{IsKernel};
 ghost use Rattle.scop_syntax.specs.View.{program_of};
 ghost use Rattle.iteration_domains.specs.Model.{model_of};
+ghost use Rattle.polypar.specs.Told.{told_of};
 ghost use Rattle.polypar.specs.KernelText.{IsTextFor};
-ghost use Rattle.polypar.specs.Answers.{AnswersProgram};
+ghost use Rattle.polypar.specs.Answers.{AnswersProgram, IsSized, WritesTold, CutsTold};
 
 use crate::command::KernelCommand;
-use crate::plan::plan_text;
-use crate::sources::sources_text;
+use crate::loops::loops_text;
+use crate::plan::plan_told;
+use crate::sources::sources_told;
+use crate::told::Told;
 use io_ports::{Failed, Sink, write_whole};
 use iteration_domains::Model;
 use report_text::Status;
 use scop_syntax::tree::Kernel;
 use std::alloc::{AllocError, Global};
 
-/// The text that a command asks of a kernel with this model.
-fn model_text(
+/// What a command asks of a kernel with this model.
+fn model_told(
     alloc: Global,
     kernel: &Kernel,
     model: &Model,
     asked: KernelCommand,
-) -> Result<Vec<u8>, AllocError>
+) -> Result<Told, AllocError>
     requires kernel { IsKernel (program_of kernel.now) }
     requires model { model.now ≡ model_of (program_of kernel.now) }
-    ensures { IfOk result (λ text. IsTextFor asked (program_of kernel.now) text.items) }
+    requires size { IsSized asked }
+    ensures { IfOk result (λ told. IsTextFor asked (program_of kernel.now) (told_of told)) }
 {
     match asked {
-        KernelCommand::Schedule { budget } => plan_text(alloc, model, budget),
-        KernelCommand::Deps { budget } => sources_text(alloc, kernel, model, budget),
+        KernelCommand::Schedule { budget } => plan_told(alloc, model, budget),
+        KernelCommand::Deps { budget } => sources_told(alloc, kernel, model, budget),
+        KernelCommand::Emit { tile, budget } => loops_text(alloc, kernel, model, tile, budget),
     }
 }
 
-/// The text that a command asks of a kernel.
-fn kernel_text(alloc: Global, kernel: &Kernel, asked: KernelCommand) -> Result<Vec<u8>, AllocError>
-    requires { IsKernel (program_of kernel.now) }
-    ensures { IfOk result (λ text. IsTextFor asked (program_of kernel.now) text.items) }
+/// What a command asks of a kernel.
+fn kernel_told(alloc: Global, kernel: &Kernel, asked: KernelCommand) -> Result<Told, AllocError>
+    requires kernel { IsKernel (program_of kernel.now) }
+    requires size { IsSized asked }
+    ensures { IfOk result (λ told. IsTextFor asked (program_of kernel.now) (told_of told)) }
 {
     match Model::of(alloc, kernel) {
-        Ok(model) => model_text(alloc, kernel, &model, asked),
+        Ok(model) => model_told(alloc, kernel, &model, asked),
         Err(_) => Err(AllocError),
     }
 }
@@ -56,18 +62,34 @@ fn print_text<O: Sink>(text: &[u8], out: &mut O) -> Result<(), Failed>
     }
 }
 
+/// Writes what is told: the lines to `err`, and then the text to `out`, which is flushed.
+fn print_told<O: Sink, E: Sink>(told: &Told, out: &mut O, err: &mut E) -> Result<(), Failed>
+    ensures { MatchResult result
+        (λ _. WritesTold (told_of told.now) (O.shows out.old) (O.shows out.new) (E.shows err.old) (E.shows err.new))
+        (λ _. CutsTold (told_of told.now) (O.shows out.old) (O.shows out.new) (E.shows err.old) (E.shows err.new)) }
+{
+    match write_whole(err, &told.lines) {
+        Ok(()) => print_text(&told.text, out),
+        Err(failed) => Err(failed),
+    }
+}
+
 /// Prints what a command asks of a kernel.
-pub(crate) fn print_asked<O: Sink>(
+#[tactic(auto, using(crate::proofs::PrintLemmas::held))]
+pub(crate) fn print_asked<O: Sink, E: Sink>(
     alloc: Global,
     kernel: &Kernel,
     asked: KernelCommand,
     out: &mut O,
+    err: &mut E,
 ) -> Status
-    requires { IsKernel (program_of kernel.now) }
-    ensures { AnswersProgram asked result (program_of kernel.now) (O.shows out.old) (O.shows out.new) }
+    requires kernel { IsKernel (program_of kernel.now) }
+    requires size { IsSized asked }
+    ensures { AnswersProgram asked result (program_of kernel.now) (O.shows out.old) (O.shows out.new) (E.shows err.old)
+        (E.shows err.new) }
 {
-    match kernel_text(alloc, kernel, asked) {
-        Ok(text) => match print_text(&text, out) {
+    match kernel_told(alloc, kernel, asked) {
+        Ok(told) => match print_told(&told, out, err) {
             Ok(()) => Status::Done,
             Err(Failed) => Status::WriteFault,
         },

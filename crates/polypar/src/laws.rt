@@ -1,7 +1,8 @@
-//! What `run` prints is data again, what `deps` prints tells last writes, and words that are taken name a command: laws,
-//! as contracts of functions that do nothing.
+//! What `run` prints is data again, what `deps` prints tells last writes, what `emit` prints is read back and runs the
+//! kernel, only `emit` has lines, and words that are taken name a command: laws, as contracts of functions that do
+//! nothing.
 
-ghost use Rattle.std.specs.Prelude.{All, ◌<◌, ◌^◌, ℕ, ℤ, List};
+ghost use Rattle.std.specs.Prelude.{All, ◌≡◌, ◌<◌, ◌^◌, ℕ, ℤ, List, [], Option};
 ghost use Rattle.io_ports.specs.Reads.{SourceShows};
 ghost use Rattle.io_ports.specs.Writes.{SinkShows};
 ghost use Rattle.scop_syntax.specs.Tree.{Program};
@@ -12,13 +13,20 @@ ghost use Rattle.scop_parser.specs.Spelling.{SpellsProgram};
 ghost use Rattle.data_text.specs.Cases.{Says};
 ghost use Rattle.data_text.specs.Written.{case_text};
 ghost use Rattle.report_text.specs.declared.status.Status.TheVariants.{Done};
-ghost use Rattle.polypar.specs.Answered.{Answered, PrintsText};
-ghost use Rattle.polypar.specs.Command.{IsDepsCommand, IsTaken, command_names, NamesCommand};
+ghost use Rattle.report_text.specs.declared.status.Status.{Status};
+ghost use Rattle.polypar.specs.Answered.{Answered, HasLines, PrintsText, PrintsTold};
+ghost use Rattle.polypar.specs.Command.{IsDepsCommand, IsEmitCommand, IsTaken, command_names, NamesCommand};
+ghost use Rattle.polypar.specs.Emitting.{ReadsAsLoops};
+ghost use Rattle.polypar.specs.Running.{RunsKernel};
 ghost use Rattle.polypar.specs.Sources.{TellsLastWrites};
 
+use c_printer::{
+    flat_trees_can_be_printed, kernels_tell_their_names_apart, printed_trees_are_read_back,
+};
 use data_text::written_cases_are_read_back;
 use iteration_domains::domain_laws::{accesses_touch_the_cells, domains_hold_the_instances};
-use scop_parser::laws::spelled_programs_are_kernels;
+use plan_tree::laws::{loops_end_as_the_source_does, trees_keep_conflicts_in_order};
+use scop_parser::laws::{spelled_names_are_words, spelled_programs_are_kernels};
 
 /// The text of the arrays of a kernel that a text spells, behind a line for each parameter, says these parameters and
 /// these contents.
@@ -43,6 +51,44 @@ pub fn printed_sources_tell_last_writes()
     domains_hold_the_instances();
     accesses_touch_the_cells();
 }
+
+/// What `emit` prints is read back: at Done some input, which is all that the source told, spells a kernel, and `out`
+/// has gained exactly a text that is read as loop trees which for all parameters in 0..=65536 carry out a plan of the
+/// kernel: that of its schedule, or the kept order, whose line `err` has gained.
+pub fn printed_loops_are_read_back()
+    ensures { (words : List (List ℕ)) (tile budget : ℕ) (source source_after : SourceShows)
+        (out out_after err err_after : SinkShows)
+        → Answered words Done source source_after out out_after err err_after → IsEmitCommand tile budget words
+        → PrintsTold (ReadsAsLoops tile budget) source.left out out_after err err_after }
+{
+    spelled_programs_are_kernels();
+    spelled_names_are_words();
+    kernels_tell_their_names_apart();
+    flat_trees_can_be_printed();
+    printed_trees_are_read_back();
+}
+
+/// What `emit` prints runs the kernel: at Done some input, which is all that the source told, spells a kernel, and `out`
+/// has gained exactly a text that is read as loop trees which for all parameters in 0..=65536 visit each walked
+/// instance once, of two that conflict the earlier first, whose parallel loops are free of conflicts, and which leave
+/// the arrays of the source's own execution, in whichever order the iterations of those loops are interleaved.
+pub fn printed_loops_run_the_kernel()
+    ensures { (words : List (List ℕ)) (tile budget : ℕ) (source source_after : SourceShows)
+        (out out_after err err_after : SinkShows)
+        → Answered words Done source source_after out out_after err err_after → IsEmitCommand tile budget words
+        → PrintsText RunsKernel source.left out.taken out_after.taken }
+{
+    loops_end_as_the_source_does();
+    printed_loops_are_read_back();
+    trees_keep_conflicts_in_order();
+}
+
+/// A command that is not `emit` has no lines, so all that `err` gains is the status line.
+pub fn only_emit_has_lines()
+    ensures { (words : List (List ℕ)) (left : Option (List ℕ)) (status : Status) (out out_after : SinkShows)
+        (lines : List ℕ) → HasLines words left status out out_after lines
+        → ((tile budget : ℕ) → IsEmitCommand tile budget words → ⊥) → lines ≡ [] }
+{}
 
 /// Words that the stated command takes name one of its commands.
 pub fn taken_words_name_a_command()

@@ -2,8 +2,9 @@
 //!
 //! The clause of `plain_command` and `polypar` carries the whole claim: what `run` prints are exactly the arrays of the
 //! kernel's own sequential execution, what `schedule` prints is the schedule of the determined run over the kernel's
-//! conflicts, or why its order is kept, what `deps` prints names for each read that is resolved its last write, and each
-//! status comes from its cause alone.
+//! conflicts, or why its order is kept, what `deps` prints names for each read that is resolved its last write, what
+//! `emit` prints are loops that visit each instance once, conflicting ones in order, and each status comes from its
+//! cause alone.
 #![tactic(auto)]
 
 mod command;
@@ -11,14 +12,17 @@ mod cut;
 mod in_memory;
 mod kernel;
 mod laws;
+mod loops;
 mod plain;
 mod plan;
 mod run;
 mod sources;
+mod told;
 
 pub use in_memory::command_in_memory;
 pub use laws::{
-    printed_arrays_are_data, printed_sources_tell_last_writes, taken_words_name_a_command,
+    only_emit_has_lines, printed_arrays_are_data, printed_loops_are_read_back,
+    printed_sources_tell_last_writes, taken_words_name_a_command,
 };
 pub use plain::{deserved_once, plain_command, polypar};
 pub use report_text::{DataRefusal, Outside, Refusal, RefusalKind, Status};

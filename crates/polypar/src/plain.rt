@@ -4,7 +4,7 @@ ghost use Rattle.std.specs.Prelude.{◌≡◌, ℕ, List, map, string_bytes, opt
 ghost use Rattle.scop_syntax.specs.View.{program_of};
 ghost use Rattle.report_text.specs.declared.status.Status.{Status};
 ghost use Rattle.polypar.specs.Deserves.{Deserves, IsVerdict};
-ghost use Rattle.polypar.specs.Answers.{AnswersTaken, AnswersWords, IsReadOn, TellsStatus};
+ghost use Rattle.polypar.specs.Answers.{AnswersCommand, AnswersWords, HasSize, IsReadOn, TellsStatus};
 ghost use Rattle.polypar.specs.Answered.{Answered, NamesOf};
 
 use crate::command::{Command, CommandStop, command_of};
@@ -100,12 +100,13 @@ fn answer_command<S: Source, O: Sink, E: Sink>(
     out: &mut O,
     err: &mut E,
 ) -> Ending
-    ensures answer { AnswersTaken command result.status (S.shows source.old) (S.shows source.new) (O.shows out.old)
+    requires { HasSize command }
+    ensures answer { AnswersCommand command result.status (S.shows source.old) (S.shows source.new) (O.shows out.old)
         (O.shows out.new) (E.shows err.old) (E.shows err.new) }
     ensures names { NamesOf (S.shows source.old).left result.status (option_map program_of result.kernel) }
     ensures read_on { IsReadOn (S.shows source.old) (S.shows source.new) }
 {
-    let ending = run(alloc, command, source, out);
+    let ending = run(alloc, command, source, out, err);
     if ending.status != Status::Done {
         return ending;
     }

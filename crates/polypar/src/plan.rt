@@ -4,7 +4,9 @@
 ghost use Rattle.std.specs.Prelude.{◌≡◌, IfOk, None, Some};
 ghost use Rattle.conflict_deps.specs.Conflicts.{conflicts_of};
 ghost use Rattle.polypar.specs.Planning.{line_of, line_of_kept, IsLineText, IsPlanOf};
+ghost use Rattle.polypar.specs.Told.{told_of, IsTextAlone};
 
+use crate::told::Told;
 use conflict_deps::conflicts;
 use farkas::Stuck;
 use fm_projection::FmStop;
@@ -12,10 +14,11 @@ use iteration_domains::Model;
 use pip_solver::Stop;
 use pluto_search::{Kept, search};
 use report_text::{KeptLine, kept_text, schedule_text};
+use schedule_rows::each_state_has_one_outcome;
 use std::alloc::{AllocError, Global};
 
 /// The line of a question or an elimination that stops; none for want of memory.
-fn line_of(stuck: &Stuck) -> Option<KeptLine>
+pub(crate) fn line_of(stuck: &Stuck) -> Option<KeptLine>
     ensures { result ≡ line_of stuck.now }
 {
     match stuck {
@@ -31,7 +34,7 @@ fn line_of(stuck: &Stuck) -> Option<KeptLine>
 }
 
 /// The line that tells why a search kept the order; none for want of memory.
-fn line_of_kept(kept: &Kept) -> Option<KeptLine>
+pub(crate) fn line_of_kept(kept: &Kept) -> Option<KeptLine>
     ensures { result ≡ line_of_kept kept.now }
 {
     match kept {
@@ -44,7 +47,7 @@ fn line_of_kept(kept: &Kept) -> Option<KeptLine>
 }
 
 /// The text of a kept line, where there is one.
-fn line_text(alloc: Global, line: Option<KeptLine>) -> Result<Vec<u8>, AllocError>
+pub(crate) fn line_text(alloc: Global, line: Option<KeptLine>) -> Result<Vec<u8>, AllocError>
     ensures { IfOk result (λ text. IsLineText line text.items) }
 {
     match line {
@@ -54,9 +57,10 @@ fn line_text(alloc: Global, line: Option<KeptLine>) -> Result<Vec<u8>, AllocErro
 }
 
 /// The text of a model's schedule, or the kept line.
-pub(crate) fn plan_text(alloc: Global, model: &Model, budget: u64) -> Result<Vec<u8>, AllocError>
+fn plan_text(alloc: Global, model: &Model, budget: u64) -> Result<Vec<u8>, AllocError>
     ensures { IfOk result (λ text. IsPlanOf budget model.now text.items) }
 {
+    each_state_has_one_outcome();
     let deps = match conflicts(alloc, model) {
         Ok(deps) => deps,
         Err(_) => return Err(AllocError),
@@ -69,4 +73,12 @@ pub(crate) fn plan_text(alloc: Global, model: &Model, budget: u64) -> Result<Vec
             line_text(alloc, line)
         }
     }
+}
+
+/// What `schedule` tells of a model: the text alone.
+pub(crate) fn plan_told(alloc: Global, model: &Model, budget: u64) -> Result<Told, AllocError>
+    ensures { IfOk result (λ told. IsTextAlone (IsPlanOf budget model.now) (told_of told)) }
+{
+    let text = plan_text(alloc, model, budget)?;
+    Ok(Told::text_alone(alloc, text))
 }

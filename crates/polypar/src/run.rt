@@ -12,7 +12,8 @@ ghost use Rattle.scop_syntax.specs.Limits.{WithinLimits};
 ghost use Rattle.data_text.specs.ArrayText.{array_text};
 ghost use Rattle.polypar.specs.Case.{IsShort};
 ghost use Rattle.polypar.specs.Deserves.{too_long};
-ghost use Rattle.polypar.specs.Answers.{AnswersCase, AnswersData, AnswersKernel, AnswersFor, AnswersCommand, IsReadOn};
+ghost use Rattle.polypar.specs.Answers.{AnswersCase, AnswersData, AnswersKernel, AnswersFor, AnswersCommand};
+ghost use Rattle.polypar.specs.Answers.{HasSize, IsReadOn};
 ghost use Rattle.polypar.specs.Answered.{NamesOf};
 
 use crate::command::Command;
@@ -52,19 +53,21 @@ impl Ending {
 }
 
 /// Reads the source to its end, and prints what the command asks for.
-pub(crate) fn run<S: Source, O: Sink>(
+pub(crate) fn run<S: Source, O: Sink, E: Sink>(
     alloc: Global,
     command: Command,
     source: &mut S,
     out: &mut O,
+    err: &mut E,
 ) -> Ending
+    requires { HasSize command }
     ensures answer { AnswersCommand command result.status (S.shows source.old) (S.shows source.new) (O.shows out.old)
-        (O.shows out.new) }
+        (O.shows out.new) (E.shows err.old) (E.shows err.new) }
     ensures names { NamesOf (S.shows source.old).left result.status (option_map program_of result.kernel) }
     ensures read_on { IsReadOn (S.shows source.old) (S.shows source.new) }
 {
     match read_to_end(alloc, source, LONGEST_INPUT) {
-        Ok(input) => run_input(alloc, command, &input, out),
+        Ok(input) => run_input(alloc, command, &input, out, err),
         Err(ReadError::Failed) => Ending::of(Status::ReadFault),
         Err(ReadError::TooLong) => Ending::of(too_long()),
         Err(ReadError::NoMemory) => Ending::of(Status::NoMemory),
@@ -83,15 +86,23 @@ fn too_long() -> Status
 }
 
 /// Reads the kernel of an input, and goes on with what the command asks.
-fn run_input<O: Sink>(alloc: Global, command: Command, input: &[u8], out: &mut O) -> Ending
-    requires { IsShort input.now }
-    ensures answer { AnswersFor command result.status input.now (O.shows out.old) (O.shows out.new) }
+fn run_input<O: Sink, E: Sink>(
+    alloc: Global,
+    command: Command,
+    input: &[u8],
+    out: &mut O,
+    err: &mut E,
+) -> Ending
+    requires short { IsShort input.now }
+    requires size { HasSize command }
+    ensures answer { AnswersFor command result.status input.now (O.shows out.old) (O.shows out.new) (E.shows err.old)
+        (E.shows err.new) }
     ensures names { NamesOf (Some input.now) result.status (option_map program_of result.kernel) }
 {
     let parts = cut(input);
     match read_kernel(alloc, parts.kernel) {
         Ok(kernel) => {
-            let status = run_command(alloc, command, &kernel, parts.case, out);
+            let status = run_command(alloc, command, &kernel, parts.case, out, err);
             Ending {
                 status,
                 kernel: Some(kernel),
@@ -103,19 +114,22 @@ fn run_input<O: Sink>(alloc: Global, command: Command, input: &[u8], out: &mut O
 }
 
 /// Goes on with what the command asks of a kernel; `text` is its data.
-fn run_command<O: Sink>(
+fn run_command<O: Sink, E: Sink>(
     alloc: Global,
     command: Command,
     kernel: &Kernel,
     text: &[u8],
     out: &mut O,
+    err: &mut E,
 ) -> Status
-    requires { IsKernel (program_of kernel.now) }
-    ensures { AnswersKernel command result (program_of kernel.now) text.now (O.shows out.old) (O.shows out.new) }
+    requires kernel { IsKernel (program_of kernel.now) }
+    requires size { HasSize command }
+    ensures { AnswersKernel command result (program_of kernel.now) text.now (O.shows out.old) (O.shows out.new)
+        (E.shows err.old) (E.shows err.new) }
 {
     match command {
         Command::Run => run_kernel(alloc, kernel, text, out),
-        Command::OfKernel(asked) => print_asked(alloc, kernel, asked, out),
+        Command::OfKernel(asked) => print_asked(alloc, kernel, asked, out, err),
     }
 }
 

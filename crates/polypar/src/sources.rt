@@ -5,7 +5,9 @@ ghost use Rattle.scop_syntax.specs.Kernel.{IsKernel};
 ghost use Rattle.scop_syntax.specs.View.{program_of};
 ghost use Rattle.iteration_domains.specs.Model.{model_of};
 ghost use Rattle.polypar.specs.Sources.{IsSourcesText};
+ghost use Rattle.polypar.specs.Told.{told_of, IsTextAlone};
 
+use crate::told::Told;
 use dataflow::last_writes;
 use iteration_domains::Model;
 use report_text::deps_text;
@@ -13,7 +15,7 @@ use scop_syntax::tree::Kernel;
 use std::alloc::{AllocError, Global};
 
 /// The text of the sources of a kernel's reads, where each candidate's problem may make so many moves.
-pub(crate) fn sources_text(
+fn sources_text(
     alloc: Global,
     kernel: &Kernel,
     model: &Model,
@@ -27,4 +29,19 @@ pub(crate) fn sources_text(
         Ok(sources) => deps_text(alloc, kernel, &sources),
         Err(_) => Err(AllocError),
     }
+}
+
+/// What `deps` tells of a kernel: the text alone.
+pub(crate) fn sources_told(
+    alloc: Global,
+    kernel: &Kernel,
+    model: &Model,
+    budget: u64,
+) -> Result<Told, AllocError>
+    requires kernel { IsKernel (program_of kernel.now) }
+    requires model { model.now ≡ model_of (program_of kernel.now) }
+    ensures { IfOk result (λ told. IsTextAlone (IsSourcesText budget (program_of kernel.now)) (told_of told)) }
+{
+    let text = sources_text(alloc, kernel, model, budget)?;
+    Ok(Told::text_alone(alloc, text))
 }

@@ -1,6 +1,23 @@
--- The run's answer is the command's.
-use Rattle.std.proofs.Common.{inl, rules}
+-- What was written is flushed, or that fails.
+use Rattle.std.proofs.Common.{subst, sym, rules}
+use Rattle.polypar.specs.Answers.{AnswersCommand}
+use Rattle.polypar.proofs.AnswerLemmas.{done_flushed, done_unflushed}
 use Rattle.polypar.proofs.plain.answer_command.Goals as goal
 
-pub returns-then-ne-clause-answer : goal.returns-then-ne-clause-answer
-returns-then-ne-clause-answer g c = inl (c.run-ending.ensures.answer, search rules)
+pub returns-in-Ok-clause-answer : goal.returns-in-Ok-clause-answer
+returns-in-Ok-clause-answer g c =
+    done_flushed c.args.command c.run-ending.result.status _ _ _ _ _ _ _ (search rules) c.run-ending.ensures.answer
+    c.in-Ok.ensures.done
+
+pub returns-in-Err-clause-answer : goal.returns-in-Err-clause-answer
+returns-in-Err-clause-answer g c =
+    let source = g.S.Source.shows c.args.source.now in
+    let source_after = g.S.Source.shows c.run-ending.new.source in
+    let out = g.O.Sink.shows c.args.out.now in
+    let out_after = g.O.Sink.shows c.run-ending.new.out in
+    let err = g.E.Sink.shows c.args.err.now in
+    let after = g.E.Sink.shows c.flush.new.self in
+    subst (λ ending. AnswersCommand c.args.command ending.status source source_after out out_after err after)
+    (sym c.of.ensures)
+    (done_unflushed c.args.command c.run-ending.result.status source source_after out out_after err _ after
+    (search rules) c.run-ending.ensures.answer c.in-Err.ensures.failed)

@@ -5,9 +5,9 @@ use Rattle.polypar.proofs.plan.plan_text.Goals as goal
 
 pub returns-in-Ok-search : goal.returns-in-Ok-search
 returns-in-Ok-search c =
-    let found = c.in-Ok-search.ensures.search in
-    schedule_plans c.args.budget c.args.model.now c.deref.result.now c.in-Ok-search.schedule c.schedule_text.result
-    (c.deref.ensures.value ∙ c.in-Ok.ensures) found.0 found.1 c.schedule_text.ensures
+    schedule_plans c.each_state_has_one_outcome.ensures c.args.budget c.args.model.now c.deref.result.now
+    c.in-Ok-search.schedule c.schedule_text.result (c.deref.ensures.value ∙ c.in-Ok.ensures)
+    c.in-Ok-search.ensures.search c.schedule_text.ensures
 
 pub returns : goal.returns
 returns c =

@@ -2,7 +2,7 @@
 use Rattle.std.proofs.Common.{inl, Err, ap, subst, sym}
 use Rattle.polypar.specs.Answers.{AnswersCommand}
 use Rattle.polypar.proofs.AnswerLemmas.{some_input, long_input}
-use Rattle.polypar.proofs.RunLemmas.{long_answers, memory_answers}
+use Rattle.polypar.proofs.RunLemmas.{long_answers, untouched}
 use Rattle.polypar.proofs.run.run.Goals as goal
 
 pub returns-in-Err-TooLong-clause-answer : goal.returns-in-Err-TooLong-clause-answer
@@ -10,14 +10,16 @@ returns-in-Err-TooLong-clause-answer g c =
     let source = g.S.Source.shows c.args.source.now in
     let after = g.S.Source.shows c.read_to_end.new.source in
     let out = g.O.Sink.shows c.args.out.now in
+    let err = g.E.Sink.shows c.args.err.now in
     let input = long_input source.left 134217728
     (c.in-Err-TooLong.ensures.too_long (ap Err c.in-Err-TooLong.field-0-is)) in
-    subst (λ ending. AnswersCommand c.args.command ending.status source after out out) (sym c.of-in-Err-TooLong.ensures)
-    (subst (λ status. AnswersCommand c.args.command status source after out out) (sym c.too_long.ensures)
+    subst (λ ending. AnswersCommand c.args.command ending.status source after out out err err)
+    (sym c.of-in-Err-TooLong.ensures)
+    (subst (λ status. AnswersCommand c.args.command status source after out out err err) (sym c.too_long.ensures)
     (inl (record {
       input = input.0;
       whole = input.1;
-      answer = long_answers c.args.command input.0 out input.2;
+      answer = long_answers c.args.command input.0 out err input.2;
       at_end = λ e. cc;
     })))
 
@@ -26,12 +28,13 @@ returns-in-Err-NoMemory-clause-answer g c =
     let source = g.S.Source.shows c.args.source.now in
     let after = g.S.Source.shows c.read_to_end.new.source in
     let out = g.O.Sink.shows c.args.out.now in
+    let err = g.E.Sink.shows c.args.err.now in
     let input = some_input source.left in
-    subst (λ ending. AnswersCommand c.args.command ending.status source after out out)
+    subst (λ ending. AnswersCommand c.args.command ending.status source after out out err err)
     (sym c.of-in-Err-NoMemory.ensures)
     (inl (record {
       input = input.0;
       whole = input.1;
-      answer = memory_answers c.args.command input.0 out;
+      answer = untouched out err;
       at_end = λ e. cc;
     }))

@@ -1,0 +1,56 @@
+-- Trees that carry out a plan run the kernel.
+use Rattle.std.proofs.Common.{◌≡◌, ℕ, ℤ, List, [], map}
+use Rattle.scop_syntax.specs.Cells.{PlacesConflict}
+use Rattle.scop_syntax.specs.Execution.{IsInside, IsShaped, exec, layout, performed_all}
+use Rattle.scop_syntax.specs.Limits.{HasParameters}
+use Rattle.scop_syntax.specs.Tree.{Program}
+use Rattle.scop_syntax.specs.Walk.{instance, Visit as Walked, walk_of}
+use Rattle.conflict_orders.specs.Orders.{IsOrderOf}
+use Rattle.loop_tree.specs.Plans.{CarryOut, walked}
+use Rattle.loop_tree.specs.Runs.{MayRunAll}
+use Rattle.loop_tree.specs.Tiling.{Tiling}
+use Rattle.loop_tree.specs.Tree.{Trees}
+use Rattle.loop_tree.specs.Walk.{Visit, given, visits, walk_all}
+use Rattle.plan_tree.specs.Executions.{AreVisitsOf}
+use Rattle.plan_tree.specs.Trees.{AreEven, AreTreesOf, StandInOrder}
+use Rattle.polypar.specs.Told.{Told}
+use Rattle.polypar.specs.Emitting.{ReadsAsLoops}
+use Rattle.polypar.specs.Running.{RunKernel, RunsKernel}
+use Rattle.polypar.proofs.ReadingLemmas.{plan_of}
+
+-- the laws of trees of plans
+pub record Laws : Type 0 where
+  pub in_order : (program : Program) (params : List ℤ) (plan : Tiling) (ts : Trees) → AreEven program plan
+      → CarryOut program params plan ts → (i j : ℕ) (c : PlacesConflict (walk_of program params) i j)
+      → StandInOrder (visits ts params) (instance c.earlier) (instance c.later)
+  pub ends : (program : Program) (params : List ℤ) (plan : Tiling) (ts : Trees) (contents : List (List ℕ))
+      (run : List Visit) (order : List Walked) → AreTreesOf program plan ts → HasParameters program params
+      → IsInside program params → IsShaped (layout program params) contents → MayRunAll ts params [] run
+      → AreVisitsOf program params (map given run) order
+      → performed_all (layout program params) contents order ≡ exec program params contents
+  pub once : (program : Program) (params : List ℤ) (plan : Tiling) (ts : Trees) (run : List Visit)
+      → AreTreesOf program plan ts → HasParameters program params → MayRunAll ts params [] run
+      → IsOrderOf (map given run) (walked program params)
+  pub walk : (ts : Trees) (params : List ℤ) → MayRunAll ts params [] (walk_all ts params [])
+
+-- at parameters of the program
+trees_run : Laws → (program : Program) (params : List ℤ) (plan : Tiling) (ts : Trees) → AreTreesOf program plan ts
+    → HasParameters program params → RunKernel program params ts
+trees_run laws program params plan ts is has = record {
+  once = laws.once program params plan ts (walk_all ts params []) is has (laws.walk ts params);
+  in_order = laws.in_order program params plan ts is.even (is.carry_out params has);
+  free = (is.carry_out params has).free;
+  arrays = λ contents run order inside shaped runs visits.
+      laws.ends program params plan ts contents run order is has inside shaped runs visits;
+}
+
+-- so do those that are read of a text
+pub loops_run : Laws → (tile budget : ℕ) (program : Program) (told : Told) → ReadsAsLoops tile budget program told
+    → RunsKernel program told.text
+loops_run laws tile budget program told reads =
+    let plan = plan_of tile budget program told.lines reads.trees reads.planned in
+    record {
+      trees = reads.trees;
+      read = reads.read;
+      runs = λ params has. trees_run laws program params plan.0 reads.trees plan.1 has;
+    }

@@ -1,0 +1,9 @@
+-- The model is the program's.
+use Rattle.scop_syntax.specs.View.{program_of}
+use Rattle.polypar.proofs.PlanLemmas.{plan_asked}
+use Rattle.polypar.proofs.kernel.model_told.Goals as goal
+
+pub returns-in-Schedule : goal.returns-in-Schedule
+returns-in-Schedule c =
+    plan_asked c.args.asked c.in-Schedule.budget (program_of c.args.kernel.now) c.args.model.now c.plan_told.result
+    c.in-Schedule.is c.requires.model c.plan_told.ensures

@@ -1,0 +1,34 @@
+-- What the loops that `emit` prints do when they run, said of what is read of their text.
+use Rattle.std.specs.Prelude.{◌≡◌, ℕ, ℤ, List, [], map, Some}
+use Rattle.scop_syntax.specs.Cells.{PlacesConflict}
+use Rattle.scop_syntax.specs.Execution.{IsInside, IsShaped, exec, layout, performed_all}
+use Rattle.scop_syntax.specs.Limits.{HasParameters}
+use Rattle.scop_syntax.specs.Tree.{Program}
+use Rattle.scop_syntax.specs.Walk.{instance, Visit as Walked, walk_of}
+use Rattle.conflict_orders.specs.Orders.{IsOrderOf}
+use Rattle.loop_tree.specs.Plans.{AreFree, Conflict, walked}
+use Rattle.loop_tree.specs.Runs.{MayRunAll}
+use Rattle.loop_tree.specs.Tree.{Trees}
+use Rattle.loop_tree.specs.Walk.{Visit, given, visits}
+use Rattle.plan_tree.specs.Executions.{AreVisitsOf}
+use Rattle.plan_tree.specs.Trees.{StandInOrder}
+use Rattle.c_printer.specs.Reading.{read_text}
+
+-- trees that run the kernel at these parameters: they visit each walked instance once; of two places of the walk that
+-- conflict, the earlier one's instance first; at each execution of a parallel loop, instances of two iterations do not
+-- conflict; and in whichever order these are interleaved, the arrays are those of the source's own execution
+pub record RunKernel (program : Program) (params : List ℤ) (ts : Trees) : Type 0 where
+  pub once : IsOrderOf (visits ts params) (walked program params)
+  pub in_order : (i j : ℕ) (c : PlacesConflict (walk_of program params) i j)
+      → StandInOrder (visits ts params) (instance c.earlier) (instance c.later)
+  pub free : AreFree (Conflict program params) ts params []
+  pub arrays : (contents : List (List ℕ)) (run : List Visit) (order : List Walked) → IsInside program params
+      → IsShaped (layout program params) contents → MayRunAll ts params [] run
+      → AreVisitsOf program params (map given run) order
+      → performed_all (layout program params) contents order ≡ exec program params contents
+
+-- the text is read as trees that run the kernel at all parameters in 0..=65536
+pub record RunsKernel (program : Program) (text : List ℕ) : Type 0 where
+  pub trees : Trees
+  pub read : read_text program text ≡ Some trees
+  pub runs : (params : List ℤ) → HasParameters program params → RunKernel program params trees
