@@ -5,8 +5,10 @@
 
 pub mod loop_trees;
 pub mod pairs;
+pub mod plans;
 pub mod posed_sets;
 pub mod runs;
+pub mod scans;
 pub mod schedules;
 pub mod sources;
 pub mod tiles;

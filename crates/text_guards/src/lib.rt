@@ -7,6 +7,8 @@
 pub mod arithmetic;
 pub mod expressions;
 pub mod forms;
+pub mod meanings;
+pub mod names;
 pub mod printed;
 pub mod quasts;
 pub mod statuses;

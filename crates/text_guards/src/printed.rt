@@ -1,6 +1,6 @@
 //! Callers of the text of loop trees: the call, and the laws at empty trees and in kernels without parameters.
 ghost use Rattle.std.specs.Prelude.{◌≡◌, ◌↔◌, ◌∷◌, ◌<◌, ◌^◌, [], ◌-ℤ◌, ◌*ℤ◌, ℕ, ℤ, IfOk, List, None, Some, length, pos};
-ghost use Rattle.std.specs.Prelude.{slice_get, true};
+ghost use Rattle.std.specs.Prelude.{option_map, slice_get, true};
 ghost use Rattle.whole_numbers.specs.Affine.{Affine, value_of, values_of};
 ghost use Rattle.whole_numbers.specs.Floor.{ceiling, floor};
 ghost use Rattle.scop_lexer.specs.Bytes.{Text};
@@ -22,8 +22,8 @@ ghost use Rattle.c_printer.specs.Standings.{heads_in};
 
 use c_printer::{
     kernels_tell_their_names_apart, print, printed_divisions_are_those_of_the_tree,
-    printed_iterators_are_the_source_s, printed_trees_are_read_back, texts_are_of_one_tree,
-    the_functions_of_a_text_round_and_choose, unread_texts_are_of_no_tree,
+    printed_iterators_are_the_source_s, printed_trees_are_read_back, read_back,
+    texts_are_of_one_tree, the_functions_of_a_text_round_and_choose, unread_texts_are_of_no_tree,
 };
 use loop_tree::Tree;
 use scop_syntax::tree::Kernel;
@@ -34,6 +34,18 @@ pub fn text_of_a_tree(alloc: Global, kernel: &Kernel, tree: &Tree) -> Result<Vec
     ensures { IfOk result (λ text. trees_in tree.now ≡ none → text.items ≡ text_of (program_of kernel.now) none) }
 {
     print(alloc, kernel, tree)
+}
+
+/// Of a text that is not read no tree is read back, by the clause of `read_back`.
+pub fn tree_of_a_text(
+    alloc: Global,
+    kernel: &Kernel,
+    text: &[u8],
+) -> Result<Option<Tree>, AllocError>
+    ensures { IfOk result (λ read. read_text (program_of kernel.now) text.now ≡ None
+        → option_map trees_in read ≡ None) }
+{
+    read_back(alloc, kernel, text)
 }
 
 /// The text of an empty tree is read, by the clause of `printed_trees_are_read_back`.

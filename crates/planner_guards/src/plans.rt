@@ -1,0 +1,57 @@
+//! Callers of the trees of plans: that of the source's own order, and the laws in kernels without parameters.
+ghost use Rattle.std.specs.Prelude.{◌≡◌, ℕ, [], IfOk, List, map};
+ghost use Rattle.scop_syntax.specs.Cells.{PlacesConflict};
+ghost use Rattle.scop_syntax.specs.Execution.{IsInside, IsShaped, exec, layout, performed_all};
+ghost use Rattle.scop_syntax.specs.Kernel.{IsKernel};
+ghost use Rattle.scop_syntax.specs.Limits.{HasParameters};
+ghost use Rattle.scop_syntax.specs.Tree.{Program, none as nothing};
+ghost use Rattle.scop_syntax.specs.View.{program_of};
+ghost use Rattle.scop_syntax.specs.Walk.{Visit as Walked, instance, walk_of};
+ghost use Rattle.conflict_orders.specs.Orders.{IsOrderOf};
+ghost use Rattle.loop_tree.specs.Plans.{CarryOut, walked};
+ghost use Rattle.loop_tree.specs.Runs.{MayRunAll};
+ghost use Rattle.loop_tree.specs.Tiling.{Tiling, kept};
+ghost use Rattle.loop_tree.specs.Tree.{Trees, none};
+ghost use Rattle.loop_tree.specs.View.{trees_in};
+ghost use Rattle.loop_tree.specs.Walk.{Visit, given, visits, walk_all};
+ghost use Rattle.plan_tree.specs.Executions.{AreVisitsOf};
+ghost use Rattle.plan_tree.specs.Trees.{AreTreesOf, StandInOrder};
+
+use loop_tree::Tree;
+use plan_tree::laws;
+use scop_syntax::tree::Kernel;
+use std::alloc::{AllocError, Global};
+
+/// The tree of the own order of a kernel without items is empty, by `own` of `source_tree`.
+pub fn kept_tree(alloc: Global, kernel: &Kernel) -> Result<Tree, AllocError>
+    requires { IsKernel (program_of kernel.now) }
+    ensures { IfOk result (λ t. (program_of kernel.now).body ≡ nothing → trees_in t ≡ none) }
+{
+    plan_tree::source_tree(alloc, kernel)
+}
+
+/// Trees of the source's order visit conflicting places as they are, by the clause of `trees_keep_conflicts_in_order`.
+pub fn trees_of_the_source_keep_conflicts_in_order()
+    ensures { (program : Program) (ts : Trees) → CarryOut program [] kept ts → (i j : ℕ)
+        (c : PlacesConflict (walk_of program []) i j)
+        → StandInOrder (visits ts []) (instance c.earlier) (instance c.later) }
+{
+    laws::trees_keep_conflicts_in_order();
+}
+
+/// Runs of trees without parameters, by the clauses of `loops_end_as_the_source_does` of these names.
+pub fn loops_without_parameters()
+    ensures ends { (program : Program) (plan : Tiling) (ts : Trees) (contents : List (List ℕ)) (run : List Visit)
+        (order : List Walked) → AreTreesOf program plan ts → HasParameters program [] → IsInside program []
+        → IsShaped (layout program []) contents → MayRunAll ts [] [] run
+        → AreVisitsOf program [] (map given run) order
+        → performed_all (layout program []) contents order ≡ exec program [] contents }
+    ensures visits { (program : Program) (plan : Tiling) (ts : Trees) (run : List Visit) → AreTreesOf program plan ts
+        → HasParameters program [] → MayRunAll ts [] [] run
+        → (order : List Walked) × AreVisitsOf program [] (map given run) order }
+    ensures once { (program : Program) (plan : Tiling) (ts : Trees) (run : List Visit) → AreTreesOf program plan ts
+        → HasParameters program [] → MayRunAll ts [] [] run → IsOrderOf (map given run) (walked program []) }
+    ensures walk { (ts : Trees) → MayRunAll ts [] [] (walk_all ts [] []) }
+{
+    laws::loops_end_as_the_source_does();
+}
