@@ -7,8 +7,8 @@ set -eu
 root=$(CDPATH= cd -- "$(dirname -- "$0")/.." && pwd)
 rounds=${1:-5}
 [ $# -eq 0 ] || shift
-[ $# -ne 0 ] || set -- "$root"/examples/*.c
+[ $# -ne 0 ] || set -- $(ls "$root"/examples/*.c | grep -v "\.emit\.c$")
 work=$(mktemp -d)
 trap 'rm -rf "$work"' EXIT
 "$root/polypar" schedule <"$root/examples/copy.c" >/dev/null
-python3 -B "$root/bench/schedule.py" "$root/crates/polypar_main/out/polypar_main" "$work" "$rounds" "$@"
+python3 -B "$root/bench/planning.py" schedule "$root/crates/polypar_main/out/polypar_main" "$work" "$rounds" "$@"

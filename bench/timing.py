@@ -31,19 +31,19 @@ def measured(command, source=os.devnull, errors=None):
     return usage.ru_utime + usage.ru_stime, usage.ru_maxrss * 1024, child.returncode, printed
 
 
-def one_run(command, source=os.devnull):
+def one_run(command, source=os.devnull, errors=None):
     """Runs a command on a file; its processor time in seconds, and what it printed."""
-    seconds, _, status, printed = measured(command, source)
+    seconds, _, status, printed = measured(command, source, errors)
     if status != 0:
         sys.exit(f"{command[0]} ended with status {status}")
     return seconds, printed
 
 
-def shortest(commands, rounds, source=os.devnull):
+def shortest(commands, rounds, source=os.devnull, errors=None):
     """The shortest processor time of each of the named commands, and what each printed."""
     times, printed = {}, {}
     for _ in range(rounds):
         for name, command in commands.items():
-            seconds, printed[name] = one_run(command, source)
+            seconds, printed[name] = one_run(command, source, errors)
             times[name] = min(seconds, times.get(name, seconds))
     return times, printed

@@ -1,6 +1,6 @@
 #!/bin/sh
-# Runs each kernel of examples/ and compares what it prints with the arrays beside it, and its schedule and the sources
-# of its reads with those beside it; looks that the stored calls of crates/command_cases have each of these files, byte
+# Runs each kernel of examples/ and compares what it prints with the arrays beside it, and its schedule, the sources of
+# its reads and its emitted text with those beside it, which are compiled and run where there is a compiler; looks that the stored calls of crates/command_cases have each of these files, byte
 # for byte; and that a process ends with each exit status that its streams can be brought to give.
 set -u
 root=$(CDPATH= cd -- "$(dirname -- "$0")/.." && pwd)
@@ -17,16 +17,25 @@ compare() {
     fi
 }
 
-for kernel in "$root"/examples/*.c; do
+kernels=$(ls "$root"/examples/*.c | grep -v '\.emit\.c$')
+for kernel in $kernels; do
     compare run "$kernel" "${kernel%.c}.out"
     compare schedule "$kernel" "${kernel%.c}.schedule"
     compare deps "$kernel" "${kernel%.c}.deps"
+    compare emit "$kernel" "${kernel%.c}.emit.c"
     python3 -c 'import sys; sys.exit(open(sys.argv[1], "rb").read() not in open(sys.argv[2], "rb").read())' \
         "$kernel" "$root/crates/command_cases/stdin" || {
         failed=$((failed + 1))
         echo "$kernel is not among the stored calls"
     }
 done
+
+# The emitted texts, compiled without a word and run, give the arrays.
+if python3 -B "$root/tests/emitted.py" $kernels; then
+    passed=$((passed + 1))
+else
+    failed=$((failed + 1))
+fi
 
 # Whether `polypar` with the words behind $3, on the text $3, ends with status $1 and says $2.
 expect() {
@@ -46,6 +55,7 @@ copy='void c(int64_t N, uint64_t A[N]) { for (int64_t i = 0; i < N; i++) A[i] = 
 expect 1 'usage: ' '' walk
 expect 1 'usage: ' '' schedule --budget 0
 expect 1 'usage: ' '' deps --budget 20001
+expect 1 'usage: ' '' emit --tile 1025
 expect 2 'refused: Unended 1:7' 'void c' run
 expect 3 'data: Missing N' "$copy" run
 expect 4 'outside: S1 access 1 dimension 1 value 1 extent 1' "${copy}N = 1\n" run

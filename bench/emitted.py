@@ -1,0 +1,109 @@
+"""Times what `polypar emit` prints against the kernel's own text and compilers' polyhedral passes. Called by emitted.sh.
+
+usage: emitted.py PROGRAM FOLDER ROUNDS TILE FILE..
+"""
+
+import os
+import subprocess
+import sys
+
+from harness import arrays_of, built, call_of, declarations
+from kernel_texts import kernel_of
+from timing import rounds_of
+
+# Parameters within the limits of the language, and how many times a kernel runs with them: its own text for about a
+# second.
+SIZES = {
+    "convolution": ({"H": 1200, "W": 1200, "K": 24}, 1),
+    "copy": ({"N": 60000}, 20000),
+    "even": ({"N": 30000}, 10000),
+    "fir": ({"N": 60000, "K": 20000}, 1),
+    "jacobi": ({"T": 120, "N": 2000}, 1),
+    "lu": ({"N": 1400}, 1),
+    "prefix": ({"N": 60000}, 10000),
+    "product": ({"N": 900}, 1),
+    "seidel": ({"T": 30000, "N": 30000}, 1),
+    "solve": ({"N": 8000}, 8),
+    "transpose": ({"N": 8000}, 6),
+    "warshall": ({"N": 1200}, 1),
+}
+
+THREADS = 4
+
+MAIN = """
+#include <stdio.h>
+#include <stdlib.h>
+#include <time.h>
+int main(void) {
+  struct timespec begin, end;
+  uint64_t sum = 0;
+%(declared)s
+%(filled)s
+  clock_gettime(CLOCK_MONOTONIC, &begin);
+  for (int k = 0; k < %(runs)d; k++) %(call)s
+  clock_gettime(CLOCK_MONOTONIC, &end);
+%(summed)s
+  printf("%%.6f %%016llx\\n", (double)(end.tv_sec - begin.tv_sec) + (double)(end.tv_nsec - begin.tv_nsec) / 1e9,
+         (unsigned long long)sum);
+}
+"""
+
+
+def program_of(text, kernel, sizes, runs):
+    """A C program that runs a text of the kernel so often, and prints its seconds and a sum of its cells."""
+    each = [(f"  for (size_t k = 0; k < {cells}; k++)", name) for name, cells in arrays_of(kernel)]
+    parts = {
+        "declared": "\n".join(declarations(kernel, sizes)),
+        "filled": "\n".join(f"{loop} {name}[k] = (k + 1) * 11400714819323198485ULL;" for loop, name in each),
+        "runs": runs,
+        "call": call_of(kernel),
+        "summed": "\n".join(f"{loop} sum = sum * 31 + {name}[k];" for loop, name in each),
+    }
+    return text + MAIN % parts
+
+
+def timed(program):
+    """The seconds of one run, and the sum of its cells."""
+    environment = dict(os.environ, OMP_NUM_THREADS=str(THREADS))
+    seconds, cells = subprocess.run([program], capture_output=True, check=True, env=environment).stdout.split()
+    return float(seconds), cells
+
+
+COMPILERS = {
+    "own": ["gcc", "-O2"],
+    "graphite": ["gcc", "-O2", "-floop-nest-optimize", "-floop-parallelize-all", f"-ftree-parallelize-loops={THREADS}"],
+    "polly": ["clang", "-O3", "-mllvm", "-polly", "-mllvm", "-polly-parallel", "-lgomp"],
+    "emitted": ["gcc", "-O2", "-fopenmp"],
+    "serial": ["gcc", "-O2"],
+}
+
+
+def main():
+    program, folder, rounds, tile, *files = sys.argv[1:]
+    for file in files:
+        name = os.path.splitext(os.path.basename(file))[0]
+        if name not in SIZES:
+            sys.exit(f"no sizes are known for {name}")
+        kernel = kernel_of(file)
+        with open(file, encoding="utf-8") as source:
+            emitted = subprocess.run([program, "emit", "--tile", tile], stdin=source, capture_output=True, check=True)
+        texts = {"emitted": emitted.stdout.decode(), "serial": emitted.stdout.decode()}
+        times, sums = {}, {}
+        programs = {}
+        for way, compiler in COMPILERS.items():
+            text = program_of(texts.get(way, "#include <stdint.h>\n" + kernel), kernel, *SIZES[name])
+            made, _ = built(folder, f"{name}_{way}", text, [*compiler, "-w"])
+            if made is not None:
+                programs[way] = made
+        for _ in range(rounds_of([rounds], 5)):
+            for way, made in programs.items():
+                seconds, sums[way] = timed(made)
+                times[way] = min(seconds, times.get(way, seconds))
+        if len(set(sums.values())) != 1:
+            sys.exit(f"{name}: the programs end with different cells: {sums}")
+        line = "  ".join(f"{way} {1000 * seconds:8.1f}" for way, seconds in times.items())
+        kept = emitted.stderr.decode().strip()
+        print(f"{name:12} {line}  emitted/own {times['emitted'] / times['own']:5.2f}  {kept}", flush=True)
+
+
+main()

@@ -1,0 +1,17 @@
+#!/bin/sh
+# Times what `polypar emit` prints of kernels, those of examples/ where none is given, at sizes of about a second: under
+# gcc -O2 -fopenmp with four threads (emitted) and without OpenMP (serial), beside the kernel's own text under gcc -O2
+# (own), under gcc's polyhedral passes (graphite) and, where clang has Polly, under Polly, in one run. Prints of each
+# kernel the shortest milliseconds of each, and the ratio of the emitted text's to its own; all end with the same cells.
+# usage: bench/emitted.sh [ROUNDS [TILE [FILE..]]], at least 5 rounds
+set -eu
+root=$(CDPATH= cd -- "$(dirname -- "$0")/.." && pwd)
+rounds=${1:-5}
+[ $# -eq 0 ] || shift
+tile=${1:-32}
+[ $# -eq 0 ] || shift
+[ $# -ne 0 ] || set -- $(ls "$root"/examples/*.c | grep -v "\.emit\.c$")
+work=$(mktemp -d)
+trap 'rm -rf "$work"' EXIT
+"$root/polypar" emit <"$root/examples/copy.c" >/dev/null
+python3 -B "$root/bench/emitted.py" "$root/crates/polypar_main/out/polypar_main" "$work" "$rounds" "$tile" "$@"

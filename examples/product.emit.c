@@ -1,0 +1,21 @@
+#include <stdint.h>
+static int64_t pp_floord(int64_t n, int64_t d) { return n < 0 ? -((-n + d - 1) / d) : n / d; }
+static int64_t pp_ceild(int64_t n, int64_t d) { return n < 0 ? -((-n) / d) : (n + d - 1) / d; }
+static int64_t pp_max(int64_t a, int64_t b) { return a > b ? a : b; }
+static int64_t pp_min(int64_t a, int64_t b) { return a < b ? a : b; }
+void product(int64_t N, uint64_t A[N][N], uint64_t B[N][N], uint64_t C[N][N]) {
+  for (int64_t pp_1 = 0; pp_1 <= pp_floord(N - 1, 32); pp_1++) {
+    #pragma omp parallel for
+    for (int64_t pp_2 = 0; pp_2 <= pp_floord(N - 1, 32); pp_2++) {
+      for (int64_t pp_3 = 0; pp_3 <= pp_floord(N - 1, 32); pp_3++) {
+        for (int64_t pp_4 = 32*pp_2; pp_4 <= pp_min(N - 1, 32*pp_2 + 31); pp_4++) {
+          for (int64_t pp_5 = 32*pp_3; pp_5 <= pp_min(N - 1, 32*pp_3 + 31); pp_5++) {
+            for (int64_t pp_6 = 32*pp_1; pp_6 <= pp_min(N - 1, 32*pp_1 + 31); pp_6++) {
+              { /* S1 */ const int64_t i = pp_4; const int64_t j = pp_5; const int64_t k = pp_6; C[i][j] += (A[i][k] * B[k][j]); }
+            }
+          }
+        }
+      }
+    }
+  }
+}

@@ -1,0 +1,19 @@
+#include <stdint.h>
+static int64_t pp_floord(int64_t n, int64_t d) { return n < 0 ? -((-n + d - 1) / d) : n / d; }
+static int64_t pp_ceild(int64_t n, int64_t d) { return n < 0 ? -((-n) / d) : (n + d - 1) / d; }
+static int64_t pp_max(int64_t a, int64_t b) { return a > b ? a : b; }
+static int64_t pp_min(int64_t a, int64_t b) { return a < b ? a : b; }
+void warshall(int64_t N, uint64_t reaches[N][N]) {
+  for (int64_t pp_1 = 0; pp_1 <= pp_floord(N - 1, 32); pp_1++) {
+    #pragma omp parallel for
+    for (int64_t pp_2 = pp_1; pp_2 <= pp_1; pp_2++) {
+      for (int64_t pp_3 = 32*pp_2; pp_3 <= pp_min(N - 1, 32*pp_2 + 31); pp_3++) {
+        for (int64_t pp_4 = 0; pp_4 <= N - 1; pp_4++) {
+          for (int64_t pp_5 = 0; pp_5 <= N - 1; pp_5++) {
+            { /* S1 */ const int64_t k = pp_3; const int64_t i = pp_4; const int64_t j = pp_5; reaches[i][j] |= (reaches[i][k] & reaches[k][j]); }
+          }
+        }
+      }
+    }
+  }
+}
