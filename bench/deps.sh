@@ -8,7 +8,7 @@ set -eu
 root=$(CDPATH= cd -- "$(dirname -- "$0")/.." && pwd)
 rounds=${1:-5}
 [ $# -eq 0 ] || shift
-[ $# -ne 0 ] || set -- $(ls "$root"/examples/*.c | grep -v "\.emit\.c$")
+[ $# -ne 0 ] || . "$root/bench/example_kernels.sh"
 work=$(mktemp -d)
 trap 'rm -rf "$work"' EXIT
 "$root/polypar" deps <"$root/examples/copy.c" >/dev/null

@@ -10,7 +10,7 @@ rounds=${1:-5}
 [ $# -eq 0 ] || shift
 tile=${1:-32}
 [ $# -eq 0 ] || shift
-[ $# -ne 0 ] || set -- $(ls "$root"/examples/*.c | grep -v "\.emit\.c$")
+[ $# -ne 0 ] || . "$root/bench/example_kernels.sh"
 work=$(mktemp -d)
 trap 'rm -rf "$work"' EXIT
 "$root/polypar" emit <"$root/examples/copy.c" >/dev/null

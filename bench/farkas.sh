@@ -9,7 +9,7 @@ set -eu
 root=$(CDPATH= cd -- "$(dirname -- "$0")/.." && pwd)
 rounds=${1:-5}
 [ $# -eq 0 ] || shift
-[ $# -ne 0 ] || set -- $(ls "$root"/examples/*.c | grep -v "\.emit\.c$")
+[ $# -ne 0 ] || . "$root/bench/example_kernels.sh"
 work=$(mktemp -d)
 trap 'rm -rf "$work"' EXIT
 (cd "$root/crates/bench_cases" && rt run -- conflicts 1 <stdin >/dev/null 2>"$work/log" &&

@@ -17,8 +17,8 @@ compare() {
     fi
 }
 
-kernels=$(ls "$root"/examples/*.c | grep -v '\.emit\.c$')
-for kernel in $kernels; do
+. "$root/bench/example_kernels.sh"
+for kernel in "$@"; do
     compare run "$kernel" "${kernel%.c}.out"
     compare schedule "$kernel" "${kernel%.c}.schedule"
     compare deps "$kernel" "${kernel%.c}.deps"
@@ -31,7 +31,7 @@ for kernel in $kernels; do
 done
 
 # The emitted texts, compiled without a word and run, give the arrays.
-if python3 -B "$root/tests/emitted.py" $kernels; then
+if python3 -B "$root/tests/emitted.py" "$@"; then
     passed=$((passed + 1))
 else
     failed=$((failed + 1))
