@@ -10,7 +10,6 @@ use Rattle.scop_syntax.specs.Members.{In}
 use Rattle.scop_syntax.specs.Statements.{Scope, round, under, Placed, statements_of, Runs, visit_of}
 use Rattle.scop_syntax.specs.Tree.{Program}
 use Rattle.scop_syntax.specs.Walk.{Visit, walk_of, instance}
-use Rattle.scop_syntax.proofs.Members.{in_from_place}
 use Rattle.iteration_domains.specs.Dependence.{Dependence}
 use Rattle.iteration_domains.specs.Model.{Modelled, KernelModel, model_of}
 use Rattle.iteration_domains.specs.Sizes.{IsKernelModel}
@@ -42,10 +41,10 @@ turns_run (round head ∷ scopes) point [] h = absurd h
 turns_run (round head ∷ scopes) point (x ∷ xs) h = All-cons (λ x. pos 0 ≤ℤ x) x xs h.0 (turns_run scopes _ xs h.2)
 
 -- no turn of an instance is negative
-pub turns_from_0 : (program : Program) (params : List ℤ) (i : ℕ) (v : Visit) → AreRuns program params
-    → slice_get (walk_of program params) i ≡ Some v → AreNotNegative v.turns
-turns_from_0 program params i v found h =
-    let f = found v (in_from_place (walk_of program params) i v h) in
+pub turns_from_0 : (program : Program) (params : List ℤ) (v : Visit) → AreRuns program params
+    → In v (walk_of program params) → AreNotNegative v.turns
+turns_from_0 program params v found h =
+    let f = found v h in
     subst AreNotNegative (sym (ap (λ (z : Visit). z.turns) f.4)) (turns_run f.0.scopes params f.1 f.3)
 
 -- the model of a kernel

@@ -1,13 +1,18 @@
 -- The points of a statement's scan set against the instances of the walk.
 use Rattle.std.proofs.Common.{◌≡◌, ℕ, ◌+◌, ◌-◌, ◌≤◌, ℤ, pos, List, [], ◌∷◌, ◌++◌, refl, sym, ◌∙◌, ap, ap₂}
 use Rattle.std.proofs.Common.{subst, arith, length, map, take, drop}
-use Rattle.std.specs.Prelude.{◌<ℤ◌}
+use Rattle.std.specs.Prelude.{◌≤ℤ◌, ◌<ℤ◌}
+use Rattle.std.proofs.lemmas.Int.{ints}
 use Rattle.std.proofs.lemmas.List.{append_assoc, length-append, length-map, length-drop, length-take-le}
 use Rattle.std.proofs.lemmas.List.{take-append-drop}
+use Rattle.std.proofs.lemmas.List.Elements.{All-weaker}
 use Rattle.whole_numbers.specs.Affine.{value_of}
 use Rattle.whole_numbers.specs.Floor.{floor}
-use Rattle.whole_numbers.specs.Lists.{zeros}
+use Rattle.whole_numbers.specs.Lists.{zeros, NotNegative}
 use Rattle.whole_numbers.proofs.Dot.{length-zeros}
+use Rattle.whole_numbers.proofs.Floors.{floor_greatest, floor_is}
+use Rattle.whole_numbers.proofs.Lists.{dot_not_negative, not_negative_all}
+use Rattle.whole_numbers.proofs.Ring.{mul_zero_left}
 use Rattle.integer_sets.specs.Points.{Satisfies}
 use Rattle.scop_syntax.specs.Members.{In}
 use Rattle.scop_syntax.proofs.Members.{place_of as place_in}
@@ -16,14 +21,14 @@ use Rattle.iteration_domains.specs.Model.{Modelled, KernelModel}
 use Rattle.iteration_domains.specs.Sizes.{IsKernelModel}
 use Rattle.loop_tree.specs.Tiling.{TileRow, Item, row, scalar as number, Items, item_values, item_value, coordinates}
 use Rattle.loop_tree.specs.Tiling.{wave_sum}
-use Rattle.schedule_rows.specs.Items.{Marked, Block, scalar, band}
+use Rattle.schedule_rows.specs.Items.{Marked, Block, scalar, band, part_of}
 use Rattle.schedule_rows.specs.Posed.{loops_of}
 use Rattle.schedule_rows.specs.Schedule.{loops_in}
-use Rattle.schedule_rows.specs.Sized.{AreSizedRows, AreSized}
+use Rattle.schedule_rows.specs.Sized.{IsSmall, AreSizedRows, AreSized}
 use Rattle.tile_skew.specs.Places.{before_iterators, place_of}
 use Rattle.tile_skew.specs.declared.layout.Layout.{Layout}
 use Rattle.tile_skew.specs.ScanSets.{count_of, front_of, points_of}
-use Rattle.tile_skew.specs.Tilings.{rows_at, row_items, block_items, first_band_at, behind_at, statement_items}
+use Rattle.tile_skew.specs.Tilings.{form_at, rows_at, row_items, block_items, first_band_at, behind_at, statement_items}
 use Rattle.tile_skew.specs.steps.Sizes.{AreRowsOver, AreItemsOver, AreOver}
 use Rattle.tile_skew.proofs.Conflicting.{loops_at}
 use Rattle.tile_skew.proofs.Points.{Parts, Says, point, point_from, point_to}
@@ -123,9 +128,9 @@ from_point l size n m s xs ps h p over e holds =
 -- a place is a point
 pub to_point : (l : Layout) (size : ℤ) (n : ℕ) (m : Modelled) (s : Items) (ts ps : List ℤ) → pos 0 <ℤ size
     → length ts ≡ l.turns → length ps ≡ l.parameters → l.front ≡ front_of s → l.missing ≡ n - length ts
-    → AreOver (length ts) s → Satisfies m.domain (ts ++ ps)
+    → AreOver (length ts) s → NotNegative (coordinates size s.band ts) → Satisfies m.domain (ts ++ ps)
     → Satisfies (points_of l size m s) (place_of size n s ts ++ ps)
-to_point l size n m s ts ps h t p f e over holds =
+to_point l size n m s ts ps h t p f e over up holds =
     let hs = map pos s.leading ++ wave_sum size s.band ts ∷ [] in
     let bs = coordinates size s.band ts in
     let cs = item_values s ts in
@@ -159,7 +164,7 @@ to_point l size n m s ts ps h t p f e over holds =
     let place : place_of size n s ts ++ ps ≡ point hs bs cs ts zs ps =
     behind_point (before_iterators size s ts) ts zs ps
     ∙ ap (λ (us : List ℤ). us ++ (ts ++ (zs ++ ps))) (sym (told size s ts)) in
-    subst (Satisfies (points_of l size m s)) (sym place) (point_to l size m s hs bs cs ts zs ps h parts over says)
+    subst (Satisfies (points_of l size m s)) (sym place) (point_to l size m s hs bs cs ts zs ps h parts over up says)
 
 -- the rows of sized blocks have a coefficient for each loop
 rows_over : (loops : List ℕ) (ms : List Marked) (k : ℕ) → AreSizedRows loops ms
@@ -203,6 +208,29 @@ behind_over loops (band (m ∷ ms) ∷ bs) k a = items_over loops bs k a.1
 pub statement_over : (loops : List ℕ) (bs : List Block) (k : ℕ) → AreSized loops bs
     → AreOver (loops_of loops k) (statement_items bs k)
 statement_over loops bs k a = record { band = first_over loops bs k a; behind = behind_over loops bs k a }
+
+-- rows of sized blocks have no negative coordinates at turns from 0 on
+coordinates_from_0 : (loops : List ℕ) (size : ℤ) (ms : List Marked) (k : ℕ) (ts : List ℤ) → pos 0 <ℤ size
+    → NotNegative ts → AreSizedRows loops ms → NotNegative (coordinates size (rows_at ms k) ts)
+coordinates_from_0 loops size [] k ts h up a = tt
+coordinates_from_0 loops size (m ∷ ms) k ts h up a =
+    let cs = (part_of m.row k).coefficients in
+    let r = value_of (form_at m.row k) ts in
+    let small = All-weaker IsSmall (λ c. pos 0 ≤ℤ c) (λ c s. s.0) cs (a.0.coefficients k) in
+    let own = dot_not_negative cs ts ((not_negative_all cs).1 small) up in
+    let shift = (a.0.shift k).0 in
+    let none = mul_zero_left size in
+    (
+      floor_greatest r size (floor r size) (pos 0) h (floor_is r size h) (omega (arith, ints)),
+      coordinates_from_0 loops size ms k ts h up a.1,
+    )
+
+pub first_from_0 : (loops : List ℕ) (size : ℤ) (bs : List Block) (k : ℕ) (ts : List ℤ) → pos 0 <ℤ size
+    → NotNegative ts → AreSized loops bs → NotNegative (coordinates size (first_band_at bs k) ts)
+first_from_0 loops size [] k ts h up a = tt
+first_from_0 loops size (scalar numbers ∷ bs) k ts h up a = first_from_0 loops size bs k ts h up a.1
+first_from_0 loops size (band [] ∷ bs) k ts h up a = absurd a.0
+first_from_0 loops size (band (m ∷ ms) ∷ bs) k ts h up a = coordinates_from_0 loops size (m ∷ ms) k ts h up a.0
 
 -- a statement of a model has its number of loops in the list of them
 pub loops_are : (model : KernelModel) (s : Modelled) → IsKernelModel model → In s model.statements

@@ -6,7 +6,7 @@ use Rattle.std.proofs.lemmas.List.{append_assoc, length-append, length-map}
 use Rattle.std.proofs.lemmas.List.{map-append}
 use Rattle.std.proofs.lemmas.List.Elements.{All-nil, All-cons, All-head, All-tail, All-append}
 use Rattle.whole_numbers.specs.Affine.{Affine, value_of, values_of}
-use Rattle.whole_numbers.specs.Lists.{zeros}
+use Rattle.whole_numbers.specs.Lists.{zeros, NotNegative}
 use Rattle.integer_sets.specs.Points.{Satisfies}
 use Rattle.iteration_domains.specs.Model.{Modelled}
 use Rattle.iteration_domains.specs.Rows.{variable, variables}
@@ -255,9 +255,9 @@ point_from l size m s hs bs cs ts zs ps h p over holds =
     }
 
 pub point_to : (l : Layout) (size : ℤ) (m : Modelled) (s : Items) (hs bs cs ts zs ps : List ℤ) → pos 0 <ℤ size
-    → Parts l s hs bs cs ts zs ps → AreOver (length ts) s → Says size m s hs bs cs ts zs ps
-    → Satisfies (points_of l size m s) (point hs bs cs ts zs ps)
-point_to l size m s hs bs cs ts zs ps h p over says =
+    → Parts l s hs bs cs ts zs ps → AreOver (length ts) s → NotNegative (coordinates size s.band ts)
+    → Says size m s hs bs cs ts zs ps → Satisfies (points_of l size m s) (point hs bs cs ts zs ps)
+point_to l size m s hs bs cs ts zs ps h p over up says =
     let x = point hs bs cs ts zs ps in
     let fs = hs ++ (bs ++ cs) in
     let r = ts ++ (zs ++ ps) in
@@ -292,7 +292,7 @@ point_to l size m s hs bs cs ts zs ps h p over says =
     let third = zero_to (width l) (l.front + l.turns) l.missing x (omega arith) (omega arith)
     (segment (fs ++ ts) zs ps x (l.front + l.turns) l.missing (at_missing fs ts zs ps) last z
     ∙ (says.missing ∙ ap zeros z)) in
-    let fourth = coordinates_to l size j s.band x ts h (omega arith) (omega arith) agree
+    let fourth = coordinates_to l size j s.band x ts h (omega arith) (omega arith) agree up
     (segment hs bs (cs ++ r) x j (length s.band) (at_tiles hs bs cs r) w t ∙ says.tiles) in (
       All-append E own (waves ++ (items ++ missing))
           (domain_to l (λ v. v ≡ pos 0) m.domain.equalities fs ts zs ps size_f u z says.domain.0)

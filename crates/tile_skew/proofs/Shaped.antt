@@ -17,7 +17,8 @@ use Rattle.loop_tree.specs.declared.tiling.TileItem.TheVariants as code_item
 use Rattle.tile_skew.specs.declared.layout.Layout.{Layout}
 use Rattle.tile_skew.specs.steps.Sizes.{FitsTurns, FitsItem}
 use Rattle.tile_skew.specs.ScanSets.{width, domain_form, row_form, number_form, item_form, carried_form, have_values}
-use Rattle.tile_skew.specs.ScanSets.{tile_begins, tile_ends, are_coordinates, front_of, dimension_equalities}
+use Rattle.tile_skew.specs.ScanSets.{tile_begins, are_coordinates, front_of, dimension_equalities}
+use Rattle.tile_skew.proofs.Valued.{one_coordinate}
 use Rattle.tile_skew.proofs.Widths.{length-row, length-number, length-carried_form, length-end, end_form}
 
 abbrev pub Over : Layout → Affine → Type 0
@@ -124,11 +125,12 @@ coordinates_over l z j [] h = All-nil (Over l)
 coordinates_over l z j (r ∷ rs) h =
     let f = row_form l r.form in
     let own = length-row l r.form (All-head (λ (q : TileRow). FitsTurns l.turns q.form) r rs h).0 in
-    let rest = coordinates_over l z (suc j) rs (All-tail (λ (q : TileRow). FitsTurns l.turns q.form) r rs h) in
-    All-cons (Over l) (tile_begins l z j f) (tile_ends l z j f ∷ are_coordinates l z (suc j) rs)
-    (begins_one l z j f own)
-    (All-cons (Over l) (tile_ends l z j f) (are_coordinates l z (suc j) rs)
-    (length-difference (width l) (end_form l z j) f (length-end l z j) own) rest)
+    (one_coordinate (Over l) l z j r rs).1 (
+      length-variable (width l) j,
+      begins_one l z j f own,
+      length-difference (width l) (end_form l z j) f (length-end l z j) own,
+      coordinates_over l z (suc j) rs (All-tail (λ (q : TileRow). FitsTurns l.turns q.form) r rs h),
+    )
 
 -- a list put in two parts behind nothing
 pub two_over : (l : Layout) (none first second us vs : List Affine) → none ≡ [] → first ≡ none ++ us

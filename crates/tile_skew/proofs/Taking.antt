@@ -1,9 +1,8 @@
 -- A statement of a model, taken by its place.
-use Rattle.std.proofs.Common.{◌≡◌, ℕ, zero, suc, ◌<◌, ◌≤◌, List, [], ◌∷◌, sym, ap, arith, length, map, get_or}
+use Rattle.std.proofs.Common.{◌≡◌, ℕ, zero, suc, ◌<◌, ◌≤◌, List, [], ◌∷◌, sym, ap, arith, length, get_or}
 use Rattle.std.specs.Prelude.{slice_get, Some}
 use Rattle.scop_syntax.proofs.Members.{in_from_place}
 use Rattle.iteration_domains.specs.Model.{Modelled}
-use Rattle.schedule_rows.specs.Posed.{loops_of}
 use Rattle.tile_skew.specs.ScanSets.{most_iterators}
 use Rattle.tile_skew.proofs.Alike.{within_most}
 
@@ -17,9 +16,3 @@ found_there (t ∷ ss) (suc k) s h e = found_there ss k s (omega (arith, h)) e
 pub within_there : (ss : List Modelled) (k : ℕ) (s : Modelled) → k < length ss → s ≡ get_or ss k s
     → s.domain.dimensions ≤ most_iterators ss
 within_there ss k s h e = within_most ss s (in_from_place ss k s (found_there ss k s h e))
-
-pub loops_there : (ss : List Modelled) (k : ℕ) (s : Modelled) → k < length ss → s ≡ get_or ss k s
-    → loops_of (map (λ t. t.domain.dimensions) ss) k ≡ s.domain.dimensions
-loops_there [] k s h e = absurd (omega (arith, h))
-loops_there (t ∷ ss) zero s h e = ap (λ (z : Modelled). z.domain.dimensions) (sym e)
-loops_there (t ∷ ss) (suc k) s h e = loops_there ss k s (omega (arith, h)) e

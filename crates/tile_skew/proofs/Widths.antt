@@ -55,7 +55,7 @@ size-carried (r ∷ rs) = let more = size-carried rs in let one = entry r.carrie
     entry true = omega arith
     entry false = omega arith
 
-length-carried : (rows : List TileRow) → length (carried rows) ≡ length rows
+pub length-carried : (rows : List TileRow) → length (carried rows) ≡ length rows
 length-carried [] = refl
 length-carried (r ∷ rs) = ap suc (length-carried rs)
 

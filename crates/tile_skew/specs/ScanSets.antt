@@ -67,11 +67,11 @@ tile_ends l size j f =
     difference_of_forms
     (sum_of_forms (number_form l (size -ℤ pos 1)) (multiple_of_form size (variable (width l) j))) f
 
--- the dimensions from j on are the tile coordinates of the rows
+-- the dimensions from j on are the tile coordinates of the rows; a coordinate is not negative, as rows are not
 abbrev pub are_coordinates : Layout → ℤ → ℕ → List TileRow → List Affine
 are_coordinates l size j [] = []
 are_coordinates l size j (r ∷ rs) =
-    tile_begins l size j (row_form l r.form) ∷ tile_ends l size j (row_form l r.form)
+    variable (width l) j ∷ tile_begins l size j (row_form l r.form) ∷ tile_ends l size j (row_form l r.form)
     ∷ are_coordinates l size (suc j) rs
 
 -- all items as forms, in order

@@ -65,6 +65,7 @@ pub fn scan_sets_hold_the_instances()
         (place_of (pos size) n (statement_items blocks s.number) v.turns ++ params) }
 {
     domains_hold_the_instances();
+    instances_are_those_of_statements();
     statements_are_numbered();
 }
 

@@ -1,14 +1,16 @@
 use Rattle.std.proofs.Common.{◌-◌, pos, refl, sym, ◌∙◌, ap, subst, arith, length}
 use Rattle.std.specs.Prelude.{◌<ℤ◌}
 use Rattle.std.proofs.lemmas.Int.{ints}
+use Rattle.whole_numbers.proofs.Lists.{not_negative_all}
 use Rattle.iteration_domains.specs.Model.{model_of}
-use Rattle.tile_skew.proofs.Conflicting.{one_model}
+use Rattle.tile_skew.proofs.Conflicting.{one_model, turns_from_0}
 use Rattle.schedule_rows.specs.Schedule.{loops_in}
 use Rattle.tile_skew.specs.Places.{place_of}
 use Rattle.tile_skew.specs.ScanSets.{layout_of}
 use Rattle.tile_skew.specs.Tilings.{statement_items}
 use Rattle.tile_skew.specs.steps.Sizes.{AreOver}
-use Rattle.tile_skew.proofs.Instances.{parted, from_point, to_point, statement_over, loops_are, parameters_are}
+use Rattle.tile_skew.proofs.Instances.{parted, from_point, to_point, first_from_0, statement_over, loops_are}
+use Rattle.tile_skew.proofs.Instances.{parameters_are}
 use Rattle.tile_skew.proofs.laws.scan_sets_hold_the_instances.Goals as goal
 
 pub returns-clause-points : goal.returns-clause-points
@@ -42,4 +44,8 @@ returns-clause-instances c program blocks params size n s v kernel count positiv
     let over : AreOver (length v.turns) items =
     subst (λ k. AreOver k items) (loops ∙ sym own.0) (statement_over (loops_in model) blocks s.number sized) in
     let size_is : pos 0 <ℤ pos size = omega (arith, ints, positive) in
-    to_point l (pos size) n s items v.turns params size_is own.0 many refl (ap (λ k. n - k) (sym own.0)) over own.1
+    let runs = c.instances_are_those_of_statements.ensures.found program params in
+    let up = (not_negative_all v.turns).1 (turns_from_0 program params v runs is.walked) in
+    let tiles = first_from_0 (loops_in model) (pos size) blocks s.number v.turns size_is up sized in
+    to_point l (pos size) n s items v.turns params size_is own.0 many refl (ap (λ k. n - k) (sym own.0)) over tiles
+    own.1

@@ -2,8 +2,9 @@ use Rattle.std.proofs.Common.{◌≡◌, ◌<◌, pos, sym, subst, arith, length
 use Rattle.std.specs.Prelude.{◌<ℤ◌}
 use Rattle.std.proofs.lemmas.Int.{ints}
 use Rattle.std.proofs.lemmas.List.{length-map}
-use Rattle.scop_syntax.specs.Walk.{instance}
+use Rattle.scop_syntax.specs.Walk.{instance, walk_of}
 use Rattle.scop_syntax.specs.Members.{In}
+use Rattle.scop_syntax.proofs.Members.{in_from_place}
 use Rattle.iteration_domains.specs.Dependence.{Dependence}
 use Rattle.iteration_domains.specs.Model.{Modelled, model_of}
 use Rattle.conflict_deps.specs.Conflicts.{conflicts_of}
@@ -23,8 +24,9 @@ returns c program blocks params size kernel count range positive schedule i j p 
     let one = one_model program kernel (c.statements_are_numbered.ensures.same program)
     (c.statements_are_numbered.ensures.number program) in
     let runs = c.instances_are_those_of_statements.ensures.found program params in
-    let x = turns_from_0 program params i p.earlier runs p.is_earlier in
-    let y = turns_from_0 program params j p.later runs p.is_later in
+    let walk = walk_of program params in
+    let x = turns_from_0 program params p.earlier runs (in_from_place walk i p.earlier p.is_earlier) in
+    let y = turns_from_0 program params p.later runs (in_from_place walk j p.later p.is_later) in
     let d = found.0 in
     let pair = pair_of program params d p.earlier p.later p.first p.second range found.1 found.2 found.3 x y in
     let facts : WalkFacts program params = record {
