@@ -219,8 +219,7 @@ coordinates_from_0 loops size (m ∷ ms) k ts h up a =
     let small = All-weaker IsSmall (λ c. pos 0 ≤ℤ c) (λ c s. s.0) cs (a.0.coefficients k) in
     let own = dot_not_negative cs ts ((not_negative_all cs).1 small) up in
     let shift = (a.0.shift k).0 in
-    let none = mul_zero_left size in
-    (
+    let none = mul_zero_left size in (
       floor_greatest r size (floor r size) (pos 0) h (floor_is r size h) (omega (arith, ints)),
       coordinates_from_0 loops size ms k ts h up a.1,
     )

@@ -193,8 +193,7 @@ one_coordinate P l size j r rs =
     let rest = are_coordinates l size (suc j) rs in (
       λ a.
           let begins = All-tail P v (b ∷ e ∷ rest) a in
-          let ends = All-tail P b (e ∷ rest) begins in
-          (
+          let ends = All-tail P b (e ∷ rest) begins in (
             All-head P v (b ∷ e ∷ rest) a,
             All-head P b (e ∷ rest) begins,
             All-head P e rest ends,

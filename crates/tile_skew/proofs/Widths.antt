@@ -18,7 +18,7 @@ use Rattle.iteration_domains.proofs.Sizes.{size-zeros, size-sum, size-multiple, 
 use Rattle.loop_tree.specs.Tiling.{TileRow}
 use Rattle.schedule_rows.specs.Sized.{IsSmall}
 use Rattle.tile_skew.specs.declared.layout.Layout.{Layout}
-use Rattle.tile_skew.specs.steps.Sizes.{FitsTurns}
+use Rattle.tile_skew.specs.steps.Sizes.{FitsTurns, FitsWidth}
 use Rattle.tile_skew.specs.ScanSets.{width, row_form, number_form, carried, carried_form}
 
 pub size-append : (xs ys : List ℤ) → size (xs ++ ys) ≡ size xs + size ys
@@ -143,7 +143,7 @@ size-end l s at h =
 
 -- a form that is a row's or a number's
 pub row_small : (l : Layout) (f g : Affine) → g ≡ row_form l f → FitsTurns l.turns f → width l < 2 ^ 64
-    → (variables_of g ≡ width l) × (form_size g ≤ 2 ^ 99)
+    → FitsWidth l g
 row_small l f g e h fits =
     let s = size-row l f in
     let k = h.1 in
@@ -151,14 +151,14 @@ row_small l f g e h fits =
     (ap variables_of e ∙ length-row l f h.0, subst (λ (z : Affine). form_size z ≤ 2 ^ 99) (sym e) small)
 
 pub number_small : (l : Layout) (k : ℤ) (g : Affine) → g ≡ number_form l k → unsigned_abs k < 2 ^ 64
-    → (variables_of g ≡ width l) × (form_size g ≤ 2 ^ 99)
+    → FitsWidth l g
 number_small l k g e h =
     let s = size-number l k in
     let small : form_size (number_form l k) ≤ 2 ^ 99 = omega arith in
     (ap variables_of e ∙ length-number l k, subst (λ (z : Affine). form_size z ≤ 2 ^ 99) (sym e) small)
 
 pub carried_small : (l : Layout) (j : ℕ) (rows : List TileRow) (g : Affine) → g ≡ carried_form l j rows
-    → j + length rows ≤ width l → width l < 2 ^ 64 → (variables_of g ≡ width l) × (form_size g ≤ 2 ^ 99)
+    → j + length rows ≤ width l → width l < 2 ^ 64 → FitsWidth l g
 carried_small l j rows g e h fits =
     let s = size-carried_form l j rows in
     let small : form_size (carried_form l j rows) ≤ 2 ^ 99 = omega (arith, h, fits) in

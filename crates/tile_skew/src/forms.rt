@@ -2,12 +2,12 @@
 ghost use Rattle.std.specs.Prelude.{◌≡◌, ◌+◌, ◌<◌, ◌≤◌, ◌^◌, ◌++◌, ◌∷◌, [], pos, neg_ℤ, ◌≤ℤ◌, IfOk, OnOk, length, map};
 ghost use Rattle.affine_forms.specs.Parts.{variables_of};
 ghost use Rattle.iteration_domains.specs.Rows.{variable};
-ghost use Rattle.iteration_domains.specs.Sizes.{form_size};
 ghost use Rattle.whole_numbers.specs.Affine.{form_of};
 ghost use Rattle.whole_numbers.specs.Lists.{zeros};
 ghost use Rattle.conflict_deps.specs.Conflicts.{spread};
 ghost use Rattle.tile_skew.specs.ScanSets.{carried, carried_form, domain_form, have_values, number_form, row_form};
 ghost use Rattle.tile_skew.specs.ScanSets.{tile_begins, tile_ends, width};
+ghost use Rattle.tile_skew.specs.steps.Sizes.{FitsWidth};
 
 use crate::layout::Layout;
 use affine_forms::{Form, INLINE};
@@ -146,8 +146,7 @@ pub fn push_value(
 ) -> Result<(), AllocError>
     requires fits { width layout < 2 ^ 64 }
     requires place { at < width layout }
-    requires sized { variables_of form.now ≡ width layout }
-    requires small { form_size form.now ≤ 2 ^ 99 }
+    requires small { FitsWidth layout form.now }
     ensures { OnOk result (out.new.items ≡ out.old.items ++ have_values layout at (form.now ∷ [])) }
 {
     let dimension = variable_form(alloc, layout.width(), at)?;
@@ -166,8 +165,7 @@ fn tile_begins(
     requires fits { width layout < 2 ^ 64 }
     requires place { at < width layout }
     requires size { (pos 1 ≤ℤ size) × (size ≤ℤ pos 1024) }
-    requires sized { variables_of form.now ≡ width layout }
-    requires small { form_size form.now ≤ 2 ^ 99 }
+    requires small { FitsWidth layout form.now }
     ensures { IfOk result (λ f. f ≡ tile_begins layout size at form.now) }
 {
     let dimension = variable_form(alloc, layout.width(), at)?;
@@ -185,8 +183,7 @@ fn tile_ends(
     requires fits { width layout < 2 ^ 64 }
     requires place { at < width layout }
     requires size { (pos 1 ≤ℤ size) × (size ≤ℤ pos 1024) }
-    requires sized { variables_of form.now ≡ width layout }
-    requires small { form_size form.now ≤ 2 ^ 99 }
+    requires small { FitsWidth layout form.now }
     ensures { IfOk result (λ f. f ≡ tile_ends layout size at form.now) }
 {
     let dimension = variable_form(alloc, layout.width(), at)?;
@@ -207,8 +204,7 @@ pub fn push_coordinate(
     requires fits { width layout < 2 ^ 64 }
     requires place { at < width layout }
     requires size { (0 < size) × (size ≤ 1024) }
-    requires sized { variables_of form.now ≡ width layout }
-    requires small { form_size form.now ≤ 2 ^ 99 }
+    requires small { FitsWidth layout form.now }
     ensures { OnOk result (out.new.items ≡ out.old.items ++ variable (width layout) at
         ∷ tile_begins layout (pos size) at form.now ∷ tile_ends layout (pos size) at form.now ∷ []) }
 {

@@ -1,8 +1,11 @@
 -- Items whose rows have a coefficient for each turn.
-use Rattle.std.specs.Prelude.{◌≡◌, ℕ, suc, ◌*◌, ◌<◌, ◌≤◌, List, [], ◌∷◌, length, All, ⊤}
+use Rattle.std.specs.Prelude.{◌≡◌, ℕ, suc, ◌*◌, ◌^◌, ◌<◌, ◌≤◌, List, [], ◌∷◌, length, All, ⊤}
 use Rattle.whole_numbers.specs.Affine.{Affine}
+use Rattle.affine_forms.specs.Parts.{variables_of}
 use Rattle.iteration_domains.specs.Sizes.{form_size}
 use Rattle.loop_tree.specs.Tiling.{TileRow, Item, row, scalar, Items}
+use Rattle.tile_skew.specs.declared.layout.Layout.{Layout}
+use Rattle.tile_skew.specs.ScanSets.{width}
 
 -- the rows of a band
 abbrev pub AreRowsOver : ℕ → List TileRow → Type 0
@@ -23,6 +26,10 @@ pub record AreOver (n : ℕ) (s : Items) : Type 0 where
 -- a form over n turns, with small numbers
 abbrev pub FitsTurns : ℕ → Affine → Type 0
 FitsTurns n f = (length f.coefficients ≡ n) × (form_size f ≤ 4096 * suc n)
+
+-- a form over all variables of a scan set, with numbers that can be multiplied and added
+abbrev pub FitsWidth : Layout → Affine → Type 0
+FitsWidth l f = (variables_of f ≡ width l) × (form_size f ≤ 2 ^ 99)
 
 -- an item of a statement with n turns
 abbrev pub FitsItem : ℕ → Item → Type 0

@@ -39,13 +39,13 @@ plus_multiple-requires-2-clause-sized c =
     ∙ (ap₂ (λ (f g : Affine). sum_of_forms f (multiple_of_form (to_z w128 (of_z w128 s)) g)) last dimension
     ∙ ap (λ (z : ℤ). sum_of_forms (number_form l (s -ℤ pos 1)) (multiple_of_form z (variable (width l) c.args.at)))
     (as_held s (tile_size s c.requires.size))) in
-    c.requires.sized ∙ (sym (length-end l s c.args.at) ∙ sym (ap variables_of made))
+    c.requires.small.0 ∙ (sym (length-end l s c.args.at) ∙ sym (ap variables_of made))
 
 pub plus_multiple-requires-2-clause-small : goal.plus_multiple-requires-2-clause-small
 plus_multiple-requires-2-clause-small c =
     let s = c.args.size in
     let l = c.args.layout in
-    let small = c.requires.small in
+    let small = c.requires.small.1 in
     let last : c.in_ok-last.last ≡ number_form l (s -ℤ pos 1) =
     c.in_ok-last.ensures ∙ ap (number_form l) (last_held s c.requires.size) in
     let dimension : c.in_ok-dimension.dimension ≡ variable (width l) c.args.at =

@@ -2,10 +2,6 @@ use Rattle.std.proofs.Common.{rules}
 use Rattle.tile_skew.proofs.Widths.{number_small}
 use Rattle.tile_skew.proofs.sets.push_leading.Goals as goal
 
-pub push_value-requires-clause-sized : goal.push_value-requires-clause-sized
-push_value-requires-clause-sized c =
-    (number_small c.args.layout _ c.in_ok-form.form c.in_ok-form.ensures (search rules)).0
-
 pub push_value-requires-clause-small : goal.push_value-requires-clause-small
 push_value-requires-clause-small c =
-    (number_small c.args.layout _ c.in_ok-form.form c.in_ok-form.ensures (search rules)).1
+    number_small c.args.layout _ c.in_ok-form.form c.in_ok-form.ensures (search rules)

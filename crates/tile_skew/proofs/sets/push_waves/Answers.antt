@@ -5,23 +5,14 @@ use Rattle.tile_skew.proofs.Widths.{carried_small}
 use Rattle.tile_skew.proofs.Reading_off.{waves_put}
 use Rattle.tile_skew.proofs.sets.push_waves.Goals as goal
 
-pub push_value-requires-clause-sized : goal.push_value-requires-clause-sized
-push_value-requires-clause-sized c =
-    let l = c.args.layout in
-    let place = c.requires.place in
-    let at = c.len-at.ensures in
-    let same = c.as_slice-2.ensures.value in
-    (carried_small l (c.len-at.result + 1) (items_of c.args.items.now).band c.in_ok-sum.sum
-    (c.in_ok-sum.ensures ∙ ap (carried_form l (c.len-at.result + 1)) same) (omega arith) c.requires.fits).0
-
 pub push_value-requires-clause-small : goal.push_value-requires-clause-small
 push_value-requires-clause-small c =
     let l = c.args.layout in
     let place = c.requires.place in
     let at = c.len-at.ensures in
     let same = c.as_slice-2.ensures.value in
-    (carried_small l (c.len-at.result + 1) (items_of c.args.items.now).band c.in_ok-sum.sum
-    (c.in_ok-sum.ensures ∙ ap (carried_form l (c.len-at.result + 1)) same) (omega arith) c.requires.fits).1
+    carried_small l (c.len-at.result + 1) (items_of c.args.items.now).band c.in_ok-sum.sum
+    (c.in_ok-sum.ensures ∙ ap (carried_form l (c.len-at.result + 1)) same) (omega arith) c.requires.fits
 
 pub returns : goal.returns
 returns c =
