@@ -1,0 +1,13 @@
+pub mod Cells
+pub mod Workers
+pub mod Waves
+pub mod Changes
+pub mod Ready
+pub mod Events
+pub mod Rests
+pub mod Runs
+pub mod Counts
+pub mod Words
+pub mod Table
+pub mod Deals
+pub mod Flat

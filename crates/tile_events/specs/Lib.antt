@@ -1,0 +1,10 @@
+pub mod Plan
+pub mod Deal
+pub mod Core
+pub mod Sound
+pub mod Opening
+pub mod Rule
+pub mod Allowed
+pub mod Flat
+pub mod Example
+pub mod steps
