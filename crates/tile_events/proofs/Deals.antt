@@ -7,6 +7,7 @@ use Rattle.scop_syntax.proofs.Members.{nat_cases}
 use Rattle.tile_events.specs.Plan.{IsDealt}
 use Rattle.tile_events.specs.Deal.{Deal, IsScan, tile_at, offset_to, dealt}
 
+-- a function that does not fall from one number to the next does not fall
 rises_to : (f : ℕ → ℕ) (n a k : ℕ) → ((t : ℕ) → t < n → f t ≤ f (suc t)) → a + k ≤ n → f a ≤ f (a + k)
 rises_to f n a zero h l = let e = ap f (let q : a + 0 ≡ a = omega arith in q) in omega (arith, e)
 rises_to f n a (suc k) h l =
@@ -20,6 +21,7 @@ rises f n a b h l m =
     let i = rises_to f n a (b - a) h (omega (arith, l, m)) in
     let e = ap f (let q : a + (b - a) ≡ b = omega (arith, l) in q) in omega (arith, i, e)
 
+-- rank r lies in tile t, one of the first m
 record IsTileAt (start : ℕ → ℕ) (m r t : ℕ) : Type 0 where
   less : t < m
   from : start t ≤ r
@@ -37,6 +39,7 @@ tile_at_is start (suc m) r z l = by_test (nat_le (start m) r) refl
     by_test false e ih =
         let i = ih e in let a = i.less in record { less = omega (arith, a); from = i.from; to = i.to }
 
+-- it lies in no other
 tile_at_one : (start : ℕ → ℕ) (n m r t : ℕ) → ((u : ℕ) → u < n → start u ≤ start (suc u)) → m ≤ n → t < m
     → start t ≤ r → r < start (suc t) → tile_at start m r ≡ t
 tile_at_one start n zero r t h l less from to = absurd (omega (arith, less))
@@ -46,6 +49,7 @@ tile_at_one start n (suc m) r t h l less from to = nat_cases t m
     (λ e. let f = ap start e in rw (le-leb (start m) r (omega (arith, f, from))) (sym e))
     (λ a. absurd (omega (arith, a, less)))
 
+-- a tile before the offset of wave w lies in an earlier wave, one from the offset on does not
 early_to : (wave : ℕ → ℕ) (n m w t : ℕ) → ((u : ℕ) → suc u < n → wave u ≤ wave (suc u)) → m ≤ n
     → t < offset_to wave m w → wave t < w
 early_to wave n zero w t h l e = absurd (omega (arith, e))

@@ -170,6 +170,7 @@ load_value p s id t k xs good deal sound here less more =
     ∙ (load_reads p (is_done p s) j c within (ready_next p s id t k xs good deal sound here less) is
     ∙ sym (get_or-map (before p j) (p.read j) (length xs) 0 0 more))
 
+-- one value more of those that are read in turn
 snoc_right : (vs xs : List ℕ) (x : ℕ) → xs ≡ take (length xs) vs → length xs < length vs → x ≡ get_or vs (length xs) 0
     → xs ++ x ∷ [] ≡ take (length (xs ++ x ∷ [])) vs
 snoc_right vs xs x e less same =
@@ -234,6 +235,7 @@ store_value p s id t k xs sound here less all =
     ap (p.value (p.place t k))
     ((sound.reads id t k xs here).values less ∙ (ap (λ (n : ℕ). take n vs) m ∙ take-length vs))
 
+-- who does an instance is past no other than before
 passed_next : (p : Plan) (t k i : ℕ) (xs : List ℕ) → IsDealt p → i < p.places → i ≢ p.place t k
     → passed (working t (suc k) []) (p.tile i) (p.position i) ≡ passed (working t k xs) (p.tile i) (p.position i)
 passed_next p t k i xs deal less ne = by_test (nat_eq t (p.tile i)) refl
@@ -319,6 +321,7 @@ store_keeps p s id t k xs good deal sound here less all =
         get_or-set_other s.cells (p.written j) c (p.value j xs) 0 ne
         ∙ (sound.cells c l ∙ sym (store_else p (is_done p s) (is_done p after) j c same ne))
 
+-- who has done all instances of its tile may give it up
 passed_end : (p : Plan) (t k i : ℕ) (xs : List ℕ) → IsDealt p → i < p.places → k ≡ p.size t
     → passed idle (p.tile i) (p.position i) ≡ passed (working t k xs) (p.tile i) (p.position i)
 passed_end p t k i xs deal less full = by_test (nat_eq t (p.tile i)) refl

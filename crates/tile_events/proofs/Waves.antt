@@ -32,6 +32,7 @@ hit_not u t h = rw (ne_eqb t u h) refl
 hit_is : (u t : ℕ) → t ≡ u → hit u t ≡ 1
 hit_is u t h = rw (eq-eqb t u h) refl
 
+-- t is one of these numbers at most once, and not where it is less or greater than all
 range_out : (a d t : ℕ) → t < a → range a d t ≡ 0
 range_out a zero t h = refl
 range_out a (suc d) t h =
@@ -62,6 +63,7 @@ hits_one v a d t h = by_test (nat_eq t v) refl
         let o = range_out a d t (omega (arith, h, s)) in let n = hit_is v t s in omega (arith, o, n)
     by_test false e = let n = hit_not v t (eqb-false t v e) in let i = range_one a d t in omega (arith, n, i)
 
+-- a worker holds one tile at most
 held_one : (v a d : ℕ) → v < a → (w : Worker) → of_held (hit v) w + of_held (range a d) w ≤ one_if_held w
 held_one v a d h idle = omega arith
 held_one v a d h ended = omega arith
@@ -78,6 +80,7 @@ free_of_none ws u h id w e = not_held w (total_zero (of_held (hit u)) ws id w h 
     not_held (holding t) z s = let o = hit_is u t s in omega (arith, z, o)
     not_held (working t k xs) z s = let o = hit_is u t s in omega (arith, z, o)
 
+-- one number more
 total_split : (a d : ℕ) (ws : List Worker)
     → total (of_held (range a (suc d))) ws ≡ total (of_held (range a d)) ws + total (of_held (hit (a + d))) ws
 total_split a d [] = refl
