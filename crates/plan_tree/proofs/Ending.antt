@@ -80,7 +80,7 @@ listed_distinct program params (tiled size statements) xs once (sorted, all) =
     (λ x y less e. LexLess-irrefl (order_of size statements y)
     (subst (λ z. Precedes size statements z y) e less)) sorted
 
-listed_same : (program : Program) (params : List ℤ) (plan : Tiling) (xs : List Instance)
+pub listed_same : (program : Program) (params : List ℤ) (plan : Tiling) (xs : List Instance)
     → AreInOrder program params plan xs → (x : Instance) → In x xs ↔ In x (walked program params)
 listed_same program params kept xs same x = (λ i. subst (In x) same i, λ i. subst (In x) (sym same) i)
 listed_same program params (tiled size statements) xs (sorted, all) x = all x

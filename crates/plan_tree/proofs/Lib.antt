@@ -15,3 +15,4 @@ pub mod Shapes
 pub mod Shuffling
 pub mod Waves
 pub mod Simpler
+pub mod Walkable

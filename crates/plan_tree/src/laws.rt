@@ -6,6 +6,7 @@ ghost use Rattle.scop_syntax.specs.Limits.{HasParameters};
 ghost use Rattle.scop_syntax.specs.Tree.{Program};
 ghost use Rattle.scop_syntax.specs.Walk.{instance, Visit as Walked, walk_of};
 ghost use Rattle.conflict_orders.specs.Orders.{IsOrderOf};
+ghost use Rattle.loop_tree.specs.Conditions.{CanWalk};
 ghost use Rattle.loop_tree.specs.Plans.{CarryOut, walked};
 ghost use Rattle.loop_tree.specs.Runs.{MayRunAll};
 ghost use Rattle.loop_tree.specs.Tiling.{Tiling};
@@ -15,7 +16,10 @@ ghost use Rattle.plan_tree.specs.Executions.{AreVisitsOf};
 ghost use Rattle.plan_tree.specs.Trees.{AreEven, AreTreesOf, StandInOrder};
 
 use conflict_orders::laws::orders_of_walks_end_as_they_do;
-use scop_syntax::walk_laws::walks_are_in_order;
+use scop_syntax::limit_laws::values_lie_within_45_bits;
+use scop_syntax::walk_laws::{
+    instances_are_those_of_statements, statements_are_numbered, walks_are_in_order,
+};
 
 /// Of two places of the walk that conflict, a tree that carries out a plan visits the earlier one's instance before the
 /// later one's, where all statements have as many leading scalars and rows in the first band.
@@ -44,4 +48,15 @@ pub fn loops_end_as_the_source_does()
 {
     orders_of_walks_end_as_they_do();
     walks_are_in_order();
+}
+
+/// For parameters in 0..=65536 the trees of a plan can be walked: divisors are at least 1, every number of the walk fits,
+/// and so does each instance.
+pub fn trees_of_plans_can_be_walked()
+    ensures { (program : Program) (params : List ℤ) (plan : Tiling) (ts : Trees) → AreTreesOf program plan ts
+        → HasParameters program params → CanWalk ts params [] }
+{
+    instances_are_those_of_statements();
+    statements_are_numbered();
+    values_lie_within_45_bits();
 }
