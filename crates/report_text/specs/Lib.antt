@@ -2,6 +2,7 @@ pub mod DepsExamples
 pub mod DepsReading
 pub mod DepsText
 pub mod KeptText
+pub mod TilesText
 pub mod Parts
 pub mod Pieces
 pub mod ScheduleLines

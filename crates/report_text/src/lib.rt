@@ -1,6 +1,6 @@
-//! The statuses that a call can end with, the exit status that each has, and the line on the error stream that
-//! tells it; the text of a schedule, and the line that tells why a kernel's order is kept; the text of the sources of
-//! reads.
+//! The statuses that a call can end with, the exit status that each has, and the line on the error stream that tells
+//! it; the text of a schedule, and the lines that tell why a kernel's order is kept and how many tiles and waves a plan
+//! has; the text of the sources of reads.
 #![tactic(auto)]
 
 mod data_line;
@@ -14,6 +14,7 @@ mod parts;
 mod pieces;
 mod schedule_lines;
 mod status;
+mod tiles_line;
 
 pub use data_text::DataRefusal;
 pub use deps_laws::{
@@ -26,3 +27,4 @@ pub use schedule_lines::schedule_text;
 pub use scop_meaning::index::Outside;
 pub use scop_parser::refusal::{Refusal, RefusalKind};
 pub use status::Status;
+pub use tiles_line::tiles_text;
