@@ -1,7 +1,7 @@
 -- The points of a statement's scan set against the instances of the walk.
-use Rattle.std.proofs.Common.{◌≡◌, ℕ, ◌+◌, ◌-◌, ◌≤◌, ℤ, pos, List, [], ◌∷◌, ◌++◌, refl, sym, ◌∙◌, ap, ap₂}
+use Rattle.std.proofs.Common.{◌≡◌, ℕ, ◌+◌, ◌-◌, ◌≤◌, Bool, true, false, ℤ, pos, List, [], ◌∷◌, ◌++◌, refl, sym, ◌∙◌, ap, ap₂}
 use Rattle.std.proofs.Common.{subst, arith, length, map, take, drop}
-use Rattle.std.specs.Prelude.{◌≤ℤ◌, ◌<ℤ◌}
+use Rattle.std.specs.Prelude.{◌≤ℤ◌, ◌<ℤ◌, not, if◌then◌else◌}
 use Rattle.std.proofs.lemmas.Int.{ints}
 use Rattle.std.proofs.lemmas.List.{append_assoc, length-append, length-map, length-drop, length-take-le}
 use Rattle.std.proofs.lemmas.List.{take-append-drop}
@@ -128,7 +128,7 @@ from_point l size n m s xs ps h p over e holds =
 -- a place is a point
 pub to_point : (l : Layout) (size : ℤ) (n : ℕ) (m : Modelled) (s : Items) (ts ps : List ℤ) → pos 0 <ℤ size
     → length ts ≡ l.turns → length ps ≡ l.parameters → l.front ≡ front_of s → l.missing ≡ n - length ts
-    → AreOver (length ts) s → NotNegative (coordinates size s.band ts) → Satisfies m.domain (ts ++ ps)
+    → AreOver (length ts) s → pos 0 ≤ℤ wave_sum size s.band ts → Satisfies m.domain (ts ++ ps)
     → Satisfies (points_of l size m s) (place_of size n s ts ++ ps)
 to_point l size n m s ts ps h t p f e over up holds =
     let hs = map pos s.leading ++ wave_sum size s.band ts ∷ [] in
@@ -209,27 +209,32 @@ pub statement_over : (loops : List ℕ) (bs : List Block) (k : ℕ) → AreSized
     → AreOver (loops_of loops k) (statement_items bs k)
 statement_over loops bs k a = record { band = first_over loops bs k a; behind = behind_over loops bs k a }
 
--- rows of sized blocks have no negative coordinates at turns from 0 on
-coordinates_from_0 : (loops : List ℕ) (size : ℤ) (ms : List Marked) (k : ℕ) (ts : List ℤ) → pos 0 <ℤ size
-    → NotNegative ts → AreSizedRows loops ms → NotNegative (coordinates size (rows_at ms k) ts)
-coordinates_from_0 loops size [] k ts h up a = tt
-coordinates_from_0 loops size (m ∷ ms) k ts h up a =
+-- rows of sized blocks have no negative wave sum at turns from 0 on
+band_from_0 : (loops : List ℕ) (size : ℤ) (ms : List Marked) (k : ℕ) (ts : List ℤ) → pos 0 <ℤ size → NotNegative ts
+    → AreSizedRows loops ms → pos 0 ≤ℤ wave_sum size (rows_at ms k) ts
+band_from_0 loops size [] k ts h up a = omega (arith, ints)
+band_from_0 loops size (m ∷ ms) k ts h up a =
     let cs = (part_of m.row k).coefficients in
     let r = value_of (form_at m.row k) ts in
     let small = All-weaker IsSmall (λ c. pos 0 ≤ℤ c) (λ c s. s.0) cs (a.0.coefficients k) in
     let own = dot_not_negative cs ts ((not_negative_all cs).1 small) up in
     let shift = (a.0.shift k).0 in
-    let none = mul_zero_left size in (
-      floor_greatest r size (floor r size) (pos 0) h (floor_is r size h) (omega (arith, ints)),
-      coordinates_from_0 loops size ms k ts h up a.1,
-    )
+    let none = mul_zero_left size in
+    let one = floor_greatest r size (floor r size) (pos 0) h (floor_is r size h) (omega (arith, ints)) in
+    let picked = chosen (not m.parallel) (floor r size) one in
+    let more = band_from_0 loops size ms k ts h up a.1 in
+    omega (arith, ints)
+  where
+    chosen : (b : Bool) (z : ℤ) → pos 0 ≤ℤ z → pos 0 ≤ℤ (if b then z else pos 0)
+    chosen true z h = h
+    chosen false z h = omega (arith, ints)
 
-pub first_from_0 : (loops : List ℕ) (size : ℤ) (bs : List Block) (k : ℕ) (ts : List ℤ) → pos 0 <ℤ size
-    → NotNegative ts → AreSized loops bs → NotNegative (coordinates size (first_band_at bs k) ts)
-first_from_0 loops size [] k ts h up a = tt
-first_from_0 loops size (scalar numbers ∷ bs) k ts h up a = first_from_0 loops size bs k ts h up a.1
-first_from_0 loops size (band [] ∷ bs) k ts h up a = absurd a.0
-first_from_0 loops size (band (m ∷ ms) ∷ bs) k ts h up a = coordinates_from_0 loops size (m ∷ ms) k ts h up a.0
+pub wave_from_0 : (loops : List ℕ) (size : ℤ) (bs : List Block) (k : ℕ) (ts : List ℤ) → pos 0 <ℤ size
+    → NotNegative ts → AreSized loops bs → pos 0 ≤ℤ wave_sum size (first_band_at bs k) ts
+wave_from_0 loops size [] k ts h up a = omega (arith, ints)
+wave_from_0 loops size (scalar numbers ∷ bs) k ts h up a = wave_from_0 loops size bs k ts h up a.1
+wave_from_0 loops size (band [] ∷ bs) k ts h up a = absurd a.0
+wave_from_0 loops size (band (m ∷ ms) ∷ bs) k ts h up a = band_from_0 loops size (m ∷ ms) k ts h up a.0
 
 -- a statement of a model has its number of loops in the list of them
 pub loops_are : (model : KernelModel) (s : Modelled) → IsKernelModel model → In s model.statements

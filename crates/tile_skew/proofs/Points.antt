@@ -6,7 +6,7 @@ use Rattle.std.proofs.lemmas.List.{append_assoc, length-append, length-map}
 use Rattle.std.proofs.lemmas.List.{map-append}
 use Rattle.std.proofs.lemmas.List.Elements.{All-nil, All-cons, All-head, All-tail, All-append}
 use Rattle.whole_numbers.specs.Affine.{Affine, value_of, values_of}
-use Rattle.whole_numbers.specs.Lists.{zeros, NotNegative}
+use Rattle.whole_numbers.specs.Lists.{zeros}
 use Rattle.integer_sets.specs.Points.{Satisfies}
 use Rattle.iteration_domains.specs.Model.{Modelled}
 use Rattle.iteration_domains.specs.Rows.{variable, variables}
@@ -202,17 +202,18 @@ tells l d V size m s hs bs cs ts zs ps p v equal rising =
     let dimensions = all_back E own (waves ++ (items ++ missing)) equal in
     let behind = all_back E waves (items ++ missing) dimensions in
     let rows = map (domain_form l) m.domain.rows in
+    let wave = variable (width l) (length s.leading) in
     let tiles = are_coordinates l size (length s.leading + 1) s.band in
     let place : length (hs ++ bs) ≡ k = length-append hs bs ∙ omega arith in
     let last : length (fs ++ ts) ≡ l.front + l.turns = length-append fs ts ∙ omega arith in
     record {
       equalities = all_front E own (waves ++ (items ++ missing)) equal;
-      rows = all_front G rows tiles rising;
+      rows = all_front G rows (wave ∷ tiles) rising;
       waves = sym (segment [] hs ((bs ++ cs) ++ r) x 0 (length (wave_forms l s)) (append_assoc hs (bs ++ cs) r) refl
           (w ∙ sym lw))
           ∙ values_from l d V 0 (wave_forms l s) x v (omega arith) (omega arith)
           (all_front E waves (items ++ missing) dimensions);
-      tiles = all_back G rows tiles rising;
+      tiles = All-tail G wave tiles (all_back G rows (wave ∷ tiles) rising);
       items = sym (segment (hs ++ bs) cs r x k (length (forms_of_items l s)) (at_items hs bs cs r) place
           (p.items ∙ sym li))
           ∙ values_from l d V k (forms_of_items l s) x v (omega arith) (omega arith)
@@ -254,8 +255,21 @@ point_from l size m s hs bs cs ts zs ps h p over holds =
       missing = told.missing;
     }
 
+-- the value of the wave's dimension
+wave_is : (leading : List ℕ) (w : ℤ) (hs rest x : List ℤ) → x ≡ hs ++ rest → hs ≡ map pos leading ++ w ∷ []
+    → get_or x (length leading) (pos 0) ≡ w
+wave_is leading w hs rest x e is =
+    let j = length leading in
+    let split = append_assoc (map pos leading) (w ∷ []) rest in
+    let place : x ≡ map pos leading ++ (w ∷ [] ++ rest) = e ∙ (ap (λ (ys : List ℤ). ys ++ rest) is ∙ split) in
+    let many = length-map leading pos in
+    let a = length-append (map pos leading) (w ∷ [] ++ rest) in
+    let b = ap length place in
+    let there = segment (map pos leading) (w ∷ []) rest x j 1 place many refl in
+    same_head (get_or x j (pos 0)) w (take 0 (drop (suc j) x)) [] (sym (next_place x j 0 (omega arith)) ∙ there)
+
 pub point_to : (l : Layout) (size : ℤ) (m : Modelled) (s : Items) (hs bs cs ts zs ps : List ℤ) → pos 0 <ℤ size
-    → Parts l s hs bs cs ts zs ps → AreOver (length ts) s → NotNegative (coordinates size s.band ts)
+    → Parts l s hs bs cs ts zs ps → AreOver (length ts) s → pos 0 ≤ℤ wave_sum size s.band ts
     → Says size m s hs bs cs ts zs ps → Satisfies (points_of l size m s) (point hs bs cs ts zs ps)
 point_to l size m s hs bs cs ts zs ps h p over up says =
     let x = point hs bs cs ts zs ps in
@@ -279,7 +293,10 @@ point_to l size m s hs bs cs ts zs ps h p over up says =
     let items = item_equalities l s in
     let missing = missing_equalities l in
     let rows = map (domain_form l) m.domain.rows in
+    let wave = variable (width l) (length s.leading) in
     let tiles = are_coordinates l size j s.band in
+    let wave_at = value_of-variable (width l) (length s.leading) x (omega arith)
+    ∙ wave_is s.leading (wave_sum size s.band ts) hs ((bs ++ cs) ++ r) x (append_assoc hs (bs ++ cs) r) says.waves in
     let agree = rows_agree l s.band fs ts (zs ++ ps) size_f over.band in
     let place : length (hs ++ bs) ≡ k = length-append hs bs ∙ omega arith in
     let last : length (fs ++ ts) ≡ l.front + l.turns = length-append fs ts ∙ omega arith in
@@ -292,11 +309,12 @@ point_to l size m s hs bs cs ts zs ps h p over up says =
     let third = zero_to (width l) (l.front + l.turns) l.missing x (omega arith) (omega arith)
     (segment (fs ++ ts) zs ps x (l.front + l.turns) l.missing (at_missing fs ts zs ps) last z
     ∙ (says.missing ∙ ap zeros z)) in
-    let fourth = coordinates_to l size j s.band x ts h (omega arith) (omega arith) agree up
+    let fourth = coordinates_to l size j s.band x ts h (omega arith) (omega arith) agree
     (segment hs bs (cs ++ r) x j (length s.band) (at_tiles hs bs cs r) w t ∙ says.tiles) in (
       All-append E own (waves ++ (items ++ missing))
           (domain_to l (λ v. v ≡ pos 0) m.domain.equalities fs ts zs ps size_f u z says.domain.0)
           (All-append E waves (items ++ missing) first (All-append E items missing second third)),
-      All-append G rows tiles
-          (domain_to l (λ v. pos 0 ≤ℤ v) m.domain.rows fs ts zs ps size_f u z says.domain.1) fourth,
+      All-append G rows (wave ∷ tiles)
+          (domain_to l (λ v. pos 0 ≤ℤ v) m.domain.rows fs ts zs ps size_f u z says.domain.1)
+          (All-cons G wave tiles (subst (λ v. pos 0 ≤ℤ v) (sym wave_at) up) fourth),
     )

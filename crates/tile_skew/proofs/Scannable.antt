@@ -111,9 +111,9 @@ pub record HasSchedule (program : Program) (blocks : List Block) : Type 0 where
   pub few : HasFewItems 5 (length (conflicts_of (model_of program))) (loops_in (model_of program)) blocks
 
 pub sets_bounded : (program : Program) (blocks : List Block) (size : ℕ) (s : Scanned) → HasSchedule program blocks
-    → ((m : Modelled) → In m (model_of program).statements → HasNearTurns m) → 0 < size
+    → ((m : Modelled) → In m (model_of program).statements → HasNearTurns m) → 0 < size → size ≤ 1024
     → In s (scan_sets (pos size) blocks (model_of program)) → IsBounded s.system
-sets_bounded program blocks size s h near positive among =
+sets_bounded program blocks size s h near positive small among =
     let ss = (model_of program).statements in
     let n = most_iterators ss in
     let Set : Modelled → Scanned = λ m. scan_set (pos size) n m (statement_items blocks m.number) in
@@ -123,9 +123,10 @@ sets_bounded program blocks size s h near positive among =
     let few = (statement_few program m h.facts q.1).dimensions in
     let modest = items_modest program blocks (length (conflicts_of (model_of program))) m h.kernel h.model q.1 h.sized
     h.few in
-    let least : pos 1 ≤ℤ pos size = omega (arith, ints) in
+    let low : pos 1 ≤ℤ pos size = omega (arith, ints) in
+    let high : pos size ≤ℤ pos 1024 = omega (arith, ints) in
     subst (λ (z : Scanned). IsBounded z.system) (sym q.2)
-    (set_bounded (layout_of n m items) (pos size) m items least refl refl refl few modest (near m q.1))
+    (set_bounded (layout_of n m items) (pos size) m items (low, high) refl refl refl few modest (near m q.1))
 
 pub sets_few : (program : Program) (blocks : List Block) (size : ℕ) (s : Scanned) → HasSchedule program blocks
     → In s (scan_sets (pos size) blocks (model_of program))

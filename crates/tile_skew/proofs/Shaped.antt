@@ -17,8 +17,7 @@ use Rattle.loop_tree.specs.declared.tiling.TileItem.TheVariants as code_item
 use Rattle.tile_skew.specs.declared.layout.Layout.{Layout}
 use Rattle.tile_skew.specs.steps.Sizes.{FitsTurns, FitsItem}
 use Rattle.tile_skew.specs.ScanSets.{width, domain_form, row_form, number_form, item_form, carried_form, have_values}
-use Rattle.tile_skew.specs.ScanSets.{tile_begins, are_coordinates, front_of, dimension_equalities}
-use Rattle.tile_skew.proofs.Valued.{one_coordinate}
+use Rattle.tile_skew.specs.ScanSets.{tile_begins, tile_ends, are_coordinates, front_of, dimension_equalities}
 use Rattle.tile_skew.proofs.Widths.{length-row, length-number, length-carried_form, length-end, end_form}
 
 abbrev pub Over : Layout → Affine → Type 0
@@ -125,15 +124,19 @@ coordinates_over l z j [] h = All-nil (Over l)
 coordinates_over l z j (r ∷ rs) h =
     let f = row_form l r.form in
     let own = length-row l r.form (All-head (λ (q : TileRow). FitsTurns l.turns q.form) r rs h).0 in
-    (one_coordinate (Over l) l z j r rs).1 (
-      length-variable (width l) j,
-      begins_one l z j f own,
-      length-difference (width l) (end_form l z j) f (length-end l z j) own,
-      coordinates_over l z (suc j) rs (All-tail (λ (q : TileRow). FitsTurns l.turns q.form) r rs h),
-    )
+    let rest = coordinates_over l z (suc j) rs (All-tail (λ (q : TileRow). FitsTurns l.turns q.form) r rs h) in
+    All-cons (Over l) (tile_begins l z j f) (tile_ends l z j f ∷ are_coordinates l z (suc j) rs)
+    (begins_one l z j f own)
+    (All-cons (Over l) (tile_ends l z j f) (are_coordinates l z (suc j) rs)
+    (length-difference (width l) (end_form l z j) f (length-end l z j) own) rest)
 
--- a list put in two parts behind nothing
-pub two_over : (l : Layout) (none first second us vs : List Affine) → none ≡ [] → first ≡ none ++ us
-    → second ≡ first ++ vs → All (Over l) us → All (Over l) vs → All (Over l) second
-two_over l none first second us vs n a b h k =
-    subst (All (Over l)) (sym (b ∙ ap (λ zs. zs ++ vs) (a ∙ ap (λ zs. zs ++ us) n))) (All-append (Over l) us vs h k)
+-- a list put behind nothing: forms, one more, and others
+pub parts_over : (l : Layout) (none first second third us vs : List Affine) (f : Affine) → none ≡ []
+    → first ≡ none ++ us → second ≡ first ++ f ∷ [] → third ≡ second ++ vs → All (Over l) us → Over l f
+    → All (Over l) vs → All (Over l) third
+parts_over l none first second third us vs f n a b c h o k =
+    let whole : third ≡ (us ++ f ∷ []) ++ vs =
+    c ∙ ap (λ zs. zs ++ vs) (b ∙ ap (λ zs. zs ++ f ∷ []) (a ∙ ap (λ zs. zs ++ us) n)) in
+    subst (All (Over l)) (sym whole)
+    (All-append (Over l) (us ++ f ∷ []) vs
+    (All-append (Over l) us (f ∷ []) h (All-cons (Over l) f [] o (All-nil (Over l)))) k)

@@ -1,14 +1,14 @@
 -- The values of a scan set's forms at a point, and what its equalities and coordinate rows say there.
 use Rattle.std.proofs.Common.{◌≡◌, ℕ, suc, ◌+◌, ◌-◌, ◌<◌, ◌≤◌, Bool, true, false, ℤ, pos, negsuc, List, [], ◌∷◌, ◌++◌}
 use Rattle.std.proofs.Common.{refl, sym, ◌∙◌, ap, ap₂, subst, arith, length, map, take, drop, get_or}
-use Rattle.std.specs.Prelude.{◌+ℤ◌, ◌-ℤ◌, ◌*ℤ◌, ◌≤ℤ◌, ◌<ℤ◌, ◌↔◌, neg_ℤ, All, if◌then◌else◌, ⊤}
+use Rattle.std.specs.Prelude.{◌+ℤ◌, ◌-ℤ◌, ◌*ℤ◌, ◌≤ℤ◌, ◌<ℤ◌, neg_ℤ, All, if◌then◌else◌, ⊤}
 use Rattle.std.proofs.lemmas.Int.{ints}
 use Rattle.std.proofs.lemmas.List.{map-append, length-map, drop_more, take_at, drop_at}
 use Rattle.std.proofs.lemmas.List.Elements.{All-nil, All-cons, All-head, All-tail}
 use Rattle.whole_numbers.specs.Affine.{Affine, value_of, values_of, sum_of_forms, multiple_of_form}
 use Rattle.whole_numbers.specs.Division.{IsFloor}
 use Rattle.whole_numbers.specs.Floor.{floor}
-use Rattle.whole_numbers.specs.Lists.{dot, zeros, NotNegative}
+use Rattle.whole_numbers.specs.Lists.{dot, zeros}
 use Rattle.whole_numbers.proofs.Ring.{mul_one_left, mul_one_right, mul_neg_left, mul_zero_left}
 use Rattle.whole_numbers.proofs.Dot.{dot-append, dot-zeros, dot-padded, dot-past, length-zeros}
 use Rattle.whole_numbers.proofs.Floors.{floor_is, floor_unique}
@@ -181,27 +181,6 @@ abbrev pub RowsAgree : Layout → List ℤ → List ℤ → List TileRow → Typ
 RowsAgree l x ts [] = ⊤
 RowsAgree l x ts (r ∷ rs) = (value_of (row_form l r.form) x ≡ value_of r.form ts) × RowsAgree l x ts rs
 
--- what holds of the rows of one coordinate, and of those of the others
-pub one_coordinate : (P : Affine → Type 0) (l : Layout) (size : ℤ) (j : ℕ) (r : TileRow) (rs : List TileRow)
-    → All P (are_coordinates l size j (r ∷ rs))
-    ↔ (P (variable (width l) j) × P (tile_begins l size j (row_form l r.form))
-    × P (tile_ends l size j (row_form l r.form)) × All P (are_coordinates l size (suc j) rs))
-one_coordinate P l size j r rs =
-    let v = variable (width l) j in
-    let b = tile_begins l size j (row_form l r.form) in
-    let e = tile_ends l size j (row_form l r.form) in
-    let rest = are_coordinates l size (suc j) rs in (
-      λ a.
-          let begins = All-tail P v (b ∷ e ∷ rest) a in
-          let ends = All-tail P b (e ∷ rest) begins in (
-            All-head P v (b ∷ e ∷ rest) a,
-            All-head P b (e ∷ rest) begins,
-            All-head P e rest ends,
-            All-tail P e rest ends,
-          ),
-      λ h. All-cons P v (b ∷ e ∷ rest) h.0 (All-cons P b (e ∷ rest) h.1 (All-cons P e rest h.2 h.3)),
-    )
-
 -- the dimensions from j on are the tile coordinates
 pub coordinates_from : (l : Layout) (size : ℤ) (j : ℕ) (rows : List TileRow) (x ts : List ℤ) → pos 0 <ℤ size
     → j + length rows ≤ width l → j + length rows ≤ length x → RowsAgree l x ts rows
@@ -209,10 +188,12 @@ pub coordinates_from : (l : Layout) (size : ℤ) (j : ℕ) (rows : List TileRow)
     → take (length rows) (drop j x) ≡ coordinates size rows ts
 coordinates_from l size j [] x ts p h k g a = refl
 coordinates_from l size j (r ∷ rs) x ts p h k g a =
+    let P : Affine → Type 0 = λ f. pos 0 ≤ℤ value_of f x in
     let f = row_form l r.form in
-    let holds = (one_coordinate (λ g. pos 0 ≤ℤ value_of g x) l size j r rs).0 a in
-    let low = holds.1 in
-    let high = holds.2 in
+    let rest = are_coordinates l size (suc j) rs in
+    let low = All-head P (tile_begins l size j f) (tile_ends l size j f ∷ rest) a in
+    let behind = All-tail P (tile_begins l size j f) (tile_ends l size j f ∷ rest) a in
+    let high = All-head P (tile_ends l size j f) rest behind in
     let V : Affine → ℤ = λ g. value_of g x in
     let b = begins-value l (pos 1) x V size j f (whole_values l x) (omega arith) in
     let e = ends-value l (pos 1) x V size j f (whole_values l x) (omega arith) in
@@ -226,15 +207,18 @@ coordinates_from l size j (r ∷ rs) x ts p h k g a =
     (floor_is (value_of r.form ts) size p) in
     next_place x j (length rs) (omega arith)
     ∙ ap₂ (λ (z : ℤ) (zs : List ℤ). z ∷ zs) head
-    (coordinates_from l size (suc j) rs x ts p (omega arith) (omega arith) g.1 holds.3)
+    (coordinates_from l size (suc j) rs x ts p (omega arith) (omega arith) g.1
+    (All-tail P (tile_ends l size j f) rest behind))
 
 pub coordinates_to : (l : Layout) (size : ℤ) (j : ℕ) (rows : List TileRow) (x ts : List ℤ) → pos 0 <ℤ size
     → j + length rows ≤ width l → j + length rows ≤ length x → RowsAgree l x ts rows
-    → NotNegative (coordinates size rows ts) → take (length rows) (drop j x) ≡ coordinates size rows ts
+    → take (length rows) (drop j x) ≡ coordinates size rows ts
     → All (λ f. pos 0 ≤ℤ value_of f x) (are_coordinates l size j rows)
-coordinates_to l size j [] x ts p h k g up e = All-nil (λ f. pos 0 ≤ℤ value_of f x)
-coordinates_to l size j (r ∷ rs) x ts p h k g up e =
+coordinates_to l size j [] x ts p h k g e = All-nil (λ f. pos 0 ≤ℤ value_of f x)
+coordinates_to l size j (r ∷ rs) x ts p h k g e =
+    let P : Affine → Type 0 = λ f. pos 0 ≤ℤ value_of f x in
     let f = row_form l r.form in
+    let rest = are_coordinates l size (suc j) rs in
     let v = floor (value_of r.form ts) size in
     let both = sym (next_place x j (length rs) (omega arith)) ∙ e in
     let head = same_head (get_or x j (pos 0)) v (take (length rs) (drop (suc j) x)) (coordinates size rs ts) both in
@@ -247,14 +231,9 @@ coordinates_to l size j (r ∷ rs) x ts p h k g up e =
     let e = ends-value l (pos 1) x V size j f (whole_values l x) (omega arith) in
     let o = mul_one_right (size -ℤ pos 1) in
     let own = g.0 in
-    let first : pos 0 ≤ℤ value_of (variable (width l) j) x =
-    subst (λ z. pos 0 ≤ℤ z) (sym (value_of-variable (width l) j x (omega arith) ∙ head)) up.0 in
-    (one_coordinate (λ g. pos 0 ≤ℤ value_of g x) l size j r rs).1 (
-      first,
-      omega (arith, ints),
-      omega (arith, ints),
-      coordinates_to l size (suc j) rs x ts p (omega arith) (omega arith) g.1 up.1 more,
-    )
+    All-cons P (tile_begins l size j f) (tile_ends l size j f ∷ rest) (omega (arith, ints))
+    (All-cons P (tile_ends l size j f) rest (omega (arith, ints))
+    (coordinates_to l size (suc j) rs x ts p (omega arith) (omega arith) g.1 more))
 
 pub rows_agree : (l : Layout) (rows : List TileRow) (fs ts rest : List ℤ) → length fs ≡ l.front
     → AreRowsOver (length ts) rows → RowsAgree l (fs ++ (ts ++ rest)) ts rows

@@ -67,11 +67,11 @@ tile_ends l size j f =
     difference_of_forms
     (sum_of_forms (number_form l (size -ℤ pos 1)) (multiple_of_form size (variable (width l) j))) f
 
--- the dimensions from j on are the tile coordinates of the rows; a coordinate is not negative, as rows are not
+-- the dimensions from j on are the tile coordinates of the rows
 abbrev pub are_coordinates : Layout → ℤ → ℕ → List TileRow → List Affine
 are_coordinates l size j [] = []
 are_coordinates l size j (r ∷ rs) =
-    variable (width l) j ∷ tile_begins l size j (row_form l r.form) ∷ tile_ends l size j (row_form l r.form)
+    tile_begins l size j (row_form l r.form) ∷ tile_ends l size j (row_form l r.form)
     ∷ are_coordinates l size (suc j) rs
 
 -- all items as forms, in order
@@ -107,12 +107,13 @@ layout_of n m s =
       parameters = m.domain.parameters;
     }
 
--- the points of a statement: the domain, then the dimensions
+-- the points of a statement: the domain, then the dimensions; the wave is not negative, as no row is
 abbrev pub points_of : Layout → ℤ → Modelled → Items → Constraints
 points_of l size m s =
     system_of (l.front + (l.turns + l.missing)) l.parameters
     (map (domain_form l) m.domain.equalities ++ dimension_equalities l s)
-    (map (domain_form l) m.domain.rows ++ are_coordinates l size (length s.leading + 1) s.band)
+    (map (domain_form l) m.domain.rows
+    ++ variable (width l) (length s.leading) ∷ are_coordinates l size (length s.leading + 1) s.band)
 
 -- the dimension that may run in parallel: that of the first tile coordinate, which stands at k
 abbrev pub parallel_place : ℕ → List TileRow → Option ℕ

@@ -1,7 +1,6 @@
 //! Forms over the variables of a scan set.
 ghost use Rattle.std.specs.Prelude.{◌≡◌, ◌+◌, ◌<◌, ◌≤◌, ◌^◌, ◌++◌, ◌∷◌, [], pos, neg_ℤ, ◌≤ℤ◌, IfOk, OnOk, length, map};
 ghost use Rattle.affine_forms.specs.Parts.{variables_of};
-ghost use Rattle.iteration_domains.specs.Rows.{variable};
 ghost use Rattle.whole_numbers.specs.Affine.{form_of};
 ghost use Rattle.whole_numbers.specs.Lists.{zeros};
 ghost use Rattle.conflict_deps.specs.Conflicts.{spread};
@@ -205,11 +204,10 @@ pub fn push_coordinate(
     requires place { at < width layout }
     requires size { (0 < size) × (size ≤ 1024) }
     requires small { FitsWidth layout form.now }
-    ensures { OnOk result (out.new.items ≡ out.old.items ++ variable (width layout) at
-        ∷ tile_begins layout (pos size) at form.now ∷ tile_ends layout (pos size) at form.now ∷ []) }
+    ensures { OnOk result (out.new.items
+        ≡ out.old.items ++ tile_begins layout (pos size) at form.now ∷ tile_ends layout (pos size) at form.now ∷ []) }
 {
     let size = size as i128;
-    push_form(out, variable_form(alloc, layout.width(), at)?)?;
     let begins = tile_begins(alloc, layout, size, at, form)?;
     push_form(out, begins)?;
     let ends = tile_ends(alloc, layout, size, at, form)?;

@@ -1,6 +1,7 @@
 //! The scan sets of a schedule: of each statement the set of its instances at their places.
 ghost use Rattle.std.specs.Prelude.{◌≡◌, ◌+◌, ◌<◌, ◌≤◌, ◌^◌, ◌++◌, ◌∷◌, [], All, pos, ◌≤ℤ◌, IfOk, OnOk, length, map};
 ghost use Rattle.affine_forms.specs.Parts.{variables_of};
+ghost use Rattle.iteration_domains.specs.Rows.{variable};
 ghost use Rattle.loop_tree.specs.TilingView.{item_of, items_of};
 ghost use Rattle.tile_skew.specs.ScanSets.{are_coordinates, dimension_equalities, domain_form, front_of};
 ghost use Rattle.tile_skew.specs.ScanSets.{have_values, item_equalities, item_form, missing_equalities};
@@ -239,17 +240,20 @@ pub fn rows(
     requires place { front_of (items_of items.now) ≤ width layout }
     requires rows { All (λ r. FitsTurns layout.turns r.form) items.now.band.items }
     ensures forms { IfOk result (λ fs. fs.items ≡ map (domain_form layout) statement.now.domain.rows
-        ++ are_coordinates layout (pos size) (length items.now.leading.items + 1) items.now.band.items) }
+        ++ variable (width layout) (length items.now.leading.items)
+        ∷ are_coordinates layout (pos size) (length items.now.leading.items + 1) items.now.band.items) }
     ensures sized { IfOk result (λ fs. All (λ f. variables_of f ≡ width layout) fs.items) }
 {
     let mut out = Vec::new(alloc);
     push_domain(&mut out, alloc, layout, statement.domain().rows())?;
+    let wave = items.leading.len();
+    push_form(&mut out, variable_form(alloc, layout.width(), wave)?)?;
     push_coordinates(
         &mut out,
         alloc,
         layout,
         size,
-        items.leading.len() + 1,
+        wave + 1,
         items.band.as_slice(),
     )?;
     Ok(out)

@@ -50,7 +50,7 @@ known c program blocks kernel schedule =
 pub returns-clause-bounded : goal.returns-clause-bounded
 returns-clause-bounded c program blocks size s kernel positive small schedule among =
     sets_bounded program blocks size s (known c program blocks kernel schedule)
-    (λ m i d ts ps. turns_bounded program m d ts ps kernel i) positive among
+    (λ m i d ts ps. turns_bounded program m d ts ps kernel i) positive small among
 
 pub returns-clause-parts : goal.returns-clause-parts
 returns-clause-parts c program blocks size s kernel schedule among =

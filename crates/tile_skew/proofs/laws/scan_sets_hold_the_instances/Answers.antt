@@ -9,7 +9,7 @@ use Rattle.tile_skew.specs.Places.{place_of}
 use Rattle.tile_skew.specs.ScanSets.{layout_of}
 use Rattle.tile_skew.specs.Tilings.{statement_items}
 use Rattle.tile_skew.specs.steps.Sizes.{AreOver}
-use Rattle.tile_skew.proofs.Instances.{parted, from_point, to_point, first_from_0, statement_over, loops_are}
+use Rattle.tile_skew.proofs.Instances.{parted, from_point, to_point, statement_over, wave_from_0, loops_are}
 use Rattle.tile_skew.proofs.Instances.{parameters_are}
 use Rattle.tile_skew.proofs.laws.scan_sets_hold_the_instances.Goals as goal
 
@@ -46,6 +46,6 @@ returns-clause-instances c program blocks params size n s v kernel count positiv
     let size_is : pos 0 <ℤ pos size = omega (arith, ints, positive) in
     let runs = c.instances_are_those_of_statements.ensures.found program params in
     let up = (not_negative_all v.turns).1 (turns_from_0 program params v runs is.walked) in
-    let tiles = first_from_0 (loops_in model) (pos size) blocks s.number v.turns size_is up sized in
-    to_point l (pos size) n s items v.turns params size_is own.0 many refl (ap (λ k. n - k) (sym own.0)) over tiles
+    let wave = wave_from_0 (loops_in model) (pos size) blocks s.number v.turns size_is up sized in
+    to_point l (pos size) n s items v.turns params size_is own.0 many refl (ap (λ k. n - k) (sym own.0)) over wave
     own.1

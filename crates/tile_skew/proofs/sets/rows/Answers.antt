@@ -1,9 +1,11 @@
-use Rattle.std.proofs.Common.{◌≡◌, ◌+◌, ap, sym, subst, arith, map, pos, refl}
+use Rattle.std.proofs.Common.{◌≡◌, ◌+◌, ◌∙◌, ap, sym, subst, arith, map, pos, refl}
 use Rattle.std.specs.Prelude.{All}
+use Rattle.affine_forms.specs.Parts.{variables_of}
 use Rattle.integer_sets.specs.Constraints.{variables_in}
+use Rattle.iteration_domains.proofs.Entering.{length-variable}
 use Rattle.tile_skew.specs.ScanSets.{domain_form}
 use Rattle.tile_skew.specs.steps.Sizes.{FitsTurns}
-use Rattle.tile_skew.proofs.Shaped.{all_wide, resized, domain_over, coordinates_over, two_over}
+use Rattle.tile_skew.proofs.Shaped.{all_wide, resized, domain_over, coordinates_over, parts_over}
 use Rattle.tile_skew.proofs.sets.rows.Goals as goal
 
 pub push_domain-requires : goal.push_domain-requires
@@ -28,6 +30,8 @@ returns-clause-sized c =
     let domain = domain_over l c.rows.result.now (resized (variables_in c.domain.result.now) (l.turns + l.parameters)
     c.rows.result.now c.rows.result.now many refl c.rows.ensures.sized) in
     let small = subst (λ rs. All (λ r. FitsTurns l.turns r.form) rs) (sym c.as_slice.ensures.value) c.requires.rows in
-    two_over l c.new-out.result.items c.push_domain.new.out.items c.push_coordinates.new.out.items
-    (map (domain_form l) c.rows.result.now) _ c.new-out.ensures.items c.in_ok-push_domain.ensures
-    c.in_ok-push_coordinates.ensures domain (coordinates_over l (pos c.args.size) _ c.as_slice.result.now small)
+    parts_over l c.new-out.result.items c.push_domain.new.out.items c.push_form.new.forms.items
+    c.push_coordinates.new.out.items (map (domain_form l) c.rows.result.now) _ _ c.new-out.ensures.items
+    c.in_ok-push_domain.ensures c.in_ok-push_form.ensures c.in_ok-push_coordinates.ensures domain
+    (ap variables_of c.in_ok-variable_form.ensures ∙ (length-variable _ _ ∙ c.width.ensures))
+    (coordinates_over l (pos c.args.size) _ c.as_slice.result.now small)
