@@ -16,3 +16,5 @@ pub mod Shuffling
 pub mod Waves
 pub mod Simpler
 pub mod Walkable
+pub mod Lengths
+pub mod Rows

@@ -41,7 +41,7 @@ tilings_are_even program size blocks j k a b =
     )
 
 -- a walked instance is one of a statement
-walked_number : (program : Program) (params : List ℤ) (v : Visit) → In v (walk_of program params)
+pub walked_number : (program : Program) (params : List ℤ) (v : Visit) → In v (walk_of program params)
     → v.number < length (statements_of program)
 walked_number program params v i =
     let f = found_at program.body 0 params v i in

@@ -1,5 +1,5 @@
 -- The visits of a plan's trees are instances of the walk, which code can hold.
-use Rattle.std.proofs.Common.{◌≡◌, ◌^◌, ◌≤◌, ℤ, pos, negsuc, List, [], ◌∷◌, length, map, subst, sym, arith}
+use Rattle.std.proofs.Common.{◌≡◌, ◌∙◌, ◌^◌, ◌<◌, ◌≤◌, ℤ, pos, negsuc, List, [], ◌∷◌, length, ap, subst, sym, arith}
 use Rattle.std.specs.Prelude.{◌≤ℤ◌, ◌<ℤ◌, All, FitsSigned}
 use Rattle.std.specs.Int.{w64}
 use Rattle.std.proofs.lemmas.Int.{ints}
@@ -7,9 +7,9 @@ use Rattle.std.proofs.lemmas.List.Elements.{All-nil, All-cons, All-head, All-tai
 use Rattle.scop_syntax.specs.Members.{In}
 use Rattle.scop_syntax.specs.Tree.{Program}
 use Rattle.scop_syntax.specs.Statements.{Scope, Placed, Runs, loops_in, statements_of, visit_of}
-use Rattle.scop_syntax.specs.Walk.{Visit, instance, walk_of}
+use Rattle.scop_syntax.specs.Walk.{Instance, Visit, instance, walk_of}
 use Rattle.scop_syntax.proofs.Members.{in_map, in_map_from}
-use Rattle.loop_tree.specs.Conditions.{CanWalk, IsHeld}
+use Rattle.loop_tree.specs.Conditions.{CanWalk}
 use Rattle.loop_tree.specs.Fits.{FitsAll}
 use Rattle.loop_tree.specs.Marks.{FlatAll}
 use Rattle.loop_tree.specs.Plans.{AreInOrder}
@@ -17,6 +17,7 @@ use Rattle.loop_tree.specs.Tiling.{Tiling}
 use Rattle.loop_tree.specs.Tree.{Trees}
 use Rattle.loop_tree.specs.Walk.{given, visits, walk_all}
 use Rattle.plan_tree.proofs.Ending.{listed_same}
+use Rattle.plan_tree.proofs.Orders.{walked_number}
 
 -- what the laws of the walk say of a program at its parameters
 pub record WalkLaws (program : Program) (params : List ℤ) : Type 0 where
@@ -28,6 +29,7 @@ pub record WalkLaws (program : Program) (params : List ℤ) : Type 0 where
   pub small : (xs : List ℤ) (p : Placed) → In p (statements_of program) → Runs p.scopes params xs
       → All (λ x. (pos 0 ≤ℤ x) × (x <ℤ pos (2 ^ 46))) xs
 
+-- such turns have 64 bits
 turns_fit : (xs : List ℤ) → All (λ x. (pos 0 ≤ℤ x) × (x <ℤ pos (2 ^ 46))) xs → All (FitsSigned w64) xs
 turns_fit [] all = All-nil (FitsSigned w64)
 turns_fit (x ∷ xs) all =
@@ -39,14 +41,34 @@ turns_fit (x ∷ xs) all =
     turn_fits (pos n) low high = omega (arith, ints)
     turn_fits (negsuc n) low high = absurd (omega (arith, ints))
 
-walked_held : (program : Program) (params : List ℤ) → WalkLaws program params → (v : Visit)
-    → In v (walk_of program params) → IsHeld (instance v)
-walked_held program params laws v h =
-    let f = laws.found v h in
+-- an instance that is visited has a statement's number, and few small turns
+pub record IsWalked (program : Program) (x : Instance) : Type 0 where
+  pub number : x.number < length (statements_of program)
+  pub few : length x.turns ≤ 5
+  pub small : All (λ t. (pos 0 ≤ℤ t) × (t <ℤ pos (2 ^ 46))) x.turns
+
+-- a visit stands in the walk
+pub visited_walked : (program : Program) (params : List ℤ) (plan : Tiling) (xs : List Instance)
+    → AreInOrder program params plan xs → (x : Instance) → In x xs
+    → (v : Visit) × In v (walk_of program params) × (x ≡ instance v)
+visited_walked program params plan xs exact x i =
+    in_map_from instance x (walk_of program params) ((listed_same program params plan xs exact x).0 i)
+
+pub are_walked : (program : Program) (params : List ℤ) (plan : Tiling) (xs : List Instance)
+    → WalkLaws program params → AreInOrder program params plan xs → (x : Instance) → In x xs → IsWalked program x
+are_walked program params plan xs laws exact x i =
+    let w = visited_walked program params plan xs exact x i in
+    let f = laws.found w.0 w.1 in
     let l = laws.turns f.0.scopes params f.1 f.3 in
-    let few = laws.few f.0 f.2 in
-    subst (λ (w : Visit). IsHeld (instance w)) (sym f.4)
-    (record { few = omega arith; turns = turns_fit f.1 (laws.small f.1 f.0 f.2 f.3) })
+    let most = laws.few f.0 f.2 in
+    let number = walked_number program params w.0 w.1 in
+    let turns : f.1 ≡ x.turns = sym (ap (λ (y : Instance). y.turns) w.2 ∙ ap (λ (v : Visit). v.turns) f.4) in
+    let same : x.number ≡ w.0.number = ap (λ (y : Instance). y.number) w.2 in
+    record {
+      number = omega (arith, number, same);
+      few = subst (λ (xs : List ℤ). length xs ≤ 5) turns (omega (arith, l, most));
+      small = subst (All (λ t. (pos 0 ≤ℤ t) × (t <ℤ pos (2 ^ 46)))) turns (laws.small f.1 f.0 f.2 f.3);
+    }
 
 pub walkable : (program : Program) (params : List ℤ) (plan : Tiling) (ts : Trees) → WalkLaws program params
     → FlatAll ts → FitsAll ts params [] → AreInOrder program params plan (visits ts params) → CanWalk ts params []
@@ -55,8 +77,7 @@ walkable program params plan ts laws flat fits exact =
       flat = flat;
       fits = fits;
       held = λ v h.
-          let i = (listed_same program params plan (visits ts params) exact (given v)).0
-          (in_map given v (walk_all ts params []) h) in
-          let w = in_map_from instance (given v) (walk_of program params) i in
-          subst IsHeld (sym w.2) (walked_held program params laws w.0 w.1);
+          let i = in_map given v (walk_all ts params []) h in
+          let w = are_walked program params plan (visits ts params) laws exact (given v) i in
+          record { few = w.few; turns = turns_fit v.turns w.small };
     }

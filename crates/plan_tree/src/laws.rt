@@ -1,21 +1,28 @@
 //! What a tree of a plan is for, as contracts of functions that call the laws which their proofs use.
-ghost use Rattle.std.specs.Prelude.{◌≡◌, ℕ, ℤ, List, [], map};
+ghost use Rattle.std.specs.Prelude.{◌≡◌, ℕ, ℤ, List, [], All, FitsSigned, length, map};
+ghost use Rattle.std.specs.Int.{w64};
+ghost use Rattle.whole_numbers.specs.Affine.{value_of};
 ghost use Rattle.scop_syntax.specs.Cells.{PlacesConflict};
 ghost use Rattle.scop_syntax.specs.Execution.{IsInside, IsShaped, exec, layout, performed_all};
 ghost use Rattle.scop_syntax.specs.Limits.{HasParameters};
+ghost use Rattle.scop_syntax.specs.Members.{In};
 ghost use Rattle.scop_syntax.specs.Tree.{Program};
-ghost use Rattle.scop_syntax.specs.Walk.{instance, Visit as Walked, walk_of};
+ghost use Rattle.scop_syntax.specs.Walk.{Instance, instance, Visit as Walked, walk_of};
+ghost use Rattle.iteration_domains.specs.Model.{model_of};
 ghost use Rattle.conflict_orders.specs.Orders.{IsOrderOf};
 ghost use Rattle.loop_tree.specs.Conditions.{CanWalk};
 ghost use Rattle.loop_tree.specs.Plans.{CarryOut, walked};
 ghost use Rattle.loop_tree.specs.Runs.{MayRunAll};
-ghost use Rattle.loop_tree.specs.Tiling.{Tiling};
+ghost use Rattle.loop_tree.specs.Tiling.{Tiling, items_at, tile_of, wave_of};
 ghost use Rattle.loop_tree.specs.Tree.{Trees};
 ghost use Rattle.loop_tree.specs.Walk.{Visit, given, visits, walk_all};
+ghost use Rattle.schedule_rows.specs.Schedule.{IsScheduled, Scheduled};
+ghost use Rattle.tile_skew.specs.Tilings.{statements_from};
 ghost use Rattle.plan_tree.specs.Executions.{AreVisitsOf};
-ghost use Rattle.plan_tree.specs.Trees.{AreEven, AreTreesOf, StandInOrder};
+ghost use Rattle.plan_tree.specs.Trees.{AreEven, AreTreesOf, IsScheduleFor, StandInOrder, tiling_of};
 
 use conflict_orders::laws::orders_of_walks_end_as_they_do;
+use schedule_rows::schedules_have_small_items;
 use scop_syntax::limit_laws::values_lie_within_45_bits;
 use scop_syntax::walk_laws::{
     instances_are_those_of_statements, statements_are_numbered, walks_are_in_order,
@@ -57,6 +64,28 @@ pub fn trees_of_plans_can_be_walked()
         → HasParameters program params → CanWalk ts params [] }
 {
     instances_are_those_of_statements();
+    statements_are_numbered();
+    values_lie_within_45_bits();
+}
+
+/// The waves of what a plan's trees visit have one length, and so have the tiles.
+pub fn waves_have_one_length()
+    ensures { (program : Program) (params : List ℤ) (plan : Tiling) (ts : Trees) → AreTreesOf program plan ts
+        → HasParameters program params → (x y : Instance) → In x (visits ts params) → In y (visits ts params)
+        → (length (wave_of plan x) ≡ length (wave_of plan y))
+        × (length (tile_of plan x) ≡ length (tile_of plan y)) }
+{}
+
+/// At what the trees of a schedule's tiles visit, the values of the rows of the first band have 64 bits.
+pub fn rows_of_schedules_fit()
+    ensures { (program : Program) (params : List ℤ) (size : ℕ) (s : Scheduled) (run : IsScheduled s) (ts : Trees)
+        → IsScheduleFor program s → AreTreesOf program (tiling_of program size run.blocks) ts
+        → HasParameters program params → (x : Instance) → In x (visits ts params)
+        → All (λ r. FitsSigned w64 (value_of r.form x.turns))
+        (items_at (statements_from run.blocks 0 (length (model_of program).statements)) x.number).band }
+{
+    instances_are_those_of_statements();
+    schedules_have_small_items();
     statements_are_numbered();
     values_lie_within_45_bits();
 }

@@ -1,10 +1,9 @@
-use Rattle.std.proofs.Common.{◌≡◌, ◌∙◌, ℕ, length, ap, sym, subst}
+use Rattle.std.proofs.Common.{◌≡◌, ◌∙◌, length, ap, sym, subst}
 use Rattle.iteration_domains.specs.Model.{KernelModel}
-use Rattle.scop_syntax.specs.Tree.{Program}
 use Rattle.loop_tree.specs.Shape.{TreesAreOver}
 use Rattle.loop_tree.specs.View.{trees_in}
 use Rattle.tree_simplification.specs.Simplified.{Simplifies}
-use Rattle.plan_tree.specs.Trees.{IsScheduleFor, tiling_of}
+use Rattle.plan_tree.specs.Trees.{tiling_of}
 use Rattle.plan_tree.proofs.Simpler.{simpler}
 use Rattle.plan_tree.proofs.trees.tiled_tree.Goals as goal
 
