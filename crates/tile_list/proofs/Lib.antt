@@ -1,0 +1,12 @@
+pub mod Coordinates
+pub mod Order
+pub mod Parts
+pub mod Listing
+pub mod Waves
+pub mod Taking
+pub mod Offset
+pub mod Ending
+pub mod Rising
+pub mod Unique
+pub mod Numbers
+pub mod Starts

@@ -1,0 +1,54 @@
+-- Where parts begin.
+use Rattle.std.proofs.Common.{◌≡◌, ◌∙◌, ℕ, zero, suc, ◌+◌, ◌<◌, List, [], ◌∷◌, ◌++◌, length, take, refl, ap, sym, subst, arith}
+use Rattle.std.specs.Prelude.{slice_get, slice_index_or}
+use Rattle.std.proofs.Math.Seq.{take-length}
+use Rattle.std.proofs.lemmas.List.{length-append}
+use Rattle.scop_syntax.specs.Walk.{Instance}
+use Rattle.loop_tree.specs.Tiling.{Tiling}
+use Rattle.tile_list.specs.Tiles.{AreTiles, joined, start_of}
+
+pub next_start : (parts : List (List Instance)) (t : ℕ) → t < length parts
+    → start_of parts (suc t) ≡ start_of parts t + length (slice_index_or parts t [])
+next_start [] t below = absurd (omega (arith, below))
+next_start (p ∷ ps) zero below = let l = length-append p [] in omega (arith, l)
+next_start (p ∷ ps) (suc t) below =
+    let a = length-append p (joined (take (suc t) ps)) in
+    let b = length-append p (joined (take t ps)) in
+    let next = next_start ps t (omega (arith, below)) in
+    omega (arith, a, b, next)
+
+pub last_start : (tiling : Tiling) (xs : List Instance) (parts : List (List Instance)) → AreTiles tiling xs parts
+    → start_of parts (length parts) ≡ length xs
+last_start tiling xs parts h =
+    ap (λ (ps : List (List Instance)). length (joined ps)) (take-length parts)
+    ∙ ap (λ (ys : List Instance). length ys) h.all
+
+in_back : {A : Type 0} (xs ys : List A) (k : ℕ) → slice_get (xs ++ ys) (length xs + k) ≡ slice_get ys k
+in_back [] ys k = let e : 0 + k ≡ k = omega arith in ap (slice_get ys) e
+in_back (x ∷ xs) ys k =
+    let e : suc (length xs) + k ≡ suc (length xs + k) = omega arith in
+    ap (slice_get (x ∷ (xs ++ ys))) e ∙ in_back xs ys k
+
+in_front : {A : Type 0} (xs ys : List A) (k : ℕ) → k < length xs → slice_get (xs ++ ys) k ≡ slice_get xs k
+in_front [] ys k below = absurd (omega (arith, below))
+in_front (x ∷ xs) ys zero below = refl
+in_front (x ∷ xs) ys (suc k) below = in_front xs ys k (omega (arith, below))
+
+there : (parts : List (List Instance)) (t k : ℕ) → t < length parts → k < length (slice_index_or parts t [])
+    → slice_get (joined parts) (start_of parts t + k) ≡ slice_get (slice_index_or parts t []) k
+there [] t k below few = absurd (omega (arith, below))
+there (p ∷ ps) zero k below few =
+    let e : 0 + k ≡ k = omega arith in
+    ap (slice_get (p ++ joined ps)) e ∙ in_front p (joined ps) k few
+there (p ∷ ps) (suc t) k below few =
+    let l = length-append p (joined (take t ps)) in
+    let at : start_of (p ∷ ps) (suc t) + k ≡ length p + (start_of ps t + k) = omega (arith, l) in
+    ap (slice_get (p ++ joined ps)) at
+    ∙ (in_back p (joined ps) (start_of ps t + k) ∙ there ps t k (omega (arith, below)) few)
+
+pub stands_there : (tiling : Tiling) (xs : List Instance) (parts : List (List Instance)) → AreTiles tiling xs parts
+    → (t k : ℕ) → t < length parts → k < length (slice_index_or parts t [])
+    → slice_get xs (start_of parts t + k) ≡ slice_get (slice_index_or parts t []) k
+stands_there tiling xs parts h t k below few =
+    subst (λ (ys : List Instance). slice_get ys (start_of parts t + k) ≡ slice_get (slice_index_or parts t []) k) h.all
+    (there parts t k below few)

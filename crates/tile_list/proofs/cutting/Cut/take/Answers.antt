@@ -1,0 +1,19 @@
+use Rattle.std.proofs.Common.{refl}
+use Rattle.std.proofs.lemmas.Result.{on_ok_weaker}
+use Rattle.scop_syntax.specs.View.{instance_of}
+use Rattle.loop_tree.specs.TilingView.{tiling_of}
+use Rattle.tile_list.proofs.Taking.{takes_next, takes_same}
+use Rattle.tile_list.proofs.cutting.Cut.take.Goals as goal
+
+pub returns-then-is_that_of : goal.returns-then-is_that_of
+returns-then-is_that_of c =
+    let same = c.if-is_that_of.ensures.same refl in
+    on_ok_weaker c.grow.result
+    (λ has. takes_same (tiling_of c.args.tiling.now) (instance_of c.args.instance) c.args.spot.now c.args.self.now
+    c.grow.new.self c.set.new.self c.in_ok-set.ensures same.0 same.1 has) c.grow.ensures
+
+pub returns-else-is_that_of : goal.returns-else-is_that_of
+returns-else-is_that_of c =
+    on_ok_weaker c.begin.result
+    (λ has. takes_next (tiling_of c.args.tiling.now) c.args.instance c.args.spot.now c.args.self.now
+    c.begin.new.self c.set.new.self c.in_ok-set.ensures (c.if-is_that_of.ensures.other refl) has) c.begin.ensures

@@ -1,0 +1,15 @@
+use Rattle.std.proofs.Common.{length}
+use Rattle.loop_tree.specs.SpotView.{IsSpotOf, to_come}
+use Rattle.loop_tree.specs.TilingView.{tiling_of}
+use Rattle.loop_tree.specs.View.{trees_in}
+use Rattle.tile_list.specs.steps.Cutting.{IsCutTo}
+use Rattle.tile_list.proofs.cutting.cut_rest.Given as goal
+
+abbrev pub invariant-loop-instance : goal.invariant-loop-instance
+invariant-loop-instance l = record {
+  spot : IsSpotOf (trees_in l.tree) l.params l.spot;
+  cut : IsCutTo (trees_in l.tree) l.params (tiling_of l.tiling) (to_come (trees_in l.tree) l.params l.spot) l.cut;
+}
+
+abbrev pub decreases-loop-instance : goal.decreases-loop-instance
+decreases-loop-instance l = length (to_come (trees_in l.tree) l.params l.spot)

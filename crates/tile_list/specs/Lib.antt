@@ -1,0 +1,3 @@
+pub mod Tiles
+pub mod TilesView
+pub mod steps

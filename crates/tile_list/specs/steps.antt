@@ -1,0 +1,4 @@
+-- What only proofs and private contracts need.
+pub mod Keys
+pub mod Cutting
+pub mod Offsets

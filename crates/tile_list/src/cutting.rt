@@ -1,0 +1,198 @@
+//! One walk over a tree's visits, which begins a tile where wave or tile are others than before.
+ghost use Rattle.std.specs.Prelude.{◌≡◌, ◌+◌, ◌++◌, ◌∷◌, [], IfOk, List, OnOk, ℤ};
+ghost use Rattle.scop_syntax.specs.View.{instance_of};
+ghost use Rattle.loop_tree.specs.Conditions.{CanWalk};
+ghost use Rattle.loop_tree.specs.SpotView.{IsSpotOf, to_come};
+ghost use Rattle.loop_tree.specs.TilingView.{tiling_of};
+ghost use Rattle.loop_tree.specs.Tree.{Trees};
+ghost use Rattle.loop_tree.specs.View.{trees_in};
+ghost use Rattle.loop_tree.specs.Walk.{visits};
+ghost use Rattle.tile_list.specs.Tiles.{CanTile, HasSize, RiseByTile, RowsFit};
+ghost use Rattle.tile_list.specs.TilesView.{IsTileListOf};
+ghost use Rattle.tile_list.specs.steps.Cutting.{Begins, HasBegun, HasGrown, IsCutTo, IsListed, IsNewTile, IsWaveOf, Takes};
+
+use crate::keys::Key;
+use crate::list::{Tile, TileList};
+use crate::offsets::offsets_of;
+use loop_tree::{Spot, Tiling, Tree};
+use scop_syntax::instance::Instance;
+use std::alloc::{AllocError, Global};
+use std::mem;
+
+/// The tiles that have come to their ends, the one that still grows with its key, and room for the key of an instance.
+#[derive(Debug, Drop)]
+struct Cut {
+    tiles: Vec<Tile>,
+    current: Tile,
+    key: Key,
+    next: Key,
+}
+
+/// One more, where a word has room for it.
+fn one_more(number: usize) -> Result<usize, AllocError>
+    ensures { IfOk result (λ n. n ≡ number + 1) }
+{
+    match number.checked_add(1) {
+        None => Err(AllocError),
+        Some(more) => Ok(more),
+    }
+}
+
+/// The same place once more.
+fn copy_of(alloc: Global, spot: &Spot) -> Result<Spot, AllocError>
+    ensures { IfOk result (λ s. s.marks.items ≡ spot.now.marks.items) }
+{
+    let marks = Vec::from_slice(alloc, spot.marks.as_slice())?;
+    Ok(Spot { marks })
+}
+
+/// Puts a tile behind others.
+fn push(tiles: &mut Vec<Tile>, tile: Tile) -> Result<(), AllocError>
+    ensures { OnOk result (tiles.new.items ≡ tiles.old.items ++ tile ∷ []) }
+{
+    match tiles.push(tile) {
+        Err(_) => Err(AllocError),
+        Ok(()) => Ok(()),
+    }
+}
+
+/// A tile that begins with an instance, the spot behind which is given.
+fn tile_at(alloc: Global, first: Instance, spot: &Spot, wave: usize) -> Result<Tile, AllocError>
+    ensures { IfOk result (IsNewTile first spot.now wave) }
+{
+    let spot = copy_of(alloc, spot)?;
+    Ok(Tile {
+        first,
+        spot,
+        wave,
+        size: 1,
+    })
+}
+
+impl Cut {
+    /// The first instance is in its tile.
+    fn of(alloc: Global, tiling: &Tiling, first: Instance, spot: &Spot) -> Result<Cut, AllocError>
+        requires size { HasSize (tiling_of tiling.now) }
+        requires fits { RowsFit (tiling_of tiling.now) (instance_of first) }
+        ensures { IfOk result (Begins (tiling_of tiling.now) (instance_of first) spot.now) }
+    {
+        let mut key = Key::empty(alloc);
+        key.set(tiling, &first)?;
+        let current = tile_at(alloc, first, spot, 0)?;
+        Ok(Cut {
+            tiles: Vec::new(alloc),
+            current,
+            key,
+            next: Key::empty(alloc),
+        })
+    }
+
+    /// The current tile has one instance more.
+    fn grow(&mut self) -> Result<(), AllocError>
+        ensures { OnOk result (HasGrown self.old self.new) }
+    {
+        self.current.size = one_more(self.current.size)?;
+        Ok(())
+    }
+
+    /// The number of the wave of the next tile.
+    fn next_wave(&self) -> Result<usize, AllocError>
+        ensures { IfOk result (IsWaveOf self.now) }
+    {
+        if self.next.has_wave(&self.key) {
+            Ok(self.current.wave)
+        } else {
+            one_more(self.current.wave)
+        }
+    }
+
+    /// The next tile is the current one.
+    fn begin(&mut self, alloc: Global, first: Instance, spot: &Spot) -> Result<(), AllocError>
+        ensures { OnOk result (HasBegun first spot.now self.old self.new) }
+    {
+        let wave = self.next_wave()?;
+        let tile = tile_at(alloc, first, spot, wave)?;
+        push(
+            &mut self.tiles,
+            mem::replace(&mut self.current, tile),
+        )?;
+        mem::swap(&mut self.key, &mut self.next);
+        Ok(())
+    }
+
+    /// The next instance is in its tile.
+    fn take(&mut self, alloc: Global, tiling: &Tiling, instance: Instance, spot: &Spot) -> Result<(), AllocError>
+        requires size { HasSize (tiling_of tiling.now) }
+        requires fits { RowsFit (tiling_of tiling.now) (instance_of instance) }
+        ensures { OnOk result (Takes (tiling_of tiling.now) (instance_of instance) spot.now self.old self.new) }
+    {
+        self.next.set(tiling, &instance)?;
+        if self.next.is_that_of(&self.key) {
+            self.grow()
+        } else {
+            self.begin(alloc, instance, spot)
+        }
+    }
+
+    /// All tiles.
+    fn end(self) -> Result<Vec<Tile>, AllocError>
+        ensures { IfOk result (λ v. v.items ≡ self.tiles.items ++ self.current ∷ []) }
+    {
+        let mut tiles = self.tiles;
+        push(&mut tiles, self.current)?;
+        Ok(tiles)
+    }
+}
+
+/// Cuts what is still to come behind the first instance.
+fn cut_rest(
+    alloc: Global,
+    tree: &Tree,
+    tiling: &Tiling,
+    params: &[i64],
+    first: Instance,
+    spot: &mut Spot,
+) -> Result<Cut, AllocError>
+    requires walk { CanWalk (trees_in tree.now) params.now [] }
+    requires rise { RiseByTile (tiling_of tiling.now) (visits (trees_in tree.now) params.now) }
+    requires fits { CanTile (tiling_of tiling.now) (visits (trees_in tree.now) params.now) }
+    requires spot { IsSpotOf (trees_in tree.now) params.now spot.old }
+    requires first { visits (trees_in tree.now) params.now
+        ≡ instance_of first ∷ to_come (trees_in tree.now) params.now spot.old }
+    ensures { IfOk result (IsCutTo (trees_in tree.now) params.now (tiling_of tiling.now) []) }
+{
+    let mut cut = Cut::of(alloc, tiling, first, spot)?;
+    while let Some(instance) = spot.next(tree, params) {
+        cut.take(alloc, tiling, instance, spot)?;
+    }
+    Ok(cut)
+}
+
+/// Tiles with their offsets.
+fn listed(alloc: Global, tiles: Vec<Tile>) -> Result<TileList, AllocError>
+    ensures { IfOk result (IsListed tiles.items) }
+{
+    let offsets = offsets_of(alloc, tiles.as_slice())?;
+    Ok(TileList { tiles, offsets })
+}
+
+/// The tiles of the instances that `tree` visits for `params`, where these rise by tile. It makes no list of the
+/// instances: the memory is that of the tiles.
+///
+/// # Errors
+/// `AllocError`, also where a tile has 2^64 instances or more, for whose number a word has no room.
+pub fn tiles(alloc: Global, tree: &Tree, tiling: &Tiling, params: &[i64]) -> Result<TileList, AllocError>
+    requires walk { CanWalk (trees_in tree.now) params.now [] }
+    requires rise { RiseByTile (tiling_of tiling.now) (visits (trees_in tree.now) params.now) }
+    requires fits { CanTile (tiling_of tiling.now) (visits (trees_in tree.now) params.now) }
+    ensures { IfOk result (λ list. IsTileListOf (trees_in tree.now) params.now (tiling_of tiling.now) list) }
+{
+    let mut spot = Spot::of(alloc, tree)?;
+    match spot.next(tree, params) {
+        None => listed(alloc, Vec::new(alloc)),
+        Some(first) => {
+            let cut = cut_rest(alloc, tree, tiling, params, first, &mut spot)?;
+            listed(alloc, cut.end()?)
+        }
+    }
+}

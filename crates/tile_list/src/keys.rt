@@ -1,0 +1,174 @@
+//! The wave and the tile of an instance, in two buffers that are filled again for the next one.
+ghost use Rattle.std.specs.Prelude.{◌≡◌, ◌≤◌, ◌↔◌, ◌++◌, ◌∷◌, [], All, FitsSigned, IsTrue, OnOk, false, if◌then◌else◌, map, pos, true};
+ghost use Rattle.std.specs.Int.{w64};
+ghost use Rattle.whole_numbers.specs.Affine.{value_of};
+ghost use Rattle.whole_numbers.specs.Floor.{floor};
+ghost use Rattle.scop_syntax.specs.View.{instance_of};
+ghost use Rattle.loop_tree.specs.Tiling.{coordinates, wave_sum};
+ghost use Rattle.loop_tree.specs.TilingView.{items_of, tiling_of};
+ghost use Rattle.tile_list.specs.Tiles.{HasSize, RowsFit};
+ghost use Rattle.tile_list.specs.steps.Keys.{IsKeyOf};
+
+use loop_tree::{TileItems, TileRow, Tiling};
+use scop_syntax::affine_values::exact_at;
+use scop_syntax::instance::Instance;
+use std::alloc::{AllocError, Global};
+use wide_math::floor_div;
+
+/// An instance's wave, and its tile.
+#[derive(Debug, Drop)]
+pub struct Key {
+    pub wave: Vec<i128>,
+    pub tile: Vec<i128>,
+}
+
+/// Puts a number behind others.
+fn push(list: &mut Vec<i128>, number: i128) -> Result<(), AllocError>
+    ensures { OnOk result (list.new.items ≡ list.old.items ++ number ∷ []) }
+{
+    match list.push(number) {
+        Err(_) => Err(AllocError),
+        Ok(()) => Ok(()),
+    }
+}
+
+/// Puts a statement's leading scalars behind others.
+fn push_scalars(list: &mut Vec<i128>, scalars: &[usize]) -> Result<(), AllocError>
+    ensures { OnOk result (list.new.items ≡ list.old.items ++ map pos scalars.now) }
+{
+    for scalar in scalars {
+        push(list, *scalar as i128)?;
+    }
+    Ok(())
+}
+
+/// The value of a row, by the size of the tiles.
+fn coordinate(row: &TileRow, size: u64, turns: &[i64]) -> i128
+    requires size { 1 ≤ size }
+    requires fits { FitsSigned w64 (value_of row.now.form turns.now) }
+    ensures is { result ≡ floor (value_of row.now.form turns.now) (pos size) }
+    ensures small { FitsSigned w64 result }
+{
+    match floor_div(exact_at(&row.form, turns) as i128, size as i128) {
+        Ok(quotient) => quotient,
+        Err(_) => unreachable!(),
+    }
+}
+
+/// What a row adds to the wave.
+fn carried(row: &TileRow, size: u64, turns: &[i64]) -> i128
+    requires size { 1 ≤ size }
+    requires fits { FitsSigned w64 (value_of row.now.form turns.now) }
+    ensures is { result ≡ (if row.now.carries then floor (value_of row.now.form turns.now) (pos size) else pos 0) }
+    ensures small { FitsSigned w64 result }
+{
+    if row.carries {
+        coordinate(row, size, turns)
+    } else {
+        0
+    }
+}
+
+/// The sum of the coordinates of the rows that carry.
+fn wave_number(rows: &[TileRow], size: u64, turns: &[i64]) -> i128
+    requires size { 1 ≤ size }
+    requires fits { All (λ r. FitsSigned w64 (value_of r.form turns.now)) rows.now }
+    ensures { result ≡ wave_sum (pos size) rows.now turns.now }
+{
+    let mut sum = 0i128;
+    for row in rows {
+        sum += carried(row, size, turns);
+    }
+    sum
+}
+
+/// Puts the coordinates of rows behind others.
+fn push_coordinates(list: &mut Vec<i128>, rows: &[TileRow], size: u64, turns: &[i64]) -> Result<(), AllocError>
+    requires size { 1 ≤ size }
+    requires fits { All (λ r. FitsSigned w64 (value_of r.form turns.now)) rows.now }
+    ensures { OnOk result (list.new.items ≡ list.old.items ++ coordinates (pos size) rows.now turns.now) }
+{
+    for row in rows {
+        push(list, coordinate(row, size, turns))?;
+    }
+    Ok(())
+}
+
+/// Puts a statement's wave and tile at some turns behind others.
+fn push_key(wave: &mut Vec<i128>, tile: &mut Vec<i128>, items: &TileItems, size: u64, turns: &[i64]) -> Result<(), AllocError>
+    requires size { 1 ≤ size }
+    requires fits { All (λ r. FitsSigned w64 (value_of r.form turns.now)) items.now.band.items }
+    ensures wave { OnOk result (wave.new.items ≡ wave.old.items ++ (map pos items.now.leading.items
+        ++ wave_sum (pos size) items.now.band.items turns.now ∷ [])) }
+    ensures tile { OnOk result (tile.new.items ≡ tile.old.items ++ (map pos items.now.leading.items
+        ++ coordinates (pos size) items.now.band.items turns.now)) }
+{
+    push_scalars(wave, &items.leading)?;
+    push(wave, wave_number(&items.band, size, turns))?;
+    push_scalars(tile, &items.leading)?;
+    push_coordinates(tile, &items.band, size, turns)
+}
+
+/// Whether two lists of numbers are one.
+fn are_same(left: &[i128], right: &[i128]) -> bool
+    ensures { IsTrue result ↔ (left.now ≡ right.now) }
+{
+    left == right
+}
+
+impl Key {
+    /// A key to be filled.
+    pub fn empty(alloc: Global) -> Key {
+        Key {
+            wave: Vec::new(alloc),
+            tile: Vec::new(alloc),
+        }
+    }
+
+    /// Becomes that of an instance.
+    ///
+    /// # Errors
+    /// `AllocError` alone.
+    pub fn set(&mut self, tiling: &Tiling, instance: &Instance) -> Result<(), AllocError>
+        requires size { HasSize (tiling_of tiling.now) }
+        requires fits { RowsFit (tiling_of tiling.now) (instance_of instance.now) }
+        ensures { OnOk result (IsKeyOf (tiling_of tiling.now) (instance_of instance.now) self.new) }
+    {
+        self.wave.clear();
+        self.tile.clear();
+        match tiling {
+            Tiling::Kept => Ok(()),
+            Tiling::Tiled(size, statements) => match statements.get(instance.statement) {
+                None => push(&mut self.wave, 0),
+                Some(items) => push_key(
+                    &mut self.wave,
+                    &mut self.tile,
+                    items,
+                    *size,
+                    instance.turns(),
+                ),
+            },
+        }
+    }
+
+    /// Whether the waves are one.
+    pub fn has_wave(&self, other: &Key) -> bool
+        ensures { IsTrue result ↔ (self.now.wave.items ≡ other.now.wave.items) }
+    {
+        are_same(&self.wave, &other.wave)
+    }
+
+    /// Whether waves and tiles are one.
+    pub fn is_that_of(&self, other: &Key) -> bool
+        ensures same { result ≡ true
+            → (self.now.wave.items ≡ other.now.wave.items) × (self.now.tile.items ≡ other.now.tile.items) }
+        ensures other { result ≡ false
+            → (self.now.wave.items ≡ other.now.wave.items) × (self.now.tile.items ≡ other.now.tile.items) → ⊥ }
+    {
+        if self.has_wave(other) {
+            are_same(&self.tile, &other.tile)
+        } else {
+            false
+        }
+    }
+}
