@@ -57,8 +57,8 @@ pub fn loops_end_as_the_source_does()
     walks_are_in_order();
 }
 
-/// For parameters in 0..=65536 the trees of a plan can be walked: divisors are at least 1, every number of the walk fits,
-/// and so does each instance.
+/// For parameters in 0..=65536 the trees of a plan can be walked: divisors are at least 1, every number of the walk
+/// fits, and so does each instance.
 pub fn trees_of_plans_can_be_walked()
     ensures { (program : Program) (params : List ℤ) (plan : Tiling) (ts : Trees) → AreTreesOf program plan ts
         → HasParameters program params → CanWalk ts params [] }

@@ -1,5 +1,5 @@
 -- Coordinates of rows whose values have 64 bits.
-use Rattle.std.proofs.Common.{◌≡◌, ℕ, ◌/◌, ◌≤◌, ◌<◌, ℤ, pos, negsuc, arith}
+use Rattle.std.proofs.Common.{ℕ, ℤ, pos, negsuc, arith}
 use Rattle.std.specs.Prelude.{FitsSigned}
 use Rattle.std.specs.Int.{w64}
 use Rattle.std.proofs.lemmas.Int.{ints}

@@ -1,21 +1,20 @@
 -- From the first instance to the whole list.
-use Rattle.std.proofs.Common.{◌≡◌, ◌∙◌, ℕ, ℤ, List, [], ◌∷◌, ◌++◌, length, map, inl, inr, refl, ap, subst, sym}
+use Rattle.std.proofs.Common.{◌≡◌, ℕ, ℤ, List, [], ◌∷◌, ◌++◌, inl, inr, refl, ap, subst, sym}
 use Rattle.std.proofs.lemmas.List.{map-append}
 use Rattle.scop_syntax.specs.Members.{In}
 use Rattle.scop_syntax.specs.View.{instance_of}
 use Rattle.scop_syntax.specs.Walk.{Instance}
 use Rattle.scop_syntax.specs.declared.instance.Instance.{Instance as CodeInstance}
 use Rattle.scop_syntax.proofs.Members.{in_back}
-use Rattle.loop_tree.specs.SpotView.{IsSpotOf, to_come}
+use Rattle.loop_tree.specs.SpotView.{to_come}
 use Rattle.loop_tree.specs.Tiling.{Tiling}
 use Rattle.loop_tree.specs.Tree.{Trees}
 use Rattle.loop_tree.specs.Walk.{visits}
 use Rattle.loop_tree.specs.declared.spot.Spot.{Spot}
 use Rattle.tile_list.specs.Tiles.{AreOffsets, AreTiles, AreWaves, joined}
-use Rattle.tile_list.specs.TilesView.{IsTile, IsTileListOf, firsts_of, waves_of}
+use Rattle.tile_list.specs.TilesView.{IsTileListOf, firsts_of, waves_of}
 use Rattle.tile_list.specs.steps.Cutting.{AreTilesOf, Begins, IsCut, IsCutTo, IsListed, IsNewTile}
 use Rattle.tile_list.specs.steps.Keys.{IsKeyOf}
-use Rattle.tile_list.specs.steps.Offsets.{offsets_from}
 use Rattle.tile_list.specs.declared.cutting.Cut.{Cut}
 use Rattle.tile_list.specs.declared.list.Tile.{Tile}
 use Rattle.tile_list.specs.declared.list.TileList.{TileList}
@@ -57,7 +56,8 @@ made_list : (ts : Trees) (params : List ℤ) (tiling : Tiling) (parts : List (Li
     (list : TileList) → AreTiles tiling (visits ts params) parts → AreTilesOf ts params parts tiles
     → AreWaves tiling (firsts_of tiles) (waves_of tiles) → IsListed tiles list → IsTileListOf ts params tiling list
 made_list ts params tiling parts tiles list cut are waves is =
-    let here : AreTilesOf ts params parts list.tiles.items = subst (AreTilesOf ts params parts) (sym is.tiles_are) are in
+    let here : AreTilesOf ts params parts list.tiles.items =
+    subst (AreTilesOf ts params parts) (sym is.tiles_are) are in
     let numbers : waves_of list.tiles.items ≡ waves_of tiles = ap waves_of is.tiles_are in
     record {
       parts = parts;

@@ -1,16 +1,14 @@
 -- The code's tiles stand for parts, one after another.
-use Rattle.std.proofs.Common.{◌≡◌, ◌∙◌, ℕ, zero, suc, ◌+◌, ◌<◌, ◌≤◌, List, [], ◌∷◌, ◌++◌, length, refl, ap, subst, sym, arith}
-use Rattle.std.proofs.Common.{ℤ, drop, take, Some, get_or, inl, inr}
+use Rattle.std.proofs.Common.{◌≡◌, ◌∙◌, ℕ, zero, suc, ◌<◌, ◌≤◌, List, [], ◌∷◌, ◌++◌}
+use Rattle.std.proofs.Common.{length, refl, ap, subst, sym, arith}
+use Rattle.std.proofs.Common.{ℤ, Some, inl, inr}
 use Rattle.std.specs.Prelude.{◌⊎◌, slice_get, slice_index_or}
-use Rattle.std.proofs.Math.Seq.{drop-append_seam, get_or-append_seam, take-append_seam}
-use Rattle.std.proofs.lemmas.List.{append_assoc, get_or_append_left, length-append, take-append-le}
-use Rattle.std.proofs.lemmas.Option.{slice_get_within}
-use Rattle.scop_syntax.specs.View.{instance_of}
+use Rattle.std.proofs.Math.Seq.{get_or-append_seam, take-append_seam}
+use Rattle.std.proofs.lemmas.List.{get_or_append_left, length-append, take-append-le}
 use Rattle.scop_syntax.specs.Walk.{Instance}
-use Rattle.loop_tree.specs.Spot.{IsAt, deep_all, rest_of}
+use Rattle.loop_tree.specs.Spot.{IsAt, rest_of}
 use Rattle.loop_tree.specs.SpotView.{IsSpotOf, marks_of, to_come}
 use Rattle.loop_tree.specs.Tree.{Trees}
-use Rattle.loop_tree.specs.Walk.{visits}
 use Rattle.loop_tree.specs.declared.spot.Mark.{Mark as CodeMark}
 use Rattle.loop_tree.specs.declared.spot.Spot.{Spot}
 use Rattle.tile_list.specs.Tiles.{joined, start_of}
@@ -67,16 +65,19 @@ tile_more ts params parts tiles p tile old new =
   where
     Is : ℕ → List Instance → Tile → Type 0
     Is k q u = IsTile ts params k q u
+
     earlier : (t : ℕ) (u : Tile) → t < length tiles → slice_get tiles t ≡ Some u
         → IsTile ts params (start_of (parts ++ p ∷ []) t) (slice_index_or (parts ++ p ∷ []) t []) u
     earlier t u below e =
         let count = old.count in
         let within : t < length parts = omega (arith, count, below) in
         let up_to : t ≤ length parts = omega (arith, within) in
-        subst (λ (qs : List (List Instance)). IsTile ts params (length (joined qs)) (slice_index_or (parts ++ p ∷ []) t []) u)
+        subst (λ (qs : List (List Instance)). IsTile ts params (length (joined qs))
+        (slice_index_or (parts ++ p ∷ []) t []) u)
         (sym (take-append-le t parts (p ∷ []) up_to))
         (subst (λ (q : List Instance). IsTile ts params (start_of parts t) q u)
         (sym (get_or_append_left parts (p ∷ []) [] t within)) (old.are t u e))
+
     last : (t : ℕ) (u : Tile) → t ≡ length tiles → u ≡ tile
         → IsTile ts params (start_of (parts ++ p ∷ []) t) (slice_index_or (parts ++ p ∷ []) t []) u
     last t u e same =

@@ -1,5 +1,6 @@
 -- What the numbers of waves tell of the waves.
-use Rattle.std.proofs.Common.{◌≡◌, ◌∙◌, ℕ, zero, suc, ◌<◌, ◌≤◌, List, [], ◌∷◌, inl, inr, refl, ap, Some, sym, subst, arith}
+use Rattle.std.proofs.Common.{◌≡◌, ◌∙◌, ℕ, zero, suc, ◌<◌, ◌≤◌, List, [], ◌∷◌, inl, inr}
+use Rattle.std.proofs.Common.{refl, ap, Some, sym, subst, arith}
 use Rattle.std.specs.Prelude.{◌⊎◌, slice_get}
 use Rattle.whole_numbers.specs.Lexicographic.{LexLess}
 use Rattle.whole_numbers.proofs.Lexicographic.{LexLess-asym, LexLess-irrefl, LexLess-trans}
@@ -110,9 +111,11 @@ lesser_number tiling xs ns h t u m n x y e f g i less =
   where
     itself : wave_of tiling x ≡ wave_of tiling y → ⊥
     itself same = LexLess-irrefl (wave_of tiling y) (subst (λ w. LexLess w (wave_of tiling y)) same less)
+
     told : Tells tiling x m y n → m < n
     told (inl k) = absurd (itself k.0)
     told (inr k) = k.1
+
     turned : Tells tiling y n x m → ⊥
     turned (inl k) = itself (sym k.0)
     turned (inr k) = LexLess-asym (wave_of tiling x) (wave_of tiling y) less k.0

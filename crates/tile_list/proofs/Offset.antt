@@ -1,11 +1,11 @@
 -- Offsets of waves whose numbers rise from 0 one by one.
-use Rattle.std.proofs.Common.{◌≡◌, ◌∙◌, ℕ, zero, suc, ◌+◌, ◌<◌, ◌≤◌, Bool, true, false, List, [], ◌∷◌, length, inl, inr, refl}
-use Rattle.std.proofs.Common.{Some, ap, subst, sym, arith}
+use Rattle.std.proofs.Common.{◌≡◌, ℕ, zero, suc, ◌+◌, ◌<◌, ◌≤◌, true, false, List, [], ◌∷◌, length, inl, inr}
+use Rattle.std.proofs.Common.{Some, ap, subst, arith}
 use Rattle.std.specs.Prelude.{◌⊎◌, if◌then◌else◌, max, nat_le, slice_get, ⊤}
 use Rattle.std.proofs.lemmas.Bool.Decides.{nat_tests}
 use Rattle.scop_syntax.specs.Walk.{Instance}
 use Rattle.loop_tree.specs.Tiling.{Tiling}
-use Rattle.tile_list.specs.Tiles.{AreNextWaves, AreOffsets, AreWaves, IsOffset, waves_in}
+use Rattle.tile_list.specs.Tiles.{AreNextWaves, AreOffsets, AreWaves, waves_in}
 use Rattle.tile_list.specs.steps.Offsets.{offsets_from}
 
 -- behind w waves, each number is that of the last wave or of a new one
@@ -84,6 +84,7 @@ in_front ns n t w k small h =
     before : (i m : ℕ) → t + i < k → slice_get (n ∷ ns) i ≡ Some m → m < w
     before zero m less g = let same : n ≡ m = cc in omega (arith, small, same)
     before (suc i) m less g = h.before i m (omega (arith, less)) g
+
     behind : (i m : ℕ) → k ≤ t + i → slice_get (n ∷ ns) i ≡ Some m → w ≤ m
     behind zero m up g = let low = h.low in absurd (omega (arith, low, up))
     behind (suc i) m up g = h.behind i m (omega (arith, up)) g

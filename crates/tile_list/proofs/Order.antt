@@ -1,13 +1,12 @@
 -- The order of tiles: by wave, then by coordinates.
-use Rattle.std.proofs.Common.{◌≡◌, ◌∙◌, ℤ, List, [], ◌∷◌, ◌++◌, inl, inr, refl, subst, sym}
+use Rattle.std.proofs.Common.{◌≡◌, ◌∙◌, List, [], ◌∷◌, ◌++◌, inl, inr, refl, subst, sym}
 use Rattle.std.specs.Prelude.{◌⊎◌}
 use Rattle.whole_numbers.specs.Lexicographic.{LexLess}
 use Rattle.whole_numbers.proofs.Lexicographic.{LexLess-irrefl, LexLess-trans}
 use Rattle.scop_syntax.specs.Members.{In, Sorted}
 use Rattle.scop_syntax.specs.Walk.{Instance}
-use Rattle.scop_syntax.proofs.Members.{in_back}
 use Rattle.loop_tree.specs.Tiling.{Tiling, tile_of, wave_of}
-use Rattle.tile_list.specs.Tiles.{InOneTile, RiseByTile, TileBefore}
+use Rattle.tile_list.specs.Tiles.{InOneTile, TileBefore}
 
 pub one-refl : (tiling : Tiling) (x : Instance) → InOneTile tiling x x
 one-refl tiling x = record { wave = refl; tile = refl }
@@ -18,7 +17,6 @@ one-sym tiling x y h = record { wave = sym h.wave; tile = sym h.tile }
 pub one-trans : (tiling : Tiling) (x y z : Instance) → InOneTile tiling x y → InOneTile tiling y z
     → InOneTile tiling x z
 one-trans tiling x y z h k = record { wave = h.wave ∙ k.wave; tile = h.tile ∙ k.tile }
-
 
 pub before_then_one : (tiling : Tiling) (x y z : Instance) → TileBefore tiling x y → InOneTile tiling y z
     → TileBefore tiling x z
@@ -38,7 +36,8 @@ one_then_before tiling x y z k h =
 
 pub before-trans : (tiling : Tiling) (x y z : Instance) → TileBefore tiling x y → TileBefore tiling y z
     → TileBefore tiling x z
-before-trans tiling x y z (inl a) (inl b) = inl (LexLess-trans (wave_of tiling x) (wave_of tiling y) (wave_of tiling z) a b)
+before-trans tiling x y z (inl a) (inl b) =
+    inl (LexLess-trans (wave_of tiling x) (wave_of tiling y) (wave_of tiling z) a b)
 before-trans tiling x y z (inl a) (inr b) = inl (subst (LexLess (wave_of tiling x)) b.0 a)
 before-trans tiling x y z (inr a) (inl b) = inl (subst (λ w. LexLess w (wave_of tiling z)) (sym a.0) b)
 before-trans tiling x y z (inr a) (inr b) =

@@ -1,5 +1,5 @@
 -- Instances in a plan's order rise by tile.
-use Rattle.std.proofs.Common.{◌≡◌, ℕ, ◌-◌, ℤ, pos, List, [], ◌∷◌, ◌++◌, length, inl, inr, refl, subst}
+use Rattle.std.proofs.Common.{◌≡◌, ℕ, ◌-◌, ℤ, pos, List, [], ◌∷◌, ◌++◌, length, inl, inr, refl}
 use Rattle.std.specs.Prelude.{◌⊎◌}
 use Rattle.whole_numbers.specs.Lexicographic.{LexLess}
 use Rattle.whole_numbers.specs.Lists.{zeros}

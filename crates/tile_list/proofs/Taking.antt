@@ -1,7 +1,7 @@
 -- What is cut off grows instance by instance.
-use Rattle.std.proofs.Common.{◌≡◌, ◌≢◌, ◌∙◌, ℕ, suc, ◌+◌, ◌≤◌, ℤ, List, [], ◌∷◌, ◌++◌, length, drop, map, inl, inr, refl, ap, ap₂}
+use Rattle.std.proofs.Common.{◌≡◌, ◌≢◌, ◌∙◌, ℕ, suc, ◌+◌, ℤ, List, [], ◌∷◌, ◌++◌, length, drop, inl, inr, refl, ap}
 use Rattle.std.proofs.Common.{subst, sym, arith}
-use Rattle.std.specs.Prelude.{◌⊎◌, Some}
+use Rattle.std.specs.Prelude.{Some}
 use Rattle.std.proofs.lemmas.List.{length-append, map-append}
 use Rattle.whole_numbers.specs.Lexicographic.{LexLess}
 use Rattle.whole_numbers.proofs.Lexicographic.{LexLess-irrefl}
@@ -13,16 +13,15 @@ use Rattle.loop_tree.specs.Tiling.{Tiling, tile_of, wave_of}
 use Rattle.loop_tree.specs.Tree.{Trees}
 use Rattle.loop_tree.specs.Walk.{visits}
 use Rattle.loop_tree.specs.declared.spot.Spot.{Spot}
-use Rattle.tile_list.specs.Tiles.{AreWaves, InOneTile, IsNextWave, RiseByTile, TileBefore, joined}
+use Rattle.tile_list.specs.Tiles.{AreWaves, InOneTile, IsNextWave, TileBefore, joined}
 use Rattle.tile_list.specs.TilesView.{IsTile, firsts_of, waves_of}
-use Rattle.tile_list.specs.steps.Cutting.{AreTilesOf, Begins, HasBegun, HasGrown, IsCut, IsCutTo, IsNewTile, IsWaveOf}
+use Rattle.tile_list.specs.steps.Cutting.{AreTilesOf, HasBegun, HasGrown, IsCut, IsCutTo, IsNewTile, IsWaveOf}
 use Rattle.tile_list.specs.steps.Cutting.{Takes}
 use Rattle.tile_list.specs.steps.Keys.{IsKeyOf}
 use Rattle.tile_list.specs.declared.cutting.Cut.{Cut}
 use Rattle.tile_list.specs.declared.keys.Key.{Key}
 use Rattle.tile_list.specs.declared.list.Tile.{Tile}
 use Rattle.tile_list.proofs.Listing.{same_rest, same_spot, tile_more}
-use Rattle.tile_list.proofs.Order.{before-irrefl}
 use Rattle.tile_list.proofs.Parts.{grown, next_begun, next_rises}
 use Rattle.tile_list.proofs.Waves.{wave_more}
 

@@ -1,5 +1,5 @@
 -- Instances have one list of tiles.
-use Rattle.std.proofs.Common.{◌≡◌, ◌∙◌, ℕ, ◌≤◌, List, [], ◌∷◌, ◌++◌, length, inl, inr, refl, ap₂, sym, subst, arith}
+use Rattle.std.proofs.Common.{◌≡◌, ◌∙◌, ◌≤◌, List, [], ◌∷◌, ◌++◌, length, inl, inr, refl, ap₂, sym, subst, arith}
 use Rattle.scop_syntax.specs.Members.{In, Sorted}
 use Rattle.scop_syntax.specs.Walk.{Instance}
 use Rattle.scop_syntax.proofs.Members.{in_append}
@@ -22,11 +22,13 @@ one_split tiling x [] [] us vs h k e = (refl, e)
 one_split tiling x [] (y ∷ q) [] vs h k e = absurd cc
 one_split tiling x [] (y ∷ q) (u ∷ us) vs h k e =
     let same : u ≡ y = cc in
-    absurd (before-irrefl tiling x u (subst (InOneTile tiling x) (sym same) (k.one y (inl refl))) (h.later u (inl refl)))
+    absurd (before-irrefl tiling x u (subst (InOneTile tiling x) (sym same) (k.one y (inl refl)))
+    (h.later u (inl refl)))
 one_split tiling x (y ∷ p) [] us [] h k e = absurd cc
 one_split tiling x (y ∷ p) [] us (v ∷ vs) h k e =
     let same : v ≡ y = cc in
-    absurd (before-irrefl tiling x v (subst (InOneTile tiling x) (sym same) (h.one y (inl refl))) (k.later v (inl refl)))
+    absurd (before-irrefl tiling x v (subst (InOneTile tiling x) (sym same) (h.one y (inl refl)))
+    (k.later v (inl refl)))
 one_split tiling x (y ∷ p) (z ∷ q) us vs h k e =
     let heads : y ≡ z = cc in
     let tails : p ++ us ≡ q ++ vs = cc in

@@ -1,4 +1,4 @@
--- The tiles of instances that rise by tile: maximal runs of instances of one wave and one tile, and the numbers of their
+-- The tiles of instances that rise by tile: those of one wave and one tile, one behind another, and the numbers of their
 -- waves (U. Bondhugula and others, "A practical automatic polyhedral parallelizer and locality optimizer", PLDI 2008).
 use Rattle.std.specs.Prelude.{◌≡◌, ◌⊎◌, ℕ, suc, ◌<◌, ◌≤◌, max, List, [], ◌∷◌, ◌++◌, length, slice_get, Some, take}
 use Rattle.std.specs.Prelude.{All, FitsSigned, ⊤}

@@ -1,15 +1,15 @@
 //! One walk over a tree's visits, which begins a tile where wave or tile are others than before.
-ghost use Rattle.std.specs.Prelude.{◌≡◌, ◌+◌, ◌++◌, ◌∷◌, [], IfOk, List, OnOk, ℤ};
+ghost use Rattle.std.specs.Prelude.{◌≡◌, ◌+◌, ◌++◌, ◌∷◌, [], IfOk, OnOk};
 ghost use Rattle.scop_syntax.specs.View.{instance_of};
 ghost use Rattle.loop_tree.specs.Conditions.{CanWalk};
 ghost use Rattle.loop_tree.specs.SpotView.{IsSpotOf, to_come};
 ghost use Rattle.loop_tree.specs.TilingView.{tiling_of};
-ghost use Rattle.loop_tree.specs.Tree.{Trees};
 ghost use Rattle.loop_tree.specs.View.{trees_in};
 ghost use Rattle.loop_tree.specs.Walk.{visits};
 ghost use Rattle.tile_list.specs.Tiles.{CanTile, HasSize, RiseByTile, RowsFit};
 ghost use Rattle.tile_list.specs.TilesView.{IsTileListOf};
-ghost use Rattle.tile_list.specs.steps.Cutting.{Begins, HasBegun, HasGrown, IsCutTo, IsListed, IsNewTile, IsWaveOf, Takes};
+ghost use Rattle.tile_list.specs.steps.Cutting.{Begins, HasBegun, HasGrown, IsCutTo, IsListed};
+ghost use Rattle.tile_list.specs.steps.Cutting.{IsNewTile, IsWaveOf, Takes};
 
 use crate::keys::Key;
 use crate::list::{Tile, TileList};
@@ -112,16 +112,19 @@ impl Cut {
     {
         let wave = self.next_wave()?;
         let tile = tile_at(alloc, first, spot, wave)?;
-        push(
-            &mut self.tiles,
-            mem::replace(&mut self.current, tile),
-        )?;
+        push(&mut self.tiles, mem::replace(&mut self.current, tile))?;
         mem::swap(&mut self.key, &mut self.next);
         Ok(())
     }
 
     /// The next instance is in its tile.
-    fn take(&mut self, alloc: Global, tiling: &Tiling, instance: Instance, spot: &Spot) -> Result<(), AllocError>
+    fn take(
+        &mut self,
+        alloc: Global,
+        tiling: &Tiling,
+        instance: Instance,
+        spot: &Spot,
+    ) -> Result<(), AllocError>
         requires size { HasSize (tiling_of tiling.now) }
         requires fits { RowsFit (tiling_of tiling.now) (instance_of instance) }
         ensures { OnOk result (Takes (tiling_of tiling.now) (instance_of instance) spot.now self.old self.new) }
@@ -181,7 +184,12 @@ fn listed(alloc: Global, tiles: Vec<Tile>) -> Result<TileList, AllocError>
 ///
 /// # Errors
 /// `AllocError`, also where a tile has 2^64 instances or more, for whose number a word has no room.
-pub fn tiles(alloc: Global, tree: &Tree, tiling: &Tiling, params: &[i64]) -> Result<TileList, AllocError>
+pub fn tiles(
+    alloc: Global,
+    tree: &Tree,
+    tiling: &Tiling,
+    params: &[i64],
+) -> Result<TileList, AllocError>
     requires walk { CanWalk (trees_in tree.now) params.now [] }
     requires rise { RiseByTile (tiling_of tiling.now) (visits (trees_in tree.now) params.now) }
     requires fits { CanTile (tiling_of tiling.now) (visits (trees_in tree.now) params.now) }

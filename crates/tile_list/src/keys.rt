@@ -1,11 +1,12 @@
 //! The wave and the tile of an instance, in two buffers that are filled again for the next one.
-ghost use Rattle.std.specs.Prelude.{◌≡◌, ◌≤◌, ◌↔◌, ◌++◌, ◌∷◌, [], All, FitsSigned, IsTrue, OnOk, false, if◌then◌else◌, map, pos, true};
+ghost use Rattle.std.specs.Prelude.{◌≡◌, ◌≤◌, ◌↔◌, ◌++◌, ◌∷◌, [], All, FitsSigned, IsTrue, OnOk};
+ghost use Rattle.std.specs.Prelude.{false, if◌then◌else◌, map, pos, true};
 ghost use Rattle.std.specs.Int.{w64};
 ghost use Rattle.whole_numbers.specs.Affine.{value_of};
 ghost use Rattle.whole_numbers.specs.Floor.{floor};
 ghost use Rattle.scop_syntax.specs.View.{instance_of};
 ghost use Rattle.loop_tree.specs.Tiling.{coordinates, wave_sum};
-ghost use Rattle.loop_tree.specs.TilingView.{items_of, tiling_of};
+ghost use Rattle.loop_tree.specs.TilingView.{tiling_of};
 ghost use Rattle.tile_list.specs.Tiles.{HasSize, RowsFit};
 ghost use Rattle.tile_list.specs.steps.Keys.{IsKeyOf};
 
@@ -83,7 +84,12 @@ fn wave_number(rows: &[TileRow], size: u64, turns: &[i64]) -> i128
 }
 
 /// Puts the coordinates of rows behind others.
-fn push_coordinates(list: &mut Vec<i128>, rows: &[TileRow], size: u64, turns: &[i64]) -> Result<(), AllocError>
+fn push_coordinates(
+    list: &mut Vec<i128>,
+    rows: &[TileRow],
+    size: u64,
+    turns: &[i64],
+) -> Result<(), AllocError>
     requires size { 1 ≤ size }
     requires fits { All (λ r. FitsSigned w64 (value_of r.form turns.now)) rows.now }
     ensures { OnOk result (list.new.items ≡ list.old.items ++ coordinates (pos size) rows.now turns.now) }
@@ -95,7 +101,13 @@ fn push_coordinates(list: &mut Vec<i128>, rows: &[TileRow], size: u64, turns: &[
 }
 
 /// Puts a statement's wave and tile at some turns behind others.
-fn push_key(wave: &mut Vec<i128>, tile: &mut Vec<i128>, items: &TileItems, size: u64, turns: &[i64]) -> Result<(), AllocError>
+fn push_key(
+    wave: &mut Vec<i128>,
+    tile: &mut Vec<i128>,
+    items: &TileItems,
+    size: u64,
+    turns: &[i64],
+) -> Result<(), AllocError>
     requires size { 1 ≤ size }
     requires fits { All (λ r. FitsSigned w64 (value_of r.form turns.now)) items.now.band.items }
     ensures wave { OnOk result (wave.new.items ≡ wave.old.items ++ (map pos items.now.leading.items

@@ -34,8 +34,8 @@ pub fn numbers_tell_waves()
         → (t u m n : ℕ) → t ≤ u → slice_get numbers t ≡ Some m → slice_get numbers u ≡ Some n → m ≤ n }
 {}
 
-/// Tiles begin one behind another, the first at 0, and the last ends where the instances do; the instances of a tile stand
-/// from its start on.
+/// Tiles begin one behind another, the first at 0, and the last ends where the instances do; the instances of a tile
+/// stand from its start on.
 pub fn tiles_stand_one_behind_another()
     ensures next { (parts : List (List Instance)) (t : ℕ) → t < length parts
         → start_of parts (suc t) ≡ start_of parts t + length (slice_index_or parts t []) }

@@ -1,8 +1,8 @@
-use Rattle.std.proofs.Common.{◌≡◌, ◌∙◌, ◌≤◌, ℤ, pos, ap, subst, sym, rules, arith, to_z}
+use Rattle.std.proofs.Common.{◌≡◌, ◌∙◌, ℤ, pos, ap, subst, sym, rules, arith, to_z}
 use Rattle.std.specs.Prelude.{◌<ℤ◌, FitsSigned}
 use Rattle.std.specs.Int.{w64, w128}
 use Rattle.std.proofs.lemmas.Int.{ints, to_z-of_z}
-use Rattle.whole_numbers.specs.Affine.{Affine, value_of}
+use Rattle.whole_numbers.specs.Affine.{value_of}
 use Rattle.whole_numbers.specs.Division.{IsFloor}
 use Rattle.whole_numbers.specs.Floor.{floor}
 use Rattle.whole_numbers.proofs.Floors.{floor_is, floor_unique}

@@ -1,4 +1,3 @@
-use Rattle.scop_syntax.specs.View.{instance_of}
 use Rattle.loop_tree.specs.TilingView.{tiling_of}
 use Rattle.tile_list.proofs.Ending.{begins}
 use Rattle.tile_list.proofs.cutting.Cut.of.Goals as goal
