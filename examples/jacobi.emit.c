@@ -4,25 +4,183 @@ static int64_t pp_ceild(int64_t n, int64_t d) { return n < 0 ? -((-n) / d) : (n 
 static int64_t pp_max(int64_t a, int64_t b) { return a > b ? a : b; }
 static int64_t pp_min(int64_t a, int64_t b) { return a < b ? a : b; }
 void jacobi(int64_t T, int64_t N, uint64_t A[N][N], uint64_t B[N][N]) {
-  for (int64_t pp_1 = pp_max(-2, pp_max(pp_ceild(-93, 32), pp_max(pp_ceild(-155, 32), pp_max(pp_ceild(-N - 121, 32), pp_max(pp_ceild(-155, 32), pp_max(pp_ceild(-217, 32), pp_max(pp_ceild(-N - 245, 32), pp_max(pp_ceild(-N - 121, 32), pp_max(pp_ceild(-N - 245, 32), pp_max(pp_ceild(-N - 214, 64), pp_max(pp_ceild(-3*N - 394, 64), pp_max(pp_ceild(-3*N - 270, 64), pp_max(pp_ceild(-3*N - 394, 64), pp_max(pp_ceild(-5*N - 574, 64), pp_max(pp_ceild(-7*N - 630, 64), pp_max(pp_ceild(-3*N - 270, 64), pp_max(pp_ceild(-7*N - 630, 64), pp_max(pp_ceild(-T - N - 120, 32), pp_max(pp_ceild(-2*T - 5*N - 324, 64), pp_max(pp_ceild(-2*T - 5*N - 324, 64), pp_max(pp_ceild(-T - N - 120, 32), pp_max(pp_ceild(-2*T - 5*N - 324, 64), pp_max(pp_ceild(-2*T - 5*N - 324, 64), pp_max(pp_ceild(-N - 214, 64), pp_max(pp_ceild(-3*N - 332, 32), pp_max(pp_ceild(-7*N - 568, 128), pp_max(pp_ceild(-3*N - 332, 32), pp_max(pp_ceild(-7*N - 568, 128), pp_max(pp_ceild(-N - 214, 64), pp_max(pp_ceild(-3*N - 394, 64), pp_max(pp_ceild(-3*N - 270, 64), pp_max(pp_ceild(-3*N - 394, 64), pp_max(pp_ceild(-5*N - 574, 64), pp_max(pp_ceild(-7*N - 630, 64), pp_max(pp_ceild(-3*N - 270, 64), pp_max(pp_ceild(-7*N - 630, 64), pp_max(pp_ceild(-3*N - 456, 128), pp_max(pp_ceild(-9*N - 748, 64), pp_max(pp_ceild(-2*N - 149, 32), pp_max(pp_ceild(-9*N - 748, 64), pp_max(pp_ceild(-2*N - 149, 32), pp_max(pp_ceild(-3*N - 456, 128), pp_max(pp_ceild(-9*N - 748, 64), pp_max(pp_ceild(-2*N - 149, 32), pp_max(pp_ceild(-9*N - 748, 64), pp_ceild(-2*N - 149, 32)))))))))))))))))))))))))))))))))))))))))))))); pp_1 <= pp_min(14335, pp_min(pp_floord(5*T + 2*N - 9, 32), pp_min(pp_floord(6*T + 3*N + 18, 32), pp_min(pp_floord(10*T + 5*N + 10, 64), pp_min(pp_floord(6*T + 3*N + 18, 32), pp_min(pp_floord(10*T + 5*N + 10, 64), pp_min(pp_floord(20*T + 11*N + 48, 128), pp_min(pp_floord(10*T + 5*N + 10, 64), pp_min(pp_floord(20*T + 11*N + 48, 128), pp_min(pp_floord(5*T + 2*N + 51, 32), pp_min(pp_floord(10*T + 7*N + 186, 64), pp_min(pp_floord(5*T + 5*N + 230, 32), pp_min(pp_floord(10*T + 13*N + 544, 64), pp_min(pp_floord(10*T + 7*N + 186, 64), pp_min(pp_floord(10*T + 13*N + 544, 64), pp_min(pp_floord(5*T + 3*N + 19, 32), pp_min(pp_floord(12*T + 9*N + 120, 64), pp_min(pp_floord(10*T + 7*N + 66, 64), pp_min(pp_floord(12*T + 9*N + 120, 64), pp_min(pp_floord(20*T + 15*N + 160, 128), pp_min(pp_floord(5*T + 4*N + 47, 32), pp_min(pp_floord(10*T + 7*N + 66, 64), pp_min(pp_floord(5*T + 4*N + 47, 32), pp_min(pp_floord(5*T + 2*N + 51, 32), pp_min(pp_floord(10*T + 7*N + 186, 64), pp_min(pp_floord(5*T + 5*N + 230, 32), pp_min(pp_floord(10*T + 13*N + 544, 64), pp_min(pp_floord(10*T + 7*N + 186, 64), pp_min(pp_floord(10*T + 13*N + 544, 64), pp_min(pp_floord(5*T + 2*N + 113, 32), pp_min(pp_floord(10*T + 9*N + 370, 64), pp_min(pp_floord(10*T + 9*N + 370, 64), pp_min(pp_floord(5*T + 3*N + 141, 32), pp_min(pp_floord(10*T + 11*N + 426, 64), pp_min(pp_floord(10*T + 11*N + 426, 64), pp_min(pp_floord(5*T + 3*N + 19, 32), pp_min(pp_floord(12*T + 9*N + 120, 64), pp_min(pp_floord(10*T + 7*N + 66, 64), pp_min(pp_floord(12*T + 9*N + 120, 64), pp_min(pp_floord(20*T + 15*N + 160, 128), pp_min(pp_floord(5*T + 4*N + 47, 32), pp_min(pp_floord(10*T + 7*N + 66, 64), pp_min(pp_floord(5*T + 4*N + 47, 32), pp_min(pp_floord(5*T + 3*N + 141, 32), pp_min(pp_floord(10*T + 11*N + 426, 64), pp_floord(10*T + 11*N + 426, 64)))))))))))))))))))))))))))))))))))))))))))))); pp_1++) {
+  for (int64_t pp_1 = 0; pp_1 <= pp_floord(5*T + 2*N - 11, 32); pp_1++) {
     #pragma omp parallel for
-    for (int64_t pp_2 = pp_max(0, pp_max(pp_ceild(-31, 32), pp_max(pp_ceild(-N - 90, 64), pp_max(pp_ceild(-2*T - N + 16*pp_1 + 4, 16), pp_max(pp_ceild(-T - N + 16*pp_1 - 28, 48), pp_max(pp_ceild(-4*T - 3*N + 32*pp_1 - 20, 32), pp_max(pp_ceild(-T - N + 16*pp_1 - 28, 48), pp_max(pp_ceild(-N + 16*pp_1 - 60, 80), pp_max(pp_ceild(-N - 90, 64), pp_max(pp_ceild(-3*N + 32*pp_1 - 148, 160), pp_max(pp_ceild(-4*T - 3*N + 32*pp_1 - 20, 32), pp_ceild(-3*N + 32*pp_1 - 148, 160)))))))))))); pp_2 <= pp_min(2047, pp_min(pp_floord(T - 1, 32), pp_min(pp_floord(N + 32*pp_1 + 90, 32), pp_min(pp_floord(2*T + N + 26, 64), pp_min(pp_floord(N + 32*pp_1 + 90, 160), pp_min(pp_floord(2*T + N + 26, 64), pp_min(pp_floord(N + 32*pp_1 + 90, 32), pp_floord(N + 32*pp_1 + 90, 160)))))))); pp_2++) {
-      for (int64_t pp_3 = pp_max(0, pp_max(pp_ceild(-2*T - N + 32*pp_1 - 32*pp_2 + 4, 32), pp_max(pp_ceild(-N + 32*pp_1 - 96*pp_2 - 60, 32), pp_ceild(-N + 32*pp_1 - 32*pp_2 - 28, 64)))); pp_3 <= pp_min(6143, pp_min(pp_floord(2*T + N - 4, 32), pp_min(pp_floord(N + 64*pp_2 + 60, 32), pp_floord(N + 32*pp_1 - 32*pp_2 + 28, 64)))); pp_3++) {
-        for (int64_t pp_4 = pp_max(0, pp_max(pp_1 - pp_2 - pp_3, pp_ceild(-N + 32*pp_3 - 28, 32))); pp_4 <= pp_min(6143, pp_min(pp_1 - pp_2 - pp_3, pp_min(pp_floord(2*T + N - 4, 32), pp_min(pp_floord(N + 64*pp_2 + 60, 32), pp_floord(N + 32*pp_3 + 28, 32))))); pp_4++) {
-          for (int64_t pp_5 = pp_max(0, pp_max(0, pp_max(32*pp_2, pp_max(pp_ceild(-N + 32*pp_4 + 2, 2), pp_ceild(-N + 32*pp_3 + 2, 2))))); pp_5 <= pp_min(65535, pp_min(T - 1, 32*pp_2 + 31)); pp_5++) {
-            for (int64_t pp_6 = pp_max(0, pp_max(32*pp_3, 2*pp_5)); pp_6 <= pp_min(196604, pp_min(32*pp_3 + 31, N + 2*pp_5 - 2)); pp_6++) {
-              for (int64_t pp_7 = pp_max(0, pp_max(32*pp_4, 2*pp_5)); pp_7 <= pp_min(196604, pp_min(32*pp_4 + 31, N + 2*pp_5 - 2)); pp_7++) {
-                for (int64_t pp_8 = pp_max(0, 0); pp_8 <= pp_min(1, 1); pp_8++) {
-                  for (int64_t pp_9 = pp_max(0, pp_max(pp_5, pp_max(0, pp_max(32*pp_2, pp_max(pp_ceild(-N + pp_7 + 2, 2), pp_ceild(-N + pp_6 + 2, 2)))))); pp_9 <= pp_min(65535, pp_min(pp_5, pp_min(T - 1, pp_min(32*pp_2 + 31, pp_min(pp_floord(pp_7, 2), pp_floord(pp_6, 2)))))); pp_9++) {
-                    for (int64_t pp_10 = pp_max(0, pp_max(pp_6 - 2*pp_9 - 1, pp_max(0, 32*pp_3 - 2*pp_9 - 1))); pp_10 <= pp_min(65533, pp_min(pp_6 - 2*pp_9, pp_min(N - 3, 32*pp_3 - 2*pp_9 + 31))); pp_10++) {
-                      for (int64_t pp_11 = pp_max(0, pp_max(pp_7 - 2*pp_9 - 1, pp_max(0, 32*pp_4 - 2*pp_9 - 1))); pp_11 <= pp_min(65533, pp_min(pp_7 - 2*pp_9, pp_min(N - 3, 32*pp_4 - 2*pp_9 + 31))); pp_11++) {
-                        if (-pp_1 + pp_2 + pp_3 + pp_4 == 0 && -pp_5 + pp_9 == 0 && -pp_6 + 2*pp_9 + pp_10 == 0 && -pp_7 + 2*pp_9 + pp_11 == 0 && -pp_8 == 0 && pp_9 >= 0 && T - pp_9 - 1 >= 0 && pp_10 >= 0 && N - pp_10 - 3 >= 0 && pp_11 >= 0 && N - pp_11 - 3 >= 0 && -32*pp_2 + pp_9 >= 0 && 32*pp_2 - pp_9 + 31 >= 0 && -32*pp_3 + 2*pp_9 + pp_10 >= 0 && 32*pp_3 - 2*pp_9 - pp_10 + 31 >= 0 && -32*pp_4 + 2*pp_9 + pp_11 >= 0 && 32*pp_4 - 2*pp_9 - pp_11 + 31 >= 0) {
-                          { /* S1 */ const int64_t t = pp_9; const int64_t i = pp_10 + 1; const int64_t j = pp_11 + 1; B[i][j] = (((((((4ULL * A[i][j]) + (2ULL * (((A[i - 1][j] + A[i + 1][j]) + A[i][j - 1]) + A[i][j + 1]))) + A[i - 1][j - 1]) + A[i - 1][j + 1]) + A[i + 1][j - 1]) + A[i + 1][j + 1]) >> 4ULL); }
-                        }
-                        if (-pp_1 + pp_2 + pp_3 + pp_4 == 0 && -pp_5 + pp_9 == 0 && -pp_6 + 2*pp_9 + pp_10 + 1 == 0 && -pp_7 + 2*pp_9 + pp_11 + 1 == 0 && -pp_8 + 1 == 0 && pp_9 >= 0 && T - pp_9 - 1 >= 0 && pp_10 >= 0 && N - pp_10 - 3 >= 0 && pp_11 >= 0 && N - pp_11 - 3 >= 0 && -32*pp_2 + pp_9 >= 0 && 32*pp_2 - pp_9 + 31 >= 0 && -32*pp_3 + 2*pp_9 + pp_10 + 1 >= 0 && 32*pp_3 - 2*pp_9 - pp_10 + 30 >= 0 && -32*pp_4 + 2*pp_9 + pp_11 + 1 >= 0 && 32*pp_4 - 2*pp_9 - pp_11 + 30 >= 0) {
-                          { /* S2 */ const int64_t t = pp_9; const int64_t i = pp_10 + 1; const int64_t j = pp_11 + 1; A[i][j] = B[i][j]; }
-                        }
-                      }
+    for (int64_t pp_2 = pp_max(0, pp_max(pp_ceild(-N + 16*pp_1 - 60, 80), pp_ceild(-2*T - N + 16*pp_1 + 5, 16))); pp_2 <= pp_floord(-N + 16*pp_1 - 60, 80); pp_2++) {
+      for (int64_t pp_3 = pp_ceild(-N + 32*pp_1 - 96*pp_2 - 60, 32); pp_3 <= pp_floord(N + 64*pp_2 + 60, 32); pp_3++) {
+        for (int64_t pp_4 = pp_1 - pp_2 - pp_3; pp_4 <= pp_floord(N + 64*pp_2 + 60, 32); pp_4++) {
+          for (int64_t pp_5 = pp_ceild(-N + 32*pp_3 + 2, 2); pp_5 <= 32*pp_2 + 31; pp_5++) {
+            for (int64_t pp_6 = 32*pp_3; pp_6 <= N + 2*pp_5 - 2; pp_6++) {
+              for (int64_t pp_7 = 32*pp_4; pp_7 <= N + 2*pp_5 - 2; pp_7++) {
+                for (int64_t pp_8 = pp_ceild(-N + pp_6 + 2, 2); pp_8 <= 32*pp_2 + 31; pp_8++) {
+                  for (int64_t pp_9 = 32*pp_3 - 2*pp_8 - 1; pp_9 <= N - 3; pp_9++) {
+                    for (int64_t pp_10 = 32*pp_4 - 2*pp_8 - 1; pp_10 <= N - 3; pp_10++) {
+                      { /* S2 */ const int64_t t = pp_8; const int64_t i = pp_9 + 1; const int64_t j = pp_10 + 1; A[i][j] = B[i][j]; }
+                    }
+                  }
+                }
+              }
+            }
+          }
+        }
+      }
+    }
+    #pragma omp parallel for
+    for (int64_t pp_2 = pp_max(0, pp_max(pp_ceild(-2*T - N + 16*pp_1 + 5, 16), pp_ceild(-N + 16*pp_1 - 59, 80))); pp_2 <= pp_min(pp_floord(T - 1, 32), pp_floord(16*pp_1 + 31, 80)); pp_2++) {
+      for (int64_t pp_3 = pp_max(0, pp_max(pp_ceild(-N + 32*pp_1 - 96*pp_2 - 60, 32), pp_max(pp_ceild(-N + 32*pp_1 - 32*pp_2 - 28, 64), pp_ceild(-2*T - N + 32*pp_1 - 32*pp_2 + 5, 32)))); pp_3 <= pp_floord(-N + 32*pp_1 - 96*pp_2 - 60, 32); pp_3++) {
+        for (int64_t pp_4 = pp_1 - pp_2 - pp_3; pp_4 <= pp_floord(N + 64*pp_2 + 60, 32); pp_4++) {
+          for (int64_t pp_5 = pp_ceild(-N + 32*pp_4 + 2, 2); pp_5 <= 32*pp_2 + 31; pp_5++) {
+            for (int64_t pp_6 = pp_max(32*pp_3, 2*pp_5 + 1); pp_6 <= 32*pp_3 + 31; pp_6++) {
+              for (int64_t pp_7 = 32*pp_4; pp_7 <= N + 2*pp_5 - 2; pp_7++) {
+                for (int64_t pp_8 = pp_ceild(-N + pp_7 + 2, 2); pp_8 <= 32*pp_2 + 31; pp_8++) {
+                  for (int64_t pp_9 = 32*pp_4 - 2*pp_8 - 1; pp_9 <= N - 3; pp_9++) {
+                    { /* S2 */ const int64_t t = pp_8; const int64_t i = pp_6 - 2*pp_8; const int64_t j = pp_9 + 1; A[i][j] = B[i][j]; }
+                  }
+                }
+              }
+            }
+          }
+        }
+      }
+      for (int64_t pp_3 = pp_max(0, pp_max(pp_ceild(-2*T - N + 32*pp_1 - 32*pp_2 + 4, 32), pp_max(pp_ceild(-N + 32*pp_1 - 96*pp_2 - 60, 32), pp_ceild(-N + 32*pp_1 - 32*pp_2 - 28, 64)))); pp_3 <= pp_floord(-2*T - N + 32*pp_1 - 32*pp_2 + 4, 32); pp_3++) {
+        for (int64_t pp_4 = pp_1 - pp_2 - pp_3; pp_4 <= pp_floord(2*T + N - 4, 32); pp_4++) {
+          for (int64_t pp_5 = pp_ceild(-N + 32*pp_4 + 2, 2); pp_5 <= T - 1; pp_5++) {
+            for (int64_t pp_6 = pp_max(32*pp_3, 2*pp_5 + 1); pp_6 <= 32*pp_3 + 31; pp_6++) {
+              for (int64_t pp_7 = 32*pp_4; pp_7 <= N + 2*pp_5 - 2; pp_7++) {
+                for (int64_t pp_8 = pp_ceild(-N + pp_7 + 2, 2); pp_8 <= T - 1; pp_8++) {
+                  for (int64_t pp_9 = 32*pp_4 - 2*pp_8 - 1; pp_9 <= N - 3; pp_9++) {
+                    { /* S2 */ const int64_t t = pp_8; const int64_t i = pp_6 - 2*pp_8; const int64_t j = pp_9 + 1; A[i][j] = B[i][j]; }
+                  }
+                }
+              }
+            }
+          }
+        }
+      }
+      for (int64_t pp_3 = pp_max(0, pp_max(pp_ceild(-N + 32*pp_1 - 32*pp_2 - 28, 64), pp_max(pp_ceild(64*pp_2 - 31, 32), pp_max(pp_ceild(-2*T - N + 32*pp_1 - 32*pp_2 + 5, 32), pp_ceild(-N + 32*pp_1 - 96*pp_2 - 59, 32))))); pp_3 <= pp_min(pp_floord(N + 32*pp_1 - 32*pp_2 + 28, 64), pp_min(pp_floord(2*T + N - 5, 32), pp_min(pp_floord(N + 64*pp_2 + 59, 32), pp_floord(32*pp_1 - 96*pp_2 + 31, 32)))); pp_3++) {
+        for (int64_t pp_4 = pp_max(32*pp_2, pp_max(pp_ceild(-N + 32*pp_3 + 2, 2), pp_ceild(-N + 32*pp_1 - 32*pp_2 - 32*pp_3 + 3, 2))); pp_4 <= pp_floord(-N + 32*pp_3 + 2, 2); pp_4++) {
+          for (int64_t pp_5 = 32*pp_3; pp_5 <= N + 2*pp_4 - 2; pp_5++) {
+            for (int64_t pp_6 = pp_max(32*pp_1 - 32*pp_2 - 32*pp_3, 2*pp_4 + 1); pp_6 <= 32*pp_1 - 32*pp_2 - 32*pp_3 + 31; pp_6++) {
+              for (int64_t pp_7 = pp_ceild(-N + pp_5 + 2, 2); pp_7 <= pp_4; pp_7++) {
+                for (int64_t pp_8 = 32*pp_3 - 2*pp_7 - 1; pp_8 <= N - 3; pp_8++) {
+                  { /* S2 */ const int64_t t = pp_7; const int64_t i = pp_8 + 1; const int64_t j = pp_6 - 2*pp_7; A[i][j] = B[i][j]; }
+                }
+              }
+            }
+          }
+        }
+        for (int64_t pp_4 = pp_max(32*pp_2, pp_max(pp_ceild(-N + 32*pp_1 - 32*pp_2 - 32*pp_3 + 2, 2), pp_ceild(-N + 32*pp_3 + 2, 2))); pp_4 <= pp_floord(-N + 32*pp_1 - 32*pp_2 - 32*pp_3 + 2, 2); pp_4++) {
+          for (int64_t pp_5 = pp_max(32*pp_3, 2*pp_4 + 1); pp_5 <= pp_min(32*pp_3 + 31, N + 2*pp_4 - 2); pp_5++) {
+            for (int64_t pp_6 = 32*pp_1 - 32*pp_2 - 32*pp_3; pp_6 <= N + 2*pp_4 - 2; pp_6++) {
+              for (int64_t pp_7 = pp_ceild(-N + pp_6 + 2, 2); pp_7 <= pp_4; pp_7++) {
+                for (int64_t pp_8 = 32*pp_1 - 32*pp_2 - 32*pp_3 - 2*pp_7 - 1; pp_8 <= N - 3; pp_8++) {
+                  { /* S2 */ const int64_t t = pp_7; const int64_t i = pp_5 - 2*pp_7; const int64_t j = pp_8 + 1; A[i][j] = B[i][j]; }
+                }
+              }
+            }
+          }
+        }
+        for (int64_t pp_4 = pp_max(32*pp_2, pp_max(pp_ceild(-N + 32*pp_1 - 32*pp_2 - 32*pp_3 + 3, 2), pp_ceild(-N + 32*pp_3 + 3, 2))); pp_4 <= pp_min(T - 1, pp_min(32*pp_2 + 31, pp_min(pp_floord(32*pp_1 - 32*pp_2 - 32*pp_3 + 31, 2), pp_floord(32*pp_3 + 31, 2)))); pp_4++) {
+          for (int64_t pp_5 = pp_max(32*pp_3, 2*pp_4); pp_5 <= pp_min(N + 2*pp_4 - 3, 2*pp_4); pp_5++) {
+            for (int64_t pp_6 = pp_max(32*pp_1 - 32*pp_2 - 32*pp_3, 2*pp_4); pp_6 <= pp_min(32*pp_1 - 32*pp_2 - 32*pp_3 + 31, N + 2*pp_4 - 3); pp_6++) {
+              for (int64_t pp_7 = pp_4; pp_7 <= pp_floord(pp_5, 2); pp_7++) {
+                for (int64_t pp_8 = 0; pp_8 <= pp_5 - 2*pp_7; pp_8++) {
+                  { /* S1 */ const int64_t t = pp_7; const int64_t i = pp_8 + 1; const int64_t j = pp_6 - 2*pp_7 + 1; B[i][j] = (((((((4ULL * A[i][j]) + (2ULL * (((A[i - 1][j] + A[i + 1][j]) + A[i][j - 1]) + A[i][j + 1]))) + A[i - 1][j - 1]) + A[i - 1][j + 1]) + A[i + 1][j - 1]) + A[i + 1][j + 1]) >> 4ULL); }
+                }
+              }
+            }
+          }
+          for (int64_t pp_5 = pp_max(32*pp_3, 2*pp_4 + 1); pp_5 <= pp_min(32*pp_3 + 31, N + 2*pp_4 - 3); pp_5++) {
+            for (int64_t pp_6 = pp_max(32*pp_1 - 32*pp_2 - 32*pp_3, 2*pp_4); pp_6 <= 2*pp_4; pp_6++) {
+              for (int64_t pp_7 = pp_4; pp_7 <= pp_floord(pp_6, 2); pp_7++) {
+                for (int64_t pp_8 = 0; pp_8 <= pp_6 - 2*pp_7; pp_8++) {
+                  { /* S1 */ const int64_t t = pp_7; const int64_t i = pp_5 - 2*pp_7 + 1; const int64_t j = pp_8 + 1; B[i][j] = (((((((4ULL * A[i][j]) + (2ULL * (((A[i - 1][j] + A[i + 1][j]) + A[i][j - 1]) + A[i][j + 1]))) + A[i - 1][j - 1]) + A[i - 1][j + 1]) + A[i + 1][j - 1]) + A[i + 1][j + 1]) >> 4ULL); }
+                }
+              }
+            }
+            for (int64_t pp_6 = pp_max(32*pp_1 - 32*pp_2 - 32*pp_3, 2*pp_4 + 1); pp_6 <= pp_min(32*pp_1 - 32*pp_2 - 32*pp_3 + 31, N + 2*pp_4 - 3); pp_6++) {
+              { /* S1 */ const int64_t t = pp_4; const int64_t i = -2*pp_4 + pp_5 + 1; const int64_t j = -2*pp_4 + pp_6 + 1; B[i][j] = (((((((4ULL * A[i][j]) + (2ULL * (((A[i - 1][j] + A[i + 1][j]) + A[i][j - 1]) + A[i][j + 1]))) + A[i - 1][j - 1]) + A[i - 1][j + 1]) + A[i + 1][j - 1]) + A[i + 1][j + 1]) >> 4ULL); }
+              { /* S2 */ const int64_t t = pp_4; const int64_t i = -2*pp_4 + pp_5; const int64_t j = -2*pp_4 + pp_6; A[i][j] = B[i][j]; }
+            }
+            for (int64_t pp_6 = N + 2*pp_4 - 2; pp_6 <= pp_min(32*pp_1 - 32*pp_2 - 32*pp_3 + 31, N + 2*pp_4 - 2); pp_6++) {
+              for (int64_t pp_7 = pp_ceild(-N + pp_6 + 2, 2); pp_7 <= pp_4; pp_7++) {
+                for (int64_t pp_8 = pp_6 - 2*pp_7 - 1; pp_8 <= N - 3; pp_8++) {
+                  { /* S2 */ const int64_t t = pp_7; const int64_t i = pp_5 - 2*pp_7; const int64_t j = pp_8 + 1; A[i][j] = B[i][j]; }
+                }
+              }
+            }
+          }
+          for (int64_t pp_5 = pp_max(N + 2*pp_4 - 2, 2*pp_4 + 1); pp_5 <= pp_min(32*pp_3 + 31, N + 2*pp_4 - 2); pp_5++) {
+            for (int64_t pp_6 = pp_max(32*pp_1 - 32*pp_2 - 32*pp_3, 2*pp_4 + 1); pp_6 <= pp_min(32*pp_1 - 32*pp_2 - 32*pp_3 + 31, N + 2*pp_4 - 2); pp_6++) {
+              for (int64_t pp_7 = pp_ceild(-N + pp_5 + 2, 2); pp_7 <= pp_4; pp_7++) {
+                for (int64_t pp_8 = pp_5 - 2*pp_7 - 1; pp_8 <= N - 3; pp_8++) {
+                  { /* S2 */ const int64_t t = pp_7; const int64_t i = pp_8 + 1; const int64_t j = pp_6 - 2*pp_7; A[i][j] = B[i][j]; }
+                }
+              }
+            }
+          }
+        }
+      }
+      for (int64_t pp_3 = pp_ceild(N + 64*pp_2 + 60, 32); pp_3 <= pp_min(pp_floord(N + 64*pp_2 + 60, 32), pp_min(pp_floord(N + 32*pp_1 - 32*pp_2 + 28, 64), pp_floord(2*T + N - 5, 32))); pp_3++) {
+        for (int64_t pp_4 = pp_ceild(-N + 32*pp_3 + 2, 2); pp_4 <= 32*pp_2 + 31; pp_4++) {
+          for (int64_t pp_5 = 32*pp_3; pp_5 <= N + 2*pp_4 - 2; pp_5++) {
+            for (int64_t pp_6 = pp_max(32*pp_1 - 32*pp_2 - 32*pp_3, 2*pp_4 + 1); pp_6 <= 32*pp_1 - 32*pp_2 - 32*pp_3 + 31; pp_6++) {
+              for (int64_t pp_7 = pp_ceild(-N + pp_5 + 2, 2); pp_7 <= 32*pp_2 + 31; pp_7++) {
+                for (int64_t pp_8 = 32*pp_3 - 2*pp_7 - 1; pp_8 <= N - 3; pp_8++) {
+                  { /* S2 */ const int64_t t = pp_7; const int64_t i = pp_8 + 1; const int64_t j = pp_6 - 2*pp_7; A[i][j] = B[i][j]; }
+                }
+              }
+            }
+          }
+        }
+      }
+      for (int64_t pp_3 = pp_ceild(2*T + N - 4, 32); pp_3 <= pp_min(pp_floord(2*T + N - 4, 32), pp_min(pp_floord(N + 64*pp_2 + 60, 32), pp_floord(N + 32*pp_1 - 32*pp_2 + 28, 64))); pp_3++) {
+        for (int64_t pp_4 = pp_ceild(-N + 32*pp_3 + 2, 2); pp_4 <= T - 1; pp_4++) {
+          for (int64_t pp_5 = 32*pp_3; pp_5 <= N + 2*pp_4 - 2; pp_5++) {
+            for (int64_t pp_6 = pp_max(32*pp_1 - 32*pp_2 - 32*pp_3, 2*pp_4 + 1); pp_6 <= 32*pp_1 - 32*pp_2 - 32*pp_3 + 31; pp_6++) {
+              for (int64_t pp_7 = pp_ceild(-N + pp_5 + 2, 2); pp_7 <= T - 1; pp_7++) {
+                for (int64_t pp_8 = 32*pp_3 - 2*pp_7 - 1; pp_8 <= N - 3; pp_8++) {
+                  { /* S2 */ const int64_t t = pp_7; const int64_t i = pp_8 + 1; const int64_t j = pp_6 - 2*pp_7; A[i][j] = B[i][j]; }
+                }
+              }
+            }
+          }
+        }
+      }
+    }
+    #pragma omp parallel for
+    for (int64_t pp_2 = pp_max(0, pp_max(pp_ceild(-2*T - N + 16*pp_1 + 4, 16), pp_ceild(-N + 16*pp_1 - 60, 80))); pp_2 <= pp_floord(-2*T - N + 16*pp_1 + 4, 16); pp_2++) {
+      for (int64_t pp_3 = pp_ceild(-2*T - N + 32*pp_1 - 32*pp_2 + 4, 32); pp_3 <= pp_floord(2*T + N - 4, 32); pp_3++) {
+        for (int64_t pp_4 = pp_1 - pp_2 - pp_3; pp_4 <= pp_floord(2*T + N - 4, 32); pp_4++) {
+          for (int64_t pp_5 = pp_ceild(-N + 32*pp_3 + 2, 2); pp_5 <= T - 1; pp_5++) {
+            for (int64_t pp_6 = pp_max(32*pp_3, 2*pp_5 + 1); pp_6 <= N + 2*pp_5 - 2; pp_6++) {
+              for (int64_t pp_7 = 32*pp_4; pp_7 <= N + 2*pp_5 - 2; pp_7++) {
+                for (int64_t pp_8 = pp_ceild(-N + pp_6 + 2, 2); pp_8 <= T - 1; pp_8++) {
+                  for (int64_t pp_9 = 32*pp_3 - 2*pp_8 - 1; pp_9 <= N - 3; pp_9++) {
+                    for (int64_t pp_10 = 32*pp_4 - 2*pp_8 - 1; pp_10 <= N - 3; pp_10++) {
+                      { /* S2 */ const int64_t t = pp_8; const int64_t i = pp_9 + 1; const int64_t j = pp_10 + 1; A[i][j] = B[i][j]; }
+                    }
+                  }
+                }
+              }
+            }
+          }
+        }
+      }
+    }
+  }
+  for (int64_t pp_1 = pp_max(0, pp_ceild(5*T + 2*N - 10, 32)); pp_1 <= pp_floord(5*T + 2*N - 9, 32); pp_1++) {
+    #pragma omp parallel for
+    for (int64_t pp_2 = pp_max(0, pp_ceild(-2*T - N + 16*pp_1 + 4, 16)); pp_2 <= pp_floord(T - 1, 32); pp_2++) {
+      for (int64_t pp_3 = pp_ceild(-2*T - N + 32*pp_1 - 32*pp_2 + 4, 32); pp_3 <= pp_floord(2*T + N - 4, 32); pp_3++) {
+        for (int64_t pp_4 = pp_1 - pp_2 - pp_3; pp_4 <= pp_floord(2*T + N - 4, 32); pp_4++) {
+          for (int64_t pp_5 = pp_ceild(-N + 32*pp_3 + 2, 2); pp_5 <= T - 1; pp_5++) {
+            for (int64_t pp_6 = pp_max(32*pp_3, 2*pp_5 + 1); pp_6 <= N + 2*pp_5 - 2; pp_6++) {
+              for (int64_t pp_7 = 32*pp_4; pp_7 <= N + 2*pp_5 - 2; pp_7++) {
+                for (int64_t pp_8 = pp_ceild(-N + pp_6 + 2, 2); pp_8 <= T - 1; pp_8++) {
+                  for (int64_t pp_9 = 32*pp_3 - 2*pp_8 - 1; pp_9 <= N - 3; pp_9++) {
+                    for (int64_t pp_10 = 32*pp_4 - 2*pp_8 - 1; pp_10 <= N - 3; pp_10++) {
+                      { /* S2 */ const int64_t t = pp_8; const int64_t i = pp_9 + 1; const int64_t j = pp_10 + 1; A[i][j] = B[i][j]; }
                     }
                   }
                 }
