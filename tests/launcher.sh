@@ -13,7 +13,8 @@ failed=0
 # The stand-in: `rt version` tells the contents of $work/version; `rt lib` proves a crate that has not been proved; `rt
 # run` makes the program, which prints its words and exits with 7. The crate that $work/refuse names is not proved, and
 # that in $work/slow takes five seconds. $work/calls tells the crates that `rt` was called for, $work/proofs those that
-# it proved, $work/builds the programs, $work/process the process that is slow.
+# it proved, $work/builds the programs, $work/process the process that is slow, $work/lacking where a crate did not find
+# the library of one that it stands on.
 make_stand_in() {
     mkdir -p "$work/bin" "$work/tmp"
     echo "kit 1" >"$work/version"
@@ -28,9 +29,13 @@ crate=\${PWD##*/}
 echo "\$crate" >>"$work/calls"
 [ "\$1" = lib ] || echo built >>"$work/builds"
 [ "\$(cat "$work/refuse" 2>/dev/null)" != "\$crate" ] || { echo "error: \$crate has no proof" >&2; exit 1; }
+mkdir -p out/rlib
+: >"out/rlib/\$crate"
 [ "\$(cat "$work/slow" 2>/dev/null)" != "\$crate" ] || { echo \$\$ >"$work/process"; exec sleep 5; }
+for below in \$(sed -n "s/^\$crate://p" ../../crates.txt); do
+    [ ! -d "../\$below" ] || [ -e "../\$below/out/rlib/\$below" ] || echo "\$crate \$below" >>"$work/lacking"
+done
 [ -e out/proved ] || echo "\$crate" >>"$work/proofs"
-mkdir -p out
 : >out/proved
 if [ "\$1" = run ]; then
     printf '#!/bin/sh\necho "\$*"\nexit 7\n' >out/polypar_main
@@ -42,7 +47,7 @@ STAND_IN
 
 # A fresh copy of what the launcher looks at, and no build yet.
 fresh() {
-    for old in copy builds refuse slow calls proofs process; do
+    for old in copy builds refuse slow calls proofs process lacking; do
         rm -rf "${work:?}/$old"
     done
     mkdir -p "$copy/crates"
@@ -125,6 +130,7 @@ expect_word "the first call tells of it" "proving and building"
 expect_same "the words are handed on" "$printed" "one two"
 expect_same "each crate once" "$(sort "$work/calls" | uniq -d)" ""
 expect_same "each behind those that it stands on" "$(too_early)" ""
+expect_same "each finds the libraries that it stands on" "$(cat "$work/lacking" 2>/dev/null)" ""
 expect_same "the program is the last" "$(tail -n 1 "$work/calls")" polypar_main
 crates=$(wc -l <"$work/calls")
 call "$copy/polypar"
@@ -198,6 +204,7 @@ status=$?
 builds=$(wc -l <"$work/builds")
 expect "after a slow crate" 7 1
 expect_same "each behind those that it stands on, side by side" "$(too_early)" ""
+expect_same "each finds them, side by side" "$(cat "$work/lacking" 2>/dev/null)" ""
 
 for signal in TERM:143 INT:130; do
     fresh
