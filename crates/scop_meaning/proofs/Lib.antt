@@ -8,3 +8,4 @@ mod Checks
 mod Kernels
 mod Finding
 mod Numbering
+mod Strides

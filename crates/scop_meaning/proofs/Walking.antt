@@ -1,33 +1,8 @@
 -- Going over the items of a tree and over the turns of a loop.
-use Rattle.std.proofs.Common.{
-  ◌≡◌,
-  ℕ,
-  zero,
-  suc,
-  ◌+◌,
-  ◌-◌,
-  ◌<◌,
-  ◌≤◌,
-  ◌^◌,
-  List,
-  [],
-  ◌∷◌,
-  length,
-  drop,
-  get_or,
-  ap,
-  subst,
-  sym,
-  ◌∙◌,
-  refl,
-  arith,
-  length-append,
-}
+use Rattle.std.proofs.Common.{◌≡◌, ℕ, ◌-◌, ◌<◌, ◌≤◌, ◌^◌, List, [], ◌∷◌, length, subst, sym, arith, length-append}
 use Rattle.std.specs.Prelude.{ℤ, pos, ◌+ℤ◌, ◌*ℤ◌}
 use Rattle.whole_numbers.specs.Affine.{value_of}
-use Rattle.scop_syntax.specs.Tree.{Head, Tree, loop, guard, statement, Trees, none, more}
-use Rattle.scop_syntax.specs.declared.tree.Item.{Item}
-use Rattle.scop_syntax.specs.View.{tree_of, items_of}
+use Rattle.scop_syntax.specs.Tree.{Head, Tree, loop, Trees, none, more}
 use Rattle.scop_syntax.specs.Walk.{condition_at, turn_point, RunsFor}
 use Rattle.scop_syntax.specs.Kernel.{IsHead, AreTrees}
 use Rattle.scop_syntax.specs.Fits.{TurnFits}

@@ -18,5 +18,7 @@ mod layout;
 mod loops;
 mod operators;
 pub mod performing;
+mod repeating;
 mod statements;
+mod tracks;
 pub mod worked_rows;

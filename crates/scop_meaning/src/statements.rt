@@ -14,7 +14,7 @@ use scop_syntax::arrays::Arrays;
 use scop_syntax::tree::{Access, Expr, Right, Stmt};
 
 /// Where the cell of `access` at `point` lies in its array.
-fn offset_in(access: &Access, layout: &Layout, point: &[i64], arrays: &Arrays) -> usize
+pub fn offset_in(access: &Access, layout: &Layout, point: &[i64], arrays: &Arrays) -> usize
     requires cell { IsCell layout.now (cell_of access.now point.now) }
     requires ready { IsReady layout.now arrays.now }
     ensures { result ≡ offset_of layout.now (cell_of access.now point.now) }
