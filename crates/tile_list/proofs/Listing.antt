@@ -63,9 +63,6 @@ tile_more ts params parts tiles p tile old new =
       ];
     }
   where
-    Is : ℕ → List Instance → Tile → Type 0
-    Is k q u = IsTile ts params k q u
-
     earlier : (t : ℕ) (u : Tile) → t < length tiles → slice_get tiles t ≡ Some u
         → IsTile ts params (start_of (parts ++ p ∷ []) t) (slice_index_or (parts ++ p ∷ []) t []) u
     earlier t u below e =
