@@ -1,0 +1,85 @@
+-- A pass that holds no tile may be joined into a seat that holds none.
+use Rattle.std.proofs.Common.{◌≡◌, ℕ, zero, suc, ◌+◌, ◌≤◌, ◌⊎◌, inl, inr, List, [], ◌∷◌, ◌++◌, ap, refl, arith}
+use Rattle.atomic_table.specs.Table.{Joins}
+use Rattle.tile_events.specs.Core as core
+use Rattle.tile_events.specs.Sound.{total}
+use Rattle.tile_events.specs.Rule.{if_ended}
+use Rattle.tile_events.specs.Rule.{AtRest}
+use Rattle.tile_events.specs.Allowed.{JoinIsAllowed}
+use Rattle.tile_core.specs.declared.worker.Stage.{Stage}
+use Rattle.tile_core.specs.declared.worker.Stage.TheVariants.{Idle, Ended, Holding, Working}
+use Rattle.tile_core.specs.Workers.{staged}
+use Rattle.tile_core.specs.declared.view.Key.{Key}
+use Rattle.tile_core.specs.declared.view.View.{View}
+use Rattle.tile_core.specs.Views.{key_plan, worker_in, parts_in, Ruled}
+use Rattle.array_words.specs.Closing.{joined, together, spent_view, Rests, one_if_ended, stage_after}
+
+at_rest : (s : Stage) (xs : List ℕ) → Rests s → AtRest (staged s xs)
+at_rest Idle xs r = tt
+at_rest Ended xs r = tt
+at_rest (Holding t) xs r = r
+at_rest (Working t k) xs r = r
+
+joined_rests : (a b : Stage) → Rests a → Rests b → Rests (joined a b)
+joined_rests Idle b r q = q
+joined_rests Ended b r q = tt
+joined_rests (Holding t) b r q = absurd r
+joined_rests (Working t k) b r q = absurd r
+
+from_ended : (a b : Stage) (xs ys : List ℕ) → Rests a → Rests b → staged (joined a b) [] ≡ core.ended → (staged a xs ≡ core.ended) ⊎ (staged b ys ≡ core.ended)
+from_ended Idle Idle xs ys r q e = absurd cc
+from_ended Idle Ended xs ys r q e = inr refl
+from_ended Idle (Holding t) xs ys r q e = absurd q
+from_ended Idle (Working t k) xs ys r q e = absurd q
+from_ended Ended b xs ys r q e = inl refl
+from_ended (Holding t) b xs ys r q e = absurd r
+from_ended (Working t k) b xs ys r q e = absurd r
+
+keep_ended : (a b : Stage) (xs ys : List ℕ) (m n : ℕ) → Rests a → Rests b → if_ended (staged a xs) m + if_ended (staged b ys) n ≤ if_ended (staged (joined a b) []) (m + n)
+keep_ended Idle Idle xs ys m n r q = omega arith
+keep_ended Idle Ended xs ys m n r q = omega arith
+keep_ended Idle (Holding t) xs ys m n r q = absurd q
+keep_ended Idle (Working t k) xs ys m n r q = absurd q
+keep_ended Ended Idle xs ys m n r q = omega arith
+keep_ended Ended Ended xs ys m n r q = omega arith
+keep_ended Ended (Holding t) xs ys m n r q = absurd q
+keep_ended Ended (Working t k) xs ys m n r q = absurd q
+keep_ended (Holding t) b xs ys m n r q = absurd r
+keep_ended (Working t k) b xs ys m n r q = absurd r
+
+-- a seat at rest may take in another
+pub join_allowed : JoinIsAllowed View → (key : Key) (id : ℕ) (v : View) (other : ℕ) (u : View) → Rests v.stage → Rests u.stage
+    → Joins (Ruled key) id v other u (together v u) spent_view
+join_allowed allowed key id v other u r q =
+    allowed (key_plan key) key.workers worker_in parts_in id v other u (together v u) spent_view
+    (at_rest v.stage v.reads r) (at_rest u.stage u.reads q) (at_rest (joined v.stage u.stage) [] (joined_rests v.stage u.stage r q)) refl refl refl
+    (from_ended v.stage u.stage v.reads u.reads r q)
+    (keep_ended v.stage u.stage v.reads u.reads v.parts u.parts r q)
+
+pub rests_after : (n : ℕ) → Rests (stage_after n)
+rests_after zero = tt
+rests_after (suc n) = tt
+
+-- the stage of the seat after one more
+pub joined_after : (n : ℕ) (s : Stage) → Rests s → joined (stage_after n) s ≡ stage_after (n + one_if_ended s)
+joined_after zero Idle r = refl
+joined_after zero Ended r = refl
+joined_after zero (Holding t) r = absurd r
+joined_after zero (Working t k) r = absurd r
+joined_after (suc n) s r = ap stage_after (let q : suc (n + one_if_ended s) ≡ suc n + one_if_ended s = omega arith in q)
+
+pub first_after : (s : Stage) → Rests s → s ≡ stage_after (one_if_ended s)
+first_after Idle r = refl
+first_after Ended r = refl
+first_after (Holding t) r = absurd r
+first_after (Working t k) r = absurd r
+
+pub one_at_most : (s : Stage) → one_if_ended s ≤ 1
+one_at_most Idle = omega arith
+one_at_most Ended = omega arith
+one_at_most (Holding t) = omega arith
+one_at_most (Working t k) = omega arith
+
+pub total_last : {A : Type 0} (f : A → ℕ) (xs : List A) (y : A) → total f (xs ++ y ∷ []) ≡ total f xs + f y
+total_last f [] y = omega arith
+total_last f (x ∷ xs) y = let i = total_last f xs y in omega (arith, i)

@@ -1,0 +1,6 @@
+pub mod Loads
+pub mod Stores
+pub mod Starting
+pub mod Members
+pub mod Joining
+pub mod Ending

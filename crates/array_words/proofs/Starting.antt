@@ -1,0 +1,63 @@
+-- The opening state meets the rule, and a seat that stands for several idle workers may be cut.
+use Rattle.std.proofs.Common.{◌≡◌, ℕ, zero, suc, ◌+◌, ◌<◌, ◌≤◌, ◌∙◌, List, [], ◌∷◌, length, ap, ap₂, refl, sym, subst, arith}
+use mathlib.Core.Option.{some, some-injective, some-ne-none}
+use lib.ListN.{get_elem?}
+use Rattle.atomic_table.specs.Table.{opening, Splits}
+use Rattle.tile_events.specs.Plan as events
+use Rattle.tile_events.specs.Plan.{GoodPlan, IsDealt}
+use Rattle.tile_events.specs.Core as core
+use Rattle.tile_events.specs.Core.{State}
+use Rattle.tile_events.specs.Sound.{Holds, Sound}
+use Rattle.tile_events.specs.Opening.{IsOpening}
+use Rattle.tile_events.specs.Rule.{Held, core as core_of}
+use Rattle.tile_events.specs.Allowed.{SplitIsAllowed}
+use Rattle.tile_core.specs.declared.worker.Stage.TheVariants.{Idle}
+use Rattle.tile_core.specs.declared.view.Key.{Key}
+use Rattle.tile_core.specs.declared.view.View.{View}
+use Rattle.tile_core.specs.declared.words.Words.{Words}
+use Rattle.tile_core.specs.Workers.{staged}
+use Rattle.tile_core.specs.Views.{key_plan, worker_in, parts_in, Ruled, opening_view}
+use Rattle.array_words.specs.Seats.{fewer, one_of}
+
+one_idle : (i : ℕ) (w : core.Worker) → get_elem? (core.idle ∷ []) i ≡ some w → w ≡ core.idle
+one_idle zero w e = sym (some-injective core.idle w e)
+one_idle (suc i) w e = absurd (some-ne-none w (sym e))
+
+nobody_holds : (key : Key) (i t : ℕ) (v : View) → get_elem? (opening_view key ∷ []) i ≡ some v → Holds (worker_in v) t → 0 < parts_in v
+nobody_holds key zero t v e h = absurd (subst (λ u. Holds (worker_in u) t) (sym (some-injective (opening_view key) v e)) h)
+nobody_holds key (suc i) t v e h = absurd (some-ne-none v (sym e))
+
+held_at : ((p : events.Plan) (s : State) → IsOpening p s → Sound p s) → (key : Key) → GoodPlan (key_plan key) → IsDealt (key_plan key)
+    → length key.cells.items ≡ (key_plan key).cells → (key_plan key).tiles + key.workers < 18446744073709551615
+    → Held (key_plan key) key.workers worker_in parts_in (opening {S = Unit {0}} (0 ∷ 0 ∷ key.cells.items) [] (opening_view key))
+held_at starts key good dealt wide few = record {
+  good = good;
+  dealt = dealt;
+  few = few;
+  long = omega arith;
+  sound = starts (key_plan key) (core_of (0 ∷ 0 ∷ key.cells.items) (core.idle ∷ [])) (record {
+    claims = refl;
+    finished = refl;
+    idle = one_idle;
+    wide = wide;
+    cells = λ c l. refl;
+  });
+  workers = omega arith;
+  claims = omega arith;
+  stands = nobody_holds key;
+}
+
+-- these words under this key meet the rule
+pub opening_held : ((p : events.Plan) (s : State) → IsOpening p s → Sound p s) → (key : Key) (row : List ℕ)
+    → GoodPlan (key_plan key) → IsDealt (key_plan key) → row ≡ 0 ∷ 0 ∷ key.cells.items → length key.cells.items ≡ (key_plan key).cells
+    → (key_plan key).tiles + key.workers < 18446744073709551615 → Ruled key (opening {S = Unit {0}} row [] (opening_view key))
+opening_held starts key row good dealt is wide few =
+    subst (λ (ws : List ℕ). Held (key_plan key) key.workers worker_in parts_in (opening {S = Unit {0}} ws [] (opening_view key)))
+    (sym is) (held_at starts key good dealt wide few)
+
+-- a seat of idle workers may be cut
+pub split_allowed : SplitIsAllowed View → (key : Key) (id : ℕ) (v : View) → v.stage ≡ Idle → v.reads ≡ [] → 0 < v.parts
+    → Splits (Ruled key) id v (fewer v) (one_of v)
+split_allowed allowed key id v stage reads parts =
+    allowed (key_plan key) key.workers worker_in parts_in id v (fewer v) (one_of v)
+    (ap₂ staged stage reads) (ap₂ staged stage reads) (ap₂ staged stage reads) (omega (arith, parts))

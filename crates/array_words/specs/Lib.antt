@@ -1,0 +1,4 @@
+pub mod Loads
+pub mod Stores
+pub mod Seats
+pub mod Closing

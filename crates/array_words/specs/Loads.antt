@@ -1,0 +1,29 @@
+-- What a load of a cell does to the pass that makes it.
+use Rattle.std.specs.Prelude.{◌≡◌, ℕ, ◌+◌, ◌<◌, List, [], ◌∷◌, ◌++◌, length}
+use mathlib.Core.Option as plain_option
+use Rattle.atomic_table.specs.Table.{Me, Step, step}
+use Rattle.tile_events.specs.Plan as plain
+use Rattle.tile_events.specs.Core.{cell_read}
+use Rattle.tile_core.specs.declared.worker.Stage.{Stage}
+use Rattle.tile_core.specs.declared.worker.Stage.TheVariants.{Idle, Ended, Holding, Working}
+use Rattle.tile_core.specs.declared.view.View.{View}
+use Rattle.tile_core.specs.declared.words.Words.{Words}
+use Rattle.tile_core.specs.declared.words.Pass.{Pass}
+use Rattle.tile_core.specs.Views.{at_stage, plan_at, executed}
+
+-- the next act of the tile is to read this cell
+abbrev pub IsNextRead : plain.Plan → Stage → List ℕ → ℕ → Type 0
+IsNextRead p Idle xs c = ⊥
+IsNextRead p Ended xs c = ⊥
+IsNextRead p (Holding t) xs c = ⊥
+IsNextRead p (Working t k) xs c = (k < p.size t) × (length xs < length (p.read (p.place t k))) × (c ≡ cell_read p t k (length xs))
+
+-- the number r that it found is the one that execution reads there, and is kept
+abbrev pub Loads : Step (Unit {0}) → Me (Unit {0}) View → ℕ → Me (Unit {0}) View → Type 0
+Loads st m r n =
+    (r ≡ executed (plan_at m.0.key) m.0.stage m.0.reads) × (n ≡ (at_stage m.0 m.0.stage (m.0.reads ++ r ∷ []), m.1))
+
+-- a load is its event on the pass's own view, by the number that it found
+abbrev pub DoesLoad : Words → Pass → ℕ → ℕ → Pass → Type 0
+DoesLoad words old cell result new =
+    Loads (step words.table.shared.table_id.slots (cell + 2) 0 0 plain_option.none) old.seat.me result new.seat.me

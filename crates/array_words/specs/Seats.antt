@@ -1,0 +1,45 @@
+-- Seats that stand for several workers, at the start.
+use Rattle.std.specs.Prelude.{◌≡◌, ℕ, ◌-◌, List, [], Some}
+use Rattle.atomic_table.specs.declared.shared.Seat.{Seat}
+use Rattle.tile_core.specs.declared.plan.Plan.{Plan}
+use Rattle.tile_core.specs.declared.worker.Stage.TheVariants.{Idle}
+use Rattle.tile_core.specs.declared.worker.Worker.{Worker}
+use Rattle.tile_core.specs.Workers.{IsWorker}
+use Rattle.tile_core.specs.declared.view.View.{View}
+use Rattle.tile_core.specs.declared.words.Words.{Words}
+use Rattle.tile_core.specs.declared.words.Pass.{Pass}
+use Rattle.tile_core.specs.Passes.{IsWords}
+
+-- one worker is given away
+abbrev pub fewer : View → View
+fewer v = record v { parts = v.parts - 1 }
+
+-- and has a view of its own
+abbrev pub one_of : View → View
+one_of v = record v { parts = 1 }
+
+-- the words are of this plan, these cells at first, and so many workers
+pub record IsStart (words : Words) (plan : Plan) (cells : List ℕ) (workers : ℕ) : Type 0 where
+  pub planned : words.plan ≡ plan
+  pub opening : words.table.shared.key.cells.items ≡ cells
+  pub all : words.table.shared.key.workers ≡ workers
+
+-- the seat stands for n workers, and all of them are idle
+pub record IsRest (words : Words) (n : ℕ) (seat : Seat (Unit {0}) View) : Type 0 where
+  pub of : IsWords words
+  pub table : seat.table_id ≡ words.table.shared.table_id
+  pub key : seat.me.0.key ≡ Some words.table.shared.key
+  pub slots : seat.me.1 ≡ []
+  pub parts : seat.me.0.parts ≡ n
+  pub stage : seat.me.0.stage ≡ Idle
+  pub reads : seat.me.0.reads ≡ []
+
+-- the pass's worker is idle
+abbrev pub IsIdlePass : Pass → Type 0
+IsIdlePass pass = pass.worker.stage ≡ Idle
+
+-- a worker of the plan that is idle and has read nothing
+pub record IsIdleWorker (plan : Plan) (w : Worker) : Type 0 where
+  pub is : IsWorker plan w
+  pub stage : w.stage ≡ Idle
+  pub reads : w.reads.items ≡ []

@@ -1,0 +1,29 @@
+-- What a store of a cell does to the pass that makes it.
+use Rattle.std.specs.Prelude.{◌≡◌, ℕ, suc, ◌+◌, ◌<◌, List, [], length}
+use mathlib.Core.Option as plain_option
+use Rattle.atomic_table.specs.Table.{Me, Step, step}
+use Rattle.tile_events.specs.Plan as plain
+use Rattle.tile_core.specs.declared.worker.Stage.{Stage}
+use Rattle.tile_core.specs.declared.worker.Stage.TheVariants.{Idle, Ended, Holding, Working}
+use Rattle.tile_core.specs.declared.view.View.{View}
+use Rattle.tile_core.specs.declared.words.Words.{Words}
+use Rattle.tile_core.specs.declared.words.Pass.{Pass}
+use Rattle.tile_core.specs.Views.{at_stage, tile_at, done_at}
+
+-- the next act of the tile is to store this value in this cell
+abbrev pub IsNextStore : plain.Plan → Stage → List ℕ → ℕ → ℕ → Type 0
+IsNextStore p Idle xs c x = ⊥
+IsNextStore p Ended xs c x = ⊥
+IsNextStore p (Holding t) xs c x = ⊥
+IsNextStore p (Working t k) xs c x =
+    (k < p.size t) × (length xs ≡ length (p.read (p.place t k)))
+    × (c ≡ p.written (p.place t k)) × (x ≡ p.value (p.place t k) xs)
+
+-- one instance more is done, and nothing is read of the next
+abbrev pub Stores : Step (Unit {0}) → Me (Unit {0}) View → ℕ → Me (Unit {0}) View → Type 0
+Stores st m r n = n ≡ (at_stage m.0 (Working (tile_at m.0.stage) (suc (done_at m.0.stage))) [], m.1)
+
+-- a store is its event on the pass's own view
+abbrev pub DoesStore : Words → Pass → ℕ → ℕ → Pass → Type 0
+DoesStore words old cell value new =
+    Stores (step words.table.shared.table_id.slots (cell + 2) value 0 plain_option.none) old.seat.me value new.seat.me

@@ -1,0 +1,17 @@
+//! The words of a run: the counts of claims and of finished tiles, and the cells, each a word of one table on which all
+//! workers step, each with a pass of its own (M. Herlihy and J. Wing, "Linearizability: a correctness condition for
+//! concurrent objects", ACM Transactions on Programming Languages and Systems, 1990). Whatever the order of the steps,
+//! a load tells the value that execution reads there.
+#![tactic(auto)]
+
+mod closing;
+mod gathering;
+mod loading;
+mod opening;
+mod storing;
+
+pub use closing::{Closed, close};
+pub use gathering::Merge;
+pub use loading::{Loading, load};
+pub use opening::{Cut, start};
+pub use storing::{Storing, store};

@@ -1,0 +1,39 @@
+//! The load of a cell: one load of its word.
+ghost use Rattle.std.specs.Prelude.{◌≡◌, ◌++◌, ◌∷◌, []};
+ghost use Rattle.array_words.specs.Loads.{DoesLoad, IsNextRead};
+ghost use Rattle.tile_core.specs.Passes.{IsPass, plan_in};
+ghost use Rattle.tile_core.specs.Views.{executed};
+
+use atomic_table::Play;
+use tile_core::plan_laws::{instances_read_few, plans_are_good};
+use tile_core::view::View;
+use tile_core::words::{Pass, Words};
+use tile_events::table_laws::events_are_allowed;
+
+/// What a load tells its pass.
+pub struct Loading;
+
+impl Play<(), View> for Loading {
+    ghost use Rattle.array_words.specs.Loads.{Loads};
+
+    ghost then = { Loads };
+}
+
+/// The value of the cell that the pass's next instance reads next: the one that execution reads there. It takes no
+/// memory and waits for nobody.
+pub fn load(words: &Words, pass: &mut Pass, cell: usize) -> u64
+    requires pass { IsPass words.now pass.old }
+    requires next { IsNextRead (plan_in words.now) pass.old.worker.stage pass.old.worker.reads.items cell }
+    ensures pass { IsPass words.now pass.new }
+    ensures value { result ≡ executed (plan_in words.now) pass.old.worker.stage pass.old.worker.reads.items }
+    ensures stage { pass.new.worker.stage ≡ pass.old.worker.stage }
+    ensures reads { pass.new.worker.reads.items ≡ pass.old.worker.reads.items ++ result ∷ [] }
+    ensures event { DoesLoad words.now pass.old cell result pass.new }
+{
+    plans_are_good();
+    instances_read_few();
+    events_are_allowed::<View, Loading>();
+    let value = words.table.shared.load::<Loading>(&mut pass.seat, cell + 2);
+    pass.worker.read(value);
+    value
+}

@@ -1,0 +1,112 @@
+//! The start: the words of the opening state, and a pass for each worker.
+ghost use Rattle.std.specs.Prelude.{◌≡◌, ◌-◌, ◌<◌, ◌≤◌, ◌∷◌, All, IfOk, length};
+ghost use Rattle.array_words.specs.Seats.{IsIdlePass, IsIdleWorker, IsRest, IsStart};
+ghost use Rattle.tile_core.specs.Passes.{IsPass, IsWords};
+ghost use Rattle.tile_core.specs.Plans.{IsPlan, shape_of};
+ghost use Rattle.tile_core.specs.declared.worker.Stage.TheVariants.{Idle};
+
+use atomic_table::{Seat, Split, Table};
+use std::alloc::{AllocError, Global};
+use tile_core::plan::Plan;
+use tile_core::plan_laws::plans_are_good;
+use tile_core::view::{Key, View};
+use tile_core::words::{Pass, Words};
+use tile_core::worker::Worker;
+use tile_events::core_laws::all_interleavings_agree;
+use tile_events::table_laws::seats_are_allowed;
+
+/// How a seat is cut off that stands for one worker.
+pub struct Cut;
+
+impl Split<View> for Cut {
+    ghost use Rattle.array_words.specs.Seats.{fewer, one_of};
+
+    ghost left = { fewer };
+
+    ghost right = { one_of };
+}
+
+/// The words at the start: both counts, then the cells.
+fn first_words(alloc: Global, cells: &[u64]) -> Result<Vec<u64>, AllocError>
+    ensures { IfOk result (λ v. v.items ≡ 0 ∷ 0 ∷ cells.now) }
+{
+    let mut row = Vec::with_capacity(alloc, cells.len() + 2)?;
+    row.push(0)?;
+    row.push(0)?;
+    row.extend_from_slice(cells)?;
+    Ok(row)
+}
+
+/// The table in its opening state, with a seat that stands for all workers.
+fn opened<'a>(
+    alloc: Global,
+    plan: Plan<'a>,
+    cells: &[u64],
+    workers: usize,
+) -> Result<(Words<'a>, Seat<(), View>), AllocError>
+    requires plan { IsPlan plan }
+    requires cells { length cells.now ≡ (shape_of plan).cells }
+    requires workers { workers ≤ 64 }
+    ensures key { IfOk result (λ r. IsStart r.0 plan.entry cells.now workers) }
+    ensures rest { IfOk result (λ r. IsRest r.0 workers r.1) }
+{
+    plans_are_good();
+    all_interleavings_agree();
+    let row = first_words(alloc, cells)?;
+    let key = Key {
+        plan,
+        cells: cells.to_vec(alloc)?,
+        workers: workers as u64,
+    };
+    let (table, rest) = Table::of_words(alloc, row.as_slice(), &key)?;
+    Ok((Words { plan, table }, rest))
+}
+
+/// A pass for one of the workers for whom the seat stands.
+fn split(words: &Words, rest: &mut Seat<(), View>, worker: Worker) -> Pass
+    requires rest { IsRest words.now rest.old.me.0.parts rest.old }
+    requires more { 1 < rest.old.me.0.parts }
+    requires worker { IsIdleWorker words.now.plan worker }
+    ensures rest { IsRest words.now (rest.old.me.0.parts - 1) rest.new }
+    ensures pass { IsPass words.now result }
+    ensures idle { result.worker.stage ≡ Idle }
+{
+    seats_are_allowed::<View>();
+    Pass {
+        seat: words.table.shared.split_seat::<Cut>(rest),
+        worker,
+    }
+}
+
+/// The words of the opening state, with these cells, and a pass for each worker.
+///
+/// # Errors
+/// `AllocError`.
+pub fn start<'a>(
+    alloc: Global,
+    plan: Plan<'a>,
+    cells: &[u64],
+    workers: usize,
+) -> Result<(Words<'a>, Vec<Pass>), AllocError>
+    requires plan { IsPlan plan }
+    requires cells { length cells.now ≡ (shape_of plan).cells }
+    requires some { 1 ≤ workers }
+    requires few { workers ≤ 64 }
+    ensures key { IfOk result (λ r. IsStart r.0 plan.entry cells.now workers) }
+    ensures words { IfOk result (λ r. IsWords r.0) }
+    ensures passes { IfOk result (λ r. All (IsPass r.0) r.1.items) }
+    ensures idle { IfOk result (λ r. All IsIdlePass r.1.items) }
+    ensures count { IfOk result (λ r. length r.1.items ≡ workers) }
+{
+    let (words, mut rest) = opened(alloc, plan, cells, workers)?;
+    let mut passes = Vec::with_capacity(alloc, workers)?;
+    for _ in 1..workers {
+        let worker = Worker::idle(alloc, &words.plan)?;
+        passes.push(split(&words, &mut rest, worker))?;
+    }
+    passes.push(Pass {
+        seat: rest,
+        worker: Worker::idle(alloc, &words.plan)?,
+    })?;
+    Ok((words, passes))
+}

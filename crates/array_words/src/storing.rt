@@ -1,0 +1,41 @@
+//! The store of a cell: one store of its word.
+ghost use Rattle.std.specs.Prelude.{◌≡◌, [], suc};
+ghost use Rattle.array_words.specs.Stores.{DoesStore, IsNextStore};
+ghost use Rattle.tile_core.specs.Passes.{IsPass, plan_in};
+ghost use Rattle.tile_core.specs.Views.{done_at, tile_at};
+ghost use Rattle.tile_core.specs.declared.worker.Stage.TheVariants.{Working};
+
+use atomic_table::Play;
+use tile_core::plan_laws::plans_are_good;
+use tile_core::view::View;
+use tile_core::words::{Pass, Words};
+use tile_events::table_laws::events_are_allowed;
+
+/// What a store tells its pass.
+pub struct Storing;
+
+impl Play<(), View> for Storing {
+    ghost use Rattle.array_words.specs.Stores.{Stores};
+
+    ghost then = { Stores };
+}
+
+/// Stores the value of the pass's next instance in its cell, and goes on to the one behind it. It takes no memory and
+/// waits for nobody.
+pub fn store(words: &Words, pass: &mut Pass, cell: usize, value: u64)
+    requires pass { IsPass words.now pass.old }
+    requires next { IsNextStore (plan_in words.now) pass.old.worker.stage pass.old.worker.reads.items cell value }
+    ensures pass { IsPass words.now pass.new }
+    ensures stage { pass.new.worker.stage
+        ≡ Working (tile_at pass.old.worker.stage) (suc (done_at pass.old.worker.stage)) }
+    ensures reads { pass.new.worker.reads.items ≡ [] }
+    ensures event { DoesStore words.now pass.old cell value pass.new }
+{
+    plans_are_good();
+    events_are_allowed::<View, Storing>();
+    words
+        .table
+        .shared
+        .store::<Storing>(&mut pass.seat, cell + 2, value);
+    pass.worker.advance(&words.plan);
+}

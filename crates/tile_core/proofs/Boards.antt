@@ -1,0 +1,341 @@
+-- Each event in memory is the one on plain data.
+use Rattle.std.proofs.Common.{◌≡◌, ⊎_elim, Bool, true, false, ℕ, suc, ◌+◌, ◌<◌, ◌≤◌, List, [], ◌∷◌, ◌++◌, length}
+use Rattle.std.proofs.Common.{get_or, map, set, Some, None, ap, ap₂, sym, refl}
+use Rattle.std.proofs.Common.{◌∙◌, subst, arith}
+use Rattle.std.specs.Prelude.{All, Vec, nat_lt, nat_le, nat_eq, if◌then◌else◌}
+use Rattle.std.specs.Global.{Global}
+use Rattle.std.specs.Vec.{with_item}
+use Rattle.std.proofs.lemmas.Bool.{lt-ltb, le-ltb, le-leb, lt-leb}
+use Rattle.std.proofs.lemmas.Bool.Decides.{eqb_tells}
+use Rattle.std.proofs.lemmas.List.{map-set}
+use Rattle.std.proofs.lemmas.List.Elements.{All-set}
+use mathlib.Core.Option.{some, some-injective}
+use lib.ListN.{get_elem?}
+use Rattle.atomic_table.proofs.Lists.{at_map, at_index}
+use Rattle.scop_syntax.specs.declared.instance.Instance.{Instance as CodeInstance}
+use Rattle.tile_events.specs.Core as core
+use Rattle.tile_events.specs.Core.{State, claim, open_tile, load, store, finish, acts, step, step_of}
+use Rattle.tile_events.specs.Rule.{if_ended}
+use Rattle.tile_events.specs.Sound.{Holds, total}
+use Rattle.tile_core.specs.Boards.{IsBoard, state_of}
+use Rattle.tile_core.specs.Plans.{place_of, shape_of}
+use Rattle.tile_core.specs.Workers.{HasNoneDue, IsDue, IsWorker, staged, worker_of}
+use Rattle.tile_core.specs.declared.board.Board.{Board}
+use Rattle.tile_core.specs.declared.plan.Plan.{Plan}
+use Rattle.tile_core.specs.declared.worker.Stage.{Stage}
+use Rattle.tile_core.specs.declared.worker.Stage.TheVariants.{Idle, Ended, Holding, Working}
+use Rattle.tile_core.specs.declared.worker.Worker.{Worker}
+
+-- worker id of the board is w
+pub record IsAt (b : Board) (id : ℕ) (w : Worker) : Type 0 where
+  pub here : get_elem? (map worker_of b.workers.items) id ≡ some (worker_of w)
+
+pub at_board : (b : Board) (id : ℕ) (w : Worker) → id < length b.workers.items → w ≡ get_or b.workers.items id w
+    → IsAt b id w
+at_board b id w l e = record { here = at_map worker_of b.workers.items id w (at_index b.workers.items id w l e) }
+
+-- two looks at one place see one
+pub one_at : (b : Board) (id : ℕ) (v w : Worker) → id < length b.workers.items → v ≡ get_or b.workers.items id v
+    → w ≡ get_or b.workers.items id w → v ≡ w
+one_at b id v w l e f = some-injective v w (sym (at_index b.workers.items id v l e) ∙ at_index b.workers.items id w l f)
+
+-- workers of the plan, one of them, and with another in its place
+pub worker_there : (plan : Plan) (b : Board) (id : ℕ) (w : Worker) → IsBoard plan b → id < length b.workers.items
+    → w ≡ get_or b.workers.items id w → IsWorker plan w
+worker_there plan b id w board l e = subst (IsWorker plan) (sym e) (board.workers id w l)
+
+pub workers_kept : (plan : Plan) (b : Board) (id : ℕ) (x : Worker) → IsBoard plan b → IsWorker plan x
+    → All (IsWorker plan) (set b.workers.items id x)
+workers_kept plan b id x board is = All-set (IsWorker plan) b.workers.items id x is board.workers
+
+-- a tile that a worker holds
+pub holding_tile : (plan : Plan) (w : Worker) (t : ℕ) → IsWorker plan w → w.stage ≡ Holding t
+    → t < (shape_of plan).tiles
+holding_tile plan w t is e = is.tile t (subst (λ s. Holds (staged s w.reads.items) t) (sym e) refl)
+
+pub working_tile : (plan : Plan) (w : Worker) (t k : ℕ) → IsWorker plan w → w.stage ≡ Working t k
+    → t < (shape_of plan).tiles
+working_tile plan w t k is e = is.tile t (subst (λ s. Holds (staged s w.reads.items) t) (sym e) refl)
+
+step_here : (plan : Plan) (b : Board) (id : ℕ) (w : Worker) (v : core.Worker) (e : core.Event) → IsAt b id w
+    → worker_of w ≡ v
+    → step (shape_of plan) (state_of b) id e ≡ acts (shape_of plan) (state_of b) id v e
+step_here plan b id w v e at is =
+    ap (λ o. step_of (shape_of plan) (state_of b) id o e) (at.here ∙ ap (λ (x : core.Worker). some x) is)
+
+set_worker : (b : Board) (id : ℕ) (x : Worker) (v : core.Worker) → worker_of x ≡ v
+    → set (map worker_of b.workers.items) id v ≡ map worker_of (set b.workers.items id x)
+set_worker b id x v e =
+    ap (set (map worker_of b.workers.items) id) (sym e) ∙ sym (map-set worker_of b.workers.items id x)
+
+staged_as : (w : Worker) (s : Stage) (xs : List ℕ) → w.stage ≡ s → w.reads.items ≡ xs → worker_of w ≡ staged s xs
+staged_as w s xs e f = ap₂ staged e f
+
+eq-eqb : (a b : ℕ) → a ≡ b → nat_eq a b ≡ true
+eq-eqb a b e = ⊎_elim (λ x. x.0) (λ x. absurd (x.1 e)) (eqb_tells a b)
+
+ne-eqb : (a b : ℕ) → (a ≡ b → ⊥) → nat_eq a b ≡ false
+ne-eqb a b h = ⊎_elim (λ x. absurd (h x.1)) (λ x. x.0) (eqb_tells a b)
+
+if_true : {A : Type 0} (b : Bool) (x y : A) → b ≡ true → (if b then x else y) ≡ x
+if_true b x y e = rw e refl
+
+if_false : {A : Type 0} (b : Bool) (x y : A) → b ≡ false → (if b then x else y) ≡ y
+if_false b x y e = rw e refl
+
+-- claim
+pub claims_tile : (plan : Plan) (b : Board) (id : ℕ) (w x : Worker) → IsAt b id w → w.stage ≡ Idle
+    → b.claims < (shape_of plan).tiles → x.stage ≡ Holding b.claims
+    → step (shape_of plan) (state_of b) id claim ≡ (
+      state_of
+          (record b { claims = b.claims + 1; workers = with_item b.workers id x }),
+      core.claimed (Some b.claims),
+    )
+claims_tile plan b id w x at is less new =
+    step_here plan b id w core.idle claim at (staged_as w Idle w.reads.items is refl)
+    ∙ (if_true (nat_lt b.claims (shape_of plan).tiles) _ _ (lt-ltb b.claims (shape_of plan).tiles less)
+    ∙ ap₂ (λ (n : ℕ) (ws : List core.Worker).
+    (record { claims = n; finished = b.finished; cells = b.cells.items; workers = ws }, core.claimed (Some b.claims)))
+    (let q : suc b.claims ≡ b.claims + 1 = omega arith in q)
+    (set_worker b id x (core.holding b.claims) (staged_as x (Holding b.claims) x.reads.items new refl)))
+
+pub claims_none : (plan : Plan) (b : Board) (id : ℕ) (w x : Worker) → IsAt b id w → w.stage ≡ Idle
+    → (shape_of plan).tiles ≤ b.claims → x.stage ≡ Ended
+    → step (shape_of plan) (state_of b) id claim ≡ (
+      state_of
+          (record b { claims = b.claims + 1; workers = with_item b.workers id x }),
+      core.claimed None,
+    )
+claims_none plan b id w x at is more new =
+    step_here plan b id w core.idle claim at (staged_as w Idle w.reads.items is refl)
+    ∙ (if_false (nat_lt b.claims (shape_of plan).tiles) _ _ (le-ltb b.claims (shape_of plan).tiles more)
+    ∙ ap₂ (λ (n : ℕ) (ws : List core.Worker).
+    (record { claims = n; finished = b.finished; cells = b.cells.items; workers = ws }, core.claimed None))
+    (let q : suc b.claims ≡ b.claims + 1 = omega arith in q)
+    (set_worker b id x core.ended (staged_as x Ended x.reads.items new refl)))
+
+claim_refused : (p : core.State) (plan : Plan) (id : ℕ) (s : Stage) (xs : List ℕ) → (s ≡ Idle → ⊥)
+    → acts (shape_of plan) p id (staged s xs) claim ≡ (p, core.not_enabled)
+claim_refused p plan id Idle xs h = absurd (h refl)
+claim_refused p plan id Ended xs h = refl
+claim_refused p plan id (Holding t) xs h = refl
+claim_refused p plan id (Working t k) xs h = refl
+
+pub refuses_claim : (plan : Plan) (b : Board) (id : ℕ) (w : Worker) → IsAt b id w → (w.stage ≡ Idle → ⊥)
+    → step (shape_of plan) (state_of b) id claim ≡ (state_of b, core.not_enabled)
+refuses_claim plan b id w at h =
+    step_here plan b id w (worker_of w) claim at refl ∙ claim_refused (state_of b) plan id w.stage w.reads.items h
+
+-- open
+pub opens : (plan : Plan) (b : Board) (id t : ℕ) (w x : Worker) → IsAt b id w → w.stage ≡ Holding t
+    → (shape_of plan).offset ((shape_of plan).wave t) ≤ b.finished → x.stage ≡ Working t 0 → x.reads.items ≡ []
+    → step (shape_of plan) (state_of b) id open_tile ≡ (
+      state_of
+          (record b { workers = with_item b.workers id x }),
+      core.opened,
+    )
+opens plan b id t w x at is enough new none =
+    step_here plan b id w (core.holding t) open_tile at (staged_as w (Holding t) w.reads.items is refl)
+    ∙ (if_true (nat_le ((shape_of plan).offset ((shape_of plan).wave t)) b.finished) _ _
+    (le-leb ((shape_of plan).offset ((shape_of plan).wave t)) b.finished enough)
+    ∙ ap (λ (ws : List core.Worker).
+    (record { claims = b.claims; finished = b.finished; cells = b.cells.items; workers = ws }, core.opened))
+    (set_worker b id x (core.working t 0 []) (staged_as x (Working t 0) [] new none)))
+
+pub not_yet : (plan : Plan) (b : Board) (id t needs : ℕ) (w : Worker) → IsAt b id w → w.stage ≡ Holding t
+    → needs ≡ (shape_of plan).offset ((shape_of plan).wave t) → b.finished < needs
+    → step (shape_of plan) (state_of b) id open_tile ≡ (state_of b, core.not_yet b.finished needs)
+not_yet plan b id t needs w at is e less =
+    step_here plan b id w (core.holding t) open_tile at (staged_as w (Holding t) w.reads.items is refl)
+    ∙ (if_false (nat_le ((shape_of plan).offset ((shape_of plan).wave t)) b.finished) _ _
+    (lt-leb ((shape_of plan).offset ((shape_of plan).wave t)) b.finished (subst (λ n. b.finished < n) e less))
+    ∙ ap (λ (n : ℕ). (state_of b, core.not_yet b.finished n)) (sym e))
+
+open_refused : (p : core.State) (plan : Plan) (id : ℕ) (s : Stage) (xs : List ℕ) → ((t : ℕ) → s ≡ Holding t → ⊥)
+    → acts (shape_of plan) p id (staged s xs) open_tile ≡ (p, core.not_enabled)
+open_refused p plan id Idle xs h = refl
+open_refused p plan id Ended xs h = refl
+open_refused p plan id (Holding t) xs h = absurd (h t refl)
+open_refused p plan id (Working t k) xs h = refl
+
+pub refuses_open : (plan : Plan) (b : Board) (id : ℕ) (w : Worker) → IsAt b id w → ((t : ℕ) → w.stage ≡ Holding t → ⊥)
+    → step (shape_of plan) (state_of b) id open_tile ≡ (state_of b, core.not_enabled)
+refuses_open plan b id w at h =
+    step_here plan b id w (worker_of w) open_tile at refl ∙ open_refused (state_of b) plan id w.stage w.reads.items h
+
+-- a worker that has no instance due
+load_refused : (p : core.State) (plan : Plan) (id : ℕ) (s : Stage) (xs : List ℕ) → HasNoneDue plan s
+    → acts (shape_of plan) p id (staged s xs) load ≡ (p, core.not_enabled)
+load_refused p plan id Idle xs h = refl
+load_refused p plan id Ended xs h = refl
+load_refused p plan id (Holding t) xs h = refl
+load_refused p plan id (Working t k) xs h =
+    if_false (nat_lt k ((shape_of plan).size t)) _ _ (le-ltb k ((shape_of plan).size t) (h t k refl))
+
+store_refused : (p : core.State) (plan : Plan) (id : ℕ) (s : Stage) (xs : List ℕ) → HasNoneDue plan s
+    → acts (shape_of plan) p id (staged s xs) store ≡ (p, core.not_enabled)
+store_refused p plan id Idle xs h = refl
+store_refused p plan id Ended xs h = refl
+store_refused p plan id (Holding t) xs h = refl
+store_refused p plan id (Working t k) xs h =
+    if_false (nat_lt k ((shape_of plan).size t)) _ _ (le-ltb k ((shape_of plan).size t) (h t k refl))
+
+pub refuses_load : (plan : Plan) (b : Board) (id : ℕ) (w : Worker) → IsAt b id w → HasNoneDue plan w.stage
+    → step (shape_of plan) (state_of b) id load ≡ (state_of b, core.not_enabled)
+refuses_load plan b id w at h =
+    step_here plan b id w (worker_of w) load at refl ∙ load_refused (state_of b) plan id w.stage w.reads.items h
+
+pub refuses_store : (plan : Plan) (b : Board) (id : ℕ) (w : Worker) → IsAt b id w → HasNoneDue plan w.stage
+    → step (shape_of plan) (state_of b) id store ≡ (state_of b, core.not_enabled)
+refuses_store plan b id w at h =
+    step_here plan b id w (worker_of w) store at refl ∙ store_refused (state_of b) plan id w.stage w.reads.items h
+
+-- one whose next instance is due
+module _ (plan : Plan) (b : Board) (id : ℕ) (w : Worker) (i : CodeInstance) (at : IsAt b id w)
+    (d : IsDue plan w.stage i) where
+  abbrev here : List ℕ
+  here = (shape_of plan).read (place_of plan i)
+
+  abbrev there : List ℕ
+  there = (shape_of plan).read ((shape_of plan).place d.tile d.count)
+
+  same_reads : here ≡ there
+  same_reads = ap (shape_of plan).read d.place
+
+  at_instance : (e : core.Event)
+      → step (shape_of plan) (state_of b) id e ≡ acts (shape_of plan) (state_of b) id
+      (core.working d.tile d.count w.reads.items) e
+  at_instance e =
+      step_here plan b id w (core.working d.tile d.count w.reads.items) e at
+      (staged_as w (Working d.tile d.count) w.reads.items d.works refl)
+
+  some_left : nat_lt d.count ((shape_of plan).size d.tile) ≡ true
+  some_left = lt-ltb d.count ((shape_of plan).size d.tile) d.left
+
+  pub all_read : length here ≤ length w.reads.items
+      → step (shape_of plan) (state_of b) id load ≡ (state_of b, core.not_enabled)
+  all_read all =
+      let n = ap (λ (rs : List ℕ). length rs) same_reads in
+      at_instance load
+      ∙ (if_true (nat_lt d.count ((shape_of plan).size d.tile)) _ _ some_left
+      ∙ if_false (nat_lt (length w.reads.items) (length there)) _ _
+      (le-ltb (length w.reads.items) (length there) (omega (arith, n, all))))
+
+  pub loads : (x : Worker) (value : ℕ) → length w.reads.items < length here
+      → value ≡ get_or b.cells.items (get_or here (length w.reads.items) 0) 0
+      → x.stage ≡ w.stage → x.reads.items ≡ w.reads.items ++ value ∷ []
+      → step (shape_of plan) (state_of b) id load ≡ (
+        state_of
+            (record b { workers = with_item b.workers id x }),
+        core.value_read value,
+      )
+  loads x value more found new taken =
+      let n = ap (λ (rs : List ℕ). length rs) same_reads in
+      let is = found ∙ ap (λ (rs : List ℕ). get_or b.cells.items (get_or rs (length w.reads.items) 0) 0) same_reads in
+      at_instance load
+      ∙ (if_true (nat_lt d.count ((shape_of plan).size d.tile)) _ _ some_left
+      ∙ (if_true (nat_lt (length w.reads.items) (length there)) _ _
+      (lt-ltb (length w.reads.items) (length there) (omega (arith, n, more)))
+      ∙ (ap (λ (v : ℕ). (
+        record {
+          claims = b.claims;
+          finished = b.finished;
+          cells = b.cells.items;
+          workers = set
+              (map worker_of b.workers.items) id (core.working d.tile d.count (w.reads.items ++ v ∷ []));
+        },
+        core.value_read v,
+      ))
+      (sym is)
+      ∙ ap (λ (ws : List core.Worker).
+      (record { claims = b.claims; finished = b.finished; cells = b.cells.items; workers = ws }, core.value_read value))
+      (set_worker b id x (core.working d.tile d.count (w.reads.items ++ value ∷ []))
+      (staged_as x (Working d.tile d.count) (w.reads.items ++ value ∷ []) (new ∙ d.works) taken)))))
+
+  pub reads_left : (length w.reads.items ≡ length here → ⊥)
+      → step (shape_of plan) (state_of b) id store ≡ (state_of b, core.not_enabled)
+  reads_left left =
+      let n = ap (λ (rs : List ℕ). length rs) same_reads in
+      at_instance store
+      ∙ (if_true (nat_lt d.count ((shape_of plan).size d.tile)) _ _ some_left
+      ∙ if_false (nat_eq (length w.reads.items) (length there)) _ _
+      (ne-eqb (length w.reads.items) (length there) (λ e. left (e ∙ sym n))))
+
+  pub stores : (x : Worker) (cs : Vec ℕ Global) (value : ℕ) → length w.reads.items ≡ length here
+      → value ≡ (shape_of plan).value (place_of plan i) w.reads.items
+      → cs.items ≡ set b.cells.items ((shape_of plan).written (place_of plan i)) value
+      → x.stage ≡ Working d.tile (suc d.count) → x.reads.items ≡ []
+      → step (shape_of plan) (state_of b) id store ≡ (
+        state_of
+            (record b { cells = cs; workers = with_item b.workers id x }),
+        core.stored,
+      )
+  stores x cs value all is put new none =
+      let n = ap (λ (rs : List ℕ). length rs) same_reads in
+      let stored = is ∙ ap (λ p. (shape_of plan).value p w.reads.items) d.place in
+      let cells = put ∙ ap (λ p. set b.cells.items ((shape_of plan).written p) value) d.place in
+      at_instance store
+      ∙ (if_true (nat_lt d.count ((shape_of plan).size d.tile)) _ _ some_left
+      ∙ (if_true (nat_eq (length w.reads.items) (length there)) _ _
+      (eq-eqb (length w.reads.items) (length there) (all ∙ n))
+      ∙ ap₂ (λ (cells : List ℕ) (ws : List core.Worker).
+      (record { claims = b.claims; finished = b.finished; cells = cells; workers = ws }, core.stored))
+      (ap (set b.cells.items ((shape_of plan).written ((shape_of plan).place d.tile d.count))) (sym stored) ∙ sym cells)
+      (set_worker b id x (core.working d.tile (suc d.count) [])
+      (staged_as x (Working d.tile (suc d.count)) [] new none))))
+
+-- finish
+finish_refused : (p : core.State) (plan : Plan) (id : ℕ) (s : Stage) (xs : List ℕ) → ((t k : ℕ) → s ≡ Working t k → ⊥)
+    → acts (shape_of plan) p id (staged s xs) finish ≡ (p, core.not_enabled)
+finish_refused p plan id Idle xs h = refl
+finish_refused p plan id Ended xs h = refl
+finish_refused p plan id (Holding t) xs h = refl
+finish_refused p plan id (Working t k) xs h = absurd (h t k refl)
+
+pub refuses_finish : (plan : Plan) (b : Board) (id : ℕ) (w : Worker) → IsAt b id w
+    → ((t k : ℕ) → w.stage ≡ Working t k → ⊥)
+    → step (shape_of plan) (state_of b) id finish ≡ (state_of b, core.not_enabled)
+refuses_finish plan b id w at h =
+    step_here plan b id w (worker_of w) finish at refl ∙ finish_refused (state_of b) plan id w.stage w.reads.items h
+
+module _ (plan : Plan) (b : Board) (id t k : ℕ) (w : Worker) (at : IsAt b id w) (is : w.stage ≡ Working t k) where
+  at_tile : step (shape_of plan) (state_of b) id finish ≡ acts (shape_of plan) (state_of b) id
+      (core.working t k w.reads.items) finish
+  at_tile = step_here plan b id w (core.working t k w.reads.items) finish at
+      (staged_as w (Working t k) w.reads.items is refl)
+
+  pub not_full : (k ≡ (shape_of plan).size t → ⊥)
+      → step (shape_of plan) (state_of b) id finish ≡ (state_of b, core.not_enabled)
+  not_full h = at_tile ∙ if_false (nat_eq k ((shape_of plan).size t)) _ _ (ne-eqb k ((shape_of plan).size t) h)
+
+  pub finishes : (x : Worker) → k ≡ (shape_of plan).size t → x.stage ≡ Idle
+      → step (shape_of plan) (state_of b) id finish ≡ (
+        state_of
+            (record b { finished = b.finished + 1; workers = with_item b.workers id x }),
+        core.done,
+      )
+  finishes x full new =
+      at_tile
+      ∙ (if_true (nat_eq k ((shape_of plan).size t)) _ _ (eq-eqb k ((shape_of plan).size t) full)
+      ∙ ap₂ (λ (n : ℕ) (ws : List core.Worker).
+      (record { claims = b.claims; finished = n; cells = b.cells.items; workers = ws }, core.done))
+      (let q : suc b.finished ≡ b.finished + 1 = omega arith in q)
+      (set_worker b id x core.idle (staged_as x Idle x.reads.items new refl)))
+
+total_ones : (ws : List core.Worker) → total (λ w. if_ended w 1) ws ≤ length ws
+total_ones [] = omega arith
+total_ones (w ∷ ws) = let i = total_ones ws in let a = if_ended_one w in omega (arith, i, a)
+  where
+    if_ended_one : (w : core.Worker) → if_ended w 1 ≤ 1
+    if_ended_one core.idle = omega arith
+    if_ended_one core.ended = omega arith
+    if_ended_one (core.holding t) = omega arith
+    if_ended_one (core.working t k xs) = omega arith
+
+-- the claims leave room for one more
+pub room : (plan : Plan) (b : Board) → IsBoard plan b → b.claims < 18446744073709551615
+room plan b board =
+    let a = board.run.counted in
+    let f = board.run.few in
+    let t = total_ones (map worker_of b.workers.items) in
+    omega (arith, a, f, t)

@@ -1,0 +1,10 @@
+pub mod Ranks
+pub mod Cuts
+pub mod Scans
+pub mod Plans
+pub mod Tiles
+pub mod Touched
+pub mod Workers
+pub mod Boards
+pub mod States
+pub mod Bodies

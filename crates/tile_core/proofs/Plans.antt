@@ -1,0 +1,214 @@
+-- A plan's tiles hold each place of the walk once, and conflicting places lie in one tile or in waves that rise.
+use Rattle.std.proofs.Common.{◌≡◌, ℕ, suc, ◌-◌, ◌+◌, ◌<◌, ℤ, List, [], ◌∷◌, length, map, get_or, Some, ◌⊎◌}
+use Rattle.std.proofs.Common.{inl, inr, ap, ap₂, subst, sym, refl, ◌∙◌, arith}
+use Rattle.std.specs.Prelude.{slice_get, slice_index_or}
+use Rattle.std.specs.Option.{option_map}
+use Rattle.std.proofs.lemmas.List.{length-map}
+use Rattle.std.proofs.lemmas.Option.{slice_get-map, slice_get_within, get_or_from_slice_get}
+use Rattle.scop_syntax.specs.Cells.{Cell, Conflict, PlacesConflict, cell_of, reads}
+use Rattle.scop_syntax.specs.Execution.{AreInside, IsCell, cell_number, held, total_cells}
+use Rattle.scop_syntax.specs.Members.{In}
+use Rattle.scop_syntax.specs.Tree.{Program}
+use Rattle.scop_syntax.specs.View.{instance_of}
+use Rattle.scop_syntax.specs.Walk.{Instance, Visit, instance}
+use Rattle.scop_syntax.proofs.Members.{in_from_place, in_map_from}
+use Rattle.loop_tree.specs.TilingView.{tiling_of}
+use Rattle.tile_list.specs.TilesView.{firsts_of, waves_of}
+use Rattle.tile_list.specs.declared.list.Tile.{Tile}
+use Rattle.tile_events.specs.Deal.{Deal, IsScan, dealt}
+use Rattle.tile_events.specs.Flat.{IsWalk, flat, read_by, written_by}
+use Rattle.tile_events.specs.Plan as events
+use Rattle.tile_events.specs.Plan.{GoodPlan, IsDealt, Touch}
+use Rattle.tile_core.specs.Plans.{IsPlan, deal_of, extents_in, plan_of, program_in, scan_in, shape_of, sizes_of}
+use Rattle.tile_core.specs.Plans.{walk_in}
+use Rattle.tile_core.specs.Ranks.{start_at}
+use Rattle.tile_core.specs.declared.plan.Plan.{Plan}
+use Rattle.tile_core.proofs.Cuts.{IsCut, IsInTile, TileLaws, cut_is}
+use Rattle.tile_core.proofs.Scans.{StandOnce, as_many, instance_at, place_back, place_within, rank_back, rank_there}
+use Rattle.tile_core.proofs.Scans.{rank_within, there_is, tiles_in_order, walked_distinct}
+
+-- sizes of tiles that are those of parts
+pub sizes_agree : (tiles : List Tile) (parts : List (List Instance)) → length tiles ≡ length parts
+    → ((t : ℕ) (tile : Tile) → slice_get tiles t ≡ Some tile → tile.size ≡ length (slice_index_or parts t []))
+    → sizes_of tiles ≡ map length parts
+sizes_agree [] [] e h = refl
+sizes_agree [] (p ∷ ps) e h = absurd (omega (arith, e))
+sizes_agree (t ∷ ts) [] e h = absurd (omega (arith, e))
+sizes_agree (t ∷ ts) (p ∷ ps) e h =
+    ap₂ (λ (n : ℕ) (ns : List ℕ). n ∷ ns) (h 0 t refl)
+    (sizes_agree ts ps (omega (arith, e)) (λ k tile at. h (suc k) tile at))
+
+-- the cells that visits touch are among all cells
+module _ (extents : List (List ℕ)) (visits : List Visit)
+    (below : (c : Cell) → IsCell extents c → cell_number extents c < total_cells extents)
+    (inside : AreInside extents visits) where
+  visit_written : (j : ℕ) → j < length visits → written_by extents (slice_get visits j) < total_cells extents
+  visit_written j l =
+      let v = there_is visits j l in
+      subst (λ o. written_by extents o < total_cells extents) (sym v.1)
+      (below (cell_of v.0.body.place v.0.point)
+      (inside v.0 (in_from_place visits j v.0 v.1) v.0.body.place (inl refl)))
+
+  visit_read : (j c : ℕ) → j < length visits → In c (read_by extents (slice_get visits j)) → c < total_cells extents
+  visit_read j c l i =
+      let v = there_is visits j l in
+      let m = in_map_from (cell_number extents) c (map (λ access. cell_of access v.0.point) (reads v.0.body))
+      (subst (λ o. In c (read_by extents o)) v.1 i) in
+      let a = in_map_from (λ access. cell_of access v.0.point) m.0 (reads v.0.body) m.1 in
+      let is = inside v.0 (in_from_place visits j v.0 v.1) a.0 (inr a.1) in
+      subst (λ n. n < total_cells extents) (sym (m.2 ∙ ap (cell_number extents) a.2))
+      (below (cell_of a.0 v.0.point) is)
+
+-- the laws of walks, tiles and plans
+pub record PlanLaws : Type 0 where
+  pub tiles : TileLaws
+  pub once : (program : Program) (params : List ℤ) → StandOnce program params
+  pub below : (extents : List (List ℕ)) (c : Cell) → IsCell extents c → cell_number extents c < total_cells extents
+  pub deals : (d : Deal) (cells : ℕ) (written : ℕ → ℕ) (read : ℕ → List ℕ) (value : ℕ → List ℕ → ℕ) (initial : ℕ → ℕ)
+      → IsScan d → ((j : ℕ) → j < d.places → written j < cells)
+      → ((j c : ℕ) → j < d.places → In c (read j) → c < cells) → IsDealt (dealt d cells written read value initial)
+  pub touches : (extents contents : List (List ℕ)) (visits : List Visit) (p : events.Plan)
+      → IsWalk extents contents visits p → AreInside extents visits → (i j : ℕ) (v w : Visit)
+      → slice_get visits i ≡ Some v → slice_get visits j ≡ Some w → Touch p i j → (a : ℕ) × (b : ℕ) × Conflict v a w b
+
+-- the plan's functions are those of the walk
+pub walk_over : (plan : Plan) (contents : List (List ℕ))
+    → ((c : Cell) → IsCell (extents_in plan) c
+    → get_or (flat contents) (cell_number (extents_in plan) c) 0 ≡ held (extents_in plan) contents c)
+    → IsWalk (extents_in plan) contents (walk_in plan) (plan_of plan (flat contents))
+walk_over plan contents initial =
+    record { written = λ j. refl; read = λ j. refl; value = λ j xs. refl; initial = initial }
+
+walk_is : (plan : Plan) → IsWalk (extents_in plan) [] (walk_in plan) (shape_of plan)
+walk_is plan = walk_over plan [] (λ c is. refl)
+
+module _ (laws : PlanLaws) (plan : Plan) (is : IsPlan plan) where
+  abbrev deal : Deal
+  deal = deal_of plan
+
+  -- the scan, cut into the tiles of the list
+  list_cut : IsCut (tiling_of plan.tiling.now) (scan_in plan) deal.tiles deal.start deal.wave
+  list_cut =
+      let list = is.tiles in
+      let tiles = plan.list.now.tiles.items in
+      let tiling = tiling_of plan.tiling.now in
+      let heads : (t : ℕ) (p : List Instance) → slice_get list.parts t ≡ Some p
+      → (x : Instance) × (slice_get p 0 ≡ Some x) × (slice_get (firsts_of tiles) t ≡ Some x) =
+      λ t p at.
+      let n = list.count in
+      let m = slice_get_within list.parts t p at in
+      let tile = there_is tiles t (omega (arith, n, m)) in
+      let part = get_or_from_slice_get list.parts t p [] at in (
+        instance_of tile.0.first,
+        subst (λ q. slice_get q 0 ≡ Some (instance_of tile.0.first)) part (list.tiles t tile.0 tile.1).first,
+        slice_get-map (λ (x : Tile). instance_of x.first) tiles t
+            ∙ ap (option_map (λ (x : Tile). instance_of x.first)) tile.1,
+      ) in
+      let many = length-map tiles (λ (x : Tile). x.wave) ∙ list.count in
+      let cut = cut_is laws.tiles tiling (scan_in plan) (firsts_of tiles) list.parts
+      (waves_of tiles) list.cut heads many
+      list.waves in
+      let sizes = sizes_agree tiles list.parts list.count (λ t tile at. (list.tiles t tile at).size) in
+      subst (λ (n : ℕ). IsCut tiling (scan_in plan) n (start_at (sizes_of tiles)) deal.wave) (sym list.count)
+      (subst (λ (ns : List ℕ). IsCut tiling (scan_in plan) (length list.parts) (start_at ns) deal.wave) (sym sizes) cut)
+
+  once : StandOnce (program_in plan) plan.params.now
+  once = laws.once (program_in plan) plan.params.now
+
+  -- the tree visits as many instances as there are places
+  pub count_is : length (scan_in plan) ≡ length (walk_in plan)
+  count_is = as_many (program_in plan) plan.params.now (tiling_of plan.tiling.now) (scan_in plan) once is.order
+
+  -- each place of the walk stands once in the scan
+  pub scan_is : IsScan deal
+  scan_is =
+      let program = program_in plan in
+      let params = plan.params.now in
+      let tiling = tiling_of plan.tiling.now in
+      let cut = list_cut in record {
+        rank = rank_within program params tiling (scan_in plan) once is.order;
+        at = place_within program params tiling (scan_in plan) once is.order;
+        there = rank_back program params tiling (scan_in plan) once is.order;
+        back = place_back program params tiling (scan_in plan) once is.order;
+        first = cut.first;
+        last = cut.last ∙ count_is;
+        rises = cut.rises;
+        by_wave = λ t l. cut.by_wave t (suc t) (omega arith) l;
+      }
+
+  pub dealt_is : (cells : List ℕ) → IsDealt (plan_of plan cells)
+  dealt_is cells =
+      let p = plan_of plan cells in
+      laws.deals deal p.cells p.written p.read p.value p.initial scan_is
+      (visit_written (extents_in plan) (walk_in plan) (laws.below (extents_in plan)) is.inside)
+      (visit_read (extents_in plan) (walk_in plan) (laws.below (extents_in plan)) is.inside)
+
+  -- a place whose rank lies in a tile stands there
+  stands_in : (cells : List ℕ) (j t : ℕ) (x : Instance) → j < length (walk_in plan)
+      → IsInTile (scan_in plan) deal.tiles deal.start t (deal.rank j) x
+      → ((plan_of plan cells).tile j ≡ t) × ((plan_of plan cells).position j ≡ deal.rank j - deal.start t)
+  stands_in cells j t x less a =
+      let p = plan_of plan cells in
+      let d = dealt_is cells in
+      let from = a.from in
+      let to = a.to in
+      let k = deal.rank j - deal.start t in
+      let there : p.place t k ≡ j =
+      ap deal.at (let q : deal.start t + k ≡ deal.rank j = omega (arith, from) in q) ∙ scan_is.there j less in (
+        sym (ap p.tile there) ∙ d.its_tile t k a.tile (omega (arith, from, to)),
+        sym (ap p.position there) ∙ d.its_position t k a.tile (omega (arith, from, to)),
+      )
+
+  placed_by : (cells : List ℕ) (i j t u : ℕ) (x y : Instance) → i < length (walk_in plan) → j < length (walk_in plan)
+      → IsInTile (scan_in plan) deal.tiles deal.start t (deal.rank i) x
+      → IsInTile (scan_in plan) deal.tiles deal.start u (deal.rank j) y
+      → ((t ≡ u) × (deal.rank i < deal.rank j)) ⊎ (deal.wave t < deal.wave u)
+      → (((plan_of plan cells).tile i ≡ (plan_of plan cells).tile j)
+      × ((plan_of plan cells).position i < (plan_of plan cells).position j))
+      ⊎ (deal.wave ((plan_of plan cells).tile i) < deal.wave ((plan_of plan cells).tile j))
+  placed_by cells i j t u x y l m a b (inl g) =
+      let e = stands_in cells i t x l a in
+      let f = stands_in cells j u y m b in
+      let p = e.1 in
+      let q = f.1 in
+      let s = ap deal.start g.0 in
+      let less = g.1 in
+      let from = a.from in
+      inl (e.0 ∙ (g.0 ∙ sym f.0), omega (arith, p, q, s, less, from))
+  placed_by cells i j t u x y l m a b (inr g) =
+      let e = stands_in cells i t x l a in
+      let f = stands_in cells j u y m b in
+      inr (subst (λ n. deal.wave n < deal.wave ((plan_of plan cells).tile j)) (sym e.0)
+      (subst (λ n. deal.wave t < deal.wave n) (sym f.0) g))
+
+  pub good_is : (cells : List ℕ) → GoodPlan (plan_of plan cells)
+  good_is cells =
+      let program = program_in plan in
+      let params = plan.params.now in
+      let tiling = tiling_of plan.tiling.now in
+      let xs = scan_in plan in record {
+        ordered = λ i j less within touch.
+            let early : i < length (walk_in plan) = omega (arith, less, within) in
+            let v = instance_at program params tiling xs once is.order i early in
+            let w = instance_at program params tiling xs once is.order j within in
+            let c = laws.touches (extents_in plan) [] (walk_in plan) (shape_of plan)
+            (walk_is plan) is.inside i j v.0 w.0
+            v.1 w.1 touch in
+            let conflict : PlacesConflict (walk_in plan) i j = record {
+              earlier = v.0;
+              later = w.0;
+              first = c.0;
+              second = c.1;
+              order = less;
+              is_earlier = v.1;
+              is_later = w.1;
+              conflict = c.2;
+            } in
+            let x = instance v.0 in
+            let y = instance w.0 in
+            let a = list_cut.found (deal.rank i) x (rank_there program params tiling xs once is.order i x v.2) in
+            let b = list_cut.found (deal.rank j) y (rank_there program params tiling xs once is.order j y w.2) in
+            placed_by cells i j a.0 b.0 x y early within a.1 b.1
+            (tiles_in_order program params tiling xs deal.tiles deal.start deal.wave i j (deal.rank i) (deal.rank j) a.0
+            b.0 x y (walked_distinct program params once) is.order list_cut v.2 w.2 a.1 b.1 (is.good i j conflict));
+      }

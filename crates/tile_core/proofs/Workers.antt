@@ -1,0 +1,161 @@
+-- Where a worker stands: before a tile, at its first instance, at the next one.
+use Rattle.std.proofs.Common.{◌≡◌, ℕ, zero, suc, ◌+◌, ◌<◌, ℤ, List, [], ◌∷◌, ◌++◌, drop, length, Option, Some, None}
+use Rattle.std.proofs.Common.{ap, sym, subst, refl}
+use Rattle.std.proofs.Common.{◌∙◌, arith}
+use Rattle.std.specs.Prelude.{slice_get, slice_index_or, IsNone, MatchOption}
+use Rattle.std.proofs.lemmas.List.{length-map}
+use Rattle.std.proofs.lemmas.Option.{slice_get_within}
+use Rattle.scop_syntax.specs.View.{instance_of}
+use Rattle.scop_syntax.specs.Walk.{Instance}
+use Rattle.scop_syntax.specs.declared.instance.Instance.{Instance as CodeInstance}
+use Rattle.scop_syntax.proofs.Members.{in_from_place}
+use Rattle.loop_tree.specs.Spot.{IsAt, Mark}
+use Rattle.loop_tree.specs.SpotView.{IsSpotOf, found_in, mark_of, marks_in, to_come}
+use Rattle.loop_tree.specs.TilingView.{tiling_of}
+use Rattle.loop_tree.specs.Spot.{rest_of}
+use Rattle.loop_tree.specs.Tree.{Trees}
+use Rattle.loop_tree.specs.View.{trees_in}
+use Rattle.loop_tree.specs.declared.spot.Spot.{Spot}
+use Rattle.tile_list.specs.Tiles.{start_of}
+use Rattle.tile_list.specs.declared.list.Tile.{Tile}
+use Rattle.tile_events.specs.Deal.{IsScan}
+use Rattle.tile_events.specs.Sound.{Holds}
+use Rattle.tile_core.specs.Plans.{IsPlan, deal_of, places_in, program_in, scan_in, shape_of, walk_in}
+use Rattle.tile_core.specs.Ranks.{rank_in, start_at}
+use Rattle.tile_core.specs.Workers.{HasNoneDue, IsDue, IsNext, IsWorker, staged}
+use Rattle.tile_core.specs.declared.plan.Plan.{Plan}
+use Rattle.tile_core.specs.declared.worker.Stage.{Stage}
+use Rattle.tile_core.specs.declared.worker.Stage.TheVariants.{Idle, Working}
+use Rattle.tile_core.specs.declared.worker.Worker.{Worker}
+use Rattle.tile_core.proofs.Cuts.{PartsStand, starts_rise, sum_start}
+use Rattle.tile_core.proofs.Plans.{sizes_agree}
+use Rattle.tile_core.proofs.Scans.{scan_same, there_is}
+
+-- a worker that holds no tile
+pub idle_is : (plan : Plan) (w : Worker) → w.stage ≡ Idle → IsSpotOf (trees_in plan.tree.now) plan.params.now w.spot
+    → IsWorker plan w
+idle_is plan w is spot = record {
+  spot = spot;
+  tile = λ t h. absurd (subst (λ s. Holds (staged s w.reads.items) t) is h);
+  next = λ t k e l. absurd (differ t k (sym is ∙ e));
+}
+  where
+    differ : (t k : ℕ) → Idle ≡ Working t k → ⊥
+    differ t k e = cc
+
+-- one at work
+pub at_work : (plan : Plan) (w : Worker) (t k : ℕ) → w.stage ≡ Working t k
+    → IsSpotOf (trees_in plan.tree.now) plan.params.now w.spot → t < (shape_of plan).tiles
+    → (k < (shape_of plan).size t → IsNext plan ((deal_of plan).start t + k) w.next w.spot) → IsWorker plan w
+at_work plan w t k is spot less next = record {
+  spot = spot;
+  tile = λ u h.
+      let same : t ≡ u = subst (λ s. Holds (staged s w.reads.items) u) is h in
+      subst (λ v. v < (shape_of plan).tiles) same less;
+  next = λ u m e left.
+      let both : Working t k ≡ Working u m = sym is ∙ e in
+      let p : t ≡ u = cc in
+      let q : k ≡ m = cc in
+      let l : k < (shape_of plan).size t = subst (λ v. k < (shape_of plan).size v) (sym p)
+      (subst (λ v. v < (shape_of plan).size u) (sym q) left) in
+      subst (λ v. IsNext plan ((deal_of plan).start v + m) w.next w.spot) p
+      (subst (λ v. IsNext plan ((deal_of plan).start t + v) w.next w.spot) q (next l));
+}
+
+-- a spot with another's marks
+pub set_is : (ts : Trees) (params : List ℤ) (spot other : Spot) → marks_in spot ≡ marks_in other
+    → IsSpotOf ts params other → IsSpotOf ts params spot
+set_is ts params spot other e is = record {
+  room = (
+      let a = length-map spot.marks.items mark_of in
+      let b = length-map other.marks.items mark_of in
+      let c = ap (λ (ms : List Mark). length ms) e in
+      let d = is.room in
+      omega (arith, a, b, c, d));
+  stands = subst (λ ms. IsAt ts ms params []) (sym e) is.stands;
+}
+
+-- the first instance of a tile, and the place behind it
+pub first_is : PartsStand → (plan : Plan) (t : ℕ) (tile : Tile) (spot : Spot) → IsPlan plan
+    → slice_get plan.list.now.tiles.items t ≡ Some tile → marks_in spot ≡ marks_in tile.spot
+    → IsNext plan ((deal_of plan).start t + 0) (Some tile.first) spot
+first_is stand plan t tile spot is at set =
+    let list = is.tiles in
+    let tiles = plan.list.now.tiles.items in
+    let tiling = tiling_of plan.tiling.now in
+    let one = list.tiles t tile at in
+    let sizes = sizes_agree tiles list.parts list.count (λ u x e. (list.tiles u x e).size) in
+    let start : (deal_of plan).start t + 0 ≡ start_of list.parts t + 0 =
+    ap (λ ns. start_at ns t + 0) sizes ∙ ap (λ n. n + 0) (sum_start list.parts t) in
+    let within = slice_get_within tiles t tile at in
+    let n = list.count in
+    let some = slice_get_within (slice_index_or list.parts t []) 0 (instance_of tile.first) one.first in
+    record {
+      instance = sym (ap (slice_get (scan_in plan)) start
+          ∙ (stand tiling (scan_in plan) list.parts list.cut t 0 (omega (arith, within, n)) some ∙ one.first));
+      behind = ap (λ ms. rest_of (trees_in plan.tree.now) ms plan.params.now []) set
+          ∙ (one.behind ∙ ap (λ n. drop n (scan_in plan))
+          (let q : suc (start_of list.parts t) ≡ suc ((deal_of plan).start t + 0) = omega (arith, start) in q));
+    }
+
+-- what stands in front of the rest of a list
+head_is : (ys : List Instance) (n : ℕ) (x : Instance) (rest : List Instance) → drop n ys ≡ x ∷ rest
+    → (slice_get ys n ≡ Some x) × (drop (suc n) ys ≡ rest)
+head_is [] zero x rest e = absurd cc
+head_is [] (suc n) x rest e = absurd cc
+head_is (y ∷ ys) zero x rest e = (let f : y ≡ x = cc in ap Some f, let f : ys ≡ rest = cc in f)
+head_is (y ∷ ys) (suc n) x rest e = head_is ys n x rest e
+
+none_is : (ys : List Instance) (n : ℕ) → drop n ys ≡ [] → (slice_get ys n ≡ None) × (drop (suc n) ys ≡ [])
+none_is [] zero e = (refl, refl)
+none_is [] (suc n) e = (refl, refl)
+none_is (y ∷ ys) zero e = absurd cc
+none_is (y ∷ ys) (suc n) e = none_is ys n e
+
+-- what a spot gives next is the next one of the scan
+pub next_is : (plan : Plan) (r : ℕ) (o : Option CodeInstance) (old new : Spot)
+    → to_come (trees_in plan.tree.now) plan.params.now old ≡ drop r (scan_in plan)
+    → to_come (trees_in plan.tree.now) plan.params.now old ≡ found_in o ++ to_come
+    (trees_in plan.tree.now) plan.params.now new
+    → (IsNone o → to_come (trees_in plan.tree.now) plan.params.now old ≡ []) → IsNext plan r o new
+next_is plan r (Some i) old new at goes ends =
+    let h = head_is (scan_in plan) r (instance_of i) (to_come (trees_in plan.tree.now) plan.params.now new)
+    (sym at ∙ goes) in
+    record { instance = sym h.0; behind = sym h.1 }
+next_is plan r None old new at goes ends =
+    let z = ends refl in
+    let h = none_is (scan_in plan) r (sym at ∙ z) in
+    record { instance = sym h.0; behind = sym goes ∙ (z ∙ sym h.1) }
+
+-- the rank of an instance of a tile is one of the scan
+rank_within : (plan : Plan) (t k : ℕ) → IsScan (deal_of plan) → length (scan_in plan) ≡ length (walk_in plan)
+    → t < (shape_of plan).tiles → k < (shape_of plan).size t → (deal_of plan).start t + k < length (scan_in plan)
+rank_within plan t k scan many less left =
+    let d = deal_of plan in
+    let up = starts_rise d.start d.tiles scan.rises (suc t) d.tiles (omega (arith, less)) (omega arith) in
+    let last = scan.last in
+    omega (arith, up, last, left, many)
+
+-- the next instance of a worker at work is due
+pub due_is : (plan : Plan) (stage : Stage) (t k : ℕ) (next : Option CodeInstance) (spot : Spot) → IsPlan plan
+    → IsScan (deal_of plan) → length (scan_in plan) ≡ length (walk_in plan) → stage ≡ Working t k
+    → t < (shape_of plan).tiles → k < (shape_of plan).size t → IsNext plan ((deal_of plan).start t + k) next spot
+    → MatchOption next (HasNoneDue plan stage) (IsDue plan stage)
+due_is plan stage t k None spot is scan many works less left n =
+    let r = (deal_of plan).start t + k in
+    let x = there_is (scan_in plan) r (rank_within plan t k scan many less left) in
+    absurd (differ x.0 (slice_get (scan_in plan) r) n.instance x.1)
+  where
+    differ : (y : Instance) (o : Option Instance) → None ≡ o → o ≡ Some y → ⊥
+    differ y o e f = cc
+due_is plan stage t k (Some i) spot is scan many works less left n =
+    let tiling = tiling_of plan.tiling.now in
+    let same = scan_same (program_in plan) plan.params.now tiling (scan_in plan) is.order (instance_of i) in record {
+      tile = t;
+      count = k;
+      works = works;
+      left = left;
+      place = ap (rank_in (places_in plan)) n.instance;
+      walked = same.0
+          (in_from_place (scan_in plan) ((deal_of plan).start t + k) (instance_of i) (sym n.instance));
+    }

@@ -1,0 +1,22 @@
+use Rattle.std.proofs.Common.{refl, rules, subst, sym, ◌<◌}
+use Rattle.tile_events.specs.Sound.{Holds}
+use Rattle.tile_core.specs.Plans.{shape_of}
+use Rattle.tile_core.specs.Workers.{staged}
+use Rattle.tile_core.proofs.Workers.{due_is}
+use Rattle.tile_core.proofs.worker.Worker.due.Goals as goal
+
+pub size-requires-clause-tile : goal.size-requires-clause-tile
+size-requires-clause-tile c =
+    c.requires.worker.tile c.in-Working.tile
+    (subst (λ s. Holds (staged s c.args.self.now.reads.items) c.in-Working.tile) (sym c.in-Working.is) refl)
+
+pub returns-then-done-size : goal.returns-then-done-size
+returns-then-done-size c =
+    let plan = c.args.plan.now in
+    let w = c.args.self.now in
+    let less = c.requires.worker.tile c.in-Working.tile
+    (subst (λ s. Holds (staged s w.reads.items) c.in-Working.tile) (sym c.in-Working.is) refl) in
+    let left : c.in-Working.done < (shape_of plan).size c.in-Working.tile = search rules in
+    due_is plan w.stage c.in-Working.tile c.in-Working.done w.next w.spot c.requires.plan
+    (c.plans_are_good.ensures.scan plan c.requires.plan) (c.plans_are_good.ensures.count plan c.requires.plan)
+    c.in-Working.is less left (c.requires.worker.next c.in-Working.tile c.in-Working.done c.in-Working.is left)

@@ -1,0 +1,6 @@
+use Rattle.std.proofs.Common.{refl}
+use Rattle.tile_core.proofs.Workers.{idle_is}
+use Rattle.tile_core.proofs.worker.Worker.idle.Goals as goal
+
+pub returns-clause-worker : goal.returns-clause-worker
+returns-clause-worker c = idle_is c.args.plan.now _ refl (c.in_ok-spot.ensures.spot c.args.plan.now.params.now)

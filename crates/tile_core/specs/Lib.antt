@@ -1,0 +1,8 @@
+pub mod Ranks
+pub mod Plans
+pub mod Workers
+pub mod Boards
+pub mod Cores
+pub mod Views
+pub mod Passes
+pub mod steps

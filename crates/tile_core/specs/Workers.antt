@@ -1,0 +1,52 @@
+-- A worker in memory as plain data, and where it stands in the visits of the plan's tree.
+use Rattle.std.specs.Prelude.{◌≡◌, ℕ, suc, ◌+◌, ◌<◌, ◌≤◌, List, drop, slice_get, Option}
+use Rattle.std.specs.Option.{option_map}
+use Rattle.scop_syntax.specs.Members.{In}
+use Rattle.scop_syntax.specs.View.{instance_of}
+use Rattle.scop_syntax.specs.declared.instance.Instance.{Instance}
+use Rattle.loop_tree.specs.SpotView.{IsSpotOf, to_come}
+use Rattle.loop_tree.specs.View.{trees_in}
+use Rattle.loop_tree.specs.declared.spot.Spot.{Spot}
+use Rattle.tile_events.specs.Core as core
+use Rattle.tile_events.specs.Sound.{Holds}
+use Rattle.tile_core.specs.Plans.{deal_of, place_of, places_in, scan_in, shape_of}
+use Rattle.tile_core.specs.declared.plan.Plan.{Plan}
+use Rattle.tile_core.specs.declared.worker.Stage.{Stage}
+use Rattle.tile_core.specs.declared.worker.Stage.TheVariants.{Idle, Ended, Holding, Working}
+use Rattle.tile_core.specs.declared.worker.Worker.{Worker}
+
+-- where a worker with these values read stands
+abbrev pub staged : Stage → List ℕ → core.Worker
+staged Idle xs = core.idle
+staged Ended xs = core.ended
+staged (Holding t) xs = core.holding t
+staged (Working t k) xs = core.working t k xs
+
+abbrev pub worker_of : Worker → core.Worker
+worker_of w = staged w.stage w.reads.items
+
+-- this is the instance at rank r of the scan, and the spot is the place behind it
+pub record IsNext (plan : Plan) (r : ℕ) (next : Option Instance) (spot : Spot) : Type 0 where
+  pub instance : option_map instance_of next ≡ slice_get (scan_in plan) r
+  pub behind : to_come (trees_in plan.tree.now) plan.params.now spot ≡ drop (suc r) (scan_in plan)
+
+-- a worker of the plan: the tile that it holds is one of the plan's, and in an opened one it knows the instance that
+-- comes next, where one is left
+pub record IsWorker (plan : Plan) (w : Worker) : Type 0 where
+  pub spot : IsSpotOf (trees_in plan.tree.now) plan.params.now w.spot
+  pub tile : (t : ℕ) → Holds (worker_of w) t → t < (shape_of plan).tiles
+  pub next : (t k : ℕ) → w.stage ≡ Working t k → k < (shape_of plan).size t
+      → IsNext plan ((deal_of plan).start t + k) w.next w.spot
+
+-- the instance is the next one of a worker that stands so
+pub record IsDue (plan : Plan) (stage : Stage) (i : Instance) : Type 0 where
+  pub tile : ℕ
+  pub count : ℕ
+  pub works : stage ≡ Working tile count
+  pub left : count < (shape_of plan).size tile
+  pub place : place_of plan i ≡ (shape_of plan).place tile count
+  pub walked : In (instance_of i) (places_in plan)
+
+-- it has none: it is not at work, or its tile has none left
+abbrev pub HasNoneDue : Plan → Stage → Type 0
+HasNoneDue plan stage = (t k : ℕ) → stage ≡ Working t k → (shape_of plan).size t ≤ k

@@ -1,0 +1,14 @@
+//! The core of parallel runs over a kernel's plan: workers claim, open, do and finish the tiles of the plan's loop
+//! tree, one event after another, each worker for itself (L. Lamport, "The parallel execution of DO loops",
+//! Communications of the ACM, 1974). Promises that each event is exactly the one that `tile_events` describes, that
+//! each value read is the one that the kernel's own execution reads there, and that the cells end as it leaves them.
+#![tactic(auto)]
+
+pub mod board;
+pub mod cores;
+pub mod plan;
+pub mod plan_laws;
+mod reads;
+pub mod view;
+pub mod words;
+pub mod worker;

@@ -1,0 +1,130 @@
+//! A plan of a kernel for some parameters: its loop tree, cut into tiles in waves, and what each instance touches and
+//! stores.
+ghost use Rattle.std.specs.Prelude.{◌≡◌, ◌<◌, ◌≤◌, Some, get_or, length, slice_get};
+ghost use Rattle.scop_syntax.specs.Members.{In};
+ghost use Rattle.scop_syntax.specs.View.{instance_of};
+ghost use Rattle.tile_core.specs.Plans.{IsPlan, place_of, places_in, shape_of};
+
+use crate::plan_laws::plans_are_good;
+use crate::reads::{count_reads, statement_among};
+use loop_tree::{Tiling, Tree};
+use scop_meaning::instances::{cell, value};
+use scop_syntax::arrays::Extents;
+use scop_syntax::instance::Instance;
+use scop_syntax::tree::Kernel;
+use scop_syntax::walk_laws::{
+    instances_are_those_of_statements, statements_are_numbered, walks_are_in_order,
+};
+use tile_list::{Tile, TileList};
+
+/// A kernel with its parameters and the extents of its arrays, the tree of a plan of it, and the tiles of its visits.
+#[derive(Clone, Copy)]
+pub struct Plan<'a> {
+    pub kernel: &'a Kernel,
+    pub params: &'a [i64],
+    pub extents: &'a Extents,
+    pub tree: &'a Tree,
+    pub tiling: &'a Tiling,
+    pub list: &'a TileList,
+}
+
+/// The tile with this number.
+fn tile_at(tiles: &[Tile], at: usize) -> &Tile
+    requires { at < length tiles.now }
+    ensures { slice_get tiles.now at ≡ Some result.now }
+{
+    &tiles[at]
+}
+
+/// The number there.
+fn number_at(numbers: &[usize], at: usize) -> usize
+    requires { at < length numbers.now }
+    ensures { slice_get numbers.now at ≡ Some result }
+{
+    numbers[at]
+}
+
+impl<'a> Plan<'a> {
+    /// How many tiles there are.
+    pub fn tiles(&self) -> u64
+        ensures { result ≡ (shape_of self.now).tiles }
+    {
+        self.list.tiles.len() as u64
+    }
+
+    /// A tile.
+    pub fn tile(&self, tile: u64) -> &Tile
+        requires { tile < (shape_of self.now).tiles }
+        ensures { slice_get self.now.list.now.tiles.items tile ≡ Some result.now }
+    {
+        tile_at(&self.list.tiles, tile as usize)
+    }
+
+    /// How many tiles have to be finished before this one may be opened.
+    pub fn needs(&self, tile: u64) -> u64
+        requires plan { IsPlan self.now }
+        requires tile { tile < (shape_of self.now).tiles }
+        ensures { result ≡ (shape_of self.now).offset ((shape_of self.now).wave tile) }
+    {
+        plans_are_good();
+        number_at(&self.list.offsets, self.tile(tile).wave) as u64
+    }
+
+    /// How many instances the tile has.
+    pub fn size(&self, tile: u64) -> usize
+        requires plan { IsPlan self.now }
+        requires tile { tile < (shape_of self.now).tiles }
+        ensures { result ≡ (shape_of self.now).size tile }
+    {
+        self.tile(tile).size
+    }
+
+    /// How many cells the instance reads.
+    pub fn reads(&self, instance: &Instance) -> usize
+        requires plan { IsPlan self.now }
+        requires walked { In (instance_of instance.now) (places_in self.now) }
+        ensures count { result ≡ length ((shape_of self.now).read (place_of self.now instance.now)) }
+        ensures few { result ≤ 16 }
+    {
+        instances_are_those_of_statements();
+        statements_are_numbered();
+        count_reads(statement_among(&self.kernel.items, instance.statement))
+    }
+
+    /// The cell of read `read` of the instance, by its number among those of all arrays.
+    pub fn cell_read(&self, instance: &Instance, read: usize) -> usize
+        requires plan { IsPlan self.now }
+        requires walked { In (instance_of instance.now) (places_in self.now) }
+        requires read { read < length ((shape_of self.now).read (place_of self.now instance.now)) }
+        ensures cell { result ≡ get_or ((shape_of self.now).read (place_of self.now instance.now)) read 0 }
+        ensures inside { result < (shape_of self.now).cells }
+    {
+        plans_are_good();
+        walks_are_in_order();
+        instances_are_those_of_statements();
+        statements_are_numbered();
+        cell(self.kernel, self.params, self.extents, instance, read + 1)
+    }
+
+    /// The cell that the instance writes, by its number among those of all arrays.
+    pub fn cell_written(&self, instance: &Instance) -> usize
+        requires plan { IsPlan self.now }
+        requires walked { In (instance_of instance.now) (places_in self.now) }
+        ensures cell { result ≡ (shape_of self.now).written (place_of self.now instance.now) }
+        ensures inside { result < (shape_of self.now).cells }
+    {
+        plans_are_good();
+        cell(self.kernel, self.params, self.extents, instance, 0)
+    }
+
+    /// What the instance stores, where its reads have these values.
+    pub fn value(&self, instance: &Instance, reads: &[u64]) -> u64
+        requires plan { IsPlan self.now }
+        requires walked { In (instance_of instance.now) (places_in self.now) }
+        requires reads { length reads.now ≡ length ((shape_of self.now).read (place_of self.now instance.now)) }
+        ensures { result ≡ (shape_of self.now).value (place_of self.now instance.now) reads.now }
+    {
+        walks_are_in_order();
+        value(self.kernel, self.params, instance, reads)
+    }
+}

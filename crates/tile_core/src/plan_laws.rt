@@ -1,0 +1,83 @@
+//! Laws of plans, as contracts of functions that call the laws which their proofs use.
+ghost use Rattle.std.specs.Prelude.{◌≡◌, ℕ, ◌<◌, ◌≤◌, List, Some, length, slice_get, slice_index_or};
+ghost use Rattle.scop_syntax.specs.Cells.{Cell};
+ghost use Rattle.scop_syntax.specs.Execution.{
+  IsCell,
+  IsShaped,
+  before_place,
+  cell_number,
+  exec,
+  held,
+  values_read_by,
+};
+ghost use Rattle.scop_syntax.specs.Walk.{Visit};
+ghost use Rattle.tile_events.specs.Core.{State};
+ghost use Rattle.tile_events.specs.Deal.{IsScan};
+ghost use Rattle.tile_events.specs.Flat.{flat};
+ghost use Rattle.tile_events.specs.Opening.{IsQuiet};
+ghost use Rattle.tile_events.specs.Plan.{GoodPlan, IsDealt, values_read};
+ghost use Rattle.tile_events.specs.Sound.{Sound};
+ghost use Rattle.tile_core.specs.Plans.{
+  IsPlan,
+  deal_of,
+  extents_in,
+  plan_of,
+  program_in,
+  scan_in,
+  shape_of,
+  walk_in,
+};
+ghost use Rattle.tile_core.specs.declared.plan.Plan.{Plan};
+
+use scop_syntax::execution_laws::cells_have_numbers_of_their_own;
+use scop_syntax::walk_laws::{
+    instances_are_those_of_statements, statements_are_numbered, walks_are_in_order,
+};
+use tile_events::core_laws::all_interleavings_agree;
+use tile_events::deal_laws::scans_are_dealt;
+use tile_events::flat_laws::plans_execute_the_walk;
+use tile_list::laws::{numbers_tell_waves, tiles_stand_one_behind_another};
+
+/// The tiles of a plan hold each place of the walk once, and of two places that touch one cell the earlier comes first
+/// in one tile or lies in an earlier wave.
+pub fn plans_are_good()
+    ensures scan { (plan : Plan) → IsPlan plan → IsScan (deal_of plan) }
+    ensures count { (plan : Plan) → IsPlan plan → length (scan_in plan) ≡ length (walk_in plan) }
+    ensures good { (plan : Plan) (cells : List ℕ) → IsPlan plan → GoodPlan (plan_of plan cells) }
+    ensures dealt { (plan : Plan) (cells : List ℕ) → IsPlan plan → IsDealt (plan_of plan cells) }
+{
+    walks_are_in_order();
+    cells_have_numbers_of_their_own();
+    scans_are_dealt();
+    plans_execute_the_walk();
+    tiles_stand_one_behind_another();
+    numbers_tell_waves();
+}
+
+/// Over the arrays' contents one behind another, each place of a plan reads what the kernel's own execution reads
+/// there, and a sound state in which all tiles are done has its arrays.
+pub fn plans_execute_the_kernel()
+    ensures reads { (plan : Plan) (contents : List (List ℕ)) (j : ℕ) (v : Visit) → IsPlan plan
+        → IsShaped (extents_in plan) contents → slice_get (walk_in plan) j ≡ Some v
+        → values_read (plan_of plan (flat contents)) j
+        ≡ values_read_by (extents_in plan) (before_place (extents_in plan) contents (walk_in plan) j) v.body v.point }
+    ensures end { (plan : Plan) (contents : List (List ℕ)) (s : State) → IsPlan plan
+        → IsShaped (extents_in plan) contents → Sound (plan_of plan (flat contents)) s
+        → IsQuiet (plan_of plan (flat contents)) s → (c : Cell) → IsCell (extents_in plan) c
+        → slice_index_or s.cells (cell_number (extents_in plan) c) 0
+        ≡ held (extents_in plan) (exec (program_in plan) plan.params.now contents) c }
+{
+    plans_are_good();
+    plans_execute_the_walk();
+    cells_have_numbers_of_their_own();
+    all_interleavings_agree();
+}
+
+/// No instance of a plan has more than 16 reads.
+pub fn instances_read_few()
+    ensures { (plan : Plan) (j : ℕ) → IsPlan plan → j < (shape_of plan).places
+        → length ((shape_of plan).read j) ≤ 16 }
+{
+    instances_are_those_of_statements();
+    statements_are_numbered();
+}

@@ -1,0 +1,34 @@
+//! What the table of a run is told, what it knows of each pass, and the rule that it keeps.
+use crate::plan::Plan;
+use crate::worker::Stage;
+use atomic_table::TableRule;
+use std::alloc::Global;
+use std::collections::LinkedList;
+
+/// The plan, the cells at first, and how many workers there are.
+#[derive(Drop)]
+pub struct Key<'a> {
+    pub plan: Plan<'a>,
+    pub cells: Vec<u64>,
+    pub workers: u64,
+}
+
+/// For how many workers a pass stands, where it stands with its tile, and what it has read. A view is for proofs alone:
+/// no value of it is made, so its key may be of any lifetime. One that was joined away has no key and stands for nobody.
+pub struct View {
+    pub key: Option<Key<'static>>,
+    pub parts: u64,
+    pub stage: Stage,
+    pub reads: LinkedList<u64, Global>,
+}
+
+/// Between any two steps the words and the views are a sound state of the core.
+pub struct WordRule;
+
+impl<'a> TableRule<(), View, Key<'a>> for WordRule {
+    ghost use Rattle.tile_core.specs.Views.{Ruled, opening_view};
+
+    ghost holds = { Ruled };
+
+    ghost first = { opening_view };
+}

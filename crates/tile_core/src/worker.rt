@@ -1,0 +1,154 @@
+//! A worker: where it stands with its tile, the instance that it does next with the values read for it, and the place
+//! in the tree's visits behind that instance. Its steps take no memory.
+ghost use Rattle.std.specs.Prelude.{◌≡◌, ◌<◌, ◌++◌, ◌∷◌, [], ℕ, All, IfOk, MatchOption, length, map, replicate, suc};
+ghost use Rattle.tile_events.specs.Core.{idle};
+ghost use Rattle.tile_events.specs.Sound.{Holds};
+ghost use Rattle.tile_core.specs.Plans.{IsPlan, shape_of};
+ghost use Rattle.tile_core.specs.Workers.{HasNoneDue, IsDue, IsWorker, staged, worker_of};
+ghost use Rattle.tile_core.specs.declared.plan.Plan.{Plan as AnyPlan};
+ghost use Rattle.tile_core.specs.declared.worker.Stage.TheVariants as stage_of;
+
+use crate::plan::Plan;
+use crate::plan_laws::plans_are_good;
+use arrayvec::ArrayVec;
+use loop_tree::Spot;
+use scop_syntax::instance::Instance;
+use std::alloc::{AllocError, Global};
+use tile_list::laws::tiles_stand_one_behind_another;
+
+/// Reads that a statement may have.
+pub const MAX_READS: usize = 16;
+
+/// It holds no tile; or it saw the claims run out; or it holds a tile that is not opened; or it works in an opened
+/// tile, of which so many instances are done.
+#[derive(Debug, Clone, Copy)]
+pub enum Stage {
+    Idle,
+    Ended,
+    Holding(u64),
+    Working(u64, usize),
+}
+
+/// The values read so far for an instance, in the order of its reads.
+pub type Reads = ArrayVec<u64, MAX_READS>;
+
+/// At work in a tile with an instance left, `next` is that instance and `spot` the place behind it.
+#[derive(Drop)]
+pub struct Worker {
+    pub stage: Stage,
+    pub reads: Reads,
+    pub next: Option<Instance>,
+    pub spot: Spot,
+}
+
+impl Worker {
+    /// A worker that holds no tile.
+    ///
+    /// # Errors
+    /// `AllocError` alone.
+    pub fn idle(alloc: Global, plan: &Plan) -> Result<Worker, AllocError>
+        ensures stage { IfOk result (λ w. w.stage ≡ stage_of.Idle) }
+        ensures reads { IfOk result (λ w. w.reads.items ≡ []) }
+        ensures worker { IfOk result (IsWorker plan.now) }
+    {
+        let spot = Spot::of(alloc, plan.tree)?;
+        Ok(Worker {
+            stage: Stage::Idle,
+            reads: ArrayVec::new(),
+            next: None,
+            spot,
+        })
+    }
+
+    /// Puts the worker where `stage` says, not at work, with nothing read.
+    pub fn put(&mut self, stage: Stage)
+        requires { (t k : ℕ) → stage ≡ stage_of.Working t k → ⊥ }
+        ensures stage { self.new.stage ≡ stage }
+        ensures reads { self.new.reads.items ≡ [] }
+        ensures worker { (plan : AnyPlan) → ((t : ℕ) → Holds (staged stage []) t → t < (shape_of plan).tiles)
+            → IsWorker plan self.old → IsWorker plan self.new }
+    {
+        self.stage = stage;
+        self.reads.clear();
+    }
+
+    /// Begins to work in the tile.
+    pub fn open(&mut self, plan: &Plan, tile: u64)
+        requires plan { IsPlan plan.now }
+        requires worker { IsWorker plan.now self.old }
+        requires tile { tile < (shape_of plan.now).tiles }
+        ensures stage { self.new.stage ≡ stage_of.Working tile 0 }
+        ensures reads { self.new.reads.items ≡ [] }
+        ensures worker { IsWorker plan.now self.new }
+    {
+        tiles_stand_one_behind_another();
+        let first = plan.tile(tile);
+        self.stage = Stage::Working(tile, 0);
+        self.reads.clear();
+        self.next = Some(first.first);
+        self.spot.set(&first.spot);
+    }
+
+    /// The instance that it does next; None where it is not at work, or its tile has none left.
+    pub fn due(&self, plan: &Plan) -> Option<Instance>
+        requires plan { IsPlan plan.now }
+        requires worker { IsWorker plan.now self.now }
+        ensures { MatchOption result (HasNoneDue plan.now self.now.stage) (IsDue plan.now self.now.stage) }
+    {
+        plans_are_good();
+        let Stage::Working(tile, done) = self.stage else {
+            return None;
+        };
+        if done < plan.size(tile) {
+            self.next
+        } else {
+            None
+        }
+    }
+
+    /// Keeps a value that was read.
+    pub fn read(&mut self, value: u64)
+        requires { length self.old.reads.items < 16 }
+        ensures stage { self.new.stage ≡ self.old.stage }
+        ensures reads { self.new.reads.items ≡ self.old.reads.items ++ value ∷ [] }
+        ensures worker { (plan : AnyPlan) → IsWorker plan self.old → IsWorker plan self.new }
+    {
+        self.reads.push(value);
+    }
+
+    /// Goes on to the instance behind the one that it has done.
+    pub fn advance(&mut self, plan: &Plan)
+        requires plan { IsPlan plan.now }
+        requires worker { IsWorker plan.now self.old }
+        requires left { (t k : ℕ) → self.old.stage ≡ stage_of.Working t k → k < (shape_of plan.now).size t }
+        ensures stage { (t k : ℕ) → self.old.stage ≡ stage_of.Working t k
+            → self.new.stage ≡ stage_of.Working t (suc k) }
+        ensures reads { self.new.reads.items ≡ [] }
+        ensures worker { IsWorker plan.now self.new }
+    {
+        self.reads.clear();
+        let Stage::Working(tile, done) = self.stage else {
+            return;
+        };
+        let size = plan.size(tile);
+        self.stage = Stage::Working(tile, done + 1);
+        if done + 1 < size {
+            self.next = self.spot.next(plan.tree, plan.params);
+        }
+    }
+}
+
+/// So many idle workers.
+///
+/// # Errors
+/// `AllocError` alone.
+pub fn idle_workers(alloc: Global, plan: &Plan, count: usize) -> Result<Vec<Worker>, AllocError>
+    ensures idle { IfOk result (λ v. map worker_of v.items ≡ replicate count idle) }
+    ensures workers { IfOk result (λ v. All (IsWorker plan.now) v.items) }
+{
+    let mut workers = Vec::with_capacity(alloc, count)?;
+    for _ in 0..count {
+        workers.push(Worker::idle(alloc, plan)?)?;
+    }
+    Ok(workers)
+}

@@ -1,0 +1,11 @@
+//! The workers of a run: each claims tiles, opens each in its wave, does its instances and finishes it, until the claims
+//! run out, and all of them do so at once, each on its own pass (U. Bondhugula and others, "A practical automatic
+//! polyhedral parallelizer and locality optimizer", PLDI 2008). The cells end as execution leaves them, for any number of
+//! workers.
+#![tactic(auto)]
+
+mod running;
+mod working;
+
+pub use running::run_plan;
+pub use working::work;

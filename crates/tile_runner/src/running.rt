@@ -1,0 +1,66 @@
+//! The run of all workers.
+ghost use Rattle.array_words.specs.Closing.{IsClosed};
+ghost use Rattle.std.specs.Prelude.{◌≡◌, ◌<◌, ◌≤◌, All, IfErr, IfOk, length};
+ghost use Rattle.tile_core.specs.Plans.{IsPlan, plan_of, shape_of};
+ghost use Rattle.tile_runner.specs.Running.{IsOver, IsReady};
+
+use crate::working::work;
+use array_words::{Closed, close, start};
+use io_ports::Gate;
+use std::alloc::{AllocError, Global};
+use std::sync::Wait;
+use std::thread;
+use std::thread::Threads;
+use tile_core::plan::Plan;
+use tile_core::words::{Pass, Words};
+
+/// Runs every pass, on at most so many threads.
+fn work_all<R: Threads + Wait + Sync, G: Gate>(
+    rt: &R,
+    words: &Words,
+    passes: &mut [Pass],
+    threads: usize,
+    gate: &G,
+)
+    requires threads { 0 < threads }
+    requires passes { All (IsReady words.now) passes.old }
+    ensures passes { All (IsOver words.now) passes.new }
+    ensures count { length passes.new ≡ length passes.old }
+{
+    thread::for_each_mut(
+        rt,
+        passes,
+        threads,
+        &|_, pass: &mut Pass|
+            requires { IsReady words.now pass.old }
+            ensures { IsOver words.entry.now pass.new }
+        { work(rt, words, pass, gate) },
+    );
+}
+
+/// Runs the plan on these cells with so many workers, each on a thread where there is one. All memory is taken before
+/// the first claim.
+///
+/// # Errors
+/// `AllocError`; the cells are then as they were.
+pub fn run_plan<'a, R: Threads + Wait + Sync, G: Gate>(
+    rt: &R,
+    alloc: Global,
+    plan: Plan<'a>,
+    cells: &mut [u64],
+    workers: usize,
+    gate: &G,
+) -> Result<Closed<'a>, AllocError>
+    requires plan { IsPlan plan }
+    requires cells { length cells.old ≡ (shape_of plan).cells }
+    requires some { 1 ≤ workers }
+    requires few { workers ≤ 64 }
+    ensures cells { IfOk result (λ _. IsClosed (plan_of plan.entry cells.old) cells.old cells.new) }
+    ensures plan { IfOk result (λ c. c.plan ≡ plan.entry) }
+    ensures ended { IfOk result (λ c. c.ended ≡ workers) }
+    ensures unchanged { IfErr result (λ _. cells.new ≡ cells.old) }
+{
+    let (words, mut passes) = start(alloc, plan, cells, workers)?;
+    work_all(rt, &words, &mut passes, workers, gate);
+    Ok(close(words, passes, cells))
+}

@@ -1,0 +1,89 @@
+//! The run of one worker.
+ghost use Rattle.std.specs.Prelude.{◌≡◌, [], suc};
+ghost use Rattle.tile_core.specs.Passes.{IsPass, plan_in};
+ghost use Rattle.tile_core.specs.Views.{done_at, tile_at};
+ghost use Rattle.tile_core.specs.Workers.{IsDue};
+ghost use Rattle.tile_core.specs.declared.worker.Stage.TheVariants.{Ended, Holding, Idle, Working};
+
+use array_words::{load, store};
+use io_ports::Gate;
+use scop_syntax::instance::Instance;
+use std::sync::Wait;
+use std::thread;
+use tile_claims::claim;
+use tile_core::words::{Pass, Words};
+use wave_barrier::{finish, try_open};
+
+/// Reads all that the next instance reads, and stores its value.
+fn do_instance(words: &Words, pass: &mut Pass, instance: &Instance)
+    requires pass { IsPass words.now pass.old }
+    requires due { IsDue words.now.plan pass.old.worker.stage instance.now }
+    requires reads { pass.old.worker.reads.items ≡ [] }
+    ensures pass { IsPass words.now pass.new }
+    ensures stage { pass.new.worker.stage
+        ≡ Working (tile_at pass.old.worker.stage) (suc (done_at pass.old.worker.stage)) }
+    ensures reads { pass.new.worker.reads.items ≡ [] }
+{
+    let plan = &words.plan;
+    for read in 0..plan.reads(instance) {
+        load(words, pass, plan.cell_read(instance, read));
+    }
+    let value = plan.value(instance, pass.worker.reads.as_slice());
+    store(words, pass, plan.cell_written(instance), value);
+}
+
+/// Does every instance of the tile that was opened.
+fn do_tile(words: &Words, pass: &mut Pass, tile: u64)
+    requires pass { IsPass words.now pass.old }
+    requires stage { pass.old.worker.stage ≡ Working tile 0 }
+    requires reads { pass.old.worker.reads.items ≡ [] }
+    ensures pass { IsPass words.now pass.new }
+    ensures stage { pass.new.worker.stage ≡ Working tile ((plan_in words.now).size tile) }
+{
+    for _ in 0..words.plan.size(tile) {
+        let Some(instance) = pass.worker.due(&words.plan) else {
+            unreachable!()
+        };
+        do_instance(words, pass, &instance);
+    }
+}
+
+/// Tries until the tile that is held is opened.
+fn open_held<W: Wait>(rt: &W, words: &Words, pass: &mut Pass, tile: u64)
+    requires pass { IsPass words.now pass.old }
+    requires stage { pass.old.worker.stage ≡ Holding tile }
+    ensures pass { IsPass words.now pass.new }
+    ensures stage { pass.new.worker.stage ≡ Working tile 0 }
+    ensures reads { pass.new.worker.reads.items ≡ [] }
+{
+    for _ in rt.forever() {
+        if try_open(words, pass).is_ok() {
+            return;
+        }
+        thread::yield_now();
+    }
+    unreachable!()
+}
+
+/// Claims tiles and does them until the claims run out. The gate is entered before the instances of a tile, and left
+/// behind them. It takes no memory.
+pub fn work<W: Wait, G: Gate>(rt: &W, words: &Words, pass: &mut Pass, gate: &G)
+    requires pass { IsPass words.now pass.old }
+    requires idle { pass.old.worker.stage ≡ Idle }
+    ensures pass { IsPass words.now pass.new }
+    ensures ended { pass.new.worker.stage ≡ Ended }
+{
+    for _ in rt.forever() {
+        match claim(words, pass) {
+            Some(tile) => {
+                open_held(rt, words, pass, tile);
+                gate.enter(tile);
+                do_tile(words, pass, tile);
+                finish(words, pass);
+                gate.leave(tile);
+            }
+            None => return,
+        }
+    }
+    unreachable!()
+}

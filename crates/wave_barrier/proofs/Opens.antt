@@ -1,0 +1,38 @@
+-- An opening by a pass that holds a tile is allowed by the rule of its table.
+use Rattle.std.proofs.Common.{◌≡◌, ℕ, ◌<◌, ◌∙◌, [], ap, ap₂, refl, sym, subst, arith}
+use mathlib.Core.Option.{none}
+use Rattle.atomic_table.specs.Table.{Me, Allows, step}
+use Rattle.tile_events.specs.Core.{working}
+use Rattle.tile_events.specs.Allowed.{OpenIsAllowed}
+use Rattle.tile_events.specs.Sound.{Holds}
+use Rattle.tile_core.specs.declared.worker.Stage.TheVariants.{Holding, Working}
+use Rattle.tile_core.specs.declared.view.View.{View}
+use Rattle.tile_core.specs.declared.view.Key.{Key}
+use Rattle.tile_core.specs.declared.words.Words.{Words}
+use Rattle.tile_core.specs.declared.words.Pass.{Pass}
+use Rattle.tile_core.specs.Plans.{shape_of}
+use Rattle.tile_core.specs.Workers.{staged}
+use Rattle.tile_core.specs.Views.{key_plan, plan_at, worker_in, parts_in, at_stage, tile_at, needs_at, Ruled}
+use Rattle.tile_core.specs.Passes.{IsPass}
+use Rattle.wave_barrier.specs.Opens.{Opens}
+
+pub opens : OpenIsAllowed Opens → (words : Words) (pass : Pass) (t : ℕ) → IsPass words pass → pass.worker.stage ≡ Holding t
+    → Allows (Ruled words.table.shared.key) words.table.shared.table_id.slots pass.seat.id pass.seat.me 1 (λ n. n)
+    (Opens (step words.table.shared.table_id.slots 1 0 0 none) pass.seat.me)
+opens allowed words pass t is holding =
+    let key : Key = words.table.shared.key in
+    let me : Me (Unit {0}) View = pass.seat.me in
+    let at : me.0.stage ≡ Holding t = is.stage ∙ holding in
+    let e : needs_at (plan_at me.0.key) me.0.stage ≡ (key_plan key).offset ((key_plan key).wave t) =
+    ap₂ (λ k s. needs_at (plan_at k) s) is.key at in
+    allowed (key_plan key) key.workers worker_in parts_in words.table.shared.table_id.slots pass.seat.id t me
+    (at_stage me.0 (Working (tile_at me.0.stage) 0) [])
+    (ap₂ staged at is.reads) (ap (λ (n : ℕ). working n 0 []) (ap tile_at at)) refl
+    (λ n l. (λ h. refl, λ h. absurd (omega (arith, h, l, e))))
+    (λ n l. (λ h. absurd (omega (arith, h, l, e)), λ h. refl))
+
+-- the tile that it holds is one of the plan's
+pub held_tile : (words : Words) (pass : Pass) (t : ℕ) → IsPass words pass → pass.worker.stage ≡ Holding t
+    → t < (shape_of words.plan).tiles
+held_tile words pass t is holding =
+    is.worker.tile t (subst (λ s. Holds (staged s pass.worker.reads.items) t) (sym holding) refl)

@@ -1,0 +1,33 @@
+-- What an opening does to the pass that tries it.
+use Rattle.std.specs.Prelude.{◌≡◌, ℕ, ◌<◌, ◌≤◌, ⊤, [], Result, Ok, Err}
+use mathlib.Core.Option as plain_option
+use Rattle.atomic_table.specs.Table.{Me, Step, step}
+use Rattle.tile_core.specs.declared.worker.Stage.{Stage}
+use Rattle.tile_core.specs.declared.worker.Stage.TheVariants.{Holding, Working}
+use Rattle.tile_core.specs.declared.view.View.{View}
+use Rattle.tile_core.specs.declared.words.Words.{Words}
+use Rattle.tile_core.specs.declared.words.Pass.{Pass}
+use Rattle.tile_core.specs.Views.{at_stage, plan_at, tile_at, needs_at}
+use Rattle.tile_core.specs.Passes.{plan_in}
+use Rattle.wave_barrier.specs.declared.opening.NotYet.{NotYet}
+
+-- it holds a tile that it has not opened
+abbrev pub IsHolding : Stage → Type 0
+IsHolding s = (t : ℕ) × (s ≡ Holding t)
+
+-- the tile is opened where the number r that it found is enough, else nothing changes
+abbrev pub Opens : Step (Unit {0}) → Me (Unit {0}) View → ℕ → Me (Unit {0}) View → Type 0
+Opens st m r n =
+    (needs_at (plan_at m.0.key) m.0.stage ≤ r → n ≡ (at_stage m.0 (Working (tile_at m.0.stage) 0) [], m.1))
+    × (r < needs_at (plan_at m.0.key) m.0.stage → n ≡ m)
+
+-- Ok exactly where at least as many are finished as have to be
+abbrev pub OpenedBy : ℕ → ℕ → Result ⊤ NotYet → Type 0
+OpenedBy needs r (Ok x) = needs ≤ r
+OpenedBy needs r (Err e) = (r < needs) × (e.done ≡ r) × (e.needs ≡ needs)
+
+-- an opening is its event on the pass's own view, by the number that it found
+abbrev pub DoesOpen : Words → Pass → Result ⊤ NotYet → Pass → Type 0
+DoesOpen words old result new =
+    (r : ℕ) × Opens (step words.table.shared.table_id.slots 1 0 0 plain_option.none) old.seat.me r new.seat.me
+    × OpenedBy (needs_at (plan_in words) old.worker.stage) r result
