@@ -1,21 +1,21 @@
 //! A kernel's case, and how data says it.
 
-ghost use Rattle.std.specs.Prelude.{◌≡◌, IfOk, IfErr};
+ghost use Rattle.std.specs.Prelude.{◌≡◌, IfOk, IfErr, None, length, map};
 ghost use Rattle.scop_syntax.specs.View.{program_of};
 ghost use Rattle.scop_syntax.specs.Execution.{IsShaped, layout};
 ghost use Rattle.scop_syntax.specs.Kernel.{IsKernel};
 ghost use Rattle.scop_syntax.specs.Limits.{WithinLimits};
-ghost use Rattle.data_lines.specs.Sheets.{IsSheetOf, sheet_of};
+ghost use Rattle.data_lines.specs.Sheets.{IsSheetOf, given_of, sheet_of};
 ghost use Rattle.data_lines.specs.Entries.{StopsAs};
-ghost use Rattle.data_text.specs.Cases.{Says, case_said, data_said, ok_said};
+ghost use Rattle.data_text.specs.Cases.{Says, case_said, contents_said, data_said, first_miscount, ok_said};
 
-use crate::contents::contents_said;
-use crate::extents::layout_said;
+use crate::contents::{contents_of, contents_said};
+use crate::extents::{layout_of, layout_said};
 use crate::parameters::params_said;
-use data_lines::{DataStop, Sheet, read_lines};
+use data_lines::{DataStop, Given, Sheet, read_lines};
 use scop_syntax::arrays::{Arrays, Extents};
 use scop_syntax::tree::Kernel;
-use std::alloc::Global;
+use std::alloc::{AllocError, Global};
 
 /// The values of a kernel's parameters, the extents of its arrays for them, and what the arrays hold.
 #[derive(Debug, Drop)]
@@ -54,6 +54,35 @@ fn case_of(alloc: Global, kernel: &Kernel, sheet: Sheet) -> Result<Case, DataSto
     let params = params_said(alloc, &sheet.values)?;
     let extents = layout_said(alloc, kernel, &params)?;
     let arrays = contents_said(alloc, &extents, sheet.rows)?;
+    Ok(Case {
+        params,
+        extents,
+        arrays,
+    })
+}
+
+/// The case of a kernel with these values of its parameters, by what is given of each array.
+///
+/// # Errors
+/// `AllocError` alone.
+pub fn case_given(
+    alloc: Global,
+    kernel: &Kernel,
+    params: Vec<i64>,
+    rows: Vec<Given>,
+) -> Result<Case, AllocError>
+    requires limits { WithinLimits (program_of kernel.now) params.items }
+    requires rows { length rows.items ≡ length (program_of kernel.now).arrays }
+    requires lists { first_miscount None (layout (program_of kernel.now) params.items)
+        (map given_of rows.items) ≡ None }
+    ensures params { IfOk result (λ case. case.params.items ≡ params.items) }
+    ensures extents { IfOk result (λ case. case.extents ≡ layout (program_of kernel.now) params.items) }
+    ensures arrays { IfOk result (λ case. case.arrays
+        ≡ contents_said (layout (program_of kernel.now) params.items) (map given_of rows.items)) }
+    ensures shape { IfOk result (λ case. IsShaped case.extents case.arrays) }
+{
+    let extents = layout_of(alloc, &kernel.arrays, &params)?;
+    let arrays = contents_of(alloc, &extents, rows)?;
     Ok(Case {
         params,
         extents,

@@ -39,7 +39,11 @@ pub(crate) fn contents_said(
 }
 
 /// The contents of the arrays.
-fn contents_of(alloc: Global, extents: &Extents, rows: Vec<Given>) -> Result<Arrays, AllocError>
+pub(crate) fn contents_of(
+    alloc: Global,
+    extents: &Extents,
+    rows: Vec<Given>,
+) -> Result<Arrays, AllocError>
     requires layout { IsLayout extents.now }
     requires count { length rows.items ≡ length extents.now }
     ensures { IfOk result (λ arrays. arrays ≡ contents_said extents.now (map given_of rows.items)) }
@@ -90,7 +94,7 @@ fn seed_cells(alloc: Global, seed: u64, count: usize) -> Result<Vec<u64>, AllocE
 const GOLDEN: u64 = 11400714819323198485;
 
 /// The k-th cell by a seed.
-fn seed_cell(seed: u64, k: u64) -> u64
+pub fn seed_cell(seed: u64, k: u64) -> u64
     ensures { result ≡ seed_cell seed k }
 {
     seed.wrapping_add(k).wrapping_add(1).wrapping_mul(GOLDEN)

@@ -111,7 +111,11 @@ fn size_of(value: i64) -> u64
 }
 
 /// The extents of all arrays.
-fn layout_of(alloc: Global, arrays: &[Array], params: &[i64]) -> Result<Extents, AllocError>
+pub(crate) fn layout_of(
+    alloc: Global,
+    arrays: &[Array],
+    params: &[i64],
+) -> Result<Extents, AllocError>
     requires arrays { All (IsDeclaration (length params.now)) arrays.now }
     requires params { AreParameters params.now }
     ensures { IfOk result (λ extents. extents ≡ map (λ d. map size_of (values d.extents params.now)) arrays.now) }

@@ -1,0 +1,43 @@
+-- Within the limits there is a layout, and lists that are as long as their arrays fill it.
+use Rattle.std.proofs.Common.{◌≡◌, ◌≤◌, ◌∙◌, sym, ap₂, subst, length, map, List, arith}
+use Rattle.std.specs.Prelude.{ℤ, All}
+use Rattle.std.proofs.lemmas.List.{length-map}
+use Rattle.scop_syntax.specs.Tree.{Declaration}
+use Rattle.scop_syntax.specs.View.{program_of}
+use Rattle.scop_syntax.specs.Cells.{values}
+use Rattle.scop_syntax.specs.Execution.{layout, size_of}
+use Rattle.scop_syntax.specs.Kernel.{IsDeclaration}
+use Rattle.data_lines.specs.Sheets.{given_of}
+use Rattle.data_text.specs.Conditions.{AreParameters, IsLayout}
+use Rattle.data_text.proofs.LayoutLemmas.{are_layouts}
+use Rattle.data_text.proofs.ContentLemmas.{shaped}
+use Rattle.data_text.proofs.case.case_given.Goals as goal
+
+pub contents_of-requires-clause-layout : goal.contents_of-requires-clause-layout
+contents_of-requires-clause-layout c =
+    let program = program_of c.args.kernel.now in
+    let params = c.args.params.items in
+    let limits = c.requires.limits in
+    let few : length params ≤ 4 = omega (arith, limits.count, limits.kernel.few_parameters) in
+    let are : AreParameters params = record { few = few; values = limits.parameters } in
+    let all = subst (λ n. All (IsDeclaration n) program.arrays) (sym limits.count) limits.kernel.declarations in
+    let same : c.in_ok-extents.extents ≡ layout program params = c.in_ok-extents.ensures
+    ∙ ap₂ (λ (ps : List ℤ) (ds : List Declaration). map (λ d. map size_of (values d.extents ps)) ds)
+    c.deref-2.ensures.value c.deref.ensures.value in
+    subst IsLayout (sym same) (record {
+      arrays = are_layouts params program.arrays are all limits.kernel.few_arrays;
+      cells = limits.cells;
+    })
+
+pub returns-clause-shape : goal.returns-clause-shape
+returns-clause-shape c =
+    let program = program_of c.args.kernel.now in
+    let params = c.args.params.items in
+    let rows = map given_of c.args.rows.items in
+    let layouts = layout program params in
+    let same : c.in_ok-extents.extents ≡ layouts = c.in_ok-extents.ensures
+    ∙ ap₂ (λ (ps : List ℤ) (ds : List Declaration). map (λ d. map size_of (values d.extents ps)) ds)
+    c.deref-2.ensures.value c.deref.ensures.value in
+    let long : length rows ≡ length layouts = length-map c.args.rows.items given_of ∙ (c.requires.rows
+    ∙ sym (length-map program.arrays (λ (d : Declaration). map size_of (values d.extents params)))) in
+    rw (c.in_ok-arrays.ensures, same) (shaped layouts rows long c.requires.lists)
