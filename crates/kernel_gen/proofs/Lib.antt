@@ -1,0 +1,6 @@
+mod Chains
+mod Forms
+mod Inside
+mod Products
+mod Sizes
+mod Sweeps

@@ -1,0 +1,3 @@
+pub mod Programs
+pub mod Cases
+pub mod Summary
