@@ -1,4 +1,5 @@
 mod Chains
+mod Counts
 mod Forms
 mod Inside
 mod Products

@@ -1,3 +1,4 @@
 pub mod Programs
 pub mod Cases
 pub mod Summary
+pub mod Totals

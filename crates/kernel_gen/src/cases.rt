@@ -2,10 +2,10 @@
 
 ghost use Rattle.std.specs.Prelude.{◌≡◌, ◌≤◌, IfOk, map};
 ghost use Rattle.scop_syntax.specs.View.{program_of};
-ghost use Rattle.scop_syntax.specs.Execution.{IsInside, IsShaped};
+ghost use Rattle.scop_syntax.specs.Execution.{IsInside, IsShaped, layout};
 ghost use Rattle.scop_syntax.specs.Limits.{WithinLimits};
 ghost use Rattle.data_lines.specs.Sheets.{given_of};
-ghost use Rattle.kernel_gen.specs.Cases.{contents, extents, given, params, program};
+ghost use Rattle.kernel_gen.specs.Cases.{contents, given, params, program};
 
 use crate::chain::chain;
 use crate::kind::Kind;
@@ -78,7 +78,7 @@ pub fn generated(
     requires high { size ≤ 512 }
     ensures program { IfOk result (λ made. program_of made.0 ≡ program kind seed) }
     ensures params { IfOk result (λ made. made.1.params.items ≡ params kind size) }
-    ensures extents { IfOk result (λ made. made.1.extents ≡ extents kind seed size) }
+    ensures extents { IfOk result (λ made. made.1.extents ≡ layout (program_of made.0) made.1.params.items) }
     ensures contents { IfOk result (λ made. made.1.arrays ≡ contents kind seed size) }
     ensures limits { IfOk result (λ made. WithinLimits (program_of made.0) made.1.params.items) }
     ensures inside { IfOk result (λ made. IsInside (program_of made.0) made.1.params.items) }
