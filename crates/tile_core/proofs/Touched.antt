@@ -7,7 +7,7 @@ use Rattle.std.specs.Option.{option_map}
 use Rattle.std.proofs.lemmas.List.{length-map}
 use Rattle.std.proofs.lemmas.Option.{slice_get-map, slice_get_within}
 use Rattle.scop_syntax.specs.Cells.{accesses, cell_of, cells_read, reads}
-use Rattle.scop_syntax.specs.Execution.{cell_number, layout}
+use Rattle.scop_syntax.specs.Execution.{cell_number}
 use Rattle.scop_syntax.specs.Kernel.{IsKernel, IsPlaced, ranks_of}
 use Rattle.scop_syntax.specs.Members.{In}
 use Rattle.scop_syntax.specs.Statements.{Placed, Runs, statements_of, visit_of}
@@ -18,7 +18,7 @@ use Rattle.scop_syntax.specs.declared.instance.Instance.{Instance as CodeInstanc
 use Rattle.scop_syntax.proofs.Members.{in_from_place, place_of}
 use Rattle.scop_meaning.specs.Instances.{IsVisitOf}
 use Rattle.tile_events.specs.Flat.{read_by, value_by, written_by}
-use Rattle.tile_core.specs.Plans.{IsPlan, places_in, program_in, walk_in}
+use Rattle.tile_core.specs.Plans.{IsPlan, extents_in, places_in, program_in, walk_in}
 use Rattle.tile_core.specs.Plans as plans
 use Rattle.tile_core.specs.declared.plan.Plan.{Plan}
 use Rattle.tile_core.proofs.Ranks.{placed}
@@ -118,13 +118,13 @@ TellsCell plan i access result =
 
 pub written_is : (plan : Plan) (i : CodeInstance) (result : ℕ) → IsPlan plan → In (instance_of i) (places_in plan)
     → TellsCell plan i 0 result
-    → result ≡ written_by (layout (program_in plan) plan.params.now) (slice_get (walk_in plan) (plans.place_of plan i))
+    → result ≡ written_by (extents_in plan) (slice_get (walk_in plan) (plans.place_of plan i))
 written_is plan i result is walked tells =
     let t = there plan i walked in
     let v = t.0 in
     tells v v.body.place t.1.is refl
     ∙ (ap (λ es. cell_number es (cell_of v.body.place v.point)) is.laid ∙ sym
-    (ap (written_by (layout (program_in plan) plan.params.now)) t.1.at))
+    (ap (written_by (extents_in plan)) t.1.at))
 
 mapped : {A B : Type 0} (f : B → ℕ) (g : A → B) (xs : List A) (i : ℕ) (x : A) → slice_get xs i ≡ Some x
     → get_or (map f (map g xs)) i 0 ≡ f (g x)
@@ -134,12 +134,12 @@ mapped f g (y ∷ ys) (suc i) x e = mapped f g ys i x e
 
 pub read_is : (plan : Plan) (i : CodeInstance) (read result : ℕ) → StandOnce (program_in plan) plan.params.now
     → IsPlan plan → In (instance_of i) (places_in plan)
-    → read < length (read_by (layout (program_in plan) plan.params.now)
+    → read < length (read_by (extents_in plan)
     (slice_get (walk_in plan) (plans.place_of plan i))) → TellsCell plan i (suc read) result
-    → result ≡ get_or (read_by (layout (program_in plan) plan.params.now)
+    → result ≡ get_or (read_by (extents_in plan)
     (slice_get (walk_in plan) (plans.place_of plan i))) read 0
 read_is plan i read result once is walked less tells =
-    let extents = layout (program_in plan) plan.params.now in
+    let extents = extents_in plan in
     let t = there plan i walked in
     let v = t.0 in
     let n = many_reads plan i extents once walked v t.1.is in

@@ -1,15 +1,15 @@
 use Rattle.std.proofs.Common.{arith, rules, ◌≡◌, ◌+◌, ◌<◌, ◌∙◌, [], ap, suc, sym, subst}
 use Rattle.std.specs.Prelude.{slice_get}
 use Rattle.scop_syntax.specs.Cells.{accesses}
-use Rattle.scop_syntax.specs.Execution.{layout, total_cells}
-use Rattle.tile_core.specs.Plans.{place_of, program_in}
+use Rattle.scop_syntax.specs.Execution.{total_cells}
+use Rattle.tile_core.specs.Plans.{extents_in, place_of, program_in}
 use Rattle.tile_core.proofs.Touched.{few_reads, in_at, many_reads, place_within, read_is}
 use Rattle.tile_core.proofs.plan.Plan.cell_read.Goals as goal
 
 pub overflow_add-read : goal.overflow_add-read
 overflow_add-read c =
     let plan = c.args.self.now in
-    let few = few_reads plan c.args.instance.now (layout (program_in plan) plan.params.now)
+    let few = few_reads plan c.args.instance.now (extents_in plan)
     c.instances_are_those_of_statements.ensures.found c.statements_are_numbered.ensures.placed c.requires.plan
     c.requires.walked in
     let less = c.requires.read in
@@ -19,7 +19,7 @@ overflow_add-read c =
 pub cell-requires-clause-access : goal.cell-requires-clause-access
 cell-requires-clause-access c = λ v is.
     let plan = c.args.self.now in
-    let many = many_reads plan c.args.instance.now (layout (program_in plan) plan.params.now)
+    let many = many_reads plan c.args.instance.now (extents_in plan)
     (c.walks_are_in_order.ensures.once (program_in plan) plan.params.now) c.requires.walked v is in
     let less = c.requires.read in
     omega (arith, many, less)
@@ -41,6 +41,6 @@ returns-clause-inside c =
     c.requires.plan c.requires.walked c.requires.read
     (λ v touched is at. c.cell.ensures v touched is
     (ap (slice_get (accesses v.body)) (let q : c.args.read + 1 ≡ suc c.args.read = omega arith in q) ∙ at)) in
-    subst (λ n. n < total_cells (layout (program_in plan) plan.params.now)) (sym is)
+    subst (λ n. n < total_cells (extents_in plan)) (sym is)
     ((c.plans_are_good.ensures.dealt plan [] c.requires.plan).read (place_of plan c.args.instance.now) _
     (place_within plan c.args.instance.now c.requires.walked) (in_at _ c.args.read c.requires.read))

@@ -1,10 +1,9 @@
 use Rattle.std.proofs.Common.{arith, ap, length, subst, sym, ◌∙◌, List}
 use Rattle.scop_syntax.specs.Cells.{reads as reads_by}
-use Rattle.scop_syntax.specs.Execution.{layout}
 use Rattle.scop_syntax.specs.Tree.{Statement}
 use Rattle.scop_syntax.specs.View.{items_of, statement_of}
 use Rattle.scop_syntax.specs.declared.tree.Item.{Item}
-use Rattle.tile_core.specs.Plans.{program_in}
+use Rattle.tile_core.specs.Plans.{extents_in}
 use Rattle.tile_core.specs.steps.Bodies.{HasBody, body_at_all}
 use Rattle.tile_core.proofs.Bodies.{body_is, same_body}
 use Rattle.tile_core.proofs.Touched.{few_reads, reads_there, there}
@@ -23,7 +22,7 @@ pub count_reads-requires : goal.count_reads-requires
 count_reads-requires c =
     let plan = c.args.self.now in
     let i = c.args.instance.now in
-    let extents = layout (program_in plan) plan.params.now in
+    let extents = extents_in plan in
     let t = there plan i c.requires.walked in
     let same = same_body plan i t.0 (statement_of c.statement_among.result.now)
     (body_is c.instances_are_those_of_statements.ensures.found c.statements_are_numbered.ensures.number plan i t.0
@@ -40,7 +39,7 @@ pub returns-clause-count : goal.returns-clause-count
 returns-clause-count c =
     let plan = c.args.self.now in
     let i = c.args.instance.now in
-    let extents = layout (program_in plan) plan.params.now in
+    let extents = extents_in plan in
     let t = there plan i c.requires.walked in
     let same = same_body plan i t.0 (statement_of c.statement_among.result.now)
     (body_is c.instances_are_those_of_statements.ensures.found c.statements_are_numbered.ensures.number plan i t.0
@@ -54,7 +53,7 @@ pub returns-clause-few : goal.returns-clause-few
 returns-clause-few c =
     let plan = c.args.self.now in
     let i = c.args.instance.now in
-    let extents = layout (program_in plan) plan.params.now in
+    let extents = extents_in plan in
     let t = there plan i c.requires.walked in
     let same = same_body plan i t.0 (statement_of c.statement_among.result.now)
     (body_is c.instances_are_those_of_statements.ensures.found c.statements_are_numbered.ensures.number plan i t.0

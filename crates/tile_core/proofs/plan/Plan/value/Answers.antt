@@ -1,6 +1,5 @@
 use Rattle.std.proofs.Common.{◌∙◌, sym}
-use Rattle.scop_syntax.specs.Execution.{layout}
-use Rattle.tile_core.specs.Plans.{program_in}
+use Rattle.tile_core.specs.Plans.{extents_in, program_in}
 use Rattle.tile_core.proofs.Touched.{many_reads, value_is}
 use Rattle.tile_core.proofs.plan.Plan.value.Goals as goal
 
@@ -8,7 +7,7 @@ pub value-requires-clause-reads : goal.value-requires-clause-reads
 value-requires-clause-reads c = λ v is.
     let plan = c.args.self.now in
     c.requires.reads
-    ∙ sym (many_reads plan c.args.instance.now (layout (program_in plan) plan.params.now)
+    ∙ sym (many_reads plan c.args.instance.now (extents_in plan)
     (c.walks_are_in_order.ensures.once (program_in plan) plan.params.now) c.requires.walked v is)
 
 pub returns : goal.returns
