@@ -8,3 +8,4 @@ pub mod Workers
 pub mod Boards
 pub mod States
 pub mod Bodies
+pub mod Passes

@@ -1,8 +1,13 @@
 -- What is known of the words of a run, and of each pass of theirs.
-use Rattle.std.specs.Prelude.{◌≡◌, ℕ, ◌+◌, ◌<◌, List, [], length, Some}
+use Rattle.std.specs.Prelude.{◌≡◌, ℕ, ◌+◌, ◌<◌, ◌≤◌, List, [], length, Some}
 use Rattle.tile_events.specs.Plan as plain
-use Rattle.tile_core.specs.Plans.{IsPlan, plan_of}
-use Rattle.tile_core.specs.Workers.{IsWorker}
+use Rattle.tile_events.specs.Sound.{Holds}
+use Rattle.scop_syntax.specs.declared.instance.Instance.{Instance}
+use Rattle.tile_core.specs.Plans.{IsPlan, place_of, plan_of, shape_of}
+use Rattle.tile_core.specs.Views.{done_at}
+use Rattle.tile_core.specs.declared.plan.Plan.{Plan}
+use Rattle.tile_core.specs.declared.worker.Stage.{Stage}
+use Rattle.tile_core.specs.Workers.{IsWorker, staged}
 use Rattle.tile_core.specs.declared.words.Words.{Words}
 use Rattle.tile_core.specs.declared.words.Pass.{Pass}
 
@@ -29,3 +34,14 @@ pub record IsPass (words : Words) (pass : Pass) : Type 0 where
   pub stage : pass.seat.me.0.stage ≡ pass.worker.stage
   pub reads : pass.seat.me.0.reads ≡ pass.worker.reads.items
   pub worker : IsWorker words.plan pass.worker
+
+-- the instance comes next in the tile that is held
+pub record IsNextIn (plan : Plan) (stage : Stage) (i : Instance) : Type 0 where
+  pub tile : ℕ
+  pub held : Holds (staged stage []) tile
+  pub left : done_at stage < (shape_of plan).size tile
+  pub place : place_of plan i ≡ (shape_of plan).place tile (done_at stage)
+
+-- none does: no tile is held, or nothing of it is left
+abbrev pub HasNoneNext : Plan → Stage → Type 0
+HasNoneNext plan stage = (t : ℕ) → Holds (staged stage []) t → (shape_of plan).size t ≤ done_at stage

@@ -1,8 +1,11 @@
 //! The words of a run, and the passes with which its workers step on them.
+ghost use Rattle.std.specs.Prelude.{MatchOption};
+
 use crate::plan::Plan;
 use crate::view::{Key, View, WordRule};
-use crate::worker::Worker;
+use crate::worker::{Stage, Worker};
 use atomic_table::{Seat, Table};
+use scop_syntax::instance::Instance;
 use std::alloc::Global;
 
 /// The plan, and the table of all words: the count of claims, the count of finished tiles, the cells.
@@ -17,4 +20,23 @@ pub struct Words<'a> {
 pub struct Pass {
     pub seat: Seat<(), View>,
     pub worker: Worker,
+}
+
+impl Pass {
+    ghost use Rattle.tile_core.specs.Passes.{HasNoneNext, IsNextIn, IsPass};
+
+    /// The instance that comes next in the tile that the pass holds, one of these words; None exactly where it holds none
+    /// or nothing of it is left. It takes no memory.
+    pub fn instance(&self, words: &Words) -> Option<Instance>
+        requires pass { IsPass words.now self.now }
+        ensures { MatchOption result (HasNoneNext words.now.plan self.now.worker.stage)
+            (IsNextIn words.now.plan self.now.worker.stage) }
+    {
+        match self.worker.stage {
+            Stage::Idle => None,
+            Stage::Ended => None,
+            Stage::Holding(tile) => Some(words.plan.tile(tile).first),
+            Stage::Working(_, _) => self.worker.due(&words.plan),
+        }
+    }
 }

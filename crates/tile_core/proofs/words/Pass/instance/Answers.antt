@@ -1,0 +1,15 @@
+use Rattle.std.proofs.Common.{refl, subst, sym}
+use Rattle.tile_events.specs.Sound.{Holds}
+use Rattle.tile_core.specs.Workers.{staged}
+use Rattle.tile_core.proofs.Passes.{first_next}
+use Rattle.tile_core.proofs.words.Pass.instance.Goals as goal
+
+pub tile-requires : goal.tile-requires
+tile-requires c =
+    let w = c.args.self.now.worker in
+    c.requires.pass.worker.tile c.in-Holding.tile (subst (λ s. Holds (staged s w.reads.items) c.in-Holding.tile) (sym c.in-Holding.is) refl)
+
+pub returns-in-Holding : goal.returns-in-Holding
+returns-in-Holding c =
+    first_next c.args.words.now.plan c.args.self.now.worker.stage c.in-Holding.tile c.tile.result.now c.requires.pass.of.planned
+    c.tile.ensures c.in-Holding.is
