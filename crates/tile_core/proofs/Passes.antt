@@ -1,19 +1,18 @@
 -- The instance that comes next in the tile of a pass.
-use Rattle.std.proofs.Common.{◌≡◌, ℕ, ◌+◌, ◌<◌, ◌≤◌, ◌∙◌, List, [], Some, ap, sym, subst, refl, arith}
-use Rattle.std.specs.Prelude.{slice_get, slice_index_or, length}
+use Rattle.std.proofs.Common.{◌≡◌, ℕ, ◌∙◌, [], Some, ap, sym, subst, refl, arith}
+use Rattle.std.specs.Prelude.{slice_get, slice_index_or}
 use Rattle.std.proofs.lemmas.Option.{slice_get_within}
 use Rattle.scop_syntax.specs.View.{instance_of}
-use Rattle.scop_syntax.specs.declared.instance.Instance.{Instance}
 use Rattle.tile_list.specs.declared.list.Tile.{Tile}
 use Rattle.tile_events.specs.Sound.{Holds}
-use Rattle.tile_core.specs.Passes.{HasNoneNext, IsNextIn}
+use Rattle.tile_core.specs.Passes.{IsNextIn}
 use Rattle.tile_core.specs.Plans.{IsPlan, places_in, shape_of}
 use Rattle.tile_core.specs.Ranks.{rank_in}
 use Rattle.tile_core.specs.Views.{done_at}
-use Rattle.tile_core.specs.Workers.{HasNoneDue, IsDue, staged}
+use Rattle.tile_core.specs.Workers.{staged}
 use Rattle.tile_core.specs.declared.plan.Plan.{Plan}
 use Rattle.tile_core.specs.declared.worker.Stage.{Stage}
-use Rattle.tile_core.specs.declared.worker.Stage.TheVariants.{Holding, Working}
+use Rattle.tile_core.specs.declared.worker.Stage.TheVariants.{Holding}
 use Rattle.tile_core.proofs.Tiles.{size_is}
 use Rattle.tile_core.proofs.Workers.{first_is}
 

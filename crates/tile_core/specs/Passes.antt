@@ -1,5 +1,5 @@
 -- What is known of the words of a run, and of each pass of theirs.
-use Rattle.std.specs.Prelude.{◌≡◌, ℕ, ◌+◌, ◌<◌, ◌≤◌, List, [], length, Some}
+use Rattle.std.specs.Prelude.{◌≡◌, ℕ, ◌+◌, ◌<◌, ◌≤◌, [], length, Some}
 use Rattle.tile_events.specs.Plan as plain
 use Rattle.tile_events.specs.Sound.{Holds}
 use Rattle.scop_syntax.specs.declared.instance.Instance.{Instance}
