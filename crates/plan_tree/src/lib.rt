@@ -9,4 +9,4 @@ pub mod laws;
 mod tiles;
 mod trees;
 
-pub use trees::{source_tree, tiled_tree};
+pub use trees::{hull_tree, source_tree, tiled_tree};

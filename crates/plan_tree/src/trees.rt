@@ -1,6 +1,6 @@
 //! The trees of both kinds of plans.
 
-ghost use Rattle.std.specs.Prelude.{◌≡◌, ◌≤◌, ◌<◌, ◌^◌, ℕ, pos, IfErr, IfOk};
+ghost use Rattle.std.specs.Prelude.{◌≡◌, ◌≤◌, ◌<◌, ◌^◌, [], ℕ, pos, IfErr, IfOk};
 ghost use Rattle.scop_syntax.specs.Kernel.{IsKernel};
 ghost use Rattle.scop_syntax.specs.Tree.{Program};
 ghost use Rattle.scop_syntax.specs.View.{program_of};
@@ -8,12 +8,14 @@ ghost use Rattle.loop_tree.specs.Fits.{AreSmallTrees};
 ghost use Rattle.loop_tree.specs.Shape.{TreesAreUpTo};
 ghost use Rattle.loop_tree.specs.Source.{source_of};
 ghost use Rattle.loop_tree.specs.Tiling.{kept};
+ghost use Rattle.loop_tree.specs.Tree.{none};
 ghost use Rattle.loop_tree.specs.View.{trees_in};
-ghost use Rattle.plain_scan.specs.Scanning.{AreScanned, dimensions_of};
+ghost use Rattle.plain_scan.specs.Scanning.{AreScanned, StopsScan, dimensions_of, parameters_of};
 ghost use Rattle.plain_scan.specs.Sets.{NumbersRise};
 ghost use Rattle.schedule_rows.specs.Schedule.{IsScheduled};
 ghost use Rattle.tile_skew.specs.ScanSets.{scan_sets};
 ghost use Rattle.plan_tree.specs.Trees.{AreTreesOf, IsScheduleFor, StopsTiled, tiling_of};
+ghost use Rattle.plan_tree.specs.steps.Scanning.{IsScan};
 
 use crate::tiles::{scans_are_trees_of_tilings, sets_can_be_scanned};
 use fm_projection::FmStop;
@@ -21,7 +23,6 @@ use integer_sets::ScanSet;
 use loop_tree::Tree;
 use schedule_rows::Schedule;
 use scop_syntax::tree::Kernel;
-use split_scan::scan;
 use std::alloc::{AllocError, Global};
 use tile_skew::laws::kept_orders_are_good_plans;
 use tile_skew::tiled;
@@ -43,8 +44,28 @@ fn tiled_sets(alloc: Global, schedule: &Schedule, size: u64) -> Result<Vec<ScanS
     Ok(sets)
 }
 
+/// The tree of sets: separated, where each question may make so many moves of the solver, or else the hull of all.
+fn tree_of_sets(alloc: Global, sets: &[ScanSet], budget: Option<u64>) -> Result<Tree, FmStop>
+    requires scanned { AreScanned sets.now }
+    requires rise { NumbersRise sets.now }
+    ensures scan { IfOk result (λ t. IsScan (parameters_of sets.now) sets.now (trees_in t)) }
+    ensures numbers { IfOk result (λ t. AreSmallTrees (dimensions_of sets.now) (trees_in t)) }
+    ensures empty { IfOk result (λ t. sets.now ≡ [] → trees_in t ≡ none) }
+    ensures stops { IfErr result (StopsScan sets.now) }
+{
+    match budget {
+        Some(budget) => split_scan::scan(alloc, sets, budget),
+        None => plain_scan::scan(alloc, sets),
+    }
+}
+
 /// The tree that scans the sets of a schedule of a kernel's conflicts, for tiles of this size.
-fn scanned_tree(alloc: Global, schedule: &Schedule, size: u64, budget: u64) -> Result<Tree, FmStop>
+fn scanned_tree(
+    alloc: Global,
+    schedule: &Schedule,
+    size: u64,
+    budget: Option<u64>,
+) -> Result<Tree, FmStop>
     requires size { (0 < size) × (size ≤ 1024) }
     requires schedule { (program : Program) × IsScheduleFor program schedule.now }
     ensures tree { IfOk result (λ t. (program : Program) → IsScheduleFor program schedule.now
@@ -60,10 +81,26 @@ fn scanned_tree(alloc: Global, schedule: &Schedule, size: u64, budget: u64) -> R
         Err(_) => return Err(FmStop::NoMemory),
         Ok(sets) => sets,
     };
-    match scan(alloc, &sets, budget) {
+    match tree_of_sets(alloc, &sets, budget) {
         Err(stop) => Err(stop),
         Ok(tree) => Ok(tree),
     }
+}
+
+/// The loop tree of a schedule of a kernel's conflicts, for tiles of this size, as the hull of its scan sets: one loop
+/// a dimension round all statements, each under all constraints of its set.
+///
+/// # Errors
+/// `Wide`, `Crowded` and `Large` only where the scan of the schedule's scan sets stops so; `NoMemory`.
+pub fn hull_tree(alloc: Global, schedule: &Schedule, size: u64) -> Result<Tree, FmStop>
+    requires size { (0 < size) × (size ≤ 1024) }
+    requires schedule { (program : Program) × IsScheduleFor program schedule.now }
+    ensures tree { IfOk result (λ t. (program : Program) → IsScheduleFor program schedule.now
+        → (s : IsScheduled schedule.now) → AreTreesOf program (tiling_of program size s.blocks) (trees_in t)) }
+    ensures stops { IfErr result (λ stop. (s : IsScheduled schedule.now)
+        → StopsTiled schedule.now.model size s.blocks stop) }
+{
+    scanned_tree(alloc, schedule, size, None)
 }
 
 /// The loop tree of a schedule of a kernel's conflicts, for tiles of this size: tile by tile within rising waves, the
@@ -88,7 +125,7 @@ pub fn tiled_tree(
 {
     let _items = schedule.items();
     let parameters = schedule.model().parameters();
-    let scanned = match scanned_tree(alloc, schedule, size, budget) {
+    let scanned = match scanned_tree(alloc, schedule, size, Some(budget)) {
         Err(stop) => return Err(stop),
         Ok(scanned) => scanned,
     };

@@ -9,45 +9,33 @@ use Rattle.plan_tree.proofs.Scans.{own_scans}
 use Rattle.plan_tree.proofs.Scheduling.{tiled_blocks, tiled_sets_of}
 use Rattle.plan_tree.proofs.trees.scanned_tree.Goals as goal
 
-pub scan-requires-clause-sets : goal.scan-requires-clause-sets
-scan-requires-clause-sets c = subst AreScanned (sym c.deref.ensures.value) c.in-Ok.ensures.scanned
+pub tree_of_sets-requires-clause-scanned : goal.tree_of_sets-requires-clause-scanned
+tree_of_sets-requires-clause-scanned c = subst AreScanned (sym c.deref.ensures.value) c.in-Ok.ensures.scanned
 
-pub scan-requires-clause-rise : goal.scan-requires-clause-rise
-scan-requires-clause-rise c = subst NumbersRise (sym c.deref.ensures.value) c.in-Ok.ensures.rise
+pub tree_of_sets-requires-clause-rise : goal.tree_of_sets-requires-clause-rise
+tree_of_sets-requires-clause-rise c = subst NumbersRise (sym c.deref.ensures.value) c.in-Ok.ensures.rise
 
 pub returns-clause-tree : goal.returns-clause-tree
 returns-clause-tree c program is s =
     let size = c.args.size in
-    let now = c.deref.result.now in
-    let ts = trees_in c.in-Ok-scan.tree in
-    let made = c.in-Ok-scan.ensures in
-    let same : now ≡ sets_of program size s.blocks =
+    let ts = trees_in c.in-Ok-tree_of_sets.tree in
+    let made = c.in-Ok-tree_of_sets.ensures in
+    let same : c.deref.result.now ≡ sets_of program size s.blocks =
     c.deref.ensures.value ∙ (c.in-Ok.ensures.sets s ∙ tiled_sets_of program size c.args.schedule.now s is) in
     let tiling = tiled_blocks program size c.args.schedule.now s c.requires.size.0 c.requires.size.1 is in
-    let own : IsScan (parameters_of now) now ts = record {
-      exact = made.exact;
-      iterators = made.iterators;
-      fits = made.fits;
-      flat = made.flat;
-      marks = made.marks;
-      small = made.small;
-      over = made.over;
-      nested = made.nested;
-      instances = made.instances;
-    } in
-    let there = subst (λ (ss : List Scanned). IsScan (parameters_of ss) ss ts) same own in
+    let there = subst (λ (ss : List Scanned). IsScan (parameters_of ss) ss ts) same made.scan in
     let empty = subst (λ (ss : List Scanned). ss ≡ [] → ts ≡ none) same made.empty in
     c.scans_are_trees_of_tilings.ensures program size s.blocks ts tiling
     (own_scans (length program.parameters) (sets_of program size s.blocks) ts
     (c.sets_can_be_scanned.ensures.parameters program size s.blocks tiling) empty there)
 
-pub returns-in-Err-scan-clause-stops : goal.returns-in-Err-scan-clause-stops
-returns-in-Err-scan-clause-stops c s =
-    subst (λ (ss : List Scanned). StopsScan ss c.in-Err-scan.stop)
-    (c.deref.ensures.value ∙ c.in-Ok.ensures.sets s) c.in-Err-scan.ensures.stops
+pub returns-in-Err-tree_of_sets-clause-stops : goal.returns-in-Err-tree_of_sets-clause-stops
+returns-in-Err-tree_of_sets-clause-stops c s =
+    subst (λ (ss : List Scanned). StopsScan ss c.in-Err-tree_of_sets.stop)
+    (c.deref.ensures.value ∙ c.in-Ok.ensures.sets s) c.in-Err-tree_of_sets.ensures.stops
 
 pub returns-clause-small : goal.returns-clause-small
 returns-clause-small c =
     let few = subst (λ (ss : List Scanned). dimensions_of ss < 2 ^ 32) (sym c.deref.ensures.value) c.in-Ok.ensures.few
     in
-    (dimensions_of c.deref.result.now, few, c.in-Ok-scan.ensures.numbers)
+    (dimensions_of c.deref.result.now, few, c.in-Ok-tree_of_sets.ensures.numbers)
