@@ -1,1 +1,4 @@
 pub mod Results
+pub mod Falling
+pub mod Lexed
+pub mod Turns

@@ -19,5 +19,8 @@ pub mod scan_sets;
 pub mod solver;
 pub mod systems;
 pub mod texts;
+pub mod tokens;
 pub mod trees;
 pub mod vectors;
+pub mod walks;
+pub mod worked_dependences;

@@ -1,5 +1,5 @@
 //! Callers of the solver.
-ghost use Rattle.std.specs.Prelude.{◌≡◌, ◌+◌, ◌≤◌, ◌++◌, [], ℕ, ℤ, List, None, Ok, Err, IfOk, All, true, false};
+ghost use Rattle.std.specs.Prelude.{◌≡◌, ◌⊎◌, ◌+◌, ◌≤◌, ◌++◌, [], ℕ, ℤ, List, None, Ok, Err, IfOk, All, true, false};
 ghost use Rattle.std.specs.Prelude.{length};
 ghost use Rattle.std.specs.Option.{ForSome, IfNone};
 ghost use Rattle.whole_numbers.specs.Lists.{NotNegative};
@@ -13,8 +13,11 @@ ghost use Rattle.quast_trees.specs.Value.{value};
 ghost use Rattle.tableau_rows.specs.Problem.{IsEmpty, IsLexmin, problem_of, row_values};
 ghost use Rattle.lexmin_runs.specs.Emptiness.{IsBoundedPoint};
 ghost use Rattle.checked_tableau.specs.declared.problem.Problem.{Problem};
+ghost use Rattle.pip_solver.specs.Answers.{IsBegun, IsPosed};
 ghost use Rattle.pip_solver.specs.Minimum.{IsTaken, held};
+ghost use Rattle.pip_solver.specs.declared.stop.Stop.TheVariants as stop;
 ghost use Rattle.pip_solver.specs.declared.stop.Stop.TheVariants.{Spent};
+ghost use Rattle.wide_math.specs.declared.Wide.{Wide};
 
 use checked_tableau::Problem;
 use integer_sets::System;
@@ -79,8 +82,13 @@ pub fn minimum_without_parameters(
     least_point(alloc, problem, budget)
 }
 
-/// A system that is empty has no bounded point, by `empty` of `is_empty`; one that is not has a point, by `point`.
+/// A system that is empty has no bounded point, by `empty` of `is_empty`; one that is not has a point, by `point`. Who
+/// spends the budget tells the problem that the system poses, by `run`; so does a number that is too wide, or, before
+/// any move, the rows of the equalities in front of it.
 pub fn has_no_point(alloc: Global, system: &System, budget: u64) -> Result<bool, Stop>
+    ensures spent { (posed : Problem) (moves : ℕ) → result ≡ Err (Spent posed moves) → IsPosed system.now posed }
+    ensures wide { (posed : Problem) (moves : ℕ) → result ≡ Err (stop.Wide posed moves)
+        → IsPosed system.now posed ⊎ ((w : Wide) × IsBegun system.now w posed × (moves ≡ 0)) }
     ensures empty { result ≡ Ok true → (x : List ℤ) → IsBoundedPoint system.now x [] → ⊥ }
     ensures point { result ≡ Ok false → (x : List ℤ) × (p : List ℤ) × NotNegative (x ++ p)
         × Satisfies system.now (x ++ p) }

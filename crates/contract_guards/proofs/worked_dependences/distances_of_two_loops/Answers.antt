@@ -1,0 +1,10 @@
+use Rattle.std.proofs.Common.{[], ◌∷◌, refl}
+use Rattle.farkas.specs.Unknowns.{layout_of}
+use Rattle.farkas.specs.declared.claim.Claim.TheVariants.{Legality}
+use Rattle.contract_guards.specs.Worked.{end}
+use Rattle.contract_guards.proofs.worked_dependences.distances_of_two_loops.Goals as goal
+
+pub returns : goal.returns
+unfolding layout_of
+returns c = λ numbers i j.
+    c.claimed_forms_are_distances.ensures Legality (end 2) (end 1) 0 numbers (i ∷ []) (j ∷ []) [] refl refl

@@ -1,0 +1,124 @@
+//! Callers of walks, executions and limits, most at a worked loop over four cells that falls by two.
+ghost use Rattle.std.specs.Prelude.{◌≡◌, ◌+◌, ◌<◌, ◌≤◌, ◌^◌, ◌<ℤ◌, ◌-ℤ◌, ◌++◌, ◌∷◌, [], All, ℕ, ℤ, List, None, Some};
+ghost use Rattle.std.specs.Prelude.{false, length, negsuc, pos, slice_get, unsigned_abs};
+ghost use Rattle.whole_numbers.specs.Affine.{value_of};
+ghost use Rattle.scop_syntax.specs.Acts.{acts_all};
+ghost use Rattle.scop_syntax.specs.Cells.{Cell, PlacesConflict, written};
+ghost use Rattle.scop_syntax.specs.Examples.{falling_by_two, form, head, rising};
+ghost use Rattle.scop_syntax.specs.Execution.{IsCell, IsShaped, before_place, cell_number, held, layout, performed_all};
+ghost use Rattle.scop_syntax.specs.Execution.{stored, value_stored_at};
+ghost use Rattle.scop_syntax.specs.Failures.{Failure, LiesIn, VisitsAreRanked, first_outside};
+ghost use Rattle.scop_syntax.specs.Members.{In};
+ghost use Rattle.scop_syntax.specs.Statements.{Placed, Runs, point_of, statements_of};
+ghost use Rattle.scop_syntax.specs.Tree.{Head, Program, moved_left};
+ghost use Rattle.scop_syntax.specs.Values.{stored_by};
+ghost use Rattle.scop_syntax.specs.Walk.{Falls, Visit, condition_at, loop_walk, walk_of};
+ghost use Rattle.scop_syntax.specs.Writers.{last_of, last_writer, left_by, next_of, next_writer, writes};
+
+use scop_syntax::execution_laws::{
+    cells_have_numbers_of_their_own, cells_hold_the_last_write, executions_go_along_the_places,
+    next_writers_are_least_places, writers_conflict,
+};
+use scop_syntax::failure_laws::failures_are_the_first;
+use scop_syntax::limit_laws::{
+    accesses_have_the_ranks_of_arrays, cells_lie_within_22_bits, values_lie_within_45_bits,
+};
+use scop_syntax::value_laws::values_stay_below_2_64;
+use scop_syntax::walk_laws::{loops_walk_while_their_condition_holds, walks_are_acts};
+
+/// The condition of the loop falls, by `falls` of `loops_walk_while_their_condition_holds`; a condition that falls fails
+/// at some turn, by `ends`; one that holds at two turns has two, by `turns`.
+pub fn turns_of_a_falling_loop()
+    ensures falls { (h : Head) → h ≡ head (pos 3) (negsuc 1) (form (pos 1 ∷ []) (negsuc 0))
+        → Falls (λ k. condition_at h [] (pos k)) }
+    ensures ends { (condition : ℕ → ℤ) → Falls condition → (m : ℕ) × (condition m <ℤ pos 0) }
+    ensures turns { (body : ℕ → List Visit) → loop_walk (λ k. pos 1 -ℤ pos k) body ≡ body 0 ++ (body 1 ++ []) }
+{
+    loops_walk_while_their_condition_holds();
+}
+
+/// A program has as many acts as visits, by the clause of `walks_are_acts`.
+pub fn acts_of_a_walk()
+    ensures { (program : Program) (params : List ℤ)
+        → length (walk_of program params) ≡ length (acts_all program.body params) }
+{
+    walks_are_acts();
+}
+
+/// The first of some visits stores over the first contents, by `goes_on` of `executions_go_along_the_places`; behind
+/// the only one the execution has ended, by `ends`.
+pub fn first_places_of_executions()
+    ensures goes_on { (extents contents : List (List ℕ)) (v : Visit) (visits : List Visit)
+        → before_place extents contents (v ∷ visits) 1
+        ≡ stored extents contents (written v) (value_stored_at extents contents (v ∷ visits) 0) }
+    ensures ends { (extents contents : List (List ℕ)) (visits : List Visit) → length visits ≡ 1
+        → before_place extents contents visits 1 ≡ performed_all extents contents visits }
+{
+    executions_go_along_the_places();
+}
+
+/// What a cell holds before each place of the loop, by `before` of `cells_hold_the_last_write`, since all of them lie
+/// inside, by `inside` of `failures_are_the_first`.
+pub fn cells_along_a_falling_loop()
+    ensures { (contents : List (List ℕ)) (j : ℕ) (c : Cell) → IsShaped ((4 ∷ []) ∷ []) contents → j ≤ 2
+        → IsCell ((4 ∷ []) ∷ []) c
+        → held ((4 ∷ []) ∷ []) (before_place ((4 ∷ []) ∷ []) contents (walk_of falling_by_two []) j) c
+        ≡ left_by ((4 ∷ []) ∷ []) contents (walk_of falling_by_two []) c
+        (last_writer (walk_of falling_by_two []) j c) }
+{
+    accesses_have_the_ranks_of_arrays();
+    failures_are_the_first();
+    cells_hold_the_last_write();
+}
+
+/// The subscript of a first failure does not lie in its extent, by `first` of `failures_are_the_first`.
+pub fn failures_lie_outside()
+    ensures { (extents : List (List ℕ)) (visits : List Visit) (f : Failure) → VisitsAreRanked extents visits
+        → first_outside extents visits ≡ Some f → LiesIn f.value f.extent → ⊥ }
+{
+    failures_are_the_first();
+}
+
+/// The next writer stands behind, by `next` of `next_writers_are_least_places`; without one no place there writes, by
+/// `none`.
+pub fn next_writers_stand_behind()
+    ensures next { (visits : List Visit) (j : ℕ) (c : Cell) (k : ℕ) → next_writer visits j c ≡ Some k → j < k }
+    ensures none { (visits : List Visit) (c : Cell) → next_writer visits 0 c ≡ None
+        → writes (slice_get visits 1) c ≡ false }
+{
+    next_writers_are_least_places();
+}
+
+/// Of a loop that rises the first two places conflict, by `last` of `writers_conflict`; a next writer's place conflicts
+/// with the one before, by `next`.
+pub fn writers_of_a_rising_loop()
+    ensures last { PlacesConflict (walk_of rising []) 0 1 }
+    ensures next { (visits : List Visit) (a k : ℕ) → next_of visits 0 a ≡ Some k → PlacesConflict visits 0 k }
+{
+    writers_conflict();
+}
+
+/// Of six cells and four the numbers are below ten, by `below` of `cells_have_numbers_of_their_own`, and apart, by
+/// `apart`; those of the falling loop's array are below 2^22, by `numbers` of `cells_lie_within_22_bits`.
+pub fn numbers_of_cells()
+    ensures below { (c : Cell) → IsCell ((2 ∷ 3 ∷ []) ∷ (4 ∷ []) ∷ []) c
+        → cell_number ((2 ∷ 3 ∷ []) ∷ (4 ∷ []) ∷ []) c < 10 }
+    ensures apart { (c d : Cell) → IsCell ((2 ∷ 3 ∷ []) ∷ (4 ∷ []) ∷ []) c → IsCell ((2 ∷ 3 ∷ []) ∷ (4 ∷ []) ∷ []) d
+        → cell_number ((2 ∷ 3 ∷ []) ∷ (4 ∷ []) ∷ []) c ≡ cell_number ((2 ∷ 3 ∷ []) ∷ (4 ∷ []) ∷ []) d → c ≡ d }
+    ensures numbers { (c : Cell) → IsCell (layout falling_by_two []) c
+        → cell_number (layout falling_by_two []) c < 2 ^ 22 }
+{
+    cells_have_numbers_of_their_own();
+    cells_lie_within_22_bits();
+}
+
+/// What is moved by three bits stays below 2^64, by the clause of `values_stay_below_2_64`; forms at the points of the
+/// falling loop are small, by `values` of `values_lie_within_45_bits`.
+pub fn values_are_small()
+    ensures moved { (values : List ℕ) → All (λ v. v < 2 ^ 64) values → stored_by (moved_left 3) [] values < 2 ^ 64 }
+    ensures forms { (p : Placed) (xs : List ℤ) → In p (statements_of falling_by_two) → Runs p.scopes [] xs
+        → unsigned_abs (value_of (form (pos 16 ∷ []) (pos (2 ^ 20))) (point_of p.scopes [] xs)) ≤ 2 ^ 45 }
+{
+    values_stay_below_2_64();
+    values_lie_within_45_bits();
+}
