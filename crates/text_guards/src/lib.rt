@@ -5,6 +5,7 @@
 #![tactic(auto)]
 
 pub mod arithmetic;
+pub mod data;
 pub mod expressions;
 pub mod forms;
 pub mod meanings;
@@ -12,3 +13,4 @@ pub mod names;
 pub mod printed;
 pub mod quasts;
 pub mod statuses;
+pub mod worked_loop;

@@ -1,0 +1,13 @@
+-- The value of the worked statement, `i * A[i]`, over an array of one dimension.
+use Rattle.std.proofs.Common.{[], ◌∷◌, refl, arith}
+use Rattle.scop_roles.specs.Scope.{IsInScope}
+use Rattle.source_arithmetic.specs.Arithmetic.{HasNoComma}
+use Rattle.text_guards.specs.Worked.{product}
+
+-- its array is known
+pub in_scope : IsInScope (1 ∷ []) product
+in_scope = (tt, ((omega arith, refl), tt))
+
+-- it has no comma
+pub no_comma : HasNoComma product
+no_comma = (tt, (tt, tt))
