@@ -7,6 +7,7 @@ pub mod conflicts;
 pub mod dependence_rows;
 pub mod domains;
 pub mod forms;
+pub mod grammars;
 pub mod graphs;
 pub mod instances;
 pub mod joins;

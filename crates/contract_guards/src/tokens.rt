@@ -1,4 +1,4 @@
-//! Callers of the laws of tokens and signs at texts that are given: `x;`, `@`, and `<<= 1`, whose longest sign is `<<=`.
+//! Callers of the laws of tokens and signs at texts that are given: `x;`, `@`, and `<<= 1`, which begins with `<<=`.
 ghost use Rattle.std.specs.Prelude.{◌≡◌, ◌∷◌, ℕ, [], List, codes};
 ghost use Rattle.scop_lexer.specs.Bytes.{Text};
 ghost use Rattle.scop_lexer.specs.Signs.{BeginsWith, IsLongestSign, spelling};
@@ -42,8 +42,8 @@ pub fn a_character_of_no_token()
     text_has_tokens_or_a_fault();
 }
 
-/// The longest sign of `<<= 1` is `<<=`, and no sign begins `@`, by the clause of `longest_sign_is_told`; `<<` is not the
-/// longest of the former, and `<=` does not begin it.
+/// The longest sign of `<<= 1` is `<<=`, and no sign begins `@`, by the clause of `longest_sign_is_told`; `<<` is not
+/// the longest of the former, and `<=` does not begin it.
 pub fn the_longest_of_three_signs()
     ensures longest { IsLongestSign (codes "<<= 1") sign.ShiftLeftAssign }
     ensures none { (s : Punctuator) → BeginsWith (spelling s) (codes "@") → ⊥ }

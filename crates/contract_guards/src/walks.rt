@@ -26,8 +26,8 @@ use scop_syntax::limit_laws::{
 use scop_syntax::value_laws::values_stay_below_2_64;
 use scop_syntax::walk_laws::{loops_walk_while_their_condition_holds, walks_are_acts};
 
-/// The condition of the loop falls, by `falls` of `loops_walk_while_their_condition_holds`; a condition that falls fails
-/// at some turn, by `ends`; one that holds at two turns has two, by `turns`.
+/// The condition of the loop falls, by `falls` of `loops_walk_while_their_condition_holds`; a condition that falls
+/// fails at some turn, by `ends`; one that holds at two turns has two, by `turns`.
 pub fn turns_of_a_falling_loop()
     ensures falls { (h : Head) → h ≡ head (pos 3) (negsuc 1) (form (pos 1 ∷ []) (negsuc 0))
         → Falls (λ k. condition_at h [] (pos k)) }

@@ -2,7 +2,7 @@
 //! exact first fault. The grammar is in specs/Tree and specs/Grammar, what an answer says in specs/Answers.
 #![tactic(auto)]
 
-mod laws;
+pub mod laws;
 pub mod node;
 pub mod reader;
 mod stack;

@@ -3,7 +3,7 @@
 //! what an answer says in specs/Answers.
 #![tactic(auto)]
 
-mod laws;
+pub mod laws;
 pub mod part;
 pub mod reader;
 mod table;

@@ -8,4 +8,5 @@ returns-clause-goes_on c = λ extents contents v visits.
 
 pub returns-clause-ends : goal.returns-clause-ends
 returns-clause-ends c = λ extents contents visits one.
-    ap (before_place extents contents visits) (sym one) ∙ c.executions_go_along_the_places.ensures.ends extents contents visits
+    ap (before_place extents contents visits) (sym one)
+    ∙ c.executions_go_along_the_places.ensures.ends extents contents visits
