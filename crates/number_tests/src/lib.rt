@@ -11,6 +11,8 @@ mod dependence_rows;
 #[cfg(test)]
 mod elimination;
 #[cfg(test)]
+mod error_texts;
+#[cfg(test)]
 mod forms;
 #[cfg(test)]
 mod kernel_vectors;
