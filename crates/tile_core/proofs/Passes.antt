@@ -13,19 +13,20 @@ use Rattle.tile_core.specs.Workers.{staged}
 use Rattle.tile_core.specs.declared.plan.Plan.{Plan}
 use Rattle.tile_core.specs.declared.worker.Stage.{Stage}
 use Rattle.tile_core.specs.declared.worker.Stage.TheVariants.{Holding}
+use Rattle.tile_core.proofs.Cuts.{PartsStand}
 use Rattle.tile_core.proofs.Tiles.{size_is}
 use Rattle.tile_core.proofs.Workers.{first_is}
 
 -- the first one of a tile that is not opened
-pub first_next : (plan : Plan) (stage : Stage) (t : ℕ) (tile : Tile) → IsPlan plan → slice_get plan.list.now.tiles.items t ≡ Some tile
-    → stage ≡ Holding t → IsNextIn plan stage tile.first
-first_next plan stage t tile is at holding =
+pub first_next : PartsStand → (plan : Plan) (stage : Stage) (t : ℕ) (tile : Tile) → IsPlan plan
+    → slice_get plan.list.now.tiles.items t ≡ Some tile → stage ≡ Holding t → IsNextIn plan stage tile.first
+first_next stand plan stage t tile is at holding =
     let e : done_at stage ≡ 0 = ap done_at holding in
     let one = is.tiles.tiles t tile at in
     let some = slice_get_within (slice_index_or is.tiles.parts t []) 0 (instance_of tile.first) one.first in
     let many = one.size in
     let size = size_is plan.list.now.tiles.items t tile at in
-    let n = first_is plan t tile tile.spot is at refl in
+    let n = first_is stand plan t tile tile.spot is at refl in
     record {
       tile = t;
       held = subst (λ s. Holds (staged s []) t) (sym holding) refl;

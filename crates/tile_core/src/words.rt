@@ -7,6 +7,7 @@ use crate::worker::{Stage, Worker};
 use atomic_table::{Seat, Table};
 use scop_syntax::instance::Instance;
 use std::alloc::Global;
+use tile_list::laws::tiles_stand_one_behind_another;
 
 /// The plan, and the table of all words: the count of claims, the count of finished tiles, the cells.
 #[derive(Drop)]
@@ -32,6 +33,7 @@ impl Pass {
         ensures { MatchOption result (HasNoneNext words.now.plan self.now.worker.stage)
             (IsNextIn words.now.plan self.now.worker.stage) }
     {
+        tiles_stand_one_behind_another();
         match self.worker.stage {
             Stage::Idle => None,
             Stage::Ended => None,

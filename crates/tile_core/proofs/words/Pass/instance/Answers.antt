@@ -7,9 +7,10 @@ use Rattle.tile_core.proofs.words.Pass.instance.Goals as goal
 pub tile-requires : goal.tile-requires
 tile-requires c =
     let w = c.args.self.now.worker in
-    c.requires.pass.worker.tile c.in-Holding.tile (subst (λ s. Holds (staged s w.reads.items) c.in-Holding.tile) (sym c.in-Holding.is) refl)
+    c.requires.pass.worker.tile c.in-Holding.tile
+    (subst (λ s. Holds (staged s w.reads.items) c.in-Holding.tile) (sym c.in-Holding.is) refl)
 
 pub returns-in-Holding : goal.returns-in-Holding
 returns-in-Holding c =
-    first_next c.args.words.now.plan c.args.self.now.worker.stage c.in-Holding.tile c.tile.result.now c.requires.pass.of.planned
-    c.tile.ensures c.in-Holding.is
+    first_next c.tiles_stand_one_behind_another.ensures.at c.args.words.now.plan c.args.self.now.worker.stage
+    c.in-Holding.tile c.tile.result.now c.requires.pass.of.planned c.tile.ensures c.in-Holding.is
