@@ -1,5 +1,5 @@
 -- A claim by an idle pass is allowed by the rule of its table.
-use Rattle.std.proofs.Common.{◌≡◌, ℕ, ◌+◌, ◌%◌, ◌^◌, ◌<◌, ◌∙◌, [], Some, ap, ap₂, refl, arith}
+use Rattle.std.proofs.Common.{◌≡◌, ◌+◌, ◌%◌, ◌^◌, ◌∙◌, [], ap, ap₂, refl, arith}
 use mathlib.Core.Option.{none}
 use Rattle.atomic_table.specs.Table.{Me, Allows, step}
 use Rattle.tile_events.specs.Allowed.{ClaimIsAllowed}

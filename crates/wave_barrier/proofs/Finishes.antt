@@ -1,11 +1,10 @@
 -- The end of a tile of which every instance is done is allowed by the rule of its table.
-use Rattle.std.proofs.Common.{◌≡◌, ℕ, ◌+◌, ◌%◌, ◌^◌, ◌∙◌, [], ap₂, refl, sym, subst}
+use Rattle.std.proofs.Common.{◌≡◌, ◌+◌, ◌%◌, ◌^◌, ◌∙◌, [], ap₂, refl, sym, subst}
 use mathlib.Core.Option.{none}
-use Rattle.atomic_table.specs.Table.{Me, Allows, step}
+use Rattle.atomic_table.specs.Table.{Allows, step}
 use Rattle.tile_events.specs.Allowed.{FinishIsAllowed}
 use Rattle.tile_core.specs.declared.worker.Stage.{Stage}
 use Rattle.tile_core.specs.declared.worker.Stage.TheVariants.{Idle, Ended, Holding, Working}
-use Rattle.tile_core.specs.declared.view.View.{View}
 use Rattle.tile_core.specs.declared.view.Key.{Key}
 use Rattle.tile_core.specs.declared.words.Words.{Words}
 use Rattle.tile_core.specs.declared.words.Pass.{Pass}
