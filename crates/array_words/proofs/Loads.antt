@@ -1,10 +1,9 @@
 -- A load of the cell that the next instance reads next is allowed by the rule of its table.
-use Rattle.std.proofs.Common.{◌≡◌, ℕ, zero, suc, ◌+◌, ◌<◌, ◌≤◌, ◌∙◌, List, [], ◌∷◌, ◌++◌, length, get_or, Some, inl, inr, ap, ap₂, refl, sym, subst, arith}
+use Rattle.std.proofs.Common.{◌≡◌, ℕ, zero, suc, ◌+◌, ◌<◌, ◌≤◌, ◌∙◌, List, [], ◌∷◌, ◌++◌, length, get_or, inl, inr, ap, ap₂, refl, sym, subst, arith}
 use mathlib.Core.Option.{none}
 use Rattle.atomic_table.specs.Table.{Me, Allows, step}
 use Rattle.scop_syntax.specs.Members.{In}
 use Rattle.tile_events.specs.Plan.{IsDealt, values_read}
-use Rattle.tile_events.specs.Core.{cell_read}
 use Rattle.tile_events.specs.Sound.{Holds}
 use Rattle.tile_events.specs.Allowed.{LoadIsAllowed}
 use Rattle.tile_core.specs.declared.plan.Plan.{Plan}
@@ -14,7 +13,7 @@ use Rattle.tile_core.specs.declared.view.View.{View}
 use Rattle.tile_core.specs.declared.view.Key.{Key}
 use Rattle.tile_core.specs.declared.words.Words.{Words}
 use Rattle.tile_core.specs.declared.words.Pass.{Pass}
-use Rattle.tile_core.specs.Plans.{shape_of, plan_of, IsPlan}
+use Rattle.tile_core.specs.Plans.{shape_of, plan_of}
 use Rattle.tile_core.specs.Workers.{staged}
 use Rattle.tile_core.specs.Views.{key_plan, plan_at, worker_in, parts_in, at_stage, executed, Ruled}
 use Rattle.tile_core.specs.Passes.{plan_in, IsPass}

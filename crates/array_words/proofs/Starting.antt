@@ -1,5 +1,5 @@
 -- The opening state meets the rule, and a seat that stands for several idle workers may be cut.
-use Rattle.std.proofs.Common.{◌≡◌, ℕ, zero, suc, ◌+◌, ◌<◌, ◌≤◌, ◌∙◌, List, [], ◌∷◌, length, ap, ap₂, refl, sym, subst, arith}
+use Rattle.std.proofs.Common.{◌≡◌, ℕ, zero, suc, ◌+◌, ◌<◌, List, [], ◌∷◌, length, ap₂, refl, sym, subst, arith}
 use mathlib.Core.Option.{some, some-injective, some-ne-none}
 use lib.ListN.{get_elem?}
 use Rattle.atomic_table.specs.Table.{opening, Splits}
@@ -14,7 +14,6 @@ use Rattle.tile_events.specs.Allowed.{SplitIsAllowed}
 use Rattle.tile_core.specs.declared.worker.Stage.TheVariants.{Idle}
 use Rattle.tile_core.specs.declared.view.Key.{Key}
 use Rattle.tile_core.specs.declared.view.View.{View}
-use Rattle.tile_core.specs.declared.words.Words.{Words}
 use Rattle.tile_core.specs.Workers.{staged}
 use Rattle.tile_core.specs.Views.{key_plan, worker_in, parts_in, Ruled, opening_view}
 use Rattle.array_words.specs.Seats.{fewer, one_of}
