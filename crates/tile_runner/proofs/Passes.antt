@@ -1,5 +1,5 @@
 -- Passes before and after a run.
-use Rattle.std.proofs.Common.{◌≡◌, suc, ◌<◌, List, [], ◌∷◌, ◌++◌, take, drop, All, length, ap, refl, arith}
+use Rattle.std.proofs.Common.{◌≡◌, suc, List, [], ◌∷◌, ◌++◌, take, drop, All, length, ap, refl, arith}
 use Rattle.tile_events.specs.Sound.{total}
 use Rattle.tile_core.specs.declared.words.Words.{Words}
 use Rattle.tile_core.specs.declared.words.Pass.{Pass}
