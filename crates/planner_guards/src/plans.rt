@@ -1,5 +1,6 @@
-//! Callers of the trees of plans: that of the source's own order, and the laws in kernels without parameters.
-ghost use Rattle.std.specs.Prelude.{◌≡◌, ℕ, [], IfOk, List, map};
+//! Callers of the trees of plans: that of the source's own order, that of a hull, and the laws in kernels without
+//! parameters.
+ghost use Rattle.std.specs.Prelude.{◌≡◌, ℕ, [], IfErr, IfOk, List, map};
 ghost use Rattle.scop_syntax.specs.Cells.{PlacesConflict};
 ghost use Rattle.scop_syntax.specs.Execution.{IsInside, IsShaped, exec, layout, performed_all};
 ghost use Rattle.scop_syntax.specs.Kernel.{IsKernel};
@@ -15,10 +16,13 @@ ghost use Rattle.loop_tree.specs.Tree.{Trees, none};
 ghost use Rattle.loop_tree.specs.View.{trees_in};
 ghost use Rattle.loop_tree.specs.Walk.{Visit, given, visits, walk_all};
 ghost use Rattle.plan_tree.specs.Executions.{AreVisitsOf};
-ghost use Rattle.plan_tree.specs.Trees.{AreTreesOf, StandInOrder};
+ghost use Rattle.schedule_rows.specs.Schedule.{IsScheduled};
+ghost use Rattle.plan_tree.specs.Trees.{AreTreesOf, IsScheduleFor, StandInOrder, StopsTiled, tiling_of};
 
+use fm_projection::FmStop;
 use loop_tree::Tree;
 use plan_tree::laws;
+use schedule_rows::Schedule;
 use scop_syntax::tree::Kernel;
 use std::alloc::{AllocError, Global};
 
@@ -28,6 +32,17 @@ pub fn kept_tree(alloc: Global, kernel: &Kernel) -> Result<Tree, AllocError>
     ensures { IfOk result (λ t. (program_of kernel.now).body ≡ nothing → trees_in t ≡ none) }
 {
     plan_tree::source_tree(alloc, kernel)
+}
+
+/// The hull's tree of a schedule, for tiles of one point, by the clauses of `hull_tree` of these names.
+pub fn hull_tree_of_points(alloc: Global, schedule: &Schedule) -> Result<Tree, FmStop>
+    requires { (program : Program) × IsScheduleFor program schedule.now }
+    ensures tree { IfOk result (λ t. (program : Program) → IsScheduleFor program schedule.now
+        → (s : IsScheduled schedule.now) → AreTreesOf program (tiling_of program 1 s.blocks) (trees_in t)) }
+    ensures stops { IfErr result (λ stop. (s : IsScheduled schedule.now)
+        → StopsTiled schedule.now.model 1 s.blocks stop) }
+{
+    plan_tree::hull_tree(alloc, schedule, 1)
 }
 
 /// Trees of the source's order visit conflicting places as they are, by the clause of `trees_keep_conflicts_in_order`.
