@@ -1,0 +1,96 @@
+//! Callers of the core over a kernel's plan: the opening state, events, the cells, and what plans execute.
+ghost use Rattle.std.specs.Prelude.{◌≡◌, ℕ, ◌<◌, IfOk, List, MatchOption, Some, length, slice_get, slice_index_or};
+ghost use Rattle.scop_syntax.specs.Cells.{Cell};
+ghost use Rattle.scop_syntax.specs.Execution.{IsCell, IsShaped, cell_number, exec, held, values_read_by};
+ghost use Rattle.scop_syntax.specs.Walk.{Visit};
+ghost use Rattle.tile_events.specs.Core.{State, step};
+ghost use Rattle.tile_events.specs.Flat.{flat};
+ghost use Rattle.tile_events.specs.Opening.{IsQuiet};
+ghost use Rattle.tile_events.specs.Plan.{values_read};
+ghost use Rattle.tile_events.specs.Sound.{Sound};
+ghost use Rattle.tile_core.specs.Boards.{IsRun, event_of, opening_state};
+ghost use Rattle.tile_core.specs.Cores.{IsCore, ReadsExecuted, plan_in, state_in};
+ghost use Rattle.tile_core.specs.Passes.{HasNoneNext, IsNextIn, IsPass};
+ghost use Rattle.tile_core.specs.Plans.{IsPlan, extents_in, plan_of, program_in, shape_of, walk_in};
+ghost use Rattle.tile_core.specs.declared.plan.Plan.{Plan as AnyPlan};
+
+use scop_syntax::instance::Instance;
+use std::alloc::{AllocError, Global};
+use tile_core::board::{Event, NotEnabled, Seen};
+use tile_core::cores::{Core, Turn};
+use tile_core::plan::Plan;
+use tile_core::plan_laws;
+use tile_core::words::{Pass, Words};
+
+/// The core of one worker at the start, by the clauses of `Core::of` of these names.
+pub fn core_of_one_worker<'a>(
+    alloc: Global,
+    plan: &Plan<'a>,
+    cells: &[u64],
+) -> Result<Core<'a>, AllocError>
+    requires plan { IsPlan plan.now }
+    requires cells { length cells.now ≡ (shape_of plan.now).cells }
+    ensures core { IfOk result IsCore }
+    ensures plan { IfOk result (λ c. plan_in c ≡ plan.now) }
+    ensures state { IfOk result (λ c. state_in c ≡ opening_state cells.now 1) }
+    ensures run { IfOk result (λ c. IsRun (plan_of plan.now cells.now) (state_in c)) }
+{
+    Core::of(alloc, plan, cells, 1)
+}
+
+/// A load of the first worker tells what execution reads there, by `reads` of `Core::step`.
+pub fn read_of_the_first_worker(core: &mut Core) -> Result<Seen, NotEnabled>
+    requires core { IsCore core.old }
+    requires worker { 0 < length (state_in core.old).workers }
+    ensures { (opening : List ℕ) → IsRun (plan_of (plan_in core.old) opening) (state_in core.old)
+        → ReadsExecuted (plan_of (plan_in core.old) opening) (state_in core.old) 0 result }
+{
+    core.step(0, Event::Load)
+}
+
+/// One event, by the clauses of `Core::replay` of these names.
+pub fn replay_one(core: &mut Core, turn: Turn)
+    requires core { IsCore core.old }
+    requires worker { turn.worker < length (state_in core.old).workers }
+    ensures core { IsCore core.new }
+    ensures plan { plan_in core.new ≡ plan_in core.old }
+    ensures workers { length (state_in core.new).workers ≡ length (state_in core.old).workers }
+    ensures replay { state_in core.new
+        ≡ (step (shape_of (plan_in core.old)) (state_in core.old) turn.worker (event_of turn.event)).0 }
+    ensures run { (opening : List ℕ) → IsRun (plan_of (plan_in core.old) opening) (state_in core.old)
+        → IsRun (plan_of (plan_in core.old) opening) (state_in core.new) }
+{
+    let turns = [turn];
+    core.replay(&turns);
+}
+
+/// How many cells there are, by the clause of `Core::cells`.
+pub fn cells_in(core: &Core) -> u64
+    ensures { result ≡ length (state_in core.now).cells }
+{
+    core.cells().len() as u64
+}
+
+/// The instance that comes next, by the clause of `Pass::instance`.
+pub fn instance_of(words: &Words, pass: &Pass) -> Option<Instance>
+    requires { IsPass words.now pass.now }
+    ensures { MatchOption result (HasNoneNext words.now.plan pass.now.worker.stage)
+        (IsNextIn words.now.plan pass.now.worker.stage) }
+{
+    pass.instance(words)
+}
+
+/// The first place reads what the arrays hold at first, by `reads` of `plans_execute_the_kernel`; where all tiles are
+/// done the cells are those of execution, by `end`.
+pub fn values_of_plans()
+    ensures reads { (plan : AnyPlan) (contents : List (List ℕ)) (v : Visit) → IsPlan plan
+        → IsShaped (extents_in plan) contents → slice_get (walk_in plan) 0 ≡ Some v
+        → values_read (plan_of plan (flat contents)) 0 ≡ values_read_by (extents_in plan) contents v.body v.point }
+    ensures end { (plan : AnyPlan) (contents : List (List ℕ)) (s : State) → IsPlan plan
+        → IsShaped (extents_in plan) contents → Sound (plan_of plan (flat contents)) s
+        → IsQuiet (plan_of plan (flat contents)) s → (c : Cell) → IsCell (extents_in plan) c
+        → slice_index_or s.cells (cell_number (extents_in plan) c) 0
+        ≡ held (extents_in plan) (exec (program_in plan) plan.params.now contents) c }
+{
+    plan_laws::plans_execute_the_kernel();
+}

@@ -1,0 +1,58 @@
+//! Callers of whole runs: the cells that they leave, in the arrays of the program's own execution.
+ghost use Rattle.array_words.specs.Closing.{IsClosed};
+ghost use Rattle.std.specs.Prelude.{◌≡◌, ℕ, ◌≤◌, IfErr, IfOk, List, get_or, length};
+ghost use Rattle.scop_syntax.specs.Cells.{Cell};
+ghost use Rattle.scop_syntax.specs.Execution.{IsCell, IsShaped, cell_number, exec, held};
+ghost use Rattle.tile_events.specs.Flat.{flat};
+ghost use Rattle.tile_core.specs.Plans.{IsPlan, extents_in, plan_of, program_in, shape_of};
+
+use array_words::Closed;
+use io_ports::{Gate, OpenGate};
+use scop_syntax::execution_laws::cells_have_numbers_of_their_own;
+use std::alloc::{AllocError, Global};
+use std::sync::Wait;
+use std::thread::Threads;
+use tile_core::plan::Plan;
+use tile_events::flat_laws::plans_execute_the_walk;
+use tile_runner::run_plan;
+
+/// A run of one worker, by the clauses of `run_plan` of these names.
+pub fn run_by_one_worker<'a, R: Threads + Wait + Sync>(
+    rt: &R,
+    alloc: Global,
+    plan: Plan<'a>,
+    cells: &mut [u64],
+) -> Result<Closed<'a>, AllocError>
+    requires plan { IsPlan plan }
+    requires cells { length cells.old ≡ (shape_of plan).cells }
+    ensures cells { IfOk result (λ _. IsClosed (plan_of plan.entry cells.old) cells.old cells.new) }
+    ensures plan { IfOk result (λ c. c.plan ≡ plan.entry) }
+    ensures ended { IfOk result (λ c. c.ended ≡ 1) }
+    ensures unchanged { IfErr result (λ _. cells.new ≡ cells.old) }
+{
+    run_plan(rt, alloc, plan, cells, 1, &OpenGate)
+}
+
+/// After a run of any number of workers, over the arrays' contents one behind another, each cell of each array holds
+/// what the program's own execution leaves there, by `cells` of `run_plan`.
+pub fn run_as_executed<'a, R: Threads + Wait + Sync, G: Gate>(
+    rt: &R,
+    alloc: Global,
+    plan: Plan<'a>,
+    cells: &mut [u64],
+    workers: usize,
+    gate: &G,
+) -> Result<Closed<'a>, AllocError>
+    requires plan { IsPlan plan }
+    requires cells { length cells.old ≡ (shape_of plan).cells }
+    requires some { 1 ≤ workers }
+    requires few { workers ≤ 64 }
+    ensures { IfOk result (λ _. (contents : List (List ℕ)) → IsShaped (extents_in plan.entry) contents
+        → cells.old ≡ flat contents → (c : Cell) → IsCell (extents_in plan.entry) c
+        → get_or cells.new (cell_number (extents_in plan.entry) c) 0
+        ≡ held (extents_in plan.entry) (exec (program_in plan.entry) plan.entry.params.now contents) c) }
+{
+    plans_execute_the_walk();
+    cells_have_numbers_of_their_own();
+    run_plan(rt, alloc, plan, cells, workers, gate)
+}

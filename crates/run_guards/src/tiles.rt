@@ -1,0 +1,64 @@
+//! Callers of tiles: their list, and the laws without parameters, at tiles of size 1 and in
+//! the source's order.
+ghost use Rattle.std.specs.Prelude.{◌≡◌, ℕ, [], ◌∷◌, IfOk, List, Some, slice_get};
+ghost use Rattle.scop_syntax.specs.Tree.{Program};
+ghost use Rattle.scop_syntax.specs.Walk.{Instance};
+ghost use Rattle.loop_tree.specs.Conditions.{CanWalk};
+ghost use Rattle.loop_tree.specs.Plans.{AreInOrder};
+ghost use Rattle.loop_tree.specs.Tiling.{Items, kept, tiled};
+ghost use Rattle.loop_tree.specs.TilingView.{tiling_of};
+ghost use Rattle.loop_tree.specs.View.{trees_in};
+ghost use Rattle.loop_tree.specs.Walk.{visits};
+ghost use Rattle.tile_list.specs.Tiles.{AreTiles, AreWaves, CanTile, HaveOneLength, RiseByTile};
+ghost use Rattle.tile_list.specs.TilesView.{IsTileListOf};
+
+use loop_tree::{Tiling, Tree};
+use std::alloc::{AllocError, Global};
+use tile_list::{TileList, laws};
+
+/// The list of tiles of a tree without parameters, by the clause of `tiles`.
+pub fn tiles_without_parameters(
+    alloc: Global,
+    tree: &Tree,
+    tiling: &Tiling,
+) -> Result<TileList, AllocError>
+    requires walk { CanWalk (trees_in tree.now) [] [] }
+    requires rise { RiseByTile (tiling_of tiling.now) (visits (trees_in tree.now) []) }
+    requires fits { CanTile (tiling_of tiling.now) (visits (trees_in tree.now) []) }
+    ensures { IfOk result (λ list. IsTileListOf (trees_in tree.now) [] (tiling_of tiling.now) list) }
+{
+    tile_list::tiles(alloc, tree, tiling, &[])
+}
+
+/// No tile lies in a wave, by the clause of `TileList::waves`.
+pub fn waves_of_tiles(list: &TileList) -> usize
+    ensures { list.now.offsets.items ≡ 0 ∷ [] → result ≡ 0 }
+{
+    list.waves()
+}
+
+/// Instances in the order of tiles of size 1 rise by tile, by the clause of `orders_rise_by_tile`.
+pub fn instances_rise_by_tiles_of_size_1()
+    ensures { (program : Program) (statements : List Items) (xs : List Instance)
+        → AreInOrder program [] (tiled 1 statements) xs → HaveOneLength (tiled 1 statements) xs
+        → RiseByTile (tiled 1 statements) xs }
+{
+    laws::orders_rise_by_tile();
+}
+
+/// Instances have one list of tiles of size 1, by the clause of `tiles_are_unique`.
+pub fn tiles_of_size_1_are_unique()
+    ensures { (statements : List Items) (xs : List Instance) (ps qs : List (List Instance))
+        → AreTiles (tiled 1 statements) xs ps → AreTiles (tiled 1 statements) xs qs → ps ≡ qs }
+{
+    laws::tiles_are_unique();
+}
+
+/// All tiles of the source's order lie in one wave, by `same` of `numbers_tell_waves`.
+pub fn tiles_of_the_source_lie_in_one_wave()
+    ensures { (firsts : List Instance) (numbers : List ℕ) → AreWaves kept firsts numbers → (t u m n : ℕ)
+        (x y : Instance) → slice_get firsts t ≡ Some x → slice_get firsts u ≡ Some y → slice_get numbers t ≡ Some m
+        → slice_get numbers u ≡ Some n → m ≡ n }
+{
+    laws::numbers_tell_waves();
+}

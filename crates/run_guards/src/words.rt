@@ -1,0 +1,78 @@
+//! Callers of the steps of a pass: load, store, claim, opening and end of a tile, and of a run that is over.
+ghost use Rattle.std.specs.Prelude.{◌≡◌, ◌<◌, IfErr, [], length, true};
+ghost use Rattle.array_words.specs.Loads.{DoesLoad, IsNextRead};
+ghost use Rattle.array_words.specs.Stores.{DoesStore, IsNextStore};
+ghost use Rattle.tile_claims.specs.Claims.{DoesClaim};
+ghost use Rattle.tile_core.specs.Passes.{IsPass, plan_in};
+ghost use Rattle.tile_core.specs.Views.{executed, needs_at};
+ghost use Rattle.tile_core.specs.declared.worker.Stage.TheVariants.{Idle};
+ghost use Rattle.wave_barrier.specs.Finishes.{DoesFinish, IsFull};
+ghost use Rattle.wave_barrier.specs.Opens.{DoesOpen, IsHolding};
+
+use array_words::Closed;
+use tile_core::words::{Pass, Words};
+use wave_barrier::NotYet;
+
+/// The value that execution reads, by `value` of `load`; the step on the pass's view, by `event`.
+pub fn value_loaded(words: &Words, pass: &mut Pass, cell: usize) -> u64
+    requires pass { IsPass words.now pass.old }
+    requires next { IsNextRead (plan_in words.now) pass.old.worker.stage pass.old.worker.reads.items cell }
+    ensures value { result ≡ executed (plan_in words.now) pass.old.worker.stage pass.old.worker.reads.items }
+    ensures event { DoesLoad words.now pass.old cell result pass.new }
+{
+    array_words::load(words, pass, cell)
+}
+
+/// The step on the pass's view, by `event` of `store`.
+pub fn zero_stored(words: &Words, pass: &mut Pass, cell: usize)
+    requires pass { IsPass words.now pass.old }
+    requires next { IsNextStore (plan_in words.now) pass.old.worker.stage pass.old.worker.reads.items cell 0 }
+    ensures { DoesStore words.now pass.old cell 0 pass.new }
+{
+    array_words::store(words, pass, cell, 0);
+}
+
+/// Nothing is read yet, by `reads` of `claim`; the step on the pass's view, by `event`.
+pub fn tile_claimed(words: &Words, pass: &mut Pass) -> Option<u64>
+    requires pass { IsPass words.now pass.old }
+    requires idle { pass.old.worker.stage ≡ Idle }
+    ensures reads { pass.new.worker.reads.items ≡ [] }
+    ensures event { DoesClaim words.now pass.old result pass.new }
+{
+    tile_claims::claim(words, pass)
+}
+
+/// Fewer tiles are finished than lie in earlier waves, by `not_yet` of `try_open`; the step on the pass's view, by
+/// `event`.
+pub fn tile_opened(words: &Words, pass: &mut Pass) -> Result<(), NotYet>
+    requires pass { IsPass words.now pass.old }
+    requires holding { IsHolding pass.old.worker.stage }
+    ensures not_yet { IfErr result (λ e. e.done < needs_at (plan_in words.now) pass.old.worker.stage) }
+    ensures event { DoesOpen words.now pass.old result pass.new }
+{
+    wave_barrier::try_open(words, pass)
+}
+
+/// Nothing is read yet, by `reads` of `finish`; the step on the pass's view, by `event`.
+pub fn tile_finished(words: &Words, pass: &mut Pass)
+    requires pass { IsPass words.now pass.old }
+    requires full { IsFull (plan_in words.now) pass.old.worker.stage }
+    ensures reads { pass.new.worker.reads.items ≡ [] }
+    ensures event { DoesFinish words.now pass.old pass.new }
+{
+    wave_barrier::finish(words, pass);
+}
+
+/// How many tiles the plan of a run had, by the clause of `Closed::plan`.
+pub fn tiles_of_a_run(closed: &Closed) -> usize
+    ensures { result ≡ length closed.now.plan.list.now.tiles.items }
+{
+    closed.plan().list.tiles.len()
+}
+
+/// Whether every one of so many workers has ended, by the clause of `Closed::ended`.
+pub fn all_ended(closed: &Closed, workers: usize) -> bool
+    ensures { result ≡ true → closed.now.ended ≡ workers }
+{
+    closed.ended() == workers
+}
