@@ -8,12 +8,10 @@ ghost use Rattle.tile_core.specs.Plans.{IsPlan, extents_in, plan_of, program_in,
 
 use array_words::Closed;
 use io_ports::{Gate, OpenGate};
-use scop_syntax::execution_laws::cells_have_numbers_of_their_own;
 use std::alloc::{AllocError, Global};
 use std::sync::Wait;
 use std::thread::Threads;
 use tile_core::plan::Plan;
-use tile_events::flat_laws::plans_execute_the_walk;
 use tile_runner::run_plan;
 
 /// A run of one worker, by the clauses of `run_plan` of these names.
@@ -34,7 +32,7 @@ pub fn run_by_one_worker<'a, R: Threads + Wait + Sync>(
 }
 
 /// After a run of any number of workers, over the arrays' contents one behind another, each cell of each array holds
-/// what the program's own execution leaves there, by `cells` of `run_plan`.
+/// what the program's own execution leaves there, by `arrays` of `run_plan`.
 pub fn run_as_executed<'a, R: Threads + Wait + Sync, G: Gate>(
     rt: &R,
     alloc: Global,
@@ -52,7 +50,5 @@ pub fn run_as_executed<'a, R: Threads + Wait + Sync, G: Gate>(
         → get_or cells.new (cell_number (extents_in plan.entry) c) 0
         ≡ held (extents_in plan.entry) (exec (program_in plan.entry) plan.entry.params.now contents) c) }
 {
-    plans_execute_the_walk();
-    cells_have_numbers_of_their_own();
     run_plan(rt, alloc, plan, cells, workers, gate)
 }

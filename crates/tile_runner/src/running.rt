@@ -1,18 +1,23 @@
 //! The run of all workers.
 ghost use Rattle.array_words.specs.Closing.{IsClosed};
-ghost use Rattle.std.specs.Prelude.{◌≡◌, ◌<◌, ◌≤◌, All, IfErr, IfOk, length};
-ghost use Rattle.tile_core.specs.Plans.{IsPlan, plan_of, shape_of};
+ghost use Rattle.std.specs.Prelude.{◌≡◌, ℕ, ◌<◌, ◌≤◌, All, IfErr, IfOk, List, get_or, length};
+ghost use Rattle.scop_syntax.specs.Cells.{Cell};
+ghost use Rattle.scop_syntax.specs.Execution.{IsCell, IsShaped, cell_number, exec, held};
+ghost use Rattle.tile_core.specs.Plans.{IsPlan, extents_in, plan_of, program_in, shape_of};
+ghost use Rattle.tile_events.specs.Flat.{flat};
 ghost use Rattle.tile_runner.specs.Running.{IsOver, IsReady};
 
 use crate::working::work;
 use array_words::{Closed, close, start};
 use io_ports::Gate;
+use scop_syntax::execution_laws::cells_have_numbers_of_their_own;
 use std::alloc::{AllocError, Global};
 use std::sync::Wait;
 use std::thread;
 use std::thread::Threads;
 use tile_core::plan::Plan;
 use tile_core::words::{Pass, Words};
+use tile_events::flat_laws::plans_execute_the_walk;
 
 /// Runs every pass, on at most so many threads.
 fn work_all<R: Threads + Wait + Sync, G: Gate>(
@@ -38,12 +43,8 @@ fn work_all<R: Threads + Wait + Sync, G: Gate>(
     );
 }
 
-/// Runs the plan on these cells with so many workers, each on a thread where there is one. All memory is taken before
-/// the first claim.
-///
-/// # Errors
-/// `AllocError`; the cells are then as they were.
-pub fn run_plan<'a, R: Threads + Wait + Sync, G: Gate>(
+/// Starts the words of the plan, runs every pass, and puts the words back into the cells.
+fn run_passes<'a, R: Threads + Wait + Sync, G: Gate>(
     rt: &R,
     alloc: Global,
     plan: Plan<'a>,
@@ -63,4 +64,36 @@ pub fn run_plan<'a, R: Threads + Wait + Sync, G: Gate>(
     let (words, mut passes) = start(alloc, plan, cells, workers)?;
     work_all(rt, &words, &mut passes, workers, gate);
     Ok(close(words, passes, cells))
+}
+
+/// Runs the plan on these cells with so many workers, each on a thread where there is one. All memory is taken before
+/// the first claim. Where the cells are those of all arrays, one array behind another, each is left as the kernel's own
+/// execution leaves it.
+///
+/// # Errors
+/// `AllocError`; the cells are then as they were.
+pub fn run_plan<'a, R: Threads + Wait + Sync, G: Gate>(
+    rt: &R,
+    alloc: Global,
+    plan: Plan<'a>,
+    cells: &mut [u64],
+    workers: usize,
+    gate: &G,
+) -> Result<Closed<'a>, AllocError>
+    requires plan { IsPlan plan }
+    requires cells { length cells.old ≡ (shape_of plan).cells }
+    requires some { 1 ≤ workers }
+    requires few { workers ≤ 64 }
+    ensures arrays { IfOk result (λ _. (contents : List (List ℕ)) → IsShaped (extents_in plan.entry) contents
+        → cells.old ≡ flat contents → (c : Cell) → IsCell (extents_in plan.entry) c
+        → get_or cells.new (cell_number (extents_in plan.entry) c) 0
+        ≡ held (extents_in plan.entry) (exec (program_in plan.entry) plan.entry.params.now contents) c) }
+    ensures cells { IfOk result (λ _. IsClosed (plan_of plan.entry cells.old) cells.old cells.new) }
+    ensures plan { IfOk result (λ c. c.plan ≡ plan.entry) }
+    ensures ended { IfOk result (λ c. c.ended ≡ workers) }
+    ensures unchanged { IfErr result (λ _. cells.new ≡ cells.old) }
+{
+    plans_execute_the_walk();
+    cells_have_numbers_of_their_own();
+    run_passes(rt, alloc, plan, cells, workers, gate)
 }

@@ -1,40 +1,26 @@
-use Rattle.std.proofs.Common.{rules, arith, ◌≡◌, ◌++◌, ◌∙◌, length, take, drop, ap, subst, List, ℕ}
-use Rattle.tile_core.specs.declared.plan.Plan.{Plan}
-use Rattle.tile_core.specs.Plans.{plan_of}
-use Rattle.tile_events.specs.Sound.{total}
-use Rattle.tile_core.specs.declared.words.Pass.{Pass}
-use Rattle.array_words.specs.Closing.{IsClosed, one_if_ended, stage_in}
-use Rattle.tile_runner.proofs.Passes.{all_over, rewritten}
+-- The cells at the end of a plan's own execution are those of the walk's, which is the program's execution.
+use Rattle.std.proofs.Common.{refl, ◌∙◌, subst, List, ℕ}
+use Rattle.array_words.specs.Closing.{IsClosed}
+use Rattle.scop_syntax.specs.Execution.{cell_number}
+use Rattle.tile_core.specs.Plans.{extents_in, plan_of, walk_in}
+use Rattle.tile_events.specs.Flat.{IsWalk, flat}
+use Rattle.tile_runner.proofs.Results.{if_ok}
 use Rattle.tile_runner.proofs.running.run_plan.Goals as goal
 
-pub close-requires-clause-over : goal.close-requires-clause-over
-close-requires-clause-over g c =
-    let n : c.in_ok-words.passes.len ≡ length c.in_ok-words.passes.items = search rules in
-    let l : length c.work_all.new.passes ≡ length c.in_ok-words.passes.items = search rules in
-    let same : take c.in_ok-words.passes.len (c.work_all.new.passes ++ drop (length c.work_all.new.passes) c.in_ok-words.passes.items) ≡ c.work_all.new.passes =
-    ap (λ (m : ℕ). take m (c.work_all.new.passes ++ drop (length c.work_all.new.passes) c.in_ok-words.passes.items)) n ∙ rewritten c.work_all.new.passes c.in_ok-words.passes.items l in
-    let over = all_over c.in_ok-words.words c.work_all.new.passes c.work_all.ensures.passes in
-    let t = ap (total (λ (p : Pass). one_if_ended (stage_in p))) same in
-    let k : length c.in_ok-words.passes.items ≡ c.args.workers = search rules in
-    let w = c.requires.some in
-    omega (arith, over, t, k, l, w)
-
-pub returns-clause-ended : goal.returns-clause-ended
-returns-clause-ended g c =
-    let n : c.in_ok-words.passes.len ≡ length c.in_ok-words.passes.items = search rules in
-    let l : length c.work_all.new.passes ≡ length c.in_ok-words.passes.items = search rules in
-    let same : take c.in_ok-words.passes.len (c.work_all.new.passes ++ drop (length c.work_all.new.passes) c.in_ok-words.passes.items) ≡ c.work_all.new.passes =
-    ap (λ (m : ℕ). take m (c.work_all.new.passes ++ drop (length c.work_all.new.passes) c.in_ok-words.passes.items)) n ∙ rewritten c.work_all.new.passes c.in_ok-words.passes.items l in
-    let over = all_over c.in_ok-words.words c.work_all.new.passes c.work_all.ensures.passes in
-    let t = ap (total (λ (p : Pass). one_if_ended (stage_in p))) same in
-    let k : length c.in_ok-words.passes.items ≡ c.args.workers = search rules in
-    let e = c.close.ensures.ended in
-    omega (arith, over, t, k, l, e)
-
-pub returns-clause-cells : goal.returns-clause-cells
-returns-clause-cells g c =
-    let old = c.args.cells.now in
-    let new = c.close.new.cells in
-    let k = c.in_ok-words.ensures.key in
-    subst (λ (p : Plan). IsClosed (plan_of p old) old new) k.planned
-    (subst (λ (xs : List ℕ). IsClosed (plan_of c.in_ok-words.words.plan xs) old new) k.opening c.close.ensures.cells)
+pub returns-clause-arrays : goal.returns-clause-arrays
+returns-clause-arrays g c = if_ok c.run_passes.result
+    (λ closed is contents shaped same d cell.
+    let plan = c.args.plan in
+    let extents = extents_in plan in
+    let over = subst (λ (xs : List ℕ). IsClosed (plan_of plan xs) c.args.cells.now c.run_passes.new.cells) same is in
+    let p = plan_of plan (flat contents) in
+    let walk : IsWalk extents contents (walk_in plan) p = record {
+      written = λ j. refl;
+      read = λ j. refl;
+      value = λ j xs. refl;
+      initial = λ e inside. c.plans_execute_the_walk.ensures.row extents contents e shaped inside;
+    } in
+    over.cells (cell_number extents d) (c.cells_have_numbers_of_their_own.ensures.below extents d cell)
+    ∙ c.plans_execute_the_walk.ensures.end extents contents (walk_in plan) p walk refl shaped c.requires.plan.inside d
+    cell)
+    c.run_passes.ensures.cells
