@@ -22,7 +22,7 @@ mod told;
 pub use in_memory::command_in_memory;
 pub use laws::{
     only_emit_has_lines, printed_arrays_are_data, printed_loops_are_read_back,
-    printed_sources_tell_last_writes, taken_words_name_a_command,
+    printed_loops_run_the_kernel, printed_sources_tell_last_writes, taken_words_name_a_command,
 };
 pub use plain::{deserved_once, plain_command, polypar};
 pub use report_text::{DataRefusal, Outside, Refusal, RefusalKind, Status};

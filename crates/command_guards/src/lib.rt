@@ -1,0 +1,100 @@
+//! Callers that hold the laws of the top call in place: each function calls one law, and its own contract follows from
+//! one clause of that law alone. Where such a clause is emptied, weakened or given a premise that its callers do not
+//! meet, the caller here no longer proves. Nothing is built on this crate.
+#![tactic(auto)]
+
+ghost use Rattle.std.specs.Prelude.{All, ◌≡◌, ◌<◌, ◌^◌, ℕ, [], List, Option};
+ghost use Rattle.io_ports.specs.Reads.{SourceShows};
+ghost use Rattle.io_ports.specs.Writes.{SinkShows};
+ghost use Rattle.scop_syntax.specs.Execution.{IsShaped, layout};
+ghost use Rattle.scop_syntax.specs.Limits.{WithinLimits};
+ghost use Rattle.scop_syntax.specs.Members.{In};
+ghost use Rattle.scop_syntax.specs.Tree.{Program};
+ghost use Rattle.scop_parser.specs.Spelling.{SpellsProgram};
+ghost use Rattle.data_text.specs.Cases.{Says};
+ghost use Rattle.data_text.specs.Written.{case_text};
+ghost use Rattle.report_text.specs.declared.status.Status.TheVariants.{Done};
+ghost use Rattle.report_text.specs.declared.status.Status.{Status};
+ghost use Rattle.polypar.specs.Answered.{Answered, HasLines, PrintsText, PrintsTold};
+ghost use Rattle.polypar.specs.Command.{IsDepsCommand, IsEmitCommand, IsTaken, NamesCommand, command_names};
+ghost use Rattle.polypar.specs.Deserves.{Deserves, IsVerdict};
+ghost use Rattle.polypar.specs.Emitting.{ReadsAsLoops};
+ghost use Rattle.polypar.specs.Running.{RunsKernel};
+ghost use Rattle.polypar.specs.Sources.{TellsLastWrites};
+
+use polypar::{
+    deserved_once, only_emit_has_lines, printed_arrays_are_data, printed_loops_are_read_back,
+    printed_loops_run_the_kernel, printed_sources_tell_last_writes, taken_words_name_a_command,
+};
+
+/// Any words and any input deserve a status, by `some` of `deserved_once`.
+pub fn statuses_that_are_deserved()
+    ensures { (words : List (List ℕ)) (input : List ℕ)
+        → (status : Status) × IsVerdict status × Deserves words input status }
+{
+    deserved_once();
+}
+
+/// They deserve one at most, by `one` of `deserved_once`.
+pub fn statuses_deserved_without_input()
+    ensures { (words : List (List ℕ)) (a b : Status) → Deserves words [] a → Deserves words [] b → a ≡ b }
+{
+    deserved_once();
+}
+
+/// What `run` prints of a kernel without parameters is data, by the clause of `printed_arrays_are_data`.
+pub fn arrays_of_kernels_without_parameters()
+    ensures { (text : List ℕ) (program : Program) (contents : List (List ℕ)) → SpellsProgram text program
+        → WithinLimits program [] → IsShaped (layout program []) contents
+        → All (λ array. All (λ cell. cell < 2 ^ 64) array) contents
+        → Says (case_text program [] contents) program [] contents }
+{
+    printed_arrays_are_data();
+}
+
+/// What `deps` prints with budget 1, by the clause of `printed_sources_tell_last_writes`.
+pub fn sources_within_one_move()
+    ensures { (words : List (List ℕ)) (source source_after : SourceShows) (out out_after err err_after : SinkShows)
+        → Answered words Done source source_after out out_after err err_after → IsDepsCommand 1 words
+        → PrintsText TellsLastWrites source.left out.taken out_after.taken }
+{
+    printed_sources_tell_last_writes();
+}
+
+/// What `emit` prints of tiles of size 1, by the clause of `printed_loops_are_read_back`.
+pub fn loops_of_tiles_of_size_1()
+    ensures { (words : List (List ℕ)) (budget : ℕ) (source source_after : SourceShows)
+        (out out_after err err_after : SinkShows)
+        → Answered words Done source source_after out out_after err err_after → IsEmitCommand 1 budget words
+        → PrintsTold (ReadsAsLoops 1 budget) source.left out out_after err err_after }
+{
+    printed_loops_are_read_back();
+}
+
+/// What these do, by the clause of `printed_loops_run_the_kernel`.
+pub fn runs_of_tiles_of_size_1()
+    ensures { (words : List (List ℕ)) (budget : ℕ) (source source_after : SourceShows)
+        (out out_after err err_after : SinkShows)
+        → Answered words Done source source_after out out_after err err_after → IsEmitCommand 1 budget words
+        → PrintsText RunsKernel source.left out.taken out_after.taken }
+{
+    printed_loops_run_the_kernel();
+}
+
+/// What `err` has of a command that is not `emit`, where nothing was told before, by the clause of
+/// `only_emit_has_lines`.
+pub fn lines_of_other_commands()
+    ensures { (words : List (List ℕ)) (left : Option (List ℕ)) (out : SinkShows) (lines : List ℕ)
+        → HasLines words left Done out out lines
+        → ((tile budget : ℕ) → IsEmitCommand tile budget words → ⊥) → lines ≡ [] }
+{
+    only_emit_has_lines();
+}
+
+/// Of words that are taken one names a command, by the clause of `taken_words_name_a_command`.
+pub fn commands_of_words()
+    ensures { (words : List (List ℕ)) → IsTaken words
+        → (name : List ℕ) × In name command_names × NamesCommand name words }
+{
+    taken_words_name_a_command();
+}
