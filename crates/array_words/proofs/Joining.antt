@@ -1,5 +1,5 @@
 -- A pass that holds no tile may be joined into a seat that holds none.
-use Rattle.std.proofs.Common.{◌≡◌, ℕ, zero, suc, ◌+◌, ◌≤◌, ◌⊎◌, inl, inr, List, [], ◌∷◌, ◌++◌, ap, refl, arith}
+use Rattle.std.proofs.Common.{◌≡◌, ℕ, zero, suc, ◌+◌, ◌≤◌, ◌⊎◌, inl, inr, List, [], ◌∷◌, ◌++◌, refl, arith}
 use Rattle.atomic_table.specs.Table.{Joins}
 use Rattle.tile_events.specs.Core as core
 use Rattle.tile_events.specs.Sound.{total}
@@ -12,7 +12,7 @@ use Rattle.tile_core.specs.Workers.{staged}
 use Rattle.tile_core.specs.declared.view.Key.{Key}
 use Rattle.tile_core.specs.declared.view.View.{View}
 use Rattle.tile_core.specs.Views.{key_plan, worker_in, parts_in, Ruled}
-use Rattle.array_words.specs.Closing.{joined, together, spent_view, Rests, one_if_ended, stage_after}
+use Rattle.array_words.specs.Closing.{joined, together, spent_view, Rests, stage_after}
 
 at_rest : (s : Stage) (xs : List ℕ) → Rests s → AtRest (staged s xs)
 at_rest Idle xs r = tt
@@ -59,26 +59,6 @@ join_allowed allowed key id v other u r q =
 pub rests_after : (n : ℕ) → Rests (stage_after n)
 rests_after zero = tt
 rests_after (suc n) = tt
-
--- the stage of the seat after one more
-pub joined_after : (n : ℕ) (s : Stage) → Rests s → joined (stage_after n) s ≡ stage_after (n + one_if_ended s)
-joined_after zero Idle r = refl
-joined_after zero Ended r = refl
-joined_after zero (Holding t) r = absurd r
-joined_after zero (Working t k) r = absurd r
-joined_after (suc n) s r = ap stage_after (let q : suc (n + one_if_ended s) ≡ suc n + one_if_ended s = omega arith in q)
-
-pub first_after : (s : Stage) → Rests s → s ≡ stage_after (one_if_ended s)
-first_after Idle r = refl
-first_after Ended r = refl
-first_after (Holding t) r = absurd r
-first_after (Working t k) r = absurd r
-
-pub one_at_most : (s : Stage) → one_if_ended s ≤ 1
-one_at_most Idle = omega arith
-one_at_most Ended = omega arith
-one_at_most (Holding t) = omega arith
-one_at_most (Working t k) = omega arith
 
 pub total_last : {A : Type 0} (f : A → ℕ) (xs : List A) (y : A) → total f (xs ++ y ∷ []) ≡ total f xs + f y
 total_last f [] y = omega arith
