@@ -1,0 +1,64 @@
+//! Generated kernels: how many cells a run of each leaves, and their sum; the lines that tell of a run.
+
+ghost use Rattle.std.specs.Prelude.{◌≤◌};
+
+use kernel_gen::{Kind, cells_in, generated, sum_of, summary};
+use report_text::tiles_text;
+use scop_meaning::interpreter::run_plain;
+use std::alloc::{AllocError, Global};
+use std::test::Fail;
+
+/// A kind, a seed and a size; how many cells are left, and their sum modulo 2^64.
+const CASES: &[(Kind, u64, u64, u64, u64)] = &[
+    (Kind::Sweep, 0, 1, 3, 3326683750974675154),
+    (Kind::Sweep, 0, 2, 4, 5868043997075344662),
+    (Kind::Chain, 5, 3, 28, 6724180078208978910),
+    (Kind::Product, 7, 2, 12, 16495402313678052386),
+];
+
+/// How many cells the run of a generated kernel leaves, and their sum.
+fn left(alloc: Global, kind: Kind, seed: u64, size: u64) -> Result<(u64, u64), AllocError>
+    requires low { 1 ≤ size }
+    requires high { size ≤ 512 }
+{
+    let (kernel, mut case) = generated(alloc, kind, seed, size)?;
+    run_plain(&kernel, &case.params, &mut case.arrays);
+    let cells = cells_in(&case);
+    let sum = sum_of(&case.arrays);
+    Ok((cells, sum))
+}
+
+/// Whether the run of a generated kernel leaves so many cells with this sum.
+fn is_left(alloc: Global, case: &(Kind, u64, u64, u64, u64)) -> Result<bool, AllocError> {
+    let (kind, seed, size, cells, sum) = *case;
+    if size < 1 || 512 < size {
+        return Ok(false);
+    }
+    let (found, total) = left(alloc, kind, seed, size)?;
+    Ok(found == cells && total == sum)
+}
+
+#[test]
+fn generated_kernels_leave_these_cells(rt: HostRuntime) -> Result<(), Fail> {
+    for case in CASES {
+        assert!(rt; is_left(rt.alloc(), case)?);
+    }
+    Ok(())
+}
+
+#[test]
+fn a_summary_has_three_lines(rt: HostRuntime) -> Result<(), Fail> {
+    let text = summary(rt.alloc(), Kind::Sweep, 0, 1, 1, 1, 3, 3326683750974675154)?;
+    let wanted: &[u8] =
+        b"gen sweep seed 0 size 1\ntiles 1 waves 1\ncells 3 sum 3326683750974675154\n";
+    assert!(rt; text.as_slice() == wanted);
+    Ok(())
+}
+
+#[test]
+fn tiles_waves_and_workers_are_told(rt: HostRuntime) -> Result<(), Fail> {
+    let text = tiles_text(rt.alloc(), 6, 5, 64)?;
+    let wanted: &[u8] = b"tiles 6 waves 5 workers 64\n";
+    assert!(rt; text.as_slice() == wanted);
+    Ok(())
+}
