@@ -16,15 +16,17 @@ ghost use Rattle.data_text.specs.Written.{case_text};
 ghost use Rattle.report_text.specs.declared.status.Status.TheVariants.{Done};
 ghost use Rattle.report_text.specs.declared.status.Status.{Status};
 ghost use Rattle.polypar.specs.Answered.{Answered, HasLines, PrintsText, PrintsTold};
-ghost use Rattle.polypar.specs.Command.{IsDepsCommand, IsEmitCommand, IsTaken, NamesCommand, command_names};
+ghost use Rattle.command_line.specs.Command.{IsDepsCommand, IsEmitCommand, IsScheduleCommand, IsTaken};
+ghost use Rattle.command_line.specs.Command.{NamesCommand, command_names};
 ghost use Rattle.polypar.specs.Deserves.{Deserves, IsVerdict};
 ghost use Rattle.polypar.specs.Emitting.{ReadsAsLoops};
 ghost use Rattle.polypar.specs.Running.{RunsKernel};
 ghost use Rattle.polypar.specs.Sources.{TellsLastWrites};
 
+use command_line::taken_words_name_a_command;
 use polypar::{
-    deserved_once, only_emit_has_lines, printed_arrays_are_data, printed_loops_are_read_back,
-    printed_loops_run_the_kernel, printed_sources_tell_last_writes, taken_words_name_a_command,
+    deserved_once, only_plans_have_lines, printed_arrays_are_data, printed_loops_are_read_back,
+    printed_loops_run_the_kernel, printed_sources_tell_last_writes,
 };
 
 /// Any words and any input deserve a status, by `some` of `deserved_once`.
@@ -81,14 +83,20 @@ pub fn runs_of_tiles_of_size_1()
     printed_loops_run_the_kernel();
 }
 
-/// What `err` has of a command that is not `emit`, where nothing was told before, by the clause of
-/// `only_emit_has_lines`.
-pub fn lines_of_other_commands()
+/// What `err` has of `schedule` with budget 1, where nothing was told before, by `schedule` of `only_plans_have_lines`.
+pub fn lines_of_schedules_within_one_move()
     ensures { (words : List (List ℕ)) (left : Option (List ℕ)) (out : SinkShows) (lines : List ℕ)
-        → HasLines words left Done out out lines
-        → ((tile budget : ℕ) → IsEmitCommand tile budget words → ⊥) → lines ≡ [] }
+        → HasLines words left Done out out lines → IsScheduleCommand 1 words → lines ≡ [] }
 {
-    only_emit_has_lines();
+    only_plans_have_lines();
+}
+
+/// The same of `deps`, by `deps` of `only_plans_have_lines`.
+pub fn lines_of_sources_within_one_move()
+    ensures { (words : List (List ℕ)) (left : Option (List ℕ)) (out : SinkShows) (lines : List ℕ)
+        → HasLines words left Done out out lines → IsDepsCommand 1 words → lines ≡ [] }
+{
+    only_plans_have_lines();
 }
 
 /// Of words that are taken one names a command, by the clause of `taken_words_name_a_command`.

@@ -1,11 +1,11 @@
 -- From what the parts of a call answer to what the call promises.
 use Rattle.std.proofs.Common.{◌≡◌, ◌≢◌, ◌⊎◌, ◌∙◌, sym, subst, ap, refl, inl, inr, ℕ, ◌+◌, ◌≤◌, ◌<◌, List, [], ◌∷◌, ◌++◌}
-use Rattle.std.proofs.Common.{length, Option, None, Some, append-nil, arith}
+use Rattle.std.proofs.Common.{length, Bool, Option, None, Some, append-nil, arith}
 use Rattle.std.specs.Prelude.{replicate, option_map}
 use Rattle.std.proofs.Common.{Bor}
 use Rattle.std.specs.Option.{option_copied}
 use Rattle.std.proofs.lemmas.List.{length-replicate}
-use Rattle.std.specs.Io.KnownBytes.{Appends, IsAtEnd}
+use Rattle.std.specs.Io.KnownBytes.{Appends}
 use Rattle.std.proofs.KnownBytes.{Appends-nil, Appends-trans}
 use Rattle.io_ports.specs.Faults.{Rose}
 use Rattle.io_ports.specs.Bytes.{IsAllOf, IsLonger, GainsFront}
@@ -18,21 +18,24 @@ use Rattle.scop_syntax.specs.Tree.{Program}
 use Rattle.report_text.specs.declared.status.Status.{Status}
 use Rattle.report_text.specs.declared.status.Status.TheVariants.{Done, Usage, Refused, BadData, Outside, ReadFault}
 use Rattle.report_text.specs.declared.status.Status.TheVariants.{WriteFault, NoMemory}
-use Rattle.polypar.specs.declared.command.Command.{Command}
-use Rattle.polypar.specs.declared.command.Command.TheVariants.{Run, OfKernel}
-use Rattle.polypar.specs.declared.command.KernelCommand.{KernelCommand}
-use Rattle.polypar.specs.declared.command.KernelCommand.TheVariants.{Schedule, Deps, Emit}
-use Rattle.polypar.specs.Command.{IsTaken, command_of}
+use Rattle.command_line.specs.declared.command.Command.{Command}
+use Rattle.command_line.specs.declared.command.Command.TheVariants.{Run, OfKernel, Gen}
+use Rattle.command_line.specs.declared.command.KernelCommand.{KernelCommand}
+use Rattle.command_line.specs.declared.command.KernelCommand.TheVariants.{Schedule, Deps, Emit}
+use Rattle.command_line.specs.declared.command.GeneratedKernel.{GeneratedKernel}
+use Rattle.command_line.specs.declared.command.RunOptions.{RunOptions}
+use Rattle.command_line.specs.Command.{IsTaken, command_of}
 use Rattle.polypar.specs.Case.{Accepted}
-use Rattle.polypar.specs.Planning.{IsPlanText}
+use Rattle.kernel_plans.specs.Planning.{IsPlanText}
 use Rattle.polypar.specs.Sources.{IsSourcesText}
 use Rattle.polypar.specs.Told.{Told, IsTextAlone}
-use Rattle.polypar.specs.Deserves.{DeservesInput, DeservesFor, Deserves, AsksFor, Asks}
+use Rattle.polypar.specs.Deserves.{DeservesInput, DeservesFor, Deserves, AsksFor, Asks, IsReadBy}
 use Rattle.report_text.specs.StatusText.{status_text}
 use Rattle.polypar.specs.KernelText.{IsTextFor}
 use Rattle.polypar.specs.Answers.{WritesTold, CutsTold, AreUntouched, AnswersFor, AnswersCommand, AnswersWords}
 use Rattle.polypar.specs.Answers.{IsReadOn, TellsStatus}
-use Rattle.polypar.specs.Answered.{PrintsArrays, PrintsText, PrintsTold, PrintsFront, IsDeserved, NamesOf, IsFrontOf}
+use Rattle.polypar.specs.Answered.{PrintsArrays, PrintsSummary, PrintsText, PrintsTold, PrintsFront}
+use Rattle.polypar.specs.Answered.{IsDeserved, NamesOf, IsFrontOf}
 use Rattle.polypar.specs.Answered.{HasLines, GainsTo, GainsLine, NoneRose, HasRoomForText, Answered}
 
 -- an accepted input deserves Done
@@ -50,8 +53,9 @@ accepted_is_done input a = inl (
 -- so does one that asks a command for something
 asks_is_done : (command : Command) (input : List ℕ) (told : Told) → AsksFor command input told
     → DeservesFor command input Done
-asks_is_done Run input told asks = accepted_is_done input asks.0
+asks_is_done (Run options report) input told asks = accepted_is_done input asks.0
 asks_is_done (OfKernel asked) input told asks = inl (asks.0.short, inl (asks.0.program, asks.0.spelled, refl))
+asks_is_done (Gen generated options) input told asks = refl
 
 -- words and an input deserve one status
 abbrev pub OneVerdict : Type 0
@@ -137,7 +141,7 @@ done_flushed command status source source_after out out_after err mid after is (
       whole = read.whole;
       answer = subst (λ s. AnswersFor command s read.input out out_after err after) (sym is)
           (answer.0, answer.1, told_flushed answer.0 out out_after err mid after answer.2 flushed);
-      at_end = read.at_end;
+      read = read.read;
     })
 done_flushed command status source source_after out out_after err mid after is (inr broken) flushed =
     absurd (let both = sym is ∙ broken.fault in cc)
@@ -153,7 +157,7 @@ done_unflushed command status source source_after out out_after err mid after is
       input = read.input;
       whole = read.whole;
       answer = (answer.0, answer.1, told_unflushed answer.0 out out_after err mid after answer.2 failed);
-      at_end = λ e. cc;
+      read = λ e. cc;
     })
 done_unflushed command status source source_after out out_after err mid after is (inr broken) failed =
     absurd (let both = sym is ∙ broken.fault in cc)
@@ -166,15 +170,27 @@ PrintsFor command left out out_after err err_after =
     (input : List ℕ) × (told : Told) × IsAllOf left input × AsksFor command input told
     × Appends out.taken out_after.taken told.text × Appends err.taken err_after.taken told.lines
 
-prints_arrays : (command : Command) (left : Option (List ℕ)) (out out_after err err_after : SinkShows) → command ≡ Run
-    → PrintsFor command left out out_after err err_after → PrintsArrays left out.taken out_after.taken
-prints_arrays command left out out_after err err_after is printed =
+prints_arrays : (options : RunOptions) (report : Bool) (command : Command) (left : Option (List ℕ))
+    (out out_after err err_after : SinkShows) → command ≡ Run options report
+    → PrintsFor command left out out_after err err_after
+    → PrintsArrays options report left out out_after err err_after
+prints_arrays options report command left out out_after err err_after is printed =
     let run = subst (λ c. PrintsFor c left out out_after err err_after) is printed in (
       run.0,
       run.3.0,
+      run.1.lines,
       run.2,
-      subst (λ told. Appends out.taken out_after.taken told.text) run.3.1 run.4,
+      run.3.1.lines,
+      subst (λ text. Appends out.taken out_after.taken text) run.3.1.text run.4,
+      run.5,
     )
+
+prints_summary : (kernel : GeneratedKernel) (options : RunOptions) (command : Command) (left : Option (List ℕ))
+    (out out_after err err_after : SinkShows) → command ≡ Gen kernel options
+    → PrintsFor command left out out_after err err_after → PrintsSummary kernel options out out_after err err_after
+prints_summary kernel options command left out out_after err err_after is printed =
+    let all = subst (λ c. PrintsFor c left out out_after err err_after) is printed in
+    (all.1, all.3.0, all.4, all.5)
 
 prints_told : (asked : KernelCommand) (command : Command) (left : Option (List ℕ))
     (out out_after err err_after : SinkShows) → command ≡ OfKernel asked
@@ -260,11 +276,12 @@ module _ (words : List (List ℕ)) (named : Option Program) (source source_after
       subst (λ s. AnswersFor (command_of words) s input out out_after err mid) is answer
 
   done : (status : Status) → Ends status → status ≡ Done
-      → WritesAsked (λ told. WritesTold told out out_after err mid) × IsAtEnd source_after.left
+      → WritesAsked (λ told. WritesTold told out out_after err mid)
+      × IsReadBy (command_of words) source source_after
   done status (inl none) is = not_begun status Done none.usage is (λ e. cc) (λ e. cc)
   done status (inr (taken, inl read)) is =
       let answer = answer_at status Done read.input is read.answer in
-      ((read.input, answer.0, read.whole, (taken, answer.1), answer.2), read.at_end is)
+      ((read.input, answer.0, read.whole, (taken, answer.1), answer.2), read.read is)
   done status (inr (taken, inr broken)) is = one_status status ReadFault Done broken.fault is (λ e. cc)
 
   cut : (status : Status) → Ends status → status ≡ WriteFault
@@ -481,12 +498,15 @@ answered law words status named source source_after out out_after err mid after 
     let asked = λ (k : KernelCommand) (is : command_of words ≡ OfKernel k) (finished : status ≡ Done).
     prints_told k (command_of words) source.left out out_after err after is (all finished) in
     record {
-      done = λ run is. prints_arrays (command_of words) source.left out out_after err after run.1 (all is);
+      done = λ options report run is.
+          prints_arrays options report (command_of words) source.left out out_after err after run.1 (all is);
       scheduled = λ budget plan is. prints_text (IsPlanText budget) source.left out out_after err after
           (asked (Schedule budget) plan.1 is);
       sourced = λ budget deps is. prints_text (IsSourcesText budget) source.left out out_after err after
           (asked (Deps budget) deps.1 is);
       emitted = λ tile budget emit is. asked (Emit tile budget) emit.1 is;
+      generated = λ kernel options gen is.
+          prints_summary kernel options (command_of words) source.left out out_after err after gen.1 (all is);
       read_whole = λ is. (done words named source source_after out out_after err mid after status ends is).1;
       usage = λ is. (usage words named source source_after out out_after err mid after status ends is).0;
       stranger = stranger words named source source_after out out_after err mid after status ends;

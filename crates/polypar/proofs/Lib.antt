@@ -1,15 +1,13 @@
 pub mod AnswerLemmas
 pub mod CutLemmas
+pub mod KernelLemmas
 pub mod LineLemmas
-pub mod LoopsLemmas
 pub mod MemoryLemmas
 pub mod NamesLemmas
 pub mod OnceLemmas
-pub mod PlanLemmas
 pub mod PrintLemmas
 pub mod ReadingLemmas
 pub mod RunLemmas
 pub mod RunningLemmas
 pub mod SourcesLemmas
 pub mod VerdictLemmas
-pub mod WordLemmas

@@ -15,9 +15,9 @@ use Rattle.data_text.specs.Cases.{Says, data_said}
 use Rattle.report_text.specs.declared.status.Status.{Status}
 use Rattle.report_text.specs.declared.status.Status.TheVariants.{Outside, Refused, BadData}
 use Rattle.polypar.specs.Cut.{kernel_part, data_part}
-use Rattle.polypar.specs.declared.command.Command.{Command}
-use Rattle.polypar.specs.declared.command.Command.TheVariants.{Run, OfKernel}
-use Rattle.polypar.specs.Command.{command_of}
+use Rattle.command_line.specs.declared.command.Command.{Command}
+use Rattle.command_line.specs.declared.command.Command.TheVariants.{Run, OfKernel, Gen}
+use Rattle.command_line.specs.Command.{command_of}
 use Rattle.polypar.specs.Deserves.{DeservesCase, DeservesData, DeservesText, DeservesInput, DeservesKernel}
 use Rattle.polypar.specs.Deserves.{DeservesSpelled, DeservesFor, Deserves}
 
@@ -93,8 +93,9 @@ spelled_once laws input a b (inr x) (inr y) = x.1 ∙ sym y.1
 
 command_once : Laws → (command : Command) (input : List ℕ) (a b : Status) → DeservesFor command input a
     → DeservesFor command input b → a ≡ b
-command_once laws Run input a b x y = input_once laws input a b x y
+command_once laws (Run options report) input a b x y = input_once laws input a b x y
 command_once laws (OfKernel asked) input a b x y = spelled_once laws input a b x y
+command_once laws (Gen generated options) input a b x y = x ∙ sym y
 
 -- words and an input deserve one status
 pub words_once : Laws → (words : List (List ℕ)) (input : List ℕ) (a b : Status) → Deserves words input a

@@ -1,18 +1,19 @@
 -- The text of loops is read back as their trees.
-use Rattle.std.proofs.Common.{◌≡◌, ◌∙◌, ap, inl, inr, ℕ, List, Some}
+use Rattle.std.proofs.Common.{◌≡◌, ◌∙◌, ap, inl, inr, ℕ, Bool, false, List, Some}
 use Rattle.scop_syntax.specs.Kernel.{IsKernel}
 use Rattle.scop_syntax.specs.Tree.{Program}
 use Rattle.scop_parser.specs.Spelling.{SpellsProgram}
 use Rattle.scop_parser.specs.Names.{HasFreeNames}
-use Rattle.loop_tree.specs.Tiling.{Tiling, kept}
+use Rattle.loop_tree.specs.Tiling.{Tiling}
 use Rattle.loop_tree.specs.Tree.{Trees}
-use Rattle.plan_tree.specs.Trees.{AreTreesOf, tiling_of}
+use Rattle.plan_tree.specs.Trees.{AreTreesOf}
+use Rattle.kernel_plans.specs.Planned.{ArePlanned}
 use Rattle.c_printer.specs.Naming.{HasWords}
 use Rattle.c_printer.specs.Nodes.{text_of}
 use Rattle.c_printer.specs.Printable.{AreNodes, IsNamed}
 use Rattle.c_printer.specs.Reading.{read_text}
 use Rattle.polypar.specs.Told.{Told}
-use Rattle.polypar.specs.Emitting.{ArePlanned, IsLoopsText, ReadsAsLoops}
+use Rattle.polypar.specs.Emitting.{IsLoopsText, ReadsAsLoops}
 use Rattle.polypar.proofs.NamesLemmas.{has_words}
 use Rattle.polypar.proofs.PrintLemmas.{FlatArePrinted, trees_printed}
 
@@ -25,11 +26,11 @@ pub record Laws : Type 0 where
   pub read : (program : Program) (ts : Trees) → IsNamed program → AreNodes program 0 ts
       → read_text program (text_of program ts) ≡ Some ts
 
--- the plan of planned trees, which they carry out
-pub plan_of : (tile budget : ℕ) (program : Program) (lines : List ℕ) (ts : Trees)
-    → ArePlanned tile budget program lines ts → (plan : Tiling) × AreTreesOf program plan ts
-plan_of tile budget program lines ts (inl tiled) = (tiling_of program tile tiled.blocks, tiled.carried)
-plan_of tile budget program lines ts (inr own) = (kept, own.carried)
+-- planned trees carry out their plan
+pub planned_carried : (tile budget : ℕ) (report : Bool) (program : Program) (plan : Tiling) (lines : List ℕ)
+    (ts : Trees) → ArePlanned tile budget report program plan lines ts → AreTreesOf program plan ts
+planned_carried tile budget report program plan lines ts (inl tiled) = tiled.carried
+planned_carried tile budget report program plan lines ts (inr own) = own.carried
 
 -- the text of loops of a program that a text spells
 pub loops_are_read : Laws → (tile budget : ℕ) (text : List ℕ) (program : Program) (told : Told)
@@ -37,9 +38,10 @@ pub loops_are_read : Laws → (tile budget : ℕ) (text : List ℕ) (program : P
 loops_are_read laws tile budget text program told spelled is =
     let named = laws.named program (laws.kernel text program spelled)
     (has_words program (laws.free text program spelled)) in
-    let plan = plan_of tile budget program told.lines is.trees is.planned in
-    let nodes = trees_printed laws.nodes program plan.0 is.trees plan.1 in
+    let carried = planned_carried tile budget false program is.plan told.lines is.trees is.planned in
+    let nodes = trees_printed laws.nodes program is.plan is.trees carried in
     record {
+      plan = is.plan;
       trees = is.trees;
       planned = is.planned;
       read = ap (read_text program) is.text ∙ laws.read program is.trees named nodes;

@@ -1,114 +1,97 @@
 -- From what a status says of a kernel's data to what it says of the whole input.
-use Rattle.std.proofs.Common.{◌≡◌, sym, subst, refl, inl, inr, ℕ, ◌^◌, ◌<◌, ℤ, List, [], length, arith}
-use Rattle.std.proofs.KnownBytes.{Appends-nil}
-use Rattle.io_ports.specs.Writes.{SinkShows, Takes, CutsOff}
+use Rattle.std.proofs.Common.{◌≡◌, sym, subst, refl, inl, inr, ℕ, ◌^◌, ◌<◌, ℤ, Bool, List, length, Option, None, Some}
+use Rattle.std.specs.Option.{option_map}
+use Rattle.io_ports.specs.Writes.{SinkShows}
+use Rattle.scop_syntax.specs.Failures.{Failure}
 use Rattle.scop_syntax.specs.Tree.{Program}
+use Rattle.scop_meaning.specs.Outside.{outside_of}
 use Rattle.scop_parser.specs.Spelling.{SpellsProgram, IsRefusedAs}
 use Rattle.scop_parser.specs.declared.refusal.Refusal.{Refusal}
 use Rattle.data_text.specs.Cases.{Says}
 use Rattle.report_text.specs.declared.status.Status.{Status}
 use Rattle.report_text.specs.declared.status.Status.TheVariants.{Done, Usage, Refused, BadData, Outside, ReadFault}
 use Rattle.report_text.specs.declared.status.Status.TheVariants.{WriteFault, NoMemory}
+use Rattle.command_line.specs.declared.command.Command.{Command}
+use Rattle.command_line.specs.declared.command.Command.TheVariants.{Run, OfKernel, Gen}
+use Rattle.command_line.specs.declared.command.KernelCommand.{KernelCommand}
+use Rattle.command_line.specs.declared.command.GeneratedKernel.{GeneratedKernel}
+use Rattle.command_line.specs.declared.command.RunOptions.{RunOptions}
 use Rattle.polypar.specs.Cut.{kernel_part, data_part}
-use Rattle.polypar.specs.Case.{IsShort, final_text}
-use Rattle.polypar.specs.Told.{text_alone}
-use Rattle.polypar.specs.Deserves.{too_long}
-use Rattle.polypar.specs.declared.command.Command.{Command}
-use Rattle.polypar.specs.declared.command.Command.TheVariants.{Run, OfKernel}
-use Rattle.polypar.specs.declared.command.KernelCommand.{KernelCommand}
-use Rattle.polypar.specs.Answers.{AnswersCase, AnswersData, AnswersProgram, WritesTold, CutsTold, AreUntouched}
-use Rattle.polypar.specs.Answers.{AnswersKernel, AnswersFor}
+use Rattle.polypar.specs.Case.{IsShort}
+use Rattle.polypar.specs.Told.{Told, IsHeld}
+use Rattle.polypar.specs.Runs.{IsSummaryText}
+use Rattle.polypar.specs.Deserves.{too_long, AsksFor}
+use Rattle.polypar.specs.Answers.{AnswersCase, AnswersData, AnswersProgram, AnswersTold, AnswersKernel, AnswersFor}
+use Rattle.polypar.specs.Answers.{AreUntouched, AsksData, AsksRun, ReadsKernel}
 
 -- the answer to a case that the data says is the answer to the data
-pub data_answers : (status : Status) (program : Program) (text : List ℕ) (params : List ℤ) (contents : List (List ℕ))
-    (old new : SinkShows) → Says text program params contents
-    → AnswersCase status program params contents old new → AnswersData status program text old new
-data_answers Done program text params contents old new said answer = (params, contents, said, answer.0, answer.1)
-data_answers Usage program text params contents old new said answer = absurd answer
-data_answers (Refused refusal) program text params contents old new said answer = absurd answer
-data_answers (BadData refusal) program text params contents old new said answer = absurd answer
-data_answers (Outside f) program text params contents old new said answer =
+pub data_answers : (options : RunOptions) (report : Bool) (status : Status) (program : Program) (text : List ℕ)
+    (params : List ℤ) (contents : List (List ℕ)) (out out_after err err_after : SinkShows)
+    → Says text program params contents
+    → AnswersCase options report status program params contents out out_after err err_after
+    → AnswersData options report status program text out out_after err err_after
+data_answers options report Done program text params contents out out_after err err_after said answer =
+    (answer.0, (params, contents, said, answer.1), answer.2)
+data_answers options report Usage program text params contents out out_after err err_after said answer = absurd answer
+data_answers options report (Refused refusal) program text params contents out out_after err err_after said answer =
+    absurd answer
+data_answers options report (BadData refusal) program text params contents out out_after err err_after said answer =
+    absurd answer
+data_answers options report (Outside f) program text params contents out out_after err err_after said answer =
     (inl (params, contents, said, answer.0), answer.1)
-data_answers ReadFault program text params contents old new said answer = absurd answer
-data_answers WriteFault program text params contents old new said answer = (params, contents, said, answer.0, answer.1)
-data_answers NoMemory program text params contents old new said answer = absurd answer
+data_answers options report ReadFault program text params contents out out_after err err_after said answer =
+    absurd answer
+data_answers options report WriteFault program text params contents out out_after err err_after said answer =
+    (answer.0, (params, contents, said, answer.1), answer.2)
+data_answers options report NoMemory program text params contents out out_after err err_after said answer = answer
 
--- nothing was taken
-takes_nothing : (sink : SinkShows) → Takes sink sink []
-takes_nothing sink = record {
-  gained = Appends-nil sink.taken;
-  later = omega arith;
-  calm = λ room. record { faults = refl; limit = refl };
-}
+-- no failure is found where none is told
+pub none_found : (found : Option Failure) → None ≡ option_map outside_of found → found ≡ None
+none_found None told = refl
+none_found (Some f) told = absurd cc
 
 -- nothing was written
 pub untouched : (out err : SinkShows) → AreUntouched out out err err
 untouched out err = record { out_is = refl; err_is = refl }
 
--- a text without lines was written
-text_written : (text : List ℕ) (out out_after err err_after : SinkShows) → Takes out out_after text → err_after ≡ err
-    → WritesTold (text_alone text) out out_after err err_after
-text_written text out out_after err err_after takes same =
-    record { text = takes; lines = subst (λ sink. Takes err sink []) (sym same) (takes_nothing err) }
+-- what is to be told of the data of a program is what `run` asks of an input that spells the program
+run_asked : (options : RunOptions) (report : Bool) (input : List ℕ) (program : Program) (told : Told) → IsShort input
+    → SpellsProgram (kernel_part input) program → AsksData options report program (data_part input) told
+    → AsksFor (Run options report) input told
+run_asked options report input program told short spelled asked = (
+  record {
+    short = short;
+    program = program;
+    spelled = spelled;
+    params = asked.0;
+    contents = asked.1;
+    said = asked.2;
+    inside = asked.3.0;
+  },
+  asked.3.1,
+  asked.3.2,
+)
 
--- or cut off
-text_cut : (text : List ℕ) (out out_after err err_after : SinkShows) → CutsOff out out_after text → err_after ≡ err
-    → CutsTold (text_alone text) out out_after err err_after
-text_cut text out out_after err err_after cut same =
-    let lines : Takes err err_after [] = subst (λ sink. Takes err sink []) (sym same) (takes_nothing err) in
-    record {
-      gained = inr (lines.gained, cut.gained);
-      later = lines.later;
-      rose = inl cut.cause.rose;
-      full = λ room line. cut.cause.full room;
-    }
-
--- the answer to the data of a program is the answer of `run` to an input that spells the program
-input_answers_of : (status : Status) (input : List ℕ) (program : Program) (out out_after err err_after : SinkShows)
+-- so the answer to the data is the answer of `run` to the input
+input_answers_of : (options : RunOptions) (report : Bool) (status : Status) (input : List ℕ) (program : Program)
+    (out out_after err err_after : SinkShows)
     → IsShort input → SpellsProgram (kernel_part input) program
-    → AnswersData status program (data_part input) out out_after → err_after ≡ err
-    → AnswersFor Run status input out out_after err err_after
-input_answers_of Done input program out out_after err err_after short spelled answer same = (
-  text_alone (final_text program answer.0 answer.1),
-  (
-    record {
-      short = short;
-      program = program;
-      spelled = spelled;
-      params = answer.0;
-      contents = answer.1;
-      said = answer.2;
-      inside = answer.3;
-    },
-    refl,
-  ),
-  text_written (final_text program answer.0 answer.1) out out_after err err_after answer.4 same,
-)
-input_answers_of Usage input program out out_after err err_after short spelled answer same = absurd answer
-input_answers_of (Refused refusal) input program out out_after err err_after short spelled answer same = absurd answer
-input_answers_of (BadData refusal) input program out out_after err err_after short spelled answer same =
-    (inl (short, inl (program, spelled, answer.0)), record { out_is = answer.1; err_is = same })
-input_answers_of (Outside f) input program out out_after err err_after short spelled answer same =
-    (inl (short, inl (program, spelled, answer.0)), record { out_is = answer.1; err_is = same })
-input_answers_of ReadFault input program out out_after err err_after short spelled answer same = absurd answer
-input_answers_of WriteFault input program out out_after err err_after short spelled answer same = (
-  text_alone (final_text program answer.0 answer.1),
-  (
-    record {
-      short = short;
-      program = program;
-      spelled = spelled;
-      params = answer.0;
-      contents = answer.1;
-      said = answer.2;
-      inside = answer.3;
-    },
-    refl,
-  ),
-  text_cut (final_text program answer.0 answer.1) out out_after err err_after answer.4 same,
-)
-input_answers_of NoMemory input program out out_after err err_after short spelled answer same =
-    record { out_is = answer; err_is = same }
+    → AnswersData options report status program (data_part input) out out_after err err_after
+    → AnswersFor (Run options report) status input out out_after err err_after
+input_answers_of options report Done input program out out_after err err_after short spelled answer =
+    (answer.0, run_asked options report input program answer.0 short spelled answer.1, answer.2)
+input_answers_of options report Usage input program out out_after err err_after short spelled answer = absurd answer
+input_answers_of options report (Refused refusal) input program out out_after err err_after short spelled answer =
+    absurd answer
+input_answers_of options report (BadData refusal) input program out out_after err err_after short spelled answer =
+    (inl (short, inl (program, spelled, answer.0)), answer.1)
+input_answers_of options report (Outside f) input program out out_after err err_after short spelled answer =
+    (inl (short, inl (program, spelled, answer.0)), answer.1)
+input_answers_of options report ReadFault input program out out_after err err_after short spelled answer =
+    absurd answer
+input_answers_of options report WriteFault input program out out_after err err_after short spelled answer =
+    (answer.0, run_asked options report input program answer.0 short spelled answer.1, answer.2)
+input_answers_of options report NoMemory input program out out_after err err_after short spelled answer = answer
 
 -- the answer to a program is the answer to an input that spells it
 spelled_answers_of : (asked : KernelCommand) (status : Status) (input : List ℕ) (program : Program)
@@ -117,7 +100,7 @@ spelled_answers_of : (asked : KernelCommand) (status : Status) (input : List ℕ
     → AnswersProgram asked status program out out_after err err_after
     → AnswersFor (OfKernel asked) status input out out_after err err_after
 spelled_answers_of asked Done input program out out_after err err_after short spelled answer =
-    (answer.0, (record { short = short; program = program; spelled = spelled }, answer.1, answer.2), answer.3)
+    (answer.0, (record { short = short; program = program; spelled = spelled }, answer.1.0, answer.1.1), answer.2)
 spelled_answers_of asked Usage input program out out_after err err_after short spelled answer = absurd answer
 spelled_answers_of asked (Refused refusal) input program out out_after err err_after short spelled answer =
     absurd answer
@@ -126,7 +109,7 @@ spelled_answers_of asked (BadData refusal) input program out out_after err err_a
 spelled_answers_of asked (Outside f) input program out out_after err err_after short spelled answer = absurd answer
 spelled_answers_of asked ReadFault input program out out_after err err_after short spelled answer = absurd answer
 spelled_answers_of asked WriteFault input program out out_after err err_after short spelled answer =
-    (answer.0, (record { short = short; program = program; spelled = spelled }, answer.1, answer.2), answer.3)
+    (answer.0, (record { short = short; program = program; spelled = spelled }, answer.1.0, answer.1.1), answer.2)
 spelled_answers_of asked NoMemory input program out out_after err err_after short spelled answer = answer
 
 -- of a command
@@ -135,10 +118,26 @@ command_answers_of : (command : Command) (status : Status) (input : List ℕ) (p
     → IsShort input → SpellsProgram (kernel_part input) program
     → AnswersKernel command status program (data_part input) out out_after err err_after
     → AnswersFor command status input out out_after err err_after
-command_answers_of Run status input program out out_after err err_after short spelled answer =
-    input_answers_of status input program out out_after err err_after short spelled answer.0 answer.1
+command_answers_of (Run options report) status input program out out_after err err_after short spelled answer =
+    input_answers_of options report status input program out out_after err err_after short spelled answer
 command_answers_of (OfKernel asked) status input program out out_after err err_after short spelled answer =
     spelled_answers_of asked status input program out out_after err err_after short spelled answer
+command_answers_of (Gen generated options) status input program out out_after err err_after short spelled answer =
+    absurd answer
+
+-- the summary of a generated kernel is what `gen` asks for, whatever the input
+pub summary_answers : (kernel : GeneratedKernel) (options : RunOptions) (status : Status) (input : List ℕ)
+    (out out_after err err_after : SinkShows)
+    → AnswersTold (λ told. IsSummaryText kernel options told × IsHeld told) status out out_after err err_after
+    → AnswersFor (Gen kernel options) status input out out_after err err_after
+summary_answers kernel options Done input out out_after err err_after answer = answer
+summary_answers kernel options Usage input out out_after err err_after answer = absurd answer
+summary_answers kernel options (Refused refusal) input out out_after err err_after answer = absurd answer
+summary_answers kernel options (BadData refusal) input out out_after err err_after answer = absurd answer
+summary_answers kernel options (Outside f) input out out_after err err_after answer = absurd answer
+summary_answers kernel options ReadFault input out out_after err err_after answer = absurd answer
+summary_answers kernel options WriteFault input out out_after err err_after answer = answer
+summary_answers kernel options NoMemory input out out_after err err_after answer = answer
 
 -- the same of the parts that were cut off the input
 pub command_answers : (command : Command) (status : Status) (input kernel text : List ℕ) (program : Program)
@@ -153,15 +152,17 @@ command_answers command status input kernel text program out out_after err err_a
 
 -- an input that is too long is refused
 pub long_answers : (command : Command) (input : List ℕ) (out err : SinkShows) → 2 ^ 27 < length input
-    → AnswersFor command too_long input out out err err
-long_answers Run input out err long = (inr (long, refl), untouched out err)
-long_answers (OfKernel asked) input out err long = (inr (long, refl), untouched out err)
+    → ReadsKernel command → AnswersFor command too_long input out out err err
+long_answers (Run options report) input out err long reads = (inr (long, refl), untouched out err)
+long_answers (OfKernel asked) input out err long reads = (inr (long, refl), untouched out err)
+long_answers (Gen generated options) input out err long reads = absurd reads
 
 -- a text that is refused
 pub refused_answers : (command : Command) (input kernel : List ℕ) (refusal : Refusal) (out err : SinkShows)
-    → IsShort input → kernel ≡ kernel_part input → IsRefusedAs kernel refusal
+    → IsShort input → kernel ≡ kernel_part input → IsRefusedAs kernel refusal → ReadsKernel command
     → AnswersFor command (Refused refusal) input out out err err
-refused_answers Run input kernel refusal out err short front refused =
+refused_answers (Run options report) input kernel refusal out err short front refused reads =
     (inl (short, inr (refusal, subst (λ t. IsRefusedAs t refusal) front refused, refl)), untouched out err)
-refused_answers (OfKernel asked) input kernel refusal out err short front refused =
+refused_answers (OfKernel asked) input kernel refusal out err short front refused reads =
     (inl (short, inr (refusal, subst (λ t. IsRefusedAs t refusal) front refused, refl)), untouched out err)
+refused_answers (Gen generated options) input kernel refusal out err short front refused reads = absurd reads

@@ -1,5 +1,5 @@
 -- Trees that carry out a plan run the kernel.
-use Rattle.std.proofs.Common.{◌≡◌, ℕ, ℤ, List, [], map}
+use Rattle.std.proofs.Common.{◌≡◌, ℕ, ℤ, false, List, [], map}
 use Rattle.scop_syntax.specs.Cells.{PlacesConflict}
 use Rattle.scop_syntax.specs.Execution.{IsInside, IsShaped, exec, layout, performed_all}
 use Rattle.scop_syntax.specs.Limits.{HasParameters}
@@ -16,7 +16,7 @@ use Rattle.plan_tree.specs.Trees.{AreEven, AreTreesOf, StandInOrder}
 use Rattle.polypar.specs.Told.{Told}
 use Rattle.polypar.specs.Emitting.{ReadsAsLoops}
 use Rattle.polypar.specs.Running.{RunKernel, RunsKernel}
-use Rattle.polypar.proofs.ReadingLemmas.{plan_of}
+use Rattle.polypar.proofs.ReadingLemmas.{planned_carried}
 
 -- the laws of trees of plans
 pub record Laws : Type 0 where
@@ -48,9 +48,9 @@ trees_run laws program params plan ts is has = record {
 pub loops_run : Laws → (tile budget : ℕ) (program : Program) (told : Told) → ReadsAsLoops tile budget program told
     → RunsKernel program told.text
 loops_run laws tile budget program told reads =
-    let plan = plan_of tile budget program told.lines reads.trees reads.planned in
+    let carried = planned_carried tile budget false program reads.plan told.lines reads.trees reads.planned in
     record {
       trees = reads.trees;
       read = reads.read;
-      runs = λ params has. trees_run laws program params plan.0 reads.trees plan.1 has;
+      runs = λ params has. trees_run laws program params reads.plan reads.trees carried has;
     }

@@ -1,7 +1,7 @@
 -- Each check in the order of work has an outcome, so words and an input deserve a status.
 use Rattle.std.proofs.Common.{◌≡◌, ◌⊎◌, ◌∙◌, sym, refl, inl, inr, ℕ, ◌^◌, ltb, Bool, true, false, ℤ, List, [], ◌∷◌}
 use Rattle.std.proofs.Common.{length, Option, None, Some, ltb-true, ltb-false}
-use Rattle.std.specs.Prelude.{Err, take}
+use Rattle.std.specs.Prelude.{Err, is_some, take}
 use Rattle.scop_lexer.specs.Lines.{line_behind, column_behind}
 use Rattle.scop_syntax.specs.Tree.{Program}
 use Rattle.scop_syntax.specs.Walk.{Visit, walk_of}
@@ -18,11 +18,12 @@ use Rattle.data_text.specs.Cases.{Said, Says, data_said}
 use Rattle.data_text.specs.Described.{Describes}
 use Rattle.report_text.specs.declared.status.Status.{Status}
 use Rattle.report_text.specs.declared.status.Status.TheVariants.{Done, Usage, Outside, Refused, BadData}
-use Rattle.clap.specs.Words.{fault_of}
+use Rattle.clap.specs.Words.{fault_of, subcommand_of}
 use Rattle.clap.specs.Kinds.{Kinds}
-use Rattle.polypar.specs.declared.command.Command.{Command}
-use Rattle.polypar.specs.declared.command.Command.TheVariants.{Run, OfKernel}
-use Rattle.polypar.specs.Command.{tool, IsTaken, command_of}
+use Rattle.command_line.specs.declared.command.Command.{Command}
+use Rattle.command_line.specs.declared.command.Command.TheVariants.{Run, OfKernel, Gen}
+use Rattle.command_line.specs.Command.{IsTaken, command_met, command_of}
+use Rattle.command_line.specs.Stated.{tool}
 use Rattle.polypar.specs.Cut.{kernel_part, data_part}
 use Rattle.polypar.specs.Deserves.{DeservesCase, DeservesData, DeservesText, DeservesInput, DeservesKernel}
 use Rattle.polypar.specs.Deserves.{DeservesSpelled, DeservesFor, Deserves, IsVerdict, too_long}
@@ -101,14 +102,16 @@ spelled_deserves laws input false is =
     (rest.0, rest.1, inl (ltb-false (2 ^ 27) (length input) is, rest.2))
 
 command_deserves : Laws → (command : Command) (input : List ℕ) → HasVerdict (DeservesFor command input)
-command_deserves laws Run input = input_deserves laws input _ refl
+command_deserves laws (Run options report) input = input_deserves laws input _ refl
 command_deserves laws (OfKernel asked) input = spelled_deserves laws input _ refl
+command_deserves laws (Gen generated options) input = (Done, tt, refl)
 
 -- words are taken, or not
-taken_or_not : (words : List (List ℕ)) (faults : Kinds) → fault_of tool words ≡ faults
-    → IsTaken words ⊎ (IsTaken words → ⊥)
-taken_or_not words [] is = inl is
-taken_or_not words (k ∷ ks) is = inr (λ taken. let both = sym is ∙ taken in cc)
+taken_or_not : (words : List (List ℕ)) (faults : Kinds) (named : Bool) → fault_of tool words ≡ faults
+    → is_some (command_met (subcommand_of tool words)) ≡ named → IsTaken words ⊎ (IsTaken words → ⊥)
+taken_or_not words [] true is some = inl (is, some)
+taken_or_not words [] false is none = inr (λ taken. let both = sym none ∙ taken.1 in cc)
+taken_or_not words (k ∷ ks) named is some = inr (λ taken. let both = sym is ∙ taken.0 in cc)
 
 words_by : Laws → (words : List (List ℕ)) (input : List ℕ) → IsTaken words ⊎ (IsTaken words → ⊥)
     → HasVerdict (Deserves words input)
@@ -119,4 +122,4 @@ words_by laws words input (inr none) = (Usage, tt, inr (none, refl))
 -- words and an input deserve a status that is no fault and no want of memory
 pub words_deserve : Laws → (words : List (List ℕ)) (input : List ℕ)
     → (status : Status) × IsVerdict status × Deserves words input status
-words_deserve laws words input = words_by laws words input (taken_or_not words _ refl)
+words_deserve laws words input = words_by laws words input (taken_or_not words _ _ refl refl)

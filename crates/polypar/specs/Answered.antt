@@ -1,6 +1,6 @@
 -- What a call of the program promises, from the words and from what the source and the sinks show before and after it.
-use Rattle.std.specs.Prelude.{◌≡◌, ◌≢◌, ◌⊎◌, ℕ, ◌≤◌, List, [], ◌++◌, Option, Some, None, ⊤}
-use Rattle.std.specs.Io.KnownBytes.{Appends, IsAtEnd}
+use Rattle.std.specs.Prelude.{◌≡◌, ◌≢◌, ◌⊎◌, ℕ, ◌≤◌, Bool, List, [], ◌++◌, Option, Some, None, ⊤}
+use Rattle.std.specs.Io.KnownBytes.{Appends}
 use Rattle.io_ports.specs.Faults.{Rose}
 use Rattle.io_ports.specs.Bytes.{IsAllOf, GainsFront}
 use Rattle.io_ports.specs.Reads.{SourceShows, IsSteady}
@@ -10,19 +10,26 @@ use Rattle.report_text.specs.declared.status.Status.TheVariants.{Done, Usage, Ba
 use Rattle.scop_syntax.specs.Tree.{Program}
 use Rattle.scop_parser.specs.Spelling.{SpellsProgram}
 use Rattle.polypar.specs.Case.{Accepted, asked_text, Spelled}
-use Rattle.polypar.specs.Planning.{IsPlanText}
+use Rattle.kernel_plans.specs.Planning.{IsPlanText}
 use Rattle.polypar.specs.Sources.{IsSourcesText}
 use Rattle.polypar.specs.Emitting.{IsLoopsText}
+use Rattle.polypar.specs.Runs.{AreRunLines, IsSummaryText}
 use Rattle.polypar.specs.Told.{Told}
-use Rattle.polypar.specs.Command.{IsTaken, IsRunCommand, IsScheduleCommand, IsDepsCommand, IsEmitCommand}
+use Rattle.command_line.specs.declared.command.GeneratedKernel.{GeneratedKernel}
+use Rattle.command_line.specs.declared.command.RunOptions.{RunOptions}
+use Rattle.command_line.specs.Command.{IsTaken, command_of}
+use Rattle.command_line.specs.Command.{IsRunCommand, IsScheduleCommand, IsDepsCommand, IsEmitCommand, IsGenCommand}
 use Rattle.polypar.specs.Cut.{kernel_part}
-use Rattle.polypar.specs.Deserves.{Deserves, Asks}
+use Rattle.polypar.specs.Deserves.{Deserves, Asks, IsReadBy}
 use Rattle.report_text.specs.StatusText.{status_text}
 
--- an accepted input was read, and exactly the text of the arrays that it asks for was printed
-abbrev pub PrintsArrays : Option (List ℕ) → Option (List ℕ) → Option (List ℕ) → Type 0
-PrintsArrays left old new =
-    (input : List ℕ) × (accepted : Accepted input) × IsAllOf left input × Appends old new (asked_text accepted)
+-- an accepted input was read, and exactly the text of the arrays that it asks for was printed; `err` has gained exactly
+-- the line of a kept order, if it is kept, and the report, where one is asked for
+abbrev pub PrintsArrays : RunOptions → Bool → Option (List ℕ) → SinkShows → SinkShows → SinkShows → SinkShows → Type 0
+PrintsArrays options report left out out_after err err_after =
+    (input : List ℕ) × (accepted : Accepted input) × (lines : List ℕ) × IsAllOf left input
+    × AreRunLines options report accepted.program accepted.params lines
+    × Appends out.taken out_after.taken (asked_text accepted) × Appends err.taken err_after.taken lines
 
 -- an input that spells a kernel was read, and exactly a text that is one of its program was printed
 abbrev pub PrintsText : (Program → List ℕ → Type 0) → Option (List ℕ) → Option (List ℕ) → Option (List ℕ) → Type 0
@@ -50,6 +57,12 @@ PrintsTold IsToldOf left out out_after err err_after =
 abbrev pub PrintsLoops : ℕ → ℕ → Option (List ℕ) → SinkShows → SinkShows → SinkShows → SinkShows → Type 0
 PrintsLoops tile budget left out out_after err err_after =
     PrintsTold (IsLoopsText tile budget) left out out_after err err_after
+
+-- exactly the summary of the generated kernel's run was printed, and the line of a kept order, if it is kept
+abbrev pub PrintsSummary : GeneratedKernel → RunOptions → SinkShows → SinkShows → SinkShows → SinkShows → Type 0
+PrintsSummary generated options out out_after err err_after =
+    (told : Told) × IsSummaryText generated options told
+    × Appends out.taken out_after.taken told.text × Appends err.taken err_after.taken told.lines
 
 -- a front of the text that the words and the input ask for was printed
 abbrev pub PrintsFront : List (List ℕ) → Option (List ℕ) → Option (List ℕ) → Option (List ℕ) → Type 0
@@ -126,18 +139,22 @@ HasRoomForLine left status err = (named : Option Program) → NamesOf left statu
 -- what a call promises: the headline, each status and its cause, and what the source and the sinks show afterwards
 pub record Answered (words : List (List ℕ)) (status : Status) (source source_after : SourceShows)
     (out out_after err err_after : SinkShows) : Type 0 where
-  -- the headline: of `run` exactly the arrays of the kernel's own sequential execution are printed, of `schedule` the
-  -- schedule of the determined run over the kernel's conflicts, or why its order is kept, of `deps` for each read that
-  -- is resolved its last write, of `emit` loops that visit each instance once, conflicting ones in order; and the input
-  -- was read whole
-  pub done : IsRunCommand words → status ≡ Done → PrintsArrays source.left out.taken out_after.taken
+  -- the headline: of `run` exactly the arrays of the kernel's own sequential execution are printed, for any number of
+  -- workers and any tiles, of `schedule` the schedule of the determined run over the kernel's conflicts, or why its
+  -- order is kept, of `deps` for each read that is resolved its last write, of `emit` loops that visit each instance
+  -- once, conflicting ones in order, of `gen` what the generated kernel's own execution leaves; and the input was read
+  -- whole
+  pub done : (options : RunOptions) (report : Bool) → IsRunCommand options report words → status ≡ Done
+      → PrintsArrays options report source.left out out_after err err_after
   pub scheduled : (budget : ℕ) → IsScheduleCommand budget words → status ≡ Done
       → PrintsPlan budget source.left out.taken out_after.taken
   pub sourced : (budget : ℕ) → IsDepsCommand budget words → status ≡ Done
       → PrintsSources budget source.left out.taken out_after.taken
   pub emitted : (tile budget : ℕ) → IsEmitCommand tile budget words → status ≡ Done
       → PrintsLoops tile budget source.left out out_after err err_after
-  pub read_whole : status ≡ Done → IsAtEnd source_after.left
+  pub generated : (kernel : GeneratedKernel) (options : RunOptions) → IsGenCommand kernel options words
+      → status ≡ Done → PrintsSummary kernel options out out_after err err_after
+  pub read_whole : status ≡ Done → IsReadBy (command_of words) source source_after
   -- each status and its cause; want of memory may come over words too
   pub usage : status ≡ Usage → IsTaken words → ⊥
   pub stranger : (IsTaken words → ⊥) → (status ≡ Usage) ⊎ (status ≡ NoMemory)

@@ -1,68 +1,27 @@
 -- What the statuses of the parts of a call say: of the data, of the input, of the source, and of the sinks; only for
 -- the code's own steps.
-use Rattle.std.specs.Prelude.{◌≡◌, ◌⊎◌, ℕ, ℤ, ◌≤◌, List, Option, ⊤}
-use Rattle.std.specs.Io.KnownBytes.{Appends, IsAtEnd}
+use Rattle.std.specs.Prelude.{◌≡◌, ◌⊎◌, ℕ, ℤ, ◌≤◌, Bool, List, Option, ⊤}
+use Rattle.std.specs.Io.KnownBytes.{Appends}
 use Rattle.io_ports.specs.Faults.{Rose}
 use Rattle.io_ports.specs.Bytes.{IsAllOf, GainsFront}
 use Rattle.io_ports.specs.Reads.{SourceShows, IsSteady, IsReadFault}
 use Rattle.io_ports.specs.Writes.{SinkShows, HasRoom, Takes, CutsOff}
 use Rattle.scop_syntax.specs.Tree.{Program}
 use Rattle.scop_syntax.specs.Execution.{IsInside}
-use Rattle.loop_tree.specs.Source.{source_of}
-use Rattle.loop_tree.specs.Tiling.{kept}
-use Rattle.plan_tree.specs.Trees.{AreTreesOf}
-use Rattle.c_printer.specs.Nodes.{text_of}
+use Rattle.data_text.specs.Cases.{Says}
 use Rattle.report_text.specs.declared.status.Status.{Status}
 use Rattle.report_text.specs.declared.status.Status.TheVariants.{Done, Usage, BadData, Outside, ReadFault, WriteFault}
 use Rattle.report_text.specs.declared.status.Status.TheVariants.{NoMemory}
-use Rattle.polypar.specs.declared.command.Command.{Command}
-use Rattle.polypar.specs.declared.command.Command.TheVariants.{Run, OfKernel}
-use Rattle.polypar.specs.declared.command.KernelCommand.{KernelCommand}
-use Rattle.polypar.specs.declared.command.KernelCommand.TheVariants.{Emit}
-use Rattle.polypar.specs.Command.{most_tile, IsTaken, command_of}
-use Rattle.data_text.specs.Cases.{Says}
-use Rattle.polypar.specs.Case.{final_text}
-use Rattle.polypar.specs.Told.{Told, IsHeld}
-use Rattle.polypar.specs.KernelText.{IsTextFor}
-use Rattle.polypar.specs.Deserves.{DeservesCase, DeservesData, DeservesFor, AsksFor}
 use Rattle.report_text.specs.StatusText.{status_text}
-
--- of a case of a program, and of `out`
-abbrev pub AnswersCase : Status → Program → List ℤ → List (List ℕ) → SinkShows → SinkShows → Type 0
-AnswersCase Done program params contents old new =
-    IsInside program params × Takes old new (final_text program params contents)
-AnswersCase WriteFault program params contents old new =
-    IsInside program params × CutsOff old new (final_text program params contents)
-AnswersCase (Outside f) program params contents old new = DeservesCase program params (Outside f) × (new ≡ old)
-AnswersCase _ program params contents old new = ⊥
-
--- of the data of a program, and of `out`
-abbrev pub AnswersData : Status → Program → List ℕ → SinkShows → SinkShows → Type 0
-AnswersData Done program text old new =
-    (params : List ℤ) × (contents : List (List ℕ)) × Says text program params contents × IsInside program params
-    × Takes old new (final_text program params contents)
-AnswersData WriteFault program text old new =
-    (params : List ℤ) × (contents : List (List ℕ)) × Says text program params contents × IsInside program params
-    × CutsOff old new (final_text program params contents)
-AnswersData (BadData refusal) program text old new = DeservesData program text (BadData refusal) × (new ≡ old)
-AnswersData (Outside f) program text old new = DeservesData program text (Outside f) × (new ≡ old)
-AnswersData NoMemory program text old new = new ≡ old
-AnswersData _ program text old new = ⊥
-
--- tiles have a size from 1 to the greatest
-abbrev pub IsSized : KernelCommand → Type 0
-IsSized (Emit tile budget) = (1 ≤ tile) × (tile ≤ most_tile)
-IsSized other = ⊤
-
--- so it is where a command asks for tiles
-abbrev pub HasSize : Command → Type 0
-HasSize Run = ⊤
-HasSize (OfKernel asked) = IsSized asked
-
--- the text is that of the source's own loops, which carry out the kept order
-abbrev pub TellsSource : Program → Told → Type 0
-TellsSource program told =
-    AreTreesOf program kept (source_of program) × (told.text ≡ text_of program (source_of program))
+use Rattle.command_line.specs.declared.command.Command.{Command}
+use Rattle.command_line.specs.declared.command.Command.TheVariants.{Run, OfKernel, Gen}
+use Rattle.command_line.specs.declared.command.KernelCommand.{KernelCommand}
+use Rattle.command_line.specs.declared.command.RunOptions.{RunOptions}
+use Rattle.command_line.specs.Command.{IsTaken, command_of}
+use Rattle.polypar.specs.Told.{Told, HasHeldLines, IsHeld}
+use Rattle.polypar.specs.KernelText.{IsTextFor}
+use Rattle.polypar.specs.Runs.{IsRunText}
+use Rattle.polypar.specs.Deserves.{DeservesCase, DeservesData, DeservesFor, AsksFor, IsReadBy}
 
 -- all that is told was written: the text to `out`, the lines to `err`
 pub record WritesTold (told : Told) (out out_after err err_after : SinkShows) : Type 0 where
@@ -83,21 +42,61 @@ pub record AreUntouched (out out_after err err_after : SinkShows) : Type 0 where
   pub out_is : out_after ≡ out
   pub err_is : err_after ≡ err
 
+-- what is told is something of which this holds: it was told, or cut off
+abbrev pub AnswersTold : (Told → Type 0) → Status → SinkShows → SinkShows → SinkShows → SinkShows → Type 0
+AnswersTold IsAsked Done out out_after err err_after =
+    (told : Told) × IsAsked told × WritesTold told out out_after err err_after
+AnswersTold IsAsked WriteFault out out_after err err_after =
+    (told : Told) × IsAsked told × CutsTold told out out_after err err_after
+AnswersTold IsAsked NoMemory out out_after err err_after = AreUntouched out out_after err err_after
+AnswersTold IsAsked _ out out_after err err_after = ⊥
+
+-- what `run` is to tell of a case whose subscripts are inside
+abbrev pub AsksRun : RunOptions → Bool → Program → List ℤ → List (List ℕ) → Told → Type 0
+AsksRun options report program params contents told =
+    IsInside program params × IsRunText options report program params contents told × HasHeldLines told
+
+-- of a case of a program, and of the sinks
+abbrev pub AnswersCase : RunOptions → Bool → Status → Program → List ℤ → List (List ℕ) → SinkShows → SinkShows
+    → SinkShows → SinkShows → Type 0
+AnswersCase options report (Outside f) program params contents out out_after err err_after =
+    DeservesCase program params (Outside f) × AreUntouched out out_after err err_after
+AnswersCase options report status program params contents out out_after err err_after =
+    AnswersTold (AsksRun options report program params contents) status out out_after err err_after
+
+-- what `run` is to tell of data
+abbrev pub AsksData : RunOptions → Bool → Program → List ℕ → Told → Type 0
+AsksData options report program text told =
+    (params : List ℤ) × (contents : List (List ℕ)) × Says text program params contents
+    × AsksRun options report program params contents told
+
+-- of the data of a program, and of the sinks
+abbrev pub AnswersData : RunOptions → Bool → Status → Program → List ℕ → SinkShows → SinkShows → SinkShows
+    → SinkShows → Type 0
+AnswersData options report (BadData refusal) program text out out_after err err_after =
+    DeservesData program text (BadData refusal) × AreUntouched out out_after err err_after
+AnswersData options report (Outside f) program text out out_after err err_after =
+    DeservesData program text (Outside f) × AreUntouched out out_after err err_after
+AnswersData options report status program text out out_after err err_after =
+    AnswersTold (AsksData options report program text) status out out_after err err_after
+
 -- of a program of which alone something is asked, and of the sinks
 abbrev pub AnswersProgram : KernelCommand → Status → Program → SinkShows → SinkShows → SinkShows → SinkShows → Type 0
-AnswersProgram asked Done program out out_after err err_after =
-    (told : Told) × IsTextFor asked program told × IsHeld told × WritesTold told out out_after err err_after
-AnswersProgram asked WriteFault program out out_after err err_after =
-    (told : Told) × IsTextFor asked program told × IsHeld told × CutsTold told out out_after err err_after
-AnswersProgram asked NoMemory program out out_after err err_after = AreUntouched out out_after err err_after
-AnswersProgram asked _ program out out_after err err_after = ⊥
+AnswersProgram asked status program out out_after err err_after =
+    AnswersTold (λ told. IsTextFor asked program told × IsHeld told) status out out_after err err_after
 
--- of a program, its data and a command, and of the sinks
+-- the command reads an input
+abbrev pub ReadsKernel : Command → Type 0
+ReadsKernel (Gen generated options) = ⊥
+ReadsKernel other = ⊤
+
+-- of a program, its data and a command that reads an input, and of the sinks
 abbrev pub AnswersKernel : Command → Status → Program → List ℕ → SinkShows → SinkShows → SinkShows → SinkShows → Type 0
-AnswersKernel Run status program text out out_after err err_after =
-    AnswersData status program text out out_after × (err_after ≡ err)
+AnswersKernel (Run options report) status program text out out_after err err_after =
+    AnswersData options report status program text out out_after err err_after
 AnswersKernel (OfKernel asked) status program text out out_after err err_after =
     AnswersProgram asked status program out out_after err err_after
+AnswersKernel (Gen generated options) status program text out out_after err err_after = ⊥
 
 -- of an input that a command was given, and of the sinks
 abbrev pub AnswersFor : Command → Status → List ℕ → SinkShows → SinkShows → SinkShows → SinkShows → Type 0
@@ -116,13 +115,13 @@ pub record IsReadOn (old new : SourceShows) : Type 0 where
   pub later : old.faults ≤ new.faults
   pub steady : IsSteady old → new.faults ≡ old.faults
 
--- the input was read, and answered
+-- the input was read as far as the command reads it, and answered
 pub record ReadsInput (command : Command) (status : Status) (source source_after : SourceShows)
     (out out_after err err_after : SinkShows) : Type 0 where
   pub input : List ℕ
   pub whole : IsAllOf source.left input
   pub answer : AnswersFor command status input out out_after err err_after
-  pub at_end : status ≡ Done → IsAtEnd source_after.left
+  pub read : status ≡ Done → IsReadBy command source source_after
 
 -- the source failed
 pub record IsBroken (status : Status) (source source_after : SourceShows) (out out_after err err_after : SinkShows)

@@ -1,6 +1,8 @@
 -- The status that words and an input deserve where nothing fails: check after check in the order of work, and the
 -- status of the first that is not passed.
 use Rattle.std.specs.Prelude.{◌≡◌, ◌⊎◌, ℕ, ◌^◌, ◌<◌, ℤ, List, length, Some, Err, ⊤}
+use Rattle.std.specs.Io.KnownBytes.{IsAtEnd}
+use Rattle.io_ports.specs.Reads.{SourceShows}
 use Rattle.scop_syntax.specs.Tree.{Program}
 use Rattle.scop_syntax.specs.Walk.{walk_of}
 use Rattle.scop_syntax.specs.Execution.{layout, IsInside}
@@ -14,12 +16,13 @@ use Rattle.data_text.specs.Cases.{Says, data_said}
 use Rattle.report_text.specs.declared.status.Status.{Status}
 use Rattle.report_text.specs.declared.status.Status.TheVariants.{Done, Usage, Refused, BadData, Outside, ReadFault}
 use Rattle.report_text.specs.declared.status.Status.TheVariants.{WriteFault, NoMemory}
-use Rattle.polypar.specs.declared.command.Command.{Command}
-use Rattle.polypar.specs.declared.command.Command.TheVariants.{Run, OfKernel}
-use Rattle.polypar.specs.Command.{IsTaken, command_of}
+use Rattle.command_line.specs.declared.command.Command.{Command}
+use Rattle.command_line.specs.declared.command.Command.TheVariants.{Run, OfKernel, Gen}
+use Rattle.command_line.specs.Command.{IsTaken, command_of}
 use Rattle.polypar.specs.Cut.{kernel_part, data_part}
-use Rattle.polypar.specs.Case.{IsShort, Accepted, asked_text, Spelled}
-use Rattle.polypar.specs.Told.{Told, IsHeld, text_alone}
+use Rattle.polypar.specs.Case.{IsShort, Accepted, Spelled}
+use Rattle.polypar.specs.Told.{Told, HasHeldLines, IsHeld}
+use Rattle.polypar.specs.Runs.{IsRunText, IsSummaryText}
 use Rattle.polypar.specs.KernelText.{IsTextFor}
 
 -- every subscript lies in its extent, or the first that does not is told
@@ -64,10 +67,11 @@ DeservesSpelled input status =
     (IsShort input × DeservesKernel (kernel_part input) status)
     ⊎ ((2 ^ 27 < length input) × (status ≡ too_long))
 
--- of a command
+-- of a command; `gen` looks at no input
 abbrev pub DeservesFor : Command → List ℕ → Status → Type 0
-DeservesFor Run input status = DeservesInput input status
+DeservesFor (Run options report) input status = DeservesInput input status
 DeservesFor (OfKernel asked) input status = DeservesSpelled input status
+DeservesFor (Gen generated options) input status = status ≡ Done
 
 -- the words are taken, or not
 abbrev pub Deserves : List (List ℕ) → List ℕ → Status → Type 0
@@ -82,12 +86,20 @@ IsVerdict WriteFault = ⊥
 IsVerdict NoMemory = ⊥
 IsVerdict other = ⊤
 
--- an input asks a command for this: `run` for the text of the arrays, another for what it tells of the kernel, as far
--- as memory can hold that
+-- an input asks a command for this: `run` for the arrays of its accepted case, another for what it tells of the kernel,
+-- as far as memory can hold that; `gen` asks for the summary, whatever the input
 abbrev pub AsksFor : Command → List ℕ → Told → Type 0
-AsksFor Run input told = (accepted : Accepted input) × (told ≡ text_alone (asked_text accepted))
+AsksFor (Run options report) input told =
+    (accepted : Accepted input)
+    × IsRunText options report accepted.program accepted.params accepted.contents told × HasHeldLines told
 AsksFor (OfKernel asked) input told = (kernel : Spelled input) × IsTextFor asked kernel.program told × IsHeld told
+AsksFor (Gen generated options) input told = IsSummaryText generated options told × IsHeld told
 
 -- the words and the input ask for this
 abbrev pub Asks : List (List ℕ) → List ℕ → Told → Type 0
 Asks words input told = IsTaken words × AsksFor (command_of words) input told
+
+-- the source was read as the command reads it: to its end, or, for `gen`, not at all
+abbrev pub IsReadBy : Command → SourceShows → SourceShows → Type 0
+IsReadBy (Gen generated options) source source_after = source_after ≡ source
+IsReadBy other source source_after = IsAtEnd source_after.left

@@ -1,9 +1,9 @@
 -- What the commands that look at a kernel alone tell of it.
 use Rattle.scop_syntax.specs.Tree.{Program}
-use Rattle.polypar.specs.declared.command.KernelCommand.{KernelCommand}
-use Rattle.polypar.specs.declared.command.KernelCommand.TheVariants.{Schedule, Deps, Emit}
+use Rattle.command_line.specs.declared.command.KernelCommand.{KernelCommand}
+use Rattle.command_line.specs.declared.command.KernelCommand.TheVariants.{Schedule, Deps, Emit}
 use Rattle.polypar.specs.Told.{Told, IsTextAlone}
-use Rattle.polypar.specs.Planning.{IsPlanText}
+use Rattle.kernel_plans.specs.Planning.{IsPlanText}
 use Rattle.polypar.specs.Sources.{IsSourcesText}
 use Rattle.polypar.specs.Emitting.{IsLoopsText}
 

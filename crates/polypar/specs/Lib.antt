@@ -1,13 +1,12 @@
 pub mod Answered
 pub mod Answers
 pub mod Case
-pub mod Command
 pub mod Cut
 pub mod Deserves
 pub mod Emitting
 pub mod InMemory
 pub mod KernelText
-pub mod Planning
 pub mod Running
+pub mod Runs
 pub mod Sources
 pub mod Told

@@ -1,8 +1,10 @@
 //! A whole call over ports in memory, as tests make it.
 
-ghost use Rattle.std.specs.Prelude.{◌≡◌, ◌⊎◌, ℕ, List, [], map, string_bytes};
+ghost use Rattle.std.specs.Prelude.{◌≡◌, ◌⊎◌, ℕ, List, map, string_bytes};
 ghost use Rattle.report_text.specs.declared.status.Status.{Status};
-ghost use Rattle.polypar.specs.Deserves.{Deserves};
+ghost use Rattle.io_ports.specs.Memory.{source_shows};
+ghost use Rattle.command_line.specs.Command.{command_of};
+ghost use Rattle.polypar.specs.Deserves.{Deserves, IsReadBy};
 ghost use Rattle.polypar.specs.InMemory.{NeverFail, HoldsText, HoldsLine};
 
 use crate::plain::plain_command;
@@ -11,7 +13,8 @@ use report_text::Status;
 use std::alloc::Global;
 
 /// Calls `plain_command` over ports in memory that fail at no call. Where they have room, the status is the one
-/// that the words and the input deserve, or memory ran out, and no fault is counted. At Done nothing is left.
+/// that the words and the input deserve, or memory ran out, and no fault is counted. At Done the source is read as the
+/// command reads it.
 pub fn command_in_memory(
     alloc: Global,
     words: &[String],
@@ -20,7 +23,8 @@ pub fn command_in_memory(
     err: &mut MemSink,
 ) -> Status
     requires { NeverFail source.old out.old err.old }
-    ensures whole { result ≡ Status.Done → source.new.left ≡ [] }
+    ensures whole { result ≡ Status.Done → IsReadBy (command_of (map string_bytes words.now)) (source_shows source.old)
+        (source_shows source.new) }
     ensures decided { (verdict : Status) → Deserves (map string_bytes words.now) source.old.left verdict
         → HoldsText (map string_bytes words.now) source.old.left out.old err.old
         → HoldsLine source.old.left result err.old → (result ≡ verdict) ⊎ (result ≡ Status.NoMemory) }

@@ -5,20 +5,30 @@ ghost use Rattle.io_ports.specs.Writes.{Writes};
 ghost use Rattle.scop_syntax.specs.Kernel.{IsKernel};
 ghost use Rattle.scop_syntax.specs.View.{program_of};
 ghost use Rattle.iteration_domains.specs.Model.{model_of};
-ghost use Rattle.polypar.specs.Told.{told_of};
+ghost use Rattle.kernel_plans.specs.Planning.{IsPlanOf};
+ghost use Rattle.polypar.specs.Told.{IsTextAlone, told_of};
 ghost use Rattle.polypar.specs.KernelText.{IsTextFor};
-ghost use Rattle.polypar.specs.Answers.{AnswersProgram, IsSized, WritesTold, CutsTold};
+ghost use Rattle.command_line.specs.Command.{IsSized};
+ghost use Rattle.polypar.specs.Answers.{AnswersProgram, WritesTold, CutsTold};
 
-use crate::command::KernelCommand;
-use crate::loops::loops_text;
-use crate::plan::plan_told;
+use crate::loops::loops_told;
 use crate::sources::sources_told;
 use crate::told::Told;
+use command_line::KernelCommand;
 use io_ports::{Failed, Sink, write_whole};
 use iteration_domains::Model;
+use kernel_plans::plan_text;
 use report_text::Status;
 use scop_syntax::tree::Kernel;
 use std::alloc::{AllocError, Global};
+
+/// What `schedule` tells of a model: the text alone.
+fn plan_told(alloc: Global, model: &Model, budget: u64) -> Result<Told, AllocError>
+    ensures { IfOk result (λ told. IsTextAlone (IsPlanOf budget model.now) (told_of told)) }
+{
+    let text = plan_text(alloc, model, budget)?;
+    Ok(Told::text_alone(alloc, text))
+}
 
 /// What a command asks of a kernel with this model.
 fn model_told(
@@ -35,7 +45,7 @@ fn model_told(
     match asked {
         KernelCommand::Schedule { budget } => plan_told(alloc, model, budget),
         KernelCommand::Deps { budget } => sources_told(alloc, kernel, model, budget),
-        KernelCommand::Emit { tile, budget } => loops_text(alloc, kernel, model, tile, budget),
+        KernelCommand::Emit { tile, budget } => loops_told(alloc, kernel, model, tile, budget),
     }
 }
 
@@ -63,7 +73,7 @@ fn print_text<O: Sink>(text: &[u8], out: &mut O) -> Result<(), Failed>
 }
 
 /// Writes what is told: the lines to `err`, and then the text to `out`, which is flushed.
-fn print_told<O: Sink, E: Sink>(told: &Told, out: &mut O, err: &mut E) -> Result<(), Failed>
+pub(crate) fn print_told<O: Sink, E: Sink>(told: &Told, out: &mut O, err: &mut E) -> Result<(), Failed>
     ensures { MatchResult result
         (λ _. WritesTold (told_of told.now) (O.shows out.old) (O.shows out.new) (E.shows err.old) (E.shows err.new))
         (λ _. CutsTold (told_of told.now) (O.shows out.old) (O.shows out.new) (E.shows err.old) (E.shows err.new)) }

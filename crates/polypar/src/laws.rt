@@ -1,6 +1,5 @@
 //! What `run` prints is data again, what `deps` prints tells last writes, what `emit` prints is read back and runs the
-//! kernel, only `emit` has lines, and words that are taken name a command: laws, as contracts of functions that do
-//! nothing.
+//! kernel, and only commands that plan have lines: laws, as contracts of functions that do nothing.
 
 ghost use Rattle.std.specs.Prelude.{All, ◌≡◌, ◌<◌, ◌^◌, ℕ, ℤ, List, [], Option};
 ghost use Rattle.io_ports.specs.Reads.{SourceShows};
@@ -8,14 +7,13 @@ ghost use Rattle.io_ports.specs.Writes.{SinkShows};
 ghost use Rattle.scop_syntax.specs.Tree.{Program};
 ghost use Rattle.scop_syntax.specs.Execution.{IsShaped, layout};
 ghost use Rattle.scop_syntax.specs.Limits.{WithinLimits};
-ghost use Rattle.scop_syntax.specs.Members.{In};
 ghost use Rattle.scop_parser.specs.Spelling.{SpellsProgram};
 ghost use Rattle.data_text.specs.Cases.{Says};
 ghost use Rattle.data_text.specs.Written.{case_text};
 ghost use Rattle.report_text.specs.declared.status.Status.TheVariants.{Done};
 ghost use Rattle.report_text.specs.declared.status.Status.{Status};
 ghost use Rattle.polypar.specs.Answered.{Answered, HasLines, PrintsText, PrintsTold};
-ghost use Rattle.polypar.specs.Command.{IsDepsCommand, IsEmitCommand, IsTaken, command_names, NamesCommand};
+ghost use Rattle.command_line.specs.Command.{IsDepsCommand, IsEmitCommand, IsScheduleCommand};
 ghost use Rattle.polypar.specs.Emitting.{ReadsAsLoops};
 ghost use Rattle.polypar.specs.Running.{RunsKernel};
 ghost use Rattle.polypar.specs.Sources.{TellsLastWrites};
@@ -83,15 +81,12 @@ pub fn printed_loops_run_the_kernel()
     trees_keep_conflicts_in_order();
 }
 
-/// A command that is not `emit` has no lines, so all that `err` gains is the status line.
-pub fn only_emit_has_lines()
-    ensures { (words : List (List ℕ)) (left : Option (List ℕ)) (status : Status) (out out_after : SinkShows)
-        (lines : List ℕ) → HasLines words left status out out_after lines
-        → ((tile budget : ℕ) → IsEmitCommand tile budget words → ⊥) → lines ≡ [] }
-{}
-
-/// Words that the stated command takes name one of its commands.
-pub fn taken_words_name_a_command()
-    ensures { (words : List (List ℕ)) → IsTaken words
-        → (name : List ℕ) × In name command_names × NamesCommand name words }
+/// `schedule` and `deps` have no lines, so all that `err` gains is the status line.
+pub fn only_plans_have_lines()
+    ensures schedule { (words : List (List ℕ)) (budget : ℕ) (left : Option (List ℕ)) (status : Status)
+        (out out_after : SinkShows) (lines : List ℕ) → HasLines words left status out out_after lines
+        → IsScheduleCommand budget words → lines ≡ [] }
+    ensures deps { (words : List (List ℕ)) (budget : ℕ) (left : Option (List ℕ)) (status : Status)
+        (out out_after : SinkShows) (lines : List ℕ) → HasLines words left status out out_after lines
+        → IsDepsCommand budget words → lines ≡ [] }
 {}

@@ -4,13 +4,16 @@ ghost use Rattle.std.specs.Prelude.{◌≡◌, ℕ, List, map, string_bytes, opt
 ghost use Rattle.scop_syntax.specs.View.{program_of};
 ghost use Rattle.report_text.specs.declared.status.Status.{Status};
 ghost use Rattle.polypar.specs.Deserves.{Deserves, IsVerdict};
-ghost use Rattle.polypar.specs.Answers.{AnswersCommand, AnswersWords, HasSize, IsReadOn, TellsStatus};
+ghost use Rattle.command_line.specs.Command.{HasSize};
+ghost use Rattle.polypar.specs.Answers.{AnswersCommand, AnswersWords, IsReadOn, TellsStatus};
 ghost use Rattle.polypar.specs.Answered.{Answered, NamesOf};
 
-use crate::command::{Command, CommandStop, command_of};
+use crate::generating::print_summary;
 use crate::run::{Ending, run};
+use command_line::{Command, CommandStop, command_of};
 use data_text::{said_once, texts_say_what_lines_describe};
 use io_ports::{Failed, Gate, Sink, Source};
+use kernel_runs::{OnThreads, OneWorker, Workers};
 use report_text::{Status, status_line};
 use scop_parser::laws::{
     faults_leave_no_program, spelled_programs_are_kernels, texts_have_one_first_fault,
@@ -20,8 +23,11 @@ use scop_syntax::failure_laws::failures_are_the_first;
 use scop_syntax::limit_laws::accesses_have_the_ranks_of_arrays;
 use scop_syntax::tree::Kernel;
 use std::alloc::Global;
+use std::sync::Wait;
+use std::thread::Threads;
 
-/// Does what the words ask for, and tells a status other than Done on `err` as the last act.
+/// Does what the words ask for, and tells a status other than Done on `err` as the last act. Whatever number of workers
+/// is asked for, one does the tiles of all, on the caller's thread: it starts no thread and waits for nobody.
 pub fn plain_command<S: Source, O: Sink, E: Sink>(
     alloc: Global,
     words: &[String],
@@ -32,26 +38,42 @@ pub fn plain_command<S: Source, O: Sink, E: Sink>(
     ensures { Answered (map string_bytes words.now) result (S.shows source.old) (S.shows source.new) (O.shows out.old)
         (O.shows out.new) (E.shows err.old) (E.shows err.new) }
 {
-    deserved_once();
-    let ending = answer(alloc, words, source, out, err);
-    tell(ending.status, ending.kernel.as_ref(), err);
-    ending.status
+    command_by(&OneWorker, alloc, words, source, out, err)
 }
 
-/// Does what the words ask for, as `plain_command`: no command starts a thread or waits.
-pub fn polypar<R, S: Source, O: Sink, E: Sink, G: Gate>(
-    _rt: &R,
+/// Does what the words ask for, as `plain_command`, but two or more workers run the tiles each on a thread of its own,
+/// one where there is one.
+pub fn polypar<R: Threads + Wait + Sync, S: Source, O: Sink, E: Sink, G: Gate>(
+    rt: &R,
     alloc: Global,
     words: &[String],
     source: &mut S,
     out: &mut O,
     err: &mut E,
-    _gate: &G,
+    gate: &G,
 ) -> Status
     ensures { Answered (map string_bytes words.now) result (S.shows source.old) (S.shows source.new) (O.shows out.old)
         (O.shows out.new) (E.shows err.old) (E.shows err.new) }
 {
-    plain_command(alloc, words, source, out, err)
+    command_by(&OnThreads { rt, gate }, alloc, words, source, out, err)
+}
+
+/// Does what the words ask for, where tiles are run by these workers, and tells a status other than Done.
+fn command_by<W: Workers, S: Source, O: Sink, E: Sink>(
+    by: &W,
+    alloc: Global,
+    words: &[String],
+    source: &mut S,
+    out: &mut O,
+    err: &mut E,
+) -> Status
+    ensures { Answered (map string_bytes words.now) result (S.shows source.old) (S.shows source.new) (O.shows out.old)
+        (O.shows out.new) (E.shows err.old) (E.shows err.new) }
+{
+    deserved_once();
+    let ending = answer(by, alloc, words, source, out, err);
+    tell(ending.status, ending.kernel.as_ref(), err);
+    ending.status
 }
 
 /// Any words and any input deserve a status, and only one; it is no fault and no want of memory.
@@ -73,7 +95,8 @@ pub fn deserved_once()
 }
 
 /// All of a call but the line that tells its status.
-fn answer<S: Source, O: Sink, E: Sink>(
+fn answer<W: Workers, S: Source, O: Sink, E: Sink>(
+    by: &W,
     alloc: Global,
     words: &[String],
     source: &mut S,
@@ -86,14 +109,15 @@ fn answer<S: Source, O: Sink, E: Sink>(
     ensures read_on { IsReadOn (S.shows source.old) (S.shows source.new) }
 {
     match command_of(alloc, words) {
-        Ok(command) => answer_command(alloc, command, source, out, err),
+        Ok(command) => answer_command(by, alloc, command, source, out, err),
         Err(CommandStop::Usage) => Ending::of(Status::Usage),
         Err(CommandStop::NoMemory) => Ending::of(Status::NoMemory),
     }
 }
 
 /// All of a command but the line that tells its status.
-fn answer_command<S: Source, O: Sink, E: Sink>(
+fn answer_command<W: Workers, S: Source, O: Sink, E: Sink>(
+    by: &W,
     alloc: Global,
     command: Command,
     source: &mut S,
@@ -106,13 +130,36 @@ fn answer_command<S: Source, O: Sink, E: Sink>(
     ensures names { NamesOf (S.shows source.old).left result.status (option_map program_of result.kernel) }
     ensures read_on { IsReadOn (S.shows source.old) (S.shows source.new) }
 {
-    let ending = run(alloc, command, source, out, err);
+    let ending = end_of(by, alloc, command, source, out, err);
     if ending.status != Status::Done {
         return ending;
     }
     match err.flush() {
         Ok(()) => ending,
         Err(Failed) => Ending::of(Status::WriteFault),
+    }
+}
+
+/// All of a command but the last flush and the line that tells its status.
+fn end_of<W: Workers, S: Source, O: Sink, E: Sink>(
+    by: &W,
+    alloc: Global,
+    command: Command,
+    source: &mut S,
+    out: &mut O,
+    err: &mut E,
+) -> Ending
+    requires { HasSize command }
+    ensures answer { AnswersCommand command result.status (S.shows source.old) (S.shows source.new) (O.shows out.old)
+        (O.shows out.new) (E.shows err.old) (E.shows err.new) }
+    ensures names { NamesOf (S.shows source.old).left result.status (option_map program_of result.kernel) }
+    ensures read_on { IsReadOn (S.shows source.old) (S.shows source.new) }
+{
+    match command {
+        Command::Gen { generated, options } => {
+            Ending::of(print_summary(by, alloc, generated, options, out, err))
+        }
+        reading => run(by, alloc, reading, source, out, err),
     }
 }
 

@@ -1,29 +1,31 @@
-//! What a command does: the source is read to its end and cut into a kernel and its data. For `run` the kernel is
-//! executed in its own order, and the final arrays are printed; for the other commands see `kernel`.
+//! What a command that reads an input does: the source is read to its end and cut into a kernel and its data. For `run`
+//! the data's case is run by the kernel's plan, and the final arrays are printed; for the other commands see `kernel`.
 
-ghost use Rattle.std.specs.Prelude.{◌≡◌, None, Some, option_map};
+ghost use Rattle.std.specs.Prelude.{◌≡◌, MatchResult, Some, option_map};
 ghost use Rattle.io_ports.specs.Writes.{Writes};
 ghost use Rattle.scop_syntax.specs.View.{program_of};
 ghost use Rattle.scop_syntax.specs.Kernel.{IsKernel};
-ghost use Rattle.scop_syntax.specs.Walk.{walk_of};
-ghost use Rattle.scop_syntax.specs.Execution.{layout, IsShaped};
-ghost use Rattle.scop_syntax.specs.Failures.{first_outside};
+ghost use Rattle.scop_syntax.specs.Execution.{layout, IsInside, IsShaped};
 ghost use Rattle.scop_syntax.specs.Limits.{WithinLimits};
 ghost use Rattle.data_text.specs.ArrayText.{array_text};
 ghost use Rattle.polypar.specs.Case.{IsShort};
 ghost use Rattle.polypar.specs.Deserves.{too_long};
+ghost use Rattle.polypar.specs.Answers.{AnswersTold, AsksRun};
 ghost use Rattle.polypar.specs.Answers.{AnswersCase, AnswersData, AnswersKernel, AnswersFor, AnswersCommand};
-ghost use Rattle.polypar.specs.Answers.{HasSize, IsReadOn};
+ghost use Rattle.polypar.specs.Told.{lines_and_arrays};
+ghost use Rattle.polypar.specs.Answers.{CutsTold, IsReadOn, ReadsKernel, WritesTold};
+ghost use Rattle.command_line.specs.Command.{AreSized, HasSize};
 ghost use Rattle.polypar.specs.Answered.{NamesOf};
 
-use crate::command::Command;
 use crate::cut::cut;
+use crate::executing::run_planned;
 use crate::kernel::print_asked;
+use command_line::{Command, RunOptions};
 use data_text::{Case, DataStop, read_data, write_arrays};
-use io_ports::{Failed, ReadError, Sink, Source, read_to_end};
+use io_ports::{Failed, ReadError, Sink, Source, read_to_end, write_whole};
+use kernel_runs::Workers;
 use report_text::{Refusal, RefusalKind, Status};
 use scop_meaning::index::first_outside;
-use scop_meaning::interpreter::run_plain;
 use scop_parser::reader::{ReadKernelError, read_kernel};
 use scop_syntax::failure_laws::failures_are_the_first;
 use scop_syntax::limit_laws::accesses_have_the_ranks_of_arrays;
@@ -53,21 +55,23 @@ impl Ending {
 }
 
 /// Reads the source to its end, and prints what the command asks for.
-pub(crate) fn run<S: Source, O: Sink, E: Sink>(
+pub(crate) fn run<W: Workers, S: Source, O: Sink, E: Sink>(
+    by: &W,
     alloc: Global,
     command: Command,
     source: &mut S,
     out: &mut O,
     err: &mut E,
 ) -> Ending
-    requires { HasSize command }
+    requires size { HasSize command }
+    requires reads { ReadsKernel command }
     ensures answer { AnswersCommand command result.status (S.shows source.old) (S.shows source.new) (O.shows out.old)
         (O.shows out.new) (E.shows err.old) (E.shows err.new) }
     ensures names { NamesOf (S.shows source.old).left result.status (option_map program_of result.kernel) }
     ensures read_on { IsReadOn (S.shows source.old) (S.shows source.new) }
 {
     match read_to_end(alloc, source, LONGEST_INPUT) {
-        Ok(input) => run_input(alloc, command, &input, out, err),
+        Ok(input) => run_input(by, alloc, command, &input, out, err),
         Err(ReadError::Failed) => Ending::of(Status::ReadFault),
         Err(ReadError::TooLong) => Ending::of(too_long()),
         Err(ReadError::NoMemory) => Ending::of(Status::NoMemory),
@@ -86,7 +90,8 @@ fn too_long() -> Status
 }
 
 /// Reads the kernel of an input, and goes on with what the command asks.
-fn run_input<O: Sink, E: Sink>(
+fn run_input<W: Workers, O: Sink, E: Sink>(
+    by: &W,
     alloc: Global,
     command: Command,
     input: &[u8],
@@ -95,6 +100,7 @@ fn run_input<O: Sink, E: Sink>(
 ) -> Ending
     requires short { IsShort input.now }
     requires size { HasSize command }
+    requires reads { ReadsKernel command }
     ensures answer { AnswersFor command result.status input.now (O.shows out.old) (O.shows out.new) (E.shows err.old)
         (E.shows err.new) }
     ensures names { NamesOf (Some input.now) result.status (option_map program_of result.kernel) }
@@ -102,7 +108,7 @@ fn run_input<O: Sink, E: Sink>(
     let parts = cut(input);
     match read_kernel(alloc, parts.kernel) {
         Ok(kernel) => {
-            let status = run_command(alloc, command, &kernel, parts.case, out, err);
+            let status = run_command(by, alloc, command, &kernel, parts.case, out, err);
             Ending {
                 status,
                 kernel: Some(kernel),
@@ -114,7 +120,8 @@ fn run_input<O: Sink, E: Sink>(
 }
 
 /// Goes on with what the command asks of a kernel; `text` is its data.
-fn run_command<O: Sink, E: Sink>(
+fn run_command<W: Workers, O: Sink, E: Sink>(
+    by: &W,
     alloc: Global,
     command: Command,
     kernel: &Kernel,
@@ -124,58 +131,94 @@ fn run_command<O: Sink, E: Sink>(
 ) -> Status
     requires kernel { IsKernel (program_of kernel.now) }
     requires size { HasSize command }
+    requires reads { ReadsKernel command }
     ensures { AnswersKernel command result (program_of kernel.now) text.now (O.shows out.old) (O.shows out.new)
         (E.shows err.old) (E.shows err.new) }
 {
     match command {
-        Command::Run => run_kernel(alloc, kernel, text, out),
+        Command::Run { options, report } => {
+            run_kernel(by, alloc, kernel, text, options, report, out, err)
+        }
         Command::OfKernel(asked) => print_asked(alloc, kernel, asked, out, err),
+        Command::Gen { .. } => unreachable!(),
     }
 }
 
 /// Reads the data of a kernel, and goes on with the case that it says.
-fn run_kernel<O: Sink>(alloc: Global, kernel: &Kernel, text: &[u8], out: &mut O) -> Status
-    requires { IsKernel (program_of kernel.now) }
-    ensures { AnswersData result (program_of kernel.now) text.now (O.shows out.old) (O.shows out.new) }
+fn run_kernel<W: Workers, O: Sink, E: Sink>(
+    by: &W,
+    alloc: Global,
+    kernel: &Kernel,
+    text: &[u8],
+    options: RunOptions,
+    report: bool,
+    out: &mut O,
+    err: &mut E,
+) -> Status
+    requires kernel { IsKernel (program_of kernel.now) }
+    requires options { AreSized options }
+    ensures { AnswersData options report result (program_of kernel.now) text.now (O.shows out.old) (O.shows out.new)
+        (E.shows err.old) (E.shows err.new) }
 {
     match read_data(alloc, kernel, text) {
-        Ok(case) => run_case(kernel, case, out),
+        Ok(case) => run_case(by, alloc, kernel, case, options, report, out, err),
         Err(DataStop::Refused(refusal)) => Status::BadData(refusal),
         Err(DataStop::NoMemory) => Status::NoMemory,
     }
 }
 
-/// Checks the subscripts of a case, and prints the final arrays where all lie in their extents.
-fn run_case<O: Sink>(kernel: &Kernel, case: Case, out: &mut O) -> Status
+/// Checks the subscripts of a case, and runs it where all lie in their extents.
+fn run_case<W: Workers, O: Sink, E: Sink>(
+    by: &W,
+    alloc: Global,
+    kernel: &Kernel,
+    case: Case,
+    options: RunOptions,
+    report: bool,
+    out: &mut O,
+    err: &mut E,
+) -> Status
     requires limits { WithinLimits (program_of kernel.now) case.params.items }
     requires shape { IsShaped case.extents case.arrays }
     requires extents { case.extents ≡ layout (program_of kernel.now) case.params.items }
-    ensures { AnswersCase result (program_of kernel.now) case.params.items case.arrays (O.shows out.old)
-        (O.shows out.new) }
-{
-    match first_outside(kernel, &case.params, &case.extents) {
-        Some(outside) => Status::Outside(outside),
-        None => run_inside(kernel, case, out),
-    }
-}
-
-/// Executes the kernel, whose subscripts all lie in their extents, and prints the final arrays.
-fn run_inside<O: Sink>(kernel: &Kernel, case: Case, out: &mut O) -> Status
-    requires limits { WithinLimits (program_of kernel.now) case.params.items }
-    requires shape { IsShaped case.extents case.arrays }
-    requires extents { case.extents ≡ layout (program_of kernel.now) case.params.items }
-    requires none { first_outside (layout (program_of kernel.now) case.params.items)
-        (walk_of (program_of kernel.now) case.params.items) ≡ None }
-    ensures { AnswersCase result (program_of kernel.now) case.params.items case.arrays (O.shows out.old)
-        (O.shows out.new) }
+    requires options { AreSized options }
+    ensures { AnswersCase options report result (program_of kernel.now) case.params.items case.arrays (O.shows out.old)
+        (O.shows out.new) (E.shows err.old) (E.shows err.new) }
 {
     accesses_have_the_ranks_of_arrays();
     failures_are_the_first();
+    match first_outside(kernel, &case.params, &case.extents) {
+        Some(outside) => Status::Outside(outside),
+        None => run_inside(by, alloc, kernel, case, options, report, out, err),
+    }
+}
+
+/// Runs a case whose subscripts all lie in their extents by the kernel's plan, and prints its lines and the arrays.
+fn run_inside<W: Workers, O: Sink, E: Sink>(
+    by: &W,
+    alloc: Global,
+    kernel: &Kernel,
+    case: Case,
+    options: RunOptions,
+    report: bool,
+    out: &mut O,
+    err: &mut E,
+) -> Status
+    requires limits { WithinLimits (program_of kernel.now) case.params.items }
+    requires shape { IsShaped case.extents case.arrays }
+    requires extents { case.extents ≡ layout (program_of kernel.now) case.params.items }
+    requires inside { IsInside (program_of kernel.now) case.params.items }
+    requires options { AreSized options }
+    ensures { AnswersTold (AsksRun options report (program_of kernel.now) case.params.items case.arrays) result
+        (O.shows out.old) (O.shows out.new) (E.shows err.old) (E.shows err.new) }
+{
     let mut case = case;
-    run_plain(kernel, &case.params, &mut case.arrays);
-    match print_arrays(kernel, &case, out) {
-        Ok(()) => Status::Done,
-        Err(Failed) => Status::WriteFault,
+    match run_planned(by, alloc, kernel, &mut case, options, report) {
+        Ok(ran) => match print_run(kernel, &case, &ran.lines, out, err) {
+            Ok(()) => Status::Done,
+            Err(Failed) => Status::WriteFault,
+        },
+        Err(_) => Status::NoMemory,
     }
 }
 
@@ -188,4 +231,20 @@ fn print_arrays<O: Sink>(kernel: &Kernel, case: &Case, out: &mut O) -> Result<()
         Ok(()) => out.flush(),
         Err(failed) => Err(failed),
     }
+}
+
+/// Writes the lines of a run to `err`, and then the text of its arrays to `out`, which is flushed.
+fn print_run<O: Sink, E: Sink>(
+    kernel: &Kernel,
+    case: &Case,
+    lines: &[u8],
+    out: &mut O,
+    err: &mut E,
+) -> Result<(), Failed>
+    ensures { MatchResult result
+        (λ _. WritesTold (lines_and_arrays (program_of kernel.now) case.now.arrays lines.now) (O.shows out.old) (O.shows out.new) (E.shows err.old) (E.shows err.new))
+        (λ _. CutsTold (lines_and_arrays (program_of kernel.now) case.now.arrays lines.now) (O.shows out.old) (O.shows out.new) (E.shows err.old) (E.shows err.new)) }
+{
+    write_whole(err, lines)?;
+    print_arrays(kernel, case, out)
 }

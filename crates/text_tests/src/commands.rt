@@ -12,7 +12,7 @@ const USAGE: &str =
     "usage: polypar run|schedule|deps|emit|gen [--workers 1..64] [--tile 1..1024] [--budget 1..20000] [--report]\n";
 
 /// Kernels with their data, and the arrays that are printed.
-const RUNS: [(&str, &str); 15] = [
+pub const RUNS: &[(&str, &str)] = &[
     (
         "void copy(int64_t N, uint64_t A[N], uint64_t B[N]) {
   for (int64_t i = 0; i < N; i++) B[i] = A[i]; }
@@ -289,14 +289,14 @@ N = 65537
 
 /// How a call ended, and what its sinks took.
 #[derive(Drop)]
-struct Answer {
-    status: Status,
-    out: MemSink,
-    err: MemSink,
+pub struct Answer {
+    pub status: Status,
+    pub out: MemSink,
+    pub err: MemSink,
 }
 
 /// The words of a command line.
-fn words_of(alloc: Global, words: &[&str]) -> Result<Vec<String>, AllocError> {
+pub fn words_of(alloc: Global, words: &[&str]) -> Result<Vec<String>, AllocError> {
     let mut all = Vec::new(alloc);
     for word in words {
         all.push(String::from_str(alloc, word)?)?;
@@ -355,7 +355,8 @@ fn run_on(rt: &HostRuntime, input: &[u8]) -> Result<Answer, AllocError> {
 
 #[test]
 fn prints_the_arrays_of_the_execution(rt: HostRuntime) -> Result<(), Fail> {
-    for (input, printed) in RUNS {
+    for run in RUNS {
+        let (input, printed) = *run;
         let answer = run_on(&rt, input.as_bytes())?;
         assert_eq!(rt; answer.status, Status::Done, "{input}");
         assert_eq!(rt; answer.out.taken(), printed.as_bytes(), "{input}");

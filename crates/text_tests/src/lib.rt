@@ -19,3 +19,5 @@ mod status_lines;
 mod texts;
 #[cfg(test)]
 mod tokens;
+#[cfg(test)]
+mod workers;

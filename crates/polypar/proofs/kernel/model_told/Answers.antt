@@ -1,6 +1,6 @@
 -- The model is the program's.
 use Rattle.scop_syntax.specs.View.{program_of}
-use Rattle.polypar.proofs.PlanLemmas.{plan_asked}
+use Rattle.polypar.proofs.KernelLemmas.{plan_asked}
 use Rattle.polypar.proofs.kernel.model_told.Goals as goal
 
 pub returns-in-Schedule : goal.returns-in-Schedule

@@ -19,8 +19,8 @@ returns-in-Err-TooLong-clause-answer g c =
     (inl (record {
       input = input.0;
       whole = input.1;
-      answer = long_answers c.args.command input.0 out err input.2;
-      at_end = λ e. cc;
+      answer = long_answers c.args.command input.0 out err input.2 c.requires.reads;
+      read = λ e. cc;
     })))
 
 pub returns-in-Err-NoMemory-clause-answer : goal.returns-in-Err-NoMemory-clause-answer
@@ -36,5 +36,5 @@ returns-in-Err-NoMemory-clause-answer g c =
       input = input.0;
       whole = input.1;
       answer = untouched out err;
-      at_end = λ e. cc;
+      read = λ e. cc;
     }))

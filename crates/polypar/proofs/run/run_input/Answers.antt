@@ -16,7 +16,7 @@ returns-in-Err-Refused-clause-answer g c =
     let err = g.E.Sink.shows c.args.err.now in
     subst (λ ending. AnswersFor c.args.command ending.status c.args.input.now out out err err) (sym c.of.ensures)
     (refused_answers c.args.command c.args.input.now _ _ out err c.requires.short c.cut-parts.ensures.kernel
-    (search rules))
+    (search rules) c.requires.reads)
 
 pub returns-in-Err-NoMemory-clause-answer : goal.returns-in-Err-NoMemory-clause-answer
 returns-in-Err-NoMemory-clause-answer g c =

@@ -2,7 +2,7 @@
 use Rattle.std.proofs.Common.{subst}
 use Rattle.polypar.specs.Answers.{TellsStatus}
 use Rattle.polypar.proofs.AnswerLemmas.{answered, lent_program}
-use Rattle.polypar.proofs.plain.plain_command.Goals as goal
+use Rattle.polypar.proofs.plain.command_by.Goals as goal
 
 pub returns : goal.returns
 returns g c =

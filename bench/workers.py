@@ -1,0 +1,107 @@
+"""Times parallel runs against the plain interpreter and a C compiler, by the clock. Called by workers.sh."""
+
+import os
+import subprocess
+import sys
+import time
+
+from harness import arrays_of, built, call_of, declarations, signature_of
+from kernel_texts import kernel_of
+from timing import rounds_of
+
+WORKERS = (1, 2, 4)
+TINY = 4
+# Of each kernel its text, the values of its parameters, those of a start, and how many instances it has.
+CASES = {
+    "product": ("bench/kernels/product.c", {"N": 256}, {"N": TINY}, 256**3),
+    "jacobi": ("examples/jacobi.c", {"T": 40, "N": 400}, {"T": 1, "N": TINY}, 2 * 40 * 398**2),
+    "lu": ("examples/lu.c", {"N": 300}, {"N": TINY}, sum(k * k for k in range(300))),
+}
+
+MAIN = """
+#include <stdio.h>
+#include <stdlib.h>
+int main(void) {
+%s
+}
+"""
+
+
+def clock(command, text=b""):
+    """The seconds by the clock that a command takes on a text, and what it prints."""
+    begin = time.perf_counter()
+    done = subprocess.run(command, input=text, stdout=subprocess.PIPE, check=True)
+    return time.perf_counter() - begin, done.stdout
+
+
+def shortest(commands, rounds):
+    """The shortest time of each of the named commands, run in turn, each with its text; and what each printed."""
+    times, printed = {}, {}
+    for _ in range(rounds):
+        for name, (command, text) in commands.items():
+            seconds, printed[name] = clock(command, text)
+            times[name] = min(seconds, times.get(name, seconds))
+    return times, printed
+
+
+def data_lines(kernel, values):
+    """The lines that give the parameters, and each array by the seed 0."""
+    return [f"{name} = {value}" for name, value in values.items()] + [f"{name} = seed 0" for name, _ in arrays_of(kernel)]
+
+
+def c_program(kernel, values):
+    """A C program that runs a kernel on arrays by the seed 0, and prints all of them as `run` does."""
+    lines = declarations(kernel, values)
+    for name, cells in arrays_of(kernel):
+        lines.append(f"  for (size_t k = 0; k < {cells}; k++) {name}[k] = (k + 1) * 11400714819323198485u;")
+    lines.append("  " + call_of(kernel))
+    for name, cells in arrays_of(kernel):
+        lines.append(f'  printf("{name} =");')
+        lines.append(f'  for (size_t k = 0; k < {cells}; k++) printf(" %llu", (unsigned long long){name}[k]);')
+        lines.append('  printf("\\n");')
+    return kernel + MAIN % "\n".join(lines)
+
+
+def commands_of(program, interpreter, folder, kind, kernel, values, start):
+    """The commands for a case of a kernel, named with `start` in front."""
+    lines = data_lines(kernel, values)
+    text = (kernel + "\n%%\n" + "\n".join(lines) + "\n").encode()
+    compiled, said = built(folder, kind + start.strip(), c_program(kernel, values), ["gcc", "-O0"])
+    if compiled is None:
+        sys.exit(said)
+    commands = {f"{start}{k} workers": ([program, "run", "--workers", str(k)], text) for k in WORKERS}
+    commands[start + "interpreter"] = ([interpreter, "run", "1", *lines], kernel.encode())
+    commands[start + "gcc -O0"] = ([compiled], b"")
+    return commands
+
+
+def tell(kind, net, instances):
+    """Prints what a kind takes of each command."""
+    print(f"{kind}:")
+    for name, seconds in net.items():
+        print(f"  {name}: {seconds:.3f} s, {1e9 * seconds / instances:.1f} ns an instance")
+    one = net["1 workers"]
+    for name, seconds in net.items():
+        if name != "1 workers":
+            print(f"  1 worker to {name}: {one / seconds:.2f}")
+
+
+def main():
+    program, interpreter, root, folder = sys.argv[1:5]
+    rounds = rounds_of(sys.argv[5:], 5)
+    for kind, (file, values, tiny, instances) in CASES.items():
+        kernel = kernel_of(os.path.join(root, file))
+        names = {name for name, extents in signature_of(kernel)[1] if not extents}
+        if names != set(values):
+            sys.exit(f"{kind}: the parameters are {sorted(names)}")
+        commands = commands_of(program, interpreter, folder, kind, kernel, values, "")
+        commands |= commands_of(program, interpreter, folder, kind, kernel, tiny, "start of ")
+        times, printed = shortest(commands, rounds)
+        if len({printed[f"{k} workers"] for k in WORKERS} | {printed["gcc -O0"]}) != 1:
+            sys.exit(f"{kind}: the arrays differ")
+        tell(kind, {n: s - times["start of " + n] for n, s in times.items() if not n.startswith("start of ")}, instances)
+    times, _ = shortest({f"{k} workers": ([program, "gen", "product", "7", "256", "--workers", str(k)], b"") for k in WORKERS}, rounds)
+    tell("gen product 7 256", times, 256**3)
+
+
+main()

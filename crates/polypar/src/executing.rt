@@ -1,0 +1,106 @@
+//! The run of a case by the plan of its kernel, and what is told of that plan on lines.
+
+ghost use Rattle.std.specs.Prelude.{◌≡◌, ◌++◌, [], IfOk, if◌then◌else◌};
+ghost use Rattle.scop_syntax.specs.Execution.{IsInside, IsShaped, exec, layout};
+ghost use Rattle.scop_syntax.specs.Kernel.{IsKernel};
+ghost use Rattle.scop_syntax.specs.Limits.{WithinLimits};
+ghost use Rattle.scop_syntax.specs.View.{program_of};
+ghost use Rattle.command_line.specs.Command.{AreSized};
+ghost use Rattle.kernel_plans.specs.Planned.{IsPlanned};
+ghost use Rattle.report_text.specs.TilesText.{tiles_text};
+ghost use Rattle.polypar.specs.Runs.{IsPlanTold};
+
+use command_line::RunOptions;
+use data_text::Case;
+use iteration_domains::Model;
+use kernel_plans::{Planned, planned};
+use kernel_runs::{Counts, Workers, run_case};
+use report_text::tiles_text;
+use scop_syntax::tree::Kernel;
+use std::alloc::{AllocError, Global};
+
+/// What a run leaves to tell: the lines of its plan, and how many tiles and waves that has.
+#[derive(Drop)]
+pub(crate) struct Ran {
+    pub(crate) lines: Vec<u8>,
+    pub(crate) counts: Counts,
+}
+
+/// The plan of a kernel by these options, with its lines.
+fn plan_by(
+    alloc: Global,
+    kernel: &Kernel,
+    options: RunOptions,
+    report: bool,
+) -> Result<Planned, AllocError>
+    requires kernel { IsKernel (program_of kernel.now) }
+    requires options { AreSized options }
+    ensures { IfOk result (IsPlanned options.tile options.budget report (program_of kernel.now)) }
+{
+    let model = Model::of(alloc, kernel)?;
+    planned(
+        alloc,
+        kernel,
+        &model,
+        options.tile,
+        options.budget,
+        report,
+    )
+}
+
+/// Puts how many tiles, waves and workers there are behind the lines of a plan, where a report is asked for.
+fn with_counts(
+    alloc: Global,
+    lines: Vec<u8>,
+    counts: Counts,
+    workers: u64,
+    report: bool,
+) -> Result<Vec<u8>, AllocError>
+    ensures { IfOk result (λ all. all.items
+        ≡ lines.items ++ (if report then tiles_text counts.tiles counts.waves workers else [])) }
+{
+    let mut lines = lines;
+    if report {
+        let last = tiles_text(alloc, counts.tiles, counts.waves, workers)?;
+        lines.extend_from_slice(&last)?;
+    }
+    Ok(lines)
+}
+
+/// Plans a kernel and runs a case of it, whose subscripts are all inside, by that plan.
+///
+/// # Errors
+/// `AllocError` alone.
+pub(crate) fn run_planned<W: Workers>(
+    by: &W,
+    alloc: Global,
+    kernel: &Kernel,
+    case: &mut Case,
+    options: RunOptions,
+    report: bool,
+) -> Result<Ran, AllocError>
+    requires limits { WithinLimits (program_of kernel.now) case.old.params.items }
+    requires extents { case.old.extents ≡ layout (program_of kernel.now) case.old.params.items }
+    requires shape { IsShaped case.old.extents case.old.arrays }
+    requires inside { IsInside (program_of kernel.now) case.old.params.items }
+    requires options { AreSized options }
+    ensures arrays { IfOk result (λ _. case.new.arrays
+        ≡ exec (program_of kernel.now) case.old.params.items case.old.arrays) }
+    ensures shape { IfOk result (λ _. IsShaped case.new.extents case.new.arrays) }
+    ensures extents { IfOk result (λ _. case.new.extents ≡ case.old.extents) }
+    ensures told { IfOk result (λ ran. IsPlanTold options report (program_of kernel.now) case.old.params.items
+        ran.counts.tiles ran.counts.waves ran.lines.items) }
+{
+    let plan = plan_by(alloc, kernel, options, report)?;
+    let counts = run_case(
+        by,
+        alloc,
+        kernel,
+        case,
+        &plan.tree,
+        &plan.tiling,
+        options.workers,
+    )?;
+    let lines = with_counts(alloc, plan.lines, counts, options.workers, report)?;
+    Ok(Ran { lines, counts })
+}

@@ -1,0 +1,403 @@
+//! Whole calls of `run` and `gen` with any number of workers: what they print does not hang on it, two of them run at
+//! once, and each tile is done once.
+
+ghost use Rattle.std.specs.Prelude.{◌≤◌};
+
+use crate::commands::{Answer, RUNS, words_of};
+use io_ports::{Gate, MemSink, MemSource, OpenGate};
+use kernel_gen::{Kind, cells_in, generated, sum_of, summary};
+use polypar::{Status, polypar};
+use scop_meaning::interpreter::run_plain;
+use std::alloc::{AllocError, Global};
+use std::sync::atomic::{AtomicBool, AtomicU64, Ordering};
+use std::test::Fail;
+
+/// How many workers run each case.
+const WORKERS: &[&str] = &["1", "2", "64"];
+
+const PREFIX: &str = "void pre(int64_t N, uint64_t A[N]) {
+    for (int64_t i = 1; i < N; i++) A[i] += A[i-1]; }
+%%
+";
+
+const SWEEP: &str = "void seidel(int64_t T, int64_t N, uint64_t A[N]) {
+    for (int64_t t = 0; t < T; t++) for (int64_t i = 1; i < N - 1; i++)
+        A[i] = A[i-1] + A[i] + A[i+1]; }
+%%
+T = 2
+N = 5
+A = 1 1 1 1 1
+";
+
+const TWO: &str = "void two(int64_t N, uint64_t A[N+1], uint64_t B[N]) {
+    for (int64_t i = 0; i < N; i++) { A[i] = A[i] + 1; B[i] = A[i+1]; } }
+%%
+N = 3
+A = 1 2 3 4
+";
+
+const PRODUCT: &str = "void mm(int64_t N, uint64_t A[N][N], uint64_t B[N][N], uint64_t C[N][N]) {
+    for (int64_t i = 0; i < N; i++) for (int64_t j = 0; j < N; j++)
+        for (int64_t k = 0; k < N; k++) C[i][j] += A[i][k] * B[k][j]; }
+%%
+N = 2
+A = 1 2 3 4
+B = 5 6 7 8
+";
+
+const COPY_OF_FOUR: &str = "void copy(int64_t N, uint64_t A[N], uint64_t B[N]) {
+    for (int64_t i = 0; i < N; i++) B[i] = A[i]; }
+%%
+N = 4
+A = 1 2 3 4
+";
+
+const PREFIX_ROW: &str = "row 1 band 1 carries u (0) w 1: S1 (1) + 0\n";
+
+const SWEEP_ROWS: &str = "row 1 band 1 carries u (1 0) w 0: S1 (1 0) + 0
+row 2 band 1 carries u (1 0) w 0: S1 (1 1) + 0
+";
+
+const TWO_ROWS: &str = "row 1 band 1 parallel u (0) w 0: S1 (1) + 0, S2 (1) + 1
+scalar 2: S1 1, S2 0
+";
+
+/// A run whose report is asked for, and what it prints.
+struct Reported {
+    kernel: &'static str,
+    data: &'static str,
+    tile: &'static str,
+    budget: &'static str,
+    arrays: &'static str,
+    /// What stands before the numbers of tiles, waves and workers: the schedule, or the line of a kept order.
+    plan: &'static str,
+    counts: &'static str,
+}
+
+const REPORTED: &[Reported] = &[
+    Reported {
+        kernel: PREFIX,
+        data: "N = 5\nA = 1 1 1 1 1\n",
+        tile: "1",
+        budget: "20000",
+        arrays: "A = 1 2 3 4 5\n",
+        plan: PREFIX_ROW,
+        counts: "tiles 4 waves 4",
+    },
+    Reported {
+        kernel: PREFIX,
+        data: "N = 1\nA = 9\n",
+        tile: "32",
+        budget: "20000",
+        arrays: "A = 9\n",
+        plan: PREFIX_ROW,
+        counts: "tiles 0 waves 0",
+    },
+    Reported {
+        kernel: SWEEP,
+        data: "",
+        tile: "1",
+        budget: "20000",
+        arrays: "A = 1 9 21 29 1\n",
+        plan: SWEEP_ROWS,
+        counts: "tiles 6 waves 5",
+    },
+    Reported {
+        kernel: SWEEP,
+        data: "",
+        tile: "2",
+        budget: "20000",
+        arrays: "A = 1 9 21 29 1\n",
+        plan: SWEEP_ROWS,
+        counts: "tiles 2 waves 2",
+    },
+    Reported {
+        kernel: TWO,
+        data: "",
+        tile: "1",
+        budget: "20000",
+        arrays: "A = 2 3 4 4\nB = 2 3 4\n",
+        plan: TWO_ROWS,
+        counts: "tiles 4 waves 1",
+    },
+    Reported {
+        kernel: PRODUCT,
+        data: "",
+        tile: "32",
+        budget: "1",
+        arrays: "A = 1 2 3 4\nB = 5 6 7 8\nC = 19 22 43 50\n",
+        plan: "kept: spent 1\n",
+        counts: "tiles 1 waves 1",
+    },
+];
+
+/// Calls `polypar` with these words on an input, with this gate.
+fn call_on<G: Gate>(
+    rt: &HostRuntime,
+    words: &[&str],
+    input: &[u8],
+    gate: &G,
+) -> Result<Answer, AllocError> {
+    let words = words_of(rt.alloc(), words)?;
+    let mut source = MemSource::of(rt.alloc(), input, 4096, &[])?;
+    let mut out = MemSink::of(rt.alloc(), 4096, 4096, &[])?;
+    let mut err = MemSink::of(rt.alloc(), 4096, 4096, &[])?;
+    let status = polypar(rt, rt.alloc(), &words, &mut source, &mut out, &mut err, gate);
+    Ok(Answer { status, out, err })
+}
+
+/// Whether a call was done, and printed these arrays and these lines.
+fn is_answer(answer: Answer, out: &[u8], err: &[u8]) -> bool {
+    let is = answer.status == Status::Done && answer.out.taken() == out && answer.err.taken() == err;
+    drop(answer);
+    is
+}
+
+#[test]
+fn arrays_are_those_of_the_execution_for_any_number_of_workers(
+    rt: HostRuntime,
+) -> Result<(), Fail> {
+    for run in RUNS {
+        let (input, printed) = *run;
+        for workers in WORKERS {
+            let words = ["polypar", "run", "--tile", "2", "--workers", *workers];
+            let answer = call_on(&rt, &words, input.as_bytes(), &OpenGate)?;
+            assert!(rt; is_answer(answer, printed.as_bytes(), b""), "{input}");
+        }
+    }
+    Ok(())
+}
+
+/// The lines of a report.
+fn report_of(
+    alloc: Global,
+    front: &str,
+    numbers: &str,
+    workers: &str,
+) -> Result<String, AllocError> {
+    let mut report = String::from_str(alloc, front)?;
+    report.push_str(numbers)?;
+    report.push_str(" workers ")?;
+    report.push_str(workers)?;
+    report.push_str("\n")?;
+    Ok(report)
+}
+
+/// Whether a run by so many workers prints what is told of it.
+fn is_reported(rt: &HostRuntime, run: &Reported, workers: &str) -> Result<bool, AllocError> {
+    let mut input = String::from_str(rt.alloc(), run.kernel)?;
+    input.push_str(run.data)?;
+    let words = [
+        "polypar", "run", "--report", "--tile", run.tile, "--budget", run.budget, "--workers",
+        workers,
+    ];
+    let answer = call_on(rt, &words, input.as_bytes(), &OpenGate)?;
+    let report = report_of(rt.alloc(), run.plan, run.counts, workers)?;
+    Ok(is_answer(answer, run.arrays.as_bytes(), report.as_bytes()))
+}
+
+#[test]
+fn reports_tell_schedule_tiles_and_waves(rt: HostRuntime) -> Result<(), Fail> {
+    for run in REPORTED {
+        for workers in WORKERS {
+            assert!(rt; is_reported(&rt, run, workers)?);
+        }
+    }
+    Ok(())
+}
+
+/// A gate that holds the first tile until another one is left, for at most 1,000,000 turns of 1,000 looks each.
+#[derive(Drop)]
+struct HoldsFirst {
+    other_left: AtomicBool,
+    failed: AtomicBool,
+    entered: [AtomicU64; 4],
+    left: [AtomicU64; 4],
+    /// The tile that was left first; 9 before one is.
+    first_left: AtomicU64,
+}
+
+/// Four counts of nothing.
+fn zeros() -> [AtomicU64; 4] {
+    [
+        AtomicU64::new(0),
+        AtomicU64::new(0),
+        AtomicU64::new(0),
+        AtomicU64::new(0),
+    ]
+}
+
+impl HoldsFirst {
+    fn new() -> HoldsFirst {
+        HoldsFirst {
+            other_left: AtomicBool::new(false),
+            failed: AtomicBool::new(false),
+            entered: zeros(),
+            left: zeros(),
+            first_left: AtomicU64::new(9),
+        }
+    }
+
+    /// Whether another tile is left within the turns.
+    fn waits(&self) -> bool {
+        for _ in 0..1_000_000 {
+            for _ in 0..1_000 {
+                if self.other_left.load(Ordering::SeqCst) {
+                    return true;
+                }
+            }
+        }
+        false
+    }
+}
+
+impl Gate for HoldsFirst {
+    fn enter(&self, tile: u64) {
+        if tile < 4 {
+            self.entered[tile as usize].fetch_add(1, Ordering::SeqCst);
+        }
+        if tile == 0 && !self.waits() {
+            self.failed.store(true, Ordering::SeqCst);
+        }
+    }
+
+    fn leave(&self, tile: u64) {
+        let _ = self
+            .first_left
+            .compare_exchange(9, tile, Ordering::SeqCst, Ordering::SeqCst);
+        if tile < 4 {
+            self.left[tile as usize].fetch_add(1, Ordering::SeqCst);
+        }
+        if tile != 0 {
+            self.other_left.store(true, Ordering::SeqCst);
+        }
+    }
+}
+
+/// Whether each of these is 1.
+fn are_ones(counts: &[AtomicU64; 4]) -> bool {
+    for count in counts {
+        if count.load(Ordering::SeqCst) != 1 {
+            return false;
+        }
+    }
+    true
+}
+
+#[test]
+fn two_workers_run_at_once(rt: HostRuntime) -> Result<(), Fail> {
+    let gate = HoldsFirst::new();
+    let words = ["polypar", "run", "--tile", "1", "--workers", "2"];
+    let answer = call_on(&rt, &words, COPY_OF_FOUR.as_bytes(), &gate)?;
+    assert!(rt; is_answer(answer, b"A = 1 2 3 4\nB = 1 2 3 4\n", b""));
+    assert!(rt; !gate.failed.load(Ordering::SeqCst));
+    assert!(rt; are_ones(&gate.entered));
+    assert!(rt; are_ones(&gate.left));
+    assert!(rt; gate.first_left.load(Ordering::SeqCst) != 0);
+    Ok(())
+}
+
+/// A generated kernel, how it is called, and how many tiles and waves its plan has.
+struct Generated {
+    kind: Kind,
+    seed: u64,
+    size: u64,
+    words: [&'static str; 4],
+    tile: &'static str,
+    tiles: u64,
+    waves: u64,
+}
+
+const GENERATED: &[Generated] = &[
+    Generated {
+        kind: Kind::Sweep,
+        seed: 0,
+        size: 1,
+        words: ["gen", "sweep", "0", "1"],
+        tile: "32",
+        tiles: 1,
+        waves: 1,
+    },
+    Generated {
+        kind: Kind::Sweep,
+        seed: 0,
+        size: 2,
+        words: ["gen", "sweep", "0", "2"],
+        tile: "32",
+        tiles: 1,
+        waves: 1,
+    },
+    Generated {
+        kind: Kind::Sweep,
+        seed: 0,
+        size: 2,
+        words: ["gen", "sweep", "0", "2"],
+        tile: "1",
+        tiles: 4,
+        waves: 4,
+    },
+    Generated {
+        kind: Kind::Product,
+        seed: 7,
+        size: 64,
+        words: ["gen", "product", "7", "64"],
+        tile: "32",
+        tiles: 8,
+        waves: 2,
+    },
+    Generated {
+        kind: Kind::Sweep,
+        seed: 7,
+        size: 100,
+        words: ["gen", "sweep", "7", "100"],
+        tile: "32",
+        tiles: 19,
+        waves: 10,
+    },
+    Generated {
+        kind: Kind::Chain,
+        seed: 7,
+        size: 300,
+        words: ["gen", "chain", "7", "300"],
+        tile: "32",
+        tiles: 10,
+        waves: 10,
+    },
+];
+
+/// The summary of a generated kernel that the plain interpreter runs.
+fn summary_of(alloc: Global, case: &Generated) -> Result<Vec<u8>, AllocError>
+    requires low { 1 ≤ case.now.size }
+    requires high { case.now.size ≤ 512 }
+{
+    let (kernel, mut made) = generated(alloc, case.kind, case.seed, case.size)?;
+    run_plain(&kernel, &made.params, &mut made.arrays);
+    let cells = cells_in(&made);
+    let sum = sum_of(&made.arrays);
+    summary(
+        alloc, case.kind, case.seed, case.size, case.tiles, case.waves, cells, sum,
+    )
+}
+
+/// Whether so many workers leave of a generated kernel what the plain interpreter does.
+fn is_summary(rt: &HostRuntime, case: &Generated, workers: &str) -> Result<bool, AllocError> {
+    if case.size < 1 || 512 < case.size {
+        return Ok(false);
+    }
+    let [command, kind, seed, size] = case.words;
+    let words = [
+        "polypar", command, kind, seed, size, "--tile", case.tile, "--workers", workers,
+    ];
+    let answer = call_on(rt, &words, b"", &OpenGate)?;
+    let wanted = summary_of(rt.alloc(), case)?;
+    Ok(is_answer(answer, wanted.as_slice(), b""))
+}
+
+#[test]
+fn generated_kernels_leave_what_the_interpreter_does(rt: HostRuntime) -> Result<(), Fail> {
+    for case in GENERATED {
+        assert!(rt; is_summary(&rt, case, "1")?);
+        assert!(rt; is_summary(&rt, case, "8")?);
+    }
+    Ok(())
+}
