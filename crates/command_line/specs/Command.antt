@@ -64,14 +64,17 @@ kind_named text =
 abbrev pub kind_in : List Row → Option Kind
 kind_in rows = option_and_then kind_named (first_of (codes "kind") rows)
 
+-- the kernel of a kind, SEED and SIZE
+abbrev pub kernel_of : List Row → Kind → GeneratedKernel
+kernel_of rows kind = record {
+  kind = kind;
+  seed = number_in (codes "seed") 0 rows;
+  size = number_within (codes "size") most_size 1 rows;
+}
+
 -- the kernel of KIND, SEED and SIZE
 abbrev pub generated_in : List Row → Option GeneratedKernel
-generated_in rows =
-    option_map (λ kind. record {
-      kind = kind;
-      seed = number_in (codes "seed") 0 rows;
-      size = number_within (codes "size") most_size 1 rows;
-    }) (kind_in rows)
+generated_in rows = option_map (kernel_of rows) (kind_in rows)
 
 -- what the command of this name with these matches asks of a kernel alone
 abbrev pub kernel_command_named : Text × List Row → Option KernelCommand
@@ -150,3 +153,8 @@ command_names = codes "run" ∷ codes "schedule" ∷ codes "deps" ∷ codes "emi
 -- the words name this command, with some matches
 abbrev pub NamesCommand : Text → List Text → Type 0
 NamesCommand name words = (rows : List Row) × (subcommand_of tool words ≡ Some (name, rows))
+
+-- the words are `gen`, and their KIND is no kind
+abbrev pub NamesNoKind : List Text → Type 0
+NamesNoKind words =
+    (rows : List Row) × (subcommand_of tool words ≡ Some (codes "gen", rows)) × (kind_in rows ≡ None)

@@ -11,5 +11,5 @@ mod stated;
 mod taken;
 
 pub use command::{Command, CommandStop, GeneratedKernel, KernelCommand, RunOptions};
-pub use laws::taken_words_name_a_command;
+pub use laws::{other_kinds_alone_are_not_taken, taken_words_name_a_command};
 pub use taken::command_of;

@@ -69,7 +69,6 @@ fn with_run_options<'a>(
 }
 
 /// The command `run`.
-#[tactic(auto, using(crate::proofs::Building::building))]
 fn run_command<'a>(alloc: Global) -> Result<clap::Command<'a>, AllocError>
     ensures { IfOk result (IsCommand run_tool) }
 {
@@ -88,7 +87,6 @@ fn gen_arguments<'a>(alloc: Global) -> Result<clap::Command<'a>, AllocError>
 }
 
 /// The command `gen`.
-#[tactic(auto, using(crate::proofs::Building::building))]
 fn gen_command<'a>(alloc: Global) -> Result<clap::Command<'a>, AllocError>
     ensures { IfOk result (IsCommand gen_tool) }
 {
@@ -140,7 +138,6 @@ fn with_kernel_commands<'a>(
 }
 
 /// The stated command. Its definition in specs/Stated.antt says which words it takes.
-#[tactic(auto, using(crate::proofs::Building::building))]
 pub(crate) fn stated<'a>(alloc: Global) -> Result<clap::Command<'a>, AllocError>
     ensures { IfOk result (IsCommand tool) }
 {
