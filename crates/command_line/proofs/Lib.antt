@@ -1,0 +1,4 @@
+mod Building
+mod Parsing
+mod Reading
+mod Taking

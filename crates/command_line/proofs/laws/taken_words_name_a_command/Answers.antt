@@ -1,0 +1,5 @@
+use Rattle.command_line.proofs.Taking.{names_one}
+use Rattle.command_line.proofs.laws.taken_words_name_a_command.Goals as goal
+
+pub returns : goal.returns
+returns c words taken = names_one words taken.0

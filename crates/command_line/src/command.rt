@@ -1,0 +1,62 @@
+//! What a command line asks for.
+
+use kernel_gen::Kind;
+
+/// By how many workers a plan is run, its size of tiles and the budget of its questions.
+#[derive(Clone, Copy, Debug, PartialEq, Eq)]
+pub struct RunOptions {
+    /// How many workers, from 1 to 64.
+    pub workers: u64,
+    /// The size of tiles, from 1 to 1024.
+    pub tile: u64,
+    /// How many moves each question may make, from 1 to 20000.
+    pub budget: u64,
+}
+
+/// A generated kernel: its kind, seed and size.
+#[derive(Clone, Copy, Debug, PartialEq, Eq)]
+pub struct GeneratedKernel {
+    /// By which rule it is made.
+    pub kind: Kind,
+    /// What its statements and its data are drawn from.
+    pub seed: u64,
+    /// Its size, from 1 to 512.
+    pub size: u64,
+}
+
+/// What a command line asks of a kernel alone: its data is not looked at.
+#[derive(Clone, Copy, Debug, PartialEq, Eq)]
+pub enum KernelCommand {
+    /// The schedule, each question of whose search may make so many moves.
+    Schedule { budget: u64 },
+    /// The source of each read, where each candidate's problem may make so many moves.
+    Deps { budget: u64 },
+    /// The loops of the schedule's tiles of this size; the budget is that of the schedule.
+    Emit { tile: u64, budget: u64 },
+}
+
+/// What a command line asks for.
+#[derive(Clone, Copy, Debug, PartialEq, Eq)]
+pub enum Command {
+    /// The final arrays of a kernel and its data, and whether a report of the run is asked for.
+    Run {
+        options: RunOptions,
+        report: bool,
+    },
+    /// What is told of a kernel alone.
+    OfKernel(KernelCommand),
+    /// A run of a generated kernel.
+    Gen {
+        generated: GeneratedKernel,
+        options: RunOptions,
+    },
+}
+
+/// Why a command line asks for nothing.
+#[derive(Clone, Copy, Debug, PartialEq, Eq)]
+pub enum CommandStop {
+    /// The words are not taken, or they ask for help.
+    Usage,
+    /// Memory ran out.
+    NoMemory,
+}

@@ -1,0 +1,149 @@
+//! The stated command, built with `clap`: `polypar` with its commands, their options and their arguments.
+
+ghost use Rattle.std.specs.Prelude.{◌≡◌, IfOk};
+ghost use Rattle.clap.specs.Words.{App};
+ghost use Rattle.command_line.specs.Stated.{IsArgument, IsCommand, bare_tool, budget_tool, emit_tool, gen_arguments};
+ghost use Rattle.command_line.specs.Stated.{gen_tool, number_option, report_flag, run_tool, tool, wanted, wanted_number};
+ghost use Rattle.command_line.specs.Stated.{with_kernel_tools, with_run_options};
+
+use clap::builder::ValueParser;
+use clap::{Arg, ArgAction};
+use std::alloc::{AllocError, Global};
+
+/// The most workers.
+pub(crate) const MOST_WORKERS: u64 = 64;
+
+/// The greatest size of tiles.
+pub(crate) const MOST_TILE: u64 = 1024;
+
+/// The most moves of a question.
+pub(crate) const MOST_MOVES: u64 = 20_000;
+
+/// The greatest size of a generated kernel.
+pub(crate) const MOST_SIZE: u64 = 512;
+
+/// An option of this name, whose value is a number from 1 to `most`.
+fn number_option<'a>(alloc: Global, name: &'a str, most: u64) -> Arg<'a>
+    ensures { IsArgument (number_option name.entry.now most) result }
+{
+    Arg::new(alloc, name)
+        .long(name)
+        .action(ArgAction::Set)
+        .value_parser(ValueParser::unsigned(1, most))
+}
+
+/// The flag `--report`.
+fn report_flag<'a>(alloc: Global) -> Arg<'a>
+    ensures { IsArgument report_flag result }
+{
+    Arg::new(alloc, "report")
+        .long("report")
+        .action(ArgAction::SetTrue)
+}
+
+/// An argument that has to be given, at its place among those without a name.
+fn wanted<'a>(alloc: Global, name: &'a str) -> Arg<'a>
+    ensures { IsArgument (wanted name.entry.now) result }
+{
+    Arg::new(alloc, name).action(ArgAction::Set).required(true)
+}
+
+/// The same, a number from `least` to `most`.
+fn wanted_number<'a>(alloc: Global, name: &'a str, least: u64, most: u64) -> Arg<'a>
+    ensures { IsArgument (wanted_number name.entry.now least most) result }
+{
+    wanted(alloc, name).value_parser(ValueParser::unsigned(least, most))
+}
+
+/// A command with the options of a run.
+#[tactic(auto, using(crate::proofs::Building::building))]
+fn with_run_options<'a>(
+    alloc: Global,
+    command: clap::Command<'a>,
+) -> Result<clap::Command<'a>, AllocError>
+    ensures { (a : App) → IsCommand a command.entry → IfOk result (IsCommand (with_run_options a)) }
+{
+    let with_workers = command.arg(number_option(alloc, "workers", MOST_WORKERS))?;
+    let with_tile = with_workers.arg(number_option(alloc, "tile", MOST_TILE))?;
+    with_tile.arg(number_option(alloc, "budget", MOST_MOVES))
+}
+
+/// The command `run`.
+fn run_command<'a>(alloc: Global) -> Result<clap::Command<'a>, AllocError>
+    ensures { IfOk result (IsCommand run_tool) }
+{
+    let run = with_run_options(alloc, clap::Command::new(alloc, "run"))?;
+    run.arg(report_flag(alloc))
+}
+
+/// The command `gen` with its arguments alone.
+#[tactic(auto, using(crate::proofs::Building::building))]
+fn gen_arguments<'a>(alloc: Global) -> Result<clap::Command<'a>, AllocError>
+    ensures { IfOk result (IsCommand gen_arguments) }
+{
+    let with_kind = clap::Command::new(alloc, "gen").arg(wanted(alloc, "kind"))?;
+    let with_seed = with_kind.arg(wanted_number(alloc, "seed", 0, u64::MAX))?;
+    with_seed.arg(wanted_number(alloc, "size", 1, MOST_SIZE))
+}
+
+/// The command `gen`.
+fn gen_command<'a>(alloc: Global) -> Result<clap::Command<'a>, AllocError>
+    ensures { IfOk result (IsCommand gen_tool) }
+{
+    let arguments = gen_arguments(alloc)?;
+    with_run_options(alloc, arguments)
+}
+
+/// A command of this name with the option `--budget`.
+#[tactic(auto, using(crate::proofs::Building::building))]
+fn budget_command<'a>(alloc: Global, name: &'a str) -> Result<clap::Command<'a>, AllocError>
+    ensures { IfOk result (IsCommand (budget_tool name.entry.now)) }
+{
+    clap::Command::new(alloc, name).arg(number_option(alloc, "budget", MOST_MOVES))
+}
+
+/// The command `emit`.
+#[tactic(auto, using(crate::proofs::Building::building))]
+fn emit_command<'a>(alloc: Global) -> Result<clap::Command<'a>, AllocError>
+    ensures { IfOk result (IsCommand emit_tool) }
+{
+    let emit = budget_command(alloc, "emit")?;
+    emit.arg(number_option(alloc, "tile", MOST_TILE))
+}
+
+/// The stated command without its commands, of which it wants one.
+#[tactic(auto, using(crate::proofs::Building::building))]
+fn bare<'a>(alloc: Global) -> clap::Command<'a>
+    ensures { IsCommand bare_tool result }
+{
+    clap::Command::new(alloc, "polypar")
+        .subcommand_required(true)
+        .disable_help_subcommand(true)
+}
+
+/// A command with those that ask of a kernel alone.
+#[tactic(auto, using(crate::proofs::Building::building))]
+fn with_kernel_commands<'a>(
+    alloc: Global,
+    command: clap::Command<'a>,
+) -> Result<clap::Command<'a>, AllocError>
+    ensures { (a : App) → IsCommand a command.entry → IfOk result (IsCommand (with_kernel_tools a)) }
+{
+    let schedule = budget_command(alloc, "schedule")?;
+    let with_schedule = command.subcommand(schedule)?;
+    let deps = budget_command(alloc, "deps")?;
+    let with_deps = with_schedule.subcommand(deps)?;
+    let emit = emit_command(alloc)?;
+    with_deps.subcommand(emit)
+}
+
+/// The stated command. Its definition in specs/Stated.antt says which words it takes.
+pub(crate) fn stated<'a>(alloc: Global) -> Result<clap::Command<'a>, AllocError>
+    ensures { IfOk result (IsCommand tool) }
+{
+    let run = run_command(alloc)?;
+    let with_run = bare(alloc).subcommand(run)?;
+    let of_kernels = with_kernel_commands(alloc, with_run)?;
+    let generated = gen_command(alloc)?;
+    of_kernels.subcommand(generated)
+}
