@@ -1,5 +1,5 @@
 -- From the parts of a plan to what is promised of it.
-use Rattle.std.proofs.Common.{◌≡◌, ◌∙◌, sym, subst, ap, inl, inr, ℕ, ◌≤◌, ℤ, Bool, List, Option, Some, length}
+use Rattle.std.proofs.Common.{◌≡◌, ◌∙◌, sym, subst, ap, inl, inr, ℕ, ◌≤◌, ℤ, Bool, List, Option, length}
 use Rattle.std.specs.Prelude.{All, FitsSigned}
 use Rattle.std.specs.Int.{w64}
 use Rattle.whole_numbers.specs.Affine.{value_of}

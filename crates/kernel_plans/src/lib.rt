@@ -5,8 +5,8 @@
 #![tactic(auto)]
 
 mod lines;
-mod plans;
 mod planning;
+mod plans;
 mod text;
 
 pub use planning::planned;
