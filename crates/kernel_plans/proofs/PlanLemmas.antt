@@ -1,0 +1,120 @@
+-- From the parts of a plan to what is promised of it.
+use Rattle.std.proofs.Common.{◌≡◌, ◌∙◌, sym, subst, ap, inl, inr, ℕ, ◌≤◌, ℤ, Bool, List, Option, length}
+use Rattle.std.specs.Prelude.{All, FitsSigned}
+use Rattle.std.specs.Int.{w64}
+use Rattle.whole_numbers.specs.Affine.{value_of}
+use Rattle.scop_syntax.specs.Limits.{HasParameters}
+use Rattle.scop_syntax.specs.Members.{In}
+use Rattle.scop_syntax.specs.Tree.{Program}
+use Rattle.scop_syntax.specs.Walk.{Instance}
+use Rattle.iteration_domains.specs.Dependence.{Dependence}
+use Rattle.iteration_domains.specs.Model.{KernelModel, model_of}
+use Rattle.conflict_deps.specs.Conflicts.{conflicts_of}
+use Rattle.fm_projection.specs.declared.stop.FmStop.{FmStop}
+use Rattle.farkas.specs.declared.stuck.Stuck.TheVariants as stuck
+use Rattle.schedule_rows.specs.Schedule.{Scheduled, IsScheduled, loops_in}
+use Rattle.loop_tree.specs.Tiling.{Tiling, kept, items_at}
+use Rattle.loop_tree.specs.TilingView.{tiling_of as tiling_in}
+use Rattle.loop_tree.specs.Tree.{Trees}
+use Rattle.loop_tree.specs.View.{trees_in}
+use Rattle.loop_tree.specs.Walk.{visits}
+use Rattle.tile_list.specs.Tiles.{CanTile}
+use Rattle.tile_skew.specs.Tilings.{schedule_tiling, statements_from}
+use Rattle.plan_tree.specs.Trees.{AreTreesOf, IsScheduleFor, StopsTiled, tiling_of}
+use Rattle.pluto_search.specs.Searching.{Keeps}
+use Rattle.pluto_search.specs.declared.kept.Kept.{Kept}
+use Rattle.report_text.specs.declared.kept_line.KeptLine.{KeptLine}
+use Rattle.kernel_plans.specs.declared.plans.Planned.{Planned}
+use Rattle.kernel_plans.specs.Planned.{ArePlanned, IsCauseOfKept, IsPlanned}
+use Rattle.kernel_plans.specs.Planning.{IsSearched, line_of, line_of_kept}
+use Rattle.kernel_plans.specs.steps.Plans.{IsKeptPlan, IsTiledPlan}
+
+-- trees that are planned carry out the plan
+pub planned_carried : (tile budget : ℕ) (report : Bool) (program : Program) (plan : Tiling) (lines : List ℕ) (ts : Trees)
+    → ArePlanned tile budget report program plan lines ts → AreTreesOf program plan ts
+planned_carried tile budget report program plan lines ts (inl tiled) = tiled.carried
+planned_carried tile budget report program plan lines ts (inr own) = own.carried
+
+-- at what the trees of a schedule's tiles visit, the values of the rows of the first band have 64 bits
+abbrev pub RowsFitAlong : Type 0
+RowsFitAlong = (program : Program) (params : List ℤ) (size : ℕ) (s : Scheduled) (run : IsScheduled s) (ts : Trees)
+    → IsScheduleFor program s → AreTreesOf program (tiling_of program size run.blocks) ts
+    → HasParameters program params → (x : Instance) → In x (visits ts params)
+    → All (λ r. FitsSigned w64 (value_of r.form x.turns))
+    (items_at (statements_from run.blocks 0 (length (model_of program).statements)) x.number).band
+
+-- so the tiles of a schedule can be told
+tiled_fits : RowsFitAlong → (tile : ℕ) (program : Program) (s : Scheduled) (run : IsScheduled s) (ts : Trees)
+    → 1 ≤ tile → IsScheduleFor program s → AreTreesOf program (tiling_of program tile run.blocks) ts
+    → (params : List ℤ) → HasParameters program params → CanTile (tiling_of program tile run.blocks) (visits ts params)
+tiled_fits fit tile program s run ts low own carried params has = record {
+  size = low;
+  rows = fit program params tile s run ts own carried has;
+}
+
+-- the plan of a schedule's tiles
+pub tiled_is_planned : RowsFitAlong → (tile budget : ℕ) (report : Bool) (program : Program) (s : Scheduled)
+    (run : IsScheduled s) (ts : Trees) (p : Planned) → 1 ≤ tile → IsScheduleFor program s
+    → IsSearched budget (model_of program) run.blocks → AreTreesOf program (tiling_of program tile run.blocks) ts
+    → IsTiledPlan tile report s ts p → IsPlanned tile budget report program p
+tiled_is_planned fit tile budget report program s run ts p low own found carried made =
+    let plan = tiling_of program tile run.blocks in
+    let is : tiling_in p.tiling ≡ plan = made.is run
+    ∙ ap (λ (m : KernelModel). schedule_tiling tile (length m.statements) run.blocks) own.model in
+    let carries = subst (λ t. AreTreesOf program plan t) (sym made.trees) carried in
+    record {
+      planned = inl (record {
+        blocks = run.blocks;
+        found = found;
+        is = is;
+        carried = subst (λ t. AreTreesOf program t (trees_in p.tree)) (sym is) carries;
+        told = made.told run;
+      });
+      fits = λ params has. subst (λ t. CanTile t (visits (trees_in p.tree) params)) (sym is)
+          (tiled_fits fit tile program s run (trees_in p.tree) low own carries params has);
+    }
+
+-- a kept order is one tile
+kept_fits : (plan : Tiling) (xs : List Instance) → plan ≡ kept → CanTile plan xs
+kept_fits plan xs is = subst (λ t. CanTile t xs) (sym is) (record { size = tt; rows = λ x i. tt })
+
+-- the kept order, with the line of a cause
+kept_is_planned : (tile budget : ℕ) (report : Bool) (program : Program) (line : Option KeptLine) (p : Planned)
+    → (made : IsKeptPlan program line p) → IsCauseOfKept tile budget (model_of program) made.told.0
+    → IsPlanned tile budget report program p
+kept_is_planned tile budget report program line p made cause = record {
+  planned = inr (record {
+    why = made.told.0;
+    cause = cause;
+    is = made.is;
+    own = made.own;
+    carried = made.carried;
+    line = made.told.2;
+  });
+  fits = λ params has. kept_fits (tiling_in p.tiling) (visits (trees_in p.tree) params) made.is;
+}
+
+-- where the scan of the schedule's sets stops
+pub stopped_is_planned : (tile budget : ℕ) (report : Bool) (program : Program) (s : Scheduled) (run : IsScheduled s)
+    (stop : FmStop) (line : Option KeptLine) (p : Planned) → IsScheduleFor program s
+    → IsSearched budget (model_of program) run.blocks → StopsTiled s.model tile run.blocks stop
+    → line ≡ line_of (stuck.Elimination stop) → IsKeptPlan program line p → IsPlanned tile budget report program p
+stopped_is_planned tile budget report program s run stop line p own found stops same made =
+    kept_is_planned tile budget report program line p made (inr (
+      run.blocks,
+      stop,
+      found,
+      subst (λ m. StopsTiled m tile run.blocks stop) own.model stops,
+      sym same ∙ made.told.1,
+    ))
+
+-- where the search stops
+pub unscheduled_is_planned : (tile budget : ℕ) (report : Bool) (program : Program) (model : KernelModel)
+    (deps : List Dependence) (cause : Kept) (line : Option KeptLine) (p : Planned) → model ≡ model_of program
+    → deps ≡ conflicts_of model → Keeps model.parameters (loops_in model) deps budget cause
+    → line ≡ line_of_kept cause → IsKeptPlan program line p → IsPlanned tile budget report program p
+unscheduled_is_planned tile budget report program model deps cause line p own conflicts keeps same made =
+    let over_conflicts = subst (λ ds. Keeps model.parameters (loops_in model) ds budget cause) conflicts keeps in
+    let over_program =
+    subst (λ m. Keeps m.parameters (loops_in m) (conflicts_of m) budget cause) own over_conflicts in
+    kept_is_planned tile budget report program line p made (inl (cause, over_program, sym same ∙ made.told.1))

@@ -1,0 +1,21 @@
+-- The text is the schedule's, or that of the line that tells what keeps the order.
+use Rattle.std.proofs.Common.{◌∙◌}
+use Rattle.std.proofs.lemmas.Result.{IfOk-weaker}
+use Rattle.kernel_plans.proofs.TextLemmas.{schedule_is_plan, kept_is_plan}
+use Rattle.kernel_plans.proofs.text.plan_text.Goals as goal
+
+pub returns-in-Ok-search : goal.returns-in-Ok-search
+returns-in-Ok-search c =
+    IfOk-weaker c.schedule_text.result _ _
+    (λ text is. schedule_is_plan c.each_state_has_one_outcome.ensures c.args.budget c.args.model.now
+    c.deref.result.now c.in-Ok-search.schedule text.items (c.deref.ensures.value ∙ c.in-Ok.ensures)
+    c.in-Ok-search.ensures.search is)
+    c.schedule_text.ensures
+
+pub returns : goal.returns
+returns c =
+    IfOk-weaker c.line_text.result _ _
+    (λ text told. kept_is_plan c.args.budget c.args.model.now c.deref.result.now c.in-Err-search.kept
+    c.line_of_kept-line.result text.items (c.deref.ensures.value ∙ c.in-Ok.ensures) c.in-Err-search.ensures.search
+    c.line_of_kept-line.ensures told)
+    c.line_text.ensures

@@ -1,0 +1,70 @@
+-- What `schedule` prints of a kernel: its schedule, or why its order is kept.
+use Rattle.std.specs.Prelude.{◌≡◌, ◌⊎◌, ℕ, List, Option, Some, None}
+use Rattle.scop_syntax.specs.Tree.{Program}
+use Rattle.iteration_domains.specs.Model.{KernelModel, model_of}
+use Rattle.conflict_deps.specs.Conflicts.{conflicts_of}
+use Rattle.fm_projection.specs.declared.FmStop.TheVariants as elimination
+use Rattle.pip_solver.specs.declared.stop.Stop.TheVariants as solver
+use Rattle.farkas.specs.declared.stuck.Stuck.{Stuck}
+use Rattle.farkas.specs.declared.stuck.Stuck.TheVariants as stuck
+use Rattle.schedule_rows.specs.Items.{Block}
+use Rattle.schedule_rows.specs.Outcomes.{ends, IsSchedule}
+use Rattle.schedule_rows.specs.Schedule.{loops_in}
+use Rattle.pluto_search.specs.Questions.{ComesAnswered}
+use Rattle.pluto_search.specs.Searching.{Keeps}
+use Rattle.pluto_search.specs.declared.kept.Kept.{Kept}
+use Rattle.pluto_search.specs.declared.kept.Kept.TheVariants as kept
+use Rattle.report_text.specs.declared.kept_line.KeptLine.{KeptLine}
+use Rattle.report_text.specs.declared.kept_line.KeptLine.TheVariants as line
+use Rattle.report_text.specs.KeptText.{kept_text}
+use Rattle.report_text.specs.ScheduleText.{schedule_text}
+
+-- the line of a question or an elimination that stops; none for want of memory
+abbrev pub line_of : Stuck → Option KeptLine
+line_of (stuck.Solver (solver.Wide posed moves)) = Some line.Wide
+line_of (stuck.Solver (solver.Spent posed moves)) = Some (line.Spent moves)
+line_of (stuck.Solver solver.NoMemory) = None
+line_of (stuck.Elimination (elimination.Wide wide)) = Some line.Wide
+line_of (stuck.Elimination (elimination.Crowded pairs)) = Some (line.Crowded pairs)
+line_of (stuck.Elimination (elimination.Large number)) = Some line.Large
+line_of (stuck.Elimination elimination.NoMemory) = None
+line_of stuck.NoMemory = None
+
+-- the line of what keeps an order; none for want of memory
+abbrev pub line_of_kept : Kept → Option KeptLine
+line_of_kept (kept.Stuck stop) = line_of stop
+line_of_kept (kept.NoRow posed) = Some line.NoRow
+line_of_kept (kept.NoOrder component) = Some line.NoOrder
+line_of_kept kept.NoMemory = None
+line_of_kept (kept.Large row) = Some line.Large
+
+-- the text is that of a line that is told
+abbrev pub IsLineText : Option KeptLine → List ℕ → Type 0
+IsLineText told text = (some : KeptLine) × (told ≡ Some some) × (text ≡ kept_text some)
+
+-- the blocks are the schedule of the determined run over the model's conflicts
+abbrev pub IsScheduleOf : KernelModel → List Block → Type 0
+IsScheduleOf model blocks = IsSchedule model.parameters (loops_in model) (conflicts_of model) blocks
+
+-- it is what a search with this budget finds: all questions that the run poses are answered within it
+abbrev pub IsSearched : ℕ → KernelModel → List Block → Type 0
+IsSearched budget model blocks =
+    IsScheduleOf model blocks
+    × ComesAnswered model.parameters (loops_in model) budget (conflicts_of model) (ends blocks)
+
+-- what a kept line tells holds: the determined run over the model's conflicts comes to that outcome, or a question that
+-- the search for it poses with this budget stops so
+abbrev pub IsCauseOf : ℕ → KernelModel → KeptLine → Type 0
+IsCauseOf budget model told =
+    (cause : Kept) × Keeps model.parameters (loops_in model) (conflicts_of model) budget cause
+    × (line_of_kept cause ≡ Some told)
+
+-- the text is that of the schedule that is found, or the kept line of a cause that holds
+abbrev pub IsPlanOf : ℕ → KernelModel → List ℕ → Type 0
+IsPlanOf budget model text =
+    ((blocks : List Block) × IsSearched budget model blocks × (text ≡ schedule_text blocks))
+    ⊎ ((told : KeptLine) × IsCauseOf budget model told × (text ≡ kept_text told))
+
+-- the same of a program's model
+abbrev pub IsPlanText : ℕ → Program → List ℕ → Type 0
+IsPlanText budget program text = IsPlanOf budget (model_of program) text

@@ -1,0 +1,28 @@
+-- A plan that is put together of its parts.
+use Rattle.std.specs.Prelude.{◌≡◌, ℕ, Bool, Option, length}
+use Rattle.scop_syntax.specs.Tree.{Program}
+use Rattle.loop_tree.specs.Source.{source_of}
+use Rattle.loop_tree.specs.Tiling.{kept}
+use Rattle.loop_tree.specs.TilingView.{tiling_of}
+use Rattle.loop_tree.specs.Tree.{Trees}
+use Rattle.loop_tree.specs.View.{trees_in}
+use Rattle.schedule_rows.specs.Schedule.{Scheduled, IsScheduled}
+use Rattle.tile_skew.specs.Tilings.{schedule_tiling}
+use Rattle.plan_tree.specs.Trees.{AreTreesOf}
+use Rattle.report_text.specs.declared.kept_line.KeptLine.{KeptLine}
+use Rattle.kernel_plans.specs.declared.plans.Planned.{Planned}
+use Rattle.kernel_plans.specs.Planned.{report_of}
+use Rattle.kernel_plans.specs.Planning.{IsLineText}
+
+-- these trees, the tiling of the schedule, and its text where a report is asked for
+pub record IsTiledPlan (tile : ℕ) (report : Bool) (s : Scheduled) (ts : Trees) (p : Planned) : Type 0 where
+  pub trees : trees_in p.tree ≡ ts
+  pub is : (run : IsScheduled s) → tiling_of p.tiling ≡ schedule_tiling tile (length s.model.statements) run.blocks
+  pub told : (run : IsScheduled s) → p.lines.items ≡ report_of report run.blocks
+
+-- the source's own loops, kept, and the line's text
+pub record IsKeptPlan (program : Program) (line : Option KeptLine) (p : Planned) : Type 0 where
+  pub told : IsLineText line p.lines.items
+  pub is : tiling_of p.tiling ≡ kept
+  pub own : trees_in p.tree ≡ source_of program
+  pub carried : AreTreesOf program (tiling_of p.tiling) (trees_in p.tree)

@@ -1,0 +1,82 @@
+//! The search for a kernel's plan: the tiles of its schedule; where the search or the scan of the schedule's sets stops,
+//! the kernel's own order.
+
+ghost use Rattle.std.specs.Prelude.{◌≡◌, ◌≤◌, IfOk};
+ghost use Rattle.scop_syntax.specs.Kernel.{IsKernel};
+ghost use Rattle.scop_syntax.specs.View.{program_of};
+ghost use Rattle.iteration_domains.specs.Model.{model_of};
+ghost use Rattle.schedule_rows.specs.Schedule.{IsScheduled};
+ghost use Rattle.plan_tree.specs.Trees.{IsScheduleFor};
+ghost use Rattle.kernel_plans.specs.Planned.{IsPlanned};
+ghost use Rattle.kernel_plans.specs.Planning.{IsSearched};
+
+use crate::lines::{line_of, line_of_kept};
+use crate::plans::{Planned, kept_plan, tiled_plan};
+use conflict_deps::conflicts;
+use farkas::Stuck;
+use iteration_domains::Model;
+use plan_tree::laws::rows_of_schedules_fit;
+use plan_tree::tiled_tree;
+use pluto_search::search;
+use schedule_rows::Schedule;
+use scop_syntax::tree::Kernel;
+use std::alloc::{AllocError, Global};
+
+/// The plan of a schedule's tiles, or that of the kernel's own order where the scan of the schedule's sets stops.
+fn schedule_plan(
+    alloc: Global,
+    kernel: &Kernel,
+    schedule: &Schedule,
+    tile: u64,
+    budget: u64,
+    report: bool,
+) -> Result<Planned, AllocError>
+    requires tile { (1 ≤ tile) × (tile ≤ 1024) }
+    requires program { IsScheduleFor (program_of kernel.now) schedule.now }
+    ensures { (s : IsScheduled schedule.now)
+        → IsSearched budget (model_of (program_of kernel.now)) s.blocks
+        → IfOk result (IsPlanned tile budget report (program_of kernel.now)) }
+{
+    rows_of_schedules_fit();
+    match tiled_tree(alloc, schedule, tile, budget) {
+        Ok(tree) => tiled_plan(alloc, schedule, tree, tile, report),
+        Err(stop) => {
+            let stuck = Stuck::Elimination(stop);
+            let line = line_of(&stuck);
+            drop(stuck);
+            kept_plan(alloc, kernel, line)
+        }
+    }
+}
+
+/// The plan of a kernel for tiles of this size, where each question of the search may make `budget` moves of the solver:
+/// that of the schedule which is found, told where a report is asked for, or the kept order with the line of its cause.
+///
+/// # Errors
+/// `AllocError` alone.
+pub fn planned(
+    alloc: Global,
+    kernel: &Kernel,
+    model: &Model,
+    tile: u64,
+    budget: u64,
+    report: bool,
+) -> Result<Planned, AllocError>
+    requires kernel { IsKernel (program_of kernel.now) }
+    requires model { model.now ≡ model_of (program_of kernel.now) }
+    requires tile { (1 ≤ tile) × (tile ≤ 1024) }
+    ensures { IfOk result (IsPlanned tile budget report (program_of kernel.now)) }
+{
+    let deps = match conflicts(alloc, model) {
+        Ok(deps) => deps,
+        Err(_) => return Err(AllocError),
+    };
+    match search(alloc, model, &deps, budget) {
+        Ok(schedule) => schedule_plan(alloc, kernel, &schedule, tile, budget, report),
+        Err(kept) => {
+            let line = line_of_kept(&kept);
+            drop(kept);
+            kept_plan(alloc, kernel, line)
+        }
+    }
+}

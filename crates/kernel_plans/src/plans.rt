@@ -1,0 +1,76 @@
+//! Plans with their lines: of a schedule's tiles, and of the kernel's own order.
+
+ghost use Rattle.std.specs.Prelude.{◌≡◌, ◌≤◌, IfOk};
+ghost use Rattle.scop_syntax.specs.Kernel.{IsKernel};
+ghost use Rattle.scop_syntax.specs.View.{program_of};
+ghost use Rattle.loop_tree.specs.View.{trees_in};
+ghost use Rattle.schedule_rows.specs.Schedule.{IsScheduled};
+ghost use Rattle.kernel_plans.specs.Planned.{report_of};
+ghost use Rattle.kernel_plans.specs.steps.Plans.{IsKeptPlan, IsTiledPlan};
+
+use crate::lines::line_text;
+use loop_tree::{Tiling, Tree};
+use plan_tree::source_tree;
+use report_text::{KeptLine, schedule_text};
+use schedule_rows::{Schedule, each_state_has_one_outcome};
+use scop_syntax::tree::Kernel;
+use std::alloc::{AllocError, Global};
+use tile_skew::tiling;
+
+/// The plan of a kernel: its loop tree, its tiling, and the lines that tell of it: a kept order's line, or, where a
+/// report is asked for, the schedule.
+#[derive(Drop)]
+pub struct Planned {
+    pub tree: Tree,
+    pub tiling: Tiling,
+    pub lines: Vec<u8>,
+}
+
+/// The text of a schedule where a report is asked for, else no text.
+fn report_lines(alloc: Global, schedule: &Schedule, report: bool) -> Result<Vec<u8>, AllocError>
+    ensures { IfOk result (λ lines. (s : IsScheduled schedule.now) → lines.items ≡ report_of report s.blocks) }
+{
+    each_state_has_one_outcome();
+    if report {
+        return schedule_text(alloc, schedule);
+    }
+    Ok(Vec::new(alloc))
+}
+
+/// The plan of a schedule's tiles, of this size, whose tree is given.
+pub(crate) fn tiled_plan(
+    alloc: Global,
+    schedule: &Schedule,
+    tree: Tree,
+    tile: u64,
+    report: bool,
+) -> Result<Planned, AllocError>
+    requires { (1 ≤ tile) × (tile ≤ 1024) }
+    ensures { IfOk result (IsTiledPlan tile report schedule.now (trees_in tree)) }
+{
+    let tiling = tiling(alloc, schedule, tile)?;
+    let lines = report_lines(alloc, schedule, report)?;
+    Ok(Planned {
+        tree,
+        tiling,
+        lines,
+    })
+}
+
+/// The plan of a kernel's own order, with the line that tells why it is kept.
+pub(crate) fn kept_plan(
+    alloc: Global,
+    kernel: &Kernel,
+    line: Option<KeptLine>,
+) -> Result<Planned, AllocError>
+    requires { IsKernel (program_of kernel.now) }
+    ensures { IfOk result (IsKeptPlan (program_of kernel.now) line) }
+{
+    let lines = line_text(alloc, line)?;
+    let tree = source_tree(alloc, kernel)?;
+    Ok(Planned {
+        tree,
+        tiling: Tiling::Kept,
+        lines,
+    })
+}

@@ -1,0 +1,36 @@
+//! The text of a schedule, or the line that tells why the kernel's order is kept.
+
+ghost use Rattle.std.specs.Prelude.{IfOk};
+ghost use Rattle.conflict_deps.specs.Conflicts.{conflicts_of};
+ghost use Rattle.kernel_plans.specs.Planning.{line_of_kept, IsLineText, IsPlanOf};
+
+use crate::lines::{line_of_kept, line_text};
+use conflict_deps::conflicts;
+use iteration_domains::Model;
+use pluto_search::search;
+use report_text::schedule_text;
+use schedule_rows::each_state_has_one_outcome;
+use std::alloc::{AllocError, Global};
+
+/// The text of a model's schedule, or the line that tells why the order is kept. Each question of the search may make
+/// `budget` moves of the solver.
+///
+/// # Errors
+/// `AllocError` alone.
+pub fn plan_text(alloc: Global, model: &Model, budget: u64) -> Result<Vec<u8>, AllocError>
+    ensures { IfOk result (λ text. IsPlanOf budget model.now text.items) }
+{
+    each_state_has_one_outcome();
+    let deps = match conflicts(alloc, model) {
+        Ok(deps) => deps,
+        Err(_) => return Err(AllocError),
+    };
+    match search(alloc, model, &deps, budget) {
+        Ok(schedule) => schedule_text(alloc, &schedule),
+        Err(kept) => {
+            let line = line_of_kept(&kept);
+            drop(kept);
+            line_text(alloc, line)
+        }
+    }
+}
