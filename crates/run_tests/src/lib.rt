@@ -8,4 +8,3 @@ mod generated;
 pub mod plans;
 #[cfg(test)]
 mod runs;
-pub mod schedules;

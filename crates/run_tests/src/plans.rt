@@ -1,6 +1,6 @@
 //! Small kernels with their cases, trees of plans of them, and the tiles of these: exactly what a plan of a run wants.
 
-ghost use Rattle.std.specs.Prelude.{◌≡◌, ◌≤◌, ◌<◌, IfOk, length};
+ghost use Rattle.std.specs.Prelude.{◌≡◌, ◌≤◌, IfOk, length};
 ghost use Rattle.scop_syntax.specs.Execution.{IsInside, layout, total_cells};
 ghost use Rattle.scop_syntax.specs.Kernel.{IsKernel};
 ghost use Rattle.scop_syntax.specs.Limits.{WithinLimits};
@@ -14,8 +14,9 @@ ghost use Rattle.tile_list.specs.Tiles.{CanTile};
 ghost use Rattle.tile_list.specs.TilesView.{IsTileListOf};
 ghost use Rattle.run_tests.specs.Made.{IsCaseOf, IsMade};
 
-use crate::schedules::planned;
 use data_text::{Case, read_data};
+use iteration_domains::Model;
+use kernel_plans::{Planned, planned};
 use loop_tree::{Tiling, Tree};
 use plan_tree::laws::{trees_of_plans_can_be_walked, waves_have_one_length};
 use plan_tree::source_tree;
@@ -28,6 +29,9 @@ use std::alloc::{AllocError, Global};
 use tile_core::plan::Plan;
 use tile_list::laws::orders_rise_by_tile;
 use tile_list::{TileList, tiles};
+
+/// The budget of the questions.
+const BUDGET: u64 = 20000;
 
 /// A kernel with its case, a tree of a plan of it, and the tiles of its visits.
 #[derive(Drop)]
@@ -123,14 +127,15 @@ pub fn kept(alloc: Global, text: &str, lines: &str) -> Result<Made, AllocError>
     })
 }
 
-/// The tiles of a kernel's schedule, as a plan; an error where it has none.
+/// The tiles of a kernel's schedule as a plan, or its own order where it has none.
 pub fn tiled(alloc: Global, text: &str, lines: &str, size: u64) -> Result<Made, AllocError>
-    requires { (0 < size) × (size ≤ 1024) }
+    requires { (1 ≤ size) × (size ≤ 1024) }
     ensures { IfOk result IsMade }
 {
     let kernel = kernel_of(alloc, text)?;
     let case = case_of(alloc, &kernel, lines)?;
-    let (tree, tiling) = planned(alloc, &kernel, size)?;
+    let model = Model::of(alloc, &kernel)?;
+    let Planned { tree, tiling, .. } = planned(alloc, &kernel, &model, size, BUDGET, false)?;
     let list = tiles_of(alloc, &kernel, &case, &tree, &tiling)?;
     Ok(Made {
         kernel,

@@ -1,4 +1,4 @@
-use Rattle.std.proofs.Common.{subst, sym, ◌≡◌, ℕ, ℤ, List, []}
+use Rattle.std.proofs.Common.{subst, sym, ◌≡◌, ℤ, List, []}
 use Rattle.scop_syntax.specs.Execution.{IsInside, layout}
 use Rattle.scop_syntax.specs.Limits.{WithinLimits, has_parameters}
 use Rattle.scop_syntax.specs.View.{program_of}
