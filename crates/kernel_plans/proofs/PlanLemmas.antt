@@ -25,15 +25,10 @@ use Rattle.pluto_search.specs.Searching.{Keeps}
 use Rattle.pluto_search.specs.declared.kept.Kept.{Kept}
 use Rattle.report_text.specs.declared.kept_line.KeptLine.{KeptLine}
 use Rattle.kernel_plans.specs.declared.plans.Planned.{Planned}
-use Rattle.kernel_plans.specs.Planned.{ArePlanned, IsCauseOfKept, IsPlanned}
+use Rattle.kernel_plans.specs.Planned.{IsCauseOfKept, IsPlanned}
 use Rattle.kernel_plans.specs.Planning.{IsSearched, line_of, line_of_kept}
 use Rattle.kernel_plans.specs.steps.Plans.{IsKeptPlan, IsTiledPlan}
 
--- trees that are planned carry out the plan
-pub planned_carried : (tile budget : ℕ) (report : Bool) (program : Program) (plan : Tiling) (lines : List ℕ) (ts : Trees)
-    → ArePlanned tile budget report program plan lines ts → AreTreesOf program plan ts
-planned_carried tile budget report program plan lines ts (inl tiled) = tiled.carried
-planned_carried tile budget report program plan lines ts (inr own) = own.carried
 
 -- at what the trees of a schedule's tiles visit, the values of the rows of the first band have 64 bits
 abbrev pub RowsFitAlong : Type 0
