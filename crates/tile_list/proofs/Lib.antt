@@ -10,3 +10,4 @@ pub mod Rising
 pub mod Unique
 pub mod Numbers
 pub mod Starts
+pub mod Counting

@@ -1,3 +1,4 @@
 pub mod Tiles
 pub mod TilesView
+pub mod Counting
 pub mod steps

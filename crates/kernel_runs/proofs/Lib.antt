@@ -1,0 +1,5 @@
+pub mod Cells
+pub mod Steps
+pub mod Cores
+pub mod Members
+pub mod Ending

@@ -1,0 +1,32 @@
+use Rattle.std.proofs.Common.{subst, sym, ◌≡◌, ℤ, List, []}
+use Rattle.scop_syntax.specs.Execution.{IsInside, layout}
+use Rattle.scop_syntax.specs.Limits.{WithinLimits, has_parameters}
+use Rattle.scop_syntax.specs.View.{program_of}
+use Rattle.loop_tree.specs.Conditions.{CanWalk}
+use Rattle.loop_tree.specs.Plans.{AreInOrder}
+use Rattle.loop_tree.specs.Tiling.{IsGoodPlan}
+use Rattle.loop_tree.specs.TilingView.{tiling_of}
+use Rattle.loop_tree.specs.View.{trees_in}
+use Rattle.loop_tree.specs.Walk.{visits}
+use Rattle.tile_list.specs.TilesView.{IsTileListOf}
+use Rattle.kernel_runs.proofs.running.plan_of.Goals as goal
+
+pub returns-clause-plan : goal.returns-clause-plan
+returns-clause-plan c =
+    let params = c.args.case.now.params.items in
+    let program = program_of c.args.kernel.now in
+    let tiling = tiling_of c.args.tiling.now in
+    let ts = trees_in c.args.tree.now in
+    let same = sym c.deref.ensures.value in
+    let has = has_parameters c.requires.limits in
+    let carried = c.requires.trees.carry_out params has in
+    let walk = c.trees_of_plans_can_be_walked.ensures program params tiling ts c.requires.trees has in
+    record {
+      limits = subst (λ (ps : List ℤ). WithinLimits program ps) same c.requires.limits;
+      inside = subst (λ (ps : List ℤ). IsInside program ps) same c.requires.inside;
+      laid = subst (λ (ps : List ℤ). c.args.case.now.extents ≡ layout program ps) same c.requires.laid;
+      walk = subst (λ (ps : List ℤ). CanWalk ts ps []) same walk;
+      order = subst (λ (ps : List ℤ). AreInOrder program ps tiling (visits ts ps)) same carried.exact;
+      good = subst (λ (ps : List ℤ). IsGoodPlan program ps tiling) same carried.good;
+      tiles = subst (λ (ps : List ℤ). IsTileListOf ts ps tiling c.args.list.now) same c.requires.tiles;
+    }

@@ -1,0 +1,33 @@
+use Rattle.std.proofs.Common.{ℤ, List, subst, sym}
+use Rattle.scop_syntax.specs.Limits.{has_parameters}
+use Rattle.scop_syntax.specs.View.{program_of}
+use Rattle.loop_tree.specs.Plans.{walked}
+use Rattle.loop_tree.specs.Tiling.{tile_of, wave_of}
+use Rattle.loop_tree.specs.TilingView.{tiling_of}
+use Rattle.loop_tree.specs.View.{trees_in}
+use Rattle.loop_tree.specs.Walk.{visits}
+use Rattle.tile_list.specs.Counting.{HasTiles, HasWaves}
+use Rattle.kernel_runs.proofs.Members.{walked_values}
+use Rattle.kernel_runs.proofs.running.run_shared.Goals as goal
+
+pub returns-clause-tiles : goal.returns-clause-tiles
+returns-clause-tiles g c =
+    let program = program_of c.args.kernel.now in
+    let params = c.args.case.now.params.items in
+    let tiling = tiling_of c.args.tiling.now in
+    let ts = trees_in c.args.tree.now in
+    let order = (c.requires.trees.carry_out params (has_parameters c.requires.limits)).exact in
+    subst (HasTiles tiling (walked program params)) (sym c.counts_of.ensures.tiles)
+    (walked_values {K = List ℤ × List ℤ} (λ x. (wave_of tiling x, tile_of tiling x)) program params tiling
+    (visits ts params) _ order (c.tiles_are_counted.ensures.tiles ts params tiling c.in_ok-list.list c.in_ok-list.ensures))
+
+pub returns-clause-waves : goal.returns-clause-waves
+returns-clause-waves g c =
+    let program = program_of c.args.kernel.now in
+    let params = c.args.case.now.params.items in
+    let tiling = tiling_of c.args.tiling.now in
+    let ts = trees_in c.args.tree.now in
+    let order = (c.requires.trees.carry_out params (has_parameters c.requires.limits)).exact in
+    subst (HasWaves tiling (walked program params)) (sym c.counts_of.ensures.waves)
+    (walked_values (wave_of tiling) program params tiling (visits ts params) _ order
+    (c.tiles_are_counted.ensures.waves ts params tiling c.in_ok-list.list c.in_ok-list.ensures))

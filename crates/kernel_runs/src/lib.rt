@@ -1,0 +1,14 @@
+//! Kernels run by a plan, from arrays to arrays: the tiles of the plan's loop tree, done by one worker or by several on
+//! threads (U. Bondhugula and others, "A practical automatic polyhedral parallelizer and locality optimizer", PLDI 2008).
+//! Promises that the arrays end as the kernel's own execution leaves them, and how many tiles and waves there are.
+#![tactic(auto)]
+
+mod alone;
+mod rows;
+mod running;
+mod threads;
+mod workers;
+
+pub use running::{Counts, run_case};
+pub use threads::{By, run_case_on_threads, run_on_threads};
+pub use workers::{OneWorker, Workers};

@@ -1,0 +1,185 @@
+//! A kernel's case run by a plan, from arrays to arrays.
+ghost use Rattle.std.specs.Prelude.{◌≡◌, ◌-◌, ◌≤◌, IfErr, IfOk, length, map};
+ghost use Rattle.scop_syntax.specs.Execution.{IsInside, IsShaped, exec, layout};
+ghost use Rattle.scop_syntax.specs.Limits.{WithinLimits};
+ghost use Rattle.scop_syntax.specs.View.{program_of};
+ghost use Rattle.loop_tree.specs.Plans.{walked};
+ghost use Rattle.loop_tree.specs.TilingView.{tiling_of};
+ghost use Rattle.loop_tree.specs.View.{trees_in};
+ghost use Rattle.loop_tree.specs.Walk.{visits};
+ghost use Rattle.plan_tree.specs.Trees.{AreTreesOf};
+ghost use Rattle.tile_core.specs.Plans.{IsPlan, extents_in, program_in};
+ghost use Rattle.tile_events.specs.Flat.{flat};
+ghost use Rattle.tile_list.specs.Counting.{HasTiles, HasWaves};
+ghost use Rattle.tile_list.specs.Tiles.{CanTile};
+ghost use Rattle.tile_list.specs.TilesView.{IsTileListOf};
+
+use crate::rows::{put_back, row_of};
+use crate::workers::Workers;
+use data_text::Case;
+use loop_tree::{Tiling, Tree};
+use plan_tree::laws::{trees_of_plans_can_be_walked, waves_have_one_length};
+use scop_syntax::arrays::Arrays;
+use scop_syntax::tree::Kernel;
+use std::alloc::{AllocError, Global};
+use tile_core::plan::Plan;
+use tile_list::laws::{orders_rise_by_tile, tiles_are_counted};
+use tile_list::{TileList, tiles};
+
+/// How many tiles hold an instance, and how many waves hold such a tile.
+#[derive(Clone, Copy, Debug)]
+pub struct Counts {
+    pub tiles: u64,
+    pub waves: u64,
+}
+
+/// The tiles of what a plan's tree visits.
+fn tiles_of(
+    alloc: Global,
+    kernel: &Kernel,
+    case: &Case,
+    tree: &Tree,
+    tiling: &Tiling,
+) -> Result<TileList, AllocError>
+    requires limits { WithinLimits (program_of kernel.now) case.now.params.items }
+    requires trees { AreTreesOf (program_of kernel.now) (tiling_of tiling.now) (trees_in tree.now) }
+    requires fits { CanTile (tiling_of tiling.now) (visits (trees_in tree.now) case.now.params.items) }
+    ensures { IfOk result
+        (IsTileListOf (trees_in tree.now) case.now.params.items (tiling_of tiling.now)) }
+{
+    trees_of_plans_can_be_walked();
+    waves_have_one_length();
+    orders_rise_by_tile();
+    tiles(alloc, tree, tiling, &case.params)
+}
+
+/// The plan of a run.
+fn plan_of<'a>(
+    kernel: &'a Kernel,
+    case: &'a Case,
+    tree: &'a Tree,
+    tiling: &'a Tiling,
+    list: &'a TileList,
+) -> Plan<'a>
+    requires limits { WithinLimits (program_of kernel.now) case.now.params.items }
+    requires laid { case.now.extents ≡ layout (program_of kernel.now) case.now.params.items }
+    requires inside { IsInside (program_of kernel.now) case.now.params.items }
+    requires trees { AreTreesOf (program_of kernel.now) (tiling_of tiling.now) (trees_in tree.now) }
+    requires tiles { IsTileListOf (trees_in tree.now) case.now.params.items (tiling_of tiling.now) list.now }
+    ensures plan { IsPlan result }
+    ensures program { program_in result ≡ program_of kernel.now }
+    ensures params { result.params.now ≡ case.now.params.items }
+{
+    trees_of_plans_can_be_walked();
+    Plan {
+        kernel,
+        params: &case.params,
+        extents: &case.extents,
+        tree,
+        tiling,
+        list,
+    }
+}
+
+/// The cells of all arrays after a run of the plan, one array behind another.
+fn run_row<W: Workers>(
+    by: &W,
+    alloc: Global,
+    plan: Plan,
+    arrays: &Arrays,
+    workers: usize,
+) -> Result<Vec<u64>, AllocError>
+    requires ready { W.ready by.now }
+    requires plan { IsPlan plan }
+    requires shape { IsShaped (extents_in plan) arrays.now }
+    requires some { 1 ≤ workers }
+    requires few { workers ≤ 64 }
+    ensures { IfOk result (λ row. row.items
+        ≡ flat (exec (program_in plan.entry) plan.entry.params.now arrays.now)) }
+{
+    let mut row = row_of(alloc, arrays)?;
+    by.run(alloc, plan, &mut row, workers)?;
+    Ok(row)
+}
+
+/// How many tiles and waves a list has.
+fn counts_of(list: &TileList) -> Counts
+    ensures tiles { result.tiles ≡ length list.now.tiles.items }
+    ensures waves { result.waves ≡ length list.now.offsets.items - 1 }
+{
+    Counts {
+        tiles: list.tiles.len() as u64,
+        waves: list.waves() as u64,
+    }
+}
+
+/// The cells of all arrays after a run of the case, and how many tiles and waves it has.
+fn run_shared<W: Workers>(
+    by: &W,
+    alloc: Global,
+    kernel: &Kernel,
+    case: &Case,
+    tree: &Tree,
+    tiling: &Tiling,
+    workers: u64,
+) -> Result<(Vec<u64>, Counts), AllocError>
+    requires ready { W.ready by.now }
+    requires limits { WithinLimits (program_of kernel.now) case.now.params.items }
+    requires laid { case.now.extents ≡ layout (program_of kernel.now) case.now.params.items }
+    requires shape { IsShaped case.now.extents case.now.arrays }
+    requires inside { IsInside (program_of kernel.now) case.now.params.items }
+    requires trees { AreTreesOf (program_of kernel.now) (tiling_of tiling.now) (trees_in tree.now) }
+    requires fits { CanTile (tiling_of tiling.now) (visits (trees_in tree.now) case.now.params.items) }
+    requires some { 1 ≤ workers }
+    requires few { workers ≤ 64 }
+    ensures row { IfOk result (λ made. made.0.items
+        ≡ flat (exec (program_of kernel.now) case.now.params.items case.now.arrays)) }
+    ensures tiles { IfOk result (λ made.
+        HasTiles (tiling_of tiling.now) (walked (program_of kernel.now) case.now.params.items) made.1.tiles) }
+    ensures waves { IfOk result (λ made.
+        HasWaves (tiling_of tiling.now) (walked (program_of kernel.now) case.now.params.items) made.1.waves) }
+{
+    tiles_are_counted();
+    let list = tiles_of(alloc, kernel, case, tree, tiling)?;
+    let plan = plan_of(kernel, case, tree, tiling, &list);
+    let row = run_row(by, alloc, plan, &case.arrays, workers as usize)?;
+    Ok((row, counts_of(&list)))
+}
+
+/// Runs a kernel's case by the tree of a plan, with so many workers; the arrays are then those of the kernel's own
+/// execution.
+///
+/// # Errors
+/// `AllocError`; the case is then as it was.
+pub fn run_case<W: Workers>(
+    by: &W,
+    alloc: Global,
+    kernel: &Kernel,
+    case: &mut Case,
+    tree: &Tree,
+    tiling: &Tiling,
+    workers: u64,
+) -> Result<Counts, AllocError>
+    requires ready { W.ready by.now }
+    requires limits { WithinLimits (program_of kernel.now) case.old.params.items }
+    requires laid { case.old.extents ≡ layout (program_of kernel.now) case.old.params.items }
+    requires shape { IsShaped case.old.extents case.old.arrays }
+    requires inside { IsInside (program_of kernel.now) case.old.params.items }
+    requires trees { AreTreesOf (program_of kernel.now) (tiling_of tiling.now) (trees_in tree.now) }
+    requires fits { CanTile (tiling_of tiling.now) (visits (trees_in tree.now) case.old.params.items) }
+    requires workers { (1 ≤ workers) × (workers ≤ 64) }
+    ensures arrays { IfOk result (λ _. case.new.arrays
+        ≡ exec (program_of kernel.now) case.old.params.items case.old.arrays) }
+    ensures tiles { IfOk result (λ n.
+        HasTiles (tiling_of tiling.now) (walked (program_of kernel.now) case.old.params.items) n.tiles) }
+    ensures waves { IfOk result (λ n.
+        HasWaves (tiling_of tiling.now) (walked (program_of kernel.now) case.old.params.items) n.waves) }
+    ensures params { case.new.params.items ≡ case.old.params.items }
+    ensures extents { case.new.extents ≡ case.old.extents }
+    ensures shape { IsShaped case.new.extents case.new.arrays }
+    ensures unchanged { IfErr result (λ _. case.new.arrays ≡ case.old.arrays) }
+{
+    let (row, counts) = run_shared(by, alloc, kernel, case, tree, tiling, workers)?;
+    put_back(&row, &mut case.arrays);
+    Ok(counts)
+}

@@ -1,0 +1,58 @@
+//! Who runs the tiles of a plan, as a trait, and one worker by itself.
+ghost use Rattle.std.specs.Prelude.{◌≡◌, ◌≤◌, IfErr, IfOk, length};
+ghost use Rattle.tile_core.specs.Plans.{IsPlan, shape_of};
+ghost use Rattle.kernel_runs.specs.Running.{AreExecuted};
+
+use crate::alone::do_all;
+use std::alloc::{AllocError, Global};
+use tile_core::cores::Core;
+use tile_core::plan::Plan;
+use tile_core::plan_laws::plans_execute_the_kernel;
+
+/// Runs the tiles of plans.
+pub trait Workers {
+    /// Where it may be asked to.
+    ghost ready: { Self → Type 0 };
+
+    /// Runs the plan on these cells with so many workers. Where the cells are those of all arrays, one array behind
+    /// another, they are left as the kernel's own execution leaves them.
+    ///
+    /// # Errors
+    /// `AllocError`; the cells are then as they were.
+    fn run(
+        &self,
+        alloc: Global,
+        plan: Plan,
+        cells: &mut [u64],
+        workers: usize,
+    ) -> Result<(), AllocError>
+        requires ready { ready self.now }
+        requires plan { IsPlan plan }
+        requires cells { length cells.old ≡ (shape_of plan).cells }
+        requires some { 1 ≤ workers }
+        requires few { workers ≤ 64 }
+        ensures arrays { IfOk result (λ _. AreExecuted plan.entry cells.old cells.new) }
+        ensures unchanged { IfErr result (λ _. cells.new ≡ cells.old) };
+}
+
+/// One worker, whose events go through the core one after another, on the caller's own thread.
+#[derive(Clone, Copy, Debug)]
+pub struct OneWorker;
+
+impl Workers for OneWorker {
+    ghost ready = { λ _. Unit {0} };
+
+    fn run(
+        &self,
+        alloc: Global,
+        plan: Plan,
+        cells: &mut [u64],
+        _workers: usize,
+    ) -> Result<(), AllocError> {
+        plans_execute_the_kernel();
+        let mut core = Core::of(alloc, &plan, cells, 1)?;
+        do_all(&mut core, &plan);
+        cells.copy_from_slice(core.cells());
+        Ok(())
+    }
+}
