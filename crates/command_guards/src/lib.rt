@@ -3,7 +3,8 @@
 //! meet, the caller here no longer proves. Nothing is built on this crate.
 #![tactic(auto)]
 
-ghost use Rattle.std.specs.Prelude.{All, ◌≡◌, ◌<◌, ◌^◌, ℕ, [], List, Option};
+ghost use Rattle.std.specs.Prelude.{All, ◌≡◌, ◌⊎◌, ◌<◌, ◌^◌, ℕ, [], List, Option};
+ghost use Rattle.clap.specs.Words.{fault_of};
 ghost use Rattle.io_ports.specs.Reads.{SourceShows};
 ghost use Rattle.io_ports.specs.Writes.{SinkShows};
 ghost use Rattle.scop_syntax.specs.Execution.{IsShaped, layout};
@@ -17,13 +18,14 @@ ghost use Rattle.report_text.specs.declared.status.Status.TheVariants.{Done};
 ghost use Rattle.report_text.specs.declared.status.Status.{Status};
 ghost use Rattle.polypar.specs.Answered.{Answered, HasLines, PrintsText, PrintsTold};
 ghost use Rattle.command_line.specs.Command.{IsDepsCommand, IsEmitCommand, IsScheduleCommand, IsTaken};
-ghost use Rattle.command_line.specs.Command.{NamesCommand, command_names};
+ghost use Rattle.command_line.specs.Command.{NamesCommand, NamesNoKind, command_names};
+ghost use Rattle.command_line.specs.Stated.{tool};
 ghost use Rattle.polypar.specs.Deserves.{Deserves, IsVerdict};
 ghost use Rattle.polypar.specs.Emitting.{ReadsAsLoops};
 ghost use Rattle.polypar.specs.Running.{RunsKernel};
 ghost use Rattle.polypar.specs.Sources.{TellsLastWrites};
 
-use command_line::taken_words_name_a_command;
+use command_line::{other_kinds_alone_are_not_taken, taken_words_name_a_command};
 use polypar::{
     deserved_once, only_plans_have_lines, printed_arrays_are_data, printed_loops_are_read_back,
     printed_loops_run_the_kernel, printed_sources_tell_last_writes,
@@ -105,4 +107,12 @@ pub fn commands_of_words()
         → (name : List ℕ) × In name command_names × NamesCommand name words }
 {
     taken_words_name_a_command();
+}
+
+/// Words in which `clap` finds no fault are taken but for kinds that are none, by the clause of
+/// `other_kinds_alone_are_not_taken`.
+pub fn words_of_other_kinds()
+    ensures { (words : List (List ℕ)) → fault_of tool words ≡ [] → IsTaken words ⊎ NamesNoKind words }
+{
+    other_kinds_alone_are_not_taken();
 }

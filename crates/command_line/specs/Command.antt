@@ -45,12 +45,13 @@ number_within name most usual rows = within most usual (number_in name usual row
 abbrev pub flag_in : Text → List Row → Bool
 flag_in name rows = option_map_or (λ text. bytes_eq text (codes "true")) (one_of name rows) false
 
--- the options of a run
+-- the options of a run; a command without `--report` has no row of that name
 abbrev pub run_options_in : List Row → RunOptions
 run_options_in rows = record {
   workers = number_within (codes "workers") most_workers usual_workers rows;
   tile = number_within (codes "tile") most_tile usual_tile rows;
   budget = number_in (codes "budget") most_moves rows;
+  report = flag_in (codes "report") rows;
 }
 
 -- the kind that a text names
@@ -92,7 +93,7 @@ gen_named rows = option_map (λ generated. Gen generated (run_options_in rows)) 
 -- the command of this name with these matches
 abbrev pub command_named : Text × List Row → Option Command
 command_named named =
-    if bytes_eq named.0 (codes "run") then Some (Run (run_options_in named.1) (flag_in (codes "report") named.1))
+    if bytes_eq named.0 (codes "run") then Some (Run (run_options_in named.1))
     else (if bytes_eq named.0 (codes "gen") then gen_named named.1
     else option_map OfKernel (kernel_command_named named))
 
@@ -106,11 +107,11 @@ IsTaken words = (fault_of tool words ≡ []) × (is_some (command_met (subcomman
 
 -- the command that words which are taken name
 abbrev pub command_of : List Text → Command
-command_of words = unwrap_or (command_met (subcommand_of tool words)) (Run (run_options_in []) false)
+command_of words = unwrap_or (command_met (subcommand_of tool words)) (Run (run_options_in []))
 
--- the words are `run` with these options, with `--report` or without
-abbrev pub IsRunCommand : RunOptions → Bool → List Text → Type 0
-IsRunCommand options report words = IsTaken words × (command_of words ≡ Run options report)
+-- the words are `run` with these options
+abbrev pub IsRunCommand : RunOptions → List Text → Type 0
+IsRunCommand options words = IsTaken words × (command_of words ≡ Run options)
 
 -- the words are `schedule` with this budget
 abbrev pub IsScheduleCommand : ℕ → List Text → Type 0
@@ -142,7 +143,7 @@ IsSized other = ⊤
 
 -- the numbers of a command lie in their ranges
 abbrev pub HasSize : Command → Type 0
-HasSize (Run options report) = AreSized options
+HasSize (Run options) = AreSized options
 HasSize (OfKernel asked) = IsSized asked
 HasSize (Gen generated options) = (1 ≤ generated.size) × (generated.size ≤ most_size) × AreSized options
 

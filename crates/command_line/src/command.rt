@@ -2,7 +2,7 @@
 
 use kernel_gen::Kind;
 
-/// By how many workers a plan is run, its size of tiles and the budget of its questions.
+/// By how many workers a plan is run, its size of tiles, the budget of its questions, and whether it is told.
 #[derive(Clone, Copy, Debug, PartialEq, Eq)]
 pub struct RunOptions {
     /// How many workers, from 1 to 64.
@@ -11,6 +11,8 @@ pub struct RunOptions {
     pub tile: u64,
     /// How many moves each question may make, from 1 to 20000.
     pub budget: u64,
+    /// Whether the lines of the plan are to be told.
+    pub report: bool,
 }
 
 /// A generated kernel: its kind, seed and size.
@@ -38,11 +40,8 @@ pub enum KernelCommand {
 /// What a command line asks for.
 #[derive(Clone, Copy, Debug, PartialEq, Eq)]
 pub enum Command {
-    /// The final arrays of a kernel and its data, and whether a report of the run is asked for.
-    Run {
-        options: RunOptions,
-        report: bool,
-    },
+    /// The final arrays of a kernel and its data.
+    Run(RunOptions),
     /// What is told of a kernel alone.
     OfKernel(KernelCommand),
     /// A run of a generated kernel.

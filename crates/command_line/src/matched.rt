@@ -62,6 +62,7 @@ fn run_options_in(matches: &ArgMatches) -> RunOptions
         workers: number_within(matches, "workers", MOST_WORKERS, USUAL_WORKERS),
         tile: number_within(matches, "tile", MOST_TILE, USUAL_TILE),
         budget: number_in(matches, "budget", MOST_MOVES),
+        report: flag_in(matches, "report"),
     }
 }
 
@@ -142,9 +143,7 @@ fn command_named(name: &str, matches: &ArgMatches) -> Option<Command>
     ensures size { IfSome result HasSize }
 {
     if name == "run" {
-        let options = run_options_in(matches);
-        let report = flag_in(matches, "report");
-        return Some(Command::Run { options, report });
+        return Some(Command::Run(run_options_in(matches)));
     }
     if name == "gen" {
         return gen_named(matches);

@@ -1,6 +1,6 @@
 -- From what the parts of a call answer to what the call promises.
 use Rattle.std.proofs.Common.{◌≡◌, ◌≢◌, ◌⊎◌, ◌∙◌, sym, subst, ap, refl, inl, inr, ℕ, ◌+◌, ◌≤◌, ◌<◌, List, [], ◌∷◌, ◌++◌}
-use Rattle.std.proofs.Common.{length, Bool, Option, None, Some, append-nil, arith}
+use Rattle.std.proofs.Common.{length, Option, None, Some, append-nil, arith}
 use Rattle.std.specs.Prelude.{replicate, option_map}
 use Rattle.std.proofs.Common.{Bor}
 use Rattle.std.specs.Option.{option_copied}
@@ -53,7 +53,7 @@ accepted_is_done input a = inl (
 -- so does one that asks a command for something
 asks_is_done : (command : Command) (input : List ℕ) (told : Told) → AsksFor command input told
     → DeservesFor command input Done
-asks_is_done (Run options report) input told asks = accepted_is_done input asks.0
+asks_is_done (Run options) input told asks = accepted_is_done input asks.0
 asks_is_done (OfKernel asked) input told asks = inl (asks.0.short, inl (asks.0.program, asks.0.spelled, refl))
 asks_is_done (Gen generated options) input told asks = refl
 
@@ -170,11 +170,11 @@ PrintsFor command left out out_after err err_after =
     (input : List ℕ) × (told : Told) × IsAllOf left input × AsksFor command input told
     × Appends out.taken out_after.taken told.text × Appends err.taken err_after.taken told.lines
 
-prints_arrays : (options : RunOptions) (report : Bool) (command : Command) (left : Option (List ℕ))
-    (out out_after err err_after : SinkShows) → command ≡ Run options report
+prints_arrays : (options : RunOptions) (command : Command) (left : Option (List ℕ))
+    (out out_after err err_after : SinkShows) → command ≡ Run options
     → PrintsFor command left out out_after err err_after
-    → PrintsArrays options report left out out_after err err_after
-prints_arrays options report command left out out_after err err_after is printed =
+    → PrintsArrays options left out out_after err err_after
+prints_arrays options command left out out_after err err_after is printed =
     let run = subst (λ c. PrintsFor c left out out_after err err_after) is printed in (
       run.0,
       run.3.0,
@@ -498,8 +498,8 @@ answered law words status named source source_after out out_after err mid after 
     let asked = λ (k : KernelCommand) (is : command_of words ≡ OfKernel k) (finished : status ≡ Done).
     prints_told k (command_of words) source.left out out_after err after is (all finished) in
     record {
-      done = λ options report run is.
-          prints_arrays options report (command_of words) source.left out out_after err after run.1 (all is);
+      done = λ options run is.
+          prints_arrays options (command_of words) source.left out out_after err after run.1 (all is);
       scheduled = λ budget plan is. prints_text (IsPlanText budget) source.left out out_after err after
           (asked (Schedule budget) plan.1 is);
       sourced = λ budget deps is. prints_text (IsSourcesText budget) source.left out out_after err after

@@ -93,7 +93,7 @@ spelled_once laws input a b (inr x) (inr y) = x.1 ∙ sym y.1
 
 command_once : Laws → (command : Command) (input : List ℕ) (a b : Status) → DeservesFor command input a
     → DeservesFor command input b → a ≡ b
-command_once laws (Run options report) input a b x y = input_once laws input a b x y
+command_once laws (Run options) input a b x y = input_once laws input a b x y
 command_once laws (OfKernel asked) input a b x y = spelled_once laws input a b x y
 command_once laws (Gen generated options) input a b x y = x ∙ sym y
 

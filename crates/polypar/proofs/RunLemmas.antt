@@ -1,5 +1,5 @@
 -- From what a status says of a kernel's data to what it says of the whole input.
-use Rattle.std.proofs.Common.{◌≡◌, sym, subst, refl, inl, inr, ℕ, ◌^◌, ◌<◌, ℤ, Bool, List, length, Option, None, Some}
+use Rattle.std.proofs.Common.{◌≡◌, sym, subst, refl, inl, inr, ℕ, ◌^◌, ◌<◌, ℤ, List, length, Option, None, Some}
 use Rattle.std.specs.Option.{option_map}
 use Rattle.io_ports.specs.Writes.{SinkShows}
 use Rattle.scop_syntax.specs.Failures.{Failure}
@@ -25,25 +25,25 @@ use Rattle.polypar.specs.Answers.{AnswersCase, AnswersData, AnswersProgram, Answ
 use Rattle.polypar.specs.Answers.{AreUntouched, AsksData, AsksRun, ReadsKernel}
 
 -- the answer to a case that the data says is the answer to the data
-pub data_answers : (options : RunOptions) (report : Bool) (status : Status) (program : Program) (text : List ℕ)
+pub data_answers : (options : RunOptions) (status : Status) (program : Program) (text : List ℕ)
     (params : List ℤ) (contents : List (List ℕ)) (out out_after err err_after : SinkShows)
     → Says text program params contents
-    → AnswersCase options report status program params contents out out_after err err_after
-    → AnswersData options report status program text out out_after err err_after
-data_answers options report Done program text params contents out out_after err err_after said answer =
+    → AnswersCase options status program params contents out out_after err err_after
+    → AnswersData options status program text out out_after err err_after
+data_answers options Done program text params contents out out_after err err_after said answer =
     (answer.0, (params, contents, said, answer.1), answer.2)
-data_answers options report Usage program text params contents out out_after err err_after said answer = absurd answer
-data_answers options report (Refused refusal) program text params contents out out_after err err_after said answer =
+data_answers options Usage program text params contents out out_after err err_after said answer = absurd answer
+data_answers options (Refused refusal) program text params contents out out_after err err_after said answer =
     absurd answer
-data_answers options report (BadData refusal) program text params contents out out_after err err_after said answer =
+data_answers options (BadData refusal) program text params contents out out_after err err_after said answer =
     absurd answer
-data_answers options report (Outside f) program text params contents out out_after err err_after said answer =
+data_answers options (Outside f) program text params contents out out_after err err_after said answer =
     (inl (params, contents, said, answer.0), answer.1)
-data_answers options report ReadFault program text params contents out out_after err err_after said answer =
+data_answers options ReadFault program text params contents out out_after err err_after said answer =
     absurd answer
-data_answers options report WriteFault program text params contents out out_after err err_after said answer =
+data_answers options WriteFault program text params contents out out_after err err_after said answer =
     (answer.0, (params, contents, said, answer.1), answer.2)
-data_answers options report NoMemory program text params contents out out_after err err_after said answer = answer
+data_answers options NoMemory program text params contents out out_after err err_after said answer = answer
 
 -- no failure is found where none is told
 pub none_found : (found : Option Failure) → None ≡ option_map outside_of found → found ≡ None
@@ -55,10 +55,10 @@ pub untouched : (out err : SinkShows) → AreUntouched out out err err
 untouched out err = record { out_is = refl; err_is = refl }
 
 -- what is to be told of the data of a program is what `run` asks of an input that spells the program
-run_asked : (options : RunOptions) (report : Bool) (input : List ℕ) (program : Program) (told : Told) → IsShort input
-    → SpellsProgram (kernel_part input) program → AsksData options report program (data_part input) told
-    → AsksFor (Run options report) input told
-run_asked options report input program told short spelled asked = (
+run_asked : (options : RunOptions) (input : List ℕ) (program : Program) (told : Told) → IsShort input
+    → SpellsProgram (kernel_part input) program → AsksData options program (data_part input) told
+    → AsksFor (Run options) input told
+run_asked options input program told short spelled asked = (
   record {
     short = short;
     program = program;
@@ -73,25 +73,25 @@ run_asked options report input program told short spelled asked = (
 )
 
 -- so the answer to the data is the answer of `run` to the input
-input_answers_of : (options : RunOptions) (report : Bool) (status : Status) (input : List ℕ) (program : Program)
+input_answers_of : (options : RunOptions) (status : Status) (input : List ℕ) (program : Program)
     (out out_after err err_after : SinkShows)
     → IsShort input → SpellsProgram (kernel_part input) program
-    → AnswersData options report status program (data_part input) out out_after err err_after
-    → AnswersFor (Run options report) status input out out_after err err_after
-input_answers_of options report Done input program out out_after err err_after short spelled answer =
-    (answer.0, run_asked options report input program answer.0 short spelled answer.1, answer.2)
-input_answers_of options report Usage input program out out_after err err_after short spelled answer = absurd answer
-input_answers_of options report (Refused refusal) input program out out_after err err_after short spelled answer =
+    → AnswersData options status program (data_part input) out out_after err err_after
+    → AnswersFor (Run options) status input out out_after err err_after
+input_answers_of options Done input program out out_after err err_after short spelled answer =
+    (answer.0, run_asked options input program answer.0 short spelled answer.1, answer.2)
+input_answers_of options Usage input program out out_after err err_after short spelled answer = absurd answer
+input_answers_of options (Refused refusal) input program out out_after err err_after short spelled answer =
     absurd answer
-input_answers_of options report (BadData refusal) input program out out_after err err_after short spelled answer =
+input_answers_of options (BadData refusal) input program out out_after err err_after short spelled answer =
     (inl (short, inl (program, spelled, answer.0)), answer.1)
-input_answers_of options report (Outside f) input program out out_after err err_after short spelled answer =
+input_answers_of options (Outside f) input program out out_after err err_after short spelled answer =
     (inl (short, inl (program, spelled, answer.0)), answer.1)
-input_answers_of options report ReadFault input program out out_after err err_after short spelled answer =
+input_answers_of options ReadFault input program out out_after err err_after short spelled answer =
     absurd answer
-input_answers_of options report WriteFault input program out out_after err err_after short spelled answer =
-    (answer.0, run_asked options report input program answer.0 short spelled answer.1, answer.2)
-input_answers_of options report NoMemory input program out out_after err err_after short spelled answer = answer
+input_answers_of options WriteFault input program out out_after err err_after short spelled answer =
+    (answer.0, run_asked options input program answer.0 short spelled answer.1, answer.2)
+input_answers_of options NoMemory input program out out_after err err_after short spelled answer = answer
 
 -- the answer to a program is the answer to an input that spells it
 spelled_answers_of : (asked : KernelCommand) (status : Status) (input : List ℕ) (program : Program)
@@ -118,8 +118,8 @@ command_answers_of : (command : Command) (status : Status) (input : List ℕ) (p
     → IsShort input → SpellsProgram (kernel_part input) program
     → AnswersKernel command status program (data_part input) out out_after err err_after
     → AnswersFor command status input out out_after err err_after
-command_answers_of (Run options report) status input program out out_after err err_after short spelled answer =
-    input_answers_of options report status input program out out_after err err_after short spelled answer
+command_answers_of (Run options) status input program out out_after err err_after short spelled answer =
+    input_answers_of options status input program out out_after err err_after short spelled answer
 command_answers_of (OfKernel asked) status input program out out_after err err_after short spelled answer =
     spelled_answers_of asked status input program out out_after err err_after short spelled answer
 command_answers_of (Gen generated options) status input program out out_after err err_after short spelled answer =
@@ -153,7 +153,7 @@ command_answers command status input kernel text program out out_after err err_a
 -- an input that is too long is refused
 pub long_answers : (command : Command) (input : List ℕ) (out err : SinkShows) → 2 ^ 27 < length input
     → ReadsKernel command → AnswersFor command too_long input out out err err
-long_answers (Run options report) input out err long reads = (inr (long, refl), untouched out err)
+long_answers (Run options) input out err long reads = (inr (long, refl), untouched out err)
 long_answers (OfKernel asked) input out err long reads = (inr (long, refl), untouched out err)
 long_answers (Gen generated options) input out err long reads = absurd reads
 
@@ -161,7 +161,7 @@ long_answers (Gen generated options) input out err long reads = absurd reads
 pub refused_answers : (command : Command) (input kernel : List ℕ) (refusal : Refusal) (out err : SinkShows)
     → IsShort input → kernel ≡ kernel_part input → IsRefusedAs kernel refusal → ReadsKernel command
     → AnswersFor command (Refused refusal) input out out err err
-refused_answers (Run options report) input kernel refusal out err short front refused reads =
+refused_answers (Run options) input kernel refusal out err short front refused reads =
     (inl (short, inr (refusal, subst (λ t. IsRefusedAs t refusal) front refused, refl)), untouched out err)
 refused_answers (OfKernel asked) input kernel refusal out err short front refused reads =
     (inl (short, inr (refusal, subst (λ t. IsRefusedAs t refusal) front refused, refl)), untouched out err)

@@ -102,7 +102,7 @@ spelled_deserves laws input false is =
     (rest.0, rest.1, inl (ltb-false (2 ^ 27) (length input) is, rest.2))
 
 command_deserves : Laws → (command : Command) (input : List ℕ) → HasVerdict (DeservesFor command input)
-command_deserves laws (Run options report) input = input_deserves laws input _ refl
+command_deserves laws (Run options) input = input_deserves laws input _ refl
 command_deserves laws (OfKernel asked) input = spelled_deserves laws input _ refl
 command_deserves laws (Gen generated options) input = (Done, tt, refl)
 

@@ -1,5 +1,5 @@
 -- What a call of the program promises, from the words and from what the source and the sinks show before and after it.
-use Rattle.std.specs.Prelude.{◌≡◌, ◌≢◌, ◌⊎◌, ℕ, ◌≤◌, Bool, List, [], ◌++◌, Option, Some, None, ⊤}
+use Rattle.std.specs.Prelude.{◌≡◌, ◌≢◌, ◌⊎◌, ℕ, ◌≤◌, List, [], ◌++◌, Option, Some, None, ⊤}
 use Rattle.std.specs.Io.KnownBytes.{Appends}
 use Rattle.io_ports.specs.Faults.{Rose}
 use Rattle.io_ports.specs.Bytes.{IsAllOf, GainsFront}
@@ -25,10 +25,10 @@ use Rattle.report_text.specs.StatusText.{status_text}
 
 -- an accepted input was read, and exactly the text of the arrays that it asks for was printed; `err` has gained exactly
 -- the line of a kept order, if it is kept, and the report, where one is asked for
-abbrev pub PrintsArrays : RunOptions → Bool → Option (List ℕ) → SinkShows → SinkShows → SinkShows → SinkShows → Type 0
-PrintsArrays options report left out out_after err err_after =
+abbrev pub PrintsArrays : RunOptions → Option (List ℕ) → SinkShows → SinkShows → SinkShows → SinkShows → Type 0
+PrintsArrays options left out out_after err err_after =
     (input : List ℕ) × (accepted : Accepted input) × (lines : List ℕ) × IsAllOf left input
-    × AreRunLines options report accepted.program accepted.params lines
+    × AreRunLines options accepted.program accepted.params lines
     × Appends out.taken out_after.taken (asked_text accepted) × Appends err.taken err_after.taken lines
 
 -- an input that spells a kernel was read, and exactly a text that is one of its program was printed
@@ -144,8 +144,8 @@ pub record Answered (words : List (List ℕ)) (status : Status) (source source_a
   -- order is kept, of `deps` for each read that is resolved its last write, of `emit` loops that visit each instance
   -- once, conflicting ones in order, of `gen` what the generated kernel's own execution leaves; and the input was read
   -- whole
-  pub done : (options : RunOptions) (report : Bool) → IsRunCommand options report words → status ≡ Done
-      → PrintsArrays options report source.left out out_after err err_after
+  pub done : (options : RunOptions) → IsRunCommand options words → status ≡ Done
+      → PrintsArrays options source.left out out_after err err_after
   pub scheduled : (budget : ℕ) → IsScheduleCommand budget words → status ≡ Done
       → PrintsPlan budget source.left out.taken out_after.taken
   pub sourced : (budget : ℕ) → IsDepsCommand budget words → status ≡ Done

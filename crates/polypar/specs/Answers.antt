@@ -1,6 +1,6 @@
 -- What the statuses of the parts of a call say: of the data, of the input, of the source, and of the sinks; only for
 -- the code's own steps.
-use Rattle.std.specs.Prelude.{◌≡◌, ◌⊎◌, ℕ, ℤ, ◌≤◌, Bool, List, Option, ⊤}
+use Rattle.std.specs.Prelude.{◌≡◌, ◌⊎◌, ℕ, ℤ, ◌≤◌, List, Option, ⊤}
 use Rattle.std.specs.Io.KnownBytes.{Appends}
 use Rattle.io_ports.specs.Faults.{Rose}
 use Rattle.io_ports.specs.Bytes.{IsAllOf, GainsFront}
@@ -52,33 +52,33 @@ AnswersTold IsAsked NoMemory out out_after err err_after = AreUntouched out out_
 AnswersTold IsAsked _ out out_after err err_after = ⊥
 
 -- what `run` is to tell of a case whose subscripts are inside
-abbrev pub AsksRun : RunOptions → Bool → Program → List ℤ → List (List ℕ) → Told → Type 0
-AsksRun options report program params contents told =
-    IsInside program params × IsRunText options report program params contents told × HasHeldLines told
+abbrev pub AsksRun : RunOptions → Program → List ℤ → List (List ℕ) → Told → Type 0
+AsksRun options program params contents told =
+    IsInside program params × IsRunText options program params contents told × HasHeldLines told
 
 -- of a case of a program, and of the sinks
-abbrev pub AnswersCase : RunOptions → Bool → Status → Program → List ℤ → List (List ℕ) → SinkShows → SinkShows
+abbrev pub AnswersCase : RunOptions → Status → Program → List ℤ → List (List ℕ) → SinkShows → SinkShows
     → SinkShows → SinkShows → Type 0
-AnswersCase options report (Outside f) program params contents out out_after err err_after =
+AnswersCase options (Outside f) program params contents out out_after err err_after =
     DeservesCase program params (Outside f) × AreUntouched out out_after err err_after
-AnswersCase options report status program params contents out out_after err err_after =
-    AnswersTold (AsksRun options report program params contents) status out out_after err err_after
+AnswersCase options status program params contents out out_after err err_after =
+    AnswersTold (AsksRun options program params contents) status out out_after err err_after
 
 -- what `run` is to tell of data
-abbrev pub AsksData : RunOptions → Bool → Program → List ℕ → Told → Type 0
-AsksData options report program text told =
+abbrev pub AsksData : RunOptions → Program → List ℕ → Told → Type 0
+AsksData options program text told =
     (params : List ℤ) × (contents : List (List ℕ)) × Says text program params contents
-    × AsksRun options report program params contents told
+    × AsksRun options program params contents told
 
 -- of the data of a program, and of the sinks
-abbrev pub AnswersData : RunOptions → Bool → Status → Program → List ℕ → SinkShows → SinkShows → SinkShows
+abbrev pub AnswersData : RunOptions → Status → Program → List ℕ → SinkShows → SinkShows → SinkShows
     → SinkShows → Type 0
-AnswersData options report (BadData refusal) program text out out_after err err_after =
+AnswersData options (BadData refusal) program text out out_after err err_after =
     DeservesData program text (BadData refusal) × AreUntouched out out_after err err_after
-AnswersData options report (Outside f) program text out out_after err err_after =
+AnswersData options (Outside f) program text out out_after err err_after =
     DeservesData program text (Outside f) × AreUntouched out out_after err err_after
-AnswersData options report status program text out out_after err err_after =
-    AnswersTold (AsksData options report program text) status out out_after err err_after
+AnswersData options status program text out out_after err err_after =
+    AnswersTold (AsksData options program text) status out out_after err err_after
 
 -- of a program of which alone something is asked, and of the sinks
 abbrev pub AnswersProgram : KernelCommand → Status → Program → SinkShows → SinkShows → SinkShows → SinkShows → Type 0
@@ -92,8 +92,8 @@ ReadsKernel other = ⊤
 
 -- of a program, its data and a command that reads an input, and of the sinks
 abbrev pub AnswersKernel : Command → Status → Program → List ℕ → SinkShows → SinkShows → SinkShows → SinkShows → Type 0
-AnswersKernel (Run options report) status program text out out_after err err_after =
-    AnswersData options report status program text out out_after err err_after
+AnswersKernel (Run options) status program text out out_after err err_after =
+    AnswersData options status program text out out_after err err_after
 AnswersKernel (OfKernel asked) status program text out out_after err err_after =
     AnswersProgram asked status program out out_after err err_after
 AnswersKernel (Gen generated options) status program text out out_after err err_after = ⊥

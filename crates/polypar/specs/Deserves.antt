@@ -69,7 +69,7 @@ DeservesSpelled input status =
 
 -- of a command; `gen` looks at no input
 abbrev pub DeservesFor : Command → List ℕ → Status → Type 0
-DeservesFor (Run options report) input status = DeservesInput input status
+DeservesFor (Run options) input status = DeservesInput input status
 DeservesFor (OfKernel asked) input status = DeservesSpelled input status
 DeservesFor (Gen generated options) input status = status ≡ Done
 
@@ -89,9 +89,9 @@ IsVerdict other = ⊤
 -- an input asks a command for this: `run` for the arrays of its accepted case, another for what it tells of the kernel,
 -- as far as memory can hold that; `gen` asks for the summary, whatever the input
 abbrev pub AsksFor : Command → List ℕ → Told → Type 0
-AsksFor (Run options report) input told =
+AsksFor (Run options) input told =
     (accepted : Accepted input)
-    × IsRunText options report accepted.program accepted.params accepted.contents told × HasHeldLines told
+    × IsRunText options accepted.program accepted.params accepted.contents told × HasHeldLines told
 AsksFor (OfKernel asked) input told = (kernel : Spelled input) × IsTextFor asked kernel.program told × IsHeld told
 AsksFor (Gen generated options) input told = IsSummaryText generated options told × IsHeld told
 

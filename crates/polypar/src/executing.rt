@@ -31,11 +31,10 @@ fn plan_by(
     alloc: Global,
     kernel: &Kernel,
     options: RunOptions,
-    report: bool,
 ) -> Result<Planned, AllocError>
     requires kernel { IsKernel (program_of kernel.now) }
     requires options { AreSized options }
-    ensures { IfOk result (IsPlanned options.tile options.budget report (program_of kernel.now)) }
+    ensures { IfOk result (IsPlanned options.tile options.budget options.report (program_of kernel.now)) }
 {
     let model = Model::of(alloc, kernel)?;
     planned(
@@ -44,7 +43,7 @@ fn plan_by(
         &model,
         options.tile,
         options.budget,
-        report,
+        options.report,
     )
 }
 
@@ -53,15 +52,14 @@ fn with_counts(
     alloc: Global,
     lines: Vec<u8>,
     counts: Counts,
-    workers: u64,
-    report: bool,
+    options: RunOptions,
 ) -> Result<Vec<u8>, AllocError>
     ensures { IfOk result (λ all. all.items
-        ≡ lines.items ++ (if report then tiles_text counts.tiles counts.waves workers else [])) }
+        ≡ lines.items ++ (if options.report then tiles_text counts.tiles counts.waves options.workers else [])) }
 {
     let mut lines = lines;
-    if report {
-        let last = tiles_text(alloc, counts.tiles, counts.waves, workers)?;
+    if options.report {
+        let last = tiles_text(alloc, counts.tiles, counts.waves, options.workers)?;
         lines.extend_from_slice(&last)?;
     }
     Ok(lines)
@@ -77,7 +75,6 @@ pub(crate) fn run_planned<W: Workers>(
     kernel: &Kernel,
     case: &mut Case,
     options: RunOptions,
-    report: bool,
 ) -> Result<Ran, AllocError>
     requires limits { WithinLimits (program_of kernel.now) case.old.params.items }
     requires extents { case.old.extents ≡ layout (program_of kernel.now) case.old.params.items }
@@ -88,10 +85,10 @@ pub(crate) fn run_planned<W: Workers>(
         ≡ exec (program_of kernel.now) case.old.params.items case.old.arrays) }
     ensures shape { IfOk result (λ _. IsShaped case.new.extents case.new.arrays) }
     ensures extents { IfOk result (λ _. case.new.extents ≡ case.old.extents) }
-    ensures told { IfOk result (λ ran. IsPlanTold options report (program_of kernel.now) case.old.params.items
+    ensures told { IfOk result (λ ran. IsPlanTold options (program_of kernel.now) case.old.params.items
         ran.counts.tiles ran.counts.waves ran.lines.items) }
 {
-    let plan = plan_by(alloc, kernel, options, report)?;
+    let plan = plan_by(alloc, kernel, options)?;
     let counts = run_case(
         by,
         alloc,
@@ -101,6 +98,6 @@ pub(crate) fn run_planned<W: Workers>(
         &plan.tiling,
         options.workers,
     )?;
-    let lines = with_counts(alloc, plan.lines, counts, options.workers, report)?;
+    let lines = with_counts(alloc, plan.lines, counts, options)?;
     Ok(Ran { lines, counts })
 }

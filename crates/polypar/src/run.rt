@@ -136,9 +136,7 @@ fn run_command<W: Workers, O: Sink, E: Sink>(
         (E.shows err.old) (E.shows err.new) }
 {
     match command {
-        Command::Run { options, report } => {
-            run_kernel(by, alloc, kernel, text, options, report, out, err)
-        }
+        Command::Run(options) => run_kernel(by, alloc, kernel, text, options, out, err),
         Command::OfKernel(asked) => print_asked(alloc, kernel, asked, out, err),
         Command::Gen { .. } => unreachable!(),
     }
@@ -151,17 +149,16 @@ fn run_kernel<W: Workers, O: Sink, E: Sink>(
     kernel: &Kernel,
     text: &[u8],
     options: RunOptions,
-    report: bool,
     out: &mut O,
     err: &mut E,
 ) -> Status
     requires kernel { IsKernel (program_of kernel.now) }
     requires options { AreSized options }
-    ensures { AnswersData options report result (program_of kernel.now) text.now (O.shows out.old) (O.shows out.new)
+    ensures { AnswersData options result (program_of kernel.now) text.now (O.shows out.old) (O.shows out.new)
         (E.shows err.old) (E.shows err.new) }
 {
     match read_data(alloc, kernel, text) {
-        Ok(case) => run_case(by, alloc, kernel, case, options, report, out, err),
+        Ok(case) => run_case(by, alloc, kernel, case, options, out, err),
         Err(DataStop::Refused(refusal)) => Status::BadData(refusal),
         Err(DataStop::NoMemory) => Status::NoMemory,
     }
@@ -174,7 +171,6 @@ fn run_case<W: Workers, O: Sink, E: Sink>(
     kernel: &Kernel,
     case: Case,
     options: RunOptions,
-    report: bool,
     out: &mut O,
     err: &mut E,
 ) -> Status
@@ -182,14 +178,14 @@ fn run_case<W: Workers, O: Sink, E: Sink>(
     requires shape { IsShaped case.extents case.arrays }
     requires extents { case.extents ≡ layout (program_of kernel.now) case.params.items }
     requires options { AreSized options }
-    ensures { AnswersCase options report result (program_of kernel.now) case.params.items case.arrays (O.shows out.old)
+    ensures { AnswersCase options result (program_of kernel.now) case.params.items case.arrays (O.shows out.old)
         (O.shows out.new) (E.shows err.old) (E.shows err.new) }
 {
     accesses_have_the_ranks_of_arrays();
     failures_are_the_first();
     match first_outside(kernel, &case.params, &case.extents) {
         Some(outside) => Status::Outside(outside),
-        None => run_inside(by, alloc, kernel, case, options, report, out, err),
+        None => run_inside(by, alloc, kernel, case, options, out, err),
     }
 }
 
@@ -200,7 +196,6 @@ fn run_inside<W: Workers, O: Sink, E: Sink>(
     kernel: &Kernel,
     case: Case,
     options: RunOptions,
-    report: bool,
     out: &mut O,
     err: &mut E,
 ) -> Status
@@ -209,11 +204,11 @@ fn run_inside<W: Workers, O: Sink, E: Sink>(
     requires extents { case.extents ≡ layout (program_of kernel.now) case.params.items }
     requires inside { IsInside (program_of kernel.now) case.params.items }
     requires options { AreSized options }
-    ensures { AnswersTold (AsksRun options report (program_of kernel.now) case.params.items case.arrays) result
+    ensures { AnswersTold (AsksRun options (program_of kernel.now) case.params.items case.arrays) result
         (O.shows out.old) (O.shows out.new) (E.shows err.old) (E.shows err.new) }
 {
     let mut case = case;
-    match run_planned(by, alloc, kernel, &mut case, options, report) {
+    match run_planned(by, alloc, kernel, &mut case, options) {
         Ok(ran) => match print_run(kernel, &case, &ran.lines, out, err) {
             Ok(()) => Status::Done,
             Err(Failed) => Status::WriteFault,

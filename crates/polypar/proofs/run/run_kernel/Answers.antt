@@ -3,4 +3,4 @@ use Rattle.polypar.proofs.RunLemmas.{data_answers}
 use Rattle.polypar.proofs.run.run_kernel.Goals as goal
 
 pub returns-in-Ok : goal.returns-in-Ok
-returns-in-Ok g c = data_answers _ _ _ _ _ _ _ _ _ _ _ c.in-Ok.ensures.said c.run_case.ensures
+returns-in-Ok g c = data_answers _ _ _ _ _ _ _ _ _ _ c.in-Ok.ensures.said c.run_case.ensures
