@@ -10,5 +10,5 @@ mod threads;
 mod workers;
 
 pub use running::{Counts, run_case};
-pub use threads::{By, run_case_on_threads, run_on_threads};
+pub use threads::{By, run_on_threads};
 pub use workers::{OneWorker, Workers};

@@ -76,6 +76,7 @@ pub(crate) fn run_planned<W: Workers>(
     case: &mut Case,
     options: RunOptions,
 ) -> Result<Ran, AllocError>
+    requires ready { W.ready by.now }
     requires limits { WithinLimits (program_of kernel.now) case.old.params.items }
     requires extents { case.old.extents ≡ layout (program_of kernel.now) case.old.params.items }
     requires shape { IsShaped case.old.extents case.old.arrays }

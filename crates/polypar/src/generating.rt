@@ -23,6 +23,7 @@ fn summary_told<W: Workers>(
     kernel: GeneratedKernel,
     options: RunOptions,
 ) -> Result<Told, AllocError>
+    requires ready { W.ready by.now }
     requires size { (1 ≤ kernel.size) × (kernel.size ≤ 512) }
     requires options { AreSized options }
     ensures { IfOk result (λ told. IsSummaryText kernel options (told_of told)) }
@@ -58,6 +59,7 @@ pub(crate) fn print_summary<W: Workers, O: Sink, E: Sink>(
     out: &mut O,
     err: &mut E,
 ) -> Status
+    requires ready { W.ready by.now }
     requires size { (1 ≤ kernel.size) × (kernel.size ≤ 512) }
     requires options { AreSized options }
     ensures { AnswersTold (λ told. IsSummaryText kernel options told × IsHeld told) result (O.shows out.old)

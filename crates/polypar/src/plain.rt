@@ -1,7 +1,9 @@
 //! The two top calls. Their one clause, `Answered`, is the headline, the cause of each status, and completeness.
 
-ghost use Rattle.std.specs.Prelude.{◌≡◌, ℕ, List, map, string_bytes, option_map};
+ghost use Rattle.std.specs.Prelude.{◌≡◌, ◌≤◌, ℕ, IfErr, IfOk, List, length, map, string_bytes, option_map};
 ghost use Rattle.scop_syntax.specs.View.{program_of};
+ghost use Rattle.tile_core.specs.Plans.{IsPlan, shape_of};
+ghost use Rattle.kernel_runs.specs.Running.{AreExecuted};
 ghost use Rattle.report_text.specs.declared.status.Status.{Status};
 ghost use Rattle.polypar.specs.Deserves.{Deserves, IsVerdict};
 ghost use Rattle.command_line.specs.Command.{HasSize};
@@ -13,7 +15,7 @@ use crate::run::{Ending, run};
 use command_line::{Command, CommandStop, command_of};
 use data_text::{said_once, texts_say_what_lines_describe};
 use io_ports::{Failed, Gate, Sink, Source};
-use kernel_runs::{OnThreads, OneWorker, Workers};
+use kernel_runs::{By, OneWorker, Workers, run_on_threads};
 use report_text::{Status, status_line};
 use scop_parser::laws::{
     faults_leave_no_program, spelled_programs_are_kernels, texts_have_one_first_fault,
@@ -22,9 +24,10 @@ use scop_parser::laws::{
 use scop_syntax::failure_laws::failures_are_the_first;
 use scop_syntax::limit_laws::accesses_have_the_ranks_of_arrays;
 use scop_syntax::tree::Kernel;
-use std::alloc::Global;
+use std::alloc::{AllocError, Global};
 use std::sync::Wait;
 use std::thread::Threads;
+use tile_core::plan::Plan;
 
 /// Does what the words ask for, and tells a status other than Done on `err` as the last act. Whatever number of workers
 /// is asked for, one does the tiles of all, on the caller's thread: it starts no thread and waits for nobody.
@@ -55,7 +58,18 @@ pub fn polypar<R: Threads + Wait + Sync, S: Source, O: Sink, E: Sink, G: Gate>(
     ensures { Answered (map string_bytes words.now) result (S.shows source.old) (S.shows source.new) (O.shows out.old)
         (O.shows out.new) (E.shows err.old) (E.shows err.new) }
 {
-    command_by(&OnThreads { rt, gate }, alloc, words, source, out, err)
+    let run = |alloc: Global, plan: Plan, cells: &mut [u64], workers: usize| -> Result<
+        (),
+        AllocError,
+    >
+        requires plan { IsPlan plan }
+        requires cells { length cells.old ≡ (shape_of plan).cells }
+        requires some { 1 ≤ workers }
+        requires few { workers ≤ 64 }
+        ensures arrays { IfOk result (λ _. AreExecuted plan.entry cells.old cells.new) }
+        ensures unchanged { IfErr result (λ _. cells.new ≡ cells.old) }
+    { run_on_threads(rt, gate, alloc, plan, cells, workers) };
+    command_by(&By { run }, alloc, words, source, out, err)
 }
 
 /// Does what the words ask for, where tiles are run by these workers, and tells a status other than Done.
@@ -67,6 +81,7 @@ fn command_by<W: Workers, S: Source, O: Sink, E: Sink>(
     out: &mut O,
     err: &mut E,
 ) -> Status
+    requires ready { W.ready by.now }
     ensures { Answered (map string_bytes words.now) result (S.shows source.old) (S.shows source.new) (O.shows out.old)
         (O.shows out.new) (E.shows err.old) (E.shows err.new) }
 {
@@ -103,6 +118,7 @@ fn answer<W: Workers, S: Source, O: Sink, E: Sink>(
     out: &mut O,
     err: &mut E,
 ) -> Ending
+    requires ready { W.ready by.now }
     ensures answer { AnswersWords (map string_bytes words.now) result.status (S.shows source.old) (S.shows source.new)
         (O.shows out.old) (O.shows out.new) (E.shows err.old) (E.shows err.new) }
     ensures names { NamesOf (S.shows source.old).left result.status (option_map program_of result.kernel) }
@@ -124,7 +140,8 @@ fn answer_command<W: Workers, S: Source, O: Sink, E: Sink>(
     out: &mut O,
     err: &mut E,
 ) -> Ending
-    requires { HasSize command }
+    requires ready { W.ready by.now }
+    requires size { HasSize command }
     ensures answer { AnswersCommand command result.status (S.shows source.old) (S.shows source.new) (O.shows out.old)
         (O.shows out.new) (E.shows err.old) (E.shows err.new) }
     ensures names { NamesOf (S.shows source.old).left result.status (option_map program_of result.kernel) }
@@ -149,7 +166,8 @@ fn end_of<W: Workers, S: Source, O: Sink, E: Sink>(
     out: &mut O,
     err: &mut E,
 ) -> Ending
-    requires { HasSize command }
+    requires ready { W.ready by.now }
+    requires size { HasSize command }
     ensures answer { AnswersCommand command result.status (S.shows source.old) (S.shows source.new) (O.shows out.old)
         (O.shows out.new) (E.shows err.old) (E.shows err.new) }
     ensures names { NamesOf (S.shows source.old).left result.status (option_map program_of result.kernel) }

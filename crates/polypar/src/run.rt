@@ -63,6 +63,7 @@ pub(crate) fn run<W: Workers, S: Source, O: Sink, E: Sink>(
     out: &mut O,
     err: &mut E,
 ) -> Ending
+    requires ready { W.ready by.now }
     requires size { HasSize command }
     requires reads { ReadsKernel command }
     ensures answer { AnswersCommand command result.status (S.shows source.old) (S.shows source.new) (O.shows out.old)
@@ -98,6 +99,7 @@ fn run_input<W: Workers, O: Sink, E: Sink>(
     out: &mut O,
     err: &mut E,
 ) -> Ending
+    requires ready { W.ready by.now }
     requires short { IsShort input.now }
     requires size { HasSize command }
     requires reads { ReadsKernel command }
@@ -129,6 +131,7 @@ fn run_command<W: Workers, O: Sink, E: Sink>(
     out: &mut O,
     err: &mut E,
 ) -> Status
+    requires ready { W.ready by.now }
     requires kernel { IsKernel (program_of kernel.now) }
     requires size { HasSize command }
     requires reads { ReadsKernel command }
@@ -152,6 +155,7 @@ fn run_kernel<W: Workers, O: Sink, E: Sink>(
     out: &mut O,
     err: &mut E,
 ) -> Status
+    requires ready { W.ready by.now }
     requires kernel { IsKernel (program_of kernel.now) }
     requires options { AreSized options }
     ensures { AnswersData options result (program_of kernel.now) text.now (O.shows out.old) (O.shows out.new)
@@ -174,6 +178,7 @@ fn run_case<W: Workers, O: Sink, E: Sink>(
     out: &mut O,
     err: &mut E,
 ) -> Status
+    requires ready { W.ready by.now }
     requires limits { WithinLimits (program_of kernel.now) case.params.items }
     requires shape { IsShaped case.extents case.arrays }
     requires extents { case.extents ≡ layout (program_of kernel.now) case.params.items }
@@ -199,6 +204,7 @@ fn run_inside<W: Workers, O: Sink, E: Sink>(
     out: &mut O,
     err: &mut E,
 ) -> Status
+    requires ready { W.ready by.now }
     requires limits { WithinLimits (program_of kernel.now) case.params.items }
     requires shape { IsShaped case.extents case.arrays }
     requires extents { case.extents ≡ layout (program_of kernel.now) case.params.items }
