@@ -26,8 +26,8 @@ abbrev own : Tree → Bool → ℤ → List Mark → List ℤ → List ℤ → L
 own t begun x ms params outer = if begun then rest_in t x ms params outer else map given (walk t params outer)
 
 -- what is to come is that of the node at the place, then the nodes behind it
-pub rest_at : (nodes : List Node) (k : ℕ) (node : Node) (begun : Bool) (x z : ℤ) (ms : List Mark) (params outer : List ℤ)
-    → node ≡ get_or nodes k node → k < length nodes
+pub rest_at : (nodes : List Node) (k : ℕ) (node : Node) (begun : Bool) (x z : ℤ) (ms : List Mark)
+    (params outer : List ℤ) → node ≡ get_or nodes k node → k < length nodes
     → rest_of (nodes_of nodes) (mark k begun x z ∷ ms) params outer
     ≡ rest_of (more (tree_of node) none) (mark zero begun x z ∷ ms) params outer ++ shown_by (drop (suc k) nodes) params
     outer
@@ -56,8 +56,9 @@ rest_end (n ∷ ns) zero begun x z ms params outer h = absurd (omega arith)
 rest_end (n ∷ ns) (suc k) begun x z ms params outer h = rest_end ns k begun x z ms params outer (omega arith)
 
 -- a place stands in nodes where it stands in the node at its mark
-pub at_node : (nodes : List Node) (k : ℕ) (node : Node) (begun : Bool) (x z : ℤ) (ms : List Mark) (params outer : List ℤ)
-    → node ≡ get_or nodes k node → k < length nodes → IsAt (nodes_of nodes) (mark k begun x z ∷ ms) params outer
+pub at_node : (nodes : List Node) (k : ℕ) (node : Node) (begun : Bool) (x z : ℤ) (ms : List Mark)
+    (params outer : List ℤ) → node ≡ get_or nodes k node → k < length nodes
+    → IsAt (nodes_of nodes) (mark k begun x z ∷ ms) params outer
     → IsAt (more (tree_of node) none) (mark zero begun x z ∷ ms) params outer
 at_node [] k node begun x z ms params outer found h at = absurd (omega arith)
 at_node (n ∷ ns) zero node true x z ms params outer found h at =
@@ -181,8 +182,9 @@ turns_next body ms new x last params outer here room empty =
     rw (h, empty) (sym (turns_restarted body new (x +ℤ pos 1) last params outer room))
 
 -- from a place in nodes to one in the node at its mark, and back
-pub go_node : (nodes : List Node) (k : ℕ) (node : Node) (begun : Bool) (x z : ℤ) (ms : List Mark) (params outer : List ℤ)
-    → node ≡ get_or nodes k node → k < length nodes → CanGo (nodes_of nodes) (mark k begun x z ∷ ms) params outer
+pub go_node : (nodes : List Node) (k : ℕ) (node : Node) (begun : Bool) (x z : ℤ) (ms : List Mark)
+    (params outer : List ℤ) → node ≡ get_or nodes k node → k < length nodes
+    → CanGo (nodes_of nodes) (mark k begun x z ∷ ms) params outer
     → CanGo (more (tree_of node) none) (mark zero begun x z ∷ ms) params outer
 go_node nodes k node begun x z ms params outer found h go =
     let d = deep_node nodes k node found h in
@@ -275,8 +277,8 @@ pub gone_guard : (tests : List Test) (body : Trees) (begun : Bool) (x z : ℤ) (
 gone_guard tests body begun x z ms begun' y w new is params outer room holds b gone =
     let l = length-begun begun ms in
     let kept = gone.room in
-    subst (λ (c : Bool). HasGone (more (guard tests body) none) (mark zero begun x z ∷ ms) (mark zero c y w ∷ new) is params
-    outer)
+    subst (λ (c : Bool). HasGone (more (guard tests body) none) (mark zero begun x z ∷ ms) (mark zero c y w ∷ new) is
+    params outer)
     (sym b)
     (record {
       rest = rest_guard tests body begun x z ms params outer room holds

@@ -139,8 +139,8 @@ fn begin_loop(head: &Loop, mark: &mut Mark, deeper: &mut [Mark], outer: &Outer, 
         × BoundsFit (bounds_in head.now.upper) (values_in outer.now ++ params.now) }
     requires last { mark.old.begun ≡ true
         → mark.old.last ≡ upper (bounds_in head.now.upper) (values_in outer.now ++ params.now) }
-    ensures mark { mark_of mark.new ≡ marked_at mark.old.place true
-        (if mark.old.begun then mark.old.value else lower (bounds_in head.now.lower) (values_in outer.now ++ params.now))
+    ensures mark { mark_of mark.new ≡ marked_at mark.old.place true (if mark.old.begun then mark.old.value
+        else lower (bounds_in head.now.lower) (values_in outer.now ++ params.now))
         (upper (bounds_in head.now.upper) (values_in outer.now ++ params.now)) }
     ensures deeper { marks_of deeper.new
         ≡ (if mark.old.begun then marks_of deeper.old else restarted (marks_of deeper.old)) }
@@ -285,12 +285,13 @@ fn next_turn(
     outer: &Outer,
     params: &[i64],
 ) -> Option<Instance>
-    requires { CanTurn (nodes_of body.now) (marks_of deeper.old) mark.old.value mark.old.last params.now (values_in outer.now) }
+    requires { CanTurn (nodes_of body.now) (marks_of deeper.old) mark.old.value mark.old.last params.now
+        (values_in outer.now) }
     ensures gone { IsSome result → HasTurned (nodes_of body.now) mark.old.value (marks_of deeper.old) mark.new.value
         (marks_of deeper.new) mark.old.last (found_in result) params.now (values_in outer.now) }
     ensures none { IsNone result
-        → rest_from (nodes_of body.now) (marks_of deeper.old) mark.old.value mark.old.last params.now (values_in outer.now)
-        ≡ [] }
+        → rest_from (nodes_of body.now) (marks_of deeper.old) mark.old.value mark.old.last params.now
+        (values_in outer.now) ≡ [] }
     ensures place { mark.new.place ≡ mark.old.place }
     ensures begun { mark.new.begun ≡ mark.old.begun }
     ensures last { mark.new.last ≡ mark.old.last }

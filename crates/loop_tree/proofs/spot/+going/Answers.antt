@@ -15,7 +15,8 @@ use Rattle.loop_tree.specs.Walk.{all_hold as tests_hold, lower, upper}
 use Rattle.loop_tree.proofs.Views.{tree_guard, tree_instance}
 use Rattle.loop_tree.proofs.Walked.{leaf_held}
 use Rattle.loop_tree.proofs.Weights.{node_weight, weight, weight_all}
-use Rattle.loop_tree.proofs.Going.{at_next, at_restarted, begun_last, go_guard, go_loop, go_node, go_turn, gone_guard, gone_loop, gone_node}
+use Rattle.loop_tree.proofs.Going.{at_next, at_restarted, begun_last, go_guard, go_loop, go_node, go_turn, gone_guard}
+use Rattle.loop_tree.proofs.Going.{gone_loop, gone_node}
 use Rattle.loop_tree.proofs.Going.{length-marks, length-restarted, node_done, rest_end, rest_guard, rest_loop}
 use Rattle.loop_tree.proofs.Going.{turns_fewer, turns_next}
 use Rattle.loop_tree.proofs.spot.+going.Goals as goal
@@ -29,7 +30,6 @@ value_of_mark (marked_at k begun x z) = x
 abbrev last_of_mark : Mark → ℤ
 last_of_mark (marked_at k begun x z) = z
 
--- src/spot.rt:149:15
 pub next_from-next_in-requires : goal.next_from-next_in-requires
 next_from-next_in-requires t c =
     let l = c.loop-mark in
@@ -46,7 +46,6 @@ next_from-next_in-requires t c =
     let less : weight (tree_of node) < weight_all (nodes_of nodes) + 1 = omega arith in
     search rules
 
--- src/spot.rt:150:31
 pub next_from-returns-in-Some-clause-gone : goal.next_from-returns-in-Some-clause-gone
 next_from-returns-in-Some-clause-gone t c =
     let l = c.loop-mark in
@@ -58,8 +57,8 @@ next_from-returns-in-Some-clause-gone t c =
     let found : node ≡ get_or nodes l.mark.place node = c.index-nodes-mark.is in
     let new = c.next_in.new in
     let is = found_in (Some c.in-Some.instance) in
-    let gone = gone_node nodes l.mark.place node l.mark.begun l.mark.value l.mark.last ms new.mark.begun new.mark.value new.mark.last
-    (marks_of new.deeper) is params outer found c.loop-mark-test.true (c.in-Some.ensures.gone refl) in
+    let gone = gone_node nodes l.mark.place node l.mark.begun l.mark.value l.mark.last ms new.mark.begun new.mark.value
+    new.mark.last (marks_of new.deeper) is params outer found c.loop-mark-test.true (c.in-Some.ensures.gone refl) in
     let here = subst (λ k. HasGone (nodes_of nodes) (marks_of (l.mark ∷ l.deeper))
     (marked_at k new.mark.begun new.mark.value new.mark.last ∷ marks_of new.deeper) is params outer)
     (sym c.next_in.ensures.place) gone in
@@ -70,7 +69,6 @@ next_from-returns-in-Some-clause-gone t c =
     let d = length-marks l.deeper in
     record { rest = l.invariant.1 ∙ here.rest; room = omega (arith, same, room, a, b, d); stands = here.stands }
 
--- src/spot.rt:147:5
 pub next_from-loop-mark-preserved : goal.next_from-loop-mark-preserved
 next_from-loop-mark-preserved t c =
     let l = c.loop-mark in
@@ -89,8 +87,8 @@ next_from-loop-mark-preserved t c =
     let a = length-marks new.deeper in
     let b = length-marks l.deeper in
     let place : l.mark.place + 1 ≡ k = ap (λ (i : ℕ). i + 1) (sym c.next_in.ensures.place) in
-    let done = node_done nodes l.mark.place node l.mark.begun l.mark.value l.mark.last ms new.mark.value new.mark.last ns params outer found
-    c.loop-mark-test.true (c.in-None.ensures.none refl) in (
+    let done = node_done nodes l.mark.place node l.mark.begun l.mark.value l.mark.last ms new.mark.value new.mark.last
+    ns params outer found c.loop-mark-test.true (c.in-None.ensures.none refl) in (
       record {
         walk = l.invariant.0.walk;
         room = omega (arith, room, here, a, b);
@@ -98,11 +96,11 @@ next_from-loop-mark-preserved t c =
       },
       l.invariant.1
           ∙ (done
-          ∙ ap (λ (i : ℕ). rest_of (nodes_of nodes) (marked_at i false new.mark.value new.mark.last ∷ ns) params outer) place),
+          ∙ ap (λ (i : ℕ). rest_of (nodes_of nodes) (marked_at i false new.mark.value new.mark.last ∷ ns) params outer)
+          place),
       omega (arith, same, here),
     )
 
--- src/spot.rt:133:1
 pub next_from-returns-clause-none : goal.next_from-returns-clause-none
 next_from-returns-clause-none t c =
     let l = c.loop-mark in
@@ -114,7 +112,6 @@ next_from-returns-clause-none t c =
     l.invariant.1
     ∙ rest_end nodes l.mark.place l.mark.begun l.mark.value l.mark.last ms params outer (omega arith)
 
--- src/spot.rt:187:17
 pub next_in-next_of-requires : goal.next_in-next_of-requires
 next_in-next_of-requires t c =
     let params = c.args.params.now in
@@ -127,7 +124,8 @@ next_in-next_of-requires t c =
     ap tree_of c.in-Guard.is ∙ tree_guard c.in-Guard.guard c.in-Guard.body in
     let holds : tests_hold tests (outer ++ params) ≡ true =
     sym c.lets_pass.ensures ∙ c.if-lets_pass.true in
-    let body_is : nodes_of c.deref-then-lets_pass.result.now ≡ body = ap nodes_of c.deref-then-lets_pass.ensures.value in
+    let body_is : nodes_of c.deref-then-lets_pass.result.now ≡ body =
+    ap nodes_of c.deref-then-lets_pass.ensures.value in
     let go = subst (λ (u : Tree). CanGo (more u none) (marked_at 0 m.begun m.value m.last ∷ ms) params outer) t_is
     c.requires in
     let ns = marks_of c.begin_guard.new.deeper in
@@ -141,7 +139,6 @@ next_in-next_of-requires t c =
     omega (arith, w, e) in
     search rules
 
--- src/spot.rt:197:18
 pub next_in-instance_at-requires-clause-held : goal.next_in-instance_at-requires-clause-held
 next_in-instance_at-requires-clause-held t c =
     let leaf = c.in-Instance.leaf in
@@ -151,7 +148,6 @@ next_in-instance_at-requires-clause-held t c =
     leaf_held leaf.statement leaf.turns.items params outer
     (subst (λ (u : Tree). CanWalk (more u none) params outer) is c.requires.walk)
 
--- src/spot.rt:161:1
 pub next_in-returns-then-lets_pass-clause-gone : goal.next_in-returns-then-lets_pass-clause-gone
 next_in-returns-then-lets_pass-clause-gone t c =
     let params = c.args.params.now in
@@ -164,23 +160,24 @@ next_in-returns-then-lets_pass-clause-gone t c =
     ap tree_of c.in-Guard.is ∙ tree_guard c.in-Guard.guard c.in-Guard.body in
     let holds : tests_hold tests (outer ++ params) ≡ true =
     sym c.lets_pass.ensures ∙ c.if-lets_pass.true in
-    let body_is : nodes_of c.deref-then-lets_pass.result.now ≡ body = ap nodes_of c.deref-then-lets_pass.ensures.value in
+    let body_is : nodes_of c.deref-then-lets_pass.result.now ≡ body =
+    ap nodes_of c.deref-then-lets_pass.ensures.value in
     let go = subst (λ (u : Tree). CanGo (more u none) (marked_at 0 m.begun m.value m.last ∷ ms) params outer) t_is
     c.requires in
     let room = go.room in
-    let b : c.begin_guard.new.mark.begun ≡ true = c.begin_guard.ensures.begun in
+    let begun = c.begin_guard.new.mark in
+    let b : begun.begun ≡ true = c.begin_guard.ensures.begun in
     λ e.
     let gone = subst (λ (ks : List Mark). HasGone body ks (marks_of c.next_of.new.marks) (found_in c.next_of.result)
     params outer) c.begin_guard.ensures.deeper
     (subst (λ (ts : Trees). HasGone ts (marks_of c.begin_guard.new.deeper) (marks_of c.next_of.new.marks)
     (found_in c.next_of.result) params outer) body_is c.next_of.ensures.gone) in
     subst (λ (u : Tree). HasGone (more u none) (marked_at 0 m.begun m.value m.last ∷ ms)
-    (marked_at 0 c.begin_guard.new.mark.begun c.begin_guard.new.mark.value c.begin_guard.new.mark.last ∷ marks_of c.next_of.new.marks)
-    (found_in c.next_of.result) params outer) (sym t_is)
-    (gone_guard tests body m.begun m.value m.last ms c.begin_guard.new.mark.begun c.begin_guard.new.mark.value c.begin_guard.new.mark.last
+    (marked_at 0 begun.begun begun.value begun.last ∷ marks_of c.next_of.new.marks) (found_in c.next_of.result) params
+    outer) (sym t_is)
+    (gone_guard tests body m.begun m.value m.last ms begun.begun begun.value begun.last
     (marks_of c.next_of.new.marks) (found_in c.next_of.result) params outer (omega (arith, room)) holds b gone)
 
--- src/spot.rt:161:1
 pub next_in-returns-then-lets_pass-clause-none : goal.next_in-returns-then-lets_pass-clause-none
 next_in-returns-then-lets_pass-clause-none t c =
     let params = c.args.params.now in
@@ -193,7 +190,8 @@ next_in-returns-then-lets_pass-clause-none t c =
     ap tree_of c.in-Guard.is ∙ tree_guard c.in-Guard.guard c.in-Guard.body in
     let holds : tests_hold tests (outer ++ params) ≡ true =
     sym c.lets_pass.ensures ∙ c.if-lets_pass.true in
-    let body_is : nodes_of c.deref-then-lets_pass.result.now ≡ body = ap nodes_of c.deref-then-lets_pass.ensures.value in
+    let body_is : nodes_of c.deref-then-lets_pass.result.now ≡ body =
+    ap nodes_of c.deref-then-lets_pass.ensures.value in
     let go = subst (λ (u : Tree). CanGo (more u none) (marked_at 0 m.begun m.value m.last ∷ ms) params outer) t_is
     c.requires in
     let room = go.room in
@@ -204,7 +202,6 @@ next_in-returns-then-lets_pass-clause-none t c =
     (rest_guard tests body m.begun m.value m.last ms params outer (omega (arith, room)) holds
     ∙ subst (λ (ks : List Mark). rest_of body ks params outer ≡ []) c.begin_guard.ensures.deeper empty)
 
--- src/spot.rt:230:5
 pub next_loop-begin_loop-requires-clause-last : goal.next_loop-begin_loop-requires-clause-last
 next_loop-begin_loop-requires-clause-last t c =
     let head = c.args.head.now in
@@ -212,7 +209,6 @@ next_loop-begin_loop-requires-clause-last t c =
     begun_last head.parallel (bounds_in head.lower) (bounds_in head.upper) (nodes_of c.args.body.now) m.begun m.value
     m.last (marks_of c.args.deeper.now) c.args.params.now (values_in c.args.outer.now) c.requires.stands
 
--- src/spot.rt:230:5
 pub next_loop-next_turn-requires : goal.next_loop-next_turn-requires
 next_loop-next_turn-requires t c =
     let head = c.args.head.now in
@@ -237,7 +233,6 @@ next_loop-next_turn-requires t c =
     let less : weight_all body + 4 < weight_all body + 5 = omega arith in
     search rules
 
--- src/spot.rt:203:1
 pub next_loop-returns-clause-gone : goal.next_loop-returns-clause-gone
 next_loop-returns-clause-gone t c =
     let head = c.args.head.now in
@@ -263,8 +258,8 @@ next_loop-returns-clause-gone t c =
     let b : new.mark.begun ≡ true =
     c.next_turn.ensures.begun ∙ ap (λ (n : Mark). begun_of n) c.begin_loop.ensures.mark in
     λ e.
-    let at_last = subst (λ (z : ℤ). HasTurned body begun.mark.value (marks_of begun.deeper) new.mark.value ns z is params
-    outer) last_is (c.next_turn.ensures.gone e) in
+    let at_last = subst (λ (z : ℤ). HasTurned body begun.mark.value (marks_of begun.deeper) new.mark.value ns z is
+    params outer) last_is (c.next_turn.ensures.gone e) in
     let turned = subst (λ (ks : List Mark). HasTurned body start ks new.mark.value ns last is params outer)
     c.begin_loop.ensures.deeper
     (subst (λ (x : ℤ). HasTurned body x (marks_of begun.deeper) new.mark.value ns last is params outer) start_is
@@ -273,7 +268,6 @@ next_loop-returns-clause-gone t c =
     new.mark.value new.mark.last ns is params outer (omega (arith, room)) kept b (c.next_turn.ensures.last ∙ last_is)
     c.requires.stands turned
 
--- src/spot.rt:203:1
 pub next_loop-returns-clause-none : goal.next_loop-returns-clause-none
 next_loop-returns-clause-none t c =
     let head = c.args.head.now in
@@ -297,7 +291,6 @@ next_loop-returns-clause-none t c =
     ∙ subst (λ (ks : List Mark). rest_from body ks start last params outer ≡ []) c.begin_loop.ensures.deeper
     (subst (λ (x : ℤ). rest_from body (marks_of begun.deeper) x last params outer ≡ []) start_is at_last)
 
--- src/spot.rt:253:5
 pub next_turn-next_within-requires : goal.next_turn-next_within-requires
 next_turn-next_within-requires t c =
     let value = c.loop-mark.mark.value in
@@ -318,7 +311,6 @@ next_turn-next_within-requires t c =
     let less : weight_all body + 3 < weight_all body + 4 = omega arith in
     search rules
 
--- src/spot.rt:253:5
 pub next_turn-loop-mark-smaller : goal.next_turn-loop-mark-smaller
 next_turn-loop-mark-smaller t c =
     let value = c.loop-mark.mark.value in
@@ -334,7 +326,6 @@ next_turn-loop-mark-smaller t c =
     let n_is : n ≡ v +ℤ pos 1 = to_z-of_z w128 (v +ℤ pos 1) up in
     turns_fewer (last -ℤ value) (last -ℤ n) (omega (arith, ints, n_is, v_is)) (omega (arith, ints, n_is, v_is, less))
 
--- src/spot.rt:253:5
 pub next_turn-loop-mark-preserved : goal.next_turn-loop-mark-preserved
 next_turn-loop-mark-preserved t c =
     let value = c.loop-mark.mark.value in
