@@ -1,9 +1,10 @@
 -- Places of a tree's visits, node by node and value by value.
 use Rattle.std.proofs.Common.{◌≡◌, ℕ, zero, suc, ◌+◌, ◌≤◌, ◌<◌, Bool, true, false, ℤ, pos, List, [], ◌∷◌, ◌++◌, length}
-use Rattle.std.proofs.Common.{drop, get_or, replicate, map, ap, ap₂, sym, subst, ◌∙◌, refl, arith, append-nil}
+use Rattle.std.proofs.Common.{drop, get_or, replicate, map, ap, sym, subst, ◌∙◌, refl, arith, append-nil}
 use Rattle.std.proofs.Common.{inl, inr}
 use Rattle.std.specs.Prelude.{if◌then◌else◌, ◌+ℤ◌, ◌≤ℤ◌, ◌<ℤ◌, ◌⊎◌}
 use Rattle.std.specs.Int.Signed.{le_z}
+use Rattle.std.proofs.lemmas.Bool.{false≢true}
 use Rattle.std.proofs.lemmas.Int.{ints}
 use Rattle.loop_tree.specs.steps.Going.{CanGo, CanTurn, HasGone, HasTurned, restarted, rest_from}
 use Rattle.std.proofs.lemmas.List.{map-append, append_assoc, length-map}
@@ -25,64 +26,65 @@ abbrev own : Tree → Bool → ℤ → List Mark → List ℤ → List ℤ → L
 own t begun x ms params outer = if begun then rest_in t x ms params outer else map given (walk t params outer)
 
 -- what is to come is that of the node at the place, then the nodes behind it
-pub rest_at : (nodes : List Node) (k : ℕ) (node : Node) (begun : Bool) (x : ℤ) (ms : List Mark) (params outer : List ℤ)
-    → node ≡ get_or nodes k node → k < length nodes
-    → rest_of (nodes_of nodes) (mark k begun x ∷ ms) params outer
-    ≡ rest_of (more (tree_of node) none) (mark zero begun x ∷ ms) params outer ++ shown_by (drop (suc k) nodes) params
+pub rest_at : (nodes : List Node) (k : ℕ) (node : Node) (begun : Bool) (x z : ℤ) (ms : List Mark)
+    (params outer : List ℤ) → node ≡ get_or nodes k node → k < length nodes
+    → rest_of (nodes_of nodes) (mark k begun x z ∷ ms) params outer
+    ≡ rest_of (more (tree_of node) none) (mark zero begun x z ∷ ms) params outer ++ shown_by (drop (suc k) nodes) params
     outer
-rest_at [] k node begun x ms params outer found h = absurd (omega arith)
-rest_at (n ∷ ns) zero node begun x ms params outer found h =
+rest_at [] k node begun x z ms params outer found h = absurd (omega arith)
+rest_at (n ∷ ns) zero node begun x z ms params outer found h =
     ap (λ (m : Node). own (tree_of m) begun x ms params outer ++ shown_by ns params outer) (sym found)
     ∙ ap (λ (is : List Instance). is ++ shown_by ns params outer)
     (sym (append-nil (own (tree_of node) begun x ms params outer)))
-rest_at (n ∷ ns) (suc k) node begun x ms params outer found h =
-    rest_at ns k node begun x ms params outer found (omega arith)
+rest_at (n ∷ ns) (suc k) node begun x z ms params outer found h =
+    rest_at ns k node begun x z ms params outer found (omega arith)
 
 -- where the next node was not begun, it is those behind
-pub rest_next : (nodes : List Node) (k : ℕ) (x : ℤ) (ms : List Mark) (params outer : List ℤ)
-    → rest_of (nodes_of nodes) (mark k false x ∷ ms) params outer ≡ shown_by (drop k nodes) params outer
-rest_next [] zero x ms params outer = refl
-rest_next [] (suc k) x ms params outer = refl
-rest_next (n ∷ ns) zero x ms params outer =
+pub rest_next : (nodes : List Node) (k : ℕ) (x z : ℤ) (ms : List Mark) (params outer : List ℤ)
+    → rest_of (nodes_of nodes) (mark k false x z ∷ ms) params outer ≡ shown_by (drop k nodes) params outer
+rest_next [] zero x z ms params outer = refl
+rest_next [] (suc k) x z ms params outer = refl
+rest_next (n ∷ ns) zero x z ms params outer =
     sym (map-append given (walk (tree_of n) params outer) (walk_all (nodes_of ns) params outer))
-rest_next (n ∷ ns) (suc k) x ms params outer = rest_next ns k x ms params outer
+rest_next (n ∷ ns) (suc k) x z ms params outer = rest_next ns k x z ms params outer
 
 -- behind the last there is none
-pub rest_end : (nodes : List Node) (k : ℕ) (begun : Bool) (x : ℤ) (ms : List Mark) (params outer : List ℤ)
-    → length nodes ≤ k → rest_of (nodes_of nodes) (mark k begun x ∷ ms) params outer ≡ []
-rest_end [] k begun x ms params outer h = refl
-rest_end (n ∷ ns) zero begun x ms params outer h = absurd (omega arith)
-rest_end (n ∷ ns) (suc k) begun x ms params outer h = rest_end ns k begun x ms params outer (omega arith)
+pub rest_end : (nodes : List Node) (k : ℕ) (begun : Bool) (x z : ℤ) (ms : List Mark) (params outer : List ℤ)
+    → length nodes ≤ k → rest_of (nodes_of nodes) (mark k begun x z ∷ ms) params outer ≡ []
+rest_end [] k begun x z ms params outer h = refl
+rest_end (n ∷ ns) zero begun x z ms params outer h = absurd (omega arith)
+rest_end (n ∷ ns) (suc k) begun x z ms params outer h = rest_end ns k begun x z ms params outer (omega arith)
 
 -- a place stands in nodes where it stands in the node at its mark
-pub at_node : (nodes : List Node) (k : ℕ) (node : Node) (begun : Bool) (x : ℤ) (ms : List Mark) (params outer : List ℤ)
-    → node ≡ get_or nodes k node → k < length nodes → IsAt (nodes_of nodes) (mark k begun x ∷ ms) params outer
-    → IsAt (more (tree_of node) none) (mark zero begun x ∷ ms) params outer
-at_node [] k node begun x ms params outer found h at = absurd (omega arith)
-at_node (n ∷ ns) zero node true x ms params outer found h at =
-    subst (λ (m : Node). IsWithin (tree_of m) x ms params outer) (sym found) at
-at_node (n ∷ ns) zero node false x ms params outer found h at = tt
-at_node (n ∷ ns) (suc k) node begun x ms params outer found h at =
-    at_node ns k node begun x ms params outer found (omega arith) at
-
-pub at_nodes : (nodes : List Node) (k : ℕ) (node : Node) (begun : Bool) (x : ℤ) (ms : List Mark)
+pub at_node : (nodes : List Node) (k : ℕ) (node : Node) (begun : Bool) (x z : ℤ) (ms : List Mark)
     (params outer : List ℤ) → node ≡ get_or nodes k node → k < length nodes
-    → IsAt (more (tree_of node) none) (mark zero begun x ∷ ms) params outer
-    → IsAt (nodes_of nodes) (mark k begun x ∷ ms) params outer
-at_nodes [] k node begun x ms params outer found h at = absurd (omega arith)
-at_nodes (n ∷ ns) zero node true x ms params outer found h at =
-    subst (λ (m : Node). IsWithin (tree_of m) x ms params outer) found at
-at_nodes (n ∷ ns) zero node false x ms params outer found h at = tt
-at_nodes (n ∷ ns) (suc k) node begun x ms params outer found h at =
-    at_nodes ns k node begun x ms params outer found (omega arith) at
+    → IsAt (nodes_of nodes) (mark k begun x z ∷ ms) params outer
+    → IsAt (more (tree_of node) none) (mark zero begun x z ∷ ms) params outer
+at_node [] k node begun x z ms params outer found h at = absurd (omega arith)
+at_node (n ∷ ns) zero node true x z ms params outer found h at =
+    subst (λ (m : Node). IsWithin (tree_of m) x z ms params outer) (sym found) at
+at_node (n ∷ ns) zero node false x z ms params outer found h at = tt
+at_node (n ∷ ns) (suc k) node begun x z ms params outer found h at =
+    at_node ns k node begun x z ms params outer found (omega arith) at
+
+pub at_nodes : (nodes : List Node) (k : ℕ) (node : Node) (begun : Bool) (x z : ℤ) (ms : List Mark)
+    (params outer : List ℤ) → node ≡ get_or nodes k node → k < length nodes
+    → IsAt (more (tree_of node) none) (mark zero begun x z ∷ ms) params outer
+    → IsAt (nodes_of nodes) (mark k begun x z ∷ ms) params outer
+at_nodes [] k node begun x z ms params outer found h at = absurd (omega arith)
+at_nodes (n ∷ ns) zero node true x z ms params outer found h at =
+    subst (λ (m : Node). IsWithin (tree_of m) x z ms params outer) found at
+at_nodes (n ∷ ns) zero node false x z ms params outer found h at = tt
+at_nodes (n ∷ ns) (suc k) node begun x z ms params outer found h at =
+    at_nodes ns k node begun x z ms params outer found (omega arith) at
 
 -- a node that was not begun, or none, stands anywhere
-pub at_next : (nodes : List Node) (k : ℕ) (x : ℤ) (ms : List Mark) (params outer : List ℤ)
-    → IsAt (nodes_of nodes) (mark k false x ∷ ms) params outer
-at_next [] zero x ms params outer = tt
-at_next [] (suc k) x ms params outer = tt
-at_next (n ∷ ns) zero x ms params outer = tt
-at_next (n ∷ ns) (suc k) x ms params outer = at_next ns k x ms params outer
+pub at_next : (nodes : List Node) (k : ℕ) (x z : ℤ) (ms : List Mark) (params outer : List ℤ)
+    → IsAt (nodes_of nodes) (mark k false x z ∷ ms) params outer
+at_next [] zero x z ms params outer = tt
+at_next [] (suc k) x z ms params outer = tt
+at_next (n ∷ ns) zero x z ms params outer = tt
+at_next (n ∷ ns) (suc k) x z ms params outer = at_next ns k x z ms params outer
 
 -- a node of nodes can be walked, and is less deep
 pub can_node : (nodes : List Node) (k : ℕ) (node : Node) (params outer : List ℤ) → node ≡ get_or nodes k node
@@ -107,41 +109,41 @@ deep_some none = omega arith
 deep_some (more t ts) = omega arith
 
 -- before all, all is to come, and each place before all stands
-pub rest_fresh : (ts : Trees) (x : ℤ) (ms : List Mark) (params outer : List ℤ)
-    → rest_of ts (mark zero false x ∷ ms) params outer ≡ map given (walk_all ts params outer)
-rest_fresh none x ms params outer = refl
-rest_fresh (more t ts) x ms params outer = sym (map-append given (walk t params outer) (walk_all ts params outer))
+pub rest_fresh : (ts : Trees) (x z : ℤ) (ms : List Mark) (params outer : List ℤ)
+    → rest_of ts (mark zero false x z ∷ ms) params outer ≡ map given (walk_all ts params outer)
+rest_fresh none x z ms params outer = refl
+rest_fresh (more t ts) x z ms params outer = sym (map-append given (walk t params outer) (walk_all ts params outer))
 
-pub at_fresh : (ts : Trees) (x : ℤ) (ms : List Mark) (params outer : List ℤ)
-    → IsAt ts (mark zero false x ∷ ms) params outer
-at_fresh none x ms params outer = tt
-at_fresh (more t ts) x ms params outer = tt
+pub at_fresh : (ts : Trees) (x z : ℤ) (ms : List Mark) (params outer : List ℤ)
+    → IsAt ts (mark zero false x z ∷ ms) params outer
+at_fresh none x z ms params outer = tt
+at_fresh (more t ts) x z ms params outer = tt
 
 pub rest_restarted : (ts : Trees) (ms : List Mark) (params outer : List ℤ) → deep_all ts ≤ length ms
     → rest_of ts (restarted ms) params outer ≡ map given (walk_all ts params outer)
 rest_restarted ts [] params outer h = absurd (let d = deep_some ts in omega arith)
-rest_restarted ts (m ∷ ms) params outer h = rest_fresh ts (pos 0) ms params outer
+rest_restarted ts (m ∷ ms) params outer h = rest_fresh ts (pos 0) (pos 0) ms params outer
 
 pub at_restarted : (ts : Trees) (ms : List Mark) (params outer : List ℤ) → deep_all ts ≤ length ms
     → IsAt ts (restarted ms) params outer
 at_restarted ts [] params outer h = absurd (let d = deep_some ts in omega arith)
-at_restarted ts (m ∷ ms) params outer h = at_fresh ts (pos 0) ms params outer
+at_restarted ts (m ∷ ms) params outer h = at_fresh ts (pos 0) (pos 0) ms params outer
 
 -- so it is with marks where nothing was begun at any
 pub rest_repeated : (ts : Trees) (n : ℕ) (m : CodeMark) (params outer : List ℤ) → 1 ≤ n
-    → mark_of m ≡ mark zero false (pos 0)
+    → mark_of m ≡ mark zero false (pos 0) (pos 0)
     → rest_of ts (marks_of (replicate n m)) params outer ≡ map given (walk_all ts params outer)
 rest_repeated ts zero m params outer some is = absurd (omega arith)
 rest_repeated ts (suc n) m params outer some is =
     ap (λ (k : Mark). rest_of ts (k ∷ marks_of (replicate n m)) params outer) is
-    ∙ rest_fresh ts (pos 0) (marks_of (replicate n m)) params outer
+    ∙ rest_fresh ts (pos 0) (pos 0) (marks_of (replicate n m)) params outer
 
 pub at_repeated : (ts : Trees) (n : ℕ) (m : CodeMark) (params outer : List ℤ) → 1 ≤ n
-    → mark_of m ≡ mark zero false (pos 0) → IsAt ts (marks_of (replicate n m)) params outer
+    → mark_of m ≡ mark zero false (pos 0) (pos 0) → IsAt ts (marks_of (replicate n m)) params outer
 at_repeated ts zero m params outer some is = absurd (omega arith)
 at_repeated ts (suc n) m params outer some is =
     subst (λ (k : Mark). IsAt ts (k ∷ marks_of (replicate n m)) params outer) (sym is)
-    (at_fresh ts (pos 0) (marks_of (replicate n m)) params outer)
+    (at_fresh ts (pos 0) (pos 0) (marks_of (replicate n m)) params outer)
 
 pub length-restarted : (ms : List Mark) → length (restarted ms) ≡ length ms
 length-restarted [] = refl
@@ -165,6 +167,12 @@ turns_restarted body ms x last params outer room = by (le_or_less x last)
         let h : le_z x last ≡ false = grind (arith, ints) in
         rw h (sym (shown_none body params outer x last past))
 
+-- a place within a loop's value can go on
+pub go_turn : (body : Trees) (ms : List Mark) (x last : ℤ) (params outer : List ℤ)
+    → CanTurn body ms x last params outer → x ≤ℤ last → CanGo body ms params (outer ++ x ∷ [])
+go_turn body ms x last params outer can here =
+    record { walk = can.walk x (omega (arith, ints)) here; room = can.room; stands = can.stands here }
+
 -- what stays of a loop's values where nothing is left within one
 pub turns_next : (body : Trees) (ms new : List Mark) (x last : ℤ) (params outer : List ℤ) → x ≤ℤ last
     → deep_all body ≤ length new → rest_of body ms params (outer ++ x ∷ []) ≡ []
@@ -174,47 +182,48 @@ turns_next body ms new x last params outer here room empty =
     rw (h, empty) (sym (turns_restarted body new (x +ℤ pos 1) last params outer room))
 
 -- from a place in nodes to one in the node at its mark, and back
-pub go_node : (nodes : List Node) (k : ℕ) (node : Node) (begun : Bool) (x : ℤ) (ms : List Mark) (params outer : List ℤ)
-    → node ≡ get_or nodes k node → k < length nodes → CanGo (nodes_of nodes) (mark k begun x ∷ ms) params outer
-    → CanGo (more (tree_of node) none) (mark zero begun x ∷ ms) params outer
-go_node nodes k node begun x ms params outer found h go =
+pub go_node : (nodes : List Node) (k : ℕ) (node : Node) (begun : Bool) (x z : ℤ) (ms : List Mark)
+    (params outer : List ℤ) → node ≡ get_or nodes k node → k < length nodes
+    → CanGo (nodes_of nodes) (mark k begun x z ∷ ms) params outer
+    → CanGo (more (tree_of node) none) (mark zero begun x z ∷ ms) params outer
+go_node nodes k node begun x z ms params outer found h go =
     let d = deep_node nodes k node found h in
     let room = go.room in
     record {
       walk = can_node nodes k node params outer found h go.walk;
       room = omega (arith, d, room);
-      stands = at_node nodes k node begun x ms params outer found h go.stands;
+      stands = at_node nodes k node begun x z ms params outer found h go.stands;
     }
 
-pub gone_node : (nodes : List Node) (k : ℕ) (node : Node) (begun : Bool) (x : ℤ) (ms : List Mark) (begun' : Bool)
-    (y : ℤ) (new : List Mark) (is : List Instance) (params outer : List ℤ) → node ≡ get_or nodes k node
+pub gone_node : (nodes : List Node) (k : ℕ) (node : Node) (begun : Bool) (x z : ℤ) (ms : List Mark) (begun' : Bool)
+    (y w : ℤ) (new : List Mark) (is : List Instance) (params outer : List ℤ) → node ≡ get_or nodes k node
     → k < length nodes
-    → HasGone (more (tree_of node) none) (mark zero begun x ∷ ms) (mark zero begun' y ∷ new) is params outer
-    → HasGone (nodes_of nodes) (mark k begun x ∷ ms) (mark k begun' y ∷ new) is params outer
-gone_node nodes k node begun x ms begun' y new is params outer found h gone =
+    → HasGone (more (tree_of node) none) (mark zero begun x z ∷ ms) (mark zero begun' y w ∷ new) is params outer
+    → HasGone (nodes_of nodes) (mark k begun x z ∷ ms) (mark k begun' y w ∷ new) is params outer
+gone_node nodes k node begun x z ms begun' y w new is params outer found h gone =
     let t = more (tree_of node) none in
     let behind = shown_by (drop (suc k) nodes) params outer in
     record {
-      rest = rest_at nodes k node begun x ms params outer found h
+      rest = rest_at nodes k node begun x z ms params outer found h
           ∙ (ap (λ (js : List Instance). js ++ behind) gone.rest
-          ∙ (append_assoc is (rest_of t (mark zero begun' y ∷ new) params outer) behind
+          ∙ (append_assoc is (rest_of t (mark zero begun' y w ∷ new) params outer) behind
           ∙ ap (λ (js : List Instance). is ++ js)
-          (sym (rest_at nodes k node begun' y new params outer found h))));
+          (sym (rest_at nodes k node begun' y w new params outer found h))));
       room = gone.room;
-      stands = at_nodes nodes k node begun' y new params outer found h gone.stands;
+      stands = at_nodes nodes k node begun' y w new params outer found h gone.stands;
     }
 
-pub node_done : (nodes : List Node) (k : ℕ) (node : Node) (begun : Bool) (x : ℤ) (ms : List Mark) (y : ℤ)
+pub node_done : (nodes : List Node) (k : ℕ) (node : Node) (begun : Bool) (x z : ℤ) (ms : List Mark) (y w : ℤ)
     (new : List Mark) (params outer : List ℤ) → node ≡ get_or nodes k node → k < length nodes
-    → rest_of (more (tree_of node) none) (mark zero begun x ∷ ms) params outer ≡ []
-    → rest_of (nodes_of nodes) (mark k begun x ∷ ms) params outer
-    ≡ rest_of (nodes_of nodes) (mark (k + 1) false y ∷ new) params outer
-node_done nodes k node begun x ms y new params outer found h empty =
+    → rest_of (more (tree_of node) none) (mark zero begun x z ∷ ms) params outer ≡ []
+    → rest_of (nodes_of nodes) (mark k begun x z ∷ ms) params outer
+    ≡ rest_of (nodes_of nodes) (mark (k + 1) false y w ∷ new) params outer
+node_done nodes k node begun x z ms y w new params outer found h empty =
     let e : suc k ≡ k + 1 = omega arith in
-    rest_at nodes k node begun x ms params outer found h
+    rest_at nodes k node begun x z ms params outer found h
     ∙ (ap (λ (js : List Instance). js ++ shown_by (drop (suc k) nodes) params outer) empty
     ∙ (ap (λ (i : ℕ). shown_by (drop i nodes) params outer) e
-    ∙ sym (rest_next nodes (k + 1) y new params outer)))
+    ∙ sym (rest_next nodes (k + 1) y w new params outer)))
 
 pub length-marks : (ms : List CodeMark) → length (marks_of ms) ≡ length ms
 length-marks ms = length-map ms mark_of
@@ -229,17 +238,17 @@ length-begun true ms = refl
 length-begun false ms = length-restarted ms
 
 -- a guard that lets pass: its body's marks as they are, or before all where it was not begun
-pub go_guard : (tests : List Test) (body : Trees) (begun : Bool) (x : ℤ) (ms : List Mark) (params outer : List ℤ)
-    → CanGo (more (guard tests body) none) (mark zero begun x ∷ ms) params outer
+pub go_guard : (tests : List Test) (body : Trees) (begun : Bool) (x z : ℤ) (ms : List Mark) (params outer : List ℤ)
+    → CanGo (more (guard tests body) none) (mark zero begun x z ∷ ms) params outer
     → all_hold tests (outer ++ params) ≡ true → CanGo body (if begun then ms else restarted ms) params outer
-go_guard tests body true x ms params outer go holds =
+go_guard tests body true x z ms params outer go holds =
     let room = go.room in
     record {
       walk = walk_guarded tests body params outer go.walk holds;
       room = omega (arith, room);
-      stands = go.stands holds;
+      stands = go.stands.1;
     }
-go_guard tests body false x ms params outer go holds =
+go_guard tests body false x z ms params outer go holds =
     let room = go.room in
     let l = length-restarted ms in
     record {
@@ -248,104 +257,107 @@ go_guard tests body false x ms params outer go holds =
       stands = at_restarted body ms params outer (omega (arith, room));
     }
 
-pub rest_guard : (tests : List Test) (body : Trees) (begun : Bool) (x : ℤ) (ms : List Mark) (params outer : List ℤ)
+pub rest_guard : (tests : List Test) (body : Trees) (begun : Bool) (x z : ℤ) (ms : List Mark) (params outer : List ℤ)
     → deep_all body ≤ length ms → all_hold tests (outer ++ params) ≡ true
-    → rest_of (more (guard tests body) none) (mark zero begun x ∷ ms) params outer
+    → rest_of (more (guard tests body) none) (mark zero begun x z ∷ ms) params outer
     ≡ rest_of body (if begun then ms else restarted ms) params outer
-rest_guard tests body true x ms params outer room holds =
+rest_guard tests body true x z ms params outer room holds =
     append-nil (rest_in (guard tests body) x ms params outer)
     ∙ ap (λ (b : Bool). if b then rest_of body ms params outer else []) holds
-rest_guard tests body false x ms params outer room holds =
+rest_guard tests body false x z ms params outer room holds =
     append-nil (map given (walk (guard tests body) params outer))
     ∙ (ap (λ (b : Bool). map given (if b then walk_all body params outer else [])) holds
     ∙ sym (rest_restarted body ms params outer room))
 
-pub gone_guard : (tests : List Test) (body : Trees) (begun : Bool) (x : ℤ) (ms : List Mark) (begun' : Bool) (y : ℤ)
+pub gone_guard : (tests : List Test) (body : Trees) (begun : Bool) (x z : ℤ) (ms : List Mark) (begun' : Bool) (y w : ℤ)
     (new : List Mark) (is : List Instance) (params outer : List ℤ) → deep_all body ≤ length ms
     → all_hold tests (outer ++ params) ≡ true → begun' ≡ true
     → HasGone body (if begun then ms else restarted ms) new is params outer
-    → HasGone (more (guard tests body) none) (mark zero begun x ∷ ms) (mark zero begun' y ∷ new) is params outer
-gone_guard tests body begun x ms begun' y new is params outer room holds b gone =
+    → HasGone (more (guard tests body) none) (mark zero begun x z ∷ ms) (mark zero begun' y w ∷ new) is params outer
+gone_guard tests body begun x z ms begun' y w new is params outer room holds b gone =
     let l = length-begun begun ms in
     let kept = gone.room in
-    subst (λ (c : Bool). HasGone (more (guard tests body) none) (mark zero begun x ∷ ms) (mark zero c y ∷ new) is params
-    outer)
+    subst (λ (c : Bool). HasGone (more (guard tests body) none) (mark zero begun x z ∷ ms) (mark zero c y w ∷ new) is
+    params outer)
     (sym b)
     (record {
-      rest = rest_guard tests body begun x ms params outer room holds
+      rest = rest_guard tests body begun x z ms params outer room holds
           ∙ (gone.rest
           ∙ ap (λ (js : List Instance). is ++ js)
-          (sym (rest_guard tests body true y new params outer (omega (arith, room, l, kept)) holds)));
+          (sym (rest_guard tests body true y w new params outer (omega (arith, room, l, kept)) holds)));
       room = omega (arith, l, kept);
-      stands = λ h. gone.stands;
+      stands = (holds, gone.stands);
     })
 
--- a loop: its body's marks at its value as they are, or before all at its first value where it was not begun
-pub go_loop : (flag : Bool) (lo up : Bounds) (body : Trees) (begun : Bool) (x first last : ℤ) (ms : List Mark)
-    (params outer : List ℤ) → first ≡ lower lo (outer ++ params) → last ≡ upper up (outer ++ params)
-    → CanGo (more (loop flag lo up body) none) (mark zero begun x ∷ ms) params outer
-    → CanTurn body (if begun then ms else restarted ms) (if begun then x else first) last params outer
-go_loop flag lo up body true x first last ms params outer low high go =
+-- a loop that was begun is at no value before its first, and its last is known
+pub begun_last : (flag : Bool) (lo up : Bounds) (body : Trees) (begun : Bool) (x z : ℤ) (ms : List Mark)
+    (params outer : List ℤ) → IsAt (more (loop flag lo up body) none) (mark zero begun x z ∷ ms) params outer
+    → begun ≡ true → z ≡ upper up (outer ++ params)
+begun_last flag lo up body true x z ms params outer at b = at.1
+begun_last flag lo up body false x z ms params outer at b = absurd (false≢true b)
+
+starts_above : (flag : Bool) (lo up : Bounds) (body : Trees) (begun : Bool) (x z : ℤ) (ms : List Mark)
+    (params outer : List ℤ) → IsAt (more (loop flag lo up body) none) (mark zero begun x z ∷ ms) params outer
+    → lower lo (outer ++ params) ≤ℤ (if begun then x else lower lo (outer ++ params))
+starts_above flag lo up body true x z ms params outer at = at.0
+starts_above flag lo up body false x z ms params outer at = omega (arith, ints)
+
+-- its body's marks at its value as they are, or before all at its first value where it was not begun
+pub go_loop : (flag : Bool) (lo up : Bounds) (body : Trees) (begun : Bool) (x z : ℤ) (ms : List Mark)
+    (params outer : List ℤ) → CanGo (more (loop flag lo up body) none) (mark zero begun x z ∷ ms) params outer
+    → CanTurn body (if begun then ms else restarted ms) (if begun then x else lower lo (outer ++ params))
+    (upper up (outer ++ params)) params outer
+go_loop flag lo up body true x z ms params outer go =
     let room = go.room in
     let above : lower lo (outer ++ params) ≤ℤ x = go.stands.0 in
     record {
-      walk = λ y from to. walk_turn flag lo up body params outer y go.walk (omega (arith, ints))
-          (subst (λ (z : ℤ). y ≤ℤ z) high to);
+      walk = λ y from to. walk_turn flag lo up body params outer y go.walk (omega (arith, ints)) to;
       room = omega (arith, room);
-      stands = λ h. go.stands.1 (subst (λ (z : ℤ). x ≤ℤ z) high h);
+      stands = λ h. go.stands.2 (subst (λ (y : ℤ). x ≤ℤ y) (sym go.stands.1) h);
     }
-go_loop flag lo up body false x first last ms params outer low high go =
+go_loop flag lo up body false x z ms params outer go =
     let room = go.room in
     let l = length-restarted ms in
     record {
-      walk = λ y from to. walk_turn flag lo up body params outer y go.walk (subst (λ (z : ℤ). z ≤ℤ y) low from)
-          (subst (λ (z : ℤ). y ≤ℤ z) high to);
+      walk = λ y from to. walk_turn flag lo up body params outer y go.walk from to;
       room = omega (arith, room, l);
-      stands = λ h. at_restarted body ms params (outer ++ first ∷ []) (omega (arith, room));
+      stands = λ h. at_restarted body ms params (outer ++ lower lo (outer ++ params) ∷ []) (omega (arith, room));
     }
 
-pub rest_loop : (flag : Bool) (lo up : Bounds) (body : Trees) (begun : Bool) (x first last : ℤ) (ms : List Mark)
-    (params outer : List ℤ) → first ≡ lower lo (outer ++ params) → last ≡ upper up (outer ++ params)
-    → deep_all body ≤ length ms
-    → rest_of (more (loop flag lo up body) none) (mark zero begun x ∷ ms) params outer
-    ≡ rest_from body (if begun then ms else restarted ms) (if begun then x else first) last params outer
-rest_loop flag lo up body true x first last ms params outer low high room =
-    append-nil (rest_in (loop flag lo up body) x ms params outer)
-    ∙ ap (λ (z : ℤ). rest_from body ms x z params outer) (sym high)
-rest_loop flag lo up body false x first last ms params outer low high room =
+pub rest_loop : (flag : Bool) (lo up : Bounds) (body : Trees) (begun : Bool) (x z : ℤ) (ms : List Mark)
+    (params outer : List ℤ) → deep_all body ≤ length ms
+    → rest_of (more (loop flag lo up body) none) (mark zero begun x z ∷ ms) params outer
+    ≡ rest_from body (if begun then ms else restarted ms) (if begun then x else lower lo (outer ++ params))
+    (upper up (outer ++ params)) params outer
+rest_loop flag lo up body true x z ms params outer room = append-nil (rest_in (loop flag lo up body) x ms params outer)
+rest_loop flag lo up body false x z ms params outer room =
     append-nil (map given (walk (loop flag lo up body) params outer))
     ∙ (loop_shown flag lo up body params outer
-    ∙ (ap₂ (λ (a b : ℤ). turns_shown body params outer a b) (sym low) (sym high)
-    ∙ sym (turns_restarted body ms first last params outer room)))
+    ∙ sym (turns_restarted body ms (lower lo (outer ++ params)) (upper up (outer ++ params)) params outer room))
 
--- it starts at no value below its first
-starts_above : (flag : Bool) (lo up : Bounds) (body : Trees) (begun : Bool) (x first : ℤ) (ms : List Mark)
-    (params outer : List ℤ) → first ≡ lower lo (outer ++ params)
-    → IsAt (more (loop flag lo up body) none) (mark zero begun x ∷ ms) params outer
-    → lower lo (outer ++ params) ≤ℤ (if begun then x else first)
-starts_above flag lo up body true x first ms params outer low at = at.0
-starts_above flag lo up body false x first ms params outer low at = omega (arith, ints, low)
-
-pub gone_loop : (flag : Bool) (lo up : Bounds) (body : Trees) (begun : Bool) (x first last : ℤ) (ms : List Mark)
-    (begun' : Bool) (y : ℤ) (new : List Mark) (is : List Instance) (params outer : List ℤ)
-    → first ≡ lower lo (outer ++ params) → last ≡ upper up (outer ++ params) → deep_all body ≤ length ms
-    → length new ≡ length (if begun then ms else restarted ms) → begun' ≡ true
-    → IsAt (more (loop flag lo up body) none) (mark zero begun x ∷ ms) params outer
-    → HasTurned body (if begun then x else first) (if begun then ms else restarted ms) y new last is params outer
-    → HasGone (more (loop flag lo up body) none) (mark zero begun x ∷ ms) (mark zero begun' y ∷ new) is params outer
-gone_loop flag lo up body begun x first last ms begun' y new is params outer low high room kept b at gone =
+pub gone_loop : (flag : Bool) (lo up : Bounds) (body : Trees) (begun : Bool) (x z : ℤ) (ms : List Mark) (begun' : Bool)
+    (y w : ℤ) (new : List Mark) (is : List Instance) (params outer : List ℤ) → deep_all body ≤ length ms
+    → length new ≡ length (if begun then ms else restarted ms) → begun' ≡ true → w ≡ upper up (outer ++ params)
+    → IsAt (more (loop flag lo up body) none) (mark zero begun x z ∷ ms) params outer
+    → HasTurned body (if begun then x else lower lo (outer ++ params)) (if begun then ms else restarted ms) y new
+    (upper up (outer ++ params)) is params outer
+    → HasGone (more (loop flag lo up body) none) (mark zero begun x z ∷ ms) (mark zero begun' y w ∷ new) is params outer
+gone_loop flag lo up body begun x z ms begun' y w new is params outer room kept b last at gone =
     let l = length-begun begun ms in
     let t = more (loop flag lo up body) none in
-    let start : ℤ = if begun then x else first in
-    let above : lower lo (outer ++ params) ≤ℤ start =
-    starts_above flag lo up body begun x first ms params outer low at in
+    let start : ℤ = if begun then x else lower lo (outer ++ params) in
+    let above : lower lo (outer ++ params) ≤ℤ start = starts_above flag lo up body begun x z ms params outer at in
     let further : start ≤ℤ y = gone.up in
-    subst (λ (c : Bool). HasGone t (mark zero begun x ∷ ms) (mark zero c y ∷ new) is params outer) (sym b)
+    subst (λ (c : Bool). HasGone t (mark zero begun x z ∷ ms) (mark zero c y w ∷ new) is params outer) (sym b)
     (record {
-      rest = rest_loop flag lo up body begun x first last ms params outer low high room
+      rest = rest_loop flag lo up body begun x z ms params outer room
           ∙ (gone.rest
           ∙ ap (λ (js : List Instance). is ++ js)
-          (sym (rest_loop flag lo up body true y first last new params outer low high (omega (arith, room, l, kept)))));
+          (sym (rest_loop flag lo up body true y w new params outer (omega (arith, room, l, kept)))));
       room = omega (arith, l, kept);
-      stands = (omega (arith, ints, above, further), λ h. gone.stands (subst (λ (z : ℤ). y ≤ℤ z) (sym high) h));
+      stands = (
+        omega (arith, ints, above, further),
+        last,
+        λ h. gone.stands (subst (λ (v : ℤ). y ≤ℤ v) last h),
+      );
     })

@@ -1,5 +1,5 @@
 -- A place in the visits of trees: for each sequence of trees that it stands in, outermost first, at which tree, whether
--- that one was begun, and at which value where it is a loop.
+-- that one was begun, and where it is a loop at which value, and which is its last.
 use Rattle.std.specs.Prelude.{◌≡◌, ℕ, zero, suc, max, Bool, true, false, ℤ, pos, ◌+ℤ◌, ◌≤ℤ◌, List, [], ◌∷◌, ◌++◌, map}
 use Rattle.std.specs.Prelude.{if◌then◌else◌, ⊤}
 use Rattle.std.specs.Int.Signed.{le_z}
@@ -7,9 +7,9 @@ use Rattle.scop_syntax.specs.Walk.{Instance}
 use Rattle.loop_tree.specs.Tree.{Tree, loop, guard, instance, Trees, none, more}
 use Rattle.loop_tree.specs.Walk.{lower, upper, all_hold, between, walk, walk_all, given}
 
--- the place of a tree in a sequence, whether it was begun, and the value where it is a loop
+-- the place of a tree in a sequence, whether it was begun, and the value and the last value where it is a loop
 pub data Mark : Type 0 where
-  mark : ℕ → Bool → ℤ → Mark
+  mark : ℕ → Bool → ℤ → ℤ → Mark
 
 -- how many sequences stand in one another
 abbrev mutual
@@ -42,25 +42,25 @@ abbrev mutual
   pub rest_of : Trees → List Mark → List ℤ → List ℤ → List Instance
   rest_of ts [] params outer = []
   rest_of none (m ∷ ms) params outer = []
-  rest_of (more t ts) (mark zero begun x ∷ ms) params outer =
+  rest_of (more t ts) (mark zero begun x z ∷ ms) params outer =
       (if begun then rest_in t x ms params outer else map given (walk t params outer))
       ++ map given (walk_all ts params outer)
-  rest_of (more t ts) (mark (suc k) begun x ∷ ms) params outer = rest_of ts (mark k begun x ∷ ms) params outer
+  rest_of (more t ts) (mark (suc k) begun x z ∷ ms) params outer = rest_of ts (mark k begun x z ∷ ms) params outer
 
 abbrev mutual
-  -- the value of a loop that was begun is none before its first
-  pub IsWithin : Tree → ℤ → List Mark → List ℤ → List ℤ → Type 0
-  IsWithin (loop flag lo up body) x ms params outer =
-      (lower lo (outer ++ params) ≤ℤ x)
-      × (x ≤ℤ upper up (outer ++ params) → IsAt body ms params (outer ++ x ∷ []))
-  IsWithin (guard tests body) x ms params outer =
-      all_hold tests (outer ++ params) ≡ true → IsAt body ms params outer
-  IsWithin (instance n forms) x ms params outer = ⊤
+  -- a loop that was begun is at no value before its first, and its last is known; a guard that was begun lets pass
+  pub IsWithin : Tree → ℤ → ℤ → List Mark → List ℤ → List ℤ → Type 0
+  IsWithin (loop flag lo up body) x z ms params outer =
+      (lower lo (outer ++ params) ≤ℤ x) × (z ≡ upper up (outer ++ params))
+      × (x ≤ℤ z → IsAt body ms params (outer ++ x ∷ []))
+  IsWithin (guard tests body) x z ms params outer =
+      (all_hold tests (outer ++ params) ≡ true) × IsAt body ms params outer
+  IsWithin (instance n forms) x z ms params outer = ⊤
 
   -- so it is at the place of these marks in trees
   pub IsAt : Trees → List Mark → List ℤ → List ℤ → Type 0
   IsAt ts [] params outer = ⊤
   IsAt none (m ∷ ms) params outer = ⊤
-  IsAt (more t ts) (mark zero true x ∷ ms) params outer = IsWithin t x ms params outer
-  IsAt (more t ts) (mark zero false x ∷ ms) params outer = ⊤
-  IsAt (more t ts) (mark (suc k) begun x ∷ ms) params outer = IsAt ts (mark k begun x ∷ ms) params outer
+  IsAt (more t ts) (mark zero true x z ∷ ms) params outer = IsWithin t x z ms params outer
+  IsAt (more t ts) (mark zero false x z ∷ ms) params outer = ⊤
+  IsAt (more t ts) (mark (suc k) begun x z ∷ ms) params outer = IsAt ts (mark k begun x z ∷ ms) params outer

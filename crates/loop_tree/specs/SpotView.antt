@@ -10,7 +10,7 @@ use Rattle.loop_tree.specs.declared.spot.Spot.{Spot}
 
 -- a mark
 abbrev pub mark_of : CodeMark → Mark
-mark_of m = mark m.place m.begun m.value
+mark_of m = mark m.place m.begun m.value m.last
 
 -- the marks
 abbrev pub marks_of : List CodeMark → List Mark

@@ -1,6 +1,6 @@
 //! Values of forms at a node. The values of the loops round it stand in a chain on the call stack, so that a walk of
 //! any depth takes no memory. Sums of products are exact: each of them fits by the calls' conditions.
-ghost use Rattle.std.specs.Prelude.{◌≡◌, ◌+ℤ◌, ◌++◌, ◌∷◌, [], drop, length, pos};
+ghost use Rattle.std.specs.Prelude.{◌≡◌, ◌+ℤ◌, ◌*ℤ◌, ◌++◌, ◌∷◌, [], drop, length, pos};
 ghost use Rattle.whole_numbers.specs.Affine.{value_of};
 ghost use Rattle.whole_numbers.specs.Lists.{dot};
 ghost use Rattle.loop_tree.specs.Fits.{FormFits, SumsFit};
@@ -22,6 +22,17 @@ struct Part<'a> {
     rest: &'a [i64],
 }
 
+/// The sum with the product of a coefficient and a value; most coefficients are 0, and those are not multiplied.
+fn with_product(sum: i128, coefficient: i64, value: i128) -> i128
+    requires { SumsFit sum (coefficient ∷ []) (value ∷ []) }
+    ensures { result ≡ sum +ℤ (coefficient *ℤ value) }
+{
+    if coefficient == 0 {
+        return sum;
+    }
+    sum + coefficient as i128 * value
+}
+
 /// The sum with the product of the next coefficient, if there is one, and a value.
 fn with_entry<'a>(sum: i128, coefficients: &'a [i64], value: i128) -> Part<'a>
     requires { SumsFit sum coefficients.now (value ∷ []) }
@@ -34,7 +45,7 @@ fn with_entry<'a>(sum: i128, coefficients: &'a [i64], value: i128) -> Part<'a>
             rest: coefficients,
         },
         Some((coefficient, rest)) => Part {
-            sum: sum + *coefficient as i128 * value,
+            sum: with_product(sum, *coefficient, value),
             rest,
         },
     }

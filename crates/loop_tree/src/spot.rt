@@ -15,6 +15,7 @@ ghost use Rattle.std.specs.Prelude.{
   false,
   if◌then◌else◌,
   length,
+  map,
   max,
   min,
   pos,
@@ -24,26 +25,29 @@ ghost use Rattle.std.specs.Prelude.{
 ghost use Rattle.loop_tree.specs.steps.Chain.{values_in};
 ghost use Rattle.loop_tree.specs.steps.Going.{CanGo, CanTurn, HasGone, HasTurned, alone, rest_from, restarted};
 ghost use Rattle.loop_tree.specs.Conditions.{CanWalk};
+ghost use Rattle.loop_tree.specs.Fits.{BoundsFit, TestsFit};
+ghost use Rattle.loop_tree.specs.Marks.{AreBounds, AreTests};
 ghost use Rattle.loop_tree.specs.Spot.{deep, deep_all, mark as marked_at, rest_of};
 ghost use Rattle.loop_tree.specs.SpotView.{IsSpotOf, found_in, mark_of, marks_in, marks_of, to_come};
 ghost use Rattle.loop_tree.specs.Tree.{loop as loops, more, none};
-ghost use Rattle.loop_tree.specs.View.{bounds_in, nodes_of, tree_of, trees_in};
-ghost use Rattle.loop_tree.specs.Walk.{visits};
+ghost use Rattle.loop_tree.specs.View.{bounds_in, nodes_of, test_of, tree_of, trees_in};
+ghost use Rattle.loop_tree.specs.Walk.{all_hold as tests_hold, lower, upper, visits};
 
 use crate::guards::plus;
 use crate::outer::Outer;
 use crate::ranges::{all_hold, lower_at, upper_at};
-use crate::tree::{Loop, Node, Tree};
+use crate::tree::{Guard, Loop, Node, Tree};
 use crate::walking::instance_at;
 use scop_syntax::instance::Instance;
 use std::alloc::{AllocError, Global};
 
-/// The place of a node in a sequence, whether it was begun, and its value where it is a loop.
+/// The place of a node in a sequence, whether it was begun, and where it is a loop its value and its last one.
 #[derive(Debug, Clone, Copy)]
 pub struct Mark {
     pub place: usize,
     pub begun: bool,
     pub value: i128,
+    pub last: i128,
 }
 
 /// A place in a tree's visits: a mark for each sequence of nodes that may stand in one another.
@@ -85,12 +89,13 @@ fn depth_in(node: &Node) -> u64
 
 /// A place where nothing was begun.
 fn fresh() -> Mark
-    ensures { mark_of result ≡ marked_at 0 false (pos 0) }
+    ensures { mark_of result ≡ marked_at 0 false (pos 0) (pos 0) }
 {
     Mark {
         place: 0,
         begun: false,
         value: 0,
+        last: 0,
     }
 }
 
@@ -103,26 +108,62 @@ fn restart(marks: &mut [Mark])
     }
 }
 
-/// Begins a node at this value, where it was not begun.
-fn begin(mark: &mut Mark, value: i128, deeper: &mut [Mark])
+/// Begins a node with these values, where it was not begun.
+fn begin(mark: &mut Mark, value: i128, last: i128, deeper: &mut [Mark])
     requires { mark.old.begun ≡ false }
-    ensures mark { mark_of mark.new ≡ marked_at mark.old.place true value }
+    ensures mark { mark_of mark.new ≡ marked_at mark.old.place true value last }
     ensures deeper { marks_of deeper.new ≡ restarted (marks_of deeper.old) }
 {
     mark.begun = true;
     mark.value = value;
+    mark.last = last;
     restart(deeper);
 }
 
-/// Begins a node at this value, unless it was begun.
-fn begin_once(mark: &mut Mark, value: i128, deeper: &mut [Mark])
-    ensures mark { mark_of mark.new ≡ marked_at mark.old.place true (if mark.old.begun then mark.old.value else value) }
+/// Begins a guard that lets pass, unless it was begun.
+fn begin_guard(mark: &mut Mark, deeper: &mut [Mark])
+    ensures place { mark.new.place ≡ mark.old.place }
+    ensures begun { mark.new.begun ≡ true }
     ensures deeper { marks_of deeper.new
         ≡ (if mark.old.begun then marks_of deeper.old else restarted (marks_of deeper.old)) }
 {
     if !mark.begun {
-        begin(mark, value, deeper);
+        begin(mark, 0, 0, deeper);
     }
+}
+
+/// Begins a loop at its first value, unless it was begun: then its bounds are not asked again.
+fn begin_loop(head: &Loop, mark: &mut Mark, deeper: &mut [Mark], outer: &Outer, params: &[i64])
+    requires divisors { AreBounds (bounds_in head.now.lower) × AreBounds (bounds_in head.now.upper) }
+    requires fits { BoundsFit (bounds_in head.now.lower) (values_in outer.now ++ params.now)
+        × BoundsFit (bounds_in head.now.upper) (values_in outer.now ++ params.now) }
+    requires last { mark.old.begun ≡ true
+        → mark.old.last ≡ upper (bounds_in head.now.upper) (values_in outer.now ++ params.now) }
+    ensures mark { mark_of mark.new ≡ marked_at mark.old.place true (if mark.old.begun then mark.old.value
+        else lower (bounds_in head.now.lower) (values_in outer.now ++ params.now))
+        (upper (bounds_in head.now.upper) (values_in outer.now ++ params.now)) }
+    ensures deeper { marks_of deeper.new
+        ≡ (if mark.old.begun then marks_of deeper.old else restarted (marks_of deeper.old)) }
+{
+    if !mark.begun {
+        let first = lower_at(&head.lower.first, &head.lower.others, outer, params);
+        let last = upper_at(&head.upper.first, &head.upper.others, outer, params);
+        begin(mark, first, last, deeper);
+    }
+}
+
+/// Whether a guard lets pass: one that was begun does, and its tests are not asked again.
+fn lets_pass(guard: &Guard, begun: bool, outer: &Outer, params: &[i64]) -> bool
+    requires divisors { AreTests (map test_of guard.now.tests.items) }
+    requires fits { TestsFit (map test_of guard.now.tests.items) (values_in outer.now ++ params.now) }
+    requires begun { begun ≡ true → tests_hold (map test_of guard.now.tests.items) (values_in outer.now ++ params.now)
+        ≡ true }
+    ensures { result ≡ tests_hold (map test_of guard.now.tests.items) (values_in outer.now ++ params.now) }
+{
+    if begun {
+        return true;
+    }
+    all_hold(&guard.tests, outer, params)
 }
 
 /// The next instance of nodes.
@@ -191,8 +232,8 @@ fn next_in(
     match node {
         Node::Loop(head, body) => next_loop(head, body, mark, deeper, outer, params),
         Node::Guard(guard, body) => {
-            begin_once(mark, 0, deeper);
-            if all_hold(&guard.tests, outer, params) {
+            if lets_pass(guard, mark.begun, outer, params) {
+                begin_guard(mark, deeper);
                 next_of(body, deeper, outer, params)
             } else {
                 None
@@ -202,7 +243,7 @@ fn next_in(
             if mark.begun {
                 return None;
             }
-            begin(mark, 0, deeper);
+            begin(mark, 0, 0, deeper);
             Some(instance_at(leaf, outer, params))
         }
     }
@@ -231,37 +272,36 @@ fn next_loop(
     ensures room { length deeper.new ≡ length deeper.old }
     ensures begun { IsSome result → mark.new.begun ≡ true }
 {
-    let first = lower_at(&head.lower.first, &head.lower.others, outer, params);
-    begin_once(mark, first, deeper);
-    let last = upper_at(&head.upper.first, &head.upper.others, outer, params);
-    next_turn(body, last, mark, deeper, outer, params)
+    begin_loop(head, mark, deeper, outer, params);
+    next_turn(body, mark, deeper, outer, params)
 }
 
 /// The next instance of a loop's body from the value at a mark on.
 #[cycle(going)]
 fn next_turn(
     body: &[Node],
-    last: i128,
     mark: &mut Mark,
     deeper: &mut [Mark],
     outer: &Outer,
     params: &[i64],
 ) -> Option<Instance>
-    requires { CanTurn (nodes_of body.now) (marks_of deeper.old) mark.old.value last params.now (values_in outer.now) }
+    requires { CanTurn (nodes_of body.now) (marks_of deeper.old) mark.old.value mark.old.last params.now
+        (values_in outer.now) }
     ensures gone { IsSome result → HasTurned (nodes_of body.now) mark.old.value (marks_of deeper.old) mark.new.value
-        (marks_of deeper.new) last (found_in result) params.now (values_in outer.now) }
+        (marks_of deeper.new) mark.old.last (found_in result) params.now (values_in outer.now) }
     ensures none { IsNone result
-        → rest_from (nodes_of body.now) (marks_of deeper.old) mark.old.value last params.now (values_in outer.now)
-        ≡ [] }
+        → rest_from (nodes_of body.now) (marks_of deeper.old) mark.old.value mark.old.last params.now
+        (values_in outer.now) ≡ [] }
     ensures place { mark.new.place ≡ mark.old.place }
     ensures begun { mark.new.begun ≡ mark.old.begun }
+    ensures last { mark.new.last ≡ mark.old.last }
     ensures room { length deeper.new ≡ length deeper.old }
 {
-    while mark.value <= last {
+    while mark.value <= mark.last {
         match next_within(body, mark.value, deeper, outer, params) {
             Some(instance) => return Some(instance),
             None => {
-                if last <= mark.value {
+                if mark.last <= mark.value {
                     return None;
                 }
                 mark.value += 1;

@@ -40,9 +40,9 @@ pub record HasTurned (body : Trees) (x : ℤ) (old : List Mark) (y : ℤ) (new :
 
 -- marks of a tree alone
 abbrev pub alone : Mark → List Mark → List Mark
-alone (mark k begun x) ms = mark zero begun x ∷ ms
+alone (mark k begun x z) ms = mark zero begun x z ∷ ms
 
 -- marks where nothing was begun
 abbrev pub restarted : List Mark → List Mark
 restarted [] = []
-restarted (m ∷ ms) = mark zero false (pos 0) ∷ ms
+restarted (m ∷ ms) = mark zero false (pos 0) (pos 0) ∷ ms

@@ -9,25 +9,27 @@ use Rattle.loop_tree.specs.steps.Going.{CanGo, CanTurn, HasGone, HasTurned, rest
 use Rattle.loop_tree.specs.Conditions.{CanWalk}
 use Rattle.loop_tree.specs.Spot.{IsAt, Mark, deep_all, mark as marked_at, rest_of}
 use Rattle.loop_tree.specs.SpotView.{found_in, marks_of}
-use Rattle.loop_tree.specs.Tree.{Bound, bounds_of, Tree, Trees, guard as guarded, more, none}
+use Rattle.loop_tree.specs.Tree.{Tree, Trees, guard as guarded, more, none}
 use Rattle.loop_tree.specs.View.{bounds_in, nodes_of, test_of, tree_of}
 use Rattle.loop_tree.specs.Walk.{all_hold as tests_hold, lower, upper}
-use Rattle.loop_tree.specs.declared.tree.Test.{Test as CodeTest}
 use Rattle.loop_tree.proofs.Views.{tree_guard, tree_instance}
 use Rattle.loop_tree.proofs.Walked.{leaf_held}
 use Rattle.loop_tree.proofs.Weights.{node_weight, weight, weight_all}
-use Rattle.loop_tree.proofs.Going.{at_next, at_restarted, go_guard, go_loop, go_node, gone_guard, gone_loop, gone_node}
+use Rattle.loop_tree.proofs.Going.{at_next, at_restarted, begun_last, go_guard, go_loop, go_node, go_turn, gone_guard}
+use Rattle.loop_tree.proofs.Going.{gone_loop, gone_node}
 use Rattle.loop_tree.proofs.Going.{length-marks, length-restarted, node_done, rest_end, rest_guard, rest_loop}
 use Rattle.loop_tree.proofs.Going.{turns_fewer, turns_next}
 use Rattle.loop_tree.proofs.spot.+going.Goals as goal
 
 abbrev begun_of : Mark → Bool
-begun_of (marked_at k begun x) = begun
+begun_of (marked_at k begun x z) = begun
 
 abbrev value_of_mark : Mark → ℤ
-value_of_mark (marked_at k begun x) = x
+value_of_mark (marked_at k begun x z) = x
 
--- src/spot.rt:149:15
+abbrev last_of_mark : Mark → ℤ
+last_of_mark (marked_at k begun x z) = z
+
 pub next_from-next_in-requires : goal.next_from-next_in-requires
 next_from-next_in-requires t c =
     let l = c.loop-mark in
@@ -37,14 +39,13 @@ next_from-next_in-requires t c =
     let ms = marks_of l.deeper in
     let node = c.index-nodes-mark.result in
     let found : node ≡ get_or nodes l.mark.place node = c.index-nodes-mark.is in
-    let go : CanGo (more (tree_of node) none) (marked_at 0 l.mark.begun l.mark.value ∷ ms) params outer =
-    go_node nodes l.mark.place node l.mark.begun l.mark.value ms params outer found c.loop-mark-test.true
+    let go : CanGo (more (tree_of node) none) (marked_at 0 l.mark.begun l.mark.value l.mark.last ∷ ms) params outer =
+    go_node nodes l.mark.place node l.mark.begun l.mark.value l.mark.last ms params outer found c.loop-mark-test.true
     l.invariant.0 in
     let heavy = node_weight nodes l.mark.place node found c.loop-mark-test.true in
     let less : weight (tree_of node) < weight_all (nodes_of nodes) + 1 = omega arith in
     search rules
 
--- src/spot.rt:150:31
 pub next_from-returns-in-Some-clause-gone : goal.next_from-returns-in-Some-clause-gone
 next_from-returns-in-Some-clause-gone t c =
     let l = c.loop-mark in
@@ -56,10 +57,10 @@ next_from-returns-in-Some-clause-gone t c =
     let found : node ≡ get_or nodes l.mark.place node = c.index-nodes-mark.is in
     let new = c.next_in.new in
     let is = found_in (Some c.in-Some.instance) in
-    let gone = gone_node nodes l.mark.place node l.mark.begun l.mark.value ms new.mark.begun new.mark.value
-    (marks_of new.deeper) is params outer found c.loop-mark-test.true (c.in-Some.ensures.gone refl) in
+    let gone = gone_node nodes l.mark.place node l.mark.begun l.mark.value l.mark.last ms new.mark.begun new.mark.value
+    new.mark.last (marks_of new.deeper) is params outer found c.loop-mark-test.true (c.in-Some.ensures.gone refl) in
     let here = subst (λ k. HasGone (nodes_of nodes) (marks_of (l.mark ∷ l.deeper))
-    (marked_at k new.mark.begun new.mark.value ∷ marks_of new.deeper) is params outer)
+    (marked_at k new.mark.begun new.mark.value new.mark.last ∷ marks_of new.deeper) is params outer)
     (sym c.next_in.ensures.place) gone in
     let same = l.invariant.2 in
     let room = here.room in
@@ -68,7 +69,6 @@ next_from-returns-in-Some-clause-gone t c =
     let d = length-marks l.deeper in
     record { rest = l.invariant.1 ∙ here.rest; room = omega (arith, same, room, a, b, d); stands = here.stands }
 
--- src/spot.rt:147:5
 pub next_from-loop-mark-preserved : goal.next_from-loop-mark-preserved
 next_from-loop-mark-preserved t c =
     let l = c.loop-mark in
@@ -87,20 +87,20 @@ next_from-loop-mark-preserved t c =
     let a = length-marks new.deeper in
     let b = length-marks l.deeper in
     let place : l.mark.place + 1 ≡ k = ap (λ (i : ℕ). i + 1) (sym c.next_in.ensures.place) in
-    let done = node_done nodes l.mark.place node l.mark.begun l.mark.value ms new.mark.value ns params outer found
-    c.loop-mark-test.true (c.in-None.ensures.none refl) in (
+    let done = node_done nodes l.mark.place node l.mark.begun l.mark.value l.mark.last ms new.mark.value new.mark.last
+    ns params outer found c.loop-mark-test.true (c.in-None.ensures.none refl) in (
       record {
         walk = l.invariant.0.walk;
         room = omega (arith, room, here, a, b);
-        stands = at_next nodes k new.mark.value ns params outer;
+        stands = at_next nodes k new.mark.value new.mark.last ns params outer;
       },
       l.invariant.1
           ∙ (done
-          ∙ ap (λ (i : ℕ). rest_of (nodes_of nodes) (marked_at i false new.mark.value ∷ ns) params outer) place),
+          ∙ ap (λ (i : ℕ). rest_of (nodes_of nodes) (marked_at i false new.mark.value new.mark.last ∷ ns) params outer)
+          place),
       omega (arith, same, here),
     )
 
--- src/spot.rt:133:1
 pub next_from-returns-clause-none : goal.next_from-returns-clause-none
 next_from-returns-clause-none t c =
     let l = c.loop-mark in
@@ -110,9 +110,8 @@ next_from-returns-clause-none t c =
     let ms = marks_of l.deeper in
     λ e.
     l.invariant.1
-    ∙ rest_end nodes l.mark.place l.mark.begun l.mark.value ms params outer (omega arith)
+    ∙ rest_end nodes l.mark.place l.mark.begun l.mark.value l.mark.last ms params outer (omega arith)
 
--- src/spot.rt:187:17
 pub next_in-next_of-requires : goal.next_in-next_of-requires
 next_in-next_of-requires t c =
     let params = c.args.params.now in
@@ -124,23 +123,22 @@ next_in-next_of-requires t c =
     let t_is : tree_of c.args.node.now ≡ guarded tests body =
     ap tree_of c.in-Guard.is ∙ tree_guard c.in-Guard.guard c.in-Guard.body in
     let holds : tests_hold tests (outer ++ params) ≡ true =
-    ap (λ (ts : List CodeTest). tests_hold (map test_of ts) (outer ++ params)) (sym c.deref-in-Guard.ensures.value)
-    ∙ (sym c.all_hold.ensures ∙ c.if-all_hold.true) in
-    let body_is : nodes_of c.deref-then-all_hold.result.now ≡ body = ap nodes_of c.deref-then-all_hold.ensures.value in
-    let go = subst (λ (u : Tree). CanGo (more u none) (marked_at 0 m.begun m.value ∷ ms) params outer) t_is
+    sym c.lets_pass.ensures ∙ c.if-lets_pass.true in
+    let body_is : nodes_of c.deref-then-lets_pass.result.now ≡ body =
+    ap nodes_of c.deref-then-lets_pass.ensures.value in
+    let go = subst (λ (u : Tree). CanGo (more u none) (marked_at 0 m.begun m.value m.last ∷ ms) params outer) t_is
     c.requires in
-    let ns = marks_of c.begin_once.new.deeper in
-    let there = subst (λ (ks : List Mark). CanGo body ks params outer) (sym c.begin_once.ensures.deeper)
-    (go_guard tests body m.begun m.value ms params outer go holds) in
-    let can : CanGo (nodes_of c.deref-then-all_hold.result.now) ns params outer =
+    let ns = marks_of c.begin_guard.new.deeper in
+    let there = subst (λ (ks : List Mark). CanGo body ks params outer) (sym c.begin_guard.ensures.deeper)
+    (go_guard tests body m.begun m.value m.last ms params outer go holds) in
+    let can : CanGo (nodes_of c.deref-then-lets_pass.result.now) ns params outer =
     subst (λ (ts : Trees). CanGo ts ns params outer) (sym body_is) there in
     let w = ap weight t_is in
     let e = ap weight_all body_is in
-    let less : weight_all (nodes_of c.deref-then-all_hold.result.now) + 2 < weight (tree_of c.args.node.now) =
+    let less : weight_all (nodes_of c.deref-then-lets_pass.result.now) + 2 < weight (tree_of c.args.node.now) =
     omega (arith, w, e) in
     search rules
 
--- src/spot.rt:197:18
 pub next_in-instance_at-requires-clause-held : goal.next_in-instance_at-requires-clause-held
 next_in-instance_at-requires-clause-held t c =
     let leaf = c.in-Instance.leaf in
@@ -150,9 +148,8 @@ next_in-instance_at-requires-clause-held t c =
     leaf_held leaf.statement leaf.turns.items params outer
     (subst (λ (u : Tree). CanWalk (more u none) params outer) is c.requires.walk)
 
--- src/spot.rt:161:1
-pub next_in-returns-then-all_hold-clause-gone : goal.next_in-returns-then-all_hold-clause-gone
-next_in-returns-then-all_hold-clause-gone t c =
+pub next_in-returns-then-lets_pass-clause-gone : goal.next_in-returns-then-lets_pass-clause-gone
+next_in-returns-then-lets_pass-clause-gone t c =
     let params = c.args.params.now in
     let outer = values_in c.args.outer.now in
     let m = c.args.mark.now in
@@ -162,27 +159,27 @@ next_in-returns-then-all_hold-clause-gone t c =
     let t_is : tree_of c.args.node.now ≡ guarded tests body =
     ap tree_of c.in-Guard.is ∙ tree_guard c.in-Guard.guard c.in-Guard.body in
     let holds : tests_hold tests (outer ++ params) ≡ true =
-    ap (λ (ts : List CodeTest). tests_hold (map test_of ts) (outer ++ params)) (sym c.deref-in-Guard.ensures.value)
-    ∙ (sym c.all_hold.ensures ∙ c.if-all_hold.true) in
-    let body_is : nodes_of c.deref-then-all_hold.result.now ≡ body = ap nodes_of c.deref-then-all_hold.ensures.value in
-    let go = subst (λ (u : Tree). CanGo (more u none) (marked_at 0 m.begun m.value ∷ ms) params outer) t_is
+    sym c.lets_pass.ensures ∙ c.if-lets_pass.true in
+    let body_is : nodes_of c.deref-then-lets_pass.result.now ≡ body =
+    ap nodes_of c.deref-then-lets_pass.ensures.value in
+    let go = subst (λ (u : Tree). CanGo (more u none) (marked_at 0 m.begun m.value m.last ∷ ms) params outer) t_is
     c.requires in
     let room = go.room in
-    let b : c.begin_once.new.mark.begun ≡ true = ap (λ (n : Mark). begun_of n) c.begin_once.ensures.mark in
+    let begun = c.begin_guard.new.mark in
+    let b : begun.begun ≡ true = c.begin_guard.ensures.begun in
     λ e.
     let gone = subst (λ (ks : List Mark). HasGone body ks (marks_of c.next_of.new.marks) (found_in c.next_of.result)
-    params outer) c.begin_once.ensures.deeper
-    (subst (λ (ts : Trees). HasGone ts (marks_of c.begin_once.new.deeper) (marks_of c.next_of.new.marks)
+    params outer) c.begin_guard.ensures.deeper
+    (subst (λ (ts : Trees). HasGone ts (marks_of c.begin_guard.new.deeper) (marks_of c.next_of.new.marks)
     (found_in c.next_of.result) params outer) body_is c.next_of.ensures.gone) in
-    subst (λ (u : Tree). HasGone (more u none) (marked_at 0 m.begun m.value ∷ ms)
-    (marked_at 0 c.begin_once.new.mark.begun c.begin_once.new.mark.value ∷ marks_of c.next_of.new.marks)
-    (found_in c.next_of.result) params outer) (sym t_is)
-    (gone_guard tests body m.begun m.value ms c.begin_once.new.mark.begun c.begin_once.new.mark.value
+    subst (λ (u : Tree). HasGone (more u none) (marked_at 0 m.begun m.value m.last ∷ ms)
+    (marked_at 0 begun.begun begun.value begun.last ∷ marks_of c.next_of.new.marks) (found_in c.next_of.result) params
+    outer) (sym t_is)
+    (gone_guard tests body m.begun m.value m.last ms begun.begun begun.value begun.last
     (marks_of c.next_of.new.marks) (found_in c.next_of.result) params outer (omega (arith, room)) holds b gone)
 
--- src/spot.rt:161:1
-pub next_in-returns-then-all_hold-clause-none : goal.next_in-returns-then-all_hold-clause-none
-next_in-returns-then-all_hold-clause-none t c =
+pub next_in-returns-then-lets_pass-clause-none : goal.next_in-returns-then-lets_pass-clause-none
+next_in-returns-then-lets_pass-clause-none t c =
     let params = c.args.params.now in
     let outer = values_in c.args.outer.now in
     let m = c.args.mark.now in
@@ -192,20 +189,26 @@ next_in-returns-then-all_hold-clause-none t c =
     let t_is : tree_of c.args.node.now ≡ guarded tests body =
     ap tree_of c.in-Guard.is ∙ tree_guard c.in-Guard.guard c.in-Guard.body in
     let holds : tests_hold tests (outer ++ params) ≡ true =
-    ap (λ (ts : List CodeTest). tests_hold (map test_of ts) (outer ++ params)) (sym c.deref-in-Guard.ensures.value)
-    ∙ (sym c.all_hold.ensures ∙ c.if-all_hold.true) in
-    let body_is : nodes_of c.deref-then-all_hold.result.now ≡ body = ap nodes_of c.deref-then-all_hold.ensures.value in
-    let go = subst (λ (u : Tree). CanGo (more u none) (marked_at 0 m.begun m.value ∷ ms) params outer) t_is
+    sym c.lets_pass.ensures ∙ c.if-lets_pass.true in
+    let body_is : nodes_of c.deref-then-lets_pass.result.now ≡ body =
+    ap nodes_of c.deref-then-lets_pass.ensures.value in
+    let go = subst (λ (u : Tree). CanGo (more u none) (marked_at 0 m.begun m.value m.last ∷ ms) params outer) t_is
     c.requires in
     let room = go.room in
     λ e.
-    let empty = subst (λ (ts : Trees). rest_of ts (marks_of c.begin_once.new.deeper) params outer ≡ []) body_is
+    let empty = subst (λ (ts : Trees). rest_of ts (marks_of c.begin_guard.new.deeper) params outer ≡ []) body_is
     (c.next_of.ensures.none e) in
-    subst (λ (u : Tree). rest_of (more u none) (marked_at 0 m.begun m.value ∷ ms) params outer ≡ []) (sym t_is)
-    (rest_guard tests body m.begun m.value ms params outer (omega (arith, room)) holds
-    ∙ subst (λ (ks : List Mark). rest_of body ks params outer ≡ []) c.begin_once.ensures.deeper empty)
+    subst (λ (u : Tree). rest_of (more u none) (marked_at 0 m.begun m.value m.last ∷ ms) params outer ≡ []) (sym t_is)
+    (rest_guard tests body m.begun m.value m.last ms params outer (omega (arith, room)) holds
+    ∙ subst (λ (ks : List Mark). rest_of body ks params outer ≡ []) c.begin_guard.ensures.deeper empty)
 
--- src/spot.rt:230:5
+pub next_loop-begin_loop-requires-clause-last : goal.next_loop-begin_loop-requires-clause-last
+next_loop-begin_loop-requires-clause-last t c =
+    let head = c.args.head.now in
+    let m = c.args.mark.now in
+    begun_last head.parallel (bounds_in head.lower) (bounds_in head.upper) (nodes_of c.args.body.now) m.begun m.value
+    m.last (marks_of c.args.deeper.now) c.args.params.now (values_in c.args.outer.now) c.requires.stands
+
 pub next_loop-next_turn-requires : goal.next_loop-next_turn-requires
 next_loop-next_turn-requires t c =
     let head = c.args.head.now in
@@ -213,33 +216,23 @@ next_loop-next_turn-requires t c =
     let outer = values_in c.args.outer.now in
     let point = outer ++ params in
     let body = nodes_of c.args.body.now in
-    let fits_low : FitsSigned w128 c.lower_at-first.result = search rules in
-    let fits_high : FitsSigned w128 c.upper_at-last.result = search rules in
-    let first = to_z w128 (of_z w128 c.lower_at-first.result) in
-    let last = to_z w128 (of_z w128 c.upper_at-last.result) in
-    let low_is : first ≡ lower (bounds_in head.lower) point =
-    to_z-of_z w128 c.lower_at-first.result fits_low
-    ∙ (c.lower_at-first.ensures
-    ∙ ap (λ (bs : List Bound). lower (bounds_of head.lower.first bs) point) c.deref.ensures.value) in
-    let high_is : last ≡ upper (bounds_in head.upper) point =
-    to_z-of_z w128 c.upper_at-last.result fits_high
-    ∙ (c.upper_at-last.ensures
-    ∙ ap (λ (bs : List Bound). upper (bounds_of head.upper.first bs) point) c.deref-2.ensures.value) in
     let m = c.args.mark.now in
     let ms = marks_of c.args.deeper.now in
-    let start : ℤ = if m.begun then m.value else first in
-    let begun = c.begin_once.new in
-    let start_is : begun.mark.value ≡ start = ap (λ (n : Mark). value_of_mark n) c.begin_once.ensures.mark in
-    let go = go_loop head.parallel (bounds_in head.lower) (bounds_in head.upper) body m.begun m.value first last ms
-    params outer low_is high_is c.requires in
-    let there = subst (λ (ks : List Mark). CanTurn body ks start last params outer) (sym c.begin_once.ensures.deeper)
+    let start : ℤ = if m.begun then m.value else lower (bounds_in head.lower) point in
+    let last = upper (bounds_in head.upper) point in
+    let begun = c.begin_loop.new in
+    let start_is : begun.mark.value ≡ start = ap (λ (n : Mark). value_of_mark n) c.begin_loop.ensures.mark in
+    let last_is : begun.mark.last ≡ last = ap (λ (n : Mark). last_of_mark n) c.begin_loop.ensures.mark in
+    let go = go_loop head.parallel (bounds_in head.lower) (bounds_in head.upper) body m.begun m.value m.last ms params
+    outer c.requires in
+    let there = subst (λ (ks : List Mark). CanTurn body ks start last params outer) (sym c.begin_loop.ensures.deeper)
     go in
-    let can : CanTurn body (marks_of begun.deeper) begun.mark.value last params outer =
-    subst (λ (x : ℤ). CanTurn body (marks_of begun.deeper) x last params outer) (sym start_is) there in
+    let from = subst (λ (x : ℤ). CanTurn body (marks_of begun.deeper) x last params outer) (sym start_is) there in
+    let can : CanTurn body (marks_of begun.deeper) begun.mark.value begun.mark.last params outer =
+    subst (λ (z : ℤ). CanTurn body (marks_of begun.deeper) begun.mark.value z params outer) (sym last_is) from in
     let less : weight_all body + 4 < weight_all body + 5 = omega arith in
     search rules
 
--- src/spot.rt:203:1
 pub next_loop-returns-clause-gone : goal.next_loop-returns-clause-gone
 next_loop-returns-clause-gone t c =
     let head = c.args.head.now in
@@ -247,23 +240,13 @@ next_loop-returns-clause-gone t c =
     let outer = values_in c.args.outer.now in
     let point = outer ++ params in
     let body = nodes_of c.args.body.now in
-    let fits_low : FitsSigned w128 c.lower_at-first.result = search rules in
-    let fits_high : FitsSigned w128 c.upper_at-last.result = search rules in
-    let first = to_z w128 (of_z w128 c.lower_at-first.result) in
-    let last = to_z w128 (of_z w128 c.upper_at-last.result) in
-    let low_is : first ≡ lower (bounds_in head.lower) point =
-    to_z-of_z w128 c.lower_at-first.result fits_low
-    ∙ (c.lower_at-first.ensures
-    ∙ ap (λ (bs : List Bound). lower (bounds_of head.lower.first bs) point) c.deref.ensures.value) in
-    let high_is : last ≡ upper (bounds_in head.upper) point =
-    to_z-of_z w128 c.upper_at-last.result fits_high
-    ∙ (c.upper_at-last.ensures
-    ∙ ap (λ (bs : List Bound). upper (bounds_of head.upper.first bs) point) c.deref-2.ensures.value) in
     let m = c.args.mark.now in
     let ms = marks_of c.args.deeper.now in
-    let start : ℤ = if m.begun then m.value else first in
-    let begun = c.begin_once.new in
-    let start_is : begun.mark.value ≡ start = ap (λ (n : Mark). value_of_mark n) c.begin_once.ensures.mark in
+    let start : ℤ = if m.begun then m.value else lower (bounds_in head.lower) point in
+    let last = upper (bounds_in head.upper) point in
+    let begun = c.begin_loop.new in
+    let start_is : begun.mark.value ≡ start = ap (λ (n : Mark). value_of_mark n) c.begin_loop.ensures.mark in
+    let last_is : begun.mark.last ≡ last = ap (λ (n : Mark). last_of_mark n) c.begin_loop.ensures.mark in
     let room = c.requires.room in
     let new = c.next_turn.new in
     let ns = marks_of new.deeper in
@@ -271,19 +254,20 @@ next_loop-returns-clause-gone t c =
     let kept : length ns ≡ length (if m.begun then ms else restarted ms) =
     length-marks new.deeper
     ∙ (c.next_turn.ensures.room
-    ∙ (sym (length-marks begun.deeper) ∙ ap (λ (ks : List Mark). length ks) c.begin_once.ensures.deeper)) in
+    ∙ (sym (length-marks begun.deeper) ∙ ap (λ (ks : List Mark). length ks) c.begin_loop.ensures.deeper)) in
     let b : new.mark.begun ≡ true =
-    c.next_turn.ensures.begun ∙ ap (λ (n : Mark). begun_of n) c.begin_once.ensures.mark in
+    c.next_turn.ensures.begun ∙ ap (λ (n : Mark). begun_of n) c.begin_loop.ensures.mark in
     λ e.
+    let at_last = subst (λ (z : ℤ). HasTurned body begun.mark.value (marks_of begun.deeper) new.mark.value ns z is
+    params outer) last_is (c.next_turn.ensures.gone e) in
     let turned = subst (λ (ks : List Mark). HasTurned body start ks new.mark.value ns last is params outer)
-    c.begin_once.ensures.deeper
+    c.begin_loop.ensures.deeper
     (subst (λ (x : ℤ). HasTurned body x (marks_of begun.deeper) new.mark.value ns last is params outer) start_is
-    (c.next_turn.ensures.gone e)) in
-    gone_loop head.parallel (bounds_in head.lower) (bounds_in head.upper) body m.begun m.value first last ms
-    new.mark.begun new.mark.value ns is params outer low_is high_is (omega (arith, room)) kept b c.requires.stands
-    turned
+    at_last) in
+    gone_loop head.parallel (bounds_in head.lower) (bounds_in head.upper) body m.begun m.value m.last ms new.mark.begun
+    new.mark.value new.mark.last ns is params outer (omega (arith, room)) kept b (c.next_turn.ensures.last ∙ last_is)
+    c.requires.stands turned
 
--- src/spot.rt:203:1
 pub next_loop-returns-clause-none : goal.next_loop-returns-clause-none
 next_loop-returns-clause-none t c =
     let head = c.args.head.now in
@@ -291,59 +275,68 @@ next_loop-returns-clause-none t c =
     let outer = values_in c.args.outer.now in
     let point = outer ++ params in
     let body = nodes_of c.args.body.now in
-    let fits_low : FitsSigned w128 c.lower_at-first.result = search rules in
-    let fits_high : FitsSigned w128 c.upper_at-last.result = search rules in
-    let first = to_z w128 (of_z w128 c.lower_at-first.result) in
-    let last = to_z w128 (of_z w128 c.upper_at-last.result) in
-    let low_is : first ≡ lower (bounds_in head.lower) point =
-    to_z-of_z w128 c.lower_at-first.result fits_low
-    ∙ (c.lower_at-first.ensures
-    ∙ ap (λ (bs : List Bound). lower (bounds_of head.lower.first bs) point) c.deref.ensures.value) in
-    let high_is : last ≡ upper (bounds_in head.upper) point =
-    to_z-of_z w128 c.upper_at-last.result fits_high
-    ∙ (c.upper_at-last.ensures
-    ∙ ap (λ (bs : List Bound). upper (bounds_of head.upper.first bs) point) c.deref-2.ensures.value) in
     let m = c.args.mark.now in
     let ms = marks_of c.args.deeper.now in
-    let start : ℤ = if m.begun then m.value else first in
-    let begun = c.begin_once.new in
-    let start_is : begun.mark.value ≡ start = ap (λ (n : Mark). value_of_mark n) c.begin_once.ensures.mark in
+    let start : ℤ = if m.begun then m.value else lower (bounds_in head.lower) point in
+    let last = upper (bounds_in head.upper) point in
+    let begun = c.begin_loop.new in
+    let start_is : begun.mark.value ≡ start = ap (λ (n : Mark). value_of_mark n) c.begin_loop.ensures.mark in
+    let last_is : begun.mark.last ≡ last = ap (λ (n : Mark). last_of_mark n) c.begin_loop.ensures.mark in
     let room = c.requires.room in
     λ e.
-    rest_loop head.parallel (bounds_in head.lower) (bounds_in head.upper) body m.begun m.value first last ms params
-    outer low_is high_is (omega (arith, room))
-    ∙ subst (λ (ks : List Mark). rest_from body ks start last params outer ≡ []) c.begin_once.ensures.deeper
-    (subst (λ (x : ℤ). rest_from body (marks_of begun.deeper) x last params outer ≡ []) start_is
-    (c.next_turn.ensures.none e))
+    let at_last = subst (λ (z : ℤ). rest_from body (marks_of begun.deeper) begun.mark.value z params outer ≡ []) last_is
+    (c.next_turn.ensures.none e) in
+    rest_loop head.parallel (bounds_in head.lower) (bounds_in head.upper) body m.begun m.value m.last ms params outer
+    (omega (arith, room))
+    ∙ subst (λ (ks : List Mark). rest_from body ks start last params outer ≡ []) c.begin_loop.ensures.deeper
+    (subst (λ (x : ℤ). rest_from body (marks_of begun.deeper) x last params outer ≡ []) start_is at_last)
 
--- src/spot.rt:253:5
+pub next_turn-next_within-requires : goal.next_turn-next_within-requires
+next_turn-next_within-requires t c =
+    let value = c.loop-mark.mark.value in
+    let last = c.loop-mark.mark.last in
+    let fits : FitsSigned w128 value = search rules in
+    let fits_last : FitsSigned w128 last = search rules in
+    let v = to_z w128 (of_z w128 value) in
+    let v_is : v ≡ value = to_z-of_z w128 value fits in
+    let last_is = to_z-of_z w128 last fits_last in
+    let body = nodes_of c.args.body.now in
+    let params = c.args.params.now in
+    let outer = values_in c.args.outer.now in
+    let ms = marks_of c.loop-mark.deeper in
+    let here : value ≤ℤ last = grind (arith, ints, c.loop-mark-test.true, v_is, last_is) in
+    let go = go_turn body ms value last params outer c.loop-mark.invariant.0 here in
+    let can : CanGo body ms params (outer ++ v ∷ []) =
+    subst (λ (x : ℤ). CanGo body ms params (outer ++ x ∷ [])) (sym v_is) go in
+    let less : weight_all body + 3 < weight_all body + 4 = omega arith in
+    search rules
+
 pub next_turn-loop-mark-smaller : goal.next_turn-loop-mark-smaller
 next_turn-loop-mark-smaller t c =
     let value = c.loop-mark.mark.value in
+    let last = c.loop-mark.mark.last in
     let fits : FitsSigned w128 value = search rules in
+    let fits_last : FitsSigned w128 last = search rules in
     let v = to_z w128 (of_z w128 value) in
     let v_is : v ≡ value = to_z-of_z w128 value fits in
-    let last = to_z w128 (of_z w128 c.args.last) in
-    let last_is = to_z-of_z w128 c.args.last c.ranges.last in
-    let fits_last = c.ranges.last in
-    let less : value <ℤ c.args.last = grind (arith, ints, c.if-last-mark.false) in
-    let up : FitsSigned w128 (v +ℤ pos 1) = omega (arith, ints) in
+    let last_is = to_z-of_z w128 last fits_last in
+    let less : value <ℤ last = grind (arith, ints, c.if-mark.false, v_is, last_is) in
+    let up : FitsSigned w128 (v +ℤ pos 1) = omega (arith, ints, v_is, less, fits_last, fits) in
     let n = to_z w128 (of_z w128 (v +ℤ pos 1)) in
     let n_is : n ≡ v +ℤ pos 1 = to_z-of_z w128 (v +ℤ pos 1) up in
-    turns_fewer (last -ℤ value) (last -ℤ n) (omega (arith, ints)) (omega (arith, ints))
+    turns_fewer (last -ℤ value) (last -ℤ n) (omega (arith, ints, n_is, v_is)) (omega (arith, ints, n_is, v_is, less))
 
--- src/spot.rt:253:5
 pub next_turn-loop-mark-preserved : goal.next_turn-loop-mark-preserved
 next_turn-loop-mark-preserved t c =
     let value = c.loop-mark.mark.value in
+    let last = c.loop-mark.mark.last in
     let fits : FitsSigned w128 value = search rules in
+    let fits_last : FitsSigned w128 last = search rules in
     let v = to_z w128 (of_z w128 value) in
     let v_is : v ≡ value = to_z-of_z w128 value fits in
-    let last = to_z w128 (of_z w128 c.args.last) in
-    let last_is = to_z-of_z w128 c.args.last c.ranges.last in
-    let fits_last = c.ranges.last in
-    let less : value <ℤ c.args.last = grind (arith, ints, c.if-last-mark.false) in
-    let up : FitsSigned w128 (v +ℤ pos 1) = omega (arith, ints) in
+    let last_is = to_z-of_z w128 last fits_last in
+    let less : value <ℤ last = grind (arith, ints, c.if-mark.false, v_is, last_is) in
+    let up : FitsSigned w128 (v +ℤ pos 1) = omega (arith, ints, v_is, less, fits_last, fits) in
     let n = to_z w128 (of_z w128 (v +ℤ pos 1)) in
     let n_is : n ≡ v +ℤ pos 1 = to_z-of_z w128 (v +ℤ pos 1) up in
     let l = c.loop-mark in
@@ -358,22 +351,22 @@ next_turn-loop-mark-preserved t c =
     let room : deep_all body ≤ length ws = omega (arith, kept, had) in
     let r = length-restarted ws in
     let r_is : length rs ≡ length (restarted ws) = ap (λ (ms : List Mark). length ms) c.restart.ensures in
-    let here : value ≤ℤ last = omega (arith, ints) in
+    let here : value ≤ℤ last = omega (arith, ints, less) in
     let empty = subst (λ (x : ℤ). rest_of body (marks_of l.deeper) params (outer ++ x ∷ []) ≡ []) v_is
     (c.in-None.ensures.none refl) in
     let step = turns_next body (marks_of l.deeper) ws value last params outer here room empty in
-    let next : value +ℤ pos 1 ≡ n = omega (arith, ints) in
+    let next : value +ℤ pos 1 ≡ n = omega (arith, ints, n_is, v_is) in
     let a = length-marks c.restart.new.marks in
     let b = length-marks c.next_within.new.deeper in
     let d = length-marks l.deeper in
     let same = l.invariant.3 in (
       record {
-        walk = λ y from to. l.invariant.0.walk y (omega (arith, ints)) to;
+        walk = λ y from to. l.invariant.0.walk y (omega (arith, ints, next, from)) to;
         room = omega (arith, room, r, r_is);
         stands = λ h. subst (λ (ms : List Mark). IsAt body ms params (outer ++ n ∷ [])) (sym c.restart.ensures)
             (at_restarted body ws params (outer ++ n ∷ []) room);
       },
-      omega (arith, ints),
+      omega (arith, ints, low, next),
       l.invariant.2
           ∙ (step
           ∙ (ap (λ (x : ℤ). rest_from body (restarted ws) x last params outer) next
@@ -381,4 +374,5 @@ next_turn-loop-mark-preserved t c =
       omega (arith, a, b, d, r, r_is, kept, same),
       l.invariant.4,
       l.invariant.5,
+      l.invariant.6,
     )

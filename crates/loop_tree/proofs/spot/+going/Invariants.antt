@@ -39,11 +39,12 @@ decreases-next_from-loop-mark l = length l.nodes - l.mark.place
 
 abbrev pub invariant-next_turn-loop-mark : goal.invariant-next_turn-loop-mark
 invariant-next_turn-loop-mark l =
-    CanTurn (nodes_of l.body) (marks_of l.deeper) l.mark.value l.last l.params (values_in l.outer)
+    CanTurn (nodes_of l.body) (marks_of l.deeper) l.mark.value l.mark.last l.params (values_in l.outer)
     × (l.fn.mark.value ≤ℤ l.mark.value)
-    × (rest_from (nodes_of l.body) (marks_of l.fn.deeper) l.fn.mark.value l.last l.params (values_in l.outer)
-    ≡ rest_from (nodes_of l.body) (marks_of l.deeper) l.mark.value l.last l.params (values_in l.outer))
+    × (rest_from (nodes_of l.body) (marks_of l.fn.deeper) l.fn.mark.value l.fn.mark.last l.params (values_in l.outer)
+    ≡ rest_from (nodes_of l.body) (marks_of l.deeper) l.mark.value l.mark.last l.params (values_in l.outer))
     × (length l.deeper ≡ length l.fn.deeper) × (l.mark.place ≡ l.fn.mark.place) × (l.mark.begun ≡ l.fn.mark.begun)
+    × (l.mark.last ≡ l.fn.mark.last)
 
 abbrev pub decreases-next_turn-loop-mark : goal.decreases-next_turn-loop-mark
-decreases-next_turn-loop-mark l = most_turns (l.last -ℤ l.mark.value)
+decreases-next_turn-loop-mark l = most_turns (l.mark.last -ℤ l.mark.value)
