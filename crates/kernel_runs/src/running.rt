@@ -8,6 +8,7 @@ ghost use Rattle.loop_tree.specs.TilingView.{tiling_of};
 ghost use Rattle.loop_tree.specs.View.{trees_in};
 ghost use Rattle.loop_tree.specs.Walk.{visits};
 ghost use Rattle.plan_tree.specs.Trees.{AreTreesOf};
+ghost use Rattle.stmt_table.specs.Tables.{IsTableOf};
 ghost use Rattle.tile_core.specs.Plans.{IsPlan, extents_in, program_in};
 ghost use Rattle.tile_events.specs.Flat.{flat};
 ghost use Rattle.tile_list.specs.Counting.{HasTiles, HasWaves};
@@ -22,6 +23,7 @@ use plan_tree::laws::{trees_of_plans_can_be_walked, waves_have_one_length};
 use scop_syntax::arrays::Arrays;
 use scop_syntax::tree::Kernel;
 use std::alloc::{AllocError, Global};
+use stmt_table::table::Table;
 use tile_core::plan::Plan;
 use tile_list::laws::{orders_rise_by_tile, tiles_are_counted};
 use tile_list::{TileList, tiles};
@@ -57,6 +59,7 @@ fn tiles_of(
 fn plan_of<'a>(
     kernel: &'a Kernel,
     case: &'a Case,
+    table: &'a Table<'a>,
     tree: &'a Tree,
     tiling: &'a Tiling,
     list: &'a TileList,
@@ -65,6 +68,7 @@ fn plan_of<'a>(
     requires laid { case.now.extents ≡ layout (program_of kernel.now) case.now.params.items }
     requires inside { IsInside (program_of kernel.now) case.now.params.items }
     requires trees { AreTreesOf (program_of kernel.now) (tiling_of tiling.now) (trees_in tree.now) }
+    requires table { IsTableOf (program_of kernel.now) case.now.params.items table.now }
     requires tiles { IsTileListOf (trees_in tree.now) case.now.params.items (tiling_of tiling.now) list.now }
     ensures plan { IsPlan result }
     ensures program { program_in result ≡ program_of kernel.now }
@@ -75,6 +79,7 @@ fn plan_of<'a>(
         kernel,
         params: &case.params,
         extents: &case.extents,
+        table,
         tree,
         tiling,
         list,
@@ -141,7 +146,8 @@ fn run_shared<W: Workers>(
 {
     tiles_are_counted();
     let list = tiles_of(alloc, kernel, case, tree, tiling)?;
-    let plan = plan_of(kernel, case, tree, tiling, &list);
+    let table = Table::of(alloc, kernel, &case.params, &case.extents)?;
+    let plan = plan_of(kernel, case, &table, tree, tiling, &list);
     let row = run_row(by, alloc, plan, &case.arrays, workers as usize)?;
     Ok((row, counts_of(&list)))
 }

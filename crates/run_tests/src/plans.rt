@@ -9,6 +9,7 @@ ghost use Rattle.loop_tree.specs.TilingView.{tiling_of};
 ghost use Rattle.loop_tree.specs.View.{trees_in};
 ghost use Rattle.loop_tree.specs.Walk.{visits};
 ghost use Rattle.plan_tree.specs.Trees.{AreTreesOf};
+ghost use Rattle.stmt_table.specs.Tables.{IsTableOf};
 ghost use Rattle.tile_core.specs.Plans.{IsPlan, extents_in};
 ghost use Rattle.tile_list.specs.Tiles.{CanTile};
 ghost use Rattle.tile_list.specs.TilesView.{IsTileListOf};
@@ -26,6 +27,7 @@ use scop_syntax::failure_laws::failures_are_the_first;
 use scop_syntax::limit_laws::accesses_have_the_ranks_of_arrays;
 use scop_syntax::tree::Kernel;
 use std::alloc::{AllocError, Global};
+use stmt_table::table::Table;
 use tile_core::plan::Plan;
 use tile_list::laws::orders_rise_by_tile;
 use tile_list::{TileList, tiles};
@@ -146,9 +148,18 @@ pub fn tiled(alloc: Global, text: &str, lines: &str, size: u64) -> Result<Made, 
     })
 }
 
-/// The plan of a run.
-pub fn plan_of(made: &Made) -> Plan
+/// The table of the kernel's statements.
+pub fn table_of(alloc: Global, made: &Made) -> Result<Table, AllocError>
     requires { IsMade made.now }
+    ensures { IfOk result (IsTableOf (program_of made.now.kernel) made.now.case.params.items) }
+{
+    Table::of(alloc, &made.kernel, &made.case.params, &made.case.extents)
+}
+
+/// The plan of a run.
+pub fn plan_of<'a>(made: &'a Made, table: &'a Table<'a>) -> Plan<'a>
+    requires made { IsMade made.now }
+    requires table { IsTableOf (program_of made.now.kernel) made.now.case.params.items table.now }
     ensures plan { IsPlan result }
     ensures laid { extents_in result ≡ made.now.case.extents }
 {
@@ -157,6 +168,7 @@ pub fn plan_of(made: &Made) -> Plan
         kernel: &made.kernel,
         params: &made.case.params,
         extents: &made.case.extents,
+        table,
         tree: &made.tree,
         tiling: &made.tiling,
         list: &made.list,

@@ -4,7 +4,7 @@ ghost use Rattle.std.specs.Prelude.{◌≡◌, ◌≤◌, length, true};
 ghost use Rattle.scop_syntax.specs.Execution.{total_cells};
 ghost use Rattle.run_tests.specs.Made.{IsMade};
 
-use crate::plans::{Made, kept, plan_of, tiled};
+use crate::plans::{Made, kept, plan_of, table_of, tiled};
 use io_ports::OpenGate;
 use scop_syntax::arrays::Extents;
 use std::alloc::{AllocError, Global};
@@ -64,7 +64,8 @@ fn have_ended<R: Threads + Wait + Sync>(
     requires some { 1 ≤ workers }
     requires few { workers ≤ 64 }
 {
-    let closed = run_plan(rt, alloc, plan_of(made), cells, workers, &OpenGate)?;
+    let table = table_of(alloc, made)?;
+    let closed = run_plan(rt, alloc, plan_of(made, &table), cells, workers, &OpenGate)?;
     Ok(closed.ended() == workers)
 }
 

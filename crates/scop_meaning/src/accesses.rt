@@ -54,6 +54,19 @@ fn read_at(expression: &Expr, number: usize) -> &Access
     }
 }
 
+/// How many reads `statement` has.
+pub fn read_count(statement: &Stmt) -> usize
+    requires { length (reads_by (statement_of statement.now)) ≤ 16 }
+    ensures { result ≡ length (reads_by (statement_of statement.now)) }
+{
+    match &statement.right {
+        Right::Assigned(value) => count_reads(value),
+        Right::Combined(_, value) => count_reads(value) + 1,
+        Right::ShiftedLeft(_) => 1,
+        Right::ShiftedRight(_) => 1,
+    }
+}
+
 /// The access of `statement` with this number: 0 is the place that is written.
 pub fn access_at(statement: &Stmt, number: usize) -> &Access
     requires there { number < length (accesses (statement_of statement.now)) }
@@ -90,7 +103,7 @@ fn count_cells(extents: &[u64]) -> usize
 }
 
 /// How many cells the arrays before this one have.
-fn cells_before(extents: &Extents, array: usize) -> usize
+pub fn cells_before(extents: &Extents, array: usize) -> usize
     requires layout { AreLayout extents.now }
     requires array { array < length extents.now }
     ensures number { result ≡ total_cells (take array extents.now) }

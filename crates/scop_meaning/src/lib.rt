@@ -6,16 +6,16 @@
 //! does.
 #![tactic(auto)]
 
-mod accesses;
+pub mod accesses;
 mod cells;
-mod expressions;
+pub mod expressions;
 mod guards;
 pub mod index;
 pub mod instances;
 pub mod interpreter;
 pub mod last_writes;
 mod layout;
-mod loops;
+pub mod loops;
 mod operators;
 pub mod performing;
 mod repeating;

@@ -4,8 +4,8 @@ pub mod Scans
 pub mod Plans
 pub mod Tiles
 pub mod Touched
+pub mod Rows
 pub mod Workers
 pub mod Boards
 pub mod States
-pub mod Bodies
 pub mod Passes

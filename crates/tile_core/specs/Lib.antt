@@ -5,4 +5,3 @@ pub mod Boards
 pub mod Cores
 pub mod Views
 pub mod Passes
-pub mod steps

@@ -12,6 +12,7 @@ use Rattle.loop_tree.specs.Tiling.{IsGoodPlan}
 use Rattle.loop_tree.specs.TilingView.{tiling_of}
 use Rattle.loop_tree.specs.View.{trees_in}
 use Rattle.loop_tree.specs.Walk.{visits}
+use Rattle.stmt_table.specs.Tables.{IsTableOf}
 use Rattle.tile_list.specs.TilesView.{IsTileListOf, waves_of}
 use Rattle.tile_list.specs.declared.list.Tile.{Tile}
 use Rattle.tile_events.specs.Deal.{Deal, dealt}
@@ -71,12 +72,13 @@ plan_of plan cells =
 abbrev pub shape_of : Plan → events.Plan
 shape_of plan = plan_of plan []
 
--- a kernel within the limits, whose subscripts are inside; a tree that visits each walked instance once, in the order
--- of a good plan; and the tiles of its visits
+-- a kernel within the limits, whose subscripts are inside; the table of its statements; a tree that visits each walked
+-- instance once, in the order of a good plan; and the tiles of its visits
 pub record IsPlan (plan : Plan) : Type 0 where
   pub limits : WithinLimits (program_in plan) plan.params.now
   pub inside : IsInside (program_in plan) plan.params.now
   pub laid : plan.extents.now ≡ extents_in plan
+  pub table : IsTableOf (program_in plan) plan.params.now plan.table.now
   pub walk : CanWalk (trees_in plan.tree.now) plan.params.now []
   pub order : AreInOrder (program_in plan) plan.params.now (tiling_of plan.tiling.now) (scan_in plan)
   pub good : IsGoodPlan (program_in plan) plan.params.now (tiling_of plan.tiling.now)

@@ -8,7 +8,6 @@ pub mod board;
 pub mod cores;
 pub mod plan;
 pub mod plan_laws;
-mod reads;
 pub mod view;
 pub mod words;
 pub mod worker;

@@ -6,23 +6,25 @@ ghost use Rattle.scop_syntax.specs.View.{instance_of};
 ghost use Rattle.tile_core.specs.Plans.{IsPlan, place_of, places_in, shape_of};
 
 use crate::plan_laws::plans_are_good;
-use crate::reads::{count_reads, statement_among};
 use loop_tree::{Tiling, Tree};
-use scop_meaning::instances::{cell, value};
 use scop_syntax::arrays::Extents;
 use scop_syntax::instance::Instance;
+use scop_syntax::limit_laws::cells_lie_within_22_bits;
 use scop_syntax::tree::Kernel;
 use scop_syntax::walk_laws::{
     instances_are_those_of_statements, statements_are_numbered, walks_are_in_order,
 };
+use stmt_table::table::Table;
 use tile_list::{Tile, TileList};
 
-/// A kernel with its parameters and the extents of its arrays, the tree of a plan of it, and the tiles of its visits.
+/// A kernel with its parameters and the extents of its arrays, the table of its statements, the tree of a plan of it, and
+/// the tiles of its visits.
 #[derive(Clone, Copy)]
 pub struct Plan<'a> {
     pub kernel: &'a Kernel,
     pub params: &'a [i64],
     pub extents: &'a Extents,
+    pub table: &'a Table<'a>,
     pub tree: &'a Tree,
     pub tiling: &'a Tiling,
     pub list: &'a TileList,
@@ -88,7 +90,7 @@ impl<'a> Plan<'a> {
     {
         instances_are_those_of_statements();
         statements_are_numbered();
-        count_reads(statement_among(&self.kernel.items, instance.statement))
+        self.table.reads(instance.statement)
     }
 
     /// The cell of read `read` of the instance, by its number among those of all arrays.
@@ -103,7 +105,8 @@ impl<'a> Plan<'a> {
         walks_are_in_order();
         instances_are_those_of_statements();
         statements_are_numbered();
-        cell(self.kernel, self.params, self.extents, instance, read + 1)
+        cells_lie_within_22_bits();
+        self.table.cell(instance, read + 1)
     }
 
     /// The cell that the instance writes, by its number among those of all arrays.
@@ -114,7 +117,10 @@ impl<'a> Plan<'a> {
         ensures inside { result < (shape_of self.now).cells }
     {
         plans_are_good();
-        cell(self.kernel, self.params, self.extents, instance, 0)
+        instances_are_those_of_statements();
+        statements_are_numbered();
+        cells_lie_within_22_bits();
+        self.table.cell(instance, 0)
     }
 
     /// What the instance stores, where its reads have these values.
@@ -124,7 +130,8 @@ impl<'a> Plan<'a> {
         requires reads { length reads.now ≡ length ((shape_of self.now).read (place_of self.now instance.now)) }
         ensures { result ≡ (shape_of self.now).value (place_of self.now instance.now) reads.now }
     {
-        walks_are_in_order();
-        value(self.kernel, self.params, instance, reads)
+        instances_are_those_of_statements();
+        statements_are_numbered();
+        self.table.value(self.params, instance, reads)
     }
 }

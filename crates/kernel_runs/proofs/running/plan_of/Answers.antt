@@ -8,6 +8,7 @@ use Rattle.loop_tree.specs.Tiling.{IsGoodPlan}
 use Rattle.loop_tree.specs.TilingView.{tiling_of}
 use Rattle.loop_tree.specs.View.{trees_in}
 use Rattle.loop_tree.specs.Walk.{visits}
+use Rattle.stmt_table.specs.Tables.{IsTableOf}
 use Rattle.tile_list.specs.TilesView.{IsTileListOf}
 use Rattle.kernel_runs.proofs.running.plan_of.Goals as goal
 
@@ -25,6 +26,7 @@ returns-clause-plan c =
       limits = subst (λ (ps : List ℤ). WithinLimits program ps) same c.requires.limits;
       inside = subst (λ (ps : List ℤ). IsInside program ps) same c.requires.inside;
       laid = subst (λ (ps : List ℤ). c.args.case.now.extents ≡ layout program ps) same c.requires.laid;
+      table = subst (λ (ps : List ℤ). IsTableOf program ps c.args.table.now) same c.requires.table;
       walk = subst (λ (ps : List ℤ). CanWalk ts ps []) same walk;
       order = subst (λ (ps : List ℤ). AreInOrder program ps tiling (visits ts ps)) same carried.exact;
       good = subst (λ (ps : List ℤ). IsGoodPlan program ps tiling) same carried.good;

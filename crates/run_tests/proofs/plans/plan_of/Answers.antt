@@ -8,6 +8,7 @@ use Rattle.loop_tree.specs.Tiling.{IsGoodPlan}
 use Rattle.loop_tree.specs.TilingView.{tiling_of}
 use Rattle.loop_tree.specs.View.{trees_in}
 use Rattle.loop_tree.specs.Walk.{visits}
+use Rattle.stmt_table.specs.Tables.{IsTableOf}
 use Rattle.tile_list.specs.TilesView.{IsTileListOf}
 use Rattle.run_tests.proofs.plans.plan_of.Goals as goal
 
@@ -18,15 +19,16 @@ returns-clause-plan c =
     let tiling = tiling_of made.tiling in
     let ts = trees_in made.tree in
     let same = sym c.deref.ensures.value in
-    let has = has_parameters c.requires.case.limits in
-    let carried = c.requires.trees.carry_out made.case.params.items has in
-    let walk = c.trees_of_plans_can_be_walked.ensures program made.case.params.items tiling ts c.requires.trees has in
+    let has = has_parameters c.requires.made.case.limits in
+    let carried = c.requires.made.trees.carry_out made.case.params.items has in
+    let walk = c.trees_of_plans_can_be_walked.ensures program made.case.params.items tiling ts c.requires.made.trees has in
     record {
-      limits = subst (λ (ps : List ℤ). WithinLimits program ps) same c.requires.case.limits;
-      inside = subst (λ (ps : List ℤ). IsInside program ps) same c.requires.case.inside;
-      laid = subst (λ (ps : List ℤ). made.case.extents ≡ layout program ps) same c.requires.case.laid;
+      limits = subst (λ (ps : List ℤ). WithinLimits program ps) same c.requires.made.case.limits;
+      inside = subst (λ (ps : List ℤ). IsInside program ps) same c.requires.made.case.inside;
+      laid = subst (λ (ps : List ℤ). made.case.extents ≡ layout program ps) same c.requires.made.case.laid;
+      table = subst (λ (ps : List ℤ). IsTableOf program ps c.args.table.now) same c.requires.table;
       walk = subst (λ (ps : List ℤ). CanWalk ts ps []) same walk;
       order = subst (λ (ps : List ℤ). AreInOrder program ps tiling (visits ts ps)) same carried.exact;
       good = subst (λ (ps : List ℤ). IsGoodPlan program ps tiling) same carried.good;
-      tiles = subst (λ (ps : List ℤ). IsTileListOf ts ps tiling made.list) same c.requires.tiles;
+      tiles = subst (λ (ps : List ℤ). IsTileListOf ts ps tiling made.list) same c.requires.made.tiles;
     }

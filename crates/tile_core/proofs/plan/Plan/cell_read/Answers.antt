@@ -3,7 +3,8 @@ use Rattle.std.specs.Prelude.{slice_get}
 use Rattle.scop_syntax.specs.Cells.{accesses}
 use Rattle.scop_syntax.specs.Execution.{total_cells}
 use Rattle.tile_core.specs.Plans.{extents_in, place_of, program_in}
-use Rattle.tile_core.proofs.Touched.{few_reads, in_at, many_reads, place_within, read_is}
+use Rattle.tile_core.proofs.Rows.{forms_counted, row_within, tells_cell}
+use Rattle.tile_core.proofs.Touched.{few_reads, in_at, place_within, read_is}
 use Rattle.tile_core.proofs.plan.Plan.cell_read.Goals as goal
 
 pub overflow_add-read : goal.overflow_add-read
@@ -16,13 +17,25 @@ overflow_add-read c =
     let room : c.args.read + 1 < 18446744073709551616 = omega (arith, few, less) in
     search rules
 
+pub cell-requires-clause-statement : goal.cell-requires-clause-statement
+cell-requires-clause-statement c =
+    row_within (record {
+      found = c.instances_are_those_of_statements.ensures.found;
+      turns = c.instances_are_those_of_statements.ensures.turns;
+      number = c.statements_are_numbered.ensures.number;
+      placed = c.statements_are_numbered.ensures.placed;
+    }) c.args.self.now c.args.instance.now c.requires.plan c.requires.walked
+
 pub cell-requires-clause-access : goal.cell-requires-clause-access
-cell-requires-clause-access c = λ v is.
-    let plan = c.args.self.now in
-    let many = many_reads plan c.args.instance.now (extents_in plan)
-    (c.walks_are_in_order.ensures.once (program_in plan) plan.params.now) c.requires.walked v is in
+cell-requires-clause-access c =
+    let count = forms_counted (record {
+      found = c.instances_are_those_of_statements.ensures.found;
+      turns = c.instances_are_those_of_statements.ensures.turns;
+      number = c.statements_are_numbered.ensures.number;
+      placed = c.statements_are_numbered.ensures.placed;
+    }) c.args.self.now c.args.instance.now c.requires.plan c.requires.walked in
     let less = c.requires.read in
-    omega (arith, many, less)
+    omega (arith, count, less)
 
 pub returns-clause-cell : goal.returns-clause-cell
 returns-clause-cell c =
@@ -30,7 +43,13 @@ returns-clause-cell c =
     read_is plan c.args.instance.now c.args.read c.cell.result
     (c.walks_are_in_order.ensures.once (program_in plan) plan.params.now)
     c.requires.plan c.requires.walked c.requires.read
-    (λ v touched is at. c.cell.ensures v touched is
+    (λ v touched is at. tells_cell (record {
+      found = c.instances_are_those_of_statements.ensures.found;
+      turns = c.instances_are_those_of_statements.ensures.turns;
+      number = c.statements_are_numbered.ensures.number;
+      placed = c.statements_are_numbered.ensures.placed;
+    }) plan c.args.instance.now c.requires.plan
+    c.cells_lie_within_22_bits.ensures.numbers (c.args.read + 1) c.cell.result c.cell.ensures v touched is
     (ap (slice_get (accesses v.body)) (let q : c.args.read + 1 ≡ suc c.args.read = omega arith in q) ∙ at))
 
 pub returns-clause-inside : goal.returns-clause-inside
@@ -39,7 +58,13 @@ returns-clause-inside c =
     let is = read_is plan c.args.instance.now c.args.read c.cell.result
     (c.walks_are_in_order.ensures.once (program_in plan) plan.params.now)
     c.requires.plan c.requires.walked c.requires.read
-    (λ v touched is at. c.cell.ensures v touched is
+    (λ v touched is at. tells_cell (record {
+      found = c.instances_are_those_of_statements.ensures.found;
+      turns = c.instances_are_those_of_statements.ensures.turns;
+      number = c.statements_are_numbered.ensures.number;
+      placed = c.statements_are_numbered.ensures.placed;
+    }) plan c.args.instance.now c.requires.plan
+    c.cells_lie_within_22_bits.ensures.numbers (c.args.read + 1) c.cell.result c.cell.ensures v touched is
     (ap (slice_get (accesses v.body)) (let q : c.args.read + 1 ≡ suc c.args.read = omega arith in q) ∙ at)) in
     subst (λ n. n < total_cells (extents_in plan)) (sym is)
     ((c.plans_are_good.ensures.dealt plan [] c.requires.plan).read (place_of plan c.args.instance.now) _

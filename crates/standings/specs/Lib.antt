@@ -1,0 +1,3 @@
+pub mod Standings
+pub mod View
+pub mod steps

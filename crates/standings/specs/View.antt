@@ -1,0 +1,9 @@
+-- The plain data that the code's statements stand for.
+use Rattle.std.specs.Prelude.{map}
+use Rattle.scop_syntax.specs.View.{statement_of}
+use Rattle.standings.specs.Standings.{Standing, standing}
+use Rattle.standings.specs.declared.standings.Standing.{Standing as Code}
+
+-- what a value of the code stands for
+abbrev pub standing_of : Code → Standing
+standing_of s = standing (map (λ h. h.now) s.heads.items) (statement_of s.body.now)

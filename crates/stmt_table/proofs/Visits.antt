@@ -1,0 +1,120 @@
+-- The row of a visit's statement, and what its forms tell at the visit.
+use Rattle.std.proofs.Common.{◌≡◌, ◌∙◌, ap, sym, refl, ℕ, zero, suc, ◌<◌, ◌≤◌, ◌^◌, ◌%◌, List, [], ◌∷◌, length}
+use Rattle.std.proofs.Common.{get_or, Some, arith}
+use Rattle.std.specs.Prelude.{ℤ, slice_get}
+use Rattle.std.specs.Option.{option_map}
+use Rattle.std.proofs.lemmas.Option.{slice_get-map, slice_get-get_or, slice_get_within, get_or_from_slice_get}
+use Rattle.whole_numbers.specs.Affine.{Affine, value_of}
+use Rattle.scop_syntax.specs.Cells.{accesses, cell_of}
+use Rattle.scop_syntax.specs.Execution.{IsCell, cell_number, layout}
+use Rattle.scop_syntax.specs.Kernel.{IsKernel, IsPlaced, ranks_of}
+use Rattle.scop_syntax.specs.Limits.{WithinLimits}
+use Rattle.scop_syntax.specs.Members.{In}
+use Rattle.scop_syntax.specs.Statements.{Placed, Runs, Scope, loops_in, statements_of, visit_of}
+use Rattle.scop_syntax.specs.Tree.{Access, Program, Statement}
+use Rattle.scop_syntax.specs.Values.{wrapped}
+use Rattle.scop_syntax.specs.View.{instance_of}
+use Rattle.scop_syntax.specs.Walk.{Instance, Visit, walk_of}
+use Rattle.scop_syntax.specs.declared.instance.Instance.{Instance as CodeInstance}
+use Rattle.scop_syntax.proofs.Members.{place_of}
+use Rattle.scop_meaning.specs.Instances.{IsVisitOf}
+use Rattle.standings.specs.Standings.{Standing, heads_in, standing, standings_of}
+use Rattle.stmt_table.specs.Numbers.{number_at}
+use Rattle.stmt_table.specs.Points.{point_in}
+use Rattle.stmt_table.specs.Tables.{AreForms, IsTableOf, forms_in, standings_in}
+use Rattle.stmt_table.specs.declared.table.Table.{Table}
+use Rattle.stmt_table.proofs.Offsets.{number_exact}
+use Rattle.stmt_table.proofs.Entering.{as_many_heads, point_in_scopes}
+
+-- the laws of walks and statements
+pub record WalkLaws : Type 0 where
+  pub found : (program : Program) (params : List ℤ) (v : Visit) → In v (walk_of program params)
+      → (p : Placed) × (xs : List ℤ) × In p (statements_of program) × Runs p.scopes params xs × (v ≡ visit_of p params xs)
+  pub turns : (scopes : List Scope) (params xs : List ℤ) → Runs scopes params xs → length xs ≡ loops_in scopes
+  pub number : (program : Program) (k : ℕ) (p : Placed) → slice_get (statements_of program) k ≡ Some p → p.number ≡ k
+  pub placed : (program : Program) (p : Placed) → IsKernel program → In p (statements_of program)
+      → IsPlaced (ranks_of program) (length program.parameters) p
+
+-- the row of an instance's statement, and how its visit lies in it
+pub record HasRow (program : Program) (params : List ℤ) (table : Table) (i : CodeInstance) (v : Visit) : Type 0 where
+  pub own : Standing
+  pub cells : List Affine
+  pub is : slice_get (standings_in table) i.statement ≡ Some own
+  pub told : slice_get (forms_in table) i.statement ≡ Some cells
+  pub forms : AreForms (layout program params) params own cells
+  pub body : own.body ≡ v.body
+  pub turns : (instance_of i).turns ≡ v.turns
+  pub many : length v.turns ≡ length own.heads
+  pub few : length own.heads ≤ 5
+  pub point : point_in own.heads params v.turns ≡ v.point
+
+pub row_of : WalkLaws → (program : Program) (params : List ℤ) (table : Table) (i : CodeInstance) (v : Visit)
+    → WithinLimits program params → IsTableOf program params table → IsVisitOf program params (instance_of i) v
+    → HasRow program params table i v
+row_of laws program params table i v limits is visit =
+    let stood = laws.found program params v visit.walked in
+    let p = stood.0 in
+    let xs = stood.1 in
+    let place = place_of (statements_of program) p stood.2 in
+    let k = place.0 in
+    let number : i.statement ≡ k =
+    sym (ap (λ (x : Instance). x.number) visit.same)
+    ∙ (ap (λ (w : Visit). w.number) stood.4 ∙ laws.number program k p place.1) in
+    let around = standing (heads_in p.scopes) p.body in
+    let here : slice_get (standings_of program) k ≡ Some around =
+    slice_get-map (λ (q : Placed). standing (heads_in q.scopes) q.body) (statements_of program) k
+    ∙ ap (option_map (λ (q : Placed). standing (heads_in q.scopes) q.body)) place.1 in
+    let within = slice_get_within (standings_of program) k around here in
+    let count = is.count in
+    let row = slice_get-get_or (forms_in table) k [] (omega (arith, within, count)) in
+    let turned = ap (λ (w : Visit). w.turns) stood.4 in
+    let heads = as_many_heads p.scopes in
+    let long = laws.turns p.scopes params xs stood.3 in
+    let same = ap (λ (l : List ℤ). length l) turned in
+    let few = (laws.placed program p limits.kernel stood.2).few_loops in
+    record {
+      own = around;
+      cells = get_or (forms_in table) k [];
+      is = ap (slice_get (standings_in table)) number ∙ (ap (λ (ss : List Standing). slice_get ss k) is.statements ∙ here);
+      told = ap (slice_get (forms_in table)) number ∙ row;
+      forms = is.forms k around (get_or (forms_in table) k []) here row;
+      body = ap (λ (w : Visit). w.body) (sym stood.4);
+      turns = sym (ap (λ (x : Instance). x.turns) visit.same);
+      many = omega (arith, heads, long, same);
+      few = omega (arith, heads, few);
+      point = ap (point_in (heads_in p.scopes) params) turned
+          ∙ (sym (point_in_scopes p.scopes params xs) ∙ ap (λ (w : Visit). w.point) (sym stood.4));
+    }
+
+-- what the forms tell of an access is the number of the visit's cell
+pub cell_told : (program : Program) (params : List ℤ) (table : Table) (i : CodeInstance) (v : Visit) (a : ℕ)
+    (touched : Access) (result : ℕ) → IsCell (layout program params) (cell_of touched v.point)
+    → cell_number (layout program params) (cell_of touched v.point) < 2 ^ 22 → HasRow program params table i v
+    → slice_get (accesses v.body) a ≡ Some touched
+    → ((form : Affine) → slice_get (get_or (forms_in table) i.statement []) a ≡ Some form
+    → result ≡ wrapped (value_of form (instance_of i).turns))
+    → result ≡ cell_number (layout program params) (cell_of touched v.point)
+cell_told program params table i v a touched result cell small row at tells =
+    let extents = layout program params in
+    let c = cell_number extents (cell_of touched v.point) in
+    let there : slice_get (accesses row.own.body) a ≡ Some touched =
+    ap (λ (s : Statement). slice_get (accesses s) a) row.body ∙ at in
+    let count = row.forms.count in
+    let within = slice_get_within (accesses row.own.body) a touched there in
+    let found = there_is row.cells a (omega (arith, count, within)) in
+    let same = get_or_from_slice_get (forms_in table) i.statement row.cells [] row.told in
+    let form = found.0 in
+    let told = row.forms.each a touched form there found.1 v.turns row.many in
+    tells form (ap (λ (fs : List Affine). slice_get fs a) same ∙ found.1)
+    ∙ (ap (λ (xs : List ℤ). wrapped (value_of form xs)) row.turns
+    ∙ (told
+    ∙ (ap (λ (p : List ℤ). wrapped (number_at extents touched p)) row.point
+    ∙ (ap wrapped (number_exact extents touched v.point cell) ∙ kept c small))))
+  where
+    there_is : (fs : List Affine) (k : ℕ) → k < length fs → (f : Affine) × (slice_get fs k ≡ Some f)
+    there_is [] k less = absurd (omega (arith, less))
+    there_is (f ∷ fs) zero less = (f, refl)
+    there_is (f ∷ fs) (suc k) less = there_is fs k (omega (arith, less))
+
+    kept : (n : ℕ) → n < 2 ^ 22 → n % 2 ^ 64 ≡ n
+    kept n less = omega (arith, less)

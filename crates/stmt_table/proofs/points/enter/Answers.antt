@@ -1,0 +1,31 @@
+use Rattle.std.proofs.Common.{◌≡◌, List, [], ◌∷◌, ◌++◌, ap, ap₂, ◌∙◌, rules}
+use Rattle.std.specs.Prelude.{ℤ, ◌+ℤ◌, ◌*ℤ◌, FitsSigned}
+use Rattle.std.specs.Int.{w64, int_wrap}
+use Rattle.std.proofs.lemmas.Int.{int_wrap-add_left, to_z-of_z}
+use Rattle.whole_numbers.specs.Affine.{Affine, value_of}
+use Rattle.scop_syntax.specs.Tree.{Head}
+use Rattle.stmt_table.proofs.points.enter.Goals as goal
+
+pub returns : goal.returns
+returns c =
+    let head = c.args.head.now in
+    let point = c.args.point.now.items in
+    let turn = c.args.turn in
+    let v = value_of head.first point in
+    let r = c.with_product.result in
+    let fit_first : FitsSigned w64 c.value_at-first.result = search rules in
+    let fit_stride : FitsSigned w64 c.head.inside.stride = search rules in
+    let fit_turn : FitsSigned w64 turn = search rules in
+    let fit : FitsSigned w64 r = search rules in
+    let first : c.value_at-first.result ≡ int_wrap w64 v =
+    c.value_at-first.ensures
+    ∙ ap (int_wrap w64) (ap₂ (λ (f : Affine) (x : List ℤ). value_of f x) (ap (λ (h : Head). h.first) c.head.view_is)
+    c.as_slice.ensures.value) in
+    let stride : c.head.inside.stride ≡ head.stride = ap (λ (h : Head). h.stride) c.head.view_is in
+    let raw : r ≡ int_wrap w64 (c.value_at-first.result +ℤ (c.head.inside.stride *ℤ turn)) =
+    simp to_z-of_z at c.with_product.ensures in
+    let entry : r ≡ int_wrap w64 (v +ℤ (head.stride *ℤ turn)) =
+    raw ∙ (ap₂ (λ (z s : ℤ). int_wrap w64 (z +ℤ (s *ℤ turn))) first stride
+    ∙ int_wrap-add_left w64 v (head.stride *ℤ turn)) in
+    let pushed : c.push.new.self.items ≡ point ++ r ∷ [] = simp to_z-of_z at c.push.ensures.items in
+    pushed ∙ ap (λ (z : ℤ). point ++ z ∷ []) entry

@@ -1,0 +1,4 @@
+pub mod Points
+pub mod Numbers
+pub mod Tables
+pub mod steps

@@ -1,0 +1,38 @@
+-- A table of a program's statements, in which the cells of their accesses are forms of the turns.
+use Rattle.std.specs.Prelude.{◌≡◌, ℕ, ℤ, List, length, map, slice_get, Some}
+use Rattle.whole_numbers.specs.Affine.{Affine, value_of}
+use Rattle.scop_syntax.specs.Cells.{accesses}
+use Rattle.scop_syntax.specs.Execution.{layout}
+use Rattle.scop_syntax.specs.Tree.{Access, Head, Program}
+use Rattle.scop_syntax.specs.Values.{wrapped}
+use Rattle.standings.specs.Standings.{Standing, standings_of}
+use Rattle.standings.specs.View.{standing_of}
+use Rattle.stmt_table.specs.Numbers.{number_at}
+use Rattle.stmt_table.specs.Points.{point_in}
+use Rattle.stmt_table.specs.declared.table.Table.{Table}
+
+-- at all turns of these loops the form's value is the number of the access's cell, modulo 2^64
+abbrev pub Tells : List (List ℕ) → List ℤ → List Head → Access → Affine → Type 0
+Tells extents params heads access form =
+    (turns : List ℤ) → length turns ≡ length heads
+    → wrapped (value_of form turns) ≡ wrapped (number_at extents access (point_in heads params turns))
+
+-- there is such a form for each access of a statement
+pub record AreForms (extents : List (List ℕ)) (params : List ℤ) (s : Standing) (forms : List Affine) : Type 0 where
+  pub count : length forms ≡ length (accesses s.body)
+  pub each : (a : ℕ) (access : Access) (form : Affine) → slice_get (accesses s.body) a ≡ Some access
+      → slice_get forms a ≡ Some form → Tells extents params s.heads access form
+
+-- the statements of a table, and the forms of their accesses
+abbrev pub standings_in : Table → List Standing
+standings_in table = map standing_of table.statements.items
+
+abbrev pub forms_in : Table → List (List Affine)
+forms_in table = map (λ row. row.items) table.cells.items
+
+-- the table has a program's statements, each with the forms of its accesses
+pub record IsTableOf (program : Program) (params : List ℤ) (table : Table) : Type 0 where
+  pub statements : standings_in table ≡ standings_of program
+  pub count : length (forms_in table) ≡ length (standings_of program)
+  pub forms : (k : ℕ) (s : Standing) (forms : List Affine) → slice_get (standings_of program) k ≡ Some s
+      → slice_get (forms_in table) k ≡ Some forms → AreForms (layout program params) params s forms
