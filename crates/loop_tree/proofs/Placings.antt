@@ -41,20 +41,6 @@ use Rattle.loop_tree.specs.steps.Placing.{CanPlace}
 use Rattle.loop_tree.specs.View.{nodes_of, tree_of}
 use Rattle.loop_tree.specs.declared.tree.Node.{Node}
 
--- nothing else stands at the place
-pub can_here : (path : Path) (ts : Items) → CanModel path ts → CanModel path nothing
-can_here path ts can =
-    record {
-      ranks = can.ranks;
-      room = can.room;
-      comparisons = can.comparisons;
-      parameters = can.parameters;
-      scopes = can.scopes;
-      loops = can.loops;
-      few = can.few;
-      trees = tt;
-    }
-
 -- trees and others behind them
 abbrev pub and_then : Trees → Trees → Trees
 and_then none us = us
@@ -76,17 +62,6 @@ pub record Placing (start now : Path) (items : List CodeItem) (i k counted : ℕ
   pub count : counted + statements_in_all (items_of (drop i items)) ≡ k + statements_in_all (items_of items)
   pub rest : and_then (nodes_of nodes) (sources now (items_of (drop i items)) counted)
       ≡ sources start (items_of items) k
-
-pub placing_begins : (start : Path) (items : List CodeItem) (k : ℕ) (nodes : List Node)
-    → CanPlace start (items_of items) k
-    → nodes ≡ [] → Placing start start items 0 k k nodes
-placing_begins start items k nodes can none_yet =
-    record {
-      same = refl;
-      can = can;
-      count = refl;
-      rest = ap (λ (ns : List Node). and_then (nodes_of ns) (sources start (items_of items) k)) none_yet;
-    }
 
 pub place_first : (path : Path) (t : Item) (ts : Items) (k : ℕ) → CanPlace path (followed t ts) k
     → CanPlace path (followed t nothing) k

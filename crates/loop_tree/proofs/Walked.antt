@@ -80,9 +80,6 @@ leaf_held n forms params outer c =
 abbrev pub SoFar : (List Instance → Type 0) → (List Instance → Type 0) → List Instance → List Instance → Type 0
 SoFar S T rest whole = (k : List Instance) → S k → (done : List Instance) × (done ++ rest ≡ k ++ whole) × T done
 
-pub so_far_begins : (S : List Instance → Type 0) (whole : List Instance) → SoFar S S whole whole
-so_far_begins S whole = λ k s. (k, refl, s)
-
 pub so_far_step : (S T U : List Instance → Type 0) (all first rest whole : List Instance) → SoFar S T all whole
     → all ≡ first ++ rest → ((l : List Instance) → T l → U (l ++ first)) → SoFar S U rest whole
 so_far_step S T U all first rest whole h is step = λ k s.

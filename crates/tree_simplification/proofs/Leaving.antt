@@ -69,15 +69,6 @@ trims_on c turned ps bs cs others f g =
       implied = λ params outer m x on there. f.implied params outer m x (g.implied params outer m x on there) there;
     }
 
-pub part_gone : (c : Context) (turned : Bool) (b : Bound) (bs others : List Bound) → 0 < length bs
-    → ImpliesPart c turned bs others b → TrimsSide c turned (b ∷ bs) others bs
-part_gone c turned b bs others some implies =
-    record {
-      some = some;
-      among = λ a i. inr i;
-      implied = λ params outer m x on there. ((implies params outer m x on there).0, on);
-    }
-
 pub part_kept : (c : Context) (turned : Bool) (b : Bound) (bs others : List Bound)
     → TrimsSide c turned (b ∷ bs) others (bs ++ b ∷ [])
 part_kept c turned b bs others =

@@ -74,9 +74,6 @@ bounds_small n old new among h =
 pub bounds_flat : (old new : Bounds) → Among (parts new) (parts old) → AreBounds old → AreBounds new
 bounds_flat old new among h = each_bounds new (each_among (λ b. pos 0 <ℤ b.divisor) old new among (bounds_each old h))
 
-pub bounds_forms : (old new : Bounds) → Among (parts new) (parts old) → AreSmallBounds old → AreSmallBounds new
-bounds_forms old new among h = each_forms new (each_among (λ b. IsSmall b.form) old new among (forms_each old h))
-
 -- facts of tests
 tests_all : (tests : List Test) → AreTests tests → All IsTest tests
 tests_all [] h = All-nil IsTest
@@ -95,10 +92,6 @@ all_forms [] h = tt
 all_forms (test ∷ tests) h =
     let P : Test → Type 0 = λ test. IsSmall (form_in test) in
     (All-head P test tests h, all_forms tests (All-tail P test tests h))
-
-pub tests_forms : (old new : List Test) → Among new old → AreSmallTests old → AreSmallTests new
-tests_forms old new among h =
-    all_forms new (all_among (λ test. IsSmall (form_in test)) new old among (forms_all old h))
 
 flat_tests : (tests : List Test) (body : Trees) → FlatAll (more (guard tests body) none)
     → AreTests tests × FlatAll body
