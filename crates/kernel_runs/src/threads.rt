@@ -1,4 +1,4 @@
-//! Plans run by a closure, and by several workers, each on a thread of its own.
+//! Plans run by a closure, and by workers who each have a thread.
 ghost use Rattle.std.specs.Prelude.{◌≡◌, ◌≤◌, ℕ, IfErr, IfOk, length};
 ghost use Rattle.scop_syntax.specs.Execution.{IsInside, IsShaped, exec, layout};
 ghost use Rattle.scop_syntax.specs.Limits.{WithinLimits};
@@ -25,8 +25,8 @@ use std::thread::Threads;
 use tile_core::plan::Plan;
 use tile_runner::run_plan;
 
-/// Runs plans by a closure that keeps the promise of `Workers::run`, as one round `run_on_threads`: so what runs kernels by
-/// any workers needs no handle for threads.
+/// Runs plans by a closure that keeps the promise of `Workers::run`, as one round `run_on_threads`: so code that runs
+/// kernels by any workers needs no handle for threads.
 #[derive(Clone, Copy)]
 pub struct By<F> {
     pub run: F,
@@ -51,7 +51,8 @@ impl<F: Fn(Global, Plan, &mut [u64], usize) -> Result<(), AllocError>> Workers f
     }
 }
 
-/// Runs a plan with so many workers, each on a thread of its own where there are two or more; one goes through the core.
+/// Runs a plan with so many workers, each on a thread of its own where there are two or more, who pass the gate round
+/// each tile; one goes through the core.
 ///
 /// # Errors
 /// `AllocError`; the cells are then as they were.
@@ -79,7 +80,7 @@ pub fn run_on_threads<R: Threads + Wait + Sync, G: Gate>(
     }
 }
 
-/// Runs a kernel's case as `run_case` does, with so many workers on threads, each of whom passes the gate round each tile.
+/// Runs a kernel's case as `run_case` does, by workers as `run_on_threads` has them.
 ///
 /// # Errors
 /// `AllocError`; the case is then as it was.
