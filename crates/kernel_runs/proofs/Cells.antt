@@ -1,7 +1,9 @@
 -- The cells of all arrays in one row, and the arrays that a row holds.
-use Rattle.std.proofs.Common.{◌≡◌, ◌∙◌, ℕ, zero, suc, ◌+◌, ◌*◌, ◌-◌, ◌/◌, ◌%◌, ◌<◌, ◌≤◌, ℤ, pos, List, [], ◌∷◌, ◌++◌, length}
+use Rattle.std.proofs.Common.{◌≡◌, ◌∙◌, ℕ, zero, suc, ◌+◌, ◌*◌, ◌-◌, ◌/◌}
+use Rattle.std.proofs.Common.{◌%◌, ◌<◌, ◌≤◌, ℤ, pos, List, [], ◌∷◌, ◌++◌, length}
 use Rattle.std.proofs.Common.{map, take, drop, get_or, set, ap, ap₂, sym, refl, subst, arith, add-one, drop-cons}
-use Rattle.std.proofs.Common.{append_assoc, add-mul, mul_assoc, mul-le-mul_right, length-append, length-drop, drop-drop, append-nil}
+use Rattle.std.proofs.Common.{append_assoc, add-mul, mul_assoc, mul-le-mul_right}
+use Rattle.std.proofs.Common.{length-append, length-drop, drop-drop, append-nil}
 use Rattle.std.proofs.lemmas.Grind.{same_number_lists}
 use Rattle.std.proofs.lemmas.Int.{ints}
 use Rattle.std.proofs.lemmas.List.{drop-set-lt, get_or-map, length-map, length-take-le, take_all, take_more_set}
@@ -9,7 +11,8 @@ use Rattle.std.proofs.Math.ListN.{drop_of_length-le}
 use Rattle.std.proofs.Math.Nat.{div-add-mod}
 use Rattle.std.proofs.Math.Seq.{drop-append_seam, map-set_same, take-append_seam, take-length}
 use Rattle.scop_syntax.specs.Cells.{Cell}
-use Rattle.scop_syntax.specs.Execution.{AreWithin, IsCell, IsShaped, cell_count, cell_number, exec, held, layout, performed_all}
+use Rattle.scop_syntax.specs.Execution.{AreWithin, IsCell, IsShaped, cell_count}
+use Rattle.scop_syntax.specs.Execution.{cell_number, exec, held, layout, performed_all}
 use Rattle.scop_syntax.specs.Execution.{offset_from, total_cells}
 use Rattle.scop_syntax.specs.Tree.{Program}
 use Rattle.scop_syntax.specs.Walk.{walk_of}
@@ -103,7 +106,8 @@ row_is es contents row shape long holds =
     same_number_lists row (flat contents) (omega (arith, long, all))
     (λ k less.
     let c = cell_with es k (omega (arith, less, long)) in
-    subst (λ (m : ℕ). get_or row m 0 ≡ get_or (flat contents) m 0) c.2 (holds c.0 c.1 ∙ sym (flat_holds es contents c.0 shape c.1)))
+    subst (λ (m : ℕ). get_or row m 0 ≡ get_or (flat contents) m 0) c.2
+    (holds c.0 c.1 ∙ sym (flat_holds es contents c.0 shape c.1)))
 
 -- the first arrays are back from a row, behind which those of the others stand, where it holds arrays of this shape
 pub record IsBack (initial : List (List ℕ)) (row : List ℕ) (k start : ℕ) (rows : List (List ℕ)) : Type 0 where
@@ -158,7 +162,8 @@ back_next initial row k start count rows cells within long is back =
             ap (λ xs. xs ++ drop (k + 1) contents) (take_more_set rows k cells here)
                 ∙ (append_assoc (take k rows) (cells ∷ []) (drop (k + 1) contents)
                 ∙ (ap (λ xs. take k rows ++ xs)
-                (ap₂ (λ (x : List ℕ) (m : ℕ). x ∷ drop m contents) row_is (add-one k) ∙ sym (drop-cons contents k [] both.0))
+                (ap₂ (λ (x : List ℕ) (m : ℕ). x ∷ drop m contents) row_is (add-one k)
+                ∙ sym (drop-cons contents k [] both.0))
                 ∙ far.0)),
             sym (drop-drop count start row)
                 ∙ (ap₂ (λ (m : ℕ) (xs : List ℕ). drop m xs) n at

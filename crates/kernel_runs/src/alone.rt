@@ -4,7 +4,8 @@ ghost use Rattle.tile_core.specs.Boards.{event_of, seen_of};
 ghost use Rattle.tile_core.specs.Cores.{IsCore, plan_in, state_in};
 ghost use Rattle.tile_core.specs.Plans.{IsPlan};
 ghost use Rattle.tile_events.specs.Core.{idle, step as stepped};
-ghost use Rattle.kernel_runs.specs.steps.Alone.{DoesInstance, DoesTile, IsAlone, IsLater, OpensTile, ReadsAll, shape_in};
+ghost use Rattle.kernel_runs.specs.steps.Alone.{DoesInstance, DoesTile, IsAlone, IsLater};
+ghost use Rattle.kernel_runs.specs.steps.Alone.{OpensTile, ReadsAll, shape_in};
 
 use tile_core::board::{Event, NotEnabled, Seen};
 use tile_core::cores::Core;
@@ -17,7 +18,8 @@ fn act(core: &mut Core, event: Event) -> Result<Seen, NotEnabled>
     requires core { IsCore core.old }
     requires some { 0 < length (state_in core.old).workers }
     ensures later { IsLater core.old core.new }
-    ensures step { stepped (shape_in core.old) (state_in core.old) 0 (event_of event) ≡ (state_in core.new, seen_of result) }
+    ensures step { stepped (shape_in core.old) (state_in core.old) 0 (event_of event)
+        ≡ (state_in core.new, seen_of result) }
 {
     core.step(0, event)
 }

@@ -1,6 +1,6 @@
-//! Kernels run by a plan, from arrays to arrays: the tiles of the plan's loop tree, done by one worker or by several on
-//! threads (U. Bondhugula and others, "A practical automatic polyhedral parallelizer and locality optimizer", PLDI 2008).
-//! Promises that the arrays end as the kernel's own execution leaves them, and how many tiles and waves there are.
+//! Kernels run by a plan, from arrays to arrays: the tiles of the plan's loop tree are done by one worker, or by several
+//! on threads (U. Bondhugula and others, "A practical automatic polyhedral parallelizer and locality optimizer", PLDI
+//! 2008). Promises that the arrays end as the kernel's own execution leaves them, and how many tiles and waves there are.
 #![tactic(auto)]
 
 mod alone;

@@ -1,5 +1,5 @@
 //! A kernel's case run by a plan, from arrays to arrays.
-ghost use Rattle.std.specs.Prelude.{◌≡◌, ◌-◌, ◌≤◌, IfErr, IfOk, length, map};
+ghost use Rattle.std.specs.Prelude.{◌≡◌, ◌-◌, ◌≤◌, IfErr, IfOk, length};
 ghost use Rattle.scop_syntax.specs.Execution.{IsInside, IsShaped, exec, layout};
 ghost use Rattle.scop_syntax.specs.Limits.{WithinLimits};
 ghost use Rattle.scop_syntax.specs.View.{program_of};

@@ -1,4 +1,4 @@
-//! Plans run by a closure, and by several workers, each on a thread of its own.
+//! Plans run by a closure, and by workers who each have a thread.
 ghost use Rattle.std.specs.Prelude.{◌≡◌, ◌≤◌, ℕ, IfErr, IfOk, length};
 ghost use Rattle.tile_core.specs.Plans.{IsPlan, shape_of};
 ghost use Rattle.kernel_runs.specs.Running.{AreExecuted};
@@ -11,8 +11,8 @@ use std::thread::Threads;
 use tile_core::plan::Plan;
 use tile_runner::run_plan;
 
-/// Runs plans by a closure that keeps the promise of `Workers::run`, as one round `run_on_threads`: so what runs kernels by
-/// any workers needs no handle for threads.
+/// Runs plans by a closure that keeps the promise of `Workers::run`, as one round `run_on_threads`: so code that runs
+/// kernels by any workers needs no handle for threads.
 #[derive(Clone, Copy)]
 pub struct By<F> {
     pub run: F,
@@ -37,7 +37,8 @@ impl<F: Fn(Global, Plan, &mut [u64], usize) -> Result<(), AllocError>> Workers f
     }
 }
 
-/// Runs a plan with so many workers, each on a thread of its own where there are two or more; one goes through the core.
+/// Runs a plan with so many workers, each on a thread of its own where there are two or more, who pass the gate round
+/// each tile; one goes through the core.
 ///
 /// # Errors
 /// `AllocError`; the cells are then as they were.

@@ -32,7 +32,9 @@ returns-clause-does c t less size alone =
     let b = c.loop.core in
     let d = c.act.new.core in
     let p = shape_in a in
-    let all : c.loop.counter ≡ p.size t = (let end = c.loop-test.false in let most = c.loop.auto.counter-end in omega (arith, end, most, size)) in
+    let end = c.loop-test.false in
+    let most = c.loop.auto.counter-end in
+    let all : c.loop.counter ≡ p.size t = omega (arith, end, most, size) in
     finishes_alone p (state_in b) (state_in d) (seen_of c.act.result) t
     (by_first a b finish (state_in d, seen_of c.act.result) c.loop.invariant.later c.act.ensures.step)
     (subst (λ (n : ℕ). IsAlone (state_in b) (suc t) t (working t n [])) all (c.loop.invariant.does t less size alone))

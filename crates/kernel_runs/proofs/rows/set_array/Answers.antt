@@ -1,4 +1,5 @@
-use Rattle.std.proofs.Common.{◌≡◌, ◌∙◌, ◌<◌, ap, ap₂, arith, get_or, length, map, set, subst, sym, List, ℕ, [], Vec, Global}
+use Rattle.std.proofs.Common.{◌≡◌, ◌∙◌, ◌<◌, ap, ap₂, arith, get_or, length}
+use Rattle.std.proofs.Common.{map, set, subst, sym, List, ℕ, [], Vec, Global}
 use Rattle.std.proofs.lemmas.List.{get_or-map, length-map, map-set, with_items_is}
 use Rattle.std.specs.Vec.{with_items}
 use Rattle.kernel_runs.proofs.rows.set_array.Goals as goal

@@ -10,7 +10,8 @@ put_back-requires g c =
     let params = c.args.case.now.params.items in
     let es = layout program params in
     let arrays = c.args.case.now.arrays in
-    let shape : IsShaped es arrays = subst (λ (xs : List (List ℕ)). IsShaped xs arrays) c.requires.laid c.requires.shape in
+    let shape : IsShaped es arrays =
+    subst (λ (xs : List (List ℕ)). IsShaped xs arrays) c.requires.laid c.requires.shape in
     ap length (c.deref.ensures.value ∙ c.in_ok-row.ensures.row)
     ∙ (flat_long es (exec program params arrays) (shape_executed program params arrays shape)
     ∙ sym (flat_long es arrays shape))
@@ -21,7 +22,8 @@ returns-clause-arrays g c =
     let params = c.args.case.now.params.items in
     let es = layout program params in
     let arrays = c.args.case.now.arrays in
-    let shape : IsShaped es arrays = subst (λ (xs : List (List ℕ)). IsShaped xs arrays) c.requires.laid c.requires.shape in
+    let shape : IsShaped es arrays =
+    subst (λ (xs : List (List ℕ)). IsShaped xs arrays) c.requires.laid c.requires.shape in
     c.put_back.ensures (exec program params arrays) (shape_executed program params arrays shape ∙ sym shape)
     (c.deref.ensures.value ∙ c.in_ok-row.ensures.row)
 

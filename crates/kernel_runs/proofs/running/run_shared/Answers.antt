@@ -19,7 +19,8 @@ returns-clause-tiles g c =
     let order = (c.requires.trees.carry_out params (has_parameters c.requires.limits)).exact in
     subst (HasTiles tiling (walked program params)) (sym c.counts_of.ensures.tiles)
     (walked_values {K = List ℤ × List ℤ} (λ x. (wave_of tiling x, tile_of tiling x)) program params tiling
-    (visits ts params) _ order (c.tiles_are_counted.ensures.tiles ts params tiling c.in_ok-list.list c.in_ok-list.ensures))
+    (visits ts params) _ order
+    (c.tiles_are_counted.ensures.tiles ts params tiling c.in_ok-list.list c.in_ok-list.ensures))
 
 pub returns-clause-waves : goal.returns-clause-waves
 returns-clause-waves g c =
