@@ -181,7 +181,8 @@ fn shared_rows(
 }
 
 /// The hull's rows at a dimension: its two numbers, then the rows that all sets share but for constants; and on a side
-/// with none of those the first row that is above one of each set, if there is one.
+/// with none of those the first row that is above one of each set, if there is one. Below, a number that is not negative
+/// is enough.
 pub fn hull(
     alloc: Global,
     outlines: &[Outline],

@@ -66,7 +66,7 @@ fn push_both(out: &mut Vec<Form>, form: &Form) -> Result<(), AllocError>
 }
 
 /// Whether one of the rows has these coefficients and a constant below the limit.
-fn has_below(rows: &[Form], coefficients: &[i128], limit: i128) -> bool {
+pub fn has_below(rows: &[Form], coefficients: &[i128], limit: i128) -> bool {
     for row in rows {
         if row.constant() < limit && row.coefficients() == coefficients {
             return true;

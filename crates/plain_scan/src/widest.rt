@@ -221,10 +221,22 @@ fn widest(
     Ok(Some(wide))
 }
 
-/// Whether a row behind the first two has the sign of the number at the place.
+/// Whether the first row says that the dimension starts at 0 or above.
+fn is_natural(rows: &[Form]) -> bool {
+    match rows.first() {
+        None => false,
+        Some(least) => least.constant() <= 0,
+    }
+}
+
+/// Whether a row behind the first two has the sign of the number at the place, or the number is positive and the first
+/// row says that the dimension starts at 0 or above.
 fn is_bounded(rows: &[Form], place: usize, number: i128) -> bool
     requires { All (λ f. place < variables_of f) rows.now }
 {
+    if number > 0 && is_natural(rows) {
+        return true;
+    }
     for at in 2..rows.len() {
         if rows[at].coefficients()[place].signum() == number.signum() {
             return true;
@@ -259,7 +271,8 @@ fn push_widest(
     }
 }
 
-/// Appends such a row if the row bounds the dimension on a side on which none of the rows behind the first two does.
+/// Appends such a row if only the hull's numbers bound the dimension on the row's side; below, a number that is not
+/// negative is enough.
 pub fn push_on_open_side(
     alloc: Global,
     out: &mut Vec<Form>,
