@@ -1,7 +1,7 @@
 -- Rows of greater numbers are weaker, since parameters are not negative.
 use Rattle.std.proofs.Common.{◌≡◌, ◌∙◌, ℕ, zero, suc, ◌+◌, ◌<◌, ◌≤◌, ℤ, pos, List, [], ◌∷◌, ◌++◌, length, get_or, take, drop}
-use Rattle.std.proofs.Common.{ap, refl, subst, sym, All, arith}
-use Rattle.std.specs.Prelude.{◌+ℤ◌, ◌*ℤ◌, ◌≤ℤ◌, ⊤}
+use Rattle.std.proofs.Common.{ap, refl, subst, sym, arith}
+use Rattle.std.specs.Prelude.{◌*ℤ◌, ◌≤ℤ◌, ⊤}
 use Rattle.std.proofs.lemmas.Int.{ints}
 use Rattle.std.proofs.lemmas.List.Elements.{All-tail}
 use Rattle.whole_numbers.specs.Lists.{dot}
@@ -21,7 +21,7 @@ use Rattle.loop_tree.proofs.Extremes.{below_max, max_below}
 use Rattle.plain_scan.specs.declared.set_outline.Outline.{Outline}
 use Rattle.plain_scan.specs.Between.{HasSmallNumbers}
 use Rattle.plain_scan.specs.Outlines.{AreRows}
-use Rattle.plain_scan.specs.Hulls.{Hold, HoldsAt}
+use Rattle.plain_scan.specs.Hulls.{HoldsAt}
 use Rattle.plain_scan.specs.Weaker.{IsWeaker, Follows, IsAbove, IsAboveSome, greater_numbers, greater_form}
 use Rattle.plain_scan.proofs.Hulling.{rows_at}
 

@@ -1,5 +1,4 @@
-use Rattle.std.proofs.Common.{◌≡◌, ◌∙◌, ◌<◌, get_or, subst, sym, arith}
-use Rattle.affine_forms.specs.Parts.{variables_of}
+use Rattle.std.proofs.Common.{get_or, subst, sym, arith}
 use Rattle.plain_scan.specs.Hulls.{IsAlike, AreHullRows}
 use Rattle.plain_scan.proofs.Hulling.{hull_more, hull_sized, row_size, small_at}
 use Rattle.plain_scan.proofs.hull.hull.Goals as goal

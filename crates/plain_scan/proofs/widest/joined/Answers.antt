@@ -2,7 +2,7 @@ use Rattle.std.proofs.Common.{rules, ◌≡◌, ◌∙◌, ℕ, suc, ◌+◌, sy
 use Rattle.std.specs.Int.{w128}
 use Rattle.std.proofs.lemmas.Option.{IfSome_then}
 use Rattle.std.proofs.lemmas.Result.{IfOk-weaker}
-use Rattle.whole_numbers.specs.Affine.{Affine, multiple_of_form}
+use Rattle.whole_numbers.specs.Affine.{multiple_of_form}
 use Rattle.plain_scan.specs.Weaker.{IsAbove}
 use Rattle.plain_scan.proofs.Widening.{multiple_size, multiples_above}
 use Rattle.plain_scan.proofs.widest.joined.Goals as goal

@@ -1,6 +1,4 @@
-use Rattle.std.proofs.Common.{rules, ◌≡◌, ◌∙◌, ℕ, suc, ◌+◌, ◌<◌, List, get_or, ap, subst, sym, arith, length}
-use Rattle.std.specs.Prelude.{IfSome, Option}
-use Rattle.whole_numbers.specs.Affine.{Affine}
+use Rattle.std.proofs.Common.{rules, ◌≡◌, ◌∙◌, suc, ◌+◌, get_or, ap, subst, sym, arith}
 use Rattle.affine_forms.specs.Parts.{variables_of}
 use Rattle.fm_projection.specs.Projecting.{projected}
 use Rattle.plain_scan.specs.declared.outline.Shadow.{Shadow}
