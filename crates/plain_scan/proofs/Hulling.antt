@@ -195,6 +195,12 @@ hull_more depth place n outlines fs gs more h is rows = record {
   rows = rows;
 }
 
+-- its rows speak of the place
+pub hull_sized : (depth place n : ℕ) (outlines : List Outline) (fs : List Affine) → place < n
+    → IsHull depth place n outlines fs → All (λ f. place < variables_of f) fs
+hull_sized depth place n outlines fs inside h k d here =
+    let size = (h.rows k d here).sized in omega (arith, size, inside)
+
 -- a row of the first set's shadow is small
 pub small_at : (depth n : ℕ) (o : Outline) (h : Shadow) (fs : List Affine) (k : ℕ) (f : Affine) → IsAlike depth n o
     → h ≡ get_or o.shadows.items depth h

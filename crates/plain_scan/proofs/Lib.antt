@@ -10,6 +10,7 @@ pub mod Shape
 pub mod Values
 pub mod Appending
 pub mod Hulling
+pub mod Widening
 pub mod Stepping
 pub mod Bounding
 pub mod Smallness

@@ -7,6 +7,7 @@ pub mod Shape
 pub mod Between
 pub mod Outlines
 pub mod Hulls
+pub mod Weaker
 pub mod Scanning
 pub mod Leaving
 pub mod Giving

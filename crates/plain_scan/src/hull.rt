@@ -11,12 +11,13 @@ ghost use Rattle.plain_scan.specs.Hulls.{AreHullRows, Hold, HoldsAt, IsAlike, Is
 
 use crate::numbers::opposite;
 use crate::set_outline::Outline;
+use crate::widest::push_on_open_side;
 use affine_forms::Form;
 use fm_projection::place_form;
 use std::alloc::{AllocError, Global};
 
 /// Whether the numbers are the same.
-fn same(xs: &[i128], ys: &[i128]) -> bool
+pub fn same(xs: &[i128], ys: &[i128]) -> bool
     requires { length xs.now ≡ length ys.now }
     ensures { IsTrue result → xs.now ≡ ys.now }
 {
@@ -147,9 +148,9 @@ fn push_weakest(
     }
 }
 
-/// The hull's rows at a dimension: its two numbers, then each row of the first set that has the dimension and that all
-/// sets have with some constant, with the weakest.
-pub fn hull(
+/// The two numbers of the hull at a dimension, then each row of the first set that has the dimension and that all sets
+/// have with some constant, with the weakest.
+fn shared_rows(
     alloc: Global,
     outlines: &[Outline],
     depth: usize,
@@ -175,6 +176,29 @@ pub fn hull(
     out.push(most)?;
     for row in &outlines[0].shadows[depth].rows {
         push_weakest(alloc, &mut out, outlines, depth, place, row)?;
+    }
+    Ok(out)
+}
+
+/// The hull's rows at a dimension: its two numbers, then the rows that all sets share but for constants; and on a side
+/// with none of those the first row that is above one of each set, if there is one. Below, a number that is not negative
+/// is enough.
+pub fn hull(
+    alloc: Global,
+    outlines: &[Outline],
+    depth: usize,
+    place: usize,
+    variables: usize,
+) -> Result<Vec<Form>, AllocError>
+    requires some { 0 < length outlines.now }
+    requires inside { place < variables }
+    requires alike { All (IsAlike depth variables) outlines.now }
+    requires place { All (λ o. o.set.now.system.dimensions ≡ place + suc depth) outlines.now }
+    ensures { IfOk result (λ v. IsHull depth place variables outlines.now v.items) }
+{
+    let mut out = shared_rows(alloc, outlines, depth, place, variables)?;
+    for row in &outlines[0].shadows[depth].rows {
+        push_on_open_side(alloc, &mut out, outlines, depth, place, row)?;
     }
     Ok(out)
 }

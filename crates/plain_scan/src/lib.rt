@@ -10,5 +10,6 @@ mod outline;
 mod set_outline;
 pub mod shared;
 mod tree_of_sets;
+mod widest;
 
 pub use tree_of_sets::scan;

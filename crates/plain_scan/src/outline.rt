@@ -65,7 +65,33 @@ fn push_both(out: &mut Vec<Form>, form: &Form) -> Result<(), AllocError>
     }
 }
 
-/// The rows of a system, and its equalities as two rows, as far as their numbers are small.
+/// Whether one of the rows has these coefficients and a constant below the limit.
+pub fn has_below(rows: &[Form], coefficients: &[i128], limit: i128) -> bool {
+    for row in rows {
+        if row.constant() < limit && row.coefficients() == coefficients {
+            return true;
+        }
+    }
+    false
+}
+
+/// Appends a copy of the form where its numbers are small, if neither one of the others is a tighter row of the same
+/// coefficients nor the form is there already.
+fn push_tightest(out: &mut Vec<Form>, form: &Form, others: &[Form]) -> Result<(), AllocError>
+    ensures { OnOk result ((t : Constraints) → (HasSmallNumbers form.now → IsRow t form.now)
+        → AreRows t out.old.items → AreRows t out.new.items) }
+{
+    if has_below(others, form.coefficients(), form.constant()) {
+        return Ok(());
+    }
+    if has_below(out, form.coefficients(), form.constant().saturating_add(1)) {
+        return Ok(());
+    }
+    push_small(out, form)
+}
+
+/// The rows of a system, the tightest of those with the same coefficients, and its equalities as two rows, as far as
+/// their numbers are small.
 fn rows_of(alloc: Global, system: &System) -> Result<Vec<Form>, AllocError>
     ensures { IfOk result (λ v. AreRows system.now v.items) }
 {
@@ -74,7 +100,7 @@ fn rows_of(alloc: Global, system: &System) -> Result<Vec<Form>, AllocError>
         push_both(&mut out, form)?;
     }
     for form in system.rows() {
-        push_small(&mut out, form)?;
+        push_tightest(&mut out, form, system.rows())?;
     }
     Ok(out)
 }

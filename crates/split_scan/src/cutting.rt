@@ -13,7 +13,7 @@ use crate::level::Level;
 use crate::part::Part;
 use crate::questions::{complement, copies, is_void, push_copy};
 use affine_forms::Form;
-use plain_scan::shared::Outline;
+use plain_scan::shared::{Outline, has_below};
 use std::alloc::{AllocError, Global};
 
 /// The greatest number of parts of a node.
@@ -52,6 +52,15 @@ fn push_part(
     Ok(())
 }
 
+/// Whether a row of the node or of the part says as much.
+fn is_known(level: &Level, cuts: &[Form], row: &Form) -> bool {
+    let limit = row.constant().saturating_add(1);
+    if has_below(&level.inside, row.coefficients(), limit) {
+        return true;
+    }
+    has_below(cuts, row.coefficients(), limit)
+}
+
 /// Cuts by a row of the next set: where the row does not hold, the set goes, and the rest goes on where it does.
 fn cut_by(
     alloc: Global,
@@ -78,6 +87,9 @@ fn cut_by(
         cuts.new.items) }
 {
     if row.coefficients()[level.place] == 0 {
+        return Ok(());
+    }
+    if is_known(level, cuts, row) {
         return Ok(());
     }
     let far = complement(alloc, row)?;

@@ -16,6 +16,6 @@ loop-form-2-preserved c =
     let s = c.args.system.now in
     let all = c.rows-form-items in
     let item = c.form-item-in-loop-form-2 in
-    c.in_ok-push_small.ensures s
+    c.in_ok-push_tightest.ensures s
     (row_at s all.result.now c.loop-form-2.form-index item.result item.is all.ensures.forms all.ensures.sized
     c.loop-form-2-test.true) c.loop-form-2.invariant

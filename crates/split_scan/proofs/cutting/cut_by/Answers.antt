@@ -8,13 +8,13 @@ use Rattle.plain_scan.specs.Between.{HasSmallNumbers}
 use Rattle.std.specs.Prelude.{negsuc}
 use Rattle.split_scan.proofs.Parting.{cutting_more, goes_more, marks_more}
 use Rattle.split_scan.proofs.cutting.cut_by.Goals as goal
-use Rattle.split_scan.proofs.cutting.cut_by.Goals.{After-deref-2}
+use Rattle.split_scan.proofs.cutting.cut_by.Goals.{After-deref-3}
 
 -- the rows beyond the row
-beyond_there : (c : After-deref-2) → c.push.new.self.items ≡ c.args.cuts.now.items ++ complement c.args.row.now ∷ []
+beyond_there : (c : After-deref-3) → c.push.new.self.items ≡ c.args.cuts.now.items ++ complement c.args.row.now ∷ []
 beyond_there c =
     let pushed : c.push.new.self.items ≡ c.in_ok-beyond.beyond.items ++ c.in_ok-far.far ∷ [] = search rules in
-    pushed ∙ ap₂ (λ (fs : List Affine) (f : Affine). fs ++ f ∷ []) (c.in_ok-beyond.ensures ∙ c.deref.ensures.value)
+    pushed ∙ ap₂ (λ (fs : List Affine) (f : Affine). fs ++ f ∷ []) (c.in_ok-beyond.ensures ∙ c.deref-2.ensures.value)
     c.in_ok-far.ensures.row
 
 pub is_void-requires : goal.is_void-requires
@@ -23,7 +23,7 @@ is_void-requires c =
     let P : Affine → Type 0 = λ f. variables_of f ≡ level.place + 1 + level.parameters in
     let row = c.args.row.now in
     let cuts = c.args.cuts.now.items in
-    subst (All P) (sym (c.deref-2.ensures.value ∙ beyond_there (goal.at.is_void-requires c).After-deref-2))
+    subst (All P) (sym (c.deref-3.ensures.value ∙ beyond_there (goal.at.is_void-requires c).After-deref-3))
     (All-append P cuts (complement row ∷ []) c.requires.sized (All-cons P (complement row) []
     (length-multiples (negsuc 0) row.coefficients ∙ c.requires.row) (All-nil P)))
 
@@ -37,7 +37,7 @@ returns-clause-parts c all s next implies h =
     cutting_more level.place (level.place + 1 + level.parameters) level.inside.items all c.args.stays.now s row
     c.args.cuts.now.items c.push_copy.new.out.items c.args.out.now.items c.push_part.new.out.items part.0
     (record { sized = c.requires.row; small = c.requires.small; bounds = bounds }) far next implies
-    c.in_ok-push_copy.ensures (part.2 ∙ beyond_there (goal.at.returns-clause-parts c).After-deref-2) part.3 part.1 h
+    c.in_ok-push_copy.ensures (part.2 ∙ beyond_there (goal.at.returns-clause-parts c).After-deref-3) part.3 part.1 h
 
 pub returns-clause-goes : goal.returns-clause-goes
 returns-clause-goes c =
@@ -45,7 +45,7 @@ returns-clause-goes c =
     let part = c.in_ok-push_part.ensures in
     goes_more level.place level.inside.items c.args.row.now c.args.cuts.now.items c.push_copy.new.out.items
     c.args.out.now.items c.push_part.new.out.items part.0 c.in_ok-push_copy.ensures
-    (part.2 ∙ beyond_there (goal.at.returns-clause-goes c).After-deref-2) part.1
+    (part.2 ∙ beyond_there (goal.at.returns-clause-goes c).After-deref-3) part.1
 
 pub returns-clause-marks : goal.returns-clause-marks
 returns-clause-marks c =
