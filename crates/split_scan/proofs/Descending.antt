@@ -181,15 +181,6 @@ bodies_next k mark f ps i p body old new is inside node made h =
       nodes = bodies_more k mark f (take i ps) h.bodies p body h.nodes node;
     })
 
-pub no_bodies : (k : ℕ) (mark : Option ℕ) (f : Frame) (ps : List Part) (ts : List Tree) → ts ≡ []
-    → HasBodies k mark f (take 0 ps) ts
-no_bodies k mark f ps ts is =
-    subst (λ qs. HasBodies k mark f qs ts) (sym (none_taken ps)) (record { bodies = []; is = is; nodes = tt })
-  where
-    none_taken : (qs : List Part) → take 0 qs ≡ []
-    none_taken [] = refl
-    none_taken (q ∷ qs) = refl
-
 -- one tree
 pub one_tree : (ts : List Tree) (t : Tree) → trees_of ts ≡ more t none → ts ≡ t ∷ []
 one_tree [] t e = absurd (no_more t e)

@@ -177,12 +177,6 @@ near_goes cuts old new p point cuts_is new_is (inl h) =
 near_goes cuts old new p point cuts_is new_is (inr h) =
     subst (λ ps. InPart ps point) (sym new_is) (in_front_part old (p ∷ []) point h)
 
-pub near_void : (m : ℕ) (inside cuts : List Affine) (ps : List Part) (params outer : List ℤ) (x : ℤ)
-    → IsVoid m inside cuts → IsIn m inside params outer x → IsHeld cuts ps (outer ++ x ∷ params)
-    → InPart ps (outer ++ x ∷ params)
-near_void m inside cuts ps params outer x void at (inl h) = absurd (void params outer x at h)
-near_void m inside cuts ps params outer x void at (inr h) = h
-
 -- parts one by one
 pub held_next : (ps : List Part) (k : ℕ) (p : Part) (old : List Part) (point : List ℤ) → p ≡ get_or ps k p
     → k < length ps → (InPart (take k ps) point → InPart old point) → InPart (take (k + 1) ps) point

@@ -20,10 +20,6 @@ pub one_point : (fs : List Affine) (outer : List ℤ) (x : ℤ) (params : List �
     → AllAtLeast fs ((outer ++ x ∷ []) ++ params)
 one_point fs outer x params h = subst (AllAtLeast fs) (sym (append_one outer x params)) h
 
-pub point_one : (fs : List Affine) (outer : List ℤ) (x : ℤ) (params : List ℤ)
-    → AllAtLeast fs ((outer ++ x ∷ []) ++ params) → AllAtLeast fs (outer ++ x ∷ params)
-point_one fs outer x params h = subst (AllAtLeast fs) (append_one outer x params) h
-
 -- a column that is not spoken of
 dot_opened : (outer : List ℤ) (x : ℤ) (rest cs : List ℤ) → length outer ≤ length cs
     → dot (take (length outer) cs ++ pos 0 ∷ drop (length outer) cs) (outer ++ x ∷ rest) ≡ dot cs (outer ++ rest)
