@@ -148,7 +148,7 @@ pub fn tiled(alloc: Global, text: &str, lines: &str, size: u64) -> Result<Made, 
     })
 }
 
-/// The table of the kernel's statements.
+/// The table of the kernel's accesses.
 pub fn table_of(alloc: Global, made: &Made) -> Result<Table, AllocError>
     requires { IsMade made.now }
     ensures { IfOk result (IsTableOf (program_of made.now.kernel) made.now.case.params.items) }
@@ -157,7 +157,7 @@ pub fn table_of(alloc: Global, made: &Made) -> Result<Table, AllocError>
 }
 
 /// The plan of a run.
-pub fn plan_of<'a>(made: &'a Made, table: &'a Table<'a>) -> Plan<'a>
+pub fn plan_of<'a>(made: &'a Made, table: &'a Table) -> Plan<'a>
     requires made { IsMade made.now }
     requires table { IsTableOf (program_of made.now.kernel) made.now.case.params.items table.now }
     ensures plan { IsPlan result }

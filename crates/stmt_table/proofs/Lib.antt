@@ -5,5 +5,4 @@ pub mod Offsets
 pub mod Accesses
 pub mod Pairs
 pub mod Tellings
-pub mod Values
 pub mod Visits

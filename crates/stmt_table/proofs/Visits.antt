@@ -21,7 +21,7 @@ use Rattle.scop_meaning.specs.Instances.{IsVisitOf}
 use Rattle.standings.specs.Standings.{Standing, heads_in, standing, standings_of}
 use Rattle.stmt_table.specs.Numbers.{number_at}
 use Rattle.stmt_table.specs.Points.{point_in}
-use Rattle.stmt_table.specs.Tables.{AreForms, IsTableOf, forms_in, standings_in}
+use Rattle.stmt_table.specs.Tables.{AreForms, IsTableOf, forms_in}
 use Rattle.stmt_table.specs.declared.table.Table.{Table}
 use Rattle.stmt_table.proofs.Offsets.{number_exact}
 use Rattle.stmt_table.proofs.Entering.{as_many_heads, point_in_scopes}
@@ -32,26 +32,22 @@ pub record WalkLaws : Type 0 where
       → (p : Placed) × (xs : List ℤ) × In p (statements_of program) × Runs p.scopes params xs × (v ≡ visit_of p params xs)
   pub turns : (scopes : List Scope) (params xs : List ℤ) → Runs scopes params xs → length xs ≡ loops_in scopes
   pub number : (program : Program) (k : ℕ) (p : Placed) → slice_get (statements_of program) k ≡ Some p → p.number ≡ k
-  pub placed : (program : Program) (p : Placed) → IsKernel program → In p (statements_of program)
-      → IsPlaced (ranks_of program) (length program.parameters) p
 
 -- the row of an instance's statement, and how its visit lies in it
 pub record HasRow (program : Program) (params : List ℤ) (table : Table) (i : CodeInstance) (v : Visit) : Type 0 where
   pub own : Standing
   pub cells : List Affine
-  pub is : slice_get (standings_in table) i.statement ≡ Some own
   pub told : slice_get (forms_in table) i.statement ≡ Some cells
   pub forms : AreForms (layout program params) params own cells
   pub body : own.body ≡ v.body
   pub turns : (instance_of i).turns ≡ v.turns
   pub many : length v.turns ≡ length own.heads
-  pub few : length own.heads ≤ 5
   pub point : point_in own.heads params v.turns ≡ v.point
 
 pub row_of : WalkLaws → (program : Program) (params : List ℤ) (table : Table) (i : CodeInstance) (v : Visit)
-    → WithinLimits program params → IsTableOf program params table → IsVisitOf program params (instance_of i) v
+    → IsTableOf program params table → IsVisitOf program params (instance_of i) v
     → HasRow program params table i v
-row_of laws program params table i v limits is visit =
+row_of laws program params table i v is visit =
     let stood = laws.found program params v visit.walked in
     let p = stood.0 in
     let xs = stood.1 in
@@ -71,17 +67,14 @@ row_of laws program params table i v limits is visit =
     let heads = as_many_heads p.scopes in
     let long = laws.turns p.scopes params xs stood.3 in
     let same = ap (λ (l : List ℤ). length l) turned in
-    let few = (laws.placed program p limits.kernel stood.2).few_loops in
     record {
       own = around;
       cells = get_or (forms_in table) k [];
-      is = ap (slice_get (standings_in table)) number ∙ (ap (λ (ss : List Standing). slice_get ss k) is.statements ∙ here);
       told = ap (slice_get (forms_in table)) number ∙ row;
       forms = is.forms k around (get_or (forms_in table) k []) here row;
       body = ap (λ (w : Visit). w.body) (sym stood.4);
       turns = sym (ap (λ (x : Instance). x.turns) visit.same);
       many = omega (arith, heads, long, same);
-      few = omega (arith, heads, few);
       point = ap (point_in (heads_in p.scopes) params) turned
           ∙ (sym (point_in_scopes p.scopes params xs) ∙ ap (λ (w : Visit). w.point) (sym stood.4));
     }

@@ -1,4 +1,4 @@
--- A table of a program's statements, in which the cells of their accesses are forms of the turns.
+-- A table of a program's accesses, in which their cells are forms of the turns.
 use Rattle.std.specs.Prelude.{◌≡◌, ℕ, ℤ, List, length, map, slice_get, Some}
 use Rattle.whole_numbers.specs.Affine.{Affine, value_of}
 use Rattle.scop_syntax.specs.Cells.{accesses}
@@ -6,7 +6,6 @@ use Rattle.scop_syntax.specs.Execution.{layout}
 use Rattle.scop_syntax.specs.Tree.{Access, Head, Program}
 use Rattle.scop_syntax.specs.Values.{wrapped}
 use Rattle.standings.specs.Standings.{Standing, standings_of}
-use Rattle.standings.specs.View.{standing_of}
 use Rattle.stmt_table.specs.Numbers.{number_at}
 use Rattle.stmt_table.specs.Points.{point_in}
 use Rattle.stmt_table.specs.declared.table.Table.{Table}
@@ -23,16 +22,12 @@ pub record AreForms (extents : List (List ℕ)) (params : List ℤ) (s : Standin
   pub each : (a : ℕ) (access : Access) (form : Affine) → slice_get (accesses s.body) a ≡ Some access
       → slice_get forms a ≡ Some form → Tells extents params s.heads access form
 
--- the statements of a table, and the forms of their accesses
-abbrev pub standings_in : Table → List Standing
-standings_in table = map standing_of table.statements.items
-
+-- the forms of each statement's accesses
 abbrev pub forms_in : Table → List (List Affine)
 forms_in table = map (λ row. row.items) table.cells.items
 
--- the table has a program's statements, each with the forms of its accesses
+-- the table has the forms of the accesses of each of a program's statements
 pub record IsTableOf (program : Program) (params : List ℤ) (table : Table) : Type 0 where
-  pub statements : standings_in table ≡ standings_of program
   pub count : length (forms_in table) ≡ length (standings_of program)
   pub forms : (k : ℕ) (s : Standing) (forms : List Affine) → slice_get (standings_of program) k ≡ Some s
       → slice_get (forms_in table) k ≡ Some forms → AreForms (layout program params) params s forms

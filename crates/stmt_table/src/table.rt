@@ -1,24 +1,16 @@
-//! The table of a kernel's statements.
-ghost use Rattle.std.specs.Prelude.{◌≡◌, ◌+◌, ◌-◌, ◌<◌, ◌≤◌, All, IfOk, Some, [], length, map, slice_get, slice_index_or};
+//! The table of a kernel's accesses.
+ghost use Rattle.std.specs.Prelude.{◌≡◌, ◌-◌, ◌<◌, ◌≤◌, IfOk, Some, [], length, slice_get, slice_index_or};
 ghost use Rattle.whole_numbers.specs.Affine.{Affine, value_of};
-ghost use Rattle.scop_meaning.specs.Instances.{AreLayout};
-ghost use Rattle.scop_meaning.specs.declared.loops.TheConstants.{ROOM};
-ghost use Rattle.scop_syntax.specs.Cells.{accesses, reads as reads_by};
 ghost use Rattle.scop_syntax.specs.Execution.{layout};
 ghost use Rattle.scop_syntax.specs.Limits.{WithinLimits};
-ghost use Rattle.scop_syntax.specs.Values.{stored_by, wrapped};
+ghost use Rattle.scop_syntax.specs.Values.{wrapped};
 ghost use Rattle.scop_syntax.specs.View.{instance_of, program_of};
-ghost use Rattle.scop_syntax.specs.declared.instance.TheConstants.{MAX_LOOPS};
-ghost use Rattle.standings.specs.Standings.{Standing as Around};
 ghost use Rattle.standings.specs.View.{standing_of};
-ghost use Rattle.stmt_table.specs.Points.{point_in as exact_point};
-ghost use Rattle.stmt_table.specs.Tables.{AreForms, IsTableOf, forms_in, standings_in};
+ghost use Rattle.stmt_table.specs.Tables.{AreForms, IsTableOf, forms_in};
 ghost use Rattle.stmt_table.specs.steps.Forms.{CanForm};
 
 use crate::forms::form_of;
-use crate::points::point_in;
 use scop_meaning::accesses::{access_at, read_count};
-use scop_meaning::expressions::stored_on;
 use scop_syntax::affine_values::wrapped_at;
 use scop_syntax::arrays::Extents;
 use scop_syntax::instance::Instance;
@@ -28,11 +20,10 @@ use scop_syntax::walk_laws::statements_are_numbered;
 use standings::{Standing, standings_of};
 use std::alloc::{AllocError, Global};
 
-/// The statements of a kernel in textual order with the loops round each, and for each the forms of its accesses, the
-/// place first: the row-major number of the cell among those of all arrays, over the turns of the loops, modulo 2^64.
+/// For each statement of a kernel in textual order the forms of its accesses, the place first: the row-major number of
+/// the cell among those of all arrays, over the turns of the loops round the statement, modulo 2^64.
 #[derive(Drop)]
-pub struct Table<'a> {
-    pub statements: Vec<Standing<'a>>,
+pub struct Table {
     pub cells: Vec<Vec<Aff>>,
 }
 
@@ -55,17 +46,17 @@ fn forms_of(
     Ok(forms)
 }
 
-impl<'a> Table<'a> {
+impl Table {
     /// The table of the kernel for these parameters, with the extents of its arrays.
     ///
     /// # Errors
     /// `AllocError` alone.
     pub fn of(
         alloc: Global,
-        kernel: &'a Kernel,
+        kernel: &Kernel,
         params: &[i64],
         extents: &Extents,
-    ) -> Result<Table<'a>, AllocError>
+    ) -> Result<Table, AllocError>
         requires limits { WithinLimits (program_of kernel.now) params.now }
         requires extents { extents.now ≡ layout (program_of kernel.now) params.now }
         ensures { IfOk result (IsTableOf (program_of kernel.now) params.now) }
@@ -77,7 +68,7 @@ impl<'a> Table<'a> {
         for statement in &statements {
             cells.push(forms_of(alloc, statement, params, extents)?)?;
         }
-        Ok(Table { statements, cells })
+        Ok(Table { cells })
     }
 
     /// How many cells each instance of the statement of this number reads.
@@ -108,31 +99,5 @@ impl<'a> Table<'a> {
             → result ≡ wrapped (value_of form (instance_of instance.now).turns) }
     {
         wrapped_at(self.form(instance.statement, access), instance.turns()) as usize
-    }
-
-    /// The statement of this number.
-    fn statement(&self, number: usize) -> &Standing<'a>
-        requires { number < length (standings_in self.now) }
-        ensures { slice_get (standings_in self.now) number ≡ Some (standing_of result.now) }
-    {
-        &self.statements[number]
-    }
-
-    /// What the instance stores, where its reads have the values `reads`, in the order of the text.
-    pub fn value(&self, params: &[i64], instance: &Instance, reads: &[u64]) -> u64
-        requires statement { instance.now.statement < length (standings_in self.now) }
-        requires loops { (s : Around) → slice_get (standings_in self.now) instance.now.statement ≡ Some s
-            → length s.heads ≤ length (instance_of instance.now).turns }
-        requires room { (s : Around) → slice_get (standings_in self.now) instance.now.statement ≡ Some s
-            → length params.now + length s.heads ≤ ROOM }
-        requires reads { (s : Around) → slice_get (standings_in self.now) instance.now.statement ≡ Some s
-            → length reads.now ≡ length (reads_by s.body) }
-        ensures { (s : Around) → slice_get (standings_in self.now) instance.now.statement ≡ Some s
-            → result ≡ stored_by s.body.right (exact_point s.heads params.now (instance_of instance.now).turns)
-            reads.now }
-    {
-        let statement = self.statement(instance.statement);
-        let point = point_in(&statement.heads, params, instance.turns());
-        stored_on(statement.body, point.as_slice(), reads)
     }
 }

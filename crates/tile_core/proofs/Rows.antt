@@ -9,21 +9,19 @@ use Rattle.scop_syntax.specs.Execution.{IsCell, cell_number, layout}
 use Rattle.scop_syntax.specs.Limits.{WithinLimits}
 use Rattle.scop_syntax.specs.Members.{In}
 use Rattle.scop_syntax.specs.Tree.{Program, Statement}
-use Rattle.scop_syntax.specs.Values.{stored_by, wrapped}
+use Rattle.scop_syntax.specs.Values.{wrapped}
 use Rattle.scop_syntax.specs.View.{instance_of}
 use Rattle.scop_syntax.specs.Walk.{Visit}
 use Rattle.scop_syntax.specs.declared.instance.Instance.{Instance as CodeInstance}
 use Rattle.scop_syntax.proofs.Members.{in_from_place}
 use Rattle.scop_meaning.specs.Instances.{IsVisitOf}
-use Rattle.standings.specs.Standings.{Standing}
-use Rattle.stmt_table.specs.Points.{point_in}
-use Rattle.stmt_table.specs.Tables.{forms_in, standings_in}
+use Rattle.stmt_table.specs.Tables.{forms_in}
 use Rattle.stmt_table.proofs.Visits.{HasRow, WalkLaws, cell_told, row_of}
-use Rattle.tile_events.specs.Flat.{read_by, value_by}
+use Rattle.tile_events.specs.Flat.{read_by}
 use Rattle.tile_core.specs.Plans.{IsPlan, extents_in, places_in, program_in, walk_in}
 use Rattle.tile_core.specs.Plans as plans
 use Rattle.tile_core.specs.declared.plan.Plan.{Plan}
-use Rattle.tile_core.proofs.Touched.{TellsCell, reads_there, there, value_is}
+use Rattle.tile_core.proofs.Touched.{TellsCell, reads_there, there}
 
 -- a visit's row
 abbrev pub Row : Plan → CodeInstance → Visit → Type 0
@@ -36,7 +34,7 @@ AreSmall = (program : Program) (params : List ℤ) (c : Cell) → WithinLimits p
 
 module _ (laws : WalkLaws) (plan : Plan) (i : CodeInstance) (is : IsPlan plan) where
   pub row_at : (v : Visit) → IsVisitOf (program_in plan) plan.params.now (instance_of i) v → Row plan i v
-  row_at v visit = row_of laws (program_in plan) plan.params.now plan.table.now i v is.limits is.table visit
+  row_at v visit = row_of laws (program_in plan) plan.params.now plan.table.now i v is.table visit
 
   -- the row of a walked instance
   pub row_there : In (instance_of i) (places_in plan) → (v : Visit) × Row plan i v
@@ -45,10 +43,6 @@ module _ (laws : WalkLaws) (plan : Plan) (i : CodeInstance) (is : IsPlan plan) w
   -- the table has it
   pub row_within : In (instance_of i) (places_in plan) → i.statement < length (forms_in plan.table.now)
   row_within walked = let r = row_there walked in slice_get_within (forms_in plan.table.now) i.statement r.1.cells r.1.told
-
-  pub standing_within : In (instance_of i) (places_in plan) → i.statement < length (standings_in plan.table.now)
-  standing_within walked =
-      let r = row_there walked in slice_get_within (standings_in plan.table.now) i.statement r.1.own r.1.is
 
   -- there is a form for the place and for each read
   pub forms_counted : In (instance_of i) (places_in plan)
@@ -74,55 +68,3 @@ module _ (laws : WalkLaws) (plan : Plan) (i : CodeInstance) (is : IsPlan plan) w
       cell_told program plan.params.now plan.table.now i v access touched result cell
       (small program plan.params.now (cell_of touched v.point) is.limits cell) (row_at v visit) at told
       ∙ sym (ap (λ (es : List (List ℕ)). cell_number es (cell_of touched v.point)) is.laid)
-
-  -- the statement that the table has for it
-  own_is : (v : Visit) (row : Row plan i v) (s : Standing) → slice_get (standings_in plan.table.now) i.statement ≡ Some s
-      → s ≡ row.own
-  own_is v row s at = let two : Some s ≡ Some row.own = sym at ∙ row.is in one s row.own two
-    where
-      one : (a b : Standing) → Some a ≡ Some b → a ≡ b
-      one a b e = cc
-
-  pub loops_within : In (instance_of i) (places_in plan) → (s : Standing)
-      → slice_get (standings_in plan.table.now) i.statement ≡ Some s → length s.heads ≤ length (instance_of i).turns
-  loops_within walked s at =
-      let r = row_there walked in
-      let same = ap (λ (t : Standing). length t.heads) (own_is r.0 r.1 s at) in
-      let turns = ap (λ (xs : List ℤ). length xs) r.1.turns in
-      let many = r.1.many in
-      omega (arith, same, turns, many)
-
-  pub room_there : In (instance_of i) (places_in plan) → (s : Standing)
-      → slice_get (standings_in plan.table.now) i.statement ≡ Some s → length plan.params.now + length s.heads ≤ 9
-  room_there walked s at =
-      let r = row_there walked in
-      let same = ap (λ (t : Standing). length t.heads) (own_is r.0 r.1 s at) in
-      let few = r.1.few in
-      let params = is.limits.count in
-      let four = is.limits.kernel.few_parameters in
-      omega (arith, same, few, params, four)
-
-  pub reads_within : In (instance_of i) (places_in plan) → (values : List ℕ)
-      → length values ≡ length (read_by (extents_in plan) (slice_get (walk_in plan) (plans.place_of plan i)))
-      → (s : Standing) → slice_get (standings_in plan.table.now) i.statement ≡ Some s
-      → length values ≡ length (reads s.body)
-  reads_within walked values many s at =
-      let t = there plan i walked in
-      let row = row_at t.0 t.1.is in
-      many
-      ∙ (reads_there plan i t.0 (extents_in plan) t.1
-      ∙ sym (ap (λ (u : Standing). length (reads u.body)) (own_is t.0 row s at)
-      ∙ ap (λ (b : Statement). length (reads b)) row.body))
-
-  -- what the table's statement stores is what the visit does
-  pub stores : In (instance_of i) (places_in plan) → (result : ℕ) (values : List ℕ)
-      → ((s : Standing) → slice_get (standings_in plan.table.now) i.statement ≡ Some s
-      → result ≡ stored_by s.body.right (point_in s.heads plan.params.now (instance_of i).turns) values)
-      → result ≡ value_by (slice_get (walk_in plan) (plans.place_of plan i)) values
-  stores walked result values told =
-      value_is plan i result values walked (λ v visit.
-      let row = row_at v visit in
-      told row.own row.is
-      ∙ (ap (λ (xs : List ℤ). stored_by row.own.body.right (point_in row.own.heads plan.params.now xs) values) row.turns
-      ∙ (ap (λ (p : List ℤ). stored_by row.own.body.right p values) row.point
-      ∙ ap (λ (b : Statement). stored_by b.right v.point values) row.body)))

@@ -7,6 +7,7 @@ ghost use Rattle.tile_core.specs.Plans.{IsPlan, place_of, places_in, shape_of};
 
 use crate::plan_laws::plans_are_good;
 use loop_tree::{Tiling, Tree};
+use scop_meaning::instances::value;
 use scop_syntax::arrays::Extents;
 use scop_syntax::instance::Instance;
 use scop_syntax::limit_laws::cells_lie_within_22_bits;
@@ -17,14 +18,14 @@ use scop_syntax::walk_laws::{
 use stmt_table::table::Table;
 use tile_list::{Tile, TileList};
 
-/// A kernel with its parameters and the extents of its arrays, the table of its statements, the tree of a plan of it, and
+/// A kernel with its parameters and the extents of its arrays, the table of its accesses, the tree of a plan of it, and
 /// the tiles of its visits.
 #[derive(Clone, Copy)]
 pub struct Plan<'a> {
     pub kernel: &'a Kernel,
     pub params: &'a [i64],
     pub extents: &'a Extents,
-    pub table: &'a Table<'a>,
+    pub table: &'a Table,
     pub tree: &'a Tree,
     pub tiling: &'a Tiling,
     pub list: &'a TileList,
@@ -130,8 +131,7 @@ impl<'a> Plan<'a> {
         requires reads { length reads.now ≡ length ((shape_of self.now).read (place_of self.now instance.now)) }
         ensures { result ≡ (shape_of self.now).value (place_of self.now instance.now) reads.now }
     {
-        instances_are_those_of_statements();
-        statements_are_numbered();
-        self.table.value(self.params, instance, reads)
+        walks_are_in_order();
+        value(self.kernel, self.params, instance, reads)
     }
 }

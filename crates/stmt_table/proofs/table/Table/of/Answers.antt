@@ -77,7 +77,6 @@ returns c =
     let reached = c.loop-statement.auto.statement-index-end in
     let same = ap (λ (ss : List Standing). length ss) all in
     record {
-      statements = c.in_ok-statements.ensures;
       count = omega (arith, many, rows, count, ended, reached, same);
       forms = λ k s forms at told.
           subst (λ (es : List (List ℕ)). AreForms es params s forms) c.requires.extents

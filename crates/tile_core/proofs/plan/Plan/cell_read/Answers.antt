@@ -2,10 +2,19 @@ use Rattle.std.proofs.Common.{arith, rules, ◌≡◌, ◌+◌, ◌<◌, ◌∙�
 use Rattle.std.specs.Prelude.{slice_get}
 use Rattle.scop_syntax.specs.Cells.{accesses}
 use Rattle.scop_syntax.specs.Execution.{total_cells}
+use Rattle.stmt_table.proofs.Visits.{WalkLaws}
 use Rattle.tile_core.specs.Plans.{extents_in, place_of, program_in}
 use Rattle.tile_core.proofs.Rows.{forms_counted, row_within, tells_cell}
 use Rattle.tile_core.proofs.Touched.{few_reads, in_at, place_within, read_is}
 use Rattle.tile_core.proofs.plan.Plan.cell_read.Goals as goal
+use Rattle.tile_core.proofs.plan.Plan.cell_read.Goals.{After-cells_lie_within_22_bits}
+
+laws : After-cells_lie_within_22_bits → WalkLaws
+laws c = record {
+  found = c.instances_are_those_of_statements.ensures.found;
+  turns = c.instances_are_those_of_statements.ensures.turns;
+  number = c.statements_are_numbered.ensures.number;
+}
 
 pub overflow_add-read : goal.overflow_add-read
 overflow_add-read c =
@@ -19,21 +28,11 @@ overflow_add-read c =
 
 pub cell-requires-clause-statement : goal.cell-requires-clause-statement
 cell-requires-clause-statement c =
-    row_within (record {
-      found = c.instances_are_those_of_statements.ensures.found;
-      turns = c.instances_are_those_of_statements.ensures.turns;
-      number = c.statements_are_numbered.ensures.number;
-      placed = c.statements_are_numbered.ensures.placed;
-    }) c.args.self.now c.args.instance.now c.requires.plan c.requires.walked
+    row_within (laws (goal.at.cell-requires-clause-statement c).After-cells_lie_within_22_bits) c.args.self.now c.args.instance.now c.requires.plan c.requires.walked
 
 pub cell-requires-clause-access : goal.cell-requires-clause-access
 cell-requires-clause-access c =
-    let count = forms_counted (record {
-      found = c.instances_are_those_of_statements.ensures.found;
-      turns = c.instances_are_those_of_statements.ensures.turns;
-      number = c.statements_are_numbered.ensures.number;
-      placed = c.statements_are_numbered.ensures.placed;
-    }) c.args.self.now c.args.instance.now c.requires.plan c.requires.walked in
+    let count = forms_counted (laws (goal.at.cell-requires-clause-access c).After-cells_lie_within_22_bits) c.args.self.now c.args.instance.now c.requires.plan c.requires.walked in
     let less = c.requires.read in
     omega (arith, count, less)
 
@@ -43,12 +42,7 @@ returns-clause-cell c =
     read_is plan c.args.instance.now c.args.read c.cell.result
     (c.walks_are_in_order.ensures.once (program_in plan) plan.params.now)
     c.requires.plan c.requires.walked c.requires.read
-    (λ v touched is at. tells_cell (record {
-      found = c.instances_are_those_of_statements.ensures.found;
-      turns = c.instances_are_those_of_statements.ensures.turns;
-      number = c.statements_are_numbered.ensures.number;
-      placed = c.statements_are_numbered.ensures.placed;
-    }) plan c.args.instance.now c.requires.plan
+    (λ v touched is at. tells_cell (laws (goal.at.returns-clause-cell c).After-cells_lie_within_22_bits) plan c.args.instance.now c.requires.plan
     c.cells_lie_within_22_bits.ensures.numbers (c.args.read + 1) c.cell.result c.cell.ensures v touched is
     (ap (slice_get (accesses v.body)) (let q : c.args.read + 1 ≡ suc c.args.read = omega arith in q) ∙ at))
 
@@ -58,12 +52,7 @@ returns-clause-inside c =
     let is = read_is plan c.args.instance.now c.args.read c.cell.result
     (c.walks_are_in_order.ensures.once (program_in plan) plan.params.now)
     c.requires.plan c.requires.walked c.requires.read
-    (λ v touched is at. tells_cell (record {
-      found = c.instances_are_those_of_statements.ensures.found;
-      turns = c.instances_are_those_of_statements.ensures.turns;
-      number = c.statements_are_numbered.ensures.number;
-      placed = c.statements_are_numbered.ensures.placed;
-    }) plan c.args.instance.now c.requires.plan
+    (λ v touched is at. tells_cell (laws (goal.at.returns-clause-inside c).After-cells_lie_within_22_bits) plan c.args.instance.now c.requires.plan
     c.cells_lie_within_22_bits.ensures.numbers (c.args.read + 1) c.cell.result c.cell.ensures v touched is
     (ap (slice_get (accesses v.body)) (let q : c.args.read + 1 ≡ suc c.args.read = omega arith in q) ∙ at)) in
     subst (λ n. n < total_cells (extents_in plan)) (sym is)

@@ -1,49 +1,16 @@
-use Rattle.tile_core.proofs.Rows.{loops_within, reads_within, room_there, standing_within, stores}
+use Rattle.std.proofs.Common.{◌∙◌, sym}
+use Rattle.tile_core.specs.Plans.{extents_in, program_in}
+use Rattle.tile_core.proofs.Touched.{many_reads, value_is}
 use Rattle.tile_core.proofs.plan.Plan.value.Goals as goal
 
-pub value-requires-clause-statement : goal.value-requires-clause-statement
-value-requires-clause-statement c =
-    standing_within (record {
-      found = c.instances_are_those_of_statements.ensures.found;
-      turns = c.instances_are_those_of_statements.ensures.turns;
-      number = c.statements_are_numbered.ensures.number;
-      placed = c.statements_are_numbered.ensures.placed;
-    }) c.args.self.now c.args.instance.now c.requires.plan c.requires.walked
-
-pub value-requires-clause-loops : goal.value-requires-clause-loops
-value-requires-clause-loops c =
-    loops_within (record {
-      found = c.instances_are_those_of_statements.ensures.found;
-      turns = c.instances_are_those_of_statements.ensures.turns;
-      number = c.statements_are_numbered.ensures.number;
-      placed = c.statements_are_numbered.ensures.placed;
-    }) c.args.self.now c.args.instance.now c.requires.plan c.requires.walked
-
-pub value-requires-clause-room : goal.value-requires-clause-room
-value-requires-clause-room c =
-    room_there (record {
-      found = c.instances_are_those_of_statements.ensures.found;
-      turns = c.instances_are_those_of_statements.ensures.turns;
-      number = c.statements_are_numbered.ensures.number;
-      placed = c.statements_are_numbered.ensures.placed;
-    }) c.args.self.now c.args.instance.now c.requires.plan c.requires.walked
-
 pub value-requires-clause-reads : goal.value-requires-clause-reads
-value-requires-clause-reads c =
-    reads_within (record {
-      found = c.instances_are_those_of_statements.ensures.found;
-      turns = c.instances_are_those_of_statements.ensures.turns;
-      number = c.statements_are_numbered.ensures.number;
-      placed = c.statements_are_numbered.ensures.placed;
-    }) c.args.self.now c.args.instance.now c.requires.plan c.requires.walked c.args.reads.now
+value-requires-clause-reads c = λ v is.
+    let plan = c.args.self.now in
     c.requires.reads
+    ∙ sym (many_reads plan c.args.instance.now (extents_in plan)
+    (c.walks_are_in_order.ensures.once (program_in plan) plan.params.now) c.requires.walked v is)
 
 pub returns : goal.returns
 returns c =
-    stores (record {
-      found = c.instances_are_those_of_statements.ensures.found;
-      turns = c.instances_are_those_of_statements.ensures.turns;
-      number = c.statements_are_numbered.ensures.number;
-      placed = c.statements_are_numbered.ensures.placed;
-    }) c.args.self.now c.args.instance.now c.requires.plan c.requires.walked c.value.result c.args.reads.now
-    c.value.ensures
+    value_is c.args.self.now c.args.instance.now c.value.result c.args.reads.now c.requires.walked
+    (λ v is. c.value.ensures v is)
