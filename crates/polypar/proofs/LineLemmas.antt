@@ -4,7 +4,6 @@ use Rattle.io_ports.specs.Writes.{SinkShows}
 use Rattle.report_text.specs.declared.status.Status.{Status}
 use Rattle.report_text.specs.declared.status.Status.TheVariants.{Done, Usage, Refused, BadData, Outside, ReadFault}
 use Rattle.report_text.specs.declared.status.Status.TheVariants.{WriteFault, NoMemory}
-use Rattle.command_line.specs.declared.command.Command.{Command}
 use Rattle.command_line.specs.declared.command.Command.TheVariants.{OfKernel}
 use Rattle.command_line.specs.declared.command.KernelCommand.TheVariants.{Schedule, Deps}
 use Rattle.command_line.specs.Command.{command_of}

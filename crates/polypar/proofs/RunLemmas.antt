@@ -1,5 +1,5 @@
 -- From what a status says of a kernel's data to what it says of the whole input.
-use Rattle.std.proofs.Common.{◌≡◌, sym, subst, refl, inl, inr, ℕ, ◌^◌, ◌<◌, ℤ, List, length, Option, None, Some}
+use Rattle.std.proofs.Common.{◌≡◌, subst, refl, inl, inr, ℕ, ◌^◌, ◌<◌, ℤ, List, length, Option, None, Some}
 use Rattle.std.specs.Option.{option_map}
 use Rattle.io_ports.specs.Writes.{SinkShows}
 use Rattle.scop_syntax.specs.Failures.{Failure}
@@ -22,7 +22,7 @@ use Rattle.polypar.specs.Told.{Told, IsHeld}
 use Rattle.polypar.specs.Runs.{IsSummaryText}
 use Rattle.polypar.specs.Deserves.{too_long, AsksFor}
 use Rattle.polypar.specs.Answers.{AnswersCase, AnswersData, AnswersProgram, AnswersTold, AnswersKernel, AnswersFor}
-use Rattle.polypar.specs.Answers.{AreUntouched, AsksData, AsksRun, ReadsKernel}
+use Rattle.polypar.specs.Answers.{AreUntouched, AsksData, ReadsKernel}
 
 -- the answer to a case that the data says is the answer to the data
 pub data_answers : (options : RunOptions) (status : Status) (program : Program) (text : List ℕ)

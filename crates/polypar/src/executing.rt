@@ -27,11 +27,7 @@ pub(crate) struct Ran {
 }
 
 /// The plan of a kernel by these options, with its lines.
-fn plan_by(
-    alloc: Global,
-    kernel: &Kernel,
-    options: RunOptions,
-) -> Result<Planned, AllocError>
+fn plan_by(alloc: Global, kernel: &Kernel, options: RunOptions) -> Result<Planned, AllocError>
     requires kernel { IsKernel (program_of kernel.now) }
     requires options { AreSized options }
     ensures { IfOk result (IsPlanned options.tile options.budget options.report (program_of kernel.now)) }

@@ -73,7 +73,11 @@ fn print_text<O: Sink>(text: &[u8], out: &mut O) -> Result<(), Failed>
 }
 
 /// Writes what is told: the lines to `err`, and then the text to `out`, which is flushed.
-pub(crate) fn print_told<O: Sink, E: Sink>(told: &Told, out: &mut O, err: &mut E) -> Result<(), Failed>
+pub(crate) fn print_told<O: Sink, E: Sink>(
+    told: &Told,
+    out: &mut O,
+    err: &mut E,
+) -> Result<(), Failed>
     ensures { MatchResult result
         (λ _. WritesTold (told_of told.now) (O.shows out.old) (O.shows out.new) (E.shows err.old) (E.shows err.new))
         (λ _. CutsTold (told_of told.now) (O.shows out.old) (O.shows out.new) (E.shows err.old) (E.shows err.new)) }
