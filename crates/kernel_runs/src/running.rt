@@ -59,7 +59,7 @@ fn tiles_of(
 fn plan_of<'a>(
     kernel: &'a Kernel,
     case: &'a Case,
-    table: &'a Table<'a>,
+    table: &'a Table,
     tree: &'a Tree,
     tiling: &'a Tiling,
     list: &'a TileList,
