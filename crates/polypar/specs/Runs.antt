@@ -1,6 +1,6 @@
 -- What `run` and `gen` tell of a run: the arrays, or how many cells they have and their sum; and on lines why the order
 -- is kept, if it is, and the report, where one is asked for.
-use Rattle.std.specs.Prelude.{◌≡◌, ℕ, ◌++◌, ℤ, List, [], if◌then◌else◌}
+use Rattle.std.specs.Prelude.{◌≡◌, ℕ, ◌++◌, ℤ, false, List, [], if◌then◌else◌}
 use Rattle.scop_syntax.specs.Execution.{exec}
 use Rattle.scop_syntax.specs.Tree.{Program}
 use Rattle.loop_tree.specs.Plans.{walked}
@@ -44,9 +44,11 @@ pub record IsRunText (options : RunOptions) (program : Program) (params : List �
 abbrev pub left_by : GeneratedKernel → List (List ℕ)
 left_by g = exec (program g.kind g.seed) (params g.kind g.size) (contents g.kind g.seed g.size)
 
--- of `gen`: how many tiles and waves the plan has, how many cells the arrays have and their sum in the end
+-- of `gen`, which makes no report: how many tiles and waves the plan has, how many cells the arrays have and their sum
+-- in the end
 pub record IsSummaryText (g : GeneratedKernel) (options : RunOptions) (told : Told) : Type 0 where
   pub tiles : ℕ
   pub waves : ℕ
-  pub planned : IsPlanTold options (program g.kind g.seed) (params g.kind g.size) tiles waves told.lines
+  pub planned : IsPlanTold (record options { report = false }) (program g.kind g.seed) (params g.kind g.size) tiles
+      waves told.lines
   pub text : told.text ≡ summary_text g.kind g.seed g.size tiles waves (cells_in (left_by g)) (sum_of (left_by g))

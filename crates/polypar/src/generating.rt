@@ -30,7 +30,11 @@ fn summary_told<W: Workers>(
 {
     let GeneratedKernel { kind, seed, size } = kernel;
     let (made, mut case) = generated(alloc, kind, seed, size)?;
-    let ran = run_planned(by, alloc, &made, &mut case, options)?;
+    let quiet = RunOptions {
+        report: false,
+        ..options
+    };
+    let ran = run_planned(by, alloc, &made, &mut case, quiet)?;
     let cells = cells_in(&case);
     let sum = sum_of(&case.arrays);
     let counts = ran.counts;
