@@ -78,7 +78,6 @@ fn plan_of<'a>(
     Plan {
         kernel,
         params: &case.params,
-        extents: &case.extents,
         table,
         tree,
         tiling,

@@ -167,7 +167,6 @@ pub fn plan_of<'a>(made: &'a Made, table: &'a Table) -> Plan<'a>
     Plan {
         kernel: &made.kernel,
         params: &made.case.params,
-        extents: &made.case.extents,
         table,
         tree: &made.tree,
         tiling: &made.tiling,

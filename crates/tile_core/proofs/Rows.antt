@@ -67,4 +67,3 @@ module _ (laws : WalkLaws) (plan : Plan) (i : CodeInstance) (is : IsPlan plan) w
       let cell = is.inside v visit.walked touched (in_from_place (accesses v.body) access touched at) in
       cell_told program plan.params.now plan.table.now i v access touched result cell
       (small program plan.params.now (cell_of touched v.point) is.limits cell) (row_at v visit) at told
-      ∙ sym (ap (λ (es : List (List ℕ)). cell_number es (cell_of touched v.point)) is.laid)

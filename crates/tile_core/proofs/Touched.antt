@@ -114,7 +114,7 @@ abbrev pub TellsCell : Plan → CodeInstance → ℕ → ℕ → Type 0
 TellsCell plan i access result =
     (v : Visit) (touched : Access) → IsVisitOf (program_in plan) plan.params.now (instance_of i) v
     → slice_get (accesses v.body) access ≡ Some touched
-    → result ≡ cell_number plan.extents.now (cell_of touched v.point)
+    → result ≡ cell_number (extents_in plan) (cell_of touched v.point)
 
 pub written_is : (plan : Plan) (i : CodeInstance) (result : ℕ) → IsPlan plan → In (instance_of i) (places_in plan)
     → TellsCell plan i 0 result
@@ -122,9 +122,7 @@ pub written_is : (plan : Plan) (i : CodeInstance) (result : ℕ) → IsPlan plan
 written_is plan i result is walked tells =
     let t = there plan i walked in
     let v = t.0 in
-    tells v v.body.place t.1.is refl
-    ∙ (ap (λ es. cell_number es (cell_of v.body.place v.point)) is.laid ∙ sym
-    (ap (written_by (extents_in plan)) t.1.at))
+    tells v v.body.place t.1.is refl ∙ sym (ap (written_by (extents_in plan)) t.1.at)
 
 mapped : {A B : Type 0} (f : B → ℕ) (g : A → B) (xs : List A) (i : ℕ) (x : A) → slice_get xs i ≡ Some x
     → get_or (map f (map g xs)) i 0 ≡ f (g x)
@@ -145,9 +143,8 @@ read_is plan i read result once is walked less tells =
     let n = many_reads plan i extents once walked v t.1.is in
     let touched = there_is (reads v.body) read (omega (arith, less, n)) in
     tells v touched.0 t.1.is touched.1
-    ∙ (ap (λ es. cell_number es (cell_of touched.0 v.point)) is.laid
     ∙ (sym (mapped (cell_number extents) (λ access. cell_of access v.point) (reads v.body) read touched.0 touched.1)
-    ∙ sym (ap (λ o. get_or (read_by extents o) read 0) t.1.at)))
+    ∙ sym (ap (λ o. get_or (read_by extents o) read 0) t.1.at))
 
 pub value_is : (plan : Plan) (i : CodeInstance) (result : ℕ) (values : List ℕ) → In (instance_of i) (places_in plan)
     → ((v : Visit) → IsVisitOf (program_in plan) plan.params.now (instance_of i) v → result ≡ value_by (Some v) values)

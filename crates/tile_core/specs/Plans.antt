@@ -77,7 +77,6 @@ shape_of plan = plan_of plan []
 pub record IsPlan (plan : Plan) : Type 0 where
   pub limits : WithinLimits (program_in plan) plan.params.now
   pub inside : IsInside (program_in plan) plan.params.now
-  pub laid : plan.extents.now ≡ extents_in plan
   pub table : IsTableOf (program_in plan) plan.params.now plan.table.now
   pub walk : CanWalk (trees_in plan.tree.now) plan.params.now []
   pub order : AreInOrder (program_in plan) plan.params.now (tiling_of plan.tiling.now) (scan_in plan)

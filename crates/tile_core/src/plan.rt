@@ -8,7 +8,6 @@ ghost use Rattle.tile_core.specs.Plans.{IsPlan, place_of, places_in, shape_of};
 use crate::plan_laws::plans_are_good;
 use loop_tree::{Tiling, Tree};
 use scop_meaning::instances::value;
-use scop_syntax::arrays::Extents;
 use scop_syntax::instance::Instance;
 use scop_syntax::limit_laws::cells_lie_within_22_bits;
 use scop_syntax::tree::Kernel;
@@ -18,13 +17,11 @@ use scop_syntax::walk_laws::{
 use stmt_table::table::Table;
 use tile_list::{Tile, TileList};
 
-/// A kernel with its parameters and the extents of its arrays, the table of its accesses, the tree of a plan of it, and
-/// the tiles of its visits.
+/// A kernel with its parameters, the table of its accesses, the tree of a plan of it, and the tiles of its visits.
 #[derive(Clone, Copy)]
 pub struct Plan<'a> {
     pub kernel: &'a Kernel,
     pub params: &'a [i64],
-    pub extents: &'a Extents,
     pub table: &'a Table,
     pub tree: &'a Tree,
     pub tiling: &'a Tiling,

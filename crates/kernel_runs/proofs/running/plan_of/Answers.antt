@@ -25,7 +25,6 @@ returns-clause-plan c =
     record {
       limits = subst (λ (ps : List ℤ). WithinLimits program ps) same c.requires.limits;
       inside = subst (λ (ps : List ℤ). IsInside program ps) same c.requires.inside;
-      laid = subst (λ (ps : List ℤ). c.args.case.now.extents ≡ layout program ps) same c.requires.laid;
       table = subst (λ (ps : List ℤ). IsTableOf program ps c.args.table.now) same c.requires.table;
       walk = subst (λ (ps : List ℤ). CanWalk ts ps []) same walk;
       order = subst (λ (ps : List ℤ). AreInOrder program ps tiling (visits ts ps)) same carried.exact;
