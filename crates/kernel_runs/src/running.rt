@@ -80,7 +80,6 @@ fn plan_of<'a>(
         params: &case.params,
         table,
         tree,
-        tiling,
         list,
     }
 }

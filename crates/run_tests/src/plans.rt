@@ -169,7 +169,6 @@ pub fn plan_of<'a>(made: &'a Made, table: &'a Table) -> Plan<'a>
         params: &made.case.params,
         table,
         tree: &made.tree,
-        tiling: &made.tiling,
         list: &made.list,
     }
 }

@@ -12,7 +12,6 @@ use Rattle.scop_syntax.specs.Tree.{Program}
 use Rattle.scop_syntax.specs.View.{instance_of}
 use Rattle.scop_syntax.specs.Walk.{Instance, Visit, instance}
 use Rattle.scop_syntax.proofs.Members.{in_from_place, in_map_from}
-use Rattle.loop_tree.specs.TilingView.{tiling_of}
 use Rattle.tile_list.specs.TilesView.{firsts_of, waves_of}
 use Rattle.tile_list.specs.declared.list.Tile.{Tile}
 use Rattle.tile_events.specs.Deal.{Deal, IsScan, dealt}
@@ -87,11 +86,11 @@ module _ (laws : PlanLaws) (plan : Plan) (is : IsPlan plan) where
   deal = deal_of plan
 
   -- the scan, cut into the tiles of the list
-  list_cut : IsCut (tiling_of plan.tiling.now) (scan_in plan) deal.tiles deal.start deal.wave
+  list_cut : IsCut is.tiling (scan_in plan) deal.tiles deal.start deal.wave
   list_cut =
       let list = is.tiles in
       let tiles = plan.list.now.tiles.items in
-      let tiling = tiling_of plan.tiling.now in
+      let tiling = is.tiling in
       let heads : (t : ℕ) (p : List Instance) → slice_get list.parts t ≡ Some p
       → (x : Instance) × (slice_get p 0 ≡ Some x) × (slice_get (firsts_of tiles) t ≡ Some x) =
       λ t p at.
@@ -117,14 +116,14 @@ module _ (laws : PlanLaws) (plan : Plan) (is : IsPlan plan) where
 
   -- the tree visits as many instances as there are places
   pub count_is : length (scan_in plan) ≡ length (walk_in plan)
-  count_is = as_many (program_in plan) plan.params.now (tiling_of plan.tiling.now) (scan_in plan) once is.order
+  count_is = as_many (program_in plan) plan.params.now is.tiling (scan_in plan) once is.order
 
   -- each place of the walk stands once in the scan
   pub scan_is : IsScan deal
   scan_is =
       let program = program_in plan in
       let params = plan.params.now in
-      let tiling = tiling_of plan.tiling.now in
+      let tiling = is.tiling in
       let cut = list_cut in record {
         rank = rank_within program params tiling (scan_in plan) once is.order;
         at = place_within program params tiling (scan_in plan) once is.order;
@@ -185,7 +184,7 @@ module _ (laws : PlanLaws) (plan : Plan) (is : IsPlan plan) where
   good_is cells =
       let program = program_in plan in
       let params = plan.params.now in
-      let tiling = tiling_of plan.tiling.now in
+      let tiling = is.tiling in
       let xs = scan_in plan in record {
         ordered = λ i j less within touch.
             let early : i < length (walk_in plan) = omega (arith, less, within) in

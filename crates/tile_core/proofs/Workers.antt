@@ -11,7 +11,6 @@ use Rattle.scop_syntax.specs.declared.instance.Instance.{Instance as CodeInstanc
 use Rattle.scop_syntax.proofs.Members.{in_from_place}
 use Rattle.loop_tree.specs.Spot.{IsAt, Mark}
 use Rattle.loop_tree.specs.SpotView.{IsSpotOf, found_in, mark_of, marks_in, to_come}
-use Rattle.loop_tree.specs.TilingView.{tiling_of}
 use Rattle.loop_tree.specs.Spot.{rest_of}
 use Rattle.loop_tree.specs.Tree.{Trees}
 use Rattle.loop_tree.specs.View.{trees_in}
@@ -82,7 +81,7 @@ pub first_is : PartsStand → (plan : Plan) (t : ℕ) (tile : Tile) (spot : Spot
 first_is stand plan t tile spot is at set =
     let list = is.tiles in
     let tiles = plan.list.now.tiles.items in
-    let tiling = tiling_of plan.tiling.now in
+    let tiling = is.tiling in
     let one = list.tiles t tile at in
     let sizes = sizes_agree tiles list.parts list.count (λ u x e. (list.tiles u x e).size) in
     let start : (deal_of plan).start t + 0 ≡ start_of list.parts t + 0 =
@@ -149,7 +148,7 @@ due_is plan stage t k None spot is scan many works less left n =
     differ : (y : Instance) (o : Option Instance) → None ≡ o → o ≡ Some y → ⊥
     differ y o e f = cc
 due_is plan stage t k (Some i) spot is scan many works less left n =
-    let tiling = tiling_of plan.tiling.now in
+    let tiling = is.tiling in
     let same = scan_same (program_in plan) plan.params.now tiling (scan_in plan) is.order (instance_of i) in record {
       tile = t;
       count = k;

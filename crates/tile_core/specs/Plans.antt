@@ -8,8 +8,7 @@ use Rattle.scop_syntax.specs.Walk.{Instance, Visit, walk_of}
 use Rattle.scop_syntax.specs.declared.instance.Instance.{Instance as CodeInstance}
 use Rattle.loop_tree.specs.Conditions.{CanWalk}
 use Rattle.loop_tree.specs.Plans.{AreInOrder, walked}
-use Rattle.loop_tree.specs.Tiling.{IsGoodPlan}
-use Rattle.loop_tree.specs.TilingView.{tiling_of}
+use Rattle.loop_tree.specs.Tiling.{IsGoodPlan, Tiling}
 use Rattle.loop_tree.specs.View.{trees_in}
 use Rattle.loop_tree.specs.Walk.{visits}
 use Rattle.stmt_table.specs.Tables.{IsTableOf}
@@ -75,10 +74,11 @@ shape_of plan = plan_of plan []
 -- a kernel within the limits, whose subscripts are inside; the table of its accesses; a tree that visits each walked
 -- instance once, in the order of a good plan; and the tiles of its visits
 pub record IsPlan (plan : Plan) : Type 0 where
+  pub tiling : Tiling
   pub limits : WithinLimits (program_in plan) plan.params.now
   pub inside : IsInside (program_in plan) plan.params.now
   pub table : IsTableOf (program_in plan) plan.params.now plan.table.now
   pub walk : CanWalk (trees_in plan.tree.now) plan.params.now []
-  pub order : AreInOrder (program_in plan) plan.params.now (tiling_of plan.tiling.now) (scan_in plan)
-  pub good : IsGoodPlan (program_in plan) plan.params.now (tiling_of plan.tiling.now)
-  pub tiles : IsTileListOf (trees_in plan.tree.now) plan.params.now (tiling_of plan.tiling.now) plan.list.now
+  pub order : AreInOrder (program_in plan) plan.params.now tiling (scan_in plan)
+  pub good : IsGoodPlan (program_in plan) plan.params.now tiling
+  pub tiles : IsTileListOf (trees_in plan.tree.now) plan.params.now tiling plan.list.now

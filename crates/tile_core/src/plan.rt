@@ -6,7 +6,7 @@ ghost use Rattle.scop_syntax.specs.View.{instance_of};
 ghost use Rattle.tile_core.specs.Plans.{IsPlan, place_of, places_in, shape_of};
 
 use crate::plan_laws::plans_are_good;
-use loop_tree::{Tiling, Tree};
+use loop_tree::Tree;
 use scop_meaning::instances::value;
 use scop_syntax::instance::Instance;
 use scop_syntax::limit_laws::cells_lie_within_22_bits;
@@ -24,7 +24,6 @@ pub struct Plan<'a> {
     pub params: &'a [i64],
     pub table: &'a Table,
     pub tree: &'a Tree,
-    pub tiling: &'a Tiling,
     pub list: &'a TileList,
 }
 

@@ -23,6 +23,7 @@ returns-clause-plan c =
     let carried = c.requires.trees.carry_out params has in
     let walk = c.trees_of_plans_can_be_walked.ensures program params tiling ts c.requires.trees has in
     record {
+      tiling = tiling;
       limits = subst (λ (ps : List ℤ). WithinLimits program ps) same c.requires.limits;
       inside = subst (λ (ps : List ℤ). IsInside program ps) same c.requires.inside;
       table = subst (λ (ps : List ℤ). IsTableOf program ps c.args.table.now) same c.requires.table;

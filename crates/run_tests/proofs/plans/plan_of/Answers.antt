@@ -23,6 +23,7 @@ returns-clause-plan c =
     let carried = c.requires.made.trees.carry_out made.case.params.items has in
     let walk = c.trees_of_plans_can_be_walked.ensures program made.case.params.items tiling ts c.requires.made.trees has in
     record {
+      tiling = tiling;
       limits = subst (λ (ps : List ℤ). WithinLimits program ps) same c.requires.made.case.limits;
       inside = subst (λ (ps : List ℤ). IsInside program ps) same c.requires.made.case.inside;
       table = subst (λ (ps : List ℤ). IsTableOf program ps c.args.table.now) same c.requires.table;
