@@ -29,7 +29,6 @@ use Rattle.kernel_plans.specs.Planned.{IsCauseOfKept, IsPlanned}
 use Rattle.kernel_plans.specs.Planning.{IsSearched, line_of, line_of_kept}
 use Rattle.kernel_plans.specs.steps.Plans.{IsKeptPlan, IsTiledPlan}
 
-
 -- at what the trees of a schedule's tiles visit, the values of the rows of the first band have 64 bits
 abbrev pub RowsFitAlong : Type 0
 RowsFitAlong = (program : Program) (params : List ℤ) (size : ℕ) (s : Scheduled) (run : IsScheduled s) (ts : Trees)

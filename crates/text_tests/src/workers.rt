@@ -142,13 +142,23 @@ fn call_on<G: Gate>(
     let mut source = MemSource::of(rt.alloc(), input, 4096, &[])?;
     let mut out = MemSink::of(rt.alloc(), 4096, 4096, &[])?;
     let mut err = MemSink::of(rt.alloc(), 4096, 4096, &[])?;
-    let status = polypar(rt, rt.alloc(), &words, &mut source, &mut out, &mut err, gate);
+    let status = polypar(
+        rt,
+        rt.alloc(),
+        &words,
+        &mut source,
+        &mut out,
+        &mut err,
+        gate,
+    );
     Ok(Answer { status, out, err })
 }
 
 /// Whether a call was done, and printed these arrays and these lines.
 fn is_answer(answer: Answer, out: &[u8], err: &[u8]) -> bool {
-    let is = answer.status == Status::Done && answer.out.taken() == out && answer.err.taken() == err;
+    let is = answer.status == Status::Done
+        && answer.out.taken() == out
+        && answer.err.taken() == err;
     drop(answer);
     is
 }
@@ -188,7 +198,14 @@ fn is_reported(rt: &HostRuntime, run: &Reported, workers: &str) -> Result<bool, 
     let mut input = String::from_str(rt.alloc(), run.kernel)?;
     input.push_str(run.data)?;
     let words = [
-        "polypar", "run", "--report", "--tile", run.tile, "--budget", run.budget, "--workers",
+        "polypar",
+        "run",
+        "--report",
+        "--tile",
+        run.tile,
+        "--budget",
+        run.budget,
+        "--workers",
         workers,
     ];
     let answer = call_on(rt, &words, input.as_bytes(), &OpenGate)?;
@@ -386,7 +403,15 @@ fn is_summary(rt: &HostRuntime, case: &Generated, workers: &str) -> Result<bool,
     }
     let [command, kind, seed, size] = case.words;
     let words = [
-        "polypar", command, kind, seed, size, "--tile", case.tile, "--workers", workers,
+        "polypar",
+        command,
+        kind,
+        seed,
+        size,
+        "--tile",
+        case.tile,
+        "--workers",
+        workers,
     ];
     let answer = call_on(rt, &words, b"", &OpenGate)?;
     let wanted = summary_of(rt.alloc(), case)?;
