@@ -395,7 +395,7 @@ fn refuses_other_words(rt: HostRuntime) -> Result<(), Fail> {
     for words in cases {
         let source = MemSource::of(rt.alloc(), b"left", 4, &[])?;
         let out = MemSink::of(rt.alloc(), 9, 9, &[])?;
-        let answer = call(&rt, words, source, out)?;
+        let answer = call(&rt, rt.alloc(), words, source, out)?;
         assert_eq!(rt; answer.status, Status::Usage);
         assert_eq!(rt; answer.out.taken(), b"".as_slice());
         assert_eq!(rt; answer.err.taken(), USAGE.as_bytes());

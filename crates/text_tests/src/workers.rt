@@ -193,7 +193,7 @@ fn is_reported<R: Threads + Wait + Sync>(
     rt: &R,
     alloc: Global,
     run: &Reported,
-    workers: &str,
+    workers: &'static str,
 ) -> Result<bool, AllocError> {
     let mut input = String::from_str(alloc, run.kernel)?;
     input.push_str(run.data)?;
@@ -401,7 +401,7 @@ fn is_summary<R: Threads + Wait + Sync>(
     rt: &R,
     alloc: Global,
     case: &Generated,
-    workers: &str,
+    workers: &'static str,
 ) -> Result<bool, AllocError> {
     if case.size < 1 || 512 < case.size {
         return Ok(false);
