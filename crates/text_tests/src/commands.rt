@@ -3,7 +3,9 @@
 use io_ports::{MemSink, MemSource, OpenGate};
 use polypar::{Status, command_in_memory, polypar};
 use std::alloc::{AllocError, Global};
+use std::sync::Wait;
 use std::test::Fail;
+use std::thread::Threads;
 
 const COPY: &str =
     "void copy(int64_t N, uint64_t A[N], uint64_t B[N]) { for (int64_t i = 0; i < N; i++) B[i] = A[i]; }\n";
@@ -305,18 +307,19 @@ pub fn words_of(alloc: Global, words: &[&str]) -> Result<Vec<String>, AllocError
 }
 
 /// Calls `polypar` on these ports and an error stream of which these calls fail.
-fn call_with(
-    rt: &HostRuntime,
+fn call_with<R: Threads + Wait + Sync>(
+    rt: &R,
+    alloc: Global,
     words: &[&str],
     mut source: MemSource,
     mut out: MemSink,
     err_fails: &[u64],
 ) -> Result<Answer, AllocError> {
-    let words = words_of(rt.alloc(), words)?;
-    let mut err = MemSink::of(rt.alloc(), 200, 200, err_fails)?;
+    let words = words_of(alloc, words)?;
+    let mut err = MemSink::of(alloc, 200, 200, err_fails)?;
     let status = polypar(
         rt,
-        rt.alloc(),
+        alloc,
         &words,
         &mut source,
         &mut out,
@@ -327,13 +330,14 @@ fn call_with(
 }
 
 /// Calls `polypar` on these ports and an error stream that never fails.
-fn call(
-    rt: &HostRuntime,
+fn call<R: Threads + Wait + Sync>(
+    rt: &R,
+    alloc: Global,
     words: &[&str],
     source: MemSource,
     out: MemSink,
 ) -> Result<Answer, AllocError> {
-    call_with(rt, words, source, out, &[])
+    call_with(rt, alloc, words, source, out, &[])
 }
 
 /// The copy kernel and data behind it.
@@ -404,14 +408,14 @@ fn tells_a_source_and_a_sink_that_fail(rt: HostRuntime) -> Result<(), Fail> {
     let input = with_data(rt.alloc(), "%%\nN = 4\nA = 1 2 3 4\n")?;
     let broken = MemSource::of(rt.alloc(), input.as_bytes(), 8, &[2])?;
     let out = MemSink::of(rt.alloc(), 99, 99, &[])?;
-    let read = call(&rt, &["polypar", "run"], broken, out)?;
+    let read = call(&rt, rt.alloc(), &["polypar", "run"], broken, out)?;
     assert_eq!(rt; read.status.exit_code(), 5);
     assert_eq!(rt; read.out.taken(), b"".as_slice());
     assert_eq!(rt; read.err.taken(), b"read fault\n".as_slice());
 
     let source = MemSource::of(rt.alloc(), input.as_bytes(), 8, &[])?;
     let full = MemSink::of(rt.alloc(), 7, 7, &[])?;
-    let written = call(&rt, &["polypar", "run"], source, full)?;
+    let written = call(&rt, rt.alloc(), &["polypar", "run"], source, full)?;
     assert_eq!(rt; written.status.exit_code(), 6);
     assert_eq!(rt; written.out.taken(), b"A = 1 2".as_slice());
     assert_eq!(rt; written.err.taken(), b"write fault\n".as_slice());
@@ -423,7 +427,7 @@ fn refuses_an_input_that_is_too_long(rt: HostRuntime) -> Result<(), Fail> {
     let spaces = vec![in rt.alloc(); b' '; 134_217_729]?;
     let source = MemSource::of(rt.alloc(), &spaces, 65536, &[])?;
     let out = MemSink::of(rt.alloc(), 9, 9, &[])?;
-    let answer = call(&rt, &["polypar", "run"], source, out)?;
+    let answer = call(&rt, rt.alloc(), &["polypar", "run"], source, out)?;
     assert_eq!(rt; answer.status.exit_code(), 2);
     assert_eq!(rt; answer.err.taken(), b"refused: TooLong 1:1\n".as_slice());
     Ok(())
@@ -434,7 +438,7 @@ fn tells_a_flush_that_fails(rt: HostRuntime) -> Result<(), Fail> {
     let input = with_data(rt.alloc(), "%%\nN = 1\nA = 5\n")?;
     let source = MemSource::of(rt.alloc(), input.as_bytes(), 99, &[])?;
     let out = MemSink::of(rt.alloc(), 99, 99, &[2])?;
-    let answer = call(&rt, &["polypar", "run"], source, out)?;
+    let answer = call(&rt, rt.alloc(), &["polypar", "run"], source, out)?;
     assert_eq!(rt; answer.status.exit_code(), 6);
     assert_eq!(rt; answer.out.taken(), b"A = 5\nB = 5\n".as_slice());
     assert_eq!(rt; answer.err.taken(), b"write fault\n".as_slice());
@@ -446,7 +450,7 @@ fn tells_an_error_stream_that_cannot_be_flushed(rt: HostRuntime) -> Result<(), F
     let input = with_data(rt.alloc(), "%%\nN = 1\nA = 5\n")?;
     let source = MemSource::of(rt.alloc(), input.as_bytes(), 99, &[])?;
     let out = MemSink::of(rt.alloc(), 99, 99, &[])?;
-    let answer = call_with(&rt, &["polypar", "run"], source, out, &[1])?;
+    let answer = call_with(&rt, rt.alloc(), &["polypar", "run"], source, out, &[1])?;
     assert_eq!(rt; answer.status.exit_code(), 6);
     assert_eq!(rt; answer.out.taken(), b"A = 5\nB = 5\n".as_slice());
     assert_eq!(rt; answer.err.taken(), b"write fault\n".as_slice());
@@ -457,7 +461,7 @@ fn tells_an_error_stream_that_cannot_be_flushed(rt: HostRuntime) -> Result<(), F
 fn keeps_the_status_whose_line_cannot_be_flushed(rt: HostRuntime) -> Result<(), Fail> {
     let source = MemSource::of(rt.alloc(), b"left", 4, &[])?;
     let out = MemSink::of(rt.alloc(), 9, 9, &[])?;
-    let answer = call_with(&rt, &["polypar"], source, out, &[2])?;
+    let answer = call_with(&rt, rt.alloc(), &["polypar"], source, out, &[2])?;
     assert_eq!(rt; answer.status, Status::Usage);
     assert_eq!(rt; answer.err.taken(), USAGE.as_bytes());
     assert_eq!(rt; answer.err.faults(), 1);

@@ -9,8 +9,10 @@ use kernel_gen::{Kind, cells_in, generated, sum_of, summary};
 use polypar::{Status, polypar};
 use scop_meaning::interpreter::run_plain;
 use std::alloc::{AllocError, Global};
+use std::sync::Wait;
 use std::sync::atomic::{AtomicBool, AtomicU64, Ordering};
 use std::test::Fail;
+use std::thread::Threads;
 
 /// How many workers run each case.
 const WORKERS: &[&str] = &["1", "2", "64"];
@@ -132,25 +134,18 @@ const REPORTED: &[Reported] = &[
 ];
 
 /// Calls `polypar` with these words on an input, with this gate.
-fn call_on<G: Gate>(
-    rt: &HostRuntime,
+fn call_on<R: Threads + Wait + Sync, G: Gate>(
+    rt: &R,
+    alloc: Global,
     words: &[&str],
     input: &[u8],
     gate: &G,
 ) -> Result<Answer, AllocError> {
-    let words = words_of(rt.alloc(), words)?;
-    let mut source = MemSource::of(rt.alloc(), input, 4096, &[])?;
-    let mut out = MemSink::of(rt.alloc(), 4096, 4096, &[])?;
-    let mut err = MemSink::of(rt.alloc(), 4096, 4096, &[])?;
-    let status = polypar(
-        rt,
-        rt.alloc(),
-        &words,
-        &mut source,
-        &mut out,
-        &mut err,
-        gate,
-    );
+    let words = words_of(alloc, words)?;
+    let mut source = MemSource::of(alloc, input, 4096, &[])?;
+    let mut out = MemSink::of(alloc, 4096, 4096, &[])?;
+    let mut err = MemSink::of(alloc, 4096, 4096, &[])?;
+    let status = polypar(rt, alloc, &words, &mut source, &mut out, &mut err, gate);
     Ok(Answer { status, out, err })
 }
 
@@ -171,7 +166,7 @@ fn arrays_are_those_of_the_execution_for_any_number_of_workers(
         let (input, printed) = *run;
         for workers in WORKERS {
             let words = ["polypar", "run", "--tile", "2", "--workers", *workers];
-            let answer = call_on(&rt, &words, input.as_bytes(), &OpenGate)?;
+            let answer = call_on(&rt, rt.alloc(), &words, input.as_bytes(), &OpenGate)?;
             assert!(rt; is_answer(answer, printed.as_bytes(), b""), "{input}");
         }
     }
@@ -194,8 +189,13 @@ fn report_of(
 }
 
 /// Whether a run by so many workers prints what is told of it.
-fn is_reported(rt: &HostRuntime, run: &Reported, workers: &str) -> Result<bool, AllocError> {
-    let mut input = String::from_str(rt.alloc(), run.kernel)?;
+fn is_reported<R: Threads + Wait + Sync>(
+    rt: &R,
+    alloc: Global,
+    run: &Reported,
+    workers: &str,
+) -> Result<bool, AllocError> {
+    let mut input = String::from_str(alloc, run.kernel)?;
     input.push_str(run.data)?;
     let words = [
         "polypar",
@@ -208,8 +208,8 @@ fn is_reported(rt: &HostRuntime, run: &Reported, workers: &str) -> Result<bool, 
         "--workers",
         workers,
     ];
-    let answer = call_on(rt, &words, input.as_bytes(), &OpenGate)?;
-    let report = report_of(rt.alloc(), run.plan, run.counts, workers)?;
+    let answer = call_on(rt, alloc, &words, input.as_bytes(), &OpenGate)?;
+    let report = report_of(alloc, run.plan, run.counts, workers)?;
     Ok(is_answer(answer, run.arrays.as_bytes(), report.as_bytes()))
 }
 
@@ -217,7 +217,7 @@ fn is_reported(rt: &HostRuntime, run: &Reported, workers: &str) -> Result<bool, 
 fn reports_tell_schedule_tiles_and_waves(rt: HostRuntime) -> Result<(), Fail> {
     for run in REPORTED {
         for workers in WORKERS {
-            assert!(rt; is_reported(&rt, run, workers)?);
+            assert!(rt; is_reported(&rt, rt.alloc(), run, workers)?);
         }
     }
     Ok(())
@@ -305,7 +305,7 @@ fn are_ones(counts: &[AtomicU64; 4]) -> bool {
 fn two_workers_run_at_once(rt: HostRuntime) -> Result<(), Fail> {
     let gate = HoldsFirst::new();
     let words = ["polypar", "run", "--tile", "1", "--workers", "2"];
-    let answer = call_on(&rt, &words, COPY_OF_FOUR.as_bytes(), &gate)?;
+    let answer = call_on(&rt, rt.alloc(), &words, COPY_OF_FOUR.as_bytes(), &gate)?;
     assert!(rt; is_answer(answer, b"A = 1 2 3 4\nB = 1 2 3 4\n", b""));
     assert!(rt; !gate.failed.load(Ordering::SeqCst));
     assert!(rt; are_ones(&gate.entered));
@@ -397,7 +397,12 @@ fn summary_of(alloc: Global, case: &Generated) -> Result<Vec<u8>, AllocError>
 }
 
 /// Whether so many workers leave of a generated kernel what the plain interpreter does.
-fn is_summary(rt: &HostRuntime, case: &Generated, workers: &str) -> Result<bool, AllocError> {
+fn is_summary<R: Threads + Wait + Sync>(
+    rt: &R,
+    alloc: Global,
+    case: &Generated,
+    workers: &str,
+) -> Result<bool, AllocError> {
     if case.size < 1 || 512 < case.size {
         return Ok(false);
     }
@@ -413,16 +418,16 @@ fn is_summary(rt: &HostRuntime, case: &Generated, workers: &str) -> Result<bool,
         "--workers",
         workers,
     ];
-    let answer = call_on(rt, &words, b"", &OpenGate)?;
-    let wanted = summary_of(rt.alloc(), case)?;
+    let answer = call_on(rt, alloc, &words, b"", &OpenGate)?;
+    let wanted = summary_of(alloc, case)?;
     Ok(is_answer(answer, wanted.as_slice(), b""))
 }
 
 #[test]
 fn generated_kernels_leave_what_the_interpreter_does(rt: HostRuntime) -> Result<(), Fail> {
     for case in GENERATED {
-        assert!(rt; is_summary(&rt, case, "1")?);
-        assert!(rt; is_summary(&rt, case, "8")?);
+        assert!(rt; is_summary(&rt, rt.alloc(), case, "1")?);
+        assert!(rt; is_summary(&rt, rt.alloc(), case, "8")?);
     }
     Ok(())
 }
