@@ -1,5 +1,5 @@
 -- The row of an instance's statement in a plan's table.
-use Rattle.std.proofs.Common.{◌≡◌, ◌∙◌, ap, sym, ℕ, suc, ◌+◌, ◌<◌, ◌≤◌, ◌^◌, ℤ, List, [], length, get_or, Some}
+use Rattle.std.proofs.Common.{◌≡◌, ap, ℕ, suc, ◌<◌, ◌^◌, ℤ, List, [], length, get_or, Some}
 use Rattle.std.proofs.Common.{arith}
 use Rattle.std.specs.Prelude.{slice_get}
 use Rattle.std.proofs.lemmas.Option.{get_or_from_slice_get, slice_get_within}

@@ -1,5 +1,5 @@
 -- A plan of a kernel as plain data.
-use Rattle.std.specs.Prelude.{◌≡◌, ℕ, List, [], length, map, get_or, slice_get}
+use Rattle.std.specs.Prelude.{ℕ, List, [], length, map, get_or, slice_get}
 use Rattle.scop_syntax.specs.Execution.{IsInside, layout, total_cells}
 use Rattle.scop_syntax.specs.Limits.{WithinLimits}
 use Rattle.scop_syntax.specs.Tree.{Program}
