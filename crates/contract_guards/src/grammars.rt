@@ -6,7 +6,7 @@ ghost use Rattle.expression_grammar.specs.declared.token.Token.{Token};
 ghost use Rattle.expression_grammar.specs.Grammar as expressions;
 ghost use Rattle.expression_grammar.specs.Machine as machine;
 ghost use Rattle.expression_grammar.specs.Tree.{Tree, written};
-ghost use Rattle.kernel_grammar.specs.Answers.{IsRead};
+ghost use Rattle.kernel_grammar.specs.Promises.{IsRead};
 ghost use Rattle.kernel_grammar.specs.Kernel.{Kernel, Piece, Spells, kernel_elements, pieces, spelled};
 ghost use Rattle.kernel_grammar.specs.Machine.{Spot, on, read, run, turn, goes_on};
 ghost use Rattle.kernel_grammar.specs.Turns.{behind};

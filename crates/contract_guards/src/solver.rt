@@ -13,7 +13,7 @@ ghost use Rattle.quast_trees.specs.Value.{value};
 ghost use Rattle.tableau_rows.specs.Problem.{IsEmpty, IsLexmin, problem_of, row_values};
 ghost use Rattle.lexmin_runs.specs.Emptiness.{IsBoundedPoint};
 ghost use Rattle.checked_tableau.specs.declared.problem.Problem.{Problem};
-ghost use Rattle.pip_solver.specs.Answers.{IsBegun, IsPosed};
+ghost use Rattle.pip_solver.specs.Promises.{IsBegun, IsPosed};
 ghost use Rattle.pip_solver.specs.Minimum.{IsTaken, held};
 ghost use Rattle.pip_solver.specs.declared.stop.Stop.TheVariants as stop;
 ghost use Rattle.pip_solver.specs.declared.stop.Stop.TheVariants.{Spent};

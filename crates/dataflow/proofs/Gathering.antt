@@ -29,8 +29,8 @@ use Rattle.iteration_domains.specs.Sizes.{IsKernelModel}
 use Rattle.iteration_domains.proofs.Placing.{model_is_one}
 use Rattle.conflict_deps.specs.Pairs.{TouchesAt}
 use Rattle.iteration_domains.specs.Dependence.{Dependence}
-use Rattle.dataflow.specs.Answers.{IsSourceOf, AreSources, reads_from, reads_in}
-use Rattle.dataflow.specs.Answers.{reads_of_statement, reads_of, NameLastWriters}
+use Rattle.dataflow.specs.ReadSources.{IsSourceOf, AreSources, reads_from, reads_in}
+use Rattle.dataflow.specs.ReadSources.{reads_of_statement, reads_of, NameLastWriters}
 use Rattle.dataflow.specs.Places.{Names}
 use Rattle.dataflow.specs.LastRuns.{Stopped, last_run, solve_run, is_candidate, chosen_deps, turns_in, read_variables}
 use Rattle.dataflow.specs.Runs.{Halt, then_join, sources_run}

@@ -14,7 +14,7 @@ use Rattle.whole_numbers.proofs.Values.{length-combination}
 use Rattle.wide_math.specs.declared.Wide.{Wide}
 use Rattle.tableau_rows.specs.Problem.{problem_of, row_values, Speaks as RowsSpeak}
 use Rattle.lexmin_runs.specs.Nodes.{Counted, lexmin_run}
-use Rattle.lexmin_runs.specs.Answers.{IsAnswer}
+use Rattle.lexmin_runs.specs.Leaves.{IsAnswer}
 use Rattle.lexmin_runs.proofs.Trees.{lexmin-right}
 use Rattle.lexmin_runs.proofs.Kept.{lexmin-speaks, lexmin-forms}
 use Rattle.quast_trees.specs.Source.{Source, source_of}

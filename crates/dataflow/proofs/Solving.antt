@@ -8,7 +8,7 @@ use Rattle.std.proofs.lemmas.List.Elements.{All-head, All-tail}
 use Rattle.whole_numbers.specs.Affine.{Affine, value_of}
 use Rattle.whole_numbers.specs.Lists.{NotNegative}
 use Rattle.tableau_rows.specs.Problem.{Problem, problem_of, row_values, IsPoint as IsProblemPoint}
-use Rattle.lexmin_runs.specs.Answers.{IsAnswer}
+use Rattle.lexmin_runs.specs.Leaves.{IsAnswer}
 use Rattle.quast_trees.specs.Tree.{Tree}
 use Rattle.quast_trees.specs.Value.{value}
 use Rattle.quast_trees.specs.Leaf.{Leaf, initial, found}

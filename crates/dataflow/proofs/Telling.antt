@@ -35,7 +35,7 @@ use Rattle.scop_syntax.proofs.Members.{in_from_place, in_map_from, place_of}
 use Rattle.iteration_domains.specs.Dependence.{Dependence}
 use Rattle.iteration_domains.specs.Model.{Modelled, KernelModel, model_of, modelled}
 use Rattle.conflict_deps.specs.Conflicts.{conflicts_of}
-use Rattle.dataflow.specs.Answers.{AreSources, IsSourceOf, TellsStop, reads_from, reads_of_statement, reads_in, reads_of}
+use Rattle.dataflow.specs.ReadSources.{AreSources, IsSourceOf, TellsStop, reads_from, reads_of_statement, reads_in, reads_of}
 use Rattle.dataflow.specs.LastRuns as last
 use Rattle.dataflow.specs.LastRuns.{Stopped, last_run, solve_run, solve_between, is_candidate, candidates_of, turns_in}
 use Rattle.dataflow.specs.LastRuns.{read_variables}

@@ -7,6 +7,6 @@ pub mod Flips
 pub mod Problems
 pub mod LastRuns
 pub mod Posed
-pub mod Answers
+pub mod ReadSources
 pub mod Told
 pub mod Steps

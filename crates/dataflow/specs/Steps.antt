@@ -12,7 +12,7 @@ use Rattle.quast_joins.specs.Sizes.{LeavesWithin}
 use Rattle.quast_joins.specs.declared.way.Way.TheVariants.{Later}
 use Rattle.iteration_domains.specs.Model.{KernelModel}
 use Rattle.iteration_domains.specs.Dependence.{Dependence}
-use Rattle.dataflow.specs.Answers.{TellsStop, Unresolves, AreSources}
+use Rattle.dataflow.specs.ReadSources.{TellsStop, Unresolves, AreSources}
 use Rattle.dataflow.specs.LastRuns.{Stopped, forms_fit, solve_run, read_variables}
 use Rattle.dataflow.specs.Runs.{sources_run}
 use Rattle.dataflow.specs.declared.reads.Halted.{Halted}

@@ -7,7 +7,7 @@ ghost use Rattle.quast_trees.specs.Tree.{LeavesHave};
 ghost use Rattle.quast_joins.specs.Limits.{leaf_limit};
 ghost use Rattle.scop_syntax.specs.Members.{In};
 ghost use Rattle.conflict_deps.specs.Conflicts.{conflicts_of};
-ghost use Rattle.dataflow.specs.Answers.{TellsStop};
+ghost use Rattle.dataflow.specs.ReadSources.{TellsStop};
 ghost use Rattle.dataflow.specs.LastRuns.{form_fits, forms_fit, fitting, number_fits};
 ghost use Rattle.dataflow.specs.LastRuns.{wide_leaf};
 ghost use Rattle.dataflow.specs.Posed.{CanPose, IsOfKernel};

@@ -4,7 +4,7 @@ ghost use Rattle.std.specs.Prelude.{◌≡◌, ◌++◌, ◌∷◌, [], All, IfO
 ghost use Rattle.scop_syntax.specs.Members.{In};
 ghost use Rattle.quast_trees.specs.Postfix.{tree_of};
 ghost use Rattle.conflict_deps.specs.Conflicts.{conflicts_of};
-ghost use Rattle.dataflow.specs.Answers.{IsSourceOf, AreSources, NameLastWriters, reads_of, reads_of_statement};
+ghost use Rattle.dataflow.specs.ReadSources.{IsSourceOf, AreSources, NameLastWriters, reads_of, reads_of_statement};
 ghost use Rattle.dataflow.specs.LastRuns.{is_candidate, read_variables};
 ghost use Rattle.dataflow.specs.Posed.{IsOfKernel};
 ghost use Rattle.dataflow.specs.Steps.{GainsSources, GoesOn, IsHeldSource, IsJoinable};

@@ -9,7 +9,7 @@ use Rattle.expression_grammar.specs.Grammar.{Spells, IsFront}
 use Rattle.expression_grammar.specs.Machine.{State, start, go, stops, step, fits, run, Outcome, alive, stopped, deep}
 use Rattle.expression_grammar.specs.Machine.{complete, unfit, unended, or_fault, answer, Answer, read}
 use Rattle.expression_grammar.specs.Grammar.{told_at}
-use Rattle.expression_grammar.specs.Answers.{IsNoExpression}
+use Rattle.expression_grammar.specs.Promises.{IsNoExpression}
 use Rattle.expression_grammar.specs.Claims.{IsAnswer}
 use Rattle.expression_grammar.proofs.Shapes.{Shape, want, cast_word, done, state_of, read_of, Stands, keeps}
 use Rattle.expression_grammar.proofs.Reached.{Stop, Reached, reached}

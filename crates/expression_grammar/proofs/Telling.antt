@@ -6,7 +6,7 @@ use Rattle.expression_grammar.specs.declared.reader.Expression.{Expression}
 use Rattle.expression_grammar.specs.declared.reader.Stop.{Stop}
 use Rattle.expression_grammar.specs.declared.reader.Stop.TheVariants as stop
 use Rattle.expression_grammar.specs.Machine.{read}
-use Rattle.expression_grammar.specs.Answers.{IsRead}
+use Rattle.expression_grammar.specs.Promises.{IsRead}
 use Rattle.expression_grammar.specs.Gives.{Gives, IsStop}
 use Rattle.expression_grammar.proofs.Reading.{read_answers}
 

@@ -1,7 +1,7 @@
 -- What an answer of the machine claims of the tokens.
 use Rattle.std.specs.Prelude.{ℕ, List, Ok, Err}
 use Rattle.expression_grammar.specs.declared.token.Token.{Token}
-use Rattle.expression_grammar.specs.Answers.{IsRead, IsUnfit, IsUnended, IsTooDeep}
+use Rattle.expression_grammar.specs.Promises.{IsRead, IsUnfit, IsUnended, IsTooDeep}
 use Rattle.expression_grammar.specs.Machine.{Answer, unfit, unended, depth}
 
 -- what an answer says: the nodes of an expression and how many tokens they took, or the first fault

@@ -2,7 +2,7 @@
 use Rattle.std.specs.Prelude.{◌≡◌, ℕ, List, Result, Ok, Err, ⊤}
 use Rattle.expression_grammar.specs.declared.token.Token.{Token}
 use Rattle.expression_grammar.specs.declared.node.Node.{Node}
-use Rattle.expression_grammar.specs.Answers.{IsUnfit, IsUnended, IsTooDeep}
+use Rattle.expression_grammar.specs.Promises.{IsUnfit, IsUnended, IsTooDeep}
 use Rattle.expression_grammar.specs.declared.reader.Expression.{Expression}
 use Rattle.expression_grammar.specs.declared.reader.Stop.{Stop}
 use Rattle.expression_grammar.specs.declared.reader.Stop.TheVariants as stop

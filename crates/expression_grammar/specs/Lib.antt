@@ -1,7 +1,7 @@
 pub mod Tree
 pub mod Grammar
 pub mod Machine
-pub mod Answers
+pub mod Promises
 pub mod Claims
 pub mod Steps
 pub mod Gives

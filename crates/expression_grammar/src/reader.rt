@@ -10,7 +10,7 @@ ghost use Rattle.expression_grammar.specs.Machine.{operand, read, reduced, signe
 ghost use Rattle.expression_grammar.specs.Grammar.{told_at};
 ghost use Rattle.expression_grammar.specs.declared.node.Mode.TheVariants as mode;
 ghost use Rattle.expression_grammar.specs.declared.reader.Stop.TheVariants as stop;
-ghost use Rattle.expression_grammar.specs.Answers.{IsRead};
+ghost use Rattle.expression_grammar.specs.Promises.{IsRead};
 ghost use Rattle.expression_grammar.specs.Gives.{Gives, IsStop, pair_of};
 ghost use Rattle.expression_grammar.specs.declared.reader.TheConstants.{MOST_BRACKETS, MOST_OPERATORS};
 ghost use Rattle.expression_grammar.specs.Steps.{ClosesAs, ClosesIndexAs, Completes, HasRoom, JoinsAs, Steps, tight};

@@ -15,7 +15,7 @@ use Rattle.affine_forms.specs.Parts.{variables_of}
 use Rattle.integer_sets.specs.Constraints.{Constraints, IsSized, system_of, variables_in}
 use Rattle.lexmin_runs.specs.Nodes.{opposite_run}
 use Rattle.pip_solver.specs.declared.stop.Stop.TheVariants as solver
-use Rattle.pip_solver.specs.Answers.{Empties}
+use Rattle.pip_solver.specs.Promises.{Empties}
 use Rattle.farkas.specs.declared.stuck.Stuck.TheVariants as stuck
 use Rattle.farkas.specs.Run.{Halt, ◌>>◌, formed, emptiness, implied_run, kept_run, others, kept_from}
 use Rattle.farkas.specs.Run.{dropped_run}

@@ -14,7 +14,7 @@ use Rattle.fm_projection.specs.declared.stop.FmStop.TheVariants as fm
 use Rattle.lexmin_runs.specs.Nodes.{Counted}
 use Rattle.lexmin_runs.specs.Emptiness.{empty_run}
 use Rattle.pip_solver.specs.declared.stop.Stop.TheVariants as solver
-use Rattle.pip_solver.specs.Answers.{Empties}
+use Rattle.pip_solver.specs.Promises.{Empties}
 use Rattle.farkas.specs.declared.stuck.Stuck.TheVariants as stuck
 use Rattle.farkas.specs.Run.{Halt, crowded, ◌>>◌, formed, eliminating, answer, emptiness}
 use Rattle.farkas.specs.Gives.{Halts, stuck_of_form, stuck_of_elimination, stuck_of_solver}

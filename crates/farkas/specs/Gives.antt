@@ -9,7 +9,7 @@ use Rattle.whole_numbers.specs.Affine.{Affine}
 use Rattle.integer_sets.specs.Constraints.{Constraints, system_of}
 use Rattle.fm_projection.specs.declared.stop.FmStop.TheVariants as fm
 use Rattle.pip_solver.specs.declared.stop.Stop.TheVariants as solver
-use Rattle.pip_solver.specs.Answers.{Empties}
+use Rattle.pip_solver.specs.Promises.{Empties}
 use Rattle.farkas.specs.declared.stuck.Stuck.TheVariants as stuck
 use Rattle.farkas.specs.Run.{Halt, wide, crowded, unanswered, implied_run, others}
 

@@ -9,7 +9,7 @@ use Rattle.kernel_grammar.specs.declared.table.Want.TheVariants as want
 use Rattle.kernel_grammar.specs.Kernel.{Element, Kernel, kernel_elements, spelled, Piece, pieces, Spells, IsFront}
 use Rattle.kernel_grammar.specs.Machine.{Spot, first_spot, Turn, on, stop, too_deep, turn, turns, run, End, goes_on}
 use Rattle.kernel_grammar.specs.Machine.{stopped_at, deep_at, whole, answer, Answer, read}
-use Rattle.kernel_grammar.specs.Answers.{IsNoKernel, IsUnended}
+use Rattle.kernel_grammar.specs.Promises.{IsNoKernel, IsUnended}
 use Rattle.kernel_grammar.specs.Claims.{IsAnswer}
 use Rattle.kernel_grammar.proofs.Accepts.{kernel_ends}
 use Rattle.kernel_grammar.proofs.Drives.{Driven, driven, driven_as}

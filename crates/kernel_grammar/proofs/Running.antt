@@ -17,7 +17,7 @@ use Rattle.kernel_grammar.specs.declared.table.Want.TheVariants as want
 use Rattle.kernel_grammar.specs.Table.{room, left}
 use Rattle.kernel_grammar.specs.Kernel.{spelled}
 use Rattle.kernel_grammar.specs.Machine.{Spot, first_spot, Turn, on, stop, too_deep, turn, turns, run, answer, read}
-use Rattle.kernel_grammar.specs.Answers.{IsRead}
+use Rattle.kernel_grammar.specs.Promises.{IsRead}
 use Rattle.kernel_grammar.specs.Turns.{Feeds, Gives, IsStop, pieces_of}
 use Rattle.kernel_grammar.proofs.Keeps.{Holds, Means, Goes, keeps_turn, first_means}
 use Rattle.kernel_grammar.proofs.Reading.{read_answers}

@@ -11,7 +11,7 @@ use Rattle.kernel_grammar.specs.Table.{room, left}
 use Rattle.kernel_grammar.specs.Machine.{Spot, spot, first_spot, Turn, on, stop, too_deep, inner_turn, turn_in, turn}
 use Rattle.kernel_grammar.specs.Machine.{End, goes_on, stopped_at, deep_at, turns, run, Answer, whole, answer, read}
 use Rattle.kernel_grammar.specs.Kernel.{Piece}
-use Rattle.kernel_grammar.specs.Answers.{IsMisplaced}
+use Rattle.kernel_grammar.specs.Promises.{IsMisplaced}
 use Rattle.kernel_grammar.specs.Claims.{IsAnswer}
 use Rattle.kernel_grammar.proofs.Keeps.{room_wider, left_wider}
 use Rattle.kernel_grammar.proofs.Reading.{read_answers}

@@ -2,7 +2,7 @@
 use Rattle.std.specs.Prelude.{ℕ, List, Ok, Err}
 use Rattle.expression_grammar.specs.declared.token.Token.{Token}
 use Rattle.expression_grammar.specs.Machine.{unfit, unended, depth}
-use Rattle.kernel_grammar.specs.Answers.{IsRead, IsUnfit, IsUnended, IsTooDeep}
+use Rattle.kernel_grammar.specs.Promises.{IsRead, IsUnfit, IsUnended, IsTooDeep}
 use Rattle.kernel_grammar.specs.Machine.{Answer}
 
 -- what an answer says: the pieces of a kernel, or the first fault

@@ -1,6 +1,6 @@
 pub mod Kernel
 pub mod Table
 pub mod Machine
-pub mod Answers
+pub mod Promises
 pub mod Claims
 pub mod Turns

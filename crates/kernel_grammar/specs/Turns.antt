@@ -12,7 +12,7 @@ use Rattle.kernel_grammar.specs.declared.reader.Went.{Went}
 use Rattle.kernel_grammar.specs.declared.reader.Went.TheVariants as went
 use Rattle.kernel_grammar.specs.Kernel.{Piece, mark_at, nodes_from}
 use Rattle.kernel_grammar.specs.Machine.{Spot, Turn, on, stop, too_deep, End, goes_on, stopped_at, deep_at, Answer}
-use Rattle.kernel_grammar.specs.Answers.{IsMisplaced, IsUnended, IsTooDeep}
+use Rattle.kernel_grammar.specs.Promises.{IsMisplaced, IsUnended, IsTooDeep}
 
 -- the piece that a part stands for
 abbrev pub piece_of : Part → Piece

@@ -5,7 +5,7 @@ ghost use Rattle.std.specs.Prelude.{◌≡◌, ◌<◌, ◌^◌, ◌++◌, ◌+�
 ghost use Rattle.expression_grammar.specs.Machine.{step};
 ghost use Rattle.expression_grammar.specs.Steps.{HasRoom};
 ghost use Rattle.expression_grammar.specs.declared.reader.TheConstants.{MOST_BRACKETS, MOST_OPERATORS};
-ghost use Rattle.kernel_grammar.specs.Answers.{IsRead};
+ghost use Rattle.kernel_grammar.specs.Promises.{IsRead};
 ghost use Rattle.kernel_grammar.specs.Kernel.{marked};
 ghost use Rattle.kernel_grammar.specs.Machine.{ahead, answer, first_spot, goes_on, inner_turn, leaves, read, sign_turn};
 ghost use Rattle.kernel_grammar.specs.Machine.{turn};

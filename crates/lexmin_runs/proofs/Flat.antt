@@ -16,7 +16,7 @@ use Rattle.lexmin_runs.specs.Nodes.{Node, Next, ends, goes, binds, splits, part_
 use Rattle.lexmin_runs.specs.Nodes.{divided, padded, leaf_tree, below_somewhere, above_somewhere, broken_somewhere}
 use Rattle.lexmin_runs.specs.Nodes.{taken_off, step, followed, tree_run, whole, first_node, lexmin_run}
 use Rattle.lexmin_runs.specs.Solutions.{IsNode, LeadsOn}
-use Rattle.lexmin_runs.specs.Answers.{IsOneLeaf}
+use Rattle.lexmin_runs.specs.Leaves.{IsOneLeaf}
 use Rattle.lexmin_runs.proofs.Asking.{chained-ok, same_first}
 use Rattle.lexmin_runs.proofs.Cuts.{taken_off_size}
 use Rattle.lexmin_runs.proofs.Cases.{AllNo, step_by}

@@ -22,7 +22,7 @@ use Rattle.tableau_rows.proofs.Cutting.{is_place}
 use Rattle.tableau_rows.proofs.Keeping.{cut_keeps_tableau, pivot_run_keeps}
 use Rattle.tableau_rows.proofs.Beginning.{stands_first, givens_of, length-entries_of}
 use Rattle.tableau_rows.proofs.Answering.{Holds, some_positive-false, holds_right}
-use Rattle.lexmin_runs.specs.Answers.{IsAnswer}
+use Rattle.lexmin_runs.specs.Leaves.{IsAnswer}
 use Rattle.lexmin_runs.specs.Nodes.{Node, Next, ends, goes, binds, splits, chained, longer_row, part_of}
 use Rattle.lexmin_runs.specs.Nodes.{opposite_run, under_run, at_least_run, below_somewhere, broken_somewhere, leaf_tree}
 use Rattle.lexmin_runs.specs.Nodes.{side, with_rows, taken_off, bound_node, step, followed, tree_run, first_node, whole}

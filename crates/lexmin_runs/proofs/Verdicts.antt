@@ -2,7 +2,7 @@
 use Rattle.std.proofs.Common.{ℤ, List}
 use Rattle.tableau_rows.specs.Problem.{Problem}
 use Rattle.tableau_rows.specs.Run.{Verdict, point, none, IsRight}
-use Rattle.lexmin_runs.specs.Answers.{IsAnswer}
+use Rattle.lexmin_runs.specs.Leaves.{IsAnswer}
 use Rattle.quast_trees.specs.Tree.{Tree}
 use Rattle.quast_trees.specs.Value.{value}
 use Rattle.quast_trees.specs.Leaf.{Leaf, initial, found}

@@ -1,4 +1,4 @@
 pub mod Nodes
-pub mod Answers
+pub mod Leaves
 pub mod Solutions
 pub mod Emptiness

@@ -8,7 +8,7 @@ ghost use Rattle.tableau_rows.specs.Problem.{IsPoint, problem_of, row_values, Sp
 ghost use Rattle.tableau_rows.specs.Run.{Stop};
 ghost use Rattle.quast_trees.specs.Tree.{Tree, LeavesHave, Speaks as TreeSpeaks};
 ghost use Rattle.quast_trees.specs.Value.{value};
-ghost use Rattle.lexmin_runs.specs.Answers.{IsAnswer, IsOneLeaf};
+ghost use Rattle.lexmin_runs.specs.Leaves.{IsAnswer, IsOneLeaf};
 ghost use Rattle.lexmin_runs.specs.Nodes as next;
 ghost use Rattle.lexmin_runs.specs.Nodes.{Frame, resumed, Node, Next, chained, pivot, cut, split, step, followed};
 ghost use Rattle.lexmin_runs.specs.Nodes.{whole, first_node, lexmin_run};

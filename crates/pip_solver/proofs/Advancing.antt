@@ -17,7 +17,7 @@ use Rattle.pip_solver.specs.declared.frames.Frame.TheVariants as frame
 use Rattle.pip_solver.specs.declared.question.QuestionStop.{QuestionStop}
 use Rattle.pip_solver.specs.declared.question.QuestionStop.TheVariants as stop
 use Rattle.pip_solver.specs.declared.run.Progress.TheVariants as progress
-use Rattle.pip_solver.specs.Answers.{Tells}
+use Rattle.pip_solver.specs.Promises.{Tells}
 use Rattle.pip_solver.specs.Frames.{framing, under, joins, seconds, frames_for, IsReady, AreReady, Proceeds}
 use Rattle.pip_solver.proofs.Framing.{turned_last}
 

@@ -18,7 +18,7 @@ use Rattle.lexmin_runs.proofs.Emptiness.{posed_points}
 use Rattle.lexmin_runs.proofs.Longer.{all_speak}
 use Rattle.checked_tableau.specs.declared.problem.Problem.{Problem}
 use Rattle.pip_solver.specs.declared.stop.Stop.TheVariants as solver
-use Rattle.pip_solver.specs.Answers.{Decides, Empties, IsPosed, IsProblem, IsUnposed, FormedUntil, decided}
+use Rattle.pip_solver.specs.Promises.{Decides, Empties, IsPosed, IsProblem, IsUnposed, FormedUntil, decided}
 use Rattle.pip_solver.proofs.Posing.{until-stops}
 
 -- the answer turned

@@ -12,7 +12,7 @@ use Rattle.checked_tableau.specs.declared.problem.Problem.{Problem as Posed}
 use Rattle.quast_trees.specs.Tree.{Tree}
 use Rattle.quast_trees.specs.Leaf.{Leaf}
 use Rattle.lexmin_runs.specs.Nodes.{lexmin_run}
-use Rattle.lexmin_runs.specs.Answers.{IsAnswer, IsOneLeaf}
+use Rattle.lexmin_runs.specs.Leaves.{IsAnswer, IsOneLeaf}
 use Rattle.lexmin_runs.proofs.Flat.{lexmin-alone}
 use Rattle.pip_solver.specs.Solving.{IsGiven, solved}
 use Rattle.pip_solver.proofs.Minimum_of.{IsSized}

@@ -13,7 +13,7 @@ use Rattle.lexmin_runs.specs.Nodes.{opposites_run}
 use Rattle.lexmin_runs.specs.Emptiness.{negated_run, equality_rows_run, bound_rows}
 use Rattle.wide_math.proofs.Steps.{chain-ok}
 use Rattle.affine_forms.specs.Gives.{Gives}
-use Rattle.pip_solver.specs.Answers.{FormedUntil, Forms}
+use Rattle.pip_solver.specs.Promises.{FormedUntil, Forms}
 use Rattle.affine_forms.specs.declared.stop.FormStop.{FormStop}
 use Rattle.affine_forms.specs.declared.stop.FormStop.TheVariants as stop
 

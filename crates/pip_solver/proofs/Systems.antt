@@ -16,7 +16,7 @@ use Rattle.lexmin_runs.specs.Emptiness.{posed_run}
 use Rattle.lexmin_runs.proofs.Emptiness.{posed_points}
 use Rattle.checked_tableau.specs.declared.problem.Problem.{Problem}
 use Rattle.pip_solver.specs.declared.stop.Stop.TheVariants as solver
-use Rattle.pip_solver.specs.Answers.{IsPosed, IsUnposed}
+use Rattle.pip_solver.specs.Promises.{IsPosed, IsUnposed}
 use Rattle.pip_solver.specs.Solving.{Finds}
 use Rattle.pip_solver.specs.Minimum.{IsTaken, IsMinimum, Minimizes, held}
 

@@ -11,7 +11,7 @@ use Rattle.tableau_nodes.specs.Node.{node_of, IsGoing}
 use Rattle.pip_solver.specs.declared.frames.Frame.TheVariants as frame
 use Rattle.pip_solver.specs.declared.question.QuestionStop.{QuestionStop}
 use Rattle.pip_solver.specs.declared.run.Progress.TheVariants as progress
-use Rattle.pip_solver.specs.Answers.{Tells}
+use Rattle.pip_solver.specs.Promises.{Tells}
 
 -- the code's frames, the innermost first: the first side of each joining one is the next of the trees that stand
 abbrev pub framing : List frame.the_data → List Tree → List Frame

@@ -1,4 +1,4 @@
-pub mod Answers
+pub mod Promises
 pub mod Steps
 pub mod Frames
 pub mod Solving

@@ -6,7 +6,7 @@ use Rattle.integer_sets.specs.Constraints.{Constraints, IsSized, variables_in}
 use Rattle.integer_sets.specs.Points.{Satisfies}
 use Rattle.checked_tableau.specs.declared.problem.Problem.{Problem}
 use Rattle.pip_solver.specs.declared.stop.Stop.TheVariants as solver
-use Rattle.pip_solver.specs.Answers.{IsPosed, IsUnposed}
+use Rattle.pip_solver.specs.Promises.{IsPosed, IsUnposed}
 use Rattle.pip_solver.specs.Solving.{Finds}
 
 -- a point of a system that is not negative

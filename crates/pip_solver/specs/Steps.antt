@@ -7,7 +7,7 @@ use Rattle.tableau_nodes.specs.declared.node.Tableau.{Tableau}
 use Rattle.tableau_nodes.specs.Node.{node_of, next_of, IsGoing, AreGoing}
 use Rattle.pip_solver.specs.declared.question.QuestionStop.{QuestionStop}
 use Rattle.pip_solver.specs.declared.step.Next.TheVariants as next
-use Rattle.pip_solver.specs.Answers.{Tells}
+use Rattle.pip_solver.specs.Promises.{Tells}
 
 -- a step of a node of n unknowns, with what is left of the budget, is the run's; want of memory is free
 abbrev pub Steps : Result next.the_data QuestionStop → ℕ → ℕ → Tableau → Counted Next → Type 0

@@ -9,7 +9,7 @@ ghost use Rattle.lexmin_runs.specs.Nodes.{ask, context_holds, below_somewhere, a
 ghost use Rattle.lexmin_runs.specs.Nodes.{none_below, part_of, longer_form, formed};
 ghost use Rattle.lexmin_runs.specs.Nodes.{opposite_run, above_run, under_run};
 ghost use Rattle.tableau_nodes.specs.Node.{node_of};
-ghost use Rattle.pip_solver.specs.Answers.{Tells, AsksOf};
+ghost use Rattle.pip_solver.specs.Promises.{Tells, AsksOf};
 
 use crate::question::{QuestionStop, question};
 use affine_forms::{Form, FormStop};

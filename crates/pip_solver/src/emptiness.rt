@@ -7,7 +7,7 @@ ghost use Rattle.integer_sets.specs.Constraints.{IsSized, variables_in};
 ghost use Rattle.whole_numbers.specs.Lists.{zeros};
 ghost use Rattle.lexmin_runs.specs.Emptiness.{equality_rows_run, bound_rows};
 ghost use Rattle.lexmin_runs.specs.Emptiness.{IsBoundedPoint, HasBoundedPoint};
-ghost use Rattle.pip_solver.specs.Answers.{Decides, Empties};
+ghost use Rattle.pip_solver.specs.Promises.{Decides, Empties};
 
 use crate::lists::{push, push_copies};
 use crate::question::{QuestionStop, question};

@@ -3,7 +3,7 @@ ghost use Rattle.std.specs.Prelude.{◌≡◌, ℕ, ◌<◌, ◌≤◌, length, 
 ghost use Rattle.lexmin_runs.specs.Nodes.{first_asked, below_somewhere, broken_somewhere, part_of};
 ghost use Rattle.lexmin_runs.specs.Solutions.{IsNode};
 ghost use Rattle.tableau_nodes.specs.Node.{node_of};
-ghost use Rattle.pip_solver.specs.Answers.{Tells};
+ghost use Rattle.pip_solver.specs.Promises.{Tells};
 
 use crate::asking::{below_somewhere, broken_somewhere};
 use crate::question::QuestionStop;

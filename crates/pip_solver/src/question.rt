@@ -3,7 +3,7 @@
 ghost use Rattle.std.specs.Prelude.{◌≡◌, ℕ, ◌+◌, ◌<◌, ◌≤◌, length, Ok, None, IfOk, suc};
 ghost use Rattle.tableau_rows.specs.Run.{cuts, next, pivots, run};
 ghost use Rattle.lexmin_runs.specs.Nodes.{answered};
-ghost use Rattle.pip_solver.specs.Answers.{Shows, Advances, Tells};
+ghost use Rattle.pip_solver.specs.Promises.{Shows, Advances, Tells};
 
 use checked_tableau::{Rows, TableauStop};
 

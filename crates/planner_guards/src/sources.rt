@@ -10,7 +10,7 @@ ghost use Rattle.scop_syntax.specs.Walk.{Visit, walk_of};
 ghost use Rattle.scop_syntax.specs.Writers.{last_writer};
 ghost use Rattle.iteration_domains.specs.Model.{model_of};
 ghost use Rattle.conflict_deps.specs.Pairs.{TouchesAt};
-ghost use Rattle.dataflow.specs.Answers.{reads_of};
+ghost use Rattle.dataflow.specs.ReadSources.{reads_of};
 ghost use Rattle.dataflow.specs.Posed.{IsOfKernel};
 ghost use Rattle.dataflow.specs.declared.source.ReadSource.TheVariants as source;
 ghost use Rattle.dataflow.specs.declared.source.SourceStop.TheVariants as stop;

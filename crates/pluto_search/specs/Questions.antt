@@ -5,7 +5,7 @@ use Rattle.std.specs.Prelude.{Ok, Err, ⊤}
 use Rattle.std.specs.Global.{Global}
 use Rattle.integer_sets.specs.Constraints.{Constraints}
 use Rattle.pip_solver.specs.declared.stop.Stop.TheVariants as solver
-use Rattle.pip_solver.specs.Answers.{Empties}
+use Rattle.pip_solver.specs.Promises.{Empties}
 use Rattle.pip_solver.specs.Minimum.{Minimizes}
 use Rattle.iteration_domains.specs.Dependence.{Dependence}
 use Rattle.fm_projection.specs.declared.stop.FmStop.TheVariants as fm

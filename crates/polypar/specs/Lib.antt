@@ -1,5 +1,5 @@
 pub mod Answered
-pub mod Answers
+pub mod Promises
 pub mod Case
 pub mod Cut
 pub mod Deserves

@@ -2,7 +2,7 @@
 
 ghost use Rattle.std.specs.Prelude.{◌≡◌, ◌≤◌, IfOk};
 ghost use Rattle.command_line.specs.Command.{AreSized};
-ghost use Rattle.polypar.specs.Answers.{AnswersTold};
+ghost use Rattle.polypar.specs.Promises.{AnswersTold};
 ghost use Rattle.polypar.specs.Runs.{IsSummaryText};
 ghost use Rattle.polypar.specs.Told.{IsHeld, told_of};
 

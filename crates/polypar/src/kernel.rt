@@ -9,7 +9,7 @@ ghost use Rattle.kernel_plans.specs.Planning.{IsPlanOf};
 ghost use Rattle.polypar.specs.Told.{IsTextAlone, told_of};
 ghost use Rattle.polypar.specs.KernelText.{IsTextFor};
 ghost use Rattle.command_line.specs.Command.{IsSized};
-ghost use Rattle.polypar.specs.Answers.{AnswersProgram, WritesTold, CutsTold};
+ghost use Rattle.polypar.specs.Promises.{AnswersProgram, WritesTold, CutsTold};
 
 use crate::loops::loops_told;
 use crate::sources::sources_told;

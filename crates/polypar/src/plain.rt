@@ -7,7 +7,7 @@ ghost use Rattle.kernel_runs.specs.Running.{AreExecuted};
 ghost use Rattle.report_text.specs.declared.status.Status.{Status};
 ghost use Rattle.polypar.specs.Deserves.{Deserves, IsVerdict};
 ghost use Rattle.command_line.specs.Command.{HasSize};
-ghost use Rattle.polypar.specs.Answers.{AnswersCommand, AnswersWords, IsReadOn, TellsStatus};
+ghost use Rattle.polypar.specs.Promises.{AnswersCommand, AnswersWords, IsReadOn, TellsStatus};
 ghost use Rattle.polypar.specs.Answered.{Answered, NamesOf};
 
 use crate::generating::print_summary;

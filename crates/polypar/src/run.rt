@@ -10,10 +10,10 @@ ghost use Rattle.scop_syntax.specs.Limits.{WithinLimits};
 ghost use Rattle.data_text.specs.ArrayText.{array_text};
 ghost use Rattle.polypar.specs.Case.{IsShort};
 ghost use Rattle.polypar.specs.Deserves.{too_long};
-ghost use Rattle.polypar.specs.Answers.{AnswersTold, AsksRun};
-ghost use Rattle.polypar.specs.Answers.{AnswersCase, AnswersData, AnswersKernel, AnswersFor, AnswersCommand};
+ghost use Rattle.polypar.specs.Promises.{AnswersTold, AsksRun};
+ghost use Rattle.polypar.specs.Promises.{AnswersCase, AnswersData, AnswersKernel, AnswersFor, AnswersCommand};
 ghost use Rattle.polypar.specs.Told.{lines_and_arrays};
-ghost use Rattle.polypar.specs.Answers.{CutsTold, IsReadOn, ReadsKernel, WritesTold};
+ghost use Rattle.polypar.specs.Promises.{CutsTold, IsReadOn, ReadsKernel, WritesTold};
 ghost use Rattle.command_line.specs.Command.{AreSized, HasSize};
 ghost use Rattle.polypar.specs.Answered.{NamesOf};
 

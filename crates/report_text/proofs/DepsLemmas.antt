@@ -6,7 +6,7 @@ use Rattle.std.specs.Prelude.{slice_get}
 use Rattle.scop_lexer.specs.Bytes.{Text}
 use Rattle.scop_syntax.specs.Tree.{Program}
 use Rattle.iteration_domains.specs.Model.{Modelled, model_of}
-use Rattle.dataflow.specs.Answers.{reads_from, reads_of_statement, reads_in}
+use Rattle.dataflow.specs.ReadSources.{reads_from, reads_of_statement, reads_in}
 use Rattle.dataflow.specs.declared.source.ReadSource.{ReadSource}
 use Rattle.report_text.specs.DepsText.{read_text, line_of, lines_of}
 

@@ -15,7 +15,7 @@ use Rattle.scop_units.specs.Names.{HasDistinctNames, header_names}
 use Rattle.iteration_domains.specs.Model.{Modelled, KernelModel, modelled, model_of}
 use Rattle.quast_trees.specs.Postfix.{tree_of}
 use Rattle.pip_solver.specs.declared.stop.Stop.TheVariants as solver
-use Rattle.dataflow.specs.Answers.{reads_of}
+use Rattle.dataflow.specs.ReadSources.{reads_of}
 use Rattle.dataflow.specs.Told.{IsQuastOver, IsToldStop, IsToldOver, IsToldAt, AreTold}
 use Rattle.dataflow.specs.declared.source.ReadSource.{ReadSource}
 use Rattle.dataflow.specs.declared.source.ReadSource.TheVariants as source

@@ -8,7 +8,7 @@ ghost use Rattle.scop_syntax.specs.Tree.{Program};
 ghost use Rattle.scop_parser.specs.Spelling.{SpellsProgram};
 ghost use Rattle.scop_units.specs.Names.{HasDistinctNames, header_names};
 ghost use Rattle.iteration_domains.specs.Model.{model_of};
-ghost use Rattle.dataflow.specs.Answers.{reads_of};
+ghost use Rattle.dataflow.specs.ReadSources.{reads_of};
 ghost use Rattle.dataflow.specs.Told.{AreTold};
 ghost use Rattle.dataflow.specs.declared.source.ReadSource.{ReadSource};
 ghost use Rattle.quast_trees.specs.Tree.{initial};

@@ -6,7 +6,7 @@ ghost use Rattle.std.specs.List.{concat};
 ghost use Rattle.scop_syntax.specs.Kernel.{IsKernel};
 ghost use Rattle.scop_syntax.specs.View.{program_of};
 ghost use Rattle.iteration_domains.specs.Model.{model_of};
-ghost use Rattle.dataflow.specs.Answers.{reads_of_statement};
+ghost use Rattle.dataflow.specs.ReadSources.{reads_of_statement};
 ghost use Rattle.report_text.specs.DepsText.{array_of, deps_text, lines_of, names_at, read_text, solver_text};
 ghost use Rattle.report_text.specs.DepsText.{source_text, stop_text};
 ghost use Rattle.quast_text.specs.Waiting.{texts_of};

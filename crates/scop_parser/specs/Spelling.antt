@@ -10,7 +10,7 @@ use Rattle.scop_lexer.specs.declared.token.FaultKind.{FaultKind}
 use Rattle.scop_lexer.specs.declared.token.FaultKind.TheVariants as lexical
 use Rattle.kernel_grammar.specs.Kernel.{Kernel, Spells}
 use Rattle.expression_grammar.specs.declared.token.Token.{Token as GrammarToken}
-use Rattle.kernel_grammar.specs.Answers.{IsMisplaced, IsUnended, IsTooDeep}
+use Rattle.kernel_grammar.specs.Promises.{IsMisplaced, IsUnended, IsTooDeep}
 use Rattle.scop_roles.specs.declared.fault.Kind.{Kind}
 use Rattle.scop_roles.specs.declared.fault.Kind.TheVariants as judged
 use Rattle.scop_roles.specs.declared.fault.Fault.{Fault}

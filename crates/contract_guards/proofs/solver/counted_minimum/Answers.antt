@@ -1,5 +1,5 @@
 use Rattle.std.proofs.Common.{subst}
-use Rattle.lexmin_runs.specs.Answers.{IsAnswer}
+use Rattle.lexmin_runs.specs.Leaves.{IsAnswer}
 use Rattle.quast_trees.specs.Tree.{LeavesHave}
 use Rattle.tableau_rows.specs.Problem.{problem_of}
 use Rattle.contract_guards.proofs.Results.{if_ok}

@@ -1,5 +1,5 @@
 use Rattle.std.proofs.Common.{[], inl, inr, subst}
-use Rattle.pip_solver.specs.Answers.{Empties}
+use Rattle.pip_solver.specs.Promises.{Empties}
 use Rattle.contract_guards.proofs.solver.has_no_point.Goals as goal
 
 pub returns-clause-spent : goal.returns-clause-spent

@@ -1,7 +1,7 @@
 use Rattle.std.proofs.Common.{rules, List, subst, ◌<◌, ◌^◌}
 use Rattle.scop_syntax.specs.Members.{In}
 use Rattle.iteration_domains.specs.Model.{Modelled}
-use Rattle.dataflow.specs.Answers.{AreSources, reads_in, reads_of}
+use Rattle.dataflow.specs.ReadSources.{AreSources, reads_in, reads_of}
 use Rattle.dataflow.proofs.Gathering.{Gathered, all_gathered, at_in, dropped, last_named, statement_gathered}
 use Rattle.dataflow.proofs.reads.last_writes.Goals as goal
 use Rattle.dataflow.proofs.reads.last_writes.Goals.{After-loop-statement}

@@ -1,5 +1,5 @@
 use Rattle.std.proofs.Common.{All, drop}
-use Rattle.dataflow.specs.Answers.{reads_in}
+use Rattle.dataflow.specs.ReadSources.{reads_in}
 use Rattle.dataflow.specs.Steps.{IsHeldSource}
 use Rattle.dataflow.proofs.Gathering.{Gathered}
 use Rattle.dataflow.proofs.reads.last_writes.Given as goal

@@ -4,7 +4,7 @@ use Rattle.tableau_rows.specs.Problem.{problem_of, first_rows}
 use Rattle.tableau_rows.specs.Run.{run}
 use Rattle.lexmin_runs.specs.Nodes.{Counted, answered}
 use Rattle.checked_tableau.specs.Table.{Table, table_of}
-use Rattle.pip_solver.specs.Answers.{Tells}
+use Rattle.pip_solver.specs.Promises.{Tells}
 use Rattle.pip_solver.specs.declared.question.QuestionStop.{QuestionStop}
 use Rattle.pip_solver.proofs.Deciding.{decided_is, turned, front_sized, own_sized}
 use Rattle.pip_solver.proofs.emptiness.decide.Goals as goal

@@ -6,7 +6,7 @@ use Rattle.tableau_rows.specs.Moves.{row_at}
 use Rattle.lexmin_runs.specs.Nodes.{Counted, broken_somewhere, part_of}
 use Rattle.tableau_nodes.specs.declared.node.Tableau.{Tableau}
 use Rattle.tableau_nodes.specs.Node.{node_of}
-use Rattle.pip_solver.specs.Answers.{Tells}
+use Rattle.pip_solver.specs.Promises.{Tells}
 use Rattle.pip_solver.proofs.Questions.{asks_of, asked-yes, asked-more, asked-stops}
 use Rattle.pip_solver.proofs.looking.first_broken.Goals as goal
 use Rattle.pip_solver.proofs.looking.first_broken.Goals.{After-broken_somewhere}

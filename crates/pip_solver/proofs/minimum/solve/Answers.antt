@@ -4,13 +4,13 @@ use Rattle.quast_trees.specs.Tree.{Tree, LeavesHave}
 use Rattle.quast_trees.specs.Postfix.{standing, top}
 use Rattle.quast_trees.specs.Value.{value}
 use Rattle.tableau_rows.specs.Problem.{problem_of}
-use Rattle.lexmin_runs.specs.Answers.{IsAnswer}
+use Rattle.lexmin_runs.specs.Leaves.{IsAnswer}
 use Rattle.lexmin_runs.specs.Nodes.{Counted, whole}
 use Rattle.tableau_nodes.specs.Node.{node_of}
 use Rattle.pip_solver.specs.Frames.{Runs}
 use Rattle.lexmin_runs.proofs.Trees.{lexmin-right}
 use Rattle.lexmin_runs.proofs.Kept.{lexmin-forms}
-use Rattle.pip_solver.specs.Answers.{Tells}
+use Rattle.pip_solver.specs.Promises.{Tells}
 use Rattle.pip_solver.specs.Solving.{solved}
 use Rattle.pip_solver.specs.declared.question.QuestionStop.{QuestionStop}
 use Rattle.pip_solver.proofs.Minimum_of.{is_sized, first_ready, first_run, tree_speaks}

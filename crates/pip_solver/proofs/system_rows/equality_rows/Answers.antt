@@ -2,7 +2,7 @@ use Rattle.std.proofs.Common.{rules, subst, refl, List}
 use Rattle.std.specs.Prelude.{Err}
 use Rattle.whole_numbers.specs.Affine.{Affine}
 use Rattle.affine_forms.specs.declared.stop.FormStop.{FormStop}
-use Rattle.pip_solver.specs.Answers.{Forms, FormedUntil}
+use Rattle.pip_solver.specs.Promises.{Forms, FormedUntil}
 use Rattle.pip_solver.proofs.Deciding.{unposed}
 use Rattle.pip_solver.proofs.system_rows.equality_rows.Goals as goal
 

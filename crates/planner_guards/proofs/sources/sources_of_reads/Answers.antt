@@ -1,7 +1,7 @@
 use Rattle.std.specs.Prelude.{◌≡◌, ℕ, zero, suc, List, [], ◌∷◌, Option, Some, None, slice_get}
 use Rattle.std.proofs.Common.{ap, refl, subst}
 use Rattle.iteration_domains.specs.Model.{KernelModel, Modelled}
-use Rattle.dataflow.specs.Answers.{AreSources, reads_in, reads_of}
+use Rattle.dataflow.specs.ReadSources.{AreSources, reads_in, reads_of}
 use Rattle.dataflow.specs.Told.{AreTold, IsToldAt}
 use Rattle.dataflow.specs.declared.source.ReadSource.{ReadSource}
 use Rattle.dataflow.specs.declared.source.ReadSource.TheVariants as source

@@ -1,6 +1,6 @@
 -- What was written is flushed, or that fails.
 use Rattle.std.proofs.Common.{subst, sym, rules}
-use Rattle.polypar.specs.Answers.{AnswersCommand}
+use Rattle.polypar.specs.Promises.{AnswersCommand}
 use Rattle.polypar.proofs.AnswerLemmas.{done_flushed, done_unflushed}
 use Rattle.polypar.proofs.plain.answer_command.Goals as goal
 

@@ -1,6 +1,6 @@
 -- `gen` reads nothing, and answers whatever the source tells.
 use Rattle.std.proofs.Common.{inl, refl, subst, sym}
-use Rattle.polypar.specs.Answers.{AnswersCommand}
+use Rattle.polypar.specs.Promises.{AnswersCommand}
 use Rattle.polypar.proofs.AnswerLemmas.{some_input}
 use Rattle.polypar.proofs.RunLemmas.{summary_answers}
 use Rattle.polypar.proofs.plain.end_of.Goals as goal

@@ -1,6 +1,6 @@
 -- An input that was not read is answered too.
 use Rattle.std.proofs.Common.{inl, Err, ap, subst, sym}
-use Rattle.polypar.specs.Answers.{AnswersCommand}
+use Rattle.polypar.specs.Promises.{AnswersCommand}
 use Rattle.polypar.proofs.AnswerLemmas.{some_input, long_input}
 use Rattle.polypar.proofs.RunLemmas.{long_answers, untouched}
 use Rattle.polypar.proofs.run.run.Goals as goal

@@ -2,7 +2,7 @@ use Rattle.std.proofs.Common.{rules, ◌≡◌, ◌∙◌, ◌-◌, ◌<◌, ℕ
 use Rattle.std.proofs.Common.{ltb-false}
 use Rattle.scop_lexer.specs.Bytes.{Text}
 use Rattle.scop_syntax.specs.View.{program_of}
-use Rattle.dataflow.specs.Answers.{reads_from, reads_of_statement}
+use Rattle.dataflow.specs.ReadSources.{reads_from, reads_of_statement}
 use Rattle.report_text.specs.DepsText.{lines_of}
 use Rattle.report_text.proofs.DepsLemmas.{lines_past, line_more}
 use Rattle.report_text.proofs.deps_lines.push_reads.Goals as goal
