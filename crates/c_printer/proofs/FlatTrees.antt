@@ -1,5 +1,5 @@
 -- Flat trees of a program's statements can be printed.
-use Rattle.std.proofs.Common.{◌≡◌, ◌∙◌, ap, sym, refl, ℕ, zero, suc, ◌+◌, ◌^◌, ◌<◌, ◌≤◌, pos, List, [], ◌∷◌, length}
+use Rattle.std.proofs.Common.{◌≡◌, ◌∙◌, ap, sym, ℕ, zero, suc, ◌+◌, ◌^◌, ◌<◌, ◌≤◌, pos, List, [], ◌∷◌, length}
 use Rattle.std.proofs.Common.{All}
 use Rattle.std.proofs.Common.{arith}
 use Rattle.std.specs.Prelude.{ℤ, negsuc, ◌<ℤ◌, option_map, unsigned_abs}
@@ -7,7 +7,7 @@ use Rattle.std.proofs.lemmas.Int.{ints}
 use Rattle.std.proofs.lemmas.List.Elements.{All-head, All-tail}
 use Rattle.std.proofs.lemmas.Option.{slice_get-map}
 use Rattle.whole_numbers.specs.Affine.{Affine}
-use Rattle.scop_syntax.specs.Statements.{Scope, round, under, Placed, loops_in, statements_of}
+use Rattle.scop_syntax.specs.Statements.{Placed, statements_of}
 use Rattle.scop_syntax.specs.Tree.{Head, Program}
 use Rattle.loop_tree.specs.Fits.{form_in}
 use Rattle.loop_tree.specs.Marks.{AreBounds as HaveDivisors, IsTest as HasDivisor, AreTests as TestsHaveDivisors}
@@ -16,7 +16,8 @@ use Rattle.loop_tree.specs.Shape.{IsOver, BoundsAreOver, TreeIsOver, TreesAreOve
 use Rattle.loop_tree.specs.Shape.{IsUpTo, BoundsAreUpTo, TestIsUpTo, TreeIsUpTo, TreesAreUpTo, NestsTo, NestAllTo}
 use Rattle.loop_tree.specs.Tree.{Bounds, only, besides, Test, at_least, equal, multiple, Tree, loop, guard, instance}
 use Rattle.loop_tree.specs.Tree.{Trees, none, more}
-use Rattle.c_printer.specs.Standings.{Standing, standing, heads_in}
+use Rattle.standings.specs.Standings.{Standing, standing, heads_in}
+use Rattle.standings.proofs.Heads.{as_many_heads}
 use Rattle.c_printer.specs.Printable.{IsTreeForm, IsDivisor, AreBounds, IsTest, AreTests, AreTurns, IsInstance, IsNode}
 use Rattle.c_printer.specs.Printable.{AreNodes}
 use Rattle.c_printer.proofs.FormsOver.{at_most_is_narrow, at_most_are_narrow}
@@ -76,11 +77,6 @@ turns_printed parameters loops m k (head ∷ heads) (f ∷ fs) e low count over 
       (All-tail (IsUpTo k) f fs up),
 )
 
-heads_counted : (scopes : List Scope) → length (heads_in scopes) ≡ loops_in scopes
-heads_counted [] = refl
-heads_counted (under tests ∷ scopes) = heads_counted scopes
-heads_counted (round head ∷ scopes) = ap suc (heads_counted scopes)
-
 instance_printed : (program : Program) (loops m k n : ℕ) (turns : List Affine) → m ≡ loops + length program.parameters
     → k < 2 ^ 63 → IsInstanceOf program n turns → All (IsOver m) turns → All (IsUpTo k) turns
     → IsInstance program loops n turns
@@ -90,7 +86,7 @@ instance_printed program loops m k n turns e low i over up =
       standing = of i.statement;
       stands = slice_get-map of (statements_of program) n ∙ ap (option_map of) i.stands;
       turned = turns_printed (length program.parameters) loops m k (heads_in i.statement.scopes) turns e low
-          (i.turned ∙ sym (heads_counted i.statement.scopes)) over up;
+          (i.turned ∙ sym (as_many_heads i.statement.scopes)) over up;
     }
 
 mutual

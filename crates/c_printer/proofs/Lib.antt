@@ -1,5 +1,4 @@
 pub mod Putting
-pub mod Gathering
 pub mod Multiples
 pub mod Declaring
 pub mod ExampleTexts

@@ -15,12 +15,12 @@ use Rattle.form_text.specs.Reading.{strip}
 use Rattle.form_text.proofs.Digits.{is_digit_of}
 use Rattle.form_text.proofs.Terms.{digit_is_byte}
 use Rattle.c_printer.specs.Forms.{loop_name, loop_names}
-use Rattle.c_printer.specs.Standings.{Standing, standing, heads_in, iterators_of, standings_of}
-use Rattle.c_printer.specs.Gathered.{gathered, gathered_all}
-use Rattle.c_printer.specs.Naming.{IsFree, AreFree, TakesWords, TakeWords, HasWords}
+use Rattle.standings.specs.Standings.{Standing, standing, heads_in, standings_of}
+use Rattle.standings.specs.steps.Gathered.{gathered, gathered_all}
+use Rattle.c_printer.specs.Naming.{iterators_of, IsFree, AreFree, TakesWords, TakeWords, HasWords}
 use Rattle.c_printer.specs.Printable.{IsStart, AreHeads, IsNamed}
 use Rattle.c_printer.proofs.FormsOver.{at_most_is_narrow, at_most_are_narrow}
-use Rattle.c_printer.proofs.Gathering.{program_gathered}
+use Rattle.standings.proofs.Gathering.{program_gathered}
 use Rattle.c_printer.proofs.InstancesRead.{names_front}
 
 -- names of emitted loops

@@ -1,8 +1,6 @@
 pub mod Forms
-pub mod Standings
 pub mod Statements
 pub mod Nodes
-pub mod Gathered
 pub mod Reading
 pub mod View
 pub mod steps

@@ -1,9 +1,14 @@
 -- Kernels whose names are words, each its own, and leave the names of emitted loops free.
 use Rattle.std.specs.Prelude.{◌≡◌, List, [], ◌∷◌, ◌++◌, codes, None, ⊤}
 use Rattle.scop_lexer.specs.Bytes.{Text}
-use Rattle.scop_syntax.specs.Tree.{Tree, loop, guard, statement, Trees, none, more, Program}
+use Rattle.scop_syntax.specs.Tree.{Head, Tree, loop, guard, statement, Trees, none, more, Program}
 use Rattle.form_text.specs.Names.{IsVariableName, IsFresh, AreNames}
 use Rattle.form_text.specs.Reading.{strip}
+
+-- the source iterators of loops
+abbrev pub iterators_of : List Head → List Text
+iterators_of [] = []
+iterators_of (head ∷ heads) = head.iterator ∷ iterators_of heads
 
 -- `pp_` does not stand in front
 abbrev pub IsFree : Text → Type 0

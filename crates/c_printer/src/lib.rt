@@ -18,7 +18,6 @@ mod read_forms;
 mod read_instances;
 mod read_nodes;
 mod read_tests;
-mod standings;
 mod text_laws;
 mod texts;
 mod values;

@@ -18,7 +18,7 @@ ghost use Rattle.c_printer.specs.Naming.{HasWords};
 ghost use Rattle.c_printer.specs.Nodes.{text_of};
 ghost use Rattle.c_printer.specs.Printable.{AreNodes, IsInstance, IsNamed};
 ghost use Rattle.c_printer.specs.Reading.{read_text};
-ghost use Rattle.c_printer.specs.Standings.{heads_in};
+ghost use Rattle.standings.specs.Standings.{heads_in};
 
 use c_printer::{
     kernels_tell_their_names_apart, print, printed_divisions_are_those_of_the_tree,
