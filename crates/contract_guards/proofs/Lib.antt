@@ -1,4 +1,3 @@
-pub mod Results
 pub mod Falling
 pub mod Lexed
 pub mod Turns

@@ -20,7 +20,7 @@ use Rattle.iteration_domains.specs.Rows.{variable, variables, composed_test, ite
 use Rattle.iteration_domains.specs.Rows.{forms_from}
 use Rattle.iteration_domains.specs.Constraints.{equalities_in, rows_in}
 use Rattle.iteration_domains.specs.Sizes.{forms_size, grown, CanCompose}
-use Rattle.iteration_domains.specs.Standing.{Standing, standing, finished, with_tests, entered, CanEnter}
+use Rattle.iteration_domains.specs.Standing.{Standing, finished, entered, CanEnter}
 use Rattle.iteration_domains.specs.Path.{scope_of, scopes_of}
 use Rattle.iteration_domains.specs.declared.rows.Scope.{Scope as CodeScope}
 use Rattle.iteration_domains.proofs.Points.{equalities_in-append, rows_in-append}
@@ -94,16 +94,6 @@ sized-within n j head forms sized =
     let P : Affine → Type 0 = λ g. variables_of g ≡ n in
     All-append P forms (iterator n j head forms ∷ []) sized
     (All-cons P (iterator n j head forms) [] (length-iterator n j head forms sized) (All-nil P))
-
--- comparisons put behind, and others behind them
-pub with_both : (s : Standing) (tests others : List Test)
-    → with_tests (with_tests s tests) others ≡ with_tests s (tests ++ others)
-with_both s tests others =
-    ap₂ (λ (es rs : List Affine). standing s.variables s.loops s.forms es rs)
-    (append_assoc s.equalities (equalities_in tests) (equalities_in others)
-    ∙ ap (λ (es : List Affine). s.equalities ++ es) (sym (equalities_in-append tests others)))
-    (append_assoc s.rows (rows_in tests) (rows_in others)
-    ∙ ap (λ (rs : List Affine). s.rows ++ rs) (sym (rows_in-append tests others)))
 
 pub finished-entered : (s : Standing) (scope : Scope) (rest : List Scope)
     → finished (entered s scope) rest ≡ finished s (scope ∷ rest)

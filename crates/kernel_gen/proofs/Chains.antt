@@ -13,7 +13,7 @@ use Rattle.scop_syntax.specs.Statements.{Placed, in_loop_of, placed_all}
 use Rattle.scop_syntax.specs.Cells.{accesses, cell_of}
 use Rattle.scop_syntax.specs.Execution.{AreWithin, IsCell, IsInside, layout, size_of}
 use Rattle.scop_syntax.proofs.Members.{in_append, in_map_from}
-use Rattle.scop_syntax.specs.Kernel.{AreTrees, IsAccess, IsAffine, IsDeclaration, IsKernel}
+use Rattle.scop_syntax.specs.Kernel.{AreTrees, IsAccess, IsAffine, IsKernel}
 use Rattle.scop_syntax.specs.Limits.{WithinLimits}
 use Rattle.kernel_gen.specs.Programs.{chain, chain_body, chained, digit, linked, upwards}
 use Rattle.kernel_gen.proofs.Forms.{IsParameter, IsPositive, all_one, declared, in_order, is_form, is_head, positive}
@@ -113,16 +113,6 @@ names = codes "A0" ∷ codes "A1" ∷ codes "A2" ∷ codes "A3" ∷ []
 abbrev extents : List Affine
 extents = length_of_line ∷ []
 
--- a line of N + 4 cells
-cells_of_line : (name : List ℕ) → IsDeclaration 1 (record { name = name; parameters_before = 1; extents = extents })
-cells_of_line name =
-    record {
-      place = omega arith;
-      some = omega arith;
-      few = omega arith;
-      extents = all_one (IsAffine 1) length_of_line (is_form 1 16 (2 ^ 20) length_of_line refl);
-    }
-
 abbrev ranks : List ℕ
 ranks = 1 ∷ 1 ∷ 1 ∷ 1 ∷ []
 
@@ -162,7 +152,8 @@ chain_is seed =
       few_parameters = omega arith;
       few_arrays = omega arith;
       few_statements = omega arith;
-      declarations = declared 1 1 names extents cells_of_line;
+      declarations = declared 1 1 names extents (omega arith) (omega arith) (omega arith)
+          (all_one (IsAffine 1) length_of_line (is_form 1 16 (2 ^ 20) length_of_line refl));
       in_order = in_order 1 names extents;
       body = (
         (

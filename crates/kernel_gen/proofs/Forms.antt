@@ -58,13 +58,14 @@ all_one P x is = All-cons P x [] is (All-nil P)
 pub all_two : {A : Type 0} (P : A → Type 0) (x y : A) → P x → P y → All P (x ∷ y ∷ [])
 all_two P x y is also = All-cons P x (y ∷ []) is (all_one P y also)
 
--- arrays with the same extents are declared well if one is
-pub declared : (n before : ℕ) (names : List (List ℕ)) (extents : List Affine)
-    → ((name : List ℕ) → IsDeclaration n (record { name = name; parameters_before = before; extents = extents }))
-    → All (IsDeclaration n) (arrays_of names before extents)
-declared n before [] extents each = All-nil (IsDeclaration n)
-declared n before (name ∷ names) extents each =
-    All-cons (IsDeclaration n) _ (arrays_of names before extents) (each name) (declared n before names extents each)
+-- arrays with the same one to four extents are declared well
+pub declared : (n before : ℕ) (names : List (List ℕ)) (extents : List Affine) → before ≤ n → 1 ≤ length extents
+    → length extents ≤ 4 → All (IsAffine n) extents → All (IsDeclaration n) (arrays_of names before extents)
+declared n before [] extents place some few affine = All-nil (IsDeclaration n)
+declared n before (name ∷ names) extents place some few affine =
+    All-cons (IsDeclaration n) (record { name = name; parameters_before = before; extents = extents })
+    (arrays_of names before extents) (record { place = place; some = some; few = few; extents = affine })
+    (declared n before names extents place some few affine)
 
 -- such arrays stand behind one number of parameters
 pub in_order : (before : ℕ) (names : List (List ℕ)) (extents : List Affine)

@@ -9,7 +9,7 @@ use Rattle.scop_syntax.specs.Members.{In}
 use Rattle.scop_syntax.specs.Statements.{Placed, in_loop_of}
 use Rattle.scop_syntax.specs.Cells.{accesses, cell_of}
 use Rattle.scop_syntax.specs.Execution.{AreWithin, IsCell, IsInside, layout}
-use Rattle.scop_syntax.specs.Kernel.{IsAccess, IsAffine, IsDeclaration, IsKernel, IsStatement, ranks_of}
+use Rattle.scop_syntax.specs.Kernel.{IsAccess, IsAffine, IsKernel, IsStatement, ranks_of}
 use Rattle.scop_syntax.specs.Limits.{WithinLimits}
 use Rattle.kernel_gen.specs.Programs.{product, place, upwards, i_of_cube, j_of_cube, k_of_cube}
 use Rattle.kernel_gen.proofs.Forms.{IsParameter, IsPositive, all_one, all_two, declared, in_order, is_form, is_head}
@@ -97,19 +97,9 @@ names = codes "A" ∷ codes "B" ∷ codes "C" ∷ []
 abbrev side : Affine
 side = form_of (pos 1 ∷ []) (pos 0)
 
+-- N rows of N cells
 abbrev extents : List Affine
 extents = side ∷ side ∷ []
-
--- a square of N rows of N cells
-square : (name : List ℕ) → IsDeclaration 1 (record { name = name; parameters_before = 1; extents = extents })
-square name =
-    let is_side = is_form 1 16 (2 ^ 20) side refl in
-    record {
-      place = omega arith;
-      some = omega arith;
-      few = omega arith;
-      extents = all_two (IsAffine 1) side side is_side is_side;
-    }
 
 access_is : (array : ℕ) (f g : Affine) → array < 3 → slice_index_or (ranks_of product) array 0 ≡ 2 → IsAffine 4 f
     → IsAffine 4 g → IsAccess (ranks_of product) 4 (place array (f ∷ g ∷ []))
@@ -132,11 +122,13 @@ body_is =
 
 product_is : IsKernel product
 product_is =
+    let is_side = is_form 1 16 (2 ^ 20) side refl in
     record {
       few_parameters = omega arith;
       few_arrays = omega arith;
       few_statements = omega arith;
-      declarations = declared 1 1 names extents square;
+      declarations = declared 1 1 names extents (omega arith) (omega arith) (omega arith)
+          (all_two (IsAffine 1) side side is_side is_side);
       in_order = in_order 1 names extents;
       body = (
         (

@@ -8,7 +8,7 @@ use Rattle.scop_syntax.specs.Members.{In}
 use Rattle.scop_syntax.specs.Statements.{Placed, in_loop_of}
 use Rattle.scop_syntax.specs.Cells.{accesses, cell_of}
 use Rattle.scop_syntax.specs.Execution.{IsCell, IsInside, layout}
-use Rattle.scop_syntax.specs.Kernel.{IsAccess, IsAffine, IsDeclaration, IsKernel, IsStatement, ranks_of}
+use Rattle.scop_syntax.specs.Kernel.{IsAccess, IsAffine, IsKernel, IsStatement, ranks_of}
 use Rattle.scop_syntax.specs.Limits.{WithinLimits}
 use Rattle.kernel_gen.specs.Programs.{near, sweep, upwards}
 use Rattle.kernel_gen.proofs.Forms.{IsParameter, IsPositive, all_one, all_two, declared, in_order, is_form, is_head}
@@ -79,16 +79,6 @@ length_of_line = form_of (pos 0 ∷ pos 1 ∷ []) (pos 0)
 abbrev extents : List Affine
 extents = length_of_line ∷ []
 
--- a line of N cells
-cells_of_line : (name : List ℕ) → IsDeclaration 2 (record { name = name; parameters_before = 2; extents = extents })
-cells_of_line name =
-    record {
-      place = omega arith;
-      some = omega arith;
-      few = omega arith;
-      extents = all_one (IsAffine 2) length_of_line (is_form 2 16 (2 ^ 20) length_of_line refl);
-    }
-
 near_is : (shift : ℤ) → IsAffine 4 (form_of (pos 0 ∷ pos 0 ∷ pos 0 ∷ pos 1 ∷ []) shift)
     → IsAccess (ranks_of sweep) 4 (near shift)
 near_is shift is = record { array = omega arith; rank = refl; subscripts = all_one (IsAffine 4) _ is }
@@ -106,7 +96,8 @@ sweep_is =
       few_parameters = omega arith;
       few_arrays = omega arith;
       few_statements = omega arith;
-      declarations = declared 2 2 names extents cells_of_line;
+      declarations = declared 2 2 names extents (omega arith) (omega arith) (omega arith)
+          (all_one (IsAffine 2) length_of_line (is_form 2 16 (2 ^ 20) length_of_line refl));
       in_order = in_order 2 names extents;
       body = (
         (

@@ -1,7 +1,7 @@
 -- Rows appended to rows.
 use Rattle.std.proofs.Common.{◌≡◌, ℕ, zero, suc, ◌+◌, ◌-◌, ◌<◌, ℤ, pos, negsuc, List, [], ◌∷◌, ◌++◌, length, get_or}
 use Rattle.std.proofs.Common.{refl, ap, subst, sym, ◌∙◌, All, arith}
-use Rattle.std.specs.Prelude.{◌≤◌, ◌^◌, ◌≤ℤ◌, unsigned_abs}
+use Rattle.std.specs.Prelude.{◌≤◌, ◌^◌, ◌≤ℤ◌, Some, unsigned_abs}
 use Rattle.std.proofs.lemmas.Int.{ints}
 use Rattle.whole_numbers.specs.Affine.{Affine, value_of, multiple_of_form}
 use Rattle.whole_numbers.proofs.Dot.{length-multiples}
@@ -13,7 +13,6 @@ use Rattle.fm_projection.specs.Alone.{last_alone, ranged}
 use Rattle.fm_projection.proofs.Passing.{gone_dimensions}
 use Rattle.plain_scan.specs.Between.{HasSmallNumbers}
 use Rattle.plain_scan.specs.declared.outline.Shadow.{Shadow}
-use Rattle.std.specs.Prelude.{Err, Ok, OnOk, Result, Some}
 use Rattle.plain_scan.specs.declared.numbers.Numbers.{Numbers}
 use Rattle.plain_scan.specs.Between.{IsAtLeast, IsAtMost, IsSmallIf, LiesBetween, AreSmall}
 use Rattle.plain_scan.specs.Outlines.{IsRow, IsEquality, IsShadowOf}
@@ -112,10 +111,6 @@ row_at s fs k f is e sized inside small =
       holds = λ point h. subst (λ g. pos 0 ≤ℤ value_of g point) (sym is)
           ((subst (λ gs. All (λ g. pos 0 ≤ℤ value_of g point) gs) (sym e) h.1) k f inside);
     }
-
-pub on_ok : {T E : Type 0} {P Q : Type 0} (r : Result T E) → (P → Q) → OnOk r P → OnOk r Q
-on_ok (Ok x) f h = f h
-on_ok (Err e) f h = h
 
 pub row_holds_at : (s : Constraints) (fs : List Affine) (k : ℕ) (f : Affine) → f ≡ get_or fs k f → fs ≡ s.rows
     → k < length fs → (point : List ℤ) → Satisfies s point → pos 0 ≤ℤ value_of f point

@@ -16,6 +16,7 @@ use Rattle.fm_projection.specs.Alone.{place_form}
 use Rattle.plain_scan.specs.Rows.{low_bound, high_bound, low_bounds, high_bounds}
 use Rattle.plain_scan.specs.Sorting.{if_above, if_below, lows_in, highs_in}
 use Rattle.plain_scan.specs.Hulls.{own_leaf, leaf_tree, sets_in}
+use Rattle.plain_scan.proofs.Members.{same_place}
 
 take_suc : {X : Type 0} (xs : List X) (i : ℕ) (x : X) → x ≡ get_or xs i x → i < length xs
     → take (suc i) xs ≡ take i xs ++ x ∷ []
@@ -142,11 +143,6 @@ opposites_more : (xs : List ℤ) (x : ℤ)
     → multiples (neg_ℤ (pos 1)) (xs ++ x ∷ []) ≡ multiples (neg_ℤ (pos 1)) xs ++ neg_ℤ x ∷ []
 opposites_more [] x = ap (λ z. z ∷ []) (opposite_is x)
 opposites_more (y ∷ xs) x = ap (λ zs. (neg_ℤ (pos 1) *ℤ y) ∷ zs) (opposites_more xs x)
-
-same_place : (xs : List ℤ) (i : ℕ) (d e : ℤ) → i < length xs → get_or xs i d ≡ get_or xs i e
-same_place [] i d e inside = absurd (omega (arith, inside))
-same_place (x ∷ xs) zero d e inside = refl
-same_place (x ∷ xs) (suc i) d e inside = same_place xs i d e (omega (arith, inside))
 
 -- an opposite more
 pub opposite_next : (xs : List ℤ) (i : ℕ) (y : ℤ) (old new : List ℤ) → i < length xs

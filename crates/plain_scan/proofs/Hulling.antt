@@ -23,6 +23,7 @@ use Rattle.plain_scan.specs.declared.outline.Shadow.{Shadow}
 use Rattle.plain_scan.specs.declared.set_outline.Outline.{Outline}
 use Rattle.plain_scan.specs.Outlines.{AreRows, IsShadowOf}
 use Rattle.plain_scan.specs.Hulls.{Hold, HoldsAt, IsAlike, IsHullRow, AreHullRows, IsHull}
+use Rattle.plain_scan.proofs.Nodes.{append_one}
 use Rattle.plain_scan.proofs.Rows.{weaker_row}
 use Rattle.plain_scan.proofs.Smallness.{place_has_small}
 use Rattle.std.specs.Prelude.{◌≤◌, ◌^◌, unsigned_abs}
@@ -64,10 +65,6 @@ last_of (y ∷ z ∷ front) (suc m) size =
     let r = last_of (z ∷ front) m (omega (arith, size)) in
     (y ∷ r.0, r.1, ap (λ (zs : List ℤ). y ∷ zs) r.2, ap suc r.3)
 
-one_more : (xs : List ℤ) (y : ℤ) (ys : List ℤ) → (xs ++ y ∷ []) ++ ys ≡ xs ++ y ∷ ys
-one_more [] y ys = refl
-one_more (z ∷ xs) y ys = ap (λ (zs : List ℤ). z ∷ zs) (one_more xs y ys)
-
 -- some shadow
 any_of : (xs : List Shadow) (k : ℕ) → k < length xs → Shadow
 any_of [] k inside = absurd (omega (arith, inside))
@@ -93,7 +90,7 @@ between_at depth place o d inside dims outer x params range size s =
 number_value : (n place : ℕ) (k c : ℤ) (outer : List ℤ) (x : ℤ) (params : List ℤ) → place < n → length outer ≡ place
     → value_of (place_form n place k c) ((outer ++ x ∷ []) ++ params) ≡ (k *ℤ x) +ℤ c
 number_value n place k c outer x params inside size =
-    let e = one_more outer x params in
+    let e = append_one outer x params in
     let v = place_value n place k c (outer ++ x ∷ params) inside in
     let g : get_or (outer ++ x ∷ params) place (pos 0) ≡ x =
     subst (λ (i : ℕ). get_or (outer ++ x ∷ params) i (pos 0) ≡ x) size (get_or-append_seam outer x params (pos 0)) in
@@ -108,7 +105,7 @@ low_holds depth place n low number o inside dims here is least front params rang
     let r = last_of front place (omega (arith, size, dims)) in
     let t = projected depth o.set.now.system in
     let s2 = subst (λ (q : List ℤ). Satisfies t (q ++ params)) r.2 s in
-    let s3 = subst (Satisfies t) (one_more r.0 r.1 params) s2 in
+    let s3 = subst (Satisfies t) (append_one r.0 r.1 params) s2 in
     let b = (between_at depth place o (any_shadow o depth here) here dims r.0 r.1 params range r.3 s3).0 in
     let l = least (any_shadow o depth here) in
     let v = number_value n place (pos 1) number r.0 r.1 params inside r.3 in
@@ -124,7 +121,7 @@ high_holds depth place n high o inside dims here most front params range size s 
     let r = last_of front place (omega (arith, size, dims)) in
     let t = projected depth o.set.now.system in
     let s2 = subst (λ (q : List ℤ). Satisfies t (q ++ params)) r.2 s in
-    let s3 = subst (Satisfies t) (one_more r.0 r.1 params) s2 in
+    let s3 = subst (Satisfies t) (append_one r.0 r.1 params) s2 in
     let b = (between_at depth place o (any_shadow o depth here) here dims r.0 r.1 params range r.3 s3).1 in
     let l = most (any_shadow o depth here) in
     let v = number_value n place (negsuc 0) high r.0 r.1 params inside r.3 in
@@ -132,11 +129,6 @@ high_holds depth place n high o inside dims here most front params range size s 
     let two = mul_one_left r.1 in
     subst (λ (q : List ℤ). pos 0 ≤ℤ value_of (place_form n place (negsuc 0) high) (q ++ params)) (sym r.2)
     (omega (arith, ints, v, one, two, b, l))
-
-pub same_at : {X : Type 0} (xs : List X) (i : ℕ) (d e : X) → i < length xs → get_or xs i d ≡ get_or xs i e
-same_at [] i d e inside = absurd (omega (arith, inside))
-same_at (x ∷ xs) zero d e inside = refl
-same_at (x ∷ xs) (suc i) d e inside = same_at xs i d e (omega (arith, inside))
 
 pub no_greater : (a b c : ℤ) → a ≤ℤ b → b ≤ℤ c → a ≤ℤ c
 no_greater a b c h k = omega (arith, ints, h, k)
@@ -184,7 +176,7 @@ hull_row_more depth n outlines old new f is rows row =
     subst (AreHullRows depth n outlines) (sym is)
     (All-append P old (f ∷ []) rows (All-cons P f [] row (All-nil P)))
 
-pub hull_more : (depth place n : ℕ) (outlines : List Outline) (fs gs more : List Affine)
+hull_more : (depth place n : ℕ) (outlines : List Outline) (fs gs more : List Affine)
     → IsHull depth place n outlines fs → gs ≡ fs ++ more
     → AreHullRows depth n outlines gs → IsHull depth place n outlines gs
 hull_more depth place n outlines fs gs more h is rows = record {
@@ -201,20 +193,33 @@ pub hull_sized : (depth place n : ℕ) (outlines : List Outline) (fs : List Affi
 hull_sized depth place n outlines fs inside h k d here =
     let size = (h.rows k d here).sized in omega (arith, size, inside)
 
--- a row of the first set's shadow is small
-pub small_at : (depth n : ℕ) (o : Outline) (h : Shadow) (fs : List Affine) (k : ℕ) (f : Affine) → IsAlike depth n o
-    → h ≡ get_or o.shadows.items depth h
-    → fs ≡ h.rows.items → k < length fs → f ≡ get_or fs k f → HasSmallNumbers f
-small_at depth n o h fs k f alike at is inside one =
-    let shadow = subst (IsShadowOf (projected depth o.set.now.system)) (sym at) (o.are.each depth h alike.inside) in
-    let rows = subst (AreRows (projected depth o.set.now.system)) (sym is) shadow.rows in
-    subst HasSmallNumbers (sym one) (rows k f inside).small
+-- a row of the first set's shadow: what appending rows made of it asks, and that the rows stay those of a hull
+pub record IsFirstRow (depth place n : ℕ) (outlines : List Outline) (f : Affine) : Type 0 where
+  pub inside : place < variables_of f
+  pub alike : All (IsAlike depth (variables_of f)) outlines
+  pub small : HasSmallNumbers f
+  pub stays : (old new : List Affine) → IsHull depth place n outlines old
+      → ((more : List Affine) × (new ≡ old ++ more))
+      → (AreHullRows depth (variables_of f) outlines old → AreHullRows depth (variables_of f) outlines new)
+      → IsHull depth place n outlines new
 
--- it speaks of as many variables
-pub row_size : (depth n : ℕ) (o : Outline) (h : Shadow) (fs : List Affine) (k : ℕ) (f : Affine) → IsAlike depth n o
-    → h ≡ get_or o.shadows.items depth h
-    → fs ≡ h.rows.items → k < length fs → f ≡ get_or fs k f → variables_of f ≡ n
-row_size depth n o h fs k f alike at is inside one =
-    let shadow = subst (IsShadowOf (projected depth o.set.now.system)) (sym at) (o.are.each depth h alike.inside) in
-    let rows = subst (AreRows (projected depth o.set.now.system)) (sym is) shadow.rows in
-    ap variables_of one ∙ (rows k f inside).sized ∙ alike.count
+pub first_row : (depth place n : ℕ) (outlines : List Outline) (o : Outline) (h : Shadow) (fs : List Affine) (k : ℕ)
+    (f : Affine) → All (IsAlike depth n) outlines → place < n → 0 < length outlines
+    → h ≡ get_or (get_or outlines 0 o).shadows.items depth h → fs ≡ h.rows.items → k < length fs → f ≡ get_or fs k f
+    → IsFirstRow depth place n outlines f
+first_row depth place n outlines o h fs k f alike inside some at is here one =
+    let first = get_or outlines 0 o in
+    let same : IsAlike depth n first = alike 0 o some in
+    let t = projected depth first.set.now.system in
+    let shadow = subst (IsShadowOf t) (sym at) (first.are.each depth h same.inside) in
+    let rows = subst (AreRows t) (sym is) shadow.rows in
+    let row = rows k f here in
+    let size : variables_of f ≡ n = ap variables_of one ∙ row.sized ∙ same.count in
+    record {
+      inside = omega (arith, size, inside);
+      alike = subst (λ m. All (IsAlike depth m) outlines) (sym size) alike;
+      small = subst HasSmallNumbers (sym one) row.small;
+      stays = λ old new hull more kept.
+          let keep = subst (λ m. AreHullRows depth m outlines old → AreHullRows depth m outlines new) size kept in
+          hull_more depth place n outlines old new more.0 hull more.1 (keep hull.rows);
+    }

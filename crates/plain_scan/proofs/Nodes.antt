@@ -43,6 +43,10 @@ pub append_one : (xs : List ℤ) (x : ℤ) (r : List ℤ) → (xs ++ x ∷ []) +
 append_one [] x r = refl
 append_one (y ∷ xs) x r = ap (λ q. y ∷ q) (append_one xs x r)
 
+pub length_end : (xs : List ℤ) (x : ℤ) → length (xs ++ x ∷ []) ≡ suc (length xs)
+length_end [] x = refl
+length_end (y ∷ xs) x = ap suc (length_end xs x)
+
 -- a loop, node by node: `inner` are the sets still active at its values, each other one has no point there
 pub loop_scans : (k : ℕ) (all inner : List Scanned) (flag : Bool) (lo up : Bounds) (body : Trees)
     (params outer : List ℤ)
@@ -187,10 +191,6 @@ leaves_serve ls params outer sized rise tested = record {
 }
 
 -- a tree that serves from the outermost loop on is exact
-length_end : (xs : List ℤ) (x : ℤ) → length (xs ++ x ∷ []) ≡ suc (length xs)
-length_end [] x = refl
-length_end (y ∷ xs) x = ap suc (length_end xs x)
-
 keys_are_keys : (n : ℕ) (sets : List Scanned) (params : List ℤ) → HaveDimensions n sets → AreKeys n (Keys sets params)
 keys_are_keys n [] params sized r h = absurd h
 keys_are_keys n (s ∷ sets) params sized r (inl h) =

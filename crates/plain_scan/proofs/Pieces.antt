@@ -13,8 +13,8 @@ use Rattle.plain_scan.specs.Rows.{low_bounds, high_bounds, AreLow, AreHigh, wide
 use Rattle.fm_projection.specs.Alone.{AreInRange}
 use Rattle.plain_scan.specs.Rows.{deeper}
 use Rattle.plain_scan.specs.Pieces.{Piece, bounding, loop_of, loops_of, LiesIn, InSome, IsPiece, ArePieces, AreEnough}
-use Rattle.plain_scan.proofs.Nodes.{loop_scans, append_one, leaves_serve, serves_exact, rows_hold, hold_rows}
-use Rattle.plain_scan.proofs.Nodes.{under_spans, spans_under, under_scans}
+use Rattle.plain_scan.proofs.Nodes.{loop_scans, append_one, leaves_serve, length_end, serves_exact, rows_hold}
+use Rattle.plain_scan.proofs.Nodes.{hold_rows, under_spans, spans_under, under_scans}
 use Rattle.plain_scan.proofs.Rows.{value_widened, lows_to, lows_from, highs_to, highs_from}
 
 pub all_append : (fs gs : List Affine) (point : List ℤ) → AllAtLeast fs point → AllAtLeast gs point
@@ -35,17 +35,13 @@ widened_all (f ∷ fs) outer x params h = (
   widened_all fs outer x params h.1,
 )
 
-pub length_one : (xs : List ℤ) (x : ℤ) → length (xs ++ x ∷ []) ≡ suc (length xs)
-length_one [] x = refl
-length_one (y ∷ xs) x = ap suc (length_one xs x)
-
 -- one place deeper
 pub deeper_place : (m : ℕ) (context rows : List Affine) (params outer : List ℤ) (x : ℤ)
     → IsPlace m context params outer → AllAtLeast rows (outer ++ x ∷ params)
     → IsPlace (suc m) (deeper m context rows) params (outer ++ x ∷ [])
 deeper_place m context rows params outer x place h = record {
   parameters = place.parameters;
-  size = length_one outer x ∙ ap suc place.size;
+  size = length_end outer x ∙ ap suc place.size;
   inside =
       let w = subst (λ n. AllAtLeast (map (widened n) context) (outer ++ x ∷ params)) place.size
       (widened_all context outer x params place.inside) in

@@ -8,9 +8,8 @@ use Rattle.fractions.specs.Farkas.{two_rows}
 use Rattle.integer_sets.specs.Constraints.{Constraints}
 use Rattle.integer_sets.specs.Points.{Satisfies}
 use Rattle.plain_scan.specs.Shadows.{IsShadow, Follow}
-use Rattle.plain_scan.proofs.Nodes.{append_one}
+use Rattle.plain_scan.proofs.Nodes.{append_one, length_end}
 use Rattle.plain_scan.proofs.Rows.{negated}
-use Rattle.plain_scan.proofs.Pieces.{length_one}
 
 -- the set itself
 whole_same : (xs ys r : List ℤ) (y : ℤ) → length xs ≡ length ys → xs ++ r ≡ ys ++ y ∷ [] → xs ≡ ys
@@ -36,18 +35,15 @@ pub shadow_less : (m : ℕ) (s : Scanned) (t u : Constraints) → m < s.system.d
 shadow_less m s t u less shadow follow params outer [] l k =
     absurd (too_short outer k.values (pos s.statement) k.is (let d = k.size in omega (arith, l, d, less)))
   where
-    length_back : (xs : List ℤ) (x : ℤ) → length (xs ++ x ∷ []) ≡ suc (length xs)
-    length_back xs x = length_one xs x
-
     length_nil : (xs : List ℤ) → length (xs ++ []) ≡ length xs
     length_nil [] = refl
     length_nil (x ∷ xs) = ap suc (length_nil xs)
 
     too_short : (xs ys : List ℤ) (y : ℤ) → xs ++ [] ≡ ys ++ y ∷ [] → length xs < length ys → ⊥
-    too_short xs ys y e l = let a = ap length e in let b = length_back ys y in let c = length_nil xs in
+    too_short xs ys y e l = let a = ap length e in let b = length_end ys y in let c = length_nil xs in
         omega (arith, a, b, c, l)
 shadow_less m s t u less shadow follow params outer (x ∷ r) l k =
-    let n = length_one outer x ∙ ap suc l in
+    let n = length_end outer x ∙ ap suc l in
     let h = shadow params (outer ++ x ∷ []) r n (subst (IsKeyOf params s) (sym (append_one outer x r)) k) in
     follow outer x params l (subst (Satisfies t) (append_one outer x params) h)
 

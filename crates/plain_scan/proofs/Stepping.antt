@@ -30,8 +30,8 @@ use Rattle.std.specs.Prelude.{eqb, Option, Some}
 use Rattle.loop_tree.specs.Marks.{FlatAll, MarksAll}
 use Rattle.plain_scan.proofs.Shape.{flat_lows, flat_highs}
 use Rattle.plain_scan.proofs.Nested.{zeros_of, of_zeros, rows_of, of_rows}
-use Rattle.plain_scan.proofs.Nodes.{append_one, tests_hold, hold_tests}
-use Rattle.plain_scan.proofs.Pieces.{dimension_serves, end_serves, length_one}
+use Rattle.plain_scan.proofs.Nodes.{append_one, length_end, tests_hold, hold_tests}
+use Rattle.plain_scan.proofs.Pieces.{dimension_serves, end_serves}
 use Rattle.plain_scan.proofs.Shadows.{whole_shadow, shadow_less}
 use Rattle.loop_tree.specs.Fits.{AreSmallForms, AreSmallTrees, IsSmall}
 use Rattle.plain_scan.specs.Giving.{TurnsOn}
@@ -60,7 +60,7 @@ pub row_holds : (depth place : ℕ) (f : Affine) (o : Outline) → o.set.now.sys
 row_holds depth place f o dims h params outer x r range size k =
     let s = o.set.now in
     let shadow = projected_shadow depth (suc place) s (omega (arith, dims)) in
-    let n : length (outer ++ x ∷ []) ≡ suc place = length_one outer x ∙ ap suc size in
+    let n : length (outer ++ x ∷ []) ≡ suc place = length_end outer x ∙ ap suc size in
     let sat = shadow params (outer ++ x ∷ []) r n (subst (IsKeyOf params s) (sym (append_one outer x r)) k) in
     subst (λ (q : List ℤ). pos 0 ≤ℤ value_of f q) (append_one outer x params)
     (h (outer ++ x ∷ []) params range (omega (arith, n, dims)) sat)

@@ -1,5 +1,5 @@
 -- Rows of greater numbers are weaker, since parameters are not negative.
-use Rattle.std.proofs.Common.{◌≡◌, ◌∙◌, ℕ, zero, suc, ◌+◌, ◌<◌, ◌≤◌, ℤ, pos, List, [], ◌∷◌, ◌++◌, length, get_or, take, drop}
+use Rattle.std.proofs.Common.{◌≡◌, ◌∙◌, ℕ, zero, suc, ◌+◌, ◌<◌, ℤ, pos, List, [], ◌∷◌, ◌++◌, length, get_or, take, drop}
 use Rattle.std.proofs.Common.{ap, refl, subst, sym, arith}
 use Rattle.std.specs.Prelude.{◌*ℤ◌, ◌≤ℤ◌, ⊤}
 use Rattle.std.proofs.lemmas.Int.{ints}
@@ -22,7 +22,7 @@ use Rattle.plain_scan.specs.declared.set_outline.Outline.{Outline}
 use Rattle.plain_scan.specs.Between.{HasSmallNumbers}
 use Rattle.plain_scan.specs.Outlines.{AreRows}
 use Rattle.plain_scan.specs.Hulls.{HoldsAt}
-use Rattle.plain_scan.specs.Weaker.{IsWeaker, Follows, IsAbove, IsAboveSome, greater_numbers, greater_form}
+use Rattle.plain_scan.specs.Weaker.{IsWeaker, Follows, IsAbove, greater_numbers, greater_form}
 use Rattle.plain_scan.proofs.Hulling.{rows_at}
 
 -- the first m numbers stay, the others may be greater
@@ -159,17 +159,6 @@ multiples_above m a b g h left right f first second left_is right_is above = rec
   second = λ front params size range v. above.second front params size range
       (subst (λ (q : Affine). pos 0 ≤ℤ value_of q (front ++ params)) (sym right_is)
       (multiple_is_weaker b h second m front params size range v));
-}
-
--- a row above one of some rows
-pub above_some : (m : ℕ) (g : Affine) (hs : List Affine) (k : ℕ) (h f : Affine) → k < length hs → h ≡ get_or hs k h
-    → IsAbove m g h f → IsAboveSome m g hs f
-above_some m g hs k h f inside is above = record {
-  sized = above.sized;
-  small = above.small;
-  first = above.first;
-  second = λ front params size range hold. above.second front params size range
-      (subst (λ (q : Affine). pos 0 ≤ℤ value_of q (front ++ params)) (sym is) (hold k h inside));
 }
 
 -- a weaker row holds at a set, too

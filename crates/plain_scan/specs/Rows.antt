@@ -2,11 +2,10 @@
 use Rattle.std.specs.Prelude.{◌≡◌, ℕ, zero, suc, ℤ, pos, neg_ℤ, ◌<ℤ◌, List, [], ◌∷◌, ◌++◌, length, map, ⊤}
 use Rattle.whole_numbers.specs.Affine.{Affine, multiple_of_form}
 use Rattle.fractions.specs.Elimination.{coefficient_of, narrowed}
-use Rattle.loop_tree.specs.Tree.{Bound, Bounds, only, besides, Tree, Trees}
-use Rattle.loop_tree.specs.Scans.{Scans}
+use Rattle.loop_tree.specs.Tree.{Bound, Bounds, only, besides, Trees}
 use Rattle.integer_sets.specs.Scanned.{Scanned}
 use Rattle.fm_projection.specs.Alone.{AreInRange}
-use Rattle.plain_scan.specs.Sets.{AllAtLeast, KeysAt, Serves}
+use Rattle.plain_scan.specs.Sets.{AllAtLeast, Serves}
 
 -- a x + rest >= 0 with 0 < a: x is at least -rest / a; with a < 0: x is at most rest / -a
 abbrev pub low_bound : ℕ → Affine → Bound
@@ -51,11 +50,6 @@ pub record IsPlace (m : ℕ) (context : List Affine) (params outer : List ℤ) :
 -- what a scanner's call answers: wherever its context holds, the sequence serves the sets
 abbrev pub ServesOn : ℕ → ℕ → List Scanned → List Affine → Trees → Type 0
 ServesOn k m sets context ts = (params outer : List ℤ) → IsPlace m context params outer → Serves k sets ts params outer
-
--- and of one tree of a sequence
-abbrev pub ScansOn : ℕ → ℕ → List Scanned → List Affine → Tree → Type 0
-ScansOn k m sets context t = (params outer : List ℤ) → IsPlace m context params outer
-    → Scans k (KeysAt sets params outer) t params outer
 
 -- the context within a loop: the context without the loop's variable, and the loop's own rows
 abbrev pub deeper : ℕ → List Affine → List Affine → List Affine

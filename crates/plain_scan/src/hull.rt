@@ -9,7 +9,7 @@ ghost use Rattle.plain_scan.specs.Between.{HasSmallNumbers};
 ghost use Rattle.plain_scan.specs.declared.outline.Shadow.{Shadow};
 ghost use Rattle.plain_scan.specs.Hulls.{AreHullRows, Hold, HoldsAt, IsAlike, IsHull};
 
-use crate::numbers::opposite;
+use crate::numbers::{greater, opposite};
 use crate::set_outline::Outline;
 use crate::widest::push_on_open_side;
 use affine_forms::Form;
@@ -52,15 +52,6 @@ fn least_constant(rows: &[Form], coefficients: &[i128]) -> Option<i128>
         }
     }
     least
-}
-
-/// The greater of two numbers.
-fn greater(a: i128, b: i128) -> i128
-    ensures first { a ≤ℤ result }
-    ensures second { b ≤ℤ result }
-    ensures small { unsigned_abs a ≤ 2 ^ 40 → unsigned_abs b ≤ 2 ^ 40 → unsigned_abs result ≤ 2 ^ 40 }
-{
-    if a < b { b } else { a }
 }
 
 /// The less of two numbers.

@@ -6,6 +6,7 @@ ghost use Rattle.std.specs.Prelude.{IfSome, None, Some, unsigned_abs, All};
 ghost use Rattle.whole_numbers.specs.Affine.{value_of};
 ghost use Rattle.affine_forms.specs.Parts.{variables_of};
 ghost use Rattle.fractions.specs.Elimination.{coefficient_of};
+ghost use Rattle.loop_tree.specs.Walk.{max_z};
 ghost use Rattle.plain_scan.specs.Between.{HasSmallNumbers};
 ghost use Rattle.plain_scan.specs.Between.{AreNumbersOf, AreSmall, IsLargeAmong, IsLargeIn, LiesBetween};
 
@@ -29,6 +30,16 @@ pub fn is_small(number: i128) -> bool
     ensures { IsTrue result ↔ (unsigned_abs number ≤ 2 ^ 40) }
 {
     number.unsigned_abs() <= MOST
+}
+
+/// The greater of two numbers.
+pub fn greater(a: i128, b: i128) -> i128
+    ensures is { result ≡ max_z a b }
+    ensures first { a ≤ℤ result }
+    ensures second { b ≤ℤ result }
+    ensures small { unsigned_abs a ≤ 2 ^ 40 → unsigned_abs b ≤ 2 ^ 40 → unsigned_abs result ≤ 2 ^ 40 }
+{
+    if a <= b { b } else { a }
 }
 
 /// The first of two numbers that is beyond 2^40.

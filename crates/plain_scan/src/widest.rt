@@ -7,24 +7,16 @@ ghost use Rattle.std.specs.Prelude.{length, unsigned_abs};
 ghost use Rattle.whole_numbers.specs.Affine.{Affine, multiple_of_form};
 ghost use Rattle.whole_numbers.specs.Content.{lowest_of_form};
 ghost use Rattle.affine_forms.specs.Parts.{variables_of};
-ghost use Rattle.loop_tree.specs.Walk.{max_z};
 ghost use Rattle.plain_scan.specs.Between.{HasSmallNumbers};
 ghost use Rattle.plain_scan.specs.Hulls.{AreHullRows, IsAlike, IsHullRow};
 ghost use Rattle.plain_scan.specs.Weaker.{IsAbove, IsAboveSome, greater_form, greater_numbers};
 
 use crate::hull::same;
-use crate::numbers::has_small_numbers;
+use crate::numbers::{greater, has_small_numbers};
 use crate::set_outline::Outline;
 use affine_forms::{Form, FormStop};
 use std::alloc::{AllocError, Global};
 use wide_math::{cross, gcd_of_sizes};
-
-/// The greater of two numbers.
-fn greater(a: i128, b: i128) -> i128
-    ensures { result ≡ max_z a b }
-{
-    if a <= b { b } else { a }
-}
 
 /// The greater of the numbers, one by one.
 fn greater_numbers(alloc: Global, xs: &[i128], ys: &[i128]) -> Result<Vec<i128>, AllocError>

@@ -1,7 +1,7 @@
 -- Dependences and systems that stand beside them, one by one; systems put together of their forms.
 use Rattle.std.proofs.Common.{◌≡◌, ℤ, ℕ, zero, suc, ◌+◌, ◌<◌, List, [], ◌∷◌, ◌++◌, refl, sym, ◌∙◌, ap, ap₂, subst}
 use Rattle.std.proofs.Common.{◌⊎◌, inl, inr, arith, length, drop, map, get_or, drop-cons, add-one}
-use Rattle.std.specs.Prelude.{◌≤◌, Result, Ok, Err, IfOk}
+use Rattle.std.specs.Prelude.{◌≤◌}
 use Rattle.std.specs.List.{flat_map}
 use Rattle.whole_numbers.specs.Affine.{Affine}
 use Rattle.integer_sets.specs.Constraints.{Constraints, system_of, IsSized}
@@ -156,8 +156,3 @@ pub posed_is : (m : ℕ) (loops : List ℕ) (ruled : List RuledDep) (vectors : L
 posed_is m loops ruled vectors n es rs s h e =
     e ∙ (ap (λ (i : ℕ). system_of i 0 es rs) h.columns
     ∙ ap₂ (λ (x y : List Affine). system_of (columns_of m loops) 0 x y) h.equalities h.rows)
-
--- what holds of a call's value holds of it
-pub if_ok : {T E : Type 0} {P Q : T → Type 0} (r : Result T E) → ((x : T) → P x → Q x) → IfOk r P → IfOk r Q
-if_ok (Ok x) h p = h x p
-if_ok (Err e) h p = p

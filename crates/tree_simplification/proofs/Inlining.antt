@@ -25,8 +25,8 @@ use Rattle.loop_tree.specs.Tree.{Bounds, Test, Tree, loop, guard, instance, Tree
 use Rattle.loop_tree.specs.Walk.{Visit, all_hold, along, between, given, lower, upper, through, walk, walk_all}
 use Rattle.tree_simplification.specs.Simplified.{shown, StayWithin}
 use Rattle.tree_simplification.specs.steps.Inlined.{AreNear, AreTestsFor, Inlines, IsInlined, IsPlace, bounds_over}
-use Rattle.tree_simplification.specs.steps.Inlined.{inside}
-use Rattle.tree_simplification.specs.steps.Inlined.{joined, once}
+use Rattle.tree_simplification.specs.steps.Inlined.{inside, once}
+use Rattle.tree_simplification.specs.steps.Joined.{joined}
 use Rattle.tree_simplification.proofs.Composed.{all_hold_over, bounds_fit_near, bounds_flat, bounds_sized}
 use Rattle.tree_simplification.proofs.Composed.{forms_fit_near}
 use Rattle.tree_simplification.proofs.Composed.{forms_sized, lower_over, near_more, near_size, place_sized}

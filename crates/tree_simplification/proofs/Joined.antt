@@ -11,7 +11,7 @@ use Rattle.loop_tree.specs.Tree.{Trees, none, more}
 use Rattle.loop_tree.specs.View.{nodes_of, tree_of}
 use Rattle.loop_tree.specs.Walk.{Visit, walk, walk_all}
 use Rattle.loop_tree.specs.declared.tree.Node.{Node}
-use Rattle.tree_simplification.specs.steps.Inlined.{joined}
+use Rattle.tree_simplification.specs.steps.Joined.{joined}
 
 pub joined_none : (a : Trees) → joined a none ≡ a
 joined_none none = refl

@@ -8,7 +8,7 @@ use Rattle.scop_syntax.specs.Members.{In}
 use Rattle.scop_syntax.proofs.Members.{in_append}
 use Rattle.loop_tree.specs.Tree.{Bound, Test}
 use Rattle.loop_tree.specs.Walk.{all_hold, holds}
-use Rattle.tree_simplification.specs.steps.Context.{ArePartsOver, Context, ImpliesPart, Meets, OnSide, TrimsSide}
+use Rattle.tree_simplification.specs.steps.Context.{ArePartsOver, Context, Meets, OnSide, TrimsSide}
 use Rattle.tree_simplification.specs.steps.Context.{tested}
 use Rattle.tree_simplification.specs.steps.Trimmed.{Among, TrimsTests}
 use Rattle.tree_simplification.proofs.Contexts.{meets_tested}

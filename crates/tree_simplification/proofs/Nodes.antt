@@ -17,8 +17,8 @@ use Rattle.loop_tree.specs.declared.tree.Node.{Node}
 use Rattle.loop_tree.specs.declared.tree.Test.{Test as CodeTest}
 use Rattle.loop_tree.proofs.Weights.{node_here}
 use Rattle.tree_simplification.specs.steps.Inlined.{AreTestsFor, CanInline, Extends, Inlines, IsPlace, bounds_over}
-use Rattle.tree_simplification.specs.steps.Inlined.{inside, joined, once}
-use Rattle.tree_simplification.specs.steps.Inlined.{widened}
+use Rattle.tree_simplification.specs.steps.Inlined.{inside, once, widened}
+use Rattle.tree_simplification.specs.steps.Joined.{joined}
 use Rattle.tree_simplification.proofs.Composed.{bounds_sized, place_sized}
 use Rattle.tree_simplification.proofs.Inlining.{gone_guard, gone_loop, kept_guard, kept_loop, leaf_stays, nests_guard}
 use Rattle.tree_simplification.proofs.Inlining.{nothing_stays, then_others}

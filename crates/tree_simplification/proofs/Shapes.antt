@@ -4,13 +4,16 @@ use Rattle.std.specs.Prelude.{◌<ℤ◌}
 use Rattle.std.proofs.lemmas.List.Elements.{All-cons, All-head, All-nil, All-tail}
 use Rattle.scop_syntax.specs.Members.{In}
 use Rattle.scop_syntax.specs.Tree.{Program}
-use Rattle.loop_tree.specs.Fits.{AreSmallBounds, AreSmallTests, IsSmall, form_in}
+use Rattle.loop_tree.specs.Fits.{form_in}
 use Rattle.loop_tree.specs.Marks.{AreBounds, AreTests, FlatAll, IsTest}
 use Rattle.loop_tree.specs.Shape.{AreSerial, BoundsAreOver, BoundsAreUpTo, IsOver, IsOverUpTo, NestAllTo, TestIsUpTo}
 use Rattle.loop_tree.specs.Shape.{TreesAreOf, TreesAreOver, TreesAreUpTo}
 use Rattle.loop_tree.specs.Tree.{Bound, Bounds, only, besides, Test, Tree, loop, guard, instance, Trees, none, more}
 use Rattle.tree_simplification.specs.steps.Context.{Context, entered, parts, tested}
-use Rattle.tree_simplification.specs.steps.Trimmed.{Among, Trims, TrimsAll, joined, under}
+use Rattle.tree_simplification.specs.steps.Joined.{joined}
+use Rattle.tree_simplification.specs.steps.Trimmed.{Among, Trims, TrimsAll, under}
+use Rattle.tree_simplification.proofs.Joined.{flat_joined, nested_joined, of_joined, over_joined, serial_joined}
+use Rattle.tree_simplification.proofs.Joined.{small_joined}
 use Rattle.tree_simplification.proofs.Leaving.{all_among}
 
 -- what holds of each part of bounds
@@ -56,14 +59,6 @@ each_bounds : (bs : Bounds) → Each (λ b. pos 0 <ℤ b.divisor) bs → AreBoun
 each_bounds (only b) h = h
 each_bounds (besides b bs) h = (h.0, each_bounds bs h.1)
 
-forms_each : (bs : Bounds) → AreSmallBounds bs → Each (λ b. IsSmall b.form) bs
-forms_each (only b) h = h
-forms_each (besides b bs) h = (h.0, forms_each bs h.1)
-
-each_forms : (bs : Bounds) → Each (λ b. IsSmall b.form) bs → AreSmallBounds bs
-each_forms (only b) h = h
-each_forms (besides b bs) h = (h.0, each_forms bs h.1)
-
 pub bounds_over : (n : ℕ) (old new : Bounds) → Among (parts new) (parts old) → BoundsAreOver n old → BoundsAreOver n new
 bounds_over n old new among h = each_over n new (each_among (λ b. IsOver n b.form) old new among (over_each n old h))
 
@@ -83,16 +78,6 @@ all_tests : (tests : List Test) → All IsTest tests → AreTests tests
 all_tests [] h = tt
 all_tests (test ∷ tests) h = (All-head IsTest test tests h, all_tests tests (All-tail IsTest test tests h))
 
-forms_all : (tests : List Test) → AreSmallTests tests → All (λ test. IsSmall (form_in test)) tests
-forms_all [] h = All-nil (λ (test : Test). IsSmall (form_in test))
-forms_all (test ∷ tests) h = All-cons (λ test. IsSmall (form_in test)) test tests h.0 (forms_all tests h.1)
-
-all_forms : (tests : List Test) → All (λ test. IsSmall (form_in test)) tests → AreSmallTests tests
-all_forms [] h = tt
-all_forms (test ∷ tests) h =
-    let P : Test → Type 0 = λ test. IsSmall (form_in test) in
-    (All-head P test tests h, all_forms tests (All-tail P test tests h))
-
 flat_tests : (tests : List Test) (body : Trees) → FlatAll (more (guard tests body) none)
     → AreTests tests × FlatAll body
 flat_tests [] body h = absurd h.0
@@ -111,31 +96,6 @@ pub record Alike (old new : Trees) : Type 0 where
   pub nested : (n : ℕ) → NestAllTo n old → NestAllTo n new
 
 -- one behind the other
-serial_joined : (ts us : Trees) → AreSerial ts → AreSerial us → AreSerial (joined ts us)
-serial_joined none us h k = k
-serial_joined (more t ts) us h k = (h.0, serial_joined ts us h.1 k)
-
-flat_joined : (ts us : Trees) → FlatAll ts → FlatAll us → FlatAll (joined ts us)
-flat_joined none us h k = k
-flat_joined (more t ts) us h k = (h.0, flat_joined ts us h.1 k)
-
-of_joined : (program : Program) (ts us : Trees) → TreesAreOf program ts → TreesAreOf program us
-    → TreesAreOf program (joined ts us)
-of_joined program none us h k = k
-of_joined program (more t ts) us h k = (h.0, of_joined program ts us h.1 k)
-
-over_joined : (n : ℕ) (ts us : Trees) → TreesAreOver n ts → TreesAreOver n us → TreesAreOver n (joined ts us)
-over_joined n none us h k = k
-over_joined n (more t ts) us h k = (h.0, over_joined n ts us h.1 k)
-
-small_joined : (n : ℕ) (ts us : Trees) → TreesAreUpTo n ts → TreesAreUpTo n us → TreesAreUpTo n (joined ts us)
-small_joined n none us h k = k
-small_joined n (more t ts) us h k = (h.0, small_joined n ts us h.1 k)
-
-nested_joined : (n : ℕ) (ts us : Trees) → NestAllTo n ts → NestAllTo n us → NestAllTo n (joined ts us)
-nested_joined n none us h k = k
-nested_joined n (more t ts) us h k = (h.0, nested_joined n ts us h.1 k)
-
 alike_joined : (t : Tree) (ts front back : Trees) → Alike (more t none) front → Alike ts back
     → Alike (more t ts) (joined front back)
 alike_joined t ts front back f b =

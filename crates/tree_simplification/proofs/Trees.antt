@@ -1,7 +1,6 @@
 -- What is left of nodes, one by one, as code goes over them.
-use Rattle.std.proofs.Common.{◌≡◌, ℕ, zero, suc, ◌+◌, ◌<◌, List, [], ◌∷◌, ◌++◌, length, drop, get_or, ap, subst, sym}
-use Rattle.std.proofs.Common.{◌∙◌, refl}
-use Rattle.std.proofs.Common.{arith}
+use Rattle.std.proofs.Common.{◌≡◌, ℕ, zero, suc, ◌+◌, ◌<◌, List, [], ◌∷◌, length, drop, get_or, ap, subst, sym}
+use Rattle.std.proofs.Common.{◌∙◌, refl, arith}
 use Rattle.std.specs.Prelude.{Bool, Result, Ok, Err, OnOk, is_ok, if◌then◌else◌}
 use Rattle.loop_tree.specs.Shape.{TreesAreOver}
 use Rattle.loop_tree.specs.Tree.{Bounds, Test, loop, guard, Trees, none, more}
@@ -9,22 +8,11 @@ use Rattle.loop_tree.specs.View.{nodes_of, tree_of}
 use Rattle.loop_tree.specs.declared.tree.Node.{Node}
 use Rattle.loop_tree.proofs.Weights.{node_here}
 use Rattle.tree_simplification.specs.steps.Context.{Context, tested}
-use Rattle.tree_simplification.specs.steps.Trimmed.{CanTrim, IsEntered, Trims, TrimsAll, joined}
+use Rattle.tree_simplification.specs.steps.Joined.{joined}
+use Rattle.tree_simplification.specs.steps.Trimmed.{CanTrim, IsEntered, Trims, TrimsAll}
+use Rattle.tree_simplification.proofs.Joined.{joined_assoc, joined_none}
 use Rattle.tree_simplification.proofs.Shapes.{flat_body}
 use Rattle.tree_simplification.proofs.Walks.{one_more}
-
--- nodes one behind the other
-pub nodes_joined : (xs ys : List Node) → nodes_of (xs ++ ys) ≡ joined (nodes_of xs) (nodes_of ys)
-nodes_joined [] ys = refl
-nodes_joined (x ∷ xs) ys = ap (more (tree_of x)) (nodes_joined xs ys)
-
-joined_none : (ts : Trees) → joined ts none ≡ ts
-joined_none none = refl
-joined_none (more t ts) = ap (more t) (joined_none ts)
-
-joined_on : (ts us vs : Trees) → joined (joined ts us) vs ≡ joined ts (joined us vs)
-joined_on none us vs = refl
-joined_on (more t ts) us vs = ap (more t) (joined_on ts us vs)
 
 -- what a call that may fail leaves where it does not
 pub left_at_ok : {A E X : Type 0} (r : Result A E) (new both old : X) → new ≡ (if is_ok r then both else old)
@@ -75,7 +63,8 @@ leaves_next c nodes i node out new left found inside so_far here e rest h =
     subst (λ (ts : Trees). TrimsAll c ts (joined left rest)) (sym (node_here nodes i node found inside))
     (left, rest, refl, here, h) in
     subst (TrimsAll c (nodes_of nodes))
-    (sym (ap (λ (ts : Trees). joined ts rest) e ∙ joined_on (nodes_of out) left rest)) (so_far (joined left rest) whole)
+    (sym (ap (λ (ts : Trees). joined ts rest) e ∙ joined_assoc (nodes_of out) left rest))
+    (so_far (joined left rest) whole)
 
 pub leaves_all : (c : Context) (nodes : List Node) (i : ℕ) (out : List Node) → drop i nodes ≡ [] → Leaves c nodes i out
     → TrimsAll c (nodes_of nodes) (nodes_of out)

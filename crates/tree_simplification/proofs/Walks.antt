@@ -3,7 +3,7 @@ use Rattle.std.proofs.Common.{◌≡◌, ℕ, zero, suc, ◌+◌, ◌^◌, ◌�
 use Rattle.std.proofs.Common.{map, ap, ap₂, subst, sym, ◌∙◌, refl, arith}
 use Rattle.std.specs.Prelude.{◌↔◌, Bool, true, false, if◌then◌else◌, unsigned_abs, ◌+ℤ◌, ◌-ℤ◌, ◌*ℤ◌, ◌≤ℤ◌, ◌<ℤ◌}
 use Rattle.std.proofs.lemmas.Int.{ints}
-use Rattle.std.proofs.lemmas.List.{append-nil, append_assoc}
+use Rattle.std.proofs.lemmas.List.{append-nil}
 use Rattle.std.proofs.lemmas.List.Elements.{All-cons, All-nil}
 use Rattle.whole_numbers.specs.Affine.{value_of}
 use Rattle.whole_numbers.specs.Lists.{dot}
@@ -25,9 +25,11 @@ use Rattle.tree_simplification.specs.Simplified.{StayWithin, StaysWithin}
 use Rattle.tree_simplification.specs.steps.Context.{ArePartsOver, Context, IsSizedContext, Meets, OnSide, entered}
 use Rattle.tree_simplification.specs.steps.Context.{parts}
 use Rattle.tree_simplification.specs.steps.Context.{sign_of, tested}
-use Rattle.tree_simplification.specs.steps.Trimmed.{Among, Trims, TrimsAll, joined, under}
+use Rattle.tree_simplification.specs.steps.Joined.{joined}
+use Rattle.tree_simplification.specs.steps.Trimmed.{Among, Trims, TrimsAll, under}
 use Rattle.tree_simplification.proofs.RowValues.{turned_is}
 use Rattle.tree_simplification.proofs.Contexts.{high_to, low_to, meets_sided, meets_tested, sized_sided, sized_tested}
+use Rattle.tree_simplification.proofs.Joined.{fits_joined, free_joined, walk_joined}
 use Rattle.tree_simplification.proofs.Shapes.{Each, each_among, flat_body}
 
 -- a loop's values, one by one
@@ -86,23 +88,6 @@ pub record Agrees (C : Instance → Instance → Type 0) (params outer : List �
   pub stays : (n : ℕ) → StayWithin n old params outer → StayWithin n new params outer
 
 -- one behind the other
-walk_joined : (ts us : Trees) (params outer : List ℤ)
-    → walk_all (joined ts us) params outer ≡ walk_all ts params outer ++ walk_all us params outer
-walk_joined none us params outer = refl
-walk_joined (more t ts) us params outer =
-    ap (λ vs. walk t params outer ++ vs) (walk_joined ts us params outer)
-    ∙ sym (append_assoc (walk t params outer) (walk_all ts params outer) (walk_all us params outer))
-
-free_joined : (C : Instance → Instance → Type 0) (ts us : Trees) (params outer : List ℤ) → AreFree C ts params outer
-    → AreFree C us params outer → AreFree C (joined ts us) params outer
-free_joined C none us params outer h k = k
-free_joined C (more t ts) us params outer h k = (h.0, free_joined C ts us params outer h.1 k)
-
-fits_joined : (ts us : Trees) (params outer : List ℤ) → FitsAll ts params outer → FitsAll us params outer
-    → FitsAll (joined ts us) params outer
-fits_joined none us params outer h k = k
-fits_joined (more t ts) us params outer h k = (h.0, fits_joined ts us params outer h.1 k)
-
 stays_joined : (n : ℕ) (ts us : Trees) (params outer : List ℤ) → StayWithin n ts params outer
     → StayWithin n us params outer → StayWithin n (joined ts us) params outer
 stays_joined n none us params outer h k = k

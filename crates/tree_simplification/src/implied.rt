@@ -9,9 +9,9 @@ ghost use Rattle.loop_tree.specs.Tree.{guard as guards, instance, loop as loops,
 ghost use Rattle.loop_tree.specs.View.{bounds_in, nodes_of, test_of, tree_of, trees_in};
 ghost use Rattle.tree_simplification.specs.steps.Context.{outside, parts};
 ghost use Rattle.tree_simplification.specs.steps.ContextView.{context_of};
+ghost use Rattle.tree_simplification.specs.steps.Joined.{joined};
 ghost use Rattle.tree_simplification.specs.steps.Trimmed.{CanTrim, IsEntered, IsTrimmed, Trims, TrimsAll};
-ghost use Rattle.tree_simplification.specs.steps.Trimmed.{TrimsBounds, TrimsTests};
-ghost use Rattle.tree_simplification.specs.steps.Trimmed.{joined, under};
+ghost use Rattle.tree_simplification.specs.steps.Trimmed.{TrimsBounds, TrimsTests, under};
 
 use crate::asking::are_natural_above;
 use crate::context::Context;

@@ -10,11 +10,12 @@ use Rattle.loop_tree.specs.Fits.{FitsAll, form_in}
 use Rattle.loop_tree.specs.Marks.{AreTests, FlatAll}
 use Rattle.loop_tree.specs.Plans.{AreFree, Conflict}
 use Rattle.loop_tree.specs.Shape.{AreSerial, IsOver, NestAllTo, TestIsUpTo, TreesAreOf, TreesAreOver, TreesAreUpTo}
-use Rattle.loop_tree.specs.Tree.{Bound, Bounds, only, besides, Test, at_least, equal, multiple, Trees, none, more}
+use Rattle.loop_tree.specs.Tree.{Bound, Bounds, only, besides, Test, at_least, equal, multiple, Trees}
 use Rattle.loop_tree.specs.View.{test_of}
 use Rattle.loop_tree.specs.Walk.{all_hold, holds, walk_all}
 use Rattle.loop_tree.specs.declared.tree.Test.{Test as CodeTest}
 use Rattle.tree_simplification.specs.Simplified.{shown, shows, StayWithin}
+use Rattle.tree_simplification.specs.steps.Joined.{joined}
 
 -- for all parameters the new trees show what the old ones show, and iterations of parallel loops that were free of
 -- conflicts are so; the numbers fit for parameters in 0..=65536 for which the values of the old loops lie within 2^40
@@ -55,11 +56,6 @@ pub record Inlines (parameters kept : ℕ) (loops : List Affine) (old new : Tree
   pub over : TreesAreOver (kept + parameters) new
   pub small : TreesAreUpTo (2 ^ 45) new
   pub nested : (n m : ℕ) → n ≤ m → NestAllTo n old → NestAllTo m new
-
--- trees and others behind them
-abbrev pub joined : Trees → Trees → Trees
-joined none us = us
-joined (more t ts) us = more t (joined ts us)
 
 -- forms over the new loops and the parameters: one for each old loop, and then the parameters
 pub record IsPlace (parameters kept : ℕ) (loops forms : List Affine) : Type 0 where

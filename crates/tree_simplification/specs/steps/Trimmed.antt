@@ -12,15 +12,11 @@ use Rattle.loop_tree.specs.Tree.{Bounds, Test, Tree, loop, guard, instance, Tree
 use Rattle.loop_tree.specs.Walk.{all_hold, walk_all}
 use Rattle.tree_simplification.specs.Simplified.{StayWithin}
 use Rattle.tree_simplification.specs.steps.Context.{Context, Meets, NaturalAbove, parts, entered, tested}
+use Rattle.tree_simplification.specs.steps.Joined.{joined}
 
 -- each of xs is one of ys
 abbrev pub Among : {A : Type 0} → List A → List A → Type 0
 Among {A} xs ys = (x : A) → In x xs → In x ys
-
--- trees and others behind them
-abbrev pub joined : Trees → Trees → Trees
-joined none us = us
-joined (more t ts) us = more t (joined ts us)
 
 -- trees under tests, of which there may be none
 abbrev pub under : List Test → Trees → Trees

@@ -1,9 +1,9 @@
 use Rattle.std.specs.Prelude.{◌≡◌, List, []}
 use Rattle.std.specs.List.{flat_map}
 use Rattle.std.proofs.Common.{◌∙◌, ap}
+use Rattle.std.proofs.lemmas.Result.{IfOk-weaker}
 use Rattle.iteration_domains.specs.Model.{KernelModel, Modelled}
 use Rattle.conflict_deps.specs.Conflicts.{conflicts_of, deps_between, sides_of}
-use Rattle.contract_guards.proofs.Results.{if_ok}
 use Rattle.contract_guards.proofs.conflicts.conflicts_of_nothing.Goals as goal
 
 -- a model without statements has no conflicts
@@ -14,4 +14,4 @@ none model empty =
     empty
 
 pub returns : goal.returns
-returns c = if_ok c.conflicts.result (λ deps are. are ∙ none c.args.model.now c.requires) c.conflicts.ensures
+returns c = IfOk-weaker c.conflicts.result _ _ (λ deps are. are ∙ none c.args.model.now c.requires) c.conflicts.ensures

@@ -1,5 +1,5 @@
-use Rattle.contract_guards.proofs.Results.{if_ok}
+use Rattle.std.proofs.lemmas.Result.{IfOk-weaker}
 use Rattle.contract_guards.proofs.graphs.numbers_of_statements.Goals as goal
 
 pub returns : goal.returns
-returns c = if_ok c.components.result (λ numbers are. are.size) c.components.ensures
+returns c = IfOk-weaker c.components.result _ _ (λ numbers are. are.size) c.components.ensures

@@ -1,7 +1,14 @@
-use Rattle.std.proofs.Common.{get_or, subst, sym, arith}
-use Rattle.plain_scan.specs.Hulls.{IsAlike, AreHullRows}
-use Rattle.plain_scan.proofs.Hulling.{hull_more, hull_sized, row_size, small_at}
+use Rattle.plain_scan.proofs.Hulling.{IsFirstRow, first_row, hull_sized}
 use Rattle.plain_scan.proofs.hull.hull.Goals as goal
+use Rattle.plain_scan.proofs.hull.hull.Goals.{After-row-item}
+
+-- the row that the loop has come to
+row : (c : After-row-item)
+    → IsFirstRow c.args.depth c.args.place c.args.variables c.args.outlines.now c.row-item.result
+row c =
+    first_row c.args.depth c.args.place c.args.variables c.args.outlines.now c.index-outlines-0.result
+    c.index.result.now c.deref-row-items.result.now c.loop-row.row-index c.row-item.result c.requires.alike
+    c.requires.inside c.requires.some c.index.ensures c.deref-row-items.ensures.value c.loop-row-test.true c.row-item.is
 
 pub push_on_open_side-requires-clause-sized : goal.push_on_open_side-requires-clause-sized
 push_on_open_side-requires-clause-sized c =
@@ -10,45 +17,17 @@ push_on_open_side-requires-clause-sized c =
 
 pub push_on_open_side-requires-clause-inside : goal.push_on_open_side-requires-clause-inside
 push_on_open_side-requires-clause-inside c =
-    let o = get_or c.args.outlines.now 0 c.index-outlines-0.result in
-    let alike : IsAlike c.args.depth c.args.variables o = c.requires.alike 0 c.index-outlines-0.result c.requires.some
-    in
-    let size = row_size c.args.depth c.args.variables o c.index.result.now c.deref-row-items.result.now
-    c.loop-row.row-index c.row-item.result
-    alike c.index.ensures c.deref-row-items.ensures.value c.loop-row-test.true c.row-item.is in
-    omega (arith, size, c.requires.inside)
+    (row (goal.at.push_on_open_side-requires-clause-inside c).After-row-item).inside
 
 pub push_on_open_side-requires-clause-alike : goal.push_on_open_side-requires-clause-alike
 push_on_open_side-requires-clause-alike c =
-    let o = get_or c.args.outlines.now 0 c.index-outlines-0.result in
-    let alike : IsAlike c.args.depth c.args.variables o = c.requires.alike 0 c.index-outlines-0.result c.requires.some
-    in
-    let size = row_size c.args.depth c.args.variables o c.index.result.now c.deref-row-items.result.now
-    c.loop-row.row-index c.row-item.result
-    alike c.index.ensures c.deref-row-items.ensures.value c.loop-row-test.true c.row-item.is in
-    λ k d inside. subst (λ n. IsAlike c.args.depth n (get_or c.args.outlines.now k d)) (sym size)
-    (c.requires.alike k d inside)
+    (row (goal.at.push_on_open_side-requires-clause-alike c).After-row-item).alike
 
 pub push_on_open_side-requires-clause-small : goal.push_on_open_side-requires-clause-small
 push_on_open_side-requires-clause-small c =
-    let o = get_or c.args.outlines.now 0 c.index-outlines-0.result in
-    let alike : IsAlike c.args.depth c.args.variables o =
-    c.requires.alike 0 c.index-outlines-0.result c.requires.some in
-    small_at c.args.depth c.args.variables o c.index.result.now c.deref-row-items.result.now c.loop-row.row-index
-    c.row-item.result alike c.index.ensures c.deref-row-items.ensures.value c.loop-row-test.true c.row-item.is
+    (row (goal.at.push_on_open_side-requires-clause-small c).After-row-item).small
 
 pub loop-row-preserved : goal.loop-row-preserved
 loop-row-preserved c =
-    let o = get_or c.args.outlines.now 0 c.index-outlines-0.result in
-    let alike : IsAlike c.args.depth c.args.variables o = c.requires.alike 0 c.index-outlines-0.result c.requires.some
-    in
-    let size = row_size c.args.depth c.args.variables o c.index.result.now c.deref-row-items.result.now
-    c.loop-row.row-index c.row-item.result
-    alike c.index.ensures c.deref-row-items.ensures.value c.loop-row-test.true c.row-item.is in
-    let front = c.in_ok-push_on_open_side.ensures.front in
-    let rows = subst (λ n. AreHullRows c.args.depth n c.args.outlines.now c.loop-row.out.items
-    → AreHullRows c.args.depth n c.args.outlines.now c.push_on_open_side.new.out.items)
-    size c.in_ok-push_on_open_side.ensures.rows in
-    hull_more c.args.depth c.args.place c.args.variables c.args.outlines.now c.loop-row.out.items
-    c.push_on_open_side.new.out.items front.0
-    c.loop-row.invariant front.1 (rows c.loop-row.invariant.rows)
+    (row (goal.at.loop-row-preserved c).After-row-item).stays c.loop-row.out.items c.push_on_open_side.new.out.items
+    c.loop-row.invariant c.in_ok-push_on_open_side.ensures.front c.in_ok-push_on_open_side.ensures.rows

@@ -1,16 +1,17 @@
 use Rattle.std.proofs.Common.{◌≡◌, sym, subst}
 use Rattle.std.specs.Prelude.{negsuc}
+use Rattle.std.proofs.lemmas.Result.{on_ok_weaker}
 use Rattle.whole_numbers.specs.Affine.{multiple_of_form}
 use Rattle.plain_scan.specs.Between.{HasSmallNumbers}
 use Rattle.plain_scan.specs.Outlines.{IsRow}
-use Rattle.plain_scan.proofs.Appending.{on_ok, row_of_equality, other_of_equality}
+use Rattle.plain_scan.proofs.Appending.{row_of_equality, other_of_equality}
 use Rattle.plain_scan.proofs.outline.push_both.Goals as goal
 
 pub returns-in-Ok : goal.returns-in-Ok
 returns-in-Ok c =
     let f = c.args.form.now in
     let other : c.in-Ok.other ≡ multiple_of_form (negsuc 0) f = c.in-Ok.ensures.entries in
-    on_ok c.push_small-in-Ok.result
+    on_ok_weaker c.push_small-in-Ok.result
     (λ add t e rows. add t
     (subst (λ g. HasSmallNumbers g → IsRow t g) (sym other) (other_of_equality t f e))
     (c.in_ok-push_small.ensures t (row_of_equality t f e) rows))

@@ -16,7 +16,7 @@ loop-at-preserved c =
     let fits_x : FitsSigned w128 (get_or xs i (pos 0)) = search rules in
     let fits_y : FitsSigned w128 (get_or ys i (pos 0)) = search rules in
     let pushed : c.push.new.self.items ≡ c.loop-at.out.items ++ c.greater.result ∷ [] = search rules in
-    let is : c.greater.result ≡ max_z (get_or xs i (pos 0)) (get_or ys i (pos 0)) = simp to_z-of_z at c.greater.ensures in
+    let is : c.greater.result ≡ max_z (get_or xs i (pos 0)) (get_or ys i (pos 0)) = simp to_z-of_z at c.greater.ensures.is in
     let one : suc i ≡ i + 1 = omega arith in
     pushed ∙ ap (λ (zs : List ℤ). zs ++ c.greater.result ∷ []) c.loop-at.invariant
     ∙ ap (λ (z : ℤ). greater_numbers (take i xs) (take i ys) ++ z ∷ []) is

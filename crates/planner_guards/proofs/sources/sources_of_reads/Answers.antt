@@ -1,5 +1,6 @@
 use Rattle.std.specs.Prelude.{◌≡◌, ℕ, zero, suc, List, [], ◌∷◌, Option, Some, None, slice_get}
 use Rattle.std.proofs.Common.{ap, refl, subst}
+use Rattle.std.proofs.lemmas.Result.{IfOk-weaker}
 use Rattle.iteration_domains.specs.Model.{KernelModel, Modelled}
 use Rattle.dataflow.specs.ReadSources.{AreSources, reads_in, reads_of}
 use Rattle.dataflow.specs.Told.{AreTold, IsToldAt}
@@ -11,7 +12,6 @@ use Rattle.dataflow.specs.Places.{Names}
 use Rattle.quast_trees.specs.Postfix.{tree_of}
 use Rattle.quast_trees.specs.Value.{value}
 use Rattle.scop_syntax.specs.Walk.{walk_of}
-use Rattle.planner_guards.proofs.Results.{if_ok}
 use Rattle.planner_guards.proofs.sources.sources_of_reads.Goals as goal
 
 -- no read has no source
@@ -21,13 +21,13 @@ none model budget [] are = refl
 none model budget (_ ∷ _) are = elim are [ ]
 
 pub returns-clause-sources : goal.returns-clause-sources
-returns-clause-sources c = if_ok c.last_writes.result (λ v are empty.
+returns-clause-sources c = IfOk-weaker c.last_writes.result _ _ (λ v are empty.
     none c.args.model.now c.args.budget v.items
     (subst (λ rs. AreSources c.args.model.now c.args.budget rs v.items) (ap reads_in empty) are))
     c.last_writes.ensures.sources
 
 pub returns-clause-last : goal.returns-clause-last
-returns-clause-last c = if_ok c.last_writes.result
+returns-clause-last c = IfOk-weaker c.last_writes.result _ _
     (λ v last program j w access cell k quast is has touches read source none.
     subst (λ o. Names (walk_of program []) (value (tree_of quast) w.turns) o) none
     (last program [] j w access cell k quast is has touches read source))
@@ -49,6 +49,6 @@ no_want model (r ∷ rs) (s ∷ ss) zero told at =
 no_want model (r ∷ rs) (s ∷ ss) (suc k) told at = no_want model rs ss k told.1 at
 
 pub returns-clause-told : goal.returns-clause-told
-returns-clause-told c = if_ok c.last_writes.result
+returns-clause-told c = IfOk-weaker c.last_writes.result _ _
     (λ v told k at. no_want c.args.model.now (reads_of c.args.model.now) v.items k told at)
     c.last_writes.ensures.told

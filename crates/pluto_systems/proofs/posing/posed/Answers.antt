@@ -1,5 +1,6 @@
 use Rattle.std.proofs.Common.{◌≡◌, ℕ, ℤ, List, ◌++◌, map, Vec, Global, sym, ◌∙◌, ap, subst, All}
 use Rattle.std.specs.Prelude.{◌≤◌}
+use Rattle.std.proofs.lemmas.Result.{IfOk-weaker}
 use Rattle.integer_sets.specs.Constraints.{Constraints, system_of}
 use Rattle.schedule_rows.specs.Items.{Row}
 use Rattle.scop_syntax.specs.Members.{In}
@@ -8,7 +9,7 @@ use Rattle.pluto_systems.specs.Placing.{columns_of}
 use Rattle.pluto_systems.specs.Posing.{RuledDep, IsRuled, IsBetween, growth_from, AreVectorsOf, HasPosed}
 use Rattle.pluto_systems.specs.Posing.{posed_system, ruled_deps, vectors_for, AreSmallVectors}
 use Rattle.schedule_rows.specs.Schedule.{loops_in}
-use Rattle.pluto_systems.proofs.Ruling.{ArePosed, are_posed, posed_sizes, posed_is, is_ruled, ruled_alone, if_ok}
+use Rattle.pluto_systems.proofs.Ruling.{ArePosed, are_posed, posed_sizes, posed_is, is_ruled, ruled_alone}
 use Rattle.pluto_systems.proofs.posing.posed.Goals as goal
 use Rattle.pluto_systems.proofs.posing.posed.Goals.{In_ok-equalities, After-deref-4}
 
@@ -71,9 +72,8 @@ returns-clause-points c =
     let rs = c.in_ok-equalities.rules.items
     ++ growth_from c.parameters-parameters.result c.deref-3.result.now 0 (views c.deref-4.result.now) in
     let alone = ruled_alone deps c.args.legal.now c.args.bounded.now c.requires.legal c.requires.bounded in
-    if_ok {P = λ s. s ≡ system_of n 0 es rs}
-    {Q = λ s. (before : List Row) → AreVectorsOf loops before vs → HasPosed m loops deps before s}
-    c.with_growth.result
+    IfOk-weaker c.with_growth.result (λ s. s ≡ system_of n 0 es rs)
+    (λ s. (before : List Row) → AreVectorsOf loops before vs → HasPosed m loops deps before s)
     (λ s e before v.
     subst (λ (t : Constraints). HasPosed m loops deps before t)
     (sym (posed_is m loops all vs n es rs s (parts (goal.at.returns-clause-points c).After-deref-4) e))

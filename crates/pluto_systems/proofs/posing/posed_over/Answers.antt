@@ -1,9 +1,10 @@
 use Rattle.std.proofs.Common.{◌≡◌, ℤ, List, ◌++◌, map, Vec, Global, refl, sym, subst}
+use Rattle.std.proofs.lemmas.Result.{IfOk-weaker}
 use Rattle.integer_sets.specs.Constraints.{Constraints, system_of}
 use Rattle.schedule_rows.specs.Items.{Row}
 use Rattle.pluto_systems.specs.Placing.{columns_of}
 use Rattle.pluto_systems.specs.Posing.{growth_from, AreVectorsOf, HasPosed, dep_of}
-use Rattle.pluto_systems.proofs.Ruling.{ArePosed, are_posed, posed_sizes, posed_is, if_ok}
+use Rattle.pluto_systems.proofs.Ruling.{ArePosed, are_posed, posed_sizes, posed_is}
 use Rattle.pluto_systems.proofs.posing.posed_over.Goals as goal
 use Rattle.pluto_systems.proofs.posing.posed_over.Goals.{In_ok-equalities}
 
@@ -39,9 +40,8 @@ returns-clause-points c =
     let vs = views c.args.vectors.now in
     let es = c.in_ok-equalities.equalities.items in
     let rs = c.in_ok-equalities.rows.items ++ growth_from m loops 0 vs in
-    if_ok {P = λ s. s ≡ system_of (columns_of m loops) 0 es rs}
-    {Q = λ s. (before : List Row) → AreVectorsOf loops before vs → HasPosed m loops (map dep_of ruled) before s}
-    c.with_growth.result
+    IfOk-weaker c.with_growth.result (λ s. s ≡ system_of (columns_of m loops) 0 es rs)
+    (λ s. (before : List Row) → AreVectorsOf loops before vs → HasPosed m loops (map dep_of ruled) before s)
     (λ s e before v.
     subst (λ (t : Constraints). HasPosed m loops (map dep_of ruled) before t)
     (sym (posed_is m loops ruled vs (columns_of m loops) es rs s (parts

@@ -1,14 +1,14 @@
 -- The cells at the end of a plan's own execution are those of the walk's, which is the program's execution.
 use Rattle.std.proofs.Common.{refl, ◌∙◌, subst, List, ℕ}
+use Rattle.std.proofs.lemmas.Result.{IfOk-weaker}
 use Rattle.array_words.specs.Closing.{IsClosed}
 use Rattle.scop_syntax.specs.Execution.{cell_number}
 use Rattle.tile_core.specs.Plans.{extents_in, plan_of, walk_in}
 use Rattle.tile_events.specs.Flat.{IsWalk, flat}
-use Rattle.tile_runner.proofs.Results.{if_ok}
 use Rattle.tile_runner.proofs.running.run_plan.Goals as goal
 
 pub returns-clause-arrays : goal.returns-clause-arrays
-returns-clause-arrays g c = if_ok c.run_passes.result
+returns-clause-arrays g c = IfOk-weaker c.run_passes.result _ _
     (λ closed is contents shaped same d cell.
     let plan = c.args.plan in
     let extents = extents_in plan in
