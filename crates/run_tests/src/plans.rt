@@ -5,21 +5,15 @@ ghost use Rattle.scop_syntax.specs.Execution.{IsInside, layout, total_cells};
 ghost use Rattle.scop_syntax.specs.Kernel.{IsKernel};
 ghost use Rattle.scop_syntax.specs.Limits.{WithinLimits};
 ghost use Rattle.scop_syntax.specs.View.{program_of};
-ghost use Rattle.loop_tree.specs.TilingView.{tiling_of};
-ghost use Rattle.loop_tree.specs.View.{trees_in};
-ghost use Rattle.loop_tree.specs.Walk.{visits};
-ghost use Rattle.plan_tree.specs.Trees.{AreTreesOf};
 ghost use Rattle.stmt_table.specs.Tables.{IsTableOf};
 ghost use Rattle.tile_core.specs.Plans.{IsPlan, extents_in};
-ghost use Rattle.tile_list.specs.Tiles.{CanTile};
-ghost use Rattle.tile_list.specs.TilesView.{IsTileListOf};
 ghost use Rattle.run_tests.specs.Made.{IsCaseOf, IsMade};
 
 use data_text::{Case, read_data};
 use iteration_domains::Model;
 use kernel_plans::{Planned, planned};
+use kernel_runs::tiles_of;
 use loop_tree::{Tiling, Tree};
-use plan_tree::laws::{trees_of_plans_can_be_walked, waves_have_one_length};
 use plan_tree::source_tree;
 use scop_meaning::index::first_outside;
 use scop_parser::reader::read_kernel;
@@ -29,8 +23,7 @@ use scop_syntax::tree::Kernel;
 use std::alloc::{AllocError, Global};
 use stmt_table::table::Table;
 use tile_core::plan::Plan;
-use tile_list::laws::orders_rise_by_tile;
-use tile_list::{TileList, tiles};
+use tile_list::TileList;
 
 /// The budget of the questions.
 const BUDGET: u64 = 20000;
@@ -91,26 +84,6 @@ fn case_of(alloc: Global, kernel: &Kernel, lines: &str) -> Result<Case, AllocErr
     Ok(case)
 }
 
-/// The tiles of what a plan's tree visits.
-fn tiles_of(
-    alloc: Global,
-    kernel: &Kernel,
-    case: &Case,
-    tree: &Tree,
-    tiling: &Tiling,
-) -> Result<TileList, AllocError>
-    requires case { IsCaseOf kernel.now case.now }
-    requires trees { AreTreesOf (program_of kernel.now) (tiling_of tiling.now) (trees_in tree.now) }
-    requires fits { CanTile (tiling_of tiling.now) (visits (trees_in tree.now) case.now.params.items) }
-    ensures { IfOk result
-        (IsTileListOf (trees_in tree.now) case.now.params.items (tiling_of tiling.now)) }
-{
-    trees_of_plans_can_be_walked();
-    waves_have_one_length();
-    orders_rise_by_tile();
-    tiles(alloc, tree, tiling, &case.params)
-}
-
 /// The source's own order of a kernel, as a plan of one tile.
 pub fn kept(alloc: Global, text: &str, lines: &str) -> Result<Made, AllocError>
     ensures { IfOk result IsMade }
@@ -148,7 +121,7 @@ pub fn tiled(alloc: Global, text: &str, lines: &str, size: u64) -> Result<Made, 
     })
 }
 
-/// The table of the kernel's accesses.
+/// The table of the kernel's statements.
 pub fn table_of(alloc: Global, made: &Made) -> Result<Table, AllocError>
     requires { IsMade made.now }
     ensures { IfOk result (IsTableOf (program_of made.now.kernel) made.now.case.params.items) }
@@ -163,12 +136,12 @@ pub fn plan_of<'a>(made: &'a Made, table: &'a Table) -> Plan<'a>
     ensures plan { IsPlan result }
     ensures laid { extents_in result ≡ made.now.case.extents }
 {
-    trees_of_plans_can_be_walked();
-    Plan {
-        kernel: &made.kernel,
-        params: &made.case.params,
+    kernel_runs::plan_of(
+        &made.kernel,
+        &made.case,
         table,
-        tree: &made.tree,
-        list: &made.list,
-    }
+        &made.tree,
+        &made.tiling,
+        &made.list,
+    )
 }

@@ -46,6 +46,7 @@ use Rattle.scop_syntax.specs.Values.{applied, value_on, stored_by}
 use Rattle.scop_syntax.proofs.Members.{in_front, in_back}
 use Rattle.scop_syntax.specs.Members.{In}
 use Rattle.scop_meaning.specs.Evaluation.{EachRead, EachReadOf, evaluated, evaluated_over}
+use Rattle.scop_meaning.specs.Instances.{values_wanted}
 
 -- more values behind those that are read change nothing
 value_front : (e : Expression) (point : List ℤ) (xs ys : List ℕ) → length (reads_of e) ≤ length xs
@@ -94,6 +95,13 @@ stored_is g point place (assigned e) = evaluated_is g point e
 stored_is g point place (combined op e) = ap (applied op (g place)) (evaluated_is g point e)
 stored_is g point place (moved_left k) = refl
 stored_is g point place (moved_right k) = refl
+
+-- a statement reads as many values as its right side wants
+pub reads_wanted : (place : Access) (right : Right) → length (reads_with place right) ≡ values_wanted right
+reads_wanted place (assigned e) = refl
+reads_wanted place (combined op e) = refl
+reads_wanted place (moved_left k) = refl
+reads_wanted place (moved_right k) = refl
 
 -- what holds of each member of the list of reads holds of each read
 each_read : (P : Access → Type 0) (e : Expression) → ((a : Access) → In a (reads_of e) → P a) → EachRead P e

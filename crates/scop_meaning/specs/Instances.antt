@@ -2,6 +2,7 @@
 use Rattle.std.specs.Prelude.{
   ◌≡◌,
   ℕ,
+  suc,
   ◌-◌,
   ◌≤◌,
   ◌^◌,
@@ -18,6 +19,8 @@ use Rattle.std.specs.Prelude.{
   if◌then◌else◌,
 }
 use Rattle.scop_syntax.specs.Tree.{Tree, loop, guard, statement, Trees, none, more, Program}
+use Rattle.scop_syntax.specs.Tree.{Right, assigned, combined, moved_left, moved_right}
+use Rattle.scop_syntax.specs.Cells.{reads_of}
 use Rattle.scop_syntax.specs.Members.{In}
 use Rattle.scop_syntax.specs.Acts.{Act}
 use Rattle.scop_syntax.specs.Execution.{cell_count, total_cells}
@@ -68,3 +71,10 @@ pub record AreExtents (extents : List ℕ) : Type 0 where
 pub record AreLayout (extents : List (List ℕ)) : Type 0 where
   pub sizes : All (λ e. All (λ n. (1 ≤ n) × (n ≤ 2 ^ 22)) e) extents
   pub total : total_cells extents ≤ 2 ^ 22
+
+-- how many values read a right side wants
+abbrev pub values_wanted : Right → ℕ
+values_wanted (assigned e) = length (reads_of e)
+values_wanted (combined op e) = suc (length (reads_of e))
+values_wanted (moved_left k) = 1
+values_wanted (moved_right k) = 1

@@ -1,12 +1,13 @@
 //! Values of expressions.
 ghost use Rattle.std.specs.Prelude.{◌≡◌, ◌+◌, ◌≤◌, drop, length};
-ghost use Rattle.scop_syntax.specs.Cells.{reads as reads_by, reads_of};
-ghost use Rattle.scop_syntax.specs.View.{expression_of, statement_of};
+ghost use Rattle.scop_syntax.specs.Cells.{reads_of};
+ghost use Rattle.scop_syntax.specs.View.{expression_of, right_of};
 ghost use Rattle.scop_syntax.specs.Values.{stored_by, value_on};
+ghost use Rattle.scop_meaning.specs.Instances.{values_wanted};
 
 use crate::operators::{combined, complemented, negated, shifted_left, shifted_right};
 use scop_syntax::affine_values::wrapped_at;
-use scop_syntax::tree::{Expr, Right, Stmt};
+use scop_syntax::tree::{Expr, Right};
 
 /// The value of `expression` at `point`, where its reads have the values `reads` from `at` on; `at`
 /// goes on behind them.
@@ -40,13 +41,13 @@ pub fn value_from(expression: &Expr, point: &[i64], reads: &[u64], at: &mut usiz
     }
 }
 
-/// What `statement` stores at `point`, where its reads have the values `reads`.
-pub fn stored_on(statement: &Stmt, point: &[i64], reads: &[u64]) -> u64
-    requires { length reads.now ≡ length (reads_by (statement_of statement.now)) }
-    ensures { result ≡ stored_by (statement_of statement.now).right point.now reads.now }
+/// What a statement with this right side stores at `point`, where its reads have the values `reads`.
+pub fn stored_on(right: &Right, point: &[i64], reads: &[u64]) -> u64
+    requires { length reads.now ≡ values_wanted (right_of right.now) }
+    ensures { result ≡ stored_by (right_of right.now) point.now reads.now }
 {
     let mut at = 0;
-    match &statement.right {
+    match right {
         Right::Assigned(value) => value_from(value, point, reads, &mut at),
         Right::Combined(operator, value) => {
             at = 1;

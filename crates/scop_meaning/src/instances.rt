@@ -84,7 +84,7 @@ pub fn value(kernel: &Kernel, params: &[i64], instance: &Instance, reads: &[u64]
 {
     let mut point = point_at(params);
     let statement = find(kernel, params, instance, &mut point);
-    stored_on(statement, point.as_slice(), reads)
+    stored_on(&statement.right, point.as_slice(), reads)
 }
 
 /// The number of the cell that access `access` of the instance touches, among those of all arrays:

@@ -1,6 +1,6 @@
 //! The head of a loop at a point: the iterator of a turn, and how many turns there are.
-ghost use Rattle.std.specs.Prelude.{◌≡◌, ◌<◌, ◌≤◌, ◌^◌, ◌+ℤ◌, ◌*ℤ◌, FitsSigned, length, pos};
-ghost use Rattle.std.specs.Int.{w64};
+ghost use Rattle.std.specs.Prelude.{◌≡◌, ◌++◌, ◌∷◌, ◌<◌, ◌≤◌, ◌^◌, ◌+ℤ◌, ◌*ℤ◌, [], FitsSigned, length, pos};
+ghost use Rattle.std.specs.Int.{int_wrap, w64};
 ghost use Rattle.whole_numbers.specs.Affine.{value_of};
 ghost use Rattle.scop_syntax.specs.Fits.{TurnFits};
 ghost use Rattle.scop_syntax.specs.Kernel.{IsHead};
@@ -48,11 +48,14 @@ pub fn point_in_turn(head: &Loop, first: i64, turn: u64, point: &[i64]) -> Point
     inner
 }
 
-/// Puts the iterator of turn `turn` on the stack, which fits, whatever the parts of its sum are.
+/// Puts the iterator of turn `turn` on the stack, modulo 2^64: it is exact where it fits, whatever the parts of its sum
+/// are.
 pub fn enter_at(head: &Loop, turn: i64, point: &mut Point)
-    requires space { length point.old.items < ROOM }
-    requires fits { FitsSigned w64 (value_of head.now.first point.old.items +ℤ (head.now.stride *ℤ turn)) }
-    ensures { point.new.items ≡ turn_point head.now point.old.items turn }
+    requires { length point.old.items < ROOM }
+    ensures wrapped { point.new.items ≡ point.old.items
+        ++ int_wrap w64 (value_of head.now.first point.old.items +ℤ (head.now.stride *ℤ turn)) ∷ [] }
+    ensures fitting { FitsSigned w64 (value_of head.now.first point.old.items +ℤ (head.now.stride *ℤ turn))
+        → point.new.items ≡ turn_point head.now point.old.items turn }
 {
     let first = value_at(&head.first, point.as_slice());
     point.push(with_product(first, head.stride, turn));

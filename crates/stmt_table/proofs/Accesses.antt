@@ -14,8 +14,8 @@ use Rattle.scop_syntax.specs.Tree.{shifted_left, shifted_right, Right, assigned,
 use Rattle.scop_syntax.specs.Tree.{Declaration, Program, Statement}
 use Rattle.scop_syntax.proofs.Members.{in_append, in_from_place, in_map_from}
 use Rattle.standings.specs.Standings.{Standing, heads_in, standing, standings_of}
+use Rattle.standings.proofs.Heads.{as_many_heads}
 use Rattle.stmt_table.specs.steps.Forms.{CanForm}
-use Rattle.stmt_table.proofs.Entering.{as_many_heads}
 
 abbrev Names : List ℕ → Access → Type 0
 Names ranks a = a.array < length ranks

@@ -3,7 +3,7 @@ use Rattle.std.proofs.Common.{◌≡◌, ◌∙◌, ap, refl, subst, ℕ, ◌+�
 use Rattle.std.specs.Prelude.{ℤ, ◌+ℤ◌, ◌*ℤ◌}
 use Rattle.std.specs.Int.{int_wrap, w64}
 use Rattle.whole_numbers.specs.Affine.{value_of}
-use Rattle.scop_syntax.specs.Statements.{Scope, loops_in, point_of, round, under}
+use Rattle.scop_syntax.specs.Statements.{Scope, point_of, round, under}
 use Rattle.scop_syntax.specs.Tree.{Head}
 use Rattle.scop_syntax.specs.Walk.{turn_point}
 use Rattle.standings.specs.Standings.{heads_in}
@@ -19,11 +19,6 @@ point_in_scopes (under tests ∷ scopes) point turns = point_in_scopes scopes po
 point_in_scopes (round head ∷ scopes) point [] = refl
 point_in_scopes (round head ∷ scopes) point (turn ∷ turns) =
     point_in_scopes scopes (turn_point head point turn) turns
-
-pub as_many_heads : (scopes : List Scope) → length (heads_in scopes) ≡ loops_in scopes
-as_many_heads [] = refl
-as_many_heads (under tests ∷ scopes) = as_many_heads scopes
-as_many_heads (round head ∷ scopes) = let more = as_many_heads scopes in omega (arith, more)
 
 -- turns past the loops do not count
 pub point_by_front : (heads : List Head) (point turns more : List ℤ) → length heads ≤ length turns

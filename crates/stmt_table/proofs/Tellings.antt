@@ -1,17 +1,22 @@
--- A form that was made of the numbers at no turns and at one turn of each loop tells the number at all turns.
-use Rattle.std.proofs.Common.{◌≡◌, ◌∙◌, ap, sym, ℕ, ◌+◌, ◌<◌, ◌≤◌, List, [], ◌∷◌, ◌++◌, length, get_or, set, arith}
-use Rattle.std.specs.Prelude.{ℤ, pos, neg_ℤ, ◌+ℤ◌, ◌-ℤ◌}
+-- A form that was made of the numbers at no turns and at one turn of each loop tells the number at all turns; in a
+-- single row it tells the value of another form.
+use Rattle.std.proofs.Common.{◌≡◌, ◌∙◌, ap, sym, ℕ, zero, suc, ◌+◌, ◌<◌, ◌≤◌, ◌^◌, List, [], ◌∷◌, ◌++◌, length, get_or, set}
+use Rattle.std.proofs.Common.{All, arith}
+use Rattle.std.specs.Prelude.{ℤ, pos, neg_ℤ, ◌+ℤ◌, ◌-ℤ◌, ◌*ℤ◌}
 use Rattle.std.specs.Int.{int_wrap, w64}
 use Rattle.std.proofs.lemmas.Int.{int_wrap-add_left, int_wrap-sub_right, ints}
 use Rattle.std.proofs.lemmas.List.{get_or_append_left, get_or_push}
-use Rattle.whole_numbers.specs.Affine.{Affine}
+use Rattle.whole_numbers.specs.Affine.{Affine, value_of}
 use Rattle.whole_numbers.specs.Lists.{zeros}
+use Rattle.scop_meaning.specs.Instances.{AreLayout}
 use Rattle.scop_syntax.specs.Tree.{Access, Head}
+use Rattle.scop_syntax.specs.Values.{wrapped}
 use Rattle.scop_syntax.proofs.Members.{nat_cases}
 use Rattle.stmt_table.specs.Numbers.{number_at}
 use Rattle.stmt_table.specs.Points.{point_in}
 use Rattle.stmt_table.specs.Tables.{Tells}
 use Rattle.stmt_table.specs.steps.Forms.{number_form}
+use Rattle.stmt_table.specs.steps.Rights.{IsFormOver, cell_of_row, one_row}
 use Rattle.stmt_table.specs.steps.Same.{IsSame}
 use Rattle.stmt_table.proofs.Linear.{coefficient_told, constant_told, number_told}
 use Rattle.stmt_table.proofs.Same.{forms_same, same_wrapped, wrapped_same}
@@ -68,3 +73,24 @@ coefficients_more form ks new k stride long each is pushed i less =
     ∙ (same_wrapped (get_or form.coefficients k (pos 0))
     ∙ ap (λ (j : ℕ). int_wrap w64 (get_or form.coefficients j (pos 0))) (sym e))))
     (λ l. absurd (omega (arith, l, less)))
+
+one_size : (i d : ℕ) → i < 1 → (1 ≤ get_or (1 ∷ []) i d) × (get_or (1 ∷ []) i d ≤ 2 ^ 22)
+one_size zero d less = (omega arith, omega arith)
+one_size (suc i) d less = absurd (omega (arith, less))
+
+row_sizes : (i : ℕ) (d : List ℕ) → i < 1 → All (λ n. (1 ≤ n) × (n ≤ 2 ^ 22)) (get_or one_row i d)
+row_sizes zero d less = one_size
+row_sizes (suc i) d less = absurd (omega (arith, less))
+
+-- a single row has few cells
+pub row_layout : AreLayout one_row
+row_layout = record { sizes = row_sizes; total = omega arith }
+
+-- there a form that tells the number of a cell has the value of the cell's subscript
+pub form_in_row : (params : List ℤ) (heads : List Head) (form over : Affine)
+    → Tells one_row params heads (cell_of_row form) over → IsFormOver params heads form over
+form_in_row params heads form over tells = λ turns long.
+    tells turns long ∙ ap wrapped (subscript (value_of form (point_in heads params turns)))
+  where
+    subscript : (x : ℤ) → pos 0 +ℤ (x +ℤ (pos 1 *ℤ pos 0)) ≡ x
+    subscript x = omega (arith, ints)

@@ -1,28 +1,30 @@
--- The row of a visit's statement, and what its forms tell at the visit.
+-- The row of a visit's statement, and what it tells at the visit.
 use Rattle.std.proofs.Common.{◌≡◌, ◌∙◌, ap, sym, refl, ℕ, zero, suc, ◌<◌, ◌^◌, ◌%◌, List, [], ◌∷◌, length}
 use Rattle.std.proofs.Common.{get_or, Some, arith}
 use Rattle.std.specs.Prelude.{ℤ, slice_get}
 use Rattle.std.specs.Option.{option_map}
-use Rattle.std.proofs.lemmas.Option.{slice_get-map, slice_get-get_or, slice_get_within, get_or_from_slice_get}
+use Rattle.std.proofs.lemmas.Option.{slice_get-map, slice_get_within, get_or_from_slice_get}
 use Rattle.whole_numbers.specs.Affine.{Affine, value_of}
-use Rattle.scop_syntax.specs.Cells.{accesses, cell_of}
+use Rattle.scop_syntax.specs.Cells.{accesses, cell_of, reads}
 use Rattle.scop_syntax.specs.Execution.{IsCell, cell_number, layout}
 use Rattle.scop_syntax.specs.Members.{In}
 use Rattle.scop_syntax.specs.Statements.{Placed, Runs, Scope, loops_in, statements_of, visit_of}
-use Rattle.scop_syntax.specs.Tree.{Access, Program, Statement}
-use Rattle.scop_syntax.specs.Values.{wrapped}
-use Rattle.scop_syntax.specs.View.{instance_of}
+use Rattle.scop_syntax.specs.Tree.{Access, Program, Right, Statement}
+use Rattle.scop_syntax.specs.Values.{stored_by, wrapped}
+use Rattle.scop_syntax.specs.View.{instance_of, right_of}
 use Rattle.scop_syntax.specs.Walk.{Instance, Visit, walk_of}
 use Rattle.scop_syntax.specs.declared.instance.Instance.{Instance as CodeInstance}
 use Rattle.scop_syntax.proofs.Members.{place_of}
-use Rattle.scop_meaning.specs.Instances.{IsVisitOf}
+use Rattle.scop_meaning.specs.Instances.{IsVisitOf, values_wanted}
 use Rattle.standings.specs.Standings.{Standing, heads_in, standing, standings_of}
+use Rattle.standings.proofs.Heads.{as_many_heads}
 use Rattle.stmt_table.specs.Numbers.{number_at}
 use Rattle.stmt_table.specs.Points.{point_in}
-use Rattle.stmt_table.specs.Tables.{AreForms, IsTableOf, forms_in}
+use Rattle.stmt_table.specs.Tables.{AreForms, IsTableOf, Stores, forms_in, rights_in}
+use Rattle.stmt_table.specs.declared.table.Row.{Row}
 use Rattle.stmt_table.specs.declared.table.Table.{Table}
 use Rattle.stmt_table.proofs.Offsets.{number_exact}
-use Rattle.stmt_table.proofs.Entering.{as_many_heads, point_in_scopes}
+use Rattle.stmt_table.proofs.Entering.{point_in_scopes}
 
 -- the laws of walks and statements
 pub record WalkLaws : Type 0 where
@@ -37,10 +39,18 @@ pub record HasRow (program : Program) (params : List ℤ) (table : Table) (i : C
   pub cells : List Affine
   pub told : slice_get (forms_in table) i.statement ≡ Some cells
   pub forms : AreForms (layout program params) params own cells
+  pub right : Right
+  pub right_told : slice_get (rights_in table) i.statement ≡ Some right
+  pub stored : Stores params own.heads own.body.right right
   pub body : own.body ≡ v.body
   pub turns : (instance_of i).turns ≡ v.turns
   pub many : length v.turns ≡ length own.heads
   pub point : point_in own.heads params v.turns ≡ v.point
+
+there_is : {A : Type 0} (xs : List A) (k : ℕ) → k < length xs → (x : A) × (slice_get xs k ≡ Some x)
+there_is [] k less = absurd (omega (arith, less))
+there_is (x ∷ xs) zero less = (x, refl)
+there_is (x ∷ xs) (suc k) less = there_is xs k (omega (arith, less))
 
 pub row_of : WalkLaws → (program : Program) (params : List ℤ) (table : Table) (i : CodeInstance) (v : Visit)
     → IsTableOf program params table → IsVisitOf program params (instance_of i) v
@@ -60,16 +70,24 @@ row_of laws program params table i v is visit =
     ∙ ap (option_map (λ (q : Placed). standing (heads_in q.scopes) q.body)) place.1 in
     let within = slice_get_within (standings_of program) k around here in
     let count = is.count in
-    let row = slice_get-get_or (forms_in table) k [] (omega (arith, within, count)) in
+    let found = there_is table.rows.items k (omega (arith, within, count)) in
+    let row = found.0 in
+    let at = ap (slice_get table.rows.items) number ∙ found.1 in
+    let fits = is.rows k around row here found.1 in
     let turned = ap (λ (w : Visit). w.turns) stood.4 in
     let heads = as_many_heads p.scopes in
     let long = laws.turns p.scopes params xs stood.3 in
     let same = ap (λ (l : List ℤ). length l) turned in
     record {
       own = around;
-      cells = get_or (forms_in table) k [];
-      told = ap (slice_get (forms_in table)) number ∙ row;
-      forms = is.forms k around (get_or (forms_in table) k []) here row;
+      cells = row.cells.items;
+      told = slice_get-map (λ (r : Row). r.cells.items) table.rows.items i.statement
+          ∙ ap (option_map (λ (r : Row). r.cells.items)) at;
+      forms = fits.forms;
+      right = right_of row.right;
+      right_told = slice_get-map (λ (r : Row). right_of r.right) table.rows.items i.statement
+          ∙ ap (option_map (λ (r : Row). right_of r.right)) at;
+      stored = fits.stored;
       body = ap (λ (w : Visit). w.body) (sym stood.4);
       turns = sym (ap (λ (x : Instance). x.turns) visit.same);
       many = omega (arith, heads, long, same);
@@ -102,10 +120,28 @@ cell_told program params table i v a touched result cell small row at tells =
     ∙ (ap (λ (p : List ℤ). wrapped (number_at extents touched p)) row.point
     ∙ (ap wrapped (number_exact extents touched v.point cell) ∙ kept c small))))
   where
-    there_is : (fs : List Affine) (k : ℕ) → k < length fs → (f : Affine) × (slice_get fs k ≡ Some f)
-    there_is [] k less = absurd (omega (arith, less))
-    there_is (f ∷ fs) zero less = (f, refl)
-    there_is (f ∷ fs) (suc k) less = there_is fs k (omega (arith, less))
-
     kept : (n : ℕ) → n < 2 ^ 22 → n % 2 ^ 64 ≡ n
     kept n less = omega (arith, less)
+
+-- the right side in the row wants as many values as the visit reads
+pub reads_told : (program : Program) (params : List ℤ) (table : Table) (i : CodeInstance) (v : Visit) (right : Right)
+    → HasRow program params table i v → slice_get (rights_in table) i.statement ≡ Some right
+    → length (reads v.body) ≡ values_wanted right
+reads_told program params table i v right row at =
+    let both : Some row.right ≡ Some right = sym row.right_told ∙ at in
+    let same : row.right ≡ right = cc in
+    ap (λ (s : Statement). length (reads s)) (sym row.body)
+    ∙ (sym (row.stored.reads row.own.body.place) ∙ ap values_wanted same)
+
+-- and stores over the turns what the visit does
+pub value_told : (program : Program) (params : List ℤ) (table : Table) (i : CodeInstance) (v : Visit) (values : List ℕ)
+    (result : ℕ) → HasRow program params table i v
+    → ((right : Right) → slice_get (rights_in table) i.statement ≡ Some right
+    → result ≡ stored_by right (instance_of i).turns values)
+    → result ≡ stored_by v.body.right v.point values
+value_told program params table i v values result row tells =
+    tells row.right row.right_told
+    ∙ (ap (λ (xs : List ℤ). stored_by row.right xs values) row.turns
+    ∙ (row.stored.value v.turns values row.many
+    ∙ (ap (λ (s : Statement). stored_by s.right (point_in row.own.heads params v.turns) values) row.body
+    ∙ ap (λ (p : List ℤ). stored_by v.body.right p values) row.point)))

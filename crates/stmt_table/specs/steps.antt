@@ -1,3 +1,4 @@
 -- What only proofs and private contracts need.
 pub mod Same
 pub mod Forms
+pub mod Rights

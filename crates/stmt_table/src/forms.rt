@@ -37,18 +37,26 @@ fn number_in(
     number_at(access, extents, point.as_slice())
 }
 
-/// What a turn of loop `at` adds to the number, modulo 2^64.
-fn stride_of(access: &Access, extents: &Extents, heads: &[&Loop], params: &[i64], at: usize) -> i64
+/// What a turn of loop `at` adds to the number at no turns, modulo 2^64.
+fn stride_of(
+    access: &Access,
+    extents: &Extents,
+    heads: &[&Loop],
+    params: &[i64],
+    base: i64,
+    at: usize,
+) -> i64
     requires layout { AreLayout extents.now }
     requires array { access.now.array < length extents.now }
     requires loops { length heads.now ≤ MAX_LOOPS }
     requires room { length params.now + length heads.now ≤ ROOM }
+    requires base { base ≡ int_wrap w64 (exact_number extents.now access.now
+        (exact_point (map (λ h. h.now) heads.now) params.now (zeros MAX_LOOPS))) }
     requires at { at < MAX_LOOPS }
     ensures { result ≡ int_wrap w64 (get_or
         (number_form MAX_LOOPS extents.now (map (λ h. h.now) heads.now) params.now access.now).coefficients at (pos 0)) }
 {
     let mut turns = [0; MAX_LOOPS];
-    let base = number_in(access, extents, heads, params, &turns);
     turns[at] = 1;
     number_in(access, extents, heads, params, &turns).wrapping_sub(base)
 }
@@ -70,11 +78,11 @@ pub(crate) fn form_of(
     requires room { length params.now + length heads.now ≤ ROOM }
     ensures { IfOk result (Tells extents.now params.now (map (λ h. h.now) heads.now) access.now) }
 {
+    let constant = number_in(access, extents, heads, params, &[0; MAX_LOOPS]);
     let mut coefficients = Vec::with_capacity(alloc, MAX_LOOPS)?;
     for at in 0..MAX_LOOPS {
-        coefficients.push(stride_of(access, extents, heads, params, at))?;
+        coefficients.push(stride_of(access, extents, heads, params, constant, at))?;
     }
-    let constant = number_in(access, extents, heads, params, &[0; MAX_LOOPS]);
     Ok(Aff {
         coefficients,
         constant,

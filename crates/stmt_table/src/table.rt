@@ -1,30 +1,42 @@
-//! The table of a kernel's accesses.
+//! The table of a kernel's statements.
 ghost use Rattle.std.specs.Prelude.{◌≡◌, ◌-◌, ◌<◌, ◌≤◌, IfOk, Some, [], length, slice_get, slice_index_or};
 ghost use Rattle.whole_numbers.specs.Affine.{Affine, value_of};
+ghost use Rattle.scop_meaning.specs.Instances.{values_wanted};
 ghost use Rattle.scop_syntax.specs.Execution.{layout};
 ghost use Rattle.scop_syntax.specs.Limits.{WithinLimits};
-ghost use Rattle.scop_syntax.specs.Values.{wrapped};
-ghost use Rattle.scop_syntax.specs.View.{instance_of, program_of};
+ghost use Rattle.scop_syntax.specs.Tree.{Right as RightSide};
+ghost use Rattle.scop_syntax.specs.Values.{stored_by, wrapped};
+ghost use Rattle.scop_syntax.specs.View.{instance_of, program_of, right_of};
 ghost use Rattle.standings.specs.View.{standing_of};
-ghost use Rattle.stmt_table.specs.Tables.{AreForms, IsTableOf, forms_in};
+ghost use Rattle.stmt_table.specs.Tables.{AreForms, IsRowOf, IsTableOf, forms_in, rights_in};
 ghost use Rattle.stmt_table.specs.steps.Forms.{CanForm};
 
 use crate::forms::form_of;
+use crate::rights::right_over;
 use scop_meaning::accesses::{access_at, read_count};
+use scop_meaning::expressions::stored_on;
 use scop_syntax::affine_values::wrapped_at;
 use scop_syntax::arrays::Extents;
 use scop_syntax::instance::Instance;
 use scop_syntax::limit_laws::cells_lie_within_22_bits;
-use scop_syntax::tree::{Aff, Kernel};
+use scop_syntax::tree::{Aff, Kernel, Right};
 use scop_syntax::walk_laws::statements_are_numbered;
 use standings::{Standing, standings_of};
 use std::alloc::{AllocError, Global};
 
-/// For each statement of a kernel in textual order the forms of its accesses, the place first: the row-major number of
-/// the cell among those of all arrays, over the turns of the loops round the statement, modulo 2^64.
+/// What is told of a statement over the turns of the loops round it: for each access, the place first, a form of the
+/// row-major number of its cell among those of all arrays, modulo 2^64; and its right side, in which affine parts are
+/// such forms.
+#[derive(Drop)]
+pub struct Row {
+    pub cells: Vec<Aff>,
+    pub right: Right,
+}
+
+/// The row of each statement of a kernel, in textual order.
 #[derive(Drop)]
 pub struct Table {
-    pub cells: Vec<Vec<Aff>>,
+    pub rows: Vec<Row>,
 }
 
 /// The forms of a statement's accesses.
@@ -46,6 +58,21 @@ fn forms_of(
     Ok(forms)
 }
 
+/// The row of a statement.
+fn row_of(
+    alloc: Global,
+    statement: &Standing,
+    params: &[i64],
+    extents: &Extents,
+) -> Result<Row, AllocError>
+    requires { CanForm extents.now params.now (standing_of statement.now) }
+    ensures { IfOk result (IsRowOf extents.now params.now (standing_of statement.now)) }
+{
+    let cells = forms_of(alloc, statement, params, extents)?;
+    let right = right_over(alloc, &statement.body.right, &statement.heads, params)?;
+    Ok(Row { cells, right })
+}
+
 impl Table {
     /// The table of the kernel for these parameters, with the extents of its arrays.
     ///
@@ -64,11 +91,11 @@ impl Table {
         statements_are_numbered();
         cells_lie_within_22_bits();
         let statements = standings_of(alloc, kernel)?;
-        let mut cells = Vec::with_capacity(alloc, statements.len())?;
+        let mut rows = Vec::with_capacity(alloc, statements.len())?;
         for statement in &statements {
-            cells.push(forms_of(alloc, statement, params, extents)?)?;
+            rows.push(row_of(alloc, statement, params, extents)?)?;
         }
-        Ok(Table { cells })
+        Ok(Table { rows })
     }
 
     /// How many cells each instance of the statement of this number reads.
@@ -77,7 +104,7 @@ impl Table {
         requires place { 1 ≤ length (slice_index_or (forms_in self.now) statement []) }
         ensures { result ≡ length (slice_index_or (forms_in self.now) statement []) - 1 }
     {
-        self.cells[statement].len() - 1
+        self.rows[statement].cells.len() - 1
     }
 
     /// The form of the access of this number.
@@ -86,7 +113,7 @@ impl Table {
         requires access { access < length (slice_index_or (forms_in self.now) statement []) }
         ensures { slice_get (slice_index_or (forms_in self.now) statement []) access ≡ Some result.now }
     {
-        &self.cells[statement][access]
+        &self.rows[statement].cells[access]
     }
 
     /// The number of the cell that access `access` of the instance touches, among those of all arrays: array after array
@@ -99,5 +126,24 @@ impl Table {
             → result ≡ wrapped (value_of form (instance_of instance.now).turns) }
     {
         wrapped_at(self.form(instance.statement, access), instance.turns()) as usize
+    }
+
+    /// The right side of the statement of this number.
+    fn right(&self, statement: usize) -> &Right
+        requires { statement < length (forms_in self.now) }
+        ensures { slice_get (rights_in self.now) statement ≡ Some (right_of result.now) }
+    {
+        &self.rows[statement].right
+    }
+
+    /// What the instance stores, where its reads have the values `reads`, in the order of the text.
+    pub fn value(&self, instance: &Instance, reads: &[u64]) -> u64
+        requires statement { instance.now.statement < length (forms_in self.now) }
+        requires reads { (right : RightSide) → slice_get (rights_in self.now) instance.now.statement ≡ Some right
+            → length reads.now ≡ values_wanted right }
+        ensures { (right : RightSide) → slice_get (rights_in self.now) instance.now.statement ≡ Some right
+            → result ≡ stored_by right (instance_of instance.now).turns reads.now }
+    {
+        stored_on(self.right(instance.statement), instance.turns(), reads)
     }
 }

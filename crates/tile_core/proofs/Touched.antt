@@ -64,7 +64,7 @@ reads_there plan i v extents is =
     ap (λ o. length (read_by extents o)) is.at
     ∙ (length-map (cells_read v) (cell_number extents) ∙ length-map (reads v.body) (λ access. cell_of access v.point))
 
-pub many_reads : (plan : Plan) (i : CodeInstance) (extents : List (List ℕ))
+many_reads : (plan : Plan) (i : CodeInstance) (extents : List (List ℕ))
     → StandOnce (program_in plan) plan.params.now
     → In (instance_of i) (places_in plan) → (v : Visit) → IsVisitOf (program_in plan) plan.params.now (instance_of i) v
     → length (reads v.body) ≡ length (read_by extents (slice_get (walk_in plan) (plans.place_of plan i)))

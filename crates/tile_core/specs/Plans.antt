@@ -71,7 +71,7 @@ plan_of plan cells =
 abbrev pub shape_of : Plan → events.Plan
 shape_of plan = plan_of plan []
 
--- a kernel within the limits, whose subscripts are inside; the table of its accesses; a tree that visits each walked
+-- a kernel within the limits, whose subscripts are inside; the table of its statements; a tree that visits each walked
 -- instance once, in the order of a good plan; and the tiles of its visits
 pub record IsPlan (plan : Plan) : Type 0 where
   pub tiling : Tiling

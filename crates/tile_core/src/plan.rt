@@ -7,7 +7,6 @@ ghost use Rattle.tile_core.specs.Plans.{IsPlan, place_of, places_in, shape_of};
 
 use crate::plan_laws::plans_are_good;
 use loop_tree::Tree;
-use scop_meaning::instances::value;
 use scop_syntax::instance::Instance;
 use scop_syntax::limit_laws::cells_lie_within_22_bits;
 use scop_syntax::tree::Kernel;
@@ -17,7 +16,7 @@ use scop_syntax::walk_laws::{
 use stmt_table::table::Table;
 use tile_list::{Tile, TileList};
 
-/// A kernel with its parameters, the table of its accesses, the tree of a plan of it, and the tiles of its visits.
+/// A kernel with its parameters, the table of its statements, the tree of a plan of it, and the tiles of its visits.
 #[derive(Clone, Copy)]
 pub struct Plan<'a> {
     pub kernel: &'a Kernel,
@@ -127,7 +126,8 @@ impl<'a> Plan<'a> {
         requires reads { length reads.now ≡ length ((shape_of self.now).read (place_of self.now instance.now)) }
         ensures { result ≡ (shape_of self.now).value (place_of self.now instance.now) reads.now }
     {
-        walks_are_in_order();
-        value(self.kernel, self.params, instance, reads)
+        instances_are_those_of_statements();
+        statements_are_numbered();
+        self.table.value(instance, reads)
     }
 }

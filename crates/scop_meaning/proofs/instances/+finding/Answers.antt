@@ -14,27 +14,13 @@ use Rattle.scop_meaning.specs.declared.loops.TheConstants.{ROOM}
 use Rattle.scop_meaning.proofs.Finding.{can_enter, is_entered}
 use Rattle.scop_meaning.proofs.instances.+finding.Goals as goal
 
-pub find_in-enter_at-requires-clause-space : goal.find_in-enter_at-requires-clause-space
-find_in-enter_at-requires-clause-space t c =
+pub find_in-enter_at-requires : goal.find_in-enter_at-requires
+find_in-enter_at-requires t c =
     let is : tree_of c.args.item.now ≡ loop c.in-Loop.head (items_of c.in-Loop.body.items) =
     ap tree_of c.in-Loop.is ∙ tree_loop c.in-Loop.head c.in-Loop.body in
     let can = subst (λ (u : Tree). CanFind ROOM (more u none) c.args.number c.args.point.now.items c.args.turns.now) is
     c.requires in
     (can_enter ROOM _ _ c.args.number c.args.point.now.items c.args.turns.now can).space
-
-pub find_in-enter_at-requires-clause-fits : goal.find_in-enter_at-requires-clause-fits
-find_in-enter_at-requires-clause-fits t c =
-    let point = c.args.point.now.items in
-    let head = c.in-Loop.head in
-    let x = get_or c.args.turns.now 0 (pos 0) in
-    let is : tree_of c.args.item.now ≡ loop head (items_of c.in-Loop.body.items) =
-    ap tree_of c.in-Loop.is ∙ tree_loop head c.in-Loop.body in
-    let can = subst (λ (u : Tree). CanFind ROOM (more u none) c.args.number point c.args.turns.now) is
-    c.requires in
-    let fits : FitsSigned w64 (value_of head.first point +ℤ (head.stride *ℤ x)) =
-    (can_enter ROOM _ _ c.args.number point c.args.turns.now can).fits in
-    let fit : FitsSigned w64 x = search rules in
-    subst (λ (z : ℤ). FitsSigned w64 (value_of head.first point +ℤ (head.stride *ℤ z))) (sym (to_z-of_z w64 x fit)) fits
 
 pub find_in-find_among-requires : goal.find_in-find_among-requires
 find_in-find_among-requires t c =
@@ -50,7 +36,9 @@ find_in-find_among-requires t c =
     let there : CanFind ROOM (items_of body.items) c.args.number (turn_point head point x) xs =
     (can_enter ROOM _ _ c.args.number point turns whole).can in
     let fit : FitsSigned w64 x = search rules in
-    let entered : c.enter_at.new.point.items ≡ turn_point head point x = simp to_z-of_z at c.enter_at.ensures in
+    let fitting : FitsSigned w64 (value_of head.first point +ℤ (head.stride *ℤ x))
+    → c.enter_at.new.point.items ≡ turn_point head point x = simp to_z-of_z at c.enter_at.ensures.fitting in
+    let entered = fitting (can_enter ROOM _ _ c.args.number point turns whole).fits in
     let can : CanFind ROOM (items_of c.deref.result.now) c.args.number c.enter_at.new.point.items xs =
     subst (λ (l : List ℤ). CanFind ROOM (items_of c.deref.result.now) c.args.number l xs) (sym entered)
     (subst (λ (l : List Item). CanFind ROOM (items_of l) c.args.number (turn_point head point x) xs)
@@ -72,7 +60,9 @@ find_in-returns-in-Loop t c =
     ap tree_of c.in-Loop.is ∙ tree_loop head body in
     let whole = subst (λ (u : Tree). CanFind ROOM (more u none) c.args.number point turns) is c.requires in
     let fit : FitsSigned w64 x = search rules in
-    let entered : c.enter_at.new.point.items ≡ turn_point head point x = simp to_z-of_z at c.enter_at.ensures in
+    let fitting : FitsSigned w64 (value_of head.first point +ℤ (head.stride *ℤ x))
+    → c.enter_at.new.point.items ≡ turn_point head point x = simp to_z-of_z at c.enter_at.ensures.fitting in
+    let entered = fitting (can_enter ROOM _ _ c.args.number point turns whole).fits in
     ap (λ (u : Tree). act_at u c.args.number point turns) is
     ∙ (is_entered ROOM head (items_of body.items) c.args.number point turns whole
     ∙ (ap (λ (l : List ℤ). act_at_all (items_of body.items) c.args.number l xs) (sym entered)

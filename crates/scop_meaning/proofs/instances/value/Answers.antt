@@ -7,6 +7,7 @@ use Rattle.scop_syntax.specs.View.{instance_of, program_of, statement_of}
 use Rattle.scop_syntax.specs.Walk.{instance, walk_of}
 use Rattle.scop_syntax.proofs.Members.{in_map_from}
 use Rattle.scop_meaning.specs.Instances.{IsVisitOf}
+use Rattle.scop_meaning.proofs.Evaluations.{reads_wanted}
 use Rattle.scop_meaning.proofs.instances.value.Goals as goal
 
 pub stored_on-requires : goal.stored_on-requires
@@ -14,9 +15,12 @@ stored_on-requires c =
     let p = program_of c.args.kernel.now in
     let params = c.args.params.now in
     let i = instance_of c.args.instance.now in
+    let s = statement_of c.find-statement.result.now in
     let u = in_map_from instance i (walk_of p params) c.requires.walked in
     let is : IsVisitOf p params i u.0 = record { walked = u.1; same = sym u.2 } in
-    c.requires.reads u.0 is ∙ ap (λ (a : Act). length (reads_by a.body)) (sym (c.find-statement.ensures.found u.0 is))
+    c.requires.reads u.0 is
+    ∙ (ap (λ (a : Act). length (reads_by a.body)) (sym (c.find-statement.ensures.found u.0 is))
+    ∙ reads_wanted s.place s.right)
 
 pub returns : goal.returns
 returns c = λ v is.

@@ -6,8 +6,8 @@ use Rattle.whole_numbers.specs.Affine.{Affine, value_of}
 use Rattle.scop_syntax.specs.Tree.{Head}
 use Rattle.scop_meaning.proofs.loops.enter_at.Goals as goal
 
-pub returns : goal.returns
-returns c =
+pub returns-clause-wrapped : goal.returns-clause-wrapped
+returns-clause-wrapped c =
     let head = c.args.head.now in
     let point = c.args.point.now.items in
     let turn = c.args.turn in
@@ -24,9 +24,16 @@ returns c =
     let stride : c.head.inside.stride ≡ head.stride = ap (λ (h : Head). h.stride) c.head.view_is in
     let raw : r ≡ int_wrap w64 (c.value_at-first.result +ℤ (c.head.inside.stride *ℤ turn)) =
     simp to_z-of_z at c.with_product.ensures in
-    let entry : r ≡ v +ℤ (head.stride *ℤ turn) =
+    let entry : r ≡ int_wrap w64 (v +ℤ (head.stride *ℤ turn)) =
     raw ∙ (ap₂ (λ (z s : ℤ). int_wrap w64 (z +ℤ (s *ℤ turn))) first stride
-    ∙ (int_wrap-add_left w64 v (head.stride *ℤ turn)
-    ∙ int_wrap_fits w64 (v +ℤ (head.stride *ℤ turn)) c.requires.fits)) in
+    ∙ int_wrap-add_left w64 v (head.stride *ℤ turn)) in
     let pushed : c.push.new.self.items ≡ point ++ r ∷ [] = simp to_z-of_z at c.push.ensures.items in
     pushed ∙ ap (λ (z : ℤ). point ++ z ∷ []) entry
+
+pub returns-clause-fitting : goal.returns-clause-fitting
+returns-clause-fitting c = λ fits.
+    let head = c.args.head.now in
+    let point = c.args.point.now.items in
+    returns-clause-wrapped c
+    ∙ ap (λ (z : ℤ). point ++ z ∷ [])
+    (int_wrap_fits w64 (value_of head.first point +ℤ (head.stride *ℤ c.args.turn)) fits)

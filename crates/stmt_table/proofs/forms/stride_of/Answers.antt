@@ -11,11 +11,11 @@ pub returns : goal.returns
 returns c =
     let heads : List Head = map (λ h. h.now) c.args.heads.now in
     let next = c.number_in.result in
-    let base = c.number_in-base.result in
+    let base = c.args.base in
     let fit_next : FitsSigned w64 next = search rules in
     let fit_base : FitsSigned w64 base = search rules in
     let many = length-map c.args.heads.now (λ h. h.now) in
     let few = c.requires.loops in
     stride_is 5 c.args.extents.now heads c.args.params.now c.args.access.now c.args.at _ next base
-    (omega (arith, many, few)) c.requires.at c.number_in.ensures c.number_in-base.ensures
+    (omega (arith, many, few)) c.requires.at c.number_in.ensures c.requires.base
     (wrapping_sub_is w64 next base fit_next fit_base)
