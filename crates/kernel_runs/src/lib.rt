@@ -9,6 +9,6 @@ mod running;
 mod threads;
 mod workers;
 
-pub use running::{Counts, run_case};
+pub use running::{Counts, plan_of, run_case, tiles_of};
 pub use threads::{By, run_on_threads};
 pub use workers::{OneWorker, Workers};

@@ -36,7 +36,10 @@ pub struct Counts {
 }
 
 /// The tiles of what a plan's tree visits.
-fn tiles_of(
+///
+/// # Errors
+/// `AllocError` alone.
+pub fn tiles_of(
     alloc: Global,
     kernel: &Kernel,
     case: &Case,
@@ -55,8 +58,8 @@ fn tiles_of(
     tiles(alloc, tree, tiling, &case.params)
 }
 
-/// The plan of a run.
-fn plan_of<'a>(
+/// The plan of a run; the tiling is there for the contract alone.
+pub fn plan_of<'a>(
     kernel: &'a Kernel,
     case: &'a Case,
     table: &'a Table,
@@ -73,6 +76,7 @@ fn plan_of<'a>(
     ensures plan { IsPlan result }
     ensures program { program_in result ≡ program_of kernel.now }
     ensures params { result.params.now ≡ case.now.params.items }
+    ensures laid { extents_in result ≡ case.now.extents }
 {
     trees_of_plans_can_be_walked();
     Plan {

@@ -2,12 +2,23 @@
 ghost use Rattle.array_words.specs.Closing.{IsClosed};
 ghost use Rattle.std.specs.Prelude.{◌≡◌, ℕ, ◌≤◌, IfErr, IfOk, List, get_or, length};
 ghost use Rattle.scop_syntax.specs.Cells.{Cell};
-ghost use Rattle.scop_syntax.specs.Execution.{IsCell, IsShaped, cell_number, exec, held};
+ghost use Rattle.scop_syntax.specs.Execution.{IsCell, IsInside, IsShaped, cell_number, exec, held, layout};
+ghost use Rattle.scop_syntax.specs.Limits.{WithinLimits};
+ghost use Rattle.scop_syntax.specs.View.{program_of};
+ghost use Rattle.loop_tree.specs.TilingView.{tiling_of};
+ghost use Rattle.loop_tree.specs.View.{trees_in};
+ghost use Rattle.loop_tree.specs.Walk.{visits};
+ghost use Rattle.plan_tree.specs.Trees.{AreTreesOf};
+ghost use Rattle.tile_list.specs.Tiles.{CanTile};
 ghost use Rattle.tile_events.specs.Flat.{flat};
 ghost use Rattle.tile_core.specs.Plans.{IsPlan, extents_in, plan_of, program_in, shape_of};
 
 use array_words::Closed;
+use data_text::Case;
 use io_ports::{Gate, OpenGate};
+use kernel_runs::{Counts, Workers, run_case};
+use loop_tree::{Tiling, Tree};
+use scop_syntax::tree::Kernel;
 use std::alloc::{AllocError, Global};
 use std::sync::Wait;
 use std::thread::Threads;
@@ -51,4 +62,26 @@ pub fn run_as_executed<'a, R: Threads + Wait + Sync, G: Gate>(
         ≡ held (extents_in plan.entry) (exec (program_in plan.entry) plan.entry.params.now contents) c) }
 {
     run_plan(rt, alloc, plan, cells, workers, gate)
+}
+
+/// Where memory is wanting a case stays as it was, by the clauses of `run_case` of these names.
+pub fn case_stays_without_memory<W: Workers>(
+    by: &W,
+    alloc: Global,
+    kernel: &Kernel,
+    case: &mut Case,
+    tree: &Tree,
+    tiling: &Tiling,
+) -> Result<Counts, AllocError>
+    requires ready { W.ready by.now }
+    requires limits { WithinLimits (program_of kernel.now) case.old.params.items }
+    requires laid { case.old.extents ≡ layout (program_of kernel.now) case.old.params.items }
+    requires shape { IsShaped case.old.extents case.old.arrays }
+    requires inside { IsInside (program_of kernel.now) case.old.params.items }
+    requires trees { AreTreesOf (program_of kernel.now) (tiling_of tiling.now) (trees_in tree.now) }
+    requires fits { CanTile (tiling_of tiling.now) (visits (trees_in tree.now) case.old.params.items) }
+    ensures params { case.new.params.items ≡ case.old.params.items }
+    ensures unchanged { IfErr result (λ _. case.new.arrays ≡ case.old.arrays) }
+{
+    run_case(by, alloc, kernel, case, tree, tiling, 1)
 }
