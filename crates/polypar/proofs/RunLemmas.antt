@@ -43,7 +43,7 @@ data_answers options ReadFault program text params contents out out_after err er
     absurd answer
 data_answers options WriteFault program text params contents out out_after err err_after said answer =
     (answer.0, (params, contents, said, answer.1), answer.2)
-data_answers options NoMemory program text params contents out out_after err err_after said answer = answer
+data_answers options NoMemory program text params contents out out_after err err_after said answer = answer.1
 
 -- no failure is found where none is told
 pub none_found : (found : Option Failure) → None ≡ option_map outside_of found → found ≡ None

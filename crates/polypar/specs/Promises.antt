@@ -56,11 +56,13 @@ abbrev pub AsksRun : RunOptions → Program → List ℤ → List (List ℕ) →
 AsksRun options program params contents told =
     IsInside program params × IsRunText options program params contents told × HasHeldLines told
 
--- of a case of a program, and of the sinks
+-- of a case of a program, and of the sinks; memory may be wanting only where every subscript is inside
 abbrev pub AnswersCase : RunOptions → Status → Program → List ℤ → List (List ℕ) → SinkShows → SinkShows
     → SinkShows → SinkShows → Type 0
 AnswersCase options (Outside f) program params contents out out_after err err_after =
     DeservesCase program params (Outside f) × AreUntouched out out_after err err_after
+AnswersCase options NoMemory program params contents out out_after err err_after =
+    IsInside program params × AreUntouched out out_after err err_after
 AnswersCase options status program params contents out out_after err err_after =
     AnswersTold (AsksRun options program params contents) status out out_after err err_after
 

@@ -10,7 +10,6 @@ ghost use Rattle.scop_syntax.specs.Limits.{WithinLimits};
 ghost use Rattle.data_text.specs.ArrayText.{array_text};
 ghost use Rattle.polypar.specs.Case.{IsShort};
 ghost use Rattle.polypar.specs.Deserves.{too_long};
-ghost use Rattle.polypar.specs.Promises.{AnswersTold, AsksRun};
 ghost use Rattle.polypar.specs.Promises.{AnswersCase, AnswersData, AnswersKernel, AnswersFor, AnswersCommand};
 ghost use Rattle.polypar.specs.Told.{lines_and_arrays};
 ghost use Rattle.polypar.specs.Promises.{CutsTold, IsReadOn, ReadsKernel, WritesTold};
@@ -210,8 +209,8 @@ fn run_inside<W: Workers, O: Sink, E: Sink>(
     requires extents { case.extents ≡ layout (program_of kernel.now) case.params.items }
     requires inside { IsInside (program_of kernel.now) case.params.items }
     requires options { AreSized options }
-    ensures { AnswersTold (AsksRun options (program_of kernel.now) case.params.items case.arrays) result
-        (O.shows out.old) (O.shows out.new) (E.shows err.old) (E.shows err.new) }
+    ensures { AnswersCase options result (program_of kernel.now) case.params.items case.arrays (O.shows out.old)
+        (O.shows out.new) (E.shows err.old) (E.shows err.new) }
 {
     let mut case = case;
     match run_planned(by, alloc, kernel, &mut case, options) {
