@@ -29,6 +29,8 @@ SIZES = {
 }
 
 THREADS = 4
+# The seconds after which a run is given up; its way is not run again.
+PATIENCE = 60
 
 MAIN = """
 #include <stdio.h>
@@ -63,9 +65,13 @@ def program_of(text, kernel, sizes, runs):
 
 
 def timed(program):
-    """The seconds of one run, and the sum of its cells."""
+    """The seconds of one run, and the sum of its cells; nothing where it was given up."""
     environment = dict(os.environ, OMP_NUM_THREADS=str(THREADS))
-    seconds, cells = subprocess.run([program], capture_output=True, check=True, env=environment).stdout.split()
+    try:
+        done = subprocess.run([program], capture_output=True, check=True, env=environment, timeout=PATIENCE)
+    except subprocess.TimeoutExpired:
+        return None
+    seconds, cells = done.stdout.split()
     return float(seconds), cells
 
 
@@ -96,12 +102,17 @@ def main():
             if made is not None:
                 programs[way] = made
         for _ in range(rounds_of([rounds], 5)):
-            for way, made in programs.items():
-                seconds, sums[way] = timed(made)
+            for way in list(programs):
+                told = timed(programs[way])
+                if told is None:
+                    del programs[way]
+                    times[way] = float(PATIENCE)
+                    continue
+                seconds, sums[way] = told
                 times[way] = min(seconds, times.get(way, seconds))
         if len(set(sums.values())) != 1:
             sys.exit(f"{name}: the programs end with different cells: {sums}")
-        line = "  ".join(f"{way} {1000 * seconds:8.1f}" for way, seconds in times.items())
+        line = "  ".join(f"{way} {'' if way in programs else '>'}{1000 * seconds:.1f}" for way, seconds in times.items())
         kept = emitted.stderr.decode().strip()
         print(f"{name:12} {line}  emitted/own {times['emitted'] / times['own']:5.2f}  {kept}", flush=True)
 
