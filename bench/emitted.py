@@ -75,6 +75,22 @@ def timed(program):
     return float(seconds), cells
 
 
+def time_in_turn(programs, rounds, times, sums):
+    """Runs the programs in turn, and puts the shortest seconds of each and its sum of cells into the tables. Returns
+    those that were given up."""
+    given_up = set()
+    for _ in range(rounds):
+        for way, made in programs.items():
+            told = None if way in given_up else timed(made)
+            if told is None:
+                given_up.add(way)
+                times[way] = float(PATIENCE)
+            else:
+                times[way] = min(told[0], times.get(way, told[0]))
+                sums[way] = told[1]
+    return given_up
+
+
 COMPILERS = {
     "own": ["gcc", "-O2"],
     "graphite": ["gcc", "-O2", "-floop-nest-optimize", "-floop-parallelize-all", f"-ftree-parallelize-loops={THREADS}"],
@@ -101,18 +117,10 @@ def main():
             made, _ = built(folder, f"{name}_{way}", text, [*compiler, "-w"])
             if made is not None:
                 programs[way] = made
-        for _ in range(rounds_of([rounds], 5)):
-            for way in list(programs):
-                told = timed(programs[way])
-                if told is None:
-                    del programs[way]
-                    times[way] = float(PATIENCE)
-                    continue
-                seconds, sums[way] = told
-                times[way] = min(seconds, times.get(way, seconds))
+        given_up = time_in_turn(programs, rounds_of([rounds], 5), times, sums)
         if len(set(sums.values())) != 1:
             sys.exit(f"{name}: the programs end with different cells: {sums}")
-        line = "  ".join(f"{way} {'' if way in programs else '>'}{1000 * seconds:.1f}" for way, seconds in times.items())
+        line = "  ".join(f"{way} {'>' if way in given_up else ''}{1000 * seconds:.1f}" for way, seconds in times.items())
         kept = emitted.stderr.decode().strip()
         print(f"{name:12} {line}  emitted/own {times['emitted'] / times['own']:5.2f}  {kept}", flush=True)
 
