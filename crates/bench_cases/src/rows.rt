@@ -31,7 +31,7 @@ pub fn call_of(word: &str) -> Option<Call> {
 }
 
 /// What a round leaves.
-#[derive(Debug, Clone, Copy)]
+#[derive(Clone, Copy)]
 struct Left {
     rows: usize,
     stuck: usize,

@@ -9,7 +9,7 @@ ghost use Rattle.c_printer.specs.steps.Reading.{behind_between};
 use form_text::strip;
 
 /// A part of a tree, and what stands behind it in the text.
-#[derive(Debug, Drop)]
+#[derive(Drop)]
 pub struct Read<'a, T> {
     pub part: T,
     pub rest: &'a [u8],

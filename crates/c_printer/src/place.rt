@@ -8,7 +8,7 @@ use scop_syntax::tree::Name;
 use std::alloc::{AllocError, Global};
 
 /// Where nodes stand: the names that their forms speak of, the level of indentation, and how many loops are round them.
-#[derive(Debug, Drop)]
+#[derive(Drop)]
 pub struct Place {
     pub names: Vec<Name>,
     pub level: usize,

@@ -28,7 +28,7 @@ use wide_math::Wide;
 
 /// Rows over unknowns and parameters. A move changes them in place; once a number was too wide, each move
 /// answers so again.
-#[derive(Debug, Drop)]
+#[derive(Drop)]
 pub struct Rows {
     unknowns: usize,
     parameters: usize,

@@ -18,7 +18,7 @@ use iteration_domains::{AccessForms, Dep, DepEnd, Model, StatementModel};
 use std::alloc::{AllocError, Global};
 
 /// An access of a statement, with its number.
-#[derive(Debug, Drop)]
+#[derive(Drop)]
 pub struct AccessOf<'a> {
     pub statement: &'a StatementModel,
     pub number: usize,
@@ -26,7 +26,7 @@ pub struct AccessOf<'a> {
 }
 
 /// A system's equalities and rows while they are put together.
-#[derive(Debug, Drop)]
+#[derive(Drop)]
 pub struct PairRows {
     pub equalities: Vec<Form>,
     pub rows: Vec<Form>,

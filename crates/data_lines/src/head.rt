@@ -8,7 +8,7 @@ use crate::words::unindented;
 use scop_lexer::{Kind, Token, next_token};
 
 /// A name, and what stands behind the `=`.
-#[derive(Clone, Copy, Debug)]
+#[derive(Clone, Copy)]
 pub(crate) struct Head<'a> {
     pub(crate) name: &'a [u8],
     pub(crate) list: &'a [u8],

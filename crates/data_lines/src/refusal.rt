@@ -33,7 +33,7 @@ pub enum DataRefusal {
 }
 
 /// Why data was not read.
-#[derive(Clone, Copy, Debug, PartialEq, Eq)]
+#[derive(Clone, Copy, PartialEq, Eq)]
 pub enum DataStop {
     /// The data breaks a rule.
     Refused(DataRefusal),

@@ -9,7 +9,7 @@ use scop_syntax::tree::Kernel;
 use std::alloc::{AllocError, Global};
 
 /// What data says of an array.
-#[derive(Debug, Drop)]
+#[derive(Drop)]
 pub enum Given {
     /// Nothing.
     Nothing,
@@ -20,7 +20,7 @@ pub enum Given {
 }
 
 /// What data says of each parameter and of each array, in the order of declaration.
-#[derive(Debug, Drop)]
+#[derive(Drop)]
 pub struct Sheet {
     pub values: Vec<Option<u64>>,
     pub rows: Vec<Given>,

@@ -61,7 +61,7 @@ pub(crate) fn unindented(text: &[u8]) -> &[u8]
 }
 
 /// A word, and the text behind it.
-#[derive(Clone, Copy, Debug)]
+#[derive(Clone, Copy)]
 pub(crate) struct Word<'a> {
     pub(crate) word: &'a [u8],
     pub(crate) behind: &'a [u8],

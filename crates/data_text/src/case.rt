@@ -18,7 +18,7 @@ use scop_syntax::tree::Kernel;
 use std::alloc::{AllocError, Global};
 
 /// The values of a kernel's parameters, the extents of its arrays for them, and what the arrays hold.
-#[derive(Debug, Drop)]
+#[derive(Drop)]
 pub struct Case {
     pub params: Vec<i64>,
     pub extents: Extents,

@@ -23,7 +23,7 @@ use scop_syntax::walk_laws::statements_are_numbered;
 use std::alloc::{AllocError, Global};
 
 /// Why the run over a read's candidates does not go on.
-#[derive(Debug, Drop)]
+#[derive(Drop)]
 pub enum Halted {
     Stop(SourceStop),
     NoMemory,

@@ -4,7 +4,7 @@ use pip_solver::Stop;
 use quast_trees::Quast;
 
 /// Why a read's source is not told.
-#[derive(Debug, Drop)]
+#[derive(Drop)]
 pub enum SourceStop {
     /// A candidate's problem stops so, by a number that is too wide or by its budget.
     Solver(Stop),
@@ -17,7 +17,7 @@ pub enum SourceStop {
 
 /// What a read's value comes from: a quast over the kernel's parameters and then the reader's turns, or the first stop
 /// that was met.
-#[derive(Debug, Drop)]
+#[derive(Drop)]
 pub enum ReadSource {
     /// At each instance of the reader the last writer, or the initial value.
     Resolved(Quast),

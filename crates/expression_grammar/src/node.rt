@@ -4,7 +4,7 @@
 use crate::token::{Op, Sign, Suffix};
 
 /// A node, behind the nodes of its operands. Parentheses are no nodes.
-#[derive(Debug, Clone, Copy, PartialEq, Eq)]
+#[derive(Clone, Copy, PartialEq, Eq)]
 pub enum Node {
     Constant(Suffix, usize),
     Name(usize),
@@ -21,7 +21,7 @@ pub enum Node {
 }
 
 /// An operator that waits for its right operand, or an open bracket, with its place.
-#[derive(Debug, Clone, Copy)]
+#[derive(Clone, Copy)]
 pub enum Held {
     Binary(Op, usize),
     Unary(Sign, usize),
@@ -32,7 +32,7 @@ pub enum Held {
 }
 
 /// What an operand ends with.
-#[derive(Debug, Clone, Copy)]
+#[derive(Clone, Copy)]
 pub enum Last {
     /// A name.
     Name,
@@ -42,7 +42,7 @@ pub enum Last {
 }
 
 /// What may come next.
-#[derive(Debug, Clone, Copy)]
+#[derive(Clone, Copy)]
 pub enum Mode {
     /// An operand.
     Want,

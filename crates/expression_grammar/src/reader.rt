@@ -110,7 +110,7 @@ fn reduce(least: usize, held: &mut Stack, nodes: &mut Vec<Node>) -> Result<(), A
 }
 
 /// A reader in the midst of an expression.
-#[derive(Debug, Drop)]
+#[derive(Drop)]
 pub struct Reader {
     mode: Mode,
     held: Stack,
@@ -385,7 +385,7 @@ impl Reader {
 }
 
 /// An expression: its nodes in postfix order, and how many tokens it took.
-#[derive(Debug, Drop)]
+#[derive(Drop)]
 pub struct Expression {
     pub nodes: Vec<Node>,
     pub count: usize,

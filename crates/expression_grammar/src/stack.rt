@@ -6,7 +6,7 @@ use crate::node::Held;
 use std::alloc::{AllocError, Global};
 use std::marker::Model;
 
-#[derive(Debug, Drop)]
+#[derive(Drop)]
 pub(crate) struct Stack {
     items: Vec<Held>,
 }

@@ -10,7 +10,7 @@ use std::marker::Model;
 /// The points at which a statement's instances stand, and the dimension, if there is one, whose
 /// loop may run in parallel. The statement's iterators are dimensions one behind another; what
 /// stands behind them is 0, so that the sets of several statements have as many dimensions.
-#[derive(Debug, Drop)]
+#[derive(Drop)]
 pub struct ScanSet {
     statement: usize,
     parallel: Option<usize>,

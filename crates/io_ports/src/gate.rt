@@ -13,7 +13,7 @@ pub trait Gate: Sync {
 }
 
 /// A gate that never holds anyone.
-#[derive(Clone, Copy, Debug, PartialEq, Eq)]
+#[derive(Clone, Copy, PartialEq, Eq)]
 pub struct OpenGate;
 
 impl Gate for OpenGate {

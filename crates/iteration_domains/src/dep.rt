@@ -14,7 +14,7 @@ use std::alloc::{AllocError, Global};
 use std::marker::Model;
 
 /// One end of a dependence: a statement's number from 0, how many loops stand round it, and which of its accesses.
-#[derive(Debug, Clone, Copy, PartialEq, Eq)]
+#[derive(Clone, Copy, PartialEq, Eq)]
 pub struct DepEnd {
     pub statement: usize,
     pub loops: usize,
@@ -24,7 +24,7 @@ pub struct DepEnd {
 /// A dependence: its source runs before its target. `depth` is the loop, counted from 1 from the outermost, in whose
 /// turns they differ first; where no turn of their common loops differs it is 1 more than these.
 /// The system's dimensions are the source's turns, then the target's; one statement has one number of loops.
-#[derive(Debug, Drop)]
+#[derive(Drop)]
 pub struct Dep {
     pub source: DepEnd,
     pub target: DepEnd,

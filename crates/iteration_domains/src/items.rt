@@ -15,7 +15,7 @@ use std::alloc::{AllocError, Global};
 
 /// A place in a kernel's tree: what stands round it, outermost first, and the loops among that, each by the number of
 /// its first statement.
-#[derive(Debug, Drop)]
+#[derive(Drop)]
 pub struct Path<'a> {
     pub parameters: usize,
     pub scopes: Vec<Scope<'a>>,

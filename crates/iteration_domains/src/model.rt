@@ -12,7 +12,7 @@ use scop_syntax::walk_laws::statements_are_numbered;
 use std::alloc::{AllocError, Global};
 
 /// The model of a kernel. Contracts see the plain data of specs/Model.antt.
-#[derive(Debug, Drop)]
+#[derive(Drop)]
 pub struct Model {
     parameters: usize,
     statements: Vec<StatementModel>,

@@ -15,7 +15,7 @@ use scop_syntax::tree::{Guard, Loop, Test};
 use std::alloc::{AllocError, Global};
 
 /// A loop or a guard round a statement.
-#[derive(Debug, Drop)]
+#[derive(Drop)]
 pub enum Scope<'a> {
     Round(&'a Loop),
     Under(&'a Guard),
@@ -23,7 +23,7 @@ pub enum Scope<'a> {
 
 /// The rows so far, over so many variables: `loops` loops and their guards have been gone through, and `forms` are the
 /// forms of the point within them.
-#[derive(Debug, Drop)]
+#[derive(Drop)]
 pub struct StatementRows {
     pub variables: usize,
     pub loops: usize,

@@ -10,7 +10,7 @@ use integer_sets::System;
 use std::marker::Model;
 
 /// An access: an array's number, and a form for each subscript.
-#[derive(Debug, Drop)]
+#[derive(Drop)]
 pub struct AccessForms {
     pub array: usize,
     pub subscripts: Vec<Form>,
@@ -25,7 +25,7 @@ impl Model for AccessForms {
 }
 
 /// A statement of a model.
-#[derive(Debug, Drop)]
+#[derive(Drop)]
 pub struct StatementModel {
     number: usize,
     loops: Vec<usize>,

@@ -4,7 +4,7 @@ use expression_grammar::node::Node;
 use expression_grammar::token::{Assign, Count};
 
 /// What a sign between expressions is.
-#[derive(Debug, Clone, Copy)]
+#[derive(Clone, Copy)]
 pub enum Mark {
     /// The kernel's name.
     Kernel,
@@ -39,7 +39,7 @@ pub enum Mark {
 }
 
 /// A part of a kernel, with its token's place.
-#[derive(Debug, Drop)]
+#[derive(Drop)]
 pub enum Part {
     Sign(Mark, usize),
     /// An expression from this token on: its nodes, with places counted from there.

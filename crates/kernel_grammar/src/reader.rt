@@ -21,7 +21,7 @@ use std::marker::Model;
 use std::mem;
 
 // What one token did.
-#[derive(Debug, Clone, Copy)]
+#[derive(Clone, Copy)]
 enum Went {
     On,
     // No text goes on so.
@@ -31,7 +31,7 @@ enum Went {
 }
 
 /// A reader in the midst of a kernel.
-#[derive(Debug, Drop)]
+#[derive(Drop)]
 pub struct KernelReader {
     want: Want,
     braces: usize,
@@ -211,7 +211,7 @@ impl KernelReader {
 }
 
 /// A kernel's text: its parts in textual order.
-#[derive(Debug, Drop)]
+#[derive(Drop)]
 pub struct Text {
     pub parts: Vec<Part>,
 }

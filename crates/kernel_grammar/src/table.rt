@@ -7,7 +7,7 @@ use crate::part::Mark;
 use expression_grammar::token::{Assign, Op, Outside, Token};
 
 /// What an expression is for.
-#[derive(Debug, Clone, Copy)]
+#[derive(Clone, Copy)]
 pub enum Role {
     Extent,
     Condition,
@@ -19,7 +19,7 @@ pub enum Role {
 }
 
 /// Where an item may begin.
-#[derive(Debug, Clone, Copy)]
+#[derive(Clone, Copy)]
 pub enum Level {
     /// At a kernel's start: a declaration or the last `}` may stand there too.
     Declarations,
@@ -30,7 +30,7 @@ pub enum Level {
 }
 
 /// What may come next.
-#[derive(Debug, Clone, Copy)]
+#[derive(Clone, Copy)]
 pub enum Want {
     /// `void`
     Void,

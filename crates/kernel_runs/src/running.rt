@@ -29,7 +29,7 @@ use tile_list::laws::{orders_rise_by_tile, tiles_are_counted};
 use tile_list::{TileList, tiles};
 
 /// How many tiles hold an instance, and how many waves hold such a tile.
-#[derive(Clone, Copy, Debug)]
+#[derive(Clone, Copy)]
 pub struct Counts {
     pub tiles: u64,
     pub waves: u64,

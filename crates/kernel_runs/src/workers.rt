@@ -36,7 +36,7 @@ pub trait Workers {
 }
 
 /// One worker, whose events go through the core one after another, on the caller's own thread.
-#[derive(Clone, Copy, Debug)]
+#[derive(Clone, Copy)]
 pub struct OneWorker;
 
 impl Workers for OneWorker {

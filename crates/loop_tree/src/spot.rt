@@ -42,7 +42,7 @@ use scop_syntax::instance::Instance;
 use std::alloc::{AllocError, Global};
 
 /// The place of a node in a sequence, whether it was begun, and where it is a loop its value and its last one.
-#[derive(Debug, Clone, Copy)]
+#[derive(Clone, Copy)]
 pub struct Mark {
     pub place: usize,
     pub begun: bool,
@@ -51,7 +51,7 @@ pub struct Mark {
 }
 
 /// A place in a tree's visits: a mark for each sequence of nodes that may stand in one another.
-#[derive(Debug, Drop)]
+#[derive(Drop)]
 pub struct Spot {
     pub marks: Vec<Mark>,
 }

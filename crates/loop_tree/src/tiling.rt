@@ -6,7 +6,7 @@ use std::marker::Model;
 
 /// A row of the first band: its form over the turns of the loops round its statement, outermost first, and whether it
 /// carries a dependence.
-#[derive(Debug, Drop)]
+#[derive(Drop)]
 pub struct TileRow {
     pub form: Aff,
     pub carries: bool,
@@ -21,14 +21,14 @@ impl Model for TileRow {
 }
 
 /// An item behind the first band: a row's form over the turns, or a scalar.
-#[derive(Debug, Drop)]
+#[derive(Drop)]
 pub enum TileItem {
     Row(Aff),
     Scalar(usize),
 }
 
 /// A statement's items in order: the scalars before the first row, the rows of the first band, and the items behind it.
-#[derive(Debug, Drop)]
+#[derive(Drop)]
 pub struct TileItems {
     pub leading: Vec<usize>,
     pub band: Vec<TileRow>,
@@ -36,7 +36,7 @@ pub struct TileItems {
 }
 
 /// The size of the tiles and the items of each statement in textual order, or the source's order, kept: one tile.
-#[derive(Debug, Drop)]
+#[derive(Drop)]
 pub enum Tiling {
     Kept,
     Tiled(u64, Vec<TileItems>),

@@ -5,7 +5,7 @@ use scop_syntax::tree::Aff;
 use std::marker::Model;
 
 /// A form over a divisor.
-#[derive(Debug, Drop)]
+#[derive(Drop)]
 pub struct Bound {
     pub form: Aff,
     pub divisor: i64,
@@ -20,14 +20,14 @@ impl Model for Bound {
 }
 
 /// The bounds of a loop from one side, of which there is one.
-#[derive(Debug, Drop)]
+#[derive(Drop)]
 pub struct Bounds {
     pub first: Bound,
     pub others: Vec<Bound>,
 }
 
 /// A loop upwards, whose turns may run in any order where it is parallel.
-#[derive(Debug, Drop)]
+#[derive(Drop)]
 pub struct Loop {
     pub parallel: bool,
     pub lower: Bounds,
@@ -35,7 +35,7 @@ pub struct Loop {
 }
 
 /// A form that is at least 0, that is 0, or that is a multiple of a number.
-#[derive(Debug, Drop)]
+#[derive(Drop)]
 pub enum Test {
     AtLeast(Aff),
     Equal(Aff),
@@ -43,20 +43,20 @@ pub enum Test {
 }
 
 /// The tests of a guard.
-#[derive(Debug, Drop)]
+#[derive(Drop)]
 pub struct Guard {
     pub tests: Vec<Test>,
 }
 
 /// A statement's number from 0, and a form for the turn of each of the source's loops round it.
-#[derive(Debug, Drop)]
+#[derive(Drop)]
 pub struct Leaf {
     pub statement: usize,
     pub turns: Vec<Aff>,
 }
 
 /// A loop or a guard with its body, or an instance.
-#[derive(Debug, Drop)]
+#[derive(Drop)]
 pub enum Node {
     Loop(Loop, Vec<Node>),
     Guard(Guard, Vec<Node>),
@@ -64,7 +64,7 @@ pub enum Node {
 }
 
 /// A loop tree: nodes one after another.
-#[derive(Debug, Drop)]
+#[derive(Drop)]
 pub struct Tree {
     pub nodes: Vec<Node>,
 }

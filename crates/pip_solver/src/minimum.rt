@@ -19,7 +19,7 @@ use std::alloc::Global;
 use tableau_nodes::Tableau;
 
 /// A problem's quast, and how many moves its run took.
-#[derive(Debug, Drop)]
+#[derive(Drop)]
 pub struct Solution {
     pub quast: Quast,
     pub moves: u64,

@@ -18,7 +18,7 @@ use wide_math::{ceil_div, floor_div};
 const MOST: u128 = 1_099_511_627_776;
 
 /// The bounds that rows of small numbers give, and a number beyond 2^40 of a row that might have given one.
-#[derive(Clone, Copy, Debug)]
+#[derive(Clone, Copy)]
 pub struct Numbers {
     pub low: Option<i128>,
     pub high: Option<i128>,

@@ -20,7 +20,7 @@ use integer_sets::{ScanSet, System};
 use std::alloc::{AllocError, Global};
 
 /// Rows of small numbers of a projection, and two numbers between which its last dimension lies.
-#[derive(Debug, Drop)]
+#[derive(Drop)]
 pub struct Shadow {
     pub rows: Vec<Form>,
     pub low: i128,

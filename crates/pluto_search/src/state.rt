@@ -6,7 +6,7 @@ use schedule_rows::{Block, Marked};
 
 /// The blocks that are done, the rows of the open band, and the dependences that remain: first those whose rows by
 /// Farkas's lemma are made, then the others. Of each statement the kernel vectors of all its rows.
-#[derive(Debug, Drop)]
+#[derive(Drop)]
 pub struct Progress {
     pub closed: Vec<Block>,
     pub rows: Vec<Marked>,
@@ -16,7 +16,7 @@ pub struct Progress {
 }
 
 /// What comes next.
-#[derive(Debug, Drop)]
+#[derive(Drop)]
 pub enum Step {
     Goes(Progress),
     Ends(Vec<Block>),

@@ -10,7 +10,7 @@ use std::alloc::Global;
 use std::marker::Model;
 
 /// A dependence, the rows that keep it and the rows that bound it.
-#[derive(Debug, Drop)]
+#[derive(Drop)]
 pub struct Ruled {
     dep: Dep,
     legal: System,

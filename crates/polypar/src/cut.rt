@@ -4,7 +4,7 @@ ghost use Rattle.std.specs.Prelude.{◌≡◌, ◌<◌, ◌≤◌, ◌∷◌, le
 ghost use Rattle.polypar.specs.Cut.{whole_lines, is_cut as is_cut_line, kernel_part, data_part};
 
 /// The two parts of an input.
-#[derive(Clone, Copy, Debug)]
+#[derive(Clone, Copy)]
 pub(crate) struct Parts<'a> {
     /// All before the line that cuts; the whole input where there is none.
     pub(crate) kernel: &'a [u8],

@@ -6,7 +6,7 @@ ghost use Rattle.polypar.specs.Told.{told_of, text_alone};
 use std::alloc::Global;
 
 /// Lines and a text. Contracts see the plain data of specs/Told.antt.
-#[derive(Debug, Drop)]
+#[derive(Drop)]
 pub(crate) struct Told {
     pub(crate) lines: Vec<u8>,
     pub(crate) text: Vec<u8>,

@@ -14,7 +14,7 @@ use std::marker::Model;
 
 /// A stack of finished trees: a leaf goes on top, a branch joins the two on top, a bind takes the one on
 /// top as its body. A call that finds no memory leaves the stack as it was.
-#[derive(Debug, Drop)]
+#[derive(Drop)]
 pub struct Builder {
     nodes: Vec<Node>,
     // Where each tree's nodes begin.

@@ -4,7 +4,7 @@ use affine_forms::Form;
 use std::marker::Model;
 
 /// What a leaf is an instance of: a statement, and the numbers of the loops round it, outermost first.
-#[derive(Debug, PartialEq, Eq, Drop)]
+#[derive(PartialEq, Eq, Drop)]
 pub struct Source {
     pub statement: usize,
     pub loops: Vec<usize>,
@@ -12,7 +12,7 @@ pub struct Source {
 
 /// A leaf's forms, each over `variables` variables, and what the leaf is an instance of, where that is
 /// known: the leaves of a solver have none.
-#[derive(Debug, Drop)]
+#[derive(Drop)]
 pub struct Forms {
     pub source: Option<Source>,
     pub variables: usize,
@@ -28,7 +28,7 @@ impl Model for Forms {
 }
 
 /// One node of a quast.
-#[derive(Debug, Drop)]
+#[derive(Drop)]
 pub enum Node {
     /// A leaf: the initial value.
     Initial,

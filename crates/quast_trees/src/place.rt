@@ -10,7 +10,7 @@ use affine_forms::Form;
 use std::marker::Model;
 
 /// The place of a tree in a quast.
-#[derive(Debug, Drop)]
+#[derive(Drop)]
 pub struct Place<'a> {
     nodes: &'a [Node],
     at: usize,
@@ -27,7 +27,7 @@ impl<'a> Model for Place<'a> {
 }
 
 /// What stands at a place.
-#[derive(Debug, Drop)]
+#[derive(Drop)]
 pub enum Part<'a> {
     Initial,
     Forms(&'a Forms),

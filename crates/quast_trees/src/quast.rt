@@ -12,7 +12,7 @@ use std::alloc::{AllocError, Global};
 use std::marker::Model;
 
 /// The answer of a parametric problem: a selection tree over `parameters` parameters.
-#[derive(Debug, Drop)]
+#[derive(Drop)]
 pub struct Quast {
     parameters: usize,
     nodes: Vec<Node>,

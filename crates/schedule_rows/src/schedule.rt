@@ -12,7 +12,7 @@ use iteration_domains::{Dep, Model};
 use std::alloc::{AllocError, Global};
 
 /// The schedule of a model's dependences. Contracts see the plain data of specs/Schedule.antt.
-#[derive(Debug, Drop)]
+#[derive(Drop)]
 pub struct Schedule<'a> {
     model: &'a Model,
     deps: &'a [Dep],

@@ -30,7 +30,7 @@ use scop_units::padding::all_over;
 use scop_units::scope::{Look, Scope};
 use scop_units::words::Words;
 use std::alloc::{AllocError, Global};
-use std::{fmt, mem};
+use std::mem;
 
 /// Why the pass stops.
 #[derive(Clone, Copy)]
@@ -57,12 +57,6 @@ pub struct Pass {
     pub(crate) frames: Vec<Frame>,
     pub(crate) trees: Vec<Item>,
     pub(crate) pending: Pending,
-}
-
-impl fmt::Debug for Pass {
-    fn fmt<W: fmt::Write>(&self, f: &mut fmt::Formatter<W>) -> fmt::Result {
-        f.debug_struct("Pass").finish_non_exhaustive()
-    }
 }
 
 // No fault, or the pass stops at it.

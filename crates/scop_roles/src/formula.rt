@@ -11,7 +11,7 @@ use crate::pairs::{boxed, in_box, push_behind};
 use expression_grammar::node::Node;
 use expression_grammar::token::{Op, Sign, Suffix};
 use std::alloc::{AllocError, Global};
-use std::{fmt, mem};
+use std::mem;
 
 /// What a name means where it stands.
 #[derive(Clone, Copy, PartialEq, Eq)]
@@ -52,18 +52,6 @@ pub enum Formula {
     /// Arguments: the first, those between, the last and the place of the comma in front of it.
     Commas(Box<Formula>, Vec<Argument>, Box<Formula>, usize),
     Binary(Op, Box<Formula>, Box<Formula>, usize),
-}
-
-impl fmt::Debug for Argument {
-    fn fmt<W: fmt::Write>(&self, f: &mut fmt::Formatter<W>) -> fmt::Result {
-        f.debug_struct("Argument").finish_non_exhaustive()
-    }
-}
-
-impl fmt::Debug for Formula {
-    fn fmt<W: fmt::Write>(&self, f: &mut fmt::Formatter<W>) -> fmt::Result {
-        f.debug_struct("Formula").finish_non_exhaustive()
-    }
 }
 
 /// Where an expression stands.

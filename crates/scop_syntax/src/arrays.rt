@@ -17,7 +17,7 @@ impl Model for Arrays {
 }
 
 /// `sizes[a]` are the extents of array `a`, outermost first.
-#[derive(Debug, Drop)]
+#[derive(Drop)]
 pub struct Extents {
     pub sizes: Vec<Vec<u64>>,
 }

@@ -6,7 +6,7 @@ pub const MAX_LOOPS: usize = 5;
 
 /// The statement's number in textual order from 0, how many loops stand round it, and the turn of
 /// each from 0, outermost first; the entries behind are zero.
-#[derive(Debug, Clone, Copy)]
+#[derive(Clone, Copy)]
 pub struct Instance {
     pub statement: usize,
     pub loops: usize,

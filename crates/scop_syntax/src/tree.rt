@@ -9,7 +9,7 @@ pub type Name = Vec<u8>;
 
 /// An affine form: one coefficient for each parameter, then one for each iterator of the loops
 /// round it, outermost first (in a loop's condition also the loop's own, last), and a constant.
-#[derive(Debug, Drop)]
+#[derive(Drop)]
 pub struct Aff {
     pub coefficients: Vec<i64>,
     pub constant: i64,
@@ -25,7 +25,7 @@ impl Model for Aff {
 
 /// A cell of an array: the array's number in the order of declaration, and a subscript for each
 /// dimension.
-#[derive(Debug, Drop)]
+#[derive(Drop)]
 pub struct Access {
     pub array: usize,
     pub subscripts: Vec<Aff>,
@@ -40,7 +40,7 @@ impl Model for Access {
 }
 
 /// `+ - * & | ^`, of values and of assignments.
-#[derive(Debug, Clone, Copy, PartialEq, Eq)]
+#[derive(Clone, Copy, PartialEq, Eq)]
 pub enum Operator {
     Plus,
     Minus,
@@ -51,7 +51,7 @@ pub enum Operator {
 }
 
 /// A value: cells, constants and affine parts, and what C makes of them.
-#[derive(Debug, Drop)]
+#[derive(Drop)]
 pub enum Expr {
     Read(Access),
     Constant(u64),
@@ -65,7 +65,7 @@ pub enum Expr {
 }
 
 /// What stands behind a place: `= e`, `op= e`, `<<= k` or `>>= k`.
-#[derive(Debug, Drop)]
+#[derive(Drop)]
 pub enum Right {
     Assigned(Expr),
     Combined(Operator, Expr),
@@ -74,7 +74,7 @@ pub enum Right {
 }
 
 /// `place = value;` or `place op= value;`
-#[derive(Debug, Drop)]
+#[derive(Drop)]
 pub struct Stmt {
     pub place: Access,
     pub right: Right,
@@ -82,7 +82,7 @@ pub struct Stmt {
 
 /// The head of a loop: `for (iterator = first; condition >= 0; iterator += stride)`.
 /// `first` speaks of what stands round the loop, `condition` of the loop's own iterator too.
-#[derive(Debug, Drop)]
+#[derive(Drop)]
 pub struct Loop {
     pub iterator: Name,
     pub first: Aff,
@@ -100,20 +100,20 @@ impl Model for Loop {
 }
 
 /// A comparison: `form >= 0` or `form == 0`.
-#[derive(Debug, Drop)]
+#[derive(Drop)]
 pub enum Test {
     AtLeast(Aff),
     Equal(Aff),
 }
 
 /// `if`: its body runs where all comparisons hold.
-#[derive(Debug, Drop)]
+#[derive(Drop)]
 pub struct Guard {
     pub tests: Vec<Test>,
 }
 
 /// A loop or a guard with its body, or a statement.
-#[derive(Debug, Drop)]
+#[derive(Drop)]
 pub enum Item {
     Loop(Loop, Vec<Item>),
     Guard(Guard, Vec<Item>),
@@ -122,7 +122,7 @@ pub enum Item {
 
 /// An array's declaration: how many of the kernel's parameters stand before it in the text, and an
 /// extent for each dimension, outermost first, in the parameters alone.
-#[derive(Debug, Drop)]
+#[derive(Drop)]
 pub struct Array {
     pub name: Name,
     pub parameters_before: usize,
@@ -139,7 +139,7 @@ impl Model for Array {
 }
 
 /// A kernel: its items run one after another, over the arrays, for given parameters.
-#[derive(Debug, Drop)]
+#[derive(Drop)]
 pub struct Kernel {
     pub name: Name,
     pub parameters: Vec<Name>,

@@ -25,14 +25,14 @@ use std::alloc::{AllocError, Global};
 const MOST_LOOPS: usize = 5;
 
 /// `++` or `--`, or an assignment with its right side.
-#[derive(Debug, Drop)]
+#[derive(Drop)]
 pub enum Change {
     Counted(Count),
     Assigned(Assign, Formula),
 }
 
 /// The parts of a loop's head.
-#[derive(Debug, Drop)]
+#[derive(Drop)]
 pub struct LoopHead<'a> {
     pub place: usize,
     pub new: bool,

@@ -14,7 +14,7 @@ use std::alloc::{AllocError, Global};
 use std::collections::BTreeSet;
 
 /// The names in scope.
-#[derive(Debug, Drop)]
+#[derive(Drop)]
 pub struct Scope {
     pub parameters: Vec<Name>,
     pub arrays: Vec<Array>,
@@ -184,7 +184,7 @@ impl Scope {
 }
 
 /// What stands at a place in a scope.
-#[derive(Debug, Drop)]
+#[derive(Drop)]
 pub struct Look<'a> {
     pub words: Words<'a>,
     pub scope: &'a Scope,

@@ -150,7 +150,7 @@ pub fn array_of(
 }
 
 /// `place operator value ;` with the operator's place among the tokens.
-#[derive(Debug, Drop)]
+#[derive(Drop)]
 pub struct Stored {
     pub cell: Formula,
     pub assign: Assign,

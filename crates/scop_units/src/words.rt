@@ -101,7 +101,7 @@ fn span(text: &[u8], start: usize, end: usize) -> &[u8]
 }
 
 /// A text, and where its tokens begin: a token is read again where it is looked up.
-#[derive(Debug, Clone, Copy)]
+#[derive(Clone, Copy)]
 pub struct Words<'a> {
     pub text: &'a [u8],
     pub starts: &'a [u32],

@@ -8,7 +8,7 @@ use affine_forms::Form;
 
 /// A node: rows over the outer values, the loop's value at `place` and the parameters, whether all these values are
 /// known not to be negative there, and how many moves a question may make.
-#[derive(Debug, Drop)]
+#[derive(Drop)]
 pub struct Level {
     pub inside: Vec<Form>,
     pub place: usize,

@@ -29,7 +29,7 @@ use std::alloc::{AllocError, Global};
 
 /// What all nodes of a scan share: how many parameters there are, which dimension is marked, and how many moves a
 /// question may make.
-#[derive(Clone, Copy, Debug)]
+#[derive(Clone, Copy)]
 pub struct Shape {
     pub parameters: usize,
     pub parallel: Option<usize>,

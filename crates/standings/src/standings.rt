@@ -11,7 +11,7 @@ use scop_syntax::tree::{Item, Kernel, Loop, Stmt};
 use std::alloc::{AllocError, Global};
 
 /// A statement, and the loops round it, outermost first.
-#[derive(Debug, Drop)]
+#[derive(Drop)]
 pub struct Standing<'a> {
     pub heads: Vec<&'a Loop>,
     pub body: &'a Stmt,

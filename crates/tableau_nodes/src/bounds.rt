@@ -8,7 +8,7 @@ use std::alloc::{AllocError, Global};
 use std::marker::Model;
 
 /// A parameter that a cut has bound: the quotient of a form by a divisor, at its place among the parameters.
-#[derive(Debug, Drop)]
+#[derive(Drop)]
 pub struct Bound {
     pub form: Form,
     pub divisor: i128,

@@ -24,7 +24,7 @@ use std::mem;
 use wide_math::Wide;
 
 /// A node of the run.
-#[derive(Debug, Drop)]
+#[derive(Drop)]
 pub struct Tableau {
     /// Whether the node begins: whether its context has a point is still to be asked.
     pub begins: bool,
@@ -37,7 +37,7 @@ pub struct Tableau {
 }
 
 /// What a move leads to.
-#[derive(Debug, Drop)]
+#[derive(Drop)]
 pub enum Move {
     /// The node goes on.
     Goes,

@@ -7,7 +7,7 @@ use crate::plan::Plan;
 use crate::worker::{Stage, Worker};
 
 /// What a worker tries.
-#[derive(Debug, Clone, Copy)]
+#[derive(Clone, Copy)]
 pub enum Event {
     Claim,
     Open,
@@ -17,7 +17,7 @@ pub enum Event {
 }
 
 /// What it sees of it.
-#[derive(Debug, Clone, Copy)]
+#[derive(Clone, Copy)]
 pub enum Seen {
     Claimed(Option<u64>),
     Opened,
@@ -28,7 +28,7 @@ pub enum Seen {
 }
 
 /// The event is not one that the worker may do now, and nothing has changed.
-#[derive(Debug, Clone, Copy)]
+#[derive(Clone, Copy)]
 pub struct NotEnabled;
 
 /// How many tiles were claimed and finished, the cells, and the workers.

@@ -12,7 +12,7 @@ use std::alloc::{AllocError, Global};
 use tile_events::core_laws::{all_interleavings_agree, events_keep_count};
 
 /// An event with the worker whose event it is.
-#[derive(Debug, Clone, Copy)]
+#[derive(Clone, Copy)]
 pub struct Turn {
     pub worker: usize,
     pub event: Event,

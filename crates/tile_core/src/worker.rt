@@ -21,7 +21,7 @@ pub const MAX_READS: usize = 16;
 
 /// It holds no tile; or it saw the claims run out; or it holds a tile that is not opened; or it works in an opened
 /// tile, of which so many instances are done.
-#[derive(Debug, Clone, Copy)]
+#[derive(Clone, Copy)]
 pub enum Stage {
     Idle,
     Ended,

@@ -20,7 +20,7 @@ use std::alloc::{AllocError, Global};
 use std::mem;
 
 /// The tiles that have come to their ends, the one that still grows with its key, and room for the key of an instance.
-#[derive(Debug, Drop)]
+#[derive(Drop)]
 struct Cut {
     tiles: Vec<Tile>,
     current: Tile,

@@ -17,7 +17,7 @@ use std::alloc::{AllocError, Global};
 use wide_math::floor_div;
 
 /// An instance's wave, and its tile.
-#[derive(Debug, Drop)]
+#[derive(Drop)]
 pub struct Key {
     pub wave: Vec<i128>,
     pub tile: Vec<i128>,

@@ -6,7 +6,7 @@ use scop_syntax::instance::Instance;
 
 /// A tile: its first instance, the place in the tree's visits behind that one, the number of its wave, and how many
 /// instances it has.
-#[derive(Debug, Drop)]
+#[derive(Drop)]
 pub struct Tile {
     pub first: Instance,
     pub spot: Spot,
@@ -15,7 +15,7 @@ pub struct Tile {
 }
 
 /// Tiles in order, and for each wave, and behind all, how many tiles lie in the waves before it.
-#[derive(Debug, Drop)]
+#[derive(Drop)]
 pub struct TileList {
     pub tiles: Vec<Tile>,
     pub offsets: Vec<usize>,

@@ -8,7 +8,7 @@ use iteration_domains::StatementModel;
 use loop_tree::TileItems;
 
 /// The dimensions before the iterators, the iterators, the dimensions of missing ones, which are 0, and the parameters.
-#[derive(Debug, Clone, Copy)]
+#[derive(Clone, Copy)]
 pub struct Layout {
     pub front: usize,
     pub turns: usize,

@@ -21,7 +21,7 @@ impl Play<(), View> for Opening {
 }
 
 /// So many tiles were finished, and so many have to be.
-#[derive(Debug, Clone, Copy)]
+#[derive(Clone, Copy)]
 pub struct NotYet {
     pub done: u64,
     pub needs: u64,
