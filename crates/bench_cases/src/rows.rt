@@ -13,7 +13,7 @@ use std::io;
 const BUDGET: u64 = 20000;
 
 /// A call that is timed.
-#[derive(Debug, Clone, Copy)]
+#[derive(Clone, Copy)]
 pub enum Call {
     Conflicts,
     Legal,

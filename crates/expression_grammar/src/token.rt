@@ -2,7 +2,7 @@
 //! is looked up by its place among the tokens.
 
 /// A binary operator, or the comma between arguments.
-#[derive(Debug, Clone, Copy, PartialEq, Eq)]
+#[derive(Clone, Copy, PartialEq, Eq)]
 pub enum Op {
     Comma,
     LogicalOr,
@@ -26,7 +26,7 @@ pub enum Op {
 }
 
 /// An operator in front of its operand.
-#[derive(Debug, Clone, Copy, PartialEq, Eq)]
+#[derive(Clone, Copy, PartialEq, Eq)]
 pub enum Sign {
     /// `-`
     Minus,
@@ -37,14 +37,14 @@ pub enum Sign {
 }
 
 /// Whether a constant has a suffix, which makes it unsigned.
-#[derive(Debug, Clone, Copy, PartialEq, Eq)]
+#[derive(Clone, Copy, PartialEq, Eq)]
 pub enum Suffix {
     Absent,
     Present,
 }
 
 /// An operator that assigns.
-#[derive(Debug, Clone, Copy)]
+#[derive(Clone, Copy)]
 pub enum Assign {
     /// `=`
     Set,
@@ -61,14 +61,14 @@ pub enum Assign {
 }
 
 /// `++` or `--`.
-#[derive(Debug, Clone, Copy)]
+#[derive(Clone, Copy)]
 pub enum Count {
     Up,
     Down,
 }
 
 /// The tokens between expressions.
-#[derive(Debug, Clone, Copy)]
+#[derive(Clone, Copy)]
 pub enum Outside {
     Void,
     If,
@@ -85,7 +85,7 @@ pub enum Outside {
 }
 
 /// A token's kind. `Binary(Op::Minus)` is a sign too.
-#[derive(Debug, Clone, Copy)]
+#[derive(Clone, Copy)]
 pub enum Token {
     Name,
     Constant(Suffix),

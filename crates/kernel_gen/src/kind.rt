@@ -1,7 +1,7 @@
 //! The kinds of generated cases.
 
 /// A product of matrices, sweeps of a stencil, or a chain of statements that a seed links.
-#[derive(Clone, Copy, Debug, PartialEq, Eq)]
+#[derive(Clone, Copy, PartialEq, Eq)]
 pub enum Kind {
     Product,
     Sweep,

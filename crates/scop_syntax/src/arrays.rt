@@ -5,7 +5,7 @@ ghost use Rattle.std.specs.Prelude.{◌≡◌, ℕ, ◌<◌, List, [], length, m
 use std::marker::Model;
 
 /// `cells[a][k]` is the cell at row-major offset `k` of array `a`, a number below 2^64.
-#[derive(Debug, Drop)]
+#[derive(Drop)]
 pub struct Arrays {
     pub cells: Vec<Vec<u64>>,
 }
