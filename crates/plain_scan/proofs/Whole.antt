@@ -4,9 +4,10 @@ use Rattle.std.proofs.Common.{refl, sym, ◌∙◌, ap, subst, All, arith}
 use Rattle.std.specs.Prelude.{◌≤◌, ◌^◌, ◌≤ℤ◌, unsigned_abs}
 use Rattle.std.proofs.lemmas.Int.{ints}
 use Rattle.std.proofs.lemmas.List.Elements.{All-cons, All-head, All-nil, All-tail}
+use Rattle.whole_numbers.proofs.Sizes.{abs_at_most}
 use Rattle.integer_sets.specs.Scanned.{Scanned}
 use Rattle.fm_projection.specs.Alone.{AreInRange}
-use Rattle.scop_syntax.proofs.Limits.{size, abs_at_most}
+use Rattle.scop_syntax.proofs.Limits.{size}
 use Rattle.loop_tree.specs.Tree.{Trees, none}
 use Rattle.loop_tree.specs.Walk.{walk_all}
 use Rattle.loop_tree.specs.Scans.{Exact}

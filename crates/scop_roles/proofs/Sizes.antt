@@ -1,14 +1,14 @@
 -- How large the numbers of sums and multiples of forms get.
 use Rattle.std.proofs.Common.{◌≡◌, ℕ, zero, suc, ◌+◌, ◌*◌, ◌^◌, ◌≤◌, ℤ, pos, negsuc, Bool, true, false, nat_le, List}
 use Rattle.std.proofs.Common.{[], ◌∷◌, length, get_or, set, length-set, ap, ◌∙◌, refl, arith, mul-le-mul}
-use Rattle.std.specs.Prelude.{◌+ℤ◌, ◌*ℤ◌, ◌&&◌, unsigned_abs, replicate}
+use Rattle.std.specs.Prelude.{◌*ℤ◌, ◌&&◌, unsigned_abs, replicate}
 use Rattle.std.specs.List.{list_all}
-use Rattle.std.proofs.lemmas.Int.{ints, unsigned_abs-mul}
+use Rattle.std.proofs.lemmas.Int.{unsigned_abs-mul}
 use Rattle.whole_numbers.specs.Lists.{sums, multiples, zeros}
 use Rattle.whole_numbers.specs.Affine.{Affine, form_of, multiple_of_form}
 use Rattle.whole_numbers.proofs.Dot.{length-multiples, length-zeros}
+use Rattle.whole_numbers.proofs.Sizes.{abs_sum}
 use Rattle.scop_syntax.specs.Kernel.{AreAtMost, IsForm, IsAffine}
-use Rattle.scop_syntax.proofs.Limits.{abs_low, abs_high, abs_at_most}
 use Rattle.scop_roles.specs.Forms.{is_small, is_within}
 
 pub replicate-zeros : (n : ℕ) → replicate n (pos 0) ≡ zeros n
@@ -33,19 +33,11 @@ at_most-set k [] i x h small = tt
 at_most-set k (y ∷ xs) zero x h small = (small, h.1)
 at_most-set k (y ∷ xs) (suc i) x h small = (h.0, at_most-set k xs i x h.1 small)
 
-pub abs_add : (a b : ℤ) → unsigned_abs (a +ℤ b) ≤ unsigned_abs a + unsigned_abs b
-abs_add a b =
-    let al = abs_low a in
-    let ah = abs_high a in
-    let bl = abs_low b in
-    let bh = abs_high b in
-    abs_at_most (a +ℤ b) (unsigned_abs a + unsigned_abs b) (omega (arith, ints)) (omega (arith, ints))
-
 pub at_most-sums : (k l : ℕ) (xs ys : List ℤ) → AreAtMost k xs → AreAtMost l ys → AreAtMost (k + l) (sums xs ys)
 at_most-sums k l [] ys h g = at_most-more l (k + l) ys (omega arith) g
 at_most-sums k l (x ∷ xs) [] h g = at_most-more k (k + l) (x ∷ xs) (omega arith) h
 at_most-sums k l (x ∷ xs) (y ∷ ys) h g =
-    let a = abs_add x y in
+    let a = abs_sum x y in
     let small = h.0 in
     let other = g.0 in
     (omega arith, at_most-sums k l xs ys h.1 g.1)

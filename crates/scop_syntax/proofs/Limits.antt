@@ -1,5 +1,5 @@
 -- How large the values of forms and the iterators of instances get.
-use Rattle.std.proofs.Common.{◌≡◌, ℕ, zero, suc, ◌+◌, ◌*◌, ◌^◌, ◌<◌, ◌≤◌, ℤ, pos, negsuc, List, [], ◌∷◌, ◌++◌, length}
+use Rattle.std.proofs.Common.{◌≡◌, ℕ, zero, suc, ◌+◌, ◌*◌, ◌^◌, ◌<◌, ◌≤◌, ℤ, pos, List, [], ◌∷◌, ◌++◌, length}
 use Rattle.std.proofs.Common.{inl, inr, ap, subst, sym, ◌∙◌, arith, mul-le-mul, mul-add, length-append}
 use Rattle.std.specs.Prelude.{◌+ℤ◌, ◌-ℤ◌, ◌*ℤ◌, ◌≤ℤ◌, neg_ℤ, unsigned_abs}
 use Rattle.std.proofs.lemmas.Int.{ints, unsigned_abs-mul}
@@ -7,6 +7,7 @@ use Rattle.whole_numbers.specs.Lists.{dot}
 use Rattle.whole_numbers.specs.Affine.{Affine, value_of}
 use Rattle.whole_numbers.proofs.Ring.{mul_neg_left, mul_one_left, mul_one_right, mul_zero_right, mul_distrib_left}
 use Rattle.whole_numbers.proofs.Order.{mul_le, mul_not_negative}
+use Rattle.whole_numbers.proofs.Sizes.{abs_low, abs_high, abs_at_most, abs_sum}
 use Rattle.scop_syntax.specs.Tree.{Head}
 use Rattle.scop_syntax.specs.Walk.{turn_point, condition_at}
 use Rattle.scop_syntax.specs.Kernel.{own, AreAtMost, IsForm, IsAffine, IsHead, AreScopes}
@@ -23,32 +24,12 @@ abbrev pub grown : ℕ → ℕ → ℕ
 grown zero s = s
 grown (suc d) s = grown d (17 * s + 2 ^ 21)
 
-pub abs_low : (z : ℤ) → neg_ℤ (pos (unsigned_abs z)) ≤ℤ z
-abs_low (pos n) = omega (arith, ints)
-abs_low (negsuc n) = omega (arith, ints)
-
-pub abs_high : (z : ℤ) → z ≤ℤ pos (unsigned_abs z)
-abs_high (pos n) = omega (arith, ints)
-abs_high (negsuc n) = omega (arith, ints)
-
-pub abs_at_most : (z : ℤ) (n : ℕ) → neg_ℤ (pos n) ≤ℤ z → z ≤ℤ pos n → unsigned_abs z ≤ n
-abs_at_most (pos m) n low high = omega (arith, ints)
-abs_at_most (negsuc m) n low high = omega (arith, ints)
-
-abs_add : (a b : ℤ) → unsigned_abs (a +ℤ b) ≤ unsigned_abs a + unsigned_abs b
-abs_add a b =
-    let al = abs_low a in
-    let ah = abs_high a in
-    let bl = abs_low b in
-    let bh = abs_high b in
-    abs_at_most (a +ℤ b) (unsigned_abs a + unsigned_abs b) (omega (arith, ints)) (omega (arith, ints))
-
 -- a dot product is at most the greatest coefficient times the size
 pub dot_size : (k : ℕ) (cs xs : List ℤ) → AreAtMost k cs → unsigned_abs (dot cs xs) ≤ k * size xs
 dot_size k [] xs h = omega arith
 dot_size k (c ∷ cs) [] h = omega arith
 dot_size k (c ∷ cs) (x ∷ xs) h =
-    let a = abs_add (c *ℤ x) (dot cs xs) in
+    let a = abs_sum (c *ℤ x) (dot cs xs) in
     let m = unsigned_abs-mul c x in
     let same : unsigned_abs x ≤ unsigned_abs x = omega arith in
     let l : unsigned_abs c * unsigned_abs x ≤ k * unsigned_abs x = mul-le-mul h.0 same in
@@ -59,7 +40,7 @@ dot_size k (c ∷ cs) (x ∷ xs) h =
 pub value_size : (n k m : ℕ) (f : Affine) (xs : List ℤ) → IsForm n k m f
     → unsigned_abs (value_of f xs) ≤ k * size xs + m
 value_size n k m f xs is =
-    let a = abs_add (dot f.coefficients xs) f.constant in
+    let a = abs_sum (dot f.coefficients xs) f.constant in
     let d = dot_size k f.coefficients xs is.coefficients in
     let c = is.constant in
     omega arith
@@ -119,7 +100,7 @@ reached_size head point (suc k) small before =
     let f = ap (λ z. head.stride *ℤ z) e in
     let g : value_of head.first point +ℤ (head.stride *ℤ pos (suc k)) ≡
     (value_of head.first point +ℤ (head.stride *ℤ pos k)) +ℤ head.stride = omega (arith, ints) in
-    let a = abs_add (value_of head.first point +ℤ (head.stride *ℤ pos k)) head.stride in
+    let a = abs_sum (value_of head.first point +ℤ (head.stride *ℤ pos k)) head.stride in
     let s = small.stride in
     rw g (omega arith)
 

@@ -9,12 +9,12 @@ use Rattle.whole_numbers.specs.Lists.{dot, zeros}
 use Rattle.whole_numbers.proofs.Dot.{dot-zeros}
 use Rattle.whole_numbers.proofs.Order.{le_or_lt, mul_le, mul_le_left, mul_le_turned}
 use Rattle.whole_numbers.proofs.Ring.{mul_comm_int, mul_one_left, mul_one_right, mul_zero_left}
+use Rattle.whole_numbers.proofs.Sizes.{abs_low, abs_high, abs_at_most}
 use Rattle.null_space.specs.Sizes.{IsWithin, AreWithin}
 use Rattle.null_space.proofs.Within.{within_add, within_mul, are_within_more}
 use Rattle.fractions.specs.Fractions.{value_over, HoldsOver}
 use Rattle.fractions.proofs.Over.{value_over-sum, value_over-multiple}
 use Rattle.fm_projection.specs.Alone.{AreInRangeOver, IsBounded}
-use Rattle.scop_syntax.proofs.Limits.{abs_low, abs_high, abs_at_most}
 use Rattle.iteration_domains.specs.Model.{Modelled}
 use Rattle.iteration_domains.specs.Sizes.{size, form_size}
 use Rattle.loop_tree.specs.Tiling.{TileRow, Item, row, scalar, Items}

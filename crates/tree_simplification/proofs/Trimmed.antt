@@ -6,11 +6,12 @@ use Rattle.std.specs.Prelude.{Bool, true, false, unsigned_abs, ⊤, ◌-ℤ◌, 
 use Rattle.std.proofs.lemmas.Int.{ints}
 use Rattle.std.proofs.lemmas.List.Elements.{All-head, All-nil, All-tail}
 use Rattle.whole_numbers.specs.Affine.{Affine, value_of}
+use Rattle.whole_numbers.proofs.Sizes.{abs_at_most}
 use Rattle.affine_forms.specs.Parts.{variables_of}
 use Rattle.fm_projection.specs.Alone.{AreInRange}
 use Rattle.scop_syntax.specs.Members.{In}
 use Rattle.scop_syntax.specs.Walk.{Instance}
-use Rattle.scop_syntax.proofs.Limits.{abs_at_most, size}
+use Rattle.scop_syntax.proofs.Limits.{size}
 use Rattle.loop_tree.specs.Fits.{AreSmallTrees}
 use Rattle.loop_tree.specs.Marks.{AreBounds, FlatAll}
 use Rattle.loop_tree.specs.Plans.{Conflict}

@@ -9,10 +9,10 @@ use Rattle.whole_numbers.specs.Affine.{value_of}
 use Rattle.whole_numbers.specs.Lists.{dot}
 use Rattle.whole_numbers.proofs.Order.{le_or_lt}
 use Rattle.whole_numbers.proofs.Ring.{mul_one_left, mul_one_right, mul_zero_left}
+use Rattle.whole_numbers.proofs.Sizes.{abs_at_most, abs_high, abs_low}
 use Rattle.affine_forms.specs.Parts.{variables_of}
 use Rattle.scop_syntax.specs.Members.{In}
 use Rattle.scop_syntax.specs.Walk.{Instance, most_turns}
-use Rattle.scop_syntax.proofs.Limits.{abs_at_most, abs_high, abs_low}
 use Rattle.loop_tree.specs.Fits.{AreSmallTrees, AreZeros, BoundsFit, FitsAll, FormFits, HasNumber, IsNumber}
 use Rattle.loop_tree.specs.Fits.{IsSmallTree, TestsFit, form_in}
 use Rattle.loop_tree.specs.Marks.{AreBounds, FlatAll}
