@@ -16,7 +16,7 @@ use Rattle.loop_tree.specs.Plans.{AreInOrder}
 use Rattle.loop_tree.specs.Tiling.{Tiling}
 use Rattle.loop_tree.specs.Tree.{Trees}
 use Rattle.loop_tree.specs.Walk.{given, visits, walk_all}
-use Rattle.plan_tree.proofs.Ending.{listed_same}
+use Rattle.loop_tree.proofs.Visits.{listed_same}
 use Rattle.plan_tree.proofs.Orders.{walked_number}
 
 -- what the laws of the walk say of a program at its parameters

@@ -4,7 +4,7 @@ use Rattle.std.proofs.Common.{inl, inr, ap, subst, sym, ◌∙◌, arith, mul-le
 use Rattle.std.specs.Prelude.{◌+ℤ◌, ◌-ℤ◌, ◌*ℤ◌, ◌≤ℤ◌, neg_ℤ, unsigned_abs, All}
 use Rattle.std.proofs.lemmas.Int.{ints, unsigned_abs-mul}
 use Rattle.std.proofs.lemmas.List.Elements.{All-head, All-tail}
-use Rattle.whole_numbers.specs.Lists.{dot, zeros}
+use Rattle.whole_numbers.specs.Lists.{dot, zeros, NotNegative}
 use Rattle.whole_numbers.specs.Affine.{Affine, value_of}
 use Rattle.whole_numbers.proofs.Ring.{mul_neg_left, mul_one_left, mul_one_right, mul_zero_right, mul_distrib_left}
 use Rattle.whole_numbers.proofs.Order.{mul_le, mul_not_negative}
@@ -245,3 +245,10 @@ params_size program params w =
     let few = w.kernel.few_parameters in
     let count = w.count in
     omega arith
+
+-- no parameter is negative
+pub params_not_negative : (xs : List ℤ) → All (λ p. (pos 0 ≤ℤ p) × (p ≤ℤ pos 65536)) xs → NotNegative xs
+params_not_negative [] all = tt
+params_not_negative (x ∷ xs) all =
+    let P : ℤ → Type 0 = λ p. (pos 0 ≤ℤ p) × (p ≤ℤ pos 65536) in
+    ((All-head P x xs all).0, params_not_negative xs (All-tail P x xs all))

@@ -15,14 +15,14 @@ use Rattle.scop_syntax.specs.Tree.{Access, Program}
 use Rattle.scop_syntax.specs.View.{instance_of}
 use Rattle.scop_syntax.specs.Walk.{Instance, Visit, instance, walk_of}
 use Rattle.scop_syntax.specs.declared.instance.Instance.{Instance as CodeInstance}
-use Rattle.scop_syntax.proofs.Members.{in_from_place, place_of}
+use Rattle.scop_syntax.proofs.Members.{in_from_place, place_of, there_is}
+use Rattle.conflict_orders.proofs.Sorting.{StandOnce}
 use Rattle.scop_meaning.specs.Instances.{IsVisitOf}
 use Rattle.tile_events.specs.Flat.{read_by, value_by, written_by}
 use Rattle.tile_core.specs.Plans.{IsPlan, extents_in, places_in, program_in, walk_in}
 use Rattle.tile_core.specs.Plans as plans
 use Rattle.tile_core.specs.declared.plan.Plan.{Plan}
 use Rattle.tile_core.proofs.Ranks.{placed}
-use Rattle.tile_core.proofs.Scans.{StandOnce, there_is}
 
 -- the visit at an instance's place has its numbers
 pub record IsThere (plan : Plan) (i : CodeInstance) (v : Visit) : Type 0 where
