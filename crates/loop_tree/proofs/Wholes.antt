@@ -1,11 +1,8 @@
 -- The loop tree of a whole program visits its walk, and can be walked for parameters within 2^16.
-use Rattle.std.proofs.Common.{◌≡◌, ◌^◌, ◌≤◌, ℤ, pos, negsuc, List, []}
-use Rattle.std.proofs.Common.{◌∷◌, length, map, subst, sym}
+use Rattle.std.proofs.Common.{◌≡◌, ◌^◌, ◌≤◌, ℤ, pos, List, []}
+use Rattle.std.proofs.Common.{length, map, subst, sym}
 use Rattle.std.proofs.Common.{◌∙◌, refl, arith}
-use Rattle.std.specs.Prelude.{◌≤ℤ◌, ◌<ℤ◌, All, FitsSigned}
-use Rattle.std.specs.Int.{w64}
-use Rattle.std.proofs.lemmas.Int.{ints}
-use Rattle.std.proofs.lemmas.List.Elements.{All-nil, All-cons, All-head, All-tail}
+use Rattle.std.specs.Prelude.{◌≤ℤ◌, ◌<ℤ◌, All}
 use Rattle.scop_syntax.specs.Tree.{Program}
 use Rattle.scop_syntax.specs.Kernel.{IsKernel}
 use Rattle.scop_syntax.specs.Limits.{HasParameters}
@@ -14,7 +11,7 @@ use Rattle.scop_syntax.specs.Statements.{Scope, Placed, Runs, loops_in, statemen
 use Rattle.scop_syntax.specs.Walk.{instance, walk_of}
 use Rattle.scop_syntax.specs.Walk.{Visit as Step}
 use Rattle.scop_syntax.proofs.Members.{in_map, in_map_from}
-use Rattle.scop_syntax.proofs.Limits.{params_size}
+use Rattle.scop_syntax.proofs.Limits.{params_size, turns_fit}
 use Rattle.iteration_domains.proofs.Placing.{can_kernel}
 use Rattle.iteration_domains.specs.Path.{path_at}
 use Rattle.loop_tree.specs.Walk.{given, visits, walk_all}
@@ -38,17 +35,6 @@ pub record StepLaws (program : Program) (params : List ℤ) : Type 0 where
   pub few : (p : Placed) → In p (statements_of program) → loops_in p.scopes ≤ 5
   pub small : (xs : List ℤ) (p : Placed) → In p (statements_of program) → Runs p.scopes params xs
       → All (λ x. (pos 0 ≤ℤ x) × (x <ℤ pos (2 ^ 46))) xs
-
-turns_fit : (xs : List ℤ) → All (λ x. (pos 0 ≤ℤ x) × (x <ℤ pos (2 ^ 46))) xs → All (FitsSigned w64) xs
-turns_fit [] all = All-nil (FitsSigned w64)
-turns_fit (x ∷ xs) all =
-    let P : ℤ → Type 0 = λ x. (pos 0 ≤ℤ x) × (x <ℤ pos (2 ^ 46)) in
-    let h = All-head P x xs all in
-    All-cons (FitsSigned w64) x xs (turn_fits x h.0 h.1) (turns_fit xs (All-tail P x xs all))
-  where
-    turn_fits : (x : ℤ) → pos 0 ≤ℤ x → x <ℤ pos (2 ^ 46) → FitsSigned w64 x
-    turn_fits (pos n) low high = omega (arith, ints)
-    turn_fits (negsuc n) low high = absurd (omega (arith, ints))
 
 steps_held : (program : Program) (params : List ℤ) → StepLaws program params → (v : Step)
     → In v (walk_of program params) → IsHeld (instance v)

@@ -65,7 +65,7 @@ over_outlines P (o ∷ os) h =
     (over_outlines P os (All-tail P o.set.now (sets_in os) h))
 
 -- sets gone through one by one, each kept or left out
-sets_more : (os : List Outline) (o : Outline) → sets_in (os ++ o ∷ []) ≡ sets_in os ++ o.set.now ∷ []
+pub sets_more : (os : List Outline) (o : Outline) → sets_in (os ++ o ∷ []) ≡ sets_in os ++ o.set.now ∷ []
 sets_more [] o = refl
 sets_more (p ∷ os) o = ap (λ ss. p.set.now ∷ ss) (sets_more os o)
 

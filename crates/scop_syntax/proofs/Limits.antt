@@ -1,9 +1,10 @@
 -- How large the values of forms and the iterators of instances get.
 use Rattle.std.proofs.Common.{◌≡◌, ℕ, zero, suc, ◌+◌, ◌*◌, ◌^◌, ◌<◌, ◌≤◌, ℤ, pos, List, [], ◌∷◌, ◌++◌, length}
 use Rattle.std.proofs.Common.{inl, inr, ap, subst, sym, ◌∙◌, arith, mul-le-mul, mul-add, length-append, get_or, negsuc}
-use Rattle.std.specs.Prelude.{◌+ℤ◌, ◌-ℤ◌, ◌*ℤ◌, ◌≤ℤ◌, neg_ℤ, unsigned_abs, All}
+use Rattle.std.specs.Prelude.{◌+ℤ◌, ◌-ℤ◌, ◌*ℤ◌, ◌≤ℤ◌, neg_ℤ, unsigned_abs, All, ◌<ℤ◌, FitsSigned}
+use Rattle.std.specs.Int.{w64}
 use Rattle.std.proofs.lemmas.Int.{ints, unsigned_abs-mul}
-use Rattle.std.proofs.lemmas.List.Elements.{All-head, All-tail}
+use Rattle.std.proofs.lemmas.List.Elements.{All-head, All-tail, All-nil, All-cons}
 use Rattle.whole_numbers.specs.Lists.{dot, zeros, NotNegative}
 use Rattle.whole_numbers.specs.Affine.{Affine, value_of}
 use Rattle.whole_numbers.proofs.Ring.{mul_neg_left, mul_one_left, mul_one_right, mul_zero_right, mul_distrib_left}
@@ -252,3 +253,15 @@ params_not_negative [] all = tt
 params_not_negative (x ∷ xs) all =
     let P : ℤ → Type 0 = λ p. (pos 0 ≤ℤ p) × (p ≤ℤ pos 65536) in
     ((All-head P x xs all).0, params_not_negative xs (All-tail P x xs all))
+
+-- turns within 2^46 have 64 bits
+pub turns_fit : (xs : List ℤ) → All (λ x. (pos 0 ≤ℤ x) × (x <ℤ pos (2 ^ 46))) xs → All (FitsSigned w64) xs
+turns_fit [] all = All-nil (FitsSigned w64)
+turns_fit (x ∷ xs) all =
+    let P : ℤ → Type 0 = λ x. (pos 0 ≤ℤ x) × (x <ℤ pos (2 ^ 46)) in
+    let h = All-head P x xs all in
+    All-cons (FitsSigned w64) x xs (turn_fits x h.0 h.1) (turns_fit xs (All-tail P x xs all))
+  where
+    turn_fits : (x : ℤ) → pos 0 ≤ℤ x → x <ℤ pos (2 ^ 46) → FitsSigned w64 x
+    turn_fits (pos n) low high = omega (arith, ints)
+    turn_fits (negsuc n) low high = absurd (omega (arith, ints))
