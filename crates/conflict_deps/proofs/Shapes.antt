@@ -77,7 +77,7 @@ length-difference n f g a b =
     let m = length-multiples (negsuc 0) g.coefficients ∙ b in
     length-sums f.coefficients (multiples (negsuc 0) g.coefficients) (a ∙ sym m) ∙ a
 
-size-difference : (f g : Affine) → form_size (difference_of_forms f g) ≤ form_size f + form_size g
+pub size-difference : (f g : Affine) → form_size (difference_of_forms f g) ≤ form_size f + form_size g
 size-difference f g =
     let s = size-sum f (multiple_of_form (negsuc 0) g) in
     let m = size-multiple (negsuc 0) g in

@@ -1,8 +1,11 @@
--- Parts of sorted lists, and lists that are sorted by another relation.
+-- Parts of sorted lists, and lists that are sorted by another relation; the instances of the walk are distinct.
 use Rattle.std.proofs.Common.{◌≡◌, ℕ, suc, ◌<◌, List, [], ◌∷◌, ◌++◌, map, Some, inl, inr, subst, sym, refl, arith}
-use Rattle.std.specs.Prelude.{slice_get}
+use Rattle.std.proofs.Common.{ℤ, ap}
+use Rattle.std.specs.Prelude.{slice_get, ◌≢◌}
 use Rattle.scop_syntax.specs.Members.{In, Sorted}
-use Rattle.scop_syntax.proofs.Members.{in_front, in_back, in_map, nat_cases, place_of, sorted_places}
+use Rattle.scop_syntax.specs.Tree.{Program}
+use Rattle.scop_syntax.specs.Walk.{Instance, instance, Visit, walk_of}
+use Rattle.scop_syntax.proofs.Members.{in_front, in_back, in_map, nat_cases, place_of, sorted_places, sorted_map}
 use Rattle.conflict_orders.specs.Orders.{AreDistinct, StandsBefore}
 
 -- elements of a sorted list stand in the relation
@@ -54,3 +57,19 @@ pub sorted_weaker : {A : Type 0} (R S : A → A → Type 0) (xs : List A) → ((
     → Sorted S xs
 sorted_weaker R S [] weaker s = tt
 sorted_weaker R S (x ∷ xs) weaker s = ((λ y i. weaker x y (s.0 y i)), sorted_weaker R S xs weaker s.1)
+
+-- each instance stands at one place of the walk
+abbrev pub StandOnce : Program → List ℤ → Type 0
+StandOnce program params =
+    (i j : ℕ) (v w : Visit) → slice_get (walk_of program params) i ≡ Some v
+    → slice_get (walk_of program params) j ≡ Some w → v.number ≡ w.number → v.turns ≡ w.turns → i ≡ j
+
+-- so the instances of the walk are distinct
+pub walked_distinct : (program : Program) (params : List ℤ) → StandOnce program params
+    → AreDistinct (map instance (walk_of program params))
+walked_distinct program params once =
+    let Differ : Visit → Visit → Type 0 = λ v w. instance v ≢ instance w in
+    sorted_map Differ (λ (x y : Instance). x ≢ y) instance (walk_of program params) (λ v w d. d)
+    (sorted_by_places Differ (walk_of program params) (λ i j v w less a b e.
+    let same = once i j v w a b (ap (λ (x : Instance). x.number) e) (ap (λ (x : Instance). x.turns) e) in
+    absurd (omega (arith, same, less))))

@@ -1,23 +1,15 @@
 -- The numbers of forms: sums, multiples and compositions.
 use Rattle.std.proofs.Common.{◌≡◌, ℕ, zero, suc, ◌+◌, ◌*◌, ◌^◌, ◌≤◌, ℤ, pos, List, [], ◌∷◌, ◌++◌, set, refl, arith}
 use Rattle.std.proofs.Common.{mul-le-mul, mul-add}
-use Rattle.std.specs.Prelude.{◌+ℤ◌, unsigned_abs}
-use Rattle.std.proofs.lemmas.Int.{ints, unsigned_abs-mul}
+use Rattle.std.specs.Prelude.{unsigned_abs}
+use Rattle.std.proofs.lemmas.Int.{unsigned_abs-mul}
 use Rattle.whole_numbers.specs.Lists.{sums, multiples, zeros}
 use Rattle.whole_numbers.specs.Affine.{Affine, form_of, sum_of_forms, multiple_of_form, plus_combination, composed}
+use Rattle.whole_numbers.proofs.Sizes.{abs_sum}
 use Rattle.scop_syntax.specs.Tree.{Head}
 use Rattle.scop_syntax.specs.Kernel.{AreAtMost, IsForm, IsAffine}
-use Rattle.scop_syntax.proofs.Limits.{abs_low, abs_high, abs_at_most}
 use Rattle.iteration_domains.specs.Rows.{variable, variables, iterator, within_loop}
 use Rattle.iteration_domains.specs.Sizes.{size, form_size, forms_size}
-
-pub abs_sum : (a b : ℤ) → unsigned_abs (a +ℤ b) ≤ unsigned_abs a + unsigned_abs b
-abs_sum a b =
-    let al = abs_low a in
-    let ah = abs_high a in
-    let bl = abs_low b in
-    let bh = abs_high b in
-    abs_at_most (a +ℤ b) (unsigned_abs a + unsigned_abs b) (omega (arith, ints)) (omega (arith, ints))
 
 size-sums : (xs ys : List ℤ) → size (sums xs ys) ≤ size xs + size ys
 size-sums [] ys = omega arith

@@ -11,6 +11,7 @@ use Rattle.whole_numbers.specs.Affine.{Affine, form_of, sum_of_forms, multiple_o
 use Rattle.whole_numbers.proofs.Fits.{fits_iff}
 use Rattle.whole_numbers.proofs.Ring.{mul_one_left}
 use Rattle.whole_numbers.proofs.Dot.{length-zeros, length-sums, length-multiples}
+use Rattle.whole_numbers.proofs.Sizes.{abs_sum}
 use Rattle.wide_math.specs.declared.Op.TheVariants.{Add, Mul}
 use Rattle.wide_math.specs.Checked.{cross_sum_of}
 use Rattle.wide_math.proofs.Steps.{checked-fits}
@@ -19,7 +20,7 @@ use Rattle.affine_forms.specs.Runs.{multiply_add_run, zip_run, added_multiple_ru
 use Rattle.affine_forms.specs.Runs.{plus_combination_run, compose_run, multiples_sum_run, forms_sum_run}
 use Rattle.scop_syntax.specs.Kernel.{AreAtMost}
 use Rattle.iteration_domains.specs.Sizes.{size, form_size, forms_size, CanCompose}
-use Rattle.iteration_domains.proofs.Sizes.{abs_sum, size-sum, size-multiple, size-zeros}
+use Rattle.iteration_domains.proofs.Sizes.{size-sum, size-multiple, size-zeros}
 
 small_fits : (z : ℤ) → unsigned_abs z ≤ 2 ^ 100 → IsTrue (fits z)
 small_fits z h = (fits_iff z).1 (fits_signed_from_abs w128 z (omega arith))

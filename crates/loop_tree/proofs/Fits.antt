@@ -8,19 +8,15 @@ use Rattle.whole_numbers.specs.Floor.{floor, ceiling}
 use Rattle.whole_numbers.proofs.Floors.{floor_is, ceiling_is}
 use Rattle.whole_numbers.proofs.Ring.{mul_one_right, mul_zero_left}
 use Rattle.whole_numbers.specs.Lists.{dot}
+use Rattle.whole_numbers.proofs.Sizes.{abs_sum}
 use Rattle.scop_syntax.specs.Kernel.{AreAtMost, IsForm}
-use Rattle.scop_syntax.proofs.Limits.{size, abs_low, abs_high, abs_at_most, value_size}
+use Rattle.scop_syntax.proofs.Limits.{size, value_size}
 use Rattle.loop_tree.specs.Tree.{Bound, Bounds, only, besides, Test, Tree, loop, guard, instance, Trees, none, more}
 use Rattle.loop_tree.specs.Walk.{lower, upper}
 use Rattle.loop_tree.specs.Fits.{SumsFit, FormFits, BoundsFit, form_in, TestsFit, FormsFit, Fits, FitsAll, IsSmall}
 use Rattle.loop_tree.specs.Fits.{AreZeros, IsNumber, AreSmallBounds, HasNumber, AreSmallTests, AreSmallForms}
 use Rattle.loop_tree.specs.Fits.{IsSmallTree, AreSmallTrees}
 use Rattle.loop_tree.proofs.Extremes.{below_max, min_above}
-
-abs_sum : (a b : ℤ) → unsigned_abs (a +ℤ b) ≤ unsigned_abs a + unsigned_abs b
-abs_sum a b =
-    let al = abs_low a in let ah = abs_high a in let bl = abs_low b in let bh = abs_high b in
-    abs_at_most (a +ℤ b) (unsigned_abs a + unsigned_abs b) (omega (arith, ints)) (omega (arith, ints))
 
 -- coefficients within k leave room for the sums
 sums_fit : (k : ℕ) (sum : ℤ) (cs xs : List ℤ) → AreAtMost k cs → unsigned_abs sum + k * size xs < 2 ^ 127

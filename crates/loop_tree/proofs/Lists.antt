@@ -1,5 +1,5 @@
 -- A loop's values.
-use Rattle.std.proofs.Common.{◌≡◌, ℕ, zero, suc, ◌<◌, ℤ, pos, negsuc, List, inl, inr, subst, refl, arith}
+use Rattle.std.proofs.Common.{◌≡◌, ℕ, zero, suc, ◌<◌, ℤ, pos, negsuc, List, inl, inr, subst, refl, arith, []}
 use Rattle.std.specs.Prelude.{◌+ℤ◌, ◌-ℤ◌, ◌≤ℤ◌, ◌<ℤ◌}
 use Rattle.std.proofs.lemmas.Int.{ints}
 use Rattle.scop_syntax.specs.Members.{In, Sorted}
@@ -41,7 +41,7 @@ sorted_along R body (suc n) first each across =
     let a = r.1 in
     across first r.0 v w (omega (arith, ints)) g r.3)
 
-turns_reach : (z : ℤ) (x first last : ℤ) → z ≡ last -ℤ first → first ≤ℤ x → x <ℤ (first +ℤ pos (most_turns z))
+pub turns_reach : (z : ℤ) (x first last : ℤ) → z ≡ last -ℤ first → first ≤ℤ x → x <ℤ (first +ℤ pos (most_turns z))
     → x ≤ℤ last
 turns_reach (pos n) x first last e a b = omega (arith, ints)
 turns_reach (negsuc n) x first last e a b = absurd (omega (arith, ints))
@@ -80,3 +80,11 @@ pub sorted_between : {A : Type 0} (R : A → A → Type 0) (body : ℤ → List 
 sorted_between R body first last each across =
     sorted_along R body (most_turns (last -ℤ first)) first
     (λ x a b. each x a (turns_reach (last -ℤ first) x first last refl a b)) across
+
+-- no value lies between them
+pub between_none : {A : Type 0} (ws : ℤ → List A) (x last : ℤ) → last <ℤ x → between ws x last ≡ []
+between_none ws x last h = by_count (last -ℤ x) (omega (arith, ints))
+  where
+    by_count : (z : ℤ) → z <ℤ pos 0 → along ws x (most_turns z) ≡ []
+    by_count (negsuc n) low = refl
+    by_count (pos n) low = absurd (omega (arith, ints))

@@ -16,7 +16,7 @@ use Rattle.scop_syntax.specs.Kernel.{AreAtMost, IsForm, IsComparison, IsHead, Ar
 use Rattle.scop_syntax.specs.Statements.{loops_in, point_of, Runs, AllHold}
 use Rattle.scop_syntax.specs.Walk.{statements_in}
 use Rattle.scop_syntax.specs.Walk.{holds as comparison_holds, all_hold as comparisons_hold}
-use Rattle.scop_syntax.proofs.Limits.{size}
+use Rattle.scop_syntax.proofs.Limits.{size, size-joined}
 use Rattle.scop_syntax.proofs.Limits.{turns_within as turns_small}
 use Rattle.scop_syntax.proofs.Members.{both, holds_le_z}
 use Rattle.iteration_domains.specs.Rows.{variable, variables}
@@ -101,10 +101,6 @@ entries_size k (x ∷ xs) h =
     let a = h.0 in
     let e : suc (length xs) * k ≡ k + length xs * k = grind arith in
     omega (arith, e)
-
-size-joined : (xs ys : List ℤ) → size (xs ++ ys) ≡ size xs + size ys
-size-joined [] ys = omega arith
-size-joined (x ∷ xs) ys = let r = size-joined xs ys in omega arith
 
 last_at_most : (k : ℕ) (xs : List ℤ) (x : ℤ) → AreAtMost k (xs ++ x ∷ []) → unsigned_abs x ≤ k
 last_at_most k [] x h = h.0

@@ -14,6 +14,7 @@ use Rattle.scop_syntax.specs.Tree.{Head}
 use Rattle.scop_syntax.specs.Kernel.{IsHead, own}
 use Rattle.scop_syntax.specs.Walk.{RunsFor, condition_at, most_turns}
 use Rattle.scop_syntax.proofs.Falls.{dot_last}
+use Rattle.scop_syntax.proofs.Loops.{below_most}
 use Rattle.loop_tree.specs.Walk.{along}
 
 -- the stride goes against the iterator's sign in the condition
@@ -78,10 +79,6 @@ below_turns : (z : ℤ) (k : ℕ) → k < most_turns z → pos k ≤ℤ z
 below_turns (pos n) k h = omega (arith, ints)
 below_turns (negsuc n) k h = absurd (omega arith)
 
-past_turns : (z : ℤ) → z <ℤ pos (most_turns z)
-past_turns (pos n) = omega (arith, ints)
-past_turns (negsuc n) = omega (arith, ints)
-
 -- and has so many turns
 pub runs_until : (head : Head) (point : List ℤ) → IsHead (length point) head
     → RunsFor (λ k. condition_at head point (pos k))
@@ -103,7 +100,7 @@ runs_until head point is =
     by_order (inr l) = l
     by_order (inl l) =
         let q = floor (condition_at head point (pos 0)) (pos (unsigned_abs head.stride)) in
-        let p = past_turns (q -ℤ pos 0) in
+        let p = below_most (q -ℤ pos 0) in
         let b = (holds_until head point is (pos (most_turns (q -ℤ pos 0)))).1 l in
         absurd (omega (arith, ints))
 

@@ -1,15 +1,19 @@
 -- A tree that scans a predicate visits its keys, each once, no other, in rising order.
 use Rattle.std.proofs.Common.{◌≡◌, ℕ, zero, suc, Bool, true, false, ℤ, pos, List, [], ◌∷◌, ◌++◌, map, ◌⊎◌, inl, inr}
-use Rattle.std.proofs.Common.{ap, subst, sym, refl, ◌∙◌, arith}
+use Rattle.std.proofs.Common.{ap, subst, sym, refl, ◌∙◌, arith, ◌↔◌}
 use Rattle.std.specs.Prelude.{◌<ℤ◌, if◌then◌else◌}
 use Rattle.std.proofs.lemmas.Int.{ints}
 use Rattle.whole_numbers.specs.Lexicographic.{LexLess}
 use Rattle.scop_syntax.specs.Members.{In, Sorted}
+use Rattle.scop_syntax.specs.Tree.{Program}
+use Rattle.scop_syntax.specs.Walk.{Instance}
 use Rattle.scop_syntax.proofs.Members.{in_front, in_back, in_append, in_map, in_map_from, in_if, in_if_from}
 use Rattle.scop_syntax.proofs.Members.{sorted_append, sorted_map}
 use Rattle.loop_tree.specs.Tree.{Tree, loop, guard, instance, Trees, none, more}
 use Rattle.loop_tree.specs.Walk.{lower, upper, all_hold, Visit, through, walk, walk_all}
 use Rattle.loop_tree.specs.Scans.{key, Before, Spans, SpansAll, Covers, Scans, ScansAll, AreKeys, Exact}
+use Rattle.loop_tree.specs.Plans.{AreInOrder, walked}
+use Rattle.loop_tree.specs.Tiling.{Tiling, kept, tiled}
 use Rattle.loop_tree.proofs.Lists.{in_between_from, in_between, sorted_between}
 
 -- a visit's key begins with a value that the tree spans
@@ -180,3 +184,9 @@ exact k P ts params outer keys covers s = record {
   none_else = sound_all k P ts params outer s;
   all = complete_in k P ts params outer s covers keys;
 }
+
+-- instances in a plan's order are those of the walk
+pub listed_same : (program : Program) (params : List ℤ) (plan : Tiling) (xs : List Instance)
+    → AreInOrder program params plan xs → (x : Instance) → In x xs ↔ In x (walked program params)
+listed_same program params kept xs same x = (λ i. subst (In x) same i, λ i. subst (In x) (sym same) i)
+listed_same program params (tiled size statements) xs (sorted, all) x = all x

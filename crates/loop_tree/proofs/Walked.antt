@@ -17,7 +17,7 @@ use Rattle.loop_tree.specs.Fits.{FormFits, FormsFit}
 use Rattle.loop_tree.specs.Conditions.{IsHeld, CanWalk}
 use Rattle.loop_tree.specs.View.{tree_of, nodes_of}
 use Rattle.loop_tree.specs.declared.tree.Node.{Node}
-use Rattle.loop_tree.proofs.Lists.{in_between}
+use Rattle.loop_tree.proofs.Lists.{in_between, between_none}
 use Rattle.loop_tree.proofs.Sources.{given_through}
 use Rattle.loop_tree.proofs.Weights.{node_here}
 
@@ -144,13 +144,6 @@ between_more ws x last h = by_count (last -ℤ x) (last -ℤ (x +ℤ pos 1)) (om
     by_count (pos (suc n)) (pos m) e up =
         let same : suc n ≡ suc m = omega (arith, ints) in
         ap (λ (k : ℕ). ws x ++ along ws (x +ℤ pos 1) k) same
-
-between_none : {A : Type 0} (ws : ℤ → List A) (x last : ℤ) → last <ℤ x → between ws x last ≡ []
-between_none ws x last h = by_count (last -ℤ x) (omega (arith, ints))
-  where
-    by_count : (z : ℤ) → z <ℤ pos 0 → along ws x (most_turns z) ≡ []
-    by_count (negsuc n) low = refl
-    by_count (pos n) low = absurd (omega (arith, ints))
 
 pub shown_turn : (body : Trees) (params outer : List ℤ) (x last : ℤ) → x ≤ℤ last
     → turns_shown body params outer x last

@@ -1,27 +1,24 @@
 -- The loop tree of a whole program visits its walk, and can be walked for parameters within 2^16.
-use Rattle.std.proofs.Common.{◌≡◌, ◌*◌, ◌^◌, ◌≤◌, ℤ, pos, negsuc, List, []}
-use Rattle.std.proofs.Common.{◌∷◌, length, map, subst, sym}
-use Rattle.std.proofs.Common.{◌∙◌, refl, arith, mul-le-mul}
-use Rattle.std.specs.Prelude.{◌≤ℤ◌, ◌<ℤ◌, All, FitsSigned, unsigned_abs}
-use Rattle.std.specs.Int.{w64}
-use Rattle.std.proofs.lemmas.Int.{ints}
-use Rattle.std.proofs.lemmas.List.Elements.{All-nil, All-cons, All-head, All-tail}
+use Rattle.std.proofs.Common.{◌≡◌, ◌^◌, ◌≤◌, ℤ, pos, List, []}
+use Rattle.std.proofs.Common.{length, map, subst, sym}
+use Rattle.std.proofs.Common.{◌∙◌, refl, arith}
+use Rattle.std.specs.Prelude.{◌≤ℤ◌, ◌<ℤ◌, All}
 use Rattle.scop_syntax.specs.Tree.{Program}
-use Rattle.scop_syntax.specs.Kernel.{AreAtMost, IsKernel}
+use Rattle.scop_syntax.specs.Kernel.{IsKernel}
 use Rattle.scop_syntax.specs.Limits.{HasParameters}
 use Rattle.scop_syntax.specs.Members.{In}
 use Rattle.scop_syntax.specs.Statements.{Scope, Placed, Runs, loops_in, statements_of, visit_of}
 use Rattle.scop_syntax.specs.Walk.{instance, walk_of}
 use Rattle.scop_syntax.specs.Walk.{Visit as Step}
 use Rattle.scop_syntax.proofs.Members.{in_map, in_map_from}
-use Rattle.scop_syntax.proofs.Limits.{size}
+use Rattle.scop_syntax.proofs.Limits.{params_size, turns_fit}
 use Rattle.iteration_domains.proofs.Placing.{can_kernel}
 use Rattle.iteration_domains.specs.Path.{path_at}
 use Rattle.loop_tree.specs.Walk.{given, visits, walk_all}
 use Rattle.loop_tree.specs.Conditions.{IsHeld, CanWalk}
 use Rattle.loop_tree.specs.Source.{source_of}
 use Rattle.loop_tree.proofs.Sources.{behind_nothing, sources_walk, sources_flat}
-use Rattle.loop_tree.proofs.Sized.{entries_size, sources_fit}
+use Rattle.loop_tree.proofs.Sized.{sources_fit}
 
 pub visited : (program : Program) (params : List ℤ) → IsKernel program → length params ≡ length program.parameters
     → visits (source_of program) params ≡ map instance (walk_of program params)
@@ -39,17 +36,6 @@ pub record StepLaws (program : Program) (params : List ℤ) : Type 0 where
   pub small : (xs : List ℤ) (p : Placed) → In p (statements_of program) → Runs p.scopes params xs
       → All (λ x. (pos 0 ≤ℤ x) × (x <ℤ pos (2 ^ 46))) xs
 
-turns_fit : (xs : List ℤ) → All (λ x. (pos 0 ≤ℤ x) × (x <ℤ pos (2 ^ 46))) xs → All (FitsSigned w64) xs
-turns_fit [] all = All-nil (FitsSigned w64)
-turns_fit (x ∷ xs) all =
-    let P : ℤ → Type 0 = λ x. (pos 0 ≤ℤ x) × (x <ℤ pos (2 ^ 46)) in
-    let h = All-head P x xs all in
-    All-cons (FitsSigned w64) x xs (turn_fits x h.0 h.1) (turns_fit xs (All-tail P x xs all))
-  where
-    turn_fits : (x : ℤ) → pos 0 ≤ℤ x → x <ℤ pos (2 ^ 46) → FitsSigned w64 x
-    turn_fits (pos n) low high = omega (arith, ints)
-    turn_fits (negsuc n) low high = absurd (omega (arith, ints))
-
 steps_held : (program : Program) (params : List ℤ) → StepLaws program params → (v : Step)
     → In v (walk_of program params) → IsHeld (instance v)
 steps_held program params laws v h =
@@ -59,27 +45,6 @@ steps_held program params laws v h =
     subst (λ (w : Step). IsHeld (instance w)) (sym f.4)
     (record { few = omega arith; turns = turns_fit f.1 (laws.small f.1 f.0 f.2 f.3) })
 
-params_at_most : (xs : List ℤ) → All (λ p. (pos 0 ≤ℤ p) × (p ≤ℤ pos 65536)) xs → AreAtMost 65536 xs
-params_at_most [] all = tt
-params_at_most (x ∷ xs) all =
-    let P : ℤ → Type 0 = λ p. (pos 0 ≤ℤ p) × (p ≤ℤ pos 65536) in
-    let h = All-head P x xs all in
-    (parameter_size x h.0 h.1, params_at_most xs (All-tail P x xs all))
-  where
-    parameter_size : (x : ℤ) → pos 0 ≤ℤ x → x ≤ℤ pos 65536 → unsigned_abs x ≤ 65536
-    parameter_size (pos n) low high = omega (arith, ints)
-    parameter_size (negsuc n) low high = absurd (omega (arith, ints))
-
-params_small : (program : Program) (params : List ℤ) → HasParameters program params → size params ≤ 2 ^ 18
-params_small program params has =
-    let s = entries_size 65536 params (params_at_most params has.parameters) in
-    let few = has.kernel.few_parameters in
-    let count = has.count in
-    let four : length params ≤ 4 = omega arith in
-    let same : 65536 ≤ 65536 = omega arith in
-    let most : length params * 65536 ≤ 4 * 65536 = mul-le-mul four same in
-    omega (arith, s, most)
-
 pub walkable : (program : Program) (params : List ℤ) → HasParameters program params → StepLaws program params
     → CanWalk (source_of program) params []
 walkable program params has laws =
@@ -88,7 +53,7 @@ walkable program params has laws =
     record {
       flat = sources_flat root program.body 0 can;
       fits = sources_fit root program.body 0 params [] can
-          (record { count = has.count; turns = refl; small = params_small program params has; runs = tt });
+          (record { count = has.count; turns = refl; small = params_size program params has; runs = tt });
       held = λ v h.
           let i = subst (In (given v)) (visited program params has.kernel has.count)
           (in_map given v (walk_all (source_of program) params []) h) in

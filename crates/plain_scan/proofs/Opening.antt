@@ -14,6 +14,7 @@ use Rattle.whole_numbers.proofs.Ring.{mul_neg_left}
 use Rattle.whole_numbers.proofs.Order.{mul_positive, mul_le_left, mul_not_negative}
 use Rattle.whole_numbers.proofs.Dot.{length-multiples}
 use Rattle.whole_numbers.proofs.Lists.{multiples-append}
+use Rattle.whole_numbers.proofs.Sizes.{abs_low, abs_high}
 use Rattle.fractions.specs.Fractions.{HoldsOver, value_over}
 use Rattle.fractions.specs.Elimination.{coefficient_of}
 use Rattle.integer_sets.specs.Constraints.{Constraints, IsSized, variables_in}
@@ -26,7 +27,6 @@ use Rattle.fm_projection.proofs.Following.{one_more, projected_sized}
 use Rattle.fm_projection.proofs.Between.{all_left, front_of, projected_left}
 use Rattle.fm_projection.proofs.Ranges.{last_value, place_value}
 use Rattle.fm_projection.proofs.Ranging.{least_row, most_row}
-use Rattle.scop_syntax.proofs.Limits.{abs_low, abs_high}
 use Rattle.plain_scan.proofs.Appending.{projected_shape}
 use Rattle.plain_scan.proofs.Members.{same_place}
 use Rattle.plain_scan.specs.Between.{IsOpenAbove, IsOpenBelow}

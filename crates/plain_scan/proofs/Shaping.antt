@@ -16,11 +16,11 @@ use Rattle.integer_sets.specs.Constraints.{variables_in}
 use Rattle.integer_sets.specs.Scanned.{Scanned}
 use Rattle.fm_projection.specs.Alone.{place_form}
 use Rattle.fm_projection.proofs.Narrowing.{narrowed_sized}
-use Rattle.loop_tree.specs.Tree.{Bound, Bounds, only, besides, Test, at_least, equal, multiple, Tree, loop, guard}
+use Rattle.loop_tree.specs.Tree.{Bound, Bounds, only, Test, at_least, equal, Tree, loop, guard}
 use Rattle.loop_tree.specs.Tree.{instance, Trees, none, more}
-use Rattle.loop_tree.specs.Fits.{AreSmallTrees, IsSmall, IsSmallTree, form_in}
-use Rattle.loop_tree.specs.Shape.{BoundsAreOver, BoundsAreUpTo, IsOver, IsOverUpTo, IsUpTo, NestAllTo, NestsTo}
-use Rattle.loop_tree.specs.Shape.{TestIsUpTo, TreeIsUpTo, TreesAreUpTo}
+use Rattle.loop_tree.specs.Fits.{IsSmall, form_in}
+use Rattle.loop_tree.specs.Shape.{BoundsAreOver, BoundsAreUpTo, IsOver, IsUpTo}
+use Rattle.loop_tree.specs.Shape.{TestIsUpTo}
 use Rattle.plain_scan.specs.declared.set_outline.Outline.{Outline}
 use Rattle.plain_scan.specs.Scanning.{AreOfSets, IsOfSets}
 use Rattle.plain_scan.specs.Shape.{AreShaped}
@@ -31,50 +31,6 @@ use Rattle.plain_scan.specs.Hulls.{AreHullRows, IsHull, leaf_tree, own_leaf, set
 use Rattle.plain_scan.specs.Between.{HasSmallNumbers}
 use Rattle.plain_scan.proofs.Sorting.{highs_of, lows_of}
 use Rattle.plain_scan.proofs.Smallness.{is_small, narrowed_small, opposite_small, place_small, small_negative}
-
--- loops of small trees stand in one another no deeper than they may
-mutual
-  nested : (n : ℕ) (t : Tree) → IsSmallTree n t → NestsTo n t
-  nested zero (loop flag lo up body) h = h
-  nested (suc n) (loop flag lo up body) h = nested_all n body h.4
-  nested n (guard tests body) h = nested_all n body h.1
-  nested n (instance k forms) h = tt
-
-  pub nested_all : (n : ℕ) (ts : Trees) → AreSmallTrees n ts → NestAllTo n ts
-  nested_all n none h = tt
-  nested_all n (more t ts) h = (nested n t h.0, nested_all n ts h.1)
-
--- numbers up to n are up to any m that is not less
-at_most_more : (n m : ℕ) (cs : List ℤ) → n ≤ m → AreAtMost n cs → AreAtMost m cs
-at_most_more n m [] less h = tt
-at_most_more n m (c ∷ cs) less h = let one = h.0 in (omega (arith, one, less), at_most_more n m cs less h.1)
-
-form_more : (n m : ℕ) (f : Affine) → n ≤ m → IsUpTo n f → IsUpTo m f
-form_more n m f less h = let c = h.1 in (at_most_more n m f.coefficients less h.0, omega (arith, c, less))
-
-over_more : (n m : ℕ) (f : Affine) (d : ℤ) → n ≤ m → IsOverUpTo n f d → IsOverUpTo m f d
-over_more n m f d less h = let c = h.1 in (form_more n m f less h.0, omega (arith, c, less))
-
-bounds_more : (n m : ℕ) (b : Bounds) → n ≤ m → BoundsAreUpTo n b → BoundsAreUpTo m b
-bounds_more n m (only b) less h = over_more n m b.form b.divisor less h
-bounds_more n m (besides b bs) less h = (over_more n m b.form b.divisor less h.0, bounds_more n m bs less h.1)
-
-test_more : (n m : ℕ) (test : Test) → n ≤ m → TestIsUpTo n test → TestIsUpTo m test
-test_more n m (at_least f) less h = form_more n m f less h
-test_more n m (equal f) less h = form_more n m f less h
-test_more n m (multiple f d) less h = over_more n m f d less h
-
-mutual
-  tree_more : (n m : ℕ) (t : Tree) → n ≤ m → TreeIsUpTo n t → TreeIsUpTo m t
-  tree_more n m (loop flag lo up body) less h =
-      (bounds_more n m lo less h.0, bounds_more n m up less h.1, trees_more n m body less h.2)
-  tree_more n m (guard tests body) less h =
-      ((λ k d i. test_more n m (get_or tests k d) less (h.0 k d i)), trees_more n m body less h.1)
-  tree_more n m (instance k forms) less h = λ i d inside. form_more n m (get_or forms i d) less (h i d inside)
-
-  pub trees_more : (n m : ℕ) (ts : Trees) → n ≤ m → TreesAreUpTo n ts → TreesAreUpTo m ts
-  trees_more n m none less h = tt
-  trees_more n m (more t ts) less h = (tree_more n m t less h.0, trees_more n m ts less h.1)
 
 -- instances of some sets are of all in which those are
 mutual

@@ -7,8 +7,8 @@ use Rattle.whole_numbers.specs.Affine.{Affine, value_of}
 use Rattle.whole_numbers.specs.Division.{IsFloor, IsCeiling}
 use Rattle.whole_numbers.proofs.Ring.{mul_comm_int, mul_neg_left, mul_neg_right, mul_one_right}
 use Rattle.whole_numbers.proofs.Order.{mul_le_left}
-use Rattle.scop_syntax.proofs.Limits.{abs_low, abs_high, abs_at_most}
 use Rattle.whole_numbers.proofs.Floors.{floor_at_least, ceiling_at_most, ceiling_at_least}
+use Rattle.whole_numbers.proofs.Sizes.{abs_low, abs_high, abs_at_most}
 
 pub low_row : (a c q x : ℤ) → pos 0 <ℤ a → IsCeiling (neg_ℤ c) a q → pos 0 ≤ℤ ((a *ℤ x) +ℤ c) → q ≤ℤ x
 low_row a c q x h is p =

@@ -1,12 +1,11 @@
 -- From the hull of the sets that are kept to the scan of all.
-use Rattle.std.proofs.Common.{◌≡◌, ℕ, zero, ◌+◌, ◌*◌, ◌<◌, ℤ, pos, List, [], ◌∷◌, ◌++◌, length, get_or, take}
+use Rattle.std.proofs.Common.{◌≡◌, ℕ, zero, ◌+◌, ◌<◌, ℤ, List, [], ◌∷◌, ◌++◌, length, get_or, take}
 use Rattle.std.proofs.Common.{refl, sym, ◌∙◌, ap, subst, All, arith}
-use Rattle.std.specs.Prelude.{◌≤◌, ◌^◌, ◌≤ℤ◌, unsigned_abs}
-use Rattle.std.proofs.lemmas.Int.{ints}
+use Rattle.std.specs.Prelude.{◌^◌}
 use Rattle.std.proofs.lemmas.List.Elements.{All-cons, All-head, All-nil, All-tail}
 use Rattle.integer_sets.specs.Scanned.{Scanned}
 use Rattle.fm_projection.specs.Alone.{AreInRange}
-use Rattle.scop_syntax.proofs.Limits.{size, abs_at_most}
+use Rattle.scop_syntax.proofs.Limits.{size_params}
 use Rattle.loop_tree.specs.Tree.{Trees, none}
 use Rattle.loop_tree.specs.Walk.{walk_all}
 use Rattle.loop_tree.specs.Scans.{Exact}
@@ -52,21 +51,10 @@ whole_gives sets kept ts left turns params range v i =
     let g = turns params [] refl v i in (g.0, kept_in sets kept left g.0 g.1, g.2, g.3)
 
 -- its numbers fit
-size_in_range : (params : List ℤ) → AreInRange params → size params ≤ length params * 65536
-size_in_range [] h = omega arith
-size_in_range (p ∷ params) h =
-    let P : ℤ → Type 0 = λ z. (pos 0 ≤ℤ z) × (z ≤ℤ pos 65536) in
-    let more = size_in_range params (All-tail P p params h) in
-    let one = within p (All-head P p params h) in
-    omega (arith, more, one)
-  where
-    within : (z : ℤ) → (pos 0 ≤ℤ z) × (z ≤ℤ pos 65536) → unsigned_abs z ≤ 65536
-    within z r = let a = r.0 in let b = r.1 in abs_at_most z 65536 (omega (arith, ints, a)) b
-
 pub whole_fits : (d p : ℕ) (ts : Trees) → d + p < 2 ^ 32 → AreSmallTrees d ts → (params : List ℤ) → AreInRange params
     → length params ≡ p → FitsAll ts params []
 whole_fits d p ts few small params range count =
-    let s = size_in_range params range in
+    let s = size_params params range in
     small_fits_all d ts params [] small (omega (arith, few, s, count))
 
 -- all of the sets of outlines
@@ -77,7 +65,7 @@ over_outlines P (o ∷ os) h =
     (over_outlines P os (All-tail P o.set.now (sets_in os) h))
 
 -- sets gone through one by one, each kept or left out
-sets_more : (os : List Outline) (o : Outline) → sets_in (os ++ o ∷ []) ≡ sets_in os ++ o.set.now ∷ []
+pub sets_more : (os : List Outline) (o : Outline) → sets_in (os ++ o ∷ []) ≡ sets_in os ++ o.set.now ∷ []
 sets_more [] o = refl
 sets_more (p ∷ os) o = ap (λ ss. p.set.now ∷ ss) (sets_more os o)
 

@@ -10,23 +10,18 @@ use Rattle.scop_syntax.proofs.Members.{in_from_place, in_map, in_map_from, place
 use Rattle.scop_syntax.proofs.Members.{sorted_places}
 use Rattle.conflict_orders.specs.Orders.{AreDistinct, IsOrderOf, KeepsConflicts}
 use Rattle.conflict_orders.proofs.Sorting.{distinct_places, sorted_by_places, sorted_stands, sorted_unmapped}
-use Rattle.conflict_orders.proofs.Sorting.{sorted_weaker}
+use Rattle.conflict_orders.proofs.Sorting.{sorted_weaker, StandOnce, walked_distinct}
 use Rattle.conflict_orders.proofs.Standing.{one_stands_before}
 use Rattle.loop_tree.specs.Plans.{AreInOrder, CarryOut, Conflict, Precedes, walked}
 use Rattle.loop_tree.specs.Runs.{MayRunAll}
 use Rattle.loop_tree.specs.Tiling.{Tiling, kept, tiled, order_of}
 use Rattle.loop_tree.specs.Tree.{Trees}
 use Rattle.loop_tree.specs.Walk.{Visit as Visited, given, walk_all, visits}
+use Rattle.loop_tree.proofs.Visits.{listed_same}
 use Rattle.plan_tree.specs.Executions.{AreVisitsOf}
 use Rattle.plan_tree.specs.Trees.{AreEven}
 use Rattle.plan_tree.proofs.Orders.{conflicts_in_order}
 use Rattle.plan_tree.proofs.Running.{members_all, sorted_all}
-
--- each instance stands at one place of the walk
-abbrev pub StandOnce : Program → List ℤ → Type 0
-StandOnce program params =
-    (i j : ℕ) (v w : Visit) → slice_get (walk_of program params) i ≡ Some v
-    → slice_get (walk_of program params) j ≡ Some w → v.number ≡ w.number → v.turns ≡ w.turns → i ≡ j
 
 -- x comes behind y in the walk and conflicts with it
 abbrev IsLate : Program → List ℤ → Instance → Instance → Type 0
@@ -60,16 +55,6 @@ one_visit program params once v w i j e =
         → slice_get (walk_of program params) b ≡ Some w → v ≡ w
     one a b e g h = cc
 
--- the instances of the walk are distinct
-walked_distinct : (program : Program) (params : List ℤ) → StandOnce program params
-    → AreDistinct (walked program params)
-walked_distinct program params once =
-    let Differ : Visit → Visit → Type 0 = λ v w. instance v ≢ instance w in
-    sorted_map Differ (λ (x y : Instance). x ≢ y) instance (walk_of program params) (λ v w d. d)
-    (sorted_by_places Differ (walk_of program params) (λ i j v w less a b e.
-    let same = once i j v w a b (ap (λ (x : Instance). x.number) e) (ap (λ (x : Instance). x.turns) e) in
-    absurd (omega arith)))
-
 -- instances in a plan's order are distinct, and those of the walk
 listed_distinct : (program : Program) (params : List ℤ) (plan : Tiling) (xs : List Instance)
     → StandOnce program params → AreInOrder program params plan xs → AreDistinct xs
@@ -79,11 +64,6 @@ listed_distinct program params (tiled size statements) xs once (sorted, all) =
     sorted_weaker (Precedes size statements) (λ (x y : Instance). x ≢ y) xs
     (λ x y less e. LexLess-irrefl (order_of size statements y)
     (subst (λ z. Precedes size statements z y) e less)) sorted
-
-pub listed_same : (program : Program) (params : List ℤ) (plan : Tiling) (xs : List Instance)
-    → AreInOrder program params plan xs → (x : Instance) → In x xs ↔ In x (walked program params)
-listed_same program params kept xs same x = (λ i. subst (In x) same i, λ i. subst (In x) (sym same) i)
-listed_same program params (tiled size statements) xs (sorted, all) x = all x
 
 -- of the trees' own visits none stands where it may not
 visits_may : (program : Program) (params : List ℤ) (plan : Tiling) (ts : Trees) → StandOnce program params

@@ -14,6 +14,7 @@ use Rattle.scop_syntax.specs.Members.{In, Sorted}
 use Rattle.scop_syntax.specs.Tree.{Program}
 use Rattle.scop_syntax.specs.Walk.{Instance, instance, Visit as Walked, walk_of}
 use Rattle.scop_syntax.proofs.Members.{in_map, in_map_from}
+use Rattle.scop_syntax.proofs.Statements.{one_instance}
 use Rattle.iteration_domains.specs.Instances.{IsInstanceOf}
 use Rattle.iteration_domains.specs.Model.{Modelled, model_of}
 use Rattle.loop_tree.specs.Plans.{AreInOrder, Precedes, walked}
@@ -125,11 +126,6 @@ ends (a ∷ xs) (b ∷ ys) x y e =
 
 one_number : (m n : ℕ) → pos m ≡ pos n → m ≡ n
 one_number m n e = cc
-
-one_instance : (x y : Instance) → x.number ≡ y.number → x.turns ≡ y.turns → x ≡ y
-one_instance x y e f =
-    let make : ℕ → List ℤ → Instance = λ n ts. record { number = n; turns = ts } in
-    ap₂ make e f
 
 -- a visit of a statement at the place of some turns gives these turns
 given_turns : (program : Program) (params : List ℤ) (size : ℕ) (blocks : List Block) (visits : List Visit)

@@ -1,8 +1,8 @@
 -- Runs of a tree: they visit what its walk visits, and stand in every order in which the walk stands, if iterations of
 -- its parallel loops do not mind it.
-use Rattle.std.proofs.Common.{◌≡◌, Bool, true, false, ℤ, pos, negsuc, List, [], ◌∷◌, ◌++◌, map, subst, sym}
+use Rattle.std.proofs.Common.{◌≡◌, Bool, true, false, ℤ, List, [], ◌∷◌, ◌++◌, map, subst, sym}
 use Rattle.std.proofs.Common.{refl, arith}
-use Rattle.std.specs.Prelude.{◌↔◌, ◌+ℤ◌, ◌-ℤ◌, ◌≤ℤ◌, ◌<ℤ◌, if◌then◌else◌}
+use Rattle.std.specs.Prelude.{◌↔◌, ◌-ℤ◌, if◌then◌else◌}
 use Rattle.std.proofs.lemmas.Int.{ints}
 use Rattle.scop_syntax.specs.Members.{In, Sorted}
 use Rattle.scop_syntax.specs.Walk.{Instance, most_turns}
@@ -12,6 +12,7 @@ use Rattle.loop_tree.specs.Plans.{IsFree, AreFree}
 use Rattle.loop_tree.specs.Runs.{MayRun, MayRunAll}
 use Rattle.loop_tree.specs.Tree.{Tree, loop, guard, instance, Trees, none, more}
 use Rattle.loop_tree.specs.Walk.{Visit, lower, upper, all_hold, given, through, walk, walk_all}
+use Rattle.loop_tree.proofs.Lists.{turns_reach}
 use Rattle.plan_tree.proofs.Shuffling.{along_members, along_runs, along_sorted, run_members}
 
 -- where a guard holds or not, a run is one of its body or empty
@@ -69,12 +70,6 @@ mutual
       run_members v xs ys (walk t params outer) (walk_all ts params outer) zs e (members t params outer xs a v)
       (members_all ts params outer ys b v)
 
--- the values that a loop's run reaches are its own
-within_last : (z : ℤ) (x first last : ℤ) → z ≡ last -ℤ first → first ≤ℤ x → x <ℤ (first +ℤ pos (most_turns z))
-    → x ≤ℤ last
-within_last (pos n) x first last e a b = omega (arith, ints)
-within_last (negsuc n) x first last e a b = absurd (omega (arith, ints))
-
 -- instances that do not conflict may be turned round
 abbrev Turns : (Instance → Instance → Type 0) → (Instance → Instance → Type 0) → Type 0
 Turns C R = (x y : Instance) → R x y → (C x y → ⊥) → R y x
@@ -96,13 +91,13 @@ mutual
       (most_turns (last -ℤ first)) first
       (λ x xs a b r ordered. subst (Sorted On) (sym r.2) (sorted_map On On (through flag x) r.0 (λ v w o. o)
       (sorted_all C R turned body params (outer ++ x ∷ []) r.0
-      (free.1 x (a, within_last (last -ℤ first) x first last refl a b)) r.1
+      (free.1 x (a, turns_reach (last -ℤ first) x first last refl a b)) r.1
       (sorted_unmapped On (through flag x) (Body x) ordered))))
       (λ on x y a less b v w i j ordered.
       let m = in_map_from (through flag x) v (Body x) i in
       let n = in_map_from (through flag y) w (Body y) j in
-      let ix = within_last (last -ℤ first) x first last refl a (omega (arith, ints)) in
-      let iy = within_last (last -ℤ first) y first last refl (omega (arith, ints)) b in
+      let ix = turns_reach (last -ℤ first) x first last refl a (omega (arith, ints)) in
+      let iy = turns_reach (last -ℤ first) y first last refl (omega (arith, ints)) b in
       turned (given v) (given w) ordered
       (λ c. free.0 on x y (a, ix) (omega (arith, ints), iy) less m.0 n.0 m.1 n.1
       (subst (λ u. C (given u) (given (through flag y n.0))) m.2 (subst (λ u. C (given v) (given u)) n.2 c)))) zs h s

@@ -1,14 +1,12 @@
 -- The visits of a plan's trees are instances of the walk, which code can hold.
-use Rattle.std.proofs.Common.{◌≡◌, ◌∙◌, ◌^◌, ◌<◌, ◌≤◌, ℤ, pos, negsuc, List, [], ◌∷◌, length, ap, subst, sym, arith}
-use Rattle.std.specs.Prelude.{◌≤ℤ◌, ◌<ℤ◌, All, FitsSigned}
-use Rattle.std.specs.Int.{w64}
-use Rattle.std.proofs.lemmas.Int.{ints}
-use Rattle.std.proofs.lemmas.List.Elements.{All-nil, All-cons, All-head, All-tail}
+use Rattle.std.proofs.Common.{◌≡◌, ◌∙◌, ◌^◌, ◌<◌, ◌≤◌, ℤ, pos, List, [], length, ap, subst, sym, arith}
+use Rattle.std.specs.Prelude.{◌≤ℤ◌, ◌<ℤ◌, All}
 use Rattle.scop_syntax.specs.Members.{In}
 use Rattle.scop_syntax.specs.Tree.{Program}
 use Rattle.scop_syntax.specs.Statements.{Scope, Placed, Runs, loops_in, statements_of, visit_of}
 use Rattle.scop_syntax.specs.Walk.{Instance, Visit, instance, walk_of}
 use Rattle.scop_syntax.proofs.Members.{in_map, in_map_from}
+use Rattle.scop_syntax.proofs.Limits.{turns_fit}
 use Rattle.loop_tree.specs.Conditions.{CanWalk}
 use Rattle.loop_tree.specs.Fits.{FitsAll}
 use Rattle.loop_tree.specs.Marks.{FlatAll}
@@ -16,7 +14,7 @@ use Rattle.loop_tree.specs.Plans.{AreInOrder}
 use Rattle.loop_tree.specs.Tiling.{Tiling}
 use Rattle.loop_tree.specs.Tree.{Trees}
 use Rattle.loop_tree.specs.Walk.{given, visits, walk_all}
-use Rattle.plan_tree.proofs.Ending.{listed_same}
+use Rattle.loop_tree.proofs.Visits.{listed_same}
 use Rattle.plan_tree.proofs.Orders.{walked_number}
 
 -- what the laws of the walk say of a program at its parameters
@@ -28,18 +26,6 @@ pub record WalkLaws (program : Program) (params : List ℤ) : Type 0 where
   pub few : (p : Placed) → In p (statements_of program) → loops_in p.scopes ≤ 5
   pub small : (xs : List ℤ) (p : Placed) → In p (statements_of program) → Runs p.scopes params xs
       → All (λ x. (pos 0 ≤ℤ x) × (x <ℤ pos (2 ^ 46))) xs
-
--- such turns have 64 bits
-turns_fit : (xs : List ℤ) → All (λ x. (pos 0 ≤ℤ x) × (x <ℤ pos (2 ^ 46))) xs → All (FitsSigned w64) xs
-turns_fit [] all = All-nil (FitsSigned w64)
-turns_fit (x ∷ xs) all =
-    let P : ℤ → Type 0 = λ x. (pos 0 ≤ℤ x) × (x <ℤ pos (2 ^ 46)) in
-    let h = All-head P x xs all in
-    All-cons (FitsSigned w64) x xs (turn_fits x h.0 h.1) (turns_fit xs (All-tail P x xs all))
-  where
-    turn_fits : (x : ℤ) → pos 0 ≤ℤ x → x <ℤ pos (2 ^ 46) → FitsSigned w64 x
-    turn_fits (pos n) low high = omega (arith, ints)
-    turn_fits (negsuc n) low high = absurd (omega (arith, ints))
 
 -- an instance that is visited has a statement's number, and few small turns
 pub record IsWalked (program : Program) (x : Instance) : Type 0 where

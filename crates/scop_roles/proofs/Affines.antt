@@ -6,6 +6,7 @@ use Rattle.std.proofs.lemmas.List.Elements.{All-nil, All-cons, All-append}
 use Rattle.whole_numbers.specs.Affine.{Affine, multiple_of_form}
 use Rattle.whole_numbers.specs.Lists.{sums, multiples}
 use Rattle.whole_numbers.proofs.Dot.{length-zeros, length-sums, length-multiples}
+use Rattle.whole_numbers.proofs.Sizes.{abs_sum}
 use Rattle.expression_grammar.specs.declared.token.Op.{Op}
 use Rattle.expression_grammar.specs.declared.token.Op.TheVariants as op
 use Rattle.expression_grammar.specs.declared.token.Sign.{Sign}
@@ -30,7 +31,7 @@ use Rattle.scop_roles.specs.Values.{comparison, tests, read_places}
 use Rattle.scop_roles.proofs.Judging.{unary_first, signed_is_affine}
 use Rattle.scop_roles.proofs.Firsts.{part_or_own_none}
 use Rattle.scop_roles.proofs.Sizes.{constant_affine, variable_affine, opposite_affine, within_affine, at_most-sums}
-use Rattle.scop_roles.proofs.Sizes.{abs_add, sums-nil}
+use Rattle.scop_roles.proofs.Sizes.{sums-nil}
 use Rattle.scop_roles.proofs.Parts.{judged_none, place_parts, index_value, cast_value, unary_value, signed_unary}
 use Rattle.scop_roles.proofs.Parts.{signed_binary, binary_value, shift_count, combined_plain, condition_sides}
 use Rattle.scop_roles.proofs.Parts.{comparison_sides}
@@ -235,8 +236,8 @@ difference_limits : (n : ℕ) (f g : Affine) (k : ℤ) → IsAffine n f → IsAf
     → IsForm n 32 (2 ^ 21 + 1) (difference f g k)
 difference_limits n f g k h i small =
     let o = opposite_affine n g (multiple_of_form (negsuc 0) g) refl i in
-    let a = abs_add f.constant (negsuc 0 *ℤ g.constant) in
-    let b = abs_add (f.constant +ℤ (negsuc 0 *ℤ g.constant)) k in
+    let a = abs_sum f.constant (negsuc 0 *ℤ g.constant) in
+    let b = abs_sum (f.constant +ℤ (negsuc 0 *ℤ g.constant)) k in
     let fc = h.constant in
     let gc = o.constant in
     record {

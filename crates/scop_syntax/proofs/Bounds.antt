@@ -1,5 +1,5 @@
 -- What the limits of the language give for a run of a kernel.
-use Rattle.std.proofs.Common.{◌≡◌, ℕ, zero, suc, ◌+◌, ◌*◌, ◌^◌, ◌<◌, ◌≤◌, ℤ, pos, negsuc, List, [], ◌∷◌, length, map}
+use Rattle.std.proofs.Common.{◌≡◌, ℕ, zero, suc, ◌+◌, ◌^◌, ◌<◌, ◌≤◌, ℤ, pos, negsuc, List, [], ◌∷◌, length, map}
 use Rattle.std.proofs.Common.{get_or, inl, inr, subst, sym, ◌∙◌, refl, arith, mul-le-mul, mul-one, one-mul}
 use Rattle.std.specs.Prelude.{◌≤ℤ◌, ◌<ℤ◌, All, unsigned_abs}
 use Rattle.std.proofs.lemmas.Int.{ints}
@@ -21,31 +21,11 @@ use Rattle.scop_syntax.specs.Limits.{HasParameters, WithinLimits}
 use Rattle.scop_syntax.specs.Statements.{Scope, round, under, Placed, Runs, loops_in, point_of, statements_of}
 use Rattle.scop_syntax.specs.Walk.{turn_point}
 use Rattle.scop_syntax.proofs.Members.{in_append}
-use Rattle.scop_syntax.proofs.Limits.{size, grown_more, five, point_within, value_within, turns_within}
+use Rattle.scop_syntax.proofs.Limits.{size, grown_more, five, point_within, value_within, turns_within, params_size}
 use Rattle.scop_syntax.proofs.Fits.{fits_all}
 use Rattle.scop_syntax.proofs.Statements.{found_at}
 use Rattle.scop_syntax.proofs.Kernels.{kernel_placed}
 use Rattle.scop_syntax.proofs.Numbers.{number_below}
-
--- up to four parameters within 2^16 have a size within 2^18
-size_params : (xs : List ℤ) → All (λ p. (pos 0 ≤ℤ p) × (p ≤ℤ pos 65536)) xs → size xs ≤ length xs * 65536
-size_params [] all = omega arith
-size_params (x ∷ xs) all =
-    let h = All-head (λ p. (pos 0 ≤ℤ p) × (p ≤ℤ pos 65536)) x xs all in
-    let r = size_params xs (All-tail (λ p. (pos 0 ≤ℤ p) × (p ≤ℤ pos 65536)) x xs all) in
-    let a = parameter_size x h.0 h.1 in
-    omega arith
-  where
-    parameter_size : (x : ℤ) → pos 0 ≤ℤ x → x ≤ℤ pos 65536 → unsigned_abs x ≤ 65536
-    parameter_size (pos n) low high = omega (arith, ints)
-    parameter_size (negsuc n) low high = absurd (omega (arith, ints))
-
-params_size : (program : Program) (params : List ℤ) → HasParameters program params → size params ≤ 2 ^ 18
-params_size program params w =
-    let s = size_params params w.parameters in
-    let few = w.kernel.few_parameters in
-    let count = w.count in
-    omega arith
 
 pub kernel_fits : (program : Program) (params : List ℤ) → HasParameters program params → FitsAll program.body params
 kernel_fits program params w =

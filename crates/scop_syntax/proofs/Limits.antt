@@ -1,16 +1,20 @@
 -- How large the values of forms and the iterators of instances get.
-use Rattle.std.proofs.Common.{◌≡◌, ℕ, zero, suc, ◌+◌, ◌*◌, ◌^◌, ◌<◌, ◌≤◌, ℤ, pos, negsuc, List, [], ◌∷◌, ◌++◌, length}
-use Rattle.std.proofs.Common.{inl, inr, ap, subst, sym, ◌∙◌, arith, mul-le-mul, mul-add, length-append}
-use Rattle.std.specs.Prelude.{◌+ℤ◌, ◌-ℤ◌, ◌*ℤ◌, ◌≤ℤ◌, neg_ℤ, unsigned_abs}
+use Rattle.std.proofs.Common.{◌≡◌, ℕ, zero, suc, ◌+◌, ◌*◌, ◌^◌, ◌<◌, ◌≤◌, ℤ, pos, List, [], ◌∷◌, ◌++◌, length}
+use Rattle.std.proofs.Common.{inl, inr, ap, subst, sym, ◌∙◌, arith, mul-le-mul, mul-add, length-append, get_or, negsuc}
+use Rattle.std.specs.Prelude.{◌+ℤ◌, ◌-ℤ◌, ◌*ℤ◌, ◌≤ℤ◌, neg_ℤ, unsigned_abs, All, ◌<ℤ◌, FitsSigned}
+use Rattle.std.specs.Int.{w64}
 use Rattle.std.proofs.lemmas.Int.{ints, unsigned_abs-mul}
-use Rattle.whole_numbers.specs.Lists.{dot}
+use Rattle.std.proofs.lemmas.List.Elements.{All-head, All-tail, All-nil, All-cons}
+use Rattle.whole_numbers.specs.Lists.{dot, zeros, NotNegative}
 use Rattle.whole_numbers.specs.Affine.{Affine, value_of}
 use Rattle.whole_numbers.proofs.Ring.{mul_neg_left, mul_one_left, mul_one_right, mul_zero_right, mul_distrib_left}
 use Rattle.whole_numbers.proofs.Order.{mul_le, mul_not_negative}
-use Rattle.scop_syntax.specs.Tree.{Head}
+use Rattle.whole_numbers.proofs.Sizes.{abs_low, abs_high, abs_at_most, abs_sum}
+use Rattle.scop_syntax.specs.Tree.{Head, Program}
 use Rattle.scop_syntax.specs.Walk.{turn_point, condition_at}
 use Rattle.scop_syntax.specs.Kernel.{own, AreAtMost, IsForm, IsAffine, IsHead, AreScopes}
 use Rattle.scop_syntax.specs.Statements.{Scope, round, under, loops_in, point_of, Runs}
+use Rattle.scop_syntax.specs.Limits.{HasParameters}
 use Rattle.scop_syntax.proofs.Falls.{dot_last}
 
 -- the sum of the absolute values
@@ -23,32 +27,26 @@ abbrev pub grown : ℕ → ℕ → ℕ
 grown zero s = s
 grown (suc d) s = grown d (17 * s + 2 ^ 21)
 
-pub abs_low : (z : ℤ) → neg_ℤ (pos (unsigned_abs z)) ≤ℤ z
-abs_low (pos n) = omega (arith, ints)
-abs_low (negsuc n) = omega (arith, ints)
+-- an entry of a list within k; greater bounds; zeros
+pub at_most_at : (k : ℕ) (xs : List ℤ) (i : ℕ) → AreAtMost k xs → unsigned_abs (get_or xs i (pos 0)) ≤ k
+at_most_at k [] i h = omega arith
+at_most_at k (x ∷ xs) zero h = h.0
+at_most_at k (x ∷ xs) (suc i) h = at_most_at k xs i h.1
 
-pub abs_high : (z : ℤ) → z ≤ℤ pos (unsigned_abs z)
-abs_high (pos n) = omega (arith, ints)
-abs_high (negsuc n) = omega (arith, ints)
+pub at_most_more : (k l : ℕ) (xs : List ℤ) → k ≤ l → AreAtMost k xs → AreAtMost l xs
+at_most_more k l [] m h = tt
+at_most_more k l (x ∷ xs) m h = let small = h.0 in (omega arith, at_most_more k l xs m h.1)
 
-pub abs_at_most : (z : ℤ) (n : ℕ) → neg_ℤ (pos n) ≤ℤ z → z ≤ℤ pos n → unsigned_abs z ≤ n
-abs_at_most (pos m) n low high = omega (arith, ints)
-abs_at_most (negsuc m) n low high = omega (arith, ints)
-
-abs_add : (a b : ℤ) → unsigned_abs (a +ℤ b) ≤ unsigned_abs a + unsigned_abs b
-abs_add a b =
-    let al = abs_low a in
-    let ah = abs_high a in
-    let bl = abs_low b in
-    let bh = abs_high b in
-    abs_at_most (a +ℤ b) (unsigned_abs a + unsigned_abs b) (omega (arith, ints)) (omega (arith, ints))
+pub at_most_zeros : (k n : ℕ) → AreAtMost k (zeros n)
+at_most_zeros k zero = tt
+at_most_zeros k (suc n) = (omega arith, at_most_zeros k n)
 
 -- a dot product is at most the greatest coefficient times the size
 pub dot_size : (k : ℕ) (cs xs : List ℤ) → AreAtMost k cs → unsigned_abs (dot cs xs) ≤ k * size xs
 dot_size k [] xs h = omega arith
 dot_size k (c ∷ cs) [] h = omega arith
 dot_size k (c ∷ cs) (x ∷ xs) h =
-    let a = abs_add (c *ℤ x) (dot cs xs) in
+    let a = abs_sum (c *ℤ x) (dot cs xs) in
     let m = unsigned_abs-mul c x in
     let same : unsigned_abs x ≤ unsigned_abs x = omega arith in
     let l : unsigned_abs c * unsigned_abs x ≤ k * unsigned_abs x = mul-le-mul h.0 same in
@@ -59,10 +57,14 @@ dot_size k (c ∷ cs) (x ∷ xs) h =
 pub value_size : (n k m : ℕ) (f : Affine) (xs : List ℤ) → IsForm n k m f
     → unsigned_abs (value_of f xs) ≤ k * size xs + m
 value_size n k m f xs is =
-    let a = abs_add (dot f.coefficients xs) f.constant in
+    let a = abs_sum (dot f.coefficients xs) f.constant in
     let d = dot_size k f.coefficients xs is.coefficients in
     let c = is.constant in
     omega arith
+
+pub size-joined : (xs ys : List ℤ) → size (xs ++ ys) ≡ size xs + size ys
+size-joined [] ys = omega arith
+size-joined (x ∷ xs) ys = let r = size-joined xs ys in omega arith
 
 pub size-append : (xs : List ℤ) (y : ℤ) → size (xs ++ y ∷ []) ≡ size xs + unsigned_abs y
 size-append [] y = omega arith
@@ -119,7 +121,7 @@ reached_size head point (suc k) small before =
     let f = ap (λ z. head.stride *ℤ z) e in
     let g : value_of head.first point +ℤ (head.stride *ℤ pos (suc k)) ≡
     (value_of head.first point +ℤ (head.stride *ℤ pos k)) +ℤ head.stride = omega (arith, ints) in
-    let a = abs_add (value_of head.first point +ℤ (head.stride *ℤ pos k)) head.stride in
+    let a = abs_sum (value_of head.first point +ℤ (head.stride *ℤ pos k)) head.stride in
     let s = small.stride in
     rw g (omega arith)
 
@@ -224,3 +226,42 @@ value_within n f scopes point xs small heads runs few params =
     let p = point_within scopes point xs heads runs few params in
     let v = value_size n 16 (2 ^ 20) f (point_of scopes point xs) small in
     omega arith
+
+-- up to four parameters within 2^16 have a size within 2^18
+pub size_params : (xs : List ℤ) → All (λ p. (pos 0 ≤ℤ p) × (p ≤ℤ pos 65536)) xs → size xs ≤ length xs * 65536
+size_params [] all = omega arith
+size_params (x ∷ xs) all =
+    let h = All-head (λ p. (pos 0 ≤ℤ p) × (p ≤ℤ pos 65536)) x xs all in
+    let r = size_params xs (All-tail (λ p. (pos 0 ≤ℤ p) × (p ≤ℤ pos 65536)) x xs all) in
+    let a = parameter_size x h.0 h.1 in
+    omega arith
+  where
+    parameter_size : (x : ℤ) → pos 0 ≤ℤ x → x ≤ℤ pos 65536 → unsigned_abs x ≤ 65536
+    parameter_size (pos n) low high = omega (arith, ints)
+    parameter_size (negsuc n) low high = absurd (omega (arith, ints))
+
+pub params_size : (program : Program) (params : List ℤ) → HasParameters program params → size params ≤ 2 ^ 18
+params_size program params w =
+    let s = size_params params w.parameters in
+    let few = w.kernel.few_parameters in
+    let count = w.count in
+    omega arith
+
+-- no parameter is negative
+pub params_not_negative : (xs : List ℤ) → All (λ p. (pos 0 ≤ℤ p) × (p ≤ℤ pos 65536)) xs → NotNegative xs
+params_not_negative [] all = tt
+params_not_negative (x ∷ xs) all =
+    let P : ℤ → Type 0 = λ p. (pos 0 ≤ℤ p) × (p ≤ℤ pos 65536) in
+    ((All-head P x xs all).0, params_not_negative xs (All-tail P x xs all))
+
+-- turns within 2^46 have 64 bits
+pub turns_fit : (xs : List ℤ) → All (λ x. (pos 0 ≤ℤ x) × (x <ℤ pos (2 ^ 46))) xs → All (FitsSigned w64) xs
+turns_fit [] all = All-nil (FitsSigned w64)
+turns_fit (x ∷ xs) all =
+    let P : ℤ → Type 0 = λ x. (pos 0 ≤ℤ x) × (x <ℤ pos (2 ^ 46)) in
+    let h = All-head P x xs all in
+    All-cons (FitsSigned w64) x xs (turn_fits x h.0 h.1) (turns_fit xs (All-tail P x xs all))
+  where
+    turn_fits : (x : ℤ) → pos 0 ≤ℤ x → x <ℤ pos (2 ^ 46) → FitsSigned w64 x
+    turn_fits (pos n) low high = omega (arith, ints)
+    turn_fits (negsuc n) low high = absurd (omega (arith, ints))

@@ -53,7 +53,7 @@ loop_turns condition body m falls runs =
     (λ j h. let there : j ≡ 0 + j = omega arith in subst (λ i. pos 0 ≤ℤ condition i) there (runs.holds j h))
     (let there : m ≡ 0 + m = omega arith in subst (λ i. condition i <ℤ pos 0) there runs.fails)
 
-below_most : (z : ℤ) → z <ℤ pos (most_turns z)
+pub below_most : (z : ℤ) → z <ℤ pos (most_turns z)
 below_most (pos n) = omega (arith, ints)
 below_most (negsuc n) = omega (arith, ints)
 

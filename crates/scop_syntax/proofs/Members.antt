@@ -1,6 +1,6 @@
 -- Elements of lists and of lists in order.
 use Rattle.std.proofs.Common.{◌≡◌, ℕ, zero, suc, ◌+◌, ◌<◌, Bool, true, false, ℤ, pos, negsuc, List, [], ◌∷◌, ◌++◌, map}
-use Rattle.std.proofs.Common.{Some, ◌⊎◌, inl, inr, ap, subst, sym, refl, arith}
+use Rattle.std.proofs.Common.{Some, ◌⊎◌, inl, inr, ap, subst, sym, refl, arith, length, get_or}
 use Rattle.std.specs.Prelude.{◌≤◌, ◌+ℤ◌, ◌≤ℤ◌, ◌<ℤ◌, slice_get, if◌then◌else◌}
 use Rattle.std.specs.Int.Signed.{le_z}
 use Rattle.std.proofs.lemmas.Int.{ints}
@@ -150,6 +150,16 @@ pub in_from_place : {A : Type 0} (xs : List A) (i : ℕ) (x : A) → slice_get x
 in_from_place [] i x h = absurd cc
 in_from_place (y ∷ ys) zero x h = inl cc
 in_from_place (y ∷ ys) (suc i) x h = inr (in_from_place ys i x h)
+
+pub in_at : {A : Type 0} (xs : List A) (i : ℕ) (d : A) → i < length xs → In (get_or xs i d) xs
+in_at [] i d less = absurd (omega (arith, less))
+in_at (x ∷ xs) zero d less = inl refl
+in_at (x ∷ xs) (suc i) d less = inr (in_at xs i d (omega (arith, less)))
+
+pub there_is : {A : Type 0} (xs : List A) (i : ℕ) → i < length xs → (x : A) × (slice_get xs i ≡ Some x)
+there_is [] i less = absurd (omega (arith, less))
+there_is (x ∷ xs) zero less = (x, refl)
+there_is (x ∷ xs) (suc i) less = there_is xs i (omega (arith, less))
 
 pub place_of : {A : Type 0} (xs : List A) (x : A) → In x xs → (i : ℕ) × (slice_get xs i ≡ Some x)
 place_of [] x h = absurd h

@@ -1,14 +1,15 @@
 -- The walk visits each statement at the turns at which all that stands round it holds.
 use Rattle.std.proofs.Common.{◌≡◌, ℕ, zero, suc, ◌+◌, ◌-◌, true, ℤ, pos, negsuc, List, [], ◌∷◌, ◌++◌, length, map, Some}
-use Rattle.std.proofs.Common.{inl, inr, ap, subst, sym, ◌∙◌, refl, arith, length-append}
-use Rattle.std.specs.Prelude.{⊤, ◌+ℤ◌, ◌*ℤ◌, slice_get}
+use Rattle.std.proofs.Common.{inl, inr, ap, subst, sym, ◌∙◌, refl, arith, length-append, ap₂}
+use Rattle.std.specs.Prelude.{⊤, ◌+ℤ◌, ◌*ℤ◌, slice_get, ◌≤ℤ◌, All}
 use Rattle.std.proofs.lemmas.Int.{ints}
 use Rattle.std.proofs.lemmas.List.{length-map}
+use Rattle.std.proofs.lemmas.List.Elements.{All-nil, All-cons}
 use Rattle.whole_numbers.specs.Affine.{value_of}
 use Rattle.scop_syntax.specs.Tree.{Test, at_least, equal, Head, Tree, loop, guard, statement, Trees, none, more}
 use Rattle.scop_syntax.specs.Members.{In}
 use Rattle.scop_syntax.specs.Walk.{holds, all_hold, turn_point, condition_at, most_turns, statements_in}
-use Rattle.scop_syntax.specs.Walk.{statements_in_all, Visit, within, walk, walk_all}
+use Rattle.scop_syntax.specs.Walk.{statements_in_all, Visit, within, walk, walk_all, Instance}
 use Rattle.scop_syntax.specs.Kernel.{IsHead, IsTree, AreTrees}
 use Rattle.scop_syntax.specs.Statements.{Scope, round, under, Placed, in_loop_of, in_guard_of, placed, placed_all}
 use Rattle.scop_syntax.specs.Statements.{loops_in, Holds, AllHold, Runs, visit_of}
@@ -238,3 +239,18 @@ found_at ts n point v h = found_all ts n point v h
 pub ruleset instance_laws = (found_at, runs_length)
 
 pub ruleset statement_laws = (placed_number, same_statement, loops_named)
+
+-- no turn is negative
+pub runs_not_negative : (scopes : List Scope) (point xs : List ℤ) → Runs scopes point xs → All (λ x. pos 0 ≤ℤ x) xs
+runs_not_negative [] point [] h = All-nil (λ x. pos 0 ≤ℤ x)
+runs_not_negative [] point (x ∷ xs) h = absurd h
+runs_not_negative (under tests ∷ scopes) point xs h = runs_not_negative scopes point xs h.1
+runs_not_negative (round head ∷ scopes) point [] h = absurd h
+runs_not_negative (round head ∷ scopes) point (x ∷ xs) h =
+    All-cons (λ x. pos 0 ≤ℤ x) x xs h.0 (runs_not_negative scopes _ xs h.2)
+
+-- instances of one number and the same turns are one
+pub one_instance : (x y : Instance) → x.number ≡ y.number → x.turns ≡ y.turns → x ≡ y
+one_instance x y e f =
+    let make : ℕ → List ℤ → Instance = λ n ts. record { number = n; turns = ts } in
+    ap₂ make e f

@@ -11,6 +11,7 @@ use Rattle.plain_scan.specs.declared.set_outline.Outline.{Outline}
 use Rattle.plain_scan.specs.Hulls.{sets_in}
 use Rattle.plain_scan.specs.Outlines.{AreRows, AreShadows, IsShadowOf}
 use Rattle.plain_scan.proofs.Bounding.{take_next}
+use Rattle.plain_scan.proofs.Whole.{sets_more}
 use Rattle.split_scan.specs.Copies.{AreCopies, IsCopy, one_if}
 use Rattle.split_scan.specs.Parts.{staying}
 
@@ -62,10 +63,6 @@ copied_shadows s xs ys copies are = record {
 }
 
 -- the sets of outlines one by one
-pub sets_more : (os : List Outline) (o : Outline) → sets_in (os ++ o ∷ []) ≡ sets_in os ++ o.set.now ∷ []
-sets_more [] o = refl
-sets_more (p ∷ os) o = ap (λ (ss : List Scanned). p.set.now ∷ ss) (sets_more os o)
-
 pub sets_count : (os : List Outline) → length (sets_in os) ≡ length os
 sets_count [] = refl
 sets_count (o ∷ os) = ap suc (sets_count os)

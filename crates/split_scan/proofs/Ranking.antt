@@ -24,13 +24,9 @@ use Rattle.split_scan.specs.steps.Picking.{IsPicking}
 use Rattle.split_scan.proofs.Parting.{in_part_append}
 use Rattle.split_scan.specs.Ordering.{AreBelow, AreEnoughParts, AreParts, IsBelowAll, Rise, difference, turned}
 use Rattle.split_scan.specs.declared.part.Part.{Part}
-use Rattle.split_scan.proofs.Values.{one_point, one_size, opened_hold, opened_sized}
+use Rattle.split_scan.proofs.Values.{one_point, one_size, opened_hold, opened_sized, entry_there}
 
 -- x - y
-entry_there : (outer : List ℤ) (x : ℤ) (rest : List ℤ) → get_or (outer ++ x ∷ rest) (length outer) (pos 0) ≡ x
-entry_there [] x rest = refl
-entry_there (z ∷ outer) x rest = entry_there outer x rest
-
 entry_behind : (outer : List ℤ) (x y : ℤ) (rest : List ℤ)
     → get_or (outer ++ x ∷ y ∷ rest) (suc (length outer)) (pos 0) ≡ y
 entry_behind [] x y rest = refl

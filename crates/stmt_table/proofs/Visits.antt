@@ -1,5 +1,5 @@
 -- The row of a visit's statement, and what it tells at the visit.
-use Rattle.std.proofs.Common.{◌≡◌, ◌∙◌, ap, sym, refl, ℕ, zero, suc, ◌<◌, ◌^◌, ◌%◌, List, [], ◌∷◌, length}
+use Rattle.std.proofs.Common.{◌≡◌, ◌∙◌, ap, sym, ℕ, ◌<◌, ◌^◌, ◌%◌, List, [], length}
 use Rattle.std.proofs.Common.{get_or, Some, arith}
 use Rattle.std.specs.Prelude.{ℤ, slice_get}
 use Rattle.std.specs.Option.{option_map}
@@ -14,7 +14,7 @@ use Rattle.scop_syntax.specs.Values.{stored_by, wrapped}
 use Rattle.scop_syntax.specs.View.{instance_of, right_of}
 use Rattle.scop_syntax.specs.Walk.{Instance, Visit, walk_of}
 use Rattle.scop_syntax.specs.declared.instance.Instance.{Instance as CodeInstance}
-use Rattle.scop_syntax.proofs.Members.{place_of}
+use Rattle.scop_syntax.proofs.Members.{place_of, there_is}
 use Rattle.scop_meaning.specs.Instances.{IsVisitOf, values_wanted}
 use Rattle.standings.specs.Standings.{Standing, heads_in, standing, standings_of}
 use Rattle.standings.proofs.Heads.{as_many_heads}
@@ -46,11 +46,6 @@ pub record HasRow (program : Program) (params : List ℤ) (table : Table) (i : C
   pub turns : (instance_of i).turns ≡ v.turns
   pub many : length v.turns ≡ length own.heads
   pub point : point_in own.heads params v.turns ≡ v.point
-
-there_is : {A : Type 0} (xs : List A) (k : ℕ) → k < length xs → (x : A) × (slice_get xs k ≡ Some x)
-there_is [] k less = absurd (omega (arith, less))
-there_is (x ∷ xs) zero less = (x, refl)
-there_is (x ∷ xs) (suc k) less = there_is xs k (omega (arith, less))
 
 pub row_of : WalkLaws → (program : Program) (params : List ℤ) (table : Table) (i : CodeInstance) (v : Visit)
     → IsTableOf program params table → IsVisitOf program params (instance_of i) v

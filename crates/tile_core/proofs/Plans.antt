@@ -11,7 +11,8 @@ use Rattle.scop_syntax.specs.Members.{In}
 use Rattle.scop_syntax.specs.Tree.{Program}
 use Rattle.scop_syntax.specs.View.{instance_of}
 use Rattle.scop_syntax.specs.Walk.{Instance, Visit, instance}
-use Rattle.scop_syntax.proofs.Members.{in_from_place, in_map_from}
+use Rattle.scop_syntax.proofs.Members.{in_from_place, in_map_from, there_is}
+use Rattle.conflict_orders.proofs.Sorting.{StandOnce, walked_distinct}
 use Rattle.tile_list.specs.TilesView.{firsts_of, waves_of}
 use Rattle.tile_list.specs.declared.list.Tile.{Tile}
 use Rattle.tile_events.specs.Deal.{Deal, IsScan, dealt}
@@ -23,8 +24,8 @@ use Rattle.tile_core.specs.Plans.{walk_in}
 use Rattle.tile_core.specs.Ranks.{start_at}
 use Rattle.tile_core.specs.declared.plan.Plan.{Plan}
 use Rattle.tile_core.proofs.Cuts.{IsCut, IsInTile, TileLaws, cut_is}
-use Rattle.tile_core.proofs.Scans.{StandOnce, as_many, instance_at, place_back, place_within, rank_back, rank_there}
-use Rattle.tile_core.proofs.Scans.{rank_within, there_is, tiles_in_order, walked_distinct}
+use Rattle.tile_core.proofs.Scans.{as_many, instance_at, place_back, place_within, rank_back, rank_there}
+use Rattle.tile_core.proofs.Scans.{rank_within, tiles_in_order}
 
 -- sizes of tiles that are those of parts
 pub sizes_agree : (tiles : List Tile) (parts : List (List Instance)) → length tiles ≡ length parts

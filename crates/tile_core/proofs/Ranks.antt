@@ -11,13 +11,11 @@ use Rattle.std.proofs.lemmas.Slice.Eq.{slice_eq-Decides}
 use Rattle.scop_syntax.specs.Members.{In}
 use Rattle.scop_syntax.specs.Walk.{Instance}
 use Rattle.scop_syntax.proofs.Members.{in_from_place}
+use Rattle.scop_syntax.proofs.Statements.{one_instance}
 use Rattle.conflict_orders.specs.Orders.{AreDistinct}
 use Rattle.conflict_orders.proofs.Sorting.{distinct_places}
 use Rattle.conflict_orders.proofs.Standing.{in_less, parted}
 use Rattle.tile_core.specs.Ranks.{is_same, place_in}
-
-joined : (x y : Instance) → x.number ≡ y.number → x.turns ≡ y.turns → x ≡ y
-joined x y e f = ap₂ (λ n ts. record { number = n; turns = ts }) e f
 
 both_true : (a b : Bool) → a && b ≡ true → (a ≡ true) × (b ≡ true)
 both_true true true h = (refl, refl)
@@ -30,7 +28,7 @@ same_is x y h =
     let d = Decides-eqb x.number y.number in
     let e = slice_eq-Decides Decides-int_eq x.turns y.turns (pointwise int_eq x.turns y.turns) refl in
     let p = both_true (nat_eq x.number y.number) (pointwise int_eq x.turns y.turns) h in
-    joined x y (d.0 p.0) (e.0 p.1)
+    one_instance x y (d.0 p.0) (e.0 p.1)
 
 same_one : (x : Instance) → is_same x x ≡ true
 same_one x =

@@ -1,8 +1,7 @@
 -- A plan's scan: the walked instances, each once, in an order in which conflicting places stand by tile and wave.
-use Rattle.std.proofs.Common.{◌≡◌, ℕ, zero, suc, ◌<◌, ℤ, List, [], ◌∷◌, length, Some, ◌⊎◌, inl, inr, ap, subst, sym}
-use Rattle.std.proofs.Common.{refl}
+use Rattle.std.proofs.Common.{◌≡◌, ℕ, suc, ◌<◌, ℤ, List, length, Some, ◌⊎◌, inl, inr, ap, subst, sym}
 use Rattle.std.proofs.Common.{◌∙◌, arith}
-use Rattle.std.specs.Prelude.{slice_get, ◌↔◌, ◌≢◌}
+use Rattle.std.specs.Prelude.{slice_get, ◌≢◌}
 use Rattle.std.specs.Option.{option_map}
 use Rattle.std.proofs.lemmas.List.{length-map}
 use Rattle.std.proofs.lemmas.Option.{slice_get-map, slice_get_within}
@@ -11,33 +10,18 @@ use Rattle.whole_numbers.proofs.Lexicographic.{LexLess-asym, LexLess-irrefl}
 use Rattle.scop_syntax.specs.Members.{In}
 use Rattle.scop_syntax.specs.Tree.{Program}
 use Rattle.scop_syntax.specs.Walk.{Instance, instance, Visit, walk_of}
-use Rattle.scop_syntax.proofs.Members.{in_from_place, nat_cases, sorted_map, sorted_places}
+use Rattle.scop_syntax.proofs.Members.{in_from_place, nat_cases, sorted_places, there_is}
 use Rattle.conflict_orders.specs.Orders.{AreDistinct}
-use Rattle.conflict_orders.proofs.Sorting.{sorted_by_places, sorted_weaker}
+use Rattle.conflict_orders.proofs.Sorting.{sorted_weaker, StandOnce, walked_distinct}
 use Rattle.loop_tree.specs.Plans.{AreInOrder, Precedes, walked}
 use Rattle.loop_tree.specs.Tiling.{IsInOrder, StandsBefore, Tiling, kept, tiled, order_of, tile_of, wave_of}
+use Rattle.loop_tree.proofs.Visits.{listed_same}
 use Rattle.tile_list.specs.Tiles.{TileBefore}
 use Rattle.tile_core.specs.Ranks.{rank_in}
 use Rattle.tile_core.proofs.Cuts.{IsCut, IsInTile, starts_rise}
 use Rattle.tile_core.proofs.Ranks.{distinct_le, place_is, placed}
 
--- each instance stands at one place of the walk
-abbrev pub StandOnce : Program → List ℤ → Type 0
-StandOnce program params =
-    (i j : ℕ) (v w : Visit) → slice_get (walk_of program params) i ≡ Some v
-    → slice_get (walk_of program params) j ≡ Some w → v.number ≡ w.number → v.turns ≡ w.turns → i ≡ j
-
--- the instances of the walk are distinct
-pub walked_distinct : (program : Program) (params : List ℤ) → StandOnce program params
-    → AreDistinct (walked program params)
-walked_distinct program params once =
-    let Differ : Visit → Visit → Type 0 = λ v w. instance v ≢ instance w in
-    sorted_map Differ (λ (x y : Instance). x ≢ y) instance (walk_of program params) (λ v w d. d)
-    (sorted_by_places Differ (walk_of program params) (λ i j v w less a b e.
-    let same = once i j v w a b (ap (λ (x : Instance). x.number) e) (ap (λ (x : Instance). x.turns) e) in
-    absurd (omega (arith, same, less))))
-
--- so are instances in a plan's order
+-- instances in a plan's order are distinct
 scan_distinct : (program : Program) (params : List ℤ) (tiling : Tiling) (xs : List Instance) → StandOnce program params
     → AreInOrder program params tiling xs → AreDistinct xs
 scan_distinct program params kept xs once same =
@@ -46,11 +30,6 @@ scan_distinct program params (tiled size statements) xs once (sorted, all) =
     sorted_weaker (Precedes size statements) (λ (x y : Instance). x ≢ y) xs
     (λ x y less e. LexLess-irrefl (order_of size statements y)
     (subst (λ z. Precedes size statements z y) e less)) sorted
-
-pub scan_same : (program : Program) (params : List ℤ) (tiling : Tiling) (xs : List Instance)
-    → AreInOrder program params tiling xs → (x : Instance) → In x xs ↔ In x (walked program params)
-scan_same program params kept xs same x = (λ i. subst (In x) same i, λ i. subst (In x) (sym same) i)
-scan_same program params (tiled size statements) xs (sorted, all) x = all x
 
 -- what stands before another in the plan's order has the lower rank
 ranks_in_order : (program : Program) (params : List ℤ) (tiling : Tiling) (xs : List Instance) (i j r s : ℕ)
@@ -125,11 +104,6 @@ back : (us vs : List Instance) → AreDistinct us → ((x : Instance) → In x u
     → slice_get us j ≡ Some x → rank_in us (slice_get vs (rank_in vs (slice_get us j))) ≡ j
 back us vs distinct all j x at = ap (rank_in us) (there us vs all j x at) ∙ place_is us j x distinct at
 
-pub there_is : {A : Type 0} (xs : List A) (i : ℕ) → i < length xs → (x : A) × (slice_get xs i ≡ Some x)
-there_is [] i l = absurd (omega (arith, l))
-there_is (x ∷ xs) zero l = (x, refl)
-there_is (x ∷ xs) (suc i) l = there_is xs i (omega (arith, l))
-
 -- the ranks of the walk's instances in the scan, and their places
 module _ (program : Program) (params : List ℤ) (tiling : Tiling) (xs : List Instance) (once : StandOnce program params)
     (order : AreInOrder program params tiling xs) where
@@ -137,10 +111,10 @@ module _ (program : Program) (params : List ℤ) (tiling : Tiling) (xs : List In
   ws = walked program params
 
   to_scan : (x : Instance) → In x ws → In x xs
-  to_scan x i = (scan_same program params tiling xs order x).1 i
+  to_scan x i = (listed_same program params tiling xs order x).1 i
 
   to_walk : (x : Instance) → In x xs → In x ws
-  to_walk x i = (scan_same program params tiling xs order x).0 i
+  to_walk x i = (listed_same program params tiling xs order x).0 i
 
   pub as_many : length xs ≡ length (walk_of program params)
   as_many =

@@ -8,13 +8,14 @@ use Rattle.std.proofs.lemmas.Option.{slice_get_within}
 use Rattle.scop_syntax.specs.View.{instance_of}
 use Rattle.scop_syntax.specs.Walk.{Instance}
 use Rattle.scop_syntax.specs.declared.instance.Instance.{Instance as CodeInstance}
-use Rattle.scop_syntax.proofs.Members.{in_from_place}
+use Rattle.scop_syntax.proofs.Members.{in_from_place, there_is}
 use Rattle.loop_tree.specs.Spot.{IsAt, Mark}
 use Rattle.loop_tree.specs.SpotView.{IsSpotOf, found_in, mark_of, marks_in, to_come}
 use Rattle.loop_tree.specs.Spot.{rest_of}
 use Rattle.loop_tree.specs.Tree.{Trees}
 use Rattle.loop_tree.specs.View.{trees_in}
 use Rattle.loop_tree.specs.declared.spot.Spot.{Spot}
+use Rattle.loop_tree.proofs.Visits.{listed_same}
 use Rattle.tile_list.specs.Tiles.{start_of}
 use Rattle.tile_list.specs.declared.list.Tile.{Tile}
 use Rattle.tile_events.specs.Deal.{IsScan}
@@ -28,7 +29,6 @@ use Rattle.tile_core.specs.declared.worker.Stage.TheVariants.{Idle, Working}
 use Rattle.tile_core.specs.declared.worker.Worker.{Worker}
 use Rattle.tile_core.proofs.Cuts.{PartsStand, starts_rise, sum_start}
 use Rattle.tile_core.proofs.Plans.{sizes_agree}
-use Rattle.tile_core.proofs.Scans.{scan_same, there_is}
 
 -- a worker that holds no tile
 pub idle_is : (plan : Plan) (w : Worker) → w.stage ≡ Idle → IsSpotOf (trees_in plan.tree.now) plan.params.now w.spot
@@ -149,7 +149,7 @@ due_is plan stage t k None spot is scan many works less left n =
     differ y o e f = cc
 due_is plan stage t k (Some i) spot is scan many works less left n =
     let tiling = is.tiling in
-    let same = scan_same (program_in plan) plan.params.now tiling (scan_in plan) is.order (instance_of i) in record {
+    let same = listed_same (program_in plan) plan.params.now tiling (scan_in plan) is.order (instance_of i) in record {
       tile = t;
       count = k;
       works = works;

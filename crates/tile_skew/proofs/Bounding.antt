@@ -9,12 +9,12 @@ use Rattle.whole_numbers.specs.Lists.{dot, zeros}
 use Rattle.whole_numbers.proofs.Dot.{dot-zeros}
 use Rattle.whole_numbers.proofs.Order.{le_or_lt, mul_le, mul_le_left, mul_le_turned}
 use Rattle.whole_numbers.proofs.Ring.{mul_comm_int, mul_one_left, mul_one_right, mul_zero_left}
+use Rattle.whole_numbers.proofs.Sizes.{abs_low, abs_high, abs_at_most}
 use Rattle.null_space.specs.Sizes.{IsWithin, AreWithin}
 use Rattle.null_space.proofs.Within.{within_add, within_mul, are_within_more}
 use Rattle.fractions.specs.Fractions.{value_over, HoldsOver}
 use Rattle.fractions.proofs.Over.{value_over-sum, value_over-multiple}
 use Rattle.fm_projection.specs.Alone.{AreInRangeOver, IsBounded}
-use Rattle.scop_syntax.proofs.Limits.{abs_low, abs_high, abs_at_most}
 use Rattle.iteration_domains.specs.Model.{Modelled}
 use Rattle.iteration_domains.specs.Sizes.{size, form_size}
 use Rattle.loop_tree.specs.Tiling.{TileRow, Item, row, scalar, Items}
@@ -28,7 +28,7 @@ use Rattle.tile_skew.proofs.Valued.{segment}
 use Rattle.tile_skew.proofs.Points.{Parts, Tells, at_tiles, domain_from, front_size, point, point_size, tells}
 use Rattle.tile_skew.proofs.Points.{wave_forms}
 use Rattle.tile_skew.proofs.Widths.{length-carried, size-carried}
-use Rattle.tile_skew.proofs.Instances.{behind_point, parted}
+use Rattle.tile_skew.proofs.Instances.{parted}
 
 -- the values over d, times d
 fraction_values : (l : Layout) (d : ℤ) (x : List ℤ) → AreValues l d x (λ f. value_over f d x)
@@ -274,7 +274,7 @@ set_bounded l z m s bounds front turns parameters few modest near d xs ps positi
     let b = 2 ^ 46 * unsigned_abs d in
     let x = point p.hs p.bs p.cs p.ts p.zs ps in
     let fs = p.hs ++ (p.bs ++ p.cs) in
-    let place : xs ++ ps ≡ x = ap (λ (ys : List ℤ). ys ++ ps) p.whole ∙ behind_point fs p.ts p.zs ps in
+    let place : xs ++ ps ≡ x = ap (λ (ys : List ℤ). ys ++ ps) p.whole ∙ at_tiles fs p.ts p.zs ps in
     let there = subst (HoldsOver (points_of l z m s).equalities (points_of l z m s).rows d) place holds in
     let V = value_at d x in
     let W = value_at d (p.ts ++ ps) in

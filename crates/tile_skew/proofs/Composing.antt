@@ -8,6 +8,7 @@ use Rattle.whole_numbers.specs.Lists.{dot, zeros}
 use Rattle.whole_numbers.specs.Affine.{Affine, form_of, sum_of_forms, multiple_of_form, plus_combination, composed}
 use Rattle.whole_numbers.proofs.Ring.{mul_zero_left}
 use Rattle.whole_numbers.proofs.Dot.{dot-unit, dot-zeros}
+use Rattle.whole_numbers.proofs.Sizes.{abs_sum}
 use Rattle.fractions.specs.Fractions.{value_over}
 use Rattle.fractions.proofs.Over.{value_over-sum, value_over-multiple}
 use Rattle.scop_syntax.specs.Tree.{Head}
@@ -15,7 +16,6 @@ use Rattle.scop_syntax.specs.Kernel.{IsForm}
 use Rattle.scop_syntax.proofs.Limits.{size, dot_size}
 use Rattle.iteration_domains.specs.Rows.{variable, variables, iterator, within_loop}
 use Rattle.iteration_domains.proofs.RowLaws.{GoesOn}
-use Rattle.iteration_domains.proofs.Sizes.{abs_sum}
 
 -- d times the values of forms at the point numerators / d, in order
 abbrev pub values_over : List Affine → ℤ → List ℤ → List ℤ

@@ -9,6 +9,7 @@ use Rattle.std.proofs.lemmas.List.Elements.{All-nil, All-cons, All-head, All-tai
 use Rattle.whole_numbers.specs.Affine.{Affine, composed}
 use Rattle.whole_numbers.proofs.Ring.{mul_neg_left, mul_one_left}
 use Rattle.whole_numbers.proofs.Order.{mul_le}
+use Rattle.whole_numbers.proofs.Sizes.{abs_low, abs_high, abs_at_most}
 use Rattle.fractions.specs.Fractions.{value_over, HoldsOver}
 use Rattle.fractions.proofs.Chosen.{All-back}
 use Rattle.fm_projection.specs.Alone.{AreInRangeOver}
@@ -18,7 +19,7 @@ use Rattle.scop_syntax.specs.Kernel.{own, IsHead, IsKernel, AreScopes}
 use Rattle.scop_syntax.specs.Statements.{Scope, round, under, Placed, loops_in}
 use Rattle.scop_syntax.proofs.Falls.{dot_last}
 use Rattle.scop_syntax.proofs.Kernels.{kernel_placed}
-use Rattle.scop_syntax.proofs.Limits.{size, grown, abs_low, abs_high, abs_at_most, size-append, grown_up}
+use Rattle.scop_syntax.proofs.Limits.{size, grown, size-append, grown_up}
 use Rattle.scop_syntax.proofs.Limits.{five}
 use Rattle.iteration_domains.specs.Rows.{variable, composed_test, iterator, within_loop, rows_from, rows_of}
 use Rattle.iteration_domains.specs.Rows.{variables_of_statement, parameter_forms}

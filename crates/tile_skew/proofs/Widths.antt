@@ -9,8 +9,8 @@ use Rattle.std.proofs.lemmas.List.Elements.{All-head, All-tail}
 use Rattle.whole_numbers.specs.Affine.{Affine, sum_of_forms, multiple_of_form}
 use Rattle.whole_numbers.specs.Lists.{zeros, multiples}
 use Rattle.whole_numbers.proofs.Dot.{length-zeros, length-sums, length-multiples}
+use Rattle.whole_numbers.proofs.Sizes.{abs_at_most}
 use Rattle.affine_forms.specs.Parts.{variables_of}
-use Rattle.scop_syntax.proofs.Limits.{abs_at_most}
 use Rattle.iteration_domains.specs.Sizes.{size, form_size}
 use Rattle.iteration_domains.specs.Rows.{variable}
 use Rattle.iteration_domains.proofs.Entering.{length-variable}

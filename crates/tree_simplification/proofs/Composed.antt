@@ -9,7 +9,7 @@ use Rattle.whole_numbers.specs.Floor.{floor, ceiling}
 use Rattle.std.specs.Int.Signed.{le_z}
 use Rattle.whole_numbers.proofs.Values.{value_of-composed}
 use Rattle.scop_syntax.specs.Kernel.{AreAtMost}
-use Rattle.scop_syntax.proofs.Limits.{size}
+use Rattle.scop_syntax.proofs.Limits.{size, size-joined}
 use Rattle.iteration_domains.specs.Rows.{variables}
 use Rattle.iteration_domains.proofs.Entering.{length-composed, sized-variables}
 use Rattle.iteration_domains.proofs.RowLaws.{GoesOn, values-variables, goes_on_last}
@@ -104,13 +104,9 @@ bounds_flat n forms (only b) h = h
 bounds_flat n forms (besides b bs) h = (h.0, bounds_flat n forms bs h.1)
 
 -- few small values make a point that is not too large
-size_joined : (xs ys : List ℤ) → size (xs ++ ys) ≡ size xs + size ys
-size_joined [] ys = omega arith
-size_joined (x ∷ xs) ys = let r = size_joined xs ys in omega arith
-
 pub near_size : (d : ℕ) (params outer : List ℤ) → AreNear d params outer → size (outer ++ params) ≤ 2 ^ 80
 near_size d params outer near =
-    let j = size_joined outer params in
+    let j = size-joined outer params in
     let a = entries_size (2 ^ 40) outer near.small_values in
     let b = entries_size (2 ^ 16) params near.small_parameters in
     let few_loops = near.few_loops in

@@ -9,12 +9,12 @@ use Rattle.whole_numbers.specs.Affine.{Affine, value_of, values_of, composed}
 use Rattle.whole_numbers.specs.Floor.{floor, ceiling}
 use Rattle.whole_numbers.proofs.Floors.{floor_is, floor_unique, ceiling_is, ceiling_unique}
 use Rattle.whole_numbers.proofs.Ring.{mul_one_right}
+use Rattle.whole_numbers.proofs.Sizes.{abs_at_most}
 use Rattle.fm_projection.specs.Alone.{AreInRange}
 use Rattle.scop_syntax.specs.Kernel.{AreAtMost}
 use Rattle.scop_syntax.specs.Members.{In}
 use Rattle.scop_syntax.specs.Tree.{Program}
 use Rattle.scop_syntax.specs.Walk.{most_turns, Instance}
-use Rattle.scop_syntax.proofs.Limits.{abs_at_most}
 use Rattle.scop_syntax.proofs.Members.{in_map, in_map_from}
 use Rattle.loop_tree.specs.Fits.{FitsAll}
 use Rattle.loop_tree.specs.Marks.{AreTests, Flat, FlatAll}

@@ -11,5 +11,4 @@ pub mod Shapes
 pub mod Walks
 pub mod Trees
 pub mod Trimmed
-pub mod Larger
 pub mod Together

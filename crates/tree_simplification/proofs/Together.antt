@@ -1,10 +1,10 @@
 -- Both steps together, and the first alone.
 use Rattle.std.proofs.Common.{◌∙◌, ◌^◌, ℕ, map, ap, arith}
 use Rattle.loop_tree.specs.Tree.{Trees}
+use Rattle.loop_tree.proofs.Larger.{trees_more}
 use Rattle.tree_simplification.specs.Simplified.{shown, Simplifies}
 use Rattle.tree_simplification.specs.steps.Inlined.{IsInlined}
 use Rattle.tree_simplification.specs.steps.Trimmed.{IsTrimmed}
-use Rattle.tree_simplification.proofs.Larger.{trees_more}
 
 -- trees that are trimmed, and then inlined
 pub both : (parameters : ℕ) (old mid new : Trees) → IsTrimmed parameters old mid → IsInlined parameters mid new

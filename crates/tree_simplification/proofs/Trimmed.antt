@@ -2,15 +2,14 @@
 use Rattle.std.proofs.Common.{◌≡◌, ℕ, ◌+◌, ◌*◌, ◌^◌, ◌<◌, ◌≤◌, inl, inr, ℤ, pos, List, [], ◌∷◌, ◌++◌, length, subst}
 use Rattle.std.proofs.Common.{sym, refl}
 use Rattle.std.proofs.Common.{arith}
-use Rattle.std.specs.Prelude.{Bool, true, false, unsigned_abs, ⊤, ◌-ℤ◌, ◌*ℤ◌, ◌≤ℤ◌}
-use Rattle.std.proofs.lemmas.Int.{ints}
-use Rattle.std.proofs.lemmas.List.Elements.{All-head, All-nil, All-tail}
+use Rattle.std.specs.Prelude.{Bool, true, false, ⊤, ◌-ℤ◌, ◌*ℤ◌, ◌≤ℤ◌}
+use Rattle.std.proofs.lemmas.List.Elements.{All-nil}
 use Rattle.whole_numbers.specs.Affine.{Affine, value_of}
 use Rattle.affine_forms.specs.Parts.{variables_of}
 use Rattle.fm_projection.specs.Alone.{AreInRange}
 use Rattle.scop_syntax.specs.Members.{In}
 use Rattle.scop_syntax.specs.Walk.{Instance}
-use Rattle.scop_syntax.proofs.Limits.{abs_at_most, size}
+use Rattle.scop_syntax.proofs.Limits.{size_params}
 use Rattle.loop_tree.specs.Fits.{AreSmallTrees}
 use Rattle.loop_tree.specs.Marks.{AreBounds, FlatAll}
 use Rattle.loop_tree.specs.Plans.{Conflict}
@@ -69,19 +68,6 @@ trims_both c lo up low high flat_lo flat_up f g =
           );
     }
 
--- parameters in range are small
-size_in_range : (params : List ℤ) → AreInRange params → size params ≤ length params * 65536
-size_in_range [] h = omega arith
-size_in_range (x ∷ xs) h =
-    let P : ℤ → Type 0 = λ p. (pos 0 ≤ℤ p) × (p ≤ℤ pos 65536) in
-    let here = All-head P x xs h in
-    let r = size_in_range xs (All-tail P x xs h) in
-    let a = within x here.0 here.1 in
-    omega (arith, r, a)
-  where
-    within : (z : ℤ) → pos 0 ≤ℤ z → z ≤ℤ pos 65536 → unsigned_abs z ≤ 65536
-    within z low high = abs_at_most z 65536 (omega (arith, ints, low)) high
-
 -- at no loop only parameters are known
 meets_outside : (parameters : ℕ) (params : List ℤ) → length params ≡ parameters → AreInRange params
     → Meets (outside parameters) params []
@@ -105,7 +91,7 @@ trimmed_is parameters old new few flat over numbers d less small trims =
       walk = λ params e range. (agrees (λ x y. ⊤) params e range).visits;
       free = λ program params e range. (agrees (Conflict program params) params e range).free;
       fits = λ params e range.
-          let s = size_in_range params range in
+          let s = size_params params range in
           (agrees (λ x y. ⊤) params e range).fits
           (small_fits_all d old params [] small (omega (arith, s, e, few, less)));
       within = λ params e range. (agrees (λ x y. ⊤) params e range).stays (2 ^ 40)

@@ -9,10 +9,10 @@ use Rattle.whole_numbers.specs.Affine.{value_of}
 use Rattle.whole_numbers.specs.Lists.{dot}
 use Rattle.whole_numbers.proofs.Order.{le_or_lt}
 use Rattle.whole_numbers.proofs.Ring.{mul_one_left, mul_one_right, mul_zero_left}
+use Rattle.whole_numbers.proofs.Sizes.{abs_at_most, abs_high, abs_low}
 use Rattle.affine_forms.specs.Parts.{variables_of}
 use Rattle.scop_syntax.specs.Members.{In}
 use Rattle.scop_syntax.specs.Walk.{Instance, most_turns}
-use Rattle.scop_syntax.proofs.Limits.{abs_at_most, abs_high, abs_low}
 use Rattle.loop_tree.specs.Fits.{AreSmallTrees, AreZeros, BoundsFit, FitsAll, FormFits, HasNumber, IsNumber}
 use Rattle.loop_tree.specs.Fits.{IsSmallTree, TestsFit, form_in}
 use Rattle.loop_tree.specs.Marks.{AreBounds, FlatAll}
@@ -21,6 +21,7 @@ use Rattle.loop_tree.specs.Scans.{Within}
 use Rattle.loop_tree.specs.Shape.{BoundsAreOver, TreeIsOver, TreesAreOver}
 use Rattle.loop_tree.specs.Tree.{Bound, Bounds, only, besides, Test, Tree, loop, guard, instance, Trees, none, more}
 use Rattle.loop_tree.specs.Walk.{Visit, all_hold, along, between, lower, upper, through, walk, walk_all}
+use Rattle.loop_tree.proofs.Lists.{between_none}
 use Rattle.tree_simplification.specs.Simplified.{StayWithin, StaysWithin}
 use Rattle.tree_simplification.specs.steps.Context.{ArePartsOver, Context, IsSizedContext, Meets, OnSide, entered}
 use Rattle.tree_simplification.specs.steps.Context.{parts}
@@ -46,13 +47,6 @@ between_same f g first last h = turns (last -ℤ first) refl
   where
     turns : (z : ℤ) → z ≡ last -ℤ first → along f first (most_turns z) ≡ along g first (most_turns z)
     turns (pos n) e = along_same f g (suc n) first (λ x a b. h x a (omega (arith, ints, e)))
-    turns (negsuc n) e = refl
-
-between_none : {A : Type 0} (f : ℤ → List A) (first last : ℤ) → last <ℤ first → between f first last ≡ []
-between_none f first last h = turns (last -ℤ first) refl
-  where
-    turns : (z : ℤ) → z ≡ last -ℤ first → along f first (most_turns z) ≡ []
-    turns (pos n) e = absurd (omega (arith, ints, e))
     turns (negsuc n) e = refl
 
 -- two ranges of the same values

@@ -7,6 +7,7 @@ pub mod Contents
 pub mod Lowest
 pub mod Remainders
 pub mod Fits
+pub mod Sizes
 pub mod Dot
 pub mod Lists
 pub mod Values

@@ -7,12 +7,13 @@ use Rattle.plain_scan.specs.Hulls.{flags, sets_in}
 use Rattle.loop_tree.specs.Fits.{AreSmallTrees}
 use Rattle.loop_tree.specs.Marks.{MarksAll}
 use Rattle.loop_tree.specs.Shape.{NestAllTo, TreesAreOver}
+use Rattle.loop_tree.proofs.Larger.{nested_all}
 use Rattle.plain_scan.specs.Giving.{HasIterators}
 use Rattle.plain_scan.specs.Leaving.{LeavesOut}
 use Rattle.plain_scan.specs.Scanning.{mark_of}
 use Rattle.plain_scan.proofs.Stepping.{dims_in}
 use Rattle.plain_scan.proofs.Leaving.{kept_in}
-use Rattle.plain_scan.proofs.Shaping.{all_of_more, nested_all}
+use Rattle.plain_scan.proofs.Shaping.{all_of_more}
 use Rattle.plain_scan.proofs.Whole.{empty_list, few_kept, iterators_kept, none_exact, none_kept, shaped}
 use Rattle.plain_scan.proofs.Whole.{whole_exact, whole_fits, whole_gives}
 use Rattle.plain_scan.proofs.tree_of_sets.scan.Goals as goal

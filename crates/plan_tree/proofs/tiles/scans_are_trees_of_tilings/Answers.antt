@@ -1,12 +1,12 @@
 use Rattle.std.proofs.Common.{◌^◌, [], arith}
 use Rattle.loop_tree.specs.Walk.{walk_all}
+use Rattle.loop_tree.proofs.Larger.{trees_more}
 use Rattle.plan_tree.specs.steps.Scanning.{sets_of}
 use Rattle.iteration_domains.specs.Model.{model_of}
 use Rattle.tile_skew.specs.ScanSets.{most_iterators}
 use Rattle.plan_tree.proofs.Orders.{tilings_are_even}
 use Rattle.plan_tree.proofs.Parallel.{StandAt, tiles_are_free, tiles_are_marked}
 use Rattle.plan_tree.proofs.Shapes.{all_of_program}
-use Rattle.plain_scan.proofs.Shaping.{trees_more}
 use Rattle.plain_scan.specs.Scanning.{dimensions_of}
 use Rattle.plan_tree.proofs.tiles.scans_are_trees_of_tilings.Goals as goal
 

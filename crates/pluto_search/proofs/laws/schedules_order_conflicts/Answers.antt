@@ -1,9 +1,11 @@
 use Rattle.std.proofs.Common.{refl, arith}
+use Rattle.scop_syntax.proofs.Limits.{params_not_negative}
 use Rattle.iteration_domains.specs.Model.{model_of}
+use Rattle.iteration_domains.proofs.Placing.{one_model}
 use Rattle.conflict_deps.specs.Conflicts.{conflicts_of}
 use Rattle.schedule_rows.specs.Schedule.{loops_in}
 use Rattle.pluto_search.proofs.Conflicts.{all_between}
-use Rattle.pluto_search.proofs.Ordering.{range_nested, turns_from_0, one_model, pair_of, values_rise}
+use Rattle.pluto_search.proofs.Ordering.{turns_from_0, pair_of, values_rise}
 use Rattle.pluto_search.proofs.laws.schedules_order_conflicts.Goals as goal
 
 pub returns : goal.returns
@@ -12,7 +14,7 @@ returns c program blocks params i j p kernel size range schedule =
     let loops = loops_in model in
     let deps = conflicts_of model in
     let found = c.conflicts_are_the_points_of_the_systems.ensures.conflicts program params i j p size
-    (range_nested params range) in
+    (params_not_negative params range) in
     let one = one_model program kernel (c.statements_are_numbered.ensures.same program)
     (c.statements_are_numbered.ensures.number program) in
     let between = all_between model deps (λ d k. c.systems_have_parts.ensures model d one k) refl in

@@ -1,5 +1,5 @@
 use Rattle.loop_tree.specs.View.{trees_in}
-use Rattle.tree_simplification.proofs.Larger.{nested_all}
+use Rattle.loop_tree.proofs.Larger.{nested_all}
 use Rattle.tree_simplification.proofs.Together.{first}
 use Rattle.tree_simplification.proofs.simplifying.simplified.Goals as goal
 

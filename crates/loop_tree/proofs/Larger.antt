@@ -1,8 +1,8 @@
 -- How deep small trees nest, and numbers within a bound that are within a larger one.
-use Rattle.std.proofs.Common.{ℕ, zero, suc, ℤ, List, [], ◌∷◌, get_or, arith}
+use Rattle.std.proofs.Common.{ℕ, zero, suc, ℤ, get_or, arith}
 use Rattle.std.specs.Prelude.{◌≤◌}
 use Rattle.whole_numbers.specs.Affine.{Affine}
-use Rattle.scop_syntax.specs.Kernel.{AreAtMost}
+use Rattle.scop_syntax.proofs.Limits.{at_most_more}
 use Rattle.loop_tree.specs.Fits.{AreSmallTrees, IsSmallTree}
 use Rattle.loop_tree.specs.Shape.{BoundsAreUpTo, IsOverUpTo, IsUpTo, NestAllTo, NestsTo, TestIsUpTo, TreeIsUpTo}
 use Rattle.loop_tree.specs.Shape.{TreesAreUpTo}
@@ -22,10 +22,6 @@ mutual
   nested_all n (more t ts) h = (nested n t h.0, nested_all n ts h.1)
 
 -- numbers up to n are up to any m that is not less
-at_most_more : (n m : ℕ) (cs : List ℤ) → n ≤ m → AreAtMost n cs → AreAtMost m cs
-at_most_more n m [] less h = tt
-at_most_more n m (c ∷ cs) less h = let one = h.0 in (omega (arith, one, less), at_most_more n m cs less h.1)
-
 form_more : (n m : ℕ) (f : Affine) → n ≤ m → IsUpTo n f → IsUpTo m f
 form_more n m f less h = let c = h.1 in (at_most_more n m f.coefficients less h.0, omega (arith, c, less))
 
