@@ -1,9 +1,9 @@
 -- How large the values of forms and the iterators of instances get.
 use Rattle.std.proofs.Common.{◌≡◌, ℕ, zero, suc, ◌+◌, ◌*◌, ◌^◌, ◌<◌, ◌≤◌, ℤ, pos, negsuc, List, [], ◌∷◌, ◌++◌, length}
-use Rattle.std.proofs.Common.{inl, inr, ap, subst, sym, ◌∙◌, arith, mul-le-mul, mul-add, length-append}
+use Rattle.std.proofs.Common.{inl, inr, ap, subst, sym, ◌∙◌, arith, mul-le-mul, mul-add, length-append, get_or}
 use Rattle.std.specs.Prelude.{◌+ℤ◌, ◌-ℤ◌, ◌*ℤ◌, ◌≤ℤ◌, neg_ℤ, unsigned_abs}
 use Rattle.std.proofs.lemmas.Int.{ints, unsigned_abs-mul}
-use Rattle.whole_numbers.specs.Lists.{dot}
+use Rattle.whole_numbers.specs.Lists.{dot, zeros}
 use Rattle.whole_numbers.specs.Affine.{Affine, value_of}
 use Rattle.whole_numbers.proofs.Ring.{mul_neg_left, mul_one_left, mul_one_right, mul_zero_right, mul_distrib_left}
 use Rattle.whole_numbers.proofs.Order.{mul_le, mul_not_negative}
@@ -35,13 +35,27 @@ pub abs_at_most : (z : ℤ) (n : ℕ) → neg_ℤ (pos n) ≤ℤ z → z ≤ℤ 
 abs_at_most (pos m) n low high = omega (arith, ints)
 abs_at_most (negsuc m) n low high = omega (arith, ints)
 
-abs_add : (a b : ℤ) → unsigned_abs (a +ℤ b) ≤ unsigned_abs a + unsigned_abs b
+pub abs_add : (a b : ℤ) → unsigned_abs (a +ℤ b) ≤ unsigned_abs a + unsigned_abs b
 abs_add a b =
     let al = abs_low a in
     let ah = abs_high a in
     let bl = abs_low b in
     let bh = abs_high b in
     abs_at_most (a +ℤ b) (unsigned_abs a + unsigned_abs b) (omega (arith, ints)) (omega (arith, ints))
+
+-- lists of numbers up to k: their entries, a greater bound, zeros
+pub at_most_get : (k : ℕ) (xs : List ℤ) (i : ℕ) → AreAtMost k xs → unsigned_abs (get_or xs i (pos 0)) ≤ k
+at_most_get k [] i h = omega arith
+at_most_get k (x ∷ xs) zero h = h.0
+at_most_get k (x ∷ xs) (suc i) h = at_most_get k xs i h.1
+
+pub at_most_more : (k l : ℕ) (xs : List ℤ) → k ≤ l → AreAtMost k xs → AreAtMost l xs
+at_most_more k l [] m h = tt
+at_most_more k l (x ∷ xs) m h = let small = h.0 in (omega arith, at_most_more k l xs m h.1)
+
+pub at_most_zeros : (k n : ℕ) → AreAtMost k (zeros n)
+at_most_zeros k zero = tt
+at_most_zeros k (suc n) = (omega arith, at_most_zeros k n)
 
 -- a dot product is at most the greatest coefficient times the size
 pub dot_size : (k : ℕ) (cs xs : List ℤ) → AreAtMost k cs → unsigned_abs (dot cs xs) ≤ k * size xs

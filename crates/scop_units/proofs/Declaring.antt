@@ -13,6 +13,7 @@ use Rattle.scop_syntax.specs.Members.{In, Sorted}
 use Rattle.scop_syntax.specs.Tree.{Declaration}
 use Rattle.scop_syntax.specs.Tree as scop
 use Rattle.scop_syntax.specs.View.{trees_of}
+use Rattle.scop_syntax.proofs.Limits.{at_most_zeros}
 use Rattle.scop_roles.specs.declared.fault.Kind.TheVariants as kind
 use Rattle.scop_roles.specs.declared.formula.Role.TheVariants as role
 use Rattle.scop_roles.specs.Formula.{Formula}
@@ -30,10 +31,6 @@ use Rattle.scop_units.proofs.Standing.{RoleLaws, parts_none, fewer, at_most}
 use Rattle.scop_units.proofs.Nested.{ranks_in, items_stand, stand_trees, items_few, items_count}
 
 -- forms over more entries
-
-at_most_zeros : (k n : ℕ) → AreAtMost k (zeros n)
-at_most_zeros k zero = tt
-at_most_zeros k (suc n) = (omega arith, at_most_zeros k n)
 
 at_most_padded : (k n : ℕ) (xs : List ℤ) → AreAtMost k xs → AreAtMost k (xs ++ zeros n)
 at_most_padded k n [] h = at_most_zeros k n
@@ -140,7 +137,8 @@ extents_affine laws n (f ∷ fs) e =
     All-cons (IsAffine n) (form n f) (map (form n) fs) (laws.affine n f (ap first both.0))
     (extents_affine laws n fs both.1)
 
-extents_length : (words : Words) (s : Scope) (at : ℕ) (xs : List Tree) → length (extents_in words s at xs) ≡ length xs
+pub extents_length : (words : Words) (s : Scope) (at : ℕ) (xs : List Tree)
+    → length (extents_in words s at xs) ≡ length xs
 extents_length words s at [] = refl
 extents_length words s at (x ∷ xs) = let m = extents_length words s (at + 1 + size x + 1) xs in omega (arith, m)
 

@@ -1,5 +1,5 @@
 -- The head of a loop without faults rises to a form, or falls to one.
-use Rattle.std.proofs.Common.{◌≡◌, ◌≢◌, ℕ, zero, suc, ◌+◌, ◌<◌, ◌≤◌, Bool, true, false, not, ◌&&◌, if◌then◌else◌, ◌==◌}
+use Rattle.std.proofs.Common.{◌≡◌, ◌≢◌, ℕ, suc, ◌+◌, ◌<◌, ◌≤◌, Bool, true, false, not, ◌&&◌, if◌then◌else◌, ◌==◌}
 use Rattle.std.proofs.Common.{List, [], ◌∷◌, ◌++◌, length, get_or, set, ℤ, pos, negsuc, ◌+ℤ◌, ◌-ℤ◌, ◌*ℤ◌, ◌^◌, ◌≤ℤ◌}
 use Rattle.std.proofs.Common.{unsigned_abs}
 use Rattle.std.proofs.Common.{◌⊎◌, inl, inr, refl, sym, ap, subst, ◌∙◌, arith}
@@ -19,6 +19,7 @@ use Rattle.expression_grammar.specs.declared.token.Op.{Op}
 use Rattle.expression_grammar.specs.declared.token.Op.TheVariants as op
 use Rattle.expression_grammar.specs.declared.token.Sign.TheVariants as sign
 use Rattle.scop_syntax.specs.Kernel.{AreAtMost, IsAffine, IsCondition, IsHead}
+use Rattle.scop_syntax.proofs.Limits.{at_most_get}
 use Rattle.scop_roles.specs.declared.fault.Fault.{Fault}
 use Rattle.scop_roles.specs.declared.fault.Kind.TheVariants as kind
 use Rattle.scop_roles.specs.declared.formula.Meaning.TheVariants as meaning
@@ -35,11 +36,6 @@ use Rattle.scop_units.proofs.Standing.{RoleLaws, parts_none, judged_none, told_n
 use Rattle.scop_units.proofs.Standing.{not_true, count_bounds}
 
 -- coefficients, one by one
-
-pub at_most_at : (k : ℕ) (xs : List ℤ) (i : ℕ) → AreAtMost k xs → unsigned_abs (get_or xs i (pos 0)) ≤ k
-at_most_at k [] i h = omega arith
-at_most_at k (x ∷ xs) zero h = h.0
-at_most_at k (x ∷ xs) (suc i) h = at_most_at k xs i h.1
 
 pub at_most_all : (k : ℕ) (xs : List ℤ) → ((i : ℕ) → unsigned_abs (get_or xs i (pos 0)) ≤ k) → AreAtMost k xs
 at_most_all k [] h = tt
@@ -133,7 +129,7 @@ last_bounds n g k is none small =
           (omega (arith, ints), omega (arith, ints))
       | inr e ↦
           let f = e.1 in
-          let h = at_most_at 16 g.coefficients i is.coefficients in
+          let h = at_most_get 16 g.coefficients i is.coefficients in
           (omega (arith, ints), omega (arith, ints))
     ]
 

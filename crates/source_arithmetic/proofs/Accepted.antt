@@ -1,7 +1,6 @@
 -- What has no fault where it stands means something within the limits.
-use Rattle.std.proofs.Common.{◌≡◌, ◌∙◌, ap, sym, subst, refl, ℕ, zero, suc, ◌<◌, ◌≤◌, ◌==◌, ◌^◌, Bool, true, false}
-use Rattle.std.proofs.Common.{◌&&◌, List, [], ◌∷◌, ◌++◌, length, ℤ, pos, ◌-ℤ◌, get_or, arith, All, inl, inr}
-use Rattle.std.proofs.Common.{unsigned_abs, set}
+use Rattle.std.proofs.Common.{◌≡◌, ◌∙◌, ap, sym, subst, refl, ℕ, ◌≤◌, ◌==◌, ◌^◌, Bool, true, false}
+use Rattle.std.proofs.Common.{◌&&◌, List, [], ◌∷◌, ◌++◌, ℤ, pos, ◌-ℤ◌, get_or, arith, All, inl, inr, set}
 use Rattle.std.specs.Prelude.{Option, Some, None}
 use Rattle.std.proofs.lemmas.Bool.{eqb-true}
 use Rattle.std.proofs.lemmas.List.{length-set}
@@ -12,7 +11,7 @@ use Rattle.expression_grammar.specs.declared.token.Op.{Op}
 use Rattle.expression_grammar.specs.declared.token.Op.TheVariants as op
 use Rattle.expression_grammar.specs.declared.token.Sign.TheVariants as sign
 use Rattle.expression_grammar.specs.declared.token.Suffix.TheVariants as suffix
-use Rattle.scop_syntax.specs.Kernel.{AreAtMost}
+use Rattle.scop_syntax.proofs.Limits.{at_most_get}
 use Rattle.scop_roles.specs.declared.fault.Kind.{Kind}
 use Rattle.scop_roles.specs.declared.fault.Kind.TheVariants as kind
 use Rattle.scop_roles.specs.declared.formula.Meaning.{Meaning}
@@ -44,11 +43,6 @@ use Rattle.source_arithmetic.proofs.Storing.{stored_parts}
 use Rattle.source_arithmetic.proofs.Fitting.{at_zeros, at_unit}
 
 -- affine expressions
-at_most_get : (b : ℕ) (cs : List ℤ) (k : ℕ) → AreAtMost b cs → k < length cs → unsigned_abs (get_or cs k (pos 0)) ≤ b
-at_most_get b [] k h lt = absurd (omega arith)
-at_most_get b (c ∷ cs) zero h lt = h.0
-at_most_get b (c ∷ cs) (suc k) h lt = at_most_get b cs k h.1 (omega arith)
-
 small_of : (affine : AreAffine) (n : ℕ) (f : Formula) → first (faults n role.Affine f) ≡ None → IsSmall n f
 small_of affine n f h =
     let is = affine n f h in
@@ -58,10 +52,9 @@ small_of affine n f h =
       constant = rw constant_is is.constant;
       entries = λ k lt.
           let unit = form_value n f (set (zeros n) k (pos 1)) (length-set (zeros n) k (pos 1) ∙ length-zeros n) h in
-          let long = is.entries in
           let same : whole (set (zeros n) k (pos 1)) f -ℤ whole (zeros n) f ≡ get_or (form n f).coefficients k (pos 0) =
           rw (sym unit, sym origin) (at_unit (form n f) n k lt) in
-          rw same (at_most_get 16 (form n f).coefficients k is.coefficients (omega arith));
+          rw same (at_most_get 16 (form n f).coefficients k is.coefficients);
     }
 
 sum_linear : (n : ℕ) (o : Op) (f g : Formula) (at : ℕ) → is_sum_or_product o ≡ true

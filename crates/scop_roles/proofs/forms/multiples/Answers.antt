@@ -2,14 +2,14 @@ use Rattle.std.proofs.Common.{rules, ◌^◌, ◌≤◌, length, pos, get_or, ar
 use Rattle.std.specs.Int.{w64}
 use Rattle.std.proofs.lemmas.Int.{to_z-of_z}
 use Rattle.scop_roles.proofs.Multiples.{multiples_next, multiples_all}
-use Rattle.scop_roles.proofs.Sizes.{at_most-get, at_most-more}
+use Rattle.scop_syntax.proofs.Limits.{at_most_get, at_most_more}
 use Rattle.scop_roles.proofs.forms.multiples.Goals as goal
 
 pub product-requires-clause-number : goal.product-requires-clause-number
 product-requires-clause-number c =
     let fits : FitsSigned w64 (get_or c.args.numbers.now c.loop-number.number-index (pos 0)) = search rules in
-    let wide = at_most-more 16 (2 ^ 20) c.args.numbers.now (omega arith) c.requires.numbers in
-    simp to_z-of_z (at_most-get (2 ^ 20) c.args.numbers.now c.loop-number.number-index wide)
+    let wide = at_most_more 16 (2 ^ 20) c.args.numbers.now (omega arith) c.requires.numbers in
+    simp to_z-of_z (at_most_get (2 ^ 20) c.args.numbers.now c.loop-number.number-index wide)
 
 pub product-requires-clause-factor : goal.product-requires-clause-factor
 product-requires-clause-factor c =
