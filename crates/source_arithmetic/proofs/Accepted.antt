@@ -1,6 +1,6 @@
 -- What has no fault where it stands means something within the limits.
 use Rattle.std.proofs.Common.{◌≡◌, ◌∙◌, ap, sym, subst, refl, ℕ, ◌≤◌, ◌==◌, ◌^◌, Bool, true, false}
-use Rattle.std.proofs.Common.{◌&&◌, List, [], ◌∷◌, ◌++◌, ℤ, pos, ◌-ℤ◌, get_or, arith, All, inl, inr, set}
+use Rattle.std.proofs.Common.{◌&&◌, List, [], ◌∷◌, ◌++◌, ℤ, pos, ◌-ℤ◌, get_or, All, inl, inr, set}
 use Rattle.std.specs.Prelude.{Option, Some, None}
 use Rattle.std.proofs.lemmas.Bool.{eqb-true}
 use Rattle.std.proofs.lemmas.List.{length-set}
@@ -24,13 +24,14 @@ use Rattle.scop_roles.specs.Forms.{form, is_within}
 use Rattle.scop_roles.specs.Formula.{Formula, constant, name, index, bare_call, call, unary, cast, binary, place}
 use Rattle.scop_roles.specs.Formula.{meaning_of, subscripts}
 use Rattle.scop_roles.specs.Scope.{IsArray, IsArrayName, IsInScope}
+use Rattle.scop_roles.proofs.Affines.{ranked_array}
 use Rattle.scop_roles.proofs.Firsts.{first_none}
 use Rattle.scop_roles.proofs.Judging.{signed_is_affine, sum_sides}
 use Rattle.scop_roles.proofs.Parts.{judged_none, append_none, place_parts, index_value, cast_value, unary_value}
 use Rattle.scop_roles.proofs.Parts.{signed_unary, signed_binary, binary_value, shift_count, condition_sides}
 use Rattle.scop_roles.proofs.Parts.{comparison_sides}
 use Rattle.scop_units.specs.Units.{Stored, own_cell, cell_faults, stored_faults, extent_faults}
-use Rattle.scop_units.proofs.Standing.{parts_none, told_none, only_none}
+use Rattle.scop_units.proofs.Standing.{parts_none, told_none, only_none, where_false}
 use Rattle.scop_units.proofs.Standing as standing
 use Rattle.source_arithmetic.specs.Arithmetic.{whole, has_sign, HasNoComma, HasWhole}
 use Rattle.source_arithmetic.specs.Limits.{IsSmall, IsLinear, IsLinearTruth, JoinsNoConstants, IsSummand, IsLinearPlace}
@@ -38,7 +39,7 @@ use Rattle.source_arithmetic.specs.Limits.{IsFitWord, IsFitStored}
 use Rattle.source_arithmetic.proofs.Wholes.{AreAffine, form_value, affine_sides, own_parts}
 use Rattle.source_arithmetic.proofs.Conditions.{is_compared, no_condition}
 use Rattle.source_arithmetic.proofs.Signs.{comma_sides, signed_has, sign_same, signed_parts}
-use Rattle.source_arithmetic.proofs.Defined.{has_count, has_stored, has_word, name_word, ranked_array}
+use Rattle.source_arithmetic.proofs.Defined.{has_count, has_stored, has_word, name_word}
 use Rattle.source_arithmetic.proofs.Storing.{stored_parts}
 use Rattle.source_arithmetic.proofs.Fitting.{at_zeros, at_unit}
 
@@ -138,10 +139,6 @@ rank_is f e =
 or_parts : (k l : Option Kind) → or_else k l ≡ None → (k ≡ None) × (l ≡ None)
 or_parts None l e = (refl, e)
 or_parts (Some k) l e = absurd (cc)
-
-where_false : (b : Bool) (k : Kind) → only_where b k ≡ None → b ≡ false
-where_false true k e = absurd (cc)
-where_false false k e = refl
 
 joins_none : (n : ℕ) (f : Formula) → first (faults n role.Signed f) ≡ None → JoinsNoConstants f
 joins_none n (unary sign.Minus f at) h = joins_none n f (judged_none (faults n role.Signed f) at None h).0
