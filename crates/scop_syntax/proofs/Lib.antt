@@ -17,3 +17,4 @@ pub mod Bounds
 pub mod Values
 pub mod Conflicts
 pub mod Wrapping
+pub mod Falling
