@@ -13,6 +13,7 @@ use Rattle.scop_syntax.proofs.Statements.{length-placed}
 use Rattle.form_text.specs.Names.{AreNameBytes, IsVariableName, IsFresh, AreNames}
 use Rattle.form_text.specs.Reading.{strip}
 use Rattle.form_text.proofs.Digits.{is_digit_of}
+use Rattle.form_text.proofs.Names.{bytes_append, fresh_append}
 use Rattle.form_text.proofs.Terms.{digit_is_byte}
 use Rattle.c_printer.specs.Forms.{loop_name, loop_names}
 use Rattle.standings.specs.Standings.{Standing, standing, heads_in, standings_of}
@@ -24,10 +25,6 @@ use Rattle.standings.proofs.Gathering.{program_gathered}
 use Rattle.c_printer.proofs.InstancesRead.{names_front}
 
 -- names of emitted loops
-bytes_append : (v w : Text) → AreNameBytes v → AreNameBytes w → AreNameBytes (v ++ w)
-bytes_append [] w h g = g
-bytes_append (b ∷ v) w h g = (h.0, bytes_append v w h.1 g)
-
 decimal_bytes : (n : ℕ) → n < 10 ^ 64 → AreNameBytes (decimal n)
 decimal_bytes n h = decimal_by_steps_wide (λ m ds. AreNameBytes ds)
     (λ m k. (digit_is_byte (48 + m) (is_digit_of m k), tt))
@@ -60,10 +57,6 @@ free_differs name d f e = none_some (decimal (suc d)) (sym f ∙ ap (strip (code
 abbrev Apart : List Text → List Text → Type 0
 Apart [] ys = ⊤
 Apart (x ∷ xs) ys = IsFresh x ys × Apart xs ys
-
-fresh_append : (x : Text) (xs ys : List Text) → IsFresh x xs → IsFresh x ys → IsFresh x (xs ++ ys)
-fresh_append x [] ys h g = g
-fresh_append x (y ∷ xs) ys h g = (h.0, fresh_append x xs ys h.1 g)
 
 fresh_back : (x : Text) (xs ys : List Text) → IsFresh x (xs ++ ys) → IsFresh x ys
 fresh_back x [] ys h = h
