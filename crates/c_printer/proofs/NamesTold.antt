@@ -5,6 +5,7 @@ use Rattle.std.specs.Prelude.{ℤ, negsuc, ◌≢◌, ◌⊎◌, ◌≤ℤ◌, �
 use Rattle.std.proofs.lemmas.Fmt.{decimal_by_steps_wide, decimal_injective}
 use Rattle.std.proofs.lemmas.Int.{ints}
 use Rattle.std.proofs.lemmas.List.{append_assoc, length-append, length-map}
+use Rattle.std.proofs.lemmas.Option.{none-some}
 use Rattle.scop_lexer.specs.Bytes.{Text}
 use Rattle.scop_syntax.specs.Kernel.{IsKernel, IsHead, IsTree, AreTrees, own, ranks_of}
 use Rattle.scop_syntax.specs.Statements.{Placed, placed_all, in_guard_of}
@@ -47,11 +48,8 @@ loops_differ k d less low e =
     (ap behind_front e) in
     omega (arith, same, less)
 
-none_some : (t : Text) → None ≡ Some t → ⊥
-none_some t e = let p : ◌≡◌ {A = Option Text} None (Some t) = e in cc
-
 free_differs : (name : Text) (d : ℕ) → IsFree name → name ≢ loop_name d
-free_differs name d f e = none_some (decimal (suc d)) (sym f ∙ ap (strip (codes "pp_")) e)
+free_differs name d f e = none-some (decimal (suc d)) (sym f ∙ ap (strip (codes "pp_")) e)
 
 -- names apart from others
 abbrev Apart : List Text → List Text → Type 0
