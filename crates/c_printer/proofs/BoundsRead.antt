@@ -12,6 +12,7 @@ use Rattle.form_text.specs.Names.{AreNames}
 use Rattle.form_text.specs.Reading.{strip, when, term_in_front, EndsForm}
 use Rattle.form_text.proofs.Digits.{Clean, clean_of, EndsDigits, decimal_number, decimal_behind}
 use Rattle.form_text.proofs.Calls.{IsCall, strip_front, form_no_call, name_bytes_by}
+use Rattle.form_text.proofs.Ends.{ends_parenthesis}
 use Rattle.c_printer.specs.Forms.{turned, tree_form_text}
 use Rattle.c_printer.specs.Statements.{between}
 use Rattle.c_printer.specs.Nodes.{is_one, bound_text, bounds_text, divisor_text, lower_text, upper_text}
@@ -29,10 +30,6 @@ between_front a b c rest = append_assoc a (b ++ c) rest ∙ ap (λ (t : Text). a
 pub comma_ends : (rest : Text) → EndsForm (codes ", " ++ rest)
 unfolding term_in_front
 comma_ends rest = record { factor = refl; term = refl }
-
-pub bracket_ends : (rest : Text) → EndsForm (codes ")" ++ rest)
-unfolding term_in_front
-bracket_ends rest = record { factor = refl; term = refl }
 
 pub small_divisor : (m : ℕ) → m < 2 ^ 63 → m < 2 ^ 128
 small_divisor m h = omega (arith, h)
@@ -177,7 +174,7 @@ bounds_back (suc k) divided chosen parameters loops names (besides b bs) rest i 
     (bound_back divided parameters loops names b (codes ", " ++ inner) i.division n count h.0 (comma_ends inner))
     ∙ ap (λ o. when o (λ (q : Bounds × Text). when (strip (codes ")") q.1) (λ u. Some (besides b q.0, u))))
     (bounds_back k divided chosen parameters loops names bs (codes ")" ++ rest) i n count h.1 (omega (arith, less))
-    (bracket_ends rest))))
+    (ends_parenthesis rest))))
 
 pub lower_back : (n parameters loops : ℕ) (names : List Text) (bs : Bounds) (rest : Text) → AreNames names
     → length names ≡ loops + parameters → AreBounds parameters loops bs → depth bs < n → EndsForm rest

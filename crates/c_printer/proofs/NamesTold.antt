@@ -5,6 +5,7 @@ use Rattle.std.specs.Prelude.{ℤ, negsuc, ◌≢◌, ◌⊎◌, ◌≤ℤ◌, �
 use Rattle.std.proofs.lemmas.Fmt.{decimal_by_steps_wide, decimal_injective}
 use Rattle.std.proofs.lemmas.Int.{ints}
 use Rattle.std.proofs.lemmas.List.{append_assoc, length-append, length-map}
+use Rattle.std.proofs.lemmas.Option.{none-some}
 use Rattle.scop_lexer.specs.Bytes.{Text}
 use Rattle.scop_syntax.specs.Kernel.{IsKernel, IsHead, IsTree, AreTrees, own, ranks_of}
 use Rattle.scop_syntax.specs.Statements.{Placed, placed_all, in_guard_of}
@@ -13,6 +14,7 @@ use Rattle.scop_syntax.proofs.Statements.{length-placed}
 use Rattle.form_text.specs.Names.{AreNameBytes, IsVariableName, IsFresh, AreNames}
 use Rattle.form_text.specs.Reading.{strip}
 use Rattle.form_text.proofs.Digits.{is_digit_of}
+use Rattle.form_text.proofs.Names.{bytes_append, fresh_append}
 use Rattle.form_text.proofs.Terms.{digit_is_byte}
 use Rattle.c_printer.specs.Forms.{loop_name, loop_names}
 use Rattle.standings.specs.Standings.{Standing, standing, heads_in, standings_of}
@@ -24,10 +26,6 @@ use Rattle.standings.proofs.Gathering.{program_gathered}
 use Rattle.c_printer.proofs.InstancesRead.{names_front}
 
 -- names of emitted loops
-bytes_append : (v w : Text) → AreNameBytes v → AreNameBytes w → AreNameBytes (v ++ w)
-bytes_append [] w h g = g
-bytes_append (b ∷ v) w h g = (h.0, bytes_append v w h.1 g)
-
 decimal_bytes : (n : ℕ) → n < 10 ^ 64 → AreNameBytes (decimal n)
 decimal_bytes n h = decimal_by_steps_wide (λ m ds. AreNameBytes ds)
     (λ m k. (digit_is_byte (48 + m) (is_digit_of m k), tt))
@@ -50,20 +48,13 @@ loops_differ k d less low e =
     (ap behind_front e) in
     omega (arith, same, less)
 
-none_some : (t : Text) → None ≡ Some t → ⊥
-none_some t e = let p : ◌≡◌ {A = Option Text} None (Some t) = e in cc
-
 free_differs : (name : Text) (d : ℕ) → IsFree name → name ≢ loop_name d
-free_differs name d f e = none_some (decimal (suc d)) (sym f ∙ ap (strip (codes "pp_")) e)
+free_differs name d f e = none-some (decimal (suc d)) (sym f ∙ ap (strip (codes "pp_")) e)
 
 -- names apart from others
 abbrev Apart : List Text → List Text → Type 0
 Apart [] ys = ⊤
 Apart (x ∷ xs) ys = IsFresh x ys × Apart xs ys
-
-fresh_append : (x : Text) (xs ys : List Text) → IsFresh x xs → IsFresh x ys → IsFresh x (xs ++ ys)
-fresh_append x [] ys h g = g
-fresh_append x (y ∷ xs) ys h g = (h.0, fresh_append x xs ys h.1 g)
 
 fresh_back : (x : Text) (xs ys : List Text) → IsFresh x (xs ++ ys) → IsFresh x ys
 fresh_back x [] ys h = h

@@ -4,6 +4,7 @@ use Rattle.std.specs.Prelude.{codes, Option, Some, None, if◌then◌else◌}
 use Rattle.std.specs.Str.{bytes_eq}
 use Rattle.std.proofs.lemmas.Slice.Eq.{bytes_eq-Decides}
 use Rattle.std.proofs.lemmas.List.{length-append}
+use Rattle.std.proofs.lemmas.Option.{none-some, same_Some}
 use Rattle.scop_lexer.specs.Bytes.{Text}
 use Rattle.scop_syntax.specs.Tree.{Program}
 use Rattle.loop_tree.specs.Tree.{Trees}
@@ -32,28 +33,17 @@ text_back program ts names h =
     (omega (arith, long, first, second)) refl)
     ∙ ap (λ (t : Bool). if t then Some ts else None) ((bytes_eq-Decides text text).1 refl))
 
--- what an option holds, or another tree
-abbrev tree_or : Trees → Option Trees → Trees
-tree_or ts (Some us) = us
-tree_or ts None = ts
-
-some_same : (ts us : Trees) → Some ts ≡ Some us → ts ≡ us
-some_same ts us e = let p : tree_or ts (Some ts) ≡ tree_or ts (Some us) = ap (tree_or ts) e in p
-
-none_some : (ts : Trees) → None ≡ Some ts → ⊥
-none_some ts e = let p : ◌≡◌ {A = Option Trees} None (Some ts) = e in cc
-
 -- two trees with one text are one tree
 pub one_tree : (program : Program) (ts us : Trees) → IsNamed program → AreNodes program 0 ts → AreNodes program 0 us
     → text_of program ts ≡ text_of program us → ts ≡ us
 one_tree program ts us names h g e =
-    some_same ts us (sym (text_back program ts names h) ∙ (ap (read_text program) e ∙ text_back program us names g))
+    same_Some ts us (sym (text_back program ts names h) ∙ (ap (read_text program) e ∙ text_back program us names g))
 
 -- no tree prints as a text that is not read
 pub no_tree : (program : Program) (text : Text) (ts : Trees) → IsNamed program → read_text program text ≡ None
     → AreNodes program 0 ts → text_of program ts ≡ text → ⊥
 no_tree program text ts names e h is =
-    none_some ts (sym e ∙ (ap (read_text program) (sym is) ∙ text_back program ts names h))
+    none-some ts (sym e ∙ (ap (read_text program) (sym is) ∙ text_back program ts names h))
 
 -- and a tree that is read prints as the text
 pub read_prints : (program : Program) (text : Text) (ts : Trees) → read_text program text ≡ Some ts
@@ -63,15 +53,15 @@ read_prints program text ts e = front (strip (front_text program) text) e
     printed : (r : Trees × Text) (same : Bool) → bytes_eq (text_of program r.0) text ≡ same
         → (if same then Some r.0 else None) ≡ Some ts → text_of program ts ≡ text
     printed r true is e =
-        subst (λ x. text_of program x ≡ text) (some_same r.0 ts e) ((bytes_eq-Decides (text_of program r.0) text).0 is)
-    printed r false is e = absurd (none_some ts e)
+        subst (λ x. text_of program x ≡ text) (same_Some r.0 ts e) ((bytes_eq-Decides (text_of program r.0) text).0 is)
+    printed r false is e = absurd (none-some ts e)
 
     nodes : (o : Option (Trees × Text)) → when o (printed_as program text) ≡ Some ts → text_of program ts ≡ text
-    nodes None e = absurd (none_some ts e)
+    nodes None e = absurd (none-some ts e)
     nodes (Some r) e = printed r (bytes_eq (text_of program r.0) text) refl e
 
     front : (o : Option Text)
         → when o (λ t. when (read_nodes program (suc (length text)) 1 0 t) (printed_as program text)) ≡ Some ts
         → text_of program ts ≡ text
-    front None e = absurd (none_some ts e)
+    front None e = absurd (none-some ts e)
     front (Some t) e = nodes (read_nodes program (suc (length text)) 1 0 t) e

@@ -2,6 +2,7 @@
 use Rattle.std.proofs.Common.{◌≡◌, ◌∙◌, sym, ap, subst, refl, ℕ, suc, ◌+◌, ◌<◌, Bool, true, false, List, [], ◌∷◌}
 use Rattle.std.proofs.Common.{length, map, arith, if◌then◌else◌}
 use Rattle.std.proofs.lemmas.List.{length-map}
+use Rattle.std.proofs.lemmas.Option.{same_Some}
 use Rattle.std.specs.Prelude.{Option, Some, None, cond}
 use Rattle.std.specs.List.{position_from}
 use Rattle.std.specs.Str.{bytes_eq}
@@ -34,15 +35,12 @@ pub blank_lists : (program : Program) (place : Place) (words : List Text) (line 
 blank_lists program place words line blank lists =
     some_not_none (lists.name, lists.list) (sym lists.head ∙ (ap named_list blank ∙ no_list))
 
-pub some_same : {X : Type 0} → (x y : X) → Some x ≡ Some y → x ≡ y
-some_same x y same = cc
-
 -- a line names one thing, and lists the words that it lists
 pub same_line : (program : Program) (p q : Place) (words others : List Text) (line : Text)
     → Lists program p words line → Lists program q others line → (p ≡ q) × (words ≡ others)
 same_line program p q words others line one other =
     let head : Text × Text = (one.name, one.list) in
-    let same = some_same head (other.name, other.list) (sym one.head ∙ other.head) in (
+    let same = same_Some head (other.name, other.list) (sym one.head ∙ other.head) in (
       sym one.place_is ∙ (ap (λ (h : Text × Text). place_of program h.0) same ∙ other.place_is),
       sym one.words_are ∙ (ap (λ (h : Text × Text). words_of h.1) same ∙ other.words_are),
     )

@@ -3,6 +3,7 @@ use Rattle.std.proofs.Common.{◌≡◌, ◌∙◌, sym, ap, subst, refl, inl, i
 use Rattle.std.proofs.Common.{◌∷◌, arith}
 use Rattle.std.proofs.lemmas.Bool.{false_from_ne_true}
 use Rattle.std.proofs.lemmas.Slice.Eq.{bytes_eq-Decides}
+use Rattle.std.proofs.lemmas.Option.{same_Some}
 use Rattle.std.specs.Prelude.{Some, None, codes}
 use Rattle.scop_lexer.specs.Bytes.{Text}
 use Rattle.scop_syntax.specs.Tree.{Program}
@@ -16,7 +17,7 @@ use Rattle.data_lines.specs.Numbers.{number_of, numbers_of, with_number}
 use Rattle.data_lines.specs.Naming.{AreLines, AreNumbers, AreSound, Breaks, IsAbove, IsFormless, IsSeed, IsValue, Lists}
 use Rattle.data_lines.specs.Naming.{SayInOrder, SaysCells, SaysSeed, SaysValue, numerals, takes}
 use Rattle.data_lines.proofs.NamingLemmas.{array_within, blank_lists, parameter_within, same_line, same_words}
-use Rattle.data_lines.proofs.NamingLemmas.{numerals_all, numerals_behind, some_not_none, some_same}
+use Rattle.data_lines.proofs.NamingLemmas.{numerals_all, numerals_behind, some_not_none}
 
 -- `seed` is no number, and is not among numbers
 seed_no_number : (word : Text) → is_seed word ≡ true → number_of word ≡ None
@@ -40,13 +41,13 @@ one_value : (words : List Text) (v w : ℕ) → IsValue v words → IsValue w wo
 one_value words v w first second =
     let same : first.word ∷ [] ≡ second.word ∷ [] = sym first.one ∙ second.one in
     let word : first.word ≡ second.word = cc in
-    some_same v w (sym first.number ∙ (ap number_of word ∙ second.number))
+    same_Some v w (sym first.number ∙ (ap number_of word ∙ second.number))
 
 one_seed : (words : List Text) (v w : ℕ) → IsSeed v words → IsSeed w words → v ≡ w
 one_seed words v w first second =
     let same : first.first ∷ first.word ∷ [] ≡ second.first ∷ second.word ∷ [] = sym first.two ∙ second.two in
     let word : first.word ≡ second.word = cc in
-    some_same v w (sym first.number ∙ (ap number_of word ∙ second.number))
+    same_Some v w (sym first.number ∙ (ap number_of word ∙ second.number))
 
 not_both : (words : List Text) (cells : List ℕ) (seed : ℕ) → AreNumbers cells words → IsSeed seed words → ⊥
 not_both words cells seed numbers is = seed_no_numbers is.first (is.word ∷ []) cells is.keyword
@@ -62,7 +63,7 @@ pub cells_agree : (program : Program) (lines : ℕ → Text) (j : ℕ) (cells ot
     → SaysCells program j cells lines → SaysCells program j others lines → cells ≡ others
 cells_agree program lines j cells others are first second =
     let same = same_words program lines (Array j) first.0 second.0 first.1 second.1 are first.2 second.2 in
-    some_same cells others (sym first.3.numbers ∙ (ap numbers_of same ∙ second.3.numbers))
+    same_Some cells others (sym first.3.numbers ∙ (ap numbers_of same ∙ second.3.numbers))
 
 pub seeds_agree : (program : Program) (lines : ℕ → Text) (j v w : ℕ) → AreLines program lines
     → SaysSeed program j v lines → SaysSeed program j w lines → v ≡ w
@@ -158,7 +159,7 @@ above_not program lines n sound above =
     (known_line program lines (Parameter above.parameter) n words sound above.lists) above.lists in
     let same : above.word ∷ [] ≡ order.1.word ∷ [] = order.1.one in
     let word : above.word ≡ order.1.word = cc in
-    let value = some_same above.value order.0 (sym above.number ∙ (ap number_of word ∙ order.1.number)) in
+    let value = same_Some above.value order.0 (sym above.number ∙ (ap number_of word ∙ order.1.number)) in
     omega (arith, value, above.above, order.1.small)
 
 pub sound_lines : (program : Program) (lines : ℕ → Text) (refusal : DataRefusal) → AreSound program lines

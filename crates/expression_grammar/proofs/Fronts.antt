@@ -2,6 +2,7 @@
 use Rattle.std.proofs.Common.{◌≡◌, ℕ, ◌+◌, ◌≤◌, List, [], ◌∷◌, ◌++◌, refl, sym, ap, ◌∙◌, append_assoc, append-nil}
 use Rattle.std.proofs.Common.{arith}
 use Rattle.std.specs.Prelude.{max, Some}
+use Rattle.std.proofs.lemmas.Option.{same_Some}
 use Rattle.expression_grammar.specs.declared.token.Suffix.TheVariants as suffix
 use Rattle.expression_grammar.specs.declared.token.Token.{Token}
 use Rattle.expression_grammar.specs.declared.token.Token.TheVariants as token
@@ -115,9 +116,6 @@ pub record Whole (ts : List Token) (nodes : List Node) (d n u : ℕ) : Type 0 wh
   pub written : nodes ≡ written 0 tree
   pub used : u ≡ operators tree
 
-pub some_same : {A : Type 0} (x y : A) → Some x ≡ Some y → x ≡ y
-some_same x y h = cc
-
 pub whole_frames : (d n u : ℕ) (gs : List Frame) (t : Tree) (ts : List Token) (nodes : List Node)
     → WellBracketed t → demand (held_of gs) ≤ rank t → front gs ++ tokens_of t ≡ ts
     → max (peak gs) (brackets_of gs + depth t) ≤ d → u ≡ used_of gs + operators t → u ≤ n
@@ -131,7 +129,7 @@ whole_frames d n u [] t ts nodes w r e p o m h =
             within = record { depth = omega arith; operators = omega arith };
             tokens = sym e;
           };
-      written = sym (some_same (written 0 t) nodes h);
+      written = sym (same_Some (written 0 t) nodes h);
       used = omega arith;
     }
 whole_frames d n u (left q a ∷ gs) t ts nodes w r e p o m h = absurd (cc)

@@ -6,6 +6,7 @@ use Rattle.std.specs.Borrow.{Bor}
 use Rattle.std.specs.List.{prefix_len}
 use Rattle.std.proofs.lemmas.Bool.{eqb-true, eq-eqb, ltb-true, ltb-false, leb-true, leb-false, le-ltb, lt-leb}
 use Rattle.std.proofs.lemmas.List.{append_assoc}
+use Rattle.std.proofs.lemmas.Option.{none-some, same_Some}
 use Rattle.whole_numbers.specs.Affine.{Affine, form_of}
 use Rattle.scop_lexer.specs.Bytes.{Text, is_digit}
 use Rattle.form_text.specs.Names.{is_name_byte}
@@ -13,16 +14,6 @@ use Rattle.form_text.specs.Reading.{strip, when, name_in_front, behind_name, Fac
 use Rattle.form_text.specs.Reading.{number_in_front, numbered, plus, minus, with_coefficient}
 use Rattle.form_text.specs.View.{text_in, saturated, saturated_factor}
 use Rattle.form_text.proofs.Calls.{strip_front}
-
-none_some : (r : Text) → None ≡ Some r → ⊥
-none_some r e = let p : ◌≡◌ {A = Option Text} None (Some r) = e in cc
-
-abbrev text_or : Text → Option Text → Text
-text_or t (Some u) = u
-text_or t None = t
-
-some_text : (s r : Text) → Some s ≡ Some r → s ≡ r
-some_text s r e = let p : text_or s (Some s) ≡ text_or s (Some r) = ap (text_or s) e in p
 
 name_of_length : (one : Bool) (b : ℕ) (bs : Text) → is_name_byte b ≡ one
     → take (prefix_len is_name_byte bs) bs ≡ name_in_front bs
@@ -49,12 +40,12 @@ name_dropped (b ∷ bs) = behind_length (is_name_byte b) b bs refl (name_dropped
 
 either_some : (t : Bool) (o : Option Text) (r : Text) → (if t then o else None) ≡ Some r → (t ≡ true) × (o ≡ Some r)
 either_some true o r e = (refl, e)
-either_some false o r e = absurd (none_some r e)
+either_some false o r e = absurd (none-some r e)
 
 -- what is stripped stood in front
 strip_some : (p s r : Text) → strip p s ≡ Some r → s ≡ p ++ r
-strip_some [] s r e = some_text s r e
-strip_some (a ∷ p) [] r e = absurd (none_some r e)
+strip_some [] s r e = same_Some s r e
+strip_some (a ∷ p) [] r e = absurd (none-some r e)
 strip_some (a ∷ p) (b ∷ s) r e =
     let both = either_some (a == b) (strip p s) r e in
     ap (λ x. x ∷ s) (sym (eqb-true a b both.0)) ∙ ap (λ (t : Text). a ∷ t) (strip_some p s r both.1)

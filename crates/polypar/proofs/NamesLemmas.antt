@@ -1,17 +1,16 @@
 -- The names of a program that a text spells are words as emitted texts need them.
 use Rattle.std.proofs.Common.{◌≡◌, refl, Bool, true, false, List, [], ◌∷◌, ◌++◌, inl, inr}
 use Rattle.std.specs.Prelude.{◌==◌, ◌≢◌, All, Option, None, codes, if◌then◌else◌}
-use Rattle.std.specs.List.{list_all}
-use Rattle.std.proofs.lemmas.Bool.{false≢true, and_parts, or_left, eqb-true}
+use Rattle.std.proofs.lemmas.Bool.{eqb-true}
 use Rattle.std.proofs.lemmas.List.Elements.{All-head, All-tail}
-use Rattle.scop_lexer.specs.Bytes.{Text, is_letter, is_word_byte}
-use Rattle.scop_lexer.specs.Words.{IsName}
+use Rattle.scop_lexer.specs.Bytes.{Text}
 use Rattle.scop_syntax.specs.Members.{In}
 use Rattle.scop_syntax.specs.Tree.{Tree, loop, guard, statement, Trees, none, more, Program}
 use Rattle.scop_units.specs.Names.{AreDistinct}
 use Rattle.scop_parser.specs.Names.{HasFreeNames, IsFreeName, TakeFree, TakesFree}
-use Rattle.form_text.specs.Names.{is_mark, AreNameBytes, AreNames, IsFresh, IsVariableName}
+use Rattle.form_text.specs.Names.{AreNames, IsFresh}
 use Rattle.form_text.specs.Reading.{strip}
+use Rattle.form_text.proofs.Names.{variable_name}
 use Rattle.c_printer.specs.Naming.{AreFree, HasWords, TakesWords, TakeWords}
 
 -- bytes that do not stand in front of a text are not taken off it
@@ -28,17 +27,6 @@ strip_none (p ∷ ps) (b ∷ bs) h =
     begins : (rest : Text) → p ≡ b → bs ≡ ps ++ rest → b ∷ bs ≡ p ∷ (ps ++ rest)
     begins rest same e = cc
 
--- names are words
-word_bytes : (bs : Text) → list_all is_word_byte bs ≡ true → AreNameBytes bs
-word_bytes [] h = tt
-word_bytes (b ∷ bs) h =
-    let both = and_parts (is_word_byte b) (list_all is_word_byte bs) h in
-    (or_left (is_word_byte b) (is_mark b) both.0, word_bytes bs both.1)
-
-is_variable : (name : Text) → IsName name → IsVariableName name
-is_variable [] h = absurd (false≢true h.letter)
-is_variable (b ∷ bs) h = (or_left (is_letter b) (is_mark b) h.letter, (word_bytes (b ∷ bs) h.bytes).1)
-
 is_fresh : (name : Text) (names : List Text) → (In name names → ⊥) → IsFresh name names
 is_fresh name [] out = tt
 is_fresh name (other ∷ names) out = ((λ e. out (inl e)), is_fresh name names (λ i. out (inr i)))
@@ -46,7 +34,7 @@ is_fresh name (other ∷ names) out = ((λ e. out (inl e)), is_fresh name names 
 are_names : (names : List Text) → All IsFreeName names → AreDistinct names → AreNames names
 are_names [] all apart = tt
 are_names (name ∷ names) all apart = (
-  is_variable name (All-head IsFreeName name names all).0,
+  variable_name name (All-head IsFreeName name names all).0,
   is_fresh name names (λ i. apart.0 name i refl),
   are_names names (All-tail IsFreeName name names all) apart.1,
 )
@@ -62,7 +50,7 @@ are_free (name ∷ names) all = (
 mutual
   takes_words : (names : List Text) (t : Tree) → TakesFree names t → TakesWords names t
   takes_words names (loop head body) h = (
-    is_variable head.iterator h.0.0,
+    variable_name head.iterator h.0.0,
     strip_none (codes "pp_") head.iterator h.0.1,
     is_fresh head.iterator names h.1,
     take_words (names ++ head.iterator ∷ []) body h.2,

@@ -1,6 +1,7 @@
 -- Each check in the order of work has one outcome, so words and an input deserve one status.
 use Rattle.std.proofs.Common.{◌≡◌, ◌∙◌, sym, subst, ap, inl, inr, ℕ, ◌≤◌, ◌^◌, ℤ, List, length, Option, None, Some}
 use Rattle.std.proofs.Common.{arith}
+use Rattle.std.proofs.lemmas.Option.{same_Some}
 use Rattle.std.specs.Prelude.{Err}
 use Rattle.scop_syntax.specs.Tree.{Program}
 use Rattle.scop_syntax.specs.Walk.{Visit}
@@ -38,10 +39,6 @@ pub record Laws : Type 0 where
 not_none : {A : Type 0} {P : Type 0} (x : Option A) (y : A) → x ≡ None → x ≡ Some y → P
 not_none x y none some = absurd (let both = sym none ∙ some in cc)
 
--- what there is is one
-some_same : {A : Type 0} (x y : A) → Some x ≡ Some y → x ≡ y
-some_same x y same = cc
-
 -- one rule is broken first
 rule_same : (program : Program) (text : List ℕ) (r s : DataRefusal) → data_said program text ≡ Err r
     → data_said program text ≡ Err s → r ≡ s
@@ -53,7 +50,7 @@ case_once laws program params a b (inl x) (inl y) = x.1 ∙ sym y.1
 case_once laws program params a b (inl x) (inr y) = not_none _ y.0 (laws.inside _ _ x.0) y.1
 case_once laws program params a b (inr x) (inl y) = not_none _ x.0 (laws.inside _ _ y.0) x.1
 case_once laws program params a b (inr x) (inr y) =
-    x.2 ∙ (ap Outside (ap outside_of (some_same x.0 y.0 (sym x.1 ∙ y.1))) ∙ sym y.2)
+    x.2 ∙ (ap Outside (ap outside_of (same_Some x.0 y.0 (sym x.1 ∙ y.1))) ∙ sym y.2)
 
 data_once : Laws → (program : Program) (text : List ℕ) (a b : Status) → DeservesData program text a
     → DeservesData program text b → a ≡ b

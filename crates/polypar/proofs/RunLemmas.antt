@@ -1,10 +1,7 @@
 -- From what a status says of a kernel's data to what it says of the whole input.
-use Rattle.std.proofs.Common.{◌≡◌, subst, refl, inl, inr, ℕ, ◌^◌, ◌<◌, ℤ, List, length, Option, None, Some}
-use Rattle.std.specs.Option.{option_map}
+use Rattle.std.proofs.Common.{◌≡◌, subst, refl, inl, inr, ℕ, ◌^◌, ◌<◌, ℤ, List, length}
 use Rattle.io_ports.specs.Writes.{SinkShows}
-use Rattle.scop_syntax.specs.Failures.{Failure}
 use Rattle.scop_syntax.specs.Tree.{Program}
-use Rattle.scop_meaning.specs.Outside.{outside_of}
 use Rattle.scop_parser.specs.Spelling.{SpellsProgram, IsRefusedAs}
 use Rattle.scop_parser.specs.declared.refusal.Refusal.{Refusal}
 use Rattle.data_text.specs.Cases.{Says}
@@ -44,11 +41,6 @@ data_answers options ReadFault program text params contents out out_after err er
 data_answers options WriteFault program text params contents out out_after err err_after said answer =
     (answer.0, (params, contents, said, answer.1), answer.2)
 data_answers options NoMemory program text params contents out out_after err err_after said answer = answer.1
-
--- no failure is found where none is told
-pub none_found : (found : Option Failure) → None ≡ option_map outside_of found → found ≡ None
-none_found None told = refl
-none_found (Some f) told = absurd cc
 
 -- nothing was written
 pub untouched : (out err : SinkShows) → AreUntouched out out err err

@@ -6,6 +6,7 @@ use Rattle.std.proofs.lemmas.Bool.{or_left, or_right}
 use Rattle.std.proofs.lemmas.Fmt.{decimal_by_steps_wide, decimal_injective}
 use Rattle.scop_lexer.specs.Bytes.{Text, is_letter, is_digit, is_word_byte}
 use Rattle.form_text.specs.Names.{is_mark, is_name_byte, AreNameBytes, IsVariableName, IsFresh, AreNames}
+use Rattle.form_text.proofs.Names.{bytes_append}
 use Rattle.quast_text.specs.Text.{bound_name, names_within}
 use Rattle.quast_text.specs.Reading.{AreOuter}
 
@@ -31,13 +32,9 @@ digit_is_name n h =
     ) refl in
     or_left (is_word_byte (48 + n)) (is_mark (48 + n)) (or_right (is_letter (48 + n)) (is_digit (48 + n)) digit)
 
-bytes_behind : (v w : Text) → AreNameBytes v → AreNameBytes w → AreNameBytes (v ++ w)
-bytes_behind [] w h g = g
-bytes_behind (b ∷ v) w h g = (h.0, bytes_behind v w h.1 g)
-
 pub decimal_bytes : (n : ℕ) → n < 2 ^ 64 → AreNameBytes (decimal n)
 decimal_bytes n h = decimal_by_steps_wide (λ m ds. AreNameBytes ds) (λ m k. (digit_is_name m k, tt))
-    (λ m ds k g. bytes_behind ds ((48 + m % 10) ∷ []) g (digit_is_name (m % 10) (omega arith), tt)) n (omega (arith, h))
+    (λ m ds k g. bytes_append ds ((48 + m % 10) ∷ []) g (digit_is_name (m % 10) (omega arith), tt)) n (omega (arith, h))
 
 bound_apart : (i j : ℕ) → i < 2 ^ 64 → j < 2 ^ 64 → j < i → bound_name i ≢ bound_name j
 bound_apart i j a b less e =

@@ -8,6 +8,7 @@ use Rattle.std.specs.Fmt.{signed_decimal}
 use Rattle.std.proofs.lemmas.Int.{ints}
 use Rattle.std.proofs.lemmas.List.{append_cancel_left, length-append}
 use Rattle.std.proofs.lemmas.List.Elements.{All-head, All-tail}
+use Rattle.std.proofs.lemmas.Option.{same_Some}
 use Rattle.whole_numbers.specs.Affine.{Affine}
 use Rattle.whole_numbers.specs.Fits.{fits}
 use Rattle.scop_lexer.specs.Bytes.{Text}
@@ -119,10 +120,7 @@ one_source : (loops : List (List ℕ)) (s t : Source) → IsOneOf loops (Some s)
     → s.statement ≡ t.statement → s ≡ t
 one_source loops s t a b same =
     ap₂ (λ (n : ℕ) (ls : List ℕ). source_of n ls) same
-    (some_one s.loops t.loops (sym a ∙ (ap (slice_get loops) same ∙ b)))
-  where
-    some_one : (xs ys : List ℕ) → Some xs ≡ Some ys → xs ≡ ys
-    some_one xs ys e = cc
+    (same_Some s.loops t.loops (sym a ∙ (ap (slice_get loops) same ∙ b)))
 
 -- the parts of a leaf's text
 leaf_parts : (d fs x : Text)

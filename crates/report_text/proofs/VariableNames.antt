@@ -3,41 +3,23 @@ use Rattle.std.proofs.Common.{◌≡◌, ◌∙◌, ap, sym, subst, refl, ℕ, z
 use Rattle.std.proofs.Common.{List, [], ◌∷◌, ◌++◌, drop, get_or, map, decimal}
 use Rattle.std.proofs.Common.{arith, append-nil, append_assoc, inr, inl}
 use Rattle.std.specs.Prelude.{◌≢◌, All}
-use Rattle.std.specs.List.{list_all}
-use Rattle.std.proofs.lemmas.Bool.{false≢true, and_parts, or_left}
+use Rattle.std.proofs.lemmas.Bool.{false≢true}
 use Rattle.std.proofs.lemmas.List.Elements.{All-nil, All-cons, All-head, All-tail}
 use Rattle.std.proofs.lemmas.Fmt.{decimal_injective}
-use Rattle.scop_lexer.specs.Bytes.{Text, is_letter, is_word_byte}
+use Rattle.scop_lexer.specs.Bytes.{Text, is_letter}
 use Rattle.scop_lexer.specs.Words.{IsName}
 use Rattle.scop_syntax.specs.Members.{In, Sorted}
 use Rattle.scop_syntax.specs.Tree.{Declaration, Program}
 use Rattle.scop_syntax.proofs.Members.{in_front}
 use Rattle.scop_units.specs.Names.{HasDistinctNames, header_names}
-use Rattle.form_text.specs.Names.{is_mark, is_name_byte, AreNameBytes, IsVariableName, IsFresh, AreNames}
+use Rattle.form_text.specs.Names.{IsFresh, AreNames}
+use Rattle.form_text.proofs.Names.{fresh_append, variable_name}
 use Rattle.quast_text.specs.Text.{bound_name}
 use Rattle.quast_text.specs.Reading.{AreOuter}
 use Rattle.quast_text.proofs.Names.{fresh_behind, names_behind, decimal_bytes}
 use Rattle.report_text.specs.DepsText.{turn_name, turn_names}
 
--- none of some, nor of others
-fresh_of_both : (name : Text) (xs ys : List Text) → IsFresh name xs → IsFresh name ys → IsFresh name (xs ++ ys)
-fresh_of_both name [] ys f g = g
-fresh_of_both name (x ∷ xs) ys f g = (f.0, fresh_of_both name xs ys f.1 g)
-
 -- ---- words
-
-word_is_name : (b : ℕ) → is_word_byte b ≡ true → is_name_byte b ≡ true
-word_is_name b h = or_left (is_word_byte b) (is_mark b) h
-
-words_are_names : (bs : Text) → list_all is_word_byte bs ≡ true → AreNameBytes bs
-words_are_names [] h = tt
-words_are_names (b ∷ bs) h =
-    let both = and_parts (is_word_byte b) (list_all is_word_byte bs) h in
-    (word_is_name b both.0, words_are_names bs both.1)
-
-variable_name : (name : Text) → IsName name → IsVariableName name
-variable_name [] w = absurd (false≢true w.letter)
-variable_name (b ∷ bs) w = (or_left (is_letter b) (is_mark b) w.letter, (words_are_names (b ∷ bs) w.bytes).1)
 
 -- a name that no letter begins is none of the kernel's
 marked_is_fresh : (b : ℕ) (bs : Text) (names : List Text) → is_letter b ≡ false → All IsName names
@@ -93,7 +75,7 @@ turns_told names (suc d) told w a =
     subst AreNames (append_assoc names (turn_names d) (turn_name (suc d) ∷ []))
     (names_behind (names ++ turn_names d) (turn_name (suc d)) (turns_told names d told w (omega (arith, a)))
     (refl, decimal_bytes (suc d) a)
-    (fresh_of_both (turn_name (suc d)) names (turn_names d)
+    (fresh_append (turn_name (suc d)) names (turn_names d)
     (marked_is_fresh 36 (decimal (suc d)) names refl w) (turn_fresh (suc d) d a (omega arith))))
 
 -- a kernel's parameters and the turns of loops stand round quasts
@@ -106,6 +88,6 @@ outer_names program d distinct words a =
     (sorted_front (λ (v w : Text). v ≢ w) program.parameters arrays distinct.header) own in
     record {
       names = turns_told program.parameters d told own a;
-      fresh = λ j. fresh_of_both (bound_name j) program.parameters (turn_names d)
+      fresh = λ j. fresh_append (bound_name j) program.parameters (turn_names d)
           (marked_is_fresh 35 (decimal j) program.parameters refl own) (no_turn j d);
     }

@@ -2,16 +2,13 @@
 use Rattle.std.proofs.Common.{◌≡◌, ℕ, zero, suc, ◌+◌, ◌*◌, ◌<◌, ◌≤◌, List, [], ◌∷◌, length, drop, get_or, ap, subst}
 use Rattle.std.proofs.Common.{sym, ◌∙◌, arith, drop-cons, refl, mul-le-mul, mul-le-mul_right, mul_assoc, add-mul}
 use Rattle.std.proofs.Common.{one-mul, mul-one, mul-le-mul_left, add-one, drop_of_length-le}
-use Rattle.std.specs.Prelude.{ℤ, pos, negsuc, ◌<ℤ◌, ◌≤ℤ◌}
+use Rattle.std.specs.Prelude.{ℤ, pos, ◌<ℤ◌, ◌≤ℤ◌}
 use Rattle.std.proofs.lemmas.Int.{ints}
 use Rattle.std.proofs.lemmas.List.{get_or-map}
 use Rattle.whole_numbers.specs.Affine.{Affine, value_of}
 use Rattle.scop_syntax.specs.Cells.{values}
 use Rattle.scop_syntax.specs.Execution.{size_of, AreWithin, offset_from, cell_count}
-
-below_extent : (e : ℕ) (s : ℤ) → pos 0 ≤ℤ s → s <ℤ pos e → size_of s < e
-below_extent e (pos n) low high = omega (arith, ints)
-below_extent e (negsuc n) low high = absurd (omega (arith, ints))
+use Rattle.scop_syntax.proofs.Memory.{size_below}
 
 -- dimension i of a cell within its array, and the dimensions behind it
 pub record DimensionsFrom (es : List ℕ) (ss : List ℤ) (i : ℕ) : Type 0 where
@@ -74,7 +71,7 @@ offset_next es ss i o h c =
     let e = get_or es i 0 in
     let s = get_or ss i (pos 0) in
     let t = size_of s in
-    let below = below_step o e t (cell_count (drop (suc i) es)) (cell_count es) (below_extent e s d.low d.high)
+    let below = below_step o e t (cell_count (drop (suc i) es)) (cell_count es) (size_below e s d.low d.high)
     (subst (λ n. (o + 1) * n ≤ cell_count es) (count_step es i d.is) c.below) in
     rw add-one (record { within = d.rest; value = sym (offset_step es ss i o d.is h) ∙ c.value; below = below })
 

@@ -8,7 +8,6 @@ use Rattle.std.proofs.lemmas.Slice.Eq.{bytes_eq-Decides}
 use Rattle.kernel_grammar.specs.Kernel.{Parameter, number, array, Kernel, parameter_elements}
 use Rattle.scop_lexer.specs.Bytes.{Text}
 use Rattle.scop_syntax.specs.Tree.{Declaration}
-use Rattle.scop_roles.specs.declared.fault.Kind.{Kind}
 use Rattle.scop_roles.specs.declared.fault.Kind.TheVariants as kind
 use Rattle.scop_roles.specs.declared.formula.Meaning.{Meaning}
 use Rattle.scop_roles.specs.declared.formula.Meaning.TheVariants as meaning
@@ -22,15 +21,11 @@ use Rattle.scop_units.specs.Judging.{names_faults, behind_names, names_end, decl
 use Rattle.scop_units.specs.Judging.{items_faults, others_at, declared_at, items_at, first_scope, header_scope}
 use Rattle.scop_units.specs.Judging.{body_scope}
 use Rattle.scop_units.specs.Programs.{array_in as its_array, arrays_in, arrays_of}
-use Rattle.scop_units.proofs.Standing.{parts_none, told_none, both_false}
+use Rattle.scop_units.proofs.Standing.{parts_none, told_none, both_false, where_false}
 use Rattle.scop_parser.specs.Names.{IsUnreserved}
 use Rattle.scop_parser.specs.steps.Iterators.{IsUnreservedScope}
 
 -- names that are declared
-where_false : (b : Bool) (k : Kind) → only_where b k ≡ None → b ≡ false
-where_false true k e = absurd (cc)
-where_false false k e = refl
-
 unreserved : (w : Text) → is_reserved w ≡ false → IsUnreserved w
 unreserved w h rest e = false≢true (sym h ∙ ap is_reserved e)
 

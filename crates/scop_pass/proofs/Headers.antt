@@ -1,6 +1,5 @@
 -- The pass over the pieces of a kernel finds the kernel's faults and its program.
-use Rattle.std.proofs.Common.{◌≡◌, ℕ, zero, suc, ◌+◌, List, [], ◌∷◌, ◌++◌, length, refl, sym, ap, ◌∙◌, append_assoc}
-use Rattle.std.proofs.Common.{arith}
+use Rattle.std.proofs.Common.{◌≡◌, ℕ, zero, suc, ◌+◌, List, [], ◌∷◌, ◌++◌, refl, sym, ap, ◌∙◌, append_assoc}
 use Rattle.std.proofs.lemmas.List.{append-nil}
 use Rattle.expression_grammar.specs.Tree.{Tree, size}
 use Rattle.kernel_grammar.specs.declared.part.Mark.{Mark}
@@ -18,6 +17,7 @@ use Rattle.scop_units.specs.Judging.{declared_faults, behind_declared}
 use Rattle.scop_units.specs.Scopes as scopes
 use Rattle.scop_units.specs.Units.{name_faults, number_faults, array_faults, array_of}
 use Rattle.scop_units.specs.Programs.{array_in, arrays_in}
+use Rattle.scop_units.proofs.Declaring.{extents_length}
 use Rattle.scop_pass.specs.Machine.{Pending, idle, State, expects, numbered, declared, run}
 use Rattle.scop_pass.specs.Machine as machine
 use Rattle.scop_pass.proofs.Formulas.{formula-of-written}
@@ -84,12 +84,6 @@ extents-run words s n fs at (x ∷ xs) =
     ∙ ap (λ (gs : List Formula). expects s (machine.extents n gs))
     (append_assoc fs (f ∷ []) (extents_in words s.scope (at + 1 + size x + 1) xs)))
 
-pub length-extents : (words : Words) (s : Scope) (at : ℕ) (xs : List Tree)
-    → length (extents_in words s at xs) ≡ length xs
-length-extents words s at [] = refl
-length-extents words s at (x ∷ xs) =
-    let e = length-extents words s (at + 1 + size x + 1) xs in omega (arith, e)
-
 -- a parameter whose end may not be known yet
 abbrev pub half : Words → State → ℕ → Parameter → State
 half words s at number = expects (numbered words s (at + 1)) idle
@@ -136,7 +130,7 @@ half-flushes words s at (array x xs) m q rest =
     let w = words.spelling (at + 1) in
     let t = with_arrays s (array_faults words s.scope (at + 1) fs) s.scope (array_of words s.scope (at + 1) fs ∷ []) in
     ap (λ (n : ℕ). run words (record t { scope = scopes.with_array s.scope w n; pending = idle }) (mark_at m q ∷ rest))
-    (length-extents words s.scope (at + 1 + 1) (x ∷ xs))
+    (extents_length words s.scope (at + 1 + 1) (x ∷ xs))
 
 -- the first piece of a parameter is a mark
 pub parameter-flushes : (words : Words) (x s : State) (at : ℕ) (p : Parameter) (rest : List Piece) → Flushes words x s

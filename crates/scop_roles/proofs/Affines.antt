@@ -5,7 +5,7 @@ use Rattle.std.specs.Prelude.{if◌then◌else◌, not, ℤ, ◌+ℤ◌, ◌*ℤ
 use Rattle.std.proofs.lemmas.List.Elements.{All-nil, All-cons, All-append}
 use Rattle.whole_numbers.specs.Affine.{Affine, multiple_of_form}
 use Rattle.whole_numbers.specs.Lists.{sums, multiples}
-use Rattle.whole_numbers.proofs.Dot.{length-zeros, length-sums, length-multiples}
+use Rattle.whole_numbers.proofs.Dot.{length-zeros, length-sums, length-multiples, sums-nil}
 use Rattle.whole_numbers.proofs.Sizes.{abs_sum}
 use Rattle.expression_grammar.specs.declared.token.Op.{Op}
 use Rattle.expression_grammar.specs.declared.token.Op.TheVariants as op
@@ -31,13 +31,12 @@ use Rattle.scop_roles.specs.Values.{comparison, tests, read_places}
 use Rattle.scop_roles.proofs.Judging.{unary_first, signed_is_affine}
 use Rattle.scop_roles.proofs.Firsts.{part_or_own_none}
 use Rattle.scop_roles.proofs.Sizes.{constant_affine, variable_affine, opposite_affine, within_affine, at_most-sums}
-use Rattle.scop_roles.proofs.Sizes.{sums-nil}
 use Rattle.scop_roles.proofs.Parts.{judged_none, place_parts, index_value, cast_value, unary_value, signed_unary}
 use Rattle.scop_roles.proofs.Parts.{signed_binary, binary_value, shift_count, combined_plain, condition_sides}
 use Rattle.scop_roles.proofs.Parts.{comparison_sides}
 
-combined_entries : (n : ℕ) (o : Op) (b : Bool) (f g : Affine) → length f.coefficients ≡ n → length g.coefficients ≡ n
-    → length (combined_forms o b f g).coefficients ≡ n
+pub combined_entries : (n : ℕ) (o : Op) (b : Bool) (f g : Affine) → length f.coefficients ≡ n
+    → length g.coefficients ≡ n → length (combined_forms o b f g).coefficients ≡ n
 combined_entries n op.Plus b f g h i = length-sums f.coefficients g.coefficients (h ∙ sym i) ∙ h
 combined_entries n op.Minus b f g h i =
     let l = length-multiples (negsuc 0) g.coefficients ∙ i in
@@ -168,7 +167,7 @@ place_limits ranks n f scope array h r =
     access_limits ranks n f (meaning_of f) refl (known ranks f scope) array
     (rank_there (rank (meaning_of f)) (subscripts f) r) h
 
-ranked_array : (m : Meaning) (k : ℕ) → rank m ≡ k + 1 → IsArrayName m
+pub ranked_array : (m : Meaning) (k : ℕ) → rank m ≡ k + 1 → IsArrayName m
 ranked_array (meaning.Array k r) s e = tt
 ranked_array meaning.Unknown s e = absurd (omega arith)
 ranked_array meaning.Closed s e = absurd (omega arith)
@@ -328,12 +327,12 @@ count_reads (unary s f at) h = absurd (grind (arith, h))
 count_reads (cast f at) h = absurd (grind (arith, h))
 count_reads (binary o f g at) h = absurd (grind (arith, h))
 
-sign_reads : (s : Sign) (e : Expression) → reads_of (signed_value s e) ≡ reads_of e
+pub sign_reads : (s : Sign) (e : Expression) → reads_of (signed_value s e) ≡ reads_of e
 sign_reads sign.Minus e = refl
 sign_reads sign.Complement e = refl
 sign_reads sign.Not e = refl
 
-shift_reads : (o : Op) (e d : Expression) (k : ℕ) → is_shift o ≡ true → reads_of (combined o e d k) ≡ reads_of e
+pub shift_reads : (o : Op) (e d : Expression) (k : ℕ) → is_shift o ≡ true → reads_of (combined o e d k) ≡ reads_of e
 shift_reads op.ShiftLeft e d k h = refl
 shift_reads op.ShiftRight e d k h = refl
 shift_reads _ e d k h = absurd (grind (arith, h))

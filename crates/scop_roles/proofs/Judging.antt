@@ -147,7 +147,7 @@ signed_sides op.Times b = inl (refl, refl, refl)
 signed_sides op.Divide b = inr (refl, refl)
 signed_sides op.Remainder b = inr (refl, refl)
 
-or_else_none : (k l : Option Kind) → or_else k l ≡ None → k ≡ None
+pub or_else_none : (k l : Option Kind) → or_else k l ≡ None → k ≡ None
 or_else_none None l h = refl
 or_else_none (Some k) l h = h
 

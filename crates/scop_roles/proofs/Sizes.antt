@@ -1,7 +1,7 @@
 -- How large the numbers of sums and multiples of forms get.
 use Rattle.std.proofs.Common.{◌≡◌, ℕ, zero, suc, ◌+◌, ◌*◌, ◌^◌, ◌≤◌, ℤ, pos, negsuc, Bool, true, false, nat_le, List}
-use Rattle.std.proofs.Common.{[], ◌∷◌, length, set, length-set, ap, ◌∙◌, refl, arith, mul-le-mul}
-use Rattle.std.specs.Prelude.{◌*ℤ◌, ◌&&◌, unsigned_abs, replicate}
+use Rattle.std.proofs.Common.{[], ◌∷◌, length, set, length-set, ◌∙◌, refl, arith, mul-le-mul}
+use Rattle.std.specs.Prelude.{◌*ℤ◌, ◌&&◌, unsigned_abs}
 use Rattle.std.specs.List.{list_all}
 use Rattle.std.proofs.lemmas.Int.{unsigned_abs-mul}
 use Rattle.whole_numbers.specs.Lists.{sums, multiples, zeros}
@@ -11,10 +11,6 @@ use Rattle.whole_numbers.proofs.Sizes.{abs_sum}
 use Rattle.scop_syntax.specs.Kernel.{AreAtMost, IsForm, IsAffine}
 use Rattle.scop_syntax.proofs.Limits.{at_most_more, at_most_zeros}
 use Rattle.scop_roles.specs.Forms.{is_small, is_within}
-
-pub replicate-zeros : (n : ℕ) → replicate n (pos 0) ≡ zeros n
-replicate-zeros zero = refl
-replicate-zeros (suc n) = ap (λ (zs : List ℤ). pos 0 ∷ zs) (replicate-zeros n)
 
 pub at_most-set : (k : ℕ) (xs : List ℤ) (i : ℕ) (x : ℤ) → AreAtMost k xs → unsigned_abs x ≤ k → AreAtMost k (set xs i x)
 at_most-set k [] i x h small = tt
@@ -88,10 +84,6 @@ variable_affine n k =
 pub constant_affine : (n v : ℕ) → v ≤ 2 ^ 20 → IsAffine n (form_of (zeros n) (pos v))
 constant_affine n v h =
     record { entries = length-zeros n; coefficients = at_most_zeros 16 n; constant = omega arith }
-
-pub sums-nil : (xs : List ℤ) → sums xs [] ≡ xs
-sums-nil [] = refl
-sums-nil (x ∷ xs) = refl
 
 pub opposite_affine : (n : ℕ) (f g : Affine) → g ≡ multiple_of_form (negsuc 0) f → IsAffine n f → IsAffine n g
 opposite_affine n f g e is =

@@ -16,4 +16,5 @@ pub mod Numbers
 pub mod Bounds
 pub mod Values
 pub mod Conflicts
-mod Wrapping
+pub mod Wrapping
+pub mod Falling

@@ -29,7 +29,7 @@ one_step (suc o) (suc p) e s t h k q =
     let r = one_step o p e s t h k (omega arith) in
     (ap suc r.0, r.1)
 
-size_below : (n : ℕ) (s : ℤ) → pos 0 ≤ℤ s → s <ℤ pos n → size_of s < n
+pub size_below : (n : ℕ) (s : ℤ) → pos 0 ≤ℤ s → s <ℤ pos n → size_of s < n
 size_below n (pos m) low high = omega (arith, ints)
 size_below n (negsuc m) low high = absurd (omega (arith, ints))
 

@@ -137,7 +137,8 @@ extents_affine laws n (f ∷ fs) e =
     All-cons (IsAffine n) (form n f) (map (form n) fs) (laws.affine n f (ap first both.0))
     (extents_affine laws n fs both.1)
 
-extents_length : (words : Words) (s : Scope) (at : ℕ) (xs : List Tree) → length (extents_in words s at xs) ≡ length xs
+pub extents_length : (words : Words) (s : Scope) (at : ℕ) (xs : List Tree)
+    → length (extents_in words s at xs) ≡ length xs
 extents_length words s at [] = refl
 extents_length words s at (x ∷ xs) = let m = extents_length words s (at + 1 + size x + 1) xs in omega (arith, m)
 

@@ -7,11 +7,9 @@ use Rattle.std.proofs.lemmas.Slice.Eq.{bytes_eq-Decides}
 use Rattle.kernel_grammar.specs.Kernel.{Parameter, number, array, parameter_elements}
 use Rattle.scop_lexer.specs.Bytes.{Text}
 use Rattle.scop_syntax.specs.Members.{In}
-use Rattle.scop_roles.specs.declared.fault.Kind.{Kind}
 use Rattle.scop_roles.specs.declared.fault.Kind.TheVariants as kind
 use Rattle.scop_roles.specs.declared.formula.Meaning.{Meaning}
 use Rattle.scop_roles.specs.declared.formula.Meaning.TheVariants as meaning
-use Rattle.scop_roles.specs.Faults.{only_where}
 use Rattle.scop_units.specs.Words.{Words}
 use Rattle.scop_units.specs.Scopes.{Scope, Ranked, with_parameter, with_array, with_iterator, number_from, number_of}
 use Rattle.scop_units.specs.Scopes.{variable_or, array_in, outer_meaning, meaning_in, is_known, is_reserved}
@@ -20,7 +18,7 @@ use Rattle.scop_units.specs.Units.{name_faults}
 use Rattle.scop_units.specs.Judging.{width, parameter_faults, behind_parameter, parameters_faults, behind_parameters}
 use Rattle.scop_units.specs.Judging.{names_faults, behind_names, names_end, declared_faults, behind_declared}
 use Rattle.scop_units.specs.Names.{AreDistinct}
-use Rattle.scop_units.proofs.Standing.{parts_none, told_none, both_false}
+use Rattle.scop_units.proofs.Standing.{parts_none, told_none, both_false, where_false}
 
 -- lists
 
@@ -119,10 +117,6 @@ unknown_fresh s w e =
       declared = b.0;
       loops = number_none 0 w s.open_loops a.0;
     }
-
-where_false : (b : Bool) (k : Kind) → only_where b k ≡ None → b ≡ false
-where_false true k e = absurd (cc)
-where_false false k e = refl
 
 pub redeclared_fresh : (s : Scope) (w : Text) → redeclared s w ≡ None → IsFresh s w
 redeclared_fresh s w e =

@@ -35,26 +35,23 @@ pub or_none : (f own : Option Fault) → or_fault f own ≡ None → (f ≡ None
 or_none None own e = (refl, e)
 or_none (Some f) own e = absurd (cc)
 
--- the first of two lists, of three and of four
-two : (fs gs : List Fault) → first (fs ++ gs) ≡ first_of (first fs) (first gs)
-two fs gs = first-append fs gs
-
+-- the first of three lists and of four
 three : (fs gs hs : List Fault) → first (fs ++ (gs ++ hs)) ≡ first_of (first fs) (first_of (first gs) (first hs))
-three fs gs hs = two fs (gs ++ hs) ∙ ap (first_of (first fs)) (two gs hs)
+three fs gs hs = first-append fs (gs ++ hs) ∙ ap (first_of (first fs)) (first-append gs hs)
 
 four : (fs gs hs is : List Fault)
     → first (fs ++ (gs ++ (hs ++ is))) ≡ first_of (first fs) (first_of (first gs) (first_of (first hs) (first is)))
-four fs gs hs is = two fs (gs ++ (hs ++ is)) ∙ ap (first_of (first fs)) (three gs hs is)
+four fs gs hs is = first-append fs (gs ++ (hs ++ is)) ∙ ap (first_of (first fs)) (three gs hs is)
 
 pub number_parts : (words : Words) (s : Scope) (at : ℕ) → first (number_faults words s at)
     ≡ first_of (first (name_faults words s at))
     (first (told at (only_where (nat_le 4 (length s.parameters)) kind.Parameters)))
 number_parts words s at =
-    two (name_faults words s at) (told at (only_where (nat_le 4 (length s.parameters)) kind.Parameters))
+    first-append (name_faults words s at) (told at (only_where (nat_le 4 (length s.parameters)) kind.Parameters))
 
 pub extent_parts : (n : ℕ) (f : Formula) (fs : List Formula) → first (extent_faults n (f ∷ fs))
     ≡ first_of (first (faults n role.Affine f)) (first (extent_faults n fs))
-extent_parts n f fs = two (faults n role.Affine f) (extent_faults n fs)
+extent_parts n f fs = first-append (faults n role.Affine f) (extent_faults n fs)
 
 pub array_parts : (words : Words) (s : Scope) (at : ℕ) (fs : List Formula) → first (array_faults words s at fs)
     ≡ first_of (first (name_faults words s at))
@@ -70,7 +67,7 @@ cell_parts : (n : ℕ) (f : Formula) → first (cell_faults n f)
     (or_fault (first (place_faults n f)) (first (told (place f) (own_rank f))))
 cell_parts n f =
     let rank = told (place f) (own_rank f) in
-    two (told (place f) (own_cell f)) (judged (place_faults n f) rank)
+    first-append (told (place f) (own_cell f)) (judged (place_faults n f) rank)
     ∙ ap (first_of (first (told (place f) (own_cell f)))) (judged_first (place_faults n f) rank)
 
 pub stored_parts : (n : ℕ) (s : Stored) → first (stored_faults n s)
@@ -79,7 +76,8 @@ pub stored_parts : (n : ℕ) (s : Stored) → first (stored_faults n s)
 stored_parts n s =
     let own = told s.assign_at (own_assign s.assign s.value) in
     judged_first (cell_faults n s.cell ++ faults n role.Value s.value) own
-    ∙ ap (λ (f : Option Fault). or_fault f (first own)) (two (cell_faults n s.cell) (faults n role.Value s.value))
+    ∙ ap (λ (f : Option Fault). or_fault f (first own))
+    (first-append (cell_faults n s.cell) (faults n role.Value s.value))
 
 pub statement_parts : (n comparisons before : ℕ) (s : Stored) → first (statement_faults n comparisons before s)
     ≡ first_of (first (stored_faults n s)) (first_of (first (read_limit (slice_get (reads_of s) 16)))
@@ -135,7 +133,7 @@ part_parts s h =
     let hs = faults (entries s + 1) role.Loose h.second in
     let is = faults (entries s + 1) role.Free h.changed in
     let js = change_faults (entries s + 1) h.change in
-    two fs (gs ++ (hs ++ (is ++ js))) ∙ ap (first_of (first fs)) (four gs hs is js)
+    first-append fs (gs ++ (hs ++ (is ++ js))) ∙ ap (first_of (first fs)) (four gs hs is js)
 
 pub loop_parts : (s : Scope) (h : LoopHead) → first (loop_faults s h)
     ≡ first_of (or_fault (first (part_faults s h))
@@ -144,7 +142,7 @@ pub loop_parts : (s : Scope) (h : LoopHead) → first (loop_faults s h)
 loop_parts s h =
     let own = told h.place (only_where (not (is_form (entries s) h)) kind.LoopForm) in
     let deep = told h.place (only_where (nat_le 5 (length s.open_loops)) kind.Depth) in
-    two (judged (part_faults s h) own) deep
+    first-append (judged (part_faults s h) own) deep
     ∙ ap (λ (f : Option Fault). first_of f (first deep)) (judged_first (part_faults s h) own)
 
 -- a loop over extents: the next one judged

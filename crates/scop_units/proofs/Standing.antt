@@ -57,6 +57,10 @@ where_none : (at : ℕ) (b : Bool) (k : Kind) → told at (only_where b k) ≡ [
 where_none at true k e = absurd (cc)
 where_none at false k e = refl
 
+pub where_false : (b : Bool) (k : Kind) → only_where b k ≡ None → b ≡ false
+where_false true k e = absurd (cc)
+where_false false k e = refl
+
 pub only_none : (b : Bool) (k : Kind) → only_where (not b) k ≡ None → b ≡ true
 only_none true k e = refl
 only_none false k e = absurd (cc)
@@ -97,7 +101,7 @@ count_bounds low high (binary o f g at) e = absurd (cc)
 
 -- statements
 
-array_name : (m : Meaning) → is_array m ≡ true → IsArrayName m
+pub array_name : (m : Meaning) → is_array m ≡ true → IsArrayName m
 array_name (meaning.Array k r) e = tt
 array_name meaning.Unknown e = absurd (cc)
 array_name meaning.Closed e = absurd (cc)

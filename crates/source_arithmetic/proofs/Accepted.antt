@@ -1,7 +1,6 @@
 -- What has no fault where it stands means something within the limits.
-use Rattle.std.proofs.Common.{◌≡◌, ◌∙◌, ap, sym, subst, refl, ℕ, zero, suc, ◌<◌, ◌≤◌, ◌==◌, ◌^◌, Bool, true, false}
-use Rattle.std.proofs.Common.{◌&&◌, List, [], ◌∷◌, ◌++◌, length, ℤ, pos, ◌-ℤ◌, get_or, arith, All, inl, inr}
-use Rattle.std.proofs.Common.{unsigned_abs, set}
+use Rattle.std.proofs.Common.{◌≡◌, ◌∙◌, ap, sym, subst, refl, ℕ, ◌≤◌, ◌==◌, ◌^◌, Bool, true, false}
+use Rattle.std.proofs.Common.{◌&&◌, List, [], ◌∷◌, ◌++◌, ℤ, pos, ◌-ℤ◌, get_or, All, inl, inr, set}
 use Rattle.std.specs.Prelude.{Option, Some, None}
 use Rattle.std.proofs.lemmas.Bool.{eqb-true}
 use Rattle.std.proofs.lemmas.List.{length-set}
@@ -12,7 +11,7 @@ use Rattle.expression_grammar.specs.declared.token.Op.{Op}
 use Rattle.expression_grammar.specs.declared.token.Op.TheVariants as op
 use Rattle.expression_grammar.specs.declared.token.Sign.TheVariants as sign
 use Rattle.expression_grammar.specs.declared.token.Suffix.TheVariants as suffix
-use Rattle.scop_syntax.specs.Kernel.{AreAtMost}
+use Rattle.scop_syntax.proofs.Limits.{at_most_at}
 use Rattle.scop_roles.specs.declared.fault.Kind.{Kind}
 use Rattle.scop_roles.specs.declared.fault.Kind.TheVariants as kind
 use Rattle.scop_roles.specs.declared.formula.Meaning.{Meaning}
@@ -25,13 +24,14 @@ use Rattle.scop_roles.specs.Forms.{form, is_within}
 use Rattle.scop_roles.specs.Formula.{Formula, constant, name, index, bare_call, call, unary, cast, binary, place}
 use Rattle.scop_roles.specs.Formula.{meaning_of, subscripts}
 use Rattle.scop_roles.specs.Scope.{IsArray, IsArrayName, IsInScope}
+use Rattle.scop_roles.proofs.Affines.{ranked_array}
 use Rattle.scop_roles.proofs.Firsts.{first_none}
 use Rattle.scop_roles.proofs.Judging.{signed_is_affine, sum_sides}
 use Rattle.scop_roles.proofs.Parts.{judged_none, append_none, place_parts, index_value, cast_value, unary_value}
 use Rattle.scop_roles.proofs.Parts.{signed_unary, signed_binary, binary_value, shift_count, condition_sides}
 use Rattle.scop_roles.proofs.Parts.{comparison_sides}
 use Rattle.scop_units.specs.Units.{Stored, own_cell, cell_faults, stored_faults, extent_faults}
-use Rattle.scop_units.proofs.Standing.{parts_none, told_none, only_none}
+use Rattle.scop_units.proofs.Standing.{parts_none, told_none, only_none, where_false}
 use Rattle.scop_units.proofs.Standing as standing
 use Rattle.source_arithmetic.specs.Arithmetic.{whole, has_sign, HasNoComma, HasWhole}
 use Rattle.source_arithmetic.specs.Limits.{IsSmall, IsLinear, IsLinearTruth, JoinsNoConstants, IsSummand, IsLinearPlace}
@@ -39,16 +39,11 @@ use Rattle.source_arithmetic.specs.Limits.{IsFitWord, IsFitStored}
 use Rattle.source_arithmetic.proofs.Wholes.{AreAffine, form_value, affine_sides, own_parts}
 use Rattle.source_arithmetic.proofs.Conditions.{is_compared, no_condition}
 use Rattle.source_arithmetic.proofs.Signs.{comma_sides, signed_has, sign_same, signed_parts}
-use Rattle.source_arithmetic.proofs.Defined.{has_count, has_stored, has_word, name_word, ranked_array}
+use Rattle.source_arithmetic.proofs.Defined.{has_count, has_stored, has_word, name_word}
 use Rattle.source_arithmetic.proofs.Storing.{stored_parts}
 use Rattle.source_arithmetic.proofs.Fitting.{at_zeros, at_unit}
 
 -- affine expressions
-at_most_get : (b : ℕ) (cs : List ℤ) (k : ℕ) → AreAtMost b cs → k < length cs → unsigned_abs (get_or cs k (pos 0)) ≤ b
-at_most_get b [] k h lt = absurd (omega arith)
-at_most_get b (c ∷ cs) zero h lt = h.0
-at_most_get b (c ∷ cs) (suc k) h lt = at_most_get b cs k h.1 (omega arith)
-
 small_of : (affine : AreAffine) (n : ℕ) (f : Formula) → first (faults n role.Affine f) ≡ None → IsSmall n f
 small_of affine n f h =
     let is = affine n f h in
@@ -58,10 +53,9 @@ small_of affine n f h =
       constant = rw constant_is is.constant;
       entries = λ k lt.
           let unit = form_value n f (set (zeros n) k (pos 1)) (length-set (zeros n) k (pos 1) ∙ length-zeros n) h in
-          let long = is.entries in
           let same : whole (set (zeros n) k (pos 1)) f -ℤ whole (zeros n) f ≡ get_or (form n f).coefficients k (pos 0) =
           rw (sym unit, sym origin) (at_unit (form n f) n k lt) in
-          rw same (at_most_get 16 (form n f).coefficients k is.coefficients (omega arith));
+          rw same (at_most_at 16 (form n f).coefficients k is.coefficients);
     }
 
 sum_linear : (n : ℕ) (o : Op) (f g : Formula) (at : ℕ) → is_sum_or_product o ≡ true
@@ -145,10 +139,6 @@ rank_is f e =
 or_parts : (k l : Option Kind) → or_else k l ≡ None → (k ≡ None) × (l ≡ None)
 or_parts None l e = (refl, e)
 or_parts (Some k) l e = absurd (cc)
-
-where_false : (b : Bool) (k : Kind) → only_where b k ≡ None → b ≡ false
-where_false true k e = absurd (cc)
-where_false false k e = refl
 
 joins_none : (n : ℕ) (f : Formula) → first (faults n role.Signed f) ≡ None → JoinsNoConstants f
 joins_none n (unary sign.Minus f at) h = joins_none n f (judged_none (faults n role.Signed f) at None h).0

@@ -20,6 +20,7 @@ use Rattle.scop_roles.specs.Forms.{is_shift, is_signed}
 use Rattle.scop_roles.specs.Formula.{Formula, constant, name, index, bare_call, call, unary, cast, binary}
 use Rattle.scop_roles.specs.Formula.{meaning_of, subscripts}
 use Rattle.scop_roles.specs.Scope.{IsArray, IsArrayName, IsInScope}
+use Rattle.scop_roles.proofs.Affines.{ranked_array}
 use Rattle.scop_roles.proofs.Judging.{signed_is_affine}
 use Rattle.scop_roles.proofs.Parts.{judged_none, place_parts, index_value, cast_value, unary_value, signed_unary}
 use Rattle.scop_roles.proofs.Parts.{signed_binary, binary_value, shift_count}
@@ -41,12 +42,6 @@ has_cell n (name m at) a h = array_cell m at a
 has_cell n (index q i) a h =
     let parts = place_parts n q i h in (has_cell n q a parts.0, has_whole n i parts.1)
 has_cell n _ a h = absurd a
-
-pub ranked_array : (m : Meaning) (k : ℕ) → rank m ≡ k + 1 → IsArrayName m
-ranked_array (meaning.Array k r) s e = tt
-ranked_array meaning.Unknown s e = absurd (omega arith)
-ranked_array meaning.Closed s e = absurd (omega arith)
-ranked_array (meaning.Variable k) s e = absurd (omega arith)
 
 -- counts
 pub has_count : (f : Formula) → is_count 0 63 f ≡ true → IsCount f

@@ -1,7 +1,7 @@
 -- Expressions that mean something within the limits have no fault where they stand.
 use Rattle.std.proofs.Common.{◌≡◌, ◌∙◌, ap, ap₂, sym, subst, refl, ℕ, suc, ◌^◌, ◌<◌, ◌≤◌, ◌==◌, Bool, true}
 use Rattle.std.proofs.Common.{false}
-use Rattle.std.proofs.Common.{◌&&◌, nat_le, nat_lt, List, [], ◌∷◌, ◌++◌, length, ℤ, pos, negsuc, ◌-ℤ◌, get_or}
+use Rattle.std.proofs.Common.{◌&&◌, nat_le, nat_lt, List, [], ◌∷◌, ◌++◌, length, ℤ, pos, ◌-ℤ◌, get_or}
 use Rattle.std.proofs.Common.{arith}
 use Rattle.std.proofs.Common.{unsigned_abs, inl, inr, set}
 use Rattle.std.specs.Prelude.{Option, None, not, if◌then◌else◌}
@@ -10,8 +10,8 @@ use Rattle.std.proofs.lemmas.Int.{ints}
 use Rattle.std.proofs.lemmas.Bool.Decides.{nat_tests}
 use Rattle.std.proofs.lemmas.List.{length-set}
 use Rattle.whole_numbers.specs.Affine.{Affine, value_of}
-use Rattle.whole_numbers.specs.Lists.{zeros, multiples}
-use Rattle.whole_numbers.proofs.Dot.{dot_comm, dot-zeros, dot-unit, length-zeros, length-sums, length-multiples}
+use Rattle.whole_numbers.specs.Lists.{zeros}
+use Rattle.whole_numbers.proofs.Dot.{dot_comm, dot-zeros, dot-unit, length-zeros}
 use Rattle.expression_grammar.specs.declared.token.Assign.{Assign}
 use Rattle.expression_grammar.specs.declared.token.Assign.TheVariants as assigns
 use Rattle.expression_grammar.specs.declared.token.Op.{Op}
@@ -27,9 +27,9 @@ use Rattle.scop_roles.specs.Faults.{first, told, judged, faults, place_faults, o
 use Rattle.scop_roles.specs.Faults.{own_signed, own_rank, rank, is_count, or_else, are_plain_constants, term_role}
 use Rattle.scop_roles.specs.Faults.{operand_role}
 use Rattle.scop_roles.specs.Forms.{is_sum_or_product, is_product, is_signed, has_name, form, is_small, is_within}
-use Rattle.scop_roles.specs.Forms.{combined_forms}
 use Rattle.scop_roles.specs.Formula.{Formula, constant, name, index, unary, cast, binary, place}
 use Rattle.scop_roles.specs.Formula.{meaning_of, subscripts}
+use Rattle.scop_roles.proofs.Affines.{combined_entries}
 use Rattle.scop_units.specs.Units.{Stored, is_array, own_cell, cell_faults, own_assign, stored_faults}
 use Rattle.source_arithmetic.specs.Arithmetic.{whole, has_sign, IsCount, HasStored}
 use Rattle.source_arithmetic.specs.Limits.{IsSmall, IsLinear, IsLinearTruth, JoinsNoConstants, IsLinearPlace}
@@ -90,16 +90,6 @@ form_within n f long worth small =
     (upto (unsigned_abs a.constant) (2 ^ 20) (rw constant_is small.constant))
 
 -- affine expressions
-combined_long : (n : ℕ) (o : Op) (b : Bool) (f g : Affine) → length f.coefficients ≡ n → length g.coefficients ≡ n
-    → length (combined_forms o b f g).coefficients ≡ n
-combined_long n op.Plus b f g h i = length-sums f.coefficients g.coefficients (h ∙ sym i) ∙ h
-combined_long n op.Minus b f g h i =
-    let l = length-multiples (negsuc 0) g.coefficients ∙ i in
-    length-sums f.coefficients (multiples (negsuc 0) g.coefficients) (h ∙ sym l) ∙ h
-combined_long n op.Times true f g h i = length-multiples g.constant f.coefficients ∙ h
-combined_long n op.Times false f g h i = length-multiples f.constant g.coefficients ∙ i
-combined_long n _ b f g h i = h
-
 own_none : (n : ℕ) (o : Op) (f g : Formula) (at : ℕ) → (is_product o && (has_name f && has_name g)) ≡ false
     → is_within (form n (binary o f g at)) ≡ true → own_term n o f g at ≡ None
 own_none n o f g at e w = rw (e, w) refl
@@ -110,7 +100,7 @@ term_none : (affine : AreAffine) (n : ℕ) (o : Op) (f g : Formula) (at : ℕ) �
 term_none affine n o f g at s e x y small =
     let left = ap first x in
     let right = ap first y in
-    let long = combined_long n o (has_name f) (form n f) (form n g) (affine n f left).entries
+    let long = combined_entries n o (has_name f) (form n f) (form n g) (affine n f left).entries
     (affine n g right).entries in
     own_none n o f g at e
     (form_within n (binary o f g at) long

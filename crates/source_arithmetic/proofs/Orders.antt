@@ -8,11 +8,9 @@ use Rattle.std.specs.Prelude.{Option, Some, None, ⊤}
 use Rattle.std.proofs.lemmas.Slice.Eq.{bytes_eq-Decides}
 use Rattle.kernel_grammar.specs.Kernel.{Parameter, number, array}
 use Rattle.scop_lexer.specs.Bytes.{Text}
-use Rattle.scop_roles.specs.declared.fault.Kind.{Kind}
 use Rattle.scop_roles.specs.declared.fault.Kind.TheVariants as kind
 use Rattle.scop_roles.specs.declared.formula.Meaning.{Meaning}
 use Rattle.scop_roles.specs.declared.formula.Meaning.TheVariants as meaning
-use Rattle.scop_roles.specs.Faults.{only_where}
 use Rattle.scop_units.specs.Words.{Words}
 use Rattle.scop_units.specs.Scopes.{Scope, Ranked, no_scope, with_parameter, with_array, with_iterator, with_loop}
 use Rattle.scop_units.specs.Scopes.{entries}
@@ -21,7 +19,7 @@ use Rattle.scop_units.specs.Scopes.{is_known, is_reserved, redeclared, taken, it
 use Rattle.scop_units.specs.Units.{name_faults}
 use Rattle.scop_units.specs.Judging.{parameter_faults, behind_parameter}
 use Rattle.scop_units.specs.Judging.{names_faults, behind_names, names_end, declared_faults, behind_declared}
-use Rattle.scop_units.proofs.Standing.{parts_none, told_none, both_false}
+use Rattle.scop_units.proofs.Standing.{parts_none, told_none, both_false, where_false}
 use Rattle.source_arithmetic.specs.Meaning.{NamesMean}
 use Rattle.source_arithmetic.proofs.Iterators.{own_meaning, kept_meaning, same_text, equal_text}
 
@@ -297,10 +295,6 @@ with_iterator_means s u closed unknown names =
     kept w e = rw e refl
 
 -- names that are declared without a fault
-none_false : (b : Bool) (k : Kind) → only_where b k ≡ None → b ≡ false
-none_false true k e = absurd (cc)
-none_false false k e = refl
-
 not_known : (m : Meaning) → is_known m ≡ false → m ≡ meaning.Unknown
 not_known meaning.Unknown e = refl
 not_known _ e = absurd (cc)
@@ -309,7 +303,7 @@ fresh : (s : Scope) (w : Text) → redeclared s w ≡ None → meaning_in s w �
 fresh s w e =
     not_known (meaning_in s w)
     (both_false (is_known (meaning_in s w)) (is_reserved w)
-    (none_false (is_known (meaning_in s w) || is_reserved w) kind.Redeclared e)).0
+    (where_false (is_known (meaning_in s w) || is_reserved w) kind.Redeclared e)).0
 
 named_fresh : (words : Words) (s : Scope) (at : ℕ) → name_faults words s at ≡ []
     → meaning_in s (words.spelling at) ≡ meaning.Unknown

@@ -5,8 +5,6 @@ use Rattle.std.specs.Prelude.{None, if◌then◌else◌}
 use Rattle.std.proofs.lemmas.List.{map-append, append-nil}
 use Rattle.whole_numbers.specs.Affine.{value_of}
 use Rattle.expression_grammar.specs.declared.token.Op.{Op}
-use Rattle.expression_grammar.specs.declared.token.Op.TheVariants as op
-use Rattle.expression_grammar.specs.declared.token.Sign.{Sign}
 use Rattle.expression_grammar.specs.declared.token.Sign.TheVariants as sign
 use Rattle.scop_syntax.specs.Tree.{Access, Expression, affine}
 use Rattle.scop_syntax.specs.Cells.{Cell, cell_of, reads_of, values}
@@ -16,6 +14,7 @@ use Rattle.scop_roles.specs.Faults.{first, faults, place_faults, is_count}
 use Rattle.scop_roles.specs.Forms.{is_shift, is_signed, form}
 use Rattle.scop_roles.specs.Formula.{Formula, constant, name, index, bare_call, call, unary, cast, binary, meaning_of}
 use Rattle.scop_roles.specs.Values.{access, array_number, subscript_forms, expression, signed_value, combined, count}
+use Rattle.scop_roles.proofs.Affines.{shift_reads, sign_reads}
 use Rattle.scop_roles.proofs.Parts.{place_parts, index_value, cast_value, unary_value, binary_value, shift_count}
 use Rattle.scop_roles.proofs.Parts.{combined_plain}
 use Rattle.source_arithmetic.specs.Arithmetic.{array_named, subscripts_at, cell, cells_in}
@@ -82,16 +81,6 @@ count_reads (call m f at) p e = refl
 count_reads (unary s f at) p e = absurd (cc)
 count_reads (cast f at) p e = absurd (cc)
 count_reads (binary o f g at) p e = absurd (cc)
-
-sign_reads : (s : Sign) (e : Expression) → reads_of (signed_value s e) ≡ reads_of e
-sign_reads sign.Minus e = refl
-sign_reads sign.Complement e = refl
-sign_reads sign.Not e = refl
-
-shift_reads : (o : Op) (e d : Expression) (k : ℕ) → is_shift o ≡ true → reads_of (combined o e d k) ≡ reads_of e
-shift_reads op.ShiftLeft e d k h = refl
-shift_reads op.ShiftRight e d k h = refl
-shift_reads _ e d k h = absurd (cc)
 
 -- an operator of unsigned values reads what its sides do
 unsigned_reads : (n : ℕ) (o : Op) (e d : Expression) (f g : Formula) (p : List ℤ) (b : Bool) → is_shift o ≡ b

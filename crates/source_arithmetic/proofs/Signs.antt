@@ -1,20 +1,21 @@
 -- A value without faults is signed by its type exactly where its role says so.
 use Rattle.std.proofs.Common.{◌≡◌, ℕ, Bool, true, false, ◌&&◌, ◌++◌, refl, ◌∙◌}
-use Rattle.std.specs.Prelude.{Option, Some, None}
+use Rattle.std.specs.Prelude.{Some, None}
 use Rattle.std.proofs.lemmas.Bool.{and_parts}
 use Rattle.expression_grammar.specs.declared.token.Op.{Op}
 use Rattle.expression_grammar.specs.declared.token.Op.TheVariants as op
 use Rattle.expression_grammar.specs.declared.token.Sign.TheVariants as sign
 use Rattle.expression_grammar.specs.declared.token.Suffix.TheVariants as suffix
-use Rattle.scop_roles.specs.declared.fault.Kind.{Kind}
 use Rattle.scop_roles.specs.declared.fault.Kind.TheVariants as kind
 use Rattle.scop_roles.specs.declared.formula.Meaning.{Meaning}
 use Rattle.scop_roles.specs.declared.formula.Meaning.TheVariants as meaning
 use Rattle.scop_roles.specs.declared.formula.Role.TheVariants as role
-use Rattle.scop_roles.specs.Faults.{first, faults, only_where, or_else, own, operand_role, side_role}
+use Rattle.scop_roles.specs.Faults.{first, faults, only_where, own, operand_role, side_role}
 use Rattle.scop_roles.specs.Forms.{is_number, is_signed, is_sum_or_product}
 use Rattle.scop_roles.specs.Formula.{Formula, constant, name, index, bare_call, call, unary, cast, binary}
+use Rattle.scop_roles.proofs.Judging.{or_else_none}
 use Rattle.scop_roles.proofs.Parts.{judged_none, unary_value, binary_value}
+use Rattle.scop_units.proofs.Standing.{where_false}
 use Rattle.source_arithmetic.specs.Arithmetic.{has_sign, names_signed, makes_signed, HasNoComma}
 
 pub comma_sides : (o : Op) (f g : Formula) (at : ℕ) → HasNoComma (binary o f g at) → HasNoComma f × HasNoComma g
@@ -55,14 +56,6 @@ signed_has (binary o f g at) e =
     let parts = signed_parts o f g at e in
     made_signed o (has_sign f) (has_sign g) parts.0 (signed_has f parts.1) (signed_has g parts.2)
 
-where_false : (b : Bool) (k : Kind) → only_where b k ≡ None → b ≡ false
-where_false true k e = absurd (cc)
-where_false false k e = refl
-
-first_none : (k l : Option Kind) → or_else k l ≡ None → k ≡ None
-first_none None l e = refl
-first_none (Some k) l e = absurd (cc)
-
 -- an operator without fault that is not signed in its role
 unsigned_made : (n : ℕ) (o : Op) (f g : Formula) (at : ℕ) → is_signed (binary o f g at) ≡ false
     → own n role.Value (binary o f g at) ≡ None → HasNoComma (binary o f g at)
@@ -74,9 +67,9 @@ unsigned_made n op.BitAnd f g at u e c = where_false (is_signed f && is_signed g
 unsigned_made n op.BitXor f g at u e c = where_false (is_signed f && is_signed g) kind.SignedValue e
 unsigned_made n op.BitOr f g at u e c = where_false (is_signed f && is_signed g) kind.SignedValue e
 unsigned_made n op.ShiftLeft f g at u e c =
-    where_false (is_signed f) kind.SignedValue (first_none (only_where (is_signed f) kind.SignedValue) _ e)
+    where_false (is_signed f) kind.SignedValue (or_else_none (only_where (is_signed f) kind.SignedValue) _ e)
 unsigned_made n op.ShiftRight f g at u e c =
-    where_false (is_signed f) kind.SignedValue (first_none (only_where (is_signed f) kind.SignedValue) _ e)
+    where_false (is_signed f) kind.SignedValue (or_else_none (only_where (is_signed f) kind.SignedValue) _ e)
 unsigned_made n op.Comma f g at u e c = absurd c
 unsigned_made n _ f g at u e c = absurd (cc)
 

@@ -8,27 +8,19 @@ use Rattle.scop_syntax.specs.Tree.{plus, minus, times, bits_and, bits_or, bits_x
 use Rattle.scop_syntax.specs.Cells.{Cell, cell_of, reads_with}
 use Rattle.scop_syntax.specs.Values.{applied, stored_by}
 use Rattle.scop_roles.specs.declared.fault.Kind.TheVariants as kind
-use Rattle.scop_roles.specs.declared.formula.Meaning.{Meaning}
-use Rattle.scop_roles.specs.declared.formula.Meaning.TheVariants as meaning
 use Rattle.scop_roles.specs.declared.formula.Role.TheVariants as role
 use Rattle.scop_roles.specs.Faults.{first, told, faults, place_faults, is_count}
 use Rattle.scop_roles.specs.Formula.{Formula, place, meaning_of}
-use Rattle.scop_roles.specs.Scope.{IsArray, IsArrayName, IsInScope}
+use Rattle.scop_roles.specs.Scope.{IsArray, IsInScope}
 use Rattle.scop_roles.specs.Values.{access}
 use Rattle.scop_units.specs.Units.{is_array, Stored, own_cell, cell_faults, own_assign, stored_faults, right_of}
 use Rattle.scop_units.specs.Units.{statement_of}
-use Rattle.scop_units.proofs.Standing.{parts_none, judged_none, told_none, only_none}
+use Rattle.scop_units.proofs.Standing.{parts_none, judged_none, told_none, only_none, array_name}
 use Rattle.source_arithmetic.specs.Arithmetic.{cell, word, cells_in, cells_read, HasNoComma, HasCell, HasWord}
 use Rattle.source_arithmetic.specs.Arithmetic.{HasStored, stored}
 use Rattle.source_arithmetic.proofs.Defined.{has_cell, has_word, has_stored}
 use Rattle.source_arithmetic.proofs.Words.{count_word, word_read}
 use Rattle.source_arithmetic.proofs.Places.{cells_of, cell_same, count_reads, reads_same}
-
-array_name : (m : Meaning) → is_array m ≡ true → IsArrayName m
-array_name (meaning.Array k r) e = tt
-array_name meaning.Unknown e = absurd (cc)
-array_name meaning.Closed e = absurd (cc)
-array_name (meaning.Variable k) e = absurd (cc)
 
 -- a place and a value without faults, and an operator that may stand between them
 pub record IsStored (n : ℕ) (s : Stored) : Type 0 where

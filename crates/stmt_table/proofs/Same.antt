@@ -1,9 +1,9 @@
 -- What numbers that are the same modulo 2^64 have in common.
 use Rattle.std.proofs.Common.{◌≡◌, ◌∙◌, ap, sym, refl, ℕ, suc, ◌<◌, ◌≤◌, List, [], ◌∷◌, ◌++◌, length, drop, get_or}
-use Rattle.std.proofs.Common.{◌-◌, ◌%◌, ◌^◌, arith}
-use Rattle.std.specs.Prelude.{ℤ, pos, negsuc, ◌+ℤ◌, ◌*ℤ◌}
+use Rattle.std.proofs.Common.{◌-◌, arith}
+use Rattle.std.specs.Prelude.{ℤ, pos, ◌+ℤ◌, ◌*ℤ◌}
 use Rattle.std.specs.Int.{cast_unsigned, int_wrap, w64}
-use Rattle.std.proofs.lemmas.Int.{int_wrap-add_same, int_wrap-add_right, int_wrap-mul_right, int_wrap_fits, ints, of_z-to_z}
+use Rattle.std.proofs.lemmas.Int.{int_wrap-add_same, int_wrap-add_right, int_wrap-mul_right, int_wrap_fits, ints}
 use Rattle.std.proofs.lemmas.Int.{SFits-int_wrap}
 use Rattle.whole_numbers.specs.Affine.{Affine, value_of}
 use Rattle.whole_numbers.specs.Lists.{dot}
@@ -11,14 +11,9 @@ use Rattle.whole_numbers.proofs.Dot.{dot-nil, dot_comm}
 use Rattle.whole_numbers.proofs.Ring.{mul_zero_right}
 use Rattle.scop_syntax.specs.Cells.{values}
 use Rattle.scop_syntax.specs.Values.{wrapped}
+use Rattle.scop_syntax.proofs.Wrapping.{wrapped_is}
 use Rattle.stmt_table.specs.Numbers.{row_major}
 use Rattle.stmt_table.specs.steps.Same.{AreSame, IsSame}
-
--- the bits of a wrapped number
-wrapped_is : (x : ℤ) → cast_unsigned w64 (int_wrap w64 x) ≡ wrapped x
-unfolding int_wrap
-wrapped_is (pos n) = of_z-to_z w64 (n % 2 ^ 64) (omega arith)
-wrapped_is (negsuc n) = of_z-to_z w64 (2 ^ 64 - 1 - n % 2 ^ 64) (omega arith)
 
 -- so are they as numbers below 2^64
 pub wrapped_same : (x y : ℤ) → IsSame x y → wrapped x ≡ wrapped y

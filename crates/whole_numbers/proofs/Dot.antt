@@ -1,5 +1,6 @@
 use Rattle.std.proofs.Common.{◌≡◌, ℕ, zero, suc, ◌<◌, ◌≤◌, ℤ, pos, ◌+ℤ◌, ◌-ℤ◌, ◌*ℤ◌, List, [], ◌∷◌, ◌++◌}
 use Rattle.std.proofs.Common.{length, set, get_or, refl, ap, sym, ◌∙◌, arith}
+use Rattle.std.specs.Prelude.{replicate}
 use Rattle.std.proofs.lemmas.Int.{ints}
 use Rattle.whole_numbers.specs.Lists.{dot, sums, multiples, zeros}
 use Rattle.whole_numbers.proofs.Ring.{mul_distrib_left, mul_distrib_right, mul_sub_left, mul_assoc_int}
@@ -92,6 +93,16 @@ length-multiples k (x ∷ xs) = let more = length-multiples k xs in omega arith
 pub length-zeros : (n : ℕ) → length (zeros n) ≡ n
 length-zeros zero = refl
 length-zeros (suc n) = let more = length-zeros n in omega arith
+
+-- 0, repeated
+pub replicate-zeros : (n : ℕ) → replicate n (pos 0) ≡ zeros n
+replicate-zeros zero = refl
+replicate-zeros (suc n) = ap (λ (zs : List ℤ). pos 0 ∷ zs) (replicate-zeros n)
+
+-- a sum with no entries is the other list
+pub sums-nil : (xs : List ℤ) → sums xs [] ≡ xs
+sums-nil [] = refl
+sums-nil (x ∷ xs) = refl
 
 -- a sum of lists of one length has that length
 pub length-sums : (xs ys : List ℤ) → length xs ≡ length ys → length (sums xs ys) ≡ length xs

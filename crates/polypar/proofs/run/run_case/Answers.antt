@@ -6,7 +6,7 @@ use Rattle.scop_syntax.specs.Failures.{first_outside}
 use Rattle.scop_syntax.specs.View.{program_of}
 use Rattle.scop_syntax.specs.Walk.{walk_of}
 use Rattle.scop_meaning.specs.Outside.{outside_of}
-use Rattle.polypar.proofs.RunLemmas.{none_found}
+use Rattle.scop_meaning.proofs.Outside.{none_found}
 use Rattle.polypar.proofs.run.run_case.Goals as goal
 
 pub run_inside-requires-clause-inside : goal.run_inside-requires-clause-inside

@@ -1,15 +1,12 @@
-use Rattle.std.proofs.Common.{◌≡◌, ℕ, List, Option, Some, None, subst, refl}
+use Rattle.std.proofs.Common.{◌≡◌, ℕ, List, None, subst}
 use Rattle.std.specs.Option.{option_map}
 use Rattle.scop_syntax.specs.Execution.{layout}
-use Rattle.scop_syntax.specs.Failures.{Failure, VisitsAreRanked, first_outside}
+use Rattle.scop_syntax.specs.Failures.{VisitsAreRanked, first_outside}
 use Rattle.scop_syntax.specs.View.{program_of}
 use Rattle.scop_syntax.specs.Walk.{walk_of}
 use Rattle.scop_meaning.specs.Outside.{outside_of}
+use Rattle.scop_meaning.proofs.Outside.{none_found}
 use Rattle.run_tests.proofs.plans.check_inside.Goals as goal
-
-none_found : (o : Option Failure) → None ≡ option_map outside_of o → o ≡ None
-none_found None h = refl
-none_found (Some f) h = absurd cc
 
 pub returns-in-None : goal.returns-in-None
 returns-in-None c =
