@@ -1,10 +1,10 @@
 -- Which unknown stands where in the list of a dependence's unknowns, and what the claimed forms are there.
 use Rattle.std.proofs.Common.{◌≡◌, ℕ, zero, suc, ◌+◌, Bool, true, false, ℤ, pos, negsuc, List, [], ◌∷◌, ◌++◌}
 use Rattle.std.proofs.Common.{◌+ℤ◌, ◌-ℤ◌, ◌*ℤ◌, length, reverse, get_or, refl, sym, ◌∙◌, ap, ap₂, subst, arith}
-use Rattle.std.proofs.Common.{append_assoc, rules}
-use Rattle.std.specs.Prelude.{nat_eq, nat_lt, if◌then◌else◌, ◌<◌, ◌≤◌, ◌↔◌}
+use Rattle.std.proofs.Common.{append_assoc}
+use Rattle.std.specs.Prelude.{nat_eq, nat_lt, if◌then◌else◌, ◌<◌, ◌↔◌}
 use Rattle.std.proofs.Math.Seq.{get_or-append_seam}
-use Rattle.std.proofs.lemmas.Bool.{eqb-true, eq-eqb}
+use Rattle.std.proofs.lemmas.Bool.{eqb-true, eq-eqb, lt-ltb, le-ltb}
 use Rattle.std.proofs.lemmas.Int.{ints}
 use Rattle.std.proofs.lemmas.List.{append-nil, length-append, length-reverse, reverse-append}
 use Rattle.whole_numbers.specs.Affine.{Affine, form_of}
@@ -182,12 +182,6 @@ differ_less a b h = grind arith
 differ_more : (a b : ℕ) → b < a → nat_eq a b ≡ false
 differ_more a b h = grind arith
 
-less_yes : (a b : ℕ) → a < b → nat_lt a b ≡ true
-less_yes a b h = search rules
-
-less_no : (a b : ℕ) → b ≤ a → nat_lt a b ≡ false
-less_no a b h = search rules
-
 -- the layouts, by which statement is the first
 layout_by : (p : ℕ) (source target : DepEnd) (b c : Bool) → nat_eq source.statement target.statement ≡ b
     → nat_lt source.statement target.statement ≡ c
@@ -210,13 +204,13 @@ pub layout_before : (p : ℕ) (source target : DepEnd) → source.statement < ta
     → layout_of p source target ≡ places (behind (behind (p + 1) source) target) (p + 1) (behind (p + 1) source)
 layout_before p source target h =
     layout_by p source target false true (differ_less source.statement target.statement h)
-    (less_yes source.statement target.statement h)
+    (lt-ltb source.statement target.statement h)
 
 pub layout_behind : (p : ℕ) (source target : DepEnd) → target.statement < source.statement
     → layout_of p source target ≡ places (behind (behind (p + 1) target) source) (behind (p + 1) target) (p + 1)
 layout_behind p source target h =
     layout_by p source target false false (differ_more source.statement target.statement h)
-    (less_no source.statement target.statement (omega arith))
+    (le-ltb source.statement target.statement (omega arith))
 
 -- multiples by 1 and by 0
 ones : (xs : List ℤ) → multiples (pos 1) xs ≡ xs

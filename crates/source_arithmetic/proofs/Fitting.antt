@@ -9,6 +9,7 @@ use Rattle.std.specs.List.{list_all}
 use Rattle.std.proofs.lemmas.Int.{ints}
 use Rattle.std.proofs.lemmas.Bool.Decides.{nat_tests}
 use Rattle.std.proofs.lemmas.List.{length-set}
+use Rattle.std.proofs.lemmas.Bool.{le-leb}
 use Rattle.whole_numbers.specs.Affine.{Affine, value_of}
 use Rattle.whole_numbers.specs.Lists.{zeros, multiples}
 use Rattle.whole_numbers.proofs.Dot.{dot_comm, dot-zeros, dot-unit, length-zeros, length-sums, length-multiples}
@@ -56,9 +57,6 @@ at_unit f n k lt =
     let u = dot_comm f.coefficients (set (zeros n) k (pos 1)) ∙ dot-unit n k f.coefficients lt in
     omega (arith, ints)
 
-pub upto : (a b : ℕ) → a ≤ b → nat_le a b ≡ true
-upto a b h = grind (arith, nat_tests, h)
-
 not_past : (a b : ℕ) → a ≤ b → nat_lt b a ≡ false
 not_past a b h = grind (arith, nat_tests, h)
 
@@ -69,7 +67,7 @@ all_small : (cs : List ℤ) → ((k : ℕ) → k < length cs → unsigned_abs (g
     → list_all is_small cs ≡ true
 all_small [] h = refl
 all_small (c ∷ cs) h =
-    both_true (is_small c) (list_all is_small cs) (upto (unsigned_abs c) 16 (h 0 (omega arith)))
+    both_true (is_small c) (list_all is_small cs) (le-leb (unsigned_abs c) 16 (h 0 (omega arith)))
     (all_small cs (λ k lt. h (suc k) (omega arith)))
 
 form_within : (n : ℕ) (f : Formula) → length (form n f).coefficients ≡ n
@@ -87,7 +85,7 @@ form_within n f long worth small =
     let same : get_or a.coefficients k (pos 0) ≡ whole (set (zeros n) k (pos 1)) f -ℤ whole (zeros n) f =
     sym entry ∙ rw (unit, origin) refl in
     rw same (small.entries k inside)))
-    (upto (unsigned_abs a.constant) (2 ^ 20) (rw constant_is small.constant))
+    (le-leb (unsigned_abs a.constant) (2 ^ 20) (rw constant_is small.constant))
 
 -- affine expressions
 combined_long : (n : ℕ) (o : Op) (b : Bool) (f g : Affine) → length f.coefficients ≡ n → length g.coefficients ≡ n
@@ -222,7 +220,7 @@ rank_none f e = ap (λ b. only_where (not b) kind.Rank) (same_number (rank (mean
 -- counts
 count_is : (f : Formula) → IsCount f → is_count 0 63 f ≡ true
 count_is (constant suffix.Absent v at) h =
-    both_true (nat_le 0 v) (nat_le v 63) (upto 0 v (omega arith)) (upto v 63 (omega (arith, h)))
+    both_true (nat_le 0 v) (nat_le v 63) (le-leb 0 v (omega arith)) (le-leb v 63 (omega (arith, h)))
 count_is _ h = absurd h
 
 count_none : (n : ℕ) (f : Formula) → IsCount f → faults n role.Value f ≡ []

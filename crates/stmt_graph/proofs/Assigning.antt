@@ -2,9 +2,7 @@
 use Rattle.std.proofs.Common.{◌≡◌, ℕ, zero, suc, ◌<◌, Bool, true, false, List, [], refl, sym, ◌∙◌, ap, ◌⊎◌}
 use Rattle.std.proofs.Common.{inl, inr, arith, length, None, Some, nat_eq, nat_lt}
 use Rattle.std.specs.Prelude.{◌≤◌, ◌↔◌, if◌then◌else◌}
-use Rattle.std.proofs.Common.{rules}
-use Rattle.std.proofs.lemmas.Bool.{false≢true, eq-eqb}
-use Rattle.std.proofs.lemmas.Bool.Decides.{nat_tests}
+use Rattle.std.proofs.lemmas.Bool.{false≢true, eq-eqb, le-ltb, ltb-false, eqb-true}
 use Rattle.stmt_graph.specs.Graph.{number_in, Reaches, IsNumbering}
 use Rattle.stmt_graph.specs.Closure.{IsClosure, reaches, joined, IsFree, IsNext, IsGiven}
 use Rattle.stmt_graph.proofs.Counting.{lt_or_le, lt_or_eq, either, count, count_falls, found, none_counted}
@@ -257,12 +255,6 @@ blocks_off false true true e h k = refl
 blocks_off false true false e h k = absurd (false≢true (sym e))
 blocks_off false false z e h k = absurd (false≢true k)
 
-not_below : (a k : ℕ) → nat_lt a k ≡ false → k ≤ a
-not_below a k h = grind (arith, nat_tests, h)
-
-is_not_below : (a k : ℕ) → k ≤ a → nat_lt a k ≡ false
-is_not_below a k h = search rules
-
 pub some_free : (n : ℕ) (edges : List (ℕ × ℕ)) (rows : List (List Bool)) (numbers : List ℕ) (k : ℕ)
     → IsClosure n edges rows
     → (fuel a : ℕ) → count (λ c. reaches rows c a) n < fuel → a < n → k ≤ number_in numbers a
@@ -278,14 +270,14 @@ some_free n edges rows numbers k c (suc fuel) a lf la ka = elim (found (blocks r
       (reaches_on edges x b a (reach_to n edges rows x b c lx lb r)
       (reach_to n edges rows b a c lb la t.1)))
       la t.2 (reach_from n edges rows a a c la la ([], refl)) in
-      some_free n edges rows numbers k c fuel b (omega arith) lb (not_below (number_in numbers b) k t.0)
+      some_free n edges rows numbers k c fuel b (omega arith) lb (ltb-false (number_in numbers b) k t.0)
   | inr f ↦ (
     a,
     la,
     ka,
     λ b lb kb r.
         blocks_off (nat_lt (number_in numbers b) k) (reaches rows b a) (reaches rows a b) (f b lb)
-        (is_not_below (number_in numbers b) k kb) r,
+        (le-ltb (number_in numbers b) k kb) r,
   )
 ]
 
@@ -305,12 +297,6 @@ none_next n edges rows numbers k c p none =
 abbrev pub unnumbered : ℕ → List ℕ → ℕ
 unnumbered n numbers = count (λ a. nat_eq (number_in numbers a) n) n
 
-is_eq : (a b : ℕ) → a ≡ b → nat_eq a b ≡ true
-is_eq a b h = eq-eqb a b h
-
-eq_is : (a b : ℕ) → nat_eq a b ≡ true → a ≡ b
-eq_is a b h = grind (arith, nat_tests, h)
-
 not_eq : (a b : ℕ) → a < b → nat_eq a b ≡ false
 not_eq a b h = grind arith
 
@@ -324,10 +310,10 @@ fewer_unnumbered n edges rows a k old new c lk p next g =
     let s = p.size in
     count_falls (λ x. nat_eq (number_in new x) n) (λ x. nat_eq (number_in old x) n) n a
     (λ b lb e.
-    let q = eq_is (number_in new b) n e in
+    let q = eqb-true (number_in new b) n e in
     elim (given_at n edges rows a k old new b c la lb s g) [
       | inl u ↦ let w = u.0 in absurd (omega arith)
-      | inr u ↦ is_eq (number_in old b) n (sym u.0 ∙ q)
+      | inr u ↦ eq-eqb (number_in old b) n (sym u.0 ∙ q)
     ])
     la
     (elim (given_at n edges rows a k old new a c la la s g) [
@@ -336,7 +322,7 @@ fewer_unnumbered n edges rows a k old new c lk p next g =
     ])
     (elim (p.each a la) [
       | inl u ↦ absurd (omega arith)
-      | inr u ↦ is_eq (number_in old a) n u
+      | inr u ↦ eq-eqb (number_in old a) n u
     ])
 
 pub none_unnumbered : (n : ℕ) (edges : List (ℕ × ℕ)) (k : ℕ) (numbers : List ℕ) → IsPartial n edges k numbers
@@ -345,5 +331,5 @@ none_unnumbered n edges k numbers p z = all_given n edges k numbers p (λ a la. 
   | inl u ↦ u
   | inr u ↦ absurd
       (false≢true (sym (none_counted (λ x. nat_eq (number_in numbers x) n) n z a la)
-      ∙ is_eq (number_in numbers a) n u))
+      ∙ eq-eqb (number_in numbers a) n u))
 ])
