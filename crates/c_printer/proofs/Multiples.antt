@@ -9,10 +9,7 @@ use Rattle.c_printer.proofs.Putting.{past_all}
 use Rattle.std.specs.Prelude.{ℤ, ◌+ℤ◌, ◌*ℤ◌, max}
 use Rattle.whole_numbers.specs.Lists.{sums, multiples}
 use Rattle.whole_numbers.proofs.Ring.{mul_zero_right, add_zero_left, add_comm_int}
-
-sums_nil : (xs : List ℤ) → sums xs [] ≡ xs
-sums_nil [] = refl
-sums_nil (x ∷ xs) = refl
+use Rattle.whole_numbers.proofs.Entries.{sums-nil}
 
 nothing_added : (k x : ℤ) → x +ℤ (k *ℤ pos 0) ≡ x
 nothing_added k x = ap (λ (z : ℤ). x +ℤ z) (mul_zero_right k) ∙ (add_comm_int x (pos 0) ∙ add_zero_left x)
@@ -28,12 +25,12 @@ entry_ahead : (k : ℤ) (xs ys : List ℤ) (i : ℕ) → i < max (length xs) (le
     → sums (drop i xs) (multiples k (drop i ys))
     ≡ (get_or xs i (pos 0) +ℤ (k *ℤ get_or ys i (pos 0))) ∷ sums (drop (suc i) xs) (multiples k (drop (suc i) ys))
 entry_ahead k [] [] i h = absurd (omega (arith, h))
-entry_ahead k (x ∷ xs) [] zero h = ap₂ (λ (z : ℤ) (zs : List ℤ). z ∷ zs) (sym (nothing_added k x)) (sym (sums_nil xs))
+entry_ahead k (x ∷ xs) [] zero h = ap₂ (λ (z : ℤ) (zs : List ℤ). z ∷ zs) (sym (nothing_added k x)) (sym (sums-nil xs))
 entry_ahead k (x ∷ xs) [] (suc i) h =
-    sums_nil (drop i xs)
+    sums-nil (drop i xs)
     ∙ (of_one xs i (omega (arith, h))
     ∙ ap₂ (λ (z : ℤ) (zs : List ℤ). z ∷ zs) (sym (nothing_added k (get_or xs i (pos 0))))
-    (sym (sums_nil (drop (suc i) xs))))
+    (sym (sums-nil (drop (suc i) xs))))
 entry_ahead k [] (y ∷ ys) zero h = ap (λ (z : ℤ). z ∷ multiples k ys) (sym (add_zero_left (k *ℤ y)))
 entry_ahead k [] (y ∷ ys) (suc i) h =
     ap (multiples k) (of_one ys i (omega (arith, h)))

@@ -8,12 +8,12 @@ use Rattle.std.proofs.lemmas.List.Elements.{All-head, All-tail, All-map}
 use Rattle.whole_numbers.specs.Affine.{Affine, form_of}
 use Rattle.whole_numbers.specs.Lists.{zeros}
 use Rattle.whole_numbers.specs.Content.{lowest_of_form}
+use Rattle.whole_numbers.proofs.Entries.{all_front}
 use Rattle.affine_forms.specs.Parts.{variables_of}
 use Rattle.fractions.specs.Fractions.{value_over}
 use Rattle.fractions.specs.Elimination.{coefficient_of, is_zero, is_positive, is_negative, is_not_zero, chosen, pairs}
 use Rattle.fractions.specs.Elimination.{reduced, first_with, eliminated_by, eliminated, removed, narrowed}
 use Rattle.fractions.specs.Farkas.{own_rows, IsHomogeneous, AreAmong, Dropped, Leaves}
-use Rattle.fractions.proofs.Chosen.{All-front}
 use Rattle.fractions.proofs.Dropping.{own_rows_stay, own_rows_absent}
 use Rattle.fractions.proofs.Homogeneous.{eliminated_homogeneous, narrowed_homogeneous}
 use Rattle.integer_sets.specs.Constraints.{Constraints, system_of, variables_in}
@@ -203,7 +203,7 @@ step-ok budget b k s u t more dimensions parameters se sr he hr own first second
 
 among : (b k : ℕ) (rows more : List Affine) → rows ≡ own_rows b k ++ more → AreAmong (own_rows b k) rows
 among b k rows more h d numerators all =
-    All-front (λ g. pos 0 ≤ℤ value_over g d numerators) (own_rows b k) more
+    all_front (λ g. pos 0 ≤ℤ value_over g d numerators) (own_rows b k) more
     (subst (λ (fs : List Affine). All (λ g. pos 0 ≤ℤ value_over g d numerators) fs) h all)
 
 -- all eliminations

@@ -11,6 +11,7 @@ use Rattle.std.proofs.lemmas.List.{map-append, append_assoc, length-map}
 use Rattle.loop_tree.specs.SpotView.{mark_of, marks_of}
 use Rattle.loop_tree.specs.declared.spot.Mark.{Mark as CodeMark}
 use Rattle.std.proofs.Common.{negsuc}
+use Rattle.whole_numbers.proofs.Order.{le_or_lt}
 use Rattle.scop_syntax.specs.Walk.{Instance, most_turns}
 use Rattle.loop_tree.specs.Tree.{Bounds, Test, Tree, Trees, guard, loop, more, none}
 use Rattle.loop_tree.specs.Walk.{all_hold, walk, walk_all, given, lower, upper}
@@ -149,14 +150,11 @@ pub length-restarted : (ms : List Mark) → length (restarted ms) ≡ length ms
 length-restarted [] = refl
 length-restarted (m ∷ ms) = refl
 
-le_or_less : (x y : ℤ) → (x ≤ℤ y) ⊎ (y <ℤ x)
-le_or_less x y = grind (arith, ints)
-
 -- before all turns from x on, they are all to come
 pub turns_restarted : (body : Trees) (ms : List Mark) (x last : ℤ) (params outer : List ℤ)
     → deep_all body ≤ length ms
     → rest_from body (restarted ms) x last params outer ≡ turns_shown body params outer x last
-turns_restarted body ms x last params outer room = by (le_or_less x last)
+turns_restarted body ms x last params outer room = by (le_or_lt x last)
   where
     by : ((x ≤ℤ last) ⊎ (last <ℤ x))
         → rest_from body (restarted ms) x last params outer ≡ turns_shown body params outer x last

@@ -7,6 +7,7 @@ use Rattle.std.specs.Int.{w128}
 use Rattle.std.proofs.lemmas.Int.{ints}
 use Rattle.whole_numbers.specs.Lists.{dot}
 use Rattle.whole_numbers.proofs.Dot.{dot-nil}
+use Rattle.whole_numbers.proofs.Lists.{dot-split}
 use Rattle.loop_tree.specs.Fits.{Room, SumsFit}
 
 pub room_fits : (z : ℤ) → Room z → FitsSigned w128 z
@@ -22,11 +23,6 @@ empty = []
 drop_none : (k : ℕ) → drop k empty ≡ empty
 drop_none zero = refl
 drop_none (suc k) = refl
-
-pub dot_parts : (cs xs ys : List ℤ) → dot cs (xs ++ ys) ≡ dot cs xs +ℤ dot (drop (length xs) cs) ys
-dot_parts cs [] ys = let e = dot-nil cs in omega (arith, ints)
-dot_parts [] (x ∷ xs) ys = refl
-dot_parts (c ∷ cs) (x ∷ xs) ys = let r = dot_parts cs xs ys in omega (arith, ints)
 
 pub fits_front : (sum : ℤ) (cs xs ys : List ℤ) → SumsFit sum cs (xs ++ ys) → SumsFit sum cs xs
 fits_front sum [] xs ys h = tt
@@ -60,7 +56,7 @@ pub summed_one : (start sum next : ℤ) (coefficients rest left xs ys zs : List 
 summed_one start sum next coefficients rest left xs ys zs y s here is drops =
     let fits = subst (SumsFit sum rest) here s.fits in
     let back = fits_back sum rest (y ∷ []) zs fits in
-    let parts = dot_parts rest (y ∷ []) zs in
+    let parts = dot-split rest (y ∷ []) zs in
     let whole = s.whole in
     let same = ap (λ (ws : List ℤ). dot rest ws) here in
     let end = ap (λ (cs : List ℤ). dot cs zs) drops in

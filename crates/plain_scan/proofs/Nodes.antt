@@ -5,6 +5,7 @@ use Rattle.std.specs.Prelude.{◌<ℤ◌, if◌then◌else◌}
 use Rattle.std.specs.Int.Signed.{le_z}
 use Rattle.std.proofs.lemmas.Int.{ints}
 use Rattle.whole_numbers.specs.Affine.{Affine, value_of}
+use Rattle.whole_numbers.proofs.Tests.{if_both}
 use Rattle.scop_syntax.proofs.Members.{both, le_z_holds, holds_le_z}
 use Rattle.integer_sets.specs.Points.{Satisfies}
 use Rattle.loop_tree.specs.Tree.{Bounds, Test, equal, Tree, loop, guard, instance, Trees, none, more}
@@ -74,11 +75,6 @@ holds_zero z h =
     let p = holds_le_z (pos 0) z b.0 in
     let q = holds_le_z z (pos 0) b.1 in
     omega (arith, ints)
-
-if_both : (a b : Bool) → a ≡ true → b ≡ true → (if a then b else false) ≡ true
-if_both true true h k = refl
-if_both true false h k = k
-if_both false b h k = h
 
 pub rows_hold : (fs : List Affine) (point : List ℤ) → all_hold (row_tests fs) point ≡ true → AllAtLeast fs point
 rows_hold [] point h = tt

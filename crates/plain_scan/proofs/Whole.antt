@@ -4,6 +4,7 @@ use Rattle.std.proofs.Common.{refl, sym, ◌∙◌, ap, subst, All, arith}
 use Rattle.std.specs.Prelude.{◌≤◌, ◌^◌, ◌≤ℤ◌, unsigned_abs}
 use Rattle.std.proofs.lemmas.Int.{ints}
 use Rattle.std.proofs.lemmas.List.Elements.{All-cons, All-head, All-nil, All-tail}
+use Rattle.std.proofs.lemmas.List.{nil_from_length}
 use Rattle.integer_sets.specs.Scanned.{Scanned}
 use Rattle.fm_projection.specs.Alone.{AreInRange}
 use Rattle.scop_syntax.proofs.Limits.{size, abs_at_most}
@@ -128,7 +129,3 @@ pub none_kept : (sets : List Scanned) (os : List Outline) → LeavesOut sets (se
     → ⊥
 none_kept sets [] left some e = absurd (omega (arith, some))
 none_kept sets (o ∷ os) left some e = subst (λ ss. LeavesOut ss (sets_in (o ∷ os))) e left
-
-pub empty_list : {X : Type 0} (xs : List X) → length xs ≡ 0 → xs ≡ []
-empty_list [] e = refl
-empty_list (x ∷ xs) e = absurd (omega (arith, e))

@@ -3,8 +3,7 @@ use Rattle.std.proofs.Common.{◌≡◌, ℕ, zero, suc, ◌+◌, ◌<◌, Bool,
 use Rattle.std.proofs.Common.{◌∙◌, ap, ap₂, ◌⊎◌, inl, inr, arith, length}
 use Rattle.std.specs.Prelude.{nat_eq, nat_lt, if◌then◌else◌, slice_index_or}
 use Rattle.std.proofs.lemmas.List.{append-nil}
-use Rattle.std.proofs.lemmas.Bool.{eq-eqb, lt-ltb, le-ltb}
-use Rattle.stmt_graph.proofs.Counting.{lt_or_le}
+use Rattle.std.proofs.lemmas.Bool.{eq-eqb, lt-ltb, le-ltb, cases_lt}
 use Rattle.iteration_domains.specs.declared.dep.DepEnd.{DepEnd}
 use Rattle.iteration_domains.specs.Dependence.{Dependence}
 use Rattle.farkas.specs.Unknowns.{Part, Unknowns, part_numbers, end_numbers}
@@ -113,9 +112,9 @@ ends_by s t x b c e f =
     ∙ ap (λ (z : Bool). by_tests b z (part_numbers x.source) (part_numbers x.target)) f
 
 three : (a b : ℕ) → (a ≡ b) ⊎ ((a < b) ⊎ (b < a))
-three a b = elim (lt_or_le a b) [
+three a b = elim (cases_lt a b) [
   | inl h ↦ inr (inl h)
-  | inr h ↦ elim (lt_or_le b a) [
+  | inr h ↦ elim (cases_lt b a) [
     | inl k ↦ inr (inr k)
     | inr k ↦ inl (omega arith)
   ]

@@ -7,7 +7,7 @@ use Rattle.std.proofs.lemmas.Int.{ints}
 use Rattle.std.proofs.lemmas.List.Elements.{All-nil, All-cons, All-append, All-head, All-tail}
 use Rattle.whole_numbers.specs.Lists.{dot, sums, multiples}
 use Rattle.whole_numbers.specs.Lexicographic.{LexLess}
-use Rattle.whole_numbers.proofs.Lexicographic.{LexLess-irrefl}
+use Rattle.whole_numbers.proofs.Lexicographic.{LexLess-irrefl, LexLess-front}
 use Rattle.whole_numbers.proofs.Dot.{dot-sums, dot-multiples, dot-nil, dot_comm, length-sums}
 use Rattle.whole_numbers.proofs.Dot.{length-multiples}
 use Rattle.whole_numbers.proofs.Ring.{mul_one_right, mul_zero_right}
@@ -24,7 +24,7 @@ use Rattle.schedule_rows.specs.Outcomes.{IsSchedule, Runs}
 use Rattle.schedule_rows.proofs.Along.{along_values}
 use Rattle.schedule_rows.proofs.Reading.{next_ends}
 use Rattle.schedule_rows.proofs.Running.{schedule_along}
-use Rattle.schedule_rows.proofs.Tiling.{less_front, length-values, length-band_values}
+use Rattle.schedule_rows.proofs.Tiling.{length-values, length-band_values}
 use Rattle.schedule_rows.proofs.Measuring.{rows_closed, rows_scalar}
 use Rattle.schedule_rows.proofs.Determined.{same_parts, same_head, same_tail}
 use Rattle.null_space.specs.Narrowing.{kernel_vectors}
@@ -145,7 +145,7 @@ pub times_rise : LeavesOnly0 → (m : ℕ) (loops : List ℕ) (deps : List Depen
 times_rise full_rank m loops deps blocks sized s d params x y i l r later =
     elim (along_values blocks x y (x.number ≡ y.number)
     (schedule_along m loops deps blocks sized s d params x y i l r)) [
-      | inl v ↦ less_front (values blocks x) (values blocks y) (pos x.number ∷ []) (pos y.number ∷ [])
+      | inl v ↦ LexLess-front (values blocks x) (values blocks y) (pos x.number ∷ []) (pos y.number ∷ [])
           (length-values blocks x y) v
       | inr e ↦
           let z = sized d i in

@@ -6,6 +6,7 @@ use Rattle.std.proofs.lemmas.List.Elements.{All-nil, All-cons, All-append}
 use Rattle.whole_numbers.specs.Affine.{Affine, multiple_of_form}
 use Rattle.whole_numbers.specs.Lists.{sums, multiples}
 use Rattle.whole_numbers.proofs.Dot.{length-zeros, length-sums, length-multiples}
+use Rattle.whole_numbers.proofs.Entries.{sums-nil}
 use Rattle.expression_grammar.specs.declared.token.Op.{Op}
 use Rattle.expression_grammar.specs.declared.token.Op.TheVariants as op
 use Rattle.expression_grammar.specs.declared.token.Sign.{Sign}
@@ -30,7 +31,7 @@ use Rattle.scop_roles.specs.Values.{comparison, tests, read_places}
 use Rattle.scop_roles.proofs.Judging.{unary_first, signed_is_affine}
 use Rattle.scop_roles.proofs.Firsts.{part_or_own_none}
 use Rattle.scop_roles.proofs.Sizes.{constant_affine, variable_affine, opposite_affine, within_affine, at_most-sums}
-use Rattle.scop_roles.proofs.Sizes.{abs_add, sums-nil}
+use Rattle.scop_roles.proofs.Sizes.{abs_add}
 use Rattle.scop_roles.proofs.Parts.{judged_none, place_parts, index_value, cast_value, unary_value, signed_unary}
 use Rattle.scop_roles.proofs.Parts.{signed_binary, binary_value, shift_count, combined_plain, condition_sides}
 use Rattle.scop_roles.proofs.Parts.{comparison_sides}

@@ -1,7 +1,7 @@
 -- How large the numbers of sums and multiples of forms get.
 use Rattle.std.proofs.Common.{◌≡◌, ℕ, zero, suc, ◌+◌, ◌*◌, ◌^◌, ◌≤◌, ℤ, pos, negsuc, true, nat_le, List}
-use Rattle.std.proofs.Common.{[], ◌∷◌, length, get_or, set, length-set, ap, ◌∙◌, refl, arith, mul-le-mul}
-use Rattle.std.specs.Prelude.{◌+ℤ◌, ◌*ℤ◌, unsigned_abs, replicate}
+use Rattle.std.proofs.Common.{[], ◌∷◌, length, get_or, set, length-set, ◌∙◌, arith, mul-le-mul}
+use Rattle.std.specs.Prelude.{◌+ℤ◌, ◌*ℤ◌, unsigned_abs}
 use Rattle.std.specs.List.{list_all}
 use Rattle.std.proofs.lemmas.Int.{ints, unsigned_abs-mul}
 use Rattle.std.proofs.lemmas.Bool.{and_parts}
@@ -11,10 +11,6 @@ use Rattle.whole_numbers.proofs.Dot.{length-multiples, length-zeros}
 use Rattle.scop_syntax.specs.Kernel.{AreAtMost, IsForm, IsAffine}
 use Rattle.scop_syntax.proofs.Limits.{abs_low, abs_high, abs_at_most}
 use Rattle.scop_roles.specs.Forms.{is_small, is_within}
-
-pub replicate-zeros : (n : ℕ) → replicate n (pos 0) ≡ zeros n
-replicate-zeros zero = refl
-replicate-zeros (suc n) = ap (λ (zs : List ℤ). pos 0 ∷ zs) (replicate-zeros n)
 
 pub at_most-get : (k : ℕ) (xs : List ℤ) (i : ℕ) → AreAtMost k xs → unsigned_abs (get_or xs i (pos 0)) ≤ k
 at_most-get k [] i h = omega arith
@@ -104,10 +100,6 @@ variable_affine n k =
 pub constant_affine : (n v : ℕ) → v ≤ 2 ^ 20 → IsAffine n (form_of (zeros n) (pos v))
 constant_affine n v h =
     record { entries = length-zeros n; coefficients = at_most-zeros 16 n; constant = omega arith }
-
-pub sums-nil : (xs : List ℤ) → sums xs [] ≡ xs
-sums-nil [] = refl
-sums-nil (x ∷ xs) = refl
 
 pub opposite_affine : (n : ℕ) (f g : Affine) → g ≡ multiple_of_form (negsuc 0) f → IsAffine n f → IsAffine n g
 opposite_affine n f g e is =

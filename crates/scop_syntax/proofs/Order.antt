@@ -1,11 +1,12 @@
 -- The walk stands in the order of its instances.
-use Rattle.std.proofs.Common.{◌≡◌, ℕ, suc, ◌+◌, ◌<◌, true, false, ℤ, pos, List, [], ◌∷◌, map, Some, inl, inr, subst}
+use Rattle.std.proofs.Common.{◌≡◌, ℕ, suc, ◌+◌, ◌<◌, true, ℤ, pos, List, [], ◌∷◌, map, Some, inl, inr, subst}
 use Rattle.std.proofs.Common.{sym, refl, arith}
 use Rattle.std.specs.Prelude.{◌≤◌, ◌↔◌, slice_get, nat_eq, ⊤}
 use Rattle.std.proofs.lemmas.Int.{ints}
 use Rattle.std.proofs.lemmas.Bool.{eq-eqb}
 use Rattle.whole_numbers.specs.Lexicographic.{LexLess}
 use Rattle.whole_numbers.proofs.Lexicographic.{LexLess-irrefl, LexLess-asym}
+use Rattle.whole_numbers.proofs.Tests.{nat_eq_below}
 use Rattle.scop_syntax.specs.Tree.{Tree, loop, guard, statement, Trees, none, more}
 use Rattle.scop_syntax.specs.Members.{In, Sorted}
 use Rattle.scop_syntax.specs.Walk.{all_hold, turn_point, condition_at, most_turns, turns, statements_in}
@@ -73,14 +74,11 @@ mutual
 nat_eq_refl : (n : ℕ) → nat_eq n n ≡ true
 nat_eq_refl n = eq-eqb n n refl
 
-nat_eq_false : (m n : ℕ) → m < n → nat_eq m n ≡ false
-nat_eq_false m n h = grind arith
-
 -- no loop is common to statements of two items
 apart : (n m k : ℕ) (ks ls : List ℕ) → StartsIn n m ks → StartsIn (n + m) k ls → common ks ls ≡ 0
 apart n m k [] ls g h = refl
 apart n m k (i ∷ is) [] g h = refl
-apart n m k (i ∷ is) (j ∷ js) g h = rw (nat_eq_false i j (omega (arith, g.1, h.0))) refl
+apart n m k (i ∷ is) (j ∷ js) g h = rw (nat_eq_below i j (omega (arith, g.1, h.0))) refl
 
 -- one more loop is common to visits of its body
 one_more : (l : ℕ) (ks ls : List ℕ) → common (l ∷ ks) (l ∷ ls) ≡ suc (common ks ls)

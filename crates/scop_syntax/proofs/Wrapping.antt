@@ -32,6 +32,7 @@ use Rattle.std.specs.Int.{w64, cast_signed, cast_unsigned, int_wrap}
 use Rattle.std.proofs.lemmas.Int.{ints, int_wrap-add_left, int_wrap-add_right, wrapping_add-bits, wrapping_mul_is}
 use Rattle.std.proofs.lemmas.Int.{to_z-of_z, of_z-to_z}
 use Rattle.whole_numbers.specs.Lists.{dot}
+use Rattle.whole_numbers.proofs.Dot.{dot-nil}
 
 -- one more product, wrapped on the way
 pub wrap_step : (v p rest : ℤ) → int_wrap w64 (int_wrap w64 (v +ℤ p) +ℤ rest) ≡ int_wrap w64 (v +ℤ (p +ℤ rest))
@@ -45,15 +46,11 @@ pub dot_step : (xs ys : List ℤ) (i : ℕ) → i < length xs → i < length ys 
 dot_step xs ys i h k = rw (add-one, drop-cons xs i (pos 0), drop-cons ys i (pos 0)) refl
 
 -- nothing is left past the end of the shorter list
-dot_nil : (xs : List ℤ) → dot xs [] ≡ pos 0
-dot_nil [] = refl
-dot_nil (x ∷ xs) = refl
-
 pub dot_end : (xs ys : List ℤ) (i : ℕ) → min (length xs) (length ys) ≤ i → dot (drop i xs) (drop i ys) ≡ pos 0
 dot_end [] ys zero e = refl
 dot_end [] ys (suc i) e = refl
 dot_end (x ∷ xs) [] zero e = refl
-dot_end (x ∷ xs) [] (suc i) e = dot_nil (drop i xs)
+dot_end (x ∷ xs) [] (suc i) e = dot-nil (drop i xs)
 dot_end (x ∷ xs) (y ∷ ys) zero e = absurd (omega arith)
 dot_end (x ∷ xs) (y ∷ ys) (suc i) e = dot_end xs ys i (omega arith)
 

@@ -1,9 +1,8 @@
 -- A list's elements one by one: what stands before one and behind it.
-use Rattle.std.proofs.Common.{◌≡◌, ℕ, zero, suc, ◌+◌, ◌<◌, ℤ, pos, List, ◌∷◌, ◌++◌, length, map, get_or, drop, take}
-use Rattle.std.proofs.Common.{refl, sym, ap, ◌∙◌, add-one, drop-cons}
+use Rattle.std.proofs.Common.{◌≡◌, ℕ, suc, ◌+◌, ◌<◌, List, ◌∷◌, ◌++◌, length, map, get_or, drop, take}
+use Rattle.std.proofs.Common.{sym, ap, ◌∙◌, add-one, drop-cons}
 use Rattle.std.proofs.lemmas.List.{take-append-drop, map-append}
-use Rattle.std.specs.Prelude.{replicate}
-use Rattle.whole_numbers.specs.Lists.{zeros}
+use Rattle.whole_numbers.proofs.Entries.{replicate-zeros}
 
 pub next_of : {A : Type 0} (i : ℕ) (xs : List A) (x : A) → i < length xs → x ≡ get_or xs i x
     → drop i xs ≡ x ∷ drop (i + 1) xs
@@ -15,7 +14,3 @@ pub map_around : {A B : Type 0} (f : A → B) (i : ℕ) (xs : List A) (x : A) �
 map_around f i xs x lt is =
     ap (λ ys. map f ys) (sym (take-append-drop i xs))
     ∙ (map-append f (take i xs) (drop i xs) ∙ ap (λ ys. map f (take i xs) ++ map f ys) (next_of i xs x lt is))
-
-pub replicate_zeros : (n : ℕ) → replicate n (pos 0) ≡ zeros n
-replicate_zeros zero = refl
-replicate_zeros (suc n) = ap (λ (zs : List ℤ). pos 0 ∷ zs) (replicate_zeros n)

@@ -3,7 +3,7 @@ use Rattle.std.proofs.Common.{◌≡◌, ◌∙◌, ap, sym, subst, refl, ℕ, �
 use Rattle.std.proofs.Common.{nat_le}
 use Rattle.std.proofs.Common.{List, [], ◌∷◌, ◌++◌, length, inl, inr, ◌⊎◌, arith, All, ℤ, pos, negsuc, ◌-◌}
 use Rattle.std.specs.Prelude.{Some, None, not, if◌then◌else◌}
-use Rattle.std.proofs.lemmas.Bool.{and_parts, not-true, le-leb}
+use Rattle.std.proofs.lemmas.Bool.{and_parts, not-true, le-leb, and_from}
 use Rattle.std.proofs.lemmas.Bool.Decides.{nat_tests}
 use Rattle.std.proofs.lemmas.List.Elements.{All-head, All-tail}
 use Rattle.expression_grammar.specs.declared.token.Assign.TheVariants as assign
@@ -30,7 +30,7 @@ use Rattle.source_arithmetic.specs.Limits.{IsLinear, LiesBetween, IsBound, IsStr
 use Rattle.source_arithmetic.proofs.Wholes.{AreAffine}
 use Rattle.source_arithmetic.proofs.Loops.{some_if, entry_name, loop_parts}
 use Rattle.source_arithmetic.proofs.Accepted.{linear_of}
-use Rattle.source_arithmetic.proofs.Fitting.{none_judged, none_both, both_true, same_number, linear_none}
+use Rattle.source_arithmetic.proofs.Fitting.{none_judged, none_both, same_number, linear_none}
 
 -- the name of an entry
 variable_is : (k : ℕ) (m : Meaning) → IsEntry k m → is_variable k m ≡ true
@@ -128,9 +128,9 @@ step_none k n up _ h = absurd h
 
 stride_goes : (b : Bool) (f : Formula) → IsStride f → goes (Some b) (stride_of b f) ≡ true
 stride_goes true (constant suffix.Absent v at) h =
-    let there = both_true (nat_le 1 v) (nat_le v 16) (le-leb 1 v h.0) (le-leb v 16 h.1) in rw there refl
+    let there = and_from (nat_le 1 v) (nat_le v 16) (le-leb 1 v h.0) (le-leb v 16 h.1) in rw there refl
 stride_goes false (constant suffix.Absent v at) h =
-    let there = both_true (nat_le 1 v) (nat_le v 16) (le-leb 1 v h.0) (le-leb v 16 h.1) in rw there refl
+    let there = and_from (nat_le 1 v) (nat_le v 16) (le-leb 1 v h.0) (le-leb v 16 h.1) in rw there refl
 stride_goes b _ h = absurd h
 
 added_goes : (k : ℕ) (b : Bool) (f g : Formula) → IsNameOf k f → IsStride g

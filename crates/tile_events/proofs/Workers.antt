@@ -73,7 +73,8 @@ pub all_passed_at : (ws : List Worker) (t k id : ℕ) (w : Worker) → all_passe
 all_passed_at [] t k id w h e = absurd (some-ne-none w (sym e))
 all_passed_at (x ∷ ws) t k zero w h e =
     subst (λ y. passed y t k ≡ true) (some-injective x w e) (and_parts (passed x t k) (all_passed ws t k) h).0
-all_passed_at (x ∷ ws) t k (suc id) w h e = all_passed_at ws t k id w (and_parts (passed x t k) (all_passed ws t k) h).1 e
+all_passed_at (x ∷ ws) t k (suc id) w h e =
+    all_passed_at ws t k id w (and_parts (passed x t k) (all_passed ws t k) h).1 e
 
 pub all_passed_from : (ws : List Worker) (t k : ℕ)
     → ((id : ℕ) (w : Worker) → get_elem? ws id ≡ some w → passed w t k ≡ true) → all_passed ws t k ≡ true

@@ -3,9 +3,9 @@ use Rattle.std.proofs.Common.{◌≡◌, ℕ, zero, suc, ◌+◌, ◌<◌, List,
 use Rattle.std.proofs.Common.{inl, inr, arith, length}
 use Rattle.std.specs.Prelude.{◌≤◌, ⊤}
 use Rattle.std.proofs.lemmas.List.{append-nil, length-append, nil_from_length}
+use Rattle.std.proofs.lemmas.Bool.{cases_lt}
 use Rattle.null_space.specs.Narrowing.{narrowed_by, units_from, Grows}
 use Rattle.stmt_graph.specs.Graph.{number_in}
-use Rattle.stmt_graph.proofs.Counting.{lt_or_le}
 use Rattle.iteration_domains.specs.Dependence.{Dependence}
 use Rattle.schedule_rows.specs.Dependences.{edges_of}
 use Rattle.schedule_rows.specs.Items.{Row, Marked, Block, scalar, band, part_of, band_rows, rows_in, closed_by}
@@ -52,7 +52,7 @@ rank_more laws loops rows r rank grows s l =
 -- below full rank there are fewer rows than loops round some statement
 rank_few : (n : ℕ) (loops : List ℕ) (rows : List Row) → ((s : ℕ) → loops_of loops s ≤ n) → HasRank loops rows
     → (IsFull loops rows → ⊥) → length rows < n
-rank_few n loops rows most rank more = elim (lt_or_le (length rows) n) [
+rank_few n loops rows most rank more = elim (cases_lt (length rows) n) [
   | inl l ↦ l
   | inr k ↦ absurd (more (λ s l. elim (rank s l) [
     | inl e ↦ e

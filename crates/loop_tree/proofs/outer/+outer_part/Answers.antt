@@ -7,10 +7,11 @@ use Rattle.std.proofs.lemmas.Int.{to_z-of_z}
 use Rattle.whole_numbers.specs.Lists.{dot}
 use Rattle.whole_numbers.proofs.Dot.{dot-nil}
 use Rattle.whole_numbers.proofs.Ring.{add_zero_left}
+use Rattle.whole_numbers.proofs.Lists.{dot-split}
 use Rattle.loop_tree.specs.steps.Chain.{values_in}
 use Rattle.loop_tree.specs.Fits.{SumsFit}
 use Rattle.loop_tree.proofs.Chains.{values_top, values_within}
-use Rattle.loop_tree.proofs.Products.{dot_parts, drop_parts, fits_back, fits_front}
+use Rattle.loop_tree.proofs.Products.{drop_parts, fits_back, fits_front}
 use Rattle.loop_tree.proofs.outer.+outer_part.Goals as goal
 
 pub outer_part-part-requires : goal.outer_part-part-requires
@@ -64,7 +65,7 @@ returns-in-Within-clause-sum t c =
     (to_z-of_z w128 x fits_value) in
     told
     ∙ (ap₂ (λ (n : ℤ) (ds : List ℤ). n +ℤ dot ds (x ∷ [])) c.outer_part-part.ensures.sum c.outer_part-part.ensures.rest
-    ∙ (sym (dot_parts cs vs (x ∷ [])) ∙ ap (λ (xs : List ℤ). dot cs xs) (sym within)))
+    ∙ (sym (dot-split cs vs (x ∷ [])) ∙ ap (λ (xs : List ℤ). dot cs xs) (sym within)))
 
 pub returns-in-Within-clause-rest : goal.returns-in-Within-clause-rest
 returns-in-Within-clause-rest t c =

@@ -5,9 +5,10 @@ use Rattle.std.proofs.lemmas.Int.{ints, to_z-of_z}
 use Rattle.whole_numbers.specs.Affine.{Affine, value_of}
 use Rattle.whole_numbers.specs.Lists.{dot}
 use Rattle.whole_numbers.proofs.Ring.{add_zero_left}
+use Rattle.whole_numbers.proofs.Lists.{dot-split}
 use Rattle.loop_tree.specs.steps.Chain.{values_in}
 use Rattle.loop_tree.specs.Fits.{SumsFit}
-use Rattle.loop_tree.proofs.Products.{dot_parts, fits_back, fits_front, room_fits}
+use Rattle.loop_tree.proofs.Products.{fits_back, fits_front, room_fits}
 use Rattle.loop_tree.proofs.outer.value_at.Goals as goal
 
 pub outer_part-part-requires : goal.outer_part-part-requires
@@ -52,7 +53,7 @@ overflow_add-result c =
     let all : c.with_params.result ≡ dot f.coefficients (vo ++ ps) =
     c.with_params.ensures
     ∙ (ap (λ (n : ℤ). n +ℤ dot part.rest.now ps) (to_z-of_z w128 part.sum fits_sum)
-    ∙ (ap₂ (λ (n : ℤ) (ds : List ℤ). n +ℤ dot ds ps) sum_is rest_is ∙ sym (dot_parts f.coefficients vo ps))) in
+    ∙ (ap₂ (λ (n : ℤ) (ds : List ℤ). n +ℤ dot ds ps) sum_is rest_is ∙ sym (dot-split f.coefficients vo ps))) in
     let same : k ≡ f.constant = ap (λ (g : Affine). g.constant) c.form.view_is in
     let value : c.with_params.result +ℤ k ≡ value_of f (vo ++ ps) = ap₂ (λ (a b : ℤ). a +ℤ b) all same in
     let room : FitsSigned w128 (c.with_params.result +ℤ k) =
@@ -77,7 +78,7 @@ returns c =
     let all : c.with_params.result ≡ dot f.coefficients (vo ++ ps) =
     c.with_params.ensures
     ∙ (ap (λ (n : ℤ). n +ℤ dot part.rest.now ps) (to_z-of_z w128 part.sum fits_sum)
-    ∙ (ap₂ (λ (n : ℤ) (ds : List ℤ). n +ℤ dot ds ps) sum_is rest_is ∙ sym (dot_parts f.coefficients vo ps))) in
+    ∙ (ap₂ (λ (n : ℤ) (ds : List ℤ). n +ℤ dot ds ps) sum_is rest_is ∙ sym (dot-split f.coefficients vo ps))) in
     let same : k ≡ f.constant = ap (λ (g : Affine). g.constant) c.form.view_is in
     let value : c.with_params.result +ℤ k ≡ value_of f (vo ++ ps) = ap₂ (λ (a b : ℤ). a +ℤ b) all same in
     let room : FitsSigned w128 (c.with_params.result +ℤ k) =

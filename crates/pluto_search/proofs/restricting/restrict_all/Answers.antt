@@ -5,8 +5,9 @@ use Rattle.schedule_rows.specs.Next.{restricted}
 use Rattle.schedule_rows.specs.Schedule.{marked_of}
 use Rattle.pluto_search.specs.Questions.{AnswersRestricted, IsAnswered, StopsEmptiness, StopsRestricted}
 use Rattle.std.specs.Prelude.{Option, Ok, true, false}
+use Rattle.whole_numbers.proofs.Entries.{all_taken}
 use Rattle.pluto_search.specs.Stopping.{Restrictions}
-use Rattle.pluto_search.proofs.Firsts.{first_next, taken_more, all_taken}
+use Rattle.pluto_search.proofs.Firsts.{first_next, taken_more}
 use Rattle.pluto_search.proofs.Halting.{stop_of}
 use Rattle.pluto_search.proofs.Leading.{Leads, dropped, held_back, leads_last, next_of, is_among, none_left}
 use Rattle.pluto_search.proofs.restricting.restrict_all.Goals as goal

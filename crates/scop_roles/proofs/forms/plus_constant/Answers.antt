@@ -1,7 +1,7 @@
 use Rattle.std.proofs.Common.{rules, FitsSigned}
 use Rattle.std.specs.Int.{w64}
 use Rattle.std.proofs.lemmas.Int.{to_z-of_z}
-use Rattle.scop_roles.proofs.Sizes.{sums-nil}
+use Rattle.whole_numbers.proofs.Entries.{sums-nil}
 use Rattle.scop_roles.proofs.forms.plus_constant.Goals as goal
 
 pub returns : goal.returns

@@ -1,5 +1,5 @@
 use Rattle.std.proofs.Common.{rules, sym}
-use Rattle.scop_roles.proofs.Sizes.{replicate-zeros}
+use Rattle.whole_numbers.proofs.Entries.{replicate-zeros}
 use Rattle.scop_roles.proofs.forms.zeros.Goals as goal
 
 pub returns : goal.returns
