@@ -67,7 +67,7 @@ length-difference n f g a b =
     let m = length-multiples (negsuc 0) g.coefficients ∙ b in
     length-sums f.coefficients (multiples (negsuc 0) g.coefficients) (a ∙ sym m) ∙ a
 
-size-difference : (f g : Affine) → form_size (difference_of_forms f g) ≤ form_size f + form_size g
+pub size-difference : (f g : Affine) → form_size (difference_of_forms f g) ≤ form_size f + form_size g
 size-difference f g =
     let s = size-sum f (multiple_of_form (negsuc 0) g) in
     let m = size-multiple (negsuc 0) g in
@@ -229,7 +229,7 @@ gained n old new gains equalities ups a b tests shows =
     }
 
 -- equal subscripts
-no_rows_in_cells : (d e : ℕ) (fs gs : List Affine) → rows_in (same_subscripts d e fs gs) ≡ []
+pub no_rows_in_cells : (d e : ℕ) (fs gs : List Affine) → rows_in (same_subscripts d e fs gs) ≡ []
 no_rows_in_cells d e [] gs = refl
 no_rows_in_cells d e (f ∷ fs) [] = refl
 no_rows_in_cells d e (f ∷ fs) (g ∷ gs) = no_rows_in_cells d e fs gs

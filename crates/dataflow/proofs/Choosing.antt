@@ -7,6 +7,7 @@ use Rattle.std.proofs.lemmas.Bool.{lt-ltb, le-ltb}
 use Rattle.whole_numbers.specs.Lexicographic.{LexLess}
 use Rattle.quast_trees.specs.Leaf.{Leaf, initial, found}
 use Rattle.scop_syntax.proofs.Members.{nat_cases}
+use Rattle.scop_syntax.proofs.Order.{common-comm}
 use Rattle.quast_trees.specs.Value.{by_sign}
 use Rattle.quast_trees.proofs.BySign.{by_sign_first, by_sign_second}
 use Rattle.scop_syntax.specs.Walk.{Visit}
@@ -96,12 +97,6 @@ mirror s t (k ∷ ks) (l ∷ ls) (x ∷ xs) [] = refl
 mirror s t (k ∷ ks) (l ∷ ls) (x ∷ xs) (y ∷ ys) =
     ap₂ (λ (b r : Bool). if b then by_sign (ahead Later y x) true (by_sign (ahead Later x y) false r)
     else text Earlier s t) (nat_eq-comm k l) (mirror s t ks ls xs ys)
-
-common-comm : (ks ls : List ℕ) → common ks ls ≡ common ls ks
-common-comm [] [] = refl
-common-comm [] (l ∷ ls) = refl
-common-comm (k ∷ ks) [] = refl
-common-comm (k ∷ ks) (l ∷ ls) = ap₂ (λ (b : Bool) (c : ℕ). if b then suc c else 0) (nat_eq-comm k l) (common-comm ks ls)
 
 turned : (v w : Visit) → Before w v → LexLess (key (common v.loops w.loops) w) (key (common v.loops w.loops) v)
 turned v w h = subst (λ c. LexLess (key c w) (key c v)) (common-comm w.loops v.loops) h

@@ -1,31 +1,31 @@
 -- The numbers of the systems of a kernel's conflicts are small.
-use Rattle.std.proofs.Common.{◌≡◌, ℕ, zero, suc, ◌+◌, ◌*◌, ◌^◌, ◌≤◌, Bool, true, false, ℤ, negsuc, List, [], ◌∷◌}
+use Rattle.std.proofs.Common.{◌≡◌, ℕ, zero, suc, ◌+◌, ◌*◌, ◌^◌, ◌≤◌, Bool, true, false, List, [], ◌∷◌}
 use Rattle.std.proofs.Common.{◌++◌, length, map, inl, inr, ap, subst, sym, ◌∙◌, refl, arith, length-append}
 use Rattle.std.specs.Prelude.{All, ⊤}
 use Rattle.std.proofs.lemmas.List.Elements.{All-nil, All-cons, All-head, All-tail}
-use Rattle.whole_numbers.specs.Lists.{zeros}
-use Rattle.whole_numbers.specs.Affine.{Affine, multiple_of_form, composed}
+use Rattle.whole_numbers.specs.Affine.{Affine, composed}
 use Rattle.scop_syntax.specs.Tree.{Access, Test, at_least, equal, Program}
 use Rattle.scop_syntax.specs.Cells.{accesses}
 use Rattle.scop_syntax.specs.Kernel.{IsAffine, IsAccess, IsComparison, IsKernel, IsPlaced, AreScopes, ranks_of}
 use Rattle.scop_syntax.specs.Kernel.{test_form}
 use Rattle.scop_syntax.specs.Members.{In}
 use Rattle.scop_syntax.specs.Statements.{Scope, round, under, loops_in, Placed, statements_of}
-use Rattle.scop_syntax.proofs.Members.{in_map_from, in_from_place}
-use Rattle.iteration_domains.specs.Rows.{variable, variables, composed_test, iterator, within_loop, rows_from}
+use Rattle.scop_syntax.proofs.Members.{in_map_from, in_from_place, all_in}
+use Rattle.iteration_domains.specs.Rows.{variables, composed_test, iterator, within_loop, rows_from}
 use Rattle.iteration_domains.specs.Rows.{forms_from, point_forms, rows_of}
 use Rattle.iteration_domains.specs.Constraints.{equalities_in, rows_in, tests_of}
 use Rattle.iteration_domains.specs.Model.{Modelled, access_over, modelled, model_of}
-use Rattle.iteration_domains.specs.Sizes.{size, form_size, forms_size, grown}
-use Rattle.iteration_domains.proofs.Sizes.{size-sum, size-multiple, size-zeros, size-variable, size-variables}
+use Rattle.iteration_domains.specs.Sizes.{form_size, forms_size, grown}
+use Rattle.iteration_domains.proofs.Sizes.{size-zeros, size-variable, size-variables}
 use Rattle.iteration_domains.proofs.Sizes.{size-composed, sizes-within}
 use Rattle.iteration_domains.proofs.Entering.{grown_more, grown_up, grown_five, length-variables}
 use Rattle.iteration_domains.proofs.Placing.{statement_accesses}
-use Rattle.conflict_deps.specs.Conflicts.{Side, sides_of, sides_in, loops_of, spread, source_form, target_form}
-use Rattle.conflict_deps.specs.Conflicts.{difference_of_forms, map_test, same_subscripts, step, equal_turns}
+use Rattle.conflict_deps.specs.Conflicts.{Side, sides_of, sides_in, loops_of, source_form, target_form}
+use Rattle.conflict_deps.specs.Conflicts.{map_test, same_subscripts, step, equal_turns}
 use Rattle.conflict_deps.specs.Conflicts.{one_form, later_turn, After, afters, pair_size, source_rows}
 use Rattle.conflict_deps.specs.Conflicts.{target_rows, cell_rows, parameter_rows, tests_between}
 use Rattle.conflict_deps.proofs.Sides.{in_flat_map_from, side_to}
+use Rattle.conflict_deps.proofs.Shapes.{size-source, size-target, size-difference, size-step}
 use Rattle.dataflow.specs.Posed.{IsSmall}
 
 -- forms that are small
@@ -138,12 +138,6 @@ narrow_forms n forms (f ∷ fs) all few =
     let c = size-composed (length forms) 16 (2 ^ 20) n forms f (All-head (IsAffine (length forms)) f fs all) in
     (omega arith, narrow_forms n forms fs (All-tail (IsAffine (length forms)) f fs all) few)
 
--- one of a list of which all are such
-one_of : {A : Type 0} (P : A → Type 0) (xs : List A) (x : A) → All P xs → In x xs → P x
-one_of P [] x all h = absurd h
-one_of P (y ∷ xs) x all (inl e) = subst P (sym e) (All-head P y xs all)
-one_of P (y ∷ xs) x all (inr h) = one_of P xs x (All-tail P y xs all) h
-
 -- a statement of a kernel and its accesses
 pub record IsSmallStatement (m : ℕ) (s : Modelled) : Type 0 where
   pub few : s.domain.dimensions ≤ 5
@@ -171,7 +165,7 @@ statement_small ranks m p few is =
       rows = small_rows (rows_of m p) tests;
       accesses = λ a h.
           let r = in_map_from (access_over m p) a (accesses p.body) h in
-          let own = one_of (IsAccess ranks (m + loops_in p.scopes)) (accesses p.body) r.0
+          let own = all_in (IsAccess ranks (m + loops_in p.scopes)) (accesses p.body) r.0
           (statement_accesses ranks (m + loops_in p.scopes) p.body is.body) r.1 in
           let narrow = narrow_forms n (point_forms m p) r.0.subscripts
           (subst (λ k. All (IsAffine k) r.0.subscripts) (sym count) own.subscripts) point.small in
@@ -217,27 +211,6 @@ side_small program s is placed h =
     }
 
 -- forms over the variables of a pair
-size-append : (xs ys : List ℤ) → size (xs ++ ys) ≡ size xs + size ys
-size-append [] ys = omega arith
-size-append (x ∷ xs) ys = let r = size-append xs ys in omega arith
-
-size-spread : (e d : ℕ) (cs : List ℤ) → size (spread e d cs) ≤ size cs
-size-spread e zero cs = let a = size-append (zeros e) cs in let z = size-zeros e in omega arith
-size-spread e (suc d) [] = omega arith
-size-spread e (suc d) (c ∷ cs) = let r = size-spread e d cs in omega arith
-
-size-source : (d e : ℕ) (f : Affine) → form_size (source_form d e f) ≤ form_size f
-size-source d e f = let r = size-spread e d f.coefficients in omega arith
-
-size-target : (d : ℕ) (f : Affine) → form_size (target_form d f) ≤ form_size f
-size-target d f = let a = size-append (zeros d) f.coefficients in let z = size-zeros d in omega arith
-
-size-difference : (f g : Affine) → form_size (difference_of_forms f g) ≤ form_size f + form_size g
-size-difference f g =
-    let s = size-sum f (multiple_of_form (negsuc 0) g) in
-    let m = size-multiple (negsuc 0) g in
-    omega arith
-
 cells_small : (d e : ℕ) (fs gs : List Affine) → AreNarrow fs → AreNarrow gs → SmallTests (same_subscripts d e fs gs)
 cells_small d e [] gs h k = tt
 cells_small d e (f ∷ fs) [] h k = tt
@@ -250,13 +223,6 @@ cells_small d e (f ∷ fs) (g ∷ gs) h k =
     (omega arith, cells_small d e fs gs h.1 k.1)
 
 -- the order
-size-step : (n d k : ℕ) → form_size (step n d k) ≤ 2
-size-step n d k =
-    let a = size-variable n (d + k) in
-    let b = size-variable n k in
-    let c = size-difference (variable n (d + k)) (variable n k) in
-    omega arith
-
 turns_small : (n d k : ℕ) → SmallTests (equal_turns n d k)
 turns_small n d zero = tt
 turns_small n d (suc k) =

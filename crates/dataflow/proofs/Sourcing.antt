@@ -1,5 +1,5 @@
 -- The join over all candidates of an access names its last or next writer.
-use Rattle.std.proofs.Common.{◌≡◌, ℕ, ◌<◌, true, ℤ, List, [], length, Option, Some, None, inl, inr, ◌⊎◌}
+use Rattle.std.proofs.Common.{◌≡◌, ℕ, ◌<◌, true, ℤ, List, length, Option, Some, None, inl, inr, ◌⊎◌}
 use Rattle.std.proofs.Common.{ap, ap₂, subst, sym, ◌∙◌, refl}
 use Rattle.std.specs.Prelude.{slice_get}
 use Rattle.whole_numbers.specs.Lists.{NotNegative}

@@ -184,7 +184,7 @@ unfolding eliminated_run eliminated
 eliminated_run-exact i v s t he hr run = eliminated_by_run-exact i v (first_with i s.equalities) s t he hr refl run
 
 -- the result is sized
-lowest_sized : (f : Affine) → variables_of (lowest_of_form f) ≡ variables_of f
+pub lowest_sized : (f : Affine) → variables_of (lowest_of_form f) ≡ variables_of f
 unfolding lowest_of_form
 lowest_sized f = length-map f.coefficients (λ x. floor x (pos (content_of_form f)))
 

@@ -1,5 +1,5 @@
 -- Facts on each of the chosen rows, and on each pair.
-use Rattle.std.proofs.Common.{◌≡◌, ℕ, zero, suc, ℤ, pos, negsuc, ◌<ℤ◌, Bool, true, false, List, [], ◌∷◌}
+use Rattle.std.proofs.Common.{◌≡◌, ℕ, zero, suc, ℤ, pos, negsuc, ◌<ℤ◌, Bool, true, false, List, [], ◌∷◌, ◌++◌, ap, ◌∙◌}
 use Rattle.std.proofs.Common.{◌↔◌, refl, All, arith}
 use Rattle.std.specs.Prelude.{if◌then◌else◌}
 use Rattle.std.proofs.lemmas.Int.{ints}
@@ -83,3 +83,16 @@ pairs_to P i (p ∷ ps) ns h =
     All-cons (λ q. All (λ n. P (combined i q n)) ns) p ps
     (paired_to P i p ns (all_front P (paired i p ns) (pairs i ps ns) h))
     (pairs_to P i ps ns (all_back P (paired i p ns) (pairs i ps ns) h))
+
+-- the chosen ones of two lists, one behind the other
+pub chosen-append : (test : ℤ → Bool) (i : ℕ) (fs gs : List Affine) → chosen test i (fs ++ gs)
+    ≡ chosen test i fs ++ chosen test i gs
+chosen-append test i [] gs = refl
+chosen-append test i (f ∷ fs) gs = ap (λ (rest : List Affine). if test (coefficient_of i f) then f ∷ rest else rest)
+    (chosen-append test i fs gs)
+    ∙ choice (test (coefficient_of i f)) f (chosen test i fs) (chosen test i gs)
+  where
+    choice : (b : Bool) (f : Affine) (xs ys : List Affine) → (if b then f ∷ (xs ++ ys) else xs ++ ys)
+        ≡ (if b then f ∷ xs else xs) ++ ys
+    choice true f xs ys = refl
+    choice false f xs ys = refl

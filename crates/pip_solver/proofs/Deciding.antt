@@ -1,5 +1,5 @@
 -- A decision of emptiness is the run's.
-use Rattle.std.proofs.Common.{◌≡◌, ℕ, Bool, not, List, [], ◌++◌, length, refl, subst, ap, sym, ◌∙◌}
+use Rattle.std.proofs.Common.{◌≡◌, ℕ, Bool, not, List, ◌++◌, length, refl, subst, ap, sym, ◌∙◌}
 use Rattle.std.proofs.Common.{◌+◌, arith, inl, inr}
 use Rattle.std.proofs.lemmas.List.{append-nil}
 use Rattle.std.specs.Prelude.{Result, Ok, Err, All}

@@ -4,6 +4,7 @@ use Rattle.std.proofs.Common.{inr, ap, subst, sym, refl, ◌∙◌, arith}
 use Rattle.std.specs.Prelude.{◌<ℤ◌, if◌then◌else◌}
 use Rattle.std.specs.Int.Signed.{le_z}
 use Rattle.std.proofs.lemmas.Int.{ints}
+use Rattle.fm_projection.proofs.Following.{one_more}
 use Rattle.whole_numbers.specs.Affine.{Affine, value_of}
 use Rattle.whole_numbers.proofs.Tests.{if_both}
 use Rattle.scop_syntax.proofs.Members.{both, le_z_holds, holds_le_z}
@@ -40,10 +41,6 @@ mutual
   scans_same_all k P Q (more t ts) params outer f g s =
       (scans_same k P Q t params outer f g s.0, scans_same_all k P Q ts params outer f g s.1, s.2)
 
-pub append_one : (xs : List ℤ) (x : ℤ) (r : List ℤ) → (xs ++ x ∷ []) ++ r ≡ xs ++ x ∷ r
-append_one [] x r = refl
-append_one (y ∷ xs) x r = ap (λ q. y ∷ q) (append_one xs x r)
-
 pub length_end : (xs : List ℤ) (x : ℤ) → length (xs ++ x ∷ []) ≡ suc (length xs)
 length_end [] x = refl
 length_end (y ∷ xs) x = ap suc (length_end xs x)
@@ -61,8 +58,8 @@ loop_scans k all inner flag lo up body params outer h =
     let s = h x w in
     let P : List ℤ → Type 0 = λ r. Keys inner params ((outer ++ x ∷ []) ++ r) in
     let Q : List ℤ → Type 0 = λ r. Keys all params (outer ++ x ∷ r) in
-    let f : (r : List ℤ) → P r → Q r = λ r p. s.1 r (subst (Keys inner params) (append_one outer x r) p) in
-    let g : (r : List ℤ) → Q r → P r = λ r q. subst (Keys inner params) (sym (append_one outer x r)) (s.2 r q) in
+    let f : (r : List ℤ) → P r → Q r = λ r p. s.1 r (subst (Keys inner params) (one_more outer x r) p) in
+    let g : (r : List ℤ) → Q r → P r = λ r q. subst (Keys inner params) (sym (one_more outer x r)) (s.2 r q) in
     ((λ y r q. s.0.covers y r (g (y ∷ r) q)), scans_same_all k P Q body params (outer ++ x ∷ []) f g s.0.scans)
 
 -- a set's tests are its constraints

@@ -4,7 +4,6 @@ use Rattle.std.proofs.Common.{refl, sym, ◌∙◌, ap, subst, All, arith}
 use Rattle.std.specs.Prelude.{◌≤◌, ◌^◌, ◌≤ℤ◌, unsigned_abs}
 use Rattle.std.proofs.lemmas.Int.{ints}
 use Rattle.std.proofs.lemmas.List.Elements.{All-cons, All-head, All-nil, All-tail}
-use Rattle.std.proofs.lemmas.List.{nil_from_length}
 use Rattle.integer_sets.specs.Scanned.{Scanned}
 use Rattle.fm_projection.specs.Alone.{AreInRange}
 use Rattle.scop_syntax.proofs.Limits.{size, abs_at_most}

@@ -6,9 +6,8 @@ use Rattle.std.proofs.lemmas.Int.{ints}
 use Rattle.std.proofs.lemmas.List.Elements.{All-tail}
 use Rattle.whole_numbers.specs.Lists.{dot}
 use Rattle.whole_numbers.specs.Affine.{Affine, value_of, multiple_of_form}
-use Rattle.whole_numbers.specs.Content.{content_of_form, lowest_of_form}
+use Rattle.whole_numbers.specs.Content.{lowest_of_form}
 use Rattle.whole_numbers.proofs.Dot.{length-multiples}
-use Rattle.whole_numbers.proofs.Lowest.{lowest_of_form_is}
 use Rattle.fractions.proofs.Over.{value_over-one}
 use Rattle.fractions.proofs.Content.{lowest_sign}
 use Rattle.whole_numbers.proofs.Order.{mul_le, mul_not_negative}
@@ -16,6 +15,7 @@ use Rattle.whole_numbers.proofs.Values.{value_of-multiple}
 use Rattle.affine_forms.specs.Parts.{variables_of}
 use Rattle.fm_projection.specs.Alone.{AreInRange}
 use Rattle.fm_projection.specs.Projecting.{projected}
+use Rattle.fm_projection.proofs.Exact.{lowest_sized}
 use Rattle.loop_tree.specs.Walk.{max_z}
 use Rattle.loop_tree.proofs.Extremes.{below_max, max_below}
 use Rattle.plain_scan.specs.declared.set_outline.Outline.{Outline}
@@ -101,11 +101,6 @@ lowest_is_weaker m f front params size range h =
     subst (λ (z : ℤ). pos 0 ≤ℤ z) (value_over-one low point)
     ((lowest_sign f (pos 1) point).1.1 (subst (λ (z : ℤ). pos 0 ≤ℤ z) (sym (value_over-one f point)) h))
 
-lowest_size : (f : Affine) → variables_of (lowest_of_form f) ≡ variables_of f
-lowest_size f =
-    sym (ap variables_of (lowest_of_form_is f)
-    ∙ length-multiples (pos (content_of_form f)) (lowest_of_form f).coefficients)
-
 greater_size : (xs ys : List ℤ) → length xs ≡ length ys → length (greater_numbers xs ys) ≡ length xs
 greater_size [] ys size = refl
 greater_size (x ∷ xs) [] size = absurd (omega (arith, size))
@@ -116,7 +111,7 @@ pub greater_above : (m : ℕ) (g h f : Affine) → variables_of g ≡ variables_
     → take m g.coefficients ≡ take m h.coefficients → f ≡ lowest_of_form (greater_form g h) → HasSmallNumbers f
     → IsAbove m g h f
 greater_above m g h f size front is small = record {
-  sized = ap variables_of is ∙ lowest_size (greater_form g h) ∙ greater_size g.coefficients h.coefficients size;
+  sized = ap variables_of is ∙ lowest_sized (greater_form g h) ∙ greater_size g.coefficients h.coefficients size;
   small = small;
   first = λ inner params sized range v. subst (λ (q : Affine). pos 0 ≤ℤ value_of q (inner ++ params)) (sym is)
       (lowest_is_weaker m (greater_form g h) inner params sized range

@@ -1,20 +1,15 @@
 -- Along a schedule of a kernel's conflicts the values of conflicting places rise.
-use Rattle.std.proofs.Common.{◌≡◌, ℕ, zero, suc, ◌<◌, ℤ, pos, List, [], ◌∷◌, refl, sym, ◌∙◌, ap, subst, inl, inr}
+use Rattle.std.proofs.Common.{◌≡◌, ℕ, ◌<◌, ℤ, List, [], sym, ◌∙◌, ap, subst, inl, inr}
 use Rattle.std.proofs.Common.{length, Some}
-use Rattle.std.specs.Prelude.{◌≤ℤ◌, slice_get}
-use Rattle.std.proofs.lemmas.List.Elements.{All-nil, All-cons, All-head, All-tail}
+use Rattle.std.specs.Prelude.{slice_get}
 use Rattle.whole_numbers.specs.Lexicographic.{LexLess}
-use Rattle.whole_numbers.specs.Lists.{NotNegative}
 use Rattle.fractions.specs.Farkas.{AreNotNegative}
-use Rattle.scop_syntax.specs.Kernel.{IsKernel}
 use Rattle.scop_syntax.specs.Members.{In}
 use Rattle.scop_syntax.specs.Tree.{Program}
-use Rattle.scop_syntax.specs.Statements.{Scope, round, under, Placed, statements_of, Runs, visit_of}
+use Rattle.scop_syntax.specs.Statements.{Placed, statements_of, Runs, visit_of}
 use Rattle.scop_syntax.specs.Walk.{Visit, walk_of, instance}
+use Rattle.scop_syntax.proofs.Members.{in_from_place}
 use Rattle.iteration_domains.specs.Dependence.{Dependence, IsDependence}
-use Rattle.iteration_domains.specs.Model.{model_of}
-use Rattle.iteration_domains.specs.Sizes.{IsKernelModel}
-use Rattle.iteration_domains.proofs.Placing.{model_is_one}
 use Rattle.conflict_deps.specs.Pairs.{IsPoint, IsEnd}
 use Rattle.schedule_rows.specs.Dependences.{InRange, Relates}
 use Rattle.schedule_rows.specs.Items.{Block, values}
@@ -24,29 +19,8 @@ use Rattle.schedule_rows.specs.Posed.{loops_of}
 use Rattle.schedule_rows.proofs.Along.{along_values}
 use Rattle.schedule_rows.proofs.Running.{schedule_along}
 use Rattle.schedule_rows.proofs.Timing.{LeavesOnly0, turns_same, runs_full}
+use Rattle.schedule_rows.proofs.Pairs.{runs_not_negative}
 use Rattle.pluto_systems.specs.Posing.{IsBetween}
-
-pub range_nested : (params : List ℤ) → InRange params → NotNegative params
-range_nested [] h = tt
-range_nested (p ∷ ps) h =
-    let P : ℤ → Type 0 = λ z. (pos 0 ≤ℤ z) × (z ≤ℤ pos 65536) in
-    ((All-head P p ps h).0, range_nested ps (All-tail P p ps h))
-
-runs_not_negative : (scopes : List Scope) (point xs : List ℤ) → Runs scopes point xs → AreNotNegative xs
-runs_not_negative [] point [] h = All-nil (λ x. pos 0 ≤ℤ x)
-runs_not_negative [] point (x ∷ xs) h = absurd h
-runs_not_negative (under tests ∷ scopes) point xs h = runs_not_negative scopes point xs h.1
-runs_not_negative (round head ∷ scopes) point [] h = absurd h
-runs_not_negative (round head ∷ scopes) point (x ∷ xs) h =
-    All-cons (λ x. pos 0 ≤ℤ x) x xs h.0 (runs_not_negative scopes _ xs h.2)
-
-in_get : {X : Type 0} (xs : List X) (i : ℕ) (x : X) → slice_get xs i ≡ Some x → In x xs
-in_get [] i x h = absurd cc
-in_get (y ∷ xs) zero x h = inl (sym (same_some y x h))
-  where
-    same_some : {X : Type 0} (y x : X) → Some y ≡ Some x → y ≡ x
-    same_some y x h = cc
-in_get (y ∷ xs) (suc i) x h = inr (in_get xs i x h)
 
 -- what the walk's instances are: those of statements at turns that run
 abbrev pub FindsRuns : Program → List ℤ → Type 0
@@ -57,16 +31,9 @@ FindsRuns program params =
 pub turns_from_0 : (program : Program) (params : List ℤ) (i : ℕ) (v : Visit) → FindsRuns program params
     → slice_get (walk_of program params) i ≡ Some v → AreNotNegative v.turns
 turns_from_0 program params i v found h =
-    let f = found v (in_get (walk_of program params) i v h) in
+    let f = found v (in_from_place (walk_of program params) i v h) in
     subst (λ (z : List ℤ). AreNotNegative z) (sym (ap (λ (z : Visit). z.turns) f.4))
     (runs_not_negative f.0.scopes params f.1 f.3)
-
-pub one_model : (program : Program) → IsKernel program
-    → ((p q : Placed) → In p (statements_of program) → In q (statements_of program) → p.number ≡ q.number → p ≡ q)
-    → ((k : ℕ) (p : Placed) → slice_get (statements_of program) k ≡ Some p → p.number ≡ k)
-    → IsKernelModel (model_of program)
-one_model program k same number =
-    model_is_one program (length program.parameters) (model_of program).statements k same number refl
 
 sized : (m : ℕ) (loops : List ℕ) (d : Dependence) → IsBetween m loops d → IsSizedDep loops d
 sized m loops d b =

@@ -4,12 +4,12 @@ use Rattle.std.proofs.Common.{arith, length, inl, inr}
 use Rattle.std.specs.Prelude.{◌+ℤ◌, ◌-ℤ◌, ◌<ℤ◌, ◌↔◌}
 use Rattle.std.proofs.lemmas.List.Elements.{All-cons, All-nil, All-push, All-head, All-tail}
 use Rattle.std.proofs.lemmas.Int.{ints}
-use Rattle.whole_numbers.specs.Lists.{dot, multiples, zeros}
+use Rattle.whole_numbers.specs.Lists.{dot, multiples, zeros, NotNegative}
 use Rattle.whole_numbers.specs.Affine.{Affine, value_of}
 use Rattle.whole_numbers.proofs.Dot.{dot-append, dot-multiples, dot-zeros, length-multiples}
 use Rattle.whole_numbers.specs.Affine.{form_of}
 use Rattle.fractions.specs.Fractions.{value_over}
-use Rattle.fractions.specs.Farkas.{HasFarkas, two_rows}
+use Rattle.fractions.specs.Farkas.{HasFarkas, two_rows, AreNotNegative}
 use Rattle.fractions.proofs.Combination.{farkas_of_system}
 use Rattle.whole_numbers.proofs.Ring.{mul_one_right}
 use Rattle.whole_numbers.proofs.Entries.{all_front, all_back}
@@ -17,9 +17,10 @@ use Rattle.farkas.specs.Claims.{distance, slack}
 use Rattle.schedule_rows.specs.Posed.{IsLegal, IsBounded}
 use Rattle.schedule_rows.proofs.Along.{le_apart}
 use Rattle.scop_syntax.specs.Walk.{Instance}
+use Rattle.scop_syntax.specs.Statements.{Scope, round, under, Runs}
 use Rattle.schedule_rows.specs.Items.{Row, part_of, phi}
 use Rattle.iteration_domains.specs.Dependence.{Dependence}
-use Rattle.schedule_rows.specs.Dependences.{Relates, IsEmptyDep, unknowns_of, Suits, equal_at, above_at}
+use Rattle.schedule_rows.specs.Dependences.{Relates, IsEmptyDep, unknowns_of, Suits, equal_at, above_at, InRange}
 use Rattle.schedule_rows.specs.Dependences.{IsKept, IsEqualAt, point_of}
 
 -- the form's value is the difference of the values
@@ -207,3 +208,18 @@ bounded_distance d r params x y s f h =
     let v = slack_value d r params x y h.source h.target h.source_size h.target_size s in
     let k = farkas_at d (slack (unknowns_of d r)) params x y f h in
     omega (arith, ints)
+
+-- no parameter is negative, nor a turn of an instance
+pub range_nested : (params : List ℤ) → InRange params → NotNegative params
+range_nested [] h = tt
+range_nested (p ∷ ps) h =
+    let P : ℤ → Type 0 = λ z. (pos 0 ≤ℤ z) × (z ≤ℤ pos 65536) in
+    ((All-head P p ps h).0, range_nested ps (All-tail P p ps h))
+
+pub runs_not_negative : (scopes : List Scope) (point xs : List ℤ) → Runs scopes point xs → AreNotNegative xs
+runs_not_negative [] point [] h = All-nil (λ x. pos 0 ≤ℤ x)
+runs_not_negative [] point (x ∷ xs) h = absurd h
+runs_not_negative (under tests ∷ scopes) point xs h = runs_not_negative scopes point xs h.1
+runs_not_negative (round head ∷ scopes) point [] h = absurd h
+runs_not_negative (round head ∷ scopes) point (x ∷ xs) h =
+    All-cons (λ x. pos 0 ≤ℤ x) x xs h.0 (runs_not_negative scopes _ xs h.2)

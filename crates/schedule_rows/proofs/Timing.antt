@@ -1,6 +1,6 @@
 -- At full rank the item values of one statement's instances differ: item values, then the statement's number,
 -- are in order.
-use Rattle.std.proofs.Common.{◌≡◌, ℕ, ◌<◌, ℤ, pos, negsuc, ◌*ℤ◌, List, [], ◌∷◌, ◌++◌, refl, sym, ◌∙◌, ap, ap₂}
+use Rattle.std.proofs.Common.{◌≡◌, ℕ, ◌<◌, ℤ, pos, negsuc, ◌*ℤ◌, List, [], ◌∷◌, ◌++◌, sym, ◌∙◌, ap}
 use Rattle.std.proofs.Common.{subst, inl, inr, arith, length, All}
 use Rattle.std.specs.Prelude.{◌+ℤ◌, ◌-ℤ◌}
 use Rattle.std.proofs.lemmas.Int.{ints}
@@ -8,9 +8,10 @@ use Rattle.std.proofs.lemmas.List.Elements.{All-nil, All-cons, All-append, All-h
 use Rattle.whole_numbers.specs.Lists.{dot, sums, multiples}
 use Rattle.whole_numbers.specs.Lexicographic.{LexLess}
 use Rattle.whole_numbers.proofs.Lexicographic.{LexLess-irrefl, LexLess-front}
-use Rattle.whole_numbers.proofs.Dot.{dot-sums, dot-multiples, dot-nil, dot_comm, length-sums}
+use Rattle.whole_numbers.proofs.Dot.{dot-sums, dot-multiples, dot_comm, length-sums}
 use Rattle.whole_numbers.proofs.Dot.{length-multiples}
-use Rattle.whole_numbers.proofs.Ring.{mul_one_right, mul_zero_right}
+use Rattle.whole_numbers.proofs.Ring.{mul_zero_right}
+use Rattle.whole_numbers.proofs.Lists.{same_products}
 use Rattle.scop_syntax.specs.Members.{In}
 use Rattle.scop_syntax.specs.Walk.{Instance}
 use Rattle.stmt_graph.specs.Graph.{number_in}
@@ -85,19 +86,6 @@ rest : (x y : ℤ) (xs ys w : List ℤ) → (x *ℤ pos 0) +ℤ dot xs w ≡ (y 
     → dot xs w ≡ dot ys w
 rest x y xs ys w h = let a = mul_zero_right x in let b = mul_zero_right y in omega (arith, ints)
 
-lists_same : (xs ys : List ℤ) → length xs ≡ length ys → ((w : List ℤ) → dot xs w ≡ dot ys w) → xs ≡ ys
-lists_same [] [] h e = refl
-lists_same [] (y ∷ ys) h e = absurd (omega (arith, h))
-lists_same (x ∷ xs) [] h e = absurd (omega (arith, h))
-lists_same (x ∷ xs) (y ∷ ys) h e =
-    let one = e (pos 1 ∷ []) in
-    let a = mul_one_right x in
-    let b = mul_one_right y in
-    let c = dot-nil xs in
-    let d = dot-nil ys in
-    ap₂ (λ (v : ℤ) (vs : List ℤ). v ∷ vs) (omega (arith, ints))
-    (lists_same xs ys (omega (arith, h)) (λ w. rest x y xs ys w (e (pos 0 ∷ w))))
-
 -- the law of full rank: with no kernel vector left only 0 is orthogonal to all rows
 abbrev pub LeavesOnly0 : Type 0
 LeavesOnly0 =
@@ -113,7 +101,7 @@ pub turns_same : LeavesOnly0 → (loops : List ℕ) (bs : List Block) (x y : Ins
 turns_same full_rank loops bs x y full same at lx ly e =
     let size = lx ∙ sym ly in
     let o = orthogonal (rows_in bs) x y same (rows_equal bs x y e) in
-    lists_same x.turns y.turns size (λ w.
+    same_products x.turns y.turns size (λ w.
     let z = full_rank (loops_of loops x.number) (coefficients_in (rows_in bs) x.number)
     (difference_of x.turns y.turns)
     (length-difference x.turns y.turns size ∙ lx) (full x.number at) o w in

@@ -11,11 +11,11 @@ use Rattle.affine_forms.specs.Parts.{variables_of}
 use Rattle.fractions.specs.Elimination.{coefficient_of}
 use Rattle.fm_projection.specs.Alone.{place_form}
 use Rattle.fm_projection.proofs.Ranges.{place_value}
+use Rattle.fm_projection.proofs.Following.{one_more}
 use Rattle.plain_scan.specs.declared.set_outline.Outline.{Outline}
 use Rattle.plain_scan.specs.Hulls.{AreHullRows, IsHull, IsHullRow}
 use Rattle.plain_scan.specs.Sets.{AllAtLeast}
 use Rattle.plain_scan.proofs.Bounding.{take_next}
-use Rattle.plain_scan.proofs.Nodes.{append_one}
 use Rattle.plain_scan.proofs.Pieces.{append_all}
 use Rattle.plain_scan.proofs.Stepping.{own_coefficient}
 use Rattle.split_scan.specs.Questions.{AreNatural, IsCut, opened}
@@ -112,7 +112,7 @@ pub natural_inside : (m n : ℕ) (context rows : List Affine) (low : ℤ) (other
     → AreNatural m context → AreNatural (m + 1) (map (opened m) context ++ rows)
 natural_inside m n context rows low others inside few is less natural params point range size hold =
     let e = ends point m (let s : length point ≡ suc m = omega (arith, size) in s) in
-    let there = subst (AllAtLeast (map (opened m) context ++ rows)) (append_one e.front e.last params)
+    let there = subst (AllAtLeast (map (opened m) context ++ rows)) (one_more e.front e.last params)
     (subst (λ xs. AllAtLeast (map (opened m) context ++ rows) (xs ++ params)) e.is hold) in
     let sides = append_all (map (opened m) context) rows (e.front ++ e.last ∷ params) there in
     let outside = natural params e.front range e.size

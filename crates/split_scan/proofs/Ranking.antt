@@ -7,6 +7,7 @@ use Rattle.std.proofs.lemmas.Int.{ints}
 use Rattle.std.proofs.lemmas.List.{get_or-set_other, length-set}
 use Rattle.std.proofs.lemmas.List.Elements.{All-append, All-cons, All-head, All-nil, All-tail}
 use Rattle.std.proofs.lemmas.Bool.{false≢true}
+use Rattle.fm_projection.proofs.Following.{one_more}
 use Rattle.integer_sets.specs.Scanned.{Scanned}
 use Rattle.whole_numbers.specs.Lists.{NotNegative, zeros}
 use Rattle.whole_numbers.specs.Affine.{Affine, value_of}
@@ -16,7 +17,6 @@ use Rattle.whole_numbers.proofs.Ring.{mul_one_left, mul_neg_left}
 use Rattle.whole_numbers.proofs.Order.{le_or_lt}
 use Rattle.affine_forms.specs.Parts.{variables_of}
 use Rattle.plain_scan.specs.Sets.{AllAtLeast, Keys}
-use Rattle.plain_scan.proofs.Nodes.{append_one}
 use Rattle.plain_scan.proofs.Pieces.{all_append}
 use Rattle.split_scan.specs.Questions.{AreNatural, HasNone, IsCut, IsIn, opened}
 use Rattle.split_scan.specs.Parts.{HasMarks, InPart, IsPart, staying}
@@ -119,7 +119,7 @@ below_of m n inside ps qs less natural lower upper none params outer x y at_x at
 
     first : AllAtLeast (map (opened (m + 1)) (inside ++ ps)) point
     first =
-        subst (AllAtLeast (map (opened (m + 1)) (inside ++ ps))) (append_one outer x (y ∷ params))
+        subst (AllAtLeast (map (opened (m + 1)) (inside ++ ps))) (one_more outer x (y ∷ params))
         (opened_hold (m + 1) (inside ++ ps) (outer ++ x ∷ []) y params (one_size outer x m at_x.size) lower
         (one_point (inside ++ ps) outer x params (all_append inside ps (outer ++ x ∷ params) at_x.hold p)))
 

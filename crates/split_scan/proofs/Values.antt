@@ -4,12 +4,12 @@ use Rattle.std.proofs.Common.{map, sym, subst, All, arith, length-append}
 use Rattle.std.specs.Prelude.{◌≤◌, ◌≤ℤ◌}
 use Rattle.std.proofs.lemmas.Int.{ints}
 use Rattle.std.proofs.lemmas.List.Elements.{All-cons, All-head, All-nil, All-tail}
+use Rattle.fm_projection.proofs.Following.{one_more}
 use Rattle.whole_numbers.specs.Lists.{dot}
 use Rattle.whole_numbers.specs.Affine.{Affine, value_of}
 use Rattle.whole_numbers.proofs.Ring.{mul_zero_left}
 use Rattle.affine_forms.specs.Parts.{variables_of}
 use Rattle.plain_scan.specs.Sets.{AllAtLeast}
-use Rattle.plain_scan.proofs.Nodes.{append_one}
 use Rattle.split_scan.specs.Questions.{opened}
 
 -- the outer values and the loop's value as one list
@@ -18,7 +18,7 @@ one_size outer x m e = omega (arith, length-append outer (x ∷ []), e)
 
 pub one_point : (fs : List Affine) (outer : List ℤ) (x : ℤ) (params : List ℤ) → AllAtLeast fs (outer ++ x ∷ params)
     → AllAtLeast fs ((outer ++ x ∷ []) ++ params)
-one_point fs outer x params h = subst (AllAtLeast fs) (sym (append_one outer x params)) h
+one_point fs outer x params h = subst (AllAtLeast fs) (sym (one_more outer x params)) h
 
 -- a column that is not spoken of
 dot_opened : (outer : List ℤ) (x : ℤ) (rest cs : List ℤ) → length outer ≤ length cs

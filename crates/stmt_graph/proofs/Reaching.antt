@@ -109,11 +109,6 @@ unreached_falls (false ∷ bs) zero l e = omega arith
 unreached_falls (true ∷ bs) (suc t) l e = let k = unreached_falls bs t (omega (arith, l)) e in omega arith
 unreached_falls (false ∷ bs) (suc t) l e = let k = unreached_falls bs t (omega (arith, l)) e in omega arith
 
-pub in_at : {X : Type 0} (xs : List X) (i : ℕ) (d : X) → i < length xs → In (get_or xs i d) xs
-in_at [] i d h = absurd (omega arith)
-in_at (x ∷ xs) zero d h = inl refl
-in_at (x ∷ xs) (suc i) d h = inr (in_at xs i d (omega (arith, h)))
-
 -- one more from the front
 pub all_from : {X : Type 0} (P : X → Type 0) (xs : List X) (i : ℕ) (d : X) → i < length xs → P (get_or xs i d)
     → All P (drop (i + 1) xs) → All P (drop i xs)

@@ -11,7 +11,6 @@ use borrow.Rule.Slice.PartMut.{put_mid, same_len_mid}
 use Rattle.std.proofs.Math.Seq.{take-append_seam, drop-append_seam}
 use Rattle.whole_numbers.specs.Content.{lowest}
 use Rattle.whole_numbers.proofs.Order.{mul_positive}
-use Rattle.whole_numbers.proofs.Entries.{replicate-zeros}
 use Rattle.wide_math.specs.declared.Wide.{Wide}
 use Rattle.wide_math.specs.Checked.{product_of, ◌>>=◌}
 use Rattle.wide_math.proofs.Steps.{chain-ok, product_of-ok}

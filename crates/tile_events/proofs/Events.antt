@@ -1,5 +1,5 @@
 -- Each event keeps what holds between events.
-use Rattle.std.proofs.Common.{◌≡◌, ℕ, zero, suc, ◌<◌, ◌≤◌, ◌≢◌, inl, inr, ⊎_elim, Bool, true, false, not}
+use Rattle.std.proofs.Common.{◌≡◌, ℕ, suc, ◌<◌, ◌≤◌, ◌≢◌, ⊎_elim, Bool, true, false, not}
 use Rattle.std.proofs.Common.{List, [], ◌∷◌, ◌++◌, length, take, get_or, set, ap, ap₂, sym, refl, ◌∙◌, subst, arith}
 use Rattle.std.specs.Prelude.{⊤, nat_eq, nat_lt, if◌then◌else◌}
 use Rattle.std.proofs.lemmas.Bool.{eqb-true, eqb-false, ltb-true, lt-ltb, le-ltb, cases_lt, and_parts}
@@ -9,7 +9,7 @@ use mathlib.Core.Option.{some}
 use lib.ListN.{get_elem?}
 use Rattle.atomic_table.proofs.Lists.{at_set}
 use Rattle.scop_syntax.specs.Members.{In}
-use Rattle.scop_syntax.proofs.Members.{nat_cases}
+use Rattle.scop_syntax.proofs.Members.{nat_cases, in_at}
 use Rattle.tile_events.specs.Plan.{Plan, GoodPlan, IsDealt, before, stored, values_read, words_of}
 use Rattle.tile_events.specs.Core.{Worker, idle, ended, holding, working, State, after_claim, after_last, with_worker}
 use Rattle.tile_events.specs.Core.{cell_read, after_load, after_store, after_finish}
@@ -150,11 +150,6 @@ waves_working : (p : Plan) (s : State) (id t k m : ℕ) (xs : List ℕ) (w : Wor
     → IsFinished s x
 waves_working p s id t k m xs w cs sound here x u lx lu b up =
     sound.waves x u lx lu (begun_back s id (working t k xs) w s.claims m cs u here (λ z. z) b.claimed b) up
-
-in_at : {A : Type 0} (xs : List A) (n : ℕ) (d : A) → n < length xs → In (get_or xs n d) xs
-in_at [] n d h = absurd (omega arith)
-in_at (x ∷ xs) zero d h = inl refl
-in_at (x ∷ xs) (suc n) d h = inr (in_at xs n d (omega arith))
 
 -- the value found by a load is the one that execution reads there
 pub load_value : (p : Plan) (s : State) (id t k : ℕ) (xs : List ℕ) → GoodPlan p → IsDealt p → Sound p s

@@ -28,7 +28,7 @@ use Rattle.tile_skew.proofs.Valued.{segment}
 use Rattle.tile_skew.proofs.Points.{Parts, Tells, at_tiles, domain_from, front_size, point, point_size, tells}
 use Rattle.tile_skew.proofs.Points.{wave_forms}
 use Rattle.tile_skew.proofs.Widths.{length-carried, size-carried}
-use Rattle.tile_skew.proofs.Instances.{behind_point, parted}
+use Rattle.tile_skew.proofs.Instances.{parted}
 
 -- the values over d, times d
 fraction_values : (l : Layout) (d : ℤ) (x : List ℤ) → AreValues l d x (λ f. value_over f d x)
@@ -274,7 +274,7 @@ set_bounded l z m s bounds front turns parameters few modest near d xs ps positi
     let b = 2 ^ 46 * unsigned_abs d in
     let x = point p.hs p.bs p.cs p.ts p.zs ps in
     let fs = p.hs ++ (p.bs ++ p.cs) in
-    let place : xs ++ ps ≡ x = ap (λ (ys : List ℤ). ys ++ ps) p.whole ∙ behind_point fs p.ts p.zs ps in
+    let place : xs ++ ps ≡ x = ap (λ (ys : List ℤ). ys ++ ps) p.whole ∙ at_tiles fs p.ts p.zs ps in
     let there = subst (HoldsOver (points_of l z m s).equalities (points_of l z m s).rows d) place holds in
     let V = value_at d x in
     let W = value_at d (p.ts ++ ps) in

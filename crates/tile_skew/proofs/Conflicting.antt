@@ -1,31 +1,20 @@
 -- Two conflicting places of a kernel's walk are a related pair of a dependence between statements of its model.
-use Rattle.std.proofs.Common.{◌≡◌, ℕ, zero, suc, ◌<◌, ℤ, pos, List, [], ◌∷◌, refl, sym, ◌∙◌, ap, subst}
+use Rattle.std.proofs.Common.{◌≡◌, ℕ, zero, suc, ◌<◌, ℤ, List, [], ◌∷◌, sym, ◌∙◌, ap, subst}
 use Rattle.std.proofs.Common.{arith, length, map, Some}
-use Rattle.std.specs.Prelude.{◌≤ℤ◌, Option, slice_get, slice_index_or}
-use Rattle.std.proofs.lemmas.List.Elements.{All-nil, All-cons, All-head, All-tail}
-use Rattle.whole_numbers.specs.Lists.{NotNegative}
+use Rattle.std.specs.Prelude.{Option, slice_get, slice_index_or}
 use Rattle.fractions.specs.Farkas.{AreNotNegative}
-use Rattle.scop_syntax.specs.Kernel.{IsKernel}
 use Rattle.scop_syntax.specs.Members.{In}
-use Rattle.scop_syntax.specs.Statements.{Scope, round, under, Placed, statements_of, Runs, visit_of}
+use Rattle.scop_syntax.specs.Statements.{Placed, statements_of, Runs, visit_of}
 use Rattle.scop_syntax.specs.Tree.{Program}
 use Rattle.scop_syntax.specs.Walk.{Visit, walk_of, instance}
 use Rattle.iteration_domains.specs.Dependence.{Dependence}
-use Rattle.iteration_domains.specs.Model.{Modelled, KernelModel, model_of}
-use Rattle.iteration_domains.specs.Sizes.{IsKernelModel}
-use Rattle.iteration_domains.proofs.Placing.{model_is_one}
+use Rattle.iteration_domains.specs.Model.{Modelled, KernelModel}
 use Rattle.conflict_deps.specs.Pairs.{IsPoint, IsEnd}
 use Rattle.conflict_deps.specs.Parts.{HasParts}
 use Rattle.schedule_rows.specs.Dependences.{InRange, Relates}
 use Rattle.schedule_rows.specs.Next.{IsSizedDep}
 use Rattle.schedule_rows.specs.Schedule.{loops_in}
-
--- no parameter is negative
-pub from_0 : (params : List ℤ) → InRange params → NotNegative params
-from_0 [] h = tt
-from_0 (p ∷ ps) h =
-    let P : ℤ → Type 0 = λ z. (pos 0 ≤ℤ z) × (z ≤ℤ pos 65536) in
-    ((All-head P p ps h).0, from_0 ps (All-tail P p ps h))
+use Rattle.schedule_rows.proofs.Pairs.{runs_not_negative}
 
 -- what the laws of the walk say of its instances: they are those of statements at turns that run
 abbrev pub AreRuns : Program → List ℤ → Type 0
@@ -33,27 +22,12 @@ AreRuns program params =
     (v : Visit) → In v (walk_of program params) → (p : Placed) × (xs : List ℤ) × In p (statements_of program)
     × Runs p.scopes params xs × (v ≡ visit_of p params xs)
 
-turns_run : (scopes : List Scope) (point xs : List ℤ) → Runs scopes point xs → AreNotNegative xs
-turns_run [] point [] h = All-nil (λ x. pos 0 ≤ℤ x)
-turns_run [] point (x ∷ xs) h = absurd h
-turns_run (under tests ∷ scopes) point xs h = turns_run scopes point xs h.1
-turns_run (round head ∷ scopes) point [] h = absurd h
-turns_run (round head ∷ scopes) point (x ∷ xs) h = All-cons (λ x. pos 0 ≤ℤ x) x xs h.0 (turns_run scopes _ xs h.2)
-
 -- no turn of an instance is negative
 pub turns_from_0 : (program : Program) (params : List ℤ) (v : Visit) → AreRuns program params
     → In v (walk_of program params) → AreNotNegative v.turns
 turns_from_0 program params v found h =
     let f = found v h in
-    subst AreNotNegative (sym (ap (λ (z : Visit). z.turns) f.4)) (turns_run f.0.scopes params f.1 f.3)
-
--- the model of a kernel
-pub one_model : (program : Program) → IsKernel program
-    → ((p q : Placed) → In p (statements_of program) → In q (statements_of program) → p.number ≡ q.number → p ≡ q)
-    → ((k : ℕ) (p : Placed) → slice_get (statements_of program) k ≡ Some p → p.number ≡ k)
-    → IsKernelModel (model_of program)
-one_model program k same number =
-    model_is_one program (length program.parameters) (model_of program).statements k same number refl
+    subst AreNotNegative (sym (ap (λ (z : Visit). z.turns) f.4)) (runs_not_negative f.0.scopes params f.1 f.3)
 
 -- a statement of a model has its number of loops in the list of them
 abbrev dimensions_in : Option Modelled → ℕ

@@ -31,7 +31,7 @@ use Rattle.tile_skew.specs.ScanSets.{count_of, front_of, points_of}
 use Rattle.tile_skew.specs.Tilings.{form_at, rows_at, row_items, block_items, first_band_at, behind_at, statement_items}
 use Rattle.tile_skew.specs.steps.Sizes.{AreRowsOver, AreItemsOver, AreOver}
 use Rattle.tile_skew.proofs.Conflicting.{loops_at}
-use Rattle.tile_skew.proofs.Points.{Parts, Says, point, point_from, point_to}
+use Rattle.tile_skew.proofs.Points.{Parts, Says, point, point_from, point_to, at_tiles}
 
 -- a list in two parts
 cut : (n : ℕ) (xs : List ℤ) → n ≤ length xs
@@ -91,11 +91,6 @@ parted l s xs ps h k f =
           ∙ sym (append_assoc hs (bs ++ cs) (ts ++ zs))));
     }
 
--- the parameters behind a point
-pub behind_point : (fs ts zs ps : List ℤ) → (fs ++ (ts ++ zs)) ++ ps ≡ fs ++ (ts ++ (zs ++ ps))
-behind_point fs ts zs ps =
-    append_assoc fs (ts ++ zs) ps ∙ ap (λ (ys : List ℤ). fs ++ ys) (append_assoc ts zs ps)
-
 -- the place that is told part by part
 told : (size : ℤ) (s : Items) (ts : List ℤ)
     → (map pos s.leading ++ wave_sum size s.band ts ∷ []) ++ (coordinates size s.band ts ++ item_values s ts)
@@ -120,7 +115,7 @@ pub from_point : (l : Layout) (size : ℤ) (n : ℕ) (m : Modelled) (s : Items) 
     → Satisfies m.domain (p.ts ++ ps) × (xs ≡ place_of size n s p.ts)
 from_point l size n m s xs ps h p over e holds =
     let place : xs ++ ps ≡ point p.hs p.bs p.cs p.ts p.zs ps =
-    ap (λ (ys : List ℤ). ys ++ ps) p.whole ∙ behind_point (p.hs ++ (p.bs ++ p.cs)) p.ts p.zs ps in
+    ap (λ (ys : List ℤ). ys ++ ps) p.whole ∙ at_tiles (p.hs ++ (p.bs ++ p.cs)) p.ts p.zs ps in
     let says = point_from l size m s p.hs p.bs p.cs p.ts p.zs ps h p.parts over
     (subst (Satisfies (points_of l size m s)) place holds) in
     (says.domain, point_place l size n m s xs ps p e says)
@@ -162,7 +157,7 @@ to_point l size n m s ts ps h t p f e over up holds =
       missing = ap zeros (sym lz);
     } in
     let place : place_of size n s ts ++ ps ≡ point hs bs cs ts zs ps =
-    behind_point (before_iterators size s ts) ts zs ps
+    at_tiles (before_iterators size s ts) ts zs ps
     ∙ ap (λ (us : List ℤ). us ++ (ts ++ (zs ++ ps))) (sym (told size s ts)) in
     subst (Satisfies (points_of l size m s)) (sym place) (point_to l size m s hs bs cs ts zs ps h parts over up says)
 

@@ -1,6 +1,6 @@
 -- Entries of lists, their fronts and backs, and what holds of each entry.
 use Rattle.std.proofs.Common.{◌≡◌, ℕ, zero, suc, ◌+◌, ◌-◌, ◌<◌, ◌≤◌, ℤ, pos, List, [], ◌∷◌, ◌++◌, length, get_or, take}
-use Rattle.std.proofs.Common.{drop, replicate, Some, All, refl, sym, ◌∙◌, ap, subst, arith, append_assoc}
+use Rattle.std.proofs.Common.{replicate, Some, All, refl, sym, ◌∙◌, ap, subst, arith, append_assoc}
 use Rattle.std.specs.Prelude.{map, slice_get}
 use Rattle.std.proofs.lemmas.List.{take_all}
 use Rattle.std.proofs.lemmas.List.Elements.{All-head, All-tail, All-cons, All-nil, All-more}
@@ -28,7 +28,8 @@ all_taken {A = A} P xs i past all = subst (λ (ys : List A). All P ys) (take_all
 pub all_unmapped : {A B : Type 0} (P : B → Type 0) (f : A → B) (xs : List A) → All P (map f xs) → All (λ x. P (f x)) xs
 all_unmapped P f [] all = All-nil (λ x. P (f x))
 all_unmapped P f (x ∷ xs) all =
-    All-cons (λ y. P (f y)) x xs (All-head P (f x) (map f xs) all) (all_unmapped P f xs (All-tail P (f x) (map f xs) all))
+    All-cons (λ y. P (f y)) x xs (All-head P (f x) (map f xs) all)
+    (all_unmapped P f xs (All-tail P (f x) (map f xs) all))
 
 -- what stands at a place, whatever stands for a missing one
 pub get_or_same : {A : Type 0} (xs : List A) (i : ℕ) (d e : A) → i < length xs → get_or xs i d ≡ get_or xs i e

@@ -1,9 +1,11 @@
 use Rattle.std.proofs.Common.{refl, arith}
 use Rattle.iteration_domains.specs.Model.{model_of}
+use Rattle.iteration_domains.proofs.Placing.{one_model}
 use Rattle.conflict_deps.specs.Conflicts.{conflicts_of}
 use Rattle.schedule_rows.specs.Schedule.{loops_in}
+use Rattle.schedule_rows.proofs.Pairs.{range_nested}
 use Rattle.pluto_search.proofs.Conflicts.{all_between}
-use Rattle.pluto_search.proofs.Ordering.{range_nested, turns_from_0, one_model, pair_of, values_rise}
+use Rattle.pluto_search.proofs.Ordering.{turns_from_0, pair_of, values_rise}
 use Rattle.pluto_search.proofs.laws.schedules_order_conflicts.Goals as goal
 
 pub returns : goal.returns

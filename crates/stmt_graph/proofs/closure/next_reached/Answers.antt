@@ -1,7 +1,8 @@
 use Rattle.std.proofs.Common.{◌≡◌, ◌<◌, ℕ, length, true, get_or, arith, sym, ◌∙◌}
 use Rattle.std.proofs.lemmas.Bool.{false≢true}
+use Rattle.scop_syntax.proofs.Members.{in_at}
 use Rattle.stmt_graph.specs.Closure.{at}
-use Rattle.stmt_graph.proofs.Reaching.{in_at, in_all, all_from}
+use Rattle.stmt_graph.proofs.Reaching.{in_all, all_from}
 use Rattle.stmt_graph.proofs.closure.next_reached.Goals as goal
 use Rattle.stmt_graph.proofs.closure.next_reached.Goals.{else-reached-source-via-then-reached-source+else-not-reached-target}
 use Rattle.stmt_graph.proofs.closure.next_reached.Goals.{else-reached-source-via-else-reached-source}

@@ -7,10 +7,12 @@ use Rattle.scop_syntax.specs.Members.{In}
 use Rattle.scop_syntax.proofs.Members.{in_from_place}
 use Rattle.iteration_domains.specs.Dependence.{Dependence}
 use Rattle.iteration_domains.specs.Model.{Modelled, model_of}
+use Rattle.iteration_domains.proofs.Placing.{one_model}
 use Rattle.conflict_deps.specs.Conflicts.{conflicts_of}
 use Rattle.schedule_rows.specs.Next.{IsSizedDep}
 use Rattle.schedule_rows.specs.Schedule.{loops_in}
-use Rattle.tile_skew.proofs.Conflicting.{from_0, turns_from_0, one_model, pair_of, sized_conflict}
+use Rattle.schedule_rows.proofs.Pairs.{range_nested}
+use Rattle.tile_skew.proofs.Conflicting.{turns_from_0, pair_of, sized_conflict}
 use Rattle.tile_skew.proofs.Planning.{WalkFacts, turns_rise, in_order}
 use Rattle.tile_skew.proofs.laws.tiled_schedules_are_good_plans.Goals as goal
 
@@ -20,7 +22,7 @@ returns c program blocks params size kernel count range positive schedule i j p 
     let loops = loops_in model in
     let deps = conflicts_of model in
     let found = c.conflicts_are_the_points_of_the_systems.ensures.conflicts program params i j p count
-    (from_0 params range) in
+    (range_nested params range) in
     let one = one_model program kernel (c.statements_are_numbered.ensures.same program)
     (c.statements_are_numbered.ensures.number program) in
     let runs = c.instances_are_those_of_statements.ensures.found program params in
