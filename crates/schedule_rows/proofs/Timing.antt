@@ -1,6 +1,6 @@
 -- At full rank the item values of one statement's instances differ: item values, then the statement's number,
 -- are in order.
-use Rattle.std.proofs.Common.{◌≡◌, ℕ, ◌<◌, ℤ, pos, negsuc, ◌*ℤ◌, List, [], ◌∷◌, ◌++◌, sym, ◌∙◌, ap}
+use Rattle.std.proofs.Common.{◌≡◌, ℕ, ◌<◌, ℤ, pos, negsuc, List, [], ◌∷◌, ◌++◌, sym, ◌∙◌, ap}
 use Rattle.std.proofs.Common.{subst, inl, inr, arith, length, All}
 use Rattle.std.specs.Prelude.{◌+ℤ◌, ◌-ℤ◌}
 use Rattle.std.proofs.lemmas.Int.{ints}
@@ -10,7 +10,6 @@ use Rattle.whole_numbers.specs.Lexicographic.{LexLess}
 use Rattle.whole_numbers.proofs.Lexicographic.{LexLess-irrefl, LexLess-front}
 use Rattle.whole_numbers.proofs.Dot.{dot-sums, dot-multiples, dot_comm, length-sums}
 use Rattle.whole_numbers.proofs.Dot.{length-multiples}
-use Rattle.whole_numbers.proofs.Ring.{mul_zero_right}
 use Rattle.whole_numbers.proofs.Lists.{same_products}
 use Rattle.scop_syntax.specs.Members.{In}
 use Rattle.scop_syntax.specs.Walk.{Instance}
@@ -81,10 +80,6 @@ orthogonal (r ∷ rows) x y same h =
     All-cons (λ l. dot (difference_of x.turns y.turns) l ≡ pos 0) c (coefficients_in rows x.number)
     (omega (arith, ints))
     (orthogonal rows x y same (All-tail (λ q. phi q x ≡ phi q y) r rows h))
-
-rest : (x y : ℤ) (xs ys w : List ℤ) → (x *ℤ pos 0) +ℤ dot xs w ≡ (y *ℤ pos 0) +ℤ dot ys w
-    → dot xs w ≡ dot ys w
-rest x y xs ys w h = let a = mul_zero_right x in let b = mul_zero_right y in omega (arith, ints)
 
 -- the law of full rank: with no kernel vector left only 0 is orthogonal to all rows
 abbrev pub LeavesOnly0 : Type 0
