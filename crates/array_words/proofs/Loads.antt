@@ -1,8 +1,9 @@
 -- A load of the cell that the next instance reads next is allowed by the rule of its table.
-use Rattle.std.proofs.Common.{◌≡◌, ℕ, zero, suc, ◌+◌, ◌<◌, ◌≤◌, ◌∙◌, List, [], ◌∷◌, ◌++◌, length, get_or, inl, inr, ap, ap₂, refl, sym, subst, arith}
+use Rattle.std.proofs.Common.{◌≡◌, ℕ, ◌+◌, ◌<◌, ◌≤◌, ◌∙◌, [], ◌∷◌, ◌++◌, length, get_or, ap, ap₂, refl, sym, subst}
+use Rattle.std.proofs.Common.{arith}
 use mathlib.Core.Option.{none}
 use Rattle.atomic_table.specs.Table.{Me, Allows, step}
-use Rattle.scop_syntax.specs.Members.{In}
+use Rattle.scop_syntax.proofs.Members.{in_at}
 use Rattle.tile_events.specs.Plan.{IsDealt, values_read}
 use Rattle.tile_events.specs.Sound.{Holds}
 use Rattle.tile_events.specs.Allowed.{LoadIsAllowed}
@@ -18,11 +19,6 @@ use Rattle.tile_core.specs.Workers.{staged}
 use Rattle.tile_core.specs.Views.{key_plan, plan_at, worker_in, parts_in, at_stage, executed, Ruled}
 use Rattle.tile_core.specs.Passes.{plan_in, IsPass}
 use Rattle.array_words.specs.Loads.{IsNextRead, Loads}
-
-in_at : (xs : List ℕ) (i : ℕ) → i < length xs → In (get_or xs i 0) xs
-in_at [] i l = absurd (omega (arith, l))
-in_at (x ∷ xs) zero l = inl refl
-in_at (x ∷ xs) (suc i) l = inr (in_at xs i (omega (arith, l)))
 
 module _ (words : Words) (pass : Pass) where
   abbrev MayLoad : Words → Pass → ℕ → Type 0
@@ -65,7 +61,7 @@ module _ (words : Words) (pass : Pass) where
   below_at dealt (Holding t) c is e next = absurd next
   below_at dealt (Working t k) c is e (less, more, at) =
       subst (λ (d : ℕ). d < (plan_in words).cells) (sym at)
-      (dealt.read ((plan_in words).place t k) _ (dealt.place t k (works_in t k is e) less) (in_at _ _ more))
+      (dealt.read ((plan_in words).place t k) _ (dealt.place t k (works_in t k is e) less) (in_at _ _ 0 more))
 
   -- the cell is one of the plan's
   pub read_below : IsDealt (plan_in words) → (c : ℕ) → IsPass words pass

@@ -130,6 +130,10 @@ size-variables n j zero = All-nil (OfSize n)
 size-variables n j (suc m) = All-cons (OfSize n) (variable n j) (variables n (j + 1) m) (size-set n j)
     (size-variables n (j + 1) m)
 
+pub length-all_below : (most : ℤ) (n j m : ℕ) → length (all_below most n j m) ≡ m
+length-all_below most n j zero = refl
+length-all_below most n j (suc m) = ap suc (length-all_below most n (j + 1) m)
+
 pub size-below : (most : ℤ) (n j m : ℕ) → All (OfSize n) (all_below most n j m)
 size-below most n j zero = All-nil (OfSize n)
 size-below most n j (suc m) =

@@ -2,8 +2,7 @@
 use Rattle.std.proofs.Common.{◌≡◌, ℕ, zero, suc, ◌+◌, ◌<◌, List, [], ◌∷◌, ◌++◌, refl, sym, ◌∙◌, ap, subst, inl, inr}
 use Rattle.std.proofs.Common.{arith, length, map, All, drop, append_assoc, add-one, drop-cons}
 use Rattle.std.specs.Prelude.{slice_index_or}
-use Rattle.std.specs.Prelude.{◌≤◌}
-use Rattle.std.proofs.lemmas.List.{append-nil, length-drop, length-map, get_or-map, nil_from_length}
+use Rattle.std.proofs.lemmas.List.{append-nil, length-map, get_or-map}
 use Rattle.std.proofs.lemmas.List.Elements.{All-nil, All-cons, All-head, All-tail}
 use Rattle.scop_syntax.specs.Members.{In}
 use Rattle.iteration_domains.specs.Dependence.{Dependence, IsDependence}
@@ -110,10 +109,6 @@ pub all_next : {X : Type 0} (P : X → Type 0) (xs : List X) (i : ℕ) (d : X) �
 all_next P xs i d l p h =
     subst (All P) (sym (next_of xs i (slice_index_or xs i d) d l refl))
     (All-cons P (slice_index_or xs i d) (drop (i + 1) xs) p h)
-
--- nothing is left
-pub none_left : {X : Type 0} (xs : List X) (i : ℕ) → length xs ≤ i → drop i xs ≡ []
-none_left xs i h = let l = length-drop i xs in nil_from_length (drop i xs) (omega arith)
 
 -- the next of a list that is made from another entry by entry
 pub mapped_next : {X Y : Type 0} (f : X → Y) (xs : List X) (i : ℕ) (x : X) → i < length xs → x ≡ slice_index_or xs i x

@@ -5,6 +5,7 @@ use Rattle.std.proofs.Common.{refl, sym, ap, subst, ◌∙◌, All, arith}
 use Rattle.std.specs.Prelude.{◌≤◌, ◌≤ℤ◌}
 use Rattle.std.proofs.lemmas.Int.{ints}
 use Rattle.std.proofs.lemmas.List.Elements.{All-append, All-cons, All-head, All-nil, All-tail}
+use Rattle.std.proofs.Math.Seq.{get_or-append_seam}
 use Rattle.whole_numbers.specs.Affine.{Affine}
 use Rattle.whole_numbers.proofs.Ring.{mul_one_left}
 use Rattle.affine_forms.specs.Parts.{variables_of}
@@ -103,10 +104,6 @@ opened_back m (f ∷ fs) outer x rest size few h = (
   opened_back m fs outer x rest size (All-tail (λ g. m ≤ variables_of g) f fs few) h.1,
 )
 
-entry_at : (outer : List ℤ) (x : ℤ) (rest : List ℤ) → get_or (outer ++ x ∷ rest) (length outer) (pos 0) ≡ x
-entry_at [] x rest = refl
-entry_at (z ∷ outer) x rest = entry_at outer x rest
-
 pub natural_inside : (m n : ℕ) (context rows : List Affine) (low : ℤ) (others : List Affine) → m < n
     → All (λ f. m ≤ variables_of f) context → rows ≡ place_form n m (pos 1) low ∷ others → low ≤ℤ pos 0
     → AreNatural m context → AreNatural (m + 1) (map (opened m) context ++ rows)
@@ -120,7 +117,7 @@ natural_inside m n context rows low others inside few is less natural params poi
     let first = (subst (λ fs. AllAtLeast fs (e.front ++ e.last ∷ params)) is sides.1).0 in
     let v = place_value n m (pos 1) low (e.front ++ e.last ∷ params) inside in
     let x = subst (λ k. get_or (e.front ++ e.last ∷ params) k (pos 0) ≡ e.last) e.size
-    (entry_at e.front e.last params) in
+    (get_or-append_seam e.front e.last params (pos 0)) in
     let o = mul_one_left (get_or (e.front ++ e.last ∷ params) m (pos 0)) in
     let positive : pos 0 ≤ℤ e.last = omega (arith, ints, first, v, x, o, less) in
     subst (All (λ z. pos 0 ≤ℤ z)) (sym e.is) (All-append (λ z. pos 0 ≤ℤ z) e.front (e.last ∷ []) outside

@@ -7,6 +7,7 @@ use Rattle.std.proofs.lemmas.Int.{ints}
 use Rattle.std.proofs.lemmas.List.{get_or-set_other, length-set}
 use Rattle.std.proofs.lemmas.List.Elements.{All-append, All-cons, All-head, All-nil, All-tail}
 use Rattle.std.proofs.lemmas.Bool.{false≢true}
+use Rattle.std.proofs.Math.Seq.{get_or-append_seam}
 use Rattle.fm_projection.proofs.Following.{one_more}
 use Rattle.integer_sets.specs.Scanned.{Scanned}
 use Rattle.whole_numbers.specs.Lists.{NotNegative, zeros}
@@ -27,10 +28,6 @@ use Rattle.split_scan.specs.declared.part.Part.{Part}
 use Rattle.split_scan.proofs.Values.{one_point, one_size, opened_hold, opened_sized}
 
 -- x - y
-entry_there : (outer : List ℤ) (x : ℤ) (rest : List ℤ) → get_or (outer ++ x ∷ rest) (length outer) (pos 0) ≡ x
-entry_there [] x rest = refl
-entry_there (z ∷ outer) x rest = entry_there outer x rest
-
 entry_behind : (outer : List ℤ) (x y : ℤ) (rest : List ℤ)
     → get_or (outer ++ x ∷ y ∷ rest) (suc (length outer)) (pos 0) ≡ y
 entry_behind [] x y rest = refl
@@ -49,8 +46,8 @@ value_difference m n outer x y rest size less =
     let other : get_or line (m + 1) (pos 0) ≡ pos 0 =
     get_or-set_other (zeros n) m (m + 1) (pos 1) (pos 0) (λ e. omega (arith, e)) ∙ get_or-zeros n (m + 1) in
     let none = get_or-zeros n m in
-    let first : get_or point m (pos 0) ≡ x = subst (λ k. get_or point k (pos 0) ≡ x) size (entry_there outer x
-    (y ∷ rest)) in
+    let first : get_or point m (pos 0) ≡ x = subst (λ k. get_or point k (pos 0) ≡ x) size (get_or-append_seam outer x
+    (y ∷ rest) (pos 0)) in
     let second : get_or point (m + 1) (pos 0) ≡ y = subst (λ k. get_or point k (pos 0) ≡ y) (let e : suc
     (length outer) ≡ m + 1 = omega (arith, size) in e)
     (entry_behind outer x y rest) in

@@ -1,5 +1,5 @@
 -- What an instance of a plan touches and stores, by its place in the walk.
-use Rattle.std.proofs.Common.{◌≡◌, ℕ, zero, suc, ◌≤◌, ◌<◌, ℤ, List, [], ◌∷◌, length, map, get_or, Some, inl, inr, ap}
+use Rattle.std.proofs.Common.{◌≡◌, ℕ, zero, suc, ◌≤◌, ◌<◌, ℤ, List, [], ◌∷◌, length, map, get_or, Some, ap}
 use Rattle.std.proofs.Common.{sym, refl}
 use Rattle.std.proofs.Common.{◌∙◌, arith}
 use Rattle.std.specs.Prelude.{slice_get}
@@ -157,8 +157,3 @@ pub place_within : (plan : Plan) (i : CodeInstance) → In (instance_of i) (plac
     → plans.place_of plan i < length (walk_in plan)
 place_within plan i walked =
     let t = there plan i walked in slice_get_within (walk_in plan) (plans.place_of plan i) t.0 t.1.at
-
-pub in_at : (xs : List ℕ) (i : ℕ) → i < length xs → In (get_or xs i 0) xs
-in_at [] i l = absurd (omega (arith, l))
-in_at (x ∷ xs) zero l = inl refl
-in_at (x ∷ xs) (suc i) l = inr (in_at xs i (omega (arith, l)))

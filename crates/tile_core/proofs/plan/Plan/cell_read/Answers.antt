@@ -2,10 +2,11 @@ use Rattle.std.proofs.Common.{arith, rules, ◌≡◌, ◌+◌, ◌<◌, ◌∙�
 use Rattle.std.specs.Prelude.{slice_get}
 use Rattle.scop_syntax.specs.Cells.{accesses}
 use Rattle.scop_syntax.specs.Execution.{total_cells}
+use Rattle.scop_syntax.proofs.Members.{in_at}
 use Rattle.stmt_table.proofs.Visits.{WalkLaws}
 use Rattle.tile_core.specs.Plans.{extents_in, place_of, program_in}
 use Rattle.tile_core.proofs.Rows.{forms_counted, row_within, tells_cell}
-use Rattle.tile_core.proofs.Touched.{few_reads, in_at, place_within, read_is}
+use Rattle.tile_core.proofs.Touched.{few_reads, place_within, read_is}
 use Rattle.tile_core.proofs.plan.Plan.cell_read.Goals as goal
 use Rattle.tile_core.proofs.plan.Plan.cell_read.Goals.{After-cells_lie_within_22_bits}
 
@@ -57,4 +58,4 @@ returns-clause-inside c =
     (ap (slice_get (accesses v.body)) (let q : c.args.read + 1 ≡ suc c.args.read = omega arith in q) ∙ at)) in
     subst (λ n. n < total_cells (extents_in plan)) (sym is)
     ((c.plans_are_good.ensures.dealt plan [] c.requires.plan).read (place_of plan c.args.instance.now) _
-    (place_within plan c.args.instance.now c.requires.walked) (in_at _ c.args.read c.requires.read))
+    (place_within plan c.args.instance.now c.requires.walked) (in_at _ c.args.read 0 c.requires.read))
