@@ -1,5 +1,5 @@
 -- What holds of each of a list that a loop looks at, and of a tree's nodes.
-use Rattle.std.proofs.Common.{◌+◌, List, [], ◌∷◌, ◌++◌, All}
+use Rattle.std.proofs.Common.{List, [], ◌∷◌, ◌++◌, All}
 use Rattle.std.proofs.lemmas.List.Elements.{All-nil, All-cons, All-head, All-tail}
 use Rattle.quast_trees.specs.Tree.{Tree, initial, leaf, branch, bind, count}
 use Rattle.quast_trees.specs.Postfix.{written}

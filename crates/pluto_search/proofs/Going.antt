@@ -1,5 +1,5 @@
 -- From one state to the next: what holds between steps.
-use Rattle.std.proofs.Common.{◌≡◌, ℕ, zero, suc, ◌+◌, ◌<◌, ◌^◌, ℤ, List, [], ◌∷◌, ◌++◌, refl, sym, ◌∙◌, ap, ap₂, subst}
+use Rattle.std.proofs.Common.{◌≡◌, ℕ, zero, suc, ◌<◌, ◌^◌, ℤ, List, [], ◌∷◌, ◌++◌, refl, sym, ◌∙◌, ap, ap₂, subst}
 use Rattle.std.proofs.Common.{inl, inr, arith, length, map, All, Vec, Global}
 use Rattle.std.specs.Prelude.{◌≤◌, slice_index_or, Ok}
 use Rattle.std.proofs.lemmas.List.{append-nil, length-map, get_or-map}

@@ -5,7 +5,7 @@ use Rattle.std.specs.Option.{option_map}
 use Rattle.scop_syntax.specs.Tree.{Access}
 use Rattle.scop_syntax.specs.Walk.{Visit}
 use Rattle.scop_syntax.specs.Cells.{Cell, accesses, cell_at, cell_of, PlacesConflict}
-use Rattle.scop_syntax.specs.Writers.{writes, last_writer, next_writer, last_of, next_of}
+use Rattle.scop_syntax.specs.Writers.{last_writer, next_writer, last_of, next_of}
 use Rattle.scop_syntax.proofs.Writers.{last_is, next_is, writer_of}
 
 then_from : {A B : Type 0} (f : A → Option B) (o : Option A) (y : B) → option_and_then f o ≡ Some y
