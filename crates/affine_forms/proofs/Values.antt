@@ -1,7 +1,7 @@
 -- What a run's form is worth at each point.
-use Rattle.std.proofs.Common.{◌≡◌, ℕ, zero, suc, ◌<◌, ℤ, pos, List, [], ◌∷◌, refl, sym, ap, ◌∙◌}
+use Rattle.std.proofs.Common.{◌≡◌, ℕ, suc, ◌<◌, ℤ, List, [], ◌∷◌, sym, ap, ◌∙◌}
 use Rattle.std.proofs.Common.{arith, All}
-use Rattle.std.specs.Prelude.{Ok, replicate}
+use Rattle.std.specs.Prelude.{Ok}
 use Rattle.whole_numbers.specs.Lists.{multiples, zeros}
 use Rattle.whole_numbers.specs.Affine.{Affine, value_of, form_of, plus_combination, composed}
 use Rattle.whole_numbers.proofs.Dot.{length-sums, length-multiples, length-zeros}
@@ -35,11 +35,6 @@ pub substitute_run-value : (f : Affine) (variable : ℕ) (g h : Affine) → vari
 substitute_run-value f variable g h inside same run point fits =
     let e = ap (λ (s : Affine). value_of s point) (substitute_run-exact f variable g h same run) in
     e ∙ value_of-substituted variable f g point inside (rw fits inside)
-
--- a list of zeros
-pub replicate-zeros : (n : ℕ) → replicate n (pos 0) ≡ zeros n
-replicate-zeros zero = refl
-replicate-zeros (suc n) = ap (λ (zs : List ℤ). pos 0 ∷ zs) (replicate-zeros n)
 
 -- a sum keeps the number of variables
 pub plus_multiple_run-variables : (f : Affine) (k : ℤ) (g h : Affine)

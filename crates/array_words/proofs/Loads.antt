@@ -1,5 +1,6 @@
 -- A load of the cell that the next instance reads next is allowed by the rule of its table.
-use Rattle.std.proofs.Common.{◌≡◌, ℕ, ◌+◌, ◌<◌, ◌≤◌, ◌∙◌, [], ◌∷◌, ◌++◌, length, get_or, ap, ap₂, refl, sym, subst, arith}
+use Rattle.std.proofs.Common.{◌≡◌, ℕ, ◌+◌, ◌<◌, ◌≤◌, ◌∙◌, [], ◌∷◌, ◌++◌, length, get_or, ap, ap₂, refl, sym, subst}
+use Rattle.std.proofs.Common.{arith}
 use mathlib.Core.Option.{none}
 use Rattle.atomic_table.specs.Table.{Me, Allows, step}
 use Rattle.scop_syntax.proofs.Members.{in_at}

@@ -2,11 +2,11 @@
 use Rattle.std.proofs.Common.{◌≡◌, ◌∙◌, ap, sym, refl, ℕ, zero, suc, ◌+◌, ◌<◌, ◌≤◌, Bool, false, List, [], ◌∷◌, ◌++◌}
 use Rattle.std.proofs.Common.{length, map, drop, get_or, add-one, append-nil, arith}
 use Rattle.std.specs.Prelude.{codes}
-use Rattle.std.proofs.lemmas.List.{append_assoc, length-map}
+use Rattle.std.proofs.lemmas.List.{append_assoc, length-map, drop_all}
 use Rattle.scop_lexer.specs.Bytes.{Text}
 use Rattle.scop_syntax.specs.Tree.{Declaration}
 use Rattle.c_printer.specs.Statements.{arrays_behind, comma, declared_from, listed}
-use Rattle.c_printer.proofs.Putting.{behind, past_all}
+use Rattle.c_printer.proofs.Putting.{behind}
 
 map_ahead : {A B : Type 0} (f : A → B) (xs : List A) (i : ℕ) (d : A) → i < length xs
     → drop i (map f xs) ≡ f (get_or xs i d) ∷ drop (suc i) (map f xs)
@@ -47,7 +47,7 @@ pub declared_all : {A : Type 0} (f : A → Text) (xs : List A) (arrays : List De
 declared_all f xs arrays i n out one whole first here h same put so_far =
     let ps = map f xs in
     let l = length-map xs f in
-    let none : drop i ps ≡ [] = past_all ps i (omega (arith, h, l)) in
+    let none : drop i ps ≡ [] = drop_all i ps (omega (arith, h, l)) in
     sym (append-nil one)
     ∙ (put []
     ∙ (ap (λ (ts : List Text). out ++ listed first ts)

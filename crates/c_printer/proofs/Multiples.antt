@@ -3,9 +3,8 @@ use Rattle.std.proofs.Common.{◌≡◌, ◌∙◌, ap, ap₂, sym, refl, ℕ, z
 use Rattle.std.proofs.Common.{length, drop, ◌++◌, get_or, add-one, append-nil, arith, FitsSigned}
 use Rattle.std.specs.Int.{w64, w128}
 use Rattle.std.proofs.lemmas.Int.{ints}
-use Rattle.std.proofs.lemmas.List.{append_assoc}
+use Rattle.std.proofs.lemmas.List.{append_assoc, drop_all}
 use Rattle.wide_math.proofs.Narrow.{product_at_most, product_at_least}
-use Rattle.c_printer.proofs.Putting.{past_all}
 use Rattle.std.specs.Prelude.{ℤ, ◌+ℤ◌, ◌*ℤ◌, max}
 use Rattle.whole_numbers.specs.Lists.{sums, multiples}
 use Rattle.whole_numbers.proofs.Dot.{sums-nil}
@@ -56,8 +55,8 @@ pub sums_all : (k : ℤ) (xs ys all whole : List ℤ) (i : ℕ) → max (length 
     → all ++ sums (drop i xs) (multiples k (drop i ys)) ≡ whole → all ≡ whole
 sums_all k xs ys all whole i h so_far =
     sym (append-nil all)
-    ∙ (ap₂ (λ (a b : List ℤ). all ++ sums a (multiples k b)) (sym (past_all xs i (omega (arith, h))))
-    (sym (past_all ys i (omega (arith, h)))) ∙ so_far)
+    ∙ (ap₂ (λ (a b : List ℤ). all ++ sums a (multiples k b)) (sym (drop_all i xs (omega (arith, h))))
+    (sym (drop_all i ys (omega (arith, h)))) ∙ so_far)
 
 -- a number and a product of others, all of 64 bits, have 128 bits
 pub sum_fits : (x y z : ℤ) → FitsSigned w64 x → FitsSigned w64 y → FitsSigned w64 z → FitsSigned w128 (x +ℤ (y *ℤ z))

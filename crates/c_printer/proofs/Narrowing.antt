@@ -4,7 +4,7 @@ use Rattle.std.proofs.Common.{pos, List, [], ◌∷◌, ◌++◌, length, take, 
 use Rattle.std.proofs.Common.{arith}
 use Rattle.std.specs.Prelude.{ℤ, ◌-ℤ◌, ◌≤ℤ◌, ◌&&◌, Option, Some, None, if◌then◌else◌}
 use Rattle.std.proofs.lemmas.Int.{ints}
-use Rattle.std.proofs.lemmas.List.{append_assoc, take-append-drop}
+use Rattle.std.proofs.lemmas.List.{append_assoc, take-append-drop, drop_all}
 use Rattle.whole_numbers.specs.Affine.{Affine, form_of}
 use Rattle.whole_numbers.specs.Division.{IsFloor}
 use Rattle.whole_numbers.specs.Floor.{floor}
@@ -15,7 +15,6 @@ use Rattle.form_text.specs.Reading.{when}
 use Rattle.c_printer.specs.Forms.{spread}
 use Rattle.c_printer.specs.Reading.{is_narrow, are_narrow, narrowed, turned_back, quotient, quotients, turn_of}
 use Rattle.c_printer.specs.steps.Reading.{narrow, narrow_list, form_from, turn_from}
-use Rattle.c_printer.proofs.Putting.{past_all}
 
 -- what is a floor is the floor
 pub floor_told : (a d q : ℤ) → pos 1 ≤ℤ d → IsFloor a d q → q ≡ floor a d
@@ -83,12 +82,12 @@ over_nothing s (x ∷ xs) = refl
 pub quotients_past : (s : ℤ) (xs zs : List ℤ) (n i : ℕ) → length xs ≤ i
     → take n (quotients s (drop i xs) (drop i zs)) ≡ []
 quotients_past s xs zs n i h =
-    ap (λ (t : List ℤ). take n (quotients s t (drop i zs))) (past_all xs i h) ∙ take_nothing n
+    ap (λ (t : List ℤ). take n (quotients s t (drop i zs))) (drop_all i xs h) ∙ take_nothing n
 
 pub quotients_behind : (s : ℤ) (xs zs : List ℤ) (n i : ℕ) → length zs ≤ i
     → take n (quotients s (drop i xs) (drop i zs)) ≡ []
 quotients_behind s xs zs n i h =
-    ap (λ (t : List ℤ). take n (quotients s (drop i xs) t)) (past_all zs i h)
+    ap (λ (t : List ℤ). take n (quotients s (drop i xs) t)) (drop_all i zs h)
     ∙ (ap (take n) (over_nothing s (drop i xs)) ∙ take_nothing n)
 
 -- lists one by one, and as a whole

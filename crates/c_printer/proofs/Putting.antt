@@ -1,7 +1,7 @@
 -- Texts put behind one another.
-use Rattle.std.proofs.Common.{◌≡◌, ◌∙◌, ap, refl, ℕ, zero, suc, ◌+◌, ◌-◌, ◌<◌, ◌≤◌, pos, List, [], ◌∷◌, ◌++◌}
+use Rattle.std.proofs.Common.{◌≡◌, ◌∙◌, ap, refl, ℕ, suc, ◌+◌, ◌-◌, ◌<◌, ◌≤◌, pos, List, [], ◌∷◌, ◌++◌}
 use Rattle.std.proofs.Common.{drop, length, arith}
-use Rattle.std.proofs.lemmas.List.{append_assoc}
+use Rattle.std.proofs.lemmas.List.{append_assoc, drop_all}
 use Rattle.whole_numbers.specs.Affine.{Affine}
 use Rattle.whole_numbers.specs.Lists.{zeros}
 use Rattle.scop_lexer.specs.Bytes.{Text}
@@ -28,18 +28,11 @@ five_behind a one two three four x lower y upper z h i j k =
     ∙ (behind two three y (upper ++ z) j
     ∙ (behind one two lower (y ++ (upper ++ z)) i ∙ behind a one x (lower ++ (y ++ (upper ++ z))) h))
 
--- no entry stands behind the last
-pub past_all : {A : Type 0} (xs : List A) (i : ℕ) → length xs ≤ i → drop i xs ≡ []
-past_all [] zero h = refl
-past_all [] (suc i) h = refl
-past_all (x ∷ xs) zero h = absurd (omega (arith, h))
-past_all (x ∷ xs) (suc i) h = past_all xs i (omega (arith, h))
-
 -- where turns end, so do the iterators
 pub givens_end : (parameters loops : ℕ) (names : List Text) (heads : List Head) (turns : List Affine) (i : ℕ)
     → length turns ≤ i → givens_text parameters loops names heads (drop i turns) ≡ []
 givens_end parameters loops names [] turns i h = refl
 givens_end parameters loops names (head ∷ heads) turns i h =
-    ap (givens_text parameters loops names (head ∷ heads)) (past_all turns i h)
+    ap (givens_text parameters loops names (head ∷ heads)) (drop_all i turns h)
 
 pub ruleset putting = (append_assoc)

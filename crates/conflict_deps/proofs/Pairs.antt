@@ -1,9 +1,8 @@
 -- The whole points of the conflicts' systems are exactly the pairs of conflicting places, the earlier first.
-use Rattle.std.proofs.Common.{◌≡◌, ℕ, ◌+◌, ◌<◌, true, ℤ, List, [], ◌∷◌, ◌++◌, length, map, Some, inl, inr, ap, ap₂}
+use Rattle.std.proofs.Common.{◌≡◌, ℕ, ◌+◌, ◌<◌, true, ℤ, List, [], ◌++◌, length, map, Some, ap, ap₂}
 use Rattle.std.proofs.Common.{subst, sym, ◌∙◌, refl, arith, length-append}
-use Rattle.std.specs.Prelude.{◌≤◌, ◌↔◌, All, slice_get, slice_index_or, nat_lt}
+use Rattle.std.specs.Prelude.{◌≤◌, ◌↔◌, slice_get, slice_index_or, nat_lt}
 use Rattle.std.proofs.lemmas.List.{append_assoc, length-map}
-use Rattle.std.proofs.lemmas.List.Elements.{All-head, All-tail}
 use Rattle.whole_numbers.specs.Affine.{Affine, value_of, composed}
 use Rattle.whole_numbers.specs.Lists.{NotNegative}
 use Rattle.integer_sets.specs.Points.{Satisfies}
@@ -14,7 +13,7 @@ use Rattle.scop_syntax.specs.Order.{common, Before}
 use Rattle.scop_syntax.specs.Kernel.{IsAccess, IsPlaced, ranks_of}
 use Rattle.scop_syntax.specs.Statements.{Placed, statements_of, loops_in, point_of, AllHold, Runs, visit_of}
 use Rattle.scop_syntax.specs.Cells.{accesses, values, Cell, Conflict, PlacesConflict}
-use Rattle.scop_syntax.proofs.Members.{in_from_place, place_of}
+use Rattle.scop_syntax.proofs.Members.{in_from_place, place_of, all_in}
 use Rattle.iteration_domains.specs.Rows.{variables, variables_of_statement, point_forms, rows_of}
 use Rattle.iteration_domains.specs.Constraints.{tests_of}
 use Rattle.iteration_domains.specs.Model.{kernel_model, domain_of, modelled}
@@ -139,11 +138,6 @@ holding_from m s t a x h =
     (hold_append k (a.rows ++ u) x h.cell (hold_append a.rows u x h.order h.up))))
 
 -- an access of a kernel has as many subscripts as its array has dimensions
-all_in : {A : Type 0} (P : A → Type 0) (xs : List A) (x : A) → All P xs → In x xs → P x
-all_in P [] x all h = absurd h
-all_in P (y ∷ ys) x all (inl e) = subst P (sym e) (All-head P y ys all)
-all_in P (y ∷ ys) x all (inr h) = all_in P ys x (All-tail P y ys all) h
-
 rank_of : (program : Program) (params : List ℤ) (p : Placed) (k : ℕ) (f : Access) → KernelLaws program params
     → In p (statements_of program) → slice_get (accesses p.body) k ≡ Some f
     → length f.subscripts ≡ slice_index_or (ranks_of program) f.array 0

@@ -14,10 +14,11 @@ use Rattle.iteration_domains.specs.Sizes.{IsKernelModel}
 use Rattle.iteration_domains.specs.Dependence.{Dependence}
 use Rattle.iteration_domains.proofs.Points.{equalities_in-append, rows_in-append}
 use Rattle.conflict_deps.specs.Conflicts.{Side, sides_of, sides_in, loops_of, source_form, target_form, map_test}
-use Rattle.conflict_deps.specs.Conflicts.{same_subscripts, source_rows, target_rows, cell_rows, parameter_rows}
+use Rattle.conflict_deps.specs.Conflicts.{source_rows, target_rows, cell_rows, parameter_rows}
 use Rattle.conflict_deps.specs.Conflicts.{pair_size, dep_of, afters_of, may_conflict, deps_between, conflicts_of}
 use Rattle.conflict_deps.specs.Parts.{HasParts}
 use Rattle.conflict_deps.proofs.Sides.{in_flat_map_from, side_to}
+use Rattle.conflict_deps.proofs.Shapes.{no_rows_in_cells}
 
 -- the equalities of a domain's tests, each with the same done to its form
 equals_mapped : (h : Affine → Affine) (fs : List Affine) (gs : List Affine)
@@ -42,12 +43,6 @@ no_equal (f ∷ fs) = no_equal fs
 all_rows : (fs : List Affine) → rows_in (map at_least fs) ≡ fs
 all_rows [] = refl
 all_rows (f ∷ fs) = ap (λ us. f ∷ us) (all_rows fs)
-
--- subscripts that are one have no row
-cell_equal : (d e : ℕ) (fs gs : List Affine) → rows_in (same_subscripts d e fs gs) ≡ []
-cell_equal d e [] gs = refl
-cell_equal d e (f ∷ fs) [] = refl
-cell_equal d e (f ∷ fs) (g ∷ gs) = cell_equal d e fs gs
 
 -- a side of the model stands at its statement's place
 stands : (model : KernelModel) (s : Side) → IsKernelModel model → In s (sides_in model)
@@ -106,6 +101,6 @@ parts_of model dep is h =
           ∙ ap₂ (λ (x y : List Affine). x ++ y) (rows_mapped (target_form (loops_of s.0)) dv.equalities dv.rows)
           (rows_in-append c (o ++ w)
           ∙ ap₂ (λ (x y : List Affine). x ++ y)
-          (cell_equal (loops_of s.0) (loops_of t.0) s.0.access.subscripts t.0.access.subscripts)
+          (no_rows_in_cells (loops_of s.0) (loops_of t.0) s.0.access.subscripts t.0.access.subscripts)
           (rows_in-append o w ∙ ap (λ (y : List Affine). rows_in o ++ y) (all_rows ps)))));
     }

@@ -1,5 +1,5 @@
 -- Forms over the variables of a pair as the code puts them together: their parts, lengths and sizes.
-use Rattle.std.proofs.Common.{◌≡◌, ℕ, zero, suc, Bool, true, ◌+◌, ◌-◌, ◌<◌, ◌≤◌, ℤ, pos, negsuc, List, [], ◌∷◌, ◌++◌}
+use Rattle.std.proofs.Common.{◌≡◌, ℕ, zero, suc, Bool, true, ◌+◌, ◌-◌, ◌<◌, ◌≤◌, ℤ, negsuc, List, [], ◌∷◌, ◌++◌}
 use Rattle.std.proofs.Common.{length, map, take, drop, ap, ap₂, subst, sym, ◌∙◌, refl, arith, length-append}
 use Rattle.std.proofs.Common.{length-drop}
 use Rattle.std.specs.Prelude.{All}
@@ -26,16 +26,6 @@ use Rattle.conflict_deps.specs.Conflicts.{parameter_rows, tests_between}
 use Rattle.iteration_domains.specs.Dependence.{Dependence}
 use Rattle.conflict_deps.specs.View.{CanPair, ShowsTests, GainsTests, order_at}
 use Rattle.conflict_deps.specs.declared.deps.PairRows.{PairRows}
-
--- zeros, of which the first are there
-pub zeros_step : (xs next whole : List ℤ) (n k : ℕ) → k < n → xs ++ zeros (n - k) ≡ whole → next ≡ xs ++ pos 0 ∷ []
-    → next ++ zeros (n - (k + 1)) ≡ whole
-zeros_step xs next whole n k h so_far is =
-    let rest = zeros (n - (k + 1)) in
-    let e : n - k ≡ suc (n - (k + 1)) = omega arith in
-    let here : zeros (n - k) ≡ pos 0 ∷ rest = ap zeros e in
-    ap (λ (zs : List ℤ). zs ++ rest) is
-    ∙ (append_assoc xs (pos 0 ∷ []) rest ∙ (ap (λ (zs : List ℤ). xs ++ zs) (sym here) ∙ so_far))
 
 -- the parts of a form of the source
 pub spread_parts : (d e : ℕ) (cs : List ℤ) → d ≤ length cs → spread e d cs ≡ take d cs ++ (zeros e ++ drop d cs)
@@ -239,7 +229,7 @@ gained n old new gains equalities ups a b tests shows =
     }
 
 -- equal subscripts
-no_rows_in_cells : (d e : ℕ) (fs gs : List Affine) → rows_in (same_subscripts d e fs gs) ≡ []
+pub no_rows_in_cells : (d e : ℕ) (fs gs : List Affine) → rows_in (same_subscripts d e fs gs) ≡ []
 no_rows_in_cells d e [] gs = refl
 no_rows_in_cells d e (f ∷ fs) [] = refl
 no_rows_in_cells d e (f ∷ fs) (g ∷ gs) = no_rows_in_cells d e fs gs

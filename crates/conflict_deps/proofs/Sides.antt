@@ -4,6 +4,7 @@ use Rattle.std.proofs.Common.{ap₂, subst, sym, ◌∙◌, refl, arith}
 use Rattle.std.specs.Prelude.{◌≤◌, nat_eq, slice_get, if◌then◌else◌}
 use Rattle.std.specs.List.{flat_map}
 use Rattle.std.proofs.lemmas.Bool.{eqb-true, eq-eqb}
+use Rattle.whole_numbers.proofs.Entries.{get_map}
 use Rattle.scop_syntax.specs.Tree.{Access}
 use Rattle.scop_syntax.specs.Members.{In}
 use Rattle.scop_syntax.specs.Order.{common}
@@ -90,12 +91,6 @@ get_map_from : {A B : Type 0} (h : A → B) (xs : List A) (k : ℕ) (y : B) → 
 get_map_from h [] k y e = absurd cc
 get_map_from h (x ∷ xs) zero y e = (x, refl, cc)
 get_map_from h (x ∷ xs) (suc k) y e = get_map_from h xs k y e
-
-get_map : {A B : Type 0} (h : A → B) (xs : List A) (k : ℕ) (x : A) → slice_get xs k ≡ Some x
-    → slice_get (map h xs) k ≡ Some (h x)
-get_map h [] k x e = absurd cc
-get_map h (y ∷ ys) zero x e = let z : y ≡ x = cc in ap (λ w. Some (h w)) z
-get_map h (y ∷ ys) (suc k) x e = get_map h ys k x e
 
 -- a side, by its statement in the text
 pub record IsSide (m : ℕ) (ps : List Placed) (s : Side) : Type 0 where

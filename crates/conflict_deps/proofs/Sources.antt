@@ -1,5 +1,5 @@
 -- The earlier writers of the cell that an access touches are the points of the systems from writes to that access.
-use Rattle.std.proofs.Common.{◌≡◌, ℕ, ◌<◌, ◌≤◌, true, false, ℤ, List, length, Option, Some, None, inl, ap, ap₂, subst}
+use Rattle.std.proofs.Common.{◌≡◌, ℕ, ◌<◌, ◌≤◌, true, false, ℤ, List, length, Option, Some, inl, ap, ap₂, subst}
 use Rattle.std.proofs.Common.{sym, ◌∙◌, refl, arith}
 use Rattle.std.specs.Prelude.{slice_get}
 use Rattle.whole_numbers.specs.Lists.{NotNegative}
@@ -7,7 +7,7 @@ use Rattle.scop_syntax.specs.Tree.{Access, Program}
 use Rattle.scop_syntax.specs.Walk.{Visit, walk_of}
 use Rattle.scop_syntax.specs.Cells.{accesses, Cell, cell_of, written}
 use Rattle.scop_syntax.specs.Writers.{writes, IsLast}
-use Rattle.scop_syntax.proofs.Writers.{cell_same, same_cells}
+use Rattle.scop_syntax.proofs.Writers.{same_cells, writer_of}
 use Rattle.scop_syntax.proofs.Members.{nat_cases}
 use Rattle.iteration_domains.specs.Dependence.{Dependence}
 use Rattle.conflict_deps.specs.Pairs.{IsPoint, IsEnd, TouchesAt, WritesBefore}
@@ -82,13 +82,6 @@ points_are_writers program params j w b c dep xs places kernel once count reads 
       pair.source_turns,
     )
 
--- the visit that writes a cell
-writer_at : (o : Option Visit) (c : Cell) → writes o c ≡ true → (u : Visit) × (o ≡ Some u) × (written u ≡ c)
-writer_at None c h = absurd cc
-writer_at (Some u) c h =
-    let s = cell_same (written u) c h in
-    (u, refl, ap₂ (λ (a : ℕ) (xs : List ℤ). record { array = a; subscripts = xs }) s.0 s.1)
-
 wrote_at : (o : Option Visit) (u : Visit) (c : Cell) → o ≡ Some u → written u ≡ c → writes o c ≡ true
 wrote_at o u c there is =
     ap (λ (p : Option Visit). writes p c) there
@@ -98,7 +91,7 @@ wrote_at o u c there is =
 pub last_writes : (program : Program) (params : List ℤ) (i j : ℕ) (c : Cell)
     → IsLast (walk_of program params) j c i → (u : Visit) × WritesBefore program params i j u c
 last_writes program params i j c last =
-    let w = writer_at (slice_get (walk_of program params) i) c last.wrote in
+    let w = writer_of (slice_get (walk_of program params) i) c last.wrote in
     (w.0, record { earlier = last.before; place = w.1; writes = w.2 })
 
 -- and no writer before the place is later

@@ -1,10 +1,9 @@
 -- A candidate's answer names the wanted one of its places.
-use Rattle.std.proofs.Common.{◌≡◌, ℕ, zero, suc, ◌≤◌, ℤ, pos, List, [], ◌∷◌, ◌++◌, length, take, Option, Some, None}
+use Rattle.std.proofs.Common.{◌≡◌, ℕ, ◌≤◌, ℤ, List, [], ◌∷◌, length, Option, Some, None}
 use Rattle.std.proofs.Common.{inl, inr, ◌⊎◌, ap, ap₂, subst, sym, ◌∙◌, refl, arith}
 use Rattle.std.specs.Prelude.{slice_get}
-use Rattle.std.proofs.lemmas.Bool.{eq-eqb}
 use Rattle.whole_numbers.specs.Lexicographic.{LexLess, LexLe}
-use Rattle.whole_numbers.proofs.Lexicographic.{LexLess-irrefl, LexLess-append, LexLess-from_le}
+use Rattle.whole_numbers.proofs.Lexicographic.{LexLess-irrefl, LexLess-from_le}
 use Rattle.quast_trees.specs.Tree.{Tree, Speaks}
 use Rattle.quast_trees.specs.Source.{source_of}
 use Rattle.quast_trees.specs.Leaf.{Leaf, initial, found}
@@ -12,7 +11,6 @@ use Rattle.quast_trees.specs.Value.{value}
 use Rattle.scop_syntax.specs.Members.{In}
 use Rattle.scop_syntax.specs.Walk.{Visit}
 use Rattle.scop_syntax.specs.Cells.{Cell}
-use Rattle.scop_syntax.specs.Order.{common, key, Before}
 use Rattle.scop_syntax.specs.Writers.{last_writer, next_writer}
 use Rattle.scop_syntax.proofs.Writers.{last_is, none_writes, next_is, none_behind}
 use Rattle.quast_joins.specs.declared.way.Way.{Way}
@@ -22,41 +20,10 @@ use Rattle.dataflow.specs.Places.{answer, Names, IsOrdered}
 use Rattle.quast_joins.specs.Joins.{join}
 use Rattle.dataflow.specs.Candidates.{TurnsAtMost, IsAmong, IsWanted, Writes, Finds, joined}
 use Rattle.scop_syntax.proofs.Members.{nat_cases}
+use Rattle.scop_syntax.proofs.Order.{own_order}
 use Rattle.dataflow.proofs.Choosing.{chosen_names, best_of_two}
 use Rattle.quast_joins.proofs.Values.{join-value}
 use Rattle.quast_joins.proofs.Speaking.{join-speaks}
-
-all_common : (ls : List ℕ) → common ls ls ≡ length ls
-all_common [] = refl
-all_common (l ∷ ls) = rw (eq-eqb l l refl) (ap suc (all_common ls))
-
-take_all_of : (n : ℕ) (xs : List ℤ) → length xs ≡ n → take n xs ≡ xs
-take_all_of zero [] h = refl
-take_all_of zero (x ∷ xs) h = absurd (omega arith)
-take_all_of (suc n) [] h = refl
-take_all_of (suc n) (x ∷ xs) h = ap (λ us. x ∷ us) (take_all_of n xs (omega arith))
-
--- two instances of one statement stand in the order of their turns
-pub own_order : (v w : Visit) → length v.loops ≡ length v.turns → length w.loops ≡ length w.turns → v.number ≡ w.number
-    → v.loops ≡ w.loops → Before v w → LexLess v.turns w.turns
-own_order v w e f number loops h =
-    let c : common v.loops w.loops ≡ length v.turns = subst (λ ls. common v.loops ls ≡ length v.turns) loops
-    (all_common v.loops ∙ e) in
-    let same : length v.turns ≡ length w.turns = sym e ∙ (ap length loops ∙ f) in
-    let h1 : LexLess (key (length v.turns) v) (key (length v.turns) w) = subst (λ n. LexLess (key n v) (key n w)) c h in
-    let a : key (length v.turns) v ≡ v.turns ++ pos v.number ∷ [] = ap (λ us. us ++ pos v.number ∷ [])
-    (take_all_of (length v.turns) v.turns refl) in
-    let b : key (length v.turns) w ≡ w.turns ++ pos w.number ∷ [] = ap (λ us. us ++ pos w.number ∷ [])
-    (take_all_of (length v.turns) w.turns (sym same)) in
-    let h2 : LexLess (v.turns ++ pos v.number ∷ []) (w.turns ++ pos w.number ∷ []) = subst
-    (λ us. LexLess (v.turns ++ pos v.number ∷ []) us) b (subst (λ us. LexLess us (key (length v.turns) w)) a h1) in
-    decided (LexLess-append v.turns w.turns (pos v.number ∷ []) (pos w.number ∷ []) same h2)
-  where
-    decided : LexLess v.turns w.turns ⊎ ((v.turns ≡ w.turns) × LexLess (pos v.number ∷ []) (pos w.number ∷ []))
-        → LexLess v.turns w.turns
-    decided (inl l) = l
-    decided (inr s) = absurd (LexLess-irrefl (pos w.number ∷ [])
-        (subst (λ n. LexLess (pos n ∷ []) (pos w.number ∷ [])) number s.1))
 
 not_both : (xs ys : List ℤ) → LexLess xs ys → LexLe ys xs → ⊥
 not_both xs ys h k = LexLess-irrefl xs (LexLess-from_le xs ys xs h k)

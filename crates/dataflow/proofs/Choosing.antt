@@ -1,11 +1,13 @@
 -- Of two answers that name places of the walk the join chooses that of the wanted place.
 use Rattle.std.proofs.Common.{◌≡◌, ℕ, suc, ◌<◌, ◌≤◌, Bool, true, false, ℤ, pos, List, [], ◌∷◌, ◌++◌, length, take}
 use Rattle.std.proofs.Common.{Option, Some, None, inl, inr, ◌⊎◌, ap, ap₂, subst, sym, ◌∙◌, refl, arith}
-use Rattle.std.specs.Prelude.{slice_get, nat_eq, nat_lt, if◌then◌else◌}
+use Rattle.std.specs.Prelude.{slice_get, nat_eq, if◌then◌else◌}
 use Rattle.std.proofs.lemmas.Int.{ints}
+use Rattle.std.proofs.lemmas.Bool.{lt-ltb, le-ltb}
 use Rattle.whole_numbers.specs.Lexicographic.{LexLess}
 use Rattle.quast_trees.specs.Leaf.{Leaf, initial, found}
 use Rattle.scop_syntax.proofs.Members.{nat_cases}
+use Rattle.scop_syntax.proofs.Order.{common-comm}
 use Rattle.quast_trees.specs.Value.{by_sign}
 use Rattle.quast_trees.proofs.BySign.{by_sign_first, by_sign_second}
 use Rattle.scop_syntax.specs.Walk.{Visit}
@@ -16,17 +18,11 @@ use Rattle.quast_joins.specs.Ways.{ahead, text, first_stands, chosen}
 use Rattle.dataflow.specs.Wanted.{IsBest, better}
 use Rattle.dataflow.specs.Places.{answer, Names, IsOrdered}
 
-lt_true : (m n : ℕ) → m < n → nat_lt m n ≡ true
-lt_true m n h = grind arith
-
-lt_false : (m n : ℕ) → n ≤ m → nat_lt m n ≡ false
-lt_false m n h = grind arith
-
 text_second : (s t : ℕ) → s < t → text Later s t ≡ false
-text_second s t h = rw (lt_true s t h) refl
+text_second s t h = rw (lt-ltb s t h) refl
 
 text_first : (s t : ℕ) → t < s → text Later s t ≡ true
-text_first s t h = rw (lt_false s t (omega arith)) refl
+text_first s t h = rw (le-ltb s t (omega arith)) refl
 
 number_less : (s t : ℕ) → LexLess (pos s ∷ []) (pos t ∷ []) → s < t
 number_less s t (inl l) = omega (arith, ints)
@@ -102,12 +98,6 @@ mirror s t (k ∷ ks) (l ∷ ls) (x ∷ xs) (y ∷ ys) =
     ap₂ (λ (b r : Bool). if b then by_sign (ahead Later y x) true (by_sign (ahead Later x y) false r)
     else text Earlier s t) (nat_eq-comm k l) (mirror s t ks ls xs ys)
 
-common-comm : (ks ls : List ℕ) → common ks ls ≡ common ls ks
-common-comm [] [] = refl
-common-comm [] (l ∷ ls) = refl
-common-comm (k ∷ ks) [] = refl
-common-comm (k ∷ ks) (l ∷ ls) = ap₂ (λ (b : Bool) (c : ℕ). if b then suc c else 0) (nat_eq-comm k l) (common-comm ks ls)
-
 turned : (v w : Visit) → Before w v → LexLess (key (common v.loops w.loops) w) (key (common v.loops w.loops) v)
 turned v w h = subst (λ c. LexLess (key c w) (key c v)) (common-comm w.loops v.loops) h
 
@@ -131,29 +121,29 @@ chosen_two Later visits o i k v w a b =
     let lv = o.loops i v a in
     let lw = o.loops k w b in
     nat_cases i k
-    (λ less. rw (before_second v w lv lw (o.order i k v w a b less), lt_true i k less) (w, b, refl))
+    (λ less. rw (before_second v w lv lw (o.order i k v w a b less), lt-ltb i k less) (w, b, refl))
     (λ same. let e : v ≡ w = cc in
-    rw (lt_false i k (omega arith)) (
+    rw (le-ltb i k (omega arith)) (
       v,
       a,
       same_either
           (first_stands Later v.number w.number v.loops w.loops v.turns w.turns) (answer v) (answer w) (ap answer e),
     ))
-    (λ large. rw (behind_first v w lv lw (o.order k i w v b a large), lt_false i k (omega arith)) (v, a, refl))
+    (λ large. rw (behind_first v w lv lw (o.order k i w v b a large), le-ltb i k (omega arith)) (v, a, refl))
 chosen_two Earlier visits o i k v w a b =
     let lv = o.loops i v a in
     let lw = o.loops k w b in
     let m = mirror v.number w.number v.loops w.loops v.turns w.turns in
     nat_cases i k
-    (λ less. rw (m, behind_first w v lw lv (o.order i k v w a b less), lt_false k i (omega arith)) (v, a, refl))
+    (λ less. rw (m, behind_first w v lw lv (o.order i k v w a b less), le-ltb k i (omega arith)) (v, a, refl))
     (λ same. let e : v ≡ w = cc in
-    rw (lt_false k i (omega arith)) (
+    rw (le-ltb k i (omega arith)) (
       v,
       a,
       same_either
           (first_stands Earlier v.number w.number v.loops w.loops v.turns w.turns) (answer v) (answer w) (ap answer e),
     ))
-    (λ large. rw (m, before_second w v lw lv (o.order k i w v b a large), lt_true k i large) (w, b, refl))
+    (λ large. rw (m, before_second w v lw lv (o.order k i w v b a large), lt-ltb k i large) (w, b, refl))
 
 chosen_none : (way : Way) (l : Leaf) → chosen way l initial ≡ l
 chosen_none way initial = refl
@@ -178,7 +168,7 @@ best_of_two Later P Q (Some i) None a b = (inl a.0, λ k h. elim h [ inl p ↦ a
 best_of_two Earlier P Q (Some i) None a b = (inl a.0, λ k h. elim h [ inl p ↦ a.1 k p | inr q ↦ absurd (b k q) ])
 best_of_two Later P Q (Some i) (Some k) a b =
     nat_cases i k
-    (λ less. rw (lt_true i k less) (
+    (λ less. rw (lt-ltb i k less) (
       inr b.0,
       λ n h. elim h [
         | inl p ↦
@@ -186,17 +176,17 @@ best_of_two Later P Q (Some i) (Some k) a b =
         | inr q ↦ b.1 n q
       ],
     ))
-    (λ same. rw (lt_false i k (omega arith)) (
+    (λ same. rw (le-ltb i k (omega arith)) (
       inl a.0,
       λ n h. elim h [ inl p ↦ a.1 n p | inr q ↦ (let c : n ≤ k = b.1 n q in omega arith) ],
     ))
-    (λ large. rw (lt_false i k (omega arith)) (
+    (λ large. rw (le-ltb i k (omega arith)) (
       inl a.0,
       λ n h. elim h [ inl p ↦ a.1 n p | inr q ↦ (let c : n ≤ k = b.1 n q in omega arith) ],
     ))
 best_of_two Earlier P Q (Some i) (Some k) a b =
     nat_cases k i
-    (λ less. rw (lt_true k i less) (
+    (λ less. rw (lt-ltb k i less) (
       inr b.0,
       λ n h. elim h [
         | inl p ↦
@@ -204,11 +194,11 @@ best_of_two Earlier P Q (Some i) (Some k) a b =
         | inr q ↦ b.1 n q
       ],
     ))
-    (λ same. rw (lt_false k i (omega arith)) (
+    (λ same. rw (le-ltb k i (omega arith)) (
       inl a.0,
       λ n h. elim h [ inl p ↦ a.1 n p | inr q ↦ (let c : k ≤ n = b.1 n q in omega arith) ],
     ))
-    (λ large. rw (lt_false k i (omega arith)) (
+    (λ large. rw (le-ltb k i (omega arith)) (
       inl a.0,
       λ n h. elim h [ inl p ↦ a.1 n p | inr q ↦ (let c : k ≤ n = b.1 n q in omega arith) ],
     ))

@@ -2,7 +2,7 @@
 use Rattle.std.proofs.Common.{◌≡◌, ℕ, zero, suc, ◌+◌, ◌-◌, ◌<◌, ◌≤◌, Bool, true, false, List, [], ◌∷◌, ◌++◌, drop}
 use Rattle.std.proofs.Common.{get_or}
 use Rattle.std.proofs.Common.{length, map, ℤ, Option, Some, Result, Ok, Err, refl, sym, ap, subst, ◌∙◌, arith}
-use Rattle.std.proofs.Common.{append_assoc, add-one, drop-cons, inl, inr}
+use Rattle.std.proofs.Common.{append_assoc, add-one, drop-cons}
 use Rattle.std.specs.Prelude.{slice_get, nat_eq, nat_lt, if◌then◌else◌}
 use Rattle.std.proofs.lemmas.Bool.{eqb-true}
 use Rattle.std.proofs.lemmas.List.{append-nil}
@@ -215,12 +215,6 @@ statement_gathered model budget ss i s old new here h g gains =
       left = append_assoc g.done (reads_of_statement s) (reads_in (drop (i + 1) ss))
           ∙ (ap (λ (xs : List Modelled). g.done ++ reads_in xs) (sym (statements_at ss i s here h)) ∙ g.left);
     }
-
--- an element of a list
-pub at_in : {A : Type 0} (xs : List A) (i : ℕ) (x : A) → x ≡ get_or xs i x → i < length xs → In x xs
-at_in [] i x found h = absurd (omega arith)
-at_in (y ∷ xs) zero x found h = inl found
-at_in (y ∷ xs) (suc i) x found h = inr (at_in xs i x found (omega arith))
 
 -- the run begins with the initial value
 pub run_begins : (model : KernelModel) (budget access : ℕ) (s : Modelled) (deps : List Dependence) (found : Postfix)

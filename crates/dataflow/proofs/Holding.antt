@@ -1,7 +1,6 @@
 -- What holds of each of a list that a loop looks at, and of a tree's nodes.
-use Rattle.std.proofs.Common.{◌≡◌, ℕ, ◌+◌, ◌<◌, ◌≤◌, List, [], ◌∷◌, ◌++◌, All, get_or, length, subst, take}
-use Rattle.std.proofs.lemmas.List.{take_all}
-use Rattle.std.proofs.lemmas.List.Elements.{All-nil, All-cons, All-head, All-tail, All-more}
+use Rattle.std.proofs.Common.{List, [], ◌∷◌, ◌++◌, All}
+use Rattle.std.proofs.lemmas.List.Elements.{All-nil, All-cons, All-head, All-tail}
 use Rattle.quast_trees.specs.Tree.{Tree, initial, leaf, branch, bind, count}
 use Rattle.quast_trees.specs.Postfix.{written}
 use Rattle.quast_trees.specs.declared.node.Node.{Node}
@@ -31,12 +30,3 @@ tree_holds (bind form divisor body) h =
     let root = all_parts IsHeldNode (written body) (node.Bind form divisor ∷ []) h in
     let own = All-head IsHeldNode (node.Bind form divisor) [] root.1 in
     (own.0, own.1, tree_holds body root.0)
-
--- one more of a list, in the order of a loop
-pub one_more : {A : Type 0} (P : A → Type 0) (xs : List A) (i : ℕ) (x : A) → x ≡ get_or xs i x → i < length xs
-    → All P (take i xs) → P x → All P (take (i + 1) xs)
-one_more P xs i x is inside so_far own = All-more P xs i x inside so_far (subst P is own)
-
--- and the whole list at its end
-pub all_looked : {A : Type 0} (P : A → Type 0) (xs : List A) (i : ℕ) → length xs ≤ i → All P (take i xs) → All P xs
-all_looked {A = A} P xs i past so_far = subst (λ (ys : List A). All P ys) (take_all i xs past) so_far

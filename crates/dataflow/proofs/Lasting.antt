@@ -11,6 +11,7 @@ use Rattle.whole_numbers.specs.Floor.{floor}
 use Rattle.std.proofs.lemmas.List.{length-set, length-map}
 use Rattle.whole_numbers.proofs.Dot.{length-zeros, length-multiples}
 use Rattle.whole_numbers.proofs.Values.{length-combination}
+use Rattle.whole_numbers.proofs.Entries.{get_map}
 use Rattle.wide_math.specs.declared.Wide.{Wide}
 use Rattle.tableau_rows.specs.Problem.{problem_of, row_values, Speaks as RowsSpeak}
 use Rattle.lexmin_runs.specs.Nodes.{Counted, lexmin_run}
@@ -38,7 +39,7 @@ use Rattle.conflict_deps.proofs.Parts.{parts_of}
 use Rattle.dataflow.specs.Places.{Names}
 use Rattle.dataflow.specs.Runs.{or_initial}
 use Rattle.dataflow.proofs.Running.{run_joined}
-use Rattle.dataflow.proofs.Sourcing.{Laws, last_is_found, get_map}
+use Rattle.dataflow.proofs.Sourcing.{Laws, last_is_found}
 use Rattle.dataflow.proofs.Solving.{minimum_wanted, in_statements, up_bounded}
 use Rattle.scop_syntax.specs.Cells.{Cell}
 use Rattle.scop_syntax.specs.Walk.{Visit, walk_of}
@@ -128,6 +129,10 @@ size-variables : (n j m : ℕ) → All (OfSize n) (variables n j m)
 size-variables n j zero = All-nil (OfSize n)
 size-variables n j (suc m) = All-cons (OfSize n) (variable n j) (variables n (j + 1) m) (size-set n j)
     (size-variables n (j + 1) m)
+
+pub length-all_below : (most : ℤ) (n j m : ℕ) → length (all_below most n j m) ≡ m
+length-all_below most n j zero = refl
+length-all_below most n j (suc m) = ap suc (length-all_below most n (j + 1) m)
 
 pub size-below : (most : ℤ) (n j m : ℕ) → All (OfSize n) (all_below most n j m)
 size-below most n j zero = All-nil (OfSize n)

@@ -31,7 +31,7 @@ use Rattle.dataflow.specs.Posed.{CanPose, IsSmall}
 use Rattle.dataflow.specs.Problems.{top, below, all_below, turned_variables, moved_variables, flat, own}
 use Rattle.dataflow.specs.Problems.{own_equalities_of, turned}
 use Rattle.dataflow.proofs.Lists.{equalities_put}
-use Rattle.dataflow.proofs.Lasting.{size-below}
+use Rattle.dataflow.proofs.Lasting.{size-below, length-all_below}
 use Rattle.dataflow.proofs.Sizes.{AreSmall, all_small, side_small, statement_of_model, order_small, between_small}
 
 -- all numbers of a conflict's system are small
@@ -118,10 +118,6 @@ sizes-below n j (suc m) = let b = size-one_below n j in let r = sizes-below n (j
 sizes-append : (fs gs : List Affine) → forms_size (fs ++ gs) ≡ forms_size fs + forms_size gs
 sizes-append [] gs = omega arith
 sizes-append (f ∷ fs) gs = let r = sizes-append fs gs in omega arith
-
-length-all_below : (most : ℤ) (n j m : ℕ) → length (all_below most n j m) ≡ m
-length-all_below most n j zero = refl
-length-all_below most n j (suc m) = ap suc (length-all_below most n (j + 1) m)
 
 entries_at_most : (k : ℕ) (zs : List ℤ) → size zs ≤ k → AreAtMost k zs
 entries_at_most k [] h = tt

@@ -10,7 +10,7 @@ use Rattle.scop_syntax.specs.Kernel.{IsAffine, IsAccess, IsComparison, IsKernel,
 use Rattle.scop_syntax.specs.Kernel.{test_form}
 use Rattle.scop_syntax.specs.Members.{In}
 use Rattle.scop_syntax.specs.Statements.{Scope, round, under, loops_in, Placed, statements_of}
-use Rattle.scop_syntax.proofs.Members.{in_map_from, in_from_place}
+use Rattle.scop_syntax.proofs.Members.{in_map_from, in_from_place, all_in}
 use Rattle.iteration_domains.specs.Rows.{variables, composed_test, iterator, within_loop, rows_from}
 use Rattle.iteration_domains.specs.Rows.{forms_from, point_forms, rows_of}
 use Rattle.iteration_domains.specs.Constraints.{equalities_in, rows_in, tests_of}
@@ -138,12 +138,6 @@ narrow_forms n forms (f ∷ fs) all few =
     let c = size-composed (length forms) 16 (2 ^ 20) n forms f (All-head (IsAffine (length forms)) f fs all) in
     (omega arith, narrow_forms n forms fs (All-tail (IsAffine (length forms)) f fs all) few)
 
--- one of a list of which all are such
-one_of : {A : Type 0} (P : A → Type 0) (xs : List A) (x : A) → All P xs → In x xs → P x
-one_of P [] x all h = absurd h
-one_of P (y ∷ xs) x all (inl e) = subst P (sym e) (All-head P y xs all)
-one_of P (y ∷ xs) x all (inr h) = one_of P xs x (All-tail P y xs all) h
-
 -- a statement of a kernel and its accesses
 pub record IsSmallStatement (m : ℕ) (s : Modelled) : Type 0 where
   pub few : s.domain.dimensions ≤ 5
@@ -171,7 +165,7 @@ statement_small ranks m p few is =
       rows = small_rows (rows_of m p) tests;
       accesses = λ a h.
           let r = in_map_from (access_over m p) a (accesses p.body) h in
-          let own = one_of (IsAccess ranks (m + loops_in p.scopes)) (accesses p.body) r.0
+          let own = all_in (IsAccess ranks (m + loops_in p.scopes)) (accesses p.body) r.0
           (statement_accesses ranks (m + loops_in p.scopes) p.body is.body) r.1 in
           let narrow = narrow_forms n (point_forms m p) r.0.subscripts
           (subst (λ k. All (IsAffine k) r.0.subscripts) (sym count) own.subscripts) point.small in

@@ -19,8 +19,8 @@ use Rattle.quast_joins.specs.Sizes.{LeavesWithin}
 use Rattle.iteration_domains.specs.Model.{Modelled, KernelModel}
 use Rattle.iteration_domains.specs.Dependence.{Dependence}
 use Rattle.dataflow.specs.LastRuns as last
-use Rattle.dataflow.specs.LastRuns.{Stopped, fitting, sourced, turned_tree, posed_run, solve_between, solve_run}
-use Rattle.dataflow.specs.LastRuns.{turns_in, read_variables}
+use Rattle.dataflow.specs.LastRuns.{fitting, sourced, turned_tree, posed_run, solve_between, solve_run}
+use Rattle.dataflow.specs.LastRuns.{turns_in}
 use Rattle.dataflow.specs.Posed.{IsPosed, IsPosedOf}
 use Rattle.dataflow.specs.Problems.{top, all_below, posed_rows, posed_context}
 use Rattle.dataflow.specs.Steps.{Solves, IsToldAs}

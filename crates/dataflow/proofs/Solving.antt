@@ -7,6 +7,7 @@ use Rattle.std.proofs.lemmas.List.{length-map}
 use Rattle.std.proofs.lemmas.List.Elements.{All-head, All-tail}
 use Rattle.whole_numbers.specs.Affine.{Affine, value_of}
 use Rattle.whole_numbers.specs.Lists.{NotNegative}
+use Rattle.whole_numbers.proofs.Lists.{not_negative-append}
 use Rattle.tableau_rows.specs.Problem.{Problem, problem_of, row_values, IsPoint as IsProblemPoint}
 use Rattle.lexmin_runs.specs.Leaves.{IsAnswer}
 use Rattle.quast_trees.specs.Tree.{Tree}
@@ -237,10 +238,6 @@ answer_wanted program params j w b c dep p number loops l laws count small touch
         (λ ys q less. least.least ys q.size q less) in
         (refl, m.0, m.1)
 
-up_front : (xs ys : List ℤ) → NotNegative xs → NotNegative ys → NotNegative (xs ++ ys)
-up_front [] ys h k = k
-up_front (x ∷ xs) ys h k = (h.0, up_front xs ys h.1 k)
-
 pub up_bounded : (most : ℤ) (xs : List ℤ) → All (λ x. (pos 0 ≤ℤ x) × (x ≤ℤ most)) xs → NotNegative xs
 up_bounded most [] all = tt
 up_bounded most (x ∷ xs) all = (
@@ -300,7 +297,7 @@ minimum_wanted program params j w b c dep p number loops t laws count bounds sma
     answer_wanted program params j w b c dep p number loops
     (value t (params ++ w.turns)) laws count small touches cand reads
     (ap (λ (d : Dependence). d.source.loops) p.is) (ap (λ (d : Dependence). d.target.loops) p.is)
-    (least (params ++ w.turns) long (up_front params w.turns up (up_turns w.turns (small j w touches.place)))
+    (least (params ++ w.turns) long (not_negative-append params w.turns up (up_turns w.turns (small j w touches.place)))
     (context_up params w.turns p.to.statement reads bounds))
 
 pub in_statements : (program : Program) (dep : Dependence) (p : HasParts (model_of program) dep)

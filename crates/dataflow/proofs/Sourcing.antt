@@ -1,9 +1,10 @@
 -- The join over all candidates of an access names its last or next writer.
-use Rattle.std.proofs.Common.{◌≡◌, ℕ, zero, suc, ◌<◌, true, ℤ, List, [], ◌∷◌, length, Option, Some, None, inl, inr, ◌⊎◌}
+use Rattle.std.proofs.Common.{◌≡◌, ℕ, ◌<◌, true, ℤ, List, length, Option, Some, None, inl, inr, ◌⊎◌}
 use Rattle.std.proofs.Common.{ap, ap₂, subst, sym, ◌∙◌, refl}
-use Rattle.std.specs.Prelude.{slice_get, map}
+use Rattle.std.specs.Prelude.{slice_get}
 use Rattle.whole_numbers.specs.Lists.{NotNegative}
-use Rattle.quast_trees.specs.Tree.{Tree, Speaks}
+use Rattle.whole_numbers.proofs.Entries.{get_map}
+use Rattle.quast_trees.specs.Tree.{Tree}
 use Rattle.quast_trees.specs.Tree as tree
 use Rattle.quast_trees.specs.Value.{value}
 use Rattle.quast_joins.specs.declared.way.Way.{Way}
@@ -199,12 +200,6 @@ point_is_writer Earlier program params j w b c dep xs laws count reads point wri
     )
 
 -- the loops round a statement of the text are those of its number in the model
-pub get_map : {A B : Type 0} (h : A → B) (xs : List A) (k : ℕ) (x : A) → slice_get xs k ≡ Some x
-    → slice_get (map h xs) k ≡ Some (h x)
-get_map h [] k x e = absurd cc
-get_map h (y ∷ ys) zero x e = let z : y ≡ x = cc in ap (λ w. Some (h w)) z
-get_map h (y ∷ ys) (suc k) x e = get_map h ys k x e
-
 pub placed_loops : (program : Program) (p : Placed) → ((k : ℕ) (q : Placed)
     → slice_get (statements_of program) k ≡ Some q → q.number ≡ k) → In p (statements_of program)
     → loops_round (model_of program) p.number ≡ p.loops

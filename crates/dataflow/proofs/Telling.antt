@@ -1,6 +1,6 @@
 -- Sources are what a text can tell: their quasts speak of the variables at their places, and name instances.
-use Rattle.std.proofs.Common.{◌≡◌, ℕ, zero, suc, ◌+◌, ◌^◌, ◌<◌, ◌≤◌, Bool, true, false, List, [], ◌∷◌, ◌++◌, length, All}
-use Rattle.std.proofs.Common.{◌-◌, ℤ}
+use Rattle.std.proofs.Common.{◌≡◌, ℕ, zero, suc, ◌+◌, ◌^◌, ◌<◌, ◌≤◌, Bool, true, false, List, [], ◌∷◌, ◌++◌, length}
+use Rattle.std.proofs.Common.{All, ◌-◌}
 use Rattle.std.proofs.Common.{Option, Some, None, Result, Ok, Err, refl, sym, ap, subst, ◌∙◌, arith, inl, inr}
 use Rattle.std.specs.Prelude.{⊤, nat_eq, nat_lt, if◌then◌else◌, slice_get}
 use Rattle.std.proofs.lemmas.List.Elements.{All-head, All-tail}
@@ -47,7 +47,7 @@ use Rattle.dataflow.specs.declared.source.ReadSource.{ReadSource}
 use Rattle.dataflow.specs.declared.source.ReadSource.TheVariants as source
 use Rattle.dataflow.specs.declared.source.SourceStop.TheVariants as stop
 use Rattle.dataflow.proofs.Gathering.{reader_is}
-use Rattle.dataflow.proofs.Lasting.{chosen_in, posed-speaks, context-speaks, solved_of}
+use Rattle.dataflow.proofs.Lasting.{chosen_in, posed-speaks, context-speaks, solved_of, length-all_below}
 
 -- ---- leaves name instances
 
@@ -142,10 +142,6 @@ named-forms s (leaf l) h = h
 named-forms s (branch test x y) h = (named-forms s x h.0, named-forms s y h.1)
 named-forms s (bind f d x) h = named-forms s x h
 
-length-below : (most : ℤ) (n j m : ℕ) → length (all_below most n j m) ≡ m
-length-below most n j zero = refl
-length-below most n j (suc m) = ap suc (length-below most n (j + 1) m)
-
 -- ---- the run
 
 -- what a candidate's quast is
@@ -176,7 +172,7 @@ between_over model budget dep (Some s) (Some t) tree loops here h =
     let from = source_of dep.source.statement s.loops in
     let back = solved.turned_back in
     let inside = in_from_place model.statements dep.source.statement s here in
-    let forms : LeavesHave d back = subst (λ (i : ℕ). LeavesHave i back) (length-below top d 0 d)
+    let forms : LeavesHave d back = subst (λ (i : ℕ). LeavesHave i back) (length-all_below top d 0 d)
     (mapped-forms (all_below top d 0 d) least back solved.mapped) in
     subst (IsOver model n) (sym solved.is) (
       named-speaks from n back (map_run-speaks (all_below top d 0 d) n least back speaks solved.mapped),

@@ -1,5 +1,6 @@
 -- Every tree drives the machine over its tokens, whatever comes behind.
 use Rattle.std.proofs.Common.{◌≡◌, ℕ, ◌+◌, ◌-◌, ◌≤◌, List, [], ◌∷◌, ◌++◌, refl, ◌∙◌, append_assoc, length-append, arith}
+use Rattle.std.proofs.lemmas.Bool.{le-leb}
 use Rattle.expression_grammar.specs.declared.token.Op.{Op}
 use Rattle.expression_grammar.specs.declared.token.Sign.{Sign}
 use Rattle.expression_grammar.specs.declared.token.Sign.TheVariants as sign
@@ -17,7 +18,7 @@ use Rattle.expression_grammar.specs.Tree.{Tree, constant, name, group, index, ba
 use Rattle.expression_grammar.specs.Tree.{level, cost, rank, size, depth, operators, written, WellBracketed, IsPlace}
 use Rattle.expression_grammar.specs.Tree.{tokens_of, sign_token}
 use Rattle.expression_grammar.specs.Machine.{state, go, step, demand, reduced, run}
-use Rattle.expression_grammar.proofs.Runs.{run_goes, level_most, upto_true, spine, shown, last_of, reduced_spine}
+use Rattle.expression_grammar.proofs.Runs.{run_goes, level_most, spine, shown, last_of, reduced_spine}
 use Rattle.expression_grammar.proofs.Runs.{reduced_stays}
 
 pub step_sign : (s : Sign) (hs : List Held) (ns : List Node) (at b u : ℕ)
@@ -49,7 +50,7 @@ pub step_binary : (o : Op) (l : Last) (hs hs' : List Held) (ns ns' : List Node) 
     → reduced (level o) hs ns ≡ (hs', ns') → demand hs' ≤ level o
     → step (state (mode.Done l) hs ns at b u) (token.Binary o)
     ≡ go (state mode.Want (held.Binary o at ∷ hs') ns' (at + 1) b (u + cost o))
-step_binary o l hs hs' ns ns' at b u e h = rw (e, upto_true (demand hs') (level o) h) refl
+step_binary o l hs hs' ns ns' at b u e h = rw (e, le-leb (demand hs') (level o) h) refl
 
 -- equal numbers, equal runs
 pub run_same : (d n : ℕ) (m : Mode) (hs : List Held) (ns ns' : List Node) (at at' b b' u u' : ℕ) (ts : List Token)

@@ -3,12 +3,12 @@ use Rattle.std.proofs.Common.{◌≡◌, ℕ, ◌+◌, ◌≤◌, Bool, true, fa
 use Rattle.std.proofs.Common.{length-append, arith}
 use Rattle.std.specs.Prelude.{max, nat_lt}
 use Rattle.std.proofs.lemmas.Bool.Decides.{nat_tests}
+use Rattle.std.proofs.lemmas.Bool.{lt-ltb}
 use Rattle.expression_grammar.specs.declared.token.Op.{Op}
 use Rattle.expression_grammar.specs.declared.token.Sign.{Sign}
 use Rattle.expression_grammar.specs.Tree.{Tree, unary, cast, binary, level, rank, size, depth, operators, written}
 use Rattle.expression_grammar.specs.Tree.{WellBracketed, tokens_of}
 use Rattle.expression_grammar.specs.Machine.{demand, reduced}
-use Rattle.expression_grammar.proofs.Runs.{below_true}
 use Rattle.expression_grammar.proofs.Frames.{Frame, left, sign, casting, grouping, indexing, calling, front, place}
 use Rattle.expression_grammar.proofs.Frames.{held_of, nodes_of, brackets_of, used_of, peak, Sound, demand_most}
 
@@ -89,13 +89,13 @@ pub fold_sign : (l : ℕ) (g : Sign) (fs : List Frame) (t : Tree) → l ≤ 10 �
     → Folded l (sign g ∷ fs) t
 fold_sign l g fs t m f =
     let p : place (sign g ∷ fs) ≡ place fs + 1 = simp length-append (omega arith) in
-    fold l (sign g ∷ fs) fs t (unary g t) (rw (below_true l 11 (omega arith), p) (rw append_assoc refl))
+    fold l (sign g ∷ fs) fs t (unary g t) (rw (lt-ltb l 11 (omega arith), p) (rw append_assoc refl))
     (simp append_assoc) (omega arith) refl (omega arith) f
 
 pub fold_cast : (l : ℕ) (fs : List Frame) (t : Tree) → l ≤ 10 → Folded l fs (cast t) → Folded l (casting ∷ fs) t
 fold_cast l fs t m f =
     let p : place (casting ∷ fs) ≡ place fs + 1 + 1 + 1 = simp length-append (omega arith) in
-    fold l (casting ∷ fs) fs t (cast t) (rw (below_true l 11 (omega arith), p) (rw append_assoc refl))
+    fold l (casting ∷ fs) fs t (cast t) (rw (lt-ltb l 11 (omega arith), p) (rw append_assoc refl))
     (simp append_assoc) (omega arith) refl (omega arith) f
 
 pub fold_frames : (l : ℕ) (fs : List Frame) (t : Tree)

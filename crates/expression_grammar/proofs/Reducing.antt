@@ -1,5 +1,6 @@
 -- How the code's steps compose into the machine's.
 use Rattle.std.proofs.Common.{◌≡◌, ℕ, ◌+◌, Bool, true, false, List, [], ◌∷◌, ◌++◌, refl, sym, ap, ◌∙◌, arith}
+use Rattle.std.proofs.lemmas.Bool.{lt-ltb}
 use Rattle.std.specs.Prelude.{nat_lt, Option, Some, None, Result, Ok, Err, if◌then◌else◌}
 use Rattle.expression_grammar.specs.declared.token.Op.{Op}
 use Rattle.expression_grammar.specs.declared.token.Sign.{Sign}
@@ -12,7 +13,6 @@ use Rattle.expression_grammar.specs.declared.node.Last.{Last}
 use Rattle.expression_grammar.specs.declared.node.Mode.TheVariants as mode
 use Rattle.expression_grammar.specs.Machine.{reduced, Pair, State, state, Move, complete, whole}
 use Rattle.expression_grammar.specs.Steps.{tight, Steps, StepsFrom}
-use Rattle.expression_grammar.proofs.Runs.{below_true}
 
 -- one operator, by whether it binds tighter
 abbrev pub reduced_by : ℕ → Held → List Held → List Node → Option Node → Pair
@@ -69,7 +69,7 @@ some_if false a b e = absurd (cc)
 
 pub tight_all : (l : ℕ) (h : Held) (n : Node) → tight l h ≡ Some n → tight 0 h ≡ Some n
 tight_all l (held.Binary o at) n e =
-    rw (below_true 0 (level o + 1) (omega arith)) (some_if (nat_lt l (level o + 1)) (node.Binary o at) n e)
+    rw (lt-ltb 0 (level o + 1) (omega arith)) (some_if (nat_lt l (level o + 1)) (node.Binary o at) n e)
 tight_all l (held.Unary s at) n e = some_if (nat_lt l 11) (node.Unary s at) n e
 tight_all l (held.Cast at) n e = some_if (nat_lt l 11) (node.Cast at) n e
 tight_all l _ n e = absurd (cc)

@@ -1,7 +1,6 @@
 -- One step of a run, and what reducing does to a tree that has just been read.
-use Rattle.std.proofs.Common.{◌≡◌, ℕ, ◌+◌, ◌<◌, ◌≤◌, true, false, List, [], ◌∷◌, ◌++◌, refl, ◌∙◌, append_assoc, arith}
-use Rattle.std.proofs.Common.{rules}
-use Rattle.std.specs.Prelude.{nat_lt, nat_le}
+use Rattle.std.proofs.Common.{◌≡◌, ℕ, ◌+◌, ◌≤◌, List, [], ◌∷◌, ◌++◌, refl, ◌∙◌, append_assoc, arith}
+use Rattle.std.proofs.lemmas.Bool.{lt-ltb, le-leb, le-ltb}
 use Rattle.expression_grammar.specs.declared.token.Op.{Op}
 use Rattle.expression_grammar.specs.declared.token.Op.TheVariants as op
 use Rattle.expression_grammar.specs.declared.token.Token.{Token}
@@ -14,19 +13,10 @@ use Rattle.expression_grammar.specs.Tree.{Tree, name, index, unary, cast, binary
 use Rattle.expression_grammar.specs.Tree.{WellBracketed}
 use Rattle.expression_grammar.specs.Machine.{State, go, step, demand, reduced, run}
 
-pub below_true : (a b : ℕ) → a < b → nat_lt a b ≡ true
-below_true a b h = search rules
-
-pub upto_true : (a b : ℕ) → a ≤ b → nat_le a b ≡ true
-upto_true a b h = search rules
-
-pub below_false : (a b : ℕ) → b ≤ a → nat_lt a b ≡ false
-below_false a b h = search rules
-
 -- a step that goes on within the limits
 pub run_goes : (d n : ℕ) (s next : State) (t : Token) (ts : List Token) → step s t ≡ go next
     → next.brackets ≤ d → next.used ≤ n → run d n s (t ∷ ts) ≡ run d n next ts
-run_goes d n s next t ts e b u = rw (e, upto_true next.brackets d b, upto_true next.used n u) refl
+run_goes d n s next t ts e b u = rw (e, le-leb next.brackets d b, le-leb next.used n u) refl
 
 -- no operator binds tighter than 10
 pub level_most : (o : Op) → level o ≤ 10
@@ -63,21 +53,21 @@ pub reduced_spine : (l at : ℕ) (t : Tree) (hs : List Held) (ns : List Node)
 reduced_spine l at (unary s t) hs ns w h k =
     let r = w.0 in
     reduced_spine l (at + 1) t (held.Unary s at ∷ hs) ns w.1 (omega arith) k
-    ∙ rw (below_true l 11 (omega arith), append_assoc) refl
+    ∙ rw (lt-ltb l 11 (omega arith), append_assoc) refl
 reduced_spine l at (cast t) hs ns w h k =
     let r = w.0 in
     reduced_spine l (at + 1 + 1 + 1) t (held.Cast at ∷ hs) ns w.1 (omega arith) k
-    ∙ rw (below_true l 11 (omega arith), append_assoc) refl
+    ∙ rw (lt-ltb l 11 (omega arith), append_assoc) refl
 reduced_spine l at (binary o a b) hs ns w h k =
     let r = w.1 in
     reduced_spine l (at + size a + 1) b (held.Binary o (at + size a) ∷ hs) (ns ++ written at a) w.3 (omega arith) k
-    ∙ rw (below_true l (level o + 1) (omega arith)) (simp append_assoc)
+    ∙ rw (lt-ltb l (level o + 1) (omega arith)) (simp append_assoc)
 reduced_spine l at t hs ns w h k = refl
 
 -- what is held by looser operators stays
 pub reduced_stays : (l : ℕ) (hs : List Held) (ns : List Node) → demand hs ≤ l → reduced l hs ns ≡ (hs, ns)
 reduced_stays l [] ns h = refl
-reduced_stays l (held.Binary o at ∷ hs) ns h = rw (below_false l (level o + 1) h) refl
-reduced_stays l (held.Unary s at ∷ hs) ns h = rw (below_false l 11 h) refl
-reduced_stays l (held.Cast at ∷ hs) ns h = rw (below_false l 11 h) refl
+reduced_stays l (held.Binary o at ∷ hs) ns h = rw (le-ltb l (level o + 1) h) refl
+reduced_stays l (held.Unary s at ∷ hs) ns h = rw (le-ltb l 11 h) refl
+reduced_stays l (held.Cast at ∷ hs) ns h = rw (le-ltb l 11 h) refl
 reduced_stays l _ ns h = refl

@@ -1,9 +1,7 @@
 -- Eliminations, one after another.
-use Rattle.std.proofs.Common.{◌≡◌, ℕ, suc, ◌+◌, ◌-◌, ◌<◌, List, sym, ◌∙◌, ap, ap₂, subst, All, arith}
-use Rattle.std.specs.Prelude.{map, Result, Ok, Err, IfOk}
+use Rattle.std.proofs.Common.{◌≡◌, ℕ, suc, ◌+◌, ◌-◌, ◌<◌, List, sym, ◌∙◌, ap, ap₂, subst, arith}
+use Rattle.std.specs.Prelude.{Result, Ok, Err, IfOk}
 use Rattle.whole_numbers.specs.Affine.{Affine}
-use Rattle.affine_forms.specs.Parts.{variables_of}
-use Rattle.fractions.specs.Elimination.{narrowed}
 use Rattle.integer_sets.specs.Constraints.{Constraints, IsSized, system_of, variables_in}
 use Rattle.fm_projection.specs.declared.stop.FmStop.{FmStop}
 use Rattle.fm_projection.specs.Gives.{Eliminates}
@@ -19,7 +17,6 @@ use Rattle.farkas.specs.Run.{left_run, posed, posed_run, rows_run}
 use Rattle.farkas.specs.Gives.{Halts, Follows, stuck_of_elimination}
 use Rattle.farkas.specs.Meaning.{IsFarkas}
 use Rattle.farkas.proofs.Chains.{then-ok, halts-then, halts-after, halts-same, eliminating-ok, halts-eliminating}
-use Rattle.farkas.proofs.Leading.{narrowed_sized}
 use Rattle.farkas.proofs.Meaning.{rows-farkas}
 
 -- one elimination without its column
@@ -34,11 +31,6 @@ pub narrowing-gives : (n i : ℕ) (s t u : Constraints) → Eliminates i s (Ok t
 narrowing-gives n i s t u h is =
     ap (λ (r : Result Constraints Halt). r >> λ t. Ok (without_column n i t)) (eliminating-ok i s t h.0 h.1)
     ∙ ap (λ (w : Constraints). Ok w) (sym is)
-
-pub narrow-sized : (i n : ℕ) (fs gs : List Affine) → All (λ f. variables_of f ≡ suc n) fs → i < suc n
-    → gs ≡ map (narrowed i) fs → All (λ f. variables_of f ≡ n) gs
-narrow-sized i n fs gs sized inside is =
-    subst (λ (hs : List Affine). All (λ f. variables_of f ≡ n) hs) (sym is) (narrowed_sized i n fs sized inside)
 
 pub narrowing-shape : (n i : ℕ) (s t : Constraints) → narrowing n i s ≡ Ok t → (t.dimensions ≡ n) × (t.parameters ≡ 0)
 narrowing-shape n i s t h =

@@ -9,10 +9,10 @@ use Rattle.whole_numbers.specs.Affine.{Affine, complement}
 use Rattle.whole_numbers.proofs.Dot.{length-multiples}
 use Rattle.whole_numbers.proofs.Lists.{not_negative_all}
 use Rattle.whole_numbers.proofs.Values.{value_of-complement, form_same}
+use Rattle.whole_numbers.proofs.Entries.{all_front, all_back}
 use Rattle.affine_forms.specs.Parts.{variables_of}
 use Rattle.fractions.specs.Fractions.{HoldsOver}
 use Rattle.fractions.specs.Farkas.{HasNoPoint, Dropped}
-use Rattle.fractions.proofs.Chosen.{All-front, All-back}
 use Rattle.integer_sets.specs.Constraints.{IsSized, system_of, variables_in}
 use Rattle.fm_projection.proofs.Law.{whole_point}
 use Rattle.lexmin_runs.specs.Nodes.{opposite_run}
@@ -91,8 +91,8 @@ kept-all P budget n es front [] kept h all =
 kept-all P budget n es front (r ∷ rest) kept h all =
     let c = then-ok (implied_run budget n es (front ++ rest) r)
     (λ (drops : Bool). kept_run budget n es (if drops then front else front ++ r ∷ []) rest) kept h in
-    let others = All-append P front rest (All-front P front (r ∷ rest) all)
-    (All-tail P r rest (All-back P front (r ∷ rest) all)) in
+    let others = All-append P front rest (all_front P front (r ∷ rest) all)
+    (All-tail P r rest (all_back P front (r ∷ rest) all)) in
     let joined = subst (λ (fs : List Affine). All P fs) (sym (append_assoc front (r ∷ []) rest)) all in
     by_answer c.0 (λ h. kept-all P budget n es front rest kept h others)
     (λ h. kept-all P budget n es (front ++ r ∷ []) rest kept h joined) c.2
@@ -112,8 +112,8 @@ kept-dropped budget n es front [] kept he all h = cc
 kept-dropped budget n es front (r ∷ rest) kept he all h =
     let c = then-ok (implied_run budget n es (front ++ rest) r)
     (λ (drops : Bool). kept_run budget n es (if drops then front else front ++ r ∷ []) rest) kept h in
-    let f = All-front (λ f. variables_of f ≡ n) front (r ∷ rest) all in
-    let b = All-back (λ f. variables_of f ≡ n) front (r ∷ rest) all in
+    let f = all_front (λ f. variables_of f ≡ n) front (r ∷ rest) all in
+    let b = all_back (λ f. variables_of f ≡ n) front (r ∷ rest) all in
     let others = All-append (λ f. variables_of f ≡ n) front rest f (All-tail (λ f. variables_of f ≡ n) r rest b) in
     let joined = subst (λ (fs : List Affine). All (λ f. variables_of f ≡ n) fs) (sym (append_assoc front (r ∷ [])
     rest)) all in

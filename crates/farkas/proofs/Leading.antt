@@ -1,39 +1,28 @@
 -- The run of the eliminations leaves what Farkas's lemma asks for.
-use Rattle.std.proofs.Common.{◌≡◌, ℕ, zero, suc, ◌+◌, ◌<◌, ℤ, pos, ◌≤ℤ◌, Bool, true, false, List, [], ◌∷◌, ◌++◌}
+use Rattle.std.proofs.Common.{◌≡◌, ℕ, zero, suc, ◌+◌, ◌<◌, ℤ, pos, ◌≤ℤ◌, List, [], ◌∷◌, ◌++◌}
 use Rattle.std.proofs.Common.{length, get_or, take, drop, refl, sym, ◌∙◌, ap, subst, All, arith, add-one}
-use Rattle.std.specs.Prelude.{map, if◌then◌else◌, Option, Some, None, Ok}
+use Rattle.std.specs.Prelude.{map, Option, Some, None, Ok}
 use Rattle.std.proofs.lemmas.List.{map-append, take-append-drop, append_assoc}
 use Rattle.std.proofs.Math.Seq.{take-append_seam}
 use Rattle.std.proofs.lemmas.List.Elements.{All-head, All-tail, All-map}
 use Rattle.whole_numbers.specs.Affine.{Affine, form_of}
 use Rattle.whole_numbers.specs.Lists.{zeros}
 use Rattle.whole_numbers.specs.Content.{lowest_of_form}
+use Rattle.whole_numbers.proofs.Entries.{all_front}
 use Rattle.affine_forms.specs.Parts.{variables_of}
 use Rattle.fractions.specs.Fractions.{value_over}
 use Rattle.fractions.specs.Elimination.{coefficient_of, is_zero, is_positive, is_negative, is_not_zero, chosen, pairs}
 use Rattle.fractions.specs.Elimination.{reduced, first_with, eliminated_by, eliminated, removed, narrowed}
 use Rattle.fractions.specs.Farkas.{own_rows, IsHomogeneous, AreAmong, Dropped, Leaves}
-use Rattle.fractions.proofs.Chosen.{All-front}
 use Rattle.fractions.proofs.Dropping.{own_rows_stay, own_rows_absent}
 use Rattle.fractions.proofs.Homogeneous.{eliminated_homogeneous, narrowed_homogeneous}
+use Rattle.fractions.proofs.Chosen.{chosen-append}
 use Rattle.integer_sets.specs.Constraints.{Constraints, system_of, variables_in}
 use Rattle.fm_projection.proofs.Exact.{AreSized, eliminated_run-exact, eliminated_sized}
 use Rattle.farkas.specs.Run.{◌>>◌, eliminating, kept_run, dropped_run, without_column, narrowing, left_run}
 use Rattle.farkas.proofs.Chains.{then-ok, eliminated-ok}
 use Rattle.farkas.proofs.Columns.{own_rows_length}
 use Rattle.farkas.proofs.Keeping.{kept-front, kept-all, kept-dropped, kept_in_front}
-
--- own rows in front stay in front
-chosen_append : (test : ℤ → Bool) (i : ℕ) (fs gs : List Affine)
-    → chosen test i (fs ++ gs) ≡ chosen test i fs ++ chosen test i gs
-chosen_append test i [] gs = refl
-chosen_append test i (f ∷ fs) gs = by_test (test (coefficient_of i f)) (chosen_append test i fs gs)
-  where
-    by_test : (b : Bool) → chosen test i (fs ++ gs) ≡ chosen test i fs ++ chosen test i gs
-        → (if b then f ∷ chosen test i (fs ++ gs) else chosen test i (fs ++ gs))
-        ≡ (if b then f ∷ chosen test i fs else chosen test i fs) ++ chosen test i gs
-    by_test true more = ap (λ (zs : List Affine). f ∷ zs) more
-    by_test false more = more
 
 chosen_absent : (i : ℕ) (fs : List Affine) → All (λ f. coefficient_of i f ≡ pos 0) fs → chosen is_zero i fs ≡ fs
 chosen_absent i [] all = refl
@@ -54,7 +43,7 @@ chosen_own b k more =
     let next : own_rows (b + 1) k ≡ others = ap (λ (c : ℕ). own_rows c k) (add-one b) in
     let first : chosen is_zero b (own ∷ (own_rows (b + 1) k ++ more)) ≡ chosen is_zero b (own_rows (b + 1) k ++ more) =
     rw (own_coefficient b (zeros k)) refl in
-    first ∙ ap (λ (fs : List Affine). chosen is_zero b (fs ++ more)) next ∙ chosen_append is_zero b others more
+    first ∙ ap (λ (fs : List Affine). chosen is_zero b (fs ++ more)) next ∙ chosen-append is_zero b others more
     ∙ ap (λ (fs : List Affine). fs ++ chosen is_zero b more) (chosen_absent b others (own_rows_absent b b k (omega
     arith)))
 
@@ -203,7 +192,7 @@ step-ok budget b k s u t more dimensions parameters se sr he hr own first second
 
 among : (b k : ℕ) (rows more : List Affine) → rows ≡ own_rows b k ++ more → AreAmong (own_rows b k) rows
 among b k rows more h d numerators all =
-    All-front (λ g. pos 0 ≤ℤ value_over g d numerators) (own_rows b k) more
+    all_front (λ g. pos 0 ≤ℤ value_over g d numerators) (own_rows b k) more
     (subst (λ (fs : List Affine). All (λ g. pos 0 ≤ℤ value_over g d numerators) fs) h all)
 
 -- all eliminations

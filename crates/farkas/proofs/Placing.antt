@@ -1,15 +1,17 @@
 -- Which unknown stands where in the list of a dependence's unknowns, and what the claimed forms are there.
 use Rattle.std.proofs.Common.{◌≡◌, ℕ, zero, suc, ◌+◌, Bool, true, false, ℤ, pos, negsuc, List, [], ◌∷◌, ◌++◌}
 use Rattle.std.proofs.Common.{◌+ℤ◌, ◌-ℤ◌, ◌*ℤ◌, length, reverse, get_or, refl, sym, ◌∙◌, ap, ap₂, subst, arith}
-use Rattle.std.proofs.Common.{append_assoc, rules}
-use Rattle.std.specs.Prelude.{nat_eq, nat_lt, if◌then◌else◌, ◌<◌, ◌≤◌, ◌↔◌}
+use Rattle.std.proofs.Common.{append_assoc}
+use Rattle.std.specs.Prelude.{nat_eq, nat_lt, if◌then◌else◌, ◌<◌, ◌↔◌}
 use Rattle.std.proofs.Math.Seq.{get_or-append_seam}
-use Rattle.std.proofs.lemmas.Bool.{eqb-true, eq-eqb}
+use Rattle.std.proofs.lemmas.Bool.{eqb-true, eq-eqb, lt-ltb, le-ltb}
 use Rattle.std.proofs.lemmas.Int.{ints}
 use Rattle.std.proofs.lemmas.List.{append-nil, length-append, length-reverse, reverse-append}
 use Rattle.whole_numbers.specs.Affine.{Affine, form_of}
 use Rattle.whole_numbers.specs.Lists.{multiples, zeros}
 use Rattle.whole_numbers.proofs.Ring.{mul_one_left, mul_zero_left, mul_neg_left}
+use Rattle.whole_numbers.proofs.Tests.{nat_eq_above, nat_eq_below}
+use Rattle.whole_numbers.proofs.Lists.{multiples-one}
 use Rattle.fractions.specs.Farkas.{AreNotNegative, HasFarkas}
 use Rattle.integer_sets.specs.Constraints.{Constraints}
 use Rattle.integer_sets.specs.Points.{Satisfies}
@@ -175,19 +177,6 @@ shows p source target x are =
     shows_by p source target x (nat_eq source.statement target.statement) (nat_lt source.statement target.statement) are
     refl
 
--- the tests of two numbers
-differ_less : (a b : ℕ) → a < b → nat_eq a b ≡ false
-differ_less a b h = grind arith
-
-differ_more : (a b : ℕ) → b < a → nat_eq a b ≡ false
-differ_more a b h = grind arith
-
-less_yes : (a b : ℕ) → a < b → nat_lt a b ≡ true
-less_yes a b h = search rules
-
-less_no : (a b : ℕ) → b ≤ a → nat_lt a b ≡ false
-less_no a b h = search rules
-
 -- the layouts, by which statement is the first
 layout_by : (p : ℕ) (source target : DepEnd) (b c : Bool) → nat_eq source.statement target.statement ≡ b
     → nat_lt source.statement target.statement ≡ c
@@ -209,20 +198,16 @@ layout_one p source target h =
 pub layout_before : (p : ℕ) (source target : DepEnd) → source.statement < target.statement
     → layout_of p source target ≡ places (behind (behind (p + 1) source) target) (p + 1) (behind (p + 1) source)
 layout_before p source target h =
-    layout_by p source target false true (differ_less source.statement target.statement h)
-    (less_yes source.statement target.statement h)
+    layout_by p source target false true (nat_eq_below source.statement target.statement h)
+    (lt-ltb source.statement target.statement h)
 
 pub layout_behind : (p : ℕ) (source target : DepEnd) → target.statement < source.statement
     → layout_of p source target ≡ places (behind (behind (p + 1) target) source) (behind (p + 1) target) (p + 1)
 layout_behind p source target h =
-    layout_by p source target false false (differ_more source.statement target.statement h)
-    (less_no source.statement target.statement (omega arith))
+    layout_by p source target false false (nat_eq_above source.statement target.statement h)
+    (le-ltb source.statement target.statement (omega arith))
 
--- multiples by 1 and by 0
-ones : (xs : List ℤ) → multiples (pos 1) xs ≡ xs
-ones [] = refl
-ones (x ∷ xs) = ap₂ (λ (v : ℤ) (vs : List ℤ). v ∷ vs) (mul_one_left x) (ones xs)
-
+-- multiples by 0
 nones : (xs : List ℤ) (n : ℕ) → length xs ≡ n → multiples (pos 0) xs ≡ zeros n
 nones [] zero e = refl
 nones [] (suc n) e = absurd (omega (arith, e))
@@ -247,7 +232,8 @@ distance_is p source target x numbers are h =
     let constant : (pos 0 *ℤ w) +ℤ ((negsuc 0 *ℤ k) +ℤ (pos 1 *ℤ l)) ≡ l -ℤ k = omega (arith, ints) in
     ap₂ (λ (cs : List ℤ) (z : ℤ). form_of cs z)
     (ap₂ (λ (v vs : List ℤ). v ++ vs) (ap (multiples (negsuc 0)) h.source_part.coefficients)
-    (ap₂ (λ (v vs : List ℤ). v ++ vs) (ap (multiples (pos 1)) h.target_part.coefficients ∙ ones x.target.coefficients)
+    (ap₂ (λ (v vs : List ℤ). v ++ vs)
+    (ap (multiples (pos 1)) h.target_part.coefficients ∙ multiples-one x.target.coefficients)
     (ap (multiples (pos 0)) h.bounds ∙ nones x.u p are.bounds)))
     (ap₂ (λ (y z : ℤ). (pos 0 *ℤ w) +ℤ ((negsuc 0 *ℤ y) +ℤ (pos 1 *ℤ z))) h.source_part.shift h.target_part.shift
     ∙ constant)
@@ -264,9 +250,10 @@ slack_is p source target x numbers h =
     let c = minus l in
     let constant : (pos 1 *ℤ x.w) +ℤ ((pos 1 *ℤ k) +ℤ (negsuc 0 *ℤ l)) ≡ x.w +ℤ (k -ℤ l) = omega (arith, ints) in
     ap₂ (λ (cs : List ℤ) (z : ℤ). form_of cs z)
-    (ap₂ (λ (v vs : List ℤ). v ++ vs) (ap (multiples (pos 1)) h.source_part.coefficients ∙ ones x.source.coefficients)
+    (ap₂ (λ (v vs : List ℤ). v ++ vs)
+    (ap (multiples (pos 1)) h.source_part.coefficients ∙ multiples-one x.source.coefficients)
     (ap₂ (λ (v vs : List ℤ). v ++ vs) (ap (multiples (negsuc 0)) h.target_part.coefficients)
-    (ap (multiples (pos 1)) h.bounds ∙ ones x.u)))
+    (ap (multiples (pos 1)) h.bounds ∙ multiples-one x.u)))
     (ap (λ (z : ℤ). (pos 1 *ℤ z) +ℤ ((pos 1 *ℤ shift_of numbers (layout_of p source target).source source.loops)
     +ℤ (negsuc 0 *ℤ shift_of numbers (layout_of p source target).target target.loops))) h.bound
     ∙ ap₂ (λ (y z : ℤ). (pos 1 *ℤ x.w) +ℤ ((pos 1 *ℤ y) +ℤ (negsuc 0 *ℤ z))) h.source_part.shift h.target_part.shift

@@ -1,12 +1,11 @@
 -- The loops, step by step.
-use Rattle.std.proofs.Common.{◌≡◌, ℕ, zero, suc, ◌+◌, ◌<◌, ℤ, pos, List, [], ◌∷◌, ◌++◌, length, get_or, take, drop}
+use Rattle.std.proofs.Common.{◌≡◌, ℕ, zero, suc, ◌+◌, ◌<◌, ℤ, pos, List, [], ◌∷◌, ◌++◌, length, get_or, drop}
 use Rattle.std.proofs.Common.{set, refl, sym, ◌∙◌, ap, ap₂, subst, arith, append_assoc, add-one, drop-cons}
 use Rattle.std.specs.Prelude.{Result, Ok, Err}
 use Rattle.whole_numbers.specs.Affine.{Affine, form_of}
 use Rattle.whole_numbers.specs.Lists.{zeros}
 use Rattle.wide_math.specs.declared.Wide.{Wide}
 use Rattle.wide_math.specs.Checked.{difference_of, ◌>>=◌}
-use Rattle.fractions.specs.Elimination.{removed}
 use Rattle.fractions.specs.Farkas.{own_rows}
 use Rattle.integer_sets.specs.Constraints.{Constraints}
 use Rattle.farkas.specs.declared.matching.Entry.{Entry}
@@ -17,19 +16,6 @@ use Rattle.affine_forms.specs.declared.stop.FormStop.{FormStop}
 use Rattle.affine_forms.specs.declared.stop.FormStop.TheVariants as form_stop
 use Rattle.affine_forms.specs.Gives.{Fails}
 use Rattle.farkas.specs.Gives.{with_more}
-
-pub removed_is : (i : ℕ) (xs : List ℤ) → removed i xs ≡ take i xs ++ drop (suc i) xs
-removed_is zero [] = refl
-removed_is (suc i) [] = refl
-removed_is zero (x ∷ xs) = refl
-removed_is (suc i) (x ∷ xs) = ap (λ (zs : List ℤ). x ∷ zs) (removed_is i xs)
-
--- results that are the same
-abbrev pub ok_of : {X E : Type 0} → X → Result X E
-ok_of x = Ok x
-
-pub same_ok : {X E : Type 0} (a b : X) → ok_of {E = E} a ≡ ok_of b → a ≡ b
-same_ok a b h = cc
 
 -- what stands in front does not stop a run
 pub with_more-err : {X : Type 0} (front : List X) (run : Result (List X) Wide) (w : Wide) → with_more front run ≡ Err w

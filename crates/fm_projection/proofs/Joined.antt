@@ -1,29 +1,18 @@
 -- Runs over joined lists, and the first form with the variable.
-use Rattle.std.proofs.Common.{◌≡◌, ℕ, suc, ◌<◌, ◌≤◌, ℤ, Bool, true, false, List, [], ◌∷◌, ◌++◌, length, get_or}
+use Rattle.std.proofs.Common.{◌≡◌, ℕ, suc, ◌<◌, ◌≤◌, Bool, true, false, List, [], ◌∷◌, ◌++◌, length, get_or}
 use Rattle.std.proofs.Common.{take, drop, refl, sym, ◌∙◌, ap, append_assoc, arith}
-use Rattle.std.specs.Prelude.{map, Result, Ok, Err, Some, None, if◌then◌else◌}
+use Rattle.std.specs.Prelude.{map, Result, Ok, Err, Some, None}
 use Rattle.std.proofs.lemmas.List.{append-nil, map-append}
 use Rattle.whole_numbers.specs.Affine.{Affine}
 use Rattle.whole_numbers.specs.Content.{lowest_of_form}
 use Rattle.fractions.specs.Elimination.{coefficient_of, is_zero, is_not_zero, chosen, first_with, in_front}
+use Rattle.fractions.proofs.Chosen.{chosen-append}
 use Rattle.affine_forms.specs.declared.stop.FormStop.{FormStop}
 use Rattle.affine_forms.specs.declared.stop.FormStop.TheVariants as stop
 use Rattle.affine_forms.specs.Gives.{Fails}
 use Rattle.wide_math.specs.declared.Wide.{Wide}
 use Rattle.wide_math.specs.Checked.{◌>>=◌}
 use Rattle.fm_projection.specs.Runs.{forms_run, reduced_run, reduced_all_run, behind, place_of}
-
-pub chosen-append : (test : ℤ → Bool) (i : ℕ) (fs gs : List Affine) → chosen test i (fs ++ gs)
-    ≡ chosen test i fs ++ chosen test i gs
-chosen-append test i [] gs = refl
-chosen-append test i (f ∷ fs) gs = ap (λ (rest : List Affine). if test (coefficient_of i f) then f ∷ rest else rest)
-    (chosen-append test i fs gs)
-    ∙ choice (test (coefficient_of i f)) f (chosen test i fs) (chosen test i gs)
-  where
-    choice : (b : Bool) (f : Affine) (xs ys : List Affine) → (if b then f ∷ (xs ++ ys) else xs ++ ys)
-        ≡ (if b then f ∷ xs else xs) ++ ys
-    choice true f xs ys = refl
-    choice false f xs ys = refl
 
 -- a run over a joined list is the two runs one behind the other
 pub forms_run-append : (out new : List Affine) (step : Affine → Result Affine Wide) (fs gs : List Affine)

@@ -1,8 +1,8 @@
 -- Digits and names in front of a text are read back.
 use Rattle.std.proofs.Common.{◌≡◌, ◌∙◌, ap, sym, refl, ℕ, ◌+◌, ◌-◌, ◌*◌, ◌/◌, ◌%◌, ◌^◌, ◌<◌, ◌≤◌, Bool, true, false, []}
 use Rattle.std.proofs.Common.{◌∷◌, ◌++◌, decimal, le-leb, arith}
-use Rattle.std.specs.Prelude.{◌==◌, ◌||◌, not, ⊤}
-use Rattle.std.proofs.lemmas.Bool.{false≢true}
+use Rattle.std.specs.Prelude.{◌==◌, ◌||◌, ⊤}
+use Rattle.std.proofs.lemmas.Bool.{false≢true, not-true}
 use Rattle.std.proofs.lemmas.List.{append_assoc}
 use Rattle.std.proofs.lemmas.Fmt.{decimal_by_steps_wide}
 use Rattle.scop_lexer.specs.Bytes.{Text, is_letter, is_digit, is_word_byte}
@@ -62,14 +62,10 @@ right_false : (a b : Bool) → (a || b) ≡ false → b ≡ false
 right_false true b h = absurd (false≢true (sym h))
 right_false false b h = h
 
-not_true : (a : Bool) → not a ≡ true → a ≡ false
-not_true true h = absurd (false≢true h)
-not_true false h = refl
-
 pub clean_of : (rest : Text) → ends_factor rest ≡ true → Clean rest
 clean_of [] h = tt
 clean_of (b ∷ bs) h =
-    let none = not_true (is_name_byte b || (b == 40 || b == 42)) h in
+    let none = not-true (is_name_byte b || (b == 40 || b == 42)) h in
     let others = right_false (is_name_byte b) (b == 40 || b == 42) none in (
       left_false (is_name_byte b) (b == 40 || b == 42) none,
       left_false (b == 40) (b == 42) others,

@@ -7,7 +7,7 @@ use Rattle.fractions.proofs.Keeping.{eliminated_all}
 use Rattle.fractions.proofs.Content.{lowest_zero}
 use Rattle.whole_numbers.specs.Affine.{Affine}
 use Rattle.whole_numbers.specs.Lists.{multiples}
-use Rattle.whole_numbers.proofs.Ring.{mul_neg_left, mul_assoc_int, mul_zero_right}
+use Rattle.whole_numbers.proofs.Ring.{mul_neg_left, mul_assoc_int}
 use Rattle.whole_numbers.proofs.Dot.{get_or-sums, get_or-multiples}
 use Rattle.fractions.specs.Elimination.{coefficient_of}
 use Rattle.fractions.specs.Elimination.{combined, sign, reduced}

@@ -14,10 +14,10 @@ use Rattle.fractions.proofs.Over.{value_over-scaled}
 use Rattle.fractions.proofs.Reduce.{zero_scales, least_scales}
 use Rattle.whole_numbers.proofs.Ring.{mul_assoc_int, mul_one_left}
 use Rattle.whole_numbers.proofs.Dot.{length-multiples}
+use Rattle.whole_numbers.proofs.Entries.{all_unmapped}
 use Rattle.fractions.specs.Fractions.{value_over, HoldsOver, HoldsForSome}
 use Rattle.fractions.specs.Elimination.{removed, narrowed, eliminated}
 use Rattle.fractions.specs.Farkas.{HoldsForSomeMore}
-use Rattle.fractions.proofs.Content.{map_to}
 use Rattle.fractions.proofs.Eliminated.{elimination_is_exact}
 use Rattle.fractions.proofs.Absent.{IsAbsent, eliminated_absent}
 
@@ -48,9 +48,9 @@ narrowed_holds es rs d front x back i size he hr =
     ≡ value_over f d (front ++ x ∷ back) =
     λ f a. value_over-narrowed f d front x back i size a in (
       λ h. (
-        λ j c inside. sym (same (get_or es j c) (he j c inside)) ∙ map_to Zero (narrowed i) es h.0 j c inside,
+        λ j c inside. sym (same (get_or es j c) (he j c inside)) ∙ all_unmapped Zero (narrowed i) es h.0 j c inside,
         λ j c inside. subst (λ (z : ℤ). pos 0 ≤ℤ z) (same (get_or rs j c) (hr j c inside))
-            (map_to Least (narrowed i) rs h.1 j c inside),
+            (all_unmapped Least (narrowed i) rs h.1 j c inside),
       ),
       λ h. (
         All-map Zero (narrowed i) es (λ j c inside. same (get_or es j c) (he j c inside) ∙ h.0 j c inside),

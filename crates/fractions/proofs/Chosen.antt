@@ -1,21 +1,14 @@
 -- Facts on each of the chosen rows, and on each pair.
-use Rattle.std.proofs.Common.{◌≡◌, ℕ, zero, suc, ℤ, pos, negsuc, ◌<ℤ◌, Bool, true, false, List, [], ◌∷◌, ◌++◌}
-use Rattle.std.proofs.Common.{length, ◌↔◌, refl, All, arith}
+use Rattle.std.proofs.Common.{◌≡◌, ℕ, zero, suc, ℤ, pos, negsuc, ◌<ℤ◌, Bool, true, false, List, [], ◌∷◌, ◌++◌, ap, ◌∙◌}
+use Rattle.std.proofs.Common.{◌↔◌, refl, All, arith}
 use Rattle.std.specs.Prelude.{if◌then◌else◌}
 use Rattle.std.proofs.lemmas.Int.{ints}
 use Rattle.std.proofs.lemmas.Bool.{false≢true}
-use Rattle.std.proofs.Math.Seq.{take-append_seam, drop-append_seam}
-use Rattle.std.proofs.lemmas.List.Elements.{All-append, All-cons, All-nil, All-take, All-drop, All-head, All-tail}
+use Rattle.std.proofs.lemmas.List.Elements.{All-append, All-cons, All-nil, All-head, All-tail}
 use Rattle.whole_numbers.specs.Affine.{Affine}
+use Rattle.whole_numbers.proofs.Entries.{all_front, all_back}
 use Rattle.fractions.specs.Elimination.{coefficient_of, is_zero, is_positive, is_negative, chosen, combined}
 use Rattle.fractions.specs.Elimination.{paired, pairs}
-
--- the fronts of a joined list, and the rest
-pub All-front : {X : Type 0} (P : X → Type 0) (xs ys : List X) → All P (xs ++ ys) → All P xs
-All-front P xs ys h = rw (take-append_seam xs ys) at (All-take P (length xs) (xs ++ ys) h)
-
-pub All-back : {X : Type 0} (P : X → Type 0) (xs ys : List X) → All P (xs ++ ys) → All P ys
-All-back P xs ys h = rw (drop-append_seam xs ys) at (All-drop P (length xs) (xs ++ ys) h)
 
 -- the tests
 pub is_zero_iff : (z : ℤ) → (is_zero z ≡ true) ↔ (z ≡ pos 0)
@@ -88,5 +81,18 @@ pub pairs_to : (P : Affine → Type 0) (i : ℕ) (ps ns : List Affine)
 pairs_to P i [] ns h = All-nil (λ q. All (λ n. P (combined i q n)) ns)
 pairs_to P i (p ∷ ps) ns h =
     All-cons (λ q. All (λ n. P (combined i q n)) ns) p ps
-    (paired_to P i p ns (All-front P (paired i p ns) (pairs i ps ns) h))
-    (pairs_to P i ps ns (All-back P (paired i p ns) (pairs i ps ns) h))
+    (paired_to P i p ns (all_front P (paired i p ns) (pairs i ps ns) h))
+    (pairs_to P i ps ns (all_back P (paired i p ns) (pairs i ps ns) h))
+
+-- the chosen ones of two lists, one behind the other
+pub chosen-append : (test : ℤ → Bool) (i : ℕ) (fs gs : List Affine) → chosen test i (fs ++ gs)
+    ≡ chosen test i fs ++ chosen test i gs
+chosen-append test i [] gs = refl
+chosen-append test i (f ∷ fs) gs = ap (λ (rest : List Affine). if test (coefficient_of i f) then f ∷ rest else rest)
+    (chosen-append test i fs gs)
+    ∙ choice (test (coefficient_of i f)) f (chosen test i fs) (chosen test i gs)
+  where
+    choice : (b : Bool) (f : Affine) (xs ys : List Affine) → (if b then f ∷ (xs ++ ys) else xs ++ ys)
+        ≡ (if b then f ∷ xs else xs) ++ ys
+    choice true f xs ys = refl
+    choice false f xs ys = refl

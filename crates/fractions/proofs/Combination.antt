@@ -7,7 +7,7 @@ use Rattle.std.proofs.lemmas.Int.{ints}
 use Rattle.whole_numbers.proofs.Lists.{dot_same}
 use Rattle.whole_numbers.specs.Lists.{dot, multiples}
 use Rattle.whole_numbers.specs.Affine.{Affine, multiple_of_form}
-use Rattle.whole_numbers.proofs.Ring.{mul_distrib_right, mul_zero_right, mul_zero_left, mul_assoc_int}
+use Rattle.whole_numbers.proofs.Ring.{mul_distrib_right, mul_zero_left}
 use Rattle.whole_numbers.proofs.Order.{mul_not_negative, cancel_le}
 use Rattle.whole_numbers.proofs.Dot.{get_or-sums, get_or-multiples, dot-nil}
 use Rattle.fractions.specs.Fractions.{value_over, HoldsOver}

@@ -1,9 +1,9 @@
 -- Contents and lowest terms.
-use Rattle.std.proofs.Common.{◌≡◌, ℕ, zero, suc, ℤ, pos, ◌*ℤ◌, ◌≤ℤ◌, ◌<ℤ◌, List, [], ◌∷◌, get_or, ◌↔◌, refl}
-use Rattle.std.proofs.Common.{sym, ◌∙◌, ap, All, arith}
+use Rattle.std.proofs.Common.{◌≡◌, ℕ, zero, suc, ℤ, pos, ◌*ℤ◌, ◌≤ℤ◌, ◌<ℤ◌, List, get_or, ◌↔◌, refl}
+use Rattle.std.proofs.Common.{sym, ◌∙◌, ap, arith}
 use Rattle.std.specs.Prelude.{map}
 use Rattle.std.proofs.lemmas.Int.{ints}
-use Rattle.std.proofs.lemmas.List.Elements.{All-cons, All-nil, All-head, All-tail, All-map}
+use Rattle.std.proofs.lemmas.List.Elements.{All-map}
 use Rattle.whole_numbers.specs.Affine.{Affine, multiple_of_form}
 use Rattle.whole_numbers.proofs.Order.{cancel_le, cancel_eq, mul_not_negative}
 use Rattle.whole_numbers.proofs.Ring.{mul_zero_right}
@@ -11,6 +11,7 @@ use Rattle.whole_numbers.specs.Content.{content_of_form, lowest_of_form}
 use Rattle.fractions.specs.Fractions.{value_over, HoldsOver}
 use Rattle.fractions.proofs.Over.{value_over-multiple}
 use Rattle.whole_numbers.proofs.Lowest.{lowest_of_form_is, lowest_form_stays}
+use Rattle.whole_numbers.proofs.Entries.{all_unmapped}
 
 -- lowest terms keep a linear number of a form at 0
 pub lowest_zero : (z : Affine → ℤ) → ((k : ℤ) (f : Affine) → z (multiple_of_form k f) ≡ k *ℤ z f) → (f : Affine)
@@ -56,12 +57,6 @@ lowest_sign f = by_content (content_of_form f) refl
           ),
         )
 
--- a fact on each image is a fact on each element
-pub map_to : {X Y : Type 0} (P : Y → Type 0) (h : X → Y) (xs : List X) → All P (map h xs) → All (λ x. P (h x)) xs
-map_to P h [] all = All-nil (λ x. P (h x))
-map_to P h (x ∷ xs) all =
-    All-cons (λ x. P (h x)) x xs (All-head P (h x) (map h xs) all) (map_to P h xs (All-tail P (h x) (map h xs) all))
-
 -- equalities and rows in lowest terms hold at the same points
 pub lowest_holds : (es rs : List Affine) (d : ℤ) (xs : List ℤ)
     → HoldsOver (map lowest_of_form es) (map lowest_of_form rs) d xs ↔ HoldsOver es rs d xs
@@ -69,8 +64,8 @@ lowest_holds es rs d xs =
     let Zero : Affine → Type 0 = λ f. value_over f d xs ≡ pos 0 in
     let Least : Affine → Type 0 = λ f. pos 0 ≤ℤ value_over f d xs in (
       λ h. (
-        λ k e inside. (lowest_sign (get_or es k e) d xs).0.0 (map_to Zero lowest_of_form es h.0 k e inside),
-        λ k e inside. (lowest_sign (get_or rs k e) d xs).1.0 (map_to Least lowest_of_form rs h.1 k e inside),
+        λ k e inside. (lowest_sign (get_or es k e) d xs).0.0 (all_unmapped Zero lowest_of_form es h.0 k e inside),
+        λ k e inside. (lowest_sign (get_or rs k e) d xs).1.0 (all_unmapped Least lowest_of_form rs h.1 k e inside),
       ),
       λ h. (
         All-map Zero lowest_of_form es (λ k e inside. (lowest_sign (get_or es k e) d xs).0.1 (h.0 k e inside)),

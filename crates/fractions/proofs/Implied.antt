@@ -8,9 +8,9 @@ use Rattle.whole_numbers.specs.Lists.{dot}
 use Rattle.whole_numbers.specs.Affine.{Affine, complement}
 use Rattle.whole_numbers.proofs.Ring.{mul_neg_left, mul_one_left}
 use Rattle.whole_numbers.proofs.Dot.{dot-multiples}
+use Rattle.whole_numbers.proofs.Entries.{all_front, all_back}
 use Rattle.fractions.specs.Fractions.{value_over, HoldsOver}
 use Rattle.fractions.specs.Farkas.{AreNotNegative, IsHomogeneous, HasNoPoint}
-use Rattle.fractions.proofs.Chosen.{All-front, All-back}
 
 -- a homogeneous form's value does not depend on the denominator
 free_of_denominator : (f : Affine) (d e : ℤ) (xs : List ℤ) → IsHomogeneous f → value_over f d xs ≡ value_over f e xs
@@ -33,8 +33,8 @@ pub implied_row : (es front : List Affine) (r : Affine) (back : List Affine) (d 
     → HoldsOver es (front ++ back) d xs → HoldsOver es (front ++ r ∷ back) d xs
 implied_row es front r back d xs he hs hr none positive holds = (
   holds.0,
-  All-append Least front (r ∷ back) (All-front Least front back holds.1)
-      (All-cons Least r back own (All-back Least front back holds.1)),
+  All-append Least front (r ∷ back) (all_front Least front back holds.1)
+      (All-cons Least r back own (all_back Least front back holds.1)),
 )
   where
     Least : Affine → Type 0

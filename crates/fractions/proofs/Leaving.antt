@@ -5,11 +5,11 @@ use Rattle.std.specs.Prelude.{map}
 use Rattle.std.proofs.lemmas.List.Elements.{All-append, All-head, All-tail}
 use Rattle.std.proofs.lemmas.List.{append-nil}
 use Rattle.whole_numbers.specs.Affine.{Affine}
+use Rattle.whole_numbers.proofs.Entries.{all_front, all_back}
 use Rattle.fractions.specs.Fractions.{value_over, HoldsOver}
 use Rattle.fractions.specs.Elimination.{narrowed, eliminated}
 use Rattle.fractions.specs.Farkas.{HoldsForSomeMore, AreNotNegative, IsHomogeneous, HasFarkas, form_at}
 use Rattle.fractions.specs.Farkas.{matched_from, own_rows, Dropped, AreAmong, Leaves}
-use Rattle.fractions.proofs.Chosen.{All-front, All-back}
 use Rattle.fractions.proofs.Chain.{chain_step, chain_end}
 use Rattle.fractions.proofs.Implied.{implied_row}
 use Rattle.fractions.proofs.Matching.{matching_is_farkas}
@@ -24,8 +24,8 @@ dropped_among n es front (r ∷ rest) kept P (inl h) all =
     (subst (λ (fs : List Affine). All P fs) (sym (append_assoc front (r ∷ []) rest)) all)
 dropped_among n es front (r ∷ rest) kept P (inr h) all =
     dropped_among n es front rest kept P h.1
-    (All-append P front rest (All-front P front (r ∷ rest) all)
-    (All-tail P r rest (All-back P front (r ∷ rest) all)))
+    (All-append P front rest (all_front P front (r ∷ rest) all)
+    (All-tail P r rest (all_back P front (r ∷ rest) all)))
 
 -- where nothing is negative they imply all
 pub dropped_implied : (es front rest kept : List Affine) (d : ℤ) (xs : List ℤ)
@@ -40,8 +40,8 @@ dropped_implied es front (r ∷ rest) kept d xs (inl h) he hs positive holds =
     subst (λ (fs : List Affine). HoldsOver es fs d xs) joined
     (dropped_implied es (front ++ r ∷ []) rest kept d xs h he homogeneous positive holds)
 dropped_implied es front (r ∷ rest) kept d xs (inr h) he hs positive holds =
-    let f = All-front IsHomogeneous front (r ∷ rest) hs in
-    let b = All-back IsHomogeneous front (r ∷ rest) hs in
+    let f = all_front IsHomogeneous front (r ∷ rest) hs in
+    let b = all_back IsHomogeneous front (r ∷ rest) hs in
     let others = All-append IsHomogeneous front rest f (All-tail IsHomogeneous r rest b) in
     implied_row es front r rest d xs he others (All-head IsHomogeneous r rest b) h.0 positive
     (dropped_implied es front rest kept d xs h.1 he others positive holds)

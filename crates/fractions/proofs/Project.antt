@@ -5,13 +5,14 @@ use Rattle.std.proofs.lemmas.List.Elements.{All-append}
 use Rattle.whole_numbers.specs.Lists.{multiples}
 use Rattle.whole_numbers.specs.Affine.{Affine}
 use Rattle.whole_numbers.proofs.Order.{cancel_le}
+use Rattle.whole_numbers.proofs.Entries.{all_front, all_back}
 use Rattle.fractions.specs.Fractions.{value_over}
 use Rattle.fractions.specs.Elimination.{coefficient_of, is_zero, is_positive, is_negative, chosen, combined}
 use Rattle.fractions.specs.Elimination.{pairs, projected_rows}
 use Rattle.fractions.proofs.Over.{rest_over, value_over-set, value_over-combined}
 use Rattle.fractions.proofs.Best.{PairHolds, Asks, pair_from_fraction, fraction_from_pairs}
 use Rattle.fractions.proofs.Chosen.{Passing, is_zero_iff, is_positive_iff, is_negative_iff, chosen_from}
-use Rattle.fractions.proofs.Chosen.{chosen_to, pairs_from, pairs_to, All-front, All-back}
+use Rattle.fractions.proofs.Chosen.{chosen_to, pairs_from, pairs_to}
 
 -- each row is at least 0 at numerators / d
 abbrev pub NotNegative : ℤ → List ℤ → Affine → Type 0
@@ -82,11 +83,11 @@ project_from i rows d xs h all = served (fraction_from_pairs (coefficient_of i) 
     EachPair p = All (λ m. NotNegative d xs (combined i p m)) (chosen is_negative i rows)
 
     front : All (NotNegative d xs) (chosen is_zero i rows)
-    front = All-front (NotNegative d xs) (chosen is_zero i rows)
+    front = all_front (NotNegative d xs) (chosen is_zero i rows)
         (pairs i (chosen is_positive i rows) (chosen is_negative i rows)) all
 
     back : All (NotNegative d xs) (pairs i (chosen is_positive i rows) (chosen is_negative i rows))
-    back = All-back (NotNegative d xs) (chosen is_zero i rows)
+    back = all_back (NotNegative d xs) (chosen is_zero i rows)
         (pairs i (chosen is_positive i rows) (chosen is_negative i rows)) all
 
     zero : All (λ f. coefficient_of i f ≡ pos 0 → pos 0 ≤ℤ r f) rows

@@ -10,11 +10,11 @@ use Rattle.whole_numbers.specs.Affine.{Affine, multiple_of_form}
 use Rattle.whole_numbers.proofs.Ring.{mul_zero_right, mul_sub_left, mul_distrib_left, mul_assoc_int}
 use Rattle.whole_numbers.proofs.Ring.{mul_neg_left, mul_neg_right, left_comm}
 use Rattle.whole_numbers.proofs.Order.{cancel_le, cancel_eq, mul_not_negative}
+use Rattle.whole_numbers.proofs.Entries.{all_front, all_back, all_unmapped}
 use Rattle.fractions.specs.Fractions.{value_over}
 use Rattle.fractions.specs.Elimination.{coefficient_of, is_zero, is_not_zero, chosen, sign, reduced, reduced_all}
 use Rattle.fractions.proofs.Over.{rest_over, value_over-sum, value_over-multiple}
-use Rattle.fractions.proofs.Chosen.{Passing, is_zero_iff, chosen_from, chosen_to, All-front, All-back}
-use Rattle.fractions.proofs.Content.{map_to}
+use Rattle.fractions.proofs.Chosen.{Passing, is_zero_iff, chosen_from, chosen_to}
 
 -- |a| = sign(a) a, and it is positive where a is not 0
 pub size_is : (a : ℤ) → pos (unsigned_abs a) ≡ sign a *ℤ a
@@ -171,13 +171,13 @@ reduced_all_from S scales i e fs d xs has all j c inside =
 
     decided : (b : Bool) → is_zero (coefficient_of i f) ≡ b → S (at_fraction i d xs m (asked_of i d xs e) f)
     decided true free =
-        let front = All-front Holds (chosen is_zero i fs) (map (reduced i e) (chosen is_not_zero i fs)) all in
+        let front = all_front Holds (chosen is_zero i fs) (map (reduced i e) (chosen is_not_zero i fs)) all in
         let h = chosen_to Holds is_zero i fs front j c inside free in
         let z = at_fraction-zero i d xs m (asked_of i d xs e) f ((is_zero_iff (coefficient_of i f)).0 free) in
         rw z ((scales m (value_over f d xs) (size_positive (coefficient_of i e) has)).1 h)
     decided false other =
-        let back = All-back Holds (chosen is_zero i fs) (map (reduced i e) (chosen is_not_zero i fs)) all in
-        let each = map_to Holds (reduced i e) (chosen is_not_zero i fs) back in
+        let back = all_back Holds (chosen is_zero i fs) (map (reduced i e) (chosen is_not_zero i fs)) all in
+        let each = all_unmapped Holds (reduced i e) (chosen is_not_zero i fs) back in
         let h = chosen_to (λ g. Holds (reduced i e g)) is_not_zero i fs each j c inside (ap not other) in
         let v = value_over-reduced i e f d xs in
         let w = reduced_at (coefficient_of i e) (coefficient_of i f) (rest_over i d xs f) (rest_over i d xs e) in

@@ -1,7 +1,7 @@
 -- A port in memory of which no call is still to fail stays so, and its calls are calm.
 use Rattle.std.proofs.Common.{◌≡◌, ◌∙◌, sym, ap, subst, refl, ℕ, Bool, true, false, List, [], ◌∷◌, ◌++◌, None, Some}
-use Rattle.std.proofs.Common.{if◌then◌else◌, nat_lt, ◌&&◌, arith}
-use Rattle.std.proofs.lemmas.Bool.{ltb-true, lt-ltb}
+use Rattle.std.proofs.Common.{if◌then◌else◌, nat_lt, arith}
+use Rattle.std.proofs.lemmas.Bool.{ltb-true, lt-ltb, and_parts}
 use Rattle.std.specs.Cmp.Derive.{both_true}
 use Rattle.io_ports.specs.Faults.{next_count, none_to_come}
 use Rattle.io_ports.specs.Reads.{Gives}
@@ -14,17 +14,12 @@ past_stays : (fail calls : ℕ) → nat_lt fail (next_count calls) ≡ true
 past_stays fail calls past = lt-ltb fail (next_count (next_count calls))
     (omega (arith, ltb-true fail (next_count calls) past))
 
--- what is true where two are true together
-both_parts : (a b : Bool) → (a && b) ≡ true → (a ≡ true) × (b ≡ true)
-both_parts true b both = (refl, both)
-both_parts false b both = cc
-
 -- no call is still to fail after one more
 still_none : (fails : List ℕ) (calls : ℕ) → none_to_come fails calls ≡ true
     → none_to_come fails (next_count calls) ≡ true
 still_none [] calls none = refl
 still_none (fail ∷ fails) calls none =
-    let parts = both_parts (nat_lt fail (next_count calls)) (none_to_come fails calls) none in
+    let parts = and_parts (nat_lt fail (next_count calls)) (none_to_come fails calls) none in
     both_true (past_stays fail calls parts.0) (still_none fails calls parts.1)
 
 -- the same of the lists and counts of two moments

@@ -561,6 +561,7 @@ statement_accesses ranks n s is =
     All-cons (IsAccess ranks n) s.place (reads_with s.place s.right) is.place
     (right_reads_are ranks n s.place s.right is.place is.right)
 
+-- the model of a kernel
 pub one_model : (program : Program) → IsKernel program
     → ((p q : Placed) → In p (statements_of program) → In q (statements_of program) → p.number ≡ q.number → p ≡ q)
     → ((k : ℕ) (p : Placed) → slice_get (statements_of program) k ≡ Some p → p.number ≡ k)

@@ -1,9 +1,8 @@
 -- What each event of the only worker leaves.
 use Rattle.std.proofs.Common.{◌≡◌, ◌∙◌, Bool, true, false, ℕ, zero, suc, ◌<◌, ◌≤◌, [], ◌∷◌, ◌++◌, length, get_or, set}
-use Rattle.std.proofs.Common.{⊎_elim, length-append, ap, sym, subst, refl, arith}
+use Rattle.std.proofs.Common.{length-append, ap, sym, subst, refl, arith}
 use Rattle.std.specs.Prelude.{nat_lt, nat_le, nat_eq, if◌then◌else◌}
-use Rattle.std.proofs.lemmas.Bool.{le-leb, lt-ltb, ltb-false, ltb-true}
-use Rattle.std.proofs.lemmas.Bool.Decides.{eqb_tells}
+use Rattle.std.proofs.lemmas.Bool.{le-leb, lt-ltb, ltb-false, ltb-true, eq-eqb}
 use mathlib.Core.Option.{some, some-injective, some-ne-none}
 use lib.ListN.{get_elem?}
 use Rattle.scop_syntax.proofs.Members.{nat_cases}
@@ -118,9 +117,6 @@ loads_none p s d t k n left r h =
         let count = r.count in
         let all = ltb-false (length r.values) (length (reads_at p t k)) e in
         (omega (arith, count, all), subst (λ (x : State). HasRead p x t k n) (ap (λ x. x.0) new) r)
-
-eq-eqb : (a b : ℕ) → a ≡ b → nat_eq a b ≡ true
-eq-eqb a b e = ⊎_elim (λ x. x.0) (λ x. absurd (x.1 e)) (eqb_tells a b)
 
 pub stores_alone : (p : Plan) (s d : State) (seen : Seen) (t k : ℕ) → k < p.size t
     → HasRead p s t k (length (reads_at p t k)) → step p s 0 store ≡ (d, seen)

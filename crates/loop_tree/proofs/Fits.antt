@@ -61,7 +61,7 @@ forms_fit [] point h s = tt
 forms_fit (f ∷ forms) point h s = (small_form_fits f point h.0 s, forms_fit forms point h.1 s)
 
 -- a numeric bound is kept
-dot_zeros : (cs xs : List ℤ) → AreZeros cs → dot cs xs ≡ pos 0
+pub dot_zeros : (cs xs : List ℤ) → AreZeros cs → dot cs xs ≡ pos 0
 dot_zeros [] xs h = refl
 dot_zeros (c ∷ cs) [] h = refl
 dot_zeros (c ∷ cs) (x ∷ xs) h =

@@ -1,8 +1,9 @@
 -- The instances of a source's loop tree are those of the program's statements.
-use Rattle.std.proofs.Common.{◌≡◌, ℕ, zero, suc, ◌+◌, List, [], ◌∷◌, ◌++◌, map, length, ap, subst}
+use Rattle.std.proofs.Common.{◌≡◌, ℕ, ◌+◌, List, [], ◌∷◌, ◌++◌, map, length, ap, subst}
 use Rattle.std.proofs.Common.{sym, ◌∙◌, refl, arith, length-append}
 use Rattle.std.specs.Prelude.{slice_get, Some}
 use Rattle.std.proofs.lemmas.List.{length-map, map-append}
+use Rattle.whole_numbers.proofs.Entries.{found_front, get_behind}
 use Rattle.scop_syntax.specs.Tree.{Head, Test as Comparison, Program, Tree as Item, loop as repeated, guard as guarded}
 use Rattle.scop_syntax.specs.Tree.{statement, Trees as Items, none as nothing, more as followed}
 use Rattle.scop_syntax.specs.Statements.{Placed, in_loop_of, in_guard_of, loops_in, placed, placed_all, statements_of}
@@ -12,19 +13,6 @@ use Rattle.iteration_domains.specs.Path.{Path}
 use Rattle.iteration_domains.proofs.Entering.{length-variables}
 use Rattle.loop_tree.specs.Shape.{TreeIsOf, TreesAreOf}
 use Rattle.loop_tree.specs.Source.{in_loop, in_guard, source, sources, variables_at}
-
--- an entry of a list's first or last part is one of the whole
-entry_before : {A : Type 0} (xs ys : List A) (j : ℕ) (x : A) → slice_get xs j ≡ Some x
-    → slice_get (xs ++ ys) j ≡ Some x
-entry_before [] ys j x h = absurd cc
-entry_before (y ∷ xs) ys zero x h = h
-entry_before (y ∷ xs) ys (suc j) x h = entry_before xs ys j x h
-
-entry_behind : {A : Type 0} (xs ys : List A) (j : ℕ) → slice_get (xs ++ ys) (length xs + j) ≡ slice_get ys j
-entry_behind [] ys j = ap (λ k. slice_get ys k) (let e : 0 + j ≡ j = omega arith in e)
-entry_behind (x ∷ xs) ys j =
-    let e : suc (length xs) + j ≡ suc (length xs + j) = omega arith in
-    ap (λ k. slice_get (x ∷ (xs ++ ys)) k) e ∙ entry_behind xs ys j
 
 -- the places of a tree that stands at path: its statements, seen from the whole, are the program's from the k-th on,
 -- and each has the loops round the path besides its own
@@ -70,7 +58,7 @@ stand_first program path ps qs k at =
       loops = at.loops;
       places = λ j p h.
           at.places j p (subst (λ (rs : List Placed). slice_get rs j ≡ Some p) (sym (map-append at.whole ps qs))
-          (entry_before (map at.whole ps) (map at.whole qs) j p h));
+          (found_front (map at.whole ps) (map at.whole qs) j p h));
     }
 
 stand_rest : (program : Program) (path : Path) (ps qs : List Placed) (k m : ℕ) → length ps ≡ m
@@ -83,7 +71,7 @@ stand_rest program path ps qs k m count at =
           let l : length (map at.whole ps) ≡ m = length-map ps at.whole ∙ count in
           let there : slice_get (map at.whole (ps ++ qs)) (length (map at.whole ps) + j) ≡ Some p =
           subst (λ (rs : List Placed). slice_get rs (length (map at.whole ps) + j) ≡ Some p)
-          (sym (map-append at.whole ps qs)) (entry_behind (map at.whole ps) (map at.whole qs) j ∙ h) in
+          (sym (map-append at.whole ps qs)) (get_behind (map at.whole ps) (map at.whole qs) j ∙ h) in
           let e : k + (length (map at.whole ps) + j) ≡ k + m + j = omega arith in
           subst (λ i. slice_get (statements_of program) i ≡ Some p) e
           (at.places (length (map at.whole ps) + j) p there);

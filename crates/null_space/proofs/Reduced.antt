@@ -8,7 +8,7 @@ use Rattle.std.proofs.lemmas.List.Elements.{All-cons, All-nil, All-head, All-tai
 use Rattle.whole_numbers.specs.Lists.{dot, zeros}
 use Rattle.whole_numbers.specs.Content.{content, lowest}
 use Rattle.whole_numbers.proofs.Dot.{dot-unit, dot-nil, length-zeros}
-use Rattle.whole_numbers.proofs.Order.{mul_positive, mul_opposite, le_or_lt}
+use Rattle.whole_numbers.proofs.Order.{mul_positive, positive_factor}
 use Rattle.whole_numbers.proofs.Ring.{mul_zero_right, mul_zero_left, mul_one_right, mul_comm_int}
 use Rattle.null_space.specs.Narrowing.{is_zero, made_flat, against, narrowed_by, narrowed_all, kernel_vectors}
 use Rattle.null_space.specs.Narrowing.{units_from}
@@ -39,12 +39,6 @@ Reduced n [] (v ∷ vs) = ⊥
 Reduced n (j ∷ js) [] = ⊥
 Reduced n (j ∷ js) (v ∷ vs) =
     IsOwn n j v × All (λ i. j < i) js × All (λ u. dot u (unit j) ≡ pos 0) vs × Reduced n js vs
-
-positive_factor : (g d : ℤ) → pos 0 <ℤ g → pos 0 <ℤ (g *ℤ d) → pos 0 <ℤ d
-positive_factor g d h k = elim (le_or_lt d (pos 0)) [
-  | inl l ↦ let o = mul_opposite g d (omega (arith, ints)) l in absurd (omega (arith, ints))
-  | inr l ↦ l
-]
 
 -- a vector behind the one that goes
 own_against : (n a j : ℕ) (c u v : List ℤ) → is_zero (dot u c) ≡ false → a < j → IsOwn n a u → IsOwn n j v

@@ -4,14 +4,12 @@ use Rattle.std.proofs.lemmas.List.Elements.{All-head, All-tail}
 use Rattle.whole_numbers.specs.Lists.{dot, multiples}
 use Rattle.whole_numbers.proofs.Dot.{dot-sums, dot-multiples, dot-zeros, length-sums, length-multiples}
 use Rattle.whole_numbers.proofs.Dot.{length-zeros}
-use Rattle.whole_numbers.proofs.Lists.{list_same}
+use Rattle.whole_numbers.proofs.Lists.{same_products}
 use Rattle.null_space.specs.Narrowing.{kernel_vectors}
 use Rattle.null_space.specs.Sizes.{AreLong}
 use Rattle.null_space.specs.Echelon.{IsOrthogonal, AreKernelVectors, combination, IsSpanned}
-use Rattle.null_space.proofs.Along.{unit}
 use Rattle.null_space.proofs.Spans.{weighted, kernel_spans}
 use Rattle.null_space.proofs.Running.{kernel_long}
-use Rattle.null_space.proofs.Reduced.{entry}
 use Rattle.null_space.proofs.Echelon.{kernel_vectors_are, kernel_vectors_unique}
 
 -- the products of a combination
@@ -31,10 +29,6 @@ combined_length n (t ∷ ts) (v ∷ vs) all =
     let e = length-multiples t v ∙ All-head P v vs all in
     let f = combined_length n ts vs (All-tail P v vs all) in
     length-sums (multiples t v) (combination n ts vs) (e ∙ sym f) ∙ e
-
--- vectors whose products agree agree
-same_products : (u v : List ℤ) → length u ≡ length v → ((w : List ℤ) → dot u w ≡ dot v w) → u ≡ v
-same_products u v e h = list_same u v e (λ i l. sym (entry u i) ∙ (h (unit i) ∙ entry v i))
 
 pub spanned : (n : ℕ) (rows ns : List (List ℤ)) (v : List ℤ) → AreKernelVectors n rows ns → length v ≡ n
     → IsOrthogonal rows v → IsSpanned n ns v

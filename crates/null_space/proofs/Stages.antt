@@ -24,7 +24,7 @@ use Rattle.null_space.specs.Echelon.{at}
 use Rattle.null_space.proofs.Minors.{minor₂, minor₃, minor₄}
 use Rattle.null_space.specs.Sizes.{IsWithin, AreWithin, AreNarrow}
 use Rattle.null_space.proofs.Minors.{minor₂_divided, minor₃_divided}
-use Rattle.null_space.proofs.Within.{two, three, four, minor₂_within, minor₃_within, minor₄_within}
+use Rattle.null_space.proofs.Within.{two, three, four, minor₂_within, minor₃_within, minor₄_within, units_length}
 use Rattle.null_space.proofs.Within.{within_factor, are_within_more, are_within_factor, are_within_multiples}
 use Rattle.null_space.proofs.Within.{are_within_sums, within_at}
 use Rattle.null_space.proofs.Along.{Along, unit, along_within, product_some, against_along, front_along}
@@ -264,10 +264,6 @@ units_each n i zero h = All-nil (λ v. (j : ℕ) × Along v (λ w. at w j))
 units_each n i (suc k) h =
     All-cons (λ v. (j : ℕ) × Along v (λ w. at w j)) (set (zeros n) i (pos 1)) (units_from n (i + 1) k)
     (i, unit_along n i (omega arith)) (units_each n (i + 1) k (omega arith))
-
-units_length : (n i k : ℕ) → length (units_from n i k) ≡ k
-units_length n i zero = refl
-units_length n i (suc k) = ap suc (units_length n (i + 1) k)
 
 pub kernel_stage : (m n : ℕ) (rows : List (List ℤ)) → n ≤ 5 → All (AreWithin m) rows
     → Stage m n (kernel_vectors n rows)

@@ -1,5 +1,5 @@
 -- Sizes of sums, products, minors and dot products.
-use Rattle.std.proofs.Common.{◌≡◌, ℕ, zero, suc, ◌+◌, ◌*◌, ◌≤◌, ℤ, pos, negsuc, ◌+ℤ◌, ◌-ℤ◌, ◌*ℤ◌, List, []}
+use Rattle.std.proofs.Common.{◌≡◌, ℕ, zero, suc, ◌+◌, ◌*◌, ◌≤◌, ℤ, pos, negsuc, ◌+ℤ◌, ◌-ℤ◌, ◌*ℤ◌, List, [], ap}
 use Rattle.std.proofs.Common.{◌∷◌, refl, sym, subst, arith, length, unsigned_abs}
 use Rattle.std.proofs.lemmas.Int.{ints, unsigned_abs-mul}
 use Rattle.std.proofs.Math.Nat.{mul-le-mul}
@@ -8,6 +8,7 @@ use Rattle.whole_numbers.specs.Lists.{dot, multiples, sums}
 use Rattle.null_space.specs.Echelon.{at}
 use Rattle.null_space.proofs.Minors.{minor₂, third, minor₃, minor₄}
 use Rattle.null_space.specs.Sizes.{IsWithin, AreWithin}
+use Rattle.null_space.specs.Narrowing.{units_from}
 
 pub within_mul : (m k : ℕ) (a b : ℤ) → IsWithin m a → IsWithin k b → IsWithin (m * k) (a *ℤ b)
 within_mul m k a b h l = subst (λ (n : ℕ). n ≤ m * k) (sym (unsigned_abs-mul a b)) (mul-le-mul h l)
@@ -125,3 +126,8 @@ minor₄_within m k r c d a b e j w h i o l =
     (within_mul n k (minor₃ r c a b j d) (at w e) (minor₃_within m m r c a b j d h i o) (within_at k w e l))
     ) (within_mul n k (minor₃ r c a e j d) (at w b) (minor₃_within m m r c a e j d h i o) (within_at k w b l))
     ) (within_mul n k (minor₃ r c b e j d) (at w a) (minor₃_within m m r c b e j d h i o) (within_at k w a l))
+
+-- how many unit vectors there are
+pub units_length : (n i k : ℕ) → length (units_from n i k) ≡ k
+units_length n i zero = refl
+units_length n i (suc k) = ap suc (units_length n (i + 1) k)

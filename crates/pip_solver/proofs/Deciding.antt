@@ -1,13 +1,13 @@
 -- A decision of emptiness is the run's.
-use Rattle.std.proofs.Common.{◌≡◌, ℕ, Bool, not, List, [], ◌∷◌, ◌++◌, length, refl, subst, ap, sym, ◌∙◌}
+use Rattle.std.proofs.Common.{◌≡◌, ℕ, Bool, not, List, ◌++◌, length, refl, subst, ap, sym, ◌∙◌}
 use Rattle.std.proofs.Common.{◌+◌, arith, inl, inr}
 use Rattle.std.proofs.lemmas.List.{append-nil}
-use Rattle.std.proofs.lemmas.List.Elements.{All-nil, All-cons, All-head, All-tail}
 use Rattle.std.specs.Prelude.{Result, Ok, Err, All}
 use Rattle.wide_math.specs.declared.Wide.{Wide}
 use Rattle.wide_math.specs.Checked.{◌>>=◌}
 use Rattle.whole_numbers.specs.Lists.{zeros}
 use Rattle.whole_numbers.proofs.Dot.{length-zeros}
+use Rattle.whole_numbers.proofs.Entries.{all_front, all_back}
 use Rattle.whole_numbers.specs.Affine.{Affine}
 use Rattle.integer_sets.specs.Constraints.{Constraints, IsSized, variables_in}
 use Rattle.tableau_rows.specs.Problem.{problem_of, first_rows, Speaks}
@@ -68,16 +68,6 @@ posed_sized s n rows sized posed same =
     (posed_points s rows (zeros s.dimensions) (zeros s.parameters) sized posed (length-zeros s.dimensions)
     (length-zeros s.parameters)).0)
 
--- the forms of each of two parts
-all_front : {X : Type 0} (P : X → Type 0) (xs ys : List X) → All P (xs ++ ys) → All P xs
-all_front P [] ys all = All-nil P
-all_front P (x ∷ xs) ys all =
-    All-cons P x xs (All-head P x (xs ++ ys) all) (all_front P xs ys (All-tail P x (xs ++ ys) all))
-
-all_behind : {X : Type 0} (P : X → Type 0) (xs ys : List X) → All P (xs ++ ys) → All P ys
-all_behind P [] ys all = all
-all_behind P (x ∷ xs) ys all = all_behind P xs ys (All-tail P x (xs ++ ys) all)
-
 sized_at : (n : ℕ) (fs gs : List Affine) → All (λ f. length f.coefficients ≡ n) gs → fs ≡ gs
     → All (λ f. length f.coefficients ≡ n + 0) fs
 sized_at n fs gs all is =
@@ -90,7 +80,7 @@ front_sized n fs front own all is = sized_at n fs front (all_front (λ f. length
 
 pub own_sized : (n : ℕ) (front own : List Affine) → All (λ f. length f.coefficients ≡ n) (front ++ own)
     → All (λ f. length f.coefficients ≡ n + 0) own
-own_sized n front own all = sized_at n own own (all_behind (λ f. length f.coefficients ≡ n) front own all) refl
+own_sized n front own all = sized_at n own own (all_back (λ f. length f.coefficients ≡ n) front own all) refl
 
 -- the decision of the posed rows is the system's
 empty_rows : (budget n : ℕ) (s : Constraints) (rows : List Affine) → posed_run s ≡ Ok rows → n ≡ variables_in s

@@ -7,6 +7,7 @@ use Rattle.std.proofs.lemmas.Int.{ints}
 use Rattle.whole_numbers.specs.Lists.{multiples}
 use Rattle.whole_numbers.specs.Affine.{Affine, form_of, multiple_of_form}
 use Rattle.whole_numbers.proofs.Ring.{mul_one_left, mul_neg_left}
+use Rattle.whole_numbers.proofs.Entries.{get_or_same}
 use Rattle.fractions.specs.Elimination.{coefficient_of}
 use Rattle.loop_tree.specs.Tree.{Bound, besides, bounds_of, Test, at_least, equal, Tree, guard, more, none}
 use Rattle.loop_tree.specs.View.{trees_of}
@@ -16,7 +17,6 @@ use Rattle.fm_projection.specs.Alone.{place_form}
 use Rattle.plain_scan.specs.Rows.{low_bound, high_bound, low_bounds, high_bounds}
 use Rattle.plain_scan.specs.Sorting.{if_above, if_below, lows_in, highs_in}
 use Rattle.plain_scan.specs.Hulls.{own_leaf, leaf_tree, sets_in}
-use Rattle.plain_scan.proofs.Members.{same_place}
 
 take_suc : {X : Type 0} (xs : List X) (i : ℕ) (x : X) → x ≡ get_or xs i x → i < length xs
     → take (suc i) xs ≡ take i xs ++ x ∷ []
@@ -150,7 +150,7 @@ pub opposite_next : (xs : List ℤ) (i : ℕ) (y : ℤ) (old new : List ℤ) →
     → new ≡ multiples (neg_ℤ (pos 1)) (take (i + 1) xs)
 opposite_next xs i y old new inside so_far made opposite =
     let x = get_or xs i (pos 0) in
-    let is = same_place xs i (pos 0) x inside in
+    let is = get_or_same xs i (pos 0) x inside in
     made ∙ ap (λ zs. zs ++ y ∷ []) so_far
     ∙ ap (λ z. multiples (neg_ℤ (pos 1)) (take i xs) ++ z ∷ []) opposite
     ∙ sym (opposites_more (take i xs) x)

@@ -11,6 +11,7 @@ use Rattle.integer_sets.specs.Constraints.{variables_in}
 use Rattle.integer_sets.specs.Scanned.{Scanned, iterators_at}
 use Rattle.fm_projection.specs.Alone.{place_form}
 use Rattle.fm_projection.proofs.Ranges.{place_value}
+use Rattle.fm_projection.proofs.Following.{one_more}
 use Rattle.scop_syntax.specs.Members.{In}
 use Rattle.scop_syntax.proofs.Members.{in_append, in_map_from, in_if_from}
 use Rattle.loop_tree.specs.Tree.{Bounds, Test, Tree, Trees, instance, loop, more, none}
@@ -19,7 +20,6 @@ use Rattle.loop_tree.proofs.Lists.{in_between_from}
 use Rattle.plain_scan.specs.Sets.{leaves, place_forms, tests_of, turn_forms, under}
 use Rattle.plain_scan.specs.Hulls.{own_leaf}
 use Rattle.plain_scan.specs.Giving.{Gives, HasIterators, TurnsOn}
-use Rattle.plain_scan.proofs.Nodes.{append_one}
 
 -- forms of places give the entries there
 front_entry : (outer params : List ℤ) (i : ℕ) → i < length outer
@@ -108,4 +108,4 @@ loop_gives m sets flag lo up body turns params outer size v h =
         let longer : length (outer ++ r.0 ∷ []) ≡ suc m = omega (arith, length-append outer (r.0 ∷ []), size) in
         let g = turns params (outer ++ r.0 ∷ []) longer w.0 w.1 in
         subst (Gives sets outer) (sym w.2)
-        (g.0, g.1, g.2, g.3 ∙ ap (iterators_at g.0) (append_one outer r.0 w.0.values))
+        (g.0, g.1, g.2, g.3 ∙ ap (iterators_at g.0) (one_more outer r.0 w.0.values))

@@ -8,7 +8,7 @@ use Rattle.whole_numbers.proofs.Dot.{length-zeros}
 use Rattle.affine_forms.specs.Parts.{variables_of}
 use Rattle.std.proofs.Math.Seq.{get_or-append_seam}
 use Rattle.whole_numbers.proofs.Ring.{mul_one_left, mul_neg_left}
-use Rattle.fm_projection.proofs.Following.{projected_sized}
+use Rattle.fm_projection.proofs.Following.{projected_sized, one_more}
 use Rattle.fm_projection.proofs.Ranges.{last_value, place_value}
 use Rattle.fm_projection.specs.Alone.{AreInRange}
 use Rattle.std.proofs.lemmas.Int.{ints}
@@ -23,7 +23,6 @@ use Rattle.plain_scan.specs.declared.outline.Shadow.{Shadow}
 use Rattle.plain_scan.specs.declared.set_outline.Outline.{Outline}
 use Rattle.plain_scan.specs.Outlines.{AreRows, IsShadowOf}
 use Rattle.plain_scan.specs.Hulls.{Hold, HoldsAt, IsAlike, IsHullRow, AreHullRows, IsHull}
-use Rattle.plain_scan.proofs.Nodes.{append_one}
 use Rattle.plain_scan.proofs.Rows.{weaker_row}
 use Rattle.plain_scan.proofs.Smallness.{place_has_small}
 use Rattle.std.specs.Prelude.{◌≤◌, ◌^◌, unsigned_abs}
@@ -90,7 +89,7 @@ between_at depth place o d inside dims outer x params range size s =
 number_value : (n place : ℕ) (k c : ℤ) (outer : List ℤ) (x : ℤ) (params : List ℤ) → place < n → length outer ≡ place
     → value_of (place_form n place k c) ((outer ++ x ∷ []) ++ params) ≡ (k *ℤ x) +ℤ c
 number_value n place k c outer x params inside size =
-    let e = append_one outer x params in
+    let e = one_more outer x params in
     let v = place_value n place k c (outer ++ x ∷ params) inside in
     let g : get_or (outer ++ x ∷ params) place (pos 0) ≡ x =
     subst (λ (i : ℕ). get_or (outer ++ x ∷ params) i (pos 0) ≡ x) size (get_or-append_seam outer x params (pos 0)) in
@@ -105,7 +104,7 @@ low_holds depth place n low number o inside dims here is least front params rang
     let r = last_of front place (omega (arith, size, dims)) in
     let t = projected depth o.set.now.system in
     let s2 = subst (λ (q : List ℤ). Satisfies t (q ++ params)) r.2 s in
-    let s3 = subst (Satisfies t) (append_one r.0 r.1 params) s2 in
+    let s3 = subst (Satisfies t) (one_more r.0 r.1 params) s2 in
     let b = (between_at depth place o (any_shadow o depth here) here dims r.0 r.1 params range r.3 s3).0 in
     let l = least (any_shadow o depth here) in
     let v = number_value n place (pos 1) number r.0 r.1 params inside r.3 in
@@ -121,7 +120,7 @@ high_holds depth place n high o inside dims here most front params range size s 
     let r = last_of front place (omega (arith, size, dims)) in
     let t = projected depth o.set.now.system in
     let s2 = subst (λ (q : List ℤ). Satisfies t (q ++ params)) r.2 s in
-    let s3 = subst (Satisfies t) (append_one r.0 r.1 params) s2 in
+    let s3 = subst (Satisfies t) (one_more r.0 r.1 params) s2 in
     let b = (between_at depth place o (any_shadow o depth here) here dims r.0 r.1 params range r.3 s3).1 in
     let l = most (any_shadow o depth here) in
     let v = number_value n place (negsuc 0) high r.0 r.1 params inside r.3 in

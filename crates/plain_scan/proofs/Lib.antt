@@ -1,4 +1,3 @@
-pub mod Members
 pub mod Telling
 pub mod Nested
 pub mod Nodes

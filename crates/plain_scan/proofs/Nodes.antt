@@ -4,7 +4,9 @@ use Rattle.std.proofs.Common.{inr, ap, subst, sym, refl, ◌∙◌, arith}
 use Rattle.std.specs.Prelude.{◌<ℤ◌, if◌then◌else◌}
 use Rattle.std.specs.Int.Signed.{le_z}
 use Rattle.std.proofs.lemmas.Int.{ints}
+use Rattle.fm_projection.proofs.Following.{one_more}
 use Rattle.whole_numbers.specs.Affine.{Affine, value_of}
+use Rattle.whole_numbers.proofs.Tests.{if_both}
 use Rattle.scop_syntax.proofs.Members.{both, le_z_holds, holds_le_z}
 use Rattle.integer_sets.specs.Points.{Satisfies}
 use Rattle.loop_tree.specs.Tree.{Bounds, Test, equal, Tree, loop, guard, instance, Trees, none, more}
@@ -39,10 +41,6 @@ mutual
   scans_same_all k P Q (more t ts) params outer f g s =
       (scans_same k P Q t params outer f g s.0, scans_same_all k P Q ts params outer f g s.1, s.2)
 
-pub append_one : (xs : List ℤ) (x : ℤ) (r : List ℤ) → (xs ++ x ∷ []) ++ r ≡ xs ++ x ∷ r
-append_one [] x r = refl
-append_one (y ∷ xs) x r = ap (λ q. y ∷ q) (append_one xs x r)
-
 pub length_end : (xs : List ℤ) (x : ℤ) → length (xs ++ x ∷ []) ≡ suc (length xs)
 length_end [] x = refl
 length_end (y ∷ xs) x = ap suc (length_end xs x)
@@ -60,8 +58,8 @@ loop_scans k all inner flag lo up body params outer h =
     let s = h x w in
     let P : List ℤ → Type 0 = λ r. Keys inner params ((outer ++ x ∷ []) ++ r) in
     let Q : List ℤ → Type 0 = λ r. Keys all params (outer ++ x ∷ r) in
-    let f : (r : List ℤ) → P r → Q r = λ r p. s.1 r (subst (Keys inner params) (append_one outer x r) p) in
-    let g : (r : List ℤ) → Q r → P r = λ r q. subst (Keys inner params) (sym (append_one outer x r)) (s.2 r q) in
+    let f : (r : List ℤ) → P r → Q r = λ r p. s.1 r (subst (Keys inner params) (one_more outer x r) p) in
+    let g : (r : List ℤ) → Q r → P r = λ r q. subst (Keys inner params) (sym (one_more outer x r)) (s.2 r q) in
     ((λ y r q. s.0.covers y r (g (y ∷ r) q)), scans_same_all k P Q body params (outer ++ x ∷ []) f g s.0.scans)
 
 -- a set's tests are its constraints
@@ -74,11 +72,6 @@ holds_zero z h =
     let p = holds_le_z (pos 0) z b.0 in
     let q = holds_le_z z (pos 0) b.1 in
     omega (arith, ints)
-
-if_both : (a b : Bool) → a ≡ true → b ≡ true → (if a then b else false) ≡ true
-if_both true true h k = refl
-if_both true false h k = k
-if_both false b h k = h
 
 pub rows_hold : (fs : List Affine) (point : List ℤ) → all_hold (row_tests fs) point ≡ true → AllAtLeast fs point
 rows_hold [] point h = tt

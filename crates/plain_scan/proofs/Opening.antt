@@ -15,6 +15,7 @@ use Rattle.whole_numbers.proofs.Order.{mul_positive, mul_le_left, mul_not_negati
 use Rattle.whole_numbers.proofs.Dot.{length-multiples}
 use Rattle.whole_numbers.proofs.Lists.{multiples-append}
 use Rattle.whole_numbers.proofs.Sizes.{abs_low, abs_high}
+use Rattle.whole_numbers.proofs.Entries.{get_or_same}
 use Rattle.fractions.specs.Fractions.{HoldsOver, value_over}
 use Rattle.fractions.specs.Elimination.{coefficient_of}
 use Rattle.integer_sets.specs.Constraints.{Constraints, IsSized, variables_in}
@@ -28,7 +29,6 @@ use Rattle.fm_projection.proofs.Between.{all_left, front_of, projected_left}
 use Rattle.fm_projection.proofs.Ranges.{last_value, place_value}
 use Rattle.fm_projection.proofs.Ranging.{least_row, most_row}
 use Rattle.plain_scan.proofs.Appending.{projected_shape}
-use Rattle.plain_scan.proofs.Members.{same_place}
 use Rattle.plain_scan.specs.Between.{IsOpenAbove, IsOpenBelow}
 use Rattle.plain_scan.specs.Outlines.{HasNoPoint, IsOpen, IsOpenSomewhere}
 
@@ -200,7 +200,7 @@ alone_from t y some h =
       range = λ k v inside.
           let j = length b.between + 1 + k in
           let g = behind b.between x ps k (pos 0) in
-          let own = same_place ps k (pos 0) v inside in
+          let own = get_or_same ps k (pos 0) v inside in
           subst (λ z. (pos 0 ≤ℤ z) × (z ≤ℤ (pos 65536 *ℤ d))) (g ∙ own)
           (range j (omega (arith, size)) (omega (arith, size, inside, count)));
       holds = subst (λ z. HoldsOver t.equalities t.rows d (b.between ++ z ∷ ps)) same

@@ -11,9 +11,10 @@ use Rattle.plain_scan.specs.Sets.{AllAtLeast, Keys, KeysAt, HaveDimensions, Numb
 use Rattle.plain_scan.specs.Sets.{Leaf, sets_of, AreTested, leaves}
 use Rattle.plain_scan.specs.Rows.{low_bounds, high_bounds, AreLow, AreHigh, widened, IsPlace, ServesOn}
 use Rattle.fm_projection.specs.Alone.{AreInRange}
+use Rattle.fm_projection.proofs.Following.{one_more}
 use Rattle.plain_scan.specs.Rows.{deeper}
 use Rattle.plain_scan.specs.Pieces.{Piece, bounding, loop_of, loops_of, LiesIn, InSome, IsPiece, ArePieces, AreEnough}
-use Rattle.plain_scan.proofs.Nodes.{loop_scans, append_one, leaves_serve, length_end, serves_exact, rows_hold}
+use Rattle.plain_scan.proofs.Nodes.{loop_scans, leaves_serve, length_end, serves_exact, rows_hold}
 use Rattle.plain_scan.proofs.Nodes.{hold_rows, under_spans, spans_under, under_scans}
 use Rattle.plain_scan.proofs.Rows.{value_widened, lows_to, lows_from, highs_to, highs_from}
 
@@ -45,7 +46,7 @@ deeper_place m context rows params outer x place h = record {
   inside =
       let w = subst (λ n. AllAtLeast (map (widened n) context) (outer ++ x ∷ params)) place.size
       (widened_all context outer x params place.inside) in
-      subst (AllAtLeast (map (widened m) context ++ rows)) (sym (append_one outer x params))
+      subst (AllAtLeast (map (widened m) context ++ rows)) (sym (one_more outer x params))
       (all_append (map (widened m) context) rows (outer ++ x ∷ params) w h);
 }
 

@@ -1,6 +1,7 @@
 -- From a set down to its first dimensions.
 use Rattle.std.proofs.Common.{◌≡◌, ℕ, suc, ◌<◌, ℤ, pos, List, [], ◌∷◌, ◌++◌, length, ap, subst, sym, refl, ◌∙◌, arith}
 use Rattle.std.proofs.lemmas.Int.{ints}
+use Rattle.fm_projection.proofs.Following.{one_more}
 use Rattle.whole_numbers.specs.Affine.{Affine}
 use Rattle.integer_sets.specs.Scanned.{Scanned}
 use Rattle.plain_scan.specs.Sets.{AllZero, AllAtLeast, IsKeyOf}
@@ -8,7 +9,7 @@ use Rattle.fractions.specs.Farkas.{two_rows}
 use Rattle.integer_sets.specs.Constraints.{Constraints}
 use Rattle.integer_sets.specs.Points.{Satisfies}
 use Rattle.plain_scan.specs.Shadows.{IsShadow, Follow}
-use Rattle.plain_scan.proofs.Nodes.{append_one, length_end}
+use Rattle.plain_scan.proofs.Nodes.{length_end}
 use Rattle.plain_scan.proofs.Rows.{negated}
 
 -- the set itself
@@ -44,8 +45,8 @@ shadow_less m s t u less shadow follow params outer [] l k =
         omega (arith, a, b, c, l)
 shadow_less m s t u less shadow follow params outer (x ∷ r) l k =
     let n = length_end outer x ∙ ap suc l in
-    let h = shadow params (outer ++ x ∷ []) r n (subst (IsKeyOf params s) (sym (append_one outer x r)) k) in
-    follow outer x params l (subst (Satisfies t) (append_one outer x params) h)
+    let h = shadow params (outer ++ x ∷ []) r n (subst (IsKeyOf params s) (sym (one_more outer x r)) k) in
+    follow outer x params l (subst (Satisfies t) (one_more outer x params) h)
 
 -- its rows, and equalities as two rows, are rows that the set implies
 pub two_rows_hold : (es rs : List Affine) (point : List ℤ) → AllZero es point → AllAtLeast rs point

@@ -12,7 +12,7 @@ use Rattle.whole_numbers.proofs.Dot.{length-zeros}
 use Rattle.fractions.specs.Elimination.{coefficient_of}
 use Rattle.fm_projection.specs.Projecting.{projected}
 use Rattle.fm_projection.specs.Alone.{place_form}
-use Rattle.fm_projection.proofs.Following.{follow, projected_sized}
+use Rattle.fm_projection.proofs.Following.{follow, projected_sized, one_more}
 use Rattle.loop_tree.specs.Tree.{Trees, loop, more, none}
 use Rattle.plain_scan.specs.declared.set_outline.Outline.{Outline}
 use Rattle.integer_sets.specs.Scanned.{Scanned}
@@ -20,7 +20,7 @@ use Rattle.plain_scan.specs.Sets.{AllAtLeast, IsKeyOf, Keys, HaveDimensions, Num
 use Rattle.plain_scan.specs.Sets.{leaves}
 use Rattle.plain_scan.specs.Rows.{low_bounds, high_bounds, ServesOn}
 use Rattle.fm_projection.specs.Alone.{AreInRange}
-use Rattle.plain_scan.specs.Pieces.{Piece, bounding, loops_of, LiesIn, InSome, ArePieces, AreEnough}
+use Rattle.plain_scan.specs.Pieces.{Piece, loops_of, AreEnough}
 use Rattle.plain_scan.specs.Shadows.{IsShadow}
 use Rattle.plain_scan.specs.Sorting.{lows_in, highs_in}
 use Rattle.plain_scan.specs.Hulls.{flags, HoldsAt, IsAlike, IsHull, IsHullRow, AreHullRows, sets_in}
@@ -30,7 +30,7 @@ use Rattle.std.specs.Prelude.{eqb, Option, Some}
 use Rattle.loop_tree.specs.Marks.{FlatAll, MarksAll}
 use Rattle.plain_scan.proofs.Shape.{flat_lows, flat_highs}
 use Rattle.plain_scan.proofs.Nested.{zeros_of, of_zeros, rows_of, of_rows}
-use Rattle.plain_scan.proofs.Nodes.{append_one, length_end, tests_hold, hold_tests}
+use Rattle.plain_scan.proofs.Nodes.{length_end, tests_hold, hold_tests}
 use Rattle.plain_scan.proofs.Pieces.{dimension_serves, end_serves}
 use Rattle.plain_scan.proofs.Shadows.{whole_shadow, shadow_less}
 use Rattle.loop_tree.specs.Fits.{AreSmallForms, AreSmallTrees, IsSmall}
@@ -61,8 +61,8 @@ row_holds depth place f o dims h params outer x r range size k =
     let s = o.set.now in
     let shadow = projected_shadow depth (suc place) s (omega (arith, dims)) in
     let n : length (outer ++ x ∷ []) ≡ suc place = length_end outer x ∙ ap suc size in
-    let sat = shadow params (outer ++ x ∷ []) r n (subst (IsKeyOf params s) (sym (append_one outer x r)) k) in
-    subst (λ (q : List ℤ). pos 0 ≤ℤ value_of f q) (append_one outer x params)
+    let sat = shadow params (outer ++ x ∷ []) r n (subst (IsKeyOf params s) (sym (one_more outer x r)) k) in
+    subst (λ (q : List ℤ). pos 0 ≤ℤ value_of f q) (one_more outer x params)
     (h (outer ++ x ∷ []) params range (omega (arith, n, dims)) sat)
 
 key_holds : (depth place : ℕ) (f : Affine) (os : List Outline)

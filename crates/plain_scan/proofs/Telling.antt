@@ -1,20 +1,13 @@
 -- What the numbers of a system's one variable tell, constraint by constraint.
-use Rattle.std.proofs.Common.{◌≡◌, ℕ, ◌+◌, ◌<◌, ℤ, List, [], ◌∷◌, length, get_or, take, inl, inr, subst, sym, All}
+use Rattle.std.proofs.Common.{◌≡◌, ℕ, ◌<◌, ℤ, List, length, get_or, take, inl, inr, subst, sym, All}
 use Rattle.std.specs.Prelude.{◌⊎◌, IfSome, None, Option, Some}
-use Rattle.std.proofs.lemmas.List.Elements.{All-append, All-cons, All-nil}
+use Rattle.std.proofs.lemmas.List.Elements.{All-nil}
 use Rattle.whole_numbers.specs.Affine.{Affine}
 use Rattle.integer_sets.specs.Constraints.{Constraints}
 use Rattle.scop_syntax.specs.Members.{In}
+use Rattle.scop_syntax.proofs.Members.{member_at}
 use Rattle.plain_scan.specs.Between.{IsLargeIn, IsLargeOf}
-use Rattle.plain_scan.proofs.Bounding.{take_next, take_none}
-use Rattle.plain_scan.proofs.Members.{member_at}
-
--- one element more of those gone through
-pub all_next : {A : Type 0} (P : A → Type 0) (fs : List A) (i : ℕ) (f : A) → f ≡ get_or fs i f → i < length fs
-    → All P (take i fs) → P f → All P (take (i + 1) fs)
-all_next {A} P fs i f is inside all one =
-    subst (All P) (sym (take_next fs i f is inside))
-    (All-append P (take i fs) (f ∷ []) all (All-cons P f [] one (All-nil P)))
+use Rattle.plain_scan.proofs.Bounding.{take_none}
 
 pub all_none : (P : Affine → Type 0) (fs : List Affine) → All P (take 0 fs)
 all_none P fs = subst (All P) (sym (take_none fs)) (All-nil P)

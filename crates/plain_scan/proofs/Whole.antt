@@ -116,7 +116,3 @@ pub none_kept : (sets : List Scanned) (os : List Outline) → LeavesOut sets (se
     → ⊥
 none_kept sets [] left some e = absurd (omega (arith, some))
 none_kept sets (o ∷ os) left some e = subst (λ ss. LeavesOut ss (sets_in (o ∷ os))) e left
-
-pub empty_list : {X : Type 0} (xs : List X) → length xs ≡ 0 → xs ≡ []
-empty_list [] e = refl
-empty_list (x ∷ xs) e = absurd (omega (arith, e))

@@ -3,7 +3,7 @@ use Rattle.std.proofs.Common.{◌≡◌, ℕ, zero, suc, ◌+◌, ◌<◌, ◌�
 use Rattle.std.proofs.Common.{inl, inr, ap, ap₂, ◌∙◌, refl, arith}
 use Rattle.std.specs.Prelude.{eqb, ◌<ℤ◌, Option, Some, None, if◌then◌else◌}
 use Rattle.std.specs.Option.{option_eq}
-use Rattle.std.proofs.lemmas.Bool.{eqb-true, eq-eqb}
+use Rattle.std.proofs.lemmas.Bool.{eqb-true, eq-eqb, false_from_ne_true}
 use Rattle.loop_tree.specs.Tree.{Tree, loop, guard, instance, Trees, none, more}
 use Rattle.loop_tree.specs.Marks.{Marks, MarksAll, marked}
 use Rattle.loop_tree.specs.Shape.{IsSerial, AreSerial}
@@ -30,12 +30,8 @@ is_marked : (mark : Option ℕ) (i : ℕ) → option_eq eqb mark (Some i) ≡ tr
 is_marked None i e = absurd cc
 is_marked (Some k) i e = ap Some (eqb-true k i e)
 
-not_true : (b : Bool) → (b ≡ true → ⊥) → b ≡ false
-not_true true h = absurd (h refl)
-not_true false h = refl
-
 unmarked : (mark : Option ℕ) (j : ℕ) → NoMark mark j → option_eq eqb mark (Some j) ≡ false
-unmarked mark j h = not_true (option_eq eqb mark (Some j)) (λ e. h j (omega arith) (is_marked mark j e))
+unmarked mark j h = false_from_ne_true (option_eq eqb mark (Some j)) (λ e. h j (omega arith) (is_marked mark j e))
 
 -- without a marked place no values part
 pub never_part : (mark : Option ℕ) (j n : ℕ) (xs ys : List ℤ) → NoMark mark j → PartAt (flags mark j n) xs ys → ⊥
@@ -82,7 +78,7 @@ marked_there [] x us k j (suc n) at few =
 marked_there (h ∷ hs) x us k j (suc n) at few =
     let rest = marked (flags (Some k) (suc j) n) (hs ++ x ∷ us) in
     ap (λ (b : Bool). if b then h ∷ rest else rest)
-    (not_true (eqb k j) (λ t. let here = eqb-true k j t in omega (arith, at, here)))
+    (false_from_ne_true (eqb k j) (λ t. let here = eqb-true k j t in omega (arith, at, here)))
     ∙ marked_there hs x us k (suc j) n (omega (arith, at)) (omega (arith, few))
 
 mutual

@@ -7,13 +7,13 @@ use Rattle.std.proofs.lemmas.Int.{ints}
 use Rattle.std.proofs.lemmas.List.{reverse-reverse}
 use mathlib.Core.List.{reverse-cons}
 use Rattle.std.proofs.lemmas.List.Elements.{All-nil, All-cons, All-head, All-tail, All-append, All-get_or}
+use Rattle.whole_numbers.proofs.Entries.{all_front, all_back}
 use Rattle.fractions.specs.Farkas.{AreNotNegative}
 use Rattle.iteration_domains.specs.Dependence.{Dependence, IsDependence}
 use Rattle.null_space.specs.Sizes.{IsWithin, AreCoefficients}
 use Rattle.schedule_rows.specs.Items.{Marked}
 use Rattle.farkas.specs.Unknowns.{part_numbers}
 use Rattle.farkas.specs.Unknowns as unknowns
-use Rattle.schedule_rows.proofs.Pairs.{all_front, all_back}
 use Rattle.pluto_systems.specs.Placing.{AreShaped}
 use Rattle.pluto_systems.specs.Posing.{IsBetween}
 use Rattle.pluto_search.specs.Sizes.{IsCount, AreCounts, CanTell, CanNarrowEach}

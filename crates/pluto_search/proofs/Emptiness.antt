@@ -5,12 +5,12 @@ use Rattle.std.specs.Prelude.{◌≤ℤ◌}
 use Rattle.std.proofs.lemmas.List.{length-append, length-take-le, length-drop, take-append-drop}
 use Rattle.std.proofs.lemmas.List.Elements.{All-nil, All-cons, All-head, All-tail, All-append}
 use Rattle.whole_numbers.proofs.Lists.{not_negative_all}
+use Rattle.whole_numbers.proofs.Entries.{all_front, all_back}
 use Rattle.fractions.specs.Farkas.{AreNotNegative}
 use Rattle.integer_sets.specs.Points.{Satisfies}
 use Rattle.lexmin_runs.specs.Emptiness.{IsBoundedPoint, HasBoundedPoint}
 use Rattle.iteration_domains.specs.Dependence.{Dependence, IsDependence}
 use Rattle.schedule_rows.specs.Dependences.{IsEmptyDep, InRange}
-use Rattle.schedule_rows.proofs.Pairs.{all_front, all_back}
 
 range_to : (params : List ℤ) → InRange params → AreNotNegative params × All (λ z. z ≤ℤ pos 65536) params
 range_to [] h = (All-nil (λ x. pos 0 ≤ℤ x), All-nil (λ z. z ≤ℤ pos 65536))

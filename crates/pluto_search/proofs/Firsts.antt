@@ -1,9 +1,9 @@
 -- The first of a list that meets one thing, all before it meeting another; going through the list one by one.
 use Rattle.std.proofs.Common.{◌≡◌, ℕ, ◌+◌, ◌<◌, List, [], ◌∷◌, ◌++◌, sym, ◌∙◌, ap, subst, inl, inr, length, map, All}
 use Rattle.std.proofs.Common.{take, drop, add-one}
-use Rattle.std.specs.Prelude.{◌≤◌, slice_index_or}
+use Rattle.std.specs.Prelude.{slice_index_or}
 use Rattle.std.proofs.Math.Seq.{take-suc}
-use Rattle.std.proofs.lemmas.List.{take-append-drop, take_all}
+use Rattle.std.proofs.lemmas.List.{take-append-drop}
 use Rattle.std.proofs.lemmas.List.Elements.{All-head, All-tail, All-push}
 use Rattle.pluto_search.specs.Questions.{IsFirst}
 
@@ -28,10 +28,6 @@ taken_more {A} P xs i x d l e p h =
     (sym (ap (λ (n : ℕ). take n xs) (add-one i)
     ∙ (take-suc xs i d l ∙ ap (λ (z : A). take i xs ++ z ∷ []) (sym e))))
     (All-push P (take i xs) x h p)
-
--- all were taken
-pub all_taken : {A : Type 0} (P : A → Type 0) (xs : List A) (i : ℕ) → length xs ≤ i → All P (take i xs) → All P xs
-all_taken P xs i l h = subst (All P) (take_all i xs l) h
 
 -- of a list that is made from another
 pub first_mapped : {A B : Type 0} (f : A → B) (P Q : B → Type 0) (xs : List A)

@@ -1,16 +1,17 @@
 -- From one state to the next: what holds between steps.
-use Rattle.std.proofs.Common.{◌≡◌, ℕ, zero, suc, ◌+◌, ◌<◌, ◌^◌, ℤ, List, [], ◌∷◌, ◌++◌, refl, sym, ◌∙◌, ap, ap₂, subst}
+use Rattle.std.proofs.Common.{◌≡◌, ℕ, zero, suc, ◌<◌, ◌^◌, ℤ, List, [], ◌∷◌, ◌++◌, refl, sym, ◌∙◌, ap, ap₂, subst}
 use Rattle.std.proofs.Common.{inl, inr, arith, length, map, All, Vec, Global}
 use Rattle.std.specs.Prelude.{◌≤◌, slice_index_or, Ok}
 use Rattle.std.proofs.lemmas.List.{append-nil, length-map, get_or-map}
 use Rattle.std.proofs.lemmas.List.Elements.{All-nil, All-cons, All-head, All-tail, All-get_or}
 use Rattle.scop_syntax.specs.Members.{In}
-use Rattle.scop_syntax.proofs.Members.{in_map}
+use Rattle.scop_syntax.proofs.Members.{in_map, in_front}
 use Rattle.iteration_domains.specs.Dependence.{Dependence}
 use Rattle.null_space.specs.Narrowing.{kernel_vectors, narrowed_all, narrowed_by, units_from}
 use Rattle.null_space.specs.Sizes.{AreWithin, AreLong, AreCoefficients}
 use Rattle.null_space.proofs.Running.{kernel_long, narrowed_length}
 use Rattle.null_space.proofs.Stages.{kernel_narrow}
+use Rattle.null_space.proofs.Within.{units_length}
 use Rattle.schedule_rows.specs.Items.{Row}
 use Rattle.schedule_rows.specs.Next.{State, rows_of}
 use Rattle.schedule_rows.specs.Outcomes.{state}
@@ -84,10 +85,6 @@ narrowed_all_length [] ns = omega arith
 narrowed_all_length (c ∷ cs) ns =
     let a = narrowed_all_length cs (narrowed_by c ns) in let b = narrowed_length c ns in omega arith
 
-units_length : (n i k : ℕ) → length (units_from n i k) ≡ k
-units_length n i zero = refl
-units_length n i (suc k) = ap suc (units_length n (i + 1) k)
-
 kernel_count : (n : ℕ) (rows : List (List ℤ)) → length (kernel_vectors n rows) ≤ n
 kernel_count n rows =
     let a = narrowed_all_length rows (units_from n 0 n) in let b = units_length n 0 n in omega arith
@@ -134,11 +131,6 @@ good_ruled m loops budget p q g e v h k =
       ruled = h g.ruled;
       by_run = k g.by_run;
     }
-
-in_front : {X : Type 0} (x : X) (xs ys : List X) → In x xs → In x (xs ++ ys)
-in_front x [] ys h = absurd h
-in_front x (y ∷ xs) ys (inl e) = inl e
-in_front x (y ∷ xs) ys (inr h) = inr (in_front x xs ys h)
 
 pub are_between : (m : ℕ) (loops : List ℕ) (budget : ℕ) (q : Progress) → IsGood m loops budget q → (x : RuledDep)
     → In x q.ruled.items → IsRuled x × IsBetween m loops x.dep

@@ -2,8 +2,7 @@
 use Rattle.std.proofs.Common.{◌≡◌, ℕ, zero, suc, ◌+◌, ◌<◌, List, [], ◌∷◌, ◌++◌, refl, sym, ◌∙◌, ap, subst, inl, inr}
 use Rattle.std.proofs.Common.{arith, length, map, All, drop, append_assoc, add-one, drop-cons}
 use Rattle.std.specs.Prelude.{slice_index_or}
-use Rattle.std.specs.Prelude.{◌≤◌}
-use Rattle.std.proofs.lemmas.List.{append-nil, length-drop, length-map, get_or-map}
+use Rattle.std.proofs.lemmas.List.{append-nil, length-map, get_or-map}
 use Rattle.std.proofs.lemmas.List.Elements.{All-nil, All-cons, All-head, All-tail}
 use Rattle.scop_syntax.specs.Members.{In}
 use Rattle.iteration_domains.specs.Dependence.{Dependence, IsDependence}
@@ -104,20 +103,12 @@ restricts_between m loops rows (c ∷ ds) kept h (inr r) d i =
       | inr j ↦ restricts_between m loops rows ds r.0 (λ e k. h e (inr k)) r.2 d j
     ]
 
-pub no_more : {X : Type 0} (xs : List X) → length xs ≡ 0 → xs ≡ []
-no_more [] h = refl
-no_more (x ∷ xs) h = absurd (omega (arith, h))
-
 -- one more of which P holds, in front of the rest
 pub all_next : {X : Type 0} (P : X → Type 0) (xs : List X) (i : ℕ) (d : X) → i < length xs → P (slice_index_or xs i d)
     → All P (drop (i + 1) xs) → All P (drop i xs)
 all_next P xs i d l p h =
     subst (All P) (sym (next_of xs i (slice_index_or xs i d) d l refl))
     (All-cons P (slice_index_or xs i d) (drop (i + 1) xs) p h)
-
--- nothing is left
-pub none_left : {X : Type 0} (xs : List X) (i : ℕ) → length xs ≤ i → drop i xs ≡ []
-none_left xs i h = let l = length-drop i xs in no_more (drop i xs) (omega arith)
 
 -- the next of a list that is made from another entry by entry
 pub mapped_next : {X Y : Type 0} (f : X → Y) (xs : List X) (i : ℕ) (x : X) → i < length xs → x ≡ slice_index_or xs i x

@@ -1,10 +1,9 @@
 -- The numbers of a row that are gathered for a dependence are its unknowns in their order.
 use Rattle.std.proofs.Common.{◌≡◌, ℕ, zero, suc, ◌+◌, ◌<◌, Bool, true, false, ℤ, pos, List, [], ◌∷◌, ◌++◌, refl, sym}
-use Rattle.std.proofs.Common.{◌∙◌, ap, ap₂, ◌⊎◌, inl, inr, arith, length, rules}
-use Rattle.std.specs.Prelude.{◌≤◌, nat_eq, nat_lt, if◌then◌else◌, slice_index_or}
+use Rattle.std.proofs.Common.{◌∙◌, ap, ap₂, ◌⊎◌, inl, inr, arith, length}
+use Rattle.std.specs.Prelude.{nat_eq, nat_lt, if◌then◌else◌, slice_index_or}
 use Rattle.std.proofs.lemmas.List.{append-nil}
-use Rattle.std.proofs.lemmas.Bool.{eq-eqb}
-use Rattle.stmt_graph.proofs.Counting.{lt_or_le}
+use Rattle.std.proofs.lemmas.Bool.{eq-eqb, lt-ltb, le-ltb, cases_lt}
 use Rattle.iteration_domains.specs.declared.dep.DepEnd.{DepEnd}
 use Rattle.iteration_domains.specs.Dependence.{Dependence}
 use Rattle.farkas.specs.Unknowns.{Part, Unknowns, part_numbers, end_numbers}
@@ -18,27 +17,18 @@ use Rattle.pluto_systems.proofs.Placed.{gathered_end, gathered_other}
 abbrev pub nth : List Part → ℕ → Part
 nth ps s = slice_index_or ps s (record { coefficients = []; shift = pos 0 })
 
-eq_yes : (a b : ℕ) → a ≡ b → nat_eq a b ≡ true
-eq_yes a b h = eq-eqb a b h
-
 eq_no : (a b : ℕ) → (a < b) ⊎ (b < a) → nat_eq a b ≡ false
 eq_no a b (inl h) = grind arith
 eq_no a b (inr h) = grind arith
 
-lt_yes : (a b : ℕ) → a < b → nat_lt a b ≡ true
-lt_yes a b h = search rules
-
-lt_no : (a b : ℕ) → b ≤ a → nat_lt a b ≡ false
-lt_no a b h = search rules
-
 end_first : (a b s : ℕ) → s ≡ a → is_end a b s ≡ true
-end_first a b s h = ap (λ (x : Bool). if x then true else nat_eq s b) (eq_yes s a h)
+end_first a b s h = ap (λ (x : Bool). if x then true else nat_eq s b) (eq-eqb s a h)
 
 end_second : (a b s : ℕ) → s ≡ b → is_end a b s ≡ true
 end_second a b s h = go (nat_eq s a) where
   go : (x : Bool) → (if x then true else nat_eq s b) ≡ true
   go true = refl
-  go false = eq_yes s b h
+  go false = eq-eqb s b h
 
 end_none : (a b s : ℕ) → (s < a) ⊎ (a < s) → (s < b) ⊎ (b < s) → is_end a b s ≡ false
 end_none a b s h k = ap (λ (x : Bool). if x then true else nat_eq s b) (eq_no s a h) ∙ eq_no s b k
@@ -122,9 +112,9 @@ ends_by s t x b c e f =
     ∙ ap (λ (z : Bool). by_tests b z (part_numbers x.source) (part_numbers x.target)) f
 
 three : (a b : ℕ) → (a ≡ b) ⊎ ((a < b) ⊎ (b < a))
-three a b = elim (lt_or_le a b) [
+three a b = elim (cases_lt a b) [
   | inl h ↦ inr (inl h)
-  | inr h ↦ elim (lt_or_le b a) [
+  | inr h ↦ elim (cases_lt b a) [
     | inl k ↦ inr (inr k)
     | inr k ↦ inl (omega arith)
   ]
@@ -137,15 +127,15 @@ ends_gathered s t x ps ls lt es et = elim (three s.statement t.statement) [
   | inl h ↦
       both_one s.statement t.statement 0 s.statement ps (omega arith) (omega arith) ls
       ∙ (ap part_numbers (sym es)
-      ∙ sym (ends_by s t x true (nat_lt s.statement t.statement) (eq_yes s.statement t.statement h) refl))
+      ∙ sym (ends_by s t x true (nat_lt s.statement t.statement) (eq-eqb s.statement t.statement h) refl))
   | inr (inl h) ↦
       both_less s.statement t.statement 0 s.statement t.statement ps (omega arith) (omega arith) h lt
       ∙ (ap₂ (λ (p q : Part). part_numbers p ++ part_numbers q) (sym es) (sym et)
-      ∙ sym (ends_by s t x false true (eq_no s.statement t.statement (inl h)) (lt_yes s.statement t.statement h)))
+      ∙ sym (ends_by s t x false true (eq_no s.statement t.statement (inl h)) (lt-ltb s.statement t.statement h)))
   | inr (inr h) ↦
       both_more s.statement t.statement 0 s.statement t.statement ps (omega arith) (omega arith) h ls
       ∙ (ap₂ (λ (p q : Part). part_numbers p ++ part_numbers q) (sym et) (sym es)
-      ∙ sym (ends_by s t x false false (eq_no s.statement t.statement (inr h)) (lt_no s.statement t.statement
+      ∙ sym (ends_by s t x false false (eq_no s.statement t.statement (inr h)) (le-ltb s.statement t.statement
       (omega arith))))
 ]
 

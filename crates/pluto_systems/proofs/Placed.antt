@@ -5,10 +5,10 @@ use Rattle.std.specs.Prelude.{◌≤◌, ◌+ℤ◌, if◌then◌else◌}
 use Rattle.std.specs.List.{flat_map}
 use Rattle.std.proofs.lemmas.Int.{ints}
 use Rattle.std.proofs.lemmas.List.{length-append, length-reverse, length-take-le, length-drop, take-append-drop}
+use Rattle.std.proofs.lemmas.Bool.{cases_Bool}
 use Rattle.whole_numbers.specs.Affine.{Affine, value_of}
 use Rattle.whole_numbers.specs.Lists.{dot, zeros}
 use Rattle.whole_numbers.proofs.Dot.{dot-append, dot-zeros, length-zeros}
-use Rattle.stmt_graph.proofs.Counting.{either}
 use Rattle.farkas.specs.Unknowns.{Part, part_numbers}
 use Rattle.schedule_rows.specs.Items.{Row, numbers_of}
 use Rattle.pluto_systems.specs.Placing.{is_end, placed_parts, placed, gathered_parts, gathered, AreShaped, IsShaped}
@@ -53,7 +53,7 @@ parts_value a b s [] [] [] h e = refl
 parts_value a b s [] [] (c ∷ cs) h e = absurd (omega (arith, e))
 parts_value a b s [] (p ∷ ps) cs h e = absurd h
 parts_value a b s (l ∷ ls) [] cs h e = absurd h
-parts_value a b s (l ∷ ls) (p ∷ ps) cs h e = elim (either (is_end a b s)) [
+parts_value a b s (l ∷ ls) (p ∷ ps) cs h e = elim (cases_Bool (is_end a b s)) [
   | inl t ↦
       let g = gathered_parts a b (suc s) ps in
       let k = length-part p ∙ ap (λ (n : ℕ). n + 1) h.0 in

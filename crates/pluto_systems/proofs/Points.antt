@@ -6,10 +6,12 @@ use Rattle.std.specs.List.{flat_map}
 use Rattle.std.proofs.lemmas.Int.{ints}
 use Rattle.std.proofs.lemmas.List.{length-append, length-reverse, reverse-append}
 use Rattle.std.proofs.lemmas.List.Elements.{All-nil, All-cons, All-head, All-tail, All-append}
+use Rattle.std.proofs.lemmas.Bool.{cases_Bool}
 use Rattle.whole_numbers.specs.Affine.{Affine, value_of}
 use Rattle.whole_numbers.specs.Lists.{dot, zeros, sums}
 use Rattle.whole_numbers.proofs.Dot.{dot-append, dot-zeros, dot-sums, length-zeros, length-sums}
 use Rattle.whole_numbers.proofs.Ring.{mul_zero_left}
+use Rattle.whole_numbers.proofs.Entries.{all_front, all_back}
 use Rattle.affine_forms.specs.Parts.{variables_of}
 use Rattle.fractions.specs.Farkas.{AreNotNegative, HasFarkas}
 use Rattle.integer_sets.specs.Constraints.{Constraints, IsSized, variables_in}
@@ -18,11 +20,9 @@ use Rattle.iteration_domains.specs.Dependence.{Dependence}
 use Rattle.farkas.specs.Meaning.{rows_of}
 use Rattle.farkas.specs.declared.claim.Claim.TheVariants.{Legality, Bounding}
 use Rattle.scop_syntax.specs.Members.{In}
-use Rattle.stmt_graph.proofs.Counting.{either}
 use Rattle.null_space.specs.Narrowing.{Grows, sum_of_products}
 use Rattle.null_space.specs.Sizes.{AreLong}
-use Rattle.schedule_rows.proofs.Pairs.{all_front, all_back}
-use Rattle.farkas.specs.Unknowns.{Part, Unknowns, AreOf, part_numbers}
+use Rattle.farkas.specs.Unknowns.{Part, AreOf, part_numbers}
 use Rattle.farkas.specs.Unknowns as unknowns
 use Rattle.farkas.specs.Claims.{distance}
 use Rattle.schedule_rows.specs.Items.{Row, part_of, numbers_of}
@@ -58,7 +58,7 @@ gathered_not_negative a b s (p ∷ ps) h =
     let P : ℤ → Type 0 = λ x. pos 0 ≤ℤ x in
     let front = all_front P (part_numbers p) (flat_map part_numbers ps) h in
     let rest = gathered_not_negative a b (suc s) ps (all_back P (part_numbers p) (flat_map part_numbers ps) h) in
-    elim (either (is_end a b s)) [
+    elim (cases_Bool (is_end a b s)) [
       | inl t ↦ subst (λ (z : List ℤ). All P z) (sym (gathered_end a b s p ps t)) (All-append P (part_numbers p)
           (gathered_parts a b (suc s) ps) front rest)
       | inr t ↦ subst (λ (z : List ℤ). All P z) (sym (gathered_other a b s p ps t)) rest

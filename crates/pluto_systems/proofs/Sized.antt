@@ -6,13 +6,13 @@ use Rattle.std.specs.List.{flat_map}
 use Rattle.std.proofs.lemmas.Int.{ints}
 use Rattle.std.proofs.lemmas.List.{length-append, length-reverse, length-take-le, length-drop}
 use Rattle.std.proofs.lemmas.List.Elements.{All-nil, All-cons, All-head, All-tail, All-append}
+use Rattle.std.proofs.lemmas.Bool.{cases_Bool}
 use Rattle.whole_numbers.specs.Affine.{Affine}
 use Rattle.whole_numbers.specs.Lists.{zeros}
 use Rattle.whole_numbers.proofs.Dot.{length-zeros}
 use Rattle.affine_forms.specs.Parts.{variables_of}
 use Rattle.fractions.specs.Farkas.{AreNotNegative}
 use Rattle.integer_sets.specs.Constraints.{IsSized, variables_in}
-use Rattle.stmt_graph.proofs.Counting.{either}
 use Rattle.null_space.specs.Sizes.{AreLong}
 use Rattle.farkas.specs.Unknowns.{Part, part_numbers}
 use Rattle.schedule_rows.specs.Items.{Row, part_of, numbers_of}
@@ -33,7 +33,7 @@ parts_columns : (a b s : ℕ) (loops : List ℕ) (ps : List Part) (cs : List ℤ
 parts_columns a b s [] [] cs h e = refl
 parts_columns a b s [] (p ∷ ps) cs h e = absurd h
 parts_columns a b s (l ∷ ls) [] cs h e = absurd h
-parts_columns a b s (l ∷ ls) (p ∷ ps) cs h e = elim (either (is_end a b s)) [
+parts_columns a b s (l ∷ ls) (p ∷ ps) cs h e = elim (cases_Bool (is_end a b s)) [
   | inl t ↦
       let g = gathered_parts a b (suc s) ps in
       let k = length-part p in

@@ -1,10 +1,11 @@
 -- The kernel vectors of each statement's rows are few and small.
-use Rattle.std.proofs.Common.{◌≡◌, ℕ, zero, suc, ◌+◌, ◌<◌, ◌^◌, ℤ, List, [], ◌∷◌, refl, sym, ap, subst}
+use Rattle.std.proofs.Common.{◌≡◌, ℕ, zero, suc, ◌<◌, ◌^◌, ℤ, List, [], ◌∷◌, refl, sym, ap, subst}
 use Rattle.std.proofs.Common.{arith, length, All}
 use Rattle.std.specs.Prelude.{◌≤◌, slice_index_or}
 use Rattle.std.proofs.lemmas.List.Elements.{All-nil, All-get_or, All-head}
 use Rattle.null_space.specs.Narrowing.{narrowed_by, narrowed_all, units_from, kernel_vectors}
 use Rattle.null_space.specs.Sizes.{AreWithin, AreLong}
+use Rattle.null_space.proofs.Within.{units_length}
 use Rattle.pluto_systems.specs.Posing.{AreCoefficientRows, AreSmallVectors, vectors_for}
 use Rattle.pluto_systems.proofs.Lower.{SizeLaws}
 
@@ -32,14 +33,10 @@ narrowed_count laws (c ∷ cs) ns =
     let b = laws.most c ns in
     omega arith
 
-units_count : (n i k : ℕ) → length (units_from n i k) ≡ k
-units_count n i zero = refl
-units_count n i (suc k) = ap suc (units_count n (i + 1) k)
-
 kernel_count : SizeLaws → (n : ℕ) (rows : List (List ℤ)) → length (kernel_vectors n rows) ≤ n
 kernel_count laws n rows =
     let a = narrowed_count laws rows (units_from n 0 n) in
-    let b = units_count n 0 n in
+    let b = units_length n 0 n in
     omega arith
 
 pub small_vectors : SizeLaws → (loops : List ℕ) (rows : List (List (List ℤ))) → All (λ l. l ≤ 5) loops

@@ -23,16 +23,6 @@ mapped_more f xs done next i x y h at is pushed so_far =
     ∙ (append_assoc done (y ∷ []) rest
     ∙ (ap (λ z. done ++ (z ∷ rest)) is ∙ (ap (λ zs. done ++ zs) (sym here) ∙ so_far)))
 
--- one zero more
-pub zeros_step : (xs next whole : List ℤ) (n k : ℕ) → k < n → xs ++ zeros (n - k) ≡ whole → next ≡ xs ++ pos 0 ∷ []
-    → next ++ zeros (n - (k + 1)) ≡ whole
-zeros_step xs next whole n k h so_far is =
-    let rest = zeros (n - (k + 1)) in
-    let e : n - k ≡ suc (n - (k + 1)) = omega arith in
-    let here : zeros (n - k) ≡ pos 0 ∷ rest = ap zeros e in
-    ap (λ (zs : List ℤ). zs ++ rest) is
-    ∙ (append_assoc xs (pos 0 ∷ []) rest ∙ (ap (λ (zs : List ℤ). xs ++ zs) (sym here) ∙ so_far))
-
 -- a list with zeros put in, in three parts
 shifted_parts : (n k : ℕ) (cs : List ℤ) → n ≤ length cs → shifted n k cs ≡ take n cs ++ (zeros k ++ drop n cs)
 shifted_parts zero k cs h = refl

@@ -4,13 +4,13 @@ use Rattle.std.proofs.Common.{All, Option, Some, None, arith}
 use Rattle.std.proofs.lemmas.List.Elements.{All-nil, All-cons, All-head, All-tail}
 use Rattle.whole_numbers.specs.Affine.{Affine}
 use Rattle.whole_numbers.specs.Fits.{fits}
+use Rattle.whole_numbers.proofs.Entries.{get_map}
 use Rattle.form_text.specs.Names.{AllFit, IsFormOver}
 use Rattle.iteration_domains.specs.Model.{Modelled, KernelModel}
 use Rattle.quast_trees.specs.Source.{Source}
 use Rattle.quast_trees.specs.Tree.{Tree, initial, leaf, branch, bind, count, Speaks}
 use Rattle.quast_text.specs.Reading.{IsOneOf, IsTellable}
 use Rattle.dataflow.specs.Told.{IsHeld, HoldsNumbers, IsInstance, NamesInstances, IsQuastOver}
-use Rattle.dataflow.proofs.Sourcing.{get_map}
 
 -- the loops round each statement, by its number
 abbrev pub loops_of : KernelModel → List (List ℕ)

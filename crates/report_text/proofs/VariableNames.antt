@@ -1,12 +1,13 @@
 -- The names that forms of sources speak of are told apart.
-use Rattle.std.proofs.Common.{◌≡◌, ◌∙◌, ap, sym, subst, refl, ℕ, zero, suc, ◌^◌, ◌<◌, true, false}
+use Rattle.std.proofs.Common.{◌≡◌, ◌∙◌, ap, sym, subst, refl, ℕ, zero, suc, ◌^◌, ◌<◌, false}
 use Rattle.std.proofs.Common.{List, [], ◌∷◌, ◌++◌, drop, get_or, map, decimal}
 use Rattle.std.proofs.Common.{arith, append-nil, append_assoc, inr, inl}
 use Rattle.std.specs.Prelude.{◌≢◌, All}
 use Rattle.std.proofs.lemmas.Bool.{false≢true}
-use Rattle.std.proofs.lemmas.List.Elements.{All-nil, All-cons, All-head, All-tail}
+use Rattle.std.proofs.lemmas.List.Elements.{All-head, All-tail}
 use Rattle.std.proofs.lemmas.Fmt.{decimal_injective}
 use Rattle.scop_lexer.specs.Bytes.{Text, is_letter}
+use Rattle.whole_numbers.proofs.Entries.{all_front}
 use Rattle.scop_lexer.specs.Words.{IsName}
 use Rattle.scop_syntax.specs.Members.{In, Sorted}
 use Rattle.scop_syntax.specs.Tree.{Declaration, Program}
@@ -42,11 +43,6 @@ words_told (x ∷ xs) s w =
 sorted_front : {A : Type 0} (R : A → A → Type 0) (xs ys : List A) → Sorted R (xs ++ ys) → Sorted R xs
 sorted_front R [] ys s = tt
 sorted_front R (x ∷ xs) ys s = ((λ y i. s.0 y (in_front y xs ys i)), sorted_front R xs ys s.1)
-
-all_front : {A : Type 0} (P : A → Type 0) (xs ys : List A) → All P (xs ++ ys) → All P xs
-all_front P [] ys all = All-nil P
-all_front P (x ∷ xs) ys all =
-    All-cons P x xs (All-head P x (xs ++ ys) all) (all_front P xs ys (All-tail P x (xs ++ ys) all))
 
 -- ---- numbered names
 

@@ -3,6 +3,7 @@ use Rattle.std.proofs.Common.{◌≡◌, ℤ, pos, List, [], ◌∷◌, ◌++◌
 use Rattle.std.specs.Prelude.{◌≤ℤ◌, ◌<ℤ◌, ⊤}
 use Rattle.std.proofs.lemmas.Int.{ints}
 use Rattle.whole_numbers.proofs.Order.{le_or_lt}
+use Rattle.whole_numbers.proofs.Lexicographic.{LexLess-rest}
 use Rattle.whole_numbers.specs.Lexicographic.{LexLess}
 use Rattle.scop_syntax.specs.Walk.{Instance}
 use Rattle.schedule_rows.specs.Items.{Marked, Block, scalar, band, phi, values, band_values, closed_by}
@@ -71,14 +72,10 @@ pub band_same : (ms : List Marked) (x y : Instance) → AreEqual ms x y → band
 band_same [] x y h = refl
 band_same (m ∷ ms) x y h = ap₂ (λ (v : ℤ) (vs : List ℤ). v ∷ vs) h.0 (band_same ms x y h.1)
 
-pub less_behind_one : (xs front back : List ℤ) → LexLess front back → LexLess (xs ++ front) (xs ++ back)
-less_behind_one [] front back h = h
-less_behind_one (x ∷ xs) front back h = inr (refl, less_behind_one xs front back h)
-
 pub less_behind : (xs ys front back : List ℤ) → xs ≡ ys → LexLess front back
     → LexLess (xs ++ front) (ys ++ back)
 less_behind xs ys front back e h =
-    subst (λ (zs : List ℤ). LexLess (xs ++ front) (zs ++ back)) e (less_behind_one xs front back h)
+    subst (λ (zs : List ℤ). LexLess (xs ++ front) (zs ++ back)) e (LexLess-rest xs front back h)
 
 -- the values come in order, or are one and E holds
 pub along_values : (bs : List Block) (x y : Instance) (E : Type 0) → Along bs x y E

@@ -104,7 +104,7 @@ band_rows_more : (ms : List Marked) (m : Marked) → band_rows (ms ++ m ∷ []) 
 band_rows_more [] m = refl
 band_rows_more (n ∷ ms) m = ap (λ l. n.row ∷ l) (band_rows_more ms m)
 
-restricts_length : (m : ℕ) (ms : List Marked) (ds kept : List Dependence) → Restricts m ms ds kept
+pub restricts_length : (m : ℕ) (ms : List Marked) (ds kept : List Dependence) → Restricts m ms ds kept
     → length kept ≤ length ds
 restricts_length m ms [] kept h = let e = ap length h in omega arith
 restricts_length m ms (d ∷ ds) kept (inl h) = let k = restricts_length m ms ds kept h.1 in omega arith

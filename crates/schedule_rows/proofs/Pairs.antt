@@ -12,6 +12,7 @@ use Rattle.fractions.specs.Fractions.{value_over}
 use Rattle.fractions.specs.Farkas.{HasFarkas, two_rows}
 use Rattle.fractions.proofs.Combination.{farkas_of_system}
 use Rattle.whole_numbers.proofs.Ring.{mul_one_right}
+use Rattle.whole_numbers.proofs.Entries.{all_front, all_back}
 use Rattle.farkas.specs.Claims.{distance, slack}
 use Rattle.schedule_rows.specs.Posed.{IsLegal, IsBounded}
 use Rattle.schedule_rows.proofs.Along.{le_apart}
@@ -42,15 +43,6 @@ distance-value m d r params x y hs ht ls lt h =
     let fy : phi r y ≡ dot q.coefficients y.turns +ℤ q.shift =
     ap (λ k. dot k.coefficients y.turns +ℤ k.shift) pt in
     omega (arith, ints)
-
-pub all_front : {X : Type 0} (P : X → Type 0) (xs ys : List X) → All P (xs ++ ys) → All P xs
-all_front P [] ys h = All-nil P
-all_front P (x ∷ xs) ys h =
-    All-cons P x xs (All-head P x (xs ++ ys) h) (all_front P xs ys (All-tail P x (xs ++ ys) h))
-
-pub all_back : {X : Type 0} (P : X → Type 0) (xs ys : List X) → All P (xs ++ ys) → All P ys
-all_back P [] ys h = h
-all_back P (x ∷ xs) ys h = all_back P xs ys (All-tail P x (xs ++ ys) h)
 
 -- the pairs of a dependence that is restricted to equal values are its pairs with equal values
 pub equal_to : (m : ℕ) (d : Dependence) (r : Row) (params : List ℤ) (x y : Instance) → Suits d r

@@ -1,9 +1,7 @@
 -- What the states of a run keep, and what its end says.
-use Rattle.std.proofs.Common.{◌≡◌, ℕ, ◌<◌, ℤ, pos, List, [], ◌∷◌, ◌++◌, refl, sym, ◌∙◌, ap, subst, ◌⊎◌, inl}
-use Rattle.std.proofs.Common.{inr, arith, length}
-use Rattle.std.specs.Prelude.{◌≤◌, ⊤}
-use Rattle.std.proofs.lemmas.Int.{ints}
-use Rattle.whole_numbers.proofs.Order.{le_or_lt}
+use Rattle.std.proofs.Common.{◌≡◌, ℕ, ◌<◌, ℤ, List, [], ◌∷◌, ◌++◌, refl, sym, ◌∙◌, ap, subst, ◌⊎◌, inl}
+use Rattle.std.proofs.Common.{inr, length}
+use Rattle.std.specs.Prelude.{⊤}
 use Rattle.scop_syntax.specs.Members.{In}
 use Rattle.scop_syntax.specs.Walk.{Instance}
 use Rattle.stmt_graph.specs.Graph.{number_in}
@@ -12,6 +10,7 @@ use Rattle.schedule_rows.specs.Bands.{AreKept, AreEqual, Rises, Along}
 use Rattle.iteration_domains.specs.Dependence.{Dependence}
 use Rattle.schedule_rows.specs.Dependences.{Relates, Suits, equal_at, edge_of, edges_of}
 use Rattle.stmt_graph.specs.Graph.{IsNumbering}
+use Rattle.stmt_graph.proofs.Counting.{lt_or_eq}
 use Rattle.scop_syntax.proofs.Members.{in_map}
 use Rattle.schedule_rows.specs.Posed.{loops_of}
 use Rattle.schedule_rows.specs.Next.{State, restricted, Restricts, Uncuts, Appends, Goes, Ends, IsSizedDep}
@@ -130,12 +129,6 @@ uncuts_from numbers (c ∷ ds) kept d (inr u) i = elim (subst (λ (l : List Depe
   | inr j ↦ inr (uncuts_from numbers ds u.0 d u.2 j)
 ]
 
-le_cases : (a b : ℕ) → a ≤ b → (a < b) ⊎ (a ≡ b)
-le_cases a b h = elim (le_or_lt (pos b) (pos a)) [
-  | inl k ↦ inr (omega (arith, ints))
-  | inr k ↦ inl (omega (arith, ints))
-]
-
 -- a dependence's numbers do not fall
 numbers_rise : (loops : List ℕ) (ds : List Dependence) (numbers : List ℕ) (e : Dependence)
     → IsNumbering (length loops) (edges_of ds) numbers → IsSizedDep loops e
@@ -144,7 +137,7 @@ numbers_rise : (loops : List ℕ) (ds : List Dependence) (numbers : List ℕ) (e
 numbers_rise loops ds numbers e n h i =
     let le = n.rising e.source.statement e.target.statement h.source h.target
     (e.target.statement ∷ [], (in_map edge_of e ds i, refl)) in
-    le_cases (number_in numbers e.source.statement) (number_in numbers e.target.statement) le
+    lt_or_eq (number_in numbers e.source.statement) (number_in numbers e.target.statement) le
 
 sized_more : (loops : List ℕ) (ms : List Marked) (r : Marked) → AreSizedRows loops ms
     → ((s : ℕ) → length (part_of r.row s).coefficients ≡ loops_of loops s) → AreSizedRows loops (ms ++ r ∷ [])

@@ -1,20 +1,19 @@
 -- The items of a schedule have a number for each statement, and small ones.
-use Rattle.std.proofs.Common.{◌≡◌, ℕ, zero, suc, ℤ, pos, List, [], ◌∷◌, ◌++◌, refl, sym, ap, subst, inl, inr, arith}
-use Rattle.std.proofs.Common.{length}
+use Rattle.std.proofs.Common.{◌≡◌, ℕ, zero, suc, ℤ, pos, List, [], ◌∷◌, ◌++◌, sym, subst, inl, inr, arith}
 use Rattle.std.specs.Prelude.{◌≤ℤ◌, All, reverse, slice_index_or}
 use Rattle.std.specs.List.{flat_map}
 use Rattle.std.proofs.lemmas.Int.{ints}
 use Rattle.std.proofs.lemmas.List.{reverse-append}
 use Rattle.std.proofs.lemmas.List.Elements.{All-nil, All-cons, All-head, All-tail}
+use Rattle.whole_numbers.proofs.Entries.{all_front, all_back}
 use Rattle.fractions.specs.Farkas.{AreNotNegative}
 use Rattle.farkas.specs.Unknowns.{Part, part_numbers}
 use Rattle.iteration_domains.specs.Dependence.{Dependence}
-use Rattle.schedule_rows.specs.Items.{Row, Marked, Block, scalar, band, part_of, closed_by}
+use Rattle.schedule_rows.specs.Items.{Row, Marked, Block, scalar, band, closed_by}
 use Rattle.schedule_rows.specs.Sized.{IsSmall, IsSizedRow, AreSizedRows, IsSizedBlock, AreSized}
 use Rattle.schedule_rows.specs.Posed.{IsPosed}
 use Rattle.schedule_rows.specs.Next.{State, IsWithin, Goes, Ends}
 use Rattle.schedule_rows.specs.Outcomes.{Runs, IsSchedule}
-use Rattle.schedule_rows.proofs.Pairs.{all_front, all_back}
 use Rattle.schedule_rows.proofs.Reading.{next_goes, next_ends}
 
 -- what holds of a list turned round holds of the list

@@ -8,6 +8,7 @@ use Rattle.whole_numbers.specs.Floor.{floor}
 use Rattle.whole_numbers.specs.Lists.{zeros}
 use Rattle.whole_numbers.specs.Lexicographic.{LexLess}
 use Rattle.whole_numbers.proofs.Floors.{floor_is, floor_at_least}
+use Rattle.whole_numbers.proofs.Lexicographic.{LexLess-front}
 use Rattle.scop_syntax.specs.Members.{In}
 use Rattle.scop_syntax.specs.Walk.{Instance}
 use Rattle.schedule_rows.specs.Items.{Marked, Block, scalar, band, phi, values, band_values}
@@ -77,14 +78,6 @@ along_tiles size (band ms ∷ bs) x y E h a = elim (band_tiles size ms x y h a.0
   | inr e ↦ inr (ap (λ (v : ℤ). v ∷ []) e.0, e.1)
 ]
 
-pub less_front : (xs ys front back : List ℤ) → length xs ≡ length ys → LexLess xs ys
-    → LexLess (xs ++ front) (ys ++ back)
-less_front xs [] front back e h = absurd h
-less_front [] (y ∷ ys) front back e h = absurd (omega (arith, e))
-less_front (x ∷ xs) (y ∷ ys) front back e (inl l) = inl l
-less_front (x ∷ xs) (y ∷ ys) front back e (inr h) =
-    inr (h.0, less_front xs ys front back (omega (arith, e)) h.1)
-
 pub length-band_values : (ms : List Marked) (x : Instance) → length (band_values ms x) ≡ length ms
 length-band_values [] x = refl
 length-band_values (m ∷ ms) x = ap suc (length-band_values ms x)
@@ -123,10 +116,10 @@ along_good size bs n x y h sizes later a = elim (along_tiles size bs x y (x.numb
         (tile size bs y ++ values_part bs n y) e.0
         (less_behind (tile size bs x) (tile size bs y) (values_part bs n x) (values_part bs n y) e.1
         (elim (along_values bs x y (x.number ≡ y.number) a) [
-          | inl v ↦ less_front (values bs x) (values bs y) (turns_part n x) (turns_part n y)
+          | inl v ↦ LexLess-front (values bs x) (values bs y) (turns_part n x) (turns_part n y)
               (length-values bs x y) v
           | inr q ↦ less_behind (values bs x) (values bs y) (turns_part n x) (turns_part n y) q.0
-              (less_front x.turns y.turns (last_part n x) (last_part n y) (sizes q.1) (later q.1))
+              (LexLess-front x.turns y.turns (last_part n x) (last_part n y) (sizes q.1) (later q.1))
         ])),
   )
 ]

@@ -1,16 +1,16 @@
 -- At full rank the item values of one statement's instances differ: item values, then the statement's number,
 -- are in order.
-use Rattle.std.proofs.Common.{◌≡◌, ℕ, ◌<◌, ℤ, pos, negsuc, ◌*ℤ◌, List, [], ◌∷◌, ◌++◌, refl, sym, ◌∙◌, ap, ap₂}
+use Rattle.std.proofs.Common.{◌≡◌, ℕ, ◌<◌, ℤ, pos, negsuc, List, [], ◌∷◌, ◌++◌, sym, ◌∙◌, ap}
 use Rattle.std.proofs.Common.{subst, inl, inr, arith, length, All}
 use Rattle.std.specs.Prelude.{◌+ℤ◌, ◌-ℤ◌}
 use Rattle.std.proofs.lemmas.Int.{ints}
 use Rattle.std.proofs.lemmas.List.Elements.{All-nil, All-cons, All-append, All-head, All-tail}
 use Rattle.whole_numbers.specs.Lists.{dot, sums, multiples}
 use Rattle.whole_numbers.specs.Lexicographic.{LexLess}
-use Rattle.whole_numbers.proofs.Lexicographic.{LexLess-irrefl}
-use Rattle.whole_numbers.proofs.Dot.{dot-sums, dot-multiples, dot-nil, dot_comm, length-sums}
+use Rattle.whole_numbers.proofs.Lexicographic.{LexLess-irrefl, LexLess-front}
+use Rattle.whole_numbers.proofs.Dot.{dot-sums, dot-multiples, dot_comm, length-sums}
 use Rattle.whole_numbers.proofs.Dot.{length-multiples}
-use Rattle.whole_numbers.proofs.Ring.{mul_one_right, mul_zero_right}
+use Rattle.whole_numbers.proofs.Lists.{same_products}
 use Rattle.scop_syntax.specs.Members.{In}
 use Rattle.scop_syntax.specs.Walk.{Instance}
 use Rattle.stmt_graph.specs.Graph.{number_in}
@@ -24,7 +24,7 @@ use Rattle.schedule_rows.specs.Outcomes.{IsSchedule, Runs}
 use Rattle.schedule_rows.proofs.Along.{along_values}
 use Rattle.schedule_rows.proofs.Reading.{next_ends}
 use Rattle.schedule_rows.proofs.Running.{schedule_along}
-use Rattle.schedule_rows.proofs.Tiling.{less_front, length-values, length-band_values}
+use Rattle.schedule_rows.proofs.Tiling.{length-values, length-band_values}
 use Rattle.schedule_rows.proofs.Measuring.{rows_closed, rows_scalar}
 use Rattle.schedule_rows.proofs.Determined.{same_parts, same_head, same_tail}
 use Rattle.null_space.specs.Narrowing.{kernel_vectors}
@@ -81,23 +81,6 @@ orthogonal (r ∷ rows) x y same h =
     (omega (arith, ints))
     (orthogonal rows x y same (All-tail (λ q. phi q x ≡ phi q y) r rows h))
 
-rest : (x y : ℤ) (xs ys w : List ℤ) → (x *ℤ pos 0) +ℤ dot xs w ≡ (y *ℤ pos 0) +ℤ dot ys w
-    → dot xs w ≡ dot ys w
-rest x y xs ys w h = let a = mul_zero_right x in let b = mul_zero_right y in omega (arith, ints)
-
-lists_same : (xs ys : List ℤ) → length xs ≡ length ys → ((w : List ℤ) → dot xs w ≡ dot ys w) → xs ≡ ys
-lists_same [] [] h e = refl
-lists_same [] (y ∷ ys) h e = absurd (omega (arith, h))
-lists_same (x ∷ xs) [] h e = absurd (omega (arith, h))
-lists_same (x ∷ xs) (y ∷ ys) h e =
-    let one = e (pos 1 ∷ []) in
-    let a = mul_one_right x in
-    let b = mul_one_right y in
-    let c = dot-nil xs in
-    let d = dot-nil ys in
-    ap₂ (λ (v : ℤ) (vs : List ℤ). v ∷ vs) (omega (arith, ints))
-    (lists_same xs ys (omega (arith, h)) (λ w. rest x y xs ys w (e (pos 0 ∷ w))))
-
 -- the law of full rank: with no kernel vector left only 0 is orthogonal to all rows
 abbrev pub LeavesOnly0 : Type 0
 LeavesOnly0 =
@@ -113,7 +96,7 @@ pub turns_same : LeavesOnly0 → (loops : List ℕ) (bs : List Block) (x y : Ins
 turns_same full_rank loops bs x y full same at lx ly e =
     let size = lx ∙ sym ly in
     let o = orthogonal (rows_in bs) x y same (rows_equal bs x y e) in
-    lists_same x.turns y.turns size (λ w.
+    same_products x.turns y.turns size (λ w.
     let z = full_rank (loops_of loops x.number) (coefficients_in (rows_in bs) x.number)
     (difference_of x.turns y.turns)
     (length-difference x.turns y.turns size ∙ lx) (full x.number at) o w in
@@ -145,7 +128,7 @@ pub times_rise : LeavesOnly0 → (m : ℕ) (loops : List ℕ) (deps : List Depen
 times_rise full_rank m loops deps blocks sized s d params x y i l r later =
     elim (along_values blocks x y (x.number ≡ y.number)
     (schedule_along m loops deps blocks sized s d params x y i l r)) [
-      | inl v ↦ less_front (values blocks x) (values blocks y) (pos x.number ∷ []) (pos y.number ∷ [])
+      | inl v ↦ LexLess-front (values blocks x) (values blocks y) (pos x.number ∷ []) (pos y.number ∷ [])
           (length-values blocks x y) v
       | inr e ↦
           let z = sized d i in

@@ -25,11 +25,6 @@ use Rattle.scop_syntax.specs.Execution.{cell_count, total_cells}
 use Rattle.scop_meaning.specs.Instances.{AreExtents, AreLayout}
 
 -- an element of two lists, one behind the other
-pub get_front : {A : Type 0} (xs ys : List A) (i : ℕ) → i < length xs → slice_get (xs ++ ys) i ≡ slice_get xs i
-get_front [] ys i h = absurd (omega arith)
-get_front (x ∷ xs) ys zero h = refl
-get_front (x ∷ xs) ys (suc i) h = get_front xs ys i (omega arith)
-
 pub get_back : {A : Type 0} (xs ys : List A) (i : ℕ) → length xs ≤ i
     → slice_get (xs ++ ys) i ≡ slice_get ys (i - length xs)
 get_back [] ys i h = let z : i ≡ i - 0 = omega arith in ap (slice_get ys) z

@@ -8,7 +8,7 @@ use Rattle.kernel_grammar.specs.Kernel.{assigned, Head, branch, loop, head_eleme
 use Rattle.scop_roles.specs.Formula.{Formula, index, formula}
 use Rattle.scop_units.specs.Words.{Words}
 use Rattle.scop_units.specs.Scopes.{look}
-use Rattle.scop_units.specs.Loops.{LoopHead, loop_of, loop_faults}
+use Rattle.scop_units.specs.Loops.{LoopHead}
 use Rattle.scop_units.specs.Loops as loops
 use Rattle.scop_units.specs.Judging.{width, formula_in, second_at, step_at, changed, change, loop_head, loop_in}
 use Rattle.scop_units.specs.Judging.{condition}

@@ -19,7 +19,7 @@ use Rattle.scop_units.specs.Loops.{loop_of}
 use Rattle.scop_units.specs.Judging.{width, formula_in, loop_in, condition, head_faults, behind_head, compared}
 use Rattle.scop_units.specs.Judging.{statements_in, statements_in_all, item_faults, items_faults}
 use Rattle.scop_units.specs.Programs.{headed_by, wrapped, item_trees, all_trees}
-use Rattle.scop_pass.specs.Machine.{Frame, guarded, looped, Pending, idle, placed, valued, State, completed, complete}
+use Rattle.scop_pass.specs.Machine.{Frame, idle, placed, State, completed, complete}
 use Rattle.scop_pass.specs.Machine.{expects, run, without_loop, whole_statement, stated}
 use Rattle.scop_pass.specs.Machine as machine
 use Rattle.scop_pass.proofs.Formulas.{formula-of-written}

@@ -12,7 +12,7 @@ use Rattle.scop_units.specs.Judging.{width, parameter_faults, parameters_faults,
 use Rattle.scop_units.specs.Judging.{behind_names, names_end, behind_declared, others_at, declared_at, items_at}
 use Rattle.scop_units.specs.Judging.{first_scope, header_scope, body_scope, faults_of}
 use Rattle.scop_units.specs.Programs.{program_spelled, arrays_of}
-use Rattle.scop_pass.specs.Machine.{idle, State, expects, completed, first_state, named, run, program_at}
+use Rattle.scop_pass.specs.Machine.{State, completed, first_state, named, run, program_at}
 use Rattle.scop_pass.specs.Machine as machine
 use Rattle.scop_pass.proofs.Pieces.{pieces-append}
 use Rattle.scop_pass.proofs.Driving.{run-append, run-elements}

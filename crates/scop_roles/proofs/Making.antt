@@ -4,7 +4,7 @@ use Rattle.std.proofs.Common.{refl, append_assoc}
 use Rattle.std.specs.Prelude.{OnOk, IfOk}
 use Rattle.std.specs.declared.alloc.AllocError.{AllocError}
 use Rattle.whole_numbers.specs.Affine.{Affine}
-use Rattle.scop_syntax.specs.Tree.{Access, Expression, affine, read, Test}
+use Rattle.scop_syntax.specs.Tree.{Expression, affine, read, Test}
 use Rattle.scop_syntax.specs.Tree as scop
 use Rattle.expression_grammar.specs.declared.token.Op.{Op}
 use Rattle.expression_grammar.specs.declared.token.Sign.{Sign}

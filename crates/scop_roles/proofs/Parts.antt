@@ -1,6 +1,7 @@
 -- The parts of a formula without faults in a role have none in theirs.
 use Rattle.std.proofs.Common.{◌≡◌, ℕ, Bool, true, false, ◌&&◌, ◌||◌, List, ◌++◌, Option, None, ap, sym, subst, ◌∙◌}
 use Rattle.std.proofs.Common.{refl, arith}
+use Rattle.std.proofs.lemmas.Bool.{and_parts}
 use Rattle.std.specs.Prelude.{if◌then◌else◌, not}
 use Rattle.expression_grammar.specs.declared.token.Op.{Op}
 use Rattle.expression_grammar.specs.declared.token.Op.TheVariants as op
@@ -54,11 +55,6 @@ unary_value n sign.Complement f at unsigned h =
 unary_value n sign.Not f at unsigned h =
     (judged_none (faults n role.Value f) at (own n role.Value (unary sign.Not f at)) h).0
 
-both_true : (a b : Bool) → (a && b) ≡ true → (a ≡ true) × (b ≡ true)
-both_true true true h = (refl, refl)
-both_true true false h = absurd (grind (arith, h))
-both_true false b h = absurd (grind (arith, h))
-
 -- a signed value has no fault as a signed part
 pub signed_unary : (n : ℕ) (s : Sign) (f : Formula) (at : ℕ) → is_signed (unary s f at) ≡ true
     → first (faults n role.Value (unary s f at)) ≡ None → first (faults n role.Signed (unary s f at)) ≡ None
@@ -74,7 +70,7 @@ signed_unary n sign.Not f at signed h = absurd (grind (arith, signed))
 pub signed_binary : (n : ℕ) (o : Op) (f g : Formula) (at : ℕ) → is_signed (binary o f g at) ≡ true
     → first (faults n role.Value (binary o f g at)) ≡ None → first (faults n role.Signed (binary o f g at)) ≡ None
 signed_binary n o f g at signed h =
-    let b = both_true (is_sum_or_product o) (is_signed f && is_signed g) signed in
+    let b = and_parts (is_sum_or_product o) (is_signed f && is_signed g) signed in
     let value_side : side_role o (is_signed f && is_signed g) role.Value ≡ role.Signed =
     sum_sides o (is_signed f && is_signed g) role.Value b.0 ∙ ap (λ x. term_role x role.Value) b.1 in
     let signed_side : side_role o (is_signed f && is_signed g) role.Signed ≡ role.Signed =

@@ -1,9 +1,10 @@
 -- How large the numbers of sums and multiples of forms get.
-use Rattle.std.proofs.Common.{◌≡◌, ℕ, zero, suc, ◌+◌, ◌*◌, ◌^◌, ◌≤◌, ℤ, pos, negsuc, Bool, true, false, nat_le, List}
-use Rattle.std.proofs.Common.{[], ◌∷◌, length, set, length-set, ◌∙◌, refl, arith, mul-le-mul}
-use Rattle.std.specs.Prelude.{◌*ℤ◌, ◌&&◌, unsigned_abs}
+use Rattle.std.proofs.Common.{◌≡◌, ℕ, zero, suc, ◌+◌, ◌*◌, ◌^◌, ◌≤◌, ℤ, pos, negsuc, true, nat_le, List}
+use Rattle.std.proofs.Common.{[], ◌∷◌, length, set, length-set, ◌∙◌, arith, mul-le-mul}
+use Rattle.std.specs.Prelude.{◌*ℤ◌, unsigned_abs}
 use Rattle.std.specs.List.{list_all}
 use Rattle.std.proofs.lemmas.Int.{unsigned_abs-mul}
+use Rattle.std.proofs.lemmas.Bool.{and_parts}
 use Rattle.whole_numbers.specs.Lists.{sums, multiples, zeros}
 use Rattle.whole_numbers.specs.Affine.{Affine, form_of, multiple_of_form}
 use Rattle.whole_numbers.proofs.Dot.{length-multiples, length-zeros}
@@ -54,22 +55,17 @@ multiple_wide n x f g e a is =
       constant = let p = abs_product x f.constant (2 ^ 20) (2 ^ 20) a is.constant in omega arith;
     }
 
-both_true : (a b : Bool) → (a && b) ≡ true → (a ≡ true) × (b ≡ true)
-both_true true true h = (refl, refl)
-both_true true false h = absurd (grind (arith, h))
-both_true false b h = absurd (grind (arith, h))
-
 -- the test of the limits says them
 all_within : (xs : List ℤ) → list_all is_small xs ≡ true → AreAtMost 16 xs
 all_within [] h = tt
 all_within (x ∷ xs) h =
-    let b = both_true (is_small x) (list_all is_small xs) h in
+    let b = and_parts (is_small x) (list_all is_small xs) h in
     let small = b.0 in
     (grind arith, all_within xs b.1)
 
 pub within_affine : (n : ℕ) (f : Affine) → length f.coefficients ≡ n → is_within f ≡ true → IsAffine n f
 within_affine n f e h =
-    let b = both_true (list_all is_small f.coefficients) (nat_le (unsigned_abs f.constant) (2 ^ 20)) h in
+    let b = and_parts (list_all is_small f.coefficients) (nat_le (unsigned_abs f.constant) (2 ^ 20)) h in
     let small = b.1 in
     record { entries = e; coefficients = all_within f.coefficients b.0; constant = grind arith }
 

@@ -1,12 +1,12 @@
 -- The writers of a cell that an access touches conflict with the access's place.
-use Rattle.std.proofs.Common.{◌≡◌, ℕ, true, ℤ, List, Option, Some, None, inl, inr, ap₂, sym, ◌∙◌, refl}
+use Rattle.std.proofs.Common.{◌≡◌, ℕ, List, Option, Some, None, inl, inr, sym, ◌∙◌, refl}
 use Rattle.std.specs.Prelude.{slice_get, option_and_then}
 use Rattle.std.specs.Option.{option_map}
 use Rattle.scop_syntax.specs.Tree.{Access}
 use Rattle.scop_syntax.specs.Walk.{Visit}
-use Rattle.scop_syntax.specs.Cells.{Cell, accesses, cell_at, cell_of, written, PlacesConflict}
-use Rattle.scop_syntax.specs.Writers.{writes, last_writer, next_writer, last_of, next_of}
-use Rattle.scop_syntax.proofs.Writers.{cell_same, last_is, next_is}
+use Rattle.scop_syntax.specs.Cells.{Cell, accesses, cell_at, cell_of, PlacesConflict}
+use Rattle.scop_syntax.specs.Writers.{last_writer, next_writer, last_of, next_of}
+use Rattle.scop_syntax.proofs.Writers.{last_is, next_is, writer_of}
 
 then_from : {A B : Type 0} (f : A → Option B) (o : Option A) (y : B) → option_and_then f o ≡ Some y
     → (x : A) × (o ≡ Some x) × (f x ≡ Some y)
@@ -27,12 +27,6 @@ touches visits j a c h =
     (slice_get visits j) c h in
     let g = map_from (λ access. cell_of access v.0.point) (slice_get (accesses v.0.body) a) c v.2 in
     (v.0, g.0, v.1, g.1, g.2)
-
-writer_of : (o : Option Visit) (c : Cell) → writes o c ≡ true → (w : Visit) × (o ≡ Some w) × (written w ≡ c)
-writer_of None c h = absurd cc
-writer_of (Some w) c h =
-    let s = cell_same (written w) c h in
-    (w, refl, ap₂ (λ (a : ℕ) (xs : List ℤ). record { array = a; subscripts = xs }) s.0 s.1)
 
 pub last_conflicts : (visits : List Visit) (j a i : ℕ) → last_of visits j a ≡ Some i → PlacesConflict visits i j
 last_conflicts visits j a i h =

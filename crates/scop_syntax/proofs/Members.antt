@@ -1,9 +1,10 @@
 -- Elements of lists and of lists in order.
 use Rattle.std.proofs.Common.{◌≡◌, ℕ, zero, suc, ◌+◌, ◌<◌, Bool, true, false, ℤ, pos, negsuc, List, [], ◌∷◌, ◌++◌, map}
 use Rattle.std.proofs.Common.{Some, ◌⊎◌, inl, inr, ap, subst, sym, refl, arith, length, get_or}
-use Rattle.std.specs.Prelude.{◌≤◌, ◌+ℤ◌, ◌≤ℤ◌, ◌<ℤ◌, slice_get, if◌then◌else◌}
+use Rattle.std.specs.Prelude.{◌≤◌, ◌+ℤ◌, ◌≤ℤ◌, ◌<ℤ◌, slice_get, if◌then◌else◌, All}
 use Rattle.std.specs.Int.Signed.{le_z}
 use Rattle.std.proofs.lemmas.Int.{ints}
+use Rattle.std.proofs.lemmas.List.Elements.{All-head, All-tail}
 use Rattle.scop_syntax.specs.Members.{In, Sorted}
 use Rattle.scop_syntax.specs.Walk.{turns, most_turns, loop_walk, Falls}
 
@@ -181,3 +182,19 @@ nat_cases zero (suc j) f g h = f (omega arith)
 nat_cases (suc i) zero f g h = h (omega arith)
 nat_cases (suc i) (suc j) f g h =
     nat_cases i j (λ l. f (omega (arith, l))) (λ e. g (ap suc e)) (λ l. h (omega (arith, l)))
+
+-- elements by their places, and what holds of each
+pub member_at : {A : Type 0} (xs : List A) (k : ℕ) (x : A) → x ≡ get_or xs k x → k < length xs → In x xs
+member_at [] k x is inside = absurd (omega (arith, inside))
+member_at (y ∷ ys) zero x is inside = inl is
+member_at (y ∷ ys) (suc k) x is inside = inr (member_at ys k x is (omega (arith, inside)))
+
+pub in_at : {A : Type 0} (xs : List A) (n : ℕ) (d : A) → n < length xs → In (get_or xs n d) xs
+in_at [] n d h = absurd (omega arith)
+in_at (x ∷ xs) zero d h = inl refl
+in_at (x ∷ xs) (suc n) d h = inr (in_at xs n d (omega arith))
+
+pub all_in : {A : Type 0} (P : A → Type 0) (xs : List A) (x : A) → All P xs → In x xs → P x
+all_in P [] x all h = absurd h
+all_in P (y ∷ ys) x all (inl e) = subst P (sym e) (All-head P y ys all)
+all_in P (y ∷ ys) x all (inr h) = all_in P ys x (All-tail P y ys all) h

@@ -1,11 +1,13 @@
 -- The walk stands in the order of its instances.
-use Rattle.std.proofs.Common.{◌≡◌, ℕ, suc, ◌+◌, ◌<◌, true, false, ℤ, pos, List, [], ◌∷◌, map, Some, inl, inr, subst}
-use Rattle.std.proofs.Common.{sym, refl, arith}
+use Rattle.std.proofs.Common.{◌≡◌, ℕ, suc, ◌+◌, ◌<◌, true, ℤ, pos, List, [], ◌∷◌, map, Some, inl, inr, subst, length}
+use Rattle.std.proofs.Common.{sym, refl, arith, ap, ◌∙◌, ◌⊎◌, ◌++◌}
 use Rattle.std.specs.Prelude.{◌≤◌, ◌↔◌, slice_get, nat_eq, ⊤}
 use Rattle.std.proofs.lemmas.Int.{ints}
 use Rattle.std.proofs.lemmas.Bool.{eq-eqb}
+use Rattle.std.proofs.lemmas.List.{take_all}
 use Rattle.whole_numbers.specs.Lexicographic.{LexLess}
-use Rattle.whole_numbers.proofs.Lexicographic.{LexLess-irrefl, LexLess-asym}
+use Rattle.whole_numbers.proofs.Lexicographic.{LexLess-irrefl, LexLess-asym, LexLess-append}
+use Rattle.whole_numbers.proofs.Tests.{nat_eq_below}
 use Rattle.scop_syntax.specs.Tree.{Tree, loop, guard, statement, Trees, none, more}
 use Rattle.scop_syntax.specs.Members.{In, Sorted}
 use Rattle.scop_syntax.specs.Walk.{all_hold, turn_point, condition_at, most_turns, turns, statements_in}
@@ -73,14 +75,11 @@ mutual
 nat_eq_refl : (n : ℕ) → nat_eq n n ≡ true
 nat_eq_refl n = eq-eqb n n refl
 
-nat_eq_false : (m n : ℕ) → m < n → nat_eq m n ≡ false
-nat_eq_false m n h = grind arith
-
 -- no loop is common to statements of two items
 apart : (n m k : ℕ) (ks ls : List ℕ) → StartsIn n m ks → StartsIn (n + m) k ls → common ks ls ≡ 0
 apart n m k [] ls g h = refl
 apart n m k (i ∷ is) [] g h = refl
-apart n m k (i ∷ is) (j ∷ js) g h = rw (nat_eq_false i j (omega (arith, g.1, h.0))) refl
+apart n m k (i ∷ is) (j ∷ js) g h = rw (nat_eq_below i j (omega (arith, g.1, h.0))) refl
 
 -- one more loop is common to visits of its body
 one_more : (l : ℕ) (ks ls : List ℕ) → common (l ∷ ks) (l ∷ ls) ≡ suc (common ks ls)
@@ -128,7 +127,7 @@ mutual
       (ranges_all ts (n + statements_in t) point w h))
 
 -- the order of instances is strict
-common-comm : (ks ls : List ℕ) → common ks ls ≡ common ls ks
+pub common-comm : (ks ls : List ℕ) → common ks ls ≡ common ls ks
 common-comm [] [] = refl
 common-comm [] (l ∷ ls) = refl
 common-comm (k ∷ ks) [] = refl
@@ -176,3 +175,29 @@ one_place ts n point i j v w a b number turns =
     (sorted_places Before xs s j i w v b a more))))
 
 pub ruleset order_laws = (place_order, one_place)
+
+-- all loops of a statement are common to two of its instances, of which the earlier has the less turns
+all_common : (ls : List ℕ) → common ls ls ≡ length ls
+all_common [] = refl
+all_common (l ∷ ls) = rw (eq-eqb l l refl) (ap suc (all_common ls))
+
+pub own_order : (v w : Visit) → length v.loops ≡ length v.turns → length w.loops ≡ length w.turns → v.number ≡ w.number
+    → v.loops ≡ w.loops → Before v w → LexLess v.turns w.turns
+own_order v w e f number loops h =
+    let n = length v.turns in
+    let c : common v.loops w.loops ≡ n = subst (λ ls. common v.loops ls ≡ n) loops (all_common v.loops ∙ e) in
+    let same : n ≡ length w.turns = sym e ∙ (ap length loops ∙ f) in
+    let first : key n v ≡ v.turns ++ pos v.number ∷ [] =
+    ap (λ us. us ++ pos v.number ∷ []) (take_all n v.turns (omega arith)) in
+    let second : key n w ≡ w.turns ++ pos w.number ∷ [] =
+    ap (λ us. us ++ pos w.number ∷ []) (take_all n w.turns (omega (arith, same))) in
+    let cut : LexLess (key n v) (key n w) = subst (λ k. LexLess (key k v) (key k w)) c h in
+    let whole : LexLess (v.turns ++ pos v.number ∷ []) (w.turns ++ pos w.number ∷ []) =
+    subst (λ us. LexLess (v.turns ++ pos v.number ∷ []) us) second (subst (λ us. LexLess us (key n w)) first cut) in
+    decided (LexLess-append v.turns w.turns (pos v.number ∷ []) (pos w.number ∷ []) same whole)
+  where
+    decided : LexLess v.turns w.turns ⊎ ((v.turns ≡ w.turns) × LexLess (pos v.number ∷ []) (pos w.number ∷ []))
+        → LexLess v.turns w.turns
+    decided (inl l) = l
+    decided (inr s) = absurd (LexLess-irrefl (pos w.number ∷ [])
+        (subst (λ n. LexLess (pos n ∷ []) (pos w.number ∷ [])) number s.1))

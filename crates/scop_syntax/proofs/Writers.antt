@@ -1,6 +1,6 @@
 -- A cell holds what its last writer has left in it.
 use Rattle.std.proofs.Common.{◌+◌, ◌-◌, ◌≡◌, ℕ, zero, suc, ◌<◌, ◌≤◌, Bool, true, false, ℤ, List, [], ◌∷◌, length, take}
-use Rattle.std.proofs.Common.{drop, fold, map, Some, None, inl, inr, ap, ap₂, subst, sym, ◌∙◌, refl, arith}
+use Rattle.std.proofs.Common.{drop, fold, map, Some, None, inl, inr, ap, ap₂, subst, sym, ◌∙◌, refl, arith, Option}
 use Rattle.std.specs.Prelude.{slice_get, nat_eq, if◌then◌else◌}
 use Rattle.std.specs.Int.Signed.{le_z}
 use Rattle.std.proofs.lemmas.Int.{ints}
@@ -261,3 +261,10 @@ pub places_end : (es contents : List (List ℕ)) (visits : List Visit)
 places_end es contents visits = ap (performed_all es contents) (take-length visits)
 
 pub ruleset place_laws = (place_goes_on, places_end)
+
+-- the visit that writes a cell
+pub writer_of : (o : Option Visit) (c : Cell) → writes o c ≡ true → (w : Visit) × (o ≡ Some w) × (written w ≡ c)
+writer_of None c h = absurd cc
+writer_of (Some w) c h =
+    let s = cell_same (written w) c h in
+    (w, refl, ap₂ (λ (a : ℕ) (xs : List ℤ). record { array = a; subscripts = xs }) s.0 s.1)

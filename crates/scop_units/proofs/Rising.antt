@@ -5,7 +5,7 @@ use Rattle.std.proofs.Common.{unsigned_abs}
 use Rattle.std.proofs.Common.{◌⊎◌, inl, inr, refl, sym, ap, subst, ◌∙◌, arith}
 use Rattle.std.specs.Prelude.{Option, Some, None, ⊤, slice_index_or}
 use Rattle.std.proofs.lemmas.Int.{ints}
-use Rattle.std.proofs.lemmas.Bool.{and_parts, cases_eq, eqb-true}
+use Rattle.std.proofs.lemmas.Bool.{and_parts, cases_eq, eqb-true, not-true}
 use Rattle.std.proofs.lemmas.Bool.Decides.{nat_tests}
 use Rattle.std.proofs.lemmas.List.{get_or-set_same, get_or-set_other, length-set}
 use Rattle.whole_numbers.specs.Affine.{Affine, form_of, sum_of_forms, multiple_of_form}
@@ -33,7 +33,7 @@ use Rattle.scop_units.specs.Loops.{Change, counted, assigned, LoopHead, is_entry
 use Rattle.scop_units.specs.Loops.{condition_form, by_count, stride_of, added_stride, set_stride, change_stride, stride}
 use Rattle.scop_units.specs.Loops.{goes, is_form, part_faults, loop_faults, or_zero, loop_of}
 use Rattle.scop_units.proofs.Standing.{RoleLaws, parts_none, judged_none, told_none, only_none, fewer, both_false}
-use Rattle.scop_units.proofs.Standing.{not_true, count_bounds}
+use Rattle.scop_units.proofs.Standing.{count_bounds}
 
 -- coefficients, one by one
 
@@ -212,7 +212,7 @@ alone_bounds laws n f g k small y e =
     subst (λ h. IsBound n (pos 1) (difference h b k) × IsBound n (negsuc 0) (difference b h k))
     (sym (entry_form n f c.0))
     (last_bounds n b k (laws.affine (n + 1) g (ap first y))
-    (unnamed (n + 1) n g (not_true (names_entry n g) c.1)) small)
+    (unnamed (n + 1) n g (not-true (names_entry n g) c.1)) small)
 
 -- where it stands on the left, the loop rises
 between_up : (laws : RoleLaws) (n : ℕ) (f g : Formula) (k : ℤ) → unsigned_abs k ≤ 1

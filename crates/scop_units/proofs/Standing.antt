@@ -2,7 +2,7 @@
 use Rattle.std.proofs.Common.{◌≡◌, ℕ, zero, suc, ◌<◌, ◌≤◌, Bool, true, false, not, ◌||◌, List, [], ◌∷◌, ◌++◌, length}
 use Rattle.std.proofs.Common.{refl, ap, arith, All, nat_le, nat_lt, slice_get}
 use Rattle.std.specs.Prelude.{Option, Some, None}
-use Rattle.std.proofs.lemmas.Bool.{and_parts, leb-true}
+use Rattle.std.proofs.lemmas.Bool.{and_parts, leb-true, ltb-false}
 use Rattle.std.proofs.lemmas.Bool.Decides.{nat_tests}
 use Rattle.expression_grammar.specs.Tree.{Tree}
 use Rattle.expression_grammar.specs.declared.token.Assign.{Assign}
@@ -68,23 +68,16 @@ only_none false k e = absurd (cc)
 not_upto : (a b : ℕ) → nat_le a b ≡ false → b < a
 not_upto a b e = grind (arith, nat_tests, e)
 
-not_below : (a b : ℕ) → nat_lt a b ≡ false → b ≤ a
-not_below a b e = grind (arith, nat_tests, e)
-
 -- a limit that is not reached, and one that is not passed
 pub fewer : (at k n : ℕ) (c : Kind) → told at (only_where (nat_le k n) c) ≡ [] → n < k
 fewer at k n c e = not_upto k n (where_none at (nat_le k n) c e)
 
 pub at_most : (at k n : ℕ) (c : Kind) → told at (only_where (nat_lt k n) c) ≡ [] → n ≤ k
-at_most at k n c e = not_below k n (where_none at (nat_lt k n) c e)
+at_most at k n c e = ltb-false k n (where_none at (nat_lt k n) c e)
 
 pub both_false : (a b : Bool) → (a || b) ≡ false → (a ≡ false) × (b ≡ false)
 both_false true b e = absurd (cc)
 both_false false b e = (refl, e)
-
-pub not_true : (b : Bool) → not b ≡ true → b ≡ false
-not_true true e = absurd (cc)
-not_true false e = refl
 
 -- a constant that is a count is at most the limit
 pub count_bounds : (low high : ℕ) (f : Formula) → is_count low high f ≡ true → (low ≤ count f) × (count f ≤ high)

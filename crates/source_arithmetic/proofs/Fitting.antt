@@ -9,6 +9,7 @@ use Rattle.std.specs.List.{list_all}
 use Rattle.std.proofs.lemmas.Int.{ints}
 use Rattle.std.proofs.lemmas.Bool.Decides.{nat_tests}
 use Rattle.std.proofs.lemmas.List.{length-set}
+use Rattle.std.proofs.lemmas.Bool.{le-leb, and_from}
 use Rattle.whole_numbers.specs.Affine.{Affine, value_of}
 use Rattle.whole_numbers.specs.Lists.{zeros}
 use Rattle.whole_numbers.proofs.Dot.{dot_comm, dot-zeros, dot-unit, length-zeros}
@@ -56,20 +57,14 @@ at_unit f n k lt =
     let u = dot_comm f.coefficients (set (zeros n) k (pos 1)) ∙ dot-unit n k f.coefficients lt in
     omega (arith, ints)
 
-pub upto : (a b : ℕ) → a ≤ b → nat_le a b ≡ true
-upto a b h = grind (arith, nat_tests, h)
-
 not_past : (a b : ℕ) → a ≤ b → nat_lt b a ≡ false
 not_past a b h = grind (arith, nat_tests, h)
-
-pub both_true : (a b : Bool) → a ≡ true → b ≡ true → (a && b) ≡ true
-both_true a b e d = rw (e, d) refl
 
 all_small : (cs : List ℤ) → ((k : ℕ) → k < length cs → unsigned_abs (get_or cs k (pos 0)) ≤ 16)
     → list_all is_small cs ≡ true
 all_small [] h = refl
 all_small (c ∷ cs) h =
-    both_true (is_small c) (list_all is_small cs) (upto (unsigned_abs c) 16 (h 0 (omega arith)))
+    and_from (is_small c) (list_all is_small cs) (le-leb (unsigned_abs c) 16 (h 0 (omega arith)))
     (all_small cs (λ k lt. h (suc k) (omega arith)))
 
 form_within : (n : ℕ) (f : Formula) → length (form n f).coefficients ≡ n
@@ -79,7 +74,7 @@ form_within n f long worth small =
     let a = form n f in
     let origin = worth (zeros n) (length-zeros n) in
     let constant_is : a.constant ≡ whole (zeros n) f = sym (at_zeros a n) ∙ origin in
-    both_true (list_all is_small a.coefficients) (nat_le (unsigned_abs a.constant) (2 ^ 20))
+    and_from (list_all is_small a.coefficients) (nat_le (unsigned_abs a.constant) (2 ^ 20))
     (all_small a.coefficients (λ k lt.
     let inside : k < n = omega arith in
     let unit = worth (set (zeros n) k (pos 1)) (length-set (zeros n) k (pos 1) ∙ length-zeros n) in
@@ -87,7 +82,7 @@ form_within n f long worth small =
     let same : get_or a.coefficients k (pos 0) ≡ whole (set (zeros n) k (pos 1)) f -ℤ whole (zeros n) f =
     sym entry ∙ rw (unit, origin) refl in
     rw same (small.entries k inside)))
-    (upto (unsigned_abs a.constant) (2 ^ 20) (rw constant_is small.constant))
+    (le-leb (unsigned_abs a.constant) (2 ^ 20) (rw constant_is small.constant))
 
 -- affine expressions
 own_none : (n : ℕ) (o : Op) (f g : Formula) (at : ℕ) → (is_product o && (has_name f && has_name g)) ≡ false
@@ -153,11 +148,11 @@ linear_sign n (constant suffix.Absent v at) h = refl
 linear_sign n (name (meaning.Variable k) at) h = refl
 linear_sign n (unary sign.Minus f at) h = linear_sign n f h
 linear_sign n (binary op.Plus f g at) h =
-    both_true (is_signed f) (is_signed g) (linear_sign n f h.0) (linear_sign n g h.1)
+    and_from (is_signed f) (is_signed g) (linear_sign n f h.0) (linear_sign n g h.1)
 linear_sign n (binary op.Minus f g at) h =
-    both_true (is_signed f) (is_signed g) (linear_sign n f h.0) (linear_sign n g h.1)
+    and_from (is_signed f) (is_signed g) (linear_sign n f h.0) (linear_sign n g h.1)
 linear_sign n (binary op.Times f g at) h =
-    both_true (is_signed f) (is_signed g) (linear_sign n f h.0) (linear_sign n g h.1)
+    and_from (is_signed f) (is_signed g) (linear_sign n f h.0) (linear_sign n g h.1)
 linear_sign n _ h = absurd h
 
 or_none : (k l : Option Kind) → k ≡ None → l ≡ None → or_else k l ≡ None
@@ -212,7 +207,7 @@ rank_none f e = ap (λ b. only_where (not b) kind.Rank) (same_number (rank (mean
 -- counts
 count_is : (f : Formula) → IsCount f → is_count 0 63 f ≡ true
 count_is (constant suffix.Absent v at) h =
-    both_true (nat_le 0 v) (nat_le v 63) (upto 0 v (omega arith)) (upto v 63 (omega (arith, h)))
+    and_from (nat_le 0 v) (nat_le v 63) (le-leb 0 v (omega arith)) (le-leb v 63 (omega (arith, h)))
 count_is _ h = absurd h
 
 count_none : (n : ℕ) (f : Formula) → IsCount f → faults n role.Value f ≡ []

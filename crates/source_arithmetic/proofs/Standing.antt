@@ -3,6 +3,7 @@ use Rattle.std.proofs.Common.{◌≡◌, ◌∙◌, inl, inr, ap, subst, refl, �
 use Rattle.std.proofs.Common.{List, [], ◌∷◌, ◌++◌, length, slice_get, arith, length-append}
 use Rattle.std.specs.Prelude.{All, Some}
 use Rattle.std.proofs.lemmas.List.Elements.{All-nil, All-cons, All-append}
+use Rattle.whole_numbers.proofs.Entries.{found_front, get_behind}
 use Rattle.expression_grammar.specs.declared.node.Node.{Node}
 use Rattle.expression_grammar.specs.declared.node.Node.TheVariants as node
 use Rattle.expression_grammar.specs.declared.token.Token.{Token}
@@ -32,24 +33,12 @@ use Rattle.source_arithmetic.specs.Tokens.{IsAt, StandsBetween, ChangeStands, Lo
 use Rattle.source_arithmetic.specs.Tokens.{ItemsStand, ExtentsStand, ParameterStands, ParametersStand, NamesStand}
 use Rattle.source_arithmetic.specs.Tokens.{DeclaredStand, KernelStands, NodeStands}
 
--- what stands in a list stands in it where others are put behind it or in front
-get_front : (xs ys : List Token) (i : ℕ) (x : Token) → slice_get xs i ≡ Some x → slice_get (xs ++ ys) i ≡ Some x
-get_front [] ys i x e = absurd (cc)
-get_front (y ∷ xs) ys zero x e = e
-get_front (y ∷ xs) ys (suc i) x e = get_front xs ys i x e
-
-get_behind : (xs ys : List Token) (i : ℕ) → slice_get (xs ++ ys) (length xs + i) ≡ slice_get ys i
-get_behind [] ys i = ap (slice_get ys) (let e : 0 + i ≡ i = omega arith in e)
-get_behind (x ∷ xs) ys i =
-    let e : suc (length xs) + i ≡ suc (length xs + i) = omega arith in
-    ap (slice_get (x ∷ (xs ++ ys))) e ∙ get_behind xs ys i
-
 -- these tokens stand among all from a place on
 pub record AreFrom (ts : List Token) (at : ℕ) (us : List Token) : Type 0 where
   pub each : (i : ℕ) (x : Token) → slice_get us i ≡ Some x → IsAt ts (at + i) x
 
 front : (ts : List Token) (at : ℕ) (us vs : List Token) → AreFrom ts at (us ++ vs) → AreFrom ts at us
-front ts at us vs h = record { each = λ i x e. h.each i x (get_front us vs i x e) }
+front ts at us vs h = record { each = λ i x e. h.each i x (found_front us vs i x e) }
 
 behind : (ts : List Token) (at : ℕ) (us vs : List Token) → AreFrom ts at (us ++ vs) → AreFrom ts (at + length us) vs
 behind ts at us vs h =

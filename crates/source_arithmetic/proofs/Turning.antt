@@ -3,7 +3,7 @@ use Rattle.std.proofs.Common.{◌≡◌, ◌∙◌, ap, sym, subst, refl, ℕ, �
 use Rattle.std.proofs.Common.{nat_le}
 use Rattle.std.proofs.Common.{List, [], ◌∷◌, ◌++◌, length, inl, inr, ◌⊎◌, arith, All, ℤ, pos, negsuc, ◌-◌}
 use Rattle.std.specs.Prelude.{Some, None, not, if◌then◌else◌}
-use Rattle.std.proofs.lemmas.Bool.{and_parts}
+use Rattle.std.proofs.lemmas.Bool.{and_parts, not-true, le-leb, and_from}
 use Rattle.std.proofs.lemmas.Bool.Decides.{nat_tests}
 use Rattle.std.proofs.lemmas.List.Elements.{All-head, All-tail}
 use Rattle.expression_grammar.specs.declared.token.Assign.TheVariants as assign
@@ -24,13 +24,13 @@ use Rattle.scop_units.specs.Loops.{rises, change_stride, stride_of, added_stride
 use Rattle.scop_units.specs.Loops.{part_faults, loop_faults, by_count, set_stride}
 use Rattle.scop_units.specs.Units.{extent_faults}
 use Rattle.scop_roles.specs.Values.{count as count_in}
-use Rattle.scop_units.proofs.Standing.{parts_none, judged_none, not_true, count_bounds, fewer}
+use Rattle.scop_units.proofs.Standing.{parts_none, judged_none, count_bounds, fewer}
 use Rattle.source_arithmetic.specs.Arithmetic.{IsNameOf, IsEntry}
 use Rattle.source_arithmetic.specs.Limits.{IsLinear, LiesBetween, IsBound, IsStride, IsStep, IsFitLoop}
 use Rattle.source_arithmetic.proofs.Wholes.{AreAffine}
 use Rattle.source_arithmetic.proofs.Loops.{some_if, entry_name, loop_parts}
 use Rattle.source_arithmetic.proofs.Accepted.{linear_of}
-use Rattle.source_arithmetic.proofs.Fitting.{none_judged, none_both, both_true, upto, same_number, linear_none}
+use Rattle.source_arithmetic.proofs.Fitting.{none_judged, none_both, same_number, linear_none}
 
 -- the name of an entry
 variable_is : (k : ℕ) (m : Meaning) → IsEntry k m → is_variable k m ≡ true
@@ -128,9 +128,9 @@ step_none k n up _ h = absurd h
 
 stride_goes : (b : Bool) (f : Formula) → IsStride f → goes (Some b) (stride_of b f) ≡ true
 stride_goes true (constant suffix.Absent v at) h =
-    let there = both_true (nat_le 1 v) (nat_le v 16) (upto 1 v h.0) (upto v 16 h.1) in rw there refl
+    let there = and_from (nat_le 1 v) (nat_le v 16) (le-leb 1 v h.0) (le-leb v 16 h.1) in rw there refl
 stride_goes false (constant suffix.Absent v at) h =
-    let there = both_true (nat_le 1 v) (nat_le v 16) (upto 1 v h.0) (upto v 16 h.1) in rw there refl
+    let there = and_from (nat_le 1 v) (nat_le v 16) (le-leb 1 v h.0) (le-leb v 16 h.1) in rw there refl
 stride_goes b _ h = absurd h
 
 added_goes : (k : ℕ) (b : Bool) (f g : Formula) → IsNameOf k f → IsStride g
@@ -195,12 +195,12 @@ sides_tell k b up f g e = by_test (is_entry k f && not (names_entry k g)) refl e
         ⊎ ((up ≡ not b) × IsNameOf k g × (names_entry k f ≡ false))
     by_test true there h =
         let both = and_parts (is_entry k f) (not (names_entry k g)) there in
-        inl (cc, entry_name k f both.0, not_true (names_entry k g) both.1)
+        inl (cc, entry_name k f both.0, not-true (names_entry k g) both.1)
     by_test false there h =
         let right = some_if (is_entry k g && not (names_entry k f)) (Some (not b)) up h in
         let both = and_parts (is_entry k g) (not (names_entry k f)) right.0 in
         let same = right.1 in
-        inr (cc, entry_name k g both.0, not_true (names_entry k f) both.1)
+        inr (cc, entry_name k g both.0, not-true (names_entry k f) both.1)
 
 below_of : (affine : AreAffine) (k : ℕ) (up : Bool) (f g : Formula) (own : List Fault)
     → judged (faults (k + 1) role.Affine f ++ faults (k + 1) role.Affine g) own ≡ []

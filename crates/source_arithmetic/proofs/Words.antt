@@ -12,7 +12,7 @@ use Rattle.expression_grammar.specs.declared.token.Sign.TheVariants as sign
 use Rattle.expression_grammar.specs.declared.token.Suffix.TheVariants as suffix
 use Rattle.scop_syntax.specs.Tree.{Access, Operator, plus, minus, times, bits_and, bits_or, bits_xor, Expression}
 use Rattle.scop_syntax.specs.Tree.{affine}
-use Rattle.scop_syntax.specs.Tree.{negated, complemented, shifted_left, shifted_right}
+use Rattle.scop_syntax.specs.Tree.{negated}
 use Rattle.scop_syntax.specs.Tree as scop
 use Rattle.scop_syntax.specs.Cells.{Cell, cell_of, reads_of}
 use Rattle.scop_syntax.specs.Values.{wrapped, applied, value_on}

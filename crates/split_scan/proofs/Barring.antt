@@ -5,24 +5,25 @@ use Rattle.std.proofs.Common.{refl, sym, ap, subst, ◌∙◌, All, arith}
 use Rattle.std.specs.Prelude.{◌≤◌, ◌≤ℤ◌}
 use Rattle.std.proofs.lemmas.Int.{ints}
 use Rattle.std.proofs.lemmas.List.Elements.{All-append, All-cons, All-head, All-nil, All-tail}
+use Rattle.std.proofs.Math.Seq.{get_or-append_seam}
 use Rattle.whole_numbers.specs.Affine.{Affine}
 use Rattle.whole_numbers.proofs.Ring.{mul_one_left}
 use Rattle.affine_forms.specs.Parts.{variables_of}
 use Rattle.fractions.specs.Elimination.{coefficient_of}
 use Rattle.fm_projection.specs.Alone.{place_form}
 use Rattle.fm_projection.proofs.Ranges.{place_value}
+use Rattle.fm_projection.proofs.Following.{one_more}
 use Rattle.plain_scan.specs.declared.set_outline.Outline.{Outline}
 use Rattle.plain_scan.specs.Hulls.{AreHullRows, IsHull, IsHullRow}
 use Rattle.plain_scan.specs.Sets.{AllAtLeast}
 use Rattle.plain_scan.proofs.Bounding.{take_next}
-use Rattle.plain_scan.proofs.Nodes.{append_one}
 use Rattle.plain_scan.proofs.Pieces.{append_all}
 use Rattle.plain_scan.proofs.Stepping.{own_coefficient}
 use Rattle.split_scan.specs.Questions.{AreNatural, IsCut, opened}
 use Rattle.split_scan.specs.Copies.{bounding_in, if_bounds}
 use Rattle.split_scan.specs.Bounding.{AreBars}
 use Rattle.split_scan.proofs.Building.{ends}
-use Rattle.split_scan.proofs.Values.{value_opened, entry_there}
+use Rattle.split_scan.proofs.Values.{value_opened}
 
 -- row by row
 bounds_append : (z : ℤ) (f : Affine) (xs ys : List Affine) → if_bounds z f (xs ++ ys) ≡ if_bounds z f xs ++ ys
@@ -108,7 +109,7 @@ pub natural_inside : (m n : ℕ) (context rows : List Affine) (low : ℤ) (other
     → AreNatural m context → AreNatural (m + 1) (map (opened m) context ++ rows)
 natural_inside m n context rows low others inside few is less natural params point range size hold =
     let e = ends point m (let s : length point ≡ suc m = omega (arith, size) in s) in
-    let there = subst (AllAtLeast (map (opened m) context ++ rows)) (append_one e.front e.last params)
+    let there = subst (AllAtLeast (map (opened m) context ++ rows)) (one_more e.front e.last params)
     (subst (λ xs. AllAtLeast (map (opened m) context ++ rows) (xs ++ params)) e.is hold) in
     let sides = append_all (map (opened m) context) rows (e.front ++ e.last ∷ params) there in
     let outside = natural params e.front range e.size
@@ -116,7 +117,7 @@ natural_inside m n context rows low others inside few is less natural params poi
     let first = (subst (λ fs. AllAtLeast fs (e.front ++ e.last ∷ params)) is sides.1).0 in
     let v = place_value n m (pos 1) low (e.front ++ e.last ∷ params) inside in
     let x = subst (λ k. get_or (e.front ++ e.last ∷ params) k (pos 0) ≡ e.last) e.size
-    (entry_there e.front e.last params) in
+    (get_or-append_seam e.front e.last params (pos 0)) in
     let o = mul_one_left (get_or (e.front ++ e.last ∷ params) m (pos 0)) in
     let positive : pos 0 ≤ℤ e.last = omega (arith, ints, first, v, x, o, less) in
     subst (All (λ z. pos 0 ≤ℤ z)) (sym e.is) (All-append (λ z. pos 0 ≤ℤ z) e.front (e.last ∷ []) outside

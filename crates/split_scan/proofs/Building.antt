@@ -7,6 +7,7 @@ use Rattle.std.specs.Option.{option_eq}
 use Rattle.std.proofs.lemmas.Int.{ints}
 use Rattle.std.proofs.lemmas.List.{append-nil}
 use Rattle.std.proofs.lemmas.List.Elements.{All-append, All-head, All-tail}
+use Rattle.fm_projection.proofs.Following.{one_more}
 use Rattle.whole_numbers.specs.Affine.{Affine, value_of}
 use Rattle.fractions.specs.Elimination.{coefficient_of}
 use Rattle.integer_sets.specs.Scanned.{Scanned}
@@ -23,7 +24,6 @@ use Rattle.plain_scan.proofs.Shaping.{IsRowOver, all_of_more, loop_shaped, row_o
 use Rattle.plain_scan.specs.Sorting.{if_above, if_below, lows_in, highs_in}
 use Rattle.plain_scan.specs.Giving.{Gives, TurnsOn}
 use Rattle.plain_scan.specs.Hulls.{flags}
-use Rattle.plain_scan.proofs.Nodes.{append_one}
 use Rattle.plain_scan.proofs.Rows.{value_widened}
 use Rattle.plain_scan.proofs.Pieces.{all_append, append_all, dimension_serves}
 use Rattle.plain_scan.proofs.Shape.{flat_pieces, marks_pieces}
@@ -142,7 +142,7 @@ inner_place f p body is cuts params outer at =
     let e = ends outer f.place at.size in
     let q = piece_of f p body in
     let point = e.front ++ e.last ∷ params in
-    let there = subst (AllAtLeast (deeper f.place (f.context ++ []) (bounding q))) (append_one e.front e.last params)
+    let there = subst (AllAtLeast (deeper f.place (f.context ++ []) (bounding q))) (one_more e.front e.last params)
     (subst (λ xs. AllAtLeast (deeper f.place (f.context ++ []) (bounding q)) (xs ++ params)) e.is at.inside) in
     let sides = append_all (map (widened f.place) (f.context ++ [])) (bounding q) point there in
     let bounds = append_all (q.low ∷ q.lows) (q.high ∷ q.highs) point sides.1 in
@@ -159,7 +159,7 @@ inner_place f p body is cuts params outer at =
       parameters = at.parameters;
       size = at.size;
       inside = subst (λ xs. AllAtLeast (inside_of f ++ p.cuts.items) (xs ++ params)) (sym e.is)
-          (subst (AllAtLeast (inside_of f ++ p.cuts.items)) (sym (append_one e.front e.last params))
+          (subst (AllAtLeast (inside_of f ++ p.cuts.items)) (sym (one_more e.front e.last params))
           (all_append (inside_of f) p.cuts.items point here.hold rows.1));
     }
 

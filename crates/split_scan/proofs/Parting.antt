@@ -19,7 +19,7 @@ use Rattle.plain_scan.specs.Hulls.{IsAlike, sets_in}
 use Rattle.plain_scan.proofs.Bounding.{take_next}
 use Rattle.plain_scan.proofs.Pieces.{all_append, append_all}
 use Rattle.plain_scan.proofs.Stepping.{row_holds}
-use Rattle.split_scan.specs.Questions.{IsCut, IsIn, IsVoid}
+use Rattle.split_scan.specs.Questions.{IsCut}
 use Rattle.split_scan.specs.Parts.{Goes, HasMarks, Implies, InPart, IsCutting, IsHeld, IsNext, IsPart, staying}
 use Rattle.split_scan.specs.declared.part.Part.{Part}
 

@@ -7,6 +7,8 @@ use Rattle.std.proofs.lemmas.Int.{ints}
 use Rattle.std.proofs.lemmas.List.{get_or-set_other, length-set}
 use Rattle.std.proofs.lemmas.List.Elements.{All-append, All-cons, All-head, All-nil, All-tail}
 use Rattle.std.proofs.lemmas.Bool.{false≢true}
+use Rattle.std.proofs.Math.Seq.{get_or-append_seam}
+use Rattle.fm_projection.proofs.Following.{one_more}
 use Rattle.integer_sets.specs.Scanned.{Scanned}
 use Rattle.whole_numbers.specs.Lists.{NotNegative, zeros}
 use Rattle.whole_numbers.specs.Affine.{Affine, value_of}
@@ -16,7 +18,6 @@ use Rattle.whole_numbers.proofs.Ring.{mul_one_left, mul_neg_left}
 use Rattle.whole_numbers.proofs.Order.{le_or_lt}
 use Rattle.affine_forms.specs.Parts.{variables_of}
 use Rattle.plain_scan.specs.Sets.{AllAtLeast, Keys}
-use Rattle.plain_scan.proofs.Nodes.{append_one}
 use Rattle.plain_scan.proofs.Pieces.{all_append}
 use Rattle.split_scan.specs.Questions.{AreNatural, HasNone, IsCut, IsIn, opened}
 use Rattle.split_scan.specs.Parts.{HasMarks, InPart, IsPart, staying}
@@ -24,7 +25,7 @@ use Rattle.split_scan.specs.steps.Picking.{IsPicking}
 use Rattle.split_scan.proofs.Parting.{in_part_append}
 use Rattle.split_scan.specs.Ordering.{AreBelow, AreEnoughParts, AreParts, IsBelowAll, Rise, difference, turned}
 use Rattle.split_scan.specs.declared.part.Part.{Part}
-use Rattle.split_scan.proofs.Values.{one_point, one_size, opened_hold, opened_sized, entry_there}
+use Rattle.split_scan.proofs.Values.{one_point, one_size, opened_hold, opened_sized}
 
 -- x - y
 entry_behind : (outer : List ℤ) (x y : ℤ) (rest : List ℤ)
@@ -45,8 +46,8 @@ value_difference m n outer x y rest size less =
     let other : get_or line (m + 1) (pos 0) ≡ pos 0 =
     get_or-set_other (zeros n) m (m + 1) (pos 1) (pos 0) (λ e. omega (arith, e)) ∙ get_or-zeros n (m + 1) in
     let none = get_or-zeros n m in
-    let first : get_or point m (pos 0) ≡ x = subst (λ k. get_or point k (pos 0) ≡ x) size (entry_there outer x
-    (y ∷ rest)) in
+    let first : get_or point m (pos 0) ≡ x = subst (λ k. get_or point k (pos 0) ≡ x) size (get_or-append_seam outer x
+    (y ∷ rest) (pos 0)) in
     let second : get_or point (m + 1) (pos 0) ≡ y = subst (λ k. get_or point k (pos 0) ≡ y) (let e : suc
     (length outer) ≡ m + 1 = omega (arith, size) in e)
     (entry_behind outer x y rest) in
@@ -115,7 +116,7 @@ below_of m n inside ps qs less natural lower upper none params outer x y at_x at
 
     first : AllAtLeast (map (opened (m + 1)) (inside ++ ps)) point
     first =
-        subst (AllAtLeast (map (opened (m + 1)) (inside ++ ps))) (append_one outer x (y ∷ params))
+        subst (AllAtLeast (map (opened (m + 1)) (inside ++ ps))) (one_more outer x (y ∷ params))
         (opened_hold (m + 1) (inside ++ ps) (outer ++ x ∷ []) y params (one_size outer x m at_x.size) lower
         (one_point (inside ++ ps) outer x params (all_append inside ps (outer ++ x ∷ params) at_x.hold p)))
 

@@ -1,15 +1,15 @@
 -- Values of forms with a column more, and of rows at a point of a loop.
 use Rattle.std.proofs.Common.{◌≡◌, ℕ, zero, suc, ◌+◌, ℤ, pos, List, [], ◌∷◌, ◌++◌, length, take, drop}
-use Rattle.std.proofs.Common.{map, sym, subst, All, arith, length-append, get_or, refl}
+use Rattle.std.proofs.Common.{map, sym, subst, All, arith, length-append}
 use Rattle.std.specs.Prelude.{◌≤◌, ◌≤ℤ◌}
 use Rattle.std.proofs.lemmas.Int.{ints}
 use Rattle.std.proofs.lemmas.List.Elements.{All-cons, All-head, All-nil, All-tail}
+use Rattle.fm_projection.proofs.Following.{one_more}
 use Rattle.whole_numbers.specs.Lists.{dot}
 use Rattle.whole_numbers.specs.Affine.{Affine, value_of}
 use Rattle.whole_numbers.proofs.Ring.{mul_zero_left}
 use Rattle.affine_forms.specs.Parts.{variables_of}
 use Rattle.plain_scan.specs.Sets.{AllAtLeast}
-use Rattle.plain_scan.proofs.Nodes.{append_one}
 use Rattle.split_scan.specs.Questions.{opened}
 
 -- the outer values and the loop's value as one list
@@ -18,11 +18,7 @@ one_size outer x m e = omega (arith, length-append outer (x ∷ []), e)
 
 pub one_point : (fs : List Affine) (outer : List ℤ) (x : ℤ) (params : List ℤ) → AllAtLeast fs (outer ++ x ∷ params)
     → AllAtLeast fs ((outer ++ x ∷ []) ++ params)
-one_point fs outer x params h = subst (AllAtLeast fs) (sym (append_one outer x params)) h
-
-pub entry_there : (outer : List ℤ) (x : ℤ) (rest : List ℤ) → get_or (outer ++ x ∷ rest) (length outer) (pos 0) ≡ x
-entry_there [] x rest = refl
-entry_there (z ∷ outer) x rest = entry_there outer x rest
+one_point fs outer x params h = subst (AllAtLeast fs) (sym (one_more outer x params)) h
 
 -- a column that is not spoken of
 dot_opened : (outer : List ℤ) (x : ℤ) (rest cs : List ℤ) → length outer ≤ length cs

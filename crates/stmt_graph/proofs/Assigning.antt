@@ -2,12 +2,12 @@
 use Rattle.std.proofs.Common.{◌≡◌, ℕ, zero, suc, ◌<◌, Bool, true, false, List, [], refl, sym, ◌∙◌, ap, ◌⊎◌}
 use Rattle.std.proofs.Common.{inl, inr, arith, length, None, Some, nat_eq, nat_lt}
 use Rattle.std.specs.Prelude.{◌≤◌, ◌↔◌, if◌then◌else◌}
-use Rattle.std.proofs.Common.{rules}
-use Rattle.std.proofs.lemmas.Bool.{false≢true, eq-eqb}
-use Rattle.std.proofs.lemmas.Bool.Decides.{nat_tests}
+use Rattle.std.proofs.lemmas.Bool.{false≢true, eq-eqb, le-ltb, ltb-false, eqb-true, cases_lt, cases_Bool}
+use Rattle.scop_syntax.proofs.Members.{both}
+use Rattle.whole_numbers.proofs.Tests.{nat_eq_below, if_both}
 use Rattle.stmt_graph.specs.Graph.{number_in, Reaches, IsNumbering}
 use Rattle.stmt_graph.specs.Closure.{IsClosure, reaches, joined, IsFree, IsNext, IsGiven}
-use Rattle.stmt_graph.proofs.Counting.{lt_or_le, lt_or_eq, either, count, count_falls, found, none_counted}
+use Rattle.stmt_graph.proofs.Counting.{lt_or_eq, count, count_falls, found, none_counted}
 use Rattle.stmt_graph.proofs.Reaching.{reaches_on}
 
 abbrev pub Mutual : List (ℕ × ℕ) → ℕ → ℕ → Type 0
@@ -25,14 +25,6 @@ pub record IsPartial (n : ℕ) (edges : List (ℕ × ℕ)) (k : ℕ) (numbers : 
       → ((b : ℕ) → b < n → Reaches edges b a → (number_in numbers b < j) ⊎ Mutual edges b a)
       → (b : ℕ) × (b ≤ a) × (number_in numbers b ≡ j)
 
-both_of : (x y : Bool) → (if x then y else false) ≡ true → (x ≡ true) × (y ≡ true)
-both_of true y e = (refl, e)
-both_of false y e = absurd (false≢true e)
-
-both_from : (x y : Bool) → x ≡ true → y ≡ true → (if x then y else false) ≡ true
-both_from true y h k = k
-both_from false y h k = absurd (false≢true h)
-
 reach_to : (n : ℕ) (edges : List (ℕ × ℕ)) (rows : List (List Bool)) (a b : ℕ) → IsClosure n edges rows → a < n
     → b < n → reaches rows a b ≡ true → Reaches edges a b
 reach_to n edges rows a b c la lb e = ((c.rows_are a la).exact b lb).0 e
@@ -44,13 +36,13 @@ reach_from n edges rows a b c la lb e = ((c.rows_are a la).exact b lb).1 e
 joined_to : (n : ℕ) (edges : List (ℕ × ℕ)) (rows : List (List Bool)) (a b : ℕ) → IsClosure n edges rows
     → a < n → b < n → joined rows a b ≡ true → Mutual edges a b
 joined_to n edges rows a b c la lb e =
-    let k = both_of (reaches rows a b) (reaches rows b a) e in
+    let k = both (reaches rows a b) (reaches rows b a) e in
     (reach_to n edges rows a b c la lb k.0, reach_to n edges rows b a c lb la k.1)
 
 joined_from : (n : ℕ) (edges : List (ℕ × ℕ)) (rows : List (List Bool)) (a b : ℕ) → IsClosure n edges rows
     → a < n → b < n → Mutual edges a b → joined rows a b ≡ true
 joined_from n edges rows a b c la lb m =
-    both_from (reaches rows a b) (reaches rows b a) (reach_from n edges rows a b c la lb m.0)
+    if_both (reaches rows a b) (reaches rows b a) (reach_from n edges rows a b c la lb m.0)
     (reach_from n edges rows b a c lb la m.1)
 
 -- what a statement's number is when a's component is given k: it is of that component, or its number stays
@@ -58,7 +50,7 @@ given_at : (n : ℕ) (edges : List (ℕ × ℕ)) (rows : List (List Bool)) (a k 
     → IsClosure n edges rows → a < n → b < n → length old ≡ n
     → IsGiven rows a k old new → ((number_in new b ≡ k) × Mutual edges a b) ⊎
     ((number_in new b ≡ number_in old b) × (Mutual edges a b → ⊥))
-given_at n edges rows a k old new b c la lb size g = elim (either (joined rows a b)) [
+given_at n edges rows a k old new b c la lb size g = elim (cases_Bool (joined rows a b)) [
   | inl t ↦ inl (
     g b (omega arith)
         ∙ ap (λ (z : Bool). if z then k else number_in old b) t,
@@ -143,7 +135,7 @@ given n edges rows a k old new c lk p next size g =
               | inl u ↦ let q = u.0 in omega arith
               | inr u ↦
                   let q = u.0 in
-                  elim (lt_or_le (number_in old x) k) [
+                  elim (cases_lt (number_in old x) k) [
                     | inl z ↦ omega arith
                     | inr z ↦
                         let xa = reaches_on edges x y a r v.1.1 in
@@ -197,7 +189,7 @@ given n edges rows a k old new c lk p next size g =
               ]
               | inr z ↦ reach_from n edges rows x b c lx lb z.1
             ] in
-            elim (lt_or_le x a) [
+            elim (cases_lt x a) [
               | inl v ↦ absurd (next.3 x v old_le is_free)
               | inr v ↦ elim (at_b a la) [
                 | inl w ↦ let q = w.0 in (a, omega arith, omega arith)
@@ -257,12 +249,6 @@ blocks_off false true true e h k = refl
 blocks_off false true false e h k = absurd (false≢true (sym e))
 blocks_off false false z e h k = absurd (false≢true k)
 
-not_below : (a k : ℕ) → nat_lt a k ≡ false → k ≤ a
-not_below a k h = grind (arith, nat_tests, h)
-
-is_not_below : (a k : ℕ) → k ≤ a → nat_lt a k ≡ false
-is_not_below a k h = search rules
-
 pub some_free : (n : ℕ) (edges : List (ℕ × ℕ)) (rows : List (List Bool)) (numbers : List ℕ) (k : ℕ)
     → IsClosure n edges rows
     → (fuel a : ℕ) → count (λ c. reaches rows c a) n < fuel → a < n → k ≤ number_in numbers a
@@ -278,14 +264,14 @@ some_free n edges rows numbers k c (suc fuel) a lf la ka = elim (found (blocks r
       (reaches_on edges x b a (reach_to n edges rows x b c lx lb r)
       (reach_to n edges rows b a c lb la t.1)))
       la t.2 (reach_from n edges rows a a c la la ([], refl)) in
-      some_free n edges rows numbers k c fuel b (omega arith) lb (not_below (number_in numbers b) k t.0)
+      some_free n edges rows numbers k c fuel b (omega arith) lb (ltb-false (number_in numbers b) k t.0)
   | inr f ↦ (
     a,
     la,
     ka,
     λ b lb kb r.
         blocks_off (nat_lt (number_in numbers b) k) (reaches rows b a) (reaches rows a b) (f b lb)
-        (is_not_below (number_in numbers b) k kb) r,
+        (le-ltb (number_in numbers b) k kb) r,
   )
 ]
 
@@ -294,7 +280,7 @@ pub none_next : (n : ℕ) (edges : List (ℕ × ℕ)) (rows : List (List Bool)) 
     → IsClosure n edges rows → IsPartial n edges k numbers
     → IsNext n rows numbers k None → IsNumbering n edges numbers
 none_next n edges rows numbers k c p none =
-    all_given n edges k numbers p (λ a la. elim (lt_or_le (number_in numbers a) k) [
+    all_given n edges k numbers p (λ a la. elim (cases_lt (number_in numbers a) k) [
       | inl u ↦ u
       | inr u ↦
           let s = some_free n edges rows numbers k c (suc (count (λ x. reaches rows x a) n)) a (omega arith) la u in
@@ -304,15 +290,6 @@ none_next n edges rows numbers k c p none =
 -- how many have no number
 abbrev pub unnumbered : ℕ → List ℕ → ℕ
 unnumbered n numbers = count (λ a. nat_eq (number_in numbers a) n) n
-
-is_eq : (a b : ℕ) → a ≡ b → nat_eq a b ≡ true
-is_eq a b h = eq-eqb a b h
-
-eq_is : (a b : ℕ) → nat_eq a b ≡ true → a ≡ b
-eq_is a b h = grind (arith, nat_tests, h)
-
-not_eq : (a b : ℕ) → a < b → nat_eq a b ≡ false
-not_eq a b h = grind arith
 
 pub fewer_unnumbered : (n : ℕ) (edges : List (ℕ × ℕ)) (rows : List (List Bool)) (a k : ℕ) (old new : List ℕ)
     → IsClosure n edges rows → k < n
@@ -324,19 +301,19 @@ fewer_unnumbered n edges rows a k old new c lk p next g =
     let s = p.size in
     count_falls (λ x. nat_eq (number_in new x) n) (λ x. nat_eq (number_in old x) n) n a
     (λ b lb e.
-    let q = eq_is (number_in new b) n e in
+    let q = eqb-true (number_in new b) n e in
     elim (given_at n edges rows a k old new b c la lb s g) [
       | inl u ↦ let w = u.0 in absurd (omega arith)
-      | inr u ↦ is_eq (number_in old b) n (sym u.0 ∙ q)
+      | inr u ↦ eq-eqb (number_in old b) n (sym u.0 ∙ q)
     ])
     la
     (elim (given_at n edges rows a k old new a c la la s g) [
-      | inl u ↦ let w = u.0 in not_eq (number_in new a) n (omega arith)
+      | inl u ↦ let w = u.0 in nat_eq_below (number_in new a) n (omega arith)
       | inr u ↦ absurd (u.1 (([], refl), ([], refl)))
     ])
     (elim (p.each a la) [
       | inl u ↦ absurd (omega arith)
-      | inr u ↦ is_eq (number_in old a) n u
+      | inr u ↦ eq-eqb (number_in old a) n u
     ])
 
 pub none_unnumbered : (n : ℕ) (edges : List (ℕ × ℕ)) (k : ℕ) (numbers : List ℕ) → IsPartial n edges k numbers
@@ -345,5 +322,5 @@ none_unnumbered n edges k numbers p z = all_given n edges k numbers p (λ a la. 
   | inl u ↦ u
   | inr u ↦ absurd
       (false≢true (sym (none_counted (λ x. nat_eq (number_in numbers x) n) n z a la)
-      ∙ is_eq (number_in numbers a) n u))
+      ∙ eq-eqb (number_in numbers a) n u))
 ])

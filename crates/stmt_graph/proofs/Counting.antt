@@ -1,25 +1,14 @@
 -- Counting the places at which something holds.
-use Rattle.std.proofs.Common.{◌≡◌, ℕ, zero, suc, ◌+◌, ◌<◌, Bool, true, false, pos, refl, sym, ◌∙◌, ap, ◌⊎◌}
+use Rattle.std.proofs.Common.{◌≡◌, ℕ, zero, suc, ◌+◌, ◌<◌, Bool, true, false, refl, sym, ◌∙◌, ap, ◌⊎◌}
 use Rattle.std.proofs.Common.{inl, inr, arith}
 use Rattle.std.specs.Prelude.{◌≤◌}
-use Rattle.std.proofs.lemmas.Int.{ints}
-use Rattle.whole_numbers.proofs.Order.{le_or_lt}
-
-pub lt_or_le : (a b : ℕ) → (a < b) ⊎ (b ≤ a)
-lt_or_le a b = elim (le_or_lt (pos b) (pos a)) [
-  | inl k ↦ inr (omega (arith, ints))
-  | inr k ↦ inl (omega (arith, ints))
-]
+use Rattle.std.proofs.lemmas.Bool.{cases_lt, cases_Bool}
 
 pub lt_or_eq : (a b : ℕ) → a ≤ b → (a < b) ⊎ (a ≡ b)
-lt_or_eq a b h = elim (lt_or_le a b) [
+lt_or_eq a b h = elim (cases_lt a b) [
   | inl k ↦ inl k
   | inr k ↦ inr (omega arith)
 ]
-
-pub either : (b : Bool) → (b ≡ true) ⊎ (b ≡ false)
-either true = inl refl
-either false = inr refl
 
 abbrev pub one : Bool → ℕ
 one true = 1
@@ -62,7 +51,7 @@ pub none_counted : (f : ℕ → Bool) (n : ℕ) → count f n ≡ 0 → (b : ℕ
 none_counted f zero h b l = absurd (omega arith)
 none_counted f (suc n) h b l = elim (lt_or_eq b n (omega arith)) [
   | inl u ↦ none_counted f n (omega arith) b u
-  | inr u ↦ elim (either (f n)) [
+  | inr u ↦ elim (cases_Bool (f n)) [
     | inl t ↦ let o = ap one t in absurd (omega arith)
     | inr t ↦ ap f u ∙ t
   ]
@@ -78,7 +67,7 @@ count_within f (suc n) =
 -- one place below n at which it holds, or none
 pub found : (f : ℕ → Bool) (n : ℕ) → ((b : ℕ) × (b < n) × (f b ≡ true)) ⊎ ((b : ℕ) → b < n → f b ≡ false)
 found f zero = inr (λ b l. absurd (omega arith))
-found f (suc n) = elim (either (f n)) [
+found f (suc n) = elim (cases_Bool (f n)) [
   | inl t ↦ inl (n, omega arith, t)
   | inr t ↦ elim (found f n) [
     | inl h ↦ let l = h.1 in inl (h.0, omega arith, h.2)

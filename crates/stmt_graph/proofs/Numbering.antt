@@ -6,18 +6,13 @@ use Rattle.std.proofs.lemmas.Int.{ints}
 use Rattle.whole_numbers.proofs.Order.{le_or_lt}
 use Rattle.stmt_graph.specs.Graph.{number_in}
 use Rattle.stmt_graph.specs.Graph.{IsNumbering, Reaches}
+use Rattle.stmt_graph.proofs.Counting.{lt_or_eq}
 
 abbrev pub Agrees : ℕ → List ℕ → List ℕ → ℕ → Type 0
 Agrees n f g k = (a j : ℕ) → a < n → j < k → number_in f a ≡ j → number_in g a ≡ j
 
 abbrev IsFree : ℕ → List (ℕ × ℕ) → List ℕ → ℕ → ℕ → Type 0
 IsFree n ds g k a = (b : ℕ) → b < n → Reaches ds b a → (number_in g b < k) ⊎ (number_in g b ≡ number_in g a)
-
-split_le : (a b : ℕ) → a ≤ b → (a < b) ⊎ (a ≡ b)
-split_le a b h = elim (le_or_lt (pos b) (pos a)) [
-  | inl k ↦ inr (omega (arith, ints))
-  | inr k ↦ inl (omega (arith, ints))
-]
 
 one_component : (n : ℕ) (ds : List (ℕ × ℕ)) (f g : List ℕ) → IsNumbering n ds f → IsNumbering n ds g
     → (a b : ℕ) → a < n → b < n
@@ -36,7 +31,7 @@ free_there : (n : ℕ) (ds : List (ℕ × ℕ)) (f g : List ℕ) (k a : ℕ) →
     → Agrees n f g k → a < n
     → number_in f a ≡ k → IsFree n ds g k a
 free_there n ds f g k a F G agree la e b lb r =
-    elim (split_le (number_in f b) (number_in f a) (F.rising b a lb la r)) [
+    elim (lt_or_eq (number_in f b) (number_in f a) (F.rising b a lb la r)) [
       | inl l ↦ let q = agree b (number_in f b) lb (omega arith) refl in inl (omega arith)
       | inr s ↦ inr (one_component n ds f g F G b a lb la s)
     ]
@@ -52,7 +47,7 @@ one_side n ds f g k F G there back (suc fuel) a lf la e =
     let c = F.first k b.0 lb (at_least_there n g f k b.0 there lb b.2)
     (free_there n ds g f k b.0 G F back lb b.2) in
     let lc = c.1 in
-    elim (split_le c.0 a (omega arith)) [
+    elim (lt_or_eq c.0 a (omega arith)) [
       | inl u ↦
           let q = one_side n ds f g k F G there back fuel c.0 (omega arith) (omega arith) c.2 in
           sym (one_component n ds f g F G c.0 a (omega arith) la (c.2 ∙ sym e)) ∙ q
@@ -61,7 +56,7 @@ one_side n ds f g k F G there back (suc fuel) a lf la e =
 
 agrees_more : (n : ℕ) (f g : List ℕ) (k : ℕ) → Agrees n f g k
     → ((a : ℕ) → a < n → number_in f a ≡ k → number_in g a ≡ k) → Agrees n f g (suc k)
-agrees_more n f g k h more a j la lj e = elim (split_le j k (omega arith)) [
+agrees_more n f g k h more a j la lj e = elim (lt_or_eq j k (omega arith)) [
   | inl l ↦ h a j la l e
   | inr s ↦ more a la (e ∙ s) ∙ sym s
 ]

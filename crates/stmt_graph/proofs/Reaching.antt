@@ -4,11 +4,11 @@ use Rattle.std.proofs.Common.{sym, ◌∙◌, ap, subst, ◌⊎◌, inl, inr, ar
 use Rattle.std.proofs.Common.{drop-cons, add-one, ◌+◌}
 use Rattle.std.proofs.lemmas.List.{length-set, get_or-set_same, get_or-set_other}
 use Rattle.std.proofs.lemmas.List.Elements.{All-head, All-tail, All-same, All-cons}
-use Rattle.std.proofs.lemmas.Bool.{false≢true}
+use Rattle.std.proofs.lemmas.Bool.{false≢true, cases_lt}
+use Rattle.whole_numbers.proofs.Entries.{get_or_same}
 use Rattle.scop_syntax.specs.Members.{In}
 use Rattle.stmt_graph.specs.Graph.{AreWithin, IsChain, Reaches}
 use Rattle.stmt_graph.specs.Closure.{at, Leads, IsReached, IsClosure, AreSquare}
-use Rattle.stmt_graph.proofs.Counting.{lt_or_le}
 
 pub in_all : {X : Type 0} (P : X → Type 0) (x : X) (xs : List X) → All P xs → In x xs → P x
 in_all P x [] h i = absurd i
@@ -60,9 +60,9 @@ grown n edges from reached g h =
 
 set_at : (reached : List Bool) (t b : ℕ) → t < length reached → at reached b ≡ true
     → at (set reached t true) b ≡ true
-set_at reached t b l e = elim (lt_or_le b t) [
+set_at reached t b l e = elim (cases_lt b t) [
   | inl u ↦ get_or-set_other reached t b true false (λ q. omega arith) ∙ e
-  | inr u ↦ elim (lt_or_le t b) [
+  | inr u ↦ elim (cases_lt t b) [
     | inl v ↦ get_or-set_other reached t b true false (λ q. omega arith) ∙ e
     | inr v ↦ let s : b ≡ t = omega arith in ap (λ (z : ℕ). at (set reached t true) z) s
         ∙ get_or-set_same reached t true false l
@@ -71,9 +71,9 @@ set_at reached t b l e = elim (lt_or_le b t) [
 
 set_from : (reached : List Bool) (t b : ℕ) → at (set reached t true) b ≡ true
     → (at reached b ≡ true) ⊎ (b ≡ t)
-set_from reached t b e = elim (lt_or_le b t) [
+set_from reached t b e = elim (cases_lt b t) [
   | inl u ↦ inl (sym (get_or-set_other reached t b true false (λ q. omega arith)) ∙ e)
-  | inr u ↦ elim (lt_or_le t b) [
+  | inr u ↦ elim (cases_lt t b) [
     | inl v ↦ inl (sym (get_or-set_other reached t b true false (λ q. omega arith)) ∙ e)
     | inr v ↦ inr (omega arith)
   ]
@@ -116,11 +116,6 @@ all_from P xs i d h p all =
     All-same P (drop i xs) (get_or xs i d ∷ drop (suc i) xs) (drop-cons xs i d h)
     (All-cons P (get_or xs i d) (drop (suc i) xs) p
     (All-same P (drop (suc i) xs) (drop (i + 1) xs) (ap (λ (k : ℕ). drop k xs) (sym (add-one i))) all))
-
-pub get_or_same : {X : Type 0} (xs : List X) (i : ℕ) (d e : X) → i < length xs → get_or xs i d ≡ get_or xs i e
-get_or_same [] i d e h = absurd (omega arith)
-get_or_same (x ∷ xs) zero d e h = refl
-get_or_same (x ∷ xs) (suc i) d e h = get_or_same xs i d e (omega (arith, h))
 
 pub square : (n : ℕ) (edges : List (ℕ × ℕ)) (rows : List (List Bool)) → IsClosure n edges rows
     → AreSquare rows

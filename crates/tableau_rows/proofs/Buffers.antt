@@ -1,6 +1,6 @@
 -- A pivot over a buffer, row by row.
 use Rattle.std.proofs.Common.{◌≡◌, ℕ, zero, suc, ◌+◌, ◌*◌, ◌≤◌, ℤ, pos, ◌<ℤ◌, Bool, true, false, List, ◌∷◌, ◌++◌}
-use Rattle.std.proofs.Common.{length, get_or, drop, take, replicate, refl, subst, ap, sym, ◌∙◌, arith, append_assoc}
+use Rattle.std.proofs.Common.{length, get_or, drop, take, refl, subst, ap, sym, ◌∙◌, arith, append_assoc}
 use Rattle.std.proofs.Common.{drop-drop}
 use Rattle.std.specs.Prelude.{Result, Ok, Err, nat_eq}
 use Rattle.std.proofs.lemmas.Int.{ints}
@@ -10,17 +10,12 @@ use Rattle.std.proofs.Math.Nat.{suc-mul}
 use borrow.Rule.Slice.PartMut.{put_mid, same_len_mid}
 use Rattle.std.proofs.Math.Seq.{take-append_seam, drop-append_seam}
 use Rattle.whole_numbers.specs.Content.{lowest}
-use Rattle.whole_numbers.specs.Lists.{zeros}
 use Rattle.whole_numbers.proofs.Order.{mul_positive}
 use Rattle.wide_math.specs.declared.Wide.{Wide}
 use Rattle.wide_math.specs.Checked.{product_of, ◌>>=◌}
 use Rattle.wide_math.proofs.Steps.{chain-ok, product_of-ok}
 use Rattle.affine_forms.proofs.Steps.{with_front}
 use Rattle.tableau_rows.specs.Moves.{entries_run, line_run, lowest_line_run, placed_line_run, buffer_run, HeadsPositive}
-
-pub zeros-replicate : (n : ℕ) → replicate n (pos 0) ≡ zeros n
-zeros-replicate zero = refl
-zeros-replicate (suc n) = ap (λ (zs : List ℤ). pos 0 ∷ zs) (zeros-replicate n)
 
 pub line_run-head : (s : ℕ) (ps row zs : List ℤ) → line_run s ps row ≡ Ok zs → pos 0 <ℤ get_or row 0 (pos 0)
     → pos 0 <ℤ get_or ps (s + 1) (pos 0)

@@ -8,7 +8,7 @@ use mathlib.Core.Logic.{dite}
 use native.Mathlib.Decide.{ℕ_discrete}
 use Rattle.whole_numbers.specs.Lexicographic.{LexNotNegative}
 use Rattle.whole_numbers.proofs.Ring.{mul_comm_int, mul_zero_left, mul_zero_right, mul_sub_left, left_comm}
-use Rattle.whole_numbers.proofs.Order.{mul_positive, mul_not_negative, cancel_lt, cancel_eq}
+use Rattle.whole_numbers.proofs.Order.{mul_positive, mul_not_negative, cancel_eq, positive_factor}
 use Rattle.wide_math.specs.Checked.{product_of, ◌>>=◌}
 use Rattle.wide_math.proofs.Steps.{product_of-ok, chain-ok}
 use Rattle.tableau_rows.specs.Rows.{Row, entry}
@@ -54,11 +54,6 @@ triangle ei ej es ai aj b =
     let h = left_comm aj es ai ∙ ap (λ (k : ℤ). es *ℤ k) (mul_comm_int aj ai) ∙ left_comm es ai aj in
     omega (arith, ints)
 
-unscaled : (k z : ℤ) → pos 0 <ℤ k → pos 0 <ℤ (k *ℤ z) → pos 0 <ℤ z
-unscaled k z h l =
-    let e = mul_zero_left k in let c = mul_comm_int k z in cancel_lt (pos 0) z k (omega (arith, ints))
-    (omega (arith, ints))
-
 pub leads-trans : (s j i : ℕ) (pivot : Row) (rows : List Row) → pos 0 <ℤ entry pivot s → pos 0 <ℤ entry pivot j
     → pos 0 <ℤ entry pivot i
     → Leads s j pivot rows → Leads j i pivot rows → Leads s i pivot rows
@@ -83,14 +78,14 @@ leads-trans s j i pivot (row ∷ rows) ps pj pi us ui =
         let a = mul_positive (entry pivot i) u pi l in
         let b = mul_not_negative (entry pivot s) w (omega (arith, ints)) h in
         let t = sum in
-        unscaled (entry pivot j) z pj (omega (arith, ints))
+        positive_factor (entry pivot j) z pj (omega (arith, ints))
 
     second : pos 0 ≤ℤ u → pos 0 <ℤ w → pos 0 <ℤ z
     second h l =
         let a = mul_not_negative (entry pivot i) u (omega (arith, ints)) h in
         let b = mul_positive (entry pivot s) w ps l in
         let t = sum in
-        unscaled (entry pivot j) z pj (omega (arith, ints))
+        positive_factor (entry pivot j) z pj (omega (arith, ints))
 
     by_signs : Leads s j pivot (row ∷ rows) → Leads j i pivot (row ∷ rows)
         → (Leads s j pivot rows → Leads j i pivot rows → Leads s i pivot rows) → Leads s i pivot (row ∷ rows)

@@ -9,24 +9,14 @@ use Rattle.whole_numbers.specs.Lists.{multiples, zeros}
 use Rattle.whole_numbers.proofs.Ring.{mul_comm_int, mul_zero_right, mul_one_right, mul_zero_left}
 use Rattle.whole_numbers.proofs.Order.{mul_positive, cancel_lt}
 use Rattle.whole_numbers.proofs.Dot.{length-multiples}
-use Rattle.wide_math.specs.Checked.{difference_of, product_of, cross_of, ◌>>=◌}
-use Rattle.wide_math.proofs.Steps.{product_of-ok, difference_of-ok, chain-ok}
+use Rattle.wide_math.specs.Checked.{product_of, cross_of, ◌>>=◌}
+use Rattle.wide_math.proofs.Steps.{product_of-ok, chain-ok, cross_of-exact}
 use Rattle.tableau_rows.specs.Rows.{Row, row_of, entry, Sized}
 use Rattle.tableau_rows.specs.Moves.{lowest_row, unit_row, crossed_run, entries_run, row_run, placed_run, rows_run}
 use Rattle.tableau_rows.specs.Moves.{row_at}
 use Rattle.tableau_rows.proofs.Invariant.{crossed, combined, IsLowered, Pivoted}
 use Rattle.tableau_rows.proofs.Pivots.{length-crossed}
 use Rattle.tableau_rows.proofs.Lowest.{lowest_is}
-
-pub cross-exact : (x a b y z : ℤ) → cross_of x a b y ≡ Ok z → z ≡ (x *ℤ a) -ℤ (b *ℤ y)
-unfolding cross_of
-cross-exact x a b y z h =
-    let c = chain-ok (product_of x a) (λ (l : ℤ). product_of b y >>= λ r. difference_of l r) z h in
-    let d = chain-ok (product_of b y) (λ (r : ℤ). difference_of c.0 r) z c.2 in
-    let p = ((product_of-ok x a c.0).0 c.1).0 in
-    let q = ((product_of-ok b y d.0).0 d.1).0 in
-    let r = ((difference_of-ok c.0 d.0 z).0 d.2).0 in
-    omega (arith, ints)
 
 pub crossed_run-exact : (a b : ℤ) (xs ys zs : List ℤ) → crossed_run a b xs ys ≡ Ok zs → zs ≡ crossed a b xs ys
 unfolding crossed_run
@@ -35,7 +25,7 @@ crossed_run-exact a b (x ∷ xs) [] zs h = cc
 crossed_run-exact a b (x ∷ xs) (y ∷ ys) zs h =
     let c = chain-ok (cross_of x a b y) (λ (z : ℤ). crossed_run a b xs ys >>= λ rest. Ok (z ∷ rest)) zs h in
     let d = chain-ok (crossed_run a b xs ys) (λ (rest : List ℤ). Ok (c.0 ∷ rest)) zs c.2 in
-    let z = cross-exact x a b y c.0 c.1 in
+    let z = cross_of-exact x a b y c.0 c.1 in
     let rest = crossed_run-exact a b xs ys d.0 d.1 in
     cc (d.2)
 
@@ -52,7 +42,7 @@ entries_run-exact zero a b d (x ∷ xs) (y ∷ ys) zs h =
 entries_run-exact (suc s) a b d (x ∷ xs) (y ∷ ys) zs h =
     let c = chain-ok (cross_of x a b y) (λ (z : ℤ). entries_run s a b d xs ys >>= λ rest. Ok (z ∷ rest)) zs h in
     let e = chain-ok (entries_run s a b d xs ys) (λ (rest : List ℤ). Ok (c.0 ∷ rest)) zs c.2 in
-    let z = cross-exact x a b y c.0 c.1 in
+    let z = cross_of-exact x a b y c.0 c.1 in
     let rest = entries_run-exact s a b d xs ys e.0 e.1 in
     cc (e.2)
 

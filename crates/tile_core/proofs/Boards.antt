@@ -5,7 +5,7 @@ use Rattle.std.proofs.Common.{◌∙◌, subst, arith}
 use Rattle.std.specs.Prelude.{All, Vec, nat_lt, nat_le, nat_eq, if◌then◌else◌}
 use Rattle.std.specs.Global.{Global}
 use Rattle.std.specs.Vec.{with_item}
-use Rattle.std.proofs.lemmas.Bool.{lt-ltb, le-ltb, le-leb, lt-leb}
+use Rattle.std.proofs.lemmas.Bool.{lt-ltb, le-ltb, le-leb, lt-leb, eq-eqb}
 use Rattle.std.proofs.lemmas.Bool.Decides.{eqb_tells}
 use Rattle.std.proofs.lemmas.List.{map-set}
 use Rattle.std.proofs.lemmas.List.Elements.{All-set}
@@ -70,9 +70,6 @@ set_worker b id x v e =
 
 staged_as : (w : Worker) (s : Stage) (xs : List ℕ) → w.stage ≡ s → w.reads.items ≡ xs → worker_of w ≡ staged s xs
 staged_as w s xs e f = ap₂ staged e f
-
-eq-eqb : (a b : ℕ) → a ≡ b → nat_eq a b ≡ true
-eq-eqb a b e = ⊎_elim (λ x. x.0) (λ x. absurd (x.1 e)) (eqb_tells a b)
 
 ne-eqb : (a b : ℕ) → (a ≡ b → ⊥) → nat_eq a b ≡ false
 ne-eqb a b h = ⊎_elim (λ x. absurd (h x.1)) (λ x. x.0) (eqb_tells a b)

@@ -2,7 +2,7 @@
 use Rattle.std.proofs.Common.{◌≡◌, ℕ, suc, ◌<◌, ◌≤◌, ◌≢◌, ⊎_elim, Bool, true, false, not}
 use Rattle.std.proofs.Common.{List, [], ◌∷◌, ◌++◌, length, take, get_or, set, ap, ap₂, sym, refl, ◌∙◌, subst, arith}
 use Rattle.std.specs.Prelude.{⊤, nat_eq, nat_lt, if◌then◌else◌}
-use Rattle.std.proofs.lemmas.Bool.{eqb-true, eqb-false, ltb-true, lt-ltb, le-ltb, cases_lt}
+use Rattle.std.proofs.lemmas.Bool.{eqb-true, eqb-false, ltb-true, lt-ltb, le-ltb, cases_lt, and_parts}
 use Rattle.std.proofs.Math.Seq.{take-suc, take-length}
 use Rattle.std.proofs.lemmas.List.{get_or-map, get_or-set_same, get_or-set_other, length-append, length-set, length-map}
 use mathlib.Core.Option.{some}
@@ -17,7 +17,7 @@ use Rattle.tile_events.specs.Sound.{one_if_held, passed, all_passed, is_done, Is
 use Rattle.tile_events.specs.steps.Ready.{IsReady}
 use Rattle.tile_events.specs.steps.Changes.{moved}
 use Rattle.tile_events.proofs.Cells.{load_reads, store_here, store_else}
-use Rattle.tile_events.proofs.Workers.{both, total_set, set_at, passed_free, passed_holding, all_passed_at}
+use Rattle.tile_events.proofs.Workers.{total_set, set_at, passed_free, passed_holding, all_passed_at}
 use Rattle.tile_events.proofs.Workers.{all_passed_set}
 use Rattle.tile_events.proofs.Waves.{wave_opens}
 use Rattle.tile_events.proofs.Changes.{changed, begun_back, done_set, cells_same, tally_same}
@@ -33,7 +33,7 @@ bool_same false false f g = refl
 done_claim : (p : Plan) (s : State) (id i : ℕ) → get_elem? s.workers id ≡ some idle
     → is_done p (after_claim s id) i ≡ is_done p s i
 done_claim p s id i here = bool_same (is_done p (after_claim s id) i) (is_done p s i)
-    (λ e. let b = both (nat_lt (p.tile i) (suc s.claims))
+    (λ e. let b = and_parts (nat_lt (p.tile i) (suc s.claims))
     (all_passed (set s.workers id (holding s.claims)) (p.tile i) (p.position i)) e in
     let ne = passed_holding s.claims (p.tile i) (p.position i)
     (all_passed_at (set s.workers id (holding s.claims)) (p.tile i) (p.position i) id (holding s.claims) b.1
@@ -45,7 +45,7 @@ done_claim p s id i here = bool_same (is_done p (after_claim s id) i) (is_done p
     (passed_free (holding s.claims) (p.tile i) (p.position i) ne)) ∙ b.1))
     (λ same. absurd (ne (sym same)))
     (λ more. absurd (omega (arith, more, l))))
-    (λ e. let b = both (nat_lt (p.tile i) s.claims) (all_passed s.workers (p.tile i) (p.position i)) e in
+    (λ e. let b = and_parts (nat_lt (p.tile i) s.claims) (all_passed s.workers (p.tile i) (p.position i)) e in
     let l = ltb-true (p.tile i) s.claims b.0 in
     rw (lt-ltb (p.tile i) (suc s.claims) (omega (arith, l)))
     (all_passed_set s.workers (p.tile i) (p.position i) id idle (holding s.claims) here

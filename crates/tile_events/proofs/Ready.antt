@@ -1,7 +1,7 @@
 -- The next instance of a worker in an opened tile is ready: what it touches before it is done, what comes after it not.
-use Rattle.std.proofs.Common.{◌≡◌, ℕ, ◌<◌, ⊎_elim, Bool, true, false, List, sym, refl, ◌∙◌, subst, arith}
+use Rattle.std.proofs.Common.{◌≡◌, ℕ, ◌<◌, ⊎_elim, Bool, true, List, sym, refl, ◌∙◌, subst, arith}
 use Rattle.std.specs.Prelude.{nat_lt, if◌then◌else◌}
-use Rattle.std.proofs.lemmas.Bool.{eq-eqb, ltb-true, lt-ltb}
+use Rattle.std.proofs.lemmas.Bool.{eq-eqb, ltb-true, lt-ltb, false_from_ne_true, and_parts}
 use mathlib.Core.Option.{some, some-injective}
 use lib.ListN.{get_elem?}
 use Rattle.scop_syntax.proofs.Members.{nat_cases}
@@ -10,16 +10,12 @@ use Rattle.tile_events.specs.Core.{Worker, holding, working, State}
 use Rattle.tile_events.specs.Sound.{passed, all_passed, is_done, IsBegun, Sound}
 use Rattle.tile_events.specs.steps.Ready.{IsReady}
 use Rattle.tile_events.specs.steps.Changes.{Waits}
-use Rattle.tile_events.proofs.Workers.{both, passed_free, passed_holding, all_passed_at, all_passed_from}
-
-not_so : (b : Bool) → (b ≡ true → ⊥) → b ≡ false
-not_so true h = absurd (h refl)
-not_so false h = refl
+use Rattle.tile_events.proofs.Workers.{passed_free, passed_holding, all_passed_at, all_passed_from}
 
 -- who has a place done has its tile opened
 is_begun_of_done : (p : Plan) (s : State) (i : ℕ) → is_done p s i ≡ true → IsBegun s (p.tile i)
 is_begun_of_done p s i e =
-    let b = both (nat_lt (p.tile i) s.claims) (all_passed s.workers (p.tile i) (p.position i)) e in
+    let b = and_parts (nat_lt (p.tile i) s.claims) (all_passed s.workers (p.tile i) (p.position i)) e in
     record {
       claimed = ltb-true (p.tile i) s.claims b.0;
       awake = λ id h. passed_holding (p.tile i) (p.tile i) (p.position i)
@@ -72,11 +68,11 @@ ready p s id t k j xs good deal sound here less is_t is_k = record {
       (begun_of_working p s id t k xs sound here) (subst (λ (u : ℕ). p.wave (p.tile i) < p.wave u) is_t o) in
       done_from p s i f.claimed (λ m w e. passed_free w (p.tile i) (p.position i) (f.free m w e)))
       (good.ordered i j before less touch);
-  later = λ i after within touch. not_so (is_done p s i) (λ e. ⊎_elim
+  later = λ i after within touch. false_from_ne_true (is_done p s i) (λ e. ⊎_elim
       (λ (o : (p.tile j ≡ p.tile i) × (p.position j < p.position i)).
       let same : t ≡ p.tile i = sym is_t ∙ o.0 in
       let late = o.1 in
-      let b = both (nat_lt (p.tile i) s.claims) (all_passed s.workers (p.tile i) (p.position i)) e in
+      let b = and_parts (nat_lt (p.tile i) s.claims) (all_passed s.workers (p.tile i) (p.position i)) e in
       let l = passed_here t (p.tile i) k (p.position i) xs same
       (all_passed_at s.workers (p.tile i) (p.position i) id (working t k xs) b.1 here) in
       omega (arith, late, l, is_k))
@@ -84,8 +80,8 @@ ready p s id t k j xs good deal sound here less is_t is_k = record {
       let f = sound.waves (p.tile j) (p.tile i) (deal.tile j less) (deal.tile i within) (is_begun_of_done p s i e) o in
       f.free id (working t k xs) here (sym is_t))
       (good.ordered j i after within touch));
-  itself = not_so (is_done p s j) (λ e.
-      let b = both (nat_lt (p.tile j) s.claims) (all_passed s.workers (p.tile j) (p.position j)) e in
+  itself = false_from_ne_true (is_done p s j) (λ e.
+      let b = and_parts (nat_lt (p.tile j) s.claims) (all_passed s.workers (p.tile j) (p.position j)) e in
       let l = passed_here t (p.tile j) k (p.position j) xs (sym is_t)
       (all_passed_at s.workers (p.tile j) (p.position j) id (working t k xs) b.1 here) in
       omega (arith, l, is_k));

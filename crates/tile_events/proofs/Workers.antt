@@ -1,15 +1,11 @@
 -- Lists of workers: totals over them, and what changes where one of them does.
-use Rattle.std.proofs.Common.{◌≡◌, ℕ, zero, suc, ◌+◌, ◌<◌, ◌≤◌, ◌&&◌, Bool, true, false, List, [], ◌∷◌, ◌++◌, set, ap}
+use Rattle.std.proofs.Common.{◌≡◌, ℕ, zero, suc, ◌+◌, ◌<◌, ◌≤◌, ◌&&◌, Bool, true, List, [], ◌∷◌, ◌++◌, set, ap}
 use Rattle.std.proofs.Common.{sym, refl, ◌∙◌, subst, arith}
-use Rattle.std.proofs.lemmas.Bool.{eq-eqb, ne_eqb, and_from}
+use Rattle.std.proofs.lemmas.Bool.{eq-eqb, ne_eqb, and_from, and_parts}
 use mathlib.Core.Option.{some, some-injective, some-ne-none}
 use lib.ListN.{get_elem?}
 use Rattle.tile_events.specs.Core.{Worker, idle, ended, holding, working}
 use Rattle.tile_events.specs.Sound.{Holds, total, passed, all_passed}
-
-pub both : (a b : Bool) → (a && b) ≡ true → (a ≡ true) × (b ≡ true)
-both true b h = (refl, h)
-both false b h = absurd cc
 
 -- one element replaced
 pub total_set : {A : Type 0} (f : A → ℕ) (ws : List A) (id : ℕ) (v w : A) → get_elem? ws id ≡ some v
@@ -76,8 +72,9 @@ pub all_passed_at : (ws : List Worker) (t k id : ℕ) (w : Worker) → all_passe
     → passed w t k ≡ true
 all_passed_at [] t k id w h e = absurd (some-ne-none w (sym e))
 all_passed_at (x ∷ ws) t k zero w h e =
-    subst (λ y. passed y t k ≡ true) (some-injective x w e) (both (passed x t k) (all_passed ws t k) h).0
-all_passed_at (x ∷ ws) t k (suc id) w h e = all_passed_at ws t k id w (both (passed x t k) (all_passed ws t k) h).1 e
+    subst (λ y. passed y t k ≡ true) (some-injective x w e) (and_parts (passed x t k) (all_passed ws t k) h).0
+all_passed_at (x ∷ ws) t k (suc id) w h e =
+    all_passed_at ws t k id w (and_parts (passed x t k) (all_passed ws t k) h).1 e
 
 pub all_passed_from : (ws : List Worker) (t k : ℕ)
     → ((id : ℕ) (w : Worker) → get_elem? ws id ≡ some w → passed w t k ≡ true) → all_passed ws t k ≡ true

@@ -1,28 +1,14 @@
 -- Instances in a plan's order rise by tile.
 use Rattle.std.proofs.Common.{◌≡◌, ℕ, ◌-◌, ℤ, pos, List, [], ◌∷◌, ◌++◌, length, inl, inr, refl}
 use Rattle.std.specs.Prelude.{◌⊎◌}
-use Rattle.whole_numbers.specs.Lexicographic.{LexLess}
 use Rattle.whole_numbers.specs.Lists.{zeros}
+use Rattle.whole_numbers.proofs.Lexicographic.{LexLess-append}
 use Rattle.scop_syntax.specs.Members.{In, Sorted}
 use Rattle.scop_syntax.specs.Tree.{Program}
 use Rattle.scop_syntax.specs.Walk.{Instance}
 use Rattle.loop_tree.specs.Plans.{AreInOrder, Precedes}
 use Rattle.loop_tree.specs.Tiling.{Items, Tiling, kept, tiled, item_values, items_at, tile_of, wave_of}
 use Rattle.tile_list.specs.Tiles.{HaveOneLength, InOneTile, RiseByTile, TileBefore}
-
--- lists that are joined, the first ones of one length
-parted : (xs ys us vs : List ℤ) → length xs ≡ length ys → LexLess (xs ++ us) (ys ++ vs)
-    → LexLess xs ys ⊎ ((xs ≡ ys) × LexLess us vs)
-parted [] [] us vs e less = inr (refl, less)
-parted [] (y ∷ ys) us vs e less = absurd cc
-parted (x ∷ xs) [] us vs e less = absurd cc
-parted (x ∷ xs) (y ∷ ys) us vs e (inl less) = inl (inl less)
-parted (x ∷ xs) (y ∷ ys) us vs e (inr (same, less)) =
-    let tails : length xs ≡ length ys = cc in
-    elim (parted xs ys us vs tails less) [
-      | inl l ↦ inl (inr (same, l))
-      | inr r ↦ (let rest = r.0 in inr (cc, r.1))
-    ]
 
 -- of two in order the first lies in the second's tile or in one before
 tile_by_order : (size : ℕ) (statements : List Items) (x y : Instance)
@@ -35,9 +21,10 @@ tile_by_order size statements x y waves tiles less =
     let rest : Instance → List ℤ = λ z.
     item_values (items_at statements z.number) z.turns
     ++ (z.turns ++ (zeros (5 - length z.turns) ++ pos z.number ∷ [])) in
-    elim (parted (wave_of plan x) (wave_of plan y) (tile_of plan x ++ rest x) (tile_of plan y ++ rest y) waves less) [
+    elim (LexLess-append (wave_of plan x) (wave_of plan y) (tile_of plan x ++ rest x) (tile_of plan y ++ rest y) waves
+    less) [
       | inl l ↦ inr (inl l)
-      | inr r ↦ elim (parted (tile_of plan x) (tile_of plan y) (rest x) (rest y) tiles r.1) [
+      | inr r ↦ elim (LexLess-append (tile_of plan x) (tile_of plan y) (rest x) (rest y) tiles r.1) [
         | inl l ↦ inr (inr (r.0, l))
         | inr s ↦ inl (record { wave = r.0; tile = s.0 })
       ]

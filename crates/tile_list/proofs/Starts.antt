@@ -1,9 +1,10 @@
 -- Where parts begin.
 use Rattle.std.proofs.Common.{◌≡◌, ◌∙◌, ℕ, zero, suc, ◌+◌, ◌<◌, List, [], ◌∷◌, ◌++◌}
-use Rattle.std.proofs.Common.{length, take, refl, ap, subst, arith}
+use Rattle.std.proofs.Common.{length, take, ap, subst, arith}
 use Rattle.std.specs.Prelude.{slice_get, slice_index_or}
 use Rattle.std.proofs.Math.Seq.{take-length}
 use Rattle.std.proofs.lemmas.List.{length-append}
+use Rattle.whole_numbers.proofs.Entries.{get_front, get_behind}
 use Rattle.scop_syntax.specs.Walk.{Instance}
 use Rattle.loop_tree.specs.Tiling.{Tiling}
 use Rattle.tile_list.specs.Tiles.{AreTiles, joined, start_of}
@@ -24,28 +25,17 @@ last_start tiling xs parts h =
     ap (λ (ps : List (List Instance)). length (joined ps)) (take-length parts)
     ∙ ap (λ (ys : List Instance). length ys) h.all
 
-in_back : {A : Type 0} (xs ys : List A) (k : ℕ) → slice_get (xs ++ ys) (length xs + k) ≡ slice_get ys k
-in_back [] ys k = let e : 0 + k ≡ k = omega arith in ap (slice_get ys) e
-in_back (x ∷ xs) ys k =
-    let e : suc (length xs) + k ≡ suc (length xs + k) = omega arith in
-    ap (slice_get (x ∷ (xs ++ ys))) e ∙ in_back xs ys k
-
-in_front : {A : Type 0} (xs ys : List A) (k : ℕ) → k < length xs → slice_get (xs ++ ys) k ≡ slice_get xs k
-in_front [] ys k below = absurd (omega (arith, below))
-in_front (x ∷ xs) ys zero below = refl
-in_front (x ∷ xs) ys (suc k) below = in_front xs ys k (omega (arith, below))
-
 there : (parts : List (List Instance)) (t k : ℕ) → t < length parts → k < length (slice_index_or parts t [])
     → slice_get (joined parts) (start_of parts t + k) ≡ slice_get (slice_index_or parts t []) k
 there [] t k below few = absurd (omega (arith, below))
 there (p ∷ ps) zero k below few =
     let e : 0 + k ≡ k = omega arith in
-    ap (slice_get (p ++ joined ps)) e ∙ in_front p (joined ps) k few
+    ap (slice_get (p ++ joined ps)) e ∙ get_front p (joined ps) k few
 there (p ∷ ps) (suc t) k below few =
     let l = length-append p (joined (take t ps)) in
     let at : start_of (p ∷ ps) (suc t) + k ≡ length p + (start_of ps t + k) = omega (arith, l) in
     ap (slice_get (p ++ joined ps)) at
-    ∙ (in_back p (joined ps) (start_of ps t + k) ∙ there ps t k (omega (arith, below)) few)
+    ∙ (get_behind p (joined ps) (start_of ps t + k) ∙ there ps t k (omega (arith, below)) few)
 
 pub stands_there : (tiling : Tiling) (xs : List Instance) (parts : List (List Instance)) → AreTiles tiling xs parts
     → (t k : ℕ) → t < length parts → k < length (slice_index_or parts t [])

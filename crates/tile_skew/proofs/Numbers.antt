@@ -1,10 +1,10 @@
 -- The numbers of a numbering of n statements are below n.
 use Rattle.std.proofs.Common.{◌≡◌, ℕ, zero, suc, ◌<◌, true, false, List, sym, ◌∙◌, ◌⊎◌, inl, inr, arith, nat_eq, nat_lt}
 use Rattle.std.specs.Prelude.{◌≤◌}
-use Rattle.std.proofs.lemmas.Bool.{eq-eqb, eqb-true, false≢true}
+use Rattle.std.proofs.lemmas.Bool.{eq-eqb, eqb-true, false≢true, cases_lt}
 use Rattle.std.proofs.lemmas.Bool.Decides.{nat_tests}
 use Rattle.stmt_graph.specs.Graph.{number_in, IsNumbering, Reaches}
-use Rattle.stmt_graph.proofs.Counting.{lt_or_le, lt_or_eq, count, count_falls, count_within, found}
+use Rattle.stmt_graph.proofs.Counting.{lt_or_eq, count, count_falls, count_within, found}
 
 -- each number up to that of a statement is the number of one
 each_taken : (n : ℕ) (edges : List (ℕ × ℕ)) (f : List ℕ) → IsNumbering n edges f → (fuel a k : ℕ)
@@ -14,7 +14,7 @@ each_taken n edges f is (suc fuel) a k lf la le = elim (found (λ b. nat_eq (num
   | inl b ↦ (b.0, b.1, eqb-true (number_in f b.0) k b.2)
   | inr none ↦
       let free : (b : ℕ) → b < n → Reaches edges b a → (number_in f b < k) ⊎ (number_in f b ≡ number_in f a) =
-      λ b lb r. elim (lt_or_le (number_in f b) k) [
+      λ b lb r. elim (cases_lt (number_in f b) k) [
         | inl u ↦ inl u
         | inr u ↦ elim (lt_or_eq (number_in f b) (number_in f a) (is.rising b a lb la r)) [
           | inl v ↦

@@ -1,16 +1,15 @@
 -- Conflicting places of a kernel lie in one tile in order, or in rising waves.
-use Rattle.std.proofs.Common.{◌≡◌, ℕ, suc, ◌<◌, ℤ, pos, List, [], ◌∷◌, ◌++◌, refl, sym, ◌∙◌, ap, subst, inl, inr, ◌⊎◌}
-use Rattle.std.proofs.Common.{arith, length, eq-eqb}
+use Rattle.std.proofs.Common.{◌≡◌, ℕ, ◌<◌, ℤ, pos, List, sym, ◌∙◌, ap, subst, inl, inr}
+use Rattle.std.proofs.Common.{length}
 use Rattle.std.specs.Prelude.{◌↔◌, slice_get, Some}
-use Rattle.std.proofs.lemmas.List.{take_all}
 use Rattle.whole_numbers.specs.Lexicographic.{LexLess}
-use Rattle.whole_numbers.proofs.Lexicographic.{LexLess-append, LexLess-irrefl}
 use Rattle.scop_syntax.specs.Members.{In}
-use Rattle.scop_syntax.specs.Order.{common, key, Before}
+use Rattle.scop_syntax.specs.Order.{Before}
 use Rattle.scop_syntax.specs.Statements.{Placed, statements_of, Runs, loops_in, Scope, visit_of}
 use Rattle.scop_syntax.specs.Tree.{Program}
 use Rattle.scop_syntax.specs.Walk.{Visit, Instance, walk_of}
 use Rattle.scop_syntax.proofs.Members.{in_from_place}
+use Rattle.scop_syntax.proofs.Order.{own_order}
 use Rattle.loop_tree.specs.Tiling.{IsInOrder, tiled, wave_of, order_of}
 use Rattle.schedule_rows.specs.Items.{Block}
 use Rattle.schedule_rows.specs.Tiles.{IsGoodPair}
@@ -18,33 +17,6 @@ use Rattle.schedule_rows.specs.Tiles as tiles
 use Rattle.tile_skew.specs.Tilings.{schedule_tiling, statements_from}
 use Rattle.tile_skew.proofs.Conflicting.{AreRuns}
 use Rattle.tile_skew.proofs.Agreeing.{tile_agrees, wave_agrees, order_agrees}
-
--- all loops of a statement are common to two of its instances
-all_common : (ls : List ℕ) → common ls ls ≡ length ls
-all_common [] = refl
-all_common (l ∷ ls) = rw (eq-eqb l l refl) (ap suc (all_common ls))
-
--- of two instances of one statement the earlier has the less turns
-own_order : (v w : Visit) → length v.loops ≡ length v.turns → length w.loops ≡ length w.turns → v.number ≡ w.number
-    → v.loops ≡ w.loops → Before v w → LexLess v.turns w.turns
-own_order v w e f number loops h =
-    let n = length v.turns in
-    let c : common v.loops w.loops ≡ n = subst (λ ls. common v.loops ls ≡ n) loops (all_common v.loops ∙ e) in
-    let same : n ≡ length w.turns = sym e ∙ (ap length loops ∙ f) in
-    let first : key n v ≡ v.turns ++ pos v.number ∷ [] =
-    ap (λ us. us ++ pos v.number ∷ []) (take_all n v.turns (omega arith)) in
-    let second : key n w ≡ w.turns ++ pos w.number ∷ [] =
-    ap (λ us. us ++ pos w.number ∷ []) (take_all n w.turns (omega (arith, same))) in
-    let cut : LexLess (key n v) (key n w) = subst (λ k. LexLess (key k v) (key k w)) c h in
-    let whole : LexLess (v.turns ++ pos v.number ∷ []) (w.turns ++ pos w.number ∷ []) =
-    subst (λ us. LexLess (v.turns ++ pos v.number ∷ []) us) second (subst (λ us. LexLess us (key n w)) first cut) in
-    decided (LexLess-append v.turns w.turns (pos v.number ∷ []) (pos w.number ∷ []) same whole)
-  where
-    decided : LexLess v.turns w.turns ⊎ ((v.turns ≡ w.turns) × LexLess (pos v.number ∷ []) (pos w.number ∷ []))
-        → LexLess v.turns w.turns
-    decided (inl l) = l
-    decided (inr s) = absurd (LexLess-irrefl (pos w.number ∷ [])
-        (subst (λ n. LexLess (pos n ∷ []) (pos w.number ∷ [])) number s.1))
 
 -- what the laws of the walk say that is wanted here
 pub record WalkFacts (program : Program) (params : List ℤ) : Type 0 where

@@ -7,12 +7,12 @@ use Rattle.std.proofs.lemmas.List.{map-append}
 use Rattle.std.proofs.lemmas.List.Elements.{All-nil, All-cons, All-head, All-tail, All-append}
 use Rattle.whole_numbers.specs.Affine.{Affine, value_of, values_of}
 use Rattle.whole_numbers.specs.Lists.{zeros}
+use Rattle.whole_numbers.proofs.Entries.{all_front, all_back}
 use Rattle.integer_sets.specs.Points.{Satisfies}
 use Rattle.iteration_domains.specs.Model.{Modelled}
 use Rattle.iteration_domains.specs.Rows.{variable, variables}
 use Rattle.iteration_domains.proofs.RowLaws.{value_of-variable}
 use Rattle.loop_tree.specs.Tiling.{TileRow, Items, item_values, coordinates, wave_sum}
-use Rattle.schedule_rows.proofs.Pairs.{all_front, all_back}
 use Rattle.schedule_rows.proofs.Determined.{same_head, same_tail}
 use Rattle.tile_skew.specs.declared.layout.Layout.{Layout}
 use Rattle.tile_skew.specs.ScanSets.{count_of, front_of, width, domain_form, row_form, number_form}

@@ -1,19 +1,21 @@
 -- A schedule of statements with at most n loops has at most n rows; its scalars drop dependences.
-use Rattle.std.proofs.Common.{◌≡◌, ℕ, zero, suc, ◌+◌, ◌<◌, List, [], ◌∷◌, ◌++◌, refl, sym, ◌∙◌, ap, ap₂, subst, ◌⊎◌}
+use Rattle.std.proofs.Common.{◌≡◌, ℕ, suc, ◌+◌, ◌<◌, List, [], ◌∷◌, ◌++◌, sym, ◌∙◌, ap, ap₂, subst, ◌⊎◌}
 use Rattle.std.proofs.Common.{inl, inr, arith, length}
 use Rattle.std.specs.Prelude.{◌≤◌, ⊤}
 use Rattle.std.proofs.lemmas.List.{append-nil, length-append, nil_from_length}
-use Rattle.null_space.specs.Narrowing.{narrowed_by, units_from, Grows}
+use Rattle.std.proofs.lemmas.Bool.{cases_lt}
+use Rattle.null_space.specs.Narrowing.{narrowed_by, Grows}
+use Rattle.null_space.proofs.Within.{units_length}
 use Rattle.stmt_graph.specs.Graph.{number_in}
-use Rattle.stmt_graph.proofs.Counting.{lt_or_le}
 use Rattle.iteration_domains.specs.Dependence.{Dependence}
 use Rattle.schedule_rows.specs.Dependences.{edges_of}
 use Rattle.schedule_rows.specs.Items.{Row, Marked, Block, scalar, band, part_of, band_rows, rows_in, closed_by}
 use Rattle.schedule_rows.specs.Posed.{vectors_of, IsFull, loops_of}
-use Rattle.schedule_rows.specs.Next.{State, rows_of, Restricts, Goes, Ends}
+use Rattle.schedule_rows.specs.Next.{State, rows_of, Goes, Ends}
 use Rattle.schedule_rows.specs.Outcomes.{Runs, IsSchedule, items_in}
 use Rattle.schedule_rows.proofs.Measuring.{VectorLaws, vectors_more, rows_closed, rows_scalar, rows_appended}
 use Rattle.schedule_rows.proofs.Reading.{next_goes, next_ends}
+use Rattle.schedule_rows.proofs.Measuring.{restricts_length}
 use Rattle.tile_skew.proofs.Numbers.{numbers_below}
 
 -- as many kernel vectors as loops less rows, or none
@@ -22,12 +24,8 @@ HasRank loops rows =
     (s : ℕ) → s < length loops
     → (vectors_of loops rows s ≡ []) ⊎ (length (vectors_of loops rows s) + length rows ≡ loops_of loops s)
 
-length-units : (n i k : ℕ) → length (units_from n i k) ≡ k
-length-units n i zero = refl
-length-units n i (suc k) = ap suc (length-units n (i + 1) k)
-
 rank_first : (loops : List ℕ) → HasRank loops []
-rank_first loops s l = let e = length-units (loops_of loops s) 0 (loops_of loops s) in inr (omega arith)
+rank_first loops s l = let e = units_length (loops_of loops s) 0 (loops_of loops s) in inr (omega arith)
 
 -- a row that grows the rank of each statement below full rank
 rank_more : VectorLaws → (loops : List ℕ) (rows : List Row) (r : Row) → HasRank loops rows
@@ -52,22 +50,13 @@ rank_more laws loops rows r rank grows s l =
 -- below full rank there are fewer rows than loops round some statement
 rank_few : (n : ℕ) (loops : List ℕ) (rows : List Row) → ((s : ℕ) → loops_of loops s ≤ n) → HasRank loops rows
     → (IsFull loops rows → ⊥) → length rows < n
-rank_few n loops rows most rank more = elim (lt_or_le (length rows) n) [
+rank_few n loops rows most rank more = elim (cases_lt (length rows) n) [
   | inl l ↦ l
   | inr k ↦ absurd (more (λ s l. elim (rank s l) [
     | inl e ↦ e
     | inr e ↦ nil_from_length (vectors_of loops rows s) (let b = most s in omega arith)
   ]))
 ]
-
-restricted_few : (m : ℕ) (ms : List Marked) (ds kept : List Dependence) → Restricts m ms ds kept
-    → length kept ≤ length ds
-restricted_few m ms [] kept h = let e = ap length h in omega arith
-restricted_few m ms (d ∷ ds) kept (inl h) = let k = restricted_few m ms ds kept h.1 in omega arith
-restricted_few m ms (d ∷ ds) kept (inr h) =
-    let k = restricted_few m ms ds h.0 h.2 in
-    let e = ap length h.3 in
-    omega arith
 
 -- the numbers of each scalar are below that of the statements
 abbrev pub AreNumbered : ℕ → List Block → Type 0
@@ -130,7 +119,7 @@ ranked_goes laws n k m loops s t most h (inr (inl c)) =
     let l = ap length e in
     let i = ap items_in c.closed ∙ items_closed s.closed s.rows in
     let r = ap length c.rows in
-    let d = restricted_few m s.rows s.remaining t.remaining c.remaining in
+    let d = restricts_length m s.rows s.remaining t.remaining c.remaining in
     let own = h.items in
     let few = h.few in
     record {
@@ -207,7 +196,7 @@ pub schedule_few : VectorLaws → (n m : ℕ) (loops : List ℕ) (deps : List De
     → ((i : ℕ) → loops_of loops i ≤ n) → IsSchedule m loops deps blocks → HasFewItems n (length deps) loops blocks
 schedule_few laws n m loops deps blocks most s =
     let first : State = record { closed = []; rows = []; remaining = s.taken } in
-    let few = restricted_few m [] deps s.taken s.takes in
+    let few = restricts_length m [] deps s.taken s.takes in
     let ranked : IsRanked n (length deps) loops first = record {
       rank = rank_first loops;
       few = omega arith;

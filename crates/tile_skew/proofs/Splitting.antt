@@ -3,7 +3,7 @@ use Rattle.std.proofs.Common.{◌≡◌, ℕ, suc, ◌+◌, ◌-◌, ◌<◌, �
 use Rattle.std.proofs.Common.{subst, arith, length, map, take, drop}
 use Rattle.std.specs.Prelude.{All, not}
 use Rattle.std.proofs.lemmas.List.{length-map, length-append, map-append, drop_at}
-use Rattle.std.proofs.lemmas.List.Elements.{All-nil, All-cons, All-head, All-tail, All-append}
+use Rattle.std.proofs.lemmas.List.Elements.{All-nil, All-cons, All-append}
 use Rattle.stmt_graph.specs.Graph.{number_in}
 use Rattle.loop_tree.specs.Tiling.{TileRow, Items}
 use Rattle.loop_tree.specs.Tiling as tiling
@@ -137,12 +137,6 @@ items_have loops (band [] ∷ bs) k h a = absurd a.0
 items_have loops (band (m ∷ ms) ∷ bs) k h a =
     All-append (HasStatement k) (map (λ (n : Marked). row n.row) (m ∷ ms)) (items_of bs)
     (rows_have loops (m ∷ ms) k h a.0) (items_have loops bs k h a.1)
-
--- what holds of each mapped element
-pub all_unmapped : {X Y : Type 0} (P : Y → Type 0) (f : X → Y) (xs : List X) → All P (map f xs) → All (λ x. P (f x)) xs
-all_unmapped P f [] h = All-nil (λ x. P (f x))
-all_unmapped P f (x ∷ xs) h =
-    All-cons (λ y. P (f y)) x xs (All-head P (f x) (map f xs) h) (all_unmapped P f xs (All-tail P (f x) (map f xs) h))
 
 -- what is read off the items, the marks and the bands are the statement's items
 pub told_items : (loops : List ℕ) (bs : List Block) (k first behind count : ℕ) (items : List Item) (marks : List Bool)

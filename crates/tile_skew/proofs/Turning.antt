@@ -10,8 +10,8 @@ use Rattle.whole_numbers.specs.Affine.{Affine, composed}
 use Rattle.whole_numbers.proofs.Ring.{mul_neg_left, mul_one_left}
 use Rattle.whole_numbers.proofs.Order.{mul_le}
 use Rattle.whole_numbers.proofs.Sizes.{abs_low, abs_high, abs_at_most}
+use Rattle.whole_numbers.proofs.Entries.{all_back}
 use Rattle.fractions.specs.Fractions.{value_over, HoldsOver}
-use Rattle.fractions.proofs.Chosen.{All-back}
 use Rattle.fm_projection.specs.Alone.{AreInRangeOver}
 use Rattle.scop_syntax.specs.Tree.{Program, Head}
 use Rattle.scop_syntax.specs.Members.{In}
@@ -117,7 +117,7 @@ scopes_within (under tests ∷ scopes) n j forms d xs ys t e g l are rows s few 
     let here = map (composed_test n forms) tests in
     let there = rows_from n j scopes forms in
     let parts = subst (All P) (rows_in-append here there) rows in
-    scopes_within scopes n j forms d xs ys t e g l are.1 (All-back P (rows_in here) (rows_in there) parts) s few
+    scopes_within scopes n j forms d xs ys t e g l are.1 (all_back P (rows_in here) (rows_in there) parts) s few
 scopes_within (round head ∷ scopes) n j forms d xs [] t e g l are rows s few = absurd (omega arith)
 scopes_within (round head ∷ scopes) n j forms d xs (y ∷ ys) t e g l are rows s few =
     let P : Affine → Type 0 = λ f. pos 0 ≤ℤ value_over f d xs in

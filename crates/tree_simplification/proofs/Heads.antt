@@ -8,8 +8,6 @@ use Rattle.std.proofs.lemmas.List.{map-append, map_more}
 use Rattle.std.proofs.lemmas.List.Elements.{All-nil, All-cons, All-head, All-tail, All-push}
 use Rattle.whole_numbers.specs.Affine.{Affine, value_of}
 use Rattle.whole_numbers.specs.Floor.{floor}
-use Rattle.whole_numbers.specs.Lists.{dot}
-use Rattle.whole_numbers.proofs.Ring.{mul_zero_left}
 use Rattle.scop_syntax.specs.Kernel.{AreAtMost}
 use Rattle.scop_syntax.proofs.Members.{le_z_holds}
 use Rattle.iteration_domains.proofs.Entering.{length-composed}
@@ -20,6 +18,7 @@ use Rattle.loop_tree.specs.Tree.{Bound, Bounds, besides, bounds_of, Test, at_lea
 use Rattle.loop_tree.specs.View.{test_of}
 use Rattle.loop_tree.specs.Walk.{all_hold, holds}
 use Rattle.loop_tree.specs.declared.tree.Test.{Test as CodeTest}
+use Rattle.loop_tree.proofs.Fits.{dot_zeros}
 use Rattle.tree_simplification.specs.steps.Inlined.{AreTestsFor, AreWith, bound_over, bounds_over, test_over}
 
 at_most_next : (k : ℕ) (xs : List ℤ) (i : ℕ) (d : ℤ) → i < length xs → AreAtMost k (take i xs)
@@ -47,14 +46,6 @@ zeros_more xs i d inside h x =
     subst (λ (j : ℕ). AreZeros (take j xs)) e (zeros_next xs i d inside h x)
 
 -- a form without coefficients is its constant
-dot_zeros : (cs xs : List ℤ) → AreZeros cs → dot cs xs ≡ pos 0
-dot_zeros [] xs h = refl
-dot_zeros (c ∷ cs) [] h = refl
-dot_zeros (c ∷ cs) (x ∷ xs) h =
-    let r = dot_zeros cs xs h.1 in
-    let z = subst (λ a. a *ℤ x ≡ pos 0) (sym h.0) (mul_zero_left x) in
-    omega (arith, ints)
-
 pub number_holds : (f : Affine) → AreZeros f.coefficients → pos 0 ≤ℤ f.constant → (point : List ℤ)
     → holds (at_least f) point ≡ true
 number_holds f zeros up point =

@@ -6,14 +6,13 @@ use Rattle.std.proofs.lemmas.Int.{ints}
 use Rattle.std.proofs.lemmas.List.{append-nil}
 use Rattle.std.proofs.lemmas.List.Elements.{All-cons, All-nil}
 use Rattle.whole_numbers.specs.Affine.{value_of}
-use Rattle.whole_numbers.specs.Lists.{dot}
 use Rattle.whole_numbers.proofs.Order.{le_or_lt}
-use Rattle.whole_numbers.proofs.Ring.{mul_one_left, mul_one_right, mul_zero_left}
+use Rattle.whole_numbers.proofs.Ring.{mul_one_left, mul_one_right}
 use Rattle.whole_numbers.proofs.Sizes.{abs_at_most, abs_high, abs_low}
 use Rattle.affine_forms.specs.Parts.{variables_of}
 use Rattle.scop_syntax.specs.Members.{In}
 use Rattle.scop_syntax.specs.Walk.{Instance, most_turns}
-use Rattle.loop_tree.specs.Fits.{AreSmallTrees, AreZeros, BoundsFit, FitsAll, FormFits, HasNumber, IsNumber}
+use Rattle.loop_tree.specs.Fits.{AreSmallTrees, BoundsFit, FitsAll, FormFits, HasNumber, IsNumber}
 use Rattle.loop_tree.specs.Fits.{IsSmallTree, TestsFit, form_in}
 use Rattle.loop_tree.specs.Marks.{AreBounds, FlatAll}
 use Rattle.loop_tree.specs.Plans.{AreFree}
@@ -22,6 +21,7 @@ use Rattle.loop_tree.specs.Shape.{BoundsAreOver, TreeIsOver, TreesAreOver}
 use Rattle.loop_tree.specs.Tree.{Bound, Bounds, only, besides, Test, Tree, loop, guard, instance, Trees, none, more}
 use Rattle.loop_tree.specs.Walk.{Visit, all_hold, along, between, lower, upper, through, walk, walk_all}
 use Rattle.loop_tree.proofs.Lists.{between_none}
+use Rattle.loop_tree.proofs.Fits.{dot_zeros}
 use Rattle.tree_simplification.specs.Simplified.{StayWithin, StaysWithin}
 use Rattle.tree_simplification.specs.steps.Context.{ArePartsOver, Context, IsSizedContext, Meets, OnSide, entered}
 use Rattle.tree_simplification.specs.steps.Context.{parts}
@@ -264,14 +264,6 @@ mutual
       (agree_all C c ts h.1 params outer h.4 sized over.1 flat.1 m))
 
 -- values of loops that have a number on each side
-dot_zeros : (cs xs : List ℤ) → AreZeros cs → dot cs xs ≡ pos 0
-dot_zeros [] xs h = refl
-dot_zeros (c ∷ cs) [] h = refl
-dot_zeros (c ∷ cs) (x ∷ xs) h =
-    let r = dot_zeros cs xs h.1 in
-    let z = subst (λ a. a *ℤ x ≡ pos 0) (sym h.0) (mul_zero_left x) in
-    omega (arith, ints, r, z)
-
 number_side : (turned : Bool) (b : Bound) (point : List ℤ) (x : ℤ) → IsNumber b
     → pos 0 ≤ℤ (sign_of turned *ℤ (value_of b.form point -ℤ (x *ℤ b.divisor)))
     → pos 0 ≤ℤ (sign_of turned *ℤ (b.form.constant -ℤ x))

@@ -13,3 +13,5 @@ pub mod Lists
 pub mod Values
 pub mod Lexicographic
 pub mod LexicographicSums
+pub mod Tests
+pub mod Entries

@@ -4,7 +4,7 @@ use Rattle.std.proofs.Common.{length, set, get_or, drop, refl, sym, ◌∙◌, a
 use Rattle.std.proofs.lemmas.Int.{ints}
 use Rattle.std.proofs.lemmas.List.Elements.{All-cons, All-nil, All-head, All-tail}
 use Rattle.whole_numbers.specs.Lists.{dot, multiples, zeros, NotNegative}
-use Rattle.whole_numbers.proofs.Ring.{mul_assoc_int, mul_one_left, mul_zero_right}
+use Rattle.whole_numbers.proofs.Ring.{mul_assoc_int, mul_one_left, mul_zero_right, mul_one_right}
 use Rattle.whole_numbers.proofs.Order.{mul_not_negative, mul_opposite}
 use Rattle.whole_numbers.proofs.Dot.{dot-nil}
 
@@ -108,3 +108,21 @@ dot_not_positive (x ∷ xs) (y ∷ ys) h k =
 pub ruleset sign_laws = (dot_not_negative, not_negative_all)
 
 pub ruleset part_laws = (dot-split, dot-behind)
+
+-- and so are those of one length whose dot products are
+rest_products : (x y : ℤ) (xs ys w : List ℤ) → (x *ℤ pos 0) +ℤ dot xs w ≡ (y *ℤ pos 0) +ℤ dot ys w
+    → dot xs w ≡ dot ys w
+rest_products x y xs ys w h = let a = mul_zero_right x in let b = mul_zero_right y in omega (arith, ints)
+
+pub same_products : (xs ys : List ℤ) → length xs ≡ length ys → ((w : List ℤ) → dot xs w ≡ dot ys w) → xs ≡ ys
+same_products [] [] h e = refl
+same_products [] (y ∷ ys) h e = absurd (omega (arith, h))
+same_products (x ∷ xs) [] h e = absurd (omega (arith, h))
+same_products (x ∷ xs) (y ∷ ys) h e =
+    let one = e (pos 1 ∷ []) in
+    let a = mul_one_right x in
+    let b = mul_one_right y in
+    let c = dot-nil xs in
+    let d = dot-nil ys in
+    ap₂ (λ (v : ℤ) (vs : List ℤ). v ∷ vs) (omega (arith, ints))
+    (same_products xs ys (omega (arith, h)) (λ w. rest_products x y xs ys w (e (pos 0 ∷ w))))

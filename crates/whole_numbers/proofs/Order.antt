@@ -98,3 +98,10 @@ pub ruleset order_laws = (mul_le, mul_lt, mul_le_turned)
 pub ruleset cancel_laws = (cancel_le, cancel_lt)
 
 pub ruleset factor_laws = (factor_zero)
+
+-- the other factor of a positive product, one being positive
+pub positive_factor : (g d : ℤ) → pos 0 <ℤ g → pos 0 <ℤ (g *ℤ d) → pos 0 <ℤ d
+positive_factor g d h k = elim (le_or_lt d (pos 0)) [
+  | inl l ↦ let o = mul_opposite g d (omega (arith, ints)) l in absurd (omega (arith, ints))
+  | inr l ↦ l
+]

@@ -1,9 +1,9 @@
 use Rattle.std.proofs.Common.{ℤ, List, pos, set, ◌+◌, length, ap, ◌∙◌}
-use Rattle.tableau_rows.proofs.Buffers.{zeros-replicate}
+use Rattle.whole_numbers.proofs.Dot.{replicate-zeros}
 use Rattle.checked_tableau.proofs.pivot.write_unit.Goals as goal
 
 pub returns : goal.returns
 returns c =
     let all = c.fill.ensures.after (λ y e. e) in
     ap (λ (zs : List ℤ). set (set zs 0 (pos 1)) (c.args.column + 1) (pos 1))
-    (all ∙ zeros-replicate (length c.args.row.now))
+    (all ∙ replicate-zeros (length c.args.row.now))

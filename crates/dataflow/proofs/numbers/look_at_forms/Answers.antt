@@ -1,12 +1,12 @@
+use Rattle.whole_numbers.proofs.Entries.{all_next, all_taken}
 use Rattle.dataflow.specs.Told.{IsHeld}
-use Rattle.dataflow.proofs.Holding.{all_looked, one_more}
 use Rattle.dataflow.proofs.numbers.look_at_forms.Goals as goal
 
 pub loop-form-preserved : goal.loop-form-preserved
 loop-form-preserved c =
-    one_more IsHeld c.args.forms.now c.loop-form.form-index c.form-item.result c.form-item.is c.loop-form-test.true
+    all_next IsHeld c.args.forms.now c.loop-form.form-index c.form-item.result c.form-item.is c.loop-form-test.true
     c.loop-form.invariant c.look_at_form.ensures
 
 pub returns : goal.returns
 returns c =
-    all_looked IsHeld c.args.forms.now c.loop-form.form-index c.loop-form-test.false c.loop-form.invariant
+    all_taken IsHeld c.args.forms.now c.loop-form.form-index c.loop-form-test.false c.loop-form.invariant

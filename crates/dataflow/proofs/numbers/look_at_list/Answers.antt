@@ -3,7 +3,7 @@ use Rattle.std.specs.Int.{w128}
 use Rattle.std.proofs.lemmas.List.Elements.{All-more}
 use Rattle.whole_numbers.specs.Fits.{fits}
 use Rattle.whole_numbers.proofs.Fits.{fits_iff}
-use Rattle.dataflow.proofs.Holding.{all_looked}
+use Rattle.whole_numbers.proofs.Entries.{all_taken}
 use Rattle.dataflow.proofs.numbers.look_at_list.Goals as goal
 
 pub loop-number-preserved : goal.loop-number-preserved
@@ -16,5 +16,5 @@ loop-number-preserved c =
 
 pub returns : goal.returns
 returns c =
-    all_looked (λ z. fits z ≡ true) c.args.numbers.now c.loop-number.number-index c.loop-number-test.false
+    all_taken (λ z. fits z ≡ true) c.args.numbers.now c.loop-number.number-index c.loop-number-test.false
     c.loop-number.invariant

@@ -1,15 +1,16 @@
 use Rattle.std.proofs.Common.{rules, List, subst, ◌<◌, ◌^◌}
 use Rattle.scop_syntax.specs.Members.{In}
+use Rattle.scop_syntax.proofs.Members.{member_at}
 use Rattle.iteration_domains.specs.Model.{Modelled}
 use Rattle.dataflow.specs.ReadSources.{AreSources, reads_in, reads_of}
-use Rattle.dataflow.proofs.Gathering.{Gathered, all_gathered, at_in, dropped, last_named, statement_gathered}
+use Rattle.dataflow.proofs.Gathering.{Gathered, all_gathered, dropped, last_named, statement_gathered}
 use Rattle.dataflow.proofs.reads.last_writes.Goals as goal
 use Rattle.dataflow.proofs.reads.last_writes.Goals.{After-loop-statement}
 
 pub push_reads-requires-clause-statement : goal.push_reads-requires-clause-statement
 push_reads-requires-clause-statement c =
     subst (λ (ss : List Modelled). In c.statement-item.result ss) c.statements-statement-items.ensures.statements
-    (at_in c.statements-statement-items.result.now c.loop-statement.statement-index c.statement-item.result
+    (member_at c.statements-statement-items.result.now c.loop-statement.statement-index c.statement-item.result
     c.statement-item.is c.loop-statement-test.true)
 
 pub loop-statement-preserved : goal.loop-statement-preserved

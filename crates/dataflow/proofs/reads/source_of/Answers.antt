@@ -1,8 +1,9 @@
 use Rattle.std.proofs.Common.{◌+◌, ◌∙◌, ℕ, List, ap, ap₂, subst, sym}
 use Rattle.scop_syntax.specs.Members.{In}
+use Rattle.scop_syntax.proofs.Members.{member_at}
 use Rattle.iteration_domains.specs.Dependence.{Dependence}
 use Rattle.dataflow.specs.LastRuns.{is_candidate}
-use Rattle.dataflow.proofs.Gathering.{Running, at_in, numbers_are, run_begins, run_on, run_past}
+use Rattle.dataflow.proofs.Gathering.{Running, numbers_are, run_begins, run_on, run_past}
 use Rattle.dataflow.proofs.reads.source_of.Goals as goal
 use Rattle.dataflow.proofs.reads.source_of.Goals.{then-is_candidate+in-Ok-joined, else-is_candidate}
 
@@ -19,7 +20,7 @@ loop-dep-init c =
 pub joined-requires-clause-dep : goal.joined-requires-clause-dep
 joined-requires-clause-dep c =
     subst (λ (ds : List Dependence). In c.dep-item.result ds) c.requires.deps
-    (at_in c.args.deps.now c.loop-dep.dep-index c.dep-item.result c.dep-item.is c.loop-dep-test.true)
+    (member_at c.args.deps.now c.loop-dep.dep-index c.dep-item.result c.dep-item.is c.loop-dep-test.true)
 
 pub loop-dep-preserved : goal.loop-dep-preserved
 loop-dep-preserved c =

@@ -1,7 +1,7 @@
 use Rattle.std.proofs.Common.{◌≡◌, ◌+◌, ◌-◌, ◌<◌, suc, subst, arith, ℕ, All}
+use Rattle.fm_projection.proofs.Narrowing.{narrowed_sized}
 use Rattle.affine_forms.specs.Parts.{variables_of}
 use Rattle.integer_sets.specs.Constraints.{variables_in}
-use Rattle.farkas.proofs.Going.{narrow-sized}
 use Rattle.farkas.proofs.elimination.narrow_system.Goals as goal
 
 pub from_parts-requires : goal.from_parts-requires
@@ -18,7 +18,7 @@ from_parts-requires c =
     let rs = subst (λ (m : ℕ). All (λ f. variables_of f ≡ m) c.rows.result.now) size c.rows.ensures.sized in
     record {
       sized = record {
-        equalities_sized = narrow-sized v n c.equalities.result.now c.in-Ok.equalities.items es low c.in-Ok.ensures;
-        rows_sized = narrow-sized v n c.rows.result.now c.in-Ok-narrow.rows.items rs low c.in-Ok-narrow.ensures;
+        equalities_sized = narrowed_sized v n c.equalities.result.now c.in-Ok.equalities.items es low c.in-Ok.ensures;
+        rows_sized = narrowed_sized v n c.rows.result.now c.in-Ok-narrow.rows.items rs low c.in-Ok-narrow.ensures;
       };
     }

@@ -1,9 +1,10 @@
 use Rattle.std.proofs.Common.{◌≡◌, ◌+◌, ◌-◌, ◌++◌, sym, subst, arith, pos, List}
+use Rattle.fm_projection.proofs.Narrowing.{same_ok}
 use Rattle.wide_math.specs.declared.Wide.{Wide}
 use Rattle.whole_numbers.specs.Affine.{Affine, form_of}
 use Rattle.fractions.specs.Farkas.{own_rows}
 use Rattle.farkas.specs.Claims.{only}
-use Rattle.farkas.proofs.Steps.{same_ok, own_rows_more}
+use Rattle.farkas.proofs.Steps.{own_rows_more}
 use Rattle.farkas.proofs.matching.last_rows.Goals as goal
 
 pub loop-at-preserved : goal.loop-at-preserved

@@ -3,7 +3,7 @@ use Rattle.std.proofs.Math.ListN.{drop_of_length-le}
 use Rattle.std.proofs.lemmas.Int.{ints}
 use Rattle.fractions.specs.Elimination.{is_negative, chosen}
 use Rattle.fm_projection.specs.Runs.{pair_run, forms_run}
-use Rattle.fm_projection.proofs.Loops.{passes, stays, gained, stops, ends, first_stops, ends, negative, not_negative}
+use Rattle.fm_projection.proofs.Loops.{passes, stays, gained, stops, ends, first_stops, negative, not_negative}
 use Rattle.fm_projection.proofs.rows.append_pairs_with.Goals as goal
 use Rattle.fm_projection.proofs.rows.append_pairs_with.Goals.{then-coefficient-lt0+in-Ok, else-coefficient-lt0}
 

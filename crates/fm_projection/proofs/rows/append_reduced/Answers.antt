@@ -3,7 +3,7 @@ use Rattle.std.proofs.Math.ListN.{drop_of_length-le}
 use Rattle.std.proofs.lemmas.Int.{ints}
 use Rattle.fractions.specs.Elimination.{is_not_zero, chosen}
 use Rattle.fm_projection.specs.Runs.{reduced_run, forms_run}
-use Rattle.fm_projection.proofs.Loops.{passes, stays, gained, stops, ends, first_stops, ends, not_zero, not_not_zero}
+use Rattle.fm_projection.proofs.Loops.{passes, stays, gained, stops, ends, first_stops, not_zero, not_not_zero}
 use Rattle.fm_projection.proofs.rows.append_reduced.Goals as goal
 use Rattle.fm_projection.proofs.rows.append_reduced.Goals.{then-coefficient-ne0+in-Ok, else-coefficient-ne0}
 

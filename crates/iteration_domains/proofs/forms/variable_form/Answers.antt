@@ -2,8 +2,8 @@ use Rattle.std.proofs.Common.{◌≡◌, ℤ, List, length, set, rules, pos, ap,
 use Rattle.std.proofs.Math.ListN.{length-set}
 use Rattle.whole_numbers.specs.Affine.{form_of}
 use Rattle.whole_numbers.specs.Lists.{zeros}
+use Rattle.whole_numbers.proofs.Dot.{replicate-zeros}
 use Rattle.affine_forms.proofs.Steps.{refill_same}
-use Rattle.affine_forms.proofs.Values.{replicate-zeros}
 use Rattle.iteration_domains.proofs.forms.variable_form.Goals as goal
 
 pub returns : goal.returns

@@ -1,5 +1,5 @@
-use Rattle.std.proofs.Common.{subst, sym, ◌≡◌, ℤ, List, []}
-use Rattle.scop_syntax.specs.Execution.{IsInside, layout}
+use Rattle.std.proofs.Common.{subst, sym, ℤ, List, []}
+use Rattle.scop_syntax.specs.Execution.{IsInside}
 use Rattle.scop_syntax.specs.Limits.{WithinLimits, has_parameters}
 use Rattle.scop_syntax.specs.View.{program_of}
 use Rattle.loop_tree.specs.Conditions.{CanWalk}

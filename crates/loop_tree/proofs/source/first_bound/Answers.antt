@@ -1,7 +1,7 @@
 use Rattle.std.proofs.Common.{◌≡◌, ℤ, List, pos, ap, rules, ◌∙◌}
 use Rattle.whole_numbers.specs.Affine.{form_of}
 use Rattle.whole_numbers.specs.Lists.{zeros}
-use Rattle.affine_forms.proofs.Values.{replicate-zeros}
+use Rattle.whole_numbers.proofs.Dot.{replicate-zeros}
 use Rattle.loop_tree.specs.Tree.{Bound}
 use Rattle.loop_tree.proofs.source.first_bound.Goals as goal
 

@@ -2,12 +2,12 @@ use Rattle.std.proofs.Common.{◌≡◌, ◌∙◌, ap, sym, ℤ, List, pos, set
 use Rattle.std.specs.Prelude.{negsuc}
 use Rattle.whole_numbers.specs.Lists.{zeros}
 use Rattle.whole_numbers.specs.Affine.{form_of}
-use Rattle.tableau_rows.proofs.Buffers.{zeros-replicate}
+use Rattle.whole_numbers.proofs.Dot.{replicate-zeros}
 use Rattle.pip_solver.proofs.emptiness.bound.Goals as goal
 
 pub returns : goal.returns
 returns c =
-    let z = c.in-Ok.ensures.items_if_clones_equal (λ y e. e) ∙ zeros-replicate c.args.variables in
+    let z = c.in-Ok.ensures.items_if_clones_equal (λ y e. e) ∙ replicate-zeros c.args.variables in
     let line : c.deref.result.now ≡ set (zeros c.args.variables) c.args.place (negsuc 0) =
     c.deref.ensures.value ∙ ap (λ (zs : List ℤ). set zs c.args.place (negsuc 0)) z in
     let made : form_of c.deref.result.now (pos 65536) ≡ c.in-Ok-of.form = cc (c.in-Ok-of.ensures.form) in

@@ -2,10 +2,10 @@ use Rattle.std.proofs.Common.{rules, ◌∙◌, ℕ, ◌+◌, ◌<◌, ◌≤◌
 use Rattle.std.specs.Prelude.{◌≤ℤ◌, unsigned_abs}
 use Rattle.std.specs.Int.{w128}
 use Rattle.std.proofs.lemmas.Int.{to_z-of_z}
+use Rattle.whole_numbers.proofs.Entries.{get_or_same}
 use Rattle.plain_scan.specs.declared.outline.Shadow.{Shadow}
 use Rattle.plain_scan.specs.declared.set_outline.Outline.{Outline}
 use Rattle.plain_scan.proofs.Hulling.{next_at, no_greater}
-use Rattle.plain_scan.proofs.Members.{same_place}
 use Rattle.plain_scan.proofs.hull.lowest.Goals as goal
 
 pub loop-outline-preserved : goal.loop-outline-preserved
@@ -25,7 +25,7 @@ loop-outline-preserved c =
     let fits2 : FitsSigned w128 now.low = search rules in
     let second : w ≤ℤ now.low = simp to_z-of_z at c.less-low.ensures.second in
     let own : (e : Shadow) → w ≤ℤ (get_or o.shadows.items depth e).low =
-    λ e. subst (λ (h : Shadow). w ≤ℤ h.low) (c.index-in-loop-outline.ensures ∙ same_place o.shadows.items depth now
+    λ e. subst (λ (h : Shadow). w ≤ℤ h.low) (c.index-in-loop-outline.ensures ∙ get_or_same o.shadows.items depth now
     e here) second in
     let all = next_at (λ (o : Outline). (e : Shadow) → w ≤ℤ (get_or o.shadows.items depth e).low) c.args.outlines.now
     i o c.outline-item.is c.loop-outline-test.true

@@ -1,10 +1,10 @@
 use Rattle.std.proofs.Common.{rules, refl, subst, All, FitsSigned}
 use Rattle.std.specs.Int.{w128}
 use Rattle.std.proofs.lemmas.Int.{to_z-of_z}
+use Rattle.scop_syntax.proofs.Members.{member_at}
+use Rattle.whole_numbers.proofs.Entries.{all_next}
 use Rattle.plain_scan.specs.Between.{HasSmallNumbers, IsLargeAmong}
 use Rattle.plain_scan.proofs.Bounding.{take_all}
-use Rattle.plain_scan.proofs.Telling.{all_next}
-use Rattle.plain_scan.proofs.Members.{member_at}
 use Rattle.plain_scan.proofs.numbers.large_among.Goals as goal
 
 pub returns-in-Some-clause-some : goal.returns-in-Some-clause-some

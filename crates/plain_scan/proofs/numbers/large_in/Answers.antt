@@ -2,10 +2,10 @@ use Rattle.std.proofs.Common.{rules, ◌∙◌, ◌<◌, ◌≤◌, ◌^◌, ℤ
 use Rattle.std.specs.Prelude.{unsigned_abs}
 use Rattle.std.specs.Int.{w128}
 use Rattle.std.proofs.lemmas.Int.{to_z-of_z}
+use Rattle.whole_numbers.proofs.Entries.{all_next, get_or_same}
 use Rattle.scop_syntax.specs.Members.{In}
+use Rattle.scop_syntax.proofs.Members.{member_at}
 use Rattle.plain_scan.proofs.Bounding.{take_all}
-use Rattle.plain_scan.proofs.Telling.{all_next}
-use Rattle.plain_scan.proofs.Members.{member_at, same_place}
 use Rattle.plain_scan.proofs.numbers.large_in.Goals as goal
 
 pub returns-then-not-is_small-clause-some : goal.returns-then-not-is_small-clause-some
@@ -17,7 +17,7 @@ returns-then-not-is_small-clause-some c =
     let large : 2 ^ 40 < unsigned_abs z = search rules in
     let there : In z c.args.form.now.coefficients =
     subst (In z) c.coefficients-number-items.ensures
-    (member_at xs i z (same_place xs i (pos 0) z c.loop-number-test.true) c.loop-number-test.true) in
+    (member_at xs i z (get_or_same xs i (pos 0) z c.loop-number-test.true) c.loop-number-test.true) in
     simp to_z-of_z (large, inl there)
 
 pub loop-number-preserved : goal.loop-number-preserved
@@ -27,7 +27,7 @@ loop-number-preserved c =
     let z = get_or xs i (pos 0) in
     let fits : FitsSigned w128 z = search rules in
     let small : unsigned_abs z ≤ 2 ^ 40 = search rules in
-    all_next (λ (z : ℤ). unsigned_abs z ≤ 2 ^ 40) xs i z (same_place xs i (pos 0) z c.loop-number-test.true)
+    all_next (λ (z : ℤ). unsigned_abs z ≤ 2 ^ 40) xs i z (get_or_same xs i (pos 0) z c.loop-number-test.true)
     c.loop-number-test.true c.loop-number.invariant small
 
 pub returns-then-is_small-clause-none : goal.returns-then-is_small-clause-none

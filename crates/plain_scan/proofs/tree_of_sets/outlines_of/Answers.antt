@@ -1,9 +1,9 @@
 use Rattle.std.proofs.Common.{rules, refl, subst, sym}
+use Rattle.scop_syntax.proofs.Members.{member_at}
 use Rattle.integer_sets.specs.Scanned.{Scanned}
 use Rattle.fm_projection.specs.Alone.{IsBounded}
 use Rattle.plain_scan.specs.Hulls.{sets_in}
 use Rattle.plain_scan.specs.Outlines.{IsOpenSomewhere}
-use Rattle.plain_scan.proofs.Members.{member_at}
 use Rattle.plain_scan.proofs.Opening.{open_has_none}
 use Rattle.plain_scan.proofs.Stopping.{scan_stops}
 use Rattle.plain_scan.proofs.Whole.{kept_next, left_next}

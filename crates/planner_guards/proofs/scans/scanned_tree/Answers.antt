@@ -1,5 +1,4 @@
-use Rattle.std.proofs.Common.{◌≡◌, [], List, subst, sym, zero}
-use Rattle.std.specs.Prelude.{Bool}
+use Rattle.std.proofs.Common.{[], subst, sym, zero}
 use Rattle.std.proofs.lemmas.List.Elements.{All-nil}
 use Rattle.std.proofs.lemmas.Result.{IfOk-weaker}
 use Rattle.loop_tree.specs.Fits.{AreSmallTrees}

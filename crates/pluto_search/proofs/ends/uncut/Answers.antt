@@ -1,8 +1,8 @@
 use Rattle.std.proofs.Common.{◌∙◌, ◌<◌, List, All, length, sym, subst}
 use Rattle.std.proofs.lemmas.List.Elements.{All-tail}
+use Rattle.std.proofs.lemmas.List.{nil_from_length}
 use Rattle.iteration_domains.specs.Dependence.{Dependence}
 use Rattle.pluto_search.proofs.Cutting.{Passes, cut_off, passed_on, passes_last}
-use Rattle.pluto_search.proofs.Leading.{no_more}
 use Rattle.pluto_search.proofs.ends.uncut.Goals as goal
 
 pub loop-dep-preserved-then-is_cut : goal.loop-dep-preserved-then-is_cut
@@ -41,7 +41,7 @@ loop-dep-preserved c =
 pub returns : goal.returns
 returns c =
     let left = c.loop-dep.dep-iterator.rest in
-    let none = no_more left.items (sym left.ok.0 ∙ c.in-None.ensures.steps.0) in
+    let none = nil_from_length left.items (sym left.ok.0 ∙ c.in-None.ensures.steps.0) in
     passes_last c.args.numbers.now c.loop-dep.kept.items c.args.deps.items
     (subst (λ (l : List Dependence). Passes c.args.numbers.now l c.loop-dep.kept.items c.args.deps.items) none
     c.loop-dep.invariant.3)

@@ -1,11 +1,10 @@
 use Rattle.std.proofs.Common.{rules, ◌≡◌, List, length, map, sym, ap, subst, arith}
-use Rattle.std.proofs.lemmas.List.{length-map}
+use Rattle.std.proofs.lemmas.List.{length-map, nil_from_length}
 use Rattle.iteration_domains.specs.Dependence.{Dependence}
 use Rattle.schedule_rows.specs.declared.item.Marked as code
 use Rattle.schedule_rows.specs.Schedule.{marked_of}
 use Rattle.pluto_search.specs.Steps.{state_of, Steps, AreBetween}
 use Rattle.pluto_search.proofs.Counts.{all_can_tell}
-use Rattle.pluto_search.proofs.Leading.{no_more}
 use Rattle.pluto_search.proofs.Moving.{are_within, cut_steps, band_steps}
 use Rattle.pluto_search.proofs.next.lack.Goals as goal
 use Rattle.pluto_search.proofs.next.lack.Goals.{After-is_empty}
@@ -30,7 +29,7 @@ returns-then-is_empty c =
     subst (λ r. Steps c.args.parameters c.args.loops.now c.args.budget (state_of p) r) (sym c.goes.ensures)
     (cut_steps c.args.parameters c.args.loops.now c.args.budget p c.in-Ok.deps.items c.args.posed c.cut.result
     c.requires.good (left at)
-    c.requires.more c.requires.none (ap (λ (z : List code.Marked). map marked_of z) (no_more p.rows.items none))
+    c.requires.more c.requires.none (ap (λ (z : List code.Marked). map marked_of z) (nil_from_length p.rows.items none))
     c.requires.posed c.cut.ensures)
 
 pub close_band-requires-clause-tells : goal.close_band-requires-clause-tells

@@ -19,7 +19,7 @@ use Rattle.pluto_search.specs.Steps.{state_of, IsGood, Steps}
 use Rattle.pluto_search.proofs.Going.{Vectors, shown, small_vectors, are_between, remains, posed_at}
 use Rattle.pluto_search.proofs.Halting.{stop_of, stop_at, minimum_stops}
 use Rattle.pluto_search.proofs.next.next_row.Goals as goal
-use Rattle.pluto_search.proofs.next.next_row.Goals.{After-posed_over, In-Ok}
+use Rattle.pluto_search.proofs.next.next_row.Goals.{In-Ok}
 
 has_at : (m : ℕ) (loops : List ℕ) (budget : ℕ) (p : Progress) (ruled : List RuledDep) (vs : List Vectors)
     (s : Constraints)

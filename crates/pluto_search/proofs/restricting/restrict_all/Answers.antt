@@ -1,14 +1,16 @@
 use Rattle.std.proofs.Common.{◌≡◌, ◌+◌, List, ◌∷◌, arith, map, drop, take, sym, subst}
+use Rattle.std.proofs.lemmas.List.{drop_all}
 use Rattle.scop_syntax.specs.Members.{In}
 use Rattle.iteration_domains.specs.Dependence.{Dependence}
 use Rattle.schedule_rows.specs.Next.{restricted}
 use Rattle.schedule_rows.specs.Schedule.{marked_of}
 use Rattle.pluto_search.specs.Questions.{AnswersRestricted, IsAnswered, StopsEmptiness, StopsRestricted}
 use Rattle.std.specs.Prelude.{Option, Ok, true, false}
+use Rattle.whole_numbers.proofs.Entries.{all_taken}
 use Rattle.pluto_search.specs.Stopping.{Restrictions}
-use Rattle.pluto_search.proofs.Firsts.{first_next, taken_more, all_taken}
+use Rattle.pluto_search.proofs.Firsts.{first_next, taken_more}
 use Rattle.pluto_search.proofs.Halting.{stop_of}
-use Rattle.pluto_search.proofs.Leading.{Leads, dropped, held_back, leads_last, next_of, is_among, none_left}
+use Rattle.pluto_search.proofs.Leading.{Leads, dropped, held_back, leads_last, next_of, is_among}
 use Rattle.pluto_search.proofs.restricting.restrict_all.Goals as goal
 use Rattle.pluto_search.proofs.restricting.restrict_all.Goals.{After-index-deps-at}
 
@@ -91,7 +93,7 @@ returns-clause-kept c =
     let rows = map marked_of c.args.rows.now in
     leads_last m rows c.loop-at.kept.items c.args.deps.now
     (subst (λ (l : List Dependence). Leads m rows l c.loop-at.kept.items c.args.deps.now)
-    (none_left c.args.deps.now c.loop-at.at (omega (arith, c.loop-at-test.false))) c.loop-at.invariant.0)
+    (drop_all c.loop-at.at c.args.deps.now (omega (arith, c.loop-at-test.false))) c.loop-at.invariant.0)
 
 pub returns-clause-answered : goal.returns-clause-answered
 returns-clause-answered c =

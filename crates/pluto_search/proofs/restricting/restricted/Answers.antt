@@ -1,11 +1,12 @@
 use Rattle.std.proofs.Common.{◌≡◌, ◌∙◌, ◌+◌, List, ◌∷◌, All, arith, map, drop, sym, ap, subst}
+use Rattle.std.proofs.lemmas.List.{drop_all}
 use Rattle.iteration_domains.specs.Dependence.{Dependence}
 use Rattle.schedule_rows.specs.declared.item.Marked as code
 use Rattle.schedule_rows.specs.Items.{Marked}
 use Rattle.schedule_rows.specs.Next.{restricted}
 use Rattle.schedule_rows.specs.Schedule.{row_of, marked_of}
 use Rattle.pluto_search.specs.Sizes.{CanTell}
-use Rattle.pluto_search.proofs.Leading.{next_of, none_left, is_among, all_tell_more, all_among}
+use Rattle.pluto_search.proofs.Leading.{next_of, is_among, all_tell_more, all_among}
 use Rattle.pluto_search.proofs.restricting.restricted.Goals as goal
 use Rattle.pluto_search.proofs.restricting.restricted.Goals.{After-marked-item}
 
@@ -42,7 +43,7 @@ returns c =
     let m = c.args.parameters in
     let rows = c.args.rows.now in
     sym (ap (λ (z : List code.Marked). restricted m (map marked_of z) c.loop-marked.equal)
-    (none_left rows c.loop-marked.marked-index (omega (arith, c.loop-marked-test.false)))) ∙ c.loop-marked.invariant.0
+    (drop_all c.loop-marked.marked-index rows (omega (arith, c.loop-marked-test.false)))) ∙ c.loop-marked.invariant.0
 
 pub loop-marked-init : goal.loop-marked-init
 loop-marked-init c =

@@ -3,15 +3,17 @@ use Rattle.scop_syntax.specs.Members.{In}
 use Rattle.scop_syntax.proofs.Members.{in_map}
 use Rattle.std.specs.Prelude.{Bool, true, false}
 use Rattle.std.proofs.lemmas.List.Elements.{All-map}
+use Rattle.std.proofs.lemmas.List.{drop_all}
+use Rattle.whole_numbers.proofs.Entries.{all_taken}
 use Rattle.iteration_domains.specs.Dependence.{Dependence}
 use Rattle.schedule_rows.specs.Dependences.{IsEmptyDep, above_at}
 use Rattle.schedule_rows.specs.Schedule.{row_of}
 use Rattle.pluto_systems.specs.Posing.{RuledDep, dep_of}
 use Rattle.pluto_search.specs.Questions.{IsFirst, AnswersMark, StopsEmptiness, StopsMarks}
 use Rattle.pluto_search.specs.Sizes.{CanTell}
-use Rattle.pluto_search.proofs.Firsts.{first_next, first_mapped, taken_more, all_taken}
+use Rattle.pluto_search.proofs.Firsts.{first_next, first_mapped, taken_more}
 use Rattle.pluto_search.proofs.Halting.{stop_of}
-use Rattle.pluto_search.proofs.Leading.{next_of, is_among, none_left}
+use Rattle.pluto_search.proofs.Leading.{next_of, is_among}
 use Rattle.pluto_search.proofs.rows.is_parallel.Goals as goal
 use Rattle.pluto_search.proofs.rows.is_parallel.Goals.{After-dep}
 
@@ -99,4 +101,4 @@ returns-clause-answered c =
 pub returns-clause-parallel : goal.returns-clause-parallel
 returns-clause-parallel c h =
     c.loop-at.invariant.0 (λ d i. absurd (subst (λ (l : List RuledDep). In d (map dep_of l))
-    (none_left c.args.ruled.now c.loop-at.at (omega (arith, c.loop-at-test.false))) i))
+    (drop_all c.loop-at.at c.args.ruled.now (omega (arith, c.loop-at-test.false))) i))

@@ -1,10 +1,10 @@
 use Rattle.std.proofs.Common.{rules, ◌≡◌, ℕ, ◌<◌, pos, List, arith, length, map, All, sym, subst}
 use Rattle.std.specs.Prelude.{◌≤ℤ◌, slice_index_or}
-use Rattle.std.proofs.lemmas.List.{get_or-map, length-map}
+use Rattle.std.proofs.lemmas.List.{get_or-map, length-map, drop_all}
 use Rattle.std.proofs.lemmas.List.Elements.{All-nil, All-map, All-get_or}
 use Rattle.farkas.specs.Unknowns as unknowns
 use Rattle.schedule_rows.specs.declared.item.Part as code_part
-use Rattle.pluto_search.proofs.Leading.{all_next, none_left}
+use Rattle.pluto_search.proofs.Leading.{all_next}
 use Rattle.pluto_search.proofs.Moving.{plain_part}
 use Rattle.pluto_search.proofs.rows.is_within.Goals as goal
 
@@ -42,4 +42,4 @@ returns-clause-within c h =
     All-map IsPlainSmall plain_part c.args.row.now.parts.items (c.loop-at.invariant
     (let ps = c.args.row.now.parts.items in
     let n : c.len-at-end.result ≡ length ps = search rules in
-    subst (All IsSmall) (sym (none_left ps c.loop-at.at (omega (arith, c.loop-at-test.false)))) (All-nil IsSmall)))
+    subst (All IsSmall) (sym (drop_all c.loop-at.at ps (omega (arith, c.loop-at-test.false)))) (All-nil IsSmall)))

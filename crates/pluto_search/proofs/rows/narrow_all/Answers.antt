@@ -1,12 +1,12 @@
 use Rattle.std.proofs.Common.{rules, ◌≡◌, ◌∙◌, ◌+◌, ℤ, List, [], ◌∷◌, ◌++◌, arith, length, map, drop, sym, ap, ap₂}
 use Rattle.std.proofs.Common.{subst, append_assoc}
 use Rattle.std.specs.Vec.{vec_len}
-use Rattle.std.proofs.lemmas.List.{append-nil, length-map, map-append}
+use Rattle.std.proofs.lemmas.List.{append-nil, length-map, map-append, drop_all}
 use Rattle.schedule_rows.specs.declared.item.Part as code_part
 use Rattle.pluto_search.specs.Sizes.{CanNarrow, CanNarrowEach, narrowed_each}
 use Rattle.pluto_search.proofs.Counts.{narrow_lengths}
 use Rattle.pluto_search.proofs.Going.{Vectors, shown}
-use Rattle.pluto_search.proofs.Leading.{mapped_next, none_left}
+use Rattle.pluto_search.proofs.Leading.{mapped_next}
 use Rattle.pluto_search.proofs.rows.narrow_all.Goals as goal
 use Rattle.pluto_search.proofs.rows.narrow_all.Goals.{After-index-vectors-at}
 
@@ -83,7 +83,7 @@ returns c =
     let all = map shown c.loop-at.all.items in
     let k = length-map c.args.row.now.parts.items numbers in
     let l = length-map c.args.vectors.now shown in
-    let a = none_left cs i (omega arith) in
-    let b = none_left vs i (omega arith) in
+    let a = drop_all i cs (omega arith) in
+    let b = drop_all i vs (omega arith) in
     sym (append-nil all) ∙ (ap (λ (z : List (List (List ℤ))). all ++ z) (sym (ap₂ narrowed_each a b)) ∙
     c.loop-at.invariant.0)

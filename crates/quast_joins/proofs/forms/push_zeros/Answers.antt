@@ -1,6 +1,6 @@
 use Rattle.std.proofs.Common.{◌++◌}
 use Rattle.whole_numbers.specs.Lists.{zeros}
-use Rattle.quast_joins.proofs.Forming.{zeros_step}
+use Rattle.whole_numbers.proofs.Entries.{zeros_step}
 use Rattle.quast_joins.proofs.forms.push_zeros.Goals as goal
 
 pub loop-place-preserved : goal.loop-place-preserved

@@ -1,11 +1,12 @@
 use Rattle.std.proofs.Common.{◌-◌, ◌<◌, ◌≤◌, length, ap, sym, ◌∙◌, arith}
 use Rattle.std.specs.Prelude.{slice_get}
+use Rattle.whole_numbers.proofs.Entries.{get_front}
 use Rattle.scop_syntax.specs.Tree.{Expression}
 use Rattle.scop_syntax.specs.declared.tree.Expr.{Expr}
 use Rattle.scop_syntax.specs.Cells.{reads_of}
 use Rattle.scop_syntax.specs.View.{expression_of}
 use Rattle.scop_syntax.proofs.Views.{expression_binary}
-use Rattle.scop_meaning.proofs.Numbering.{get_front, get_back}
+use Rattle.scop_meaning.proofs.Numbering.{get_back}
 use Rattle.scop_meaning.proofs.accesses.+read_at.Goals as goal
 
 pub returns-then-number-before : goal.returns-then-number-before

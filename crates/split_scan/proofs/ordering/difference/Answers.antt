@@ -1,7 +1,7 @@
 use Rattle.std.proofs.Common.{◌≡◌, ◌∙◌, ◌+◌, sym, ap, ℤ, pos, negsuc, List, set}
 use Rattle.whole_numbers.specs.Lists.{zeros}
 use Rattle.whole_numbers.specs.Affine.{form_of}
-use Rattle.affine_forms.proofs.Values.{replicate-zeros}
+use Rattle.whole_numbers.proofs.Dot.{replicate-zeros}
 use Rattle.wide_math.specs.declared.Wide.{Wide}
 use Rattle.fm_projection.proofs.Narrowing.{same_ok}
 use Rattle.split_scan.proofs.ordering.difference.Goals as goal

@@ -1,4 +1,5 @@
 use Rattle.std.proofs.Common.{rules, ◌≡◌, ◌∙◌, zero, [], arith, length, subst, sym, All}
+use Rattle.std.proofs.lemmas.List.{nil_from_length}
 use Rattle.loop_tree.specs.View.{nodes_of, trees_in}
 use Rattle.loop_tree.specs.Walk.{walk_all}
 use Rattle.loop_tree.specs.Scans.{Exact}
@@ -14,7 +15,7 @@ use Rattle.plain_scan.specs.Scanning.{mark_of}
 use Rattle.plain_scan.proofs.Stepping.{dims_in}
 use Rattle.plain_scan.proofs.Leaving.{kept_in, kept_rise}
 use Rattle.plain_scan.proofs.Shaping.{all_of_more}
-use Rattle.plain_scan.proofs.Whole.{empty_list, few_kept, iterators_kept, none_exact, none_kept, shaped}
+use Rattle.plain_scan.proofs.Whole.{few_kept, iterators_kept, none_exact, none_kept, shaped}
 use Rattle.plain_scan.proofs.Whole.{whole_exact, whole_fits, whole_gives}
 use Rattle.split_scan.proofs.tree.scan.Goals as goal
 
@@ -22,7 +23,7 @@ pub returns-then-len-eq0-clause-exact : goal.returns-then-len-eq0-clause-exact
 returns-then-len-eq0-clause-exact c params range =
     let sets = c.args.sets.now in
     let short : length c.in-Ok.outlines.items ≡ 0 = search rules in
-    let none = empty_list c.in-Ok.outlines.items short in
+    let none = nil_from_length c.in-Ok.outlines.items short in
     let left = subst (λ os. LeavesOut sets (sets_in os)) none c.in-Ok.ensures.kept in
     subst (λ ns. Exact (Keys sets params) (walk_all (nodes_of ns) params [])) (sym c.new.ensures.items)
     (none_exact sets left params range)

@@ -1,6 +1,6 @@
 use Rattle.std.proofs.Common.{◌++◌}
 use Rattle.whole_numbers.specs.Lists.{zeros}
-use Rattle.conflict_deps.proofs.Shapes.{zeros_step}
+use Rattle.whole_numbers.proofs.Entries.{zeros_step}
 use Rattle.tile_skew.proofs.forms.push_zeros.Goals as goal
 
 pub loop-place-preserved : goal.loop-place-preserved

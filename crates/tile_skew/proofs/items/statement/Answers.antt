@@ -1,6 +1,7 @@
 use Rattle.std.proofs.Common.{◌≡◌, ◌∙◌, ◌+◌, ◌<◌, sym, subst, ap, arith, length, map, drop}
 use Rattle.std.specs.Prelude.{All}
 use Rattle.std.proofs.lemmas.List.{length-map}
+use Rattle.whole_numbers.proofs.Entries.{all_unmapped}
 use Rattle.iteration_domains.specs.Model.{Modelled}
 use Rattle.loop_tree.specs.Tiling.{Items, TileRow}
 use Rattle.loop_tree.specs.TilingView.{item_of as tile_item_of}
@@ -8,7 +9,7 @@ use Rattle.schedule_rows.specs.Posed.{loops_of}
 use Rattle.tile_skew.specs.steps.Sizes.{FitsTurns, FitsItem}
 use Rattle.schedule_rows.specs.Schedule.{item_of, loops_in, items_of}
 use Rattle.tile_skew.specs.steps.Listed.{HasStatement, IsInside, AreBounds, leading_in, item_at}
-use Rattle.tile_skew.proofs.Splitting.{band_inside, bounds_are, ends_within, items_have, all_unmapped, told_items}
+use Rattle.tile_skew.proofs.Splitting.{band_inside, bounds_are, ends_within, items_have, told_items}
 use Rattle.tile_skew.proofs.Fitting.{first_fit, behind_fit}
 use Rattle.tile_skew.proofs.items.statement.Goals as goal
 
