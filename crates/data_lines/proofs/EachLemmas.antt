@@ -10,7 +10,7 @@ use Rattle.std.specs.Str.{bytes_eq}
 use Rattle.scop_lexer.specs.Bytes.{Text}
 use Rattle.scop_syntax.specs.Members.{In, Sorted}
 use Rattle.scop_syntax.specs.Tree.{Declaration, Program}
-use Rattle.scop_syntax.proofs.Members.{in_front, in_back}
+use Rattle.scop_syntax.proofs.Members.{in_front, in_back, in_at}
 use Rattle.data_lines.specs.declared.places.Place.{Place}
 use Rattle.data_lines.specs.declared.places.Place.TheVariants.{Nowhere, Parameter, Array}
 use Rattle.data_lines.specs.Words.{unindented, words_of}
@@ -50,11 +50,6 @@ in_one [] ys w h a b = a
 in_one (x ∷ xs) ys w h (inl e) b = h.0 w (in_back w xs ys b) (sym e)
 in_one (x ∷ xs) ys w h (inr m) b = in_one xs ys w h.1 m b
 
-in_at : (names : List Text) (i : ℕ) → i < length names → In (get_or names i []) names
-in_at [] i within = absurd (omega (arith, within))
-in_at (name ∷ names) zero within = inl refl
-in_at (name ∷ names) (suc i) within = inr (in_at names i (omega (arith, within)))
-
 -- where a name stands among them
 abbrev found_from : ℕ → Text → List Text → Option ℕ
 found_from k w names = position_from (λ other. bytes_eq other w) k names
@@ -76,7 +71,7 @@ found_at (name ∷ names) k (suc i) apart within =
     let there : i < length names = omega (arith, within) in
     let w = get_or names i [] in
     let same : (k + 1) + i ≡ k + suc i = omega arith in
-    found_step k name w names false (other_bytes name w (apart.0 w (in_at names i there)))
+    found_step k name w names false (other_bytes name w (apart.0 w (in_at names i [] there)))
     ∙ (found_at names (k + 1) i apart.1 there ∙ ap (λ n. Some n) same)
 
 not_found : (names : List Text) (k : ℕ) (w : Text) → (In w names → ⊥) → found_from k w names ≡ None
@@ -106,7 +101,7 @@ array_at program j apart within =
     let w = get_or names j [] in
     let same : 0 + j ≡ j = omega arith in
     ap (λ o. parameter_place o (array_place (found w names)))
-    (not_found ps 0 w (λ m. in_one ps names w apart m (in_at names j within)))
+    (not_found ps 0 w (λ m. in_one ps names w apart m (in_at names j [] within)))
     ∙ ap array_place (found_at names 0 j (apart_right ps names apart) within ∙ ap (λ n. Some n) same)
 
 -- the place of the name behind i others, where n are those of parameters

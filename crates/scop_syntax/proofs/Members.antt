@@ -189,11 +189,6 @@ member_at [] k x is inside = absurd (omega (arith, inside))
 member_at (y ∷ ys) zero x is inside = inl is
 member_at (y ∷ ys) (suc k) x is inside = inr (member_at ys k x is (omega (arith, inside)))
 
-pub in_at : {A : Type 0} (xs : List A) (n : ℕ) (d : A) → n < length xs → In (get_or xs n d) xs
-in_at [] n d h = absurd (omega arith)
-in_at (x ∷ xs) zero d h = inl refl
-in_at (x ∷ xs) (suc n) d h = inr (in_at xs n d (omega arith))
-
 pub all_in : {A : Type 0} (P : A → Type 0) (xs : List A) (x : A) → All P xs → In x xs → P x
 all_in P [] x all h = absurd h
 all_in P (y ∷ ys) x all (inl e) = subst P (sym e) (All-head P y ys all)
