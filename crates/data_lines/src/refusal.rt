@@ -2,7 +2,7 @@
 
 /// The rule that data breaks first. Lines count from 1, parameters and arrays from 0 in the order of declaration,
 /// dimensions from 1.
-#[derive(Clone, Copy, Debug, PartialEq, Eq)]
+#[derive(Clone, Copy, PartialEq, Eq)]
 pub enum DataRefusal {
     /// The line is not `NAME = WORD ..`, or has not as many words as its first word or its parameter asks for.
     Line(u64),

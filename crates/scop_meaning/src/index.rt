@@ -27,7 +27,7 @@ use scop_syntax::tree::{Access, Aff, Expr, Item, Kernel, Loop, Right, Stmt};
 /// A subscript outside its extent: of which statement, counted from 1, of which of its accesses,
 /// where 0 is the place written and the reads are counted from 1, and in which dimension, counted
 /// from 1.
-#[derive(Debug, Clone, Copy, PartialEq, Eq)]
+#[derive(Clone, Copy, PartialEq, Eq)]
 pub struct Outside {
     pub stmt: usize,
     pub access: usize,

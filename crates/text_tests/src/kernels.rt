@@ -52,17 +52,17 @@ fn count_of(alloc: Global, tokens: &[Token]) -> Result<usize, Stop> {
 
 #[test]
 fn a_kernel_is_read(rt: HostRuntime) {
-    assert_eq!(rt; count_of(rt.alloc(), &TEXT), Ok(8));
+    assert!(rt; count_of(rt.alloc(), &TEXT) == Ok(8));
 }
 
 #[test]
 fn a_missing_semicolon_is_told_at_the_next_token(rt: HostRuntime) {
     let mut text = TEXT;
     text[13] = END;
-    assert_eq!(rt; count_of(rt.alloc(), &text), Err(Stop::Unfit(13)));
+    assert!(rt; count_of(rt.alloc(), &text) == Err(Stop::Unfit(13)));
 }
 
 #[test]
 fn an_open_block_is_unended(rt: HostRuntime) {
-    assert_eq!(rt; count_of(rt.alloc(), &TEXT[..14]), Err(Stop::Unended(14)));
+    assert!(rt; count_of(rt.alloc(), &TEXT[..14]) == Err(Stop::Unended(14)));
 }
