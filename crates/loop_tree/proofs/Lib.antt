@@ -18,3 +18,4 @@ pub mod Chains
 pub mod Weights
 pub mod Walked
 pub mod Going
+pub mod Stretched

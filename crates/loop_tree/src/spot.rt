@@ -29,6 +29,7 @@ ghost use Rattle.loop_tree.specs.Fits.{BoundsFit, TestsFit};
 ghost use Rattle.loop_tree.specs.Marks.{AreBounds, AreTests};
 ghost use Rattle.loop_tree.specs.Spot.{deep, deep_all, mark as marked_at, rest_of};
 ghost use Rattle.loop_tree.specs.SpotView.{IsSpotOf, StandAlike, found_in, mark_of, marks_in, marks_of, to_come};
+ghost use Rattle.loop_tree.specs.Stretches.{left_in, left_of};
 ghost use Rattle.loop_tree.specs.Tree.{loop as loops, more, none};
 ghost use Rattle.loop_tree.specs.View.{bounds_in, nodes_of, test_of, tree_of, trees_in};
 ghost use Rattle.loop_tree.specs.Walk.{all_hold as tests_hold, lower, upper, visits};
@@ -56,6 +57,7 @@ pub struct Mark {
 #[derive(Drop)]
 pub struct Spot {
     pub marks: Vec<Mark>,
+    pub stretch: Stretch,
 }
 
 /// The greater of two numbers.
@@ -333,6 +335,17 @@ fn next_within(
     next_of(body, deeper, &within, params)
 }
 
+/// Puts a stretch, if there is one, in place of one with nothing left.
+fn replace(stretch: &mut Stretch, passed: Option<Stretch>)
+    requires { stretch.old.left ≡ 0 }
+    ensures { left_of stretch.new ≡ left_in passed }
+{
+    match passed {
+        None => {}
+        Some(found) => *stretch = found,
+    }
+}
+
 impl Spot {
     /// The place before the first instance of `tree`, whatever the parameters.
     ///
@@ -352,7 +365,7 @@ impl Spot {
         }
     }
 
-    // The next instance behind the marks, which then go on by the stretch behind it.
+    /// The next instance behind the marks, which then go on by the stretch behind it.
     fn search(&mut self, nodes: &[Node], params: &[i64]) -> Option<Instance>
         requires walk { CanWalk (nodes_of nodes.now) params.now [] }
         requires spot { IsSpotOf (nodes_of nodes.now) params.now self.old }
@@ -363,9 +376,8 @@ impl Spot {
         ensures spot { IsSpotOf (nodes_of nodes.now) params.now self.new }
     {
         let found = next_of(nodes, self.marks.as_mut_slice(), &Outer::Top, params);
-        if let Some(stretch) = pass_by(nodes, self.marks.as_mut_slice(), &Outer::Top, params) {
-            self.stretch = stretch;
-        }
+        let passed = pass_by(nodes, self.marks.as_mut_slice(), &Outer::Top, params);
+        replace(&mut self.stretch, passed);
         found
     }
 

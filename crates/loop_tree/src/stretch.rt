@@ -1,6 +1,6 @@
 //! Stretches of a tree's visits: the instances of a loop with one instance in it and nothing else. Each has the same
 //! steps more in its turns than the one before it, since the forms of turns are linear in the loop's value.
-ghost use Rattle.std.specs.Prelude.{◌≡◌, ◌<◌, ◌∷◌, All, FitsSigned, take};
+ghost use Rattle.std.specs.Prelude.{◌≡◌, ◌+ℤ◌, ◌<◌, ◌∷◌, All, FitsSigned, get_or, pos, take};
 ghost use Rattle.std.specs.Int.{w64};
 ghost use Rattle.scop_syntax.specs.View.{instance_of};
 ghost use Rattle.whole_numbers.specs.Lists.{sums};
@@ -18,26 +18,34 @@ pub struct Stretch {
     pub left: u64,
 }
 
+/// The sum of the entries at a place, where a turn has room for it; another number elsewhere.
+fn sum_at(xs: &[i64; MAX_LOOPS], ys: &[i64; MAX_LOOPS], place: usize) -> i64
+    requires { place < 5 }
+    ensures { FitsSigned w64 (get_or xs.now place (pos 0) +ℤ get_or ys.now place (pos 0))
+        → result ≡ get_or xs.now place (pos 0) +ℤ get_or ys.now place (pos 0) }
+{
+    xs[place].wrapping_add(ys[place])
+}
+
 /// The instance whose turns are more by these steps. The entries behind its turns are of no account, so each sum may
 /// wrap.
 fn stepped(instance: &Instance, steps: &[i64; MAX_LOOPS]) -> Instance
     requires { All (FitsSigned w64) (sums (instance_of instance.now).turns (take instance.now.loops steps.now)) }
-    ensures { instance_of result ≡ record {
+    ensures instance { instance_of result ≡ record {
       number = instance.now.statement;
       turns = sums (instance_of instance.now).turns (take instance.now.loops steps.now);
     } }
     ensures loops { result.loops ≡ instance.now.loops }
 {
-    let [a, b, c, d, e] = instance.turns;
     Instance {
         statement: instance.statement,
         loops: instance.loops,
         turns: [
-            a.wrapping_add(steps[0]),
-            b.wrapping_add(steps[1]),
-            c.wrapping_add(steps[2]),
-            d.wrapping_add(steps[3]),
-            e.wrapping_add(steps[4]),
+            sum_at(&instance.turns, steps, 0),
+            sum_at(&instance.turns, steps, 1),
+            sum_at(&instance.turns, steps, 2),
+            sum_at(&instance.turns, steps, 3),
+            sum_at(&instance.turns, steps, 4),
         ],
     }
 }
