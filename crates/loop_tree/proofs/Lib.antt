@@ -19,3 +19,4 @@ pub mod Weights
 pub mod Walked
 pub mod Going
 pub mod Stretched
+pub mod Alike
