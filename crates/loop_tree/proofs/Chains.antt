@@ -12,3 +12,7 @@ values_top = ap values_in (sym rolls-Top) ∙ fold-roll-Outer (List ℤ) chain_s
 pub values_within : (inner : Bor Outer) (x : ℤ) → values_in (Within inner x) ≡ values_in inner.now ++ x ∷ []
 values_within inner x =
     ap values_in (sym (rolls-Within inner x)) ∙ fold-roll-Outer (List ℤ) chain_step (Outer-F.Within inner x)
+
+pub values_at : (inner : Bor Outer) (x y : ℤ) → y ≡ x → values_in (Within inner y) ≡ values_in inner.now ++ x ∷ []
+values_at inner x y e =
+    values_within inner y ∙ ap (λ (z : ℤ). values_in inner.now ++ z ∷ []) e

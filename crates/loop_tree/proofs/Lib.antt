@@ -19,3 +19,5 @@ pub mod Weights
 pub mod Walked
 pub mod Going
 pub mod Larger
+pub mod Stretched
+pub mod Alike

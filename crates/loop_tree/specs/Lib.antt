@@ -14,4 +14,5 @@ pub mod Tiling
 pub mod TilingView
 pub mod Plans
 pub mod Runs
+pub mod Stretches
 pub mod steps

@@ -2,3 +2,4 @@
 pub mod Chain
 pub mod Going
 pub mod Placing
+pub mod Stepping

@@ -7,10 +7,12 @@
 mod examples;
 mod guards;
 mod outer;
+mod passing;
 mod ranges;
 mod source;
 mod source_laws;
 mod spot;
+mod stretch;
 mod tiling;
 mod tree;
 mod tree_laws;
@@ -19,6 +21,7 @@ mod walking;
 
 pub use source_laws::source_trees_visit_the_walk;
 pub use spot::{Mark, Spot};
+pub use stretch::Stretch;
 pub use tiling::{TileItem, TileItems, TileRow, Tiling};
 pub use tree::{Bound, Bounds, Guard, Leaf, Loop, Node, Test, Tree};
 pub use tree_laws::marks_are_the_parallel_loops;

@@ -17,9 +17,9 @@ pub enum Outer<'a> {
 
 /// A sum of products, and the coefficients that are left.
 #[derive(Drop)]
-struct Part<'a> {
-    sum: i128,
-    rest: &'a [i64],
+pub(crate) struct Part<'a> {
+    pub(crate) sum: i128,
+    pub(crate) rest: &'a [i64],
 }
 
 /// The sum with the product of a coefficient and a value; most coefficients are 0, and those are not multiplied.
@@ -52,7 +52,7 @@ fn with_entry<'a>(sum: i128, coefficients: &'a [i64], value: i128) -> Part<'a>
 }
 
 /// The products of the first coefficients with the values of the loops.
-fn outer_part<'a>(outer: &Outer, coefficients: &'a [i64]) -> Part<'a>
+pub(crate) fn outer_part<'a>(outer: &Outer, coefficients: &'a [i64]) -> Part<'a>
     requires { SumsFit (pos 0) coefficients.now (values_in outer.now) }
     ensures sum { result.sum ≡ dot coefficients.now (values_in outer.now) }
     ensures rest { result.rest.now ≡ drop (length (values_in outer.now)) coefficients.now }

@@ -28,14 +28,17 @@ ghost use Rattle.loop_tree.specs.Conditions.{CanWalk};
 ghost use Rattle.loop_tree.specs.Fits.{BoundsFit, TestsFit};
 ghost use Rattle.loop_tree.specs.Marks.{AreBounds, AreTests};
 ghost use Rattle.loop_tree.specs.Spot.{deep, deep_all, mark as marked_at, rest_of};
-ghost use Rattle.loop_tree.specs.SpotView.{IsSpotOf, found_in, mark_of, marks_in, marks_of, to_come};
+ghost use Rattle.loop_tree.specs.SpotView.{IsSpotOf, StandAlike, found_in, mark_of, marks_in, marks_of, to_come};
+ghost use Rattle.loop_tree.specs.Stretches.{left_in, left_of};
 ghost use Rattle.loop_tree.specs.Tree.{loop as loops, more, none};
 ghost use Rattle.loop_tree.specs.View.{bounds_in, nodes_of, test_of, tree_of, trees_in};
 ghost use Rattle.loop_tree.specs.Walk.{all_hold as tests_hold, lower, upper, visits};
 
 use crate::guards::plus;
 use crate::outer::Outer;
+use crate::passing::pass_by;
 use crate::ranges::{all_hold, lower_at, upper_at};
+use crate::stretch::Stretch;
 use crate::tree::{Guard, Loop, Node, Tree};
 use crate::walking::instance_at;
 use scop_syntax::instance::Instance;
@@ -54,6 +57,7 @@ pub struct Mark {
 #[derive(Drop)]
 pub struct Spot {
     pub marks: Vec<Mark>,
+    pub stretch: Stretch,
 }
 
 /// The greater of two numbers.
@@ -331,6 +335,17 @@ fn next_within(
     next_of(body, deeper, &within, params)
 }
 
+/// Puts a stretch, if there is one, in place of one with nothing left.
+fn replace(stretch: &mut Stretch, passed: Option<Stretch>)
+    requires { stretch.old.left ≡ 0 }
+    ensures { left_of stretch.new ≡ left_in passed }
+{
+    match passed {
+        None => {}
+        Some(found) => *stretch = found,
+    }
+}
+
 impl Spot {
     /// The place before the first instance of `tree`, whatever the parameters.
     ///
@@ -343,8 +358,27 @@ impl Spot {
     {
         match Vec::from_elem(alloc, fresh(), depth_of(tree.nodes.as_slice()) as usize) {
             Err(_) => Err(AllocError),
-            Ok(marks) => Ok(Spot { marks }),
+            Ok(marks) => Ok(Spot {
+                marks,
+                stretch: Stretch::empty(),
+            }),
         }
+    }
+
+    /// The next instance behind the marks, which then go on by the stretch behind it.
+    fn search(&mut self, nodes: &[Node], params: &[i64]) -> Option<Instance>
+        requires walk { CanWalk (nodes_of nodes.now) params.now [] }
+        requires spot { IsSpotOf (nodes_of nodes.now) params.now self.old }
+        requires behind { self.old.stretch.left ≡ 0 }
+        ensures rest { to_come (nodes_of nodes.now) params.now self.old
+            ≡ found_in result ++ to_come (nodes_of nodes.now) params.now self.new }
+        ensures none { IsNone result → to_come (nodes_of nodes.now) params.now self.old ≡ [] }
+        ensures spot { IsSpotOf (nodes_of nodes.now) params.now self.new }
+    {
+        let found = next_of(nodes, self.marks.as_mut_slice(), &Outer::Top, params);
+        let passed = pass_by(nodes, self.marks.as_mut_slice(), &Outer::Top, params);
+        replace(&mut self.stretch, passed);
+        found
     }
 
     /// The next instance that `tree`, of which this is a spot, visits for `params`, with which it came to its place;
@@ -357,19 +391,32 @@ impl Spot {
         ensures none { IsNone result ↔ (to_come (trees_in tree.now) params.now self.old ≡ []) }
         ensures spot { IsSpotOf (trees_in tree.now) params.now self.new }
     {
-        next_of(
-            tree.nodes.as_slice(),
-            self.marks.as_mut_slice(),
-            &Outer::Top,
-            params,
-        )
+        if self.stretch.left > 0 {
+            return Some(self.stretch.next());
+        }
+        self.search(tree.nodes.as_slice(), params)
+    }
+
+    /// The same place once more.
+    ///
+    /// # Errors
+    /// `AllocError` alone.
+    pub fn copy(&self, alloc: Global) -> Result<Spot, AllocError>
+        ensures { IfOk result (λ s. StandAlike s self.now) }
+    {
+        let marks = Vec::from_slice(alloc, self.marks.as_slice())?;
+        Ok(Spot {
+            marks,
+            stretch: self.stretch,
+        })
     }
 
     /// Goes to the place of another spot of the same tree, which has as many marks. It takes no memory.
     pub fn set(&mut self, other: &Spot)
         requires { length self.old.marks.items ≡ length other.now.marks.items }
-        ensures { marks_in self.new ≡ marks_in other.now }
+        ensures { StandAlike self.new other.now }
     {
+        self.stretch = other.stretch;
         self.marks
             .as_mut_slice()
             .copy_from_slice(other.marks.as_slice());

@@ -1,5 +1,8 @@
-use Rattle.std.proofs.Common.{◌≡◌, ◌∙◌, List, [], length, rules, arith, ap, sym, subst, replicate}
+use Rattle.std.proofs.Common.{◌≡◌, ◌∙◌, ◌++◌, List, [], All, length, rules, arith, ap, sym, subst, replicate}
 use Rattle.std.proofs.lemmas.List.{length-replicate}
+use Rattle.std.proofs.lemmas.List.Elements.{All-nil}
+use Rattle.scop_syntax.specs.Walk.{Instance}
+use Rattle.loop_tree.specs.Conditions.{IsHeld}
 use Rattle.loop_tree.specs.Spot.{IsAt, deep_all, rest_of}
 use Rattle.loop_tree.specs.SpotView.{marks_of}
 use Rattle.loop_tree.specs.View.{nodes_of, trees_in}
@@ -7,6 +10,7 @@ use Rattle.loop_tree.specs.Walk.{visits}
 use Rattle.loop_tree.specs.declared.spot.Mark.{Mark as CodeMark}
 use Rattle.loop_tree.specs.declared.tree.Node.{Node}
 use Rattle.loop_tree.proofs.Going.{at_repeated, deep_some, rest_repeated}
+use Rattle.loop_tree.proofs.Stretched.{nothing_left}
 use Rattle.loop_tree.proofs.spot.Spot.of.Goals as goal
 
 -- src/spot.rt:297:5
@@ -26,6 +30,8 @@ returns-in-Ok-clause-spot c = λ params.
       room = omega (arith, nodes, deep, small, l);
       stands = subst (λ (ks : List CodeMark). IsAt ts (marks_of ks) params []) (sym items)
           (at_repeated ts n c.fresh.result params [] (omega (arith, nodes, deep, d)) c.fresh.ensures);
+      held = subst (λ (is : List Instance). All IsHeld is) (sym (nothing_left c.empty.result c.empty.ensures))
+          (All-nil IsHeld);
     }
 
 -- src/spot.rt:297:5
@@ -38,5 +44,8 @@ returns-in-Ok-clause-rest c = λ params.
     let d = deep_some ts in
     let items : c.in-Ok.marks.items ≡ replicate n c.fresh.result =
     c.in-Ok.ensures.items_if_clones_equal (search rules) in
-    subst (λ (ks : List CodeMark). rest_of ts (marks_of ks) params [] ≡ visits ts params) (sym items)
+    let marks = c.in-Ok.marks.items in
+    ap (λ (is : List Instance). is ++ rest_of ts (marks_of marks) params [])
+    (nothing_left c.empty.result c.empty.ensures)
+    ∙ subst (λ (ks : List CodeMark). rest_of ts (marks_of ks) params [] ≡ visits ts params) (sym items)
     (rest_repeated ts n c.fresh.result params [] (omega (arith, nodes, deep, d)) c.fresh.ensures)
