@@ -9,3 +9,4 @@ mod Kernels
 mod Finding
 mod Numbering
 mod Strides
+mod Ends
