@@ -136,7 +136,8 @@ first_within es n x vs =
     first_is (failures es (map (within n x) vs))
     ∙ (ap (λ os. slice_get os 0) (same_failures es n x vs) ∙ sym (first_is (failures es vs)))
 
-failures-append : (es : List (List ℕ)) (xs ys : List Visit) → failures es (xs ++ ys) ≡ failures es xs ++ failures es ys
+pub failures-append : (es : List (List ℕ)) (xs ys : List Visit)
+    → failures es (xs ++ ys) ≡ failures es xs ++ failures es ys
 failures-append es xs ys = flat_map-append (λ (v : Visit). outside_accesses es v 0 (accesses v.body)) xs ys
 
 pub check_first : (room : ℕ) (es : List (List ℕ)) (t : Tree) (ts : Trees) (n : ℕ) (point : List ℤ)

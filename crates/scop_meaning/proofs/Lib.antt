@@ -9,4 +9,5 @@ mod Kernels
 mod Finding
 mod Numbering
 mod Strides
+mod Ends
 pub mod Outside

@@ -22,7 +22,7 @@ use Rattle.scop_meaning.specs.declared.tracks.Track.{Track}
 use Rattle.scop_meaning.specs.declared.tracks.Tracks.{Tracks}
 
 -- the value of a form changes by the same each turn: v_k + v_0 k = v_0 + v_1 k
-value_evenly : (form : Affine) (head : Head) (point : List ℤ) (k : ℕ)
+pub value_evenly : (form : Affine) (head : Head) (point : List ℤ) (k : ℕ)
     → value_of form (turn_point head point (pos k)) +ℤ (value_of form (turn_point head point (pos 0)) *ℤ pos k)
     ≡ value_of form (turn_point head point (pos 0)) +ℤ (value_of form (turn_point head point (pos 1)) *ℤ pos k)
 value_evenly form head point k =

@@ -205,17 +205,28 @@ pub fn run_along(
     }
 }
 
-/// The statement that a loop's body is, where it is one statement alone and the turns are worth its tracks.
-pub fn repeated(body: &[Item], turns: u64) -> Option<&Stmt>
-    ensures turns { OnSome result (2 ≤ turns) }
-    ensures body { IfSome result (λ s. items_of body.now ≡ more (only (statement_of s.now)) none) }
+/// The statement that a loop's body is, where it is one statement alone.
+pub fn only_statement(body: &[Item]) -> Option<&Stmt>
+    ensures { IfSome result (λ s. items_of body.now ≡ more (only (statement_of s.now)) none) }
 {
-    if turns < LEAST_TURNS || body.len() != 1 {
+    if body.len() != 1 {
         return None;
     }
     match &body[0] {
         Item::Stmt(statement) => Some(statement),
         Item::Loop(_, _) => None,
         Item::Guard(_, _) => None,
+    }
+}
+
+/// The statement that a loop's body is, where it is one statement alone and the turns are worth its tracks.
+pub fn repeated(body: &[Item], turns: u64) -> Option<&Stmt>
+    ensures turns { OnSome result (2 ≤ turns) }
+    ensures body { IfSome result (λ s. items_of body.now ≡ more (only (statement_of s.now)) none) }
+{
+    if turns < LEAST_TURNS {
+        None
+    } else {
+        only_statement(body)
     }
 }
