@@ -1,5 +1,5 @@
-//! Tests of the numeric crates: each call that takes memory is run with ample memory, against values from outside. They
-//! stand in a crate of their own since a crate with tests is proved twice.
+//! Tests of the numeric crates and of the planner: each call that takes memory is run with ample memory, against values
+//! from outside. They stand in a crate of their own since a crate with tests is proved twice.
 #![tactic(auto)]
 
 #[cfg(test)]
@@ -16,6 +16,8 @@ mod error_texts;
 mod forms;
 #[cfg(test)]
 mod kernel_vectors;
+#[cfg(test)]
+mod loop_trees;
 #[cfg(test)]
 mod made;
 #[cfg(test)]

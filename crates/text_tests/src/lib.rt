@@ -10,6 +10,8 @@ mod data;
 #[cfg(test)]
 mod expressions;
 #[cfg(test)]
+mod generated;
+#[cfg(test)]
 mod kernels;
 #[cfg(test)]
 mod ports;

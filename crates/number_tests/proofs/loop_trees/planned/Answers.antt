@@ -2,7 +2,7 @@ use Rattle.std.proofs.Common.{rules}
 use Rattle.std.proofs.lemmas.Result.{IfOk-weaker}
 use Rattle.scop_syntax.specs.View.{program_of}
 use Rattle.plan_tree.specs.Trees.{IsScheduleFor}
-use Rattle.tree_tests.proofs.loop_trees.planned.Goals as goal
+use Rattle.number_tests.proofs.loop_trees.planned.Goals as goal
 
 pub returns-in-Ok : goal.returns-in-Ok
 returns-in-Ok c =

@@ -2,8 +2,8 @@ use Rattle.std.proofs.Common.{◌∙◌, sym}
 use Rattle.std.proofs.lemmas.Result.{IfOk-at_ok}
 use Rattle.loop_tree.specs.View.{trees_in}
 use Rattle.plan_tree.specs.Trees.{AreTreesOf, tiling_of}
-use Rattle.tree_tests.proofs.loop_trees.scanned.Goals.{in-Hull, in-Separated}
-use Rattle.tree_tests.proofs.loop_trees.scanned.Goals as goal
+use Rattle.number_tests.proofs.loop_trees.scanned.Goals.{in-Hull, in-Separated}
+use Rattle.number_tests.proofs.loop_trees.scanned.Goals as goal
 
 pub returns-in-Ok : goal.returns-in-Ok
 returns-in-Ok c program params is has =

@@ -2,7 +2,7 @@ use Rattle.std.proofs.Common.{subst, sym}
 use Rattle.scop_syntax.specs.Execution.{AreInside, layout}
 use Rattle.scop_syntax.specs.View.{program_of}
 use Rattle.scop_syntax.specs.Walk.{walk_of}
-use Rattle.run_tests.proofs.generated.left.Goals as goal
+use Rattle.text_tests.proofs.generated.left.Goals as goal
 
 pub run_plain-requires-clause-inside : goal.run_plain-requires-clause-inside
 run_plain-requires-clause-inside c =

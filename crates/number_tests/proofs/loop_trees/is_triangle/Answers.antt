@@ -5,7 +5,7 @@ use Rattle.std.proofs.lemmas.List.{length-map}
 use Rattle.std.proofs.lemmas.List.Elements.{All-nil, All-cons}
 use Rattle.scop_syntax.specs.Limits.{HasParameters}
 use Rattle.scop_syntax.specs.View.{program_of}
-use Rattle.tree_tests.proofs.loop_trees.is_triangle.Goals as goal
+use Rattle.number_tests.proofs.loop_trees.is_triangle.Goals as goal
 
 pub visits_are-requires : goal.visits_are-requires
 visits_are-requires c =
