@@ -1,15 +1,16 @@
 -- Where a worker stands: before a tile, at its first instance, at the next one.
-use Rattle.std.proofs.Common.{◌≡◌, ℕ, zero, suc, ◌+◌, ◌<◌, ℤ, List, [], ◌∷◌, ◌++◌, drop, length, Option, Some, None}
-use Rattle.std.proofs.Common.{ap, sym, subst, refl}
+use Rattle.std.proofs.Common.{◌≡◌, ℕ, zero, suc, ◌+◌, ◌<◌, List, [], ◌∷◌, ◌++◌, drop, length, Option, Some, None}
+use Rattle.std.proofs.Common.{ap, ap₂, map, sym, subst, refl}
 use Rattle.std.proofs.Common.{◌∙◌, arith}
-use Rattle.std.specs.Prelude.{slice_get, slice_index_or, IsNone, MatchOption}
+use Rattle.std.specs.Prelude.{All, replicate, slice_get, slice_index_or, IsNone, MatchOption}
+use Rattle.std.proofs.lemmas.List.{map-append, replicate-append-replicate}
+use Rattle.std.proofs.lemmas.List.Elements.{All-push}
 use Rattle.std.proofs.lemmas.Option.{slice_get_within}
 use Rattle.scop_syntax.specs.View.{instance_of}
 use Rattle.scop_syntax.specs.Walk.{Instance}
 use Rattle.scop_syntax.specs.declared.instance.Instance.{Instance as CodeInstance}
 use Rattle.scop_syntax.proofs.Members.{in_from_place}
 use Rattle.loop_tree.specs.SpotView.{IsSpotOf, StandAlike, found_in, to_come}
-use Rattle.loop_tree.specs.Tree.{Trees}
 use Rattle.loop_tree.specs.View.{trees_in}
 use Rattle.loop_tree.specs.declared.spot.Spot.{Spot}
 use Rattle.loop_tree.proofs.Alike.{rest_alike}
@@ -19,7 +20,8 @@ use Rattle.tile_events.specs.Deal.{IsScan}
 use Rattle.tile_events.specs.Sound.{Holds}
 use Rattle.tile_core.specs.Plans.{IsPlan, deal_of, places_in, program_in, scan_in, shape_of, walk_in}
 use Rattle.tile_core.specs.Ranks.{rank_in, start_at}
-use Rattle.tile_core.specs.Workers.{HasNoneDue, IsDue, IsNext, IsWorker, staged}
+use Rattle.tile_events.specs.Core.{idle}
+use Rattle.tile_core.specs.Workers.{HasNoneDue, IsDue, IsNext, IsWorker, staged, worker_of}
 use Rattle.tile_core.specs.declared.plan.Plan.{Plan}
 use Rattle.tile_core.specs.declared.worker.Stage.{Stage}
 use Rattle.tile_core.specs.declared.worker.Stage.TheVariants.{Idle, Working}
@@ -58,6 +60,18 @@ at_work plan w t k is spot less next = record {
       subst (λ v. IsNext plan ((deal_of plan).start v + m) w.next w.spot) p
       (subst (λ v. IsNext plan ((deal_of plan).start t + v) w.next w.spot) q (next l));
 }
+
+-- an idle worker behind others
+pub workers_more : (plan : Plan) (old new : List Worker) (w : Worker) (n : ℕ) → new ≡ old ++ w ∷ []
+    → map worker_of old ≡ replicate n idle → All (IsWorker plan) old → w.stage ≡ Idle → IsWorker plan w
+    → (map worker_of new ≡ replicate (n + 1) idle) × All (IsWorker plan) new
+workers_more plan old new w n is idles all stage here = (
+  ap (map worker_of) is
+      ∙ (map-append worker_of old (w ∷ [])
+      ∙ (ap₂ (λ ws us. ws ++ us) idles (ap (λ s. staged s w.reads.items ∷ []) stage)
+      ∙ replicate-append-replicate n 1 idle)),
+  subst (All (IsWorker plan)) (sym is) (All-push (IsWorker plan) old w all here),
+)
 
 -- the first instance of a tile, and the place behind it
 pub first_is : PartsStand → (plan : Plan) (t : ℕ) (tile : Tile) (spot : Spot) → IsPlan plan
