@@ -8,7 +8,7 @@ use Rattle.whole_numbers.specs.Floor.{floor, ceiling}
 use Rattle.whole_numbers.proofs.Floors.{floor_is, ceiling_is}
 use Rattle.whole_numbers.proofs.Ring.{mul_one_right, mul_zero_left}
 use Rattle.whole_numbers.specs.Lists.{dot}
-use Rattle.whole_numbers.proofs.Sizes.{abs_sum}
+use Rattle.whole_numbers.proofs.Sizes.{abs_at_most, abs_high, abs_low, abs_sum}
 use Rattle.scop_syntax.specs.Kernel.{AreAtMost, IsForm}
 use Rattle.scop_syntax.proofs.Limits.{size, value_size}
 use Rattle.loop_tree.specs.Tree.{Bound, Bounds, only, besides, Test, Tree, loop, guard, instance, Trees, none, more}

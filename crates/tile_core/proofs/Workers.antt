@@ -1,28 +1,28 @@
 -- Where a worker stands: before a tile, at its first instance, at the next one.
-use Rattle.std.proofs.Common.{◌≡◌, ℕ, zero, suc, ◌+◌, ◌<◌, ℤ, List, [], ◌∷◌, ◌++◌, drop, length, Option, Some, None}
-use Rattle.std.proofs.Common.{ap, sym, subst, refl}
+use Rattle.std.proofs.Common.{◌≡◌, ℕ, zero, suc, ◌+◌, ◌<◌, List, [], ◌∷◌, ◌++◌, drop, length, Option, Some, None}
+use Rattle.std.proofs.Common.{ap, ap₂, map, sym, subst, refl}
 use Rattle.std.proofs.Common.{◌∙◌, arith}
-use Rattle.std.specs.Prelude.{slice_get, slice_index_or, IsNone, MatchOption}
-use Rattle.std.proofs.lemmas.List.{length-map}
+use Rattle.std.specs.Prelude.{All, replicate, slice_get, slice_index_or, IsNone, MatchOption}
+use Rattle.std.proofs.lemmas.List.{map-append, replicate-append-replicate}
+use Rattle.std.proofs.lemmas.List.Elements.{All-push}
 use Rattle.std.proofs.lemmas.Option.{slice_get_within}
 use Rattle.scop_syntax.specs.View.{instance_of}
 use Rattle.scop_syntax.specs.Walk.{Instance}
 use Rattle.scop_syntax.specs.declared.instance.Instance.{Instance as CodeInstance}
 use Rattle.scop_syntax.proofs.Members.{in_from_place, there_is}
-use Rattle.loop_tree.specs.Spot.{IsAt, Mark}
-use Rattle.loop_tree.specs.SpotView.{IsSpotOf, found_in, mark_of, marks_in, to_come}
-use Rattle.loop_tree.specs.Spot.{rest_of}
-use Rattle.loop_tree.specs.Tree.{Trees}
+use Rattle.loop_tree.specs.SpotView.{IsSpotOf, found_in, to_come, StandAlike}
 use Rattle.loop_tree.specs.View.{trees_in}
 use Rattle.loop_tree.specs.declared.spot.Spot.{Spot}
 use Rattle.loop_tree.proofs.Visits.{listed_same}
+use Rattle.loop_tree.proofs.Alike.{rest_alike}
 use Rattle.tile_list.specs.Tiles.{start_of}
 use Rattle.tile_list.specs.declared.list.Tile.{Tile}
 use Rattle.tile_events.specs.Deal.{IsScan}
 use Rattle.tile_events.specs.Sound.{Holds}
 use Rattle.tile_core.specs.Plans.{IsPlan, deal_of, places_in, program_in, scan_in, shape_of, walk_in}
 use Rattle.tile_core.specs.Ranks.{rank_in, start_at}
-use Rattle.tile_core.specs.Workers.{HasNoneDue, IsDue, IsNext, IsWorker, staged}
+use Rattle.tile_events.specs.Core.{idle}
+use Rattle.tile_core.specs.Workers.{HasNoneDue, IsDue, IsNext, IsWorker, staged, worker_of}
 use Rattle.tile_core.specs.declared.plan.Plan.{Plan}
 use Rattle.tile_core.specs.declared.worker.Stage.{Stage}
 use Rattle.tile_core.specs.declared.worker.Stage.TheVariants.{Idle, Working}
@@ -61,22 +61,21 @@ at_work plan w t k is spot less next = record {
       (subst (λ v. IsNext plan ((deal_of plan).start t + v) w.next w.spot) q (next l));
 }
 
--- a spot with another's marks
-pub set_is : (ts : Trees) (params : List ℤ) (spot other : Spot) → marks_in spot ≡ marks_in other
-    → IsSpotOf ts params other → IsSpotOf ts params spot
-set_is ts params spot other e is = record {
-  room = (
-      let a = length-map spot.marks.items mark_of in
-      let b = length-map other.marks.items mark_of in
-      let c = ap (λ (ms : List Mark). length ms) e in
-      let d = is.room in
-      omega (arith, a, b, c, d));
-  stands = subst (λ ms. IsAt ts ms params []) (sym e) is.stands;
-}
+-- an idle worker behind others
+pub workers_more : (plan : Plan) (old new : List Worker) (w : Worker) (n : ℕ) → new ≡ old ++ w ∷ []
+    → map worker_of old ≡ replicate n idle → All (IsWorker plan) old → w.stage ≡ Idle → IsWorker plan w
+    → (map worker_of new ≡ replicate (n + 1) idle) × All (IsWorker plan) new
+workers_more plan old new w n is idles all stage here = (
+  ap (map worker_of) is
+      ∙ (map-append worker_of old (w ∷ [])
+      ∙ (ap₂ (λ ws us. ws ++ us) idles (ap (λ s. staged s w.reads.items ∷ []) stage)
+      ∙ replicate-append-replicate n 1 idle)),
+  subst (All (IsWorker plan)) (sym is) (All-push (IsWorker plan) old w all here),
+)
 
 -- the first instance of a tile, and the place behind it
 pub first_is : PartsStand → (plan : Plan) (t : ℕ) (tile : Tile) (spot : Spot) → IsPlan plan
-    → slice_get plan.list.now.tiles.items t ≡ Some tile → marks_in spot ≡ marks_in tile.spot
+    → slice_get plan.list.now.tiles.items t ≡ Some tile → StandAlike spot tile.spot
     → IsNext plan ((deal_of plan).start t + 0) (Some tile.first) spot
 first_is stand plan t tile spot is at set =
     let list = is.tiles in
@@ -92,7 +91,7 @@ first_is stand plan t tile spot is at set =
     record {
       instance = sym (ap (slice_get (scan_in plan)) start
           ∙ (stand tiling (scan_in plan) list.parts list.cut t 0 (omega (arith, within, n)) some ∙ one.first));
-      behind = ap (λ ms. rest_of (trees_in plan.tree.now) ms plan.params.now []) set
+      behind = rest_alike (trees_in plan.tree.now) plan.params.now spot tile.spot set
           ∙ (one.behind ∙ ap (λ n. drop n (scan_in plan))
           (let q : suc (start_of list.parts t) ≡ suc ((deal_of plan).start t + 0) = omega (arith, start) in q));
     }

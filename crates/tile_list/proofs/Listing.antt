@@ -1,16 +1,12 @@
 -- The code's tiles stand for parts, one after another.
 use Rattle.std.proofs.Common.{◌≡◌, ◌∙◌, ℕ, zero, suc, ◌<◌, ◌≤◌, List, [], ◌∷◌, ◌++◌}
-use Rattle.std.proofs.Common.{length, refl, ap, subst, sym, arith}
+use Rattle.std.proofs.Common.{length, refl, subst, sym, arith}
 use Rattle.std.proofs.Common.{ℤ, Some, inl, inr}
 use Rattle.std.specs.Prelude.{◌⊎◌, slice_get, slice_index_or}
 use Rattle.std.proofs.Math.Seq.{get_or-append_seam, take-append_seam}
 use Rattle.std.proofs.lemmas.List.{get_or_append_left, length-append, take-append-le}
 use Rattle.scop_syntax.specs.Walk.{Instance}
-use Rattle.loop_tree.specs.Spot.{IsAt, rest_of}
-use Rattle.loop_tree.specs.SpotView.{IsSpotOf, marks_of, to_come}
 use Rattle.loop_tree.specs.Tree.{Trees}
-use Rattle.loop_tree.specs.declared.spot.Mark.{Mark as CodeMark}
-use Rattle.loop_tree.specs.declared.spot.Spot.{Spot}
 use Rattle.tile_list.specs.Tiles.{joined, start_of}
 use Rattle.tile_list.specs.TilesView.{IsTile}
 use Rattle.tile_list.specs.steps.Cutting.{AreTilesOf}
@@ -27,19 +23,7 @@ at_end (x ∷ xs) z (suc t) w e = elim (at_end xs z t w e) [
   | inr h ↦ (let l = h.0 in inr (omega (arith, l), h.1))
 ]
 
--- a spot with the same marks
-pub same_spot : (ts : Trees) (params : List ℤ) (s u : Spot) → s.marks.items ≡ u.marks.items → IsSpotOf ts params u
-    → IsSpotOf ts params s
-same_spot ts params s u e is =
-    record {
-      room = ap (λ (ms : List CodeMark). length ms) e ∙ is.room;
-      stands = subst (λ (ms : List CodeMark). IsAt ts (marks_of ms) params []) (sym e) is.stands;
-    }
-
-pub same_rest : (ts : Trees) (params : List ℤ) (s u : Spot) → s.marks.items ≡ u.marks.items
-    → to_come ts params s ≡ to_come ts params u
-same_rest ts params s u e = ap (λ (ms : List CodeMark). rest_of ts (marks_of ms) params []) e
-
+-- no tiles are those of no parts
 pub no_tiles : (ts : Trees) (params : List ℤ) → AreTilesOf ts params [] []
 no_tiles ts params = record { count = refl; are = λ t tile e. absurd (none t e) }
   where

@@ -8,11 +8,12 @@ use Rattle.whole_numbers.proofs.Lexicographic.{LexLess-irrefl}
 use Rattle.scop_syntax.specs.View.{instance_of}
 use Rattle.scop_syntax.specs.Walk.{Instance}
 use Rattle.scop_syntax.specs.declared.instance.Instance.{Instance as CodeInstance}
-use Rattle.loop_tree.specs.SpotView.{IsSpotOf, to_come}
+use Rattle.loop_tree.specs.SpotView.{IsSpotOf, StandAlike, to_come}
 use Rattle.loop_tree.specs.Tiling.{Tiling, tile_of, wave_of}
 use Rattle.loop_tree.specs.Tree.{Trees}
 use Rattle.loop_tree.specs.Walk.{visits}
 use Rattle.loop_tree.specs.declared.spot.Spot.{Spot}
+use Rattle.loop_tree.proofs.Alike.{rest_alike, spot_alike}
 use Rattle.tile_list.specs.Tiles.{AreWaves, InOneTile, IsNextWave, TileBefore, joined}
 use Rattle.tile_list.specs.TilesView.{IsTile, firsts_of, waves_of}
 use Rattle.tile_list.specs.steps.Cutting.{AreTilesOf, HasBegun, HasGrown, IsCut, IsCutTo, IsNewTile, IsWaveOf}
@@ -21,7 +22,7 @@ use Rattle.tile_list.specs.steps.Keys.{IsKeyOf}
 use Rattle.tile_list.specs.declared.cutting.Cut.{Cut}
 use Rattle.tile_list.specs.declared.keys.Key.{Key}
 use Rattle.tile_list.specs.declared.list.Tile.{Tile}
-use Rattle.tile_list.proofs.Listing.{same_rest, same_spot, tile_more}
+use Rattle.tile_list.proofs.Listing.{tile_more}
 use Rattle.tile_list.proofs.Parts.{grown, next_begun, next_rises}
 use Rattle.tile_list.proofs.Waves.{wave_more}
 
@@ -49,7 +50,7 @@ tells_keys tiling x y key next is are one =
 -- a tile with one instance more
 tile_grown : (ts : Trees) (params : List ℤ) (k : ℕ) (x : Instance) (more : List Instance) (y : Instance)
     (old new : Tile) → IsTile ts params k (x ∷ more) old → new.first ≡ old.first
-    → new.spot.marks.items ≡ old.spot.marks.items → new.size ≡ old.size + 1
+    → StandAlike new.spot old.spot → new.size ≡ old.size + 1
     → IsTile ts params k (x ∷ (more ++ y ∷ [])) new
 tile_grown ts params k x more y old new is first spot size =
     record {
@@ -57,8 +58,8 @@ tile_grown ts params k x more y old new is first spot size =
       size = let l = length-append more (y ∷ []) in
           let s = is.size in
           omega (arith, size, s, l);
-      spot = same_spot ts params new.spot old.spot spot is.spot;
-      behind = same_rest ts params new.spot old.spot spot ∙ is.behind;
+      spot = spot_alike ts params new.spot old.spot spot is.spot;
+      behind = rest_alike ts params new.spot old.spot spot ∙ is.behind;
     }
 
 behind_all : (front : List Instance) (y : Instance) (rest : List Instance)
@@ -75,8 +76,8 @@ tile_begun ts params front first spot n tile new is all =
     record {
       first = refl;
       size = new.size;
-      spot = same_spot ts params tile.spot spot new.marks is;
-      behind = same_rest ts params tile.spot spot new.marks
+      spot = spot_alike ts params tile.spot spot new.spot_is is;
+      behind = rest_alike ts params tile.spot spot new.spot_is
           ∙ (sym (behind_all front (instance_of first) (to_come ts params spot))
           ∙ ap (drop (suc (length front))) all);
     }

@@ -38,14 +38,6 @@ fn one_more(number: usize) -> Result<usize, AllocError>
     }
 }
 
-/// The same place once more.
-fn copy_of(alloc: Global, spot: &Spot) -> Result<Spot, AllocError>
-    ensures { IfOk result (λ s. s.marks.items ≡ spot.now.marks.items) }
-{
-    let marks = Vec::from_slice(alloc, spot.marks.as_slice())?;
-    Ok(Spot { marks })
-}
-
 /// Puts a tile behind others.
 fn push(tiles: &mut Vec<Tile>, tile: Tile) -> Result<(), AllocError>
     ensures { OnOk result (tiles.new.items ≡ tiles.old.items ++ tile ∷ []) }
@@ -60,7 +52,7 @@ fn push(tiles: &mut Vec<Tile>, tile: Tile) -> Result<(), AllocError>
 fn tile_at(alloc: Global, first: Instance, spot: &Spot, wave: usize) -> Result<Tile, AllocError>
     ensures { IfOk result (IsNewTile first spot.now wave) }
 {
-    let spot = copy_of(alloc, spot)?;
+    let spot = spot.copy(alloc)?;
     Ok(Tile {
         first,
         spot,

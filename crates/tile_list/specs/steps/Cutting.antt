@@ -4,7 +4,7 @@ use Rattle.scop_syntax.specs.Members.{In, Sorted}
 use Rattle.scop_syntax.specs.View.{instance_of}
 use Rattle.scop_syntax.specs.Walk.{Instance}
 use Rattle.scop_syntax.specs.declared.instance.Instance.{Instance as CodeInstance}
-use Rattle.loop_tree.specs.SpotView.{IsSpotOf, to_come}
+use Rattle.loop_tree.specs.SpotView.{IsSpotOf, StandAlike, to_come}
 use Rattle.loop_tree.specs.declared.spot.Spot.{Spot}
 use Rattle.loop_tree.specs.Tiling.{Tiling}
 use Rattle.loop_tree.specs.Tree.{Trees}
@@ -47,7 +47,7 @@ pub record IsCutTo (ts : Trees) (params : List ℤ) (tiling : Tiling) (rest : Li
 -- a tile of one instance
 pub record IsNewTile (first : CodeInstance) (spot : Spot) (wave : ℕ) (tile : Tile) : Type 0 where
   pub first_is : tile.first ≡ first
-  pub marks : tile.spot.marks.items ≡ spot.marks.items
+  pub spot_is : StandAlike tile.spot spot
   pub wave_is : tile.wave ≡ wave
   pub size : tile.size ≡ 1
 
@@ -55,7 +55,7 @@ pub record IsNewTile (first : CodeInstance) (spot : Spot) (wave : ℕ) (tile : T
 pub record HasGrown (old new : Cut) : Type 0 where
   pub tiles : new.tiles.items ≡ old.tiles.items
   pub first : new.current.first ≡ old.current.first
-  pub spot : new.current.spot.marks.items ≡ old.current.spot.marks.items
+  pub spot : StandAlike new.current.spot old.current.spot
   pub wave : new.current.wave ≡ old.current.wave
   pub size : new.current.size ≡ old.current.size + 1
   pub wave_of : new.key.wave.items ≡ old.key.wave.items
