@@ -5,16 +5,19 @@ use Rattle.scop_syntax.specs.Members.{In}
 use Rattle.scop_syntax.specs.View.{instance_of}
 use Rattle.scop_syntax.specs.Walk.{Instance}
 use Rattle.scop_syntax.specs.declared.instance.Instance.{Instance as CodeInstance}
-use Rattle.scop_syntax.proofs.Members.{in_back}
-use Rattle.loop_tree.specs.SpotView.{to_come}
+use Rattle.scop_syntax.proofs.Members.{in_back, in_front}
+use Rattle.loop_tree.specs.Spot.{rest_of}
+use Rattle.loop_tree.specs.SpotView.{IsSpotOf, marks_in, to_come}
+use Rattle.loop_tree.specs.Stretches.{left_of}
 use Rattle.loop_tree.specs.Tiling.{Tiling}
 use Rattle.loop_tree.specs.Tree.{Trees}
 use Rattle.loop_tree.specs.Walk.{visits}
 use Rattle.loop_tree.specs.declared.spot.Spot.{Spot}
-use Rattle.tile_list.specs.Tiles.{AreOffsets, AreTiles, AreWaves, joined}
+use Rattle.tile_list.specs.Tiles.{AreOffsets, AreTiles, AreWaves, CanTile, RiseByTile, joined}
 use Rattle.tile_list.specs.TilesView.{IsTileListOf, firsts_of, waves_of}
-use Rattle.tile_list.specs.steps.Cutting.{AreTilesOf, Begins, IsCut, IsCutTo, IsListed, IsNewTile}
+use Rattle.tile_list.specs.steps.Cutting.{AreTilesOf, Begins, IsCut, IsCutTo, IsListed, IsNewTile, Takes}
 use Rattle.tile_list.specs.steps.Keys.{IsKeyOf}
+use Rattle.tile_list.specs.steps.Stretching.{AllRowsFit}
 use Rattle.tile_list.specs.declared.cutting.Cut.{Cut}
 use Rattle.tile_list.specs.declared.list.Tile.{Tile}
 use Rattle.tile_list.specs.declared.list.TileList.{TileList}
@@ -43,13 +46,35 @@ begins tiling first spot cut key tile none ts params at all =
       key = same_key tiling x (instance_of cut.current.first) cut.key cut.key (sym same) key refl refl;
     }
 
--- an instance that is taken is visited
+-- what is still to come is visited
+pub rest_visited : (ts : Trees) (params : List ℤ) (tiling : Tiling) (rest : List Instance) (cut : Cut)
+    → IsCutTo ts params tiling rest cut → (x : Instance) → In x rest → In x (visits ts params)
+rest_visited ts params tiling rest cut is x h =
+    subst (λ (zs : List Instance). In x zs) is.parts.all
+    (in_back x (joined is.closed) (instance_of cut.current.first ∷ (is.more ++ rest)) (inr (in_back x is.more rest h)))
+
+-- so is an instance that is taken
 pub taken_visited : (ts : Trees) (params : List ℤ) (tiling : Tiling) (x : Instance) (all rest : List Instance)
     (cut : Cut) → all ≡ x ∷ rest → IsCutTo ts params tiling all cut → In x (visits ts params)
 taken_visited ts params tiling x all rest cut e is =
-    subst (λ (zs : List Instance). In x zs) is.parts.all
-    (in_back x (joined is.closed) (instance_of cut.current.first ∷ (is.more ++ all))
-    (inr (in_back x is.more all (subst (λ (zs : List Instance). In x zs) (sym e) (inl refl)))))
+    rest_visited ts params tiling all cut is x (subst (λ (zs : List Instance). In x zs) (sym e) (inl refl))
+
+-- the next one is taken
+pub taken_next : (ts : Trees) (params : List ℤ) (tiling : Tiling) (x : Instance) (all : List Instance) (spot : Spot)
+    (old new : Cut) → all ≡ x ∷ to_come ts params spot → RiseByTile tiling (visits ts params)
+    → IsSpotOf ts params spot → Takes tiling x spot old new → IsCutTo ts params tiling all old
+    → IsCutTo ts params tiling (to_come ts params spot) new
+taken_next ts params tiling x all spot old new e rise at takes is =
+    takes ts params rise at (subst (λ (zs : List Instance). IsCutTo ts params tiling zs old) e is)
+
+-- the rows fit at what is left of a stretch
+pub left_fits : (ts : Trees) (params : List ℤ) (tiling : Tiling) (spot : Spot) (cut : Cut)
+    → CanTile tiling (visits ts params) → IsCutTo ts params tiling (to_come ts params spot) cut
+    → AllRowsFit tiling spot.stretch
+left_fits ts params tiling spot cut can is x h =
+    let rest = rest_of ts (marks_in spot) params [] in
+    can.rows x (rest_visited ts params tiling (to_come ts params spot) cut is x
+    (in_front x (left_of spot.stretch) rest h))
 
 -- tiles with their offsets
 made_list : (ts : Trees) (params : List ℤ) (tiling : Tiling) (parts : List (List Instance)) (tiles : List Tile)

@@ -1,5 +1,5 @@
-pub mod Coordinates
 pub mod Order
+pub mod Stretching
 pub mod Parts
 pub mod Listing
 pub mod Waves

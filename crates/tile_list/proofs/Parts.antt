@@ -42,26 +42,22 @@ next_rises tiling xs closed x more y rest rise cut =
     sorted_behind R (joined closed) x y (more ++ y ∷ rest)
     (subst (λ (zs : List Instance). Sorted R zs) (sym cut.all) rise) (in_back y more (y ∷ rest) (inl refl))
 
--- an instance more in the tile
+-- instances more in the tile
 pub grown : (tiling : Tiling) (xs : List Instance) (closed : List (List Instance)) (x : Instance)
-    (more : List Instance) (y : Instance) (rest : List Instance) → IsCut tiling xs closed x more (y ∷ rest)
-    → InOneTile tiling x y → IsCut tiling xs closed x (more ++ y ∷ []) rest
-grown tiling xs closed x more y rest cut one =
+    (more ys rest : List Instance) → IsCut tiling xs closed x more (ys ++ rest)
+    → ((y : Instance) → In y ys → InOneTile tiling x y) → IsCut tiling xs closed x (more ++ ys) rest
+grown tiling xs closed x more ys rest cut one =
     record {
-      all = ap (λ (zs : List Instance). joined closed ++ x ∷ zs) (append_assoc more (y ∷ []) rest) ∙ cut.all;
+      all = ap (λ (zs : List Instance). joined closed ++ x ∷ zs) (append_assoc more ys rest) ∙ cut.all;
       some = cut.some;
       one = cut.one;
       rise = cut.rise;
-      here = λ z i. elim (in_append z more (y ∷ []) i) [
+      here = λ z i. elim (in_append z more ys i) [
         | inl j ↦ cut.here z j
-        | inr j ↦ alone z j
+        | inr j ↦ one z j
       ];
       before = cut.before;
     }
-  where
-    alone : (z : Instance) → In z (y ∷ []) → InOneTile tiling x z
-    alone z (inl e) = subst (InOneTile tiling x) (sym e) one
-    alone z (inr j) = absurd j
 
 -- the instances of a part lie in one tile with its first
 pub of_part : (tiling : Tiling) (x : Instance) (more : List Instance)

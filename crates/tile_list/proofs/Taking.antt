@@ -3,12 +3,17 @@ use Rattle.std.proofs.Common.{◌≡◌, ◌≢◌, ◌∙◌, ℕ, suc, ◌+◌
 use Rattle.std.proofs.Common.{subst, sym, arith}
 use Rattle.std.specs.Prelude.{Some}
 use Rattle.std.proofs.lemmas.List.{length-append, map-append}
+use Rattle.std.proofs.lemmas.List.Elements.{All-nil}
 use Rattle.whole_numbers.specs.Lexicographic.{LexLess}
 use Rattle.whole_numbers.proofs.Lexicographic.{LexLess-irrefl}
+use Rattle.scop_syntax.specs.Members.{In}
 use Rattle.scop_syntax.specs.View.{instance_of}
 use Rattle.scop_syntax.specs.Walk.{Instance}
 use Rattle.scop_syntax.specs.declared.instance.Instance.{Instance as CodeInstance}
-use Rattle.loop_tree.specs.SpotView.{IsSpotOf, StandAlike, to_come}
+use Rattle.loop_tree.specs.Conditions.{IsHeld}
+use Rattle.loop_tree.specs.Spot.{rest_of}
+use Rattle.loop_tree.specs.SpotView.{IsSpotOf, StandAlike, marks_in, to_come}
+use Rattle.loop_tree.specs.Stretches.{left_of}
 use Rattle.loop_tree.specs.Tiling.{Tiling, tile_of, wave_of}
 use Rattle.loop_tree.specs.Tree.{Trees}
 use Rattle.loop_tree.specs.Walk.{visits}
@@ -19,9 +24,11 @@ use Rattle.tile_list.specs.TilesView.{IsTile, firsts_of, waves_of}
 use Rattle.tile_list.specs.steps.Cutting.{AreTilesOf, HasBegun, HasGrown, IsCut, IsCutTo, IsNewTile, IsWaveOf}
 use Rattle.tile_list.specs.steps.Cutting.{Takes}
 use Rattle.tile_list.specs.steps.Keys.{IsKeyOf}
+use Rattle.tile_list.specs.steps.Stretching.{AllHaveKey, HasKey, Passes}
 use Rattle.tile_list.specs.declared.cutting.Cut.{Cut}
 use Rattle.tile_list.specs.declared.keys.Key.{Key}
 use Rattle.tile_list.specs.declared.list.Tile.{Tile}
+use Rattle.tile_list.proofs.Stretching.{length-left}
 use Rattle.tile_list.proofs.Listing.{tile_more}
 use Rattle.tile_list.proofs.Parts.{grown, next_begun, next_rises}
 use Rattle.tile_list.proofs.Waves.{wave_more}
@@ -47,15 +54,15 @@ tells_keys : (tiling : Tiling) (x y : Instance) (key next : Key) → IsKeyOf til
 tells_keys tiling x y key next is are one =
     (are.wave ∙ (sym one.wave ∙ sym is.wave), are.tile ∙ (sym one.tile ∙ sym is.tile))
 
--- a tile with one instance more
-tile_grown : (ts : Trees) (params : List ℤ) (k : ℕ) (x : Instance) (more : List Instance) (y : Instance)
+-- a tile with so many instances more
+tile_grown : (ts : Trees) (params : List ℤ) (k : ℕ) (x : Instance) (more ys : List Instance)
     (old new : Tile) → IsTile ts params k (x ∷ more) old → new.first ≡ old.first
-    → StandAlike new.spot old.spot → new.size ≡ old.size + 1
-    → IsTile ts params k (x ∷ (more ++ y ∷ [])) new
-tile_grown ts params k x more y old new is first spot size =
+    → StandAlike new.spot old.spot → new.size ≡ old.size + length ys
+    → IsTile ts params k (x ∷ (more ++ ys)) new
+tile_grown ts params k x more ys old new is first spot size =
     record {
       first = is.first ∙ sym (ap (λ (i : CodeInstance). Some (instance_of i)) first);
-      size = let l = length-append more (y ∷ []) in
+      size = let l = length-append more ys in
           let s = is.size in
           omega (arith, size, s, l);
       spot = spot_alike ts params new.spot old.spot spot is.spot;
@@ -82,25 +89,25 @@ tile_begun ts params front first spot n tile new is all =
           ∙ ap (drop (suc (length front))) all);
     }
 
--- the next instance is in the current tile
-pub takes_same : (tiling : Tiling) (y : Instance) (spot : Spot) (old new : Cut) (next : Key)
-    → IsKeyOf tiling y next → next.wave.items ≡ old.key.wave.items → next.tile.items ≡ old.key.tile.items
-    → HasGrown (record old { next = next }) new → Takes tiling y spot old new
-takes_same tiling y spot old new next is waves tiles has ts params rise at cut =
+-- the next instances are in the current tile
+pub takes_all : (tiling : Tiling) (ys : List Instance) (count : ℕ) (old new : Cut) (next : Key)
+    → count ≡ length ys → ((y : Instance) → In y ys → HasKey tiling old.key y)
+    → HasGrown count (record old { next = next }) new → (ts : Trees) (params : List ℤ) (rest : List Instance)
+    → IsCutTo ts params tiling (ys ++ rest) old → IsCutTo ts params tiling rest new
+takes_all tiling ys count old new next all_are one has ts params rest cut =
     let x = instance_of old.current.first in
+    let all = cut.more ++ ys in
     let same : instance_of new.current.first ≡ x = ap instance_of has.first in
-    let one = keys_tell tiling x y old.key next cut.key is waves tiles in
     record {
       closed = cut.closed;
-      more = cut.more ++ y ∷ [];
-      parts = subst (λ z. IsCut tiling (visits ts params) cut.closed z (cut.more ++ y ∷ []) (to_come ts params spot))
-          (sym same)
-          (grown tiling (visits ts params) cut.closed x cut.more y (to_come ts params spot) cut.parts one);
+      more = all;
+      parts = subst (λ z. IsCut tiling (visits ts params) cut.closed z all rest) (sym same)
+          (grown tiling (visits ts params) cut.closed x cut.more ys rest cut.parts
+          (λ y i. one y i x cut.key));
       tiles = subst (AreTilesOf ts params cut.closed) (sym has.tiles) cut.tiles;
-      last = subst (λ z. IsTile ts params (length (joined cut.closed)) (z ∷ (cut.more ++ y ∷ [])) new.current)
-          (sym same)
-          (tile_grown ts params (length (joined cut.closed)) x cut.more y old.current new.current cut.last has.first
-          has.spot has.size);
+      last = subst (λ z. IsTile ts params (length (joined cut.closed)) (z ∷ all) new.current) (sym same)
+          (tile_grown ts params (length (joined cut.closed)) x cut.more ys old.current new.current cut.last has.first
+          has.spot (has.size ∙ ap (λ (n : ℕ). old.current.size + n) all_are));
       waves = subst (λ (us : List Tile). AreWaves tiling (firsts_of us ++ instance_of new.current.first ∷ [])
           (waves_of us ++ new.current.wave ∷ [])) (sym has.tiles)
           (subst (λ z. AreWaves tiling (firsts_of old.tiles.items ++ z ∷ [])
@@ -110,6 +117,17 @@ takes_same tiling y spot old new next is waves tiles has ts params rise at cut =
       key = same_key tiling x (instance_of new.current.first) old.key new.key (sym same) cut.key has.wave_of
           has.tile_of;
     }
+
+-- the next instance is in the current tile
+pub takes_same : (tiling : Tiling) (y : Instance) (spot : Spot) (old new : Cut) (next : Key)
+    → IsKeyOf tiling y next → next.wave.items ≡ old.key.wave.items → next.tile.items ≡ old.key.tile.items
+    → HasGrown 1 (record old { next = next }) new → Takes tiling y spot old new
+takes_same tiling y spot old new next is waves tiles has ts params rise at cut =
+    takes_all tiling (y ∷ []) 1 old new next refl one has ts params (to_come ts params spot) cut
+  where
+    one : (z : Instance) → In z (y ∷ []) → HasKey tiling old.key z
+    one z (inl e) x key = subst (InOneTile tiling x) (sym e) (keys_tell tiling x y old.key next key is waves tiles)
+    one z (inr j) x key = absurd j
 
 -- the number of the next wave
 next_number : (tiling : Tiling) (x y : Instance) (cut : Cut) (n : ℕ) → IsKeyOf tiling x cut.key
@@ -178,3 +196,16 @@ takes_next tiling first spot old new next is other has ts params rise at cut =
         ((waves_of ts ++ old.current.wave ∷ []) ++ new.current.wave ∷ [])) (sym same)
         (subst (λ k. AreWaves tiling ((firsts_of ts ++ instance_of old.current.first ∷ []) ++ instance_of first ∷ [])
         ((waves_of ts ++ old.current.wave ∷ []) ++ k ∷ [])) (sym wave) more)))
+
+-- what is left of a spot's stretch is in the current tile
+pub passes : (tiling : Tiling) (spot : Spot) (old new : Cut) (next : Key) → AllHaveKey tiling old.key spot.stretch
+    → HasGrown spot.stretch.left (record old { next = next }) new
+    → Passes tiling spot (record spot { stretch = record spot.stretch { left = 0 } }) old new
+passes tiling spot old new next all has =
+    let s = spot.stretch in
+    record {
+      spots = λ ts params is. record { room = is.room; stands = is.stands; held = All-nil IsHeld };
+      fewer = λ ts params. let l = length-append (left_of s) (rest_of ts (marks_in spot) params []) in omega (arith, l);
+      cut = λ ts params. takes_all tiling (left_of s) s.left old new next (sym (length-left s)) all has ts params
+          (rest_of ts (marks_in spot) params []);
+    }

@@ -2,3 +2,4 @@
 pub mod Keys
 pub mod Cutting
 pub mod Offsets
+pub mod Stretching

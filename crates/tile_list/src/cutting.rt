@@ -1,8 +1,9 @@
 //! One walk over a tree's visits, which begins a tile where wave or tile are others than before.
-ghost use Rattle.std.specs.Prelude.{◌≡◌, ◌+◌, ◌++◌, ◌∷◌, [], IfOk, OnOk};
+ghost use Rattle.std.specs.Prelude.{◌≡◌, ◌+◌, ◌++◌, ◌∷◌, [], All, IfOk, OnOk};
 ghost use Rattle.scop_syntax.specs.View.{instance_of};
-ghost use Rattle.loop_tree.specs.Conditions.{CanWalk};
+ghost use Rattle.loop_tree.specs.Conditions.{CanWalk, IsHeld};
 ghost use Rattle.loop_tree.specs.SpotView.{IsSpotOf, to_come};
+ghost use Rattle.loop_tree.specs.Stretches.{left_of};
 ghost use Rattle.loop_tree.specs.TilingView.{tiling_of};
 ghost use Rattle.loop_tree.specs.View.{trees_in};
 ghost use Rattle.loop_tree.specs.Walk.{visits};
@@ -10,6 +11,7 @@ ghost use Rattle.tile_list.specs.Tiles.{CanTile, HasSize, RiseByTile, RowsFit};
 ghost use Rattle.tile_list.specs.TilesView.{IsTileListOf};
 ghost use Rattle.tile_list.specs.steps.Cutting.{Begins, HasBegun, HasGrown, IsCutTo, IsListed};
 ghost use Rattle.tile_list.specs.steps.Cutting.{IsNewTile, IsWaveOf, Takes};
+ghost use Rattle.tile_list.specs.steps.Stretching.{AllRowsFit, Passes};
 
 use crate::keys::Key;
 use crate::list::{Tile, TileList};
@@ -28,13 +30,13 @@ struct Cut {
     next: Key,
 }
 
-/// One more, where a word has room for it.
-fn one_more(number: usize) -> Result<usize, AllocError>
-    ensures { IfOk result (λ n. n ≡ number + 1) }
+/// So many more, where a word has room for it.
+fn more(number: usize, count: usize) -> Result<usize, AllocError>
+    ensures { IfOk result (λ n. n ≡ number + count) }
 {
-    match number.checked_add(1) {
+    match number.checked_add(count) {
         None => Err(AllocError),
-        Some(more) => Ok(more),
+        Some(sum) => Ok(sum),
     }
 }
 
@@ -79,11 +81,11 @@ impl Cut {
         })
     }
 
-    /// The current tile has one instance more.
-    fn grow(&mut self) -> Result<(), AllocError>
-        ensures { OnOk result (HasGrown self.old self.new) }
+    /// The current tile has so many instances more.
+    fn grow(&mut self, count: usize) -> Result<(), AllocError>
+        ensures { OnOk result (HasGrown count self.old self.new) }
     {
-        self.current.size = one_more(self.current.size)?;
+        self.current.size = more(self.current.size, count)?;
         Ok(())
     }
 
@@ -94,7 +96,7 @@ impl Cut {
         if self.next.has_wave(&self.key) {
             Ok(self.current.wave)
         } else {
-            one_more(self.current.wave)
+            more(self.current.wave, 1)
         }
     }
 
@@ -123,10 +125,34 @@ impl Cut {
     {
         self.next.set(tiling, &instance)?;
         if self.next.is_that_of(&self.key) {
-            self.grow()
+            self.grow(1)
         } else {
             self.begin(alloc, instance, spot)
         }
+    }
+
+    /// Takes what is left of a spot's stretch, where it lies in the current tile. Where it does not, it is not to be
+    /// asked again: its instances are taken one by one.
+    fn take_stretch(
+        &mut self,
+        tiling: &Tiling,
+        asked: bool,
+        spot: &mut Spot,
+    ) -> Result<(), AllocError>
+        requires size { HasSize (tiling_of tiling.now) }
+        requires held { All IsHeld (left_of spot.old.stretch) }
+        requires fits { AllRowsFit (tiling_of tiling.now) spot.old.stretch }
+        ensures { OnOk result (Passes (tiling_of tiling.now) spot.old spot.new self.old self.new) }
+    {
+        if asked {
+            return Ok(());
+        }
+        if !self.next.is_of_stretch(&self.key, tiling, &spot.stretch)? {
+            return Ok(());
+        }
+        self.grow(spot.stretch.left as usize)?;
+        spot.stretch.left = 0;
+        Ok(())
     }
 
     /// All tiles.
@@ -157,8 +183,12 @@ fn cut_rest(
     ensures { IfOk result (IsCutTo (trees_in tree.now) params.now (tiling_of tiling.now) []) }
 {
     let mut cut = Cut::of(alloc, tiling, first, spot)?;
+    cut.take_stretch(tiling, false, spot)?;
+    let mut asked = spot.stretch.left > 0;
     while let Some(instance) = spot.next(tree, params) {
         cut.take(alloc, tiling, instance, spot)?;
+        cut.take_stretch(tiling, asked, spot)?;
+        asked = spot.stretch.left > 0;
     }
     Ok(cut)
 }

@@ -1,20 +1,23 @@
 //! The wave and the tile of an instance, in two buffers that are filled again for the next one.
-ghost use Rattle.std.specs.Prelude.{◌≡◌, ◌≤◌, ◌↔◌, ◌++◌, ◌∷◌, [], All, FitsSigned, IsTrue, OnOk};
-ghost use Rattle.std.specs.Prelude.{false, if◌then◌else◌, map, pos, true};
+ghost use Rattle.std.specs.Prelude.{◌≡◌, ◌+ℤ◌, ◌<◌, ◌≤◌, ◌↔◌, ◌++◌, ◌∷◌, [], All, FitsSigned, IfOk, IsTrue, OnOk};
+ghost use Rattle.std.specs.Prelude.{false, get_or, if◌then◌else◌, map, pos, take, true};
 ghost use Rattle.std.specs.Int.{w64};
 ghost use Rattle.whole_numbers.specs.Affine.{value_of};
 ghost use Rattle.whole_numbers.specs.Floor.{floor};
+ghost use Rattle.whole_numbers.specs.Lists.{multiples};
 ghost use Rattle.scop_syntax.specs.View.{instance_of};
+ghost use Rattle.loop_tree.specs.Conditions.{IsHeld};
+ghost use Rattle.loop_tree.specs.Stretches.{left_of};
 ghost use Rattle.loop_tree.specs.Tiling.{coordinates, wave_sum};
 ghost use Rattle.loop_tree.specs.TilingView.{tiling_of};
 ghost use Rattle.tile_list.specs.Tiles.{HasSize, RowsFit};
 ghost use Rattle.tile_list.specs.steps.Keys.{IsKeyOf};
+ghost use Rattle.tile_list.specs.steps.Stretching.{AllHaveKey, AllRowsFit, HasKey, steps_on};
 
-use loop_tree::{TileItems, TileRow, Tiling};
-use scop_syntax::affine_values::exact_at;
-use scop_syntax::instance::Instance;
+use loop_tree::{Stretch, TileItems, TileRow, Tiling};
+use scop_syntax::affine_values::{exact_at, with_product};
+use scop_syntax::instance::{Instance, MAX_LOOPS};
 use std::alloc::{AllocError, Global};
-use wide_math::floor_div;
 
 /// An instance's wave, and its tile.
 #[derive(Drop)]
@@ -43,6 +46,18 @@ fn push_scalars(list: &mut Vec<i128>, scalars: &[usize]) -> Result<(), AllocErro
     Ok(())
 }
 
+/// A number by another one, rounded down.
+fn floor_of(value: i64, size: u64) -> i64
+    requires { 1 ≤ size }
+    ensures { result ≡ floor value (pos size) }
+{
+    if value >= 0 {
+        (value as u64 / size) as i64
+    } else {
+        -1 - ((-1 - value) as u64 / size) as i64
+    }
+}
+
 /// The value of a row, by the size of the tiles.
 fn coordinate(row: &TileRow, size: u64, turns: &[i64]) -> i128
     requires size { 1 ≤ size }
@@ -50,10 +65,7 @@ fn coordinate(row: &TileRow, size: u64, turns: &[i64]) -> i128
     ensures is { result ≡ floor (value_of row.now.form turns.now) (pos size) }
     ensures small { FitsSigned w64 result }
 {
-    match floor_div(exact_at(&row.form, turns) as i128, size as i128) {
-        Ok(quotient) => quotient,
-        Err(_) => unreachable!(),
-    }
+    floor_of(exact_at(&row.form, turns), size) as i128
 }
 
 /// What a row adds to the wave.
@@ -128,6 +140,35 @@ fn are_same(left: &[i128], right: &[i128]) -> bool
     left == right
 }
 
+/// What a turn is so many steps on, where there is room for it; another number elsewhere.
+fn turn_after(turns: &[i64; MAX_LOOPS], steps: &[i64; MAX_LOOPS], count: u64, place: usize) -> i64
+    requires { place < 5 }
+    ensures { FitsSigned w64 (get_or turns.now place (pos 0) +ℤ get_or (multiples (pos count) steps.now) place (pos 0))
+        → result ≡ get_or turns.now place (pos 0) +ℤ get_or (multiples (pos count) steps.now) place (pos 0) }
+{
+    with_product(turns[place], steps[place], count.cast_signed())
+}
+
+/// The instance so many steps behind another one.
+fn after(before: &Instance, steps: &[i64; MAX_LOOPS], count: u64) -> Instance
+    requires { All (FitsSigned w64) (steps_on before.now.statement (instance_of before.now).turns
+        (take before.now.loops steps.now) count).turns }
+    ensures { instance_of result ≡ steps_on before.now.statement (instance_of before.now).turns
+        (take before.now.loops steps.now) count }
+{
+    Instance {
+        statement: before.statement,
+        loops: before.loops,
+        turns: [
+            turn_after(&before.turns, steps, count, 0),
+            turn_after(&before.turns, steps, count, 1),
+            turn_after(&before.turns, steps, count, 2),
+            turn_after(&before.turns, steps, count, 3),
+            turn_after(&before.turns, steps, count, 4),
+        ],
+    }
+}
+
 impl Key {
     /// A key to be filled.
     pub fn empty(alloc: Global) -> Key {
@@ -182,5 +223,53 @@ impl Key {
         } else {
             false
         }
+    }
+
+    /// Becomes that of an instance. Whether it is then the other one.
+    ///
+    /// # Errors
+    /// `AllocError` alone.
+    fn is_of(
+        &mut self,
+        other: &Key,
+        tiling: &Tiling,
+        instance: &Instance,
+    ) -> Result<bool, AllocError>
+        requires size { HasSize (tiling_of tiling.now) }
+        requires fits { RowsFit (tiling_of tiling.now) (instance_of instance.now) }
+        ensures { IfOk result (λ same. IsTrue same
+            → HasKey (tiling_of tiling.now) other.now (instance_of instance.now)) }
+    {
+        self.set(tiling, instance)?;
+        Ok(self.is_that_of(other))
+    }
+
+    /// Whether the other one is the key of all that is left of a stretch: it is where it is that of the first and of
+    /// the last, since along a stretch each coordinate of the tile rises, or each falls.
+    ///
+    /// # Errors
+    /// `AllocError` alone.
+    pub fn is_of_stretch(
+        &mut self,
+        other: &Key,
+        tiling: &Tiling,
+        stretch: &Stretch,
+    ) -> Result<bool, AllocError>
+        requires size { HasSize (tiling_of tiling.now) }
+        requires held { All IsHeld (left_of stretch.now) }
+        requires fits { AllRowsFit (tiling_of tiling.now) stretch.now }
+        ensures { IfOk result (λ same. IsTrue same → AllHaveKey (tiling_of tiling.now) other.now stretch.now) }
+    {
+        if stretch.left == 0 {
+            return Ok(false);
+        }
+        if !self.is_of(
+            other,
+            tiling,
+            &after(&stretch.before, &stretch.steps, stretch.left),
+        )? {
+            return Ok(false);
+        }
+        self.is_of(other, tiling, &after(&stretch.before, &stretch.steps, 1))
     }
 }

@@ -51,13 +51,13 @@ pub record IsNewTile (first : CodeInstance) (spot : Spot) (wave : ℕ) (tile : T
   pub wave_is : tile.wave ≡ wave
   pub size : tile.size ≡ 1
 
--- the current tile has one instance more
-pub record HasGrown (old new : Cut) : Type 0 where
+-- the current tile has so many instances more
+pub record HasGrown (count : ℕ) (old new : Cut) : Type 0 where
   pub tiles : new.tiles.items ≡ old.tiles.items
   pub first : new.current.first ≡ old.current.first
   pub spot : StandAlike new.current.spot old.current.spot
   pub wave : new.current.wave ≡ old.current.wave
-  pub size : new.current.size ≡ old.current.size + 1
+  pub size : new.current.size ≡ old.current.size + count
   pub wave_of : new.key.wave.items ≡ old.key.wave.items
   pub tile_of : new.key.tile.items ≡ old.key.tile.items
 

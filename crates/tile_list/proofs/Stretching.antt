@@ -1,0 +1,279 @@
+-- Along a stretch forms go by constant steps: floors that are one at both ends are one between, and so are tiles.
+use Rattle.std.proofs.Common.{◌≡◌, ◌∙◌, ◌≤◌, ◌<◌, ◌+◌, ◌%◌, ◌^◌, ℕ, zero, suc, ℤ, pos}
+use Rattle.std.proofs.Common.{List, [], ◌∷◌, ◌++◌, length, map, take}
+use Rattle.std.proofs.Common.{inl, inr, refl, ap, ap₂, sym, subst, arith, to_z, of_z}
+use Rattle.std.specs.Prelude.{◌+ℤ◌, ◌*ℤ◌, ◌≤ℤ◌, ◌<ℤ◌, All, FitsSigned, if◌then◌else◌}
+use Rattle.std.specs.Int.{cast_signed, int_wrap, w64}
+use Rattle.std.proofs.lemmas.Int.{int_wrap-add_right, int_wrap-mul_right, int_wrap_fits, ints, to_z-of_z}
+use Rattle.std.proofs.lemmas.List.{append_cancel_left}
+use Rattle.whole_numbers.specs.Affine.{Affine, value_of}
+use Rattle.whole_numbers.specs.Floor.{floor}
+use Rattle.whole_numbers.specs.Lists.{dot, multiples, sums}
+use Rattle.whole_numbers.proofs.Dot.{dot-multiples_right, dot-sums, dot_comm}
+use Rattle.whole_numbers.proofs.Floors.{floor_greatest, floor_is}
+use Rattle.whole_numbers.proofs.Order.{le_or_lt, mul_le, mul_le_turned}
+use Rattle.whole_numbers.proofs.Ring.{mul_comm_int, mul_distrib_right, mul_one_left}
+use Rattle.scop_syntax.specs.Members.{In}
+use Rattle.scop_syntax.specs.View.{instance_of}
+use Rattle.scop_syntax.specs.Walk.{Instance}
+use Rattle.scop_syntax.proofs.Members.{all_in}
+use Rattle.loop_tree.specs.Conditions.{IsHeld}
+use Rattle.loop_tree.specs.Stretches.{following, left_of}
+use Rattle.loop_tree.specs.Tiling.{TileRow, Tiling, kept, tiled, coordinates, items_at, wave_sum}
+use Rattle.loop_tree.specs.declared.stretch.Stretch.{Stretch}
+use Rattle.tile_list.specs.Tiles.{HasSize, InOneTile}
+use Rattle.tile_list.specs.steps.Stretching.{instance_at, steps_on}
+use Rattle.tile_list.proofs.Order.{one-sym, one-trans}
+
+-- once the steps are the steps
+once : (steps : List ℤ) → multiples (pos 1) steps ≡ steps
+once [] = refl
+once (s ∷ steps) = ap₂ (λ (z : ℤ) (zs : List ℤ). z ∷ zs) (mul_one_left s) (once steps)
+
+-- a multiple more of one step
+one_step_more : (k : ℕ) (s : ℤ) → (pos k *ℤ s) +ℤ s ≡ pos (suc k) *ℤ s
+one_step_more k s =
+    let d = mul_distrib_right (pos k) (pos 1) s in
+    let o = mul_one_left s in
+    let e : pos (suc k) ≡ pos k +ℤ pos 1 = omega (arith, ints) in
+    subst (λ (z : ℤ). (pos k *ℤ s) +ℤ s ≡ z *ℤ s) (sym e) (omega (arith, ints, d, o))
+
+-- a step more
+step_on : (k : ℕ) (turns steps : List ℤ)
+    → sums (sums turns (multiples (pos k) steps)) steps ≡ sums turns (multiples (pos (suc k)) steps)
+step_on k [] [] = refl
+step_on k [] (s ∷ steps) =
+    ap₂ (λ (z : ℤ) (zs : List ℤ). z ∷ zs) (one_step_more k s) (step_on k [] steps)
+step_on k (t ∷ turns) [] = refl
+step_on k (t ∷ turns) (s ∷ steps) =
+    let e = one_step_more k s in
+    let first : (t +ℤ (pos k *ℤ s)) +ℤ s ≡ t +ℤ (pos (suc k) *ℤ s) = omega (arith, ints, e) in
+    ap₂ (λ (z : ℤ) (zs : List ℤ). z ∷ zs) first (step_on k turns steps)
+
+-- what is left of a stretch is what stands so many steps on
+from_place : (n : ℕ) (turns steps : List ℤ) (j : ℕ) (here : List ℤ) (k : ℕ)
+    → sums here steps ≡ sums turns (multiples (pos (suc j)) steps) → (y : Instance) → In y (following n here steps k)
+    → (i : ℕ) × (j < i) × (i ≤ j + k) × (y ≡ steps_on n turns steps i)
+from_place n turns steps j here zero e y h = absurd h
+from_place n turns steps j here (suc k) e y (inl h) =
+    (suc j, omega arith, omega arith, h ∙ ap (λ (ts : List ℤ). record { number = n; turns = ts }) e)
+from_place n turns steps j here (suc k) e y (inr h) =
+    let more = ap (λ (ts : List ℤ). sums ts steps) e ∙ step_on (suc j) turns steps in
+    let (i, low, high, is) = from_place n turns steps (suc j) (sums here steps) k more y h in
+    (i, omega (arith, low), omega (arith, high), is)
+
+-- and what stands so many steps on is left of it
+at_place : (n : ℕ) (turns steps : List ℤ) (j : ℕ) (here : List ℤ) (k : ℕ)
+    → sums here steps ≡ sums turns (multiples (pos (suc j)) steps) → (i : ℕ) → i ≤ k → 1 ≤ i
+    → In (steps_on n turns steps (j + i)) (following n here steps k)
+at_place n turns steps j here zero e i high low = absurd (omega (arith, high, low))
+at_place n turns steps j here (suc k) e zero high low = absurd (omega (arith, low))
+at_place n turns steps j here (suc k) e (suc zero) high low =
+    let same : suc j ≡ j + 1 = omega arith in
+    inl (ap (λ (m : ℕ). steps_on n turns steps m) (sym same)
+    ∙ ap (λ (ts : List ℤ). record { number = n; turns = ts }) (sym e))
+at_place n turns steps j here (suc k) e (suc (suc i)) high low =
+    let more = ap (λ (ts : List ℤ). sums ts steps) e ∙ step_on (suc j) turns steps in
+    let same : suc j + suc i ≡ j + suc (suc i) = omega arith in
+    inr (subst (λ (m : ℕ). In (steps_on n turns steps m) (following n (sums here steps) steps k)) same
+    (at_place n turns steps (suc j) (sums here steps) k more (suc i) (omega (arith, high)) (omega arith)))
+
+-- the first of a stretch
+first_sums : (turns steps : List ℤ) → sums turns steps ≡ sums turns (multiples (pos 1) steps)
+first_sums turns steps = ap (λ (ss : List ℤ). sums turns ss) (sym (once steps))
+
+-- each that is left stands some steps on
+pub left_at : (s : Stretch) (y : Instance) → In y (left_of s)
+    → (i : ℕ) × (1 ≤ i) × (i ≤ s.left) × (y ≡ instance_at s i)
+left_at s y h =
+    let turns = (instance_of s.before).turns in
+    let steps = take s.before.loops s.steps in
+    let (i, low, high, is) =
+    from_place s.before.statement turns steps 0 turns s.left (first_sums turns steps) y h in
+    (i, omega (arith, low), omega (arith, high), is)
+
+-- and what stands some steps on is left
+pub at_left : (s : Stretch) (i : ℕ) → 1 ≤ i → i ≤ s.left → In (instance_at s i) (left_of s)
+at_left s i low high =
+    let turns = (instance_of s.before).turns in
+    let steps = take s.before.loops s.steps in
+    let same : 0 + i ≡ i = omega arith in
+    subst (λ (m : ℕ). In (instance_at s m) (left_of s)) same
+    (at_place s.before.statement turns steps 0 turns s.left (first_sums turns steps) i high low)
+
+-- it can be held
+pub held_at : (s : Stretch) (i : ℕ) → 1 ≤ i → i ≤ s.left → All IsHeld (left_of s)
+    → All (FitsSigned w64) (instance_at s i).turns
+held_at s i low high held = (all_in IsHeld (left_of s) (instance_at s i) held (at_left s i low high)).turns
+
+-- how many follow
+length-following : (n : ℕ) (turns steps : List ℤ) (k : ℕ) → length (following n turns steps k) ≡ k
+length-following n turns steps zero = refl
+length-following n turns steps (suc k) = ap suc (length-following n (sums turns steps) steps k)
+
+-- how many are left
+pub length-left : (s : Stretch) → length (left_of s) ≡ s.left
+length-left s =
+    length-following s.before.statement (instance_of s.before).turns (take s.before.loops s.steps) s.left
+
+-- a linear part's value some steps on
+dot_on : (cs turns steps : List ℤ) (k : ℤ)
+    → dot cs (sums turns (multiples k steps)) ≡ dot cs turns +ℤ (k *ℤ dot cs steps)
+dot_on cs turns steps k =
+    let a = dot_comm cs (sums turns (multiples k steps)) in
+    let b = dot-sums turns (multiples k steps) cs in
+    let c = dot_comm turns cs in
+    let d = dot_comm (multiples k steps) cs in
+    let e = dot-multiples_right k cs steps in
+    omega (arith, ints, a, b, c, d, e)
+
+-- a form's value some steps on
+pub value_on : (f : Affine) (turns steps : List ℤ) (k : ℤ)
+    → value_of f (sums turns (multiples k steps)) ≡ value_of f turns +ℤ (k *ℤ dot f.coefficients steps)
+value_on f turns steps k = let e = dot_on f.coefficients turns steps k in omega (arith, ints, e)
+
+-- the floor of a greater number is no less
+pub floor_rises : (a b d : ℤ) → pos 0 <ℤ d → a ≤ℤ b → floor a d ≤ℤ floor b d
+floor_rises a b d h l =
+    let below = (floor_is a d h).below in
+    floor_greatest b d (floor b d) (floor a d) h (floor_is b d h) (omega (arith, ints, below, l))
+
+-- between two numbers with one floor all have it
+pub floor_between : (a b c d : ℤ) → pos 0 <ℤ d → a ≤ℤ b → b ≤ℤ c → floor a d ≡ floor c d → floor b d ≡ floor a d
+floor_between a b c d h l m e =
+    let low = floor_rises a b d h l in
+    let high = floor_rises b c d h m in
+    omega (arith, ints, low, high, e)
+
+-- so have all where they fall
+floor_turned : (a b c d : ℤ) → pos 0 <ℤ d → b ≤ℤ a → c ≤ℤ b → floor a d ≡ floor c d → floor b d ≡ floor a d
+floor_turned a b c d h l m e = floor_between c b a d h m l (sym e) ∙ sym e
+
+-- a number that goes by constant steps has one floor where it has it at both ends
+floor_along : (v s d : ℤ) (i k : ℕ) → pos 0 <ℤ d → 1 ≤ i → i ≤ k
+    → floor (v +ℤ (pos 1 *ℤ s)) d ≡ floor (v +ℤ (pos k *ℤ s)) d
+    → floor (v +ℤ (pos i *ℤ s)) d ≡ floor (v +ℤ (pos 1 *ℤ s)) d
+floor_along v s d i k h low high e =
+    let from : pos 1 ≤ℤ pos i = omega (arith, ints, low) in
+    let to : pos i ≤ℤ pos k = omega (arith, ints, high) in
+    elim (le_or_lt (pos 0) s) [
+      | inl up ↦ (let l = mul_le (pos 1) (pos i) s from up in
+          let m = mul_le (pos i) (pos k) s to up in
+          floor_between (v +ℤ (pos 1 *ℤ s)) (v +ℤ (pos i *ℤ s)) (v +ℤ (pos k *ℤ s)) d h (omega (arith, ints, l))
+          (omega (arith, ints, m)) e)
+      | inr down ↦ (let falls : s ≤ℤ pos 0 = omega (arith, ints, down) in
+          let l = mul_le_turned (pos 1) (pos i) s from falls in
+          let m = mul_le_turned (pos i) (pos k) s to falls in
+          floor_turned (v +ℤ (pos 1 *ℤ s)) (v +ℤ (pos i *ℤ s)) (v +ℤ (pos k *ℤ s)) d h (omega (arith, ints, l))
+          (omega (arith, ints, m)) e)
+    ]
+
+-- so has a form along a stretch
+pub value_along : (f : Affine) (turns steps : List ℤ) (d : ℤ) (i k : ℕ) → pos 0 <ℤ d → 1 ≤ i → i ≤ k
+    → floor (value_of f (sums turns (multiples (pos 1) steps))) d
+    ≡ floor (value_of f (sums turns (multiples (pos k) steps))) d
+    → floor (value_of f (sums turns (multiples (pos i) steps))) d
+    ≡ floor (value_of f (sums turns (multiples (pos 1) steps))) d
+value_along f turns steps d i k h low high e =
+    let at : ℕ → ℤ = λ m. floor (value_of f turns +ℤ (pos m *ℤ dot f.coefficients steps)) d in
+    let is : (m : ℕ) → floor (value_of f (sums turns (multiples (pos m) steps))) d ≡ at m =
+    λ m. ap (λ (z : ℤ). floor z d) (value_on f turns steps (pos m)) in
+    is i ∙ (floor_along (value_of f turns) (dot f.coefficients steps) d i k h low high (sym (is 1) ∙ (e ∙ is k))
+    ∙ sym (is 1))
+
+-- lists that are one have one head
+same_head : {A : Type 0} (x y : A) (xs ys : List A) → x ∷ xs ≡ y ∷ ys → x ≡ y
+same_head x y xs ys e = cc
+
+-- and one tail
+same_tail : {A : Type 0} (x y : A) (xs ys : List A) → x ∷ xs ≡ y ∷ ys → xs ≡ ys
+same_tail x y xs ys e = cc
+
+-- coordinates that are one at both ends are one between
+pub coordinates_along : (rows : List TileRow) (turns steps : List ℤ) (d : ℤ) (i k : ℕ) → pos 0 <ℤ d → 1 ≤ i → i ≤ k
+    → coordinates d rows (sums turns (multiples (pos 1) steps))
+    ≡ coordinates d rows (sums turns (multiples (pos k) steps))
+    → coordinates d rows (sums turns (multiples (pos 1) steps))
+    ≡ coordinates d rows (sums turns (multiples (pos i) steps))
+coordinates_along [] turns steps d i k h low high e = refl
+coordinates_along (r ∷ rows) turns steps d i k h low high e =
+    let at : ℕ → List ℤ = λ m. sums turns (multiples (pos m) steps) in
+    let first : ℕ → ℤ = λ m. floor (value_of r.form (at m)) d in
+    let head = same_head (first 1) (first k) (coordinates d rows (at 1)) (coordinates d rows (at k)) e in
+    let tail = same_tail (first 1) (first k) (coordinates d rows (at 1)) (coordinates d rows (at k)) e in
+    ap₂ (λ (z : ℤ) (zs : List ℤ). z ∷ zs) (sym (value_along r.form turns steps d i k h low high head))
+    (coordinates_along rows turns steps d i k h low high tail)
+
+-- turns with the same coordinates have the same sum
+pub sum_by_coordinates : (d : ℤ) (rows : List TileRow) (turns others : List ℤ)
+    → coordinates d rows turns ≡ coordinates d rows others → wave_sum d rows turns ≡ wave_sum d rows others
+sum_by_coordinates d [] turns others e = refl
+sum_by_coordinates d (r ∷ rows) turns others e =
+    let a = floor (value_of r.form turns) d in
+    let b = floor (value_of r.form others) d in
+    let head = same_head a b (coordinates d rows turns) (coordinates d rows others) e in
+    let tail = same_tail a b (coordinates d rows turns) (coordinates d rows others) e in
+    ap₂ (λ (z w : ℤ). (if r.carries then z else pos 0) +ℤ w) head (sum_by_coordinates d rows turns others tail)
+
+-- a tile that has both ends has all between
+pub tile_along : (tiling : Tiling) (n : ℕ) (turns steps : List ℤ) (i k : ℕ) → HasSize tiling → 1 ≤ i → i ≤ k
+    → InOneTile tiling (steps_on n turns steps 1) (steps_on n turns steps k)
+    → InOneTile tiling (steps_on n turns steps 1) (steps_on n turns steps i)
+tile_along kept n turns steps i k some low high one = record { wave = refl; tile = refl }
+tile_along (tiled size statements) n turns steps i k some low high one =
+    let d = pos size in
+    let items = items_at statements n in
+    let at : ℕ → List ℤ = λ m. sums turns (multiples (pos m) steps) in
+    let up : pos 0 <ℤ d = omega (arith, ints, some) in
+    let front = map pos items.leading in
+    let same = append_cancel_left front (coordinates d items.band (at 1)) (coordinates d items.band (at k)) one.tile in
+    let here = coordinates_along items.band turns steps d i k up low high same in
+    record {
+      wave = ap (λ (z : ℤ). front ++ z ∷ []) (sum_by_coordinates d items.band (at 1) (at i) here);
+      tile = ap (λ (zs : List ℤ). front ++ zs) here;
+    }
+
+-- what is left of a stretch lies in a tile where its first and its last do
+pub stretch_in_tile : (tiling : Tiling) (s : Stretch) (x : Instance) → HasSize tiling
+    → InOneTile tiling x (instance_at s 1) → InOneTile tiling x (instance_at s s.left)
+    → (y : Instance) → In y (left_of s) → InOneTile tiling x y
+stretch_in_tile tiling s x some first last y h =
+    let turns = (instance_of s.before).turns in
+    let steps = take s.before.loops s.steps in
+    let (i, low, high, is) = left_at s y h in
+    let ends = one-trans tiling (instance_at s 1) x (instance_at s s.left)
+    (one-sym tiling x (instance_at s 1) first) last in
+    let here = tile_along tiling s.before.statement turns steps i s.left some low high ends in
+    subst (InOneTile tiling x) (sym is) (one-trans tiling x (instance_at s 1) (instance_at s i) first here)
+
+-- a number of 64 bits as a signed one
+signed_is : (n : ℕ) → n < 2 ^ 64 → cast_signed w64 n ≡ int_wrap w64 (pos n)
+unfolding int_wrap
+signed_is n h =
+    let small : n % 2 ^ 64 ≡ n = omega (arith, h) in
+    ap (cast_signed w64) (sym small)
+
+-- a turn some steps on, modulo 2^64, is the turn where that has 64 bits
+turn_exact : (t s : ℤ) (n : ℕ) → n < 2 ^ 64 → FitsSigned w64 (t +ℤ (pos n *ℤ s))
+    → int_wrap w64 (t +ℤ (s *ℤ cast_signed w64 n)) ≡ t +ℤ (pos n *ℤ s)
+turn_exact t s n h fits =
+    ap (λ (z : ℤ). int_wrap w64 (t +ℤ (s *ℤ z))) (signed_is n h)
+    ∙ (sym (int_wrap-add_right w64 t (s *ℤ int_wrap w64 (pos n)))
+    ∙ (ap (λ (z : ℤ). int_wrap w64 (t +ℤ z)) (int_wrap-mul_right w64 s (pos n))
+    ∙ (int_wrap-add_right w64 t (s *ℤ pos n)
+    ∙ (ap (λ (z : ℤ). int_wrap w64 (t +ℤ z)) (mul_comm_int s (pos n)) ∙ int_wrap_fits w64 (t +ℤ (pos n *ℤ s)) fits))))
+
+-- what the code makes of turn, step and number is the turn so many steps on
+pub turn_on : (t s m r : ℤ) (n : ℕ) → n < 2 ^ 64 → FitsSigned w64 t → FitsSigned w64 s → FitsSigned w64 m
+    → m ≡ cast_signed w64 n
+    → r ≡ int_wrap w64 (to_z w64 (of_z w64 t) +ℤ (to_z w64 (of_z w64 s) *ℤ to_z w64 (of_z w64 m)))
+    → FitsSigned w64 (t +ℤ (pos n *ℤ s)) → r ≡ t +ℤ (pos n *ℤ s)
+turn_on t s m r n h ft fs fm e is fits =
+    let step = ap₂ (λ (x y : ℤ). x *ℤ y) (to_z-of_z w64 s fs) (to_z-of_z w64 m fm ∙ e) in
+    is ∙ (ap₂ (λ (x y : ℤ). int_wrap w64 (x +ℤ y)) (to_z-of_z w64 t ft) step ∙ turn_exact t s n h fits)
+
+-- multiples of the first steps
+pub take-multiples : (n : ℕ) (k : ℤ) (xs : List ℤ) → take n (multiples k xs) ≡ multiples k (take n xs)
+take-multiples zero k xs = refl
+take-multiples (suc n) k [] = refl
+take-multiples (suc n) k (x ∷ xs) = ap (λ (zs : List ℤ). (k *ℤ x) ∷ zs) (take-multiples n k xs)

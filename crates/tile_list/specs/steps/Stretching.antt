@@ -1,0 +1,44 @@
+-- The instances of a stretch by their places in it, and what a key tells of all of them.
+use Rattle.std.specs.Prelude.{◌≤◌, ℕ, ℤ, pos, List, length, take}
+use Rattle.whole_numbers.specs.Lists.{multiples, sums}
+use Rattle.scop_syntax.specs.Members.{In}
+use Rattle.scop_syntax.specs.View.{instance_of}
+use Rattle.scop_syntax.specs.Walk.{Instance}
+use Rattle.loop_tree.specs.SpotView.{IsSpotOf, to_come}
+use Rattle.loop_tree.specs.Stretches.{left_of}
+use Rattle.loop_tree.specs.Tiling.{Tiling}
+use Rattle.loop_tree.specs.Tree.{Trees}
+use Rattle.loop_tree.specs.declared.spot.Spot.{Spot}
+use Rattle.loop_tree.specs.declared.stretch.Stretch.{Stretch}
+use Rattle.tile_list.specs.Tiles.{InOneTile, RowsFit}
+use Rattle.tile_list.specs.steps.Cutting.{IsCutTo}
+use Rattle.tile_list.specs.steps.Keys.{IsKeyOf}
+use Rattle.tile_list.specs.declared.cutting.Cut.{Cut}
+use Rattle.tile_list.specs.declared.keys.Key.{Key}
+
+-- the instance of a statement so many steps behind these turns
+abbrev pub steps_on : ℕ → List ℤ → List ℤ → ℕ → Instance
+steps_on n turns steps k = record { number = n; turns = sums turns (multiples (pos k) steps) }
+
+-- that of a stretch
+abbrev pub instance_at : Stretch → ℕ → Instance
+instance_at s k = steps_on s.before.statement (instance_of s.before).turns (take s.before.loops s.steps) k
+
+-- the rows fit at each instance that is left of a stretch
+abbrev pub AllRowsFit : Tiling → Stretch → Type 0
+AllRowsFit tiling s = (x : Instance) → In x (left_of s) → RowsFit tiling x
+
+-- an instance lies in the tile whose key is given
+abbrev pub HasKey : Tiling → Key → Instance → Type 0
+HasKey tiling key y = (x : Instance) → IsKeyOf tiling x key → InOneTile tiling x y
+
+-- so does each that is left of a stretch
+abbrev pub AllHaveKey : Tiling → Key → Stretch → Type 0
+AllHaveKey tiling key s = (y : Instance) → In y (left_of s) → HasKey tiling key y
+
+-- the spot has gone on, and what it passed is in the tiles
+pub record Passes (tiling : Tiling) (passed spot : Spot) (old new : Cut) : Type 0 where
+  pub spots : (ts : Trees) (params : List ℤ) → IsSpotOf ts params passed → IsSpotOf ts params spot
+  pub fewer : (ts : Trees) (params : List ℤ) → length (to_come ts params spot) ≤ length (to_come ts params passed)
+  pub cut : (ts : Trees) (params : List ℤ) → IsCutTo ts params tiling (to_come ts params passed) old
+      → IsCutTo ts params tiling (to_come ts params spot) new
