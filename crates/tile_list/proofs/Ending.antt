@@ -24,13 +24,15 @@ use Rattle.tile_list.specs.declared.list.TileList.{TileList}
 use Rattle.tile_list.proofs.Listing.{no_tiles, tile_more}
 use Rattle.tile_list.proofs.Offset.{offsets_are, waves_rise}
 use Rattle.tile_list.proofs.Parts.{begun, ended, none_cut}
-use Rattle.tile_list.proofs.Taking.{same_key, tile_begun}
+use Rattle.tile_list.proofs.Taking.{keys_tell, same_key, tile_begun}
 
 -- the first instance
-pub begins : (tiling : Tiling) (first : CodeInstance) (spot : Spot) (cut : Cut)
+begun_cut : (tiling : Tiling) (first : CodeInstance) (spot : Spot) (cut : Cut)
     → IsKeyOf tiling (instance_of first) cut.key → IsNewTile first spot 0 cut.current → cut.tiles.items ≡ []
-    → Begins tiling (instance_of first) spot cut
-begins tiling first spot cut key tile none ts params at all =
+    → (ts : Trees) (params : List ℤ) → IsSpotOf ts params spot
+    → visits ts params ≡ instance_of first ∷ to_come ts params spot
+    → IsCutTo ts params tiling (to_come ts params spot) cut
+begun_cut tiling first spot cut key tile none ts params at all =
     let x = instance_of first in
     let rest = to_come ts params spot in
     let same : instance_of cut.current.first ≡ x = ap instance_of tile.first_is in
@@ -44,6 +46,16 @@ begins tiling first spot cut key tile none ts params at all =
       waves = subst (λ (us : List Tile). AreWaves tiling (firsts_of us ++ instance_of cut.current.first ∷ [])
           (waves_of us ++ cut.current.wave ∷ [])) (sym none) (tile.wave_is, tt);
       key = same_key tiling x (instance_of cut.current.first) cut.key cut.key (sym same) key refl refl;
+    }
+
+-- it begins the cut
+pub begins : (tiling : Tiling) (first : CodeInstance) (spot : Spot) (cut : Cut)
+    → IsKeyOf tiling (instance_of first) cut.key → IsNewTile first spot 0 cut.current → cut.tiles.items ≡ []
+    → Begins tiling (instance_of first) spot cut
+begins tiling first spot cut key tile none =
+    record {
+      cut_is = begun_cut tiling first spot cut key tile none;
+      key = λ z is. keys_tell tiling z (instance_of first) cut.key cut.key is key refl refl;
     }
 
 -- what is still to come is visited
@@ -65,7 +77,7 @@ pub taken_next : (ts : Trees) (params : List ℤ) (tiling : Tiling) (x : Instanc
     → IsSpotOf ts params spot → Takes tiling x spot old new → IsCutTo ts params tiling all old
     → IsCutTo ts params tiling (to_come ts params spot) new
 taken_next ts params tiling x all spot old new e rise at takes is =
-    takes ts params rise at (subst (λ (zs : List Instance). IsCutTo ts params tiling zs old) e is)
+    takes.cut ts params rise at (subst (λ (zs : List Instance). IsCutTo ts params tiling zs old) e is)
 
 -- the rows fit at what is left of a stretch
 pub left_fits : (ts : Trees) (params : List ℤ) (tiling : Tiling) (spot : Spot) (cut : Cut)

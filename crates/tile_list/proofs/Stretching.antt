@@ -11,7 +11,7 @@ use Rattle.whole_numbers.specs.Floor.{floor}
 use Rattle.whole_numbers.specs.Lists.{dot, multiples, sums}
 use Rattle.whole_numbers.proofs.Dot.{dot-multiples_right, dot-sums, dot_comm}
 use Rattle.whole_numbers.proofs.Floors.{floor_greatest, floor_is}
-use Rattle.whole_numbers.proofs.Order.{le_or_lt, mul_le, mul_le_turned}
+use Rattle.whole_numbers.proofs.Order.{le_or_lt, mul_le, mul_le_turned, mul_not_negative, mul_opposite}
 use Rattle.whole_numbers.proofs.Ring.{mul_comm_int, mul_distrib_right, mul_one_left}
 use Rattle.scop_syntax.specs.Members.{In}
 use Rattle.scop_syntax.specs.View.{instance_of}
@@ -150,36 +150,32 @@ floor_turned : (a b c d : ℤ) → pos 0 <ℤ d → b ≤ℤ a → c ≤ℤ b �
 floor_turned a b c d h l m e = floor_between c b a d h m l (sym e) ∙ sym e
 
 -- a number that goes by constant steps has one floor where it has it at both ends
-floor_along : (v s d : ℤ) (i k : ℕ) → pos 0 <ℤ d → 1 ≤ i → i ≤ k
-    → floor (v +ℤ (pos 1 *ℤ s)) d ≡ floor (v +ℤ (pos k *ℤ s)) d
-    → floor (v +ℤ (pos i *ℤ s)) d ≡ floor (v +ℤ (pos 1 *ℤ s)) d
-floor_along v s d i k h low high e =
-    let from : pos 1 ≤ℤ pos i = omega (arith, ints, low) in
-    let to : pos i ≤ℤ pos k = omega (arith, ints, high) in
+floor_along : (v s d : ℤ) (i k : ℕ) → pos 0 <ℤ d → i ≤ k → floor v d ≡ floor (v +ℤ (pos k *ℤ s)) d
+    → floor (v +ℤ (pos i *ℤ s)) d ≡ floor v d
+floor_along v s d i k h within e =
+    let none : pos 0 ≤ℤ pos i = omega (arith, ints) in
+    let to : pos i ≤ℤ pos k = omega (arith, ints, within) in
+    let here = v +ℤ (pos i *ℤ s) in
+    let last = v +ℤ (pos k *ℤ s) in
     elim (le_or_lt (pos 0) s) [
-      | inl up ↦ (let l = mul_le (pos 1) (pos i) s from up in
+      | inl up ↦ (let l = mul_not_negative (pos i) s none up in
           let m = mul_le (pos i) (pos k) s to up in
-          floor_between (v +ℤ (pos 1 *ℤ s)) (v +ℤ (pos i *ℤ s)) (v +ℤ (pos k *ℤ s)) d h (omega (arith, ints, l))
-          (omega (arith, ints, m)) e)
+          floor_between v here last d h (omega (arith, ints, l)) (omega (arith, ints, m)) e)
       | inr down ↦ (let falls : s ≤ℤ pos 0 = omega (arith, ints, down) in
-          let l = mul_le_turned (pos 1) (pos i) s from falls in
+          let l = mul_opposite (pos i) s none falls in
           let m = mul_le_turned (pos i) (pos k) s to falls in
-          floor_turned (v +ℤ (pos 1 *ℤ s)) (v +ℤ (pos i *ℤ s)) (v +ℤ (pos k *ℤ s)) d h (omega (arith, ints, l))
-          (omega (arith, ints, m)) e)
+          floor_turned v here last d h (omega (arith, ints, l)) (omega (arith, ints, m)) e)
     ]
 
 -- so has a form along a stretch
-pub value_along : (f : Affine) (turns steps : List ℤ) (d : ℤ) (i k : ℕ) → pos 0 <ℤ d → 1 ≤ i → i ≤ k
-    → floor (value_of f (sums turns (multiples (pos 1) steps))) d
-    ≡ floor (value_of f (sums turns (multiples (pos k) steps))) d
-    → floor (value_of f (sums turns (multiples (pos i) steps))) d
-    ≡ floor (value_of f (sums turns (multiples (pos 1) steps))) d
-value_along f turns steps d i k h low high e =
+pub value_along : (f : Affine) (turns steps : List ℤ) (d : ℤ) (i k : ℕ) → pos 0 <ℤ d → i ≤ k
+    → floor (value_of f turns) d ≡ floor (value_of f (sums turns (multiples (pos k) steps))) d
+    → floor (value_of f turns) d ≡ floor (value_of f (sums turns (multiples (pos i) steps))) d
+value_along f turns steps d i k h within e =
     let at : ℕ → ℤ = λ m. floor (value_of f turns +ℤ (pos m *ℤ dot f.coefficients steps)) d in
     let is : (m : ℕ) → floor (value_of f (sums turns (multiples (pos m) steps))) d ≡ at m =
     λ m. ap (λ (z : ℤ). floor z d) (value_on f turns steps (pos m)) in
-    is i ∙ (floor_along (value_of f turns) (dot f.coefficients steps) d i k h low high (sym (is 1) ∙ (e ∙ is k))
-    ∙ sym (is 1))
+    sym (is i ∙ floor_along (value_of f turns) (dot f.coefficients steps) d i k h within (e ∙ is k))
 
 -- lists that are one have one head
 same_head : {A : Type 0} (x y : A) (xs ys : List A) → x ∷ xs ≡ y ∷ ys → x ≡ y
@@ -190,19 +186,18 @@ same_tail : {A : Type 0} (x y : A) (xs ys : List A) → x ∷ xs ≡ y ∷ ys �
 same_tail x y xs ys e = cc
 
 -- coordinates that are one at both ends are one between
-pub coordinates_along : (rows : List TileRow) (turns steps : List ℤ) (d : ℤ) (i k : ℕ) → pos 0 <ℤ d → 1 ≤ i → i ≤ k
-    → coordinates d rows (sums turns (multiples (pos 1) steps))
-    ≡ coordinates d rows (sums turns (multiples (pos k) steps))
-    → coordinates d rows (sums turns (multiples (pos 1) steps))
-    ≡ coordinates d rows (sums turns (multiples (pos i) steps))
-coordinates_along [] turns steps d i k h low high e = refl
-coordinates_along (r ∷ rows) turns steps d i k h low high e =
-    let at : ℕ → List ℤ = λ m. sums turns (multiples (pos m) steps) in
-    let first : ℕ → ℤ = λ m. floor (value_of r.form (at m)) d in
-    let head = same_head (first 1) (first k) (coordinates d rows (at 1)) (coordinates d rows (at k)) e in
-    let tail = same_tail (first 1) (first k) (coordinates d rows (at 1)) (coordinates d rows (at k)) e in
-    ap₂ (λ (z : ℤ) (zs : List ℤ). z ∷ zs) (sym (value_along r.form turns steps d i k h low high head))
-    (coordinates_along rows turns steps d i k h low high tail)
+pub coordinates_along : (rows : List TileRow) (turns steps : List ℤ) (d : ℤ) (i k : ℕ) → pos 0 <ℤ d → i ≤ k
+    → coordinates d rows turns ≡ coordinates d rows (sums turns (multiples (pos k) steps))
+    → coordinates d rows turns ≡ coordinates d rows (sums turns (multiples (pos i) steps))
+coordinates_along [] turns steps d i k h within e = refl
+coordinates_along (r ∷ rows) turns steps d i k h within e =
+    let last = sums turns (multiples (pos k) steps) in
+    let a = floor (value_of r.form turns) d in
+    let b = floor (value_of r.form last) d in
+    let head = same_head a b (coordinates d rows turns) (coordinates d rows last) e in
+    let tail = same_tail a b (coordinates d rows turns) (coordinates d rows last) e in
+    ap₂ (λ (z : ℤ) (zs : List ℤ). z ∷ zs) (value_along r.form turns steps d i k h within head)
+    (coordinates_along rows turns steps d i k h within tail)
 
 -- turns with the same coordinates have the same sum
 pub sum_by_coordinates : (d : ℤ) (rows : List TileRow) (turns others : List ℤ)
@@ -216,35 +211,33 @@ sum_by_coordinates d (r ∷ rows) turns others e =
     ap₂ (λ (z w : ℤ). (if r.carries then z else pos 0) +ℤ w) head (sum_by_coordinates d rows turns others tail)
 
 -- a tile that has both ends has all between
-pub tile_along : (tiling : Tiling) (n : ℕ) (turns steps : List ℤ) (i k : ℕ) → HasSize tiling → 1 ≤ i → i ≤ k
-    → InOneTile tiling (steps_on n turns steps 1) (steps_on n turns steps k)
-    → InOneTile tiling (steps_on n turns steps 1) (steps_on n turns steps i)
-tile_along kept n turns steps i k some low high one = record { wave = refl; tile = refl }
-tile_along (tiled size statements) n turns steps i k some low high one =
+pub tile_along : (tiling : Tiling) (n : ℕ) (turns steps : List ℤ) (i k : ℕ) → HasSize tiling → i ≤ k
+    → InOneTile tiling (record { number = n; turns = turns }) (steps_on n turns steps k)
+    → InOneTile tiling (record { number = n; turns = turns }) (steps_on n turns steps i)
+tile_along kept n turns steps i k some within one = record { wave = refl; tile = refl }
+tile_along (tiled size statements) n turns steps i k some within one =
     let d = pos size in
     let items = items_at statements n in
     let at : ℕ → List ℤ = λ m. sums turns (multiples (pos m) steps) in
     let up : pos 0 <ℤ d = omega (arith, ints, some) in
     let front = map pos items.leading in
-    let same = append_cancel_left front (coordinates d items.band (at 1)) (coordinates d items.band (at k)) one.tile in
-    let here = coordinates_along items.band turns steps d i k up low high same in
+    let same = append_cancel_left front (coordinates d items.band turns) (coordinates d items.band (at k)) one.tile in
+    let here = coordinates_along items.band turns steps d i k up within same in
     record {
-      wave = ap (λ (z : ℤ). front ++ z ∷ []) (sum_by_coordinates d items.band (at 1) (at i) here);
+      wave = ap (λ (z : ℤ). front ++ z ∷ []) (sum_by_coordinates d items.band turns (at i) here);
       tile = ap (λ (zs : List ℤ). front ++ zs) here;
     }
 
--- what is left of a stretch lies in a tile where its first and its last do
+-- what is left of a stretch lies in a tile where the instance in front of it and its last do
 pub stretch_in_tile : (tiling : Tiling) (s : Stretch) (x : Instance) → HasSize tiling
-    → InOneTile tiling x (instance_at s 1) → InOneTile tiling x (instance_at s s.left)
+    → InOneTile tiling x (instance_of s.before) → InOneTile tiling x (instance_at s s.left)
     → (y : Instance) → In y (left_of s) → InOneTile tiling x y
-stretch_in_tile tiling s x some first last y h =
-    let turns = (instance_of s.before).turns in
-    let steps = take s.before.loops s.steps in
-    let (i, low, high, is) = left_at s y h in
-    let ends = one-trans tiling (instance_at s 1) x (instance_at s s.left)
-    (one-sym tiling x (instance_at s 1) first) last in
-    let here = tile_along tiling s.before.statement turns steps i s.left some low high ends in
-    subst (InOneTile tiling x) (sym is) (one-trans tiling x (instance_at s 1) (instance_at s i) first here)
+stretch_in_tile tiling s x some front last y h =
+    let before = instance_of s.before in
+    let (i, low, within, is) = left_at s y h in
+    let ends = one-trans tiling before x (instance_at s s.left) (one-sym tiling x before front) last in
+    let here = tile_along tiling before.number before.turns (take s.before.loops s.steps) i s.left some within ends in
+    subst (InOneTile tiling x) (sym is) (one-trans tiling x before (instance_at s i) front here)
 
 -- a number of 64 bits as a signed one
 signed_is : (n : ℕ) → n < 2 ^ 64 → cast_signed w64 n ≡ int_wrap w64 (pos n)

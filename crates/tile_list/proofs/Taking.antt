@@ -19,12 +19,12 @@ use Rattle.loop_tree.specs.Tree.{Trees}
 use Rattle.loop_tree.specs.Walk.{visits}
 use Rattle.loop_tree.specs.declared.spot.Spot.{Spot}
 use Rattle.loop_tree.proofs.Alike.{rest_alike, spot_alike}
-use Rattle.tile_list.specs.Tiles.{AreWaves, InOneTile, IsNextWave, TileBefore, joined}
+use Rattle.tile_list.specs.Tiles.{AreWaves, InOneTile, IsNextWave, RiseByTile, TileBefore, joined}
 use Rattle.tile_list.specs.TilesView.{IsTile, firsts_of, waves_of}
 use Rattle.tile_list.specs.steps.Cutting.{AreTilesOf, HasBegun, HasGrown, IsCut, IsCutTo, IsNewTile, IsWaveOf}
 use Rattle.tile_list.specs.steps.Cutting.{Takes}
-use Rattle.tile_list.specs.steps.Keys.{IsKeyOf}
-use Rattle.tile_list.specs.steps.Stretching.{AllHaveKey, HasKey, Passes}
+use Rattle.tile_list.specs.steps.Keys.{HasKey, IsKeyOf}
+use Rattle.tile_list.specs.steps.Stretching.{AllHaveKey, Passes}
 use Rattle.tile_list.specs.declared.cutting.Cut.{Cut}
 use Rattle.tile_list.specs.declared.keys.Key.{Key}
 use Rattle.tile_list.specs.declared.list.Tile.{Tile}
@@ -43,7 +43,7 @@ same_key tiling x y key other e is waves tiles =
     }
 
 -- keys that are one are those of instances of one tile
-keys_tell : (tiling : Tiling) (x y : Instance) (key next : Key) → IsKeyOf tiling x key → IsKeyOf tiling y next
+pub keys_tell : (tiling : Tiling) (x y : Instance) (key next : Key) → IsKeyOf tiling x key → IsKeyOf tiling y next
     → next.wave.items ≡ key.wave.items → next.tile.items ≡ key.tile.items → InOneTile tiling x y
 keys_tell tiling x y key next is are waves tiles =
     record { wave = sym is.wave ∙ (sym waves ∙ are.wave); tile = sym is.tile ∙ (sym tiles ∙ are.tile) }
@@ -122,8 +122,12 @@ takes_all tiling ys count old new next all_are one has ts params rest cut =
 pub takes_same : (tiling : Tiling) (y : Instance) (spot : Spot) (old new : Cut) (next : Key)
     → IsKeyOf tiling y next → next.wave.items ≡ old.key.wave.items → next.tile.items ≡ old.key.tile.items
     → HasGrown 1 (record old { next = next }) new → Takes tiling y spot old new
-takes_same tiling y spot old new next is waves tiles has ts params rise at cut =
-    takes_all tiling (y ∷ []) 1 old new next refl one has ts params (to_come ts params spot) cut
+takes_same tiling y spot old new next is waves tiles has =
+    record {
+      cut = λ ts params rise at. takes_all tiling (y ∷ []) 1 old new next refl one has ts params
+          (to_come ts params spot);
+      key = λ z key. keys_tell tiling z y new.key next key is (waves ∙ sym has.wave_of) (tiles ∙ sym has.tile_of);
+    }
   where
     one : (z : Instance) → In z (y ∷ []) → HasKey tiling old.key z
     one z (inl e) x key = subst (InOneTile tiling x) (sym e) (keys_tell tiling x y old.key next key is waves tiles)
@@ -143,11 +147,14 @@ next_number tiling x y cut n is are wave (inr less) =
     inl (less.0, wave.same (are.wave ∙ (sym less.0 ∙ sym is.wave)))
 
 -- the next instance begins a tile
-pub takes_next : (tiling : Tiling) (first : CodeInstance) (spot : Spot) (old new : Cut) (next : Key)
+begins_next : (tiling : Tiling) (first : CodeInstance) (spot : Spot) (old new : Cut) (next : Key)
     → IsKeyOf tiling (instance_of first) next
     → ((next.wave.items ≡ old.key.wave.items) × (next.tile.items ≡ old.key.tile.items) → ⊥)
-    → HasBegun first spot (record old { next = next }) new → Takes tiling (instance_of first) spot old new
-takes_next tiling first spot old new next is other has ts params rise at cut =
+    → HasBegun first spot (record old { next = next }) new
+    → (ts : Trees) (params : List ℤ) → RiseByTile tiling (visits ts params) → IsSpotOf ts params spot
+    → IsCutTo ts params tiling (instance_of first ∷ to_come ts params spot) old
+    → IsCutTo ts params tiling (to_come ts params spot) new
+begins_next tiling first spot old new next is other has ts params rise at cut =
     let x = instance_of old.current.first in
     let y = instance_of first in
     let rest = to_come ts params spot in
@@ -196,6 +203,17 @@ takes_next tiling first spot old new next is other has ts params rise at cut =
         ((waves_of ts ++ old.current.wave ∷ []) ++ new.current.wave ∷ [])) (sym same)
         (subst (λ k. AreWaves tiling ((firsts_of ts ++ instance_of old.current.first ∷ []) ++ instance_of first ∷ [])
         ((waves_of ts ++ old.current.wave ∷ []) ++ k ∷ [])) (sym wave) more)))
+
+-- so is it taken
+pub takes_next : (tiling : Tiling) (first : CodeInstance) (spot : Spot) (old new : Cut) (next : Key)
+    → IsKeyOf tiling (instance_of first) next
+    → ((next.wave.items ≡ old.key.wave.items) × (next.tile.items ≡ old.key.tile.items) → ⊥)
+    → HasBegun first spot (record old { next = next }) new → Takes tiling (instance_of first) spot old new
+takes_next tiling first spot old new next is other has =
+    record {
+      cut = begins_next tiling first spot old new next is other has;
+      key = λ z key. keys_tell tiling z (instance_of first) new.key next key is (sym has.wave_of) (sym has.tile_of);
+    }
 
 -- what is left of a spot's stretch is in the current tile
 pub passes : (tiling : Tiling) (spot : Spot) (old new : Cut) (next : Key) → AllHaveKey tiling old.key spot.stretch

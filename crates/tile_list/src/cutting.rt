@@ -11,9 +11,10 @@ ghost use Rattle.tile_list.specs.Tiles.{CanTile, HasSize, RiseByTile, RowsFit};
 ghost use Rattle.tile_list.specs.TilesView.{IsTileListOf};
 ghost use Rattle.tile_list.specs.steps.Cutting.{Begins, HasBegun, HasGrown, IsCutTo, IsListed};
 ghost use Rattle.tile_list.specs.steps.Cutting.{IsNewTile, IsWaveOf, Takes};
+ghost use Rattle.tile_list.specs.steps.Keys.{HasKey};
 ghost use Rattle.tile_list.specs.steps.Stretching.{AllRowsFit, Passes};
 
-use crate::keys::Key;
+use crate::keys::{Key, are_one};
 use crate::list::{Tile, TileList};
 use crate::offsets::offsets_of;
 use loop_tree::{Spot, Tiling, Tree};
@@ -131,20 +132,22 @@ impl Cut {
         }
     }
 
-    /// Takes what is left of a spot's stretch, where it lies in the current tile. Where it does not, it is not to be
-    /// asked again: its instances are taken one by one.
+    /// Takes what is left of the stretch behind an instance that was taken, where it lies in the current tile. Where it
+    /// does not, it is not to be asked again: its instances are taken one by one.
     fn take_stretch(
         &mut self,
         tiling: &Tiling,
+        taken: &Instance,
         asked: bool,
         spot: &mut Spot,
     ) -> Result<(), AllocError>
         requires size { HasSize (tiling_of tiling.now) }
+        requires key { HasKey (tiling_of tiling.now) self.old.key (instance_of taken.now) }
         requires held { All IsHeld (left_of spot.old.stretch) }
         requires fits { AllRowsFit (tiling_of tiling.now) spot.old.stretch }
         ensures { OnOk result (Passes (tiling_of tiling.now) spot.old spot.new self.old self.new) }
     {
-        if asked {
+        if asked || !are_one(taken, &spot.stretch.before) {
             return Ok(());
         }
         if !self.next.is_of_stretch(&self.key, tiling, &spot.stretch)? {
@@ -183,11 +186,11 @@ fn cut_rest(
     ensures { IfOk result (IsCutTo (trees_in tree.now) params.now (tiling_of tiling.now) []) }
 {
     let mut cut = Cut::of(alloc, tiling, first, spot)?;
-    cut.take_stretch(tiling, false, spot)?;
+    cut.take_stretch(tiling, &first, false, spot)?;
     let mut asked = spot.stretch.left > 0;
     while let Some(instance) = spot.next(tree, params) {
         cut.take(alloc, tiling, instance, spot)?;
-        cut.take_stretch(tiling, asked, spot)?;
+        cut.take_stretch(tiling, &instance, asked, spot)?;
         asked = spot.stretch.left > 0;
     }
     Ok(cut)

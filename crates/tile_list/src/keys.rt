@@ -11,8 +11,8 @@ ghost use Rattle.loop_tree.specs.Stretches.{left_of};
 ghost use Rattle.loop_tree.specs.Tiling.{coordinates, wave_sum};
 ghost use Rattle.loop_tree.specs.TilingView.{tiling_of};
 ghost use Rattle.tile_list.specs.Tiles.{HasSize, RowsFit};
-ghost use Rattle.tile_list.specs.steps.Keys.{IsKeyOf};
-ghost use Rattle.tile_list.specs.steps.Stretching.{AllHaveKey, AllRowsFit, HasKey, steps_on};
+ghost use Rattle.tile_list.specs.steps.Keys.{HasKey, IsKeyOf};
+ghost use Rattle.tile_list.specs.steps.Stretching.{AllHaveKey, AllRowsFit, steps_on};
 
 use loop_tree::{Stretch, TileItems, TileRow, Tiling};
 use scop_syntax::affine_values::{exact_at, with_product};
@@ -140,6 +140,17 @@ fn are_same(left: &[i128], right: &[i128]) -> bool
     left == right
 }
 
+/// Whether two instances are one.
+pub fn are_one(left: &Instance, right: &Instance) -> bool
+    ensures { IsTrue result → instance_of left.now ≡ instance_of right.now }
+{
+    if left.statement == right.statement {
+        left.turns() == right.turns()
+    } else {
+        false
+    }
+}
+
 /// What a turn is so many steps on, where there is room for it; another number elsewhere.
 fn turn_after(turns: &[i64; MAX_LOOPS], steps: &[i64; MAX_LOOPS], count: u64, place: usize) -> i64
     requires { place < 5 }
@@ -225,27 +236,8 @@ impl Key {
         }
     }
 
-    /// Becomes that of an instance. Whether it is then the other one.
-    ///
-    /// # Errors
-    /// `AllocError` alone.
-    fn is_of(
-        &mut self,
-        other: &Key,
-        tiling: &Tiling,
-        instance: &Instance,
-    ) -> Result<bool, AllocError>
-        requires size { HasSize (tiling_of tiling.now) }
-        requires fits { RowsFit (tiling_of tiling.now) (instance_of instance.now) }
-        ensures { IfOk result (λ same. IsTrue same
-            → HasKey (tiling_of tiling.now) other.now (instance_of instance.now)) }
-    {
-        self.set(tiling, instance)?;
-        Ok(self.is_that_of(other))
-    }
-
-    /// Whether the other one is the key of all that is left of a stretch: it is where it is that of the first and of
-    /// the last, since along a stretch each coordinate of the tile rises, or each falls.
+    /// Whether the other one is the key of all that is left of a stretch, where it is that of the instance in front: it
+    /// is where it is that of the last, since along a stretch each coordinate of the tile rises, or each falls.
     ///
     /// # Errors
     /// `AllocError` alone.
@@ -258,18 +250,17 @@ impl Key {
         requires size { HasSize (tiling_of tiling.now) }
         requires held { All IsHeld (left_of stretch.now) }
         requires fits { AllRowsFit (tiling_of tiling.now) stretch.now }
-        ensures { IfOk result (λ same. IsTrue same → AllHaveKey (tiling_of tiling.now) other.now stretch.now) }
+        ensures { IfOk result (λ same. IsTrue same
+            → HasKey (tiling_of tiling.now) other.now (instance_of stretch.now.before)
+            → AllHaveKey (tiling_of tiling.now) other.now stretch.now) }
     {
         if stretch.left == 0 {
             return Ok(false);
         }
-        if !self.is_of(
-            other,
+        self.set(
             tiling,
             &after(&stretch.before, &stretch.steps, stretch.left),
-        )? {
-            return Ok(false);
-        }
-        self.is_of(other, tiling, &after(&stretch.before, &stretch.steps, 1))
+        )?;
+        Ok(self.is_that_of(other))
     }
 }

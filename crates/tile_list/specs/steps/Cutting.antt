@@ -11,7 +11,7 @@ use Rattle.loop_tree.specs.Tree.{Trees}
 use Rattle.loop_tree.specs.Walk.{visits}
 use Rattle.tile_list.specs.Tiles.{AreWaves, InOneTile, PartBefore, RiseByTile, TileBefore, joined, start_of}
 use Rattle.tile_list.specs.TilesView.{IsTile, firsts_of, waves_of}
-use Rattle.tile_list.specs.steps.Keys.{IsKeyOf}
+use Rattle.tile_list.specs.steps.Keys.{HasKey, IsKeyOf}
 use Rattle.tile_list.specs.steps.Offsets.{offsets_from}
 use Rattle.tile_list.specs.declared.cutting.Cut.{Cut}
 use Rattle.tile_list.specs.declared.list.Tile.{Tile}
@@ -74,17 +74,17 @@ pub record HasBegun (first : CodeInstance) (spot : Spot) (old new : Cut) : Type 
   pub tile_of : new.key.tile.items ≡ old.next.tile.items
 
 -- the first of the visits of trees is in its tile
-abbrev pub Begins : Tiling → Instance → Spot → Cut → Type 0
-Begins tiling x spot cut =
-    (ts : Trees) (params : List ℤ) → IsSpotOf ts params spot → visits ts params ≡ x ∷ to_come ts params spot
-    → IsCutTo ts params tiling (to_come ts params spot) cut
+pub record Begins (tiling : Tiling) (x : Instance) (spot : Spot) (cut : Cut) : Type 0 where
+  pub cut_is : (ts : Trees) (params : List ℤ) → IsSpotOf ts params spot → visits ts params ≡ x ∷ to_come ts params spot
+      → IsCutTo ts params tiling (to_come ts params spot) cut
+  pub key : HasKey tiling cut.key x
 
 -- so is the next one of the visits of trees, which rise by tile
-abbrev pub Takes : Tiling → Instance → Spot → Cut → Cut → Type 0
-Takes tiling x spot old new =
-    (ts : Trees) (params : List ℤ) → RiseByTile tiling (visits ts params) → IsSpotOf ts params spot
-    → IsCutTo ts params tiling (x ∷ to_come ts params spot) old
-    → IsCutTo ts params tiling (to_come ts params spot) new
+pub record Takes (tiling : Tiling) (x : Instance) (spot : Spot) (old new : Cut) : Type 0 where
+  pub cut : (ts : Trees) (params : List ℤ) → RiseByTile tiling (visits ts params) → IsSpotOf ts params spot
+      → IsCutTo ts params tiling (x ∷ to_come ts params spot) old
+      → IsCutTo ts params tiling (to_come ts params spot) new
+  pub key : HasKey tiling new.key x
 
 -- the list of these tiles, with their offsets
 pub record IsListed (tiles : List Tile) (list : TileList) : Type 0 where

@@ -10,9 +10,9 @@ use Rattle.loop_tree.specs.Tiling.{Tiling}
 use Rattle.loop_tree.specs.Tree.{Trees}
 use Rattle.loop_tree.specs.declared.spot.Spot.{Spot}
 use Rattle.loop_tree.specs.declared.stretch.Stretch.{Stretch}
-use Rattle.tile_list.specs.Tiles.{InOneTile, RowsFit}
+use Rattle.tile_list.specs.Tiles.{RowsFit}
 use Rattle.tile_list.specs.steps.Cutting.{IsCutTo}
-use Rattle.tile_list.specs.steps.Keys.{IsKeyOf}
+use Rattle.tile_list.specs.steps.Keys.{HasKey}
 use Rattle.tile_list.specs.declared.cutting.Cut.{Cut}
 use Rattle.tile_list.specs.declared.keys.Key.{Key}
 
@@ -28,11 +28,7 @@ instance_at s k = steps_on s.before.statement (instance_of s.before).turns (take
 abbrev pub AllRowsFit : Tiling → Stretch → Type 0
 AllRowsFit tiling s = (x : Instance) → In x (left_of s) → RowsFit tiling x
 
--- an instance lies in the tile whose key is given
-abbrev pub HasKey : Tiling → Key → Instance → Type 0
-HasKey tiling key y = (x : Instance) → IsKeyOf tiling x key → InOneTile tiling x y
-
--- so does each that is left of a stretch
+-- each instance that is left of a stretch lies in the tile whose key is given
 abbrev pub AllHaveKey : Tiling → Key → Stretch → Type 0
 AllHaveKey tiling key s = (y : Instance) → In y (left_of s) → HasKey tiling key y
 

@@ -10,7 +10,7 @@ take_stretch-requires-clause-fits c =
     let ts = trees_in c.args.tree.now in
     let params = c.args.params.now in
     left_fits ts params (tiling_of c.args.tiling.now) c.args.spot.now c.in_ok-cut.cut c.requires.fits
-    (c.in_ok-cut.ensures ts params c.requires.spot c.requires.first)
+    (c.in_ok-cut.ensures.cut_is ts params c.requires.spot c.requires.first)
 
 pub loop-instance-init : goal.loop-instance-init
 loop-instance-init c =
@@ -19,7 +19,7 @@ loop-instance-init c =
     record {
       spot = c.in_ok-take_stretch.ensures.spots ts params c.requires.spot;
       cut = c.in_ok-take_stretch.ensures.cut ts params
-          (c.in_ok-cut.ensures ts params c.requires.spot c.requires.first);
+          (c.in_ok-cut.ensures.cut_is ts params c.requires.spot c.requires.first);
     }
 
 pub take-requires-clause-fits : goal.take-requires-clause-fits
