@@ -184,7 +184,7 @@ each_of_five P a b c d e (suc (suc (suc zero))) h = d
 each_of_five P a b c d e (suc (suc (suc (suc zero)))) h = e
 each_of_five P a b c d e (suc (suc (suc (suc (suc i))))) h = absurd (omega arith)
 
--- where nothing is left
+-- where nothing is left of it
 pub nothing_left : (s : Stretch) → s.left ≡ 0 → left_of s ≡ []
 nothing_left s empty =
     ap (λ (k : ℕ). following s.before.statement (instance_of s.before).turns (take s.before.loops s.steps) k) empty
