@@ -1,4 +1,5 @@
--- Instances of a leaf at the values of the loop round it: each has the same steps more in its turns than the one before.
+-- Instances of a leaf at the values of the loop round it: each has the same steps more in its turns than the one before
+-- it.
 use Rattle.std.proofs.Common.{◌≡◌, ℕ, zero, suc, ◌+◌, ◌<◌, Bool, true, false, ℤ, pos, negsuc, List, [], ◌∷◌, ◌++◌}
 use Rattle.std.proofs.Common.{length, map, take, get_or, ap, ap₂, sym, subst, ◌∙◌, refl, arith, append-nil}
 use Rattle.std.specs.Prelude.{◌+ℤ◌, ◌-ℤ◌, ◌≤ℤ◌, All, FitsSigned}
@@ -73,7 +74,8 @@ following_held n forms params outer x (suc k) can =
     (sym (values_next forms outer params x))
     (All-cons IsHeld (leaf_at n forms params outer (x +ℤ pos 1))
     (following n (values_of forms ((outer ++ (x +ℤ pos 1) ∷ []) ++ params)) steps k)
-    (leaf_held n forms params (outer ++ (x +ℤ pos 1) ∷ []) (can (x +ℤ pos 1) (omega (arith, ints)) (omega (arith, ints))))
+    (leaf_held n forms params (outer ++ (x +ℤ pos 1) ∷ [])
+    (can (x +ℤ pos 1) (omega (arith, ints)) (omega (arith, ints))))
     (following_held n forms params outer (x +ℤ pos 1) k
     (λ y from to. can y (omega (arith, ints, from)) (omega (arith, ints, to)))))
 
@@ -184,24 +186,28 @@ each_of_five P a b c d e (suc (suc (suc zero))) h = d
 each_of_five P a b c d e (suc (suc (suc (suc zero)))) h = e
 each_of_five P a b c d e (suc (suc (suc (suc (suc i))))) h = absurd (omega arith)
 
--- where nothing is left
+-- where nothing is left of it
 pub nothing_left : (s : Stretch) → s.left ≡ 0 → left_of s ≡ []
 nothing_left s empty =
     ap (λ (k : ℕ). following s.before.statement (instance_of s.before).turns (take s.before.loops s.steps) k) empty
 
 -- a stretch behind a leaf at a value
-pub stretch_is : (s : Stretch) (n : ℕ) (forms : List Affine) (params outer : List ℤ) (x : ℤ)
-    → length s.before.turns ≡ 5 → instance_of s.before ≡ leaf_at n forms params outer x
-    → take (length forms) s.steps ≡ steps_of forms (length outer)
+pub stretch_is : (s : Stretch) (n : ℕ) (forms told : List Affine) (params outer vs : List ℤ) (x : ℤ)
+    → length s.before.turns ≡ 5 → vs ≡ outer ++ x ∷ [] → told ≡ forms
+    → instance_of s.before ≡ record { number = n; turns = values_of forms (vs ++ params) }
+    → take (length told) s.steps ≡ steps_of told (length outer)
     → left_of s ≡ following n (values_of forms ((outer ++ x ∷ []) ++ params)) (steps_of forms (length outer)) s.left
-stretch_is s n forms params outer x whole before steps =
+stretch_is s n forms told params outer vs x whole at same before steps =
     let few = s.before.few in
     let taken = length-take s.before.loops s.before.turns in
     let turns = ap (λ (i : Instance). length i.turns) before in
-    let values = length-map forms (λ f. value_of f ((outer ++ x ∷ []) ++ params)) in
-    let loops : s.before.loops ≡ length forms = omega (arith, few, taken, turns, values, whole) in
+    let values = length-map forms (λ f. value_of f (vs ++ params)) in
+    let all = ap (λ (fs : List Affine). length fs) same in
+    let loops : s.before.loops ≡ length told = omega (arith, few, taken, turns, values, whole, all) in
     ap₂ (λ (i : Instance) (ds : List ℤ). following i.number i.turns ds s.left) before
     (ap (λ (k : ℕ). take k s.steps) loops ∙ steps)
+    ∙ ap₂ (λ (us : List ℤ) (fs : List Affine). following n (values_of forms (us ++ params))
+    (steps_of fs (length outer)) s.left) at same
 
 -- a loop that was begun: its body's marks at its value can go on, and it has gone on where they have
 pub go_begun : (flag : Bool) (lo up : Bounds) (body : Trees) (begun : Bool) (x z : ℤ) (ms : List Mark)

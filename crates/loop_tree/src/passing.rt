@@ -2,17 +2,15 @@
 //! and the instances that they pass by are told as a stretch.
 ghost use Rattle.std.specs.Prelude.{◌≡◌, ◌≤◌, ◌+ℤ◌, ◌-ℤ◌, ◌≤ℤ◌, ◌++◌, ◌∷◌, [], All, IfSome, IsSome, List, ℤ};
 ghost use Rattle.std.specs.Prelude.{get_or, length, map, pos, take, true};
-ghost use Rattle.scop_syntax.specs.View.{instance_of};
-ghost use Rattle.whole_numbers.specs.Affine.{values_of};
 ghost use Rattle.loop_tree.specs.steps.Chain.{values_in};
-ghost use Rattle.loop_tree.specs.steps.Going.{CanGo, CanTurn, HasGone, HasTurned, alone, rest_from};
+ghost use Rattle.loop_tree.specs.steps.Going.{CanGo, CanTurn, HasGone, HasTurned, alone};
 ghost use Rattle.loop_tree.specs.steps.Stepping.{steps_of};
 ghost use Rattle.loop_tree.specs.Conditions.{CanWalk, IsHeld};
-ghost use Rattle.loop_tree.specs.Fits.{FormsFit, SumsFit};
+ghost use Rattle.loop_tree.specs.Fits.{SumsFit};
 ghost use Rattle.loop_tree.specs.Spot.{Mark as PlainMark, rest_of, shown_from};
 ghost use Rattle.loop_tree.specs.SpotView.{mark_of, marks_of};
 ghost use Rattle.loop_tree.specs.Stretches.{left_in, left_of};
-ghost use Rattle.loop_tree.specs.Tree.{instance as leaf_in, loop as loops, more, none};
+ghost use Rattle.loop_tree.specs.Tree.{instance as leaf_in, more, none};
 ghost use Rattle.loop_tree.specs.View.{nodes_of, tree_of};
 ghost use Rattle.loop_tree.specs.Walk.{along, given, walk_all};
 

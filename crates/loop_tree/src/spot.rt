@@ -28,7 +28,7 @@ ghost use Rattle.loop_tree.specs.Conditions.{CanWalk};
 ghost use Rattle.loop_tree.specs.Fits.{BoundsFit, TestsFit};
 ghost use Rattle.loop_tree.specs.Marks.{AreBounds, AreTests};
 ghost use Rattle.loop_tree.specs.Spot.{deep, deep_all, mark as marked_at, rest_of};
-ghost use Rattle.loop_tree.specs.SpotView.{IsSpotOf, StandAlike, found_in, mark_of, marks_in, marks_of, to_come};
+ghost use Rattle.loop_tree.specs.SpotView.{IsSpotOf, StandAlike, found_in, mark_of, marks_of, to_come};
 ghost use Rattle.loop_tree.specs.Stretches.{left_in, left_of};
 ghost use Rattle.loop_tree.specs.Tree.{loop as loops, more, none};
 ghost use Rattle.loop_tree.specs.View.{bounds_in, nodes_of, test_of, tree_of, trees_in};

@@ -1,18 +1,16 @@
-use Rattle.std.proofs.Common.{rules, ◌≡◌, ◌∙◌, ◌++◌, ◌∷◌, [], List, ℤ, All, arith, subst, sym, ap, to_z, of_z, pos}
-use Rattle.std.proofs.Common.{length, take}
+use Rattle.std.proofs.Common.{rules, ◌≡◌, ◌∙◌, ◌++◌, ◌∷◌, [], List, ℤ, All, arith, subst, sym, to_z, of_z, pos}
+use Rattle.std.proofs.Common.{length}
 use Rattle.std.specs.Prelude.{FitsSigned}
 use Rattle.std.specs.Int.{w128}
 use Rattle.std.proofs.lemmas.Int.{ints, to_z-of_z}
-use Rattle.scop_syntax.specs.View.{instance_of}
 use Rattle.scop_syntax.specs.Walk.{Instance}
 use Rattle.whole_numbers.specs.Affine.{Affine, values_of}
 use Rattle.loop_tree.specs.steps.Chain.{values_in}
-use Rattle.loop_tree.specs.steps.Stepping.{steps_of}
 use Rattle.loop_tree.specs.declared.stretch.Stretch.{Stretch}
 use Rattle.loop_tree.specs.Conditions.{IsHeld}
 use Rattle.loop_tree.specs.Fits.{SumsFit}
 use Rattle.loop_tree.proofs.Chains.{values_at}
-use Rattle.loop_tree.proofs.Stretched.{following_held, following_shown, fronts_fit, leaf_at, stretch_is}
+use Rattle.loop_tree.proofs.Stretched.{following_held, following_shown, fronts_fit, stretch_is}
 use Rattle.loop_tree.proofs.Walked.{leaf_held}
 use Rattle.loop_tree.proofs.passing.stretch_behind.Goals as goal
 
@@ -24,7 +22,8 @@ instance_at-before-requires-clause-held c =
     let outer = values_in c.args.outer.now in
     let fits : FitsSigned w128 x = search rules in
     let within = values_at c.args.outer x (to_z w128 (of_z w128 x)) (to_z-of_z w128 x fits) in
-    subst (λ (vs : List ℤ). IsHeld (record { number = leaf.statement; turns = values_of leaf.turns.items (vs ++ params) }))
+    subst
+    (λ (vs : List ℤ). IsHeld (record { number = leaf.statement; turns = values_of leaf.turns.items (vs ++ params) }))
     (sym within)
     (leaf_held leaf.statement leaf.turns.items params (outer ++ x ∷ [])
     (c.requires x (omega (arith, ints)) (omega (arith, ints))))
@@ -42,38 +41,30 @@ steps_within-steps-requires-clause-fits c =
 pub returns-clause-rest : goal.returns-clause-rest
 returns-clause-rest c =
     let leaf = c.args.leaf.now in
-    let forms = leaf.turns.items in
     let x = c.args.value in
     let params = c.args.params.now in
     let outer = values_in c.args.outer.now in
-    let s : Stretch = record { before = c.instance_at-before.result; steps = c.steps_within-steps.result; left = c.args.left } in
+    let s : Stretch =
+    record { before = c.instance_at-before.result; steps = c.steps_within-steps.result; left = c.args.left } in
     let fits : FitsSigned w128 x = search rules in
-    let within = values_at c.args.outer x (to_z w128 (of_z w128 x)) (to_z-of_z w128 x fits) in
-    let before : instance_of c.instance_at-before.result ≡ leaf_at leaf.statement forms params outer x =
-    c.instance_at-before.ensures
-    ∙ ap (λ (vs : List ℤ). record { number = leaf.statement; turns = values_of forms (vs ++ params) }) within in
     let whole : length c.instance_at-before.result.turns ≡ 5 = search rules in
-    let steps = subst (λ (fs : List Affine). take (length fs) c.steps_within-steps.result ≡ steps_of fs (length outer))
-    c.as_slice.ensures.value c.steps_within-steps.ensures in
-    stretch_is s leaf.statement forms params outer x whole before steps
-    ∙ following_shown leaf.statement forms params outer x c.args.left
+    stretch_is s leaf.statement leaf.turns.items c.as_slice.result.now params outer _ x whole
+    (values_at c.args.outer x (to_z w128 (of_z w128 x)) (to_z-of_z w128 x fits)) c.as_slice.ensures.value
+    c.instance_at-before.ensures c.steps_within-steps.ensures
+    ∙ following_shown leaf.statement leaf.turns.items params outer x c.args.left
 
 pub returns-clause-held : goal.returns-clause-held
 returns-clause-held c =
     let leaf = c.args.leaf.now in
-    let forms = leaf.turns.items in
     let x = c.args.value in
     let params = c.args.params.now in
     let outer = values_in c.args.outer.now in
-    let s : Stretch = record { before = c.instance_at-before.result; steps = c.steps_within-steps.result; left = c.args.left } in
+    let s : Stretch =
+    record { before = c.instance_at-before.result; steps = c.steps_within-steps.result; left = c.args.left } in
     let fits : FitsSigned w128 x = search rules in
-    let within = values_at c.args.outer x (to_z w128 (of_z w128 x)) (to_z-of_z w128 x fits) in
-    let before : instance_of c.instance_at-before.result ≡ leaf_at leaf.statement forms params outer x =
-    c.instance_at-before.ensures
-    ∙ ap (λ (vs : List ℤ). record { number = leaf.statement; turns = values_of forms (vs ++ params) }) within in
     let whole : length c.instance_at-before.result.turns ≡ 5 = search rules in
-    let steps = subst (λ (fs : List Affine). take (length fs) c.steps_within-steps.result ≡ steps_of fs (length outer))
-    c.as_slice.ensures.value c.steps_within-steps.ensures in
     subst (λ (is : List Instance). All IsHeld is)
-    (sym (stretch_is s leaf.statement forms params outer x whole before steps))
-    (following_held leaf.statement forms params outer x c.args.left c.requires)
+    (sym (stretch_is s leaf.statement leaf.turns.items c.as_slice.result.now params outer _ x whole
+    (values_at c.args.outer x (to_z w128 (of_z w128 x)) (to_z-of_z w128 x fits)) c.as_slice.ensures.value
+    c.instance_at-before.ensures c.steps_within-steps.ensures))
+    (following_held leaf.statement leaf.turns.items params outer x c.args.left c.requires)

@@ -5,7 +5,6 @@ use Rattle.std.proofs.lemmas.Int.{to_z-of_z}
 use Rattle.loop_tree.proofs.Stretched.{each_of_five, sums_front}
 use Rattle.loop_tree.proofs.stretch.stepped.Goals as goal
 
--- src/stretch.rt:23:1
 pub returns-clause-instance : goal.returns-clause-instance
 returns-clause-instance c =
     let i = c.args.instance.now in
