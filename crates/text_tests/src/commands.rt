@@ -380,7 +380,7 @@ fn prints_the_arrays_of_the_execution(rt: HostRuntime) -> Result<(), Fail> {
 fn refuses_with_the_place(rt: HostRuntime) -> Result<(), Fail> {
     for (input, exit, line) in REFUSED {
         let answer = run_on(&rt, input.as_bytes())?;
-        assert!(rt; is_told(answer, *exit, b"", line.as_bytes()), "{input}");
+        assert!(rt; is_told(answer, exit, b"", line.as_bytes()), "{input}");
     }
     Ok(())
 }

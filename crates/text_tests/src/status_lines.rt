@@ -97,7 +97,7 @@ fn tells_each_status_on_a_line(rt: HostRuntime) -> Result<(), Fail> {
     assert!(rt; kernel.is_some());
     for (status, line) in LINES {
         let mut sink = MemSink::of(rt.alloc(), 200, 7, &[])?;
-        assert!(rt; status_line(*status, kernel.as_ref(), &mut sink) == Ok(()), "{line}");
+        assert!(rt; status_line(status, kernel.as_ref(), &mut sink) == Ok(()), "{line}");
         assert!(rt; sink.taken() == line.as_bytes(), "{line}");
     }
     Ok(())
@@ -108,6 +108,6 @@ fn tells_a_front_where_there_is_no_room(rt: HostRuntime) -> Result<(), Fail> {
     let mut sink = MemSink::of(rt.alloc(), 8, 8, &[])?;
     let status = Status::BadData(DataRefusal::Missing(0));
     assert!(rt; status_line(status, None, &mut sink) == Err(Failed));
-    assert!(rt; sink.taken() == b"data: Mi");
+    assert!(rt; sink.taken() == b"data: Mi".as_slice());
     Ok(())
 }
