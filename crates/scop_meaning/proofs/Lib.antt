@@ -1,3 +1,4 @@
+pub mod Chains
 mod Offsets
 mod Shifts
 mod Turns
