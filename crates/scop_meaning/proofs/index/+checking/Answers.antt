@@ -11,7 +11,7 @@ use Rattle.scop_syntax.proofs.Weights.{weight, weight_all, item_weight, item_her
 use Rattle.scop_meaning.specs.Conditions.{CanCheck, CanTurn}
 use Rattle.scop_meaning.specs.Outside.{first_of}
 use Rattle.scop_meaning.specs.declared.loops.TheConstants.{ROOM}
-use Rattle.scop_meaning.proofs.Walking.{can_turn, first_turn_fits, loop_head, loop_space}
+use Rattle.scop_meaning.proofs.Walking.{can_turn, first_turn_fits}
 use Rattle.scop_meaning.proofs.Turns.{first_fits}
 use Rattle.scop_meaning.proofs.Checks.{
   ItemsChecked,
@@ -147,24 +147,3 @@ outside_loop-loop-turn-preserved t c =
     c.args.number c.args.point.now.items
     l.point.items c.outside_turn.new.point.items c.loop-turn-test.true l.invariant c.in-None.ensures.found
     c.outside_turn.ensures.point
-
-pub outside_loop-turns_of-turns-requires-clause-room : goal.outside_loop-turns_of-turns-requires-clause-room
-outside_loop-turns_of-turns-requires-clause-room t c =
-    loop_space ROOM _ c.args.head.now (items_of c.args.body.now) c.args.point.now.items c.requires.walks
-
-pub outside_loop-turns_of-turns-requires-clause-first : goal.outside_loop-turns_of-turns-requires-clause-first
-outside_loop-turns_of-turns-requires-clause-first t c =
-    let first = c.exact_at-first.result in
-    let fit : FitsSigned w64 first = search rules in
-    to_z-of_z w64 first fit
-    ∙ (c.exact_at-first.ensures
-    ∙ ap₂ (λ (f : Affine) (x : List ℤ). value_of f x) (ap (λ (h : Head). h.first) c.head.view_is)
-    c.as_slice.ensures.value)
-
-pub outside_loop-turns_of-turns-requires-clause-head : goal.outside_loop-turns_of-turns-requires-clause-head
-outside_loop-turns_of-turns-requires-clause-head t c =
-    loop_head ROOM _ c.args.head.now (items_of c.args.body.now) c.args.point.now.items c.requires.walks
-
-pub outside_loop-turns_of-turns-requires-clause-fits : goal.outside_loop-turns_of-turns-requires-clause-fits
-outside_loop-turns_of-turns-requires-clause-fits t c =
-    first_turn_fits ROOM _ c.args.head.now (items_of c.args.body.now) c.args.point.now.items c.requires.walks
