@@ -23,14 +23,17 @@ chained whole op left right l r is first second =
     ∙ (expression_binary op left right
     ∙ ap₂ (λ (x y : Expr). binary (operator_of op) (expression_of x) (expression_of y)) (sym first) (sym second))
 
+pub expression_read : (a : Access) → expression_of (Read a) ≡ read a
+expression_read a =
+    ap expression_of (sym (rolls-Read a)) ∙ fold-roll-Expr Expression expression_step (Expr-F.Read a)
+
 -- the same where the right is a read
 pub chained_read : (whole : Expr) (op : Code) (left right : Box Expr) (l r : Expr) (a : Access)
     → whole ≡ Binary op left right → l ≡ left.value → r ≡ right.value → r ≡ Read a
     → expression_of whole ≡ binary (operator_of op) (expression_of l) (read a)
 chained_read whole op left right l r a is first second named =
-    let node = ap expression_of (sym (rolls-Read a)) ∙ fold-roll-Expr Expression expression_step (Expr-F.Read a) in
     chained whole op left right l r is first second
-    ∙ ap (λ (x : Expression). binary (operator_of op) (expression_of l) x) (ap expression_of named ∙ node)
+    ∙ ap (λ (x : Expression). binary (operator_of op) (expression_of l) x) (ap expression_of named ∙ expression_read a)
 
 -- behind the reads of the left there is room for those of the right
 pub chained_room : (whole e f : Expression) (op : Operator) (at next n : ℕ) → whole ≡ binary op e f

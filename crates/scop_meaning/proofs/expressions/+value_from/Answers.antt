@@ -1,6 +1,22 @@
+use Rattle.std.proofs.Common.{length, ap, ◌∙◌, arith}
+use Rattle.scop_syntax.specs.Tree.{Expression}
+use Rattle.scop_syntax.specs.Cells.{reads_of}
 use Rattle.scop_syntax.specs.View.{expression_of, operator_of}
-use Rattle.scop_meaning.proofs.Chains.{chained, chained_end, chained_value}
+use Rattle.scop_meaning.proofs.Chains.{chained, chained_end, chained_value, expression_read}
 use Rattle.scop_meaning.proofs.expressions.+value_from.Goals as goal
+
+pub bounds-reads-at : goal.bounds-reads-at
+bounds-reads-at t c =
+    let all = ap (λ (x : Expression). length (reads_of x))
+    (ap expression_of c.in-Read.is ∙ expression_read c.in-Read.field-0) in
+    let room = c.requires in
+    omega arith
+
+pub returns-in-Read-clause-at : goal.returns-in-Read-clause-at
+returns-in-Read-clause-at t c =
+    let all = ap (λ (x : Expression). length (reads_of x))
+    (ap expression_of c.in-Read.is ∙ expression_read c.in-Read.field-0) in
+    omega arith
 
 pub returns-in-Binary-clause-value : goal.returns-in-Binary-clause-value
 returns-in-Binary-clause-value t c =
