@@ -1,8 +1,8 @@
-pub mod Chains
 mod Offsets
 mod Shifts
 mod Turns
 mod Evaluations
+mod Chains
 mod Walking
 mod Runs
 mod Checks

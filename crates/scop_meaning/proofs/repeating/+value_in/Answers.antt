@@ -1,4 +1,4 @@
-use Rattle.std.proofs.Common.{◌≡◌, ◌+◌, ◌≤◌, length, map, arith}
+use Rattle.std.proofs.Common.{◌+◌, ◌≤◌, length, map, arith}
 use Rattle.scop_syntax.specs.Tree.{read}
 use Rattle.scop_syntax.specs.View.{expression_of, operator_of}
 use Rattle.scop_meaning.specs.Tracks.{held_on}
