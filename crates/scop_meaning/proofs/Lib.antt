@@ -2,6 +2,7 @@ mod Offsets
 mod Shifts
 mod Turns
 mod Evaluations
+mod Chains
 mod Walking
 mod Runs
 mod Checks

@@ -4,14 +4,15 @@ use Rattle.std.specs.Int.{w64}
 use Rattle.std.proofs.lemmas.Int.{to_z-of_z}
 use Rattle.whole_numbers.specs.Affine.{Affine, value_of}
 use Rattle.scop_syntax.specs.Cells.{accesses}
-use Rattle.scop_syntax.specs.Tree.{Tree, Trees, Head, statement, more, none}
+use Rattle.scop_syntax.specs.Acts.{acts}
+use Rattle.scop_syntax.specs.Tree.{Tree, Trees, Head, loop, statement, more, none}
 use Rattle.scop_syntax.specs.View.{items_of, tree_of, statement_of}
-use Rattle.scop_syntax.specs.Walk.{turn_point}
+use Rattle.scop_syntax.specs.Walk.{RunsFor, condition_at, turn_point}
 use Rattle.scop_syntax.proofs.Views.{tree_statement}
 use Rattle.scop_syntax.proofs.Weights.{weight, weight_all, item_weight, item_here}
-use Rattle.scop_meaning.specs.Conditions.{CanRun, CanTurn, AreCells}
+use Rattle.scop_meaning.specs.Conditions.{CanRun, CanTurn, AreCells, ran}
 use Rattle.scop_meaning.specs.declared.loops.TheConstants.{ROOM}
-use Rattle.scop_meaning.proofs.Walking.{can_turn, first_turn_fits}
+use Rattle.scop_meaning.proofs.Walking.{can_turn, first_turn_fits, loop_head, loop_space}
 use Rattle.scop_meaning.proofs.Turns.{first_fits}
 use Rattle.scop_meaning.proofs.Runs.{can_first, can_act, item_step, turns_begin, can_body, turn_step}
 use Rattle.scop_meaning.proofs.interpreter.+running.Goals as goal
@@ -98,3 +99,62 @@ run_loop-loop-turn-preserved t c =
     c.run_turn.new.point.items c.args.arrays.now l.arrays c.run_turn.new.arrays c.loop-turn-test.true l.invariant
     c.run_turn.ensures.point
     c.run_turn.ensures.arrays c.run_turn.ensures.ready
+
+pub run_loop-turns_of-turns-requires-clause-room : goal.run_loop-turns_of-turns-requires-clause-room
+run_loop-turns_of-turns-requires-clause-room t c =
+    loop_space ROOM c.requires.ranks c.args.head.now (items_of c.args.body.now) c.args.point.now.items c.requires.walks
+
+-- the first iterator is what the head's form says
+first_is : {form : Affine} {lent : List ℤ} (head : Head) (start : List ℤ) (first : ℤ) → first ≡ value_of form lent
+    → form ≡ head.first → lent ≡ start → FitsSigned w64 first → to_z w64 (of_z w64 first) ≡ value_of head.first start
+first_is head start first said form lent fit =
+    to_z-of_z w64 first fit ∙ (said ∙ ap₂ (λ (f : Affine) (x : List ℤ). value_of f x) form lent)
+
+pub run_loop-turns_of-turns-requires-clause-first : goal.run_loop-turns_of-turns-requires-clause-first
+run_loop-turns_of-turns-requires-clause-first t c =
+    let fit : FitsSigned w64 c.exact_at-first.result = search rules in
+    first_is c.args.head.now c.args.point.now.items c.exact_at-first.result c.exact_at-first.ensures
+    (ap (λ (h : Head). h.first) c.head.view_is) c.as_slice.ensures.value fit
+
+pub run_loop-turns_of-turns-requires-clause-head : goal.run_loop-turns_of-turns-requires-clause-head
+run_loop-turns_of-turns-requires-clause-head t c =
+    loop_head ROOM c.requires.ranks c.args.head.now (items_of c.args.body.now) c.args.point.now.items c.requires.walks
+
+pub run_loop-turns_of-turns-requires-clause-fits : goal.run_loop-turns_of-turns-requires-clause-fits
+run_loop-turns_of-turns-requires-clause-fits t c =
+    first_turn_fits ROOM c.requires.ranks c.args.head.now (items_of c.args.body.now) c.args.point.now.items
+    c.requires.walks
+
+pub run_loop-run_along-requires-clause-run : goal.run_loop-run_along-requires-clause-run
+run_loop-run_along-requires-clause-run t c =
+    let es = c.args.layout.now in
+    let head = c.args.head.now in
+    let arrays = c.args.arrays.now in
+    subst (λ (x : List ℤ). CanRun ROOM es (more (loop head (more (statement (statement_of c.in-Some.statement.now))
+    none)) none) x arrays) (sym c.turns_of-turns.ensures.point)
+    (subst (λ (ts : Trees). CanRun ROOM es (more (loop head ts) none) c.args.point.now.items arrays)
+    c.in-Some.ensures.body c.requires)
+
+pub run_loop-run_along-requires-clause-first : goal.run_loop-run_along-requires-clause-first
+run_loop-run_along-requires-clause-first t c =
+    let fit : FitsSigned w64 c.exact_at-first.result = search rules in
+    first_is c.args.head.now c.turns_of-turns.new.point.items c.exact_at-first.result c.exact_at-first.ensures
+    (ap (λ (h : Head). h.first) c.head.view_is) (c.as_slice.ensures.value ∙ sym c.turns_of-turns.ensures.point) fit
+
+pub run_loop-run_along-requires-clause-turns : goal.run_loop-run_along-requires-clause-turns
+run_loop-run_along-requires-clause-turns t c =
+    subst (λ (x : List ℤ). RunsFor (λ k. condition_at c.args.head.now x (pos k)) c.turns_of-turns.result)
+    (sym c.turns_of-turns.ensures.point) c.turns_of-turns.ensures.turns
+
+pub run_loop-returns-in-Some-clause-point : goal.run_loop-returns-in-Some-clause-point
+run_loop-returns-in-Some-clause-point t c = c.run_along.ensures.point ∙ c.turns_of-turns.ensures.point
+
+pub run_loop-returns-in-Some-clause-arrays : goal.run_loop-returns-in-Some-clause-arrays
+run_loop-returns-in-Some-clause-arrays t c =
+    let es = c.args.layout.now in
+    let head = c.args.head.now in
+    let arrays = c.args.arrays.now in
+    c.run_along.ensures.arrays
+    ∙ (ap (λ (x : List ℤ). ran es arrays (acts (loop head (more (statement (statement_of c.in-Some.statement.now))
+    none)) x)) c.turns_of-turns.ensures.point
+    ∙ ap (λ (ts : Trees). ran es arrays (acts (loop head ts) c.args.point.now.items)) (sym c.in-Some.ensures.body))

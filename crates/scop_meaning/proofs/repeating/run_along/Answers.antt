@@ -1,17 +1,28 @@
-use Rattle.std.proofs.Common.{ℕ, ◌<◌, List, map, ap, subst, sym, ◌∙◌, arith, rules, refl}
+use Rattle.std.proofs.Common.{◌≡◌, ℕ, ◌<◌, ◌≤◌, ◌^◌, List, map, ap, subst, sym, ◌∙◌, arith, refl, to_z, of_z}
 use Rattle.std.specs.Prelude.{ℤ, pos, FitsSigned}
 use Rattle.std.specs.Int.{w64}
 use Rattle.std.proofs.lemmas.Int.{to_z-of_z}
+use Rattle.whole_numbers.specs.Affine.{value_of}
 use Rattle.scop_syntax.specs.Cells.{accesses, reads as reads_by}
-use Rattle.scop_syntax.specs.Tree.{more, none, statement}
+use Rattle.scop_syntax.specs.Tree.{Head, Statement, loop, more, none, statement}
 use Rattle.scop_syntax.specs.View.{statement_of}
-use Rattle.scop_syntax.specs.Walk.{turn_point}
-use Rattle.scop_meaning.specs.Conditions.{AreCells, CanTurn}
+use Rattle.scop_syntax.specs.Walk.{RunsFor, condition_at, turn_point}
+use Rattle.scop_meaning.specs.Conditions.{AreCells, CanRun, CanTurn}
 use Rattle.scop_meaning.specs.Tracks.{AreTracks, track_of}
 use Rattle.scop_meaning.specs.declared.loops.TheConstants.{ROOM}
 use Rattle.scop_meaning.proofs.Walking.{can_turn}
 use Rattle.scop_meaning.proofs.Runs.{turn_cells, turns_begin, turn_step}
 use Rattle.scop_meaning.proofs.repeating.run_along.Goals as goal
+
+-- a turn before the last can be entered at a point that is the loop's
+enter : {es : List (List ℕ)} (head : Head) (s : Statement) (m k : ℕ) (first : ℤ) (start point : List ℤ)
+    (now : List (List ℕ)) → CanRun ROOM es (more (loop head (more (statement s) none)) none) start now
+    → RunsFor (λ j. condition_at head start (pos j)) m → m ≤ 2 ^ 63 → k < m → first ≡ value_of head.first start
+    → FitsSigned w64 first → point ≡ start → CanTurn ROOM head (to_z w64 (of_z w64 first)) k point
+enter head s m k first start point now run runs few h is fit same =
+    subst (λ (z : ℤ). CanTurn ROOM head z k point) (sym (to_z-of_z w64 first fit))
+    (subst (λ (x : List ℤ). CanTurn ROOM head first k x) (sym same)
+    (can_turn ROOM run.ranks head (more (statement s) none) start m k first run.walks runs few h is))
 
 pub tracks_in-tracks-requires-clause-first_cells : goal.tracks_in-tracks-requires-clause-first_cells
 tracks_in-tracks-requires-clause-first_cells c =
@@ -31,6 +42,23 @@ tracks_in-tracks-requires-clause-second_cells c =
     (turn_cells ROOM c.args.layout.now c.args.head.now s c.args.turns 1 c.args.point.now.items c.args.arrays.now
     c.requires.run c.requires.turns (omega arith))
 
+pub tracks_in-tracks-requires-clause-first : goal.tracks_in-tracks-requires-clause-first
+tracks_in-tracks-requires-clause-first c =
+    let some = c.requires.some in
+    enter c.args.head.now (statement_of c.args.statement.now) c.args.turns 0 c.args.first c.args.point.now.items
+    c.as_slice.result.now c.args.arrays.now c.requires.run c.requires.turns c.requires.few (omega arith)
+    c.requires.first c.ranges.first c.as_slice.ensures.value
+
+pub tracks_in-tracks-requires-clause-second : goal.tracks_in-tracks-requires-clause-second
+tracks_in-tracks-requires-clause-second c =
+    let some = c.requires.some in
+    enter c.args.head.now (statement_of c.args.statement.now) c.args.turns 1 c.args.first c.args.point.now.items
+    c.as_slice.result.now c.args.arrays.now c.requires.run c.requires.turns c.requires.few (omega arith)
+    c.requires.first c.ranges.first c.as_slice.ensures.value
+
+pub tracks_in-tracks-requires-clause-few : goal.tracks_in-tracks-requires-clause-few
+tracks_in-tracks-requires-clause-few c = c.requires.run.walks.formed.0.3.0.few_reads
+
 pub loop-turn-init : goal.loop-turn-init
 loop-turn-init c =
     turns_begin ROOM c.args.layout.now c.args.head.now (more (statement (statement_of c.args.statement.now)) none)
@@ -39,16 +67,9 @@ loop-turn-init c =
 pub run_turn_along-requires-clause-turn : goal.run_turn_along-requires-clause-turn
 run_turn_along-requires-clause-turn c =
     let l = c.loop-turn in
-    let head = c.args.head.now in
-    let s = statement_of c.args.statement.now in
-    let start = c.args.point.now.items in
-    let first = c.args.first in
-    let fit : FitsSigned w64 first = search rules in
-    let there : CanTurn ROOM head first l.turn start =
-    can_turn ROOM c.requires.run.ranks head (more (statement s) none) start c.args.turns l.turn first
-    c.requires.run.walks c.requires.turns c.requires.few c.loop-turn-test.true c.requires.first in
-    subst (λ (z : ℤ). CanTurn ROOM head z l.turn l.point.items) (sym (to_z-of_z w64 first fit))
-    (subst (λ (x : List ℤ). CanTurn ROOM head first l.turn x) (sym l.invariant.same) there)
+    enter c.args.head.now (statement_of c.args.statement.now) c.args.turns l.turn c.args.first c.args.point.now.items
+    l.point.items c.args.arrays.now c.requires.run c.requires.turns c.requires.few c.loop-turn-test.true
+    c.requires.first c.ranges.first l.invariant.same
 
 pub run_turn_along-requires-clause-tracks : goal.run_turn_along-requires-clause-tracks
 run_turn_along-requires-clause-tracks c =
