@@ -3,9 +3,10 @@ use Rattle.std.proofs.Common.{subst, sym}
 use Rattle.tableau_rows.specs.Rows.{entry}
 use Rattle.tableau_rows.specs.Solutions.{HaveSameSolutions}
 use Rattle.tableau_rows.proofs.Keeping.{pivot_keeps_solutions}
-use Rattle.tableau_rows.specs.Moves.{rows_in, row_at, HeadsPositive}
-use Rattle.checked_tableau.specs.Table.{Table, stride_of}
-use Rattle.checked_tableau.proofs.Tables.{heads_sized, length-rows_in, sound_pivot, written_whole}
+use Rattle.tableau_rows.specs.Moves.{rows_in, row_at, rows_run, HeadsPositive}
+use Rattle.checked_tableau.specs.Table.{Table, table_in, stride_of}
+use Rattle.checked_tableau.proofs.Tables.{goes_by, heads_sized, length-rows_in, sound_pivot, sound_stopped}
+use Rattle.checked_tableau.proofs.Tables.{stays_stopped, stops_by, written_whole}
 use Rattle.std.proofs.Common.{◌*◌}
 use Rattle.std.specs.Prelude.{None}
 use Rattle.checked_tableau.proofs.table.Rows.pivot.Goals as goal
@@ -98,3 +99,50 @@ returns-in-Ok-clause-solutions c =
     c.self.view_is
     (subst (λ (zs : List ℤ). (p : List ℤ) → length p ≡ i.parameters
     → HaveSameSolutions i.unknowns rows (rows_in stride i.count zs) p) (sym a) given)
+
+pub invariant_of-self : goal.invariant_of-self
+invariant_of-self c =
+    let i = c.self.inside in
+    let now = c.pivot_lines.new.cells in
+    let room = c.pivot_lines.new.line in
+    let size : length now ≡ length i.cells.items = c.pivot_lines.auto.cells
+    ∙ ap (λ (zs : List ℤ). length zs) c.deref_mut.ensures.value in
+    let same : length room ≡ length i.line.items = c.pivot_lines.auto.line
+    ∙ ap (λ (zs : List ℤ). length zs) c.deref_mut-2.ensures.value in
+    let a = written_whole i.cells.len i.cells.items now (search rules) size in
+    let b = written_whole i.line.len i.line.items room (search rules) same in
+    rw (a, b) (sound_stopped i.unknowns i.parameters i.count i.cells.items i.line.items now room i.stopped
+    c.in-Err.wide c.self.invariant size same)
+
+pub returns-in-Err-clause-run : goal.returns-in-Err-clause-run
+returns-in-Err-clause-run c =
+    let i = c.self.inside in
+    let stride = stride_of i.unknowns i.parameters in
+    let k : length c.deref_mut-2.result.now ≡ stride = search rules in
+    let d : c.deref_mut.result.now ≡ i.cells.items = c.deref_mut.ensures.value in
+    let run = rw (k, d) at c.in-Err.ensures in
+    let cells = take i.cells.len (c.pivot_lines.new.cells ++ drop (length c.pivot_lines.new.cells) i.cells.items) in
+    stops_by (table_in i.unknowns i.parameters i.count i.cells.items i.stopped) c.args.self.now
+    (rows_in stride i.count cells) (λ (t : Table). rows_run c.args.row c.args.column (row_at t.rows c.args.row) 0 t.rows)
+    c.in-Err.wide c.self.view_is c.in_default.is run
+    (length-rows_in stride i.count cells ∙ sym (length-rows_in stride i.count i.cells.items))
+
+pub returns-in-Ok-clause-run : goal.returns-in-Ok-clause-run
+returns-in-Ok-clause-run c =
+    let i = c.self.inside in
+    let stride = stride_of i.unknowns i.parameters in
+    let now = c.pivot_lines.new.cells in
+    let k : length c.deref_mut-2.result.now ≡ stride = search rules in
+    let d : c.deref_mut.result.now ≡ i.cells.items = c.deref_mut.ensures.value in
+    let size : length now ≡ length i.cells.items = c.pivot_lines.auto.cells ∙ ap (λ (zs : List ℤ). length zs) d in
+    let a = written_whole i.cells.len i.cells.items now (search rules) size in
+    rw a (goes_by (table_in i.unknowns i.parameters i.count i.cells.items i.stopped) c.args.self.now
+    (rows_in stride i.count now) (λ (t : Table). rows_run c.args.row c.args.column (row_at t.rows c.args.row) 0 t.rows)
+    c.self.view_is c.in_default.is (rw (k, d) at c.in-Ok.ensures))
+
+pub returns-in-Some-clause-run : goal.returns-in-Some-clause-run
+returns-in-Some-clause-run c =
+    let i = c.self.inside in
+    let old = c.args.self.now in
+    stays_stopped (table_in i.unknowns i.parameters i.count i.cells.items i.stopped) old
+    (rows_run c.args.row c.args.column (row_at old.rows c.args.row) 0 old.rows) c.in-Some.wide c.self.view_is c.in-Some.is
