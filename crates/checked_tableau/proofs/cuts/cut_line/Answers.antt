@@ -1,4 +1,4 @@
-use Rattle.std.proofs.Common.{rules, ◌≡◌, ◌++◌, pos, get_or, map, length, FitsSigned, arith, ap, List, ℤ, ◌≤ℤ◌}
+use Rattle.std.proofs.Common.{rules, to_z, of_z, ◌≡◌, ◌++◌, pos, get_or, map, length, FitsSigned, arith, ap, List, ℤ, ◌≤ℤ◌}
 use Rattle.std.proofs.lemmas.Int.{ints}
 use Rattle.std.proofs.lemmas.List.{length-append, length-map}
 use Rattle.tableau_rows.specs.Moves.{tied}
@@ -10,14 +10,18 @@ use Rattle.whole_numbers.specs.Content.{lowest}
 use Rattle.checked_tableau.specs.Lines.{turned_run, behind_columns}
 use Rattle.checked_tableau.proofs.Cut_lines.{cut_line_run-parts, cut_line-err, cut_line-ok, all_turned_low, tied-behind}
 use Rattle.checked_tableau.proofs.Cut_lines.{front_positive, head_positive}
+use Rattle.checked_tableau.proofs.cuts.cut_line.Goals.{After-split_at_mut-columns}
 use Rattle.checked_tableau.proofs.cuts.cut_line.Goals as goal
 
 pub tie-requires-clause-low : goal.tie-requires-clause-low
 tie-requires-clause-low c k =
-    let d = get_or c.split_at_mut-head.result.0.now 0 (pos 0) in
+    let first = c.split_at_mut-head in
+    let d = get_or first.result.0.now 0 (pos 0) in
     let fd : FitsSigned w128 d = search rules in
     let formed = simp to_z-of_z at c.in-Ok.ensures in
-    all_turned_low d c.split_at_mut-columns.result.1.now c.leave_turned_remainders.new.numbers (search rules) formed k
+    let positive = head_positive c.args.line.now first.result.0.now first.result.1.now first.ensures.value
+    first.ensures.front_len c.requires.positive in
+    all_turned_low d c.split_at_mut-columns.result.1.now c.leave_turned_remainders.new.numbers positive formed k
 
 pub returns-in-Err : goal.returns-in-Err
 returns-in-Err c =
@@ -70,8 +74,10 @@ split_at_mut-columns-requires c =
     let one = first.ensures.front_len in
     omega arith
 
-pub leave_remainders-requires : goal.leave_remainders-requires
-leave_remainders-requires c =
+-- the number in front is positive, also as the calls take it
+least : (c : After-split_at_mut-columns)
+    → pos 1 ≤ℤ to_z w128 (of_z w128 (get_or c.split_at_mut-head.result.0.now 0 (pos 0)))
+least c =
     let first = c.split_at_mut-head in
     let d = get_or first.result.0.now 0 (pos 0) in
     let fd : FitsSigned w128 d = search rules in
@@ -80,15 +86,11 @@ leave_remainders-requires c =
     let one : pos 1 ≤ℤ d = omega (arith, ints) in
     simp to_z-of_z one
 
+pub leave_remainders-requires : goal.leave_remainders-requires
+leave_remainders-requires c = least (goal.at.leave_remainders-requires c).After-split_at_mut-columns
+
 pub leave_turned_remainders-requires : goal.leave_turned_remainders-requires
-leave_turned_remainders-requires c =
-    let first = c.split_at_mut-head in
-    let d = get_or first.result.0.now 0 (pos 0) in
-    let fd : FitsSigned w128 d = search rules in
-    let positive = head_positive c.args.line.now first.result.0.now first.result.1.now first.ensures.value
-    first.ensures.front_len c.requires.positive in
-    let one : pos 1 ≤ℤ d = omega (arith, ints) in
-    simp to_z-of_z one
+leave_turned_remainders-requires c = least (goal.at.leave_turned_remainders-requires c).After-split_at_mut-columns
 
 pub tie-requires-clause-inside : goal.tie-requires-clause-inside
 tie-requires-clause-inside c k e =
@@ -105,14 +107,7 @@ tie-requires-clause-inside c k e =
     omega arith
 
 pub tie-requires-clause-positive : goal.tie-requires-clause-positive
-tie-requires-clause-positive c =
-    let first = c.split_at_mut-head in
-    let d = get_or first.result.0.now 0 (pos 0) in
-    let fd : FitsSigned w128 d = search rules in
-    let positive = head_positive c.args.line.now first.result.0.now first.result.1.now first.ensures.value
-    first.ensures.front_len c.requires.positive in
-    let one : pos 1 ≤ℤ d = omega (arith, ints) in
-    simp to_z-of_z one
+tie-requires-clause-positive c = least (goal.at.tie-requires-clause-positive c).After-split_at_mut-columns
 
 pub reduce-requires-clause-length : goal.reduce-requires-clause-length
 reduce-requires-clause-length c =
@@ -127,3 +122,8 @@ reduce-requires-clause-positive c =
     front_positive first.result.0.now (c.leave_remainders.new.numbers ++ c.tie.new.part) first.ensures.front_len
     (head_positive c.args.line.now first.result.0.now first.result.1.now first.ensures.value
     first.ensures.front_len c.requires.positive)
+
+pub split_at_mut-head-requires : goal.split_at_mut-head-requires
+split_at_mut-head-requires c =
+    let long = c.requires.constant in
+    omega arith
