@@ -1,9 +1,9 @@
 use Rattle.std.proofs.Common.{rules, ◌-◌, ◌+◌, ℤ, pos, get_or, List, take, drop, set, ◌++◌, length, sym, ◌∙◌, subst}
-use Rattle.std.proofs.Common.{arith, ap, FitsSigned}
+use Rattle.std.proofs.Common.{arith, FitsSigned}
 use Rattle.std.specs.Prelude.{Result}
 use Rattle.std.specs.Int.{w128}
 use Rattle.std.proofs.lemmas.Int.{to_z-of_z}
-use Rattle.std.proofs.lemmas.List.{take_all, length-append, length-drop, length-take-le}
+use Rattle.std.proofs.lemmas.List.{take_all, length-drop, length-take-le}
 use Rattle.wide_math.specs.declared.Wide.{Wide}
 use Rattle.wide_math.specs.Checked.{product_of}
 use Rattle.wide_math.specs.Gives.{Becomes}
@@ -87,43 +87,3 @@ returns c =
     (crossed_run a b cell.result.1.now (drop (s + 1) ps)) c.cross_row.new.row
     c.in-Ok-mul.product cell.result.0.now c.cross_row-2.new.row c.cross_row-2.result done (sym times)
     cell.ensures.front_len rest))
-
-pub split_at_mut-cell-requires : goal.split_at_mut-cell-requires
-split_at_mut-cell-requires c =
-    let front = c.split_at_mut-front in
-    let whole = ap (λ (zs : List ℤ). length zs) front.ensures.value in
-    let both = length-append front.result.0.now front.result.1.now in
-    let size = front.ensures.front_len in
-    let within = c.requires.column in
-    omega arith
-
-pub slice_bounds-cross_row-end : goal.slice_bounds-cross_row-end
-slice_bounds-cross_row-end c =
-    let l = c.requires.lengths in
-    let k = c.requires.column in
-    sym (length-take-le c.args.column c.args.pivot.now (omega arith))
-
-pub slice_bounds-cross_row-count : goal.slice_bounds-cross_row-count
-slice_bounds-cross_row-count c =
-    let l = c.requires.lengths in
-    let k = c.requires.column in
-    omega arith
-
-pub cross_row-requires-2 : goal.cross_row-requires-2
-cross_row-requires-2 c =
-    let ps = c.args.pivot.now in
-    let s = c.args.column in
-    let front = c.split_at_mut-front in
-    let cell = c.split_at_mut-cell in
-    let whole = ap (λ (zs : List ℤ). length zs) front.ensures.value in
-    let both = length-append front.result.0.now front.result.1.now in
-    let parts = ap (λ (zs : List ℤ). length zs) cell.ensures.value in
-    let pair = length-append cell.result.0.now cell.result.1.now in
-    let size = front.ensures.front_len in
-    let one = cell.ensures.front_len in
-    let l = c.requires.lengths in
-    let k = c.requires.column in
-    let dropped = length-drop (s + 1) ps in
-    let rest = take_all (length ps - (s + 1)) (drop (s + 1) ps) (omega arith) in
-    let taken = ap (λ (zs : List ℤ). length zs) rest in
-    omega arith

@@ -16,13 +16,15 @@ use Rattle.checked_tableau.proofs.table.Rows.cut.Goals as goal
 pub append_cut-requires-clause-size : goal.append_cut-requires-clause-size
 append_cut-requires-clause-size c =
     let i = c.self.inside in
-    let k : stride_of i.unknowns i.parameters ≡ length c.deref_mut.result.now = search rules in
+    let k : stride_of i.unknowns i.parameters ≡ length c.deref_mut.result.now =
+    sym (ap (λ (zs : List ℤ). length zs) c.deref_mut.ensures.value ∙ c.self.invariant.room) in
     c.self.invariant.size ∙ ap (λ (n : ℕ). i.count * n) k
 
 pub append_cut-requires-clause-constant : goal.append_cut-requires-clause-constant
 append_cut-requires-clause-constant c =
     let i = c.self.inside in
-    let k : stride_of i.unknowns i.parameters ≡ length c.deref_mut.result.now = search rules in
+    let k : stride_of i.unknowns i.parameters ≡ length c.deref_mut.result.now =
+    sym (ap (λ (zs : List ℤ). length zs) c.deref_mut.ensures.value ∙ c.self.invariant.room) in
     omega arith
 
 pub append_cut-requires-clause-row : goal.append_cut-requires-clause-row
@@ -37,14 +39,16 @@ append_cut-requires-clause-row c =
 pub append_cut-requires-clause-parameter : goal.append_cut-requires-clause-parameter
 append_cut-requires-clause-parameter c k e =
     let i = c.self.inside in
-    let room : stride_of i.unknowns i.parameters ≡ length c.deref_mut.result.now = search rules in
+    let room : stride_of i.unknowns i.parameters ≡ length c.deref_mut.result.now =
+    sym (ap (λ (zs : List ℤ). length zs) c.deref_mut.ensures.value ∙ c.self.invariant.room) in
     let low = subst (λ (t : Table). k < t.parameters) (sym c.self.view_is) (c.requires.parameter k e) in
     omega arith
 
 pub append_cut-requires-clause-sized : goal.append_cut-requires-clause-sized
 append_cut-requires-clause-sized c =
     let i = c.self.inside in
-    let k : stride_of i.unknowns i.parameters ≡ length c.deref_mut.result.now = search rules in (
+    let k : stride_of i.unknowns i.parameters ≡ length c.deref_mut.result.now =
+    sym (ap (λ (zs : List ℤ). length zs) c.deref_mut.ensures.value ∙ c.self.invariant.room) in (
       i.unknowns + 1 + i.parameters,
       subst (λ n. Sized (i.unknowns + 1 + i.parameters) (rows_in n i.count i.cells.items))
           k (c.self.invariant.tableau c.in_default.is).sized,
@@ -79,7 +83,8 @@ made : (c : goal.After-self-in-Ok-1)
 made c =
     let i = c.self.inside in
     let stride = stride_of i.unknowns i.parameters in
-    let k : length c.deref_mut.result.now ≡ stride = search rules in
+    let k : length c.deref_mut.result.now ≡ stride =
+    ap (λ (zs : List ℤ). length zs) c.deref_mut.ensures.value ∙ c.self.invariant.room in
     let l = length-rows_in stride i.count i.cells.items in
     let low : c.args.row < length (rows_in stride i.count i.cells.items) =
     subst (λ (t : Table). c.args.row < length t.rows) (sym c.self.view_is) c.requires.row in
@@ -178,7 +183,8 @@ pub returns-in-Err-Wide-clause-run : goal.returns-in-Err-Wide-clause-run
 returns-in-Err-Wide-clause-run c =
     let i = c.self.inside in
     let stride = stride_of i.unknowns i.parameters in
-    let k : length c.deref_mut.result.now ≡ stride = search rules in
+    let k : length c.deref_mut.result.now ≡ stride =
+    ap (λ (zs : List ℤ). length zs) c.deref_mut.ensures.value ∙ c.self.invariant.room in
     let told = subst (λ (e : TableauStop). Appends {U = Unit {0}} (length c.deref_mut.result.now) i.cells.items
     c.append_cut.new.cells.items (Err e)
     (cut_run i.unknowns (behind_columns i.unknowns c.args.parameter)

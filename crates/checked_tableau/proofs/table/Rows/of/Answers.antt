@@ -33,7 +33,7 @@ made c =
     let held = subst (λ k. Holds k n c.append_units.new.cells.items (unit_rows (n + 1 + m) 0 n)) e units in
     let all = c.in-Ok-append_forms.ensures n (unit_rows (n + 1 + m) 0 n) held in
     let both = c.in-Ok-append_forms-2.ensures (n + length fs) (unit_rows (n + 1 + m) 0 n ++ given_rows n fs) all in
-    let front : c.in-Some-checked_add.front ≡ n + length fs = c.in-Some-checked_add.ensures.1 in
+    let front : c.in-Some-checked_add.front ≡ n + length fs = search rules in
     let number : c.in-Some-checked_add-2.count ≡ (n + length fs) + length gs = search rules in
     sound_parts n m c.in-Some-checked_add-2.count stride c.append_forms-2.new.cells.items c.append_units.new.line fs gs
     is (same ∙ room) (speaks_all (n + m) fs c.requires.forms) (speaks_all (n + m) gs c.requires.more) number both
@@ -57,31 +57,3 @@ returns-clause-solutions c p x size =
     subst (λ (rows : List Row). IsPoint (problem_of n (fs ++ gs)) p x ↔ IsSolution n rows p x) (sym (made c).1)
     (first_solutions n m (fs ++ gs) (speaks-append (n + m) fs gs (speaks_all (n + m) fs c.requires.forms)
     (speaks_all (n + m) gs c.requires.more)) p x size)
-
-pub append_units-requires-clause-room : goal.append_units-requires-clause-room
-append_units-requires-clause-room c =
-    let is : c.in-Some.stride ≡ stride_of c.args.unknowns c.args.parameters = search rules in
-    let room : length c.deref_mut.result.now ≡ c.in-Some.stride = search rules in
-    omega arith
-
-pub append_forms-requires-clause-forms : goal.append_forms-requires-clause-forms
-append_forms-requires-clause-forms c k d below =
-    let is : c.in-Some.stride ≡ stride_of c.args.unknowns c.args.parameters = search rules in
-    let one = c.requires.forms k d below in
-    omega arith
-
-pub append_forms-requires-clause-unknowns : goal.append_forms-requires-clause-unknowns
-append_forms-requires-clause-unknowns c =
-    let is : c.in-Some.stride ≡ stride_of c.args.unknowns c.args.parameters = search rules in
-    omega arith
-
-pub append_forms-requires-2-clause-forms : goal.append_forms-requires-2-clause-forms
-append_forms-requires-2-clause-forms c k d below =
-    let is : c.in-Some.stride ≡ stride_of c.args.unknowns c.args.parameters = search rules in
-    let one = c.requires.more k d below in
-    omega arith
-
-pub append_forms-requires-2-clause-unknowns : goal.append_forms-requires-2-clause-unknowns
-append_forms-requires-2-clause-unknowns c =
-    let is : c.in-Some.stride ≡ stride_of c.args.unknowns c.args.parameters = search rules in
-    omega arith

@@ -14,7 +14,8 @@ use Rattle.checked_tableau.proofs.table.Rows.pivot.Goals as goal
 pub pivot_lines-requires-clause-size : goal.pivot_lines-requires-clause-size
 pivot_lines-requires-clause-size c =
     let i = c.self.inside in
-    let k : stride_of i.unknowns i.parameters ≡ length c.deref_mut-2.result.now = search rules in
+    let k : stride_of i.unknowns i.parameters ≡ length c.deref_mut-2.result.now =
+    sym (ap (λ (zs : List ℤ). length zs) c.deref_mut-2.ensures.value ∙ c.self.invariant.room) in
     ap (λ (zs : List ℤ). length zs) c.deref_mut.ensures.value ∙ c.self.invariant.size ∙ ap (λ (n : ℕ). i.count * n) k
 
 pub pivot_lines-requires-clause-row : goal.pivot_lines-requires-clause-row
@@ -27,14 +28,16 @@ pivot_lines-requires-clause-row c =
 pub pivot_lines-requires-clause-column : goal.pivot_lines-requires-clause-column
 pivot_lines-requires-clause-column c =
     let i = c.self.inside in
-    let k : stride_of i.unknowns i.parameters ≡ length c.deref_mut-2.result.now = search rules in
+    let k : stride_of i.unknowns i.parameters ≡ length c.deref_mut-2.result.now =
+    sym (ap (λ (zs : List ℤ). length zs) c.deref_mut-2.ensures.value ∙ c.self.invariant.room) in
     let low = subst (λ (t : Table). c.args.column < t.unknowns) (sym c.self.view_is) c.requires.column in
     omega arith
 
 pub pivot_lines-requires-clause-entry : goal.pivot_lines-requires-clause-entry
 pivot_lines-requires-clause-entry c =
     let i = c.self.inside in
-    let k : stride_of i.unknowns i.parameters ≡ length c.deref_mut-2.result.now = search rules in
+    let k : stride_of i.unknowns i.parameters ≡ length c.deref_mut-2.result.now =
+    sym (ap (λ (zs : List ℤ). length zs) c.deref_mut-2.ensures.value ∙ c.self.invariant.room) in
     let here = subst (λ (t : Table). t.stopped ≡ None → pos 0 <ℤ entry (row_at t.rows c.args.row) c.args.column)
     (sym c.self.view_is) c.requires.entry c.in_default.is in
     subst (λ (zs : List ℤ). pos 0 <ℤ
@@ -48,7 +51,8 @@ pivot_lines-requires-clause-heads c =
     let stride = stride_of i.unknowns i.parameters in
     let heads = heads_sized stride (i.unknowns + 1 + i.parameters) i.count i.cells.items (omega arith)
     (c.self.invariant.tableau c.in_default.is).sized in
-    let k : stride ≡ length c.deref_mut-2.result.now = search rules in
+    let k : stride ≡ length c.deref_mut-2.result.now =
+    sym (ap (λ (zs : List ℤ). length zs) c.deref_mut-2.ensures.value ∙ c.self.invariant.room) in
     subst (λ (zs : List ℤ). HeadsPositive (length c.deref_mut-2.result.now) i.count zs) (sym c.deref_mut.ensures.value)
     (subst (λ (n : ℕ). HeadsPositive n i.count i.cells.items) k heads)
 
@@ -58,7 +62,8 @@ invariant_of-self-in-Ok c =
     let stride = stride_of i.unknowns i.parameters in
     let now = c.pivot_lines.new.cells in
     let room = c.pivot_lines.new.line in
-    let k : length c.deref_mut-2.result.now ≡ stride = search rules in
+    let k : length c.deref_mut-2.result.now ≡ stride =
+    ap (λ (zs : List ℤ). length zs) c.deref_mut-2.ensures.value ∙ c.self.invariant.room in
     let d : c.deref_mut.result.now ≡ i.cells.items = c.deref_mut.ensures.value in
     let e : c.deref_mut-2.result.now ≡ i.line.items = c.deref_mut-2.ensures.value in
     let size : length now ≡ length i.cells.items = c.pivot_lines.auto.cells ∙ ap (λ (zs : List ℤ). length zs) d in
@@ -82,7 +87,8 @@ returns-in-Ok-clause-solutions c =
     let stride = stride_of i.unknowns i.parameters in
     let rows = rows_in stride i.count i.cells.items in
     let now = c.pivot_lines.new.cells in
-    let k : length c.deref_mut-2.result.now ≡ stride = search rules in
+    let k : length c.deref_mut-2.result.now ≡ stride =
+    ap (λ (zs : List ℤ). length zs) c.deref_mut-2.ensures.value ∙ c.self.invariant.room in
     let d : c.deref_mut.result.now ≡ i.cells.items = c.deref_mut.ensures.value in
     let size : length now ≡ length i.cells.items = c.pivot_lines.auto.cells ∙ ap (λ (zs : List ℤ). length zs) d in
     let run = rw (k, d) at c.in-Ok.ensures in
@@ -118,7 +124,8 @@ pub returns-in-Err-clause-run : goal.returns-in-Err-clause-run
 returns-in-Err-clause-run c =
     let i = c.self.inside in
     let stride = stride_of i.unknowns i.parameters in
-    let k : length c.deref_mut-2.result.now ≡ stride = search rules in
+    let k : length c.deref_mut-2.result.now ≡ stride =
+    ap (λ (zs : List ℤ). length zs) c.deref_mut-2.ensures.value ∙ c.self.invariant.room in
     let d : c.deref_mut.result.now ≡ i.cells.items = c.deref_mut.ensures.value in
     let run = rw (k, d) at c.in-Err.ensures in
     let cells = take i.cells.len (c.pivot_lines.new.cells ++ drop (length c.pivot_lines.new.cells) i.cells.items) in
@@ -132,7 +139,8 @@ returns-in-Ok-clause-run c =
     let i = c.self.inside in
     let stride = stride_of i.unknowns i.parameters in
     let now = c.pivot_lines.new.cells in
-    let k : length c.deref_mut-2.result.now ≡ stride = search rules in
+    let k : length c.deref_mut-2.result.now ≡ stride =
+    ap (λ (zs : List ℤ). length zs) c.deref_mut-2.ensures.value ∙ c.self.invariant.room in
     let d : c.deref_mut.result.now ≡ i.cells.items = c.deref_mut.ensures.value in
     let size : length now ≡ length i.cells.items = c.pivot_lines.auto.cells ∙ ap (λ (zs : List ℤ). length zs) d in
     let a = written_whole i.cells.len i.cells.items now (search rules) size in
