@@ -82,6 +82,18 @@ pub cut_line-ok : (n : ℕ) (place : Option ℕ) (line : List ℤ) (q : Result (
     → new ≡ f zs → cut_line_run n place line ≡ Ok new
 cut_line-ok n place line q f zs new is formed made = rw (← made) at (rw formed at is)
 
+-- the number in front, in the parts that the code takes
+pub head_positive : (line head entries : List ℤ) → line ≡ head ++ entries → length head ≡ 1
+    → pos 0 <ℤ get_or line 0 (pos 0) → pos 0 <ℤ get_or head 0 (pos 0)
+head_positive line [] entries is one positive = absurd (omega arith)
+head_positive line (d ∷ head) entries is one positive =
+    subst (λ (zs : List ℤ). pos 0 <ℤ get_or zs 0 (pos 0)) is positive
+
+pub front_positive : (head entries : List ℤ) → length head ≡ 1 → pos 0 <ℤ get_or head 0 (pos 0)
+    → pos 0 <ℤ get_or (head ++ entries) 0 (pos 0)
+front_positive [] entries one positive = absurd (omega arith)
+front_positive (d ∷ head) entries one positive = positive
+
 -- what the opposites leave, turned, is not positive
 neg_low : (z : ℤ) → pos 0 ≤ℤ z → neg_ℤ z ≤ℤ pos 0
 neg_low (pos zero) h = omega (arith, ints)

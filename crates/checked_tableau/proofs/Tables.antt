@@ -14,7 +14,7 @@ use Rattle.wide_math.specs.Checked.{◌>>=◌}
 use Rattle.wide_math.specs.Gives.{Becomes}
 use Rattle.tableau_rows.specs.Rows.{Row, entry, Sized}
 use Rattle.tableau_rows.specs.Moves.{line_row, rows_in, row_at, rows_run, cut_run, buffer_run, HeadsPositive}
-use Rattle.checked_tableau.specs.Table.{IsSound, stride_of}
+use Rattle.checked_tableau.specs.Table.{Table, table_of, IsSound, StopsAt, resumed, stride_of}
 use Rattle.tableau_rows.proofs.Points.{sized_at}
 use Rattle.tableau_rows.proofs.Keeping.{pivot_keeps_tableau, cut_keeps_tableau}
 use Rattle.tableau_rows.specs.Solutions.{IsTableau, IsPlaced}
@@ -206,11 +206,48 @@ sound_cut unknowns parameters count row place cells line now new room stopped wi
     )
 
 -- rows that stopped may hold anything
-pub sound_stopped : (unknowns parameters count : ℕ) (cells line room : List ℤ) (stopped : Option Wide) (w : Wide)
+pub sound_stopped : (unknowns parameters count : ℕ) (cells line now room : List ℤ) (stopped : Option Wide) (w : Wide)
     → IsSound unknowns parameters count cells line stopped
-    → length room ≡ length line → IsSound unknowns parameters count cells room (Some w)
-sound_stopped unknowns parameters count cells line room stopped w sound same =
-    record { room = same ∙ sound.room; size = sound.size; many = sound.many; tableau = λ e. cc }
+    → length now ≡ length cells → length room ≡ length line → IsSound unknowns parameters count now room (Some w)
+sound_stopped unknowns parameters count cells line now room stopped w sound size same =
+    record { room = same ∙ sound.room; size = size ∙ sound.size; many = sound.many; tableau = λ e. cc }
+
+-- what was written into the room for a line
+pub sound_room : (unknowns parameters count : ℕ) (cells line room : List ℤ) (stopped : Option Wide)
+    → IsSound unknowns parameters count cells line stopped
+    → length room ≡ length line → IsSound unknowns parameters count cells room stopped
+sound_room unknowns parameters count cells line room stopped sound same =
+    record { room = same ∙ sound.room; size = sound.size; many = sound.many; tableau = sound.tableau }
+
+-- a move on a table that had stopped
+pub stays_stopped : {A : Type 0} (t old : Table) (run : Result A Wide) (w : Wide) → t ≡ old → t.stopped ≡ Some w
+    → (resumed old.stopped run ≡ Err w) × StopsAt w old old
+stays_stopped t old run w same is =
+    subst (λ (s : Table). (resumed s.stopped run ≡ Err w) × StopsAt w s s) same (
+      subst (λ (o : Option Wide). resumed o run ≡ Err w) (sym is) refl,
+      (ap (λ (o : Option Wide). table_of t.unknowns t.parameters t.rows o) is, refl),
+    )
+
+-- a move at which a table stops
+pub stops_by : {A : Type 0} (t old : Table) (news : List Row) (run : Table → Result A Wide) (w : Wide) → t ≡ old
+    → t.stopped ≡ None → run t ≡ Err w → length news ≡ length t.rows
+    → (resumed old.stopped (run old) ≡ Err w) × StopsAt w old (table_of t.unknowns t.parameters news (Some w))
+stops_by t old news run w same going is size =
+    subst (λ (s : Table). (resumed s.stopped (run s) ≡ Err w)
+    × StopsAt w s (table_of t.unknowns t.parameters news (Some w))) same
+    (subst (λ (o : Option Wide). resumed o (run t) ≡ Err w) (sym going) is, (refl, size))
+
+-- a move that a table makes
+pub goes_by : (t old : Table) (news : List Row) (run : Table → Result (List Row) Wide) → t ≡ old → t.stopped ≡ None
+    → run t ≡ Ok news
+    → (resumed old.stopped (run old) ≡ Ok news)
+    × (table_of t.unknowns t.parameters news t.stopped ≡ table_of old.unknowns old.parameters news None)
+goes_by t old news run same going is =
+    subst (λ (s : Table). (resumed s.stopped (run s) ≡ Ok news)
+    × (table_of t.unknowns t.parameters news t.stopped ≡ table_of s.unknowns s.parameters news None)) same (
+      subst (λ (o : Option Wide). resumed o (run t) ≡ Ok news) (sym going) is,
+      ap (λ (o : Option Wide). table_of t.unknowns t.parameters news o) going,
+    )
 
 -- the place of a parameter's tie
 pub placed-behind : (n m : ℕ) (parameter : Option ℕ) → ((k : ℕ) → parameter ≡ Some k → k < m)

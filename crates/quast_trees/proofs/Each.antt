@@ -6,6 +6,9 @@ use Rattle.std.proofs.lemmas.List.Elements.{All-nil, All-cons, All-head, All-tai
 use Rattle.wide_math.specs.declared.Wide.{Wide}
 use Rattle.wide_math.specs.Checked.{◌>>=◌}
 use Rattle.wide_math.proofs.Steps.{chain-ok}
+use Rattle.affine_forms.specs.Gives.{Fails}
+use Rattle.affine_forms.specs.declared.stop.FormStop.{FormStop}
+use Rattle.affine_forms.specs.declared.stop.FormStop.TheVariants as stop
 use Rattle.quast_trees.specs.Each.{each_run}
 
 -- results so far in front of those of the rest
@@ -51,6 +54,19 @@ pub each_stops : {A B : Type 0} (run : A → Result B Wide) (xs : List A) (i : �
 each_stops run xs i done d w h s e =
     sym s.so_far ∙ ap (after done) (each_drop run xs i d h)
     ∙ ap (λ r. after done (r >>= λ z. each_run run (drop (i + 1) xs) >>= λ zs. Ok (z ∷ zs))) e
+
+-- before the first element
+pub each_start : {A B : Type 0} (run : A → Result B Wide) (xs : List A) (done : List B) → done ≡ []
+    → EachSoFar run xs 0 done
+each_start run xs done is =
+    record { so_far = ap (λ zs. after zs (each_run run xs)) is ∙ after-nil (each_run run xs) }
+
+-- an element at which a call stops
+pub each_fails : {A B : Type 0} (run : A → Result B Wide) (xs : List A) (i : ℕ) (done : List B) (d : A)
+    (cause : FormStop) → i < length xs
+    → EachSoFar run xs i done → Fails cause (run (get_or xs i d)) → Fails cause (each_run run xs)
+each_fails run xs i done d (stop.Wide w) h s e = each_stops run xs i done d w h s e
+each_fails run xs i done d stop.NoMemory h s e = tt
 
 -- behind the last element
 pub each_done : {A B : Type 0} (run : A → Result B Wide) (xs : List A) (i : ℕ) (done : List B) → length xs ≤ i

@@ -1,11 +1,11 @@
 -- The stack of trees that nodes in postfix order leave, as nodes are added.
 use Rattle.std.proofs.Common.{◌≡◌, ℕ, ◌+◌, ◌-◌, ◌≤◌, List, [], ◌∷◌, ◌++◌, length, get_or, take, refl}
-use Rattle.std.proofs.Common.{sym, ap, ◌∙◌, append_assoc, length-append, arith}
+use Rattle.std.proofs.Common.{sym, ap, ap₂, ◌∙◌, append_assoc, length-append, arith}
 use Rattle.std.proofs.Math.Seq.{get_or-append_seam, take-append_seam}
 use Rattle.whole_numbers.specs.Affine.{Affine}
-use Rattle.quast_trees.specs.Tree.{Tree, branch, count}
+use Rattle.quast_trees.specs.Tree.{Tree, initial, leaf, branch, count}
 use Rattle.quast_trees.specs.Postfix.{written, built, standing, laid, starts}
-use Rattle.quast_trees.specs.Postfix.{IsStack}
+use Rattle.quast_trees.specs.Postfix.{IsLeaf, IsStack}
 use Rattle.quast_trees.specs.declared.node.Node.{Node}
 use Rattle.quast_trees.specs.declared.node.Node.TheVariants as node
 use Rattle.quast_trees.proofs.Reading.{fold-append, length-written}
@@ -25,6 +25,20 @@ stacked : (nodes : List Node) (places : List ℕ) (stack : List Tree) → standi
     → IsStack nodes places
 stacked nodes places stack e spelled begin =
     record { spelled = spelled ∙ ap laid (sym e); begin = begin ∙ ap starts (sym e) }
+
+-- a leaf's node on top, as a tree of its own
+pub started : (nodes : List Node) (places : List ℕ) (x : Node) → IsLeaf x → IsStack nodes places
+    → IsStack (nodes ++ x ∷ []) (places ++ length nodes ∷ [])
+started nodes places node.Initial leaf-is s =
+    stacked (nodes ++ node.Initial ∷ []) (places ++ length nodes ∷ []) (initial ∷ standing nodes)
+    (standing-more nodes node.Initial) (ap (λ ns. ns ++ node.Initial ∷ []) s.spelled)
+    (ap₂ (λ ps ns. ps ++ length ns ∷ []) s.begin s.spelled)
+started nodes places (node.Forms l) leaf-is s =
+    stacked (nodes ++ node.Forms l ∷ []) (places ++ length nodes ∷ []) (leaf l ∷ standing nodes)
+    (standing-more nodes (node.Forms l)) (ap (λ ns. ns ++ node.Forms l ∷ []) s.spelled)
+    (ap₂ (λ ps ns. ps ++ length ns ∷ []) s.begin s.spelled)
+started nodes places (node.Branch test n) leaf-is s = absurd leaf-is
+started nodes places (node.Bind form divisor) leaf-is s = absurd leaf-is
 
 -- a stack by its top
 with_top : (stack : List Tree) → 1 ≤ length stack → (t : Tree) × (rest : List Tree) × (stack ≡ t ∷ rest)

@@ -1,5 +1,6 @@
-use Rattle.std.proofs.Common.{rules, ◌≡◌, ◌++◌, pos, get_or, map, length, FitsSigned}
-use Rattle.std.proofs.lemmas.List.{length-map}
+use Rattle.std.proofs.Common.{rules, to_z, of_z, ◌≡◌, ◌++◌, pos, get_or, map, length, FitsSigned, arith, ap, List, ℤ, ◌≤ℤ◌}
+use Rattle.std.proofs.lemmas.Int.{ints}
+use Rattle.std.proofs.lemmas.List.{length-append, length-map}
 use Rattle.tableau_rows.specs.Moves.{tied}
 use Rattle.std.specs.Int.{w128}
 use Rattle.std.proofs.lemmas.Int.{to_z-of_z}
@@ -8,14 +9,19 @@ use Rattle.whole_numbers.specs.Floor.{remainder}
 use Rattle.whole_numbers.specs.Content.{lowest}
 use Rattle.checked_tableau.specs.Lines.{turned_run, behind_columns}
 use Rattle.checked_tableau.proofs.Cut_lines.{cut_line_run-parts, cut_line-err, cut_line-ok, all_turned_low, tied-behind}
+use Rattle.checked_tableau.proofs.Cut_lines.{front_positive, head_positive}
+use Rattle.checked_tableau.proofs.cuts.cut_line.Goals.{After-split_at_mut-columns}
 use Rattle.checked_tableau.proofs.cuts.cut_line.Goals as goal
 
 pub tie-requires-clause-low : goal.tie-requires-clause-low
 tie-requires-clause-low c k =
-    let d = get_or c.split_at_mut-head.result.0.now 0 (pos 0) in
+    let first = c.split_at_mut-head in
+    let d = get_or first.result.0.now 0 (pos 0) in
     let fd : FitsSigned w128 d = search rules in
     let formed = simp to_z-of_z at c.in-Ok.ensures in
-    all_turned_low d c.split_at_mut-columns.result.1.now c.leave_turned_remainders.new.numbers (search rules) formed k
+    let positive = head_positive c.args.line.now first.result.0.now first.result.1.now first.ensures.value
+    first.ensures.front_len c.requires.positive in
+    all_turned_low d c.split_at_mut-columns.result.1.now c.leave_turned_remainders.new.numbers positive formed k
 
 pub returns-in-Err : goal.returns-in-Err
 returns-in-Err c =
@@ -58,3 +64,66 @@ returns c =
     (cut_line_run-parts n place c.args.line.now head first.result.1.now columns part first.ensures.value
     first.ensures.front_len second.ensures.value second.ensures.front_len)
     formed (rw (behind, ← left, ← made) c.reduce.ensures)
+
+pub split_at_mut-columns-requires : goal.split_at_mut-columns-requires
+split_at_mut-columns-requires c =
+    let first = c.split_at_mut-head in
+    let whole = ap (λ (zs : List ℤ). length zs) first.ensures.value in
+    let both = length-append first.result.0.now first.result.1.now in
+    let long = c.requires.constant in
+    let one = first.ensures.front_len in
+    omega arith
+
+-- the number in front is positive, also as the calls take it
+least : (c : After-split_at_mut-columns)
+    → pos 1 ≤ℤ to_z w128 (of_z w128 (get_or c.split_at_mut-head.result.0.now 0 (pos 0)))
+least c =
+    let first = c.split_at_mut-head in
+    let d = get_or first.result.0.now 0 (pos 0) in
+    let fd : FitsSigned w128 d = search rules in
+    let positive = head_positive c.args.line.now first.result.0.now first.result.1.now first.ensures.value
+    first.ensures.front_len c.requires.positive in
+    let one : pos 1 ≤ℤ d = omega (arith, ints) in
+    simp to_z-of_z one
+
+pub leave_remainders-requires : goal.leave_remainders-requires
+leave_remainders-requires c = least (goal.at.leave_remainders-requires c).After-split_at_mut-columns
+
+pub leave_turned_remainders-requires : goal.leave_turned_remainders-requires
+leave_turned_remainders-requires c = least (goal.at.leave_turned_remainders-requires c).After-split_at_mut-columns
+
+pub tie-requires-clause-inside : goal.tie-requires-clause-inside
+tie-requires-clause-inside c k e =
+    let first = c.split_at_mut-head in
+    let second = c.split_at_mut-columns in
+    let whole = ap (λ (zs : List ℤ). length zs) first.ensures.value in
+    let both = length-append first.result.0.now first.result.1.now in
+    let entries = ap (λ (zs : List ℤ). length zs) second.ensures.value in
+    let parts = length-append second.result.0.now second.result.1.now in
+    let one = first.ensures.front_len in
+    let columns = second.ensures.front_len in
+    let same = c.leave_turned_remainders.auto.numbers in
+    let long = c.requires.parameter k e in
+    omega arith
+
+pub tie-requires-clause-positive : goal.tie-requires-clause-positive
+tie-requires-clause-positive c = least (goal.at.tie-requires-clause-positive c).After-split_at_mut-columns
+
+pub reduce-requires-clause-length : goal.reduce-requires-clause-length
+reduce-requires-clause-length c =
+    let first = c.split_at_mut-head in
+    let one = first.ensures.front_len in
+    let parts = length-append first.result.0.now (c.leave_remainders.new.numbers ++ c.tie.new.part) in
+    omega arith
+
+pub reduce-requires-clause-positive : goal.reduce-requires-clause-positive
+reduce-requires-clause-positive c =
+    let first = c.split_at_mut-head in
+    front_positive first.result.0.now (c.leave_remainders.new.numbers ++ c.tie.new.part) first.ensures.front_len
+    (head_positive c.args.line.now first.result.0.now first.result.1.now first.ensures.value
+    first.ensures.front_len c.requires.positive)
+
+pub split_at_mut-head-requires : goal.split_at_mut-head-requires
+split_at_mut-head-requires c =
+    let long = c.requires.constant in
+    omega arith

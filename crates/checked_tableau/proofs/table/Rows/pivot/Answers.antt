@@ -3,9 +3,10 @@ use Rattle.std.proofs.Common.{subst, sym}
 use Rattle.tableau_rows.specs.Rows.{entry}
 use Rattle.tableau_rows.specs.Solutions.{HaveSameSolutions}
 use Rattle.tableau_rows.proofs.Keeping.{pivot_keeps_solutions}
-use Rattle.tableau_rows.specs.Moves.{rows_in, row_at, HeadsPositive}
-use Rattle.checked_tableau.specs.Table.{Table, stride_of}
-use Rattle.checked_tableau.proofs.Tables.{heads_sized, length-rows_in, sound_pivot, written_whole}
+use Rattle.tableau_rows.specs.Moves.{rows_in, row_at, rows_run, HeadsPositive}
+use Rattle.checked_tableau.specs.Table.{Table, table_in, stride_of}
+use Rattle.checked_tableau.proofs.Tables.{goes_by, heads_sized, length-rows_in, sound_pivot, sound_stopped}
+use Rattle.checked_tableau.proofs.Tables.{stays_stopped, stops_by, written_whole}
 use Rattle.std.proofs.Common.{◌*◌}
 use Rattle.std.specs.Prelude.{None}
 use Rattle.checked_tableau.proofs.table.Rows.pivot.Goals as goal
@@ -13,7 +14,8 @@ use Rattle.checked_tableau.proofs.table.Rows.pivot.Goals as goal
 pub pivot_lines-requires-clause-size : goal.pivot_lines-requires-clause-size
 pivot_lines-requires-clause-size c =
     let i = c.self.inside in
-    let k : stride_of i.unknowns i.parameters ≡ length c.deref_mut-2.result.now = search rules in
+    let k : stride_of i.unknowns i.parameters ≡ length c.deref_mut-2.result.now =
+    sym (ap (λ (zs : List ℤ). length zs) c.deref_mut-2.ensures.value ∙ c.self.invariant.room) in
     ap (λ (zs : List ℤ). length zs) c.deref_mut.ensures.value ∙ c.self.invariant.size ∙ ap (λ (n : ℕ). i.count * n) k
 
 pub pivot_lines-requires-clause-row : goal.pivot_lines-requires-clause-row
@@ -26,14 +28,16 @@ pivot_lines-requires-clause-row c =
 pub pivot_lines-requires-clause-column : goal.pivot_lines-requires-clause-column
 pivot_lines-requires-clause-column c =
     let i = c.self.inside in
-    let k : stride_of i.unknowns i.parameters ≡ length c.deref_mut-2.result.now = search rules in
+    let k : stride_of i.unknowns i.parameters ≡ length c.deref_mut-2.result.now =
+    sym (ap (λ (zs : List ℤ). length zs) c.deref_mut-2.ensures.value ∙ c.self.invariant.room) in
     let low = subst (λ (t : Table). c.args.column < t.unknowns) (sym c.self.view_is) c.requires.column in
     omega arith
 
 pub pivot_lines-requires-clause-entry : goal.pivot_lines-requires-clause-entry
 pivot_lines-requires-clause-entry c =
     let i = c.self.inside in
-    let k : stride_of i.unknowns i.parameters ≡ length c.deref_mut-2.result.now = search rules in
+    let k : stride_of i.unknowns i.parameters ≡ length c.deref_mut-2.result.now =
+    sym (ap (λ (zs : List ℤ). length zs) c.deref_mut-2.ensures.value ∙ c.self.invariant.room) in
     let here = subst (λ (t : Table). t.stopped ≡ None → pos 0 <ℤ entry (row_at t.rows c.args.row) c.args.column)
     (sym c.self.view_is) c.requires.entry c.in_default.is in
     subst (λ (zs : List ℤ). pos 0 <ℤ
@@ -47,7 +51,8 @@ pivot_lines-requires-clause-heads c =
     let stride = stride_of i.unknowns i.parameters in
     let heads = heads_sized stride (i.unknowns + 1 + i.parameters) i.count i.cells.items (omega arith)
     (c.self.invariant.tableau c.in_default.is).sized in
-    let k : stride ≡ length c.deref_mut-2.result.now = search rules in
+    let k : stride ≡ length c.deref_mut-2.result.now =
+    sym (ap (λ (zs : List ℤ). length zs) c.deref_mut-2.ensures.value ∙ c.self.invariant.room) in
     subst (λ (zs : List ℤ). HeadsPositive (length c.deref_mut-2.result.now) i.count zs) (sym c.deref_mut.ensures.value)
     (subst (λ (n : ℕ). HeadsPositive n i.count i.cells.items) k heads)
 
@@ -57,7 +62,8 @@ invariant_of-self-in-Ok c =
     let stride = stride_of i.unknowns i.parameters in
     let now = c.pivot_lines.new.cells in
     let room = c.pivot_lines.new.line in
-    let k : length c.deref_mut-2.result.now ≡ stride = search rules in
+    let k : length c.deref_mut-2.result.now ≡ stride =
+    ap (λ (zs : List ℤ). length zs) c.deref_mut-2.ensures.value ∙ c.self.invariant.room in
     let d : c.deref_mut.result.now ≡ i.cells.items = c.deref_mut.ensures.value in
     let e : c.deref_mut-2.result.now ≡ i.line.items = c.deref_mut-2.ensures.value in
     let size : length now ≡ length i.cells.items = c.pivot_lines.auto.cells ∙ ap (λ (zs : List ℤ). length zs) d in
@@ -81,7 +87,8 @@ returns-in-Ok-clause-solutions c =
     let stride = stride_of i.unknowns i.parameters in
     let rows = rows_in stride i.count i.cells.items in
     let now = c.pivot_lines.new.cells in
-    let k : length c.deref_mut-2.result.now ≡ stride = search rules in
+    let k : length c.deref_mut-2.result.now ≡ stride =
+    ap (λ (zs : List ℤ). length zs) c.deref_mut-2.ensures.value ∙ c.self.invariant.room in
     let d : c.deref_mut.result.now ≡ i.cells.items = c.deref_mut.ensures.value in
     let size : length now ≡ length i.cells.items = c.pivot_lines.auto.cells ∙ ap (λ (zs : List ℤ). length zs) d in
     let run = rw (k, d) at c.in-Ok.ensures in
@@ -98,3 +105,52 @@ returns-in-Ok-clause-solutions c =
     c.self.view_is
     (subst (λ (zs : List ℤ). (p : List ℤ) → length p ≡ i.parameters
     → HaveSameSolutions i.unknowns rows (rows_in stride i.count zs) p) (sym a) given)
+
+pub invariant_of-self : goal.invariant_of-self
+invariant_of-self c =
+    let i = c.self.inside in
+    let now = c.pivot_lines.new.cells in
+    let room = c.pivot_lines.new.line in
+    let size : length now ≡ length i.cells.items = c.pivot_lines.auto.cells
+    ∙ ap (λ (zs : List ℤ). length zs) c.deref_mut.ensures.value in
+    let same : length room ≡ length i.line.items = c.pivot_lines.auto.line
+    ∙ ap (λ (zs : List ℤ). length zs) c.deref_mut-2.ensures.value in
+    let a = written_whole i.cells.len i.cells.items now (search rules) size in
+    let b = written_whole i.line.len i.line.items room (search rules) same in
+    rw (a, b) (sound_stopped i.unknowns i.parameters i.count i.cells.items i.line.items now room i.stopped
+    c.in-Err.wide c.self.invariant size same)
+
+pub returns-in-Err-clause-run : goal.returns-in-Err-clause-run
+returns-in-Err-clause-run c =
+    let i = c.self.inside in
+    let stride = stride_of i.unknowns i.parameters in
+    let k : length c.deref_mut-2.result.now ≡ stride =
+    ap (λ (zs : List ℤ). length zs) c.deref_mut-2.ensures.value ∙ c.self.invariant.room in
+    let d : c.deref_mut.result.now ≡ i.cells.items = c.deref_mut.ensures.value in
+    let run = rw (k, d) at c.in-Err.ensures in
+    let cells = take i.cells.len (c.pivot_lines.new.cells ++ drop (length c.pivot_lines.new.cells) i.cells.items) in
+    stops_by (table_in i.unknowns i.parameters i.count i.cells.items i.stopped) c.args.self.now
+    (rows_in stride i.count cells) (λ (t : Table). rows_run c.args.row c.args.column (row_at t.rows c.args.row) 0 t.rows)
+    c.in-Err.wide c.self.view_is c.in_default.is run
+    (length-rows_in stride i.count cells ∙ sym (length-rows_in stride i.count i.cells.items))
+
+pub returns-in-Ok-clause-run : goal.returns-in-Ok-clause-run
+returns-in-Ok-clause-run c =
+    let i = c.self.inside in
+    let stride = stride_of i.unknowns i.parameters in
+    let now = c.pivot_lines.new.cells in
+    let k : length c.deref_mut-2.result.now ≡ stride =
+    ap (λ (zs : List ℤ). length zs) c.deref_mut-2.ensures.value ∙ c.self.invariant.room in
+    let d : c.deref_mut.result.now ≡ i.cells.items = c.deref_mut.ensures.value in
+    let size : length now ≡ length i.cells.items = c.pivot_lines.auto.cells ∙ ap (λ (zs : List ℤ). length zs) d in
+    let a = written_whole i.cells.len i.cells.items now (search rules) size in
+    rw a (goes_by (table_in i.unknowns i.parameters i.count i.cells.items i.stopped) c.args.self.now
+    (rows_in stride i.count now) (λ (t : Table). rows_run c.args.row c.args.column (row_at t.rows c.args.row) 0 t.rows)
+    c.self.view_is c.in_default.is (rw (k, d) at c.in-Ok.ensures))
+
+pub returns-in-Some-clause-run : goal.returns-in-Some-clause-run
+returns-in-Some-clause-run c =
+    let i = c.self.inside in
+    let old = c.args.self.now in
+    stays_stopped (table_in i.unknowns i.parameters i.count i.cells.items i.stopped) old
+    (rows_run c.args.row c.args.column (row_at old.rows c.args.row) 0 old.rows) c.in-Some.wide c.self.view_is c.in-Some.is
