@@ -1,8 +1,8 @@
 -- Numbers that 64 bits hold: floors and quotients, lists one by one, forms in the order of the tree.
 use Rattle.std.proofs.Common.{◌≡◌, ◌∙◌, ap, ap₂, sym, refl, ℕ, zero, suc, ◌+◌, ◌-◌, ◌<◌, ◌≤◌, Bool, true, false}
 use Rattle.std.proofs.Common.{pos, List, [], ◌∷◌, ◌++◌, length, take, drop, get_or, drop-cons, add-one, append-nil}
-use Rattle.std.proofs.Common.{arith}
-use Rattle.std.specs.Prelude.{ℤ, ◌-ℤ◌, ◌≤ℤ◌, ◌&&◌, Option, Some, None, if◌then◌else◌}
+use Rattle.std.proofs.Common.{arith, subst}
+use Rattle.std.specs.Prelude.{ℤ, negsuc, neg_ℤ, ◌-ℤ◌, ◌<ℤ◌, ◌≤ℤ◌, ◌&&◌, Option, Some, None, if◌then◌else◌}
 use Rattle.std.proofs.lemmas.Int.{ints}
 use Rattle.std.proofs.lemmas.List.{append_assoc, take-append-drop, drop_all}
 use Rattle.whole_numbers.specs.Affine.{Affine, form_of}
@@ -89,6 +89,34 @@ pub quotients_behind : (s : ℤ) (xs zs : List ℤ) (n i : ℕ) → length zs �
 quotients_behind s xs zs n i h =
     ap (λ (t : List ℤ). take n (quotients s (drop i xs) t)) (drop_all i zs h)
     ∙ (ap (take n) (over_nothing s (drop i xs)) ∙ take_nothing n)
+
+-- quotients by a number with a sign
+pub quotient_over : (s start number by first : ℤ) → by ≡ s → first ≡ start → pos 0 <ℤ by
+    → narrow (floor (number -ℤ first) by) ≡ narrow (quotient s (number -ℤ start))
+quotient_over s start number by first e f h = ap₂ (λ a d. narrow (floor (number -ℤ a) d)) f e ∙ at s (subst (λ d. pos 0 <ℤ d) e h)
+  where
+    at : (d : ℤ) → pos 0 <ℤ d → narrow (floor (number -ℤ start) d) ≡ narrow (quotient d (number -ℤ start))
+    at (pos zero) k = absurd (omega (arith, ints, k))
+    at (pos (suc n)) k = refl
+    at (negsuc n) k = absurd (omega (arith, ints, k))
+
+pub quotient_under : (s start number by first : ℤ) → by ≡ s → first ≡ start → by <ℤ pos 0
+    → narrow (floor (first -ℤ number) (pos 0 -ℤ by)) ≡ narrow (quotient s (number -ℤ start))
+quotient_under s start number by first e f h =
+    ap₂ (λ a d. narrow (floor (a -ℤ number) (pos 0 -ℤ d))) f e ∙ at s (subst (λ d. d <ℤ pos 0) e h)
+  where
+    at : (d : ℤ) → d <ℤ pos 0 → narrow (floor (start -ℤ number) (pos 0 -ℤ d)) ≡ narrow (quotient d (number -ℤ start))
+    at (pos n) k = absurd (omega (arith, ints, k))
+    at (negsuc n) k =
+        let turned : start -ℤ number ≡ neg_ℤ (number -ℤ start) = omega (arith, ints) in
+        let size : pos 0 -ℤ negsuc n ≡ pos (suc n) = omega (arith, ints) in
+        ap₂ (λ z d. narrow (floor z d)) turned size
+
+pub quotient_by_nothing : (s z by : ℤ) → by ≡ s → (pos 0 <ℤ by → ⊥) → (by <ℤ pos 0 → ⊥)
+    → Some (pos 0) ≡ narrow (quotient s z)
+quotient_by_nothing (pos zero) z by e above below = refl
+quotient_by_nothing (pos (suc n)) z by e above below = absurd (above (omega (arith, ints, e)))
+quotient_by_nothing (negsuc n) z by e above below = absurd (below (omega (arith, ints, e)))
 
 -- lists one by one, and as a whole
 listed_whole : (cs : List ℤ) → narrow_list cs ≡ (if are_narrow cs then Some cs else None)

@@ -1,12 +1,15 @@
 -- Texts put behind one another.
 use Rattle.std.proofs.Common.{◌≡◌, ◌∙◌, ap, refl, ℕ, suc, ◌+◌, ◌-◌, ◌<◌, ◌≤◌, pos, List, [], ◌∷◌, ◌++◌}
-use Rattle.std.proofs.Common.{drop, length, arith}
+use Rattle.std.proofs.Common.{drop, length, arith, sym, get_or, drop-cons, add-one}
+use Rattle.std.specs.Prelude.{codes}
 use Rattle.std.proofs.lemmas.List.{append_assoc, drop_all}
 use Rattle.whole_numbers.specs.Affine.{Affine}
 use Rattle.whole_numbers.specs.Lists.{zeros}
 use Rattle.scop_lexer.specs.Bytes.{Text}
-use Rattle.scop_syntax.specs.Tree.{Head}
-use Rattle.c_printer.specs.Nodes.{givens_text, repeated}
+use Rattle.scop_syntax.specs.Tree.{Head, Program}
+use Rattle.loop_tree.specs.Tree.{Bound, bounds_of, Tree, Trees, more}
+use Rattle.c_printer.specs.Statements.{between}
+use Rattle.c_printer.specs.Nodes.{givens_text, repeated, indent, bound_text, bounds_text, node_text, nodes_text}
 
 -- a text once more, and the times behind it
 pub repeated_ahead : (text : Text) (n i : ℕ) → i < n → repeated text (n - i) ≡ text ++ repeated text (n - (i + 1))
@@ -27,6 +30,43 @@ five_behind a one two three four x lower y upper z h i j k =
     behind three four upper z k
     ∙ (behind two three y (upper ++ z) j
     ∙ (behind one two lower (y ++ (upper ++ z)) i ∙ behind a one x (lower ++ (y ++ (upper ++ z))) h))
+
+-- the entry at a place, and those behind it
+pub entry_here : {A : Type 0} (xs : List A) (i : ℕ) (x : A) → x ≡ get_or xs i x → i < length xs
+    → drop i xs ≡ x ∷ drop (i + 1) xs
+entry_here xs i x found within =
+    drop-cons xs i x within
+    ∙ (ap (λ k. get_or xs i x ∷ drop k xs) (sym (add-one i)) ∙ ap (λ y. y ∷ drop (i + 1) xs) (sym found))
+
+-- a node more
+pub node_put : (program : Program) (level loops : ℕ) (here rest : Trees) (t : Tree) (old one two whole : Text)
+    → here ≡ more t rest → one ≡ old ++ indent level → two ≡ one ++ node_text program level loops t
+    → old ++ nodes_text program level loops here ≡ whole → two ++ nodes_text program level loops rest ≡ whole
+node_put program level loops here rest t old one two whole e h k so_far =
+    let node = node_text program level loops t in
+    let nodes = nodes_text program level loops rest in
+    behind one two node nodes k
+    ∙ (behind old one (indent level) (node ++ nodes) h
+    ∙ (ap (λ (ts : Trees). old ++ nodes_text program level loops ts) (sym e) ∙ so_far))
+
+-- a bound more that others stand behind
+pub choice_put : (divided chosen : Text) (names : List Text) (loops i : ℕ) (bound next : Bound) (others : List Bound)
+    (old new whole : Text) → next ≡ get_or others i next → i < length others
+    → new ≡ old ++ between chosen (bound_text divided names loops bound) (codes ", ")
+    → old ++ (bounds_text divided chosen names loops (bounds_of bound (drop i others)) ++ repeated (codes ")") i)
+    ≡ whole
+    → new ++ (bounds_text divided chosen names loops (bounds_of next (drop (i + 1) others))
+    ++ repeated (codes ")") (i + 1)) ≡ whole
+choice_put divided chosen names loops i bound next others old new whole found within put so_far =
+    let one = between chosen (bound_text divided names loops bound) (codes ", ") in
+    let rest = bounds_text divided chosen names loops (bounds_of next (drop (i + 1) others)) in
+    let ends = repeated (codes ")") i in
+    behind old new one (rest ++ repeated (codes ")") (i + 1)) put
+    ∙ (ap (λ n. old ++ (one ++ (rest ++ repeated (codes ")") n))) (add-one i)
+    ∙ (ap (λ (t : Text). old ++ (one ++ t)) (sym (append_assoc rest (codes ")") ends))
+    ∙ (ap (λ (t : Text). old ++ t) (sym (append_assoc one (rest ++ codes ")") ends))
+    ∙ (ap (λ (bs : List Bound). old ++ (bounds_text divided chosen names loops (bounds_of bound bs) ++ ends))
+    (sym (entry_here others i next found within)) ∙ so_far))))
 
 -- where turns end, so do the iterators
 pub givens_end : (parameters loops : ℕ) (names : List Text) (heads : List Head) (turns : List Affine) (i : ℕ)

@@ -101,6 +101,23 @@ fn put_head_at(
     put_head(alloc, out, &name, &place.names, place.loops, head)
 }
 
+/// Puts what stands in front of a loop, and its line.
+#[tactic(auto, using(crate::proofs::Putting::putting))]
+fn put_opening(
+    alloc: Global,
+    out: &mut Vec<u8>,
+    place: &Place,
+    head: &Loop,
+) -> Result<(), AllocError>
+    ensures { OnOk result (out.new.items ≡ out.old.items
+        ++ ((if head.now.parallel then pragma_text place.now.level else [])
+        ++ head_text (loop_name place.now.loops) (map (λ n. n.items) place.now.names.items) place.now.loops
+        (bounds_in head.now.lower) (bounds_in head.now.upper))) }
+{
+    put_mark(out, head.parallel, place.level)?;
+    put_head_at(alloc, out, place, head)
+}
+
 /// Puts nodes, one after another.
 #[cycle(printing)]
 #[tactic(auto, using(crate::proofs::Putting::putting))]
@@ -150,8 +167,7 @@ fn put_node(
 {
     match node {
         Node::Loop(head, body) => {
-            put_mark(out, head.parallel, place.level)?;
-            put_head_at(alloc, out, place, head)?;
+            put_opening(alloc, out, place, head)?;
             let inner = within_loop(alloc, place)?;
             put_body(body, alloc, out, kernel, statements, &inner, place.level)
         }

@@ -1,6 +1,6 @@
 //! Puts the statements of a kernel behind a text.
 
-ghost use Rattle.std.specs.Prelude.{◌≡◌, ◌++◌, [], map, slice_index_or, OnOk};
+ghost use Rattle.std.specs.Prelude.{◌≡◌, ◌++◌, [], codes, map, slice_index_or, OnOk};
 ghost use Rattle.form_text.specs.Forms.{form_text};
 ghost use Rattle.scop_syntax.specs.Tree.{Declaration};
 ghost use Rattle.scop_syntax.specs.View.{expression_of, operator_of, program_of, right_of, statement_of};
@@ -103,12 +103,13 @@ fn put_access(
 }
 
 /// Puts a value, each operator in parentheses with its operands.
-#[tactic(auto, using(crate::proofs::Putting::putting), unfolding(crate::specs::Statements::between))]
+#[cycle(writing)]
+#[tactic(auto, using(crate::proofs::Putting::putting))]
 fn put_value(
+    value: &Expr,
     out: &mut Vec<u8>,
     kernel: &Kernel,
     names: &[Name],
-    value: &Expr,
 ) -> Result<(), AllocError>
     ensures { OnOk result (out.new.items ≡ out.old.items
         ++ value_text (program_of kernel.now) (map (λ n. n.items) names.now) (expression_of value.now)) }
@@ -117,38 +118,90 @@ fn put_value(
         Expr::Read(access) => put_access(out, kernel, names, access),
         Expr::Constant(number) => put_number(out, *number),
         Expr::Affine(form) => put_enclosed(out, names, b"(uint64_t)(", form, b")"),
-        Expr::Negated(inner) => {
-            put_bytes(out, b"(-")?;
-            put_value(out, kernel, names, inner)?;
-            put_bytes(out, b")")
-        }
-        Expr::Complemented(inner) => {
-            put_bytes(out, b"(~")?;
-            put_value(out, kernel, names, inner)?;
-            put_bytes(out, b")")
-        }
-        Expr::Cast(inner) => {
-            put_bytes(out, b"(uint64_t)")?;
-            put_value(out, kernel, names, inner)
-        }
+        Expr::Negated(inner) => put_within(inner, out, kernel, names, b"(-", b")"),
+        Expr::Complemented(inner) => put_within(inner, out, kernel, names, b"(~", b")"),
+        Expr::Cast(inner) => put_behind(inner, out, kernel, names, b"(uint64_t)"),
         Expr::Binary(operator, left, right) => {
-            put_bytes(out, b"(")?;
-            put_value(out, kernel, names, left)?;
-            put_operator(out, b" ", *operator, b" ")?;
-            put_value(out, kernel, names, right)?;
-            put_bytes(out, b")")
+            put_behind(left, out, kernel, names, b"(")?;
+            put_operand(right, out, kernel, names, *operator)
         }
-        Expr::ShiftedLeft(inner, count) => {
-            put_bytes(out, b"(")?;
-            put_value(out, kernel, names, inner)?;
-            put_shift(out, b" << ", *count, b")")
-        }
-        Expr::ShiftedRight(inner, count) => {
-            put_bytes(out, b"(")?;
-            put_value(out, kernel, names, inner)?;
-            put_shift(out, b" >> ", *count, b")")
-        }
+        Expr::ShiftedLeft(inner, count) => put_shifted(inner, out, kernel, names, b" << ", *count),
+        Expr::ShiftedRight(inner, count) => put_shifted(inner, out, kernel, names, b" >> ", *count),
     }
+}
+
+/// Puts a value behind a text.
+#[cycle(writing)]
+#[tactic(auto, using(crate::proofs::Putting::putting))]
+fn put_behind(
+    value: &Expr,
+    out: &mut Vec<u8>,
+    kernel: &Kernel,
+    names: &[Name],
+    front: &[u8],
+) -> Result<(), AllocError>
+    ensures { OnOk result (out.new.items ≡ out.old.items ++ (front.now
+        ++ value_text (program_of kernel.now) (map (λ n. n.items) names.now) (expression_of value.now))) }
+{
+    put_bytes(out, front)?;
+    put_value(value, out, kernel, names)
+}
+
+/// Puts a value between two texts.
+#[cycle(writing)]
+#[tactic(auto, using(crate::proofs::Putting::putting), unfolding(crate::specs::Statements::between))]
+fn put_within(
+    value: &Expr,
+    out: &mut Vec<u8>,
+    kernel: &Kernel,
+    names: &[Name],
+    front: &[u8],
+    end: &[u8],
+) -> Result<(), AllocError>
+    ensures { OnOk result (out.new.items ≡ out.old.items ++ between front.now
+        (value_text (program_of kernel.now) (map (λ n. n.items) names.now) (expression_of value.now)) end.now) }
+{
+    put_behind(value, out, kernel, names, front)?;
+    put_bytes(out, end)
+}
+
+/// Puts an operator, its second operand and a closing parenthesis.
+#[cycle(writing)]
+#[tactic(auto, using(crate::proofs::Putting::putting))]
+fn put_operand(
+    value: &Expr,
+    out: &mut Vec<u8>,
+    kernel: &Kernel,
+    names: &[Name],
+    operator: Operator,
+) -> Result<(), AllocError>
+    ensures { OnOk result (out.new.items ≡ out.old.items
+        ++ (between (codes " ") (operator_text (operator_of operator)) (codes " ")
+        ++ (value_text (program_of kernel.now) (map (λ n. n.items) names.now) (expression_of value.now)
+        ++ codes ")"))) }
+{
+    put_operator(out, b" ", operator, b" ")?;
+    put_value(value, out, kernel, names)?;
+    put_bytes(out, b")")
+}
+
+/// Puts a shifted value in parentheses.
+#[cycle(writing)]
+#[tactic(auto, using(crate::proofs::Putting::putting))]
+fn put_shifted(
+    value: &Expr,
+    out: &mut Vec<u8>,
+    kernel: &Kernel,
+    names: &[Name],
+    sign: &[u8],
+    count: u8,
+) -> Result<(), AllocError>
+    ensures { OnOk result (out.new.items ≡ out.old.items ++ (codes "("
+        ++ (value_text (program_of kernel.now) (map (λ n. n.items) names.now) (expression_of value.now)
+        ++ between sign.now (constant_value_text count) (codes ")")))) }
+{
+    put_behind(value, out, kernel, names, b"(")?;
+    put_shift(out, sign, count, b")")
 }
 
 /// Puts a shift's sign and count, and what stands behind.
@@ -173,13 +226,10 @@ fn put_right(
         ++ right_text (program_of kernel.now) (map (λ n. n.items) names.now) (right_of right.now)) }
 {
     match right {
-        Right::Assigned(value) => {
-            put_bytes(out, b" = ")?;
-            put_value(out, kernel, names, value)
-        }
+        Right::Assigned(value) => put_behind(value, out, kernel, names, b" = "),
         Right::Combined(operator, value) => {
             put_operator(out, b" ", *operator, b"= ")?;
-            put_value(out, kernel, names, value)
+            put_value(value, out, kernel, names)
         }
         Right::ShiftedLeft(count) => {
             put_bytes(out, b" <<= ")?;

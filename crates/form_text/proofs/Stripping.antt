@@ -1,6 +1,6 @@
 -- What the code's own words for fronts of slices say, and numbers that are read up to 2^128 - 1.
 use Rattle.std.proofs.Common.{◌≡◌, ◌∙◌, ap, sym, refl, ℕ, suc, Bool, true, false, [], ◌∷◌, ◌++◌, take, drop, arith, ◌+◌}
-use Rattle.std.proofs.Common.{List, ◌-◌, ◌*◌, ◌^◌, ◌<◌, length, get_or, ne_eqb}
+use Rattle.std.proofs.Common.{List, ◌-◌, ◌*◌, ◌^◌, ◌<◌, length, get_or, ne_eqb, map, drop-cons, add-one}
 use Rattle.std.specs.Prelude.{ℤ, Option, Some, None, MatchOption, ◌≢◌, ◌==◌, nat_lt, nat_le, if◌then◌else◌}
 use Rattle.std.specs.Borrow.{Bor}
 use Rattle.std.specs.List.{prefix_len}
@@ -11,7 +11,8 @@ use Rattle.whole_numbers.specs.Affine.{Affine, form_of}
 use Rattle.scop_lexer.specs.Bytes.{Text, is_digit}
 use Rattle.form_text.specs.Names.{is_name_byte}
 use Rattle.form_text.specs.Reading.{strip, when, name_in_front, behind_name, Factor, factor_of, named_as, named}
-use Rattle.form_text.specs.Reading.{number_in_front, numbered, plus, minus, with_coefficient}
+use Rattle.form_text.specs.Reading.{number_in_front, numbered, plus, minus, with_coefficient, Next, next_in}
+use Rattle.form_text.specs.Reading.{term_in_front, read_terms}
 use Rattle.form_text.specs.View.{text_in, saturated, saturated_factor}
 use Rattle.form_text.proofs.Calls.{strip_front}
 
@@ -163,6 +164,23 @@ pub joined_more : (cs : List ℤ) (c : ℤ) (r : Option (Affine × Text))
 joined_more cs c None = refl
 joined_more cs c (Some f) =
     ap (λ (ds : List ℤ). Some (form_of ds f.0.constant, f.1)) (append_assoc cs (c ∷ []) f.0.coefficients)
+
+-- a name more, with its coefficient in front of what is still read
+pub terms_more : {A : Type 0} (name_of : A → Text) (xs : List A) (i : ℕ) (x : A) (name text : Text) (front : Bool)
+    (next : Next) (cs more : List ℤ) (whole : Option (Affine × Text)) → x ≡ get_or xs i x → i < length xs
+    → name ≡ name_of x → next ≡ next_in front name text (term_in_front front text) → more ≡ cs ++ next.coefficient ∷ []
+    → joined cs (read_terms front (map name_of (drop i xs)) text) ≡ whole
+    → joined more (read_terms next.front (map name_of (drop (i + 1) xs)) next.rest) ≡ whole
+terms_more name_of xs i x name text front next cs more whole found within named read pushed so_far =
+    let behind = map name_of (drop (i + 1) xs) in
+    let here : map name_of (drop i xs) ≡ name ∷ behind =
+    ap (map name_of) (drop-cons xs i x within)
+    ∙ (ap (λ k. name_of (get_or xs i x) ∷ map name_of (drop k xs)) (sym (add-one i))
+    ∙ (ap (λ y. name_of y ∷ behind) (sym found) ∙ ap (λ (t : Text). t ∷ behind) (sym named))) in
+    ap (λ (ds : List ℤ). joined ds (read_terms next.front behind next.rest)) pushed
+    ∙ (joined_more cs next.coefficient (read_terms next.front behind next.rest)
+    ∙ (ap (λ (n : Next). joined cs (with_coefficient n.coefficient (read_terms n.front behind n.rest))) read
+    ∙ (ap (λ (ts : List Text). joined cs (read_terms front ts text)) (sym here) ∙ so_far)))
 
 -- no digit stands in front of nothing
 pub stops_at_end : (v : ℕ) (text : Text) → length text ≡ 0 → number_in_front v text ≡ v

@@ -1,0 +1,33 @@
+use Rattle.std.proofs.Common.{rules, ◌≡◌, ◌∙◌, pos, FitsSigned}
+use Rattle.std.specs.Prelude.{◌<ℤ◌, ◌-ℤ◌}
+use Rattle.std.specs.Int.{w64, w128}
+use Rattle.std.proofs.lemmas.Int.{to_z-of_z}
+use Rattle.c_printer.proofs.Narrowing.{quotient_over, quotient_under}
+use Rattle.c_printer.proofs.read_forms.quotient.Goals as goal
+
+pub returns-then-by-gt0 : goal.returns-then-by-gt0
+returns-then-by-gt0 c =
+    let stride : FitsSigned w64 c.args.stride = c.ranges.stride in
+    let start : FitsSigned w64 c.args.start = c.ranges.start in
+    let number : FitsSigned w128 c.args.number = c.ranges.number in
+    let by : c.from-by.result ≡ c.args.stride = simp to_z-of_z at c.from-by.ensures in
+    let first : c.from-first.result ≡ c.args.start = simp to_z-of_z at c.from-first.ensures in
+    let wide : FitsSigned w128 c.from-by.result = search rules in
+    let broad : FitsSigned w128 c.from-first.result = search rules in
+    let above : pos 0 <ℤ c.from-by.result = search rules in
+    let told = simp to_z-of_z at c.difference_over.ensures in
+    told ∙ quotient_over c.args.stride c.args.start c.args.number _ _ by first above
+
+pub returns-then-by-lt0 : goal.returns-then-by-lt0
+returns-then-by-lt0 c =
+    let stride : FitsSigned w64 c.args.stride = c.ranges.stride in
+    let start : FitsSigned w64 c.args.start = c.ranges.start in
+    let number : FitsSigned w128 c.args.number = c.ranges.number in
+    let by : c.from-by.result ≡ c.args.stride = simp to_z-of_z at c.from-by.ensures in
+    let first : c.from-first.result ≡ c.args.start = simp to_z-of_z at c.from-first.ensures in
+    let wide : FitsSigned w128 c.from-by.result = search rules in
+    let broad : FitsSigned w128 c.from-first.result = search rules in
+    let size : FitsSigned w128 (pos 0 -ℤ c.from-by.result) = search rules in
+    let below : c.from-by.result <ℤ pos 0 = search rules in
+    let told = simp to_z-of_z at c.difference_over-then-by-lt0.ensures in
+    told ∙ quotient_under c.args.stride c.args.start c.args.number _ _ by first below
