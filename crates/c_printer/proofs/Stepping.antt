@@ -106,6 +106,13 @@ givens_more parameters loops names next_names head here behind turns next turn t
     ∙ (ap (parts_before turns) (sym (given_goes parameters loops names head behind text))
     ∙ (ap (λ (hs : List Head). parts_before turns (read_givens parameters loops names hs text)) (sym e) ∙ so_far))))
 
+pub givens_done : (parameters loops : ℕ) (names : List Text) (here : List Head) (turns : List Affine) (text : Text)
+    (whole : Option (List Affine × Text)) → here ≡ []
+    → parts_before turns (read_givens parameters loops names here text) ≡ whole → Some (turns, text) ≡ whole
+givens_done parameters loops names here turns text whole e so_far =
+    ap (λ (ts : List Affine). Some (ts, text)) (sym (append-nil turns))
+    ∙ (ap (λ (hs : List Head). parts_before turns (read_givens parameters loops names hs text)) (sym e) ∙ so_far)
+
 -- a bound behind which others stand, and those
 chosen_read : (again : Text → Option (Bounds × Text)) (r : Option (Bound × Text))
     → chosen_bounds again r ≡ when (chosen_bound r) (λ b. with_bound b.0 (again b.1))
