@@ -68,6 +68,18 @@ choice_put divided chosen names loops i bound next others old new whole found wi
     ∙ (ap (λ (bs : List Bound). old ++ (bounds_text divided chosen names loops (bounds_of bound bs) ++ ends))
     (sym (entry_here others i next found within)) ∙ so_far))))
 
+-- the last bound, and the parentheses behind it
+pub choices_end : (divided chosen : Text) (names : List Text) (loops i n : ℕ) (bound : Bound) (others : List Bound)
+    (old new whole : Text) → length others ≤ i → n ≡ i → new ≡ old ++ bound_text divided names loops bound
+    → old ++ (bounds_text divided chosen names loops (bounds_of bound (drop i others)) ++ repeated (codes ")") i)
+    ≡ whole → new ++ repeated (codes ")") n ≡ whole
+choices_end divided chosen names loops i n bound others old new whole past count put so_far =
+    let last = bound_text divided names loops bound in
+    behind old new last (repeated (codes ")") n) put
+    ∙ (ap (λ k. old ++ (last ++ repeated (codes ")") k)) count
+    ∙ (ap (λ (bs : List Bound). old ++ (bounds_text divided chosen names loops (bounds_of bound bs)
+    ++ repeated (codes ")") i)) (sym (drop_all i others past)) ∙ so_far))
+
 -- where turns end, so do the iterators
 pub givens_end : (parameters loops : ℕ) (names : List Text) (heads : List Head) (turns : List Affine) (i : ℕ)
     → length turns ≤ i → givens_text parameters loops names heads (drop i turns) ≡ []

@@ -5,7 +5,8 @@ use Rattle.std.proofs.Common.{◌++◌, length, append-nil, arith}
 use Rattle.std.specs.Prelude.{◌==◌, Option, Some, None, if◌then◌else◌, codes}
 use Rattle.std.proofs.lemmas.List.{append_assoc}
 use Rattle.scop_lexer.specs.Bytes.{Text}
-use Rattle.scop_syntax.specs.Tree.{Program}
+use Rattle.whole_numbers.specs.Affine.{Affine}
+use Rattle.scop_syntax.specs.Tree.{Head, Program}
 use Rattle.loop_tree.specs.Tree.{Bound, Bounds, Test, Tree, loop, guard, Trees, none, more}
 use Rattle.loop_tree.specs.View.{trees_of}
 use Rattle.form_text.specs.Reading.{strip, when}
@@ -15,11 +16,12 @@ use Rattle.c_printer.specs.Reading.{read_lower, read_upper, chosen_bounds, read_
 use Rattle.c_printer.specs.Reading.{read_bound, bounds_at, read_test, read_more_tests, closed, guard_at, upper_at}
 use Rattle.c_printer.specs.Reading.{lower_at, read_loop, read_tests, node_at, read_node, with_node}
 use Rattle.c_printer.specs.Reading.{nodes_at}
-use Rattle.c_printer.specs.Reading.{read_nodes}
+use Rattle.c_printer.specs.Reading.{read_nodes, read_turn, read_givens}
 use Rattle.c_printer.specs.View.{line, Line}
 use Rattle.c_printer.specs.steps.Reading.{behind_between, chosen_bound, last_bound, with_bound, closed_bounds}
 use Rattle.c_printer.specs.steps.Reading.{upper_end, lower_end, read_line, loop_from, read_condition, closed_as}
 use Rattle.c_printer.specs.steps.Reading.{closed_body, guard_from, parallel_from, trees_before}
+use Rattle.c_printer.specs.steps.Reading.{given_end, read_given}
 use Rattle.c_printer.proofs.Putting.{repeated_ahead}
 
 -- what goes on behind one step goes on behind two
@@ -73,6 +75,43 @@ part_more : {A : Type 0} (parts : List A) (part : A) (r : Option (List A × Text
     → parts_before (parts ++ part ∷ []) r ≡ parts_before parts (parts_before (part ∷ []) r)
 part_more parts part None = refl
 part_more parts part (Some q) = ap (λ ps. Some (ps, q.1)) (append_assoc parts (part ∷ []) q.0)
+
+-- a turn in front of those of the heads behind
+given_goes : (parameters loops : ℕ) (names : List Text) (head : Head) (heads : List Head) (text : Text)
+    → read_givens parameters loops names (head ∷ heads) text
+    ≡ when (read_given parameters loops names head text)
+    (λ r. parts_before (r.0 ∷ []) (read_givens parameters loops (names ++ head.iterator ∷ []) heads r.1))
+given_goes parameters loops names head heads text =
+    let again = read_givens parameters loops (names ++ head.iterator ∷ []) heads in
+    let goes : Affine × Text → Option (List Affine × Text) = λ r. parts_before (r.0 ∷ []) (again r.1) in
+    between_read (codes "const int64_t ") head.iterator (codes " = ") text _
+    ∙ deeper (behind_between (codes "const int64_t ") head.iterator (codes " = ") text)
+    (λ t. when (read_turn parameters loops names head t) given_end) goes _
+    (λ t. deeper (read_turn parameters loops names head t) given_end goes _
+    (λ r. deeper (strip (codes "; ") r.1) (λ u. Some (r.0, u)) goes _ (λ u. refl)))
+
+pub givens_more : (parameters loops : ℕ) (names next_names : List Text) (head : Head) (here behind : List Head)
+    (turns next : List Affine) (turn : Affine) (text rest : Text) (whole : Option (List Affine × Text))
+    → here ≡ head ∷ behind → next_names ≡ names ++ head.iterator ∷ [] → next ≡ turns ++ turn ∷ []
+    → Some (turn, rest) ≡ read_given parameters loops names head text
+    → parts_before turns (read_givens parameters loops names here text) ≡ whole
+    → parts_before next (read_givens parameters loops next_names behind rest) ≡ whole
+givens_more parameters loops names next_names head here behind turns next turn text rest whole e named pushed is so_far =
+    let more_names = names ++ head.iterator ∷ [] in
+    ap₂ (λ (ts : List Affine) (ns : List Text). parts_before ts (read_givens parameters loops ns behind rest)) pushed
+    named
+    ∙ (part_more turns turn (read_givens parameters loops more_names behind rest)
+    ∙ (ap (λ (o : Option (Affine × Text)). parts_before turns (when o
+    (λ r. parts_before (r.0 ∷ []) (read_givens parameters loops more_names behind r.1)))) is
+    ∙ (ap (parts_before turns) (sym (given_goes parameters loops names head behind text))
+    ∙ (ap (λ (hs : List Head). parts_before turns (read_givens parameters loops names hs text)) (sym e) ∙ so_far))))
+
+pub givens_done : (parameters loops : ℕ) (names : List Text) (here : List Head) (turns : List Affine) (text : Text)
+    (whole : Option (List Affine × Text)) → here ≡ []
+    → parts_before turns (read_givens parameters loops names here text) ≡ whole → Some (turns, text) ≡ whole
+givens_done parameters loops names here turns text whole e so_far =
+    ap (λ (ts : List Affine). Some (ts, text)) (sym (append-nil turns))
+    ∙ (ap (λ (hs : List Head). parts_before turns (read_givens parameters loops names hs text)) (sym e) ∙ so_far)
 
 -- a bound behind which others stand, and those
 chosen_read : (again : Text → Option (Bounds × Text)) (r : Option (Bound × Text))
