@@ -1,4 +1,4 @@
 pub mod Steps
 pub mod Exact
 pub mod Values
-pub mod Stopping
+pub mod RunStops

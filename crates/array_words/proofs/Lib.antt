@@ -1,6 +1,6 @@
 pub mod Loads
 pub mod Stores
-pub mod Starting
+pub mod OpeningState
 pub mod Members
-pub mod Joining
-pub mod Ending
+pub mod Joins
+pub mod FinalCells

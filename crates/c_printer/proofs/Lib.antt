@@ -1,6 +1,6 @@
-pub mod Putting
+pub mod PutTexts
 pub mod Multiples
-pub mod Declaring
+pub mod Declarations
 pub mod ExampleTexts
 pub mod FormsRead
 pub mod FormsOver
@@ -13,8 +13,8 @@ pub mod Lengths
 pub mod TextsRead
 pub mod NamesTold
 pub mod Shapes
-pub mod Narrowing
-pub mod Stepping
-pub mod Bounding
+pub mod NarrowNumbers
+pub mod ReadSteps
+pub mod BoundTexts
 pub mod Divisions
 pub mod Iterators

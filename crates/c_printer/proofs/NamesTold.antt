@@ -22,7 +22,7 @@ use Rattle.standings.specs.steps.Gathered.{gathered, gathered_all}
 use Rattle.c_printer.specs.Naming.{iterators_of, IsFree, AreFree, TakesWords, TakeWords, HasWords}
 use Rattle.c_printer.specs.Printable.{IsStart, AreHeads, IsNamed}
 use Rattle.c_printer.proofs.FormsOver.{at_most_is_narrow, at_most_are_narrow}
-use Rattle.standings.proofs.Gathering.{program_gathered}
+use Rattle.standings.proofs.GatheredStatements.{program_gathered}
 use Rattle.c_printer.proofs.InstancesRead.{names_front}
 
 -- names of emitted loops

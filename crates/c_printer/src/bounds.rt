@@ -16,7 +16,7 @@ use scop_syntax::tree::{Aff, Name};
 use std::alloc::{AllocError, Global};
 
 /// Puts a form behind the name of a division, and its divisor.
-#[tactic(auto, using(crate::proofs::Putting::putting), unfolding(crate::specs::Statements::between))]
+#[tactic(auto, using(crate::proofs::PutTexts::putting), unfolding(crate::specs::Statements::between))]
 fn put_divided(
     alloc: Global,
     out: &mut Vec<u8>,
@@ -53,7 +53,7 @@ fn put_bound(
 }
 
 /// Puts a bound that others stand behind.
-#[tactic(auto, using(crate::proofs::Putting::putting), unfolding(crate::specs::Statements::between))]
+#[tactic(auto, using(crate::proofs::PutTexts::putting), unfolding(crate::specs::Statements::between))]
 fn put_choice(
     alloc: Global,
     out: &mut Vec<u8>,
@@ -72,7 +72,7 @@ fn put_choice(
 }
 
 /// Puts the bounds of one side.
-#[tactic(auto, using(crate::proofs::Putting::putting))]
+#[tactic(auto, using(crate::proofs::PutTexts::putting))]
 pub fn put_bounds(
     alloc: Global,
     out: &mut Vec<u8>,
@@ -97,7 +97,7 @@ pub fn put_bounds(
 }
 
 /// Puts that a form is a multiple of a number.
-#[tactic(auto, using(crate::proofs::Putting::putting))]
+#[tactic(auto, using(crate::proofs::PutTexts::putting))]
 fn put_multiple(
     alloc: Global,
     out: &mut Vec<u8>,
@@ -117,7 +117,7 @@ fn put_multiple(
 }
 
 /// Puts a test.
-#[tactic(auto, using(crate::proofs::Putting::putting))]
+#[tactic(auto, using(crate::proofs::PutTexts::putting))]
 fn put_test(
     alloc: Global,
     out: &mut Vec<u8>,
@@ -152,7 +152,7 @@ fn put_conjunction(out: &mut Vec<u8>, first: bool) -> Result<(), AllocError>
 }
 
 /// Puts the tests of a guard.
-#[tactic(auto, using(crate::proofs::Putting::putting))]
+#[tactic(auto, using(crate::proofs::PutTexts::putting))]
 pub fn put_tests(
     alloc: Global,
     out: &mut Vec<u8>,

@@ -11,7 +11,7 @@ use scop_syntax::tree::{Aff, Loop, Name};
 use std::alloc::{AllocError, Global};
 
 /// Puts a form with these coefficients, one for each name, and this constant.
-#[tactic(auto, using(form_text::proofs::Putting::putting), unfolding(form_text::specs::Forms::form_text))]
+#[tactic(auto, using(form_text::proofs::PutTexts::putting), unfolding(form_text::specs::Forms::form_text))]
 pub fn put_form(
     out: &mut Vec<u8>,
     names: &[Name],

@@ -13,7 +13,7 @@ use scop_syntax::tree::{Array, Kernel, Name};
 use std::alloc::AllocError;
 
 /// Puts what each text begins with.
-#[tactic(auto, using(crate::proofs::Putting::putting), unfolding(crate::specs::Statements::prologue))]
+#[tactic(auto, using(crate::proofs::PutTexts::putting), unfolding(crate::specs::Statements::prologue))]
 fn put_prologue(out: &mut Vec<u8>) -> Result<(), AllocError>
     ensures { OnOk result (out.new.items ≡ out.old.items ++ prologue) }
 {
@@ -39,7 +39,7 @@ fn put_comma(out: &mut Vec<u8>, first: bool) -> Result<(), AllocError>
 }
 
 /// Puts an array as a parameter of the function.
-#[tactic(auto, using(crate::proofs::Putting::putting), unfolding(crate::specs::Statements::between))]
+#[tactic(auto, using(crate::proofs::PutTexts::putting), unfolding(crate::specs::Statements::between))]
 fn put_array(
     out: &mut Vec<u8>,
     parameters: &[Name],
@@ -56,7 +56,7 @@ fn put_array(
 }
 
 /// Puts the arrays that are declared behind so many parameters, and tells whether what follows is the first.
-#[tactic(auto, using(crate::proofs::Putting::putting))]
+#[tactic(auto, using(crate::proofs::PutTexts::putting))]
 fn put_arrays(
     out: &mut Vec<u8>,
     kernel: &Kernel,
@@ -80,7 +80,7 @@ fn put_arrays(
 }
 
 /// Puts a parameter of the function.
-#[tactic(auto, using(crate::proofs::Putting::putting))]
+#[tactic(auto, using(crate::proofs::PutTexts::putting))]
 fn put_parameter(out: &mut Vec<u8>, first: bool, name: &[u8]) -> Result<(), AllocError>
     ensures { OnOk result (out.new.items ≡ out.old.items ++ (comma first ++ (codes "int64_t " ++ name.now))) }
 {
@@ -90,7 +90,7 @@ fn put_parameter(out: &mut Vec<u8>, first: bool, name: &[u8]) -> Result<(), Allo
 }
 
 /// Puts the parameters and arrays in the order of their declarations.
-#[tactic(auto, using(crate::proofs::Putting::putting))]
+#[tactic(auto, using(crate::proofs::PutTexts::putting))]
 fn put_declared(out: &mut Vec<u8>, kernel: &Kernel) -> Result<(), AllocError>
     ensures { OnOk result (out.new.items ≡ out.old.items ++ listed true (declared_from
         (program_of kernel.now).parameters (program_of kernel.now).arrays 0 (program_of kernel.now).parameters)) }
@@ -113,7 +113,7 @@ fn put_declared(out: &mut Vec<u8>, kernel: &Kernel) -> Result<(), AllocError>
 }
 
 /// Puts all that stands in front of the nodes.
-#[tactic(auto, using(crate::proofs::Putting::putting), unfolding(crate::specs::Statements::front_text))]
+#[tactic(auto, using(crate::proofs::PutTexts::putting), unfolding(crate::specs::Statements::front_text))]
 pub fn put_front(out: &mut Vec<u8>, kernel: &Kernel) -> Result<(), AllocError>
     ensures { OnOk result (out.new.items ≡ out.old.items ++ front_text (program_of kernel.now)) }
 {

@@ -20,7 +20,7 @@ use standings::Standing;
 use std::alloc::{AllocError, Global};
 
 /// Puts a source iterator at a turn of its loop.
-#[tactic(auto, using(crate::proofs::Putting::putting))]
+#[tactic(auto, using(crate::proofs::PutTexts::putting))]
 fn put_given(
     alloc: Global,
     out: &mut Vec<u8>,
@@ -41,7 +41,7 @@ fn put_given(
 }
 
 /// Puts the source iterators at some turns, and their names behind the others.
-#[tactic(auto, using(crate::proofs::Putting::putting))]
+#[tactic(auto, using(crate::proofs::PutTexts::putting))]
 fn put_givens(
     alloc: Global,
     out: &mut Vec<u8>,
@@ -100,7 +100,7 @@ pub fn names_of(
 }
 
 /// Puts a statement at the turns of the loops round it.
-#[tactic(auto, using(crate::proofs::Putting::putting))]
+#[tactic(auto, using(crate::proofs::PutTexts::putting))]
 fn put_body(
     alloc: Global,
     out: &mut Vec<u8>,
@@ -151,7 +151,7 @@ fn put_found(
 }
 
 /// Puts an instance of a statement of the kernel, whose statements are these.
-#[tactic(auto, using(crate::proofs::Putting::putting))]
+#[tactic(auto, using(crate::proofs::PutTexts::putting))]
 pub fn put_instance(
     alloc: Global,
     out: &mut Vec<u8>,

@@ -23,7 +23,7 @@ use standings::{Standing, standings_of};
 use std::alloc::{AllocError, Global};
 
 /// Puts a closing brace on its line.
-#[tactic(auto, using(crate::proofs::Putting::putting), unfolding(crate::specs::Nodes::closing_text))]
+#[tactic(auto, using(crate::proofs::PutTexts::putting), unfolding(crate::specs::Nodes::closing_text))]
 fn put_closing(out: &mut Vec<u8>, level: usize) -> Result<(), AllocError>
     ensures { OnOk result (out.new.items ≡ out.old.items ++ closing_text level) }
 {
@@ -32,7 +32,7 @@ fn put_closing(out: &mut Vec<u8>, level: usize) -> Result<(), AllocError>
 }
 
 /// Puts the line in front of a parallel loop, and that loop's indentation.
-#[tactic(auto, using(crate::proofs::Putting::putting), unfolding(crate::specs::Nodes::pragma_text))]
+#[tactic(auto, using(crate::proofs::PutTexts::putting), unfolding(crate::specs::Nodes::pragma_text))]
 fn put_pragma(out: &mut Vec<u8>, level: usize) -> Result<(), AllocError>
     ensures { OnOk result (out.new.items ≡ out.old.items ++ pragma_text level) }
 {
@@ -102,7 +102,7 @@ fn put_head_at(
 }
 
 /// Puts what stands in front of a loop, and its line.
-#[tactic(auto, using(crate::proofs::Putting::putting))]
+#[tactic(auto, using(crate::proofs::PutTexts::putting))]
 fn put_opening(
     alloc: Global,
     out: &mut Vec<u8>,
@@ -120,7 +120,7 @@ fn put_opening(
 
 /// Puts nodes, one after another.
 #[cycle(printing)]
-#[tactic(auto, using(crate::proofs::Putting::putting))]
+#[tactic(auto, using(crate::proofs::PutTexts::putting))]
 fn put_nodes(
     nodes: &[Node],
     alloc: Global,
@@ -150,7 +150,7 @@ fn put_nodes(
 
 /// Puts a node behind its indentation.
 #[cycle(printing)]
-#[tactic(auto, using(crate::proofs::Putting::putting))]
+#[tactic(auto, using(crate::proofs::PutTexts::putting))]
 fn put_node(
     node: &Node,
     alloc: Global,
@@ -190,7 +190,7 @@ fn put_node(
 
 /// Puts the body of a loop or a guard at its place, and the closing brace.
 #[cycle(printing)]
-#[tactic(auto, using(crate::proofs::Putting::putting))]
+#[tactic(auto, using(crate::proofs::PutTexts::putting))]
 fn put_body(
     body: &[Node],
     alloc: Global,
@@ -212,7 +212,7 @@ fn put_body(
 }
 
 /// Puts the line of a guard behind its indentation.
-#[tactic(auto, using(crate::proofs::Putting::putting), unfolding(crate::specs::Statements::between))]
+#[tactic(auto, using(crate::proofs::PutTexts::putting), unfolding(crate::specs::Statements::between))]
 fn put_condition(
     alloc: Global,
     out: &mut Vec<u8>,
@@ -232,7 +232,7 @@ fn put_condition(
 ///
 /// # Errors
 /// `AllocError` alone.
-#[tactic(auto, using(crate::proofs::Putting::putting))]
+#[tactic(auto, using(crate::proofs::PutTexts::putting))]
 pub fn print(alloc: Global, kernel: &Kernel, tree: &Tree) -> Result<Vec<u8>, AllocError>
     ensures { IfOk result (λ text. text.items ≡ text_of (program_of kernel.now) (trees_in tree.now)) }
 {

@@ -34,7 +34,7 @@ pub fn strip_between<'a>(
 }
 
 /// What stands behind a text so many times.
-#[tactic(auto, using(crate::proofs::Stepping::stripped_repeatedly))]
+#[tactic(auto, using(crate::proofs::ReadSteps::stripped_repeatedly))]
 pub fn strip_repeated<'a>(text: &'a [u8], piece: &[u8], count: usize) -> Option<&'a [u8]>
     ensures { text_in result ≡ strip (repeated piece.now count) text.now }
 {

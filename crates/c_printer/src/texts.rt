@@ -12,7 +12,7 @@ use scop_syntax::tree::Name;
 use std::alloc::{AllocError, Global};
 
 /// Puts a text between two others.
-#[tactic(auto, using(crate::proofs::Putting::putting), unfolding(crate::specs::Statements::between))]
+#[tactic(auto, using(crate::proofs::PutTexts::putting), unfolding(crate::specs::Statements::between))]
 pub fn put_between(
     out: &mut Vec<u8>,
     front: &[u8],
@@ -27,7 +27,7 @@ pub fn put_between(
 }
 
 /// Puts a text so many times.
-#[tactic(auto, using(crate::proofs::Putting::putting))]
+#[tactic(auto, using(crate::proofs::PutTexts::putting))]
 pub fn put_repeated(out: &mut Vec<u8>, bytes: &[u8], count: usize) -> Result<(), AllocError>
     ensures { OnOk result (out.new.items ≡ out.old.items ++ repeated bytes.now count) }
 {
@@ -66,7 +66,7 @@ pub fn put_signed(
 }
 
 /// The name of the iterator of a loop with so many loops round it.
-#[tactic(auto, using(crate::proofs::Putting::putting))]
+#[tactic(auto, using(crate::proofs::PutTexts::putting))]
 pub fn name_of_loop(alloc: Global, loops: usize) -> Result<Name, AllocError>
     ensures { IfOk result (λ name. name.items ≡ loop_name loops) }
 {

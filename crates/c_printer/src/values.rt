@@ -36,7 +36,7 @@ fn put_operator(
 }
 
 /// Puts a constant.
-#[tactic(auto, using(crate::proofs::Putting::putting))]
+#[tactic(auto, using(crate::proofs::PutTexts::putting))]
 fn put_number(out: &mut Vec<u8>, number: u64) -> Result<(), AllocError>
     ensures { OnOk result (out.new.items ≡ out.old.items ++ constant_value_text number) }
 {
@@ -45,7 +45,7 @@ fn put_number(out: &mut Vec<u8>, number: u64) -> Result<(), AllocError>
 }
 
 /// Puts a form between two texts.
-#[tactic(auto, using(crate::proofs::Putting::putting), unfolding(crate::specs::Statements::between))]
+#[tactic(auto, using(crate::proofs::PutTexts::putting), unfolding(crate::specs::Statements::between))]
 fn put_enclosed(
     out: &mut Vec<u8>,
     names: &[Name],
@@ -62,7 +62,7 @@ fn put_enclosed(
 }
 
 /// Puts `[FORM]` for each form.
-#[tactic(auto, using(crate::proofs::Putting::putting))]
+#[tactic(auto, using(crate::proofs::PutTexts::putting))]
 pub fn put_subscripts(out: &mut Vec<u8>, names: &[Name], forms: &[Aff]) -> Result<(), AllocError>
     ensures { OnOk result (out.new.items
         ≡ out.old.items ++ subscripts_text (map (λ n. n.items) names.now) forms.now) }
@@ -88,7 +88,7 @@ fn put_array_name(out: &mut Vec<u8>, kernel: &Kernel, array: usize) -> Result<()
 }
 
 /// Puts a cell.
-#[tactic(auto, using(crate::proofs::Putting::putting))]
+#[tactic(auto, using(crate::proofs::PutTexts::putting))]
 fn put_access(
     out: &mut Vec<u8>,
     kernel: &Kernel,
@@ -104,7 +104,7 @@ fn put_access(
 
 /// Puts a value, each operator in parentheses with its operands.
 #[cycle(writing)]
-#[tactic(auto, using(crate::proofs::Putting::putting))]
+#[tactic(auto, using(crate::proofs::PutTexts::putting))]
 fn put_value(
     value: &Expr,
     out: &mut Vec<u8>,
@@ -132,7 +132,7 @@ fn put_value(
 
 /// Puts a value behind a text.
 #[cycle(writing)]
-#[tactic(auto, using(crate::proofs::Putting::putting))]
+#[tactic(auto, using(crate::proofs::PutTexts::putting))]
 fn put_behind(
     value: &Expr,
     out: &mut Vec<u8>,
@@ -149,7 +149,7 @@ fn put_behind(
 
 /// Puts a value between two texts.
 #[cycle(writing)]
-#[tactic(auto, using(crate::proofs::Putting::putting), unfolding(crate::specs::Statements::between))]
+#[tactic(auto, using(crate::proofs::PutTexts::putting), unfolding(crate::specs::Statements::between))]
 fn put_within(
     value: &Expr,
     out: &mut Vec<u8>,
@@ -167,7 +167,7 @@ fn put_within(
 
 /// Puts an operator, its second operand and a closing parenthesis.
 #[cycle(writing)]
-#[tactic(auto, using(crate::proofs::Putting::putting))]
+#[tactic(auto, using(crate::proofs::PutTexts::putting))]
 fn put_operand(
     value: &Expr,
     out: &mut Vec<u8>,
@@ -187,7 +187,7 @@ fn put_operand(
 
 /// Puts a shifted value in parentheses.
 #[cycle(writing)]
-#[tactic(auto, using(crate::proofs::Putting::putting))]
+#[tactic(auto, using(crate::proofs::PutTexts::putting))]
 fn put_shifted(
     value: &Expr,
     out: &mut Vec<u8>,
@@ -205,7 +205,7 @@ fn put_shifted(
 }
 
 /// Puts a shift's sign and count, and what stands behind.
-#[tactic(auto, using(crate::proofs::Putting::putting), unfolding(crate::specs::Statements::between))]
+#[tactic(auto, using(crate::proofs::PutTexts::putting), unfolding(crate::specs::Statements::between))]
 fn put_shift(out: &mut Vec<u8>, sign: &[u8], count: u8, end: &[u8]) -> Result<(), AllocError>
     ensures { OnOk result (out.new.items ≡ out.old.items ++ between sign.now (constant_value_text count) end.now) }
 {
@@ -215,7 +215,7 @@ fn put_shift(out: &mut Vec<u8>, sign: &[u8], count: u8, end: &[u8]) -> Result<()
 }
 
 /// Puts what stands behind a place.
-#[tactic(auto, using(crate::proofs::Putting::putting))]
+#[tactic(auto, using(crate::proofs::PutTexts::putting))]
 fn put_right(
     out: &mut Vec<u8>,
     kernel: &Kernel,
@@ -243,7 +243,7 @@ fn put_right(
 }
 
 /// Puts a statement.
-#[tactic(auto, using(crate::proofs::Putting::putting), unfolding(crate::specs::Statements::statement_text))]
+#[tactic(auto, using(crate::proofs::PutTexts::putting), unfolding(crate::specs::Statements::statement_text))]
 pub fn put_statement(
     out: &mut Vec<u8>,
     kernel: &Kernel,

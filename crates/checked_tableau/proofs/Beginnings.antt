@@ -5,8 +5,8 @@ use Rattle.std.specs.Prelude.{Option, None, All}
 use Rattle.std.proofs.lemmas.List.{length-append, map-append}
 use Rattle.wide_math.specs.declared.Wide.{Wide}
 use Rattle.lexmin_runs.specs.Nodes.{longer_row}
-use Rattle.lexmin_runs.proofs.Longer.{longer_tableau, speaks-append}
-use Rattle.checked_tableau.proofs.Looking.{rows_more}
+use Rattle.lexmin_runs.proofs.AddedParameters.{longer_tableau, speaks-append}
+use Rattle.checked_tableau.proofs.RowScans.{rows_more}
 use Rattle.std.proofs.Math.Nat.{suc-mul}
 use Rattle.std.proofs.Math.ListN.{length-set}
 use Rattle.whole_numbers.specs.Affine.{Affine}
@@ -16,7 +16,7 @@ use Rattle.tableau_rows.specs.Rows.{Row, row_of}
 use Rattle.tableau_rows.specs.Problem.{entries_of, unit_rows, given_rows, first_rows, problem_of, Speaks}
 use Rattle.tableau_rows.specs.Moves.{line_row, rows_in, unit_row, unit_line}
 use Rattle.tableau_rows.specs.Solutions.{IsTableau}
-use Rattle.tableau_rows.proofs.Beginning.{length-entries_of, first_tableau}
+use Rattle.tableau_rows.proofs.FirstTableau.{length-entries_of, first_tableau}
 use Rattle.checked_tableau.specs.Lines.{Holds}
 use Rattle.checked_tableau.specs.Table.{IsSound, stride_of}
 use Rattle.checked_tableau.proofs.Tables.{rows_in_more}

@@ -1,6 +1,6 @@
-pub mod Looking
-pub mod Cut_lines
+pub mod RowScans
+pub mod CutLines
 pub mod Tables
 pub mod Beginnings
-pub mod Pivoting
-pub mod Multiplied
+pub mod Pivots
+pub mod MultipliedRows

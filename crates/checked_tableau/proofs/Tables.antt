@@ -16,7 +16,7 @@ use Rattle.tableau_rows.specs.Rows.{Row, entry, Sized}
 use Rattle.tableau_rows.specs.Moves.{line_row, rows_in, row_at, rows_run, cut_run, buffer_run, HeadsPositive}
 use Rattle.checked_tableau.specs.Table.{Table, table_of, IsSound, StopsAt, resumed, stride_of}
 use Rattle.tableau_rows.proofs.Points.{sized_at}
-use Rattle.tableau_rows.proofs.Keeping.{pivot_keeps_tableau, cut_keeps_tableau}
+use Rattle.tableau_rows.proofs.KeptSolutions.{pivot_keeps_tableau, cut_keeps_tableau}
 use Rattle.tableau_rows.specs.Solutions.{IsTableau, IsPlaced}
 use Rattle.checked_tableau.specs.Lines.{behind_columns}
 use Rattle.tableau_rows.proofs.Views.{buffer-view}

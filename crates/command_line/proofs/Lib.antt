@@ -1,4 +1,4 @@
-mod Building
-mod Parsing
-mod Reading
-mod Taking
+mod BuiltCommands
+mod ParseResults
+mod Getters
+mod TakenWords

@@ -56,7 +56,7 @@ fn wanted_number<'a>(alloc: Global, name: &'a str, least: u64, most: u64) -> Arg
 }
 
 /// A command with the options of a run.
-#[tactic(auto, using(crate::proofs::Building::building))]
+#[tactic(auto, using(crate::proofs::BuiltCommands::building))]
 fn with_run_options<'a>(
     alloc: Global,
     command: clap::Command<'a>,
@@ -77,7 +77,7 @@ fn run_command<'a>(alloc: Global) -> Result<clap::Command<'a>, AllocError>
 }
 
 /// The command `gen` with its arguments alone.
-#[tactic(auto, using(crate::proofs::Building::building))]
+#[tactic(auto, using(crate::proofs::BuiltCommands::building))]
 fn gen_arguments<'a>(alloc: Global) -> Result<clap::Command<'a>, AllocError>
     ensures { IfOk result (IsCommand gen_arguments) }
 {
@@ -95,7 +95,7 @@ fn gen_command<'a>(alloc: Global) -> Result<clap::Command<'a>, AllocError>
 }
 
 /// A command of this name with the option `--budget`.
-#[tactic(auto, using(crate::proofs::Building::building))]
+#[tactic(auto, using(crate::proofs::BuiltCommands::building))]
 fn budget_command<'a>(alloc: Global, name: &'a str) -> Result<clap::Command<'a>, AllocError>
     ensures { IfOk result (IsCommand (budget_tool name.entry.now)) }
 {
@@ -103,7 +103,7 @@ fn budget_command<'a>(alloc: Global, name: &'a str) -> Result<clap::Command<'a>,
 }
 
 /// The command `emit`.
-#[tactic(auto, using(crate::proofs::Building::building))]
+#[tactic(auto, using(crate::proofs::BuiltCommands::building))]
 fn emit_command<'a>(alloc: Global) -> Result<clap::Command<'a>, AllocError>
     ensures { IfOk result (IsCommand emit_tool) }
 {
@@ -112,7 +112,7 @@ fn emit_command<'a>(alloc: Global) -> Result<clap::Command<'a>, AllocError>
 }
 
 /// The stated command without its commands, of which it wants one.
-#[tactic(auto, using(crate::proofs::Building::building))]
+#[tactic(auto, using(crate::proofs::BuiltCommands::building))]
 fn bare<'a>(alloc: Global) -> clap::Command<'a>
     ensures { IsCommand bare_tool result }
 {
@@ -122,7 +122,7 @@ fn bare<'a>(alloc: Global) -> clap::Command<'a>
 }
 
 /// A command with those that ask of a kernel alone.
-#[tactic(auto, using(crate::proofs::Building::building))]
+#[tactic(auto, using(crate::proofs::BuiltCommands::building))]
 fn with_kernel_commands<'a>(
     alloc: Global,
     command: clap::Command<'a>,

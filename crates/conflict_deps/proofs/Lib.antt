@@ -3,5 +3,5 @@ pub mod Sides
 pub mod Pairs
 pub mod Sources
 pub mod Shapes
-pub mod Gathering
+pub mod GatheredDependences
 pub mod Parts

@@ -22,7 +22,7 @@ use Rattle.iteration_domains.proofs.Points.{hold_append, hold_front, hold_back, 
 use Rattle.iteration_domains.proofs.Points.{hold_tests}
 use Rattle.iteration_domains.proofs.RowLaws.{GoesOn, goes_on, goes_on_last, rows_run, run_rows, values-variables}
 use Rattle.iteration_domains.proofs.Instances.{WalkLaws, cell_of-access}
-use Rattle.iteration_domains.proofs.Placing.{statement_accesses}
+use Rattle.iteration_domains.proofs.TreeStatements.{statement_accesses}
 use Rattle.conflict_deps.specs.Conflicts.{Side, loops_of, source_form, target_form, map_test, After, pair_size}
 use Rattle.conflict_deps.specs.Conflicts.{source_rows, target_rows, cell_rows, parameter_rows, tests_between}
 use Rattle.conflict_deps.specs.Conflicts.{system_between, dep_of, afters_of, may_conflict, conflicts_of}

@@ -17,7 +17,7 @@ use Rattle.iteration_domains.specs.Constraints.{equalities_in, rows_in, tests_of
 use Rattle.iteration_domains.specs.Rows.{variable, variables}
 use Rattle.iteration_domains.specs.Sizes.{size, form_size, IsNarrow}
 use Rattle.iteration_domains.proofs.Points.{equalities_in-append, rows_in-append}
-use Rattle.iteration_domains.proofs.Entering.{length-variable, sized-variables}
+use Rattle.iteration_domains.proofs.Surroundings.{length-variable, sized-variables}
 use Rattle.iteration_domains.proofs.Sizes.{size-sum, size-multiple, size-variable, size-zeros}
 use Rattle.conflict_deps.specs.Conflicts.{Side, loops_of, difference_of_forms, spread, source_form, target_form}
 use Rattle.conflict_deps.specs.Conflicts.{map_test, same_subscripts, step, equal_turns, one_form, later_turn, After}

@@ -1,4 +1,4 @@
-pub mod Standing
-pub mod Sorting
-mod Commuting
-mod Alike
+pub mod Precedence
+pub mod SortedLists
+mod Commutation
+mod SameContents

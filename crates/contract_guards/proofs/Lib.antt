@@ -1,2 +1,2 @@
-pub mod Lexed
+pub mod LexedTexts
 pub mod Turns

@@ -38,7 +38,7 @@ fn put_cells<K: Sink>(pieces: &mut Pieces, sink: &mut K, cells: &[u64]) -> Resul
 }
 
 /// Puts `NAME =`.
-#[tactic(auto, using(io_ports::proofs::Writing::putting))]
+#[tactic(auto, using(io_ports::proofs::PutTexts::putting))]
 fn put_name<K: Sink>(pieces: &mut Pieces, sink: &mut K, name: &[u8]) -> Result<(), Failed>
     ensures { Puts (K.shows sink.old) pieces.old (K.shows sink.new) pieces.new (name.now ++ codes " =") result }
 {
@@ -48,7 +48,7 @@ fn put_name<K: Sink>(pieces: &mut Pieces, sink: &mut K, name: &[u8]) -> Result<(
 }
 
 /// Puts the name and the cells of an array.
-#[tactic(auto, using(io_ports::proofs::Writing::putting))]
+#[tactic(auto, using(io_ports::proofs::PutTexts::putting))]
 fn put_array<K: Sink>(
     pieces: &mut Pieces,
     sink: &mut K,
@@ -63,7 +63,7 @@ fn put_array<K: Sink>(
 }
 
 /// Puts the line of an array.
-#[tactic(auto, using(io_ports::proofs::Writing::putting))]
+#[tactic(auto, using(io_ports::proofs::PutTexts::putting))]
 fn put_row<K: Sink>(
     pieces: &mut Pieces,
     sink: &mut K,

@@ -21,9 +21,9 @@ use Rattle.quast_joins.specs.Joins.{join}
 use Rattle.dataflow.specs.Candidates.{TurnsAtMost, IsAmong, IsWanted, Writes, Finds, joined}
 use Rattle.scop_syntax.proofs.Members.{nat_cases}
 use Rattle.scop_syntax.proofs.Order.{own_order}
-use Rattle.dataflow.proofs.Choosing.{chosen_names, best_of_two}
+use Rattle.dataflow.proofs.Choices.{chosen_names, best_of_two}
 use Rattle.quast_joins.proofs.Values.{join-value}
-use Rattle.quast_joins.proofs.Speaking.{join-speaks}
+use Rattle.quast_joins.proofs.Variables.{join-speaks}
 
 not_both : (xs ys : List ℤ) → LexLess xs ys → LexLe ys xs → ⊥
 not_both xs ys h k = LexLess-irrefl xs (LexLess-from_le xs ys xs h k)

@@ -18,8 +18,8 @@ use Rattle.iteration_domains.specs.Model.{Modelled, access_over, modelled, model
 use Rattle.iteration_domains.specs.Sizes.{form_size, forms_size, grown}
 use Rattle.iteration_domains.proofs.Sizes.{size-zeros, size-variable, size-variables}
 use Rattle.iteration_domains.proofs.Sizes.{size-composed, sizes-within}
-use Rattle.iteration_domains.proofs.Entering.{grown_more, grown_up, grown_five, length-variables}
-use Rattle.iteration_domains.proofs.Placing.{statement_accesses}
+use Rattle.iteration_domains.proofs.Surroundings.{grown_more, grown_up, grown_five, length-variables}
+use Rattle.iteration_domains.proofs.TreeStatements.{statement_accesses}
 use Rattle.conflict_deps.specs.Conflicts.{Side, sides_of, sides_in, loops_of, source_form, target_form}
 use Rattle.conflict_deps.specs.Conflicts.{map_test, same_subscripts, step, equal_turns}
 use Rattle.conflict_deps.specs.Conflicts.{one_form, later_turn, After, afters, pair_size, source_rows}

@@ -18,7 +18,7 @@ use Rattle.expression_grammar.proofs.Drives.{drives}
 use Rattle.expression_grammar.proofs.Frames.{Frame, left, sign, casting, grouping, indexing, calling, front, place}
 use Rattle.expression_grammar.proofs.Frames.{held_of, nodes_of, brackets_of, used_of, peak, Sound, plug, ending}
 use Rattle.expression_grammar.proofs.Frames.{plug_tokens, plug_sound, plug_depth, plug_operators, demand_most}
-use Rattle.expression_grammar.proofs.Folding.{Folded, fold_frames}
+use Rattle.expression_grammar.proofs.FrameFolds.{Folded, fold_frames}
 use Rattle.expression_grammar.proofs.Shapes.{Shape, want, cast_word, done, state_of, read_of, IsSound, most, Stands}
 
 pub brackets_peak : (fs : List Frame) → brackets_of fs ≤ peak fs

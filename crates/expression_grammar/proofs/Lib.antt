@@ -1,11 +1,11 @@
 pub mod Runs
 pub mod Drives
 pub mod Frames
-pub mod Folding
+pub mod FrameFolds
 pub mod Shapes
-pub mod Reached
+pub mod RunEnds
 pub mod Fronts
-pub mod Reading
-pub mod Reducing
-pub mod Running
-pub mod Telling
+pub mod MachineAnswers
+pub mod Reductions
+pub mod MachineLoop
+pub mod ReaderAnswers

@@ -26,7 +26,7 @@ use Rattle.expression_grammar.proofs.Runs.{level_most, last_of}
 use Rattle.expression_grammar.proofs.Frames.{Frame, left, sign as sign_frame, casting, grouping, indexing, calling}
 use Rattle.expression_grammar.proofs.Frames.{front, place, held_of, nodes_of, brackets_of, used_of, peak, Sound}
 use Rattle.expression_grammar.proofs.Frames.{demand_most}
-use Rattle.expression_grammar.proofs.Folding.{Folded, fold_frames}
+use Rattle.expression_grammar.proofs.FrameFolds.{Folded, fold_frames}
 
 -- an operand is wanted, or a cast's word was read, or a tree is in hand, to be taken up by what follows
 pub data Shape : Type 0 where

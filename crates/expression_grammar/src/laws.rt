@@ -11,7 +11,7 @@ pub fn tokens_spell_one_tree()
 {}
 
 /// Each expression within the limits is read, as its own nodes.
-#[tactic(auto, using(crate::proofs::Reading::spelled_read))]
+#[tactic(auto, using(crate::proofs::MachineAnswers::spelled_read))]
 pub fn expressions_are_read()
     ensures { (d n : ℕ) (ts : List Token) (t : Tree) → Spells d n ts t → read d n ts ≡ Ok (written 0 t, length ts) }
 {}

@@ -96,7 +96,7 @@ fn demand(held: &Stack) -> usize
 }
 
 // Gives the operators that bind tighter than `least` what is complete as their right operand.
-#[tactic(auto, using(crate::proofs::Reducing::reducing))]
+#[tactic(auto, using(crate::proofs::Reductions::reducing))]
 fn reduce(least: usize, held: &mut Stack, nodes: &mut Vec<Node>) -> Result<(), AllocError>
     ensures { OnOk result (reduced least held.old nodes.old.items ≡ (held.new, nodes.new.items)) }
 {
@@ -466,7 +466,7 @@ fn run(alloc: Global, tokens: &[Token]) -> Result<Expression, Stop>
 /// The first fault: `Unfit` at the first token with which no text goes on so, however deep, where the tokens before
 /// it are no expression; `Unended` where every token fits and the tokens end too early; `Depth` at the first token
 /// that only a text beyond the limits has. `NoMemory` may come wherever memory is taken.
-#[tactic(auto, using(crate::proofs::Telling::telling))]
+#[tactic(auto, using(crate::proofs::ReaderAnswers::telling))]
 pub fn read(alloc: Global, tokens: &[Token]) -> Result<Expression, Stop>
     ensures expression { IfOk result (λ e. IsRead MOST_BRACKETS MOST_OPERATORS tokens.now e.nodes.items e.count) }
     ensures stop { IfErr result (IsStop MOST_BRACKETS MOST_OPERATORS tokens.now) }

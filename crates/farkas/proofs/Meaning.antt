@@ -13,8 +13,8 @@ use Rattle.affine_forms.specs.Parts.{variables_of}
 use Rattle.fractions.specs.Fractions.{HoldsOver}
 use Rattle.fractions.specs.Farkas.{HasFarkas, Leaves, matched_from, own_rows, two_rows}
 use Rattle.fractions.proofs.Combination.{farkas_of_system}
-use Rattle.fractions.proofs.Leaving.{left_is_farkas}
-use Rattle.fractions.proofs.Over.{value_over-one}
+use Rattle.fractions.proofs.RemainingPoints.{left_is_farkas}
+use Rattle.fractions.proofs.PointValues.{value_over-one}
 use Rattle.integer_sets.specs.Constraints.{Constraints, IsSized, variables_in}
 use Rattle.fm_projection.proofs.Law.{whole_point}
 use Rattle.farkas.specs.declared.claim.Claim.{Claim}
@@ -29,8 +29,8 @@ use Rattle.farkas.specs.Meaning.{phi, rows_of, IsFarkas, IsTaken, IsInstance, Ke
 use Rattle.farkas.proofs.Chains.{then-ok, formed-ok}
 use Rattle.farkas.proofs.Columns.{matching_is, multipliers_are, matched_sized, matched_homogeneous, own_rows_speak}
 use Rattle.farkas.proofs.Columns.{own_rows_homogeneous}
-use Rattle.farkas.proofs.Leading.{left-leaves}
-use Rattle.farkas.proofs.Claiming.{linear_sized, linear_length, constant_length, claimed_is, claimed_value}
+use Rattle.farkas.proofs.FarkasRows.{left-leaves}
+use Rattle.farkas.proofs.ClaimedForms.{linear_sized, linear_length, constant_length, claimed_is, claimed_value}
 
 two_rows_sized : (n : ℕ) (es : List Affine) → All (λ f. variables_of f ≡ n) es
     → All (λ g. length g.coefficients ≤ n) (two_rows es)

@@ -16,7 +16,7 @@ use iteration_domains::DepEnd;
 
 /// At each point of source, target and parameters a claimed form is the bound, the source's row and the target's row,
 /// each with its factor: so the legality form is the distance, and the bounding form what the bound leaves of it.
-#[tactic(auto, using(crate::proofs::Claiming::value_laws))]
+#[tactic(auto, using(crate::proofs::ClaimedForms::value_laws))]
 pub fn claimed_forms_are_distances()
     ensures { (claim : Claim) (source target : DepEnd) (p : ℕ) (unknowns i j q : List ℤ)
         → length i ≡ source.loops

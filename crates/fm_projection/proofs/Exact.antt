@@ -10,12 +10,12 @@ use Rattle.whole_numbers.specs.Lists.{multiples}
 use Rattle.whole_numbers.proofs.Dot.{length-multiples, length-sums}
 use Rattle.std.proofs.lemmas.List.{length-map, map-append}
 use Rattle.std.proofs.lemmas.List.Elements.{All-head, All-tail}
-use Rattle.fractions.proofs.Keeping.{eliminated_all, sums_carry}
-use Rattle.fractions.proofs.Eliminated.{taken_out}
+use Rattle.fractions.proofs.CarriedProperties.{eliminated_all, sums_carry}
+use Rattle.fractions.proofs.SystemElimination.{taken_out}
 use Rattle.fractions.specs.Elimination.{coefficient_of, is_zero, is_not_zero, is_positive, is_negative, chosen}
 use Rattle.fractions.specs.Elimination.{combined, paired, pairs, projected_rows, sign, reduced, reduced_all}
 use Rattle.fractions.specs.Elimination.{first_with, eliminated_by, eliminated}
-use Rattle.fractions.proofs.Chosen.{chosen_from}
+use Rattle.fractions.proofs.ChosenRows.{chosen_from}
 use Rattle.wide_math.specs.declared.Wide.{Wide}
 use Rattle.wide_math.specs.Checked.{difference_of, product_of, ◌>>=◌}
 use Rattle.wide_math.proofs.Steps.{difference_of-ok, product_of-ok, chain-ok}

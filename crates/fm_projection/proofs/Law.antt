@@ -2,9 +2,9 @@
 use Rattle.std.proofs.Common.{◌≡◌, ℕ, ◌<◌, ℤ, pos, ◌≤ℤ◌, List, get_or, ◌↔◌, sym, ◌∙◌, subst, arith}
 use Rattle.std.specs.Prelude.{Ok}
 use Rattle.fractions.specs.Fractions.{HoldsOver}
-use Rattle.fractions.proofs.Over.{value_over-one}
-use Rattle.fractions.proofs.Eliminated.{elimination_is_exact}
-use Rattle.fractions.proofs.Absent.{eliminated_absent}
+use Rattle.fractions.proofs.PointValues.{value_over-one}
+use Rattle.fractions.proofs.SystemElimination.{elimination_is_exact}
+use Rattle.fractions.proofs.AbsentVariables.{eliminated_absent}
 use Rattle.integer_sets.specs.Constraints.{Constraints, IsSized, variables_in}
 use Rattle.integer_sets.specs.Points.{Satisfies}
 use Rattle.fm_projection.specs.Runs.{eliminated_run}

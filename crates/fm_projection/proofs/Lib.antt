@@ -1,10 +1,10 @@
-pub mod Joined
+pub mod JoinedLists
 pub mod Loops
 pub mod Exact
 pub mod Law
-pub mod Narrowing
-pub mod Following
-pub mod Passing
-pub mod Ranging
+pub mod RemovedEntries
+pub mod WholePoints
+pub mod EliminationRuns
+pub mod RangeRows
 pub mod Ranges
-pub mod Between
+pub mod FractionPoints

@@ -14,7 +14,7 @@ use Rattle.wide_math.specs.Checked.{◌>>=◌}
 use Rattle.affine_forms.specs.declared.stop.FormStop.{FormStop}
 use Rattle.affine_forms.specs.declared.stop.FormStop.TheVariants as stop
 use Rattle.affine_forms.specs.Gives.{Fails}
-use Rattle.fm_projection.proofs.Joined.{chain-stop}
+use Rattle.fm_projection.proofs.JoinedLists.{chain-stop}
 use Rattle.fm_projection.specs.Runs.{behind, forms_run, pair_run, pairs_run, place_of, single}
 
 -- the tests by the order of whole numbers

@@ -14,10 +14,10 @@ use Rattle.integer_sets.specs.Constraints.{Constraints, IsSized, variables_in}
 use Rattle.integer_sets.specs.Points.{Satisfies}
 use Rattle.fm_projection.specs.Projecting.{all_gone}
 use Rattle.fm_projection.specs.Alone.{place_form, range_rows, ranged, last_alone, AreInRange}
-use Rattle.fm_projection.proofs.Following.{one_more}
-use Rattle.fm_projection.proofs.Between.{all_to}
+use Rattle.fm_projection.proofs.WholePoints.{one_more}
+use Rattle.fm_projection.proofs.FractionPoints.{all_to}
 use Rattle.fm_projection.proofs.Law.{whole_point}
-use Rattle.fm_projection.proofs.Ranging.{least_row, most_row}
+use Rattle.fm_projection.proofs.RangeRows.{least_row, most_row}
 
 -- a list of n entries: the first of xs, then zeros
 abbrev pub fitted : ℕ → List ℤ → List ℤ

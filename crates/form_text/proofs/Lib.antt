@@ -3,6 +3,6 @@ pub mod Terms
 pub mod Forms
 pub mod Ends
 pub mod Names
-pub mod Putting
+pub mod PutTexts
 pub mod Calls
-pub mod Stripping
+pub mod StrippedFronts

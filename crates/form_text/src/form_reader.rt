@@ -96,7 +96,7 @@ fn name_len(text: &[u8]) -> usize
 }
 
 /// The longest run of bytes of names, and what stands behind it.
-#[tactic(auto, using(crate::proofs::Stripping::stripping))]
+#[tactic(auto, using(crate::proofs::StrippedFronts::stripping))]
 fn name<'a>(text: &'a [u8]) -> (&'a [u8], &'a [u8])
     ensures name { result.0.now ≡ name_in_front text.now }
     ensures behind { result.1.now ≡ behind_name text.now }
@@ -105,7 +105,7 @@ fn name<'a>(text: &'a [u8]) -> (&'a [u8], &'a [u8])
 }
 
 /// A number times the name in front, unless it is called.
-#[tactic(auto, using(crate::proofs::Stripping::naming))]
+#[tactic(auto, using(crate::proofs::StrippedFronts::naming))]
 fn named<'a>(number: u128, text: &'a [u8]) -> Option<Factor<'a>>
     ensures { factor_in result ≡ named number text.now }
 {
@@ -138,7 +138,7 @@ fn numbered<'a>(number: u128, text: &'a [u8]) -> Option<Factor<'a>>
 }
 
 /// A number, a number times a name, or a name.
-#[tactic(auto, using(crate::proofs::Stripping::saturating))]
+#[tactic(auto, using(crate::proofs::StrippedFronts::saturating))]
 fn read_factor<'a>(text: &'a [u8]) -> Option<Factor<'a>>
     ensures { factor_in result ≡ saturated_factor (factor_in_front text.now) }
 {
@@ -181,7 +181,7 @@ fn minus<'a>(factor: Factor<'a>) -> Option<Term<'a>>
 }
 
 /// The positive term in front.
-#[tactic(auto, using(crate::proofs::Stripping::saturating))]
+#[tactic(auto, using(crate::proofs::StrippedFronts::saturating))]
 fn read_plus<'a>(text: &'a [u8]) -> Option<Term<'a>>
     ensures { term_in result ≡ when (factor_in_front text.now) plus }
 {
@@ -192,7 +192,7 @@ fn read_plus<'a>(text: &'a [u8]) -> Option<Term<'a>>
 }
 
 /// The negative term in front, behind its sign.
-#[tactic(auto, using(crate::proofs::Stripping::saturating))]
+#[tactic(auto, using(crate::proofs::StrippedFronts::saturating))]
 fn read_minus<'a>(text: &'a [u8]) -> Option<Term<'a>>
     ensures { term_in result ≡ when (factor_in_front text.now) minus }
 {

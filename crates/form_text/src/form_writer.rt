@@ -22,7 +22,7 @@ pub fn put_bytes(out: &mut Vec<u8>, bytes: &[u8]) -> Result<(), AllocError>
 }
 
 /// Puts a number times a name, or the number alone where there is no name.
-#[tactic(auto, using(crate::proofs::Putting::putting))]
+#[tactic(auto, using(crate::proofs::PutTexts::putting))]
 fn put_factor(out: &mut Vec<u8>, number: u128, name: &[u8]) -> Result<(), AllocError>
     ensures { OnOk result (out.new.items ≡ out.old.items ++ factor_text number name.now) }
 {
@@ -61,7 +61,7 @@ fn put_sign(out: &mut Vec<u8>, front: bool, coefficient: i128) -> Result<(), All
 }
 
 /// Puts a term that is not 0 in front of all terms or behind some.
-#[tactic(auto, using(crate::proofs::Putting::putting))]
+#[tactic(auto, using(crate::proofs::PutTexts::putting))]
 fn put_nonzero(
     out: &mut Vec<u8>,
     front: bool,
@@ -82,7 +82,7 @@ fn put_nonzero(
 ///
 /// # Errors
 /// Memory ran out.
-#[tactic(auto, using(crate::proofs::Putting::putting))]
+#[tactic(auto, using(crate::proofs::PutTexts::putting))]
 pub fn put_term(
     out: &mut Vec<u8>,
     front: bool,
@@ -105,7 +105,7 @@ pub fn put_term(
 ///
 /// # Errors
 /// Memory ran out.
-#[tactic(auto, using(crate::proofs::Putting::putting))]
+#[tactic(auto, using(crate::proofs::PutTexts::putting))]
 pub fn put_constant(out: &mut Vec<u8>, front: bool, constant: i128) -> Result<(), AllocError>
     ensures { OnOk result (out.new.items ≡ out.old.items ++ constant_text front constant) }
 {
@@ -119,7 +119,7 @@ pub fn put_constant(out: &mut Vec<u8>, front: bool, constant: i128) -> Result<()
 ///
 /// # Errors
 /// Memory ran out.
-#[tactic(auto, using(crate::proofs::Putting::putting), unfolding(crate::specs::Forms::form_text))]
+#[tactic(auto, using(crate::proofs::PutTexts::putting), unfolding(crate::specs::Forms::form_text))]
 pub fn put_form(
     out: &mut Vec<u8>,
     names: &[Vec<u8>],

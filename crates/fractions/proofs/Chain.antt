@@ -10,16 +10,16 @@ use Rattle.std.proofs.Math.Seq.{set-append_seam}
 use Rattle.std.proofs.lemmas.List.Elements.{All-map}
 use Rattle.whole_numbers.proofs.Lists.{multiples-append, multiples-multiples, multiples-one}
 use Rattle.whole_numbers.proofs.Order.{mul_positive}
-use Rattle.fractions.proofs.Over.{value_over-scaled}
-use Rattle.fractions.proofs.Reduce.{zero_scales, least_scales}
+use Rattle.fractions.proofs.PointValues.{value_over-scaled}
+use Rattle.fractions.proofs.EqualityElimination.{zero_scales, least_scales}
 use Rattle.whole_numbers.proofs.Ring.{mul_assoc_int, mul_one_left}
 use Rattle.whole_numbers.proofs.Dot.{length-multiples}
 use Rattle.whole_numbers.proofs.Entries.{all_unmapped}
 use Rattle.fractions.specs.Fractions.{value_over, HoldsOver, HoldsForSome}
 use Rattle.fractions.specs.Elimination.{removed, narrowed, eliminated}
 use Rattle.fractions.specs.Farkas.{HoldsForSomeMore}
-use Rattle.fractions.proofs.Eliminated.{elimination_is_exact}
-use Rattle.fractions.proofs.Absent.{IsAbsent, eliminated_absent}
+use Rattle.fractions.proofs.SystemElimination.{elimination_is_exact}
+use Rattle.fractions.proofs.AbsentVariables.{IsAbsent, eliminated_absent}
 
 -- a column that is not had may be dropped
 dot-removed : (front : List ℤ) (x : ℤ) (back cs : List ℤ) → get_or cs (length front) (pos 0) ≡ pos 0

@@ -13,7 +13,7 @@ use Rattle.whole_numbers.proofs.Dot.{get_or-sums, get_or-multiples, dot-nil}
 use Rattle.fractions.specs.Fractions.{value_over, HoldsOver}
 use Rattle.fractions.specs.Elimination.{coefficient_of}
 use Rattle.fractions.specs.Farkas.{two_rows, combination, AreNotNegative, HasFarkas}
-use Rattle.fractions.proofs.Over.{value_over-sum, value_over-multiple}
+use Rattle.fractions.proofs.PointValues.{value_over-sum, value_over-multiple}
 
 -- a combination of rows that are not negative is not negative
 pub combination_not_negative : (ms : List ℤ) (gs : List Affine) (d : ℤ) (xs : List ℤ) → AreNotNegative ms

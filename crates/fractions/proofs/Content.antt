@@ -9,7 +9,7 @@ use Rattle.whole_numbers.proofs.Order.{cancel_le, cancel_eq, mul_not_negative}
 use Rattle.whole_numbers.proofs.Ring.{mul_zero_right}
 use Rattle.whole_numbers.specs.Content.{content_of_form, lowest_of_form}
 use Rattle.fractions.specs.Fractions.{value_over, HoldsOver}
-use Rattle.fractions.proofs.Over.{value_over-multiple}
+use Rattle.fractions.proofs.PointValues.{value_over-multiple}
 use Rattle.whole_numbers.proofs.Lowest.{lowest_of_form_is, lowest_form_stays}
 use Rattle.whole_numbers.proofs.Entries.{all_unmapped}
 

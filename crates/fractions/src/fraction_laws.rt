@@ -9,7 +9,7 @@ ghost use Rattle.fractions.specs.Farkas.{HoldsForSomeMore};
 
 /// Over the denominator 1 a value is that at a whole point; a factor on numerators and denominator is one on the
 /// value.
-#[tactic(auto, using(crate::proofs::Over::over_laws))]
+#[tactic(auto, using(crate::proofs::PointValues::over_laws))]
 pub fn values_over_a_denominator()
     ensures whole { (f : Affine) (xs : List ℤ) → value_over f (pos 1) xs ≡ value_of f xs }
     ensures scaled { (f : Affine) (k d : ℤ) (xs : List ℤ)

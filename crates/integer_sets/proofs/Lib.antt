@@ -1,3 +1,3 @@
 pub mod PointLaws
 pub mod PointOrder
-pub mod Stopping
+pub mod RunStops

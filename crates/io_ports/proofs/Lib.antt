@@ -1,3 +1,3 @@
-pub mod Counting
-pub mod Reading
-pub mod Writing
+pub mod CalmCalls
+pub mod MemoryReads
+pub mod PutTexts

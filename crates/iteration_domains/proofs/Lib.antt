@@ -2,7 +2,7 @@ pub mod Points
 pub mod RowLaws
 pub mod Instances
 pub mod Sizes
-pub mod Small
-pub mod Entering
-pub mod Placing
-pub mod Restricting
+pub mod SmallRuns
+pub mod Surroundings
+pub mod TreeStatements
+pub mod AddedConstraints

@@ -17,7 +17,7 @@ use Rattle.scop_syntax.specs.Kernel.{AreTrees, IsAccess, IsAffine, IsKernel}
 use Rattle.scop_syntax.specs.Limits.{WithinLimits}
 use Rattle.kernel_gen.specs.Programs.{chain, chain_body, chained, digit, linked, upwards}
 use Rattle.kernel_gen.proofs.Forms.{IsParameter, IsPositive, all_one, declared, in_order, is_form, is_head, positive}
-use Rattle.kernel_gen.proofs.Inside.{PlacedInside, inside_by}
+use Rattle.kernel_gen.proofs.InsideAccesses.{PlacedInside, inside_by}
 
 digit_small : (seed at : ℕ) → digit seed at < 4
 unfolding digit

@@ -1,7 +1,7 @@
 mod Chains
 mod Counts
 mod Forms
-mod Inside
+mod InsideAccesses
 mod Products
 mod Sizes
 mod Sweeps

@@ -14,7 +14,7 @@ use Rattle.scop_syntax.specs.Limits.{WithinLimits}
 use Rattle.kernel_gen.specs.Programs.{product, place, upwards, i_of_cube, j_of_cube, k_of_cube}
 use Rattle.kernel_gen.proofs.Forms.{IsParameter, IsPositive, all_one, all_two, declared, in_order, is_form, is_head}
 use Rattle.kernel_gen.proofs.Forms.{positive}
-use Rattle.kernel_gen.proofs.Inside.{PlacedInside, inside_by}
+use Rattle.kernel_gen.proofs.InsideAccesses.{PlacedInside, inside_by}
 
 -- a value from 0 to below n
 abbrev IsBelow : ℕ → ℤ → Type 0

@@ -13,7 +13,7 @@ use Rattle.scop_syntax.specs.Limits.{WithinLimits}
 use Rattle.kernel_gen.specs.Programs.{near, sweep, upwards}
 use Rattle.kernel_gen.proofs.Forms.{IsParameter, IsPositive, all_one, all_two, declared, in_order, is_form, is_head}
 use Rattle.kernel_gen.proofs.Forms.{positive}
-use Rattle.kernel_gen.proofs.Inside.{PlacedInside, inside_by}
+use Rattle.kernel_gen.proofs.InsideAccesses.{PlacedInside, inside_by}
 
 abbrev body : Statement
 body = record {

@@ -1,11 +1,11 @@
 pub mod Paths
-pub mod Accepts
+pub mod AcceptedTrees
 pub mod Drives
 pub mod Parses
 pub mod Headers
 pub mod Tails
-pub mod Keeps
-pub mod Reading
-pub mod Wider
-pub mod Running
-pub mod Behind
+pub mod SpotInvariant
+pub mod MachineAnswers
+pub mod WiderLimits
+pub mod MachineLoop
+pub mod FrontPieces

@@ -7,7 +7,7 @@ use Rattle.schedule_rows.specs.Items.{Block}
 use Rattle.schedule_rows.specs.Next.{State}
 use Rattle.schedule_rows.specs.Outcomes.{Outcome, ends, goes, IsSchedule, Next, Runs, state}
 use Rattle.schedule_rows.specs.Schedule.{Scheduled, IsScheduled, loops_in}
-use Rattle.schedule_rows.proofs.Determined.{restricts_unique}
+use Rattle.schedule_rows.proofs.Determinism.{restricts_unique}
 use Rattle.pluto_search.specs.Questions.{ComesAnswered}
 use Rattle.pluto_search.specs.Searching.{Searches}
 use Rattle.report_text.specs.ScheduleText.{schedule_text, IsTextOf}

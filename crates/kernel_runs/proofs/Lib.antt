@@ -2,4 +2,4 @@ pub mod Cells
 pub mod Steps
 pub mod Cores
 pub mod Members
-pub mod Ending
+pub mod FinalCells

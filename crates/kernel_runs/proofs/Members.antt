@@ -6,7 +6,7 @@ use Rattle.scop_syntax.specs.Walk.{Instance}
 use Rattle.loop_tree.specs.Plans.{AreInOrder, walked}
 use Rattle.loop_tree.specs.Tiling.{Tiling, kept, tiled}
 use Rattle.tile_list.specs.Counting.{HasValues}
-use Rattle.tile_list.proofs.Counting.{same_values}
+use Rattle.tile_list.proofs.Counts.{same_values}
 
 -- instances in a plan's order are the walked ones
 pub in_walk : (program : Program) (params : List ℤ) (plan : Tiling) (xs : List Instance)

@@ -12,7 +12,7 @@ use Rattle.lexmin_runs.specs.Nodes.{part_of, all_zero, place_of, opposite_run, u
 use Rattle.lexmin_runs.specs.Nodes.{below_somewhere, above_somewhere, broken_somewhere, first_asked, leaf_tree, side}
 use Rattle.lexmin_runs.specs.Nodes.{split, with_rows, pivot, taken_off, bound_node, cut_bound, cut, cut_or_leaf}
 use Rattle.lexmin_runs.specs.Nodes.{pivot_or_empty, treated, looked, step}
-use Rattle.lexmin_runs.proofs.Asking.{chained-ok, formed-ok, same_first}
+use Rattle.lexmin_runs.proofs.QuestionAnswers.{chained-ok, formed-ok, same_first}
 use Rattle.quast_trees.specs.Tree.{initial}
 
 -- what is paid for

@@ -16,10 +16,10 @@ use Rattle.whole_numbers.proofs.Ring.{mul_zero_left, mul_comm_int, mul_neg_left}
 use Rattle.tableau_rows.specs.Rows.{Row}
 use Rattle.tableau_rows.specs.Moves.{cut_entries}
 use Rattle.tableau_rows.specs.Solutions.{IsTied}
-use Rattle.tableau_rows.proofs.Cutting.{length-cut, remainder_in, cut_constant}
+use Rattle.tableau_rows.proofs.Cuts.{length-cut, remainder_in, cut_constant}
 use Rattle.lexmin_runs.specs.Nodes.{Bound, longer_row, is_zero, all_zero, same_list, is_bound_as, place_of, taken_off}
 use Rattle.lexmin_runs.specs.Solutions.{AreBound}
-use Rattle.lexmin_runs.proofs.Longer.{dot-same, zero_true, dot-behind, value-constant}
+use Rattle.lexmin_runs.proofs.AddedParameters.{dot-same, zero_true, dot-behind, value-constant}
 
 -- what a cut takes off is not negative, and is what the cut's row has without columns
 pub dot-neg : (zs p : List ℤ) → dot (map neg_ℤ zs) p ≡ pos 0 -ℤ dot zs p

@@ -19,12 +19,12 @@ use Rattle.integer_sets.specs.Constraints.{Constraints, variables_in, IsSized}
 use Rattle.tableau_rows.specs.Problem.{problem_of, row_values, IsPoint, Speaks}
 use Rattle.tableau_rows.specs.Run.{point, none, Outcome, question}
 use Rattle.tableau_rows.proofs.Points.{not_negative-parts}
-use Rattle.tableau_rows.proofs.Answering.{question-right}
+use Rattle.tableau_rows.proofs.Verdicts.{question-right}
 use Rattle.lexmin_runs.specs.Nodes.{opposites_run}
 use Rattle.lexmin_runs.specs.Emptiness.{negated_run, equality_rows_run, bound_rows, posed_run, emptied, empty_run}
 use Rattle.lexmin_runs.specs.Emptiness.{IsBoundedPoint, HasBoundedPoint}
-use Rattle.lexmin_runs.proofs.Longer.{row_values-append, speaks-append}
-use Rattle.lexmin_runs.proofs.Asking.{opposites-dot, formed-ok, same_first}
+use Rattle.lexmin_runs.proofs.AddedParameters.{row_values-append, speaks-append}
+use Rattle.lexmin_runs.proofs.QuestionAnswers.{opposites-dot, formed-ok, same_first}
 
 pub negated-value : (f g : Affine) (z : List ℤ) → negated_run f ≡ Ok g
     → (value_of g z ≡ pos 0 -ℤ value_of f z) × (length g.coefficients ≡ length f.coefficients)

@@ -16,7 +16,8 @@ use Rattle.tableau_rows.specs.Problem.{row_values, Speaks}
 use Rattle.tableau_rows.specs.Run.{point}
 use Rattle.lexmin_runs.specs.Nodes.{longer_form, part_of, is_zero, all_divided, divided, padded, leaf_tree}
 use Rattle.lexmin_runs.proofs.Verdicts.{verdict}
-use Rattle.lexmin_runs.proofs.Longer.{zero_true, values-longer, speaks-longer, speaks-append, row_values-append}
+use Rattle.lexmin_runs.proofs.AddedParameters.{zero_true, values-longer, speaks-longer, speaks-append}
+use Rattle.lexmin_runs.proofs.AddedParameters.{row_values-append}
 use Rattle.quast_trees.specs.Tree.{bind}
 
 -- the parts over their denominators at a point

@@ -1,12 +1,12 @@
 pub mod Verdicts
-pub mod Longer
-pub mod Asking
+pub mod AddedParameters
+pub mod QuestionAnswers
 pub mod Leaves
-pub mod Speaking
+pub mod LeafParameters
 pub mod Cuts
 pub mod Cases
-pub mod Kept
+pub mod KeptSolutions
 pub mod Trees
-pub mod Flat
+pub mod SingleLeaf
 pub mod Steps
 pub mod Emptiness

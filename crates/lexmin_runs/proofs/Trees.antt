@@ -16,12 +16,13 @@ use Rattle.tableau_rows.specs.Problem.{Problem, row_values, Speaks, first_rows}
 use Rattle.tableau_rows.specs.Run.{point}
 use Rattle.tableau_rows.specs.Solutions.{tie, IsTied, IsTableau, IsPlaced}
 use Rattle.tableau_rows.proofs.Invariant.{Stands}
-use Rattle.tableau_rows.proofs.Standing.{stands_pivot_run, stands_cut, Settled, leaf_inside, leaf_least, empty_right}
+use Rattle.tableau_rows.proofs.KeptInvariant.{stands_pivot_run, stands_cut, Settled, leaf_inside, leaf_least}
+use Rattle.tableau_rows.proofs.KeptInvariant.{empty_right}
 use Rattle.tableau_rows.proofs.Points.{means_longer, sized_take, sized_at}
-use Rattle.tableau_rows.proofs.Cutting.{is_place}
-use Rattle.tableau_rows.proofs.Keeping.{cut_keeps_tableau, pivot_run_keeps}
-use Rattle.tableau_rows.proofs.Beginning.{stands_first, givens_of, length-entries_of}
-use Rattle.tableau_rows.proofs.Answering.{Holds, some_positive-false, holds_right}
+use Rattle.tableau_rows.proofs.Cuts.{is_place}
+use Rattle.tableau_rows.proofs.KeptSolutions.{cut_keeps_tableau, pivot_run_keeps}
+use Rattle.tableau_rows.proofs.FirstTableau.{stands_first, givens_of, length-entries_of}
+use Rattle.tableau_rows.proofs.Verdicts.{Holds, some_positive-false, holds_right}
 use Rattle.lexmin_runs.specs.Leaves.{IsAnswer}
 use Rattle.lexmin_runs.specs.Nodes.{Node, Next, ends, goes, binds, splits, chained, longer_row, part_of}
 use Rattle.lexmin_runs.specs.Nodes.{opposite_run, under_run, at_least_run, below_somewhere, broken_somewhere, leaf_tree}
@@ -29,16 +30,16 @@ use Rattle.lexmin_runs.specs.Nodes.{side, with_rows, taken_off, bound_node, step
 use Rattle.lexmin_runs.specs.Nodes.{lexmin_run}
 use Rattle.lexmin_runs.specs.Solutions.{IsInContext, IsNode}
 use Rattle.lexmin_runs.proofs.Verdicts.{said, verdict, answer_right}
-use Rattle.lexmin_runs.proofs.Longer.{AtMost, holds_less, stands_longer, part-value, at_most-more, row_at-longer}
-use Rattle.lexmin_runs.proofs.Longer.{longer_tableau}
-use Rattle.lexmin_runs.proofs.Asking.{chained-ok, same_first, opposite-value, IsHere, context-false, not_below}
-use Rattle.lexmin_runs.proofs.Asking.{not_above}
-use Rattle.lexmin_runs.proofs.Asking.{not_broken}
+use Rattle.lexmin_runs.proofs.AddedParameters.{AtMost, holds_less, stands_longer, part-value, at_most-more}
+use Rattle.lexmin_runs.proofs.AddedParameters.{row_at-longer, longer_tableau}
+use Rattle.lexmin_runs.proofs.QuestionAnswers.{chained-ok, same_first, opposite-value, IsHere, context-false, not_below}
+use Rattle.lexmin_runs.proofs.QuestionAnswers.{not_above}
+use Rattle.lexmin_runs.proofs.QuestionAnswers.{not_broken}
 use Rattle.lexmin_runs.proofs.Leaves.{floors, leaf_tree-value}
 use Rattle.lexmin_runs.proofs.Cuts.{taken_off-value, taken_off_not_negative, constant_floor, bound_floor, tied_new}
 use Rattle.lexmin_runs.proofs.Cases.{AllNo, CutCases, step_by}
-use Rattle.lexmin_runs.proofs.Kept.{in_side, side_node, rows_node, place_within, in_bound, cut_new_keeps, part_size}
-use Rattle.lexmin_runs.proofs.Kept.{first_is_node}
+use Rattle.lexmin_runs.proofs.KeptSolutions.{in_side, side_node, rows_node, place_within, in_bound, cut_new_keeps}
+use Rattle.lexmin_runs.proofs.KeptSolutions.{part_size, first_is_node}
 use Rattle.quast_trees.specs.Tree.{Tree, branch, bind}
 use Rattle.quast_trees.specs.Value.{by_sign, value}
 use Rattle.quast_trees.specs.Leaf.{Leaf}

@@ -16,13 +16,13 @@ use Rattle.iteration_domains.specs.Path.{Path, CanModel}
 use Rattle.iteration_domains.specs.Sizes.{form_size, forms_size, grown}
 use Rattle.iteration_domains.proofs.Sizes.{size-composed, size-zeros, size-variable, size-variables, sizes-append}
 use Rattle.iteration_domains.proofs.Sizes.{sizes-within}
-use Rattle.iteration_domains.proofs.Entering.{grown_more, length-variables}
-use Rattle.iteration_domains.proofs.Placing.{can_first, can_rest, can_loop, can_guard}
+use Rattle.iteration_domains.proofs.Surroundings.{grown_more, length-variables}
+use Rattle.iteration_domains.proofs.TreeStatements.{can_first, can_rest, can_loop, can_guard}
 use Rattle.loop_tree.specs.Tree.{at_least, equal}
 use Rattle.loop_tree.specs.Shape.{IsUpTo, TestIsUpTo, TreeIsUpTo, TreesAreUpTo}
 use Rattle.loop_tree.specs.Source.{variables_at, point_at, in_loop, in_guard, first_turn, last_turn, test_over, source}
 use Rattle.loop_tree.specs.Source.{sources}
-use Rattle.loop_tree.proofs.Sized.{at_most}
+use Rattle.loop_tree.proofs.SourceSizes.{at_most}
 
 up_to : (k : ℕ) (f : Affine) → form_size f ≤ k → IsUpTo k f
 up_to k f h = (at_most k f.coefficients (omega arith), omega arith)

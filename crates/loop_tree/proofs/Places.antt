@@ -13,7 +13,7 @@ use Rattle.scop_syntax.specs.Statements.{Scope, round, under, loops_in, point_of
 use Rattle.iteration_domains.specs.Rows.{variables, forms_from}
 use Rattle.iteration_domains.specs.Path.{Path, CanModel, placed_at}
 use Rattle.iteration_domains.proofs.RowLaws.{values-point}
-use Rattle.iteration_domains.proofs.Placing.{point_forms_are, can_loop, can_guard}
+use Rattle.iteration_domains.proofs.TreeStatements.{point_forms_are, can_loop, can_guard}
 use Rattle.loop_tree.specs.Source.{point_at}
 
 -- the point within one loop more

@@ -10,12 +10,12 @@ use Rattle.scop_syntax.specs.View.{test_of as comparison_of}
 use Rattle.scop_syntax.specs.declared.tree.Test.{Test as CodeTest}
 use Rattle.iteration_domains.specs.Rows.{variable, variables}
 use Rattle.iteration_domains.specs.Sizes.{size as numbers_size}
-use Rattle.iteration_domains.proofs.Entering.{can_compose}
+use Rattle.iteration_domains.proofs.Surroundings.{can_compose}
 use Rattle.iteration_domains.proofs.Sizes.{size-composed, sizes-append}
-use Rattle.iteration_domains.proofs.Placing.{point_forms_are}
+use Rattle.iteration_domains.proofs.TreeStatements.{point_forms_are}
 use Rattle.loop_tree.specs.Source.{variables_at, point_at}
 use Rattle.loop_tree.specs.steps.Placing.{CanBegin, CanTest}
-use Rattle.loop_tree.proofs.Sized.{first_over, last_small}
+use Rattle.loop_tree.proofs.SourceSizes.{first_over, last_small}
 use Rattle.std.proofs.Common.{◌≡◌, ℕ, ◌+◌, ◌≤◌, ◌<◌, List, [], ◌∷◌, ◌++◌, length, drop, get_or}
 use Rattle.std.proofs.Common.{map, ap, subst, sym, ◌∙◌, refl}
 use Rattle.std.proofs.Common.{arith}
@@ -23,7 +23,7 @@ use Rattle.scop_syntax.specs.Kernel.{IsKernel}
 use Rattle.scop_syntax.specs.Statements.{Scope}
 use Rattle.scop_syntax.specs.Tree.{Program}
 use Rattle.iteration_domains.specs.Path.{path_at}
-use Rattle.iteration_domains.proofs.Placing.{root_can}
+use Rattle.iteration_domains.proofs.TreeStatements.{root_can}
 use Rattle.loop_tree.specs.Source.{source_of}
 use Rattle.std.proofs.Common.{ap₂}
 use Rattle.scop_syntax.specs.Tree.{Test as Comparison, Head, Tree as Item, Trees as Items, loop as repeated}
@@ -34,7 +34,7 @@ use Rattle.scop_syntax.specs.Walk.{statements_in, statements_in_all}
 use Rattle.scop_syntax.specs.declared.tree.Item.{Item as CodeItem}
 use Rattle.scop_syntax.proofs.Weights.{item_here}
 use Rattle.iteration_domains.specs.Path.{Path, CanModel}
-use Rattle.iteration_domains.proofs.Placing.{can_first, can_rest, can_loop, can_guard}
+use Rattle.iteration_domains.proofs.TreeStatements.{can_first, can_rest, can_loop, can_guard}
 use Rattle.loop_tree.specs.Tree.{Tree, Trees, none, more}
 use Rattle.loop_tree.specs.Source.{source, sources, in_loop, in_guard}
 use Rattle.loop_tree.specs.steps.Placing.{CanPlace}

@@ -24,7 +24,7 @@ use Rattle.scop_syntax.proofs.Loops.{loop_turns}
 use Rattle.iteration_domains.specs.Rows.{variables}
 use Rattle.iteration_domains.specs.Path.{Path, CanModel}
 use Rattle.iteration_domains.proofs.RowLaws.{values-variables, goes_on}
-use Rattle.iteration_domains.proofs.Placing.{can_first, can_rest, can_loop, can_guard}
+use Rattle.iteration_domains.proofs.TreeStatements.{can_first, can_rest, can_loop, can_guard}
 use Rattle.loop_tree.specs.Tree.{only}
 use Rattle.loop_tree.specs.Walk.{lower, upper, holds, all_hold, Visit, through, between, walk, walk_all, given}
 use Rattle.loop_tree.specs.Marks.{AreTests, Flat, FlatAll}

@@ -12,13 +12,13 @@ use Rattle.scop_syntax.specs.Walk.{instance, walk_of}
 use Rattle.scop_syntax.specs.Walk.{Visit as Step}
 use Rattle.scop_syntax.proofs.Members.{in_map, in_map_from}
 use Rattle.scop_syntax.proofs.Limits.{params_size, turns_fit}
-use Rattle.iteration_domains.proofs.Placing.{can_kernel}
+use Rattle.iteration_domains.proofs.TreeStatements.{can_kernel}
 use Rattle.iteration_domains.specs.Path.{path_at}
 use Rattle.loop_tree.specs.Walk.{given, visits, walk_all}
 use Rattle.loop_tree.specs.Conditions.{IsHeld, CanWalk}
 use Rattle.loop_tree.specs.Source.{source_of}
 use Rattle.loop_tree.proofs.Sources.{behind_nothing, sources_walk, sources_flat}
-use Rattle.loop_tree.proofs.Sized.{sources_fit}
+use Rattle.loop_tree.proofs.SourceSizes.{sources_fit}
 
 pub visited : (program : Program) (params : List ℤ) → IsKernel program → length params ≡ length program.parameters
     → visits (source_of program) params ≡ map instance (walk_of program params)

@@ -14,11 +14,11 @@ use Rattle.null_space.specs.Narrowing.{kernel_vectors, narrowed_by}
 use Rattle.null_space.specs.Echelon.{at}
 use Rattle.null_space.specs.Echelon.{IsOrthogonal, IsFree, IsKernelVector, AreOf, IsRising, In}
 use Rattle.null_space.specs.Echelon.{AreKernelVectors}
-use Rattle.null_space.proofs.Along.{unit, product_some}
+use Rattle.null_space.proofs.Functionals.{unit, product_some}
 use Rattle.null_space.proofs.Spans.{kernel_spans}
 use Rattle.null_space.proofs.Orthogonal.{vectors_orthogonal}
-use Rattle.null_space.proofs.Running.{kernel_more}
-use Rattle.null_space.proofs.Reduced.{entry, IsOwn, Reduced, kernel_reduced, order, complete}
+use Rattle.null_space.proofs.ListLoops.{kernel_more}
+use Rattle.null_space.proofs.ReducedVectors.{entry, IsOwn, Reduced, kernel_reduced, order, complete}
 
 -- each free column is one of those of the vectors
 free_column : (n : ℕ) (rows : List (List ℤ)) (cols : List ℕ) → Reduced n cols (kernel_vectors n rows)

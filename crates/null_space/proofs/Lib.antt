@@ -1,10 +1,10 @@
 pub mod Minors
-pub mod Within
-pub mod Along
-pub mod Stages
-pub mod Running
+pub mod Sizes
+pub mod Functionals
+pub mod KernelSizes
+pub mod ListLoops
 pub mod Spans
 pub mod Orthogonal
-pub mod Reduced
+pub mod ReducedVectors
 pub mod Echelon
-pub mod Spanned
+pub mod KernelCombinations

@@ -8,7 +8,7 @@ use Rattle.whole_numbers.specs.Lists.{dot}
 use Rattle.whole_numbers.proofs.Ring.{mul_comm_int, mul_neg_left, mul_neg_right, mul_zero_right}
 use Rattle.null_space.specs.Narrowing.{made_flat, against, narrowed_by, narrowed_all, kernel_vectors}
 use Rattle.null_space.specs.Narrowing.{units_from}
-use Rattle.null_space.proofs.Stages.{zero_of, narrowed_yes, narrowed_off}
+use Rattle.null_space.proofs.KernelSizes.{zero_of, narrowed_yes, narrowed_off}
 use Rattle.null_space.proofs.Spans.{size, turned, flat_value, zero_factor, primitive_value}
 
 size_turned : (p b : ℤ) → (size p *ℤ b) +ℤ (turned p b *ℤ p) ≡ pos 0

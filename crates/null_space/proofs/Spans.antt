@@ -14,8 +14,8 @@ use Rattle.std.proofs.Math.Seq.{drop-nil}
 use Rattle.whole_numbers.proofs.Order.{mul_positive, le_or_lt}
 use Rattle.null_space.specs.Narrowing.{is_zero, made_flat, against, narrowed_by, narrowed_all, kernel_vectors}
 use Rattle.null_space.specs.Narrowing.{units_from}
-use Rattle.null_space.proofs.Stages.{zero_of, narrowed_yes, narrowed_off}
-use Rattle.null_space.proofs.Along.{lowest_factor}
+use Rattle.null_space.proofs.KernelSizes.{zero_of, narrowed_yes, narrowed_off}
+use Rattle.null_space.proofs.Functionals.{lowest_factor}
 
 -- each vector's product with w times its weight, added up
 abbrev pub weighted : List ℤ → List (List ℤ) → List ℤ → ℤ

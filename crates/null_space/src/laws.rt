@@ -30,7 +30,7 @@ pub fn full_rank_leaves_only_0()
 {}
 
 /// A row adds no kernel vector, and one that grows the rank takes one.
-#[tactic(auto, using(crate::proofs::Running::narrowed_laws))]
+#[tactic(auto, using(crate::proofs::ListLoops::narrowed_laws))]
 pub fn rows_take_kernel_vectors()
     ensures most { (c : List ℤ) (ns : List (List ℤ)) → length (narrowed_by c ns) ≤ length ns }
     ensures grows { (c : List ℤ) (ns : List (List ℤ)) → Grows c ns → suc (length (narrowed_by c ns)) ≡ length ns }
@@ -38,7 +38,7 @@ pub fn rows_take_kernel_vectors()
 
 /// Kernel vectors are kept from row to row: the units with no row, as long as the columns, and narrowed by each
 /// further row.
-#[tactic(auto, using(crate::proofs::Running::kept_laws))]
+#[tactic(auto, using(crate::proofs::ListLoops::kept_laws))]
 pub fn kernel_vectors_are_kept()
     ensures units { (n : ℕ) → kernel_vectors n [] ≡ units_from n 0 n }
     ensures lengths { (n : ℕ) (rows : List (List ℤ)) → AreLong n (kernel_vectors n rows) }
@@ -47,7 +47,7 @@ pub fn kernel_vectors_are_kept()
 {}
 
 /// The kernel vectors of rows over at most 5 columns are so small that one more row narrows them within 128 bits.
-#[tactic(auto, using(crate::proofs::Stages::kernel_narrow))]
+#[tactic(auto, using(crate::proofs::KernelSizes::kernel_narrow))]
 pub fn kernel_vectors_are_narrow()
     ensures { (n : ℕ) (rows : List (List ℤ))
         → n ≤ 5 → All AreCoefficients rows → AreNarrow (kernel_vectors n rows) }
@@ -55,7 +55,7 @@ pub fn kernel_vectors_are_narrow()
 
 /// For coefficients of any size m: while several vectors are left over at most 5 columns, their entries are at most
 /// 24 m^3, since they are minors of at most three rows, divided by some number.
-#[tactic(auto, using(crate::proofs::Stages::kernel_sizes))]
+#[tactic(auto, using(crate::proofs::KernelSizes::kernel_sizes))]
 pub fn several_kernel_vectors_are_small()
     ensures { (m n : ℕ) (rows : List (List ℤ))
         → n ≤ 5 → 0 < m → All (AreWithin m) rows → 2 ≤ length (kernel_vectors n rows)

@@ -142,7 +142,7 @@ pub fn narrowed_by(alloc: Global, row: &[i128], vectors: &[Vec<i128>]) -> Result
 }
 
 /// The unit of a column.
-#[tactic(auto, using(crate::proofs::Running::zeros_are))]
+#[tactic(auto, using(crate::proofs::ListLoops::zeros_are))]
 fn unit(alloc: Global, columns: usize, column: usize) -> Result<Vec<i128>, AllocError>
     requires columns { columns ≤ 5 }
     requires column { column < columns }

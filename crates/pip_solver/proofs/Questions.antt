@@ -11,8 +11,8 @@ use Rattle.tableau_rows.specs.Problem.{problem_of, first_rows}
 use Rattle.tableau_rows.specs.Run.{question, run}
 use Rattle.lexmin_runs.specs.Nodes.{Counted, chained, answered, ask, opposite_run, above_run, first_asked}
 use Rattle.lexmin_runs.specs.Solutions.{IsNode}
-use Rattle.lexmin_runs.proofs.Asking.{opposite-value, above-value}
-use Rattle.lexmin_runs.proofs.Kept.{part_size}
+use Rattle.lexmin_runs.proofs.QuestionAnswers.{opposite-value, above-value}
+use Rattle.lexmin_runs.proofs.KeptSolutions.{part_size}
 use Rattle.tableau_nodes.specs.declared.node.Tableau.{Tableau}
 use Rattle.tableau_nodes.specs.Node.{node_of}
 use Rattle.pip_solver.specs.declared.question.QuestionStop.{QuestionStop}

@@ -4,7 +4,7 @@ use Rattle.std.proofs.Common.{inr, ap, subst, sym, refl, ◌∙◌, arith}
 use Rattle.std.specs.Prelude.{◌<ℤ◌, if◌then◌else◌}
 use Rattle.std.specs.Int.Signed.{le_z}
 use Rattle.std.proofs.lemmas.Int.{ints}
-use Rattle.fm_projection.proofs.Following.{one_more}
+use Rattle.fm_projection.proofs.WholePoints.{one_more}
 use Rattle.whole_numbers.specs.Affine.{Affine, value_of}
 use Rattle.whole_numbers.proofs.Tests.{if_both}
 use Rattle.scop_syntax.proofs.Members.{both, le_z_holds, holds_le_z}

@@ -11,7 +11,7 @@ use Rattle.plain_scan.specs.Sets.{AllAtLeast, Keys, KeysAt, HaveDimensions, Numb
 use Rattle.plain_scan.specs.Sets.{Leaf, sets_of, AreTested, leaves}
 use Rattle.plain_scan.specs.Rows.{low_bounds, high_bounds, AreLow, AreHigh, widened, IsPlace, ServesOn}
 use Rattle.fm_projection.specs.Alone.{AreInRange}
-use Rattle.fm_projection.proofs.Following.{one_more}
+use Rattle.fm_projection.proofs.WholePoints.{one_more}
 use Rattle.plain_scan.specs.Rows.{deeper}
 use Rattle.plain_scan.specs.Pieces.{Piece, bounding, loop_of, loops_of, LiesIn, InSome, IsPiece, ArePieces, AreEnough}
 use Rattle.plain_scan.proofs.Nodes.{loop_scans, leaves_serve, length_end, serves_exact, rows_hold}

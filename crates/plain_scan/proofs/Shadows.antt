@@ -1,7 +1,7 @@
 -- From a set down to its first dimensions.
 use Rattle.std.proofs.Common.{◌≡◌, ℕ, suc, ◌<◌, ℤ, pos, List, [], ◌∷◌, ◌++◌, length, ap, subst, sym, refl, ◌∙◌, arith}
 use Rattle.std.proofs.lemmas.Int.{ints}
-use Rattle.fm_projection.proofs.Following.{one_more}
+use Rattle.fm_projection.proofs.WholePoints.{one_more}
 use Rattle.whole_numbers.specs.Affine.{Affine}
 use Rattle.integer_sets.specs.Scanned.{Scanned}
 use Rattle.plain_scan.specs.Sets.{AllZero, AllAtLeast, IsKeyOf}

@@ -10,7 +10,7 @@ use Rattle.loop_tree.specs.Plans.{AreInOrder}
 use Rattle.loop_tree.specs.Tiling.{Items, TileRow, Tiling, kept, tiled, coordinates, items_at, tile_of, wave_of}
 use Rattle.plan_tree.specs.Trees.{AreEven}
 use Rattle.plan_tree.proofs.Orders.{walked_number}
-use Rattle.plan_tree.proofs.Walkable.{visited_walked}
+use Rattle.plan_tree.proofs.WalkedVisits.{visited_walked}
 use Rattle.plan_tree.proofs.Waves.{length_wave}
 
 length_tile : (size : ℤ) (s : Items) (us : List ℤ)

@@ -19,16 +19,16 @@ use Rattle.schedule_rows.specs.Items.{Block}
 use Rattle.tile_skew.specs.Places.{place_of}
 use Rattle.tile_skew.specs.ScanSets.{parallel_place, most_iterators, scan_set, scan_sets}
 use Rattle.tile_skew.specs.Tilings.{leading_at, first_band_at, behind_at, statement_items, statements_from}
-use Rattle.tile_skew.proofs.Agreeing.{items_found}
-use Rattle.tile_skew.proofs.Alike.{scanned_alike}
-use Rattle.tile_skew.proofs.Ordering.{band_lengths}
+use Rattle.tile_skew.proofs.TilingAgreement.{items_found}
+use Rattle.tile_skew.proofs.AlikeSets.{scanned_alike}
+use Rattle.tile_skew.proofs.PlaceOrder.{band_lengths}
 use Rattle.plain_scan.specs.Hulls.{flags}
 use Rattle.plain_scan.specs.Scanning.{GiveIterators, dimensions_of, mark_of}
 use Rattle.plan_tree.specs.Trees.{tiling_of}
 use Rattle.plan_tree.specs.steps.Parting.{NoneConflict, PartAt}
-use Rattle.plan_tree.proofs.Frees.{free_all}
-use Rattle.plan_tree.proofs.Marked.{no_mark, none_parallel}
-use Rattle.plan_tree.proofs.Modelling.{number_inside}
+use Rattle.plan_tree.proofs.ConflictFreedom.{free_all}
+use Rattle.plan_tree.proofs.MarkedPlaces.{no_mark, none_parallel}
+use Rattle.plan_tree.proofs.ModelStatements.{number_inside}
 use Rattle.plan_tree.proofs.Waves.{wave_at, tile_at, one_wave, marked_place, not_in_conflict}
 
 -- the visits stand at the places of their turns

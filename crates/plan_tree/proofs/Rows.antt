@@ -14,12 +14,12 @@ use Rattle.scop_syntax.specs.Walk.{Instance}
 use Rattle.scop_syntax.proofs.Limits.{size, value_size}
 use Rattle.iteration_domains.specs.Model.{model_of, modelled}
 use Rattle.loop_tree.specs.Tiling.{Items, TileRow, items_at}
-use Rattle.loop_tree.proofs.Sized.{entries_size}
+use Rattle.loop_tree.proofs.SourceSizes.{entries_size}
 use Rattle.schedule_rows.specs.Items.{Block, Marked, band, scalar, part_of}
 use Rattle.schedule_rows.specs.Sized.{AreSized, AreSizedRows, IsSizedRow, IsSmall}
 use Rattle.tile_skew.specs.Tilings.{first_band_at, form_at, rows_at, statements_from}
-use Rattle.tile_skew.proofs.Agreeing.{items_found}
-use Rattle.plan_tree.proofs.Walkable.{IsWalked}
+use Rattle.tile_skew.proofs.TilingAgreement.{items_found}
+use Rattle.plan_tree.proofs.WalkedVisits.{IsWalked}
 
 small_number : (x : ℤ) → pos 0 ≤ℤ x → x ≤ℤ pos 4096 → unsigned_abs x ≤ 4096
 small_number (pos n) low high = omega (arith, ints)

@@ -20,7 +20,7 @@ use Rattle.plain_scan.specs.Hulls.{flags}
 use Rattle.tile_skew.specs.Places.{place_of}
 use Rattle.tile_skew.specs.ScanSets.{parallel_place}
 use Rattle.plan_tree.specs.steps.Parting.{PartAt}
-use Rattle.plan_tree.proofs.Marked.{no_mark, never_part, part_there, none_marked, marked_there}
+use Rattle.plan_tree.proofs.MarkedPlaces.{no_mark, never_part, part_there, none_marked, marked_there}
 
 -- items of these parts
 abbrev pub parts : List ℕ → List TileRow → List Item → Items

@@ -1,9 +1,9 @@
-pub mod Placed
-pub mod Gathering
-pub mod Lower
+pub mod PlacedForms
+pub mod GatheredUnknowns
+pub mod LowerLaws
 pub mod Points
 pub mod Rows
 pub mod Steps
-pub mod Sized
-pub mod Ruling
-pub mod Small
+pub mod FormSizes
+pub mod DependenceSystems
+pub mod SmallVectors

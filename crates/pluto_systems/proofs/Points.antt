@@ -31,9 +31,9 @@ use Rattle.schedule_rows.specs.Posed.{IsLegal, IsBounded, loops_of, coefficients
 use Rattle.pluto_systems.specs.Placing.{is_end, placed, gathered_parts, gathered, AreShaped, IsShaped}
 use Rattle.pluto_systems.specs.Posing.{RuledDep, IsRuled, dep_of, equalities_for, rows_for, own_form, own_row, added}
 use Rattle.pluto_systems.specs.Posing.{growth_rows, growth_from, posed_system, IsBetween, AreVectorsOf, HasPosed}
-use Rattle.pluto_systems.proofs.Placed.{length-part, placed_value, apart_front, gathered_end, gathered_other}
-use Rattle.pluto_systems.proofs.Gathering.{nth, both_one, gathered_unknowns}
-use Rattle.pluto_systems.proofs.Lower.{RowLaws, VectorsAreLong}
+use Rattle.pluto_systems.proofs.PlacedForms.{length-part, placed_value, apart_front, gathered_end, gathered_other}
+use Rattle.pluto_systems.proofs.GatheredUnknowns.{nth, both_one, gathered_unknowns}
+use Rattle.pluto_systems.proofs.LowerLaws.{RowLaws, VectorsAreLong}
 
 -- shapes
 pub shaped_length : (ls : List ℕ) (ps : List Part) → AreShaped ls ps → length ps ≡ length ls

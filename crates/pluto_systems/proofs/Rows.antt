@@ -17,7 +17,7 @@ use Rattle.schedule_rows.specs.Posed as posed
 use Rattle.pluto_systems.specs.Placing.{columns_in, columns_of, AreShaped, IsShaped, parts_from, row_from}
 use Rattle.pip_solver.specs.Minimum.{IsTaken}
 use Rattle.pluto_systems.specs.Posing.{HasPosed}
-use Rattle.pluto_systems.proofs.Placed.{length-part, apart_front}
+use Rattle.pluto_systems.proofs.PlacedForms.{length-part, apart_front}
 
 -- the front, one number, and what is behind
 cut : (xs : List ℤ) (k : ℕ) → k < length xs → take k xs ++ get_or xs k (pos 0) ∷ drop (k + 1) xs ≡ xs

@@ -5,7 +5,7 @@ use Rattle.std.specs.Prelude.{◌≤◌, ◌+ℤ◌}
 use Rattle.whole_numbers.specs.Lists.{zeros, sums}
 use Rattle.std.proofs.lemmas.List.Elements.{All-nil, All-cons, All-head, All-tail}
 use Rattle.null_space.specs.Sizes.{IsWithin, AreWithin}
-use Rattle.null_space.proofs.Within.{within_add}
+use Rattle.null_space.proofs.Sizes.{within_add}
 use Rattle.pluto_systems.specs.Posing.{added, growth_rows, growth_from}
 
 pub more : {X : Type 0} (xs ys new rest rest' whole : List X) → new ≡ xs ++ ys → ys ++ rest' ≡ rest

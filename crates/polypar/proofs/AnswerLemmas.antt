@@ -11,7 +11,7 @@ use Rattle.io_ports.specs.Faults.{Rose}
 use Rattle.io_ports.specs.Bytes.{IsAllOf, IsLonger, GainsFront}
 use Rattle.io_ports.specs.Reads.{SourceShows}
 use Rattle.io_ports.specs.Writes.{SinkShows, HasRoom, Takes, FailsToTake}
-use Rattle.io_ports.proofs.Writing.{take_then, whole_is_front, kept_is_nothing, room_next}
+use Rattle.io_ports.proofs.PutTexts.{take_then, whole_is_front, kept_is_nothing, room_next}
 use Rattle.scop_syntax.specs.declared.tree.Kernel.{Kernel}
 use Rattle.scop_syntax.specs.View.{program_of}
 use Rattle.scop_syntax.specs.Tree.{Program}

@@ -62,7 +62,7 @@ fn kernel_told(alloc: Global, kernel: &Kernel, asked: KernelCommand) -> Result<T
 }
 
 /// Writes a text, and flushes it.
-#[tactic(auto, using(io_ports::proofs::Writing::flushed))]
+#[tactic(auto, using(io_ports::proofs::PutTexts::flushed))]
 fn print_text<O: Sink>(text: &[u8], out: &mut O) -> Result<(), Failed>
     ensures { Writes (O.shows out.old) (O.shows out.new) text.now result }
 {

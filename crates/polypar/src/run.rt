@@ -223,7 +223,7 @@ fn run_inside<W: Workers, O: Sink, E: Sink>(
 }
 
 /// Writes the text of a case's arrays, and flushes it.
-#[tactic(auto, using(io_ports::proofs::Writing::flushed))]
+#[tactic(auto, using(io_ports::proofs::PutTexts::flushed))]
 fn print_arrays<O: Sink>(kernel: &Kernel, case: &Case, out: &mut O) -> Result<(), Failed>
     ensures { Writes (O.shows out.old) (O.shows out.new) (array_text (program_of kernel.now) case.now.arrays) result }
 {

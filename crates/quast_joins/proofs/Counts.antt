@@ -10,7 +10,7 @@ use Rattle.quast_trees.specs.Source.{Forms}
 use Rattle.quast_trees.specs.Tree.{Tree, initial, leaf, branch, bind, count}
 use Rattle.quast_trees.specs.Postfix.{written}
 use Rattle.quast_trees.specs.declared.node.Node.TheVariants as node
-use Rattle.quast_trees.proofs.Reading.{length-written}
+use Rattle.quast_trees.proofs.WrittenNodes.{length-written}
 use Rattle.quast_joins.specs.Ways.{statement_of, loops_of, text}
 use Rattle.quast_joins.specs.declared.way.Way.{Way}
 use Rattle.quast_joins.specs.Shifts.{shifted_form, shifted_leaf, widened}

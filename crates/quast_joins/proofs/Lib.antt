@@ -1,8 +1,8 @@
 pub mod Values
-pub mod Speaking
+pub mod Variables
 pub mod Counts
 pub mod Sizes
-pub mod Forming
+pub mod JoinForms
 pub mod Chains
 pub mod Steps
 pub mod Marks

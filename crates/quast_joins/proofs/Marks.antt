@@ -14,7 +14,7 @@ use Rattle.quast_joins.specs.Sizes.{LeavesWithin}
 use Rattle.quast_joins.specs.Limits.{leaf_limit}
 use Rattle.quast_joins.specs.Steps.{Placed_node, at, pairs, paired, depths, steps, Takes, Enough, FitsAt, AllFit}
 use Rattle.quast_joins.specs.Steps.{IsMarked}
-use Rattle.quast_joins.proofs.Speaking.{shifted-speaks, widened-speaks}
+use Rattle.quast_joins.proofs.Variables.{shifted-speaks, widened-speaks}
 use Rattle.quast_joins.proofs.Sizes.{forms_shifted}
 use Rattle.quast_joins.proofs.Steps.{Step, Builds, paired_fit, paired_nodes, paired_depths, pairs_are}
 

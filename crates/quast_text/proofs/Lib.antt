@@ -1,4 +1,4 @@
 pub mod Names
 pub mod Numbers
 mod Quasts
-mod Waiting
+mod PendingParts

@@ -13,8 +13,8 @@ use Rattle.quast_trees.specs.Leaf.{Leaf, leaf_of}
 use Rattle.quast_trees.specs.declared.leaf.Leaf.{Leaf as Answer}
 use Rattle.quast_trees.specs.Leaf as answer
 use Rattle.quast_trees.specs.Value.{by_sign, value, values_run, value_run, bound_run}
-use Rattle.quast_trees.proofs.BySign.{by_sign-exact}
-use Rattle.quast_trees.proofs.Each.{each_run-map}
+use Rattle.quast_trees.proofs.SignChoices.{by_sign-exact}
+use Rattle.quast_trees.proofs.ListRuns.{each_run-map}
 
 -- forms whose values fit have their exact values
 pub values_run-exact : (forms : List Affine) (point vs : List ℤ) → values_run forms point ≡ Ok vs

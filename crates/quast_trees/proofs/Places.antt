@@ -8,7 +8,7 @@ use Rattle.quast_trees.specs.Postfix.{written, top, standing}
 use Rattle.quast_trees.specs.Place.{IsAt, subtree, place_in}
 use Rattle.quast_trees.specs.declared.node.Node.{Node}
 use Rattle.quast_trees.specs.declared.node.Node.TheVariants as node
-use Rattle.quast_trees.proofs.Reading.{length-written, fold-append, read-written}
+use Rattle.quast_trees.proofs.WrittenNodes.{length-written, fold-append, read-written}
 
 -- a tree's own node
 abbrev pub root : Tree → Node

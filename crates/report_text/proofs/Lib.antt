@@ -1,7 +1,7 @@
-pub mod Appending
+pub mod AppendedTexts
 pub mod DepsLemmas
 pub mod Lines
 pub mod ScheduleLemmas
 pub mod SourceTexts
-pub mod Tellable
+pub mod TellableQuasts
 pub mod VariableNames

@@ -24,7 +24,7 @@ use Rattle.dataflow.specs.declared.source.SourceStop.TheVariants as stop
 use Rattle.report_text.specs.DepsText.{turn_name, turn_names, solver_text, stop_text, source_text, array_of, names_at}
 use Rattle.report_text.specs.DepsText.{line_of, lines_of, deps_text}
 use Rattle.report_text.specs.DepsReading.{StopAlike, HaltAlike, SaySame, AllSaySame}
-use Rattle.report_text.proofs.Tellable.{loops_of, tellable}
+use Rattle.report_text.proofs.TellableQuasts.{loops_of, tellable}
 use Rattle.quast_trees.specs.Tree.{Tree}
 use Rattle.quast_text.specs.Reading.{AreOuter, IsTellable}
 use Rattle.quast_text.specs.Text.{quast_text}

@@ -14,7 +14,7 @@ use scop_parser::refusal::{Refusal, RefusalKind};
 use scop_syntax::tree::Kernel;
 
 /// Writes the line of a status, and flushes it; nothing for Done. `kernel` is the kernel that was read, for its names.
-#[tactic(auto, using(io_ports::proofs::Writing::flushed))]
+#[tactic(auto, using(io_ports::proofs::PutTexts::flushed))]
 pub fn status_line<K: Sink>(
     status: Status,
     kernel: Option<&Kernel>,
@@ -30,7 +30,7 @@ pub fn status_line<K: Sink>(
 }
 
 /// Writes the line of a status.
-#[tactic(auto, using(io_ports::proofs::Writing::written))]
+#[tactic(auto, using(io_ports::proofs::PutTexts::written))]
 fn write_line<K: Sink>(status: Status, kernel: Option<&Kernel>, sink: &mut K) -> Result<(), Failed>
     ensures { Writes (K.shows sink.old) (K.shows sink.new)
         (status_text (option_map (λ k. program_of k.now) kernel.entry) status) result }

@@ -8,7 +8,7 @@ use Rattle.stmt_graph.specs.Graph.{IsNumbering}
 use Rattle.schedule_rows.specs.Next.{State, rows_of, AreSingle}
 use Rattle.schedule_rows.specs.Outcomes.{Outcome, goes, no_order, state, IsShared, Orders, Finishes, Takes}
 use Rattle.schedule_rows.specs.Outcomes.{Cutting, Lacks, Next}
-use Rattle.schedule_rows.proofs.Determined.{least_unique, restricts_unique, uncuts_unique, mark_unique}
+use Rattle.schedule_rows.proofs.Determinism.{least_unique, restricts_unique, uncuts_unique, mark_unique}
 
 -- the law of numberings: there is one
 abbrev pub HasOneNumbering : Type 0

@@ -15,7 +15,7 @@ use Rattle.whole_numbers.proofs.Ring.{mul_one_right}
 use Rattle.whole_numbers.proofs.Entries.{all_front, all_back}
 use Rattle.farkas.specs.Claims.{distance, slack}
 use Rattle.schedule_rows.specs.Posed.{IsLegal, IsBounded}
-use Rattle.schedule_rows.proofs.Along.{le_apart}
+use Rattle.schedule_rows.proofs.BlockOrder.{le_apart}
 use Rattle.scop_syntax.specs.Walk.{Instance}
 use Rattle.schedule_rows.specs.Items.{Row, part_of, phi}
 use Rattle.iteration_domains.specs.Dependence.{Dependence}

@@ -19,8 +19,8 @@ use Rattle.schedule_rows.specs.Posed.{loops_of}
 use Rattle.schedule_rows.specs.Next.{IsSizedDep}
 use Rattle.schedule_rows.specs.Outcomes.{IsSchedule}
 use Rattle.schedule_rows.specs.Tiles.{coordinates, wave_sum, tile, wave, IsGoodPair}
-use Rattle.schedule_rows.proofs.Along.{le_apart, less_behind, along_values}
-use Rattle.schedule_rows.proofs.Running.{schedule_along}
+use Rattle.schedule_rows.proofs.BlockOrder.{le_apart, less_behind, along_values}
+use Rattle.schedule_rows.proofs.RunInvariants.{schedule_along}
 
 -- floors do not fall
 pub floor_rises : (a b d : ℤ) → pos 0 <ℤ d → a ≤ℤ b → floor a d ≤ℤ floor b d

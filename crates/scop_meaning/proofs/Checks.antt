@@ -18,7 +18,7 @@ use Rattle.scop_syntax.proofs.Loops.{loop_turns}
 use Rattle.scop_meaning.specs.declared.index.Outside.{Outside}
 use Rattle.scop_meaning.specs.Conditions.{CanCheck}
 use Rattle.scop_meaning.specs.Outside.{outside_of, first_of, FindsFirst}
-use Rattle.scop_meaning.proofs.Walking.{walk_first, walk_rest, walk_turn}
+use Rattle.scop_meaning.proofs.WalkSteps.{walk_first, walk_rest, walk_turn}
 
 -- the first of two lists one behind the other
 pub first_here : (xs ys : List Failure) (o : Outside) → Some o ≡ first_of xs → Some o ≡ first_of (xs ++ ys)

@@ -3,11 +3,11 @@ mod Shifts
 mod Turns
 mod Evaluations
 mod Chains
-mod Walking
+mod WalkSteps
 mod Runs
 mod Checks
 mod Kernels
-mod Finding
+mod StatementSearch
 mod Numbering
 mod Strides
 mod Ends

@@ -18,7 +18,7 @@ use Rattle.scop_syntax.proofs.Falls.{condition_falls}
 use Rattle.scop_syntax.proofs.Loops.{loop_turns}
 use Rattle.std.proofs.Common.{inl}
 use Rattle.scop_meaning.specs.Conditions.{ActsAreInside, AreCells, CanRun, IsReady, ran}
-use Rattle.scop_meaning.proofs.Walking.{walk_first, walk_rest, walk_turn}
+use Rattle.scop_meaning.proofs.WalkSteps.{walk_first, walk_rest, walk_turn}
 
 inside_front : (es : List (List ℕ)) (xs ys : List Act) → ActsAreInside es (xs ++ ys) → ActsAreInside es xs
 inside_front es xs ys c = λ a h. c a (in_front a xs ys h)

@@ -1,8 +1,8 @@
-pub mod Once
+pub mod UniquePrograms
 pub mod Fronts
 pub mod Refusals
 pub mod Worth
-pub mod Feeding
-pub mod Named
-pub mod Unreserved
-pub mod Iterating
+pub mod TokenFeed
+pub mod SpelledNames
+pub mod UnreservedNames
+pub mod IteratorNames

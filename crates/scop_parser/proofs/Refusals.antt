@@ -19,7 +19,7 @@ use Rattle.scop_units.specs.Words.{start_of, words_of, grammar_tokens}
 use Rattle.scop_units.specs.Judging.{faults_of}
 use Rattle.scop_parser.specs.Spelling.{IsText, token_kind, judged_kind, IsGrammarFault, IsFirstFault, IsRefusedAs}
 use Rattle.scop_parser.proofs.Fronts.{front-more, front-shorter, one-break, one-split}
-use Rattle.scop_parser.proofs.Once.{no-kernel, same-faults}
+use Rattle.scop_parser.proofs.UniquePrograms.{no-kernel, same-faults}
 
 unfit-once : (d n : ℕ) (ts : List Token) (a b : ℕ) → IsUnfit d n ts a → IsUnfit d n ts b → a ≡ b
 unfit-once d n ts a b x y =

@@ -17,12 +17,12 @@ use Rattle.scop_units.specs.Judging.{declared_faults, behind_declared}
 use Rattle.scop_units.specs.Scopes as scopes
 use Rattle.scop_units.specs.Units.{name_faults, number_faults, array_faults, array_of}
 use Rattle.scop_units.specs.Programs.{array_in, arrays_in}
-use Rattle.scop_units.proofs.Declaring.{extents_length}
+use Rattle.scop_units.proofs.FaultlessKernels.{extents_length}
 use Rattle.scop_pass.specs.Machine.{idle, State, expects, numbered, declared, run}
 use Rattle.scop_pass.specs.Machine as machine
 use Rattle.scop_pass.proofs.Formulas.{formula-of-written}
 use Rattle.scop_pass.proofs.Pieces.{pieces-append}
-use Rattle.scop_pass.proofs.Driving.{run-append}
+use Rattle.scop_pass.proofs.PieceRuns.{run-append}
 
 -- more faults, and another scope
 abbrev pub scoped : State → List Fault → Scope → State

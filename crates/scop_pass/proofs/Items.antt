@@ -23,7 +23,7 @@ use Rattle.scop_pass.specs.Machine.{Frame, idle, placed, State, completed, compl
 use Rattle.scop_pass.specs.Machine.{expects, run, without_loop, whole_statement, stated}
 use Rattle.scop_pass.specs.Machine as machine
 use Rattle.scop_pass.proofs.Formulas.{formula-of-written}
-use Rattle.scop_pass.proofs.Driving.{run-elements, place-width, place-run, head-run, opened}
+use Rattle.scop_pass.proofs.PieceRuns.{run-elements, place-width, place-run, head-run, opened}
 
 -- more faults, statements and trees
 abbrev pub adding : State → List Fault → ℕ → List Tree → State

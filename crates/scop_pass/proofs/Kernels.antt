@@ -15,7 +15,7 @@ use Rattle.scop_units.specs.Programs.{program_spelled, arrays_of}
 use Rattle.scop_pass.specs.Machine.{State, completed, first_state, named, run, program_at}
 use Rattle.scop_pass.specs.Machine as machine
 use Rattle.scop_pass.proofs.Pieces.{pieces-append}
-use Rattle.scop_pass.proofs.Driving.{run-append, run-elements}
+use Rattle.scop_pass.proofs.PieceRuns.{run-append, run-elements}
 use Rattle.scop_pass.proofs.Items.{under, with_items, items-run}
 use Rattle.scop_pass.proofs.Headers.{with_parameter, with_parameters, with_declared, half, parameter-run, half-flushes}
 use Rattle.scop_pass.proofs.Headers.{parameters-run, declarations-run}

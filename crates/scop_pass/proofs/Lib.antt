@@ -1,10 +1,10 @@
 pub mod Formulas
 pub mod Pieces
-pub mod Driving
+pub mod PieceRuns
 pub mod Items
 pub mod Headers
 pub mod Kernels
 pub mod UnitPlaces
-pub mod Ordering
-pub mod Closing
-pub mod Judged
+pub mod FaultOrder
+pub mod CompletedHeads
+pub mod KernelParts

@@ -28,7 +28,7 @@ use Rattle.scop_roles.specs.Faults.{own_rank, side_role}
 use Rattle.scop_roles.specs.Scope.{IsKnown, IsInScope, IsArray, IsArrayName}
 use Rattle.scop_roles.specs.Values.{access, subscript_forms, expression, signed_value, combined, count, difference}
 use Rattle.scop_roles.specs.Values.{comparison, tests, read_places}
-use Rattle.scop_roles.proofs.Judging.{unary_first, signed_is_affine}
+use Rattle.scop_roles.proofs.NodeFaults.{unary_first, signed_is_affine}
 use Rattle.scop_roles.proofs.Firsts.{part_or_own_none}
 use Rattle.scop_roles.proofs.Sizes.{constant_affine, variable_affine, opposite_affine, within_affine, at_most-sums}
 use Rattle.scop_roles.proofs.Parts.{judged_none, place_parts, index_value, cast_value, unary_value, signed_unary}

@@ -1,12 +1,12 @@
 pub mod Firsts
 pub mod Sizes
 pub mod Multiples
-pub mod Judging
-pub mod Joining
+pub mod NodeFaults
+pub mod NodeForms
 pub mod Views
-pub mod Resolving
+pub mod FormulaStack
 pub mod Chains
 pub mod Parts
-pub mod Making
+pub mod FormulaValues
 pub mod Places
 pub mod Affines

@@ -21,7 +21,7 @@ use Rattle.scop_roles.specs.Faults.{is_count}
 use Rattle.scop_roles.specs.Judgement.{part_or_own}
 use Rattle.scop_roles.specs.Values.{combined, operator}
 use Rattle.scop_roles.proofs.Firsts.{first-append, first-judged, first_of_none, part_or_own_none, none_part_or_own}
-use Rattle.scop_roles.proofs.Judging.{unary_first, binary_first, sum_sides}
+use Rattle.scop_roles.proofs.NodeFaults.{unary_first, binary_first, sum_sides}
 
 -- a node's parts and the node itself
 pub judged_none : (fs : List Fault) (at : ℕ) (k : Option Kind) → first (judged fs (told at k)) ≡ None

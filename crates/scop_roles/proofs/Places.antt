@@ -12,7 +12,7 @@ use Rattle.scop_roles.specs.Forms.{is_signed}
 use Rattle.scop_roles.specs.Faults.{told, judged, faults, place_faults, named, called, operand_role, cast_role}
 use Rattle.scop_roles.specs.Faults.{side_role, own}
 use Rattle.scop_roles.specs.Scope.{LiesWithin, KnowsArrays, IsInScope}
-use Rattle.scop_roles.proofs.Resolving.{size_group, size_index, size_call, size_unary, size_cast, size_binary}
+use Rattle.scop_roles.proofs.FormulaStack.{size_group, size_index, size_call, size_unary, size_cast, size_binary}
 
 pub in_scope : (ranks : List ℕ) (look : Lookup) (at : ℕ) (t : Tree) → KnowsArrays ranks look
     → IsInScope ranks (formula look at t)

@@ -83,7 +83,7 @@ fn judge_subscripts(
 
 // Judges arguments with these more.
 #[cycle(judging)]
-#[tactic(auto, using(crate::proofs::Making::judged_limits))]
+#[tactic(auto, using(crate::proofs::FormulaValues::judged_limits))]
 fn judge_arguments(
     alloc: Global,
     others: &[Argument],
@@ -105,7 +105,7 @@ fn judge_arguments(
 
 // Judges a formula. What is known of a part goes on as it is, so that want of memory is looked at outside the recursion.
 #[cycle(judging)]
-#[tactic(auto, using(crate::proofs::Making::judged_limits))]
+#[tactic(auto, using(crate::proofs::FormulaValues::judged_limits))]
 fn judge(alloc: Global, formula: &Formula, entries: usize) -> Result<Judgement, AllocError>
     ensures { IfOk result (IsJudgement entries (formula_of formula.now)) }
 {

@@ -16,5 +16,5 @@ pub mod Numbers
 pub mod Bounds
 pub mod Values
 pub mod Conflicts
-pub mod Wrapping
-pub mod Falling
+pub mod WrappedSums
+pub mod FallingLoop

@@ -1,13 +1,13 @@
-pub mod Around
-mod Inserting
+pub mod ListElements
+mod OrderedNames
 pub mod Parts
-pub mod Inside
+pub mod InnerNames
 pub mod Spans
-pub mod Standing
-pub mod Rising
-pub mod Naming
-pub mod Nested
-pub mod Declaring
-pub mod Fresh
+pub mod FaultlessUnits
+pub mod LoopHeads
+pub mod NamedEntries
+pub mod FaultlessItems
+pub mod FaultlessKernels
+pub mod FreshNames
 pub mod Names
-pub mod Spelled
+pub mod SpelledNames

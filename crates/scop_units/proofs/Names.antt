@@ -26,10 +26,10 @@ use Rattle.scop_units.specs.Judging.{header_scope, body_scope, faults_of}
 use Rattle.scop_units.specs.Programs as programs
 use Rattle.scop_units.specs.Programs.{headed_by, wrapped, item_trees, all_trees, arrays_in, arrays_of, program_spelled}
 use Rattle.scop_units.specs.Names.{AreDistinct, TakeFresh, header_names, HasDistinctNames}
-use Rattle.scop_units.proofs.Standing.{parts_none, judged_none, told_none}
-use Rattle.scop_units.proofs.Declaring.{changes_nothing}
-use Rattle.scop_units.proofs.Fresh.{array_names, declared_keep, distinct_append, none_in, number_none}
-use Rattle.scop_units.proofs.Fresh.{parameter_keeps, parameters_keep, redeclared_fresh, IsDistinct}
+use Rattle.scop_units.proofs.FaultlessUnits.{parts_none, judged_none, told_none}
+use Rattle.scop_units.proofs.FaultlessKernels.{changes_nothing}
+use Rattle.scop_units.proofs.FreshNames.{array_names, declared_keep, distinct_append, none_in, number_none}
+use Rattle.scop_units.proofs.FreshNames.{parameter_keeps, parameters_keep, redeclared_fresh, IsDistinct}
 
 -- the names that a loop may not take
 abbrev pub taken_names : Scope → List Text

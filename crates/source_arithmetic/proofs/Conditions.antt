@@ -18,9 +18,9 @@ use Rattle.scop_roles.specs.Formula.{Formula, constant, name, index, bare_call, 
 use Rattle.scop_roles.specs.Values.{difference, comparison}
 use Rattle.scop_roles.specs.Values as roles
 use Rattle.scop_roles.proofs.Firsts.{part_or_own_none}
-use Rattle.scop_roles.proofs.Judging.{unary_first}
+use Rattle.scop_roles.proofs.NodeFaults.{unary_first}
 use Rattle.scop_roles.proofs.Parts.{judged_none, condition_sides, comparison_sides}
-use Rattle.scop_units.proofs.Standing.{only_none}
+use Rattle.scop_units.proofs.FaultlessUnits.{only_none}
 use Rattle.source_arithmetic.specs.Arithmetic.{whole, Holds, HasWhole, HasTruth}
 use Rattle.source_arithmetic.proofs.Wholes.{form_value, has_whole}
 

@@ -14,7 +14,7 @@ use Rattle.scop_roles.specs.Formula.{Formula}
 use Rattle.scop_units.specs.Scopes.{Scope, entries}
 use Rattle.scop_units.specs.Units.{name_faults, extent_faults, array_faults, array_of, padded, declared_over}
 use Rattle.scop_units.specs.Words.{Words}
-use Rattle.scop_units.proofs.Standing.{parts_none}
+use Rattle.scop_units.proofs.FaultlessUnits.{parts_none}
 use Rattle.source_arithmetic.specs.Arithmetic.{whole, HasWhole}
 use Rattle.source_arithmetic.proofs.Wholes.{AreAffine, form_value, has_whole}
 

@@ -12,9 +12,9 @@ use Rattle.scop_units.specs.Judging.{width, extents_in, parameter_faults, parame
 use Rattle.scop_units.specs.Judging.{behind_parameters, declared_faults, others_at, declared_at, items_at, first_scope}
 use Rattle.scop_units.specs.Judging.{header_scope, body_scope, faults_of}
 use Rattle.scop_units.specs.Programs.{array_in, arrays_in, arrays_of, all_trees, program_spelled}
-use Rattle.scop_units.proofs.Standing.{parts_none}
-use Rattle.scop_units.proofs.Nested.{ranks_in}
-use Rattle.scop_units.proofs.Declaring.{changes_nothing}
+use Rattle.scop_units.proofs.FaultlessUnits.{parts_none}
+use Rattle.scop_units.proofs.FaultlessItems.{ranks_in}
+use Rattle.scop_units.proofs.FaultlessKernels.{changes_nothing}
 use Rattle.scop_lexer.specs.Bytes.{Text}
 use Rattle.source_arithmetic.specs.Meaning.{NamesMean, DeclaresAt, DeclareAt, Means}
 use Rattle.source_arithmetic.proofs.Wholes.{AreAffine}

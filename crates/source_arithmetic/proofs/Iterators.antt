@@ -11,7 +11,7 @@ use Rattle.scop_roles.specs.Faults.{only_where}
 use Rattle.scop_units.specs.Scopes.{Scope, Ranked, with_loop, entries, number_from, number_of, number_or, number_inside}
 use Rattle.scop_units.specs.Scopes.{variable_or, array_in, outer_meaning, meaning_in, is_known, is_reserved}
 use Rattle.scop_units.specs.Scopes.{taken, iterator_fault}
-use Rattle.scop_units.proofs.Inside.{inside_meaning}
+use Rattle.scop_units.proofs.InnerNames.{inside_meaning}
 
 -- a name that a loop may take is none of an open loop
 taken_apart : (a : ℕ) (o : Option ℕ) (m : Meaning) → taken (variable_or a o m) ≡ None → o ≡ None

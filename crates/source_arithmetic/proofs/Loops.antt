@@ -25,7 +25,7 @@ use Rattle.scop_units.specs.Loops.{Change, counted, assigned, LoopHead, is_entry
 use Rattle.scop_units.specs.Loops.{added_stride, stride_of, set_stride, change_stride, stride, goes, is_form}
 use Rattle.scop_units.specs.Loops.{part_faults}
 use Rattle.scop_units.specs.Loops.{loop_faults, or_zero, loop_of}
-use Rattle.scop_units.proofs.Standing.{parts_none, judged_none, told_none, only_none, count_bounds}
+use Rattle.scop_units.proofs.FaultlessUnits.{parts_none, judged_none, told_none, only_none, count_bounds}
 use Rattle.source_arithmetic.specs.Arithmetic.{whole, Holds, IsNameOf, after_step, HasWhole, HasTruth, HasStep}
 use Rattle.source_arithmetic.proofs.Wholes.{form_value, has_whole}
 use Rattle.source_arithmetic.proofs.Conditions.{compared}

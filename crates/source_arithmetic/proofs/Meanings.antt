@@ -16,15 +16,15 @@ use Rattle.scop_units.specs.Units.{Stored, stored_faults, statement_of}
 use Rattle.scop_units.specs.Judging.{width, condition, loop_in, inside, stored, head_faults, compared, statements_in}
 use Rattle.scop_units.specs.Judging.{item_faults, items_faults}
 use Rattle.scop_units.specs.Programs.{item_trees, all_trees}
-use Rattle.scop_units.proofs.Standing.{parts_none}
-use Rattle.scop_units.proofs.Nested.{ranks_in, knows}
+use Rattle.scop_units.proofs.FaultlessUnits.{parts_none}
+use Rattle.scop_units.proofs.FaultlessItems.{ranks_in, knows}
 use Rattle.source_arithmetic.specs.Arithmetic.{HasNoComma}
 use Rattle.source_arithmetic.specs.Meaning.{NamesMean, GuardMeans, LoopMeans, StatementMeans, MeansAt, MeanAt}
 use Rattle.source_arithmetic.proofs.Conditions.{tests_value, has_truth}
 use Rattle.source_arithmetic.proofs.Commas.{no_comma}
 use Rattle.source_arithmetic.proofs.Loops.{loop_parts, parts_defined, first_turn, next_turn, turn_holds, changed_name}
 use Rattle.source_arithmetic.proofs.Orders.{inside_means}
-use Rattle.source_arithmetic.proofs.Storing.{place_same, statement_reads, right_stores, stored_defined}
+use Rattle.source_arithmetic.proofs.Stores.{place_same, statement_reads, right_stores, stored_defined}
 
 guard_means : (n : ℕ) (f : Formula) → faults n role.Condition f ≡ [] → GuardMeans n f (tests n f)
 guard_means n f e =

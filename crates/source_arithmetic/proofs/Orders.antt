@@ -19,7 +19,7 @@ use Rattle.scop_units.specs.Scopes.{is_known, is_reserved, redeclared, taken, it
 use Rattle.scop_units.specs.Units.{name_faults}
 use Rattle.scop_units.specs.Judging.{parameter_faults, behind_parameter}
 use Rattle.scop_units.specs.Judging.{names_faults, behind_names, names_end, declared_faults, behind_declared}
-use Rattle.scop_units.proofs.Standing.{parts_none, told_none, both_false, where_false}
+use Rattle.scop_units.proofs.FaultlessUnits.{parts_none, told_none, both_false, where_false}
 use Rattle.source_arithmetic.specs.Meaning.{NamesMean}
 use Rattle.source_arithmetic.proofs.Iterators.{own_meaning, kept_meaning, same_text, equal_text}
 

@@ -13,9 +13,9 @@ use Rattle.scop_roles.specs.declared.formula.Role.TheVariants as role
 use Rattle.scop_roles.specs.Faults.{first, faults, only_where, own, operand_role, side_role}
 use Rattle.scop_roles.specs.Forms.{is_number, is_signed, is_sum_or_product}
 use Rattle.scop_roles.specs.Formula.{Formula, constant, name, index, bare_call, call, unary, cast, binary}
-use Rattle.scop_roles.proofs.Judging.{or_else_none}
+use Rattle.scop_roles.proofs.NodeFaults.{or_else_none}
 use Rattle.scop_roles.proofs.Parts.{judged_none, unary_value, binary_value}
-use Rattle.scop_units.proofs.Standing.{where_false}
+use Rattle.scop_units.proofs.FaultlessUnits.{where_false}
 use Rattle.source_arithmetic.specs.Arithmetic.{has_sign, names_signed, makes_signed, HasNoComma}
 
 pub comma_sides : (o : Op) (f g : Formula) (at : ℕ) → HasNoComma (binary o f g at) → HasNoComma f × HasNoComma g

@@ -24,9 +24,9 @@ use Rattle.scop_roles.specs.Faults.{first, told, faults, place_faults, called, o
 use Rattle.scop_roles.specs.Forms.{is_sum_or_product, is_product, is_signed, is_within, has_name, form}
 use Rattle.scop_roles.specs.Forms.{combined_forms, product_of_forms}
 use Rattle.scop_roles.specs.Formula.{Formula, constant, name, index, bare_call, call, unary, cast, binary, place}
-use Rattle.scop_roles.proofs.Judging.{sum_sides}
+use Rattle.scop_roles.proofs.NodeFaults.{sum_sides}
 use Rattle.scop_roles.proofs.Parts.{judged_none, append_none}
-use Rattle.scop_units.proofs.Standing.{both_false}
+use Rattle.scop_units.proofs.FaultlessUnits.{both_false}
 use Rattle.source_arithmetic.specs.Arithmetic.{whole, HasWhole}
 
 -- a form without coefficients: where no name stands

@@ -25,7 +25,7 @@ use Rattle.scop_roles.specs.Forms.{is_sum_or_product, is_shift, is_signed, form}
 use Rattle.scop_roles.specs.Formula.{Formula, constant, name, index, bare_call, call, unary, cast, binary}
 use Rattle.scop_roles.specs.Scope.{IsInScope}
 use Rattle.scop_roles.specs.Values.{combined, count, expression}
-use Rattle.scop_roles.proofs.Judging.{signed_is_affine}
+use Rattle.scop_roles.proofs.NodeFaults.{signed_is_affine}
 use Rattle.scop_roles.proofs.Parts.{judged_none, index_value, cast_value, unary_value, signed_unary}
 use Rattle.scop_roles.proofs.Parts.{signed_binary, binary_value, shift_count}
 use Rattle.source_arithmetic.specs.Arithmetic.{whole, word, cells_in, HasNoComma, has_sign}

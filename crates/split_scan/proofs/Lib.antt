@@ -1,8 +1,8 @@
 pub mod Values
-pub mod Asking
-pub mod Parting
-pub mod Copying
-pub mod Ranking
-pub mod Building
-pub mod Barring
-pub mod Descending
+pub mod EmptinessAnswers
+pub mod NodeParts
+pub mod OutlineCopies
+pub mod PartOrder
+pub mod PartLoops
+pub mod HullBounds
+pub mod InnerNodes

@@ -4,7 +4,7 @@ use Rattle.std.proofs.Common.{map, sym, subst, All, arith, length-append}
 use Rattle.std.specs.Prelude.{◌≤◌, ◌≤ℤ◌}
 use Rattle.std.proofs.lemmas.Int.{ints}
 use Rattle.std.proofs.lemmas.List.Elements.{All-cons, All-head, All-nil, All-tail}
-use Rattle.fm_projection.proofs.Following.{one_more}
+use Rattle.fm_projection.proofs.WholePoints.{one_more}
 use Rattle.whole_numbers.specs.Lists.{dot}
 use Rattle.whole_numbers.specs.Affine.{Affine, value_of}
 use Rattle.whole_numbers.proofs.Ring.{mul_zero_left}

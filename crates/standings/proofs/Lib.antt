@@ -1,2 +1,2 @@
-pub mod Gathering
+pub mod GatheredStatements
 pub mod Heads

@@ -6,7 +6,7 @@ use Rattle.std.proofs.lemmas.Int.{ints}
 use Rattle.whole_numbers.proofs.Order.{le_or_lt}
 use Rattle.stmt_graph.specs.Graph.{number_in}
 use Rattle.stmt_graph.specs.Graph.{IsNumbering, Reaches}
-use Rattle.stmt_graph.proofs.Counting.{lt_or_eq}
+use Rattle.stmt_graph.proofs.Counts.{lt_or_eq}
 
 abbrev pub Agrees : ℕ → List ℕ → List ℕ → ℕ → Type 0
 Agrees n f g k = (a j : ℕ) → a < n → j < k → number_in f a ≡ j → number_in g a ≡ j

@@ -1,5 +1,5 @@
-pub mod Same
-pub mod Entering
+pub mod Congruences
+pub mod LoopPoints
 pub mod Linear
 pub mod Offsets
 pub mod Accesses

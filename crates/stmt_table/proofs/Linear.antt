@@ -15,7 +15,7 @@ use Rattle.scop_syntax.specs.Walk.{turn_point}
 use Rattle.stmt_table.specs.Numbers.{number_at, row_major}
 use Rattle.stmt_table.specs.Points.{point_in}
 use Rattle.stmt_table.specs.steps.Forms.{constants, number_form, offset_form, point_forms, turn_form}
-use Rattle.stmt_table.proofs.Entering.{point_by_front}
+use Rattle.stmt_table.proofs.LoopPoints.{point_by_front}
 
 turn_value : (n k : ℕ) (turns : List ℤ) → k < n → value_of (turn_form n k) turns ≡ get_or turns k (pos 0)
 turn_value n k turns less = let unit = dot-unit n k turns less in omega (arith, ints)

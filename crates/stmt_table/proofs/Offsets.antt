@@ -7,7 +7,7 @@ use Rattle.scop_syntax.specs.Execution.{AreWithin, IsCell, cell_number, offset_f
 use Rattle.scop_syntax.specs.Tree.{Access}
 use Rattle.stmt_table.specs.Numbers.{number_at, row_major}
 use Rattle.stmt_table.specs.steps.Same.{AreSame, IsSame}
-use Rattle.stmt_table.proofs.Same.{lists_same, offset_same, sum_same, values_same}
+use Rattle.stmt_table.proofs.Congruences.{lists_same, offset_same, sum_same, values_same}
 
 offset_ended : (extents : List ℕ) (offset : ℤ) → row_major offset extents [] ≡ offset
 offset_ended [] offset = refl

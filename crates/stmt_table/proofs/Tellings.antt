@@ -19,7 +19,7 @@ use Rattle.stmt_table.specs.steps.Forms.{number_form}
 use Rattle.stmt_table.specs.steps.Rights.{IsFormOver, cell_of_row, one_row}
 use Rattle.stmt_table.specs.steps.Same.{IsSame}
 use Rattle.stmt_table.proofs.Linear.{coefficient_told, constant_told, number_told}
-use Rattle.stmt_table.proofs.Same.{forms_same, same_wrapped, wrapped_same}
+use Rattle.stmt_table.proofs.Congruences.{forms_same, same_wrapped, wrapped_same}
 
 -- a difference of wrapped numbers, wrapped
 difference_wrapped : (x y : ℤ) → int_wrap w64 (int_wrap w64 x -ℤ int_wrap w64 y) ≡ int_wrap w64 (x -ℤ y)

@@ -24,7 +24,7 @@ use Rattle.stmt_table.specs.Tables.{AreForms, IsTableOf, Stores, forms_in, right
 use Rattle.stmt_table.specs.declared.table.Row.{Row}
 use Rattle.stmt_table.specs.declared.table.Table.{Table}
 use Rattle.stmt_table.proofs.Offsets.{number_exact}
-use Rattle.stmt_table.proofs.Entering.{point_in_scopes}
+use Rattle.stmt_table.proofs.LoopPoints.{point_in_scopes}
 
 -- the laws of walks and statements
 pub record WalkLaws : Type 0 where

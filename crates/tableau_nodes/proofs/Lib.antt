@@ -1,4 +1,4 @@
 pub mod Opposites
-pub mod Read_off
-pub mod Moving
-pub mod Copying
+pub mod LineParts
+pub mod NodeMoves
+pub mod CopiedLists

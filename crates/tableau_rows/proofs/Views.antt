@@ -17,7 +17,7 @@ use Rattle.tableau_rows.specs.Moves.{entries_run, line_run, lowest_row, lowest_l
 use Rattle.tableau_rows.specs.Moves.{placed_line_run, buffer_run, row_run, rows_run, line_row, rows_in}
 use Rattle.tableau_rows.proofs.Lines.{entry_at}
 use Rattle.tableau_rows.proofs.Pivots.{length-crossed}
-use Rattle.tableau_rows.proofs.Moving.{entries_run-exact}
+use Rattle.tableau_rows.proofs.PivotMoves.{entries_run-exact}
 
 -- one row
 pub line-unit : (s : ℕ) (row : List ℤ) → 0 < length row

@@ -11,7 +11,7 @@ ghost use Rattle.tableau_rows.specs.Moves.{row_at, cut_run, rows_run, buffer_run
 
 /// Where the run of a problem without parameters ends, its point is the least whole point, or there
 /// is none.
-#[tactic(auto, using(crate::proofs::Answering::answers))]
+#[tactic(auto, using(crate::proofs::Verdicts::answers))]
 pub fn questions_are_answered_right()
     ensures { (budget n : ℕ) (rows : List Affine) (v : Verdict) (left : ℕ)
         → Speaks n rows

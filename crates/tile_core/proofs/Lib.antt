@@ -3,7 +3,7 @@ pub mod Cuts
 pub mod Scans
 pub mod Plans
 pub mod Tiles
-pub mod Touched
+pub mod TouchedCells
 pub mod Rows
 pub mod Workers
 pub mod Boards

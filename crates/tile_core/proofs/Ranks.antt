@@ -13,8 +13,8 @@ use Rattle.scop_syntax.specs.Walk.{Instance}
 use Rattle.scop_syntax.proofs.Members.{in_from_place}
 use Rattle.scop_syntax.proofs.Statements.{one_instance}
 use Rattle.conflict_orders.specs.Orders.{AreDistinct}
-use Rattle.conflict_orders.proofs.Sorting.{distinct_places}
-use Rattle.conflict_orders.proofs.Standing.{in_less, parted}
+use Rattle.conflict_orders.proofs.SortedLists.{distinct_places}
+use Rattle.conflict_orders.proofs.Precedence.{in_less, parted}
 use Rattle.tile_core.specs.Ranks.{is_same, place_in}
 
 both_true : (a b : Bool) → a && b ≡ true → (a ≡ true) × (b ≡ true)

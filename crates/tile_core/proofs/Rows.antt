@@ -21,7 +21,7 @@ use Rattle.tile_events.specs.Flat.{read_by, value_by}
 use Rattle.tile_core.specs.Plans.{IsPlan, extents_in, places_in, program_in, walk_in}
 use Rattle.tile_core.specs.Plans as plans
 use Rattle.tile_core.specs.declared.plan.Plan.{Plan}
-use Rattle.tile_core.proofs.Touched.{TellsCell, reads_there, there, value_is}
+use Rattle.tile_core.proofs.TouchedCells.{TellsCell, reads_there, there, value_is}
 
 -- a visit's row
 abbrev pub Row : Plan → CodeInstance → Visit → Type 0

@@ -14,7 +14,7 @@ use Rattle.loop_tree.specs.SpotView.{IsSpotOf, found_in, to_come, StandAlike}
 use Rattle.loop_tree.specs.View.{trees_in}
 use Rattle.loop_tree.specs.declared.spot.Spot.{Spot}
 use Rattle.loop_tree.proofs.Visits.{listed_same}
-use Rattle.loop_tree.proofs.Alike.{rest_alike}
+use Rattle.loop_tree.proofs.SameSpots.{rest_alike}
 use Rattle.tile_list.specs.Tiles.{start_of}
 use Rattle.tile_list.specs.declared.list.Tile.{Tile}
 use Rattle.tile_events.specs.Deal.{IsScan}

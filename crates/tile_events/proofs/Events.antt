@@ -21,7 +21,7 @@ use Rattle.tile_events.proofs.Workers.{total_set, set_at, passed_free, passed_ho
 use Rattle.tile_events.proofs.Workers.{all_passed_set}
 use Rattle.tile_events.proofs.Waves.{wave_opens}
 use Rattle.tile_events.proofs.Changes.{changed, begun_back, done_set, cells_same, tally_same}
-use Rattle.tile_events.proofs.Ready.{done_from, passed_at, ready_next}
+use Rattle.tile_events.proofs.ReadyInstances.{done_from, passed_at, ready_next}
 
 -- claim
 bool_same : (a b : Bool) → (a ≡ true → b ≡ true) → (b ≡ true → a ≡ true) → a ≡ b

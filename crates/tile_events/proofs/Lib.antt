@@ -2,7 +2,7 @@ pub mod Cells
 pub mod Workers
 pub mod Waves
 pub mod Changes
-pub mod Ready
+pub mod ReadyInstances
 pub mod Events
 pub mod Rests
 pub mod Runs

@@ -14,7 +14,7 @@ use Rattle.tile_events.specs.Sound.{Holds, total, one_if_held, is_done, Sound}
 use Rattle.tile_events.specs.Opening.{IsOpening, IsQuiet, ReadsRight}
 use Rattle.tile_events.proofs.Cells.{words_all}
 use Rattle.tile_events.proofs.Workers.{passed_free}
-use Rattle.tile_events.proofs.Ready.{done_from}
+use Rattle.tile_events.proofs.ReadyInstances.{done_from}
 use Rattle.tile_events.proofs.Events.{claim_keeps, last_keeps, open_keeps, load_keeps, load_value, store_keeps}
 use Rattle.tile_events.proofs.Events.{finish_keeps}
 

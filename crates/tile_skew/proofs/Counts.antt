@@ -23,7 +23,7 @@ use Rattle.schedule_rows.specs.Schedule.{loops_in}
 use Rattle.tile_skew.specs.ScanSets.{count_of, most_iterators}
 use Rattle.tile_skew.specs.Tilings.{row_items, block_items, statement_items}
 use Rattle.tile_skew.specs.steps.Facts.{StatementFacts}
-use Rattle.tile_skew.proofs.Alike.{rows_many}
+use Rattle.tile_skew.proofs.AlikeSets.{rows_many}
 
 -- lists of at most k elements each, one behind another
 flat_few : {X Y : Type 0} (f : X → List Y) (k : ℕ) (xs : List X) → ((x : X) → In x xs → length (f x) ≤ k)

@@ -16,7 +16,7 @@ use Rattle.whole_numbers.proofs.Ring.{mul_zero_left}
 use Rattle.integer_sets.specs.Points.{Satisfies}
 use Rattle.scop_syntax.specs.Members.{In}
 use Rattle.scop_syntax.proofs.Members.{place_of as place_in}
-use Rattle.stmt_graph.proofs.Reaching.{in_all}
+use Rattle.stmt_graph.proofs.Reachability.{in_all}
 use Rattle.iteration_domains.specs.Model.{Modelled, KernelModel}
 use Rattle.iteration_domains.specs.Sizes.{IsKernelModel}
 use Rattle.loop_tree.specs.Tiling.{TileRow, Item, row, scalar as number, Items, item_values, item_value, coordinates}
@@ -30,7 +30,7 @@ use Rattle.tile_skew.specs.declared.layout.Layout.{Layout}
 use Rattle.tile_skew.specs.ScanSets.{count_of, front_of, points_of}
 use Rattle.tile_skew.specs.Tilings.{form_at, rows_at, row_items, block_items, first_band_at, behind_at, statement_items}
 use Rattle.tile_skew.specs.steps.Sizes.{AreRowsOver, AreItemsOver, AreOver}
-use Rattle.tile_skew.proofs.Conflicting.{loops_at}
+use Rattle.tile_skew.proofs.ConflictPairs.{loops_at}
 use Rattle.tile_skew.proofs.Points.{Parts, Says, point, point_from, point_to, at_tiles}
 
 -- a list in two parts

@@ -4,7 +4,7 @@ use Rattle.std.specs.Prelude.{◌≤◌}
 use Rattle.std.proofs.lemmas.Bool.{eq-eqb, eqb-true, false≢true, cases_lt}
 use Rattle.std.proofs.lemmas.Bool.Decides.{nat_tests}
 use Rattle.stmt_graph.specs.Graph.{number_in, IsNumbering, Reaches}
-use Rattle.stmt_graph.proofs.Counting.{lt_or_eq, count, count_falls, count_within, found}
+use Rattle.stmt_graph.proofs.Counts.{lt_or_eq, count, count_falls, count_within, found}
 
 -- each number up to that of a statement is the number of one
 each_taken : (n : ℕ) (edges : List (ℕ × ℕ)) (f : List ℕ) → IsNumbering n edges f → (fuel a k : ℕ)

@@ -13,7 +13,7 @@ use Rattle.iteration_domains.specs.Model.{Modelled}
 use Rattle.iteration_domains.specs.Rows.{variable, variables}
 use Rattle.iteration_domains.proofs.RowLaws.{value_of-variable}
 use Rattle.loop_tree.specs.Tiling.{TileRow, Items, item_values, coordinates, wave_sum}
-use Rattle.schedule_rows.proofs.Determined.{same_head, same_tail}
+use Rattle.schedule_rows.proofs.Determinism.{same_head, same_tail}
 use Rattle.tile_skew.specs.declared.layout.Layout.{Layout}
 use Rattle.tile_skew.specs.ScanSets.{count_of, front_of, width, domain_form, row_form, number_form}
 use Rattle.tile_skew.specs.ScanSets.{item_form}
@@ -21,9 +21,9 @@ use Rattle.tile_skew.specs.ScanSets.{carried_form}
 use Rattle.tile_skew.specs.ScanSets.{are_coordinates, forms_of_items, wave_equalities, item_equalities}
 use Rattle.tile_skew.specs.ScanSets.{missing_equalities, points_of}
 use Rattle.tile_skew.specs.steps.Sizes.{AreOver}
-use Rattle.tile_skew.proofs.Valued.{domain-value, carried-value, segment, values_from, values_to, rows_agree}
-use Rattle.tile_skew.proofs.Valued.{AreValues, next_place, whole_values}
-use Rattle.tile_skew.proofs.Valued.{coordinates_from, coordinates_to, numbers-values, items-values}
+use Rattle.tile_skew.proofs.SetValues.{domain-value, carried-value, segment, values_from, values_to, rows_agree}
+use Rattle.tile_skew.proofs.SetValues.{AreValues, next_place, whole_values}
+use Rattle.tile_skew.proofs.SetValues.{coordinates_from, coordinates_to, numbers-values, items-values}
 
 -- a point in parts: leading scalars and wave sum, coordinates, items, turns, missing iterators, parameters
 pub record Parts (l : Layout) (s : Items) (hs bs cs ts zs ps : List ℤ) : Type 0 where

@@ -5,7 +5,7 @@ use Rattle.std.specs.Prelude.{◌≤◌, ⊤}
 use Rattle.std.proofs.lemmas.List.{append-nil, length-append, nil_from_length}
 use Rattle.std.proofs.lemmas.Bool.{cases_lt}
 use Rattle.null_space.specs.Narrowing.{narrowed_by, Grows}
-use Rattle.null_space.proofs.Within.{units_length}
+use Rattle.null_space.proofs.Sizes.{units_length}
 use Rattle.stmt_graph.specs.Graph.{number_in}
 use Rattle.iteration_domains.specs.Dependence.{Dependence}
 use Rattle.schedule_rows.specs.Dependences.{edges_of}
@@ -13,9 +13,9 @@ use Rattle.schedule_rows.specs.Items.{Row, Marked, Block, scalar, band, part_of,
 use Rattle.schedule_rows.specs.Posed.{vectors_of, IsFull, loops_of}
 use Rattle.schedule_rows.specs.Next.{State, rows_of, Goes, Ends}
 use Rattle.schedule_rows.specs.Outcomes.{Runs, IsSchedule, items_in}
-use Rattle.schedule_rows.proofs.Measuring.{VectorLaws, vectors_more, rows_closed, rows_scalar, rows_appended}
-use Rattle.schedule_rows.proofs.Reading.{next_goes, next_ends}
-use Rattle.schedule_rows.proofs.Measuring.{restricts_length}
+use Rattle.schedule_rows.proofs.Measures.{VectorLaws, vectors_more, rows_closed, rows_scalar, rows_appended}
+use Rattle.schedule_rows.proofs.NextSteps.{next_goes, next_ends}
+use Rattle.schedule_rows.proofs.Measures.{restricts_length}
 use Rattle.tile_skew.proofs.Numbers.{numbers_below}
 
 -- as many kernel vectors as loops less rows, or none

@@ -13,7 +13,7 @@ use Rattle.whole_numbers.proofs.Sizes.{abs_at_most}
 use Rattle.affine_forms.specs.Parts.{variables_of}
 use Rattle.iteration_domains.specs.Sizes.{size, form_size}
 use Rattle.iteration_domains.specs.Rows.{variable}
-use Rattle.iteration_domains.proofs.Entering.{length-variable}
+use Rattle.iteration_domains.proofs.Surroundings.{length-variable}
 use Rattle.iteration_domains.proofs.Sizes.{size-zeros, size-sum, size-multiple, size-variable}
 use Rattle.loop_tree.specs.Tiling.{TileRow}
 use Rattle.schedule_rows.specs.Sized.{IsSmall}

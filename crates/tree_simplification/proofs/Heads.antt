@@ -10,7 +10,7 @@ use Rattle.whole_numbers.specs.Affine.{Affine, value_of}
 use Rattle.whole_numbers.specs.Floor.{floor}
 use Rattle.scop_syntax.specs.Kernel.{AreAtMost}
 use Rattle.scop_syntax.proofs.Members.{le_z_holds}
-use Rattle.iteration_domains.proofs.Entering.{length-composed}
+use Rattle.iteration_domains.proofs.Surroundings.{length-composed}
 use Rattle.loop_tree.specs.Fits.{AreZeros, form_in}
 use Rattle.loop_tree.specs.Marks.{AreTests, IsTest}
 use Rattle.loop_tree.specs.Shape.{BoundsAreOver, BoundsAreUpTo, IsOver, IsOverUpTo, TestIsUpTo}

@@ -7,7 +7,7 @@ use Rattle.std.proofs.lemmas.List.{length-map}
 use Rattle.std.proofs.lemmas.List.Elements.{All-nil, All-push}
 use Rattle.whole_numbers.specs.Affine.{Affine, composed}
 use Rattle.iteration_domains.specs.Rows.{variable, variables}
-use Rattle.iteration_domains.proofs.Entering.{length-variables}
+use Rattle.iteration_domains.proofs.Surroundings.{length-variables}
 use Rattle.loop_tree.specs.Fits.{form_in}
 use Rattle.loop_tree.specs.Shape.{BoundsAreOver, BoundsAreUpTo, IsOver, IsUpTo, NestAllTo, TestIsUpTo, TreesAreOver}
 use Rattle.loop_tree.specs.Shape.{TreesAreUpTo}
@@ -19,11 +19,11 @@ use Rattle.loop_tree.proofs.Weights.{node_here}
 use Rattle.tree_simplification.specs.steps.Inlined.{AreTestsFor, CanInline, Extends, Inlines, IsPlace, bounds_over}
 use Rattle.tree_simplification.specs.steps.Inlined.{inside, once, widened}
 use Rattle.tree_simplification.specs.steps.Joined.{joined}
-use Rattle.tree_simplification.proofs.Composed.{bounds_sized, place_sized}
-use Rattle.tree_simplification.proofs.Inlining.{gone_guard, gone_loop, kept_guard, kept_loop, leaf_stays, nests_guard}
-use Rattle.tree_simplification.proofs.Inlining.{nothing_stays, then_others}
-use Rattle.tree_simplification.proofs.Inside.{inside_sized}
-use Rattle.tree_simplification.proofs.Joined.{joined_assoc, joined_none, nodes_joined}
+use Rattle.tree_simplification.proofs.ComposedForms.{bounds_sized, place_sized}
+use Rattle.tree_simplification.proofs.InlinedNodes.{gone_guard, gone_loop, kept_guard, kept_loop, leaf_stays}
+use Rattle.tree_simplification.proofs.InlinedNodes.{nests_guard, nothing_stays, then_others}
+use Rattle.tree_simplification.proofs.InnerForms.{inside_sized}
+use Rattle.tree_simplification.proofs.JoinedTrees.{joined_assoc, joined_none, nodes_joined}
 
 -- how many forms a place has
 pub place_length : (m k : ℕ) (loops forms : List Affine) → IsPlace m k loops forms → length forms ≡ length loops + m

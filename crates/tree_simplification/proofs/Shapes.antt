@@ -12,9 +12,9 @@ use Rattle.loop_tree.specs.Tree.{Bound, Bounds, only, besides, Test, Tree, loop,
 use Rattle.tree_simplification.specs.steps.Context.{Context, entered, parts, tested}
 use Rattle.tree_simplification.specs.steps.Joined.{joined}
 use Rattle.tree_simplification.specs.steps.Trimmed.{Among, Trims, TrimsAll, under}
-use Rattle.tree_simplification.proofs.Joined.{flat_joined, nested_joined, of_joined, over_joined, serial_joined}
-use Rattle.tree_simplification.proofs.Joined.{small_joined}
-use Rattle.tree_simplification.proofs.Leaving.{all_among}
+use Rattle.tree_simplification.proofs.JoinedTrees.{flat_joined, nested_joined, of_joined, over_joined, serial_joined}
+use Rattle.tree_simplification.proofs.JoinedTrees.{small_joined}
+use Rattle.tree_simplification.proofs.RemainingParts.{all_among}
 
 -- what holds of each part of bounds
 abbrev pub Each : (Bound → Type 0) → Bounds → Type 0

@@ -10,7 +10,7 @@ use Rattle.loop_tree.proofs.Weights.{node_here}
 use Rattle.tree_simplification.specs.steps.Context.{Context, tested}
 use Rattle.tree_simplification.specs.steps.Joined.{joined}
 use Rattle.tree_simplification.specs.steps.Trimmed.{CanTrim, IsEntered, Trims, TrimsAll}
-use Rattle.tree_simplification.proofs.Joined.{joined_assoc, joined_none}
+use Rattle.tree_simplification.proofs.JoinedTrees.{joined_assoc, joined_none}
 use Rattle.tree_simplification.proofs.Shapes.{flat_body}
 use Rattle.tree_simplification.proofs.Walks.{one_more}
 

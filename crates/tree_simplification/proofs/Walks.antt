@@ -30,7 +30,7 @@ use Rattle.tree_simplification.specs.steps.Joined.{joined}
 use Rattle.tree_simplification.specs.steps.Trimmed.{Among, Trims, TrimsAll, under}
 use Rattle.tree_simplification.proofs.RowValues.{turned_is}
 use Rattle.tree_simplification.proofs.Contexts.{high_to, low_to, meets_sided, meets_tested, sized_sided, sized_tested}
-use Rattle.tree_simplification.proofs.Joined.{fits_joined, free_joined, walk_joined}
+use Rattle.tree_simplification.proofs.JoinedTrees.{fits_joined, free_joined, walk_joined}
 use Rattle.tree_simplification.proofs.Shapes.{Each, each_among, flat_body}
 
 -- a loop's values, one by one

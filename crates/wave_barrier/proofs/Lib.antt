@@ -1,2 +1,2 @@
-pub mod Opens
+pub mod Openings
 pub mod Finishes

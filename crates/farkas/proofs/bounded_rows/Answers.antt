@@ -3,7 +3,7 @@ use Rattle.std.specs.Prelude.{IfOk}
 use Rattle.iteration_domains.specs.Dependence.{Dependence}
 use Rattle.farkas.specs.declared.claim.Claim.TheVariants.{Bounding}
 use Rattle.farkas.specs.Meaning.{IsFarkas, Bounds}
-use Rattle.farkas.proofs.Going.{if_ok}
+use Rattle.farkas.proofs.EliminationRuns.{if_ok}
 use Rattle.farkas.proofs.Meaning.{farkas-bounds}
 use Rattle.farkas.proofs.bounded_rows.Goals as goal
 

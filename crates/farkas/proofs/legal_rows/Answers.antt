@@ -3,7 +3,7 @@ use Rattle.std.specs.Prelude.{IfOk}
 use Rattle.iteration_domains.specs.Dependence.{Dependence}
 use Rattle.farkas.specs.declared.claim.Claim.TheVariants.{Legality}
 use Rattle.farkas.specs.Meaning.{IsFarkas, Keeps}
-use Rattle.farkas.proofs.Going.{if_ok}
+use Rattle.farkas.proofs.EliminationRuns.{if_ok}
 use Rattle.farkas.proofs.Meaning.{farkas-keeps}
 use Rattle.farkas.proofs.legal_rows.Goals as goal
 

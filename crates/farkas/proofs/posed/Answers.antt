@@ -1,12 +1,12 @@
 use Rattle.std.proofs.Common.{sym, ap, subst, refl}
-use Rattle.fm_projection.proofs.Narrowing.{same_ok}
+use Rattle.fm_projection.proofs.RemovedEntries.{same_ok}
 use Rattle.wide_math.specs.declared.Wide.{Wide}
 use Rattle.fractions.specs.Farkas.{own_rows}
 use Rattle.farkas.specs.declared.layout.Layout.{Layout}
 use Rattle.farkas.specs.declared.stuck.Stuck.TheVariants as stuck
 use Rattle.farkas.specs.Run.{posed_run}
 use Rattle.farkas.specs.Gives.{Halts}
-use Rattle.farkas.proofs.Forming.{posed-halts, posed-sized, posed-gives}
+use Rattle.farkas.proofs.MatchingParts.{posed-halts, posed-sized, posed-gives}
 use Rattle.farkas.proofs.posed.Goals as goal
 
 pub returns-in-Err-clause-run : goal.returns-in-Err-clause-run

@@ -4,7 +4,7 @@ use Rattle.farkas.specs.declared.layout.Layout.{Layout}
 use Rattle.farkas.specs.Run.{left_run, rows_run}
 use Rattle.integer_sets.specs.Constraints.{Constraints}
 use Rattle.farkas.specs.Gives.{Follows}
-use Rattle.farkas.proofs.Going.{posed-shape, rows-halt, rows-left, follows-same, follows-farkas}
+use Rattle.farkas.proofs.EliminationRuns.{posed-shape, rows-halt, rows-left, follows-same, follows-farkas}
 use Rattle.farkas.proofs.rows_of.Goals as goal
 use Rattle.farkas.proofs.rows_of.Goals.{After-without_multipliers}
 

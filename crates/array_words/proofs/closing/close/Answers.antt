@@ -1,6 +1,6 @@
 use Rattle.std.proofs.Common.{arith, length}
 use Rattle.std.specs.Mem.Slots.{slots_items}
-use Rattle.array_words.proofs.Ending.{closed_cells}
+use Rattle.array_words.proofs.FinalCells.{closed_cells}
 use Rattle.array_words.proofs.closing.close.Goals as goal
 
 pub returns-clause-cells : goal.returns-clause-cells

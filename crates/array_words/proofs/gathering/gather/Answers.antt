@@ -3,7 +3,7 @@ use Rattle.tile_events.specs.Sound.{total}
 use Rattle.tile_core.specs.declared.words.Pass.{Pass}
 use Rattle.array_words.specs.Closing.{IsResting, one_if_ended, stage_in, stage_after}
 use Rattle.tile_core.specs.Passes.{IsPass}
-use Rattle.array_words.proofs.Joining.{total_last}
+use Rattle.array_words.proofs.Joins.{total_last}
 use Rattle.array_words.proofs.Members.{last_of, front_of}
 use Rattle.array_words.proofs.gathering.gather.Goals as goal
 

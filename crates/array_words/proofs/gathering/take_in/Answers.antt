@@ -1,6 +1,6 @@
 use Rattle.std.proofs.Common.{rules, sym, subst}
 use Rattle.array_words.specs.Closing.{Rests}
-use Rattle.array_words.proofs.Joining.{join_allowed, rests_after}
+use Rattle.array_words.proofs.Joins.{join_allowed, rests_after}
 use Rattle.array_words.proofs.gathering.take_in.Goals as goal
 
 pub join_seat-requires : goal.join_seat-requires

@@ -1,6 +1,6 @@
 use Rattle.std.proofs.Common.{rules, ◌≡◌, ◌∷◌, List, ℕ, ◌+◌, ◌<◌, ◌∙◌, length, ap, sym}
 use Rattle.tile_core.specs.Plans.{shape_of}
-use Rattle.array_words.proofs.Starting.{opening_held}
+use Rattle.array_words.proofs.OpeningState.{opening_held}
 use Rattle.array_words.proofs.opening.opened.Goals as goal
 
 pub of_words-requires : goal.of_words-requires

@@ -1,5 +1,5 @@
 use Rattle.std.proofs.Common.{rules}
-use Rattle.array_words.proofs.Starting.{split_allowed}
+use Rattle.array_words.proofs.OpeningState.{split_allowed}
 use Rattle.array_words.proofs.opening.split.Goals as goal
 
 pub split_seat-requires : goal.split_seat-requires

@@ -1,5 +1,5 @@
 use Rattle.std.proofs.Common.{rules, ◌≡◌, ◌<◌, ◌≤◌, ℕ, List, OnOk, length, subst}
-use Rattle.c_printer.proofs.Putting.{choice_put, choices_end}
+use Rattle.c_printer.proofs.PutTexts.{choice_put, choices_end}
 use Rattle.c_printer.proofs.bounds.put_bounds.Goals as goal
 
 pub loop-at-preserved : goal.loop-at-preserved

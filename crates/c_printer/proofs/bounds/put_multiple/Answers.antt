@@ -6,7 +6,7 @@ use Rattle.std.proofs.lemmas.Int.{to_z-of_z}
 use Rattle.c_printer.specs.Forms.{tree_form_text}
 use Rattle.c_printer.specs.Nodes.{divisor_text}
 use Rattle.c_printer.specs.Statements.{between}
-use Rattle.c_printer.proofs.Putting.{behind}
+use Rattle.c_printer.proofs.PutTexts.{behind}
 use Rattle.c_printer.proofs.bounds.put_multiple.Goals as goal
 
 pub returns : goal.returns

@@ -2,7 +2,7 @@ use Rattle.std.proofs.Common.{rules, ◌≡◌, ◌∙◌, ◌+◌, ◌-◌, ◌
 use Rattle.std.specs.Prelude.{ℤ}
 use Rattle.std.proofs.lemmas.List.{append_assoc}
 use Rattle.whole_numbers.specs.Lists.{zeros}
-use Rattle.c_printer.proofs.Putting.{zeros_ahead}
+use Rattle.c_printer.proofs.PutTexts.{zeros_ahead}
 use Rattle.c_printer.proofs.forms.spread.Goals as goal
 
 pub loop-at-preserved : goal.loop-at-preserved

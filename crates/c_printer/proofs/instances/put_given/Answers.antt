@@ -3,7 +3,7 @@ use Rattle.std.specs.Prelude.{codes}
 use Rattle.form_text.specs.Forms.{form_text}
 use Rattle.c_printer.specs.Forms.{iterator_form}
 use Rattle.c_printer.specs.Statements.{between}
-use Rattle.c_printer.proofs.Putting.{behind}
+use Rattle.c_printer.proofs.PutTexts.{behind}
 use Rattle.c_printer.proofs.instances.put_given.Goals as goal
 
 pub returns : goal.returns

@@ -1,5 +1,5 @@
 use Rattle.std.proofs.Common.{◌∙◌, ◌++◌, ℕ, List, append-nil, ap, drop, map, sym}
-use Rattle.c_printer.proofs.Putting.{givens_end}
+use Rattle.c_printer.proofs.PutTexts.{givens_end}
 use Rattle.c_printer.proofs.instances.put_givens.Goals as goal
 
 pub returns-then-at-turns : goal.returns-then-at-turns

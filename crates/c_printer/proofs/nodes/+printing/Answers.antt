@@ -1,7 +1,7 @@
 use Rattle.std.proofs.Common.{rules, ◌+◌, ◌<◌, arith}
 use Rattle.loop_tree.specs.View.{nodes_of, tree_of}
 use Rattle.loop_tree.proofs.Weights.{weight, weight_all, node_weight, node_here}
-use Rattle.c_printer.proofs.Putting.{node_put}
+use Rattle.c_printer.proofs.PutTexts.{node_put}
 use Rattle.c_printer.proofs.nodes.+printing.Goals as goal
 
 pub put_nodes-put_node-requires : goal.put_nodes-put_node-requires

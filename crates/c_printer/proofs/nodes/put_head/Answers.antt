@@ -3,7 +3,7 @@ use Rattle.std.specs.Prelude.{codes}
 use Rattle.loop_tree.specs.View.{bounds_in}
 use Rattle.c_printer.specs.Nodes.{lower_text, upper_text}
 use Rattle.c_printer.specs.Statements.{between}
-use Rattle.c_printer.proofs.Putting.{five_behind}
+use Rattle.c_printer.proofs.PutTexts.{five_behind}
 use Rattle.c_printer.proofs.nodes.put_head.Goals as goal
 
 pub returns : goal.returns

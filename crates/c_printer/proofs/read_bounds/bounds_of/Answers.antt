@@ -1,5 +1,5 @@
 use Rattle.std.proofs.Common.{rules, ◌≤◌, length}
-use Rattle.c_printer.proofs.Bounding.{all_of_first}
+use Rattle.c_printer.proofs.BoundTexts.{all_of_first}
 use Rattle.c_printer.proofs.read_bounds.bounds_of.Goals as goal
 
 pub returns-in-Ok : goal.returns-in-Ok

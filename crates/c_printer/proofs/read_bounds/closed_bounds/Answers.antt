@@ -4,7 +4,7 @@ use Rattle.loop_tree.specs.Tree.{only}
 use Rattle.loop_tree.specs.View.{bounds_in}
 use Rattle.form_text.specs.Reading.{strip}
 use Rattle.c_printer.specs.Nodes.{repeated}
-use Rattle.c_printer.proofs.Bounding.{closing_none, closing_some}
+use Rattle.c_printer.proofs.BoundTexts.{closing_none, closing_some}
 use Rattle.c_printer.proofs.read_bounds.closed_bounds.Goals as goal
 
 pub returns-in_default : goal.returns-in_default

@@ -2,7 +2,7 @@ use Rattle.std.proofs.Common.{rules, ◌≡◌, ◌∙◌, ap, map, sym}
 use Rattle.std.specs.Prelude.{None}
 use Rattle.c_printer.specs.Reading.{read_bound}
 use Rattle.c_printer.specs.steps.Reading.{closed_bounds, last_bound}
-use Rattle.c_printer.proofs.Stepping.{nothing_closed}
+use Rattle.c_printer.proofs.ReadSteps.{nothing_closed}
 use Rattle.c_printer.proofs.read_bounds.read_last.Goals as goal
 
 pub returns-in-Ok-None : goal.returns-in-Ok-None

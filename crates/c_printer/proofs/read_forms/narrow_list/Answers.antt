@@ -4,7 +4,7 @@ use Rattle.std.specs.Prelude.{Some, None}
 use Rattle.std.proofs.lemmas.Int.{to_z-of_z}
 use Rattle.std.proofs.lemmas.List.{drop_all}
 use Rattle.c_printer.specs.steps.Reading.{narrow}
-use Rattle.c_printer.proofs.Narrowing.{narrow_more, narrow_stops, narrow_ends, number_ahead}
+use Rattle.c_printer.proofs.NarrowNumbers.{narrow_more, narrow_stops, narrow_ends, number_ahead}
 use Rattle.c_printer.proofs.read_forms.narrow_list.Goals as goal
 
 pub returns-in_default : goal.returns-in_default

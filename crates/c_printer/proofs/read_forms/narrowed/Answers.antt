@@ -6,7 +6,7 @@ use Rattle.whole_numbers.specs.Affine.{Affine}
 use Rattle.scop_lexer.specs.Bytes.{Text}
 use Rattle.c_printer.specs.View.{form_in}
 use Rattle.c_printer.specs.steps.Reading.{form_from, narrow}
-use Rattle.c_printer.proofs.Narrowing.{form_narrowed}
+use Rattle.c_printer.proofs.NarrowNumbers.{form_narrowed}
 use Rattle.c_printer.proofs.read_forms.narrowed.Goals as goal
 
 pub returns : goal.returns

@@ -4,8 +4,8 @@ use Rattle.std.specs.Prelude.{◌-ℤ◌, Some, None}
 use Rattle.std.proofs.lemmas.Int.{to_z-of_z}
 use Rattle.c_printer.specs.Reading.{quotient}
 use Rattle.c_printer.specs.steps.Reading.{narrow}
-use Rattle.c_printer.proofs.Narrowing.{narrow_more, narrow_stops, narrow_ends, quotient_ahead, quotients_past}
-use Rattle.c_printer.proofs.Narrowing.{quotients_behind}
+use Rattle.c_printer.proofs.NarrowNumbers.{narrow_more, narrow_stops, narrow_ends, quotient_ahead, quotients_past}
+use Rattle.c_printer.proofs.NarrowNumbers.{quotients_behind}
 use Rattle.c_printer.proofs.read_forms.quotients.Goals as goal
 
 pub returns-then-at-starts : goal.returns-then-at-starts

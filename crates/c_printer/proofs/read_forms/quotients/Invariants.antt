@@ -2,7 +2,7 @@
 use Rattle.std.proofs.Common.{◌≡◌, ◌-◌, drop, take}
 use Rattle.c_printer.specs.Reading.{quotients}
 use Rattle.c_printer.specs.steps.Reading.{narrow_list}
-use Rattle.c_printer.proofs.Narrowing.{in_front}
+use Rattle.c_printer.proofs.NarrowNumbers.{in_front}
 use Rattle.c_printer.proofs.read_forms.quotients.Given as goal
 
 abbrev pub invariant-loop-at : goal.invariant-loop-at

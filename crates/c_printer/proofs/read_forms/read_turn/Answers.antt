@@ -7,7 +7,7 @@ use Rattle.form_text.specs.Reading.{read_form, when}
 use Rattle.c_printer.specs.Reading.{narrowed, read_turn, turn_of}
 use Rattle.c_printer.specs.View.{form_in}
 use Rattle.c_printer.specs.steps.Reading.{turn_from}
-use Rattle.c_printer.proofs.Narrowing.{turn_narrowed}
+use Rattle.c_printer.proofs.NarrowNumbers.{turn_narrowed}
 use Rattle.c_printer.proofs.read_forms.read_turn.Goals as goal
 
 pub returns-in-Ok-Some : goal.returns-in-Ok-Some

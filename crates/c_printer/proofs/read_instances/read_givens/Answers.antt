@@ -2,8 +2,8 @@ use Rattle.std.proofs.Common.{rules, ◌≡◌, ◌++◌, ◌∷◌, ◌<◌, �
 use Rattle.std.specs.Prelude.{Some}
 use Rattle.std.proofs.lemmas.List.{drop_all}
 use Rattle.c_printer.specs.steps.Reading.{read_given}
-use Rattle.c_printer.proofs.Putting.{entry_here}
-use Rattle.c_printer.proofs.Stepping.{givens_more, givens_done}
+use Rattle.c_printer.proofs.PutTexts.{entry_here}
+use Rattle.c_printer.proofs.ReadSteps.{givens_more, givens_done}
 use Rattle.c_printer.proofs.read_instances.read_givens.Goals as goal
 
 pub loop-at-preserved : goal.loop-at-preserved

@@ -1,7 +1,7 @@
 -- The turns so far, in front of those to come over the names so far, are all of them.
 use Rattle.std.proofs.Common.{◌≡◌, drop, map}
 use Rattle.c_printer.specs.Reading.{read_givens}
-use Rattle.c_printer.proofs.Stepping.{parts_before}
+use Rattle.c_printer.proofs.ReadSteps.{parts_before}
 use Rattle.c_printer.proofs.read_instances.read_givens.Given as goal
 
 abbrev pub invariant-loop-at : goal.invariant-loop-at

@@ -3,7 +3,7 @@ use Rattle.std.proofs.Common.{◌≡◌, ◌+◌, ◌-◌, ◌*◌, map}
 use Rattle.loop_tree.specs.View.{tree_of}
 use Rattle.scop_syntax.specs.View.{program_of}
 use Rattle.c_printer.specs.Reading.{read_nodes}
-use Rattle.c_printer.proofs.Stepping.{nodes_before}
+use Rattle.c_printer.proofs.ReadSteps.{nodes_before}
 use Rattle.c_printer.proofs.read_nodes.+reading.Given as goal
 
 abbrev pub decreases-read_nodes : goal.decreases-read_nodes

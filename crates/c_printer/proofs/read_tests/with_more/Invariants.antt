@@ -4,7 +4,7 @@ use Rattle.std.specs.Prelude.{Some}
 use Rattle.loop_tree.specs.View.{test_of}
 use Rattle.c_printer.specs.Reading.{read_more_tests, with_test}
 use Rattle.c_printer.specs.View.{test_part}
-use Rattle.c_printer.proofs.Stepping.{parts_before}
+use Rattle.c_printer.proofs.ReadSteps.{parts_before}
 use Rattle.c_printer.proofs.read_tests.with_more.Given as goal
 
 abbrev pub invariant-loop-at : goal.invariant-loop-at

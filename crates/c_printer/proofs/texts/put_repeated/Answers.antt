@@ -1,7 +1,7 @@
 use Rattle.std.proofs.Common.{◌∙◌, ◌+◌, ◌-◌, ◌++◌, ℕ, List, ap, sym}
 use Rattle.std.proofs.lemmas.List.{append_assoc}
 use Rattle.c_printer.specs.Nodes.{repeated}
-use Rattle.c_printer.proofs.Putting.{repeated_ahead}
+use Rattle.c_printer.proofs.PutTexts.{repeated_ahead}
 use Rattle.c_printer.proofs.texts.put_repeated.Goals as goal
 
 pub loop-at-preserved : goal.loop-at-preserved

@@ -8,8 +8,8 @@ use Rattle.affine_forms.specs.Runs.{map_run}
 use Rattle.whole_numbers.specs.Floor.{remainder}
 use Rattle.whole_numbers.specs.Content.{lowest}
 use Rattle.checked_tableau.specs.Lines.{turned_run, behind_columns}
-use Rattle.checked_tableau.proofs.Cut_lines.{cut_line_run-parts, cut_line-err, cut_line-ok, all_turned_low, tied-behind}
-use Rattle.checked_tableau.proofs.Cut_lines.{front_positive, head_positive}
+use Rattle.checked_tableau.proofs.CutLines.{cut_line_run-parts, cut_line-err, cut_line-ok, all_turned_low, tied-behind}
+use Rattle.checked_tableau.proofs.CutLines.{front_positive, head_positive}
 use Rattle.checked_tableau.proofs.cuts.cut_line.Goals.{After-split_at_mut-columns}
 use Rattle.checked_tableau.proofs.cuts.cut_line.Goals as goal
 

@@ -5,7 +5,7 @@ use Rattle.tableau_rows.specs.Moves.{rows_in}
 use Rattle.lexmin_runs.specs.Nodes.{longer_row}
 use Rattle.checked_tableau.specs.Lines.{Holds}
 use Rattle.checked_tableau.proofs.Beginnings.{longer_more}
-use Rattle.checked_tableau.proofs.Looking.{length_rest, line_ahead}
+use Rattle.checked_tableau.proofs.RowScans.{length_rest, line_ahead}
 use Rattle.checked_tableau.proofs.longer.append_longer.Goals as goal
 
 pub split_at-requires : goal.split_at-requires

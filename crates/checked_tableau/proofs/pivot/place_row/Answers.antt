@@ -2,7 +2,7 @@ use Rattle.std.proofs.Common.{rules, arith, ◌≡◌, ◌+◌, FitsSigned, get_
 use Rattle.std.specs.Int.{w128}
 use Rattle.std.proofs.lemmas.Int.{ints, to_z-of_z}
 use Rattle.tableau_rows.proofs.Buffers.{line_run-head, placed-err, placed-other}
-use Rattle.checked_tableau.proofs.Multiplied.{placed_alone}
+use Rattle.checked_tableau.proofs.MultipliedRows.{placed_alone}
 use Rattle.checked_tableau.proofs.pivot.place_row.Goals as goal
 
 pub returns-in-Err : goal.returns-in-Err

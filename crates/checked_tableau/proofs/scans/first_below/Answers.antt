@@ -1,7 +1,7 @@
 use Rattle.std.proofs.Common.{rules, arith, add-one, ◌-◌, ◌+◌, ◌++◌, ◌≡◌, length}
 use Rattle.tableau_rows.specs.Moves.{rows_in}
 use Rattle.tableau_rows.specs.Run.{first_row, has_below}
-use Rattle.checked_tableau.proofs.Looking.{first_past, length_rest, line_ahead}
+use Rattle.checked_tableau.proofs.RowScans.{first_past, length_rest, line_ahead}
 use Rattle.checked_tableau.proofs.scans.first_below.Goals as goal
 
 pub split_at-requires : goal.split_at-requires

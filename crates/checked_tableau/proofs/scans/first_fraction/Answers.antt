@@ -1,8 +1,8 @@
 use Rattle.std.proofs.Common.{rules, arith, add-one, ◌-◌, ◌+◌, ◌++◌, ◌≡◌, length}
 use Rattle.tableau_rows.specs.Moves.{rows_in}
 use Rattle.tableau_rows.specs.Run.{first_row, has_fraction}
-use Rattle.checked_tableau.proofs.Looking.{first_found, first_past, length_rest, line_ahead, heads_rest}
-use Rattle.checked_tableau.proofs.Looking.{head_here}
+use Rattle.checked_tableau.proofs.RowScans.{first_found, first_past, length_rest, line_ahead, heads_rest}
+use Rattle.checked_tableau.proofs.RowScans.{head_here}
 use Rattle.checked_tableau.proofs.scans.first_fraction.Goals as goal
 
 pub split_at-requires : goal.split_at-requires

@@ -1,7 +1,7 @@
 use Rattle.std.proofs.Common.{rules, arith, add-one, ◌-◌, ◌+◌}
 use Rattle.tableau_rows.specs.Moves.{line_row}
 use Rattle.tableau_rows.specs.Run.{some_positive}
-use Rattle.checked_tableau.proofs.Looking.{positive_past}
+use Rattle.checked_tableau.proofs.RowScans.{positive_past}
 use Rattle.checked_tableau.proofs.scans.has_positive.Goals as goal
 
 pub loop-column-preserved : goal.loop-column-preserved

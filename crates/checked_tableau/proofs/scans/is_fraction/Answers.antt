@@ -5,7 +5,7 @@ use Rattle.whole_numbers.specs.Floor.{remainder}
 use Rattle.tableau_rows.specs.Rows.{entry}
 use Rattle.tableau_rows.specs.Moves.{line_row, is_positive}
 use Rattle.tableau_rows.proofs.Lines.{entry_at}
-use Rattle.checked_tableau.proofs.Looking.{by_one}
+use Rattle.checked_tableau.proofs.RowScans.{by_one}
 use Rattle.checked_tableau.proofs.scans.is_fraction.Goals as goal
 
 pub returns-then-divisor-eq1 : goal.returns-then-divisor-eq1

@@ -5,8 +5,8 @@ use Rattle.std.specs.Int.{w128}
 use Rattle.std.proofs.lemmas.Int.{to_z-of_z, ints}
 use Rattle.wide_math.specs.declared.Wide.{Wide}
 use Rattle.tableau_rows.specs.Moves.{rows_in, is_below, precedes_run}
-use Rattle.checked_tableau.proofs.Looking.{compared_run, precedes_here, here_before, here_behind, here_equal}
-use Rattle.checked_tableau.proofs.Looking.{length_rest, line_ahead}
+use Rattle.checked_tableau.proofs.RowScans.{compared_run, precedes_here, here_before, here_behind, here_equal}
+use Rattle.checked_tableau.proofs.RowScans.{length_rest, line_ahead}
 use Rattle.checked_tableau.proofs.scans.precedes.Goals as goal
 use Rattle.checked_tableau.proofs.scans.precedes.Goals.{After-split_at, In-Ok-mul}
 

@@ -1,6 +1,6 @@
 use Rattle.std.proofs.Common.{rules, ◌≡◌, true, FitsSigned, pos}
 use Rattle.std.specs.Int.{w64, w128}
-use Rattle.checked_tableau.proofs.Multiplied.{one_fits, narrow_fit}
+use Rattle.checked_tableau.proofs.MultipliedRows.{one_fits, narrow_fit}
 use Rattle.checked_tableau.proofs.staying.surely_fit.Goals as goal
 
 pub returns-then-factor-eq1 : goal.returns-then-factor-eq1

@@ -2,7 +2,7 @@ use Rattle.std.proofs.Common.{rules, ◌≡◌, ◌++◌, length, ap, ◌∙◌}
 use Rattle.tableau_rows.specs.Moves.{line_row, row_at, rows_in}
 use Rattle.checked_tableau.specs.Lines.{behind_columns}
 use Rattle.checked_tableau.proofs.Tables.{head_sized}
-use Rattle.checked_tableau.proofs.Cut_lines.{cut_row-ok, cut_row-err}
+use Rattle.checked_tableau.proofs.CutLines.{cut_row-ok, cut_row-err}
 use Rattle.checked_tableau.proofs.table.append_cut.Goals as goal
 
 pub cut_line-requires-clause-positive : goal.cut_line-requires-clause-positive

@@ -1,4 +1,4 @@
-use Rattle.command_line.proofs.Taking.{names_one}
+use Rattle.command_line.proofs.TakenWords.{names_one}
 use Rattle.command_line.proofs.laws.taken_words_name_a_command.Goals as goal
 
 pub returns : goal.returns

@@ -6,7 +6,7 @@ use Rattle.std.specs.Str.{bytes_eq}
 use Rattle.std.specs.declared.str.ParseBoolError.{ParseBoolError}
 use Rattle.clap.specs.Words.{found_of, one_text}
 use Rattle.clap.proofs.WalkLemmas.{one_text-rows}
-use Rattle.command_line.proofs.Reading.{truth_is}
+use Rattle.command_line.proofs.Getters.{truth_is}
 use Rattle.command_line.proofs.matched.flag_in.Goals as goal
 
 pub returns-in-Some : goal.returns-in-Some

@@ -6,7 +6,7 @@ use Rattle.std.specs.Str.Parse.{ParsesUnsigned, ExplainsUnsignedError, HasUnsign
 use Rattle.clap.specs.Words.{found_of, one_text}
 use Rattle.clap.proofs.WalkLemmas.{one_text-rows}
 use Rattle.command_line.specs.Command.{number_of}
-use Rattle.command_line.proofs.Reading.{number_is}
+use Rattle.command_line.proofs.Getters.{number_is}
 use Rattle.command_line.proofs.matched.number_in.Goals as goal
 
 pub returns-in-Some : goal.returns-in-Some

@@ -1,7 +1,7 @@
 use Rattle.std.specs.Prelude.{codes}
 use Rattle.clap.specs.Words.{App, new_app}
 use Rattle.command_line.specs.Stated.{IsCommand, report_flag, with_run_options}
-use Rattle.command_line.proofs.Building.{argument_more}
+use Rattle.command_line.proofs.BuiltCommands.{argument_more}
 use Rattle.command_line.proofs.stated.run_command.Goals as goal
 
 pub returns : goal.returns

@@ -1,7 +1,7 @@
 -- Each command is added to the one that stands.
 use Rattle.clap.specs.Words.{App, with_subcommand}
 use Rattle.command_line.specs.Stated.{bare_tool, gen_tool, run_tool, with_kernel_tools}
-use Rattle.command_line.proofs.Building.{command_more, one_command}
+use Rattle.command_line.proofs.BuiltCommands.{command_more, one_command}
 use Rattle.command_line.proofs.stated.stated.Goals as goal
 
 pub returns : goal.returns

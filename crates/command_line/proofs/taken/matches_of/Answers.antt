@@ -2,7 +2,7 @@ use Rattle.std.proofs.Common.{◌∙◌, map, string_bytes, Ok, Err}
 use Rattle.clap.specs.Words.{fault_of}
 use Rattle.clap.specs.declared.parser.matches.ArgMatches.{ArgMatches}
 use Rattle.command_line.specs.Stated.{tool}
-use Rattle.command_line.proofs.Parsing.{fails, finds, refused}
+use Rattle.command_line.proofs.ParseResults.{fails, finds, refused}
 use Rattle.command_line.proofs.taken.matches_of.Goals as goal
 
 pub returns-in-Ok-try_get_matches_from-clause-faultless : goal.returns-in-Ok-try_get_matches_from-clause-faultless

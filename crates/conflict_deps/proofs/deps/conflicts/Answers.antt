@@ -4,7 +4,7 @@ use Rattle.std.specs.List.{flat_map}
 use Rattle.iteration_domains.specs.Dependence.{Dependence}
 use Rattle.iteration_domains.specs.Sizes.{HaveOneCount}
 use Rattle.conflict_deps.specs.Conflicts.{Side, deps_between, sides_in, sides_of}
-use Rattle.conflict_deps.proofs.Gathering.{statement_has, statements_step}
+use Rattle.conflict_deps.proofs.GatheredDependences.{statement_has, statements_step}
 use Rattle.conflict_deps.proofs.deps.conflicts.Goals as goal
 
 pub push_from_statement-requires-clause-statement : goal.push_from_statement-requires-clause-statement

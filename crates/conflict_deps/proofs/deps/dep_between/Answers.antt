@@ -3,7 +3,7 @@ use Rattle.integer_sets.specs.Constraints.{Constraints}
 use Rattle.conflict_deps.specs.Conflicts.{loops_of, pair_size}
 use Rattle.conflict_deps.specs.View.{order_at, side_of}
 use Rattle.conflict_deps.proofs.Shapes.{between_shown}
-use Rattle.conflict_deps.proofs.Gathering.{dep_put, order_put}
+use Rattle.conflict_deps.proofs.GatheredDependences.{dep_put, order_put}
 use Rattle.conflict_deps.proofs.deps.dep_between.Goals as goal
 
 pub returns : goal.returns

@@ -4,7 +4,7 @@ use Rattle.std.specs.List.{flat_map}
 use Rattle.iteration_domains.specs.Sizes.{HaveOneCount}
 use Rattle.conflict_deps.specs.Conflicts.{deps_between, sides_of}
 use Rattle.conflict_deps.specs.View.{side_of}
-use Rattle.conflict_deps.proofs.Gathering.{statement_has, statements_step}
+use Rattle.conflict_deps.proofs.GatheredDependences.{statement_has, statements_step}
 use Rattle.conflict_deps.proofs.deps.push_from_access.Goals as goal
 
 pub push_to_statement-requires-clause-statement : goal.push_to_statement-requires-clause-statement

@@ -2,7 +2,7 @@ use Rattle.std.proofs.Common.{◌++◌, List}
 use Rattle.std.specs.List.{flat_map}
 use Rattle.iteration_domains.specs.Dependence.{Dependence}
 use Rattle.conflict_deps.specs.Conflicts.{Side, deps_between, sides_from, sides_in}
-use Rattle.conflict_deps.proofs.Gathering.{pair_can, sides_step}
+use Rattle.conflict_deps.proofs.GatheredDependences.{pair_can, sides_step}
 use Rattle.conflict_deps.proofs.deps.push_from_statement.Goals as goal
 
 pub push_from_access-requires-clause-source : goal.push_from_access-requires-clause-source

@@ -2,7 +2,7 @@ use Rattle.std.proofs.Common.{◌++◌}
 use Rattle.std.specs.List.{flat_map}
 use Rattle.conflict_deps.specs.Conflicts.{deps_between, sides_from}
 use Rattle.conflict_deps.specs.View.{side_of}
-use Rattle.conflict_deps.proofs.Gathering.{pair_can, sides_step}
+use Rattle.conflict_deps.proofs.GatheredDependences.{pair_can, sides_step}
 use Rattle.conflict_deps.proofs.deps.push_to_statement.Goals as goal
 
 pub push_between-requires-clause-target : goal.push_between-requires-clause-target

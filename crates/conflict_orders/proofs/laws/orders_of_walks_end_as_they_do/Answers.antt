@@ -1,6 +1,6 @@
 use Rattle.scop_syntax.specs.Execution.{layout}
 use Rattle.scop_syntax.specs.Walk.{walk_of}
-use Rattle.conflict_orders.proofs.Alike.{distinct_by_places}
+use Rattle.conflict_orders.proofs.SameContents.{distinct_by_places}
 use Rattle.conflict_orders.proofs.laws.orders_of_walks_end_as_they_do.Goals as goal
 
 pub returns : goal.returns

@@ -1,6 +1,6 @@
 use Rattle.std.proofs.Common.{inl, inr}
 use Rattle.std.specs.Prelude.{codes}
-use Rattle.contract_guards.proofs.Lexed.{at_front, refused}
+use Rattle.contract_guards.proofs.LexedTexts.{at_front, refused}
 use Rattle.contract_guards.proofs.tokens.a_character_of_no_token.Goals as goal
 
 pub returns-clause-fault : goal.returns-clause-fault

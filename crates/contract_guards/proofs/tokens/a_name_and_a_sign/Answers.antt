@@ -1,7 +1,7 @@
 use Rattle.std.proofs.Common.{subst, sym}
 use Rattle.std.specs.Prelude.{codes}
 use Rattle.scop_lexer.specs.Tokens.{HasTokens}
-use Rattle.contract_guards.proofs.Lexed.{lexed, name_and_sign}
+use Rattle.contract_guards.proofs.LexedTexts.{lexed, name_and_sign}
 use Rattle.contract_guards.proofs.tokens.a_name_and_a_sign.Goals as goal
 
 pub returns-clause-has : goal.returns-clause-has

@@ -1,7 +1,7 @@
 use Rattle.std.proofs.Common.{[], ◌∷◌, refl}
 use Rattle.scop_syntax.specs.Examples.{falling_by_two}
 use Rattle.scop_syntax.specs.Walk.{walk_of}
-use Rattle.scop_syntax.proofs.Falling.{falling}
+use Rattle.scop_syntax.proofs.FallingLoop.{falling}
 use Rattle.contract_guards.proofs.walks.cells_along_a_falling_loop.Goals as goal
 
 pub returns : goal.returns

@@ -1,6 +1,6 @@
 use Rattle.std.proofs.Common.{[], ◌∷◌}
 use Rattle.scop_syntax.specs.Examples.{falling_by_two}
-use Rattle.scop_syntax.proofs.Falling.{falling}
+use Rattle.scop_syntax.proofs.FallingLoop.{falling}
 use Rattle.contract_guards.proofs.walks.numbers_of_cells.Goals as goal
 
 pub returns-clause-below : goal.returns-clause-below

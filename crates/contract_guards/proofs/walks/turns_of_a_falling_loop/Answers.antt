@@ -3,7 +3,7 @@ use Rattle.std.specs.Prelude.{◌-ℤ◌}
 use Rattle.std.proofs.lemmas.Int.{ints}
 use Rattle.scop_syntax.specs.Examples.{form, head}
 use Rattle.scop_syntax.specs.Walk.{Falls, condition_at}
-use Rattle.scop_syntax.proofs.Falling.{falling}
+use Rattle.scop_syntax.proofs.FallingLoop.{falling}
 use Rattle.contract_guards.proofs.walks.turns_of_a_falling_loop.Goals as goal
 
 pub returns-clause-falls : goal.returns-clause-falls

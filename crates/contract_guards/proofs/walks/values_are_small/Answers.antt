@@ -2,7 +2,7 @@ use Rattle.std.proofs.Common.{[], ◌∷◌, ◌^◌, pos, refl, arith}
 use Rattle.scop_syntax.specs.Examples.{falling_by_two, form}
 use Rattle.scop_syntax.specs.Limits.{has_parameters}
 use Rattle.scop_syntax.specs.Tree.{moved_left}
-use Rattle.scop_syntax.proofs.Falling.{falling}
+use Rattle.scop_syntax.proofs.FallingLoop.{falling}
 use Rattle.contract_guards.proofs.walks.values_are_small.Goals as goal
 
 pub returns-clause-moved : goal.returns-clause-moved

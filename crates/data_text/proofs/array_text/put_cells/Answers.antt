@@ -1,6 +1,6 @@
 -- One more cell was put, or a front of it reached the sink.
 use Rattle.std.proofs.Common.{◌∙◌, ◌++◌, ap, sym, drop, ◌+◌, get_or}
-use Rattle.io_ports.proofs.Writing.{next_put, next_piece_cut}
+use Rattle.io_ports.proofs.PutTexts.{next_put, next_piece_cut}
 use Rattle.data_text.specs.ArrayText.{cell_text, cells_text}
 use Rattle.data_text.proofs.ArrayTextLemmas.{cells_next}
 use Rattle.data_text.proofs.array_text.put_cells.Goals as goal

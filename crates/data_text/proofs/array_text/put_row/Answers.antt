@@ -1,5 +1,5 @@
 -- The line feed was put behind the array's text.
-use Rattle.io_ports.proofs.Writing.{send_then}
+use Rattle.io_ports.proofs.PutTexts.{send_then}
 use Rattle.data_text.proofs.array_text.put_row.Goals as goal
 
 pub returns : goal.returns

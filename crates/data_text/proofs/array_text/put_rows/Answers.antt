@@ -3,7 +3,7 @@ use Rattle.std.proofs.Common.{◌∙◌, sym, ap, subst, append-nil, ◌++◌, �
 use Rattle.std.proofs.lemmas.List.{length-map}
 use Rattle.scop_syntax.specs.Tree.{Declaration}
 use Rattle.io_ports.specs.Writes.{Sends}
-use Rattle.io_ports.proofs.Writing.{next_put, next_piece_cut}
+use Rattle.io_ports.proofs.PutTexts.{next_put, next_piece_cut}
 use Rattle.data_text.specs.ArrayText.{row_text, rows_text}
 use Rattle.data_text.proofs.ArrayTextLemmas.{rows_split, rows_end}
 use Rattle.data_text.proofs.array_text.put_rows.Goals as goal

@@ -1,7 +1,7 @@
 -- The lines are the kernel's arrays', and what was pending went out behind them.
 use Rattle.std.proofs.Common.{subst, refl, []}
 use Rattle.io_ports.specs.Writes.{Writes, CutsOff}
-use Rattle.io_ports.proofs.Writing.{written}
+use Rattle.io_ports.proofs.PutTexts.{written}
 use Rattle.data_text.proofs.ArrayTextLemmas.{kernel_rows}
 use Rattle.data_text.proofs.array_text.write_arrays.Goals as goal
 

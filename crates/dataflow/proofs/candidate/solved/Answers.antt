@@ -2,7 +2,7 @@ use Rattle.std.proofs.Common.{rules, ◌<◌, ◌∙◌, ℕ, List, Some, ap, le
 use Rattle.iteration_domains.specs.Dependence.{Dependence}
 use Rattle.iteration_domains.specs.Model.{Modelled}
 use Rattle.dataflow.specs.Posed.{CanPose}
-use Rattle.dataflow.proofs.Posable.{IsReady, inside_of, item_is, ready}
+use Rattle.dataflow.proofs.PosableCandidates.{IsReady, inside_of, item_is, ready}
 use Rattle.dataflow.proofs.candidate.solved.Goals as goal
 use Rattle.dataflow.proofs.candidate.solved.Goals.{After-index-statements-dep, After-statements-statements}
 

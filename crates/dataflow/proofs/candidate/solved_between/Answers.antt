@@ -8,7 +8,7 @@ use Rattle.dataflow.specs.LastRuns.{fitting}
 use Rattle.dataflow.specs.Posed.{IsPosed}
 use Rattle.dataflow.specs.Problems.{all_below, top}
 use Rattle.dataflow.specs.Steps.{HeldOver, tree_held}
-use Rattle.dataflow.proofs.Solved.{IsBetween, found_told, leaf_told, posed_over, stop_told}
+use Rattle.dataflow.proofs.CandidateQuasts.{IsBetween, found_told, leaf_told, posed_over, stop_told}
 use Rattle.dataflow.proofs.candidate.solved_between.Goals as goal
 use Rattle.dataflow.proofs.candidate.solved_between.Goals.{In-Ok}
 

@@ -5,7 +5,7 @@ use Rattle.quast_trees.specs.Postfix.{tree_of}
 use Rattle.quast_joins.specs.Limits.{leaf_limit}
 use Rattle.dataflow.specs.Problems.{all_below, top}
 use Rattle.dataflow.specs.Steps.{nodes_fit}
-use Rattle.dataflow.proofs.Fitting.{fitting_no, fitting_yes, suits_below}
+use Rattle.dataflow.proofs.Fits.{fitting_no, fitting_yes, suits_below}
 use Rattle.dataflow.proofs.candidate.turned_back.Goals as goal
 use Rattle.dataflow.proofs.candidate.turned_back.Goals.{After-deref}
 

@@ -2,7 +2,7 @@ use Rattle.std.proofs.Common.{◌≡◌, Err}
 use Rattle.affine_forms.specs.declared.stop.FormStop.TheVariants.{Wide as TooWide}
 use Rattle.affine_forms.specs.Gives.{Fails}
 use Rattle.affine_forms.specs.Runs.{compose_run}
-use Rattle.iteration_domains.proofs.Small.{compose_small}
+use Rattle.iteration_domains.proofs.SmallRuns.{compose_small}
 use Rattle.dataflow.proofs.forms.compose.Goals as goal
 
 pub unreachable-requires : goal.unreachable-requires

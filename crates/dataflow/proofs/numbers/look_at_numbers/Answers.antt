@@ -3,7 +3,7 @@ use Rattle.std.specs.Prelude.{All, List}
 use Rattle.quast_trees.specs.declared.node.Node.{Node}
 use Rattle.quast_trees.specs.Postfix.{tree_of}
 use Rattle.dataflow.specs.Steps.{IsHeldNode}
-use Rattle.dataflow.proofs.Holding.{tree_holds}
+use Rattle.dataflow.proofs.NodeNumbers.{tree_holds}
 use Rattle.dataflow.proofs.numbers.look_at_numbers.Goals as goal
 
 pub returns : goal.returns

@@ -1,6 +1,6 @@
 use Rattle.std.proofs.Common.{◌∙◌, ap, length}
 use Rattle.integer_sets.specs.Constraints.{Constraints}
-use Rattle.dataflow.proofs.Posable.{reader_can}
+use Rattle.dataflow.proofs.PosableCandidates.{reader_can}
 use Rattle.dataflow.proofs.problem.context_of.Goals as goal
 
 pub push_flat-requires : goal.push_flat-requires

@@ -4,7 +4,7 @@ use Rattle.whole_numbers.specs.Affine.{Affine}
 use Rattle.integer_sets.specs.Constraints.{Constraints}
 use Rattle.iteration_domains.specs.Dependence.{Dependence}
 use Rattle.iteration_domains.specs.Sizes.{CanCompose}
-use Rattle.dataflow.proofs.Posable.{own_can}
+use Rattle.dataflow.proofs.PosableCandidates.{own_can}
 use Rattle.dataflow.proofs.problem.push_own_rows.Goals as goal
 use Rattle.dataflow.proofs.problem.push_own_rows.Goals.{After-rows-system}
 

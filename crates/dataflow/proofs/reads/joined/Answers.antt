@@ -6,7 +6,7 @@ use Rattle.quast_joins.specs.Limits.{IsStopOf, node_limit}
 use Rattle.quast_joins.specs.declared.way.Way.TheVariants.{Later}
 use Rattle.quast_joins.proofs.Counts.{join-count}
 use Rattle.dataflow.specs.LastRuns.{read_variables}
-use Rattle.dataflow.proofs.Gathering.{joins_on, joins_too_many}
+use Rattle.dataflow.proofs.CandidateRuns.{joins_on, joins_too_many}
 use Rattle.dataflow.proofs.reads.joined.Goals as goal
 
 pub returns : goal.returns

@@ -3,7 +3,7 @@ use Rattle.scop_syntax.specs.Members.{In}
 use Rattle.scop_syntax.proofs.Members.{member_at}
 use Rattle.iteration_domains.specs.Model.{Modelled}
 use Rattle.dataflow.specs.ReadSources.{AreSources, reads_in, reads_of}
-use Rattle.dataflow.proofs.Gathering.{Gathered, all_gathered, dropped, last_named, statement_gathered}
+use Rattle.dataflow.proofs.CandidateRuns.{Gathered, all_gathered, dropped, last_named, statement_gathered}
 use Rattle.dataflow.proofs.reads.last_writes.Goals as goal
 use Rattle.dataflow.proofs.reads.last_writes.Goals.{After-loop-statement}
 

@@ -1,7 +1,7 @@
 use Rattle.std.proofs.Common.{All, drop}
 use Rattle.dataflow.specs.ReadSources.{reads_in}
 use Rattle.dataflow.specs.Steps.{IsHeldSource}
-use Rattle.dataflow.proofs.Gathering.{Gathered}
+use Rattle.dataflow.proofs.CandidateRuns.{Gathered}
 use Rattle.dataflow.proofs.reads.last_writes.Given as goal
 
 abbrev pub invariant-loop-statement : goal.invariant-loop-statement

@@ -3,7 +3,7 @@ use Rattle.std.proofs.lemmas.List.Elements.{All-push}
 use Rattle.dataflow.specs.ReadSources.{reads_of_statement}
 use Rattle.dataflow.specs.Steps.{IsHeldSource}
 use Rattle.dataflow.specs.declared.source.ReadSource.{ReadSource}
-use Rattle.dataflow.proofs.Gathering.{read_gathered}
+use Rattle.dataflow.proofs.CandidateRuns.{read_gathered}
 use Rattle.dataflow.proofs.reads.push_reads.Goals as goal
 
 pub loop-access-preserved : goal.loop-access-preserved

@@ -1,7 +1,7 @@
 use Rattle.std.proofs.Common.{ℕ, List, ◌++◌, ◌-◌, All, length}
 use Rattle.dataflow.specs.ReadSources.{AreSources, reads_from, reads_of_statement}
 use Rattle.dataflow.specs.Steps.{IsHeldSource}
-use Rattle.dataflow.proofs.Gathering.{Gathered}
+use Rattle.dataflow.proofs.CandidateRuns.{Gathered}
 use Rattle.dataflow.proofs.reads.push_reads.Given as goal
 
 abbrev pub invariant-loop-access : goal.invariant-loop-access

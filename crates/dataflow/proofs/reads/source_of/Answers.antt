@@ -3,7 +3,7 @@ use Rattle.scop_syntax.specs.Members.{In}
 use Rattle.scop_syntax.proofs.Members.{member_at}
 use Rattle.iteration_domains.specs.Dependence.{Dependence}
 use Rattle.dataflow.specs.LastRuns.{is_candidate}
-use Rattle.dataflow.proofs.Gathering.{Running, numbers_are, run_begins, run_on, run_past}
+use Rattle.dataflow.proofs.CandidateRuns.{Running, numbers_are, run_begins, run_on, run_past}
 use Rattle.dataflow.proofs.reads.source_of.Goals as goal
 use Rattle.dataflow.proofs.reads.source_of.Goals.{then-is_candidate+in-Ok-joined, else-is_candidate}
 

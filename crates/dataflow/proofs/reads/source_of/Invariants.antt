@@ -1,4 +1,4 @@
-use Rattle.dataflow.proofs.Gathering.{Running}
+use Rattle.dataflow.proofs.CandidateRuns.{Running}
 use Rattle.dataflow.proofs.reads.source_of.Given as goal
 
 abbrev pub invariant-loop-dep : goal.invariant-loop-dep

@@ -1,7 +1,7 @@
 use Rattle.std.proofs.Common.{[], length, refl}
 use Rattle.iteration_domains.proofs.RowLaws.{goes_on_last}
-use Rattle.dataflow.proofs.Flipping.{flip-order, flip_twice}
-use Rattle.dataflow.proofs.Posing.{all_below-values}
+use Rattle.dataflow.proofs.Maxima.{flip-order, flip_twice}
+use Rattle.dataflow.proofs.ProblemPoints.{all_below-values}
 use Rattle.dataflow.proofs.source_laws.minima_are_maxima.Goals as goal
 
 pub returns-clause-values : goal.returns-clause-values

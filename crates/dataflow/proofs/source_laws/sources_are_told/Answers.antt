@@ -1,6 +1,6 @@
 use Rattle.dataflow.specs.ReadSources.{reads_of}
-use Rattle.dataflow.proofs.Gathering.{numbers_are}
-use Rattle.dataflow.proofs.Telling.{all_there, loops_are, sources_told}
+use Rattle.dataflow.proofs.CandidateRuns.{numbers_are}
+use Rattle.dataflow.proofs.TellableSources.{all_there, loops_are, sources_told}
 use Rattle.dataflow.proofs.source_laws.sources_are_told.Goals as goal
 
 pub returns : goal.returns

@@ -1,6 +1,6 @@
 use Rattle.std.proofs.Common.{◌∙◌, sym}
 use Rattle.expression_grammar.specs.declared.reader.TheConstants.{MOST_BRACKETS, MOST_OPERATORS}
-use Rattle.expression_grammar.proofs.Running.{runs_first, runs_on}
+use Rattle.expression_grammar.proofs.MachineLoop.{runs_first, runs_on}
 use Rattle.expression_grammar.proofs.reader.run.Goals as goal
 
 pub loop-token-init : goal.loop-token-init

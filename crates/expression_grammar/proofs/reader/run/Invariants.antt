@@ -1,5 +1,5 @@
 use Rattle.expression_grammar.specs.declared.reader.TheConstants.{MOST_BRACKETS, MOST_OPERATORS}
-use Rattle.expression_grammar.proofs.Running.{Runs}
+use Rattle.expression_grammar.proofs.MachineLoop.{Runs}
 use Rattle.expression_grammar.proofs.reader.run.Given as goal
 
 abbrev pub invariant-loop-token : goal.invariant-loop-token

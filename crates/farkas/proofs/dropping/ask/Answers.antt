@@ -2,7 +2,7 @@ use Rattle.std.proofs.Common.{◌∙◌, sym, subst, get_or}
 use Rattle.farkas.specs.declared.stuck.Stuck.TheVariants as stuck
 use Rattle.farkas.specs.Run.{implied_run, others}
 use Rattle.farkas.specs.Gives.{Halts}
-use Rattle.farkas.proofs.Asking.{implied-unformed, implied-unanswered, implied-gives, asked-inside, settled-is}
+use Rattle.farkas.proofs.RowQuestions.{implied-unformed, implied-unanswered, implied-gives, asked-inside, settled-is}
 use Rattle.farkas.proofs.dropping.ask.Goals as goal
 
 pub returns-in-Err : goal.returns-in-Err

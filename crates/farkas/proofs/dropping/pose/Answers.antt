@@ -1,7 +1,7 @@
 use Rattle.std.proofs.Common.{◌∙◌, ◌+◌, ◌<◌, ◌++◌, ◌∷◌, [], ℕ, List, length, sym, ap, subst}
 use Rattle.whole_numbers.specs.Affine.{Affine}
 use Rattle.integer_sets.specs.Constraints.{IsSized}
-use Rattle.farkas.proofs.Asking.{question-sized}
+use Rattle.farkas.proofs.RowQuestions.{question-sized}
 use Rattle.farkas.proofs.dropping.pose.Goals as goal
 
 pub from_parts-requires : goal.from_parts-requires

@@ -1,5 +1,5 @@
 use Rattle.std.proofs.Common.{◌-◌, length}
-use Rattle.farkas.proofs.Asking.{settled-sized}
+use Rattle.farkas.proofs.RowQuestions.{settled-sized}
 use Rattle.farkas.proofs.dropping.settle.Goals as goal
 
 pub from_parts-requires-in-Ok : goal.from_parts-requires-in-Ok

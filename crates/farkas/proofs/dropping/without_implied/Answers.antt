@@ -2,7 +2,7 @@ use Rattle.std.proofs.Common.{◌≡◌, ◌∙◌, ◌<◌, ◌≤◌, length, 
 use Rattle.whole_numbers.specs.Affine.{Affine, form_of}
 use Rattle.farkas.specs.Run.{kept_from}
 use Rattle.farkas.proofs.Chains.{halts-same}
-use Rattle.farkas.proofs.Asking.{Went, went, went-on, went-less, asked-halts, dropped-halts, dropped-ends}
+use Rattle.farkas.proofs.RowQuestions.{Went, went, went-on, went-less, asked-halts, dropped-halts, dropped-ends}
 use Rattle.farkas.proofs.dropping.without_implied.Goals as goal
 use Rattle.farkas.proofs.dropping.without_implied.Goals.{In-Ok}
 

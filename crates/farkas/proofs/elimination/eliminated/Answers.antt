@@ -3,7 +3,7 @@ use Rattle.integer_sets.specs.Constraints.{Constraints}
 use Rattle.farkas.specs.declared.stuck.Stuck.TheVariants as stuck
 use Rattle.farkas.specs.Run.{narrowing, without_column}
 use Rattle.farkas.specs.Gives.{Halts}
-use Rattle.farkas.proofs.Going.{narrowing-halts, narrowing-gives}
+use Rattle.farkas.proofs.EliminationRuns.{narrowing-halts, narrowing-gives}
 use Rattle.farkas.proofs.elimination.eliminated.Goals as goal
 
 pub returns-in-Err : goal.returns-in-Err

@@ -1,5 +1,5 @@
 use Rattle.std.proofs.Common.{◌≡◌, ◌+◌, ◌-◌, ◌<◌, suc, subst, arith, ℕ, All}
-use Rattle.fm_projection.proofs.Narrowing.{narrowed_sized}
+use Rattle.fm_projection.proofs.RemovedEntries.{narrowed_sized}
 use Rattle.affine_forms.specs.Parts.{variables_of}
 use Rattle.integer_sets.specs.Constraints.{variables_in}
 use Rattle.farkas.proofs.elimination.narrow_system.Goals as goal

@@ -1,6 +1,6 @@
 use Rattle.std.proofs.Common.{◌∙◌, ◌-◌, ◌<◌, ap, arith}
 use Rattle.farkas.specs.Run.{left_run}
-use Rattle.farkas.proofs.Going.{narrowing-shape, left-halts-first, left-halts-second, Left, left-step}
+use Rattle.farkas.proofs.EliminationRuns.{narrowing-shape, left-halts-first, left-halts-second, Left, left-step}
 use Rattle.farkas.proofs.elimination.without_multipliers.Goals as goal
 use Rattle.farkas.proofs.elimination.without_multipliers.Goals.{In-Ok-without_implied}
 

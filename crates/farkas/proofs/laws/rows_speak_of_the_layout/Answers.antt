@@ -1,4 +1,4 @@
-use Rattle.farkas.proofs.Placing.{row_length, legal_says, bounded_says}
+use Rattle.farkas.proofs.UnknownPlaces.{row_length, legal_says, bounded_says}
 use Rattle.farkas.proofs.laws.rows_speak_of_the_layout.Goals as goal
 
 pub returns-clause-columns : goal.returns-clause-columns

@@ -1,4 +1,4 @@
-use Rattle.farkas.proofs.Placing.{layout_one, layout_before, layout_behind, shows}
+use Rattle.farkas.proofs.UnknownPlaces.{layout_one, layout_before, layout_behind, shows}
 use Rattle.farkas.proofs.laws.unknowns_stand_by_the_layout.Goals as goal
 
 pub returns-clause-one : goal.returns-clause-one

@@ -1,5 +1,5 @@
 use Rattle.std.proofs.Common.{arith}
-use Rattle.farkas.proofs.Claiming.{facts}
+use Rattle.farkas.proofs.ClaimedForms.{facts}
 use Rattle.farkas.proofs.matching.constant_factors.Goals as goal
 
 pub only_at-requires : goal.only_at-requires

@@ -1,5 +1,5 @@
 use Rattle.std.proofs.Common.{◌≡◌, ◌+◌, ◌-◌, ◌++◌, sym, subst, arith, pos, List}
-use Rattle.fm_projection.proofs.Narrowing.{same_ok}
+use Rattle.fm_projection.proofs.RemovedEntries.{same_ok}
 use Rattle.wide_math.specs.declared.Wide.{Wide}
 use Rattle.whole_numbers.specs.Affine.{Affine, form_of}
 use Rattle.fractions.specs.Farkas.{own_rows}

@@ -6,9 +6,9 @@ use Rattle.affine_forms.specs.Gives.{Fails}
 use Rattle.farkas.specs.Claims.{iterators, parameters, linear}
 use Rattle.farkas.specs.Matching.{coefficients_run}
 use Rattle.farkas.specs.Gives.{with_more, Gains}
-use Rattle.farkas.proofs.Claiming.{facts}
-use Rattle.farkas.proofs.Forming.{together, source_run, target_run, bound_run, linear_run, fails-same, fails-first}
-use Rattle.farkas.proofs.Forming.{fails-second, gains-together, gains-same}
+use Rattle.farkas.proofs.ClaimedForms.{facts}
+use Rattle.farkas.proofs.MatchingParts.{together, source_run, target_run, bound_run, linear_run, fails-same}
+use Rattle.farkas.proofs.MatchingParts.{fails-first, fails-second, gains-together, gains-same}
 use Rattle.farkas.proofs.matching.match_coefficients.Goals as goal
 use Rattle.farkas.proofs.matching.match_coefficients.Goals.{In-Ok}
 

@@ -2,7 +2,7 @@ use Rattle.std.proofs.Common.{◌≡◌, ◌∙◌, ap, subst, refl, arith}
 use Rattle.integer_sets.specs.Constraints.{Constraints}
 use Rattle.fm_projection.specs.Projecting.{all_gone}
 use Rattle.fm_projection.specs.Alone.{AllPass}
-use Rattle.fm_projection.proofs.Passing.{gone_more, stops_going}
+use Rattle.fm_projection.proofs.EliminationRuns.{gone_more, stops_going}
 use Rattle.fm_projection.proofs.alone.all_gone.Goals as goal
 
 pub loop-time-init : goal.loop-time-init

@@ -2,7 +2,7 @@ use Rattle.std.proofs.Common.{rules, ◌≡◌, ◌∙◌, ◌-◌, ◌++◌, �
 use Rattle.std.proofs.lemmas.List.{append-nil}
 use Rattle.whole_numbers.specs.Affine.{Affine}
 use Rattle.fm_projection.specs.Alone.{range_rows}
-use Rattle.fm_projection.proofs.Ranging.{least_row, most_row, two_more, range_more, range_end}
+use Rattle.fm_projection.proofs.RangeRows.{least_row, most_row, two_more, range_more, range_end}
 use Rattle.fm_projection.proofs.alone.append_range.Goals as goal
 
 pub loop-place-init : goal.loop-place-init

@@ -1,6 +1,6 @@
 use Rattle.std.proofs.Common.{◌-◌, ap, arith}
 use Rattle.integer_sets.specs.Constraints.{Constraints}
-use Rattle.fm_projection.proofs.Passing.{gone_dimensions}
+use Rattle.fm_projection.proofs.EliminationRuns.{gone_dimensions}
 use Rattle.fm_projection.proofs.alone.last_alone.Goals as goal
 
 pub all_gone-requires-in-Ok-all_gone : goal.all_gone-requires-in-Ok-all_gone

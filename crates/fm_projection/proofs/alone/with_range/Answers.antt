@@ -4,7 +4,7 @@ use Rattle.whole_numbers.specs.Affine.{Affine}
 use Rattle.affine_forms.specs.Parts.{variables_of}
 use Rattle.integer_sets.specs.Constraints.{Constraints, variables_in}
 use Rattle.fm_projection.specs.Alone.{range_rows}
-use Rattle.fm_projection.proofs.Ranging.{range_sized}
+use Rattle.fm_projection.proofs.RangeRows.{range_sized}
 use Rattle.fm_projection.proofs.alone.with_range.Goals as goal
 
 pub from_parts-requires : goal.from_parts-requires

@@ -4,7 +4,7 @@ use Rattle.std.proofs.lemmas.Int.{to_z-of_z}
 use Rattle.whole_numbers.specs.Affine.{form_of}
 use Rattle.wide_math.specs.declared.Wide.{Wide}
 use Rattle.fractions.specs.Elimination.{removed}
-use Rattle.fm_projection.proofs.Narrowing.{removed_is, same_ok}
+use Rattle.fm_projection.proofs.RemovedEntries.{removed_is, same_ok}
 use Rattle.fm_projection.proofs.columns.narrow_form.Goals as goal
 
 pub returns : goal.returns

@@ -4,7 +4,7 @@ use Rattle.whole_numbers.specs.Affine.{Affine}
 use Rattle.affine_forms.specs.Parts.{variables_of}
 use Rattle.fractions.specs.Elimination.{narrowed}
 use Rattle.integer_sets.specs.Constraints.{variables_in, system_of}
-use Rattle.fm_projection.proofs.Narrowing.{narrowed_sized}
+use Rattle.fm_projection.proofs.RemovedEntries.{narrowed_sized}
 use Rattle.fm_projection.proofs.columns.without_column.Goals as goal
 
 pub from_parts-requires : goal.from_parts-requires

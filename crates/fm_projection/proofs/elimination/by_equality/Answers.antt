@@ -8,7 +8,7 @@ use Rattle.std.proofs.lemmas.List.{take_all, length-drop}
 use Rattle.whole_numbers.specs.Affine.{Affine}
 use Rattle.fractions.specs.Elimination.{first_with}
 use Rattle.fm_projection.specs.Runs.{eliminated_run, place_of}
-use Rattle.fm_projection.proofs.Joined.{chain-stop, first_with_place}
+use Rattle.fm_projection.proofs.JoinedLists.{chain-stop, first_with_place}
 use Rattle.fm_projection.proofs.elimination.by_equality.Goals as goal
 
 -- the equality at the place, and the others, as they are cut

@@ -2,7 +2,7 @@ use Rattle.std.proofs.Common.{rules, ◌≡◌, refl}
 use Rattle.std.specs.Prelude.{map}
 use Rattle.whole_numbers.specs.Content.{lowest_of_form}
 use Rattle.fm_projection.specs.Runs.{eliminated_run}
-use Rattle.fm_projection.proofs.Joined.{chain-stop, first_with_none}
+use Rattle.fm_projection.proofs.JoinedLists.{chain-stop, first_with_none}
 use Rattle.fm_projection.proofs.elimination.by_pairs.Goals as goal
 
 pub returns-in-Err-project_all : goal.returns-in-Err-project_all

@@ -1,6 +1,6 @@
 use Rattle.std.proofs.Common.{ℕ, arith, refl, ap₂, [], pos, ◌*◌}
 use Rattle.whole_numbers.specs.Affine.{form_of}
-use Rattle.fm_projection.proofs.Joined.{first_with_place, first_with_none}
+use Rattle.fm_projection.proofs.JoinedLists.{first_with_place, first_with_none}
 use Rattle.fm_projection.proofs.elimination.count_pairs.Goals as goal
 
 pub returns-then-place-equalities : goal.returns-then-place-equalities

@@ -2,7 +2,7 @@ use Rattle.std.proofs.Common.{◌≡◌, ◌<◌, ◌-◌, ap, subst, refl, arit
 use Rattle.std.specs.Prelude.{Err, Ok}
 use Rattle.fm_projection.specs.Gives.{Eliminates}
 use Rattle.fm_projection.specs.Projecting.{Drops, PassProjecting, projected}
-use Rattle.fm_projection.proofs.Passing.{projected_more, stops_projecting}
+use Rattle.fm_projection.proofs.EliminationRuns.{projected_more, stops_projecting}
 use Rattle.fm_projection.proofs.projecting.project.Goals as goal
 
 pub loop-alloc-init : goal.loop-alloc-init

@@ -1,4 +1,4 @@
-use Rattle.fm_projection.proofs.Between.{all_left, projected_left}
+use Rattle.fm_projection.proofs.FractionPoints.{all_left, projected_left}
 use Rattle.fm_projection.proofs.projection_laws.eliminations_are_exact_one_after_another.Goals as goal
 
 pub returns-clause-gone : goal.returns-clause-gone

@@ -1,5 +1,5 @@
-use Rattle.fm_projection.proofs.Following.{follow}
-use Rattle.fm_projection.proofs.Between.{front_of}
+use Rattle.fm_projection.proofs.WholePoints.{follow}
+use Rattle.fm_projection.proofs.FractionPoints.{front_of}
 use Rattle.fm_projection.proofs.Ranges.{last_value}
 use Rattle.fm_projection.proofs.projection_laws.eliminations_keep_the_points.Goals as goal
 

@@ -1,5 +1,5 @@
 use Rattle.std.proofs.Common.{refl}
-use Rattle.fm_projection.proofs.Joined.{chain-stop}
+use Rattle.fm_projection.proofs.JoinedLists.{chain-stop}
 use Rattle.fm_projection.proofs.rows.append.Goals as goal
 
 pub returns-in-Err : goal.returns-in-Err

@@ -6,7 +6,7 @@ use Rattle.affine_forms.specs.Gives.{Fails}
 use Rattle.whole_numbers.specs.Content.{lowest_of_form}
 use Rattle.fractions.specs.Elimination.{chosen, is_zero, is_not_zero}
 use Rattle.fm_projection.specs.Runs.{forms_run, reduced_run}
-use Rattle.fm_projection.proofs.Joined.{reduced_parts, reduced_parts-stop, chain-stop}
+use Rattle.fm_projection.proofs.JoinedLists.{reduced_parts, reduced_parts-stop, chain-stop}
 use Rattle.fm_projection.proofs.rows.reduce_all.Goals as goal
 
 pub returns-in-Err-append_reduced : goal.returns-in-Err-append_reduced

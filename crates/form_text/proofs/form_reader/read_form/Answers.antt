@@ -1,6 +1,6 @@
 use Rattle.std.proofs.Common.{rules, ◌≡◌, ◌++◌, ◌∷◌, ◌<◌, [], length}
 use Rattle.form_text.specs.View.{next_read}
-use Rattle.form_text.proofs.Stripping.{terms_more}
+use Rattle.form_text.proofs.StrippedFronts.{terms_more}
 use Rattle.form_text.proofs.form_reader.read_form.Goals as goal
 
 pub loop-at-preserved : goal.loop-at-preserved

@@ -1,7 +1,7 @@
 -- The coefficients so far, in front of what is still read, are those of all.
 use Rattle.std.proofs.Common.{◌≡◌, map, drop, true}
 use Rattle.form_text.specs.Reading.{read_terms}
-use Rattle.form_text.proofs.Stripping.{joined}
+use Rattle.form_text.proofs.StrippedFronts.{joined}
 use Rattle.form_text.proofs.form_reader.read_form.Given as goal
 
 abbrev pub invariant-loop-at : goal.invariant-loop-at

@@ -1,7 +1,7 @@
 use Rattle.std.proofs.Common.{rules, ◌≡◌, ◌∙◌, ◌+◌, ◌-◌, ◌*◌, ◌^◌, ◌<◌, length, ap, sym, arith}
 use Rattle.form_text.specs.Reading.{number_in_front, behind_digits}
 use Rattle.form_text.specs.View.{saturated}
-use Rattle.form_text.proofs.Stripping.{saturated_same, stops_at_end}
+use Rattle.form_text.proofs.StrippedFronts.{saturated_same, stops_at_end}
 use Rattle.form_text.proofs.form_reader.read_number.Goals as goal
 
 pub returns-then-not-is_ascii_digit-clause-number : goal.returns-then-not-is_ascii_digit-clause-number

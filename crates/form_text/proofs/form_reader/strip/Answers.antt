@@ -1,6 +1,6 @@
 use Rattle.std.proofs.lemmas.Slice.Eq.{strip_prefix_is}
 use Rattle.std.proofs.lemmas.Bool.Decides.{Decides-eqb}
-use Rattle.form_text.proofs.Stripping.{stripped}
+use Rattle.form_text.proofs.StrippedFronts.{stripped}
 use Rattle.form_text.proofs.form_reader.strip.Goals as goal
 
 pub returns : goal.returns

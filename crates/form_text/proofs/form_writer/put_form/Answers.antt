@@ -3,7 +3,7 @@ use Rattle.std.specs.Prelude.{FitsSigned}
 use Rattle.std.specs.Int.{w128}
 use Rattle.std.proofs.lemmas.Int.{to_z-of_z}
 use Rattle.form_text.specs.Forms.{form_text}
-use Rattle.form_text.proofs.Putting.{behind_all}
+use Rattle.form_text.proofs.PutTexts.{behind_all}
 use Rattle.form_text.proofs.form_writer.put_form.Goals as goal
 
 pub returns-then-at-coefficients : goal.returns-then-at-coefficients

@@ -1,6 +1,6 @@
 -- One write takes the place on; a failed one leaves the front that was taken.
 use Rattle.std.proofs.Common.{◌-◌, length, drop, arith, length-drop, take_all}
-use Rattle.io_ports.proofs.Writing.{take_next, take_stopped}
+use Rattle.io_ports.proofs.PutTexts.{take_next, take_stopped}
 use Rattle.io_ports.proofs.sink.write_whole.Goals as goal
 
 pub returns-in-Err : goal.returns-in-Err

@@ -3,7 +3,7 @@ use Rattle.whole_numbers.specs.Affine.{Affine}
 use Rattle.affine_forms.specs.declared.stop.FormStop.TheVariants.{Wide as TooWide}
 use Rattle.affine_forms.specs.Gives.{Fails}
 use Rattle.affine_forms.specs.Runs.{compose_run}
-use Rattle.iteration_domains.proofs.Small.{compose_small}
+use Rattle.iteration_domains.proofs.SmallRuns.{compose_small}
 use Rattle.iteration_domains.proofs.forms.compose.Goals as goal
 
 pub unreachable-requires : goal.unreachable-requires

@@ -5,7 +5,7 @@ use Rattle.whole_numbers.specs.Affine.{Affine}
 use Rattle.affine_forms.specs.declared.stop.FormStop.TheVariants.{Wide as TooWide}
 use Rattle.affine_forms.specs.Gives.{Fails}
 use Rattle.affine_forms.specs.Runs.{forms_sum_run}
-use Rattle.iteration_domains.proofs.Small.{sum_small}
+use Rattle.iteration_domains.proofs.SmallRuns.{sum_small}
 use Rattle.iteration_domains.proofs.forms.plus_multiple.Goals as goal
 
 pub unreachable-requires : goal.unreachable-requires

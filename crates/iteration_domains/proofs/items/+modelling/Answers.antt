@@ -5,8 +5,8 @@ use Rattle.scop_syntax.specs.View.{items_of, test_of, tree_of}
 use Rattle.scop_syntax.proofs.Weights.{weight, weight_all, item_weight}
 use Rattle.iteration_domains.specs.Model.{Modelled}
 use Rattle.iteration_domains.specs.Path.{Path, CanModel, modelled_in, path_at, path_of}
-use Rattle.iteration_domains.proofs.Placing.{can_loop, can_guard, item_can, item_step, models_of_loop}
-use Rattle.iteration_domains.proofs.Placing.{models_of_guard}
+use Rattle.iteration_domains.proofs.TreeStatements.{can_loop, can_guard, item_can, item_step, models_of_loop}
+use Rattle.iteration_domains.proofs.TreeStatements.{models_of_guard}
 use Rattle.iteration_domains.proofs.items.+modelling.Goals as goal
 
 pub model_guard-model_items-requires : goal.model_guard-model_items-requires

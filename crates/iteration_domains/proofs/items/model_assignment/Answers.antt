@@ -8,8 +8,9 @@ use Rattle.iteration_domains.specs.Constraints.{equalities_in}
 use Rattle.iteration_domains.specs.Sizes.{IsModelled}
 use Rattle.iteration_domains.specs.Standing.{CanEnter, starting}
 use Rattle.iteration_domains.specs.Path.{CanAccess, CanReadRight, gathered_of, path_of, scopes_of}
-use Rattle.iteration_domains.proofs.Placing.{can_access, can_read_right, can_start, forms_at, gathered_there}
-use Rattle.iteration_domains.proofs.Placing.{made_there, model_is, modelled_there, rows_at, rows_sized, stands_there}
+use Rattle.iteration_domains.proofs.TreeStatements.{can_access, can_read_right, can_start, forms_at, gathered_there}
+use Rattle.iteration_domains.proofs.TreeStatements.{made_there, model_is, modelled_there, rows_at, rows_sized}
+use Rattle.iteration_domains.proofs.TreeStatements.{stands_there}
 use Rattle.iteration_domains.proofs.items.model_assignment.Goals as goal
 
 pub rows_within-requires-clause-path : goal.rows_within-requires-clause-path

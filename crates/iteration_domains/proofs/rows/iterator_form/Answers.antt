@@ -7,7 +7,7 @@ use Rattle.whole_numbers.specs.Affine.{Affine, composed}
 use Rattle.affine_forms.specs.Parts.{variables_of}
 use Rattle.scop_syntax.specs.Tree.{Head}
 use Rattle.iteration_domains.specs.Sizes.{CanCompose, form_size, forms_size}
-use Rattle.iteration_domains.proofs.Entering.{can_compose, length-variable}
+use Rattle.iteration_domains.proofs.Surroundings.{can_compose, length-variable}
 use Rattle.iteration_domains.proofs.Sizes.{size-composed, size-variable}
 use Rattle.iteration_domains.proofs.rows.iterator_form.Goals as goal
 

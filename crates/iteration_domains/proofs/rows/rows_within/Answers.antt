@@ -1,6 +1,6 @@
 use Rattle.iteration_domains.specs.Path.{shown}
 use Rattle.iteration_domains.specs.Standing.{starting}
-use Rattle.iteration_domains.proofs.Entering.{scope_can, scope_step}
+use Rattle.iteration_domains.proofs.Surroundings.{scope_can, scope_step}
 use Rattle.iteration_domains.proofs.rows.rows_within.Goals as goal
 
 pub enter-requires : goal.enter-requires

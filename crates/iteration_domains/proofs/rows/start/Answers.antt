@@ -1,6 +1,6 @@
 use Rattle.std.proofs.Common.{◌+◌}
 use Rattle.iteration_domains.specs.Rows.{variables}
-use Rattle.iteration_domains.proofs.Entering.{variables_step}
+use Rattle.iteration_domains.proofs.Surroundings.{variables_step}
 use Rattle.iteration_domains.proofs.rows.start.Goals as goal
 
 pub loop-at-preserved : goal.loop-at-preserved

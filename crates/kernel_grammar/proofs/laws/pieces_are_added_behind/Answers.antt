@@ -1,4 +1,4 @@
-use Rattle.kernel_grammar.proofs.Behind.{turn_behind, run_behind}
+use Rattle.kernel_grammar.proofs.FrontPieces.{turn_behind, run_behind}
 use Rattle.kernel_grammar.proofs.laws.pieces_are_added_behind.Goals as goal
 
 pub returns : goal.returns

@@ -1,6 +1,6 @@
 use Rattle.std.proofs.Common.{arith}
 use Rattle.expression_grammar.specs.declared.reader.TheConstants.{MOST_BRACKETS, MOST_OPERATORS}
-use Rattle.kernel_grammar.proofs.Running.{tells_text, tells_stop}
+use Rattle.kernel_grammar.proofs.MachineLoop.{tells_text, tells_stop}
 use Rattle.kernel_grammar.proofs.reader.read.Goals as goal
 
 pub returns-clause-text : goal.returns-clause-text

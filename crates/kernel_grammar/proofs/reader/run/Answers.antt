@@ -1,6 +1,6 @@
 use Rattle.std.proofs.Common.{arith}
 use Rattle.expression_grammar.specs.declared.reader.TheConstants.{MOST_BRACKETS, MOST_OPERATORS}
-use Rattle.kernel_grammar.proofs.Running.{runs_first, runs_on, runs_left, feeds_on, gives_fault}
+use Rattle.kernel_grammar.proofs.MachineLoop.{runs_first, runs_on, runs_left, feeds_on, gives_fault}
 use Rattle.kernel_grammar.proofs.reader.run.Goals as goal
 
 pub loop-token-init : goal.loop-token-init

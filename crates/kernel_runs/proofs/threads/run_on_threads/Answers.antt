@@ -1,5 +1,5 @@
 use Rattle.std.proofs.Common.{◌∙◌}
-use Rattle.kernel_runs.proofs.Ending.{row_executed}
+use Rattle.kernel_runs.proofs.FinalCells.{row_executed}
 use Rattle.kernel_runs.proofs.threads.run_on_threads.Goals as goal
 
 pub returns-in-Ok-clause-arrays : goal.returns-in-Ok-clause-arrays

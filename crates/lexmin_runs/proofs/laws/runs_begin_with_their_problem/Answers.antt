@@ -1,4 +1,4 @@
-use Rattle.lexmin_runs.proofs.Kept.{first_is_node, first_node_solutions}
+use Rattle.lexmin_runs.proofs.KeptSolutions.{first_is_node, first_node_solutions}
 use Rattle.lexmin_runs.proofs.laws.runs_begin_with_their_problem.Goals as goal
 
 pub returns : goal.returns

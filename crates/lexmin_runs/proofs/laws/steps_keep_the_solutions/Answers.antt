@@ -1,4 +1,4 @@
-use Rattle.lexmin_runs.proofs.Kept.{step_nodes, step_solutions, pivot_keeps, cut_keeps, split_keeps}
+use Rattle.lexmin_runs.proofs.KeptSolutions.{step_nodes, step_solutions, pivot_keeps, cut_keeps, split_keeps}
 use Rattle.lexmin_runs.proofs.laws.steps_keep_the_solutions.Goals as goal
 
 pub returns : goal.returns

@@ -1,5 +1,5 @@
 use Rattle.lexmin_runs.proofs.Trees.{lexmin-right}
-use Rattle.lexmin_runs.proofs.Kept.{lexmin-speaks, lexmin-forms}
+use Rattle.lexmin_runs.proofs.KeptSolutions.{lexmin-speaks, lexmin-forms}
 use Rattle.lexmin_runs.proofs.laws.trees_are_right.Goals as goal
 
 pub returns : goal.returns

@@ -1,4 +1,4 @@
-use Rattle.lexmin_runs.proofs.Flat.{lexmin-alone}
+use Rattle.lexmin_runs.proofs.SingleLeaf.{lexmin-alone}
 use Rattle.lexmin_runs.proofs.laws.trees_without_parameters_are_leaves.Goals as goal
 
 pub returns : goal.returns

@@ -6,8 +6,8 @@ use Rattle.loop_tree.specs.SpotView.{marks_of}
 use Rattle.loop_tree.specs.Stretches.{left_in}
 use Rattle.loop_tree.specs.Tree.{Tree, Trees, loop, more, none}
 use Rattle.loop_tree.specs.View.{bounds_in, nodes_of, tree_of}
-use Rattle.loop_tree.proofs.Going.{go_node, gone_node, length-marks}
-use Rattle.loop_tree.proofs.Stretched.{go_begun, gone_begun}
+use Rattle.loop_tree.proofs.VisitPlaces.{go_node, gone_node, length-marks}
+use Rattle.loop_tree.proofs.Stretches.{go_begun, gone_begun}
 use Rattle.loop_tree.proofs.Views.{tree_loop}
 use Rattle.loop_tree.proofs.Weights.{node_weight, weight, weight_all}
 use Rattle.loop_tree.proofs.passing.+passing.Goals as goal

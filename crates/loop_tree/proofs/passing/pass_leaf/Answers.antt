@@ -7,7 +7,7 @@ use Rattle.loop_tree.specs.Spot.{shown_from}
 use Rattle.loop_tree.specs.Stretches.{left_of}
 use Rattle.loop_tree.specs.Tree.{instance, more, none}
 use Rattle.loop_tree.specs.Walk.{along, given, walk_all}
-use Rattle.loop_tree.proofs.Stretched.{shown_up}
+use Rattle.loop_tree.proofs.Stretches.{shown_up}
 use Rattle.loop_tree.proofs.passing.pass_leaf.Goals as goal
 
 pub stretch_behind-passed-requires : goal.stretch_behind-passed-requires

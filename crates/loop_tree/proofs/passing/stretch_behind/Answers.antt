@@ -10,8 +10,8 @@ use Rattle.loop_tree.specs.declared.stretch.Stretch.{Stretch}
 use Rattle.loop_tree.specs.Conditions.{IsHeld}
 use Rattle.loop_tree.specs.Fits.{SumsFit}
 use Rattle.loop_tree.proofs.Chains.{values_at}
-use Rattle.loop_tree.proofs.Stretched.{following_held, following_shown, fronts_fit, stretch_is}
-use Rattle.loop_tree.proofs.Walked.{leaf_held}
+use Rattle.loop_tree.proofs.Stretches.{following_held, following_shown, fronts_fit, stretch_is}
+use Rattle.loop_tree.proofs.WalkSteps.{leaf_held}
 use Rattle.loop_tree.proofs.passing.stretch_behind.Goals as goal
 
 pub instance_at-before-requires-clause-held : goal.instance_at-before-requires-clause-held

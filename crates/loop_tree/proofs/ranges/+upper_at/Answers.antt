@@ -3,7 +3,7 @@ use Rattle.loop_tree.specs.steps.Chain.{values_in}
 use Rattle.loop_tree.specs.Fits.{BoundsFit}
 use Rattle.loop_tree.specs.Marks.{AreBounds}
 use Rattle.loop_tree.specs.Tree.{Bound, bounds_of}
-use Rattle.loop_tree.proofs.Bounding.{first_divisor, first_fits}
+use Rattle.loop_tree.proofs.FirstBounds.{first_divisor, first_fits}
 use Rattle.loop_tree.proofs.ranges.+upper_at.Goals as goal
 
 pub floor_at-here-requires-clause-divisor : goal.floor_at-here-requires-clause-divisor

@@ -3,7 +3,7 @@ use Rattle.scop_syntax.specs.Statements.{Scope}
 use Rattle.scop_syntax.specs.Tree.{none}
 use Rattle.iteration_domains.specs.Path.{gathered_of, path_of, scopes_of}
 use Rattle.iteration_domains.specs.Standing.{CanEnter, starting}
-use Rattle.iteration_domains.proofs.Placing.{can_start, gathered_there}
+use Rattle.iteration_domains.proofs.TreeStatements.{can_start, gathered_there}
 use Rattle.loop_tree.proofs.source.point_forms.Goals as goal
 
 pub rows_within-requires-clause-path : goal.rows_within-requires-clause-path

@@ -2,11 +2,11 @@ use Rattle.std.proofs.Common.{◌≡◌, ◌+◌, [], length, subst, refl, arith
 use Rattle.loop_tree.specs.Shape.{TreesAreOver}
 use Rattle.loop_tree.specs.Source.{source_of}
 use Rattle.iteration_domains.specs.Path.{path_at}
-use Rattle.iteration_domains.proofs.Placing.{can_kernel}
+use Rattle.iteration_domains.proofs.TreeStatements.{can_kernel}
 use Rattle.loop_tree.proofs.Sources.{sources_flat, sources_serial}
-use Rattle.loop_tree.proofs.Sized.{sources_over}
+use Rattle.loop_tree.proofs.SourceSizes.{sources_over}
 use Rattle.loop_tree.proofs.Numbers.{sources_up_to}
-use Rattle.loop_tree.proofs.Standing.{sources_of_statements, program_stands}
+use Rattle.loop_tree.proofs.SourceInstances.{sources_of_statements, program_stands}
 use Rattle.loop_tree.proofs.Wholes.{visited, walkable}
 use Rattle.loop_tree.proofs.source_laws.source_trees_visit_the_walk.Goals as goal
 

@@ -2,7 +2,7 @@ use Rattle.std.proofs.Common.{◌≡◌, ◌+◌, ◌<◌, [], List, drop, ap, r
 use Rattle.loop_tree.specs.Spot.{deep_all}
 use Rattle.loop_tree.specs.View.{nodes_of, tree_of}
 use Rattle.loop_tree.specs.declared.tree.Node.{Node}
-use Rattle.loop_tree.proofs.Going.{deep_some}
+use Rattle.loop_tree.proofs.VisitPlaces.{deep_some}
 use Rattle.loop_tree.proofs.Weights.{node_here, node_weight, weight, weight_all}
 use Rattle.loop_tree.proofs.spot.+deepening.Goals as goal
 

@@ -13,12 +13,11 @@ use Rattle.loop_tree.specs.Tree.{Tree, Trees, guard as guarded, more, none}
 use Rattle.loop_tree.specs.View.{bounds_in, nodes_of, test_of, tree_of}
 use Rattle.loop_tree.specs.Walk.{all_hold as tests_hold, lower, upper}
 use Rattle.loop_tree.proofs.Views.{tree_guard, tree_instance}
-use Rattle.loop_tree.proofs.Walked.{leaf_held}
+use Rattle.loop_tree.proofs.WalkSteps.{leaf_held}
 use Rattle.loop_tree.proofs.Weights.{node_weight, weight, weight_all}
-use Rattle.loop_tree.proofs.Going.{at_next, at_restarted, begun_last, go_guard, go_loop, go_node, go_turn, gone_guard}
-use Rattle.loop_tree.proofs.Going.{gone_loop, gone_node}
-use Rattle.loop_tree.proofs.Going.{length-marks, length-restarted, node_done, rest_end, rest_guard, rest_loop}
-use Rattle.loop_tree.proofs.Going.{turns_fewer, turns_next}
+use Rattle.loop_tree.proofs.VisitPlaces.{at_next, at_restarted, begun_last, go_guard, go_loop, go_node, go_turn}
+use Rattle.loop_tree.proofs.VisitPlaces.{gone_guard, gone_loop, gone_node, length-marks, length-restarted, node_done}
+use Rattle.loop_tree.proofs.VisitPlaces.{rest_end, rest_guard, rest_loop, turns_fewer, turns_next}
 use Rattle.loop_tree.proofs.spot.+going.Goals as goal
 
 abbrev begun_of : Mark → Bool

@@ -2,7 +2,7 @@ use Rattle.std.proofs.Common.{rules, ◌≡◌, ◌∙◌, ◌∷◌, [], List, 
 use Rattle.std.specs.Prelude.{◌+ℤ◌, FitsSigned}
 use Rattle.std.specs.Int.{w64}
 use Rattle.std.proofs.lemmas.Int.{to_z-of_z}
-use Rattle.loop_tree.proofs.Stretched.{each_of_five, sums_front}
+use Rattle.loop_tree.proofs.Stretches.{each_of_five, sums_front}
 use Rattle.loop_tree.proofs.stretch.stepped.Goals as goal
 
 pub returns-clause-instance : goal.returns-clause-instance

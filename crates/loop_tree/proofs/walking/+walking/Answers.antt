@@ -13,8 +13,8 @@ use Rattle.loop_tree.specs.View.{bounds_in, nodes_of, tree_of}
 use Rattle.loop_tree.specs.Walk.{lower, upper, given, walk_all}
 use Rattle.loop_tree.proofs.Views.{tree_instance}
 use Rattle.loop_tree.specs.declared.tree.Node.{Node}
-use Rattle.loop_tree.proofs.Walked.{shown_by, shown_here, so_far_ends, so_far_step, walk_first, walk_rest, SoFar}
-use Rattle.loop_tree.proofs.Walked.{leaf_held, loop_shown, shown_none, shown_turn, turns_shown, walk_turn}
+use Rattle.loop_tree.proofs.WalkSteps.{shown_by, shown_here, so_far_ends, so_far_step, walk_first, walk_rest, SoFar}
+use Rattle.loop_tree.proofs.WalkSteps.{leaf_held, loop_shown, shown_none, shown_turn, turns_shown, walk_turn}
 use Rattle.loop_tree.proofs.Weights.{node_here, node_weight, weight, weight_all}
 use Rattle.loop_tree.proofs.walking.+walking.Goals as goal
 

@@ -4,7 +4,7 @@ use Rattle.scop_syntax.specs.Walk.{most_turns}
 use Rattle.loop_tree.specs.steps.Chain.{values_in}
 use Rattle.loop_tree.specs.Conditions.{CanWalk}
 use Rattle.loop_tree.specs.View.{nodes_of, tree_of}
-use Rattle.loop_tree.proofs.Walked.{SoFar, shown_by, turns_shown}
+use Rattle.loop_tree.proofs.WalkSteps.{SoFar, shown_by, turns_shown}
 use Rattle.loop_tree.proofs.Weights.{weight, weight_all}
 use Rattle.loop_tree.proofs.walking.+walking.Given as goal
 

@@ -4,7 +4,7 @@ use Rattle.std.specs.Int.{w64}
 use Rattle.whole_numbers.specs.Affine.{Affine, value_of}
 use Rattle.loop_tree.specs.steps.Chain.{values_in}
 use Rattle.loop_tree.specs.Fits.{FormFits}
-use Rattle.loop_tree.proofs.Walked.{form_fits_at, turn_held_at}
+use Rattle.loop_tree.proofs.WalkSteps.{form_fits_at, turn_held_at}
 use Rattle.loop_tree.proofs.walking.turns_at.Goals as goal
 
 pub turn_at-requires-clause-fits : goal.turn_at-requires-clause-fits

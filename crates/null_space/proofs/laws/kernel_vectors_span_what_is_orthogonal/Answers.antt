@@ -1,4 +1,4 @@
-use Rattle.null_space.proofs.Spanned.{spanned}
+use Rattle.null_space.proofs.KernelCombinations.{spanned}
 use Rattle.null_space.proofs.laws.kernel_vectors_span_what_is_orthogonal.Goals as goal
 
 pub returns : goal.returns

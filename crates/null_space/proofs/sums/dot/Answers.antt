@@ -3,8 +3,8 @@ use Rattle.std.specs.Int.{w128}
 use Rattle.std.proofs.lemmas.Int.{ints, to_z-of_z}
 use Rattle.std.proofs.lemmas.List.Elements.{All-get_or}
 use Rattle.null_space.specs.Sizes.{IsWithin}
-use Rattle.null_space.proofs.Running.{dot_step}
-use Rattle.null_space.proofs.Within.{within_mul}
+use Rattle.null_space.proofs.ListLoops.{dot_step}
+use Rattle.null_space.proofs.Sizes.{within_mul}
 use Rattle.null_space.proofs.sums.dot.Goals as goal
 
 pub loop-at-preserved : goal.loop-at-preserved

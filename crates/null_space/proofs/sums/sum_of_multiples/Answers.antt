@@ -3,7 +3,7 @@ use Rattle.std.proofs.Common.{ℤ, append_assoc}
 use Rattle.std.specs.Int.{w128}
 use Rattle.std.proofs.lemmas.Int.{to_z-of_z}
 use Rattle.whole_numbers.specs.Lists.{sums, multiples}
-use Rattle.null_space.proofs.Running.{sums_step}
+use Rattle.null_space.proofs.ListLoops.{sums_step}
 use Rattle.null_space.proofs.sums.sum_of_multiples.Goals as goal
 
 pub loop-at-preserved : goal.loop-at-preserved

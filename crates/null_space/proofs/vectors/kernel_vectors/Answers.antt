@@ -3,8 +3,8 @@ use Rattle.std.proofs.lemmas.List.{take_all}
 use Rattle.std.proofs.lemmas.List.Elements.{All-take}
 use Rattle.null_space.specs.Narrowing.{narrowed_by, kernel_vectors}
 use Rattle.null_space.specs.Sizes.{AreCoefficients, AreLong, AreNarrow}
-use Rattle.null_space.proofs.Running.{views, views_length, kernel_step, kernel_long, long_at}
-use Rattle.null_space.proofs.Stages.{kernel_narrow}
+use Rattle.null_space.proofs.ListLoops.{views, views_length, kernel_step, kernel_long, long_at}
+use Rattle.null_space.proofs.KernelSizes.{kernel_narrow}
 use Rattle.null_space.proofs.Echelon.{are_from}
 use Rattle.null_space.proofs.vectors.kernel_vectors.Goals.{After-deref}
 use Rattle.null_space.proofs.vectors.kernel_vectors.Goals as goal

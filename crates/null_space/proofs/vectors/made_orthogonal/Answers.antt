@@ -3,7 +3,7 @@ use Rattle.std.specs.Int.{w128}
 use Rattle.std.proofs.lemmas.Int.{to_z-of_z}
 use Rattle.whole_numbers.specs.Lists.{dot}
 use Rattle.null_space.specs.Sizes.{IsWithin}
-use Rattle.null_space.proofs.Within.{within_dot}
+use Rattle.null_space.proofs.Sizes.{within_dot}
 use Rattle.null_space.proofs.vectors.made_orthogonal.Goals as goal
 
 pub flattened-requires-clause-a : goal.flattened-requires-clause-a

@@ -3,7 +3,7 @@ use Rattle.std.proofs.Common.{pos, IfOk, of_z}
 use Rattle.std.specs.Int.{w128}
 use Rattle.whole_numbers.specs.Lists.{dot}
 use Rattle.null_space.specs.Narrowing.{against, narrowed_by}
-use Rattle.null_space.proofs.Running.{views, views_length, goes}
+use Rattle.null_space.proofs.ListLoops.{views, views_length, goes}
 use Rattle.null_space.proofs.vectors.narrowed_by.Goals as goal
 
 weaker : {T E : Type 0} (A B : T → Type 0) (r : Result T E) → IfOk r A → ((x : T) → A x → B x) → IfOk r B

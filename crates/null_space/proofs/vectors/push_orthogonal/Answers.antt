@@ -1,5 +1,5 @@
 use Rattle.std.proofs.Common.{length, sym, ◌∙◌, arith}
-use Rattle.null_space.proofs.Running.{views, views_length, long_at, small_at}
+use Rattle.null_space.proofs.ListLoops.{views, views_length, long_at, small_at}
 use Rattle.null_space.proofs.vectors.push_orthogonal.Goals as goal
 
 pub made_orthogonal-requires-clause-row : goal.made_orthogonal-requires-clause-row

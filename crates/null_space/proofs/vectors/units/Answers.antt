@@ -1,7 +1,7 @@
 use Rattle.std.proofs.Common.{◌+◌, ◌-◌, ◌++◌, ℤ, List, Vec, Global, set, ◌∙◌, ap, arith, pos}
 use Rattle.whole_numbers.specs.Lists.{zeros}
 use Rattle.null_space.specs.Narrowing.{units_from}
-use Rattle.null_space.proofs.Running.{views, views_more, units_step}
+use Rattle.null_space.proofs.ListLoops.{views, views_more, units_step}
 use Rattle.null_space.proofs.vectors.units.Goals as goal
 
 pub loop-at-preserved : goal.loop-at-preserved

@@ -1,4 +1,4 @@
-use Rattle.pip_solver.proofs.Deciding.{speaks_at}
+use Rattle.pip_solver.proofs.Decisions.{speaks_at}
 use Rattle.pip_solver.proofs.asking.above_somewhere.Goals as goal
 
 pub ask-requires-clause-forms : goal.ask-requires-clause-forms

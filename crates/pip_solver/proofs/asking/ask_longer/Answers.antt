@@ -1,7 +1,7 @@
 use Rattle.std.proofs.Common.{rules, ◌+◌, map}
 use Rattle.lexmin_runs.specs.Nodes.{longer_form}
-use Rattle.lexmin_runs.proofs.Longer.{speaks-longer}
-use Rattle.pip_solver.proofs.Deciding.{speaks_at}
+use Rattle.lexmin_runs.proofs.AddedParameters.{speaks-longer}
+use Rattle.pip_solver.proofs.Decisions.{speaks_at}
 use Rattle.pip_solver.proofs.asking.ask_longer.Goals as goal
 
 pub ask-requires-clause-forms : goal.ask-requires-clause-forms

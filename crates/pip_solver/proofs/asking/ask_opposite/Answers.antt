@@ -1,5 +1,5 @@
 use Rattle.std.proofs.Common.{◌∙◌, sym}
-use Rattle.pip_solver.proofs.Deciding.{speaks_at}
+use Rattle.pip_solver.proofs.Decisions.{speaks_at}
 use Rattle.pip_solver.proofs.Questions.{one_speaks, opposite-size}
 use Rattle.pip_solver.proofs.asking.ask_opposite.Goals as goal
 

@@ -1,5 +1,5 @@
 use Rattle.std.proofs.Common.{◌∙◌, ◌+◌, ℕ, ap}
-use Rattle.lexmin_runs.proofs.Asking.{under-size}
+use Rattle.lexmin_runs.proofs.QuestionAnswers.{under-size}
 use Rattle.pip_solver.proofs.asking.ask_under.Goals as goal
 
 pub ask_longer-requires-clause-second : goal.ask_longer-requires-clause-second

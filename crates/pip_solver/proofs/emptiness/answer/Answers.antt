@@ -1,4 +1,4 @@
-use Rattle.pip_solver.proofs.Deciding.{unposed_stops}
+use Rattle.pip_solver.proofs.Decisions.{unposed_stops}
 use Rattle.pip_solver.proofs.emptiness.answer.Goals as goal
 
 pub returns-in-Err-clause-run : goal.returns-in-Err-clause-run

@@ -6,7 +6,7 @@ use Rattle.lexmin_runs.specs.Nodes.{Counted, answered}
 use Rattle.checked_tableau.specs.Table.{Table, table_of}
 use Rattle.pip_solver.specs.Promises.{Tells}
 use Rattle.pip_solver.specs.declared.question.QuestionStop.{QuestionStop}
-use Rattle.pip_solver.proofs.Deciding.{decided_is, turned, front_sized, own_sized}
+use Rattle.pip_solver.proofs.Decisions.{decided_is, turned, front_sized, own_sized}
 use Rattle.pip_solver.proofs.emptiness.decide.Goals as goal
 use Rattle.pip_solver.proofs.emptiness.decide.Goals.{After-question}
 

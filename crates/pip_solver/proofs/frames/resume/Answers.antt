@@ -3,7 +3,7 @@ use Rattle.std.specs.Int.{w128}
 use Rattle.std.proofs.lemmas.Int.{to_z-of_z}
 use Rattle.quast_trees.specs.Postfix.{standing}
 use Rattle.pip_solver.specs.declared.frames.Frame.TheVariants as frame
-use Rattle.pip_solver.proofs.Framing.{take_binding, take_joining, take_second}
+use Rattle.pip_solver.proofs.FrameStack.{take_binding, take_joining, take_second}
 use Rattle.pip_solver.proofs.frames.resume.Goals as goal
 
 pub loop-form-preserved-in-Ok : goal.loop-form-preserved-in-Ok

@@ -1,7 +1,7 @@
 use Rattle.std.proofs.Common.{rules, ◌∙◌, sym, refl, pos, get_or, arith, FitsSigned}
 use Rattle.std.specs.Int.{w128}
 use Rattle.std.proofs.lemmas.Int.{ints, to_z-of_z}
-use Rattle.pip_solver.proofs.Dividing.{divided-more, divided-not}
+use Rattle.pip_solver.proofs.PartDivisions.{divided-more, divided-not}
 use Rattle.pip_solver.proofs.leaf.all_divided.Goals as goal
 
 pub loop-number-preserved : goal.loop-number-preserved

@@ -1,7 +1,7 @@
 use Rattle.std.proofs.Common.{rules, pos, get_or, FitsSigned}
 use Rattle.std.specs.Int.{w128}
 use Rattle.std.proofs.lemmas.Int.{to_z-of_z}
-use Rattle.pip_solver.proofs.Dividing.{floors-more}
+use Rattle.pip_solver.proofs.PartDivisions.{floors-more}
 use Rattle.pip_solver.proofs.leaf.floors.Goals as goal
 
 pub loop-number-preserved : goal.loop-number-preserved

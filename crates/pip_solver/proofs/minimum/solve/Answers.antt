@@ -9,11 +9,11 @@ use Rattle.lexmin_runs.specs.Nodes.{Counted, whole}
 use Rattle.tableau_nodes.specs.Node.{node_of}
 use Rattle.pip_solver.specs.Frames.{Runs}
 use Rattle.lexmin_runs.proofs.Trees.{lexmin-right}
-use Rattle.lexmin_runs.proofs.Kept.{lexmin-forms}
+use Rattle.lexmin_runs.proofs.KeptSolutions.{lexmin-forms}
 use Rattle.pip_solver.specs.Promises.{Tells}
 use Rattle.pip_solver.specs.Solving.{solved}
 use Rattle.pip_solver.specs.declared.question.QuestionStop.{QuestionStop}
-use Rattle.pip_solver.proofs.Minimum_of.{is_sized, first_ready, first_run, tree_speaks}
+use Rattle.pip_solver.proofs.ProblemRuns.{is_sized, first_ready, first_run, tree_speaks}
 use Rattle.pip_solver.proofs.minimum.solve.Goals as goal
 use Rattle.pip_solver.proofs.minimum.solve.Goals.{In-Ok-run, After-run}
 

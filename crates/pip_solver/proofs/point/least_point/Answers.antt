@@ -6,8 +6,8 @@ use Rattle.tableau_rows.specs.Problem.{row_values, problem_of}
 use Rattle.quast_trees.specs.Postfix.{tree_of}
 use Rattle.quast_trees.specs.Value.{value}
 use Rattle.lexmin_runs.specs.Leaves.{IsAnswer}
-use Rattle.pip_solver.proofs.Minimum_of.{is_sized}
-use Rattle.pip_solver.proofs.Pointing.{found-alone, given-least, given-none}
+use Rattle.pip_solver.proofs.ProblemRuns.{is_sized}
+use Rattle.pip_solver.proofs.LeafPoints.{found-alone, given-least, given-none}
 use Rattle.pip_solver.proofs.point.least_point.Goals as goal
 use Rattle.pip_solver.proofs.point.least_point.Goals.{Start, In-Ok}
 

@@ -5,7 +5,7 @@ use Rattle.quast_trees.specs.Tree.{Tree, leaf}
 use Rattle.quast_trees.specs.Postfix.{tree_of}
 use Rattle.quast_trees.specs.Leaf.{found}
 use Rattle.quast_trees.specs.Value.{value}
-use Rattle.pip_solver.proofs.Pointing.{values-constant}
+use Rattle.pip_solver.proofs.LeafPoints.{values-constant}
 use Rattle.pip_solver.proofs.point.point_of.Goals as goal
 
 pub returns-in-Ok : goal.returns-in-Ok

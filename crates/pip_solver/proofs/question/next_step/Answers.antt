@@ -2,7 +2,7 @@ use Rattle.std.proofs.Common.{rules, ◌≡◌, ◌∙◌, sym, refl, true, fals
 use Rattle.std.specs.Prelude.{None}
 use Rattle.tableau_rows.specs.Moves.{row_at}
 use Rattle.tableau_rows.specs.Run.{point, none, quotients, some_positive}
-use Rattle.pip_solver.proofs.Running.{next_pivots, next_empty, next_cuts, next_point}
+use Rattle.pip_solver.proofs.QuestionRuns.{next_pivots, next_empty, next_cuts, next_point}
 use Rattle.pip_solver.proofs.question.next_step.Goals as goal
 
 pub has_positive-requires : goal.has_positive-requires

@@ -5,7 +5,7 @@ use Rattle.tableau_rows.specs.Moves.{row_at, cut_run}
 use Rattle.tableau_rows.specs.Run.{run, cuts}
 use Rattle.checked_tableau.specs.Table.{Cuts, resumed}
 use Rattle.checked_tableau.specs.declared.stop.TableauStop.{TableauStop}
-use Rattle.pip_solver.proofs.Running.{run_spent, run_cuts, run_cuts-wide}
+use Rattle.pip_solver.proofs.QuestionRuns.{run_spent, run_cuts, run_cuts-wide}
 use Rattle.pip_solver.proofs.question.pay_for_cut.Goals as goal
 
 pub returns-then-left-eq0-clause-advances : goal.returns-then-left-eq0-clause-advances

@@ -4,7 +4,7 @@ use Rattle.wide_math.specs.declared.Wide.{Wide}
 use Rattle.tableau_rows.specs.Moves.{pivot_run}
 use Rattle.checked_tableau.specs.Table.{resumed}
 use Rattle.tableau_rows.specs.Run.{pivots}
-use Rattle.pip_solver.proofs.Running.{run_spent, run_pivots, run_pivots-wide}
+use Rattle.pip_solver.proofs.QuestionRuns.{run_spent, run_pivots, run_pivots-wide}
 use Rattle.pip_solver.proofs.question.pay_for_pivot.Goals as goal
 
 pub returns-then-left-eq0-clause-advances : goal.returns-then-left-eq0-clause-advances

@@ -6,7 +6,7 @@ use Rattle.tableau_nodes.specs.Node.{node_of}
 use Rattle.pip_solver.specs.declared.step.Next.TheVariants as next
 use Rattle.pip_solver.specs.Steps.{Steps}
 use Rattle.pip_solver.specs.Frames.{under}
-use Rattle.pip_solver.proofs.Advancing.{stops_under, ends_under, initial_ends, goes_under}
+use Rattle.pip_solver.proofs.FrameSteps.{stops_under, ends_under, initial_ends, goes_under}
 use Rattle.pip_solver.proofs.run.advance.Goals as goal
 
 pub leaf-requires-clause-many : goal.leaf-requires-clause-many

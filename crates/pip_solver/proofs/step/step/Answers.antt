@@ -6,7 +6,7 @@ use Rattle.tableau_nodes.specs.Node.{node_of}
 use Rattle.pip_solver.specs.Promises.{Tells}
 use Rattle.pip_solver.specs.Steps.{Steps}
 use Rattle.pip_solver.proofs.Questions.{chained-stops}
-use Rattle.pip_solver.proofs.Stepping.{steps_on, step-on, step-begins}
+use Rattle.pip_solver.proofs.NodeSteps.{steps_on, step-on, step-begins}
 use Rattle.pip_solver.proofs.step.step.Goals as goal
 
 pub returns-then-not-node-clause-run : goal.returns-then-not-node-clause-run

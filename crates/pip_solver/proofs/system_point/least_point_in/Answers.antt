@@ -1,4 +1,4 @@
-use Rattle.pip_solver.proofs.Deciding.{posed_sized}
+use Rattle.pip_solver.proofs.Decisions.{posed_sized}
 use Rattle.pip_solver.proofs.Systems.{unposed_minimizes, minimizes, minimum_of}
 use Rattle.pip_solver.proofs.system_point.least_point_in.Goals as goal
 

@@ -3,7 +3,7 @@ use Rattle.std.specs.Prelude.{Err}
 use Rattle.whole_numbers.specs.Affine.{Affine}
 use Rattle.affine_forms.specs.declared.stop.FormStop.{FormStop}
 use Rattle.pip_solver.specs.Promises.{Forms, FormedUntil}
-use Rattle.pip_solver.proofs.Deciding.{unposed}
+use Rattle.pip_solver.proofs.Decisions.{unposed}
 use Rattle.pip_solver.proofs.system_rows.equality_rows.Goals as goal
 
 pub returns-in-Err-Wide-clause-formed : goal.returns-in-Err-Wide-clause-formed

@@ -7,7 +7,7 @@ use Rattle.wide_math.specs.Checked.{difference_of}
 use Rattle.whole_numbers.specs.Affine.{Affine, form_of}
 use Rattle.affine_forms.specs.Gives.{Gives}
 use Rattle.checked_tableau.proofs.Tables.{written_whole}
-use Rattle.pip_solver.proofs.Posing.{negated-err, negated-wide, negated-ok}
+use Rattle.pip_solver.proofs.PosedRows.{negated-err, negated-wide, negated-ok}
 use Rattle.pip_solver.proofs.system_rows.negated.Goals as goal
 
 pub returns-in-Err-oppose : goal.returns-in-Err-oppose

@@ -3,7 +3,7 @@ use Rattle.std.proofs.Math.Seq.{take-suc}
 use Rattle.std.specs.Prelude.{Ok}
 use Rattle.whole_numbers.specs.Affine.{Affine}
 use Rattle.lexmin_runs.specs.Emptiness.{equality_rows_run}
-use Rattle.pip_solver.proofs.Posing.{rows-more, forms-stop}
+use Rattle.pip_solver.proofs.PosedRows.{rows-more, forms-stop}
 use Rattle.pip_solver.proofs.system_rows.pose_equalities.Goals as goal
 
 pub loop-form-preserved : goal.loop-form-preserved

@@ -4,7 +4,7 @@ use Rattle.loop_tree.specs.View.{test_of, nodes_of}
 use Rattle.loop_tree.proofs.Views.{tree_guard, tree_instance}
 use Rattle.std.proofs.lemmas.List.{length-map}
 use Rattle.loop_tree.specs.declared.tree.Node.TheVariants.{Instance}
-use Rattle.plain_scan.proofs.Bounding.{under_some}
+use Rattle.plain_scan.proofs.CodeBounds.{under_some}
 use Rattle.plain_scan.proofs.bounds.guarded.Goals as goal
 
 pub returns : goal.returns

@@ -2,7 +2,7 @@ use Rattle.std.proofs.Common.{◌∙◌, ap}
 use Rattle.std.specs.Prelude.{map}
 use Rattle.plain_scan.specs.Rows.{high_bound}
 use Rattle.plain_scan.specs.Sorting.{highs_in}
-use Rattle.plain_scan.proofs.Bounding.{high_next, high_end, take_all}
+use Rattle.plain_scan.proofs.CodeBounds.{high_next, high_end, take_all}
 use Rattle.plain_scan.proofs.bounds.high_bounds.Goals as goal
 
 pub loop-row-preserved : goal.loop-row-preserved

@@ -4,7 +4,7 @@ use Rattle.loop_tree.specs.Tree.{instance}
 use Rattle.loop_tree.specs.View.{test_of, tree_of}
 use Rattle.plain_scan.specs.Hulls.{leaf_tree}
 use Rattle.plain_scan.specs.Sets.{under}
-use Rattle.plain_scan.proofs.Bounding.{tests_are}
+use Rattle.plain_scan.proofs.CodeBounds.{tests_are}
 use Rattle.plain_scan.proofs.bounds.leaf.Goals as goal
 
 pub returns : goal.returns

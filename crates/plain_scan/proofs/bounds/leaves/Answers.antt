@@ -1,7 +1,7 @@
 use Rattle.std.proofs.Common.{◌∙◌, ap, map}
 use Rattle.loop_tree.specs.View.{trees_of}
 use Rattle.plain_scan.specs.Hulls.{leaf_tree}
-use Rattle.plain_scan.proofs.Bounding.{leaves_are, take_all}
+use Rattle.plain_scan.proofs.CodeBounds.{leaves_are, take_all}
 use Rattle.plain_scan.proofs.bounds.leaves.Goals as goal
 
 pub returns : goal.returns

@@ -2,7 +2,7 @@ use Rattle.std.proofs.Common.{◌∙◌, ap}
 use Rattle.std.specs.Prelude.{map}
 use Rattle.plain_scan.specs.Rows.{low_bound}
 use Rattle.plain_scan.specs.Sorting.{lows_in}
-use Rattle.plain_scan.proofs.Bounding.{low_next, low_end, take_all}
+use Rattle.plain_scan.proofs.CodeBounds.{low_next, low_end, take_all}
 use Rattle.plain_scan.proofs.bounds.low_bounds.Goals as goal
 
 pub loop-row-preserved : goal.loop-row-preserved

@@ -3,7 +3,7 @@ use Rattle.std.specs.Prelude.{neg_ℤ}
 use Rattle.std.specs.Int.{w64, w128}
 use Rattle.std.proofs.lemmas.Int.{to_z-of_z}
 use Rattle.whole_numbers.specs.Lists.{multiples}
-use Rattle.plain_scan.proofs.Bounding.{opposite_next, opposite_end, take_all}
+use Rattle.plain_scan.proofs.CodeBounds.{opposite_next, opposite_end, take_all}
 use Rattle.plain_scan.proofs.bounds.opposite_of.Goals as goal
 
 pub loop-number-preserved : goal.loop-number-preserved

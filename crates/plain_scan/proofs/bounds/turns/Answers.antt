@@ -1,6 +1,6 @@
 use Rattle.std.proofs.Common.{rules, ◌≡◌, ◌∙◌, ◌+◌, ◌<◌, ◌++◌, ◌∷◌, [], pos, subst, sym, arith}
 use Rattle.plain_scan.specs.Between.{HasSmallNumbers}
-use Rattle.plain_scan.proofs.Bounding.{turns_next}
+use Rattle.plain_scan.proofs.CodeBounds.{turns_next}
 use Rattle.plain_scan.proofs.Smallness.{place_has_small}
 use Rattle.plain_scan.proofs.bounds.turns.Goals as goal
 

@@ -5,7 +5,7 @@ use Rattle.std.proofs.lemmas.Int.{to_z-of_z}
 use Rattle.whole_numbers.proofs.Entries.{get_or_same}
 use Rattle.plain_scan.specs.declared.outline.Shadow.{Shadow}
 use Rattle.plain_scan.specs.declared.set_outline.Outline.{Outline}
-use Rattle.plain_scan.proofs.Hulling.{next_at, no_greater}
+use Rattle.plain_scan.proofs.HullRows.{next_at, no_greater}
 use Rattle.plain_scan.proofs.hull.highest.Goals as goal
 
 pub loop-outline-preserved : goal.loop-outline-preserved

@@ -1,4 +1,4 @@
-use Rattle.plain_scan.proofs.Hulling.{IsFirstRow, first_row, hull_sized}
+use Rattle.plain_scan.proofs.HullRows.{IsFirstRow, first_row, hull_sized}
 use Rattle.plain_scan.proofs.hull.hull.Goals as goal
 use Rattle.plain_scan.proofs.hull.hull.Goals.{After-row-item}
 

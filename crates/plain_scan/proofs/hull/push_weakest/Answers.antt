@@ -3,7 +3,7 @@ use Rattle.std.specs.Int.{w128}
 use Rattle.whole_numbers.specs.Affine.{form_of}
 use Rattle.affine_forms.specs.Parts.{variables_of}
 use Rattle.plain_scan.specs.Hulls.{IsHullRow}
-use Rattle.plain_scan.proofs.Hulling.{hull_row_more}
+use Rattle.plain_scan.proofs.HullRows.{hull_row_more}
 use Rattle.plain_scan.proofs.hull.push_weakest.Goals as goal
 
 pub returns-in_ok-push-in-Ok-clause-rows : goal.returns-in_ok-push-in-Ok-clause-rows

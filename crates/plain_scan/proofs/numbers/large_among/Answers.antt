@@ -4,7 +4,7 @@ use Rattle.std.proofs.lemmas.Int.{to_z-of_z}
 use Rattle.scop_syntax.proofs.Members.{member_at}
 use Rattle.whole_numbers.proofs.Entries.{all_next}
 use Rattle.plain_scan.specs.Between.{HasSmallNumbers, IsLargeAmong}
-use Rattle.plain_scan.proofs.Bounding.{take_all}
+use Rattle.plain_scan.proofs.CodeBounds.{take_all}
 use Rattle.plain_scan.proofs.numbers.large_among.Goals as goal
 
 pub returns-in-Some-clause-some : goal.returns-in-Some-clause-some

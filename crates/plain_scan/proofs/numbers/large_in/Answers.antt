@@ -5,7 +5,7 @@ use Rattle.std.proofs.lemmas.Int.{to_z-of_z}
 use Rattle.whole_numbers.proofs.Entries.{all_next, get_or_same}
 use Rattle.scop_syntax.specs.Members.{In}
 use Rattle.scop_syntax.proofs.Members.{member_at}
-use Rattle.plain_scan.proofs.Bounding.{take_all}
+use Rattle.plain_scan.proofs.CodeBounds.{take_all}
 use Rattle.plain_scan.proofs.numbers.large_in.Goals as goal
 
 pub returns-then-not-is_small-clause-some : goal.returns-then-not-is_small-clause-some

@@ -4,9 +4,9 @@ use Rattle.whole_numbers.specs.Affine.{Affine}
 use Rattle.whole_numbers.proofs.Entries.{all_next}
 use Rattle.fractions.specs.Elimination.{coefficient_of}
 use Rattle.plain_scan.specs.Outlines.{IsEquality}
-use Rattle.plain_scan.proofs.Appending.{equality_at, row_holds_at}
-use Rattle.plain_scan.proofs.Bounding.{take_all}
-use Rattle.plain_scan.proofs.Telling.{all_none, large_equality, large_row}
+use Rattle.plain_scan.proofs.AppendedRows.{equality_at, row_holds_at}
+use Rattle.plain_scan.proofs.CodeBounds.{take_all}
+use Rattle.plain_scan.proofs.ConstraintNumbers.{all_none, large_equality, large_row}
 use Rattle.plain_scan.proofs.numbers.numbers_alone.Goals as goal
 
 pub loop-form-preserved : goal.loop-form-preserved

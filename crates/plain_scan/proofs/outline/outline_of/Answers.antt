@@ -7,8 +7,8 @@ use Rattle.plain_scan.specs.Between.{IsLargeOf}
 use Rattle.plain_scan.specs.Outlines.{IsLargeAt, IsShadowOf, PassAlone}
 use Rattle.std.specs.Prelude.{Err}
 use Rattle.fm_projection.specs.Gives.{Eliminates}
-use Rattle.plain_scan.proofs.Stopping.{alone_more, own_stops, passed_more, shadow_stops, step_stops}
-use Rattle.plain_scan.proofs.Appending.{projected_shape, one_shadow, next_left}
+use Rattle.plain_scan.proofs.ShadowStops.{alone_more, own_stops, passed_more, shadow_stops, step_stops}
+use Rattle.plain_scan.proofs.AppendedRows.{projected_shape, one_shadow, next_left}
 use Rattle.plain_scan.proofs.outline.outline_of.Goals as goal
 
 pub shadow_of-requires-clause-few : goal.shadow_of-requires-clause-few

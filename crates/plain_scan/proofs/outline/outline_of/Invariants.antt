@@ -2,7 +2,7 @@ use Rattle.std.proofs.Common.{◌≡◌, ◌+◌, ◌<◌, ℕ, length, get_or}
 use Rattle.fm_projection.specs.Projecting.{projected}
 use Rattle.plain_scan.specs.declared.outline.Shadow.{Shadow}
 use Rattle.plain_scan.specs.Outlines.{IsShadowOf}
-use Rattle.plain_scan.proofs.Stopping.{AreFound}
+use Rattle.plain_scan.proofs.ShadowStops.{AreFound}
 use Rattle.plain_scan.proofs.outline.outline_of.Given as goal
 
 abbrev pub invariant-loop-alloc : goal.invariant-loop-alloc

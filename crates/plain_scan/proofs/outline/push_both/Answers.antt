@@ -4,7 +4,7 @@ use Rattle.std.proofs.lemmas.Result.{on_ok_weaker}
 use Rattle.whole_numbers.specs.Affine.{multiple_of_form}
 use Rattle.plain_scan.specs.Between.{HasSmallNumbers}
 use Rattle.plain_scan.specs.Outlines.{IsRow}
-use Rattle.plain_scan.proofs.Appending.{row_of_equality, other_of_equality}
+use Rattle.plain_scan.proofs.AppendedRows.{row_of_equality, other_of_equality}
 use Rattle.plain_scan.proofs.outline.push_both.Goals as goal
 
 pub returns-in-Ok : goal.returns-in-Ok

@@ -1,5 +1,5 @@
 use Rattle.plain_scan.specs.Outlines.{IsEquality}
-use Rattle.plain_scan.proofs.Appending.{equality_at, row_at}
+use Rattle.plain_scan.proofs.AppendedRows.{equality_at, row_at}
 use Rattle.plain_scan.proofs.outline.rows_of.Goals as goal
 
 pub loop-form-preserved : goal.loop-form-preserved

@@ -3,7 +3,7 @@ use Rattle.std.specs.Int.{w128}
 use Rattle.std.proofs.lemmas.Int.{to_z-of_z}
 use Rattle.integer_sets.specs.Points.{Satisfies}
 use Rattle.fm_projection.specs.Alone.{last_alone}
-use Rattle.plain_scan.proofs.Appending.{low_high, small_both}
+use Rattle.plain_scan.proofs.AppendedRows.{low_high, small_both}
 use Rattle.plain_scan.proofs.outline.shadow_between.Goals as goal
 
 pub returns-in-Ok-clause-found : goal.returns-in-Ok-clause-found

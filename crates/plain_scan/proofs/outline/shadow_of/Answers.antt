@@ -1,6 +1,6 @@
 use Rattle.std.proofs.Common.{◌∙◌, ap}
 use Rattle.integer_sets.specs.Constraints.{Constraints}
-use Rattle.plain_scan.proofs.Appending.{alone_shape}
+use Rattle.plain_scan.proofs.AppendedRows.{alone_shape}
 use Rattle.plain_scan.proofs.outline.shadow_of.Goals as goal
 
 pub numbers_alone-requires-clause-dimensions : goal.numbers_alone-requires-clause-dimensions

@@ -4,9 +4,9 @@ use Rattle.integer_sets.specs.Scanned.{Scanned}
 use Rattle.fm_projection.specs.Alone.{IsBounded}
 use Rattle.plain_scan.specs.Hulls.{sets_in}
 use Rattle.plain_scan.specs.Outlines.{IsOpenSomewhere}
-use Rattle.plain_scan.proofs.Opening.{open_has_none}
-use Rattle.plain_scan.proofs.Stopping.{scan_stops}
-use Rattle.plain_scan.proofs.Whole.{kept_next, left_next}
+use Rattle.plain_scan.proofs.OpenProjections.{open_has_none}
+use Rattle.plain_scan.proofs.ShadowStops.{scan_stops}
+use Rattle.plain_scan.proofs.WholeScans.{kept_next, left_next}
 use Rattle.plain_scan.proofs.tree_of_sets.outlines_of.Goals as goal
 use Rattle.plain_scan.proofs.tree_of_sets.outlines_of.Goals.{in-Ok-None, in-Ok-Some+in-Ok}
 

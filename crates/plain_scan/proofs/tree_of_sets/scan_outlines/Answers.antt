@@ -9,11 +9,11 @@ use Rattle.plain_scan.specs.Hulls.{flags, own_leaf, sets_in}
 use Rattle.plain_scan.specs.Shape.{AreShaped}
 use Rattle.plain_scan.specs.Giving.{TurnsOn}
 use Rattle.plain_scan.proofs.Shape.{flat_leaves, marks_leaves}
-use Rattle.plain_scan.proofs.Giving.{leaves_give}
+use Rattle.plain_scan.proofs.VisitIterators.{leaves_give}
 use Rattle.plain_scan.proofs.Smallness.{leaves_small}
-use Rattle.plain_scan.proofs.Shaping.{leaves_shaped, next_shaped}
-use Rattle.plain_scan.proofs.Stepping.{own_end, dims_in, alike_of, next_serves, next_shape, next_small, next_gives}
-use Rattle.plain_scan.proofs.Stepping.{sets_are_small}
+use Rattle.plain_scan.proofs.ScannedTrees.{leaves_shaped, next_shaped}
+use Rattle.plain_scan.proofs.HullLoops.{own_end, dims_in, alike_of, next_serves, next_shape, next_small, next_gives}
+use Rattle.plain_scan.proofs.HullLoops.{sets_are_small}
 use Rattle.plain_scan.proofs.tree_of_sets.scan_outlines.Goals as goal
 
 pub loop-depth-init : goal.loop-depth-init

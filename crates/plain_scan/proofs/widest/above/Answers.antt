@@ -1,5 +1,5 @@
 use Rattle.std.proofs.Common.{rules, ◌≡◌, take}
-use Rattle.plain_scan.proofs.Widening.{greater_above}
+use Rattle.plain_scan.proofs.WeakerRows.{greater_above}
 use Rattle.plain_scan.proofs.widest.above.Goals as goal
 
 pub returns-then-has_small_numbers : goal.returns-then-has_small_numbers

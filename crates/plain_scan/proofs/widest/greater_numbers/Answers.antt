@@ -4,7 +4,7 @@ use Rattle.std.proofs.lemmas.Int.{to_z-of_z}
 use Rattle.std.proofs.lemmas.List.{take_all}
 use Rattle.loop_tree.specs.Walk.{max_z}
 use Rattle.plain_scan.specs.Weaker.{greater_numbers}
-use Rattle.plain_scan.proofs.Widening.{greater_more}
+use Rattle.plain_scan.proofs.WeakerRows.{greater_more}
 use Rattle.plain_scan.proofs.widest.greater_numbers.Goals as goal
 
 pub loop-at-preserved : goal.loop-at-preserved

@@ -4,7 +4,7 @@ use Rattle.std.proofs.lemmas.Option.{IfSome_then}
 use Rattle.std.proofs.lemmas.Result.{IfOk-weaker}
 use Rattle.whole_numbers.specs.Affine.{multiple_of_form}
 use Rattle.plain_scan.specs.Weaker.{IsAbove}
-use Rattle.plain_scan.proofs.Widening.{multiple_size, multiples_above}
+use Rattle.plain_scan.proofs.WeakerRows.{multiple_size, multiples_above}
 use Rattle.plain_scan.proofs.widest.joined.Goals as goal
 use Rattle.plain_scan.proofs.widest.joined.Goals.{In-Some-2}
 

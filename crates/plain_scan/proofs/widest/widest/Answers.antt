@@ -6,8 +6,8 @@ use Rattle.plain_scan.specs.declared.set_outline.Outline.{Outline}
 use Rattle.plain_scan.specs.Outlines.{AreRows}
 use Rattle.plain_scan.specs.Hulls.{HoldsAt, IsAlike}
 use Rattle.plain_scan.specs.Weaker.{IsAboveSome}
-use Rattle.plain_scan.proofs.Hulling.{next_at}
-use Rattle.plain_scan.proofs.Widening.{weaker_holds, following_holds}
+use Rattle.plain_scan.proofs.HullRows.{next_at}
+use Rattle.plain_scan.proofs.WeakerRows.{weaker_holds, following_holds}
 use Rattle.plain_scan.proofs.widest.widest.Goals as goal
 
 pub loop-outline-preserved : goal.loop-outline-preserved

@@ -1,6 +1,6 @@
 use Rattle.std.proofs.Common.{[]}
-use Rattle.plan_tree.proofs.Ending.{run_has_visits, run_is_order, run_keeps, run_visits_once}
-use Rattle.plan_tree.proofs.Running.{runs_all}
+use Rattle.plan_tree.proofs.RunResults.{run_has_visits, run_is_order, run_keeps, run_visits_once}
+use Rattle.plan_tree.proofs.TreeRuns.{runs_all}
 use Rattle.plan_tree.proofs.laws.loops_end_as_the_source_does.Goals as goal
 
 pub returns-clause-ends : goal.returns-clause-ends

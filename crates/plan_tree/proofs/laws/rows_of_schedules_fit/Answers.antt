@@ -2,7 +2,7 @@ use Rattle.loop_tree.specs.Walk.{visits}
 use Rattle.schedule_rows.specs.Schedule.{loops_in}
 use Rattle.plan_tree.specs.Trees.{tiling_of}
 use Rattle.plan_tree.proofs.Rows.{tiled_rows_fit}
-use Rattle.plan_tree.proofs.Walkable.{are_walked}
+use Rattle.plan_tree.proofs.WalkedVisits.{are_walked}
 use Rattle.plan_tree.proofs.laws.rows_of_schedules_fit.Goals as goal
 
 pub returns : goal.returns

@@ -1,4 +1,4 @@
-use Rattle.plan_tree.proofs.Walkable.{walkable}
+use Rattle.plan_tree.proofs.WalkedVisits.{walkable}
 use Rattle.plan_tree.proofs.laws.trees_of_plans_can_be_walked.Goals as goal
 
 pub returns : goal.returns

@@ -1,6 +1,6 @@
 use Rattle.std.proofs.Common.{◌^◌, [], arith}
 use Rattle.loop_tree.specs.Walk.{walk_all}
-use Rattle.loop_tree.proofs.Larger.{trees_more}
+use Rattle.loop_tree.proofs.LargerBounds.{trees_more}
 use Rattle.plan_tree.specs.steps.Scanning.{sets_of}
 use Rattle.iteration_domains.specs.Model.{model_of}
 use Rattle.tile_skew.specs.ScanSets.{most_iterators}

@@ -1,7 +1,7 @@
 use Rattle.std.proofs.Common.{pos, length}
 use Rattle.iteration_domains.specs.Model.{model_of}
 use Rattle.plan_tree.specs.steps.Scanning.{sets_of}
-use Rattle.plan_tree.proofs.Scannable.{are_scanned, few_dimensions, many_parameters, numbers_rise}
+use Rattle.plan_tree.proofs.ScannableSets.{are_scanned, few_dimensions, many_parameters, numbers_rise}
 use Rattle.plan_tree.proofs.tiles.sets_can_be_scanned.Goals as goal
 
 pub returns-clause-scanned : goal.returns-clause-scanned

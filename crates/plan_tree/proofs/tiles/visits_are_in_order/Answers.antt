@@ -3,10 +3,10 @@ use Rattle.iteration_domains.specs.Model.{model_of}
 use Rattle.schedule_rows.specs.Schedule.{loops_in}
 use Rattle.conflict_deps.specs.Conflicts.{conflicts_of}
 use Rattle.tile_skew.specs.ScanSets.{most_iterators}
-use Rattle.tile_skew.proofs.Alike.{within_most}
+use Rattle.tile_skew.proofs.AlikeSets.{within_most}
 use Rattle.tile_skew.proofs.Counts.{most_few}
-use Rattle.plan_tree.proofs.Modelling.{StatementFacts, few_loops, number_inside, one_statement}
-use Rattle.plan_tree.proofs.Exacts.{PlaceFacts, in_order, placed_there}
+use Rattle.plan_tree.proofs.ModelStatements.{StatementFacts, few_loops, number_inside, one_statement}
+use Rattle.plan_tree.proofs.ExactVisits.{PlaceFacts, in_order, placed_there}
 use Rattle.plan_tree.proofs.tiles.visits_are_in_order.Goals as goal
 
 pub returns : goal.returns

@@ -6,7 +6,7 @@ use Rattle.loop_tree.specs.Tree.{none}
 use Rattle.loop_tree.specs.View.{trees_in}
 use Rattle.plan_tree.specs.steps.Scanning.{IsScan, sets_of}
 use Rattle.plan_tree.proofs.Scans.{own_scans}
-use Rattle.plan_tree.proofs.Scheduling.{tiled_blocks, tiled_sets_of}
+use Rattle.plan_tree.proofs.Schedules.{tiled_blocks, tiled_sets_of}
 use Rattle.plan_tree.proofs.trees.scanned_tree.Goals as goal
 
 pub tree_of_sets-requires-clause-scanned : goal.tree_of_sets-requires-clause-scanned

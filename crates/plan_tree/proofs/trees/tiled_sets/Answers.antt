@@ -2,7 +2,7 @@ use Rattle.std.proofs.Common.{◌∙◌, ◌<◌, ◌^◌, List, sym, subst}
 use Rattle.integer_sets.specs.Scanned.{Scanned}
 use Rattle.plain_scan.specs.Scanning.{AreScanned, dimensions_of}
 use Rattle.plain_scan.specs.Sets.{NumbersRise}
-use Rattle.plan_tree.proofs.Scheduling.{tiled_blocks, tiled_sets_of}
+use Rattle.plan_tree.proofs.Schedules.{tiled_blocks, tiled_sets_of}
 use Rattle.plan_tree.proofs.trees.tiled_sets.Goals as goal
 
 pub returns-clause-scanned : goal.returns-clause-scanned

@@ -2,7 +2,7 @@ use Rattle.std.proofs.Common.{◌∙◌, ap, [], ◌++◌, map}
 use Rattle.pluto_systems.specs.Posing.{dep_of}
 use Rattle.schedule_rows.specs.Outcomes.{state}
 use Rattle.schedule_rows.specs.Schedule.{block_of, marked_of}
-use Rattle.pluto_search.proofs.Going.{good_first}
+use Rattle.pluto_search.proofs.GoodStates.{good_first}
 use Rattle.pluto_search.proofs.begin.begin.Goals as goal
 
 pub returns-clause-good : goal.returns-clause-good

@@ -2,7 +2,7 @@ use Rattle.std.proofs.Common.{◌∙◌, ◌<◌, List, All, length, sym, subst}
 use Rattle.std.proofs.lemmas.List.Elements.{All-tail}
 use Rattle.std.proofs.lemmas.List.{nil_from_length}
 use Rattle.iteration_domains.specs.Dependence.{Dependence}
-use Rattle.pluto_search.proofs.Cutting.{Passes, cut_off, passed_on, passes_last}
+use Rattle.pluto_search.proofs.CutDependences.{Passes, cut_off, passed_on, passes_last}
 use Rattle.pluto_search.proofs.ends.uncut.Goals as goal
 
 pub loop-dep-preserved-then-is_cut : goal.loop-dep-preserved-then-is_cut

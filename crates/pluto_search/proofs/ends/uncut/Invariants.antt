@@ -1,6 +1,6 @@
 use Rattle.std.proofs.Common.{length}
 use Rattle.pluto_search.specs.StepParts.{AreWithin}
-use Rattle.pluto_search.proofs.Cutting.{Passes}
+use Rattle.pluto_search.proofs.CutDependences.{Passes}
 use Rattle.pluto_search.proofs.ends.uncut.Given as goal
 
 abbrev pub invariant-loop-dep : goal.invariant-loop-dep

@@ -1,11 +1,11 @@
 use Rattle.std.proofs.Common.{refl, arith}
 use Rattle.scop_syntax.proofs.Limits.{params_not_negative}
 use Rattle.iteration_domains.specs.Model.{model_of}
-use Rattle.iteration_domains.proofs.Placing.{one_model}
+use Rattle.iteration_domains.proofs.TreeStatements.{one_model}
 use Rattle.conflict_deps.specs.Conflicts.{conflicts_of}
 use Rattle.schedule_rows.specs.Schedule.{loops_in}
 use Rattle.pluto_search.proofs.Conflicts.{all_between}
-use Rattle.pluto_search.proofs.Ordering.{turns_from_0, pair_of, values_rise}
+use Rattle.pluto_search.proofs.ValueOrder.{turns_from_0, pair_of, values_rise}
 use Rattle.pluto_search.proofs.laws.schedules_order_conflicts.Goals as goal
 
 pub returns : goal.returns

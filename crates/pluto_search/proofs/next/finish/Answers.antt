@@ -9,8 +9,8 @@ use Rattle.pluto_search.specs.Sizes.{CanTell}
 use Rattle.pluto_search.specs.Steps.{state_of, AreBetween}
 use Rattle.pluto_search.specs.Stopping.{IsStop}
 use Rattle.pluto_search.proofs.Counts.{all_can_tell}
-use Rattle.pluto_search.proofs.Leading.{restricts_between}
-use Rattle.pluto_search.proofs.Moving.{are_within, end_steps, full_stops}
+use Rattle.pluto_search.proofs.RestrictedDependences.{restricts_between}
+use Rattle.pluto_search.proofs.NextStates.{are_within, end_steps, full_stops}
 use Rattle.pluto_search.proofs.next.finish.Goals as goal
 use Rattle.pluto_search.proofs.next.finish.Goals.{After-deref-2, After-deref-3}
 

@@ -5,7 +5,7 @@ use Rattle.schedule_rows.specs.declared.item.Marked as code
 use Rattle.schedule_rows.specs.Schedule.{marked_of}
 use Rattle.pluto_search.specs.Steps.{state_of, Steps, AreBetween}
 use Rattle.pluto_search.proofs.Counts.{all_can_tell}
-use Rattle.pluto_search.proofs.Moving.{are_within, cut_steps, band_steps}
+use Rattle.pluto_search.proofs.NextStates.{are_within, cut_steps, band_steps}
 use Rattle.pluto_search.proofs.next.lack.Goals as goal
 use Rattle.pluto_search.proofs.next.lack.Goals.{After-is_empty}
 

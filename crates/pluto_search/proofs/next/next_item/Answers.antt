@@ -6,8 +6,8 @@ use Rattle.pluto_systems.specs.Posing.{dep_of}
 use Rattle.pluto_search.specs.Questions.{IsRuledBy, StopsAt, StopsRows, StopsRowsOf}
 use Rattle.pluto_search.specs.Steps.{state_of, Steps}
 use Rattle.pluto_search.proofs.Firsts.{first_behind}
-use Rattle.pluto_search.proofs.Going.{Vectors, full_is, not_full_is, good_ruled, all_ruled}
-use Rattle.pluto_search.proofs.Halting.{stop_of, stop_at}
+use Rattle.pluto_search.proofs.GoodStates.{Vectors, full_is, not_full_is, good_ruled, all_ruled}
+use Rattle.pluto_search.proofs.QuestionStops.{stop_of, stop_at}
 use Rattle.pluto_search.proofs.next.next_item.Goals as goal
 use Rattle.pluto_search.proofs.next.next_item.Goals.{After-is_full}
 

@@ -7,8 +7,8 @@ use Rattle.pluto_search.specs.declared.kept.Kept.TheVariants as kept
 use Rattle.pluto_search.specs.Questions.{AreRuledBy, StopsRows, StopsRowsOf}
 use Rattle.pluto_search.specs.Steps.{AllRuled}
 use Rattle.pluto_search.specs.Stopping.{IsStop}
-use Rattle.pluto_search.proofs.Going.{ruled_more}
-use Rattle.pluto_search.proofs.Halting.{stop_of, rows_stop}
+use Rattle.pluto_search.proofs.GoodStates.{ruled_more}
+use Rattle.pluto_search.proofs.QuestionStops.{stop_of, rows_stop}
 use Rattle.pluto_search.proofs.next.rule_all.Goals as goal
 
 pub returns-in-Err-clause-stops : goal.returns-in-Err-clause-stops

@@ -13,9 +13,9 @@ use Rattle.pluto_systems.specs.Posing.{RuledDep, dep_of}
 use Rattle.pluto_search.specs.Questions.{AnswersMarks, FindsRow, StopsAt, StopsMarks}
 use Rattle.pluto_search.specs.Steps.{state_of}
 use Rattle.pluto_search.proofs.Counts.{can_tell}
-use Rattle.pluto_search.proofs.Going.{ruled_remains, remains}
-use Rattle.pluto_search.proofs.Halting.{stop_of, stop_at, large_keeps}
-use Rattle.pluto_search.proofs.Moving.{least_good, exact_mark, can_narrow, large_next, append_next}
+use Rattle.pluto_search.proofs.GoodStates.{ruled_remains, remains}
+use Rattle.pluto_search.proofs.QuestionStops.{stop_of, stop_at, large_keeps}
+use Rattle.pluto_search.proofs.NextStates.{least_good, exact_mark, can_narrow, large_next, append_next}
 use Rattle.pluto_search.proofs.next.take.Goals as goal
 use Rattle.pluto_search.proofs.next.take.Goals.{After-is_within}
 

@@ -1,6 +1,6 @@
 use Rattle.std.proofs.Common.{refl}
 use Rattle.pluto_search.specs.declared.state.Progress.{Progress}
-use Rattle.pluto_search.proofs.Going.{same_state}
+use Rattle.pluto_search.proofs.GoodStates.{same_state}
 use Rattle.pluto_search.proofs.next.with_all_rows.Goals as goal
 
 pub returns-in-Ok-clause-ruled : goal.returns-in-Ok-clause-ruled

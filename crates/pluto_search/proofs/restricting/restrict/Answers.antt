@@ -1,7 +1,7 @@
 use Rattle.std.proofs.Common.{◌∙◌, ap, map}
 use Rattle.iteration_domains.specs.Dependence.{Dependence}
 use Rattle.schedule_rows.specs.Schedule.{marked_of}
-use Rattle.pluto_search.proofs.Leading.{restricted_parameters}
+use Rattle.pluto_search.proofs.RestrictedDependences.{restricted_parameters}
 use Rattle.pluto_search.proofs.restricting.restrict.Goals as goal
 
 pub asked-requires : goal.asked-requires

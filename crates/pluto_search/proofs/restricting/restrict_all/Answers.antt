@@ -9,8 +9,8 @@ use Rattle.std.specs.Prelude.{Option, Ok, true, false}
 use Rattle.whole_numbers.proofs.Entries.{all_taken}
 use Rattle.pluto_search.specs.Stopping.{Restrictions}
 use Rattle.pluto_search.proofs.Firsts.{first_next, taken_more}
-use Rattle.pluto_search.proofs.Halting.{stop_of}
-use Rattle.pluto_search.proofs.Leading.{Leads, dropped, held_back, leads_last, next_of, is_among}
+use Rattle.pluto_search.proofs.QuestionStops.{stop_of}
+use Rattle.pluto_search.proofs.RestrictedDependences.{Leads, dropped, held_back, leads_last, next_of, is_among}
 use Rattle.pluto_search.proofs.restricting.restrict_all.Goals as goal
 use Rattle.pluto_search.proofs.restricting.restrict_all.Goals.{After-index-deps-at}
 

@@ -1,7 +1,7 @@
 use Rattle.std.proofs.Common.{drop, take, map}
 use Rattle.schedule_rows.specs.Schedule.{marked_of}
 use Rattle.pluto_search.specs.Questions.{AnswersRestricted}
-use Rattle.pluto_search.proofs.Leading.{Leads}
+use Rattle.pluto_search.proofs.RestrictedDependences.{Leads}
 use Rattle.pluto_search.proofs.restricting.restrict_all.Given as goal
 
 abbrev pub invariant-loop-at : goal.invariant-loop-at

@@ -2,7 +2,7 @@ use Rattle.std.proofs.Common.{rules, ◌<◌, pos, arith, length, FitsSigned, ge
 use Rattle.std.specs.Int.{w128}
 use Rattle.std.specs.Prelude.{◌≤ℤ◌, slice_index_or}
 use Rattle.std.proofs.lemmas.Int.{ints}
-use Rattle.pluto_search.proofs.Leading.{all_next}
+use Rattle.pluto_search.proofs.RestrictedDependences.{all_next}
 use Rattle.pluto_search.proofs.rows.are_small.Goals as goal
 
 pub loop-at-preserved : goal.loop-at-preserved

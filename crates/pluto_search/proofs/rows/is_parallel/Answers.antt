@@ -12,8 +12,8 @@ use Rattle.pluto_systems.specs.Posing.{RuledDep, dep_of}
 use Rattle.pluto_search.specs.Questions.{IsFirst, AnswersMark, StopsEmptiness, StopsMarks}
 use Rattle.pluto_search.specs.Sizes.{CanTell}
 use Rattle.pluto_search.proofs.Firsts.{first_next, first_mapped, taken_more}
-use Rattle.pluto_search.proofs.Halting.{stop_of}
-use Rattle.pluto_search.proofs.Leading.{next_of, is_among}
+use Rattle.pluto_search.proofs.QuestionStops.{stop_of}
+use Rattle.pluto_search.proofs.RestrictedDependences.{next_of, is_among}
 use Rattle.pluto_search.proofs.rows.is_parallel.Goals as goal
 use Rattle.pluto_search.proofs.rows.is_parallel.Goals.{After-dep}
 

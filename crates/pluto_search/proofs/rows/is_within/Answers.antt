@@ -4,8 +4,8 @@ use Rattle.std.proofs.lemmas.List.{get_or-map, length-map, drop_all}
 use Rattle.std.proofs.lemmas.List.Elements.{All-nil, All-map, All-get_or}
 use Rattle.farkas.specs.Unknowns as unknowns
 use Rattle.schedule_rows.specs.declared.item.Part as code_part
-use Rattle.pluto_search.proofs.Leading.{all_next}
-use Rattle.pluto_search.proofs.Moving.{plain_part}
+use Rattle.pluto_search.proofs.RestrictedDependences.{all_next}
+use Rattle.pluto_search.proofs.NextStates.{plain_part}
 use Rattle.pluto_search.proofs.rows.is_within.Goals as goal
 
 abbrev IsSmall : code_part.Part → Type 0

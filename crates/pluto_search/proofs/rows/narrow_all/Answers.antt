@@ -5,8 +5,8 @@ use Rattle.std.proofs.lemmas.List.{append-nil, length-map, map-append, drop_all}
 use Rattle.schedule_rows.specs.declared.item.Part as code_part
 use Rattle.pluto_search.specs.Sizes.{CanNarrow, CanNarrowEach, narrowed_each}
 use Rattle.pluto_search.proofs.Counts.{narrow_lengths}
-use Rattle.pluto_search.proofs.Going.{Vectors, shown}
-use Rattle.pluto_search.proofs.Leading.{mapped_next}
+use Rattle.pluto_search.proofs.GoodStates.{Vectors, shown}
+use Rattle.pluto_search.proofs.RestrictedDependences.{mapped_next}
 use Rattle.pluto_search.proofs.rows.narrow_all.Goals as goal
 use Rattle.pluto_search.proofs.rows.narrow_all.Goals.{After-index-vectors-at}
 

@@ -1,8 +1,8 @@
 use Rattle.std.proofs.Common.{◌∙◌, ap, subst, Ok}
 use Rattle.pluto_search.specs.declared.state.Step.TheVariants as step
 use Rattle.pluto_search.specs.Steps.{state_of, Steps}
-use Rattle.pluto_search.proofs.Halting.{stop_first, keeps}
-use Rattle.pluto_search.proofs.Running.{falls, answered_more}
+use Rattle.pluto_search.proofs.QuestionStops.{stop_first, keeps}
+use Rattle.pluto_search.proofs.RunSteps.{falls, answered_more}
 use Rattle.pluto_search.proofs.searching.run.Goals as goal
 
 pub returns-in-Err : goal.returns-in-Err

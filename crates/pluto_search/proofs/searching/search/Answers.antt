@@ -7,7 +7,7 @@ use Rattle.pluto_search.specs.Questions.{ComesAnswered}
 use Rattle.schedule_rows.specs.Schedule.{block_of, loops_in}
 use Rattle.pluto_search.specs.Steps.{AreBetween}
 use Rattle.pluto_search.proofs.Conflicts.{all_between}
-use Rattle.pluto_search.proofs.Running.{comes_schedule, comes_found}
+use Rattle.pluto_search.proofs.RunSteps.{comes_schedule, comes_found}
 use Rattle.pluto_search.proofs.searching.search.Goals as goal
 use Rattle.pluto_search.proofs.searching.search.Goals.{After-deref, In-Ok-run}
 

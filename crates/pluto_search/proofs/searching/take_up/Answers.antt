@@ -1,7 +1,7 @@
 use Rattle.std.proofs.Common.{[]}
 use Rattle.pluto_search.specs.Steps.{state_of}
-use Rattle.pluto_search.proofs.Running.{answered_first}
-use Rattle.pluto_search.proofs.Leading.{restricts_between}
+use Rattle.pluto_search.proofs.RunSteps.{answered_first}
+use Rattle.pluto_search.proofs.RestrictedDependences.{restricts_between}
 use Rattle.pluto_search.proofs.searching.take_up.Goals as goal
 
 pub restrict_all-requires-clause-parameters : goal.restrict_all-requires-clause-parameters

@@ -1,5 +1,5 @@
-use Rattle.pluto_systems.proofs.Lower.{SizeLaws}
-use Rattle.pluto_systems.proofs.Small.{small_vectors}
+use Rattle.pluto_systems.proofs.LowerLaws.{SizeLaws}
+use Rattle.pluto_systems.proofs.SmallVectors.{small_vectors}
 use Rattle.pluto_systems.proofs.laws.kernel_vectors_of_rows_are_small.Goals as goal
 
 pub returns : goal.returns

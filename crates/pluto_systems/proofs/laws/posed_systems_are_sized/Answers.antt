@@ -1,5 +1,5 @@
-use Rattle.pluto_systems.proofs.Lower.{RowLaws}
-use Rattle.pluto_systems.proofs.Sized.{posed_sized}
+use Rattle.pluto_systems.proofs.LowerLaws.{RowLaws}
+use Rattle.pluto_systems.proofs.FormSizes.{posed_sized}
 use Rattle.pluto_systems.proofs.laws.posed_systems_are_sized.Goals as goal
 
 pub returns : goal.returns

@@ -1,4 +1,4 @@
-use Rattle.pluto_systems.proofs.Lower.{RowLaws}
+use Rattle.pluto_systems.proofs.LowerLaws.{RowLaws}
 use Rattle.pluto_systems.proofs.Points.{has_posed}
 use Rattle.pluto_systems.proofs.laws.posed_systems_hold_the_posed_rows.Goals as goal
 

@@ -1,5 +1,5 @@
 use Rattle.pluto_systems.specs.Posing.{equalities_for, rows_for}
-use Rattle.pluto_systems.proofs.Ruling.{ruled_step}
+use Rattle.pluto_systems.proofs.DependenceSystems.{ruled_step}
 use Rattle.pluto_systems.proofs.posing.forms_over.Goals as goal
 
 pub loop-one-preserved : goal.loop-one-preserved

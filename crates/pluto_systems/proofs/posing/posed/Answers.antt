@@ -9,7 +9,7 @@ use Rattle.pluto_systems.specs.Placing.{columns_of}
 use Rattle.pluto_systems.specs.Posing.{RuledDep, IsRuled, IsBetween, growth_from, AreVectorsOf, HasPosed}
 use Rattle.pluto_systems.specs.Posing.{posed_system, ruled_deps, vectors_for, AreSmallVectors}
 use Rattle.schedule_rows.specs.Schedule.{loops_in}
-use Rattle.pluto_systems.proofs.Ruling.{ArePosed, are_posed, posed_sizes, posed_is, is_ruled, ruled_alone}
+use Rattle.pluto_systems.proofs.DependenceSystems.{ArePosed, are_posed, posed_sizes, posed_is, is_ruled, ruled_alone}
 use Rattle.pluto_systems.proofs.posing.posed.Goals as goal
 use Rattle.pluto_systems.proofs.posing.posed.Goals.{In_ok-equalities, After-deref-4}
 

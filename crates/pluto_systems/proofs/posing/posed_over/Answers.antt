@@ -4,7 +4,7 @@ use Rattle.integer_sets.specs.Constraints.{Constraints, system_of}
 use Rattle.schedule_rows.specs.Items.{Row}
 use Rattle.pluto_systems.specs.Placing.{columns_of}
 use Rattle.pluto_systems.specs.Posing.{growth_from, AreVectorsOf, HasPosed, dep_of}
-use Rattle.pluto_systems.proofs.Ruling.{ArePosed, are_posed, posed_sizes, posed_is}
+use Rattle.pluto_systems.proofs.DependenceSystems.{ArePosed, are_posed, posed_sizes, posed_is}
 use Rattle.pluto_systems.proofs.posing.posed_over.Goals as goal
 use Rattle.pluto_systems.proofs.posing.posed_over.Goals.{In_ok-equalities}
 

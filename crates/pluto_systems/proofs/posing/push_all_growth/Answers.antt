@@ -1,7 +1,7 @@
 use Rattle.std.proofs.Common.{◌+◌, ◌++◌, ℤ, List, map, Vec, Global, drop, arith}
 use Rattle.std.proofs.lemmas.List.{length-map}
 use Rattle.pluto_systems.specs.Posing.{growth_rows, growth_from}
-use Rattle.pluto_systems.proofs.Small.{AreSmall, small_at}
+use Rattle.pluto_systems.proofs.SmallVectors.{AreSmall, small_at}
 use Rattle.pluto_systems.proofs.Steps.{more, growth_step}
 use Rattle.pluto_systems.proofs.posing.push_all_growth.Goals as goal
 use Rattle.pluto_systems.proofs.posing.push_all_growth.Goals.{After-vectors_at}

@@ -2,7 +2,7 @@ use Rattle.std.proofs.Common.{rules, ◌≡◌, pos, negsuc, ◌-ℤ◌}
 use Rattle.whole_numbers.specs.Affine.{sum_of_forms, multiple_of_form}
 use Rattle.affine_forms.specs.Gives.{Fails}
 use Rattle.affine_forms.specs.Runs.{forms_difference_run}
-use Rattle.quast_joins.proofs.Forming.{less_put}
+use Rattle.quast_joins.proofs.JoinForms.{less_put}
 use Rattle.quast_joins.proofs.Sizes.{never_wide}
 use Rattle.quast_joins.proofs.forms.less_by_one.Goals as goal
 

@@ -1,6 +1,6 @@
 use Rattle.std.proofs.Common.{rules, ◌≡◌, ◌++◌, ◌-◌, take, drop, length}
 use Rattle.whole_numbers.specs.Affine.{form_of}
-use Rattle.quast_joins.proofs.Forming.{shifted_put}
+use Rattle.quast_joins.proofs.JoinForms.{shifted_put}
 use Rattle.quast_joins.proofs.forms.move_form.Goals as goal
 
 pub returns : goal.returns

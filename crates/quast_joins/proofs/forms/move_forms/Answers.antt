@@ -1,5 +1,5 @@
 use Rattle.quast_joins.specs.Shifts.{shifted_form}
-use Rattle.quast_joins.proofs.Forming.{mapped_more}
+use Rattle.quast_joins.proofs.JoinForms.{mapped_more}
 use Rattle.quast_joins.proofs.forms.move_forms.Goals as goal
 
 pub loop-form-preserved : goal.loop-form-preserved

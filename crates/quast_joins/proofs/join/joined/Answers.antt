@@ -8,7 +8,7 @@ use Rattle.quast_joins.specs.Counts.{capped, join_count, join_node}
 use Rattle.quast_joins.specs.Limits.{most_told}
 use Rattle.quast_joins.proofs.Counts.{join-count, join_added}
 use Rattle.quast_joins.proofs.Values.{join-value}
-use Rattle.quast_joins.proofs.Speaking.{join-speaks}
+use Rattle.quast_joins.proofs.Variables.{join-speaks}
 use Rattle.quast_joins.proofs.join.joined.Goals as goal
 use Rattle.quast_joins.proofs.join.joined.Goals.{After-count_nodes-nodes, In-Ok}
 

@@ -1,5 +1,5 @@
 use Rattle.quast_joins.proofs.Values.{join-value}
-use Rattle.quast_joins.proofs.Speaking.{join-speaks}
+use Rattle.quast_joins.proofs.Variables.{join-speaks}
 use Rattle.quast_joins.proofs.laws.joins_choose.Goals as goal
 
 pub returns-clause-value : goal.returns-clause-value

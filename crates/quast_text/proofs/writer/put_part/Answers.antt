@@ -1,5 +1,5 @@
 use Rattle.std.proofs.lemmas.Result.{on_ok_weaker}
-use Rattle.quast_text.proofs.Waiting.{second_less}
+use Rattle.quast_text.proofs.PendingParts.{second_less}
 use Rattle.quast_text.proofs.writer.put_part.Goals as goal
 
 pub returns-in-Second-clause-less : goal.returns-in-Second-clause-less

@@ -1,5 +1,5 @@
 use Rattle.std.proofs.Common.{rules, ◌≡◌, ◌++◌, [], ◌∷◌}
-use Rattle.quast_text.proofs.Waiting.{weights_fall}
+use Rattle.quast_text.proofs.PendingParts.{weights_fall}
 use Rattle.quast_text.proofs.writer.put_quast.Goals as goal
 
 pub loop-stack-smaller : goal.loop-stack-smaller

@@ -1,6 +1,6 @@
 use Rattle.whole_numbers.specs.Affine.{value_of}
 use Rattle.quast_trees.specs.Value.{value}
-use Rattle.quast_trees.proofs.BySign.{by_sign_first, by_sign_second}
+use Rattle.quast_trees.proofs.SignChoices.{by_sign_first, by_sign_second}
 use Rattle.quast_trees.proofs.laws.branches_test_the_sign.Goals as goal
 
 pub returns-clause-first : goal.returns-clause-first

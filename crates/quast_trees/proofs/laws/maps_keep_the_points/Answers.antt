@@ -1,4 +1,4 @@
-use Rattle.quast_trees.proofs.Mapping.{map_run-speaks, map_run-value}
+use Rattle.quast_trees.proofs.MappedTrees.{map_run-speaks, map_run-value}
 use Rattle.quast_trees.proofs.laws.maps_keep_the_points.Goals as goal
 
 pub returns-clause-speaks : goal.returns-clause-speaks

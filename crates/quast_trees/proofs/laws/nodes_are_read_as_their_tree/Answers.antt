@@ -1,4 +1,4 @@
-use Rattle.quast_trees.proofs.Reading.{read_written, length-written}
+use Rattle.quast_trees.proofs.WrittenNodes.{read_written, length-written}
 use Rattle.quast_trees.proofs.laws.nodes_are_read_as_their_tree.Goals as goal
 
 pub returns-clause-tree : goal.returns-clause-tree

@@ -1,7 +1,7 @@
 use Rattle.std.proofs.Common.{length, sym, ap, subst, ◌∙◌}
 use Rattle.affine_forms.specs.Gives.{Fails}
 use Rattle.affine_forms.specs.Runs.{compose_run}
-use Rattle.quast_trees.proofs.Each.{each_done, each_fails, each_more, each_start}
+use Rattle.quast_trees.proofs.ListRuns.{each_done, each_fails, each_more, each_start}
 use Rattle.quast_trees.proofs.map.composed.Goals as goal
 
 pub loop-form-preserved : goal.loop-form-preserved

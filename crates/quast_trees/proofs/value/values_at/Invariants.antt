@@ -1,5 +1,5 @@
 use Rattle.affine_forms.specs.Runs.{value_run}
-use Rattle.quast_trees.proofs.Each.{EachSoFar}
+use Rattle.quast_trees.proofs.ListRuns.{EachSoFar}
 use Rattle.quast_trees.proofs.value.values_at.Given as goal
 
 abbrev pub invariant-loop-form : goal.invariant-loop-form

@@ -1,5 +1,5 @@
 use Rattle.std.proofs.Common.{◌∙◌, ◌++◌, ◌+◌, ap, drop, get_or}
-use Rattle.io_ports.proofs.Writing.{next_put, next_piece_cut}
+use Rattle.io_ports.proofs.PutTexts.{next_put, next_piece_cut}
 use Rattle.report_text.specs.declared.parts.Part.TheVariants as part
 use Rattle.report_text.specs.Parts.{part_text, parts_text}
 use Rattle.report_text.proofs.Lines.{parts_next}

@@ -3,7 +3,7 @@ use Rattle.std.proofs.Common.{◌∙◌, ◌+◌, ◌++◌, ◌<◌, ◌≤◌, 
 use Rattle.std.proofs.lemmas.List.{length-map, get_or-map}
 use Rattle.schedule_rows.specs.Schedule.{item_of}
 use Rattle.report_text.specs.ScheduleLines.{item_text, items_text}
-use Rattle.report_text.proofs.Appending.{next_appended}
+use Rattle.report_text.proofs.AppendedTexts.{next_appended}
 use Rattle.report_text.proofs.ScheduleLemmas.{lines_next, schedule_lines}
 use Rattle.report_text.proofs.schedule_lines.schedule_text.Goals as goal
 

@@ -1,4 +1,4 @@
-use Rattle.schedule_rows.proofs.Determined.{least_unique}
+use Rattle.schedule_rows.proofs.Determinism.{least_unique}
 use Rattle.schedule_rows.proofs.run_laws.least_rows_are_unique.Goals as goal
 
 pub returns : goal.returns

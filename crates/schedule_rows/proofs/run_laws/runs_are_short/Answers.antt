@@ -1,4 +1,4 @@
-use Rattle.schedule_rows.proofs.Measuring.{VectorLaws, run_length}
+use Rattle.schedule_rows.proofs.Measures.{VectorLaws, run_length}
 use Rattle.schedule_rows.proofs.run_laws.runs_are_short.Goals as goal
 
 pub returns : goal.returns

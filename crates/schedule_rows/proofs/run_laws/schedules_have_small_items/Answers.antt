@@ -1,4 +1,4 @@
-use Rattle.schedule_rows.proofs.Sizing.{schedule_sized}
+use Rattle.schedule_rows.proofs.ItemSizes.{schedule_sized}
 use Rattle.schedule_rows.proofs.run_laws.schedules_have_small_items.Goals as goal
 
 pub returns : goal.returns

@@ -1,4 +1,4 @@
-use Rattle.schedule_rows.proofs.Running.{schedule_along}
+use Rattle.schedule_rows.proofs.RunInvariants.{schedule_along}
 use Rattle.schedule_rows.proofs.run_laws.schedules_keep_every_band.Goals as goal
 
 pub returns : goal.returns

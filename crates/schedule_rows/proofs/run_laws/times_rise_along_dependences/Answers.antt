@@ -1,4 +1,4 @@
-use Rattle.schedule_rows.proofs.Timing.{times_rise}
+use Rattle.schedule_rows.proofs.Times.{times_rise}
 use Rattle.schedule_rows.proofs.run_laws.times_rise_along_dependences.Goals as goal
 
 pub returns : goal.returns

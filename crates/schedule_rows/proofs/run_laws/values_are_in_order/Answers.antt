@@ -1,5 +1,5 @@
 use Rattle.std.specs.Prelude.{◌≡◌}
-use Rattle.schedule_rows.proofs.Along.{along_values}
+use Rattle.schedule_rows.proofs.BlockOrder.{along_values}
 use Rattle.schedule_rows.proofs.run_laws.values_are_in_order.Goals as goal
 
 pub returns : goal.returns

@@ -11,7 +11,7 @@ use Rattle.scop_syntax.proofs.Weights.{weight, weight_all, item_weight, item_her
 use Rattle.scop_meaning.specs.Conditions.{CanCheck, CanTurn}
 use Rattle.scop_meaning.specs.Outside.{first_of}
 use Rattle.scop_meaning.specs.declared.loops.TheConstants.{ROOM}
-use Rattle.scop_meaning.proofs.Walking.{can_turn, first_turn_fits}
+use Rattle.scop_meaning.proofs.WalkSteps.{can_turn, first_turn_fits}
 use Rattle.scop_meaning.proofs.Turns.{first_fits}
 use Rattle.scop_meaning.proofs.Checks.{
   ItemsChecked,

@@ -8,7 +8,7 @@ use Rattle.scop_syntax.specs.View.{items_of, statement_of}
 use Rattle.scop_syntax.specs.Walk.{turn_point, walk}
 use Rattle.scop_meaning.specs.Conditions.{CanCheck, CanTurn}
 use Rattle.scop_meaning.specs.declared.loops.TheConstants.{ROOM}
-use Rattle.scop_meaning.proofs.Walking.{can_turn, loop_head}
+use Rattle.scop_meaning.proofs.WalkSteps.{can_turn, loop_head}
 use Rattle.scop_meaning.proofs.Checks.{check_turn}
 use Rattle.scop_meaning.proofs.Ends.{loop_passes}
 use Rattle.scop_meaning.proofs.index.ends_lie_inside.Goals as goal

@@ -11,7 +11,7 @@ use Rattle.scop_syntax.proofs.Views.{tree_loop}
 use Rattle.scop_syntax.proofs.Weights.{weight, weight_all}
 use Rattle.scop_meaning.specs.Instances.{CanFind, act_at, act_at_all}
 use Rattle.scop_meaning.specs.declared.loops.TheConstants.{ROOM}
-use Rattle.scop_meaning.proofs.Finding.{can_enter, is_entered}
+use Rattle.scop_meaning.proofs.StatementSearch.{can_enter, is_entered}
 use Rattle.scop_meaning.proofs.instances.+finding.Goals as goal
 
 pub find_in-enter_at-requires : goal.find_in-enter_at-requires

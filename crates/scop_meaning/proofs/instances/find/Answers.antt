@@ -8,7 +8,7 @@ use Rattle.scop_syntax.specs.Walk.{Instance, Visit, instance, walk_of}
 use Rattle.scop_syntax.specs.Limits.{has_parameters}
 use Rattle.scop_syntax.proofs.Members.{in_map_from}
 use Rattle.scop_meaning.specs.Instances.{CanFind}
-use Rattle.scop_meaning.proofs.Finding.{can_find, found_visit}
+use Rattle.scop_meaning.proofs.StatementSearch.{can_find, found_visit}
 use Rattle.scop_meaning.proofs.instances.find.Goals as goal
 
 pub find_among-requires : goal.find_among-requires

@@ -12,7 +12,7 @@ use Rattle.scop_syntax.proofs.Views.{tree_statement}
 use Rattle.scop_syntax.proofs.Weights.{weight, weight_all, item_weight, item_here}
 use Rattle.scop_meaning.specs.Conditions.{CanRun, CanTurn, AreCells, ran}
 use Rattle.scop_meaning.specs.declared.loops.TheConstants.{ROOM}
-use Rattle.scop_meaning.proofs.Walking.{can_turn, first_turn_fits, loop_head, loop_space}
+use Rattle.scop_meaning.proofs.WalkSteps.{can_turn, first_turn_fits, loop_head, loop_space}
 use Rattle.scop_meaning.proofs.Turns.{first_fits}
 use Rattle.scop_meaning.proofs.Runs.{can_first, can_act, item_step, turns_begin, can_body, turn_step}
 use Rattle.scop_meaning.proofs.interpreter.+running.Goals as goal

@@ -10,7 +10,7 @@ use Rattle.scop_syntax.specs.Walk.{RunsFor, condition_at, turn_point}
 use Rattle.scop_meaning.specs.Conditions.{AreCells, CanRun, CanTurn}
 use Rattle.scop_meaning.specs.Tracks.{AreTracks, track_of}
 use Rattle.scop_meaning.specs.declared.loops.TheConstants.{ROOM}
-use Rattle.scop_meaning.proofs.Walking.{can_turn}
+use Rattle.scop_meaning.proofs.WalkSteps.{can_turn}
 use Rattle.scop_meaning.proofs.Runs.{turn_cells, turns_begin, turn_step}
 use Rattle.scop_meaning.proofs.repeating.run_along.Goals as goal
 

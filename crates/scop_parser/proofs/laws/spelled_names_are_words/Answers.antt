@@ -4,8 +4,8 @@ use Rattle.scop_lexer.specs.Words.{IsName}
 use Rattle.scop_units.specs.Names.{HasDistinctNames, header_names}
 use Rattle.scop_units.specs.Words.{words_of}
 use Rattle.scop_parser.specs.Names.{HasFreeNames}
-use Rattle.scop_parser.proofs.Iterating.{has_free_names}
-use Rattle.scop_parser.proofs.Named.{NameLaws, spells_names}
+use Rattle.scop_parser.proofs.IteratorNames.{has_free_names}
+use Rattle.scop_parser.proofs.SpelledNames.{NameLaws, spells_names}
 use Rattle.scop_parser.proofs.laws.spelled_names_are_words.Goals as goal
 
 pub returns : goal.returns

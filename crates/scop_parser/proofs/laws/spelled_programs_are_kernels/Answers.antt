@@ -3,7 +3,7 @@ use Rattle.scop_syntax.specs.Kernel.{IsKernel}
 use Rattle.scop_units.specs.Names.{HasDistinctNames}
 use Rattle.scop_units.specs.Words.{words_of}
 use Rattle.scop_parser.proofs.Worth.{has_worth}
-use Rattle.scop_parser.proofs.Named.{names_are_words}
+use Rattle.scop_parser.proofs.SpelledNames.{names_are_words}
 use Rattle.scop_parser.proofs.laws.spelled_programs_are_kernels.Goals as goal
 
 pub returns : goal.returns

@@ -4,9 +4,9 @@ use Rattle.kernel_grammar.specs.Turns.{pieces_of}
 use Rattle.scop_pass.specs.Machine.{first_state, run}
 use Rattle.scop_pass.specs.Passing.{ComeNext, state_of}
 use Rattle.scop_units.specs.View.{words_in}
-use Rattle.scop_parser.proofs.Feeding.{all_passed, all_seen, come_next, fed_on, fed_stops}
-use Rattle.scop_parser.proofs.Feeding.{next_pieces, passed_first, passed_on}
-use Rattle.scop_parser.proofs.Once.{no-stop}
+use Rattle.scop_parser.proofs.TokenFeed.{all_passed, all_seen, come_next, fed_on, fed_stops}
+use Rattle.scop_parser.proofs.TokenFeed.{next_pieces, passed_first, passed_on}
+use Rattle.scop_parser.proofs.UniquePrograms.{no-stop}
 use Rattle.scop_parser.proofs.reader.judged.Goals as goal
 
 pub loop-start-init : goal.loop-start-init

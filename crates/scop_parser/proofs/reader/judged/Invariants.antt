@@ -2,7 +2,7 @@
 use Rattle.scop_pass.specs.Passing.{state_of}
 use Rattle.scop_units.specs.View.{tokens_in, words_in}
 use Rattle.scop_units.specs.Words.{grammar_tokens}
-use Rattle.scop_parser.proofs.Feeding.{Passed}
+use Rattle.scop_parser.proofs.TokenFeed.{Passed}
 use Rattle.scop_parser.proofs.reader.judged.Given as goal
 
 abbrev pub invariant-loop-start : goal.invariant-loop-start

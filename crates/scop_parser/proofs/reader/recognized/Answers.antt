@@ -1,5 +1,5 @@
 use Rattle.std.proofs.Common.{◌++◌, []}
-use Rattle.scop_parser.proofs.Feeding.{all_seen, early_stops, fed_first, fed_on, fed_stops, fed_taken, whole_kernel}
+use Rattle.scop_parser.proofs.TokenFeed.{all_seen, early_stops, fed_first, fed_on, fed_stops, fed_taken, whole_kernel}
 use Rattle.scop_parser.proofs.reader.recognized.Goals as goal
 
 pub loop-start-init : goal.loop-start-init

@@ -3,7 +3,7 @@ use Rattle.std.proofs.Common.{List}
 use Rattle.kernel_grammar.specs.Kernel.{Piece}
 use Rattle.scop_units.specs.View.{tokens_in}
 use Rattle.scop_units.specs.Words.{grammar_tokens}
-use Rattle.scop_parser.proofs.Feeding.{Fed}
+use Rattle.scop_parser.proofs.TokenFeed.{Fed}
 use Rattle.scop_parser.proofs.reader.recognized.Given as goal
 
 abbrev pub invariant-loop-start : goal.invariant-loop-start

@@ -2,7 +2,7 @@ use Rattle.std.proofs.Common.{◌∙◌, sym, ap}
 use Rattle.kernel_grammar.specs.Kernel.{kernel_elements}
 use Rattle.scop_roles.specs.Faults.{first}
 use Rattle.scop_pass.proofs.Kernels.{run-faults}
-use Rattle.scop_pass.proofs.Ordering.{first-stays}
+use Rattle.scop_pass.proofs.FaultOrder.{first-stays}
 use Rattle.scop_pass.proofs.UnitPlaces.{RoleLaws}
 use Rattle.scop_pass.proofs.laws.passes_may_stop_at_a_fault.Goals as goal
 

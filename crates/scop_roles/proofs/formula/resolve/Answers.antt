@@ -3,7 +3,7 @@ use Rattle.expression_grammar.specs.Tree.{size}
 use Rattle.expression_grammar.specs.declared.node.Node.TheVariants as node
 use Rattle.expression_grammar.specs.declared.token.Suffix.TheVariants as suffix
 use Rattle.scop_roles.specs.Resolving.{built, held}
-use Rattle.scop_roles.proofs.Resolving.{AreBelow, place_below, places_below, read_next, resolved}
+use Rattle.scop_roles.proofs.FormulaStack.{AreBelow, place_below, places_below, read_next, resolved}
 use Rattle.scop_roles.proofs.formula.resolve.Goals as goal
 
 pub joined-requires : goal.joined-requires

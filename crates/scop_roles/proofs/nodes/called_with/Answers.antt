@@ -2,8 +2,8 @@ use Rattle.std.proofs.Common.{◌++◌, refl}
 use Rattle.scop_roles.specs.declared.fault.Kind.TheVariants as kind
 use Rattle.scop_roles.specs.declared.formula.Role.TheVariants as role
 use Rattle.scop_roles.specs.Faults.{faults, called, told}
-use Rattle.scop_roles.proofs.Judging.{bare_first, call_first}
-use Rattle.scop_roles.proofs.Joining.{refused}
+use Rattle.scop_roles.proofs.NodeFaults.{bare_first, call_first}
+use Rattle.scop_roles.proofs.NodeForms.{refused}
 use Rattle.scop_roles.proofs.nodes.called_with.Goals as goal
 
 pub returns-clause-bare : goal.returns-clause-bare

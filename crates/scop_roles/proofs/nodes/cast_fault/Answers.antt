@@ -1,4 +1,4 @@
-use Rattle.scop_roles.proofs.Judging.{cast_judged}
+use Rattle.scop_roles.proofs.NodeFaults.{cast_judged}
 use Rattle.scop_roles.proofs.nodes.cast_fault.Goals as goal
 
 pub returns : goal.returns

@@ -1,7 +1,7 @@
 use Rattle.std.proofs.Common.{ap, ◌∙◌}
 use Rattle.scop_roles.specs.Formula.{index}
 use Rattle.scop_roles.specs.Judgement.{is_zero, one_less}
-use Rattle.scop_roles.proofs.Judging.{index_first, lacks_none}
+use Rattle.scop_roles.proofs.NodeFaults.{index_first, lacks_none}
 use Rattle.scop_roles.proofs.nodes.index_fault.Goals as goal
 
 pub returns : goal.returns

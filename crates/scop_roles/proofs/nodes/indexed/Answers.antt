@@ -5,7 +5,7 @@ use Rattle.scop_roles.specs.Formula.{place}
 use Rattle.scop_roles.specs.Faults.{faults, place_faults}
 use Rattle.scop_roles.specs.Judgement.{one_less}
 use Rattle.scop_roles.proofs.Firsts.{first-append}
-use Rattle.scop_roles.proofs.Joining.{refused}
+use Rattle.scop_roles.proofs.NodeForms.{refused}
 use Rattle.scop_roles.proofs.nodes.indexed.Goals as goal
 
 pub returns : goal.returns

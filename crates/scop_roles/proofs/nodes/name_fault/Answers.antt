@@ -1,4 +1,4 @@
-use Rattle.scop_roles.proofs.Judging.{name_first}
+use Rattle.scop_roles.proofs.NodeFaults.{name_first}
 use Rattle.scop_roles.proofs.nodes.name_fault.Goals as goal
 
 pub returns : goal.returns

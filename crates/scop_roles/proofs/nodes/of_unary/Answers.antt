@@ -1,7 +1,7 @@
 use Rattle.std.proofs.Common.{subst}
 use Rattle.std.specs.Prelude.{IfOk}
 use Rattle.scop_roles.specs.Judgement.{HasForm, IsJudgement}
-use Rattle.scop_roles.proofs.Making.{if_ok}
+use Rattle.scop_roles.proofs.FormulaValues.{if_ok}
 use Rattle.scop_roles.proofs.nodes.of_unary.Goals as goal
 
 pub under_sign-whole-requires : goal.under_sign-whole-requires

@@ -5,7 +5,7 @@ use Rattle.scop_roles.specs.Formula.{unary}
 use Rattle.scop_roles.specs.Faults.{first, faults}
 use Rattle.scop_roles.specs.Judgement.{IsFormOf, HasForm}
 use Rattle.scop_roles.proofs.Sizes.{opposite_affine}
-use Rattle.scop_roles.proofs.Joining.{refused, opposite_refused}
+use Rattle.scop_roles.proofs.NodeForms.{refused, opposite_refused}
 use Rattle.scop_roles.proofs.nodes.opposite.Goals as goal
 
 pub returns-in-Complement-clause-form : goal.returns-in-Complement-clause-form

@@ -1,4 +1,4 @@
-use Rattle.scop_roles.proofs.Judging.{unary_judged}
+use Rattle.scop_roles.proofs.NodeFaults.{unary_judged}
 use Rattle.scop_roles.proofs.nodes.unary_fault.Goals as goal
 
 pub returns : goal.returns

@@ -2,7 +2,7 @@ use Rattle.std.proofs.Common.{refl}
 use Rattle.scop_roles.specs.declared.fault.Kind.TheVariants as kind
 use Rattle.scop_roles.specs.declared.formula.Role.TheVariants as role
 use Rattle.scop_roles.specs.Faults.{faults}
-use Rattle.scop_roles.proofs.Joining.{refused}
+use Rattle.scop_roles.proofs.NodeForms.{refused}
 use Rattle.scop_roles.proofs.nodes.under_cast.Goals as goal
 
 pub returns : goal.returns

@@ -1,4 +1,4 @@
-use Rattle.scop_roles.proofs.Judging.{binary_judged}
+use Rattle.scop_roles.proofs.NodeFaults.{binary_judged}
 use Rattle.scop_roles.proofs.sides.binary_fault.Goals as goal
 
 pub returns : goal.returns

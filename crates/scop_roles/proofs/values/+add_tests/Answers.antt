@@ -6,8 +6,8 @@ use Rattle.scop_roles.specs.Formula.{argument_of, formula_of, binary, with_argum
 use Rattle.scop_roles.specs.Faults.{first, faults}
 use Rattle.scop_roles.specs.Values.{tests}
 use Rattle.scop_roles.proofs.Views.{formula_binary, formula_commas}
-use Rattle.scop_roles.proofs.Joining.{refused}
-use Rattle.scop_roles.proofs.Making.{on_ok, joined_tests}
+use Rattle.scop_roles.proofs.NodeForms.{refused}
+use Rattle.scop_roles.proofs.FormulaValues.{on_ok, joined_tests}
 use Rattle.scop_roles.proofs.values.+add_tests.Goals as goal
 
 pub returns-then-not-is_and : goal.returns-then-not-is_and

@@ -2,7 +2,7 @@ use Rattle.std.proofs.Common.{rules, ◌≡◌, map, fold, ap, sym, subst, ◌�
 use Rattle.scop_roles.specs.Formula.{formula_of, index}
 use Rattle.scop_roles.proofs.Views.{formula_index}
 use Rattle.scop_roles.proofs.Chains.{HasForms}
-use Rattle.scop_roles.proofs.Making.{on_ok}
+use Rattle.scop_roles.proofs.FormulaValues.{on_ok}
 use Rattle.scop_roles.proofs.values.+push_subscripts.Goals as goal
 
 pub returns-in-Ok-push_forms : goal.returns-in-Ok-push_forms

@@ -4,7 +4,7 @@ use Rattle.scop_roles.specs.Formula.{argument_of, formula_of, place, with_argume
 use Rattle.scop_roles.specs.Values.{read_places}
 use Rattle.scop_roles.proofs.Views.{formula_index, formula_unary, formula_cast, formula_commas, formula_binary}
 use Rattle.scop_roles.proofs.Chains.{makes_next, place_indexed, read_more}
-use Rattle.scop_roles.proofs.Making.{on_ok}
+use Rattle.scop_roles.proofs.FormulaValues.{on_ok}
 use Rattle.scop_roles.proofs.values.+reading.Goals as goal
 
 pub push_places-loop-other-preserved : goal.push_places-loop-other-preserved

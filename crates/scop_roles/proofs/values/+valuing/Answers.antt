@@ -6,7 +6,7 @@ use Rattle.scop_roles.specs.Formula.{argument_of, formula_of, index, unary, cast
 use Rattle.scop_roles.specs.Forms.{is_signed}
 use Rattle.scop_roles.specs.Values.{IsValueOf}
 use Rattle.scop_roles.proofs.Views.{formula_index, formula_unary, formula_cast, formula_commas, formula_binary}
-use Rattle.scop_roles.proofs.Making.{if_ok, read_value, signed_unary_value, signed_binary_value}
+use Rattle.scop_roles.proofs.FormulaValues.{if_ok, read_value, signed_unary_value, signed_binary_value}
 use Rattle.scop_roles.proofs.Chains.{makes_next, makes_whole}
 use Rattle.scop_roles.proofs.values.+valuing.Goals as goal
 

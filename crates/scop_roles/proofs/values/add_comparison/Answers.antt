@@ -1,7 +1,7 @@
 use Rattle.std.proofs.Common.{map}
 use Rattle.scop_syntax.specs.View.{test_of}
 use Rattle.scop_roles.specs.Formula.{formula_of}
-use Rattle.scop_roles.proofs.Making.{on_ok, compared_tests}
+use Rattle.scop_roles.proofs.FormulaValues.{on_ok, compared_tests}
 use Rattle.scop_roles.proofs.values.add_comparison.Goals as goal
 
 pub returns : goal.returns

@@ -1,6 +1,6 @@
 use Rattle.std.proofs.Common.{refl}
 use Rattle.scop_roles.specs.Formula.{formula_of, index}
-use Rattle.scop_roles.proofs.Making.{on_ok, pushed_subscripts}
+use Rattle.scop_roles.proofs.FormulaValues.{on_ok, pushed_subscripts}
 use Rattle.scop_roles.proofs.values.push_form.Goals as goal
 
 pub returns-in-Ok : goal.returns-in-Ok

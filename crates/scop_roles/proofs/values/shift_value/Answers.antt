@@ -3,7 +3,7 @@ use Rattle.std.specs.Prelude.{IfOk}
 use Rattle.scop_syntax.specs.View.{expression_of}
 use Rattle.scop_roles.specs.Formula.{formula_of}
 use Rattle.scop_roles.specs.Values.{IsValueOf}
-use Rattle.scop_roles.proofs.Making.{if_ok, shift_value}
+use Rattle.scop_roles.proofs.FormulaValues.{if_ok, shift_value}
 use Rattle.scop_roles.proofs.values.shift_value.Goals as goal
 
 pub returns-in-Ok : goal.returns-in-Ok

@@ -5,7 +5,7 @@ use Rattle.std.proofs.lemmas.Int.{ints, to_z-of_z, int_wrap_fits}
 use Rattle.std.proofs.lemmas.List.{get_or_default}
 use Rattle.whole_numbers.specs.Lists.{dot}
 use Rattle.whole_numbers.specs.Affine.{Affine, value_of}
-use Rattle.scop_syntax.proofs.Wrapping.{dot_step, dot_end, value_step}
+use Rattle.scop_syntax.proofs.WrappedSums.{dot_step, dot_end, value_step}
 use Rattle.scop_syntax.proofs.affine_values.value_at.Goals as goal
 
 pub loop-at-init : goal.loop-at-init

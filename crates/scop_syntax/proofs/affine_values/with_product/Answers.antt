@@ -1,4 +1,4 @@
-use Rattle.scop_syntax.proofs.Wrapping.{product_added}
+use Rattle.scop_syntax.proofs.WrappedSums.{product_added}
 use Rattle.scop_syntax.proofs.affine_values.with_product.Goals as goal
 
 pub returns : goal.returns

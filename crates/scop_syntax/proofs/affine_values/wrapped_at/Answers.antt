@@ -3,7 +3,7 @@ use Rattle.std.specs.Prelude.{FitsSigned}
 use Rattle.std.specs.Int.{w64, cast_unsigned}
 use Rattle.std.proofs.lemmas.Int.{to_z-of_z}
 use Rattle.whole_numbers.specs.Affine.{value_of}
-use Rattle.scop_syntax.proofs.Wrapping.{wrapped_is}
+use Rattle.scop_syntax.proofs.WrappedSums.{wrapped_is}
 use Rattle.scop_syntax.proofs.affine_values.wrapped_at.Goals as goal
 
 pub returns : goal.returns

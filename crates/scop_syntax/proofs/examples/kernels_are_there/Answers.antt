@@ -1,4 +1,4 @@
-use Rattle.scop_syntax.proofs.Falling.{falling}
+use Rattle.scop_syntax.proofs.FallingLoop.{falling}
 use Rattle.scop_syntax.proofs.examples.kernels_are_there.Goals as goal
 
 pub returns : goal.returns

@@ -1,4 +1,4 @@
-use Rattle.scop_units.proofs.Declaring.{kernel_stands}
+use Rattle.scop_units.proofs.FaultlessKernels.{kernel_stands}
 use Rattle.scop_units.proofs.Names.{names_stand}
 use Rattle.scop_units.proofs.laws.faultless_kernels_are_within_limits.Goals as goal
 

@@ -1,4 +1,4 @@
-use Rattle.scop_units.proofs.Spelled.{header_named}
+use Rattle.scop_units.proofs.SpelledNames.{header_named}
 use Rattle.scop_units.proofs.laws.names_are_those_of_tokens.Goals as goal
 
 pub returns : goal.returns

@@ -3,7 +3,7 @@ use Rattle.std.specs.List.{list_any}
 use Rattle.scop_roles.specs.Formula.{argument_of, formula_of}
 use Rattle.scop_roles.proofs.Views.{formula_index, formula_commas}
 use Rattle.scop_units.specs.Loops.{names_entry}
-use Rattle.scop_units.proofs.Naming.{index_names, commas_name}
+use Rattle.scop_units.proofs.NamedEntries.{index_names, commas_name}
 use Rattle.scop_units.proofs.loops.+naming.Goals as goal
 
 pub names_entry-returns-in-Index : goal.names_entry-returns-in-Index

@@ -1,8 +1,8 @@
 use Rattle.source_arithmetic.proofs.Wholes.{has_whole}
 use Rattle.source_arithmetic.proofs.Conditions.{has_truth}
-use Rattle.source_arithmetic.proofs.Defined.{has_cell, has_word}
+use Rattle.source_arithmetic.proofs.DefinedExpressions.{has_cell, has_word}
 use Rattle.source_arithmetic.proofs.Extents.{array_whole}
-use Rattle.source_arithmetic.proofs.Storing.{stored_defined}
+use Rattle.source_arithmetic.proofs.Stores.{stored_defined}
 use Rattle.source_arithmetic.proofs.Loops.{loop_parts, parts_defined}
 use Rattle.source_arithmetic.proofs.Iterators.{entry_below}
 use Rattle.source_arithmetic.proofs.laws.faultless_texts_have_meanings.Goals as goal

@@ -1,5 +1,5 @@
-use Rattle.source_arithmetic.proofs.Accepted.{linear_of, truth_of, place_of, word_of, stored_of, extents_of}
-use Rattle.source_arithmetic.proofs.Turning.{loop_fits}
+use Rattle.source_arithmetic.proofs.FaultlessExpressions.{linear_of, truth_of, place_of, word_of, stored_of, extents_of}
+use Rattle.source_arithmetic.proofs.LoopHeads.{loop_fits}
 use Rattle.source_arithmetic.proofs.laws.faultless_texts_lie_within_the_limits.Goals as goal
 
 pub returns-clause-affine : goal.returns-clause-affine

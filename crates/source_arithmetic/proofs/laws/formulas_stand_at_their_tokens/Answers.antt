@@ -1,5 +1,5 @@
 use Rattle.scop_units.specs.Words.{words_of, grammar_tokens}
-use Rattle.source_arithmetic.proofs.Standing.{own_nodes, kernel_stands}
+use Rattle.source_arithmetic.proofs.TokenPlaces.{own_nodes, kernel_stands}
 use Rattle.source_arithmetic.proofs.laws.formulas_stand_at_their_tokens.Goals as goal
 
 pub returns-clause-nodes : goal.returns-clause-nodes

@@ -1,4 +1,4 @@
-use Rattle.source_arithmetic.proofs.Storing.{place_same, statement_reads, right_stores}
+use Rattle.source_arithmetic.proofs.Stores.{place_same, statement_reads, right_stores}
 use Rattle.source_arithmetic.proofs.laws.statements_store_words.Goals as goal
 
 pub returns-clause-place : goal.returns-clause-place

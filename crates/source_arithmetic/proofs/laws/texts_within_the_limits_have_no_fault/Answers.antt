@@ -1,5 +1,5 @@
-use Rattle.source_arithmetic.proofs.Fitting.{linear_none, truth_none, place_none, word_none, stored_none}
-use Rattle.source_arithmetic.proofs.Turning.{loop_none, extents_none}
+use Rattle.source_arithmetic.proofs.MeaningfulExpressions.{linear_none, truth_none, place_none, word_none, stored_none}
+use Rattle.source_arithmetic.proofs.LoopHeads.{loop_none, extents_none}
 use Rattle.source_arithmetic.proofs.laws.texts_within_the_limits_have_no_fault.Goals as goal
 
 pub returns-clause-affine : goal.returns-clause-affine

@@ -1,7 +1,7 @@
 use Rattle.std.proofs.Common.{◌∙◌, ap}
-use Rattle.plain_scan.proofs.Bounding.{take_all}
+use Rattle.plain_scan.proofs.CodeBounds.{take_all}
 use Rattle.split_scan.specs.Copies.{bounding_in}
-use Rattle.split_scan.proofs.Barring.{bounding_next}
+use Rattle.split_scan.proofs.HullBounds.{bounding_next}
 use Rattle.split_scan.proofs.bars.bounding.Goals as goal
 
 pub loop-row-preserved : goal.loop-row-preserved

@@ -5,7 +5,7 @@ use Rattle.whole_numbers.specs.Affine.{Affine}
 use Rattle.affine_forms.specs.Parts.{variables_of}
 use Rattle.fm_projection.specs.Alone.{place_form}
 use Rattle.split_scan.specs.Questions.{AreNatural, opened}
-use Rattle.split_scan.proofs.Barring.{natural_inside}
+use Rattle.split_scan.proofs.HullBounds.{natural_inside}
 use Rattle.split_scan.proofs.Values.{opened_sized}
 use Rattle.split_scan.proofs.bars.level_of.Goals as goal
 

@@ -1,9 +1,9 @@
 use Rattle.std.proofs.Common.{◌≡◌, ◌++◌, [], ◌∷◌, ◌∙◌, ap, subst, rules}
 use Rattle.integer_sets.specs.Scanned.{Scanned}
 use Rattle.plain_scan.specs.Hulls.{sets_in}
-use Rattle.plain_scan.proofs.Whole.{sets_more}
+use Rattle.plain_scan.proofs.WholeScans.{sets_more}
 use Rattle.split_scan.specs.Copies.{AreCopies}
-use Rattle.split_scan.proofs.Copying.{copied_shadows}
+use Rattle.split_scan.proofs.OutlineCopies.{copied_shadows}
 use Rattle.split_scan.proofs.copies.push_outline.Goals as goal
 
 pub of_shadows-requires : goal.of_shadows-requires

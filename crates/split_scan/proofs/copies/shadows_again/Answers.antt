@@ -1,4 +1,4 @@
-use Rattle.split_scan.proofs.Copying.{copies_next}
+use Rattle.split_scan.proofs.OutlineCopies.{copies_next}
 use Rattle.split_scan.proofs.copies.shadows_again.Goals as goal
 
 pub loop-shadow-preserved : goal.loop-shadow-preserved

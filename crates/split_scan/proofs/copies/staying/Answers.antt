@@ -1,6 +1,6 @@
 use Rattle.std.proofs.Common.{◌∙◌, ap, sym}
 use Rattle.plain_scan.specs.Hulls.{sets_in}
-use Rattle.split_scan.proofs.Copying.{staying_next, staying_none}
+use Rattle.split_scan.proofs.OutlineCopies.{staying_next, staying_none}
 use Rattle.split_scan.proofs.copies.staying.Goals as goal
 
 pub loop-at-init : goal.loop-at-init

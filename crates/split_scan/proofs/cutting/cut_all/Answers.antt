@@ -1,6 +1,6 @@
 use Rattle.std.proofs.Common.{◌+◌, ℕ, subst, sym, All}
 use Rattle.split_scan.specs.Parts.{HasMarks, IsPart}
-use Rattle.split_scan.proofs.Parting.{held_next}
+use Rattle.split_scan.proofs.NodeParts.{held_next}
 use Rattle.split_scan.proofs.cutting.cut_all.Goals as goal
 
 pub loop-part-preserved : goal.loop-part-preserved

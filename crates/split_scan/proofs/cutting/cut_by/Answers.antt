@@ -6,7 +6,7 @@ use Rattle.affine_forms.specs.Parts.{variables_of}
 use Rattle.fractions.specs.Elimination.{coefficient_of}
 use Rattle.plain_scan.specs.Between.{HasSmallNumbers}
 use Rattle.std.specs.Prelude.{negsuc}
-use Rattle.split_scan.proofs.Parting.{cutting_more, goes_more, marks_more}
+use Rattle.split_scan.proofs.NodeParts.{cutting_more, goes_more, marks_more}
 use Rattle.split_scan.proofs.cutting.cut_by.Goals as goal
 use Rattle.split_scan.proofs.cutting.cut_by.Goals.{After-deref-3}
 

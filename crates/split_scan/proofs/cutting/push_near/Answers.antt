@@ -1,5 +1,5 @@
 use Rattle.std.proofs.Common.{◌+◌}
-use Rattle.split_scan.proofs.Parting.{near_goes, near_more}
+use Rattle.split_scan.proofs.NodeParts.{near_goes, near_more}
 use Rattle.split_scan.proofs.cutting.push_near.Goals as goal
 
 pub returns-clause-parts : goal.returns-clause-parts

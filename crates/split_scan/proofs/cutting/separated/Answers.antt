@@ -3,7 +3,7 @@ use Rattle.affine_forms.specs.Parts.{variables_of}
 use Rattle.plain_scan.specs.Hulls.{IsAlike, sets_in}
 use Rattle.plain_scan.specs.declared.outline.Shadow.{Shadow}
 use Rattle.plain_scan.specs.declared.set_outline.Outline.{Outline}
-use Rattle.split_scan.proofs.Parting.{implied_rows, next_at}
+use Rattle.split_scan.proofs.NodeParts.{implied_rows, next_at}
 use Rattle.split_scan.proofs.cutting.separated.Goals as goal
 
 pub cut_all-requires-clause-sized : goal.cut_all-requires-clause-sized

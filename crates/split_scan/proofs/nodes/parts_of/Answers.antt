@@ -1,8 +1,8 @@
 use Rattle.std.proofs.Common.{◌+◌, arith}
 use Rattle.std.proofs.lemmas.Result.{IfOk-weaker}
 use Rattle.plain_scan.specs.Hulls.{sets_in}
-use Rattle.split_scan.proofs.Copying.{sets_count}
-use Rattle.split_scan.proofs.Ranking.{whole_parts}
+use Rattle.split_scan.proofs.OutlineCopies.{sets_count}
+use Rattle.split_scan.proofs.PartOrder.{whole_parts}
 use Rattle.split_scan.proofs.nodes.parts_of.Goals as goal
 
 pub returns-then-not-level : goal.returns-then-not-level

@@ -3,7 +3,7 @@ use Rattle.std.proofs.lemmas.List.{map-append}
 use Rattle.whole_numbers.specs.Affine.{Affine}
 use Rattle.loop_tree.specs.Tree.{Tree}
 use Rattle.loop_tree.specs.View.{tree_of}
-use Rattle.split_scan.proofs.Descending.{one_tree}
+use Rattle.split_scan.proofs.InnerNodes.{one_tree}
 use Rattle.split_scan.proofs.nodes.push_loop.Goals as goal
 
 pub returns : goal.returns

@@ -1,8 +1,8 @@
 use Rattle.std.proofs.Common.{take, subst, sym, rules}
 use Rattle.std.specs.Bool.{IsTrue}
-use Rattle.plain_scan.proofs.Bounding.{take_next}
+use Rattle.plain_scan.proofs.CodeBounds.{take_next}
 use Rattle.split_scan.specs.Ordering.{AreBelow, IsBelowAll}
-use Rattle.split_scan.proofs.Ranking.{below_more}
+use Rattle.split_scan.proofs.PartOrder.{below_more}
 use Rattle.split_scan.proofs.ordering.all_above.Goals as goal
 
 pub loop-other-preserved : goal.loop-other-preserved

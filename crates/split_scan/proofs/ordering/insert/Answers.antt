@@ -1,7 +1,7 @@
 use Rattle.std.proofs.Common.{◌≡◌, ◌-◌, ◌++◌, ◌∷◌, take, drop, length, subst, sym, rules, arith, length-drop}
-use Rattle.plain_scan.proofs.Bounding.{take_all}
+use Rattle.plain_scan.proofs.CodeBounds.{take_all}
 use Rattle.split_scan.specs.Ordering.{IsBelowAll, Rise}
-use Rattle.split_scan.proofs.Ranking.{rise_put}
+use Rattle.split_scan.proofs.PartOrder.{rise_put}
 use Rattle.split_scan.proofs.ordering.insert.Goals as goal
 
 pub returns-clause-rise : goal.returns-clause-rise

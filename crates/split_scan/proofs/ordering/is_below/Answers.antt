@@ -6,7 +6,7 @@ use Rattle.whole_numbers.specs.Affine.{Affine}
 use Rattle.affine_forms.specs.Parts.{variables_of}
 use Rattle.split_scan.specs.Questions.{HasNone, opened}
 use Rattle.split_scan.specs.Ordering.{turned}
-use Rattle.split_scan.proofs.Ranking.{below_of, turned_sized}
+use Rattle.split_scan.proofs.PartOrder.{below_of, turned_sized}
 use Rattle.split_scan.proofs.ordering.is_below.Goals as goal
 use Rattle.split_scan.proofs.ordering.is_below.Goals.{In-Ok}
 

@@ -2,7 +2,7 @@ use Rattle.std.proofs.Common.{◌≡◌, ◌+◌, ◌++◌, [], ◌∷◌, rules
 use Rattle.affine_forms.specs.Parts.{variables_of}
 use Rattle.split_scan.specs.declared.part.Part.{Part}
 use Rattle.split_scan.specs.steps.Picking.{IsPicking}
-use Rattle.split_scan.proofs.Ranking.{All-last, picked_all}
+use Rattle.split_scan.proofs.PartOrder.{All-last, picked_all}
 use Rattle.split_scan.proofs.ordering.ordered.Goals as goal
 
 pub loop-part-preserved : goal.loop-part-preserved

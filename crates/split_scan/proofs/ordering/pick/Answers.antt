@@ -1,7 +1,7 @@
 use Rattle.std.proofs.Common.{◌≡◌, ◌+◌, false, rules, All}
 use Rattle.std.specs.Bool.{IsTrue}
 use Rattle.affine_forms.specs.Parts.{variables_of}
-use Rattle.split_scan.proofs.Ranking.{all_put_is, picked_in, picked_out}
+use Rattle.split_scan.proofs.PartOrder.{all_put_is, picked_in, picked_out}
 use Rattle.split_scan.proofs.ordering.pick.Goals as goal
 
 pub returns-clause-sized : goal.returns-clause-sized

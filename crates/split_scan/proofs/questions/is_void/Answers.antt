@@ -3,7 +3,7 @@ use Rattle.std.specs.Bool.{IsTrue}
 use Rattle.std.proofs.lemmas.Result.{IfOk-weaker}
 use Rattle.whole_numbers.specs.Affine.{Affine}
 use Rattle.split_scan.specs.Questions.{HasNone}
-use Rattle.split_scan.proofs.Asking.{void_of}
+use Rattle.split_scan.proofs.EmptinessAnswers.{void_of}
 use Rattle.split_scan.proofs.questions.is_void.Goals as goal
 
 pub returns : goal.returns

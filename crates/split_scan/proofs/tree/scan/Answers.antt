@@ -8,15 +8,15 @@ use Rattle.plain_scan.specs.Hulls.{flags, sets_in}
 use Rattle.loop_tree.specs.Fits.{AreSmallTrees}
 use Rattle.loop_tree.specs.Marks.{MarksAll}
 use Rattle.loop_tree.specs.Shape.{NestAllTo, TreesAreOver}
-use Rattle.loop_tree.proofs.Larger.{nested_all}
+use Rattle.loop_tree.proofs.LargerBounds.{nested_all}
 use Rattle.plain_scan.specs.Giving.{HasIterators}
 use Rattle.plain_scan.specs.Leaving.{LeavesOut}
 use Rattle.plain_scan.specs.Scanning.{mark_of}
-use Rattle.plain_scan.proofs.Stepping.{dims_in}
-use Rattle.plain_scan.proofs.Leaving.{kept_in, kept_rise}
-use Rattle.plain_scan.proofs.Shaping.{all_of_more}
-use Rattle.plain_scan.proofs.Whole.{few_kept, iterators_kept, none_exact, none_kept, shaped}
-use Rattle.plain_scan.proofs.Whole.{whole_exact, whole_fits, whole_gives}
+use Rattle.plain_scan.proofs.HullLoops.{dims_in}
+use Rattle.plain_scan.proofs.OmittedSets.{kept_in, kept_rise}
+use Rattle.plain_scan.proofs.ScannedTrees.{all_of_more}
+use Rattle.plain_scan.proofs.WholeScans.{few_kept, iterators_kept, none_exact, none_kept, shaped}
+use Rattle.plain_scan.proofs.WholeScans.{whole_exact, whole_fits, whole_gives}
 use Rattle.split_scan.proofs.tree.scan.Goals as goal
 
 pub returns-then-len-eq0-clause-exact : goal.returns-then-len-eq0-clause-exact

@@ -1,7 +1,7 @@
 use Rattle.std.proofs.Common.{◌≡◌, ◌+◌, subst, All, arith}
 use Rattle.plain_scan.specs.Hulls.{sets_in}
 use Rattle.split_scan.specs.Nodes.{IsShaped}
-use Rattle.split_scan.proofs.Descending.{shaped_of}
+use Rattle.split_scan.proofs.InnerNodes.{shaped_of}
 use Rattle.split_scan.proofs.tree.scan_outlines.Goals as goal
 
 pub nodes-requires-clause-sets : goal.nodes-requires-clause-sets

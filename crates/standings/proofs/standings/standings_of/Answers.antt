@@ -5,7 +5,7 @@ use Rattle.scop_syntax.specs.declared.tree.Item.{Item}
 use Rattle.standings.specs.View.{standing_of}
 use Rattle.standings.specs.steps.Gathered.{gathered_all}
 use Rattle.standings.specs.Standings.{Standing}
-use Rattle.standings.proofs.Gathering.{program_gathered}
+use Rattle.standings.proofs.GatheredStatements.{program_gathered}
 use Rattle.standings.proofs.standings.standings_of.Goals as goal
 
 pub returns : goal.returns

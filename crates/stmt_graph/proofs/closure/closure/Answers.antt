@@ -2,8 +2,8 @@ use Rattle.std.proofs.Common.{ℕ, Bool, List, [], ◌∷◌, map, Vec, Global, 
 use Rattle.std.proofs.Common.{inl, inr, arith}
 use Rattle.std.proofs.lemmas.List.{map-append, length-map, length-append}
 use Rattle.stmt_graph.specs.Closure.{IsReached}
-use Rattle.stmt_graph.proofs.Counting.{lt_or_eq}
-use Rattle.stmt_graph.proofs.Reaching.{get_or_append, get_or_last}
+use Rattle.stmt_graph.proofs.Counts.{lt_or_eq}
+use Rattle.stmt_graph.proofs.Reachability.{get_or_append, get_or_last}
 use Rattle.stmt_graph.proofs.closure.closure.Goals as goal
 
 pub loop-from-preserved : goal.loop-from-preserved

@@ -2,7 +2,7 @@ use Rattle.std.proofs.Common.{◌≡◌, ◌<◌, ℕ, length, true, get_or, ari
 use Rattle.std.proofs.lemmas.Bool.{false≢true}
 use Rattle.scop_syntax.proofs.Members.{in_at}
 use Rattle.stmt_graph.specs.Closure.{at}
-use Rattle.stmt_graph.proofs.Reaching.{in_all, all_from}
+use Rattle.stmt_graph.proofs.Reachability.{in_all, all_from}
 use Rattle.stmt_graph.proofs.closure.next_reached.Goals as goal
 use Rattle.stmt_graph.proofs.closure.next_reached.Goals.{else-reached-source-via-then-reached-source+else-not-reached-target}
 use Rattle.stmt_graph.proofs.closure.next_reached.Goals.{else-reached-source-via-else-reached-source}

@@ -2,10 +2,10 @@ use Rattle.std.proofs.Common.{◌≡◌, ℕ, Bool, List, map, Vec, Global, get_
 use Rattle.std.proofs.Common.{arith, None, Some}
 use Rattle.std.proofs.lemmas.List.{length-map, length-replicate, get_or-replicate}
 use Rattle.stmt_graph.specs.Closure.{AreSquare, IsClosure, IsNext, IsGiven}
-use Rattle.stmt_graph.proofs.Counting.{count_within}
-use Rattle.stmt_graph.proofs.Reaching.{square}
-use Rattle.stmt_graph.proofs.Assigning.{IsPartial, given, none_given, none_next, none_unnumbered}
-use Rattle.stmt_graph.proofs.Assigning.{fewer_unnumbered}
+use Rattle.stmt_graph.proofs.Counts.{count_within}
+use Rattle.stmt_graph.proofs.Reachability.{square}
+use Rattle.stmt_graph.proofs.ComponentNumbers.{IsPartial, given, none_given, none_next, none_unnumbered}
+use Rattle.stmt_graph.proofs.ComponentNumbers.{fewer_unnumbered}
 use Rattle.std.specs.Prelude.{nat_eq}
 use Rattle.stmt_graph.specs.Graph.{number_in, IsNumbering}
 use Rattle.std.proofs.Common.{add-one}

@@ -1,5 +1,5 @@
 use Rattle.std.proofs.Common.{◌+◌, ◌≤◌}
-use Rattle.stmt_graph.proofs.Assigning.{IsPartial, unnumbered}
+use Rattle.stmt_graph.proofs.ComponentNumbers.{IsPartial, unnumbered}
 use Rattle.stmt_graph.proofs.numbers.components.Given as goal
 
 abbrev pub invariant-loop-k : goal.invariant-loop-k

@@ -5,7 +5,7 @@ use Rattle.std.proofs.lemmas.Int.{to_z-of_z}
 use Rattle.std.proofs.lemmas.List.{length-map, length_push}
 use Rattle.scop_syntax.specs.Tree.{Head}
 use Rattle.stmt_table.specs.steps.Forms.{number_form}
-use Rattle.stmt_table.proofs.Same.{same_wrapped}
+use Rattle.stmt_table.proofs.Congruences.{same_wrapped}
 use Rattle.stmt_table.proofs.Tellings.{coefficients_more, form_tells}
 use Rattle.stmt_table.proofs.forms.form_of.Goals as goal
 

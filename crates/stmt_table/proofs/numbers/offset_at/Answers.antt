@@ -8,7 +8,7 @@ use Rattle.scop_syntax.specs.Cells.{values}
 use Rattle.stmt_table.specs.Numbers.{row_major}
 use Rattle.stmt_table.specs.steps.Same.{IsSame}
 use Rattle.stmt_table.proofs.Offsets.{offset_more, offset_whole}
-use Rattle.stmt_table.proofs.Same.{same_wrapped, sum_same}
+use Rattle.stmt_table.proofs.Congruences.{same_wrapped, sum_same}
 use Rattle.stmt_table.proofs.numbers.offset_at.Goals as goal
 
 pub loop-at-preserved : goal.loop-at-preserved

@@ -8,8 +8,8 @@ use Rattle.whole_numbers.specs.Affine.{value_of}
 use Rattle.scop_syntax.specs.Tree.{Head}
 use Rattle.stmt_table.specs.Points.{point_in}
 use Rattle.stmt_table.specs.steps.Same.{AreSame}
-use Rattle.stmt_table.proofs.Entering.{point_more}
-use Rattle.stmt_table.proofs.Same.{lists_same}
+use Rattle.stmt_table.proofs.LoopPoints.{point_more}
+use Rattle.stmt_table.proofs.Congruences.{lists_same}
 use Rattle.stmt_table.proofs.points.point_in.Goals as goal
 
 pub loop-at-init : goal.loop-at-init

@@ -1,6 +1,6 @@
 use Rattle.std.proofs.Common.{◌∙◌, arith}
 use Rattle.std.proofs.lemmas.List.{take_all}
-use Rattle.tableau_nodes.proofs.Copying.{copied_more}
+use Rattle.tableau_nodes.proofs.CopiedLists.{copied_more}
 use Rattle.tableau_nodes.proofs.bounds.copied_bounds.Goals as goal
 
 pub loop-bound-preserved : goal.loop-bound-preserved

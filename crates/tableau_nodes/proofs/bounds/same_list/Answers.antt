@@ -1,6 +1,6 @@
 use Rattle.std.proofs.Common.{◌≡◌, ◌∙◌, ap, sym, subst, drop, List, ℤ, ℕ, arith}
 use Rattle.lexmin_runs.specs.Nodes.{all_zero, same_list}
-use Rattle.tableau_nodes.proofs.Read_off.{same-then, same-else}
+use Rattle.tableau_nodes.proofs.LineParts.{same-then, same-else}
 use Rattle.tableau_nodes.proofs.bounds.same_list.Goals as goal
 
 pub returns-then-all_zero : goal.returns-then-all_zero

@@ -1,6 +1,6 @@
 use Rattle.std.proofs.Common.{◌∙◌, arith}
 use Rattle.std.proofs.lemmas.List.{take_all}
-use Rattle.tableau_nodes.proofs.Copying.{copied_more}
+use Rattle.tableau_nodes.proofs.CopiedLists.{copied_more}
 use Rattle.tableau_nodes.proofs.forms.copies.Goals as goal
 
 pub loop-form-preserved : goal.loop-form-preserved

@@ -2,7 +2,7 @@ use Rattle.std.proofs.Common.{◌∙◌, List, map, ap, arith}
 use Rattle.std.proofs.lemmas.List.{take_all}
 use Rattle.whole_numbers.specs.Affine.{Affine}
 use Rattle.lexmin_runs.specs.Nodes.{longer_form}
-use Rattle.tableau_nodes.proofs.Copying.{mapped_more}
+use Rattle.tableau_nodes.proofs.CopiedLists.{mapped_more}
 use Rattle.tableau_nodes.proofs.forms.longer_forms.Goals as goal
 
 pub loop-form-preserved : goal.loop-form-preserved

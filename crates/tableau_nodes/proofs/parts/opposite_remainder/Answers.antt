@@ -2,7 +2,7 @@ use Rattle.std.proofs.Common.{rules, ◌≡◌, ◌∙◌, sym, pos, ◌<ℤ◌,
 use Rattle.std.specs.Int.{w128}
 use Rattle.std.proofs.lemmas.Int.{to_z-of_z, ints}
 use Rattle.whole_numbers.specs.Floor.{remainder}
-use Rattle.tableau_nodes.proofs.Read_off.{opposite-zero, opposite-more}
+use Rattle.tableau_nodes.proofs.LineParts.{opposite-zero, opposite-more}
 use Rattle.tableau_nodes.proofs.parts.opposite_remainder.Goals as goal
 
 pub returns-then-left-eq0 : goal.returns-then-left-eq0

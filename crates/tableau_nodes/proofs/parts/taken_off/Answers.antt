@@ -6,7 +6,7 @@ use Rattle.whole_numbers.specs.Floor.{remainder}
 use Rattle.whole_numbers.specs.Affine.{form_of}
 use Rattle.tableau_rows.specs.Moves.{row_at}
 use Rattle.lexmin_runs.specs.Nodes.{taken_off}
-use Rattle.tableau_nodes.proofs.Read_off.{taken-off-line}
+use Rattle.tableau_nodes.proofs.LineParts.{taken-off-line}
 use Rattle.tableau_nodes.proofs.parts.taken_off.Goals as goal
 
 pub returns : goal.returns

@@ -7,7 +7,7 @@ use Rattle.affine_forms.specs.Gives.{Fails}
 use Rattle.affine_forms.specs.declared.stop.FormStop.{FormStop}
 use Rattle.tableau_rows.specs.Moves.{row_at}
 use Rattle.tableau_nodes.specs.Node.{ties_run}
-use Rattle.tableau_nodes.proofs.Moving.{parts-err, tied-run}
+use Rattle.tableau_nodes.proofs.NodeMoves.{parts-err, tied-run}
 use Rattle.tableau_nodes.proofs.ties.tied_parts.Goals as goal
 
 pub returns-in-Err : goal.returns-in-Err

@@ -1,4 +1,4 @@
-use Rattle.tableau_nodes.proofs.Moving.{widened-cut}
+use Rattle.tableau_nodes.proofs.NodeMoves.{widened-cut}
 use Rattle.tableau_nodes.proofs.ties.tied_rows.Goals as goal
 
 pub returns-in-Ok-cut : goal.returns-in-Ok-cut

@@ -1,4 +1,4 @@
-use Rattle.tableau_rows.proofs.Keeping.{cut_keeps_tableau, cut_keeps_solutions}
+use Rattle.tableau_rows.proofs.KeptSolutions.{cut_keeps_tableau, cut_keeps_solutions}
 use Rattle.tableau_rows.proofs.laws.cuts_keep_the_solutions.Goals as goal
 
 pub returns : goal.returns

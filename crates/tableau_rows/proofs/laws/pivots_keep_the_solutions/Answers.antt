@@ -1,4 +1,4 @@
-use Rattle.tableau_rows.proofs.Keeping.{pivot_keeps_tableau, pivot_keeps_solutions}
+use Rattle.tableau_rows.proofs.KeptSolutions.{pivot_keeps_tableau, pivot_keeps_solutions}
 use Rattle.tableau_rows.proofs.laws.pivots_keep_the_solutions.Goals as goal
 
 pub returns : goal.returns

@@ -1,6 +1,6 @@
 use Rattle.scop_syntax.specs.Execution.{layout}
 use Rattle.tile_core.specs.Plans.{program_in}
-use Rattle.tile_core.proofs.Touched.{few_at}
+use Rattle.tile_core.proofs.TouchedCells.{few_at}
 use Rattle.tile_core.proofs.plan_laws.instances_read_few.Goals as goal
 
 pub returns : goal.returns

@@ -2,7 +2,7 @@ use Rattle.scop_syntax.specs.View.{instance_of}
 use Rattle.loop_tree.specs.SpotView.{to_come}
 use Rattle.loop_tree.specs.TilingView.{tiling_of}
 use Rattle.loop_tree.specs.View.{trees_in}
-use Rattle.tile_list.proofs.Ending.{left_fits, taken_next, taken_visited}
+use Rattle.tile_list.proofs.WholeLists.{left_fits, taken_next, taken_visited}
 use Rattle.tile_list.proofs.cutting.cut_rest.Goals as goal
 
 pub take_stretch-requires-clause-fits : goal.take_stretch-requires-clause-fits

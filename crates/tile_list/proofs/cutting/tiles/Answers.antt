@@ -5,7 +5,7 @@ use Rattle.loop_tree.specs.View.{trees_in}
 use Rattle.loop_tree.specs.Walk.{visits}
 use Rattle.tile_list.specs.TilesView.{IsTileListOf}
 use Rattle.tile_list.specs.steps.Cutting.{IsListed}
-use Rattle.tile_list.proofs.Ending.{all_listed, none_listed}
+use Rattle.tile_list.proofs.WholeLists.{all_listed, none_listed}
 use Rattle.tile_list.proofs.cutting.tiles.Goals as goal
 
 pub next-requires-clause-spot : goal.next-requires-clause-spot

@@ -5,8 +5,8 @@ use Rattle.std.specs.Int.{w64}
 use Rattle.std.proofs.lemmas.Int.{to_z-of_z}
 use Rattle.whole_numbers.specs.Lists.{multiples, sums}
 use Rattle.whole_numbers.proofs.Dot.{length-multiples}
-use Rattle.loop_tree.proofs.Stretched.{each_of_five, sums_front}
-use Rattle.tile_list.proofs.Stretching.{take-multiples}
+use Rattle.loop_tree.proofs.Stretches.{each_of_five, sums_front}
+use Rattle.tile_list.proofs.Stretches.{take-multiples}
 use Rattle.tile_list.proofs.keys.after.Goals as goal
 
 pub returns : goal.returns

@@ -3,7 +3,7 @@ use Rattle.std.specs.Prelude.{◌+ℤ◌, FitsSigned}
 use Rattle.std.specs.Int.{w64}
 use Rattle.std.proofs.lemmas.Int.{to_z-of_z}
 use Rattle.whole_numbers.proofs.Dot.{get_or-multiples}
-use Rattle.tile_list.proofs.Stretching.{turn_on}
+use Rattle.tile_list.proofs.Stretches.{turn_on}
 use Rattle.tile_list.proofs.keys.turn_after.Goals as goal
 
 pub returns : goal.returns

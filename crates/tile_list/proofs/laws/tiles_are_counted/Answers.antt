@@ -1,4 +1,4 @@
-use Rattle.tile_list.proofs.Counting.{tiles_counted, waves_counted}
+use Rattle.tile_list.proofs.Counts.{tiles_counted, waves_counted}
 use Rattle.tile_list.proofs.laws.tiles_are_counted.Goals as goal
 
 pub returns-clause-tiles : goal.returns-clause-tiles

@@ -1,4 +1,4 @@
-use Rattle.tile_skew.proofs.Reading_off.{domain_put}
+use Rattle.tile_skew.proofs.ItemSteps.{domain_put}
 use Rattle.tile_skew.proofs.forms.domain_numbers.Goals as goal
 
 pub returns : goal.returns

@@ -2,7 +2,7 @@ use Rattle.std.proofs.Common.{◌≤◌, subst, sym, ap, ◌∙◌, arith}
 use Rattle.whole_numbers.specs.Affine.{Affine}
 use Rattle.affine_forms.specs.Parts.{variables_of}
 use Rattle.iteration_domains.specs.Sizes.{form_size}
-use Rattle.iteration_domains.proofs.Entering.{length-variable}
+use Rattle.iteration_domains.proofs.Surroundings.{length-variable}
 use Rattle.iteration_domains.proofs.Sizes.{size-variable}
 use Rattle.tile_skew.proofs.forms.push_value.Goals as goal
 

@@ -3,7 +3,7 @@ use Rattle.std.specs.Prelude.{unsigned_abs}
 use Rattle.whole_numbers.specs.Affine.{Affine}
 use Rattle.affine_forms.specs.Parts.{variables_of}
 use Rattle.iteration_domains.specs.Sizes.{form_size}
-use Rattle.iteration_domains.proofs.Entering.{length-variable}
+use Rattle.iteration_domains.proofs.Surroundings.{length-variable}
 use Rattle.iteration_domains.proofs.Sizes.{size-variable}
 use Rattle.tile_skew.proofs.Widths.{opposite_size, opposite_held, small_sum}
 use Rattle.tile_skew.proofs.forms.tile_begins.Goals as goal

@@ -2,7 +2,7 @@ use Rattle.std.proofs.Common.{◌≡◌, ◌∙◌, ◌<◌, sym, subst, ap, ari
 use Rattle.std.proofs.lemmas.List.{length-map, get_or-map}
 use Rattle.schedule_rows.specs.Schedule.{item_of}
 use Rattle.tile_skew.specs.steps.Listed.{HasStatement}
-use Rattle.tile_skew.proofs.Reading_off.{rows_step}
+use Rattle.tile_skew.proofs.ItemSteps.{rows_step}
 use Rattle.tile_skew.proofs.items.first_band.Goals as goal
 
 pub push_row-requires : goal.push_row-requires

@@ -9,8 +9,8 @@ use Rattle.schedule_rows.specs.Posed.{loops_of}
 use Rattle.tile_skew.specs.steps.Sizes.{FitsTurns, FitsItem}
 use Rattle.schedule_rows.specs.Schedule.{item_of, loops_in, items_of}
 use Rattle.tile_skew.specs.steps.Listed.{HasStatement, IsInside, AreBounds, leading_in, item_at}
-use Rattle.tile_skew.proofs.Splitting.{band_inside, bounds_are, ends_within, items_have, told_items}
-use Rattle.tile_skew.proofs.Fitting.{first_fit, behind_fit}
+use Rattle.tile_skew.proofs.ItemParts.{band_inside, bounds_are, ends_within, items_have, told_items}
+use Rattle.tile_skew.proofs.ItemFits.{first_fit, behind_fit}
 use Rattle.tile_skew.proofs.items.statement.Goals as goal
 
 pub band_bounds-first-requires : goal.band_bounds-first-requires

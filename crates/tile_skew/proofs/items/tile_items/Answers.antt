@@ -3,7 +3,7 @@ use Rattle.std.proofs.lemmas.List.{length-map, get_or-map, map-append}
 use Rattle.loop_tree.specs.TilingView.{item_of as tile_item_of}
 use Rattle.schedule_rows.specs.Schedule.{item_of}
 use Rattle.tile_skew.specs.steps.Listed.{item_at}
-use Rattle.tile_skew.proofs.Reading_off.{mapped_step}
+use Rattle.tile_skew.proofs.ItemSteps.{mapped_step}
 use Rattle.tile_skew.proofs.items.tile_items.Goals as goal
 
 pub loop-at-preserved : goal.loop-at-preserved

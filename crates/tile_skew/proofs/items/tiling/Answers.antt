@@ -2,7 +2,7 @@ use Rattle.std.proofs.Common.{◌≡◌, ◌∙◌, ◌++◌, ◌∷◌, [], ap,
 use Rattle.std.proofs.lemmas.List.{map-append}
 use Rattle.loop_tree.specs.TilingView.{items_of}
 use Rattle.tile_skew.specs.Tilings.{statement_items}
-use Rattle.tile_skew.proofs.Reading_off.{statements_step}
+use Rattle.tile_skew.proofs.ItemSteps.{statements_step}
 use Rattle.tile_skew.proofs.items.tiling.Goals as goal
 
 pub loop-k-preserved : goal.loop-k-preserved

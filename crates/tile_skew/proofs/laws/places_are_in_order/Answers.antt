@@ -1,4 +1,4 @@
-use Rattle.tile_skew.proofs.Ordering.{in_order_of}
+use Rattle.tile_skew.proofs.PlaceOrder.{in_order_of}
 use Rattle.tile_skew.proofs.laws.places_are_in_order.Goals as goal
 
 pub returns : goal.returns

@@ -1,4 +1,4 @@
-use Rattle.tile_skew.proofs.Alike.{band_there, band_many}
+use Rattle.tile_skew.proofs.AlikeSets.{band_there, band_many}
 use Rattle.tile_skew.proofs.laws.rows_that_are_not_parallel_carry.Goals as goal
 
 pub returns-clause-rows : goal.returns-clause-rows

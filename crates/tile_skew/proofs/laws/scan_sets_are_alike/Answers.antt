@@ -1,4 +1,4 @@
-use Rattle.tile_skew.proofs.Alike.{scanned_alike}
+use Rattle.tile_skew.proofs.AlikeSets.{scanned_alike}
 use Rattle.tile_skew.proofs.laws.scan_sets_are_alike.Goals as goal
 
 pub returns : goal.returns

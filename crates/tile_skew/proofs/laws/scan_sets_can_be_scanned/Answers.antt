@@ -3,17 +3,17 @@ use Rattle.scop_syntax.specs.Kernel.{IsKernel}
 use Rattle.scop_syntax.specs.Tree.{Program}
 use Rattle.iteration_domains.specs.Model.{model_of}
 use Rattle.iteration_domains.specs.Sizes.{IsKernelModel}
-use Rattle.iteration_domains.proofs.Placing.{one_model}
+use Rattle.iteration_domains.proofs.TreeStatements.{one_model}
 use Rattle.conflict_deps.specs.Conflicts.{conflicts_of}
 use Rattle.schedule_rows.specs.Items.{Block}
 use Rattle.schedule_rows.specs.Outcomes.{IsSchedule}
 use Rattle.schedule_rows.specs.Schedule.{loops_in}
-use Rattle.schedule_rows.proofs.Measuring.{VectorLaws}
+use Rattle.schedule_rows.proofs.Measures.{VectorLaws}
 use Rattle.tile_skew.specs.steps.Facts.{StatementFacts}
 use Rattle.tile_skew.proofs.Counts.{loops_few}
 use Rattle.tile_skew.proofs.Ranks.{schedule_few}
-use Rattle.tile_skew.proofs.Scannable.{HasSchedule, sets_bounded, sets_few, sets_of_statements, sets_rise}
-use Rattle.tile_skew.proofs.Turning.{turns_bounded}
+use Rattle.tile_skew.proofs.ScannableSets.{HasSchedule, sets_bounded, sets_few, sets_of_statements, sets_rise}
+use Rattle.tile_skew.proofs.TurnBounds.{turns_bounded}
 use Rattle.tile_skew.proofs.laws.scan_sets_can_be_scanned.Goals as goal
 
 -- the model of a kernel

@@ -8,12 +8,12 @@ use Rattle.scop_syntax.proofs.Members.{in_from_place}
 use Rattle.scop_syntax.proofs.Limits.{params_not_negative}
 use Rattle.iteration_domains.specs.Dependence.{Dependence}
 use Rattle.iteration_domains.specs.Model.{Modelled, model_of}
-use Rattle.iteration_domains.proofs.Placing.{one_model}
+use Rattle.iteration_domains.proofs.TreeStatements.{one_model}
 use Rattle.conflict_deps.specs.Conflicts.{conflicts_of}
 use Rattle.schedule_rows.specs.Next.{IsSizedDep}
 use Rattle.schedule_rows.specs.Schedule.{loops_in}
-use Rattle.tile_skew.proofs.Conflicting.{turns_from_0, pair_of, sized_conflict}
-use Rattle.tile_skew.proofs.Planning.{WalkFacts, turns_rise, in_order}
+use Rattle.tile_skew.proofs.ConflictPairs.{turns_from_0, pair_of, sized_conflict}
+use Rattle.tile_skew.proofs.ConflictOrder.{WalkFacts, turns_rise, in_order}
 use Rattle.tile_skew.proofs.laws.tiled_schedules_are_good_plans.Goals as goal
 
 pub returns : goal.returns

@@ -1,4 +1,4 @@
-use Rattle.tile_skew.proofs.Agreeing.{values_agree}
+use Rattle.tile_skew.proofs.TilingAgreement.{values_agree}
 use Rattle.tile_skew.proofs.laws.tilings_have_the_items_of_schedules.Goals as goal
 
 pub returns : goal.returns

@@ -5,8 +5,8 @@ use Rattle.integer_sets.specs.Constraints.{Constraints, variables_in}
 use Rattle.loop_tree.specs.TilingView.{items_of}
 use Rattle.tile_skew.specs.ScanSets.{domain_form, dimension_equalities, wave_equalities, item_equalities}
 use Rattle.tile_skew.specs.ScanSets.{missing_equalities}
-use Rattle.tile_skew.proofs.Reading_off.{four_put}
-use Rattle.tile_skew.proofs.Shaped.{Over, all_wide, resized, domain_over, dimensions_over, items_fit}
+use Rattle.tile_skew.proofs.ItemSteps.{four_put}
+use Rattle.tile_skew.proofs.ConstraintVariables.{Over, all_wide, resized, domain_over, dimensions_over, items_fit}
 use Rattle.tile_skew.proofs.sets.equalities.Goals as goal
 
 pub push_domain-requires : goal.push_domain-requires

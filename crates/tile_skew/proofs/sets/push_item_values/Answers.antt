@@ -4,7 +4,7 @@ use Rattle.std.proofs.lemmas.List.{length-map}
 use Rattle.loop_tree.specs.TilingView.{item_of}
 use Rattle.tile_skew.specs.ScanSets.{have_values, number_form, row_form, item_form}
 use Rattle.tile_skew.specs.steps.Sizes.{FitsTurns, FitsItem}
-use Rattle.tile_skew.proofs.Reading_off.{items_put}
+use Rattle.tile_skew.proofs.ItemSteps.{items_put}
 use Rattle.tile_skew.proofs.sets.push_item_values.Goals as goal
 
 pub push_rows-requires-clause-small : goal.push_rows-requires-clause-small

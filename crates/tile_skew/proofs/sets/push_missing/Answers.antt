@@ -1,7 +1,7 @@
 use Rattle.std.proofs.Common.{◌+◌, ◌∙◌, ap}
 use Rattle.iteration_domains.specs.Rows.{variable}
 use Rattle.tile_skew.specs.ScanSets.{width}
-use Rattle.tile_skew.proofs.Reading_off.{missing_step}
+use Rattle.tile_skew.proofs.ItemSteps.{missing_step}
 use Rattle.tile_skew.proofs.sets.push_missing.Goals as goal
 
 pub loop-at-preserved : goal.loop-at-preserved

@@ -2,7 +2,7 @@ use Rattle.std.proofs.Common.{◌≡◌, ◌+◌, ◌∙◌, rules, ap, arith, l
 use Rattle.loop_tree.specs.TilingView.{items_of}
 use Rattle.tile_skew.specs.ScanSets.{carried_form, have_values, number_form}
 use Rattle.tile_skew.proofs.Widths.{carried_small}
-use Rattle.tile_skew.proofs.Reading_off.{waves_put}
+use Rattle.tile_skew.proofs.ItemSteps.{waves_put}
 use Rattle.tile_skew.proofs.sets.push_waves.Goals as goal
 
 pub push_value-requires-clause-small : goal.push_value-requires-clause-small

@@ -2,10 +2,10 @@ use Rattle.std.proofs.Common.{◌≡◌, ◌+◌, ◌∙◌, ap, sym, subst, ari
 use Rattle.std.specs.Prelude.{All}
 use Rattle.affine_forms.specs.Parts.{variables_of}
 use Rattle.integer_sets.specs.Constraints.{variables_in}
-use Rattle.iteration_domains.proofs.Entering.{length-variable}
+use Rattle.iteration_domains.proofs.Surroundings.{length-variable}
 use Rattle.tile_skew.specs.ScanSets.{domain_form}
 use Rattle.tile_skew.specs.steps.Sizes.{FitsTurns}
-use Rattle.tile_skew.proofs.Shaped.{all_wide, resized, domain_over, coordinates_over, parts_over}
+use Rattle.tile_skew.proofs.ConstraintVariables.{all_wide, resized, domain_over, coordinates_over, parts_over}
 use Rattle.tile_skew.proofs.sets.rows.Goals as goal
 
 pub push_domain-requires : goal.push_domain-requires

@@ -1,6 +1,6 @@
 use Rattle.std.proofs.Common.{◌≡◌, ◌+◌, refl, arith}
 use Rattle.tile_skew.specs.ScanSets.{width}
-use Rattle.tile_skew.proofs.Shaped.{resized}
+use Rattle.tile_skew.proofs.ConstraintVariables.{resized}
 use Rattle.tile_skew.proofs.statement_sets.points.Goals as goal
 
 pub from_parts-requires : goal.from_parts-requires

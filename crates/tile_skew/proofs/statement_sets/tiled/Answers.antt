@@ -3,8 +3,8 @@ use Rattle.integer_sets.specs.Scanned.{Scanned}
 use Rattle.iteration_domains.specs.Model.{Modelled, KernelModel}
 use Rattle.tile_skew.specs.ScanSets.{scan_set, most_iterators}
 use Rattle.tile_skew.specs.Tilings.{statement_items}
-use Rattle.tile_skew.proofs.Reading_off.{mapped_step}
-use Rattle.tile_skew.proofs.Taking.{within_there, found_there}
+use Rattle.tile_skew.proofs.ItemSteps.{mapped_step}
+use Rattle.tile_skew.proofs.ModelStatements.{within_there, found_there}
 use Rattle.tile_skew.proofs.statement_sets.tiled.Goals as goal
 
 pub scan_set-requires-clause-most : goal.scan_set-requires-clause-most

@@ -1,7 +1,7 @@
 use Rattle.std.proofs.Common.{List, ◌∷◌, ap, sym, ◌∙◌}
 use Rattle.loop_tree.specs.Tree.{Bound}
 use Rattle.tree_simplification.proofs.Contexts.{parts_behind}
-use Rattle.tree_simplification.proofs.Leaving.{first_and_rest}
+use Rattle.tree_simplification.proofs.RemainingParts.{first_and_rest}
 use Rattle.tree_simplification.proofs.implied.bounds_from.Goals as goal
 
 pub returns : goal.returns

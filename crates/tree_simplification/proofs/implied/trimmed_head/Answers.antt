@@ -4,8 +4,8 @@ use Rattle.loop_tree.specs.Tree.{Bound}
 use Rattle.loop_tree.specs.View.{bounds_in}
 use Rattle.tree_simplification.specs.steps.Context.{ArePartsOver, TrimsSide, parts}
 use Rattle.tree_simplification.specs.steps.ContextView.{context_of}
-use Rattle.tree_simplification.proofs.Leaving.{parts_among}
-use Rattle.tree_simplification.proofs.Trimmed.{some_part, trims_both}
+use Rattle.tree_simplification.proofs.RemainingParts.{parts_among}
+use Rattle.tree_simplification.proofs.TrimmedTrees.{some_part, trims_both}
 use Rattle.tree_simplification.proofs.Walks.{parts_over}
 use Rattle.tree_simplification.proofs.implied.trimmed_head.Goals as goal
 

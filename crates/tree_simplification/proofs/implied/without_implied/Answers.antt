@@ -1,5 +1,5 @@
 use Rattle.loop_tree.specs.View.{trees_in}
-use Rattle.tree_simplification.proofs.Trimmed.{trimmed_is}
+use Rattle.tree_simplification.proofs.TrimmedTrees.{trimmed_is}
 use Rattle.tree_simplification.proofs.implied.without_implied.Goals as goal
 
 pub returns : goal.returns

@@ -8,7 +8,7 @@ use Rattle.loop_tree.specs.View.{test_of}
 use Rattle.loop_tree.specs.declared.tree.Test.{Test as CodeTest}
 use Rattle.tree_simplification.specs.steps.Trimmed.{TrimsTests}
 use Rattle.tree_simplification.specs.steps.ContextView.{context_of}
-use Rattle.tree_simplification.proofs.Leaving.{test_gone}
+use Rattle.tree_simplification.proofs.RemainingParts.{test_gone}
 use Rattle.tree_simplification.proofs.trimming.first_test_goes.Goals as goal
 
 pub is_implied_test-requires-clause-others : goal.is_implied_test-requires-clause-others

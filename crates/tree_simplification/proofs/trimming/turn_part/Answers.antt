@@ -3,7 +3,7 @@ use Rattle.std.proofs.lemmas.Result.{on_ok_weaker}
 use Rattle.loop_tree.specs.Tree.{Bound}
 use Rattle.tree_simplification.specs.steps.Context.{TrimsSide}
 use Rattle.tree_simplification.specs.steps.ContextView.{context_of}
-use Rattle.tree_simplification.proofs.Leaving.{first_and_rest, part_kept}
+use Rattle.tree_simplification.proofs.RemainingParts.{first_and_rest, part_kept}
 use Rattle.tree_simplification.proofs.trimming.turn_part.Goals as goal
 
 pub returns-else-goes : goal.returns-else-goes

@@ -6,7 +6,7 @@ use Rattle.loop_tree.specs.View.{test_of}
 use Rattle.loop_tree.specs.declared.tree.Test.{Test as CodeTest}
 use Rattle.tree_simplification.specs.steps.Trimmed.{TrimsTests}
 use Rattle.tree_simplification.specs.steps.ContextView.{context_of}
-use Rattle.tree_simplification.proofs.Leaving.{first_and_rest, test_kept}
+use Rattle.tree_simplification.proofs.RemainingParts.{first_and_rest, test_kept}
 use Rattle.tree_simplification.proofs.trimming.turn_test.Goals as goal
 
 pub returns-else-goes-clause-tests : goal.returns-else-goes-clause-tests

@@ -1,5 +1,5 @@
 use Rattle.std.proofs.Common.{rules}
-use Rattle.wave_barrier.proofs.Opens.{held_tile, opens}
+use Rattle.wave_barrier.proofs.Openings.{held_tile, opens}
 use Rattle.wave_barrier.proofs.opening.try_open.Goals as goal
 
 pub load-done-requires : goal.load-done-requires

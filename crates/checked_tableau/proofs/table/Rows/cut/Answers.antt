@@ -4,7 +4,7 @@ use Rattle.checked_tableau.specs.declared.stop.TableauStop.{TableauStop}
 use Rattle.wide_math.specs.declared.Wide.{Wide}
 use Rattle.tableau_rows.specs.Rows.{Row, Sized}
 use Rattle.tableau_rows.specs.Solutions.{HaveSameSolutions, IsTied}
-use Rattle.tableau_rows.proofs.Keeping.{cut_keeps_solutions}
+use Rattle.tableau_rows.proofs.KeptSolutions.{cut_keeps_solutions}
 use Rattle.tableau_rows.specs.Moves.{line_row, row_at, rows_in, cut_run}
 use Rattle.checked_tableau.specs.Table.{Table, Appends, IsSound, stride_of, table_in, table_of, resumed}
 use Rattle.checked_tableau.specs.Lines.{behind_columns}

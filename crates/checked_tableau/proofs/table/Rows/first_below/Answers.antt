@@ -2,7 +2,7 @@ use Rattle.std.proofs.Common.{◌<◌, length, subst, sym, ◌∙◌, arith}
 use Rattle.tableau_rows.specs.Run.{has_below}
 use Rattle.tableau_rows.specs.Moves.{rows_in}
 use Rattle.checked_tableau.specs.Table.{Table, stride_of}
-use Rattle.checked_tableau.proofs.Looking.{first_inside}
+use Rattle.checked_tableau.proofs.RowScans.{first_inside}
 use Rattle.checked_tableau.proofs.Tables.{length-rows_in}
 use Rattle.checked_tableau.proofs.table.Rows.first_below.Goals as goal
 

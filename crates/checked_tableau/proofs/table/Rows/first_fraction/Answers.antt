@@ -5,7 +5,7 @@ use Rattle.tableau_rows.specs.Moves.{rows_in, HeadsPositive}
 use Rattle.tableau_rows.specs.Run.{first_row, has_fraction}
 use Rattle.tableau_rows.proofs.Points.{sized_take}
 use Rattle.checked_tableau.specs.Table.{Table, stride_of}
-use Rattle.checked_tableau.proofs.Looking.{first_inside}
+use Rattle.checked_tableau.proofs.RowScans.{first_inside}
 use Rattle.checked_tableau.proofs.Tables.{heads_sized, length-rows_in, take_rows_in}
 use Rattle.checked_tableau.proofs.Tables.{lines_within}
 use Rattle.checked_tableau.proofs.table.Rows.first_fraction.Goals as goal

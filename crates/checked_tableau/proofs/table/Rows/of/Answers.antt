@@ -3,13 +3,13 @@ use Rattle.std.specs.Prelude.{None, ◌↔◌}
 use Rattle.tableau_rows.specs.Problem.{unit_rows, given_rows, first_rows, problem_of, IsPoint}
 use Rattle.tableau_rows.specs.Rows.{Row}
 use Rattle.tableau_rows.specs.Solutions.{IsSolution}
-use Rattle.tableau_rows.proofs.Beginning.{first_solutions}
+use Rattle.tableau_rows.proofs.FirstTableau.{first_solutions}
 use Rattle.tableau_rows.specs.Moves.{rows_in}
 use Rattle.checked_tableau.specs.Lines.{Holds}
 use Rattle.checked_tableau.specs.Table.{IsSound, stride_of, table_of}
 use Rattle.checked_tableau.proofs.Tables.{written_whole}
 use Rattle.checked_tableau.proofs.Beginnings.{sound_parts, speaks_all}
-use Rattle.lexmin_runs.proofs.Longer.{speaks-append}
+use Rattle.lexmin_runs.proofs.AddedParameters.{speaks-append}
 use Rattle.checked_tableau.proofs.table.Rows.of.Goals as goal
 
 -- the buffer holds the first rows

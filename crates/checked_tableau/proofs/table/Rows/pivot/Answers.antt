@@ -2,7 +2,7 @@ use Rattle.std.proofs.Common.{◌++◌, take, drop, rules, arith, length, ◌≡
 use Rattle.std.proofs.Common.{subst, sym}
 use Rattle.tableau_rows.specs.Rows.{entry}
 use Rattle.tableau_rows.specs.Solutions.{HaveSameSolutions}
-use Rattle.tableau_rows.proofs.Keeping.{pivot_keeps_solutions}
+use Rattle.tableau_rows.proofs.KeptSolutions.{pivot_keeps_solutions}
 use Rattle.tableau_rows.specs.Moves.{rows_in, row_at, rows_run, HeadsPositive}
 use Rattle.checked_tableau.specs.Table.{Table, table_in, stride_of}
 use Rattle.checked_tableau.proofs.Tables.{goes_by, heads_sized, length-rows_in, sound_pivot, sound_stopped}

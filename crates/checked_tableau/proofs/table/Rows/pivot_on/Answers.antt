@@ -3,7 +3,7 @@ use Rattle.std.specs.Prelude.{Some, None, Ok, Err, Option}
 use Rattle.tableau_rows.specs.Moves.{pivot_run}
 use Rattle.checked_tableau.specs.Table.{Table, table_of}
 use Rattle.wide_math.specs.declared.Wide.{Wide}
-use Rattle.checked_tableau.proofs.Pivoting.{pivot_run-column, pivot_run-err, pivots_moved, resumed-going}
+use Rattle.checked_tableau.proofs.Pivots.{pivot_run-column, pivot_run-err, pivots_moved, resumed-going}
 use Rattle.checked_tableau.proofs.table.Rows.pivot_on.Goals as goal
 
 pub pivot-requires-clause-column : goal.pivot-requires-clause-column

@@ -1,6 +1,6 @@
 -- The flush changes nothing but the number of calls.
 use Rattle.std.proofs.Common.{sym, ap, refl, append-nil}
-use Rattle.io_ports.proofs.Counting.{sink_took}
+use Rattle.io_ports.proofs.CalmCalls.{sink_took}
 use Rattle.io_ports.proofs.sink_in_memory.MemSinkSink.flush.Goals as goal
 
 pub returns-clause-done : goal.returns-clause-done

@@ -1,6 +1,6 @@
 -- The write changes nothing but the bytes taken and the number of calls.
 use Rattle.std.proofs.Common.{ap, refl}
-use Rattle.io_ports.proofs.Counting.{sink_took}
+use Rattle.io_ports.proofs.CalmCalls.{sink_took}
 use Rattle.io_ports.proofs.sink_in_memory.MemSinkSink.write.Goals as goal
 
 pub returns-clause-taken : goal.returns-clause-taken

@@ -1,7 +1,7 @@
 -- The bytes given are the first of those left.
 use Rattle.std.proofs.Common.{◌≡◌, ◌∙◌, ◌-◌, ◌+◌, ap, length, take, drop, arith, length-drop, take_all}
-use Rattle.io_ports.proofs.Reading.{gives_front}
-use Rattle.io_ports.proofs.Counting.{source_gave}
+use Rattle.io_ports.proofs.MemoryReads.{gives_front}
+use Rattle.io_ports.proofs.CalmCalls.{source_gave}
 use Rattle.io_ports.proofs.source_in_memory.MemSourceSource.read.Goals as goal
 
 pub returns-clause-given : goal.returns-clause-given

@@ -1,7 +1,7 @@
 use Rattle.std.proofs.Common.{◌≡◌, ◌++◌, ◌∷◌, [], subst}
 use Rattle.integer_sets.specs.Constraints.{system_of}
 use Rattle.iteration_domains.specs.Dependence.{Dependence}
-use Rattle.iteration_domains.proofs.Restricting.{equality_points}
+use Rattle.iteration_domains.proofs.AddedConstraints.{equality_points}
 use Rattle.iteration_domains.proofs.dep.Dep.with_equality.Goals as goal
 
 pub returns-in-Ok-clause-points : goal.returns-in-Ok-clause-points

@@ -7,7 +7,7 @@ use Rattle.iteration_domains.specs.Sizes.{CanCompose}
 use Rattle.iteration_domains.specs.Standing.{CanEnter}
 use Rattle.iteration_domains.specs.declared.rows.Scope.{Scope}
 use Rattle.iteration_domains.specs.declared.rows.Scope.TheVariants.{Under}
-use Rattle.iteration_domains.proofs.Entering.{tests_compose}
+use Rattle.iteration_domains.proofs.Surroundings.{tests_compose}
 use Rattle.iteration_domains.proofs.rows.StatementRows.enter.Goals as goal
 
 pub enter_guard-requires : goal.enter_guard-requires

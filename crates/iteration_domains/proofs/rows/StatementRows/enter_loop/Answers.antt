@@ -4,7 +4,7 @@ use Rattle.scop_syntax.specs.Tree.{Head}
 use Rattle.scop_syntax.specs.Kernel.{IsCondition}
 use Rattle.iteration_domains.specs.Rows.{iterator, within_loop}
 use Rattle.iteration_domains.specs.Sizes.{CanCompose}
-use Rattle.iteration_domains.proofs.Entering.{can_compose, sized-within}
+use Rattle.iteration_domains.proofs.Surroundings.{can_compose, sized-within}
 use Rattle.iteration_domains.proofs.Sizes.{sizes-within}
 use Rattle.iteration_domains.proofs.rows.StatementRows.enter_loop.Goals as goal
 

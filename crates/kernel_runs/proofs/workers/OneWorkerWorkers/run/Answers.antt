@@ -1,5 +1,5 @@
 use Rattle.std.proofs.Common.{◌∙◌}
-use Rattle.kernel_runs.proofs.Ending.{alone_executed}
+use Rattle.kernel_runs.proofs.FinalCells.{alone_executed}
 use Rattle.kernel_runs.proofs.workers.OneWorkerWorkers.run.Goals as goal
 
 pub returns-clause-arrays : goal.returns-clause-arrays

@@ -9,8 +9,8 @@ use Rattle.loop_tree.specs.View.{nodes_of, trees_in}
 use Rattle.loop_tree.specs.Walk.{visits}
 use Rattle.loop_tree.specs.declared.spot.Mark.{Mark as CodeMark}
 use Rattle.loop_tree.specs.declared.tree.Node.{Node}
-use Rattle.loop_tree.proofs.Going.{at_repeated, deep_some, rest_repeated}
-use Rattle.loop_tree.proofs.Stretched.{nothing_left}
+use Rattle.loop_tree.proofs.VisitPlaces.{at_repeated, deep_some, rest_repeated}
+use Rattle.loop_tree.proofs.Stretches.{nothing_left}
 use Rattle.loop_tree.proofs.spot.Spot.of.Goals as goal
 
 -- src/spot.rt:297:5

@@ -1,6 +1,6 @@
 use Rattle.std.proofs.Common.{take}
 use Rattle.scop_syntax.specs.View.{instance_of}
-use Rattle.loop_tree.proofs.Stretched.{first_held}
+use Rattle.loop_tree.proofs.Stretches.{first_held}
 use Rattle.loop_tree.proofs.stretch.Stretch.next.Goals as goal
 
 pub stepped-self-requires : goal.stepped-self-requires

@@ -2,7 +2,7 @@ use Rattle.std.proofs.Common.{rules, ◌≡◌, ◌≤◌, ◌-◌, ◌++◌, []
 use Rattle.std.proofs.Common.{◌∙◌, arith}
 use Rattle.quast_trees.specs.Postfix.{standing}
 use Rattle.quast_trees.specs.declared.node.Node.TheVariants as node
-use Rattle.quast_trees.proofs.Stacking.{length-starts, joins}
+use Rattle.quast_trees.proofs.TreeStack.{length-starts, joins}
 use Rattle.quast_trees.proofs.builder.Builder.branch.Goals as goal
 
 pub overflow_sub-top : goal.overflow_sub-top

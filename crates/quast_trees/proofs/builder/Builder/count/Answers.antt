@@ -1,7 +1,7 @@
 use Rattle.std.proofs.Common.{rules, ◌≡◌, List, length, ap, ◌∙◌}
 use Rattle.quast_trees.specs.Postfix.{standing}
 use Rattle.quast_trees.specs.declared.node.Node.{Node}
-use Rattle.quast_trees.proofs.Stacking.{length-starts}
+use Rattle.quast_trees.proofs.TreeStack.{length-starts}
 use Rattle.quast_trees.proofs.builder.Builder.count.Goals as goal
 
 pub returns : goal.returns

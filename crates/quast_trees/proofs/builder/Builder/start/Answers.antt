@@ -2,7 +2,7 @@ use Rattle.std.proofs.Common.{rules, ◌≡◌, ◌++◌, ◌∷◌, [], List, �
 use Rattle.std.proofs.Math.Seq.{take-append_seam}
 use Rattle.quast_trees.specs.Postfix.{IsStack, built, standing}
 use Rattle.quast_trees.specs.declared.node.Node.{Node}
-use Rattle.quast_trees.proofs.Stacking.{standing-more, started}
+use Rattle.quast_trees.proofs.TreeStack.{standing-more, started}
 use Rattle.quast_trees.proofs.builder.Builder.start.Goals.{After-truncate}
 use Rattle.quast_trees.proofs.builder.Builder.start.Goals as goal
 

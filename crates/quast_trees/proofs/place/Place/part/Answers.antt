@@ -3,7 +3,7 @@ use Rattle.std.specs.Int.{w128}
 use Rattle.std.proofs.lemmas.Int.{to_z-of_z}
 use Rattle.quast_trees.specs.Place.{subtree}
 use Rattle.quast_trees.proofs.Places.{within, root_at}
-use Rattle.quast_trees.proofs.Placing.{initial_at, forms_at, branch_at, bind_at}
+use Rattle.quast_trees.proofs.PlaceNodes.{initial_at, forms_at, branch_at, bind_at}
 use Rattle.quast_trees.proofs.place.Place.part.Goals as goal
 
 pub bounds-nodes-self-inside : goal.bounds-nodes-self-inside

@@ -4,7 +4,7 @@ use Rattle.quast_trees.specs.Tree.{branch, Speaks}
 use Rattle.quast_trees.specs.Postfix.{held, tree_of, read, Postfix}
 use Rattle.quast_trees.specs.declared.node.Node.TheVariants as node
 use Rattle.quast_trees.proofs.quast.Quast.branch.Goals as goal
-use Rattle.quast_trees.proofs.Making.{branch_nodes, quast_of_tree, tree_of_held}
+use Rattle.quast_trees.proofs.QuastNodes.{branch_nodes, quast_of_tree, tree_of_held}
 
 pub ending-requires : goal.ending-requires
 ending-requires c =

@@ -1,7 +1,7 @@
 use Rattle.std.proofs.Common.{◌≡◌, ap, ◌∙◌, length, rules}
 use Rattle.quast_trees.specs.Tree.{count}
 use Rattle.quast_trees.specs.Postfix.{tree_of}
-use Rattle.quast_trees.proofs.Reading.{length-written}
+use Rattle.quast_trees.proofs.WrittenNodes.{length-written}
 use Rattle.quast_trees.proofs.quast.Quast.count.Goals as goal
 
 pub returns : goal.returns

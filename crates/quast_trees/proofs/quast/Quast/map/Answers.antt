@@ -5,8 +5,8 @@ use Rattle.quast_trees.specs.Postfix.{tree_of}
 use Rattle.quast_trees.specs.Mapped.{SuitsNode, node_run}
 use Rattle.quast_trees.specs.Tree.{Speaks}
 use Rattle.quast_trees.specs.declared.node.Node.{Node}
-use Rattle.quast_trees.proofs.Making.{quast_of_tree, tree_of_held}
-use Rattle.quast_trees.proofs.Mapping.{suits_written, maps_to, map_stops, map_run-speaks, map_run-value}
+use Rattle.quast_trees.proofs.QuastNodes.{quast_of_tree, tree_of_held}
+use Rattle.quast_trees.proofs.MappedTrees.{suits_written, maps_to, map_stops, map_run-speaks, map_run-value}
 use Rattle.quast_trees.proofs.quast.Quast.map.Goals as goal
 
 pub mapped_node-requires : goal.mapped_node-requires

@@ -1,5 +1,5 @@
 use Rattle.quast_trees.specs.Mapped.{node_run}
-use Rattle.quast_trees.proofs.Each.{EachSoFar}
+use Rattle.quast_trees.proofs.ListRuns.{EachSoFar}
 use Rattle.quast_trees.proofs.quast.Quast.map.Given as goal
 
 abbrev pub invariant-loop-node : goal.invariant-loop-node

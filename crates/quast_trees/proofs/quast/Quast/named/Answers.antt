@@ -3,8 +3,8 @@ use Rattle.std.proofs.lemmas.List.{length-map}
 use Rattle.quast_trees.specs.Source.{source_of}
 use Rattle.quast_trees.specs.Tree.{named, Speaks}
 use Rattle.quast_trees.specs.Postfix.{tree_of, named_node, written}
-use Rattle.quast_trees.proofs.Making.{quast_of_tree, tree_of_held}
-use Rattle.quast_trees.proofs.Named.{named-written, named-speaks, refilled}
+use Rattle.quast_trees.proofs.QuastNodes.{quast_of_tree, tree_of_held}
+use Rattle.quast_trees.proofs.NamedTrees.{named-written, named-speaks, refilled}
 use Rattle.quast_trees.proofs.quast.Quast.named.Goals as goal
 
 pub of_nodes-requires : goal.of_nodes-requires

@@ -2,8 +2,8 @@ use Rattle.std.proofs.Common.{◌≡◌, length, ap, ◌∙◌, arith}
 use Rattle.quast_trees.specs.Postfix.{tree_of}
 use Rattle.quast_trees.specs.Tree.{count}
 use Rattle.quast_trees.proofs.Places.{count_positive, at_end, subtree-is}
-use Rattle.quast_trees.proofs.Placing.{is_place}
-use Rattle.quast_trees.proofs.Reading.{length-written}
+use Rattle.quast_trees.proofs.PlaceNodes.{is_place}
+use Rattle.quast_trees.proofs.WrittenNodes.{length-written}
 use Rattle.quast_trees.proofs.quast.Quast.root.Goals as goal
 
 pub overflow_sub-result : goal.overflow_sub-result

@@ -8,8 +8,8 @@ use Rattle.quast_trees.specs.Tree.{Speaks}
 use Rattle.quast_trees.specs.Value.{bound_run}
 use Rattle.quast_trees.proofs.Exact.{value_run-exact, value-from_run}
 use Rattle.quast_trees.proofs.Places.{count_positive}
-use Rattle.quast_trees.proofs.Reading.{length-written}
-use Rattle.quast_trees.proofs.Standing.{inside, at_root, at_initial, at_forms, at_branch, at_bind}
+use Rattle.quast_trees.proofs.WrittenNodes.{length-written}
+use Rattle.quast_trees.proofs.Descents.{inside, at_root, at_initial, at_forms, at_branch, at_bind}
 use Rattle.quast_trees.proofs.quast.Quast.value_at.Goals as goal
 use Rattle.quast_trees.proofs.quast.Quast.value_at.Goals.{then-value-ge0, else-value-ge0}
 

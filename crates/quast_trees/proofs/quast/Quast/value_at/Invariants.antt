@@ -1,6 +1,6 @@
 use Rattle.quast_trees.specs.Postfix.{tree_of}
 use Rattle.quast_trees.specs.Value.{value_run}
-use Rattle.quast_trees.proofs.Standing.{Standing}
+use Rattle.quast_trees.proofs.Descents.{Standing}
 use Rattle.quast_trees.proofs.quast.Quast.value_at.Given as goal
 
 abbrev pub invariant-loop-at : goal.invariant-loop-at

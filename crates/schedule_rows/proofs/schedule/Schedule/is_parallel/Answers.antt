@@ -2,8 +2,8 @@ use Rattle.std.proofs.Common.{rules, ◌≡◌, ◌<◌, refl, ap, subst, arith,
 use Rattle.std.specs.Prelude.{slice_get}
 use Rattle.std.proofs.lemmas.Option.{slice_get_read}
 use Rattle.schedule_rows.specs.Schedule.{Scheduled, IsScheduled}
-use Rattle.schedule_rows.proofs.Began.{marked_at}
-use Rattle.schedule_rows.proofs.Listing.{as_many}
+use Rattle.schedule_rows.proofs.BandStarts.{marked_at}
+use Rattle.schedule_rows.proofs.BlockItems.{as_many}
 use Rattle.schedule_rows.proofs.schedule.Schedule.is_parallel.Goals as goal
 use Rattle.schedule_rows.proofs.schedule.Schedule.is_parallel.Goals.{After-self, After-index}
 

@@ -4,7 +4,7 @@ use Rattle.std.specs.Prelude.{Bool}
 use Rattle.schedule_rows.specs.declared.item.Band.{Band}
 use Rattle.schedule_rows.specs.declared.item.Block.TheVariants as code
 use Rattle.schedule_rows.specs.Schedule.{Item, item_of, block_of, items_of, bands_from, marks_of}
-use Rattle.schedule_rows.proofs.Listing.{items_next, bands_next, marks_next}
+use Rattle.schedule_rows.proofs.BlockItems.{items_next, bands_next, marks_next}
 use Rattle.schedule_rows.proofs.schedule.Schedule.of.Goals as goal
 
 pub loop-block-preserved : goal.loop-block-preserved

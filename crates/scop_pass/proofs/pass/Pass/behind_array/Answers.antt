@@ -6,7 +6,7 @@ use Rattle.scop_pass.specs.Machine.{State, expects, idle_step}
 use Rattle.scop_pass.specs.Machine as machine
 use Rattle.scop_pass.specs.Passing.{Comes, state_of}
 use Rattle.scop_units.specs.View.{words_in}
-use Rattle.scop_pass.proofs.Closing.{steps_of}
+use Rattle.scop_pass.proofs.CompletedHeads.{steps_of}
 use Rattle.scop_pass.proofs.pass.Pass.behind_array.Goals as goal
 
 pub returns-in_err-ranked : goal.returns-in_err-ranked

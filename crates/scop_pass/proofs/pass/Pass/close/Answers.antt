@@ -5,7 +5,7 @@ use Rattle.scop_syntax.specs.View.{test_of, tree_of}
 use Rattle.scop_pass.specs.Machine as machine
 use Rattle.scop_pass.specs.Passing.{frames_of, state_of}
 use Rattle.scop_units.specs.Programs.{wrapped}
-use Rattle.scop_pass.proofs.Closing.{close_guard, close_loop}
+use Rattle.scop_pass.proofs.CompletedHeads.{close_guard, close_loop}
 use Rattle.scop_pass.proofs.pass.Pass.close.Goals as goal
 
 pub returns-in_ok-wrap_guard-in-Some-Guarded-clause-state : goal.returns-in_ok-wrap_guard-in-Some-Guarded-clause-state

@@ -1,6 +1,6 @@
 use Rattle.std.proofs.Common.{◌≡◌, length, refl, sym, ◌∙◌, arith}
 use Rattle.scop_pass.specs.Passing.{state_of}
-use Rattle.scop_pass.proofs.Closing.{nothing_left}
+use Rattle.scop_pass.proofs.CompletedHeads.{nothing_left}
 use Rattle.scop_pass.proofs.pass.Pass.close_all.Goals as goal
 
 pub returns : goal.returns

@@ -3,7 +3,7 @@ use Rattle.scop_roles.specs.Faults.{first}
 use Rattle.scop_units.specs.Scopes.{entries}
 use Rattle.scop_units.specs.Units.{stored_faults}
 use Rattle.scop_units.specs.View.{scope_of, stored_of}
-use Rattle.scop_pass.proofs.Closing.{statement_front}
+use Rattle.scop_pass.proofs.CompletedHeads.{statement_front}
 use Rattle.scop_pass.proofs.pass.Pass.state.Goals as goal
 
 pub statement_of-requires : goal.statement_of-requires

@@ -7,7 +7,7 @@ use Rattle.kernel_grammar.specs.Turns.{piece_of, pieces_of}
 use Rattle.scop_pass.specs.Machine.{run}
 use Rattle.scop_pass.specs.Passing.{state_of}
 use Rattle.scop_units.specs.View.{words_in}
-use Rattle.scop_pass.proofs.Judged.{part_whole, part_run, run_on, split_at, stop_tells}
+use Rattle.scop_pass.proofs.KernelParts.{part_whole, part_run, run_on, split_at, stop_tells}
 use Rattle.scop_pass.proofs.pass.Pass.take.Goals as goal
 
 pub step-requires : goal.step-requires

@@ -3,7 +3,7 @@ use Rattle.std.proofs.lemmas.Result.{err_from_is_err_and}
 use Rattle.scop_pass.specs.Machine.{idle, stated}
 use Rattle.scop_pass.specs.Passing.{state_of}
 use Rattle.scop_units.specs.View.{stored_of}
-use Rattle.scop_pass.proofs.Closing.{unwound_faults}
+use Rattle.scop_pass.proofs.CompletedHeads.{unwound_faults}
 use Rattle.scop_pass.proofs.pass.Pass.valued.Goals as goal
 
 pub returns-in_err-stated : goal.returns-in_err-stated

@@ -1,7 +1,7 @@
 use Rattle.std.proofs.Common.{Bool, ap}
 use Rattle.scop_lexer.specs.Bytes.{Text}
 use Rattle.scop_units.specs.View.{scope_of}
-use Rattle.scop_units.proofs.Inserting.{among_inserted}
+use Rattle.scop_units.proofs.OrderedNames.{among_inserted}
 use Rattle.scop_units.proofs.scope.Scope.declare.Goals as goal
 
 pub returns-clause-scope : goal.returns-clause-scope

@@ -1,5 +1,5 @@
 use Rattle.std.proofs.Common.{◌∙◌}
-use Rattle.scop_units.proofs.Inserting.{among_found}
+use Rattle.scop_units.proofs.OrderedNames.{among_found}
 use Rattle.scop_units.proofs.scope.Scope.is_declared.Goals as goal
 
 pub returns : goal.returns

@@ -1,7 +1,7 @@
 use Rattle.lexmin_runs.specs.Nodes.{cut}
-use Rattle.lexmin_runs.proofs.Kept.{cut_keeps}
+use Rattle.lexmin_runs.proofs.KeptSolutions.{cut_keeps}
 use Rattle.tableau_nodes.specs.Node.{node_of}
-use Rattle.tableau_nodes.proofs.Moving.{moves-keep}
+use Rattle.tableau_nodes.proofs.NodeMoves.{moves-keep}
 use Rattle.tableau_nodes.proofs.node.Tableau.cut.Goals as goal
 
 pub returns-clause-solutions : goal.returns-clause-solutions

@@ -1,6 +1,6 @@
-use Rattle.lexmin_runs.proofs.Kept.{pivot_keeps}
+use Rattle.lexmin_runs.proofs.KeptSolutions.{pivot_keeps}
 use Rattle.tableau_nodes.specs.Node.{node_of}
-use Rattle.tableau_nodes.proofs.Moving.{pivots-keep}
+use Rattle.tableau_nodes.proofs.NodeMoves.{pivots-keep}
 use Rattle.tableau_nodes.proofs.node.Tableau.pivot.Goals as goal
 
 pub returns-clause-solutions : goal.returns-clause-solutions

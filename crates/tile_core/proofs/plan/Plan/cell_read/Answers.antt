@@ -6,7 +6,7 @@ use Rattle.scop_syntax.proofs.Members.{in_at}
 use Rattle.stmt_table.proofs.Visits.{WalkLaws}
 use Rattle.tile_core.specs.Plans.{extents_in, place_of, program_in}
 use Rattle.tile_core.proofs.Rows.{forms_counted, row_within, tells_cell}
-use Rattle.tile_core.proofs.Touched.{few_reads, place_within, read_is}
+use Rattle.tile_core.proofs.TouchedCells.{few_reads, place_within, read_is}
 use Rattle.tile_core.proofs.plan.Plan.cell_read.Goals as goal
 use Rattle.tile_core.proofs.plan.Plan.cell_read.Goals.{After-cells_lie_within_22_bits}
 

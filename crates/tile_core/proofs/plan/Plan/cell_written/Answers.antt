@@ -3,7 +3,7 @@ use Rattle.scop_syntax.specs.Execution.{total_cells}
 use Rattle.stmt_table.proofs.Visits.{WalkLaws}
 use Rattle.tile_core.specs.Plans.{extents_in, place_of}
 use Rattle.tile_core.proofs.Rows.{forms_counted, row_within, tells_cell}
-use Rattle.tile_core.proofs.Touched.{place_within, written_is}
+use Rattle.tile_core.proofs.TouchedCells.{place_within, written_is}
 use Rattle.tile_core.proofs.plan.Plan.cell_written.Goals as goal
 use Rattle.tile_core.proofs.plan.Plan.cell_written.Goals.{After-cells_lie_within_22_bits}
 

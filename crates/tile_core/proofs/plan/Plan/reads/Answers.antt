@@ -2,7 +2,7 @@ use Rattle.std.proofs.Common.{arith}
 use Rattle.stmt_table.proofs.Visits.{WalkLaws}
 use Rattle.tile_core.specs.Plans.{extents_in}
 use Rattle.tile_core.proofs.Rows.{forms_counted, row_within}
-use Rattle.tile_core.proofs.Touched.{few_reads}
+use Rattle.tile_core.proofs.TouchedCells.{few_reads}
 use Rattle.tile_core.proofs.plan.Plan.reads.Goals as goal
 use Rattle.tile_core.proofs.plan.Plan.reads.Goals.{After-statements_are_numbered}
 

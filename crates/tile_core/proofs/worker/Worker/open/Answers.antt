@@ -1,6 +1,6 @@
 use Rattle.std.proofs.Common.{◌∙◌, refl, sym}
 use Rattle.loop_tree.specs.View.{trees_in}
-use Rattle.loop_tree.proofs.Alike.{spot_alike}
+use Rattle.loop_tree.proofs.SameSpots.{spot_alike}
 use Rattle.tile_core.proofs.Workers.{at_work, first_is}
 use Rattle.tile_core.proofs.worker.Worker.open.Goals as goal
 

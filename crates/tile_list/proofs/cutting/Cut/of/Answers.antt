@@ -1,5 +1,5 @@
 use Rattle.loop_tree.specs.TilingView.{tiling_of}
-use Rattle.tile_list.proofs.Ending.{begins}
+use Rattle.tile_list.proofs.WholeLists.{begins}
 use Rattle.tile_list.proofs.cutting.Cut.of.Goals as goal
 
 pub returns : goal.returns

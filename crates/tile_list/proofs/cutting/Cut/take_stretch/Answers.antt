@@ -1,7 +1,7 @@
 use Rattle.std.proofs.Common.{subst}
 use Rattle.loop_tree.specs.TilingView.{tiling_of}
 use Rattle.tile_list.specs.steps.Keys.{HasKey}
-use Rattle.tile_list.proofs.Taking.{passes}
+use Rattle.tile_list.proofs.TakenInstances.{passes}
 use Rattle.tile_list.proofs.cutting.Cut.take_stretch.Goals as goal
 
 pub returns : goal.returns

@@ -3,8 +3,8 @@ use Rattle.scop_syntax.specs.View.{instance_of}
 use Rattle.loop_tree.specs.TilingView.{tiling_of}
 use Rattle.tile_list.specs.Tiles.{InOneTile, RowsFit}
 use Rattle.tile_list.specs.steps.Stretching.{instance_at}
-use Rattle.tile_list.proofs.Stretching.{at_left, held_at, stretch_in_tile}
-use Rattle.tile_list.proofs.Taking.{keys_tell}
+use Rattle.tile_list.proofs.Stretches.{at_left, held_at, stretch_in_tile}
+use Rattle.tile_list.proofs.TakenInstances.{keys_tell}
 use Rattle.tile_list.proofs.keys.Key.is_of_stretch.Goals as goal
 
 pub after-requires : goal.after-requires

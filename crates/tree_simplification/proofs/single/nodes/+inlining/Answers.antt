@@ -16,7 +16,7 @@ use Rattle.tree_simplification.proofs.Nodes.{all_gone, alone_gone, can_at, can_n
 use Rattle.tree_simplification.proofs.Nodes.{leaf_can, leaf_goes, loop_can, loop_goes, loop_stays, none_gone}
 use Rattle.tree_simplification.proofs.Nodes.{once_sized}
 use Rattle.tree_simplification.proofs.Nodes.{one_gone, with_node}
-use Rattle.tree_simplification.proofs.Composed.{place_sized}
+use Rattle.tree_simplification.proofs.ComposedForms.{place_sized}
 use Rattle.tree_simplification.proofs.single.nodes.+inlining.Goals as goal
 
 pub inline_nodes-loop-node-init : goal.inline_nodes-loop-node-init

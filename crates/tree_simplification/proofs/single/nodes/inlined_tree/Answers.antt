@@ -4,7 +4,7 @@ use Rattle.iteration_domains.specs.Rows.{variables}
 use Rattle.loop_tree.specs.View.{nodes_of, trees_in}
 use Rattle.loop_tree.specs.declared.tree.Node.{Node}
 use Rattle.tree_simplification.specs.steps.Inlined.{CanInline, Inlines}
-use Rattle.tree_simplification.proofs.Inlining.{inlined_whole}
+use Rattle.tree_simplification.proofs.InlinedNodes.{inlined_whole}
 use Rattle.tree_simplification.proofs.Nodes.{alone_gone, at_place, can_at, whole_can}
 use Rattle.tree_simplification.proofs.single.nodes.inlined_tree.Goals as goal
 

@@ -1,0 +1,274 @@
+-- A candidate of a kernel's model can be posed: nothing on the way is too wide.
+use Rattle.std.proofs.Common.{◌≡◌, ℕ, zero, suc, ◌<◌, ◌+◌, ◌-◌, ◌*◌, ◌^◌, ◌≤◌, ℤ, negsuc, List, [], ◌∷◌, ◌++◌, length}
+use Rattle.std.proofs.Common.{map}
+use Rattle.std.proofs.Common.{Some, take, drop, get_or, ap, ap₂, subst, sym, ◌∙◌, refl, arith, length-append}
+use Rattle.std.specs.Prelude.{All, slice_get, nat_lt}
+use Rattle.std.specs.List.{flat_map}
+use Rattle.std.proofs.lemmas.List.{length-map}
+use Rattle.std.proofs.lemmas.List.Elements.{All-nil, All-cons, All-head, All-tail, All-append}
+use Rattle.whole_numbers.specs.Affine.{Affine, composed}
+use Rattle.affine_forms.specs.Parts.{variables_of}
+use Rattle.integer_sets.specs.Constraints.{Constraints, variables_in}
+use Rattle.scop_syntax.specs.Kernel.{AreAtMost, IsKernel, IsPlaced, ranks_of}
+use Rattle.scop_syntax.specs.Members.{In}
+use Rattle.scop_syntax.specs.Order.{common}
+use Rattle.scop_syntax.specs.Statements.{Placed, statements_of}
+use Rattle.scop_syntax.specs.Tree.{Program}
+use Rattle.scop_syntax.proofs.Members.{in_map_from, in_if_from, in_from_place}
+use Rattle.iteration_domains.specs.Rows.{variable, variables}
+use Rattle.iteration_domains.specs.Constraints.{equalities_in, rows_in}
+use Rattle.iteration_domains.specs.Model.{Modelled, KernelModel, modelled, model_of}
+use Rattle.iteration_domains.specs.Dependence.{Dependence}
+use Rattle.iteration_domains.specs.Sizes.{size, form_size, forms_size, CanCompose, IsKernelModel}
+use Rattle.iteration_domains.proofs.TreeStatements.{model_is_one}
+use Rattle.iteration_domains.proofs.Sizes.{size-multiple, size-variable, size-variables}
+use Rattle.iteration_domains.proofs.Surroundings.{length-variables, sized-variables}
+use Rattle.conflict_deps.specs.Conflicts.{Side, sides_in, loops_of, pair_size, dep_of, afters_of, may_conflict}
+use Rattle.conflict_deps.specs.Conflicts.{deps_between, conflicts_of, source_form, target_form, cell_rows}
+use Rattle.conflict_deps.specs.Parts.{HasParts}
+use Rattle.conflict_deps.proofs.Sides.{in_flat_map_from}
+use Rattle.dataflow.specs.Posed.{CanPose, IsSmall}
+use Rattle.dataflow.specs.Problems.{top, below, all_below, turned_variables, moved_variables, flat, own}
+use Rattle.dataflow.specs.Problems.{own_equalities_of, turned}
+use Rattle.dataflow.proofs.Lists.{equalities_put}
+use Rattle.dataflow.proofs.LastWriters.{size-below, length-all_below}
+use Rattle.dataflow.proofs.Sizes.{AreSmall, all_small, side_small, statement_of_model, order_small, between_small}
+
+-- all numbers of a conflict's system are small
+system_small : (program : Program) (dep : Dependence) → IsKernel program
+    → ((q : Placed) → In q (statements_of program) → IsPlaced (ranks_of program) (length program.parameters) q)
+    → In dep (conflicts_of (model_of program)) → AreSmall dep.system.equalities × AreSmall dep.system.rows
+system_small program dep is placed h =
+    let m = length program.parameters in
+    let all = sides_in (model_of program) in
+    let s = in_flat_map_from (λ (s : Side). flat_map (deps_between m s) all) all dep h in
+    let t = in_flat_map_from (deps_between m s.0) all dep s.2 in
+    let b = in_if_from (may_conflict s.0 t.0) dep (map (dep_of m s.0 t.0) (afters_of m s.0 t.0)) t.2 in
+    let a = in_map_from (dep_of m s.0 t.0) dep (afters_of m s.0 t.0) b.1 in
+    let own = side_small program s.0 is placed s.1 in
+    let other = side_small program t.0 is placed t.1 in
+    let order = order_small (pair_size m s.0 t.0) (loops_of s.0) 0
+    (common s.0.statement.loops t.0.statement.loops) (nat_lt s.0.statement.number t.0.statement.number) a.0 a.1 in
+    let small = between_small m s.0 t.0 a.0 own other order in (
+      subst (λ (d : Dependence). AreSmall d.system.equalities) (sym a.2) small.0,
+      subst (λ (d : Dependence). AreSmall d.system.rows) (sym a.2) small.1,
+    )
+
+-- so it can be posed
+pub can_pose : (program : Program) (dep : Dependence) (p : HasParts (model_of program) dep) → IsKernel program
+    → ((q : Placed) → In q (statements_of program) → IsPlaced (ranks_of program) (length program.parameters) q)
+    → In dep (conflicts_of (model_of program))
+    → CanPose (length program.parameters) p.from.statement p.to.statement dep
+can_pose program dep p is placed h =
+    let model = model_of program in
+    let m = length program.parameters in
+    let s = p.from in
+    let t = p.to in
+    let ds = s.statement.domain in
+    let dt = t.statement.domain in
+    let small = system_small program dep is placed h in
+    let own = statement_of_model program s.statement is placed
+    (in_from_place model.statements dep.source.statement s.statement p.source) in
+    let other = statement_of_model program t.statement is placed
+    (in_from_place model.statements dep.target.statement t.statement p.target) in
+    let e1 = map (source_form (loops_of s) (loops_of t)) ds.equalities in
+    let e2 = map (target_form (loops_of s)) dt.equalities in
+    let e3 = equalities_in (cell_rows s t) ++ equalities_in p.order.rows in
+    let r1 = map (source_form (loops_of s) (loops_of t)) ds.rows in
+    let r2 = map (target_form (loops_of s)) dt.rows in
+    let r3 = rows_in p.order.rows in
+    let v = variables (pair_size m s t) (loops_of s + loops_of t) m in
+    let le = ap length p.equalities in
+    let le1 = length-append e1 (e2 ++ e3) in
+    let le2 = length-append e2 e3 in
+    let la = length-map ds.equalities (source_form (loops_of s) (loops_of t)) in
+    let lb = length-map dt.equalities (target_form (loops_of s)) in
+    let lr = ap length p.rows in
+    let lr1 = length-append r1 (r2 ++ (r3 ++ v)) in
+    let lr2 = length-append r2 (r3 ++ v) in
+    let lr3 = length-append r3 v in
+    let lc = length-map ds.rows (source_form (loops_of s) (loops_of t)) in
+    let ld = length-map dt.rows (target_form (loops_of s)) in
+    let lv = length-variables (pair_size m s t) (loops_of s + loops_of t) m in
+    record {
+      few = is.few_parameters;
+      few_turns = own.few;
+      few_reader_turns = other.few;
+      parameters = other.parameters;
+      variables = ap (λ (d : Dependence). variables_in d.system) p.is;
+      equalities = omega arith;
+      rows = omega arith;
+      small_equalities = all_small dep.system.equalities small.0;
+      small_rows = all_small dep.system.rows small.1;
+      small_reader_equalities = all_small dt.equalities other.equalities;
+      small_reader_rows = all_small dt.rows other.rows;
+    }
+
+-- the sizes of what is put in
+size-one_below : (n j : ℕ) → form_size (below top n j) ≤ 2 ^ 46 + 1
+size-one_below n j =
+    let m = size-multiple (negsuc 0) (variable n j) in
+    let v = size-variable n j in
+    omega arith
+
+sizes-below : (n j m : ℕ) → forms_size (all_below top n j m) ≤ m * (2 ^ 46 + 1)
+sizes-below n j zero = omega arith
+sizes-below n j (suc m) = let b = size-one_below n j in let r = sizes-below n (j + 1) m in omega arith
+
+sizes-append : (fs gs : List Affine) → forms_size (fs ++ gs) ≡ forms_size fs + forms_size gs
+sizes-append [] gs = omega arith
+sizes-append (f ∷ fs) gs = let r = sizes-append fs gs in omega arith
+
+entries_at_most : (k : ℕ) (zs : List ℤ) → size zs ≤ k → AreAtMost k zs
+entries_at_most k [] h = tt
+entries_at_most k (z ∷ zs) h = (omega arith, entries_at_most k zs (omega arith))
+
+-- small forms can be composed with small ones
+can_compose : (n k : ℕ) (inner fs : List Affine) → length inner ≡ k → All (λ g. variables_of g ≡ n) inner
+    → forms_size inner ≤ 2 ^ 50 → All (λ f. variables_of f ≡ k) fs → All IsSmall fs → All (CanCompose n inner) fs
+can_compose n k inner [] count sized few over small = All-nil (CanCompose n inner)
+can_compose n k inner (f ∷ fs) count sized few over small =
+    let own = All-head (λ f. variables_of f ≡ k) f fs over in
+    let s = All-head IsSmall f fs small in
+    All-cons (CanCompose n inner) f fs
+    (record {
+      count = count ∙ sym own;
+      sized = sized;
+      greatest = 2 ^ 48;
+      entries = entries_at_most (2 ^ 48) f.coefficients (omega arith);
+      small = omega arith;
+    })
+    (can_compose n k inner fs count sized few (All-tail (λ f. variables_of f ≡ k) f fs over)
+    (All-tail IsSmall f fs small))
+
+-- those of a conflict's system, of d and e turns and m parameters
+pub turned_can : (d m e : ℕ) (fs : List Affine) → d ≤ 5 → m ≤ 4 → e ≤ 5
+    → All (λ f. variables_of f ≡ d + e + m) fs → All IsSmall fs
+    → All (CanCompose (d + (m + e)) (turned_variables d m e)) fs
+turned_can d m e fs hd hm he over small =
+    let n = d + (m + e) in
+    let P : Affine → Type 0 = λ g. variables_of g ≡ n in
+    let a = all_below top n 0 d in
+    let b = variables n (d + m) e in
+    let c = variables n d m in
+    let la = length-all_below top n 0 d in
+    let lb = length-variables n (d + m) e in
+    let lc = length-variables n d m in
+    let l = length-append a (b ++ c) in
+    let l2 = length-append b c in
+    let s = sizes-append a (b ++ c) in
+    let s2 = sizes-append b c in
+    let sa = sizes-below n 0 d in
+    let sb = size-variables n (d + m) e in
+    let sc = size-variables n d m in
+    can_compose n (d + e + m) (turned_variables d m e) fs (omega arith)
+    (All-append P a (b ++ c) (size-below top n 0 d)
+    (All-append P b c (sized-variables n (d + m) e) (sized-variables n d m)))
+    (omega arith) over small
+
+-- those of the reader's domain
+pub moved_can : (m e : ℕ) (fs : List Affine) → m ≤ 4 → e ≤ 5 → All (λ f. variables_of f ≡ e + m) fs → All IsSmall fs
+    → All (CanCompose (m + e) (moved_variables m e)) fs
+moved_can m e fs hm he over small =
+    let n = m + e in
+    let P : Affine → Type 0 = λ g. variables_of g ≡ n in
+    let b = variables n m e in
+    let c = variables n 0 m in
+    let lb = length-variables n m e in
+    let lc = length-variables n 0 m in
+    let l = length-append b c in
+    let s = sizes-append b c in
+    let sb = size-variables n m e in
+    let sc = size-variables n 0 m in
+    can_compose n (e + m) (moved_variables m e) fs (omega arith)
+    (All-append P b c (sized-variables n m e) (sized-variables n 0 m)) (omega arith) over small
+
+-- a list of a conflict's system, by what the calls lend
+pub own_can : (m : ℕ) (s t : Modelled) (dep : Dependence) (system : Constraints) (inner : List Affine) (a b : ℕ)
+    (fs whole : List Affine) → CanPose m s t dep → system ≡ dep.system
+    → inner ≡ turned_variables s.domain.dimensions m t.domain.dimensions → a ≡ s.domain.dimensions
+    → b ≡ t.domain.dimensions → All (λ f. variables_of f ≡ variables_in system) fs → fs ≡ whole → All IsSmall whole
+    → All (CanCompose (a + (m + b)) inner) fs
+own_can m s t dep system inner a b fs whole can same is la lb over whole_is small =
+    let d = s.domain.dimensions in
+    let e = t.domain.dimensions in
+    subst (λ (gs : List Affine). All (CanCompose (a + (m + b)) gs) fs) (sym is)
+    (subst (λ (k : ℕ). All (CanCompose k (turned_variables d m e)) fs)
+    (sym (ap₂ (λ (i k : ℕ). i + (m + k)) la lb))
+    (turned_can d m e fs can.few_turns can.few can.few_reader_turns
+    (subst (λ (k : ℕ). All (λ f. variables_of f ≡ k) fs) (ap variables_in same ∙ can.variables) over)
+    (subst (λ (gs : List Affine). All IsSmall gs) (sym whole_is) small)))
+
+-- its equalities, put together
+pub own_put : (m : ℕ) (s t : Modelled) (dep : Dependence) (inner : List Affine) (a b k j : ℕ)
+    (fs start first second : List Affine) → inner ≡ turned_variables s.domain.dimensions m t.domain.dimensions
+    → a ≡ s.domain.dimensions → b ≡ t.domain.dimensions → k ≡ length s.domain.equalities
+    → j ≡ length t.domain.equalities → fs ≡ dep.system.equalities
+    → first ≡ start ++ flat (map (λ f. composed f inner (a + (m + b))) (take k fs))
+    → second ≡ first ++ flat (map (λ f. composed f inner (a + (m + b))) (take (length fs - (k + j)) (drop (k + j) fs)))
+    → second ≡ start ++ flat (map (turned s.domain.dimensions m t.domain.dimensions) (own_equalities_of s t dep))
+own_put m s t dep inner a b k j fs start first second is la lb lk lj whole_is one two =
+    let d = s.domain.dimensions in
+    let e = t.domain.dimensions in
+    equalities_put (λ f. composed f inner (a + (m + b))) fs k j start first second one two
+    ∙ (ap₂ (λ (gs : List Affine) (i : ℕ). start ++ flat (map (λ f. composed f gs i) (own k j fs))) is
+    (ap₂ (λ (i k : ℕ). i + (m + k)) la lb)
+    ∙ (ap₂ (λ (x y : ℕ). start ++ flat (map (turned d m e) (own x y fs))) lk lj
+    ∙ ap (λ (gs : List Affine). start ++ flat (map (turned d m e)
+    (own (length s.domain.equalities) (length t.domain.equalities) gs))) whole_is))
+
+-- a list of the reader's domain
+pub reader_can : (m e : ℕ) (t : Modelled) (system : Constraints) (inner fs whole : List Affine) → m ≤ 4 → e ≤ 5
+    → system ≡ t.domain → t.domain.parameters ≡ m → e ≡ t.domain.dimensions → inner ≡ moved_variables m e
+    → All (λ f. variables_of f ≡ variables_in system) fs → fs ≡ whole → All IsSmall whole
+    → All (CanCompose (m + e) inner) fs
+reader_can m e t system inner fs whole hm he same count long is over whole_is small =
+    let n : variables_in system ≡ e + m =
+    ap variables_in same ∙ ap₂ (λ (i k : ℕ). i + k) (sym long) count in
+    subst (λ (gs : List Affine). All (CanCompose (m + e) gs) fs) (sym is)
+    (moved_can m e fs hm he (subst (λ (k : ℕ). All (λ f. variables_of f ≡ k) fs) n over)
+    (subst (λ (gs : List Affine). All IsSmall gs) (sym whole_is) small))
+
+-- a candidate's statements, between which it can be posed
+pub record IsReady (model : KernelModel) (dep : Dependence) : Type 0 where
+  pub writer : Modelled
+  pub reader : Modelled
+  pub source : slice_get model.statements dep.source.statement ≡ Some writer
+  pub target : slice_get model.statements dep.target.statement ≡ Some reader
+  pub can : CanPose model.parameters writer reader dep
+
+pub ready : (program : Program) (model : KernelModel) (dep : Dependence) → IsKernel program → model ≡ model_of program
+    → ((p q : Placed) → In p (statements_of program) → In q (statements_of program) → p.number ≡ q.number → p ≡ q)
+    → ((k : ℕ) (p : Placed) → slice_get (statements_of program) k ≡ Some p → p.number ≡ k)
+    → ((q : Placed) → In q (statements_of program) → IsPlaced (ranks_of program) (length program.parameters) q)
+    → ((m : KernelModel) (d : Dependence) → IsKernelModel m → In d (conflicts_of m) → HasParts m d)
+    → In dep (conflicts_of model) → IsReady model dep
+ready program model dep is e same number placed parts =
+    subst (λ (m : KernelModel). In dep (conflicts_of m) → IsReady m dep) (sym e) (λ h.
+    let m = length program.parameters in
+    let one = model_is_one program m (map (modelled m) (statements_of program)) is same number refl in
+    let p = parts (model_of program) dep one h in
+    record {
+      writer = p.from.statement;
+      reader = p.to.statement;
+      source = p.source;
+      target = p.target;
+      can = can_pose program dep p is placed h;
+    })
+
+-- what stands at a place
+pub inside_of : {A : Type 0} (xs : List A) (k : ℕ) (x : A) → slice_get xs k ≡ Some x → k < length xs
+inside_of [] k x h = absurd cc
+inside_of (y ∷ xs) zero x h = omega arith
+inside_of (y ∷ xs) (suc k) x h = let r = inside_of xs k x h in omega arith
+
+pub got_or : {A : Type 0} (xs : List A) (k : ℕ) (x d : A) → slice_get xs k ≡ Some x → get_or xs k d ≡ x
+got_or [] k x d h = absurd cc
+got_or (y ∷ xs) zero x d h = cc
+got_or (y ∷ xs) (suc k) x d h = got_or xs k x d h
+
+-- the statement at an index
+pub item_is : (ss whole : List Modelled) (k j : ℕ) (item x : Modelled) → ss ≡ whole → k ≡ j → item ≡ get_or ss k item
+    → slice_get whole j ≡ Some x → item ≡ x
+item_is ss whole k j item x same at found h =
+    found ∙ (ap₂ (λ (us : List Modelled) (i : ℕ). get_or us i item) same at ∙ got_or whole j x item h)

@@ -1,0 +1,339 @@
+-- Sources are what a text can tell: their quasts speak of the variables at their places, and name instances.
+use Rattle.std.proofs.Common.{◌≡◌, ℕ, zero, suc, ◌+◌, ◌^◌, ◌<◌, ◌≤◌, Bool, true, false, List, [], ◌∷◌, ◌++◌, length}
+use Rattle.std.proofs.Common.{All, ◌-◌}
+use Rattle.std.proofs.Common.{Option, Some, None, Result, Ok, Err, refl, sym, ap, subst, ◌∙◌, arith, inl, inr}
+use Rattle.std.specs.Prelude.{⊤, nat_eq, nat_lt, if◌then◌else◌, slice_get}
+use Rattle.std.proofs.lemmas.List.Elements.{All-head, All-tail}
+use Rattle.std.proofs.lemmas.List.{length-map}
+use Rattle.whole_numbers.specs.Affine.{Affine}
+use Rattle.wide_math.specs.Checked.{◌>>=◌}
+use Rattle.wide_math.proofs.Steps.{chain-ok}
+use Rattle.affine_forms.specs.Runs.{compose_run}
+use Rattle.pip_solver.specs.declared.stop.Stop.TheVariants as solver
+use Rattle.tableau_rows.specs.Run as run
+use Rattle.lexmin_runs.proofs.KeptSolutions.{lexmin-speaks}
+use Rattle.quast_trees.specs.Source.{Source, Forms, source_of}
+use Rattle.quast_trees.specs.Tree.{Tree, initial, leaf, branch, bind, count, named, Speaks, LeavesHave}
+use Rattle.quast_trees.specs.Mapped.{composed_run, leaf_run, map_run}
+use Rattle.quast_trees.proofs.ListRuns.{each_run-map}
+use Rattle.quast_trees.specs.Postfix.{tree_of}
+use Rattle.quast_trees.proofs.MappedTrees.{map_run-speaks}
+use Rattle.quast_trees.proofs.NamedTrees.{named-speaks}
+use Rattle.quast_joins.specs.Counts.{join_count, HasForms}
+use Rattle.quast_joins.specs.Joins.{test_of, last_leaf, chain, meet, under, moved, join_from, join}
+use Rattle.quast_joins.specs.Limits.{node_limit}
+use Rattle.quast_joins.specs.Shifts.{shifted_leaf, widened}
+use Rattle.quast_joins.specs.Ways.{statement_of, loops_of, text}
+use Rattle.quast_joins.specs.declared.way.Way.{Way}
+use Rattle.quast_joins.specs.declared.way.Way.TheVariants.{Later}
+use Rattle.quast_joins.proofs.Counts.{join-count, join-forms}
+use Rattle.quast_joins.proofs.Variables.{join-speaks}
+use Rattle.scop_syntax.specs.Members.{In}
+use Rattle.scop_syntax.specs.Statements.{Placed, loops_in, statements_of}
+use Rattle.scop_syntax.specs.Tree.{Program}
+use Rattle.scop_syntax.proofs.Members.{in_from_place, in_map_from, place_of}
+use Rattle.iteration_domains.specs.Dependence.{Dependence}
+use Rattle.iteration_domains.specs.Model.{Modelled, KernelModel, model_of, modelled}
+use Rattle.conflict_deps.specs.Conflicts.{conflicts_of}
+use Rattle.dataflow.specs.ReadSources.{AreSources, IsSourceOf, TellsStop, reads_from, reads_of_statement, reads_in, reads_of}
+use Rattle.dataflow.specs.LastRuns as last
+use Rattle.dataflow.specs.LastRuns.{Stopped, last_run, solve_run, solve_between, is_candidate, candidates_of, turns_in}
+use Rattle.dataflow.specs.LastRuns.{read_variables}
+use Rattle.dataflow.specs.Problems.{top, all_below, posed_rows, posed_context}
+use Rattle.dataflow.specs.Runs.{Halt, nodes, then_join, sources_run}
+use Rattle.dataflow.specs.Steps.{IsHeldSource}
+use Rattle.dataflow.specs.Told.{IsInstance, NamesInstances, IsToldStop, IsToldOver, IsToldAt, AreTold}
+use Rattle.dataflow.specs.declared.source.ReadSource.{ReadSource}
+use Rattle.dataflow.specs.declared.source.ReadSource.TheVariants as source
+use Rattle.dataflow.specs.declared.source.SourceStop.TheVariants as stop
+use Rattle.dataflow.proofs.CandidateRuns.{reader_is}
+use Rattle.dataflow.proofs.LastWriters.{chosen_in, posed-speaks, context-speaks, solved_of, length-all_below}
+
+-- ---- leaves name instances
+
+-- a named tree
+named-instances : (model : KernelModel) (s : Source) (t : Tree) → IsInstance model (Some s)
+    → NamesInstances model (named s t)
+named-instances model s initial h = tt
+named-instances model s (leaf l) h = h
+named-instances model s (branch test x y) h = (named-instances model s x h, named-instances model s y h)
+named-instances model s (bind f d x) h = named-instances model s x h
+
+-- a choice of two trees
+either_names : (b : Bool) (model : KernelModel) (x y : Tree) → NamesInstances model x → NamesInstances model y
+    → NamesInstances model (if b then x else y)
+either_names true model x y h k = h
+either_names false model x y h k = k
+
+-- the tests over the common loops
+chain_names : (way : Way) (model : KernelModel) (a b end : Tree) (ks ls : List ℕ) (fs gs : List Affine)
+    → NamesInstances model a → NamesInstances model b → NamesInstances model end
+    → NamesInstances model (chain way a b end ks ls fs gs)
+chain_names way model a b end [] ls fs gs p q r = r
+chain_names way model a b end (i ∷ ks) [] fs gs p q r = r
+chain_names way model a b end (i ∷ ks) (l ∷ ls) [] gs p q r = r
+chain_names way model a b end (i ∷ ks) (l ∷ ls) (f ∷ fs) [] p q r = r
+chain_names way model a b end (i ∷ ks) (l ∷ ls) (f ∷ fs) (g ∷ gs) p q r =
+    either_names (nat_eq i l) model
+    (branch (test_of way f g) a (branch (test_of way g f) b (chain way a b end ks ls fs gs))) end
+    (p, (q, chain_names way model a b end ks ls fs gs p q r)) r
+
+-- where two leaves meet
+meet_names : (way : Way) (model : KernelModel) (a b : Forms) → NamesInstances model (leaf a)
+    → NamesInstances model (leaf b) → NamesInstances model (meet way a b)
+meet_names way model a b p q =
+    chain_names way model (leaf a) (leaf b) (last_leaf way a b) (loops_of a.source) (loops_of b.source) a.forms
+    b.forms p q (either_names (text way (statement_of a.source) (statement_of b.source)) model (leaf a) (leaf b) p q)
+
+-- a tree under a leaf
+under_names : (way : Way) (model : KernelModel) (n k : ℕ) (a : Forms) (j : ℕ) (b : Tree)
+    → NamesInstances model (leaf a) → NamesInstances model b → NamesInstances model (under way n k a j b)
+under_names way model n k a j initial h s = h
+under_names way model n k a j (leaf b) h s = meet_names way model (widened j a) (shifted_leaf n k b) h s
+under_names way model n k a j (branch f x y) h s =
+    (under_names way model n k a j x h s.0, under_names way model n k a j y h s.1)
+under_names way model n k a j (bind f d x) h s = under_names way model n k a (suc j) x h s
+
+-- a tree under the initial value
+moved_names : (model : KernelModel) (n k : ℕ) (b : Tree) → NamesInstances model b → NamesInstances model (moved n k b)
+moved_names model n k initial s = tt
+moved_names model n k (leaf b) s = s
+moved_names model n k (branch f x y) s = (moved_names model n k x s.0, moved_names model n k y s.1)
+moved_names model n k (bind f d x) s = moved_names model n k x s
+
+-- a join
+join_names : (way : Way) (model : KernelModel) (n k : ℕ) (a b : Tree) → NamesInstances model a
+    → NamesInstances model b → NamesInstances model (join_from way n k a b)
+join_names way model n k initial b h s = moved_names model n k b s
+join_names way model n k (leaf a) b h s = under_names way model n k a 0 b h s
+join_names way model n k (branch f x y) b h s =
+    (join_names way model n k x b h.0 s, join_names way model n k y b h.1 s)
+join_names way model n k (bind f d x) b h s = join_names way model n (suc k) x b h s
+
+-- ---- leaves have a form for each loop
+
+-- a mapped tree has those of the map
+mapped-forms : (forms : List Affine) (t u : Tree) → map_run forms t ≡ Ok u → LeavesHave (length forms) u
+mapped-forms forms initial u h = let e : u ≡ initial = cc in rw e tt
+mapped-forms forms (leaf l) u h =
+    let c = chain-ok (leaf_run forms l) (λ m. Ok (leaf m)) u h in
+    let d = chain-ok (composed_run forms l.forms l.variables) (λ gs. Ok (record l { forms = gs })) c.0 c.1 in
+    let none : Affine → ℕ = λ f. 0 in
+    let composed = λ (f : Affine). compose_run f l.forms l.variables in
+    let same = each_run-map {C = ℕ} composed none none (λ f g run. refl) forms d.0 d.1 in
+    let size : length d.0 ≡ length forms =
+    sym (length-map d.0 none) ∙ (ap length same ∙ length-map forms none) in
+    let e : u ≡ leaf (record l { forms = d.0 }) = cc (c.2, d.2) in
+    rw e size
+mapped-forms forms (branch test a b) u h =
+    let c = chain-ok (map_run forms a) (λ x. map_run forms b >>= λ y. Ok (branch test x y)) u h in
+    let d = chain-ok (map_run forms b) (λ y. Ok (branch test c.0 y)) u c.2 in
+    let e : u ≡ branch test c.0 d.0 = cc (d.2) in
+    rw e (mapped-forms forms a c.0 c.1, mapped-forms forms b d.0 d.1)
+mapped-forms forms (bind f divisor t) u h =
+    let c = chain-ok (map_run forms t) (λ x. Ok (bind f divisor x)) u h in
+    let e : u ≡ bind f divisor c.0 = cc (c.2) in
+    rw e (mapped-forms forms t c.0 c.1)
+
+-- a named tree
+named-forms : (s : Source) (t : Tree) → LeavesHave (length s.loops) t → HasForms (named s t)
+named-forms s initial h = tt
+named-forms s (leaf l) h = h
+named-forms s (branch test x y) h = (named-forms s x h.0, named-forms s y h.1)
+named-forms s (bind f d x) h = named-forms s x h
+
+-- ---- the run
+
+-- what a candidate's quast is
+abbrev IsOver : KernelModel → ℕ → Tree → Type 0
+IsOver model n t = Speaks n t × NamesInstances model t × HasForms t
+
+-- each statement has a dimension for each loop
+abbrev pub HaveLoops : KernelModel → Type 0
+HaveLoops model = (t : Modelled) → In t model.statements → length t.loops ≡ t.domain.dimensions
+
+initial_over : (model : KernelModel) (n : ℕ) (t : Tree) → initial ≡ t → IsOver model n t
+initial_over model n t e = subst (IsOver model n) e (tt, tt, tt)
+
+between_over : (model : KernelModel) (budget : ℕ) (dep : Dependence) (o q : Option Modelled) (tree : Tree)
+    → HaveLoops model → slice_get model.statements dep.source.statement ≡ o
+    → solve_between model.parameters budget dep o q ≡ Ok tree
+    → IsOver model (model.parameters + turns_in q) tree
+between_over model budget dep None q tree loops here h = initial_over model (model.parameters + turns_in q) tree cc
+between_over model budget dep (Some s) None tree loops here h = initial_over model (model.parameters + 0) tree cc
+between_over model budget dep (Some s) (Some t) tree loops here h =
+    let m = model.parameters in
+    let d = s.domain.dimensions in
+    let n = m + t.domain.dimensions in
+    let solved = solved_of m budget dep s t tree h in
+    let least = solved.minimum in
+    let speaks = lexmin-speaks budget d n (posed_rows s t m dep) (posed_context t m) least solved.left
+    (posed-speaks s t m dep) (context-speaks t m) solved.run in
+    let from = source_of dep.source.statement s.loops in
+    let back = solved.turned_back in
+    let inside = in_from_place model.statements dep.source.statement s here in
+    let forms : LeavesHave d back = subst (λ (i : ℕ). LeavesHave i back) (length-all_below top d 0 d)
+    (mapped-forms (all_below top d 0 d) least back solved.mapped) in
+    subst (IsOver model n) (sym solved.is) (
+      named-speaks from n back (map_run-speaks (all_below top d 0 d) n least back speaks solved.mapped),
+      named-instances model from back (s, here, refl),
+      named-forms from back (subst (λ (i : ℕ). LeavesHave i back) (sym (loops s inside)) forms),
+    )
+
+solved_over : (model : KernelModel) (budget : ℕ) (dep : Dependence) (tree : Tree) → HaveLoops model
+    → solve_run model budget dep ≡ Ok tree → IsOver model (read_variables model dep.target.statement) tree
+unfolding solve_run
+solved_over model budget dep tree loops h =
+    between_over model budget dep (slice_get model.statements dep.source.statement)
+    (slice_get model.statements dep.target.statement) tree loops refl h
+
+-- a join that the run goes on from has few nodes
+few_nodes : {E : Type 0} (b : Bool) (a t : Tree) (n : ℕ) (rest : Result Tree (Halt E)) (u : Tree)
+    → nat_lt node_limit (join_count a t) ≡ b
+    → (if b then Err (nodes (join_count a t)) else rest) ≡ Ok u
+    → (count (join Later n a t) ≤ node_limit) × (rest ≡ Ok u)
+few_nodes true a t n rest u e h = absurd cc
+few_nodes false a t n rest u e h =
+    let same = join-count Later n a t in
+    let few : join_count a t ≤ node_limit = grind arith in
+    (omega (arith, same, few), h)
+
+-- what joins keep, of all candidates' trees and the first, the run's tree has
+run_keeps : {C E : Type 0} (P : Tree → Type 0) (n : ℕ) (solve : C → Result Tree E)
+    → ((a b : Tree) → P a → P b → P (join Later n a b)) → (cs : List C) (acc u : Tree)
+    → ((c : C) (t : Tree) → In c cs → solve c ≡ Ok t → P t) → P acc → count acc ≤ node_limit
+    → sources_run Later n solve acc cs ≡ Ok u → P u × (count u ≤ node_limit)
+run_keeps P n solve joins [] acc u each first few h =
+    let e : acc ≡ u = cc in
+    subst (λ t. P t × (count t ≤ node_limit)) e (first, few)
+run_keeps {C} {E} P n solve joins (c ∷ cs) acc u each first few h =
+    by_tree (solve c) refl h (λ t e small g.
+    run_keeps P n solve joins cs (join Later n acc t) u (λ d v i. each d v (inr i))
+    (joins acc t first (each c t (inl refl) e)) small g)
+  where
+    by_tree : (r : Result Tree E) → solve c ≡ r
+        → then_join Later n acc r (λ t. sources_run Later n solve t cs) ≡ Ok u
+        → ((t : Tree) → solve c ≡ Ok t → count (join Later n acc t) ≤ node_limit
+        → sources_run Later n solve (join Later n acc t) cs ≡ Ok u → P u × (count u ≤ node_limit))
+        → P u × (count u ≤ node_limit)
+    by_tree (Err stopped) e g go_on = absurd cc
+    by_tree (Ok t) e g go_on =
+        let step = few_nodes (nat_lt node_limit (join_count acc t)) acc t n
+        (sources_run Later n solve (join Later n acc t) cs) u refl g in
+        go_on t e step.0 step.1
+
+-- the quast of a read
+last_over : (model : KernelModel) (budget statement access : ℕ) (u : Tree) → HaveLoops model
+    → last_run model budget statement access ≡ Ok u
+    → IsOver model (read_variables model statement) u × (count u ≤ node_limit)
+last_over model budget statement access u loops h =
+    let n = read_variables model statement in
+    run_keeps (IsOver model n) n (solve_run model budget)
+    (λ a b x y. (
+      join-speaks Later n a b x.0 y.0,
+      join_names Later model n 0 a b x.1 y.1,
+      join-forms Later n a b x.2 y.2,
+    ))
+    (candidates_of model statement access) initial u
+    (λ dep t i e. let c = chosen_in (is_candidate statement access) (conflicts_of model) dep i in
+    subst (λ (k : ℕ). IsOver model (read_variables model k) t) (reader_is statement access dep c.1)
+    (solved_over model budget dep t loops e))
+    (tt, tt, tt) (omega arith) h
+
+-- ---- sources
+
+-- a stop's moves are the budget
+stop_told : (model : KernelModel) (budget : ℕ) (told : solver.the_data) (why : Stopped) → budget < 2 ^ 64
+    → TellsStop model budget told why → IsToldStop told
+stop_told model budget (solver.Wide told moves) why small h = tt
+stop_told model budget (solver.Spent told moves) (last.solver dep run.spent) small h =
+    let same = h.0 in omega (arith, same)
+stop_told model budget (solver.Spent told moves) (last.solver dep (run.wide w left)) small h = absurd h
+stop_told model budget (solver.Spent told moves) (last.wide_leaf dep) small h = absurd h
+stop_told model budget solver.NoMemory (last.solver dep run.spent) small h = absurd h
+stop_told model budget solver.NoMemory (last.solver dep (run.wide w left)) small h = absurd h
+stop_told model budget solver.NoMemory (last.wide_leaf dep) small h = absurd h
+
+-- a source
+source_told : (model : KernelModel) (budget statement access : ℕ) (from : ReadSource) → HaveLoops model
+    → budget < 2 ^ 64 → IsSourceOf model budget statement access from → IsHeldSource from
+    → IsToldOver model (read_variables model statement) from
+source_told model budget statement access (source.Resolved quast) loops small is held =
+    let r = last_over model budget statement access (tree_of quast) loops is in
+    record { speaks = r.0.0; numbers = held; leaves = r.0.1; forms = r.0.2; few = r.1 }
+source_told model budget statement access (source.Unresolved (stop.Solver told)) loops small is held =
+    stop_told model budget told is.0 small is.2
+source_told model budget statement access (source.Unresolved (stop.Join count)) loops small is held =
+    let same = is.2 in omega (arith, same)
+
+-- ---- reads
+
+-- a read's statement is one of the model, with a dimension for each loop
+abbrev IsRead : KernelModel → ℕ → Type 0
+IsRead model number =
+    (s : Modelled) × (slice_get model.statements number ≡ Some s) × (length s.loops ≡ s.domain.dimensions)
+
+abbrev AreReads : KernelModel → List (ℕ × ℕ) → Type 0
+AreReads model [] = ⊤
+AreReads model (r ∷ rs) = IsRead model r.0 × AreReads model rs
+
+reads-append : (model : KernelModel) (rs qs : List (ℕ × ℕ)) → AreReads model rs → AreReads model qs
+    → AreReads model (rs ++ qs)
+reads-append model [] qs h k = k
+reads-append model (r ∷ rs) qs h k = (h.0, reads-append model rs qs h.1 k)
+
+reads_there : (model : KernelModel) (number k n : ℕ) → IsRead model number → AreReads model (reads_from number k n)
+reads_there model number k zero h = tt
+reads_there model number k (suc n) h = (h, reads_there model number (k + 1) n h)
+
+statements_there : (model : KernelModel) (ss : List Modelled) → ((s : Modelled) → In s ss → IsRead model s.number)
+    → AreReads model (reads_in ss)
+statements_there model [] each = tt
+statements_there model (s ∷ ss) each =
+    reads-append model (reads_of_statement s) (reads_in ss)
+    (reads_there model s.number 1 (length s.accesses - 1) (each s (inl refl)))
+    (statements_there model ss (λ t i. each t (inr i)))
+
+-- all reads of a model
+pub all_there : (model : KernelModel)
+    → ((k : ℕ) (t : Modelled) → slice_get model.statements k ≡ Some t → t.number ≡ k)
+    → HaveLoops model → AreReads model (reads_of model)
+all_there model places loops =
+    statements_there model model.statements (λ s i. let p = place_of model.statements s i in
+    let here : slice_get model.statements s.number ≡ Some s =
+    subst (λ (k : ℕ). slice_get model.statements k ≡ Some s) (sym (places p.0 s p.1)) p.1 in
+    (s, here, loops s i))
+
+-- a source at its read
+source_at_read : (model : KernelModel) (number : ℕ) (from : ReadSource) → IsRead model number
+    → IsToldOver model (read_variables model number) from
+    → IsToldAt model (slice_get model.statements number) from
+source_at_read model number from there told =
+    let s = there.0 in
+    let over : IsToldOver model (model.parameters + s.domain.dimensions) from =
+    subst (λ (o : Option Modelled). IsToldOver model (model.parameters + turns_in o) from) there.1 told in
+    subst (λ (o : Option Modelled). IsToldAt model o from) (sym there.1)
+    (subst (λ (d : ℕ). IsToldOver model (model.parameters + d) from) (sym there.2) over)
+
+-- sources of a model's reads are told
+pub sources_told : (model : KernelModel) (budget : ℕ) (reads : List (ℕ × ℕ)) (sources : List ReadSource)
+    → HaveLoops model → budget < 2 ^ 64 → AreReads model reads → AreSources model budget reads sources
+    → All IsHeldSource sources → AreTold model reads sources
+sources_told model budget [] [] loops small there are held = tt
+sources_told model budget [] (s ∷ ss) loops small there are held = absurd are
+sources_told model budget (r ∷ rs) [] loops small there are held = absurd are
+sources_told model budget (r ∷ rs) (s ∷ ss) loops small there are held = (
+  source_at_read model r.0 s there.0
+      (source_told model budget r.0 r.1 s loops small are.0 (All-head IsHeldSource s ss held)),
+  sources_told model budget rs ss loops small there.1 are.1 (All-tail IsHeldSource s ss held),
+)
+
+-- a statement of a kernel has a dimension for each loop
+pub loops_are : (program : Program) (model : KernelModel) → model ≡ model_of program
+    → ((p : Placed) → In p (statements_of program) → length p.loops ≡ loops_in p.scopes)
+    → HaveLoops model
+loops_are program model is loops t among =
+    let m = length program.parameters in
+    let from = in_map_from (modelled m) t (statements_of program)
+    (subst (λ (k : KernelModel). In t k.statements) is among) in
+    subst (λ (s : Modelled). length s.loops ≡ s.domain.dimensions) (sym from.2) (loops from.0 from.1)

@@ -1,0 +1,243 @@
+-- Instances of a leaf at the values of the loop round it: each has the same steps more in its turns than the one before
+-- it.
+use Rattle.std.proofs.Common.{◌≡◌, ℕ, zero, suc, ◌+◌, ◌<◌, Bool, true, false, ℤ, pos, negsuc, List, [], ◌∷◌, ◌++◌}
+use Rattle.std.proofs.Common.{length, map, take, get_or, ap, ap₂, sym, subst, ◌∙◌, refl, arith, append-nil}
+use Rattle.std.specs.Prelude.{◌+ℤ◌, ◌-ℤ◌, ◌≤ℤ◌, All, FitsSigned}
+use Rattle.std.specs.Int.{w64}
+use Rattle.std.specs.Int.Signed.{le_z}
+use Rattle.std.proofs.lemmas.Int.{ints}
+use Rattle.std.proofs.lemmas.List.Elements.{All-nil, All-cons, All-head, All-tail}
+use Rattle.whole_numbers.specs.Affine.{Affine, value_of, values_of}
+use Rattle.whole_numbers.specs.Lists.{dot, sums}
+use Rattle.whole_numbers.proofs.Ring.{mul_distrib_left, mul_one_right}
+use Rattle.scop_syntax.specs.Walk.{Instance, most_turns}
+use Rattle.scop_syntax.specs.View.{instance_of}
+use Rattle.std.proofs.lemmas.Bool.{false≢true}
+use Rattle.std.proofs.lemmas.List.{length-map, length-take}
+use Rattle.loop_tree.specs.Tree.{Bounds, Trees, instance, loop, more, none}
+use Rattle.loop_tree.specs.Walk.{along, given, walk_all}
+use Rattle.loop_tree.specs.Conditions.{CanWalk, IsHeld}
+use Rattle.loop_tree.specs.Fits.{FormsFit, SumsFit}
+use Rattle.loop_tree.specs.Spot.{Mark, mark, IsAt, rest_of, shown_from}
+use Rattle.loop_tree.specs.Stretches.{following, left_of}
+use Rattle.loop_tree.specs.declared.stretch.Stretch.{Stretch}
+use Rattle.loop_tree.specs.steps.Going.{CanGo, CanTurn, HasGone, HasTurned, rest_from}
+use Rattle.loop_tree.specs.steps.Stepping.{steps_of}
+use Rattle.loop_tree.proofs.VisitPlaces.{go_loop, gone_loop}
+use Rattle.loop_tree.proofs.Products.{fits_front}
+use Rattle.loop_tree.proofs.WalkSteps.{leaf_held, shown_none}
+
+-- a form's value at the next value of a loop
+dot_next : (cs outer params : List ℤ) (x : ℤ)
+    → dot cs ((outer ++ (x +ℤ pos 1) ∷ []) ++ params)
+    ≡ dot cs ((outer ++ x ∷ []) ++ params) +ℤ get_or cs (length outer) (pos 0)
+dot_next [] outer params x = refl
+dot_next (c ∷ cs) [] params x =
+    let d = mul_distrib_left x (pos 1) c in
+    let o = mul_one_right c in
+    omega (arith, ints, d, o)
+dot_next (c ∷ cs) (o ∷ outer) params x = let rest = dot_next cs outer params x in omega (arith, ints)
+
+pub value_next : (f : Affine) (outer params : List ℤ) (x : ℤ)
+    → value_of f ((outer ++ (x +ℤ pos 1) ∷ []) ++ params)
+    ≡ value_of f ((outer ++ x ∷ []) ++ params) +ℤ get_or f.coefficients (length outer) (pos 0)
+value_next f outer params x = let e = dot_next f.coefficients outer params x in omega (arith, ints)
+
+pub values_next : (forms : List Affine) (outer params : List ℤ) (x : ℤ)
+    → sums (values_of forms ((outer ++ x ∷ []) ++ params)) (steps_of forms (length outer))
+    ≡ values_of forms ((outer ++ (x +ℤ pos 1) ∷ []) ++ params)
+values_next [] outer params x = refl
+values_next (f ∷ fs) outer params x =
+    ap₂ (λ (z : ℤ) (zs : List ℤ). z ∷ zs) (sym (value_next f outer params x)) (values_next fs outer params x)
+
+-- what follows an instance of a leaf is what the leaf shows at the values behind
+abbrev pub leaf_at : ℕ → List Affine → List ℤ → List ℤ → ℤ → Instance
+leaf_at n forms params outer x = record { number = n; turns = values_of forms ((outer ++ x ∷ []) ++ params) }
+
+pub following_shown : (n : ℕ) (forms : List Affine) (params outer : List ℤ) (x : ℤ) (k : ℕ)
+    → following n (values_of forms ((outer ++ x ∷ []) ++ params)) (steps_of forms (length outer)) k
+    ≡ map given (along (λ y. walk_all (more (instance n forms) none) params (outer ++ y ∷ [])) (x +ℤ pos 1) k)
+following_shown n forms params outer x zero = refl
+following_shown n forms params outer x (suc k) =
+    let steps = steps_of forms (length outer) in
+    ap (λ (ts : List ℤ). record { number = n; turns = ts } ∷ following n ts steps k) (values_next forms outer params x)
+    ∙ ap (λ (is : List Instance). leaf_at n forms params outer (x +ℤ pos 1) ∷ is)
+    (following_shown n forms params outer (x +ℤ pos 1) k)
+
+pub following_held : (n : ℕ) (forms : List Affine) (params outer : List ℤ) (x : ℤ) (k : ℕ)
+    → ((y : ℤ) → x ≤ℤ y → y ≤ℤ (x +ℤ pos k) → CanWalk (more (instance n forms) none) params (outer ++ y ∷ []))
+    → All IsHeld (following n (values_of forms ((outer ++ x ∷ []) ++ params)) (steps_of forms (length outer)) k)
+following_held n forms params outer x zero can = All-nil IsHeld
+following_held n forms params outer x (suc k) can =
+    let steps = steps_of forms (length outer) in
+    subst (λ (ts : List ℤ). All IsHeld (record { number = n; turns = ts } ∷ following n ts steps k))
+    (sym (values_next forms outer params x))
+    (All-cons IsHeld (leaf_at n forms params outer (x +ℤ pos 1))
+    (following n (values_of forms ((outer ++ (x +ℤ pos 1) ∷ []) ++ params)) steps k)
+    (leaf_held n forms params (outer ++ (x +ℤ pos 1) ∷ [])
+    (can (x +ℤ pos 1) (omega (arith, ints)) (omega (arith, ints))))
+    (following_held n forms params outer (x +ℤ pos 1) k
+    (λ y from to. can y (omega (arith, ints, from)) (omega (arith, ints, to)))))
+
+-- the first of a stretch, and those behind it
+pub first_held : (n : ℕ) (turns steps : List ℤ) (k : ℕ) → 0 < k → All IsHeld (following n turns steps k)
+    → All (FitsSigned w64) (sums turns steps)
+first_held n turns steps zero some held = absurd (omega arith)
+first_held n turns steps (suc k) some held =
+    (All-head IsHeld (record { number = n; turns = sums turns steps }) (following n (sums turns steps) steps k)
+    held).turns
+
+pub following_next : (n : ℕ) (turns steps : List ℤ) (k j : ℕ) → k ≡ j + 1
+    → following n turns steps k
+    ≡ record { number = n; turns = sums turns steps } ∷ following n (sums turns steps) steps j
+following_next n turns steps zero j e = absurd (omega arith)
+following_next n turns steps (suc k) j e =
+    let same : k ≡ j = omega arith in
+    ap (λ (i : ℕ). record { number = n; turns = sums turns steps } ∷ following n (sums turns steps) steps i) same
+
+-- so many values stand behind one
+most_turns_are : (z : ℤ) (k : ℕ) → pos k ≡ z +ℤ pos 1 → most_turns z ≡ k
+most_turns_are (pos n) k e = omega (arith, ints)
+most_turns_are (negsuc n) k e = omega (arith, ints)
+
+-- a loop's instances behind a value, where so many lead to the last
+pub shown_up : (body : Trees) (params outer : List ℤ) (x last : ℤ) (k : ℕ) (is : List Instance)
+    → pos k ≡ last -ℤ x
+    → is ≡ map given (along (λ y. walk_all body params (outer ++ y ∷ [])) (x +ℤ pos 1) k)
+    → shown_from body params outer (x +ℤ pos 1) last ≡ is ++ shown_from body params outer (last +ℤ pos 1) last
+shown_up body params outer x last k is way shown =
+    let count = most_turns_are (last -ℤ (x +ℤ pos 1)) k (omega (arith, ints, way)) in
+    ap (λ (n : ℕ). map given (along (λ y. walk_all body params (outer ++ y ∷ [])) (x +ℤ pos 1) n)) count
+    ∙ (sym shown
+    ∙ (sym (append-nil is)
+    ∙ ap (λ (js : List Instance). is ++ js)
+    (sym (shown_none body params outer (last +ℤ pos 1) last (omega (arith, ints))))))
+
+-- the marks of a leaf alone stand at any value
+at_leaf : (n : ℕ) (forms : List Affine) (ms : List Mark) (params outer : List ℤ)
+    → IsAt (more (instance n forms) none) ms params outer
+at_leaf n forms [] params outer = tt
+at_leaf n forms (mark zero true x z ∷ ms) params outer = tt
+at_leaf n forms (mark zero false x z ∷ ms) params outer = tt
+at_leaf n forms (mark (suc k) begun x z ∷ ms) params outer = tt
+
+-- what is to come of a loop where nothing is left at its value
+rest_done : (body : Trees) (ms : List Mark) (x last : ℤ) (params outer : List ℤ) → x ≤ℤ last
+    → rest_of body ms params (outer ++ x ∷ []) ≡ []
+    → rest_from body ms x last params outer ≡ shown_from body params outer (x +ℤ pos 1) last
+rest_done body ms x last params outer here done =
+    let h : le_z x last ≡ true = grind (arith, ints) in
+    rw (h, done) refl
+
+-- from one value of a loop with a leaf in it to another, by the instances between
+pub turned_leaf : (body : Trees) (n : ℕ) (forms : List Affine) (ms : List Mark) (x y last : ℤ) (is : List Instance)
+    (params outer : List ℤ) → body ≡ more (instance n forms) none → x ≤ℤ y → y ≤ℤ last
+    → ((ps vs : List ℤ) → rest_of body ms ps vs ≡ [])
+    → shown_from (more (instance n forms) none) params outer (x +ℤ pos 1) last
+    ≡ is ++ shown_from (more (instance n forms) none) params outer (y +ℤ pos 1) last
+    → HasTurned body x ms y ms last is params outer
+turned_leaf body n forms ms x y last is params outer leaf up within done shown =
+    record {
+      rest = rest_done body ms x last params outer (omega (arith, ints, up, within)) (done params (outer ++ x ∷ []))
+          ∙ (subst (λ (ts : Trees). shown_from ts params outer (x +ℤ pos 1) last
+          ≡ is ++ shown_from ts params outer (y +ℤ pos 1) last) (sym leaf) shown
+          ∙ ap (λ (js : List Instance). is ++ js)
+          (sym (rest_done body ms y last params outer within (done params (outer ++ y ∷ [])))));
+      up = up;
+      stands = λ h. subst (λ (ts : Trees). IsAt ts ms params (outer ++ y ∷ [])) (sym leaf)
+          (at_leaf n forms ms params (outer ++ y ∷ []));
+    }
+
+-- the sums over the loops round a leaf's own fit
+pub fronts_fit : (forms : List Affine) (outer params : List ℤ) (x : ℤ)
+    → FormsFit forms ((outer ++ x ∷ []) ++ params)
+    → All (λ f. SumsFit (pos 0) f.coefficients outer) forms
+fronts_fit [] outer params x fits = All-nil (λ f. SumsFit (pos 0) f.coefficients outer)
+fronts_fit (f ∷ fs) outer params x fits =
+    All-cons (λ g. SumsFit (pos 0) g.coefficients outer) f fs
+    (fits_front (pos 0) f.coefficients outer (x ∷ [])
+    (fits_front (pos 0) f.coefficients (outer ++ x ∷ []) params fits.0.sums))
+    (fronts_fit fs outer params x fits.1)
+
+-- sums one by one, of which the first are those of two lists
+pub sums_front : (n : ℕ) (rs xs ys : List ℤ) → length rs ≡ length xs → length ys ≡ length xs
+    → ((i : ℕ) → i < length xs → FitsSigned w64 (get_or xs i (pos 0) +ℤ get_or ys i (pos 0))
+    → get_or rs i (pos 0) ≡ get_or xs i (pos 0) +ℤ get_or ys i (pos 0))
+    → All (FitsSigned w64) (sums (take n xs) (take n ys)) → take n rs ≡ sums (take n xs) (take n ys)
+sums_front zero rs xs ys a b each fits = refl
+sums_front (suc n) [] [] [] a b each fits = refl
+sums_front (suc n) (r ∷ rs) (x ∷ xs) (y ∷ ys) a b each fits =
+    let others = sums (take n xs) (take n ys) in
+    ap₂ (λ (z : ℤ) (zs : List ℤ). z ∷ zs)
+    (each 0 (omega arith) (All-head (FitsSigned w64) (x +ℤ y) others fits))
+    (sums_front n rs xs ys (omega arith) (omega arith) (λ i h. each (suc i) (omega (arith, h)))
+    (All-tail (FitsSigned w64) (x +ℤ y) others fits))
+sums_front (suc n) [] (x ∷ xs) ys a b each fits = absurd (omega arith)
+sums_front (suc n) [] [] (y ∷ ys) a b each fits = absurd (omega arith)
+sums_front (suc n) (r ∷ rs) [] ys a b each fits = absurd (omega arith)
+sums_front (suc n) (r ∷ rs) (x ∷ xs) [] a b each fits = absurd (omega arith)
+
+-- what holds at each of five places
+pub each_of_five : (P : ℕ → Type 0) → P 0 → P 1 → P 2 → P 3 → P 4 → (i : ℕ) → i < 5 → P i
+each_of_five P a b c d e zero h = a
+each_of_five P a b c d e (suc zero) h = b
+each_of_five P a b c d e (suc (suc zero)) h = c
+each_of_five P a b c d e (suc (suc (suc zero))) h = d
+each_of_five P a b c d e (suc (suc (suc (suc zero)))) h = e
+each_of_five P a b c d e (suc (suc (suc (suc (suc i))))) h = absurd (omega arith)
+
+-- where nothing is left of it
+pub nothing_left : (s : Stretch) → s.left ≡ 0 → left_of s ≡ []
+nothing_left s empty =
+    ap (λ (k : ℕ). following s.before.statement (instance_of s.before).turns (take s.before.loops s.steps) k) empty
+
+-- a stretch behind a leaf at a value
+pub stretch_is : (s : Stretch) (n : ℕ) (forms told : List Affine) (params outer vs : List ℤ) (x : ℤ)
+    → length s.before.turns ≡ 5 → vs ≡ outer ++ x ∷ [] → told ≡ forms
+    → instance_of s.before ≡ record { number = n; turns = values_of forms (vs ++ params) }
+    → take (length told) s.steps ≡ steps_of told (length outer)
+    → left_of s ≡ following n (values_of forms ((outer ++ x ∷ []) ++ params)) (steps_of forms (length outer)) s.left
+stretch_is s n forms told params outer vs x whole at same before steps =
+    let few = s.before.few in
+    let taken = length-take s.before.loops s.before.turns in
+    let turns = ap (λ (i : Instance). length i.turns) before in
+    let values = length-map forms (λ f. value_of f (vs ++ params)) in
+    let all = ap (λ (fs : List Affine). length fs) same in
+    let loops : s.before.loops ≡ length told = omega (arith, few, taken, turns, values, whole, all) in
+    ap₂ (λ (i : Instance) (ds : List ℤ). following i.number i.turns ds s.left) before
+    (ap (λ (k : ℕ). take k s.steps) loops ∙ steps)
+    ∙ ap₂ (λ (us : List ℤ) (fs : List Affine). following n (values_of forms (us ++ params))
+    (steps_of fs (length outer)) s.left) at same
+
+-- a loop that was begun: its body's marks at its value can go on, and it has gone on where they have
+pub go_begun : (flag : Bool) (lo up : Bounds) (body : Trees) (begun : Bool) (x z : ℤ) (ms : List Mark)
+    (params outer : List ℤ) → begun ≡ true
+    → CanGo (more (loop flag lo up body) none) (mark zero begun x z ∷ ms) params outer
+    → CanTurn body ms x z params outer
+go_begun flag lo up body true x z ms params outer b go =
+    subst (λ (w : ℤ). CanTurn body ms x w params outer) (sym go.stands.1)
+    (go_loop flag lo up body true x z ms params outer go)
+go_begun flag lo up body false x z ms params outer b go = absurd (false≢true b)
+
+pub gone_begun : (flag : Bool) (lo up : Bounds) (body : Trees) (begun : Bool) (x z : ℤ) (ms : List Mark)
+    (begun' : Bool) (y w : ℤ) (new : List Mark) (is : List Instance) (params outer : List ℤ) → begun ≡ true
+    → begun' ≡ true → w ≡ z → length new ≡ length ms
+    → CanGo (more (loop flag lo up body) none) (mark zero begun x z ∷ ms) params outer
+    → HasTurned body x ms y new z is params outer
+    → HasGone (more (loop flag lo up body) none) (mark zero begun x z ∷ ms) (mark zero begun' y w ∷ new) is params outer
+gone_begun flag lo up body true x z ms begun' y w new is params outer b b' last kept go gone =
+    let room = go.room in
+    gone_loop flag lo up body true x z ms begun' y w new is params outer (omega (arith, room)) kept b'
+    (last ∙ go.stands.1) go.stands
+    (subst (λ (v : ℤ). HasTurned body x ms y new v is params outer) go.stands.1 gone)
+gone_begun flag lo up body false x z ms begun' y w new is params outer b b' last kept go gone = absurd (false≢true b)
+
+-- two steps of a place, where nothing was left of the stretch before, and the second is that of the new one
+pub two_steps : (ts : Trees) (old mid new : List Mark) (found passed before behind : List Instance) (params : List ℤ)
+    → HasGone ts old mid found params [] → HasGone ts mid new passed params [] → before ≡ [] → behind ≡ passed
+    → before ++ rest_of ts old params [] ≡ found ++ (behind ++ rest_of ts new params [])
+two_steps ts old mid new found passed before behind params first second empty is =
+    ap (λ (js : List Instance). js ++ rest_of ts old params []) empty
+    ∙ (first.rest
+    ∙ (ap (λ (js : List Instance). found ++ js) second.rest
+    ∙ ap (λ (js : List Instance). found ++ (js ++ rest_of ts new params [])) (sym is)))

@@ -1,0 +1,210 @@
+-- Parts of a node, cut by the rows of one set after another.
+use Rattle.std.proofs.Common.{◌≡◌, ℕ, zero, suc, ◌+◌, ◌<◌, Bool, true, false, ℤ, pos, negsuc, List, [], ◌∷◌, ◌++◌}
+use Rattle.std.proofs.Common.{length, take, get_or, ◌⊎◌, inl, inr, refl, sym, ap, subst, ◌∙◌, All, arith, length-append}
+use Rattle.std.specs.Prelude.{◌≤ℤ◌, ◌<ℤ◌}
+use Rattle.std.proofs.lemmas.Int.{ints}
+use Rattle.std.proofs.lemmas.List.Elements.{All-append, All-cons, All-nil}
+use Rattle.whole_numbers.specs.Affine.{Affine, complement, value_of}
+use Rattle.whole_numbers.proofs.Values.{value_of-complement}
+use Rattle.whole_numbers.proofs.Order.{le_or_lt}
+use Rattle.whole_numbers.proofs.Dot.{get_or-multiples, length-multiples}
+use Rattle.whole_numbers.proofs.Ring.{mul_neg_left, mul_one_left}
+use Rattle.fractions.specs.Elimination.{coefficient_of}
+use Rattle.integer_sets.specs.Scanned.{Scanned}
+use Rattle.plain_scan.specs.Between.{HasSmallNumbers}
+use Rattle.plain_scan.specs.Sets.{AllAtLeast, IsKeyOf, Keys}
+use Rattle.plain_scan.specs.declared.outline.Shadow.{Shadow}
+use Rattle.plain_scan.specs.declared.set_outline.Outline.{Outline}
+use Rattle.plain_scan.specs.Hulls.{IsAlike, sets_in}
+use Rattle.plain_scan.proofs.CodeBounds.{take_next}
+use Rattle.plain_scan.proofs.Pieces.{all_append, append_all}
+use Rattle.plain_scan.proofs.HullLoops.{row_holds}
+use Rattle.split_scan.specs.Questions.{IsCut}
+use Rattle.split_scan.specs.Parts.{Goes, HasMarks, Implies, InPart, IsCutting, IsHeld, IsNext, IsPart, staying}
+use Rattle.split_scan.specs.declared.part.Part.{Part}
+
+-- the keys of the sets that stay are keys of all
+pub keys_of_all : (bs : List Bool) (sets : List Scanned) (params r : List ℤ) → Keys (staying bs sets) params r
+    → Keys sets params r
+keys_of_all [] sets params r h = h
+keys_of_all (b ∷ bs) [] params r h = h
+keys_of_all (true ∷ bs) (s ∷ sets) params r (inl h) = inl h
+keys_of_all (true ∷ bs) (s ∷ sets) params r (inr h) = inr (keys_of_all bs sets params r h)
+keys_of_all (false ∷ bs) (s ∷ sets) params r h = inr (keys_of_all bs sets params r h)
+
+-- one mark more: the set stays
+pub staying_true : (bs : List Bool) (sets : List Scanned) → staying (bs ++ true ∷ []) sets ≡ staying bs sets
+staying_true [] [] = refl
+staying_true [] (s ∷ sets) = refl
+staying_true (b ∷ bs) [] = refl
+staying_true (true ∷ bs) (s ∷ sets) = ap (λ (ss : List Scanned). s ∷ ss) (staying_true bs sets)
+staying_true (false ∷ bs) (s ∷ sets) = staying_true bs sets
+
+-- or it goes, and only its keys are lost
+pub staying_false : (bs : List Bool) (sets : List Scanned) (s : Scanned) (params r : List ℤ) → IsNext bs sets s
+    → (IsKeyOf params s r → ⊥) → Keys (staying bs sets) params r → Keys (staying (bs ++ false ∷ []) sets) params r
+staying_false [] [] s params r next never h = absurd next
+staying_false [] (t ∷ sets) s params r next never (inl h) = absurd (never (subst (λ q. IsKeyOf params q r) next h))
+staying_false [] (t ∷ sets) s params r next never (inr h) = h
+staying_false (b ∷ bs) [] s params r next never h = absurd next
+staying_false (true ∷ bs) (t ∷ sets) s params r next never (inl h) = inl h
+staying_false (true ∷ bs) (t ∷ sets) s params r next never (inr h) = inr (staying_false bs sets s params r next never h)
+staying_false (false ∷ bs) (t ∷ sets) s params r next never h = staying_false bs sets s params r next never h
+
+-- a row or its complement holds, and not both
+one_side : (f : Affine) (point : List ℤ) → (pos 0 ≤ℤ value_of f point) ⊎ (pos 0 ≤ℤ value_of (complement f) point)
+one_side f point = by_order (le_or_lt (pos 0) (value_of f point))
+  where
+    by_order : (pos 0 ≤ℤ value_of f point) ⊎ (value_of f point <ℤ pos 0)
+        → (pos 0 ≤ℤ value_of f point) ⊎ (pos 0 ≤ℤ value_of (complement f) point)
+    by_order (inl h) = inl h
+    by_order (inr h) = let e = value_of-complement f point in inr (omega (arith, ints, h, e))
+
+both_sides : (f : Affine) (point : List ℤ) → pos 0 ≤ℤ value_of f point → pos 0 ≤ℤ value_of (complement f) point → ⊥
+both_sides f point a b = let e = value_of-complement f point in omega (arith, ints, a, b, e)
+
+pub complement_cut : (m n : ℕ) (f : Affine) → IsCut m n f → HasSmallNumbers (complement f) → IsCut m n (complement f)
+complement_cut m n f is small = record {
+  sized = length-multiples (negsuc 0) f.coefficients ∙ is.sized;
+  small = small;
+  bounds = λ e.
+      let g = get_or-multiples (negsuc 0) f.coefficients m in
+      let t = mul_neg_left (pos 1) (coefficient_of m f) in
+      let o = mul_one_left (coefficient_of m f) in
+      is.bounds (omega (arith, ints, e, g, t, o));
+}
+
+-- parts one behind another
+pub in_front_part : (ps qs : List Part) (point : List ℤ) → InPart ps point → InPart (ps ++ qs) point
+in_front_part [] qs point h = absurd h
+in_front_part (p ∷ ps) qs point (inl h) = inl h
+in_front_part (p ∷ ps) qs point (inr h) = inr (in_front_part ps qs point h)
+
+pub in_back_part : (ps qs : List Part) (point : List ℤ) → InPart qs point → InPart (ps ++ qs) point
+in_back_part [] qs point h = h
+in_back_part (p ∷ ps) qs point h = inr (in_back_part ps qs point h)
+
+pub in_part_append : (ps qs : List Part) (point : List ℤ) → InPart (ps ++ qs) point → InPart ps point ⊎ InPart qs point
+in_part_append [] qs point h = inr h
+in_part_append (p ∷ ps) qs point (inl h) = inl (inl h)
+in_part_append (p ∷ ps) qs point (inr h) = elim (in_part_append ps qs point h) [
+  | inl g ↦ inl (inr g)
+  | inr g ↦ inr g
+]
+
+-- a part is cut by a row of the next set
+pub cutting_more : (m n : ℕ) (inside : List Affine) (all : List Scanned) (stays : List Bool) (s : Scanned)
+    (row : Affine) (cuts less : List Affine) (old new : List Part) (p : Part) → IsCut m n row
+    → HasSmallNumbers (complement row) → IsNext stays all s → Implies m s row → less ≡ cuts ++ row ∷ []
+    → p.cuts.items ≡ cuts ++ complement row ∷ [] → p.stays.items ≡ stays ++ false ∷ [] → new ≡ old ++ p ∷ []
+    → IsCutting m n inside all stays cuts old → IsCutting m n inside all stays less new
+cutting_more m n inside all stays s row cuts less old new p is small next implies less_is cuts_is stays_is new_is h =
+    record {
+      rows = subst (All (IsCut m n)) (sym less_is)
+          (All-append (IsCut m n) cuts (row ∷ []) h.rows (All-cons (IsCut m n) row [] is (All-nil (IsCut m n))));
+      keeps = λ params outer x at hold r k.
+          h.keeps params outer x at (near (outer ++ x ∷ params) hold) r k;
+      parts = subst (All (IsPart m n inside all)) (sym new_is)
+          (All-append (IsPart m n inside all) old (p ∷ []) h.parts
+          (All-cons (IsPart m n inside all) p [] far (All-nil (IsPart m n inside all))));
+    }
+  where
+    near : (point : List ℤ) → AllAtLeast less point → AllAtLeast cuts point
+    near point hold = (append_all cuts (row ∷ []) point (subst (λ fs. AllAtLeast fs point) less_is hold)).0
+
+    far : IsPart m n inside all p
+    far = record {
+      cuts = subst (All (IsCut m n)) (sym cuts_is)
+          (All-append (IsCut m n) cuts (complement row ∷ []) h.rows
+          (All-cons (IsCut m n) (complement row) [] (complement_cut m n row is small) (All-nil (IsCut m n))));
+      keeps = λ params outer x at hold r k.
+          let point = outer ++ x ∷ params in
+          let sides = append_all cuts (complement row ∷ []) point (subst (λ fs. AllAtLeast fs point) cuts_is hold) in
+          subst (λ bs. Keys (staying bs all) params (outer ++ x ∷ r)) (sym stays_is)
+          (staying_false stays all s params (outer ++ x ∷ r) next
+          (λ is. both_sides row point (implies params outer x r at.parameters at.size is) sides.1.0)
+          (h.keeps params outer x at sides.0 r k));
+    }
+
+pub goes_more : (m : ℕ) (inside : List Affine) (row : Affine) (cuts less : List Affine) (old new : List Part) (p : Part)
+    → less ≡ cuts ++ row ∷ [] → p.cuts.items ≡ cuts ++ complement row ∷ [] → new ≡ old ++ p ∷ []
+    → Goes m inside cuts old less new
+goes_more m inside row cuts less old new p less_is cuts_is new_is params outer x at held = by_side held
+  where
+    point : List ℤ
+    point = outer ++ x ∷ params
+
+    cut_at : AllAtLeast cuts point → (pos 0 ≤ℤ value_of row point) ⊎ (pos 0 ≤ℤ value_of (complement row) point)
+        → IsHeld less new point
+    cut_at h (inl a) = inl (subst (λ fs. AllAtLeast fs point) (sym less_is) (all_append cuts (row ∷ []) point h
+        (a, tt)))
+    cut_at h (inr a) =
+        inr (subst (λ ps. InPart ps point) (sym new_is) (in_back_part old (p ∷ []) point
+        (inl (subst (λ fs. AllAtLeast fs point) (sym cuts_is) (all_append cuts (complement row ∷ []) point h
+        (a, tt))))))
+
+    by_side : IsHeld cuts old point → IsHeld less new point
+    by_side (inl h) = cut_at h (one_side row point)
+    by_side (inr h) = inr (subst (λ ps. InPart ps point) (sym new_is) (in_front_part old (p ∷ []) point h))
+
+-- marks, one more
+pub marks_more : (stays : List Bool) (b : Bool) (old new : List Part) (p : Part) → p.stays.items ≡ stays ++ b ∷ []
+    → new ≡ old ++ p ∷ [] → All (HasMarks (length stays + 1)) old → All (HasMarks (length stays + 1)) new
+marks_more stays b old new p stays_is new_is h =
+    let P = HasMarks (length stays + 1) in
+    subst (All P) (sym new_is) (All-append P old (p ∷ []) h (All-cons P p [] (ap length stays_is
+    ∙ length-append stays (b ∷ [])) (All-nil P)))
+
+-- where all rows of the set hold it stays
+pub near_more : (m n : ℕ) (inside : List Affine) (all : List Scanned) (stays : List Bool) (cuts : List Affine)
+    (old new : List Part) (p : Part) → p.cuts.items ≡ cuts → p.stays.items ≡ stays ++ true ∷ [] → new ≡ old ++ p ∷ []
+    → IsCutting m n inside all stays cuts old → All (IsPart m n inside all) new
+near_more m n inside all stays cuts old new p cuts_is stays_is new_is h =
+    let P = IsPart m n inside all in
+    subst (All P) (sym new_is) (All-append P old (p ∷ []) h.parts (All-cons P p [] (record {
+      cuts = subst (All (IsCut m n)) (sym cuts_is) h.rows;
+      keeps = λ params outer x at hold r k.
+          subst (λ bs. Keys (staying bs all) params (outer ++ x ∷ r)) (sym stays_is)
+          (subst (λ ss. Keys ss params (outer ++ x ∷ r)) (sym (staying_true stays all))
+          (h.keeps params outer x at (subst (λ fs. AllAtLeast fs (outer ++ x ∷ params)) cuts_is hold) r k));
+    }) (All-nil P)))
+
+pub near_goes : (cuts : List Affine) (old new : List Part) (p : Part) (point : List ℤ) → p.cuts.items ≡ cuts
+    → new ≡ old ++ p ∷ [] → IsHeld cuts old point → InPart new point
+near_goes cuts old new p point cuts_is new_is (inl h) =
+    subst (λ ps. InPart ps point) (sym new_is) (in_back_part old (p ∷ []) point
+    (inl (subst (λ fs. AllAtLeast fs point) (sym cuts_is) h)))
+near_goes cuts old new p point cuts_is new_is (inr h) =
+    subst (λ ps. InPart ps point) (sym new_is) (in_front_part old (p ∷ []) point h)
+
+-- parts one by one
+pub held_next : (ps : List Part) (k : ℕ) (p : Part) (old : List Part) (point : List ℤ) → p ≡ get_or ps k p
+    → k < length ps → (InPart (take k ps) point → InPart old point) → InPart (take (k + 1) ps) point
+    → IsHeld p.cuts.items old point
+held_next ps k p old point is inside before h =
+    by_side (in_part_append (take k ps) (p ∷ []) point (subst (λ qs. InPart qs point) (take_next ps k p is inside) h))
+  where
+    by_side : InPart (take k ps) point ⊎ InPart (p ∷ []) point → IsHeld p.cuts.items old point
+    by_side (inl a) = inr (before a)
+    by_side (inr (inl a)) = inl a
+    by_side (inr (inr a)) = absurd a
+
+-- sets one by one
+pub next_at : (os : List Outline) (i : ℕ) (o : Outline) → o ≡ get_or os i o → i < length os → (stays : List Bool)
+    → length stays ≡ i → IsNext stays (sets_in os) o.set.now
+next_at [] i o is inside stays size = absurd (omega (arith, inside))
+next_at (p ∷ os) zero o is inside [] size = sym (ap (λ (q : Outline). q.set.now) is)
+next_at (p ∷ os) (suc i) o is inside [] size = absurd (omega (arith, size))
+next_at (p ∷ os) zero o is inside (b ∷ stays) size = absurd (omega (arith, size))
+next_at (p ∷ os) (suc i) o is inside (b ∷ stays) size =
+    next_at os i o is (omega (arith, inside)) stays (omega (arith, size))
+
+-- no point of a set leaves the rows of its shadow
+pub implied_rows : (depth m n : ℕ) (o : Outline) (d : Shadow) (rows : List Affine) → IsAlike depth n o
+    → o.set.now.system.dimensions ≡ m + suc depth → rows ≡ (get_or o.shadows.items depth d).rows.items
+    → All (Implies m o.set.now) rows
+implied_rows depth m n o d rows alike dims is =
+    subst (All (Implies m o.set.now)) (sym is) (λ k e inside params outer x r range size key.
+    let row = (o.are.each depth d alike.inside).rows k e inside in
+    row_holds depth m (get_or (get_or o.shadows.items depth d).rows.items k e) o dims
+    (λ front others a b sat. row.holds (front ++ others) sat) params outer x r range size key)

@@ -1,0 +1,159 @@
+-- What an instance of a plan touches and stores, by its place in the walk.
+use Rattle.std.proofs.Common.{◌≡◌, ℕ, zero, suc, ◌≤◌, ◌<◌, ℤ, List, [], ◌∷◌, length, map, get_or, Some, ap}
+use Rattle.std.proofs.Common.{sym, refl}
+use Rattle.std.proofs.Common.{◌∙◌, arith}
+use Rattle.std.specs.Prelude.{slice_get}
+use Rattle.std.specs.Option.{option_map}
+use Rattle.std.proofs.lemmas.List.{length-map}
+use Rattle.std.proofs.lemmas.Option.{slice_get-map, slice_get_within}
+use Rattle.scop_syntax.specs.Cells.{accesses, cell_of, cells_read, reads}
+use Rattle.scop_syntax.specs.Execution.{cell_number}
+use Rattle.scop_syntax.specs.Kernel.{IsKernel, IsPlaced, ranks_of}
+use Rattle.scop_syntax.specs.Members.{In}
+use Rattle.scop_syntax.specs.Statements.{Placed, Runs, statements_of, visit_of}
+use Rattle.scop_syntax.specs.Tree.{Access, Program}
+use Rattle.scop_syntax.specs.View.{instance_of}
+use Rattle.scop_syntax.specs.Walk.{Instance, Visit, instance, walk_of}
+use Rattle.scop_syntax.specs.declared.instance.Instance.{Instance as CodeInstance}
+use Rattle.scop_syntax.proofs.Members.{in_from_place, place_of, there_is}
+use Rattle.conflict_orders.proofs.SortedLists.{StandOnce}
+use Rattle.scop_meaning.specs.Instances.{IsVisitOf}
+use Rattle.tile_events.specs.Flat.{read_by, value_by, written_by}
+use Rattle.tile_core.specs.Plans.{IsPlan, extents_in, places_in, program_in, walk_in}
+use Rattle.tile_core.specs.Plans as plans
+use Rattle.tile_core.specs.declared.plan.Plan.{Plan}
+use Rattle.tile_core.proofs.Ranks.{placed}
+
+-- the visit at an instance's place has its numbers
+pub record IsThere (plan : Plan) (i : CodeInstance) (v : Visit) : Type 0 where
+  pub at : slice_get (walk_in plan) (plans.place_of plan i) ≡ Some v
+  pub is : IsVisitOf (program_in plan) plan.params.now (instance_of i) v
+
+pub there : (plan : Plan) (i : CodeInstance) → In (instance_of i) (places_in plan) → (v : Visit) × IsThere plan i v
+there plan i walked =
+    let walk = walk_in plan in
+    let place = plans.place_of plan i in
+    let found = placed (places_in plan) (instance_of i) walked in
+    let within = slice_get_within (places_in plan) place (instance_of i) found in
+    let many = length-map walk instance in
+    let v = there_is walk place (omega (arith, within, many)) in
+    let e : Some (instance v.0) ≡ Some (instance_of i) =
+    sym (slice_get-map instance walk place ∙ ap (option_map instance) v.1) ∙ found in
+    let same : instance v.0 ≡ instance_of i = cc in
+    (v.0, record { at = v.1; is = record { walked = in_from_place walk place v.0 v.1; same = same } })
+
+-- it is the only one
+pub one : (plan : Plan) (i : CodeInstance) (v w : Visit) → StandOnce (program_in plan) plan.params.now
+    → IsVisitOf (program_in plan) plan.params.now (instance_of i) v
+    → IsVisitOf (program_in plan) plan.params.now (instance_of i) w → v ≡ w
+one plan i v w once a b =
+    let walk = walk_in plan in
+    let p = place_of walk v a.walked in
+    let q = place_of walk w b.walked in
+    let e = a.same ∙ sym b.same in
+    same p.0 q.0 (once p.0 q.0 v w p.1 q.1 (ap (λ (x : Instance). x.number) e)
+    (ap (λ (x : Instance). x.turns) e)) p.1 q.1
+  where
+    same : (m n : ℕ) → m ≡ n → slice_get (walk_in plan) m ≡ Some v → slice_get (walk_in plan) n ≡ Some w → v ≡ w
+    same m n e g h = cc
+
+-- how many reads there are
+pub reads_there : (plan : Plan) (i : CodeInstance) (v : Visit) (extents : List (List ℕ)) → IsThere plan i v
+    → length (read_by extents (slice_get (walk_in plan) (plans.place_of plan i))) ≡ length (reads v.body)
+reads_there plan i v extents is =
+    ap (λ o. length (read_by extents o)) is.at
+    ∙ (length-map (cells_read v) (cell_number extents) ∙ length-map (reads v.body) (λ access. cell_of access v.point))
+
+many_reads : (plan : Plan) (i : CodeInstance) (extents : List (List ℕ))
+    → StandOnce (program_in plan) plan.params.now
+    → In (instance_of i) (places_in plan) → (v : Visit) → IsVisitOf (program_in plan) plan.params.now (instance_of i) v
+    → length (reads v.body) ≡ length (read_by extents (slice_get (walk_in plan) (plans.place_of plan i)))
+many_reads plan i extents once walked v is =
+    let t = there plan i walked in
+    ap (λ (w : Visit). length (reads w.body)) (one plan i v t.0 once is t.1.is) ∙ sym
+    (reads_there plan i t.0 extents t.1)
+
+-- the laws of instances and statements
+abbrev pub AreFound : Type 0
+AreFound = (program : Program) (params : List ℤ) (v : Visit) → In v (walk_of program params)
+    → (p : Placed) × (xs : List ℤ) × In p (statements_of program) × Runs p.scopes params xs × (v ≡ visit_of p params xs)
+
+abbrev pub ArePlaced : Type 0
+ArePlaced = (program : Program) (p : Placed) → IsKernel program → In p (statements_of program)
+    → IsPlaced (ranks_of program) (length program.parameters) p
+
+-- there are few at any place of the walk
+pub few_at : (plan : Plan) (j : ℕ) (extents : List (List ℕ)) → AreFound → ArePlaced → IsPlan plan
+    → j < length (walk_in plan)
+    → length (read_by extents (slice_get (walk_in plan) j)) ≤ 16
+few_at plan j extents found placed_law is less =
+    let walk = walk_in plan in
+    let v = there_is walk j less in
+    let s = found (program_in plan) plan.params.now v.0 (in_from_place walk j v.0 v.1) in
+    let few = (placed_law (program_in plan) s.0 is.limits.kernel s.2).body.few_reads in
+    let same = ap (λ (w : Visit). length (reads w.body)) s.4 in
+    let n = ap (λ o. length (read_by extents o)) v.1
+    ∙ (length-map (cells_read v.0) (cell_number extents)
+    ∙ length-map (reads v.0.body) (λ access. cell_of access v.0.point)) in
+    omega (arith, few, same, n)
+
+-- and so for an instance
+pub few_reads : (plan : Plan) (i : CodeInstance) (extents : List (List ℕ)) → AreFound → ArePlaced → IsPlan plan
+    → In (instance_of i) (places_in plan)
+    → length (read_by extents (slice_get (walk_in plan) (plans.place_of plan i))) ≤ 16
+few_reads plan i extents found placed_law is walked =
+    let t = there plan i walked in
+    let s = found (program_in plan) plan.params.now t.0 t.1.is.walked in
+    let few = (placed_law (program_in plan) s.0 is.limits.kernel s.2).body.few_reads in
+    let same = ap (λ (w : Visit). length (reads w.body)) s.4 in
+    let n = reads_there plan i t.0 extents t.1 in
+    omega (arith, few, same, n)
+
+-- a call that tells the cell of an access tells that of the plan
+abbrev pub TellsCell : Plan → CodeInstance → ℕ → ℕ → Type 0
+TellsCell plan i access result =
+    (v : Visit) (touched : Access) → IsVisitOf (program_in plan) plan.params.now (instance_of i) v
+    → slice_get (accesses v.body) access ≡ Some touched
+    → result ≡ cell_number (extents_in plan) (cell_of touched v.point)
+
+pub written_is : (plan : Plan) (i : CodeInstance) (result : ℕ) → IsPlan plan → In (instance_of i) (places_in plan)
+    → TellsCell plan i 0 result
+    → result ≡ written_by (extents_in plan) (slice_get (walk_in plan) (plans.place_of plan i))
+written_is plan i result is walked tells =
+    let t = there plan i walked in
+    let v = t.0 in
+    tells v v.body.place t.1.is refl ∙ sym (ap (written_by (extents_in plan)) t.1.at)
+
+mapped : {A B : Type 0} (f : B → ℕ) (g : A → B) (xs : List A) (i : ℕ) (x : A) → slice_get xs i ≡ Some x
+    → get_or (map f (map g xs)) i 0 ≡ f (g x)
+mapped f g [] i x e = absurd cc
+mapped f g (y ∷ ys) zero x e = ap (λ z. f (g z)) (let q : y ≡ x = cc in q)
+mapped f g (y ∷ ys) (suc i) x e = mapped f g ys i x e
+
+pub read_is : (plan : Plan) (i : CodeInstance) (read result : ℕ) → StandOnce (program_in plan) plan.params.now
+    → IsPlan plan → In (instance_of i) (places_in plan)
+    → read < length (read_by (extents_in plan)
+    (slice_get (walk_in plan) (plans.place_of plan i))) → TellsCell plan i (suc read) result
+    → result ≡ get_or (read_by (extents_in plan)
+    (slice_get (walk_in plan) (plans.place_of plan i))) read 0
+read_is plan i read result once is walked less tells =
+    let extents = extents_in plan in
+    let t = there plan i walked in
+    let v = t.0 in
+    let n = many_reads plan i extents once walked v t.1.is in
+    let touched = there_is (reads v.body) read (omega (arith, less, n)) in
+    tells v touched.0 t.1.is touched.1
+    ∙ (sym (mapped (cell_number extents) (λ access. cell_of access v.point) (reads v.body) read touched.0 touched.1)
+    ∙ sym (ap (λ o. get_or (read_by extents o) read 0) t.1.at))
+
+pub value_is : (plan : Plan) (i : CodeInstance) (result : ℕ) (values : List ℕ) → In (instance_of i) (places_in plan)
+    → ((v : Visit) → IsVisitOf (program_in plan) plan.params.now (instance_of i) v → result ≡ value_by (Some v) values)
+    → result ≡ value_by (slice_get (walk_in plan) (plans.place_of plan i)) values
+value_is plan i result values walked tells =
+    let t = there plan i walked in tells t.0 t.1.is ∙ sym (ap (λ o. value_by o values) t.1.at)
+
+-- an instance's place is one of the walk
+pub place_within : (plan : Plan) (i : CodeInstance) → In (instance_of i) (places_in plan)
+    → plans.place_of plan i < length (walk_in plan)
+place_within plan i walked =
+    let t = there plan i walked in slice_get_within (walk_in plan) (plans.place_of plan i) t.0 t.1.at

@@ -1,0 +1,229 @@
+-- What is cut off grows instance by instance.
+use Rattle.std.proofs.Common.{◌≡◌, ◌≢◌, ◌∙◌, ℕ, suc, ◌+◌, ℤ, List, [], ◌∷◌, ◌++◌, length, drop, inl, inr, refl, ap}
+use Rattle.std.proofs.Common.{subst, sym, arith}
+use Rattle.std.specs.Prelude.{Some}
+use Rattle.std.proofs.lemmas.List.{length-append, map-append}
+use Rattle.std.proofs.lemmas.List.Elements.{All-nil}
+use Rattle.whole_numbers.specs.Lexicographic.{LexLess}
+use Rattle.whole_numbers.proofs.Lexicographic.{LexLess-irrefl}
+use Rattle.scop_syntax.specs.Members.{In}
+use Rattle.scop_syntax.specs.View.{instance_of}
+use Rattle.scop_syntax.specs.Walk.{Instance}
+use Rattle.scop_syntax.specs.declared.instance.Instance.{Instance as CodeInstance}
+use Rattle.loop_tree.specs.Conditions.{IsHeld}
+use Rattle.loop_tree.specs.Spot.{rest_of}
+use Rattle.loop_tree.specs.SpotView.{IsSpotOf, StandAlike, marks_in, to_come}
+use Rattle.loop_tree.specs.Stretches.{left_of}
+use Rattle.loop_tree.specs.Tiling.{Tiling, tile_of, wave_of}
+use Rattle.loop_tree.specs.Tree.{Trees}
+use Rattle.loop_tree.specs.Walk.{visits}
+use Rattle.loop_tree.specs.declared.spot.Spot.{Spot}
+use Rattle.loop_tree.proofs.SameSpots.{rest_alike, spot_alike}
+use Rattle.tile_list.specs.Tiles.{AreWaves, InOneTile, IsNextWave, RiseByTile, TileBefore, joined}
+use Rattle.tile_list.specs.TilesView.{IsTile, firsts_of, waves_of}
+use Rattle.tile_list.specs.steps.Cutting.{AreTilesOf, HasBegun, HasGrown, IsCut, IsCutTo, IsNewTile, IsWaveOf}
+use Rattle.tile_list.specs.steps.Cutting.{Takes}
+use Rattle.tile_list.specs.steps.Keys.{HasKey, IsKeyOf}
+use Rattle.tile_list.specs.steps.Stretching.{AllHaveKey, Passes}
+use Rattle.tile_list.specs.declared.cutting.Cut.{Cut}
+use Rattle.tile_list.specs.declared.keys.Key.{Key}
+use Rattle.tile_list.specs.declared.list.Tile.{Tile}
+use Rattle.tile_list.proofs.Stretches.{length-left}
+use Rattle.tile_list.proofs.ListedTiles.{tile_more}
+use Rattle.tile_list.proofs.Parts.{grown, next_begun, next_rises}
+use Rattle.tile_list.proofs.Waves.{wave_more}
+
+-- one key in place of another
+pub same_key : (tiling : Tiling) (x y : Instance) (key other : Key) → x ≡ y → IsKeyOf tiling x key
+    → other.wave.items ≡ key.wave.items → other.tile.items ≡ key.tile.items → IsKeyOf tiling y other
+same_key tiling x y key other e is waves tiles =
+    record {
+      wave = waves ∙ (is.wave ∙ ap (wave_of tiling) e);
+      tile = tiles ∙ (is.tile ∙ ap (tile_of tiling) e);
+    }
+
+-- keys that are one are those of instances of one tile
+pub keys_tell : (tiling : Tiling) (x y : Instance) (key next : Key) → IsKeyOf tiling x key → IsKeyOf tiling y next
+    → next.wave.items ≡ key.wave.items → next.tile.items ≡ key.tile.items → InOneTile tiling x y
+keys_tell tiling x y key next is are waves tiles =
+    record { wave = sym is.wave ∙ (sym waves ∙ are.wave); tile = sym is.tile ∙ (sym tiles ∙ are.tile) }
+
+-- and the other way round
+tells_keys : (tiling : Tiling) (x y : Instance) (key next : Key) → IsKeyOf tiling x key → IsKeyOf tiling y next
+    → InOneTile tiling x y → (next.wave.items ≡ key.wave.items) × (next.tile.items ≡ key.tile.items)
+tells_keys tiling x y key next is are one =
+    (are.wave ∙ (sym one.wave ∙ sym is.wave), are.tile ∙ (sym one.tile ∙ sym is.tile))
+
+-- a tile with so many instances more
+tile_grown : (ts : Trees) (params : List ℤ) (k : ℕ) (x : Instance) (more ys : List Instance)
+    (old new : Tile) → IsTile ts params k (x ∷ more) old → new.first ≡ old.first
+    → StandAlike new.spot old.spot → new.size ≡ old.size + length ys
+    → IsTile ts params k (x ∷ (more ++ ys)) new
+tile_grown ts params k x more ys old new is first spot size =
+    record {
+      first = is.first ∙ sym (ap (λ (i : CodeInstance). Some (instance_of i)) first);
+      size = let l = length-append more ys in
+          let s = is.size in
+          omega (arith, size, s, l);
+      spot = spot_alike ts params new.spot old.spot spot is.spot;
+      behind = rest_alike ts params new.spot old.spot spot ∙ is.behind;
+    }
+
+behind_all : (front : List Instance) (y : Instance) (rest : List Instance)
+    → drop (suc (length front)) (front ++ y ∷ rest) ≡ rest
+behind_all [] y rest = refl
+behind_all (x ∷ front) y rest = behind_all front y rest
+
+-- a new tile
+pub tile_begun : (ts : Trees) (params : List ℤ) (front : List Instance) (first : CodeInstance) (spot : Spot) (n : ℕ)
+    (tile : Tile) → IsNewTile first spot n tile → IsSpotOf ts params spot
+    → front ++ instance_of first ∷ to_come ts params spot ≡ visits ts params
+    → IsTile ts params (length front) (instance_of tile.first ∷ []) tile
+tile_begun ts params front first spot n tile new is all =
+    record {
+      first = refl;
+      size = new.size;
+      spot = spot_alike ts params tile.spot spot new.spot_is is;
+      behind = rest_alike ts params tile.spot spot new.spot_is
+          ∙ (sym (behind_all front (instance_of first) (to_come ts params spot))
+          ∙ ap (drop (suc (length front))) all);
+    }
+
+-- the next instances are in the current tile
+pub takes_all : (tiling : Tiling) (ys : List Instance) (count : ℕ) (old new : Cut) (next : Key)
+    → count ≡ length ys → ((y : Instance) → In y ys → HasKey tiling old.key y)
+    → HasGrown count (record old { next = next }) new → (ts : Trees) (params : List ℤ) (rest : List Instance)
+    → IsCutTo ts params tiling (ys ++ rest) old → IsCutTo ts params tiling rest new
+takes_all tiling ys count old new next all_are one has ts params rest cut =
+    let x = instance_of old.current.first in
+    let all = cut.more ++ ys in
+    let same : instance_of new.current.first ≡ x = ap instance_of has.first in
+    record {
+      closed = cut.closed;
+      more = all;
+      parts = subst (λ z. IsCut tiling (visits ts params) cut.closed z all rest) (sym same)
+          (grown tiling (visits ts params) cut.closed x cut.more ys rest cut.parts
+          (λ y i. one y i x cut.key));
+      tiles = subst (AreTilesOf ts params cut.closed) (sym has.tiles) cut.tiles;
+      last = subst (λ z. IsTile ts params (length (joined cut.closed)) (z ∷ all) new.current) (sym same)
+          (tile_grown ts params (length (joined cut.closed)) x cut.more ys old.current new.current cut.last has.first
+          has.spot (has.size ∙ ap (λ (n : ℕ). old.current.size + n) all_are));
+      waves = subst (λ (us : List Tile). AreWaves tiling (firsts_of us ++ instance_of new.current.first ∷ [])
+          (waves_of us ++ new.current.wave ∷ [])) (sym has.tiles)
+          (subst (λ z. AreWaves tiling (firsts_of old.tiles.items ++ z ∷ [])
+          (waves_of old.tiles.items ++ new.current.wave ∷ [])) (sym same)
+          (subst (λ n. AreWaves tiling (firsts_of old.tiles.items ++ x ∷ []) (waves_of old.tiles.items ++ n ∷ []))
+          (sym has.wave) cut.waves));
+      key = same_key tiling x (instance_of new.current.first) old.key new.key (sym same) cut.key has.wave_of
+          has.tile_of;
+    }
+
+-- the next instance is in the current tile
+pub takes_same : (tiling : Tiling) (y : Instance) (spot : Spot) (old new : Cut) (next : Key)
+    → IsKeyOf tiling y next → next.wave.items ≡ old.key.wave.items → next.tile.items ≡ old.key.tile.items
+    → HasGrown 1 (record old { next = next }) new → Takes tiling y spot old new
+takes_same tiling y spot old new next is waves tiles has =
+    record {
+      cut = λ ts params rise at. takes_all tiling (y ∷ []) 1 old new next refl one has ts params
+          (to_come ts params spot);
+      key = λ z key. keys_tell tiling z y new.key next key is (waves ∙ sym has.wave_of) (tiles ∙ sym has.tile_of);
+    }
+  where
+    one : (z : Instance) → In z (y ∷ []) → HasKey tiling old.key z
+    one z (inl e) x key = subst (InOneTile tiling x) (sym e) (keys_tell tiling x y old.key next key is waves tiles)
+    one z (inr j) x key = absurd j
+
+-- the number of the next wave
+next_number : (tiling : Tiling) (x y : Instance) (cut : Cut) (n : ℕ) → IsKeyOf tiling x cut.key
+    → IsKeyOf tiling y cut.next → IsWaveOf cut n → TileBefore tiling x y
+    → IsNextWave tiling x cut.current.wave y n
+next_number tiling x y cut n is are wave (inl less) =
+    let other : cut.next.wave.items ≢ cut.key.wave.items =
+    λ e. LexLess-irrefl (wave_of tiling y)
+    (subst (λ w. LexLess w (wave_of tiling y)) (sym is.wave ∙ (sym e ∙ are.wave)) less) in
+    let one = wave.other other in
+    inr (less, omega (arith, one))
+next_number tiling x y cut n is are wave (inr less) =
+    inl (less.0, wave.same (are.wave ∙ (sym less.0 ∙ sym is.wave)))
+
+-- the next instance begins a tile
+begins_next : (tiling : Tiling) (first : CodeInstance) (spot : Spot) (old new : Cut) (next : Key)
+    → IsKeyOf tiling (instance_of first) next
+    → ((next.wave.items ≡ old.key.wave.items) × (next.tile.items ≡ old.key.tile.items) → ⊥)
+    → HasBegun first spot (record old { next = next }) new
+    → (ts : Trees) (params : List ℤ) → RiseByTile tiling (visits ts params) → IsSpotOf ts params spot
+    → IsCutTo ts params tiling (instance_of first ∷ to_come ts params spot) old
+    → IsCutTo ts params tiling (to_come ts params spot) new
+begins_next tiling first spot old new next is other has ts params rise at cut =
+    let x = instance_of old.current.first in
+    let y = instance_of first in
+    let rest = to_come ts params spot in
+    let all = cut.closed ++ (x ∷ cut.more) ∷ [] in
+    let tile = has.current.2 in
+    let same : instance_of new.current.first ≡ y = ap instance_of tile.first_is in
+    let less : TileBefore tiling x y =
+    elim (next_rises tiling (visits ts params) cut.closed x cut.more y rest rise cut.parts) [
+      | inl one ↦ absurd (other (tells_keys tiling x y old.key next cut.key is one))
+      | inr before ↦ before
+    ] in
+    let parts = next_begun tiling (visits ts params) cut.closed x cut.more y rest cut.parts less in
+    let number : IsNextWave tiling x old.current.wave y has.current.0 =
+    next_number tiling x y (record old { next = next }) has.current.0 cut.key is has.current.1 less in
+    record {
+      closed = all;
+      more = [];
+      parts = subst (λ z. IsCut tiling (visits ts params) all z [] rest) (sym same) parts;
+      tiles = subst (AreTilesOf ts params all) (sym has.tiles)
+          (tile_more ts params cut.closed old.tiles.items (x ∷ cut.more) old.current cut.tiles cut.last);
+      last = tile_begun ts params (joined all) first spot has.current.0 new.current tile at parts.all;
+      waves = subst (λ (us : List Tile). AreWaves tiling (firsts_of us ++ instance_of new.current.first ∷ [])
+          (waves_of us ++ new.current.wave ∷ [])) (sym has.tiles)
+          (numbered ts params same (tile.wave_is) number cut);
+      key = same_key tiling y (instance_of new.current.first) next new.key (sym same) is has.wave_of has.tile_of;
+    }
+  where
+    numbered : (ts : Trees) (params : List ℤ) {rest : List Instance}
+        → instance_of new.current.first ≡ instance_of first → {n : ℕ} → new.current.wave ≡ n
+        → IsNextWave tiling (instance_of old.current.first) old.current.wave (instance_of first) n
+        → IsCutTo ts params tiling rest old
+        → AreWaves tiling (firsts_of (old.tiles.items ++ old.current ∷ []) ++ instance_of new.current.first ∷ [])
+        (waves_of (old.tiles.items ++ old.current ∷ []) ++ new.current.wave ∷ [])
+    numbered ts params {rest} same {n} wave number cut =
+        let ts = old.tiles.items in
+        let more = wave_more tiling (firsts_of ts) (waves_of ts) (instance_of old.current.first) old.current.wave
+        (instance_of first) n cut.waves number in
+        let firsts = map-append (λ (t : Tile). instance_of t.first) ts (old.current ∷ []) in
+        let waves = map-append (λ (t : Tile). t.wave) ts (old.current ∷ []) in
+        subst (λ (us : List Instance). AreWaves tiling (us ++ instance_of new.current.first ∷ [])
+        (waves_of (ts ++ old.current ∷ []) ++ new.current.wave ∷ [])) (sym firsts)
+        (subst (λ (ns : List ℕ). AreWaves tiling
+        ((firsts_of ts ++ instance_of old.current.first ∷ []) ++ instance_of new.current.first ∷ [])
+        (ns ++ new.current.wave ∷ [])) (sym waves)
+        (subst (λ z. AreWaves tiling ((firsts_of ts ++ instance_of old.current.first ∷ []) ++ z ∷ [])
+        ((waves_of ts ++ old.current.wave ∷ []) ++ new.current.wave ∷ [])) (sym same)
+        (subst (λ k. AreWaves tiling ((firsts_of ts ++ instance_of old.current.first ∷ []) ++ instance_of first ∷ [])
+        ((waves_of ts ++ old.current.wave ∷ []) ++ k ∷ [])) (sym wave) more)))
+
+-- so is it taken
+pub takes_next : (tiling : Tiling) (first : CodeInstance) (spot : Spot) (old new : Cut) (next : Key)
+    → IsKeyOf tiling (instance_of first) next
+    → ((next.wave.items ≡ old.key.wave.items) × (next.tile.items ≡ old.key.tile.items) → ⊥)
+    → HasBegun first spot (record old { next = next }) new → Takes tiling (instance_of first) spot old new
+takes_next tiling first spot old new next is other has =
+    record {
+      cut = begins_next tiling first spot old new next is other has;
+      key = λ z key. keys_tell tiling z (instance_of first) new.key next key is (sym has.wave_of) (sym has.tile_of);
+    }
+
+-- what is left of a spot's stretch is in the current tile
+pub passes : (tiling : Tiling) (spot : Spot) (old new : Cut) (next : Key) → AllHaveKey tiling old.key spot.stretch
+    → HasGrown spot.stretch.left (record old { next = next }) new
+    → Passes tiling spot (record spot { stretch = record spot.stretch { left = 0 } }) old new
+passes tiling spot old new next all has =
+    let s = spot.stretch in
+    record {
+      spots = λ ts params is. record { room = is.room; stands = is.stands; held = All-nil IsHeld };
+      fewer = λ ts params. let l = length-append (left_of s) (rest_of ts (marks_in spot) params []) in omega (arith, l);
+      cut = λ ts params. takes_all tiling (left_of s) s.left old new next (sym (length-left s)) all has ts params
+          (rest_of ts (marks_in spot) params []);
+    }

@@ -1,0 +1,72 @@
+-- The forms of the old loops within a loop that stays.
+use Rattle.std.proofs.Common.{◌≡◌, ℕ, zero, suc, ◌+◌, ℤ, pos, List, [], ◌∷◌, ◌++◌, length, map, take, drop, get_or}
+use Rattle.std.proofs.Common.{ap, ap₂, subst, ◌∙◌, refl, arith}
+use Rattle.std.specs.Prelude.{All, ◌+ℤ◌}
+use Rattle.std.proofs.Math.Seq.{get_or-append_seam}
+use Rattle.std.proofs.lemmas.Int.{ints}
+use Rattle.std.proofs.lemmas.List.{append_assoc, map-append}
+use Rattle.std.proofs.lemmas.List.Elements.{All-nil, All-cons, All-head, All-tail, All-append}
+use Rattle.whole_numbers.specs.Affine.{Affine, value_of, values_of}
+use Rattle.whole_numbers.specs.Lists.{dot}
+use Rattle.whole_numbers.proofs.Ring.{mul_zero_left}
+use Rattle.iteration_domains.specs.Rows.{variable}
+use Rattle.iteration_domains.proofs.Surroundings.{length-variable}
+use Rattle.iteration_domains.proofs.RowLaws.{value_of-variable}
+use Rattle.loop_tree.specs.Shape.{IsOver}
+use Rattle.tree_simplification.specs.steps.Inlined.{inside, widened}
+
+dot_widened : (k : ℕ) (cs outer params : List ℤ) (x : ℤ) → length outer ≡ k
+    → dot (take k cs ++ pos 0 ∷ drop k cs) ((outer ++ x ∷ []) ++ params) ≡ dot cs (outer ++ params)
+dot_widened zero cs [] params x o = let z = mul_zero_left x in omega (arith, ints)
+dot_widened zero cs (y ∷ outer) params x o = absurd (omega arith)
+dot_widened (suc k) cs [] params x o = absurd (omega arith)
+dot_widened (suc k) [] (y ∷ outer) params x o = let z = mul_zero_left y in omega (arith, ints)
+dot_widened (suc k) (c ∷ cs) (y ∷ outer) params x o =
+    let r = dot_widened k cs outer params x (omega arith) in omega (arith, ints)
+
+value_widened : (k : ℕ) (f : Affine) (outer params : List ℤ) (x : ℤ) → length outer ≡ k
+    → value_of (widened k f) ((outer ++ x ∷ []) ++ params) ≡ value_of f (outer ++ params)
+value_widened k f outer params x o = ap (λ (z : ℤ). z +ℤ f.constant) (dot_widened k f.coefficients outer params x o)
+
+length_widened : (k : ℕ) (cs : List ℤ) → length (take k cs ++ pos 0 ∷ drop k cs) ≡ length cs + 1
+length_widened zero cs = omega arith
+length_widened (suc k) [] = refl
+length_widened (suc k) (c ∷ cs) = let r = length_widened k cs in omega arith
+
+all_widened : (k : ℕ) (loops : List Affine) (outer params : List ℤ) (x : ℤ) → length outer ≡ k
+    → values_of (map (widened k) loops) ((outer ++ x ∷ []) ++ params) ≡ values_of loops (outer ++ params)
+all_widened k [] outer params x o = refl
+all_widened k (f ∷ loops) outer params x o =
+    ap₂ (λ (z : ℤ) (zs : List ℤ). z ∷ zs) (value_widened k f outer params x o) (all_widened k loops outer params x o)
+
+-- they give the values round the loop, and then its own
+pub inside_values : (m k : ℕ) (loops : List Affine) (outer params : List ℤ) (x : ℤ) → length outer ≡ k
+    → values_of (inside m k loops) ((outer ++ x ∷ []) ++ params) ≡ values_of loops (outer ++ params) ++ x ∷ []
+inside_values m k loops outer params x o =
+    let point = (outer ++ x ∷ []) ++ params in
+    let own = variable (k + 1 + m) k in
+    let at : get_or point k (pos 0) ≡ x =
+    ap (λ (xs : List ℤ). get_or xs k (pos 0)) (append_assoc outer (x ∷ []) params)
+    ∙ subst (λ i. get_or (outer ++ x ∷ params) i (pos 0) ≡ x) o (get_or-append_seam outer x params (pos 0)) in
+    map-append (λ f. value_of f point) (map (widened k) loops) (own ∷ [])
+    ∙ ap₂ (λ (us : List ℤ) (z : ℤ). us ++ z ∷ []) (all_widened k loops outer params x o)
+    (value_of-variable (k + 1 + m) k point (omega arith) ∙ at)
+
+widened_sized : (n k : ℕ) (loops : List Affine) → All (IsOver n) loops → All (IsOver (n + 1)) (map (widened k) loops)
+widened_sized n k [] sized = All-nil (IsOver (n + 1))
+widened_sized n k (f ∷ loops) sized =
+    let own = All-head (IsOver n) f loops sized in
+    let l = length_widened k f.coefficients in
+    All-cons (IsOver (n + 1)) (widened k f) (map (widened k) loops) (omega (arith, own, l))
+    (widened_sized n k loops (All-tail (IsOver n) f loops sized))
+
+-- and are over one loop more
+pub inside_sized : (m k : ℕ) (loops : List Affine) → All (IsOver (k + m)) loops
+    → All (IsOver (k + 1 + m)) (inside m k loops)
+inside_sized m k loops sized =
+    let n = k + 1 + m in
+    let own = variable n k in
+    let e : (k + m) + 1 ≡ n = omega arith in
+    All-append (IsOver n) (map (widened k) loops) (own ∷ [])
+    (subst (λ i. All (IsOver i) (map (widened k) loops)) e (widened_sized (k + m) k loops sized))
+    (All-cons (IsOver n) own [] (length-variable n k) (All-nil (IsOver n)))
