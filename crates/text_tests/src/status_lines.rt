@@ -97,7 +97,10 @@ fn tells_each_status_on_a_line(rt: HostRuntime) -> Result<(), Fail> {
     assert!(rt; kernel.is_some());
     for (status, line) in LINES {
         let mut sink = MemSink::of(rt.alloc(), 200, 7, &[])?;
-        assert!(rt; status_line(status, kernel.as_ref(), &mut sink) == Ok(()), "{line}");
+        assert!(rt;
+            status_line(status, kernel.as_ref(), &mut sink) == Ok(()),
+            "{line}"
+        );
         assert!(rt; sink.taken() == line.as_bytes(), "{line}");
     }
     Ok(())
