@@ -1,6 +1,6 @@
 -- A run that is Ok gives the exact result.
 use Rattle.std.proofs.Common.{◌≡◌, ℕ, ℤ, pos, ◌+ℤ◌, ◌*ℤ◌, neg_ℤ, List, [], ◌∷◌, length, sym, ap₂, arith}
-use Rattle.std.specs.Prelude.{Result, Ok, Err}
+use Rattle.std.specs.Prelude.{Result, Ok, Err, IfOk}
 use Rattle.std.proofs.lemmas.Int.{ints}
 use Rattle.std.proofs.Math.ListN.{length-set}
 use Rattle.whole_numbers.specs.Lists.{dot, sums, multiples}
@@ -10,11 +10,19 @@ use Rattle.whole_numbers.proofs.Lists.{multiples-one}
 use Rattle.wide_math.specs.declared.Wide.{Wide}
 use Rattle.wide_math.specs.Checked.{sum_of, product_of, cross_of, cross_sum_of, ◌>>=◌}
 use Rattle.wide_math.proofs.Steps.{sum_of-ok, product_of-ok, cross_of-exact, cross_sum_of-exact, chain-ok}
+use Rattle.affine_forms.specs.declared.stop.FormStop.{FormStop}
+use Rattle.affine_forms.specs.Gives.{Gives}
 use Rattle.affine_forms.specs.Parts.{variables_of, coefficient_of, without_variable}
 use Rattle.affine_forms.specs.Runs.{multiply_add_run, map_run, zip_run, added_run, multiplied_run}
 use Rattle.affine_forms.specs.Runs.{added_multiple_run, dot_run, dot_run_from, value_run, plus_run, scaled_run}
 use Rattle.affine_forms.specs.Runs.{plus_multiple_run, substitute_run, form_run, multiples_sum_run}
 use Rattle.affine_forms.specs.Runs.{multiples_difference_run, forms_sum_run, forms_difference_run}
+
+-- what holds of each Ok of a run holds of what a call gives
+pub gives-ok : (result : Result Affine FormStop) (run : Result Affine Wide) (P : Affine → Type 0)
+    → Gives (λ f. f) result run → ((f : Affine) → run ≡ Ok f → P f) → IfOk result P
+gives-ok (Ok f) run P gave each = each f gave
+gives-ok (Err e) run P gave each = tt
 
 -- a product and then a sum
 multiply_add_run-exact : (sum a b z : ℤ) → multiply_add_run sum a b ≡ Ok z → z ≡ sum +ℤ (a *ℤ b)

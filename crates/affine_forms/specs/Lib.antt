@@ -3,3 +3,4 @@ pub mod Runs
 pub mod Gives
 pub mod Values
 pub mod Stops
+pub mod InPlace

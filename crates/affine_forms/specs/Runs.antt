@@ -61,6 +61,10 @@ value_run f point = dot_run f.coefficients point >>= λ sum. sum_of sum f.consta
 abbrev pub form_run : Result (List ℤ) Wide → Result ℤ Wide → Result Affine Wide
 form_run coefficients constant = coefficients >>= λ zs. constant >>= λ z. Ok (form_of zs z)
 
+-- `step` at the two numbers of each place: the coefficients in order, then the constant
+abbrev pub combined_run : (ℤ → ℤ → Result ℤ Wide) → Affine → Affine → Result Affine Wide
+combined_run step f g = form_run (zip_run step f.coefficients g.coefficients) (step f.constant g.constant)
+
 -- f + g
 unfoldable pub plus_run : Affine → Affine → Result Affine Wide
 plus_run f g = form_run (added_run f.coefficients g.coefficients) (sum_of f.constant g.constant)

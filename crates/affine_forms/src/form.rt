@@ -2,7 +2,7 @@
 //! Each call answers the exact form or value, or the first number on its way that does not fit
 //! 128 bits.
 
-ghost use Rattle.std.specs.Prelude.{◌≡◌, ◌≢◌, neg_ℤ, ◌<◌, ◌≤◌, All, Ok, Err, IfOk, IsOk, length};
+ghost use Rattle.std.specs.Prelude.{◌≡◌, ◌≢◌, ℤ, neg_ℤ, ◌<◌, ◌≤◌, All, Result, Ok, Err, IfOk, IsOk, length};
 ghost use Rattle.whole_numbers.specs.Affine.{value_of, sum_of_forms, multiple_of_form, substituted, composed, form_of};
 ghost use Rattle.whole_numbers.specs.Lists.{zeros};
 ghost use Rattle.affine_forms.specs.Parts.{variables_of, coefficient_of, without_variable};
@@ -10,7 +10,10 @@ ghost use Rattle.affine_forms.specs.Runs.{value_run, plus_run, scaled_run, plus_
 ghost use Rattle.affine_forms.specs.Runs.{plus_combination_run, substitute_run, compose_run, forms_sum_run};
 ghost use Rattle.affine_forms.specs.Runs.{forms_difference_run};
 ghost use Rattle.whole_numbers.specs.Content.{lowest_of_form};
+ghost use Rattle.affine_forms.specs.Runs.{combined_run};
+ghost use Rattle.affine_forms.specs.InPlace.{CombinesAs};
 ghost use Rattle.affine_forms.specs.Gives.{Gives};
+ghost use Rattle.wide_math.specs.declared.Wide.{Wide};
 ghost use Rattle.wide_math.specs.Gives.{Becomes};
 ghost use Rattle.affine_forms.specs.Values.{IsSum, IsMultiple, IsSubstitution, IsComposition};
 ghost use Rattle.affine_forms.specs.declared.form.TheConstants.{INLINE};
@@ -128,13 +131,10 @@ impl Form {
         ensures value { IfOk result (IsSum self.now other.now) }
         ensures memory { variables_of self.now ≤ INLINE → result ≢ Err NoMemory }
     {
-        match self.copy() {
-            Err(stop) => Err(stop),
-            Ok(mut sum) => match sum.add_form(other) {
-                Err(wide) => Err(FormStop::Wide(wide)),
-                Ok(()) => Ok(sum),
-            },
-        }
+        self.combined(
+            other,
+            &|x: i128, y: i128| -> Result<i128, Wide> { add(x, y) },
+        )
     }
 
     /// The form times `factor`.
@@ -196,13 +196,10 @@ impl Form {
             (λ f. f ≡ sum_of_forms (multiple_of_form a self.now) (multiple_of_form b other.now)) }
         ensures memory { variables_of self.now ≤ INLINE → result ≢ Err NoMemory }
     {
-        match self.copy() {
-            Err(stop) => Err(stop),
-            Ok(mut sum) => match sum.add_multiples(a, b, other) {
-                Err(wide) => Err(FormStop::Wide(wide)),
-                Ok(()) => Ok(sum),
-            },
-        }
+        self.combined(
+            other,
+            &|x: i128, y: i128| -> Result<i128, Wide> { cross_sum(a, x, b, y) },
+        )
     }
 
     /// `a` times this form less `b` times another over the same variables.
@@ -217,13 +214,10 @@ impl Form {
             (λ f. f ≡ sum_of_forms (multiple_of_form a self.now) (multiple_of_form (neg_ℤ b) other.now)) }
         ensures memory { variables_of self.now ≤ INLINE → result ≢ Err NoMemory }
     {
-        match self.copy() {
-            Err(stop) => Err(stop),
-            Ok(mut difference) => match difference.subtract_multiples(a, b, other) {
-                Err(wide) => Err(FormStop::Wide(wide)),
-                Ok(()) => Ok(difference),
-            },
-        }
+        self.combined(
+            other,
+            &|x: i128, y: i128| -> Result<i128, Wide> { cross(a, x, b, y) },
+        )
     }
 
     /// Puts the form into lowest terms: divides each number by the greatest common divisor of all.
@@ -292,24 +286,52 @@ impl Form {
         coefficient
     }
 
-    #[tactic(auto, unfolding(crate::specs::Runs::plus_run))]
-    fn add_form(&mut self, other: &Form) -> Result<(), Wide>
-        requires { variables_of other.now ≡ variables_of self.old }
-        ensures { Becomes self.new result (plus_run self.old other.now) }
+    /// Puts what `step` makes of the two numbers at each place there: the coefficients in order, then the constant.
+    fn combine<F: Fn(i128, i128) -> Result<i128, Wide>>(
+        &mut self,
+        other: &Form,
+        step: &F,
+    ) -> Result<(), Wide>
+        requires variables { variables_of other.now ≡ variables_of self.old }
+        requires callable { F.IsAlwaysCallable step.now }
+        ensures { (run : ℤ → ℤ → Result ℤ Wide) → CombinesAs (F.post step.now) run
+            → Becomes self.new result (combined_run run self.old other.now) }
     {
-        match row::add_row(
+        match row::zip_in_place(
             self.coefficients.as_mut_slice(),
             other.coefficients.as_slice(),
+            step,
         ) {
             Err(wide) => return Err(wide),
             Ok(()) => {}
         }
-        match add(self.constant, other.constant) {
+        match step(self.constant, other.constant) {
             Err(wide) => Err(wide),
             Ok(constant) => {
                 self.constant = constant;
                 Ok(())
             }
+        }
+    }
+
+    /// A copy, combined with another form.
+    fn combined<F: Fn(i128, i128) -> Result<i128, Wide>>(
+        &self,
+        other: &Form,
+        step: &F,
+    ) -> Result<Form, FormStop>
+        requires variables { variables_of other.now ≡ variables_of self.now }
+        requires callable { F.IsAlwaysCallable step.now }
+        ensures run { (run : ℤ → ℤ → Result ℤ Wide) → CombinesAs (F.post step.now) run
+            → Gives (λ f. f) result (combined_run run self.now other.now) }
+        ensures memory { variables_of self.now ≤ INLINE → result ≢ Err NoMemory }
+    {
+        match self.copy() {
+            Err(stop) => Err(stop),
+            Ok(mut form) => match form.combine(other, step) {
+                Err(wide) => Err(FormStop::Wide(wide)),
+                Ok(()) => Ok(form),
+            },
         }
     }
 
@@ -317,57 +339,14 @@ impl Form {
     fn multiply(&mut self, factor: i128) -> Result<(), Wide>
         ensures { Becomes self.new result (scaled_run factor self.old) }
     {
-        match row::multiply_row(self.coefficients.as_mut_slice(), factor) {
+        match row::map_in_place(
+            self.coefficients.as_mut_slice(),
+            |x: i128| -> Result<i128, Wide> { mul(factor, x) },
+        ) {
             Err(wide) => return Err(wide),
             Ok(()) => {}
         }
         match mul(factor, self.constant) {
-            Err(wide) => Err(wide),
-            Ok(constant) => {
-                self.constant = constant;
-                Ok(())
-            }
-        }
-    }
-
-    #[tactic(auto, unfolding(crate::specs::Runs::forms_sum_run))]
-    fn add_multiples(&mut self, a: i128, b: i128, other: &Form) -> Result<(), Wide>
-        requires { variables_of other.now ≡ variables_of self.old }
-        ensures { Becomes self.new result (forms_sum_run a self.old b other.now) }
-    {
-        match row::sum_multiples(
-            self.coefficients.as_mut_slice(),
-            a,
-            b,
-            other.coefficients.as_slice(),
-        ) {
-            Err(wide) => return Err(wide),
-            Ok(()) => {}
-        }
-        match cross_sum(a, self.constant, b, other.constant) {
-            Err(wide) => Err(wide),
-            Ok(constant) => {
-                self.constant = constant;
-                Ok(())
-            }
-        }
-    }
-
-    #[tactic(auto, unfolding(crate::specs::Runs::forms_difference_run))]
-    fn subtract_multiples(&mut self, a: i128, b: i128, other: &Form) -> Result<(), Wide>
-        requires { variables_of other.now ≡ variables_of self.old }
-        ensures { Becomes self.new result (forms_difference_run a self.old b other.now) }
-    {
-        match row::subtract_multiples(
-            self.coefficients.as_mut_slice(),
-            a,
-            b,
-            other.coefficients.as_slice(),
-        ) {
-            Err(wide) => return Err(wide),
-            Ok(()) => {}
-        }
-        match cross(a, self.constant, b, other.constant) {
             Err(wide) => Err(wide),
             Ok(constant) => {
                 self.constant = constant;
@@ -381,21 +360,10 @@ impl Form {
         requires { variables_of other.now ≡ variables_of self.old }
         ensures { Becomes self.new result (plus_multiple_run self.old factor other.now) }
     {
-        match row::add_multiple(
-            self.coefficients.as_mut_slice(),
-            factor,
-            other.coefficients.as_slice(),
-        ) {
-            Err(wide) => return Err(wide),
-            Ok(()) => {}
-        }
-        match row::multiply_add(self.constant, factor, other.constant) {
-            Err(wide) => Err(wide),
-            Ok(constant) => {
-                self.constant = constant;
-                Ok(())
-            }
-        }
+        self.combine(
+            other,
+            &|x: i128, y: i128| -> Result<i128, Wide> { row::multiply_add(x, factor, y) },
+        )
     }
 
     /// Adds each of `forms`, in order, times the factor at its place.

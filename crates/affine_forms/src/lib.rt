@@ -4,10 +4,12 @@
 
 mod form;
 mod laws;
+mod lists;
 mod row;
 mod stop;
 
 pub use form::{Form, INLINE};
 pub use laws::dot_products_stop_at_the_first_wide_number;
-pub use row::{content, divide_row};
+pub use lists::{copies, push, push_copies, push_copy};
+pub use row::{content, divide_row, map_in_place, zip_in_place};
 pub use stop::FormStop;

@@ -1,11 +1,12 @@
 //! Rows of whole numbers: the checked loops under the forms, each over slices. None takes memory.
 
-ghost use Rattle.std.specs.Prelude.{◌≡◌, ◌≤◌, pos, length, map};
+ghost use Rattle.std.specs.Prelude.{◌≡◌, ◌≤◌, ℤ, Result, pos, length, map};
 ghost use Rattle.whole_numbers.specs.Floor.{floor};
 ghost use Rattle.whole_numbers.specs.Content.{content_from};
 ghost use Rattle.wide_math.specs.Gives.{Becomes};
-ghost use Rattle.affine_forms.specs.Runs.{multiply_add_run, added_run, multiplied_run, added_multiple_run};
-ghost use Rattle.affine_forms.specs.Runs.{multiples_sum_run, multiples_difference_run, dot_run};
+ghost use Rattle.wide_math.specs.declared.Wide.{Wide};
+ghost use Rattle.affine_forms.specs.InPlace.{CombinesAs, TurnsAs};
+ghost use Rattle.affine_forms.specs.Runs.{dot_run, map_run, multiply_add_run, zip_run};
 
 use wide_math::{Wide, add, cross, cross_sum, gcd_of_sizes, mul};
 
@@ -21,70 +22,44 @@ pub fn multiply_add(sum: i128, a: i128, b: i128) -> Result<i128, Wide>
     }
 }
 
-/// Adds to each entry of `row` the addend's entry at its place.
-pub fn add_row(row: &mut [i128], addend: &[i128]) -> Result<(), Wide>
-    requires { length row.old ≡ length addend.now }
-    ensures { Becomes row.new result (added_run row.old addend.now) }
+/// Puts what `step` makes of the entry at each place of `row` there, in order, up to the first that stops.
+///
+/// # Errors
+/// That of the first place where `step` has one.
+pub fn map_in_place<F: Fn(i128) -> Result<i128, Wide>>(
+    row: &mut [i128],
+    step: F,
+) -> Result<(), Wide>
+    requires { F.IsAlwaysCallable step }
+    ensures { (run : ℤ → Result ℤ Wide) → TurnsAs (F.post step) run → Becomes row.new result (map_run run row.old) }
 {
     for at in 0..row.len() {
-        match add(row[at], addend[at]) {
+        match step(row[at]) {
             Err(wide) => return Err(wide),
-            Ok(sum) => row[at] = sum,
+            Ok(next) => row[at] = next,
         }
     }
     Ok(())
 }
 
-/// Multiplies each entry of `row` by `factor`.
-pub fn multiply_row(row: &mut [i128], factor: i128) -> Result<(), Wide>
-    ensures { Becomes row.new result (multiplied_run factor row.old) }
+/// Puts what `step` makes of the two entries of a place into each place of `row`, in order, up to the first that stops.
+///
+/// # Errors
+/// That of the first place where `step` has one.
+pub fn zip_in_place<F: Fn(i128, i128) -> Result<i128, Wide>>(
+    row: &mut [i128],
+    other: &[i128],
+    step: &F,
+) -> Result<(), Wide>
+    requires sized { length row.old ≡ length other.now }
+    requires callable { F.IsAlwaysCallable step.now }
+    ensures { (run : ℤ → ℤ → Result ℤ Wide) → CombinesAs (F.post step.now) run
+        → Becomes row.new result (zip_run run row.old other.now) }
 {
     for at in 0..row.len() {
-        match mul(factor, row[at]) {
+        match step(row[at], other[at]) {
             Err(wide) => return Err(wide),
-            Ok(product) => row[at] = product,
-        }
-    }
-    Ok(())
-}
-
-/// Adds to each entry of `row` the addend's entry at its place times `factor`.
-pub fn add_multiple(row: &mut [i128], factor: i128, addend: &[i128]) -> Result<(), Wide>
-    requires { length row.old ≡ length addend.now }
-    ensures { Becomes row.new result (added_multiple_run row.old factor addend.now) }
-{
-    for at in 0..row.len() {
-        match multiply_add(row[at], factor, addend[at]) {
-            Err(wide) => return Err(wide),
-            Ok(sum) => row[at] = sum,
-        }
-    }
-    Ok(())
-}
-
-/// Makes each entry of `row` `a` times itself plus `b` times the other row's entry at its place.
-pub fn sum_multiples(row: &mut [i128], a: i128, b: i128, other: &[i128]) -> Result<(), Wide>
-    requires { length row.old ≡ length other.now }
-    ensures { Becomes row.new result (multiples_sum_run a row.old b other.now) }
-{
-    for at in 0..row.len() {
-        match cross_sum(a, row[at], b, other[at]) {
-            Err(wide) => return Err(wide),
-            Ok(sum) => row[at] = sum,
-        }
-    }
-    Ok(())
-}
-
-/// Makes each entry of `row` `a` times itself less `b` times the other row's entry at its place.
-pub fn subtract_multiples(row: &mut [i128], a: i128, b: i128, other: &[i128]) -> Result<(), Wide>
-    requires { length row.old ≡ length other.now }
-    ensures { Becomes row.new result (multiples_difference_run a row.old b other.now) }
-{
-    for at in 0..row.len() {
-        match cross(a, row[at], b, other[at]) {
-            Err(wide) => return Err(wide),
-            Ok(difference) => row[at] = difference,
+            Ok(next) => row[at] = next,
         }
     }
     Ok(())

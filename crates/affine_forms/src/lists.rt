@@ -1,0 +1,65 @@
+//! Lists that grow by one, where what finds no room is dropped, and copies of forms.
+
+ghost use Rattle.std.specs.Prelude.{◌≡◌, [], ◌∷◌, ◌++◌, IfOk, OnErr, OnOk};
+
+use crate::form::Form;
+use std::alloc::{AllocError, Global};
+
+/// One element more at the end; without memory for it the list stays as it was.
+///
+/// # Errors
+/// `AllocError` alone.
+pub fn push<T: Drop>(list: &mut Vec<T>, last: T) -> Result<(), AllocError>
+    ensures pushed { OnOk result (list.new.items ≡ list.old.items ++ last ∷ []) }
+    ensures kept { OnErr result (list.new.items ≡ list.old.items) }
+{
+    match list.push(last) {
+        Err(_) => Err(AllocError),
+        Ok(()) => Ok(()),
+    }
+}
+
+/// A copy of a form more at the end.
+///
+/// # Errors
+/// `AllocError` alone.
+pub fn push_copy(forms: &mut Vec<Form>, form: &Form) -> Result<(), AllocError>
+    ensures { OnOk result (forms.new.items ≡ forms.old.items ++ form.now ∷ []) }
+{
+    match form.copy() {
+        Err(_) => Err(AllocError),
+        Ok(copy) => push(forms, copy),
+    }
+}
+
+/// Copies of forms more at the end.
+///
+/// # Errors
+/// `AllocError` alone.
+pub fn push_copies(forms: &mut Vec<Form>, more: &[Form]) -> Result<(), AllocError>
+    ensures { OnOk result (forms.new.items ≡ forms.old.items ++ more.now) }
+{
+    for form in more {
+        match push_copy(forms, form) {
+            Err(error) => return Err(error),
+            Ok(()) => {}
+        }
+    }
+    Ok(())
+}
+
+/// Copies of forms.
+///
+/// # Errors
+/// `AllocError` alone.
+pub fn copies(alloc: Global, forms: &[Form]) -> Result<Vec<Form>, AllocError>
+    ensures { IfOk result (λ v. v.items ≡ forms.now) }
+{
+    match Vec::with_capacity(alloc, forms.len()) {
+        Err(error) => Err(error),
+        Ok(mut copied) => match push_copies(&mut copied, forms) {
+            Err(error) => Err(error),
+            Ok(()) => Ok(copied),
+        },
+    }
+}
