@@ -5,10 +5,9 @@ ghost use Rattle.quast_trees.specs.Tree as Tree;
 ghost use Rattle.quast_trees.specs.Source.{unnamed};
 ghost use Rattle.quast_trees.specs.Postfix.{tree_of, read, built, standing, branched, bound, IsLeaf};
 
-use crate::lists::push;
 use crate::node::{Forms, Node};
 use crate::quast::Quast;
-use affine_forms::Form;
+use affine_forms::{Form, push};
 use std::alloc::{AllocError, Global};
 use std::marker::Model;
 

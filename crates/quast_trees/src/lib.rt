@@ -13,12 +13,11 @@ pub use leaf::Leaf;
 pub use naming::copied_source;
 pub use node::{Forms, Node, Source};
 pub use place::{Part, Place};
-pub use quast::{Quast, copied_forms};
+pub use quast::Quast;
 
 mod builder;
 mod laws;
 mod leaf;
-mod lists;
 mod map;
 mod naming;
 mod node;

@@ -4,11 +4,10 @@ ghost use Rattle.affine_forms.specs.Gives.{Gives};
 ghost use Rattle.quast_trees.specs.Postfix.{tree_of};
 ghost use Rattle.quast_trees.specs.Mapped.{Suits, SuitsNode, IsMapped, map_run, node_run, leaf_run, composed_run};
 
-use crate::lists::push;
 use crate::naming::copied_source;
 use crate::node::{Forms, Node};
 use crate::quast::Quast;
-use affine_forms::{Form, FormStop};
+use affine_forms::{Form, FormStop, push};
 use std::alloc::Global;
 
 impl Quast {

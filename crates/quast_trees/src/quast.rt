@@ -5,9 +5,8 @@ ghost use Rattle.quast_trees.specs.Tree.{initial, leaf, branch, bind, count, Spe
 ghost use Rattle.quast_trees.specs.Source.{unnamed};
 ghost use Rattle.quast_trees.specs.Postfix.{held, tree_of, written, IsQuast};
 
-use crate::lists::push;
 use crate::node::{Forms, Node};
-use affine_forms::Form;
+use affine_forms::{Form, copies, push};
 use std::alloc::{AllocError, Global};
 use std::marker::Model;
 
@@ -43,7 +42,7 @@ impl Quast {
         ensures parameters { IfOk result (λ q. q.parameters ≡ parameters) }
         ensures tree { IfOk result (λ q. tree_of q ≡ leaf (unnamed parameters forms.now)) }
     {
-        let forms = match copied_forms(alloc, forms) {
+        let forms = match copies(alloc, forms) {
             Err(error) => return Err(error),
             Ok(forms) => forms,
         };
@@ -143,24 +142,4 @@ impl Quast {
     {
         Quast { parameters, nodes }
     }
-}
-
-/// A copy of each form.
-pub fn copied_forms(alloc: Global, forms: &[Form]) -> Result<Vec<Form>, AllocError>
-    ensures { IfOk result (λ v. v.items ≡ forms.now) }
-{
-    let mut copies = match Vec::with_capacity(alloc, forms.len()) {
-        Err(error) => return Err(error),
-        Ok(copies) => copies,
-    };
-    for form in forms {
-        match form.copy() {
-            Err(_) => return Err(AllocError),
-            Ok(copy) => match push(&mut copies, copy) {
-                Err(error) => return Err(error),
-                Ok(()) => {}
-            },
-        }
-    }
-    Ok(copies)
 }
