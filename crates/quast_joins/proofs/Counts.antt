@@ -1,10 +1,10 @@
 -- How many nodes a join has, by its two trees and by their nodes, and as the code counts them.
 use Rattle.std.proofs.Common.{◌≡◌, ℕ, zero, suc, ◌+◌, ◌*◌, ◌<◌, ◌≤◌, Bool, true, false, List, [], ◌∷◌, ◌++◌, length}
-use Rattle.std.proofs.Common.{map, drop, get_or, min, refl, sym, ap, ap₂, ◌∙◌, arith, drop-cons}
-use Rattle.std.specs.Prelude.{nat_eq, pos, sum_by, if◌then◌else◌}
+use Rattle.std.proofs.Common.{map, drop, get_or, min, refl, ap, ap₂, ◌∙◌, arith, drop-cons}
+use Rattle.std.specs.Prelude.{fold, nat_eq, pos, sum_by, if◌then◌else◌}
 use Rattle.std.proofs.lemmas.Bool.{eq-eqb}
-use Rattle.std.proofs.lemmas.List.{length-map, drop_all}
-use Rattle.std.proofs.lemmas.List.Sums.{sum_by-append}
+use Rattle.std.proofs.lemmas.List.{length-map}
+use Rattle.std.proofs.lemmas.List.Sums.{sum_by-append, sum_by-cons}
 use Rattle.whole_numbers.specs.Affine.{Affine, form_of}
 use Rattle.quast_trees.specs.Source.{Forms}
 use Rattle.quast_trees.specs.Tree.{Tree, initial, leaf, branch, bind, count}
@@ -175,12 +175,17 @@ join_added (bind f d x) b =
 pub capped_sum : (most x y : ℕ) → capped most (capped most x + capped most y) ≡ capped most (x + y)
 capped_sum most x y = omega arith
 
--- a loop that adds up, at its end
-pub counted : {A : Type 0} (f : A → ℕ) (most count i : ℕ) (xs : List A) → length xs ≤ i → count ≤ most
-    → capped most (count + sum_by f (drop i xs)) ≡ capped most (sum_by f xs) → count ≡ capped most (sum_by f xs)
-counted f most count i xs past few so_far =
-    let none : sum_by f (drop i xs) ≡ 0 = ap (sum_by f) (drop_all i xs past) in
-    sym (omega arith) ∙ so_far
+-- numbers added up one by one, each sum saturated: from any number on, and from 0
+counted_from : {A : Type 0} (f : A → ℕ) (most n : ℕ) (xs : List A) → n ≤ most
+    → fold (λ s x. capped most (s + capped most (f x))) n xs ≡ capped most (n + sum_by f xs)
+counted_from f most n [] few = omega arith
+counted_from f most n (x ∷ xs) few =
+    let e = sum_by-cons f x xs in
+    counted_from f most (capped most (n + capped most (f x))) xs (omega arith) ∙ omega arith
+
+pub counted : {A : Type 0} (f : A → ℕ) (most : ℕ) (xs : List A)
+    → fold (λ s x. capped most (s + capped most (f x))) 0 xs ≡ capped most (sum_by f xs)
+counted f most xs = counted_from f most 0 xs (omega arith) ∙ omega arith
 
 -- how many loops have a number and a form on both sides
 abbrev pub both_sides : List ℕ → List ℕ → List Affine → List Affine → ℕ

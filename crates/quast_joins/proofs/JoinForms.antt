@@ -30,17 +30,16 @@ shifted_parts (suc n) k [] h = absurd (omega arith)
 shifted_parts (suc n) k (c ∷ cs) h = ap (λ zs. c ∷ zs) (shifted_parts n k cs (omega arith))
 
 -- the parts put together one by one
-pub shifted_put : (n k : ℕ) (f g : Affine) (first second third fourth : List ℤ) → n ≤ length f.coefficients
-    → first ≡ [] → second ≡ first ++ take n f.coefficients → third ≡ second ++ zeros k
-    → fourth ≡ third ++ take (length f.coefficients - n) (drop n f.coefficients) → g ≡ form_of fourth f.constant
+pub shifted_put : (n k : ℕ) (f g : Affine) (first second third : List ℤ) → n ≤ length f.coefficients
+    → first ≡ take n f.coefficients → second ≡ first ++ zeros k
+    → third ≡ second ++ take (length f.coefficients - n) (drop n f.coefficients) → g ≡ form_of third f.constant
     → g ≡ shifted_form n k f
-shifted_put n k f g first second third fourth h begin a b c is =
+shifted_put n k f g first second third h a b c is =
     let cs = f.coefficients in
     let rest : take (length cs - n) (drop n cs) ≡ drop n cs =
     ap (λ m. take m (drop n cs)) (sym (length-drop n cs)) ∙ take-length (drop n cs) in
     is ∙ ap (λ (zs : List ℤ). form_of zs f.constant)
-    (c ∙ (ap₂ (λ (xs ys : List ℤ). xs ++ ys)
-    (b ∙ ap (λ (xs : List ℤ). xs ++ zeros k) (a ∙ ap (λ (xs : List ℤ). xs ++ take n cs) begin)) rest
+    (c ∙ (ap₂ (λ (xs ys : List ℤ). xs ++ ys) (b ∙ ap (λ (xs : List ℤ). xs ++ zeros k) a) rest
     ∙ (append_assoc (take n cs) (zeros k) (drop n cs) ∙ sym (shifted_parts n k cs h))))
 
 -- a difference with 1 taken off its constant

@@ -48,11 +48,10 @@ fn under_node(leaf: &Forms, node: &Node) -> u128
 fn under_leaf(leaf: &Forms, nodes: &[Node]) -> u128
     ensures { result ≡ capped most_told (sum_by (under_node leaf.now) nodes.now) }
 {
-    let mut count: u128 = 0;
-    for node in nodes {
-        count = count.saturating_add(under_node(leaf, node));
-    }
-    count
+    nodes.iter().fold(
+        0,
+        |count: u128, node| count.saturating_add(under_node(leaf, node)),
+    )
 }
 
 // The nodes that one node of the first quast becomes.
@@ -70,9 +69,8 @@ fn join_node(nodes: &[Node], node: &Node) -> u128
 pub fn count_nodes(first: &[Node], second: &[Node]) -> u128
     ensures { result ≡ capped most_told (sum_by (join_node second.now) first.now) }
 {
-    let mut count: u128 = 0;
-    for node in first {
-        count = count.saturating_add(join_node(second, node));
-    }
-    count
+    first.iter().fold(
+        0,
+        |count: u128, node| count.saturating_add(join_node(second, node)),
+    )
 }

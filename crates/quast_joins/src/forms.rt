@@ -8,26 +8,13 @@ ghost use Rattle.quast_joins.specs.Shifts.{shifted_form, shifted_leaf, widened};
 ghost use Rattle.quast_joins.specs.Sizes.{IsFormWithin};
 
 use crate::way::Way;
-use affine_forms::{Form, FormStop, INLINE};
-use quast_trees::{Forms, copied_forms, copied_source};
+use affine_forms::{Form, FormStop, INLINE, copies, push};
+use quast_trees::{Forms, copied_source};
 use smallvec::SmallVec;
 use std::alloc::{AllocError, Global};
 
 // A form's coefficients while they are put together.
 type Numbers = SmallVec<i128, INLINE>;
-
-// Appends zeros.
-fn push_zeros(numbers: &mut Numbers, count: usize) -> Result<(), AllocError>
-    ensures { OnOk result (numbers.new.items ≡ numbers.old.items ++ zeros count) }
-{
-    for place in 0..count {
-        match numbers.push(0) {
-            Err(_) => return Err(AllocError),
-            Ok(()) => {}
-        }
-    }
-    Ok(())
-}
 
 /// The form with its variables from `variables` on moved by `more`.
 pub fn move_form(
@@ -40,23 +27,13 @@ pub fn move_form(
     ensures { IfOk result (λ f. f ≡ shifted_form variables more form.now) }
 {
     let coefficients = form.coefficients();
-    let mut numbers = Numbers::new(alloc);
-    numbers.extend_from_slice(&coefficients[..variables])?;
-    push_zeros(&mut numbers, more)?;
+    let zeros = Numbers::from_elem(alloc, 0, more)?;
+    let mut numbers = Numbers::from_slice(alloc, &coefficients[..variables])?;
+    numbers.extend_from_slice(zeros.as_slice())?;
     numbers.extend_from_slice(&coefficients[variables..])?;
     match Form::of(alloc, numbers.as_slice(), form.constant()) {
         Err(_) => Err(AllocError),
         Ok(form) => Ok(form),
-    }
-}
-
-// One form more; one that finds no room is dropped here.
-fn push(forms: &mut Vec<Form>, last: Form) -> Result<(), AllocError>
-    ensures { OnOk result (forms.new.items ≡ forms.old.items ++ last ∷ []) }
-{
-    match forms.push(last) {
-        Err(_) => Err(AllocError),
-        Ok(()) => Ok(()),
     }
 }
 
@@ -141,7 +118,7 @@ pub fn copy_leaf(alloc: Global, leaf: &Forms) -> Result<Forms, AllocError>
         Err(error) => return Err(error),
         Ok(source) => source,
     };
-    match copied_forms(alloc, &leaf.forms) {
+    match copies(alloc, &leaf.forms) {
         Err(error) => Err(error),
         Ok(forms) => Ok(Forms {
             source,

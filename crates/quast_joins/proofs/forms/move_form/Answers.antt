@@ -1,5 +1,6 @@
-use Rattle.std.proofs.Common.{rules, ◌≡◌, ◌++◌, ◌-◌, take, drop, length}
+use Rattle.std.proofs.Common.{rules, ◌≡◌, ◌++◌, ◌-◌, ap, ◌∙◌, take, drop, length}
 use Rattle.whole_numbers.specs.Affine.{form_of}
+use Rattle.whole_numbers.proofs.Dot.{replicate-zeros}
 use Rattle.quast_joins.proofs.JoinForms.{shifted_put}
 use Rattle.quast_joins.proofs.forms.move_form.Goals as goal
 
@@ -7,10 +8,13 @@ pub returns : goal.returns
 returns c =
     let f = c.args.form.now in
     let n = c.args.variables in
-    let b : c.extend_from_slice.new.self.items ≡ c.new-numbers.result.items ++ take n f.coefficients = search rules in
+    let k = c.args.more in
+    let front = c.in_ok-numbers.numbers.items in
+    let a : front ≡ take n f.coefficients = search rules in
+    let b : c.extend_from_slice.new.self.items ≡ front ++ c.in_ok-zeros.zeros.items = search rules in
+    let zero = c.in_ok-zeros.ensures.items_if_clones_equal (search rules) ∙ replicate-zeros k in
     let d : c.extend_from_slice-2.new.self.items
-    ≡ c.push_zeros.new.numbers.items ++ take (length f.coefficients - n) (drop n f.coefficients) = search rules in
+    ≡ c.extend_from_slice.new.self.items ++ take (length f.coefficients - n) (drop n f.coefficients) = search rules in
     let form : c.in-Ok.form ≡ form_of c.extend_from_slice-2.new.self.items f.constant = search rules in
-    shifted_put n c.args.more f c.in-Ok.form c.new-numbers.result.items c.extend_from_slice.new.self.items
-    c.push_zeros.new.numbers.items c.extend_from_slice-2.new.self.items c.requires c.new-numbers.ensures.items b
-    c.in_ok-push_zeros.ensures d form
+    shifted_put n k f c.in-Ok.form front c.extend_from_slice.new.self.items c.extend_from_slice-2.new.self.items
+    c.requires a (b ∙ ap (λ zs. front ++ zs) zero) d form
