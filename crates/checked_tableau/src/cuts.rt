@@ -7,6 +7,7 @@ ghost use Rattle.tableau_rows.specs.Moves.{tied};
 ghost use Rattle.checked_tableau.specs.Lines.{cut_line_run, turned_run, behind_constant, behind_columns};
 
 use crate::contents::reduce;
+use affine_forms::map_in_place;
 use wide_math::{Wide, sub};
 
 /// `a` modulo `divisor`.
@@ -47,13 +48,7 @@ fn leave_turned_remainders(numbers: &mut [i128], divisor: i128) -> Result<(), Wi
     requires { pos 1 ≤ℤ divisor }
     ensures { Becomes numbers.new result (map_run (turned_run divisor) numbers.old) }
 {
-    for at in 0..numbers.len() {
-        match turned_remainder(numbers[at], divisor) {
-            Err(wide) => return Err(wide),
-            Ok(left) => numbers[at] = left,
-        }
-    }
-    Ok(())
+    map_in_place(numbers, |a| turned_remainder(a, divisor))
 }
 
 /// Adds the divisor to the entry of a parameter, if one is given; the entries begin at the constant.

@@ -3,6 +3,7 @@ ghost use Rattle.std.specs.Prelude.{◌≡◌, ◌<◌, ◌+◌, pos, length, sl
 ghost use Rattle.wide_math.specs.Gives.{Becomes};
 ghost use Rattle.tableau_rows.specs.Moves.{crossed_run, entries_run, line_run};
 
+use affine_forms::zip_in_place;
 use wide_math::{Wide, cross, mul};
 
 /// Each entry of `row` times `a`, less `b` times the other's entry at its place.
@@ -10,13 +11,7 @@ pub fn cross_row(row: &mut [i128], a: i128, b: i128, other: &[i128]) -> Result<(
     requires { length row.old ≡ length other.now }
     ensures { Becomes row.new result (crossed_run a b row.old other.now) }
 {
-    for at in 0..row.len() {
-        match cross(row[at], a, b, other[at]) {
-            Err(wide) => return Err(wide),
-            Ok(next) => row[at] = next,
-        }
-    }
-    Ok(())
+    zip_in_place(row, other, &|x, y| cross(x, a, b, y))
 }
 
 /// The entries of a row with the pivot row put in: crossed before and behind the column, and in it
