@@ -3,12 +3,12 @@
 ghost use Rattle.std.specs.Prelude.{◌≡◌, [], IfOk};
 
 use crate::made::{are_rows, forms, is_row, problem};
-use affine_forms::Form;
+use affine_forms::{Form, copies};
 use checked_tableau::Rows;
 use std::alloc::{AllocError, Global};
 use std::test::Fail;
 use tableau_nodes::{
-    Move, Tableau, above, at_least, copies, longer_forms, opposite, part_of, under,
+    Move, Tableau, above, at_least, longer_forms, opposite, part_of, under,
 };
 
 /// Whether the rows' lines are these.

@@ -3,12 +3,12 @@
 ghost use Rattle.pip_solver.specs.Solving.{IsOver};
 
 use crate::quast::print_quast;
+use affine_forms::copies;
 use case_lines::{Lines, print_forms, read_forms};
 use checked_tableau::Problem;
 use pip_solver::{Stop, solve};
 use std::alloc::{AllocError, Global};
 use std::io;
-use tableau_nodes::copies;
 
 /// Solves a copy of a problem, and lets what comes of it go.
 fn solve_again(alloc: Global, problem: &Problem, budget: u64) -> Result<(), AllocError>

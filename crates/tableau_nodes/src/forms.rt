@@ -7,7 +7,7 @@ ghost use Rattle.affine_forms.specs.Gives.{Gives};
 ghost use Rattle.affine_forms.specs.Runs.{map_run};
 ghost use Rattle.lexmin_runs.specs.Nodes.{opposites_run, opposite_run, above_run, under_run, at_least_run, longer_form};
 
-use affine_forms::{Form, FormStop};
+use affine_forms::{Form, FormStop, copies, map_in_place, push};
 use std::alloc::{AllocError, Global};
 use wide_math::{Wide, sub};
 
@@ -15,13 +15,7 @@ use wide_math::{Wide, sub};
 pub fn oppose(numbers: &mut [i128]) -> Result<(), Wide>
     ensures { Becomes numbers.new result (map_run (difference_of (pos 0)) numbers.old) }
 {
-    for at in 0..numbers.len() {
-        match sub(0, numbers[at]) {
-            Err(wide) => return Err(wide),
-            Ok(opposite) => numbers[at] = opposite,
-        }
-    }
-    Ok(())
+    map_in_place(numbers, |number| sub(0, number))
 }
 
 /// The opposite of each number.
@@ -122,14 +116,6 @@ pub fn at_least(alloc: Global, divisor: i128, form: &Form) -> Result<Form, FormS
     }
 }
 
-/// Appends a form.
-fn push(forms: &mut Vec<Form>, form: Form) -> Result<(), AllocError>
-    ensures { OnOk result (forms.new.items ≡ forms.old.items ++ form ∷ []) }
-{
-    forms.push(form)?;
-    Ok(())
-}
-
 /// Appends the form over one variable more, of which it does not speak.
 fn push_longer(alloc: Global, forms: &mut Vec<Form>, form: &Form) -> Result<(), AllocError>
     ensures { OnOk result (forms.new.items ≡ forms.old.items ++ longer_form form.now ∷ []) }
@@ -150,33 +136,6 @@ pub fn longer_forms(alloc: Global, forms: &[Form]) -> Result<Vec<Form>, AllocErr
     };
     for form in forms {
         match push_longer(alloc, &mut all, form) {
-            Err(error) => return Err(error),
-            Ok(()) => {}
-        }
-    }
-    Ok(all)
-}
-
-/// Appends a copy of a form.
-fn push_copy(forms: &mut Vec<Form>, form: &Form) -> Result<(), AllocError>
-    ensures { OnOk result (forms.new.items ≡ forms.old.items ++ form.now ∷ []) }
-{
-    match form.copy() {
-        Err(_) => Err(AllocError),
-        Ok(copy) => push(forms, copy),
-    }
-}
-
-/// A copy of each form.
-pub fn copies(alloc: Global, forms: &[Form]) -> Result<Vec<Form>, AllocError>
-    ensures { IfOk result (λ v. v.items ≡ forms.now) }
-{
-    let mut all = match Vec::with_capacity(alloc, forms.len()) {
-        Err(error) => return Err(error),
-        Ok(all) => all,
-    };
-    for form in forms {
-        match push_copy(&mut all, form) {
             Err(error) => return Err(error),
             Ok(()) => {}
         }

@@ -10,6 +10,6 @@ mod parts;
 mod ties;
 
 pub use bounds::Bound;
-pub use forms::{above, at_least, copies, longer_forms, oppose, opposite, under};
+pub use forms::{above, at_least, longer_forms, oppose, opposite, under};
 pub use node::{Move, Tableau};
 pub use parts::{all_zero, constant_of, is_constant, part_of};

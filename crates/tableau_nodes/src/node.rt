@@ -14,10 +14,10 @@ ghost use Rattle.tableau_nodes.specs.Node.{node_of, next_of, IsGoing, Keeps, Piv
 ghost use Rattle.tableau_nodes.specs.Node.{StopsAt, BindsOn};
 
 use crate::bounds::{Bound, bind_front, copied_bounds, place_of};
-use crate::forms::{copies, copies_with, opposite, tied_forms};
+use crate::forms::{copies_with, opposite, tied_forms};
 use crate::parts::{all_zero, part_of, taken_off};
 use crate::ties::tied_parts;
-use affine_forms::{Form, FormStop};
+use affine_forms::{Form, FormStop, copies};
 use checked_tableau::{Problem, Rows, TableauStop};
 use std::alloc::{AllocError, Global};
 use std::mem;
