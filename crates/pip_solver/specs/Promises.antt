@@ -17,6 +17,7 @@ use Rattle.lexmin_runs.specs.Nodes.{Counted, answered, part_of}
 use Rattle.tableau_rows.specs.Moves.{row_at}
 use Rattle.tableau_nodes.specs.declared.node.Tableau.{Tableau}
 use Rattle.checked_tableau.specs.Table.{Table}
+use Rattle.checked_tableau.specs.declared.stop.TableauStop.TheVariants as moved
 use Rattle.pip_solver.specs.declared.question.Step.TheVariants as step
 use Rattle.pip_solver.specs.declared.question.QuestionStop.{QuestionStop}
 use Rattle.pip_solver.specs.declared.question.QuestionStop.TheVariants as stop
@@ -34,6 +35,11 @@ Tells (Ok found) left counted = counted ≡ Ok (found, left)
 Tells (Err stop.Wide) left counted = (w : Wide) × (counted ≡ Err (run.wide w left))
 Tells (Err stop.Spent) left counted = (counted ≡ Err run.spent) × (left ≡ 0)
 Tells (Err stop.NoMemory) left counted = ⊤
+
+-- why a question stops where a move does
+abbrev pub stop_of : moved.the_data → QuestionStop
+stop_of (moved.Wide w) = stop.Wide
+stop_of moved.NoMemory = stop.NoMemory
 
 -- a move of a question: its run goes on with one move less, or stops so
 abbrev pub Advances : {U : Type 0} → Table → ℕ → Table → ℕ → Result U QuestionStop → Type 0

@@ -9,11 +9,10 @@ ghost use Rattle.lexmin_runs.specs.Emptiness.{equality_rows_run, bound_rows};
 ghost use Rattle.lexmin_runs.specs.Emptiness.{IsBoundedPoint, HasBoundedPoint};
 ghost use Rattle.pip_solver.specs.Promises.{Decides, Empties};
 
-use crate::lists::{push, push_copies};
 use crate::question::{QuestionStop, question};
 use crate::stop::Stop;
 use crate::system_rows::{equality_rows, joined};
-use affine_forms::Form;
+use affine_forms::{Form, copies, push};
 use checked_tableau::Rows;
 use integer_sets::System;
 use std::alloc::{AllocError, Global};
@@ -62,11 +61,10 @@ fn bounded_rows(alloc: Global, system: &System, variables: usize) -> Result<Vec<
     ensures { IfOk result (λ v. v.items
         ≡ system.now.rows ++ bound_rows variables system.now.dimensions system.now.parameters) }
 {
-    let mut rows = Vec::new(alloc);
-    match push_copies(&mut rows, system.rows()) {
+    let mut rows = match copies(alloc, system.rows()) {
         Err(error) => return Err(error),
-        Ok(()) => {}
-    }
+        Ok(rows) => rows,
+    };
     match push_bounds(alloc, &mut rows, variables, system.dimensions()) {
         Err(error) => Err(error),
         Ok(()) => Ok(rows),

@@ -13,8 +13,7 @@ ghost use Rattle.lexmin_runs.specs.Nodes.{all_divided, divided, padded, part_of,
 ghost use Rattle.pip_solver.specs.Frames.{under, KeepsSides};
 
 use crate::frames::{Frame, put};
-use crate::lists::push;
-use affine_forms::Form;
+use affine_forms::{Form, push};
 use checked_tableau::{Rows, remainder_of};
 use quast_trees::Builder;
 use std::alloc::{AllocError, Global};
@@ -46,10 +45,7 @@ fn floor_of(a: i128, divisor: i128) -> i128
 fn zeros(alloc: Global, count: usize) -> Result<Vec<i128>, AllocError>
     ensures { IfOk result (λ v. v.items ≡ zeros count) }
 {
-    match Vec::from_elem(alloc, 0i128, count) {
-        Err(error) => Err(error),
-        Ok(all) => Ok(all),
-    }
+    Vec::from_elem(alloc, 0i128, count)
 }
 
 /// The form of these coefficients, with zeros behind them, and a constant.
@@ -84,17 +80,10 @@ fn floors(alloc: Global, numbers: &[i128], divisor: i128) -> Result<Vec<i128>, A
     requires { pos 1 ≤ℤ divisor }
     ensures { IfOk result (λ v. v.items ≡ map (λ z. floor z divisor) numbers.now) }
 {
-    let mut all = match Vec::with_capacity(alloc, numbers.len()) {
-        Err(error) => return Err(error),
-        Ok(all) => all,
-    };
-    for number in numbers {
-        match all.push(floor_of(*number, divisor)) {
-            Err(_) => return Err(AllocError),
-            Ok(()) => {}
-        }
-    }
-    Ok(all)
+    numbers
+        .iter()
+        .map(|number| floor_of(*number, divisor))
+        .collect(alloc)
 }
 
 /// The form of the last of so many variables and one more.
@@ -190,10 +179,7 @@ fn place(
             Err(error) => return Err(error),
             Ok(form) => form,
         };
-        return match push(&mut leaf.forms, form) {
-            Err(error) => Err(error),
-            Ok(()) => Ok(()),
-        };
+        return push(&mut leaf.forms, form);
     }
     let variables = match rows.parameters().checked_add(leaf.bound) {
         None => return Err(AllocError),

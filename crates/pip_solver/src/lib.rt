@@ -7,7 +7,6 @@ mod asking;
 mod emptiness;
 mod frames;
 mod leaf;
-mod lists;
 mod looking;
 mod minimum;
 mod point;

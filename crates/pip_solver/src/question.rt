@@ -3,7 +3,7 @@
 ghost use Rattle.std.specs.Prelude.{◌≡◌, ℕ, ◌+◌, ◌<◌, ◌≤◌, length, Ok, None, IfOk, suc};
 ghost use Rattle.tableau_rows.specs.Run.{cuts, next, pivots, run};
 ghost use Rattle.lexmin_runs.specs.Nodes.{answered};
-ghost use Rattle.pip_solver.specs.Promises.{Shows, Advances, Tells};
+ghost use Rattle.pip_solver.specs.Promises.{Shows, Advances, Tells, stop_of};
 
 use checked_tableau::{Rows, TableauStop};
 
@@ -26,6 +26,17 @@ pub enum QuestionStop {
     Spent,
     /// There is no memory.
     NoMemory,
+}
+
+impl From<TableauStop> for QuestionStop {
+    ghost from_gives = { λ stop asked. asked ≡ stop_of stop };
+
+    fn from(stop: TableauStop) -> QuestionStop {
+        match stop {
+            TableauStop::Wide(_) => QuestionStop::Wide,
+            TableauStop::NoMemory => QuestionStop::NoMemory,
+        }
+    }
 }
 
 /// The next step. It forms no number.
@@ -79,14 +90,9 @@ fn pay_for_cut(rows: &mut Rows, row: usize, left: &mut u64) -> Result<(), Questi
     if *left == 0 {
         return Err(QuestionStop::Spent);
     }
-    match rows.cut(row, None) {
-        Err(TableauStop::Wide(_)) => Err(QuestionStop::Wide),
-        Err(TableauStop::NoMemory) => Err(QuestionStop::NoMemory),
-        Ok(()) => {
-            *left -= 1;
-            Ok(())
-        }
-    }
+    rows.cut(row, None)?;
+    *left -= 1;
+    Ok(())
 }
 
 /// Whether the rows have a whole point that is not negative, in so many moves.

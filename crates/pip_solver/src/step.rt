@@ -10,7 +10,6 @@ ghost use Rattle.pip_solver.specs.Steps.{Steps};
 use crate::asking::{above_somewhere, context_holds};
 use crate::looking::{first_below, first_broken};
 use crate::question::QuestionStop;
-use checked_tableau::TableauStop;
 use std::alloc::Global;
 use tableau_nodes::{Move, Tableau};
 
@@ -40,14 +39,9 @@ fn split(
     if *left == 0 {
         return Err(QuestionStop::Spent);
     }
-    match node.split(alloc, row) {
-        Err(TableauStop::Wide(_)) => Err(QuestionStop::Wide),
-        Err(TableauStop::NoMemory) => Err(QuestionStop::NoMemory),
-        Ok(next) => {
-            *left -= 1;
-            Ok(Next::Moves(next))
-        }
-    }
+    let next = node.split(alloc, row)?;
+    *left -= 1;
+    Ok(Next::Moves(next))
 }
 
 /// A cut on a row, paid for with a move.
@@ -62,14 +56,9 @@ fn cut(alloc: Global, node: &mut Tableau, row: usize, left: &mut u64) -> Result<
     if *left == 0 {
         return Err(QuestionStop::Spent);
     }
-    match node.cut(alloc, row) {
-        Err(TableauStop::Wide(_)) => Err(QuestionStop::Wide),
-        Err(TableauStop::NoMemory) => Err(QuestionStop::NoMemory),
-        Ok(next) => {
-            *left -= 1;
-            Ok(Next::Moves(next))
-        }
-    }
+    let next = node.cut(alloc, row)?;
+    *left -= 1;
+    Ok(Next::Moves(next))
 }
 
 /// A pivot on a row, paid for with a move.

@@ -1,14 +1,13 @@
 //! The rows of a system as those of a problem: of each equality the form and its opposite, then the system's own rows.
-ghost use Rattle.std.specs.Prelude.{◌≡◌, [], ◌++◌, All, IfOk};
+ghost use Rattle.std.specs.Prelude.{◌≡◌, [], ◌∷◌, ◌++◌, All, IfOk, OnOk};
 ghost use Rattle.affine_forms.specs.Gives.{Gives};
 ghost use Rattle.affine_forms.specs.Parts.{variables_of};
 ghost use Rattle.integer_sets.specs.Constraints.{variables_in};
 ghost use Rattle.lexmin_runs.specs.Emptiness.{negated_run};
 ghost use Rattle.pip_solver.specs.Promises.{Forms, FormsEqualities, IsProblem};
 
-use crate::lists::{push_both, push_copies};
 use crate::stop::Stop;
-use affine_forms::{Form, FormStop};
+use affine_forms::{Form, FormStop, push, push_copies, push_copy};
 use checked_tableau::Problem;
 use integer_sets::System;
 use std::alloc::{AllocError, Global};
@@ -30,6 +29,16 @@ fn negated(alloc: Global, form: &Form) -> Result<Form, FormStop>
     match sub(0, form.constant()) {
         Err(wide) => Err(FormStop::Wide(wide)),
         Ok(constant) => Form::of(alloc, &coefficients, constant),
+    }
+}
+
+/// Appends a copy of a form, and one more.
+fn push_both(rows: &mut Vec<Form>, form: &Form, second: Form) -> Result<(), AllocError>
+    ensures { OnOk result (rows.new.items ≡ rows.old.items ++ form.now ∷ second ∷ []) }
+{
+    match push_copy(rows, form) {
+        Err(error) => Err(error),
+        Ok(()) => push(rows, second),
     }
 }
 

@@ -11,8 +11,8 @@ loop-place-preserved c =
     let v = c.args.variables in
     let i = c.loop-place.place in
     let old = c.loop-place.rows.items in
-    let pushed : c.push.new.forms.items ≡ old ++ form_of (set (zeros v) i (negsuc 0)) (pos 65536) ∷ [] =
-    subst (λ (f : Affine). c.push.new.forms.items ≡ old ++ f ∷ []) c.in-Ok.ensures (search rules) in
+    let pushed : c.push.new.list.items ≡ old ++ form_of (set (zeros v) i (negsuc 0)) (pos 65536) ∷ [] =
+    subst (λ (f : Affine). c.push.new.list.items ≡ old ++ f ∷ []) c.in-Ok.ensures (search rules) in
     subst (λ (rs : List Affine). rs ++ bound_rows v (i + 1) (v - (i + 1))
     ≡ c.args.rows.now.items ++ bound_rows v c.args.first (v - c.args.first)) (sym pushed)
     (bounds-more v i (v - i) (v - (i + 1)) old (c.args.rows.now.items ++ bound_rows v c.args.first (v - c.args.first))
