@@ -8,7 +8,7 @@ ghost use Rattle.integer_sets.specs.Constraints.{IsSized, intersection, system_o
 ghost use Rattle.integer_sets.specs.Points.{Satisfies};
 ghost use Rattle.integer_sets.specs.Runs.{holds_run, each_run, is_zero, is_not_negative};
 
-use affine_forms::{Form, FormStop};
+use affine_forms::{Form, FormStop, copies, push_copies};
 use std::alloc::{AllocError, Global};
 use std::marker::Model;
 use wide_math::Wide;
@@ -49,15 +49,11 @@ impl System {
         requires sized { IsSized (dimensions + parameters) equalities.now rows.now }
         ensures { IfOk result (λ s. s ≡ system_of dimensions parameters equalities.now rows.now) }
     {
-        let mut own_equalities = Vec::new(alloc);
-        let mut own_rows = Vec::new(alloc);
-        append_copies(&mut own_equalities, equalities)?;
-        append_copies(&mut own_rows, rows)?;
         Ok(System {
             dimensions,
             parameters,
-            equalities: own_equalities,
-            rows: own_rows,
+            equalities: copies(alloc, equalities)?,
+            rows: copies(alloc, rows)?,
         })
     }
 
@@ -138,8 +134,8 @@ impl System {
             self.equalities.as_slice(),
             self.rows.as_slice(),
         )?;
-        append_copies(&mut both.equalities, other.equalities.as_slice())?;
-        append_copies(&mut both.rows, other.rows.as_slice())?;
+        push_copies(&mut both.equalities, other.equalities.as_slice())?;
+        push_copies(&mut both.rows, other.rows.as_slice())?;
         Ok(both)
     }
 
@@ -159,22 +155,6 @@ impl System {
             Ok(true) => all_not_negative(self.rows.as_slice(), point),
         }
     }
-}
-
-/// Appends a copy of each form.
-fn append_copies(forms: &mut Vec<Form>, more: &[Form]) -> Result<(), AllocError>
-    ensures { OnOk result (forms.new.items ≡ forms.old.items ++ more.now) }
-{
-    for form in more {
-        match form.copy() {
-            Err(_) => return Err(AllocError),
-            Ok(copy) => match forms.push(copy) {
-                Err(_) => return Err(AllocError),
-                Ok(()) => {}
-            },
-        }
-    }
-    Ok(())
 }
 
 /// Whether each form is 0 at the point, tried in order up to the first that is not.
