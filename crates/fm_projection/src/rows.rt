@@ -13,7 +13,7 @@ ghost use Rattle.fm_projection.specs.Runs.{forms_run, pair_run, pairs_run, place
 ghost use Rattle.fm_projection.specs.Runs.{reduced_all_run, reduced_run, single, size_run};
 ghost use Rattle.fm_projection.specs.Gives.{Gains};
 
-use affine_forms::{Form, FormStop};
+use affine_forms::{Form, FormStop, push};
 use std::alloc::{AllocError, Global};
 use wide_math::{Wide, mul, sub};
 
@@ -24,14 +24,6 @@ pub fn coefficient(form: &Form, variable: usize) -> i128
     ensures { result ≡ coefficient_of variable form.now }
 {
     form.coefficients()[variable]
-}
-
-/// Appends a form.
-fn push(out: &mut Vec<Form>, form: Form) -> Result<(), AllocError>
-    ensures { OnOk result (out.new.items ≡ out.old.items ++ form ∷ []) }
-{
-    out.push(form)?;
-    Ok(())
 }
 
 /// Appends a form that was made, or stops as its making did.
