@@ -1,6 +1,0 @@
-use Rattle.std.proofs.Common.{◌≡◌, map, take}
-use Rattle.fractions.specs.Elimination.{narrowed}
-use Rattle.farkas.proofs.elimination.narrow.Given as goal
-
-abbrev pub invariant-loop-form : goal.invariant-loop-form
-invariant-loop-form l = l.out.items ≡ map (narrowed l.variable) (take l.form-index l.forms)
