@@ -42,7 +42,7 @@ ghost use Rattle.loop_tree.specs.Walk.{visits};
 
 use crate::source_laws::source_trees_visit_the_walk;
 use crate::tree::{Bound, Bounds, Guard, Leaf, Loop, Node, Test, Tree};
-use affine_forms::Form;
+use affine_forms::{Form, push};
 use iteration_domains::{
     Path, Scope, compose, enter_loop, enter_scope, push_form, rows_within, variable_form,
 };
@@ -50,16 +50,6 @@ use scop_syntax::tree::{
     Aff, Guard as SourceGuard, Item, Kernel, Loop as SourceLoop, Test as Comparison,
 };
 use std::alloc::{AllocError, Global};
-
-/// Appends a value.
-fn push<T: Drop>(list: &mut Vec<T>, value: T) -> Result<(), AllocError>
-    ensures { OnOk result (list.new.items ≡ list.old.items ++ value ∷ []) }
-{
-    match list.push(value) {
-        Err(_) => Err(AllocError),
-        Ok(()) => Ok(()),
-    }
-}
 
 /// A small number as one of a tree.
 fn narrow_number(number: i128) -> i64
@@ -74,11 +64,10 @@ fn narrow_numbers(alloc: Global, numbers: &[i128]) -> Result<Vec<i64>, AllocErro
     requires { All (λ x. unsigned_abs x ≤ 2 ^ 50) numbers.now }
     ensures { IfOk result (λ xs. xs.items ≡ numbers.now) }
 {
-    let mut narrowed = Vec::new(alloc);
-    for number in numbers {
-        push(&mut narrowed, narrow_number(*number))?;
-    }
-    Ok(narrowed)
+    numbers
+        .iter()
+        .map(|number| narrow_number(*number))
+        .collect(alloc)
 }
 
 /// A form of small numbers as one of a tree.

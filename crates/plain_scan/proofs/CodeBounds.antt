@@ -7,7 +7,6 @@ use Rattle.std.proofs.lemmas.Int.{ints}
 use Rattle.whole_numbers.specs.Lists.{multiples}
 use Rattle.whole_numbers.specs.Affine.{Affine, form_of, multiple_of_form}
 use Rattle.whole_numbers.proofs.Ring.{mul_one_left, mul_neg_left}
-use Rattle.whole_numbers.proofs.Entries.{get_or_same}
 use Rattle.fractions.specs.Elimination.{coefficient_of}
 use Rattle.loop_tree.specs.Tree.{Bound, besides, bounds_of, Test, at_least, equal, Tree, guard, more, none}
 use Rattle.loop_tree.specs.View.{trees_of}
@@ -139,27 +138,15 @@ turns_next n f k i old new all form less inv is form_is =
 opposite_is : (c : ℤ) → neg_ℤ (pos 1) *ℤ c ≡ neg_ℤ c
 opposite_is c = let a = mul_neg_left (pos 1) c in let b = mul_one_left c in omega (arith, ints)
 
-opposites_more : (xs : List ℤ) (x : ℤ)
-    → multiples (neg_ℤ (pos 1)) (xs ++ x ∷ []) ≡ multiples (neg_ℤ (pos 1)) xs ++ neg_ℤ x ∷ []
-opposites_more [] x = ap (λ z. z ∷ []) (opposite_is x)
-opposites_more (y ∷ xs) x = ap (λ zs. (neg_ℤ (pos 1) *ℤ y) ∷ zs) (opposites_more xs x)
+opposites_are : (xs : List ℤ) → map neg_ℤ xs ≡ multiples (neg_ℤ (pos 1)) xs
+opposites_are [] = refl
+opposites_are (x ∷ xs) = ap₂ (λ (y : ℤ) (ys : List ℤ). y ∷ ys) (sym (opposite_is x)) (opposites_are xs)
 
--- an opposite more
-pub opposite_next : (xs : List ℤ) (i : ℕ) (y : ℤ) (old new : List ℤ) → i < length xs
-    → old ≡ multiples (neg_ℤ (pos 1)) (take i xs) → new ≡ old ++ y ∷ [] → y ≡ neg_ℤ (get_or xs i (pos 0))
-    → new ≡ multiples (neg_ℤ (pos 1)) (take (i + 1) xs)
-opposite_next xs i y old new inside so_far made opposite =
-    let x = get_or xs i (pos 0) in
-    let is = get_or_same xs i (pos 0) x inside in
-    made ∙ ap (λ zs. zs ++ y ∷ []) so_far
-    ∙ ap (λ z. multiples (neg_ℤ (pos 1)) (take i xs) ++ z ∷ []) opposite
-    ∙ sym (opposites_more (take i xs) x)
-    ∙ ap (multiples (neg_ℤ (pos 1))) (sym (take_next xs i x is inside))
-
--- all of a form's
-pub opposite_end : (f : Affine) (cs : List ℤ) (c : ℤ) → cs ≡ multiples (neg_ℤ (pos 1)) f.coefficients
-    → c ≡ neg_ℤ f.constant → form_of cs c ≡ multiple_of_form (neg_ℤ (pos 1)) f
-opposite_end f cs c numbers constant = ap₂ form_of numbers (constant ∙ sym (opposite_is f.constant))
+-- the opposite of a form by its numbers
+pub opposite_end : (f : Affine) (cs : List ℤ) (c : ℤ) → cs ≡ map neg_ℤ f.coefficients → c ≡ neg_ℤ f.constant
+    → form_of cs c ≡ multiple_of_form (neg_ℤ (pos 1)) f
+opposite_end f cs c numbers constant =
+    ap₂ form_of (numbers ∙ opposites_are f.coefficients) (constant ∙ sym (opposite_is f.constant))
 
 pub take_none : {X : Type 0} (xs : List X) → take 0 xs ≡ []
 take_none [] = refl

@@ -36,14 +36,34 @@ fn aff_of(alloc: Global, form: &Form) -> Result<Aff, AllocError>
     requires { HasSmallNumbers form.now }
     ensures { IfOk result (λ a. a ≡ form.now) }
 {
-    let mut coefficients = Vec::new(alloc);
-    for number in form.coefficients() {
-        coefficients.push(narrow_number(*number))?;
-    }
+    let coefficients = form
+        .coefficients()
+        .iter()
+        .map(|number| narrow_number(*number))
+        .collect(alloc)?;
     Ok(Aff {
         coefficients,
         constant: narrow_number(form.constant()),
     })
+}
+
+/// The opposite of the number in 64 bits.
+fn opposite_number(number: i128) -> i64
+    requires { unsigned_abs number ≤ 2 ^ 40 }
+    ensures { result ≡ neg_ℤ number }
+{
+    narrow_number(opposite(number))
+}
+
+/// The opposites of the numbers in 64 bits.
+fn opposite_numbers(alloc: Global, numbers: &[i128]) -> Result<Vec<i64>, AllocError>
+    requires { All (λ z. unsigned_abs z ≤ 2 ^ 40) numbers.now }
+    ensures { IfOk result (λ v. v.items ≡ map neg_ℤ numbers.now) }
+{
+    numbers
+        .iter()
+        .map(|number| opposite_number(*number))
+        .collect(alloc)
 }
 
 /// The opposite of the form with its numbers in 64 bits.
@@ -51,13 +71,10 @@ fn opposite_of(alloc: Global, form: &Form) -> Result<Aff, AllocError>
     requires { HasSmallNumbers form.now }
     ensures { IfOk result (λ a. a ≡ multiple_of_form (neg_ℤ (pos 1)) form.now) }
 {
-    let mut coefficients = Vec::new(alloc);
-    for number in form.coefficients() {
-        coefficients.push(narrow_number(opposite(*number)))?;
-    }
+    let coefficients = opposite_numbers(alloc, form.coefficients())?;
     Ok(Aff {
         coefficients,
-        constant: narrow_number(opposite(form.constant())),
+        constant: opposite_number(form.constant()),
     })
 }
 
@@ -85,7 +102,7 @@ fn high_bound(alloc: Global, row: &Form, place: usize) -> Result<Bound, AllocErr
     let form = aff_of(alloc, &narrow)?;
     Ok(Bound {
         form,
-        divisor: narrow_number(opposite(row.coefficients()[place])),
+        divisor: opposite_number(row.coefficients()[place]),
     })
 }
 

@@ -18,15 +18,9 @@ use std::alloc::{AllocError, Global};
 
 /// Whether the numbers are the same.
 pub fn same(xs: &[i128], ys: &[i128]) -> bool
-    requires { length xs.now ≡ length ys.now }
     ensures { IsTrue result → xs.now ≡ ys.now }
 {
-    for at in 0..xs.len() {
-        if xs[at] != ys[at] {
-            return false;
-        }
-    }
-    true
+    xs == ys
 }
 
 /// The least constant of the rows with these coefficients.
@@ -80,32 +74,22 @@ fn weakest(outlines: &[Outline], depth: usize, row: &Form) -> Option<i128>
     Some(worst)
 }
 
-/// The least number below the dimension.
-fn lowest(outlines: &[Outline], depth: usize) -> i128
+/// The least number below the dimension, and the greatest above it.
+fn ends(outlines: &[Outline], depth: usize) -> (i128, i128)
     requires some { 0 < length outlines.now }
     requires inside { All (λ o. depth < length o.shadows.items) outlines.now }
-    ensures low { All (λ o. (d : Shadow) → result ≤ℤ (get_or o.shadows.items depth d).low) outlines.now }
-    ensures small { unsigned_abs result ≤ 2 ^ 40 }
+    ensures low { All (λ o. (d : Shadow) → result.0 ≤ℤ (get_or o.shadows.items depth d).low) outlines.now }
+    ensures high { All (λ o. (d : Shadow) → (get_or o.shadows.items depth d).high ≤ℤ result.1) outlines.now }
+    ensures small { (unsigned_abs result.0 ≤ 2 ^ 40) × (unsigned_abs result.1 ≤ 2 ^ 40) }
 {
     let mut low = outlines[0].shadows[depth].low;
-    for outline in outlines {
-        low = less(low, outline.shadows[depth].low);
-    }
-    low
-}
-
-/// The greatest number above the dimension.
-fn highest(outlines: &[Outline], depth: usize) -> i128
-    requires some { 0 < length outlines.now }
-    requires inside { All (λ o. depth < length o.shadows.items) outlines.now }
-    ensures high { All (λ o. (d : Shadow) → (get_or o.shadows.items depth d).high ≤ℤ result) outlines.now }
-    ensures small { unsigned_abs result ≤ 2 ^ 40 }
-{
     let mut high = outlines[0].shadows[depth].high;
     for outline in outlines {
-        high = greater(high, outline.shadows[depth].high);
+        let shadow = &outline.shadows[depth];
+        low = less(low, shadow.low);
+        high = greater(high, shadow.high);
     }
-    high
+    (low, high)
 }
 
 /// Appends the weakest row with these coefficients, if each set has one.
@@ -154,14 +138,9 @@ fn shared_rows(
     requires place { All (λ o. o.set.now.system.dimensions ≡ place + suc depth) outlines.now }
     ensures { IfOk result (λ v. IsHull depth place variables outlines.now v.items) }
 {
-    let least = place_form(
-        alloc,
-        variables,
-        place,
-        1,
-        opposite(lowest(outlines, depth)),
-    )?;
-    let most = place_form(alloc, variables, place, -1, highest(outlines, depth))?;
+    let (low, high) = ends(outlines, depth);
+    let least = place_form(alloc, variables, place, 1, opposite(low))?;
+    let most = place_form(alloc, variables, place, -1, high)?;
     let mut out = Vec::new(alloc);
     out.push(least)?;
     out.push(most)?;

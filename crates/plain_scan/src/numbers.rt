@@ -75,22 +75,11 @@ fn with_low(numbers: Numbers, bound: i128) -> Numbers
     ensures large { result.large ≡ numbers.large }
 {
     match numbers.low {
-        None => Numbers {
+        Some(low) if bound <= low => numbers,
+        _ => Numbers {
             low: Some(bound),
-            high: numbers.high,
-            large: numbers.large,
+            ..numbers
         },
-        Some(low) => {
-            if low < bound {
-                Numbers {
-                    low: Some(bound),
-                    high: numbers.high,
-                    large: numbers.large,
-                }
-            } else {
-                numbers
-            }
-        }
     }
 }
 
@@ -104,22 +93,11 @@ fn with_high(numbers: Numbers, bound: i128) -> Numbers
     ensures large { result.large ≡ numbers.large }
 {
     match numbers.high {
-        None => Numbers {
-            low: numbers.low,
+        Some(high) if high <= bound => numbers,
+        _ => Numbers {
             high: Some(bound),
-            large: numbers.large,
+            ..numbers
         },
-        Some(high) => {
-            if bound < high {
-                Numbers {
-                    low: numbers.low,
-                    high: Some(bound),
-                    large: numbers.large,
-                }
-            } else {
-                numbers
-            }
-        }
     }
 }
 
@@ -154,9 +132,8 @@ fn with_large(numbers: Numbers, number: i128) -> Numbers
     ensures large { result.large ≡ Some number }
 {
     Numbers {
-        low: numbers.low,
-        high: numbers.high,
         large: Some(number),
+        ..numbers
     }
 }
 

@@ -14,7 +14,7 @@ ghost use Rattle.plain_scan.specs.Outlines.{IsEquality, IsOpen, IsOpenSomewhere}
 ghost use Rattle.plain_scan.specs.Outlines.{IsRow, IsShadowOf, PassAlone, StopsSet, StopsShadow};
 
 use crate::numbers::{Numbers, has_small_numbers, large_among, numbers_alone};
-use affine_forms::{Form, FormStop};
+use affine_forms::{Form, FormStop, push_copy};
 use fm_projection::{FmStop, last_alone, without};
 use integer_sets::{ScanSet, System};
 use std::alloc::{AllocError, Global};
@@ -25,19 +25,6 @@ pub struct Shadow {
     pub rows: Vec<Form>,
     pub low: i128,
     pub high: i128,
-}
-
-/// Appends a copy of the form.
-fn push_copy(out: &mut Vec<Form>, form: &Form) -> Result<(), AllocError>
-    ensures { OnOk result (out.new.items ≡ out.old.items ++ form.now ∷ []) }
-{
-    match form.copy() {
-        Err(_) => Err(AllocError),
-        Ok(copy) => {
-            out.push(copy)?;
-            Ok(())
-        }
-    }
 }
 
 /// Appends a copy of the form where its numbers are small.

@@ -12,8 +12,8 @@ ghost use Rattle.split_scan.specs.Copies.{bounding_in};
 ghost use Rattle.split_scan.specs.Bounding.{AreBars};
 
 use crate::level::Level;
-use crate::questions::{copies, push_copies, push_copy, push_opened};
-use affine_forms::Form;
+use crate::questions::push_opened;
+use affine_forms::{Form, push_copies, push_copy};
 use plain_scan::shared::{Outline, hull};
 use std::alloc::{AllocError, Global};
 
@@ -22,13 +22,11 @@ fn push_bounding(out: &mut Vec<Form>, row: &Form, place: usize) -> Result<(), Al
     requires { place < variables_of row.now }
     ensures { OnOk result (out.new.items ≡ out.old.items ++ bounding_in place (row.now ∷ [])) }
 {
-    if row.coefficients()[place] > 0 {
-        return push_copy(out, row);
+    if row.coefficients()[place] == 0 {
+        Ok(())
+    } else {
+        push_copy(out, row)
     }
-    if row.coefficients()[place] < 0 {
-        return push_copy(out, row);
-    }
-    Ok(())
 }
 
 /// The rows that bound a variable.

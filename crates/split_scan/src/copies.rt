@@ -7,8 +7,7 @@ ghost use Rattle.plain_scan.specs.declared.outline.Shadow.{Shadow};
 ghost use Rattle.split_scan.specs.Copies.{AreCopies, IsCopy, one_if};
 ghost use Rattle.split_scan.specs.Parts.{staying};
 
-use crate::questions::copies;
-use affine_forms::Form;
+use affine_forms::{Form, copies};
 use integer_sets::ScanSet;
 use plain_scan::shared::{Outline, Shadow};
 use std::alloc::{AllocError, Global};

@@ -11,8 +11,8 @@ ghost use Rattle.split_scan.specs.Parts.{Goes, HasMarks, Implies, InPart, IsCutt
 use crate::halt::Halt;
 use crate::level::Level;
 use crate::part::Part;
-use crate::questions::{complement, copies, is_void, push_copy};
-use affine_forms::Form;
+use crate::questions::{complement, is_void};
+use affine_forms::{Form, copies, push_copy};
 use plain_scan::shared::{Outline, has_below};
 use std::alloc::{AllocError, Global};
 

@@ -111,12 +111,7 @@ fn has_set(stays: &[bool]) -> bool
     ensures none { result ≡ false → (k : ℕ) (d : Bool) → k < length stays.now → get_or stays.now k d ≡ false }
     ensures some { IsTrue result → (k : ℕ) × (k < length stays.now) × ((d : Bool) → get_or stays.now k d ≡ true) }
 {
-    for stay in stays {
-        if *stay {
-            return true;
-        }
-    }
-    false
+    stays.iter().any(|stay| *stay)
 }
 
 /// Puts the part among others in their order if a set stays in it.

@@ -8,43 +8,11 @@ ghost use Rattle.split_scan.specs.Questions.{HasNone, IsVoid, opened};
 
 use crate::halt::Halt;
 use crate::level::Level;
-use affine_forms::{Form, FormStop};
+use affine_forms::{Form, FormStop, copies, push_copies};
 use integer_sets::System;
 use pip_solver::{Stop, is_empty};
 use plain_scan::shared::{has_small_numbers, opposite};
 use std::alloc::{AllocError, Global};
-
-/// Appends a copy of the form.
-pub fn push_copy(out: &mut Vec<Form>, form: &Form) -> Result<(), AllocError>
-    ensures { OnOk result (out.new.items ≡ out.old.items ++ form.now ∷ []) }
-{
-    match form.copy() {
-        Err(_) => Err(AllocError),
-        Ok(copy) => {
-            out.push(copy)?;
-            Ok(())
-        }
-    }
-}
-
-/// Appends copies of the forms.
-pub fn push_copies(out: &mut Vec<Form>, forms: &[Form]) -> Result<(), AllocError>
-    ensures { OnOk result (out.new.items ≡ out.old.items ++ forms.now) }
-{
-    for form in forms {
-        push_copy(out, form)?;
-    }
-    Ok(())
-}
-
-/// Copies of the forms.
-pub fn copies(alloc: Global, forms: &[Form]) -> Result<Vec<Form>, AllocError>
-    ensures { IfOk result (λ v. v.items ≡ forms.now) }
-{
-    let mut out = Vec::new(alloc);
-    push_copies(&mut out, forms)?;
-    Ok(out)
-}
 
 /// Copies of these forms, and behind them of those.
 pub fn joined(alloc: Global, first: &[Form], second: &[Form]) -> Result<Vec<Form>, AllocError>

@@ -41,16 +41,6 @@ fn more(number: usize, count: usize) -> Result<usize, AllocError>
     }
 }
 
-/// Puts a tile behind others.
-fn push(tiles: &mut Vec<Tile>, tile: Tile) -> Result<(), AllocError>
-    ensures { OnOk result (tiles.new.items ≡ tiles.old.items ++ tile ∷ []) }
-{
-    match tiles.push(tile) {
-        Err(_) => Err(AllocError),
-        Ok(()) => Ok(()),
-    }
-}
-
 /// A tile that begins with an instance, the spot behind which is given.
 fn tile_at(alloc: Global, first: Instance, spot: &Spot, wave: usize) -> Result<Tile, AllocError>
     ensures { IfOk result (IsNewTile first spot.now wave) }
@@ -107,7 +97,7 @@ impl Cut {
     {
         let wave = self.next_wave()?;
         let tile = tile_at(alloc, first, spot, wave)?;
-        push(&mut self.tiles, mem::replace(&mut self.current, tile))?;
+        self.tiles.push(mem::replace(&mut self.current, tile))?;
         mem::swap(&mut self.key, &mut self.next);
         Ok(())
     }
@@ -163,7 +153,7 @@ impl Cut {
         ensures { IfOk result (λ v. v.items ≡ self.tiles.items ++ self.current ∷ []) }
     {
         let mut tiles = self.tiles;
-        push(&mut tiles, self.current)?;
+        tiles.push(self.current)?;
         Ok(tiles)
     }
 }

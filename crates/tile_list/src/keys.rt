@@ -26,22 +26,12 @@ pub struct Key {
     pub tile: Vec<i128>,
 }
 
-/// Puts a number behind others.
-fn push(list: &mut Vec<i128>, number: i128) -> Result<(), AllocError>
-    ensures { OnOk result (list.new.items ≡ list.old.items ++ number ∷ []) }
-{
-    match list.push(number) {
-        Err(_) => Err(AllocError),
-        Ok(()) => Ok(()),
-    }
-}
-
 /// Puts a statement's leading scalars behind others.
 fn push_scalars(list: &mut Vec<i128>, scalars: &[usize]) -> Result<(), AllocError>
     ensures { OnOk result (list.new.items ≡ list.old.items ++ map pos scalars.now) }
 {
     for scalar in scalars {
-        push(list, *scalar as i128)?;
+        list.push(*scalar as i128)?;
     }
     Ok(())
 }
@@ -107,7 +97,7 @@ fn push_coordinates(
     ensures { OnOk result (list.new.items ≡ list.old.items ++ coordinates (pos size) rows.now turns.now) }
 {
     for row in rows {
-        push(list, coordinate(row, size, turns))?;
+        list.push(coordinate(row, size, turns))?;
     }
     Ok(())
 }
@@ -128,7 +118,7 @@ fn push_key(
         ++ coordinates (pos size) items.now.band.items turns.now)) }
 {
     push_scalars(wave, &items.leading)?;
-    push(wave, wave_number(&items.band, size, turns))?;
+    wave.push(wave_number(&items.band, size, turns))?;
     push_scalars(tile, &items.leading)?;
     push_coordinates(tile, &items.band, size, turns)
 }
@@ -203,7 +193,10 @@ impl Key {
         match tiling {
             Tiling::Kept => Ok(()),
             Tiling::Tiled(size, statements) => match statements.get(instance.statement) {
-                None => push(&mut self.wave, 0),
+                None => {
+                    self.wave.push(0)?;
+                    Ok(())
+                }
                 Some(items) => push_key(
                     &mut self.wave,
                     &mut self.tile,

@@ -1,20 +1,10 @@
 //! Which tiles lie in which wave.
-ghost use Rattle.std.specs.Prelude.{◌≡◌, IfOk, OnOk, ◌++◌, ◌∷◌, []};
+ghost use Rattle.std.specs.Prelude.{◌≡◌, IfOk};
 ghost use Rattle.tile_list.specs.TilesView.{waves_of};
 ghost use Rattle.tile_list.specs.steps.Offsets.{offsets_from};
 
 use crate::list::Tile;
 use std::alloc::{AllocError, Global};
-
-/// Puts a number behind others.
-fn push(list: &mut Vec<usize>, number: usize) -> Result<(), AllocError>
-    ensures { OnOk result (list.new.items ≡ list.old.items ++ number ∷ []) }
-{
-    match list.push(number) {
-        Err(_) => Err(AllocError),
-        Ok(()) => Ok(()),
-    }
-}
 
 /// For each wave the number of its first tile, and behind all how many tiles there are.
 pub fn offsets_of(alloc: Global, tiles: &[Tile]) -> Result<Vec<usize>, AllocError>
@@ -23,9 +13,9 @@ pub fn offsets_of(alloc: Global, tiles: &[Tile]) -> Result<Vec<usize>, AllocErro
     let mut offsets = Vec::new(alloc);
     for (number, tile) in tiles.iter().enumerate() {
         if offsets.len() <= tile.wave {
-            push(&mut offsets, number)?;
+            offsets.push(number)?;
         }
     }
-    push(&mut offsets, tiles.len())?;
+    offsets.push(tiles.len())?;
     Ok(offsets)
 }

@@ -33,17 +33,9 @@ at_most_more k xs i d inside h x =
     let e : suc i ≡ i + 1 = omega arith in
     subst (λ (j : ℕ). AreAtMost k (take j xs)) e (at_most_next k xs i d inside h x)
 
-zeros_next : (xs : List ℤ) (i : ℕ) (d : ℤ) → i < length xs → AreZeros (take i xs) → get_or xs i d ≡ pos 0
-    → AreZeros (take (suc i) xs)
-zeros_next [] i d inside h x = absurd (omega arith)
-zeros_next (y ∷ xs) zero d inside h x = (x, tt)
-zeros_next (y ∷ xs) (suc i) d inside h x = (h.0, zeros_next xs i d (omega arith) h.1 x)
-
-pub zeros_more : (xs : List ℤ) (i : ℕ) (d : ℤ) → i < length xs → AreZeros (take i xs) → get_or xs i d ≡ pos 0
-    → AreZeros (take (i + 1) xs)
-zeros_more xs i d inside h x =
-    let e : suc i ≡ i + 1 = omega arith in
-    subst (λ (j : ℕ). AreZeros (take j xs)) e (zeros_next xs i d inside h x)
+pub zeros_all : (xs : List ℤ) → All (λ (x : ℤ). x ≡ pos 0) xs → AreZeros xs
+zeros_all [] each = tt
+zeros_all (x ∷ xs) each = (each 0 x (omega arith), zeros_all xs (λ k d inside. each (suc k) d (omega (arith, inside))))
 
 -- a form without coefficients is its constant
 pub number_holds : (f : Affine) → AreZeros f.coefficients → pos 0 ≤ℤ f.constant → (point : List ℤ)

@@ -15,8 +15,8 @@ ghost use Rattle.tree_simplification.specs.steps.ContextView.{context_of};
 
 use crate::context::Context;
 use crate::entering::{sided, tested};
-use crate::rows::{form_row, part_row, push};
-use affine_forms::Form;
+use crate::rows::{form_row, part_row};
+use affine_forms::{Form, push};
 use integer_sets::System;
 use loop_tree::{Bound, Test};
 use pip_solver::{Stop, is_empty};

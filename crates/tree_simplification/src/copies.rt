@@ -4,7 +4,7 @@ ghost use Rattle.std.specs.Prelude.{◌≡◌, ◌∷◌, IfOk, map};
 ghost use Rattle.loop_tree.specs.View.{bounds_in, test_of};
 ghost use Rattle.tree_simplification.specs.steps.Context.{parts};
 
-use crate::rows::push;
+use affine_forms::push;
 use loop_tree::{Bound, Bounds, Leaf, Test};
 use scop_syntax::tree::Aff;
 use std::alloc::{AllocError, Global};
@@ -13,10 +13,8 @@ use std::alloc::{AllocError, Global};
 fn copied_form(alloc: Global, form: &Aff) -> Result<Aff, AllocError>
     ensures { IfOk result (λ f. f ≡ form.now) }
 {
-    let mut coefficients = Vec::new(alloc);
-    coefficients.extend_from_slice(&form.coefficients)?;
     Ok(Aff {
-        coefficients,
+        coefficients: Vec::from_slice(alloc, &form.coefficients)?,
         constant: form.constant,
     })
 }

@@ -8,7 +8,8 @@ ghost use Rattle.tree_simplification.specs.steps.Context.{ArePartsOver, sided, t
 ghost use Rattle.tree_simplification.specs.steps.ContextView.{context_of};
 
 use crate::context::Context;
-use crate::rows::{copied, push_parts, push_tests, widen_all};
+use crate::rows::{push_parts, push_tests, widen_all};
+use affine_forms::copies;
 use loop_tree::{Bound, Test};
 use std::alloc::{AllocError, Global};
 
@@ -45,7 +46,7 @@ pub fn tested(alloc: Global, context: &Context, tests: &[Test]) -> Result<Contex
         (map test_of tests.now) }
     ensures { IfOk result (λ c. context_of c ≡ tested (context_of context.now) (map test_of tests.now)) }
 {
-    let mut rows = copied(alloc, &context.rows)?;
+    let mut rows = copies(alloc, &context.rows)?;
     push_tests(alloc, &mut rows, tests)?;
     Ok(Context {
         loops: context.loops,

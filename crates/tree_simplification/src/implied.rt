@@ -17,8 +17,8 @@ use crate::asking::are_natural_above;
 use crate::context::Context;
 use crate::copies::{copied_leaf, copied_parts, copied_tests};
 use crate::entering::{sided, tested};
-use crate::rows::push;
 use crate::trimming::{trim_parts, trim_tests};
+use affine_forms::push;
 use loop_tree::{Bound, Bounds, Guard, Leaf, Loop, Node, Test, Tree};
 use std::alloc::{AllocError, Global};
 

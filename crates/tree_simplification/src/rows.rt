@@ -8,20 +8,10 @@ ghost use Rattle.loop_tree.specs.View.{test_of};
 ghost use Rattle.tree_simplification.specs.steps.Context.{form_row, less_of, part_row, sign_of};
 ghost use Rattle.tree_simplification.specs.steps.Context.{test_rows, tests_rows, widened};
 
-use affine_forms::Form;
+use affine_forms::{Form, push};
 use loop_tree::{Bound, Test};
 use scop_syntax::tree::Aff;
 use std::alloc::{AllocError, Global};
-
-/// Appends a value.
-pub fn push<T: Drop>(list: &mut Vec<T>, value: T) -> Result<(), AllocError>
-    ensures { OnOk result (list.new.items ≡ list.old.items ++ value ∷ []) }
-{
-    match list.push(value) {
-        Err(_) => Err(AllocError),
-        Ok(()) => Ok(()),
-    }
-}
 
 /// The number or its opposite.
 fn signed(number: i64, turned: bool) -> i128
@@ -125,8 +115,7 @@ fn widen(alloc: Global, row: &Form, loops: usize) -> Result<Form, AllocError>
     requires { loops ≤ variables_of row.now }
     ensures { IfOk result (λ f. f ≡ widened loops row.now) }
 {
-    let mut numbers = Vec::new(alloc);
-    numbers.extend_from_slice(row.coefficients())?;
+    let mut numbers = Vec::from_slice(alloc, row.coefficients())?;
     put_at(&mut numbers, loops, 0)?;
     made(alloc, &numbers, row.constant())
 }
@@ -139,20 +128,6 @@ pub fn widen_all(alloc: Global, rows: &[Form], loops: usize) -> Result<Vec<Form>
     let mut out = Vec::new(alloc);
     for row in rows {
         push(&mut out, widen(alloc, row, loops)?)?;
-    }
-    Ok(out)
-}
-
-/// The same rows again.
-pub fn copied(alloc: Global, rows: &[Form]) -> Result<Vec<Form>, AllocError>
-    ensures { IfOk result (λ v. v.items ≡ rows.now) }
-{
-    let mut out = Vec::new(alloc);
-    for row in rows {
-        match row.copy() {
-            Err(_) => return Err(AllocError),
-            Ok(copy) => push(&mut out, copy)?,
-        }
     }
     Ok(out)
 }

@@ -11,7 +11,7 @@ ghost use Rattle.tree_simplification.specs.steps.ContextView.{context_of};
 
 use crate::asking::{is_implied_part, is_implied_test};
 use crate::context::Context;
-use crate::rows::push;
+use affine_forms::push;
 use loop_tree::{Bound, Test};
 use std::alloc::{AllocError, Global};
 

@@ -11,8 +11,8 @@ ghost use Rattle.loop_tree.specs.Walk.{holds};
 ghost use Rattle.tree_simplification.specs.steps.Inlined.{AreTestsFor, AreWith, bound_over, bounds_over, once};
 ghost use Rattle.tree_simplification.specs.steps.Inlined.{test_over};
 
-use crate::single::numbers::{Stop, composition, push};
-use affine_forms::Form;
+use crate::single::numbers::{Stop, composition};
+use affine_forms::{Form, push};
 use loop_tree::{Bound, Bounds, Leaf, Test};
 use scop_syntax::tree::Aff;
 use std::alloc::Global;
@@ -75,15 +75,7 @@ pub fn bounds_at(
 fn same_numbers(xs: &[i64], ys: &[i64]) -> bool
     ensures { result ≡ true → xs.now ≡ ys.now }
 {
-    if xs.len() != ys.len() {
-        return false;
-    }
-    for at in 0..xs.len() {
-        if xs[at] != ys[at] {
-            return false;
-        }
-    }
-    true
+    xs == ys
 }
 
 /// Whether two forms are one.
@@ -146,12 +138,7 @@ fn test_at(alloc: Global, test: &Test, forms: &[Form], variables: usize) -> Resu
 fn are_zeros(numbers: &[i64]) -> bool
     ensures { result ≡ true → AreZeros numbers.now }
 {
-    for number in numbers {
-        if *number != 0 {
-            return false;
-        }
-    }
-    true
+    numbers.iter().all(|number| *number == 0)
 }
 
 /// Whether a form is a number.
@@ -226,7 +213,8 @@ fn push_test(tests: &mut Vec<Test>, test: Test) -> Result<(), Stop>
     if always_holds(&test) {
         return Ok(());
     }
-    push(tests, test)
+    push(tests, test)?;
+    Ok(())
 }
 
 /// The tests of a guard, but for those that hold everywhere.

@@ -6,8 +6,9 @@ ghost use Rattle.loop_tree.specs.View.{bounds_in, nodes_of, test_of, tree_of, tr
 ghost use Rattle.tree_simplification.specs.steps.Inlined.{CanInline, Extends, IsInlined};
 
 use crate::single::heads::{bounds_at, leaf_at, runs_once, tests_at};
-use crate::single::numbers::{Stop, push};
+use crate::single::numbers::Stop;
 use crate::single::place::{Place, place_of, within_loop, within_once};
+use affine_forms::push;
 use loop_tree::{Guard, Loop, Node, Tree};
 use std::alloc::{AllocError, Global};
 
@@ -44,7 +45,8 @@ fn inline_node(alloc: Global, node: &Node, place: &Place, out: &mut Vec<Node>) -
         Node::Instance(leaf) => {
             let variables = place.kept + place.parameters;
             let leaf = leaf_at(alloc, leaf, place.forms.as_slice(), variables)?;
-            push(out, Node::Instance(leaf))
+            push(out, Node::Instance(leaf))?;
+            Ok(())
         }
     }
 }
@@ -81,7 +83,8 @@ fn inline_loop(
         lower,
         upper,
     };
-    push(out, Node::Loop(head, nodes))
+    push(out, Node::Loop(head, nodes))?;
+    Ok(())
 }
 
 /// Appends those that stand for a guard.
@@ -111,7 +114,8 @@ fn inline_guard(
     }
     let mut nodes = Vec::new(alloc);
     inline_nodes(alloc, body, place, &mut nodes)?;
-    push(out, Node::Guard(Guard { tests }, nodes))
+    push(out, Node::Guard(Guard { tests }, nodes))?;
+    Ok(())
 }
 
 /// The tree without the loops that run once.

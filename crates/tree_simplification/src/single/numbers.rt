@@ -3,11 +3,12 @@ ghost use Rattle.std.specs.Prelude.{◌≡◌, ◌≤◌, ◌^◌, ◌++◌, ◌
 ghost use Rattle.whole_numbers.specs.Affine.{composed};
 ghost use Rattle.scop_syntax.specs.Kernel.{AreAtMost};
 ghost use Rattle.loop_tree.specs.Shape.{IsOver, IsUpTo};
+ghost use Rattle.tree_simplification.specs.declared.single.numbers.Stop.TheVariants as stop;
 
-use affine_forms::{Form, FormStop, INLINE};
+use affine_forms::{Form, FormStop, INLINE, push};
 use scop_syntax::tree::Aff;
 use smallvec::SmallVec;
-use std::alloc::Global;
+use std::alloc::{AllocError, Global};
 
 /// Why a tree is not made: a number would pass 2^45, or there is no memory.
 #[derive(Drop)]
@@ -19,29 +20,24 @@ pub enum Stop {
 /// The greatest number of a new tree.
 const MOST: u128 = 35_184_372_088_832;
 
-/// Appends a value.
-pub fn push<T: Drop>(list: &mut Vec<T>, value: T) -> Result<(), Stop>
-    ensures { OnOk result (list.new.items ≡ list.old.items ++ value ∷ []) }
-{
-    match list.push(value) {
-        Err(_) => Err(Stop::NoMemory),
-        Ok(()) => Ok(()),
+impl From<AllocError> for Stop {
+    ghost from_gives = { λ _ s. s ≡ stop.NoMemory };
+
+    fn from(_: AllocError) -> Stop {
+        Stop::NoMemory
     }
 }
 
 /// A form of a tree with wide numbers.
-pub fn wide(alloc: Global, form: &Aff) -> Result<Form, Stop>
+pub fn wide(alloc: Global, form: &Aff) -> Result<Form, AllocError>
     ensures { IfOk result (λ f. f ≡ form.now) }
 {
     let mut coefficients = SmallVec::<i128, INLINE>::new(alloc);
     for coefficient in form.coefficients.as_slice() {
-        match coefficients.push(*coefficient as i128) {
-            Err(_) => return Err(Stop::NoMemory),
-            Ok(()) => {}
-        }
+        coefficients.push(*coefficient as i128)?;
     }
     match Form::of(alloc, coefficients.as_slice(), form.constant as i128) {
-        Err(_) => Err(Stop::NoMemory),
+        Err(_) => Err(AllocError),
         Ok(wide) => Ok(wide),
     }
 }

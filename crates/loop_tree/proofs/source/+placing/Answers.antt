@@ -60,7 +60,7 @@ place_items-loop-item-preserved t c =
     l.item-index
     c.args.counted.now l.counted c.place_item.new.counted l.nodes.items c.push.new.list.items c.item-item.result
     c.in_ok-place_item.field-0 c.item-item.is c.loop-item-test.true l.invariant c.in_ok-place_item.ensures.node
-    c.in_ok-place_item.ensures.path c.in_ok-place_item.ensures.counted c.in_ok-push.ensures
+    c.in_ok-place_item.ensures.path c.in_ok-place_item.ensures.counted c.in_ok-push.ensures.pushed
 
 pub place_items-returns-clause-nodes : goal.place_items-returns-clause-nodes
 place_items-returns-clause-nodes t c =

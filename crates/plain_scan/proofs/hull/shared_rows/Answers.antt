@@ -11,16 +11,16 @@ loop-row-init c =
     let n = c.args.variables in
     let place = c.args.place in
     let fits : FitsSigned w128 c.opposite.result = search rules in
-    let fits2 : FitsSigned w128 c.highest.result = search rules in
-    let fits3 : FitsSigned w128 c.lowest.result = search rules in
+    let fits2 : FitsSigned w128 c.ends-low.result.1 = search rules in
+    let fits3 : FitsSigned w128 c.ends-low.result.0 = search rules in
     let least = simp to_z-of_z at c.in_ok-least.ensures in
     let most = simp to_z-of_z at c.in_ok-most.ensures in
     let pushed : c.push-2.new.self.items ≡ c.in_ok-least.least ∷ c.in_ok-most.most ∷ [] = search rules in
     let low = c.opposite.ensures.small in
-    let high = c.highest.ensures.small in
-    hull_start c.args.depth place n c.args.outlines.now c.push-2.new.self.items c.lowest.result c.opposite.result
-    c.highest.result c.requires.inside c.requires.alike c.requires.place (simp to_z-of_z at c.opposite.ensures.exact)
-    low high c.lowest.ensures.low c.highest.ensures.high (pushed ∙ ap₂ (λ (f g : Affine). f ∷ g ∷ []) least most)
+    let high = c.ends-low.ensures.small.1 in
+    hull_start c.args.depth place n c.args.outlines.now c.push-2.new.self.items c.ends-low.result.0 c.opposite.result
+    c.ends-low.result.1 c.requires.inside c.requires.alike c.requires.place (simp to_z-of_z at c.opposite.ensures.exact)
+    low high c.ends-low.ensures.low c.ends-low.ensures.high (pushed ∙ ap₂ (λ (f g : Affine). f ∷ g ∷ []) least most)
 
 -- the row that the loop has come to
 row : (c : After-row-item)

@@ -17,7 +17,7 @@ invariant_of-result c =
     let context = c.args.context.now in
     let rows = c.args.rows.now in
     let P : Affine → Type 0 = λ f. variables_of f ≡ n in
-    let made : c.push_copies.new.out.items ≡ map (opened m) context ++ rows =
+    let made : c.push_copies.new.forms.items ≡ map (opened m) context ++ rows =
     c.in_ok-push_copies.ensures ∙ ap (λ (fs : List Affine). fs ++ rows) (c.in_ok-push_opened.ensures
     ∙ ap (λ (fs : List Affine). fs ++ map (opened m) context) c.new-inside.ensures.items) in
     let one = opened_sized m (m + p) context (omega arith) c.requires.context in

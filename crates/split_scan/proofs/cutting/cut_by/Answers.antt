@@ -35,7 +35,7 @@ returns-clause-parts c all s next implies h =
     let bounds : coefficient_of level.place row ≢ pos 0 = search rules in
     let far = subst HasSmallNumbers c.in_ok-far.ensures.row c.in_ok-far.ensures.small in
     cutting_more level.place (level.place + 1 + level.parameters) level.inside.items all c.args.stays.now s row
-    c.args.cuts.now.items c.push_copy.new.out.items c.args.out.now.items c.push_part.new.out.items part.0
+    c.args.cuts.now.items c.push_copy.new.forms.items c.args.out.now.items c.push_part.new.out.items part.0
     (record { sized = c.requires.row; small = c.requires.small; bounds = bounds }) far next implies
     c.in_ok-push_copy.ensures (part.2 ∙ beyond_there (goal.at.returns-clause-parts c).After-deref-3) part.3 part.1 h
 
@@ -43,7 +43,7 @@ pub returns-clause-goes : goal.returns-clause-goes
 returns-clause-goes c =
     let level = c.args.level.now in
     let part = c.in_ok-push_part.ensures in
-    goes_more level.place level.inside.items c.args.row.now c.args.cuts.now.items c.push_copy.new.out.items
+    goes_more level.place level.inside.items c.args.row.now c.args.cuts.now.items c.push_copy.new.forms.items
     c.args.out.now.items c.push_part.new.out.items part.0 c.in_ok-push_copy.ensures
     (part.2 ∙ beyond_there (goal.at.returns-clause-goes c).After-deref-3) part.1
 

@@ -18,4 +18,4 @@ returns-else-goes c =
     subst (λ (bs : List Bound). TrimsSide context c.args.turned bs others (rest ++ part ∷ [])) (sym whole)
     (part_kept context c.args.turned part rest others) in
     on_ok_weaker c.push.result (λ pushed. subst (λ (bs : List Bound). TrimsSide context c.args.turned old others bs)
-    (sym (pushed ∙ ap (λ (bs : List Bound). bs ++ part ∷ []) c.remove-part.ensures.items)) kept) c.push.ensures
+    (sym (pushed ∙ ap (λ (bs : List Bound). bs ++ part ∷ []) c.remove-part.ensures.items)) kept) c.push.ensures.pushed

@@ -21,4 +21,4 @@ returns-else-goes-clause-tests c =
     (test_kept context (test_of test) (map test_of rest)) in
     on_ok_weaker c.push.result (λ pushed. subst (λ (ts : List Test). TrimsTests context (map test_of old) ts)
     (sym (ap (map test_of) (pushed ∙ ap (λ (ts : List CodeTest). ts ++ test ∷ []) c.remove-test.ensures.items)
-    ∙ map-append test_of rest (test ∷ []))) kept) c.push.ensures
+    ∙ map-append test_of rest (test ∷ []))) kept) c.push.ensures.pushed

@@ -1,10 +1,7 @@
-use Rattle.std.proofs.Common.{◌≡◌, pos, get_or, rules}
-use Rattle.tree_simplification.proofs.Heads.{zeros_more}
+use Rattle.std.proofs.Common.{rules, ◌≡◌, ℤ, pos, All}
+use Rattle.tree_simplification.proofs.Heads.{zeros_all}
 use Rattle.tree_simplification.proofs.single.heads.are_zeros.Goals as goal
 
-pub loop-number-preserved : goal.loop-number-preserved
-loop-number-preserved c =
-    let xs = c.args.numbers.now in
-    let i = c.loop-number.number-index in
-    let zero : get_or xs i (pos 0) ≡ pos 0 = search rules in
-    zeros_more xs i (pos 0) c.loop-number-test.true c.loop-number.invariant zero
+pub returns : goal.returns
+returns c all =
+    let each : All (λ (x : ℤ). x ≡ pos 0) c.args.numbers.now = search rules in zeros_all c.args.numbers.now each

@@ -68,8 +68,8 @@ inline_node-leaf_at-requires-clause-sized t c =
     subst (λ (fs : List Affine). All (IsOver (p.kept + p.parameters)) fs) (sym c.as_slice.ensures.value)
     (place_sized p.parameters p.kept p.loops.items p.forms.items c.requires.place)
 
-pub inline_node-returns-in_ok-leaf-in-Instance : goal.inline_node-returns-in_ok-leaf-in-Instance
-inline_node-returns-in_ok-leaf-in-Instance t c =
+pub inline_node-returns-in_ok-push-in-Instance : goal.inline_node-returns-in_ok-push-in-Instance
+inline_node-returns-in_ok-push-in-Instance t c =
     let p = c.args.place.now in
     let old = c.in-Instance.leaf in
     let new = c.in_ok-leaf-in-Instance.leaf in
@@ -82,14 +82,12 @@ inline_node-returns-in_ok-leaf-in-Instance t c =
     let within = leaf_goes p.parameters p.kept p.loops.items p.forms.items old.statement new.statement old.turns.items
     new.turns.items c.requires.place c.in_ok-leaf-in-Instance.ensures.statement turns
     c.in_ok-leaf-in-Instance.ensures.small in
-    on_ok_weaker c.push.result
-    (λ pushed.
+    let pushed = c.in_ok-push-in-Instance.ensures.pushed in
     subst (λ (u : Tree). Extends p.parameters p.kept p.loops.items (more u none) (nodes_of c.args.out.now.items)
     (nodes_of c.push.new.list.items)) (sym is)
     (with_node p.parameters p.kept p.loops.items (more (instance old.statement old.turns.items) none)
     c.args.out.now.items c.push.new.list.items _ (instance new.statement new.turns.items) pushed (tree_instance new)
-    within))
-    c.push.ensures
+    within)
 
 pub inline_guard-tests_at-requires-clause-count : goal.inline_guard-tests_at-requires-clause-count
 inline_guard-tests_at-requires-clause-count t c =
@@ -141,11 +139,10 @@ inline_guard-returns t c =
     c.new-nodes.ensures.items c.in_ok-inline_nodes.ensures in
     let within = guard_stays p.parameters p.kept p.loops.items p.forms.items (map test_of tests) body
     (nodes_of nodes.items) found c.requires.place are some inner in
-    on_ok_weaker c.push.result
-    (λ pushed. with_node p.parameters p.kept p.loops.items (more (guard (map test_of tests) body) none)
+    let pushed = c.in_ok-push.ensures.pushed in
+    with_node p.parameters p.kept p.loops.items (more (guard (map test_of tests) body) none)
     c.args.out.now.items c.push.new.list.items _ (guard (map test_of found) (nodes_of nodes.items)) pushed
-    (tree_guard _ nodes) within)
-    c.push.ensures
+    (tree_guard _ nodes) within
 
 pub inline_loop-bounds_at-requires-clause-count : goal.inline_loop-bounds_at-requires-clause-count
 inline_loop-bounds_at-requires-clause-count t c =
@@ -267,9 +264,8 @@ inline_loop-returns t c =
     ∙ ap (λ (fs : List Affine). bounds_over (k + m) fs (bounds_in head.upper)) c.as_slice-2.ensures.value)
     c.in_ok-lower.ensures.small c.in_ok-upper.ensures.small c.in_ok-within-2.ensures.parameters
     c.in_ok-within-2.ensures.kept c.in_ok-within-2.ensures.loops inner in
-    on_ok_weaker c.push.result
-    (λ pushed. with_node m k p.loops.items
+    let pushed = c.in_ok-push.ensures.pushed in
+    with_node m k p.loops.items
     (more (loop head.parallel (bounds_in head.lower) (bounds_in head.upper) body) none) c.args.out.now.items
     c.push.new.list.items _ (loop head.parallel (bounds_in lower) (bounds_in upper) (nodes_of nodes.items)) pushed
-    (tree_loop _ nodes) stays)
-    c.push.ensures
+    (tree_loop _ nodes) stays
