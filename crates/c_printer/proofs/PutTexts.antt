@@ -4,7 +4,6 @@ use Rattle.std.proofs.Common.{drop, length, arith, sym, get_or, drop-cons, add-o
 use Rattle.std.specs.Prelude.{codes}
 use Rattle.std.proofs.lemmas.List.{append_assoc, drop_all}
 use Rattle.whole_numbers.specs.Affine.{Affine}
-use Rattle.whole_numbers.specs.Lists.{zeros}
 use Rattle.scop_lexer.specs.Bytes.{Text}
 use Rattle.scop_syntax.specs.Tree.{Head, Program}
 use Rattle.loop_tree.specs.Tree.{Bound, bounds_of, Tree, Trees, more}
@@ -14,10 +13,6 @@ use Rattle.c_printer.specs.Nodes.{givens_text, repeated, indent, bound_text, bou
 -- a text once more, and the times behind it
 pub repeated_ahead : (text : Text) (n i : ℕ) → i < n → repeated text (n - i) ≡ text ++ repeated text (n - (i + 1))
 repeated_ahead text n i h = ap (repeated text) (let e : n - i ≡ suc (n - (i + 1)) = omega (arith, h) in e)
-
--- a zero more, and those behind it
-pub zeros_ahead : (n i : ℕ) → i < n → zeros (n - i) ≡ pos 0 ∷ zeros (n - (i + 1))
-zeros_ahead n i h = ap zeros (let e : n - i ≡ suc (n - (i + 1)) = omega (arith, h) in e)
 
 -- a text behind another, and what stands behind both
 pub behind : (a b x rest : Text) → b ≡ a ++ x → b ++ rest ≡ a ++ (x ++ rest)

@@ -1,8 +1,8 @@
 //! The forms of an emitted text.
 
-ghost use Rattle.std.specs.Prelude.{◌≡◌, ◌++◌, ◌+ℤ◌, ◌*ℤ◌, pos, drop, take, get_or, map, max, IfOk, OnOk};
+ghost use Rattle.std.specs.Prelude.{◌≡◌, ◌++◌, ◌+ℤ◌, ◌*ℤ◌, pos, drop, take, get_or, map, IfOk, OnOk};
 ghost use Rattle.whole_numbers.specs.Affine.{form_of};
-ghost use Rattle.whole_numbers.specs.Lists.{multiples, sums};
+ghost use Rattle.whole_numbers.specs.Lists.{multiples, sums, zeros};
 ghost use Rattle.form_text.specs.Forms.{form_text};
 ghost use Rattle.c_printer.specs.Forms.{iterator_form, spread, tree_form_text, turned};
 
@@ -55,6 +55,13 @@ pub fn turned(alloc: Global, loops: usize, coefficients: &[i64]) -> Result<Vec<i
     Ok(all)
 }
 
+/// So many zeros.
+fn zeros(alloc: Global, count: usize) -> Result<Vec<i64>, AllocError>
+    ensures { IfOk result (λ v. v.items ≡ zeros count) }
+{
+    vec![in alloc; 0; count]
+}
+
 /// The coefficients of a form of the source in the order of the text.
 pub fn spread(
     alloc: Global,
@@ -66,12 +73,8 @@ pub fn spread(
 {
     let (front, back) = parts(coefficients, parameters);
     let mut all = Vec::from_slice(alloc, front)?;
-    for at in 0..loops {
-        match all.push(0) {
-            Ok(()) => {}
-            Err(_) => return Err(AllocError),
-        }
-    }
+    let zeros = zeros(alloc, loops)?;
+    all.extend_from_slice(&zeros)?;
     all.extend_from_slice(back)?;
     Ok(all)
 }
@@ -86,7 +89,7 @@ fn with_multiples(
     ensures { IfOk result (λ v. v.items ≡ sums entries.now (multiples factor others.now)) }
 {
     let mut all = Vec::new(alloc);
-    for at in 0..greater(entries.len(), others.len()) {
+    for at in 0..entries.len().max(others.len()) {
         let entry = with_multiple(entry_at(entries, at), factor, entry_at(others, at));
         match all.push(entry) {
             Ok(()) => {}
@@ -94,13 +97,6 @@ fn with_multiples(
         }
     }
     Ok(all)
-}
-
-/// The greater of two counts.
-fn greater(a: usize, b: usize) -> usize
-    ensures { result ≡ max a b }
-{
-    if a < b { b } else { a }
 }
 
 /// The entry at a place, 0 behind the last.

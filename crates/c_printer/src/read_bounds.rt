@@ -3,7 +3,7 @@
 ghost use Rattle.std.specs.Prelude.{◌≡◌, Some, None, codes, map, IfOk};
 ghost use Rattle.loop_tree.specs.Tree.{only};
 ghost use Rattle.loop_tree.specs.View.{bounds_in};
-ghost use Rattle.c_printer.specs.Reading.{bound_at, divided_bound, read_bound, read_bounds, read_divisor};
+ghost use Rattle.c_printer.specs.Reading.{divided_bound, read_bound, read_bounds, read_divisor};
 ghost use Rattle.c_printer.specs.View.{bound_in, bound_part, divisor_in, form_part, sides_in};
 ghost use Rattle.c_printer.specs.steps.Reading.{all_bounds, chosen_bound, closed_bounds, last_bound};
 
@@ -49,46 +49,6 @@ fn divided_bound<'a>(form: Read<'a, Aff>) -> Option<Read<'a, Bound>>
     Some(Read { part, rest })
 }
 
-/// The bound behind the name of its division.
-fn read_divided<'a>(
-    alloc: Global,
-    parameters: usize,
-    names: &[Name],
-    text: &'a [u8],
-) -> Result<Option<Read<'a, Bound>>, AllocError>
-    ensures { IfOk result (λ r. bound_in r
-        ≡ bound_at parameters (map (λ n. n.items) names.now) text.now (Some text.now)) }
-{
-    match read_tree_form(alloc, parameters, names, text) {
-        Ok(Some(form)) => Ok(divided_bound(form)),
-        Ok(None) => Ok(None),
-        Err(_) => Err(AllocError),
-    }
-}
-
-/// The bound whose divisor of 1 is left out.
-fn read_undivided<'a>(
-    alloc: Global,
-    parameters: usize,
-    names: &[Name],
-    text: &'a [u8],
-) -> Result<Option<Read<'a, Bound>>, AllocError>
-    ensures { IfOk result (λ r. bound_in r
-        ≡ bound_at parameters (map (λ n. n.items) names.now) text.now None) }
-{
-    match read_tree_form(alloc, parameters, names, text) {
-        Ok(Some(form)) => Ok(Some(Read {
-            part: Bound {
-                form: form.part,
-                divisor: 1,
-            },
-            rest: form.rest,
-        })),
-        Ok(None) => Ok(None),
-        Err(_) => Err(AllocError),
-    }
-}
-
 /// The bound in front of a text.
 #[tactic(auto, unfolding(crate::specs::Reading::read_bound))]
 fn read_bound<'a>(
@@ -102,8 +62,20 @@ fn read_bound<'a>(
         ≡ read_bound divided.now parameters (map (λ n. n.items) names.now) text.now) }
 {
     match strip(text, divided) {
-        Some(behind) => read_divided(alloc, parameters, names, behind),
-        None => read_undivided(alloc, parameters, names, text),
+        Some(behind) => {
+            let form = read_tree_form(alloc, parameters, names, behind)?;
+            Ok(form.and_then(|form| divided_bound(form)))
+        }
+        None => {
+            let form = read_tree_form(alloc, parameters, names, text)?;
+            Ok(form.map(|form| Read {
+                part: Bound {
+                    form: form.part,
+                    divisor: 1,
+                },
+                rest: form.rest,
+            }))
+        }
     }
 }
 

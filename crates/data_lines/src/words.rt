@@ -1,41 +1,18 @@
 //! A text by its lines, and a line by its words.
 
 ghost use Rattle.std.specs.Prelude.{◌≡◌, ◌≤◌, ◌<◌, ◌∷◌, [], length, IfSome, IsNone};
-ghost use Rattle.std.specs.List.{position_or_len, prefix_len};
+ghost use Rattle.std.specs.List.{position_or_len};
 ghost use Rattle.scop_lexer.specs.Bytes.{is_blank};
 ghost use Rattle.data_lines.specs.Words.{is_line_feed, unindented, words_of};
 
-/// Whether the byte is a space, a tab, a line feed, a form feed or a carriage return.
-fn is_blank(byte: u8) -> bool
-    ensures { result ≡ is_blank byte }
-{
-    matches!(byte, b' ' | b'\t' | b'\n' | 0x0C | b'\r')
-}
+use scop_lexer::{blank_len, is_blank};
 
 /// How many bytes the first line has, without its line feed.
 pub(crate) fn line_len(text: &[u8]) -> usize
     ensures value { result ≡ position_or_len is_line_feed text.now }
     ensures within { result ≤ length text.now }
 {
-    for (i, byte) in text.iter().enumerate() {
-        if *byte == b'\n' {
-            return i;
-        }
-    }
-    text.len()
-}
-
-/// How many blanks the text begins with.
-fn blank_len(text: &[u8]) -> usize
-    ensures value { result ≡ prefix_len is_blank text.now }
-    ensures within { result ≤ length text.now }
-{
-    for (i, byte) in text.iter().enumerate() {
-        if !is_blank(*byte) {
-            return i;
-        }
-    }
-    text.len()
+    text.iter().take_while(|byte| **byte != b'\n').count()
 }
 
 /// How many bytes other than blanks the text begins with.
@@ -43,12 +20,7 @@ fn word_len(text: &[u8]) -> usize
     ensures value { result ≡ position_or_len is_blank text.now }
     ensures within { result ≤ length text.now }
 {
-    for (i, byte) in text.iter().enumerate() {
-        if is_blank(*byte) {
-            return i;
-        }
-    }
-    text.len()
+    text.iter().take_while(|byte| !is_blank(**byte)).count()
 }
 
 /// The text without the blanks in front of it.

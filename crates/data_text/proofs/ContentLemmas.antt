@@ -1,10 +1,9 @@
 -- Contents, one array after another.
-use Rattle.std.proofs.Common.{◌≡◌, ◌∙◌, sym, ap, ap₂, refl, ℕ, zero, suc, ◌+◌, ◌<◌, Bool, true, false, ltb}
+use Rattle.std.proofs.Common.{◌≡◌, ◌∙◌, sym, ap, ap₂, refl, ℕ, ◌+◌, ◌<◌, Bool, true, false, ltb}
 use Rattle.std.proofs.Common.{if◌then◌else◌, ◌==◌, List, [], ◌∷◌, ◌++◌, map, length, drop, get_or, add-one}
 use Rattle.std.proofs.Common.{drop-cons, append_assoc, eqb-true, arith}
 use Rattle.std.proofs.lemmas.List.{length-replicate}
 use Rattle.std.specs.Prelude.{Option, Some, None}
-use Rattle.std.specs.List.{range_with_len}
 use Rattle.std.proofs.lemmas.List.{get_or-map}
 use Rattle.std.proofs.lemmas.List.FromFn.{length-map-range_with_len}
 use Rattle.scop_syntax.specs.Execution.{cell_count}
@@ -14,12 +13,6 @@ use Rattle.data_lines.specs.declared.sheet.Given.TheVariants.{Nothing}
 use Rattle.data_text.specs.declared.counts.Miscount.{Miscount}
 use Rattle.data_text.specs.Cases.{cells_said, contents_said, earlier, first_miscount, miscount_of, miscounted}
 use Rattle.data_text.specs.Cases.{seed_cell}
-
--- one number more
-pub range_next : (f : ℕ → ℕ) (a n : ℕ) → map f (range_with_len a (suc n)) ≡ map f (range_with_len a n) ++ f (a + n) ∷ []
-range_next f a zero = let same : a ≡ a + 0 = omega arith in ap (λ k. f k ∷ []) same
-range_next f a (suc n) = let same : (a + 1) + n ≡ a + suc n = omega arith in
-    ap (λ ks. f a ∷ ks) (range_next f (a + 1) n ∙ ap (λ k. map f (range_with_len (a + 1) n) ++ f k ∷ []) same)
 
 -- the contents of the next array
 pub contents_next : (layouts : List (List ℕ)) (rows after : List CodeGiven) (i : ℕ) (done whole : List (List ℕ))

@@ -83,11 +83,7 @@ fn cells_of(alloc: Global, count: usize, given: Given) -> Result<Vec<u64>, Alloc
 fn seed_cells(alloc: Global, seed: u64, count: usize) -> Result<Vec<u64>, AllocError>
     ensures { IfOk result (λ cells. cells.items ≡ map (seed_cell seed) (range_with_len 0 count)) }
 {
-    let mut cells = Vec::with_capacity(alloc, count)?;
-    for k in 0..count {
-        cells.push(seed_cell(seed, k as u64))?;
-    }
-    Ok(cells)
+    (0..count).map(|k| seed_cell(seed, k as u64)).collect(alloc)
 }
 
 /// 2^64 divided by the golden ratio, made odd.

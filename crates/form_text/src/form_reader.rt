@@ -2,7 +2,6 @@
 
 ghost use Rattle.std.specs.Prelude.{◌≡◌, ◌≤◌, IfOk, length, map};
 ghost use Rattle.std.specs.List.{prefix_len};
-ghost use Rattle.scop_lexer.specs.Bytes.{is_letter, is_word_byte};
 ghost use Rattle.form_text.specs.Names.{is_mark, is_name_byte};
 ghost use Rattle.form_text.specs.Reading.{behind_digits, behind_name, factor_in_front, minus, name_in_front, named};
 ghost use Rattle.form_text.specs.Reading.{next_in, number_in_front, numbered, plus, read_form, strip, term_in_front};
@@ -10,6 +9,7 @@ ghost use Rattle.form_text.specs.Reading.{when};
 ghost use Rattle.form_text.specs.View.{factor_in, factor_read, form_in, next_read, saturated, saturated_factor};
 ghost use Rattle.form_text.specs.View.{term_in, text_in};
 
+use scop_lexer::is_word_byte;
 use std::alloc::{AllocError, Global};
 
 /// A number, a name (none: the number is a constant), and what stands behind.
@@ -54,20 +54,6 @@ pub fn read_number<'a>(text: &'a [u8]) -> (u128, &'a [u8])
     (number, rest)
 }
 
-/// Whether the byte is a letter or `_`.
-fn is_letter(byte: u8) -> bool
-    ensures { result ≡ is_letter byte }
-{
-    byte.is_ascii_alphabetic() || byte == b'_'
-}
-
-/// Whether words are made of the byte.
-fn is_word_byte(byte: u8) -> bool
-    ensures { result ≡ is_word_byte byte }
-{
-    is_letter(byte) || byte.is_ascii_digit()
-}
-
 /// Whether the byte is `#` or `$`.
 fn is_mark(byte: u8) -> bool
     ensures { result ≡ is_mark byte }
@@ -87,12 +73,7 @@ fn name_len(text: &[u8]) -> usize
     ensures value { result ≡ prefix_len is_name_byte text.now }
     ensures within { result ≤ length text.now }
 {
-    for (i, byte) in text.iter().enumerate() {
-        if !is_name_byte(*byte) {
-            return i;
-        }
-    }
-    text.len()
+    text.iter().take_while(|byte| is_name_byte(**byte)).count()
 }
 
 /// The longest run of bytes of names, and what stands behind it.

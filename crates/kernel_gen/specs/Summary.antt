@@ -1,26 +1,14 @@
 -- The text that tells what a generated case left.
-use Rattle.std.specs.Prelude.{ℕ, List, [], ◌∷◌, ◌++◌, codes, decimal}
+use Rattle.std.specs.Prelude.{ℕ, List, [], ◌∷◌, codes, decimal}
 use Rattle.std.specs.List.{concat}
 use Rattle.kernel_gen.specs.declared.kind.Kind.{Kind}
 use Rattle.kernel_gen.specs.declared.kind.Kind.TheVariants.{Product, Sweep, Chain}
-use Rattle.kernel_gen.specs.declared.summary_text.Part.{Part}
-use Rattle.kernel_gen.specs.declared.summary_text.Part.TheVariants as part
 
 -- the name of a kind
 abbrev pub name_of : Kind → List ℕ
 name_of Product = codes "product"
 name_of Sweep = codes "sweep"
 name_of Chain = codes "chain"
-
--- a text or the decimal of a number
-abbrev pub part_text : Part → List ℕ
-part_text (part.Text text) = text.now
-part_text (part.Number number) = decimal number
-
--- these, one after another
-abbrev pub parts_text : List Part → List ℕ
-parts_text [] = []
-parts_text (p ∷ ps) = part_text p ++ parts_text ps
 
 -- gen KIND seed SEED size SIZE
 -- tiles T waves W

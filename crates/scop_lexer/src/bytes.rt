@@ -12,7 +12,7 @@ pub(crate) fn byte_at(text: &[u8], at: usize) -> u8
 }
 
 /// Whether the byte is a space, a tab, a line feed, a form feed or a carriage return.
-pub(crate) fn is_blank(byte: u8) -> bool
+pub fn is_blank(byte: u8) -> bool
     ensures { result ≡ is_blank byte }
 {
     matches!(byte, b' ' | b'\t' | b'\n' | 0x0C | b'\r')
@@ -26,7 +26,7 @@ pub(crate) fn is_letter(byte: u8) -> bool
 }
 
 /// Whether names, keywords and constants are made of the byte.
-fn is_word_byte(byte: u8) -> bool
+pub fn is_word_byte(byte: u8) -> bool
     ensures { result ≡ is_word_byte byte }
 {
     is_letter(byte) || byte.is_ascii_digit()
@@ -37,25 +37,15 @@ pub(crate) fn word_len(text: &[u8]) -> usize
     ensures value { result ≡ prefix_len is_word_byte text.now }
     ensures within { result ≤ length text.now }
 {
-    for (i, byte) in text.iter().enumerate() {
-        if !is_word_byte(*byte) {
-            return i;
-        }
-    }
-    text.len()
+    text.iter().take_while(|byte| is_word_byte(**byte)).count()
 }
 
 /// How many blanks the text begins with.
-pub(crate) fn blank_len(text: &[u8]) -> usize
+pub fn blank_len(text: &[u8]) -> usize
     ensures value { result ≡ prefix_len is_blank text.now }
     ensures within { result ≤ length text.now }
 {
-    for (i, byte) in text.iter().enumerate() {
-        if !is_blank(*byte) {
-            return i;
-        }
-    }
-    text.len()
+    text.iter().take_while(|byte| is_blank(**byte)).count()
 }
 
 /// How many bytes the first line has, without its line feed.
@@ -63,12 +53,7 @@ pub(crate) fn line_len(text: &[u8]) -> usize
     ensures value { result ≡ prefix_len is_in_line text.now }
     ensures within { result ≤ length text.now }
 {
-    for (i, byte) in text.iter().enumerate() {
-        if *byte == b'\n' {
-            return i;
-        }
-    }
-    text.len()
+    text.iter().take_while(|byte| **byte != b'\n').count()
 }
 
 /// Whether only blanks stand in the last line of the text.

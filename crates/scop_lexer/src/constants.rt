@@ -131,12 +131,7 @@ fn digit_len(text: &[u8]) -> usize
     ensures value { result ≡ prefix_len is_digit text.now }
     ensures within { result ≤ length text.now }
 {
-    for (i, byte) in text.iter().enumerate() {
-        if !byte.is_ascii_digit() {
-            return i;
-        }
-    }
-    text.len()
+    text.iter().take_while(|byte| byte.is_ascii_digit()).count()
 }
 
 /// How many hexadecimal digits the text begins with.
@@ -144,12 +139,7 @@ fn hex_digit_len(text: &[u8]) -> usize
     ensures value { result ≡ prefix_len is_hex_digit text.now }
     ensures within { result ≤ length text.now }
 {
-    for (i, byte) in text.iter().enumerate() {
-        if !is_hex_digit(*byte) {
-            return i;
-        }
-    }
-    text.len()
+    text.iter().take_while(|byte| is_hex_digit(**byte)).count()
 }
 
 /// The number that digits of a base write, if it has 64 bits.

@@ -14,6 +14,7 @@ mod stands;
 mod token;
 mod words;
 
+pub use bytes::{blank_len, is_blank, is_word_byte};
 pub use laws::{
     first_fault_is_unique, longest_sign_is_told, names_stand_by_themselves,
     text_has_tokens_or_a_fault, tokens_are_unique, tokens_exclude_a_fault,

@@ -59,12 +59,7 @@ fn name_in_hand(hand: &Hand) -> Option<usize>
     match hand {
         Hand::LoopFirst(begun, _) => Some(begun.name_at),
         Hand::LoopStep(sides, _) => Some(sides.begun.name_at),
-        Hand::Idle => None,
-        Hand::Condition => None,
-        Hand::LoopBegun(_) => None,
-        Hand::LoopNamed(_) => None,
-        Hand::Placed(_) => None,
-        Hand::Valued(_, _, _) => None,
+        _ => None,
     }
 }
 

@@ -10,7 +10,8 @@ use crate::roles::{MOST_COEFFICIENT, MOST_CONSTANT};
 use scop_syntax::tree::Aff;
 use std::alloc::{AllocError, Global};
 
-fn zeros(alloc: Global, count: usize) -> Result<Vec<i64>, AllocError>
+/// So many zeros.
+pub fn zeros(alloc: Global, count: usize) -> Result<Vec<i64>, AllocError>
     ensures { IfOk result (λ v. v.items ≡ zeros count) }
 {
     vec![in alloc; 0; count]

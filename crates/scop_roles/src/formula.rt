@@ -105,13 +105,7 @@ pub fn meaning_of(formula: &Formula) -> Meaning
     match formula {
         Formula::Name(meaning, _) => *meaning,
         Formula::Index(inner, _, _) => meaning_of(inner),
-        Formula::Constant(_, _, _) => Meaning::Unknown,
-        Formula::BareCall(_, _) => Meaning::Unknown,
-        Formula::Call(_, _, _) => Meaning::Unknown,
-        Formula::Unary(_, _, _) => Meaning::Unknown,
-        Formula::Cast(_, _) => Meaning::Unknown,
-        Formula::Commas(_, _, _, _) => Meaning::Unknown,
-        Formula::Binary(_, _, _, _) => Meaning::Unknown,
+        _ => Meaning::Unknown,
     }
 }
 
@@ -123,14 +117,7 @@ pub fn has_subscripts(formula: &Formula, count: usize) -> bool
         Formula::Index(inner, earlier, _) => {
             earlier.len() < count && has_subscripts(inner, count - 1 - earlier.len())
         }
-        Formula::Constant(_, _, _) => count == 0,
-        Formula::Name(_, _) => count == 0,
-        Formula::BareCall(_, _) => count == 0,
-        Formula::Call(_, _, _) => count == 0,
-        Formula::Unary(_, _, _) => count == 0,
-        Formula::Cast(_, _) => count == 0,
-        Formula::Commas(_, _, _, _) => count == 0,
-        Formula::Binary(_, _, _, _) => count == 0,
+        _ => count == 0,
     }
 }
 

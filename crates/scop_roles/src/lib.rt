@@ -13,3 +13,5 @@ mod pairs;
 pub mod roles;
 mod sides;
 pub mod values;
+
+pub use forms::zeros;

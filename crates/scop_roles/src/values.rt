@@ -34,15 +34,11 @@ pub fn is_signed(formula: &Formula) -> bool
     match formula {
         Formula::Constant(suffix, _, _) => is_plain(*suffix),
         Formula::Name(meaning, _) => is_number(*meaning),
-        Formula::Index(_, _, _) => false,
-        Formula::BareCall(_, _) => false,
-        Formula::Call(_, _, _) => false,
         Formula::Unary(sign, operand, _) => is_minus(*sign) && is_signed(operand),
-        Formula::Cast(_, _) => false,
-        Formula::Commas(_, _, _, _) => false,
         Formula::Binary(op, left, right, _) => {
             is_sum_or_product(*op) && is_signed(left) && is_signed(right)
         }
+        _ => false,
     }
 }
 
@@ -52,14 +48,7 @@ pub fn is_count(formula: &Formula, low: u64, high: u64) -> bool
 {
     match formula {
         Formula::Constant(suffix, value, _) => is_between(*suffix, *value, low, high),
-        Formula::Name(_, _) => false,
-        Formula::Index(_, _, _) => false,
-        Formula::BareCall(_, _) => false,
-        Formula::Call(_, _, _) => false,
-        Formula::Unary(_, _, _) => false,
-        Formula::Cast(_, _) => false,
-        Formula::Commas(_, _, _, _) => false,
-        Formula::Binary(_, _, _, _) => false,
+        _ => false,
     }
 }
 
@@ -153,14 +142,7 @@ fn push_subscripts(
             }
             push_form(alloc, last, entries, forms)
         }
-        Formula::Constant(_, _, _) => Ok(()),
-        Formula::Name(_, _) => Ok(()),
-        Formula::BareCall(_, _) => Ok(()),
-        Formula::Call(_, _, _) => Ok(()),
-        Formula::Unary(_, _, _) => Ok(()),
-        Formula::Cast(_, _) => Ok(()),
-        Formula::Commas(_, _, _, _) => Ok(()),
-        Formula::Binary(_, _, _, _) => Ok(()),
+        _ => Ok(()),
     }
 }
 
@@ -211,14 +193,7 @@ fn count(formula: &Formula) -> u8
                 0
             }
         }
-        Formula::Name(_, _) => 0,
-        Formula::Index(_, _, _) => 0,
-        Formula::BareCall(_, _) => 0,
-        Formula::Call(_, _, _) => 0,
-        Formula::Unary(_, _, _) => 0,
-        Formula::Cast(_, _) => 0,
-        Formula::Commas(_, _, _, _) => 0,
-        Formula::Binary(_, _, _, _) => 0,
+        _ => 0,
     }
 }
 
@@ -612,9 +587,6 @@ pub fn push_read_places(formula: &Formula, places: &mut Vec<usize>) -> Result<()
             Err(_) => Err(AllocError),
             Ok(()) => push_read_places(right, places),
         },
-        Formula::Constant(_, _, _) => Ok(()),
-        Formula::Name(_, _) => Ok(()),
-        Formula::BareCall(_, _) => Ok(()),
-        Formula::Call(_, _, _) => Ok(()),
+        _ => Ok(()),
     }
 }

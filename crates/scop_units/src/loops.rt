@@ -49,9 +49,7 @@ fn is_variable(entry: usize, meaning: Meaning) -> bool
 {
     match meaning {
         Meaning::Variable(number) => number == entry,
-        Meaning::Unknown => false,
-        Meaning::Closed => false,
-        Meaning::Array(_, _) => false,
+        _ => false,
     }
 }
 
@@ -61,14 +59,7 @@ fn is_entry(entry: usize, formula: &Formula) -> bool
 {
     match formula {
         Formula::Name(meaning, _) => is_variable(entry, *meaning),
-        Formula::Constant(_, _, _) => false,
-        Formula::Index(_, _, _) => false,
-        Formula::BareCall(_, _) => false,
-        Formula::Call(_, _, _) => false,
-        Formula::Unary(_, _, _) => false,
-        Formula::Cast(_, _) => false,
-        Formula::Commas(_, _, _, _) => false,
-        Formula::Binary(_, _, _, _) => false,
+        _ => false,
     }
 }
 
@@ -153,14 +144,7 @@ fn rises(entry: usize, condition: &Formula) -> Option<bool>
             Op::Greater | Op::AtLeast => rises_between(entry, false, left, right),
             _ => None,
         },
-        Formula::Constant(_, _, _) => None,
-        Formula::Index(_, _, _) => None,
-        Formula::BareCall(_, _) => None,
-        Formula::Call(_, _, _) => None,
-        Formula::Unary(_, _, _) => None,
-        Formula::Cast(_, _) => None,
-        Formula::Commas(_, _, _, _) => None,
-        Formula::Name(_, _) => None,
+        _ => None,
     }
 }
 
@@ -185,15 +169,7 @@ fn stride_of(up: bool, formula: &Formula) -> Option<i64>
                 None
             }
         }
-        Formula::Constant(Suffix::Present, _, _) => None,
-        Formula::Binary(_, _, _, _) => None,
-        Formula::Index(_, _, _) => None,
-        Formula::BareCall(_, _) => None,
-        Formula::Call(_, _, _) => None,
-        Formula::Unary(_, _, _) => None,
-        Formula::Cast(_, _) => None,
-        Formula::Commas(_, _, _, _) => None,
-        Formula::Name(_, _) => None,
+        _ => None,
     }
 }
 
@@ -217,14 +193,7 @@ fn set_stride(entry: usize, formula: &Formula) -> Option<i64>
             Op::Minus => added_stride(entry, false, left, right),
             _ => None,
         },
-        Formula::Constant(_, _, _) => None,
-        Formula::Index(_, _, _) => None,
-        Formula::BareCall(_, _) => None,
-        Formula::Call(_, _, _) => None,
-        Formula::Unary(_, _, _) => None,
-        Formula::Cast(_, _) => None,
-        Formula::Commas(_, _, _, _) => None,
-        Formula::Name(_, _) => None,
+        _ => None,
     }
 }
 

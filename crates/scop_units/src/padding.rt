@@ -1,18 +1,12 @@
 //! Arrays with their extents as forms over all parameters: those that are declared behind an array count nothing.
 
 ghost use Rattle.std.specs.Prelude.{◌≡◌, IfOk, map};
-ghost use Rattle.whole_numbers.specs.Lists.{zeros};
 ghost use Rattle.scop_units.specs.Units.{declared_over, padded};
 
 use crate::scope::copied;
+use scop_roles::zeros;
 use scop_syntax::tree::{Aff, Array};
 use std::alloc::{AllocError, Global};
-
-fn zeros(alloc: Global, count: usize) -> Result<Vec<i64>, AllocError>
-    ensures { IfOk result (λ v. v.items ≡ zeros count) }
-{
-    vec![in alloc; 0; count]
-}
 
 // The form over so many entries at least.
 fn padded(alloc: Global, form: &Aff, count: usize) -> Result<Aff, AllocError>

@@ -266,14 +266,7 @@ fn count(value: &Formula) -> u8
 {
     match value {
         Formula::Constant(_, value, _) => *value as u8,
-        Formula::Name(_, _) => 0,
-        Formula::Index(_, _, _) => 0,
-        Formula::BareCall(_, _) => 0,
-        Formula::Call(_, _, _) => 0,
-        Formula::Unary(_, _, _) => 0,
-        Formula::Cast(_, _) => 0,
-        Formula::Commas(_, _, _, _) => 0,
-        Formula::Binary(_, _, _, _) => 0,
+        _ => 0,
     }
 }
 
