@@ -1,5 +1,5 @@
-//! Braids of a tree's visits: the instances of a loop with a few instances in it and nothing else. Each of these gives a
-//! stretch, and the stretches take turns.
+//! Braids of a tree's visits: the instances of a loop with a few instances in it and nothing else. Each of these gives
+//! a stretch, and the stretches take turns.
 ghost use Rattle.std.specs.Prelude.{◌≡◌, ◌+◌, ◌<◌, ◌⊎◌, ◌++◌, [], IsNone};
 ghost use Rattle.loop_tree.specs.Braids.{IsBraid, left_of_braid};
 ghost use Rattle.loop_tree.specs.SpotView.{found_in};
