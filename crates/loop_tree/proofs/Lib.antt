@@ -20,4 +20,5 @@ pub mod WalkSteps
 pub mod VisitPlaces
 pub mod LargerBounds
 pub mod Stretches
+pub mod Braids
 pub mod SameSpots

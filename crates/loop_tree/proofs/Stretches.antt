@@ -1,6 +1,6 @@
 -- Instances of a leaf at the values of the loop round it: each has the same steps more in its turns than the one before
 -- it.
-use Rattle.std.proofs.Common.{◌≡◌, ℕ, zero, suc, ◌+◌, ◌<◌, Bool, true, false, ℤ, pos, negsuc, List, [], ◌∷◌, ◌++◌}
+use Rattle.std.proofs.Common.{◌≡◌, ℕ, zero, suc, ◌<◌, Bool, true, false, ℤ, pos, negsuc, List, [], ◌∷◌, ◌++◌}
 use Rattle.std.proofs.Common.{length, map, take, get_or, ap, ap₂, sym, subst, ◌∙◌, refl, arith, append-nil}
 use Rattle.std.specs.Prelude.{◌+ℤ◌, ◌-ℤ◌, ◌≤ℤ◌, All, FitsSigned}
 use Rattle.std.specs.Int.{w64}
@@ -18,7 +18,7 @@ use Rattle.loop_tree.specs.Tree.{Bounds, Trees, instance, loop, more, none}
 use Rattle.loop_tree.specs.Walk.{along, given, walk_all}
 use Rattle.loop_tree.specs.Conditions.{CanWalk, IsHeld}
 use Rattle.loop_tree.specs.Fits.{FormsFit, SumsFit}
-use Rattle.loop_tree.specs.Spot.{Mark, mark, IsAt, rest_of, shown_from}
+use Rattle.loop_tree.specs.Spot.{Mark, mark, rest_of, shown_from}
 use Rattle.loop_tree.specs.Stretches.{following, left_of}
 use Rattle.loop_tree.specs.declared.stretch.Stretch.{Stretch}
 use Rattle.loop_tree.specs.steps.Going.{CanGo, CanTurn, HasGone, HasTurned, rest_from}
@@ -87,14 +87,6 @@ first_held n turns steps (suc k) some held =
     (All-head IsHeld (record { number = n; turns = sums turns steps }) (following n (sums turns steps) steps k)
     held).turns
 
-pub following_next : (n : ℕ) (turns steps : List ℤ) (k j : ℕ) → k ≡ j + 1
-    → following n turns steps k
-    ≡ record { number = n; turns = sums turns steps } ∷ following n (sums turns steps) steps j
-following_next n turns steps zero j e = absurd (omega arith)
-following_next n turns steps (suc k) j e =
-    let same : k ≡ j = omega arith in
-    ap (λ (i : ℕ). record { number = n; turns = sums turns steps } ∷ following n (sums turns steps) steps i) same
-
 -- so many values stand behind one
 most_turns_are : (z : ℤ) (k : ℕ) → pos k ≡ z +ℤ pos 1 → most_turns z ≡ k
 most_turns_are (pos n) k e = omega (arith, ints)
@@ -113,40 +105,13 @@ shown_up body params outer x last k is way shown =
     ∙ ap (λ (js : List Instance). is ++ js)
     (sym (shown_none body params outer (last +ℤ pos 1) last (omega (arith, ints))))))
 
--- the marks of a leaf alone stand at any value
-at_leaf : (n : ℕ) (forms : List Affine) (ms : List Mark) (params outer : List ℤ)
-    → IsAt (more (instance n forms) none) ms params outer
-at_leaf n forms [] params outer = tt
-at_leaf n forms (mark zero true x z ∷ ms) params outer = tt
-at_leaf n forms (mark zero false x z ∷ ms) params outer = tt
-at_leaf n forms (mark (suc k) begun x z ∷ ms) params outer = tt
-
 -- what is to come of a loop where nothing is left at its value
-rest_done : (body : Trees) (ms : List Mark) (x last : ℤ) (params outer : List ℤ) → x ≤ℤ last
+pub rest_done : (body : Trees) (ms : List Mark) (x last : ℤ) (params outer : List ℤ) → x ≤ℤ last
     → rest_of body ms params (outer ++ x ∷ []) ≡ []
     → rest_from body ms x last params outer ≡ shown_from body params outer (x +ℤ pos 1) last
 rest_done body ms x last params outer here done =
     let h : le_z x last ≡ true = grind (arith, ints) in
     rw (h, done) refl
-
--- from one value of a loop with a leaf in it to another, by the instances between
-pub turned_leaf : (body : Trees) (n : ℕ) (forms : List Affine) (ms : List Mark) (x y last : ℤ) (is : List Instance)
-    (params outer : List ℤ) → body ≡ more (instance n forms) none → x ≤ℤ y → y ≤ℤ last
-    → ((ps vs : List ℤ) → rest_of body ms ps vs ≡ [])
-    → shown_from (more (instance n forms) none) params outer (x +ℤ pos 1) last
-    ≡ is ++ shown_from (more (instance n forms) none) params outer (y +ℤ pos 1) last
-    → HasTurned body x ms y ms last is params outer
-turned_leaf body n forms ms x y last is params outer leaf up within done shown =
-    record {
-      rest = rest_done body ms x last params outer (omega (arith, ints, up, within)) (done params (outer ++ x ∷ []))
-          ∙ (subst (λ (ts : Trees). shown_from ts params outer (x +ℤ pos 1) last
-          ≡ is ++ shown_from ts params outer (y +ℤ pos 1) last) (sym leaf) shown
-          ∙ ap (λ (js : List Instance). is ++ js)
-          (sym (rest_done body ms y last params outer within (done params (outer ++ y ∷ [])))));
-      up = up;
-      stands = λ h. subst (λ (ts : Trees). IsAt ts ms params (outer ++ y ∷ [])) (sym leaf)
-          (at_leaf n forms ms params (outer ++ y ∷ []));
-    }
 
 -- the sums over the loops round a leaf's own fit
 pub fronts_fit : (forms : List Affine) (outer params : List ℤ) (x : ℤ)
@@ -231,13 +196,3 @@ gone_begun flag lo up body true x z ms begun' y w new is params outer b b' last 
     (last ∙ go.stands.1) go.stands
     (subst (λ (v : ℤ). HasTurned body x ms y new v is params outer) go.stands.1 gone)
 gone_begun flag lo up body false x z ms begun' y w new is params outer b b' last kept go gone = absurd (false≢true b)
-
--- two steps of a place, where nothing was left of the stretch before, and the second is that of the new one
-pub two_steps : (ts : Trees) (old mid new : List Mark) (found passed before behind : List Instance) (params : List ℤ)
-    → HasGone ts old mid found params [] → HasGone ts mid new passed params [] → before ≡ [] → behind ≡ passed
-    → before ++ rest_of ts old params [] ≡ found ++ (behind ++ rest_of ts new params [])
-two_steps ts old mid new found passed before behind params first second empty is =
-    ap (λ (js : List Instance). js ++ rest_of ts old params []) empty
-    ∙ (first.rest
-    ∙ (ap (λ (js : List Instance). found ++ js) second.rest
-    ∙ ap (λ (js : List Instance). found ++ (js ++ rest_of ts new params [])) (sym is)))

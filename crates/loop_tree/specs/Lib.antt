@@ -15,4 +15,5 @@ pub mod TilingView
 pub mod Plans
 pub mod Runs
 pub mod Stretches
+pub mod Braids
 pub mod steps

@@ -3,6 +3,7 @@ use Rattle.std.specs.Prelude.{◌≡◌, ℤ, List, [], ◌∷◌, ◌++◌, map
 use Rattle.scop_syntax.specs.Walk.{Instance}
 use Rattle.scop_syntax.specs.View.{instance_of}
 use Rattle.scop_syntax.specs.declared.instance.Instance.{Instance as CodeInstance}
+use Rattle.loop_tree.specs.Braids.{IsBraid, left_of_braid}
 use Rattle.loop_tree.specs.Conditions.{IsHeld}
 use Rattle.loop_tree.specs.Spot.{Mark, mark, deep_all, IsAt, rest_of}
 use Rattle.loop_tree.specs.Stretches.{left_of}
@@ -22,20 +23,23 @@ marks_of ms = map mark_of ms
 abbrev pub marks_in : Spot → List Mark
 marks_in spot = marks_of spot.marks.items
 
--- a spot of trees for these parameters: it has a mark for each sequence, and the instances of its stretch can be held
+-- a spot of trees for these parameters: it has a mark for each sequence, and the instances of its stretch and its braid
+-- can be held
 pub record IsSpotOf (ts : Trees) (params : List ℤ) (spot : Spot) : Type 0 where
   pub room : length spot.marks.items ≡ deep_all ts
   pub stands : IsAt ts (marks_in spot) params []
   pub held : All IsHeld (left_of spot.stretch)
+  pub braid : IsBraid spot.braid
 
--- the instances that are still to come: those of its stretch, then those behind its marks
+-- the instances that are still to come: those of its stretch, those of its braid, then those behind its marks
 abbrev pub to_come : Trees → List ℤ → Spot → List Instance
-to_come ts params spot = left_of spot.stretch ++ rest_of ts (marks_in spot) params []
+to_come ts params spot = left_of spot.stretch ++ (left_of_braid spot.braid ++ rest_of ts (marks_in spot) params [])
 
 -- two spots at one place
 pub record StandAlike (s u : Spot) : Type 0 where
   pub marks : marks_in s ≡ marks_in u
   pub stretch : s.stretch ≡ u.stretch
+  pub braid : s.braid ≡ u.braid
 
 -- one instance, or none
 abbrev pub found_in : Option CodeInstance → List Instance

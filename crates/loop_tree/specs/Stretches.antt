@@ -1,5 +1,5 @@
 -- Instances that follow one another, each with the same steps more in its turns than the one before it.
-use Rattle.std.specs.Prelude.{ℕ, zero, suc, ℤ, List, [], ◌∷◌, take, Option, Some, None}
+use Rattle.std.specs.Prelude.{ℕ, zero, suc, ℤ, List, [], ◌∷◌, take}
 use Rattle.whole_numbers.specs.Lists.{sums}
 use Rattle.scop_syntax.specs.Walk.{Instance}
 use Rattle.scop_syntax.specs.View.{instance_of}
@@ -14,8 +14,3 @@ following n turns steps (suc k) =
 -- the instances that are left of a stretch
 abbrev pub left_of : Stretch → List Instance
 left_of s = following s.before.statement (instance_of s.before).turns (take s.before.loops s.steps) s.left
-
--- those of one, or none
-abbrev pub left_in : Option Stretch → List Instance
-left_in None = []
-left_in (Some s) = left_of s

@@ -1,5 +1,6 @@
 -- What only proofs and private contracts need.
 pub mod Chain
 pub mod Going
+pub mod Passing
 pub mod Placing
 pub mod Stepping

@@ -4,6 +4,7 @@
 //! polyhedral model is easier than you think" (PACT 2004).
 #![tactic(auto)]
 
+mod braid;
 mod examples;
 mod guards;
 mod outer;
@@ -19,6 +20,7 @@ mod tree_laws;
 mod visitor;
 mod walking;
 
+pub use braid::Braid;
 pub use source_laws::source_trees_visit_the_walk;
 pub use spot::{Mark, Spot};
 pub use stretch::Stretch;

@@ -1,19 +1,22 @@
-//! The end of the loop that a place stands in, where an instance is all that it has in it: the marks go there at once,
-//! and the instances that they pass by are told as a stretch.
-ghost use Rattle.std.specs.Prelude.{◌≡◌, ◌≤◌, ◌+ℤ◌, ◌-ℤ◌, ◌≤ℤ◌, ◌++◌, ◌∷◌, [], All, IfSome, IsSome, List, ℤ};
-ghost use Rattle.std.specs.Prelude.{get_or, length, map, pos, take, true};
+//! The end of the loop that a place stands in, where a few instances are all that it has in it: the marks go there at
+//! once, and the instances that they pass by are told as a stretch or a braid.
+ghost use Rattle.std.specs.Prelude.{◌≡◌, ◌≤◌, ◌<◌, ◌+ℤ◌, ◌-ℤ◌, ◌≤ℤ◌, ◌++◌, ◌∷◌, [], All, IfSome, IsSome, IsTrue, List};
+ghost use Rattle.std.specs.Prelude.{ℤ, get_or, length, map, pos, take, true};
 ghost use Rattle.loop_tree.specs.steps.Chain.{values_in};
 ghost use Rattle.loop_tree.specs.steps.Going.{CanGo, CanTurn, HasGone, HasTurned, alone};
+ghost use Rattle.loop_tree.specs.steps.Passing.{AreLeaves, CanPass, passed_by, passed_in, shown_along};
 ghost use Rattle.loop_tree.specs.steps.Stepping.{steps_of};
+ghost use Rattle.loop_tree.specs.Braids.{IsBraid, left_of_braid};
 ghost use Rattle.loop_tree.specs.Conditions.{CanWalk, IsHeld};
 ghost use Rattle.loop_tree.specs.Fits.{SumsFit};
-ghost use Rattle.loop_tree.specs.Spot.{Mark as PlainMark, rest_of, shown_from};
+ghost use Rattle.loop_tree.specs.Spot.{Mark as PlainMark, rest_of};
 ghost use Rattle.loop_tree.specs.SpotView.{mark_of, marks_of};
-ghost use Rattle.loop_tree.specs.Stretches.{left_in, left_of};
+ghost use Rattle.loop_tree.specs.Stretches.{left_of};
 ghost use Rattle.loop_tree.specs.Tree.{instance as leaf_in, more, none};
 ghost use Rattle.loop_tree.specs.View.{nodes_of, tree_of};
 ghost use Rattle.loop_tree.specs.Walk.{along, given, walk_all};
 
+use crate::braid::{Braid, MOST_STRANDS};
 use crate::outer::{Outer, outer_part};
 use crate::spot::Mark;
 use crate::stretch::Stretch;
@@ -22,6 +25,12 @@ use crate::walking::instance_at;
 use arrayvec::ArrayVec;
 use scop_syntax::instance::MAX_LOOPS;
 use scop_syntax::tree::Aff;
+
+/// What marks pass by within a loop: the instances of one leaf, or those of several in turn.
+pub(crate) enum Passed {
+    Straight(Stretch),
+    Braided(Braid),
+}
 
 /// The first of some numbers; 0 where there is none.
 fn first_of(numbers: &[i64]) -> i64
@@ -85,6 +94,17 @@ fn leaf_of(node: &Node) -> Option<&Leaf>
     }
 }
 
+/// Whether a node is a leaf.
+fn is_leaf(node: &Node) -> bool
+    ensures { IsTrue result → AreLeaves (more (tree_of node.now) none) }
+{
+    match node {
+        Node::Loop(_, _) => false,
+        Node::Guard(_, _) => false,
+        Node::Instance(_) => true,
+    }
+}
+
 /// The leaf that nodes are, where they are one alone.
 fn leaf_alone(nodes: &[Node]) -> Option<&Leaf>
     ensures { IfSome result (λ leaf. nodes_of nodes.now
@@ -101,29 +121,30 @@ fn leaf_alone(nodes: &[Node]) -> Option<&Leaf>
     }
 }
 
-/// The leaf that nodes are, where they are one alone and it was begun at this mark.
-fn leaf_at<'a>(nodes: &'a [Node], mark: &Mark) -> Option<&'a Leaf>
-    ensures leaf { IfSome result (λ leaf. nodes_of nodes.now
-        ≡ more (leaf_in leaf.now.statement leaf.now.turns.items) none) }
-    ensures begun { IsSome result → (ms : List PlainMark) → (params outer : List ℤ)
+/// Whether the last of these nodes is a leaf, and was begun at this mark.
+fn is_last(nodes: &[Node], mark: &Mark) -> bool
+    ensures { IsTrue result → (ms : List PlainMark) → (params outer : List ℤ)
         → rest_of (nodes_of nodes.now) (mark_of mark.now ∷ ms) params outer ≡ [] }
 {
-    if !mark.begun || mark.place > 0 {
-        return None;
+    match nodes.split_last() {
+        None => false,
+        Some((node, others)) => {
+            if !mark.begun || mark.place != others.len() {
+                return false;
+            }
+            is_leaf(node)
+        }
     }
-    leaf_alone(nodes)
 }
 
 /// The same at the first of some marks.
-fn begun_leaf<'a>(nodes: &'a [Node], marks: &[Mark]) -> Option<&'a Leaf>
-    ensures leaf { IfSome result (λ leaf. nodes_of nodes.now
-        ≡ more (leaf_in leaf.now.statement leaf.now.turns.items) none) }
-    ensures begun { IsSome result → (params outer : List ℤ)
+fn is_over(nodes: &[Node], marks: &[Mark]) -> bool
+    ensures { IsTrue result → (params outer : List ℤ)
         → rest_of (nodes_of nodes.now) (marks_of marks.now) params outer ≡ [] }
 {
     match marks.split_first() {
-        None => None,
-        Some((mark, _)) => leaf_at(nodes, mark),
+        None => false,
+        Some((mark, _)) => is_last(nodes, mark),
     }
 }
 
@@ -147,48 +168,127 @@ fn stretch_behind(leaf: &Leaf, value: i128, left: u64, outer: &Outer, params: &[
     }
 }
 
-/// Goes to the last value of a loop that has a leaf in it and nothing else, from behind the one at a value.
-fn pass_leaf(leaf: &Leaf, mark: &mut Mark, outer: &Outer, params: &[i64]) -> Option<Stretch>
-    requires walk { (y : ℤ) → mark.old.value ≤ℤ y → y ≤ℤ mark.old.last
-        → CanWalk (more (leaf_in leaf.now.statement leaf.now.turns.items) none) params.now
-        (values_in outer.now ++ y ∷ []) }
+/// The same of a node, where it is a leaf.
+fn strand_behind(
+    node: &Node,
+    value: i128,
+    left: u64,
+    outer: &Outer,
+    params: &[i64],
+) -> Option<Stretch>
+    requires { (y : ℤ) → value ≤ℤ y → y ≤ℤ (value +ℤ pos left)
+        → CanWalk (more (tree_of node.now) none) params.now (values_in outer.now ++ y ∷ []) }
+    ensures leaf { IsSome result → AreLeaves (more (tree_of node.now) none) }
+    ensures rest { IfSome result (λ s. left_of s ≡ shown_along (more (tree_of node.now) none) params.now
+        (values_in outer.now) (value +ℤ pos 1) left) }
+{
+    match leaf_of(node) {
+        None => None,
+        Some(leaf) => Some(stretch_behind(leaf, value, left, outer, params)),
+    }
+}
+
+/// So many instances of each of a few leaves behind those at a value of the loop within these.
+fn braid_behind(
+    nodes: &[Node],
+    value: i128,
+    left: u64,
+    outer: &Outer,
+    params: &[i64],
+) -> Option<Braid>
+    requires some { 0 < length nodes.now }
+    requires few { length nodes.now ≤ 4 }
+    requires walk { (y : ℤ) → value ≤ℤ y → y ≤ℤ (value +ℤ pos left)
+        → CanWalk (nodes_of nodes.now) params.now (values_in outer.now ++ y ∷ []) }
+    ensures leaves { IsSome result → AreLeaves (nodes_of nodes.now) }
+    ensures rest { IfSome result (λ b. left_of_braid b ≡ shown_along (nodes_of nodes.now) params.now
+        (values_in outer.now) (value +ℤ pos 1) left) }
+    ensures braid { IfSome result IsBraid }
+{
+    let mut strands = [Stretch::empty(); MOST_STRANDS];
+    let mut count = 0usize;
+    for node in nodes {
+        match strand_behind(node, value, left, outer, params) {
+            None => return None,
+            Some(strand) => strands[count] = strand,
+        }
+        count += 1;
+    }
+    Some(Braid {
+        strands,
+        count,
+        at: 0,
+    })
+}
+
+/// So many instances of nodes behind those at a value, where the nodes are a few leaves.
+fn leaves_behind(
+    nodes: &[Node],
+    value: i128,
+    left: u64,
+    outer: &Outer,
+    params: &[i64],
+) -> Option<Passed>
+    requires { (y : ℤ) → value ≤ℤ y → y ≤ℤ (value +ℤ pos left)
+        → CanWalk (nodes_of nodes.now) params.now (values_in outer.now ++ y ∷ []) }
+    ensures leaves { IsSome result → AreLeaves (nodes_of nodes.now) }
+    ensures rest { IfSome result (λ p. passed_by p ≡ shown_along (nodes_of nodes.now) params.now
+        (values_in outer.now) (value +ℤ pos 1) left) }
+    ensures held { IfSome result CanPass }
+{
+    if let Some(leaf) = leaf_alone(nodes) {
+        let stretch = stretch_behind(leaf, value, left, outer, params);
+        return Some(Passed::Straight(stretch));
+    }
+    if nodes.is_empty() || nodes.len() > MOST_STRANDS {
+        return None;
+    }
+    match braid_behind(nodes, value, left, outer, params) {
+        None => None,
+        Some(braid) => Some(Passed::Braided(braid)),
+    }
+}
+
+/// Goes to the last value of a loop that has a few leaves in it and nothing else, from behind those at a value.
+fn pass_leaves(
+    body: &[Node],
+    mark: &mut Mark,
+    deeper: &[Mark],
+    outer: &Outer,
+    params: &[i64],
+) -> Option<Passed>
+    requires turn { CanTurn (nodes_of body.now) (marks_of deeper.now) mark.old.value mark.old.last params.now
+        (values_in outer.now) }
     requires within { mark.old.value ≤ℤ mark.old.last }
-    ensures rest { shown_from (more (leaf_in leaf.now.statement leaf.now.turns.items) none) params.now
-        (values_in outer.now) (mark.old.value +ℤ pos 1) mark.old.last
-        ≡ left_in result ++ shown_from (more (leaf_in leaf.now.statement leaf.now.turns.items) none) params.now
-        (values_in outer.now) (mark.new.value +ℤ pos 1) mark.old.last }
-    ensures held { All IsHeld (left_in result) }
-    ensures up { mark.old.value ≤ℤ mark.new.value }
-    ensures within { mark.new.value ≤ℤ mark.old.last }
+    requires over { (ps vs : List ℤ) → rest_of (nodes_of body.now) (marks_of deeper.now) ps vs ≡ [] }
+    ensures gone { HasTurned (nodes_of body.now) mark.old.value (marks_of deeper.now) mark.new.value
+        (marks_of deeper.now) mark.old.last (passed_in result) params.now (values_in outer.now) }
+    ensures held { IfSome result CanPass }
     ensures place { mark.new.place ≡ mark.old.place }
     ensures begun { mark.new.begun ≡ mark.old.begun }
     ensures last { mark.new.last ≡ mark.old.last }
 {
-    match way_up(mark.value, mark.last) {
-        None => None,
-        Some(left) => {
-            if left == 0 {
-                return None;
-            }
-            let passed = stretch_behind(leaf, mark.value, left, outer, params);
-            mark.value = mark.last;
-            Some(passed)
-        }
+    let left = way_up(mark.value, mark.last)?;
+    if left == 0 {
+        return None;
     }
+    let passed = leaves_behind(body, mark.value, left, outer, params)?;
+    mark.value = mark.last;
+    Some(passed)
 }
 
-/// Goes to the end of the innermost loop at the place of these marks in nodes, where it has a leaf alone in it.
+/// Goes to the end of the innermost loop at the place of these marks in nodes, where it has a few leaves alone in it.
 #[cycle(passing)]
 pub(crate) fn pass_by(
     nodes: &[Node],
     marks: &mut [Mark],
     outer: &Outer,
     params: &[i64],
-) -> Option<Stretch>
+) -> Option<Passed>
     requires { CanGo (nodes_of nodes.now) (marks_of marks.old) params.now (values_in outer.now) }
-    ensures gone { HasGone (nodes_of nodes.now) (marks_of marks.old) (marks_of marks.new) (left_in result) params.now
+    ensures gone { HasGone (nodes_of nodes.now) (marks_of marks.old) (marks_of marks.new) (passed_in result) params.now
         (values_in outer.now) }
-    ensures held { All IsHeld (left_in result) }
+    ensures held { IfSome result CanPass }
 {
     match marks.split_first_mut() {
         None => None,
@@ -204,11 +304,11 @@ fn pass_from(
     deeper: &mut [Mark],
     outer: &Outer,
     params: &[i64],
-) -> Option<Stretch>
+) -> Option<Passed>
     requires { CanGo (nodes_of nodes.now) (marks_of (mark.old ∷ deeper.old)) params.now (values_in outer.now) }
     ensures gone { HasGone (nodes_of nodes.now) (marks_of (mark.old ∷ deeper.old)) (marks_of (mark.new ∷ deeper.new))
-        (left_in result) params.now (values_in outer.now) }
-    ensures held { All IsHeld (left_in result) }
+        (passed_in result) params.now (values_in outer.now) }
+    ensures held { IfSome result CanPass }
 {
     if !mark.begun || mark.place >= nodes.len() {
         return None;
@@ -225,13 +325,13 @@ fn pass_in(
     deeper: &mut [Mark],
     outer: &Outer,
     params: &[i64],
-) -> Option<Stretch>
+) -> Option<Passed>
     requires go { CanGo (more (tree_of node.now) none) (alone (mark_of mark.old) (marks_of deeper.old)) params.now
         (values_in outer.now) }
     requires begun { mark.old.begun ≡ true }
     ensures gone { HasGone (more (tree_of node.now) none) (alone (mark_of mark.old) (marks_of deeper.old))
-        (alone (mark_of mark.new) (marks_of deeper.new)) (left_in result) params.now (values_in outer.now) }
-    ensures held { All IsHeld (left_in result) }
+        (alone (mark_of mark.new) (marks_of deeper.new)) (passed_in result) params.now (values_in outer.now) }
+    ensures held { IfSome result CanPass }
     ensures place { mark.new.place ≡ mark.old.place }
     ensures begun { mark.new.begun ≡ true }
 {
@@ -250,12 +350,12 @@ fn pass_turns(
     deeper: &mut [Mark],
     outer: &Outer,
     params: &[i64],
-) -> Option<Stretch>
+) -> Option<Passed>
     requires { CanTurn (nodes_of body.now) (marks_of deeper.old) mark.old.value mark.old.last params.now
         (values_in outer.now) }
     ensures gone { HasTurned (nodes_of body.now) mark.old.value (marks_of deeper.old) mark.new.value
-        (marks_of deeper.new) mark.old.last (left_in result) params.now (values_in outer.now) }
-    ensures held { All IsHeld (left_in result) }
+        (marks_of deeper.new) mark.old.last (passed_in result) params.now (values_in outer.now) }
+    ensures held { IfSome result CanPass }
     ensures place { mark.new.place ≡ mark.old.place }
     ensures begun { mark.new.begun ≡ mark.old.begun }
     ensures last { mark.new.last ≡ mark.old.last }
@@ -264,10 +364,10 @@ fn pass_turns(
     if mark.last < mark.value {
         return None;
     }
-    match begun_leaf(body, deeper) {
-        Some(leaf) => pass_leaf(leaf, mark, outer, params),
-        None => pass_value(body, mark.value, deeper, outer, params),
+    if is_over(body, deeper) {
+        return pass_leaves(body, mark, deeper, outer, params);
     }
+    pass_value(body, mark.value, deeper, outer, params)
 }
 
 /// The same within a loop's body at a value.
@@ -278,11 +378,11 @@ fn pass_value(
     deeper: &mut [Mark],
     outer: &Outer,
     params: &[i64],
-) -> Option<Stretch>
+) -> Option<Passed>
     requires { CanGo (nodes_of body.now) (marks_of deeper.old) params.now (values_in outer.now ++ value ∷ []) }
-    ensures gone { HasGone (nodes_of body.now) (marks_of deeper.old) (marks_of deeper.new) (left_in result) params.now
+    ensures gone { HasGone (nodes_of body.now) (marks_of deeper.old) (marks_of deeper.new) (passed_in result) params.now
         (values_in outer.now ++ value ∷ []) }
-    ensures held { All IsHeld (left_in result) }
+    ensures held { IfSome result CanPass }
 {
     let within = Outer::Within(&*outer, value);
     pass_by(body, deeper, &within, params)

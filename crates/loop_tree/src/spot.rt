@@ -8,7 +8,9 @@ ghost use Rattle.std.specs.Prelude.{
   ◌++◌,
   ◌∷◌,
   [],
+  All,
   IfOk,
+  IfSome,
   IsNone,
   IsSome,
   List,
@@ -24,19 +26,22 @@ ghost use Rattle.std.specs.Prelude.{
 };
 ghost use Rattle.loop_tree.specs.steps.Chain.{values_in};
 ghost use Rattle.loop_tree.specs.steps.Going.{CanGo, CanTurn, HasGone, HasTurned, alone, rest_from, restarted};
-ghost use Rattle.loop_tree.specs.Conditions.{CanWalk};
+ghost use Rattle.loop_tree.specs.steps.Passing.{CanPass, passed_in};
+ghost use Rattle.loop_tree.specs.Braids.{IsBraid, left_of_braid};
+ghost use Rattle.loop_tree.specs.Conditions.{CanWalk, IsHeld};
 ghost use Rattle.loop_tree.specs.Fits.{BoundsFit, TestsFit};
 ghost use Rattle.loop_tree.specs.Marks.{AreBounds, AreTests};
 ghost use Rattle.loop_tree.specs.Spot.{deep, deep_all, mark as marked_at, rest_of};
 ghost use Rattle.loop_tree.specs.SpotView.{IsSpotOf, StandAlike, found_in, mark_of, marks_of, to_come};
-ghost use Rattle.loop_tree.specs.Stretches.{left_in, left_of};
+ghost use Rattle.loop_tree.specs.Stretches.{left_of};
 ghost use Rattle.loop_tree.specs.Tree.{loop as loops, more, none};
 ghost use Rattle.loop_tree.specs.View.{bounds_in, nodes_of, test_of, tree_of, trees_in};
 ghost use Rattle.loop_tree.specs.Walk.{all_hold as tests_hold, lower, upper, visits};
 
+use crate::braid::Braid;
 use crate::guards::plus;
 use crate::outer::Outer;
-use crate::passing::pass_by;
+use crate::passing::{Passed, pass_by};
 use crate::ranges::{all_hold, lower_at, upper_at};
 use crate::stretch::Stretch;
 use crate::tree::{Guard, Loop, Node, Tree};
@@ -58,6 +63,7 @@ pub struct Mark {
 pub struct Spot {
     pub marks: Vec<Mark>,
     pub stretch: Stretch,
+    pub braid: Braid,
 }
 
 /// The greater of two numbers.
@@ -335,14 +341,20 @@ fn next_within(
     next_of(body, deeper, &within, params)
 }
 
-/// Puts a stretch, if there is one, in place of one with nothing left.
-fn replace(stretch: &mut Stretch, passed: Option<Stretch>)
-    requires { stretch.old.left ≡ 0 }
-    ensures { left_of stretch.new ≡ left_in passed }
+/// Puts what marks passed by, if anything, in place of a stretch and a braid with nothing left.
+fn replace(stretch: &mut Stretch, braid: &mut Braid, passed: Option<Passed>)
+    requires stretch { left_of stretch.old ≡ [] }
+    requires braid { left_of_braid braid.old ≡ [] }
+    requires turn { IsBraid braid.old }
+    requires held { IfSome passed CanPass }
+    ensures rest { left_of stretch.new ++ left_of_braid braid.new ≡ passed_in passed }
+    ensures held { All IsHeld (left_of stretch.new) }
+    ensures braid { IsBraid braid.new }
 {
     match passed {
         None => {}
-        Some(found) => *stretch = found,
+        Some(Passed::Straight(found)) => *stretch = found,
+        Some(Passed::Braided(found)) => *braid = found,
     }
 }
 
@@ -361,15 +373,17 @@ impl Spot {
             Ok(marks) => Ok(Spot {
                 marks,
                 stretch: Stretch::empty(),
+                braid: Braid::empty(),
             }),
         }
     }
 
-    /// The next instance behind the marks, which then go on by the stretch behind it.
+    /// The next instance behind the marks, which then go on by the stretch or the braid behind it.
     fn search(&mut self, nodes: &[Node], params: &[i64]) -> Option<Instance>
         requires walk { CanWalk (nodes_of nodes.now) params.now [] }
         requires spot { IsSpotOf (nodes_of nodes.now) params.now self.old }
-        requires behind { self.old.stretch.left ≡ 0 }
+        requires stretch { self.old.stretch.left ≡ 0 }
+        requires braid { left_of_braid self.old.braid ≡ [] }
         ensures rest { to_come (nodes_of nodes.now) params.now self.old
             ≡ found_in result ++ to_come (nodes_of nodes.now) params.now self.new }
         ensures none { IsNone result → to_come (nodes_of nodes.now) params.now self.old ≡ [] }
@@ -377,7 +391,7 @@ impl Spot {
     {
         let found = next_of(nodes, self.marks.as_mut_slice(), &Outer::Top, params);
         let passed = pass_by(nodes, self.marks.as_mut_slice(), &Outer::Top, params);
-        replace(&mut self.stretch, passed);
+        replace(&mut self.stretch, &mut self.braid, passed);
         found
     }
 
@@ -394,7 +408,10 @@ impl Spot {
         if self.stretch.left > 0 {
             return Some(self.stretch.next());
         }
-        self.search(tree.nodes.as_slice(), params)
+        match self.braid.next() {
+            Some(instance) => Some(instance),
+            None => self.search(tree.nodes.as_slice(), params),
+        }
     }
 
     /// The same place once more.
@@ -408,6 +425,7 @@ impl Spot {
         Ok(Spot {
             marks,
             stretch: self.stretch,
+            braid: self.braid,
         })
     }
 
@@ -417,6 +435,7 @@ impl Spot {
         ensures { StandAlike self.new other.now }
     {
         self.stretch = other.stretch;
+        self.braid = other.braid;
         self.marks
             .as_mut_slice()
             .copy_from_slice(other.marks.as_slice());

@@ -62,14 +62,24 @@ impl Stretch {
         }
     }
 
+    /// Goes on by one instance, whose turns have room.
+    pub(crate) fn step(&mut self) -> Instance
+        requires some { 0 < self.old.left }
+        requires fits { All (FitsSigned w64)
+            (sums (instance_of self.old.before).turns (take self.old.before.loops self.old.steps)) }
+        ensures { left_of self.old ≡ instance_of result ∷ left_of self.new }
+    {
+        self.before = stepped(&self.before, &self.steps);
+        self.left -= 1;
+        self.before
+    }
+
     /// Takes the first instance that is left.
     pub fn next(&mut self) -> Instance
         requires some { 0 < self.old.left }
         requires held { All IsHeld (left_of self.old) }
         ensures { left_of self.old ≡ instance_of result ∷ left_of self.new }
     {
-        self.before = stepped(&self.before, &self.steps);
-        self.left -= 1;
-        self.before
+        self.step()
     }
 }

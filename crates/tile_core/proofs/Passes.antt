@@ -26,7 +26,7 @@ first_next stand plan stage t tile is at holding =
     let some = slice_get_within (slice_index_or is.tiles.parts t []) 0 (instance_of tile.first) one.first in
     let many = one.size in
     let size = size_is plan.list.now.tiles.items t tile at in
-    let n = first_is stand plan t tile tile.spot is at (record { marks = refl; stretch = refl }) in
+    let n = first_is stand plan t tile tile.spot is at (record { marks = refl; stretch = refl; braid = refl }) in
     record {
       tile = t;
       held = subst (λ s. Holds (staged s []) t) (sym holding) refl;

@@ -10,6 +10,7 @@ use Rattle.scop_syntax.specs.Members.{In}
 use Rattle.scop_syntax.specs.View.{instance_of}
 use Rattle.scop_syntax.specs.Walk.{Instance}
 use Rattle.scop_syntax.specs.declared.instance.Instance.{Instance as CodeInstance}
+use Rattle.loop_tree.specs.Braids.{left_of_braid}
 use Rattle.loop_tree.specs.Conditions.{IsHeld}
 use Rattle.loop_tree.specs.Spot.{rest_of}
 use Rattle.loop_tree.specs.SpotView.{IsSpotOf, StandAlike, marks_in, to_come}
@@ -221,9 +222,16 @@ pub passes : (tiling : Tiling) (spot : Spot) (old new : Cut) (next : Key) → Al
     → Passes tiling spot (record spot { stretch = record spot.stretch { left = 0 } }) old new
 passes tiling spot old new next all has =
     let s = spot.stretch in
+    let behind : Trees → List ℤ → List Instance =
+    λ ts params. left_of_braid spot.braid ++ rest_of ts (marks_in spot) params [] in
     record {
-      spots = λ ts params is. record { room = is.room; stands = is.stands; held = All-nil IsHeld };
-      fewer = λ ts params. let l = length-append (left_of s) (rest_of ts (marks_in spot) params []) in omega (arith, l);
+      spots = λ ts params is. record {
+        room = is.room;
+        stands = is.stands;
+        held = All-nil IsHeld;
+        braid = is.braid;
+      };
+      fewer = λ ts params. let l = length-append (left_of s) (behind ts params) in omega (arith, l);
       cut = λ ts params. takes_all tiling (left_of s) s.left old new next (sym (length-left s)) all has ts params
-          (rest_of ts (marks_in spot) params []);
+          (behind ts params);
     }

@@ -6,6 +6,7 @@ use Rattle.scop_syntax.specs.View.{instance_of}
 use Rattle.scop_syntax.specs.Walk.{Instance}
 use Rattle.scop_syntax.specs.declared.instance.Instance.{Instance as CodeInstance}
 use Rattle.scop_syntax.proofs.Members.{in_back, in_front}
+use Rattle.loop_tree.specs.Braids.{left_of_braid}
 use Rattle.loop_tree.specs.Spot.{rest_of}
 use Rattle.loop_tree.specs.SpotView.{IsSpotOf, marks_in, to_come}
 use Rattle.loop_tree.specs.Stretches.{left_of}
@@ -84,7 +85,7 @@ pub left_fits : (ts : Trees) (params : List ℤ) (tiling : Tiling) (spot : Spot)
     → CanTile tiling (visits ts params) → IsCutTo ts params tiling (to_come ts params spot) cut
     → AllRowsFit tiling spot.stretch
 left_fits ts params tiling spot cut can is x h =
-    let rest = rest_of ts (marks_in spot) params [] in
+    let rest = left_of_braid spot.braid ++ rest_of ts (marks_in spot) params [] in
     can.rows x (rest_visited ts params tiling (to_come ts params spot) cut is x
     (in_front x (left_of spot.stretch) rest h))
 

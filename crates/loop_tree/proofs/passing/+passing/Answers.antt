@@ -1,9 +1,9 @@
 use Rattle.std.proofs.Common.{rules, ◌≡◌, ◌∙◌, ◌<◌, ◌+◌, ◌∷◌, get_or, length, ap, sym, subst, arith}
 use Rattle.loop_tree.specs.steps.Chain.{values_in}
 use Rattle.loop_tree.specs.steps.Going.{CanGo, CanTurn, HasGone, HasTurned}
+use Rattle.loop_tree.specs.steps.Passing.{passed_in}
 use Rattle.loop_tree.specs.Spot.{mark as marked_at}
 use Rattle.loop_tree.specs.SpotView.{marks_of}
-use Rattle.loop_tree.specs.Stretches.{left_in}
 use Rattle.loop_tree.specs.Tree.{Tree, Trees, loop, more, none}
 use Rattle.loop_tree.specs.View.{bounds_in, nodes_of, tree_of}
 use Rattle.loop_tree.proofs.VisitPlaces.{go_node, gone_node, length-marks}
@@ -39,7 +39,7 @@ pass_from-returns-clause-gone t c =
     let found : node ≡ get_or nodes m.place node = c.index-nodes-mark.is in
     let h : m.place < length nodes = search arith in
     let new = c.pass_in.new in
-    let is = left_in c.pass_in.result in
+    let is = passed_in c.pass_in.result in
     subst (λ k. HasGone (nodes_of nodes) (marks_of (m ∷ c.args.deeper.now))
     (marked_at k new.mark.begun new.mark.value new.mark.last ∷ marks_of new.deeper) is params outer)
     (sym c.pass_in.ensures.place)
@@ -82,7 +82,7 @@ pass_in-returns-in-Loop-clause-gone t c =
     let outer = values_in c.args.outer.now in
     let new = c.pass_turns.new in
     let ns = marks_of new.deeper in
-    let is = left_in c.pass_turns.result in
+    let is = passed_in c.pass_turns.result in
     let t_is : tree_of c.args.node.now ≡ loop head.parallel lo up body =
     ap tree_of c.in-Loop.is ∙ tree_loop head c.in-Loop.body in
     let go = subst (λ (u : Tree). CanGo (more u none) (marked_at 0 m.begun m.value m.last ∷ ms) params outer) t_is

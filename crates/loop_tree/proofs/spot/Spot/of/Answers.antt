@@ -1,4 +1,4 @@
-use Rattle.std.proofs.Common.{◌≡◌, ◌∙◌, ◌++◌, List, [], All, length, rules, arith, ap, sym, subst, replicate}
+use Rattle.std.proofs.Common.{◌≡◌, ◌∙◌, ◌++◌, List, [], All, length, rules, arith, ap, ap₂, sym, subst, replicate}
 use Rattle.std.proofs.lemmas.List.{length-replicate}
 use Rattle.std.proofs.lemmas.List.Elements.{All-nil}
 use Rattle.scop_syntax.specs.Walk.{Instance}
@@ -32,6 +32,7 @@ returns-in-Ok-clause-spot c = λ params.
           (at_repeated ts n c.fresh.result params [] (omega (arith, nodes, deep, d)) c.fresh.ensures);
       held = subst (λ (is : List Instance). All IsHeld is) (sym (nothing_left c.empty.result c.empty.ensures))
           (All-nil IsHeld);
+      braid = c.empty-in-Ok.ensures.braid;
     }
 
 -- src/spot.rt:297:5
@@ -45,7 +46,7 @@ returns-in-Ok-clause-rest c = λ params.
     let items : c.in-Ok.marks.items ≡ replicate n c.fresh.result =
     c.in-Ok.ensures.items_if_clones_equal (search rules) in
     let marks = c.in-Ok.marks.items in
-    ap (λ (is : List Instance). is ++ rest_of ts (marks_of marks) params [])
-    (nothing_left c.empty.result c.empty.ensures)
+    ap₂ (λ (is js : List Instance). is ++ (js ++ rest_of ts (marks_of marks) params []))
+    (nothing_left c.empty.result c.empty.ensures) c.empty-in-Ok.ensures.nothing
     ∙ subst (λ (ks : List CodeMark). rest_of ts (marks_of ks) params [] ≡ visits ts params) (sym items)
     (rest_repeated ts n c.fresh.result params [] (omega (arith, nodes, deep, d)) c.fresh.ensures)

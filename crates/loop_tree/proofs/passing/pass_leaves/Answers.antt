@@ -1,0 +1,46 @@
+use Rattle.std.proofs.Common.{rules, ◌≡◌, ℤ, arith, refl, subst, sym, pos}
+use Rattle.std.specs.Prelude.{◌+ℤ◌, FitsSigned}
+use Rattle.std.specs.Int.{w128}
+use Rattle.std.proofs.lemmas.Int.{ints, to_z-of_z}
+use Rattle.loop_tree.specs.steps.Chain.{values_in}
+use Rattle.loop_tree.specs.steps.Going.{HasTurned}
+use Rattle.loop_tree.specs.steps.Passing.{passed_by, shown_along}
+use Rattle.loop_tree.specs.SpotView.{marks_of}
+use Rattle.loop_tree.specs.View.{nodes_of}
+use Rattle.loop_tree.proofs.Braids.{turned_leaves}
+use Rattle.loop_tree.proofs.Stretches.{shown_up}
+use Rattle.loop_tree.proofs.passing.pass_leaves.Goals as goal
+
+pub leaves_behind-requires : goal.leaves_behind-requires
+leaves_behind-requires c =
+    let value = c.args.mark.now.value in
+    let last = c.args.mark.now.last in
+    let fits : FitsSigned w128 value = search rules in
+    let fits_last : FitsSigned w128 last = search rules in
+    let v_is = to_z-of_z w128 value fits in
+    let last_is = to_z-of_z w128 last fits_last in
+    let way = c.in_ok-left.ensures in
+    λ y from to.
+    c.requires.turn.walk y (omega (arith, ints, from, v_is)) (omega (arith, ints, to, v_is, last_is, way))
+
+pub returns-clause-gone : goal.returns-clause-gone
+returns-clause-gone c =
+    let body = nodes_of c.args.body.now in
+    let ms = marks_of c.args.deeper.now in
+    let params = c.args.params.now in
+    let outer = values_in c.args.outer.now in
+    let value = c.args.mark.now.value in
+    let last = c.args.mark.now.last in
+    let fits : FitsSigned w128 value = search rules in
+    let fits_last : FitsSigned w128 last = search rules in
+    let v_is = to_z-of_z w128 value fits in
+    let last_is = to_z-of_z w128 last fits_last in
+    let is = passed_by c.in_ok-passed.passed in
+    let left = c.in_ok-left.left in
+    let way = c.in_ok-left.ensures in
+    let within = c.requires.within in
+    let shown = shown_up body params outer value last left is (omega (arith, ints, way, v_is, last_is))
+    (subst (λ (x : ℤ). is ≡ shown_along body params outer (x +ℤ pos 1) left) v_is c.in_ok-passed.ensures.rest) in
+    subst (λ (z : ℤ). HasTurned body value ms z ms last is params outer) (sym last_is)
+    (turned_leaves body ms value last last is params outer (c.in_ok-passed.ensures.leaves refl) within
+    (omega (arith, ints)) c.requires.over shown)
