@@ -94,7 +94,7 @@ pub fn push_sources(
 {
     for form in forms {
         let spread = spread_source(alloc, form, loops, others)?;
-        push_form(out, spread)?;
+        push(out, spread)?;
     }
     Ok(())
 }
@@ -110,7 +110,7 @@ pub fn push_targets(
 {
     for form in forms {
         let shifted = shift_target(alloc, form, loops)?;
-        push_form(out, shifted)?;
+        push(out, shifted)?;
     }
     Ok(())
 }
@@ -161,7 +161,7 @@ pub fn push_subscripts(
             others,
             parameters,
         )?;
-        push_form(out, equality)?;
+        push(out, equality)?;
     }
     Ok(())
 }
@@ -194,7 +194,7 @@ pub fn push_equal_turns(
 {
     for at in 0..count {
         let equality = turn_difference(alloc, variables, loops, at)?;
-        push_form(out, equality)?;
+        push(out, equality)?;
     }
     Ok(())
 }
@@ -216,7 +216,7 @@ pub fn push_later_turn(
     push_zeros(&mut coefficients, variables)?;
     let one = form_from(alloc, coefficients.as_slice(), 1)?;
     let row = plus_multiple(&difference, -1, &one)?;
-    push_form(out, row)
+    push(out, row)
 }
 
 /// Appends that no parameter is negative: they stand behind `before` turns.
@@ -231,7 +231,7 @@ pub fn push_parameters(
 {
     let count = before + parameters;
     for at in before..count {
-        push_form(out, variable_form(alloc, count, at)?)?;
+        push(out, variable_form(alloc, count, at)?)?;
     }
     Ok(())
 }

@@ -1,8 +1,8 @@
 //! Forms of 128 bits of a kernel's affine forms, composed over other variables. Within the limits of a kernel no number
 //! on the way is too wide, so only memory may run out.
-ghost use Rattle.std.specs.Prelude.{◌≡◌, ◌+◌, ◌*◌, ◌<◌, ◌≤◌, ◌^◌, ◌++◌, ◌∷◌, [], IfOk, OnOk, unsigned_abs};
+ghost use Rattle.std.specs.Prelude.{◌≡◌, ◌+◌, ◌*◌, ◌<◌, ◌≤◌, ◌^◌, IfOk, unsigned_abs};
 ghost use Rattle.affine_forms.specs.Parts.{variables_of};
-ghost use Rattle.whole_numbers.specs.Affine.{composed, multiple_of_form, sum_of_forms};
+ghost use Rattle.whole_numbers.specs.Affine.{composed, form_of, multiple_of_form, sum_of_forms};
 ghost use Rattle.iteration_domains.specs.Rows.{variable};
 ghost use Rattle.iteration_domains.specs.Sizes.{CanCompose, form_size};
 
@@ -11,31 +11,28 @@ use scop_syntax::tree::Aff;
 use smallvec::SmallVec;
 use std::alloc::{AllocError, Global};
 
-/// Appends a form.
-pub fn push_form(forms: &mut Vec<Form>, form: Form) -> Result<(), AllocError>
-    ensures { OnOk result (forms.new.items ≡ forms.old.items ++ form ∷ []) }
+/// The form with these numbers.
+///
+/// # Errors
+/// `AllocError` alone.
+pub fn form_from(alloc: Global, coefficients: &[i128], constant: i128) -> Result<Form, AllocError>
+    ensures { IfOk result (λ f. f ≡ form_of coefficients.now constant) }
 {
-    match forms.push(form) {
+    match Form::of(alloc, coefficients, constant) {
         Err(_) => Err(AllocError),
-        Ok(()) => Ok(()),
+        Ok(form) => Ok(form),
     }
 }
 
-/// The form with these numbers.
-pub fn wide_form(alloc: Global, aff: &Aff) -> Result<Form, AllocError>
+/// A kernel's form with numbers of 128 bits.
+fn wide_form(alloc: Global, aff: &Aff) -> Result<Form, AllocError>
     ensures { IfOk result (λ f. f ≡ aff.now) }
 {
     let mut coefficients = SmallVec::<i128, INLINE>::new(alloc);
     for coefficient in aff.coefficients.as_slice() {
-        match coefficients.push(*coefficient as i128) {
-            Err(_) => return Err(AllocError),
-            Ok(()) => {}
-        }
+        coefficients.push(*coefficient as i128)?;
     }
-    match Form::of(alloc, coefficients.as_slice(), aff.constant as i128) {
-        Err(_) => Err(AllocError),
-        Ok(form) => Ok(form),
-    }
+    form_from(alloc, coefficients.as_slice(), aff.constant as i128)
 }
 
 /// The variable `at` of so many variables.
@@ -43,16 +40,9 @@ pub fn variable_form(alloc: Global, variables: usize, at: usize) -> Result<Form,
     requires { at < variables }
     ensures { IfOk result (λ f. f ≡ variable variables at) }
 {
-    match SmallVec::<i128, INLINE>::from_elem(alloc, 0, variables) {
-        Err(_) => Err(AllocError),
-        Ok(mut coefficients) => {
-            coefficients[at] = 1;
-            match Form::of(alloc, coefficients.as_slice(), 0) {
-                Err(_) => Err(AllocError),
-                Ok(form) => Ok(form),
-            }
-        }
-    }
+    let mut coefficients = SmallVec::<i128, INLINE>::from_elem(alloc, 0, variables)?;
+    coefficients[at] = 1;
+    form_from(alloc, coefficients.as_slice(), 0)
 }
 
 /// `form` plus `factor` times `other`, whose numbers are small.

@@ -145,7 +145,7 @@ fn first_condition(
     ensures { IfOk result (λ a. a ≡ begun variables forms.old.items first.now condition.now) }
 {
     let first = compose(alloc, first, forms.as_slice(), variables)?;
-    push_form(forms, first)?;
+    push(forms, first)?;
     let condition = compose(alloc, condition, forms.as_slice(), variables)?;
     narrow(alloc, &condition)
 }
