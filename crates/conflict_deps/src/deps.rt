@@ -12,7 +12,7 @@ ghost use Rattle.conflict_deps.specs.View.{CanPair, GainsTests, ShowsTests, orde
 use crate::forms::{
     push_equal_turns, push_later_turn, push_parameters, push_sources, push_subscripts, push_targets,
 };
-use affine_forms::Form;
+use affine_forms::{Form, push};
 use integer_sets::System;
 use iteration_domains::{AccessForms, Dep, DepEnd, Model, StatementModel};
 use std::alloc::{AllocError, Global};
@@ -227,10 +227,7 @@ fn push_dep(
         equal later) ∷ []) }
 {
     let dep = dep_between(alloc, parameters, source, target, equal, later)?;
-    match deps.push(dep) {
-        Err(_) => Err(AllocError),
-        Ok(()) => Ok(()),
-    }
+    push(deps, dep)
 }
 
 /// Appends the dependences from one access to another, by depth.

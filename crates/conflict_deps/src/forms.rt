@@ -9,36 +9,9 @@ ghost use Rattle.whole_numbers.specs.Lists.{zeros};
 ghost use Rattle.conflict_deps.specs.Conflicts.{difference_of_forms, equal_turns, one_form, same_subscripts};
 ghost use Rattle.conflict_deps.specs.Conflicts.{source_form, spread, step, target_form};
 
-use affine_forms::{Form, INLINE};
-use iteration_domains::{plus_multiple, push_form, variable_form};
-use smallvec::SmallVec;
+use affine_forms::{Form, push};
+use iteration_domains::{Numbers, form_from, plus_multiple, push_zeros, variable_form};
 use std::alloc::{AllocError, Global};
-
-/// A row's coefficients while they are put together.
-type Numbers = SmallVec<i128, INLINE>;
-
-/// Appends zeros.
-fn push_zeros(numbers: &mut Numbers, count: usize) -> Result<(), AllocError>
-    ensures { OnOk result (numbers.new.items ≡ numbers.old.items ++ zeros count) }
-{
-    for place in 0..count {
-        match numbers.push(0) {
-            Err(_) => return Err(AllocError),
-            Ok(()) => {}
-        }
-    }
-    Ok(())
-}
-
-/// The form with these numbers.
-fn form_from(alloc: Global, coefficients: &[i128], constant: i128) -> Result<Form, AllocError>
-    ensures { IfOk result (λ f. f ≡ form_of coefficients.now constant) }
-{
-    match Form::of(alloc, coefficients, constant) {
-        Err(_) => Err(AllocError),
-        Ok(form) => Ok(form),
-    }
-}
 
 /// The coefficients of a form of the source, which has `loops` turns, where the target has `others`.
 fn spread_numbers(
