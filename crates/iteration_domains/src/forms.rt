@@ -4,10 +4,10 @@ ghost use Rattle.std.specs.Prelude.{◌≡◌, ◌+◌, ◌*◌, ◌<◌, ◌≤
 ghost use Rattle.affine_forms.specs.Parts.{variables_of};
 ghost use Rattle.whole_numbers.specs.Affine.{composed, form_of, multiple_of_form, sum_of_forms};
 ghost use Rattle.whole_numbers.specs.Lists.{zeros};
-ghost use Rattle.iteration_domains.specs.Rows.{variable};
+ghost use Rattle.iteration_domains.specs.Rows.{variable, variables};
 ghost use Rattle.iteration_domains.specs.Sizes.{CanCompose, form_size};
 
-use affine_forms::{Form, FormStop, INLINE};
+use affine_forms::{Form, FormStop, INLINE, push};
 use scop_syntax::tree::Aff;
 use smallvec::SmallVec;
 use std::alloc::{AllocError, Global};
@@ -78,6 +78,27 @@ pub fn variable_form(alloc: Global, variables: usize, at: usize) -> Result<Form,
     ensures { IfOk result (λ f. f ≡ variable variables at) }
 {
     term_form(alloc, variables, at, 1, 0)
+}
+
+/// Appends `count` variables of `of`, from `from` on.
+///
+/// # Errors
+/// `AllocError` alone.
+pub fn push_variables(
+    out: &mut Vec<Form>,
+    alloc: Global,
+    of: usize,
+    from: usize,
+    count: usize,
+) -> Result<(), AllocError>
+    requires { from + count ≤ of }
+    ensures { OnOk result (out.new.items ≡ out.old.items ++ variables of from count) }
+{
+    for step in 0..count {
+        let form = variable_form(alloc, of, from + step)?;
+        push(out, form)?;
+    }
+    Ok(())
 }
 
 /// `form` plus `factor` times `other`, whose numbers are small.

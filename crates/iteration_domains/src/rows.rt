@@ -9,7 +9,7 @@ ghost use Rattle.iteration_domains.specs.Rows.{composed_test, iterator, variable
 ghost use Rattle.iteration_domains.specs.Sizes.{CanCompose, forms_size};
 ghost use Rattle.iteration_domains.specs.Standing.{CanEnter, entered, finished, starting, with_tests};
 
-use crate::forms::{compose, plus_multiple, variable_form};
+use crate::forms::{compose, plus_multiple, push_variables, variable_form};
 use affine_forms::{Form, push};
 use scop_syntax::tree::{Guard, Loop, Test};
 use std::alloc::{AllocError, Global};
@@ -39,9 +39,7 @@ fn start(alloc: Global, parameters: usize, loops: usize) -> Result<StatementRows
 {
     let variables = loops + parameters;
     let mut forms = Vec::new(alloc);
-    for at in loops..variables {
-        push(&mut forms, variable_form(alloc, variables, at)?)?;
-    }
+    push_variables(&mut forms, alloc, variables, loops, parameters)?;
     Ok(StatementRows {
         variables,
         loops: 0,

@@ -44,7 +44,7 @@ use crate::source_laws::source_trees_visit_the_walk;
 use crate::tree::{Bound, Bounds, Guard, Leaf, Loop, Node, Test, Tree};
 use affine_forms::Form;
 use iteration_domains::{
-    Path, Scope, compose, enter_loop, enter_scope, push_form, rows_within, variable_form,
+    Path, Scope, compose, enter_loop, enter_scope, rows_within, variable_form,
 };
 use scop_syntax::tree::{
     Aff, Guard as SourceGuard, Item, Kernel, Loop as SourceLoop, Test as Comparison,
