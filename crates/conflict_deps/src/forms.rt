@@ -2,7 +2,6 @@
 ghost use Rattle.std.specs.Prelude.{◌≡◌, ◌+◌, ◌<◌, ◌≤◌, ◌++◌, ◌∷◌, [], All, IfOk, OnOk, length, map};
 ghost use Rattle.affine_forms.specs.Parts.{variables_of};
 ghost use Rattle.iteration_domains.specs.Constraints.{equalities_in};
-ghost use Rattle.iteration_domains.specs.Rows.{variables};
 ghost use Rattle.iteration_domains.specs.Sizes.{IsNarrow};
 ghost use Rattle.whole_numbers.specs.Affine.{form_of};
 ghost use Rattle.whole_numbers.specs.Lists.{zeros};
@@ -190,21 +189,4 @@ pub fn push_later_turn(
     let one = form_from(alloc, coefficients.as_slice(), 1)?;
     let row = plus_multiple(&difference, -1, &one)?;
     push(out, row)
-}
-
-/// Appends that no parameter is negative: they stand behind `before` turns.
-pub fn push_parameters(
-    out: &mut Vec<Form>,
-    alloc: Global,
-    before: usize,
-    parameters: usize,
-) -> Result<(), AllocError>
-    requires { before + parameters ≤ 16 }
-    ensures { OnOk result (out.new.items ≡ out.old.items ++ variables (before + parameters) before parameters) }
-{
-    let count = before + parameters;
-    for at in before..count {
-        push(out, variable_form(alloc, count, at)?)?;
-    }
-    Ok(())
 }
