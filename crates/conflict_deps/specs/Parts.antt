@@ -1,5 +1,5 @@
 -- The parts of a conflict's system: both domains, the subscripts, the order, the parameters.
-use Rattle.std.specs.Prelude.{◌≡◌, ◌+◌, List, ◌++◌, map, slice_get, Some}
+use Rattle.std.specs.Prelude.{◌≡◌, ◌+◌, ◌++◌, map, slice_get, Some}
 use Rattle.iteration_domains.specs.Rows.{variables}
 use Rattle.iteration_domains.specs.Constraints.{equalities_in, rows_in}
 use Rattle.iteration_domains.specs.Model.{KernelModel}

@@ -10,11 +10,11 @@ ghost use Rattle.conflict_deps.specs.Conflicts.{sides_in, sides_of, source_rows,
 ghost use Rattle.conflict_deps.specs.View.{CanPair, GainsTests, ShowsTests, order_at, side_of};
 
 use crate::forms::{
-    push_equal_turns, push_later_turn, push_parameters, push_sources, push_subscripts, push_targets,
+    push_equal_turns, push_later_turn, push_sources, push_subscripts, push_targets,
 };
-use affine_forms::Form;
+use affine_forms::{Form, push};
 use integer_sets::System;
-use iteration_domains::{AccessForms, Dep, DepEnd, Model, StatementModel};
+use iteration_domains::{AccessForms, Dep, DepEnd, Model, StatementModel, push_variables};
 use std::alloc::{AllocError, Global};
 
 /// An access of a statement, with its number.
@@ -149,7 +149,8 @@ fn push_up(
 {
     let loops = source.statement.domain().dimensions();
     let others = target.statement.domain().dimensions();
-    push_parameters(&mut rows.rows, alloc, loops + others, parameters)?;
+    let before = loops + others;
+    push_variables(&mut rows.rows, alloc, before + parameters, before, parameters)?;
     Ok(())
 }
 
@@ -227,10 +228,7 @@ fn push_dep(
         equal later) ∷ []) }
 {
     let dep = dep_between(alloc, parameters, source, target, equal, later)?;
-    match deps.push(dep) {
-        Err(_) => Err(AllocError),
-        Ok(()) => Ok(()),
-    }
+    push(deps, dep)
 }
 
 /// Appends the dependences from one access to another, by depth.

@@ -2,43 +2,15 @@
 ghost use Rattle.std.specs.Prelude.{◌≡◌, ◌+◌, ◌<◌, ◌≤◌, ◌++◌, ◌∷◌, [], All, IfOk, OnOk, length, map};
 ghost use Rattle.affine_forms.specs.Parts.{variables_of};
 ghost use Rattle.iteration_domains.specs.Constraints.{equalities_in};
-ghost use Rattle.iteration_domains.specs.Rows.{variables};
 ghost use Rattle.iteration_domains.specs.Sizes.{IsNarrow};
 ghost use Rattle.whole_numbers.specs.Affine.{form_of};
 ghost use Rattle.whole_numbers.specs.Lists.{zeros};
 ghost use Rattle.conflict_deps.specs.Conflicts.{difference_of_forms, equal_turns, one_form, same_subscripts};
 ghost use Rattle.conflict_deps.specs.Conflicts.{source_form, spread, step, target_form};
 
-use affine_forms::{Form, INLINE};
-use iteration_domains::{plus_multiple, push_form, variable_form};
-use smallvec::SmallVec;
+use affine_forms::{Form, push};
+use iteration_domains::{Numbers, form_from, plus_multiple, push_zeros, variable_form};
 use std::alloc::{AllocError, Global};
-
-/// A row's coefficients while they are put together.
-type Numbers = SmallVec<i128, INLINE>;
-
-/// Appends zeros.
-fn push_zeros(numbers: &mut Numbers, count: usize) -> Result<(), AllocError>
-    ensures { OnOk result (numbers.new.items ≡ numbers.old.items ++ zeros count) }
-{
-    for place in 0..count {
-        match numbers.push(0) {
-            Err(_) => return Err(AllocError),
-            Ok(()) => {}
-        }
-    }
-    Ok(())
-}
-
-/// The form with these numbers.
-fn form_from(alloc: Global, coefficients: &[i128], constant: i128) -> Result<Form, AllocError>
-    ensures { IfOk result (λ f. f ≡ form_of coefficients.now constant) }
-{
-    match Form::of(alloc, coefficients, constant) {
-        Err(_) => Err(AllocError),
-        Ok(form) => Ok(form),
-    }
-}
 
 /// The coefficients of a form of the source, which has `loops` turns, where the target has `others`.
 fn spread_numbers(
@@ -94,7 +66,7 @@ pub fn push_sources(
 {
     for form in forms {
         let spread = spread_source(alloc, form, loops, others)?;
-        push_form(out, spread)?;
+        push(out, spread)?;
     }
     Ok(())
 }
@@ -110,7 +82,7 @@ pub fn push_targets(
 {
     for form in forms {
         let shifted = shift_target(alloc, form, loops)?;
-        push_form(out, shifted)?;
+        push(out, shifted)?;
     }
     Ok(())
 }
@@ -161,7 +133,7 @@ pub fn push_subscripts(
             others,
             parameters,
         )?;
-        push_form(out, equality)?;
+        push(out, equality)?;
     }
     Ok(())
 }
@@ -194,7 +166,7 @@ pub fn push_equal_turns(
 {
     for at in 0..count {
         let equality = turn_difference(alloc, variables, loops, at)?;
-        push_form(out, equality)?;
+        push(out, equality)?;
     }
     Ok(())
 }
@@ -216,22 +188,5 @@ pub fn push_later_turn(
     push_zeros(&mut coefficients, variables)?;
     let one = form_from(alloc, coefficients.as_slice(), 1)?;
     let row = plus_multiple(&difference, -1, &one)?;
-    push_form(out, row)
-}
-
-/// Appends that no parameter is negative: they stand behind `before` turns.
-pub fn push_parameters(
-    out: &mut Vec<Form>,
-    alloc: Global,
-    before: usize,
-    parameters: usize,
-) -> Result<(), AllocError>
-    requires { before + parameters ≤ 16 }
-    ensures { OnOk result (out.new.items ≡ out.old.items ++ variables (before + parameters) before parameters) }
-{
-    let count = before + parameters;
-    for at in before..count {
-        push_form(out, variable_form(alloc, count, at)?)?;
-    }
-    Ok(())
+    push(out, row)
 }

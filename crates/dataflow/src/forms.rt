@@ -42,7 +42,7 @@ pub fn push_below(
 {
     for step in 0..count {
         let form = below_form(alloc, most, of, from + step)?;
-        push_form(out, form)?;
+        push(out, form)?;
     }
     Ok(())
 }
@@ -60,7 +60,7 @@ pub fn push_variables(
 {
     for step in 0..count {
         let form = variable_form(alloc, of, from + step)?;
-        push_form(out, form)?;
+        push(out, form)?;
     }
     Ok(())
 }
@@ -89,7 +89,7 @@ pub fn push_composed(
 {
     for form in forms {
         let composition = compose(form, inner, of)?;
-        push_form(out, composition)?;
+        push(out, composition)?;
     }
     Ok(())
 }
@@ -112,8 +112,8 @@ fn push_both(out: &mut Vec<Form>, form: Form) -> Result<(), AllocError>
     ensures { OnOk result (out.new.items ≡ out.old.items ++ flat (form ∷ [])) }
 {
     let second = opposite(&form)?;
-    push_form(out, form)?;
-    push_form(out, second)
+    push(out, form)?;
+    push(out, second)
 }
 
 /// Appends equalities with the inner forms in place of their variables, each as two rows.

@@ -198,13 +198,16 @@ scope_step now next start path i scope found h e is =
           (can_enter now (scope_of scope) rest (subst (CanEnter now) here e.can));
     }
 
--- the parameters' forms, of which the first are there
-pub variables_step : (fs next whole : List Affine) (f : Affine) (n at : ℕ) → at < n
-    → fs ++ variables n at (n - at) ≡ whole → f ≡ variable n at → next ≡ fs ++ f ∷ []
-    → next ++ variables n (at + 1) (n - (at + 1)) ≡ whole
-variables_step fs next whole f n at h so_far is pushed =
-    let rest = variables n (at + 1) (n - (at + 1)) in
-    let e : n - at ≡ suc (n - (at + 1)) = omega arith in
-    let here : variables n at (n - at) ≡ variable n at ∷ rest = ap (variables n at) e in
-    ap (λ (gs : List Affine). gs ++ rest) (pushed ∙ ap (λ (g : Affine). fs ++ g ∷ []) is)
-    ∙ (append_assoc fs (variable n at ∷ []) rest ∙ (ap (λ (gs : List Affine). fs ++ gs) (sym here) ∙ so_far))
+-- variables from one on, of which the first are there
+pub variables_step : (fs next whole : List Affine) (f : Affine) (n from step count : ℕ) → step < count
+    → fs ++ variables n (from + step) (count - step) ≡ whole → f ≡ variable n (from + step) → next ≡ fs ++ f ∷ []
+    → next ++ variables n (from + (step + 1)) (count - (step + 1)) ≡ whole
+variables_step fs next whole f n from step count h so_far is pushed =
+    let rest = variables n (from + (step + 1)) (count - (step + 1)) in
+    let e : count - step ≡ suc (count - (step + 1)) = omega arith in
+    let g : from + step + 1 ≡ from + (step + 1) = omega arith in
+    let here : variables n (from + step) (count - step) ≡ variable n (from + step) ∷ rest =
+    ap (variables n (from + step)) e ∙ ap (λ k. variable n (from + step) ∷ variables n k (count - (step + 1))) g in
+    ap (λ (gs : List Affine). gs ++ rest) (pushed ∙ ap (λ (h : Affine). fs ++ h ∷ []) is)
+    ∙ (append_assoc fs (variable n (from + step) ∷ []) rest
+    ∙ (ap (λ (gs : List Affine). fs ++ gs) (sym here) ∙ so_far))

@@ -7,9 +7,9 @@ ghost use Rattle.whole_numbers.specs.Affine.{composed};
 ghost use Rattle.iteration_domains.specs.Path.{CanAccess, CanRead, CanReadRight};
 ghost use Rattle.iteration_domains.specs.Sizes.{CanCompose};
 
-use crate::forms::{compose, push_form};
+use crate::forms::compose;
 use crate::statement::AccessForms;
-use affine_forms::Form;
+use affine_forms::{Form, push};
 use scop_syntax::tree::{Access, Aff, Expr, Right};
 use std::alloc::{AllocError, Global};
 
@@ -26,7 +26,7 @@ fn subscripts_within(
     let mut composed = Vec::new(alloc);
     for subscript in subscripts {
         let form = compose(alloc, subscript, forms, variables)?;
-        push_form(&mut composed, form)?;
+        push(&mut composed, form)?;
     }
     Ok(composed)
 }
@@ -45,10 +45,7 @@ fn push_access(
 {
     let subscripts = subscripts_within(alloc, access.subscripts.as_slice(), forms, variables)?;
     let array = access.array;
-    match accesses.push(AccessForms { array, subscripts }) {
-        Err(_) => Err(AllocError),
-        Ok(()) => Ok(()),
-    }
+    push(accesses, AccessForms { array, subscripts })
 }
 
 /// Appends what the expression reads, from left to right.

@@ -5,10 +5,10 @@ ghost use Rattle.whole_numbers.specs.Affine.{value_of};
 ghost use Rattle.affine_forms.specs.Parts.{variables_of};
 ghost use Rattle.integer_sets.specs.Constraints.{system_of, variables_in};
 ghost use Rattle.integer_sets.specs.Points.{Satisfies};
+ghost use Rattle.iteration_domains.specs.Dependence.{dependence};
 ghost use Rattle.iteration_domains.specs.Restrictions.{equality_behind, row_behind};
 
-use crate::forms::push_form;
-use affine_forms::Form;
+use affine_forms::{Form, push};
 use integer_sets::System;
 use std::alloc::{AllocError, Global};
 use std::marker::Model;
@@ -43,6 +43,30 @@ impl Model for Dep {
 }
 
 impl Dep {
+    /// The dependence over another system with as many dimensions.
+    fn over(&self, system: System) -> Dep
+        requires { system.dimensions ≡ self.now.system.dimensions }
+        ensures { result ≡ dependence self.now.source self.now.target self.now.depth system }
+    {
+        Dep {
+            source: self.source,
+            target: self.target,
+            depth: self.depth,
+            system,
+        }
+    }
+
+    /// A copy of the dependence.
+    ///
+    /// # Errors
+    /// `AllocError` alone.
+    pub fn copy(&self, alloc: Global) -> Result<Dep, AllocError>
+        ensures { IfOk result (λ d. d ≡ self.now) }
+    {
+        let system = copied(alloc, &self.system)?;
+        Ok(self.over(system))
+    }
+
     /// The dependence at the points at which a form is 0 too: with an equality behind those that stand.
     ///
     /// # Errors
@@ -53,15 +77,8 @@ impl Dep {
         ensures points { IfOk result (λ d. (point : List ℤ) → Satisfies d.system point
             ↔ (Satisfies self.now.system point × (value_of form point ≡ pos 0))) }
     {
-        match with_equality(alloc, &self.system, form) {
-            Err(_) => Err(AllocError),
-            Ok(system) => Ok(Dep {
-                source: self.source,
-                target: self.target,
-                depth: self.depth,
-                system,
-            }),
-        }
+        let system = with_equality(alloc, &self.system, form)?;
+        Ok(self.over(system))
     }
 
     /// The dependence at the points at which a form is not negative too: with a row behind those that stand.
@@ -74,15 +91,8 @@ impl Dep {
         ensures points { IfOk result (λ d. (point : List ℤ) → Satisfies d.system point
             ↔ (Satisfies self.now.system point × (pos 0 ≤ℤ value_of form point))) }
     {
-        match with_row(alloc, &self.system, form) {
-            Err(_) => Err(AllocError),
-            Ok(system) => Ok(Dep {
-                source: self.source,
-                target: self.target,
-                depth: self.depth,
-                system,
-            }),
-        }
+        let system = with_row(alloc, &self.system, form)?;
+        Ok(self.over(system))
     }
 }
 
@@ -106,7 +116,7 @@ fn with_equality(alloc: Global, system: &System, form: Form) -> Result<System, A
         (system.now.equalities ++ form ∷ []) system.now.rows) }
 {
     let (mut equalities, rows) = copied(alloc, system)?.into_parts();
-    push_form(&mut equalities, form)?;
+    push(&mut equalities, form)?;
     Ok(System::from_parts(system.dimensions(), system.parameters(), equalities, rows))
 }
 
@@ -117,6 +127,6 @@ fn with_row(alloc: Global, system: &System, form: Form) -> Result<System, AllocE
         system.now.equalities (system.now.rows ++ form ∷ [])) }
 {
     let (equalities, mut rows) = copied(alloc, system)?.into_parts();
-    push_form(&mut rows, form)?;
+    push(&mut rows, form)?;
     Ok(System::from_parts(system.dimensions(), system.parameters(), equalities, rows))
 }

@@ -1,41 +1,75 @@
 //! Forms of 128 bits of a kernel's affine forms, composed over other variables. Within the limits of a kernel no number
 //! on the way is too wide, so only memory may run out.
-ghost use Rattle.std.specs.Prelude.{◌≡◌, ◌+◌, ◌*◌, ◌<◌, ◌≤◌, ◌^◌, ◌++◌, ◌∷◌, [], IfOk, OnOk, unsigned_abs};
+ghost use Rattle.std.specs.Prelude.{◌≡◌, ◌+◌, ◌*◌, ◌<◌, ◌≤◌, ◌^◌, ◌++◌, IfOk, OnOk, set, unsigned_abs};
 ghost use Rattle.affine_forms.specs.Parts.{variables_of};
-ghost use Rattle.whole_numbers.specs.Affine.{composed, multiple_of_form, sum_of_forms};
-ghost use Rattle.iteration_domains.specs.Rows.{variable};
+ghost use Rattle.whole_numbers.specs.Affine.{composed, form_of, multiple_of_form, sum_of_forms};
+ghost use Rattle.whole_numbers.specs.Lists.{zeros};
+ghost use Rattle.iteration_domains.specs.Rows.{variable, variables};
 ghost use Rattle.iteration_domains.specs.Sizes.{CanCompose, form_size};
 
-use affine_forms::{Form, FormStop, INLINE};
+use affine_forms::{Form, FormStop, INLINE, push};
 use scop_syntax::tree::Aff;
 use smallvec::SmallVec;
 use std::alloc::{AllocError, Global};
 
-/// Appends a form.
-pub fn push_form(forms: &mut Vec<Form>, form: Form) -> Result<(), AllocError>
-    ensures { OnOk result (forms.new.items ≡ forms.old.items ++ form ∷ []) }
+/// A form's coefficients while they are put together.
+pub type Numbers = SmallVec<i128, INLINE>;
+
+/// Appends zeros.
+///
+/// # Errors
+/// `AllocError` alone.
+pub fn push_zeros(numbers: &mut Numbers, count: usize) -> Result<(), AllocError>
+    ensures { OnOk result (numbers.new.items ≡ numbers.old.items ++ zeros count) }
 {
-    match forms.push(form) {
-        Err(_) => Err(AllocError),
-        Ok(()) => Ok(()),
-    }
+    let Some(len) = numbers.len().checked_add(count) else {
+        return Err(AllocError);
+    };
+    numbers.resize(len, 0)?;
+    Ok(())
 }
 
 /// The form with these numbers.
-pub fn wide_form(alloc: Global, aff: &Aff) -> Result<Form, AllocError>
-    ensures { IfOk result (λ f. f ≡ aff.now) }
+///
+/// # Errors
+/// `AllocError` alone.
+pub fn form_from(alloc: Global, coefficients: &[i128], constant: i128) -> Result<Form, AllocError>
+    ensures { IfOk result (λ f. f ≡ form_of coefficients.now constant) }
 {
-    let mut coefficients = SmallVec::<i128, INLINE>::new(alloc);
-    for coefficient in aff.coefficients.as_slice() {
-        match coefficients.push(*coefficient as i128) {
-            Err(_) => return Err(AllocError),
-            Ok(()) => {}
-        }
-    }
-    match Form::of(alloc, coefficients.as_slice(), aff.constant as i128) {
+    match Form::of(alloc, coefficients, constant) {
         Err(_) => Err(AllocError),
         Ok(form) => Ok(form),
     }
+}
+
+/// A kernel's form with numbers of 128 bits.
+fn wide_form(alloc: Global, aff: &Aff) -> Result<Form, AllocError>
+    ensures { IfOk result (λ f. f ≡ aff.now) }
+{
+    let mut coefficients = Numbers::new(alloc);
+    for coefficient in aff.coefficients.as_slice() {
+        coefficients.push(*coefficient as i128)?;
+    }
+    form_from(alloc, coefficients.as_slice(), aff.constant as i128)
+}
+
+/// The form whose coefficient of the variable `at` of so many is `factor`, and all others 0.
+///
+/// # Errors
+/// `AllocError` alone.
+pub fn term_form(
+    alloc: Global,
+    variables: usize,
+    at: usize,
+    factor: i128,
+    constant: i128,
+) -> Result<Form, AllocError>
+    requires { at < variables }
+    ensures { IfOk result (λ f. f ≡ form_of (set (zeros variables) at factor) constant) }
+{
+    let mut coefficients = Numbers::from_elem(alloc, 0, variables)?;
+    coefficients[at] = factor;
+    form_from(alloc, coefficients.as_slice(), constant)
 }
 
 /// The variable `at` of so many variables.
@@ -43,16 +77,28 @@ pub fn variable_form(alloc: Global, variables: usize, at: usize) -> Result<Form,
     requires { at < variables }
     ensures { IfOk result (λ f. f ≡ variable variables at) }
 {
-    match SmallVec::<i128, INLINE>::from_elem(alloc, 0, variables) {
-        Err(_) => Err(AllocError),
-        Ok(mut coefficients) => {
-            coefficients[at] = 1;
-            match Form::of(alloc, coefficients.as_slice(), 0) {
-                Err(_) => Err(AllocError),
-                Ok(form) => Ok(form),
-            }
-        }
+    term_form(alloc, variables, at, 1, 0)
+}
+
+/// Appends `count` variables of `of`, from `from` on.
+///
+/// # Errors
+/// `AllocError` alone.
+pub fn push_variables(
+    out: &mut Vec<Form>,
+    alloc: Global,
+    of: usize,
+    from: usize,
+    count: usize,
+) -> Result<(), AllocError>
+    requires { from + count ≤ of }
+    ensures { OnOk result (out.new.items ≡ out.old.items ++ variables of from count) }
+{
+    for step in 0..count {
+        let form = variable_form(alloc, of, from + step)?;
+        push(out, form)?;
     }
+    Ok(())
 }
 
 /// `form` plus `factor` times `other`, whose numbers are small.
@@ -63,6 +109,22 @@ pub fn plus_multiple(form: &Form, factor: i128, other: &Form) -> Result<Form, Al
 {
     match form.sum_of_multiples(1, factor, other) {
         Ok(sum) => Ok(sum),
+        Err(FormStop::Wide(_)) => unreachable!(),
+        Err(FormStop::NoMemory) => Err(AllocError),
+    }
+}
+
+/// The form over `variables` variables that puts `forms`, in order, in place of those of `form`, all of small numbers.
+///
+/// # Errors
+/// `AllocError` alone.
+pub fn compose_form(form: &Form, forms: &[Form], variables: usize) -> Result<Form, AllocError>
+    requires { CanCompose variables forms.now form.now }
+    ensures form { IfOk result (λ f. f ≡ composed form.now forms.now variables) }
+    ensures sized { IfOk result (λ f. variables_of f ≡ variables) }
+{
+    match form.compose(forms, variables) {
+        Ok(composition) => Ok(composition),
         Err(FormStop::Wide(_)) => unreachable!(),
         Err(FormStop::NoMemory) => Err(AllocError),
     }
@@ -79,12 +141,6 @@ pub fn compose(
     ensures form { IfOk result (λ f. f ≡ composed aff.now forms.now variables) }
     ensures sized { IfOk result (λ f. variables_of f ≡ variables) }
 {
-    match wide_form(alloc, aff) {
-        Err(_) => Err(AllocError),
-        Ok(form) => match form.compose(forms, variables) {
-            Ok(composition) => Ok(composition),
-            Err(FormStop::Wide(_)) => unreachable!(),
-            Err(FormStop::NoMemory) => Err(AllocError),
-        },
-    }
+    let form = wide_form(alloc, aff)?;
+    compose_form(&form, forms, variables)
 }

@@ -16,7 +16,10 @@ mod rows;
 mod statement;
 
 pub use dep::{Dep, DepEnd};
-pub use forms::{compose, plus_multiple, push_form, variable_form};
+pub use forms::{
+    Numbers, compose, compose_form, form_from, plus_multiple, push_variables, push_zeros,
+    term_form, variable_form,
+};
 pub use items::{Path, enter_loop, enter_scope};
 pub use model::Model;
 pub use rows::{Scope, StatementRows, rows_within};

@@ -9,8 +9,8 @@ ghost use Rattle.iteration_domains.specs.Rows.{composed_test, iterator, variable
 ghost use Rattle.iteration_domains.specs.Sizes.{CanCompose, forms_size};
 ghost use Rattle.iteration_domains.specs.Standing.{CanEnter, entered, finished, starting, with_tests};
 
-use crate::forms::{compose, plus_multiple, push_form, variable_form};
-use affine_forms::Form;
+use crate::forms::{compose, plus_multiple, push_variables, variable_form};
+use affine_forms::{Form, push};
 use scop_syntax::tree::{Guard, Loop, Test};
 use std::alloc::{AllocError, Global};
 
@@ -39,9 +39,7 @@ fn start(alloc: Global, parameters: usize, loops: usize) -> Result<StatementRows
 {
     let variables = loops + parameters;
     let mut forms = Vec::new(alloc);
-    for at in loops..variables {
-        push_form(&mut forms, variable_form(alloc, variables, at)?)?;
-    }
+    push_variables(&mut forms, alloc, variables, loops, parameters)?;
     Ok(StatementRows {
         variables,
         loops: 0,
@@ -83,10 +81,10 @@ impl StatementRows {
         let variables = self.variables;
         let turn = variable_form(alloc, variables, at)?;
         let iterator = iterator_form(alloc, head, &turn, self.forms.as_slice(), at, variables)?;
-        push_form(&mut self.forms, iterator)?;
+        push(&mut self.forms, iterator)?;
         let condition = compose(alloc, &head.condition, self.forms.as_slice(), variables)?;
-        push_form(&mut self.rows, turn)?;
-        push_form(&mut self.rows, condition)?;
+        push(&mut self.rows, turn)?;
+        push(&mut self.rows, condition)?;
         self.loops = at + 1;
         Ok(())
     }
@@ -101,11 +99,11 @@ impl StatementRows {
         match test {
             Test::AtLeast(row) => {
                 let form = compose(alloc, row, self.forms.as_slice(), self.variables)?;
-                push_form(&mut self.rows, form)
+                push(&mut self.rows, form)
             }
             Test::Equal(equality) => {
                 let form = compose(alloc, equality, self.forms.as_slice(), self.variables)?;
-                push_form(&mut self.equalities, form)
+                push(&mut self.equalities, form)
             }
         }
     }

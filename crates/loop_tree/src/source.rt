@@ -44,7 +44,7 @@ use crate::source_laws::source_trees_visit_the_walk;
 use crate::tree::{Bound, Bounds, Guard, Leaf, Loop, Node, Test, Tree};
 use affine_forms::{Form, push};
 use iteration_domains::{
-    Path, Scope, compose, enter_loop, enter_scope, push_form, rows_within, variable_form,
+    Path, Scope, compose, enter_loop, enter_scope, rows_within, variable_form,
 };
 use scop_syntax::tree::{
     Aff, Guard as SourceGuard, Item, Kernel, Loop as SourceLoop, Test as Comparison,
@@ -134,7 +134,7 @@ fn first_condition(
     ensures { IfOk result (λ a. a ≡ begun variables forms.old.items first.now condition.now) }
 {
     let first = compose(alloc, first, forms.as_slice(), variables)?;
-    push_form(forms, first)?;
+    push(forms, first)?;
     let condition = compose(alloc, condition, forms.as_slice(), variables)?;
     narrow(alloc, &condition)
 }

@@ -107,15 +107,6 @@ fn push_orthogonal(
     Ok(all)
 }
 
-/// A copy of a row.
-fn copied(alloc: Global, row: &[i128]) -> Result<Vec<i128>, AllocError>
-    ensures { IfOk result (λ v. v.items ≡ row.now) }
-{
-    let mut copy = Vec::new(alloc);
-    copy.extend_from_slice(row)?;
-    Ok(copy)
-}
-
 /// The kernel vectors when the row is added to those that `vectors` belong to.
 ///
 /// # Errors
@@ -135,8 +126,7 @@ pub fn narrowed_by(alloc: Global, row: &[i128], vectors: &[Vec<i128>]) -> Result
         if a != 0 {
             return push_orthogonal(alloc, row, a, vectors, at, narrowed);
         }
-        let copy = copied(alloc, vector)?;
-        narrowed.push(copy)?;
+        narrowed.push(Vec::from_slice(alloc, vector)?)?;
     }
     Ok(narrowed)
 }

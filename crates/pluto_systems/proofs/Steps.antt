@@ -1,8 +1,8 @@
 -- Steps of loops.
-use Rattle.std.proofs.Common.{◌≡◌, ℕ, suc, ◌+◌, ◌-◌, ◌<◌, ℤ, pos, List, [], ◌∷◌, ◌++◌, refl, sym, ◌∙◌, ap}
+use Rattle.std.proofs.Common.{◌≡◌, ℕ, ◌+◌, ◌<◌, ℤ, pos, List, [], ◌∷◌, ◌++◌, refl, sym, ◌∙◌, ap}
 use Rattle.std.proofs.Common.{arith, length, drop, add-one, drop-cons, append_assoc, get_or}
 use Rattle.std.specs.Prelude.{◌≤◌, ◌+ℤ◌}
-use Rattle.whole_numbers.specs.Lists.{zeros, sums}
+use Rattle.whole_numbers.specs.Lists.{sums}
 use Rattle.std.proofs.lemmas.List.Elements.{All-nil, All-cons, All-head, All-tail}
 use Rattle.null_space.specs.Sizes.{IsWithin, AreWithin}
 use Rattle.null_space.proofs.Sizes.{within_add}
@@ -12,9 +12,6 @@ pub more : {X : Type 0} (xs ys new rest rest' whole : List X) → new ≡ xs ++ 
     → xs ++ rest ≡ whole → new ++ rest' ≡ whole
 more xs ys new rest rest' whole e f h =
     ap (λ z. z ++ rest') e ∙ (append_assoc xs ys rest' ∙ (ap (λ z. xs ++ z) f ∙ h))
-
-pub zeros_step : (n i : ℕ) → i < n → (pos 0 ∷ []) ++ zeros (n - (i + 1)) ≡ zeros (n - i)
-zeros_step n i h = let e : n - i ≡ suc (n - (i + 1)) = omega arith in rw e refl
 
 pub sums_step : (xs ys : List ℤ) (i : ℕ) → i < length xs → length xs ≡ length ys
     → (get_or xs i (pos 0) +ℤ get_or ys i (pos 0)) ∷ sums (drop (i + 1) xs) (drop (i + 1) ys)

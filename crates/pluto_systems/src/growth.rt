@@ -6,8 +6,9 @@ ghost use Rattle.whole_numbers.specs.Lists.{sums};
 ghost use Rattle.null_space.specs.Sizes.{IsWithin, AreWithin, AreLong, AreNarrow};
 ghost use Rattle.pluto_systems.specs.Posing.{own_form, own_row, added, growth_rows};
 
-use crate::placing::{placed, push_zeros};
-use affine_forms::Form;
+use crate::placing::placed;
+use affine_forms::{Form, push};
+use iteration_domains::{Numbers, form_from, push_zeros};
 use std::alloc::{AllocError, Global};
 
 /// One of the vectors.
@@ -28,17 +29,13 @@ fn own_form(
     requires parameters { parameters ≤ 4 }
     ensures { IfOk result (λ f. f ≡ own_form parameters vector.now constant) }
 {
-    let mut turned = Vec::new(alloc);
-    turned.extend_from_slice(vector)?;
+    let mut turned = Vec::from_slice(alloc, vector)?;
     turned.reverse();
-    let mut coefficients = Vec::new(alloc);
+    let mut coefficients = Numbers::new(alloc);
     push_zeros(&mut coefficients, parameters + 1)?;
     coefficients.extend_from_slice(&turned)?;
     coefficients.push(0)?;
-    match Form::of(alloc, &coefficients, constant) {
-        Ok(form) => Ok(form),
-        Err(_) => Err(AllocError),
-    }
+    form_from(alloc, coefficients.as_slice(), constant)
 }
 
 /// The same over all columns, for statement s.
@@ -91,8 +88,7 @@ fn added_up(alloc: Global, vectors: &[Vec<i128>]) -> Result<Vec<i128>, AllocErro
     ensures { IfOk result (λ sum. sum.items
         ≡ added (slice_index_or (map (λ v. v.items) vectors.now) 0 []) (drop 1 (map (λ v. v.items) vectors.now))) }
 {
-    let mut sum = Vec::new(alloc);
-    sum.extend_from_slice(vector_at(vectors, 0))?;
+    let mut sum = Vec::from_slice(alloc, vector_at(vectors, 0))?;
     for at in 1..vectors.len() {
         sum = sum_of(alloc, &sum, vector_at(vectors, at))?;
     }
@@ -121,22 +117,10 @@ pub fn push_growth(
         return Ok(());
     }
     for at in 0..vectors.len() {
-        match own_row(alloc, parameters, loops, s, 0, vector_at(vectors, at)) {
-            Err(_) => return Err(AllocError),
-            Ok(row) => match out.push(row) {
-                Err(_) => return Err(AllocError),
-                Ok(()) => {}
-            },
-        }
+        let row = own_row(alloc, parameters, loops, s, 0, vector_at(vectors, at))?;
+        push(out, row)?;
     }
-    match added_up(alloc, vectors) {
-        Err(_) => Err(AllocError),
-        Ok(sum) => match own_row(alloc, parameters, loops, s, -1, &sum) {
-            Err(_) => Err(AllocError),
-            Ok(row) => match out.push(row) {
-                Err(_) => Err(AllocError),
-                Ok(()) => Ok(()),
-            },
-        },
-    }
+    let sum = added_up(alloc, vectors)?;
+    let row = own_row(alloc, parameters, loops, s, -1, &sum)?;
+    push(out, row)
 }

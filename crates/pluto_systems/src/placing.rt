@@ -1,9 +1,9 @@
 //! Forms over the unknowns of a dependence's two statements as forms over all columns of the objective.
 ghost use Rattle.std.specs.Prelude.{◌≡◌, ◌≤◌, ◌++◌, All, IfOk, OnOk, length, take, drop, map};
-ghost use Rattle.whole_numbers.specs.Lists.{zeros};
 ghost use Rattle.pluto_systems.specs.Placing.{is_end, placed_parts, placed};
 
-use affine_forms::Form;
+use affine_forms::{Form, push};
+use iteration_domains::{Numbers, form_from, push_zeros};
 use std::alloc::{AllocError, Global};
 
 /// The first so many numbers, and what is behind them.
@@ -18,16 +18,6 @@ fn cut_at(numbers: &[i128], count: usize) -> (&[i128], &[i128])
     }
 }
 
-/// Appends zeros.
-pub fn push_zeros(out: &mut Vec<i128>, count: usize) -> Result<(), AllocError>
-    ensures { OnOk result (out.new.items ≡ out.old.items ++ zeros count) }
-{
-    for _at in 0..count {
-        out.push(0)?;
-    }
-    Ok(())
-}
-
 /// Whether a statement is one of the two.
 fn is_one(source: usize, target: usize, s: usize) -> bool
     ensures { result ≡ is_end source target s }
@@ -37,7 +27,7 @@ fn is_one(source: usize, target: usize, s: usize) -> bool
 
 /// Appends the factors of the columns of all statements: those of the two, and 0 for all others.
 fn place_parts(
-    out: &mut Vec<i128>,
+    out: &mut Numbers,
     source: usize,
     target: usize,
     loops: &[usize],
@@ -74,13 +64,10 @@ pub fn placed(
     ensures { IfOk result (λ f. f ≡ placed parameters source target loops.now form.now) }
 {
     let (front, rest) = cut_at(form.coefficients(), parameters + 1);
-    let mut coefficients = Vec::new(alloc);
+    let mut coefficients = Numbers::new(alloc);
     coefficients.extend_from_slice(front)?;
     place_parts(&mut coefficients, source, target, loops, rest)?;
-    match Form::of(alloc, &coefficients, form.constant()) {
-        Ok(placed) => Ok(placed),
-        Err(_) => Err(AllocError),
-    }
+    form_from(alloc, coefficients.as_slice(), form.constant())
 }
 
 /// Appends forms over all columns.
@@ -98,13 +85,8 @@ pub fn place_all(
     ensures { OnOk result (out.new.items ≡ out.old.items ++ map (placed parameters source target loops.now) forms.now) }
 {
     for form in forms {
-        match placed(alloc, parameters, source, target, loops, form) {
-            Err(_) => return Err(AllocError),
-            Ok(placed) => match out.push(placed) {
-                Err(_) => return Err(AllocError),
-                Ok(()) => {}
-            },
-        }
+        let placed = placed(alloc, parameters, source, target, loops, form)?;
+        push(out, placed)?;
     }
     Ok(())
 }

@@ -150,7 +150,7 @@ pub fn push_value(
 {
     let dimension = variable_form(alloc, layout.width(), at)?;
     let equality = plus_multiple(form, -1, &dimension)?;
-    push_form(out, equality)
+    push(out, equality)
 }
 
 /// `row - size * T`, T being dimension `at`.
@@ -209,7 +209,7 @@ pub fn push_coordinate(
 {
     let size = size as i128;
     let begins = tile_begins(alloc, layout, size, at, form)?;
-    push_form(out, begins)?;
+    push(out, begins)?;
     let ends = tile_ends(alloc, layout, size, at, form)?;
-    push_form(out, ends)
+    push(out, ends)
 }

@@ -26,7 +26,7 @@ fn push_domain(
     ensures { OnOk result (out.new.items ≡ out.old.items ++ map (domain_form layout) forms.now) }
 {
     for form in forms {
-        push_form(out, domain_form(alloc, layout, form)?)?;
+        push(out, domain_form(alloc, layout, form)?)?;
     }
     Ok(())
 }
@@ -172,7 +172,7 @@ fn push_missing(out: &mut Vec<Form>, alloc: Global, layout: Layout) -> Result<()
 {
     let first = layout.front + layout.turns;
     for at in 0..layout.missing {
-        push_form(out, variable_form(alloc, layout.width(), first + at)?)?;
+        push(out, variable_form(alloc, layout.width(), first + at)?)?;
     }
     Ok(())
 }
@@ -247,7 +247,7 @@ pub fn rows(
     let mut out = Vec::new(alloc);
     push_domain(&mut out, alloc, layout, statement.domain().rows())?;
     let wave = items.leading.len();
-    push_form(&mut out, variable_form(alloc, layout.width(), wave)?)?;
+    push(&mut out, variable_form(alloc, layout.width(), wave)?)?;
     push_coordinates(
         &mut out,
         alloc,

@@ -10,7 +10,7 @@ returns c =
     let t = side_of c.args.target.now in
     up_gained c.args.parameters s t c.args.rows.now _ refl
     (up_put c.args.parameters s t c.dimensions-loops.result c.dimensions-others.result c.args.rows.now.rows.items
-    c.push_parameters.new.out.items
+    c.push_variables.new.out.items
     (c.dimensions-loops.ensures ∙ ap (λ (z : Constraints). z.dimensions) c.domain.ensures)
     (c.dimensions-others.ensures ∙ ap (λ (z : Constraints). z.dimensions) c.domain-2.ensures)
-    c.in_ok-push_parameters.ensures)
+    c.in_ok-push_variables.ensures)

@@ -5,6 +5,6 @@ use Rattle.dataflow.proofs.forms.push_variables.Goals as goal
 
 pub loop-step-preserved : goal.loop-step-preserved
 loop-step-preserved c =
-    variables_put c.loop-step.out.items c.push_form.new.forms.items
+    variables_put c.loop-step.out.items c.push.new.list.items
     (c.args.out.now.items ++ variables c.args.of c.args.from c.args.count) c.in_ok-form.form c.args.of c.args.from
-    c.loop-step.step c.args.count (omega arith) c.loop-step.invariant c.in_ok-form.ensures c.in_ok-push_form.ensures
+    c.loop-step.step c.args.count (omega arith) c.loop-step.invariant c.in_ok-form.ensures c.in_ok-push.ensures.pushed

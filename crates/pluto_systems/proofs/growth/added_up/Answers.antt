@@ -20,11 +20,11 @@ loop-at-preserved c =
     let n = length (get_or vs 0 []) in
     let size : length v ≡ n = All-get_or (λ (u : List ℤ). length u ≡ n) vs i [] inside c.requires.lengths in
     let great : AreWithin (2 ^ 109) v = All-get_or (AreWithin (2 ^ 109)) vs i [] inside c.requires.sizes in
-    let is : c.in_ok-sum.sum.items ≡ sums old v = subst2 c.deref.ensures.value c.vector_at-in-loop-at.ensures
-    c.in_ok-sum.ensures in
+    let is : c.in_ok-sum-2.sum.items ≡ sums old v = subst2 c.deref.ensures.value c.vector_at-in-loop-at.ensures
+    c.in_ok-sum-2.ensures in
     let e = c.loop-at.invariant.0 in (
       ap length is ∙ (length-sums old v (e ∙ sym size) ∙ e),
-      added_step old c.in_ok-sum.sum.items vs i (added (get_or vs 0 []) (drop 1 vs)) inside is c.loop-at.invariant.1,
+      added_step old c.in_ok-sum-2.sum.items vs i (added (get_or vs 0 []) (drop 1 vs)) inside is c.loop-at.invariant.1,
       subst (AreWithin ((i + 1) * 2 ^ 109)) (sym is)
           (sums_within ((i + 1) * 2 ^ 109) (i * 2 ^ 109) (2 ^ 109) old v (omega arith) (e
           ∙ sym size) c.loop-at.invariant.2 great),

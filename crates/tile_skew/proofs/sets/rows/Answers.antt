@@ -30,8 +30,8 @@ returns-clause-sized c =
     let domain = domain_over l c.rows.result.now (resized (variables_in c.domain.result.now) (l.turns + l.parameters)
     c.rows.result.now c.rows.result.now many refl c.rows.ensures.sized) in
     let small = subst (λ rs. All (λ r. FitsTurns l.turns r.form) rs) (sym c.as_slice.ensures.value) c.requires.rows in
-    parts_over l c.new-out.result.items c.push_domain.new.out.items c.push_form.new.forms.items
+    parts_over l c.new-out.result.items c.push_domain.new.out.items c.push.new.list.items
     c.push_coordinates.new.out.items (map (domain_form l) c.rows.result.now) _ _ c.new-out.ensures.items
-    c.in_ok-push_domain.ensures c.in_ok-push_form.ensures c.in_ok-push_coordinates.ensures domain
+    c.in_ok-push_domain.ensures c.in_ok-push.ensures.pushed c.in_ok-push_coordinates.ensures domain
     (ap variables_of c.in_ok-variable_form.ensures ∙ (length-variable _ _ ∙ c.width.ensures))
     (coordinates_over l (pos c.args.size) _ c.as_slice.result.now small)
