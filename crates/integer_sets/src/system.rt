@@ -1,7 +1,7 @@
 //! A system of affine constraints over whole variables: the points at which each equality is 0 and
 //! each row is at least 0.
 
-ghost use Rattle.std.specs.Prelude.{◌≡◌, ℤ, ◌+◌, ◌++◌, ◌↔◌, All, IfOk, IsTrue, List, OnOk, length, vec_len};
+ghost use Rattle.std.specs.Prelude.{◌≡◌, ℤ, ◌+◌, ◌↔◌, All, IfOk, IsTrue, List, length};
 ghost use Rattle.affine_forms.specs.Parts.{variables_of};
 ghost use Rattle.affine_forms.specs.Runs.{value_run};
 ghost use Rattle.integer_sets.specs.Constraints.{IsSized, intersection, system_of, variables_in};

@@ -7,9 +7,7 @@ use affine_forms::{Form, copies};
 use checked_tableau::Rows;
 use std::alloc::{AllocError, Global};
 use std::test::Fail;
-use tableau_nodes::{
-    Move, Tableau, above, at_least, longer_forms, opposite, part_of, under,
-};
+use tableau_nodes::{Move, Tableau, above, at_least, longer_forms, opposite, part_of, under};
 
 /// Whether the rows' lines are these.
 fn are_lines(rows: &Rows, lines: &[&[i128]]) -> bool {

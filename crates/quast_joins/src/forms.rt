@@ -1,6 +1,5 @@
 //! The forms of a join: those of leaves, tests and binds with variables put in, and the tests between two leaves.
-ghost use Rattle.std.specs.Prelude.{◌≡◌, ◌+◌, ◌≤◌, [], ◌∷◌, ◌++◌, IfOk, OnOk, All, map};
-ghost use Rattle.whole_numbers.specs.Lists.{zeros};
+ghost use Rattle.std.specs.Prelude.{◌≡◌, ◌+◌, ◌≤◌, IfOk, All, map};
 ghost use Rattle.affine_forms.specs.Parts.{variables_of};
 ghost use Rattle.quast_joins.specs.Joins.{test_of, less_by_one};
 ghost use Rattle.quast_joins.specs.Limits.{leaf_limit};

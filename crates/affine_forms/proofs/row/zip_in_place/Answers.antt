@@ -13,7 +13,7 @@ loop-at-preserved g c = λ run same.
     let gave = simp to_z-of_z at c.step.ensures in
     let told = same _ _ c.step.result fits_x fits_y gave in
     let given : run (get_or c.loop-at.row c.loop-at.at (pos 0)) (get_or c.args.other.now c.loop-at.at (pos 0))
-        ≡ Ok c.in-Ok.next = search rules in
+    ≡ Ok c.in-Ok.next = search rules in
     simp to_z-of_z
     (zip_run-step run c.loop-at.row c.args.other.now c.loop-at.at c.in-Ok.next (omega arith) (omega arith) given
     ∙ c.loop-at.invariant run same)
