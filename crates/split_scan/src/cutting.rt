@@ -12,7 +12,7 @@ use crate::halt::Halt;
 use crate::level::Level;
 use crate::part::Part;
 use crate::questions::{complement, is_void};
-use affine_forms::{Form, copies, push_copy};
+use affine_forms::{Form, copies, push, push_copy};
 use plain_scan::shared::{Outline, has_below};
 use std::alloc::{AllocError, Global};
 
@@ -94,10 +94,7 @@ fn cut_by(
     }
     let far = complement(alloc, row)?;
     let mut beyond = copies(alloc, cuts)?;
-    match beyond.push(far) {
-        Err(_) => return Err(Halt::NoMemory),
-        Ok(()) => {}
-    }
+    push(&mut beyond, far)?;
     if is_void(alloc, level, &beyond)? {
         return Ok(());
     }

@@ -15,7 +15,7 @@ use crate::halt::Halt;
 use crate::level::Level;
 use crate::part::Part;
 use crate::questions::{has_none, joined, push_opened};
-use affine_forms::Form;
+use affine_forms::{Form, push};
 use std::alloc::{AllocError, Global};
 
 /// The form x - y of the variable at a place and the one behind it.
@@ -48,10 +48,7 @@ fn is_below(alloc: Global, level: &Level, first: &[Form], second: &[Form]) -> Re
     push_opened(alloc, &mut rows, &lower, level.place + 1)?;
     push_opened(alloc, &mut rows, &upper, level.place)?;
     let row = difference(alloc, level.place + 2 + level.parameters, level.place)?;
-    match rows.push(row) {
-        Err(_) => return Err(Halt::NoMemory),
-        Ok(()) => {}
-    }
+    push(&mut rows, row)?;
     has_none(alloc, level.place + 2, level.parameters, rows, level.budget)
 }
 

@@ -11,9 +11,9 @@ use Rattle.split_scan.proofs.cutting.cut_by.Goals as goal
 use Rattle.split_scan.proofs.cutting.cut_by.Goals.{After-deref-3}
 
 -- the rows beyond the row
-beyond_there : (c : After-deref-3) → c.push.new.self.items ≡ c.args.cuts.now.items ++ complement c.args.row.now ∷ []
+beyond_there : (c : After-deref-3) → c.push.new.list.items ≡ c.args.cuts.now.items ++ complement c.args.row.now ∷ []
 beyond_there c =
-    let pushed : c.push.new.self.items ≡ c.in_ok-beyond.beyond.items ++ c.in_ok-far.far ∷ [] = search rules in
+    let pushed : c.push.new.list.items ≡ c.in_ok-beyond.beyond.items ++ c.in_ok-far.far ∷ [] = search rules in
     pushed ∙ ap₂ (λ (fs : List Affine) (f : Affine). fs ++ f ∷ []) (c.in_ok-beyond.ensures ∙ c.deref-2.ensures.value)
     c.in_ok-far.ensures.row
 

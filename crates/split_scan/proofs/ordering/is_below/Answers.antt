@@ -8,10 +8,10 @@ use Rattle.split_scan.specs.Questions.{HasNone, opened}
 use Rattle.split_scan.specs.Ordering.{turned}
 use Rattle.split_scan.proofs.PartOrder.{below_of, turned_sized}
 use Rattle.split_scan.proofs.ordering.is_below.Goals as goal
-use Rattle.split_scan.proofs.ordering.is_below.Goals.{In-Ok}
+use Rattle.split_scan.proofs.ordering.is_below.Goals.{In_ok-push}
 
 -- the rows of the question
-made_there : (c : In-Ok) → c.push.new.self.items
+made_there : (c : In_ok-push) → c.push.new.list.items
     ≡ turned c.args.level.now.place (c.args.level.now.place + 2 + c.args.level.now.parameters)
     c.args.level.now.inside.items c.args.first.now c.args.second.now
 made_there c =
@@ -29,7 +29,7 @@ made_there c =
     let two : c.push_opened-2.new.out.items
     ≡ map (opened (m + 1)) (inside ++ c.args.first.now) ++ map (opened m) (inside ++ c.args.second.now) =
     c.in_ok-push_opened-2.ensures ∙ ap₂ (λ (fs gs : List Affine). fs ++ map (opened m) gs) one upper in
-    let pushed : c.push.new.self.items ≡ c.push_opened-2.new.out.items ++ c.in_ok-row.row ∷ [] = search rules in
+    let pushed : c.push.new.list.items ≡ c.push_opened-2.new.out.items ++ c.in_ok-row.row ∷ [] = search rules in
     pushed ∙ ap₂ (λ (fs : List Affine) (f : Affine). fs ++ f ∷ []) two c.in_ok-row.ensures
 
 pub has_none-requires : goal.has_none-requires
@@ -37,7 +37,7 @@ has_none-requires c =
     let level = c.args.level.now in
     let m = level.place in
     let n = m + 2 + level.parameters in
-    subst (All (λ f. variables_of f ≡ n)) (sym (made_there (goal.at.has_none-requires c).In-Ok))
+    subst (All (λ f. variables_of f ≡ n)) (sym (made_there (goal.at.has_none-requires c).In_ok-push))
     (turned_sized m n level.inside.items c.args.first.now c.args.second.now (omega arith)
     (λ k d h. let e = level.sized k d h in omega (arith, e))
     (λ k d h. let e = c.requires.first k d h in omega (arith, e))
@@ -57,4 +57,4 @@ returns c =
     IfOk-weaker c.has_none.result _ _ (λ none h t. below_of m n inside c.args.first.now c.args.second.now
     (omega arith) (level.not_negative natural)
     (λ k d i. let e = lower k d i in omega (arith, e)) (λ k d i. let e = upper k d i in omega (arith, e))
-    (subst (HasNone (m + 2)) (made_there (goal.at.returns c).In-Ok) (h t))) c.has_none.ensures
+    (subst (HasNone (m + 2)) (made_there (goal.at.returns c).In_ok-push) (h t))) c.has_none.ensures
