@@ -38,17 +38,6 @@ put old new whole rest there f g here so_far is pushed =
     ap (λ (gs : List Affine). gs ++ rest) (pushed ∙ ap (λ (h : Affine). old ++ h ∷ []) is)
     ∙ (append_assoc old (g ∷ []) rest ∙ (ap (λ (gs : List Affine). old ++ gs) (sym here) ∙ so_far))
 
-pub variables_put : (old new whole : List Affine) (f : Affine) (n from step count : ℕ) → step < count
-    → old ++ variables n (from + step) (count - step) ≡ whole → f ≡ variable n (from + step) → new ≡ old ++ f ∷ []
-    → new ++ variables n (from + (step + 1)) (count - (step + 1)) ≡ whole
-variables_put old new whole f n from step count h so_far is pushed =
-    let e : count - step ≡ suc (count - (step + 1)) = omega arith in
-    let g : from + step + 1 ≡ from + (step + 1) = omega arith in
-    put old new whole (variables n (from + (step + 1)) (count - (step + 1))) (variables n (from + step) (count - step))
-    f (variable n (from + step))
-    (ap (variables n (from + step)) e
-    ∙ ap (λ k. variable n (from + step) ∷ variables n k (count - (step + 1))) g) so_far is pushed
-
 pub below_put : (most : ℤ) (old new whole : List Affine) (f : Affine) (n from step count : ℕ) → step < count
     → old ++ all_below most n (from + step) (count - step) ≡ whole → f ≡ below most n (from + step)
     → new ≡ old ++ f ∷ [] → new ++ all_below most n (from + (step + 1)) (count - (step + 1)) ≡ whole

@@ -2,13 +2,11 @@
 //! numbers are small, so that only memory may run out.
 ghost use Rattle.std.specs.Prelude.{◌≡◌, ◌+◌, ◌^◌, ◌≤◌, ◌<◌, ◌++◌, ◌∷◌, [], All, IfOk, OnOk, map, negsuc, pos};
 ghost use Rattle.whole_numbers.specs.Affine.{composed, multiple_of_form};
-ghost use Rattle.iteration_domains.specs.Rows.{variables};
 ghost use Rattle.iteration_domains.specs.Sizes.{CanCompose, form_size};
 ghost use Rattle.dataflow.specs.Problems.{all_below, below, flat};
 
-use affine_forms::{Form, FormStop, INLINE};
-use iteration_domains::{push_form, variable_form};
-use smallvec::SmallVec;
+use affine_forms::{Form, FormStop, push};
+use iteration_domains::{compose_form, term_form};
 use std::alloc::{AllocError, Global};
 
 // A number less the variable `at` of so many variables.
@@ -16,16 +14,7 @@ fn below_form(alloc: Global, most: u64, of: usize, at: usize) -> Result<Form, Al
     requires { at < of }
     ensures { IfOk result (λ f. f ≡ below (pos most) of at) }
 {
-    match SmallVec::<i128, INLINE>::from_elem(alloc, 0, of) {
-        Err(_) => Err(AllocError),
-        Ok(mut coefficients) => {
-            coefficients[at] = -1;
-            match Form::of(alloc, coefficients.as_slice(), most as i128) {
-                Err(_) => Err(AllocError),
-                Ok(form) => Ok(form),
-            }
-        }
-    }
+    term_form(alloc, of, at, -1, most as i128)
 }
 
 /// Appends a number less each of `count` variables from `from` on.
@@ -47,36 +36,6 @@ pub fn push_below(
     Ok(())
 }
 
-/// Appends `count` variables from `from` on.
-pub fn push_variables(
-    out: &mut Vec<Form>,
-    alloc: Global,
-    of: usize,
-    from: usize,
-    count: usize,
-) -> Result<(), AllocError>
-    requires { from + count ≤ of }
-    ensures { OnOk result (out.new.items ≡ out.old.items ++ variables of from count) }
-{
-    for step in 0..count {
-        let form = variable_form(alloc, of, from + step)?;
-        push(out, form)?;
-    }
-    Ok(())
-}
-
-// The form with the inner forms in place of its variables.
-fn compose(form: &Form, inner: &[Form], of: usize) -> Result<Form, AllocError>
-    requires { CanCompose of inner.now form.now }
-    ensures { IfOk result (λ f. f ≡ composed form.now inner.now of) }
-{
-    match form.compose(inner, of) {
-        Ok(composition) => Ok(composition),
-        Err(FormStop::Wide(_)) => unreachable!(),
-        Err(FormStop::NoMemory) => Err(AllocError),
-    }
-}
-
 /// Appends forms with the inner forms in place of their variables.
 pub fn push_composed(
     out: &mut Vec<Form>,
@@ -88,7 +47,7 @@ pub fn push_composed(
     ensures { OnOk result (out.new.items ≡ out.old.items ++ map (λ f. composed f inner.now of) forms.now) }
 {
     for form in forms {
-        let composition = compose(form, inner, of)?;
+        let composition = compose_form(form, inner, of)?;
         push(out, composition)?;
     }
     Ok(())
@@ -128,7 +87,7 @@ pub fn push_flat(
         (out.new.items ≡ out.old.items ++ flat (map (λ f. composed f inner.now of) forms.now)) }
 {
     for form in forms {
-        let composition = compose(form, inner, of)?;
+        let composition = compose_form(form, inner, of)?;
         push_both(out, composition)?;
     }
     Ok(())

@@ -5,10 +5,10 @@ ghost use Rattle.dataflow.specs.Posed.{CanPose, IsPosed, IsSmall};
 ghost use Rattle.dataflow.specs.Problems.{flat, moved_variables, own_equalities_of, own_rows_of};
 ghost use Rattle.dataflow.specs.Problems.{posed_context, posed_rows, turned, turned_variables};
 
-use crate::forms::{push_below, push_composed, push_flat, push_variables};
+use crate::forms::{push_below, push_composed, push_flat};
 use affine_forms::Form;
 use checked_tableau::Problem;
-use iteration_domains::{Dep, StatementModel};
+use iteration_domains::{Dep, StatementModel, push_variables};
 use std::alloc::{AllocError, Global};
 
 /// A number above all turns.

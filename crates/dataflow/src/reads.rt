@@ -14,6 +14,7 @@ use crate::candidate::solved;
 use crate::numbers::look_at_numbers;
 use crate::source::{ReadSource, SourceStop};
 use crate::source_laws::{resolved_reads_have_their_last_writer, sources_are_told};
+use affine_forms::push;
 use conflict_deps::conflicts;
 use iteration_domains::{Dep, Model, StatementModel};
 use pip_solver::Stop;
@@ -94,16 +95,6 @@ fn source_of(
     }
     look_at_numbers(&found);
     Ok(ReadSource::Resolved(found))
-}
-
-// One source more; one that finds no room is dropped here.
-fn push(sources: &mut Vec<ReadSource>, source: ReadSource) -> Result<(), AllocError>
-    ensures { OnOk result (sources.new.items ≡ sources.old.items ++ source ∷ []) }
-{
-    match sources.push(source) {
-        Err(_) => Err(AllocError),
-        Ok(()) => Ok(()),
-    }
 }
 
 // Appends the sources of a statement's reads.

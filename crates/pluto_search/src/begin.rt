@@ -19,10 +19,7 @@ fn first_vectors(alloc: Global, loops: &[usize]) -> Result<Vec<Rows>, AllocError
     let mut vectors = Vec::new(alloc);
     for at in 0..loops.len() {
         let units = kernel_vectors(alloc, loops[at], &[])?;
-        match vectors.push(units) {
-            Err(_) => return Err(AllocError),
-            Ok(()) => {}
-        }
+        vectors.push(units)?;
     }
     Ok(vectors)
 }

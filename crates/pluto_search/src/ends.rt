@@ -15,8 +15,8 @@ ghost use Rattle.pluto_search.specs.StepParts.{AreWithin};
 ghost use Rattle.pluto_search.specs.Shared.{SharesComponent, Finds};
 ghost use Rattle.pluto_search.specs.Steps.{state_of};
 
-use crate::restricting::copied;
 use crate::state::Progress;
+use affine_forms::push;
 use iteration_domains::Dep;
 use pluto_systems::Ruled;
 use schedule_rows::{Block, Marked};
@@ -53,10 +53,8 @@ pub fn close(closed: Vec<Block>, rows: Vec<Marked>) -> Result<Vec<Block>, AllocE
         return Ok(closed);
     }
     let mut closed = closed;
-    match closed.push(Block::Band(rows)) {
-        Err(_) => Err(AllocError),
-        Ok(()) => Ok(closed),
-    }
+    push(&mut closed, Block::Band(rows))?;
+    Ok(closed)
 }
 
 /// The blocks with a scalar item.
@@ -64,10 +62,8 @@ pub fn with_scalar(closed: Vec<Block>, numbers: Vec<usize>) -> Result<Vec<Block>
     ensures { IfOk result (λ v. map block_of v.items ≡ map block_of closed.items ++ scalar numbers.items ∷ []) }
 {
     let mut blocks = closed;
-    match blocks.push(Block::Scalar(numbers)) {
-        Err(_) => Err(AllocError),
-        Ok(()) => Ok(blocks),
-    }
+    push(&mut blocks, Block::Scalar(numbers))?;
+    Ok(blocks)
 }
 
 /// The dependences that remain: those with their rows, then the others.
@@ -76,11 +72,7 @@ pub fn remaining(alloc: Global, progress: &Progress) -> Result<Vec<Dep>, AllocEr
 {
     let mut deps = copies(alloc, &progress.ruled)?;
     for at in 0..progress.bare.len() {
-        let dep = copied(alloc, &progress.bare[at])?;
-        match deps.push(dep) {
-            Err(_) => return Err(AllocError),
-            Ok(()) => {}
-        }
+        push(&mut deps, progress.bare[at].copy(alloc)?)?;
     }
     Ok(deps)
 }
@@ -91,11 +83,7 @@ fn copies(alloc: Global, ruled: &[Ruled]) -> Result<Vec<Dep>, AllocError>
 {
     let mut deps = Vec::new(alloc);
     for at in 0..ruled.len() {
-        let dep = copied(alloc, ruled[at].dep())?;
-        match deps.push(dep) {
-            Err(_) => return Err(AllocError),
-            Ok(()) => {}
-        }
+        push(&mut deps, ruled[at].dep().copy(alloc)?)?;
     }
     Ok(deps)
 }
@@ -104,12 +92,7 @@ fn copies(alloc: Global, ruled: &[Ruled]) -> Result<Vec<Dep>, AllocError>
 fn edges(alloc: Global, deps: &[Dep]) -> Result<Vec<(usize, usize)>, AllocError>
     ensures { IfOk result (λ v. v.items ≡ edges_of deps.now) }
 {
-    let mut edges = Vec::new(alloc);
-    for at in 0..deps.len() {
-        let dep = &deps[at];
-        edges.push((dep.source.statement, dep.target.statement))?;
-    }
-    Ok(edges)
+    deps.iter().map(|dep| (dep.source.statement, dep.target.statement)).collect(alloc)
 }
 
 /// The numbers of the components of n statements.
@@ -143,10 +126,7 @@ pub fn uncut(alloc: Global, numbers: &[usize], deps: Vec<Dep>) -> Result<Vec<Dep
         if is_cut(numbers, &dep) {
             continue;
         }
-        match kept.push(dep) {
-            Err(_) => return Err(AllocError),
-            Ok(()) => {}
-        }
+        kept.push(dep)?;
     }
     Ok(kept)
 }

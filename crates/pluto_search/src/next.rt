@@ -34,12 +34,7 @@ fn is_full(vectors: &[Rows]) -> bool
     ensures full { result ≡ true → All (λ vs. vs.items ≡ []) vectors.now }
     ensures more { result ≡ false → All (λ vs. vs.items ≡ []) vectors.now → ⊥ }
 {
-    for at in 0..vectors.len() {
-        if !vectors[at].is_empty() {
-            return false;
-        }
-    }
-    true
+    vectors.iter().all(|own| own.is_empty())
 }
 
 /// The blocks with a last scalar item that orders what is left, or why nothing orders it.

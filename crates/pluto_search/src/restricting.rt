@@ -17,14 +17,13 @@ ghost use Rattle.pluto_search.specs.Stopping.{IsStop, Restrictions};
 use crate::kept::Kept;
 use crate::stops::by_solver;
 use affine_forms::Form;
-use integer_sets::System;
-use iteration_domains::Dep;
+use iteration_domains::{Dep, Numbers, form_from, push_zeros};
 use pip_solver::is_empty;
 use schedule_rows::{Marked, Part, Row};
 use std::alloc::{AllocError, Global};
 
 /// Appends the opposites of numbers.
-fn push_opposites(out: &mut Vec<i128>, numbers: &[i128]) -> Result<(), AllocError>
+fn push_opposites(out: &mut Numbers, numbers: &[i128]) -> Result<(), AllocError>
     requires { AreCounts numbers.now }
     ensures { OnOk result (out.new.items ≡ out.old.items ++ multiples (negsuc 0) numbers.now) }
 {
@@ -42,16 +41,6 @@ fn opposite(number: i128) -> i128
     -number
 }
 
-/// Appends zeros.
-fn push_zeros(out: &mut Vec<i128>, count: usize) -> Result<(), AllocError>
-    ensures { OnOk result (out.new.items ≡ out.old.items ++ zeros count) }
-{
-    for _at in 0..count {
-        out.push(0)?;
-    }
-    Ok(())
-}
-
 /// A statement's part of a row.
 fn part_at(row: &Row, s: usize) -> &Part
     requires { s < length row.now.parts.items }
@@ -67,11 +56,11 @@ fn difference_numbers(
     parameters: usize,
     source: &[i128],
     target: &[i128],
-) -> Result<Vec<i128>, AllocError>
+) -> Result<Numbers, AllocError>
     requires { AreCounts source.now }
     ensures { IfOk result (λ v. v.items ≡ multiples (negsuc 0) source.now ++ (target.now ++ zeros parameters)) }
 {
-    let mut numbers = Vec::new(alloc);
+    let mut numbers = Numbers::new(alloc);
     push_opposites(&mut numbers, source)?;
     numbers.extend_from_slice(target)?;
     push_zeros(&mut numbers, parameters)?;
@@ -109,14 +98,8 @@ fn difference_and(
         &source.coefficients,
         &target.coefficients,
     )?;
-    match Form::of(
-        alloc,
-        &numbers,
-        shift_between(source.shift, target.shift, more),
-    ) {
-        Err(_) => Err(AllocError),
-        Ok(form) => Ok(form),
-    }
+    let shift = shift_between(source.shift, target.shift, more);
+    form_from(alloc, numbers.as_slice(), shift)
 }
 
 /// The pairs at which a row has equal values.
@@ -137,28 +120,6 @@ pub fn above_at(alloc: Global, parameters: usize, row: &Row, dep: &Dep) -> Resul
     dep.with_row(alloc, form)
 }
 
-/// A copy of a dependence.
-pub fn copied(alloc: Global, dep: &Dep) -> Result<Dep, AllocError>
-    ensures { IfOk result (λ d. d ≡ dep.now) }
-{
-    let own = &dep.system;
-    match System::of(
-        alloc,
-        own.dimensions(),
-        own.parameters(),
-        own.equalities(),
-        own.rows(),
-    ) {
-        Err(_) => Err(AllocError),
-        Ok(system) => Ok(Dep {
-            source: dep.source,
-            target: dep.target,
-            depth: dep.depth,
-            system,
-        }),
-    }
-}
-
 /// The pairs at which all rows have equal values.
 fn restricted(
     alloc: Global,
@@ -169,7 +130,7 @@ fn restricted(
     requires { All (λ r. CanTell parameters r.row dep.now) (map marked_of rows.now) }
     ensures { IfOk result (λ d. d ≡ restricted parameters (map marked_of rows.now) dep.now) }
 {
-    let mut equal = copied(alloc, dep)?;
+    let mut equal = dep.copy(alloc)?;
     for marked in rows {
         match equal_at(alloc, parameters, &marked.row, &equal) {
             Err(_) => return Err(AllocError),

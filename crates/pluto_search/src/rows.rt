@@ -52,10 +52,7 @@ pub fn row_from(
     let mut rest = &numbers[parameters + 1..];
     for s in 0..loops.len() {
         let part = part_from(alloc, rest, loops[s])?;
-        match parts.push(part) {
-            Err(_) => return Err(AllocError),
-            Ok(()) => {}
-        }
+        parts.push(part)?;
         rest = &rest[loops[s] + 1..];
     }
     Ok(Row {
@@ -70,12 +67,7 @@ fn are_small(numbers: &[i128]) -> bool
     ensures small { result ≡ true → All (λ c. c ≤ℤ pos 4096) numbers.now }
     ensures great { result ≡ false → All (λ c. c ≤ℤ pos 4096) numbers.now → ⊥ }
 {
-    for at in 0..numbers.len() {
-        if numbers[at] > 4096 {
-            return false;
-        }
-    }
-    true
+    numbers.iter().all(|number| *number <= 4096)
 }
 
 /// Whether no coefficient and no shift of a part is.
@@ -124,10 +116,7 @@ pub fn narrow_all(alloc: Global, row: &Row, vectors: &[Rows]) -> Result<Vec<Rows
     let mut all = Vec::new(alloc);
     for at in 0..vectors.len() {
         let next = narrow(alloc, &row.parts[at], &vectors[at])?;
-        match all.push(next) {
-            Err(_) => return Err(AllocError),
-            Ok(()) => {}
-        }
+        all.push(next)?;
     }
     Ok(all)
 }

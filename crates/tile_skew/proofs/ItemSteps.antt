@@ -119,23 +119,6 @@ waves_put l s old first second sum at h a b c =
     ∙ (append_assoc old (have_values l 0 numbers) (have_values l (length s.leading) (last ∷ []))
     ∙ ap (λ xs. old ++ xs) (sym split)))
 
--- one missing dimension more
-pub missing_step : (n first at missing : ℕ) (fs next whole : List Affine) (f : Affine) → at < missing
-    → f ≡ variable n (first + at) → next ≡ fs ++ f ∷ []
-    → fs ++ variables n (first + at) (missing - at) ≡ whole
-    → next ++ variables n (first + (at + 1)) (missing - (at + 1)) ≡ whole
-missing_step n first at missing fs next whole f h is now before =
-    let left = missing - (at + 1) in
-    let one : missing - at ≡ suc left = omega arith in
-    let there : first + at + 1 ≡ first + (at + 1) = omega arith in
-    let split : variables n (first + at) (missing - at)
-    ≡ variable n (first + at) ∷ variables n (first + (at + 1)) left =
-    ap (variables n (first + at)) one
-    ∙ ap (λ k. variable n (first + at) ∷ variables n k left) there in
-    ap (λ xs. xs ++ variables n (first + (at + 1)) left) (now ∙ ap (λ g. fs ++ g ∷ []) is)
-    ∙ (append_assoc fs (variable n (first + at) ∷ []) (variables n (first + (at + 1)) left)
-    ∙ (ap (λ xs. fs ++ xs) (sym split) ∙ before))
-
 -- the values of all items, put part by part
 pub items_put : (l : Layout) (j k m : ℕ) (fs gs hs old first second third : List Affine) → k ≡ j + length fs
     → m ≡ k + length gs → first ≡ old ++ have_values l j fs → second ≡ first ++ have_values l k gs

@@ -9,38 +9,18 @@ ghost use Rattle.tile_skew.specs.ScanSets.{tile_begins, tile_ends, width};
 ghost use Rattle.tile_skew.specs.steps.Sizes.{FitsWidth};
 
 use crate::layout::Layout;
-use affine_forms::{Form, INLINE};
-use iteration_domains::{plus_multiple, push_form, variable_form};
+use affine_forms::{Form, push};
+use iteration_domains::{Numbers, form_from, plus_multiple, push_zeros, variable_form};
 use loop_tree::TileRow;
 use scop_syntax::tree::Aff;
-use smallvec::SmallVec;
 use std::alloc::{AllocError, Global};
-
-/// A form's coefficients while they are put together.
-type Numbers = SmallVec<i128, INLINE>;
-
-/// Appends zeros.
-fn push_zeros(numbers: &mut Numbers, count: usize) -> Result<(), AllocError>
-    ensures { OnOk result (numbers.new.items ≡ numbers.old.items ++ zeros count) }
-{
-    for place in 0..count {
-        match numbers.push(0) {
-            Err(_) => return Err(AllocError),
-            Ok(()) => {}
-        }
-    }
-    Ok(())
-}
 
 /// Appends numbers.
 fn push_numbers(numbers: &mut Numbers, more: &[i64]) -> Result<(), AllocError>
     ensures { OnOk result (numbers.new.items ≡ numbers.old.items ++ more.now) }
 {
     for number in more {
-        match numbers.push(*number as i128) {
-            Err(_) => return Err(AllocError),
-            Ok(()) => {}
-        }
+        numbers.push(*number as i128)?;
     }
     Ok(())
 }
@@ -50,22 +30,9 @@ fn push_carried(numbers: &mut Numbers, rows: &[TileRow]) -> Result<(), AllocErro
     ensures { OnOk result (numbers.new.items ≡ numbers.old.items ++ carried rows.now) }
 {
     for row in rows {
-        match numbers.push(if row.carries { 1 } else { 0 }) {
-            Err(_) => return Err(AllocError),
-            Ok(()) => {}
-        }
+        numbers.push(i128::from(row.carries))?;
     }
     Ok(())
-}
-
-/// The form with these numbers.
-fn form_from(alloc: Global, coefficients: &[i128], constant: i128) -> Result<Form, AllocError>
-    ensures { IfOk result (λ f. f ≡ form_of coefficients.now constant) }
-{
-    match Form::of(alloc, coefficients, constant) {
-        Err(_) => Err(AllocError),
-        Ok(form) => Ok(form),
-    }
 }
 
 /// The coefficients of a form of the domain, over turns and parameters, over all variables.

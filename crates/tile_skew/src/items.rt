@@ -9,6 +9,7 @@ ghost use Rattle.tile_skew.specs.Tilings.{form_at, schedule_tiling, statement_it
 ghost use Rattle.tile_skew.specs.steps.Sizes.{FitsItem, FitsTurns};
 ghost use Rattle.tile_skew.specs.steps.Listed.{AreBounds, HasStatement, IsInside, item_at, leading_in, rows_in};
 
+use affine_forms::push;
 use loop_tree::{TileItem, TileItems, TileRow, Tiling};
 use schedule_rows::{Band, Item, Part, Row, Schedule, schedules_have_small_items};
 use scop_syntax::tree::Aff;
@@ -28,13 +29,7 @@ fn part_form(alloc: Global, part: &Part) -> Result<Aff, AllocError>
     requires shift { IsSmall part.now.shift }
     ensures { IfOk result (λ f. f ≡ form_of part.now.coefficients.items part.now.shift) }
 {
-    let mut coefficients = Vec::new(alloc);
-    for coefficient in part.coefficients.as_slice() {
-        match coefficients.push(narrow(*coefficient)) {
-            Err(_) => return Err(AllocError),
-            Ok(()) => {}
-        }
-    }
+    let coefficients = part.coefficients.iter().map(|number| narrow(*number)).collect(alloc)?;
     Ok(Aff {
         coefficients,
         constant: narrow(part.shift),
@@ -69,10 +64,7 @@ fn leading(alloc: Global, items: &[Item], k: usize) -> Result<Vec<usize>, AllocE
     for item in items {
         match item {
             Item::Row(_) => return Ok(found),
-            Item::Scalar(numbers) => match found.push(numbers[k]) {
-                Err(_) => return Err(AllocError),
-                Ok(()) => {}
-            },
+            Item::Scalar(numbers) => found.push(numbers[k])?,
         }
     }
     Ok(found)
@@ -93,13 +85,8 @@ fn push_row(
         Item::Scalar(_) => Ok(()),
         Item::Row(row) => {
             let form = row_form(alloc, row, k)?;
-            match rows.push(TileRow {
-                form,
-                carries: !parallel,
-            }) {
-                Err(_) => Err(AllocError),
-                Ok(()) => Ok(()),
-            }
+            let carries = !parallel;
+            push(rows, TileRow { form, carries })
         }
     }
 }
@@ -155,10 +142,7 @@ fn tile_items(
 {
     let mut found = Vec::new(alloc);
     for at in first..items.len() {
-        match found.push(tile_item(alloc, &items[at], k)?) {
-            Err(_) => return Err(AllocError),
-            Ok(()) => {}
-        }
+        found.push(tile_item(alloc, &items[at], k)?)?;
     }
     Ok(found)
 }
@@ -195,10 +179,7 @@ pub fn tiling(alloc: Global, schedule: &Schedule, size: u64) -> Result<Tiling, A
     let count = schedule.model().statements().len();
     let mut statements = Vec::new(alloc);
     for k in 0..count {
-        match statements.push(statement(alloc, schedule, k)?) {
-            Err(_) => return Err(AllocError),
-            Ok(()) => {}
-        }
+        statements.push(statement(alloc, schedule, k)?)?;
     }
     Ok(Tiling::Tiled(size, statements))
 }

@@ -10,8 +10,8 @@ ghost use Rattle.tile_skew.specs.steps.Sizes.{FitsItem, FitsTurns};
 
 use crate::forms::{carried_form, domain_form, number_form, push_coordinate, push_value, row_form};
 use crate::layout::Layout;
-use affine_forms::Form;
-use iteration_domains::{StatementModel, push_form, variable_form};
+use affine_forms::{Form, push};
+use iteration_domains::{StatementModel, push_variables, variable_form};
 use loop_tree::{TileItem, TileItems, TileRow};
 use std::alloc::{AllocError, Global};
 
@@ -171,10 +171,7 @@ fn push_missing(out: &mut Vec<Form>, alloc: Global, layout: Layout) -> Result<()
     ensures { OnOk result (out.new.items ≡ out.old.items ++ missing_equalities layout) }
 {
     let first = layout.front + layout.turns;
-    for at in 0..layout.missing {
-        push(out, variable_form(alloc, layout.width(), first + at)?)?;
-    }
-    Ok(())
+    push_variables(out, alloc, layout.width(), first, layout.missing)
 }
 
 /// Appends that the dimensions from `first` on are the tile coordinates of the rows.

@@ -113,10 +113,7 @@ pub fn tiled(alloc: Global, schedule: &Schedule, size: u64) -> Result<Vec<ScanSe
     for k in 0..statements.len() {
         let items = statement(alloc, schedule, k)?;
         let set = scan_set(alloc, size, most, &statements[k], &items)?;
-        match sets.push(set) {
-            Err(_) => return Err(AllocError),
-            Ok(()) => {}
-        }
+        sets.push(set)?;
     }
     Ok(sets)
 }

@@ -15,9 +15,9 @@ loop-access-preserved c =
     c.loop-access-test.true in (
       λ reads are.
           read_gathered c.args.model.now c.args.budget s.number c.loop-access.access (length s.accesses)
-          (reads ++ reads_of_statement s) old c.push.new.sources.items new less
-          (c.loop-access.invariant.0 reads are) c.in_ok-source.ensures.run c.in_ok-push.ensures,
+          (reads ++ reads_of_statement s) old c.push.new.list.items new less
+          (c.loop-access.invariant.0 reads are) c.in_ok-source.ensures.run c.in_ok-push.ensures.pushed,
       λ held.
-          subst (λ (ss : List ReadSource). All IsHeldSource ss) (sym c.in_ok-push.ensures)
+          subst (λ (ss : List ReadSource). All IsHeldSource ss) (sym c.in_ok-push.ensures.pushed)
           (All-push IsHeldSource old new (c.loop-access.invariant.1 held) c.in_ok-source.ensures.numbers),
     )

@@ -33,7 +33,7 @@ loop-dep-preserved c =
       tt,
       tt,
       All-tail P d rest (subst (λ (l : List Dependence). All P l) e before.2),
-      subst (λ (l : List Dependence). Passes numbers rest l c.args.deps.items) (sym c.in-Ok.ensures.items)
+      subst (λ (l : List Dependence). Passes numbers rest l c.args.deps.items) (sym c.in_ok-push.ensures.items)
           (passed_on numbers d rest c.loop-dep.kept.items c.args.deps.items (c.is_cut.ensures.stays c.if-is_cut.false)
           (subst (λ (l : List Dependence). Passes numbers l c.loop-dep.kept.items c.args.deps.items) e before.3)),
     )

@@ -64,7 +64,7 @@ loop-at-preserved c =
     let rest = narrowed_each (drop (i + 1) (map numbers c.args.row.now.parts.items))
     (drop (i + 1) (map shown c.args.vectors.now)) in
     let next = c.in_ok-next.next in (
-      ap (λ (z : List Vectors). map shown z ++ rest) c.in-Ok.ensures.items
+      ap (λ (z : List Vectors). map shown z ++ rest) c.in_ok-push.ensures.items
           ∙ (ap (λ (z : List (List (List ℤ))). z ++ rest) (map-append shown all (next ∷ []))
           ∙ (append_assoc (map shown all) (shown next ∷ []) rest
           ∙ (ap (λ (z : List (List ℤ)). map shown all ++ (z ∷ rest)) c.in_ok-next.ensures

@@ -18,7 +18,7 @@ loop-at-preserved c =
     let made = c.in_ok-tile_item.field-0 in
     let now : map tile_item_of c.push.new.self.items
     ≡ map tile_item_of c.loop-at.found.items ++ item_at k item ∷ [] =
-    ap (map tile_item_of) c.in-Ok.ensures.items
+    ap (map tile_item_of) c.in_ok-push.ensures.items
     ∙ (map-append tile_item_of c.loop-at.found.items (made ∷ [])
     ∙ ap (λ z. map tile_item_of c.loop-at.found.items ++ z ∷ []) c.in_ok-tile_item.ensures) in
     mapped_step (item_at k) (map item_of items) at item (map tile_item_of c.loop-at.found.items)

@@ -35,4 +35,4 @@ loop-k-preserved c s =
     (c.in_ok-items.ensures.items s ∙ ap (statement_items s.blocks) (sym number)) in
     mapped_step Set ss k x done c.push.new.self.items _ (omega (arith, few, many))
     (sym (c.index-statements-k.is ∙ ap (λ zs. get_or zs k x) shown))
-    (c.in-Ok.ensures.items ∙ ap (λ z. done ++ z ∷ []) made) (c.loop-k.invariant s)
+    (c.in_ok-push.ensures.items ∙ ap (λ z. done ++ z ∷ []) made) (c.loop-k.invariant s)

@@ -1,8 +1,0 @@
-use Rattle.std.proofs.Common.{◌≡◌, ◌+◌, ◌-◌, ◌++◌}
-use Rattle.iteration_domains.specs.Rows.{variables}
-use Rattle.dataflow.proofs.forms.push_variables.Given as goal
-
-abbrev pub invariant-loop-step : goal.invariant-loop-step
-invariant-loop-step l =
-    l.out.items ++ variables l.of (l.from + l.step) (l.count - l.step)
-    ≡ l.fn.out.items ++ variables l.of l.from l.count
