@@ -8,7 +8,7 @@ ghost use Rattle.wide_math.specs.declared.Wide.{Wide};
 ghost use Rattle.affine_forms.specs.InPlace.{CombinesAs, TurnsAs};
 ghost use Rattle.affine_forms.specs.Runs.{dot_run, map_run, multiply_add_run, zip_run};
 
-use wide_math::{Wide, add, cross, cross_sum, gcd_of_sizes, mul};
+use wide_math::{Wide, add, gcd_of_sizes, mul};
 
 /// `sum + a * b`: the product first, then the sum.
 #[inline]

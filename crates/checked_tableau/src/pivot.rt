@@ -1,5 +1,5 @@
 //! A pivot over rows in one buffer, each with its denominator in front.
-ghost use Rattle.std.specs.Prelude.{◌≡◌, ◌+◌, ◌*◌, ◌<◌, ◌<ℤ◌, pos, length, set, slice_index_or};
+ghost use Rattle.std.specs.Prelude.{◌≡◌, ◌+◌, ◌*◌, ◌<◌, ◌<ℤ◌, pos, length, slice_index_or};
 ghost use Rattle.wide_math.specs.Gives.{Becomes};
 ghost use Rattle.tableau_rows.specs.Moves.{unit_line, placed_line_run, buffer_run, HeadsPositive};
 

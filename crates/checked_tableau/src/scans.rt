@@ -1,6 +1,6 @@
 //! What a run looks for in a buffer of rows: each row has its denominator in front of its entries, the
 //! columns' first, then the constant.
-ghost use Rattle.std.specs.Prelude.{◌≡◌, ℕ, ◌+◌, ◌*◌, ◌<◌, ◌≤◌, ◌<ℤ◌, pos, length, slice_index_or, true, None, Some};
+ghost use Rattle.std.specs.Prelude.{◌≡◌, ℕ, ◌+◌, ◌*◌, ◌<◌, ◌<ℤ◌, pos, length, slice_index_or, true, None, Some};
 ghost use Rattle.std.specs.Prelude.{Ok};
 ghost use Rattle.tableau_rows.specs.Rows.{entry};
 ghost use Rattle.tableau_rows.specs.Moves.{is_positive, line_row, rows_in, HeadsPositive, precedes_run, column_run};

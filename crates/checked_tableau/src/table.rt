@@ -1,6 +1,6 @@
 //! Rows in one buffer, a line each: the denominator, an entry for each column, the constant, and an entry
 //! for each parameter.
-ghost use Rattle.std.specs.Prelude.{◌≡◌, ◌↔◌, ℕ, ℤ, List, OnOk, ◌+◌, ◌*◌, ◌++◌, ◌<◌, ◌<ℤ◌, ◌≤◌, pos, length};
+ghost use Rattle.std.specs.Prelude.{◌≡◌, ◌↔◌, ℕ, ℤ, List, OnOk, ◌+◌, ◌*◌, ◌++◌, ◌<◌, ◌<ℤ◌, pos, length};
 ghost use Rattle.std.specs.Prelude.{slice_index_or, take, map, Ok, Some, None, All, IfOk};
 ghost use Rattle.std.specs.Option.{ForSome};
 ghost use Rattle.wide_math.specs.Gives.{Becomes};

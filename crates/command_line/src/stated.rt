@@ -1,6 +1,6 @@
 //! The stated command, built with `clap`: `polypar` with its commands, their options and their arguments.
 
-ghost use Rattle.std.specs.Prelude.{◌≡◌, IfOk};
+ghost use Rattle.std.specs.Prelude.{IfOk};
 ghost use Rattle.clap.specs.Words.{App};
 ghost use Rattle.command_line.specs.Stated.{IsArgument, IsCommand, bare_tool, budget_tool, emit_tool, gen_arguments};
 ghost use Rattle.command_line.specs.Stated.{gen_tool, number_option, report_flag, run_tool, tool, wanted, wanted_number};

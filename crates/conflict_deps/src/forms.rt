@@ -3,8 +3,6 @@ ghost use Rattle.std.specs.Prelude.{◌≡◌, ◌+◌, ◌<◌, ◌≤◌, ◌+
 ghost use Rattle.affine_forms.specs.Parts.{variables_of};
 ghost use Rattle.iteration_domains.specs.Constraints.{equalities_in};
 ghost use Rattle.iteration_domains.specs.Sizes.{IsNarrow};
-ghost use Rattle.whole_numbers.specs.Affine.{form_of};
-ghost use Rattle.whole_numbers.specs.Lists.{zeros};
 ghost use Rattle.conflict_deps.specs.Conflicts.{difference_of_forms, equal_turns, one_form, same_subscripts};
 ghost use Rattle.conflict_deps.specs.Conflicts.{source_form, spread, step, target_form};
 

@@ -1,5 +1,5 @@
 //! Worked rows, as contracts of functions that do nothing: domains and systems of small kernels, row for row.
-ghost use Rattle.std.specs.Prelude.{◌≡◌, [], ◌∷◌, length, map, negsuc, pos, take, drop};
+ghost use Rattle.std.specs.Prelude.{◌≡◌, [], ◌∷◌, map, negsuc, pos, take, drop};
 ghost use Rattle.integer_sets.specs.Constraints.{system_of};
 ghost use Rattle.whole_numbers.specs.Affine.{form_of};
 ghost use Rattle.iteration_domains.specs.Model.{model_of};

@@ -1,5 +1,5 @@
 //! Callers of domains: the laws in kernels without parameters.
-ghost use Rattle.std.specs.Prelude.{◌≡◌, ◌++◌, [], ℕ, List, IfOk, Some, length, map, slice_get};
+ghost use Rattle.std.specs.Prelude.{◌≡◌, ◌++◌, [], ℕ, IfOk, Some, length, map, slice_get};
 ghost use Rattle.integer_sets.specs.Points.{Satisfies};
 ghost use Rattle.scop_syntax.specs.Cells.{accesses, cell_of};
 ghost use Rattle.scop_syntax.specs.Kernel.{IsKernel};

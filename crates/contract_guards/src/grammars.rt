@@ -1,5 +1,5 @@
 //! Callers of the laws of both grammars, at a name alone and at the tokens of `void k(int64_t n) {}`.
-ghost use Rattle.std.specs.Prelude.{◌++◌, ◌∷◌, ◌≡◌, ◌≤◌, ℕ, [], List, Ok};
+ghost use Rattle.std.specs.Prelude.{◌∷◌, ◌≡◌, ℕ, [], List, Ok};
 ghost use Rattle.expression_grammar.specs.declared.node.Node.TheVariants as node;
 ghost use Rattle.expression_grammar.specs.declared.token.Token.TheVariants as token;
 ghost use Rattle.expression_grammar.specs.declared.token.Token.{Token};

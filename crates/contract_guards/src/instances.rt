@@ -1,5 +1,5 @@
 //! Callers of single instances.
-ghost use Rattle.std.specs.Prelude.{◌≡◌, ◌<◌, ℕ, length, map};
+ghost use Rattle.std.specs.Prelude.{◌≡◌, ℕ, length, map};
 ghost use Rattle.scop_syntax.specs.Cells.{reads, written};
 ghost use Rattle.scop_syntax.specs.Execution.{IsInside, cell_number, layout};
 ghost use Rattle.scop_syntax.specs.Limits.{WithinLimits};

@@ -1,5 +1,5 @@
 //! Callers of the ports in memory and over std's streams.
-ghost use Rattle.std.specs.Prelude.{◌≡◌, ◌≤◌, ◌+◌, [], IfOk, OnOk, OnErr, Ok, IsOk, length};
+ghost use Rattle.std.specs.Prelude.{◌≡◌, ◌≤◌, ◌+◌, [], IfOk, OnOk, OnErr, IsOk};
 ghost use Rattle.io_ports.specs.Faults.{next_count};
 ghost use Rattle.io_ports.specs.Streams.{read_faults, write_faults};
 

@@ -1,5 +1,5 @@
 //! Callers of the laws of tokens and signs at texts that are given: `x;`, `@`, and `<<= 1`, which begins with `<<=`.
-ghost use Rattle.std.specs.Prelude.{◌≡◌, ◌∷◌, ℕ, [], List, codes};
+ghost use Rattle.std.specs.Prelude.{◌≡◌, ◌∷◌, [], List, codes};
 ghost use Rattle.scop_lexer.specs.Bytes.{Text};
 ghost use Rattle.scop_lexer.specs.Signs.{BeginsWith, IsLongestSign, spelling};
 ghost use Rattle.scop_lexer.specs.Tokens.{HasFault, HasTokens};

@@ -1,5 +1,5 @@
 //! Callers of quasts.
-ghost use Rattle.std.specs.Prelude.{◌≡◌, ◌+◌, ◌<◌, ◌≤◌, ◌∷◌, [], ℕ, ℤ, Ok, Err, IfOk, All, length, pos, true, ◌≤ℤ◌};
+ghost use Rattle.std.specs.Prelude.{◌≡◌, ◌+◌, ◌<◌, ◌≤◌, ◌∷◌, [], ℕ, ℤ, Err, IfOk, length, pos, true, ◌≤ℤ◌};
 ghost use Rattle.whole_numbers.specs.Affine.{Affine, values_of};
 ghost use Rattle.wide_math.specs.declared.Wide.{Wide};
 ghost use Rattle.affine_forms.specs.declared.stop.FormStop.TheVariants as stop;

@@ -13,7 +13,7 @@ ghost use Rattle.scop_syntax.specs.Statements.{Placed, Runs, point_of, statement
 ghost use Rattle.scop_syntax.specs.Tree.{Head, Program, moved_left};
 ghost use Rattle.scop_syntax.specs.Values.{stored_by};
 ghost use Rattle.scop_syntax.specs.Walk.{Falls, Visit, condition_at, loop_walk, walk_of};
-ghost use Rattle.scop_syntax.specs.Writers.{last_of, last_writer, left_by, next_of, next_writer, writes};
+ghost use Rattle.scop_syntax.specs.Writers.{last_writer, left_by, next_of, next_writer, writes};
 
 use scop_syntax::execution_laws::{
     cells_have_numbers_of_their_own, cells_hold_the_last_write, executions_go_along_the_places,

@@ -1,7 +1,7 @@
 //! Writes arrays as text: for each array in declared order `NAME =`, then a space and the decimal of each
 //! cell, then a line feed. Nothing is allocated, and the text goes out in pieces of some KiB.
 
-ghost use Rattle.std.specs.Prelude.{◌≡◌, ◌++◌, length, map, codes};
+ghost use Rattle.std.specs.Prelude.{◌++◌, map, codes};
 ghost use Rattle.io_ports.specs.Writes.{Writes, Puts};
 ghost use Rattle.scop_syntax.specs.View.{program_of};
 ghost use Rattle.data_text.specs.ArrayText.{array_text, cell_text, cells_text, row_text, rows_text};

@@ -1,6 +1,6 @@
 //! The extents of a kernel's arrays: each is positive, and there are at most 2^22 cells.
 
-ghost use Rattle.std.specs.Prelude.{◌≡◌, ◌≤◌, ◌^◌, All, None, IfOk, IfErr, length, map};
+ghost use Rattle.std.specs.Prelude.{◌≡◌, All, None, IfOk, IfErr, length, map};
 ghost use Rattle.whole_numbers.specs.Affine.{value_of};
 ghost use Rattle.scop_syntax.specs.View.{program_of};
 ghost use Rattle.scop_syntax.specs.Cells.{values};

@@ -1,13 +1,12 @@
 //! A candidate solved: its problem's minimum, turned back into the greatest writer's turns, as a quast over the
 //! kernel's parameters and then the reader's turns.
-ghost use Rattle.std.specs.Prelude.{◌≡◌, ◌≤◌, IfOk, ℕ, ℤ, Some, pos, slice_get};
-ghost use Rattle.quast_trees.specs.Postfix.{tree_of, written};
+ghost use Rattle.std.specs.Prelude.{◌≡◌, IfOk, ℕ, Some, slice_get};
+ghost use Rattle.quast_trees.specs.Postfix.{tree_of};
 ghost use Rattle.quast_trees.specs.Mapped.{map_run};
 ghost use Rattle.quast_trees.specs.Tree.{LeavesHave};
 ghost use Rattle.quast_joins.specs.Limits.{leaf_limit};
 ghost use Rattle.scop_syntax.specs.Members.{In};
 ghost use Rattle.conflict_deps.specs.Conflicts.{conflicts_of};
-ghost use Rattle.dataflow.specs.ReadSources.{TellsStop};
 ghost use Rattle.dataflow.specs.LastRuns.{form_fits, forms_fit, fitting, number_fits};
 ghost use Rattle.dataflow.specs.LastRuns.{wide_leaf};
 ghost use Rattle.dataflow.specs.Posed.{CanPose, IsOfKernel};

@@ -1,6 +1,6 @@
 //! The sources of all reads of a model: the candidates of each read are solved and joined one after the other, up to
 //! the first that stops.
-ghost use Rattle.std.specs.Prelude.{◌≡◌, ◌++◌, ◌∷◌, [], All, IfOk, OnOk};
+ghost use Rattle.std.specs.Prelude.{◌≡◌, All, IfOk, OnOk};
 ghost use Rattle.scop_syntax.specs.Members.{In};
 ghost use Rattle.quast_trees.specs.Postfix.{tree_of};
 ghost use Rattle.conflict_deps.specs.Conflicts.{conflicts_of};

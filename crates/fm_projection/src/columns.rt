@@ -1,6 +1,6 @@
 //! Columns that no constraint has, dropped.
 
-ghost use Rattle.std.specs.Prelude.{◌≡◌, ◌<◌, All, IfOk, OnOk, map};
+ghost use Rattle.std.specs.Prelude.{◌≡◌, ◌<◌, All, IfOk, map};
 ghost use Rattle.affine_forms.specs.Parts.{variables_of};
 ghost use Rattle.fractions.specs.Elimination.{narrowed};
 ghost use Rattle.fm_projection.specs.Projecting.{without_column};

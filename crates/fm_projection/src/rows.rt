@@ -1,7 +1,7 @@
 //! The loops of an elimination, each of which appends forms to a list.
 
-ghost use Rattle.std.specs.Prelude.{◌≡◌, ◌≢◌, ◌<◌, ◌≤◌, ◌∷◌, [], ◌++◌, pos, length, map, take, slice_index_or};
-ghost use Rattle.std.specs.Prelude.{All, IfOk, OnOk, Result};
+ghost use Rattle.std.specs.Prelude.{◌≡◌, ◌<◌, ◌∷◌, [], ◌++◌, length, map};
+ghost use Rattle.std.specs.Prelude.{All, OnOk, Result};
 ghost use Rattle.wide_math.specs.declared.Wide.{Wide};
 ghost use Rattle.whole_numbers.specs.Affine.{Affine};
 ghost use Rattle.whole_numbers.specs.Content.{lowest_of_form};

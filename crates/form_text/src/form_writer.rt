@@ -1,6 +1,6 @@
 //! Puts affine forms behind a text.
 
-ghost use Rattle.std.specs.Prelude.{◌≡◌, ◌++◌, ◌&&◌, codes, map, IfOk, OnOk};
+ghost use Rattle.std.specs.Prelude.{◌≡◌, ◌++◌, ◌&&◌, map, IfOk, OnOk};
 ghost use Rattle.whole_numbers.specs.Affine.{form_of};
 ghost use Rattle.form_text.specs.Forms.{constant_text, factor_text, form_text, is_zero, sign_text, signed_text};
 ghost use Rattle.form_text.specs.Forms.{term_text};

@@ -1,6 +1,6 @@
 //! Lowest terms: each number divided by the greatest common divisor of all.
-ghost use Rattle.std.specs.Prelude.{◌≡◌, ℕ, suc, ℤ, pos, ◌≤ℤ◌, List, ◌↔◌};
-ghost use Rattle.whole_numbers.specs.Affine.{Affine, multiple_of_form};
+ghost use Rattle.std.specs.Prelude.{◌≡◌, ℤ, pos, ◌≤ℤ◌, List, ◌↔◌};
+ghost use Rattle.whole_numbers.specs.Affine.{Affine};
 ghost use Rattle.whole_numbers.specs.Content.{lowest_of_form};
 ghost use Rattle.fractions.specs.Fractions.{value_over};
 

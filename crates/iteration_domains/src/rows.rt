@@ -1,7 +1,7 @@
 //! The rows of a statement and the forms of its point, from what stands round it, from the outside inwards.
-ghost use Rattle.std.specs.Prelude.{◌≡◌, ◌+◌, ◌<◌, ◌≤◌, ◌^◌, ◌++◌, ◌∷◌, [], All, IfOk, OnOk, length, map};
+ghost use Rattle.std.specs.Prelude.{◌≡◌, ◌+◌, ◌<◌, ◌≤◌, ◌^◌, ◌∷◌, [], All, IfOk, OnOk, length, map};
 ghost use Rattle.affine_forms.specs.Parts.{variables_of};
-ghost use Rattle.scop_syntax.specs.Kernel.{IsComparison, IsHead, test_form};
+ghost use Rattle.scop_syntax.specs.Kernel.{IsHead, test_form};
 ghost use Rattle.scop_syntax.specs.Statements.{round, under};
 ghost use Rattle.scop_syntax.specs.View.{test_of};
 ghost use Rattle.iteration_domains.specs.Path.{gathered_of, scope_of, scopes_of, shown};

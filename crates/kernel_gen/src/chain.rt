@@ -1,6 +1,6 @@
 //! A chain of statements, which a seed links.
 
-ghost use Rattle.std.specs.Prelude.{◌≡◌, ◌<◌, ◌≤◌, ◌*◌, ◌++◌, ◌∷◌, [], IfOk, OnOk, map};
+ghost use Rattle.std.specs.Prelude.{◌≡◌, ◌<◌, ◌*◌, ◌++◌, ◌∷◌, [], IfOk, OnOk, map};
 ghost use Rattle.scop_syntax.specs.View.{items_of, program_of, tree_of};
 ghost use Rattle.kernel_gen.specs.Programs.{chain, chain_body, chain_loop, chained, digit, linked};
 

@@ -1,8 +1,7 @@
 //! The text of a schedule, or the line that tells why the kernel's order is kept.
 
 ghost use Rattle.std.specs.Prelude.{IfOk};
-ghost use Rattle.conflict_deps.specs.Conflicts.{conflicts_of};
-ghost use Rattle.kernel_plans.specs.Planning.{line_of_kept, IsLineText, IsPlanOf};
+ghost use Rattle.kernel_plans.specs.Planning.{line_of_kept, IsPlanOf};
 
 use crate::lines::{line_of_kept, line_text};
 use conflict_deps::conflicts;

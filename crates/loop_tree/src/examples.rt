@@ -1,5 +1,5 @@
 //! The definitions at numbers.
-ghost use Rattle.std.specs.Prelude.{◌≡◌, pos, List, [], ◌∷◌, map};
+ghost use Rattle.std.specs.Prelude.{◌≡◌, pos, [], ◌∷◌, map};
 ghost use Rattle.loop_tree.specs.Walk.{walk_all};
 ghost use Rattle.loop_tree.specs.Scans.{key};
 ghost use Rattle.loop_tree.specs.Examples.{hull, keys_of_three, pieces};

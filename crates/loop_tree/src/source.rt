@@ -6,8 +6,6 @@ ghost use Rattle.std.specs.Prelude.{
   ◌<◌,
   ◌≤◌,
   ◌^◌,
-  ◌++◌,
-  ◌∷◌,
   [],
   All,
   IfOk,
@@ -29,7 +27,7 @@ ghost use Rattle.scop_syntax.specs.View.{items_of, program_of, test_of as compar
 ghost use Rattle.scop_syntax.specs.Walk.{instance, statements_in, statements_in_all, walk_of};
 ghost use Rattle.iteration_domains.specs.Path.{CanModel, path_of};
 ghost use Rattle.iteration_domains.specs.Rows.{variable, variables};
-ghost use Rattle.iteration_domains.specs.Sizes.{CanCompose, form_size};
+ghost use Rattle.iteration_domains.specs.Sizes.{form_size};
 ghost use Rattle.loop_tree.specs.Conditions.{CanWalk};
 ghost use Rattle.loop_tree.specs.Marks.{FlatAll};
 ghost use Rattle.loop_tree.specs.Shape.{AreSerial, TreesAreOf, TreesAreOver, TreesAreUpTo};

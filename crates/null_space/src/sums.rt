@@ -1,5 +1,5 @@
 //! Sums of products that 128 bits hold, as their conditions say.
-ghost use Rattle.std.specs.Prelude.{◌≡◌, ◌≤◌, ◌^◌, ℤ, pos, ◌+ℤ◌, ◌*ℤ◌, length, IfOk};
+ghost use Rattle.std.specs.Prelude.{◌≡◌, ◌≤◌, ◌^◌, ℤ, ◌+ℤ◌, ◌*ℤ◌, length, IfOk};
 ghost use Rattle.whole_numbers.specs.Lists.{dot, sums, multiples};
 ghost use Rattle.null_space.specs.Sizes.{IsWithin, AreWithin, AreCoefficients};
 

@@ -1,5 +1,5 @@
 //! Kernel vectors: kept from row to row, or made from rows at once.
-ghost use Rattle.std.specs.Prelude.{◌≡◌, ◌≤◌, ◌<◌, ◌^◌, ℤ, pos, All, length, map, set, drop, slice_index_or, [], ◌+◌, ◌++◌, IfOk};
+ghost use Rattle.std.specs.Prelude.{◌≡◌, ◌≤◌, ◌<◌, ◌^◌, pos, All, length, map, set, drop, slice_index_or, [], ◌+◌, ◌++◌, IfOk};
 ghost use Rattle.whole_numbers.specs.Lists.{dot, zeros};
 ghost use Rattle.whole_numbers.specs.Content.{lowest};
 ghost use Rattle.null_space.specs.Echelon.{AreKernelVectors};

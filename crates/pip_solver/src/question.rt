@@ -1,6 +1,6 @@
 //! A question: whether rows without parameters have a whole point. Each move is paid for before its numbers
 //! are formed.
-ghost use Rattle.std.specs.Prelude.{◌≡◌, ℕ, ◌+◌, ◌<◌, ◌≤◌, length, Ok, None, IfOk, suc};
+ghost use Rattle.std.specs.Prelude.{◌≡◌, ◌<◌, ◌≤◌, length, Ok, None};
 ghost use Rattle.tableau_rows.specs.Run.{cuts, next, pivots, run};
 ghost use Rattle.lexmin_runs.specs.Nodes.{answered};
 ghost use Rattle.pip_solver.specs.Promises.{Shows, Advances, Tells, stop_of};

@@ -1,5 +1,5 @@
 //! The run of a node: a loop over its steps with a stack of frames. Nothing recurses.
-ghost use Rattle.std.specs.Prelude.{◌≡◌, [], ◌∷◌, ◌++◌, ◌≤◌, length, reverse, OnOk};
+ghost use Rattle.std.specs.Prelude.{◌≡◌, [], ◌++◌, ◌≤◌, length, reverse, OnOk};
 ghost use Rattle.quast_trees.specs.Postfix.{standing};
 ghost use Rattle.lexmin_runs.specs.Nodes.{whole};
 ghost use Rattle.tableau_nodes.specs.Node.{node_of};

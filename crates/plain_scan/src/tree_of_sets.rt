@@ -1,7 +1,6 @@
 //! The tree of sets: the hull of all, dimension by dimension.
 
 ghost use Rattle.std.specs.Prelude.{◌≡◌, zero, ◌+◌, ◌<◌, ◌^◌, ℤ, List, [], All, IfErr, IfOk, length};
-ghost use Rattle.integer_sets.specs.Constraints.{variables_in};
 ghost use Rattle.fm_projection.specs.Alone.{AreInRange};
 ghost use Rattle.loop_tree.specs.Walk.{walk_all};
 ghost use Rattle.loop_tree.specs.Scans.{Exact};

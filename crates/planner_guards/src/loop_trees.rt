@@ -1,5 +1,5 @@
 //! Callers of loop trees: the source's own, walks, guards, and what marks say.
-ghost use Rattle.std.specs.Prelude.{◌≡◌, ◌^◌, ◌++◌, [], ◌∷◌, IfOk, IsNone, List, false, map, true, ℤ};
+ghost use Rattle.std.specs.Prelude.{◌≡◌, ◌^◌, ◌++◌, [], ◌∷◌, IfOk, IsNone, false, map, true};
 ghost use Rattle.scop_syntax.specs.Kernel.{IsKernel};
 ghost use Rattle.scop_syntax.specs.Limits.{HasParameters};
 ghost use Rattle.scop_syntax.specs.Members.{In};

@@ -1,5 +1,5 @@
 //! Callers of what a row is to the pairs of a dependence: the laws without parameters.
-ghost use Rattle.std.specs.Prelude.{◌≡◌, ◌∷◌, [], ℕ, ℤ, pos, ◌<ℤ◌, ◌+ℤ◌, ◌-ℤ◌, ◌≤ℤ◌, List, length};
+ghost use Rattle.std.specs.Prelude.{◌≡◌, ◌∷◌, [], ℕ, ℤ, pos, ◌<ℤ◌, ◌+ℤ◌, ◌-ℤ◌, ◌≤ℤ◌, length};
 ghost use Rattle.whole_numbers.specs.Lists.{dot};
 ghost use Rattle.whole_numbers.specs.Lexicographic.{LexLess};
 ghost use Rattle.scop_syntax.specs.Walk.{Instance};

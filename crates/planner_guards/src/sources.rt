@@ -1,5 +1,5 @@
 //! Callers of the sources of reads.
-ghost use Rattle.std.specs.Prelude.{◌≡◌, ◌≢◌, [], ℕ, List, IfOk, None, Some, slice_get};
+ghost use Rattle.std.specs.Prelude.{◌≡◌, ◌≢◌, [], ℕ, IfOk, None, Some, slice_get};
 ghost use Rattle.quast_trees.specs.Leaf.{initial};
 ghost use Rattle.quast_trees.specs.Postfix.{Postfix, tree_of};
 ghost use Rattle.quast_trees.specs.Value.{value};

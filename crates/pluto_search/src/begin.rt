@@ -1,6 +1,5 @@
 //! Where the search begins.
-ghost use Rattle.std.specs.Prelude.{◌≡◌, ℕ, ◌≤◌, [], All, IfOk, length, map};
-ghost use Rattle.iteration_domains.specs.Dependence.{Dependence};
+ghost use Rattle.std.specs.Prelude.{◌≡◌, ℕ, ◌≤◌, [], All, IfOk, map};
 ghost use Rattle.null_space.specs.Narrowing.{kernel_vectors};
 ghost use Rattle.schedule_rows.specs.Outcomes.{state};
 ghost use Rattle.pluto_search.specs.Steps.{AreBetween, state_of, IsGood};

@@ -1,9 +1,7 @@
 //! Where a band ends: a scalar item that drops dependences, the end of the search, or why nothing goes on.
 ghost use Rattle.std.specs.Prelude.{◌≡◌, ◌<◌, ◌≤◌, ◌++◌, ◌∷◌, [], true, false, ℕ};
-ghost use Rattle.std.specs.Prelude.{List, All, IfOk, OnOk, length, map, Option, None, Some, ◌⊎◌};
+ghost use Rattle.std.specs.Prelude.{IfOk, length, map, Option, None, Some, ◌⊎◌};
 ghost use Rattle.std.specs.Option.{ForSome};
-ghost use Rattle.scop_syntax.specs.Members.{In};
-ghost use Rattle.iteration_domains.specs.Dependence.{Dependence};
 ghost use Rattle.stmt_graph.specs.Graph.{IsNumbering, number_in};
 ghost use Rattle.schedule_rows.specs.Dependences.{edges_of};
 ghost use Rattle.schedule_rows.specs.Items.{closed_by, scalar};
@@ -92,7 +90,9 @@ fn copies(alloc: Global, ruled: &[Ruled]) -> Result<Vec<Dep>, AllocError>
 fn edges(alloc: Global, deps: &[Dep]) -> Result<Vec<(usize, usize)>, AllocError>
     ensures { IfOk result (λ v. v.items ≡ edges_of deps.now) }
 {
-    deps.iter().map(|dep| (dep.source.statement, dep.target.statement)).collect(alloc)
+    deps.iter()
+        .map(|dep| (dep.source.statement, dep.target.statement))
+        .collect(alloc)
 }
 
 /// The numbers of the components of n statements.

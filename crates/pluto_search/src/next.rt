@@ -2,7 +2,7 @@
 ghost use Rattle.std.specs.Prelude.{◌≡◌, true, false, ◌≤◌, ◌++◌, [], All, IfOk, IfErr, length, map, suc, ◌+◌};
 ghost use Rattle.scop_syntax.specs.Members.{In};
 ghost use Rattle.iteration_domains.specs.Dependence.{Dependence};
-ghost use Rattle.schedule_rows.specs.Next.{rows_of, Restricts};
+ghost use Rattle.schedule_rows.specs.Next.{rows_of};
 ghost use Rattle.schedule_rows.specs.Posed.{IsFull};
 ghost use Rattle.schedule_rows.specs.Outcomes.{items_in};
 ghost use Rattle.schedule_rows.specs.Schedule.{block_of, marked_of};

@@ -1,6 +1,6 @@
 //! Dependences restricted to equal values of rows, or to pairs at which a row rises, and whether they are empty.
 ghost use Rattle.std.specs.Prelude.{◌≡◌, ◌<◌, ◌++◌, pos, negsuc, ◌+ℤ◌, ◌-ℤ◌, ◌*ℤ◌, ◌⊎◌, true};
-ghost use Rattle.std.specs.Prelude.{false, ℕ, List, All, IfErr, IfOk, OnOk, length, map, Ok};
+ghost use Rattle.std.specs.Prelude.{false, All, IfErr, IfOk, OnOk, length, map, Ok};
 ghost use Rattle.whole_numbers.specs.Affine.{form_of};
 ghost use Rattle.whole_numbers.specs.Lists.{multiples, zeros};
 ghost use Rattle.scop_syntax.specs.Members.{In};

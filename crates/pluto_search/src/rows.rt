@@ -1,10 +1,10 @@
 //! A next row: made of its numbers, within bounds, parallel or not, and what it leaves of the kernel vectors.
-ghost use Rattle.std.specs.Prelude.{◌≡◌, ◌<◌, ◌++◌, ◌∷◌, [], true, false, ℕ, ℤ, pos, ◌≤ℤ◌};
-ghost use Rattle.std.specs.Prelude.{List, All, IfErr, IfOk, Ok, length, map, reverse, take, slice_index_or, ◌↔◌};
+ghost use Rattle.std.specs.Prelude.{◌≡◌, ◌<◌, true, false, ℤ, pos, ◌≤ℤ◌};
+ghost use Rattle.std.specs.Prelude.{All, IfErr, IfOk, Ok, length, map, reverse, take, slice_index_or};
 ghost use Rattle.scop_syntax.specs.Members.{In};
 ghost use Rattle.iteration_domains.specs.Dependence.{Dependence};
 ghost use Rattle.null_space.specs.Narrowing.{narrowed_by};
-ghost use Rattle.schedule_rows.specs.Dependences.{IsEmptyDep, IsEqualAt, above_at};
+ghost use Rattle.schedule_rows.specs.Dependences.{IsEmptyDep, above_at};
 ghost use Rattle.schedule_rows.specs.Next.{IsWithin};
 ghost use Rattle.schedule_rows.specs.Schedule.{row_of};
 ghost use Rattle.pluto_systems.specs.Placing.{columns_of, row_from};

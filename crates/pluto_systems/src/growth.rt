@@ -1,9 +1,9 @@
 //! Rows by which a statement's coefficients grow the rank of those before: their products with the kernel vectors are
 //! not negative, and some product is positive.
-ghost use Rattle.std.specs.Prelude.{◌≡◌, ◌≤◌, ◌<◌, ◌*◌, ◌+◌, ◌^◌, ◌++◌, ℤ, ◌+ℤ◌, pos, negsuc, [], ◌∷◌, All, IfOk};
+ghost use Rattle.std.specs.Prelude.{◌≡◌, ◌≤◌, ◌<◌, ◌*◌, ◌+◌, ◌^◌, ◌++◌, ℤ, ◌+ℤ◌, [], All, IfOk};
 ghost use Rattle.std.specs.Prelude.{OnOk, length, drop, map, slice_index_or};
 ghost use Rattle.whole_numbers.specs.Lists.{sums};
-ghost use Rattle.null_space.specs.Sizes.{IsWithin, AreWithin, AreLong, AreNarrow};
+ghost use Rattle.null_space.specs.Sizes.{IsWithin, AreWithin, AreLong};
 ghost use Rattle.pluto_systems.specs.Posing.{own_form, own_row, added, growth_rows};
 
 use crate::placing::placed;

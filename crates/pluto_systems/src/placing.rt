@@ -1,5 +1,5 @@
 //! Forms over the unknowns of a dependence's two statements as forms over all columns of the objective.
-ghost use Rattle.std.specs.Prelude.{◌≡◌, ◌≤◌, ◌++◌, All, IfOk, OnOk, length, take, drop, map};
+ghost use Rattle.std.specs.Prelude.{◌≡◌, ◌≤◌, ◌++◌, All, IfOk, OnOk, take, drop, map};
 ghost use Rattle.pluto_systems.specs.Placing.{is_end, placed_parts, placed};
 
 use affine_forms::{Form, push};

@@ -1,5 +1,5 @@
 //! A quast made node by node, in postfix order, by a run that goes depth first: no node moves.
-ghost use Rattle.std.specs.Prelude.{◌≡◌, ◌≤◌, pos, ◌≤ℤ◌, [], ◌∷◌, length, OnOk, OnErr};
+ghost use Rattle.std.specs.Prelude.{◌≡◌, ◌≤◌, [], ◌∷◌, length, OnOk, OnErr};
 ghost use Rattle.quast_trees.specs.Tree.{initial, leaf, Speaks};
 ghost use Rattle.quast_trees.specs.Tree as Tree;
 ghost use Rattle.quast_trees.specs.Source.{unnamed};

@@ -5,7 +5,6 @@ ghost use Rattle.schedule_rows.specs.Outcomes.{IsSchedule};
 ghost use Rattle.schedule_rows.specs.Schedule.{row, item_of, marked_of, block_of, loops_in};
 ghost use Rattle.schedule_rows.specs.Schedule.{items_of, bands_from, marks_of};
 ghost use Rattle.schedule_rows.specs.Schedule.{scheduled, IsScheduled, IsMarked};
-ghost use Rattle.schedule_rows.specs.Items.{band};
 
 use crate::item::{Band, Block, Item, Marked};
 use iteration_domains::{Dep, Model};

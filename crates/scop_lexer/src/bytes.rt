@@ -2,7 +2,7 @@
 
 ghost use Rattle.std.specs.Prelude.{◌≡◌, ◌≤◌, length, get_or};
 ghost use Rattle.std.specs.List.{prefix_len};
-ghost use Rattle.scop_lexer.specs.Bytes.{is_blank, is_letter, is_digit, is_word_byte, is_in_line, is_fresh};
+ghost use Rattle.scop_lexer.specs.Bytes.{is_blank, is_letter, is_word_byte, is_in_line, is_fresh};
 
 /// The byte at a place, 0 behind the end.
 pub(crate) fn byte_at(text: &[u8], at: usize) -> u8

@@ -113,7 +113,10 @@ pub fn starts(alloc: Global, text: &[u8]) -> Result<Vec<u32>, Stop>
 fn tokens_from(alloc: Global, text: &[u8], starts: &[u32]) -> Result<Vec<Token>, AllocError>
     ensures { IfOk result (λ tokens. tokens.items ≡ tokens_at text.now starts.now) }
 {
-    starts.iter().map(|start| token_at(text, *start as usize)).collect(alloc)
+    starts
+        .iter()
+        .map(|start| token_at(text, *start as usize))
+        .collect(alloc)
 }
 
 /// The tokens of a text, in order, each by its kind and its span, or the text's first fault.

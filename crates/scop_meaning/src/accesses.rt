@@ -1,6 +1,6 @@
 //! The accesses of a statement by their numbers, and the numbers of the cells that they touch among
 //! those of all arrays.
-ghost use Rattle.std.specs.Prelude.{◌≡◌, ◌<◌, ◌≤◌, ◌^◌, All, Some, length, slice_get, take};
+ghost use Rattle.std.specs.Prelude.{◌≡◌, ◌<◌, ◌≤◌, ◌^◌, Some, length, slice_get, take};
 ghost use Rattle.scop_syntax.specs.Cells.{accesses, cell_of, reads as reads_by, reads_of};
 ghost use Rattle.scop_syntax.specs.Execution.{IsCell, cell_count, cell_number, total_cells};
 ghost use Rattle.scop_syntax.specs.View.{expression_of, statement_of};

@@ -2,7 +2,7 @@
 //! touches. Its statement is found by its number, going down the tree, with the iterators of its
 //! turns on a stack of fixed size. It takes no memory.
 ghost use Rattle.std.specs.Prelude.{◌≡◌, ◌<◌, ◌≤◌, Some, length, map, slice_get};
-ghost use Rattle.scop_syntax.specs.Acts.{Act, act_of};
+ghost use Rattle.scop_syntax.specs.Acts.{act_of};
 ghost use Rattle.scop_syntax.specs.Cells.{accesses, cell_of, reads as reads_by};
 ghost use Rattle.scop_syntax.specs.Execution.{IsInside, cell_number, layout};
 ghost use Rattle.scop_syntax.specs.Limits.{WithinLimits};

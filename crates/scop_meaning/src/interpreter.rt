@@ -1,8 +1,7 @@
 //! The interpreter: it goes over the tree as the walk does, with the parameters and the iterators of
 //! the loops that it stands in on a stack of fixed size. It takes no memory, and its time is linear
 //! in the number of turns and instances.
-ghost use Rattle.std.specs.Prelude.{◌≡◌, ◌<◌, pos};
-ghost use Rattle.whole_numbers.specs.Affine.{value_of};
+ghost use Rattle.std.specs.Prelude.{◌≡◌, pos};
 ghost use Rattle.scop_syntax.specs.Acts.{acts, acts_all};
 ghost use Rattle.scop_syntax.specs.Cells.{Cell};
 ghost use Rattle.scop_syntax.specs.Execution.{IsCell, IsInside, IsShaped, exec, held, layout as layout_of};

@@ -1,6 +1,6 @@
 //! What is open, and what completes it: blocks, conditions, loops' heads and statements.
 
-ghost use Rattle.std.specs.Prelude.{◌≡◌, ◌+◌, ◌-◌, ◌<◌, ◌^◌, ◌++◌, ◌∷◌, [], Ok, OnOk, length, map, replicate, take};
+ghost use Rattle.std.specs.Prelude.{◌≡◌, ◌+◌, ◌-◌, ◌<◌, ◌^◌, ◌++◌, ◌∷◌, [], Ok, OnOk, length, map, replicate};
 ghost use Rattle.std.specs.Prelude.{true};
 ghost use Rattle.scop_syntax.specs.Tree as scop;
 ghost use Rattle.scop_syntax.specs.View.{test_of, tree_of};

@@ -1,5 +1,5 @@
 //! Expressions without parentheses, each name looked up, each node with the place of its token.
-ghost use Rattle.std.specs.Prelude.{[], ◌++◌, ◌≡◌, ◌+◌, ◌==◌, ◌<◌, ◌^◌, ◌∷◌, ℕ, IfOk, OnOk, map};
+ghost use Rattle.std.specs.Prelude.{◌≡◌, ◌+◌, ◌==◌, ◌<◌, ◌^◌, ◌∷◌, IfOk, OnOk, map};
 ghost use Rattle.expression_grammar.specs.declared.token.Op.TheVariants as op;
 ghost use Rattle.std.specs.List.{fold};
 ghost use Rattle.expression_grammar.specs.Tree.{Tree, written};

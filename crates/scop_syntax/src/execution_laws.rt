@@ -1,9 +1,9 @@
 //! Laws of the execution, as contracts of functions that do nothing: what a cell holds, by its last
 //! writer, and where cells lie.
-ghost use Rattle.std.specs.Prelude.{◌≡◌, ℕ, ◌+◌, ◌<◌, ◌≤◌, List, [], length, map, slice_get, Some, None, true, false};
+ghost use Rattle.std.specs.Prelude.{◌≡◌, ℕ, ◌+◌, ◌<◌, ◌≤◌, List, length, map, slice_get, Some, None, false};
 ghost use Rattle.scop_syntax.specs.Walk.{Visit};
 ghost use Rattle.scop_syntax.specs.Cells.{Cell, PlacesConflict, cells_read, written};
-ghost use Rattle.scop_syntax.specs.Execution.{AreInside, IsCell, IsShaped, before_place, cell_number, held, performed};
+ghost use Rattle.scop_syntax.specs.Execution.{AreInside, IsCell, IsShaped, before_place, cell_number, held};
 ghost use Rattle.scop_syntax.specs.Execution.{performed_all, stored, total_cells, value_stored_at, values_read_at};
 ghost use Rattle.scop_syntax.specs.Writers.{IsLast, IsNext, last_of, last_writer, left_by, next_of, next_writer};
 ghost use Rattle.scop_syntax.specs.Writers.{writes};

@@ -1,5 +1,5 @@
 //! Laws of the walk, as contracts of functions that do nothing.
-ghost use Rattle.std.specs.Prelude.{◌≡◌, ℕ, ◌+◌, ◌<◌, ◌↔◌, ℤ, pos, List, length, map, slice_get, Some};
+ghost use Rattle.std.specs.Prelude.{◌≡◌, ℕ, ◌<◌, ◌↔◌, ℤ, pos, List, length, map, slice_get, Some};
 ghost use Rattle.std.specs.List.{flat_map, range_with_len};
 ghost use Rattle.scop_syntax.specs.Tree.{Head, Program};
 ghost use Rattle.scop_syntax.specs.Walk.{Falls, RunsFor, Visit, condition_at, loop_walk, walk_of};

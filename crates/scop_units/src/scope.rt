@@ -1,10 +1,10 @@
 //! Names in scope, and what they mean.
 
-ghost use Rattle.std.specs.Prelude.{◌≡◌, ◌<◌, ◌≤◌, ◌++◌, ◌∷◌, [], ℕ, IfOk, IfSome, OnOk, length, map};
+ghost use Rattle.std.specs.Prelude.{◌≡◌, ◌<◌, ◌≤◌, IfOk, IfSome, OnOk, length, map};
 ghost use Rattle.scop_units.specs.Scopes.{array_in, entries, is_reserved, iterator_fault, meaning_in, no_scope};
 ghost use Rattle.scop_units.specs.Scopes.{number_inside, number_of, outer_meaning, redeclared, with_iterator};
 ghost use Rattle.scop_units.specs.Scopes.{with_loop};
-ghost use Rattle.scop_units.specs.View.{ranked, scope_of, scope_within, words_in};
+ghost use Rattle.scop_units.specs.View.{ranked, scope_of};
 
 use crate::words::Words;
 use scop_roles::fault::Kind;

@@ -1,8 +1,8 @@
 //! What is judged at once: a declared name, an array with its extents, a statement.
 
-ghost use Rattle.std.specs.Prelude.{◌≡◌, ◌++◌, IfOk, None, map, slice_get, true};
+ghost use Rattle.std.specs.Prelude.{◌≡◌, IfOk, None, map, slice_get, true};
 ghost use Rattle.scop_roles.specs.declared.formula.Role.TheVariants as role;
-ghost use Rattle.scop_roles.specs.Faults.{faults, first, is_count, only_where, own_rank, told};
+ghost use Rattle.scop_roles.specs.Faults.{first, is_count, only_where, own_rank, told};
 ghost use Rattle.scop_roles.specs.Formula.{formula_of};
 ghost use Rattle.scop_roles.specs.Values.{count};
 ghost use Rattle.scop_syntax.specs.View.{right_of as code_right, statement_of as code_statement};

@@ -1,6 +1,6 @@
 //! The rows of a node's hull that bound its loop, and what is known within the loop.
 
-ghost use Rattle.std.specs.Prelude.{◌≡◌, ◌+◌, ◌<◌, ◌≤◌, ◌≤ℤ◌, ◌^◌, ◌++◌, [], ◌∷◌, List, All, IfOk, IsTrue, OnOk, ℕ};
+ghost use Rattle.std.specs.Prelude.{◌≡◌, ◌+◌, ◌<◌, ◌≤◌, ◌≤ℤ◌, ◌^◌, ◌++◌, [], ◌∷◌, List, All, IfOk, IsTrue, OnOk};
 ghost use Rattle.std.specs.Prelude.{suc};
 ghost use Rattle.std.specs.Prelude.{length, map, pos, ℤ};
 ghost use Rattle.whole_numbers.specs.Affine.{Affine};

@@ -1,6 +1,6 @@
 //! A node cut into parts by the rows of its sets' shadows.
 
-ghost use Rattle.std.specs.Prelude.{◌≡◌, ℕ, suc, Bool, ◌+◌, ◌<◌, ◌≤◌, ◌++◌, [], ◌∷◌, List, ℤ, All, IfOk, OnOk, length};
+ghost use Rattle.std.specs.Prelude.{◌≡◌, ℕ, suc, Bool, ◌+◌, ◌<◌, ◌++◌, [], ◌∷◌, List, ℤ, All, IfOk, OnOk, length};
 ghost use Rattle.affine_forms.specs.Parts.{variables_of};
 ghost use Rattle.integer_sets.specs.Scanned.{Scanned};
 ghost use Rattle.plain_scan.specs.Between.{HasSmallNumbers};

@@ -1,6 +1,6 @@
 //! The trees of a node, from the outermost dimension in.
 
-ghost use Rattle.std.specs.Prelude.{◌≡◌, ℕ, suc, ◌+◌, ◌<◌, ◌≤◌, ◌^◌, ◌++◌, [], ◌∷◌, List, All, IfOk, IsTrue, OnOk};
+ghost use Rattle.std.specs.Prelude.{◌≡◌, ℕ, suc, ◌+◌, ◌<◌, ◌^◌, ◌++◌, [], ◌∷◌, List, All, IfOk, IsTrue, OnOk};
 ghost use Rattle.std.specs.Prelude.{length, map};
 ghost use Rattle.whole_numbers.specs.Affine.{Affine};
 ghost use Rattle.affine_forms.specs.Parts.{variables_of};

@@ -1,12 +1,11 @@
 //! Parts of a node in an order in which their loops may run one after another.
 
-ghost use Rattle.std.specs.Prelude.{◌≡◌, ℕ, Bool, true, ◌+◌, ◌<◌, ◌≤◌, ◌++◌, [], ◌∷◌, List, ℤ, All, IfOk, IsTrue};
+ghost use Rattle.std.specs.Prelude.{◌≡◌, ℕ, Bool, true, ◌+◌, ◌<◌, ◌≤◌, ◌++◌, [], ◌∷◌, List, All, IfOk, IsTrue};
 ghost use Rattle.std.specs.Prelude.{OnOk, length, take};
 ghost use Rattle.std.specs.Prelude.{drop, get_or, false};
 ghost use Rattle.affine_forms.specs.Parts.{variables_of};
 ghost use Rattle.integer_sets.specs.Scanned.{Scanned};
-ghost use Rattle.split_scan.specs.Questions.{IsIn};
-ghost use Rattle.split_scan.specs.Parts.{HasMarks, InPart, IsPart};
+ghost use Rattle.split_scan.specs.Parts.{HasMarks, IsPart};
 ghost use Rattle.split_scan.specs.Ordering.{AreBelow, AreEnoughParts, AreParts, IsBelowAll, Rise, difference};
 ghost use Rattle.split_scan.specs.steps.Picking.{IsPicking};
 ghost use Rattle.split_scan.specs.declared.part.Part.{Part};

@@ -1,5 +1,5 @@
 //! Component after component gets its number.
-ghost use Rattle.std.specs.Prelude.{◌≡◌, ℕ, ◌<◌, ◌≤◌, length, map, replicate, IfOk};
+ghost use Rattle.std.specs.Prelude.{◌≡◌, ◌<◌, length, map, replicate, IfOk};
 ghost use Rattle.stmt_graph.specs.Graph.{AreWithin, IsNumbering};
 ghost use Rattle.stmt_graph.specs.Closure.{AreSquare, joined, Frees, IsNext, IsGiven};
 

@@ -1,6 +1,6 @@
 //! A node: a tableau, a context of rows over its parameters, and the parameters that cuts have bound. A move changes
 //! it in place; a cut or a split takes its memory before it changes anything.
-ghost use Rattle.std.specs.Prelude.{◌≡◌, ℕ, suc, ◌+◌, ◌<◌, length, All, None, Some, Ok, Err, IfOk, IfErr, OnOk};
+ghost use Rattle.std.specs.Prelude.{◌≡◌, ℕ, ◌+◌, ◌<◌, length, All, None, Some, Ok, Err, IfOk, IfErr, OnOk};
 ghost use Rattle.affine_forms.specs.Gives.{Gives};
 ghost use Rattle.affine_forms.specs.Parts.{variables_of};
 ghost use Rattle.wide_math.specs.declared.Wide.{Wide};

@@ -1,6 +1,6 @@
 //! Callers of what the expressions of a text are worth: the laws at the point without coordinates, where no name means
 //! a number.
-ghost use Rattle.std.specs.Prelude.{◌+ℤ◌, ◌++◌, ◌∷◌, ◌≡◌, ◌≢◌, ◌≤◌, ◌≤ℤ◌, ◌^◌, ℕ, ℤ, [], List, None, false, map, pos};
+ghost use Rattle.std.specs.Prelude.{◌+ℤ◌, ◌∷◌, ◌≡◌, ◌≢◌, ◌≤◌, ◌≤ℤ◌, ◌^◌, ℕ, ℤ, [], List, None, false, map, pos};
 ghost use Rattle.std.specs.Prelude.{unsigned_abs};
 ghost use Rattle.expression_grammar.specs.Grammar.{IsExpression};
 ghost use Rattle.expression_grammar.specs.Tree.{Tree};

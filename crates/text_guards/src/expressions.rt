@@ -1,5 +1,5 @@
 //! Callers of the reader of expressions.
-ghost use Rattle.std.specs.Prelude.{◌≡◌, IfErr, IfOk};
+ghost use Rattle.std.specs.Prelude.{IfErr, IfOk};
 ghost use Rattle.expression_grammar.specs.Promises.{IsRead};
 ghost use Rattle.expression_grammar.specs.Gives.{IsStop};
 ghost use Rattle.expression_grammar.specs.declared.reader.TheConstants.{MOST_BRACKETS, MOST_OPERATORS};

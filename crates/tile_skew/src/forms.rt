@@ -1,7 +1,6 @@
 //! Forms over the variables of a scan set.
-ghost use Rattle.std.specs.Prelude.{◌≡◌, ◌+◌, ◌<◌, ◌≤◌, ◌^◌, ◌++◌, ◌∷◌, [], pos, neg_ℤ, ◌≤ℤ◌, IfOk, OnOk, length, map};
+ghost use Rattle.std.specs.Prelude.{◌≡◌, ◌+◌, ◌<◌, ◌≤◌, ◌^◌, ◌++◌, ◌∷◌, [], pos, ◌≤ℤ◌, IfOk, OnOk, length};
 ghost use Rattle.affine_forms.specs.Parts.{variables_of};
-ghost use Rattle.whole_numbers.specs.Affine.{form_of};
 ghost use Rattle.whole_numbers.specs.Lists.{zeros};
 ghost use Rattle.conflict_deps.specs.Conflicts.{spread};
 ghost use Rattle.tile_skew.specs.ScanSets.{carried, carried_form, domain_form, have_values, number_form, row_form};

@@ -5,7 +5,7 @@ ghost use Rattle.loop_tree.specs.TilingView.{item_of as tile_item_of, items_of a
 ghost use Rattle.schedule_rows.specs.Schedule.{item_of, row, row_of, loops_in, IsScheduled};
 ghost use Rattle.schedule_rows.specs.Posed.{loops_of};
 ghost use Rattle.schedule_rows.specs.Sized.{IsSmall};
-ghost use Rattle.tile_skew.specs.Tilings.{form_at, schedule_tiling, statement_items, statements_from};
+ghost use Rattle.tile_skew.specs.Tilings.{form_at, schedule_tiling, statement_items};
 ghost use Rattle.tile_skew.specs.steps.Sizes.{FitsItem, FitsTurns};
 ghost use Rattle.tile_skew.specs.steps.Listed.{AreBounds, HasStatement, IsInside, item_at, leading_in, rows_in};
 
@@ -29,7 +29,11 @@ fn part_form(alloc: Global, part: &Part) -> Result<Aff, AllocError>
     requires shift { IsSmall part.now.shift }
     ensures { IfOk result (λ f. f ≡ form_of part.now.coefficients.items part.now.shift) }
 {
-    let coefficients = part.coefficients.iter().map(|number| narrow(*number)).collect(alloc)?;
+    let coefficients = part
+        .coefficients
+        .iter()
+        .map(|number| narrow(*number))
+        .collect(alloc)?;
     Ok(Aff {
         coefficients,
         constant: narrow(part.shift),

@@ -1,5 +1,5 @@
 //! The scan sets of a schedule: of each statement the set of its instances at their places.
-ghost use Rattle.std.specs.Prelude.{◌≡◌, ◌+◌, ◌<◌, ◌≤◌, ◌^◌, ◌++◌, ◌∷◌, [], All, pos, ◌≤ℤ◌, IfOk, OnOk, length, map};
+ghost use Rattle.std.specs.Prelude.{◌≡◌, ◌+◌, ◌<◌, ◌≤◌, ◌^◌, ◌++◌, ◌∷◌, [], All, pos, IfOk, OnOk, length, map};
 ghost use Rattle.affine_forms.specs.Parts.{variables_of};
 ghost use Rattle.iteration_domains.specs.Rows.{variable};
 ghost use Rattle.loop_tree.specs.TilingView.{item_of, items_of};

@@ -1,6 +1,6 @@
 //! Questions whether something holds wherever a context speaks. Where the solver stops, the answer is no.
 
-ghost use Rattle.std.specs.Prelude.{◌≡◌, ◌+◌, ◌++◌, ◌≤ℤ◌, All, IfOk, IsTrue, List, OnOk, false, map, not, pos, true, ℤ};
+ghost use Rattle.std.specs.Prelude.{◌≡◌, ◌+◌, ◌++◌, ◌≤ℤ◌, All, IfOk, List, false, map, pos, true, ℤ};
 ghost use Rattle.whole_numbers.specs.Affine.{value_of};
 ghost use Rattle.whole_numbers.specs.Lists.{NotNegative};
 ghost use Rattle.affine_forms.specs.Parts.{variables_of};
