@@ -1,6 +1,6 @@
 //! Rows of a context. Promises exactly those of specs/steps/Context.antt.
 
-ghost use Rattle.std.specs.Prelude.{◌≡◌, ◌≤◌, ◌++◌, ◌∷◌, [], ◌+ℤ◌, ◌*ℤ◌, All, IfOk, OnOk, false, insert, length, map};
+ghost use Rattle.std.specs.Prelude.{◌≡◌, ◌≤◌, ◌++◌, ◌+ℤ◌, ◌*ℤ◌, All, IfOk, OnOk, false, insert, length, map};
 ghost use Rattle.whole_numbers.specs.Affine.{form_of};
 ghost use Rattle.whole_numbers.specs.Lists.{multiples};
 ghost use Rattle.affine_forms.specs.Parts.{variables_of};

@@ -1,5 +1,5 @@
 //! Forms of a tree, wide for sums and narrow again: each number of a new tree lies within 2^45.
-ghost use Rattle.std.specs.Prelude.{◌≡◌, ◌≤◌, ◌^◌, ◌++◌, ◌∷◌, [], All, IfOk, IfSome, OnOk, length, unsigned_abs};
+ghost use Rattle.std.specs.Prelude.{◌≡◌, ◌≤◌, ◌^◌, All, IfOk, IfSome, length, unsigned_abs};
 ghost use Rattle.whole_numbers.specs.Affine.{composed};
 ghost use Rattle.scop_syntax.specs.Kernel.{AreAtMost};
 ghost use Rattle.loop_tree.specs.Shape.{IsOver, IsUpTo};

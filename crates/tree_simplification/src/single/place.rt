@@ -1,10 +1,9 @@
 //! Where the walk stands: what the values of the old loops round a node are, as forms over the new loops and the
 //! parameters.
-ghost use Rattle.std.specs.Prelude.{◌≡◌, ◌+◌, ◌-◌, ◌<◌, ◌≤◌, ◌^◌, ◌++◌, ◌∷◌, [], All, IfOk, OnOk, drop, length, map};
-ghost use Rattle.std.specs.Prelude.{pos, take};
-ghost use Rattle.iteration_domains.specs.Rows.{variable, variables};
+ghost use Rattle.std.specs.Prelude.{◌≡◌, ◌+◌, ◌-◌, ◌<◌, ◌≤◌, ◌^◌, ◌++◌, ◌∷◌, [], All, IfOk, OnOk};
+ghost use Rattle.iteration_domains.specs.Rows.{variables};
 ghost use Rattle.loop_tree.specs.Shape.{IsOver};
-ghost use Rattle.tree_simplification.specs.steps.Inlined.{inside, widened};
+ghost use Rattle.tree_simplification.specs.steps.Inlined.{inside};
 
 use crate::rows::widen_all;
 use crate::single::numbers::wide;
