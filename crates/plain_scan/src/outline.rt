@@ -1,7 +1,7 @@
 //! The projections of a set, dimension by dimension: rows that hold there, and numbers between which the dimension
 //! lies.
 
-ghost use Rattle.std.specs.Prelude.{◌≡◌, ◌<◌, ◌^◌, ◌++◌, [], ◌∷◌, IfErr};
+ghost use Rattle.std.specs.Prelude.{◌≡◌, ◌<◌, ◌^◌, IfErr};
 ghost use Rattle.std.specs.Prelude.{IfOk, MatchOption, None, OnOk, IfSome, Ok, Err};
 ghost use Rattle.affine_forms.specs.Parts.{variables_of};
 ghost use Rattle.integer_sets.specs.Constraints.{Constraints, variables_in};
