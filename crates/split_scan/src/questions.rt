@@ -1,6 +1,6 @@
 //! Questions whether rows hold at some whole point.
 
-ghost use Rattle.std.specs.Prelude.{◌≡◌, ◌+◌, ◌<◌, ◌≤◌, ◌++◌, [], ◌∷◌, All, IfOk, IsTrue, OnOk, map};
+ghost use Rattle.std.specs.Prelude.{◌≡◌, ◌+◌, ◌<◌, ◌≤◌, ◌++◌, All, IfOk, IsTrue, OnOk, map};
 ghost use Rattle.whole_numbers.specs.Affine.{complement};
 ghost use Rattle.affine_forms.specs.Parts.{variables_of};
 ghost use Rattle.plain_scan.specs.Between.{HasSmallNumbers};
