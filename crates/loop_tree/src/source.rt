@@ -6,8 +6,6 @@ ghost use Rattle.std.specs.Prelude.{
   ◌<◌,
   ◌≤◌,
   ◌^◌,
-  ◌++◌,
-  ◌∷◌,
   [],
   All,
   IfOk,
