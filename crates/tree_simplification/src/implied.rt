@@ -7,7 +7,7 @@ ghost use Rattle.loop_tree.specs.Marks.{AreBounds, FlatAll};
 ghost use Rattle.loop_tree.specs.Shape.{BoundsAreOver, TreesAreOver, TreesAreUpTo};
 ghost use Rattle.loop_tree.specs.Tree.{guard as guards, instance, loop as loops, more, none};
 ghost use Rattle.loop_tree.specs.View.{bounds_in, nodes_of, test_of, tree_of, trees_in};
-ghost use Rattle.tree_simplification.specs.steps.Context.{outside, parts};
+ghost use Rattle.tree_simplification.specs.steps.Context.{parts};
 ghost use Rattle.tree_simplification.specs.steps.ContextView.{context_of};
 ghost use Rattle.tree_simplification.specs.steps.Joined.{joined};
 ghost use Rattle.tree_simplification.specs.steps.Trimmed.{CanTrim, IsEntered, IsTrimmed, Trims, TrimsAll};
@@ -214,21 +214,6 @@ fn trim_guard(
     guarded(alloc, tests, nodes)
 }
 
-/// What is left of a tree.
-fn trim_tree(alloc: Global, tree: &Tree, parameters: usize, budget: u64) -> Result<Tree, AllocError>
-    requires { CanTrim (outside parameters) (trees_in tree.now) }
-    ensures { IfOk result (λ t. TrimsAll (outside parameters) (trees_in tree.now) (trees_in t)) }
-{
-    let context = Context {
-        loops: 0,
-        parameters,
-        natural: true,
-        rows: Vec::new(alloc),
-    };
-    let nodes = trim_nodes(alloc, &tree.nodes, &context, budget)?;
-    Ok(Tree { nodes })
-}
-
 /// The tree without the tests and the parts of bounds that the loops and tests round them imply. The tree speaks of so
 /// many parameters. Each question may make so many moves of the solver; where it needs more, the thing stays.
 ///
@@ -247,6 +232,12 @@ pub fn without_implied(
     requires small { (d : ℕ) × (d < 2 ^ 32) × AreSmallTrees d (trees_in tree.now) }
     ensures { IfOk result (λ t. IsTrimmed parameters (trees_in tree.now) (trees_in t)) }
 {
-    let trimmed = trim_tree(alloc, tree, parameters, budget)?;
-    Ok(trimmed)
+    let context = Context {
+        loops: 0,
+        parameters,
+        natural: true,
+        rows: Vec::new(alloc),
+    };
+    let nodes = trim_nodes(alloc, &tree.nodes, &context, budget)?;
+    Ok(Tree { nodes })
 }
