@@ -29,7 +29,11 @@ fn part_form(alloc: Global, part: &Part) -> Result<Aff, AllocError>
     requires shift { IsSmall part.now.shift }
     ensures { IfOk result (λ f. f ≡ form_of part.now.coefficients.items part.now.shift) }
 {
-    let coefficients = part.coefficients.iter().map(|number| narrow(*number)).collect(alloc)?;
+    let coefficients = part
+        .coefficients
+        .iter()
+        .map(|number| narrow(*number))
+        .collect(alloc)?;
     Ok(Aff {
         coefficients,
         constant: narrow(part.shift),
