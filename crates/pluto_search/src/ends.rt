@@ -92,7 +92,9 @@ fn copies(alloc: Global, ruled: &[Ruled]) -> Result<Vec<Dep>, AllocError>
 fn edges(alloc: Global, deps: &[Dep]) -> Result<Vec<(usize, usize)>, AllocError>
     ensures { IfOk result (λ v. v.items ≡ edges_of deps.now) }
 {
-    deps.iter().map(|dep| (dep.source.statement, dep.target.statement)).collect(alloc)
+    deps.iter()
+        .map(|dep| (dep.source.statement, dep.target.statement))
+        .collect(alloc)
 }
 
 /// The numbers of the components of n statements.
