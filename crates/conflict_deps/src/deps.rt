@@ -150,7 +150,13 @@ fn push_up(
     let loops = source.statement.domain().dimensions();
     let others = target.statement.domain().dimensions();
     let before = loops + others;
-    push_variables(&mut rows.rows, alloc, before + parameters, before, parameters)?;
+    push_variables(
+        &mut rows.rows,
+        alloc,
+        before + parameters,
+        before,
+        parameters,
+    )?;
     Ok(())
 }
 
