@@ -16,7 +16,6 @@ use Rattle.wide_math.specs.declared.Op.TheVariants.{Mul}
 use Rattle.wide_math.specs.Checked.{product_of}
 use Rattle.wide_math.proofs.Steps.{checked-fits}
 use Rattle.affine_forms.specs.Runs.{map_run, multiplied_run, scaled_run}
-use Rattle.iteration_domains.specs.Rows.{variable, variables}
 use Rattle.iteration_domains.specs.Sizes.{size, form_size, CanCompose}
 use Rattle.iteration_domains.proofs.Sizes.{size-composed}
 use Rattle.dataflow.specs.Problems.{below, all_below, flat, own}

@@ -6,7 +6,7 @@ use Rattle.std.specs.Prelude.{slice_get, Some}
 use Rattle.std.proofs.lemmas.List.{append_assoc, drop_more, take_rest, length-map}
 use Rattle.whole_numbers.specs.Affine.{Affine}
 use Rattle.whole_numbers.specs.Lists.{zeros}
-use Rattle.iteration_domains.specs.Rows.{variable, variables}
+use Rattle.iteration_domains.specs.Rows.{variable}
 use Rattle.conflict_deps.specs.Conflicts.{spread, difference_of_forms}
 use Rattle.conflict_deps.proofs.Shapes.{spread_parts}
 use Rattle.loop_tree.specs.Tiling.{TileRow, Items}
