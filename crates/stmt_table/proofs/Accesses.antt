@@ -68,7 +68,8 @@ can_form program params p limits laid is =
       room = omega (arith, heads, few, four, count);
       few_reads = is.body.few_reads;
       arrays = λ a access at.
-          let named = access_named (ranks_of program) (length program.parameters + loops_in p.scopes) p.body access is.body
+          let named = access_named (ranks_of program)
+          (length program.parameters + loops_in p.scopes) p.body access is.body
           (in_from_place (accesses p.body) a access at) in
           omega (arith, named, ranks, arrays);
     }

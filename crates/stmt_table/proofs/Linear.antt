@@ -1,5 +1,6 @@
 -- A point within loops, and the number of an access's cell there, as forms of the turns.
-use Rattle.std.proofs.Common.{◌≡◌, ◌∙◌, ap, ap₂, sym, refl, ℕ, suc, ◌+◌, ◌-◌, ◌<◌, ◌≤◌, List, [], ◌∷◌, ◌++◌, length, map}
+use Rattle.std.proofs.Common.{◌≡◌, ◌∙◌, ap, ap₂, sym, refl, ℕ, suc, ◌+◌, ◌-◌, ◌<◌, ◌≤◌, List, [], ◌∷◌, ◌++◌, length}
+use Rattle.std.proofs.Common.{map}
 use Rattle.std.proofs.Common.{drop, get_or, set, arith, drop-cons, length-append}
 use Rattle.std.specs.Prelude.{ℤ, pos, ◌+ℤ◌, ◌*ℤ◌, slice_index_or, take}
 use Rattle.std.proofs.lemmas.Int.{ints}
@@ -50,7 +51,8 @@ point_value n (head ∷ heads) forms k turns few long =
     ∙ ap (λ (z : ℤ). values_of forms turns ++ z ∷ []) (iterator_value n head forms k turns less) in
     point_value n heads (forms ++ next ∷ []) (suc k) turns (omega (arith, few)) long
     ∙ (ap (λ (p : List ℤ). point_in heads p (drop (suc k) turns)) entered
-    ∙ sym (ap (point_in (head ∷ heads) (values_of forms turns)) (drop-cons turns k (pos 0) (omega (arith, less, long)))))
+    ∙ sym (ap (point_in (head ∷ heads) (values_of forms turns))
+    (drop-cons turns k (pos 0) (omega (arith, less, long)))))
 
 offset_value : (offset : Affine) (extents : List ℕ) (forms : List Affine) (turns : List ℤ)
     → value_of (offset_form offset extents forms) turns

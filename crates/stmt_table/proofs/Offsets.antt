@@ -1,5 +1,6 @@
 -- The number of an access's cell: modulo 2^64, and exactly where it lies in its array.
-use Rattle.std.proofs.Common.{◌≡◌, ◌∙◌, ap, refl, subst, ℕ, zero, suc, ◌+◌, ◌*◌, ◌≤◌, List, [], ◌∷◌, drop, length, min, arith}
+use Rattle.std.proofs.Common.{◌≡◌, ◌∙◌, ap, refl, subst, ℕ, zero, suc, ◌+◌, ◌*◌, ◌≤◌, List, [], ◌∷◌, drop, length}
+use Rattle.std.proofs.Common.{min, arith}
 use Rattle.std.specs.Prelude.{ℤ, pos, negsuc, ◌+ℤ◌, ◌*ℤ◌, ◌≤ℤ◌, slice_index_or, take}
 use Rattle.std.proofs.lemmas.Int.{ints}
 use Rattle.scop_syntax.specs.Cells.{cell_of, values}

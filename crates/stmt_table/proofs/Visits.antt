@@ -29,7 +29,8 @@ use Rattle.stmt_table.proofs.LoopPoints.{point_in_scopes}
 -- the laws of walks and statements
 pub record WalkLaws : Type 0 where
   pub found : (program : Program) (params : List ℤ) (v : Visit) → In v (walk_of program params)
-      → (p : Placed) × (xs : List ℤ) × In p (statements_of program) × Runs p.scopes params xs × (v ≡ visit_of p params xs)
+      → (p : Placed) × (xs : List ℤ) × In p (statements_of program) × Runs p.scopes params xs
+      × (v ≡ visit_of p params xs)
   pub turns : (scopes : List Scope) (params xs : List ℤ) → Runs scopes params xs → length xs ≡ loops_in scopes
   pub number : (program : Program) (k : ℕ) (p : Placed) → slice_get (statements_of program) k ≡ Some p → p.number ≡ k
 

@@ -13,7 +13,8 @@ use Rattle.loop_tree.specs.Tiling.{Tiling, tile_of, wave_of}
 use Rattle.loop_tree.specs.Tree.{Trees}
 use Rattle.loop_tree.specs.Walk.{visits}
 use Rattle.tile_list.specs.Counting.{HasTiles, HasValues, HasWaves}
-use Rattle.tile_list.specs.Tiles.{AreNextWaves, AreWaves, InOneTile, IsNextWave, PartBefore, TileBefore, joined, waves_in}
+use Rattle.tile_list.specs.Tiles.{AreNextWaves, AreWaves, InOneTile, IsNextWave, PartBefore, TileBefore, joined}
+use Rattle.tile_list.specs.Tiles.{waves_in}
 use Rattle.tile_list.specs.TilesView.{IsTileListOf, firsts_of, waves_of}
 use Rattle.tile_list.specs.declared.list.Tile.{Tile}
 use Rattle.tile_list.specs.declared.list.TileList.{TileList}
@@ -73,7 +74,8 @@ are_firsts [] (t ∷ ts) e h = absurd (omega (arith, e))
 are_firsts (p ∷ ps) [] e h = absurd (omega (arith, e))
 are_firsts (p ∷ ps) (t ∷ ts) e h = (h 0 t refl, are_firsts ps ts (omega (arith, e)) (λ u tile. h (suc u) tile))
 
-first_in : (ps : List (List Instance)) (xs : List Instance) (x : Instance) → AreFirsts ps xs → In x xs → In x (joined ps)
+first_in : (ps : List (List Instance)) (xs : List Instance) (x : Instance) → AreFirsts ps xs → In x xs
+    → In x (joined ps)
 first_in [] [] x h i = absurd i
 first_in [] (y ∷ xs) x h i = absurd h
 first_in (p ∷ ps) [] x h i = absurd h
@@ -81,7 +83,8 @@ first_in (p ∷ ps) (y ∷ xs) x h (inl e) =
     in_front x p (joined ps) (subst (λ z. In z p) (sym e) (in_from_place p 0 y h.0))
 first_in (p ∷ ps) (y ∷ xs) x h (inr i) = in_back x p (joined ps) (first_in ps xs x h.1 i)
 
-listed_firsts : (ts : Trees) (params : List ℤ) (tiling : Tiling) (list : TileList) → (is : IsTileListOf ts params tiling list)
+listed_firsts : (ts : Trees) (params : List ℤ) (tiling : Tiling) (list : TileList)
+    → (is : IsTileListOf ts params tiling list)
     → AreFirsts is.parts (firsts_of list.tiles.items)
 listed_firsts ts params tiling list is =
     are_firsts is.parts list.tiles.items is.count (λ t tile e. (is.tiles t tile e).first)

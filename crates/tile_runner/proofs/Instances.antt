@@ -14,7 +14,8 @@ use Rattle.array_words.specs.Loads.{IsNextRead}
 
 -- its read number `read` is next where so many were made
 pub next_read : (plan : Plan) (cells : List ℕ) (s : Stage) (i : Instance) (read c : ℕ) (xs : List ℕ) → IsDue plan s i
-    → length xs ≡ read → read < length ((shape_of plan).read (place_of plan i)) → c ≡ get_or ((shape_of plan).read (place_of plan i)) read 0
+    → length xs ≡ read → read < length ((shape_of plan).read (place_of plan i))
+    → c ≡ get_or ((shape_of plan).read (place_of plan i)) read 0
     → IsNextRead (plan_of plan cells) s xs c
 next_read plan cells s i read c xs due count more at =
     let p = due.place in

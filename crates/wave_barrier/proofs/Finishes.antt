@@ -18,7 +18,8 @@ use Rattle.wave_barrier.specs.Finishes.{IsFull, Finishes}
 module _ (words : Words) (pass : Pass) where
   abbrev MayFinish : Words → Pass → Type 0
   MayFinish words pass =
-      Allows (Ruled words.table.shared.key) words.table.shared.table_id.slots pass.seat.id pass.seat.me 1 (λ n. (n + 1) % 2 ^ 64)
+      Allows (Ruled words.table.shared.key) words.table.shared.table_id.slots pass.seat.id pass.seat.me 1
+      (λ n. (n + 1) % 2 ^ 64)
       (Finishes (step words.table.shared.table_id.slots 1 1 0 none) pass.seat.me)
 
   finishes_at : FinishIsAllowed Finishes → (s : Stage) → IsPass words pass → pass.worker.stage ≡ s
@@ -28,11 +29,14 @@ module _ (words : Words) (pass : Pass) where
   finishes_at allowed (Holding t) is at full = absurd full
   finishes_at allowed (Working t k) is at full =
       let key : Key = words.table.shared.key in
-      allowed (key_plan key) key.workers worker_in parts_in words.table.shared.table_id.slots pass.seat.id t k pass.worker.reads.items
+      allowed (key_plan key) key.workers worker_in parts_in words.table.shared.table_id.slots pass.seat.id t k
+      pass.worker.reads.items
       pass.seat.me (at_stage pass.seat.me.0 Idle [])
       (ap₂ staged (is.stage ∙ at) is.reads) refl refl full (λ n. refl)
 
-  pub finishes : FinishIsAllowed Finishes → IsPass words pass → IsFull (plan_in words) pass.worker.stage → MayFinish words pass
+  pub finishes : FinishIsAllowed Finishes → IsPass words pass → IsFull (plan_in words) pass.worker.stage
+    → MayFinish words pass
   finishes allowed is full =
       finishes_at allowed pass.worker.stage is refl
-      (subst (λ (p : Plan). IsFull (plan_of p words.table.shared.key.cells.items) pass.worker.stage) (sym is.of.plan) full)
+      (subst (λ (p : Plan). IsFull (plan_of p words.table.shared.key.cells.items) pass.worker.stage)
+      (sym is.of.plan) full)

@@ -16,7 +16,8 @@ use Rattle.tile_core.specs.Views.{key_plan, plan_at, worker_in, parts_in, at_sta
 use Rattle.tile_core.specs.Passes.{IsPass}
 use Rattle.wave_barrier.specs.Opens.{Opens}
 
-pub opens : OpenIsAllowed Opens → (words : Words) (pass : Pass) (t : ℕ) → IsPass words pass → pass.worker.stage ≡ Holding t
+pub opens : OpenIsAllowed Opens → (words : Words) (pass : Pass) (t : ℕ) → IsPass words pass
+    → pass.worker.stage ≡ Holding t
     → Allows (Ruled words.table.shared.key) words.table.shared.table_id.slots pass.seat.id pass.seat.me 1 (λ n. n)
     (Opens (step words.table.shared.table_id.slots 1 0 0 none) pass.seat.me)
 opens allowed words pass t is holding =

@@ -1,4 +1,5 @@
-use Rattle.std.proofs.Common.{◌≡◌, ◌∙◌, ap, ap₂, subst, sym, ℕ, ◌<◌, ◌≤◌, ◌^◌, ℤ, List, [], All, get_or, take, to_z, arith, rules}
+use Rattle.std.proofs.Common.{◌≡◌, ◌∙◌, ap, ap₂, subst, sym, ℕ, ◌<◌, ◌≤◌, ◌^◌, ℤ, List, [], All, get_or, take, to_z}
+use Rattle.std.proofs.Common.{arith, rules}
 use Rattle.std.specs.Prelude.{pos, ◌+ℤ◌, FitsSigned}
 use Rattle.std.specs.Int.{int_wrap, w64}
 use Rattle.std.proofs.lemmas.Int.{int_wrap-add_right, ints, wrapping_add_onto}

@@ -1,4 +1,5 @@
-use Rattle.std.proofs.Common.{◌≡◌, ap, refl, subst, sym, ◌+◌, ◌<◌, List, [], ◌∷◌, ◌++◌, length, map, drop, get_or, rules}
+use Rattle.std.proofs.Common.{◌≡◌, ap, refl, subst, sym, ◌+◌, ◌<◌, List, [], ◌∷◌, ◌++◌, length, map, drop, get_or}
+use Rattle.std.proofs.Common.{rules}
 use Rattle.std.proofs.Common.{◌∙◌, arith, length-append}
 use Rattle.std.specs.Prelude.{ℤ, pos, ◌+ℤ◌, ◌*ℤ◌, FitsSigned}
 use Rattle.std.specs.Int.{int_wrap, w64}

@@ -3,7 +3,8 @@ use Rattle.tile_runner.proofs.Instances.{works_in}
 use Rattle.tile_runner.proofs.working.do_tile.Goals as goal
 
 pub size-end-requires-clause-tile : goal.size-end-requires-clause-tile
-size-end-requires-clause-tile c = works_in c.args.words.now c.args.pass.now c.args.tile 0 c.requires.pass c.requires.stage
+size-end-requires-clause-tile c = works_in c.args.words.now c.args.pass.now c.args.tile 0 c.requires.pass
+    c.requires.stage
 
 pub unreachable-requires : goal.unreachable-requires
 unreachable-requires c =

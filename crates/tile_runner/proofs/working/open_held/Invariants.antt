@@ -5,4 +5,5 @@ use Rattle.tile_runner.proofs.working.open_held.Given as goal
 
 abbrev pub invariant-loop : goal.invariant-loop
 invariant-loop g l =
-    (goal.iterator-loop g).can_next l.iterator' × (goal.iterator-loop g).is_finite l.iterator' × IsPass l.words l.pass × (l.pass.worker.stage ≡ Holding l.tile)
+    (goal.iterator-loop g).can_next l.iterator'
+    × (goal.iterator-loop g).is_finite l.iterator' × IsPass l.words l.pass × (l.pass.worker.stage ≡ Holding l.tile)

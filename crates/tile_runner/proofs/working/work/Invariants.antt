@@ -5,4 +5,5 @@ use Rattle.tile_runner.proofs.working.work.Given as goal
 
 abbrev pub invariant-loop : goal.invariant-loop
 invariant-loop g l =
-    (goal.iterator-loop g).can_next l.iterator' × (goal.iterator-loop g).is_finite l.iterator' × IsPass l.words l.pass × (l.pass.worker.stage ≡ Idle)
+    (goal.iterator-loop g).can_next l.iterator'
+    × (goal.iterator-loop g).is_finite l.iterator' × IsPass l.words l.pass × (l.pass.worker.stage ≡ Idle)

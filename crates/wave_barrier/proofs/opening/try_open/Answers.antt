@@ -6,11 +6,14 @@ pub load-done-requires : goal.load-done-requires
 load-done-requires c = (
   c.requires.pass.table,
   search rules,
-  opens c.events_are_allowed.ensures.open c.args.words.now c.args.pass.now c.in-Holding.tile c.requires.pass c.in-Holding.is,
+  opens c.events_are_allowed.ensures.open c.args.words.now c.args.pass.now c.in-Holding.tile c.requires.pass
+    c.in-Holding.is,
 )
 
 pub needs-needs-requires-clause-tile : goal.needs-needs-requires-clause-tile
-needs-needs-requires-clause-tile c = held_tile c.args.words.now c.args.pass.now c.in-Holding.tile c.requires.pass c.in-Holding.is
+needs-needs-requires-clause-tile c = held_tile c.args.words.now c.args.pass.now c.in-Holding.tile c.requires.pass
+    c.in-Holding.is
 
 pub open-requires-clause-tile : goal.open-requires-clause-tile
-open-requires-clause-tile c = held_tile c.args.words.now c.args.pass.now c.in-Holding.tile c.requires.pass c.in-Holding.is
+open-requires-clause-tile c = held_tile c.args.words.now c.args.pass.now c.in-Holding.tile c.requires.pass
+    c.in-Holding.is

@@ -29,11 +29,13 @@ overflow_add-read c =
 
 pub cell-requires-clause-statement : goal.cell-requires-clause-statement
 cell-requires-clause-statement c =
-    row_within (laws (goal.at.cell-requires-clause-statement c).After-cells_lie_within_22_bits) c.args.self.now c.args.instance.now c.requires.plan c.requires.walked
+    row_within (laws (goal.at.cell-requires-clause-statement c).After-cells_lie_within_22_bits) c.args.self.now
+    c.args.instance.now c.requires.plan c.requires.walked
 
 pub cell-requires-clause-access : goal.cell-requires-clause-access
 cell-requires-clause-access c =
-    let count = forms_counted (laws (goal.at.cell-requires-clause-access c).After-cells_lie_within_22_bits) c.args.self.now c.args.instance.now c.requires.plan c.requires.walked in
+    let count = forms_counted (laws (goal.at.cell-requires-clause-access c).After-cells_lie_within_22_bits)
+    c.args.self.now c.args.instance.now c.requires.plan c.requires.walked in
     let less = c.requires.read in
     omega (arith, count, less)
 
@@ -43,7 +45,8 @@ returns-clause-cell c =
     read_is plan c.args.instance.now c.args.read c.cell.result
     (c.walks_are_in_order.ensures.once (program_in plan) plan.params.now)
     c.requires.plan c.requires.walked c.requires.read
-    (λ v touched is at. tells_cell (laws (goal.at.returns-clause-cell c).After-cells_lie_within_22_bits) plan c.args.instance.now c.requires.plan
+    (λ v touched is at. tells_cell (laws (goal.at.returns-clause-cell c).After-cells_lie_within_22_bits) plan
+    c.args.instance.now c.requires.plan
     c.cells_lie_within_22_bits.ensures.numbers (c.args.read + 1) c.cell.result c.cell.ensures v touched is
     (ap (slice_get (accesses v.body)) (let q : c.args.read + 1 ≡ suc c.args.read = omega arith in q) ∙ at))
 
@@ -53,7 +56,8 @@ returns-clause-inside c =
     let is = read_is plan c.args.instance.now c.args.read c.cell.result
     (c.walks_are_in_order.ensures.once (program_in plan) plan.params.now)
     c.requires.plan c.requires.walked c.requires.read
-    (λ v touched is at. tells_cell (laws (goal.at.returns-clause-inside c).After-cells_lie_within_22_bits) plan c.args.instance.now c.requires.plan
+    (λ v touched is at. tells_cell (laws (goal.at.returns-clause-inside c).After-cells_lie_within_22_bits) plan
+    c.args.instance.now c.requires.plan
     c.cells_lie_within_22_bits.ensures.numbers (c.args.read + 1) c.cell.result c.cell.ensures v touched is
     (ap (slice_get (accesses v.body)) (let q : c.args.read + 1 ≡ suc c.args.read = omega arith in q) ∙ at)) in
     subst (λ n. n < total_cells (extents_in plan)) (sym is)
