@@ -112,12 +112,6 @@ quotient_under s start number by first e f h =
         let size : pos 0 -ℤ negsuc n ≡ pos (suc n) = omega (arith, ints) in
         ap₂ (λ z d. narrow (floor z d)) turned size
 
-pub quotient_by_nothing : (s z by : ℤ) → by ≡ s → (pos 0 <ℤ by → ⊥) → (by <ℤ pos 0 → ⊥)
-    → Some (pos 0) ≡ narrow (quotient s z)
-quotient_by_nothing (pos zero) z by e above below = refl
-quotient_by_nothing (pos (suc n)) z by e above below = absurd (above (omega (arith, ints, e)))
-quotient_by_nothing (negsuc n) z by e above below = absurd (below (omega (arith, ints, e)))
-
 -- lists one by one, and as a whole
 listed_whole : (cs : List ℤ) → narrow_list cs ≡ (if are_narrow cs then Some cs else None)
 listed_whole [] = refl

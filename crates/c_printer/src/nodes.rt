@@ -1,7 +1,6 @@
 //! Puts the nodes of a loop tree, and prints a whole one.
 
 ghost use Rattle.std.specs.Prelude.{◌≡◌, ◌++◌, [], true, if◌then◌else◌, codes, map, IfOk, OnOk};
-ghost use Rattle.loop_tree.specs.Tree.{guard, loop};
 ghost use Rattle.loop_tree.specs.View.{bounds_in, nodes_of, test_of, tree_of, trees_in};
 ghost use Rattle.scop_syntax.specs.View.{program_of};
 ghost use Rattle.c_printer.specs.Forms.{loop_name, names_in};

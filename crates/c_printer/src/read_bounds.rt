@@ -1,6 +1,6 @@
 //! Reads the bounds of loops in an emitted text.
 
-ghost use Rattle.std.specs.Prelude.{◌≡◌, Some, None, codes, map, IfOk};
+ghost use Rattle.std.specs.Prelude.{◌≡◌, Some, None, map, IfOk};
 ghost use Rattle.loop_tree.specs.Tree.{only};
 ghost use Rattle.loop_tree.specs.View.{bounds_in};
 ghost use Rattle.c_printer.specs.Reading.{divided_bound, read_bound, read_bounds, read_divisor};

@@ -1,6 +1,6 @@
 //! Reads the forms of an emitted text.
 
-ghost use Rattle.std.specs.Prelude.{◌≡◌, ◌≤ℤ◌, ◌-ℤ◌, ◌^◌, ℤ, List, pos, map, option_map, take, IfOk};
+ghost use Rattle.std.specs.Prelude.{◌≡◌, ◌≤ℤ◌, ◌-ℤ◌, ◌^◌, ℤ, pos, map, option_map, take, IfOk};
 ghost use Rattle.whole_numbers.specs.Affine.{form_of};
 ghost use Rattle.whole_numbers.specs.Floor.{floor};
 ghost use Rattle.c_printer.specs.View.{form_in};

@@ -3,7 +3,7 @@
 ghost use Rattle.std.specs.Prelude.{◌≡◌, Some, length, map, option_map, suc, IfOk};
 ghost use Rattle.scop_syntax.specs.View.{program_of};
 ghost use Rattle.loop_tree.specs.Tree.{guard, loop};
-ghost use Rattle.loop_tree.specs.View.{bounds_in, nodes_of, test_of, trees_in};
+ghost use Rattle.loop_tree.specs.View.{bounds_in, test_of, trees_in};
 ghost use Rattle.c_printer.specs.Forms.{loop_name, names_in};
 ghost use Rattle.standings.specs.View.{standing_of};
 ghost use Rattle.c_printer.specs.Reading.{printed_as, read_node, read_nodes, read_text};

@@ -1,6 +1,6 @@
 //! The command `gen`: a generated kernel is planned and run as by `run`, and a summary of what it left is printed.
 
-ghost use Rattle.std.specs.Prelude.{◌≡◌, ◌≤◌, IfOk};
+ghost use Rattle.std.specs.Prelude.{◌≤◌, IfOk};
 ghost use Rattle.command_line.specs.Command.{AreSized};
 ghost use Rattle.polypar.specs.Promises.{AnswersTold};
 ghost use Rattle.polypar.specs.Runs.{IsSummaryText};

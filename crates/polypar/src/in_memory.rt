@@ -1,6 +1,6 @@
 //! A whole call over ports in memory, as tests make it.
 
-ghost use Rattle.std.specs.Prelude.{◌≡◌, ◌⊎◌, ℕ, List, map, string_bytes};
+ghost use Rattle.std.specs.Prelude.{◌≡◌, ◌⊎◌, map, string_bytes};
 ghost use Rattle.report_text.specs.declared.status.Status.{Status};
 ghost use Rattle.io_ports.specs.Memory.{source_shows};
 ghost use Rattle.command_line.specs.Command.{command_of};

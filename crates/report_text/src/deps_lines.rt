@@ -1,6 +1,6 @@
 //! The lines of the sources of reads, one for each read.
 
-ghost use Rattle.std.specs.Prelude.{◌≡◌, ◌-◌, ◌++◌, ◌∷◌, [], suc, IfOk, OnOk, Some, codes, decimal, drop, length};
+ghost use Rattle.std.specs.Prelude.{◌≡◌, ◌-◌, ◌++◌, ◌∷◌, [], suc, IfOk, OnOk, Some, codes, decimal, drop};
 ghost use Rattle.std.specs.Prelude.{slice_get};
 ghost use Rattle.std.specs.List.{concat};
 ghost use Rattle.scop_syntax.specs.Kernel.{IsKernel};

@@ -1,7 +1,7 @@
 //! The names that stand round the sources of a statement's reads: the kernel's parameters, then the turns of the loops
 //! round the statement.
 
-ghost use Rattle.std.specs.Prelude.{◌≡◌, ◌++◌, [], ◌∷◌, IfOk, OnOk, map};
+ghost use Rattle.std.specs.Prelude.{◌≡◌, ◌++◌, [], ◌∷◌, IfOk, OnOk};
 ghost use Rattle.scop_syntax.specs.View.{program_of};
 ghost use Rattle.quast_text.specs.Waiting.{texts_of};
 ghost use Rattle.report_text.specs.DepsText.{turn_name, turn_names};

@@ -1,6 +1,5 @@
 //! The line of a subscript outside its extent.
 
-ghost use Rattle.std.specs.Prelude.{◌≡◌};
 ghost use Rattle.io_ports.specs.Writes.{Puts};
 ghost use Rattle.report_text.specs.StatusText.{outside_text};
 

@@ -1,6 +1,5 @@
 //! The parts of status lines, put one after another.
 
-ghost use Rattle.std.specs.Prelude.{◌≡◌, ◌++◌, decimal};
 ghost use Rattle.io_ports.specs.Writes.{Puts};
 ghost use Rattle.report_text.specs.Parts.{part_text, parts_text};
 ghost use Rattle.report_text.specs.StatusText.{named, numbered};

@@ -1,6 +1,6 @@
 -- What numbers that are the same modulo 2^64 have in common.
 use Rattle.std.proofs.Common.{◌≡◌, ◌∙◌, ap, sym, refl, ℕ, suc, ◌<◌, ◌≤◌, List, [], ◌∷◌, ◌++◌, length, drop, get_or}
-use Rattle.std.proofs.Common.{◌-◌, arith}
+use Rattle.std.proofs.Common.{arith}
 use Rattle.std.specs.Prelude.{ℤ, pos, ◌+ℤ◌, ◌*ℤ◌}
 use Rattle.std.specs.Int.{cast_unsigned, int_wrap, w64}
 use Rattle.std.proofs.lemmas.Int.{int_wrap-add_same, int_wrap-add_right, int_wrap-mul_right, int_wrap_fits, ints}

@@ -1,6 +1,6 @@
 //! The number of an access's cell as a form of the turns of the loops round its statement: what it is at no turns, and
 //! what one turn of each loop adds, since all that stands between is affine.
-ghost use Rattle.std.specs.Prelude.{◌≡◌, ◌+◌, ◌<◌, ◌≤◌, IfOk, get_or, length, map, pos, set};
+ghost use Rattle.std.specs.Prelude.{◌≡◌, ◌+◌, ◌<◌, ◌≤◌, IfOk, get_or, length, map, pos};
 ghost use Rattle.std.specs.Int.{int_wrap, w64};
 ghost use Rattle.whole_numbers.specs.Lists.{zeros};
 ghost use Rattle.scop_meaning.specs.Instances.{AreLayout};

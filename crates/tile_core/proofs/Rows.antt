@@ -43,7 +43,7 @@ module _ (laws : WalkLaws) (plan : Plan) (i : CodeInstance) (is : IsPlan plan) w
   -- the table has it
   pub row_within : In (instance_of i) (places_in plan) → i.statement < length (forms_in plan.table.now)
   row_within walked = let r = row_there walked in
-    slice_get_within (forms_in plan.table.now) i.statement r.1.cells r.1.told
+      slice_get_within (forms_in plan.table.now) i.statement r.1.cells r.1.told
 
   -- there is a form for the place and for each read
   pub forms_counted : In (instance_of i) (places_in plan)

@@ -1,5 +1,5 @@
 //! The core: a plan, and the state that its events lead to.
-ghost use Rattle.std.specs.Prelude.{◌≡◌, ℕ, ◌+◌, ◌<◌, ◌≤◌, All, IfOk, List, length, map};
+ghost use Rattle.std.specs.Prelude.{◌≡◌, ℕ, ◌<◌, ◌≤◌, All, IfOk, List, length, map};
 ghost use Rattle.tile_events.specs.Core.{replay as replayed, step as stepped};
 ghost use Rattle.tile_core.specs.Boards.{IsRun, event_of, opening_state, seen_of};
 ghost use Rattle.tile_core.specs.Plans.{IsPlan, plan_of, shape_of};

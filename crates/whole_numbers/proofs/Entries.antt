@@ -1,10 +1,9 @@
 -- Entries of lists, their fronts and backs, and what holds of each entry.
-use Rattle.std.proofs.Common.{◌≡◌, ℕ, zero, suc, ◌+◌, ◌-◌, ◌<◌, ◌≤◌, ℤ, pos, List, [], ◌∷◌, ◌++◌, length, get_or, take}
-use Rattle.std.proofs.Common.{Some, All, refl, sym, ◌∙◌, ap, subst, arith, append_assoc}
+use Rattle.std.proofs.Common.{◌≡◌, ℕ, zero, suc, ◌+◌, ◌<◌, ◌≤◌, List, [], ◌∷◌, ◌++◌, length, get_or, take}
+use Rattle.std.proofs.Common.{Some, All, refl, ◌∙◌, ap, subst, arith}
 use Rattle.std.specs.Prelude.{map, slice_get}
 use Rattle.std.proofs.lemmas.List.{take_all}
 use Rattle.std.proofs.lemmas.List.Elements.{All-head, All-tail, All-cons, All-nil, All-more}
-use Rattle.whole_numbers.specs.Lists.{zeros}
 
 -- what holds of each entry of a joined list holds in its front and in its back
 pub all_front : {A : Type 0} (P : A → Type 0) (xs ys : List A) → All P (xs ++ ys) → All P xs
@@ -61,12 +60,3 @@ pub get_map : {A B : Type 0} (f : A → B) (xs : List A) (i : ℕ) (x : A) → s
 get_map f [] i x e = absurd cc
 get_map f (y ∷ ys) zero x e = let z : y ≡ x = cc in ap (λ w. Some (f w)) z
 get_map f (y ∷ ys) (suc i) x e = get_map f ys i x e
-
-pub zeros_step : (xs next whole : List ℤ) (n k : ℕ) → k < n → xs ++ zeros (n - k) ≡ whole → next ≡ xs ++ pos 0 ∷ []
-    → next ++ zeros (n - (k + 1)) ≡ whole
-zeros_step xs next whole n k h so_far is =
-    let rest = zeros (n - (k + 1)) in
-    let e : n - k ≡ suc (n - (k + 1)) = omega arith in
-    let here : zeros (n - k) ≡ pos 0 ∷ rest = ap zeros e in
-    ap (λ (zs : List ℤ). zs ++ rest) is
-    ∙ (append_assoc xs (pos 0 ∷ []) rest ∙ (ap (λ (zs : List ℤ). xs ++ zs) (sym here) ∙ so_far))
