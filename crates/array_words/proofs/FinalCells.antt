@@ -1,5 +1,6 @@
 -- Where all passes are joined into one that has ended, the words are the cells of execution.
-use Rattle.std.proofs.Common.{◌≡◌, ℕ, zero, suc, ◌+◌, ◌<◌, ◌∙◌, List, [], ◌∷◌, length, get_or, ap, refl, sym, subst, arith}
+use Rattle.std.proofs.Common.{◌≡◌, ℕ, zero, suc, ◌+◌, ◌<◌, ◌∙◌, List, [], ◌∷◌, length, get_or, ap, refl, sym, subst}
+use Rattle.std.proofs.Common.{arith}
 use Rattle.std.specs.Prelude.{slice_index}
 use mathlib.Core.Option.{some, some-injective, some-ne-none}
 use lib.ListN.{get_elem?}
@@ -28,7 +29,8 @@ ended_view : (n : ℕ) (xs : List ℕ) → 0 < n → staged (stage_after n) xs �
 ended_view zero xs l = absurd (omega (arith, l))
 ended_view (suc n) xs l = refl
 
-cells_for : EndIsExecuted View → (key : Key) (row new : List ℕ) (slots : List (Unit {0})) (id : ℕ) (v : View) → worker_in v ≡ core.ended → v.parts ≡ key.workers
+cells_for : EndIsExecuted View → (key : Key) (row new : List ℕ) (slots : List (Unit {0})) (id : ℕ) (v : View)
+    → worker_in v ≡ core.ended → v.parts ≡ key.workers
     → Final (Seen (Ruled key) id v) row slots
     → ((c : ℕ) → c < (key_plan key).cells → get_elem? row (c + 2) ≡ some (get_or new c 0))
     → (c : ℕ) → c < (key_plan key).cells → get_or new c 0 ≡ before (key_plan key) (key_plan key).places c
@@ -42,17 +44,20 @@ abbrev at_plan : Words → Plan → events.Plan
 at_plan words p = plan_of p words.table.shared.key.cells.items
 
 -- the cells into which the words were copied
-pub closed_cells : EndIsExecuted View → (words : Words) (seat : Seat (Unit {0}) View) (n ended : ℕ) (row old new : List ℕ) (slots : List (Unit {0})) → IsGathered words n ended seat → 0 < ended
+pub closed_cells : EndIsExecuted View → (words : Words) (seat : Seat (Unit {0}) View) (n ended : ℕ)
+    (row old new : List ℕ) (slots : List (Unit {0})) → IsGathered words n ended seat → 0 < ended
     → n ≡ words.table.shared.key.workers
     → Final (Seen (Ruled words.table.shared.key) seat.id seat.me.0) row slots
     → ((c : ℕ) → c < length old → get_elem? row (c + 2) ≡ some (get_or new c 0))
     → length old ≡ (plan_in words).cells → length new ≡ length old → IsClosed (plan_in words) old new
 closed_cells ends words seat n ended row old new slots gathered some_ended all final copied wide long = record {
   long = long;
-  cells = subst (λ (p : Plan). (c : ℕ) → c < (at_plan words p).cells → get_or new c 0 ≡ before (at_plan words p) (at_plan words p).places c) gathered.of.plan
+  cells = subst (λ (p : Plan). (c : ℕ) → c < (at_plan words p).cells
+      → get_or new c 0 ≡ before (at_plan words p) (at_plan words p).places c) gathered.of.plan
       (cells_for ends words.table.shared.key row new slots seat.id seat.me.0
       (ap (λ s. staged s seat.me.0.reads) gathered.stage ∙ ended_view ended seat.me.0.reads some_ended)
       (gathered.parts ∙ all)
       final
-      (λ c l. copied c (let e = ap (λ (p : Plan). (at_plan words p).cells) gathered.of.plan in omega (arith, l, wide, e))));
+      (λ c l. copied c (let e = ap (λ (p : Plan). (at_plan words p).cells) gathered.of.plan in omega
+          (arith, l, wide, e))));
 }

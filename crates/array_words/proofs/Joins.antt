@@ -26,7 +26,8 @@ joined_rests Ended b r q = tt
 joined_rests (Holding t) b r q = absurd r
 joined_rests (Working t k) b r q = absurd r
 
-from_ended : (a b : Stage) (xs ys : List ℕ) → Rests a → Rests b → staged (joined a b) [] ≡ core.ended → (staged a xs ≡ core.ended) ⊎ (staged b ys ≡ core.ended)
+from_ended : (a b : Stage) (xs ys : List ℕ) → Rests a → Rests b → staged (joined a b) [] ≡ core.ended
+    → (staged a xs ≡ core.ended) ⊎ (staged b ys ≡ core.ended)
 from_ended Idle Idle xs ys r q e = absurd cc
 from_ended Idle Ended xs ys r q e = inr refl
 from_ended Idle (Holding t) xs ys r q e = absurd q
@@ -35,7 +36,8 @@ from_ended Ended b xs ys r q e = inl refl
 from_ended (Holding t) b xs ys r q e = absurd r
 from_ended (Working t k) b xs ys r q e = absurd r
 
-keep_ended : (a b : Stage) (xs ys : List ℕ) (m n : ℕ) → Rests a → Rests b → if_ended (staged a xs) m + if_ended (staged b ys) n ≤ if_ended (staged (joined a b) []) (m + n)
+keep_ended : (a b : Stage) (xs ys : List ℕ) (m n : ℕ) → Rests a → Rests b
+    → if_ended (staged a xs) m + if_ended (staged b ys) n ≤ if_ended (staged (joined a b) []) (m + n)
 keep_ended Idle Idle xs ys m n r q = omega arith
 keep_ended Idle Ended xs ys m n r q = omega arith
 keep_ended Idle (Holding t) xs ys m n r q = absurd q
@@ -48,11 +50,13 @@ keep_ended (Holding t) b xs ys m n r q = absurd r
 keep_ended (Working t k) b xs ys m n r q = absurd r
 
 -- a seat at rest may take in another
-pub join_allowed : JoinIsAllowed View → (key : Key) (id : ℕ) (v : View) (other : ℕ) (u : View) → Rests v.stage → Rests u.stage
+pub join_allowed : JoinIsAllowed View → (key : Key) (id : ℕ) (v : View) (other : ℕ) (u : View) → Rests v.stage
+    → Rests u.stage
     → Joins (Ruled key) id v other u (together v u) spent_view
 join_allowed allowed key id v other u r q =
     allowed (key_plan key) key.workers worker_in parts_in id v other u (together v u) spent_view
-    (at_rest v.stage v.reads r) (at_rest u.stage u.reads q) (at_rest (joined v.stage u.stage) [] (joined_rests v.stage u.stage r q)) refl refl refl
+    (at_rest v.stage v.reads r) (at_rest u.stage u.reads q)
+        (at_rest (joined v.stage u.stage) [] (joined_rests v.stage u.stage r q)) refl refl refl
     (from_ended v.stage u.stage v.reads u.reads r q)
     (keep_ended v.stage u.stage v.reads u.reads v.parts u.parts r q)
 

@@ -39,7 +39,8 @@ module _ (words : Words) (pass : Pass) where
       ≡ get_or (values_read (key_plan key) ((key_plan key).place t k)) (length pass.worker.reads.items) 0 =
       ap (λ v. executed (plan_at v) me.0.stage me.0.reads) is.key ∙ ap₂ (executed (key_plan key)) stands is.reads in
       subst (λ (d : ℕ). MayLoad words pass d) (sym at)
-      (allowed (key_plan key) key.workers worker_in parts_in words.table.shared.table_id.slots pass.seat.id t k pass.worker.reads.items me
+      (allowed (key_plan key) key.workers worker_in parts_in words.table.shared.table_id.slots pass.seat.id t k
+          pass.worker.reads.items me
       (λ x. at_stage me.0 me.0.stage (me.0.reads ++ x ∷ []))
       (ap₂ staged stands is.reads) (λ x. ap₂ (λ s ys. staged s (ys ++ x ∷ [])) stands is.reads) (λ x. refl) less more
       (λ x f. (f ∙ sym value, refl)))
@@ -48,7 +49,8 @@ module _ (words : Words) (pass : Pass) where
       → IsNextRead (plan_in words) pass.worker.stage pass.worker.reads.items c → MayLoad words pass c
   loads allowed c is next =
       loads_at allowed pass.worker.stage c is refl
-      (subst (λ (p : Plan). IsNextRead (plan_of p words.table.shared.key.cells.items) pass.worker.stage pass.worker.reads.items c) (sym is.of.plan) next)
+      (subst (λ (p : Plan). IsNextRead (plan_of p words.table.shared.key.cells.items) pass.worker.stage
+          pass.worker.reads.items c) (sym is.of.plan) next)
 
   -- the tile of a pass that works is one of the plan's
   pub works_in : (t k : ℕ) → IsPass words pass → pass.worker.stage ≡ Working t k → t < (shape_of words.plan).tiles
@@ -84,9 +86,11 @@ module _ (words : Words) (pass : Pass) where
   few_read dealt few c is next = few_at dealt few pass.worker.stage c is refl next
 
   -- what was found is told of the plan of the words
-  pub told : (r : ℕ) → IsPass words pass → r ≡ executed (plan_at pass.seat.me.0.key) pass.seat.me.0.stage pass.seat.me.0.reads
+  pub told : (r : ℕ) → IsPass words pass → r ≡ executed (plan_at pass.seat.me.0.key) pass.seat.me.0.stage
+      pass.seat.me.0.reads
       → r ≡ executed (plan_in words) pass.worker.stage pass.worker.reads.items
   told r is e =
       e ∙ (ap (λ v. executed (plan_at v) pass.seat.me.0.stage pass.seat.me.0.reads) is.key
-      ∙ (ap (λ (p : Plan). executed (plan_of p words.table.shared.key.cells.items) pass.seat.me.0.stage pass.seat.me.0.reads) is.of.plan
+      ∙ (ap (λ (p : Plan). executed (plan_of p words.table.shared.key.cells.items) pass.seat.me.0.stage
+      pass.seat.me.0.reads) is.of.plan
       ∙ ap₂ (executed (plan_in words)) is.stage is.reads))

@@ -22,13 +22,17 @@ one_idle : (i : ℕ) (w : core.Worker) → get_elem? (core.idle ∷ []) i ≡ so
 one_idle zero w e = sym (some-injective core.idle w e)
 one_idle (suc i) w e = absurd (some-ne-none w (sym e))
 
-nobody_holds : (key : Key) (i t : ℕ) (v : View) → get_elem? (opening_view key ∷ []) i ≡ some v → Holds (worker_in v) t → 0 < parts_in v
-nobody_holds key zero t v e h = absurd (subst (λ u. Holds (worker_in u) t) (sym (some-injective (opening_view key) v e)) h)
+nobody_holds : (key : Key) (i t : ℕ) (v : View) → get_elem? (opening_view key ∷ []) i ≡ some v → Holds (worker_in v) t
+    → 0 < parts_in v
+nobody_holds key zero t v e h = absurd (subst (λ u. Holds (worker_in u) t) (sym (some-injective (opening_view key) v e))
+    h)
 nobody_holds key (suc i) t v e h = absurd (some-ne-none v (sym e))
 
-held_at : ((p : events.Plan) (s : State) → IsOpening p s → Sound p s) → (key : Key) → GoodPlan (key_plan key) → IsDealt (key_plan key)
+held_at : ((p : events.Plan) (s : State) → IsOpening p s → Sound p s) → (key : Key) → GoodPlan (key_plan key)
+    → IsDealt (key_plan key)
     → length key.cells.items ≡ (key_plan key).cells → (key_plan key).tiles + key.workers < 18446744073709551615
-    → Held (key_plan key) key.workers worker_in parts_in (opening {S = Unit {0}} (0 ∷ 0 ∷ key.cells.items) [] (opening_view key))
+    → Held (key_plan key) key.workers worker_in parts_in
+    (opening {S = Unit {0}} (0 ∷ 0 ∷ key.cells.items) [] (opening_view key))
 held_at starts key good dealt wide few = record {
   good = good;
   dealt = dealt;
@@ -48,10 +52,13 @@ held_at starts key good dealt wide few = record {
 
 -- these words under this key meet the rule
 pub opening_held : ((p : events.Plan) (s : State) → IsOpening p s → Sound p s) → (key : Key) (row : List ℕ)
-    → GoodPlan (key_plan key) → IsDealt (key_plan key) → row ≡ 0 ∷ 0 ∷ key.cells.items → length key.cells.items ≡ (key_plan key).cells
-    → (key_plan key).tiles + key.workers < 18446744073709551615 → Ruled key (opening {S = Unit {0}} row [] (opening_view key))
+    → GoodPlan (key_plan key) → IsDealt (key_plan key) → row ≡ 0 ∷ 0 ∷ key.cells.items
+    → length key.cells.items ≡ (key_plan key).cells
+    → (key_plan key).tiles + key.workers < 18446744073709551615
+    → Ruled key (opening {S = Unit {0}} row [] (opening_view key))
 opening_held starts key row good dealt is wide few =
-    subst (λ (ws : List ℕ). Held (key_plan key) key.workers worker_in parts_in (opening {S = Unit {0}} ws [] (opening_view key)))
+    subst (λ (ws : List ℕ). Held (key_plan key) key.workers worker_in parts_in
+        (opening {S = Unit {0}} ws [] (opening_view key)))
     (sym is) (held_at starts key good dealt wide few)
 
 -- a seat of idle workers may be cut

@@ -16,7 +16,8 @@ abbrev pub IsNextRead : plain.Plan → Stage → List ℕ → ℕ → Type 0
 IsNextRead p Idle xs c = ⊥
 IsNextRead p Ended xs c = ⊥
 IsNextRead p (Holding t) xs c = ⊥
-IsNextRead p (Working t k) xs c = (k < p.size t) × (length xs < length (p.read (p.place t k))) × (c ≡ cell_read p t k (length xs))
+IsNextRead p (Working t k) xs c = (k < p.size t) × (length xs < length (p.read (p.place t k))) ×
+    (c ≡ cell_read p t k (length xs))
 
 -- the number r that it found is the one that execution reads there, and is kept
 abbrev pub Loads : Step (Unit {0}) → Me (Unit {0}) View → ℕ → Me (Unit {0}) View → Type 0

@@ -14,7 +14,8 @@ use Rattle.tile_core.specs.Passes.{IsPass}
 use Rattle.tile_claims.specs.Claims.{Claims}
 
 pub claims : ClaimIsAllowed Claims → (words : Words) (pass : Pass) → IsPass words pass → pass.worker.stage ≡ Idle
-    → Allows (Ruled words.table.shared.key) words.table.shared.table_id.slots pass.seat.id pass.seat.me 0 (λ n. (n + 1) % 2 ^ 64)
+    → Allows (Ruled words.table.shared.key) words.table.shared.table_id.slots pass.seat.id pass.seat.me 0
+    (λ n. (n + 1) % 2 ^ 64)
     (Claims (step words.table.shared.table_id.slots 0 1 0 none) pass.seat.me)
 claims allowed words pass is idle =
     let key : Key = words.table.shared.key in

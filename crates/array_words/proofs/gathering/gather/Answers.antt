@@ -11,10 +11,12 @@ abbrev one : Pass → ℕ
 one p = one_if_ended (stage_in p)
 
 pub first-seat-requires-clause-pass : goal.first-seat-requires-clause-pass
-first-seat-requires-clause-pass c = last_of (IsPass c.args.words.now) c.pop.new.self.items c.args.passes.items c.in-Some.pass c.requires.passes c.in-Some.ensures.items
+first-seat-requires-clause-pass c = last_of (IsPass c.args.words.now) c.pop.new.self.items c.args.passes.items
+    c.in-Some.pass c.requires.passes c.in-Some.ensures.items
 
 pub first-seat-requires-clause-rest : goal.first-seat-requires-clause-rest
-first-seat-requires-clause-rest c = last_of IsResting c.pop.new.self.items c.args.passes.items c.in-Some.pass c.requires.rest c.in-Some.ensures.items
+first-seat-requires-clause-rest c = last_of IsResting c.pop.new.self.items c.args.passes.items c.in-Some.pass
+    c.requires.rest c.in-Some.ensures.items
 
 pub loop-pass-init : goal.loop-pass-init
 loop-pass-init c =
@@ -27,9 +29,12 @@ loop-pass-init c =
     let t = ap (total one) items in
     let u = total_last one c.pop.new.self.items c.in-Some.pass in record {
       seat = (let e = c.first-seat.ensures.ended in
-          let f : c.first-seat.result.1 ≤ c.first-seat.result.0.me.0.parts = (let h = s.few in omega (arith, h, e, p)) in
-          record { of = s.of; table = s.table; slots = s.slots; parts = refl; stage = s.stage ∙ ap stage_after (sym e); few = f });
-      passes = front_of (IsPass c.args.words.now) c.pop.new.self.items c.args.passes.items c.in-Some.pass c.requires.passes items;
+          let f : c.first-seat.result.1 ≤ c.first-seat.result.0.me.0.parts
+              = (let h = s.few in omega (arith, h, e, p)) in
+          record { of = s.of; table = s.table; slots = s.slots; parts = refl; stage = s.stage ∙ ap stage_after (sym e);
+              few = f });
+      passes = front_of (IsPass c.args.words.now) c.pop.new.self.items c.args.passes.items c.in-Some.pass
+          c.requires.passes items;
       rest = front_of IsResting c.pop.new.self.items c.args.passes.items c.in-Some.pass c.requires.rest items;
       count = omega (arith, p, l, m);
       sum = omega (arith, n, t, u);
@@ -37,11 +42,13 @@ loop-pass-init c =
 
 pub take_in-ended-requires-clause-pass : goal.take_in-ended-requires-clause-pass
 take_in-ended-requires-clause-pass c =
-    last_of (IsPass c.args.words.now) c.pop-in-loop-pass.new.self.items c.loop-pass.passes.items c.in-Some-pop.pass c.loop-pass.invariant.passes c.in-Some-pop.ensures.items
+    last_of (IsPass c.args.words.now) c.pop-in-loop-pass.new.self.items c.loop-pass.passes.items c.in-Some-pop.pass
+        c.loop-pass.invariant.passes c.in-Some-pop.ensures.items
 
 pub take_in-ended-requires-clause-rest : goal.take_in-ended-requires-clause-rest
 take_in-ended-requires-clause-rest c =
-    last_of IsResting c.pop-in-loop-pass.new.self.items c.loop-pass.passes.items c.in-Some-pop.pass c.loop-pass.invariant.rest c.in-Some-pop.ensures.items
+    last_of IsResting c.pop-in-loop-pass.new.self.items c.loop-pass.passes.items c.in-Some-pop.pass
+        c.loop-pass.invariant.rest c.in-Some-pop.ensures.items
 
 pub loop-pass-preserved : goal.loop-pass-preserved
 loop-pass-preserved c =
@@ -56,10 +63,14 @@ loop-pass-preserved c =
     let m = length-append c.pop-in-loop-pass.new.self.items (c.in-Some-pop.pass ∷ []) in
     let t = ap (total one) items in
     let u = total_last one c.pop-in-loop-pass.new.self.items c.in-Some-pop.pass in record {
-      seat = (let f : c.take_in-ended.result ≤ c.take_in-ended.new.seat.me.0.parts = (let h = s.few in omega (arith, h, n, p)) in
-          record { of = s.of; table = s.table; slots = s.slots; parts = refl; stage = s.stage ∙ ap stage_after (sym n); few = f });
-      passes = front_of (IsPass c.args.words.now) c.pop-in-loop-pass.new.self.items c.loop-pass.passes.items c.in-Some-pop.pass i.passes items;
-      rest = front_of IsResting c.pop-in-loop-pass.new.self.items c.loop-pass.passes.items c.in-Some-pop.pass i.rest items;
+      seat = (let f : c.take_in-ended.result ≤ c.take_in-ended.new.seat.me.0.parts
+          = (let h = s.few in omega (arith, h, n, p)) in
+          record { of = s.of; table = s.table; slots = s.slots; parts = refl; stage = s.stage ∙ ap stage_after (sym n);
+              few = f });
+      passes = front_of (IsPass c.args.words.now) c.pop-in-loop-pass.new.self.items c.loop-pass.passes.items
+          c.in-Some-pop.pass i.passes items;
+      rest = front_of IsResting c.pop-in-loop-pass.new.self.items c.loop-pass.passes.items c.in-Some-pop.pass i.rest
+          items;
       count = omega (arith, p, count, l, m);
       sum = omega (arith, n, sum, t, u);
     }

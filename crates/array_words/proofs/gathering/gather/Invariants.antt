@@ -11,7 +11,8 @@ invariant-loop-pass l = record {
   passes : All (IsPass l.words) l.passes.items;
   rest : All IsResting l.passes.items;
   count : l.seat.me.0.parts + length l.passes.items ≡ length l.fn.passes.items;
-  sum : l.ended + total (λ (p : Pass). one_if_ended (stage_in p)) l.passes.items ≡ total (λ (p : Pass). one_if_ended (stage_in p)) l.fn.passes.items;
+  sum : l.ended + total (λ (p : Pass). one_if_ended (stage_in p)) l.passes.items ≡ total
+      (λ (p : Pass). one_if_ended (stage_in p)) l.fn.passes.items;
 }
 
 abbrev pub decreases-loop-pass : goal.decreases-loop-pass

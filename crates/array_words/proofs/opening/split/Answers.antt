@@ -7,6 +7,7 @@ split_seat-requires c =
     let rest = c.requires.rest in (
       rest.table,
       search rules,
-      split_allowed c.seats_are_allowed.ensures.split c.args.words.now.table.shared.key c.args.rest.now.id c.args.rest.now.me.0
+      split_allowed c.seats_are_allowed.ensures.split c.args.words.now.table.shared.key c.args.rest.now.id
+          c.args.rest.now.me.0
           rest.stage rest.reads (search rules),
     )
