@@ -59,5 +59,5 @@ closed_cells ends words seat n ended row old new slots gathered some_ended all f
       (gathered.parts ∙ all)
       final
       (λ c l. copied c (let e = ap (λ (p : Plan). (at_plan words p).cells) gathered.of.plan in omega
-          (arith, l, wide, e))));
+      (arith, l, wide, e))));
 }

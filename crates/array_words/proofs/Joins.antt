@@ -56,7 +56,7 @@ pub join_allowed : JoinIsAllowed View → (key : Key) (id : ℕ) (v : View) (oth
 join_allowed allowed key id v other u r q =
     allowed (key_plan key) key.workers worker_in parts_in id v other u (together v u) spent_view
     (at_rest v.stage v.reads r) (at_rest u.stage u.reads q)
-        (at_rest (joined v.stage u.stage) [] (joined_rests v.stage u.stage r q)) refl refl refl
+    (at_rest (joined v.stage u.stage) [] (joined_rests v.stage u.stage r q)) refl refl refl
     (from_ended v.stage u.stage v.reads u.reads r q)
     (keep_ended v.stage u.stage v.reads u.reads v.parts u.parts r q)
 

@@ -40,7 +40,7 @@ module _ (words : Words) (pass : Pass) where
       ap (λ v. executed (plan_at v) me.0.stage me.0.reads) is.key ∙ ap₂ (executed (key_plan key)) stands is.reads in
       subst (λ (d : ℕ). MayLoad words pass d) (sym at)
       (allowed (key_plan key) key.workers worker_in parts_in words.table.shared.table_id.slots pass.seat.id t k
-          pass.worker.reads.items me
+      pass.worker.reads.items me
       (λ x. at_stage me.0 me.0.stage (me.0.reads ++ x ∷ []))
       (ap₂ staged stands is.reads) (λ x. ap₂ (λ s ys. staged s (ys ++ x ∷ [])) stands is.reads) (λ x. refl) less more
       (λ x f. (f ∙ sym value, refl)))
@@ -50,7 +50,7 @@ module _ (words : Words) (pass : Pass) where
   loads allowed c is next =
       loads_at allowed pass.worker.stage c is refl
       (subst (λ (p : Plan). IsNextRead (plan_of p words.table.shared.key.cells.items) pass.worker.stage
-          pass.worker.reads.items c) (sym is.of.plan) next)
+      pass.worker.reads.items c) (sym is.of.plan) next)
 
   -- the tile of a pass that works is one of the plan's
   pub works_in : (t k : ℕ) → IsPass words pass → pass.worker.stage ≡ Working t k → t < (shape_of words.plan).tiles

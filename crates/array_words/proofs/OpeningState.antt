@@ -58,7 +58,7 @@ pub opening_held : ((p : events.Plan) (s : State) → IsOpening p s → Sound p 
     → Ruled key (opening {S = Unit {0}} row [] (opening_view key))
 opening_held starts key row good dealt is wide few =
     subst (λ (ws : List ℕ). Held (key_plan key) key.workers worker_in parts_in
-        (opening {S = Unit {0}} ws [] (opening_view key)))
+    (opening {S = Unit {0}} ws [] (opening_view key)))
     (sym is) (held_at starts key good dealt wide few)
 
 -- a seat of idle workers may be cut

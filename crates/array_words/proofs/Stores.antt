@@ -36,17 +36,17 @@ module _ (words : Words) (pass : Pass) where
       let stands : me.0.stage ≡ Working t k = is.stage ∙ e in
       subst (λ (d : ℕ). MayStore words pass d x) (sym at)
       (allowed (key_plan key) key.workers worker_in parts_in words.table.shared.table_id.slots pass.seat.id t k x
-          pass.worker.reads.items me
+      pass.worker.reads.items me
       (at_stage me.0 (Working (tile_at me.0.stage) (suc (done_at me.0.stage))) [])
       (ap₂ staged stands is.reads) (ap₂ (λ a b. working a (suc b) []) (ap tile_at stands) (ap done_at stands)) refl less
-          all value refl)
+      all value refl)
 
   pub stores : StoreIsAllowed Stores → (c x : ℕ) → IsPass words pass
       → IsNextStore (plan_in words) pass.worker.stage pass.worker.reads.items c x → MayStore words pass c x
   stores allowed c x is next =
       stores_at allowed pass.worker.stage c x is refl
       (subst (λ (p : Plan). IsNextStore (plan_of p words.table.shared.key.cells.items) pass.worker.stage
-          pass.worker.reads.items c x) (sym is.of.plan) next)
+      pass.worker.reads.items c x) (sym is.of.plan) next)
 
   below_at : IsDealt (plan_in words) → (s : Stage) (c x : ℕ) → IsPass words pass → pass.worker.stage ≡ s
       → IsNextStore (plan_in words) s pass.worker.reads.items c x → c < (plan_in words).cells

@@ -35,7 +35,7 @@ module _ (words : Words) (pass : Pass) where
       (ap₂ staged (is.stage ∙ at) is.reads) refl refl full (λ n. refl)
 
   pub finishes : FinishIsAllowed Finishes → IsPass words pass → IsFull (plan_in words) pass.worker.stage
-    → MayFinish words pass
+      → MayFinish words pass
   finishes allowed is full =
       finishes_at allowed pass.worker.stage is refl
       (subst (λ (p : Plan). IsFull (plan_of p words.table.shared.key.cells.items) pass.worker.stage)

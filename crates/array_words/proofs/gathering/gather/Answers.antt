@@ -30,9 +30,15 @@ loop-pass-init c =
     let u = total_last one c.pop.new.self.items c.in-Some.pass in record {
       seat = (let e = c.first-seat.ensures.ended in
           let f : c.first-seat.result.1 ≤ c.first-seat.result.0.me.0.parts
-              = (let h = s.few in omega (arith, h, e, p)) in
-          record { of = s.of; table = s.table; slots = s.slots; parts = refl; stage = s.stage ∙ ap stage_after (sym e);
-              few = f });
+          = (let h = s.few in omega (arith, h, e, p)) in
+          record {
+            of = s.of;
+            table = s.table;
+            slots = s.slots;
+            parts = refl;
+            stage = s.stage ∙ ap stage_after (sym e);
+            few = f;
+          });
       passes = front_of (IsPass c.args.words.now) c.pop.new.self.items c.args.passes.items c.in-Some.pass
           c.requires.passes items;
       rest = front_of IsResting c.pop.new.self.items c.args.passes.items c.in-Some.pass c.requires.rest items;
@@ -43,12 +49,12 @@ loop-pass-init c =
 pub take_in-ended-requires-clause-pass : goal.take_in-ended-requires-clause-pass
 take_in-ended-requires-clause-pass c =
     last_of (IsPass c.args.words.now) c.pop-in-loop-pass.new.self.items c.loop-pass.passes.items c.in-Some-pop.pass
-        c.loop-pass.invariant.passes c.in-Some-pop.ensures.items
+    c.loop-pass.invariant.passes c.in-Some-pop.ensures.items
 
 pub take_in-ended-requires-clause-rest : goal.take_in-ended-requires-clause-rest
 take_in-ended-requires-clause-rest c =
     last_of IsResting c.pop-in-loop-pass.new.self.items c.loop-pass.passes.items c.in-Some-pop.pass
-        c.loop-pass.invariant.rest c.in-Some-pop.ensures.items
+    c.loop-pass.invariant.rest c.in-Some-pop.ensures.items
 
 pub loop-pass-preserved : goal.loop-pass-preserved
 loop-pass-preserved c =
@@ -65,8 +71,14 @@ loop-pass-preserved c =
     let u = total_last one c.pop-in-loop-pass.new.self.items c.in-Some-pop.pass in record {
       seat = (let f : c.take_in-ended.result ≤ c.take_in-ended.new.seat.me.0.parts
           = (let h = s.few in omega (arith, h, n, p)) in
-          record { of = s.of; table = s.table; slots = s.slots; parts = refl; stage = s.stage ∙ ap stage_after (sym n);
-              few = f });
+          record {
+            of = s.of;
+            table = s.table;
+            slots = s.slots;
+            parts = refl;
+            stage = s.stage ∙ ap stage_after (sym n);
+            few = f;
+          });
       passes = front_of (IsPass c.args.words.now) c.pop-in-loop-pass.new.self.items c.loop-pass.passes.items
           c.in-Some-pop.pass i.passes items;
       rest = front_of IsResting c.pop-in-loop-pass.new.self.items c.loop-pass.passes.items c.in-Some-pop.pass i.rest

@@ -12,5 +12,5 @@ join_seat-requires c = (
   join_allowed c.seats_are_allowed.ensures.join c.args.words.now.table.shared.key c.args.seat.now.id
       c.args.seat.now.me.0 c.args.pass.seat.id c.args.pass.seat.me.0
       (subst Rests (sym c.requires.seat.stage) (rests_after c.args.ended))
-          (subst Rests (sym c.requires.pass.stage) c.requires.rest),
+      (subst Rests (sym c.requires.pass.stage) c.requires.rest),
 )

@@ -8,8 +8,8 @@ overflow_add-cell c =
     let of = c.requires.pass.of in
     let room = of.room in
     let b = read_below w c.args.pass.now
-        (c.plans_are_good.ensures.dealt w.plan w.table.shared.key.cells.items of.planned) c.args.cell c.requires.pass
-        c.requires.next in
+    (c.plans_are_good.ensures.dealt w.plan w.table.shared.key.cells.items of.planned) c.args.cell c.requires.pass
+    c.requires.next in
     omega (arith, b, room)
 
 pub load-value-requires : goal.load-value-requires
@@ -18,10 +18,13 @@ load-value-requires c =
     let of = c.requires.pass.of in
     let long = of.long in
     let b = read_below w c.args.pass.now
-        (c.plans_are_good.ensures.dealt w.plan w.table.shared.key.cells.items of.planned) c.args.cell c.requires.pass
-        c.requires.next in
-    (c.requires.pass.table, omega (arith, b, long), loads w c.args.pass.now c.events_are_allowed.ensures.load
-        c.args.cell c.requires.pass c.requires.next)
+    (c.plans_are_good.ensures.dealt w.plan w.table.shared.key.cells.items of.planned) c.args.cell c.requires.pass
+    c.requires.next in (
+      c.requires.pass.table,
+      omega (arith, b, long),
+      loads w c.args.pass.now c.events_are_allowed.ensures.load
+          c.args.cell c.requires.pass c.requires.next,
+    )
 
 pub read-requires : goal.read-requires
 read-requires c =

@@ -12,7 +12,7 @@ of_words-requires c =
     let wide = c.requires.cells in
     let few : (shape_of plan).tiles + c.args.workers < 18446744073709551615 = search rules in
     opening_held c.all_interleavings_agree.ensures.start
-        (record { plan = plan; cells = cells; workers = c.args.workers }) c.as_slice.result.now
+    (record { plan = plan; cells = cells; workers = c.args.workers }) c.as_slice.result.now
     (c.plans_are_good.ensures.good plan cells.items c.requires.plan)
-        (c.plans_are_good.ensures.dealt plan cells.items c.requires.plan)
+    (c.plans_are_good.ensures.dealt plan cells.items c.requires.plan)
     (row ∙ ap (λ (xs : List ℕ). 0 ∷ 0 ∷ xs) (sym same)) (ap length same ∙ wide) few

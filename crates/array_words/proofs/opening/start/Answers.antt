@@ -14,8 +14,15 @@ loop-preserved c =
     let a = i.at in
     let l : length c.push.new.self.items ≡ length c.loop.passes.items + 1 = search rules in
     let more : 1 < c.loop.rest.me.0.parts = search rules in record {
-      rest = record { of = r.of; table = r.table; key = r.key; slots = r.slots; parts = refl; stage = r.stage;
-          reads = r.reads };
+      rest = record {
+        of = r.of;
+        table = r.table;
+        key = r.key;
+        slots = r.slots;
+        parts = refl;
+        stage = r.stage;
+        reads = r.reads;
+      };
       passes = all_and (IsPass c.in_ok-words.words) c.loop.passes.items c.push.new.self.items c.split.result i.passes
           c.split.ensures.pass items;
       idle = all_and IsIdlePass c.loop.passes.items c.push.new.self.items c.split.result i.idle c.split.ensures.idle
@@ -32,7 +39,7 @@ returns-clause-passes c =
     let worker = c.in_ok-idle.field-0 in
     let one : c.loop.rest.me.0.parts ≡ 1 = search rules in
     let items : c.push-2.new.self.items ≡ c.loop.passes.items ++ (record { seat = c.loop.rest; worker = worker }) ∷ []
-        = search rules in
+    = search rules in
     let last : IsPass c.in_ok-words.words (record { seat = c.loop.rest; worker = worker }) = record {
       of = i.rest.of;
       table = i.rest.table;
@@ -44,4 +51,4 @@ returns-clause-passes c =
       worker = c.in_ok-idle.ensures.worker;
     } in
     all_and (IsPass c.in_ok-words.words) c.loop.passes.items c.push-2.new.self.items
-        (record { seat = c.loop.rest; worker = worker }) i.passes last items
+    (record { seat = c.loop.rest; worker = worker }) i.passes last items

@@ -8,8 +8,8 @@ overflow_add-cell c =
     let of = c.requires.pass.of in
     let room = of.room in
     let b = written_below w c.args.pass.now
-        (c.plans_are_good.ensures.dealt w.plan w.table.shared.key.cells.items of.planned) c.args.cell c.args.value
-        c.requires.pass c.requires.next in
+    (c.plans_are_good.ensures.dealt w.plan w.table.shared.key.cells.items of.planned) c.args.cell c.args.value
+    c.requires.pass c.requires.next in
     omega (arith, b, room)
 
 pub store-requires : goal.store-requires
@@ -18,10 +18,13 @@ store-requires c =
     let of = c.requires.pass.of in
     let long = of.long in
     let b = written_below w c.args.pass.now
-        (c.plans_are_good.ensures.dealt w.plan w.table.shared.key.cells.items of.planned) c.args.cell c.args.value
-        c.requires.pass c.requires.next in
-    (c.requires.pass.table, omega (arith, b, long), stores w c.args.pass.now c.events_are_allowed.ensures.store
-        c.args.cell c.args.value c.requires.pass c.requires.next)
+    (c.plans_are_good.ensures.dealt w.plan w.table.shared.key.cells.items of.planned) c.args.cell c.args.value
+    c.requires.pass c.requires.next in (
+      c.requires.pass.table,
+      omega (arith, b, long),
+      stores w c.args.pass.now c.events_are_allowed.ensures.store
+          c.args.cell c.args.value c.requires.pass c.requires.next,
+    )
 
 pub advance-requires-clause-left : goal.advance-requires-clause-left
 advance-requires-clause-left c = instance_left c.args.words.now c.args.pass.now c.args.cell c.args.value c.requires.next
@@ -29,4 +32,4 @@ advance-requires-clause-left c = instance_left c.args.words.now c.args.pass.now 
 pub returns-clause-stage : goal.returns-clause-stage
 returns-clause-stage c =
     stage_after_store c.args.words.now c.args.pass.now c.args.cell c.args.value c.advance.new.self.stage c.requires.next
-        c.advance.ensures.stage
+    c.advance.ensures.stage

@@ -7,7 +7,7 @@ load-done-requires c = (
   c.requires.pass.table,
   search rules,
   opens c.events_are_allowed.ensures.open c.args.words.now c.args.pass.now c.in-Holding.tile c.requires.pass
-    c.in-Holding.is,
+      c.in-Holding.is,
 )
 
 pub needs-needs-requires-clause-tile : goal.needs-needs-requires-clause-tile
