@@ -8,7 +8,7 @@ use Rattle.std.proofs.lemmas.List.{take_more_set, drop-set-lt, take_all, append-
 use Rattle.wide_math.specs.declared.Wide.{Wide}
 use Rattle.wide_math.specs.Checked.{◌>>=◌}
 use Rattle.whole_numbers.specs.Affine.{Affine, form_of}
-use Rattle.affine_forms.specs.Runs.{zip_run, multiply_add_run, dot_run_from}
+use Rattle.affine_forms.specs.Runs.{map_run, zip_run, multiply_add_run, dot_run_from}
 use Rattle.affine_forms.specs.Runs.{form_run, plus_multiple_run, plus_combination_run}
 
 -- what is done already, in front of what a run gives for the rest
@@ -32,6 +32,38 @@ zip_run-step step xs ys i z hx hy e =
     rw (take_more_set xs i z hx, drop-set-lt (i + 1) xs i z (omega arith))
     (rw (drop-cons xs i (pos 0) hx, drop-cons ys i (pos 0) hy, add-one i, e)
     (sym (with_front-step (take i xs) z (zip_run step (drop (suc i) xs) (drop (suc i) ys)))))
+
+-- a step at place i that fails fails the run
+pub zip_run-stop : (step : ℤ → ℤ → Result ℤ Wide) (xs ys : List ℤ) (i : ℕ) (w : Wide)
+    → i < length xs
+    → i < length ys → step (get_or xs i (pos 0)) (get_or ys i (pos 0)) ≡ Err w
+    → with_front (take i xs) (zip_run step (drop i xs) (drop i ys)) ≡ Err w
+zip_run-stop step xs ys i w hx hy e = rw (drop-cons xs i (pos 0) hx, drop-cons ys i (pos 0) hy, e) refl
+
+-- at the end all is in front
+pub zip_run-end : (step : ℤ → ℤ → Result ℤ Wide) (xs ys : List ℤ) (i : ℕ) → length xs ≤ i
+    → with_front (take i xs) (zip_run step (drop i xs) ys) ≡ Ok xs
+zip_run-end step xs ys i h = rw (drop_of_length-le xs h, take_all i xs h, append-nil xs) refl
+
+-- a step at place i that gives z writes z there
+pub map_run-step : (step : ℤ → Result ℤ Wide) (xs : List ℤ) (i : ℕ) (z : ℤ) → i < length xs
+    → step (get_or xs i (pos 0)) ≡ Ok z
+    → with_front (take (i + 1) (set xs i z)) (map_run step (drop (i + 1) (set xs i z)))
+    ≡ with_front (take i xs) (map_run step (drop i xs))
+map_run-step step xs i z h e =
+    rw (take_more_set xs i z h, drop-set-lt (i + 1) xs i z (omega arith))
+    (rw (drop-cons xs i (pos 0) h, add-one i, e)
+    (sym (with_front-step (take i xs) z (map_run step (drop (suc i) xs)))))
+
+-- a step at place i that fails fails the run
+pub map_run-stop : (step : ℤ → Result ℤ Wide) (xs : List ℤ) (i : ℕ) (w : Wide) → i < length xs
+    → step (get_or xs i (pos 0)) ≡ Err w → with_front (take i xs) (map_run step (drop i xs)) ≡ Err w
+map_run-stop step xs i w h e = rw (drop-cons xs i (pos 0) h, e) refl
+
+-- at the end all is in front
+pub map_run-end : (step : ℤ → Result ℤ Wide) (xs : List ℤ) (i : ℕ) → length xs ≤ i
+    → with_front (take i xs) (map_run step (drop i xs)) ≡ Ok xs
+map_run-end step xs i h = rw (drop_of_length-le xs h, take_all i xs h, append-nil xs) refl
 
 -- a dot product: a term more, a term that fails, and the end
 pub dot_run_from-step : (sum : ℤ) (xs ys : List ℤ) (i : ℕ) (next : ℤ) → i < length xs → i < length ys
