@@ -3,6 +3,8 @@
 //! meet, the caller here no longer proves. Nothing is built on this crate.
 #![tactic(auto)]
 
+pub mod calls;
+
 ghost use Rattle.std.specs.Prelude.{All, ◌≡◌, ◌⊎◌, ◌<◌, ◌^◌, ℕ, [], List, Option};
 ghost use Rattle.clap.specs.Words.{fault_of};
 ghost use Rattle.io_ports.specs.Reads.{SourceShows};

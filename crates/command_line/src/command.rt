@@ -3,7 +3,7 @@
 use kernel_gen::Kind;
 
 /// By how many workers a plan is run, its size of tiles, the budget of its questions, and whether it is told.
-#[derive(Clone, Copy, PartialEq, Eq)]
+#[derive(Clone, Copy)]
 pub struct RunOptions {
     /// How many workers, from 1 to 64.
     pub workers: u64,
@@ -16,7 +16,7 @@ pub struct RunOptions {
 }
 
 /// A generated kernel: its kind, seed and size.
-#[derive(Clone, Copy, PartialEq, Eq)]
+#[derive(Clone, Copy)]
 pub struct GeneratedKernel {
     /// By which rule it is made.
     pub kind: Kind,
@@ -27,7 +27,7 @@ pub struct GeneratedKernel {
 }
 
 /// What a command line asks of a kernel alone: its data is not looked at.
-#[derive(Clone, Copy, PartialEq, Eq)]
+#[derive(Clone, Copy)]
 pub enum KernelCommand {
     /// The schedule, each question of whose search may make so many moves.
     Schedule { budget: u64 },
@@ -38,7 +38,7 @@ pub enum KernelCommand {
 }
 
 /// What a command line asks for.
-#[derive(Clone, Copy, PartialEq, Eq)]
+#[derive(Clone, Copy)]
 pub enum Command {
     /// The final arrays of a kernel and its data.
     Run(RunOptions),
@@ -52,7 +52,7 @@ pub enum Command {
 }
 
 /// Why a command line asks for nothing.
-#[derive(Clone, Copy, PartialEq, Eq)]
+#[derive(Clone, Copy)]
 pub enum CommandStop {
     /// The words are not taken, or they ask for help.
     Usage,

@@ -32,7 +32,7 @@ fn next_number(value: u64, byte: u8) -> Option<u64>
 }
 
 /// Why a list of numbers was not read.
-#[derive(Clone, Copy, PartialEq, Eq)]
+#[derive(Clone, Copy)]
 pub(crate) enum ListError {
     /// A word is no number.
     NotANumber,

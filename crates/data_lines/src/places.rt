@@ -7,7 +7,7 @@ ghost use Rattle.data_lines.specs.Sheets.{found, place_of, IsPlaceOf};
 use scop_syntax::tree::{Array, Kernel, Name};
 
 /// The place of a name.
-#[derive(Clone, Copy, PartialEq, Eq)]
+#[derive(Clone, Copy)]
 pub(crate) enum Place {
     Nowhere,
     Parameter(usize),

@@ -2,7 +2,7 @@
 
 /// The rule that data breaks first. Lines count from 1, parameters and arrays from 0 in the order of declaration,
 /// dimensions from 1.
-#[derive(Clone, Copy, PartialEq, Eq)]
+#[derive(Clone, Copy)]
 pub enum DataRefusal {
     /// The line is not `NAME = WORD ..`, or has not as many words as its first word or its parameter asks for.
     Line(u64),
@@ -33,7 +33,7 @@ pub enum DataRefusal {
 }
 
 /// Why data was not read.
-#[derive(Clone, Copy, PartialEq, Eq)]
+#[derive(Clone, Copy)]
 pub enum DataStop {
     /// The data breaks a rule.
     Refused(DataRefusal),

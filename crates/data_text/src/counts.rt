@@ -10,7 +10,7 @@ use data_lines::Given;
 use scop_syntax::arrays::Extents;
 
 /// A list that is not as long as its array.
-#[derive(Clone, Copy, PartialEq, Eq)]
+#[derive(Clone, Copy)]
 pub(crate) struct Miscount {
     pub(crate) line: u64,
     pub(crate) expected: u64,

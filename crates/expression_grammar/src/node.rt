@@ -4,7 +4,7 @@
 use crate::token::{Op, Sign, Suffix};
 
 /// A node, behind the nodes of its operands. Parentheses are no nodes.
-#[derive(Clone, Copy, PartialEq, Eq)]
+#[derive(Clone, Copy)]
 pub enum Node {
     Constant(Suffix, usize),
     Name(usize),

@@ -392,7 +392,7 @@ pub struct Expression {
 }
 
 /// Why there is no expression, with the place of the token that it is told at.
-#[derive(Debug, Clone, Copy, PartialEq, Eq)]
+#[derive(Debug, Clone, Copy)]
 pub enum Stop {
     /// The token fits nowhere.
     Unfit(usize),

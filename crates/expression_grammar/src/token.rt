@@ -2,7 +2,7 @@
 //! is looked up by its place among the tokens.
 
 /// A binary operator, or the comma between arguments.
-#[derive(Clone, Copy, PartialEq, Eq)]
+#[derive(Clone, Copy)]
 pub enum Op {
     Comma,
     LogicalOr,
@@ -26,7 +26,7 @@ pub enum Op {
 }
 
 /// An operator in front of its operand.
-#[derive(Clone, Copy, PartialEq, Eq)]
+#[derive(Clone, Copy)]
 pub enum Sign {
     /// `-`
     Minus,
@@ -37,7 +37,7 @@ pub enum Sign {
 }
 
 /// Whether a constant has a suffix, which makes it unsigned.
-#[derive(Clone, Copy, PartialEq, Eq)]
+#[derive(Clone, Copy)]
 pub enum Suffix {
     Absent,
     Present,

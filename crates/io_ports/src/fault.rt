@@ -3,6 +3,6 @@
 use thiserror::Error;
 
 /// A call on a source or a sink failed, and its count of faults rose.
-#[derive(Clone, Copy, Debug, PartialEq, Eq, Error)]
+#[derive(Clone, Copy, Debug, Error)]
 #[error("the stream failed")]
 pub struct Failed;

@@ -13,7 +13,7 @@ pub trait Gate: Sync {
 }
 
 /// A gate that never holds anyone.
-#[derive(Clone, Copy, PartialEq, Eq)]
+#[derive(Clone, Copy)]
 pub struct OpenGate;
 
 impl Gate for OpenGate {

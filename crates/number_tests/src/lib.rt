@@ -7,10 +7,6 @@ mod components;
 #[cfg(test)]
 mod conflicts;
 #[cfg(test)]
-mod dependence_rows;
-#[cfg(test)]
-mod elimination;
-#[cfg(test)]
 mod error_texts;
 #[cfg(test)]
 mod forms;
@@ -23,13 +19,9 @@ mod made;
 #[cfg(test)]
 mod numbers;
 #[cfg(test)]
-mod posed_sets;
-#[cfg(test)]
 mod sets;
 #[cfg(test)]
 mod solver;
-#[cfg(test)]
-mod sources;
 #[cfg(test)]
 mod tableaus;
 #[cfg(test)]

@@ -148,12 +148,12 @@ fn answer_command<W: Workers, S: Source, O: Sink, E: Sink>(
     ensures read_on { IsReadOn (S.shows source.old) (S.shows source.new) }
 {
     let ending = end_of(by, alloc, command, source, out, err);
-    if ending.status != Status::Done {
-        return ending;
-    }
-    match err.flush() {
-        Ok(()) => ending,
-        Err(Failed) => Ending::of(Status::WriteFault),
+    match ending.status {
+        Status::Done => match err.flush() {
+            Ok(()) => ending,
+            Err(Failed) => Ending::of(Status::WriteFault),
+        },
+        _ => ending,
     }
 }
 
@@ -185,8 +185,11 @@ fn end_of<W: Workers, S: Source, O: Sink, E: Sink>(
 fn tell<E: Sink>(status: Status, kernel: Option<&Kernel>, err: &mut E)
     ensures { TellsStatus (option_map (λ k. program_of k.now) kernel.entry) status (E.shows err.old) (E.shows err.new) }
 {
-    if status != Status::Done {
+    match status {
+        Status::Done => {}
         // The status stays where its line cannot be written.
-        let _ = status_line(status, kernel, err);
+        _ => {
+            let _ = status_line(status, kernel, err);
+        }
     }
 }

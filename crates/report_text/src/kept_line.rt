@@ -7,7 +7,7 @@ use crate::pieces::{Piece, push_pieces, push_text};
 use std::alloc::{AllocError, Global};
 
 /// Why the order of a kernel is kept.
-#[derive(Clone, Copy, PartialEq, Eq)]
+#[derive(Clone, Copy)]
 pub enum KeptLine {
     /// A number does not fit 128 bits.
     Wide,

@@ -5,7 +5,7 @@ use scop_meaning::index::Outside;
 use scop_parser::refusal::Refusal;
 
 /// How a call of the program ended.
-#[derive(Clone, Copy, PartialEq, Eq)]
+#[derive(Clone, Copy)]
 pub enum Status {
     /// The whole answer was written.
     Done,

@@ -23,7 +23,7 @@ pub enum Item {
 }
 
 /// The first and the last of a band's items, which are numbered from 0.
-#[derive(Clone, Copy, PartialEq, Eq)]
+#[derive(Clone, Copy)]
 pub struct Band {
     pub first: usize,
     pub last: usize,

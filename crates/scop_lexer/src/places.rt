@@ -4,7 +4,7 @@ ghost use Rattle.std.specs.Prelude.{◌≡◌, ◌≤◌, length, take};
 ghost use Rattle.scop_lexer.specs.Lines.{line_behind, column_behind};
 
 /// Where a byte stands: lines and columns count from 1, columns in bytes.
-#[derive(Clone, Copy, PartialEq, Eq)]
+#[derive(Clone, Copy)]
 pub struct Place {
     pub line: u64,
     pub column: u64,

@@ -3,7 +3,7 @@
 use crate::token::{FaultKind, Kind};
 
 /// What stands at a place of a text, and how many bytes it has.
-#[derive(Clone, Copy, PartialEq, Eq)]
+#[derive(Clone, Copy)]
 pub enum Stand {
     /// The text's end.
     End,

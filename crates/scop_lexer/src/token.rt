@@ -6,7 +6,7 @@ ghost use Rattle.scop_lexer.specs.declared.token.Stop.TheVariants as stop;
 use std::alloc::AllocError;
 
 /// The kind of a token.
-#[derive(Clone, Copy, PartialEq, Eq)]
+#[derive(Clone, Copy)]
 pub enum Kind {
     /// `void`
     Void,
@@ -29,7 +29,7 @@ pub enum Kind {
 }
 
 /// The signs.
-#[derive(Clone, Copy, PartialEq, Eq)]
+#[derive(Clone, Copy)]
 pub enum Punctuator {
     /// `(`
     OpenParenthesis,
@@ -116,7 +116,7 @@ pub enum Punctuator {
 }
 
 /// A token: its kind, and the span of its bytes in the text.
-#[derive(Clone, Copy, PartialEq, Eq)]
+#[derive(Clone, Copy)]
 pub struct Token {
     pub kind: Kind,
     /// The place of its first byte, counted from 0.
@@ -126,7 +126,7 @@ pub struct Token {
 }
 
 /// What can be wrong with a text's tokens.
-#[derive(Clone, Copy, PartialEq, Eq)]
+#[derive(Clone, Copy)]
 pub enum FaultKind {
     /// A byte begins no token, or is the 64th of a name.
     Character,
@@ -139,14 +139,14 @@ pub enum FaultKind {
 }
 
 /// A fault, and the place of the byte where it stands, counted from 0.
-#[derive(Clone, Copy, PartialEq, Eq)]
+#[derive(Clone, Copy)]
 pub struct Fault {
     pub kind: FaultKind,
     pub place: usize,
 }
 
 /// Why there are no tokens.
-#[derive(Clone, Copy, PartialEq, Eq)]
+#[derive(Clone, Copy)]
 pub enum Stop {
     /// The first fault of the text.
     Refused(Fault),

@@ -33,7 +33,7 @@ const LEAST_TURNS: u64 = 3;
 /// A subscript outside its extent: of which statement, counted from 1, of which of its accesses,
 /// where 0 is the place written and the reads are counted from 1, and in which dimension, counted
 /// from 1.
-#[derive(Clone, Copy, PartialEq, Eq)]
+#[derive(Clone, Copy)]
 pub struct Outside {
     pub stmt: usize,
     pub access: usize,

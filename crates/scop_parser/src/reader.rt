@@ -29,7 +29,7 @@ use scop_units::words::{Words, grammar_token};
 use std::alloc::Global;
 
 /// Why there is no kernel.
-#[derive(Clone, Copy, PartialEq, Eq)]
+#[derive(Clone, Copy)]
 pub enum ReadKernelError {
     /// The first fault of the text.
     Refused(Refusal),

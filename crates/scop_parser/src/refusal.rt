@@ -1,7 +1,7 @@
 //! Why a text is refused: the kind of its first fault, and where it stands.
 
 /// The kinds of faults, in the order in which they are looked for, and at one place in their order.
-#[derive(Clone, Copy, PartialEq, Eq)]
+#[derive(Clone, Copy)]
 pub enum RefusalKind {
     /// A byte begins no token, or is the 64th of a name.
     Character,
@@ -54,7 +54,7 @@ pub enum RefusalKind {
 }
 
 /// A fault: lines and columns count from 1, columns in bytes.
-#[derive(Clone, Copy, PartialEq, Eq)]
+#[derive(Clone, Copy)]
 pub struct Refusal {
     pub kind: RefusalKind,
     pub line: u64,

