@@ -1,5 +1,5 @@
 -- What the fields of a call's promise say, written out.
-use Rattle.std.proofs.Common.{◌≡◌, ◌∙◌, ◌⊎◌, inl, inr, refl, ap, subst, ℕ, List, [], ◌++◌, Option, Some, true}
+use Rattle.std.proofs.Common.{◌≡◌, ◌∙◌, ◌⊎◌, inl, inr, refl, ap, subst, ℕ, List, [], ◌++◌, Option, None, Some, true}
 use Rattle.std.specs.Prelude.{if◌then◌else◌}
 use Rattle.std.specs.Io.KnownBytes.{Appends}
 use Rattle.io_ports.specs.Bytes.{GainsFront}
@@ -68,6 +68,7 @@ named_line left refusal out out_after err mid err_after (Some program) names (in
     (names.0, program, mid, names.2, inl whole)
 named_line left refusal out out_after err mid err_after (Some program) names (inr part) =
     (names.0, program, mid, names.2, inr part.0)
+named_line left refusal out out_after err mid err_after None names gains = absurd names
 
 -- the line of data that is refused
 pub data_line : (words : List (List ℕ)) (status : Status) (source source_after : SourceShows)
@@ -76,6 +77,8 @@ pub data_line : (words : List (List ℕ)) (status : Status) (source source_after
     → (input : List ℕ) × (program : Program) × (mid : SinkShows) × SpellsProgram (kernel_part input) program
     × (Appends mid.taken err_after.taken (status_text (Some program) (BadData refusal))
     ⊎ GainsFront mid.taken err_after.taken (status_text (Some program) (BadData refusal)))
-data_line words (BadData refusal) source source_after out out_after err err_after refusal refl answered =
-    named_line source.left refusal out out_after err answered.error_line.3 err_after answered.error_line.0
-    answered.error_line.1 answered.error_line.6
+data_line words status source source_after out out_after err err_after refusal is answered =
+    let line = answered.error_line in
+    named_line source.left refusal out out_after err line.3 err_after line.0
+    (subst (λ s. NamesOf source.left s line.0) is line.1)
+    (subst (λ s. GainsLine line.0 s out out_after err line.3 err_after) is line.6)

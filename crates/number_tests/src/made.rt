@@ -84,16 +84,3 @@ pub fn is_row(form: &Form, row: &[i128]) -> bool {
         }
     }
 }
-
-/// Whether forms have the numbers of rows, one by one.
-pub fn are_rows(forms: &[Form], rows: &[&[i128]]) -> bool {
-    if forms.len() != rows.len() {
-        return false;
-    }
-    for at in 0..forms.len() {
-        if !is_row(&forms[at], rows[at]) {
-            return false;
-        }
-    }
-    true
-}

@@ -1,9 +1,7 @@
 //! Points of systems, computed by Python's integers. The systems have the dimensions `i` and `j` and the parameter `n`.
 
 use crate::made::system;
-use integer_sets::ScanSet;
 use std::alloc::{AllocError, Global};
-use std::test::Fail;
 use wide_math::{Op, Wide};
 
 const TWO_126: i128 = 85070591730234615865843651857942052864;
@@ -66,15 +64,4 @@ fn intersections(rt: HostRuntime) {
             "{point:?}"
         );
     }
-}
-
-#[test]
-fn scan_sets(rt: HostRuntime) -> Result<(), Fail> {
-    let system = system(rt.alloc(), 2, 1, &[], &[])?;
-    let set = ScanSet::of(4, Some(1), 0, 2, system);
-    assert!(rt; set.statement() == 4);
-    assert!(rt; set.parallel() == Some(1));
-    assert!(rt; set.first() + set.iterators() == set.system().dimensions());
-    assert!(rt; set.system().parameters() == 1);
-    Ok(())
 }

@@ -176,49 +176,6 @@ fn forms_are_applied_at_each_leaf(rt: HostRuntime) -> Result<(), Fail> {
     Ok(())
 }
 
-/// What stops a quast from being made.
-fn stop_of(made: Result<Quast, FormStop>) -> Option<FormStop> {
-    match made {
-        Err(stop) => Some(stop),
-        Ok(quast) => {
-            drop(quast);
-            None
-        }
-    }
-}
-
-#[test]
-fn a_form_at_a_leaf_is_too_wide(rt: HostRuntime) -> Result<(), Fail> {
-    let large = applied(rt.alloc(), &[&[0, TWO_126, 0]])?;
-    let wide = Wide {
-        op: Op::Mul,
-        a: TWO_126,
-        b: 2,
-    };
-    assert!(rt; stop_of(large) == Some(FormStop::Wide(wide)));
-    Ok(())
-}
-
-/// A great multiple of p where p is at least 0.
-fn great(alloc: Global) -> Result<Quast, Fail> {
-    let forms = forms(alloc, 1, &[&[TWO_126, 0]])?;
-    let first = source(alloc, 1, 0, &[], &forms)?;
-    Ok(Quast::branch(Form::of(alloc, &[1], 0)?, first, Quast::initial(alloc, 1)?)?)
-}
-
-/// What `great` answers.
-const GREAT: &[(i128, Want)] = &[
-    (-5, Want::Initial),
-    (1, Want::Found(0, &[], &[TWO_126])),
-    (4, Want::Wide(TWO_126, 4)),
-];
-
-#[test]
-fn only_the_way_of_the_point_is_told(rt: HostRuntime) -> Result<(), Fail> {
-    expect_made(&rt, great(rt.alloc())?, 3, GREAT);
-    Ok(())
-}
-
 /// The greatest place from 0 to 4095 that is not above p, by a branch a place, whose first side or second
 /// is all the rest.
 fn staircase(alloc: Global, deep_first: bool) -> Result<Quast, Fail>
@@ -289,34 +246,6 @@ fn deep_branches_need_no_stack(rt: HostRuntime) -> Result<(), Fail> {
         let quast = staircase(rt.alloc(), deep_first)?;
         expect_both(&rt, rt.alloc(), quast, 8193, STAIRCASE, MOVED_STAIRCASE);
     }
-    Ok(())
-}
-
-/// p + 1024, by 1,024 binds that each add 1 to the last variable.
-fn ladder(alloc: Global) -> Result<Quast, Fail>
-    ensures parameters { IfOk result (λ q. q.parameters ≡ 1) }
-    ensures leaves { IfOk result (λ q. Suits (form_of (pos 1 ∷ []) (pos 7) ∷ []) (tree_of q)) }
-{
-    let mut coefficients = [0; 1025];
-    coefficients[1024] = 1;
-    let last = [Form::of(alloc, &coefficients, 0)?];
-    let mut quast = source(alloc, 1025, 0, &[], &last)?;
-    for step in 0..1024usize {
-        quast = Quast::bind(Form::of(alloc, &coefficients[step + 1..], 1)?, 1, quast)?;
-    }
-    Ok(quast)
-}
-
-/// What `ladder` answers.
-const LADDER: &[(i128, Want)] = &[(-2024, Want::Found(0, &[], &[-1000]))];
-
-/// What it answers with 7 added.
-const MOVED_LADDER: &[(i128, Want)] = &[(-2024, Want::Found(0, &[], &[-993]))];
-
-#[test]
-fn deep_binds_need_no_stack(rt: HostRuntime) -> Result<(), Fail> {
-    let quast = ladder(rt.alloc())?;
-    expect_both(&rt, rt.alloc(), quast, 1025, LADDER, MOVED_LADDER);
     Ok(())
 }
 

@@ -9,7 +9,9 @@ returns-clause-arrays g c = λ options is done.
 
 pub returns-clause-report : goal.returns-clause-report
 returns-clause-report g c = λ options is asked done.
-    reported options _ _ _ _ _ asked (c.plain_command.ensures.done options is done)
+    reported options (g.S.Source.shows c.args.source.now).left (g.O.Sink.shows c.args.out.now)
+    (g.O.Sink.shows c.plain_command.new.out) (g.E.Sink.shows c.args.err.now) (g.E.Sink.shows c.plain_command.new.err)
+    asked (c.plain_command.ensures.done options is done)
 
 pub returns-clause-schedule : goal.returns-clause-schedule
 returns-clause-schedule g c = λ budget is done.
@@ -41,4 +43,6 @@ returns-clause-front g c = λ fault.
 
 pub returns-clause-line : goal.returns-clause-line
 returns-clause-line g c = λ refusal is.
-    data_line _ _ _ _ _ _ _ _ refusal is c.plain_command.ensures
+    data_line _ c.plain_command.result (g.S.Source.shows c.args.source.now) (g.S.Source.shows c.plain_command.new.source)
+    (g.O.Sink.shows c.args.out.now) (g.O.Sink.shows c.plain_command.new.out) (g.E.Sink.shows c.args.err.now)
+    (g.E.Sink.shows c.plain_command.new.err) refusal is c.plain_command.ensures
