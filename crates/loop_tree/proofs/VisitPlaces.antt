@@ -12,11 +12,12 @@ use Rattle.loop_tree.specs.SpotView.{mark_of, marks_of}
 use Rattle.loop_tree.specs.declared.spot.Mark.{Mark as CodeMark}
 use Rattle.std.proofs.Common.{negsuc}
 use Rattle.whole_numbers.proofs.Order.{le_or_lt}
+use Rattle.whole_numbers.specs.Affine.{Affine, values_of}
 use Rattle.scop_syntax.specs.Walk.{Instance, most_turns}
-use Rattle.loop_tree.specs.Tree.{Bounds, Test, Tree, Trees, guard, loop, more, none}
+use Rattle.loop_tree.specs.Tree.{Bounds, Test, Tree, Trees, guard, instance, loop, more, none}
 use Rattle.loop_tree.specs.Walk.{all_hold, walk, walk_all, given, lower, upper}
 use Rattle.loop_tree.specs.Conditions.{CanWalk}
-use Rattle.loop_tree.specs.Spot.{Mark, mark, deep, deep_all, rest_in, rest_of, IsAt, IsWithin}
+use Rattle.loop_tree.specs.Spot.{Mark, mark, deep, deep_all, rest_in, rest_of, IsAt, IsWithin, shown_from}
 use Rattle.loop_tree.specs.View.{tree_of, nodes_of}
 use Rattle.loop_tree.specs.declared.tree.Node.{Node}
 use Rattle.loop_tree.proofs.WalkSteps.{shown_by, shown_none, shown_turn, turns_shown, walk_first}
@@ -171,6 +172,18 @@ pub go_turn : (body : Trees) (ms : List Mark) (x last : ℤ) (params outer : Lis
 go_turn body ms x last params outer can here =
     record { walk = can.walk x (omega (arith, ints)) here; room = can.room; stands = can.stands here }
 
+-- what goes on within a loop's value goes on along its values
+pub turned_within : (body : Trees) (old new : List Mark) (x last : ℤ) (is : List Instance) (params outer : List ℤ)
+    → x ≤ℤ last → HasGone body old new is params (outer ++ x ∷ []) → HasTurned body x old x new last is params outer
+turned_within body old new x last is params outer here gone =
+    let h : le_z x last ≡ true = grind (arith, ints) in
+    let behind = shown_from body params outer (x +ℤ pos 1) last in
+    record {
+      rest = rw (h, gone.rest) (append_assoc is (rest_of body new params (outer ++ x ∷ [])) behind);
+      up = omega (arith, ints);
+      stands = λ a. gone.stands;
+    }
+
 -- what stays of a loop's values where nothing is left within one
 pub turns_next : (body : Trees) (ms new : List Mark) (x last : ℤ) (params outer : List ℤ) → x ≤ℤ last
     → deep_all body ≤ length new → rest_of body ms params (outer ++ x ∷ []) ≡ []
@@ -267,6 +280,15 @@ rest_guard tests body false x z ms params outer room holds =
     ∙ (ap (λ (b : Bool). map given (if b then walk_all body params outer else [])) holds
     ∙ sym (rest_restarted body ms params outer room))
 
+-- of one that does not let pass nothing is to come
+pub rest_stopped : (tests : List Test) (body : Trees) (begun : Bool) (x z : ℤ) (ms : List Mark) (params outer : List ℤ)
+    → all_hold tests (outer ++ params) ≡ false
+    → rest_of (more (guard tests body) none) (mark zero begun x z ∷ ms) params outer ≡ []
+rest_stopped tests body true x z ms params outer stops =
+    ap (λ (b : Bool). (if b then rest_of body ms params outer else []) ++ []) stops
+rest_stopped tests body false x z ms params outer stops =
+    ap (λ (b : Bool). map given (if b then walk_all body params outer else []) ++ []) stops
+
 pub gone_guard : (tests : List Test) (body : Trees) (begun : Bool) (x z : ℤ) (ms : List Mark) (begun' : Bool) (y w : ℤ)
     (new : List Mark) (is : List Instance) (params outer : List ℤ) → deep_all body ≤ length ms
     → all_hold tests (outer ++ params) ≡ true → begun' ≡ true
@@ -286,6 +308,14 @@ gone_guard tests body begun x z ms begun' y w new is params outer room holds b g
       room = omega (arith, l, kept);
       stands = (holds, gone.stands);
     })
+
+-- an instance that was not begun comes, and then nothing of it
+pub gone_instance : (n : ℕ) (forms : List Affine) (i : Instance) (x z y w : ℤ) (ms new : List Mark)
+    (params outer : List ℤ) → i ≡ record { number = n; turns = values_of forms (outer ++ params) }
+    → length new ≡ length ms
+    → HasGone (more (instance n forms) none) (mark zero false x z ∷ ms) (mark zero true y w ∷ new) (i ∷ []) params outer
+gone_instance n forms i x z y w ms new params outer is kept =
+    record { rest = ap (λ (j : Instance). j ∷ []) (sym is); room = omega (arith, kept); stands = tt }
 
 -- a loop that was begun is at no value before its first, and its last is known
 pub begun_last : (flag : Bool) (lo up : Bounds) (body : Trees) (begun : Bool) (x z : ℤ) (ms : List Mark)

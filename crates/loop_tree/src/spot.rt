@@ -389,8 +389,9 @@ impl Spot {
         ensures none { IsNone result → to_come (nodes_of nodes.now) params.now self.old ≡ [] }
         ensures spot { IsSpotOf (nodes_of nodes.now) params.now self.new }
     {
-        let found = next_of(nodes, self.marks.as_mut_slice(), &Outer::Top, params);
-        let passed = pass_by(nodes, self.marks.as_mut_slice(), &Outer::Top, params);
+        let marks = self.marks.as_mut_slice();
+        let found = next_of(nodes, marks, &Outer::Top, params);
+        let passed = pass_by(nodes, marks, &Outer::Top, params);
         replace(&mut self.stretch, &mut self.braid, passed);
         found
     }

@@ -106,6 +106,11 @@ pub tests_are : (es rs : List Affine) → equal_tests es (row_tests rs) ≡ map 
 tests_are [] rs = rows_are rs
 tests_are (f ∷ es) rs = ap (λ ts. equal f ∷ ts) (tests_are es rs)
 
+-- no tests, no guard
+pub under_none : (tests : List Test) (t : Tree) → length tests ≡ 0 → under tests t ≡ t
+under_none [] t empty = refl
+under_none (test ∷ tests) t empty = absurd (omega (arith, empty))
+
 pub under_some : (tests : List Test) (t : Tree) → 0 < length tests → under tests t ≡ guard tests (more t none)
 under_some [] t some = absurd (omega (arith, some))
 under_some (test ∷ tests) t some = refl

@@ -4,20 +4,23 @@ use Rattle.std.proofs.Common.{get_or, map}
 use Rattle.std.specs.Prelude.{if◌then◌else◌}
 use Rattle.std.specs.Int.{w128}
 use Rattle.std.proofs.lemmas.Int.{ints, to_z-of_z}
+use Rattle.scop_syntax.specs.View.{instance_of}
 use Rattle.loop_tree.specs.steps.Chain.{values_in}
 use Rattle.loop_tree.specs.steps.Going.{CanGo, CanTurn, HasGone, HasTurned, rest_from, restarted}
 use Rattle.loop_tree.specs.Conditions.{CanWalk}
 use Rattle.loop_tree.specs.Spot.{IsAt, Mark, deep_all, mark as marked_at, rest_of}
 use Rattle.loop_tree.specs.SpotView.{found_in, marks_of}
-use Rattle.loop_tree.specs.Tree.{Tree, Trees, guard as guarded, more, none}
+use Rattle.loop_tree.specs.Tree.{Tree, Trees, guard as guarded, instance, loop, more, none}
 use Rattle.loop_tree.specs.View.{bounds_in, nodes_of, test_of, tree_of}
 use Rattle.loop_tree.specs.Walk.{all_hold as tests_hold, lower, upper}
-use Rattle.loop_tree.proofs.Views.{tree_guard, tree_instance}
+use Rattle.loop_tree.proofs.Views.{tree_guard, tree_instance, tree_loop}
 use Rattle.loop_tree.proofs.WalkSteps.{leaf_held}
 use Rattle.loop_tree.proofs.Weights.{node_weight, weight, weight_all}
+use Rattle.loop_tree.specs.declared.outer.Outer.TheVariants.{Within}
+use Rattle.loop_tree.proofs.Chains.{values_at}
 use Rattle.loop_tree.proofs.VisitPlaces.{at_next, at_restarted, begun_last, go_guard, go_loop, go_node, go_turn}
-use Rattle.loop_tree.proofs.VisitPlaces.{gone_guard, gone_loop, gone_node, length-marks, length-restarted, node_done}
-use Rattle.loop_tree.proofs.VisitPlaces.{rest_end, rest_guard, rest_loop, turns_fewer, turns_next}
+use Rattle.loop_tree.proofs.VisitPlaces.{gone_guard, gone_instance, gone_loop, gone_node, length-marks, length-restarted, node_done}
+use Rattle.loop_tree.proofs.VisitPlaces.{rest_end, rest_guard, rest_loop, rest_stopped, turns_fewer, turns_next}
 use Rattle.loop_tree.proofs.spot.+going.Goals as goal
 
 abbrev begun_of : Mark → Bool
@@ -375,3 +378,168 @@ next_turn-loop-mark-preserved t c =
       l.invariant.5,
       l.invariant.6,
     )
+
+pub next_from-returns-clause-gone : goal.next_from-returns-clause-gone
+next_from-returns-clause-gone t c =
+    let l = c.loop-mark in
+    let same = l.invariant.2 in
+    let a = length-marks l.deeper in
+    let b = length-marks c.args.deeper.now in
+    record { rest = l.invariant.1; room = omega (arith, same, a, b); stands = l.invariant.0.stands }
+
+pub next_in-lets_pass-requires-clause-begun : goal.next_in-lets_pass-requires-clause-begun
+next_in-lets_pass-requires-clause-begun t c =
+    let params = c.args.params.now in
+    let outer = values_in c.args.outer.now in
+    let m = c.args.mark.now in
+    let ms = marks_of c.args.deeper.now in
+    let tests = map test_of c.in-Guard.guard.tests.items in
+    let body = nodes_of c.in-Guard.body.items in
+    let t_is : tree_of c.args.node.now ≡ guarded tests body =
+    ap tree_of c.in-Guard.is ∙ tree_guard c.in-Guard.guard c.in-Guard.body in
+    let at = subst (λ (u : Tree). IsAt (more u none) (marked_at 0 m.begun m.value m.last ∷ ms) params outer) t_is
+    c.requires.stands in
+    λ b.
+    (subst (λ (d : Bool). IsAt (more (guarded tests body) none) (marked_at 0 d m.value m.last ∷ ms) params outer) b
+    at).0
+
+pub next_in-returns-then-mark-clause-none : goal.next_in-returns-then-mark-clause-none
+next_in-returns-then-mark-clause-none t c =
+    let params = c.args.params.now in
+    let outer = values_in c.args.outer.now in
+    let m = c.args.mark.now in
+    let ms = marks_of c.args.deeper.now in
+    let leaf = c.in-Instance.leaf in
+    let t_is = ap tree_of c.in-Instance.is ∙ tree_instance leaf in
+    λ e.
+    subst (λ (u : Tree). rest_of (more u none) (marked_at 0 m.begun m.value m.last ∷ ms) params outer ≡ []) (sym t_is)
+    (subst (λ (b : Bool). rest_of (more (instance leaf.statement leaf.turns.items) none)
+    (marked_at 0 b m.value m.last ∷ ms) params outer ≡ []) (sym c.if-mark.true) refl)
+
+pub next_in-returns-in-Loop-clause-gone : goal.next_in-returns-in-Loop-clause-gone
+next_in-returns-in-Loop-clause-gone t c =
+    let params = c.args.params.now in
+    let outer = values_in c.args.outer.now in
+    let head = c.in-Loop.head in
+    let lo = bounds_in head.lower in
+    let up = bounds_in head.upper in
+    let m = c.args.mark.now in
+    let ms = marks_of c.args.deeper.now in
+    let t_is : tree_of c.args.node.now ≡ loop head.parallel lo up (nodes_of c.in-Loop.body.items) =
+    ap tree_of c.in-Loop.is ∙ tree_loop head c.in-Loop.body in
+    let body_is = ap nodes_of c.deref.ensures.value in
+    let loop_is : tree_of c.args.node.now ≡ loop head.parallel lo up (nodes_of c.deref.result.now) =
+    t_is ∙ ap (λ (ts : Trees). loop head.parallel lo up ts) (sym body_is) in
+    let new = c.next_loop.new in
+    λ e.
+    subst (λ (u : Tree). HasGone (more u none) (marked_at 0 m.begun m.value m.last ∷ ms)
+    (marked_at 0 new.mark.begun new.mark.value new.mark.last ∷ marks_of new.deeper) (found_in c.next_loop.result)
+    params outer) (sym loop_is) (c.next_loop.ensures.gone e)
+
+pub next_in-returns-in-Loop-clause-none : goal.next_in-returns-in-Loop-clause-none
+next_in-returns-in-Loop-clause-none t c =
+    let params = c.args.params.now in
+    let outer = values_in c.args.outer.now in
+    let head = c.in-Loop.head in
+    let lo = bounds_in head.lower in
+    let up = bounds_in head.upper in
+    let m = c.args.mark.now in
+    let ms = marks_of c.args.deeper.now in
+    let t_is : tree_of c.args.node.now ≡ loop head.parallel lo up (nodes_of c.in-Loop.body.items) =
+    ap tree_of c.in-Loop.is ∙ tree_loop head c.in-Loop.body in
+    let body_is = ap nodes_of c.deref.ensures.value in
+    let loop_is : tree_of c.args.node.now ≡ loop head.parallel lo up (nodes_of c.deref.result.now) =
+    t_is ∙ ap (λ (ts : Trees). loop head.parallel lo up ts) (sym body_is) in
+    λ e.
+    subst (λ (u : Tree). rest_of (more u none) (marked_at 0 m.begun m.value m.last ∷ ms) params outer ≡ [])
+    (sym loop_is) (c.next_loop.ensures.none e)
+
+pub next_in-next_loop-requires : goal.next_in-next_loop-requires
+next_in-next_loop-requires t c =
+    let params = c.args.params.now in
+    let outer = values_in c.args.outer.now in
+    let head = c.in-Loop.head in
+    let lo = bounds_in head.lower in
+    let up = bounds_in head.upper in
+    let m = c.args.mark.now in
+    let ms = marks_of c.args.deeper.now in
+    let t_is : tree_of c.args.node.now ≡ loop head.parallel lo up (nodes_of c.in-Loop.body.items) =
+    ap tree_of c.in-Loop.is ∙ tree_loop head c.in-Loop.body in
+    let body_is = ap nodes_of c.deref.ensures.value in
+    let loop_is : tree_of c.args.node.now ≡ loop head.parallel lo up (nodes_of c.deref.result.now) =
+    t_is ∙ ap (λ (ts : Trees). loop head.parallel lo up ts) (sym body_is) in
+    let can : CanGo (more (loop head.parallel lo up (nodes_of c.deref.result.now)) none)
+    (marked_at 0 m.begun m.value m.last ∷ ms) params outer =
+    subst (λ (u : Tree). CanGo (more u none) (marked_at 0 m.begun m.value m.last ∷ ms) params outer) loop_is
+    c.requires in
+    let w = ap weight t_is in
+    let e = ap weight_all body_is in
+    let less : weight_all (nodes_of c.deref.result.now) + 5 < weight (tree_of c.args.node.now) =
+    omega (arith, w, e) in
+    search rules
+
+pub next_in-returns-else-lets_pass-clause-none : goal.next_in-returns-else-lets_pass-clause-none
+next_in-returns-else-lets_pass-clause-none t c =
+    let params = c.args.params.now in
+    let outer = values_in c.args.outer.now in
+    let m = c.args.mark.now in
+    let ms = marks_of c.args.deeper.now in
+    let tests = map test_of c.in-Guard.guard.tests.items in
+    let body = nodes_of c.in-Guard.body.items in
+    let t_is : tree_of c.args.node.now ≡ guarded tests body =
+    ap tree_of c.in-Guard.is ∙ tree_guard c.in-Guard.guard c.in-Guard.body in
+    λ e.
+    subst (λ (u : Tree). rest_of (more u none) (marked_at 0 m.begun m.value m.last ∷ ms) params outer ≡ []) (sym t_is)
+    (rest_stopped tests body m.begun m.value m.last ms params outer (sym c.lets_pass.ensures ∙ c.if-lets_pass.false))
+
+pub next_in-returns-else-mark-clause-gone : goal.next_in-returns-else-mark-clause-gone
+next_in-returns-else-mark-clause-gone t c =
+    let params = c.args.params.now in
+    let outer = values_in c.args.outer.now in
+    let m = c.args.mark.now in
+    let ms = marks_of c.args.deeper.now in
+    let leaf = c.in-Instance.leaf in
+    let n = leaf.statement in
+    let forms = leaf.turns.items in
+    let new = c.begin.new.mark in
+    let ns = marks_of c.begin.new.deeper in
+    let is = found_in (Some c.instance_at.result) in
+    let t_is = ap tree_of c.in-Instance.is ∙ tree_instance leaf in
+    let was : m.begun ≡ false = c.if-mark.false in
+    let now : new.begun ≡ true = ap (λ (k : Mark). begun_of k) c.begin.ensures.mark in
+    let kept = ap (λ (ks : List Mark). length ks) c.begin.ensures.deeper ∙ length-restarted ms in
+    λ e.
+    subst (λ (u : Tree). HasGone (more u none) (marked_at 0 m.begun m.value m.last ∷ ms)
+    (marked_at 0 new.begun new.value new.last ∷ ns) is params outer) (sym t_is)
+    (subst (λ (b : Bool). HasGone (more (instance n forms) none) (marked_at 0 b m.value m.last ∷ ms)
+    (marked_at 0 new.begun new.value new.last ∷ ns) is params outer) (sym was)
+    (subst (λ (b : Bool). HasGone (more (instance n forms) none) (marked_at 0 false m.value m.last ∷ ms)
+    (marked_at 0 b new.value new.last ∷ ns) is params outer) (sym now)
+    (gone_instance n forms (instance_of c.instance_at.result) m.value m.last new.value new.last ms ns params outer
+    c.instance_at.ensures kept)))
+
+pub next_within-next_of-requires : goal.next_within-next_of-requires
+next_within-next_of-requires t c =
+    let v = to_z w128 (of_z w128 c.args.value) in
+    let body = nodes_of c.args.body.now in
+    let params = c.args.params.now in
+    let ms = marks_of c.args.deeper.now in
+    let within = values_at c.args.outer c.args.value v (to_z-of_z w128 c.args.value c.ranges.value) in
+    let can : CanGo body ms params (values_in (Within c.args.outer v)) =
+    subst (λ (os : List ℤ). CanGo body ms params os) (sym within) c.requires in
+    let less : weight_all body + 2 < weight_all body + 3 = omega arith in
+    search rules
+
+pub next_within-returns-clause-gone : goal.next_within-returns-clause-gone
+next_within-returns-clause-gone t c =
+    subst (λ (os : List ℤ). HasGone (nodes_of c.args.body.now) (marks_of c.args.deeper.now)
+    (marks_of c.next_of.new.marks) (found_in c.next_of.result) c.args.params.now os)
+    (values_at c.args.outer c.args.value (to_z w128 (of_z w128 c.args.value))
+    (to_z-of_z w128 c.args.value c.ranges.value)) c.next_of.ensures.gone
+
+pub next_within-returns-clause-none : goal.next_within-returns-clause-none
+next_within-returns-clause-none t c =
+    λ e.
+    subst (λ (os : List ℤ). rest_of (nodes_of c.args.body.now) (marks_of c.args.deeper.now) c.args.params.now os ≡ [])
+    (values_at c.args.outer c.args.value (to_z w128 (of_z w128 c.args.value))
+    (to_z-of_z w128 c.args.value c.ranges.value)) (c.next_of.ensures.none e)

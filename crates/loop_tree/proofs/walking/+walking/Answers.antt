@@ -1,20 +1,23 @@
 use Rattle.std.proofs.Common.{◌≡◌, ◌∙◌, ℤ, pos, ◌+◌, ◌<◌, List, [], ◌∷◌, ◌++◌, drop}
-use Rattle.std.proofs.Common.{map, ap, subst, sym, rules, arith}
+use Rattle.std.proofs.Common.{map, append-nil, Bool, true, ap, subst, sym, rules, arith}
 use Rattle.std.proofs.Common.{drop_of_length-le, ap₂, to_z, of_z}
-use Rattle.std.specs.Prelude.{◌+ℤ◌, ◌≤ℤ◌, ◌<ℤ◌, FitsSigned}
+use Rattle.std.specs.Prelude.{if◌then◌else◌, ◌+ℤ◌, ◌≤ℤ◌, ◌<ℤ◌, FitsSigned}
 use Rattle.std.specs.Int.{w128}
 use Rattle.std.proofs.lemmas.Int.{ints, to_z-of_z}
 use Rattle.scop_syntax.specs.Walk.{Instance}
 use Rattle.loop_tree.specs.steps.Chain.{values_in}
 use Rattle.loop_tree.specs.Conditions.{CanWalk}
 use Rattle.loop_tree.specs.Tree.{Trees, more, none}
-use Rattle.loop_tree.specs.Tree.{Tree, Bound, bounds_of}
-use Rattle.loop_tree.specs.View.{bounds_in, nodes_of, tree_of}
-use Rattle.loop_tree.specs.Walk.{lower, upper, given, walk_all}
-use Rattle.loop_tree.proofs.Views.{tree_instance}
+use Rattle.loop_tree.specs.Tree.{Tree, Bound, bounds_of, guard, loop}
+use Rattle.loop_tree.specs.View.{bounds_in, nodes_of, test_of, tree_of}
+use Rattle.loop_tree.specs.Walk.{all_hold, lower, upper, given, walk, walk_all}
+use Rattle.loop_tree.proofs.Views.{tree_guard, tree_instance, tree_loop}
+use Rattle.loop_tree.proofs.Chains.{values_at}
+use Rattle.loop_tree.specs.declared.outer.Outer.TheVariants.{Within}
 use Rattle.loop_tree.specs.declared.tree.Node.{Node}
+use Rattle.loop_tree.specs.declared.tree.Test.{Test as CodeTest}
 use Rattle.loop_tree.proofs.WalkSteps.{shown_by, shown_here, so_far_ends, so_far_step, walk_first, walk_rest, SoFar}
-use Rattle.loop_tree.proofs.WalkSteps.{leaf_held, loop_shown, shown_none, shown_turn, turns_shown, walk_turn}
+use Rattle.loop_tree.proofs.WalkSteps.{leaf_held, loop_shown, shown_none, shown_turn, turns_shown, walk_guarded, walk_turn}
 use Rattle.loop_tree.proofs.Weights.{node_here, node_weight, weight, weight_all}
 use Rattle.loop_tree.proofs.walking.+walking.Goals as goal
 
@@ -187,3 +190,129 @@ walk_values-returns-else-value-last g t c =
     (turns_shown body params outer first last) c.loop-value.invariant.1 (shown_none body params outer v last past) in
     λ l s. subst (λ (is : List Instance). now (l ++ is))
     (ap₂ (λ (a b : ℤ). turns_shown body params outer a b) first_is last_is) (end l s)
+
+pub walk_node-walk_loop-requires : goal.walk_node-walk_loop-requires
+walk_node-walk_loop-requires g t c κs within =
+    let params = c.args.params.now in
+    let outer = values_in c.args.outer.now in
+    let head = c.in-Loop.head in
+    let lo = bounds_in head.lower in
+    let up = bounds_in head.upper in
+    let t_is : tree_of c.args.node.now ≡ loop head.parallel lo up (nodes_of c.in-Loop.body.items) =
+    ap tree_of c.in-Loop.is ∙ tree_loop head c.in-Loop.body in
+    let body_is = ap nodes_of c.deref.ensures.value in
+    let loop_is : tree_of c.args.node.now ≡ loop head.parallel lo up (nodes_of c.deref.result.now) =
+    t_is ∙ ap (λ (ts : Trees). loop head.parallel lo up ts) (sym body_is) in
+    let can : CanWalk (more (loop head.parallel lo up (nodes_of c.deref.result.now)) none) params outer =
+    subst (λ (u : Tree). CanWalk (more u none) params outer) loop_is c.requires in
+    let w = ap weight t_is in
+    let e = ap weight_all body_is in
+    let less : weight_all (nodes_of c.deref.result.now) + 5 < weight (tree_of c.args.node.now) =
+    omega (arith, w, e) in
+    search rules
+
+pub walk_node-walk_nodes-requires : goal.walk_node-walk_nodes-requires
+walk_node-walk_nodes-requires g t c κs within =
+    let params = c.args.params.now in
+    let outer = values_in c.args.outer.now in
+    let point = outer ++ params in
+    let tests = map test_of c.in-Guard.guard.tests.items in
+    let body = nodes_of c.in-Guard.body.items in
+    let t_is : tree_of c.args.node.now ≡ guard tests body =
+    ap tree_of c.in-Guard.is ∙ tree_guard c.in-Guard.guard c.in-Guard.body in
+    let told = c.all_hold.ensures
+    ∙ ap (λ (ts : List CodeTest). all_hold (map test_of ts) point) c.deref-in-Guard.ensures.value in
+    let holds : all_hold tests point ≡ true = sym told ∙ c.if-all_hold.true in
+    let body_is : nodes_of c.deref-then-all_hold.result.now ≡ body =
+    ap nodes_of c.deref-then-all_hold.ensures.value in
+    let can : CanWalk (nodes_of c.deref-then-all_hold.result.now) params outer =
+    subst (λ (ts : Trees). CanWalk ts params outer) (sym body_is)
+    (walk_guarded tests body params outer (subst (λ (u : Tree). CanWalk (more u none) params outer) t_is c.requires)
+    holds) in
+    let w = ap weight t_is in
+    let e = ap weight_all body_is in
+    let less : weight_all (nodes_of c.deref-then-all_hold.result.now) + 1 < weight (tree_of c.args.node.now) =
+    omega (arith, w, e) in
+    search rules
+
+pub walk_node-returns-in-Loop : goal.walk_node-returns-in-Loop
+walk_node-returns-in-Loop g t c =
+    let params = c.args.params.now in
+    let outer = values_in c.args.outer.now in
+    let head = c.in-Loop.head in
+    let lo = bounds_in head.lower in
+    let up = bounds_in head.upper in
+    let t_is : tree_of c.args.node.now ≡ loop head.parallel lo up (nodes_of c.in-Loop.body.items) =
+    ap tree_of c.in-Loop.is ∙ tree_loop head c.in-Loop.body in
+    let body_is = ap nodes_of c.deref.ensures.value in
+    let loop_is : tree_of c.args.node.now ≡ loop head.parallel lo up (nodes_of c.deref.result.now) =
+    t_is ∙ ap (λ (ts : Trees). loop head.parallel lo up ts) (sym body_is) in
+    λ l s.
+    subst (λ (u : Tree). g.V.Visitor.stands c.walk_loop.new.visitor (l ++ map given (walk u params outer)))
+    (sym loop_is) (c.walk_loop.ensures l s)
+
+pub walk_node-returns-then-all_hold : goal.walk_node-returns-then-all_hold
+walk_node-returns-then-all_hold g t c =
+    let params = c.args.params.now in
+    let outer = values_in c.args.outer.now in
+    let point = outer ++ params in
+    let tests = map test_of c.in-Guard.guard.tests.items in
+    let body = nodes_of c.in-Guard.body.items in
+    let t_is : tree_of c.args.node.now ≡ guard tests body =
+    ap tree_of c.in-Guard.is ∙ tree_guard c.in-Guard.guard c.in-Guard.body in
+    let told = c.all_hold.ensures
+    ∙ ap (λ (ts : List CodeTest). all_hold (map test_of ts) point) c.deref-in-Guard.ensures.value in
+    let shown = ap (λ (ts : Trees). map given (walk_all ts params outer)) (ap nodes_of c.deref-then-all_hold.ensures.value)
+    ∙ (ap (λ (b : Bool). map given (if b then walk_all body params outer else [])) (sym (sym told ∙ c.if-all_hold.true))
+    ∙ ap (λ (u : Tree). map given (walk u params outer)) (sym t_is)) in
+    λ l s.
+    subst (λ (is : List Instance). g.V.Visitor.stands c.walk_nodes.new.visitor (l ++ is)) shown
+    (c.walk_nodes.ensures l s)
+
+pub walk_node-returns-else-all_hold : goal.walk_node-returns-else-all_hold
+walk_node-returns-else-all_hold g t c =
+    let params = c.args.params.now in
+    let outer = values_in c.args.outer.now in
+    let point = outer ++ params in
+    let tests = map test_of c.in-Guard.guard.tests.items in
+    let body = nodes_of c.in-Guard.body.items in
+    let t_is : tree_of c.args.node.now ≡ guard tests body =
+    ap tree_of c.in-Guard.is ∙ tree_guard c.in-Guard.guard c.in-Guard.body in
+    let told = c.all_hold.ensures
+    ∙ ap (λ (ts : List CodeTest). all_hold (map test_of ts) point) c.deref-in-Guard.ensures.value in
+    let shown = ap (λ (b : Bool). map given (if b then walk_all body params outer else []))
+    (sym (sym told ∙ c.if-all_hold.false))
+    ∙ ap (λ (u : Tree). map given (walk u params outer)) (sym t_is) in
+    λ l s.
+    subst (λ (is : List Instance). g.V.Visitor.stands c.args.visitor.now (l ++ is)) shown
+    (subst (λ (is : List Instance). g.V.Visitor.stands c.args.visitor.now is) (sym (append-nil l)) s)
+
+pub walk_node-returns-in-Instance : goal.walk_node-returns-in-Instance
+walk_node-returns-in-Instance g t c =
+    let params = c.args.params.now in
+    let outer = values_in c.args.outer.now in
+    let t_is = ap tree_of c.in-Instance.is ∙ tree_instance c.in-Instance.leaf in
+    let shown = ap (λ (i : Instance). i ∷ []) c.instance_at.ensures
+    ∙ ap (λ (u : Tree). map given (walk u params outer)) (sym t_is) in
+    λ l s.
+    subst (λ (is : List Instance). g.V.Visitor.stands c.visit.new.self (l ++ is)) shown
+    (c.visit.ensures l s)
+
+pub walk_turn-walk_nodes-requires : goal.walk_turn-walk_nodes-requires
+walk_turn-walk_nodes-requires g t c κs within =
+    let v = to_z w128 (of_z w128 c.args.value) in
+    let body = nodes_of c.args.body.now in
+    let params = c.args.params.now in
+    let inside = values_at c.args.outer c.args.value v (to_z-of_z w128 c.args.value c.ranges.value) in
+    let can : CanWalk body params (values_in (Within c.args.outer v)) =
+    subst (λ (os : List ℤ). CanWalk body params os) (sym inside) c.requires in
+    let less : weight_all body + 1 < weight_all body + 3 = omega arith in
+    search rules
+
+pub walk_turn-returns : goal.walk_turn-returns
+walk_turn-returns g t c =
+    λ l s.
+    subst (λ (os : List ℤ). g.V.Visitor.stands c.walk_nodes.new.visitor
+    (l ++ map given (walk_all (nodes_of c.args.body.now) c.args.params.now os)))
+    (values_at c.args.outer c.args.value (to_z w128 (of_z w128 c.args.value))
+    (to_z-of_z w128 c.args.value c.ranges.value)) (c.walk_nodes.ensures l s)

@@ -4,7 +4,7 @@ use Rattle.loop_tree.specs.View.{test_of, nodes_of}
 use Rattle.loop_tree.proofs.Views.{tree_guard, tree_instance}
 use Rattle.std.proofs.lemmas.List.{length-map}
 use Rattle.loop_tree.specs.declared.tree.Node.TheVariants.{Instance}
-use Rattle.plain_scan.proofs.CodeBounds.{under_some}
+use Rattle.plain_scan.proofs.CodeBounds.{under_none, under_some}
 use Rattle.plain_scan.proofs.bounds.guarded.Goals as goal
 
 pub returns : goal.returns
@@ -18,3 +18,11 @@ returns c =
     let mapped = length-map c.args.tests.items test_of in
     let some : 0 < length tests = search rules in
     tree_guard (record { tests = c.args.tests }) c.push.new.self ∙ ap (guard tests) body ∙ sym (under_some tests t some)
+
+pub returns-then-len-eq0 : goal.returns-then-len-eq0
+returns-then-len-eq0 c =
+    let leaf = c.args.leaf in
+    let tests = map test_of c.args.tests.items in
+    let mapped = length-map c.args.tests.items test_of in
+    let none : length tests ≡ 0 = search rules in
+    tree_instance leaf ∙ sym (under_none tests (instance leaf.statement leaf.turns.items) none)

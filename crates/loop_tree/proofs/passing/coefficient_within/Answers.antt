@@ -1,0 +1,20 @@
+use Rattle.std.proofs.Common.{rules, ◌≡◌, ◌∙◌, ◌+◌, ℕ, List, ℤ, pos, drop, get_or, length, ap, arith, FitsSigned}
+use Rattle.std.specs.Int.{w64}
+use Rattle.std.proofs.lemmas.Int.{to_z-of_z}
+use Rattle.std.proofs.lemmas.List.{get_or-drop}
+use Rattle.loop_tree.specs.steps.Chain.{values_in}
+use Rattle.loop_tree.proofs.passing.coefficient_within.Goals as goal
+
+pub returns : goal.returns
+returns c =
+    let cs = c.args.form.now.coefficients in
+    let n = length (values_in c.args.outer.now) in
+    let fits : FitsSigned w64 c.first_of.result = search rules in
+    let slice : c.as_slice.result.now ≡ cs = search rules in
+    let rest : c.outer_part.result.rest.now ≡ drop n cs =
+    c.outer_part.ensures.rest ∙ ap (λ (xs : List ℤ). drop n xs) slice in
+    let at : n + 0 ≡ n = omega arith in
+    to_z-of_z w64 c.first_of.result fits
+    ∙ (c.first_of.ensures
+    ∙ (ap (λ (xs : List ℤ). get_or xs 0 (pos 0)) rest
+    ∙ (get_or-drop n cs 0 (pos 0) ∙ ap (λ (i : ℕ). get_or cs i (pos 0)) at)))
