@@ -1,10 +1,13 @@
 -- The loop of the code is the machine's run.
-use Rattle.std.proofs.Common.{◌≡◌, ℕ, ◌+◌, ◌<◌, ◌≤◌, true, List, [], ◌∷◌, ◌++◌, length, take, drop, get_or}
+use Rattle.std.proofs.Common.{◌≡◌, ℕ, ◌+◌, ◌<◌, ◌≤◌, true, false, List, [], ◌∷◌, ◌++◌, length, take, drop, get_or}
 use Rattle.std.proofs.Common.{add-one, refl, sym, ap, ◌∙◌, length-append, arith}
-use Rattle.std.specs.Prelude.{max}
+use Rattle.std.specs.Prelude.{max, Err, if◌then◌else◌}
 use Rattle.std.proofs.Math.Seq.{drop-cons, take-suc}
 use Rattle.expression_grammar.specs.declared.token.Token.{Token}
-use Rattle.expression_grammar.specs.Machine.{State, start, go, step, fits, run}
+use Rattle.expression_grammar.specs.Machine.{State, Move, start, go, stops, step, fits, goes, run, deep, answer, read}
+use Rattle.expression_grammar.specs.Machine.{or_fault, complete, unfit, unended, depth}
+use Rattle.expression_grammar.specs.Grammar.{told_at}
+use Rattle.std.proofs.lemmas.List.{drop_all}
 use Rattle.expression_grammar.proofs.Runs.{run_goes}
 use Rattle.expression_grammar.proofs.Shapes.{Stands}
 use Rattle.expression_grammar.proofs.RunEnds.{fits_bounds}
@@ -59,3 +62,30 @@ runs_on d n ts i s next t0 r h e f =
       brackets = b;
       used = u;
     }
+
+-- a token that does not go on ends the run with what is complete
+pub run_stops : (d n : ℕ) (ts : List Token) (i : ℕ) (s : State) (t0 : Token) → Runs d n ts i s
+    → i < length ts → step s (get_or ts i t0) ≡ stops → read d n ts ≡ or_fault (complete s) unfit s.at
+run_stops d n ts i s t0 r h e =
+    let left : drop i ts ≡ get_or ts i t0 ∷ drop (i + 1) ts = rw (add-one, drop-cons ts i t0) refl in
+    ap answer (sym r.run)
+    ∙ ap (λ (xs : List Token). answer (run d n s xs)) left
+    ∙ ap (λ (m : Move). answer (goes d n s (get_or ts i t0) m (λ next. run d n next (drop (i + 1) ts)))) e
+
+-- so does one that passes a limit
+pub run_deepens : (d n : ℕ) (ts : List Token) (i : ℕ) (s next : State) (t0 : Token) → Runs d n ts i s
+    → i < length ts → step s (get_or ts i t0) ≡ go next → fits d n next ≡ false
+    → read d n ts ≡ Err (depth, told_at (get_or ts i t0) s.at)
+run_deepens d n ts i s next t0 r h e f =
+    let t = get_or ts i t0 in
+    let left : drop i ts ≡ t ∷ drop (i + 1) ts = rw (add-one, drop-cons ts i t0) refl in
+    ap answer (sym r.run)
+    ∙ ap (λ (xs : List Token). answer (run d n s xs)) left
+    ∙ ap (λ (m : Move). answer (goes d n s t m (λ next. run d n next (drop (i + 1) ts)))) e
+    ∙ ap (λ b. answer (if b then run d n next (drop (i + 1) ts) else deep s t)) f
+
+-- and the end of the tokens
+pub run_ends : (d n : ℕ) (ts : List Token) (i : ℕ) (s : State) → Runs d n ts i s → length ts ≤ i
+    → read d n ts ≡ or_fault (complete s) unended s.at
+run_ends d n ts i s r h =
+    ap answer (sym r.run) ∙ ap (λ (xs : List Token). answer (run d n s xs)) (drop_all i ts h)

@@ -22,5 +22,3 @@ tells_stop d n ts (Err (stop.Unfit at)) h = rw h at (read_answers d n ts)
 tells_stop d n ts (Err (stop.Unended at)) h = rw h at (read_answers d n ts)
 tells_stop d n ts (Err (stop.Depth at)) h = rw h at (read_answers d n ts)
 tells_stop d n ts (Err stop.NoMemory) h = tt
-
-pub ruleset telling = (tells_expression, tells_stop)

@@ -1,17 +1,16 @@
 //! The reader of one expression: a machine of one step a token, and the call that runs it over a list of tokens.
 //! Promises the nodes of each tree that the tokens spell, or the first fault.
 //! E. W. Dijkstra, "Algol 60 translation", Mathematisch Centrum MR 34/61, 1961.
-ghost use Rattle.std.specs.Prelude.{◌≡◌, ℕ, Ok, IfErr, IfOk, OnOk};
-ghost use Rattle.std.specs.Option.{option_map};
+ghost use Rattle.std.specs.Prelude.{◌≡◌, ℕ, Err, Ok, IfErr, IfOk, OnOk};
 ghost use Rattle.expression_grammar.specs.Tree.{cost, level};
 ghost use Rattle.expression_grammar.specs.Machine.{after, bare_closed, call_opened, cast_closed, cast_word, casting};
 ghost use Rattle.expression_grammar.specs.Machine.{closed, complete, demand, fits, go, index_opened, leaf, opened};
-ghost use Rattle.expression_grammar.specs.Machine.{operand, read, reduced, signed, start, step};
+ghost use Rattle.expression_grammar.specs.Machine.{Kind, operand, or_fault, read, reduced, signed, start, step};
 ghost use Rattle.expression_grammar.specs.Grammar.{told_at};
 ghost use Rattle.expression_grammar.specs.declared.node.Mode.TheVariants as mode;
 ghost use Rattle.expression_grammar.specs.declared.reader.Stop.TheVariants as stop;
 ghost use Rattle.expression_grammar.specs.Promises.{IsRead};
-ghost use Rattle.expression_grammar.specs.Gives.{Gives, IsStop, pair_of};
+ghost use Rattle.expression_grammar.specs.Gives.{Gives, IsStop};
 ghost use Rattle.expression_grammar.specs.declared.reader.TheConstants.{MOST_BRACKETS, MOST_OPERATORS};
 ghost use Rattle.expression_grammar.specs.Steps.{ClosesAs, ClosesIndexAs, Completes, HasRoom, JoinsAs, Steps, tight};
 
@@ -427,19 +426,20 @@ pub fn told_at(token: Token, at: usize) -> usize
     }
 }
 
-// The expression, if it may end here.
-fn ended(reader: Reader) -> Result<Option<Expression>, AllocError>
-    ensures { IfOk result (λ e. option_map pair_of e ≡ option_map (λ ns. (ns, reader.at)) (complete reader)) }
+// The expression, if it may end here, else this stop.
+fn ended(reader: Reader, stop: Stop) -> Result<Expression, Stop>
+    ensures { (k : Kind) → Gives (Err stop) (Err (k, reader.at))
+        → Gives result (or_fault (complete reader) k reader.at) }
 {
     let mut reader = reader;
     let count = reader.at;
     if !reader.finish()? {
-        return Ok(None);
+        return Err(stop);
     }
-    Ok(Some(Expression {
+    Ok(Expression {
         nodes: reader.nodes,
         count,
-    }))
+    })
 }
 
 // The machine's run over the tokens.
@@ -450,14 +450,14 @@ fn run(alloc: Global, tokens: &[Token]) -> Result<Expression, Stop>
     for token in tokens {
         let at = reader.at;
         if !reader.step(*token)? {
-            return ended(reader)?.ok_or(Stop::Unfit(at));
+            return ended(reader, Stop::Unfit(at));
         }
         if !reader.fits(MOST_BRACKETS, MOST_OPERATORS) {
             return Err(Stop::Depth(told_at(*token, at)));
         }
     }
     let at = reader.at;
-    ended(reader)?.ok_or(Stop::Unended(at))
+    ended(reader, Stop::Unended(at))
 }
 
 /// Reads the expression with which the tokens begin, up to the first token with which no text goes on, however deep.
@@ -466,7 +466,6 @@ fn run(alloc: Global, tokens: &[Token]) -> Result<Expression, Stop>
 /// The first fault: `Unfit` at the first token with which no text goes on so, however deep, where the tokens before
 /// it are no expression; `Unended` where every token fits and the tokens end too early; `Depth` at the first token
 /// that only a text beyond the limits has. `NoMemory` may come wherever memory is taken.
-#[tactic(auto, using(crate::proofs::ReaderAnswers::telling))]
 pub fn read(alloc: Global, tokens: &[Token]) -> Result<Expression, Stop>
     ensures expression { IfOk result (λ e. IsRead MOST_BRACKETS MOST_OPERATORS tokens.now e.nodes.items e.count) }
     ensures stop { IfErr result (IsStop MOST_BRACKETS MOST_OPERATORS tokens.now) }

@@ -8,6 +8,7 @@ mod Runs
 mod Checks
 mod Kernels
 mod StatementSearch
+mod Nodes
 mod Numbering
 mod Strides
 mod Ends

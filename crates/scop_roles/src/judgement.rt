@@ -83,7 +83,6 @@ fn judge_subscripts(
 
 // Judges arguments with these more.
 #[cycle(judging)]
-#[tactic(auto, using(crate::proofs::FormulaValues::judged_limits))]
 fn judge_arguments(
     alloc: Global,
     others: &[Argument],

@@ -7,6 +7,7 @@ use Rattle.scop_syntax.specs.Cells.{reads_of}
 use Rattle.scop_syntax.specs.View.{expression_of}
 use Rattle.scop_syntax.proofs.Views.{expression_binary}
 use Rattle.scop_meaning.proofs.Numbering.{get_back}
+use Rattle.scop_meaning.proofs.Nodes.{negation, complement, conversion, left_shift, right_shift}
 use Rattle.scop_meaning.proofs.accesses.+read_at.Goals as goal
 
 pub returns-then-number-before : goal.returns-then-number-before
@@ -38,3 +39,28 @@ returns-else-number-before t c =
     ap (λ (x : Expression). slice_get (reads_of x) n) is
     ∙ (get_back (reads_of e) (reads_of f) n h
     ∙ (ap (λ k. slice_get (reads_of f) (n - k)) (sym count) ∙ (sym again ∙ c.read_at-else-number-before.ensures)))
+
+pub returns-in-Negated : goal.returns-in-Negated
+returns-in-Negated t c =
+    let is = negation c.args.expression.now c.deref.result.now c.in-Negated.operand c.in-Negated.is c.deref.ensures in
+    rw is c.read_at.ensures
+
+pub returns-in-Complemented : goal.returns-in-Complemented
+returns-in-Complemented t c =
+    let is = complement c.args.expression.now c.deref-in-Complemented.result.now c.in-Complemented.operand c.in-Complemented.is c.deref-in-Complemented.ensures in
+    rw is c.read_at-in-Complemented.ensures
+
+pub returns-in-Cast : goal.returns-in-Cast
+returns-in-Cast t c =
+    let is = conversion c.args.expression.now c.deref-in-Cast.result.now c.in-Cast.operand c.in-Cast.is c.deref-in-Cast.ensures in
+    rw is c.read_at-in-Cast.ensures
+
+pub returns-in-ShiftedLeft : goal.returns-in-ShiftedLeft
+returns-in-ShiftedLeft t c =
+    let is = left_shift c.args.expression.now c.deref-in-ShiftedLeft.result.now c.in-ShiftedLeft.operand c.in-ShiftedLeft.field-1 c.in-ShiftedLeft.is c.deref-in-ShiftedLeft.ensures in
+    rw is c.read_at-in-ShiftedLeft.ensures
+
+pub returns-in-ShiftedRight : goal.returns-in-ShiftedRight
+returns-in-ShiftedRight t c =
+    let is = right_shift c.args.expression.now c.deref-in-ShiftedRight.result.now c.in-ShiftedRight.operand c.in-ShiftedRight.field-1 c.in-ShiftedRight.is c.deref-in-ShiftedRight.ensures in
+    rw is c.read_at-in-ShiftedRight.ensures

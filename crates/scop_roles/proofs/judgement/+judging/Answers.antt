@@ -1,10 +1,11 @@
-use Rattle.std.proofs.Common.{map, fold, ap, sym, subst, ◌∙◌}
+use Rattle.std.proofs.Common.{map, fold, ap, sym, subst, ◌∙◌, refl, arith}
 use Rattle.std.specs.Prelude.{IfOk}
 use Rattle.scop_roles.specs.Formula.{argument_of, binary, cast, index, formula_of, unary, with_argument}
 use Rattle.scop_roles.specs.Judgement.{IsJudgement}
 use Rattle.scop_roles.proofs.Views.{formula_index, formula_bare_call, formula_unary, formula_cast, formula_commas}
 use Rattle.scop_roles.proofs.Views.{formula_binary}
-use Rattle.scop_roles.proofs.Chains.{makes_next}
+use Rattle.scop_roles.proofs.Chains.{makes_next, makes_whole}
+use Rattle.scop_roles.proofs.FormulaValues.{judged_limits}
 use Rattle.scop_roles.proofs.judgement.+judging.Goals as goal
 
 pub judge-returns-in-BareCall : goal.judge-returns-in-BareCall
@@ -93,3 +94,53 @@ judge_arguments-loop-other-preserved t c =
           (λ q judged. c.of_binary-arguments.ensures.judged q (formula_of other.value) judged c.judge-value.ensures)
           (l.invariant.1 f h),
     )
+
+pub judge-of_unary-requires : goal.judge-of_unary-requires
+judge-of_unary-requires t c =
+    judged_limits c.args.entries (formula_of c.deref-in-Unary.result.now) c.judge-operand.result c.judge-operand.ensures
+
+pub judge-of_binary-requires-clause-left : goal.judge-of_binary-requires-clause-left
+judge-of_binary-requires-clause-left t c = c.judge_arguments-left.ensures.limits
+
+pub judge-of_binary-requires-clause-right : goal.judge-of_binary-requires-clause-right
+judge-of_binary-requires-clause-right t c =
+    judged_limits c.args.entries (formula_of c.deref-in-Commas-3.result.now) c.judge-last-in-Commas.result
+    c.judge-last-in-Commas.ensures
+
+pub judge-of_binary-requires-in-Binary-clause-left : goal.judge-of_binary-requires-in-Binary-clause-left
+judge-of_binary-requires-in-Binary-clause-left t c =
+    judged_limits c.args.entries (formula_of c.deref-in-Binary.result.now) c.judge-left.result c.judge-left.ensures
+
+pub judge-of_binary-requires-in-Binary-clause-right : goal.judge-of_binary-requires-in-Binary-clause-right
+judge-of_binary-requires-in-Binary-clause-right t c =
+    judged_limits c.args.entries (formula_of c.deref-in-Binary-2.result.now) c.judge-right.result c.judge-right.ensures
+
+pub judge_arguments-of_binary-arguments-requires-clause-left :
+    goal.judge_arguments-of_binary-arguments-requires-clause-left
+judge_arguments-of_binary-arguments-requires-clause-left t c = c.loop-other.invariant.0
+
+pub judge_arguments-of_binary-arguments-requires-clause-right :
+    goal.judge_arguments-of_binary-arguments-requires-clause-right
+judge_arguments-of_binary-arguments-requires-clause-right t c =
+    judged_limits c.args.entries (formula_of c.other-item.result.value) c.judge-value.result c.judge-value.ensures
+
+pub judge_subscripts-loop-subscript-init : goal.judge_subscripts-loop-subscript-init
+judge_subscripts-loop-subscript-init t c p h = (p, h, refl)
+
+pub judge_subscripts-returns : goal.judge_subscripts-returns
+judge_subscripts-returns t c p h =
+    let l = c.loop-subscript in
+    makes_whole formula_of index (λ q. IfOk l.place (IsJudgement c.args.entries q)) c.args.subscripts.now
+    l.subscript-index (fold index p (map formula_of c.args.subscripts.now)) (omega arith) (l.invariant p h)
+
+pub judge_arguments-loop-other-init : goal.judge_arguments-loop-other-init
+judge_arguments-loop-other-init t c = (c.requires, λ f h. (f, h, refl))
+
+pub judge_arguments-returns-clause-judged : goal.judge_arguments-returns-clause-judged
+judge_arguments-returns-clause-judged t c f h =
+    let l = c.loop-other in
+    makes_whole argument_of with_argument (λ q. IfOk l.arguments (IsJudgement c.args.entries q)) c.args.others.now
+    l.other-index (fold with_argument f (map argument_of c.args.others.now)) (omega arith) (l.invariant.1 f h)
+
+pub judge_arguments-returns-clause-limits : goal.judge_arguments-returns-clause-limits
+judge_arguments-returns-clause-limits t c = c.loop-other.invariant.0

@@ -1,9 +1,9 @@
-use Rattle.std.proofs.Common.{◌≡◌, [], ◌∷◌, ◌++◌, map, fold, ap, sym, subst, ◌∙◌}
+use Rattle.std.proofs.Common.{◌≡◌, [], ◌∷◌, ◌++◌, map, fold, ap, sym, subst, ◌∙◌, refl, arith}
 use Rattle.expression_grammar.specs.declared.token.Op.TheVariants as op
 use Rattle.scop_roles.specs.Formula.{argument_of, formula_of, place, with_argument}
 use Rattle.scop_roles.specs.Values.{read_places}
 use Rattle.scop_roles.proofs.Views.{formula_index, formula_unary, formula_cast, formula_commas, formula_binary}
-use Rattle.scop_roles.proofs.Chains.{makes_next, place_indexed, read_more}
+use Rattle.scop_roles.proofs.Chains.{makes_next, makes_whole, place_indexed, read_more}
 use Rattle.scop_roles.proofs.FormulaValues.{on_ok}
 use Rattle.scop_roles.proofs.values.+reading.Goals as goal
 
@@ -85,3 +85,12 @@ push_read_places-returns-in-Ok-push_read_places t c =
     (subst (λ v. all ≡ one ++ read_places (formula_of v)) c.deref-in-Ok-push_read_places.ensures last)
     ∙ ap (λ f. old ++ read_places f) (sym e))
     c.push_read_places-in-Ok-push_read_places.ensures
+
+pub push_places-loop-other-init : goal.push_places-loop-other-init
+push_places-loop-other-init t c f xs h = (f, h, refl)
+
+pub push_places-returns : goal.push_places-returns
+push_places-returns t c f xs h =
+    let l = c.loop-other in
+    makes_whole argument_of with_argument (λ q. l.places.items ≡ xs ++ read_places q) c.args.others.now l.other-index
+    (fold with_argument f (map argument_of c.args.others.now)) (omega arith) (l.invariant f xs h)

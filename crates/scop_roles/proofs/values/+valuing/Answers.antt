@@ -1,4 +1,4 @@
-use Rattle.std.proofs.Common.{rules, ◌≡◌, ◌≤◌, false, length, map, fold, ap, sym, subst, ◌∙◌, refl}
+use Rattle.std.proofs.Common.{◌≡◌, false, map, fold, ap, sym, subst, ◌∙◌, refl, arith}
 use Rattle.std.specs.Prelude.{IfOk}
 use Rattle.scop_syntax.specs.View.{expression_of}
 use Rattle.expression_grammar.specs.declared.token.Op.TheVariants as op
@@ -111,9 +111,12 @@ arguments_value-loop-other-preserved t c f h =
     (λ q here. c.sides_value-left.ensures n q (formula_of other.value) other.comma refl here c.value-right.ensures)
     (l.invariant f h)
 
+pub arguments_value-loop-other-init : goal.arguments_value-loop-other-init
+arguments_value-loop-other-init t c f h = (f, h, refl)
+
 pub arguments_value-returns : goal.arguments_value-returns
 arguments_value-returns t c f h =
     let l = c.loop-other in
-    let past : length c.args.others.now ≤ l.other-index = search rules in
     makes_whole argument_of with_argument (λ q. IfOk l.left (λ x. IsValueOf c.args.entries q (expression_of x)))
-    c.args.others.now l.other-index (fold with_argument f (map argument_of c.args.others.now)) past (l.invariant f h)
+    c.args.others.now l.other-index (fold with_argument f (map argument_of c.args.others.now)) (omega arith)
+    (l.invariant f h)
