@@ -1,4 +1,5 @@
-use Rattle.std.proofs.Common.{◌≡◌, ℕ, ◌+◌, ◌<◌, List, [], ◌∷◌, ◌++◌, length, vec_len, refl, map, ap, subst, sym, ◌∙◌, rules, arith}
+use Rattle.std.proofs.Common.{◌≡◌, ℕ, ◌+◌, ◌<◌, List, [], ◌∷◌, ◌++◌, length, vec_len, map, refl, ap, subst, sym}
+use Rattle.std.proofs.Common.{◌∙◌, rules, arith}
 use Rattle.scop_syntax.specs.Tree.{Head, more, none}
 use Rattle.scop_syntax.specs.Statements.{round, placed_all}
 use Rattle.scop_syntax.specs.View.{items_of, test_of, tree_of}
