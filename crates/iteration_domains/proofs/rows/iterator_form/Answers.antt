@@ -21,7 +21,8 @@ compose-requires c =
 
 pub plus_multiple-requires-clause-sized : goal.plus_multiple-requires-clause-sized
 plus_multiple-requires-clause-sized c =
-    ap variables_of c.in_ok-turn.ensures ∙ (length-variable c.args.variables c.args.at ∙ sym c.in_ok-first.ensures.sized)
+    ap variables_of c.in_ok-turn.ensures
+    ∙ (length-variable c.args.variables c.args.at ∙ sym c.in_ok-first.ensures.sized)
 
 pub plus_multiple-requires-clause-small : goal.plus_multiple-requires-clause-small
 plus_multiple-requires-clause-small c =

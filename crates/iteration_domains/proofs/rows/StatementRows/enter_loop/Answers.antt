@@ -1,5 +1,5 @@
-use Rattle.std.proofs.Common.{◌≡◌, ◌+◌, ◌^◌, List, [], ◌∷◌, ◌++◌, ◌∙◌, append_assoc, length, length-append, rules, arith}
-use Rattle.std.proofs.Common.{ap, ap₂, subst, sym}
+use Rattle.std.proofs.Common.{◌≡◌, ◌+◌, ◌^◌, List, [], ◌∷◌, ◌++◌, ◌∙◌, append_assoc, length, length-append, rules}
+use Rattle.std.proofs.Common.{arith, ap, ap₂, subst, sym}
 use Rattle.whole_numbers.specs.Affine.{Affine, composed}
 use Rattle.scop_syntax.specs.Tree.{Head}
 use Rattle.scop_syntax.specs.Kernel.{IsCondition}
