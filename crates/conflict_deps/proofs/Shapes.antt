@@ -1,7 +1,7 @@
 -- Forms over the variables of a pair as the code puts them together: their parts, lengths and sizes.
 use Rattle.std.proofs.Common.{◌≡◌, ℕ, zero, suc, Bool, true, ◌+◌, ◌-◌, ◌<◌, ◌≤◌, ℤ, negsuc, List, [], ◌∷◌, ◌++◌}
 use Rattle.std.proofs.Common.{length, map, take, drop, ap, ap₂, subst, sym, ◌∙◌, refl, arith, length-append}
-use Rattle.std.proofs.Common.{length-drop}
+use Rattle.std.proofs.Common.{length-drop, get_or, drop-cons, drop_of_length-le, add-one}
 use Rattle.std.specs.Prelude.{All}
 use Rattle.std.proofs.lemmas.List.{append_assoc, append-nil}
 use Rattle.std.proofs.Math.Seq.{take-length}
@@ -86,6 +86,44 @@ size-step n d k =
 
 pub size-one : (n : ℕ) → form_size (one_form n) ≡ 1
 size-one n = let z = size-zeros n in omega arith
+
+-- forms made from others one by one: one form more, and all of them
+pub forms_more : (f : Affine → Affine) (xs : List Affine) (at : ℕ) (x y : Affine) (out next whole : List Affine)
+    → at < length xs
+    → x ≡ get_or xs at x → y ≡ f x → next ≡ out ++ y ∷ [] → out ++ map f (drop at xs) ≡ whole
+    → next ++ map f (drop (at + 1) xs) ≡ whole
+forms_more f xs at x y out next whole h found made grown so_far =
+    let rest = map f (drop (at + 1) xs) in
+    let here : map f (drop at xs) ≡ f x ∷ rest = rw (drop-cons xs at x h, ← found, add-one at) refl in
+    ap (λ (ys : List Affine). ys ++ rest) grown ∙ (append_assoc out (y ∷ []) rest
+    ∙ (ap (λ (z : Affine). out ++ z ∷ rest) made ∙ (ap (λ (ys : List Affine). out ++ ys) (sym here) ∙ so_far)))
+
+pub forms_end : (f : Affine → Affine) (xs : List Affine) (at : ℕ) (out whole : List Affine) → length xs ≤ at
+    → out ++ map f (drop at xs) ≡ whole → out ≡ whole
+forms_end f xs at out whole past so_far =
+    sym (append-nil out)
+    ∙ (ap (λ (ys : List Affine). out ++ map f ys) (sym (drop_of_length-le xs past)) ∙ so_far)
+
+-- equal subscripts, one more
+pub cells_more : (d e : ℕ) (fs gs : List Affine) (at : ℕ) (f g h : Affine) (out next whole : List Affine)
+    → at < length fs → at < length gs → f ≡ get_or fs at f → g ≡ get_or gs at g
+    → h ≡ difference_of_forms (source_form d e f) (target_form d g) → next ≡ out ++ h ∷ []
+    → out ++ equalities_in (same_subscripts d e (drop at fs) (drop at gs)) ≡ whole
+    → next ++ equalities_in (same_subscripts d e (drop (at + 1) fs) (drop (at + 1) gs)) ≡ whole
+cells_more d e fs gs at f g h out next whole in_fs in_gs is_f is_g made grown so_far =
+    let rest = equalities_in (same_subscripts d e (drop (at + 1) fs) (drop (at + 1) gs)) in
+    let one = difference_of_forms (source_form d e f) (target_form d g) in
+    let here : equalities_in (same_subscripts d e (drop at fs) (drop at gs)) ≡ one ∷ rest =
+    rw (drop-cons fs at f in_fs, drop-cons gs at g in_gs, ← is_f, ← is_g, add-one at) refl in
+    ap (λ (ys : List Affine). ys ++ rest) grown ∙ (append_assoc out (h ∷ []) rest
+    ∙ (ap (λ (z : Affine). out ++ z ∷ rest) made ∙ (ap (λ (ys : List Affine). out ++ ys) (sym here) ∙ so_far)))
+
+-- equal subscripts, all of them
+pub cells_all : (d e : ℕ) (fs gs : List Affine) (at : ℕ) (out whole : List Affine) → length fs ≤ at
+    → out ++ equalities_in (same_subscripts d e (drop at fs) (drop at gs)) ≡ whole → out ≡ whole
+cells_all d e fs gs at out whole past so_far =
+    sym (append-nil out) ∙ (ap (λ (ys : List Affine). out ++ equalities_in (same_subscripts d e ys (drop at gs)))
+    (sym (drop_of_length-le fs past)) ∙ so_far)
 
 -- equal subscripts, when one side has no more
 pub cells_end : (d e : ℕ) (fs gs : List Affine) (at : ℕ) (out whole : List Affine)

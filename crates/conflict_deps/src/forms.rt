@@ -169,6 +169,25 @@ pub fn push_equal_turns(
     Ok(())
 }
 
+/// The form that is 1 everywhere.
+fn unit_form(alloc: Global, variables: usize) -> Result<Form, AllocError>
+    ensures { IfOk result (λ f. f ≡ one_form variables) }
+{
+    let mut coefficients = Numbers::new(alloc);
+    push_zeros(&mut coefficients, variables)?;
+    form_from(alloc, coefficients.as_slice(), 1)
+}
+
+/// Target's turn minus source's of loop `at`, minus 1.
+fn later_turn(alloc: Global, variables: usize, loops: usize, at: usize) -> Result<Form, AllocError>
+    requires { loops + at < variables }
+    ensures { IfOk result (λ f. f ≡ difference_of_forms (step variables loops at) (one_form variables)) }
+{
+    let difference = turn_difference(alloc, variables, loops, at)?;
+    let one = unit_form(alloc, variables)?;
+    plus_multiple(&difference, -1, &one)
+}
+
 /// Appends that the target's turn of loop `at` is later.
 pub fn push_later_turn(
     out: &mut Vec<Form>,
@@ -181,10 +200,6 @@ pub fn push_later_turn(
     ensures { OnOk result (out.new.items
         ≡ out.old.items ++ difference_of_forms (step variables loops at) (one_form variables) ∷ []) }
 {
-    let difference = turn_difference(alloc, variables, loops, at)?;
-    let mut coefficients = Numbers::new(alloc);
-    push_zeros(&mut coefficients, variables)?;
-    let one = form_from(alloc, coefficients.as_slice(), 1)?;
-    let row = plus_multiple(&difference, -1, &one)?;
+    let row = later_turn(alloc, variables, loops, at)?;
     push(out, row)
 }

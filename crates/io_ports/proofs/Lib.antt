@@ -1,3 +1,4 @@
 pub mod CalmCalls
 pub mod MemoryReads
 pub mod PutTexts
+mod SourceReads

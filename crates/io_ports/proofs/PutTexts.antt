@@ -98,6 +98,17 @@ sent_whole (Some old) (Some mid) None p text all more = more
 sent_whole (Some old) (Some mid) (Some new) p text all more =
     (p ++ text, more ∙ (ap (λ t. t ++ text) all ∙ append_assoc old p text), append-nil (p ++ text))
 
+-- all that was pending was sent on, and then a text was kept back
+sent_then_kept : (old new : Option (List ℕ)) (p text : List ℕ) → Appends old new p → SendsFront old p new text text
+sent_then_kept None new p text all = tt
+sent_then_kept (Some old) None p text all = all
+sent_then_kept (Some old) (Some new) p text all = (p, all, refl)
+
+-- a text was kept back behind what was pending
+all_kept : (taken : Option (List ℕ)) (p text : List ℕ) → SendsFront taken p taken (p ++ text) text
+all_kept None p text = tt
+all_kept (Some taken) p text = ([], sym (append-nil taken), refl)
+
 -- ---- the room
 
 -- room for a text is room for its front
@@ -262,6 +273,22 @@ send_whole old mid new p text all more =
       calm = both.calm;
     }
 
+-- all that was pending was sent on, and then a text was kept back
+pub send_then_keep : (old new : SinkShows) (p text : List ℕ) → Takes old new p → Sends old p new text text
+send_then_keep old new p text all = record {
+  sent = sent_then_kept old.taken new.taken p text all.gained;
+  later = all.later;
+  calm = λ room. all.calm (room_for_front old.limit old.taken p text room);
+}
+
+-- a text was kept back behind what was pending
+pub keep_all : (sink : SinkShows) (p text : List ℕ) → Sends sink p sink (p ++ text) text
+keep_all sink p text = record {
+  sent = all_kept sink.taken p text;
+  later = omega arith;
+  calm = λ room. record { faults = refl; limit = refl };
+}
+
 -- a text was put, and then all that was pending was sent on
 pub send_then_all : (old mid new : SinkShows) (p q a : List ℕ) → Sends old p mid q a → Takes mid new q
     → Takes old new (p ++ a)
@@ -281,9 +308,6 @@ pub send_then_pending : (old mid new : SinkShows) (p q a : List ℕ) → Sends o
 send_then_pending old mid new p q a put cut =
     subst (λ t. CutsOff old new (p ++ t)) (append-nil a)
     (send_then_cut old mid new p q a [] put (subst (λ t. CutsOff mid new t) (sym (append-nil q)) cut))
-
--- what a put of a text that is too long for the buffer owes
-pub ruleset sending = (take_then_cut, send_whole)
 
 -- what a put of several texts owes
 pub ruleset putting = (send_then, send_then_cut, cut_before)

@@ -43,7 +43,6 @@ impl Pieces {
     }
 
     /// Puts a text behind what is pending, and sends on what has no room.
-    #[tactic(auto, using(crate::proofs::PutTexts::sending))]
     pub fn put<K: Sink>(&mut self, sink: &mut K, text: &[u8]) -> Result<(), Failed>
         ensures { Puts (K.shows sink.old) self.old (K.shows sink.new) self.new text.now result }
     {

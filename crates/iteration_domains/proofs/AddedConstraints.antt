@@ -1,10 +1,11 @@
 -- The points of a system with one constraint more.
-use Rattle.std.proofs.Common.{◌≡◌, ℤ, pos, List, [], ◌∷◌, ◌++◌, length, subst, sym}
+use Rattle.std.proofs.Common.{◌≡◌, ℕ, ℤ, pos, List, [], ◌∷◌, ◌++◌, length, subst, sym}
 use Rattle.std.specs.Prelude.{◌≤ℤ◌, All, ◌↔◌}
 use Rattle.std.proofs.Math.Seq.{take-append_seam, drop-append_seam}
 use Rattle.std.proofs.lemmas.List.Elements.{All-nil, All-cons, All-head, All-append, All-take, All-drop}
 use Rattle.whole_numbers.specs.Affine.{Affine, value_of}
-use Rattle.integer_sets.specs.Constraints.{Constraints, system_of}
+use Rattle.affine_forms.specs.Parts.{variables_of}
+use Rattle.integer_sets.specs.Constraints.{Constraints, IsSized, system_of}
 use Rattle.integer_sets.specs.Points.{Satisfies}
 
 -- all have it where those in front and the last have
@@ -39,3 +40,25 @@ row_points s t f e point =
       λ h. ((h.0, (all.0 h.1).0), (all.0 h.1).1),
       λ h. (h.0.0, all.1 (h.0.1, h.1)),
     )
+
+-- a constraint more that speaks of as many variables as the others
+sized_behind : (n : ℕ) (fs new : List Affine) (f : Affine) → All (λ g. variables_of g ≡ n) fs → new ≡ fs ++ f ∷ []
+    → variables_of f ≡ n → All (λ g. variables_of g ≡ n) new
+sized_behind n fs new f all e one =
+    subst (λ (gs : List Affine). All (λ g. variables_of g ≡ n) gs) (sym e)
+    ((all_behind (λ g. variables_of g ≡ n) fs f).1 (all, one))
+
+-- the same of an equality, and of a row
+pub equality_sized : (n : ℕ) (equalities new rows : List Affine) (f : Affine) → IsSized n equalities rows
+    → new ≡ equalities ++ f ∷ [] → variables_of f ≡ n → IsSized n new rows
+equality_sized n equalities new rows f sized e one = record {
+  equalities_sized = sized_behind n equalities new f sized.equalities_sized e one;
+  rows_sized = sized.rows_sized;
+}
+
+pub row_sized : (n : ℕ) (equalities rows new : List Affine) (f : Affine) → IsSized n equalities rows
+    → new ≡ rows ++ f ∷ [] → variables_of f ≡ n → IsSized n equalities new
+row_sized n equalities rows new f sized e one = record {
+  equalities_sized = sized.equalities_sized;
+  rows_sized = sized_behind n rows new f sized.rows_sized e one;
+}

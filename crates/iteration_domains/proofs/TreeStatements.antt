@@ -1,9 +1,10 @@
 -- The statements of a tree by their models, from the place at which the tree stands.
 use Rattle.std.proofs.Common.{◌≡◌, ℕ, zero, suc, ◌+◌, ◌-◌, ◌*◌, ◌^◌, ◌<◌, ◌≤◌, List, [], ◌∷◌, ◌++◌, length, map, drop}
 use Rattle.std.proofs.Common.{get_or, ap, ap₂, subst, sym, ◌∙◌, refl, arith, length-append, inl}
-use Rattle.std.proofs.Common.{inr}
+use Rattle.std.proofs.Common.{inr, take}
+use Rattle.std.proofs.Math.Seq.{take-append_seam}
 use Rattle.std.specs.Prelude.{All, slice_get, Some}
-use Rattle.std.proofs.lemmas.List.{append_assoc, map-append, length-map}
+use Rattle.std.proofs.lemmas.List.{append_assoc, map-append, length-map, take-map}
 use Rattle.std.proofs.lemmas.List.Elements.{All-nil, All-cons, All-head, All-tail, All-append}
 use Rattle.whole_numbers.specs.Affine.{Affine, composed}
 use Rattle.affine_forms.specs.Parts.{variables_of}
@@ -568,3 +569,23 @@ pub one_model : (program : Program) → IsKernel program
     → IsKernelModel (model_of program)
 one_model program k same number =
     model_is_one program (length program.parameters) (model_of program).statements k same number refl
+
+-- a list without the last that it gained, and where its entries are made from others
+pub last_off : {A : Type 0} (xs popped ys : List A) (y : A) (v : ℕ) → popped ≡ take (v - 1) xs → v ≡ length xs
+    → xs ≡ ys ++ y ∷ [] → popped ≡ ys
+last_off xs popped ys y v rest long e =
+    let at : v - 1 ≡ length ys = omega (arith, long, ap length e, length-append ys (y ∷ [])) in
+    rest ∙ (ap₂ take at e ∙ take-append_seam ys (y ∷ []))
+
+pub last_off_map : {A B : Type 0} (f : A → B) (xs popped : List A) (ys : List B) (y : B) (v : ℕ)
+    → popped ≡ take (v - 1) xs → v ≡ length xs
+    → map f xs ≡ ys ++ y ∷ [] → map f popped ≡ ys
+last_off_map f xs popped ys y v rest long e =
+    last_off (map f xs) (map f popped) ys y v (ap (map f) rest ∙ sym (take-map f (v - 1) xs))
+    (long ∙ sym (length-map xs f)) e
+
+-- a path that is back where it was
+pub path_back : (p inner : Path) (scopes : List Scope) (loops : List ℕ) → inner.parameters ≡ p.parameters
+    → scopes ≡ p.scopes → loops ≡ p.loops → path_at inner.parameters scopes loops ≡ p
+path_back p inner scopes loops parameters same_scopes same_loops =
+    ap (λ (m : ℕ). path_at m scopes loops) parameters ∙ ap₂ (path_at p.parameters) same_scopes same_loops

@@ -53,19 +53,19 @@ fn start(alloc: Global, parameters: usize, loops: usize) -> Result<StatementRows
 fn iterator_form(
     alloc: Global,
     head: &Loop,
-    turn: &Form,
     forms: &[Form],
     at: usize,
     variables: usize,
 ) -> Result<Form, AllocError>
     requires head { IsHead (length forms.now) head.now }
     requires sized { All (λ f. variables_of f ≡ variables) forms.now }
-    requires turn { turn.now ≡ variable variables at }
+    requires at { at < variables }
     requires small { forms_size forms.now ≤ 2 ^ 60 }
     ensures { IfOk result (λ f. f ≡ iterator variables at head.now forms.now) }
 {
     let first = compose(alloc, &head.first, forms, variables)?;
-    plus_multiple(&first, head.stride as i128, turn)
+    let turn = variable_form(alloc, variables, at)?;
+    plus_multiple(&first, head.stride as i128, &turn)
 }
 
 impl StatementRows {
@@ -80,10 +80,10 @@ impl StatementRows {
         let at = self.loops;
         let variables = self.variables;
         let turn = variable_form(alloc, variables, at)?;
-        let iterator = iterator_form(alloc, head, &turn, self.forms.as_slice(), at, variables)?;
+        push(&mut self.rows, turn)?;
+        let iterator = iterator_form(alloc, head, self.forms.as_slice(), at, variables)?;
         push(&mut self.forms, iterator)?;
         let condition = compose(alloc, &head.condition, self.forms.as_slice(), variables)?;
-        push(&mut self.rows, turn)?;
         push(&mut self.rows, condition)?;
         self.loops = at + 1;
         Ok(())

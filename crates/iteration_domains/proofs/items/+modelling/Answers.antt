@@ -1,12 +1,13 @@
-use Rattle.std.proofs.Common.{◌≡◌, ℕ, ◌+◌, ◌<◌, List, [], ◌∷◌, ◌++◌, length, map, ap, subst, sym, ◌∙◌, rules, arith}
+use Rattle.std.proofs.Common.{◌≡◌, ℕ, ◌+◌, ◌<◌, List, [], ◌∷◌, ◌++◌, length, vec_len, map, refl, ap, subst, sym}
+use Rattle.std.proofs.Common.{◌∙◌, rules, arith}
 use Rattle.scop_syntax.specs.Tree.{Head, more, none}
 use Rattle.scop_syntax.specs.Statements.{round, placed_all}
 use Rattle.scop_syntax.specs.View.{items_of, test_of, tree_of}
 use Rattle.scop_syntax.proofs.Weights.{weight, weight_all, item_weight}
 use Rattle.iteration_domains.specs.Model.{Modelled}
-use Rattle.iteration_domains.specs.Path.{Path, CanModel, modelled_in, path_at, path_of}
+use Rattle.iteration_domains.specs.Path.{Path, CanModel, modelled_in, path_at, path_of, scope_of, scopes_of}
 use Rattle.iteration_domains.proofs.TreeStatements.{can_loop, can_guard, item_can, item_step, models_of_loop}
-use Rattle.iteration_domains.proofs.TreeStatements.{models_of_guard}
+use Rattle.iteration_domains.proofs.TreeStatements.{models_of_guard, last_off, last_off_map, path_back}
 use Rattle.iteration_domains.proofs.items.+modelling.Goals as goal
 
 pub model_guard-model_items-requires : goal.model_guard-model_items-requires
@@ -84,3 +85,31 @@ model_loop-returns-clause-statements t c =
     c.in_ok-model_items.ensures.statements
     ∙ (ap (λ (q : Path). old ++ map (modelled_in q) ps) inside
     ∙ ap (λ (ms : List Modelled). old ++ ms) (models_of_loop p head (length old) ps))
+
+pub model_guard-returns-clause-path : goal.model_guard-returns-clause-path
+model_guard-returns-clause-path t c =
+    let p = path_of c.args.path.now in
+    let inner = c.model_items.new.path in
+    let e = c.in_ok-model_items.ensures.path ∙ c.in_ok-enter_scope.ensures in
+    let long : vec_len inner.scopes ≡ length inner.scopes.items = search rules in
+    path_back p (path_of inner) (scopes_of c.pop-scope.new.self.items) inner.loops.items
+    (ap (λ (q : Path). q.parameters) e)
+    (last_off_map scope_of inner.scopes.items c.pop-scope.new.self.items p.scopes _ _ c.pop-scope.ensures.rest long
+    (ap (λ (q : Path). q.scopes) e))
+    (ap (λ (q : Path). q.loops) e)
+
+pub model_loop-returns-clause-path : goal.model_loop-returns-clause-path
+model_loop-returns-clause-path t c =
+    let p = path_of c.args.path.now in
+    let inner = c.model_items.new.path in
+    let e = c.in_ok-model_items.ensures.path
+    ∙ entered p (path_of c.enter_scope.new.path) (path_of c.enter_loop.new.path) c.len.result c.len.result
+    c.args.head.now c.in_ok-enter_scope.ensures c.in_ok-enter_loop.ensures refl in
+    let long : vec_len inner.scopes ≡ length inner.scopes.items = search rules in
+    let long_loops : vec_len inner.loops ≡ length inner.loops.items = search rules in
+    path_back p (path_of inner) (scopes_of c.pop-scope.new.self.items) c.pop-loop.new.self.items
+    (ap (λ (q : Path). q.parameters) e)
+    (last_off_map scope_of inner.scopes.items c.pop-scope.new.self.items p.scopes _ _ c.pop-scope.ensures.rest long
+    (ap (λ (q : Path). q.scopes) e))
+    (last_off inner.loops.items c.pop-loop.new.self.items p.loops _ _ c.pop-loop.ensures.rest long_loops
+    (ap (λ (q : Path). q.loops) e))

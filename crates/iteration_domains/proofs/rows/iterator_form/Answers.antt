@@ -21,13 +21,14 @@ compose-requires c =
 
 pub plus_multiple-requires-clause-sized : goal.plus_multiple-requires-clause-sized
 plus_multiple-requires-clause-sized c =
-    ap variables_of c.requires.turn ∙ (length-variable c.args.variables c.args.at ∙ sym c.in_ok-first.ensures.sized)
+    ap variables_of c.in_ok-turn.ensures
+    ∙ (length-variable c.args.variables c.args.at ∙ sym c.in_ok-first.ensures.sized)
 
 pub plus_multiple-requires-clause-small : goal.plus_multiple-requires-clause-small
 plus_multiple-requires-clause-small c =
     let n = c.args.variables in
     let k = c.head.inside.stride in
-    let turn = c.args.turn.now in
+    let turn = c.in_ok-turn.turn in
     let forms = c.args.forms.now in
     let h = c.args.head.now in
     let few : unsigned_abs k ≤ 16 =
@@ -37,7 +38,7 @@ plus_multiple-requires-clause-small c =
     let e : to_z w128 (of_z w128 (to_z w64 (of_z w64 k))) ≡ k =
     ap (λ z. to_z w128 (of_z w128 z)) (to_z-of_z w64 k fit) ∙ to_z-of_z w128 k wide in
     let one : form_size turn ≤ 1 =
-    subst (λ (f : Affine). form_size f ≤ 1) (sym c.requires.turn) (size-variable n c.args.at) in
+    subst (λ (f : Affine). form_size f ≤ 1) (sym c.in_ok-turn.ensures) (size-variable n c.args.at) in
     let p : unsigned_abs k * form_size turn ≤ 16 * 1 = mul-le-mul few one in
     let first = c.in_ok-first.ensures.form ∙ ap (λ (z : Head). composed z.first forms n) c.head.view_is in
     let q : form_size c.in_ok-first.first ≤ 16 * forms_size forms + 2 ^ 20 =

@@ -1,9 +1,11 @@
-use Rattle.std.proofs.Common.{◌≡◌, ◌+◌, ◌^◌, List, [], ◌∷◌, length, rules, arith, ap, subst, sym, length-append}
-use Rattle.whole_numbers.specs.Affine.{Affine}
+use Rattle.std.proofs.Common.{◌≡◌, ◌+◌, ◌^◌, List, [], ◌∷◌, ◌++◌, ◌∙◌, append_assoc, length, length-append, rules}
+use Rattle.std.proofs.Common.{arith, ap, ap₂, subst, sym}
+use Rattle.whole_numbers.specs.Affine.{Affine, composed}
 use Rattle.scop_syntax.specs.Tree.{Head}
 use Rattle.scop_syntax.specs.Kernel.{IsCondition}
-use Rattle.iteration_domains.specs.Rows.{iterator, within_loop}
+use Rattle.iteration_domains.specs.Rows.{iterator, variable, within_loop}
 use Rattle.iteration_domains.specs.Sizes.{CanCompose}
+use Rattle.iteration_domains.specs.Standing.{standing}
 use Rattle.iteration_domains.proofs.Surroundings.{can_compose, sized-within}
 use Rattle.iteration_domains.proofs.Sizes.{sizes-within}
 use Rattle.iteration_domains.proofs.rows.StatementRows.enter_loop.Goals as goal
@@ -26,3 +28,23 @@ compose-requires c =
     (omega arith) (omega arith) (omega arith) in
     subst (CanCompose n c.as_slice-2.result.now) (sym condition)
     (subst (λ (fs : List Affine). CanCompose n fs head.condition) (sym now) can)
+
+pub returns : goal.returns
+returns c =
+    let old = c.args.self.now in
+    let n = old.variables in
+    let forms = old.forms.items in
+    let head = c.args.head.now in
+    let inner : c.push-2.new.list.items ≡ within_loop n old.loops head forms =
+    c.in_ok-push-2.ensures.pushed
+    ∙ ap (λ (f : Affine). forms ++ f ∷ [])
+    (c.in_ok-iterator.ensures ∙ ap (iterator n old.loops head) c.as_slice.ensures.value) in
+    let condition : c.in_ok-condition.condition ≡ composed head.condition (within_loop n old.loops head forms) n =
+    c.in_ok-condition.ensures.form
+    ∙ ap₂ (λ (f : Affine) (fs : List Affine). composed f fs n) (ap (λ (z : Head). z.condition) c.head.view_is)
+    (c.as_slice-2.ensures.value ∙ inner) in
+    let rows : c.push.new.list.items ≡ old.rows.items ++ variable n old.loops ∷ [] =
+    c.in_ok-push.ensures.pushed ∙ ap (λ (f : Affine). old.rows.items ++ f ∷ []) c.in_ok-turn.ensures in
+    let all = c.in_ok-push-3.ensures.pushed ∙ (ap₂ (λ (fs : List Affine) (f : Affine). fs ++ f ∷ []) rows condition
+    ∙ append_assoc old.rows.items (variable n old.loops ∷ []) _) in
+    ap₂ (λ (fs rs : List Affine). standing n (old.loops + 1) fs old.equalities.items rs) inner all

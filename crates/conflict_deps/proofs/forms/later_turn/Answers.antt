@@ -1,24 +1,21 @@
-use Rattle.std.proofs.Common.{◌≡◌, ◌≤◌, subst, sym, ap, ◌∙◌, arith, rules}
+use Rattle.std.proofs.Common.{◌≡◌, ◌≤◌, subst, sym, ap, ◌∙◌, arith}
 use Rattle.whole_numbers.specs.Affine.{Affine}
 use Rattle.whole_numbers.proofs.Dot.{length-zeros}
 use Rattle.affine_forms.specs.Parts.{variables_of}
 use Rattle.iteration_domains.specs.Sizes.{form_size}
-use Rattle.conflict_deps.specs.Conflicts.{one_form}
 use Rattle.conflict_deps.proofs.Shapes.{length-step, size-step, size-one}
-use Rattle.conflict_deps.proofs.forms.push_later_turn.Goals as goal
+use Rattle.conflict_deps.proofs.forms.later_turn.Goals as goal
 
 pub plus_multiple-requires-clause-sized : goal.plus_multiple-requires-clause-sized
 plus_multiple-requires-clause-sized c =
     let n = c.args.variables in
-    let one : c.in_ok-one.one ≡ one_form n = search rules in
-    ap variables_of one ∙ (length-zeros n
+    ap variables_of c.in_ok-one.ensures ∙ (length-zeros n
     ∙ (sym (length-step n c.args.loops c.args.at) ∙ sym (ap variables_of c.in_ok-difference.ensures)))
 
 pub plus_multiple-requires-clause-small : goal.plus_multiple-requires-clause-small
 plus_multiple-requires-clause-small c =
     let n = c.args.variables in
-    let one : c.in_ok-one.one ≡ one_form n = search rules in
     let a : form_size c.in_ok-difference.difference ≤ 2 =
     subst (λ (f : Affine). form_size f ≤ 2) (sym c.in_ok-difference.ensures) (size-step n c.args.loops c.args.at) in
-    let b : form_size c.in_ok-one.one ≡ 1 = ap form_size one ∙ size-one n in
+    let b : form_size c.in_ok-one.one ≡ 1 = ap form_size c.in_ok-one.ensures ∙ size-one n in
     omega arith

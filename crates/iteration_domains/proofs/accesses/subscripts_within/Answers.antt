@@ -1,0 +1,23 @@
+use Rattle.std.proofs.Common.{sym, subst}
+use Rattle.whole_numbers.specs.Affine.{composed}
+use Rattle.iteration_domains.specs.Sizes.{CanCompose}
+use Rattle.iteration_domains.proofs.Surroundings.{map_step, map_all}
+use Rattle.iteration_domains.proofs.accesses.subscripts_within.Goals as goal
+
+pub compose-requires : goal.compose-requires
+compose-requires c =
+    subst (CanCompose c.args.variables c.args.forms.now) (sym c.subscript-item.is)
+    (c.requires c.loop-subscript.subscript-index c.subscript-item.result c.loop-subscript-test.true)
+
+pub loop-subscript-preserved : goal.loop-subscript-preserved
+loop-subscript-preserved c =
+    map_step (λ form. composed form c.args.forms.now c.args.variables) c.args.subscripts.now
+    c.loop-subscript.subscript-index c.subscript-item.result c.in_ok-form.form c.loop-subscript.composed.items
+    c.push.new.list.items c.loop-subscript-test.true c.subscript-item.is c.in_ok-form.ensures.form
+    c.in_ok-push.ensures.pushed c.loop-subscript.invariant
+
+pub returns : goal.returns
+returns c =
+    map_all (λ form. composed form c.args.forms.now c.args.variables) c.args.subscripts.now
+    c.loop-subscript.subscript-index c.loop-subscript.composed.items c.loop-subscript-test.false
+    c.loop-subscript.invariant
