@@ -1,7 +1,7 @@
 //! The questions of a node: whether its context has a point, and whether a row's part is at most -1, at least 0, or no
 //! multiple of the row's denominator at some point of it. Where no parameter stands in a part it is read off; else a
 //! question over the parameters is run, in the same count of moves.
-ghost use Rattle.std.specs.Prelude.{◌≡◌, ◌+◌, [], ◌∷◌, ◌++◌, ◌≤◌, map, None, All};
+ghost use Rattle.std.specs.Prelude.{◌≡◌, ◌+◌, [], ◌∷◌, ◌++◌, ◌≤◌, map, None, All, IfOk};
 ghost use Rattle.affine_forms.specs.Parts.{variables_of};
 ghost use Rattle.tableau_rows.specs.Problem.{Speaks};
 ghost use Rattle.tableau_rows.specs.Moves.{row_at};
@@ -12,15 +12,16 @@ ghost use Rattle.tableau_nodes.specs.Node.{node_of};
 ghost use Rattle.pip_solver.specs.Promises.{Tells, AsksOf};
 
 use crate::question::{QuestionStop, question};
-use affine_forms::{Form, FormStop};
+use affine_forms::{Form, FormStop, push};
 use checked_tableau::{Rows, remainder_of};
-use std::alloc::Global;
+use std::alloc::{AllocError, Global};
+use std::slice;
 use tableau_nodes::{
     Tableau, above, constant_of, is_constant, longer_forms, opposite, part_of, under,
 };
 
 /// Whether forms, in two parts, have a whole point that is not negative.
-fn ask(
+pub fn ask(
     alloc: Global,
     unknowns: usize,
     forms: &[Form],
@@ -105,7 +106,7 @@ fn ask_opposite(
             alloc,
             node.rows.parameters(),
             &node.context,
-            &[opposite],
+            slice::from_ref(&opposite),
             left,
         ),
     }
@@ -128,7 +129,13 @@ pub fn above_somewhere(
     }
     match part_of(alloc, &node.rows, row) {
         Err(_) => Err(QuestionStop::NoMemory),
-        Ok(part) => ask(alloc, node.rows.parameters(), &node.context, &[part], left),
+        Ok(part) => ask(
+            alloc,
+            node.rows.parameters(),
+            &node.context,
+            slice::from_ref(&part),
+            left,
+        ),
     }
 }
 
@@ -217,12 +224,35 @@ fn ask_longer(
         (map longer_form node.now.context.items ++ first ∷ second ∷ [])) }
     ensures less { left.new ≤ left.old }
 {
-    let unknowns = match node.rows.parameters().checked_add(1) {
-        None => return Err(QuestionStop::NoMemory),
-        Some(unknowns) => unknowns,
+    let rows = match longer_context(alloc, &node.context, first, second) {
+        Err(_) => return Err(QuestionStop::NoMemory),
+        Ok(rows) => rows,
     };
-    match longer_forms(alloc, &node.context) {
-        Err(_) => Err(QuestionStop::NoMemory),
-        Ok(context) => ask(alloc, unknowns, &context, &[first, second], left),
+    match node.rows.parameters().checked_add(1) {
+        None => Err(QuestionStop::NoMemory),
+        Some(unknowns) => ask(alloc, unknowns, &rows, &[], left),
+    }
+}
+
+/// Forms over one unknown more, and two more forms.
+fn longer_context(
+    alloc: Global,
+    context: &[Form],
+    first: Form,
+    second: Form,
+) -> Result<Vec<Form>, AllocError>
+    ensures { IfOk result (λ v. v.items ≡ map longer_form context.now ++ first ∷ second ∷ []) }
+{
+    let mut rows = match longer_forms(alloc, context) {
+        Err(error) => return Err(error),
+        Ok(rows) => rows,
+    };
+    match push(&mut rows, first) {
+        Err(error) => return Err(error),
+        Ok(()) => {}
+    }
+    match push(&mut rows, second) {
+        Err(error) => Err(error),
+        Ok(()) => Ok(rows),
     }
 }
