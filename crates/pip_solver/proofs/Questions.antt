@@ -1,7 +1,8 @@
 -- The questions of a node, as the code asks them.
 use Rattle.std.proofs.Common.{◌≡◌, ℕ, zero, suc, ◌+◌, ◌<◌, ℤ, pos, negsuc, Bool, true, false, List, [], length, drop, refl}
-use Rattle.std.proofs.Common.{subst, ap, sym, ◌∙◌, arith, add-one, drop-cons}
-use Rattle.std.specs.Prelude.{Option, Some, Ok, Err, T, not, if◌then◌else◌}
+use Rattle.std.proofs.Common.{◌∷◌, ◌++◌, append_assoc, subst, ap, sym, ◌∙◌, arith, add-one, drop-cons}
+use Rattle.std.specs.Prelude.{Option, Result, Some, Ok, Err, T, not, if◌then◌else◌}
+use Rattle.wide_math.specs.declared.Wide.{Wide}
 use Rattle.whole_numbers.specs.Lists.{zeros}
 use Rattle.whole_numbers.proofs.Dot.{length-zeros}
 use Rattle.std.specs.Int.Signed.{lt_z, lt_z_no}
@@ -12,7 +13,7 @@ use Rattle.tableau_rows.specs.Rows.{Row, row_of}
 use Rattle.tableau_rows.specs.Moves.{row_at, is_positive}
 use Rattle.tableau_rows.specs.Problem.{problem_of, first_rows}
 use Rattle.tableau_rows.specs.Run.{question, run}
-use Rattle.lexmin_runs.specs.Nodes.{Counted, Node, chained, answered, ask, opposite_run, above_run, first_asked}
+use Rattle.lexmin_runs.specs.Nodes.{Counted, Node, formed, chained, answered, ask, opposite_run, above_run, first_asked}
 use Rattle.lexmin_runs.specs.Nodes.{broken_somewhere, all_zero}
 use Rattle.lexmin_runs.specs.Solutions.{IsNode}
 use Rattle.lexmin_runs.proofs.QuestionAnswers.{opposite-value, above-value}
@@ -34,6 +35,12 @@ opposite-size f g h = (opposite-value f g [] h).1
 pub above-size : (d : ℤ) (f g : Affine) → above_run d f ≡ Ok g → length g.coefficients ≡ length f.coefficients + 1
 above-size d f g h = (above-value d f g (zeros (length f.coefficients)) (pos 0)
     (sym (length-zeros (length f.coefficients))) h).1
+
+-- a form behind another
+pub asked-behind : (left m : ℕ) (q : Result Affine Wide) (fs : List Affine) (f : Affine)
+    → formed left q (λ h. ask left m ((fs ++ f ∷ []) ++ h ∷ [])) ≡ formed left q (λ h. ask left m (fs ++ f ∷ h ∷ []))
+asked-behind left m (Ok h) fs f = ap (λ (gs : List Affine). ask left m gs) (append_assoc fs (f ∷ []) (h ∷ []))
+asked-behind left m (Err w) fs f = refl
 
 pub asks_of : (t : Tableau) (row : ℕ) → IsNode t.rows.unknowns (node_of t) → row < length t.rows.rows → AsksOf t row
 asks_of t row is within = (within, is.speaks, part_size t.rows.unknowns (node_of t) row is within)

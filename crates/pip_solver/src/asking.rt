@@ -1,7 +1,7 @@
 //! The questions of a node: whether its context has a point, and whether a row's part is at most -1, at least 0, or no
 //! multiple of the row's denominator at some point of it. Where no parameter stands in a part it is read off; else a
 //! question over the parameters is run, in the same count of moves.
-ghost use Rattle.std.specs.Prelude.{◌≡◌, ◌+◌, [], ◌∷◌, ◌++◌, ◌≤◌, map, None, All, IfOk};
+ghost use Rattle.std.specs.Prelude.{◌≡◌, ◌+◌, [], ◌∷◌, ◌++◌, ◌≤◌, map, None, All};
 ghost use Rattle.affine_forms.specs.Parts.{variables_of};
 ghost use Rattle.tableau_rows.specs.Problem.{Speaks};
 ghost use Rattle.tableau_rows.specs.Moves.{row_at};
@@ -11,14 +11,13 @@ ghost use Rattle.lexmin_runs.specs.Nodes.{opposite_run, above_run, under_run};
 ghost use Rattle.tableau_nodes.specs.Node.{node_of};
 ghost use Rattle.pip_solver.specs.Promises.{Tells, AsksOf};
 
+use crate::leaf::longer_with;
 use crate::question::{QuestionStop, question};
-use affine_forms::{Form, FormStop, push};
+use affine_forms::{Form, FormStop};
 use checked_tableau::{Rows, remainder_of};
-use std::alloc::{AllocError, Global};
+use std::alloc::Global;
 use std::slice;
-use tableau_nodes::{
-    Tableau, above, constant_of, is_constant, longer_forms, opposite, part_of, under,
-};
+use tableau_nodes::{Tableau, above, constant_of, is_constant, opposite, part_of, under};
 
 /// Whether forms, in two parts, have a whole point that is not negative.
 pub fn ask(
@@ -202,57 +201,33 @@ fn ask_under(
         (map longer_form node.now.context.items ++ first ∷ h ∷ []))) }
     ensures less { left.new ≤ left.old }
 {
+    match longer_with(alloc, &node.context, first) {
+        Err(_) => Err(QuestionStop::NoMemory),
+        Ok(rows) => match node.rows.parameters().checked_add(1) {
+            None => Err(QuestionStop::NoMemory),
+            Some(unknowns) => ask_with_under(alloc, unknowns, &rows, divisor, form, left),
+        },
+    }
+}
+
+/// Whether forms, and the form of the upper multiple, have a whole point that is not negative.
+fn ask_with_under(
+    alloc: Global,
+    unknowns: usize,
+    forms: &[Form],
+    divisor: i128,
+    form: &Form,
+    left: &mut u64,
+) -> Result<bool, QuestionStop>
+    requires forms { All (λ f. variables_of f ≡ unknowns) forms.now }
+    requires form { variables_of form.now + 1 ≡ unknowns }
+    ensures run { Tells result left.new (formed left.old (under_run divisor form.now)
+        (λ h. ask left.old unknowns (forms.now ++ h ∷ []))) }
+    ensures less { left.new ≤ left.old }
+{
     match under(alloc, divisor, form) {
         Err(FormStop::NoMemory) => Err(QuestionStop::NoMemory),
         Err(FormStop::Wide(_)) => Err(QuestionStop::Wide),
-        Ok(second) => ask_longer(alloc, node, first, second, left),
-    }
-}
-
-/// Whether two forms over one unknown more have a whole point in the context.
-fn ask_longer(
-    alloc: Global,
-    node: &Tableau,
-    first: Form,
-    second: Form,
-    left: &mut u64,
-) -> Result<bool, QuestionStop>
-    requires speaks { Speaks node.now.rows.parameters node.now.context.items }
-    requires first { variables_of first ≡ node.now.rows.parameters + 1 }
-    requires second { variables_of second ≡ node.now.rows.parameters + 1 }
-    ensures run { Tells result left.new (ask left.old (node.now.rows.parameters + 1)
-        (map longer_form node.now.context.items ++ first ∷ second ∷ [])) }
-    ensures less { left.new ≤ left.old }
-{
-    let rows = match longer_context(alloc, &node.context, first, second) {
-        Err(_) => return Err(QuestionStop::NoMemory),
-        Ok(rows) => rows,
-    };
-    match node.rows.parameters().checked_add(1) {
-        None => Err(QuestionStop::NoMemory),
-        Some(unknowns) => ask(alloc, unknowns, &rows, &[], left),
-    }
-}
-
-/// Forms over one unknown more, and two more forms.
-fn longer_context(
-    alloc: Global,
-    context: &[Form],
-    first: Form,
-    second: Form,
-) -> Result<Vec<Form>, AllocError>
-    ensures { IfOk result (λ v. v.items ≡ map longer_form context.now ++ first ∷ second ∷ []) }
-{
-    let mut rows = match longer_forms(alloc, context) {
-        Err(error) => return Err(error),
-        Ok(rows) => rows,
-    };
-    match push(&mut rows, first) {
-        Err(error) => return Err(error),
-        Ok(()) => {}
-    }
-    match push(&mut rows, second) {
-        Err(error) => Err(error),
-        Ok(()) => Ok(rows),
+        Ok(second) => ask(alloc, unknowns, forms, slice::from_ref(&second), left),
     }
 }

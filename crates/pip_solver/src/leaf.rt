@@ -249,13 +249,19 @@ fn with_last(alloc: Global, forms: &[Form], variables: usize) -> Result<Vec<Form
     ensures { IfOk result (λ v. v.items ≡ map longer_form forms.now ++ form_of (zeros variables ++ pos 1 ∷ []) (pos 0)
         ∷ []) }
 {
+    match last_variable(alloc, variables) {
+        Err(error) => Err(error),
+        Ok(last) => longer_with(alloc, forms, last),
+    }
+}
+
+/// The forms over one variable more, and another behind them.
+pub fn longer_with(alloc: Global, forms: &[Form], last: Form) -> Result<Vec<Form>, AllocError>
+    ensures { IfOk result (λ v. v.items ≡ map longer_form forms.now ++ last ∷ []) }
+{
     let mut all = match longer_forms(alloc, forms) {
         Err(error) => return Err(error),
         Ok(all) => all,
-    };
-    let last = match last_variable(alloc, variables) {
-        Err(error) => return Err(error),
-        Ok(last) => last,
     };
     match push(&mut all, last) {
         Err(error) => Err(error),
