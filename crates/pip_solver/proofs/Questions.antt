@@ -1,5 +1,6 @@
 -- The questions of a node, as the code asks them.
-use Rattle.std.proofs.Common.{◌≡◌, ℕ, zero, suc, ◌+◌, ◌<◌, ℤ, pos, negsuc, Bool, true, false, List, [], length, drop, refl}
+use Rattle.std.proofs.Common.{◌≡◌, ℕ, zero, suc, ◌+◌, ◌<◌, ℤ, pos, negsuc, Bool, true, false, List, []}
+use Rattle.std.proofs.Common.{length, drop, refl}
 use Rattle.std.proofs.Common.{◌∷◌, ◌++◌, append_assoc, subst, ap, sym, ◌∙◌, arith, add-one, drop-cons}
 use Rattle.std.specs.Prelude.{Option, Result, Some, Ok, Err, T, not, if◌then◌else◌}
 use Rattle.wide_math.specs.declared.Wide.{Wide}
@@ -53,7 +54,8 @@ positive-test (pos (suc n)) = by_test (lt_z (pos 0) (pos (suc n))) refl
   where
     by_test : (b : Bool) → lt_z (pos 0) (pos (suc n)) ≡ b → true ≡ b
     by_test true e = refl
-    by_test false e = let h = lt_z_no {a = pos 0} {b = pos (suc n)} (subst (λ b. T (not b)) (sym e) tt) in absurd (omega (arith, ints, h))
+    by_test false e = let h = lt_z_no {a = pos 0} {b = pos (suc n)} (subst (λ b. T (not b)) (sym e) tt) in
+        absurd (omega (arith, ints, h))
 
 -- a form without a parameter is no multiple of d where its constant leaves more than 0
 pub broken-constant : (left : ℕ) (node : Node) (d : ℤ) (f : Affine) (r : ℤ) → true ≡ all_zero f.coefficients

@@ -1,6 +1,7 @@
 //! A leaf: the unknowns' parts over their denominators. Where a denominator does not divide every number of a part, the
 //! part's floor is bound round the leaf, by a frame.
-ghost use Rattle.std.specs.Prelude.{◌≡◌, ℕ, suc, List, [], ◌∷◌, ◌+◌, ◌++◌, ◌<◌, ◌≤◌, ◌≤ℤ◌, pos, length, map, take, drop};
+ghost use Rattle.std.specs.Prelude.{◌≡◌, ℕ, suc, List, [], ◌∷◌, ◌+◌, ◌++◌, ◌<◌, ◌≤◌, ◌≤ℤ◌, pos};
+ghost use Rattle.std.specs.Prelude.{length, map, take, drop};
 ghost use Rattle.std.specs.Prelude.{None, Ok, IfOk, OnOk};
 ghost use Rattle.whole_numbers.specs.Floor.{floor};
 ghost use Rattle.whole_numbers.specs.Lists.{zeros};

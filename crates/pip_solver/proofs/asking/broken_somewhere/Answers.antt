@@ -22,7 +22,8 @@ returns-then-is_constant-clause-run c =
     simp to_z-of_z
     (broken-constant c.args.left.now (node_of t) row.denominator (part_of t.rows.unknowns row) c.remainder_of.result
     c.if-is_constant.ensures
-    (made ∙ ap₂ (λ (z d : ℤ). remainder z d) c.constant_of.ensures (ap (λ (r : Row). r.denominator) c.line.ensures.line)))
+    (made ∙ ap₂ (λ (z d : ℤ). remainder z d) c.constant_of.ensures
+    (ap (λ (r : Row). r.denominator) c.line.ensures.line)))
 
 pub ask_between-requires-clause-form : goal.ask_between-requires-clause-form
 ask_between-requires-clause-form c = ap (λ (f : Affine). variables_of f) c.in-Ok.ensures ∙ c.requires.asks.2

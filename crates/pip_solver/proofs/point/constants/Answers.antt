@@ -17,4 +17,5 @@ loop-form-preserved c =
 pub returns : goal.returns
 returns c =
     c.loop-form.invariant
-    ∙ ap (λ (fs : List Affine). map (λ f. f.constant) fs) (take_all c.loop-form.form-index c.args.forms.now (omega arith))
+    ∙ ap (λ (fs : List Affine). map (λ f. f.constant) fs)
+    (take_all c.loop-form.form-index c.args.forms.now (omega arith))
