@@ -1,8 +1,9 @@
 -- The first rows, line by line.
 use Rattle.std.proofs.Common.{◌≡◌, ℕ, zero, suc, ◌+◌, ◌*◌, ◌<◌, ◌≤◌, map, ℤ, pos, List, [], ◌∷◌, ◌++◌, length, set}
 use Rattle.std.proofs.Common.{refl, subst, ap, sym, ◌∙◌, arith, add-one, append_assoc}
-use Rattle.std.specs.Prelude.{Option, None, All}
-use Rattle.std.proofs.lemmas.List.{length-append, map-append}
+use Rattle.std.specs.Prelude.{Option, None, Result, Ok, Err, OnOk, All, if◌then◌else◌, is_ok}
+use Rattle.std.proofs.Common.{◌-◌, take, drop}
+use Rattle.std.proofs.lemmas.List.{length-append, length-drop, map-append, take_all}
 use Rattle.wide_math.specs.declared.Wide.{Wide}
 use Rattle.lexmin_runs.specs.Nodes.{longer_row}
 use Rattle.lexmin_runs.proofs.AddedParameters.{longer_tableau, speaks-append}
@@ -20,6 +21,21 @@ use Rattle.tableau_rows.proofs.FirstTableau.{length-entries_of, first_tableau}
 use Rattle.checked_tableau.specs.Lines.{Holds}
 use Rattle.checked_tableau.specs.Table.{IsSound, stride_of}
 use Rattle.checked_tableau.proofs.Tables.{rows_in_more}
+
+-- a form's line, written part by part
+pub form_written : {U E : Type 0} (n : ℕ) (f : Affine) (cs cells a b k new : List ℤ) (result : Result U E)
+    → cs ≡ f.coefficients
+    → a ≡ cells ++ pos 1 ∷ [] → b ≡ a ++ take n cs → k ≡ b ++ f.constant ∷ []
+    → new ≡ (if is_ok result then k ++ take (length cs - n) (drop n cs) else k)
+    → OnOk result (new ≡ cells ++ (pos 1 ∷ entries_of n f))
+form_written n f cs cells a b k new (Err e) same first second third last = tt
+form_written n f cs cells a b k new (Ok u) same first second third last =
+    let rest : take (length cs - n) (drop n cs) ≡ drop n cs =
+    take_all (length cs - n) (drop n cs) (omega (arith, length-drop n cs)) in
+    last ∙ rw (third, second, first, rest, ← same)
+    (append_assoc ((cells ++ pos 1 ∷ []) ++ take n cs) (f.constant ∷ []) (drop n cs)
+    ∙ append_assoc (cells ++ pos 1 ∷ []) (take n cs) (f.constant ∷ drop n cs)
+    ∙ append_assoc cells (pos 1 ∷ []) (take n cs ++ (f.constant ∷ drop n cs)))
 
 -- a line more
 pub held_more : (stride count next : ℕ) (cells line : List ℤ) (rows : List Row) (row : Row)

@@ -156,6 +156,19 @@ pub here_equal : {A : Type 0} (x y : ℤ) (a b c run : A) → y ≤ℤ x → x �
     → (if is_below (x -ℤ y) then a else if is_below (y -ℤ x) then b else c) ≡ run → c ≡ run
 here_equal x y a b c run h k kept = rw (below_false x y h, below_false y x k) at kept
 
+-- a column with a positive entry is compared with the best so far
+pub better-compared : (unknowns : List Row) (pivot : List ℤ) (j s : ℕ) (r : Result Bool Wide)
+    → is_positive (entry (line_row pivot) j) ≡ true
+    → r ≡ precedes_run (get_or pivot (j + 1) (pos 0)) (get_or pivot (s + 1) (pos 0)) j s unknowns
+    → better_run unknowns (line_row pivot) j (Some s) ≡ (r >>= λ first. Ok (Some (if first then j else s)))
+better-compared unknowns pivot j s r passes is =
+    rw passes
+    (subst (λ (x : ℤ). (precedes_run x (entry (line_row pivot) s) j s unknowns >>= λ first. Ok
+    (Some (if first then j else s))) ≡ (r >>= λ first. Ok (Some (if first then j else s)))) (sym (entry_at pivot j))
+    (subst (λ (y : ℤ). (precedes_run (get_or pivot (j + 1) (pos 0)) y j s unknowns >>= λ first. Ok
+    (Some (if first then j else s))) ≡ (r >>= λ first. Ok (Some (if first then j else s)))) (sym (entry_at pivot s))
+    (ap (λ (q : Result Bool Wide). q >>= λ first. Ok (Some (if first then j else s))) (sym is))))
+
 -- a column that is tried
 pub column_past : (unknowns : List Row) (pivot : Row) (i n left k : ℕ) (best next : Option ℕ)
     (run : Result (Option ℕ) Wide) → k ≡ suc left → n ≡ suc i

@@ -79,3 +79,40 @@ pub fn append_forms(
     }
     Ok(())
 }
+
+/// The lines of a problem's first rows, whose forms stand in two parts. `line` is room for one.
+pub fn first_lines(
+    alloc: Global,
+    unknowns: usize,
+    forms: &[Form],
+    more: &[Form],
+    line: &mut [i128],
+) -> Result<Vec<i128>, AllocError>
+    requires room { unknowns + 1 < length line.old }
+    requires forms { All (λ f. variables_of f + 2 ≡ length line.old) forms.now }
+    requires more { All (λ f. variables_of f + 2 ≡ length line.old) more.now }
+    ensures { IfOk result (λ v. (m : ℕ) → length line.old ≡ suc m
+        → Holds (suc m) ((unknowns + length forms.now) + length more.now) v.items
+        ((unit_rows m 0 unknowns ++ given_rows unknowns forms.now) ++ given_rows unknowns more.now)) }
+{
+    let stride = line.len();
+    let lines = unknowns
+        .saturating_add(forms.len())
+        .saturating_add(more.len());
+    let mut cells = match room_for(alloc, lines, stride) {
+        Err(error) => return Err(error),
+        Ok(cells) => cells,
+    };
+    match append_units(&mut cells, line, unknowns) {
+        Err(error) => return Err(error),
+        Ok(()) => {}
+    }
+    match append_forms(&mut cells, forms, unknowns, stride) {
+        Err(error) => return Err(error),
+        Ok(()) => {}
+    }
+    match append_forms(&mut cells, more, unknowns, stride) {
+        Err(error) => Err(error),
+        Ok(()) => Ok(cells),
+    }
+}

@@ -1,10 +1,11 @@
 //! The lines of rows with one parameter more.
-ghost use Rattle.std.specs.Prelude.{◌≡◌, ◌+◌, ◌*◌, ◌<◌, pos, [], ◌∷◌, ◌++◌, length, map, OnOk};
+ghost use Rattle.std.specs.Prelude.{◌≡◌, ◌+◌, ◌*◌, ◌<◌, pos, [], ◌∷◌, ◌++◌, length, map, IfOk, OnOk};
 ghost use Rattle.tableau_rows.specs.Moves.{rows_in};
 ghost use Rattle.lexmin_runs.specs.Nodes.{longer_row};
 ghost use Rattle.checked_tableau.specs.Lines.{Holds};
 
-use std::alloc::AllocError;
+use crate::first::room_for;
+use std::alloc::{AllocError, Global};
 
 /// Appends a line with 0 behind it.
 fn append_line(cells: &mut Vec<i128>, line: &[i128]) -> Result<(), AllocError>
@@ -21,7 +22,7 @@ fn append_line(cells: &mut Vec<i128>, line: &[i128]) -> Result<(), AllocError>
 }
 
 /// Appends `count` lines, each with 0 behind it.
-pub fn append_longer(
+fn append_longer(
     cells: &mut Vec<i128>,
     lines: &[i128],
     stride: usize,
@@ -42,4 +43,26 @@ pub fn append_longer(
         rest = others;
     }
     Ok(())
+}
+
+/// `count` lines, each with 0 behind it, and room for one more.
+pub fn longer_lines(
+    alloc: Global,
+    lines: &[i128],
+    stride: usize,
+    count: usize,
+) -> Result<Vec<i128>, AllocError>
+    requires some { 0 < stride }
+    requires lengths { length lines.now ≡ count * stride }
+    ensures { IfOk result (λ v. Holds (stride + 1) count v.items (map longer_row (rows_in stride count lines.now))) }
+{
+    let room = room_for(alloc, count.saturating_add(1), stride.saturating_add(1));
+    let mut cells = match room {
+        Err(error) => return Err(error),
+        Ok(cells) => cells,
+    };
+    match append_longer(&mut cells, lines, stride, count) {
+        Err(error) => Err(error),
+        Ok(()) => Ok(cells),
+    }
 }

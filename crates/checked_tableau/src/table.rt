@@ -16,8 +16,8 @@ ghost use Rattle.tableau_rows.specs.Run.{first_row, has_below, has_fraction, som
 ghost use Rattle.checked_tableau.specs.Table.{Appends, Cuts, Moves, table_of, stride_of};
 
 use crate::cuts::cut_line;
-use crate::first::{append_forms, append_units, room_for};
-use crate::longer::append_longer;
+use crate::first::first_lines;
+use crate::longer::longer_lines;
 use crate::pivot::pivot_rows;
 use crate::scans;
 use crate::stop::TableauStop;
@@ -146,25 +146,10 @@ impl Rows {
             Err(error) => return Err(error),
             Ok(line) => line,
         };
-        let lines = unknowns
-            .saturating_add(forms.len())
-            .saturating_add(more.len());
-        let mut cells = match room_for(alloc, lines, stride) {
+        let cells = match first_lines(alloc, unknowns, forms, more, &mut line) {
             Err(error) => return Err(error),
             Ok(cells) => cells,
         };
-        match append_units(&mut cells, &mut line, unknowns) {
-            Err(error) => return Err(error),
-            Ok(()) => {}
-        }
-        match append_forms(&mut cells, forms, unknowns, stride) {
-            Err(error) => return Err(error),
-            Ok(()) => {}
-        }
-        match append_forms(&mut cells, more, unknowns, stride) {
-            Err(error) => return Err(error),
-            Ok(()) => {}
-        }
         let front = match unknowns.checked_add(forms.len()) {
             None => return Err(AllocError),
             Some(front) => front,
@@ -229,22 +214,17 @@ impl Rows {
             Err(error) => return Err(error),
             Ok(line) => line,
         };
-        let mut cells = match room_for(alloc, self.count.saturating_add(1), stride) {
-            Err(error) => return Err(error),
-            Ok(cells) => cells,
-        };
-        match append_longer(&mut cells, &self.cells, self.line.len(), self.count) {
-            Err(error) => return Err(error),
-            Ok(()) => {}
+        match longer_lines(alloc, &self.cells, self.line.len(), self.count) {
+            Err(error) => Err(error),
+            Ok(cells) => Ok(Rows {
+                unknowns: self.unknowns,
+                parameters,
+                count: self.count,
+                cells,
+                line,
+                stopped: None,
+            }),
         }
-        Ok(Rows {
-            unknowns: self.unknowns,
-            parameters,
-            count: self.count,
-            cells,
-            line,
-            stopped: None,
-        })
     }
 
     /// How many unknowns the rows have, and as many columns.

@@ -1,7 +1,8 @@
 -- Lists and forms without an entry.
 use Rattle.std.proofs.Common.{◌≡◌, ℕ, zero, suc, ◌<◌, ℤ, List, [], ◌∷◌, ◌++◌, length, get_or, take, drop, refl, sym, ap}
-use Rattle.std.proofs.Common.{subst, All, arith}
+use Rattle.std.proofs.Common.{◌+◌, ◌∙◌, ap₂, subst, All, arith}
 use Rattle.std.specs.Prelude.{map, Result, Ok}
+use Rattle.std.proofs.lemmas.List.{take_more, map-append}
 use Rattle.std.proofs.lemmas.List.Elements.{All-map}
 use Rattle.whole_numbers.specs.Affine.{Affine}
 use Rattle.affine_forms.specs.Parts.{variables_of}
@@ -33,3 +34,12 @@ narrowed_sized i n fs gs all inside is =
     subst (λ (hs : List Affine). All (λ f. variables_of f ≡ n) hs) (sym is)
     (All-map (λ f. variables_of f ≡ n) (narrowed i) fs
     (λ k d within. removed_length i n (get_or fs k d).coefficients (all k d within) inside))
+
+-- a form more of those without an entry
+pub narrowed_more : (i : ℕ) (fs : List Affine) (k : ℕ) (f g : Affine) (out new : List Affine) → k < length fs
+    → f ≡ get_or fs k f → out ≡ map (narrowed i) (take k fs) → g ≡ narrowed i f → new ≡ out ++ g ∷ []
+    → new ≡ map (narrowed i) (take (k + 1) fs)
+narrowed_more i fs k f g out new inside is done made gained =
+    gained ∙ ap₂ (λ (hs : List Affine) (h : Affine). hs ++ h ∷ []) done (made ∙ ap (λ (h : Affine). narrowed i h) is)
+    ∙ sym (map-append (narrowed i) (take k fs) (get_or fs k f ∷ []))
+    ∙ ap (λ (hs : List Affine). map (narrowed i) hs) (sym (take_more fs k f inside))

@@ -1,7 +1,7 @@
 //! The numbers between which a system's last dimension lies, for parameters in 0..=65536: what eliminations leave of it
 //! alone.
 
-ghost use Rattle.std.specs.Prelude.{◌≡◌, ◌<◌, ◌≤◌, ◌+◌, ◌-◌, ◌++◌, ◌^◌, IfOk, OnOk};
+ghost use Rattle.std.specs.Prelude.{◌≡◌, ◌<◌, ◌≤◌, ◌+◌, ◌-◌, [], ◌∷◌, ◌++◌, ◌^◌, IfOk, OnOk};
 ghost use Rattle.integer_sets.specs.Constraints.{variables_in};
 ghost use Rattle.fm_projection.specs.Alone.{Going, LeavesAlone, place_form, range_rows, ranged};
 
@@ -33,6 +33,23 @@ pub fn place_form(
     }
 }
 
+/// Appends a form of so many variables: so many times one of them, and a constant.
+fn push_place(
+    alloc: Global,
+    rows: &mut Vec<Form>,
+    variables: usize,
+    place: usize,
+    factor: i128,
+    constant: i128,
+) -> Result<(), AllocError>
+    requires { place < variables }
+    ensures { OnOk result (rows.new.items ≡ rows.old.items ++ place_form variables place factor constant ∷ []) }
+{
+    let form = place_form(alloc, variables, place, factor, constant)?;
+    rows.push(form)?;
+    Ok(())
+}
+
 /// Appends the rows of the range of the last variables, from the first on.
 fn append_range(
     alloc: Global,
@@ -44,10 +61,8 @@ fn append_range(
     ensures { OnOk result (rows.new.items ≡ rows.old.items ++ range_rows variables first (variables - first)) }
 {
     for place in first..variables {
-        let least = place_form(alloc, variables, place, 1, 0)?;
-        let most = place_form(alloc, variables, place, -1, 65536)?;
-        rows.push(least)?;
-        rows.push(most)?;
+        push_place(alloc, rows, variables, place, 1, 0)?;
+        push_place(alloc, rows, variables, place, -1, 65536)?;
     }
     Ok(())
 }

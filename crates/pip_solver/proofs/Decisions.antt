@@ -1,18 +1,17 @@
 -- A decision of emptiness is the run's.
 use Rattle.std.proofs.Common.{◌≡◌, ℕ, Bool, not, List, ◌++◌, length, refl, subst, ap, sym, ◌∙◌}
-use Rattle.std.proofs.Common.{◌+◌, arith, inl, inr}
+use Rattle.std.proofs.Common.{arith, inl, inr}
 use Rattle.std.proofs.lemmas.List.{append-nil}
 use Rattle.std.specs.Prelude.{Result, Ok, Err, All}
 use Rattle.wide_math.specs.declared.Wide.{Wide}
 use Rattle.wide_math.specs.Checked.{◌>>=◌}
 use Rattle.whole_numbers.specs.Lists.{zeros}
 use Rattle.whole_numbers.proofs.Dot.{length-zeros}
-use Rattle.whole_numbers.proofs.Entries.{all_front, all_back}
 use Rattle.whole_numbers.specs.Affine.{Affine}
 use Rattle.integer_sets.specs.Constraints.{Constraints, IsSized, variables_in}
-use Rattle.tableau_rows.specs.Problem.{problem_of, first_rows, Speaks}
-use Rattle.tableau_rows.specs.Run.{point, none, wide, Outcome, question, run}
-use Rattle.lexmin_runs.specs.Nodes.{Counted, formed, answered}
+use Rattle.tableau_rows.specs.Problem.{problem_of, Speaks}
+use Rattle.tableau_rows.specs.Run.{point, none, wide, Outcome, question}
+use Rattle.lexmin_runs.specs.Nodes.{Counted, formed, answered, ask}
 use Rattle.lexmin_runs.specs.Emptiness.{equality_rows_run, bound_rows, posed_run, emptied, empty_run}
 use Rattle.lexmin_runs.proofs.Emptiness.{posed_points}
 use Rattle.lexmin_runs.proofs.AddedParameters.{all_speak}
@@ -31,10 +30,8 @@ emptied_is (Ok (point x, left)) = refl
 emptied_is (Ok (none, left)) = refl
 emptied_is (Err stop) = refl
 
-pub decided_is : (budget n : ℕ) (rows : List Affine)
-    → decided budget n rows ≡ turned (answered (run n budget (first_rows 0 (problem_of n rows))))
-unfolding question
-decided_is budget n rows = emptied_is (run n budget (first_rows 0 (problem_of n rows)))
+pub decided_is : (budget n : ℕ) (rows : List Affine) → decided budget n rows ≡ turned (ask budget n rows)
+decided_is budget n rows = emptied_is (question budget (problem_of n rows))
 
 -- the posed rows, of which those of the equalities come first
 pub posed_parts : (s : Constraints) (es own : List Affine) → equality_rows_run s.equalities ≡ Ok es
@@ -67,20 +64,6 @@ posed_sized s n rows sized posed same =
     (all_speak (variables_in s) rows
     (posed_points s rows (zeros s.dimensions) (zeros s.parameters) sized posed (length-zeros s.dimensions)
     (length-zeros s.parameters)).0)
-
-sized_at : (n : ℕ) (fs gs : List Affine) → All (λ f. length f.coefficients ≡ n) gs → fs ≡ gs
-    → All (λ f. length f.coefficients ≡ n + 0) fs
-sized_at n fs gs all is =
-    subst (λ (hs : List Affine). All (λ f. length f.coefficients ≡ n + 0) hs) (sym is)
-    (subst (λ (k : ℕ). All (λ f. length f.coefficients ≡ k) gs) (omega arith) all)
-
-pub front_sized : (n : ℕ) (fs front own : List Affine) → All (λ f. length f.coefficients ≡ n) (front ++ own)
-    → fs ≡ front → All (λ f. length f.coefficients ≡ n + 0) fs
-front_sized n fs front own all is = sized_at n fs front (all_front (λ f. length f.coefficients ≡ n) front own all) is
-
-pub own_sized : (n : ℕ) (front own : List Affine) → All (λ f. length f.coefficients ≡ n) (front ++ own)
-    → All (λ f. length f.coefficients ≡ n + 0) own
-own_sized n front own all = sized_at n own own (all_back (λ f. length f.coefficients ≡ n) front own all) refl
 
 -- the decision of the posed rows is the system's
 empty_rows : (budget n : ℕ) (s : Constraints) (rows : List Affine) → posed_run s ≡ Ok rows → n ≡ variables_in s

@@ -1,15 +1,21 @@
 -- The questions of a node, as the code asks them.
-use Rattle.std.proofs.Common.{◌≡◌, ℕ, zero, suc, ◌+◌, ◌<◌, ℤ, pos, Bool, true, false, List, [], ◌∷◌, length, drop, refl}
-use Rattle.std.proofs.Common.{subst, ap, sym, ◌∙◌, arith, add-one, drop-cons}
-use Rattle.std.specs.Prelude.{Option, Some, Ok, Err, All, if◌then◌else◌}
+use Rattle.std.proofs.Common.{◌≡◌, ℕ, zero, suc, ◌+◌, ◌<◌, ℤ, pos, negsuc, Bool, true, false, List, []}
+use Rattle.std.proofs.Common.{length, drop, refl}
+use Rattle.std.proofs.Common.{◌∷◌, ◌++◌, append_assoc, subst, ap, sym, ◌∙◌, arith, add-one, drop-cons}
+use Rattle.std.specs.Prelude.{Option, Result, Some, Ok, Err, T, not, if◌then◌else◌}
+use Rattle.wide_math.specs.declared.Wide.{Wide}
 use Rattle.whole_numbers.specs.Lists.{zeros}
 use Rattle.whole_numbers.proofs.Dot.{length-zeros}
+use Rattle.std.specs.Int.Signed.{lt_z, lt_z_no}
+use Rattle.std.proofs.lemmas.Int.{ints}
 use Rattle.whole_numbers.specs.Affine.{Affine}
+use Rattle.whole_numbers.specs.Floor.{remainder}
 use Rattle.tableau_rows.specs.Rows.{Row, row_of}
-use Rattle.tableau_rows.specs.Moves.{row_at}
+use Rattle.tableau_rows.specs.Moves.{row_at, is_positive}
 use Rattle.tableau_rows.specs.Problem.{problem_of, first_rows}
 use Rattle.tableau_rows.specs.Run.{question, run}
-use Rattle.lexmin_runs.specs.Nodes.{Counted, chained, answered, ask, opposite_run, above_run, first_asked}
+use Rattle.lexmin_runs.specs.Nodes.{Counted, Node, formed, chained, answered, ask, opposite_run, above_run, first_asked}
+use Rattle.lexmin_runs.specs.Nodes.{broken_somewhere, all_zero}
 use Rattle.lexmin_runs.specs.Solutions.{IsNode}
 use Rattle.lexmin_runs.proofs.QuestionAnswers.{opposite-value, above-value}
 use Rattle.lexmin_runs.proofs.KeptSolutions.{part_size}
@@ -24,10 +30,6 @@ pub ask-is : (left m : ℕ) (rows : List Affine)
 unfolding question
 ask-is left m rows = refl
 
-pub one_speaks : (m : ℕ) (f : Affine) → length f.coefficients ≡ m → All (λ f. length f.coefficients ≡ m) (f ∷ [])
-one_speaks m f size zero d low = size
-one_speaks m f size (suc k) d low = absurd (omega arith)
-
 pub opposite-size : (f g : Affine) → opposite_run f ≡ Ok g → length g.coefficients ≡ length f.coefficients
 opposite-size f g h = (opposite-value f g [] h).1
 
@@ -35,8 +37,30 @@ pub above-size : (d : ℤ) (f g : Affine) → above_run d f ≡ Ok g → length 
 above-size d f g h = (above-value d f g (zeros (length f.coefficients)) (pos 0)
     (sym (length-zeros (length f.coefficients))) h).1
 
+-- a form behind another
+pub asked-behind : (left m : ℕ) (q : Result Affine Wide) (fs : List Affine) (f : Affine)
+    → formed left q (λ h. ask left m ((fs ++ f ∷ []) ++ h ∷ [])) ≡ formed left q (λ h. ask left m (fs ++ f ∷ h ∷ []))
+asked-behind left m (Ok h) fs f = ap (λ (gs : List Affine). ask left m gs) (append_assoc fs (f ∷ []) (h ∷ []))
+asked-behind left m (Err w) fs f = refl
+
 pub asks_of : (t : Tableau) (row : ℕ) → IsNode t.rows.unknowns (node_of t) → row < length t.rows.rows → AsksOf t row
 asks_of t row is within = (within, is.speaks, part_size t.rows.unknowns (node_of t) row is within)
+
+-- whether a number is above 0, as the code asks
+positive-test : (z : ℤ) → is_positive z ≡ lt_z (pos 0) z
+positive-test (pos zero) = refl
+positive-test (negsuc n) = refl
+positive-test (pos (suc n)) = by_test (lt_z (pos 0) (pos (suc n))) refl
+  where
+    by_test : (b : Bool) → lt_z (pos 0) (pos (suc n)) ≡ b → true ≡ b
+    by_test true e = refl
+    by_test false e = let h = lt_z_no {a = pos 0} {b = pos (suc n)} (subst (λ b. T (not b)) (sym e) tt) in
+        absurd (omega (arith, ints, h))
+
+-- a form without a parameter is no multiple of d where its constant leaves more than 0
+pub broken-constant : (left : ℕ) (node : Node) (d : ℤ) (f : Affine) (r : ℤ) → true ≡ all_zero f.coefficients
+    → r ≡ remainder f.constant d → broken_somewhere left node d f ≡ Ok (lt_z (pos 0) r, left)
+broken-constant left node d f r flat made = rw (← flat, ← made, positive-test r) refl
 
 -- the first row of which the answer is yes
 pub asked-yes : (test : ℕ → Row → Counted Bool) (left i rest : ℕ) (rows : List Row) → i < length rows

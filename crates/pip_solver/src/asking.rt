@@ -11,16 +11,16 @@ ghost use Rattle.lexmin_runs.specs.Nodes.{opposite_run, above_run, under_run};
 ghost use Rattle.tableau_nodes.specs.Node.{node_of};
 ghost use Rattle.pip_solver.specs.Promises.{Tells, AsksOf};
 
+use crate::leaf::longer_with;
 use crate::question::{QuestionStop, question};
 use affine_forms::{Form, FormStop};
 use checked_tableau::{Rows, remainder_of};
 use std::alloc::Global;
-use tableau_nodes::{
-    Tableau, above, constant_of, is_constant, longer_forms, opposite, part_of, under,
-};
+use std::slice;
+use tableau_nodes::{Tableau, above, constant_of, is_constant, opposite, part_of, under};
 
 /// Whether forms, in two parts, have a whole point that is not negative.
-fn ask(
+pub fn ask(
     alloc: Global,
     unknowns: usize,
     forms: &[Form],
@@ -105,7 +105,7 @@ fn ask_opposite(
             alloc,
             node.rows.parameters(),
             &node.context,
-            &[opposite],
+            slice::from_ref(&opposite),
             left,
         ),
     }
@@ -128,7 +128,13 @@ pub fn above_somewhere(
     }
     match part_of(alloc, &node.rows, row) {
         Err(_) => Err(QuestionStop::NoMemory),
-        Ok(part) => ask(alloc, node.rows.parameters(), &node.context, &[part], left),
+        Ok(part) => ask(
+            alloc,
+            node.rows.parameters(),
+            &node.context,
+            slice::from_ref(&part),
+            left,
+        ),
     }
 }
 
@@ -195,34 +201,33 @@ fn ask_under(
         (map longer_form node.now.context.items ++ first ∷ h ∷ []))) }
     ensures less { left.new ≤ left.old }
 {
-    match under(alloc, divisor, form) {
-        Err(FormStop::NoMemory) => Err(QuestionStop::NoMemory),
-        Err(FormStop::Wide(_)) => Err(QuestionStop::Wide),
-        Ok(second) => ask_longer(alloc, node, first, second, left),
+    match longer_with(alloc, &node.context, first) {
+        Err(_) => Err(QuestionStop::NoMemory),
+        Ok(rows) => match node.rows.parameters().checked_add(1) {
+            None => Err(QuestionStop::NoMemory),
+            Some(unknowns) => ask_with_under(alloc, unknowns, &rows, divisor, form, left),
+        },
     }
 }
 
-/// Whether two forms over one unknown more have a whole point in the context.
-fn ask_longer(
+/// Whether forms, and the form of the upper multiple, have a whole point that is not negative.
+fn ask_with_under(
     alloc: Global,
-    node: &Tableau,
-    first: Form,
-    second: Form,
+    unknowns: usize,
+    forms: &[Form],
+    divisor: i128,
+    form: &Form,
     left: &mut u64,
 ) -> Result<bool, QuestionStop>
-    requires speaks { Speaks node.now.rows.parameters node.now.context.items }
-    requires first { variables_of first ≡ node.now.rows.parameters + 1 }
-    requires second { variables_of second ≡ node.now.rows.parameters + 1 }
-    ensures run { Tells result left.new (ask left.old (node.now.rows.parameters + 1)
-        (map longer_form node.now.context.items ++ first ∷ second ∷ [])) }
+    requires forms { All (λ f. variables_of f ≡ unknowns) forms.now }
+    requires form { variables_of form.now + 1 ≡ unknowns }
+    ensures run { Tells result left.new (formed left.old (under_run divisor form.now)
+        (λ h. ask left.old unknowns (forms.now ++ h ∷ []))) }
     ensures less { left.new ≤ left.old }
 {
-    let unknowns = match node.rows.parameters().checked_add(1) {
-        None => return Err(QuestionStop::NoMemory),
-        Some(unknowns) => unknowns,
-    };
-    match longer_forms(alloc, &node.context) {
-        Err(_) => Err(QuestionStop::NoMemory),
-        Ok(context) => ask(alloc, unknowns, &context, &[first, second], left),
+    match under(alloc, divisor, form) {
+        Err(FormStop::NoMemory) => Err(QuestionStop::NoMemory),
+        Err(FormStop::Wide(_)) => Err(QuestionStop::Wide),
+        Ok(second) => ask(alloc, unknowns, forms, slice::from_ref(&second), left),
     }
 }

@@ -9,11 +9,11 @@ ghost use Rattle.lexmin_runs.specs.Emptiness.{equality_rows_run, bound_rows};
 ghost use Rattle.lexmin_runs.specs.Emptiness.{IsBoundedPoint, HasBoundedPoint};
 ghost use Rattle.pip_solver.specs.Promises.{Decides, Empties};
 
-use crate::question::{QuestionStop, question};
+use crate::asking::ask;
+use crate::question::QuestionStop;
 use crate::stop::Stop;
 use crate::system_rows::{equality_rows, joined};
 use affine_forms::{Form, copies, push};
-use checked_tableau::Rows;
 use integer_sets::System;
 use std::alloc::{AllocError, Global};
 
@@ -82,12 +82,8 @@ fn decide(
     requires { All (λ f. variables_of f ≡ unknowns) (front.items ++ own.now) }
     ensures { Decides result budget unknowns (front.items ++ own.now) }
 {
-    let mut rows = match Rows::of(alloc, unknowns, 0, &front, own) {
-        Err(_) => return Err(Stop::NoMemory),
-        Ok(rows) => rows,
-    };
     let mut left = budget;
-    let stop = match question(&mut rows, &mut left) {
+    let stop = match ask(alloc, unknowns, &front, own, &mut left) {
         Ok(found) => return Ok(!found),
         Err(stop) => stop,
     };

@@ -1,13 +1,14 @@
 //! A leaf: the unknowns' parts over their denominators. Where a denominator does not divide every number of a part, the
 //! part's floor is bound round the leaf, by a frame.
-ghost use Rattle.std.specs.Prelude.{◌≡◌, ℕ, List, [], ◌∷◌, ◌+◌, ◌++◌, ◌<◌, ◌≤◌, ◌≤ℤ◌, pos, length, map, take, drop};
+ghost use Rattle.std.specs.Prelude.{◌≡◌, ℕ, suc, List, [], ◌∷◌, ◌+◌, ◌++◌, ◌<◌, ◌≤◌, ◌≤ℤ◌, pos};
+ghost use Rattle.std.specs.Prelude.{length, map, take, drop};
 ghost use Rattle.std.specs.Prelude.{None, Ok, IfOk, OnOk};
 ghost use Rattle.whole_numbers.specs.Floor.{floor};
 ghost use Rattle.whole_numbers.specs.Lists.{zeros};
 ghost use Rattle.whole_numbers.specs.Affine.{form_of};
 ghost use Rattle.tableau_rows.specs.Rows.{Row, entry};
 ghost use Rattle.tableau_rows.specs.Moves.{row_at};
-ghost use Rattle.quast_trees.specs.Tree.{Tree};
+ghost use Rattle.quast_trees.specs.Tree.{Tree, bind};
 ghost use Rattle.quast_trees.specs.Postfix.{standing, top};
 ghost use Rattle.lexmin_runs.specs.Nodes.{all_divided, divided, padded, part_of, leaf_tree, longer_form};
 ghost use Rattle.pip_solver.specs.Frames.{under, KeepsSides};
@@ -175,24 +176,40 @@ fn place(
     ensures sides { OnOk result (KeepsSides frames.old.items frames.new.items) }
 {
     if is_divided(rows, row) {
-        let form = match divided_part(alloc, rows, row, leaf.bound) {
-            Err(error) => return Err(error),
-            Ok(form) => form,
+        return match divided_part(alloc, rows, row, leaf.bound) {
+            Err(error) => Err(error),
+            Ok(form) => push(&mut leaf.forms, form),
         };
-        return push(&mut leaf.forms, form);
     }
-    let variables = match rows.parameters().checked_add(leaf.bound) {
-        None => return Err(AllocError),
-        Some(variables) => variables,
-    };
-    let bound = match leaf.bound.checked_add(1) {
-        None => return Err(AllocError),
-        Some(bound) => bound,
-    };
-    let forms = match with_last(alloc, &leaf.forms, variables) {
-        Err(error) => return Err(error),
-        Ok(forms) => forms,
-    };
+    bind_part(alloc, rows, row, leaf, frames)
+}
+
+/// Binds the floor of a row's part by a frame, and puts the new variable behind the forms.
+fn bind_part(
+    alloc: Global,
+    rows: &Rows,
+    row: usize,
+    leaf: &mut Unfinished,
+    frames: &mut Vec<Frame>,
+) -> Result<(), AllocError>
+    requires row { row < length rows.now.rows }
+    requires going { rows.now.stopped ≡ None }
+    ensures tree { OnOk result ((rest : List Row) (trees : List Tree) (n left : ℕ) → under n frames.new.items trees
+        (Ok (
+          leaf_tree rows.now.unknowns (rows.now.parameters + leaf.new.bound) leaf.new.bound rest
+              leaf.new.forms.items,
+          left,
+        ))
+        ≡ under n frames.old.items trees (Ok (
+          bind (padded leaf.old.bound (part_of rows.now.unknowns (row_at rows.now.rows row)))
+              (row_at rows.now.rows row).denominator
+              (leaf_tree rows.now.unknowns (suc (rows.now.parameters + leaf.old.bound)) (suc leaf.old.bound) rest
+              (map longer_form leaf.old.forms.items
+              ++ form_of (zeros (rows.now.parameters + leaf.old.bound) ++ pos 1 ∷ []) (pos 0) ∷ [])),
+          left,
+        ))) }
+    ensures sides { OnOk result (KeepsSides frames.old.items frames.new.items) }
+{
     let form = match padded_part(alloc, rows, row, leaf.bound) {
         Err(error) => return Err(error),
         Ok(form) => form,
@@ -200,7 +217,27 @@ fn place(
     let divisor = rows.line(row)[0];
     match put(frames, Frame::Binding { form, divisor }) {
         Err(error) => Err(error),
-        Ok(()) => {
+        Ok(()) => add_variable(alloc, rows.parameters(), leaf),
+    }
+}
+
+/// Puts the form of one variable more behind the forms, over it too.
+fn add_variable(alloc: Global, parameters: usize, leaf: &mut Unfinished) -> Result<(), AllocError>
+    ensures bound { OnOk result (leaf.new.bound ≡ leaf.old.bound + 1) }
+    ensures forms { OnOk result (leaf.new.forms.items ≡ map longer_form leaf.old.forms.items
+        ++ form_of (zeros (parameters + leaf.old.bound) ++ pos 1 ∷ []) (pos 0) ∷ []) }
+{
+    let variables = match parameters.checked_add(leaf.bound) {
+        None => return Err(AllocError),
+        Some(variables) => variables,
+    };
+    let bound = match leaf.bound.checked_add(1) {
+        None => return Err(AllocError),
+        Some(bound) => bound,
+    };
+    match with_last(alloc, &leaf.forms, variables) {
+        Err(error) => Err(error),
+        Ok(forms) => {
             leaf.bound = bound;
             drop(mem::replace(&mut leaf.forms, forms));
             Ok(())
@@ -213,13 +250,19 @@ fn with_last(alloc: Global, forms: &[Form], variables: usize) -> Result<Vec<Form
     ensures { IfOk result (λ v. v.items ≡ map longer_form forms.now ++ form_of (zeros variables ++ pos 1 ∷ []) (pos 0)
         ∷ []) }
 {
+    match last_variable(alloc, variables) {
+        Err(error) => Err(error),
+        Ok(last) => longer_with(alloc, forms, last),
+    }
+}
+
+/// The forms over one variable more, and another behind them.
+pub fn longer_with(alloc: Global, forms: &[Form], last: Form) -> Result<Vec<Form>, AllocError>
+    ensures { IfOk result (λ v. v.items ≡ map longer_form forms.now ++ last ∷ []) }
+{
     let mut all = match longer_forms(alloc, forms) {
         Err(error) => return Err(error),
         Ok(all) => all,
-    };
-    let last = match last_variable(alloc, variables) {
-        Err(error) => return Err(error),
-        Ok(last) => last,
     };
     match push(&mut all, last) {
         Err(error) => Err(error),

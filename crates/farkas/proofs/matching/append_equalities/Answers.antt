@@ -1,11 +1,15 @@
 use Rattle.std.proofs.Common.{rules, ◌≡◌, ◌∙◌, sym, ap, subst, arith, ◌+◌, ◌++◌, ◌∷◌, [], drop, ℤ, List, pos}
 use Rattle.std.proofs.Common.{FitsSigned}
-use Rattle.std.specs.Prelude.{Result}
+use Rattle.std.specs.Prelude.{Result, Ok}
+use Rattle.std.proofs.lemmas.List.{append-nil}
+use Rattle.std.proofs.Math.ListN.{drop_of_length-le}
+use Rattle.whole_numbers.specs.Affine.{Affine}
+use Rattle.affine_forms.specs.Parts.{variables_of}
 use Rattle.std.specs.Int.{w128}
 use Rattle.std.proofs.lemmas.Int.{to_z-of_z}
 use Rattle.wide_math.specs.declared.Wide.{Wide}
 use Rattle.wide_math.specs.Checked.{difference_of}
-use Rattle.farkas.specs.Matching.{equality_columns_run}
+use Rattle.farkas.specs.Matching.{HasEntry, equality_columns_run}
 use Rattle.farkas.specs.Gives.{with_more}
 use Rattle.farkas.proofs.Steps.{with_more-err, equality_stop, equality_more}
 use Rattle.farkas.proofs.matching.append_equalities.Goals as goal
@@ -38,3 +42,16 @@ loop-form-preserved c =
     (sym (pushed ∙ ap (λ (z : ℤ). front ++ b ∷ z ∷ []) c.number-own.ensures))
     (equality_more e rows i c.form-item.result b front all (omega arith) c.form-item.is
     (sym (ap (λ (z : ℤ). difference_of (pos 0) z) c.number-own.ensures) ∙ made) c.loop-form.invariant)
+
+pub number-own-requires : goal.number-own-requires
+number-own-requires c =
+    subst (λ (f : Affine). HasEntry c.args.entry (variables_of f)) (sym c.form-item.is)
+    (c.requires c.loop-form.form-index c.form-item.result (omega arith))
+
+pub returns : goal.returns
+returns c =
+    let numbers = c.loop-form.numbers.items in
+    sym c.loop-form.invariant
+    ∙ ap (λ (fs : List Affine). with_more numbers (equality_columns_run c.args.entry fs))
+    (drop_of_length-le c.args.equalities.now (omega arith))
+    ∙ ap (λ (zs : List ℤ). Ok zs) (append-nil numbers)

@@ -1,10 +1,14 @@
 use Rattle.std.proofs.Common.{rules, ◌≡◌, ◌∙◌, sym, ap, subst, arith, ◌+◌, drop, ℤ, List, pos, FitsSigned}
-use Rattle.std.specs.Prelude.{Result}
+use Rattle.std.specs.Prelude.{Result, Ok}
+use Rattle.std.proofs.lemmas.List.{append-nil}
+use Rattle.std.proofs.Math.ListN.{drop_of_length-le}
+use Rattle.whole_numbers.specs.Affine.{Affine}
+use Rattle.affine_forms.specs.Parts.{variables_of}
 use Rattle.std.specs.Int.{w128}
 use Rattle.std.proofs.lemmas.Int.{to_z-of_z}
 use Rattle.wide_math.specs.declared.Wide.{Wide}
 use Rattle.wide_math.specs.Checked.{difference_of}
-use Rattle.farkas.specs.Matching.{row_columns_run}
+use Rattle.farkas.specs.Matching.{HasEntry, row_columns_run}
 use Rattle.farkas.specs.Gives.{with_more}
 use Rattle.farkas.proofs.Steps.{with_more-err, row_stop, row_more}
 use Rattle.farkas.proofs.matching.append_rows.Goals as goal
@@ -35,3 +39,16 @@ loop-form-preserved c =
     subst (λ (zs : List ℤ). with_more zs (row_columns_run e (drop (i + 1) rows)) ≡ all) (sym pushed)
     (row_more e rows i c.form-item.result b front all (omega arith) c.form-item.is
     (sym (ap (λ (z : ℤ). difference_of (pos 0) z) c.number.ensures) ∙ made) c.loop-form.invariant)
+
+pub number-requires : goal.number-requires
+number-requires c =
+    subst (λ (f : Affine). HasEntry c.args.entry (variables_of f)) (sym c.form-item.is)
+    (c.requires c.loop-form.form-index c.form-item.result (omega arith))
+
+pub returns : goal.returns
+returns c =
+    let numbers = c.loop-form.numbers.items in
+    sym c.loop-form.invariant
+    ∙ ap (λ (fs : List Affine). with_more numbers (row_columns_run c.args.entry fs))
+    (drop_of_length-le c.args.rows.now (omega arith))
+    ∙ ap (λ (zs : List ℤ). Ok zs) (append-nil numbers)

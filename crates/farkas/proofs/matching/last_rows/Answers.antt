@@ -1,4 +1,6 @@
-use Rattle.std.proofs.Common.{◌≡◌, ◌+◌, ◌-◌, ◌++◌, sym, subst, arith, pos, List}
+use Rattle.std.proofs.Common.{◌∙◌, ap, ℕ, ◌≡◌, ◌+◌, ◌-◌, ◌++◌, sym, subst, arith, pos, List}
+use Rattle.std.specs.Prelude.{Ok}
+use Rattle.std.proofs.lemmas.List.{append-nil}
 use Rattle.fm_projection.proofs.RemovedEntries.{same_ok}
 use Rattle.wide_math.specs.declared.Wide.{Wide}
 use Rattle.whole_numbers.specs.Affine.{Affine, form_of}
@@ -18,3 +20,12 @@ loop-at-preserved c =
     subst (λ (zs : List Affine). zs ++ own_rows (b + (i + 1)) (k - (i + 1)) ≡ all) (sym c.in-Ok-push.ensures.items)
     (own_rows_more (b + k) b i (k - i) (k - (i + 1)) c.loop-at.rows.items all c.in-Ok.row (omega arith) (omega arith)
     (sym row) c.loop-at.invariant)
+
+pub returns : goal.returns
+returns c =
+    let b = c.args.before in
+    let i = c.loop-at.at in
+    let ended : c.args.count - i ≡ 0 = omega arith in
+    ap (λ (fs : List Affine). Ok fs)
+    (sym c.loop-at.invariant ∙ ap (λ (n : ℕ). c.loop-at.rows.items ++ own_rows (b + i) n) ended
+    ∙ append-nil c.loop-at.rows.items)

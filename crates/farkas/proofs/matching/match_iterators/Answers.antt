@@ -1,5 +1,8 @@
-use Rattle.std.proofs.Common.{rules, ◌≡◌, ◌+◌, ◌-◌, ◌++◌, ◌∷◌, [], suc, subst, arith, ℕ, FitsSigned}
+use Rattle.std.proofs.Common.{rules, ◌∙◌, List, ap, sym, ◌≡◌, ◌+◌, ◌-◌, ◌++◌, ◌∷◌, [], suc, subst, arith, ℕ, FitsSigned}
+use Rattle.std.specs.Prelude.{Ok}
 use Rattle.std.specs.Int.{w128}
+use Rattle.std.proofs.lemmas.List.{append-nil}
+use Rattle.whole_numbers.specs.Affine.{Affine}
 use Rattle.std.proofs.lemmas.Int.{to_z-of_z}
 use Rattle.farkas.specs.Claims.{only, iterators}
 use Rattle.farkas.specs.Matching.{coefficients_run}
@@ -58,3 +61,14 @@ loop-depth-preserved c =
     (coefficients_run (c.args.variable + (d + 1)) (iterators n first k (c.args.loops - (d + 1))) s) ≡ all =
     rw (pushed, ← left, at) more in
     simp to_z-of_z next
+
+pub returns : goal.returns
+returns c =
+    let fits : FitsSigned w128 c.args.factor = search rules in
+    let front = c.loop-depth.equalities.items in
+    let kept = simp to_z-of_z at c.loop-depth.invariant in
+    let ended : c.args.loops - c.loop-depth.depth ≡ 0 = omega arith in
+    sym kept
+    ∙ ap (λ (n : ℕ). with_more front (coefficients_run (c.args.variable + c.loop-depth.depth)
+    (iterators c.args.unknowns c.args.first c.args.factor n) c.args.system.now)) ended
+    ∙ ap (λ (fs : List Affine). Ok fs) (append-nil front)

@@ -13,14 +13,12 @@ loop-place-preserved c =
     let v = c.args.variables in
     let i = c.loop-place.place in
     let old = c.loop-place.rows.items in
-    let a = c.in_ok-least.least in
-    let b = c.in_ok-most.most in
     let inv = c.loop-place.invariant in
-    let pushed : c.push-in-loop-place.new.self.items ≡ (old ++ a ∷ []) ++ b ∷ [] = search rules in
-    let first : a ≡ least_row v i = search rules in
-    let second : b ≡ most_row v i = search rules in (
+    let least = least_row v i in
+    let most = most_row v i in
+    let pushed : c.push_place-in-loop-place.new.rows.items ≡ (old ++ least ∷ []) ++ most ∷ [] = search rules in (
       inv.0 ++ least_row v i ∷ most_row v i ∷ [],
-      pushed ∙ two_more c.args.rows.now.items old inv.0 a b (least_row v i) (most_row v i) inv.1 first second,
+      pushed ∙ two_more c.args.rows.now.items old inv.0 least most least most inv.1 refl refl,
       range_more v i inv.0 (range_rows v c.args.first (v - c.args.first)) (omega arith) inv.2,
     )
 

@@ -1,6 +1,6 @@
-use Rattle.std.proofs.Common.{◌∙◌, sym}
+use Rattle.std.proofs.Common.{◌∙◌, ◌∷◌, []}
 use Rattle.pip_solver.proofs.Decisions.{speaks_at}
-use Rattle.pip_solver.proofs.Questions.{one_speaks, opposite-size}
+use Rattle.pip_solver.proofs.Questions.{opposite-size}
 use Rattle.pip_solver.proofs.asking.ask_opposite.Goals as goal
 
 pub ask-requires-clause-forms : goal.ask-requires-clause-forms
@@ -11,5 +11,6 @@ ask-requires-clause-forms c =
 
 pub ask-requires-clause-more : goal.ask-requires-clause-more
 ask-requires-clause-more c =
-    one_speaks c.parameters.result c.in-Ok.opposite
-    (opposite-size c.args.form.now c.in-Ok.opposite c.in-Ok.ensures ∙ c.requires.form ∙ sym c.parameters.ensures)
+    speaks_at c.args.node.now.rows.parameters c.parameters.result (c.in-Ok.opposite ∷ []) c.from_ref.result.now
+    (opposite-size c.args.form.now c.in-Ok.opposite c.in-Ok.ensures ∙ c.requires.form, tt) c.from_ref.ensures.value
+    c.parameters.ensures

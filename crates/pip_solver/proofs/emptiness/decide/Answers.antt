@@ -1,50 +1,47 @@
-use Rattle.std.proofs.Common.{◌∙◌, ◌++◌, ap, subst, refl, Bool, arith}
-use Rattle.std.specs.Prelude.{Result, Err, None}
-use Rattle.tableau_rows.specs.Problem.{problem_of, first_rows}
-use Rattle.tableau_rows.specs.Run.{run}
-use Rattle.lexmin_runs.specs.Nodes.{Counted, answered}
-use Rattle.checked_tableau.specs.Table.{Table, table_of}
+use Rattle.std.proofs.Common.{◌≡◌, ◌∙◌, ◌++◌, List, length, ap, subst, sym, refl, Bool, arith}
+use Rattle.std.specs.Prelude.{Result, Err, All}
+use Rattle.whole_numbers.specs.Affine.{Affine}
+use Rattle.whole_numbers.proofs.Entries.{all_front, all_back}
+use Rattle.lexmin_runs.specs.Nodes.{Counted, ask}
 use Rattle.pip_solver.specs.Promises.{Tells}
 use Rattle.pip_solver.specs.declared.question.QuestionStop.{QuestionStop}
-use Rattle.pip_solver.proofs.Decisions.{decided_is, turned, front_sized, own_sized}
+use Rattle.pip_solver.proofs.Decisions.{decided_is, turned}
 use Rattle.pip_solver.proofs.emptiness.decide.Goals as goal
-use Rattle.pip_solver.proofs.emptiness.decide.Goals.{After-question}
+use Rattle.pip_solver.proofs.emptiness.decide.Goals.{After-ask}
 
-pub of-requires-clause-forms : goal.of-requires-clause-forms
-of-requires-clause-forms c =
-    front_sized c.args.unknowns c.deref.result.now c.args.front.items c.args.own.now c.requires c.deref.ensures.value
+pub ask-requires-clause-forms : goal.ask-requires-clause-forms
+ask-requires-clause-forms c =
+    let n = c.args.unknowns in
+    subst (λ (fs : List Affine). All (λ f. length f.coefficients ≡ n) fs) (sym c.deref.ensures.value)
+    (all_front (λ f. length f.coefficients ≡ n) c.args.front.items c.args.own.now c.requires)
 
-pub of-requires-clause-more : goal.of-requires-clause-more
-of-requires-clause-more c = own_sized c.args.unknowns c.args.front.items c.args.own.now c.requires
+pub ask-requires-clause-more : goal.ask-requires-clause-more
+ask-requires-clause-more c =
+    all_back (λ f. length f.coefficients ≡ c.args.unknowns) c.args.front.items c.args.own.now c.requires
 
 -- the question is that of both parts
-abbrev asked : After-question → Counted Bool
-asked c =
-    answered (run c.args.unknowns c.args.budget
-    (first_rows 0 (problem_of c.args.unknowns (c.args.front.items ++ c.args.own.now))))
+abbrev asked : After-ask → Counted Bool
+asked c = ask c.args.budget c.args.unknowns (c.args.front.items ++ c.args.own.now)
 
-told : (c : After-question) → Tells c.question.result c.question.new.left (asked c)
+told : (c : After-ask) → Tells c.ask.result c.ask.new.left (asked c)
 told c =
-    let n = c.args.unknowns in
-    let is = c.in-Ok.ensures.rows ∙ ap (λ fs. table_of n 0 (first_rows 0 (problem_of n (fs ++ c.args.own.now))) None)
-    c.deref.ensures.value in
-    subst (λ (t : Table). Tells c.question.result c.question.new.left (answered (run t.unknowns c.args.budget t.rows)))
-    is c.question.ensures.run
+    subst (λ (fs : List Affine). Tells c.ask.result c.ask.new.left
+    (ask c.args.budget c.args.unknowns (fs ++ c.args.own.now))) c.deref.ensures.value c.ask.ensures.run
 
-pub returns-in-Ok-question : goal.returns-in-Ok-question
-returns-in-Ok-question c =
-    let at = (goal.at.returns-in-Ok-question c).After-question in
-    let left = c.question.new.left in
-    let is = subst (λ (r : Result Bool QuestionStop). Tells r left (asked at)) c.in-Ok-question.is (told at) in
+pub returns-in-Ok : goal.returns-in-Ok
+returns-in-Ok c =
+    let at = (goal.at.returns-in-Ok c).After-ask in
+    let left = c.ask.new.left in
+    let is = subst (λ (r : Result Bool QuestionStop). Tells r left (asked at)) c.in-Ok.is (told at) in
     (left, decided_is c.args.budget c.args.unknowns (c.args.front.items ++ c.args.own.now) ∙ ap turned is)
 
 pub returns-in-Wide : goal.returns-in-Wide
 returns-in-Wide c =
-    let at = (goal.at.returns-in-Wide c).After-question in
-    let left = c.question.new.left in
+    let at = (goal.at.returns-in-Wide c).After-ask in
+    let left = c.ask.new.left in
     let is = subst (λ (r : Result Bool QuestionStop). Tells r left (asked at))
-    (c.in-Err-question.is ∙ ap (λ e. Err e) c.in-Wide.is) (told at) in
-    let less = c.question.ensures.less in (
+    (c.in-Err.is ∙ ap (λ e. Err e) c.in-Wide.is) (told at) in
+    let less = c.ask.ensures.less in (
       is.0,
       left,
       decided_is c.args.budget c.args.unknowns (c.args.front.items ++ c.args.own.now) ∙ ap turned is.1,
@@ -54,9 +51,9 @@ returns-in-Wide c =
 
 pub returns-in-Spent : goal.returns-in-Spent
 returns-in-Spent c =
-    let at = (goal.at.returns-in-Spent c).After-question in
-    let is = subst (λ (r : Result Bool QuestionStop). Tells r c.question.new.left (asked at))
-    (c.in-Err-question.is ∙ ap (λ e. Err e) c.in-Spent.is) (told at) in (
+    let at = (goal.at.returns-in-Spent c).After-ask in
+    let is = subst (λ (r : Result Bool QuestionStop). Tells r c.ask.new.left (asked at))
+    (c.in-Err.is ∙ ap (λ e. Err e) c.in-Spent.is) (told at) in (
       decided_is c.args.budget c.args.unknowns (c.args.front.items ++ c.args.own.now) ∙ ap turned is.0,
       refl,
       c.in-Ok-joined.ensures,

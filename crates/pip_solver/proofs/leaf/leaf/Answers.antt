@@ -5,6 +5,7 @@ use Rattle.std.proofs.lemmas.List.{get_or-take, length-take-le}
 use Rattle.std.proofs.Math.ListN.{drop_of_length-le}
 use Rattle.tableau_rows.specs.Rows.{Row, row_of}
 use Rattle.tableau_rows.specs.Moves.{row_at}
+use Rattle.quast_trees.specs.Tree.{Tree}
 use Rattle.quast_trees.specs.Postfix.{standing}
 use Rattle.lexmin_runs.specs.Nodes.{leaf_tree}
 use Rattle.pip_solver.specs.Frames.{under}
@@ -50,3 +51,13 @@ returns-in-Some-clause-tree c =
     (sym (ap (λ (rs : List Row). under n c.loop-row.frames.items (standing c.args.builder.now)
     (Ok (leaf_tree nn (t.parameters + l.bound) l.bound rs l.forms.items, left))) past)
     ∙ inv.0 (standing c.args.builder.now) n left)) c.leaf.ensures.pushed
+
+pub place-requires-clause-row : goal.place-requires-clause-row
+place-requires-clause-row c = let many = c.requires.many in omega (arith, many)
+
+pub returns-in-Some-clause-stands : goal.returns-in-Some-clause-stands
+returns-in-Some-clause-stands c =
+    on_ok c.leaf.result (λ made. ap (λ (trees : List Tree). length trees) made ∙ sym (add-one _)) c.leaf.ensures.pushed
+
+pub returns-in-Some-clause-sides : goal.returns-in-Some-clause-sides
+returns-in-Some-clause-sides c = on_ok c.leaf.result (λ made. c.loop-row.invariant.1) c.leaf.ensures.pushed

@@ -14,10 +14,10 @@ use Rattle.checked_tableau.proofs.table.Rows.of.Goals as goal
 
 -- the buffer holds the first rows
 made : (c : goal.In-Some-checked_add-2)
-    → IsSound c.args.unknowns c.args.parameters c.in-Some-checked_add-2.count c.append_forms-2.new.cells.items
-    c.append_units.new.line None
+    → IsSound c.args.unknowns c.args.parameters c.in-Some-checked_add-2.count c.in-Ok-first_lines.cells.items
+    c.first_lines.new.line None
     × (rows_in (stride_of c.args.unknowns c.args.parameters) c.in-Some-checked_add-2.count
-    c.append_forms-2.new.cells.items
+    c.in-Ok-first_lines.cells.items
     ≡ first_rows c.args.parameters (problem_of c.args.unknowns (c.args.forms.now ++ c.args.more.now)))
 made c =
     let n = c.args.unknowns in
@@ -27,22 +27,21 @@ made c =
     let stride = c.in-Some.stride in
     let is : stride ≡ stride_of n m = search rules in
     let room : length c.deref_mut.result.now ≡ stride = search rules in
-    let same : length c.append_units.new.line ≡ length c.deref_mut.result.now = c.append_units.auto.line in
-    let units = c.in-Ok-append_units.ensures (n + 1 + m) (omega arith) in
+    let same : length c.first_lines.new.line ≡ length c.deref_mut.result.now = c.first_lines.auto.line in
     let e : suc (n + 1 + m) ≡ stride = omega arith in
-    let held = subst (λ k. Holds k n c.append_units.new.cells.items (unit_rows (n + 1 + m) 0 n)) e units in
-    let all = c.in-Ok-append_forms.ensures n (unit_rows (n + 1 + m) 0 n) held in
-    let both = c.in-Ok-append_forms-2.ensures (n + length fs) (unit_rows (n + 1 + m) 0 n ++ given_rows n fs) all in
+    let both = subst (λ k. Holds k ((n + length fs) + length gs) c.in-Ok-first_lines.cells.items
+    ((unit_rows (n + 1 + m) 0 n ++ given_rows n fs) ++ given_rows n gs)) e
+    (c.in-Ok-first_lines.ensures (n + 1 + m) (omega arith)) in
     let front : c.in-Some-checked_add.front ≡ n + length fs = search rules in
     let number : c.in-Some-checked_add-2.count ≡ (n + length fs) + length gs = search rules in
-    sound_parts n m c.in-Some-checked_add-2.count stride c.append_forms-2.new.cells.items c.append_units.new.line fs gs
+    sound_parts n m c.in-Some-checked_add-2.count stride c.in-Ok-first_lines.cells.items c.first_lines.new.line fs gs
     is (same ∙ room) (speaks_all (n + m) fs c.requires.forms) (speaks_all (n + m) gs c.requires.more) number both
 
 pub invariant_of-result : goal.invariant_of-result
 invariant_of-result c =
-    let room : length c.append_units.new.line ≡ length c.in-Ok.line.items =
-    c.append_units.auto.line ∙ ap (λ (zs : List ℤ). length zs) c.deref_mut.ensures.value in
-    let w = written_whole c.in-Ok.line.len c.in-Ok.line.items c.append_units.new.line (search rules) room in
+    let room : length c.first_lines.new.line ≡ length c.in-Ok.line.items =
+    c.first_lines.auto.line ∙ ap (λ (zs : List ℤ). length zs) c.deref_mut.ensures.value in
+    let w = written_whole c.in-Ok.line.len c.in-Ok.line.items c.first_lines.new.line (search rules) room in
     rw w (made c).0
 
 pub returns-clause-rows : goal.returns-clause-rows

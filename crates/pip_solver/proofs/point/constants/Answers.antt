@@ -1,0 +1,21 @@
+use Rattle.std.proofs.Common.{rules, ◌∙◌, ◌++◌, ◌∷◌, [], ℤ, List, map, ap, arith, FitsSigned}
+use Rattle.std.specs.Int.{w128}
+use Rattle.std.proofs.lemmas.Int.{to_z-of_z}
+use Rattle.std.proofs.lemmas.List.{take_all}
+use Rattle.whole_numbers.specs.Affine.{Affine}
+use Rattle.tableau_nodes.proofs.CopiedLists.{mapped_more}
+use Rattle.pip_solver.proofs.point.constants.Goals as goal
+
+pub loop-form-preserved : goal.loop-form-preserved
+loop-form-preserved c =
+    let fits : FitsSigned w128 c.constant.result = search rules in
+    let pushed = simp to_z-of_z at c.in-Ok-push.ensures.items in
+    mapped_more (λ (f : Affine). f.constant) c.args.forms.now c.loop-form.form-index c.form-item.result
+    c.loop-form.all.items c.push.new.self.items (omega arith) c.form-item.is c.loop-form.invariant
+    (pushed ∙ ap (λ (z : ℤ). c.loop-form.all.items ++ z ∷ []) c.constant.ensures)
+
+pub returns : goal.returns
+returns c =
+    c.loop-form.invariant
+    ∙ ap (λ (fs : List Affine). map (λ f. f.constant) fs)
+    (take_all c.loop-form.form-index c.args.forms.now (omega arith))
