@@ -10,6 +10,7 @@ use Rattle.scop_syntax.specs.declared.tree.Expr.TheVariants.{rolls-ShiftedLeft, 
 use Rattle.scop_syntax.specs.declared.tree.Expr.TheFolds.{fold-roll-Expr}
 use Rattle.scop_syntax.specs.declared.tree.Expr.TheOpen.{Expr-F}
 
+-- a negation stands for that of its part
 pub negation : (whole part : Expr) (operand : Box Expr) → whole ≡ Negated operand → part ≡ operand.value
     → expression_of whole ≡ negated (expression_of part)
 negation whole part operand is there =
@@ -17,6 +18,7 @@ negation whole part operand is there =
     ∙ (fold-roll-Expr Expression expression_step (Expr-F.Negated operand)
     ∙ ap (λ (x : Expr). negated (expression_of x)) (sym there))
 
+-- a complement stands for that of its part
 pub complement : (whole part : Expr) (operand : Box Expr) → whole ≡ Complemented operand → part ≡ operand.value
     → expression_of whole ≡ complemented (expression_of part)
 complement whole part operand is there =
@@ -24,6 +26,7 @@ complement whole part operand is there =
     ∙ (fold-roll-Expr Expression expression_step (Expr-F.Complemented operand)
     ∙ ap (λ (x : Expr). complemented (expression_of x)) (sym there))
 
+-- a cast stands for that of its part
 pub conversion : (whole part : Expr) (operand : Box Expr) → whole ≡ Cast operand → part ≡ operand.value
     → expression_of whole ≡ cast (expression_of part)
 conversion whole part operand is there =
@@ -31,6 +34,7 @@ conversion whole part operand is there =
     ∙ (fold-roll-Expr Expression expression_step (Expr-F.Cast operand)
     ∙ ap (λ (x : Expr). cast (expression_of x)) (sym there))
 
+-- a shift to the left stands for that of its part
 pub left_shift : (whole part : Expr) (operand : Box Expr) (k : ℕ) → whole ≡ ShiftedLeft operand k → part ≡ operand.value
     → expression_of whole ≡ shifted_left (expression_of part) k
 left_shift whole part operand k is there =
@@ -38,8 +42,9 @@ left_shift whole part operand k is there =
     ∙ (fold-roll-Expr Expression expression_step (Expr-F.ShiftedLeft operand k)
     ∙ ap (λ (x : Expr). shifted_left (expression_of x) k) (sym there))
 
-pub right_shift : (whole part : Expr) (operand : Box Expr) (k : ℕ) → whole ≡ ShiftedRight operand k → part ≡ operand.value
-    → expression_of whole ≡ shifted_right (expression_of part) k
+-- a shift to the right stands for that of its part
+pub right_shift : (whole part : Expr) (operand : Box Expr) (k : ℕ) → whole ≡ ShiftedRight operand k
+    → part ≡ operand.value → expression_of whole ≡ shifted_right (expression_of part) k
 right_shift whole part operand k is there =
     ap expression_of (is ∙ sym (rolls-ShiftedRight operand k))
     ∙ (fold-roll-Expr Expression expression_step (Expr-F.ShiftedRight operand k)

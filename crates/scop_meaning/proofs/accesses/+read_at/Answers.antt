@@ -47,20 +47,24 @@ returns-in-Negated t c =
 
 pub returns-in-Complemented : goal.returns-in-Complemented
 returns-in-Complemented t c =
-    let is = complement c.args.expression.now c.deref-in-Complemented.result.now c.in-Complemented.operand c.in-Complemented.is c.deref-in-Complemented.ensures in
+    let is = complement c.args.expression.now c.deref-in-Complemented.result.now c.in-Complemented.operand
+    c.in-Complemented.is c.deref-in-Complemented.ensures in
     rw is c.read_at-in-Complemented.ensures
 
 pub returns-in-Cast : goal.returns-in-Cast
 returns-in-Cast t c =
-    let is = conversion c.args.expression.now c.deref-in-Cast.result.now c.in-Cast.operand c.in-Cast.is c.deref-in-Cast.ensures in
+    let is = conversion c.args.expression.now c.deref-in-Cast.result.now c.in-Cast.operand c.in-Cast.is
+    c.deref-in-Cast.ensures in
     rw is c.read_at-in-Cast.ensures
 
 pub returns-in-ShiftedLeft : goal.returns-in-ShiftedLeft
 returns-in-ShiftedLeft t c =
-    let is = left_shift c.args.expression.now c.deref-in-ShiftedLeft.result.now c.in-ShiftedLeft.operand c.in-ShiftedLeft.field-1 c.in-ShiftedLeft.is c.deref-in-ShiftedLeft.ensures in
+    let is = left_shift c.args.expression.now c.deref-in-ShiftedLeft.result.now c.in-ShiftedLeft.operand
+    c.in-ShiftedLeft.field-1 c.in-ShiftedLeft.is c.deref-in-ShiftedLeft.ensures in
     rw is c.read_at-in-ShiftedLeft.ensures
 
 pub returns-in-ShiftedRight : goal.returns-in-ShiftedRight
 returns-in-ShiftedRight t c =
-    let is = right_shift c.args.expression.now c.deref-in-ShiftedRight.result.now c.in-ShiftedRight.operand c.in-ShiftedRight.field-1 c.in-ShiftedRight.is c.deref-in-ShiftedRight.ensures in
+    let is = right_shift c.args.expression.now c.deref-in-ShiftedRight.result.now c.in-ShiftedRight.operand
+    c.in-ShiftedRight.field-1 c.in-ShiftedRight.is c.deref-in-ShiftedRight.ensures in
     rw is c.read_at-in-ShiftedRight.ensures

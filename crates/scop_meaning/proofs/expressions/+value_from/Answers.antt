@@ -47,22 +47,26 @@ returns-in-Negated-clause-value t c =
 
 pub returns-in-Complemented-clause-value : goal.returns-in-Complemented-clause-value
 returns-in-Complemented-clause-value t c =
-    let is = complement c.args.expression.now c.deref-in-Complemented.result.now c.in-Complemented.operand c.in-Complemented.is c.deref-in-Complemented.ensures in
+    let is = complement c.args.expression.now c.deref-in-Complemented.result.now c.in-Complemented.operand
+    c.in-Complemented.is c.deref-in-Complemented.ensures in
     rw (is, c.complemented.ensures, c.value_from-in-Complemented.ensures.value) refl
 
 pub returns-in-Cast-clause-value : goal.returns-in-Cast-clause-value
 returns-in-Cast-clause-value t c =
-    let is = conversion c.args.expression.now c.deref-in-Cast.result.now c.in-Cast.operand c.in-Cast.is c.deref-in-Cast.ensures in
+    let is = conversion c.args.expression.now c.deref-in-Cast.result.now c.in-Cast.operand c.in-Cast.is
+    c.deref-in-Cast.ensures in
     rw (is, c.value_from-in-Cast.ensures.value) refl
 
 pub returns-in-ShiftedLeft-clause-value : goal.returns-in-ShiftedLeft-clause-value
 returns-in-ShiftedLeft-clause-value t c =
-    let is = left_shift c.args.expression.now c.deref-in-ShiftedLeft.result.now c.in-ShiftedLeft.operand c.in-ShiftedLeft.count c.in-ShiftedLeft.is c.deref-in-ShiftedLeft.ensures in
+    let is = left_shift c.args.expression.now c.deref-in-ShiftedLeft.result.now c.in-ShiftedLeft.operand
+    c.in-ShiftedLeft.count c.in-ShiftedLeft.is c.deref-in-ShiftedLeft.ensures in
     rw (is, c.shifted_left.ensures, c.value_from-in-ShiftedLeft.ensures.value) refl
 
 pub returns-in-ShiftedRight-clause-value : goal.returns-in-ShiftedRight-clause-value
 returns-in-ShiftedRight-clause-value t c =
-    let is = right_shift c.args.expression.now c.deref-in-ShiftedRight.result.now c.in-ShiftedRight.operand c.in-ShiftedRight.count c.in-ShiftedRight.is c.deref-in-ShiftedRight.ensures in
+    let is = right_shift c.args.expression.now c.deref-in-ShiftedRight.result.now c.in-ShiftedRight.operand
+    c.in-ShiftedRight.count c.in-ShiftedRight.is c.deref-in-ShiftedRight.ensures in
     rw (is, c.shifted_right.ensures, c.value_from-in-ShiftedRight.ensures.value) refl
 
 pub returns-in-Negated-clause-at : goal.returns-in-Negated-clause-at
@@ -72,20 +76,24 @@ returns-in-Negated-clause-at t c =
 
 pub returns-in-Complemented-clause-at : goal.returns-in-Complemented-clause-at
 returns-in-Complemented-clause-at t c =
-    let is = complement c.args.expression.now c.deref-in-Complemented.result.now c.in-Complemented.operand c.in-Complemented.is c.deref-in-Complemented.ensures in
+    let is = complement c.args.expression.now c.deref-in-Complemented.result.now c.in-Complemented.operand
+    c.in-Complemented.is c.deref-in-Complemented.ensures in
     rw is c.value_from-in-Complemented.ensures.at
 
 pub returns-in-Cast-clause-at : goal.returns-in-Cast-clause-at
 returns-in-Cast-clause-at t c =
-    let is = conversion c.args.expression.now c.deref-in-Cast.result.now c.in-Cast.operand c.in-Cast.is c.deref-in-Cast.ensures in
+    let is = conversion c.args.expression.now c.deref-in-Cast.result.now c.in-Cast.operand c.in-Cast.is
+    c.deref-in-Cast.ensures in
     rw is c.value_from-in-Cast.ensures.at
 
 pub returns-in-ShiftedLeft-clause-at : goal.returns-in-ShiftedLeft-clause-at
 returns-in-ShiftedLeft-clause-at t c =
-    let is = left_shift c.args.expression.now c.deref-in-ShiftedLeft.result.now c.in-ShiftedLeft.operand c.in-ShiftedLeft.count c.in-ShiftedLeft.is c.deref-in-ShiftedLeft.ensures in
+    let is = left_shift c.args.expression.now c.deref-in-ShiftedLeft.result.now c.in-ShiftedLeft.operand
+    c.in-ShiftedLeft.count c.in-ShiftedLeft.is c.deref-in-ShiftedLeft.ensures in
     rw is c.value_from-in-ShiftedLeft.ensures.at
 
 pub returns-in-ShiftedRight-clause-at : goal.returns-in-ShiftedRight-clause-at
 returns-in-ShiftedRight-clause-at t c =
-    let is = right_shift c.args.expression.now c.deref-in-ShiftedRight.result.now c.in-ShiftedRight.operand c.in-ShiftedRight.count c.in-ShiftedRight.is c.deref-in-ShiftedRight.ensures in
+    let is = right_shift c.args.expression.now c.deref-in-ShiftedRight.result.now c.in-ShiftedRight.operand
+    c.in-ShiftedRight.count c.in-ShiftedRight.is c.deref-in-ShiftedRight.ensures in
     rw is c.value_from-in-ShiftedRight.ensures.at

@@ -78,22 +78,26 @@ returns-in-Negated-clause-found t c =
 
 pub returns-in-Complemented-clause-found : goal.returns-in-Complemented-clause-found
 returns-in-Complemented-clause-found t c =
-    let is = complement c.args.expression.now c.deref-in-Complemented.result.now c.in-Complemented.operand c.in-Complemented.is c.deref-in-Complemented.ensures in
+    let is = complement c.args.expression.now c.deref-in-Complemented.result.now c.in-Complemented.operand
+    c.in-Complemented.is c.deref-in-Complemented.ensures in
     rw is c.outside_reads-in-Complemented.ensures.found
 
 pub returns-in-Cast-clause-found : goal.returns-in-Cast-clause-found
 returns-in-Cast-clause-found t c =
-    let is = conversion c.args.expression.now c.deref-in-Cast.result.now c.in-Cast.operand c.in-Cast.is c.deref-in-Cast.ensures in
+    let is = conversion c.args.expression.now c.deref-in-Cast.result.now c.in-Cast.operand c.in-Cast.is
+    c.deref-in-Cast.ensures in
     rw is c.outside_reads-in-Cast.ensures.found
 
 pub returns-in-ShiftedLeft-clause-found : goal.returns-in-ShiftedLeft-clause-found
 returns-in-ShiftedLeft-clause-found t c =
-    let is = left_shift c.args.expression.now c.deref-in-ShiftedLeft.result.now c.in-ShiftedLeft.operand c.in-ShiftedLeft.field-1 c.in-ShiftedLeft.is c.deref-in-ShiftedLeft.ensures in
+    let is = left_shift c.args.expression.now c.deref-in-ShiftedLeft.result.now c.in-ShiftedLeft.operand
+    c.in-ShiftedLeft.field-1 c.in-ShiftedLeft.is c.deref-in-ShiftedLeft.ensures in
     rw is c.outside_reads-in-ShiftedLeft.ensures.found
 
 pub returns-in-ShiftedRight-clause-found : goal.returns-in-ShiftedRight-clause-found
 returns-in-ShiftedRight-clause-found t c =
-    let is = right_shift c.args.expression.now c.deref-in-ShiftedRight.result.now c.in-ShiftedRight.operand c.in-ShiftedRight.field-1 c.in-ShiftedRight.is c.deref-in-ShiftedRight.ensures in
+    let is = right_shift c.args.expression.now c.deref-in-ShiftedRight.result.now c.in-ShiftedRight.operand
+    c.in-ShiftedRight.field-1 c.in-ShiftedRight.is c.deref-in-ShiftedRight.ensures in
     rw is c.outside_reads-in-ShiftedRight.ensures.found
 
 pub returns-in-Negated-clause-behind : goal.returns-in-Negated-clause-behind
@@ -103,20 +107,24 @@ returns-in-Negated-clause-behind t c =
 
 pub returns-in-Complemented-clause-behind : goal.returns-in-Complemented-clause-behind
 returns-in-Complemented-clause-behind t c =
-    let is = complement c.args.expression.now c.deref-in-Complemented.result.now c.in-Complemented.operand c.in-Complemented.is c.deref-in-Complemented.ensures in
+    let is = complement c.args.expression.now c.deref-in-Complemented.result.now c.in-Complemented.operand
+    c.in-Complemented.is c.deref-in-Complemented.ensures in
     rw is c.outside_reads-in-Complemented.ensures.behind
 
 pub returns-in-Cast-clause-behind : goal.returns-in-Cast-clause-behind
 returns-in-Cast-clause-behind t c =
-    let is = conversion c.args.expression.now c.deref-in-Cast.result.now c.in-Cast.operand c.in-Cast.is c.deref-in-Cast.ensures in
+    let is = conversion c.args.expression.now c.deref-in-Cast.result.now c.in-Cast.operand c.in-Cast.is
+    c.deref-in-Cast.ensures in
     rw is c.outside_reads-in-Cast.ensures.behind
 
 pub returns-in-ShiftedLeft-clause-behind : goal.returns-in-ShiftedLeft-clause-behind
 returns-in-ShiftedLeft-clause-behind t c =
-    let is = left_shift c.args.expression.now c.deref-in-ShiftedLeft.result.now c.in-ShiftedLeft.operand c.in-ShiftedLeft.field-1 c.in-ShiftedLeft.is c.deref-in-ShiftedLeft.ensures in
+    let is = left_shift c.args.expression.now c.deref-in-ShiftedLeft.result.now c.in-ShiftedLeft.operand
+    c.in-ShiftedLeft.field-1 c.in-ShiftedLeft.is c.deref-in-ShiftedLeft.ensures in
     rw is c.outside_reads-in-ShiftedLeft.ensures.behind
 
 pub returns-in-ShiftedRight-clause-behind : goal.returns-in-ShiftedRight-clause-behind
 returns-in-ShiftedRight-clause-behind t c =
-    let is = right_shift c.args.expression.now c.deref-in-ShiftedRight.result.now c.in-ShiftedRight.operand c.in-ShiftedRight.field-1 c.in-ShiftedRight.is c.deref-in-ShiftedRight.ensures in
+    let is = right_shift c.args.expression.now c.deref-in-ShiftedRight.result.now c.in-ShiftedRight.operand
+    c.in-ShiftedRight.field-1 c.in-ShiftedRight.is c.deref-in-ShiftedRight.ensures in
     rw is c.outside_reads-in-ShiftedRight.ensures.behind
