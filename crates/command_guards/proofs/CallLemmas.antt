@@ -46,9 +46,9 @@ reported options left out out_after err err_after asked prints =
       prints.4.0,
       prints.4.1,
       subst (λ report. ArePlanned options.tile options.budget report prints.1.program plan.plan plan.front plan.trees)
-      asked plan.planned,
+          asked plan.planned,
       subst (λ lines. Appends err.taken err_after.taken lines)
-      (plan.told ∙ ap (λ more. plan.front ++ more) is) prints.6,
+          (plan.told ∙ ap (λ more. plan.front ++ more) is) prints.6,
     )
 
 -- the text of a schedule, or of a kept order

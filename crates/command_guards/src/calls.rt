@@ -53,13 +53,13 @@ pub fn answered_call<S: Source, O: Sink, E: Sink>(
     ensures arrays { (options : RunOptions) → IsRunCommand options (map string_bytes words.now) → result ≡ Done
         → (input : List ℕ) × (accepted : Accepted input) × IsAllOf (S.shows source.old).left input
         × Appends (O.shows out.old).taken (O.shows out.new).taken
-            (array_text accepted.program (exec accepted.program accepted.params accepted.contents)) }
+        (array_text accepted.program (exec accepted.program accepted.params accepted.contents)) }
     ensures report { (options : RunOptions) → IsRunCommand options (map string_bytes words.now)
         → options.report ≡ true → result ≡ Done
         → (program : Program) × (plan : Tiling) × (trees : Trees) × (front : List ℕ) × (tiles : ℕ) × (waves : ℕ)
         × ArePlanned options.tile options.budget true program plan front trees
         × Appends (E.shows err.old).taken (E.shows err.new).taken
-            (front ++ tiles_text tiles waves options.workers) }
+        (front ++ tiles_text tiles waves options.workers) }
     ensures schedule { (budget : ℕ) → IsScheduleCommand budget (map string_bytes words.now) → result ≡ Done
         → (text : List ℕ) × Appends (O.shows out.old).taken (O.shows out.new).taken text
         × (((blocks : List Block) × (text ≡ schedule_text blocks)) ⊎ ((why : KeptLine) × (text ≡ kept_text why))) }
@@ -74,7 +74,7 @@ pub fn answered_call<S: Source, O: Sink, E: Sink>(
     ensures summary { (g : GeneratedKernel) (options : RunOptions)
         → IsGenCommand g options (map string_bytes words.now) → result ≡ Done → (tiles : ℕ) × (waves : ℕ)
         × Appends (O.shows out.old).taken (O.shows out.new).taken
-            (summary_text g.kind g.seed g.size tiles waves (cells_in (left_by g)) (sum_of (left_by g))) }
+        (summary_text g.kind g.seed g.size tiles waves (cells_in (left_by g)) (sum_of (left_by g))) }
     ensures unread { result ≡ Usage → S.shows source.new ≡ S.shows source.old }
     ensures nothing { result ≢ Done → result ≢ WriteFault → O.shows out.new ≡ O.shows out.old }
     ensures front { result ≡ WriteFault → (input : List ℕ) × (told : Told)
