@@ -1,6 +1,6 @@
 //! Outside values, computed by hand and by Python's integers.
-ghost use Rattle.std.specs.Prelude.{◌≡◌, pos, [], ◌∷◌, List, length, All, IfOk};
-ghost use Rattle.whole_numbers.specs.Affine.{Affine, form_of};
+ghost use Rattle.std.specs.Prelude.{◌≡◌, pos, [], ◌∷◌, length, All, IfOk};
+ghost use Rattle.whole_numbers.specs.Affine.{form_of};
 ghost use Rattle.quast_trees.specs.Postfix.{tree_of};
 ghost use Rattle.quast_trees.specs.Mapped.{Suits};
 ghost use Rattle.quast_trees.specs.Source.{source_of, unnamed, with_source};
@@ -8,7 +8,7 @@ ghost use Rattle.quast_trees.specs.Tree.{leaf};
 
 use crate::made::forms;
 use affine_forms::{Form, FormStop};
-use quast_trees::{Builder, Leaf, Part, Quast, Source};
+use quast_trees::{Leaf, Quast, Source};
 use std::alloc::{AllocError, Global};
 use std::process::Abort;
 use std::test::Fail;
@@ -20,8 +20,6 @@ const TWO_126: i128 = 85070591730234615865843651857942052864;
 #[derive(Clone, Copy)]
 enum Want<'a> {
     Initial,
-    /// Values of a leaf without a source.
-    Values(&'a [i128]),
     /// The statement, the loops and the values of a leaf.
     Found(usize, &'a [usize], &'a [i128]),
     /// The product of two numbers is too wide.
@@ -31,7 +29,6 @@ enum Want<'a> {
 /// Whether a leaf has the source and the values.
 fn is_found(source: &Option<Source>, values: &[i128], want: Want) -> bool {
     match want {
-        Want::Values(numbers) => source.is_none() && values == numbers,
         Want::Found(statement, loops, numbers) => match source {
             None => false,
             Some(source) => {
@@ -137,45 +134,6 @@ fn a_bind_rounds_down(rt: HostRuntime) -> Result<(), Fail> {
     Ok(())
 }
 
-/// p - 1 and 2 p + 3 where p is at least 0, behind a bind to a third of p.
-fn bound(alloc: Global) -> Result<Quast, Fail>
-    ensures parameters { IfOk result (λ q. q.parameters ≡ 1) }
-    ensures leaves { IfOk result (λ q. (forms : List Affine) → All (λ f. length f.coefficients ≡ 2) forms
-        → Suits forms (tree_of q)) }
-{
-    let iterators = [Form::of(alloc, &[1, 0], -1)?, Form::of(alloc, &[2, 0], 3)?];
-    let first = source(alloc, 2, 7, &[4], &iterators)?;
-    let branch = Quast::branch(
-        Form::of(alloc, &[0, 1], 0)?,
-        first,
-        Quast::initial(alloc, 2)?,
-    )?;
-    Ok(Quast::bind(Form::of(alloc, &[1], 0)?, 3, branch)?)
-}
-
-/// Forms over two values at each leaf.
-fn applied(alloc: Global, rows: &[&[i128]]) -> Result<Result<Quast, FormStop>, Fail> {
-    let forms = forms(alloc, 2, rows)?;
-    let quast = bound(alloc)?;
-    Ok(quast.map(&forms))
-}
-
-/// What `bound` answers with two forms applied.
-const APPLIED: &[(i128, Want)] = &[
-    (-1, Want::Initial),
-    (0, Want::Found(7, &[4], &[-3, 10])),
-    (1, Want::Found(7, &[4], &[0, 7])),
-    (4, Want::Found(7, &[4], &[9, -2])),
-    (9, Want::Found(7, &[4], &[24, -17])),
-];
-
-#[test]
-fn forms_are_applied_at_each_leaf(rt: HostRuntime) -> Result<(), Fail> {
-    let made = applied(rt.alloc(), &[&[1, 1, -5], &[-3, 0, 7]])??;
-    expect_made(&rt, made, 4, APPLIED);
-    Ok(())
-}
-
 /// The greatest place from 0 to 4095 that is not above p, by a branch a place, whose first side or second
 /// is all the rest.
 fn staircase(alloc: Global, deep_first: bool) -> Result<Quast, Fail>
@@ -246,38 +204,5 @@ fn deep_branches_need_no_stack(rt: HostRuntime) -> Result<(), Fail> {
         let quast = staircase(rt.alloc(), deep_first)?;
         expect_both(&rt, rt.alloc(), quast, 8193, STAIRCASE, MOVED_STAIRCASE);
     }
-    Ok(())
-}
-
-/// Whether the root is a branch of a bind by 2 and the initial value.
-fn is_branch_of_a_bind(root: Part) -> bool {
-    match root {
-        Part::Branch { first, second, .. } => {
-            matches!(first.part(), Part::Bind { divisor: 2, .. })
-                && matches!(second.part(), Part::Initial)
-        }
-        _ => false,
-    }
-}
-
-/// Half of p, rounded down, twice taken off p where p is at least 0, by a builder that at last holds two trees.
-fn built(rt: &impl Abort, alloc: Global) -> Result<Quast, Fail> {
-    let mut builder = Builder::new(alloc);
-    builder.leaf(2, forms(alloc, 2, &[&[1, -2, 0]])?)?;
-    builder.bind(Form::of(alloc, &[1], 0)?, 2)?;
-    builder.initial()?;
-    assert!(rt; builder.count() == 2);
-    builder.branch(Form::of(alloc, &[1], 0)?)?;
-    let quast = builder.finish(1);
-    assert!(rt; is_branch_of_a_bind(quast.root().part()));
-    Ok(quast)
-}
-
-/// What `built` answers.
-const BUILT: &[(i128, Want)] = &[(-1, Want::Initial), (7, Want::Values(&[1]))];
-
-#[test]
-fn a_builder_keeps_a_stack_of_trees(rt: HostRuntime) -> Result<(), Fail> {
-    expect_made(&rt, built(&rt, rt.alloc())?, 4, BUILT);
     Ok(())
 }

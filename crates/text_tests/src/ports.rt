@@ -3,7 +3,6 @@
 use io_ports::{
     Failed, MemSink, MemSource, Pieces, Sink, StdSink, StdSource, read_to_end, write_whole,
 };
-use std::io::{BufWriter, Cursor};
 use std::test::Fail;
 
 #[test]
@@ -49,22 +48,4 @@ fn copies_through_streams_in_memory(rt: HostRuntime) -> Result<(), Fail> {
     assert!(rt; sink.flush().is_ok());
     assert!(rt; written.as_slice() == b"one two".as_slice());
     Ok(())
-}
-
-#[test]
-fn flush_reaches_the_writer(rt: HostRuntime) -> Result<(), Fail> {
-    let mut writer = BufWriter::new(rt.alloc(), Vec::new(rt.alloc()))?;
-    let mut sink = StdSink::of(&mut writer);
-    assert!(rt; sink.write(b"abc").ok() == Some(3));
-    assert!(rt; writer.get_ref().is_empty());
-    let mut sink = StdSink::of(&mut writer);
-    assert!(rt; sink.flush().is_ok());
-    assert!(rt; writer.get_ref().as_slice() == b"abc".as_slice());
-    Ok(())
-}
-
-#[test]
-fn fails_where_the_writer_is_full(rt: HostRuntime) {
-    let mut sink = StdSink::of(Cursor::new([0u8; 4]));
-    assert!(rt; write_whole(&mut sink, b"fives").is_err());
 }
