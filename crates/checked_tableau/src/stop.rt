@@ -4,7 +4,7 @@ use thiserror::Error;
 use wide_math::Wide;
 
 /// Why a cut or a split stops.
-#[derive(Clone, Copy, Debug, PartialEq, Eq, Error)]
+#[derive(Clone, Copy, Debug, Error)]
 pub enum TableauStop {
     /// A number does not fit 128 bits.
     #[error("{0}")]

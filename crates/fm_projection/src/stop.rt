@@ -4,7 +4,7 @@ use thiserror::Error;
 use wide_math::Wide;
 
 /// Why an elimination, or a scan, stops.
-#[derive(Clone, Copy, Debug, PartialEq, Eq, Error)]
+#[derive(Clone, Copy, Debug, Error)]
 pub enum FmStop {
     /// The first number on the way that does not fit 128 bits.
     #[error("{0}")]

@@ -14,7 +14,7 @@ use std::alloc::{AllocError, Global};
 use std::marker::Model;
 
 /// One end of a dependence: a statement's number from 0, how many loops stand round it, and which of its accesses.
-#[derive(Clone, Copy, PartialEq, Eq)]
+#[derive(Clone, Copy)]
 pub struct DepEnd {
     pub statement: usize,
     pub loops: usize,

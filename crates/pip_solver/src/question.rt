@@ -18,7 +18,7 @@ enum Step {
 }
 
 /// Why a question stops.
-#[derive(Clone, Copy, PartialEq, Eq)]
+#[derive(Clone, Copy)]
 pub enum QuestionStop {
     /// A number does not fit 128 bits.
     Wide,

@@ -4,7 +4,7 @@ use crate::node::Source;
 
 /// The initial value, or the values of a leaf's forms, with what the leaf is an instance of, where that is
 /// known.
-#[derive(PartialEq, Eq, Drop)]
+#[derive(Drop)]
 pub enum Leaf {
     Initial,
     Found {

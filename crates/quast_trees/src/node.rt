@@ -4,7 +4,7 @@ use affine_forms::Form;
 use std::marker::Model;
 
 /// What a leaf is an instance of: a statement, and the numbers of the loops round it, outermost first.
-#[derive(PartialEq, Eq, Drop)]
+#[derive(Drop)]
 pub struct Source {
     pub statement: usize,
     pub loops: Vec<usize>,
