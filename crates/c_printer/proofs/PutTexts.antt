@@ -1,13 +1,12 @@
 -- Texts put behind one another.
 use Rattle.std.proofs.Common.{◌≡◌, ◌∙◌, ap, refl, ℕ, suc, ◌+◌, ◌-◌, ◌<◌, ◌≤◌, pos, List, [], ◌∷◌, ◌++◌}
-use Rattle.std.proofs.Common.{drop, length, map, arith, sym, ap₂, get_or, drop-cons, add-one, append-nil, Bool, false}
-use Rattle.std.specs.Prelude.{ℤ, ◌&&◌, codes}
+use Rattle.std.proofs.Common.{drop, length, map, arith, sym, get_or, drop-cons, add-one, append-nil, Bool, false}
+use Rattle.std.specs.Prelude.{codes}
 use Rattle.std.proofs.lemmas.List.{append_assoc, drop_all}
 use Rattle.whole_numbers.specs.Affine.{Affine}
 use Rattle.scop_lexer.specs.Bytes.{Text}
 use Rattle.scop_syntax.specs.Tree.{Head, Program}
 use Rattle.loop_tree.specs.Tree.{Bound, bounds_of, Test, Tree, Trees, more}
-use Rattle.form_text.specs.Forms.{is_zero, term_text, terms_text}
 use Rattle.c_printer.specs.Statements.{between}
 use Rattle.c_printer.specs.Nodes.{givens_text, repeated, indent, bound_text, bounds_text, node_text, nodes_text}
 use Rattle.c_printer.specs.Nodes.{conjunction, test_text, tests_text}
@@ -34,20 +33,6 @@ pub entry_here : {A : Type 0} (xs : List A) (i : ℕ) (x : A) → x ≡ get_or x
 entry_here xs i x found within =
     drop-cons xs i x within
     ∙ (ap (λ k. get_or xs i x ∷ drop k xs) (sym (add-one i)) ∙ ap (λ y. y ∷ drop (i + 1) xs) (sym found))
-
--- a term more
-pub term_put : {A : Type 0} (f : A → Text) (xs : List A) (cs : List ℤ) (k : ℤ) (i : ℕ) (front next : Bool) (x : A)
-    (c : ℤ) (old new whole : Text) → x ≡ get_or xs i x → c ≡ get_or cs i c → i < length xs → i < length cs
-    → new ≡ old ++ term_text front c (f x) → next ≡ (is_zero c && front)
-    → old ++ terms_text front (map f (drop i xs)) (drop i cs) k ≡ whole
-    → new ++ terms_text next (map f (drop (i + 1) xs)) (drop (i + 1) cs) k ≡ whole
-term_put {A} f xs cs k i front next x c old new whole at_x at_c hx hc put is so_far =
-    let ys = map f (drop (i + 1) xs) in
-    let ds = drop (i + 1) cs in
-    ap (λ b. new ++ terms_text b ys ds k) is
-    ∙ (behind old new (term_text front c (f x)) (terms_text (is_zero c && front) ys ds k) put
-    ∙ (ap₂ (λ (us : List A) (zs : List ℤ). old ++ terms_text front (map f us) zs k)
-    (sym (entry_here xs i x at_x hx)) (sym (entry_here cs i c at_c hc)) ∙ so_far))
 
 -- a test more
 pub test_put : {A : Type 0} (f : A → Test) (names : List Text) (loops : ℕ) (xs : List A) (i : ℕ) (first : Bool) (x : A)

@@ -4,8 +4,7 @@ use Rattle.std.specs.Prelude.{FitsSigned}
 use Rattle.std.specs.Int.{w64, w128}
 use Rattle.std.proofs.lemmas.Int.{to_z-of_z}
 use Rattle.form_text.specs.Forms.{constant_text, form_text, term_text}
-use Rattle.form_text.proofs.PutTexts.{behind_all}
-use Rattle.c_printer.proofs.PutTexts.{term_put}
+use Rattle.form_text.proofs.PutTexts.{behind_all, term_put}
 use Rattle.c_printer.proofs.forms.put_form.Goals as goal
 
 pub loop-at-preserved : goal.loop-at-preserved
