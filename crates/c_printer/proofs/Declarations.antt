@@ -1,12 +1,13 @@
 -- Parameters and arrays in the order of their declarations, one by one.
 use Rattle.std.proofs.Common.{◌≡◌, ◌∙◌, ap, sym, refl, ℕ, zero, suc, ◌+◌, ◌<◌, ◌≤◌, Bool, false, List, [], ◌∷◌, ◌++◌}
 use Rattle.std.proofs.Common.{length, map, drop, get_or, add-one, append-nil, arith}
-use Rattle.std.specs.Prelude.{codes}
+use Rattle.std.specs.Prelude.{◌≢◌, codes, if◌then◌else◌}
+use Rattle.std.proofs.lemmas.Bool.{eq-eqb, ne_eqb}
 use Rattle.std.proofs.lemmas.List.{append_assoc, length-map, drop_all}
 use Rattle.scop_lexer.specs.Bytes.{Text}
 use Rattle.scop_syntax.specs.Tree.{Declaration}
-use Rattle.c_printer.specs.Statements.{arrays_behind, comma, declared_from, listed}
-use Rattle.c_printer.proofs.PutTexts.{behind}
+use Rattle.c_printer.specs.Statements.{array_text, arrays_behind, comma, declared_from, listed}
+use Rattle.c_printer.proofs.PutTexts.{behind, entry_here}
 
 map_ahead : {A B : Type 0} (f : A → B) (xs : List A) (i : ℕ) (d : A) → i < length xs
     → drop i (map f xs) ≡ f (get_or xs i d) ∷ drop (suc i) (map f xs)
@@ -20,6 +21,35 @@ pub map_here : {A B : Type 0} (f : A → B) (xs : List A) (i : ℕ) (x : A) → 
 map_here f xs i x found h =
     map_ahead f xs i x h
     ∙ (ap (λ y. f y ∷ drop (suc i) (map f xs)) (sym found) ∙ ap (λ k. f x ∷ drop k (map f xs)) (sym (add-one i)))
+
+-- an array more that is declared there
+pub array_more : (ps : List Text) (ds : List Declaration) (k i : ℕ) (d : Declaration) (first : Bool) (old new : Text)
+    (whole : List Text → Text) → d ≡ get_or ds i d → i < length ds → d.parameters_before ≡ k
+    → new ≡ old ++ (comma first ++ array_text ps d)
+    → ((others : List Text) → old ++ listed first (arrays_behind ps k (drop i ds) ++ others) ≡ whole others)
+    → (others : List Text) → new ++ listed false (arrays_behind ps k (drop (i + 1) ds) ++ others) ≡ whole others
+array_more ps ds k i d first old new whole found within same put so_far others =
+    let text = array_text ps d in
+    let more = arrays_behind ps k (drop (i + 1) ds) in
+    let rest = listed false (more ++ others) in
+    let split : arrays_behind ps k (drop i ds) ≡ text ∷ more =
+    ap (arrays_behind ps k) (entry_here ds i d found within)
+    ∙ ap (λ b. if b then text ∷ more else more) (eq-eqb d.parameters_before k same) in
+    behind old new (comma first ++ text) rest put
+    ∙ (ap (λ (t : Text). old ++ t) (append_assoc (comma first) text rest)
+    ∙ (ap (λ (ts : List Text). old ++ listed first (ts ++ others)) (sym split) ∙ so_far others))
+
+-- an array that is declared elsewhere
+pub array_past : (ps : List Text) (ds : List Declaration) (k i : ℕ) (d : Declaration) (first : Bool) (old : Text)
+    (whole : List Text → Text) → d ≡ get_or ds i d → i < length ds → d.parameters_before ≢ k
+    → ((others : List Text) → old ++ listed first (arrays_behind ps k (drop i ds) ++ others) ≡ whole others)
+    → (others : List Text) → old ++ listed first (arrays_behind ps k (drop (i + 1) ds) ++ others) ≡ whole others
+array_past ps ds k i d first old whole found within other so_far others =
+    let more = arrays_behind ps k (drop (i + 1) ds) in
+    let split : arrays_behind ps k (drop i ds) ≡ more =
+    ap (arrays_behind ps k) (entry_here ds i d found within)
+    ∙ ap (λ b. if b then array_text ps d ∷ more else more) (ne_eqb d.parameters_before k other) in
+    ap (λ (ts : List Text). old ++ listed first (ts ++ others)) (sym split) ∙ so_far others
 
 -- the arrays in front of a parameter, and the parameter
 pub declared_more : (ps : List Text) (arrays : List Declaration) (i : ℕ) (out one two whole name : Text)

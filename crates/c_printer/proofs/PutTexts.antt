@@ -1,14 +1,15 @@
 -- Texts put behind one another.
 use Rattle.std.proofs.Common.{◌≡◌, ◌∙◌, ap, refl, ℕ, suc, ◌+◌, ◌-◌, ◌<◌, ◌≤◌, pos, List, [], ◌∷◌, ◌++◌}
-use Rattle.std.proofs.Common.{drop, length, arith, sym, get_or, drop-cons, add-one}
+use Rattle.std.proofs.Common.{drop, length, map, arith, sym, get_or, drop-cons, add-one, append-nil, Bool, false}
 use Rattle.std.specs.Prelude.{codes}
 use Rattle.std.proofs.lemmas.List.{append_assoc, drop_all}
 use Rattle.whole_numbers.specs.Affine.{Affine}
 use Rattle.scop_lexer.specs.Bytes.{Text}
 use Rattle.scop_syntax.specs.Tree.{Head, Program}
-use Rattle.loop_tree.specs.Tree.{Bound, bounds_of, Tree, Trees, more}
+use Rattle.loop_tree.specs.Tree.{Bound, bounds_of, Test, Tree, Trees, more}
 use Rattle.c_printer.specs.Statements.{between}
 use Rattle.c_printer.specs.Nodes.{givens_text, repeated, indent, bound_text, bounds_text, node_text, nodes_text}
+use Rattle.c_printer.specs.Nodes.{conjunction, test_text, tests_text}
 
 -- a text once more, and the times behind it
 pub repeated_ahead : (text : Text) (n i : ℕ) → i < n → repeated text (n - i) ≡ text ++ repeated text (n - (i + 1))
@@ -33,6 +34,20 @@ entry_here xs i x found within =
     drop-cons xs i x within
     ∙ (ap (λ k. get_or xs i x ∷ drop k xs) (sym (add-one i)) ∙ ap (λ y. y ∷ drop (i + 1) xs) (sym found))
 
+-- a test more
+pub test_put : {A : Type 0} (f : A → Test) (names : List Text) (loops : ℕ) (xs : List A) (i : ℕ) (first : Bool) (x : A)
+    (old one two whole : Text) → x ≡ get_or xs i x → i < length xs → one ≡ old ++ conjunction first
+    → two ≡ one ++ test_text names loops (f x)
+    → old ++ tests_text first names loops (map f (drop i xs)) ≡ whole
+    → two ++ tests_text false names loops (map f (drop (i + 1) xs)) ≡ whole
+test_put {A} f names loops xs i first x old one two whole found within joined put so_far =
+    let test = test_text names loops (f x) in
+    let rest = tests_text false names loops (map f (drop (i + 1) xs)) in
+    behind one two test rest put
+    ∙ (behind old one (conjunction first) (test ++ rest) joined
+    ∙ (ap (λ (us : List A). old ++ tests_text first names loops (map f us)) (sym (entry_here xs i x found within))
+    ∙ so_far))
+
 -- a node more
 pub node_put : (program : Program) (level loops : ℕ) (here rest : Trees) (t : Tree) (old one two whole : Text)
     → here ≡ more t rest → one ≡ old ++ indent level → two ≡ one ++ node_text program level loops t
@@ -43,6 +58,13 @@ node_put program level loops here rest t old one two whole e h k so_far =
     behind one two node nodes k
     ∙ (behind old one (indent level) (node ++ nodes) h
     ∙ (ap (λ (ts : Trees). old ++ nodes_text program level loops ts) (sym e) ∙ so_far))
+
+-- behind the last of a list, all of it is put
+pub all_put : {A : Type 0} (text : List A → Text) (xs : List A) (i : ℕ) (out whole : Text) → text [] ≡ []
+    → length xs ≤ i → out ++ text (drop i xs) ≡ whole → out ≡ whole
+all_put text xs i out whole empty past so_far =
+    sym (append-nil out)
+    ∙ (ap (λ (t : Text). out ++ t) (sym (ap text (drop_all i xs past) ∙ empty)) ∙ so_far)
 
 -- a bound more that others stand behind
 pub choice_put : (divided chosen : Text) (names : List Text) (loops i : ℕ) (bound next : Bound) (others : List Bound)

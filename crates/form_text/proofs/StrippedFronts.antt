@@ -1,18 +1,19 @@
 -- What the code's own words for fronts of slices say, and numbers that are read up to 2^128 - 1.
 use Rattle.std.proofs.Common.{◌≡◌, ◌∙◌, ap, sym, refl, ℕ, suc, Bool, true, false, [], ◌∷◌, ◌++◌, take, drop, arith, ◌+◌}
-use Rattle.std.proofs.Common.{List, ◌-◌, ◌*◌, ◌^◌, ◌<◌, length, get_or, ne_eqb, map, drop-cons, add-one}
+use Rattle.std.proofs.Common.{List, ◌-◌, ◌*◌, ◌^◌, ◌<◌, length, get_or, ◌≤◌, ne_eqb, map, append-nil}
+use Rattle.std.proofs.Common.{drop-cons, add-one}
 use Rattle.std.specs.Prelude.{ℤ, Option, Some, None, MatchOption, ◌≢◌, ◌==◌, nat_lt, nat_le, if◌then◌else◌}
 use Rattle.std.specs.Borrow.{Bor}
 use Rattle.std.specs.List.{prefix_len}
 use Rattle.std.proofs.lemmas.Bool.{eqb-true, eq-eqb, ltb-true, ltb-false, leb-true, leb-false, le-ltb, lt-leb}
-use Rattle.std.proofs.lemmas.List.{append_assoc}
+use Rattle.std.proofs.lemmas.List.{append_assoc, drop_all}
 use Rattle.std.proofs.lemmas.Option.{none-some, same_Some}
 use Rattle.whole_numbers.specs.Affine.{Affine, form_of}
 use Rattle.scop_lexer.specs.Bytes.{Text, is_digit}
 use Rattle.form_text.specs.Names.{is_name_byte}
 use Rattle.form_text.specs.Reading.{strip, when, name_in_front, behind_name, Factor, factor_of, named_as, named}
 use Rattle.form_text.specs.Reading.{number_in_front, numbered, plus, minus, with_coefficient, Next, next_in}
-use Rattle.form_text.specs.Reading.{term_in_front, read_terms}
+use Rattle.form_text.specs.Reading.{ended as ended_by, term_in_front, read_terms}
 use Rattle.form_text.specs.View.{text_in, saturated, saturated_factor}
 use Rattle.form_text.proofs.Calls.{strip_front}
 
@@ -181,6 +182,23 @@ terms_more name_of xs i x name text front next cs more whole found within named 
     ∙ (joined_more cs next.coefficient (read_terms next.front behind next.rest)
     ∙ (ap (λ (n : Next). joined cs (with_coefficient n.coefficient (read_terms n.front behind n.rest))) read
     ∙ (ap (λ (ts : List Text). joined cs (read_terms front ts text)) (sym here) ∙ so_far)))
+
+-- behind the last name, what is read for none tells the constant
+pub terms_last : {A : Type 0} (name_of : A → Text) (xs : List A) (i : ℕ) (text : Text) (front : Bool) (next : Next)
+    (cs : List ℤ) (whole : Option (Affine × Text)) (none : Bool) → length xs ≤ i
+    → next ≡ next_in front [] text (term_in_front front text) → next.front ≡ none
+    → joined cs (read_terms front (map name_of (drop i xs)) text) ≡ whole
+    → (if none then None else Some (form_of cs next.coefficient, next.rest)) ≡ whole
+terms_last {A} name_of xs i text front next cs whole none past read is so_far =
+    ap (λ (b : Bool). if b then None else Some (form_of cs next.coefficient, next.rest)) (sym is)
+    ∙ (joined_last cs next.coefficient next.rest next.front
+    ∙ (ap (λ (n : Next). joined cs (ended_by n)) read
+    ∙ (ap (λ (ys : List A). joined cs (read_terms front (map name_of ys) text)) (sym (drop_all i xs past)) ∙ so_far)))
+  where
+    joined_last : (cs : List ℤ) (c : ℤ) (rest : Text) (b : Bool)
+        → (if b then None else Some (form_of cs c, rest)) ≡ joined cs (if b then None else Some (form_of [] c, rest))
+    joined_last cs c rest true = refl
+    joined_last cs c rest false = ap (λ (ds : List ℤ). Some (form_of ds c, rest)) (sym (append-nil cs))
 
 -- no digit stands in front of nothing
 pub stops_at_end : (v : ℕ) (text : Text) → length text ≡ 0 → number_in_front v text ≡ v
