@@ -1,7 +1,7 @@
 //! The stated command, built with `clap`: `polypar` with its commands, their options and their arguments.
 
 ghost use Rattle.std.specs.Prelude.{IfOk};
-ghost use Rattle.clap.specs.Words.{App};
+ghost use Rattle.clap.specs.Words.{App, Rule, with_rule, with_subcommand};
 ghost use Rattle.command_line.specs.Stated.{IsArgument, IsCommand, bare_tool, budget_tool, emit_tool, gen_arguments};
 ghost use Rattle.command_line.specs.Stated.{gen_tool, number_option, report_flag, run_tool, tool, wanted, wanted_number};
 ghost use Rattle.command_line.specs.Stated.{with_kernel_tools, with_run_options};
@@ -55,43 +55,73 @@ fn wanted_number<'a>(alloc: Global, name: &'a str, least: u64, most: u64) -> Arg
     wanted(alloc, name).value_parser(ValueParser::unsigned(least, most))
 }
 
-/// A command with the options of a run.
+/// A command that was made, with one argument more.
 #[tactic(auto, using(crate::proofs::BuiltCommands::building))]
+fn with_argument<'a>(
+    made: Result<clap::Command<'a>, AllocError>,
+    arg: Arg<'a>,
+) -> Result<clap::Command<'a>, AllocError>
+    ensures { (a : App) → (r : Rule) → IfOk made.entry (IsCommand a) → IsArgument r arg.entry
+        → IfOk result (IsCommand (with_rule a r)) }
+{
+    match made {
+        Ok(command) => command.arg(arg),
+        Err(error) => Err(error),
+    }
+}
+
+/// A command that was made, with one command more that was made.
+#[tactic(auto, using(crate::proofs::BuiltCommands::building))]
+fn with_command<'a>(
+    made: Result<clap::Command<'a>, AllocError>,
+    inner: Result<clap::Command<'a>, AllocError>,
+) -> Result<clap::Command<'a>, AllocError>
+    ensures { (a s : App) → IfOk made.entry (IsCommand a) → IfOk inner.entry (IsCommand s)
+        → IfOk result (IsCommand (with_subcommand a s.top)) }
+{
+    match made {
+        Ok(command) => match inner {
+            Ok(inner) => command.subcommand(inner),
+            Err(error) => Err(error),
+        },
+        Err(error) => Err(error),
+    }
+}
+
+/// A command with the options of a run.
 fn with_run_options<'a>(
     alloc: Global,
-    command: clap::Command<'a>,
+    command: Result<clap::Command<'a>, AllocError>,
 ) -> Result<clap::Command<'a>, AllocError>
-    ensures { (a : App) → IsCommand a command.entry → IfOk result (IsCommand (with_run_options a)) }
+    ensures { (a : App) → IfOk command.entry (IsCommand a) → IfOk result (IsCommand (with_run_options a)) }
 {
-    let with_workers = command.arg(number_option(alloc, "workers", MOST_WORKERS))?;
-    let with_tile = with_workers.arg(number_option(alloc, "tile", MOST_TILE))?;
-    with_tile.arg(number_option(alloc, "budget", MOST_MOVES))
+    let with_workers = with_argument(command, number_option(alloc, "workers", MOST_WORKERS));
+    let with_tile = with_argument(with_workers, number_option(alloc, "tile", MOST_TILE));
+    with_argument(with_tile, number_option(alloc, "budget", MOST_MOVES))
 }
 
 /// The command `run`.
 fn run_command<'a>(alloc: Global) -> Result<clap::Command<'a>, AllocError>
     ensures { IfOk result (IsCommand run_tool) }
 {
-    let run = with_run_options(alloc, clap::Command::new(alloc, "run"))?;
-    run.arg(report_flag(alloc))
+    let run = with_run_options(alloc, Ok(clap::Command::new(alloc, "run")));
+    with_argument(run, report_flag(alloc))
 }
 
 /// The command `gen` with its arguments alone.
-#[tactic(auto, using(crate::proofs::BuiltCommands::building))]
 fn gen_arguments<'a>(alloc: Global) -> Result<clap::Command<'a>, AllocError>
     ensures { IfOk result (IsCommand gen_arguments) }
 {
-    let with_kind = clap::Command::new(alloc, "gen").arg(wanted(alloc, "kind"))?;
-    let with_seed = with_kind.arg(wanted_number(alloc, "seed", 0, u64::MAX))?;
-    with_seed.arg(wanted_number(alloc, "size", 1, MOST_SIZE))
+    let with_kind = with_argument(Ok(clap::Command::new(alloc, "gen")), wanted(alloc, "kind"));
+    let with_seed = with_argument(with_kind, wanted_number(alloc, "seed", 0, u64::MAX));
+    with_argument(with_seed, wanted_number(alloc, "size", 1, MOST_SIZE))
 }
 
 /// The command `gen`.
 fn gen_command<'a>(alloc: Global) -> Result<clap::Command<'a>, AllocError>
     ensures { IfOk result (IsCommand gen_tool) }
 {
-    let arguments = gen_arguments(alloc)?;
-    with_run_options(alloc, arguments)
+    with_run_options(alloc, gen_arguments(alloc))
 }
 
 /// A command of this name with the option `--budget`.
@@ -103,12 +133,13 @@ fn budget_command<'a>(alloc: Global, name: &'a str) -> Result<clap::Command<'a>,
 }
 
 /// The command `emit`.
-#[tactic(auto, using(crate::proofs::BuiltCommands::building))]
 fn emit_command<'a>(alloc: Global) -> Result<clap::Command<'a>, AllocError>
     ensures { IfOk result (IsCommand emit_tool) }
 {
-    let emit = budget_command(alloc, "emit")?;
-    emit.arg(number_option(alloc, "tile", MOST_TILE))
+    with_argument(
+        budget_command(alloc, "emit"),
+        number_option(alloc, "tile", MOST_TILE),
+    )
 }
 
 /// The stated command without its commands, of which it wants one.
@@ -122,28 +153,22 @@ fn bare<'a>(alloc: Global) -> clap::Command<'a>
 }
 
 /// A command with those that ask of a kernel alone.
-#[tactic(auto, using(crate::proofs::BuiltCommands::building))]
 fn with_kernel_commands<'a>(
     alloc: Global,
-    command: clap::Command<'a>,
+    command: Result<clap::Command<'a>, AllocError>,
 ) -> Result<clap::Command<'a>, AllocError>
-    ensures { (a : App) → IsCommand a command.entry → IfOk result (IsCommand (with_kernel_tools a)) }
+    ensures { (a : App) → IfOk command.entry (IsCommand a) → IfOk result (IsCommand (with_kernel_tools a)) }
 {
-    let schedule = budget_command(alloc, "schedule")?;
-    let with_schedule = command.subcommand(schedule)?;
-    let deps = budget_command(alloc, "deps")?;
-    let with_deps = with_schedule.subcommand(deps)?;
-    let emit = emit_command(alloc)?;
-    with_deps.subcommand(emit)
+    let with_schedule = with_command(command, budget_command(alloc, "schedule"));
+    let with_deps = with_command(with_schedule, budget_command(alloc, "deps"));
+    with_command(with_deps, emit_command(alloc))
 }
 
 /// The stated command. Its definition in specs/Stated.antt says which words it takes.
 pub(crate) fn stated<'a>(alloc: Global) -> Result<clap::Command<'a>, AllocError>
     ensures { IfOk result (IsCommand tool) }
 {
-    let run = run_command(alloc)?;
-    let with_run = bare(alloc).subcommand(run)?;
-    let of_kernels = with_kernel_commands(alloc, with_run)?;
-    let generated = gen_command(alloc)?;
-    of_kernels.subcommand(generated)
+    let with_run = with_command(Ok(bare(alloc)), run_command(alloc));
+    let of_kernels = with_kernel_commands(alloc, with_run);
+    with_command(of_kernels, gen_command(alloc))
 }

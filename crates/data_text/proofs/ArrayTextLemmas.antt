@@ -1,12 +1,20 @@
 -- The text of arrays, cell by cell and line by line.
 use Rattle.std.proofs.Common.{◌≡◌, ◌∙◌, sym, ap, refl, ℕ, ◌+◌, ◌-◌, ◌<◌, ◌≤◌, List, [], ◌∷◌, ◌++◌, length, map, min}
 use Rattle.std.proofs.Common.{zero, take, drop, get_or, codes, add-one, drop-cons, drop_of_length-le, append-nil}
-use Rattle.std.proofs.Common.{suc, arith}
+use Rattle.std.proofs.Common.{suc, arith, Result, Ok, Err}
 use Rattle.std.proofs.lemmas.List.{get_or-take, get_or-map, length-map}
+use Rattle.io_ports.specs.Writes.{SinkShows, Sends, Puts}
+use Rattle.io_ports.proofs.PutTexts.{send_then, send_then_cut}
 use Rattle.scop_syntax.specs.Tree.{Declaration}
 use Rattle.scop_syntax.specs.declared.tree.Kernel.{Kernel}
 use Rattle.scop_syntax.specs.View.{program_of}
 use Rattle.data_text.specs.ArrayText.{array_text, cell_text, cells_text, row_text, rows_text}
+
+-- a text behind one that was put
+pub puts_then : {E : Type 0} (old mid new : SinkShows) (p q r a b : List ℕ) (result : Result (Unit {0}) E)
+    → Sends old p mid q a → Puts mid q new r b result → Puts old p new r (a ++ b) result
+puts_then old mid new p q r a b (Ok u) one two = send_then old mid new p q r a b one two
+puts_then old mid new p q r a b (Err e) one two = send_then_cut old mid new p q a b one two
 
 -- the cells from a place on: the cell there, and those behind it
 pub cells_next : (cells : List ℕ) (i : ℕ) → i < length cells

@@ -38,17 +38,16 @@ fn put_cells<K: Sink>(pieces: &mut Pieces, sink: &mut K, cells: &[u64]) -> Resul
 }
 
 /// Puts `NAME =`.
-#[tactic(auto, using(io_ports::proofs::PutTexts::putting))]
 fn put_name<K: Sink>(pieces: &mut Pieces, sink: &mut K, name: &[u8]) -> Result<(), Failed>
     ensures { Puts (K.shows sink.old) pieces.old (K.shows sink.new) pieces.new (name.now ++ codes " =") result }
 {
-    pieces.put(sink, name)?;
-    pieces.put(sink, b" =")?;
-    Ok(())
+    match pieces.put(sink, name) {
+        Ok(()) => pieces.put(sink, b" ="),
+        Err(failed) => Err(failed),
+    }
 }
 
 /// Puts the name and the cells of an array.
-#[tactic(auto, using(io_ports::proofs::PutTexts::putting))]
 fn put_array<K: Sink>(
     pieces: &mut Pieces,
     sink: &mut K,
@@ -57,13 +56,13 @@ fn put_array<K: Sink>(
 ) -> Result<(), Failed>
     ensures { Puts (K.shows sink.old) pieces.old (K.shows sink.new) pieces.new (row_text name.now cells.now) result }
 {
-    put_name(pieces, sink, name)?;
-    put_cells(pieces, sink, cells)?;
-    Ok(())
+    match put_name(pieces, sink, name) {
+        Ok(()) => put_cells(pieces, sink, cells),
+        Err(failed) => Err(failed),
+    }
 }
 
 /// Puts the line of an array.
-#[tactic(auto, using(io_ports::proofs::PutTexts::putting))]
 fn put_row<K: Sink>(
     pieces: &mut Pieces,
     sink: &mut K,
@@ -73,9 +72,10 @@ fn put_row<K: Sink>(
     ensures { Puts (K.shows sink.old) pieces.old (K.shows sink.new) pieces.new
         (row_text name.now cells.now ++ codes "\n") result }
 {
-    put_array(pieces, sink, name, cells)?;
-    pieces.put(sink, b"\n")?;
-    Ok(())
+    match put_array(pieces, sink, name, cells) {
+        Ok(()) => pieces.put(sink, b"\n"),
+        Err(failed) => Err(failed),
+    }
 }
 
 /// Puts the lines of arrays and their contents.

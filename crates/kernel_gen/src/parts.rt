@@ -197,9 +197,9 @@ pub(crate) fn kernel(
       body = only (tree_of item);
     }) }
 {
+    let items = one(alloc, item)?;
     let name = Vec::from_slice(alloc, name)?;
     let parameters = names(alloc, parameters)?;
-    let items = one(alloc, item)?;
     Ok(Kernel {
         name,
         parameters,

@@ -1,14 +1,15 @@
 -- The lines of a statement's reads one by one, and those of statements one behind another.
 use Rattle.std.proofs.Common.{◌≡◌, ◌∙◌, ap, ap₂, sym, refl, ℕ, zero, suc, ◌+◌, ◌-◌, ◌<◌, ◌≤◌, List, [], ◌∷◌, ◌++◌}
 use Rattle.std.proofs.Common.{drop, get_or, length, arith, append_assoc, drop-cons, add-one, Some}
-use Rattle.std.proofs.Common.{drop_of_length-le}
+use Rattle.std.proofs.Common.{drop_of_length-le, subst, Vec, Global}
 use Rattle.std.specs.Prelude.{slice_get}
 use Rattle.scop_lexer.specs.Bytes.{Text}
 use Rattle.scop_syntax.specs.Tree.{Program}
 use Rattle.iteration_domains.specs.Model.{Modelled, model_of}
 use Rattle.dataflow.specs.ReadSources.{reads_from, reads_of_statement, reads_in}
+use Rattle.quast_text.specs.Waiting.{texts_of}
 use Rattle.dataflow.specs.declared.source.ReadSource.{ReadSource}
-use Rattle.report_text.specs.DepsText.{read_text, line_of, lines_of}
+use Rattle.report_text.specs.DepsText.{read_text, line_of, lines_of, turn_name, turn_names}
 
 -- where there is no source there is no line
 pub no_lines : (program : Program) (reads : List (ℕ × ℕ)) → lines_of program reads [] ≡ []
@@ -88,3 +89,17 @@ statement_more program statements i s sources rest old new whole less is so_far 
     (sym count) ∙ (sym (lines_behind program own others sources)
     ∙ ap (λ (ss : List Modelled). lines_of program (reads_in ss) sources) (sym front)))
     ∙ so_far))
+
+-- ---- names
+
+-- the name at a place, and those behind it
+pub texts_next : (names : List (Vec ℕ Global)) (at : ℕ) (d : Vec ℕ Global) → at < length names
+    → (get_or names at d).items ∷ texts_of (drop (at + 1) names) ≡ texts_of (drop at names)
+texts_next names at d less = rw (add-one, drop-cons names at d less) refl
+
+-- the name of one turn more behind those before
+pub turns_next : (before now names : List Text) (at : ℕ) (name : Text) → now ≡ names ++ name ∷ []
+    → names ≡ before ++ turn_names at → name ≡ turn_name (at + 1) → now ≡ before ++ turn_names (at + 1)
+turns_next before now names at name is so_far named =
+    rw add-one (is ∙ (ap₂ (λ ns n. ns ++ n ∷ []) so_far (subst (λ k. name ≡ turn_name k) (add-one at) named)
+    ∙ append_assoc before (turn_names at) (turn_name (suc at) ∷ [])))

@@ -1,15 +1,30 @@
 -- The parts of a line, one by one, and the texts that lines are made of.
 use Rattle.std.proofs.Common.{◌≡◌, ℕ, ◌+◌, ◌<◌, List, [], ◌++◌, length, drop, get_or, ap, refl, add-one}
-use Rattle.std.proofs.Common.{drop-cons, append_assoc, append-nil}
+use Rattle.std.proofs.Common.{drop-cons, append_assoc, append-nil, subst, Result}
 use Rattle.std.specs.Prelude.{decimal}
+use Rattle.io_ports.specs.Writes.{SinkShows, Puts}
 use Rattle.report_text.specs.declared.parts.Part.{Part}
+use Rattle.report_text.specs.declared.pieces.Piece.{Piece}
+use Rattle.report_text.specs.Pieces.{piece_text, pieces_text}
 use Rattle.report_text.specs.Parts.{part_text, parts_text}
 use Rattle.report_text.specs.StatusText.{named, numbered}
+
+-- what is put, as a text that is the same
+pub puts_as : {E : Type 0} (old : SinkShows) (pending : List ℕ) (new : SinkShows) (rest text other : List ℕ)
+    (result : Result (Unit {0}) E) → text ≡ other → Puts old pending new rest text result
+    → Puts old pending new rest other result
+puts_as old pending new rest text other result same put =
+    subst (λ t. Puts old pending new rest t result) same put
 
 -- the part at a place, and those behind it
 pub parts_next : (parts : List Part) (i : ℕ) (d : Part) → i < length parts
     → part_text (get_or parts i d) ++ parts_text (drop (i + 1) parts) ≡ parts_text (drop i parts)
 parts_next parts i d less = rw (add-one, drop-cons parts i d) refl
+
+-- the piece at a place, and those behind it
+pub pieces_next : (pieces : List Piece) (i : ℕ) (d : Piece) → i < length pieces
+    → piece_text (get_or pieces i d) ++ pieces_text (drop (i + 1) pieces) ≡ pieces_text (drop i pieces)
+pieces_next pieces i d less = rw (add-one, drop-cons pieces i d) refl
 
 -- a number between two texts
 pub numbered_is : (front end : List ℕ) (n : ℕ) → front ++ (decimal n ++ (end ++ [])) ≡ numbered front n end

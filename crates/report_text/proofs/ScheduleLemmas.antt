@@ -2,14 +2,36 @@
 use Rattle.std.proofs.Common.{◌≡◌, ◌∙◌, sym, ap, refl, ℕ, zero, suc, ◌+◌, ◌<◌, ◌≤◌, Bool, true, false}
 use Rattle.std.proofs.Common.{List, [], ◌∷◌, ◌++◌, map, length, drop, get_or, add-one, drop-cons, append_assoc}
 use Rattle.std.proofs.Common.{append-nil, arith, if◌then◌else◌, drop_of_length-le}
-use Rattle.std.specs.Prelude.{Some, slice_get}
+use Rattle.std.specs.Prelude.{ℤ, Some, slice_get, codes}
+use Rattle.std.specs.Fmt.{signed_decimal}
 use Rattle.std.proofs.lemmas.Bool.{ne_eqb, eq-eqb}
 use Rattle.schedule_rows.specs.Items.{Marked, Block, scalar, band}
 use Rattle.schedule_rows.specs.Schedule as plain
 use Rattle.schedule_rows.specs.Schedule.{Item, items_of, bands_from, marks_of}
 use Rattle.schedule_rows.specs.declared.item.Band.{Band}
-use Rattle.report_text.specs.ScheduleText.{rows_text, blocks_text, row_line, schedule_text}
-use Rattle.report_text.specs.ScheduleLines.{begins, entered, item_text, items_text}
+use Rattle.schedule_rows.specs.declared.item.Part.{Part}
+use Rattle.report_text.specs.ScheduleText.{rows_text, blocks_text, row_line, schedule_text, before, numbers_from}
+use Rattle.report_text.specs.ScheduleText.{statement_text, statements_from, component_text, components_from}
+use Rattle.report_text.specs.ScheduleLines.{begins, entered, item_text, items_text, part_view}
+
+-- the number at a place, and those behind it
+pub numbers_next : (zs : List ℤ) (at : ℕ) (d : ℤ) → at < length zs
+    → (before at (codes " ") ++ signed_decimal (get_or zs at d)) ++ numbers_from (at + 1) (drop (at + 1) zs)
+    ≡ numbers_from at (drop at zs)
+numbers_next zs at d less = rw (add-one, drop-cons zs at d less) refl
+
+-- the statement's part at a place, and those behind it
+pub statements_next : (parts : List Part) (at : ℕ) (d : Part) → at < length parts
+    → statement_text at (part_view (get_or parts at d))
+    ++ statements_from (at + 1) (map part_view (drop (at + 1) parts))
+    ≡ statements_from at (map part_view (drop at parts))
+statements_next parts at d less = rw (add-one, drop-cons parts at d less) refl
+
+-- the component at a place, and those behind it
+pub components_next : (numbers : List ℕ) (at d : ℕ) → at < length numbers
+    → component_text at (get_or numbers at d) ++ components_from (at + 1) (drop (at + 1) numbers)
+    ≡ components_from at (drop at numbers)
+components_next numbers at d less = rw (add-one, drop-cons numbers at d less) refl
 
 -- the mark at a place, and those behind it
 marks_next : (marks : List Bool) (at : ℕ) (mark : Bool) → slice_get marks at ≡ Some mark

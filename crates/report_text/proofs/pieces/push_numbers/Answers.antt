@@ -1,0 +1,27 @@
+-- One number more, and at the end all of them.
+use Rattle.std.proofs.Common.{rules, ◌∙◌, ◌+◌, ◌++◌, ap, drop, get_or, pos, drop_of_length-le, FitsSigned}
+use Rattle.std.specs.Int.{w128}
+use Rattle.std.specs.Prelude.{codes}
+use Rattle.std.specs.Fmt.{signed_decimal}
+use Rattle.std.proofs.lemmas.Int.{to_z-of_z}
+use Rattle.report_text.specs.ScheduleText.{before, numbers_from}
+use Rattle.report_text.proofs.AppendedTexts.{next_appended, last_appended}
+use Rattle.report_text.proofs.ScheduleLemmas.{numbers_next}
+use Rattle.report_text.proofs.pieces.push_numbers.Goals as goal
+
+pub loop-at-preserved : goal.loop-at-preserved
+loop-at-preserved c =
+    let zs = c.args.numbers.now in
+    let at = c.loop-at.at in
+    let out = c.loop-at.out.items in
+    let fits : FitsSigned w128 (get_or zs at (pos 0)) = search rules in
+    next_appended out c.push_entry.new.out.items (before at (codes " ") ++ signed_decimal (get_or zs at (pos 0)))
+    (numbers_from (at + 1) (drop (at + 1) zs)) _ (simp to_z-of_z at c.in-Ok.ensures)
+    (ap (λ t. out ++ t) (numbers_next zs at (pos 0) c.loop-at-test.true) ∙ c.loop-at.invariant)
+
+pub returns : goal.returns
+returns c =
+    let zs = c.args.numbers.now in
+    let at = c.loop-at.at in
+    last_appended c.loop-at.out.items (numbers_from at (drop at zs)) _
+    (ap (numbers_from at) (drop_of_length-le zs c.loop-at-test.false)) c.loop-at.invariant
