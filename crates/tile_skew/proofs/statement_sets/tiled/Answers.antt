@@ -67,7 +67,8 @@ scan_set-requires-clause-rows c =
     let many = ap length shown in
     let few : k < length m.statements = omega (arith, c.loop-k-test.true, many) in
     let loops = loops_there m k x few (c.index-statements-k.is ∙ ap (λ zs. get_or zs k x) shown) in
-    subst (λ n. All (λ (r : TileRow). FitsTurns n r.form) c.in_ok-items.items.band.items) loops c.in_ok-items.ensures.rows
+    subst (λ n. All (λ (r : TileRow). FitsTurns n r.form) c.in_ok-items.items.band.items) loops
+    c.in_ok-items.ensures.rows
 
 pub scan_set-requires-clause-behind : goal.scan_set-requires-clause-behind
 scan_set-requires-clause-behind c =
@@ -78,4 +79,5 @@ scan_set-requires-clause-behind c =
     let many = ap length shown in
     let few : k < length m.statements = omega (arith, c.loop-k-test.true, many) in
     let loops = loops_there m k x few (c.index-statements-k.is ∙ ap (λ zs. get_or zs k x) shown) in
-    subst (λ n. All (λ i. FitsItem n (item_of i)) c.in_ok-items.items.behind.items) loops c.in_ok-items.ensures.behind
+    subst (λ n. All (λ i. FitsItem n (item_of i)) c.in_ok-items.items.behind.items) loops
+    c.in_ok-items.ensures.behind
