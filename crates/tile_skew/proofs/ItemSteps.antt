@@ -1,6 +1,6 @@
 -- The steps of the loops that read a statement's items off a schedule's.
 use Rattle.std.proofs.Common.{◌≡◌, ℕ, zero, suc, ◌+◌, ◌-◌, ◌<◌, ◌≤◌, Bool, ℤ, pos, List, [], ◌∷◌, ◌++◌, refl, sym, ◌∙◌}
-use Rattle.std.proofs.Common.{ap, ap₂}
+use Rattle.std.proofs.Common.{ap, ap₂, append-nil}
 use Rattle.std.proofs.Common.{arith, length, map, take, drop, get_or}
 use Rattle.std.specs.Prelude.{slice_get, Some}
 use Rattle.std.proofs.lemmas.List.{append_assoc, drop_more, take_rest, length-map}
@@ -10,12 +10,14 @@ use Rattle.iteration_domains.specs.Rows.{variable}
 use Rattle.conflict_deps.specs.Conflicts.{spread, difference_of_forms}
 use Rattle.conflict_deps.proofs.Shapes.{spread_parts}
 use Rattle.loop_tree.specs.Tiling.{TileRow, Items}
-use Rattle.schedule_rows.specs.Items.{Block}
+use Rattle.schedule_rows.specs.Items.{Block, Row}
 use Rattle.schedule_rows.specs.Schedule.{Item, row, scalar}
+use Rattle.stmt_graph.specs.Graph.{number_in}
 use Rattle.tile_skew.specs.Tilings.{statement_items, statements_from}
 use Rattle.tile_skew.specs.declared.layout.Layout.{Layout}
-use Rattle.tile_skew.specs.ScanSets.{width, number_form, carried_form, have_values, wave_equalities}
-use Rattle.tile_skew.specs.steps.Listed.{rows_in}
+use Rattle.tile_skew.specs.ScanSets.{width, number_form, row_form, carried_form, have_values, wave_equalities}
+use Rattle.tile_skew.specs.ScanSets.{tile_begins, tile_ends, are_coordinates}
+use Rattle.tile_skew.specs.steps.Listed.{leading_in, rows_in}
 
 -- the mark at a place, and those behind it
 mark_there : (marks : List Bool) (at : ℕ) (mark : Bool) → slice_get marks at ≡ Some mark
@@ -78,6 +80,32 @@ mapped_step h xs at x done new whole few is now before =
     ap (λ ys. ys ++ rest) now
     ∙ (append_assoc done (h x ∷ []) rest ∙ (ap (λ ys. done ++ ys) (sym there) ∙ before))
 
+-- what was made is the whole where nothing is left
+pub nothing_left : {X : Type 0} (done rest whole : List X) → rest ≡ [] → done ++ rest ≡ whole → done ≡ whole
+nothing_left done rest whole none before = sym (append-nil done) ∙ (ap (λ xs. done ++ xs) (sym none) ∙ before)
+
+-- one scalar more before the first row
+pub leading_step : {X : Type 0} (h : X → Item) (xs : List X) (at k : ℕ) (x : X) (numbers done new whole : List ℕ)
+    → at < length xs → x ≡ get_or xs at x → h x ≡ scalar numbers → new ≡ done ++ number_in numbers k ∷ []
+    → done ++ leading_in (map h (drop at xs)) k ≡ whole → new ++ leading_in (map h (drop (at + 1) xs)) k ≡ whole
+leading_step h xs at k x numbers done new whole few is shown now before =
+    let rest = map h (drop (at + 1) xs) in
+    let there : map h (drop at xs) ≡ scalar numbers ∷ rest =
+    ap (map h) (drop_more xs at x few) ∙ ap (λ i. i ∷ rest) (ap h (sym is) ∙ shown) in
+    ap (λ ns. ns ++ leading_in rest k) now
+    ∙ (append_assoc done (number_in numbers k ∷ []) (leading_in rest k)
+    ∙ (ap (λ is. done ++ leading_in is k) (sym there) ∙ before))
+
+-- the first row ends them
+pub leading_stop : {X : Type 0} (h : X → Item) (xs : List X) (at k : ℕ) (x : X) (r : Row) (done whole : List ℕ)
+    → at < length xs → x ≡ get_or xs at x → h x ≡ row r → done ++ leading_in (map h (drop at xs)) k ≡ whole
+    → done ≡ whole
+leading_stop h xs at k x r done whole few is shown before =
+    let rest = map h (drop (at + 1) xs) in
+    let there : map h (drop at xs) ≡ row r ∷ rest =
+    ap (map h) (drop_more xs at x few) ∙ ap (λ i. i ∷ rest) (ap h (sym is) ∙ shown) in
+    nothing_left done _ whole (ap (λ is. leading_in is k) there) before
+
 -- the coefficients of a form of the domain, put part by part
 pub domain_put : (front d e : ℕ) (cs first second third fourth fifth : List ℤ) → d ≤ length cs → first ≡ []
     → second ≡ first ++ zeros front → third ≡ second ++ take d cs → fourth ≡ third ++ zeros e
@@ -98,6 +126,33 @@ values_behind l j (f ∷ fs) gs =
     let e : suc j + length fs ≡ j + suc (length fs) = omega arith in
     let here = difference_of_forms f (variable (width l) j) in
     ap (λ hs. here ∷ hs) (values_behind l (suc j) fs gs ∙ ap (λ k. have_values l (suc j) fs ++ have_values l k gs) e)
+
+-- the value of one dimension more
+pub values_step : (l : Layout) (first at : ℕ) (f : Affine) (fs rest done new whole : List Affine) → fs ≡ f ∷ rest
+    → new ≡ done ++ have_values l (first + at) (f ∷ []) → done ++ have_values l (first + at) fs ≡ whole
+    → new ++ have_values l (first + (at + 1)) rest ≡ whole
+values_step l first at f fs rest done new whole is now before =
+    let next : first + (at + 1) ≡ suc (first + at) = omega arith in
+    let here = have_values l (first + at) (f ∷ []) in
+    let behind = have_values l (suc (first + at)) rest in
+    ap₂ (λ xs n. xs ++ have_values l n rest) now next
+    ∙ (append_assoc done here behind ∙ (ap (λ gs. done ++ have_values l (first + at) gs) (sym is) ∙ before))
+
+-- one tile coordinate more
+pub coordinates_step : (l : Layout) (size : ℤ) (first at : ℕ) (rows : List TileRow) (r : TileRow) (f : Affine)
+    (done new whole : List Affine) → at < length rows → r ≡ get_or rows at r → f ≡ row_form l r.form
+    → new ≡ done ++ tile_begins l size (first + at) f ∷ tile_ends l size (first + at) f ∷ []
+    → done ++ are_coordinates l size (first + at) (drop at rows) ≡ whole
+    → new ++ are_coordinates l size (first + (at + 1)) (drop (at + 1) rows) ≡ whole
+coordinates_step l size first at rows r f done new whole few is made now before =
+    let rest = drop (at + 1) rows in
+    let next : first + (at + 1) ≡ suc (first + at) = omega arith in
+    let pair : Affine → List Affine =
+    λ g. tile_begins l size (first + at) g ∷ tile_ends l size (first + at) g ∷ [] in
+    let there : drop at rows ≡ r ∷ rest = drop_more rows at r few ∙ ap (λ q. q ∷ rest) (sym is) in
+    ap₂ (λ xs n. xs ++ are_coordinates l size n rest) (now ∙ ap (λ g. done ++ pair g) made) next
+    ∙ (append_assoc done (pair (row_form l r.form)) (are_coordinates l size (suc (first + at)) rest)
+    ∙ (ap (λ rs. done ++ are_coordinates l size (first + at) rs) (sym there) ∙ before))
 
 -- the leading scalars and the wave sum
 pub waves_put : (l : Layout) (s : Items) (old first second : List Affine) (sum : Affine) (at : ℕ)

@@ -2,9 +2,9 @@
 use Rattle.std.proofs.Common.{◌≡◌, ℕ, suc, ◌+◌, ◌-◌, ◌*◌, ◌^◌, ◌<◌, ◌≤◌, Bool, true, false, ℤ, pos, negsuc, List, []}
 use Rattle.std.proofs.Common.{◌∷◌, ◌++◌, refl, sym, ◌∙◌, ap, subst, arith, length, mul-le-mul, length-append, to_z}
 use Rattle.std.proofs.Common.{of_z}
-use Rattle.std.specs.Prelude.{◌≤ℤ◌, ◌-ℤ◌, unsigned_abs, if◌then◌else◌, All}
-use Rattle.std.specs.Int.{w128}
-use Rattle.std.proofs.lemmas.Int.{ints, to_z-of_z, fits_signed_from_abs}
+use Rattle.std.specs.Prelude.{◌≤ℤ◌, ◌-ℤ◌, unsigned_abs, if◌then◌else◌, All, FitsSigned}
+use Rattle.std.specs.Int.{w64, w128}
+use Rattle.std.proofs.lemmas.Int.{ints, to_z-of_z, to_z_pos, fits_signed_from_abs}
 use Rattle.std.proofs.lemmas.List.Elements.{All-head, All-tail}
 use Rattle.whole_numbers.specs.Affine.{Affine, sum_of_forms, multiple_of_form}
 use Rattle.whole_numbers.specs.Lists.{zeros, multiples}
@@ -107,10 +107,24 @@ last_size s h =
 pub as_held : (z : ℤ) → unsigned_abs z ≤ 1024 → to_z w128 (of_z w128 z) ≡ z
 as_held z h = to_z-of_z w128 z (fits_signed_from_abs w128 z (omega arith))
 
+pub narrow_held : (z : ℤ) → FitsSigned w64 z → to_z w128 (of_z w128 (to_z w64 (of_z w64 z))) ≡ z
+narrow_held z narrow =
+    let wide : FitsSigned w128 z = omega (arith, ints, narrow) in
+    ap (λ n. to_z w128 (of_z w128 n)) (to_z-of_z w64 z narrow) ∙ to_z-of_z w128 z wide
+
 pub opposite_held : (s : ℤ) → (pos 1 ≤ℤ s) × (s ≤ℤ pos 1024)
     → to_z w128 (of_z w128 (pos 0 -ℤ to_z w128 (of_z w128 s))) ≡ pos 0 -ℤ s
 opposite_held s h =
     ap (λ z. to_z w128 (of_z w128 (pos 0 -ℤ z))) (as_held s (tile_size s h)) ∙ as_held (pos 0 -ℤ s) (opposite_size s h)
+
+pub tile_held : (n : ℕ) → n ≤ 1024 → to_z w128 n ≡ pos n
+tile_held n h = to_z_pos w128 n (omega arith)
+
+pub tile_between : (n : ℕ) → (0 < n) × (n ≤ 1024) → (pos 1 ≤ℤ to_z w128 n) × (to_z w128 n ≤ℤ pos 1024)
+tile_between n h =
+    let low = h.0 in
+    let high = h.1 in
+    subst (λ z. (pos 1 ≤ℤ z) × (z ≤ℤ pos 1024)) (sym (tile_held n high)) (omega (arith, ints), omega (arith, ints))
 
 pub last_held : (s : ℤ) → (pos 1 ≤ℤ s) × (s ≤ℤ pos 1024)
     → to_z w128 (of_z w128 (to_z w128 (of_z w128 s) -ℤ pos 1)) ≡ s -ℤ pos 1

@@ -1,7 +1,9 @@
 //! Forms over the variables of a scan set.
-ghost use Rattle.std.specs.Prelude.{◌≡◌, ◌+◌, ◌<◌, ◌≤◌, ◌^◌, ◌++◌, ◌∷◌, [], pos, ◌≤ℤ◌, IfOk, OnOk, length};
+ghost use Rattle.std.specs.Prelude.{◌≡◌, ◌+◌, ◌<◌, ◌≤◌, ◌^◌, ◌++◌, ◌∷◌, [], pos, ◌≤ℤ◌, ◌-ℤ◌, IfOk, OnOk, length};
 ghost use Rattle.affine_forms.specs.Parts.{variables_of};
+ghost use Rattle.whole_numbers.specs.Affine.{sum_of_forms, multiple_of_form};
 ghost use Rattle.whole_numbers.specs.Lists.{zeros};
+ghost use Rattle.iteration_domains.specs.Rows.{variable};
 ghost use Rattle.conflict_deps.specs.Conflicts.{spread};
 ghost use Rattle.tile_skew.specs.ScanSets.{carried, carried_form, domain_form, have_values, number_form, row_form};
 ghost use Rattle.tile_skew.specs.ScanSets.{tile_begins, tile_ends, width};
@@ -137,6 +139,19 @@ fn tile_begins(
     plus_multiple(form, -size, &dimension)
 }
 
+/// `size * T + size - 1`, T being dimension `at`.
+fn tile_end(alloc: Global, layout: Layout, size: i128, at: usize) -> Result<Form, AllocError>
+    requires fits { width layout < 2 ^ 64 }
+    requires place { at < width layout }
+    requires size { (pos 1 ≤ℤ size) × (size ≤ℤ pos 1024) }
+    ensures { IfOk result (λ f. f
+        ≡ sum_of_forms (number_form layout (size -ℤ pos 1)) (multiple_of_form size (variable (width layout) at))) }
+{
+    let dimension = variable_form(alloc, layout.width(), at)?;
+    let last = number_form(alloc, layout, size - 1)?;
+    plus_multiple(&last, size, &dimension)
+}
+
 /// `size * T + size - 1 - row`, T being dimension `at`.
 fn tile_ends(
     alloc: Global,
@@ -151,9 +166,7 @@ fn tile_ends(
     requires small { FitsWidth layout form.now }
     ensures { IfOk result (λ f. f ≡ tile_ends layout size at form.now) }
 {
-    let dimension = variable_form(alloc, layout.width(), at)?;
-    let last = number_form(alloc, layout, size - 1)?;
-    let end = plus_multiple(&last, size, &dimension)?;
+    let end = tile_end(alloc, layout, size, at)?;
     plus_multiple(&end, -1, form)
 }
 

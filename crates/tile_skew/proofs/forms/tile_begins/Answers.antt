@@ -1,7 +1,9 @@
-use Rattle.std.proofs.Common.{◌+◌, ◌*◌, ◌≤◌, ◌^◌, ℤ, subst, sym, ap, ◌∙◌}
-use Rattle.std.specs.Prelude.{unsigned_abs}
-use Rattle.whole_numbers.specs.Affine.{Affine}
+use Rattle.std.proofs.Common.{◌≡◌, ◌+◌, ◌*◌, ◌≤◌, ◌^◌, ℤ, pos, neg_ℤ, ◌-ℤ◌, subst, sym, ap, ap₂, ◌∙◌, arith}
+use Rattle.std.specs.Prelude.{unsigned_abs, IfOk}
+use Rattle.std.proofs.lemmas.Int.{ints}
+use Rattle.whole_numbers.specs.Affine.{Affine, sum_of_forms, multiple_of_form}
 use Rattle.affine_forms.specs.Parts.{variables_of}
+use Rattle.iteration_domains.specs.Rows.{variable}
 use Rattle.iteration_domains.specs.Sizes.{form_size}
 use Rattle.iteration_domains.proofs.Surroundings.{length-variable}
 use Rattle.iteration_domains.proofs.Sizes.{size-variable}
@@ -23,3 +25,11 @@ plus_multiple-requires-clause-small c =
     (sym (opposite_held s c.requires.size))
     (small_sum (form_size f) (form_size c.in_ok-dimension.dimension) _ c.requires.small.1
     (opposite_size s c.requires.size) one)
+
+pub returns : goal.returns
+returns c =
+    let s = c.args.size in
+    let opposite : pos 0 -ℤ s ≡ neg_ℤ s = omega (arith, ints) in
+    let dimension = c.in_ok-dimension.ensures ∙ ap (λ n. variable n c.args.at) c.width.ensures in
+    subst (λ (g : Affine). IfOk c.plus_multiple.result (λ f. f ≡ sum_of_forms c.args.form.now g))
+    (ap₂ multiple_of_form (opposite_held s c.requires.size ∙ opposite) dimension) c.plus_multiple.ensures

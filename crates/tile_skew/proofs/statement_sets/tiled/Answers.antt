@@ -1,10 +1,15 @@
-use Rattle.std.proofs.Common.{◌≡◌, ◌<◌, ◌≤◌, ◌∙◌, ◌++◌, ◌∷◌, [], ap, ap₂, sym, subst, arith, length, pos, get_or}
+use Rattle.std.proofs.Common.{◌≡◌, ◌<◌, ◌≤◌, ◌∙◌, ◌++◌, ◌∷◌, [], ap, ap₂, sym, subst, arith, length, map, pos, get_or}
+use Rattle.std.proofs.Common.{drop_of_length-le}
+use Rattle.std.specs.Prelude.{All}
 use Rattle.integer_sets.specs.Scanned.{Scanned}
 use Rattle.iteration_domains.specs.Model.{Modelled, KernelModel}
+use Rattle.loop_tree.specs.Tiling.{TileRow}
+use Rattle.loop_tree.specs.TilingView.{item_of}
+use Rattle.tile_skew.specs.steps.Sizes.{FitsTurns, FitsItem}
 use Rattle.tile_skew.specs.ScanSets.{scan_set, most_iterators}
 use Rattle.tile_skew.specs.Tilings.{statement_items}
-use Rattle.tile_skew.proofs.ItemSteps.{mapped_step}
-use Rattle.tile_skew.proofs.ModelStatements.{within_there, found_there}
+use Rattle.tile_skew.proofs.ItemSteps.{mapped_step, nothing_left}
+use Rattle.tile_skew.proofs.ModelStatements.{within_there, found_there, loops_there}
 use Rattle.tile_skew.proofs.statement_sets.tiled.Goals as goal
 
 pub scan_set-requires-clause-most : goal.scan_set-requires-clause-most
@@ -36,3 +41,43 @@ loop-k-preserved c s =
     mapped_step Set ss k x done c.push.new.self.items _ (omega (arith, few, many))
     (sym (c.index-statements-k.is ∙ ap (λ zs. get_or zs k x) shown))
     (c.in_ok-push.ensures.items ∙ ap (λ z. done ++ z ∷ []) made) (c.loop-k.invariant s)
+
+pub returns : goal.returns
+returns c s =
+    let size = pos c.args.size in
+    let ss = c.args.schedule.now.model.statements in
+    let shown = c.statements-statements.ensures.statements ∙ ap (λ (m : KernelModel). m.statements) c.model.ensures in
+    let many = ap length shown in
+    let all : length ss ≤ c.loop-k.k = omega (arith, c.loop-k-test.false, many) in
+    let Set : Modelled → Scanned = λ m. scan_set size (most_iterators ss) m (statement_items s.blocks m.number) in
+    nothing_left c.loop-k.sets.items _ _ (ap (map Set) (drop_of_length-le ss all)) (c.loop-k.invariant s)
+
+pub statement-requires : goal.statement-requires
+statement-requires c =
+    let shown = c.statements-statements.ensures.statements ∙ ap (λ (m : KernelModel). m.statements) c.model.ensures in
+    let many = ap length shown in
+    omega (arith, c.loop-k-test.true, many)
+
+pub scan_set-requires-clause-rows : goal.scan_set-requires-clause-rows
+scan_set-requires-clause-rows c =
+    let m = c.args.schedule.now.model in
+    let x = c.index-statements-k.result in
+    let k = c.loop-k.k in
+    let shown = c.statements-statements.ensures.statements ∙ ap (λ (m : KernelModel). m.statements) c.model.ensures in
+    let many = ap length shown in
+    let few : k < length m.statements = omega (arith, c.loop-k-test.true, many) in
+    let loops = loops_there m k x few (c.index-statements-k.is ∙ ap (λ zs. get_or zs k x) shown) in
+    subst (λ n. All (λ (r : TileRow). FitsTurns n r.form) c.in_ok-items.items.band.items) loops
+    c.in_ok-items.ensures.rows
+
+pub scan_set-requires-clause-behind : goal.scan_set-requires-clause-behind
+scan_set-requires-clause-behind c =
+    let m = c.args.schedule.now.model in
+    let x = c.index-statements-k.result in
+    let k = c.loop-k.k in
+    let shown = c.statements-statements.ensures.statements ∙ ap (λ (m : KernelModel). m.statements) c.model.ensures in
+    let many = ap length shown in
+    let few : k < length m.statements = omega (arith, c.loop-k-test.true, many) in
+    let loops = loops_there m k x few (c.index-statements-k.is ∙ ap (λ zs. get_or zs k x) shown) in
+    subst (λ n. All (λ i. FitsItem n (item_of i)) c.in_ok-items.items.behind.items) loops
+    c.in_ok-items.ensures.behind

@@ -1,0 +1,23 @@
+use Rattle.std.proofs.Common.{rules, ◌≡◌, ◌++◌, ◌∙◌, ◌+◌, ap, ap₂, subst, FitsSigned}
+use Rattle.std.specs.Prelude.{IfOk}
+use Rattle.std.specs.Int.{w64}
+use Rattle.std.proofs.lemmas.List.{append_assoc}
+use Rattle.whole_numbers.specs.Affine.{Affine, form_of}
+use Rattle.whole_numbers.specs.Lists.{zeros}
+use Rattle.tile_skew.proofs.Widths.{narrow_held}
+use Rattle.tile_skew.proofs.forms.row_form.Goals as goal
+
+pub returns : goal.returns
+returns c =
+    let l = c.args.layout in
+    let f = c.args.form.now in
+    let behind = zeros (l.missing + l.parameters) in
+    let own : c.as_slice.result.now ≡ f.coefficients =
+    c.as_slice.ensures.value ∙ ap (λ (g : Affine). g.coefficients) c.form.view_is in
+    let narrow : FitsSigned w64 c.form.inside.constant = search rules in
+    let constant = narrow_held c.form.inside.constant narrow ∙ ap (λ (g : Affine). g.constant) c.form.view_is in
+    let front = c.in_ok-push_zeros.ensures ∙ ap (λ ns. ns ++ zeros l.front) c.new-numbers.ensures.items in
+    let more = c.in_ok-push_numbers.ensures ∙ ap₂ (λ xs ys. xs ++ ys) front own in
+    let all = c.as_slice-2.ensures ∙ (c.in_ok-push_zeros-2.ensures
+    ∙ (ap (λ ns. ns ++ behind) more ∙ append_assoc (zeros l.front) f.coefficients behind)) in
+    subst (λ (g : Affine). IfOk c.form_from.result (λ h. h ≡ g)) (ap₂ form_of all constant) c.form_from.ensures
