@@ -39,7 +39,8 @@ sure_of_room false capacity taken text room = absurd room
 -- a call that is listed is still to come
 listed : (fails : List ℕ) (calls : ℕ) → Contains fails (next_count calls) → none_to_come fails calls ≡ true → ⊥
 listed fails calls found none =
-    let same = ap (λ fail. nat_lt fail (next_count calls)) found.2 ∙ le-ltb (next_count calls) (next_count calls) (omega arith) in
+    let same = ap (λ fail. nat_lt fail (next_count calls)) found.2 ∙ le-ltb (next_count calls) (next_count calls)
+    (omega arith) in
     true≢false (sym none ∙ list_all_at (λ fail. nat_lt fail (next_count calls)) fails found.0 _ found.1 same)
 
 -- the sink took these bytes in a call that did not fail

@@ -107,6 +107,7 @@ last_size s h =
 pub as_held : (z : ℤ) → unsigned_abs z ≤ 1024 → to_z w128 (of_z w128 z) ≡ z
 as_held z h = to_z-of_z w128 z (fits_signed_from_abs w128 z (omega arith))
 
+-- a number of 64 bits is itself in 128 bits
 pub narrow_held : (z : ℤ) → FitsSigned w64 z → to_z w128 (of_z w128 (to_z w64 (of_z w64 z))) ≡ z
 narrow_held z narrow =
     let wide : FitsSigned w128 z = omega (arith, ints, narrow) in
@@ -117,9 +118,11 @@ pub opposite_held : (s : ℤ) → (pos 1 ≤ℤ s) × (s ≤ℤ pos 1024)
 opposite_held s h =
     ap (λ z. to_z w128 (of_z w128 (pos 0 -ℤ z))) (as_held s (tile_size s h)) ∙ as_held (pos 0 -ℤ s) (opposite_size s h)
 
+-- a tile size is itself in 128 bits
 pub tile_held : (n : ℕ) → n ≤ 1024 → to_z w128 n ≡ pos n
 tile_held n h = to_z_pos w128 n (omega arith)
 
+-- and lies between 1 and 1024 there
 pub tile_between : (n : ℕ) → (0 < n) × (n ≤ 1024) → (pos 1 ≤ℤ to_z w128 n) × (to_z w128 n ≤ℤ pos 1024)
 tile_between n h =
     let low = h.0 in

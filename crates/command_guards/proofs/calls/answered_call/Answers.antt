@@ -43,6 +43,7 @@ returns-clause-front g c = λ fault.
 
 pub returns-clause-line : goal.returns-clause-line
 returns-clause-line g c = λ refusal is.
-    data_line _ c.plain_command.result (g.S.Source.shows c.args.source.now) (g.S.Source.shows c.plain_command.new.source)
+    data_line _ c.plain_command.result (g.S.Source.shows c.args.source.now)
+    (g.S.Source.shows c.plain_command.new.source)
     (g.O.Sink.shows c.args.out.now) (g.O.Sink.shows c.plain_command.new.out) (g.E.Sink.shows c.args.err.now)
     (g.E.Sink.shows c.plain_command.new.err) refusal is c.plain_command.ensures

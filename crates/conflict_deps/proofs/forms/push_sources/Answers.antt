@@ -6,7 +6,8 @@ pub loop-form-preserved : goal.loop-form-preserved
 loop-form-preserved c =
     let l = c.loop-form in
     forms_more (source_form c.args.loops c.args.others) c.args.forms.now l.form-index c.form-item.result
-    c.in_ok-spread.spread l.out.items c.push.new.list.items _ c.loop-form-test.true c.form-item.is c.in_ok-spread.ensures
+    c.in_ok-spread.spread l.out.items c.push.new.list.items _ c.loop-form-test.true c.form-item.is
+    c.in_ok-spread.ensures
     c.in_ok-push.ensures.pushed l.invariant
 
 pub returns : goal.returns

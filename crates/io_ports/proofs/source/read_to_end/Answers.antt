@@ -1,4 +1,5 @@
-use Rattle.std.proofs.Common.{rules, ◌≡◌, ap, [], ◌++◌, length, take, drop, append-nil, length-append, length-take, arith}
+use Rattle.std.proofs.Common.{rules, ◌≡◌, ap, [], ◌++◌, length, take, drop, append-nil, length-append, length-take}
+use Rattle.std.proofs.Common.{arith}
 use Rattle.std.proofs.lemmas.List.{take-append-le}
 use Rattle.io_ports.specs.Reads.{Gives}
 use Rattle.io_ports.proofs.SourceReads.{all_given, more_given, give_then, give_then_fail}
@@ -44,4 +45,5 @@ loop-block-preserved g c =
     }
 
 pub returns-clause-too_long : goal.returns-clause-too_long
-returns-clause-too_long g c = λ is. more_given _ _ c.loop-block.bytes.items c.args.limit c.loop-block.invariant.given.given (omega arith)
+returns-clause-too_long g c =
+    λ is. more_given _ _ c.loop-block.bytes.items c.args.limit c.loop-block.invariant.given.given (omega arith)

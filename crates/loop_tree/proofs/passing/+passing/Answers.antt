@@ -1,4 +1,5 @@
-use Rattle.std.proofs.Common.{rules, to_z, of_z, refl, Bool, true, ℤ, List, [], map, ◌++◌, ◌≡◌, ◌∙◌, ◌<◌, ◌+◌, ◌∷◌, get_or, length, ap, sym, subst, arith}
+use Rattle.std.proofs.Common.{rules, to_z, of_z, refl, Bool, true, ℤ, List, [], map, ◌++◌, ◌≡◌, ◌∙◌, ◌<◌, ◌+◌, ◌∷◌}
+use Rattle.std.proofs.Common.{get_or, length, ap, sym, subst, arith}
 use Rattle.loop_tree.specs.steps.Chain.{values_in}
 use Rattle.loop_tree.specs.steps.Going.{CanGo, CanTurn, HasGone, HasTurned}
 use Rattle.loop_tree.specs.steps.Passing.{passed_in}

@@ -19,7 +19,8 @@ use Rattle.loop_tree.proofs.Weights.{node_weight, weight, weight_all}
 use Rattle.loop_tree.specs.declared.outer.Outer.TheVariants.{Within}
 use Rattle.loop_tree.proofs.Chains.{values_at}
 use Rattle.loop_tree.proofs.VisitPlaces.{at_next, at_restarted, begun_last, go_guard, go_loop, go_node, go_turn}
-use Rattle.loop_tree.proofs.VisitPlaces.{gone_guard, gone_instance, gone_loop, gone_node, length-marks, length-restarted, node_done}
+use Rattle.loop_tree.proofs.VisitPlaces.{gone_guard, gone_instance, gone_loop, gone_node, length-marks}
+use Rattle.loop_tree.proofs.VisitPlaces.{length-restarted, node_done}
 use Rattle.loop_tree.proofs.VisitPlaces.{rest_end, rest_guard, rest_loop, rest_stopped, turns_fewer, turns_next}
 use Rattle.loop_tree.proofs.spot.+going.Goals as goal
 

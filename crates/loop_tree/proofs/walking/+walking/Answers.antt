@@ -17,7 +17,8 @@ use Rattle.loop_tree.specs.declared.outer.Outer.TheVariants.{Within}
 use Rattle.loop_tree.specs.declared.tree.Node.{Node}
 use Rattle.loop_tree.specs.declared.tree.Test.{Test as CodeTest}
 use Rattle.loop_tree.proofs.WalkSteps.{shown_by, shown_here, so_far_ends, so_far_step, walk_first, walk_rest, SoFar}
-use Rattle.loop_tree.proofs.WalkSteps.{leaf_held, loop_shown, shown_none, shown_turn, turns_shown, walk_guarded, walk_turn}
+use Rattle.loop_tree.proofs.WalkSteps.{leaf_held, loop_shown, shown_none, shown_turn, turns_shown, walk_guarded}
+use Rattle.loop_tree.proofs.WalkSteps.{walk_turn}
 use Rattle.loop_tree.proofs.Weights.{node_here, node_weight, weight, weight_all}
 use Rattle.loop_tree.proofs.walking.+walking.Goals as goal
 
@@ -262,7 +263,8 @@ walk_node-returns-then-all_hold g t c =
     ap tree_of c.in-Guard.is ∙ tree_guard c.in-Guard.guard c.in-Guard.body in
     let told = c.all_hold.ensures
     ∙ ap (λ (ts : List CodeTest). all_hold (map test_of ts) point) c.deref-in-Guard.ensures.value in
-    let shown = ap (λ (ts : Trees). map given (walk_all ts params outer)) (ap nodes_of c.deref-then-all_hold.ensures.value)
+    let shown = ap (λ (ts : Trees). map given (walk_all ts params outer))
+    (ap nodes_of c.deref-then-all_hold.ensures.value)
     ∙ (ap (λ (b : Bool). map given (if b then walk_all body params outer else [])) (sym (sym told ∙ c.if-all_hold.true))
     ∙ ap (λ (u : Tree). map given (walk u params outer)) (sym t_is)) in
     λ l s.

@@ -60,7 +60,8 @@ items_are c =
     let first = ap (λ (ks : List CodeMark). length (marks_of ks)) c.as_mut_slice-marks.ensures.value in
     let kept = c.next_of-found.ensures.gone.room in
     let passed = c.pass_by-passed.ensures.gone.room in
-    with_items_is c.args.self.now.marks c.pass_by-passed.new.marks (omega (arith, l, n, first, kept, passed, c.args.self.now.marks.ok.0))
+    with_items_is c.args.self.now.marks c.pass_by-passed.new.marks
+    (omega (arith, l, n, first, kept, passed, c.args.self.now.marks.ok.0))
 
 pub returns-clause-rest : goal.returns-clause-rest
 returns-clause-rest c =
@@ -75,7 +76,8 @@ returns-clause-rest c =
     let gone : rest_of ts (marks_of s.marks.items) params [] ≡ found ++ rest_of ts mid params [] =
     subst (λ (os : List ℤ). rest_of ts (marks_of s.marks.items) params os ≡ found ++ rest_of ts mid params os)
     values_top
-    (subst (λ (ks : List CodeMark). HasGone ts (marks_of ks) mid found params (values_in Top)) c.as_mut_slice-marks.ensures.value
+    (subst (λ (ks : List CodeMark). HasGone ts (marks_of ks) mid found params (values_in Top))
+    c.as_mut_slice-marks.ensures.value
     c.next_of-found.ensures.gone).rest in
     let passed : rest_of ts mid params [] ≡ passed_in c.pass_by-passed.result ++ rest_of ts new params [] =
     subst (λ (os : List ℤ). rest_of ts mid params os ≡ passed_in c.pass_by-passed.result ++ rest_of ts new params os)
@@ -101,7 +103,8 @@ returns-clause-none c = λ none.
     ap₂ (λ (is js : List Instance). is ++ (js ++ rest_of ts (marks_of s.marks.items) params []))
     (nothing_left s.stretch c.requires.stretch) c.requires.braid
     ∙ subst (λ (os : List ℤ). rest_of ts (marks_of s.marks.items) params os ≡ []) values_top
-    (subst (λ (ks : List CodeMark). rest_of ts (marks_of ks) params (values_in Top) ≡ []) c.as_mut_slice-marks.ensures.value
+    (subst (λ (ks : List CodeMark). rest_of ts (marks_of ks) params (values_in Top) ≡ [])
+    c.as_mut_slice-marks.ensures.value
     (c.next_of-found.ensures.none none))
 
 pub returns-clause-spot : goal.returns-clause-spot
@@ -115,7 +118,8 @@ returns-clause-spot c =
     let kept = c.next_of-found.ensures.gone.room in
     let passed = c.pass_by-passed.ensures.gone.room in
     record {
-      room = ap (λ (ks : List CodeMark). length ks) (items_are c) ∙ omega (arith, l, n, first, kept, passed, c.requires.spot.room);
+      room = ap (λ (ks : List CodeMark). length ks) (items_are c) ∙ omega
+          (arith, l, n, first, kept, passed, c.requires.spot.room);
       stands = subst (λ (ks : List CodeMark). IsAt ts (marks_of ks) params []) (sym (items_are c))
           (subst (λ (os : List ℤ). IsAt ts (marks_of new) params os) values_top c.pass_by-passed.ensures.gone.stands);
       held = c.replace.ensures.held;
