@@ -13,7 +13,7 @@ rounds=${1:-5}
 work=$(mktemp -d)
 trap 'rm -rf "$work"' EXIT
 (cd "$root/crates/bench_cases" && rt run -- conflicts 1 <stdin >/dev/null 2>"$work/log" &&
-  cd ../planner_cases && rt run <stdin >/dev/null 2>"$work/log") || { cat "$work/log" >&2; exit 1; }
+  cd ../test_cases && rt run <stdin >/dev/null 2>"$work/log") || { cat "$work/log" >&2; exit 1; }
 baseline=
 if gcc -O2 -o "$work/baseline" "$root/bench/farkas_baseline.c" -lisl 2>"$work/missing"; then
   baseline=$work/baseline
@@ -21,4 +21,4 @@ else
   echo "libisl-dev is missing: no ratio"
 fi
 python3 -B "$root/bench/farkas.py" "$root/crates/bench_cases/out/bench_cases" \
-  "$root/crates/planner_cases/out/planner_cases" "$baseline" "$rounds" "$@"
+  "$root/crates/test_cases/out/test_cases" "$baseline" "$rounds" "$@"

@@ -1,6 +1,6 @@
 /* The rows of dependences by Farkas's lemma with isl: for each case the matching of coefficients as a rational basic set,
    m0 and the multipliers projected out one after another, redundant constraints removed behind each. Reads cases as
-   planner_cases does, without answers, and prints how many constraints are left. */
+   test_cases does, without answers, and prints how many constraints are left. */
 #include <isl/constraint.h>
 #include <isl/ctx.h>
 #include <isl/set.h>

@@ -1,4 +1,4 @@
-"""The kernels of files like those of examples/, and of records of calls, as crates/command_cases reads them."""
+"""The kernels of files like those of examples/, and of records of calls, as crates/test_cases reads them."""
 
 import os
 
@@ -16,7 +16,7 @@ def kernel_of(file):
 
 def records_in(text):
     """The names and inputs of records: `case NAME EXIT INPUT OUT ERR WORD ..`, then three texts of these lengths."""
-    while text:
+    while text.startswith("case "):
         head, _, text = text.partition("\n")
         words = head.split()
         lengths = [int(length) + 1 for length in words[3:6]]

@@ -1,7 +1,8 @@
-"""Times solver_cases against isl on the cases of a file that have a quast, with and without parameters apart. Called by
+"""Times test_cases against isl on the cases of a file that have a quast, with and without parameters apart. Called by
 lexmin.sh. Both programs read the same text and solve each problem TIMES times over; what they take with TIMES at 1 is
 taken off, so that neither reading nor printing is in the time."""
 
+import re
 import sys
 import tempfile
 
@@ -14,8 +15,8 @@ rounds = rounds_of(sys.argv[4:], 5)
 programs = {"polypar": program}
 if baseline:
     programs["isl"] = baseline
-with open(cases_file) as text:
-    cases = ["problem " + case for case in text.read().split("problem ")[1:]]
+with open(cases_file, encoding="latin-1", newline="") as text:
+    cases = re.findall(r"^problem .*\n(?:(?:row|context) .*\n)*answer .*\n", text.read(), re.MULTILINE)
 
 
 def moves_of(case):

@@ -1,5 +1,5 @@
 #!/bin/sh
-# Times the parametric lexicographic minimum of crates/solver_cases against isl on the same problems (a C program of
+# Times the parametric lexicographic minimum of crates/test_cases against isl on the same problems (a C program of
 # ours that calls isl_basic_set_lexmin; left out where the library is missing). Solving alone is measured, on both
 # sides: each problem is solved many times over and once, and the difference is taken, so that reading, printing and
 # starting fall out. Ours has in it a copy of the problem for each call, since the call takes the problem over; isl's
@@ -10,14 +10,14 @@
 set -eu
 root=$(CDPATH= cd -- "$(dirname -- "$0")/.." && pwd)
 rounds=${1:-}
-cases=${2:-$root/crates/solver_cases/stdin}
+cases=${2:-$root/crates/test_cases/stdin}
 work=$(mktemp -d)
 trap 'rm -rf "$work"' EXIT
-(cd "$root/crates/solver_cases" && rt run <stdin >/dev/null 2>"$work/log") || { cat "$work/log" >&2; exit 1; }
+(cd "$root/crates/test_cases" && rt run <stdin >/dev/null 2>"$work/log") || { cat "$work/log" >&2; exit 1; }
 baseline=
 if gcc -O2 -o "$work/baseline" "$root/bench/lexmin_isl.c" -lisl 2>/dev/null; then
     baseline=$work/baseline
 else
     echo "isl is missing (libisl-dev): no comparison"
 fi
-python3 -B "$root/bench/lexmin.py" "$root/crates/solver_cases/out/solver_cases" "$baseline" "$cases" $rounds
+python3 -B "$root/bench/lexmin.py" "$root/crates/test_cases/out/test_cases" "$baseline" "$cases" $rounds

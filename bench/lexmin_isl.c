@@ -1,4 +1,4 @@
-/* Reads problems as solver_cases does, and finds the lexicographic minimum of each with isl, TIMES times over; prints
+/* Reads problems as test_cases does, and finds the lexicographic minimum of each with isl, TIMES times over; prints
    how many problems there were. usage: lexmin_isl [TIMES] */
 #include <isl/constraint.h>
 #include <isl/ctx.h>

@@ -1,7 +1,8 @@
 #!/bin/sh
 # Runs each kernel of examples/ and compares what it prints with the arrays beside it, and its schedule, the sources of
-# its reads and its emitted text with those beside it, which are compiled and run where there is a compiler; looks that the stored calls of crates/command_cases have each of these files, byte
-# for byte; and that a process ends with each exit status that its streams can be brought to give.
+# its reads and its emitted text with those beside it, which are compiled and run where there is a compiler; looks that
+# the stored calls of crates/test_cases have each of these files, byte for byte; and that a process ends with each exit
+# status that its streams can be brought to give.
 set -u
 root=$(CDPATH= cd -- "$(dirname -- "$0")/.." && pwd)
 failed=0
@@ -24,7 +25,7 @@ for kernel in "$@"; do
     compare deps "$kernel" "${kernel%.c}.deps"
     compare emit "$kernel" "${kernel%.c}.emit.c"
     python3 -c 'import sys; sys.exit(open(sys.argv[1], "rb").read() not in open(sys.argv[2], "rb").read())' \
-        "$kernel" "$root/crates/command_cases/stdin" || {
+        "$kernel" "$root/crates/test_cases/stdin" || {
         failed=$((failed + 1))
         echo "$kernel is not among the stored calls"
     }

@@ -1,0 +1,11 @@
+use Rattle.std.proofs.Common.{◌≡◌, pos, [], ◌∷◌}
+use Rattle.whole_numbers.specs.Affine.{form_of}
+use Rattle.quast_trees.specs.Postfix.{tree_of}
+use Rattle.quast_trees.specs.Mapped.{Suits}
+use Rattle.test_calls.proofs.trees.staircase.Given as goal
+
+abbrev pub invariant-loop-place : goal.invariant-loop-place
+invariant-loop-place l = record {
+  parameters : l.quast.parameters ≡ 1;
+  leaves : Suits (form_of (pos 1 ∷ []) (pos 7) ∷ []) (tree_of l.quast);
+}
