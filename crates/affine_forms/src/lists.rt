@@ -1,6 +1,8 @@
-//! Lists that grow by one, where what finds no room is dropped, and copies of forms.
+//! Lists that grow by one, where what finds no room is dropped, copies of forms, and forms over one variable more.
 
-ghost use Rattle.std.specs.Prelude.{◌≡◌, [], ◌∷◌, ◌++◌, IfOk, OnErr, OnOk};
+ghost use Rattle.std.specs.Prelude.{◌≡◌, ◌≤◌, [], ◌∷◌, ◌++◌, All, IfOk, OnErr, OnOk, map};
+ghost use Rattle.whole_numbers.specs.Affine.{widened};
+ghost use Rattle.affine_forms.specs.Parts.{variables_of};
 
 use crate::form::Form;
 use std::alloc::{AllocError, Global};
@@ -62,4 +64,40 @@ pub fn copies(alloc: Global, forms: &[Form]) -> Result<Vec<Form>, AllocError>
             Ok(()) => Ok(copied),
         },
     }
+}
+
+/// The form over one variable more, at a place, of which it does not speak.
+fn widen(alloc: Global, form: &Form, place: usize) -> Result<Form, AllocError>
+    requires { place ≤ variables_of form.now }
+    ensures { IfOk result (λ f. f ≡ widened place form.now) }
+{
+    let mut numbers = Vec::from_slice(alloc, form.coefficients())?;
+    match numbers.insert(place, 0i128) {
+        Err(_) => return Err(AllocError),
+        Ok(()) => {}
+    }
+    match Form::of(alloc, &numbers, form.constant()) {
+        Err(_) => Err(AllocError),
+        Ok(wide) => Ok(wide),
+    }
+}
+
+/// Forms more at the end, each over one variable more, at a place, of which it does not speak.
+///
+/// # Errors
+/// `AllocError` alone.
+pub fn push_widened(
+    alloc: Global,
+    out: &mut Vec<Form>,
+    forms: &[Form],
+    place: usize,
+) -> Result<(), AllocError>
+    requires { All (λ f. place ≤ variables_of f) forms.now }
+    ensures { OnOk result (out.new.items ≡ out.old.items ++ map (widened place) forms.now) }
+{
+    for form in forms {
+        let wide = widen(alloc, form, place)?;
+        push(out, wide)?;
+    }
+    Ok(())
 }

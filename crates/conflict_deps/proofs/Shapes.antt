@@ -87,23 +87,6 @@ size-step n d k =
 pub size-one : (n : ℕ) → form_size (one_form n) ≡ 1
 size-one n = let z = size-zeros n in omega arith
 
--- forms made from others one by one: one form more, and all of them
-pub forms_more : (f : Affine → Affine) (xs : List Affine) (at : ℕ) (x y : Affine) (out next whole : List Affine)
-    → at < length xs
-    → x ≡ get_or xs at x → y ≡ f x → next ≡ out ++ y ∷ [] → out ++ map f (drop at xs) ≡ whole
-    → next ++ map f (drop (at + 1) xs) ≡ whole
-forms_more f xs at x y out next whole h found made grown so_far =
-    let rest = map f (drop (at + 1) xs) in
-    let here : map f (drop at xs) ≡ f x ∷ rest = rw (drop-cons xs at x h, ← found, add-one at) refl in
-    ap (λ (ys : List Affine). ys ++ rest) grown ∙ (append_assoc out (y ∷ []) rest
-    ∙ (ap (λ (z : Affine). out ++ z ∷ rest) made ∙ (ap (λ (ys : List Affine). out ++ ys) (sym here) ∙ so_far)))
-
-pub forms_end : (f : Affine → Affine) (xs : List Affine) (at : ℕ) (out whole : List Affine) → length xs ≤ at
-    → out ++ map f (drop at xs) ≡ whole → out ≡ whole
-forms_end f xs at out whole past so_far =
-    sym (append-nil out)
-    ∙ (ap (λ (ys : List Affine). out ++ map f ys) (sym (drop_of_length-le xs past)) ∙ so_far)
-
 -- equal subscripts, one more
 pub cells_more : (d e : ℕ) (fs gs : List Affine) (at : ℕ) (f g h : Affine) (out next whole : List Affine)
     → at < length fs → at < length gs → f ≡ get_or fs at f → g ≡ get_or gs at g

@@ -1,7 +1,7 @@
 -- What stands round a statement gone through one by one: its rows, the lengths of its forms, and their sizes.
 use Rattle.std.proofs.Common.{◌≡◌, ℕ, zero, suc, ◌+◌, ◌-◌, ◌*◌, ◌^◌, ◌<◌, ◌≤◌, pos, List, [], ◌∷◌, ◌++◌, length, map}
 use Rattle.std.proofs.Common.{drop, get_or, ap, ap₂, subst, sym, ◌∙◌, refl, arith, add-one, drop-cons, length-append}
-use Rattle.std.proofs.Common.{mul-le-mul, append-nil, drop_of_length-le}
+use Rattle.std.proofs.Common.{mul-le-mul}
 use Rattle.std.specs.Prelude.{All}
 use Rattle.std.proofs.Math.ListN.{length-set}
 use Rattle.std.proofs.lemmas.List.{append_assoc}
@@ -211,18 +211,3 @@ variables_step fs next whole f n from step count h so_far is pushed =
     ap (λ (gs : List Affine). gs ++ rest) (pushed ∙ ap (λ (h : Affine). fs ++ h ∷ []) is)
     ∙ (append_assoc fs (variable n (from + step) ∷ []) rest
     ∙ (ap (λ (gs : List Affine). fs ++ gs) (sym here) ∙ so_far))
-
--- a list made from another entry by entry: one entry more, and all of them
-pub map_step : {A B : Type 0} (f : A → B) (xs : List A) (i : ℕ) (x : A) (y : B) (done next : List B) → i < length xs
-    → x ≡ get_or xs i x → y ≡ f x → next ≡ done ++ y ∷ [] → done ++ map f (drop i xs) ≡ map f xs
-    → next ++ map f (drop (i + 1) xs) ≡ map f xs
-map_step f xs i x y done next h at made grown all =
-    let rest = map f (drop (i + 1) xs) in
-    let here : map f (drop i xs) ≡ f x ∷ rest = rw (drop-cons xs i x h, ← at, add-one i) refl in
-    ap (λ ys. ys ++ rest) grown ∙ (append_assoc done (y ∷ []) rest
-    ∙ (ap (λ z. done ++ z ∷ rest) made ∙ (ap (λ ys. done ++ ys) (sym here) ∙ all)))
-
-pub map_all : {A B : Type 0} (f : A → B) (xs : List A) (i : ℕ) (done : List B) → length xs ≤ i
-    → done ++ map f (drop i xs) ≡ map f xs → done ≡ map f xs
-map_all f xs i done h all =
-    sym (append-nil done) ∙ (ap (λ (ys : List _). done ++ map f ys) (sym (drop_of_length-le xs h)) ∙ all)

@@ -1,22 +1,22 @@
 -- Pieces of a dimension serve their sets; from the outermost dimension on the tree is exact.
-use Rattle.std.proofs.Common.{◌≡◌, ℕ, zero, suc, ℤ, pos, List, [], ◌∷◌, ◌++◌, length, map, inl, inr, ap, subst, sym}
+use Rattle.std.proofs.Common.{◌≡◌, ℕ, zero, suc, ℤ, List, [], ◌∷◌, ◌++◌, length, map, inl, inr, ap, subst, sym}
 use Rattle.std.proofs.Common.{refl, ◌∙◌}
 use Rattle.std.specs.Prelude.{◌≤ℤ◌}
-use Rattle.whole_numbers.specs.Affine.{Affine}
+use Rattle.whole_numbers.specs.Affine.{Affine, widened}
 use Rattle.loop_tree.specs.Tree.{Trees}
 use Rattle.loop_tree.specs.Walk.{lower, upper, walk_all}
 use Rattle.loop_tree.specs.Scans.{Within, Spans, SpansAll, Scans, ScansAll, Exact}
 use Rattle.integer_sets.specs.Scanned.{Scanned}
 use Rattle.plain_scan.specs.Sets.{AllAtLeast, Keys, KeysAt, HaveDimensions, NumbersRise, row_tests, under}
 use Rattle.plain_scan.specs.Sets.{Leaf, sets_of, AreTested, leaves}
-use Rattle.plain_scan.specs.Rows.{low_bounds, high_bounds, AreLow, AreHigh, widened, IsPlace, ServesOn}
+use Rattle.plain_scan.specs.Rows.{low_bounds, high_bounds, AreLow, AreHigh, IsPlace, ServesOn}
 use Rattle.fm_projection.specs.Alone.{AreInRange}
 use Rattle.fm_projection.proofs.WholePoints.{one_more}
 use Rattle.plain_scan.specs.Rows.{deeper}
 use Rattle.plain_scan.specs.Pieces.{Piece, bounding, loop_of, loops_of, LiesIn, InSome, IsPiece, ArePieces, AreEnough}
 use Rattle.plain_scan.proofs.Nodes.{loop_scans, leaves_serve, length_end, serves_exact, rows_hold}
 use Rattle.plain_scan.proofs.Nodes.{hold_rows, under_spans, spans_under, under_scans}
-use Rattle.plain_scan.proofs.Rows.{value_widened, lows_to, lows_from, highs_to, highs_from}
+use Rattle.plain_scan.proofs.Rows.{widened_hold, lows_to, lows_from, highs_to, highs_from}
 
 pub all_append : (fs gs : List Affine) (point : List ℤ) → AllAtLeast fs point → AllAtLeast gs point
     → AllAtLeast (fs ++ gs) point
@@ -28,14 +28,6 @@ pub append_all : (fs gs : List Affine) (point : List ℤ) → AllAtLeast (fs ++ 
 append_all [] gs point h = (tt, h)
 append_all (f ∷ fs) gs point h = let r = append_all fs gs point h.1 in ((h.0, r.0), r.1)
 
-pub widened_all : (fs : List Affine) (outer : List ℤ) (x : ℤ) (params : List ℤ) → AllAtLeast fs (outer ++ params)
-    → AllAtLeast (map (widened (length outer)) fs) (outer ++ x ∷ params)
-widened_all [] outer x params h = tt
-widened_all (f ∷ fs) outer x params h = (
-  subst (λ z. pos 0 ≤ℤ z) (sym (value_widened outer x params f)) h.0,
-  widened_all fs outer x params h.1,
-)
-
 -- one place deeper
 pub deeper_place : (m : ℕ) (context rows : List Affine) (params outer : List ℤ) (x : ℤ)
     → IsPlace m context params outer → AllAtLeast rows (outer ++ x ∷ params)
@@ -44,8 +36,7 @@ deeper_place m context rows params outer x place h = record {
   parameters = place.parameters;
   size = length_end outer x ∙ ap suc place.size;
   inside =
-      let w = subst (λ n. AllAtLeast (map (widened n) context) (outer ++ x ∷ params)) place.size
-      (widened_all context outer x params place.inside) in
+      let w = widened_hold m context outer x params place.size place.inside in
       subst (AllAtLeast (map (widened m) context ++ rows)) (sym (one_more outer x params))
       (all_append (map (widened m) context) rows (outer ++ x ∷ params) w h);
 }

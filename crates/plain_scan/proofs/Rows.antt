@@ -1,18 +1,18 @@
 -- Rows as bounds, hulls, pieces.
-use Rattle.std.proofs.Common.{◌≡◌, ℤ, pos, List, [], ◌∷◌, ◌++◌, length, get_or, subst, sym, refl, arith}
+use Rattle.std.proofs.Common.{◌≡◌, ℕ, ℤ, pos, List, [], ◌∷◌, ◌++◌, length, map, get_or, subst, sym, refl, arith}
 use Rattle.std.specs.Prelude.{neg_ℤ, ◌+ℤ◌, ◌*ℤ◌, ◌≤ℤ◌, ◌<ℤ◌}
 use Rattle.std.proofs.lemmas.Int.{ints}
 use Rattle.whole_numbers.specs.Lists.{dot}
 use Rattle.whole_numbers.specs.Floor.{floor, ceiling}
-use Rattle.whole_numbers.specs.Affine.{Affine, value_of, multiple_of_form}
+use Rattle.whole_numbers.specs.Affine.{Affine, value_of, multiple_of_form, widened}
 use Rattle.fractions.specs.Elimination.{coefficient_of, removed, narrowed}
 use Rattle.loop_tree.proofs.Extremes.{max_below, below_max, above_min, min_above}
 use Rattle.whole_numbers.proofs.Ring.{mul_zero_left, mul_comm_int, mul_neg_left, mul_neg_right, mul_one_left}
-use Rattle.whole_numbers.proofs.Values.{value_of-multiple}
+use Rattle.whole_numbers.proofs.Values.{value_of-multiple, value_of-widened}
 use Rattle.whole_numbers.proofs.Floors.{floor_is, ceiling_is, floor_at_least, ceiling_at_most}
 use Rattle.loop_tree.specs.Walk.{lower, upper}
 use Rattle.plain_scan.specs.Sets.{AllAtLeast}
-use Rattle.plain_scan.specs.Rows.{low_bound, high_bound, low_bounds, high_bounds, AreLow, AreHigh, with_zero, widened}
+use Rattle.plain_scan.specs.Rows.{low_bound, high_bound, low_bounds, high_bounds, AreLow, AreHigh}
 
 -- a row is a multiple of the loop's value plus a rest
 dot_split : (outer : List ℤ) (x : ℤ) (params cs : List ℤ)
@@ -28,16 +28,22 @@ pub value_split : (outer : List ℤ) (x : ℤ) (params : List ℤ) (f : Affine)
     (narrowed (length outer) f) (outer ++ params)
 value_split outer x params f = let d = dot_split outer x params f.coefficients in omega (arith, ints)
 
-dot_zero : (outer : List ℤ) (x : ℤ) (params cs : List ℤ)
-    → dot (with_zero (length outer) cs) (outer ++ x ∷ params) ≡ dot cs (outer ++ params)
-dot_zero [] x params [] = refl
-dot_zero (y ∷ outer) x params [] = refl
-dot_zero [] x params (c ∷ cs) = let z = mul_zero_left x in omega (arith, ints)
-dot_zero (y ∷ outer) x params (c ∷ cs) = let r = dot_zero outer x params cs in omega (arith, ints)
+-- rows that do not speak of a loop's value hold within it where they hold round it
+pub widened_hold : (m : ℕ) (fs : List Affine) (outer : List ℤ) (x : ℤ) (rest : List ℤ) → length outer ≡ m
+    → AllAtLeast fs (outer ++ rest) → AllAtLeast (map (widened m) fs) (outer ++ x ∷ rest)
+widened_hold m [] outer x rest size h = tt
+widened_hold m (f ∷ fs) outer x rest size h = (
+  subst (λ z. pos 0 ≤ℤ z) (sym (value_of-widened m f outer x rest size)) h.0,
+  widened_hold m fs outer x rest size h.1,
+)
 
-pub value_widened : (outer : List ℤ) (x : ℤ) (params : List ℤ) (f : Affine)
-    → value_of (widened (length outer) f) (outer ++ x ∷ params) ≡ value_of f (outer ++ params)
-value_widened outer x params f = let d = dot_zero outer x params f.coefficients in omega (arith, ints)
+pub widened_held : (m : ℕ) (fs : List Affine) (outer : List ℤ) (x : ℤ) (rest : List ℤ) → length outer ≡ m
+    → AllAtLeast (map (widened m) fs) (outer ++ x ∷ rest) → AllAtLeast fs (outer ++ rest)
+widened_held m [] outer x rest size h = tt
+widened_held m (f ∷ fs) outer x rest size h = (
+  subst (λ z. pos 0 ≤ℤ z) (value_of-widened m f outer x rest size) h.0,
+  widened_held m fs outer x rest size h.1,
+)
 
 -- one row, one bound
 low_to : (a r x : ℤ) → pos 0 <ℤ a → pos 0 ≤ℤ ((a *ℤ x) +ℤ r) → ceiling (neg_ℤ r) a ≤ℤ x

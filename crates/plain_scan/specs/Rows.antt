@@ -1,6 +1,6 @@
 -- Rows of a projection as the bounds of a loop, and what a scanner's call establishes.
-use Rattle.std.specs.Prelude.{◌≡◌, ℕ, zero, suc, ℤ, pos, neg_ℤ, ◌<ℤ◌, List, [], ◌∷◌, ◌++◌, length, map, ⊤}
-use Rattle.whole_numbers.specs.Affine.{Affine, multiple_of_form}
+use Rattle.std.specs.Prelude.{◌≡◌, ℕ, ℤ, pos, neg_ℤ, ◌<ℤ◌, List, [], ◌∷◌, ◌++◌, length, map, ⊤}
+use Rattle.whole_numbers.specs.Affine.{Affine, multiple_of_form, widened}
 use Rattle.fractions.specs.Elimination.{coefficient_of, narrowed}
 use Rattle.loop_tree.specs.Tree.{Bound, Bounds, only, besides, Trees}
 use Rattle.integer_sets.specs.Scanned.{Scanned}
@@ -31,15 +31,6 @@ AreLow m (f ∷ fs) = (pos 0 <ℤ coefficient_of m f) × AreLow m fs
 abbrev pub AreHigh : ℕ → List Affine → Type 0
 AreHigh m [] = ⊤
 AreHigh m (f ∷ fs) = (coefficient_of m f <ℤ pos 0) × AreHigh m fs
-
--- a column of zeros at place m
-abbrev pub with_zero : ℕ → List ℤ → List ℤ
-with_zero m [] = []
-with_zero zero (c ∷ cs) = pos 0 ∷ c ∷ cs
-with_zero (suc m) (c ∷ cs) = c ∷ with_zero m cs
-
-abbrev pub widened : ℕ → Affine → Affine
-widened m f = record { coefficients = with_zero m f.coefficients; constant = f.constant }
 
 -- m outer values at which the context's rows hold
 pub record IsPlace (m : ℕ) (context : List Affine) (params outer : List ℤ) : Type 0 where

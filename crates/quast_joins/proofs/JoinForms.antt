@@ -1,6 +1,6 @@
 -- The forms of a join, as the code puts them together.
-use Rattle.std.proofs.Common.{◌≡◌, ℕ, zero, suc, ◌+◌, ◌-◌, ◌<◌, ◌≤◌, ℤ, pos, negsuc, ◌+ℤ◌, ◌-ℤ◌, ◌*ℤ◌, List, [], ◌∷◌}
-use Rattle.std.proofs.Common.{◌++◌, length, map, get_or, take, drop, drop-cons, add-one, refl, sym, ap, ap₂, ◌∙◌}
+use Rattle.std.proofs.Common.{◌≡◌, ℕ, zero, suc, ◌+◌, ◌-◌, ◌≤◌, ℤ, pos, negsuc, ◌+ℤ◌, ◌-ℤ◌, ◌*ℤ◌, List, [], ◌∷◌}
+use Rattle.std.proofs.Common.{◌++◌, length, take, drop, refl, sym, ap, ap₂, ◌∙◌}
 use Rattle.std.proofs.Common.{arith, append_assoc}
 use Rattle.std.specs.Prelude.{neg_ℤ}
 use Rattle.std.proofs.lemmas.Int.{ints}
@@ -11,17 +11,6 @@ use Rattle.whole_numbers.specs.Affine.{Affine, form_of, sum_of_forms, multiple_o
 use Rattle.whole_numbers.proofs.Lists.{multiples-one}
 use Rattle.quast_joins.specs.Shifts.{shifted, shifted_form}
 use Rattle.quast_joins.specs.Joins.{less_by_one}
-
--- one form more of those that are mapped
-pub mapped_more : {A B : Type 0} (f : A → B) (xs : List A) (done next : List B) (i : ℕ) (x : A) (y : B) → i < length xs
-    → x ≡ get_or xs i x → y ≡ f x → next ≡ done ++ y ∷ [] → done ++ map f (drop i xs) ≡ map f xs
-    → next ++ map f (drop (i + 1) xs) ≡ map f xs
-mapped_more f xs done next i x y h at is pushed so_far =
-    let rest = map f (drop (i + 1) xs) in
-    let here : map f (drop i xs) ≡ f x ∷ rest = rw (drop-cons xs i x h, ← at, add-one i) refl in
-    ap (λ zs. zs ++ rest) pushed
-    ∙ (append_assoc done (y ∷ []) rest
-    ∙ (ap (λ z. done ++ (z ∷ rest)) is ∙ (ap (λ zs. done ++ zs) (sym here) ∙ so_far)))
 
 -- a list with zeros put in, in three parts
 shifted_parts : (n k : ℕ) (cs : List ℤ) → n ≤ length cs → shifted n k cs ≡ take n cs ++ (zeros k ++ drop n cs)

@@ -2,13 +2,12 @@
 use Rattle.std.proofs.Common.{◌≡◌, ℕ, zero, suc, ◌+◌, ◌<◌, ℤ, pos, negsuc, List, [], ◌∷◌, ◌++◌, length, take, get_or}
 use Rattle.std.proofs.Common.{map}
 use Rattle.std.proofs.Common.{refl, sym, ap, subst, ◌∙◌, All, arith}
-use Rattle.std.specs.Prelude.{◌≤◌, ◌≤ℤ◌}
+use Rattle.std.specs.Prelude.{◌≤ℤ◌}
 use Rattle.std.proofs.lemmas.Int.{ints}
 use Rattle.std.proofs.lemmas.List.Elements.{All-append, All-cons, All-head, All-nil, All-tail}
 use Rattle.std.proofs.Math.Seq.{get_or-append_seam}
-use Rattle.whole_numbers.specs.Affine.{Affine}
+use Rattle.whole_numbers.specs.Affine.{Affine, widened}
 use Rattle.whole_numbers.proofs.Ring.{mul_one_left}
-use Rattle.affine_forms.specs.Parts.{variables_of}
 use Rattle.fractions.specs.Elimination.{coefficient_of}
 use Rattle.fm_projection.specs.Alone.{place_form}
 use Rattle.fm_projection.proofs.Ranges.{place_value}
@@ -18,12 +17,12 @@ use Rattle.plain_scan.specs.Hulls.{AreHullRows, IsHull, IsHullRow}
 use Rattle.plain_scan.specs.Sets.{AllAtLeast}
 use Rattle.plain_scan.proofs.CodeBounds.{take_next}
 use Rattle.plain_scan.proofs.Pieces.{append_all}
+use Rattle.plain_scan.proofs.Rows.{widened_held}
 use Rattle.plain_scan.proofs.HullLoops.{own_coefficient}
-use Rattle.split_scan.specs.Questions.{AreNatural, IsCut, opened}
+use Rattle.split_scan.specs.Questions.{AreNatural, IsCut}
 use Rattle.split_scan.specs.Copies.{bounding_in, if_bounds}
 use Rattle.split_scan.specs.Bounding.{AreBars}
 use Rattle.split_scan.proofs.PartLoops.{ends}
-use Rattle.split_scan.proofs.Values.{value_opened}
 
 -- row by row
 bounds_append : (z : ℤ) (f : Affine) (xs ys : List Affine) → if_bounds z f (xs ++ ys) ≡ if_bounds z f xs ++ ys
@@ -95,25 +94,16 @@ hull_bars depth m n os fs gs inside h made =
     }
 
 -- values of a loop whose first row keeps it from being negative
-opened_back : (m : ℕ) (fs : List Affine) (outer : List ℤ) (x : ℤ) (rest : List ℤ) → length outer ≡ m
-    → All (λ f. m ≤ variables_of f) fs → AllAtLeast (map (opened m) fs) (outer ++ x ∷ rest)
-    → AllAtLeast fs (outer ++ rest)
-opened_back m [] outer x rest size few h = tt
-opened_back m (f ∷ fs) outer x rest size few h = (
-  subst (λ z. pos 0 ≤ℤ z) (value_opened m f outer x rest size (All-head (λ g. m ≤ variables_of g) f fs few)) h.0,
-  opened_back m fs outer x rest size (All-tail (λ g. m ≤ variables_of g) f fs few) h.1,
-)
-
 pub natural_inside : (m n : ℕ) (context rows : List Affine) (low : ℤ) (others : List Affine) → m < n
-    → All (λ f. m ≤ variables_of f) context → rows ≡ place_form n m (pos 1) low ∷ others → low ≤ℤ pos 0
-    → AreNatural m context → AreNatural (m + 1) (map (opened m) context ++ rows)
-natural_inside m n context rows low others inside few is less natural params point range size hold =
+    → rows ≡ place_form n m (pos 1) low ∷ others → low ≤ℤ pos 0
+    → AreNatural m context → AreNatural (m + 1) (map (widened m) context ++ rows)
+natural_inside m n context rows low others inside is less natural params point range size hold =
     let e = ends point m (let s : length point ≡ suc m = omega (arith, size) in s) in
-    let there = subst (AllAtLeast (map (opened m) context ++ rows)) (one_more e.front e.last params)
-    (subst (λ xs. AllAtLeast (map (opened m) context ++ rows) (xs ++ params)) e.is hold) in
-    let sides = append_all (map (opened m) context) rows (e.front ++ e.last ∷ params) there in
+    let there = subst (AllAtLeast (map (widened m) context ++ rows)) (one_more e.front e.last params)
+    (subst (λ xs. AllAtLeast (map (widened m) context ++ rows) (xs ++ params)) e.is hold) in
+    let sides = append_all (map (widened m) context) rows (e.front ++ e.last ∷ params) there in
     let outside = natural params e.front range e.size
-    (opened_back m context e.front e.last params e.size few sides.0) in
+    (widened_held m context e.front e.last params e.size sides.0) in
     let first = (subst (λ fs. AllAtLeast fs (e.front ++ e.last ∷ params)) is sides.1).0 in
     let v = place_value n m (pos 1) low (e.front ++ e.last ∷ params) inside in
     let x = subst (λ k. get_or (e.front ++ e.last ∷ params) k (pos 0) ≡ e.last) e.size

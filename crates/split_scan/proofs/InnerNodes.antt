@@ -5,7 +5,6 @@ use Rattle.std.specs.Prelude.{◌^◌, Option}
 use Rattle.std.proofs.lemmas.List.{map-append}
 use Rattle.std.proofs.lemmas.List.Elements.{All-cons, All-head, All-nil, All-tail}
 use Rattle.whole_numbers.specs.Affine.{Affine}
-use Rattle.affine_forms.specs.Parts.{variables_of}
 use Rattle.integer_sets.specs.Constraints.{variables_in}
 use Rattle.integer_sets.specs.Scanned.{Scanned}
 use Rattle.loop_tree.specs.Tree.{Tree, Trees, loop, more, none}
@@ -133,14 +132,12 @@ node_end left place p mark os context ts end shaped rise is =
 
 -- the hull's rows make a frame
 pub frame_is : (left place p : ℕ) (mark : Option ℕ) (os : List Outline) (context rows : List Affine)
-    → All (IsShaped (place + left) p) (sets_in os) → 0 < left → All (λ f. variables_of f ≡ place + p) context
-    → (bars : AreBars (left - 1) place (place + 1 + p) os rows)
+    → All (IsShaped (place + left) p) (sets_in os) → 0 < left → (bars : AreBars (left - 1) place (place + 1 + p) os rows)
     → IsFrame (frame_of place p mark (sets_in os) context bars.low bars.high bars.others)
-frame_is left place p mark os context rows shaped some sized bars =
+frame_is left place p mark os context rows shaped some bars =
     record {
       inside = omega arith;
       rows = subst (All (IsCut place (place + 1 + p))) bars.is bars.cuts;
-      known = λ k d inside. let e = sized k d inside in omega (arith, e);
       hold = λ params outer x r range size key.
           subst (λ fs. AllAtLeast fs (outer ++ x ∷ params)) bars.is
           (keys_hold (left - 1) place (place + 1 + p) os rows (shaped_dims place left p os shaped some) bars.rows

@@ -8,7 +8,7 @@ use Rattle.std.proofs.lemmas.Int.{ints}
 use Rattle.std.proofs.lemmas.List.{append-nil}
 use Rattle.std.proofs.lemmas.List.Elements.{All-append, All-head, All-tail}
 use Rattle.fm_projection.proofs.WholePoints.{one_more}
-use Rattle.whole_numbers.specs.Affine.{Affine, value_of}
+use Rattle.whole_numbers.specs.Affine.{Affine, value_of, widened}
 use Rattle.fractions.specs.Elimination.{coefficient_of}
 use Rattle.integer_sets.specs.Scanned.{Scanned}
 use Rattle.scop_syntax.specs.Members.{In}
@@ -17,21 +17,21 @@ use Rattle.loop_tree.specs.Tree.{Trees, more, none}
 use Rattle.loop_tree.specs.Walk.{walk, walk_all}
 use Rattle.loop_tree.specs.Fits.{AreSmallForms, AreSmallTrees}
 use Rattle.plain_scan.specs.Sets.{AllAtLeast}
-use Rattle.plain_scan.specs.Rows.{IsPlace, deeper, widened, low_bounds, high_bounds}
+use Rattle.plain_scan.specs.Rows.{IsPlace, deeper, low_bounds, high_bounds}
 use Rattle.plain_scan.specs.Pieces.{ArePieces, InSome, IsBelow, IsPiece, LiesIn, bounding, loop_of, loops_of}
 use Rattle.plain_scan.specs.Shape.{AreMarked, AreShaped, HaveFlatBodies}
 use Rattle.plain_scan.proofs.ScannedTrees.{IsRowOver, all_of_more, loop_shaped, row_over}
 use Rattle.plain_scan.specs.Sorting.{if_above, if_below, lows_in, highs_in}
 use Rattle.plain_scan.specs.Giving.{Gives, TurnsOn}
 use Rattle.plain_scan.specs.Hulls.{flags}
-use Rattle.plain_scan.proofs.Rows.{value_widened}
+use Rattle.plain_scan.proofs.Rows.{widened_held, widened_hold}
 use Rattle.plain_scan.proofs.Pieces.{all_append, append_all, dimension_serves}
 use Rattle.plain_scan.proofs.Shape.{flat_pieces, marks_pieces}
 use Rattle.plain_scan.proofs.SortedRows.{lows_are_low, highs_are_high, lows_hold, highs_hold, lows_of, highs_of}
 use Rattle.plain_scan.proofs.Smallness.{high_is_number, is_small, loop_small, low_is_number}
 use Rattle.plain_scan.proofs.VisitIterators.{loop_gives}
 use Rattle.plain_scan.proofs.HullLoops.{own_coefficient}
-use Rattle.split_scan.specs.Questions.{IsCut, IsIn, opened}
+use Rattle.split_scan.specs.Questions.{IsCut, IsIn}
 use Rattle.split_scan.specs.Parts.{InPart, IsPart, staying}
 use Rattle.split_scan.specs.Ordering.{AreParts, IsBelowAll, Rise}
 use Rattle.split_scan.specs.Nodes.{IsNode}
@@ -39,7 +39,6 @@ use Rattle.split_scan.specs.steps.Frames.{AreBodies, Frame, IsFrame, high_in, in
 use Rattle.split_scan.specs.steps.Frames.{rows_in}
 use Rattle.split_scan.specs.declared.part.Part.{Part}
 use Rattle.split_scan.proofs.NodeParts.{keys_of_all}
-use Rattle.split_scan.proofs.Values.{opened_hold}
 
 -- rows that bound a variable hold where their lower and their upper bounds do
 back_step : (z : ℤ) (f : Affine) (ls hs : List Affine) (point : List ℤ) → z ≢ pos 0 → AllAtLeast (if_above z f ls) point
@@ -80,8 +79,8 @@ is_in f is params outer x at rows =
     record {
       parameters = at.parameters;
       size = at.size;
-      hold = all_append (map (opened f.place) f.context) (rows_in f) (outer ++ x ∷ params)
-          (opened_hold f.place f.context outer x params at.size is.known at.inside) rows;
+      hold = all_append (map (widened f.place) f.context) (rows_in f) (outer ++ x ∷ params)
+          (widened_hold f.place f.context outer x params at.size at.inside) rows;
     }
 
 lies_from : (f : Frame) (p : Part) (body : Trees) → IsFrame f → All (IsCut f.place f.variables) p.cuts.items
@@ -126,14 +125,6 @@ ends (x ∷ y ∷ xs) (suc m) e =
     }
 
 -- what is known one place deeper
-widened_back : (fs : List Affine) (outer : List ℤ) (x : ℤ) (params : List ℤ)
-    → AllAtLeast (map (widened (length outer)) fs) (outer ++ x ∷ params) → AllAtLeast fs (outer ++ params)
-widened_back [] outer x params h = tt
-widened_back (f ∷ fs) outer x params h = (
-  subst (λ z. pos 0 ≤ℤ z) (value_widened outer x params f) h.0,
-  widened_back fs outer x params h.1,
-)
-
 inner_place : (f : Frame) (p : Part) (body : Trees) → IsFrame f → All (IsCut f.place f.variables) p.cuts.items
     → (params outer : List ℤ)
     → IsPlace (suc f.place) (deeper f.place (f.context ++ []) (bounding (piece_of f p body))) params outer
@@ -146,8 +137,7 @@ inner_place f p body is cuts params outer at =
     (subst (λ xs. AllAtLeast (deeper f.place (f.context ++ []) (bounding q)) (xs ++ params)) e.is at.inside) in
     let sides = append_all (map (widened f.place) (f.context ++ [])) (bounding q) point there in
     let bounds = append_all (q.low ∷ q.lows) (q.high ∷ q.highs) point sides.1 in
-    let round = widened_back (f.context ++ []) e.front e.last params
-    (subst (λ m. AllAtLeast (map (widened m) (f.context ++ [])) point) (sym e.size) sides.0) in
+    let round = widened_held f.place (f.context ++ []) e.front e.last params e.size sides.0 in
     let outside = (append_all f.context [] (e.front ++ params) round).0 in
     let rows = known_rows f p is cuts point bounds.0 bounds.1 in
     let here = is_in f is params e.front e.last (record {

@@ -2,7 +2,7 @@
 use Rattle.std.proofs.Common.{◌≡◌, ℕ, zero, suc, ◌+◌, ◌<◌, Bool, true, false, ℤ, pos, negsuc, List, [], ◌∷◌, ◌++◌}
 use Rattle.std.proofs.Common.{length, take, drop}
 use Rattle.std.proofs.Common.{get_or, map, set, ◌⊎◌, inl, inr, refl, sym, ap, subst, ◌∙◌, All, arith, length-append}
-use Rattle.std.specs.Prelude.{◌-◌, ◌≤◌, ◌≤ℤ◌, ◌<ℤ◌, ◌-ℤ◌, ◌*ℤ◌}
+use Rattle.std.specs.Prelude.{◌-◌, ◌≤ℤ◌, ◌<ℤ◌, ◌-ℤ◌, ◌*ℤ◌}
 use Rattle.std.proofs.lemmas.Int.{ints}
 use Rattle.std.proofs.lemmas.List.{get_or-set_other, length-set}
 use Rattle.std.proofs.lemmas.List.Elements.{All-append, All-cons, All-head, All-nil, All-tail}
@@ -11,7 +11,7 @@ use Rattle.std.proofs.Math.Seq.{get_or-append_seam}
 use Rattle.fm_projection.proofs.WholePoints.{one_more}
 use Rattle.integer_sets.specs.Scanned.{Scanned}
 use Rattle.whole_numbers.specs.Lists.{NotNegative, zeros}
-use Rattle.whole_numbers.specs.Affine.{Affine, value_of}
+use Rattle.whole_numbers.specs.Affine.{Affine, value_of, widened}
 use Rattle.whole_numbers.proofs.Lists.{not_negative_all}
 use Rattle.whole_numbers.proofs.Dot.{dot-set_left, dot-zeros, get_or-zeros, length-zeros}
 use Rattle.whole_numbers.proofs.Ring.{mul_one_left, mul_neg_left}
@@ -19,13 +19,14 @@ use Rattle.whole_numbers.proofs.Order.{le_or_lt}
 use Rattle.affine_forms.specs.Parts.{variables_of}
 use Rattle.plain_scan.specs.Sets.{AllAtLeast, Keys}
 use Rattle.plain_scan.proofs.Pieces.{all_append}
-use Rattle.split_scan.specs.Questions.{AreNatural, HasNone, IsCut, IsIn, opened}
+use Rattle.plain_scan.proofs.Rows.{widened_hold}
+use Rattle.split_scan.specs.Questions.{AreNatural, HasNone, IsCut, IsIn}
 use Rattle.split_scan.specs.Parts.{HasMarks, InPart, IsPart, staying}
 use Rattle.split_scan.specs.steps.Picking.{IsPicking}
 use Rattle.split_scan.proofs.NodeParts.{in_part_append}
 use Rattle.split_scan.specs.Ordering.{AreBelow, AreEnoughParts, AreParts, IsBelowAll, Rise, difference, turned}
 use Rattle.split_scan.specs.declared.part.Part.{Part}
-use Rattle.split_scan.proofs.Values.{one_point, one_size, opened_hold, opened_sized}
+use Rattle.split_scan.proofs.Values.{one_point, one_size, widened_sized}
 
 -- x - y
 entry_behind : (outer : List ℤ) (x y : ℤ) (rest : List ℤ)
@@ -70,7 +71,7 @@ append_two : (outer : List ℤ) (x y : ℤ) (rest : List ℤ) → (outer ++ x �
 append_two [] x y rest = refl
 append_two (z ∷ outer) x y rest = ap (λ (zs : List ℤ). z ∷ zs) (append_two outer x y rest)
 
--- rows of n variables, opened
+-- rows of n variables, one of which they do not speak
 pub turned_sized : (m n : ℕ) (inside ps qs : List Affine) → m + 1 < n → All (λ f. variables_of f + 1 ≡ n) inside
     → All (λ f. variables_of f + 1 ≡ n) ps → All (λ f. variables_of f + 1 ≡ n) qs
     → All (λ f. variables_of f ≡ n) (turned m n inside ps qs)
@@ -82,12 +83,10 @@ turned_sized m n inside ps qs less i p q =
     let upper = λ (k : ℕ) (d : Affine) (h : k < length (inside ++ qs)).
     let e = All-append (λ f. variables_of f + 1 ≡ n) inside qs i q k d h in less_one (variables_of (get_or
     (inside ++ qs) k d)) e in
-    let first = up (map (opened (m + 1)) (inside ++ ps)) (opened_sized (m + 1) (n - 1) (inside ++ ps) (omega
-    (arith, less)) lower) in
-    let second = up (map (opened m) (inside ++ qs)) (opened_sized m (n - 1) (inside ++ qs) (omega
-    (arith, less)) upper) in
-    All-append P (map (opened (m + 1)) (inside ++ ps) ++ map (opened m) (inside ++ qs)) (difference n m ∷ [])
-    (All-append P (map (opened (m + 1)) (inside ++ ps)) (map (opened m) (inside ++ qs)) first second)
+    let first = up (map (widened (m + 1)) (inside ++ ps)) (widened_sized (m + 1) (n - 1) (inside ++ ps) lower) in
+    let second = up (map (widened m) (inside ++ qs)) (widened_sized m (n - 1) (inside ++ qs) upper) in
+    All-append P (map (widened (m + 1)) (inside ++ ps) ++ map (widened m) (inside ++ qs)) (difference n m ∷ [])
+    (All-append P (map (widened (m + 1)) (inside ++ ps)) (map (widened m) (inside ++ qs)) first second)
     (All-cons P (difference n m) [] (length-set (set (zeros n) m (pos 1)) (m + 1) (negsuc 0)
     ∙ length-set (zeros n) m (pos 1) ∙ length-zeros n) (All-nil P))
   where
@@ -99,9 +98,8 @@ turned_sized m n inside ps qs less i p q =
 
 -- where no point has two values the other way round, each of the first part's is less
 pub below_of : (m n : ℕ) (inside ps qs : List Affine) → m + 1 < n → AreNatural (m + 1) inside
-    → All (λ f. m + 1 ≤ variables_of f) (inside ++ ps) → All (λ f. m ≤ variables_of f) (inside ++ qs)
     → HasNone (m + 2) (turned m n inside ps qs) → AreBelow m inside ps qs
-below_of m n inside ps qs less natural lower upper none params outer x y at_x at_y p q = by_order (le_or_lt y x)
+below_of m n inside ps qs less natural none params outer x y at_x at_y p q = by_order (le_or_lt y x)
   where
     point : List ℤ
     point = outer ++ x ∷ y ∷ params
@@ -114,15 +112,15 @@ below_of m n inside ps qs less natural lower upper none params outer x y at_x at
         ((not_negative_all (outer ++ y ∷ [])).1 (natural params (outer ++ y ∷ []) at_y.parameters
         (one_size outer y m at_y.size) (one_point inside outer y params at_y.hold)))
 
-    first : AllAtLeast (map (opened (m + 1)) (inside ++ ps)) point
+    first : AllAtLeast (map (widened (m + 1)) (inside ++ ps)) point
     first =
-        subst (AllAtLeast (map (opened (m + 1)) (inside ++ ps))) (one_more outer x (y ∷ params))
-        (opened_hold (m + 1) (inside ++ ps) (outer ++ x ∷ []) y params (one_size outer x m at_x.size) lower
+        subst (AllAtLeast (map (widened (m + 1)) (inside ++ ps))) (one_more outer x (y ∷ params))
+        (widened_hold (m + 1) (inside ++ ps) (outer ++ x ∷ []) y params (one_size outer x m at_x.size)
         (one_point (inside ++ ps) outer x params (all_append inside ps (outer ++ x ∷ params) at_x.hold p)))
 
-    second : AllAtLeast (map (opened m) (inside ++ qs)) point
+    second : AllAtLeast (map (widened m) (inside ++ qs)) point
     second =
-        opened_hold m (inside ++ qs) outer x (y ∷ params) at_x.size upper
+        widened_hold m (inside ++ qs) outer x (y ∷ params) at_x.size
         (all_append inside qs (outer ++ y ∷ params) at_y.hold q)
 
     by_order : (y ≤ℤ x) ⊎ (x <ℤ y) → x <ℤ y
@@ -134,8 +132,8 @@ below_of m n inside ps qs less natural lower upper none params outer x y at_x at
         (let s = at_x.size in omega (arith, length-append outer (x ∷ y ∷ []), s)) in
         absurd (none params (outer ++ x ∷ y ∷ []) at_x.parameters two positive
         (subst (AllAtLeast (turned m n inside ps qs)) (sym (append_two outer x y params))
-        (all_append (map (opened (m + 1)) (inside ++ ps) ++ map (opened m) (inside ++ qs)) (difference n m ∷ []) point
-        (all_append (map (opened (m + 1)) (inside ++ ps)) (map (opened m) (inside ++ qs)) point first second)
+        (all_append (map (widened (m + 1)) (inside ++ ps) ++ map (widened m) (inside ++ qs)) (difference n m ∷ []) point
+        (all_append (map (widened (m + 1)) (inside ++ ps)) (map (widened m) (inside ++ qs)) point first second)
         (last, tt))))
 
 -- below others, one by one

@@ -1,10 +1,10 @@
 -- Parts in order: the values of each are less than those of all behind it.
 use Rattle.std.specs.Prelude.{ℕ, ◌+◌, ◌<◌, ℤ, pos, negsuc, ◌<ℤ◌, List, [], ◌∷◌, ◌++◌, length, map, set, All, ⊤}
-use Rattle.whole_numbers.specs.Affine.{Affine, form_of}
+use Rattle.whole_numbers.specs.Affine.{Affine, form_of, widened}
 use Rattle.whole_numbers.specs.Lists.{zeros}
 use Rattle.integer_sets.specs.Scanned.{Scanned}
 use Rattle.plain_scan.specs.Sets.{AllAtLeast, Keys}
-use Rattle.split_scan.specs.Questions.{IsIn, opened}
+use Rattle.split_scan.specs.Questions.{IsIn}
 use Rattle.split_scan.specs.Parts.{InPart, IsPart, staying}
 use Rattle.split_scan.specs.declared.part.Part.{Part}
 
@@ -31,7 +31,7 @@ difference n m = form_of (set (set (zeros n) m (pos 1)) (m + 1) (negsuc 0)) (pos
 -- over the outer values, x, y and the parameters: x in the first part, y in the second, and x at least y
 abbrev pub turned : ℕ → ℕ → List Affine → List Affine → List Affine → List Affine
 turned m n inside ps qs =
-    (map (opened (m + 1)) (inside ++ ps) ++ map (opened m) (inside ++ qs)) ++ difference n m ∷ []
+    (map (widened (m + 1)) (inside ++ ps) ++ map (widened m) (inside ++ qs)) ++ difference n m ∷ []
 
 -- no key of the sets is lost
 abbrev pub AreEnoughParts : ℕ → List Affine → List Scanned → List Part → Type 0

@@ -1,6 +1,6 @@
 -- Rows that no whole point satisfies, and a node's points.
-use Rattle.std.specs.Prelude.{◌≡◌, ◌≢◌, ℕ, ℤ, pos, List, ◌∷◌, ◌++◌, length, take, drop, All, ◌≤ℤ◌}
-use Rattle.whole_numbers.specs.Affine.{Affine, form_of}
+use Rattle.std.specs.Prelude.{◌≡◌, ◌≢◌, ℕ, ℤ, pos, List, ◌∷◌, ◌++◌, length, All, ◌≤ℤ◌}
+use Rattle.whole_numbers.specs.Affine.{Affine}
 use Rattle.whole_numbers.specs.Lists.{NotNegative}
 use Rattle.affine_forms.specs.Parts.{variables_of}
 use Rattle.fractions.specs.Elimination.{coefficient_of}
@@ -17,10 +17,6 @@ HasNone d fs = (params point : List ℤ) → AreInRange params → length point 
 abbrev pub AreNatural : ℕ → List Affine → Type 0
 AreNatural d fs = (params point : List ℤ) → AreInRange params → length point ≡ d → AllAtLeast fs (point ++ params)
     → All (λ x. pos 0 ≤ℤ x) point
-
--- a form over one variable more, at a place, of which it does not speak
-abbrev pub opened : ℕ → Affine → Affine
-opened place f = form_of (take place f.coefficients ++ pos 0 ∷ drop place f.coefficients) f.constant
 
 -- m outer values and a loop's value at which the rows of a node hold
 pub record IsIn (m : ℕ) (inside : List Affine) (params outer : List ℤ) (x : ℤ) : Type 0 where

@@ -1,19 +1,18 @@
 //! The rows of a node's hull that bound its loop, and what is known within the loop.
 
-ghost use Rattle.std.specs.Prelude.{◌≡◌, ◌+◌, ◌<◌, ◌≤◌, ◌≤ℤ◌, ◌^◌, ◌++◌, [], ◌∷◌, List, All, IfOk, IsTrue, OnOk};
+ghost use Rattle.std.specs.Prelude.{◌≡◌, ◌+◌, ◌<◌, ◌≤ℤ◌, ◌^◌, ◌++◌, [], ◌∷◌, List, All, IfOk, IsTrue, OnOk};
 ghost use Rattle.std.specs.Prelude.{suc};
 ghost use Rattle.std.specs.Prelude.{length, map, pos, ℤ};
-ghost use Rattle.whole_numbers.specs.Affine.{Affine};
+ghost use Rattle.whole_numbers.specs.Affine.{Affine, widened};
 ghost use Rattle.affine_forms.specs.Parts.{variables_of};
 ghost use Rattle.fm_projection.specs.Alone.{place_form};
 ghost use Rattle.plain_scan.specs.Hulls.{IsAlike};
-ghost use Rattle.split_scan.specs.Questions.{AreNatural, opened};
+ghost use Rattle.split_scan.specs.Questions.{AreNatural};
 ghost use Rattle.split_scan.specs.Copies.{bounding_in};
 ghost use Rattle.split_scan.specs.Bounding.{AreBars};
 
 use crate::level::Level;
-use crate::questions::push_opened;
-use affine_forms::{Form, push_copies, push_copy};
+use affine_forms::{Form, push_copies, push_copy, push_widened};
 use plain_scan::shared::{Outline, hull};
 use std::alloc::{AllocError, Global};
 
@@ -88,13 +87,13 @@ pub fn level_of(
     requires first { (low : ℤ) × (others : List Affine)
         × (rows.now ≡ place_form (place + 1 + parameters) place (pos 1) low ∷ others) }
     requires natural { IsTrue natural → AreNatural place context.now }
-    ensures inside { IfOk result (λ l. l.inside.items ≡ map (opened place) context.now ++ rows.now) }
+    ensures inside { IfOk result (λ l. l.inside.items ≡ map (widened place) context.now ++ rows.now) }
     ensures place { IfOk result (λ l. l.place ≡ place) }
     ensures parameters { IfOk result (λ l. l.parameters ≡ parameters) }
 {
     let natural = is_natural(rows, natural);
     let mut inside = Vec::new(alloc);
-    push_opened(alloc, &mut inside, context, place)?;
+    push_widened(alloc, &mut inside, context, place)?;
     push_copies(&mut inside, rows)?;
     Ok(Level {
         inside,

@@ -13,8 +13,8 @@ ghost use Rattle.split_scan.specs.declared.part.Part.{Part};
 use crate::halt::Halt;
 use crate::level::Level;
 use crate::part::Part;
-use crate::questions::{has_none, joined, push_opened};
-use affine_forms::{Form, push};
+use crate::questions::{has_none, joined};
+use affine_forms::{Form, push, push_widened};
 use std::alloc::{AllocError, Global};
 
 /// The form x - y of the variable at a place and the one behind it.
@@ -44,8 +44,8 @@ fn is_below(alloc: Global, level: &Level, first: &[Form], second: &[Form]) -> Re
     let lower = joined(alloc, &level.inside, first)?;
     let upper = joined(alloc, &level.inside, second)?;
     let mut rows = Vec::new(alloc);
-    push_opened(alloc, &mut rows, &lower, level.place + 1)?;
-    push_opened(alloc, &mut rows, &upper, level.place)?;
+    push_widened(alloc, &mut rows, &lower, level.place + 1)?;
+    push_widened(alloc, &mut rows, &upper, level.place)?;
     let row = difference(alloc, level.place + 2 + level.parameters, level.place)?;
     push(&mut rows, row)?;
     has_none(alloc, level.place + 2, level.parameters, rows, level.budget)

@@ -1,10 +1,10 @@
 //! Questions whether rows hold at some whole point.
 
-ghost use Rattle.std.specs.Prelude.{◌≡◌, ◌+◌, ◌<◌, ◌≤◌, ◌++◌, All, IfOk, IsTrue, OnOk, map};
+ghost use Rattle.std.specs.Prelude.{◌≡◌, ◌+◌, ◌++◌, All, IfOk, IsTrue};
 ghost use Rattle.whole_numbers.specs.Affine.{complement};
 ghost use Rattle.affine_forms.specs.Parts.{variables_of};
 ghost use Rattle.plain_scan.specs.Between.{HasSmallNumbers};
-ghost use Rattle.split_scan.specs.Questions.{HasNone, IsVoid, opened};
+ghost use Rattle.split_scan.specs.Questions.{HasNone, IsVoid};
 
 use crate::halt::Halt;
 use crate::level::Level;
@@ -21,39 +21,6 @@ pub fn joined(alloc: Global, first: &[Form], second: &[Form]) -> Result<Vec<Form
     let mut out = copies(alloc, first)?;
     push_copies(&mut out, second)?;
     Ok(out)
-}
-
-/// The form over one variable more, at a place, of which it does not speak.
-fn opened(alloc: Global, form: &Form, place: usize) -> Result<Form, AllocError>
-    requires { place ≤ variables_of form.now }
-    ensures { IfOk result (λ f. f ≡ opened place form.now) }
-{
-    let mut numbers = Vec::from_slice(alloc, form.coefficients())?;
-    match numbers.insert(place, 0i128) {
-        Err(_) => return Err(AllocError),
-        Ok(()) => {}
-    }
-    match Form::of(alloc, &numbers, form.constant()) {
-        Err(_) => Err(AllocError),
-        Ok(wide) => Ok(wide),
-    }
-}
-
-/// Appends the forms, each over one variable more, at a place, of which it does not speak.
-pub fn push_opened(
-    alloc: Global,
-    out: &mut Vec<Form>,
-    forms: &[Form],
-    place: usize,
-) -> Result<(), AllocError>
-    requires { All (λ f. place ≤ variables_of f) forms.now }
-    ensures { OnOk result (out.new.items ≡ out.old.items ++ map (opened place) forms.now) }
-{
-    for form in forms {
-        let wide = opened(alloc, form, place)?;
-        out.push(wide)?;
-    }
-    Ok(())
 }
 
 /// The row -f - 1, where its numbers are small.

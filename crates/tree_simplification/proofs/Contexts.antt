@@ -8,7 +8,7 @@ use Rattle.std.proofs.lemmas.Int.{ints}
 use Rattle.std.proofs.lemmas.List.Edits.{length-insert}
 use Rattle.std.proofs.lemmas.List.Elements.{All-append, All-cons, All-from_recursion, All-get_or, All-head, All-map}
 use Rattle.std.proofs.lemmas.List.Elements.{All-nil, All-tail, All-weaker}
-use Rattle.whole_numbers.specs.Affine.{Affine, value_of}
+use Rattle.whole_numbers.specs.Affine.{Affine, value_of, widened}
 use Rattle.whole_numbers.specs.Floor.{floor, ceiling}
 use Rattle.whole_numbers.specs.Lists.{NotNegative, multiples}
 use Rattle.whole_numbers.proofs.Dot.{length-multiples}
@@ -16,6 +16,7 @@ use Rattle.whole_numbers.proofs.Floors.{ceiling_at_most, ceiling_is, floor_at_le
 use Rattle.whole_numbers.proofs.Lists.{dot_not_negative, not_negative-append, not_negative_all}
 use Rattle.whole_numbers.proofs.Order.{cancel_le, le_or_lt}
 use Rattle.whole_numbers.proofs.Ring.{mul_one_left, mul_zero_left}
+use Rattle.whole_numbers.proofs.Values.{length-widened}
 use Rattle.affine_forms.specs.Parts.{variables_of}
 use Rattle.fm_projection.specs.Alone.{AreInRange}
 use Rattle.integer_sets.specs.Constraints.{system_of}
@@ -28,7 +29,7 @@ use Rattle.loop_tree.specs.Walk.{all_hold, holds, lower, upper}
 use Rattle.loop_tree.proofs.Extremes.{above_min, below_max, max_below, min_above}
 use Rattle.tree_simplification.specs.steps.Context.{ArePartsOver, Context, Hold, IsSizedContext, Meets, NaturalAbove}
 use Rattle.tree_simplification.specs.steps.Context.{NeverHolds, OnSide, form_row, part_row, parts, sided, sign_of}
-use Rattle.tree_simplification.specs.steps.Context.{test_rows, tested, tests_rows, widened}
+use Rattle.tree_simplification.specs.steps.Context.{test_rows, tested, tests_rows}
 use Rattle.tree_simplification.proofs.RowValues.{opposite_side, turned_is, value_form_row, value_part_row}
 use Rattle.tree_simplification.proofs.RowValues.{value_widened}
 
@@ -42,15 +43,13 @@ hold_append : (fs gs : List Affine) (point : List ℤ) → Hold fs point → Hol
 hold_append [] gs point h k = k
 hold_append (f ∷ fs) gs point h k = (h.0, hold_append fs gs point h.1 k)
 
-hold_widened : (fs : List Affine) (outer params : List ℤ) (x : ℤ)
-    → All (λ f. variables_of f ≡ length outer + length params) fs → Hold fs (outer ++ params)
+hold_widened : (fs : List Affine) (outer params : List ℤ) (x : ℤ) → Hold fs (outer ++ params)
     → Hold (map (widened (length outer)) fs) ((outer ++ x ∷ []) ++ params)
-hold_widened [] outer params x sized h = tt
-hold_widened (f ∷ fs) outer params x sized h =
-    let P : Affine → Type 0 = λ f. variables_of f ≡ length outer + length params in (
-      subst (λ v. pos 0 ≤ℤ v) (sym (value_widened f outer params x (All-head P f fs sized))) h.0,
-      hold_widened fs outer params x (All-tail P f fs sized) h.1,
-    )
+hold_widened [] outer params x h = tt
+hold_widened (f ∷ fs) outer params x h = (
+  subst (λ v. pos 0 ≤ℤ v) (sym (value_widened (length outer) f outer params x refl)) h.0,
+  hold_widened fs outer params x h.1,
+)
 
 -- parts of bounds of which a value is on the right side, as rows
 hold_side : (turned : Bool) (bs : List Bound) (outer params : List ℤ) (x : ℤ)
@@ -77,15 +76,13 @@ forms_counted c params outer m bs h =
 
 -- a value between bounds is one of which the context within the loop speaks
 pub meets_sided : (c : Context) (turned natural : Bool) (bs others : List Bound) (params outer : List ℤ) (x : ℤ)
-    → IsSizedContext c → All (λ b. variables_of b.form ≡ c.loops + c.parameters) bs
+    → All (λ b. variables_of b.form ≡ c.loops + c.parameters) bs
     → All (λ b. variables_of b.form ≡ c.loops + c.parameters) others → Meets c params outer
     → OnSide turned bs (outer ++ params) x → OnSide (not turned) others (outer ++ params) x
     → (natural ≡ true → NotNegative (outer ++ x ∷ []))
     → Meets (sided c turned bs others natural) params (outer ++ x ∷ [])
-meets_sided c turned natural bs others params outer x sized over others_over m on others_on whole =
-    let e = counted c params outer m in
-    let front =
-    hold_widened c.rows outer params x (subst (λ (n : ℕ). All (λ f. variables_of f ≡ n) c.rows) e sized) m.inside in
+meets_sided c turned natural bs others params outer x over others_over m on others_on whole =
+    let front = hold_widened c.rows outer params x m.inside in
     let here = hold_side turned bs outer params x (forms_counted c params outer m bs over) on in
     let others_counted = forms_counted c params outer m others others_over in
     let there = hold_side (not turned) others outer params x others_counted others_on in
@@ -152,9 +149,6 @@ sized_part n turned less b h =
     let i = length-insert (multiples s cs) n (sign_of (not turned) *ℤ b.divisor) (omega (arith, m, h)) in
     omega (arith, m, i)
 
-sized_widened : (n : ℕ) (f : Affine) → n ≤ variables_of f → variables_of (widened n f) ≡ suc (variables_of f)
-sized_widened n f h = let i = length-insert f.coefficients n (pos 0) h in omega (arith, i)
-
 pub sized_sided : (c : Context) (turned natural : Bool) (bs others : List Bound) → IsSizedContext c
     → All (λ b. variables_of b.form ≡ c.loops + c.parameters) bs
     → All (λ b. variables_of b.form ≡ c.loops + c.parameters) others
@@ -166,7 +160,7 @@ sized_sided c turned natural bs others sized over others_over =
     let one : (side : Bool) (b : Bound) → variables_of b.form ≡ total → P (part_row n side false b) =
     λ side b e. let s = sized_part n side false b (omega (arith, e)) in omega (arith, e, s) in
     let wide : (f : Affine) → variables_of f ≡ total → P (widened n f) =
-    λ f e. let s = sized_widened n f (omega (arith, e)) in omega (arith, e, s) in
+    λ f e. let s = length-widened n f.coefficients in omega (arith, e, s) in
     All-append P (map (widened n) c.rows)
     (map (part_row n turned false) bs ++ map (part_row n (not turned) false) others)
     (All-map P (widened n) c.rows (All-weaker (λ f. variables_of f ≡ total) (λ f. P (widened n f)) wide c.rows sized))
@@ -284,16 +278,16 @@ never_from c row natural empty params outer m =
     ]
 
 -- a part that with one more is never exceeded
-pub implied_part : (c : Context) (turned : Bool) (bs others : List Bound) (b : Bound) → IsSizedContext c
+pub implied_part : (c : Context) (turned : Bool) (bs others : List Bound) (b : Bound)
     → ArePartsOver (c.loops + c.parameters) bs → ArePartsOver (c.loops + c.parameters) others
     → variables_of b.form ≡ c.loops + c.parameters
     → NeverHolds (sided c turned bs others true) (part_row c.loops (not turned) true b)
     → (params outer : List ℤ) → Meets c params outer → (x : ℤ) → NotNegative (outer ++ x ∷ [])
     → OnSide turned bs (outer ++ params) x → OnSide (not turned) others (outer ++ params) x
     → OnSide turned (b ∷ []) (outer ++ params) x
-implied_part c turned bs others b sized over others_over h never params outer m x whole on others_on =
+implied_part c turned bs others b over others_over h never params outer m x whole on others_on =
     let inner =
-    meets_sided c turned true bs others params outer x sized over.forms others_over.forms m on others_on (λ _. whole) in
+    meets_sided c turned true bs others params outer x over.forms others_over.forms m on others_on (λ _. whole) in
     let below = never params (outer ++ x ∷ []) inner in
     let here : value_of (part_row (length outer) (not turned) true b) ((outer ++ x ∷ []) ++ params) <ℤ pos 0 =
     subst (λ (k : ℕ). value_of (part_row k (not turned) true b) ((outer ++ x ∷ []) ++ params) <ℤ pos 0)

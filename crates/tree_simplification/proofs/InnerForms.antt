@@ -1,37 +1,18 @@
 -- The forms of the old loops within a loop that stays.
-use Rattle.std.proofs.Common.{◌≡◌, ℕ, zero, suc, ◌+◌, ℤ, pos, List, [], ◌∷◌, ◌++◌, length, map, take, drop, get_or}
+use Rattle.std.proofs.Common.{◌≡◌, ℕ, ◌+◌, ℤ, pos, List, [], ◌∷◌, ◌++◌, length, map, get_or}
 use Rattle.std.proofs.Common.{ap, ap₂, subst, ◌∙◌, refl, arith}
-use Rattle.std.specs.Prelude.{All, ◌+ℤ◌}
+use Rattle.std.specs.Prelude.{All}
 use Rattle.std.proofs.Math.Seq.{get_or-append_seam}
-use Rattle.std.proofs.lemmas.Int.{ints}
 use Rattle.std.proofs.lemmas.List.{append_assoc, map-append}
 use Rattle.std.proofs.lemmas.List.Elements.{All-nil, All-cons, All-head, All-tail, All-append}
-use Rattle.whole_numbers.specs.Affine.{Affine, value_of, values_of}
-use Rattle.whole_numbers.specs.Lists.{dot}
-use Rattle.whole_numbers.proofs.Ring.{mul_zero_left}
+use Rattle.whole_numbers.specs.Affine.{Affine, value_of, values_of, widened}
+use Rattle.whole_numbers.proofs.Values.{length-widened}
 use Rattle.iteration_domains.specs.Rows.{variable}
 use Rattle.iteration_domains.proofs.Surroundings.{length-variable}
 use Rattle.iteration_domains.proofs.RowLaws.{value_of-variable}
 use Rattle.loop_tree.specs.Shape.{IsOver}
-use Rattle.tree_simplification.specs.steps.Inlined.{inside, widened}
-
-dot_widened : (k : ℕ) (cs outer params : List ℤ) (x : ℤ) → length outer ≡ k
-    → dot (take k cs ++ pos 0 ∷ drop k cs) ((outer ++ x ∷ []) ++ params) ≡ dot cs (outer ++ params)
-dot_widened zero cs [] params x o = let z = mul_zero_left x in omega (arith, ints)
-dot_widened zero cs (y ∷ outer) params x o = absurd (omega arith)
-dot_widened (suc k) cs [] params x o = absurd (omega arith)
-dot_widened (suc k) [] (y ∷ outer) params x o = let z = mul_zero_left y in omega (arith, ints)
-dot_widened (suc k) (c ∷ cs) (y ∷ outer) params x o =
-    let r = dot_widened k cs outer params x (omega arith) in omega (arith, ints)
-
-value_widened : (k : ℕ) (f : Affine) (outer params : List ℤ) (x : ℤ) → length outer ≡ k
-    → value_of (widened k f) ((outer ++ x ∷ []) ++ params) ≡ value_of f (outer ++ params)
-value_widened k f outer params x o = ap (λ (z : ℤ). z +ℤ f.constant) (dot_widened k f.coefficients outer params x o)
-
-length_widened : (k : ℕ) (cs : List ℤ) → length (take k cs ++ pos 0 ∷ drop k cs) ≡ length cs + 1
-length_widened zero cs = omega arith
-length_widened (suc k) [] = refl
-length_widened (suc k) (c ∷ cs) = let r = length_widened k cs in omega arith
+use Rattle.tree_simplification.specs.steps.Inlined.{inside}
+use Rattle.tree_simplification.proofs.RowValues.{value_widened}
 
 all_widened : (k : ℕ) (loops : List Affine) (outer params : List ℤ) (x : ℤ) → length outer ≡ k
     → values_of (map (widened k) loops) ((outer ++ x ∷ []) ++ params) ≡ values_of loops (outer ++ params)
@@ -56,7 +37,7 @@ widened_sized : (n k : ℕ) (loops : List Affine) → All (IsOver n) loops → A
 widened_sized n k [] sized = All-nil (IsOver (n + 1))
 widened_sized n k (f ∷ loops) sized =
     let own = All-head (IsOver n) f loops sized in
-    let l = length_widened k f.coefficients in
+    let l = length-widened k f.coefficients in
     All-cons (IsOver (n + 1)) (widened k f) (map (widened k) loops) (omega (arith, own, l))
     (widened_sized n k loops (All-tail (IsOver n) f loops sized))
 

@@ -5,7 +5,7 @@ use Rattle.std.proofs.Common.{ap, subst, sym, ◌∙◌, arith, length-append}
 use Rattle.std.specs.Prelude.{All}
 use Rattle.std.proofs.lemmas.List.{length-map}
 use Rattle.std.proofs.lemmas.List.Elements.{All-nil, All-push}
-use Rattle.whole_numbers.specs.Affine.{Affine, composed}
+use Rattle.whole_numbers.specs.Affine.{Affine, composed, widened}
 use Rattle.iteration_domains.specs.Rows.{variable, variables}
 use Rattle.iteration_domains.proofs.Surroundings.{length-variables}
 use Rattle.loop_tree.specs.Fits.{form_in}
@@ -17,7 +17,7 @@ use Rattle.loop_tree.specs.declared.tree.Node.{Node}
 use Rattle.loop_tree.specs.declared.tree.Test.{Test as CodeTest}
 use Rattle.loop_tree.proofs.Weights.{node_here}
 use Rattle.tree_simplification.specs.steps.Inlined.{AreTestsFor, CanInline, Extends, Inlines, IsPlace, bounds_over}
-use Rattle.tree_simplification.specs.steps.Inlined.{inside, once, widened}
+use Rattle.tree_simplification.specs.steps.Inlined.{inside, once}
 use Rattle.tree_simplification.specs.steps.Joined.{joined}
 use Rattle.tree_simplification.proofs.ComposedForms.{bounds_sized, place_sized}
 use Rattle.tree_simplification.proofs.InlinedNodes.{gone_guard, gone_loop, kept_guard, kept_loop, leaf_stays}

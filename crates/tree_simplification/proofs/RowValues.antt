@@ -1,15 +1,16 @@
 -- Values of rows of a context.
-use Rattle.std.proofs.Common.{◌≡◌, ◌+◌, ℤ, pos, negsuc, List, [], ◌∷◌, ◌++◌, length, ap, ◌∙◌, refl, arith}
+use Rattle.std.proofs.Common.{◌≡◌, ℕ, ◌+◌, ℤ, pos, negsuc, List, [], ◌∷◌, ◌++◌, length, ap, ◌∙◌, refl, arith}
 use Rattle.std.specs.Prelude.{Bool, true, false, not, insert, neg_ℤ, ◌+ℤ◌, ◌-ℤ◌, ◌*ℤ◌, ◌≤ℤ◌, ◌<ℤ◌}
 use Rattle.std.proofs.lemmas.Int.{ints}
-use Rattle.whole_numbers.specs.Affine.{Affine, value_of}
+use Rattle.std.proofs.lemmas.List.{append_assoc}
+use Rattle.whole_numbers.specs.Affine.{Affine, value_of, widened}
 use Rattle.whole_numbers.specs.Lists.{dot, multiples}
 use Rattle.whole_numbers.proofs.Dot.{dot-multiples, length-multiples}
 use Rattle.whole_numbers.proofs.Ring.{mul_comm_int, mul_distrib_left, mul_neg_left, mul_one_left, mul_sub_left}
-use Rattle.whole_numbers.proofs.Ring.{mul_zero_left}
+use Rattle.whole_numbers.proofs.Values.{value_of-widened}
 use Rattle.affine_forms.specs.Parts.{variables_of}
 use Rattle.loop_tree.specs.Tree.{Bound}
-use Rattle.tree_simplification.specs.steps.Context.{sign_of, less_of, form_row, part_row, widened}
+use Rattle.tree_simplification.specs.steps.Context.{sign_of, less_of, form_row, part_row}
 
 -- a number more in a list, and a loop's value more in a point
 pub dot_insert : (cs outer : List ℤ) (k x : ℤ) (params : List ℤ) → length cs ≡ length outer + length params
@@ -24,12 +25,10 @@ pub turned_is : (z : ℤ) → negsuc 0 *ℤ z ≡ neg_ℤ z
 turned_is z = let a = mul_neg_left (pos 1) z in let b = mul_one_left z in omega (arith, ints, a, b)
 
 -- rows at a loop's value
-pub value_widened : (f : Affine) (outer params : List ℤ) (x : ℤ) → variables_of f ≡ length outer + length params
-    → value_of (widened (length outer) f) ((outer ++ x ∷ []) ++ params) ≡ value_of f (outer ++ params)
-value_widened f outer params x h =
-    let d = dot_insert f.coefficients outer (pos 0) x params h in
-    let z = mul_zero_left x in
-    omega (arith, ints, d, z)
+pub value_widened : (k : ℕ) (f : Affine) (outer params : List ℤ) (x : ℤ) → length outer ≡ k
+    → value_of (widened k f) ((outer ++ x ∷ []) ++ params) ≡ value_of f (outer ++ params)
+value_widened k f outer params x size =
+    ap (value_of (widened k f)) (append_assoc outer (x ∷ []) params) ∙ value_of-widened k f outer x params size
 
 pub value_form_row : (f : Affine) (turned less : Bool) (point : List ℤ)
     → value_of (form_row turned less f) point ≡ (sign_of turned *ℤ value_of f point) +ℤ less_of less

@@ -241,7 +241,7 @@ mutual
       let low = low_to lo (outer ++ params) x flat.0.0 w.0 in
       let high = high_to up (outer ++ params) x flat.0.1 w.1 in
       agree_all C within body h.2 params (outer ++ x ∷ []) h.7 all deeper flat.0.2
-      (meets_sided c true h.3 (parts lo) (parts up) params outer x sized low_over.forms high_over.forms m low high
+      (meets_sided c true h.3 (parts lo) (parts up) params outer x low_over.forms high_over.forms m low high
       (λ e. h.6 e params outer m x low))))
   agree_one C c (guard tests body) new params outer h sized over flat m =
       subst (Agrees C params outer (more (guard tests body) none)) (sym h.2)

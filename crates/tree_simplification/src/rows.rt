@@ -1,14 +1,14 @@
 //! Rows of a context. Promises exactly those of specs/steps/Context.antt.
 
 ghost use Rattle.std.specs.Prelude.{◌≡◌, ◌≤◌, ◌++◌, ◌+ℤ◌, ◌*ℤ◌, All, IfOk, OnOk, false, insert, length, map};
-ghost use Rattle.whole_numbers.specs.Affine.{form_of};
+ghost use Rattle.whole_numbers.specs.Affine.{form_of, widened};
 ghost use Rattle.whole_numbers.specs.Lists.{multiples};
 ghost use Rattle.affine_forms.specs.Parts.{variables_of};
 ghost use Rattle.loop_tree.specs.View.{test_of};
 ghost use Rattle.tree_simplification.specs.steps.Context.{form_row, less_of, part_row, sign_of};
-ghost use Rattle.tree_simplification.specs.steps.Context.{test_rows, tests_rows, widened};
+ghost use Rattle.tree_simplification.specs.steps.Context.{test_rows, tests_rows};
 
-use affine_forms::{Form, push};
+use affine_forms::{Form, push, push_widened};
 use loop_tree::{Bound, Test};
 use scop_syntax::tree::Aff;
 use std::alloc::{AllocError, Global};
@@ -110,25 +110,13 @@ pub fn part_row(
     spread(alloc, &part.form, part.divisor, loops, turned, less)
 }
 
-/// A row within one loop more, behind so many others.
-fn widen(alloc: Global, row: &Form, loops: usize) -> Result<Form, AllocError>
-    requires { loops ≤ variables_of row.now }
-    ensures { IfOk result (λ f. f ≡ widened loops row.now) }
-{
-    let mut numbers = Vec::from_slice(alloc, row.coefficients())?;
-    put_at(&mut numbers, loops, 0)?;
-    made(alloc, &numbers, row.constant())
-}
-
 /// Rows within one loop more, behind so many others.
 pub fn widen_all(alloc: Global, rows: &[Form], loops: usize) -> Result<Vec<Form>, AllocError>
     requires { All (λ f. loops ≤ variables_of f) rows.now }
     ensures { IfOk result (λ v. v.items ≡ map (widened loops) rows.now) }
 {
     let mut out = Vec::new(alloc);
-    for row in rows {
-        push(&mut out, widen(alloc, row, loops)?)?;
-    }
+    push_widened(alloc, &mut out, rows, loops)?;
     Ok(out)
 }
 

@@ -1,8 +1,8 @@
 -- Entries of lists, their fronts and backs, and what holds of each entry.
-use Rattle.std.proofs.Common.{◌≡◌, ℕ, zero, suc, ◌+◌, ◌<◌, ◌≤◌, List, [], ◌∷◌, ◌++◌, length, get_or, take}
-use Rattle.std.proofs.Common.{Some, All, refl, ◌∙◌, ap, subst, arith}
+use Rattle.std.proofs.Common.{◌≡◌, ℕ, zero, suc, ◌+◌, ◌<◌, ◌≤◌, List, [], ◌∷◌, ◌++◌, length, get_or, take, drop}
+use Rattle.std.proofs.Common.{drop-cons, append_assoc, add-one, Some, All, refl, sym, ◌∙◌, ap, subst, arith}
 use Rattle.std.specs.Prelude.{map, slice_get}
-use Rattle.std.proofs.lemmas.List.{take_all}
+use Rattle.std.proofs.lemmas.List.{take_all, append-nil, drop_of_length-le}
 use Rattle.std.proofs.lemmas.List.Elements.{All-head, All-tail, All-cons, All-nil, All-more}
 
 -- what holds of each entry of a joined list holds in its front and in its back
@@ -60,3 +60,21 @@ pub get_map : {A B : Type 0} (f : A → B) (xs : List A) (i : ℕ) (x : A) → s
 get_map f [] i x e = absurd cc
 get_map f (y ∷ ys) zero x e = let z : y ≡ x = cc in ap (λ w. Some (f w)) z
 get_map f (y ∷ ys) (suc i) x e = get_map f ys i x e
+
+-- a list made from another entry by entry: one entry more, and all of them
+pub map_more : {A B : Type 0} (f : A → B) (xs : List A) (i : ℕ) (x : A) (y : B) (done next whole : List B)
+    → i < length xs
+    → x ≡ get_or xs i x → y ≡ f x → next ≡ done ++ y ∷ [] → done ++ map f (drop i xs) ≡ whole
+    → next ++ map f (drop (i + 1) xs) ≡ whole
+map_more f xs i x y done next whole inside is made grown so_far =
+    let rest = map f (drop (i + 1) xs) in
+    let here : map f (drop i xs) ≡ f x ∷ rest = rw (drop-cons xs i x inside, ← is, add-one i) refl in
+    ap (λ ys. ys ++ rest) grown
+    ∙ (append_assoc done (y ∷ []) rest
+    ∙ (ap (λ z. done ++ z ∷ rest) made ∙ (ap (λ ys. done ++ ys) (sym here) ∙ so_far)))
+
+pub map_end : {A B : Type 0} (f : A → B) (xs : List A) (i : ℕ) (done whole : List B) → length xs ≤ i
+    → done ++ map f (drop i xs) ≡ whole → done ≡ whole
+map_end f xs i done whole past so_far =
+    sym (append-nil done)
+    ∙ (ap (λ (ys : List _). done ++ map f ys) (sym (drop_of_length-le xs past)) ∙ so_far)

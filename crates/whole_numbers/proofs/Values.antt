@@ -1,11 +1,12 @@
-use Rattle.std.proofs.Common.{◌≡◌, ℕ, ◌<◌, ℤ, pos, negsuc, neg_ℤ, ◌+ℤ◌, ◌-ℤ◌, ◌*ℤ◌, ◌≤ℤ◌, ◌<ℤ◌, ◌↔◌, List}
-use Rattle.std.proofs.Common.{[], ◌∷◌, length, set, get_or, All, ap, ap₂, sym, ◌∙◌, arith}
+use Rattle.std.proofs.Common.{◌≡◌, ℕ, zero, suc, ◌+◌, ◌<◌, ℤ, pos, negsuc, neg_ℤ, ◌+ℤ◌, ◌-ℤ◌, ◌*ℤ◌, ◌≤ℤ◌, ◌<ℤ◌, ◌↔◌}
+use Rattle.std.proofs.Common.{List, [], ◌∷◌, ◌++◌, length, set, get_or, take, drop, All, ap, ap₂, subst, sym, ◌∙◌}
+use Rattle.std.proofs.Common.{refl, arith}
 use Rattle.std.proofs.lemmas.Int.{ints}
 use Rattle.std.proofs.Math.ListN.{length-set}
 use Rattle.std.proofs.lemmas.List.Elements.{All-head, All-tail}
 use Rattle.whole_numbers.specs.Lists.{dot, multiples, zeros}
 use Rattle.whole_numbers.specs.Affine.{Affine, form_of, value_of, sum_of_forms, multiple_of_form, substituted}
-use Rattle.whole_numbers.specs.Affine.{values_of, plus_combination, composed, complement}
+use Rattle.whole_numbers.specs.Affine.{values_of, plus_combination, composed, widened, complement}
 use Rattle.whole_numbers.proofs.Ring.{mul_distrib_left, mul_sub_left, mul_sub_right, mul_comm_int, mul_zero_left}
 use Rattle.whole_numbers.proofs.Order.{cancel_eq, cancel_le, mul_not_negative}
 use Rattle.whole_numbers.proofs.Lists.{list_same}
@@ -66,6 +67,24 @@ value_of-composed f inner n point =
     let e = value_of-combination (form_of (zeros n) f.constant) f.coefficients inner point in
     let z = dot-zeros n point in
     omega (arith, ints)
+
+-- a form over one variable more, of which it does not speak: its value, and how many variables it has
+dot_widened : (outer : List ℤ) (x : ℤ) (rest cs : List ℤ)
+    → dot (take (length outer) cs ++ pos 0 ∷ drop (length outer) cs) (outer ++ x ∷ rest) ≡ dot cs (outer ++ rest)
+dot_widened [] x rest cs = let z = mul_zero_left x in omega (arith, ints)
+dot_widened (y ∷ outer) x rest [] = let z = mul_zero_left y in omega (arith, ints)
+dot_widened (y ∷ outer) x rest (c ∷ cs) = let r = dot_widened outer x rest cs in omega (arith, ints)
+
+pub value_of-widened : (place : ℕ) (f : Affine) (outer : List ℤ) (x : ℤ) (rest : List ℤ) → length outer ≡ place
+    → value_of (widened place f) (outer ++ x ∷ rest) ≡ value_of f (outer ++ rest)
+value_of-widened place f outer x rest size =
+    subst (λ k. value_of (widened k f) (outer ++ x ∷ rest) ≡ value_of f (outer ++ rest)) size
+    (let d = dot_widened outer x rest f.coefficients in omega (arith, ints))
+
+pub length-widened : (place : ℕ) (cs : List ℤ) → length (take place cs ++ pos 0 ∷ drop place cs) ≡ length cs + 1
+length-widened zero cs = omega arith
+length-widened (suc k) [] = refl
+length-widened (suc k) (c ∷ cs) = let r = length-widened k cs in omega arith
 
 -- a combination of forms over n variables is one over n variables
 pub length-combination : (n : ℕ) (sum : Affine) (ks : List ℤ) (fs : List Affine) → length sum.coefficients ≡ n

@@ -1,5 +1,6 @@
 -- Affine forms over whole numbers: values at a point, sums, multiples, substitution, composition, complement.
-use Rattle.std.specs.Prelude.{ℕ, ℤ, pos, negsuc, neg_ℤ, ◌+ℤ◌, ◌-ℤ◌, ◌*ℤ◌, List, [], ◌∷◌, map, get_or, set}
+use Rattle.std.specs.Prelude.{ℕ, ℤ, pos, negsuc, neg_ℤ, ◌+ℤ◌, ◌-ℤ◌, ◌*ℤ◌, List, [], ◌∷◌, ◌++◌, map, get_or, set}
+use Rattle.std.specs.Prelude.{take, drop}
 use Rattle.whole_numbers.specs.Lists.{dot, sums, multiples, zeros}
 
 -- an affine form: a linear part, one coefficient a variable, and a constant
@@ -42,6 +43,10 @@ plus_combination sum (k ∷ ks) (f ∷ fs) = plus_combination (sum_of_forms sum 
 -- a form with each variable replaced by a form over n variables
 abbrev pub composed : Affine → List Affine → ℕ → Affine
 composed f inner n = plus_combination (form_of (zeros n) f.constant) f.coefficients inner
+
+-- a form over one variable more, at a place, of which it does not speak
+abbrev pub widened : ℕ → Affine → Affine
+widened place f = form_of (take place f.coefficients ++ pos 0 ∷ drop place f.coefficients) f.constant
 
 -- - f - 1: at whole points not negative exactly where f is below 0
 abbrev pub complement : Affine → Affine

@@ -1,8 +1,7 @@
 -- A node's loops, as pieces of its hull.
-use Rattle.std.specs.Prelude.{◌≡◌, ℕ, suc, ◌+◌, ◌<◌, ◌≤◌, Bool, ℤ, pos, negsuc, Option, Some, eqb, List, [], ◌∷◌}
+use Rattle.std.specs.Prelude.{◌≡◌, ℕ, suc, ◌+◌, ◌<◌, Bool, ℤ, pos, negsuc, Option, Some, eqb, List, [], ◌∷◌}
 use Rattle.std.specs.Prelude.{◌++◌, length, map, All, ⊤}
-use Rattle.whole_numbers.specs.Affine.{Affine}
-use Rattle.affine_forms.specs.Parts.{variables_of}
+use Rattle.whole_numbers.specs.Affine.{Affine, widened}
 use Rattle.integer_sets.specs.Scanned.{Scanned}
 use Rattle.fm_projection.specs.Alone.{AreInRange, place_form}
 use Rattle.std.specs.Option.{option_eq}
@@ -10,7 +9,7 @@ use Rattle.loop_tree.specs.Tree.{Tree, Trees}
 use Rattle.plain_scan.specs.Sets.{AllAtLeast, Keys, row_tests, under}
 use Rattle.plain_scan.specs.Pieces.{Piece, loop_of}
 use Rattle.plain_scan.specs.Sorting.{lows_in, highs_in}
-use Rattle.split_scan.specs.Questions.{IsCut, opened}
+use Rattle.split_scan.specs.Questions.{IsCut}
 use Rattle.split_scan.specs.Parts.{staying}
 use Rattle.split_scan.specs.Nodes.{IsNode}
 use Rattle.split_scan.specs.declared.part.Part.{Part}
@@ -40,13 +39,12 @@ rows_in f = low_in f ∷ high_in f ∷ f.others
 
 -- what is known within its loops
 abbrev pub inside_of : Frame → List Affine
-inside_of f = map (opened f.place) f.context ++ rows_in f
+inside_of f = map (widened f.place) f.context ++ rows_in f
 
 -- the rows bound the loop's value, and hold at each point of the sets
 pub record IsFrame (f : Frame) : Type 0 where
   pub inside : f.place < f.variables
   pub rows : All (IsCut f.place f.variables) (rows_in f)
-  pub known : All (λ g. f.place ≤ variables_of g) f.context
   pub hold : (params outer : List ℤ) (x : ℤ) (r : List ℤ) → AreInRange params → length outer ≡ f.place
       → Keys f.sets params (outer ++ x ∷ r) → AllAtLeast (rows_in f) (outer ++ x ∷ params)
 

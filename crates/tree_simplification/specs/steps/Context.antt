@@ -2,7 +2,7 @@
 use Rattle.std.specs.Prelude.{◌≡◌, ℕ, suc, Bool, true, false, ℤ, pos, negsuc, ◌+ℤ◌, ◌-ℤ◌, ◌*ℤ◌, ◌≤ℤ◌, ◌<ℤ◌, List}
 use Rattle.std.specs.Prelude.{[], ◌∷◌, ◌++◌, ◌+◌, ◌<◌, All, insert, length, map, not}
 use Rattle.std.specs.List.{AllByRecursion}
-use Rattle.whole_numbers.specs.Affine.{Affine, form_of, value_of}
+use Rattle.whole_numbers.specs.Affine.{Affine, form_of, value_of, widened}
 use Rattle.whole_numbers.specs.Lists.{NotNegative, multiples}
 use Rattle.affine_forms.specs.Parts.{variables_of}
 use Rattle.fm_projection.specs.Alone.{AreInRange}
@@ -58,10 +58,6 @@ abbrev pub part_row : ℕ → Bool → Bool → Bound → Affine
 part_row n turned less b =
     form_of (insert (multiples (sign_of turned) b.form.coefficients) n (sign_of (not turned) *ℤ b.divisor))
     ((sign_of turned *ℤ b.form.constant) +ℤ less_of less)
-
--- a row within one loop more, behind n others
-abbrev pub widened : ℕ → Affine → Affine
-widened n f = form_of (insert f.coefficients n (pos 0)) f.constant
 
 -- what a test says in rows
 abbrev pub test_rows : Test → List Affine

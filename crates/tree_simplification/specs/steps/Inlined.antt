@@ -1,7 +1,7 @@
 -- Trees in which the loops that run once have given way to their values.
-use Rattle.std.specs.Prelude.{◌≡◌, ℕ, ◌+◌, ◌^◌, ◌≤◌, true, ℤ, List, [], ◌∷◌, ◌++◌, All, length, map, pos, take, drop}
+use Rattle.std.specs.Prelude.{◌≡◌, ℕ, ◌+◌, ◌^◌, ◌≤◌, true, ℤ, List, [], ◌∷◌, ◌++◌, All, length, map, pos}
 use Rattle.std.specs.Prelude.{◌⊎◌}
-use Rattle.whole_numbers.specs.Affine.{Affine, composed, form_of, values_of}
+use Rattle.whole_numbers.specs.Affine.{Affine, composed, values_of}
 use Rattle.fm_projection.specs.Alone.{AreInRange}
 use Rattle.scop_syntax.specs.Kernel.{AreAtMost}
 use Rattle.scop_syntax.specs.Tree.{Program}
@@ -61,10 +61,6 @@ pub record Inlines (parameters kept : ℕ) (loops : List Affine) (old new : Tree
 pub record IsPlace (parameters kept : ℕ) (loops forms : List Affine) : Type 0 where
   pub are : forms ≡ loops ++ variables (kept + parameters) kept parameters
   pub sized : All (IsOver (kept + parameters)) loops
-
--- a form with one loop more round it, behind k others, of which it does not speak
-abbrev pub widened : ℕ → Affine → Affine
-widened k f = form_of (take k f.coefficients ++ pos 0 ∷ drop k f.coefficients) f.constant
 
 -- the forms of the old loops within a loop that stays, behind k others
 abbrev pub inside : ℕ → ℕ → List Affine → List Affine

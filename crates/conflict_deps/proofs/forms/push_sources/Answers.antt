@@ -1,11 +1,11 @@
+use Rattle.whole_numbers.proofs.Entries.{map_more, map_end}
 use Rattle.conflict_deps.specs.Conflicts.{source_form}
-use Rattle.conflict_deps.proofs.Shapes.{forms_more, forms_end}
 use Rattle.conflict_deps.proofs.forms.push_sources.Goals as goal
 
 pub loop-form-preserved : goal.loop-form-preserved
 loop-form-preserved c =
     let l = c.loop-form in
-    forms_more (source_form c.args.loops c.args.others) c.args.forms.now l.form-index c.form-item.result
+    map_more (source_form c.args.loops c.args.others) c.args.forms.now l.form-index c.form-item.result
     c.in_ok-spread.spread l.out.items c.push.new.list.items _ c.loop-form-test.true c.form-item.is
     c.in_ok-spread.ensures
     c.in_ok-push.ensures.pushed l.invariant
@@ -13,5 +13,5 @@ loop-form-preserved c =
 pub returns : goal.returns
 returns c =
     let l = c.loop-form in
-    forms_end (source_form c.args.loops c.args.others) c.args.forms.now l.form-index l.out.items _
+    map_end (source_form c.args.loops c.args.others) c.args.forms.now l.form-index l.out.items _
     c.loop-form-test.false l.invariant

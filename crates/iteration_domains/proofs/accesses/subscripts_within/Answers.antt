@@ -1,7 +1,7 @@
 use Rattle.std.proofs.Common.{sym, subst}
 use Rattle.whole_numbers.specs.Affine.{composed}
+use Rattle.whole_numbers.proofs.Entries.{map_more, map_end}
 use Rattle.iteration_domains.specs.Sizes.{CanCompose}
-use Rattle.iteration_domains.proofs.Surroundings.{map_step, map_all}
 use Rattle.iteration_domains.proofs.accesses.subscripts_within.Goals as goal
 
 pub compose-requires : goal.compose-requires
@@ -11,13 +11,13 @@ compose-requires c =
 
 pub loop-subscript-preserved : goal.loop-subscript-preserved
 loop-subscript-preserved c =
-    map_step (λ form. composed form c.args.forms.now c.args.variables) c.args.subscripts.now
+    map_more (λ form. composed form c.args.forms.now c.args.variables) c.args.subscripts.now
     c.loop-subscript.subscript-index c.subscript-item.result c.in_ok-form.form c.loop-subscript.composed.items
-    c.push.new.list.items c.loop-subscript-test.true c.subscript-item.is c.in_ok-form.ensures.form
+    c.push.new.list.items _ c.loop-subscript-test.true c.subscript-item.is c.in_ok-form.ensures.form
     c.in_ok-push.ensures.pushed c.loop-subscript.invariant
 
 pub returns : goal.returns
 returns c =
-    map_all (λ form. composed form c.args.forms.now c.args.variables) c.args.subscripts.now
-    c.loop-subscript.subscript-index c.loop-subscript.composed.items c.loop-subscript-test.false
+    map_end (λ form. composed form c.args.forms.now c.args.variables) c.args.subscripts.now
+    c.loop-subscript.subscript-index c.loop-subscript.composed.items _ c.loop-subscript-test.false
     c.loop-subscript.invariant

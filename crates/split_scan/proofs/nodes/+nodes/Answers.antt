@@ -2,7 +2,7 @@ use Rattle.std.proofs.Common.{◌≡◌, ◌+◌, ◌-◌, ◌<◌, ◌++◌, �
 use Rattle.std.proofs.Common.{length, rules, refl, get_or}
 use Rattle.std.proofs.lemmas.List.Elements.{All-append}
 use Rattle.std.proofs.lemmas.Result.{IfOk-weaker}
-use Rattle.whole_numbers.specs.Affine.{Affine}
+use Rattle.whole_numbers.specs.Affine.{Affine, widened}
 use Rattle.affine_forms.specs.Parts.{variables_of}
 use Rattle.integer_sets.specs.Scanned.{Scanned}
 use Rattle.loop_tree.specs.View.{nodes_of, tree_of, trees_of}
@@ -10,7 +10,7 @@ use Rattle.plain_scan.specs.Hulls.{IsAlike, sets_in}
 use Rattle.plain_scan.specs.Sets.{NumbersRise}
 use Rattle.plain_scan.specs.Pieces.{loops_of}
 use Rattle.plain_scan.proofs.CodeBounds.{take_all}
-use Rattle.split_scan.specs.Questions.{AreNatural, IsCut, opened}
+use Rattle.split_scan.specs.Questions.{AreNatural, IsCut}
 use Rattle.split_scan.specs.Ordering.{AreParts}
 use Rattle.split_scan.specs.Nodes.{IsNode, IsShaped}
 use Rattle.split_scan.specs.Parts.{IsPart, staying}
@@ -170,7 +170,7 @@ loop-part-preserved t c low high others is =
     let level = c.in_ok-level.level in
     let body = nodes_of c.in_ok-body.body.items in
     let inside : level.inside.items ≡ inside_of f =
-    c.in_ok-level.ensures.inside ∙ ap (λ (rows : List Affine). map (opened place) context ++ rows)
+    c.in_ok-level.ensures.inside ∙ ap (λ (rows : List Affine). map (widened place) context ++ rows)
     (c.deref.ensures.value ∙ is) in
     let inner = inner_there t before ∙ ap (λ (fs : List Affine). fs ++ part.cuts.items) inside in
     let one : place + 1 ≡ suc place = omega arith in
@@ -203,9 +203,9 @@ returns t c =
     (take_all c.deref-part-items.result.now c.loop-part.part-index c.loop-part-test.false
     ∙ c.deref-part-items.ensures.value) (c.loop-part.invariant bars.low bars.high bars.others bars.is) in
     let frame = frame_is c.args.left place p mark os context c.in_ok-rows.rows.items c.requires.sets (omega arith)
-    c.requires.context bars in
+    bars in
     let inside : level.inside.items ≡ inside_of f =
-    c.in_ok-level.ensures.inside ∙ ap (λ (rows : List Affine). map (opened place) context ++ rows)
+    c.in_ok-level.ensures.inside ∙ ap (λ (rows : List Affine). map (widened place) context ++ rows)
     (c.deref.ensures.value ∙ bars.is) in
     let parts : AreParts place (place + 1 + p) level.inside.items all ps =
     rw (c.in_ok-level.ensures.place, c.in_ok-level.ensures.parameters) at c.in_ok-parts.ensures in

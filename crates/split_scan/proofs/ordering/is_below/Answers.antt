@@ -1,10 +1,9 @@
 use Rattle.std.proofs.Common.{◌≡◌, ◌+◌, ◌++◌, [], ◌∷◌, rules, ap, ap₂, subst, sym, ◌∙◌, List, All, arith, map}
 use Rattle.std.specs.Bool.{IsTrue}
 use Rattle.std.proofs.lemmas.Result.{IfOk-weaker}
-use Rattle.std.proofs.lemmas.List.Elements.{All-append}
-use Rattle.whole_numbers.specs.Affine.{Affine}
+use Rattle.whole_numbers.specs.Affine.{Affine, widened}
 use Rattle.affine_forms.specs.Parts.{variables_of}
-use Rattle.split_scan.specs.Questions.{HasNone, opened}
+use Rattle.split_scan.specs.Questions.{HasNone}
 use Rattle.split_scan.specs.Ordering.{turned}
 use Rattle.split_scan.proofs.PartOrder.{below_of, turned_sized}
 use Rattle.split_scan.proofs.ordering.is_below.Goals as goal
@@ -23,13 +22,13 @@ made_there c =
     let upper : c.deref-4.result.now ≡ inside ++ c.args.second.now =
     c.deref-4.ensures.value ∙ c.in_ok-upper.ensures
     ∙ ap (λ (fs : List Affine). fs ++ c.args.second.now) c.deref-2.ensures.value in
-    let one : c.push_opened.new.out.items ≡ map (opened (m + 1)) (inside ++ c.args.first.now) =
-    c.in_ok-push_opened.ensures
-    ∙ ap₂ (λ (fs gs : List Affine). fs ++ map (opened (m + 1)) gs) c.new-rows.ensures.items lower in
-    let two : c.push_opened-2.new.out.items
-    ≡ map (opened (m + 1)) (inside ++ c.args.first.now) ++ map (opened m) (inside ++ c.args.second.now) =
-    c.in_ok-push_opened-2.ensures ∙ ap₂ (λ (fs gs : List Affine). fs ++ map (opened m) gs) one upper in
-    let pushed : c.push.new.list.items ≡ c.push_opened-2.new.out.items ++ c.in_ok-row.row ∷ [] = search rules in
+    let one : c.push_widened.new.out.items ≡ map (widened (m + 1)) (inside ++ c.args.first.now) =
+    c.in_ok-push_widened.ensures
+    ∙ ap₂ (λ (fs gs : List Affine). fs ++ map (widened (m + 1)) gs) c.new-rows.ensures.items lower in
+    let two : c.push_widened-2.new.out.items
+    ≡ map (widened (m + 1)) (inside ++ c.args.first.now) ++ map (widened m) (inside ++ c.args.second.now) =
+    c.in_ok-push_widened-2.ensures ∙ ap₂ (λ (fs gs : List Affine). fs ++ map (widened m) gs) one upper in
+    let pushed : c.push.new.list.items ≡ c.push_widened-2.new.out.items ++ c.in_ok-row.row ∷ [] = search rules in
     pushed ∙ ap₂ (λ (fs : List Affine) (f : Affine). fs ++ f ∷ []) two c.in_ok-row.ensures
 
 pub has_none-requires : goal.has_none-requires
@@ -50,11 +49,6 @@ returns c =
     let n = m + 2 + level.parameters in
     let inside = level.inside.items in
     let natural : IsTrue level.natural = search rules in
-    let lower = All-append (λ f. variables_of f ≡ m + 1 + level.parameters) inside c.args.first.now level.sized
-    c.requires.first in
-    let upper = All-append (λ f. variables_of f ≡ m + 1 + level.parameters) inside c.args.second.now level.sized
-    c.requires.second in
     IfOk-weaker c.has_none.result _ _ (λ none h t. below_of m n inside c.args.first.now c.args.second.now
     (omega arith) (level.not_negative natural)
-    (λ k d i. let e = lower k d i in omega (arith, e)) (λ k d i. let e = upper k d i in omega (arith, e))
     (subst (HasNone (m + 2)) (made_there (goal.at.returns c).In_ok-push) (h t))) c.has_none.ensures

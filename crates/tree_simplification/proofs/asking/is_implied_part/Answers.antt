@@ -30,7 +30,7 @@ returns c =
     let natural = c.in_ok-are_natural_between.ensures c.if-not-branch.false in
     let within = context_of c.in_ok-within.within in
     IfOk-weaker c.never_holds.result _ _ (λ answer never found params outer m x on others_on.
-    implied_part context turned bs others b old.sized c.requires.parts c.requires.others c.requires.part
+    implied_part context turned bs others b c.requires.parts c.requires.others c.requires.part
     (subst (λ (d : Context). NeverHolds d (part_row context.loops (not turned) true b)) c.in_ok-within.ensures
     (subst (λ (f : Affine). NeverHolds within f) c.in_ok-row.ensures (never found)))
     params outer m x (natural params outer m x on others_on) on others_on) c.never_holds.ensures
