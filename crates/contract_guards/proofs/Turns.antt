@@ -1,5 +1,5 @@
 -- The worked dependence from each turn to the next at its points, and what numbers say there.
-use Rattle.std.proofs.Common.{◌≡◌, refl, subst, arith, ℕ, ℤ, pos, negsuc, List, [], ◌∷◌, length}
+use Rattle.std.proofs.Common.{◌≡◌, refl, subst, arith, ℕ, ℤ, pos, negsuc, List, [], ◌∷◌}
 use Rattle.std.specs.Prelude.{◌+ℤ◌, ◌≤ℤ◌, get_or}
 use Rattle.std.proofs.lemmas.Int.{ints}
 use Rattle.std.proofs.lemmas.List.Elements.{All-cons, All-head, All-nil}
@@ -13,12 +13,6 @@ use Rattle.contract_guards.specs.Worked.{end, next_turn}
 -- the equality of the dependence
 abbrev rises : Affine
 rises = form_of (pos 1 ∷ negsuc 0 ∷ pos 0 ∷ []) (pos 1)
-
--- a list of one number
-single : (xs : List ℤ) → length xs ≡ 1 → (x : ℤ) × (xs ≡ x ∷ [])
-single [] is = absurd (omega (arith, is))
-single (x ∷ []) is = (x, refl)
-single (x ∷ y ∷ xs) is = absurd (omega (arith, is))
 
 -- what holds of the turns of a point, one of which is one more than the other
 at_points : (P : List ℤ → List ℤ → List ℤ → Type 0) → ((x n : ℤ) → P (x ∷ []) ((x +ℤ pos 1) ∷ []) (n ∷ []))

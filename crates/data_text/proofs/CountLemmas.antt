@@ -29,15 +29,6 @@ count_most (suc (suc (suc zero))) few = omega arith
 count_most (suc (suc (suc (suc zero)))) few = omega arith
 count_most (suc (suc (suc (suc (suc i))))) few = absurd (omega (arith, few))
 
--- one array more
-pub total_next : (layouts : List (List ℕ)) (i total whole : ℕ) → i < length layouts
-    → total + total_cells (drop i layouts) ≡ whole
-    → (total + cell_count (get_or layouts i [])) + total_cells (drop (i + 1) layouts) ≡ whole
-total_next layouts i total whole within is =
-    let cons = ap total_cells (drop-cons layouts i [] within) in
-    let next = ap (λ n. total_cells (drop n layouts)) (add-one i) in
-    omega (arith, is, cons, next)
-
 -- an array has no more cells than all
 pub count_below : (layouts : List (List ℕ)) (i : ℕ) → i < length layouts
     → cell_count (get_or layouts i []) ≤ total_cells layouts

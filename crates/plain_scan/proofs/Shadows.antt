@@ -1,16 +1,12 @@
 -- From a set down to its first dimensions.
 use Rattle.std.proofs.Common.{◌≡◌, ℕ, suc, ◌<◌, ℤ, pos, List, [], ◌∷◌, ◌++◌, length, ap, subst, sym, refl, ◌∙◌, arith}
-use Rattle.std.proofs.lemmas.Int.{ints}
 use Rattle.fm_projection.proofs.WholePoints.{one_more}
-use Rattle.whole_numbers.specs.Affine.{Affine}
 use Rattle.integer_sets.specs.Scanned.{Scanned}
-use Rattle.plain_scan.specs.Sets.{AllZero, AllAtLeast, IsKeyOf}
-use Rattle.fractions.specs.Farkas.{two_rows}
+use Rattle.plain_scan.specs.Sets.{IsKeyOf}
 use Rattle.integer_sets.specs.Constraints.{Constraints}
 use Rattle.integer_sets.specs.Points.{Satisfies}
 use Rattle.plain_scan.specs.Shadows.{IsShadow, Follow}
 use Rattle.plain_scan.proofs.Nodes.{length_end}
-use Rattle.plain_scan.proofs.Rows.{negated}
 
 -- the set itself
 whole_same : (xs ys r : List ℤ) (y : ℤ) → length xs ≡ length ys → xs ++ r ≡ ys ++ y ∷ [] → xs ≡ ys
@@ -47,11 +43,3 @@ shadow_less m s t u less shadow follow params outer (x ∷ r) l k =
     let n = length_end outer x ∙ ap suc l in
     let h = shadow params (outer ++ x ∷ []) r n (subst (IsKeyOf params s) (sym (one_more outer x r)) k) in
     follow outer x params l (subst (Satisfies t) (one_more outer x params) h)
-
--- its rows, and equalities as two rows, are rows that the set implies
-pub two_rows_hold : (es rs : List Affine) (point : List ℤ) → AllZero es point → AllAtLeast rs point
-    → AllAtLeast (two_rows es ++ rs) point
-two_rows_hold [] rs point e h = h
-two_rows_hold (f ∷ es) rs point e h =
-    let z = e.0 in let n = negated f point in
-    (omega (arith, ints, z), (omega (arith, ints, z, n), two_rows_hold es rs point e.1 h))

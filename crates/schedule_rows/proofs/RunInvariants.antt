@@ -16,7 +16,7 @@ use Rattle.schedule_rows.specs.Posed.{loops_of}
 use Rattle.schedule_rows.specs.Next.{State, restricted, Restricts, Uncuts, Appends, Goes, Ends, IsSizedDep}
 use Rattle.schedule_rows.proofs.NextSteps.{next_goes, next_ends}
 use Rattle.schedule_rows.specs.Outcomes.{Runs, IsSchedule}
-use Rattle.schedule_rows.proofs.Pairs.{equal_to, equal_from, legal_kept}
+use Rattle.schedule_rows.proofs.Pairs.{equal_from, legal_kept}
 use Rattle.schedule_rows.proofs.BlockOrder.{along_to, along_append, along_closed, rises_or_equal, kept_more}
 
 -- each row has a coefficient for each loop
@@ -56,17 +56,6 @@ restricted_from m loops [] d params x y h k r e = r
 restricted_from m loops (r ∷ ms) d params x y h k re e =
     restricted_from m loops ms (equal_at m r.row d) params x y (sized_equal loops m r.row d h) k.1
     (equal_from m d r.row params x y (suits loops d r.row h k.0) re e.0) e.1
-
-pub restricted_to : (m : ℕ) (loops : List ℕ) (ms : List Marked) (d : Dependence) (params : List ℤ)
-    (x y : Instance)
-    → IsSizedDep loops d → AreSizedRows loops ms → Relates params
-    (restricted m ms d) x y → Relates params d x y × AreEqual ms x y
-restricted_to m loops [] d params x y h k re = (re, tt)
-restricted_to m loops (r ∷ ms) d params x y h k re =
-    let more = restricted_to m loops ms (equal_at m r.row d) params x y
-    (sized_equal loops m r.row d h) k.1 re in
-    let one = equal_to m d r.row params x y (suits loops d r.row h k.0) more.0 in
-    (one.0, (one.1, more.1))
 
 pub sized_restricted : (m : ℕ) (loops : List ℕ) (ms : List Marked) (d : Dependence) → IsSizedDep loops d
     → IsSizedDep loops (restricted m ms d)

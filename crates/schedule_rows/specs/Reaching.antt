@@ -2,7 +2,7 @@
 use Rattle.std.specs.Prelude.{◌≡◌, ℕ, List, [], ◌∷◌}
 use Rattle.iteration_domains.specs.Dependence.{Dependence}
 use Rattle.schedule_rows.specs.Next.{State, Restricts}
-use Rattle.schedule_rows.specs.Outcomes.{Outcome, goes, state, Next}
+use Rattle.schedule_rows.specs.Outcomes.{goes, state, Next}
 
 -- step by step from s over the states to t
 abbrev pub Path : ℕ → List ℕ → State → List State → State → Type 0
@@ -15,9 +15,3 @@ pub record Reached (m : ℕ) (loops : List ℕ) (deps : List Dependence) (s : St
   pub states : List State
   pub takes : Restricts m [] deps taken
   pub path : Path m loops (state [] [] taken) states s
-
--- and there to this outcome
-pub record Comes (m : ℕ) (loops : List ℕ) (deps : List Dependence) (o : Outcome) : Type 0 where
-  pub last : State
-  pub reached : Reached m loops deps last
-  pub next : Next m loops last o

@@ -1,29 +1,23 @@
 -- The trees and expressions that the code's values stand for: what code that makes them wants.
-use Rattle.std.proofs.Common.{◌≡◌, Vec, Global, map, ap, sym, ◌∙◌}
+use Rattle.std.proofs.Common.{◌≡◌, Vec, Global, ap, sym, ◌∙◌}
 use Rattle.std.specs.Global.{Box}
-use Rattle.scop_syntax.specs.Tree.{binary, Head, loop, guard, statement}
+use Rattle.scop_syntax.specs.Tree.{binary, Head, loop, statement}
 use Rattle.scop_syntax.specs.declared.tree.Operator.{Operator as Code}
 use Rattle.scop_syntax.specs.declared.tree.Expr.{Expr}
 use Rattle.scop_syntax.specs.declared.tree.Expr.TheVariants.{Binary, rolls-Binary}
 use Rattle.scop_syntax.specs.declared.tree.Expr.TheFolds.{fold-roll-Expr}
 use Rattle.scop_syntax.specs.declared.tree.Expr.TheOpen.{Expr-F}
 use Rattle.scop_syntax.specs.declared.tree.Item.{Item}
-use Rattle.scop_syntax.specs.declared.tree.Item.TheVariants.{Loop, Guard, Stmt, rolls-Loop, rolls-Guard, rolls-Stmt}
+use Rattle.scop_syntax.specs.declared.tree.Item.TheVariants.{Loop, Stmt, rolls-Loop, rolls-Stmt}
 use Rattle.scop_syntax.specs.declared.tree.Item.TheFolds.{fold-roll-Item}
 use Rattle.scop_syntax.specs.declared.tree.Item.TheOpen.{Item-F}
-use Rattle.scop_syntax.specs.declared.tree.Guard.{Guard as Tests}
 use Rattle.scop_syntax.specs.declared.tree.Stmt.{Stmt as Body}
 use Rattle.scop_syntax.specs.Tree.{Tree, Expression}
-use Rattle.scop_syntax.specs.View.{expression_step, expression_of, operator_of, test_of, statement_of, tree_of}
+use Rattle.scop_syntax.specs.View.{expression_step, expression_of, operator_of, statement_of, tree_of}
 use Rattle.scop_syntax.specs.View.{tree_step, items_of}
 
 pub tree_loop : (head : Head) (body : Vec Item Global) → tree_of (Loop head body) ≡ loop head (items_of body.items)
 tree_loop head body = ap tree_of (sym (rolls-Loop head body)) ∙ fold-roll-Item Tree tree_step (Item-F.Loop head body)
-
-pub tree_guard :
-    (g : Tests) (body : Vec Item Global)
-    → tree_of (Guard g body) ≡ guard (map test_of g.tests.items) (items_of body.items)
-tree_guard g body = ap tree_of (sym (rolls-Guard g body)) ∙ fold-roll-Item Tree tree_step (Item-F.Guard g body)
 
 pub tree_statement : (s : Body) → tree_of (Stmt s) ≡ statement (statement_of s)
 tree_statement s = ap tree_of (sym (rolls-Stmt s)) ∙ fold-roll-Item Tree tree_step (Item-F.Stmt s)

@@ -1,4 +1,3 @@
-pub mod Opposites
 pub mod LineParts
 pub mod NodeMoves
 pub mod CopiedLists

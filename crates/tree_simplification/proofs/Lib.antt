@@ -11,4 +11,4 @@ pub mod Shapes
 pub mod Walks
 pub mod Trees
 pub mod TrimmedTrees
-pub mod BothSteps
+pub mod TrimmedAlone

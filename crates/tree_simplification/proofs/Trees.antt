@@ -1,18 +1,15 @@
 -- What is left of nodes, one by one, as code goes over them.
 use Rattle.std.proofs.Common.{◌≡◌, ℕ, zero, suc, ◌+◌, ◌<◌, List, [], ◌∷◌, length, drop, get_or, ap, subst, sym}
 use Rattle.std.proofs.Common.{◌∙◌, refl, arith}
-use Rattle.std.specs.Prelude.{Bool, Result, Ok, Err, OnOk, is_ok, if◌then◌else◌}
-use Rattle.loop_tree.specs.Shape.{TreesAreOver}
-use Rattle.loop_tree.specs.Tree.{Bounds, Test, loop, guard, Trees, none, more}
+use Rattle.std.specs.Prelude.{Result, Ok, Err, OnOk, is_ok, if◌then◌else◌}
+use Rattle.loop_tree.specs.Tree.{Trees, none, more}
 use Rattle.loop_tree.specs.View.{nodes_of, tree_of}
 use Rattle.loop_tree.specs.declared.tree.Node.{Node}
 use Rattle.loop_tree.proofs.Weights.{node_here}
-use Rattle.tree_simplification.specs.steps.Context.{Context, tested}
+use Rattle.tree_simplification.specs.steps.Context.{Context}
 use Rattle.tree_simplification.specs.steps.Joined.{joined}
-use Rattle.tree_simplification.specs.steps.Trimmed.{CanTrim, IsEntered, Trims, TrimsAll}
+use Rattle.tree_simplification.specs.steps.Trimmed.{CanTrim, Trims, TrimsAll}
 use Rattle.tree_simplification.proofs.JoinedTrees.{joined_assoc, joined_none}
-use Rattle.tree_simplification.proofs.Shapes.{flat_body}
-use Rattle.tree_simplification.proofs.Walks.{one_more}
 
 -- what a call that may fail leaves where it does not
 pub left_at_ok : {A E X : Type 0} (r : Result A E) (new both old : X) → new ≡ (if is_ok r then both else old)
@@ -32,21 +29,6 @@ pub can_one : (c : Context) (nodes : List Node) (i : ℕ) (node : Node) → node
     → CanTrim c (nodes_of nodes) → CanTrim c (more (tree_of node) none)
 can_one c nodes i node found inside can =
     subst (λ (x : Node). CanTrim c (more (tree_of x) none)) (sym found) (can_at c nodes i node inside can)
-
--- a loop's body, and a guard's
-pub can_loop : (c within : Context) (flag : Bool) (lo up : Bounds) (body : Trees)
-    → CanTrim c (more (loop flag lo up body) none) → IsEntered c lo up within → CanTrim within body
-can_loop c within flag lo up body can e =
-    subst (λ (d : Context). CanTrim d body) (sym e.1) (record {
-      flat = can.flat.0.2;
-      over = subst (λ k. TreesAreOver k body) (one_more c.loops c.parameters) can.over.0.2;
-    })
-
-pub can_guard : (c within : Context) (tests : List Test) (body : Trees) → CanTrim c (more (guard tests body) none)
-    → within ≡ tested c tests → CanTrim within body
-can_guard c within tests body can e =
-    subst (λ (d : Context). CanTrim d body) (sym e)
-    (record { flat = flat_body tests body can.flat; over = can.over.0.1 })
 
 -- what is left so far, with what is left of the rest, is what is left of all
 abbrev pub Leaves : Context → List Node → ℕ → List Node → Type 0

@@ -1,6 +1,6 @@
 use Rattle.loop_tree.specs.View.{trees_in}
 use Rattle.loop_tree.proofs.LargerBounds.{nested_all}
-use Rattle.tree_simplification.proofs.BothSteps.{first}
+use Rattle.tree_simplification.proofs.TrimmedAlone.{first}
 use Rattle.tree_simplification.proofs.simplifying.simplified.Goals as goal
 
 pub without_single-requires-clause-nested : goal.without_single-requires-clause-nested
