@@ -365,6 +365,24 @@ const GENERATED: &[Generated] = &[
         tiles: 10,
         waves: 10,
     },
+    Generated {
+        kind: Kind::Product,
+        seed: 7,
+        size: 160,
+        words: ["gen", "product", "7", "160"],
+        tile: "32",
+        tiles: 125,
+        waves: 5,
+    },
+    Generated {
+        kind: Kind::Sweep,
+        seed: 7,
+        size: 256,
+        words: ["gen", "sweep", "7", "256"],
+        tile: "1",
+        tiles: 65_536,
+        waves: 766,
+    },
 ];
 
 /// The summary of a generated kernel that the plain interpreter runs.
