@@ -1,2 +1,3 @@
 pub mod LexedTexts
+pub mod Quotients
 pub mod Turns

@@ -5,7 +5,9 @@
 
 pub mod conflicts;
 pub mod dependence_rows;
+pub mod divisions;
 pub mod domains;
+pub mod form_values;
 pub mod forms;
 pub mod grammars;
 pub mod graphs;
