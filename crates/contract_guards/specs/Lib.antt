@@ -1,1 +1,2 @@
+pub mod SmallRows
 pub mod Worked

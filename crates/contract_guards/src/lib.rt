@@ -3,12 +3,14 @@
 //! cites it, the caller here no longer proves. Nothing is built on this crate.
 #![tactic(auto)]
 
+pub mod combined_rows;
 pub mod conflicts;
 pub mod dependence_rows;
 pub mod divisions;
 pub mod domains;
 pub mod form_values;
 pub mod forms;
+pub mod fraction_points;
 pub mod grammars;
 pub mod graphs;
 pub mod instances;

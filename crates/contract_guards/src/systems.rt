@@ -1,12 +1,20 @@
-//! Callers of systems: intersections, points and eliminations.
-ghost use Rattle.std.specs.Prelude.{◌≡◌, ◌↔◌, ◌<◌, [], ◌++◌, pos, true, All, IfOk, IsTrue, Ok, length};
+//! Callers of systems: intersections, points and eliminations, and the laws of points.
+ghost use Rattle.std.specs.Prelude.{◌≡◌, ◌↔◌, ◌⊎◌, ◌<◌, ◌^◌, [], ◌∷◌, ◌++◌, ℤ, List, pos, true, All, IfOk, IsTrue, Ok};
+ghost use Rattle.std.specs.Prelude.{length};
+ghost use Rattle.whole_numbers.specs.Lexicographic.{LexLess};
+ghost use Rattle.wide_math.specs.Checked.{wide};
+ghost use Rattle.wide_math.specs.declared.Op.TheVariants.{Mul};
 ghost use Rattle.fractions.specs.Elimination.{coefficient_of};
 ghost use Rattle.fractions.specs.Fractions.{HoldsForSome, HoldsOver};
 ghost use Rattle.integer_sets.specs.Constraints.{variables_in};
-ghost use Rattle.integer_sets.specs.Points.{Satisfies};
+ghost use Rattle.integer_sets.specs.Points.{IsLeastPoint, Satisfies};
+ghost use Rattle.integer_sets.specs.Stops.{StopsAt};
+ghost use Rattle.contract_guards.specs.SmallRows.{from_half, wide_behind};
 
 use fm_projection::{FmStop, eliminate};
-use integer_sets::System;
+use integer_sets::{
+    System, least_point_is_unique, prefix_decides_the_order, tests_stop_at_the_first_wide_value,
+};
 use std::alloc::{AllocError, Global};
 use wide_math::Wide;
 
@@ -51,4 +59,30 @@ pub fn left_at(
     ensures without { IfOk result (λ left. All (λ row. coefficient_of variable row ≡ pos 0) left.rows) }
 {
     eliminate(alloc, system, variable)
+}
+
+/// The least x with 3 <= 2 x is 2 and no other, by the clause of `least_point_is_unique`.
+pub fn least_point_from_a_half()
+    ensures { (q : List ℤ) → IsLeastPoint from_half (pos 3 ∷ []) q → q ≡ pos 2 ∷ [] }
+{
+    least_point_is_unique();
+}
+
+/// Two points of two dimensions come in the order of the first, and of the second where the first is the same, by the
+/// clause of `prefix_decides_the_order`.
+pub fn order_of_two_dimensions()
+    ensures { (v w x y : ℤ) → LexLess (v ∷ x ∷ []) (w ∷ y ∷ [])
+        ↔ (LexLess (v ∷ []) (w ∷ []) ⊎ ((v ∷ [] ≡ w ∷ []) × LexLess (x ∷ []) (y ∷ []))) }
+{
+    prefix_decides_the_order();
+}
+
+/// A test of 2^126 stops at the product of the row 0 <= 2 x, behind an equality and a row that pass, and nowhere else,
+/// by the clause of `tests_stop_at_the_first_wide_value`.
+pub fn a_row_with_a_wide_value()
+    ensures stops { StopsAt wide_behind (pos (2 ^ 126) ∷ []) (wide Mul (pos 2) (pos (2 ^ 126))) }
+    ensures only { (w : Wide) → StopsAt wide_behind (pos (2 ^ 126) ∷ []) w
+        → wide Mul (pos 2) (pos (2 ^ 126)) ≡ w }
+{
+    tests_stop_at_the_first_wide_value();
 }

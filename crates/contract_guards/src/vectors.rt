@@ -1,5 +1,5 @@
 //! Callers of kernel vectors.
-ghost use Rattle.std.specs.Prelude.{◌≡◌, ◌≤◌, ◌<ℤ◌, ℕ, ℤ, List, IfOk, All, length, map, pos};
+ghost use Rattle.std.specs.Prelude.{◌≡◌, ◌≤◌, ◌<ℤ◌, ◌∷◌, [], ℕ, ℤ, List, IfOk, All, length, map, negsuc, pos};
 ghost use Rattle.whole_numbers.specs.Lists.{multiples};
 ghost use Rattle.null_space.specs.Echelon.{AreKernelVectors, AreOf, IsKernelVector, IsOrthogonal, combination};
 ghost use Rattle.null_space.specs.Narrowing.{kernel_vectors};
@@ -39,4 +39,16 @@ pub fn several_vectors_of_small_rows()
         → All (AreWithin 24) (kernel_vectors n rows) }
 {
     null_space::several_kernel_vectors_are_small();
+}
+
+/// Of the row (2, -4) the one vector is (2, 1), by `are` of `kernel_vectors_are_those_of_the_reduced_echelon_form`, and
+/// no other, by `unique`; (0, 1, -1) narrows those of (1, 0, -1) to (1, 1, 1), by `more`.
+pub fn vectors_of_small_rows()
+    ensures are { AreKernelVectors 2 ((pos 2 ∷ negsuc 3 ∷ []) ∷ []) ((pos 2 ∷ pos 1 ∷ []) ∷ []) }
+    ensures unique { (vectors : List (List ℤ)) → AreKernelVectors 2 ((pos 2 ∷ negsuc 3 ∷ []) ∷ []) vectors
+        → vectors ≡ (pos 2 ∷ pos 1 ∷ []) ∷ [] }
+    ensures more { AreKernelVectors 3 ((pos 1 ∷ pos 0 ∷ negsuc 0 ∷ []) ∷ (pos 0 ∷ pos 1 ∷ negsuc 0 ∷ []) ∷ [])
+        ((pos 1 ∷ pos 1 ∷ pos 1 ∷ []) ∷ []) }
+{
+    null_space::kernel_vectors_are_those_of_the_reduced_echelon_form();
 }
