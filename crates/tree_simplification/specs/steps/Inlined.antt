@@ -1,7 +1,7 @@
 -- Trees in which the loops that run once have given way to their values.
 use Rattle.std.specs.Prelude.{◌≡◌, ℕ, ◌+◌, ◌^◌, ◌≤◌, true, ℤ, List, [], ◌∷◌, ◌++◌, All, length, map, pos}
 use Rattle.std.specs.Prelude.{◌⊎◌}
-use Rattle.whole_numbers.specs.Affine.{Affine, composed, values_of}
+use Rattle.whole_numbers.specs.Affine.{Affine, composed, values_of, widened}
 use Rattle.fm_projection.specs.Alone.{AreInRange}
 use Rattle.scop_syntax.specs.Kernel.{AreAtMost}
 use Rattle.scop_syntax.specs.Tree.{Program}
