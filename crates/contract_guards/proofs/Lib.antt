@@ -1,2 +1,4 @@
 pub mod LexedTexts
+pub mod NodeSteps
+pub mod Tableaus
 pub mod Turns

@@ -11,6 +11,8 @@ pub mod grammars;
 pub mod graphs;
 pub mod instances;
 pub mod joins;
+pub mod minimum_runs;
+pub mod moves;
 pub mod nodes;
 pub mod numbers;
 pub mod ports;
