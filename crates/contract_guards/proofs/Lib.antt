@@ -1,3 +1,5 @@
 pub mod LexedTexts
 pub mod Quotients
+pub mod NodeSteps
+pub mod Tableaus
 pub mod Turns

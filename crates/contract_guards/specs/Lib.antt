@@ -1,2 +1,3 @@
 pub mod SmallRows
+pub mod Halves
 pub mod Worked

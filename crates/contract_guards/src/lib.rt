@@ -15,6 +15,8 @@ pub mod grammars;
 pub mod graphs;
 pub mod instances;
 pub mod joins;
+pub mod minimum_runs;
+pub mod moves;
 pub mod nodes;
 pub mod number_lists;
 pub mod numbers;

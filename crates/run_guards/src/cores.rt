@@ -1,17 +1,17 @@
 //! Callers of the core over a kernel's plan: the opening state, events, the cells, and what plans execute.
-ghost use Rattle.std.specs.Prelude.{◌≡◌, ℕ, ◌<◌, IfOk, List, MatchOption, Some, length, slice_get, slice_index_or};
+ghost use Rattle.std.specs.Prelude.{◌≡◌, ℕ, ◌<◌, ◌≤◌, IfOk, List, MatchOption, Some, length, slice_get, slice_index_or};
 ghost use Rattle.scop_syntax.specs.Cells.{Cell};
 ghost use Rattle.scop_syntax.specs.Execution.{IsCell, IsShaped, cell_number, exec, held, values_read_by};
 ghost use Rattle.scop_syntax.specs.Walk.{Visit};
 ghost use Rattle.tile_events.specs.Core.{State, step};
 ghost use Rattle.tile_events.specs.Flat.{flat};
 ghost use Rattle.tile_events.specs.Opening.{IsQuiet};
-ghost use Rattle.tile_events.specs.Plan.{values_read};
+ghost use Rattle.tile_events.specs.Plan.{GoodPlan, IsDealt, values_read};
 ghost use Rattle.tile_events.specs.Sound.{Sound};
 ghost use Rattle.tile_core.specs.Boards.{IsRun, event_of, opening_state};
 ghost use Rattle.tile_core.specs.Cores.{IsCore, ReadsExecuted, plan_in, state_in};
 ghost use Rattle.tile_core.specs.Passes.{HasNoneNext, IsNextIn, IsPass};
-ghost use Rattle.tile_core.specs.Plans.{IsPlan, extents_in, plan_of, program_in, shape_of, walk_in};
+ghost use Rattle.tile_core.specs.Plans.{IsPlan, deal_of, extents_in, plan_of, program_in, scan_in, shape_of, walk_in};
 ghost use Rattle.tile_core.specs.declared.plan.Plan.{Plan as AnyPlan};
 
 use scop_syntax::instance::Instance;
@@ -93,4 +93,22 @@ pub fn values_of_plans()
         ≡ held (extents_in plan) (exec (program_in plan) plan.params.now contents) c }
 {
     plan_laws::plans_execute_the_kernel();
+}
+
+/// The first place of a walk of three has a rank below 3, by `scan` of `plans_are_good`, and the scan is as long, by
+/// `count`; over no contents a plan is good, by `good`, and its places are dealt, by `dealt`.
+pub fn plans_of_three_places()
+    ensures scan { (plan : AnyPlan) → IsPlan plan → length (walk_in plan) ≡ 3 → (deal_of plan).rank 0 < 3 }
+    ensures count { (plan : AnyPlan) → IsPlan plan → length (walk_in plan) ≡ 3 → length (scan_in plan) ≡ 3 }
+    ensures good { (plan : AnyPlan) → IsPlan plan → GoodPlan (shape_of plan) }
+    ensures dealt { (plan : AnyPlan) → IsPlan plan → IsDealt (shape_of plan) }
+{
+    plan_laws::plans_are_good();
+}
+
+/// The first place of some reads at most 16 cells, by the clause of `instances_read_few`.
+pub fn reads_of_the_first_place()
+    ensures { (plan : AnyPlan) → IsPlan plan → 0 < (shape_of plan).places → length ((shape_of plan).read 0) ≤ 16 }
+{
+    plan_laws::instances_read_few();
 }

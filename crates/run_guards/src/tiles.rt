@@ -1,16 +1,19 @@
 //! Callers of tiles: their list, and the laws without parameters, at tiles of size 1 and in
 //! the source's order.
-ghost use Rattle.std.specs.Prelude.{◌≡◌, ℕ, [], ◌∷◌, IfOk, List, Some, slice_get};
+ghost use Rattle.std.specs.Prelude.{◌≡◌, ◌-◌, ℕ, [], ◌∷◌, IfOk, List, Some, length, slice_get};
 ghost use Rattle.scop_syntax.specs.Tree.{Program};
 ghost use Rattle.scop_syntax.specs.Walk.{Instance};
 ghost use Rattle.loop_tree.specs.Conditions.{CanWalk};
 ghost use Rattle.loop_tree.specs.Plans.{AreInOrder};
 ghost use Rattle.loop_tree.specs.Tiling.{Items, kept, tiled};
 ghost use Rattle.loop_tree.specs.TilingView.{tiling_of};
+ghost use Rattle.loop_tree.specs.Tree.{Trees};
 ghost use Rattle.loop_tree.specs.View.{trees_in};
 ghost use Rattle.loop_tree.specs.Walk.{visits};
-ghost use Rattle.tile_list.specs.Tiles.{AreTiles, AreWaves, CanTile, HaveOneLength, RiseByTile};
+ghost use Rattle.tile_list.specs.Counting.{HasTiles, HasWaves};
+ghost use Rattle.tile_list.specs.Tiles.{AreTiles, AreWaves, CanTile, HaveOneLength, RiseByTile, start_of};
 ghost use Rattle.tile_list.specs.TilesView.{IsTileListOf};
+ghost use Rattle.tile_list.specs.declared.list.TileList.{TileList as AnyList};
 
 use loop_tree::{Tiling, Tree};
 use std::alloc::{AllocError, Global};
@@ -61,4 +64,29 @@ pub fn tiles_of_the_source_lie_in_one_wave()
         → slice_get numbers u ≡ Some n → m ≡ n }
 {
     laws::numbers_tell_waves();
+}
+
+/// The second of two tiles ends with three instances, by `next` of `tiles_stand_one_behind_another`; where the tiles
+/// are those of some instances, these are three, by `last`, and the second is the first of the second tile, by `at`.
+pub fn two_tiles_of_three_instances()
+    ensures next { (x y z : Instance) → start_of ((x ∷ []) ∷ (y ∷ z ∷ []) ∷ []) 2 ≡ 3 }
+    ensures last { (statements : List Items) (xs : List Instance) (x y z : Instance)
+        → AreTiles (tiled 1 statements) xs ((x ∷ []) ∷ (y ∷ z ∷ []) ∷ []) → length xs ≡ 3 }
+    ensures at { (statements : List Items) (xs : List Instance) (x y z : Instance)
+        → AreTiles (tiled 1 statements) xs ((x ∷ []) ∷ (y ∷ z ∷ []) ∷ []) → slice_get xs 1 ≡ Some y }
+{
+    laws::tiles_stand_one_behind_another();
+}
+
+/// A list of tiles of size 1 of visits without parameters has as many tiles as hold one, by `tiles` of
+/// `tiles_are_counted`, and tells of as many waves, by `waves`.
+pub fn tiles_of_size_1_are_counted()
+    ensures tiles { (ts : Trees) (statements : List Items) (list : AnyList)
+        → IsTileListOf ts [] (tiled 1 statements) list
+        → HasTiles (tiled 1 statements) (visits ts []) (length list.tiles.items) }
+    ensures waves { (ts : Trees) (statements : List Items) (list : AnyList)
+        → IsTileListOf ts [] (tiled 1 statements) list
+        → HasWaves (tiled 1 statements) (visits ts []) (length list.offsets.items - 1) }
+{
+    laws::tiles_are_counted();
 }

@@ -1,0 +1,29 @@
+use Rattle.std.proofs.Common.{[], ◌∷◌, arith, refl, subst, sym}
+use mathlib.Core.Option.{none}
+use Rattle.atomic_table.specs.Table.{step}
+use Rattle.tile_events.specs.Example.{two}
+use Rattle.run_guards.proofs.events.steps_of_one_worker.Goals as goal
+
+pub returns-clause-claim : goal.returns-clause-claim
+returns-clause-claim g c = λ worker me won lost free holds over tells.
+    c.events_are_allowed.ensures.claim two 2 worker (λ v. 1) 0 0 me won lost free (omega arith) holds (λ t. refl) over
+    refl (λ t less. tells t (won t)) (λ t none_left. tells t lost)
+
+pub returns-clause-open : goal.returns-clause-open
+returns-clause-open g c = λ worker me opened holds works tells.
+    c.events_are_allowed.ensures.open two 2 worker (λ v. 1) 0 0 1 me opened holds works refl (λ n done. tells n opened)
+    (λ n less. tells n me.0)
+
+pub returns-clause-load : goal.returns-clause-load
+returns-clause-load g c = λ worker me next works reads tells.
+    c.events_are_allowed.ensures.load two 2 worker (λ v. 1) 0 0 1 0 [] me next works reads (λ x. refl) (omega arith)
+    (omega arith) (λ x is. subst (λ x. g.M.Play.then (step 0 2 0 0 none) me x (next x, me.1)) (sym is) tells)
+
+pub returns-clause-store : goal.returns-clause-store
+returns-clause-store g c = λ worker me next works stored tells.
+    c.events_are_allowed.ensures.store two 2 worker (λ v. 1) 0 0 1 0 6 (5 ∷ []) me next works stored refl (omega arith)
+    refl refl tells
+
+pub returns-clause-finish : goal.returns-clause-finish
+returns-clause-finish g c = λ worker me next works free tells.
+    c.events_are_allowed.ensures.finish two 2 worker (λ v. 1) 0 0 1 1 [] me next works free refl refl tells
