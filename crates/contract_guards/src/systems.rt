@@ -30,8 +30,8 @@ pub fn both_at(first: &System, second: &System, point: &[i128]) -> Result<System
     first.and(second)
 }
 
-/// A system without constraints holds everywhere, by `run` of `System::holds_at`; a point is one of the system where the
-/// answer says so, by `law`.
+/// A system without constraints holds everywhere, by `run` of `System::holds_at`; a point is one of the system where
+/// the answer says so, by `law`.
 pub fn holds(system: &System, point: &[i128]) -> Result<bool, Wide>
     requires { length point.now ≡ variables_in system.now }
     ensures run { system.now.equalities ≡ [] → system.now.rows ≡ [] → result ≡ Ok true }
@@ -40,8 +40,9 @@ pub fn holds(system: &System, point: &[i128]) -> Result<bool, Wide>
     system.holds_at(point)
 }
 
-/// Of a system without constraints nothing is left, by `exact` of `eliminate`. A point of what is left has a fraction for
-/// the variable, and so has one of halves, by `points` and `fractions`; no row that is left has the variable, by `without`.
+/// Of a system without constraints nothing is left, by `exact` of `eliminate`. A point of what is left has a fraction
+/// for the variable, and so has one of halves, by `points` and `fractions`; no row that is left has the variable, by
+/// `without`.
 #[tactic(auto, unfolding(fractions::specs::Elimination::eliminated))]
 pub fn left_at(
     alloc: Global,

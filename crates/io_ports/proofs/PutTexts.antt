@@ -309,9 +309,6 @@ send_then_pending old mid new p q a put cut =
     subst (λ t. CutsOff old new (p ++ t)) (append-nil a)
     (send_then_cut old mid new p q a [] put (subst (λ t. CutsOff mid new t) (sym (append-nil q)) cut))
 
--- what a put of several texts owes
-pub ruleset putting = (send_then, send_then_cut, cut_before)
-
 -- a text that is put piece by piece: what was put so far, the next piece, and the rest
 pub next_put : (old mid new : SinkShows) (p q r done piece rest text : List ℕ) → done ++ (piece ++ rest) ≡ text
     → Sends old p mid q done → Sends mid q new r piece

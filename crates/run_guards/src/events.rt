@@ -91,8 +91,8 @@ pub fn steps_of_one_worker<V, M: Play<(), V>>()
 }
 
 /// Where a seat is the number of workers for whom it stands, an idle seat of three is split into one of one and one of
-/// two, by `split` of `seats_are_allowed`; two that have ended become one of three and one of nobody, by `join`; where a
-/// seat of all three has ended, the second cell of two tiles holds 6, by `end`.
+/// two, by `split` of `seats_are_allowed`; two that have ended become one of three and one of nobody, by `join`; where
+/// a seat of all three has ended, the second cell of two tiles holds 6, by `end`.
 pub fn seats_of_three_workers()
     ensures split { Splits (Held two 3 (λ v. idle) (λ v. v)) 0 3 1 2 }
     ensures join { Joins (Held two 3 (λ v. if nat_eq v 0 then idle else ended) (λ v. v)) 0 1 1 2 3 0 }

@@ -132,7 +132,8 @@ node_end left place p mark os context ts end shaped rise is =
 
 -- the hull's rows make a frame
 pub frame_is : (left place p : ℕ) (mark : Option ℕ) (os : List Outline) (context rows : List Affine)
-    → All (IsShaped (place + left) p) (sets_in os) → 0 < left → (bars : AreBars (left - 1) place (place + 1 + p) os rows)
+    → All (IsShaped (place + left) p) (sets_in os) → 0 < left
+    → (bars : AreBars (left - 1) place (place + 1 + p) os rows)
     → IsFrame (frame_of place p mark (sets_in os) context bars.low bars.high bars.others)
 frame_is left place p mark os context rows shaped some bars =
     record {

@@ -6,9 +6,9 @@
 //! which may be any bytes. EXIT is the exit status. The words are those of the command line behind the program's name.
 //!
 //! A case of the solver is `problem UNKNOWNS PARAMETERS BUDGET`, lines `row A .. B .. CONSTANT`, lines `context B ..
-//! CONSTANT`, and `answer quast MOVES Q`, `answer spent MOVES` or `answer wide MOVES`. Q is `none`, `(leaf F ..)`, `(if
-//! F Q Q)` or `(let F D Q)`, F the numbers of a form in brackets. With a word TIMES each problem is solved so many times
-//! over, and answered once: so `bench/lexmin.sh` tells the time of solving from that of reading and printing.
+//! CONSTANT`, and `answer quast MOVES Q`, `answer spent MOVES` or `answer wide MOVES`. Q is `none`, `(leaf F ..)`,
+//! `(if F Q Q)` or `(let F D Q)`, F the numbers of a form in brackets. With a word TIMES each problem is solved so many
+//! times over, and answered once: so `bench/lexmin.sh` tells the time of solving from that of reading and printing.
 //!
 //! A case of an elimination is `system DIMENSIONS PARAMETERS`, its lines `equality C .. CONSTANT` and then `row C ..
 //! CONSTANT`, the line `eliminate V` (variables count from 1, parameters behind dimensions), and the answer: the lines
