@@ -58,8 +58,8 @@ pub fn plans_of_tiles()
     laws::tiled_schedules_are_good_plans();
 }
 
-/// A point of a scan set is the place of an instance, by `points` of `scan_sets_hold_the_instances`, and the place of an
-/// instance is a point of it, by `instances`.
+/// A point of a scan set is the place of an instance, by `points` of `scan_sets_hold_the_instances`, and the place of
+/// an instance is a point of it, by `instances`.
 pub fn scan_sets_of_tiles()
     ensures points { (program : Program) (blocks : List Block) (n : ℕ) (s : Modelled) (xs : List ℤ)
         → IsKernel program → program.parameters ≡ [] → AreSized (loops_in (model_of program)) blocks
