@@ -104,14 +104,14 @@ pub fn spot_of(alloc: Global, tree: &Tree) -> Result<Spot, AllocError>
     Spot::of(alloc, tree)
 }
 
-/// A spot that gives nothing stays with what is to come, by `rest` of `Spot::next`; where nothing is to come it gives
-/// nothing, and it stays a spot of its tree, by `none` and `spot`.
+/// A spot that gives nothing stays with what is to come, by `rest` of `Spot::next`, and that is nothing, by `none`; it
+/// stays a spot of its tree, by `spot`.
 pub fn next_of(spot: &mut Spot, tree: &Tree, params: &[i64]) -> Option<Instance>
     requires walk { CanWalk (trees_in tree.now) params.now [] }
     requires spot { IsSpotOf (trees_in tree.now) params.now spot.old }
     ensures rest { IsNone result
         → to_come (trees_in tree.now) params.now spot.old ≡ to_come (trees_in tree.now) params.now spot.new }
-    ensures none { to_come (trees_in tree.now) params.now spot.old ≡ [] → IsNone result }
+    ensures none { IsNone result → to_come (trees_in tree.now) params.now spot.old ≡ [] }
     ensures spot { IsSpotOf (trees_in tree.now) params.now spot.new }
 {
     spot.next(tree, params)

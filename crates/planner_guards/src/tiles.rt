@@ -1,5 +1,6 @@
 //! Callers of tiles and scan sets: the laws in kernels without parameters, at tiles of size 1.
-ghost use Rattle.std.specs.Prelude.{◌≡◌, ◌<◌, ◌≤◌, ◌++◌, ◌∷◌, [], ℕ, ℤ, pos, IfOk, List, Some, length, not, slice_get};
+ghost use Rattle.std.specs.Prelude.{◌≡◌, ◌<◌, ◌≤◌, ◌↔◌, ◌++◌, ◌∷◌, [], ℕ, ℤ, pos, IfOk, List, Some, length, not};
+ghost use Rattle.std.specs.Prelude.{slice_get};
 ghost use Rattle.whole_numbers.specs.Lexicographic.{LexLess};
 ghost use Rattle.integer_sets.specs.Points.{Satisfies};
 ghost use Rattle.integer_sets.specs.Scanned.{Scanned};
@@ -57,8 +58,8 @@ pub fn plans_of_tiles()
     laws::tiled_schedules_are_good_plans();
 }
 
-/// A point of a scan set is the place of an instance, by `points` of `scan_sets_hold_the_instances`, and the place of an
-/// instance is a point of it, by `instances`.
+/// A point of a scan set is the place of an instance, by `points` of `scan_sets_hold_the_instances`, and the place of
+/// an instance is a point of it, by `instances`.
 pub fn scan_sets_of_tiles()
     ensures points { (program : Program) (blocks : List Block) (n : ℕ) (s : Modelled) (xs : List ℤ)
         → IsKernel program → program.parameters ≡ [] → AreSized (loops_in (model_of program)) blocks
@@ -76,14 +77,14 @@ pub fn scan_sets_of_tiles()
     laws::scan_sets_hold_the_instances();
 }
 
-/// Places of instances of one statement within one loop come in the order of tiles of size 1, by the clause of
-/// `places_are_in_order`.
+/// Places of instances of one statement within one loop come in the order of tiles of size 1, and in no other, by the
+/// clause of `places_are_in_order`.
 pub fn places_within_one_loop()
     ensures { (blocks : List Block) (x y : Instance) → x.number < 1 → y.number < 1 → length x.turns ≤ 1
         → length y.turns ≤ 1
         → LexLess (place_of (pos 1) 1 (statement_items blocks x.number) x.turns ++ pos x.number ∷ [])
         (place_of (pos 1) 1 (statement_items blocks y.number) y.turns ++ pos y.number ∷ [])
-        → LexLess (order_of 1 (statements_from blocks 0 1) x) (order_of 1 (statements_from blocks 0 1) y) }
+        ↔ LexLess (order_of 1 (statements_from blocks 0 1) x) (order_of 1 (statements_from blocks 0 1) y) }
 {
     laws::places_are_in_order();
 }

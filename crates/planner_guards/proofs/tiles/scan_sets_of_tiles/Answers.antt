@@ -8,5 +8,5 @@ returns-clause-points c = λ program blocks n s xs kernel none sized among long 
 
 pub returns-clause-instances : goal.returns-clause-instances
 returns-clause-instances c = λ program blocks n s v kernel none sized is.
-    c.scan_sets_hold_the_instances.ensures.instances program blocks [] 1 n s v kernel (sym (ap length none)) (omega arith)
-    sized is
+    c.scan_sets_hold_the_instances.ensures.instances program blocks [] 1 n s v kernel (sym (ap length none))
+    (omega arith) sized is
