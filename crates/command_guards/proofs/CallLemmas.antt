@@ -1,84 +1,108 @@
 -- What the fields of a call's promise say, written out.
-use Rattle.std.proofs.Common.{◌≡◌, ◌∙◌, ◌⊎◌, inl, inr, refl, ap, subst, ℕ, List, [], ◌++◌, Option, None, Some, true}
+use Rattle.std.proofs.Common.{◌≡◌, ◌∙◌, ◌⊎◌, inl, inr, refl, ap, subst, ℕ, ◌≤◌, List, [], ◌++◌, Option, None, Some}
+use Rattle.std.proofs.Common.{true}
 use Rattle.std.specs.Prelude.{if◌then◌else◌}
 use Rattle.std.specs.Io.KnownBytes.{Appends}
-use Rattle.io_ports.specs.Bytes.{GainsFront}
+use Rattle.io_ports.specs.Bytes.{GainsFront, IsAllOf}
+use Rattle.io_ports.specs.Faults.{Rose}
 use Rattle.io_ports.specs.Reads.{SourceShows}
 use Rattle.io_ports.specs.Writes.{SinkShows}
 use Rattle.scop_syntax.specs.Tree.{Program}
 use Rattle.scop_parser.specs.Spelling.{SpellsProgram}
 use Rattle.data_lines.specs.declared.refusal.DataRefusal.{DataRefusal}
-use Rattle.schedule_rows.specs.Items.{Block}
+use Rattle.loop_tree.specs.Plans.{walked}
 use Rattle.loop_tree.specs.Tiling.{Tiling}
 use Rattle.loop_tree.specs.Tree.{Trees}
-use Rattle.report_text.specs.KeptText.{kept_text}
-use Rattle.report_text.specs.ScheduleText.{schedule_text}
+use Rattle.tile_list.specs.Counting.{HasTiles, HasWaves}
 use Rattle.report_text.specs.StatusText.{status_text}
 use Rattle.report_text.specs.TilesText.{tiles_text}
-use Rattle.report_text.specs.declared.kept_line.KeptLine.{KeptLine}
 use Rattle.report_text.specs.declared.status.Status.{Status}
-use Rattle.report_text.specs.declared.status.Status.TheVariants.{BadData}
+use Rattle.report_text.specs.declared.status.Status.TheVariants.{BadData, WriteFault}
 use Rattle.command_line.specs.declared.command.RunOptions.{RunOptions}
 use Rattle.kernel_plans.specs.Planned.{ArePlanned}
-use Rattle.kernel_plans.specs.Planning.{IsPlanText}
-use Rattle.polypar.specs.Answered.{Answered, GainsLine, NamesOf, PrintsArrays}
+use Rattle.polypar.specs.Answered.{Answered, GainsLine, GainsTo, HasLines, NamesOf, PrintsArrays}
+use Rattle.polypar.specs.Case.{Accepted}
 use Rattle.polypar.specs.Cut.{kernel_part}
 
 -- `err` gained a report behind the lines of a plan
-abbrev pub GainsReport : RunOptions → SinkShows → SinkShows → Type 0
-GainsReport options err err_after =
-    (program : Program) × (plan : Tiling) × (trees : Trees) × (front : List ℕ) × (tiles : ℕ) × (waves : ℕ)
-    × ArePlanned options.tile options.budget true program plan front trees
+abbrev pub GainsReport : RunOptions → Option (List ℕ) → SinkShows → SinkShows → Type 0
+GainsReport options left err err_after =
+    (input : List ℕ) × (accepted : Accepted input) × (plan : Tiling) × (trees : Trees) × (front : List ℕ)
+    × (tiles : ℕ) × (waves : ℕ) × IsAllOf left input
+    × ArePlanned options.tile options.budget true accepted.program plan front trees
+    × HasTiles plan (walked accepted.program accepted.params) tiles
+    × HasWaves plan (walked accepted.program accepted.params) waves
     × Appends err.taken err_after.taken (front ++ tiles_text tiles waves options.workers)
 
 -- the lines of a run whose report is asked for
 pub reported : (options : RunOptions) (left : Option (List ℕ)) (out out_after err err_after : SinkShows)
     → options.report ≡ true → PrintsArrays options left out out_after err err_after
-    → GainsReport options err err_after
+    → GainsReport options left err err_after
 reported options left out out_after err err_after asked prints =
     let plan = prints.4.2 in
     let is : (if options.report then tiles_text prints.4.0 prints.4.1 options.workers else [])
     ≡ tiles_text prints.4.0 prints.4.1 options.workers = rw asked refl in (
-      prints.1.program,
+      prints.0,
+      prints.1,
       plan.plan,
       plan.trees,
       plan.front,
       prints.4.0,
       prints.4.1,
+      prints.3,
       subst (λ report. ArePlanned options.tile options.budget report prints.1.program plan.plan plan.front plan.trees)
           asked plan.planned,
+      plan.has_tiles,
+      plan.has_waves,
       subst (λ lines. Appends err.taken err_after.taken lines)
           (plan.told ∙ ap (λ more. plan.front ++ more) is) prints.6,
     )
 
--- the text of a schedule, or of a kept order
-pub planned_text : (budget : ℕ) (program : Program) (text : List ℕ) → IsPlanText budget program text
-    → ((blocks : List Block) × (text ≡ schedule_text blocks)) ⊎ ((why : KeptLine) × (text ≡ kept_text why))
-planned_text budget program text (inl found) = inl (found.0, found.2)
-planned_text budget program text (inr kept) = inr (kept.0, kept.2)
+-- the line of data that is refused: an input was read, whose kernel spells a program, and `err`, which had gained
+-- nothing, gained the line with that program's names, or a front of it where its count of faults rose
+abbrev pub TellsData : Option (List ℕ) → DataRefusal → SinkShows → SinkShows → Type 0
+TellsData left refusal err err_after =
+    (input : List ℕ) × (program : Program) × (mid : SinkShows) × IsAllOf left input
+    × SpellsProgram (kernel_part input) program × Appends err.taken mid.taken [] × (err.faults ≤ mid.faults)
+    × (Appends mid.taken err_after.taken (status_text (Some program) (BadData refusal))
+    ⊎ (GainsFront mid.taken err_after.taken (status_text (Some program) (BadData refusal))
+    × Rose mid.faults err_after.faults))
 
 -- data is refused with the names of a program, and its line is written or cut off
 named_line : (left : Option (List ℕ)) (refusal : DataRefusal) (out out_after err mid err_after : SinkShows)
-    (named : Option Program) → NamesOf left (BadData refusal) named
-    → GainsLine named (BadData refusal) out out_after err mid err_after
-    → (input : List ℕ) × (program : Program) × (mid : SinkShows) × SpellsProgram (kernel_part input) program
-    × (Appends mid.taken err_after.taken (status_text (Some program) (BadData refusal))
-    ⊎ GainsFront mid.taken err_after.taken (status_text (Some program) (BadData refusal)))
-named_line left refusal out out_after err mid err_after (Some program) names (inl whole) =
-    (names.0, program, mid, names.2, inl whole)
-named_line left refusal out out_after err mid err_after (Some program) names (inr part) =
-    (names.0, program, mid, names.2, inr part.0)
-named_line left refusal out out_after err mid err_after None names gains = absurd names
+    (named : Option Program) → NamesOf left (BadData refusal) named → GainsTo err mid []
+    → GainsLine named (BadData refusal) out out_after err mid err_after → TellsData left refusal err err_after
+named_line left refusal out out_after err mid err_after (Some program) names none (inl whole) =
+    (names.0, program, mid, names.1, names.2, none.gained, none.later, inl whole)
+named_line left refusal out out_after err mid err_after (Some program) names none (inr part) =
+    (names.0, program, mid, names.1, names.2, none.gained, none.later, inr (part.0, part.1.0))
+named_line left refusal out out_after err mid err_after None names none gains = absurd names
 
 -- the line of data that is refused
 pub data_line : (words : List (List ℕ)) (status : Status) (source source_after : SourceShows)
     (out out_after err err_after : SinkShows) (refusal : DataRefusal)
     → status ≡ BadData refusal → Answered words status source source_after out out_after err err_after
-    → (input : List ℕ) × (program : Program) × (mid : SinkShows) × SpellsProgram (kernel_part input) program
-    × (Appends mid.taken err_after.taken (status_text (Some program) (BadData refusal))
-    ⊎ GainsFront mid.taken err_after.taken (status_text (Some program) (BadData refusal)))
+    → TellsData source.left refusal err err_after
 data_line words status source source_after out out_after err err_after refusal is answered =
     let line = answered.error_line in
+    let none : line.2 ≡ [] = subst (λ s. HasLines words source.left s out out_after line.2) is line.4 in
     named_line source.left refusal out out_after err line.3 err_after line.0
     (subst (λ s. NamesOf source.left s line.0) is line.1)
+    (subst (λ lines. GainsTo err line.3 lines) none line.5)
     (subst (λ s. GainsLine line.0 s out out_after err line.3 err_after) is line.6)
+
+-- the status line of a command that is cut off, or a front of it, and then a count had risen before
+abbrev pub GainsFault : Option Program → SinkShows → SinkShows → SinkShows → SinkShows → SinkShows → Type 0
+GainsFault named out out_after err mid err_after =
+    Appends mid.taken err_after.taken (status_text named WriteFault)
+    ⊎ (GainsFront mid.taken err_after.taken (status_text named WriteFault)
+    × (Rose out.faults out_after.faults ⊎ Rose err.faults mid.faults))
+
+-- so it is
+pub faulted : (named : Option Program) (status : Status) (out out_after err mid err_after : SinkShows)
+    → status ≡ WriteFault → GainsLine named status out out_after err mid err_after
+    → GainsFault named out out_after err mid err_after
+faulted named status out out_after err mid err_after is (inl whole) =
+    inl (subst (λ s. Appends mid.taken err_after.taken (status_text named s)) is whole)
+faulted named status out out_after err mid err_after is (inr part) =
+    inr (subst (λ s. GainsFront mid.taken err_after.taken (status_text named s)) is part.0, part.1.1 is)

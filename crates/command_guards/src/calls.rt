@@ -1,9 +1,13 @@
 //! A caller of the top call: each of its clauses follows from one field of `Answered`, with what that field speaks of
-//! written out. So a field or a definition under it that is emptied fails here.
+//! written out. So one of these fields that is emptied fails here, and so does a definition under it, but for those
+//! that are named here: which input is accepted or spells a kernel, what is asked for, and what a generated kernel
+//! leaves.
 
-ghost use Rattle.std.specs.Prelude.{◌≡◌, ◌≢◌, ◌⊎◌, ℕ, true, false, List, ◌++◌, Some, map, string_bytes};
+ghost use Rattle.std.specs.Prelude.{◌≡◌, ◌≢◌, ◌⊎◌, ◌≤◌, ◌++◌, ℕ, true, false, List, [], Option, Some, map};
+ghost use Rattle.std.specs.Prelude.{string_bytes};
 ghost use Rattle.std.specs.Io.KnownBytes.{Appends};
 ghost use Rattle.io_ports.specs.Bytes.{GainsFront, IsAllOf};
+ghost use Rattle.io_ports.specs.Faults.{Rose};
 ghost use Rattle.io_ports.specs.Writes.{SinkShows};
 ghost use Rattle.scop_syntax.specs.Execution.{exec};
 ghost use Rattle.scop_syntax.specs.Tree.{Program};
@@ -11,11 +15,16 @@ ghost use Rattle.scop_parser.specs.Spelling.{SpellsProgram};
 ghost use Rattle.data_lines.specs.declared.refusal.DataRefusal.{DataRefusal};
 ghost use Rattle.data_text.specs.ArrayText.{array_text};
 ghost use Rattle.iteration_domains.specs.Model.{model_of};
-ghost use Rattle.dataflow.specs.ReadSources.{AreSources, reads_of};
+ghost use Rattle.dataflow.specs.ReadSources.{AreSources, NameLastWriters, reads_of};
+ghost use Rattle.dataflow.specs.Told.{AreTold};
 ghost use Rattle.dataflow.specs.declared.source.ReadSource.{ReadSource};
 ghost use Rattle.schedule_rows.specs.Items.{Block};
+ghost use Rattle.loop_tree.specs.Plans.{walked};
 ghost use Rattle.loop_tree.specs.Tiling.{Tiling};
 ghost use Rattle.loop_tree.specs.Tree.{Trees};
+ghost use Rattle.tile_list.specs.Counting.{HasTiles, HasWaves};
+ghost use Rattle.c_printer.specs.Nodes.{text_of};
+ghost use Rattle.kernel_gen.specs.Cases as cases;
 ghost use Rattle.kernel_gen.specs.Summary.{summary_text};
 ghost use Rattle.kernel_gen.specs.Totals.{cells_in, sum_of};
 ghost use Rattle.report_text.specs.DepsText.{deps_text};
@@ -26,6 +35,7 @@ ghost use Rattle.report_text.specs.TilesText.{tiles_text};
 ghost use Rattle.report_text.specs.declared.kept_line.KeptLine.{KeptLine};
 ghost use Rattle.report_text.specs.declared.status.Status.TheVariants.{BadData, Done, Usage, WriteFault};
 ghost use Rattle.kernel_plans.specs.Planned.{ArePlanned};
+ghost use Rattle.kernel_plans.specs.Planning.{IsCauseOf, IsSearched};
 ghost use Rattle.command_line.specs.Command.{IsDepsCommand, IsEmitCommand, IsGenCommand, IsRunCommand};
 ghost use Rattle.command_line.specs.Command.{IsScheduleCommand};
 ghost use Rattle.command_line.specs.declared.command.GeneratedKernel.{GeneratedKernel};
@@ -41,8 +51,9 @@ use polypar::{Status, plain_command};
 use std::alloc::Global;
 
 /// A call of `plain_command`: by `done` the arrays and the report of `run`, by `scheduled`, `sourced`, `emitted` and
-/// `generated` the text of another command, by `unread`, `nothing` and `written` what else ports show, by `error_line`
-/// the line of data that is refused, with the names of the program that was read.
+/// `generated` what another command tells, by `unread`, `nothing` and `written` what else ports show; by `error_line`
+/// the line of data that is refused, with the names of the program that was read, the lines of a command that is done,
+/// and those of one that is cut off, with the count that rose.
 pub fn answered_call<S: Source, O: Sink, E: Sink>(
     alloc: Global,
     words: &[String],
@@ -56,34 +67,63 @@ pub fn answered_call<S: Source, O: Sink, E: Sink>(
         (array_text accepted.program (exec accepted.program accepted.params accepted.contents)) }
     ensures report { (options : RunOptions) → IsRunCommand options (map string_bytes words.now)
         → options.report ≡ true → result ≡ Done
-        → (program : Program) × (plan : Tiling) × (trees : Trees) × (front : List ℕ) × (tiles : ℕ) × (waves : ℕ)
-        × ArePlanned options.tile options.budget true program plan front trees
+        → (input : List ℕ) × (accepted : Accepted input) × (plan : Tiling) × (trees : Trees) × (front : List ℕ)
+        × (tiles : ℕ) × (waves : ℕ) × IsAllOf (S.shows source.old).left input
+        × ArePlanned options.tile options.budget true accepted.program plan front trees
+        × HasTiles plan (walked accepted.program accepted.params) tiles
+        × HasWaves plan (walked accepted.program accepted.params) waves
         × Appends (E.shows err.old).taken (E.shows err.new).taken
         (front ++ tiles_text tiles waves options.workers) }
     ensures schedule { (budget : ℕ) → IsScheduleCommand budget (map string_bytes words.now) → result ≡ Done
-        → (text : List ℕ) × Appends (O.shows out.old).taken (O.shows out.new).taken text
-        × (((blocks : List Block) × (text ≡ schedule_text blocks)) ⊎ ((why : KeptLine) × (text ≡ kept_text why))) }
+        → (input : List ℕ) × (kernel : Spelled input) × (text : List ℕ) × IsAllOf (S.shows source.old).left input
+        × (((blocks : List Block) × IsSearched budget (model_of kernel.program) blocks × (text ≡ schedule_text blocks))
+        ⊎ ((why : KeptLine) × IsCauseOf budget (model_of kernel.program) why × (text ≡ kept_text why)))
+        × Appends (O.shows out.old).taken (O.shows out.new).taken text }
     ensures sources { (budget : ℕ) → IsDepsCommand budget (map string_bytes words.now) → result ≡ Done
-        → (program : Program) × (sources : List ReadSource)
-        × AreSources (model_of program) budget (reads_of (model_of program)) sources
-        × Appends (O.shows out.old).taken (O.shows out.new).taken (deps_text program sources) }
+        → (input : List ℕ) × (kernel : Spelled input) × (sources : List ReadSource)
+        × IsAllOf (S.shows source.old).left input
+        × AreSources (model_of kernel.program) budget (reads_of (model_of kernel.program)) sources
+        × NameLastWriters (model_of kernel.program) sources
+        × AreTold (model_of kernel.program) (reads_of (model_of kernel.program)) sources
+        × Appends (O.shows out.old).taken (O.shows out.new).taken (deps_text kernel.program sources) }
     ensures loops { (tile budget : ℕ) → IsEmitCommand tile budget (map string_bytes words.now) → result ≡ Done
-        → (program : Program) × (plan : Tiling) × (trees : Trees) × (lines : List ℕ)
-        × ArePlanned tile budget false program plan lines trees
+        → (input : List ℕ) × (kernel : Spelled input) × (plan : Tiling) × (trees : Trees) × (lines : List ℕ)
+        × IsAllOf (S.shows source.old).left input × ArePlanned tile budget false kernel.program plan lines trees
+        × Appends (O.shows out.old).taken (O.shows out.new).taken (text_of kernel.program trees)
         × Appends (E.shows err.old).taken (E.shows err.new).taken lines }
     ensures summary { (g : GeneratedKernel) (options : RunOptions)
-        → IsGenCommand g options (map string_bytes words.now) → result ≡ Done → (tiles : ℕ) × (waves : ℕ)
+        → IsGenCommand g options (map string_bytes words.now) → result ≡ Done
+        → (plan : Tiling) × (trees : Trees) × (lines : List ℕ) × (tiles : ℕ) × (waves : ℕ)
+        × ArePlanned options.tile options.budget false (cases.program g.kind g.seed) plan lines trees
+        × HasTiles plan (walked (cases.program g.kind g.seed) (cases.params g.kind g.size)) tiles
+        × HasWaves plan (walked (cases.program g.kind g.seed) (cases.params g.kind g.size)) waves
         × Appends (O.shows out.old).taken (O.shows out.new).taken
-        (summary_text g.kind g.seed g.size tiles waves (cells_in (left_by g)) (sum_of (left_by g))) }
+        (summary_text g.kind g.seed g.size tiles waves (cells_in (left_by g)) (sum_of (left_by g)))
+        × Appends (E.shows err.old).taken (E.shows err.new).taken lines }
     ensures unread { result ≡ Usage → S.shows source.new ≡ S.shows source.old }
     ensures nothing { result ≢ Done → result ≢ WriteFault → O.shows out.new ≡ O.shows out.old }
     ensures front { result ≡ WriteFault → (input : List ℕ) × (told : Told)
-        × Asks (map string_bytes words.now) input told
+        × IsAllOf (S.shows source.old).left input × Asks (map string_bytes words.now) input told
         × GainsFront (O.shows out.old).taken (O.shows out.new).taken told.text }
     ensures line { (refusal : DataRefusal) → result ≡ BadData refusal
-        → (input : List ℕ) × (program : Program) × (mid : SinkShows) × SpellsProgram (kernel_part input) program
+        → (input : List ℕ) × (program : Program) × (mid : SinkShows) × IsAllOf (S.shows source.old).left input
+        × SpellsProgram (kernel_part input) program × Appends (E.shows err.old).taken mid.taken []
+        × ((E.shows err.old).faults ≤ mid.faults)
         × (Appends mid.taken (E.shows err.new).taken (status_text (Some program) (BadData refusal))
-        ⊎ GainsFront mid.taken (E.shows err.new).taken (status_text (Some program) (BadData refusal))) }
+        ⊎ (GainsFront mid.taken (E.shows err.new).taken (status_text (Some program) (BadData refusal))
+        × Rose mid.faults (E.shows err.new).faults)) }
+    ensures lines { result ≡ Done → (input : List ℕ) × (told : Told) × (mid : SinkShows)
+        × IsAllOf (S.shows source.old).left input × Asks (map string_bytes words.now) input told
+        × Appends (O.shows out.old).taken (O.shows out.new).taken told.text
+        × Appends (E.shows err.old).taken mid.taken told.lines }
+    ensures cut { result ≡ WriteFault → (input : List ℕ) × (told : Told) × (lines : List ℕ) × (named : Option Program)
+        × (mid : SinkShows) × IsAllOf (S.shows source.old).left input × Asks (map string_bytes words.now) input told
+        × (((lines ≡ told.lines) × GainsFront (O.shows out.old).taken (O.shows out.new).taken told.text)
+        ⊎ (((rest : List ℕ) × (told.lines ≡ lines ++ rest)) × (O.shows out.new ≡ O.shows out.old)))
+        × Appends (E.shows err.old).taken mid.taken lines
+        × (Appends mid.taken (E.shows err.new).taken (status_text named WriteFault)
+        ⊎ (GainsFront mid.taken (E.shows err.new).taken (status_text named WriteFault)
+        × (Rose (O.shows out.old).faults (O.shows out.new).faults ⊎ Rose (E.shows err.old).faults mid.faults))) }
 {
     plain_command(alloc, words, source, out, err)
 }

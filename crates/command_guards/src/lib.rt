@@ -1,7 +1,7 @@
 //! Callers that hold the top call and its laws in place: each function here calls one law, and its own contract follows
 //! from one clause of that law alone; in `calls` each clause follows from one field of the call's promise. Where such a
-//! clause is emptied, weakened or given a premise that its callers do not meet, the caller here no longer proves. Nothing
-//! is built on this crate.
+//! clause is emptied, weakened or given a premise that its callers do not meet, the caller here no longer proves.
+//! Nothing is built on this crate.
 #![tactic(auto)]
 
 pub mod calls;
