@@ -1,4 +1,4 @@
--- The runs over lists, step by step: what a loop that goes up through the places needs.
+-- The runs over lists, step by step: what a loop that goes up through the places needs; loops in place, entry by entry.
 use Rattle.std.proofs.Common.{◌≡◌, ℕ, suc, ◌+◌, ◌<◌, ◌≤◌, ℤ, pos, List, [], ◌∷◌, ◌++◌, length, get_or, take}
 use Rattle.std.proofs.Common.{drop, refl, sym, ap, append_assoc, add-one, arith, drop-cons}
 use Rattle.std.specs.Prelude.{Result, Ok, Err, set}

@@ -1,4 +1,4 @@
--- Bounds in front of what ends a form are read back.
+-- Bounds in front of what ends a form are read back; a text between two others (`between_front`).
 use Rattle.std.proofs.Common.{◌≡◌, ◌∙◌, ap, sym, refl, ℕ, zero, suc, ◌+◌, ◌^◌, ◌<◌, Bool, true, false, List, ◌++◌}
 use Rattle.std.proofs.Common.{length, lt-ltb, le-leb, arith}
 use Rattle.std.specs.Prelude.{ℤ, pos, negsuc, Some, None, codes, if◌then◌else◌}

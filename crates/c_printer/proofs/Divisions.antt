@@ -1,4 +1,4 @@
--- The functions at the head of an emitted text.
+-- The functions at the head of an emitted text: C's quotients as floors and ceilings, choices by < and by <=.
 use Rattle.std.proofs.Common.{◌≡◌, ◌∙◌, ap, sym, subst, refl, T, not, ℕ, Bool, true, false, pos, arith}
 use Rattle.std.proofs.lemmas.Int.{ints}
 use Rattle.std.specs.Prelude.{ℤ, negsuc, neg_ℤ, ◌+ℤ◌, ◌-ℤ◌, ◌<ℤ◌, ◌≤ℤ◌, if◌then◌else◌}

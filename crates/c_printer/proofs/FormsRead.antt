@@ -1,4 +1,4 @@
--- Forms of a tree, and turns, are read back.
+-- Forms of a tree, in the order of the text and back, and turns from forms of iterators are read back.
 use Rattle.std.proofs.Common.{◌≡◌, ◌∙◌, ap, ap₂, subst, refl, ℕ, zero, suc, ◌+◌, ◌^◌, ◌≤◌, Bool, true}
 use Rattle.std.proofs.Common.{pos, List, [], ◌∷◌, ◌++◌, length, take, drop, lt-ltb, arith}
 use Rattle.std.specs.Prelude.{ℤ, negsuc, neg_ℤ, ◌+ℤ◌, ◌-ℤ◌, ◌*ℤ◌, ◌<ℤ◌, Some, None, if◌then◌else◌}

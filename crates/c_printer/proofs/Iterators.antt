@@ -1,4 +1,5 @@
--- Printed iterators are those of the source.
+-- Printed iterators are those of the source: values of forms over parameters, loops of a tree and source iterators
+-- (`spread_value`, `turned_value`).
 use Rattle.std.proofs.Common.{◌≡◌, ◌∙◌, ap, sym, subst, ℕ, ◌+◌, ◌≤◌, List, [], ◌∷◌, ◌++◌}
 use Rattle.std.proofs.Common.{length, take, drop, append-nil, arith}
 use Rattle.std.specs.Prelude.{ℤ, ◌+ℤ◌, ◌*ℤ◌, Some, Option, option_map, slice_get}

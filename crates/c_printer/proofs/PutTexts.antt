@@ -1,4 +1,4 @@
--- Texts put behind one another.
+-- Texts put behind one another (`behind`).
 use Rattle.std.proofs.Common.{◌≡◌, ◌∙◌, ap, refl, ℕ, suc, ◌+◌, ◌-◌, ◌<◌, ◌≤◌, pos, List, [], ◌∷◌, ◌++◌}
 use Rattle.std.proofs.Common.{drop, length, map, arith, sym, get_or, drop-cons, add-one, append-nil, Bool, false}
 use Rattle.std.specs.Prelude.{codes}

@@ -1,4 +1,5 @@
--- Reading an emitted text step by step: what stands behind pieces, bounds and tests one by one, nodes by their fronts.
+-- Reading an emitted text step by step: what goes on behind one step goes on behind two (`deeper`), bounds and tests
+-- one by one, nodes by their fronts.
 use Rattle.std.proofs.Common.{◌≡◌, ◌∙◌, ap, ap₂, sym, refl, ℕ, suc, ◌+◌, ◌-◌, ◌<◌, ◌≤◌, Bool, true, false, List, []}
 use Rattle.std.proofs.Common.{◌∷◌}
 use Rattle.std.proofs.Common.{◌++◌, length, append-nil, arith}

@@ -1,4 +1,5 @@
--- What is read can be printed: forms have an entry for each name, numbers have 64 bits, a guard has a test.
+-- What is read can be printed, step by step (`Each`, `step`, `any`): forms have an entry for each name, numbers have 64
+-- bits, a guard has a test.
 use Rattle.std.proofs.Common.{◌≡◌, sym, subst, refl, ℕ, zero, suc, ◌+◌, ◌^◌, ◌<◌, ◌≤◌, Bool, true, false, List, [], ◌∷◌}
 use Rattle.std.proofs.Common.{◌++◌, length, take, arith}
 use Rattle.std.specs.Prelude.{⊤, nat_le, nat_lt, ◌&&◌, ℤ, pos, Some, None, Option, codes, slice_get, if◌then◌else◌}

@@ -1,4 +1,4 @@
--- A buffer's rows, looked through one after the other.
+-- A buffer's rows, looked through one after the other; the next line fits.
 use Rattle.std.proofs.Common.{◌≡◌, ℕ, zero, suc, ◌+◌, ◌*◌, ◌<◌, ◌≤◌, ℤ, pos, negsuc, ◌<ℤ◌, ◌≤ℤ◌, ◌-ℤ◌, Bool, true}
 use Rattle.std.proofs.Common.{false, List, []}
 use Rattle.std.proofs.Common.{◌∷◌, ◌++◌, length, get_or, drop, take, refl, subst, ap, sym, arith}

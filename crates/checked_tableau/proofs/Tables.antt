@@ -1,4 +1,4 @@
--- A buffer of lines as rows.
+-- A buffer of lines as rows: the line at a place, the first lines, a line more, a slice written over a whole one.
 use Rattle.std.proofs.Common.{◌-◌}
 use Rattle.std.proofs.Common.{◌≡◌, ℕ, zero, suc, ◌+◌, ◌*◌, ◌<◌, ◌≤◌, ℤ, pos, ◌<ℤ◌, List, [], ◌∷◌, ◌++◌, length, get_or}
 use Rattle.std.proofs.Common.{drop, take, refl, subst, ap, ap₂, sym, ◌∙◌, arith, add-one, drop-drop}

@@ -1,4 +1,5 @@
--- Forms over the variables of a pair as the code puts them together: their parts, lengths and sizes.
+-- Forms over the variables of a pair as the code puts them together: their parts, how many variables they have, and how
+-- large they are.
 use Rattle.std.proofs.Common.{◌≡◌, ℕ, zero, suc, Bool, true, ◌+◌, ◌-◌, ◌<◌, ◌≤◌, ℤ, negsuc, List, [], ◌∷◌, ◌++◌}
 use Rattle.std.proofs.Common.{length, map, take, drop, ap, ap₂, subst, sym, ◌∙◌, refl, arith, length-append}
 use Rattle.std.proofs.Common.{length-drop, get_or, drop-cons, drop_of_length-le, add-one}

@@ -14,7 +14,7 @@ use scop_syntax::arrays::Extents;
 use scop_syntax::instance::Instance;
 use scop_syntax::tree::Kernel;
 
-/// An instance that stores a constant stores it, by the clause of `value`.
+/// An instance that stores a constant stores it, by the clause of `value` of `scop_meaning`.
 pub fn constant_stored(kernel: &Kernel, params: &[i64], instance: &Instance) -> u64
     requires limits { WithinLimits (program_of kernel.now) params.now }
     requires walked { In (instance_of instance.now) (map numbers_of (walk_of (program_of kernel.now) params.now)) }
@@ -26,7 +26,7 @@ pub fn constant_stored(kernel: &Kernel, params: &[i64], instance: &Instance) -> 
     value(kernel, params, instance, &[])
 }
 
-/// The cell that an instance writes, by the clause of `cell`.
+/// The cell that an instance writes, by the clause of `cell` of `scop_meaning`.
 pub fn cell_written(
     kernel: &Kernel,
     params: &[i64],

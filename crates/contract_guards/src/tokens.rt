@@ -43,7 +43,7 @@ pub fn a_character_of_no_token()
 }
 
 /// The longest sign of `<<= 1` is `<<=`, and no sign begins `@`, by the clause of `longest_sign_is_told`; `<<` is not
-/// the longest of the former, and `<=` does not begin it.
+/// the longest of the former, and `<=` does not begin it, by the definition `IsLongestSign`.
 pub fn the_longest_of_three_signs()
     ensures longest { IsLongestSign (codes "<<= 1") sign.ShiftLeftAssign }
     ensures none { (s : Punctuator) → BeginsWith (spelling s) (codes "@") → ⊥ }

@@ -13,7 +13,8 @@ ghost use Rattle.contract_guards.specs.Worked.{end, next_turn};
 use farkas::{claimed_forms_are_distances, unknowns_stand_by_the_layout};
 
 /// Of one statement `u`, `w`, the coefficient and the shift stand in this order. Rows that (0, w, 1, 0) alone satisfies
-/// keep the dependence, and those of (0, 1, 1, 0) bound it; no rows that (0, 0, 1, 0) satisfies do.
+/// keep the dependence, by the definition `Keeps` of `farkas`, and those of (0, 1, 1, 0) bound it, by `Bounds`; no rows
+/// that (0, 0, 1, 0) satisfies do.
 pub fn each_turn_to_the_next()
     ensures keeps { (t : Constraints) (w : ℤ)
         → ((numbers : List ℤ) → IsTaken t numbers → numbers ≡ pos 0 ∷ w ∷ pos 1 ∷ pos 0 ∷ [])
@@ -26,7 +27,7 @@ pub fn each_turn_to_the_next()
 {}
 
 /// From the second statement of a text to the first, whose numbers come first: no rows that (0, 0, 1, 0, 2, 0)
-/// satisfies keep the dependence, since 2 i is more than i + 1 at i = 2.
+/// satisfies keep the dependence, by `Keeps`, since 2 i is more than i + 1 at i = 2.
 pub fn a_target_that_falls_behind()
     ensures { (t : Constraints) → IsTaken t (pos 0 ∷ pos 0 ∷ pos 1 ∷ pos 0 ∷ pos 2 ∷ pos 0 ∷ [])
         → Keeps (end 2) (end 1) next_turn t → ⊥ }

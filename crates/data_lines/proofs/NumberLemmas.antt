@@ -1,4 +1,4 @@
--- A number grows with each digit; a list of numbers, one more.
+-- A number grows with each digit: decimals that are or are no number of 64 bits; a list of numbers, one more.
 use Rattle.std.proofs.Common.{◌≡◌, ◌∙◌, sym, ap, refl, inl, inr, ℕ, suc, ◌+◌, ◌*◌, ◌^◌, ◌<◌, ◌≤◌, Bool, true, false}
 use Rattle.std.proofs.Common.{◌&&◌, ltb, if◌then◌else◌, List, [], ◌∷◌, ◌++◌, length, drop, get_or}
 use Rattle.std.proofs.Common.{drop-cons, lt-ltb, le-ltb, arith}

@@ -1,4 +1,4 @@
--- The first part of a text that is cut at some bytes.
+-- The first part of a text that is cut at some bytes, and those behind it; its next word.
 use Rattle.std.proofs.Common.{◌≡◌, ◌∙◌, sym, ap, refl, ℕ, suc, ◌+◌, ◌<◌, Bool, true, false, not, List, [], ◌∷◌}
 use Rattle.std.proofs.Common.{length, take, drop, arith}
 use Rattle.std.specs.List.{slice_split, onto_first, filter, position_or_len, prefix_len}

@@ -1,4 +1,4 @@
--- What holds of each of a list that a loop looks at, and of a tree's nodes.
+-- What holds of each of a list that a loop looks at, and of a tree's nodes: numbers that their type holds.
 use Rattle.std.proofs.Common.{List, [], ◌∷◌, ◌++◌, All}
 use Rattle.std.proofs.lemmas.List.Elements.{All-nil, All-cons, All-head, All-tail}
 use Rattle.quast_trees.specs.Tree.{Tree, initial, leaf, branch, bind, count}

@@ -1,4 +1,5 @@
--- Sources are what a text can tell: their quasts speak of the variables at their places, and name instances.
+-- Sources are what a text can tell: their quasts speak of the variables at their places, and name instances. What a run
+-- over candidates keeps of all trees (`run_keeps`).
 use Rattle.std.proofs.Common.{◌≡◌, ℕ, zero, suc, ◌+◌, ◌^◌, ◌<◌, ◌≤◌, Bool, true, false, List, [], ◌∷◌, ◌++◌, length}
 use Rattle.std.proofs.Common.{All, ◌-◌}
 use Rattle.std.proofs.Common.{Option, Some, None, Result, Ok, Err, refl, sym, ap, subst, ◌∙◌, arith, inl, inr}

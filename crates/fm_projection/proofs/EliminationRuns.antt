@@ -1,4 +1,4 @@
--- Eliminations one after another, each of which passes or stops.
+-- Eliminations one after another, each of which passes or stops, and how many dimensions they leave.
 use Rattle.std.proofs.Common.{◌≡◌, ℕ, zero, suc, ◌+◌, ◌-◌, ◌<◌, inl, inr, sym, ◌∙◌, ap, subst, arith}
 use Rattle.std.specs.Prelude.{◌≤◌, Ok, Err}
 use Rattle.std.proofs.lemmas.Bool.{cases_lt}

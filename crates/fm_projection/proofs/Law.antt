@@ -1,4 +1,4 @@
--- What an elimination means for the points.
+-- What an elimination means for the points; a point over 1 is a whole point.
 use Rattle.std.proofs.Common.{◌≡◌, ℕ, ◌<◌, ℤ, pos, ◌≤ℤ◌, List, get_or, ◌↔◌, sym, ◌∙◌, subst, arith}
 use Rattle.std.specs.Prelude.{Ok}
 use Rattle.fractions.specs.Fractions.{HoldsOver}

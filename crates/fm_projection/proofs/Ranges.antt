@@ -1,4 +1,5 @@
--- A system's last dimension keeps its value where the others and the parameters are eliminated.
+-- A system's last dimension keeps its value where the others and the parameters are eliminated; values of forms of one
+-- variable.
 use Rattle.std.proofs.Common.{◌≡◌, ℕ, zero, suc, ◌+◌, ◌-◌, ◌<◌, ℤ, pos, List, [], ◌∷◌, ◌++◌, length, get_or, refl, sym}
 use Rattle.std.proofs.Common.{◌∙◌, ap, subst, All, arith, length-append}
 use Rattle.std.specs.Prelude.{negsuc, ◌≤◌, ◌≤ℤ◌, ◌+ℤ◌, ◌-ℤ◌, ◌*ℤ◌}

@@ -1,4 +1,5 @@
--- What holds of each form that an elimination makes, from what holds of the forms that it makes them of.
+-- What holds of each form that an elimination makes, from what holds of the forms that it makes them of
+-- (`eliminated_all`).
 use Rattle.std.proofs.Common.{◌≡◌, ℕ, ℤ, pos, ◌*ℤ◌, neg_ℤ, unsigned_abs, Bool, List, get_or, refl, All}
 use Rattle.std.specs.Prelude.{map, Option, Some, None}
 use Rattle.std.proofs.lemmas.List.Elements.{All-append, All-map}

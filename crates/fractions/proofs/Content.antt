@@ -1,4 +1,4 @@
--- Contents and lowest terms.
+-- Contents and lowest terms; a form in lowest terms has the sign that it had.
 use Rattle.std.proofs.Common.{◌≡◌, ℕ, zero, suc, ℤ, pos, ◌*ℤ◌, ◌≤ℤ◌, ◌<ℤ◌, List, get_or, ◌↔◌, refl}
 use Rattle.std.proofs.Common.{sym, ◌∙◌, ap, arith}
 use Rattle.std.specs.Prelude.{map}

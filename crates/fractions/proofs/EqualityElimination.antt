@@ -1,4 +1,4 @@
--- The elimination of a variable by an equality, over fractions.
+-- The elimination of a variable by an equality, over fractions: what the equality asks of a fraction.
 use Rattle.std.proofs.Common.{◌≡◌, ℕ, zero, suc, ℤ, pos, negsuc, ◌+ℤ◌, ◌-ℤ◌, ◌*ℤ◌, neg_ℤ, ◌≤ℤ◌, ◌<ℤ◌}
 use Rattle.std.proofs.Common.{unsigned_abs, Bool, true, false, List, get_or, ◌↔◌, refl, sym, ◌∙◌, ap, All}
 use Rattle.std.proofs.Common.{arith}

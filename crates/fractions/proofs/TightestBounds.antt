@@ -1,4 +1,5 @@
--- Fourier's and Motzkin's lemma on lists of any things x that ask 0 <= k r(x) + a(x) n of a fraction n / k.
+-- Fourier's and Motzkin's lemma on lists of any things x that ask 0 <= k r(x) + a(x) n of a fraction n / k: the
+-- tightest bound of such a list.
 use Rattle.std.proofs.Common.{◌≡◌, ℤ, pos, ◌+ℤ◌, ◌*ℤ◌, ◌≤ℤ◌, ◌<ℤ◌, neg_ℤ, List, [], ◌∷◌, get_or, ◌⊎◌, inl}
 use Rattle.std.proofs.Common.{inr, All, ap, arith}
 use Rattle.std.specs.Prelude.{⊤}

@@ -1,4 +1,4 @@
--- Heads, declarations and forms of kernels within the limits.
+-- Heads, declarations and forms of kernels within the limits: a literal form by one test that computes.
 use Rattle.std.proofs.Common.{◌≡◌, ◌==◌, ℕ, ◌+◌, ◌≤◌, Bool, true, false, if◌then◌else◌, List, [], ◌∷◌, length, inl}
 use Rattle.std.proofs.Common.{subst, sym, leb, leb-true, eqb-true, arith}
 use Rattle.std.specs.Prelude.{ℤ, pos, negsuc, ◌≤ℤ◌, All, unsigned_abs}

@@ -1,4 +1,4 @@
--- A program is inside where each access of each statement is, at all turns at which the statement runs.
+-- A program is inside where each access of each statement is, at all turns at which the statement runs (`inside_by`).
 use Rattle.std.proofs.Common.{List, ℕ, sym, subst}
 use Rattle.std.specs.Prelude.{ℤ}
 use Rattle.scop_syntax.specs.Tree.{Access, Program}

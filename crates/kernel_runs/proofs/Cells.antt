@@ -1,4 +1,5 @@
--- The cells of all arrays in one row, and the arrays that a row holds.
+-- The cells of all arrays in one row, each of a number below the total; the arrays that a row holds; execution keeps
+-- the shape.
 use Rattle.std.proofs.Common.{◌≡◌, ◌∙◌, ℕ, zero, suc, ◌+◌, ◌*◌, ◌-◌, ◌/◌}
 use Rattle.std.proofs.Common.{◌%◌, ◌<◌, ◌≤◌, ℤ, pos, List, [], ◌∷◌, ◌++◌, length}
 use Rattle.std.proofs.Common.{map, take, drop, get_or, set, ap, ap₂, sym, refl, subst, arith, add-one, drop-cons}

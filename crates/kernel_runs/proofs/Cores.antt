@@ -1,4 +1,4 @@
--- Steps of a core that has one worker, from one core to a later one.
+-- Steps of a core that has one worker, from one core to a later one (`IsLater`, `by_first`).
 use Rattle.std.proofs.Common.{◌≡◌, ◌∙◌, true, false, ℕ, suc, ◌<◌, ◌≤◌, [], length, sym, subst, refl}
 use Rattle.std.specs.Prelude.{Result, Ok, Err, is_err}
 use Rattle.tile_events.specs.Core.{Event, Seen, State, idle, load, not_enabled, step, working}

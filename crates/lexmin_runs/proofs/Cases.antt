@@ -1,4 +1,5 @@
--- How a move and a step come about: what holds of each thing that they can be, holds of what they are.
+-- How a move and a step come about: what holds of each thing that they can be, holds of what they are (`step_by`,
+-- `cut_by`).
 use Rattle.std.proofs.Common.{◌≡◌, ℕ, zero, suc, ◌+◌, ◌<◌, ◌≤◌, Bool, true, false, Option, Some, None, List, [], ◌∷◌}
 use Rattle.std.proofs.Common.{◌++◌, length, take, refl, subst, arith}
 use Rattle.std.specs.Prelude.{Ok, if◌then◌else◌}

@@ -1,4 +1,4 @@
--- The question of a system's emptiness is answered right.
+-- The question of a system's emptiness is answered right: what its answer means.
 use Rattle.std.proofs.Common.{◌≡◌, ◌↔◌, ℕ, zero, suc, ◌+◌, ◌<◌, ◌≤◌, ℤ, pos, negsuc, neg_ℤ, ◌-ℤ◌, ◌*ℤ◌, ◌≤ℤ◌, true}
 use Rattle.std.proofs.Common.{false, List, [], ◌∷◌, ◌++◌, length, get_or, set, drop, take, All, refl, subst, ap, sym}
 use Rattle.std.proofs.Common.{◌∙◌, arith, length-append}

@@ -1,4 +1,5 @@
--- More steps than the budget change nothing.
+-- More steps than the budget change nothing; a loop with a stack of frames over a run (`resumed_step`,
+-- `resumed_stops`).
 use Rattle.std.proofs.Common.{◌≡◌, ℕ, zero, suc, ◌+◌, ◌<◌, ◌≤◌, ℤ, Bool, true, false, Option, Some, None, List, [], ◌∷◌}
 use Rattle.std.proofs.Common.{◌++◌, map, take, refl, ap, ◌∙◌, arith}
 use Rattle.std.specs.Prelude.{Result, Ok, Err, if◌then◌else◌}

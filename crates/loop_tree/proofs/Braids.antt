@@ -1,4 +1,5 @@
--- Stretches of leaves in turn: what they give is what the leaves show at the values of the loop round them.
+-- Stretches of leaves in turn: what they give is what the leaves show at the values of the loop round them. Lists that
+-- give their firsts in turn.
 use Rattle.std.proofs.Common.{◌≡◌, ℕ, zero, suc, ◌+◌, ◌≤◌, ◌<◌, Bool, true, false, ℤ, pos, List, [], ◌∷◌, ◌++◌}
 use Rattle.std.proofs.Common.{length, map, take, drop, set, get_or, ap, ap₂, sym, subst, ◌∙◌, refl, arith, append-nil}
 use Rattle.std.proofs.Common.{inl, inr}

@@ -1,4 +1,4 @@
--- How deep small trees nest, and numbers within a bound that are within a larger one.
+-- How deep small trees nest (`nested_all`), and numbers within a bound that are within a larger one (`trees_more`).
 use Rattle.std.proofs.Common.{ℕ, zero, suc, ℤ, get_or, arith}
 use Rattle.std.specs.Prelude.{◌≤◌}
 use Rattle.whole_numbers.specs.Affine.{Affine}

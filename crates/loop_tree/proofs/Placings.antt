@@ -1,4 +1,4 @@
--- Nodes made of items one by one, from the place at which they stand.
+-- Nodes made of items one by one, from the place at which they stand; variables put one by one.
 use Rattle.std.proofs.Common.{zero, suc, ◌-◌, ◌^◌, ℤ, length-append}
 use Rattle.std.specs.Prelude.{All, unsigned_abs}
 use Rattle.std.proofs.lemmas.List.{append_assoc}

@@ -1,5 +1,5 @@
 -- Instances of a leaf at the values of the loop round it: each has the same steps more in its turns than the one before
--- it.
+-- it. What a loop that was begun has left.
 use Rattle.std.proofs.Common.{◌≡◌, ℕ, zero, suc, ◌<◌, Bool, true, false, ℤ, pos, negsuc, List, [], ◌∷◌, ◌++◌}
 use Rattle.std.proofs.Common.{length, map, take, get_or, ap, ap₂, sym, subst, ◌∙◌, refl, arith, append-nil}
 use Rattle.std.specs.Prelude.{◌+ℤ◌, ◌-ℤ◌, ◌≤ℤ◌, All, FitsSigned}

@@ -1,4 +1,4 @@
--- How many turns a source's loop has, by its condition at turn 0 and its stride.
+-- How many turns a source's loop has, by its condition at turn 0 and its stride; its turns as the values of a loop.
 use Rattle.std.proofs.Common.{◌≡◌, ℕ, zero, suc, ◌<◌, ℤ, pos, negsuc, List, length, ◌⊎◌, inl, inr, ap, ap₂, sym, refl}
 use Rattle.std.proofs.Common.{◌∙◌, ◌++◌, map, arith}
 use Rattle.std.specs.Prelude.{◌+◌, ◌+ℤ◌, ◌-ℤ◌, ◌*ℤ◌, ◌≤ℤ◌, ◌<ℤ◌, ◌↔◌, neg_ℤ, unsigned_abs}

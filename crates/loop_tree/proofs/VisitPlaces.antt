@@ -1,4 +1,4 @@
--- Places of a tree's visits, node by node and value by value.
+-- What is to come at a place of a tree's visits, node by node and value by value.
 use Rattle.std.proofs.Common.{◌≡◌, ℕ, zero, suc, ◌+◌, ◌≤◌, ◌<◌, Bool, true, false, ℤ, pos, List, [], ◌∷◌, ◌++◌, length}
 use Rattle.std.proofs.Common.{drop, get_or, replicate, map, ap, sym, subst, ◌∙◌, refl, arith, append-nil}
 use Rattle.std.proofs.Common.{inl, inr}

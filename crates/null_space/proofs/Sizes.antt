@@ -1,4 +1,4 @@
--- Sizes of sums, products, minors and dot products.
+-- Sizes of sums, products, minors and dot products; how many unit vectors there are.
 use Rattle.std.proofs.Common.{◌≡◌, ℕ, zero, suc, ◌+◌, ◌*◌, ◌≤◌, ℤ, pos, negsuc, ◌+ℤ◌, ◌-ℤ◌, ◌*ℤ◌, List, [], ap}
 use Rattle.std.proofs.Common.{◌∷◌, refl, sym, subst, arith, length, unsigned_abs}
 use Rattle.std.proofs.lemmas.Int.{ints, unsigned_abs-mul}

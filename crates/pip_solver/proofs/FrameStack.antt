@@ -1,4 +1,4 @@
--- Frames that are put on and taken off.
+-- Frames that are put on and taken off, the innermost last in the code's stack.
 use Rattle.std.proofs.Common.{◌≡◌, ℕ, suc, ℤ, List, [], ◌∷◌, ◌++◌, length, drop, reverse, refl, subst, ap, sym, ◌∙◌}
 use Rattle.std.proofs.Common.{arith}
 use Rattle.std.specs.Prelude.{Result, Ok, Err, OnOk}

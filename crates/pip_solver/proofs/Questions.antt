@@ -1,4 +1,5 @@
--- The questions of a node, as the code asks them.
+-- The questions of a node, as the code asks them; the first row of which a counted question's answer is yes
+-- (`asked-yes`, `asked-more`, `asked-stops`).
 use Rattle.std.proofs.Common.{◌≡◌, ℕ, zero, suc, ◌+◌, ◌<◌, ℤ, pos, negsuc, Bool, true, false, List, []}
 use Rattle.std.proofs.Common.{length, drop, refl}
 use Rattle.std.proofs.Common.{◌∷◌, ◌++◌, append_assoc, subst, ap, sym, ◌∙◌, arith, add-one, drop-cons}

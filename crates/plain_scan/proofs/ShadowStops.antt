@@ -1,4 +1,4 @@
--- Why the shadows of a set are not found.
+-- Why the shadows of a set are not found: the first elimination that stops.
 use Rattle.std.proofs.Common.{◌≡◌, ℕ, suc, ◌+◌, ◌-◌, ◌<◌, ℤ, List, inl, inr, subst, arith}
 use Rattle.std.specs.Prelude.{◌⊎◌, Err}
 use Rattle.std.proofs.lemmas.Bool.{cases_lt}

@@ -1,4 +1,5 @@
--- Rows of greater numbers are weaker, since parameters are not negative.
+-- Rows of greater numbers are weaker, since parameters are not negative; a row above those of one part in the
+-- dimensions.
 use Rattle.std.proofs.Common.{◌≡◌, ◌∙◌, ℕ, zero, suc, ◌+◌, ◌<◌, ℤ, pos, List, [], ◌∷◌, ◌++◌, length, get_or, take, drop}
 use Rattle.std.proofs.Common.{ap, refl, subst, sym, arith}
 use Rattle.std.specs.Prelude.{◌*ℤ◌, ◌≤ℤ◌, ⊤}

@@ -1,4 +1,5 @@
--- Runs of a plan's trees end with the arrays of the source's own execution.
+-- Runs of a plan's trees end with the arrays of the source's own execution: their instances are an order of the walk
+-- that keeps conflicts.
 use Rattle.std.proofs.Common.{◌≡◌, ℕ, ℤ, List, [], ◌∷◌, map, Some, inl, inr, ap, ap₂, subst, sym, ◌∙◌, refl, arith}
 use Rattle.std.specs.Prelude.{◌≢◌, ◌↔◌, slice_get}
 use Rattle.whole_numbers.proofs.Lexicographic.{LexLess-irrefl}

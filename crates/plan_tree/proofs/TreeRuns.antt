@@ -1,5 +1,5 @@
 -- Runs of a tree: they visit what its walk visits, and stand in every order in which the walk stands, if iterations of
--- its parallel loops do not mind it.
+-- its parallel loops do not mind it (`sorted_all`).
 use Rattle.std.proofs.Common.{◌≡◌, Bool, true, false, ℤ, List, [], ◌∷◌, ◌++◌, map, subst, sym}
 use Rattle.std.proofs.Common.{refl, arith}
 use Rattle.std.specs.Prelude.{◌↔◌, ◌-ℤ◌, if◌then◌else◌}

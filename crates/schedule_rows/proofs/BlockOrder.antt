@@ -1,4 +1,4 @@
--- Going along blocks.
+-- What holds along blocks, one behind another.
 use Rattle.std.proofs.Common.{◌≡◌, ℤ, pos, List, [], ◌∷◌, ◌++◌, refl, ap, ap₂, subst, ◌⊎◌, inl, inr, arith}
 use Rattle.std.specs.Prelude.{◌≤ℤ◌, ◌<ℤ◌, ⊤}
 use Rattle.std.proofs.lemmas.Int.{ints}

@@ -1,4 +1,4 @@
--- What comes next is determined.
+-- What comes next is determined; heads and tails of equal lists.
 use Rattle.std.proofs.Common.{◌≡◌, ℕ, suc, Bool, true, false, ℤ, pos, List, [], ◌∷◌, ◌++◌, refl, sym, ◌∙◌, ap}
 use Rattle.std.proofs.Common.{ap₂, inl, inr, arith, length}
 use Rattle.std.specs.Prelude.{◌↔◌, reverse, slice_index_or}

@@ -1,4 +1,4 @@
--- Each step makes the measure less.
+-- Each step makes the measure less, so a run ends.
 use Rattle.std.proofs.Common.{◌≡◌, ℕ, zero, suc, ◌<◌, ℤ, pos, List, [], ◌∷◌, ◌++◌, refl, sym, ◌∙◌, ap, ap₂}
 use Rattle.std.proofs.Common.{subst, ◌⊎◌, inl, inr, arith, length}
 use Rattle.std.specs.Prelude.{◌≤◌}

@@ -1,4 +1,4 @@
--- What goes on and what ends, read from the one outcome.
+-- What goes on and what ends in the determined run, read from the one outcome.
 use Rattle.std.proofs.Common.{ℕ, ◌<◌, List, sym, ap, subst, inl, inr, length}
 use Rattle.schedule_rows.specs.Items.{Block}
 use Rattle.iteration_domains.specs.Dependence.{Dependence}

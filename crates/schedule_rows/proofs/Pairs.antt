@@ -1,4 +1,4 @@
--- Pairs of a dependence, and of what it is restricted to.
+-- Pairs of a dependence, and of what it is restricted to: what Farkas's identity of a row says of them.
 use Rattle.std.proofs.Common.{◌≡◌, ℕ, ℤ, pos, negsuc, ◌≤ℤ◌, List, [], ◌∷◌, ◌++◌, sym, ◌∙◌, ap, subst, All}
 use Rattle.std.proofs.Common.{arith, length, inl, inr}
 use Rattle.std.specs.Prelude.{◌+ℤ◌, ◌-ℤ◌, ◌<ℤ◌, ◌↔◌}

@@ -1,4 +1,5 @@
--- The longest sign in front of a text is the one that its first three bytes tell.
+-- The longest sign in front of a text is the one that its first three bytes tell; a table of `if`s read backwards
+-- (`row`).
 use Rattle.std.proofs.Common.{◌≡◌, ◌∙◌, sym, ap, subst, refl, ℕ, zero, suc, ◌<◌, ◌≤◌, Bool, true, false}
 use Rattle.std.proofs.Common.{◌&&◌, if◌then◌else◌, [], ◌∷◌, ◌++◌, length, get_or, arith}
 use Rattle.std.specs.Prelude.{Option, Some, None, ◌==◌, ⊤}

@@ -1,4 +1,5 @@
--- A text splits into gaps and tokens in one way only, up to its end or its first fault.
+-- A text splits into gaps and tokens in one way only (`tokens-agree`), up to its end or its first fault, found by fuel
+-- (`outcome`).
 use Rattle.std.proofs.Common.{◌≡◌, ◌∙◌, sym, ap, subst, refl, ℕ, zero, suc, ◌+◌, ◌-◌, ◌<◌, ◌≤◌, ◌⊎◌, List, []}
 use Rattle.std.proofs.Common.{◌∷◌, ◌++◌, length, take, inl, inr, arith}
 use Rattle.std.proofs.lemmas.List.{drop_all, map-append}

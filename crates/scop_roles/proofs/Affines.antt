@@ -1,4 +1,4 @@
--- Formulas without faults in their roles are within the limits.
+-- Formulas without faults in their roles are within the limits; entries of combined forms, what shifts and signs read.
 use Rattle.std.proofs.Common.{◌≡◌, ℕ, ◌+◌, ◌<◌, ◌≤◌, ◌^◌, ◌==◌, Bool, true, false, ◌&&◌, nat_lt, pos, negsuc, List, []}
 use Rattle.std.proofs.Common.{◌∷◌, ◌++◌, length, Some, None, All, ap, sym, ◌∙◌, refl, length-append, arith}
 use Rattle.std.specs.Prelude.{if◌then◌else◌, not, ℤ, ◌+ℤ◌, ◌*ℤ◌, unsigned_abs}

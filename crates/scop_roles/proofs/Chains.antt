@@ -1,4 +1,5 @@
--- What holds along subscripts put on a place one by one, and along arguments; what a place with subscripts is.
+-- What holds along subscripts put on a place one by one, and along arguments (`makes_next`); what a place with
+-- subscripts is.
 use Rattle.std.proofs.Common.{◌≡◌, ℕ, ◌+◌, ◌-◌, ◌<◌, ◌≤◌, ◌==◌, false, List, [], ◌∷◌, ◌++◌, None, length, map, drop}
 use Rattle.std.proofs.Common.{fold, get_or, drop-cons, add-one, ap, sym, subst, ◌∙◌, refl, arith, append_assoc}
 use Rattle.std.proofs.lemmas.List.{drop_all}

@@ -1,4 +1,4 @@
--- The stack of formulas reads a tree's nodes as the tree's formula.
+-- The stack of formulas reads a tree's nodes as the tree's formula; how many tokens a tree has.
 use Rattle.std.proofs.Common.{◌≡◌, ℕ, zero, suc, ◌+◌, ◌<◌, ◌≤◌, List, [], ◌∷◌, ◌++◌, length, drop, fold, get_or, refl}
 use Rattle.std.proofs.Common.{ap, sym, ◌∙◌, arith, length-append, add-one, drop-cons}
 use Rattle.std.specs.Prelude.{⊤}

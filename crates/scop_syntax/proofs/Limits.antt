@@ -1,4 +1,5 @@
--- How large the values of forms and the iterators of instances get.
+-- How large the values of forms and the iterators of instances get; numbers of a list up to a bound (`at_most_at`,
+-- `at_most_more`).
 use Rattle.std.proofs.Common.{◌≡◌, ℕ, zero, suc, ◌+◌, ◌*◌, ◌^◌, ◌<◌, ◌≤◌, ℤ, pos, List, [], ◌∷◌, ◌++◌, length}
 use Rattle.std.proofs.Common.{inl, inr, ap, subst, sym, ◌∙◌, arith, mul-le-mul, mul-add, length-append, get_or, negsuc}
 use Rattle.std.specs.Prelude.{◌+ℤ◌, ◌-ℤ◌, ◌*ℤ◌, ◌≤ℤ◌, neg_ℤ, unsigned_abs, All, ◌<ℤ◌, FitsSigned}

@@ -1,4 +1,4 @@
--- Items without faults leave trees within the limits.
+-- Items without faults leave trees within the limits; the arrays of a scope are known.
 use Rattle.std.proofs.Common.{◌≡◌, ℕ, suc, ◌+◌, ◌-◌, ◌<◌, ◌≤◌, Bool, true, false, if◌then◌else◌, List, [], ◌∷◌, ◌++◌}
 use Rattle.std.proofs.Common.{length, map, refl, ap, subst, ◌∙◌, arith, length-append, All, bytes_eq}
 use Rattle.std.specs.Prelude.{Option, Some, None, ⊤, slice_index_or}

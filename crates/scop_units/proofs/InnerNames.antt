@@ -1,4 +1,4 @@
--- What a name means within one loop more.
+-- What a name means within one loop more: a declared iterator changes nothing else.
 use Rattle.std.proofs.Common.{◌≡◌, ℕ, ◌+◌, Bool, true, false, List, [], ◌∷◌, ◌++◌, length, refl, sym, ap, ◌∙◌, arith}
 use Rattle.std.specs.Prelude.{Option, Some, None, if◌then◌else◌}
 use Rattle.std.specs.Str.{bytes_eq}

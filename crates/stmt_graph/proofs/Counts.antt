@@ -1,4 +1,4 @@
--- Counting the places at which something holds.
+-- Counting the places at which something holds; of two numbers one is less, or they are equal.
 use Rattle.std.proofs.Common.{◌≡◌, ℕ, zero, suc, ◌+◌, ◌<◌, Bool, true, false, refl, sym, ◌∙◌, ap, ◌⊎◌}
 use Rattle.std.proofs.Common.{inl, inr, arith}
 use Rattle.std.specs.Prelude.{◌≤◌}

@@ -1,4 +1,4 @@
--- Lists made from others, entry by entry.
+-- Lists made from others, entry by entry: a copy more, an entry more.
 use Rattle.std.proofs.Common.{◌≡◌, ℕ, ◌+◌, ◌<◌, List, [], ◌∷◌, ◌++◌, length, get_or, take, map, refl, sym, ap, ◌∙◌}
 use Rattle.std.proofs.lemmas.List.{take_more, map-append}
 

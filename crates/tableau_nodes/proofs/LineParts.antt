@@ -1,4 +1,4 @@
--- What is read off a row's line.
+-- What is read off a row's line: its part, and what a cut takes off.
 use Rattle.std.proofs.Common.{◌≡◌, ℕ, zero, suc, ◌+◌, ◌<◌, ◌≤◌, ℤ, pos, neg_ℤ, ◌-ℤ◌, ◌<ℤ◌, ◌⊎◌, inl, inr, Bool, true}
 use Rattle.std.proofs.Common.{false, List, [], ◌∷◌, length, get_or, drop, map, refl, subst, ap, ap₂, sym, ◌∙◌, arith}
 use Rattle.std.proofs.Common.{drop-drop}

@@ -1,4 +1,4 @@
--- The runs of rows in the parts that the code takes.
+-- The runs of rows in the parts that the code takes: a row combined in place.
 use Rattle.std.proofs.Common.{◌≡◌, ℕ, zero, suc, ◌+◌, ◌<◌, ℤ, pos, List, [], ◌∷◌, ◌++◌, length, set, get_or, drop, take}
 use Rattle.std.proofs.Common.{refl, subst, ap, sym, ◌∙◌, arith, add-one, drop-cons}
 use Rattle.std.specs.Prelude.{Result, Ok, Err}

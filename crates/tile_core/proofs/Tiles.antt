@@ -1,4 +1,4 @@
--- Sizes of tiles, and offsets of waves.
+-- Sizes of tiles, and offsets of waves: a plan's tiles as a deal.
 use Rattle.std.proofs.Common.{◌≡◌, ℕ, zero, suc, ◌-◌, ◌+◌, ◌≤◌, ◌<◌, Bool, true, false, List, [], ◌∷◌, length, Some}
 use Rattle.std.proofs.Common.{ap, sym}
 use Rattle.std.proofs.Common.{◌∙◌, arith}

@@ -1,4 +1,4 @@
--- One worker changes, and the state stays sound.
+-- One worker changes, and the state stays sound (`Change`, one record for each event).
 use Rattle.std.proofs.Common.{◌≡◌, ℕ, ◌+◌, ◌<◌, ◌≤◌, ◌≢◌, ⊎_elim, ◌&&◌, Bool, min, List, get_or, set, ap, sym, refl}
 use Rattle.std.proofs.Common.{◌∙◌, subst, arith}
 use Rattle.std.specs.Prelude.{nat_lt}

@@ -1,4 +1,5 @@
--- How many tiles and waves a list of tiles has: as many as it has tiles, and as many as the numbers of waves tell.
+-- How many tiles and waves a list of tiles has: as many as it has tiles, and as many as the numbers of waves tell. How
+-- many values a function has on lists with the same values.
 use Rattle.std.proofs.Common.{◌≡◌, ◌∙◌, ℕ, zero, suc, ◌+◌, ℤ, List, [], ◌∷◌, length, map, inl, inr, refl, ap}
 use Rattle.std.proofs.Common.{Some, sym, subst, arith, ap₂, ◌-◌}
 use Rattle.std.specs.Prelude.{⊤, slice_get, slice_index_or}

@@ -1,4 +1,5 @@
--- Along a stretch forms go by constant steps: floors that are one at both ends are one between, and so are tiles.
+-- Along a stretch forms go by constant steps: floors that are one at both ends are one between, and so are tiles; the
+-- instance so many steps on.
 use Rattle.std.proofs.Common.{◌≡◌, ◌∙◌, ◌≤◌, ◌<◌, ◌+◌, ◌%◌, ◌^◌, ℕ, zero, suc, ℤ, pos}
 use Rattle.std.proofs.Common.{List, [], ◌∷◌, ◌++◌, length, map, take}
 use Rattle.std.proofs.Common.{inl, inr, refl, ap, ap₂, sym, subst, arith, to_z, of_z}

@@ -1,4 +1,4 @@
--- The whole points of a scan set are the places of its statement's instances.
+-- The whole points of a scan set are the places of its statement's instances, part by part (`tells`).
 use Rattle.std.proofs.Common.{◌≡◌, ℕ, zero, suc, ◌+◌, ◌≤◌, ℤ, pos, List, [], ◌∷◌, ◌++◌, refl, sym, ◌∙◌, ap, ap₂}
 use Rattle.std.proofs.Common.{subst, arith, length, map, take, drop, get_or}
 use Rattle.std.specs.Prelude.{◌≤ℤ◌, ◌<ℤ◌, All}

@@ -1,4 +1,5 @@
--- The values of a scan set's forms at a point, and what its equalities and coordinate rows say there.
+-- The values of a scan set's forms at a point, whole or over a denominator (`AreValues`), and what its equalities and
+-- coordinate rows say there.
 use Rattle.std.proofs.Common.{◌≡◌, ℕ, suc, ◌+◌, ◌-◌, ◌<◌, ◌≤◌, Bool, true, false, ℤ, pos, negsuc, List, [], ◌∷◌, ◌++◌}
 use Rattle.std.proofs.Common.{refl, sym, ◌∙◌, ap, ap₂, subst, arith, length, map, take, drop, get_or}
 use Rattle.std.specs.Prelude.{◌+ℤ◌, ◌-ℤ◌, ◌*ℤ◌, ◌≤ℤ◌, ◌<ℤ◌, neg_ℤ, All, if◌then◌else◌, ⊤}

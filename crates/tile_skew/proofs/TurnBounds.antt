@@ -1,4 +1,4 @@
--- The turns of a statement's domain are bounded over fractions.
+-- The turns of a statement's domain lie within 2^46 over fractions.
 use Rattle.std.proofs.Common.{◌≡◌, ℕ, ◌+◌, ◌*◌, ◌^◌, ◌≤◌, ℤ, pos, negsuc, List, [], ◌∷◌, ◌++◌, length}
 use Rattle.std.proofs.Common.{map, inl, inr, ap, subst, sym, ◌∙◌, refl, arith, mul-le-mul}
 use Rattle.std.proofs.Common.{length-append}

@@ -1,4 +1,4 @@
--- Of which places contexts within loops and under tests speak.
+-- Of which places contexts within loops and under tests speak; what an answer that there is no point means.
 use Rattle.std.proofs.Common.{◌≡◌, ℕ, suc, ◌+◌, ◌<◌, ◌≤◌, ℤ, pos, List, [], ◌∷◌, ◌++◌, length, map, get_or, All, inl}
 use Rattle.std.proofs.Common.{inr}
 use Rattle.std.proofs.Common.{ap, subst, sym, ◌∙◌, refl, arith, length-append}

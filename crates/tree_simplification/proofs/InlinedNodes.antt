@@ -1,4 +1,4 @@
--- Old and new nodes, kind by kind.
+-- Old and new nodes, kind by kind, where loops that run once go.
 use Rattle.std.proofs.Common.{◌≡◌, ℕ, zero, suc, ◌+◌, ◌^◌, ◌≤◌, Bool, true, false, ℤ, pos, List, [], ◌∷◌, ◌++◌}
 use Rattle.std.proofs.Common.{length, map, ap, ap₂, subst, sym, ◌∙◌, refl, arith, length-append}
 use Rattle.std.specs.Prelude.{All, ◌+ℤ◌, ◌-ℤ◌, ◌≤ℤ◌, if◌then◌else◌}

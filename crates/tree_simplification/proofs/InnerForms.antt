@@ -1,4 +1,4 @@
--- The forms of the old loops within a loop that stays.
+-- The forms of the old loops within a loop that stays: each with one loop more round it.
 use Rattle.std.proofs.Common.{◌≡◌, ℕ, ◌+◌, ℤ, pos, List, [], ◌∷◌, ◌++◌, length, map, get_or}
 use Rattle.std.proofs.Common.{ap, ap₂, subst, ◌∙◌, refl, arith}
 use Rattle.std.specs.Prelude.{All}

@@ -1,4 +1,4 @@
--- What is left of trees visits what they visit.
+-- What is left of trees visits what they visit: nodes behind others, a loop, a guard; loops with the same values.
 use Rattle.std.proofs.Common.{◌≡◌, ℕ, zero, suc, ◌+◌, ◌^◌, ◌≤◌, inl, inr, ℤ, pos, negsuc, List, [], ◌∷◌, ◌++◌}
 use Rattle.std.proofs.Common.{map, ap, ap₂, subst, sym, ◌∙◌, refl, arith}
 use Rattle.std.specs.Prelude.{◌↔◌, Bool, true, false, if◌then◌else◌, unsigned_abs, ◌+ℤ◌, ◌-ℤ◌, ◌*ℤ◌, ◌≤ℤ◌, ◌<ℤ◌}

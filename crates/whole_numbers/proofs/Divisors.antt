@@ -1,3 +1,4 @@
+-- Divisors, and the greatest common divisor of two numbers.
 use Rattle.std.proofs.Common.{zero, suc, ◌%◌, ◌<◌, ◌≤◌, ◌≡◌, ℕ, ◌*◌, ◌/◌, ℤ, pos, negsuc, ◌+ℤ◌, ◌*ℤ◌, neg_ℤ}
 use Rattle.std.proofs.Common.{unsigned_abs, ◌≤ℤ◌, ◌<ℤ◌, ap, sym, ◌∙◌, subst, refl, arith}
 use Rattle.std.proofs.Math.Nat.{dvd-mul_right, div-add-mod, mod-lt}

@@ -1,4 +1,5 @@
--- Entries of lists, their fronts and backs, and what holds of each entry.
+-- Entries of lists, their fronts and backs, and what holds of each entry; a list made from another entry by entry
+-- (`map_more`, `map_end`).
 use Rattle.std.proofs.Common.{◌≡◌, ℕ, zero, suc, ◌+◌, ◌<◌, ◌≤◌, List, [], ◌∷◌, ◌++◌, length, get_or, take, drop}
 use Rattle.std.proofs.Common.{drop-cons, drop_of_length-le, append_assoc, append-nil, add-one, Some, All, refl, sym}
 use Rattle.std.proofs.Common.{◌∙◌, ap, subst, arith}

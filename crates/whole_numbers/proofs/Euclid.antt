@@ -1,3 +1,4 @@
+-- Euclid's division by a positive number: there is one quotient and one remainder.
 use Rattle.std.proofs.Common.{◌≡◌, ℤ, pos, ◌-ℤ◌, ◌*ℤ◌, ◌<ℤ◌, arith, ap}
 use Rattle.std.proofs.lemmas.Int.{ints}
 use Rattle.whole_numbers.specs.Division.{IsFloor, IsEuclid}

@@ -1,3 +1,4 @@
+-- The numbers that 128 bits hold.
 use Rattle.std.proofs.Common.{ℤ, pos, negsuc, ◌^◌, Bool, true, false, IsTrue, IsFalse, refl, FitsSigned, ◌↔◌}
 use Rattle.std.proofs.Common.{neg_ℤ, ◌≤ℤ◌, ◌<ℤ◌, arith}
 use Rattle.std.specs.Int.{w128}

@@ -1,4 +1,4 @@
--- Multiples of lists in parts, lists without a negative entry, and lists that agree at each place.
+-- Multiples of lists in parts, lists behind zeros or others, without a negative entry, and that agree at each place.
 use Rattle.std.proofs.Common.{◌≡◌, ℕ, zero, suc, ◌<◌, ℤ, pos, ◌+ℤ◌, ◌*ℤ◌, ◌≤ℤ◌, ◌↔◌, List, [], ◌∷◌, ◌++◌}
 use Rattle.std.proofs.Common.{length, set, get_or, drop, refl, sym, ◌∙◌, ap, ap₂, All, arith}
 use Rattle.std.proofs.lemmas.Int.{ints}

@@ -1,4 +1,5 @@
--- Lowest terms: a list is its content times them, a positive multiple has the same, and their content is 1.
+-- Lowest terms of lists and forms: a list is its content times them, a positive multiple has the same, and their
+-- content is 1.
 use Rattle.std.proofs.Common.{◌≡◌, ℕ, zero, suc, ◌<◌, ◌≤◌, ◌*◌, ℤ, pos, ◌+ℤ◌, ◌*ℤ◌, ◌<ℤ◌, List, [], ◌∷◌, get_or}
 use Rattle.std.proofs.Common.{drop, refl, sym, ◌∙◌, ap, ap₂, subst, All, arith}
 use Rattle.std.proofs.lemmas.Int.{ints}

@@ -1,3 +1,4 @@
+-- Order under sums and products; a positive factor cancels (`factor_up`).
 use Rattle.std.proofs.Common.{◌≡◌, ℤ, pos, negsuc, ◌+ℤ◌, ◌-ℤ◌, ◌*ℤ◌, ◌≤ℤ◌, ◌<ℤ◌, ◌⊎◌, inl, inr, arith}
 use Rattle.std.proofs.lemmas.Int.{ints, by_lt_z}
 use Rattle.whole_numbers.proofs.Ring.{mul_sub_right, mul_distrib_right}

@@ -1,4 +1,4 @@
--- Euclid's remainders, of numbers and of lists.
+-- Euclid's remainders and floors, of numbers and of lists (`dot_apart`: the cut).
 use Rattle.std.proofs.Common.{◌≡◌, ℤ, pos, ◌+ℤ◌, ◌*ℤ◌, ◌<ℤ◌, ◌↔◌, List, [], ◌∷◌, length, ap, refl, arith}
 use Rattle.std.proofs.lemmas.Int.{ints}
 use Rattle.whole_numbers.specs.Lists.{dot, NotNegative}

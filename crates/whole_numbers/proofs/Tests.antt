@@ -1,4 +1,4 @@
--- Tests of numbers, and two tests at once.
+-- Tests of numbers, and two tests at once; most tests are in std's `lemmas/Bool`.
 use Rattle.std.proofs.Common.{◌≡◌, ℕ, ◌<◌, Bool, true, false, refl, arith}
 use Rattle.std.specs.Prelude.{nat_eq, if◌then◌else◌}
 

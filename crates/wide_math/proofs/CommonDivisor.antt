@@ -1,3 +1,4 @@
+-- The greatest common divisor of numbers by their sizes, and checked results that are read back.
 use Rattle.std.proofs.Common.{◌≡◌, ℕ, ℤ, pos, unsigned_abs, FitsSigned, to_z, of_z, to_z-of_z, subst₂, Ok, Err}
 use Rattle.std.proofs.Common.{ap, sym, ◌∙◌}
 use Rattle.std.specs.Int.{IsGcd, w128}

@@ -1,3 +1,4 @@
+-- Quotients towards 0 and remainders with the number's sign, against floors and ceilings.
 use Rattle.std.proofs.Common.{suc, ◌/◌, ◌%◌, ◌<◌, ℤ, pos, negsuc, ◌+ℤ◌, ◌-ℤ◌, ◌≤ℤ◌, ◌<ℤ◌, int_div, int_rem}
 use Rattle.std.proofs.Common.{div-le_self, ◌≡◌, arith}
 use Rattle.std.proofs.Math.Nat.{mod-lt}

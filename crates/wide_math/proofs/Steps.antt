@@ -1,3 +1,4 @@
+-- Checked steps, one after another: `checked-fits`, `checked-wide`, `chain-ok`, `chain-err`, `cross_of-exact`.
 use Rattle.std.proofs.Common.{◌≡◌, ℤ, ◌+ℤ◌, ◌-ℤ◌, ◌*ℤ◌, Bool, true, false, IsTrue, IsFalse, Result, Ok, Err}
 use Rattle.std.proofs.Common.{◌↔◌, ◌⊎◌, inl, inr, refl, sym, ◌∙◌, if◌then◌else◌, ap, arith}
 use Rattle.std.proofs.lemmas.Int.{ints}
