@@ -1,4 +1,4 @@
-"""Times parallel runs against the plain interpreter and a C compiler, by the clock. Called by workers.sh."""
+"""Times parallel runs against a C compiler, by the clock. Called by workers.sh."""
 
 import os
 import subprocess
@@ -13,7 +13,7 @@ WORKERS = (1, 2, 4)
 TINY = 4
 # Of each kernel its text, the values of its parameters, those of a start, and how many instances it has.
 CASES = {
-    "product": ("bench/kernels/product.c", {"N": 256}, {"N": TINY}, 256**3),
+    "product": ("examples/product.c", {"N": 256}, {"N": TINY}, 256**3),
     "jacobi": ("examples/jacobi.c", {"T": 40, "N": 400}, {"T": 1, "N": TINY}, 2 * 40 * 398**2),
     "lu": ("examples/lu.c", {"N": 300}, {"N": TINY}, sum(k * k for k in range(300))),
 }
@@ -62,15 +62,13 @@ def c_program(kernel, values):
     return kernel + MAIN % "\n".join(lines)
 
 
-def commands_of(program, interpreter, folder, kind, kernel, values, start):
+def commands_of(program, folder, kind, kernel, values, start):
     """The commands for a case of a kernel, named with `start` in front."""
-    lines = data_lines(kernel, values)
-    text = (kernel + "\n%%\n" + "\n".join(lines) + "\n").encode()
+    text = (kernel + "\n%%\n" + "\n".join(data_lines(kernel, values)) + "\n").encode()
     compiled, said = built(folder, kind + start.strip(), c_program(kernel, values), ["gcc", "-O0"])
     if compiled is None:
         sys.exit(said)
     commands = {f"{start}{k} workers": ([program, "run", "--workers", str(k)], text) for k in WORKERS}
-    commands[start + "interpreter"] = ([interpreter, "run", "1", *lines], kernel.encode())
     commands[start + "gcc -O0"] = ([compiled], b"")
     return commands
 
@@ -87,15 +85,15 @@ def tell(kind, net, instances):
 
 
 def main():
-    program, interpreter, root, folder = sys.argv[1:5]
-    rounds = rounds_of(sys.argv[5:], 5)
+    program, root, folder = sys.argv[1:4]
+    rounds = rounds_of(sys.argv[4:], 5)
     for kind, (file, values, tiny, instances) in CASES.items():
         kernel = kernel_of(os.path.join(root, file))
         names = {name for name, extents in signature_of(kernel)[1] if not extents}
         if names != set(values):
             sys.exit(f"{kind}: the parameters are {sorted(names)}")
-        commands = commands_of(program, interpreter, folder, kind, kernel, values, "")
-        commands |= commands_of(program, interpreter, folder, kind, kernel, tiny, "start of ")
+        commands = commands_of(program, folder, kind, kernel, values, "")
+        commands |= commands_of(program, folder, kind, kernel, tiny, "start of ")
         times, printed = shortest(commands, rounds)
         if len({printed[f"{k} workers"] for k in WORKERS} | {printed["gcc -O0"]}) != 1:
             sys.exit(f"{kind}: the arrays differ")

@@ -8,7 +8,7 @@ ghost use Rattle.fm_projection.specs.Projecting.{HoldsForSomeBetween, gone};
 
 use fm_projection::{
     FmStop, eliminations_are_exact_one_after_another, eliminations_keep_the_points, last_alone,
-    project, without,
+    without,
 };
 use integer_sets::System;
 use std::alloc::Global;
@@ -23,14 +23,6 @@ pub fn without_a_dimension(
     ensures { IfOk result (λ left. left.dimensions ≡ system.now.dimensions - 1) }
 {
     without(alloc, system, dimension)
-}
-
-/// The projection on all dimensions is the system, by the clause of `project`.
-pub fn projection_on(alloc: Global, system: System, kept: usize) -> Result<System, FmStop>
-    requires { kept ≤ system.dimensions }
-    ensures { IfOk result (λ left. kept ≡ system.dimensions → left ≡ system) }
-{
-    project(alloc, system, kept)
 }
 
 /// What is left of one dimension without parameters has its equalities, by the clause of `last_alone`.

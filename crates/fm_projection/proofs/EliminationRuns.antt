@@ -1,13 +1,12 @@
--- Eliminations one after another, each of which passes or stops, and how many dimensions they leave.
-use Rattle.std.proofs.Common.{◌≡◌, ℕ, zero, suc, ◌+◌, ◌-◌, ◌<◌, inl, inr, sym, ◌∙◌, ap, subst, arith}
-use Rattle.std.specs.Prelude.{◌≤◌, Ok, Err}
+-- Eliminations one after another, each of which passes or stops.
+use Rattle.std.proofs.Common.{◌≡◌, ℕ, zero, suc, ◌+◌, ◌-◌, ◌<◌, inl, inr, ◌∙◌, ap, subst, arith}
+use Rattle.std.specs.Prelude.{Ok, Err}
 use Rattle.std.proofs.lemmas.Bool.{cases_lt}
 use Rattle.integer_sets.specs.Constraints.{Constraints}
 use Rattle.fm_projection.specs.declared.stop.FmStop.{FmStop}
 use Rattle.fm_projection.specs.declared.stop.FmStop.TheVariants as fm
 use Rattle.fm_projection.specs.Gives.{Eliminates}
-use Rattle.fm_projection.specs.Projecting.{Drops, Passes, PassProjecting, Projecting, StopsProjecting, gone, projected}
-use Rattle.fm_projection.specs.Projecting.{all_gone}
+use Rattle.fm_projection.specs.Projecting.{Drops, Passes, gone, all_gone}
 use Rattle.fm_projection.specs.Alone.{AllPass, Going}
 
 -- what holds of the first n numbers and of n holds of the first n + 1
@@ -16,53 +15,6 @@ one_more_below P n all last k less = elim (cases_lt k n) [
   | inl small ↦ all k small
   | inr past ↦ subst P (let e : n ≡ k = omega (arith, less, past) in e) last
 ]
-
--- one more elimination of a projection
-pub projected_more : (s t u : Constraints) → t.dimensions ≤ s.dimensions → 0 < t.dimensions
-    → PassProjecting (s.dimensions - t.dimensions) s → t ≡ projected (s.dimensions - t.dimensions) s
-    → Drops (t.dimensions - 1) t (Ok u)
-    → (u.dimensions ≡ t.dimensions - 1) × PassProjecting (s.dimensions - u.dimensions) s
-    × (u ≡ projected (s.dimensions - u.dimensions) s)
-projected_more s t u less some passed is step =
-    let before = s.dimensions - t.dimensions in
-    let d : u.dimensions ≡ t.dimensions - 1 = ap (λ (w : Constraints). w.dimensions) step.1 in
-    let n : s.dimensions - u.dimensions ≡ suc before = omega (arith, d, less, some) in
-    let place : t.dimensions - 1 ≡ s.dimensions - suc before = omega (arith, less, some) in
-    let here : Passes (s.dimensions - suc before) (projected before s) =
-    subst (λ k. Passes k (projected before s)) place (subst (Passes (t.dimensions - 1)) is step.0) in (
-      d,
-      subst (λ k. PassProjecting k s) (sym n)
-          (one_more_below (λ k. Passes (s.dimensions - suc k) (projected k s)) before passed here),
-      step.1 ∙ ap (λ k. gone k t) place ∙ ap (λ w. gone (s.dimensions - suc before) w) is
-          ∙ ap (λ k. projected k s) (sym n),
-    )
-
--- a stop of the next one
-stops_at : (kept : ℕ) (s t : Constraints) (stop : FmStop) → t.dimensions ≤ s.dimensions → kept < t.dimensions
-    → PassProjecting (s.dimensions - t.dimensions) s → t ≡ projected (s.dimensions - t.dimensions) s
-    → Eliminates (t.dimensions - 1) t (Err stop)
-    → StopsProjecting (s.dimensions - kept) s stop
-stops_at kept s t stop less more passed is stops =
-    record {
-      before = s.dimensions - t.dimensions;
-      less = omega (arith, less, more);
-      passed = passed;
-      stops = subst (λ k. Eliminates k (projected (s.dimensions - t.dimensions) s) (Err stop))
-          (let e : t.dimensions - 1 ≡ s.dimensions - suc (s.dimensions - t.dimensions) = omega (arith, less, more) in e)
-          (subst (λ w. Eliminates (t.dimensions - 1) w (Err stop)) is stops);
-    }
-
-pub stops_projecting : (kept : ℕ) (s t : Constraints) (stop : FmStop) → t.dimensions ≤ s.dimensions
-    → kept < t.dimensions
-    → PassProjecting (s.dimensions - t.dimensions) s → t ≡ projected (s.dimensions - t.dimensions) s
-    → Eliminates (t.dimensions - 1) t (Err stop)
-    → Projecting (s.dimensions - kept) s (Err stop)
-stops_projecting kept s t (fm.Wide w) less more passed is stops = stops_at kept s t (fm.Wide w) less more passed is
-    stops
-stops_projecting kept s t (fm.Crowded n) less more passed is stops =
-    stops_at kept s t (fm.Crowded n) less more passed is stops
-stops_projecting kept s t (fm.Large z) less more passed is stops = stops
-stops_projecting kept s t fm.NoMemory less more passed is stops = tt
 
 -- one more elimination at a place
 pub gone_more : (i n : ℕ) (s t u : Constraints) → AllPass i n s → t ≡ all_gone i n s → Drops i t (Ok u)

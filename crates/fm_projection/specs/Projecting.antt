@@ -1,13 +1,12 @@
 -- Dimensions eliminated one after another, each with its column: projections on the first dimensions.
 use Rattle.std.specs.Prelude.{◌≡◌, ℕ, zero, suc, ◌-◌, ◌<◌, ℤ, pos, ◌*ℤ◌, ◌<ℤ◌, List, ◌∷◌, ◌++◌, length, map}
-use Rattle.std.specs.Prelude.{Result, Ok, Err, ◌↔◌, ⊤}
+use Rattle.std.specs.Prelude.{Result, Ok, Err, ◌↔◌}
 use Rattle.whole_numbers.specs.Lists.{multiples}
 use Rattle.fractions.specs.Fractions.{HoldsOver}
 use Rattle.fractions.specs.Elimination.{eliminated, narrowed}
 use Rattle.integer_sets.specs.Constraints.{Constraints, system_of}
 use Rattle.integer_sets.specs.Points.{Satisfies}
 use Rattle.fm_projection.specs.declared.stop.FmStop.{FmStop}
-use Rattle.fm_projection.specs.declared.stop.FmStop.TheVariants as fm
 use Rattle.fm_projection.specs.Gives.{Eliminates}
 
 -- the elimination of variable i
@@ -40,21 +39,6 @@ projected (suc n) s = gone (s.dimensions - suc n) (projected n s)
 -- each of the first n of these eliminations passes
 abbrev pub PassProjecting : ℕ → Constraints → Type 0
 PassProjecting n s = (k : ℕ) → k < n → Passes (s.dimensions - suc k) (projected k s)
-
--- one of the first n of these eliminations stops so, and those before it pass
-pub record StopsProjecting (n : ℕ) (s : Constraints) (stop : FmStop) : Type 0 where
-  pub before : ℕ
-  pub less : before < n
-  pub passed : PassProjecting before s
-  pub stops : Eliminates (s.dimensions - suc before) (projected before s) (Err stop)
-
--- the call projects, or stops as the first of its eliminations that stops; want of memory may stop it anywhere
-abbrev pub Projecting : ℕ → Constraints → Result Constraints FmStop → Type 0
-Projecting n s (Ok t) = PassProjecting n s × (t ≡ projected n s)
-Projecting n s (Err (fm.Wide w)) = StopsProjecting n s (fm.Wide w)
-Projecting n s (Err (fm.Crowded pairs)) = StopsProjecting n s (fm.Crowded pairs)
-Projecting n s (Err (fm.Large number)) = ⊥
-Projecting n s (Err fm.NoMemory) = ⊤
 
 -- n times the dimension at place i
 abbrev pub all_gone : ℕ → ℕ → Constraints → Constraints

@@ -14,6 +14,6 @@ mod stop;
 pub use alone::{last_alone, place_form};
 pub use columns::{narrow_form, without_column};
 pub use elimination::eliminate;
-pub use projecting::{project, without};
+pub use projecting::without;
 pub use projection_laws::{eliminations_are_exact_one_after_another, eliminations_keep_the_points};
 pub use stop::FmStop;

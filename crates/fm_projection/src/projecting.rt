@@ -1,7 +1,7 @@
-//! Dimensions eliminated one after another.
+//! A dimension eliminated with its column.
 
-ghost use Rattle.std.specs.Prelude.{◌<◌, ◌≤◌, ◌-◌};
-ghost use Rattle.fm_projection.specs.Projecting.{Drops, Projecting};
+ghost use Rattle.std.specs.Prelude.{◌<◌};
+ghost use Rattle.fm_projection.specs.Projecting.{Drops};
 
 use crate::columns::without_column;
 use crate::elimination::eliminate;
@@ -24,22 +24,4 @@ pub fn without(alloc: Global, system: &System, dimension: usize) -> Result<Syste
             Ok(narrow) => Ok(narrow),
         },
     }
-}
-
-/// The projection on the first `kept` dimensions: the others are eliminated from the last on.
-///
-/// # Errors
-/// `Crowded` or `Wide` exactly as the first of these eliminations that stops.
-pub fn project(alloc: Global, system: System, kept: usize) -> Result<System, FmStop>
-    requires { kept ≤ system.dimensions }
-    ensures { Projecting (system.dimensions - kept) system result }
-{
-    let mut system = system;
-    while system.dimensions() > kept {
-        match without(alloc, &system, system.dimensions() - 1) {
-            Err(stop) => return Err(stop),
-            Ok(next) => system = next,
-        }
-    }
-    Ok(system)
 }

@@ -1,5 +1,5 @@
 -- The value of an expression of two parts, whose reads stand one behind the other in a list.
-use Rattle.std.proofs.Common.{◌≡◌, ℕ, ◌+◌, ◌≤◌, List, length, drop, ap, ap₂, sym, ◌∙◌, arith, length-append}
+use Rattle.std.proofs.Common.{◌≡◌, ℕ, ◌+◌, List, length, drop, ap, ap₂, sym, ◌∙◌, arith, length-append}
 use Rattle.std.specs.Prelude.{ℤ}
 use Rattle.std.specs.Global.{Box}
 use Rattle.std.proofs.lemmas.List.{drop-drop}
@@ -27,23 +27,7 @@ pub expression_read : (a : Access) → expression_of (Read a) ≡ read a
 expression_read a =
     ap expression_of (sym (rolls-Read a)) ∙ fold-roll-Expr Expression expression_step (Expr-F.Read a)
 
--- the same where the right is a read
-pub chained_read : (whole : Expr) (op : Code) (left right : Box Expr) (l r : Expr) (a : Access)
-    → whole ≡ Binary op left right → l ≡ left.value → r ≡ right.value → r ≡ Read a
-    → expression_of whole ≡ binary (operator_of op) (expression_of l) (read a)
-chained_read whole op left right l r a is first second named =
-    chained whole op left right l r is first second
-    ∙ ap (λ (x : Expression). binary (operator_of op) (expression_of l) x) (ap expression_of named ∙ expression_read a)
-
--- behind the reads of the left there is room for those of the right
-pub chained_room : (whole e f : Expression) (op : Operator) (at next n : ℕ) → whole ≡ binary op e f
-    → at + length (reads_of whole) ≤ n → next ≡ at + length (reads_of e) → next + length (reads_of f) ≤ n
-chained_room whole e f op at next n is room behind =
-    let all = ap (λ (x : Expression). length (reads_of x)) is in
-    let joined = length-append (reads_of e) (reads_of f) in
-    omega arith
-
--- and behind those lie the reads that follow the whole
+-- behind the reads of the right lie those that follow the whole
 pub chained_end : (whole e f : Expression) (op : Operator) (at next end : ℕ) → whole ≡ binary op e f
     → next ≡ at + length (reads_of e) → end ≡ next + length (reads_of f) → end ≡ at + length (reads_of whole)
 chained_end whole e f op at next end is behind last =

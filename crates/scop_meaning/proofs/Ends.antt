@@ -7,19 +7,18 @@ use Rattle.std.specs.Option.{is_some}
 use Rattle.std.specs.Int.Signed.{le_z}
 use Rattle.std.proofs.lemmas.Int.{ints}
 use Rattle.whole_numbers.specs.Affine.{Affine, value_of}
-use Rattle.whole_numbers.proofs.Ring.{mul_sub_right}
+use Rattle.whole_numbers.proofs.Ring.{mul_assoc_int, mul_one_right, mul_zero_right}
 use Rattle.scop_syntax.specs.Tree.{Access, Statement, Head, Trees, loop, statement, none, more}
 use Rattle.scop_syntax.specs.Walk.{condition_at, turn_point, RunsFor, Visit, within, walk, walk_all}
 use Rattle.scop_syntax.specs.Cells.{accesses, values}
 use Rattle.scop_syntax.specs.Kernel.{IsHead}
 use Rattle.scop_syntax.specs.Failures.{Failure, is_within, outside_dimensions, outside_accesses, failures}
-use Rattle.scop_syntax.proofs.Falls.{condition_falls}
+use Rattle.scop_syntax.proofs.Falls.{condition_falls, dot_last}
 use Rattle.scop_syntax.proofs.Loops.{loop_turns}
 use Rattle.scop_syntax.proofs.Members.{both, le_z_holds, holds_le_z}
 use Rattle.scop_meaning.specs.declared.index.Outside.{Outside}
 use Rattle.scop_meaning.specs.Outside.{FindsFirst, first_of}
 use Rattle.scop_meaning.proofs.Checks.{failures-append, turn_visits}
-use Rattle.scop_meaning.proofs.Strides.{value_evenly}
 
 -- a number lies between two others, whichever of them is less
 abbrev IsBetween : ℤ → ℤ → ℤ → Type 0
@@ -39,10 +38,25 @@ value_by_steps : (form : Affine) (head : Head) (point : List ℤ) (k : ℕ)
     → value_of form (turn_point head point (pos k)) ≡ value_of form (turn_point head point (pos 0))
     +ℤ ((value_of form (turn_point head point (pos 1)) -ℤ value_of form (turn_point head point (pos 0))) *ℤ pos k)
 value_by_steps form head point k =
+    let first = value_of head.first point in
+    let s = head.stride in
+    let x = first +ℤ (s *ℤ pos 0) in
+    let y = first +ℤ (s *ℤ pos 1) in
+    let z = first +ℤ (s *ℤ pos k) in
+    let c = get_or form.coefficients (length point) (pos 0) in
     let v = value_of form (turn_point head point (pos 0)) in
     let w = value_of form (turn_point head point (pos 1)) in
-    let even = value_evenly form head point k in
-    let apart = mul_sub_right w v (pos k) in
+    let none = mul_zero_right s in
+    let once = mul_one_right s in
+    let one : y -ℤ x ≡ s = omega (arith, ints) in
+    let all : z -ℤ x ≡ s *ℤ pos k = omega (arith, ints) in
+    let to_one = dot_last form.coefficients point x y in
+    let to_all = dot_last form.coefficients point x z in
+    let by_one = ap (λ (n : ℤ). c *ℤ n) one in
+    let by_all = ap (λ (n : ℤ). c *ℤ n) all in
+    let difference : w -ℤ v ≡ c *ℤ s = omega (arith, ints) in
+    let times = ap (λ (n : ℤ). n *ℤ pos k) difference in
+    let grouped = mul_assoc_int c s (pos k) in
     omega (arith, ints)
 
 -- so at turn k it lies between those at turns 0 and n

@@ -1,7 +1,6 @@
 mod Offsets
 mod Shifts
 mod Turns
-mod Evaluations
 mod Chains
 mod WalkSteps
 mod Runs
@@ -10,6 +9,5 @@ mod Kernels
 mod StatementSearch
 mod Nodes
 mod Numbering
-mod Strides
 mod Ends
 pub mod Outside

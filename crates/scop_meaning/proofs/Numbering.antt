@@ -1,8 +1,18 @@
--- The numbers of accesses, and of cells among those of all arrays.
-use Rattle.std.proofs.Common.{◌≡◌, ℕ, zero, suc, ◌+◌, ◌-◌, ◌<◌, ◌≤◌, List, [], ◌∷◌, ◌++◌, length, take, get_or, ap, ◌∙◌, arith}
+-- How many values are read; the numbers of accesses, and of cells among those of all arrays.
+use Rattle.std.proofs.Common.{◌≡◌, ℕ, zero, suc, ◌+◌, ◌-◌, ◌<◌, ◌≤◌, List, [], ◌∷◌, ◌++◌, length, take, get_or, ap, ◌∙◌}
+use Rattle.std.proofs.Common.{arith, refl}
 use Rattle.std.specs.Prelude.{slice_get}
+use Rattle.scop_syntax.specs.Tree.{Access, Right, assigned, combined, moved_left, moved_right}
+use Rattle.scop_syntax.specs.Cells.{reads_with}
 use Rattle.scop_syntax.specs.Execution.{cell_count, total_cells}
-use Rattle.scop_meaning.specs.Instances.{AreExtents, AreLayout}
+use Rattle.scop_meaning.specs.Instances.{AreExtents, AreLayout, values_wanted}
+
+-- a statement reads as many values as its right side wants
+pub reads_wanted : (place : Access) (right : Right) → length (reads_with place right) ≡ values_wanted right
+reads_wanted place (assigned e) = refl
+reads_wanted place (combined op e) = refl
+reads_wanted place (moved_left k) = refl
+reads_wanted place (moved_right k) = refl
 
 -- an element of two lists, one behind the other
 pub get_back : {A : Type 0} (xs ys : List A) (i : ℕ) → length xs ≤ i

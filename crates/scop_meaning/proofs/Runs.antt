@@ -1,5 +1,5 @@
 -- What stays true along the items of a row and along the turns of a loop, as they run.
-use Rattle.std.proofs.Common.{◌≡◌, ℕ, zero, suc, ◌+◌, ◌-◌, ◌<◌, ◌≤◌, List, [], ◌++◌, length, drop, ap, subst, sym}
+use Rattle.std.proofs.Common.{◌≡◌, ℕ, suc, ◌+◌, ◌-◌, ◌<◌, List, [], ◌++◌, length, drop, ap, subst, sym}
 use Rattle.std.proofs.Common.{◌∙◌, refl}
 use Rattle.std.proofs.Common.{arith, append-nil}
 use Rattle.std.specs.Prelude.{ℤ, pos}
@@ -152,27 +152,3 @@ turn_step es head body m k start point after old now next h far stays did ready 
       rest = ap (λ (a : List (List ℕ)). ran es a rest) here
           ∙ (sym (ran-append es now (acts_all body at) rest) ∙ (ap (ran es now) (sym split) ∙ far.rest));
     }
-
--- the acts of the turns from k on are among those of all
-inside_from : (es : List (List ℕ)) (head : Head) (body : Trees) (point : List ℤ) (m k : ℕ) → k ≤ m
-    → ActsAreInside es (turn_acts head body point 0 (m - 0)) → ActsAreInside es (turn_acts head body point k (m - k))
-inside_from es head body point m zero h c = c
-inside_from es head body point m (suc k) h c =
-    let far = inside_from es head body point m k (omega arith) c in
-    let next : k + 1 ≡ suc k = omega arith in
-    subst (λ n. ActsAreInside es (turn_acts head body point n (m - n))) next
-    (inside_back es (acts_all body (turn_point head point (pos k))) (turn_acts head body point (k + 1) (m - (k + 1)))
-    (subst (ActsAreInside es) (more_turns head body point k m (omega arith)) far))
-
--- so a statement that is repeated has its cells at each turn
-pub turn_cells : (room : ℕ) (es : List (List ℕ)) (head : Head) (s : Statement) (m k : ℕ) (start : List ℤ)
-    (old : List (List ℕ)) → CanRun room es (more (loop head (more (statement s) none)) none) start old
-    → RunsFor (λ j. condition_at head start (pos j)) m → k < m
-    → AreCells es (turn_point head start (pos k)) (accesses s)
-turn_cells room es head s m k start old c runs h =
-    let body = more (statement s) none in
-    let at = turn_point head start (pos k) in
-    let all = (turns_begin room es head body m start start old c runs refl).inside in
-    let far = inside_from es head body start m k (omega arith) all in
-    inside_front es (acts_all body at) (turn_acts head body start (k + 1) (m - (k + 1)))
-    (subst (ActsAreInside es) (more_turns head body start k m h) far) (record { body = s; point = at }) (inl refl)

@@ -1,7 +1,5 @@
 pub mod Conditions
-pub mod Evaluation
 pub mod Instances
 pub mod LastWrites
 pub mod Outside
 pub mod Rows
-pub mod Tracks

@@ -1,6 +1,6 @@
 //! The index check: the first instance of the walk that has a subscript outside its extent, with its
 //! least access and of that its least dimension.
-ghost use Rattle.std.specs.Prelude.{◌≡◌, ◌+◌, ◌≤◌, ◌∷◌, ◌^◌, [], All, FitsSigned, MatchOption, length, map, pos};
+ghost use Rattle.std.specs.Prelude.{◌≡◌, ◌+◌, ◌≤◌, ◌∷◌, ◌^◌, [], All, FitsSigned, IfSome, MatchOption, length, map, pos};
 ghost use Rattle.std.specs.Prelude.{true, ⊤};
 ghost use Rattle.std.specs.Int.{w64};
 ghost use Rattle.std.specs.Option.{option_map};
@@ -21,7 +21,6 @@ ghost use Rattle.scop_meaning.specs.declared.loops.TheConstants.{ROOM};
 
 use crate::guards::all_hold;
 use crate::loops::{Point, enter_turn, point_at, point_in_turn, turns_of};
-use crate::repeating::only_statement;
 use scop_syntax::affine_values::exact_at;
 use scop_syntax::arrays::Extents;
 use scop_syntax::limit_laws::numbers_of_runs_fit;
@@ -196,6 +195,20 @@ fn outside_statement(
     ensures { FindsFirst result stmt point.now extents.now 0 (accesses (statement_of statement.now)) }
 {
     outside_assignment(&statement.place, &statement.right, extents, point, stmt)
+}
+
+/// The statement that a loop's body is, where it is one statement alone.
+fn only_statement(body: &[Item]) -> Option<&Stmt>
+    ensures { IfSome result (λ s. items_of body.now ≡ more (only (statement_of s.now)) none) }
+{
+    if body.len() != 1 {
+        return None;
+    }
+    match &body[0] {
+        Item::Stmt(statement) => Some(statement),
+        Item::Loop(_, _) => None,
+        Item::Guard(_, _) => None,
+    }
 }
 
 /// Whether the one statement of a loop has no subscript outside at turn `turn`, where the loop's first iterator is

@@ -17,7 +17,6 @@ use crate::guards::all_hold;
 use crate::last_writes::executions_go_by_last_writers;
 use crate::layout::Layout;
 use crate::loops::{Point, enter_turn, point_at, turns_of};
-use crate::repeating::{repeated, run_along};
 use crate::statements::run_statement;
 use scop_syntax::affine_values::exact_at;
 use scop_syntax::arrays::Arrays;
@@ -66,9 +65,6 @@ fn run_loop(head: &Loop, body: &[Item], layout: &Layout, point: &mut Point, arra
 {
     let first = exact_at(&head.first, point.as_slice());
     let turns = turns_of(head, first, point);
-    if let Some(statement) = repeated(body, turns) {
-        return run_along(head, first, statement, turns, layout, point, arrays);
-    }
     for turn in 0..turns {
         run_turn(head, first, body, turn, layout, point, arrays);
     }

@@ -17,8 +17,5 @@ pub mod last_writes;
 mod layout;
 pub mod loops;
 mod operators;
-pub mod performing;
-mod repeating;
 mod statements;
-mod tracks;
 pub mod worked_rows;

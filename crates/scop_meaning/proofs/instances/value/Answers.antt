@@ -7,7 +7,7 @@ use Rattle.scop_syntax.specs.View.{instance_of, program_of, statement_of}
 use Rattle.scop_syntax.specs.Walk.{instance, walk_of}
 use Rattle.scop_syntax.proofs.Members.{in_map_from}
 use Rattle.scop_meaning.specs.Instances.{IsVisitOf}
-use Rattle.scop_meaning.proofs.Evaluations.{reads_wanted}
+use Rattle.scop_meaning.proofs.Numbering.{reads_wanted}
 use Rattle.scop_meaning.proofs.instances.value.Goals as goal
 
 pub stored_on-requires : goal.stored_on-requires

@@ -1,16 +1,18 @@
-use Rattle.std.proofs.Common.{◌≡◌, ◌+◌, ◌<◌, List, length, drop, ap, ap₂, subst, sym, ◌∙◌, arith, rules, to_z, of_z}
+use Rattle.std.proofs.Common.{◌≡◌, ◌+◌, ◌<◌, ℕ, List, length, drop, ap, ap₂, subst, sym, ◌∙◌, arith, rules, to_z, of_z}
 use Rattle.std.specs.Prelude.{ℤ, pos, FitsSigned}
 use Rattle.std.specs.Int.{w64}
 use Rattle.std.proofs.lemmas.Int.{to_z-of_z}
 use Rattle.whole_numbers.specs.Affine.{Affine, value_of}
 use Rattle.scop_syntax.specs.Cells.{accesses}
-use Rattle.scop_syntax.specs.Acts.{acts}
-use Rattle.scop_syntax.specs.Tree.{Tree, Trees, Head, loop, statement, more, none}
+use Rattle.scop_syntax.specs.Tree.{Tree, Trees, Head, statement, more, none}
 use Rattle.scop_syntax.specs.View.{items_of, tree_of, statement_of}
-use Rattle.scop_syntax.specs.Walk.{RunsFor, condition_at, turn_point}
+use Rattle.scop_syntax.specs.declared.tree.Item.{Item}
+use Rattle.scop_syntax.specs.declared.tree.Item.TheVariants as variant
+use Rattle.scop_syntax.specs.declared.tree.Stmt.{Stmt}
+use Rattle.scop_syntax.specs.Walk.{turn_point}
 use Rattle.scop_syntax.proofs.Views.{tree_statement}
 use Rattle.scop_syntax.proofs.Weights.{weight, weight_all, item_weight, item_here}
-use Rattle.scop_meaning.specs.Conditions.{CanRun, CanTurn, AreCells, ran}
+use Rattle.scop_meaning.specs.Conditions.{CanRun, CanTurn, AreCells}
 use Rattle.scop_meaning.specs.declared.loops.TheConstants.{ROOM}
 use Rattle.scop_meaning.proofs.WalkSteps.{can_turn, first_turn_fits, loop_head, loop_space}
 use Rattle.scop_meaning.proofs.Turns.{first_fits}
@@ -41,14 +43,23 @@ run_items-loop-item-preserved t c =
     c.run_item.ensures.point
     c.run_item.ensures.arrays c.run_item.ensures.ready
 
+-- where an item is a statement, that can run
+can_alone : {es : List (List ℕ)} {point : List ℤ} {now : List (List ℕ)} (item : Item) (s : Stmt) → item ≡ variant.Stmt s
+    → CanRun ROOM es (more (tree_of item) none) point now
+    → CanRun ROOM es (more (statement (statement_of s)) none) point now
+can_alone {es = es} {point = point} {now = now} item s is can =
+    subst (λ (u : Tree). CanRun ROOM es (more u none) point now) (ap tree_of is ∙ tree_statement s) can
+
 pub run_item-run_statement-requires-clause-cells : goal.run_item-run_statement-requires-clause-cells
 run_item-run_statement-requires-clause-cells t c =
     let s = statement_of c.in-Stmt.statement in
-    let point = c.args.point.now.items in
-    let is : tree_of c.args.item.now ≡ statement s = ap tree_of c.in-Stmt.is ∙ tree_statement c.in-Stmt.statement in
-    let can = subst (λ (u : Tree). CanRun ROOM c.args.layout.now (more u none) point c.args.arrays.now) is c.requires in
     subst (λ (x : List ℤ). AreCells c.args.layout.now x (accesses s)) (sym c.as_slice-in-Stmt.ensures.value)
-    (can_act ROOM c.args.layout.now s point c.args.arrays.now can)
+    (can_act ROOM c.args.layout.now s c.args.point.now.items c.args.arrays.now
+    (can_alone c.args.item.now c.in-Stmt.statement c.in-Stmt.is c.requires))
+
+pub run_item-run_statement-requires-clause-few : goal.run_item-run_statement-requires-clause-few
+run_item-run_statement-requires-clause-few t c =
+    (can_alone c.args.item.now c.in-Stmt.statement c.in-Stmt.is c.requires).walks.formed.0.few_reads
 
 pub run_loop-exact_at-first-requires : goal.run_loop-exact_at-first-requires
 run_loop-exact_at-first-requires t c =
@@ -124,37 +135,3 @@ pub run_loop-turns_of-turns-requires-clause-fits : goal.run_loop-turns_of-turns-
 run_loop-turns_of-turns-requires-clause-fits t c =
     first_turn_fits ROOM c.requires.ranks c.args.head.now (items_of c.args.body.now) c.args.point.now.items
     c.requires.walks
-
-pub run_loop-run_along-requires-clause-run : goal.run_loop-run_along-requires-clause-run
-run_loop-run_along-requires-clause-run t c =
-    let es = c.args.layout.now in
-    let head = c.args.head.now in
-    let arrays = c.args.arrays.now in
-    subst (λ (x : List ℤ). CanRun ROOM es (more (loop head (more (statement (statement_of c.in-Some.statement.now))
-    none)) none) x arrays) (sym c.turns_of-turns.ensures.point)
-    (subst (λ (ts : Trees). CanRun ROOM es (more (loop head ts) none) c.args.point.now.items arrays)
-    c.in-Some.ensures.body c.requires)
-
-pub run_loop-run_along-requires-clause-first : goal.run_loop-run_along-requires-clause-first
-run_loop-run_along-requires-clause-first t c =
-    let fit : FitsSigned w64 c.exact_at-first.result = search rules in
-    first_is c.args.head.now c.turns_of-turns.new.point.items c.exact_at-first.result c.exact_at-first.ensures
-    (ap (λ (h : Head). h.first) c.head.view_is) (c.as_slice.ensures.value ∙ sym c.turns_of-turns.ensures.point) fit
-
-pub run_loop-run_along-requires-clause-turns : goal.run_loop-run_along-requires-clause-turns
-run_loop-run_along-requires-clause-turns t c =
-    subst (λ (x : List ℤ). RunsFor (λ k. condition_at c.args.head.now x (pos k)) c.turns_of-turns.result)
-    (sym c.turns_of-turns.ensures.point) c.turns_of-turns.ensures.turns
-
-pub run_loop-returns-in-Some-clause-point : goal.run_loop-returns-in-Some-clause-point
-run_loop-returns-in-Some-clause-point t c = c.run_along.ensures.point ∙ c.turns_of-turns.ensures.point
-
-pub run_loop-returns-in-Some-clause-arrays : goal.run_loop-returns-in-Some-clause-arrays
-run_loop-returns-in-Some-clause-arrays t c =
-    let es = c.args.layout.now in
-    let head = c.args.head.now in
-    let arrays = c.args.arrays.now in
-    c.run_along.ensures.arrays
-    ∙ (ap (λ (x : List ℤ). ran es arrays (acts (loop head (more (statement (statement_of c.in-Some.statement.now))
-    none)) x)) c.turns_of-turns.ensures.point
-    ∙ ap (λ (ts : Trees). ran es arrays (acts (loop head ts) c.args.point.now.items)) (sym c.in-Some.ensures.body))

@@ -1,6 +1,8 @@
-use Rattle.std.proofs.Common.{ℕ, List, [], ◌<◌, ◌^◌, get_or, subst, sym, ap, ◌∙◌}
+use Rattle.std.proofs.Common.{ℕ, List, [], ◌<◌, ◌^◌, get_or, length, subst, sym, ap, ◌∙◌, ◌≡◌, rules}
 use Rattle.scop_syntax.specs.Tree.{Access}
-use Rattle.scop_syntax.specs.Execution.{cell_count}
+use Rattle.scop_syntax.specs.Cells.{cell_of}
+use Rattle.scop_syntax.specs.Execution.{cell_count, offset_of}
+use Rattle.scop_syntax.proofs.Memory.{cell_array, cell_offset}
 use Rattle.scop_meaning.proofs.statements.offset_in.Goals as goal
 
 pub offset_at-requires-clause-count : goal.offset_at-requires-clause-count
@@ -8,3 +10,15 @@ offset_at-requires-clause-count c =
     let named = ap (λ (a : Access). get_or c.args.layout.now a.array []) c.access.view_is in
     subst (λ (es : List ℕ). cell_count es < 2 ^ 64) (sym (c.array.ensures ∙ named))
     (c.requires.ready.counts c.args.access.now.array)
+
+pub returns-clause-array : goal.returns-clause-array
+returns-clause-array c =
+    cell_array c.args.layout.now c.args.arrays.now (cell_of c.args.access.now c.args.point.now) c.requires.ready.shape
+    c.requires.cell
+
+pub returns-clause-below : goal.returns-clause-below
+returns-clause-below c =
+    let cell = cell_of c.args.access.now c.args.point.now in
+    let offset : c.offset_at.result ≡ offset_of c.args.layout.now cell = search rules in
+    subst (λ n. n < length (get_or c.args.arrays.now c.args.access.now.array [])) (sym offset)
+    (cell_offset c.args.layout.now c.args.arrays.now cell c.requires.ready.shape c.requires.cell)
