@@ -14,6 +14,7 @@ from timing import rounds_of
 # Parameters within the limits of the language, and how many times a kernel runs with them: its own text for about a
 # second.
 SIZES = {
+    "axpy": ({"N": 60000, "stride": 1}, 20000),
     "convolution": ({"H": 1200, "W": 1200, "K": 24}, 1),
     "copy": ({"N": 60000}, 20000),
     "even": ({"N": 30000}, 10000),

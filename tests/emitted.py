@@ -17,7 +17,8 @@ from kernel_texts import kernel_of  # noqa: E402
 
 SECONDS = 3
 SLOW = f"no end within {SECONDS} seconds"
-WARNINGS = ["-std=c17", "-O2", "-Wall", "-Wextra", "-Wno-unused-function", "-Wno-unused-variable"]
+WARNINGS = ["-std=c17", "-O2", "-Wall", "-Wextra", "-Wno-unused-function", "-Wno-unused-variable",
+            "-Wno-unused-parameter"]
 
 MAIN = """
 #include <stdio.h>

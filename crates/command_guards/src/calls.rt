@@ -1,7 +1,7 @@
 //! A caller of the top call: each of its clauses follows from one field of `Answered`, with what that field speaks of
 //! written out. So one of these fields that is emptied fails here, and so does a definition under it, but for those
-//! that are named here: which input is accepted or spells a kernel, what is asked for, and what a generated kernel
-//! leaves.
+//! that are named here: which input is accepted or spells a kernel, what is asked for, what a generated kernel leaves,
+//! what the search finds or stops at (`IsSearched`, `IsCauseOf`), and what the trees of a plan are (`ArePlanned`).
 
 ghost use Rattle.std.specs.Prelude.{◌≡◌, ◌≢◌, ◌⊎◌, ◌≤◌, ◌++◌, ℕ, true, false, List, [], Option, Some, map};
 ghost use Rattle.std.specs.Prelude.{string_bytes};

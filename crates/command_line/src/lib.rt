@@ -1,7 +1,7 @@
 //! The command line: the words that the program takes, as `clap` reads them, and the command that they name.
 //!
-//! Promises that a command comes exactly of words that are taken, that it is the one that they name, with its numbers
-//! within their ranges, and that words which are taken are refused for want of memory alone.
+//! Promises that a command comes exactly of words that are taken, that it is the one that they name, with workers, size
+//! of tiles and SIZE in their ranges, and that words which are taken are refused for want of memory alone.
 #![tactic(auto)]
 
 mod command;

@@ -57,8 +57,8 @@ fn scan_outlines(
 /// # Errors
 /// Those of `plain_scan`: `Wide` or `Crowded` only where an elimination of a set stops so, of the last dimension of its
 /// projection on the first, or, for the bounds of that dimension alone, of the others and of the parameters; `Large`
-/// only where a number of such a projection, or of what is left of one dimension alone, is beyond 2^40 in absolute
-/// value; `NoMemory`.
+/// only where a number of what is left of such a dimension alone, or of the set, is beyond 2^40 in absolute value;
+/// `NoMemory`.
 pub fn scan(alloc: Global, sets: &[ScanSet], budget: u64) -> Result<Tree, FmStop>
     requires sets { AreScanned sets.now }
     requires rise { NumbersRise sets.now }
