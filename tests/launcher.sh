@@ -29,7 +29,7 @@ crate=\${PWD##*/}
 echo "\$crate" >>"$work/calls"
 [ "\$1" = lib ] || echo built >>"$work/builds"
 [ "\$(cat "$work/refuse" 2>/dev/null)" != "\$crate" ] || { echo "error: \$crate has no proof" >&2; exit 1; }
-mkdir -p out/rlib
+mkdir -p out/rlib out/incremental
 : >"out/rlib/\$crate"
 [ "\$(cat "$work/slow" 2>/dev/null)" != "\$crate" ] || { echo \$\$ >"$work/process"; exec sleep 5; }
 for below in \$(sed -n "s/^\$crate://p" ../../crates.txt); do
@@ -69,6 +69,21 @@ call() {
     builds=$(cat "$work/builds" 2>/dev/null | wc -l)
 }
 
+# Calls the launcher on a terminal with two words; sets `status`, `said` (all that is shown) and `builds`.
+call_on_terminal() {
+    PATH=$work/bin:$PATH TMPDIR=$work/tmp script -qec "$copy/polypar one two" /dev/null </dev/null >"$work/shown"
+    status=$?
+    tr -d '\r' <"$work/shown" >"$work/said"
+    said=$(cat "$work/said")
+    builds=$(cat "$work/builds" 2>/dev/null | wc -l)
+}
+
+# Lists a second for each crate, and for $1 so many that all together take 100 minutes, however many are side by side.
+list_seconds() {
+    echo "# what each took" >"$copy/seconds.txt"
+    sed -n "s/^$1[ :].*/$1 5965/p; s/^\([a-z][a-z_]*\).*:.*/\1 1/p" "$root/crates.txt" >>"$copy/seconds.txt"
+}
+
 # Whether the last call ended with status $2 after $3 builds in all; $1 says what was tried.
 expect() {
     if [ "$status" -eq "$2" ] && [ "$builds" -eq "$3" ]; then
@@ -98,6 +113,15 @@ expect_same() {
         failed=$((failed + 1))
         printf '%s: "%s" for "%s"\n' "$1" "$2" "$3"
     fi
+}
+
+# Whether the last call, on a terminal, built the program and told no minutes, but all else; $1 says what was tried.
+expect_no_minutes() {
+    expect "$1" 7 1
+    expect_same "$1: no minutes" "$(grep -c 'minute\|awk\|seconds' "$work/said")" 0
+    expect_same "$1: two lines and one for each library" "$(grep -c ^polypar: "$work/said")" $((crates + 1))
+    expect_word "$1: the last of them" "polypar: polypar is proved, 1 to go
+"
 }
 
 # The crates of $work/calls that stand in front of one that they stand on.
@@ -231,14 +255,51 @@ expect "the other of two calls at once" 7 1
 
 if command -v script >/dev/null; then
     fresh
-    PATH=$work/bin:$PATH TMPDIR=$work/tmp script -qec "$copy/polypar one two" /dev/null </dev/null >"$work/said"
-    status=$?
-    said=$(cat "$work/said")
-    builds=$(wc -l <"$work/builds")
+    list_seconds polypar_main
+    call_on_terminal
     expect "on a terminal" 7 1
-    told=$(grep -c '^polypar: [a-z_]* is proved, [0-9]* to go' "$work/said")
+    expect_same "what it does, and why" "$(head -n 1 "$work/said")" \
+        "polypar: proving the program's $crates crates, since no build of it is kept (later calls start at once)"
+    expect_same "how long it takes" "$(sed -n '2s/ with [0-9]* process[es]*;/;/p' "$work/said")" \
+        "polypar: about 100 minutes; what is proved is kept, also after an interrupt"
+    told=$(grep -c '^polypar: [a-z_]* is proved, [0-9]* to go, about [0-9]* minutes left$' "$work/said")
     expect_same "each library is told" "$told" $((crates - 1))
-    expect_word "the last of them is told" "polypar: polypar is proved, 1 to go"
+    expect_word "the last of them is told" "polypar: polypar is proved, 1 to go, about "
+    expect_same "the program's own words come last" "$(tail -n 1 "$work/said")" "one two"
+    expect_same "what each took is noted" "$(grep -c '^[a-z_]* [0-9]*$' "$copy/crates/polypar_main/out/seconds")" \
+        "$crates"
+    expect_same "under the same head" "$(head -n 1 "$copy/crates/polypar_main/out/seconds")" "# what each took"
+    call_on_terminal
+    expect "on a terminal, built" 7 1
+    expect_same "on a terminal, built, it says nothing" "$said" "one two"
+
+    cp "$copy/crates/polypar_main/out/seconds" "$copy/seconds.txt"
+    touch "$work/bin/rt"
+    echo "kit 3" >"$work/version"
+    call_on_terminal
+    expect "on a terminal, another kit" 7 2
+    expect_word "on a terminal, another kit" "since the kit changed"
+    expect_word "by what was noted" "polypar: at most about a minute with"
+
+    list_seconds whole_numbers
+    echo "// edited" >>"$copy/crates/polypar/src/lib.rt"
+    call_on_terminal
+    expect "on a terminal, an edited source" 7 3
+    expect_word "on a terminal, an edited source" "since its sources changed"
+    expect_word "what is kept takes no time" "polypar: at most about a minute with"
+    echo "// edited" >>"$copy/crates/whole_numbers/src/lib.rt"
+    call_on_terminal
+    expect_word "what was edited takes its time" "polypar: at most about 100 minutes with"
+
+    fresh
+    rm -f "$copy/seconds.txt"
+    call_on_terminal
+    expect_no_minutes "no seconds.txt"
+    fresh
+    printf '%s\n' words 7 "fractions many" "polypar_main: 7" "fractions 7 7" "fractions -5" "fractions 1e9" "# a 7" \
+        >"$copy/seconds.txt"
+    call_on_terminal
+    expect_no_minutes "a seconds.txt without sense"
 fi
 
 fresh
