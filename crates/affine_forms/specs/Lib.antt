@@ -4,3 +4,6 @@ pub mod Gives
 pub mod Values
 pub mod Stops
 pub mod InPlace
+-- Passed on: what this crate's contracts are told in.
+pub use Rattle.wide_math.specs.Checked
+pub use Rattle.wide_math.specs.declared.Wide

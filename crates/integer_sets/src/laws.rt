@@ -8,7 +8,7 @@ ghost use Rattle.integer_sets.specs.Points.{IsLeastPoint};
 ghost use Rattle.integer_sets.specs.Runs.{holds_run};
 ghost use Rattle.integer_sets.specs.Stops.{StopsAt};
 
-use wide_math::Wide;
+use affine_forms::Wide;
 
 /// A system has at most one lexicographically least point at given parameters.
 pub fn least_point_is_unique()
