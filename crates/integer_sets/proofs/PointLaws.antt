@@ -7,7 +7,7 @@ use Rattle.std.proofs.lemmas.Bool.{false≢true}
 use Rattle.std.proofs.lemmas.Bool.Decides.{nat_tests}
 use Rattle.std.proofs.Math.Seq.{take-append_seam, drop-append_seam}
 use Rattle.std.proofs.lemmas.List.Elements.{All-append, All-cons, All-nil, All-take, All-drop}
-use Rattle.whole_numbers.specs.Affine.{Affine, value_of}
+use Rattle.affine_forms.specs.Affine.{Affine, value_of}
 use Rattle.affine_forms.specs.Wide.{Wide}
 use Rattle.affine_forms.proofs.CheckedSteps.{chain-ok}
 use Rattle.affine_forms.specs.Runs.{value_run}

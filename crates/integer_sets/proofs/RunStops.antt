@@ -2,7 +2,7 @@
 use Rattle.std.proofs.Common.{◌≡◌, Bool, true, false, ℤ, List, [], ◌∷◌, ◌++◌, refl, ap, ◌∙◌, ◌⊎◌, inl}
 use Rattle.std.proofs.Common.{inr, ◌↔◌}
 use Rattle.std.specs.Prelude.{Result, Ok, Err, if◌then◌else◌}
-use Rattle.whole_numbers.specs.Affine.{Affine}
+use Rattle.affine_forms.specs.Affine.{Affine}
 use Rattle.affine_forms.specs.Wide.{Wide}
 use Rattle.affine_forms.specs.Checked.{◌>>=◌}
 use Rattle.affine_forms.proofs.CheckedSteps.{chain-ok, chain-err}

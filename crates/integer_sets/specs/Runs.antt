@@ -1,6 +1,6 @@
 -- Whether a point satisfies a system, in 128 bits, value by value.
 use Rattle.std.specs.Prelude.{ℤ, pos, negsuc, Bool, true, false, nat_eq, if◌then◌else◌, List, [], ◌∷◌, Result, Ok}
-use Rattle.whole_numbers.specs.Affine.{Affine}
+use Rattle.affine_forms.specs.Affine.{Affine}
 use Rattle.affine_forms.specs.Wide.{Wide}
 use Rattle.affine_forms.specs.Checked.{◌>>=◌}
 use Rattle.affine_forms.specs.Runs.{value_run}
