@@ -3,3 +3,5 @@ pub mod Points
 pub mod Runs
 pub mod Stops
 pub mod Scanned
+-- Passed on: what this crate's contracts are told in.
+pub use Rattle.affine_forms.specs.Parts
