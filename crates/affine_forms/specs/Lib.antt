@@ -9,4 +9,5 @@ pub use Rattle.whole_numbers.specs.Affine
 pub use Rattle.whole_numbers.specs.Lexicographic
 pub use Rattle.wide_math.specs.Checked
 pub use Rattle.wide_math.specs.Gives as WideGives
+pub use Rattle.wide_math.specs.declared.Op
 pub use Rattle.wide_math.specs.declared.Wide
