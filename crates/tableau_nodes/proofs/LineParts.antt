@@ -13,7 +13,7 @@ use Rattle.whole_numbers.proofs.Euclid.{euclid_unique}
 use Rattle.whole_numbers.proofs.Remainders.{remainder_is}
 use Rattle.tableau_rows.specs.Rows.{Row}
 use Rattle.tableau_rows.specs.Moves.{line_row, cut_entries}
-use Rattle.lexmin_runs.specs.Nodes.{all_zero, same_list, taken_off}
+use Rattle.checked_tableau.specs.Nodes.{all_zero, same_list, taken_off}
 use Rattle.tableau_rows.proofs.Lines.{entry_at}
 
 -- the remainder of an opposite

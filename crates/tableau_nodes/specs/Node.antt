@@ -8,9 +8,9 @@ use Rattle.checked_tableau.specs.Lines.{behind_columns}
 use Rattle.wide_math.specs.declared.Wide.{Wide}
 use Rattle.whole_numbers.specs.Affine.{Affine}
 use Rattle.tableau_rows.specs.Run.{wide}
-use Rattle.lexmin_runs.specs.Nodes.{Node, Bound, Next, goes, binds, splits, Counted, formed, paid, pivot, with_rows}
-use Rattle.lexmin_runs.specs.Nodes.{cut_bound, longer_row, longer_form, at_least_run, under_run}
-use Rattle.lexmin_runs.specs.Solutions.{LeadsOn, KeepsSolutions}
+use Rattle.checked_tableau.specs.Nodes.{Node, Bound, Next, goes, binds, splits, Counted, formed, paid, pivot, with_rows}
+use Rattle.checked_tableau.specs.Nodes.{cut_bound, longer_row, longer_form, at_least_run, under_run}
+use Rattle.checked_tableau.specs.Solutions.{LeadsOn, KeepsSolutions}
 use Rattle.checked_tableau.specs.Table.{Table, table_of}
 use Rattle.checked_tableau.specs.Table as checked
 use Rattle.checked_tableau.specs.declared.stop.TableauStop.{TableauStop}
