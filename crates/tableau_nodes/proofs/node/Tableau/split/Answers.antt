@@ -1,4 +1,4 @@
-use Rattle.tableau_rows.specs.Moves.{row_at}
+use Rattle.checked_tableau.specs.Moves.{row_at}
 use Rattle.checked_tableau.specs.Nodes.{split, part_of}
 use Rattle.checked_tableau.proofs.KeptSolutions.{split_keeps, part_size}
 use Rattle.tableau_nodes.specs.Node.{node_of}
