@@ -24,4 +24,4 @@ pub use stop::Stop;
 pub use system_point::least_point_in;
 
 // Passed on: what goes with this crate's contracts.
-pub use tableau_nodes::opposite;
+pub use tableau_nodes::{Problem, opposite};
