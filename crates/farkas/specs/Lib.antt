@@ -5,3 +5,5 @@ pub mod Run
 pub mod Gives
 pub mod Meaning
 pub mod Questions
+-- Passed on: what this crate's contracts are told in.
+pub use Rattle.pip_solver.specs.Minimum
