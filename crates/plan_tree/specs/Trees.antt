@@ -14,8 +14,8 @@ use Rattle.loop_tree.specs.Plans.{CarryOut}
 use Rattle.loop_tree.specs.Shape.{NestAllTo, TreesAreOf, TreesAreOver, TreesAreUpTo}
 use Rattle.loop_tree.specs.Tiling.{Tiling, kept, tiled, items_at}
 use Rattle.loop_tree.specs.Tree.{Trees}
-use Rattle.schedule_rows.specs.Items.{Block}
-use Rattle.schedule_rows.specs.Schedule.{Scheduled}
+use Rattle.tile_skew.specs.Items.{Block}
+use Rattle.tile_skew.specs.Schedule.{Scheduled}
 use Rattle.tile_skew.specs.ScanSets.{scan_sets}
 use Rattle.tile_skew.specs.Tilings.{schedule_tiling}
 use Rattle.plain_scan.specs.Scanning.{StopsScan}

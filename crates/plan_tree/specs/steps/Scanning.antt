@@ -16,9 +16,9 @@ use Rattle.loop_tree.specs.Scans.{Exact}
 use Rattle.loop_tree.specs.Shape.{NestAllTo, TreesAreOver, TreesAreUpTo}
 use Rattle.loop_tree.specs.Tree.{Trees}
 use Rattle.loop_tree.specs.Walk.{Visit, given, walk_all}
-use Rattle.schedule_rows.specs.Items.{Block}
-use Rattle.schedule_rows.specs.Outcomes.{IsSchedule}
-use Rattle.schedule_rows.specs.Schedule.{loops_in}
+use Rattle.tile_skew.specs.Items.{Block}
+use Rattle.tile_skew.specs.Outcomes.{IsSchedule}
+use Rattle.tile_skew.specs.Schedule.{loops_in}
 use Rattle.tile_skew.specs.Places.{place_of}
 use Rattle.tile_skew.specs.ScanSets.{most_iterators, scan_set, scan_sets}
 use Rattle.tile_skew.specs.Tilings.{statement_items}
