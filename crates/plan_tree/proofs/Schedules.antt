@@ -2,7 +2,7 @@
 use Rattle.std.proofs.Common.{◌≡◌, ℕ, ◌<◌, ◌≤◌, ◌∙◌, List, pos, ap, subst}
 use Rattle.iteration_domains.specs.Dependence.{Dependence}
 use Rattle.iteration_domains.specs.Model.{KernelModel, model_of}
-use Rattle.conflict_deps.specs.Conflicts.{conflicts_of}
+use Rattle.tile_skew.specs.Conflicts.{conflicts_of}
 use Rattle.scop_syntax.specs.Tree.{Program}
 use Rattle.tile_skew.specs.Outcomes.{IsSchedule}
 use Rattle.tile_skew.specs.Schedule.{IsScheduled, Scheduled, loops_in}

@@ -6,7 +6,7 @@ use Rattle.scop_syntax.specs.Statements.{statements_of}
 use Rattle.scop_syntax.specs.Tree.{Program}
 use Rattle.scop_syntax.specs.Walk.{Instance}
 use Rattle.iteration_domains.specs.Model.{KernelModel, model_of}
-use Rattle.conflict_deps.specs.Conflicts.{conflicts_of}
+use Rattle.tile_skew.specs.Conflicts.{conflicts_of}
 use Rattle.fm_projection.specs.declared.stop.FmStop.{FmStop}
 use Rattle.loop_tree.specs.Fits.{FitsAll}
 use Rattle.loop_tree.specs.Marks.{FlatAll}

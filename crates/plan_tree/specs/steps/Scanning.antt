@@ -8,7 +8,7 @@ use Rattle.scop_syntax.specs.Walk.{Instance, instance, Visit as Walked}
 use Rattle.integer_sets.specs.Scanned.{Scanned}
 use Rattle.iteration_domains.specs.Instances.{IsInstanceOf}
 use Rattle.iteration_domains.specs.Model.{Modelled, model_of}
-use Rattle.conflict_deps.specs.Conflicts.{conflicts_of}
+use Rattle.tile_skew.specs.Conflicts.{conflicts_of}
 use Rattle.loop_tree.specs.Fits.{FitsAll}
 use Rattle.loop_tree.specs.Marks.{FlatAll, MarksAll}
 use Rattle.loop_tree.specs.Plans.{AreInOrder}
