@@ -7,7 +7,7 @@ use Rattle.scop_syntax.specs.Tree.{Program}
 use Rattle.scop_syntax.specs.Walk.{Instance}
 use Rattle.iteration_domains.specs.Model.{KernelModel, model_of}
 use Rattle.tile_skew.specs.Conflicts.{conflicts_of}
-use Rattle.fm_projection.specs.declared.stop.FmStop.{FmStop}
+use Rattle.plain_scan.specs.FmStop.{FmStop}
 use Rattle.loop_tree.specs.Fits.{FitsAll}
 use Rattle.loop_tree.specs.Marks.{FlatAll}
 use Rattle.loop_tree.specs.Plans.{CarryOut}

@@ -18,13 +18,13 @@ ghost use Rattle.plan_tree.specs.Trees.{AreTreesOf, IsScheduleFor, StopsTiled, t
 ghost use Rattle.plan_tree.specs.steps.Scanning.{IsScan};
 
 use crate::tiles::{scans_are_trees_of_tilings, sets_can_be_scanned};
-use fm_projection::FmStop;
 use integer_sets::ScanSet;
 use loop_tree::Tree;
-use tile_skew::{Schedule, tiled};
+use plain_scan::FmStop;
 use scop_syntax::tree::Kernel;
 use std::alloc::{AllocError, Global};
 use tile_skew::laws::kept_orders_are_good_plans;
+use tile_skew::{Schedule, tiled};
 use tree_simplification::simplified;
 
 /// The scan sets of a schedule of a kernel's conflicts, which can be scanned together.

@@ -1,6 +1,6 @@
 -- What a tree that scans the sets of a schedule is, and where its visits stand.
 use Rattle.std.specs.Prelude.{◌≡◌, ℕ, zero, ◌^◌, ◌<◌, ◌≤◌, ℤ, pos, List, [], length, map}
-use Rattle.fm_projection.specs.Alone.{AreInRange}
+use Rattle.plain_scan.specs.Alone.{AreInRange}
 use Rattle.scop_syntax.specs.Kernel.{IsKernel}
 use Rattle.scop_syntax.specs.Members.{In}
 use Rattle.scop_syntax.specs.Tree.{Program}
