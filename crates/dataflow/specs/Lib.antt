@@ -10,3 +10,5 @@ pub mod Posed
 pub mod ReadSources
 pub mod Told
 pub mod Steps
+-- Passed on: what this crate's contracts are told in.
+pub use Rattle.pip_solver.specs.declared.stop.Stop

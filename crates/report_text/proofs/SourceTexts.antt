@@ -14,7 +14,7 @@ use Rattle.scop_syntax.proofs.Statements.{length-placed}
 use Rattle.scop_parser.specs.DistinctNames.{HasDistinctNames, header_names}
 use Rattle.iteration_domains.specs.Model.{Modelled, KernelModel, modelled, model_of}
 use Rattle.quast_trees.specs.Postfix.{tree_of}
-use Rattle.pip_solver.specs.declared.stop.Stop.TheVariants as solver
+use Rattle.dataflow.specs.Stop.TheVariants as solver
 use Rattle.dataflow.specs.ReadSources.{reads_of}
 use Rattle.dataflow.specs.Told.{IsQuastOver, IsToldStop, IsToldOver, IsToldAt, AreTold}
 use Rattle.dataflow.specs.declared.source.ReadSource.{ReadSource}
