@@ -19,7 +19,7 @@ use Rattle.loop_tree.specs.Tree.{Trees}
 use Rattle.loop_tree.specs.View.{trees_in}
 use Rattle.loop_tree.specs.Walk.{visits}
 use Rattle.tile_list.specs.Tiles.{CanTile}
-use Rattle.tile_skew.specs.Tilings.{schedule_tiling, statements_from}
+use Rattle.plan_tree.specs.Tilings.{schedule_tiling, statements_from}
 use Rattle.plan_tree.specs.Trees.{AreTreesOf, IsScheduleFor, StopsTiled, tiling_of}
 use Rattle.pluto_search.specs.Searching.{Keeps}
 use Rattle.pluto_search.specs.declared.kept.Kept.{Kept}

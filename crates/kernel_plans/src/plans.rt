@@ -10,12 +10,11 @@ ghost use Rattle.kernel_plans.specs.steps.Plans.{IsKeptPlan, IsTiledPlan};
 
 use crate::lines::line_text;
 use loop_tree::{Tiling, Tree};
-use plan_tree::source_tree;
+use plan_tree::{source_tree, tiling};
 use report_text::{KeptLine, schedule_text};
 use schedule_rows::{Schedule, each_state_has_one_outcome};
 use scop_syntax::tree::Kernel;
 use std::alloc::{AllocError, Global};
-use tile_skew::tiling;
 
 /// The plan of a kernel: its loop tree, its tiling, and the lines that tell of it: a kept order's line, or, where a
 /// report is asked for, the schedule.
