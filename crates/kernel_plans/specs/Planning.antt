@@ -4,7 +4,7 @@ use Rattle.scop_syntax.specs.Tree.{Program}
 use Rattle.iteration_domains.specs.Model.{KernelModel, model_of}
 use Rattle.conflict_deps.specs.Conflicts.{conflicts_of}
 use Rattle.fm_projection.specs.declared.FmStop.TheVariants as elimination
-use Rattle.pip_solver.specs.declared.stop.Stop.TheVariants as solver
+use Rattle.pluto_search.specs.Stop.TheVariants as solver
 use Rattle.farkas.specs.declared.stuck.Stuck.{Stuck}
 use Rattle.farkas.specs.declared.stuck.Stuck.TheVariants as stuck
 use Rattle.schedule_rows.specs.Items.{Block}

@@ -5,8 +5,7 @@ ghost use Rattle.kernel_plans.specs.Planning.{line_of, line_of_kept, IsLineText}
 
 use farkas::Stuck;
 use fm_projection::FmStop;
-use pip_solver::Stop;
-use pluto_search::Kept;
+use pluto_search::{Kept, Stop};
 use report_text::{KeptLine, kept_text};
 use std::alloc::{AllocError, Global};
 

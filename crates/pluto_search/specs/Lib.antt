@@ -5,3 +5,5 @@ pub mod Stopping
 pub mod Steps
 pub mod StepParts
 pub mod Searching
+-- Passed on: what this crate's contracts are told in.
+pub use Rattle.pip_solver.specs.declared.stop.Stop

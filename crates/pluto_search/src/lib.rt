@@ -18,3 +18,6 @@ mod stops;
 pub use kept::Kept;
 pub use laws::schedules_order_conflicts;
 pub use searching::search;
+
+// Passed on: what goes with this crate's contracts.
+pub use pip_solver::Stop;
