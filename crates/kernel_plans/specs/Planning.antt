@@ -5,8 +5,8 @@ use Rattle.iteration_domains.specs.Model.{KernelModel, model_of}
 use Rattle.conflict_deps.specs.Conflicts.{conflicts_of}
 use Rattle.fm_projection.specs.declared.FmStop.TheVariants as elimination
 use Rattle.pluto_search.specs.Stop.TheVariants as solver
-use Rattle.farkas.specs.declared.stuck.Stuck.{Stuck}
-use Rattle.farkas.specs.declared.stuck.Stuck.TheVariants as stuck
+use Rattle.pluto_search.specs.Stuck.{Stuck}
+use Rattle.pluto_search.specs.Stuck.TheVariants as stuck
 use Rattle.schedule_rows.specs.Items.{Block}
 use Rattle.schedule_rows.specs.Outcomes.{ends, IsSchedule}
 use Rattle.schedule_rows.specs.Schedule.{loops_in}

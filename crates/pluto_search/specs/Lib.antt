@@ -7,3 +7,4 @@ pub mod StepParts
 pub mod Searching
 -- Passed on: what this crate's contracts are told in.
 pub use Rattle.pip_solver.specs.declared.stop.Stop
+pub use Rattle.pluto_systems.specs.Stuck

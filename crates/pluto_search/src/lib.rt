@@ -21,3 +21,4 @@ pub use searching::search;
 
 // Passed on: what goes with this crate's contracts.
 pub use pip_solver::Stop;
+pub use pluto_systems::Stuck;
