@@ -12,7 +12,7 @@ use Rattle.iteration_domains.specs.Model.{KernelModel, model_of}
 use Rattle.conflict_deps.specs.Conflicts.{conflicts_of}
 use Rattle.fm_projection.specs.declared.stop.FmStop.{FmStop}
 use Rattle.pluto_search.specs.Stuck.TheVariants as stuck
-use Rattle.schedule_rows.specs.Schedule.{Scheduled, IsScheduled, loops_in}
+use Rattle.pluto_search.specs.Schedule.{Scheduled, IsScheduled, loops_in}
 use Rattle.loop_tree.specs.Tiling.{Tiling, kept, items_at}
 use Rattle.loop_tree.specs.TilingView.{tiling_of as tiling_in}
 use Rattle.loop_tree.specs.Tree.{Trees}

@@ -7,9 +7,9 @@ use Rattle.fm_projection.specs.declared.FmStop.TheVariants as elimination
 use Rattle.pluto_search.specs.Stop.TheVariants as solver
 use Rattle.pluto_search.specs.Stuck.{Stuck}
 use Rattle.pluto_search.specs.Stuck.TheVariants as stuck
-use Rattle.schedule_rows.specs.Items.{Block}
-use Rattle.schedule_rows.specs.Outcomes.{ends, IsSchedule}
-use Rattle.schedule_rows.specs.Schedule.{loops_in}
+use Rattle.pluto_search.specs.Items.{Block}
+use Rattle.pluto_search.specs.Outcomes.{ends, IsSchedule}
+use Rattle.pluto_search.specs.Schedule.{loops_in}
 use Rattle.pluto_search.specs.Questions.{ComesAnswered}
 use Rattle.pluto_search.specs.Searching.{Keeps}
 use Rattle.pluto_search.specs.declared.kept.Kept.{Kept}

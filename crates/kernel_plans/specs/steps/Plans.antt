@@ -6,7 +6,7 @@ use Rattle.loop_tree.specs.Tiling.{kept}
 use Rattle.loop_tree.specs.TilingView.{tiling_of}
 use Rattle.loop_tree.specs.Tree.{Trees}
 use Rattle.loop_tree.specs.View.{trees_in}
-use Rattle.schedule_rows.specs.Schedule.{Scheduled, IsScheduled}
+use Rattle.pluto_search.specs.Schedule.{Scheduled, IsScheduled}
 use Rattle.plan_tree.specs.Tilings.{schedule_tiling}
 use Rattle.plan_tree.specs.Trees.{AreTreesOf}
 use Rattle.report_text.specs.declared.kept_line.KeptLine.{KeptLine}
