@@ -11,4 +11,5 @@ pub mod ReadSources
 pub mod Told
 pub mod Steps
 -- Passed on: what this crate's contracts are told in.
+pub use Rattle.conflict_deps.specs.Pairs
 pub use Rattle.pip_solver.specs.declared.stop.Stop
