@@ -18,7 +18,7 @@ ghost use Rattle.iteration_domains.specs.Model.{model_of};
 ghost use Rattle.dataflow.specs.ReadSources.{AreSources, NameLastWriters, reads_of};
 ghost use Rattle.dataflow.specs.Told.{AreTold};
 ghost use Rattle.dataflow.specs.declared.source.ReadSource.{ReadSource};
-ghost use Rattle.schedule_rows.specs.Items.{Block};
+ghost use Rattle.report_text.specs.Items.{Block};
 ghost use Rattle.loop_tree.specs.Plans.{walked};
 ghost use Rattle.loop_tree.specs.Tiling.{Tiling};
 ghost use Rattle.loop_tree.specs.Tree.{Trees};
