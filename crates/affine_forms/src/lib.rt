@@ -13,3 +13,6 @@ pub use laws::dot_products_stop_at_the_first_wide_number;
 pub use lists::{copies, push, push_copies, push_copy, push_widened};
 pub use row::{content, divide_row, map_in_place, zip_in_place};
 pub use stop::FormStop;
+
+// Passed on: what goes with this crate's contracts.
+pub use wide_math::Wide;

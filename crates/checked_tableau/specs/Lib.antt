@@ -1,3 +1,10 @@
 pub mod Leads
 pub mod Lines
 pub mod Table
+-- Passed on: what this crate's contracts are told in.
+pub use Rattle.lexmin_runs.specs.Nodes
+pub use Rattle.lexmin_runs.specs.Solutions
+pub use Rattle.tableau_rows.specs.Moves
+pub use Rattle.tableau_rows.specs.Problem
+pub use Rattle.tableau_rows.specs.Rows
+pub use Rattle.tableau_rows.specs.Run

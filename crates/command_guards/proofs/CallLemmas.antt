@@ -19,7 +19,7 @@ use Rattle.report_text.specs.TilesText.{tiles_text}
 use Rattle.report_text.specs.declared.status.Status.{Status}
 use Rattle.report_text.specs.declared.status.Status.TheVariants.{BadData, WriteFault}
 use Rattle.command_line.specs.declared.command.RunOptions.{RunOptions}
-use Rattle.kernel_plans.specs.Planned.{ArePlanned}
+use Rattle.polypar.specs.Planned.{ArePlanned}
 use Rattle.polypar.specs.Answered.{Answered, GainsLine, GainsTo, HasLines, NamesOf, PrintsArrays}
 use Rattle.polypar.specs.Case.{Accepted}
 use Rattle.polypar.specs.Cut.{kernel_part}

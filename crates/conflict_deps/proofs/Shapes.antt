@@ -10,7 +10,7 @@ use Rattle.std.proofs.lemmas.List.Elements.{All-nil, All-cons, All-head, All-tai
 use Rattle.whole_numbers.specs.Lists.{zeros, multiples}
 use Rattle.whole_numbers.specs.Affine.{Affine, multiple_of_form}
 use Rattle.whole_numbers.proofs.Dot.{length-zeros, length-sums, length-multiples}
-use Rattle.affine_forms.specs.Parts.{variables_of}
+use Rattle.iteration_domains.specs.Parts.{variables_of}
 use Rattle.scop_syntax.specs.Tree.{Test, at_least, equal}
 use Rattle.scop_syntax.specs.Order.{common}
 use Rattle.integer_sets.specs.Constraints.{Constraints, IsSized}

@@ -12,9 +12,10 @@ ghost use Rattle.conflict_deps.specs.View.{CanPair, GainsTests, ShowsTests, orde
 use crate::forms::{
     push_equal_turns, push_later_turn, push_sources, push_subscripts, push_targets,
 };
-use affine_forms::{Form, push};
 use integer_sets::System;
-use iteration_domains::{AccessForms, Dep, DepEnd, Model, StatementModel, push_variables};
+use iteration_domains::{
+    AccessForms, Dep, DepEnd, Form, Model, StatementModel, push, push_variables,
+};
 use std::alloc::{AllocError, Global};
 
 /// An access of a statement, with its number.

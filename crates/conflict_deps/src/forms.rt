@@ -1,13 +1,12 @@
 //! Forms over the variables of a pair of instances: the source's turns, the target's, and the parameters.
 ghost use Rattle.std.specs.Prelude.{◌≡◌, ◌+◌, ◌<◌, ◌≤◌, ◌++◌, ◌∷◌, [], All, IfOk, OnOk, length, map};
-ghost use Rattle.affine_forms.specs.Parts.{variables_of};
+ghost use Rattle.iteration_domains.specs.Parts.{variables_of};
 ghost use Rattle.iteration_domains.specs.Constraints.{equalities_in};
 ghost use Rattle.iteration_domains.specs.Sizes.{IsNarrow};
 ghost use Rattle.conflict_deps.specs.Conflicts.{difference_of_forms, equal_turns, one_form, same_subscripts};
 ghost use Rattle.conflict_deps.specs.Conflicts.{source_form, spread, step, target_form};
 
-use affine_forms::{Form, push};
-use iteration_domains::{Numbers, form_from, plus_multiple, push_zeros, variable_form};
+use iteration_domains::{Form, Numbers, form_from, plus_multiple, push, push_zeros, variable_form};
 use std::alloc::{AllocError, Global};
 
 /// The coefficients of a form of the source, which has `loops` turns, where the target has `others`.

@@ -6,8 +6,8 @@ use Rattle.whole_numbers.specs.Affine.{Affine}
 use Rattle.std.proofs.lemmas.List.Elements.{All-nil, All-cons}
 use Rattle.tableau_rows.specs.Problem.{problem_of, Speaks as RowsSpeak}
 use Rattle.tableau_rows.specs.Run as run
-use Rattle.checked_tableau.specs.declared.problem.Problem.{Problem}
-use Rattle.lexmin_runs.specs.Nodes.{Counted, lexmin_run}
+use Rattle.pip_solver.specs.Problem.{Problem}
+use Rattle.pip_solver.specs.Nodes.{Counted, lexmin_run}
 use Rattle.pip_solver.specs.declared.stop.Stop.TheVariants as solver
 use Rattle.pip_solver.specs.Solving.{solved, Stops}
 use Rattle.quast_trees.specs.Source.{source_of}

@@ -9,7 +9,7 @@ use Rattle.whole_numbers.specs.Affine.{Affine, value_of}
 use Rattle.whole_numbers.specs.Lists.{NotNegative}
 use Rattle.whole_numbers.proofs.Lists.{not_negative-append}
 use Rattle.tableau_rows.specs.Problem.{Problem, problem_of, row_values, IsPoint as IsProblemPoint}
-use Rattle.lexmin_runs.specs.Leaves.{IsAnswer}
+use Rattle.pip_solver.specs.Leaves.{IsAnswer}
 use Rattle.quast_trees.specs.Tree.{Tree}
 use Rattle.quast_trees.specs.Value.{value}
 use Rattle.quast_trees.specs.Leaf.{Leaf, initial, found}

@@ -14,10 +14,10 @@ use Rattle.whole_numbers.proofs.Values.{length-combination}
 use Rattle.whole_numbers.proofs.Entries.{get_map}
 use Rattle.wide_math.specs.declared.Wide.{Wide}
 use Rattle.tableau_rows.specs.Problem.{problem_of, row_values, Speaks as RowsSpeak}
-use Rattle.lexmin_runs.specs.Nodes.{Counted, lexmin_run}
-use Rattle.lexmin_runs.specs.Leaves.{IsAnswer}
-use Rattle.lexmin_runs.proofs.Trees.{lexmin-right}
-use Rattle.lexmin_runs.proofs.KeptSolutions.{lexmin-speaks, lexmin-forms}
+use Rattle.pip_solver.specs.Nodes.{Counted, lexmin_run}
+use Rattle.pip_solver.specs.Leaves.{IsAnswer}
+use Rattle.pip_solver.proofs.Trees.{lexmin-right}
+use Rattle.pip_solver.proofs.KeptSolutions.{lexmin-speaks, lexmin-forms}
 use Rattle.quast_trees.specs.Source.{Source, source_of}
 use Rattle.quast_trees.specs.Tree.{Tree, initial, leaf, branch, bind, named, Speaks, LeavesHave}
 use Rattle.quast_trees.specs.Leaf.{Leaf, found, mapped_leaf}

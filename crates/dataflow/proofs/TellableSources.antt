@@ -12,7 +12,7 @@ use Rattle.wide_math.proofs.Steps.{chain-ok}
 use Rattle.affine_forms.specs.Runs.{compose_run}
 use Rattle.pip_solver.specs.declared.stop.Stop.TheVariants as solver
 use Rattle.tableau_rows.specs.Run as run
-use Rattle.lexmin_runs.proofs.KeptSolutions.{lexmin-speaks}
+use Rattle.pip_solver.proofs.KeptSolutions.{lexmin-speaks}
 use Rattle.quast_trees.specs.Source.{Source, Forms, source_of}
 use Rattle.quast_trees.specs.Tree.{Tree, initial, leaf, branch, bind, count, named, Speaks, LeavesHave}
 use Rattle.quast_trees.specs.Mapped.{composed_run, leaf_run, map_run}

@@ -6,7 +6,7 @@ use Rattle.whole_numbers.specs.Affine.{Affine}
 use Rattle.wide_math.specs.declared.Wide.{Wide}
 use Rattle.tableau_rows.specs.Problem.{problem_of}
 use Rattle.tableau_rows.specs.Run.{Stop}
-use Rattle.lexmin_runs.specs.Nodes.{Counted, lexmin_run}
+use Rattle.pip_solver.specs.Nodes.{Counted, lexmin_run}
 use Rattle.quast_trees.specs.Source.{source_of}
 use Rattle.quast_trees.specs.Tree.{Tree, initial, leaf, branch, bind, named}
 use Rattle.quast_trees.specs.Mapped.{map_run}

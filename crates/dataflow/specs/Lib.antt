@@ -10,3 +10,6 @@ pub mod Posed
 pub mod ReadSources
 pub mod Told
 pub mod Steps
+-- Passed on: what this crate's contracts are told in.
+pub use Rattle.conflict_deps.specs.Pairs
+pub use Rattle.pip_solver.specs.declared.stop.Stop

@@ -2,7 +2,7 @@
 use Rattle.std.specs.Prelude.{◌≡◌, ℕ, ◌+◌, ◌^◌, ◌≤◌, All, length, slice_get, Some}
 use Rattle.whole_numbers.specs.Affine.{Affine}
 use Rattle.integer_sets.specs.Constraints.{variables_in}
-use Rattle.checked_tableau.specs.declared.problem.Problem.{Problem}
+use Rattle.pip_solver.specs.Problem.{Problem}
 use Rattle.scop_syntax.specs.Kernel.{IsKernel}
 use Rattle.scop_syntax.specs.Tree.{Program}
 use Rattle.iteration_domains.specs.Model.{Modelled, KernelModel, model_of}

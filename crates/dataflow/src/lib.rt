@@ -15,3 +15,6 @@ pub mod source_laws;
 
 pub use reads::last_writes;
 pub use source::{ReadSource, SourceStop};
+
+// Passed on: what goes with this crate's contracts.
+pub use pip_solver::Stop;

@@ -7,8 +7,8 @@ ghost use Rattle.dataflow.specs.Problems.{posed_context, posed_rows, turned, tur
 
 use crate::forms::{push_below, push_composed, push_flat};
 use affine_forms::Form;
-use checked_tableau::Problem;
 use iteration_domains::{Dep, StatementModel, push_variables};
+use pip_solver::Problem;
 use std::alloc::{AllocError, Global};
 
 /// A number above all turns.

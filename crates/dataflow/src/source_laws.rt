@@ -4,7 +4,7 @@ ghost use Rattle.whole_numbers.specs.Lists.{NotNegative};
 ghost use Rattle.whole_numbers.specs.Affine.{values_of};
 ghost use Rattle.whole_numbers.specs.Lexicographic.{LexLe};
 ghost use Rattle.tableau_rows.specs.Problem.{problem_of, row_values};
-ghost use Rattle.lexmin_runs.specs.Leaves.{IsAnswer};
+ghost use Rattle.pip_solver.specs.Leaves.{IsAnswer};
 ghost use Rattle.quast_trees.specs.Tree.{Tree, initial};
 ghost use Rattle.quast_trees.specs.Value.{value};
 ghost use Rattle.quast_joins.specs.declared.way.Way.TheVariants.{Later, Earlier};

@@ -11,8 +11,8 @@ use Rattle.fm_projection.specs.Runs.{eliminated_run, pairs_in}
 use Rattle.fm_projection.specs.Gives.{Eliminates}
 use Rattle.fm_projection.specs.declared.stop.FmStop.{FmStop}
 use Rattle.fm_projection.specs.declared.stop.FmStop.TheVariants as fm
-use Rattle.lexmin_runs.specs.Nodes.{Counted}
-use Rattle.lexmin_runs.specs.Emptiness.{empty_run}
+use Rattle.pip_solver.specs.Nodes.{Counted}
+use Rattle.pip_solver.specs.Emptiness.{empty_run}
 use Rattle.pip_solver.specs.declared.stop.Stop.TheVariants as solver
 use Rattle.pip_solver.specs.Promises.{Empties}
 use Rattle.farkas.specs.declared.stuck.Stuck.TheVariants as stuck

@@ -15,9 +15,9 @@ use Rattle.fractions.specs.Fractions.{HoldsOver}
 use Rattle.fractions.specs.Farkas.{HasNoPoint, Dropped}
 use Rattle.integer_sets.specs.Constraints.{IsSized, system_of, variables_in}
 use Rattle.fm_projection.proofs.Law.{whole_point}
-use Rattle.lexmin_runs.specs.Nodes.{opposite_run}
-use Rattle.lexmin_runs.proofs.QuestionAnswers.{opposite-value}
-use Rattle.lexmin_runs.proofs.Emptiness.{empty-true}
+use Rattle.pip_solver.specs.Nodes.{opposite_run}
+use Rattle.pip_solver.proofs.QuestionAnswers.{opposite-value}
+use Rattle.pip_solver.proofs.EmptinessLaws.{empty-true}
 use Rattle.farkas.specs.Run.{formed, emptiness, implied_run, kept_run}
 use Rattle.farkas.proofs.Chains.{then-ok, formed-ok, emptiness-run}
 

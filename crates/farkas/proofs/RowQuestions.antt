@@ -13,7 +13,7 @@ use Rattle.affine_forms.specs.declared.stop.FormStop.{FormStop}
 use Rattle.affine_forms.specs.Gives.{Fails}
 use Rattle.affine_forms.specs.Parts.{variables_of}
 use Rattle.integer_sets.specs.Constraints.{Constraints, IsSized, system_of, variables_in}
-use Rattle.lexmin_runs.specs.Nodes.{opposite_run}
+use Rattle.pip_solver.specs.Nodes.{opposite_run}
 use Rattle.pip_solver.specs.declared.stop.Stop.TheVariants as solver
 use Rattle.pip_solver.specs.Promises.{Empties}
 use Rattle.farkas.specs.declared.stuck.Stuck.TheVariants as stuck

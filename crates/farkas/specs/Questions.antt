@@ -4,7 +4,7 @@ use Rattle.whole_numbers.specs.Affine.{Affine}
 use Rattle.affine_forms.specs.declared.stop.FormStop.{FormStop}
 use Rattle.affine_forms.specs.Gives.{Fails}
 use Rattle.integer_sets.specs.Constraints.{Constraints, system_of}
-use Rattle.lexmin_runs.specs.Nodes.{opposite_run}
+use Rattle.pip_solver.specs.Nodes.{opposite_run}
 use Rattle.farkas.specs.Run.{others}
 
 -- the rows but the one at a place, and a form behind them

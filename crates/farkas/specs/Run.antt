@@ -8,8 +8,8 @@ use Rattle.fractions.specs.Elimination.{narrowed}
 use Rattle.fractions.specs.Farkas.{own_rows}
 use Rattle.integer_sets.specs.Constraints.{Constraints, system_of}
 use Rattle.fm_projection.specs.Runs.{eliminated_run, pairs_in}
-use Rattle.lexmin_runs.specs.Nodes.{Counted, opposite_run}
-use Rattle.lexmin_runs.specs.Emptiness.{empty_run}
+use Rattle.pip_solver.specs.Nodes.{Counted, opposite_run}
+use Rattle.pip_solver.specs.Emptiness.{empty_run}
 use Rattle.farkas.specs.declared.claim.Claim.{Claim}
 use Rattle.iteration_domains.specs.declared.dep.DepEnd.{DepEnd}
 use Rattle.farkas.specs.Unknowns.{layout_of}

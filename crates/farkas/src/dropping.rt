@@ -9,9 +9,8 @@ ghost use Rattle.farkas.specs.Questions.{Poses, settled};
 use crate::stuck::{Stuck, by_form, by_solver};
 use affine_forms::{Form, FormStop};
 use integer_sets::System;
-use pip_solver::is_empty;
+use pip_solver::{is_empty, opposite};
 use std::alloc::{AllocError, Global};
-use tableau_nodes::opposite;
 
 /// The question whether the others imply the row at a place, which has its negation behind the others; and the row.
 fn pose(alloc: Global, system: System, at: usize) -> Result<(System, Form), FormStop>

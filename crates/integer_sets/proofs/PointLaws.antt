@@ -7,9 +7,9 @@ use Rattle.std.proofs.lemmas.Bool.{false≢true}
 use Rattle.std.proofs.lemmas.Bool.Decides.{nat_tests}
 use Rattle.std.proofs.Math.Seq.{take-append_seam, drop-append_seam}
 use Rattle.std.proofs.lemmas.List.Elements.{All-append, All-cons, All-nil, All-take, All-drop}
-use Rattle.whole_numbers.specs.Affine.{Affine, value_of}
-use Rattle.wide_math.specs.declared.Wide.{Wide}
-use Rattle.wide_math.proofs.Steps.{chain-ok}
+use Rattle.affine_forms.specs.Affine.{Affine, value_of}
+use Rattle.affine_forms.specs.Wide.{Wide}
+use Rattle.affine_forms.proofs.CheckedSteps.{chain-ok}
 use Rattle.affine_forms.specs.Runs.{value_run}
 use Rattle.affine_forms.proofs.Exact.{value_run-exact}
 use Rattle.integer_sets.specs.Constraints.{Constraints, intersection}

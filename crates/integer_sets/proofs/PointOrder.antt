@@ -1,8 +1,8 @@
 -- The lexicographic order of the points of a set.
 use Rattle.std.proofs.Common.{◌≡◌, ℕ, ℤ, List, length, take, drop, refl, ◌⊎◌, ◌↔◌}
 use Rattle.std.proofs.lemmas.List.{take-append-drop, length-take}
-use Rattle.whole_numbers.specs.Lexicographic.{LexLess}
-use Rattle.whole_numbers.proofs.Lexicographic.{LexLess-append_iff}
+use Rattle.affine_forms.specs.Lexicographic.{LexLess}
+use Rattle.affine_forms.proofs.Lexicographic.{LexLess-append_iff}
 
 -- the fronts decide, and then the rests
 pub LexLess-split : (n : ℕ) (p q : List ℤ) → length p ≡ length q

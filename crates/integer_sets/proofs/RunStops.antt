@@ -2,10 +2,10 @@
 use Rattle.std.proofs.Common.{◌≡◌, Bool, true, false, ℤ, List, [], ◌∷◌, ◌++◌, refl, ap, ◌∙◌, ◌⊎◌, inl}
 use Rattle.std.proofs.Common.{inr, ◌↔◌}
 use Rattle.std.specs.Prelude.{Result, Ok, Err, if◌then◌else◌}
-use Rattle.whole_numbers.specs.Affine.{Affine}
-use Rattle.wide_math.specs.declared.Wide.{Wide}
-use Rattle.wide_math.specs.Checked.{◌>>=◌}
-use Rattle.wide_math.proofs.Steps.{chain-ok, chain-err}
+use Rattle.affine_forms.specs.Affine.{Affine}
+use Rattle.affine_forms.specs.Wide.{Wide}
+use Rattle.affine_forms.specs.Checked.{◌>>=◌}
+use Rattle.affine_forms.proofs.CheckedSteps.{chain-ok, chain-err}
 use Rattle.affine_forms.specs.Runs.{value_run}
 use Rattle.integer_sets.specs.Constraints.{Constraints}
 use Rattle.integer_sets.specs.Runs.{is_zero, is_not_negative, each_run, holds_run}

@@ -1,6 +1,6 @@
 -- Systems of affine equalities and rows over dimensions and parameters.
 use Rattle.std.specs.Prelude.{◌≡◌, ℕ, ◌+◌, List, ◌++◌, All}
-use Rattle.whole_numbers.specs.Affine.{Affine}
+use Rattle.affine_forms.specs.Affine.{Affine}
 use Rattle.affine_forms.specs.Parts.{variables_of}
 
 -- a system over dimensions and, behind them, parameters: forms that are 0, rows that are at least 0

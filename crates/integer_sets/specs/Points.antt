@@ -1,7 +1,7 @@
 -- The whole points of a system, and its least at given parameters.
 use Rattle.std.specs.Prelude.{◌≡◌, ℤ, pos, ◌≤ℤ◌, List, ◌++◌, All}
-use Rattle.whole_numbers.specs.Affine.{value_of}
-use Rattle.whole_numbers.specs.Lexicographic.{IsLeast}
+use Rattle.affine_forms.specs.Affine.{value_of}
+use Rattle.affine_forms.specs.Lexicographic.{IsLeast}
 use Rattle.integer_sets.specs.Constraints.{Constraints}
 
 -- a whole point satisfies a system: each equality is 0 there, and each row is at least 0

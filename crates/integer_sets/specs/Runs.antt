@@ -1,8 +1,8 @@
 -- Whether a point satisfies a system, in 128 bits, value by value.
 use Rattle.std.specs.Prelude.{ℤ, pos, negsuc, Bool, true, false, nat_eq, if◌then◌else◌, List, [], ◌∷◌, Result, Ok}
-use Rattle.whole_numbers.specs.Affine.{Affine}
-use Rattle.wide_math.specs.declared.Wide.{Wide}
-use Rattle.wide_math.specs.Checked.{◌>>=◌}
+use Rattle.affine_forms.specs.Affine.{Affine}
+use Rattle.affine_forms.specs.Wide.{Wide}
+use Rattle.affine_forms.specs.Checked.{◌>>=◌}
 use Rattle.affine_forms.specs.Runs.{value_run}
 use Rattle.integer_sets.specs.Constraints.{Constraints}
 

@@ -1,7 +1,7 @@
 -- Where the question whether a point satisfies a system first leaves 128 bits.
 use Rattle.std.specs.Prelude.{◌≡◌, ℤ, Bool, true, List, ◌∷◌, ◌++◌, Ok, Err, ◌⊎◌}
-use Rattle.whole_numbers.specs.Affine.{Affine}
-use Rattle.wide_math.specs.declared.Wide.{Wide}
+use Rattle.affine_forms.specs.Affine.{Affine}
+use Rattle.affine_forms.specs.Wide.{Wide}
 use Rattle.affine_forms.specs.Runs.{value_run}
 use Rattle.integer_sets.specs.Constraints.{Constraints}
 use Rattle.integer_sets.specs.Runs.{is_zero, is_not_negative, each_run}

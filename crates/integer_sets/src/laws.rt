@@ -2,13 +2,13 @@
 //! (P. Feautrier, "Parametric integer programming", RAIRO Recherche opérationnelle 22(3), 1988).
 
 ghost use Rattle.std.specs.Prelude.{◌≡◌, ℕ, ℤ, List, ◌⊎◌, ◌↔◌, length, take, drop, Err};
-ghost use Rattle.whole_numbers.specs.Lexicographic.{LexLess};
+ghost use Rattle.affine_forms.specs.Lexicographic.{LexLess};
 ghost use Rattle.integer_sets.specs.Constraints.{Constraints};
 ghost use Rattle.integer_sets.specs.Points.{IsLeastPoint};
 ghost use Rattle.integer_sets.specs.Runs.{holds_run};
 ghost use Rattle.integer_sets.specs.Stops.{StopsAt};
 
-use wide_math::Wide;
+use affine_forms::Wide;
 
 /// A system has at most one lexicographically least point at given parameters.
 pub fn least_point_is_unique()

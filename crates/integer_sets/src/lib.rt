@@ -11,3 +11,6 @@ pub use laws::{
 };
 pub use scan_set::ScanSet;
 pub use system::System;
+
+// Passed on: what goes with this crate's contracts.
+pub use affine_forms::{Form, FormStop, INLINE, push};

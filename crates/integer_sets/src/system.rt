@@ -8,10 +8,9 @@ ghost use Rattle.integer_sets.specs.Constraints.{IsSized, intersection, system_o
 ghost use Rattle.integer_sets.specs.Points.{Satisfies};
 ghost use Rattle.integer_sets.specs.Runs.{holds_run, each_run, is_zero, is_not_negative};
 
-use affine_forms::{Form, FormStop, copies, push_copies};
+use affine_forms::{Form, FormStop, Wide, copies, push_copies};
 use std::alloc::{AllocError, Global};
 use std::marker::Model;
-use wide_math::Wide;
 
 /// A system of constraints over dimensions and, behind them, parameters.
 #[derive(Debug, Drop)]

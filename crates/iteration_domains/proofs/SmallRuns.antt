@@ -12,12 +12,12 @@ use Rattle.whole_numbers.proofs.Fits.{fits_iff}
 use Rattle.whole_numbers.proofs.Ring.{mul_one_left}
 use Rattle.whole_numbers.proofs.Dot.{length-zeros, length-sums, length-multiples}
 use Rattle.whole_numbers.proofs.Sizes.{abs_sum}
-use Rattle.wide_math.specs.declared.Op.TheVariants.{Add, Mul}
-use Rattle.wide_math.specs.Checked.{cross_sum_of}
-use Rattle.wide_math.proofs.Steps.{checked-fits}
-use Rattle.affine_forms.specs.Parts.{variables_of}
-use Rattle.affine_forms.specs.Runs.{multiply_add_run, zip_run, added_multiple_run, plus_multiple_run}
-use Rattle.affine_forms.specs.Runs.{plus_combination_run, compose_run, multiples_sum_run, forms_sum_run}
+use Rattle.integer_sets.specs.Op.TheVariants.{Add, Mul}
+use Rattle.integer_sets.specs.Checked.{cross_sum_of}
+use Rattle.integer_sets.proofs.CheckedSteps.{checked-fits}
+use Rattle.integer_sets.specs.Parts.{variables_of}
+use Rattle.integer_sets.specs.FormRuns.{multiply_add_run, zip_run, added_multiple_run, plus_multiple_run}
+use Rattle.integer_sets.specs.FormRuns.{plus_combination_run, compose_run, multiples_sum_run, forms_sum_run}
 use Rattle.scop_syntax.specs.Kernel.{AreAtMost}
 use Rattle.iteration_domains.specs.Sizes.{size, form_size, forms_size, CanCompose}
 use Rattle.iteration_domains.proofs.Sizes.{size-sum, size-multiple, size-zeros}

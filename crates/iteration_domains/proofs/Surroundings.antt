@@ -10,7 +10,7 @@ use Rattle.whole_numbers.specs.Lists.{zeros, multiples}
 use Rattle.whole_numbers.specs.Affine.{Affine, form_of, composed}
 use Rattle.whole_numbers.proofs.Dot.{length-zeros, length-sums, length-multiples}
 use Rattle.whole_numbers.proofs.Values.{length-combination}
-use Rattle.affine_forms.specs.Parts.{variables_of}
+use Rattle.integer_sets.specs.Parts.{variables_of}
 use Rattle.scop_syntax.specs.Tree.{Test, Head}
 use Rattle.scop_syntax.specs.Kernel.{IsForm, IsComparison, AreScopes, test_form}
 use Rattle.scop_syntax.specs.Statements.{Scope, round, under, loops_in}

@@ -7,3 +7,5 @@ pub mod Standing
 pub mod Path
 pub mod Dependence
 pub mod Restrictions
+-- Passed on: what this crate's contracts are told in.
+pub use Rattle.integer_sets.specs.Parts

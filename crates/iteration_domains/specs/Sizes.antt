@@ -2,7 +2,7 @@
 use Rattle.std.specs.Prelude.{◌≡◌, ℕ, zero, suc, ◌+◌, ◌*◌, ◌^◌, ◌≤◌, ℤ, List, [], ◌∷◌, All, length, unsigned_abs}
 use Rattle.std.specs.Prelude.{slice_get, Some}
 use Rattle.whole_numbers.specs.Affine.{Affine}
-use Rattle.affine_forms.specs.Parts.{variables_of}
+use Rattle.integer_sets.specs.Parts.{variables_of}
 use Rattle.scop_syntax.specs.Tree.{Access}
 use Rattle.scop_syntax.specs.Kernel.{AreAtMost}
 use Rattle.iteration_domains.specs.Model.{Modelled, KernelModel}

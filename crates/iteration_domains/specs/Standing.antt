@@ -1,7 +1,7 @@
 -- The rows of a statement as they stand when some of what stands round it has been gone through.
 use Rattle.std.specs.Prelude.{◌≡◌, ℕ, ◌+◌, ◌^◌, ◌≤◌, List, [], ◌++◌, All, length, map, ◌∷◌}
 use Rattle.whole_numbers.specs.Affine.{Affine, composed}
-use Rattle.affine_forms.specs.Parts.{variables_of}
+use Rattle.integer_sets.specs.Parts.{variables_of}
 use Rattle.scop_syntax.specs.Tree.{Test}
 use Rattle.scop_syntax.specs.Kernel.{AreScopes}
 use Rattle.scop_syntax.specs.Statements.{Scope, round, under, loops_in}

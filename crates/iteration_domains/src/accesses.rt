@@ -9,7 +9,7 @@ ghost use Rattle.iteration_domains.specs.Sizes.{CanCompose};
 
 use crate::forms::compose;
 use crate::statement::AccessForms;
-use affine_forms::{Form, push};
+use integer_sets::{Form, push};
 use scop_syntax::tree::{Access, Aff, Expr, Right};
 use std::alloc::{AllocError, Global};
 

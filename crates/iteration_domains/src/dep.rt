@@ -2,14 +2,13 @@
 //! parameters.
 ghost use Rattle.std.specs.Prelude.{◌≡◌, ℤ, pos, ◌≤ℤ◌, List, ◌++◌, ◌∷◌, [], ◌↔◌, IfOk};
 ghost use Rattle.whole_numbers.specs.Affine.{value_of};
-ghost use Rattle.affine_forms.specs.Parts.{variables_of};
+ghost use Rattle.integer_sets.specs.Parts.{variables_of};
 ghost use Rattle.integer_sets.specs.Constraints.{system_of, variables_in};
 ghost use Rattle.integer_sets.specs.Points.{Satisfies};
 ghost use Rattle.iteration_domains.specs.Dependence.{dependence};
 ghost use Rattle.iteration_domains.specs.Restrictions.{equality_behind, row_behind};
 
-use affine_forms::{Form, push};
-use integer_sets::System;
+use integer_sets::{Form, System, push};
 use std::alloc::{AllocError, Global};
 use std::marker::Model;
 

@@ -1,13 +1,13 @@
 //! Forms of 128 bits of a kernel's affine forms, composed over other variables. Within the limits of a kernel no number
 //! on the way is too wide, so only memory may run out.
 ghost use Rattle.std.specs.Prelude.{◌≡◌, ◌+◌, ◌*◌, ◌<◌, ◌≤◌, ◌^◌, ◌++◌, IfOk, OnOk, set, unsigned_abs};
-ghost use Rattle.affine_forms.specs.Parts.{variables_of};
+ghost use Rattle.integer_sets.specs.Parts.{variables_of};
 ghost use Rattle.whole_numbers.specs.Affine.{composed, form_of, multiple_of_form, sum_of_forms};
 ghost use Rattle.whole_numbers.specs.Lists.{zeros};
 ghost use Rattle.iteration_domains.specs.Rows.{variable, variables};
 ghost use Rattle.iteration_domains.specs.Sizes.{CanCompose, form_size};
 
-use affine_forms::{Form, FormStop, INLINE, push};
+use integer_sets::{Form, FormStop, INLINE, push};
 use scop_syntax::tree::Aff;
 use smallvec::SmallVec;
 use std::alloc::{AllocError, Global};

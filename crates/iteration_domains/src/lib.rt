@@ -24,3 +24,6 @@ pub use items::{Path, enter_loop, enter_scope};
 pub use model::Model;
 pub use rows::{Scope, StatementRows, rows_within};
 pub use statement::{AccessForms, StatementModel};
+
+// Passed on: what goes with this crate's contracts.
+pub use integer_sets::{Form, push};

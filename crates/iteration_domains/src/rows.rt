@@ -1,6 +1,6 @@
 //! The rows of a statement and the forms of its point, from what stands round it, from the outside inwards.
 ghost use Rattle.std.specs.Prelude.{◌≡◌, ◌+◌, ◌<◌, ◌≤◌, ◌^◌, ◌∷◌, [], All, IfOk, OnOk, length, map};
-ghost use Rattle.affine_forms.specs.Parts.{variables_of};
+ghost use Rattle.integer_sets.specs.Parts.{variables_of};
 ghost use Rattle.scop_syntax.specs.Kernel.{IsHead, test_form};
 ghost use Rattle.scop_syntax.specs.Statements.{round, under};
 ghost use Rattle.scop_syntax.specs.View.{test_of};
@@ -10,7 +10,7 @@ ghost use Rattle.iteration_domains.specs.Sizes.{CanCompose, forms_size};
 ghost use Rattle.iteration_domains.specs.Standing.{CanEnter, entered, finished, starting, with_tests};
 
 use crate::forms::{compose, plus_multiple, push_variables, variable_form};
-use affine_forms::{Form, push};
+use integer_sets::{Form, push};
 use scop_syntax::tree::{Guard, Loop, Test};
 use std::alloc::{AllocError, Global};
 

@@ -5,8 +5,7 @@ ghost use Rattle.std.specs.Prelude.{◌≡◌, ◌+◌, ◌≤◌, All, length};
 ghost use Rattle.iteration_domains.specs.Model.{statement_model};
 ghost use Rattle.iteration_domains.specs.Sizes.{IsModelled, IsNarrow};
 
-use affine_forms::Form;
-use integer_sets::System;
+use integer_sets::{Form, System};
 use std::marker::Model;
 
 /// An access: an array's number, and a form for each subscript.

@@ -2,7 +2,7 @@
 use Rattle.std.specs.Prelude.{ℕ, ◌+◌, ◌%◌, ◌^◌, ℤ, pos, List, [], ◌∷◌}
 use Rattle.scop_syntax.specs.Tree.{Program}
 use Rattle.scop_syntax.specs.Execution.{layout}
-use Rattle.data_lines.specs.Sheets.{Given, nothing, seeded}
+use Rattle.data_text.specs.Sheets.{Given, nothing, seeded}
 use Rattle.data_text.specs.Cases.{contents_said}
 use Rattle.kernel_gen.specs.declared.kind.Kind.{Kind}
 use Rattle.kernel_gen.specs.declared.kind.Kind.TheVariants.{Product, Sweep, Chain}

@@ -4,7 +4,7 @@ ghost use Rattle.std.specs.Prelude.{◌≡◌, ◌≤◌, IfOk, map};
 ghost use Rattle.scop_syntax.specs.View.{program_of};
 ghost use Rattle.scop_syntax.specs.Execution.{IsInside, IsShaped, layout};
 ghost use Rattle.scop_syntax.specs.Limits.{WithinLimits};
-ghost use Rattle.data_lines.specs.Sheets.{given_of};
+ghost use Rattle.data_text.specs.Sheets.{given_of};
 ghost use Rattle.kernel_gen.specs.Cases.{contents, given, params, program};
 
 use crate::chain::chain;

@@ -11,15 +11,15 @@ use Rattle.iteration_domains.specs.Dependence.{Dependence}
 use Rattle.iteration_domains.specs.Model.{KernelModel, model_of}
 use Rattle.conflict_deps.specs.Conflicts.{conflicts_of}
 use Rattle.fm_projection.specs.declared.stop.FmStop.{FmStop}
-use Rattle.farkas.specs.declared.stuck.Stuck.TheVariants as stuck
-use Rattle.schedule_rows.specs.Schedule.{Scheduled, IsScheduled, loops_in}
+use Rattle.pluto_search.specs.Stuck.TheVariants as stuck
+use Rattle.pluto_search.specs.Schedule.{Scheduled, IsScheduled, loops_in}
 use Rattle.loop_tree.specs.Tiling.{Tiling, kept, items_at}
 use Rattle.loop_tree.specs.TilingView.{tiling_of as tiling_in}
 use Rattle.loop_tree.specs.Tree.{Trees}
 use Rattle.loop_tree.specs.View.{trees_in}
 use Rattle.loop_tree.specs.Walk.{visits}
 use Rattle.tile_list.specs.Tiles.{CanTile}
-use Rattle.tile_skew.specs.Tilings.{schedule_tiling, statements_from}
+use Rattle.plan_tree.specs.Tilings.{schedule_tiling, statements_from}
 use Rattle.plan_tree.specs.Trees.{AreTreesOf, IsScheduleFor, StopsTiled, tiling_of}
 use Rattle.pluto_search.specs.Searching.{Keeps}
 use Rattle.pluto_search.specs.declared.kept.Kept.{Kept}

@@ -3,11 +3,11 @@ use Rattle.std.proofs.Common.{◌≡◌, subst, ℕ, List, [], ◌∷◌, Ok}
 use Rattle.iteration_domains.specs.Dependence.{Dependence}
 use Rattle.iteration_domains.specs.Model.{KernelModel, model_of}
 use Rattle.conflict_deps.specs.Conflicts.{conflicts_of}
-use Rattle.schedule_rows.specs.Items.{Block}
-use Rattle.schedule_rows.specs.Next.{State}
-use Rattle.schedule_rows.specs.Outcomes.{Outcome, ends, goes, IsSchedule, Next, Runs, state}
-use Rattle.schedule_rows.specs.Schedule.{Scheduled, IsScheduled, loops_in}
-use Rattle.schedule_rows.proofs.Determinism.{restricts_unique}
+use Rattle.pluto_search.specs.Items.{Block}
+use Rattle.pluto_search.specs.Next.{State}
+use Rattle.pluto_search.specs.Outcomes.{Outcome, ends, goes, IsSchedule, Next, Runs, state}
+use Rattle.pluto_search.specs.Schedule.{Scheduled, IsScheduled, loops_in}
+use Rattle.pluto_search.proofs.Determinism.{restricts_unique}
 use Rattle.pluto_search.specs.Questions.{ComesAnswered}
 use Rattle.pluto_search.specs.Searching.{Searches}
 use Rattle.report_text.specs.ScheduleText.{schedule_text, IsTextOf}

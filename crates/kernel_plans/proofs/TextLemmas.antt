@@ -3,7 +3,7 @@ use Rattle.std.proofs.Common.{◌≡◌, subst, inl, inr, ℕ, List, Option, Ok}
 use Rattle.iteration_domains.specs.Dependence.{Dependence}
 use Rattle.iteration_domains.specs.Model.{KernelModel}
 use Rattle.conflict_deps.specs.Conflicts.{conflicts_of}
-use Rattle.schedule_rows.specs.Schedule.{Scheduled, loops_in}
+use Rattle.pluto_search.specs.Schedule.{Scheduled, loops_in}
 use Rattle.pluto_search.specs.Searching.{Keeps, Searches}
 use Rattle.pluto_search.specs.declared.kept.Kept.{Kept}
 use Rattle.report_text.specs.declared.kept_line.KeptLine.{KeptLine}

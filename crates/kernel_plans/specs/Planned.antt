@@ -4,8 +4,8 @@ use Rattle.scop_syntax.specs.Limits.{HasParameters}
 use Rattle.scop_syntax.specs.Tree.{Program}
 use Rattle.iteration_domains.specs.Model.{KernelModel, model_of}
 use Rattle.fm_projection.specs.declared.stop.FmStop.{FmStop}
-use Rattle.farkas.specs.declared.stuck.Stuck.TheVariants as stuck
-use Rattle.schedule_rows.specs.Items.{Block}
+use Rattle.pluto_search.specs.Stuck.TheVariants as stuck
+use Rattle.pluto_search.specs.Items.{Block}
 use Rattle.loop_tree.specs.Source.{source_of}
 use Rattle.loop_tree.specs.Tiling.{Tiling, kept}
 use Rattle.loop_tree.specs.TilingView.{tiling_of as tiling_in}

@@ -4,12 +4,12 @@ use Rattle.scop_syntax.specs.Tree.{Program}
 use Rattle.iteration_domains.specs.Model.{KernelModel, model_of}
 use Rattle.conflict_deps.specs.Conflicts.{conflicts_of}
 use Rattle.fm_projection.specs.declared.FmStop.TheVariants as elimination
-use Rattle.pip_solver.specs.declared.stop.Stop.TheVariants as solver
-use Rattle.farkas.specs.declared.stuck.Stuck.{Stuck}
-use Rattle.farkas.specs.declared.stuck.Stuck.TheVariants as stuck
-use Rattle.schedule_rows.specs.Items.{Block}
-use Rattle.schedule_rows.specs.Outcomes.{ends, IsSchedule}
-use Rattle.schedule_rows.specs.Schedule.{loops_in}
+use Rattle.pluto_search.specs.Stop.TheVariants as solver
+use Rattle.pluto_search.specs.Stuck.{Stuck}
+use Rattle.pluto_search.specs.Stuck.TheVariants as stuck
+use Rattle.pluto_search.specs.Items.{Block}
+use Rattle.pluto_search.specs.Outcomes.{ends, IsSchedule}
+use Rattle.pluto_search.specs.Schedule.{loops_in}
 use Rattle.pluto_search.specs.Questions.{ComesAnswered}
 use Rattle.pluto_search.specs.Searching.{Keeps}
 use Rattle.pluto_search.specs.declared.kept.Kept.{Kept}

@@ -12,3 +12,6 @@ mod text;
 pub use planning::planned;
 pub use plans::Planned;
 pub use text::plan_text;
+
+// Passed on: what goes with this crate's contracts.
+pub use plan_tree::laws::{loops_end_as_the_source_does, trees_keep_conflicts_in_order};

@@ -3,10 +3,8 @@
 ghost use Rattle.std.specs.Prelude.{◌≡◌, IfOk, None, Some};
 ghost use Rattle.kernel_plans.specs.Planning.{line_of, line_of_kept, IsLineText};
 
-use farkas::Stuck;
 use fm_projection::FmStop;
-use pip_solver::Stop;
-use pluto_search::Kept;
+use pluto_search::{Kept, Stop, Stuck};
 use report_text::{KeptLine, kept_text};
 use std::alloc::{AllocError, Global};
 

@@ -4,18 +4,17 @@ ghost use Rattle.std.specs.Prelude.{◌≡◌, ◌≤◌, IfOk};
 ghost use Rattle.scop_syntax.specs.Kernel.{IsKernel};
 ghost use Rattle.scop_syntax.specs.View.{program_of};
 ghost use Rattle.loop_tree.specs.View.{trees_in};
-ghost use Rattle.schedule_rows.specs.Schedule.{IsScheduled};
+ghost use Rattle.pluto_search.specs.Schedule.{IsScheduled};
 ghost use Rattle.kernel_plans.specs.Planned.{report_of};
 ghost use Rattle.kernel_plans.specs.steps.Plans.{IsKeptPlan, IsTiledPlan};
 
 use crate::lines::line_text;
 use loop_tree::{Tiling, Tree};
-use plan_tree::source_tree;
+use plan_tree::{source_tree, tiling};
+use pluto_search::{Schedule, each_state_has_one_outcome};
 use report_text::{KeptLine, schedule_text};
-use schedule_rows::{Schedule, each_state_has_one_outcome};
 use scop_syntax::tree::Kernel;
 use std::alloc::{AllocError, Global};
-use tile_skew::tiling;
 
 /// The plan of a kernel: its loop tree, its tiling, and the lines that tell of it: a kept order's line, or, where a
 /// report is asked for, the schedule.

@@ -6,9 +6,8 @@ ghost use Rattle.kernel_plans.specs.Planning.{line_of_kept, IsPlanOf};
 use crate::lines::{line_of_kept, line_text};
 use conflict_deps::conflicts;
 use iteration_domains::Model;
-use pluto_search::search;
+use pluto_search::{each_state_has_one_outcome, search};
 use report_text::schedule_text;
-use schedule_rows::each_state_has_one_outcome;
 use std::alloc::{AllocError, Global};
 
 /// The text of a model's schedule, or the line that tells why the order is kept. Each question of the search may make

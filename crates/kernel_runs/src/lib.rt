@@ -12,3 +12,6 @@ mod workers;
 pub use running::{Counts, plan_of, run_case, tiles_of};
 pub use threads::{By, run_on_threads};
 pub use workers::{OneWorker, Workers};
+
+// Passed on: what goes with this crate's contracts.
+pub use tile_core::plan::Plan;

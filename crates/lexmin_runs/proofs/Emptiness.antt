@@ -12,9 +12,9 @@ use Rattle.whole_numbers.specs.Affine.{Affine, form_of, value_of}
 use Rattle.whole_numbers.proofs.Ring.{mul_neg_left, mul_one_left}
 use Rattle.whole_numbers.proofs.Dot.{dot-set_left, dot-zeros, get_or-zeros, length-zeros}
 use Rattle.whole_numbers.proofs.Lists.{not_negative-append}
-use Rattle.wide_math.specs.Checked.{difference_of, ◌>>=◌}
-use Rattle.wide_math.proofs.Steps.{chain-ok, difference_of-ok}
-use Rattle.affine_forms.specs.Parts.{variables_of}
+use Rattle.integer_sets.specs.Checked.{difference_of, ◌>>=◌}
+use Rattle.integer_sets.proofs.CheckedSteps.{chain-ok, difference_of-ok}
+use Rattle.integer_sets.specs.Parts.{variables_of}
 use Rattle.integer_sets.specs.Constraints.{Constraints, variables_in, IsSized}
 use Rattle.tableau_rows.specs.Problem.{problem_of, row_values, IsPoint, Speaks}
 use Rattle.tableau_rows.specs.Run.{point, none, Outcome, question}

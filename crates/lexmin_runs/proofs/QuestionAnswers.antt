@@ -11,9 +11,9 @@ use Rattle.whole_numbers.specs.Affine.{Affine, value_of, form_of}
 use Rattle.whole_numbers.specs.Floor.{floor, remainder}
 use Rattle.whole_numbers.proofs.Ring.{mul_zero_left, mul_comm_int, mul_neg_left}
 use Rattle.whole_numbers.proofs.Floors.{floor_is, floor_at_least}
-use Rattle.wide_math.specs.declared.Wide.{Wide}
-use Rattle.wide_math.specs.Checked.{difference_of, ◌>>=◌}
-use Rattle.wide_math.proofs.Steps.{chain-ok, difference_of-ok}
+use Rattle.integer_sets.specs.Wide.{Wide}
+use Rattle.integer_sets.specs.Checked.{difference_of, ◌>>=◌}
+use Rattle.integer_sets.proofs.CheckedSteps.{chain-ok, difference_of-ok}
 use Rattle.tableau_rows.specs.Moves.{is_below, is_positive}
 use Rattle.tableau_rows.specs.Problem.{row_values, Speaks}
 use Rattle.tableau_rows.specs.Run.{point, none, Outcome, question}

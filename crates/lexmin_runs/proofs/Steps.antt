@@ -5,7 +5,7 @@ use Rattle.std.proofs.Common.{◌++◌, map, take, refl, ap, ◌∙◌, arith}
 use Rattle.std.specs.Prelude.{Result, Ok, Err, if◌then◌else◌}
 use Rattle.whole_numbers.specs.Floor.{remainder}
 use Rattle.whole_numbers.specs.Affine.{Affine}
-use Rattle.wide_math.specs.declared.Wide.{Wide}
+use Rattle.integer_sets.specs.Wide.{Wide}
 use Rattle.tableau_rows.specs.Rows.{Row}
 use Rattle.tableau_rows.specs.Moves.{is_below, is_positive, row_at, pivot_run, cut_run}
 use Rattle.tableau_rows.specs.Problem.{problem_of, first_rows}

@@ -3,8 +3,8 @@ use Rattle.std.specs.Prelude.{◌≡◌, ℕ, zero, suc, ℤ, pos, negsuc, ◌�
 use Rattle.std.specs.Prelude.{set, Result, Ok, Err, All}
 use Rattle.whole_numbers.specs.Lists.{zeros, NotNegative}
 use Rattle.whole_numbers.specs.Affine.{Affine, form_of}
-use Rattle.wide_math.specs.declared.Wide.{Wide}
-use Rattle.wide_math.specs.Checked.{difference_of, ◌>>=◌}
+use Rattle.integer_sets.specs.Wide.{Wide}
+use Rattle.integer_sets.specs.Checked.{difference_of, ◌>>=◌}
 use Rattle.integer_sets.specs.Constraints.{Constraints, variables_in}
 use Rattle.integer_sets.specs.Points.{Satisfies}
 use Rattle.tableau_rows.specs.Problem.{problem_of}

@@ -5,8 +5,8 @@ use Rattle.std.specs.Prelude.{[], ◌∷◌, ◌++◌, get_or, map, take, drop, 
 use Rattle.whole_numbers.specs.Affine.{Affine, form_of}
 use Rattle.whole_numbers.specs.Lists.{zeros}
 use Rattle.whole_numbers.specs.Floor.{floor, remainder}
-use Rattle.wide_math.specs.declared.Wide.{Wide}
-use Rattle.wide_math.specs.Checked.{difference_of, ◌>>=◌}
+use Rattle.integer_sets.specs.Wide.{Wide}
+use Rattle.integer_sets.specs.Checked.{difference_of, ◌>>=◌}
 use Rattle.tableau_rows.specs.Rows.{Row, row_of, entry}
 use Rattle.tableau_rows.specs.Moves.{is_below, is_positive, row_at, pivot_run, cut_run, cut_entries}
 use Rattle.tableau_rows.specs.Problem.{Problem, first_rows}

@@ -8,7 +8,7 @@ use Rattle.std.proofs.lemmas.Int.{ints}
 use Rattle.std.proofs.lemmas.List.Elements.{All-nil, All-cons, All-head, All-tail, All-append}
 use Rattle.whole_numbers.specs.Affine.{Affine, value_of, composed}
 use Rattle.whole_numbers.proofs.Dot.{length-zeros}
-use Rattle.affine_forms.specs.Parts.{variables_of}
+use Rattle.iteration_domains.specs.Parts.{variables_of}
 use Rattle.scop_syntax.specs.Tree.{Test as Comparison, at_least as is_up, equal as is_zero, Head, Tree as Item}
 use Rattle.scop_syntax.specs.Tree.{loop as repeated, guard as guarded, statement, Trees as Items, none as nothing}
 use Rattle.scop_syntax.specs.Tree.{more as followed}

@@ -40,9 +40,8 @@ ghost use Rattle.loop_tree.specs.Walk.{visits};
 
 use crate::source_laws::source_trees_visit_the_walk;
 use crate::tree::{Bound, Bounds, Guard, Leaf, Loop, Node, Test, Tree};
-use affine_forms::{Form, push};
 use iteration_domains::{
-    Path, Scope, compose, enter_loop, enter_scope, rows_within, variable_form,
+    Form, Path, Scope, compose, enter_loop, enter_scope, push, rows_within, variable_form,
 };
 use scop_syntax::tree::{
     Aff, Guard as SourceGuard, Item, Kernel, Loop as SourceLoop, Test as Comparison,

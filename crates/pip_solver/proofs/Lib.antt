@@ -10,3 +10,8 @@ pub mod FrameSteps
 pub mod ProblemRuns
 pub mod LeafPoints
 pub mod Systems
+-- Passed on: lemmas about what this crate passes on.
+pub use Rattle.lexmin_runs.proofs.Emptiness as EmptinessLaws
+pub use Rattle.lexmin_runs.proofs.KeptSolutions
+pub use Rattle.lexmin_runs.proofs.QuestionAnswers
+pub use Rattle.lexmin_runs.proofs.Trees

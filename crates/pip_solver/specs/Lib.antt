@@ -3,3 +3,8 @@ pub mod Steps
 pub mod Frames
 pub mod Solving
 pub mod Minimum
+-- Passed on: what this crate's contracts are told in.
+pub use Rattle.lexmin_runs.specs.Emptiness
+pub use Rattle.lexmin_runs.specs.Leaves
+pub use Rattle.lexmin_runs.specs.Nodes
+pub use Rattle.tableau_nodes.specs.Problem

@@ -14,10 +14,11 @@ ghost use Rattle.pip_solver.specs.Promises.{Tells, AsksOf};
 use crate::leaf::longer_with;
 use crate::question::{QuestionStop, question};
 use affine_forms::{Form, FormStop};
-use checked_tableau::{Rows, remainder_of};
 use std::alloc::Global;
 use std::slice;
-use tableau_nodes::{Tableau, above, constant_of, is_constant, opposite, part_of, under};
+use tableau_nodes::{
+    Rows, Tableau, above, constant_of, is_constant, opposite, part_of, remainder_of, under,
+};
 
 /// Whether forms, in two parts, have a whole point that is not negative.
 pub fn ask(

@@ -15,11 +15,10 @@ ghost use Rattle.pip_solver.specs.Frames.{under, KeepsSides};
 
 use crate::frames::{Frame, put};
 use affine_forms::{Form, push};
-use checked_tableau::{Rows, remainder_of};
 use quast_trees::Builder;
 use std::alloc::{AllocError, Global};
 use std::mem;
-use tableau_nodes::longer_forms;
+use tableau_nodes::{Rows, longer_forms, remainder_of};
 
 /// Whether a divisor divides each number.
 fn all_divided(numbers: &[i128], divisor: i128) -> bool

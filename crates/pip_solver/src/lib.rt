@@ -22,3 +22,6 @@ pub use minimum::{Solution, lexmin, solve};
 pub use point::least_point;
 pub use stop::Stop;
 pub use system_point::least_point_in;
+
+// Passed on: what goes with this crate's contracts.
+pub use tableau_nodes::{Problem, opposite};

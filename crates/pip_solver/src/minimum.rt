@@ -13,10 +13,9 @@ ghost use Rattle.pip_solver.specs.Solving.{Counts, Solves};
 use crate::question::QuestionStop;
 use crate::run::run;
 use crate::stop::Stop;
-use checked_tableau::Problem;
 use quast_trees::{Builder, Quast};
 use std::alloc::Global;
-use tableau_nodes::Tableau;
+use tableau_nodes::{Problem, Tableau};
 
 /// A problem's quast, and how many moves its run took.
 #[derive(Drop)]

@@ -8,10 +8,9 @@ ghost use Rattle.pip_solver.specs.Promises.{Forms, FormsEqualities, IsProblem};
 
 use crate::stop::Stop;
 use affine_forms::{Form, FormStop, push, push_copies, push_copy};
-use checked_tableau::Problem;
 use integer_sets::System;
 use std::alloc::{AllocError, Global};
-use tableau_nodes::oppose;
+use tableau_nodes::{Problem, oppose};
 use wide_math::sub;
 
 /// The form with each sign turned: the coefficients in order, then the constant.

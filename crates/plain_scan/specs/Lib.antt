@@ -11,3 +11,6 @@ pub mod Weaker
 pub mod Scanning
 pub mod Leaving
 pub mod Giving
+-- Passed on: what this crate's contracts are told in.
+pub use Rattle.fm_projection.specs.Alone
+pub use Rattle.fm_projection.specs.declared.stop.FmStop

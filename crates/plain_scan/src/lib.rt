@@ -13,3 +13,6 @@ mod tree_of_sets;
 mod widest;
 
 pub use tree_of_sets::scan;
+
+// Passed on: what goes with this crate's contracts.
+pub use fm_projection::FmStop;

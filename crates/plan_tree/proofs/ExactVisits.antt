@@ -21,7 +21,7 @@ use Rattle.loop_tree.specs.Plans.{AreInOrder, Precedes, walked}
 use Rattle.loop_tree.specs.Scans.{Before, Exact, key}
 use Rattle.loop_tree.specs.Tiling.{TileRow, Items, coordinates, item_value, item_values, wave_sum}
 use Rattle.loop_tree.specs.Walk.{Visit, given}
-use Rattle.schedule_rows.specs.Items.{Block}
+use Rattle.tile_skew.specs.Items.{Block}
 use Rattle.tile_skew.specs.Places.{before_iterators, place_of}
 use Rattle.tile_skew.specs.ScanSets.{front_of, most_iterators, scan_set}
 use Rattle.tile_skew.specs.Tilings.{statement_items, statements_from}

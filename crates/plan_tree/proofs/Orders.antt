@@ -20,7 +20,7 @@ use Rattle.loop_tree.specs.Tiling.{Items, Tiling, kept, tiled, item_values, item
 use Rattle.loop_tree.specs.Tiling.{IsGoodPlan, IsInOrder}
 use Rattle.loop_tree.specs.Tree.{Trees}
 use Rattle.loop_tree.specs.Walk.{visits}
-use Rattle.schedule_rows.specs.Items.{Block}
+use Rattle.tile_skew.specs.Items.{Block}
 use Rattle.tile_skew.proofs.TilingAgreement.{items_found}
 use Rattle.tile_skew.proofs.PlaceOrder.{band_lengths, leading_lengths}
 use Rattle.plan_tree.specs.Trees.{AreEven, StandInOrder, tiling_of}

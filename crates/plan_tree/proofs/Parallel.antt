@@ -15,7 +15,7 @@ use Rattle.loop_tree.specs.Tiling.{tiled, IsGoodPlan}
 use Rattle.loop_tree.specs.Tree.{Trees}
 use Rattle.loop_tree.specs.Walk.{Visit, given, walk_all}
 use Rattle.loop_tree.proofs.Marks.{marks_all}
-use Rattle.schedule_rows.specs.Items.{Block}
+use Rattle.tile_skew.specs.Items.{Block}
 use Rattle.tile_skew.specs.Places.{place_of}
 use Rattle.tile_skew.specs.ScanSets.{parallel_place, most_iterators, scan_set, scan_sets}
 use Rattle.tile_skew.specs.Tilings.{leading_at, first_band_at, behind_at, statement_items, statements_from}

@@ -15,8 +15,8 @@ use Rattle.scop_syntax.proofs.Limits.{size, value_size}
 use Rattle.iteration_domains.specs.Model.{model_of, modelled}
 use Rattle.loop_tree.specs.Tiling.{Items, TileRow, items_at}
 use Rattle.loop_tree.proofs.SourceSizes.{entries_size}
-use Rattle.schedule_rows.specs.Items.{Block, Marked, band, scalar, part_of}
-use Rattle.schedule_rows.specs.Sized.{AreSized, AreSizedRows, IsSizedRow, IsSmall}
+use Rattle.tile_skew.specs.Items.{Block, Marked, band, scalar, part_of}
+use Rattle.tile_skew.specs.Sized.{AreSized, AreSizedRows, IsSizedRow, IsSmall}
 use Rattle.tile_skew.specs.Tilings.{first_band_at, form_at, rows_at, statements_from}
 use Rattle.tile_skew.proofs.TilingAgreement.{items_found}
 use Rattle.plan_tree.proofs.WalkedVisits.{IsWalked}

@@ -5,7 +5,7 @@ use Rattle.std.specs.Prelude.{◌^◌, None}
 use Rattle.std.proofs.lemmas.List.Elements.{All-cons, All-nil}
 use Rattle.integer_sets.specs.Scanned.{Scanned}
 use Rattle.scop_syntax.specs.Members.{In, Sorted}
-use Rattle.fm_projection.specs.Alone.{IsBounded}
+use Rattle.plain_scan.specs.Alone.{IsBounded}
 use Rattle.plain_scan.specs.Scanning.{AreScanned, IsScanned, dimensions_of, parameters_of}
 use Rattle.plain_scan.specs.Sets.{AllAbove, NumbersRise}
 

@@ -2,10 +2,10 @@
 use Rattle.std.proofs.Common.{◌≡◌, ℕ, ◌<◌, ◌≤◌, ◌∙◌, List, pos, ap, subst}
 use Rattle.iteration_domains.specs.Dependence.{Dependence}
 use Rattle.iteration_domains.specs.Model.{KernelModel, model_of}
-use Rattle.conflict_deps.specs.Conflicts.{conflicts_of}
+use Rattle.tile_skew.specs.Conflicts.{conflicts_of}
 use Rattle.scop_syntax.specs.Tree.{Program}
-use Rattle.schedule_rows.specs.Outcomes.{IsSchedule}
-use Rattle.schedule_rows.specs.Schedule.{IsScheduled, Scheduled, loops_in}
+use Rattle.tile_skew.specs.Outcomes.{IsSchedule}
+use Rattle.tile_skew.specs.Schedule.{IsScheduled, Scheduled, loops_in}
 use Rattle.tile_skew.specs.ScanSets.{scan_sets}
 use Rattle.plan_tree.specs.Trees.{IsScheduleFor}
 use Rattle.plan_tree.specs.steps.Scanning.{IsTiled, sets_of}

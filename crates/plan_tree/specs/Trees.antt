@@ -6,16 +6,16 @@ use Rattle.scop_syntax.specs.Statements.{statements_of}
 use Rattle.scop_syntax.specs.Tree.{Program}
 use Rattle.scop_syntax.specs.Walk.{Instance}
 use Rattle.iteration_domains.specs.Model.{KernelModel, model_of}
-use Rattle.conflict_deps.specs.Conflicts.{conflicts_of}
-use Rattle.fm_projection.specs.declared.stop.FmStop.{FmStop}
+use Rattle.tile_skew.specs.Conflicts.{conflicts_of}
+use Rattle.plain_scan.specs.FmStop.{FmStop}
 use Rattle.loop_tree.specs.Fits.{FitsAll}
 use Rattle.loop_tree.specs.Marks.{FlatAll}
 use Rattle.loop_tree.specs.Plans.{CarryOut}
 use Rattle.loop_tree.specs.Shape.{NestAllTo, TreesAreOf, TreesAreOver, TreesAreUpTo}
 use Rattle.loop_tree.specs.Tiling.{Tiling, kept, tiled, items_at}
 use Rattle.loop_tree.specs.Tree.{Trees}
-use Rattle.schedule_rows.specs.Items.{Block}
-use Rattle.schedule_rows.specs.Schedule.{Scheduled}
+use Rattle.tile_skew.specs.Items.{Block}
+use Rattle.tile_skew.specs.Schedule.{Scheduled}
 use Rattle.tile_skew.specs.ScanSets.{scan_sets}
 use Rattle.tile_skew.specs.Tilings.{schedule_tiling}
 use Rattle.plain_scan.specs.Scanning.{StopsScan}

@@ -16,17 +16,17 @@ ghost use Rattle.loop_tree.specs.Runs.{MayRunAll};
 ghost use Rattle.loop_tree.specs.Tiling.{Tiling, items_at, tile_of, wave_of};
 ghost use Rattle.loop_tree.specs.Tree.{Trees};
 ghost use Rattle.loop_tree.specs.Walk.{Visit, given, visits, walk_all};
-ghost use Rattle.schedule_rows.specs.Schedule.{IsScheduled, Scheduled};
+ghost use Rattle.tile_skew.specs.Schedule.{IsScheduled, Scheduled};
 ghost use Rattle.tile_skew.specs.Tilings.{statements_from};
 ghost use Rattle.plan_tree.specs.Executions.{AreVisitsOf};
 ghost use Rattle.plan_tree.specs.Trees.{AreEven, AreTreesOf, IsScheduleFor, StandInOrder, tiling_of};
 
 use conflict_orders::laws::orders_of_walks_end_as_they_do;
-use schedule_rows::schedules_have_small_items;
 use scop_syntax::limit_laws::values_lie_within_45_bits;
 use scop_syntax::walk_laws::{
     instances_are_those_of_statements, statements_are_numbered, walks_are_in_order,
 };
+use tile_skew::schedules_have_small_items;
 
 /// Of two places of the walk that conflict, a tree that carries out a plan visits the earlier one's instance before the
 /// later one's, where all statements have as many leading scalars and rows in the first band.

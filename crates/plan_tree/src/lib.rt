@@ -10,3 +10,6 @@ mod tiles;
 mod trees;
 
 pub use trees::{hull_tree, source_tree, tiled_tree};
+
+// Passed on: what goes with this crate's contracts.
+pub use tile_skew::tiling;

@@ -4,19 +4,19 @@ ghost use Rattle.scop_syntax.specs.Tree.{Program};
 ghost use Rattle.loop_tree.specs.Scans.{Exact};
 ghost use Rattle.loop_tree.specs.Tree.{Trees};
 ghost use Rattle.loop_tree.specs.Walk.{Visit};
-ghost use Rattle.schedule_rows.specs.Items.{Block};
+ghost use Rattle.tile_skew.specs.Items.{Block};
 ghost use Rattle.plain_scan.specs.Scanning.{AreScanned, GiveIterators, dimensions_of, parameters_of};
 ghost use Rattle.plain_scan.specs.Sets.{Keys, NumbersRise};
 ghost use Rattle.plan_tree.specs.Trees.{AreTreesOf, tiling_of};
 ghost use Rattle.plan_tree.specs.steps.Scanning.{AreVisits, IsScan, IsTiled, sets_of};
 
 use iteration_domains::domain_laws::domains_hold_the_instances;
-use schedule_rows::schedules_have_small_items;
 use scop_syntax::walk_laws::statements_are_numbered;
 use tile_skew::laws::{
     places_are_in_order, scan_sets_are_alike, scan_sets_can_be_scanned,
     scan_sets_hold_the_instances, tiled_schedules_are_good_plans,
 };
+use tile_skew::schedules_have_small_items;
 
 /// The scan sets of a schedule can be scanned together: they have one shape, not too many dimensions, and rising
 /// numbers.

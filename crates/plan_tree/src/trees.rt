@@ -12,20 +12,19 @@ ghost use Rattle.loop_tree.specs.Tree.{none};
 ghost use Rattle.loop_tree.specs.View.{trees_in};
 ghost use Rattle.plain_scan.specs.Scanning.{AreScanned, StopsScan, dimensions_of, parameters_of};
 ghost use Rattle.plain_scan.specs.Sets.{NumbersRise};
-ghost use Rattle.schedule_rows.specs.Schedule.{IsScheduled};
+ghost use Rattle.tile_skew.specs.Schedule.{IsScheduled};
 ghost use Rattle.tile_skew.specs.ScanSets.{scan_sets};
 ghost use Rattle.plan_tree.specs.Trees.{AreTreesOf, IsScheduleFor, StopsTiled, tiling_of};
 ghost use Rattle.plan_tree.specs.steps.Scanning.{IsScan};
 
 use crate::tiles::{scans_are_trees_of_tilings, sets_can_be_scanned};
-use fm_projection::FmStop;
 use integer_sets::ScanSet;
 use loop_tree::Tree;
-use schedule_rows::Schedule;
+use plain_scan::FmStop;
 use scop_syntax::tree::Kernel;
 use std::alloc::{AllocError, Global};
 use tile_skew::laws::kept_orders_are_good_plans;
-use tile_skew::tiled;
+use tile_skew::{Schedule, tiled};
 use tree_simplification::simplified;
 
 /// The scan sets of a schedule of a kernel's conflicts, which can be scanned together.

@@ -12,8 +12,8 @@ use Rattle.fractions.specs.Farkas.{AreNotNegative}
 use Rattle.iteration_domains.specs.Dependence.{Dependence, IsDependence}
 use Rattle.null_space.specs.Sizes.{IsWithin, AreCoefficients}
 use Rattle.schedule_rows.specs.Items.{Marked}
-use Rattle.farkas.specs.Unknowns.{part_numbers}
-use Rattle.farkas.specs.Unknowns as unknowns
+use Rattle.pluto_systems.specs.Unknowns.{part_numbers}
+use Rattle.pluto_systems.specs.Unknowns as unknowns
 use Rattle.pluto_systems.specs.Placing.{AreShaped}
 use Rattle.pluto_systems.specs.Posing.{IsBetween}
 use Rattle.pluto_search.specs.Sizes.{IsCount, AreCounts, CanTell, CanNarrowEach}

@@ -8,7 +8,7 @@ use Rattle.whole_numbers.proofs.Lists.{not_negative_all}
 use Rattle.whole_numbers.proofs.Entries.{all_front, all_back}
 use Rattle.fractions.specs.Farkas.{AreNotNegative}
 use Rattle.integer_sets.specs.Points.{Satisfies}
-use Rattle.lexmin_runs.specs.Emptiness.{IsBoundedPoint, HasBoundedPoint}
+use Rattle.pip_solver.specs.Emptiness.{IsBoundedPoint, HasBoundedPoint}
 use Rattle.iteration_domains.specs.Dependence.{Dependence, IsDependence}
 use Rattle.schedule_rows.specs.Dependences.{IsEmptyDep, InRange}
 

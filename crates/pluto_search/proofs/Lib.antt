@@ -9,3 +9,5 @@ pub mod RunSteps
 pub mod Conflicts
 pub mod CutDependences
 pub mod ValueOrder
+-- Passed on: lemmas about what this crate passes on.
+pub use Rattle.schedule_rows.proofs.Determinism

@@ -13,7 +13,7 @@ use Rattle.null_space.proofs.ListLoops.{kernel_long, narrowed_length, narrowed_g
 use Rattle.null_space.proofs.KernelSizes.{kernel_narrow}
 use Rattle.stmt_graph.specs.Graph.{IsNumbering}
 use Rattle.schedule_rows.specs.Items.{Row, Marked, Block, part_of, rows_in, band_rows, scalar, closed_by}
-use Rattle.farkas.specs.Unknowns as unknowns
+use Rattle.pluto_systems.specs.Unknowns as unknowns
 use Rattle.schedule_rows.specs.Dependences.{IsEqualAt, edges_of}
 use Rattle.schedule_rows.specs.Next.{State, rows_of, Restricts, Uncuts, IsWithin}
 use Rattle.schedule_rows.specs.Outcomes.{Outcome, goes, ends, no_row, no_order, large, state, items_in, Next}

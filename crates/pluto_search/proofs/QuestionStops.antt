@@ -3,8 +3,8 @@ use Rattle.std.proofs.Common.{ℕ, List, Err, inl, inr, sym, subst}
 use Rattle.integer_sets.specs.Constraints.{Constraints}
 use Rattle.iteration_domains.specs.Dependence.{Dependence}
 use Rattle.pip_solver.specs.declared.stop.Stop.TheVariants as solver
-use Rattle.fm_projection.specs.declared.stop.FmStop.TheVariants as fm
-use Rattle.farkas.specs.declared.stuck.Stuck.TheVariants as stuck
+use Rattle.pluto_systems.specs.FmStop.TheVariants as fm
+use Rattle.pluto_systems.specs.Stuck.TheVariants as stuck
 use Rattle.schedule_rows.specs.Next.{State}
 use Rattle.pluto_search.specs.declared.kept.Kept.TheVariants as kept
 use Rattle.pip_solver.specs.Minimum.{Minimizes}

@@ -5,3 +5,10 @@ pub mod Stopping
 pub mod Steps
 pub mod StepParts
 pub mod Searching
+-- Passed on: what this crate's contracts are told in.
+pub use Rattle.pip_solver.specs.declared.stop.Stop
+pub use Rattle.pluto_systems.specs.Stuck
+pub use Rattle.schedule_rows.specs.Items
+pub use Rattle.schedule_rows.specs.Next
+pub use Rattle.schedule_rows.specs.Outcomes
+pub use Rattle.schedule_rows.specs.Schedule

@@ -8,9 +8,9 @@ use Rattle.pip_solver.specs.declared.stop.Stop.TheVariants as solver
 use Rattle.pip_solver.specs.Promises.{Empties}
 use Rattle.pip_solver.specs.Minimum.{Minimizes}
 use Rattle.iteration_domains.specs.Dependence.{Dependence}
-use Rattle.fm_projection.specs.declared.stop.FmStop.TheVariants as fm
-use Rattle.farkas.specs.declared.stuck.Stuck.TheVariants as stuck
-use Rattle.farkas.specs.Gives.{Follows}
+use Rattle.pluto_systems.specs.FmStop.TheVariants as fm
+use Rattle.pluto_systems.specs.Stuck.TheVariants as stuck
+use Rattle.pluto_systems.specs.Gives.{Follows}
 use Rattle.schedule_rows.specs.Items.{Row, Marked}
 use Rattle.schedule_rows.specs.Dependences.{above_at}
 use Rattle.schedule_rows.specs.Posed.{IsFull, IsLeast, HasNone}

@@ -2,7 +2,7 @@
 use Rattle.std.specs.Prelude.{◌≡◌, ℕ, List, Option, None, Some, Result, Ok, Err, ⊤, true, false}
 use Rattle.iteration_domains.specs.Dependence.{Dependence}
 use Rattle.pip_solver.specs.declared.stop.Stop.TheVariants as solver
-use Rattle.farkas.specs.declared.stuck.Stuck.TheVariants as stuck
+use Rattle.pluto_systems.specs.Stuck.TheVariants as stuck
 use Rattle.schedule_rows.specs.Items.{Marked}
 use Rattle.schedule_rows.specs.Dependences.{IsEmptyDep}
 use Rattle.schedule_rows.specs.Next.{restricted}

@@ -1,6 +1,6 @@
 //! Why there is no schedule.
-use farkas::Stuck;
 use integer_sets::System;
+use pluto_systems::Stuck;
 use thiserror::Error;
 
 /// Why the order of a kernel is kept.

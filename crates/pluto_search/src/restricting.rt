@@ -5,7 +5,7 @@ ghost use Rattle.whole_numbers.specs.Affine.{form_of};
 ghost use Rattle.whole_numbers.specs.Lists.{multiples, zeros};
 ghost use Rattle.scop_syntax.specs.Members.{In};
 ghost use Rattle.iteration_domains.specs.Dependence.{Dependence};
-ghost use Rattle.farkas.specs.Claims.{distance};
+ghost use Rattle.pluto_systems.specs.Claims.{distance};
 ghost use Rattle.schedule_rows.specs.Items.{part_of};
 ghost use Rattle.schedule_rows.specs.Dependences.{IsEmptyDep, unknowns_of, equal_at, above_at};
 ghost use Rattle.schedule_rows.specs.Next.{Restricts, restricted};

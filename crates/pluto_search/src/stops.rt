@@ -3,8 +3,8 @@ ghost use Rattle.std.specs.Prelude.{◌≡◌};
 ghost use Rattle.pluto_search.specs.Stopping.{kept_by_solver, kept_by_rows};
 
 use crate::kept::Kept;
-use farkas::Stuck;
 use pip_solver::Stop;
+use pluto_systems::Stuck;
 
 /// How a question to the solver that stops does.
 pub fn by_solver(stop: Stop) -> Kept

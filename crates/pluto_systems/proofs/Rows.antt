@@ -15,7 +15,7 @@ use Rattle.schedule_rows.specs.Items.{Row, numbers_of}
 use Rattle.schedule_rows.specs.Posed.{IsPosed, HasNone}
 use Rattle.schedule_rows.specs.Posed as posed
 use Rattle.pluto_systems.specs.Placing.{columns_in, columns_of, AreShaped, IsShaped, parts_from, row_from}
-use Rattle.pip_solver.specs.Minimum.{IsTaken}
+use Rattle.farkas.specs.Minimum.{IsTaken}
 use Rattle.pluto_systems.specs.Posing.{HasPosed}
 use Rattle.pluto_systems.proofs.PlacedForms.{length-part, apart_front}
 

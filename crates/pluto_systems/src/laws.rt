@@ -7,7 +7,7 @@ ghost use Rattle.iteration_domains.specs.Dependence.{Dependence};
 ghost use Rattle.scop_syntax.specs.Members.{In};
 ghost use Rattle.schedule_rows.specs.Items.{Row, numbers_of};
 ghost use Rattle.schedule_rows.specs.Posed.{IsLeast, HasNone};
-ghost use Rattle.pip_solver.specs.Minimum.{IsTaken};
+ghost use Rattle.farkas.specs.Minimum.{IsTaken};
 ghost use Rattle.pluto_systems.specs.Placing.{columns_of, row_from, IsShaped};
 ghost use Rattle.pluto_systems.specs.Posing.{RuledDep, IsRuled, IsBetween, AreVectorsOf, HasPosed};
 ghost use Rattle.pluto_systems.specs.Posing.{posed_system};

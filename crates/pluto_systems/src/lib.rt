@@ -21,3 +21,6 @@ pub use null_space::{Rows, kernel_vectors};
 pub use posing::{posed, posed_over};
 pub use ruled::Ruled;
 pub use vectors::loops_in;
+
+// Passed on: what goes with this crate's contracts.
+pub use farkas::Stuck;

@@ -6,7 +6,7 @@ use Rattle.std.proofs.lemmas.List.Elements.{All-head, All-tail}
 use Rattle.scop_lexer.specs.Bytes.{Text}
 use Rattle.scop_syntax.specs.Members.{In}
 use Rattle.scop_syntax.specs.Tree.{Tree, loop, guard, statement, Trees, none, more, Program}
-use Rattle.scop_units.specs.Names.{AreDistinct}
+use Rattle.scop_parser.specs.DistinctNames.{AreDistinct}
 use Rattle.scop_parser.specs.Names.{HasFreeNames, IsFreeName, TakeFree, TakesFree}
 use Rattle.form_text.specs.Names.{AreNames, IsFresh}
 use Rattle.form_text.specs.Reading.{strip}

@@ -5,7 +5,7 @@ use Rattle.loop_tree.specs.Marks.{FlatAll}
 use Rattle.loop_tree.specs.Shape.{NestAllTo, TreesAreOf, TreesAreOver, TreesAreUpTo}
 use Rattle.loop_tree.specs.Tiling.{Tiling}
 use Rattle.loop_tree.specs.Tree.{Trees}
-use Rattle.plan_tree.specs.Trees.{AreTreesOf}
+use Rattle.kernel_plans.specs.Trees.{AreTreesOf}
 use Rattle.c_printer.specs.Printable.{AreNodes}
 use Rattle.polypar.specs.declared.told.Told as code
 use Rattle.polypar.specs.Told.{IsHeld, told_of}

@@ -11,8 +11,8 @@ use Rattle.loop_tree.specs.Runs.{MayRunAll}
 use Rattle.loop_tree.specs.Tiling.{Tiling}
 use Rattle.loop_tree.specs.Tree.{Trees}
 use Rattle.loop_tree.specs.Walk.{Visit, given, visits, walk_all}
-use Rattle.plan_tree.specs.Executions.{AreVisitsOf}
-use Rattle.plan_tree.specs.Trees.{AreEven, AreTreesOf, StandInOrder}
+use Rattle.kernel_plans.specs.Executions.{AreVisitsOf}
+use Rattle.kernel_plans.specs.Trees.{AreEven, AreTreesOf, StandInOrder}
 use Rattle.polypar.specs.Told.{Told}
 use Rattle.polypar.specs.Emitting.{ReadsAsLoops}
 use Rattle.polypar.specs.Running.{RunKernel, RunsKernel}

@@ -13,7 +13,7 @@ use Rattle.scop_syntax.specs.Writers.{last_writer}
 use Rattle.scop_syntax.proofs.Members.{in_front, in_back, in_from_place, place_of}
 use Rattle.iteration_domains.specs.Instances.{IsInstanceOf}
 use Rattle.iteration_domains.specs.Model.{Modelled, KernelModel, model_of}
-use Rattle.conflict_deps.specs.Pairs.{TouchesAt}
+use Rattle.dataflow.specs.Pairs.{TouchesAt}
 use Rattle.dataflow.specs.ReadSources.{reads_from, reads_of_statement, reads_in, reads_of, AreSources, NameLastWriters}
 use Rattle.dataflow.specs.Told.{AreTold}
 use Rattle.dataflow.specs.declared.source.ReadSource.{ReadSource}

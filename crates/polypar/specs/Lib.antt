@@ -10,3 +10,6 @@ pub mod Running
 pub mod Runs
 pub mod Sources
 pub mod Told
+-- Passed on: what this crate's contracts are told in.
+pub use Rattle.kernel_plans.specs.Planned
+pub use Rattle.kernel_plans.specs.Planning

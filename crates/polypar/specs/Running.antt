@@ -10,8 +10,8 @@ use Rattle.loop_tree.specs.Plans.{AreFree, Conflict, walked}
 use Rattle.loop_tree.specs.Runs.{MayRunAll}
 use Rattle.loop_tree.specs.Tree.{Trees}
 use Rattle.loop_tree.specs.Walk.{Visit, given, visits}
-use Rattle.plan_tree.specs.Executions.{AreVisitsOf}
-use Rattle.plan_tree.specs.Trees.{StandInOrder}
+use Rattle.kernel_plans.specs.Executions.{AreVisitsOf}
+use Rattle.kernel_plans.specs.Trees.{StandInOrder}
 use Rattle.c_printer.specs.Reading.{read_text}
 
 -- trees that run the kernel at these parameters: they visit each walked instance once; of two places of the walk that

@@ -6,7 +6,7 @@ use Rattle.scop_syntax.specs.Tree.{Program}
 use Rattle.loop_tree.specs.Plans.{walked}
 use Rattle.loop_tree.specs.Tiling.{Tiling}
 use Rattle.loop_tree.specs.Tree.{Trees}
-use Rattle.tile_list.specs.Counting.{HasTiles, HasWaves}
+use Rattle.kernel_plans.specs.Counting.{HasTiles, HasWaves}
 use Rattle.kernel_gen.specs.Cases.{contents, params, program}
 use Rattle.kernel_gen.specs.Summary.{summary_text}
 use Rattle.kernel_gen.specs.Totals.{cells_in, sum_of}

@@ -8,7 +8,7 @@ use Rattle.scop_syntax.specs.Tree.{Program}
 use Rattle.scop_syntax.specs.Walk.{Visit, walk_of}
 use Rattle.scop_syntax.specs.Writers.{last_writer}
 use Rattle.iteration_domains.specs.Model.{model_of}
-use Rattle.conflict_deps.specs.Pairs.{TouchesAt}
+use Rattle.dataflow.specs.Pairs.{TouchesAt}
 use Rattle.dataflow.specs.ReadSources.{reads_of, AreSources, NameLastWriters}
 use Rattle.dataflow.specs.Places.{Names}
 use Rattle.dataflow.specs.Told.{AreTold}

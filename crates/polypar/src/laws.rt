@@ -23,7 +23,7 @@ use c_printer::{
 };
 use data_text::written_cases_are_read_back;
 use iteration_domains::domain_laws::{accesses_touch_the_cells, domains_hold_the_instances};
-use plan_tree::laws::{loops_end_as_the_source_does, trees_keep_conflicts_in_order};
+use kernel_plans::{loops_end_as_the_source_does, trees_keep_conflicts_in_order};
 use scop_parser::laws::{spelled_names_are_words, spelled_programs_are_kernels};
 
 /// The text of the arrays of a kernel that a text spells, behind a line for each parameter, says these parameters and

@@ -2,7 +2,7 @@
 
 ghost use Rattle.std.specs.Prelude.{◌≡◌, ◌≤◌, ℕ, IfErr, IfOk, List, length, map, string_bytes, option_map};
 ghost use Rattle.scop_syntax.specs.View.{program_of};
-ghost use Rattle.tile_core.specs.Plans.{IsPlan, shape_of};
+ghost use Rattle.kernel_runs.specs.Plans.{IsPlan, shape_of};
 ghost use Rattle.kernel_runs.specs.Running.{AreExecuted};
 ghost use Rattle.report_text.specs.declared.status.Status.{Status};
 ghost use Rattle.polypar.specs.Deserves.{Deserves, IsVerdict};
@@ -15,7 +15,7 @@ use crate::run::{Ending, run};
 use command_line::{Command, CommandStop, command_of};
 use data_text::{said_once, texts_say_what_lines_describe};
 use io_ports::{Failed, Gate, Sink, Source};
-use kernel_runs::{By, OneWorker, Workers, run_on_threads};
+use kernel_runs::{By, OneWorker, Plan, Workers, run_on_threads};
 use report_text::{Status, status_line};
 use scop_parser::laws::{
     faults_leave_no_program, spelled_programs_are_kernels, texts_have_one_first_fault,
@@ -27,7 +27,6 @@ use scop_syntax::tree::Kernel;
 use std::alloc::{AllocError, Global};
 use std::sync::Wait;
 use std::thread::Threads;
-use tile_core::plan::Plan;
 
 /// Does what the words ask for, and tells a status other than Done on `err` as the last act. Whatever number of workers
 /// is asked for, one does the tiles of all, on the caller's thread: it starts no thread and waits for nobody.

@@ -12,10 +12,9 @@ ghost use Rattle.quast_text.specs.Text.{statement_name, test_text};
 ghost use Rattle.quast_text.specs.Waiting.{GoesOn, texts_of, weight, weights};
 ghost use Rattle.quast_text.specs.declared.writer.Rest.TheVariants as rest;
 
-use affine_forms::Form;
 use form_text::{put_bytes, put_form};
 use itoa::Buffer;
-use quast_trees::{Forms, Part, Place, Quast, Source};
+use quast_trees::{Form, Forms, Part, Place, Quast, Source};
 use std::alloc::{AllocError, Global};
 
 /// What waits, the nearest on top.

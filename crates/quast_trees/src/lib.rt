@@ -15,6 +15,9 @@ pub use node::{Forms, Node, Source};
 pub use place::{Part, Place};
 pub use quast::Quast;
 
+// Passed on: what goes with this crate's contracts.
+pub use affine_forms::Form;
+
 mod builder;
 mod laws;
 mod leaf;

@@ -11,10 +11,10 @@ use Rattle.scop_syntax.specs.Statements.{Placed, placed_all, in_guard_of, loops_
 use Rattle.scop_syntax.specs.Tree.{Program, guard}
 use Rattle.scop_syntax.proofs.Members.{in_from_place, in_map_from}
 use Rattle.scop_syntax.proofs.Statements.{length-placed}
-use Rattle.scop_units.specs.Names.{HasDistinctNames, header_names}
+use Rattle.scop_parser.specs.DistinctNames.{HasDistinctNames, header_names}
 use Rattle.iteration_domains.specs.Model.{Modelled, KernelModel, modelled, model_of}
 use Rattle.quast_trees.specs.Postfix.{tree_of}
-use Rattle.pip_solver.specs.declared.stop.Stop.TheVariants as solver
+use Rattle.dataflow.specs.Stop.TheVariants as solver
 use Rattle.dataflow.specs.ReadSources.{reads_of}
 use Rattle.dataflow.specs.Told.{IsQuastOver, IsToldStop, IsToldOver, IsToldAt, AreTold}
 use Rattle.dataflow.specs.declared.source.ReadSource.{ReadSource}

@@ -12,7 +12,7 @@ use Rattle.scop_lexer.specs.Words.{IsName}
 use Rattle.scop_syntax.specs.Members.{In, Sorted}
 use Rattle.scop_syntax.specs.Tree.{Declaration, Program}
 use Rattle.scop_syntax.proofs.Members.{in_front}
-use Rattle.scop_units.specs.Names.{HasDistinctNames, header_names}
+use Rattle.scop_parser.specs.DistinctNames.{HasDistinctNames, header_names}
 use Rattle.form_text.specs.Names.{IsFresh, AreNames}
 use Rattle.form_text.proofs.Names.{fresh_append, variable_name}
 use Rattle.quast_text.specs.Text.{bound_name}

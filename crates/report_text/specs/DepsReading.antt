@@ -1,7 +1,7 @@
 -- What the text of sources tells: each quast, and of each unresolved read why it is so.
 use Rattle.std.specs.Prelude.{◌≡◌, List, [], ◌∷◌, ⊤}
 use Rattle.quast_trees.specs.Postfix.{tree_of}
-use Rattle.pip_solver.specs.declared.stop.Stop.TheVariants as solver
+use Rattle.dataflow.specs.Stop.TheVariants as solver
 use Rattle.dataflow.specs.declared.source.ReadSource.{ReadSource}
 use Rattle.dataflow.specs.declared.source.ReadSource.TheVariants as source
 use Rattle.dataflow.specs.declared.source.SourceStop.{SourceStop}

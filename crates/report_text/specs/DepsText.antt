@@ -9,7 +9,7 @@ use Rattle.scop_lexer.specs.Bytes.{Text}
 use Rattle.scop_syntax.specs.Tree.{Access, Program}
 use Rattle.iteration_domains.specs.Model.{Modelled, model_of}
 use Rattle.quast_trees.specs.Postfix.{tree_of}
-use Rattle.pip_solver.specs.declared.stop.Stop.TheVariants as solver
+use Rattle.dataflow.specs.Stop.TheVariants as solver
 use Rattle.dataflow.specs.ReadSources.{reads_of}
 use Rattle.dataflow.specs.declared.source.ReadSource.{ReadSource}
 use Rattle.dataflow.specs.declared.source.ReadSource.TheVariants as source

@@ -8,3 +8,5 @@ pub mod Pieces
 pub mod ScheduleLines
 pub mod ScheduleText
 pub mod StatusText
+-- Passed on: what this crate's contracts are told in.
+pub use Rattle.schedule_rows.specs.Items

@@ -1,6 +1,6 @@
 -- The lines of a schedule's items, as the code makes them: item by item.
 use Rattle.std.specs.Prelude.{ℕ, suc, ◌==◌, Bool, false, List, [], ◌∷◌, ◌++◌, drop, if◌then◌else◌}
-use Rattle.farkas.specs.Unknowns.{Part}
+use Rattle.schedule_rows.specs.Unknowns.{Part}
 use Rattle.schedule_rows.specs.Schedule.{Item, row, scalar}
 use Rattle.schedule_rows.specs.declared.item.Band.{Band}
 use Rattle.schedule_rows.specs.declared.item.Part as code

@@ -3,7 +3,7 @@ use Rattle.std.specs.Prelude.{◌≡◌, ℕ, zero, suc, ◌+◌, Bool, ℤ, Lis
 use Rattle.std.specs.Prelude.{if◌then◌else◌}
 use Rattle.std.specs.Fmt.{signed_decimal}
 use Rattle.std.specs.List.{concat}
-use Rattle.farkas.specs.Unknowns.{Part}
+use Rattle.schedule_rows.specs.Unknowns.{Part}
 use Rattle.schedule_rows.specs.Items.{Row, Marked, Block, scalar, band}
 use Rattle.schedule_rows.specs.Outcomes.{IsSchedule}
 use Rattle.schedule_rows.specs.Schedule.{Scheduled, loops_in}

@@ -3,8 +3,8 @@ use Rattle.std.specs.Prelude.{ℕ, ℤ, List, [], ◌++◌, map, slice_index_or,
 use Rattle.std.specs.Fmt.{signed_decimal}
 use Rattle.scop_syntax.specs.Tree.{Program}
 use Rattle.scop_meaning.specs.declared.index.Outside.{Outside as Subscript}
-use Rattle.data_lines.specs.declared.refusal.DataRefusal.{DataRefusal}
-use Rattle.data_lines.specs.declared.refusal.DataRefusal.TheVariants as rule
+use Rattle.data_text.specs.DataRefusal.{DataRefusal}
+use Rattle.data_text.specs.DataRefusal.TheVariants as rule
 use Rattle.report_text.specs.declared.status.Status.{Status}
 use Rattle.report_text.specs.declared.status.Status.TheVariants.{Done, Usage, Refused, BadData, Outside, ReadFault}
 use Rattle.report_text.specs.declared.status.Status.TheVariants.{WriteFault, NoMemory}

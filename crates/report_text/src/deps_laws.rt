@@ -6,7 +6,7 @@ ghost use Rattle.scop_lexer.specs.Words.{IsName};
 ghost use Rattle.scop_syntax.specs.Kernel.{IsKernel};
 ghost use Rattle.scop_syntax.specs.Tree.{Program};
 ghost use Rattle.scop_parser.specs.Spelling.{SpellsProgram};
-ghost use Rattle.scop_units.specs.Names.{HasDistinctNames, header_names};
+ghost use Rattle.scop_parser.specs.DistinctNames.{HasDistinctNames, header_names};
 ghost use Rattle.iteration_domains.specs.Model.{model_of};
 ghost use Rattle.dataflow.specs.ReadSources.{reads_of};
 ghost use Rattle.dataflow.specs.Told.{AreTold};

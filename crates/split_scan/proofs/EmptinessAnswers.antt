@@ -8,7 +8,7 @@ use Rattle.whole_numbers.specs.Lists.{NotNegative}
 use Rattle.whole_numbers.proofs.Lists.{not_negative-append, not_negative_all}
 use Rattle.affine_forms.specs.Parts.{variables_of}
 use Rattle.integer_sets.specs.Constraints.{IsSized, system_of}
-use Rattle.lexmin_runs.specs.Emptiness.{IsBoundedPoint}
+use Rattle.pip_solver.specs.Emptiness.{IsBoundedPoint}
 use Rattle.fm_projection.specs.Alone.{AreInRange}
 use Rattle.fm_projection.proofs.Ranges.{fitted, fitted_length, satisfies_fitted}
 use Rattle.plain_scan.proofs.ConstraintLists.{of_rows}

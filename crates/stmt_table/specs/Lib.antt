@@ -2,3 +2,5 @@ pub mod Points
 pub mod Numbers
 pub mod Tables
 pub mod steps
+-- Passed on: what this crate's contracts are told in.
+pub use Rattle.scop_meaning.specs.Instances

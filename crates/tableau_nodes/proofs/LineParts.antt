@@ -11,10 +11,10 @@ use Rattle.whole_numbers.specs.Affine.{form_of}
 use Rattle.whole_numbers.proofs.Ring.{mul_sub_left, mul_neg_right, mul_one_right}
 use Rattle.whole_numbers.proofs.Euclid.{euclid_unique}
 use Rattle.whole_numbers.proofs.Remainders.{remainder_is}
-use Rattle.tableau_rows.specs.Rows.{Row}
-use Rattle.tableau_rows.specs.Moves.{line_row, cut_entries}
-use Rattle.lexmin_runs.specs.Nodes.{all_zero, same_list, taken_off}
-use Rattle.tableau_rows.proofs.Lines.{entry_at}
+use Rattle.checked_tableau.specs.Rows.{Row}
+use Rattle.checked_tableau.specs.Moves.{line_row, cut_entries}
+use Rattle.checked_tableau.specs.Nodes.{all_zero, same_list, taken_off}
+use Rattle.checked_tableau.proofs.Lines.{entry_at}
 
 -- the remainder of an opposite
 pub opposite-zero : (a d : ℤ) → pos 0 <ℤ d → remainder a d ≡ pos 0 → remainder (neg_ℤ a) d ≡ pos 0

@@ -4,11 +4,11 @@ use Rattle.std.specs.Prelude.{Some, None, Result, Ok, Err, IfOk, OnOk}
 use Rattle.wide_math.specs.declared.Wide.{Wide}
 use Rattle.wide_math.specs.Checked.{◌>>=◌}
 use Rattle.whole_numbers.specs.Affine.{Affine}
-use Rattle.tableau_rows.specs.Rows.{Row}
-use Rattle.tableau_rows.specs.Moves.{cut_run, row_at}
+use Rattle.checked_tableau.specs.Rows.{Row}
+use Rattle.checked_tableau.specs.Moves.{cut_run, row_at}
 use Rattle.checked_tableau.specs.Lines.{behind_columns}
-use Rattle.lexmin_runs.proofs.AddedParameters.{row_at-longer}
-use Rattle.lexmin_runs.specs.Nodes.{Next, goes, Counted, pivot, longer_row, at_least_run, under_run}
+use Rattle.checked_tableau.proofs.AddedParameters.{row_at-longer}
+use Rattle.checked_tableau.specs.Nodes.{Next, goes, Counted, pivot, longer_row, at_least_run, under_run}
 use Rattle.checked_tableau.specs.Table.{Table, table_of, resumed}
 use Rattle.tableau_nodes.specs.Node.{node_of, next_of, tied_run, ties_run, TiesRows, TiesParts, Moves}
 use Rattle.tableau_nodes.specs.Node.{Pivots, Keeps}

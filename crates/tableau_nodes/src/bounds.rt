@@ -1,6 +1,6 @@
 //! The parameters that cuts have bound, and the one that a form and a divisor have bound before.
 ghost use Rattle.std.specs.Prelude.{◌≡◌, ◌≤◌, ◌⊎◌, [], ◌∷◌, ◌++◌, IfOk, OnOk, OnErr};
-ghost use Rattle.lexmin_runs.specs.Nodes.{same_list, is_bound_as, place_of};
+ghost use Rattle.checked_tableau.specs.Nodes.{same_list, is_bound_as, place_of};
 
 use crate::parts::all_zero;
 use affine_forms::Form;
@@ -16,7 +16,7 @@ pub struct Bound {
 }
 
 impl Model for Bound {
-    ghost use Rattle.lexmin_runs.specs.Nodes.{Bound};
+    ghost use Rattle.checked_tableau.specs.Nodes.{Bound};
 
     ghost Value = { Bound };
 

@@ -5,7 +5,8 @@ ghost use Rattle.wide_math.specs.Gives.{Becomes};
 ghost use Rattle.whole_numbers.specs.Affine.{form_of};
 ghost use Rattle.affine_forms.specs.Gives.{Gives};
 ghost use Rattle.affine_forms.specs.Runs.{map_run};
-ghost use Rattle.lexmin_runs.specs.Nodes.{opposites_run, opposite_run, above_run, under_run, at_least_run, longer_form};
+ghost use Rattle.checked_tableau.specs.Nodes.{opposites_run, opposite_run, above_run, under_run};
+ghost use Rattle.checked_tableau.specs.Nodes.{at_least_run, longer_form};
 
 use affine_forms::{Form, FormStop, copies, map_in_place, push};
 use std::alloc::{AllocError, Global};
@@ -53,7 +54,7 @@ fn extended(
 }
 
 /// -f - 1: the coefficients in order, then the constant, and 1 taken off it.
-#[tactic(auto, unfolding(lexmin_runs::specs::Nodes::opposite_run))]
+#[tactic(auto, unfolding(crate::specs::Node::opposite_run))]
 pub fn opposite(alloc: Global, form: &Form) -> Result<Form, FormStop>
     ensures { Gives (λ f. f) result (opposite_run form.now) }
 {
@@ -72,7 +73,7 @@ pub fn opposite(alloc: Global, form: &Form) -> Result<Form, FormStop>
 }
 
 /// f - d q - 1, over one unknown q more.
-#[tactic(auto, unfolding(lexmin_runs::specs::Nodes::above_run))]
+#[tactic(auto, unfolding(crate::specs::Node::above_run))]
 pub fn above(alloc: Global, divisor: i128, form: &Form) -> Result<Form, FormStop>
     ensures { Gives (λ f. f) result (above_run divisor form.now) }
 {
@@ -87,7 +88,7 @@ pub fn above(alloc: Global, divisor: i128, form: &Form) -> Result<Form, FormStop
 }
 
 /// d q + d - 1 - f, over one unknown q more.
-#[tactic(auto, unfolding(lexmin_runs::specs::Nodes::under_run))]
+#[tactic(auto, unfolding(crate::specs::Node::under_run))]
 pub fn under(alloc: Global, divisor: i128, form: &Form) -> Result<Form, FormStop>
     ensures { Gives (λ f. f) result (under_run divisor form.now) }
 {
@@ -106,7 +107,7 @@ pub fn under(alloc: Global, divisor: i128, form: &Form) -> Result<Form, FormStop
 }
 
 /// f - d q, over one unknown q more.
-#[tactic(auto, unfolding(lexmin_runs::specs::Nodes::at_least_run))]
+#[tactic(auto, unfolding(crate::specs::Node::at_least_run))]
 pub fn at_least(alloc: Global, divisor: i128, form: &Form) -> Result<Form, FormStop>
     ensures { Gives (λ f. f) result (at_least_run divisor form.now) }
 {

@@ -13,3 +13,6 @@ pub use bounds::Bound;
 pub use forms::{above, at_least, longer_forms, oppose, opposite, under};
 pub use node::{Move, Tableau};
 pub use parts::{all_zero, constant_of, is_constant, part_of};
+
+// Passed on: what goes with this crate's contracts.
+pub use checked_tableau::{Problem, Rows, TableauStop, remainder_of};

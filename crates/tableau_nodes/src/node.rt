@@ -4,10 +4,10 @@ ghost use Rattle.std.specs.Prelude.{◌≡◌, ℕ, ◌+◌, ◌<◌, length, Al
 ghost use Rattle.affine_forms.specs.Gives.{Gives};
 ghost use Rattle.affine_forms.specs.Parts.{variables_of};
 ghost use Rattle.wide_math.specs.declared.Wide.{Wide};
-ghost use Rattle.tableau_rows.specs.Moves.{row_at};
-ghost use Rattle.tableau_rows.specs.Problem.{problem_of};
-ghost use Rattle.lexmin_runs.specs.Nodes.{first_node, goes, opposite_run, part_of, side, split, cut, taken_off};
-ghost use Rattle.lexmin_runs.specs.Solutions.{ArePlaced, IsNode};
+ghost use Rattle.checked_tableau.specs.Moves.{row_at};
+ghost use Rattle.checked_tableau.specs.Problem.{problem_of};
+ghost use Rattle.checked_tableau.specs.Nodes.{first_node, goes, opposite_run, part_of, side, split, cut, taken_off};
+ghost use Rattle.checked_tableau.specs.Solutions.{ArePlaced, IsNode};
 ghost use Rattle.checked_tableau.specs.declared.stop.TableauStop.TheVariants as stop;
 ghost use Rattle.tableau_nodes.specs.declared.node.Move.TheVariants as move;
 ghost use Rattle.tableau_nodes.specs.Node.{node_of, next_of, IsGoing, Keeps, Pivots, Moves, cut_known, cut_new};

@@ -1,8 +1,8 @@
 //! The forms over the parameters that are read off a row: its part, and what a cut on it takes off.
 ghost use Rattle.std.specs.Prelude.{◌≡◌, ◌<◌, ◌≤ℤ◌, pos, neg_ℤ, length, map, None, IfOk};
 ghost use Rattle.whole_numbers.specs.Floor.{remainder};
-ghost use Rattle.tableau_rows.specs.Moves.{row_at};
-ghost use Rattle.lexmin_runs.specs.Nodes.{all_zero, part_of, taken_off};
+ghost use Rattle.checked_tableau.specs.Moves.{row_at};
+ghost use Rattle.checked_tableau.specs.Nodes.{all_zero, part_of, taken_off};
 
 use affine_forms::Form;
 use checked_tableau::{Rows, remainder_of};

@@ -1,8 +1,8 @@
 //! What ties a new parameter, the quotient of a form by a divisor: a cut over it, and two forms.
 ghost use Rattle.std.specs.Prelude.{◌≡◌, ◌<◌, length, None, Some};
 ghost use Rattle.affine_forms.specs.Gives.{Gives};
-ghost use Rattle.tableau_rows.specs.Moves.{row_at, cut_run};
-ghost use Rattle.lexmin_runs.specs.Nodes.{longer_row};
+ghost use Rattle.checked_tableau.specs.Moves.{row_at, cut_run};
+ghost use Rattle.checked_tableau.specs.Nodes.{longer_row};
 ghost use Rattle.checked_tableau.specs.Lines.{behind_columns};
 ghost use Rattle.tableau_nodes.specs.Node.{tied_run, ties_run, TiesParts, TiesRows};
 

@@ -11,9 +11,9 @@ use borrow.Rule.Slice.PartMut.{put_mid, same_len_mid}
 use Rattle.std.proofs.Math.Seq.{take-append_seam, drop-append_seam}
 use Rattle.whole_numbers.specs.Content.{lowest}
 use Rattle.whole_numbers.proofs.Order.{mul_positive}
-use Rattle.wide_math.specs.declared.Wide.{Wide}
-use Rattle.wide_math.specs.Checked.{product_of, ◌>>=◌}
-use Rattle.wide_math.proofs.Steps.{chain-ok, product_of-ok}
+use Rattle.affine_forms.specs.Wide.{Wide}
+use Rattle.affine_forms.specs.Checked.{product_of, ◌>>=◌}
+use Rattle.affine_forms.proofs.CheckedSteps.{chain-ok, product_of-ok}
 use Rattle.affine_forms.proofs.Steps.{with_front}
 use Rattle.tableau_rows.specs.Moves.{entries_run, line_run, lowest_line_run, placed_line_run, buffer_run, HeadsPositive}
 

@@ -19,8 +19,8 @@ use Rattle.whole_numbers.proofs.Ring.{mul_comm_int, mul_zero_left, mul_sub_left,
 use Rattle.whole_numbers.proofs.Ring.{mul_assoc_int, mul_neg_left}
 use Rattle.whole_numbers.proofs.Order.{mul_not_negative, factor_up}
 use Rattle.whole_numbers.proofs.Dot.{dot-set_left, dot-nil}
-use Rattle.wide_math.specs.Checked.{difference_of, ◌>>=◌}
-use Rattle.wide_math.proofs.Steps.{difference_of-ok, chain-ok}
+use Rattle.affine_forms.specs.Checked.{difference_of, ◌>>=◌}
+use Rattle.affine_forms.proofs.CheckedSteps.{difference_of-ok, chain-ok}
 
 pub remainder_in : (a d : ℤ) → pos 0 <ℤ d → (pos 0 ≤ℤ remainder a d) × (remainder a d <ℤ d)
 remainder_in a d positive =

@@ -2,9 +2,9 @@
 use Rattle.std.proofs.Common.{◌≡◌, ℕ, zero, suc, ◌+◌, ◌<◌, ℤ, pos, List, [], ◌∷◌, ◌++◌, length, set, get_or, drop, take}
 use Rattle.std.proofs.Common.{refl, subst, ap, sym, ◌∙◌, arith, add-one, drop-cons}
 use Rattle.std.specs.Prelude.{Result, Ok, Err}
-use Rattle.wide_math.specs.declared.Wide.{Wide}
-use Rattle.wide_math.specs.Checked.{product_of, cross_of, ◌>>=◌}
-use Rattle.wide_math.specs.Gives.{Becomes}
+use Rattle.affine_forms.specs.Wide.{Wide}
+use Rattle.affine_forms.specs.Checked.{product_of, cross_of, ◌>>=◌}
+use Rattle.affine_forms.specs.WideGives.{Becomes}
 use Rattle.std.proofs.lemmas.List.{take-append-drop, length-take-le}
 use Rattle.tableau_rows.specs.Rows.{entry}
 use Rattle.tableau_rows.specs.Moves.{crossed_run, entries_run, line_run, line_row}

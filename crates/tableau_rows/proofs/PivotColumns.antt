@@ -9,8 +9,8 @@ use native.Mathlib.Decide.{ℕ_discrete}
 use Rattle.whole_numbers.specs.Lexicographic.{LexNotNegative}
 use Rattle.whole_numbers.proofs.Ring.{mul_comm_int, mul_zero_left, mul_zero_right, mul_sub_left, left_comm}
 use Rattle.whole_numbers.proofs.Order.{mul_positive, mul_not_negative, cancel_eq, positive_factor}
-use Rattle.wide_math.specs.Checked.{product_of, ◌>>=◌}
-use Rattle.wide_math.proofs.Steps.{product_of-ok, chain-ok}
+use Rattle.affine_forms.specs.Checked.{product_of, ◌>>=◌}
+use Rattle.affine_forms.proofs.CheckedSteps.{product_of-ok, chain-ok}
 use Rattle.tableau_rows.specs.Rows.{Row, entry}
 use Rattle.tableau_rows.specs.Moves.{is_below, is_positive, precedes_run, challenged_run, better_run, column_run}
 use Rattle.tableau_rows.specs.Moves.{row_at, rows_run, pivot_in, pivot_run}

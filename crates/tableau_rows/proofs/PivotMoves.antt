@@ -9,8 +9,8 @@ use Rattle.whole_numbers.specs.Lists.{multiples, zeros}
 use Rattle.whole_numbers.proofs.Ring.{mul_comm_int, mul_zero_right, mul_one_right, mul_zero_left}
 use Rattle.whole_numbers.proofs.Order.{mul_positive, cancel_lt}
 use Rattle.whole_numbers.proofs.Dot.{length-multiples}
-use Rattle.wide_math.specs.Checked.{product_of, cross_of, ◌>>=◌}
-use Rattle.wide_math.proofs.Steps.{product_of-ok, chain-ok, cross_of-exact}
+use Rattle.affine_forms.specs.Checked.{product_of, cross_of, ◌>>=◌}
+use Rattle.affine_forms.proofs.CheckedSteps.{product_of-ok, chain-ok, cross_of-exact}
 use Rattle.tableau_rows.specs.Rows.{Row, row_of, entry, Sized}
 use Rattle.tableau_rows.specs.Moves.{lowest_row, unit_row, crossed_run, entries_run, row_run, placed_run, rows_run}
 use Rattle.tableau_rows.specs.Moves.{row_at}

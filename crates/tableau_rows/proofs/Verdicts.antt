@@ -15,8 +15,8 @@ use Rattle.whole_numbers.specs.Division.{IsFloor}
 use Rattle.whole_numbers.specs.Lexicographic.{LexLe}
 use Rattle.whole_numbers.proofs.Ring.{mul_one_right, mul_zero_left, mul_zero_right}
 use Rattle.whole_numbers.proofs.Lexicographic.{LexLess-from_le, LexLess-irrefl}
-use Rattle.wide_math.specs.declared.Wide.{Wide}
-use Rattle.wide_math.proofs.Steps.{chain-ok}
+use Rattle.affine_forms.specs.Wide.{Wide}
+use Rattle.affine_forms.proofs.CheckedSteps.{chain-ok}
 use Rattle.tableau_rows.specs.Rows.{Row, entry, Means, Sized}
 use Rattle.tableau_rows.specs.Moves.{is_positive, row_at, cut_run, cut_entries}
 use Rattle.tableau_rows.specs.Problem.{first_rows, Speaks}

@@ -9,9 +9,9 @@ use Rattle.std.proofs.Math.Nat.{suc-mul}
 use Rattle.whole_numbers.specs.Content.{lowest}
 use Rattle.whole_numbers.specs.Lists.{zeros}
 use Rattle.whole_numbers.proofs.Dot.{length-zeros}
-use Rattle.wide_math.specs.declared.Wide.{Wide}
-use Rattle.wide_math.specs.Checked.{product_of, ◌>>=◌}
-use Rattle.wide_math.proofs.Steps.{chain-ok}
+use Rattle.affine_forms.specs.Wide.{Wide}
+use Rattle.affine_forms.specs.Checked.{product_of, ◌>>=◌}
+use Rattle.affine_forms.proofs.CheckedSteps.{chain-ok}
 use Rattle.tableau_rows.specs.Rows.{Row, row_of}
 use Rattle.tableau_rows.specs.Moves.{entries_run, line_run, lowest_row, lowest_line_run, unit_row, unit_line}
 use Rattle.tableau_rows.specs.Moves.{placed_line_run, buffer_run, row_run, rows_run, line_row, rows_in}

@@ -6,8 +6,8 @@ use Rattle.std.specs.Prelude.{Result, Ok}
 use Rattle.whole_numbers.specs.Lists.{zeros}
 use Rattle.whole_numbers.specs.Floor.{remainder, floor, floors}
 use Rattle.whole_numbers.specs.Content.{content, lowest}
-use Rattle.wide_math.specs.declared.Wide.{Wide}
-use Rattle.wide_math.specs.Checked.{difference_of, product_of, cross_of, ◌>>=◌}
+use Rattle.affine_forms.specs.Wide.{Wide}
+use Rattle.affine_forms.specs.Checked.{difference_of, product_of, cross_of, ◌>>=◌}
 use Rattle.affine_forms.specs.Runs.{zip_run}
 use Rattle.tableau_rows.specs.Rows.{Row, row_of, entry}
 

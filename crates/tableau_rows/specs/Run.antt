@@ -2,8 +2,8 @@
 use Rattle.std.specs.Prelude.{ℕ, zero, suc, ℤ, Bool, true, false, if◌then◌else◌, List, [], ◌∷◌, ◌++◌, map, take, Option}
 use Rattle.std.specs.Prelude.{Some, None, Result, Ok, Err}
 use Rattle.whole_numbers.specs.Floor.{floor, remainder}
-use Rattle.wide_math.specs.declared.Wide.{Wide}
-use Rattle.wide_math.specs.Checked.{◌>>=◌}
+use Rattle.affine_forms.specs.Wide.{Wide}
+use Rattle.affine_forms.specs.Checked.{◌>>=◌}
 use Rattle.tableau_rows.specs.Rows.{Row, entry}
 use Rattle.tableau_rows.specs.Moves.{is_below, is_positive, row_at, pivot_run, cut_run}
 use Rattle.tableau_rows.specs.Problem.{Problem, IsLexmin, IsEmpty, first_rows}

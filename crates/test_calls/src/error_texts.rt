@@ -3,11 +3,10 @@
 use crate::made::{problem, system};
 use affine_forms::FormStop;
 use checked_tableau::TableauStop;
-use farkas::Stuck;
 use fm_projection::FmStop;
 use io_ports::Failed;
 use pip_solver::Stop;
-use pluto_search::Kept;
+use pluto_search::{Kept, Stuck};
 use std::alloc::Global;
 use std::fmt::Display;
 use std::test::Fail;

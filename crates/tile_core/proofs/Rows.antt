@@ -14,7 +14,7 @@ use Rattle.scop_syntax.specs.View.{instance_of}
 use Rattle.scop_syntax.specs.Walk.{Visit}
 use Rattle.scop_syntax.specs.declared.instance.Instance.{Instance as CodeInstance}
 use Rattle.scop_syntax.proofs.Members.{in_from_place}
-use Rattle.scop_meaning.specs.Instances.{IsVisitOf, values_wanted}
+use Rattle.stmt_table.specs.Instances.{IsVisitOf, values_wanted}
 use Rattle.stmt_table.specs.Tables.{forms_in, rights_in}
 use Rattle.stmt_table.proofs.Visits.{HasRow, WalkLaws, cell_told, reads_told, row_of, value_told}
 use Rattle.tile_events.specs.Flat.{read_by, value_by}

@@ -17,3 +17,6 @@ mod statement_sets;
 
 pub use items::tiling;
 pub use statement_sets::tiled;
+
+// Passed on: what goes with this crate's contracts.
+pub use schedule_rows::{Schedule, schedules_have_small_items};

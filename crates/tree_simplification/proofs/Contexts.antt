@@ -20,7 +20,7 @@ use Rattle.whole_numbers.proofs.Values.{length-widened}
 use Rattle.affine_forms.specs.Parts.{variables_of}
 use Rattle.fm_projection.specs.Alone.{AreInRange}
 use Rattle.integer_sets.specs.Constraints.{system_of}
-use Rattle.lexmin_runs.specs.Emptiness.{IsBoundedPoint}
+use Rattle.pip_solver.specs.Emptiness.{IsBoundedPoint}
 use Rattle.scop_syntax.proofs.Members.{both, holds_le_z, le_z_holds}
 use Rattle.loop_tree.specs.Fits.{form_in}
 use Rattle.loop_tree.specs.Marks.{AreBounds}

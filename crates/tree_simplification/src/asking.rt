@@ -4,7 +4,7 @@ ghost use Rattle.std.specs.Prelude.{◌≡◌, ◌+◌, ◌++◌, ◌≤ℤ◌, 
 ghost use Rattle.whole_numbers.specs.Affine.{value_of};
 ghost use Rattle.whole_numbers.specs.Lists.{NotNegative};
 ghost use Rattle.affine_forms.specs.Parts.{variables_of};
-ghost use Rattle.lexmin_runs.specs.Emptiness.{IsBoundedPoint};
+ghost use Rattle.pip_solver.specs.Emptiness.{IsBoundedPoint};
 ghost use Rattle.loop_tree.specs.Fits.{form_in};
 ghost use Rattle.loop_tree.specs.View.{test_of};
 ghost use Rattle.loop_tree.specs.Walk.{holds};

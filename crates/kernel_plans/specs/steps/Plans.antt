@@ -6,8 +6,8 @@ use Rattle.loop_tree.specs.Tiling.{kept}
 use Rattle.loop_tree.specs.TilingView.{tiling_of}
 use Rattle.loop_tree.specs.Tree.{Trees}
 use Rattle.loop_tree.specs.View.{trees_in}
-use Rattle.schedule_rows.specs.Schedule.{Scheduled, IsScheduled}
-use Rattle.tile_skew.specs.Tilings.{schedule_tiling}
+use Rattle.pluto_search.specs.Schedule.{Scheduled, IsScheduled}
+use Rattle.plan_tree.specs.Tilings.{schedule_tiling}
 use Rattle.plan_tree.specs.Trees.{AreTreesOf}
 use Rattle.report_text.specs.declared.kept_line.KeptLine.{KeptLine}
 use Rattle.kernel_plans.specs.declared.plans.Planned.{Planned}

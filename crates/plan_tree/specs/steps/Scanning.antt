@@ -1,6 +1,6 @@
 -- What a tree that scans the sets of a schedule is, and where its visits stand.
 use Rattle.std.specs.Prelude.{◌≡◌, ℕ, zero, ◌^◌, ◌<◌, ◌≤◌, ℤ, pos, List, [], length, map}
-use Rattle.fm_projection.specs.Alone.{AreInRange}
+use Rattle.plain_scan.specs.Alone.{AreInRange}
 use Rattle.scop_syntax.specs.Kernel.{IsKernel}
 use Rattle.scop_syntax.specs.Members.{In}
 use Rattle.scop_syntax.specs.Tree.{Program}
@@ -8,7 +8,7 @@ use Rattle.scop_syntax.specs.Walk.{Instance, instance, Visit as Walked}
 use Rattle.integer_sets.specs.Scanned.{Scanned}
 use Rattle.iteration_domains.specs.Instances.{IsInstanceOf}
 use Rattle.iteration_domains.specs.Model.{Modelled, model_of}
-use Rattle.conflict_deps.specs.Conflicts.{conflicts_of}
+use Rattle.tile_skew.specs.Conflicts.{conflicts_of}
 use Rattle.loop_tree.specs.Fits.{FitsAll}
 use Rattle.loop_tree.specs.Marks.{FlatAll, MarksAll}
 use Rattle.loop_tree.specs.Plans.{AreInOrder}
@@ -16,9 +16,9 @@ use Rattle.loop_tree.specs.Scans.{Exact}
 use Rattle.loop_tree.specs.Shape.{NestAllTo, TreesAreOver, TreesAreUpTo}
 use Rattle.loop_tree.specs.Tree.{Trees}
 use Rattle.loop_tree.specs.Walk.{Visit, given, walk_all}
-use Rattle.schedule_rows.specs.Items.{Block}
-use Rattle.schedule_rows.specs.Outcomes.{IsSchedule}
-use Rattle.schedule_rows.specs.Schedule.{loops_in}
+use Rattle.tile_skew.specs.Items.{Block}
+use Rattle.tile_skew.specs.Outcomes.{IsSchedule}
+use Rattle.tile_skew.specs.Schedule.{loops_in}
 use Rattle.tile_skew.specs.Places.{place_of}
 use Rattle.tile_skew.specs.ScanSets.{most_iterators, scan_set, scan_sets}
 use Rattle.tile_skew.specs.Tilings.{statement_items}

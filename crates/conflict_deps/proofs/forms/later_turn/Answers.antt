@@ -1,7 +1,7 @@
 use Rattle.std.proofs.Common.{◌≡◌, ◌≤◌, subst, sym, ap, ◌∙◌, arith}
 use Rattle.whole_numbers.specs.Affine.{Affine}
 use Rattle.whole_numbers.proofs.Dot.{length-zeros}
-use Rattle.affine_forms.specs.Parts.{variables_of}
+use Rattle.iteration_domains.specs.Parts.{variables_of}
 use Rattle.iteration_domains.specs.Sizes.{form_size}
 use Rattle.conflict_deps.proofs.Shapes.{length-step, size-step, size-one}
 use Rattle.conflict_deps.proofs.forms.later_turn.Goals as goal

@@ -1,5 +1,5 @@
 use Rattle.std.proofs.Common.{◌++◌}
-use Rattle.whole_numbers.proofs.Lexicographic.{IsLeast-unique}
+use Rattle.affine_forms.proofs.Lexicographic.{IsLeast-unique}
 use Rattle.integer_sets.specs.Points.{Satisfies}
 use Rattle.integer_sets.proofs.laws.least_point_is_unique.Goals as goal
 

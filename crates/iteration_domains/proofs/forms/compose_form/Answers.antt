@@ -1,7 +1,7 @@
 use Rattle.std.proofs.Common.{◌≡◌, Err}
-use Rattle.affine_forms.specs.declared.stop.FormStop.TheVariants.{Wide as TooWide}
-use Rattle.affine_forms.specs.Gives.{Fails}
-use Rattle.affine_forms.specs.Runs.{compose_run}
+use Rattle.integer_sets.specs.FormStop.TheVariants.{Wide as TooWide}
+use Rattle.integer_sets.specs.FormGives.{Fails}
+use Rattle.integer_sets.specs.FormRuns.{compose_run}
 use Rattle.iteration_domains.proofs.SmallRuns.{compose_small}
 use Rattle.iteration_domains.proofs.forms.compose_form.Goals as goal
 

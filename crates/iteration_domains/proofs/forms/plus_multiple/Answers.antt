@@ -2,9 +2,9 @@ use Rattle.std.proofs.Common.{◌≡◌, ℤ, Ok, Err, rules, FitsSigned, to_z, 
 use Rattle.std.specs.Int.{w128}
 use Rattle.std.proofs.lemmas.Int.{to_z-of_z}
 use Rattle.whole_numbers.specs.Affine.{Affine}
-use Rattle.affine_forms.specs.declared.stop.FormStop.TheVariants.{Wide as TooWide}
-use Rattle.affine_forms.specs.Gives.{Fails}
-use Rattle.affine_forms.specs.Runs.{forms_sum_run}
+use Rattle.integer_sets.specs.FormStop.TheVariants.{Wide as TooWide}
+use Rattle.integer_sets.specs.FormGives.{Fails}
+use Rattle.integer_sets.specs.FormRuns.{forms_sum_run}
 use Rattle.iteration_domains.proofs.SmallRuns.{sum_small}
 use Rattle.iteration_domains.proofs.forms.plus_multiple.Goals as goal
 

@@ -6,7 +6,7 @@ use Rattle.std.proofs.Math.ListN.{length-set}
 use Rattle.whole_numbers.specs.Affine.{form_of}
 use Rattle.whole_numbers.specs.Lists.{zeros}
 use Rattle.whole_numbers.proofs.Dot.{replicate-zeros}
-use Rattle.affine_forms.proofs.Steps.{refill_same}
+use Rattle.integer_sets.proofs.FormSteps.{refill_same}
 use Rattle.iteration_domains.proofs.forms.term_form.Goals as goal
 
 pub returns : goal.returns

@@ -4,7 +4,7 @@ use Rattle.std.specs.Prelude.{unsigned_abs}
 use Rattle.std.specs.Int.{w64, w128}
 use Rattle.std.proofs.lemmas.Int.{to_z-of_z, fits_signed_from_abs}
 use Rattle.whole_numbers.specs.Affine.{Affine, composed}
-use Rattle.affine_forms.specs.Parts.{variables_of}
+use Rattle.integer_sets.specs.Parts.{variables_of}
 use Rattle.scop_syntax.specs.Tree.{Head}
 use Rattle.iteration_domains.specs.Sizes.{CanCompose, form_size, forms_size}
 use Rattle.iteration_domains.proofs.Surroundings.{can_compose, length-variable}

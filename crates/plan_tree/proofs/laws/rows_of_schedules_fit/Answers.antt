@@ -1,5 +1,5 @@
 use Rattle.loop_tree.specs.Walk.{visits}
-use Rattle.schedule_rows.specs.Schedule.{loops_in}
+use Rattle.tile_skew.specs.Schedule.{loops_in}
 use Rattle.plan_tree.specs.Trees.{tiling_of}
 use Rattle.plan_tree.proofs.Rows.{tiled_rows_fit}
 use Rattle.plan_tree.proofs.WalkedVisits.{are_walked}

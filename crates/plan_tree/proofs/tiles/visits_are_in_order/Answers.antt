@@ -1,7 +1,7 @@
 use Rattle.std.proofs.Common.{length}
 use Rattle.iteration_domains.specs.Model.{model_of}
-use Rattle.schedule_rows.specs.Schedule.{loops_in}
-use Rattle.conflict_deps.specs.Conflicts.{conflicts_of}
+use Rattle.tile_skew.specs.Schedule.{loops_in}
+use Rattle.tile_skew.specs.Conflicts.{conflicts_of}
 use Rattle.tile_skew.specs.ScanSets.{most_iterators}
 use Rattle.tile_skew.proofs.AlikeSets.{within_most}
 use Rattle.tile_skew.proofs.Counts.{most_few}

@@ -1,5 +1,5 @@
 use Rattle.std.proofs.Common.{◌≡◌, ◌++◌, map}
-use Rattle.farkas.specs.declared.stuck.Stuck.TheVariants as stuck
+use Rattle.pluto_systems.specs.Stuck.TheVariants as stuck
 use Rattle.pluto_systems.specs.Posing.{dep_of}
 use Rattle.pluto_search.specs.Questions.{AreRuledBy, StopsRowsOf}
 use Rattle.pluto_search.specs.Steps.{AllRuled}

@@ -1,7 +1,7 @@
 use Rattle.std.proofs.Common.{ap, subst, List, ℤ, Ok, Err}
 use Rattle.std.specs.Prelude.{Bool, true, Result}
 use Rattle.integer_sets.specs.Constraints.{Constraints}
-use Rattle.lexmin_runs.specs.Emptiness.{IsBoundedPoint, HasBoundedPoint}
+use Rattle.pip_solver.specs.Emptiness.{IsBoundedPoint, HasBoundedPoint}
 use Rattle.iteration_domains.specs.Dependence.{Dependence, IsDependence}
 use Rattle.pluto_search.specs.declared.kept.Kept.TheVariants as kept
 use Rattle.pluto_search.proofs.Emptiness.{empty_is, point_is}

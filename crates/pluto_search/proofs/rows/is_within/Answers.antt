@@ -2,7 +2,7 @@ use Rattle.std.proofs.Common.{rules, ◌≡◌, ℕ, ◌<◌, pos, List, arith, 
 use Rattle.std.specs.Prelude.{◌≤ℤ◌, slice_index_or}
 use Rattle.std.proofs.lemmas.List.{get_or-map, length-map, drop_all}
 use Rattle.std.proofs.lemmas.List.Elements.{All-nil, All-map, All-get_or}
-use Rattle.farkas.specs.Unknowns as unknowns
+use Rattle.pluto_systems.specs.Unknowns as unknowns
 use Rattle.schedule_rows.specs.declared.item.Part as code_part
 use Rattle.pluto_search.proofs.RestrictedDependences.{all_next}
 use Rattle.pluto_search.proofs.NextStates.{plain_part}

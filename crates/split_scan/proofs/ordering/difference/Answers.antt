@@ -2,7 +2,7 @@ use Rattle.std.proofs.Common.{◌≡◌, ◌∙◌, ◌+◌, sym, ap, ℤ, pos, 
 use Rattle.whole_numbers.specs.Lists.{zeros}
 use Rattle.whole_numbers.specs.Affine.{form_of}
 use Rattle.whole_numbers.proofs.Dot.{replicate-zeros}
-use Rattle.wide_math.specs.declared.Wide.{Wide}
+use Rattle.integer_sets.specs.Wide.{Wide}
 use Rattle.fm_projection.proofs.RemovedEntries.{same_ok}
 use Rattle.split_scan.proofs.ordering.difference.Goals as goal
 

@@ -1,7 +1,7 @@
 use Rattle.std.proofs.Common.{◌≡◌, true, rules, ap, subst, ◌∙◌, List, [], ℤ, Ok}
 use Rattle.whole_numbers.specs.Affine.{Affine}
 use Rattle.integer_sets.specs.Constraints.{Constraints, system_of}
-use Rattle.lexmin_runs.specs.Emptiness.{IsBoundedPoint}
+use Rattle.pip_solver.specs.Emptiness.{IsBoundedPoint}
 use Rattle.split_scan.proofs.EmptinessAnswers.{none_of}
 use Rattle.split_scan.proofs.questions.has_none.Goals as goal
 

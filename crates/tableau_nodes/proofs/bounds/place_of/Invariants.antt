@@ -1,5 +1,5 @@
 use Rattle.std.proofs.Common.{◌≡◌, drop}
-use Rattle.lexmin_runs.specs.Nodes.{place_of}
+use Rattle.checked_tableau.specs.Nodes.{place_of}
 use Rattle.tableau_nodes.proofs.bounds.place_of.Given as goal
 
 abbrev pub invariant-loop-bound : goal.invariant-loop-bound

@@ -1,5 +1,5 @@
 use Rattle.std.proofs.Common.{◌≡◌, ◌∙◌, ap, sym, subst, drop, List, ℤ, ℕ, arith}
-use Rattle.lexmin_runs.specs.Nodes.{all_zero, same_list}
+use Rattle.checked_tableau.specs.Nodes.{all_zero, same_list}
 use Rattle.tableau_nodes.proofs.LineParts.{same-then, same-else}
 use Rattle.tableau_nodes.proofs.bounds.same_list.Goals as goal
 

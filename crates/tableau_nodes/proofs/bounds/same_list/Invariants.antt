@@ -1,5 +1,5 @@
 use Rattle.std.proofs.Common.{◌≡◌, drop}
-use Rattle.lexmin_runs.specs.Nodes.{same_list}
+use Rattle.checked_tableau.specs.Nodes.{same_list}
 use Rattle.tableau_nodes.proofs.bounds.same_list.Given as goal
 
 abbrev pub invariant-loop-at : goal.invariant-loop-at

@@ -1,7 +1,7 @@
 use Rattle.std.proofs.Common.{◌∙◌, List, map, ap, arith}
 use Rattle.std.proofs.lemmas.List.{take_all}
 use Rattle.whole_numbers.specs.Affine.{Affine}
-use Rattle.lexmin_runs.specs.Nodes.{longer_form}
+use Rattle.checked_tableau.specs.Nodes.{longer_form}
 use Rattle.tableau_nodes.proofs.CopiedLists.{mapped_more}
 use Rattle.tableau_nodes.proofs.forms.longer_forms.Goals as goal
 

@@ -1,5 +1,5 @@
 use Rattle.std.proofs.Common.{◌≡◌, map, take}
-use Rattle.lexmin_runs.specs.Nodes.{longer_form}
+use Rattle.checked_tableau.specs.Nodes.{longer_form}
 use Rattle.tableau_nodes.proofs.forms.longer_forms.Given as goal
 
 abbrev pub invariant-loop-form : goal.invariant-loop-form

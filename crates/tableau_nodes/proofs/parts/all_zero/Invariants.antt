@@ -1,5 +1,5 @@
 use Rattle.std.proofs.Common.{◌≡◌, drop}
-use Rattle.lexmin_runs.specs.Nodes.{all_zero}
+use Rattle.checked_tableau.specs.Nodes.{all_zero}
 use Rattle.tableau_nodes.proofs.parts.all_zero.Given as goal
 
 abbrev pub invariant-loop-number : goal.invariant-loop-number

@@ -4,8 +4,8 @@ use Rattle.std.specs.Int.{w128}
 use Rattle.std.proofs.lemmas.Int.{to_z-of_z}
 use Rattle.whole_numbers.specs.Floor.{remainder}
 use Rattle.whole_numbers.specs.Affine.{form_of}
-use Rattle.tableau_rows.specs.Moves.{row_at}
-use Rattle.lexmin_runs.specs.Nodes.{taken_off}
+use Rattle.checked_tableau.specs.Moves.{row_at}
+use Rattle.checked_tableau.specs.Nodes.{taken_off}
 use Rattle.tableau_nodes.proofs.LineParts.{taken-off-line}
 use Rattle.tableau_nodes.proofs.parts.taken_off.Goals as goal
 

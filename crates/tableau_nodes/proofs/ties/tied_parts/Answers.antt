@@ -5,7 +5,7 @@ use Rattle.wide_math.specs.declared.Wide.{Wide}
 use Rattle.std.proofs.lemmas.Int.{to_z-of_z}
 use Rattle.affine_forms.specs.Gives.{Fails}
 use Rattle.affine_forms.specs.declared.stop.FormStop.{FormStop}
-use Rattle.tableau_rows.specs.Moves.{row_at}
+use Rattle.checked_tableau.specs.Moves.{row_at}
 use Rattle.tableau_nodes.specs.Node.{ties_run}
 use Rattle.tableau_nodes.proofs.NodeMoves.{parts-err, tied-run}
 use Rattle.tableau_nodes.proofs.ties.tied_parts.Goals as goal

@@ -2,7 +2,7 @@ use Rattle.std.proofs.Common.{◌≡◌, ap₂, ◌∙◌, subst, List, [], ◌�
 use Rattle.std.proofs.lemmas.Result.{IfOk-weaker}
 use Rattle.whole_numbers.specs.Affine.{Affine}
 use Rattle.integer_sets.specs.Constraints.{Constraints, system_of}
-use Rattle.lexmin_runs.specs.Emptiness.{IsBoundedPoint}
+use Rattle.pip_solver.specs.Emptiness.{IsBoundedPoint}
 use Rattle.tree_simplification.specs.steps.ContextView.{context_of}
 use Rattle.tree_simplification.proofs.Contexts.{denied, never_from}
 use Rattle.tree_simplification.proofs.asking.never_holds.Goals as goal

@@ -1,5 +1,5 @@
-use Rattle.lexmin_runs.specs.Nodes.{cut}
-use Rattle.lexmin_runs.proofs.KeptSolutions.{cut_keeps}
+use Rattle.checked_tableau.specs.Nodes.{cut}
+use Rattle.checked_tableau.proofs.KeptSolutions.{cut_keeps}
 use Rattle.tableau_nodes.specs.Node.{node_of}
 use Rattle.tableau_nodes.proofs.NodeMoves.{moves-keep}
 use Rattle.tableau_nodes.proofs.node.Tableau.cut.Goals as goal

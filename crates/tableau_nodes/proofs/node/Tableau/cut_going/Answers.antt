@@ -1,5 +1,5 @@
 use Rattle.std.proofs.Common.{◌≡◌, ◌∙◌, ◌<◌, ℕ, sym, subst}
-use Rattle.lexmin_runs.proofs.KeptSolutions.{place_within}
+use Rattle.checked_tableau.proofs.KeptSolutions.{place_within}
 use Rattle.tableau_nodes.proofs.node.Tableau.cut_going.Goals as goal
 
 pub cut_known-requires-in-Some-clause-parameter : goal.cut_known-requires-in-Some-clause-parameter

@@ -1,4 +1,4 @@
-use Rattle.lexmin_runs.proofs.KeptSolutions.{pivot_keeps}
+use Rattle.checked_tableau.proofs.KeptSolutions.{pivot_keeps}
 use Rattle.tableau_nodes.specs.Node.{node_of}
 use Rattle.tableau_nodes.proofs.NodeMoves.{pivots-keep}
 use Rattle.tableau_nodes.proofs.node.Tableau.pivot.Goals as goal

@@ -1,6 +1,6 @@
-use Rattle.tableau_rows.specs.Moves.{row_at}
-use Rattle.lexmin_runs.specs.Nodes.{split, part_of}
-use Rattle.lexmin_runs.proofs.KeptSolutions.{split_keeps, part_size}
+use Rattle.checked_tableau.specs.Moves.{row_at}
+use Rattle.checked_tableau.specs.Nodes.{split, part_of}
+use Rattle.checked_tableau.proofs.KeptSolutions.{split_keeps, part_size}
 use Rattle.tableau_nodes.specs.Node.{node_of}
 use Rattle.tableau_nodes.proofs.NodeMoves.{moves-keep}
 use Rattle.tableau_nodes.proofs.node.Tableau.split.Goals as goal
