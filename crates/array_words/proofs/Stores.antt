@@ -39,7 +39,7 @@ module _ (words : Words) (pass : Pass) where
       pass.worker.reads.items me
       (at_stage me.0 (Working (tile_at me.0.stage) (suc (done_at me.0.stage))) [])
       (ap₂ staged stands is.reads) (ap₂ (λ a b. working a (suc b) []) (ap tile_at stands) (ap done_at stands)) refl less
-      all value refl)
+      all refl value refl)
 
   pub stores : StoreIsAllowed Stores → (c x : ℕ) → IsPass words pass
       → IsNextStore (plan_in words) pass.worker.stage pass.worker.reads.items c x → MayStore words pass c x

@@ -1,16 +1,16 @@
 -- What each event of the only worker leaves.
-use Rattle.std.proofs.Common.{◌≡◌, ◌∙◌, Bool, true, false, ℕ, zero, suc, ◌<◌, ◌≤◌, [], ◌∷◌, ◌++◌, length, get_or, set}
-use Rattle.std.proofs.Common.{length-append, ap, sym, subst, refl, arith}
+use Rattle.std.proofs.Common.{◌≡◌, ◌∙◌, ◌&&◌, not, Bool, true, false, ℕ, zero, suc, ◌<◌, ◌≤◌, [], ◌∷◌, ◌++◌, length}
+use Rattle.std.proofs.Common.{get_or, set, length-append, ap, sym, subst, refl, arith}
 use Rattle.std.specs.Prelude.{nat_lt, nat_le, nat_eq, if◌then◌else◌}
-use Rattle.std.proofs.lemmas.Bool.{le-leb, lt-ltb, ltb-false, ltb-true, eq-eqb}
+use Rattle.std.proofs.lemmas.Bool.{le-leb, lt-ltb, ltb-false, ltb-true, eq-eqb, and_from}
 use mathlib.Core.Option.{some, some-injective, some-ne-none}
 use lib.ListN.{get_elem?}
 use Rattle.scop_syntax.proofs.Members.{nat_cases}
 use Rattle.tile_events.specs.Core as core
 use Rattle.tile_events.specs.Core.{Event, Seen, State, Worker, acts, claim, finish, holding, idle, load, not_enabled}
-use Rattle.tile_events.specs.Core.{open_tile, put, step, step_of, store, working}
+use Rattle.tile_events.specs.Core.{open_tile, put, step, step_of, store, working, needed_by, seen_by, is_last_act}
 use Rattle.tile_events.specs.Opening.{IsQuiet}
-use Rattle.tile_events.specs.Plan.{Plan}
+use Rattle.tile_events.specs.Plan.{Plan, waves}
 use Rattle.tile_events.specs.Sound.{Holds}
 use Rattle.kernel_runs.specs.steps.Alone.{HasRead, IsAlone, reads_at}
 
@@ -49,14 +49,15 @@ few_before p t early less = nat_cases t (p.offset (p.wave t))
     (λ l. absurd (let e = early (p.wave t) t less l in omega (arith, e)))
     (λ s. omega (arith, s)) (λ l. omega (arith, l))
 
-pub opens_alone : (p : Plan) (s d : State) (seen : Seen) (t : ℕ) → OffsetsAreEarly p → t < p.tiles
+pub opens_alone : (p : Plan) (s d : State) (seen : Seen) (t : ℕ) → p.gate ≡ waves → OffsetsAreEarly p → t < p.tiles
     → step p s 0 open_tile ≡ (d, seen) → IsAlone s (suc t) t (holding t) → IsAlone d (suc t) t (working t 0 [])
-opens_alone p s d seen t early less h a =
+opens_alone p s d seen t by_waves early less h a =
     let f = a.finished_are in
     let few = few_before p t early less in
-    let enough : nat_le (p.offset (p.wave t)) s.finished ≡ true =
-    le-leb (p.offset (p.wave t)) s.finished (omega (arith, f, few)) in
-    let new = if_so (nat_le (p.offset (p.wave t)) s.finished) _ _ (d, seen) enough
+    let enough : nat_le (needed_by p.gate p t) (seen_by p.gate s t) ≡ true =
+    le-leb (needed_by p.gate p t) (seen_by p.gate s t)
+    (subst (λ g. needed_by g p t ≤ seen_by g s t) (sym by_waves) (omega (arith, f, few))) in
+    let new = if_so (nat_le (needed_by p.gate p t) (seen_by p.gate s t)) _ _ (d, seen) enough
     (alone_acts p s (suc t) t (holding t) open_tile (d, seen) a h) in
     subst (λ (x : State). IsAlone x (suc t) t (working t 0 [])) (ap (λ x. x.0) new) (record {
       claims_are = a.claims_are;
@@ -119,11 +120,15 @@ loads_none p s d t k n left r h =
         (omega (arith, count, all), subst (λ (x : State). HasRead p x t k n) (ap (λ x. x.0) new) r)
 
 pub stores_alone : (p : Plan) (s d : State) (seen : Seen) (t k : ℕ) → k < p.size t
-    → HasRead p s t k (length (reads_at p t k)) → step p s 0 store ≡ (d, seen)
+    → HasRead p s t k (length (reads_at p t k)) → p.adds (p.written (p.place t k)) ≡ false
+    → step p s 0 store ≡ (d, seen)
     → IsAlone d (suc t) t (working t (suc k) [])
-stores_alone p s d seen t k left r h =
-    let all = eq-eqb (length r.values) (length (reads_at p t k)) r.count in
-    let new = if_so (nat_eq (length r.values) (length (reads_at p t k))) _ _ (d, seen) all
+stores_alone p s d seen t k left r stores h =
+    let all = and_from (nat_eq (length r.values) (length (reads_at p t k)))
+    (is_last_act p store (p.written (p.place t k)))
+    (eq-eqb (length r.values) (length (reads_at p t k)) r.count) (ap not stores) in
+    let new = if_so (nat_eq (length r.values) (length (reads_at p t k))
+    && is_last_act p store (p.written (p.place t k))) _ _ (d, seen) all
     (if_so (nat_lt k (p.size t)) _ _ (d, seen) (lt-ltb k (p.size t) left)
     (alone_acts p s (suc t) t (working t k r.values) store (d, seen) r.stands h)) in
     subst (λ (x : State). IsAlone x (suc t) t (working t (suc k) [])) (ap (λ x. x.0) new) (record {

@@ -9,6 +9,7 @@ pub mod events;
 pub mod generated;
 pub mod lines;
 pub mod plans;
+pub mod releases;
 pub mod runs;
 pub mod tiles;
 pub mod words;

@@ -1,5 +1,5 @@
 -- Each event in memory is the one on plain data.
-use Rattle.std.proofs.Common.{◌≡◌, ⊎_elim, Bool, true, false, ℕ, suc, ◌+◌, ◌<◌, ◌≤◌, List, [], ◌∷◌, ◌++◌, length}
+use Rattle.std.proofs.Common.{◌≡◌, ⊎_elim, ◌&&◌, Bool, true, false, ℕ, suc, ◌+◌, ◌<◌, ◌≤◌, List, [], ◌∷◌, ◌++◌, length}
 use Rattle.std.proofs.Common.{get_or, map, set, Some, None, ap, ap₂, sym, refl}
 use Rattle.std.proofs.Common.{◌∙◌, subst, arith}
 use Rattle.std.specs.Prelude.{All, Vec, nat_lt, nat_le, nat_eq, if◌then◌else◌}
@@ -255,8 +255,8 @@ module _ (plan : Plan) (b : Board) (id : ℕ) (w : Worker) (i : CodeInstance) (a
       let n = ap (λ (rs : List ℕ). length rs) same_reads in
       at_instance store
       ∙ (if_true (nat_lt d.count ((shape_of plan).size d.tile)) _ _ some_left
-      ∙ if_false (nat_eq (length w.reads.items) (length there)) _ _
-      (ne-eqb (length w.reads.items) (length there) (λ e. left (e ∙ sym n))))
+      ∙ if_false (nat_eq (length w.reads.items) (length there) && true) _ _
+      (ap (λ (b : Bool). b && true) (ne-eqb (length w.reads.items) (length there) (λ e. left (e ∙ sym n)))))
 
   pub stores : (x : Worker) (cs : Vec ℕ Global) (value : ℕ) → length w.reads.items ≡ length here
       → value ≡ (shape_of plan).value (place_of plan i) w.reads.items
@@ -273,8 +273,8 @@ module _ (plan : Plan) (b : Board) (id : ℕ) (w : Worker) (i : CodeInstance) (a
       let cells = put ∙ ap (λ p. set b.cells.items ((shape_of plan).written p) value) d.place in
       at_instance store
       ∙ (if_true (nat_lt d.count ((shape_of plan).size d.tile)) _ _ some_left
-      ∙ (if_true (nat_eq (length w.reads.items) (length there)) _ _
-      (eq-eqb (length w.reads.items) (length there) (all ∙ n))
+      ∙ (if_true (nat_eq (length w.reads.items) (length there) && true) _ _
+      (ap (λ (b : Bool). b && true) (eq-eqb (length w.reads.items) (length there) (all ∙ n)))
       ∙ ap₂ (λ (cells : List ℕ) (ws : List core.Worker).
       (record { claims = b.claims; finished = b.finished; cells = cells; workers = ws }, core.stored))
       (ap (set b.cells.items ((shape_of plan).written ((shape_of plan).place d.tile d.count))) (sym stored) ∙ sym cells)

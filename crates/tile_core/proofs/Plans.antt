@@ -1,5 +1,5 @@
 -- A plan's tiles hold each place of the walk once, and conflicting places lie in one tile or in waves that rise.
-use Rattle.std.proofs.Common.{◌≡◌, ℕ, suc, ◌-◌, ◌+◌, ◌<◌, ℤ, List, [], ◌∷◌, length, map, get_or, Some, ◌⊎◌}
+use Rattle.std.proofs.Common.{◌≡◌, ℕ, suc, ◌-◌, ◌+◌, ◌<◌, Bool, false, ℤ, List, [], ◌∷◌, length, map, get_or, Some, ◌⊎◌}
 use Rattle.std.proofs.Common.{inl, inr, ap, ap₂, subst, sym, refl, ◌∙◌, arith}
 use Rattle.std.specs.Prelude.{slice_get, slice_index_or}
 use Rattle.std.specs.Option.{option_map}
@@ -16,9 +16,10 @@ use Rattle.conflict_orders.proofs.SortedLists.{StandOnce, walked_distinct}
 use Rattle.tile_list.specs.TilesView.{firsts_of, waves_of}
 use Rattle.tile_list.specs.declared.list.Tile.{Tile}
 use Rattle.tile_events.specs.Deal.{Deal, IsScan, dealt}
-use Rattle.tile_events.specs.Flat.{IsWalk, flat, read_by, written_by}
+use Rattle.tile_events.specs.Flat.{AreMarked, IsWalk, flat, is_marked, read_by, written_by}
 use Rattle.tile_events.specs.Plan as events
 use Rattle.tile_events.specs.Plan.{GoodPlan, IsDealt, Touch}
+use Rattle.tile_events.proofs.Covers.{ordered_by_waves}
 use Rattle.tile_core.specs.Plans.{IsPlan, deal_of, extents_in, plan_of, program_in, scan_in, shape_of, sizes_of}
 use Rattle.tile_core.specs.Plans.{walk_in}
 use Rattle.tile_core.specs.Ranks.{start_at}
@@ -49,11 +50,11 @@ module _ (extents : List (List ℕ)) (visits : List Visit)
       (below (cell_of v.0.body.place v.0.point)
       (inside v.0 (in_from_place visits j v.0 v.1) v.0.body.place (inl refl)))
 
-  visit_read : (j c : ℕ) → j < length visits → In c (read_by extents (slice_get visits j)) → c < total_cells extents
+  visit_read : (j c : ℕ) → j < length visits → In c (read_by extents [] (slice_get visits j)) → c < total_cells extents
   visit_read j c l i =
       let v = there_is visits j l in
       let m = in_map_from (cell_number extents) c (map (λ access. cell_of access v.0.point) (reads v.0.body))
-      (subst (λ o. In c (read_by extents o)) v.1 i) in
+      (subst (λ o. In c (read_by extents [] o)) v.1 i) in
       let a = in_map_from (λ access. cell_of access v.0.point) m.0 (reads v.0.body) m.1 in
       let is = inside v.0 (in_from_place visits j v.0 v.1) a.0 (inr a.1) in
       subst (λ n. n < total_cells extents) (sym (m.2 ∙ ap (cell_number extents) a.2))
@@ -64,22 +65,28 @@ pub record PlanLaws : Type 0 where
   pub tiles : TileLaws
   pub once : (program : Program) (params : List ℤ) → StandOnce program params
   pub below : (extents : List (List ℕ)) (c : Cell) → IsCell extents c → cell_number extents c < total_cells extents
-  pub deals : (d : Deal) (cells : ℕ) (written : ℕ → ℕ) (read : ℕ → List ℕ) (value : ℕ → List ℕ → ℕ) (initial : ℕ → ℕ)
+  pub deals : (d : Deal) (cells : ℕ) (adds : ℕ → Bool) (written : ℕ → ℕ) (read : ℕ → List ℕ)
+      (value : ℕ → List ℕ → ℕ) (initial : ℕ → ℕ)
       → IsScan d → ((j : ℕ) → j < d.places → written j < cells)
-      → ((j c : ℕ) → j < d.places → In c (read j) → c < cells) → IsDealt (dealt d cells written read value initial)
-  pub touches : (extents contents : List (List ℕ)) (visits : List Visit) (p : events.Plan)
-      → IsWalk extents contents visits p → AreInside extents visits → (i j : ℕ) (v w : Visit)
-      → slice_get visits i ≡ Some v → slice_get visits j ≡ Some w → Touch p i j → (a : ℕ) × (b : ℕ) × Conflict v a w b
+      → ((j c : ℕ) → j < d.places → In c (read j) → c < cells) → IsDealt (dealt d cells adds written read value initial)
+  pub touches : (extents contents : List (List ℕ)) (marked : List ℕ) (visits : List Visit) (p : events.Plan)
+      → IsWalk extents contents marked visits p → AreMarked marked visits → AreInside extents visits
+      → (i j : ℕ) (v w : Visit) → slice_get visits i ≡ Some v → slice_get visits j ≡ Some w → Touch p i j
+      → (a : ℕ) × (b : ℕ) × (c : Conflict v a w b) × (is_marked marked c.first.array ≡ false)
 
 -- the plan's functions are those of the walk
 pub walk_over : (plan : Plan) (contents : List (List ℕ))
     → ((c : Cell) → IsCell (extents_in plan) c
     → get_or (flat contents) (cell_number (extents_in plan) c) 0 ≡ held (extents_in plan) contents c)
-    → IsWalk (extents_in plan) contents (walk_in plan) (plan_of plan (flat contents))
+    → IsWalk (extents_in plan) contents [] (walk_in plan) (plan_of plan (flat contents))
 walk_over plan contents initial =
-    record { written = λ j. refl; read = λ j. refl; value = λ j xs. refl; initial = initial }
+    record { written = λ j. refl; read = λ j. refl; adds = λ c is. refl; value = λ j xs. refl; initial = initial }
 
-walk_is : (plan : Plan) → IsWalk (extents_in plan) [] (walk_in plan) (shape_of plan)
+-- no array is marked
+pub none_marked : (visits : List Visit) → AreMarked [] visits
+none_marked visits = record { sums = λ v i e. absurd cc; others = λ v a i h. refl }
+
+walk_is : (plan : Plan) → IsWalk (extents_in plan) [] [] (walk_in plan) (shape_of plan)
 walk_is plan = walk_over plan [] (λ c is. refl)
 
 module _ (laws : PlanLaws) (plan : Plan) (is : IsPlan plan) where
@@ -139,7 +146,7 @@ module _ (laws : PlanLaws) (plan : Plan) (is : IsPlan plan) where
   pub dealt_is : (cells : List ℕ) → IsDealt (plan_of plan cells)
   dealt_is cells =
       let p = plan_of plan cells in
-      laws.deals deal p.cells p.written p.read p.value p.initial scan_is
+      laws.deals deal p.cells p.adds p.written p.read p.value p.initial scan_is
       (visit_written (extents_in plan) (walk_in plan) (laws.below (extents_in plan)) is.inside)
       (visit_read (extents_in plan) (walk_in plan) (laws.below (extents_in plan)) is.inside)
 
@@ -191,8 +198,8 @@ module _ (laws : PlanLaws) (plan : Plan) (is : IsPlan plan) where
             let early : i < length (walk_in plan) = omega (arith, less, within) in
             let v = instance_at program params tiling xs once is.order i early in
             let w = instance_at program params tiling xs once is.order j within in
-            let c = laws.touches (extents_in plan) [] (walk_in plan) (shape_of plan)
-            (walk_is plan) is.inside i j v.0 w.0
+            let c = laws.touches (extents_in plan) [] [] (walk_in plan) (shape_of plan)
+            (walk_is plan) (none_marked (walk_in plan)) is.inside i j v.0 w.0
             v.1 w.1 touch in
             let conflict : PlacesConflict (walk_in plan) i j = record {
               earlier = v.0;
@@ -208,7 +215,8 @@ module _ (laws : PlanLaws) (plan : Plan) (is : IsPlan plan) where
             let y = instance w.0 in
             let a = list_cut.found (deal.rank i) x (rank_there program params tiling xs once is.order i x v.2) in
             let b = list_cut.found (deal.rank j) y (rank_there program params tiling xs once is.order j y w.2) in
-            placed_by cells i j a.0 b.0 x y early within a.1 b.1
+            let o = placed_by cells i j a.0 b.0 x y early within a.1 b.1
             (tiles_in_order program params tiling xs deal.tiles deal.start deal.wave i j (deal.rank i) (deal.rank j) a.0
-            b.0 x y (walked_distinct program params once) is.order list_cut v.2 w.2 a.1 b.1 (is.good i j conflict));
+            b.0 x y (walked_distinct program params once) is.order list_cut v.2 w.2 a.1 b.1 (is.good i j conflict)) in
+            ([], ordered_by_waves (plan_of plan cells) i j refl early o);
       }

@@ -48,7 +48,7 @@ module _ (laws : WalkLaws) (plan : Plan) (i : CodeInstance) (is : IsPlan plan) w
   -- there is a form for the place and for each read
   pub forms_counted : In (instance_of i) (places_in plan)
       → length (get_or (forms_in plan.table.now) i.statement [])
-      ≡ suc (length (read_by (extents_in plan) (slice_get (walk_in plan) (plans.place_of plan i))))
+      ≡ suc (length (read_by (extents_in plan) [] (slice_get (walk_in plan) (plans.place_of plan i))))
   forms_counted walked =
       let t = there plan i walked in
       let row = row_at t.0 t.1.is in
@@ -72,7 +72,7 @@ module _ (laws : WalkLaws) (plan : Plan) (i : CodeInstance) (is : IsPlan plan) w
   -- its right side wants as many values as the instance reads
   pub values_counted : In (instance_of i) (places_in plan) → (right : Right)
       → slice_get (rights_in plan.table.now) i.statement ≡ Some right
-      → length (read_by (extents_in plan) (slice_get (walk_in plan) (plans.place_of plan i))) ≡ values_wanted right
+      → length (read_by (extents_in plan) [] (slice_get (walk_in plan) (plans.place_of plan i))) ≡ values_wanted right
   values_counted walked right at =
       let t = there plan i walked in
       reads_there plan i t.0 (extents_in plan) t.1
@@ -82,7 +82,7 @@ module _ (laws : WalkLaws) (plan : Plan) (i : CodeInstance) (is : IsPlan plan) w
   pub tells_value : In (instance_of i) (places_in plan) → (values : List ℕ) (result : ℕ)
       → ((right : Right) → slice_get (rights_in plan.table.now) i.statement ≡ Some right
       → result ≡ stored_by right (instance_of i).turns values)
-      → result ≡ value_by (slice_get (walk_in plan) (plans.place_of plan i)) values
+      → result ≡ value_by [] (slice_get (walk_in plan) (plans.place_of plan i)) values
   tells_value walked values result told =
       value_is plan i result values walked
       (λ v visit. value_told (program_in plan) plan.params.now plan.table.now i v values result (row_at v visit) told)

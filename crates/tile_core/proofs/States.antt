@@ -1,5 +1,5 @@
 -- Runs in memory: their first state, and what each event keeps.
-use Rattle.std.proofs.Common.{◌≡◌, Bool, true, false, ℕ, zero, suc, ◌+◌, ◌<◌, List, length, get_or, map, drop}
+use Rattle.std.proofs.Common.{◌≡◌, ◌&&◌, Bool, true, false, ℕ, zero, suc, ◌+◌, ◌<◌, List, length, get_or, map, drop}
 use Rattle.std.proofs.Common.{add-one, drop-cons, ap, ap₂, sym, refl}
 use Rattle.std.proofs.Common.{subst, arith}
 use Rattle.std.specs.Prelude.{Result, replicate, nat_lt, nat_eq, if◌then◌else◌}
@@ -9,8 +9,9 @@ use lib.ListN.{get_elem?}
 use Rattle.tile_events.specs.Plan as events
 use Rattle.tile_events.specs.Plan.{GoodPlan, IsDealt, values_read}
 use Rattle.tile_events.specs.Core as core
-use Rattle.tile_events.specs.Core.{State, Event, Seen, idle, working, claim, open_tile, load, store, finish}
-use Rattle.tile_events.specs.Core.{value_read, stored, done, not_enabled, acts, step, step_of, replay}
+use Rattle.tile_events.specs.Core.{State, Event, Seen, idle, working, claim, open_tile, load, store, add, release}
+use Rattle.tile_events.specs.Core.{finish, value_read, stored, added, released, done, not_enabled, acts, is_last_act}
+use Rattle.tile_events.specs.Core.{step, step_of, replay}
 use Rattle.tile_events.specs.Opening.{IsOpening, ReadsRight}
 use Rattle.tile_events.specs.Rule.{AreCounted}
 use Rattle.tile_events.specs.Sound.{Sound}
@@ -90,12 +91,12 @@ opening_run start plan cells row n ws good dealt wide few same all =
     })
 
 -- only a load tells a value read
-stored_else : (b c : Bool) (s t : State) (x : ℕ)
-    → (if◌then◌else◌ {A = State × Seen} b (if c then (t, stored) else (s, not_enabled))
+stored_else : (b c : Bool) (s t : State) (y : Seen) (x : ℕ) → (y ≡ value_read x → ⊥)
+    → (if◌then◌else◌ {A = State × Seen} b (if c then (t, y) else (s, not_enabled))
     (s, not_enabled)).1 ≡ value_read x → ⊥
-stored_else true true s t x e = absurd cc
-stored_else true false s t x e = absurd cc
-stored_else false c s t x e = absurd cc
+stored_else true true s t y x h e = h e
+stored_else true false s t y x h e = absurd cc
+stored_else false c s t y x h e = absurd cc
 
 done_else : (b : Bool) (s t : State) (x : ℕ)
     → (if◌then◌else◌ {A = State × Seen} b (t, done) (s, not_enabled)).1 ≡ value_read x → ⊥
@@ -108,7 +109,14 @@ only_loads p s id t k x xs claim e = absurd cc
 only_loads p s id t k x xs open_tile e = absurd cc
 only_loads p s id t k x xs load e = refl
 only_loads p s id t k x xs store e =
-    absurd (stored_else (nat_lt k (p.size t)) (nat_eq (length xs) (length (p.read (p.place t k)))) s _ x e)
+    absurd (stored_else (nat_lt k (p.size t)) (nat_eq (length xs) (length (p.read (p.place t k)))
+    && is_last_act p store (p.written (p.place t k))) s _ stored x (λ z. absurd cc) e)
+only_loads p s id t k x xs add e =
+    absurd (stored_else (nat_lt k (p.size t)) (nat_eq (length xs) (length (p.read (p.place t k)))
+    && is_last_act p add (p.written (p.place t k))) s _ added x (λ z. absurd cc) e)
+only_loads p s id t k x xs release e =
+    absurd (stored_else (nat_lt k (p.size t)) (nat_eq (length xs) (length (p.read (p.place t k)))
+    && is_last_act p release (p.written (p.place t k))) s _ released x (λ z. absurd cc) e)
 only_loads p s id t k x xs finish e = absurd (done_else (nat_eq k (p.size t)) s _ x e)
 
 pub reads_executed : ((p : events.Plan) (s : State) (id : ℕ) → GoodPlan p → IsDealt p → Sound p s → ReadsRight p s id)

@@ -59,15 +59,15 @@ one plan i v w once a b =
 
 -- how many reads there are
 pub reads_there : (plan : Plan) (i : CodeInstance) (v : Visit) (extents : List (List ℕ)) → IsThere plan i v
-    → length (read_by extents (slice_get (walk_in plan) (plans.place_of plan i))) ≡ length (reads v.body)
+    → length (read_by extents [] (slice_get (walk_in plan) (plans.place_of plan i))) ≡ length (reads v.body)
 reads_there plan i v extents is =
-    ap (λ o. length (read_by extents o)) is.at
+    ap (λ o. length (read_by extents [] o)) is.at
     ∙ (length-map (cells_read v) (cell_number extents) ∙ length-map (reads v.body) (λ access. cell_of access v.point))
 
 many_reads : (plan : Plan) (i : CodeInstance) (extents : List (List ℕ))
     → StandOnce (program_in plan) plan.params.now
     → In (instance_of i) (places_in plan) → (v : Visit) → IsVisitOf (program_in plan) plan.params.now (instance_of i) v
-    → length (reads v.body) ≡ length (read_by extents (slice_get (walk_in plan) (plans.place_of plan i)))
+    → length (reads v.body) ≡ length (read_by extents [] (slice_get (walk_in plan) (plans.place_of plan i)))
 many_reads plan i extents once walked v is =
     let t = there plan i walked in
     ap (λ (w : Visit). length (reads w.body)) (one plan i v t.0 once is t.1.is) ∙ sym
@@ -85,14 +85,14 @@ ArePlaced = (program : Program) (p : Placed) → IsKernel program → In p (stat
 -- there are few at any place of the walk
 pub few_at : (plan : Plan) (j : ℕ) (extents : List (List ℕ)) → AreFound → ArePlaced → IsPlan plan
     → j < length (walk_in plan)
-    → length (read_by extents (slice_get (walk_in plan) j)) ≤ 16
+    → length (read_by extents [] (slice_get (walk_in plan) j)) ≤ 16
 few_at plan j extents found placed_law is less =
     let walk = walk_in plan in
     let v = there_is walk j less in
     let s = found (program_in plan) plan.params.now v.0 (in_from_place walk j v.0 v.1) in
     let few = (placed_law (program_in plan) s.0 is.limits.kernel s.2).body.few_reads in
     let same = ap (λ (w : Visit). length (reads w.body)) s.4 in
-    let n = ap (λ o. length (read_by extents o)) v.1
+    let n = ap (λ o. length (read_by extents [] o)) v.1
     ∙ (length-map (cells_read v.0) (cell_number extents)
     ∙ length-map (reads v.0.body) (λ access. cell_of access v.0.point)) in
     omega (arith, few, same, n)
@@ -100,7 +100,7 @@ few_at plan j extents found placed_law is less =
 -- and so for an instance
 pub few_reads : (plan : Plan) (i : CodeInstance) (extents : List (List ℕ)) → AreFound → ArePlaced → IsPlan plan
     → In (instance_of i) (places_in plan)
-    → length (read_by extents (slice_get (walk_in plan) (plans.place_of plan i))) ≤ 16
+    → length (read_by extents [] (slice_get (walk_in plan) (plans.place_of plan i))) ≤ 16
 few_reads plan i extents found placed_law is walked =
     let t = there plan i walked in
     let s = found (program_in plan) plan.params.now t.0 t.1.is.walked in
@@ -132,9 +132,9 @@ mapped f g (y ∷ ys) (suc i) x e = mapped f g ys i x e
 
 pub read_is : (plan : Plan) (i : CodeInstance) (read result : ℕ) → StandOnce (program_in plan) plan.params.now
     → IsPlan plan → In (instance_of i) (places_in plan)
-    → read < length (read_by (extents_in plan)
+    → read < length (read_by (extents_in plan) []
     (slice_get (walk_in plan) (plans.place_of plan i))) → TellsCell plan i (suc read) result
-    → result ≡ get_or (read_by (extents_in plan)
+    → result ≡ get_or (read_by (extents_in plan) []
     (slice_get (walk_in plan) (plans.place_of plan i))) read 0
 read_is plan i read result once is walked less tells =
     let extents = extents_in plan in
@@ -144,13 +144,14 @@ read_is plan i read result once is walked less tells =
     let touched = there_is (reads v.body) read (omega (arith, less, n)) in
     tells v touched.0 t.1.is touched.1
     ∙ (sym (mapped (cell_number extents) (λ access. cell_of access v.point) (reads v.body) read touched.0 touched.1)
-    ∙ sym (ap (λ o. get_or (read_by extents o) read 0) t.1.at))
+    ∙ sym (ap (λ o. get_or (read_by extents [] o) read 0) t.1.at))
 
 pub value_is : (plan : Plan) (i : CodeInstance) (result : ℕ) (values : List ℕ) → In (instance_of i) (places_in plan)
-    → ((v : Visit) → IsVisitOf (program_in plan) plan.params.now (instance_of i) v → result ≡ value_by (Some v) values)
-    → result ≡ value_by (slice_get (walk_in plan) (plans.place_of plan i)) values
+    → ((v : Visit) → IsVisitOf (program_in plan) plan.params.now (instance_of i) v
+    → result ≡ value_by [] (Some v) values)
+    → result ≡ value_by [] (slice_get (walk_in plan) (plans.place_of plan i)) values
 value_is plan i result values walked tells =
-    let t = there plan i walked in tells t.0 t.1.is ∙ sym (ap (λ o. value_by o values) t.1.at)
+    let t = there plan i walked in tells t.0 t.1.is ∙ sym (ap (λ o. value_by [] o values) t.1.at)
 
 -- an instance's place is one of the walk
 pub place_within : (plan : Plan) (i : CodeInstance) → In (instance_of i) (places_in plan)

@@ -1,5 +1,5 @@
 -- A plan of a kernel as plain data.
-use Rattle.std.specs.Prelude.{ℕ, List, [], length, map, get_or, slice_get}
+use Rattle.std.specs.Prelude.{ℕ, false, List, [], length, map, get_or, slice_get}
 use Rattle.scop_syntax.specs.Execution.{IsInside, layout, total_cells}
 use Rattle.scop_syntax.specs.Limits.{WithinLimits}
 use Rattle.scop_syntax.specs.Tree.{Program}
@@ -62,9 +62,9 @@ extents_in plan = layout (program_in plan) plan.params.now
 -- the plan over these cells, those of all arrays one behind another
 abbrev pub plan_of : Plan → List ℕ → events.Plan
 plan_of plan cells =
-    dealt (deal_of plan) (total_cells (extents_in plan))
+    dealt (deal_of plan) (total_cells (extents_in plan)) (λ c. false)
     (λ j. written_by (extents_in plan) (slice_get (walk_in plan) j))
-    (λ j. read_by (extents_in plan) (slice_get (walk_in plan) j)) (λ j. value_by (slice_get (walk_in plan) j))
+    (λ j. read_by (extents_in plan) [] (slice_get (walk_in plan) j)) (λ j. value_by [] (slice_get (walk_in plan) j))
     (λ c. get_or cells c 0)
 
 -- what does not hang on the cells

@@ -1,9 +1,10 @@
 -- What a view says of its worker, and the rule of the table.
-use Rattle.std.specs.Prelude.{ℕ, List, [], length, get_or, Option, Some, None}
+use Rattle.std.specs.Prelude.{ℕ, false, List, [], length, get_or, Option, Some, None}
 use Rattle.atomic_table.specs.Table as table
 use Rattle.tile_events.specs.Plan as plain
-use Rattle.tile_events.specs.Plan.{values_read}
+use Rattle.tile_events.specs.Plan.{waves, values_read}
 use Rattle.tile_events.specs.Core as core
+use Rattle.tile_events.specs.Core.{needed_by}
 use Rattle.tile_events.specs.Rule.{Held}
 use Rattle.tile_core.specs.declared.worker.Stage.{Stage}
 use Rattle.tile_core.specs.declared.worker.Stage.TheVariants.{Idle, Ended, Holding, Working}
@@ -44,6 +45,7 @@ nothing = record {
   tiles = 0;
   written = λ j. 0;
   read = λ j. [];
+  adds = λ c. false;
   value = λ j xs. 0;
   initial = λ c. 0;
   tile = λ j. 0;
@@ -52,6 +54,7 @@ nothing = record {
   place = λ t k. 0;
   wave = λ t. 0;
   offset = λ w. 0;
+  gate = waves;
 }
 
 -- the plan of a view's key
@@ -79,7 +82,7 @@ place_at p s = p.place (tile_at s) (done_at s)
 
 -- how many tiles have to be finished before the tile that is held may be opened
 abbrev pub needs_at : plain.Plan → Stage → ℕ
-needs_at p s = p.offset (p.wave (tile_at s))
+needs_at p s = needed_by p.gate p (tile_at s)
 
 -- what execution read there as the value of the next instance that is read next
 abbrev pub executed : plain.Plan → Stage → List ℕ → ℕ

@@ -1,14 +1,14 @@
 -- One worker changes, and the state stays sound (`Change`, one record for each event).
-use Rattle.std.proofs.Common.{◌≡◌, ℕ, ◌+◌, ◌<◌, ◌≤◌, ◌≢◌, ⊎_elim, ◌&&◌, Bool, min, List, get_or, set, ap, sym, refl}
-use Rattle.std.proofs.Common.{◌∙◌, subst, arith}
+use Rattle.std.proofs.Common.{◌≡◌, ℕ, ◌+◌, ◌<◌, ◌≤◌, ◌≢◌, ⊎_elim, ◌&&◌, Bool, true, min, List, get_or, set, ap, sym}
+use Rattle.std.proofs.Common.{refl, ◌∙◌, subst, arith}
 use Rattle.std.specs.Prelude.{nat_lt}
 use mathlib.Core.Option.{some, some-injective}
 use lib.ListN.{get_elem?}
 use Rattle.atomic_table.proofs.Lists.{at_set, set_else}
 use Rattle.scop_syntax.proofs.Members.{nat_cases}
-use Rattle.tile_events.specs.Plan.{Plan, words_of}
+use Rattle.tile_events.specs.Plan.{Plan, Gate, waves, counters, words_of}
 use Rattle.tile_events.specs.Core.{Worker, ended, holding, working, State}
-use Rattle.tile_events.specs.Sound.{Holds, total, one_if_held, passed, is_done, IsBegun, Sound}
+use Rattle.tile_events.specs.Sound.{Holds, total, one_if_held, passed, is_done, IsFinished, IsBegun, AreOpened, Sound}
 use Rattle.tile_events.specs.steps.Changes.{moved, Waits, Change}
 use Rattle.tile_events.proofs.Cells.{words_same}
 use Rattle.tile_events.proofs.Workers.{total_set, all_passed_set}
@@ -36,14 +36,7 @@ changed p s id v w n m cs sound c = record {
       (omega (arith, b0, g), b.1))
       (at_set s.workers id i w a e);
   tally = c.tally;
-  waves = λ t u lt lu b less. let f = c.waves t u lt lu b less in
-      record {
-        claimed = (let a : t < s.claims = f.claimed in let g : s.claims ≤ n = c.grows in omega (arith, a, g));
-        free = λ i a e h. ⊎_elim
-            (λ (x : (i ≡ id) × (w ≡ a)). c.given_up t f (subst (λ z. Holds z t) (sym x.1) h))
-            (λ (x : (i ≢ id) × (get_elem? s.workers i ≡ some a)). f.free i a x.1 h)
-            (at_set s.workers id i w a e);
-      };
+  opened = c.opened;
   reads = λ i t k xs e. ⊎_elim
       (λ (x : (i ≡ id) × (w ≡ working t k xs)). c.reads t k xs x.1)
       (λ (x : (i ≢ id) × (get_elem? s.workers i ≡ some (working t k xs))). sound.reads i t k xs x.1)
@@ -91,3 +84,25 @@ pub tally_same : (p : Plan) (s : State) (id : ℕ) (v w : Worker) → Sound p s 
     → one_if_held v ≡ one_if_held w → s.finished + total one_if_held (set s.workers id w) ≡ min s.claims p.tiles
 tally_same p s id v w sound here same =
     let a = sound.tally in let b = total_set one_if_held s.workers id v w here in omega (arith, a, b, same)
+
+-- a finished tile stays finished, where the worker does not take it
+pub finished_kept : (s : State) (id n m : ℕ) (w : Worker) (cs : List ℕ) (t : ℕ) → s.claims ≤ n
+    → (IsFinished s t → Holds w t → ⊥) → IsFinished s t → IsFinished (moved s id w n m cs) t
+finished_kept s id n m w cs t grows given_up f = record {
+  claimed = (let a : t < s.claims = f.claimed in omega (arith, a, grows));
+  free = λ i a e h. ⊎_elim
+      (λ (x : (i ≡ id) × (w ≡ a)). given_up f (subst (λ z. Holds z t) (sym x.1) h))
+      (λ (x : (i ≢ id) × (get_elem? s.workers i ≡ some a)). f.free i a x.1 h)
+      (at_set s.workers id i w a e);
+}
+
+-- a change that opens no tile leaves the tiles opened that were, where what was done or finished stays so
+pub opened_kept : (g : Gate) (p : Plan) (s : State) (id n m : ℕ) (v w : Worker) (cs : List ℕ) → AreOpened g p s
+    → s.claims ≤ n → ((t : ℕ) → IsFinished s t → Holds w t → ⊥)
+    → ((i : ℕ) → i < p.places → is_done p s i ≡ true → is_done p (moved s id w n m cs) i ≡ true)
+    → ((u : ℕ) → u < p.tiles → IsBegun (moved s id w n m cs) u → IsBegun s u)
+    → AreOpened g p (moved s id w n m cs)
+opened_kept waves p s id n m v w cs opened grows given_up kept back = λ t u lt lu b less.
+    finished_kept s id n m w cs t grows (given_up t) (opened t u lt lu (back u lu b) less)
+opened_kept (counters cell needs) p s id n m v w cs opened grows given_up kept back = λ i u li lu b is.
+    kept i li (opened i u li lu (back u lu b) is)

@@ -1,6 +1,6 @@
 -- An event leaves as many workers as there were, and each claim took a tile or ended a worker.
-use Rattle.std.proofs.Common.{◌≡◌, ◌⊎◌, ⊎_elim, inl, inr, Bool, true, false, ℕ, suc, ◌≤◌, List, [], ◌∷◌, ◌++◌, length}
-use Rattle.std.proofs.Common.{set, refl, arith}
+use Rattle.std.proofs.Common.{◌≡◌, ◌⊎◌, ⊎_elim, inl, inr, ◌&&◌, Bool, true, false, ℕ, suc, ◌≤◌, List, [], ◌∷◌, ◌++◌}
+use Rattle.std.proofs.Common.{length, set, refl, arith}
 use Rattle.std.specs.Prelude.{nat_lt, nat_le, nat_eq, get_or, if◌then◌else◌}
 use Rattle.std.proofs.lemmas.Bool.{ltb-true}
 use Rattle.std.proofs.lemmas.List.{length-set}
@@ -9,7 +9,8 @@ use mathlib.Core.Option as plain
 use lib.ListN.{get_elem?}
 use Rattle.tile_events.specs.Plan.{Plan}
 use Rattle.tile_events.specs.Core.{Worker, idle, ended, holding, working, State, Seen, Event, claim}
-use Rattle.tile_events.specs.Core.{open_tile, load, store, finish, cell_read, acts, step, step_of}
+use Rattle.tile_events.specs.Core.{open_tile, load, store, add, release, finish, cell_read, acts, step, step_of}
+use Rattle.tile_events.specs.Core.{seen_by, needed_by, last_act, is_last_act, written_to}
 use Rattle.tile_events.specs.Rule.{if_ended, AreCounted}
 use Rattle.tile_events.specs.steps.Changes.{moved}
 use Rattle.tile_events.proofs.Workers.{total_set}
@@ -47,6 +48,17 @@ unclaimed : (p : Plan) (s : State) (id m : ℕ) (cs : List ℕ) (v w : Worker) �
     → if_ended v 1 ≡ 0 → Keeps p s (moved s id w s.claims m cs)
 unclaimed p s id m cs v w here unended = changed p s id s.claims m cs v w here unended (inl (omega arith))
 
+-- the last act of an instance
+last_act_kept : (p : Plan) (s : State) (id t k : ℕ) (xs : List ℕ) (e : Event)
+    → get_elem? s.workers id ≡ some (working t k xs) → Keeps p s (last_act p s id t k xs e).0
+last_act_kept p s id t k xs e here =
+    if_kept (Keeps p s) (nat_lt k (p.size t)) _ _
+    (λ b. if_kept (Keeps p s)
+    (nat_eq (length xs) (length (p.read (p.place t k))) && is_last_act p e (p.written (p.place t k))) _ _
+    (λ c. unclaimed p s id s.finished (set s.cells (p.written (p.place t k))
+    (written_to p s (p.written (p.place t k)) (p.value (p.place t k) xs)))
+    (working t k xs) (working t (suc k) []) here refl) (same p s)) (same p s)
+
 acts_keeps : (p : Plan) (s : State) (id : ℕ) (w : Worker) (e : Event) → get_elem? s.workers id ≡ some w
     → Keeps p s (acts p s id w e).0
 acts_keeps p s id idle claim here =
@@ -57,14 +69,18 @@ acts_keeps p s id idle claim here =
 acts_keeps p s id idle open_tile here = same p s
 acts_keeps p s id idle load here = same p s
 acts_keeps p s id idle store here = same p s
+acts_keeps p s id idle add here = same p s
+acts_keeps p s id idle release here = same p s
 acts_keeps p s id idle finish here = same p s
 acts_keeps p s id ended e here = same p s
 acts_keeps p s id (holding t) claim here = same p s
 acts_keeps p s id (holding t) open_tile here =
-    if_kept (Keeps p s) (nat_le (p.offset (p.wave t)) s.finished) _ _
+    if_kept (Keeps p s) (nat_le (needed_by p.gate p t) (seen_by p.gate s t)) _ _
     (λ b. unclaimed p s id s.finished s.cells (holding t) (working t 0 []) here refl) (same p s)
 acts_keeps p s id (holding t) load here = same p s
 acts_keeps p s id (holding t) store here = same p s
+acts_keeps p s id (holding t) add here = same p s
+acts_keeps p s id (holding t) release here = same p s
 acts_keeps p s id (holding t) finish here = same p s
 acts_keeps p s id (working t k xs) claim here = same p s
 acts_keeps p s id (working t k xs) open_tile here = same p s
@@ -73,11 +89,9 @@ acts_keeps p s id (working t k xs) load here =
     (λ b. if_kept (Keeps p s) (nat_lt (length xs) (length (p.read (p.place t k)))) _ _
     (λ c. unclaimed p s id s.finished s.cells (working t k xs)
     (working t k (xs ++ get_or s.cells (cell_read p t k (length xs)) 0 ∷ [])) here refl) (same p s)) (same p s)
-acts_keeps p s id (working t k xs) store here =
-    if_kept (Keeps p s) (nat_lt k (p.size t)) _ _
-    (λ b. if_kept (Keeps p s) (nat_eq (length xs) (length (p.read (p.place t k)))) _ _
-    (λ c. unclaimed p s id s.finished (set s.cells (p.written (p.place t k)) (p.value (p.place t k) xs))
-    (working t k xs) (working t (suc k) []) here refl) (same p s)) (same p s)
+acts_keeps p s id (working t k xs) store here = last_act_kept p s id t k xs store here
+acts_keeps p s id (working t k xs) add here = last_act_kept p s id t k xs add here
+acts_keeps p s id (working t k xs) release here = last_act_kept p s id t k xs release here
 acts_keeps p s id (working t k xs) finish here =
     if_kept (Keeps p s) (nat_eq k (p.size t)) _ _
     (λ b. unclaimed p s id (suc s.finished) s.cells (working t k xs) idle here refl) (same p s)

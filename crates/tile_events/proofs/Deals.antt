@@ -16,18 +16,18 @@ rises_to f n a (suc k) h l =
     let e = ap f (let q : suc (a + k) ≡ a + suc k = omega arith in q) in
     omega (arith, i, s, e)
 
-rises : (f : ℕ → ℕ) (n a b : ℕ) → ((t : ℕ) → t < n → f t ≤ f (suc t)) → a ≤ b → b ≤ n → f a ≤ f b
+pub rises : (f : ℕ → ℕ) (n a b : ℕ) → ((t : ℕ) → t < n → f t ≤ f (suc t)) → a ≤ b → b ≤ n → f a ≤ f b
 rises f n a b h l m =
     let i = rises_to f n a (b - a) h (omega (arith, l, m)) in
     let e = ap f (let q : a + (b - a) ≡ b = omega (arith, l) in q) in omega (arith, i, e)
 
 -- rank r lies in tile t, one of the first m
-record IsTileAt (start : ℕ → ℕ) (m r t : ℕ) : Type 0 where
-  less : t < m
-  from : start t ≤ r
-  to : r < start (suc t)
+pub record IsTileAt (start : ℕ → ℕ) (m r t : ℕ) : Type 0 where
+  pub less : t < m
+  pub from : start t ≤ r
+  pub to : r < start (suc t)
 
-tile_at_is : (start : ℕ → ℕ) (m r : ℕ) → start 0 ≡ 0 → r < start m → IsTileAt start m r (tile_at start m r)
+pub tile_at_is : (start : ℕ → ℕ) (m r : ℕ) → start 0 ≡ 0 → r < start m → IsTileAt start m r (tile_at start m r)
 tile_at_is start zero r z l = absurd (omega (arith, z, l))
 tile_at_is start (suc m) r z l = by_test (nat_le (start m) r) refl
     (λ e. let i = tile_at_is start m r z (leb-false (start m) r e) in i)
@@ -40,7 +40,7 @@ tile_at_is start (suc m) r z l = by_test (nat_le (start m) r) refl
         let i = ih e in let a = i.less in record { less = omega (arith, a); from = i.from; to = i.to }
 
 -- it lies in no other
-tile_at_one : (start : ℕ → ℕ) (n m r t : ℕ) → ((u : ℕ) → u < n → start u ≤ start (suc u)) → m ≤ n → t < m
+pub tile_at_one : (start : ℕ → ℕ) (n m r t : ℕ) → ((u : ℕ) → u < n → start u ≤ start (suc u)) → m ≤ n → t < m
     → start t ≤ r → r < start (suc t) → tile_at start m r ≡ t
 tile_at_one start n zero r t h l less from to = absurd (omega (arith, less))
 tile_at_one start n (suc m) r t h l less from to = nat_cases t m
@@ -74,11 +74,12 @@ late_to wave (suc m) w t l e = by_test (nat_lt (wave m) w) refl e (λ a q. late_
         nat_cases t m (λ a. ih a e) (λ s. let f = ap wave s in let g = ltb-false (wave m) w z in omega (arith, f, g))
         (λ a. absurd (omega (arith, a, l)))
 
-pub deal_is : (d : Deal) (cells : ℕ) (written : ℕ → ℕ) (read : ℕ → List ℕ) (value : ℕ → List ℕ → ℕ) (initial : ℕ → ℕ)
+pub deal_is : (d : Deal) (cells : ℕ) (adds : ℕ → Bool) (written : ℕ → ℕ) (read : ℕ → List ℕ)
+    (value : ℕ → List ℕ → ℕ) (initial : ℕ → ℕ)
     → IsScan d
     → ((j : ℕ) → j < d.places → written j < cells) → ((j c : ℕ) → j < d.places → In c (read j) → c < cells)
-    → IsDealt (dealt d cells written read value initial)
-deal_is d cells written read value initial scan inside_w inside_r = record {
+    → IsDealt (dealt d cells adds written read value initial)
+deal_is d cells adds written read value initial scan inside_w inside_r = record {
   tile = λ j l. (at_place j l).less;
   position = λ j l. let a = (at_place j l).from in let b = (at_place j l).to in omega (arith, a, b);
   there = λ j l. let a = (at_place j l).from in ap d.at
@@ -92,6 +93,7 @@ deal_is d cells written read value initial scan inside_w inside_r = record {
   late = λ w t l e. late_to d.wave d.tiles w t l e;
   written = inside_w;
   read = inside_r;
+  gate = tt;
 }
   where
     tile : ℕ → ℕ

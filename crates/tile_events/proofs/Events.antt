@@ -10,17 +10,21 @@ use lib.ListN.{get_elem?}
 use Rattle.atomic_table.proofs.Lists.{at_set}
 use Rattle.scop_syntax.specs.Members.{In}
 use Rattle.scop_syntax.proofs.Members.{nat_cases, in_at}
-use Rattle.tile_events.specs.Plan.{Plan, GoodPlan, IsDealt, before, stored, values_read, words_of}
+use Rattle.tile_events.specs.Plan.{Plan, Gate, waves, counters, updated, GoodPlan, IsDealt, IsGated, before, stored}
+use Rattle.tile_events.specs.Plan.{values_read, words_of}
 use Rattle.tile_events.specs.Core.{Worker, idle, ended, holding, working, State, after_claim, after_last, with_worker}
-use Rattle.tile_events.specs.Core.{cell_read, after_load, after_store, after_finish}
-use Rattle.tile_events.specs.Sound.{one_if_held, passed, all_passed, is_done, IsFinished, IsBegun, IsRight, Sound}
+use Rattle.tile_events.specs.Core.{cell_read, after_load, after_last_act, written_to, after_finish, seen_by, needed_by}
+use Rattle.tile_events.specs.Sound.{Holds, one_if_held, passed, all_passed, is_done, IsFinished, IsRight, AreOpened}
+use Rattle.tile_events.specs.Sound.{Sound}
 use Rattle.tile_events.specs.steps.Ready.{IsReady}
 use Rattle.tile_events.specs.steps.Changes.{moved}
-use Rattle.tile_events.proofs.Cells.{load_reads, store_here, store_else}
+use Rattle.tile_events.proofs.Cells.{load_reads, updated_here, store_else}
 use Rattle.tile_events.proofs.Workers.{total_set, set_at, passed_free, passed_holding, all_passed_at}
 use Rattle.tile_events.proofs.Workers.{all_passed_set}
 use Rattle.tile_events.proofs.Waves.{wave_opens}
-use Rattle.tile_events.proofs.Changes.{changed, begun_back, done_set, cells_same, tally_same}
+use Rattle.tile_events.proofs.Counters.{counter_opens}
+use Rattle.tile_events.proofs.Changes.{changed, begun_back, done_set, cells_same, tally_same, finished_kept}
+use Rattle.tile_events.proofs.Changes.{opened_kept}
 use Rattle.tile_events.proofs.ReadyInstances.{done_from, passed_at, ready_next}
 
 -- claim
@@ -63,19 +67,29 @@ claim_keeps p s id sound here less =
           (let a = sound.tally in
           let b = total_set one_if_held s.workers id idle (holding s.claims) here in
           omega (arith, a, b, less));
-      given_up = λ t f h. let a = f.claimed in omega (arith, a, h);
-      waves = λ t u lt lu b up. ⊎_elim
-          (λ (l : u < s.claims). sound.waves t u lt lu
-          (begun_back s id idle (holding s.claims) (suc s.claims) s.finished s.cells u here (λ x. x) l b) up)
+      opened = opened_kept p.gate p s id (suc s.claims) s.finished idle (holding s.claims) s.cells sound.opened
+          (omega arith) (λ t f h. let a = f.claimed in omega (arith, a, h)) (λ i l e. done_claim p s id i here ∙ e)
+          (λ u lu b. ⊎_elim
+          (λ (l : u < s.claims).
+          begun_back s id idle (holding s.claims) (suc s.claims) s.finished s.cells u here (λ x. x) l b)
           (λ (g : s.claims ≤ u). let c = b.claimed in let same : s.claims ≡ u = omega (arith, c, g) in
           absurd
           (b.awake id (set_at s.workers id idle (holding s.claims) here ∙ ap (λ (x : ℕ). some (holding x)) same)))
-          (cases_lt u s.claims);
+          (cases_lt u s.claims));
       reads = λ t k xs e. absurd cc;
       wide = sound.wide;
       cells = cells_same p s (after_claim s id) sound (λ i l. done_claim p s id i here);
       over = λ e. absurd cc;
     }
+
+done_last : (p : Plan) (s : State) (id i : ℕ) → IsDealt p → get_elem? s.workers id ≡ some idle → p.tiles ≤ s.claims
+    → i < p.places → is_done p (after_last s id) i ≡ is_done p s i
+done_last p s id i deal here more l = let d = deal.tile i l in
+    rw (
+      lt-ltb (p.tile i) (suc s.claims) (omega (arith, d, more)),
+      lt-ltb (p.tile i) s.claims (omega (arith, d, more)),
+    )
+    (all_passed_set s.workers (p.tile i) (p.position i) id idle ended here refl)
 
 pub last_keeps : (p : Plan) (s : State) (id : ℕ) → IsDealt p → Sound p s → get_elem? s.workers id ≡ some idle
     → p.tiles ≤ s.claims → Sound p (after_last s id)
@@ -88,17 +102,13 @@ last_keeps p s id deal sound here more = changed p s id idle ended (suc s.claims
       (let a = sound.tally in
       let b = total_set one_if_held s.workers id idle ended here in
       omega (arith, a, b, more));
-  given_up = λ t f h. h;
-  waves = λ t u lt lu b up. sound.waves t u lt lu
-      (begun_back s id idle ended (suc s.claims) s.finished s.cells u here (λ x. x) (omega (arith, lu, more)) b) up;
+  opened = opened_kept p.gate p s id (suc s.claims) s.finished idle ended s.cells sound.opened (omega arith)
+      (λ t f h. h) (λ i l e. done_last p s id i deal here more l ∙ e)
+      (λ u lu b. begun_back s id idle ended (suc s.claims) s.finished s.cells u here (λ x. x)
+      (omega (arith, lu, more)) b);
   reads = λ t k xs e. absurd cc;
   wide = sound.wide;
-  cells = cells_same p s (after_last s id) sound (λ i l. let d = deal.tile i l in
-      rw (
-        lt-ltb (p.tile i) (suc s.claims) (omega (arith, d, more)),
-        lt-ltb (p.tile i) s.claims (omega (arith, d, more)),
-      )
-      (all_passed_set s.workers (p.tile i) (p.position i) id idle ended here refl));
+  cells = cells_same p s (after_last s id) sound (λ i l. done_last p s id i deal here more l);
   over = λ e. omega (arith, more);
 }
 
@@ -110,8 +120,27 @@ passed_open t u k = by_test (nat_eq t u)
     by_test true = le-ltb k 0 (omega arith)
     by_test false = refl
 
+-- what a tile has waited for is done where its gate is open
+gate_opens : (g : Gate) (p : Plan) (s : State) (id t : ℕ) → IsDealt p → IsGated g p → Sound p s → AreOpened g p s
+    → get_elem? s.workers id ≡ some (holding t) → t < p.tiles → needed_by g p t ≤ seen_by g s t
+    → ((i : ℕ) → is_done p s i ≡ true → is_done p (with_worker s id (working t 0 [])) i ≡ true)
+    → AreOpened g p (with_worker s id (working t 0 []))
+gate_opens waves p s id t deal gated sound opened here within reached kept = λ x u lx lu b up.
+    let before : (t ≡ u → ⊥) → IsFinished s x = λ ne. opened x u lx lu
+    (begun_back s id (holding t) (working t 0 []) s.claims s.finished s.cells u here ne b.claimed b) up in
+    finished_kept s id s.claims s.finished (working t 0 []) s.cells x (omega arith)
+    (λ f h. f.free id (holding t) here h) (nat_cases u t (λ l. before (λ e. omega (arith, l, e)))
+    (λ same. wave_opens p s (p.wave t) x deal sound opened reached lx (subst (λ (y : ℕ). p.wave x < p.wave y) same up))
+    (λ l. before (λ e. omega (arith, l, e))))
+gate_opens (counters cell needs) p s id t deal gated sound opened here within reached kept = λ i u li lu b is.
+    let before : (t ≡ u → ⊥) → is_done p s i ≡ true = λ ne. opened i u li lu
+    (begun_back s id (holding t) (working t 0 []) s.claims s.finished s.cells u here ne b.claimed b) is in
+    kept i (nat_cases u t (λ l. before (λ e. omega (arith, l, e)))
+    (λ same. counter_opens p s cell needs t gated sound within reached i li (is ∙ ap cell same))
+    (λ l. before (λ e. omega (arith, l, e))))
+
 pub open_keeps : (p : Plan) (s : State) (id t : ℕ) → IsDealt p → Sound p s → get_elem? s.workers id ≡ some (holding t)
-    → p.offset (p.wave t) ≤ s.finished
+    → needed_by p.gate p t ≤ seen_by p.gate s t
     → Sound p (with_worker s id (working t 0 []))
 open_keeps p s id t deal sound here reached =
     changed p s id (holding t) (working t 0 []) s.claims s.finished s.cells sound record {
@@ -120,13 +149,8 @@ open_keeps p s id t deal sound here reached =
       fresh = λ j x u e ne hu hw. ne (sound.apart j id x u (holding t) e here hu hw);
       below = λ x h. sound.below id x (holding t) here h;
       tally = tally_same p s id (holding t) (working t 0 []) sound here refl;
-      given_up = λ x f h. f.free id (holding t) here h;
-      waves = λ x u lx lu b up. nat_cases u t
-          (λ l. sound.waves x u lx lu (begun_back s id (holding t) (working t 0 []) s.claims s.finished s.cells u here
-          (λ e. omega (arith, l, e)) b.claimed b) up)
-          (λ same. wave_opens p s (p.wave t) x deal sound reached lx (subst (λ (y : ℕ). p.wave x < p.wave y) same up))
-          (λ l. sound.waves x u lx lu (begun_back s id (holding t) (working t 0 []) s.claims s.finished s.cells u here
-          (λ e. omega (arith, l, e)) b.claimed b) up);
+      opened = gate_opens p.gate p s id t deal deal.gate sound sound.opened here
+          (sound.below id t (holding t) here refl).1 reached (λ i e. same i ∙ e);
       reads = λ x k xs e. let f : (t ≡ x) × (0 ≡ k) × ([] ≡ xs) = parts t x 0 k [] xs e in
           record {
             within = (let z = f.1 in omega (arith, z));
@@ -134,22 +158,26 @@ open_keeps p s id t deal sound here reached =
             over = λ e. sym f.2;
           };
       wide = sound.wide;
-      cells = cells_same p s (with_worker s id (working t 0 [])) sound
-          (λ i l. done_set p s id i s.finished (holding t) (working t 0 []) s.cells here
-          (passed_open t (p.tile i) (p.position i)));
+      cells = cells_same p s (with_worker s id (working t 0 [])) sound (λ i l. same i);
       over = λ e. absurd cc;
     }
   where
     parts : (t x k n : ℕ) (xs ys : List ℕ) → working t k xs ≡ working x n ys → (t ≡ x) × (k ≡ n) × (xs ≡ ys)
     parts t x k n xs ys e = (cc, cc, cc)
 
+    same : (i : ℕ) → is_done p (with_worker s id (working t 0 [])) i ≡ is_done p s i
+    same i = done_set p s id i s.finished (holding t) (working t 0 []) s.cells here
+        (passed_open t (p.tile i) (p.position i))
+
 -- load, store and finish
-waves_working : (p : Plan) (s : State) (id t k m : ℕ) (xs : List ℕ) (w : Worker) (cs : List ℕ) → Sound p s
-    → get_elem? s.workers id ≡ some (working t k xs)
-    → (x u : ℕ) → x < p.tiles → u < p.tiles → IsBegun (moved s id w s.claims m cs) u → p.wave x < p.wave u
-    → IsFinished s x
-waves_working p s id t k m xs w cs sound here x u lx lu b up =
-    sound.waves x u lx lu (begun_back s id (working t k xs) w s.claims m cs u here (λ z. z) b.claimed b) up
+opened_working : (p : Plan) (s : State) (id t k m : ℕ) (xs : List ℕ) (w : Worker) (cs : List ℕ) → Sound p s
+    → get_elem? s.workers id ≡ some (working t k xs) → ((u : ℕ) → Holds w u → t ≡ u)
+    → ((i : ℕ) → i < p.places → is_done p s i ≡ true → is_done p (moved s id w s.claims m cs) i ≡ true)
+    → AreOpened p.gate p (moved s id w s.claims m cs)
+opened_working p s id t k m xs w cs sound here holds kept =
+    opened_kept p.gate p s id s.claims m (working t k xs) w cs sound.opened (omega arith)
+    (λ u f h. f.free id (working t k xs) here (holds u h)) kept
+    (λ u lu b. begun_back s id (working t k xs) w s.claims m cs u here (λ z. z) b.claimed b)
 
 -- the value found by a load is the one that execution reads there
 pub load_value : (p : Plan) (s : State) (id t k : ℕ) (xs : List ℕ) → GoodPlan p → IsDealt p → Sound p s
@@ -195,8 +223,8 @@ load_keeps p s id t k xs good deal sound here less more =
       fresh = λ j u w e ne hu hw. ne (sound.apart j id u w (working t k xs) e here hu hw);
       below = λ u h. sound.below id u (working t k xs) here h;
       tally = tally_same p s id (working t k xs) (working t k ys) sound here refl;
-      given_up = λ u f h. f.free id (working t k xs) here h;
-      waves = waves_working p s id t k s.finished xs (working t k ys) s.cells sound here;
+      opened = opened_working p s id t k s.finished xs (working t k ys) s.cells sound here (λ u h. h)
+          (λ i l e. done_set p s id i s.finished (working t k xs) (working t k ys) s.cells here refl ∙ e);
       reads = λ u n zs e. right u n zs e;
       wide = sound.wide;
       cells = cells_same p s (with_worker s id (working t k ys)) sound
@@ -243,29 +271,32 @@ passed_next p t k i xs deal less ne = by_test (nat_eq t (p.tile i)) refl
         (λ l. le-ltb (p.position i) (suc k) (omega (arith, l)) ∙ sym (le-ltb (p.position i) k (omega (arith, l))))
     by_test false e = refl
 
-pub store_keeps : (p : Plan) (s : State) (id t k : ℕ) (xs : List ℕ) → GoodPlan p → IsDealt p → Sound p s
+pub last_act_keeps : (p : Plan) (s : State) (id t k : ℕ) (xs : List ℕ) → GoodPlan p → IsDealt p → Sound p s
     → get_elem? s.workers id ≡ some (working t k xs) → k < p.size t
-    → length xs ≡ length (p.read (p.place t k))
-    → Sound p (after_store s id (working t (suc k) []) (p.written (p.place t k)) (p.value (p.place t k) xs))
-store_keeps p s id t k xs good deal sound here less all =
+    → length xs ≡ length (p.read (p.place t k)) → Sound p (after_last_act p s id t k xs)
+last_act_keeps p s id t k xs good deal sound here less all =
     changed p s id (working t k xs) (working t (suc k) []) s.claims s.finished
-    (set s.cells (p.written j) (p.value j xs)) sound record {
+    (set s.cells (p.written j) x) sound record {
       here = here;
       grows = omega arith;
       fresh = λ i u w e ne hu hw. ne (sound.apart i id u w (working t k xs) e here hu hw);
       below = λ u h. sound.below id u (working t k xs) here h;
       tally = tally_same p s id (working t k xs) (working t (suc k) []) sound here refl;
-      given_up = λ u f h. f.free id (working t k xs) here h;
-      waves = waves_working p s id t k s.finished xs (working t (suc k) [])
-          (set s.cells (p.written j) (p.value j xs)) sound here;
+      opened = opened_working p s id t k s.finished xs (working t (suc k) []) (set s.cells (p.written j) x) sound here
+          (λ u h. h) (λ i l e. nat_cases i j (λ a. same i l (λ z. omega (arith, a, z)) ∙ e)
+          (λ a. subst (λ (m : ℕ). is_done p after m ≡ true) (sym a) now)
+          (λ a. same i l (λ z. omega (arith, a, z)) ∙ e));
       reads = λ u n zs e. subst (λ w. RightOf p w) e new;
-      wide = length-set s.cells (p.written j) (p.value j xs) ∙ sound.wide;
+      wide = length-set s.cells (p.written j) x ∙ sound.wide;
       cells = λ c l. by_test c l (nat_eq c (p.written j)) refl;
       over = λ e. absurd cc;
     }
   where
     j : ℕ
     j = p.place t k
+
+    x : ℕ
+    x = written_to p s (p.written (p.place t k)) (p.value (p.place t k) xs)
 
     tiled : t < p.tiles
     tiled = (sound.below id t (working t k xs) here refl).1
@@ -274,7 +305,7 @@ store_keeps p s id t k xs good deal sound here less all =
     within = deal.place t k tiled less
 
     after : State
-    after = after_store s id (working t (suc k) []) (p.written j) (p.value j xs)
+    after = after_last_act p s id t k xs
 
     new : IsRight p t (suc k) []
     new = record { within = omega (arith, less); values = λ l. refl; over = λ z. refl }
@@ -284,7 +315,7 @@ store_keeps p s id t k xs good deal sound here less all =
 
     same : (i : ℕ) → i < p.places → i ≢ j → is_done p after i ≡ is_done p s i
     same i l ne = done_set p s id i s.finished (working t k xs) (working t (suc k) [])
-        (set s.cells (p.written j) (p.value j xs)) here (passed_next p t k i xs deal l ne)
+        (set s.cells (p.written j) x) here (passed_next p t k i xs deal l ne)
 
     is_t : t ≡ p.tile j
     is_t = sym (deal.its_tile t k tiled less)
@@ -301,19 +332,24 @@ store_keeps p s id t k xs good deal sound here less all =
         (λ h. x.0 (sound.apart m id (p.tile j) w (working t k xs) x.1 here h is_t)))
         (at_set s.workers id m (working t (suc k) []) w e))
 
+    in_row : p.written j < length s.cells
+    in_row = let w = sound.wide in let l = deal.written j within in omega (arith, w, l)
+
+    -- what it leaves is what the cells hold where it is done too
+    left : x ≡ words_of p (is_done p after) p.places (p.written j)
+    left = ap₂ (λ (a b : ℕ). updated (p.adds (p.written j)) a b) (sound.cells (p.written j) (deal.written j within))
+        (store_value p s id t k xs sound here less all)
+        ∙ sym (updated_here p (is_done p s) (is_done p after) j within r same now)
+
     by_test : (c : ℕ) → c < p.cells → (b : Bool) → nat_eq c (p.written j) ≡ b
-        → get_or (set s.cells (p.written j) (p.value j xs)) c 0 ≡ words_of p (is_done p after) p.places c
+        → get_or (set s.cells (p.written j) x) c 0 ≡ words_of p (is_done p after) p.places c
     by_test c l true e =
         let z : c ≡ p.written j = eqb-true c (p.written j) e in
-        subst
-        (λ (d : ℕ). get_or (set s.cells (p.written j) (p.value j xs)) d 0 ≡ words_of p (is_done p after) p.places d)
-        (sym z)
-        (get_or-set_same s.cells (p.written j) (p.value j xs) 0 (let w = sound.wide in omega (arith, w, l, z))
-        ∙ (store_value p s id t k xs sound here less all
-        ∙ sym (store_here p (is_done p s) (is_done p after) j within r same now)))
+        subst (λ (d : ℕ). get_or (set s.cells (p.written j) x) d 0 ≡ words_of p (is_done p after) p.places d) (sym z)
+        (get_or-set_same s.cells (p.written j) x 0 in_row ∙ left)
     by_test c l false e =
         let ne = eqb-false c (p.written j) e in
-        get_or-set_other s.cells (p.written j) c (p.value j xs) 0 ne
+        get_or-set_other s.cells (p.written j) c x 0 ne
         ∙ (sound.cells c l ∙ sym (store_else p (is_done p s) (is_done p after) j c same ne))
 
 -- who has done all instances of its tile may give it up
@@ -340,12 +376,13 @@ finish_keeps p s id t k xs deal sound here full =
           (let a = sound.tally in
           let b = total_set one_if_held s.workers id (working t k xs) idle here in
           omega (arith, a, b));
-      given_up = λ u f h. h;
-      waves = waves_working p s id t k (suc s.finished) xs idle s.cells sound here;
+      opened = opened_working p s id t k (suc s.finished) xs idle s.cells sound here (λ u h. absurd h)
+          (λ i l e. same i l ∙ e);
       reads = λ u n zs e. absurd cc;
       wide = sound.wide;
-      cells = cells_same p s (after_finish s id) sound
-          (λ i l. done_set p s id i (suc s.finished) (working t k xs) idle s.cells here
-          (passed_end p t k i xs deal l full));
+      cells = cells_same p s (after_finish s id) sound same;
       over = λ e. absurd cc;
     }
+  where
+    same : (i : ℕ) → i < p.places → is_done p (after_finish s id) i ≡ is_done p s i
+    same i l = done_set p s id i (suc s.finished) (working t k xs) idle s.cells here (passed_end p t k i xs deal l full)

@@ -1,6 +1,9 @@
 pub mod Cells
 pub mod Workers
 pub mod Waves
+pub mod CountedNumbers
+pub mod Sums
+pub mod Counters
 pub mod Changes
 pub mod ReadyInstances
 pub mod Events
@@ -10,4 +13,8 @@ pub mod Counts
 pub mod Words
 pub mod Table
 pub mod Deals
+pub mod Releases
+pub mod Covers
+pub mod Copies
+pub mod WalkCovers
 pub mod Flat

@@ -1,27 +1,39 @@
 -- Every list of events keeps what holds between events; at the start it holds, and at the end the cells are those of
 -- execution.
-use Rattle.std.proofs.Common.{◌≡◌, ℕ, zero, suc, ◌<◌, Bool, true, false, List, [], ◌∷◌, ◌++◌, length, get_or, ap, sym}
-use Rattle.std.proofs.Common.{refl, ◌∙◌, subst, arith}
+use Rattle.std.proofs.Common.{◌≡◌, ℕ, zero, suc, ◌<◌, ◌&&◌, Bool, true, false, List, [], ◌∷◌, ◌++◌, length, get_or}
+use Rattle.std.proofs.Common.{ap, sym, refl, ◌∙◌, subst, arith}
 use Rattle.std.specs.Prelude.{nat_eq, nat_lt, nat_le, if◌then◌else◌}
-use Rattle.std.proofs.lemmas.Bool.{eqb-true, ltb-true, ltb-false, leb-true, le-ltb}
+use Rattle.std.proofs.lemmas.Bool.{eqb-true, ltb-true, ltb-false, leb-true, le-ltb, and_parts}
 use mathlib.Core.Option.{some, none}
 use mathlib.Core.Option as plain
 use lib.ListN.{get_elem?}
-use Rattle.tile_events.specs.Plan.{Plan, GoodPlan, IsDealt, before, words_of}
+use Rattle.tile_events.specs.Plan.{Plan, Gate, waves, counters, GoodPlan, IsDealt, before, words_of}
 use Rattle.tile_events.specs.Core.{Worker, idle, ended, holding, working, State, Event, claim, open_tile, load, store}
+use Rattle.tile_events.specs.Core.{add, release, seen_by, needed_by, last_act, is_last_act}
 use Rattle.tile_events.specs.Core.{finish, Seen, value_read, not_enabled, with_worker, acts, step_of, step, replay}
-use Rattle.tile_events.specs.Sound.{Holds, total, one_if_held, is_done, Sound}
+use Rattle.tile_events.specs.Sound.{Holds, total, one_if_held, is_done, IsBegun, AreOpened, Sound}
 use Rattle.tile_events.specs.Opening.{IsOpening, IsQuiet, ReadsRight}
 use Rattle.tile_events.proofs.Cells.{words_all}
 use Rattle.tile_events.proofs.Workers.{passed_free}
 use Rattle.tile_events.proofs.ReadyInstances.{done_from}
-use Rattle.tile_events.proofs.Events.{claim_keeps, last_keeps, open_keeps, load_keeps, load_value, store_keeps}
+use Rattle.tile_events.proofs.Events.{claim_keeps, last_keeps, open_keeps, load_keeps, load_value, last_act_keeps}
 use Rattle.tile_events.proofs.Events.{finish_keeps}
 
 if_kept : (P : State → Type 0) (b : Bool) (x y : State × Seen) → (b ≡ true → P x.0) → (b ≡ false → P y.0)
     → P (if b then x else y).0
 if_kept P true x y f g = f refl
 if_kept P false x y f g = g refl
+
+last_act_kept : (p : Plan) (s : State) (id t k : ℕ) (xs : List ℕ) (e : Event) → GoodPlan p → IsDealt p → Sound p s
+    → get_elem? s.workers id ≡ some (working t k xs) → Sound p (last_act p s id t k xs e).0
+last_act_kept p s id t k xs e good deal sound here =
+    let all = nat_eq (length xs) (length (p.read (p.place t k))) in
+    let last = is_last_act p e (p.written (p.place t k)) in
+    if_kept (Sound p) (nat_lt k (p.size t)) _ _
+    (λ a. if_kept (Sound p) (all && last) _ _
+    (λ b. last_act_keeps p s id t k xs good deal sound here (ltb-true k (p.size t) a)
+    (eqb-true (length xs) (length (p.read (p.place t k))) (and_parts all last b).0)) (λ h. sound))
+    (λ h. sound)
 
 acts_keep : (p : Plan) (s : State) (id : ℕ) (w : Worker) (e : Event) → GoodPlan p → IsDealt p → Sound p s
     → get_elem? s.workers id ≡ some w → Sound p (acts p s id w e).0
@@ -31,14 +43,18 @@ acts_keep p s id idle claim good deal sound here =
 acts_keep p s id idle open_tile good deal sound here = sound
 acts_keep p s id idle load good deal sound here = sound
 acts_keep p s id idle store good deal sound here = sound
+acts_keep p s id idle add good deal sound here = sound
+acts_keep p s id idle release good deal sound here = sound
 acts_keep p s id idle finish good deal sound here = sound
 acts_keep p s id ended e good deal sound here = sound
 acts_keep p s id (holding t) claim good deal sound here = sound
 acts_keep p s id (holding t) open_tile good deal sound here =
-    if_kept (Sound p) (nat_le (p.offset (p.wave t)) s.finished) _ _
-    (λ h. open_keeps p s id t deal sound here (leb-true (p.offset (p.wave t)) s.finished h)) (λ h. sound)
+    if_kept (Sound p) (nat_le (needed_by p.gate p t) (seen_by p.gate s t)) _ _
+    (λ h. open_keeps p s id t deal sound here (leb-true (needed_by p.gate p t) (seen_by p.gate s t) h)) (λ h. sound)
 acts_keep p s id (holding t) load good deal sound here = sound
 acts_keep p s id (holding t) store good deal sound here = sound
+acts_keep p s id (holding t) add good deal sound here = sound
+acts_keep p s id (holding t) release good deal sound here = sound
 acts_keep p s id (holding t) finish good deal sound here = sound
 acts_keep p s id (working t k xs) claim good deal sound here = sound
 acts_keep p s id (working t k xs) open_tile good deal sound here = sound
@@ -48,12 +64,10 @@ acts_keep p s id (working t k xs) load good deal sound here =
     (λ b. load_keeps p s id t k xs good deal sound here (ltb-true k (p.size t) a)
     (ltb-true (length xs) (length (p.read (p.place t k))) b)) (λ h. sound))
     (λ h. sound)
-acts_keep p s id (working t k xs) store good deal sound here =
-    if_kept (Sound p) (nat_lt k (p.size t)) _ _
-    (λ a. if_kept (Sound p) (nat_eq (length xs) (length (p.read (p.place t k)))) _ _
-    (λ b. store_keeps p s id t k xs good deal sound here (ltb-true k (p.size t) a)
-    (eqb-true (length xs) (length (p.read (p.place t k))) b)) (λ h. sound))
-    (λ h. sound)
+acts_keep p s id (working t k xs) store good deal sound here = last_act_kept p s id t k xs store good deal sound here
+acts_keep p s id (working t k xs) add good deal sound here = last_act_kept p s id t k xs add good deal sound here
+acts_keep p s id (working t k xs) release good deal sound here =
+    last_act_kept p s id t k xs release good deal sound here
 acts_keep p s id (working t k xs) finish good deal sound here =
     if_kept (Sound p) (nat_eq k (p.size t)) _ _
     (λ h. finish_keeps p s id t k xs deal sound here (eqb-true k (p.size t) h)) (λ h. sound)
@@ -84,12 +98,16 @@ total_none [] h = refl
 total_none (w ∷ ws) h =
     let i = total_none ws (λ j x e. h (suc j) x e) in let o = ap one_if_held (h 0 w refl) in omega (arith, i, o)
 
+nothing_opened : (g : Gate) (p : Plan) (s : State) → ((u : ℕ) → IsBegun s u → ⊥) → AreOpened g p s
+nothing_opened waves p s nobody = λ t u lt lu b up. absurd (nobody u b)
+nothing_opened (counters cell needs) p s nobody = λ i u li lu b is. absurd (nobody u b)
+
 pub opening_sound : (p : Plan) (s : State) → IsOpening p s → Sound p s
 opening_sound p s o = record {
   apart = λ i j t v w ei ej hv hw. absurd (subst (λ z. Holds z t) (o.idle i v ei) hv);
   below = λ i t w e h. absurd (subst (λ z. Holds z t) (o.idle i w e) h);
   tally = (let a = total_none s.workers o.idle in let b = o.claims in let c = o.finished in omega (arith, a, b, c));
-  waves = λ t u lt lu b up. let c = b.claimed in let z = o.claims in absurd (omega (arith, c, z));
+  opened = nothing_opened p.gate p s (λ u b. let c = b.claimed in let z = o.claims in omega (arith, c, z));
   reads = λ i t k xs e. let f = o.idle i (working t k xs) e in absurd cc;
   wide = o.wide;
   cells = λ c l. o.cells c l ∙ sym

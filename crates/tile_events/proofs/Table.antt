@@ -1,6 +1,6 @@
 -- Each step on the table is an event of the core, and keeps the table's rule.
-use Rattle.std.proofs.Common.{◌≡◌, ℕ, zero, suc, ◌+◌, ◌%◌, ◌^◌, ◌<◌, ◌≤◌, ◌≢◌, ◌⊎◌, ⊎_elim, List, [], ◌∷◌, ◌++◌, length}
-use Rattle.std.proofs.Common.{drop, get_or, map, set, ap, ap₂, sym, refl, ◌∙◌, subst, arith}
+use Rattle.std.proofs.Common.{◌≡◌, ℕ, zero, suc, ◌+◌, ◌%◌, ◌^◌, ◌<◌, ◌≤◌, ◌≢◌, ◌⊎◌, ⊎_elim, Bool, true, false, List}
+use Rattle.std.proofs.Common.{[], ◌∷◌, ◌++◌, length, drop, get_or, map, set, ap, ap₂, sym, refl, ◌∙◌, subst, arith}
 use Rattle.std.specs.Prelude.{slice_index, slice_set}
 use Rattle.std.proofs.lemmas.Bool.{cases_lt}
 use Rattle.std.proofs.lemmas.List.{map-set, length-set, get_or-set_same}
@@ -10,13 +10,14 @@ use Rattle.atomic_table.specs.Table as table
 use Rattle.atomic_table.specs.Table.{Me, keeps, stepped, Allows, Splits, Joins}
 use Rattle.atomic_table.proofs.Lists.{at_map, at_set, at_snoc, set_else, set_again}
 use Rattle.scop_syntax.proofs.Members.{nat_cases}
-use Rattle.tile_events.specs.Plan.{Plan, before, values_read}
-use Rattle.tile_events.specs.Core.{Worker, idle, ended, holding, working, State, with_worker, cell_read, after_store}
+use Rattle.tile_events.specs.Plan.{Plan, Gate, waves, counters, updated, before, values_read}
+use Rattle.tile_events.specs.Core.{Worker, idle, ended, holding, working, State, with_worker, cell_read, after_write}
+use Rattle.tile_events.specs.Core.{written_to, seen_by, needed_by}
 use Rattle.tile_events.specs.Sound.{Holds, total, Sound}
-use Rattle.tile_events.specs.Rule.{core, if_ended, AtRest, Held}
+use Rattle.tile_events.specs.Rule.{core, if_ended, AtRest, gate_word, Held}
 use Rattle.tile_events.proofs.Words.{core_claims, core_finished, core_cell, word_of_cell, same_word, word_other, small}
 use Rattle.tile_events.proofs.Workers.{total_set, total_le, total_last, total_two}
-use Rattle.tile_events.proofs.Events.{claim_keeps, last_keeps, open_keeps, load_keeps, load_value, store_keeps}
+use Rattle.tile_events.proofs.Events.{claim_keeps, last_keeps, open_keeps, load_keeps, load_value, last_act_keeps}
 use Rattle.tile_events.proofs.Events.{finish_keeps}
 use Rattle.tile_events.proofs.Runs.{quiet_cells}
 use Rattle.tile_events.proofs.Rests.{holds_none, rest_keeps, more_keeps}
@@ -175,25 +176,38 @@ module _ {V : Type 0} (p : Plan) (most : ℕ) (worker : V → Worker) (parts : V
       (ap₂ (λ (ws : List ℕ) (vs : List V). record { words = ws; homes = s.homes; views = vs })
       (sym (same_word s.words i)) (sym (set_again s.views id v here))) h
 
-  -- open: one load of word 1
+  -- the word of a gate holds what is counted
+  gate_seen : (g : Gate) (s : table.State (Unit {0}) V) (t : ℕ) → 2 ≤ length s.words
+      → slice_index s.words (gate_word g t) ≡ seen_by g (core_of s) t
+  gate_seen waves s t long = refl
+  gate_seen (counters cell needs) s t long = word_of_cell s.words (cell t) long
+
+  gate_far : (g : Gate) (t : ℕ) → 0 < gate_word g t
+  gate_far waves t = omega arith
+  gate_far (counters cell needs) t = omega arith
+
+  -- open: one load of the word of the tile's gate
   pub open_step : (slots id t : ℕ) (me : Me (Unit {0}) V) (opened : V) (then : ℕ → Me (Unit {0}) V → Type 0)
       → worker me.0 ≡ holding t → worker opened ≡ working t 0 [] → parts opened ≡ parts me.0
-      → ((n : ℕ) → p.offset (p.wave t) ≤ n → then n (opened, me.1))
-      → ((n : ℕ) → n < p.offset (p.wave t) → then n (me.0, me.1))
-      → Allows (Held p most worker parts) slots id me 1 (λ n. n) then
-  open_step slots id t me opened then is becomes same yes_then no_then = λ s h homes here bound. ⊎_elim
-      (λ (l : slice_index s.words 1 < p.offset (p.wave t)).
-      (me.0, keeps, tt, unchanged s id 1 me.0 me.1 h here, no_then (slice_index s.words 1) l))
-      (λ (g : p.offset (p.wave t) ≤ slice_index s.words 1). (
+      → ((n : ℕ) → needed_by p.gate p t ≤ n → then n (opened, me.1))
+      → ((n : ℕ) → n < needed_by p.gate p t → then n (me.0, me.1))
+      → Allows (Held p most worker parts) slots id me (gate_word p.gate t) (λ n. n) then
+  open_step slots id t me opened then is becomes same yes_then no_then = λ s h homes here bound.
+      let i : ℕ = gate_word p.gate t in
+      let at = gate_seen p.gate s t h.long in ⊎_elim
+      (λ (l : slice_index s.words (gate_word p.gate t) < needed_by p.gate p t).
+      (me.0, keeps, tt, unchanged s id i me.0 me.1 h here, no_then (slice_index s.words i) l))
+      (λ (g : needed_by p.gate p t ≤ slice_index s.words (gate_word p.gate t)). (
         opened,
         keeps,
         tt,
-        viewed s id 1 me.0 opened (holding t) (working t 0 []) me.1 h here same is becomes refl (omega arith)
+        viewed s id i me.0 opened (holding t) (working t 0 []) me.1 h here same is becomes refl (gate_far p.gate t)
             (some_at s id t me.0 (holding t) h here is refl)
-            (open_keeps p (core_of s) id t h.dealt h.sound (seen_at s id me.0 (holding t) here is) g),
-        yes_then (slice_index s.words 1) g,
+            (open_keeps p (core_of s) id t h.dealt h.sound (seen_at s id me.0 (holding t) here is)
+            (subst (λ (n : ℕ). needed_by p.gate p t ≤ n) at g)),
+        yes_then (slice_index s.words i) g,
       ))
-      (cases_lt (slice_index s.words 1) (p.offset (p.wave t)))
+      (cases_lt (slice_index s.words i) (needed_by p.gate p t))
 
   -- load: one load of the next cell to be read, and the value is the one that execution read
   pub load_step : (slots id t k : ℕ) (xs : List ℕ) (me : Me (Unit {0}) V) (next : ℕ → V)
@@ -218,27 +232,62 @@ module _ {V : Type 0} (p : Plan) (most : ℕ) (worker : V → Worker) (parts : V
         t_then x (at ∙ load_value p (core_of s) id t k xs h.good h.dealt h.sound there less more),
       )
 
+  -- the last act of the next instance: its cell gets what the core says
+  last_act_step : (id t k : ℕ) (xs : List ℕ) (me : Me (Unit {0}) V) (next : V) (s : table.State (Unit {0}) V)
+      → worker me.0 ≡ working t k xs → worker next ≡ working t (suc k) [] → parts next ≡ parts me.0
+      → k < p.size t → length xs ≡ length (p.read (p.place t k)) → Held p most worker parts s
+      → get_elem? s.views id ≡ some me.0 → (x : ℕ)
+      → x ≡ updated (p.adds (p.written (p.place t k))) (slice_index s.words (p.written (p.place t k) + 2))
+      (p.value (p.place t k) xs)
+      → Held p most worker parts (stepped s (p.written (p.place t k) + 2) x id me.1 next keeps)
+  last_act_step id t k xs me next s is becomes same less all h here x value =
+      let c : ℕ = p.written (p.place t k) in
+      let there = seen_at s id me.0 (working t k xs) here is in
+      let y : x ≡ written_to p (core_of s) c (p.value (p.place t k) xs) =
+      value ∙ ap (λ (n : ℕ). updated (p.adds c) n (p.value (p.place t k) xs)) (word_of_cell s.words c h.long) in
+      kept s id (c + 2) x me.0 next me.1 h here same
+      (λ u q. let z = some_at s id t me.0 (working t k xs) h here is refl in omega (arith, same, z))
+      (subst (Sound p) (sym (core_cell s.words (set (map worker s.views) id (worker next)) c x h.long))
+      (subst (λ (z : Worker). Sound p (after_write (core_of s) id z c x)) (sym becomes)
+      (subst (λ (y : ℕ). Sound p (after_write (core_of s) id (working t (suc k) []) c y)) (sym y)
+      (last_act_keeps p (core_of s) id t k xs h.good h.dealt h.sound there less all))))
+      (claims_same s id (c + 2) x me.0 next h here (idle_none me.0 (working t k xs) is refl) (omega arith))
+
   -- store: one store of the next instance's value to its cell
   pub store_step : (slots id t k x : ℕ) (xs : List ℕ) (me : Me (Unit {0}) V) (next : V)
       (then : ℕ → Me (Unit {0}) V → Type 0)
       → worker me.0 ≡ working t k xs → worker next ≡ working t (suc k) [] → parts next ≡ parts me.0
-      → k < p.size t → length xs ≡ length (p.read (p.place t k)) → x ≡ p.value (p.place t k) xs
-      → ((n : ℕ) → then n (next, me.1))
+      → k < p.size t → length xs ≡ length (p.read (p.place t k)) → p.adds (p.written (p.place t k)) ≡ false
+      → x ≡ p.value (p.place t k) xs → ((n : ℕ) → then n (next, me.1))
       → Allows (Held p most worker parts) slots id me (p.written (p.place t k) + 2) (λ _. x) then
-  store_step slots id t k x xs me next then is becomes same less all value t_then = λ s h homes here bound.
-      let c : ℕ = p.written (p.place t k) in
-      let there = seen_at s id me.0 (working t k xs) here is in (
+  store_step slots id t k x xs me next then is becomes same less all stores value t_then = λ s h homes here bound.
+      let c : ℕ = p.written (p.place t k) in (
         next,
         keeps,
         tt,
-        kept s id (c + 2) x me.0 next me.1 h here same
-            (λ u q. let z = some_at s id t me.0 (working t k xs) h here is refl in omega (arith, same, z))
-            (subst (Sound p) (sym (core_cell s.words (set (map worker s.views) id (worker next)) c x h.long))
-            (subst (λ (z : Worker). Sound p (after_store (core_of s) id z c x)) (sym becomes)
-            (subst (λ (y : ℕ). Sound p (after_store (core_of s) id (working t (suc k) []) c y)) (sym value)
-            (store_keeps p (core_of s) id t k xs h.good h.dealt h.sound there less all))))
-            (claims_same s id (c + 2) x me.0 next h here (idle_none me.0 (working t k xs) is refl) (omega arith)),
+        last_act_step id t k xs me next s is becomes same less all h here x
+            (value ∙ sym
+            (ap (λ (b : Bool). updated b (slice_index s.words (c + 2)) (p.value (p.place t k) xs)) stores)),
         t_then (slice_index s.words (c + 2)),
+      )
+
+  -- add: one fetch_add of the next instance's value to its cell
+  pub add_step : (slots id t k x : ℕ) (xs : List ℕ) (me : Me (Unit {0}) V) (next : V)
+      (then : ℕ → Me (Unit {0}) V → Type 0)
+      → worker me.0 ≡ working t k xs → worker next ≡ working t (suc k) [] → parts next ≡ parts me.0
+      → k < p.size t → length xs ≡ length (p.read (p.place t k)) → p.adds (p.written (p.place t k)) ≡ true
+      → x ≡ p.value (p.place t k) xs → ((n : ℕ) → then n (next, me.1))
+      → Allows (Held p most worker parts) slots id me (p.written (p.place t k) + 2) (λ n. (n + x) % 2 ^ 64) then
+  add_step slots id t k x xs me next then is becomes same less all adds value t_then = λ s h homes here bound.
+      let c : ℕ = p.written (p.place t k) in
+      let n : ℕ = slice_index s.words (c + 2) in (
+        next,
+        keeps,
+        tt,
+        last_act_step id t k xs me next s is becomes same less all h here ((n + x) % 2 ^ 64)
+            (ap (λ (y : ℕ). updated true n y) value
+            ∙ sym (ap (λ (b : Bool). updated b n (p.value (p.place t k) xs)) adds)),
+        t_then n,
       )
 
   -- finish: one fetch_add of word 1

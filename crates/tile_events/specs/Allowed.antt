@@ -1,14 +1,14 @@
 -- What the rule of the table allows a seat, whatever its views are and whatever a step tells of them (`then`, of the
 -- step, the seat before, the number found and the seat after).
-use Rattle.std.specs.Prelude.{◌≡◌, ℕ, suc, ◌+◌, ◌%◌, ◌^◌, ◌<◌, ◌≤◌, ◌⊎◌, List, [], ◌∷◌, ◌++◌, length, get_or}
-use Rattle.std.specs.Prelude.{slice_index}
+use Rattle.std.specs.Prelude.{◌≡◌, ℕ, suc, ◌+◌, ◌%◌, ◌^◌, ◌<◌, ◌≤◌, ◌⊎◌, true, false, List, [], ◌∷◌, ◌++◌, length}
+use Rattle.std.specs.Prelude.{get_or, slice_index}
 use mathlib.Core.Option.{none, some}
 use lib.ListN.{get_elem?}
 use Rattle.atomic_table.specs.Table as table
 use Rattle.atomic_table.specs.Table.{Me, Step, step, Allows, Splits, Joins}
 use Rattle.tile_events.specs.Plan.{Plan, before, values_read}
-use Rattle.tile_events.specs.Core.{Worker, idle, ended, holding, working, cell_read}
-use Rattle.tile_events.specs.Rule.{if_ended, AtRest, Held}
+use Rattle.tile_events.specs.Core.{Worker, idle, ended, holding, working, cell_read, needed_by}
+use Rattle.tile_events.specs.Rule.{if_ended, AtRest, gate_word, Held}
 
 -- what a step tells of its seat
 abbrev pub Tells : Type 0 → Type 1
@@ -26,15 +26,16 @@ ClaimIsAllowed {V} then = (p : Plan) (most : ℕ) (worker : V → Worker) (parts
     → ((t : ℕ) → p.tiles ≤ t → then (step slots 0 1 0 none) me t (lost, me.1))
     → Allows (Held p most worker parts) slots id me 0 (λ n. (n + 1) % 2 ^ 64) (then (step slots 0 1 0 none) me)
 
--- an opening, one load of word 1: the tile held is opened where as many tiles are finished as lie in earlier waves,
+-- an opening, one load of the word of the tile's gate: the tile held is opened where that holds as much as it needs,
 -- else the view stays
 abbrev pub OpenIsAllowed : {V : Type 0} → Tells V → Type 0
 OpenIsAllowed {V} then = (p : Plan) (most : ℕ) (worker : V → Worker) (parts : V → ℕ) (slots id t : ℕ)
     (me : Me (Unit {0}) V) (opened : V)
     → worker me.0 ≡ holding t → worker opened ≡ working t 0 [] → parts opened ≡ parts me.0
-    → ((n : ℕ) → p.offset (p.wave t) ≤ n → then (step slots 1 0 0 none) me n (opened, me.1))
-    → ((n : ℕ) → n < p.offset (p.wave t) → then (step slots 1 0 0 none) me n (me.0, me.1))
-    → Allows (Held p most worker parts) slots id me 1 (λ n. n) (then (step slots 1 0 0 none) me)
+    → ((n : ℕ) → needed_by p.gate p t ≤ n → then (step slots (gate_word p.gate t) 0 0 none) me n (opened, me.1))
+    → ((n : ℕ) → n < needed_by p.gate p t → then (step slots (gate_word p.gate t) 0 0 none) me n (me.0, me.1))
+    → Allows (Held p most worker parts) slots id me (gate_word p.gate t) (λ n. n)
+    (then (step slots (gate_word p.gate t) 0 0 none) me)
 
 -- a load of the next cell of the next instance: the number found is the one that execution reads there
 abbrev pub LoadIsAllowed : {V : Type 0} → Tells V → Type 0
@@ -48,15 +49,28 @@ LoadIsAllowed {V} then = (p : Plan) (most : ℕ) (worker : V → Worker) (parts 
     → Allows (Held p most worker parts) slots id me (cell_read p t k (length xs) + 2) (λ n. n)
     (then (step slots (cell_read p t k (length xs) + 2) 0 0 none) me)
 
--- a store of the next instance's value in its cell, where all that it reads was read
+-- a store of the next instance's value in its cell, where all that it reads was read, and its cell is stored to
 abbrev pub StoreIsAllowed : {V : Type 0} → Tells V → Type 0
 StoreIsAllowed {V} then = (p : Plan) (most : ℕ) (worker : V → Worker) (parts : V → ℕ) (slots id t k x : ℕ) (xs : List ℕ)
     (me : Me (Unit {0}) V) (next : V)
     → worker me.0 ≡ working t k xs → worker next ≡ working t (suc k) [] → parts next ≡ parts me.0
-    → k < p.size t → length xs ≡ length (p.read (p.place t k)) → x ≡ p.value (p.place t k) xs
+    → k < p.size t → length xs ≡ length (p.read (p.place t k)) → p.adds (p.written (p.place t k)) ≡ false
+    → x ≡ p.value (p.place t k) xs
     → then (step slots (p.written (p.place t k) + 2) x 0 none) me x (next, me.1)
     → Allows (Held p most worker parts) slots id me (p.written (p.place t k) + 2) (λ _. x)
     (λ _. then (step slots (p.written (p.place t k) + 2) x 0 none) me x)
+
+-- an add or a release, one `fetch_add` of the next instance's value to its cell, where all that it reads was read, and
+-- its cell is added to
+abbrev pub AddIsAllowed : {V : Type 0} → Tells V → Type 0
+AddIsAllowed {V} then = (p : Plan) (most : ℕ) (worker : V → Worker) (parts : V → ℕ) (slots id t k x : ℕ) (xs : List ℕ)
+    (me : Me (Unit {0}) V) (next : V)
+    → worker me.0 ≡ working t k xs → worker next ≡ working t (suc k) [] → parts next ≡ parts me.0
+    → k < p.size t → length xs ≡ length (p.read (p.place t k)) → p.adds (p.written (p.place t k)) ≡ true
+    → x ≡ p.value (p.place t k) xs
+    → ((n : ℕ) → then (step slots (p.written (p.place t k) + 2) x 0 none) me n (next, me.1))
+    → Allows (Held p most worker parts) slots id me (p.written (p.place t k) + 2) (λ n. (n + x) % 2 ^ 64)
+    (then (step slots (p.written (p.place t k) + 2) x 0 none) me)
 
 -- the end of a tile of which all instances are done, one `fetch_add` of word 1
 abbrev pub FinishIsAllowed : {V : Type 0} → Tells V → Type 0

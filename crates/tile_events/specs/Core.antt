@@ -1,11 +1,11 @@
--- The core of a parallel run: workers that claim tiles, open them in the order of the waves, do their instances and
--- finish them, one event after another.
+-- The core of a parallel run: workers that claim tiles, open them once what they wait for is done, do their instances
+-- and finish them, one event after another.
 use Rattle.std.specs.Prelude.{ℕ, suc, List, [], ◌∷◌, ◌++◌, length, get_or, set, Option, Some, None}
-use Rattle.std.specs.Prelude.{nat_eq, nat_lt, nat_le, if◌then◌else◌}
+use Rattle.std.specs.Prelude.{Bool, true, false, not, ◌&&◌, nat_eq, nat_lt, nat_le, if◌then◌else◌}
 use mathlib.Core.Option.{some, none}
 use mathlib.Core.Option as plain
 use lib.ListN.{get_elem?}
-use Rattle.tile_events.specs.Plan.{Plan}
+use Rattle.tile_events.specs.Plan.{Plan, Gate, waves, counters, updated}
 
 -- where a worker stands
 pub data Worker : Type 0 where
@@ -39,6 +39,10 @@ pub data Event : Type 0 where
   load : Event
   -- it stores the value of its instance
   store : Event
+  -- it adds the value of its instance
+  add : Event
+  -- it adds 1 to the counter of the next tile that waits for its own
+  release : Event
   -- it finishes its tile
   finish : Event
 
@@ -50,10 +54,16 @@ pub data Seen : Type 0 where
   opened : Seen
   -- it is not: so many tiles are finished, and so many have to be
   not_yet : ℕ → ℕ → Seen
+  -- nor here: its counter holds so much, and has to hold so much
+  short : ℕ → ℕ → Seen
   -- the value read
   value_read : ℕ → Seen
   -- the value is stored
   stored : Seen
+  -- it is added
+  added : Seen
+  -- the other tile's counter is raised
+  released : Seen
   -- the tile is finished
   done : Seen
   -- where it stands, the worker has no such event
@@ -78,10 +88,63 @@ abbrev pub with_worker : State → ℕ → Worker → State
 with_worker s id w =
     record { claims = s.claims; finished = s.finished; cells = s.cells; workers = put s id w }
 
--- after it has stored x in cell c
-abbrev pub after_store : State → ℕ → Worker → ℕ → ℕ → State
-after_store s id w c x =
+-- after x was written to cell c
+abbrev pub after_write : State → ℕ → Worker → ℕ → ℕ → State
+after_write s id w c x =
     record { claims = s.claims; finished = s.finished; cells = set s.cells c x; workers = put s id w }
+
+-- what cell c holds after x was stored there or added to it
+abbrev pub written_to : Plan → State → ℕ → ℕ → ℕ
+written_to p s c x = updated (p.adds c) (get_or s.cells c 0) x
+
+-- after it has done the last act of instance k of tile t
+abbrev pub after_last_act : Plan → State → ℕ → ℕ → ℕ → List ℕ → State
+after_last_act p s id t k xs = after_write s id (working t (suc k) []) (p.written (p.place t k))
+    (written_to p s (p.written (p.place t k)) (p.value (p.place t k) xs))
+
+-- what is seen of the gate of tile t
+abbrev pub seen_by : Gate → State → ℕ → ℕ
+seen_by waves s t = s.finished
+seen_by (counters cell needs) s t = get_or s.cells (cell t) 0
+
+-- how much has to be seen there
+abbrev pub needed_by : Gate → Plan → ℕ → ℕ
+needed_by waves p t = p.offset (p.wave t)
+needed_by (counters cell needs) p t = needs t
+
+-- what an opening tells where it sees a of the b that have to be seen
+abbrev pub shut : Gate → ℕ → ℕ → Seen
+shut waves a b = not_yet a b
+shut (counters cell needs) a b = short a b
+
+-- whether tiles are opened by counters
+abbrev pub is_counted : Gate → Bool
+is_counted waves = false
+is_counted (counters cell needs) = true
+
+-- whether the event is the last act of an instance that writes cell c: where tiles have counters, who adds to a cell
+-- releases
+abbrev pub is_last_act : Plan → Event → ℕ → Bool
+is_last_act p store c = not (p.adds c)
+is_last_act p add c = p.adds c && not (is_counted p.gate)
+is_last_act p release c = p.adds c && is_counted p.gate
+is_last_act p e c = false
+
+-- what such an event tells
+abbrev pub told : Event → Seen
+told store = stored
+told add = added
+told release = released
+told e = not_enabled
+
+-- the last act of instance k of tile t, where the event is of the kind that its cell asks for
+abbrev pub last_act : Plan → State → ℕ → ℕ → ℕ → List ℕ → Event → State × Seen
+last_act p s id t k xs e =
+    if nat_lt k (p.size t)
+    then (if nat_eq (length xs) (length (p.read (p.place t k))) && is_last_act p e (p.written (p.place t k))
+    then (after_last_act p s id t k xs, told e)
+    else (s, not_enabled))
+    else (s, not_enabled)
 
 -- after it has finished its tile
 abbrev pub after_finish : State → ℕ → State
@@ -106,15 +169,19 @@ acts p s id idle claim =
 acts p s id idle open_tile = (s, not_enabled)
 acts p s id idle load = (s, not_enabled)
 acts p s id idle store = (s, not_enabled)
+acts p s id idle add = (s, not_enabled)
+acts p s id idle release = (s, not_enabled)
 acts p s id idle finish = (s, not_enabled)
 acts p s id ended e = (s, not_enabled)
 acts p s id (holding t) claim = (s, not_enabled)
 acts p s id (holding t) open_tile =
-    if nat_le (p.offset (p.wave t)) s.finished
+    if nat_le (needed_by p.gate p t) (seen_by p.gate s t)
     then (with_worker s id (working t 0 []), opened)
-    else (s, not_yet s.finished (p.offset (p.wave t)))
+    else (s, shut p.gate (seen_by p.gate s t) (needed_by p.gate p t))
 acts p s id (holding t) load = (s, not_enabled)
 acts p s id (holding t) store = (s, not_enabled)
+acts p s id (holding t) add = (s, not_enabled)
+acts p s id (holding t) release = (s, not_enabled)
 acts p s id (holding t) finish = (s, not_enabled)
 acts p s id (working t k xs) claim = (s, not_enabled)
 acts p s id (working t k xs) open_tile = (s, not_enabled)
@@ -124,12 +191,9 @@ acts p s id (working t k xs) load =
     then (after_load p s id t k xs, value_read (get_or s.cells (cell_read p t k (length xs)) 0))
     else (s, not_enabled))
     else (s, not_enabled)
-acts p s id (working t k xs) store =
-    if nat_lt k (p.size t)
-    then (if nat_eq (length xs) (length (p.read (p.place t k)))
-    then (after_store s id (working t (suc k) []) (p.written (p.place t k)) (p.value (p.place t k) xs), stored)
-    else (s, not_enabled))
-    else (s, not_enabled)
+acts p s id (working t k xs) store = last_act p s id t k xs store
+acts p s id (working t k xs) add = last_act p s id t k xs add
+acts p s id (working t k xs) release = last_act p s id t k xs release
 acts p s id (working t k xs) finish =
     if nat_eq k (p.size t) then (after_finish s id, done) else (s, not_enabled)
 

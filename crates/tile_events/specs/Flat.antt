@@ -1,34 +1,71 @@
 -- The cells of all arrays in one row, and the functions of a plan whose places are the visits of a walk.
-use Rattle.std.specs.Prelude.{◌≡◌, ℕ, List, [], ◌∷◌, ◌++◌, map, slice_get, Option, Some, None}
+use Rattle.std.specs.Prelude.{◌≡◌, ℕ, ◌-◌, ◌%◌, ◌^◌, ⊤, Bool, true, false, ℤ, List, [], ◌∷◌, ◌++◌, map, drop}
+use Rattle.std.specs.Prelude.{slice_get, Option, Some, None, nat_eq, if◌then◌else◌}
 use Rattle.tile_events.specs.Plan.{Plan}
-use Rattle.scop_syntax.specs.Cells.{Cell, written, cells_read}
+use Rattle.scop_syntax.specs.Tree.{Access, Operator, plus, minus, Right, combined, Statement}
+use Rattle.scop_syntax.specs.Members.{In}
+use Rattle.scop_syntax.specs.Cells.{Cell, cell_of, written, reads}
 use Rattle.scop_syntax.specs.Walk.{Visit}
-use Rattle.scop_syntax.specs.Values.{stored_by}
+use Rattle.scop_syntax.specs.Values.{value_on, stored_by}
 use Rattle.scop_syntax.specs.Execution.{cell_number, held, IsCell}
+
+-- whether an array is marked: one of those to which all statements that write it add
+abbrev pub is_marked : List ℕ → ℕ → Bool
+is_marked [] a = false
+is_marked (m ∷ ms) a = if nat_eq m a then true else is_marked ms a
+
+-- what a statement loads: all that it reads, but not its own place where that lies in a marked array
+abbrev pub loads : List ℕ → Statement → List Access
+loads marked s = if is_marked marked s.place.array then drop 1 (reads s) else reads s
+
+-- what += and -= add, where the right side has value x, modulo 2^64
+abbrev pub addend : Operator → ℕ → ℕ
+addend plus x = x
+addend minus x = (2 ^ 64 - x) % 2 ^ 64
+addend op x = 0
+
+-- what a statement adds to its place, by the values that it has loaded
+abbrev pub added_by : Right → List ℤ → List ℕ → ℕ
+added_by (combined op e) point xs = addend op (value_on e point xs)
+added_by right point xs = 0
+
+-- it is a sum: place += value, place -= value
+abbrev pub IsSum : Right → Type 0
+IsSum (combined plus e) = ⊤
+IsSum (combined minus e) = ⊤
+IsSum right = ⊥
+
+-- marked arrays are only added to: what writes one is a sum, and nothing is loaded from one
+pub record AreMarked (marked : List ℕ) (visits : List Visit) : Type 0 where
+  pub sums : (v : Visit) → In v visits → is_marked marked v.body.place.array ≡ true → IsSum v.body.right
+  pub others : (v : Visit) (a : Access) → In v visits → In a (loads marked v.body) → is_marked marked a.array ≡ false
 
 -- the number of the cell that a visit writes; 0 where there is no visit
 abbrev pub written_by : List (List ℕ) → Option Visit → ℕ
 written_by extents None = 0
 written_by extents (Some v) = cell_number extents (written v)
 
--- the numbers of the cells that a visit reads; none where there is no visit
-abbrev pub read_by : List (List ℕ) → Option Visit → List ℕ
-read_by extents None = []
-read_by extents (Some v) = map (cell_number extents) (cells_read v)
+-- the numbers of the cells that a visit loads; none where there is no visit
+abbrev pub read_by : List (List ℕ) → List ℕ → Option Visit → List ℕ
+read_by extents marked None = []
+read_by extents marked (Some v) =
+    map (cell_number extents) (map (λ access. cell_of access v.point) (loads marked v.body))
 
--- what a visit stores, by the values that it has read; 0 where there is no visit
-abbrev pub value_by : Option Visit → List ℕ → ℕ
-value_by None xs = 0
-value_by (Some v) xs = stored_by v.body.right v.point xs
+-- what a visit stores or adds, by the values that it has loaded; 0 where there is no visit
+abbrev pub value_by : List ℕ → Option Visit → List ℕ → ℕ
+value_by marked None xs = 0
+value_by marked (Some v) xs =
+    if is_marked marked v.body.place.array then added_by v.body.right v.point xs else stored_by v.body.right v.point xs
 
 -- the contents of all arrays, one behind another
 abbrev pub flat : List (List ℕ) → List ℕ
 flat [] = []
 flat (row ∷ rows) = row ++ flat rows
 
--- place j of the plan touches and stores what visit j does, over these contents at first
-pub record IsWalk (extents contents : List (List ℕ)) (visits : List Visit) (p : Plan) : Type 0 where
+-- place j of the plan touches and stores or adds what visit j does, over these contents at first
+pub record IsWalk (extents contents : List (List ℕ)) (marked : List ℕ) (visits : List Visit) (p : Plan) : Type 0 where
   pub written : (j : ℕ) → p.written j ≡ written_by extents (slice_get visits j)
-  pub read : (j : ℕ) → p.read j ≡ read_by extents (slice_get visits j)
-  pub value : (j : ℕ) (xs : List ℕ) → p.value j xs ≡ value_by (slice_get visits j) xs
+  pub read : (j : ℕ) → p.read j ≡ read_by extents marked (slice_get visits j)
+  pub adds : (c : Cell) → IsCell extents c → p.adds (cell_number extents c) ≡ is_marked marked c.array
+  pub value : (j : ℕ) (xs : List ℕ) → p.value j xs ≡ value_by marked (slice_get visits j) xs
   pub initial : (c : Cell) → IsCell extents c → p.initial (cell_number extents c) ≡ held extents contents c

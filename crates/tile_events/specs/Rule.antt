@@ -1,7 +1,7 @@
 -- The rule of an atomic table on which such a run goes on: words and views show a state of the core, and it is sound.
 use Rattle.std.specs.Prelude.{◌≡◌, ℕ, ◌+◌, ◌<◌, ◌≤◌, ⊤, List, map, length, drop, slice_index}
 use Rattle.atomic_table.specs.Table as table
-use Rattle.tile_events.specs.Plan.{Plan, GoodPlan, IsDealt}
+use Rattle.tile_events.specs.Plan.{Plan, Gate, waves, counters, GoodPlan, IsDealt}
 use Rattle.tile_events.specs.Core.{Worker, idle, ended, holding, working, State}
 use lib.ListN.{get_elem?}
 use mathlib.Core.Option.{some}
@@ -11,6 +11,11 @@ use Rattle.tile_events.specs.Sound.{Holds, total, Sound}
 abbrev pub core : List ℕ → List Worker → State
 core words workers =
     record { claims = slice_index words 0; finished = slice_index words 1; cells = drop 2 words; workers = workers }
+
+-- the word that is loaded to open tile t: the count of finished tiles, or the tile's counter
+abbrev pub gate_word : Gate → ℕ → ℕ
+gate_word waves t = 1
+gate_word (counters cell needs) t = cell t + 2
 
 -- the number where the worker has ended, else 0
 abbrev pub if_ended : Worker → ℕ → ℕ

@@ -1,31 +1,42 @@
-//! Laws that tie a plan to the walk of a program, as contracts of a function that calls the law which their proofs use.
-ghost use Rattle.std.specs.Prelude.{◌≡◌, ℕ, ◌≤◌, List, length, slice_get, slice_index_or, Some};
+//! Laws that tie a plan to the walk of a program, as contracts of functions that call the law which their proofs use.
+ghost use Rattle.std.specs.Prelude.{◌≡◌, ℕ, ◌≤◌, List, [], length, map, slice_get, slice_index_or, Some, false};
 ghost use Rattle.scop_syntax.specs.Walk.{Visit};
-ghost use Rattle.scop_syntax.specs.Cells.{Cell, Conflict};
+ghost use Rattle.scop_syntax.specs.Cells.{Cell, Conflict, cell_of};
 ghost use Rattle.scop_syntax.specs.Execution.{AreInside, IsCell, IsShaped, before_place, cell_number, held};
-ghost use Rattle.scop_syntax.specs.Execution.{performed_all, values_read_by};
-ghost use Rattle.tile_events.specs.Flat.{IsWalk, flat};
+ghost use Rattle.scop_syntax.specs.Execution.{performed_all};
+ghost use Rattle.tile_events.specs.Covers.{Covers, IsCover};
+ghost use Rattle.tile_events.specs.Flat.{AreMarked, IsWalk, flat, is_marked, loads};
 ghost use Rattle.tile_events.specs.Plan.{Plan, Touch, before, values_read};
 
 use scop_syntax::execution_laws::cells_have_numbers_of_their_own;
 
-/// The values that a place reads and the cells at the end are those of the walk's execution, the row of the arrays
-/// holds what they hold, and places that touch are in conflict.
+/// The values that a place loads and the cells at the end are those of the walk's execution, the row of the arrays
+/// holds what they hold, and places that touch are in conflict, on an array that is not marked.
 pub fn plans_execute_the_walk()
-    ensures reads { (extents contents : List (List ℕ)) (visits : List Visit) (p : Plan)
-        → IsWalk extents contents visits p → IsShaped extents contents → AreInside extents visits
-        → (k : ℕ) (v : Visit) → slice_get visits k ≡ Some v → k ≤ length visits
-        → values_read p k ≡ values_read_by extents (before_place extents contents visits k) v.body v.point }
-    ensures end { (extents contents : List (List ℕ)) (visits : List Visit) (p : Plan)
-        → IsWalk extents contents visits p → p.places ≡ length visits → IsShaped extents contents
+    ensures reads { (extents contents : List (List ℕ)) (marked : List ℕ) (visits : List Visit) (p : Plan)
+        → IsWalk extents contents marked visits p → AreMarked marked visits → IsShaped extents contents
+        → AreInside extents visits → (k : ℕ) (v : Visit) → slice_get visits k ≡ Some v → k ≤ length visits
+        → values_read p k ≡ map (λ access. held extents (before_place extents contents visits k)
+        (cell_of access v.point)) (loads marked v.body) }
+    ensures end { (extents contents : List (List ℕ)) (marked : List ℕ) (visits : List Visit) (p : Plan)
+        → IsWalk extents contents marked visits p → AreMarked marked visits → IsShaped extents contents
         → AreInside extents visits → (c : Cell) → IsCell extents c
-        → before p p.places (cell_number extents c) ≡ held extents (performed_all extents contents visits) c }
+        → before p (length visits) (cell_number extents c) ≡ held extents (performed_all extents contents visits) c }
     ensures row { (extents contents : List (List ℕ)) (c : Cell) → IsShaped extents contents → IsCell extents c
         → slice_index_or (flat contents) (cell_number extents c) 0 ≡ held extents contents c }
-    ensures conflicts { (extents contents : List (List ℕ)) (visits : List Visit) (p : Plan)
-        → IsWalk extents contents visits p → AreInside extents visits
+    ensures conflicts { (extents contents : List (List ℕ)) (marked : List ℕ) (visits : List Visit) (p : Plan)
+        → IsWalk extents contents marked visits p → AreMarked marked visits → AreInside extents visits
         → (i j : ℕ) (v w : Visit) → slice_get visits i ≡ Some v → slice_get visits j ≡ Some w → Touch p i j
-        → (a : ℕ) × (b : ℕ) × Conflict v a w b }
+        → (a : ℕ) × (b : ℕ) × (c : Conflict v a w b) × (is_marked marked c.first.array ≡ false) }
+{
+    cells_have_numbers_of_their_own();
+}
+
+/// Where no array is marked, the covers of a walk's plan are those of its visits.
+pub fn covers_are_those_of_the_walk()
+    ensures { (extents contents : List (List ℕ)) (visits : List Visit) (p : Plan)
+        → IsWalk extents contents [] visits p → AreInside extents visits → p.places ≡ length visits → (i j : ℕ)
+        → (Covers p i j → IsCover visits i j) × (IsCover visits i j → Covers p i j) }
 {
     cells_have_numbers_of_their_own();
 }

@@ -1,7 +1,8 @@
 //! Laws of the rule of an atomic table, as contracts of functions that do nothing: which steps it allows a seat, and
 //! what the words are at the end.
-ghost use Rattle.tile_events.specs.Allowed.{ClaimIsAllowed, EndIsExecuted, FinishIsAllowed, JoinIsAllowed};
-ghost use Rattle.tile_events.specs.Allowed.{LoadIsAllowed, OpenIsAllowed, SplitIsAllowed, StoreIsAllowed};
+ghost use Rattle.tile_events.specs.Allowed.{AddIsAllowed, ClaimIsAllowed, EndIsExecuted, FinishIsAllowed};
+ghost use Rattle.tile_events.specs.Allowed.{JoinIsAllowed, LoadIsAllowed, OpenIsAllowed, SplitIsAllowed};
+ghost use Rattle.tile_events.specs.Allowed.{StoreIsAllowed};
 
 use atomic_table::Play;
 
@@ -11,6 +12,7 @@ pub fn events_are_allowed<V, M: Play<(), V>>()
     ensures open { OpenIsAllowed M.then }
     ensures load { LoadIsAllowed M.then }
     ensures store { StoreIsAllowed M.then }
+    ensures add { AddIsAllowed M.then }
     ensures finish { FinishIsAllowed M.then }
 {}
 

@@ -1,3 +1,4 @@
+use Rattle.std.proofs.Common.{refl}
 use Rattle.tile_core.specs.Boards.{seen_of}
 use Rattle.tile_core.specs.Cores.{state_in}
 use Rattle.tile_events.specs.Core.{store}
@@ -16,5 +17,5 @@ returns-clause-does c t k less left alone =
     let b = c.read_all.new.core in
     let d = c.act.new.core in
     stores_alone (shape_in a) (state_in b) (state_in d) (seen_of c.act.result) t k left
-    (c.read_all.ensures.reads t k less left alone)
+    (c.read_all.ensures.reads t k less left alone) refl
     (by_first a b store (state_in d, seen_of c.act.result) c.read_all.ensures.later c.act.ensures.step)

@@ -1,3 +1,4 @@
+use Rattle.std.proofs.Common.{refl}
 use Rattle.tile_core.specs.Boards.{seen_of}
 use Rattle.tile_core.specs.Cores.{state_in}
 use Rattle.tile_events.specs.Core.{open_tile}
@@ -16,6 +17,6 @@ returns-clause-opens c t less alone =
     let b = c.act.new.core in
     let d = c.act-2.new.core in
     let p = shape_in a in
-    opens_alone p (state_in b) (state_in d) (seen_of c.act-2.result) t c.requires.core.run.dealt.early less
+    opens_alone p (state_in b) (state_in d) (seen_of c.act-2.result) t refl c.requires.core.run.dealt.early less
     (by_first a b open_tile (state_in d, seen_of c.act-2.result) c.act.ensures.later c.act-2.ensures.step)
     (claims_alone p (state_in a) (state_in b) (seen_of c.act.result) t less c.act.ensures.step alone)

@@ -1,7 +1,7 @@
 use Rattle.std.proofs.Common.{[], ◌∷◌, arith, refl, subst, sym}
 use mathlib.Core.Option.{none}
 use Rattle.atomic_table.specs.Table.{step}
-use Rattle.tile_events.specs.Example.{two}
+use Rattle.tile_events.specs.Example.{counted, two}
 use Rattle.run_guards.proofs.events.steps_of_one_worker.Goals as goal
 
 pub returns-clause-claim : goal.returns-clause-claim
@@ -14,6 +14,11 @@ returns-clause-open g c = λ worker me opened holds works tells.
     c.events_are_allowed.ensures.open two 2 worker (λ v. 1) 0 0 1 me opened holds works refl (λ n done. tells n opened)
     (λ n less. tells n me.0)
 
+pub returns-clause-open_by_counter : goal.returns-clause-open_by_counter
+returns-clause-open_by_counter g c = λ worker me opened holds works tells.
+    c.events_are_allowed.ensures.open counted 2 worker (λ v. 1) 0 0 2 me opened holds works refl
+    (λ n enough. tells n opened) (λ n less. tells n me.0)
+
 pub returns-clause-load : goal.returns-clause-load
 returns-clause-load g c = λ worker me next works reads tells.
     c.events_are_allowed.ensures.load two 2 worker (λ v. 1) 0 0 1 0 [] me next works reads (λ x. refl) (omega arith)
@@ -22,6 +27,11 @@ returns-clause-load g c = λ worker me next works reads tells.
 pub returns-clause-store : goal.returns-clause-store
 returns-clause-store g c = λ worker me next works stored tells.
     c.events_are_allowed.ensures.store two 2 worker (λ v. 1) 0 0 1 0 6 (5 ∷ []) me next works stored refl (omega arith)
+    refl refl refl tells
+
+pub returns-clause-add : goal.returns-clause-add
+returns-clause-add g c = λ worker me next works added tells.
+    c.events_are_allowed.ensures.add counted 2 worker (λ v. 1) 0 0 0 1 1 [] me next works added refl (omega arith) refl
     refl refl tells
 
 pub returns-clause-finish : goal.returns-clause-finish

@@ -20,6 +20,6 @@ scanned =
     }
 
 pub returns : goal.returns
-returns c = λ value initial.
-    c.scans_are_dealt.ensures turned 2 (λ j. j) (λ j. []) value initial scanned (λ j less. less)
+returns c = λ adds value initial.
+    c.scans_are_dealt.ensures turned 2 adds (λ j. j) (λ j. []) value initial scanned (λ j less. less)
     (λ j cell less among. absurd among)

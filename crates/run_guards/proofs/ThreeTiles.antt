@@ -1,0 +1,92 @@
+-- The plan of three tiles, of which the last waits for both others.
+use Rattle.std.proofs.Common.{◌≡◌, ℕ, zero, suc, ◌<◌, ◌≤◌, inl, inr, Bool, true, false, [], ◌∷◌, refl, subst, arith}
+use Rattle.std.specs.Prelude.{nat_lt, if◌then◌else◌}
+use Rattle.std.proofs.lemmas.Bool.{ltb-false}
+use Rattle.scop_syntax.specs.Members.{In}
+use Rattle.tile_events.specs.Covers.{ArePairsOf, Covers, Meet}
+use Rattle.tile_events.specs.Example.{both_to_last, three}
+use Rattle.tile_events.specs.Plan.{GoodPlan, IsDealt}
+use Rattle.tile_events.specs.Releases.{AreEdges, Leads}
+
+-- only the last place reads, and only cells 0 and 1
+reads_below : (j c : ℕ) → In c (three.read j) → (2 ≤ j) × (c < 2)
+reads_below j c i = by_test (nat_lt j 2) refl i
+  where
+    by_test : (b : Bool) → nat_lt j 2 ≡ b → In c (if b then [] else 0 ∷ 1 ∷ []) → (2 ≤ j) × (c < 2)
+    by_test true e i = absurd i
+    by_test false e (inl x) = (ltb-false j 2 e, omega (arith, x))
+    by_test false e (inr (inl x)) = (ltb-false j 2 e, omega (arith, x))
+    by_test false e (inr (inr i)) = absurd i
+
+pub three_dealt : IsDealt three
+three_dealt = record {
+  tile = λ j l. l;
+  position = λ j l. omega arith;
+  there = λ j l. refl;
+  place = λ t k l m. l;
+  its_tile = λ t k l m. refl;
+  its_position = λ t k l m. omega (arith, m);
+  early = λ w t l o. o;
+  late = λ w t l o. o;
+  written = λ j l. l;
+  read = λ j c l i. let r = (reads_below j c i).1 in omega (arith, r);
+  gate = tt;
+}
+
+pub three_good : GoodPlan three
+three_good = record {
+  ordered = λ i j before less touch. ([], inr (i, omega (arith, before, less), refl, omega arith, before));
+}
+
+pub three_edges : AreEdges 3 both_to_last
+three_edges = record { first = refl; last = refl; rises = rises; target = λ i l. omega arith }
+  where
+    rises : (t : ℕ) → t < 3 → both_to_last.start t ≤ both_to_last.start (suc t)
+    rises zero l = omega arith
+    rises (suc zero) l = omega arith
+    rises (suc (suc zero)) l = omega arith
+    rises (suc (suc (suc t))) l = absurd (omega (arith, l))
+
+-- both pairs lead from their own tile to the last
+leads : (i : ℕ) → i < 2 → Leads three both_to_last i 2
+leads zero l = (0, omega arith, refl, refl)
+leads (suc zero) l = (1, omega arith, refl, refl)
+leads (suc (suc i)) l = absurd (omega (arith, l))
+
+pub led : (t u : ℕ) → Leads three both_to_last t u → (t < 2) × (2 ≡ u)
+led t u (zero, l, from, to) = (omega (arith, from), to)
+led t u (suc zero, l, from, to) = (omega (arith, from), to)
+led t u (suc (suc i), l, from, to) = absurd (omega (arith, l))
+
+pub three_pairs : ArePairsOf three both_to_last
+three_pairs = record {
+  apart = λ t u l e. let a = led t u l in let b = a.0 in let c = a.1 in omega (arith, b, c, e);
+  covers = λ t u l. (t, u, refl, refl, cover t u l);
+  all = λ i j c apart. let a = above i j c in let l = a.0 in
+      subst (λ (u : ℕ). Leads three both_to_last i u) (let m = a.1 in omega (arith, m)) (leads i l);
+}
+  where
+    cover : (t u : ℕ) → Leads three both_to_last t u → Covers three t u
+    cover t u l =
+        let a = led t u l in let b = a.0 in let c = a.1 in record {
+          before = omega (arith, b, c);
+          within = omega (arith, c);
+          cell = t;
+          free = λ k m n e. omega (arith, m, e);
+          meet = inl (refl, inr (subst (λ (v : ℕ). In t (three.read v)) c (first t b)));
+        }
+      where
+        first : (t : ℕ) → t < 2 → In t (0 ∷ 1 ∷ [])
+        first zero l = inl refl
+        first (suc zero) l = inr (inl refl)
+        first (suc (suc t)) l = absurd (omega (arith, l))
+
+    above : (i j : ℕ) → Covers three i j → (i < 2) × (j ≡ 2)
+    above i j c = by_kind c.meet
+      where
+        by_kind : Meet three i j c.cell → (i < 2) × (j ≡ 2)
+        by_kind (inl (w, inl v)) = let l = c.before in absurd (omega (arith, w, v, l))
+        by_kind (inl (w, inr r)) = let a = reads_below j c.cell r in let b = a.0 in let d = a.1 in let l = c.within in
+            (omega (arith, w, d), omega (arith, b, l))
+        by_kind (inr (w, r)) = let a = (reads_below i c.cell r).0 in let l = c.before in let m = c.within in
+            absurd (omega (arith, a, l, m))
