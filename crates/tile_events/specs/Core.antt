@@ -54,7 +54,7 @@ pub data Seen : Type 0 where
   opened : Seen
   -- it is not: so many tiles are finished, and so many have to be
   not_yet : ℕ → ℕ → Seen
-  -- nor here: its counter holds so much, and has to hold so much
+  -- it is not: its counter holds so much, and has to hold so much
   short : ℕ → ℕ → Seen
   -- the value read
   value_read : ℕ → Seen
