@@ -66,24 +66,12 @@ acts_keeps p s id idle claim here =
     (λ b. let l = ltb-true s.claims p.tiles b in
     changed p s id (suc s.claims) s.finished s.cells idle (holding s.claims) here refl (inr (inl (omega (arith, l)))))
     (changed p s id (suc s.claims) s.finished s.cells idle ended here refl (inr (inr (omega arith, refl))))
-acts_keeps p s id idle open_tile here = same p s
-acts_keeps p s id idle load here = same p s
-acts_keeps p s id idle store here = same p s
-acts_keeps p s id idle add here = same p s
-acts_keeps p s id idle release here = same p s
-acts_keeps p s id idle finish here = same p s
+acts_keeps p s id idle e here = same p s
 acts_keeps p s id ended e here = same p s
-acts_keeps p s id (holding t) claim here = same p s
 acts_keeps p s id (holding t) open_tile here =
     if_kept (Keeps p s) (nat_le (needed_by p.gate p t) (seen_by p.gate s t)) _ _
     (λ b. unclaimed p s id s.finished s.cells (holding t) (working t 0 []) here refl) (same p s)
-acts_keeps p s id (holding t) load here = same p s
-acts_keeps p s id (holding t) store here = same p s
-acts_keeps p s id (holding t) add here = same p s
-acts_keeps p s id (holding t) release here = same p s
-acts_keeps p s id (holding t) finish here = same p s
-acts_keeps p s id (working t k xs) claim here = same p s
-acts_keeps p s id (working t k xs) open_tile here = same p s
+acts_keeps p s id (holding t) e here = same p s
 acts_keeps p s id (working t k xs) load here =
     if_kept (Keeps p s) (nat_lt k (p.size t)) _ _
     (λ b. if_kept (Keeps p s) (nat_lt (length xs) (length (p.read (p.place t k)))) _ _
@@ -95,6 +83,7 @@ acts_keeps p s id (working t k xs) release here = last_act_kept p s id t k xs re
 acts_keeps p s id (working t k xs) finish here =
     if_kept (Keeps p s) (nat_eq k (p.size t)) _ _
     (λ b. unclaimed p s id (suc s.finished) s.cells (working t k xs) idle here refl) (same p s)
+acts_keeps p s id (working t k xs) e here = same p s
 
 step_keeps : (p : Plan) (s : State) (id : ℕ) (o : plain.Option Worker) (e : Event) → get_elem? s.workers id ≡ o
     → Keeps p s (step_of p s id o e).0

@@ -40,24 +40,12 @@ acts_keep : (p : Plan) (s : State) (id : ℕ) (w : Worker) (e : Event) → GoodP
 acts_keep p s id idle claim good deal sound here =
     if_kept (Sound p) (nat_lt s.claims p.tiles) _ _ (λ t. claim_keeps p s id sound here (ltb-true s.claims p.tiles t))
     (λ f. last_keeps p s id deal sound here (ltb-false s.claims p.tiles f))
-acts_keep p s id idle open_tile good deal sound here = sound
-acts_keep p s id idle load good deal sound here = sound
-acts_keep p s id idle store good deal sound here = sound
-acts_keep p s id idle add good deal sound here = sound
-acts_keep p s id idle release good deal sound here = sound
-acts_keep p s id idle finish good deal sound here = sound
+acts_keep p s id idle e good deal sound here = sound
 acts_keep p s id ended e good deal sound here = sound
-acts_keep p s id (holding t) claim good deal sound here = sound
 acts_keep p s id (holding t) open_tile good deal sound here =
     if_kept (Sound p) (nat_le (needed_by p.gate p t) (seen_by p.gate s t)) _ _
     (λ h. open_keeps p s id t deal sound here (leb-true (needed_by p.gate p t) (seen_by p.gate s t) h)) (λ h. sound)
-acts_keep p s id (holding t) load good deal sound here = sound
-acts_keep p s id (holding t) store good deal sound here = sound
-acts_keep p s id (holding t) add good deal sound here = sound
-acts_keep p s id (holding t) release good deal sound here = sound
-acts_keep p s id (holding t) finish good deal sound here = sound
-acts_keep p s id (working t k xs) claim good deal sound here = sound
-acts_keep p s id (working t k xs) open_tile good deal sound here = sound
+acts_keep p s id (holding t) e good deal sound here = sound
 acts_keep p s id (working t k xs) load good deal sound here =
     if_kept (Sound p) (nat_lt k (p.size t)) _ _
     (λ a. if_kept (Sound p) (nat_lt (length xs) (length (p.read (p.place t k)))) _ _
@@ -71,6 +59,7 @@ acts_keep p s id (working t k xs) release good deal sound here =
 acts_keep p s id (working t k xs) finish good deal sound here =
     if_kept (Sound p) (nat_eq k (p.size t)) _ _
     (λ h. finish_keeps p s id t k xs deal sound here (eqb-true k (p.size t) h)) (λ h. sound)
+acts_keep p s id (working t k xs) e good deal sound here = sound
 
 step_of_keeps : (p : Plan) (s : State) (id : ℕ) (o : plain.Option Worker) (e : Event) → GoodPlan p → IsDealt p
     → Sound p s → get_elem? s.workers id ≡ o → Sound p (step_of p s id o e).0

@@ -54,7 +54,7 @@ pub data Seen : Type 0 where
   opened : Seen
   -- it is not: so many tiles are finished, and so many have to be
   not_yet : ℕ → ℕ → Seen
-  -- nor here: its counter holds so much, and has to hold so much
+  -- it is not: its counter holds so much, and has to hold so much
   short : ℕ → ℕ → Seen
   -- the value read
   value_read : ℕ → Seen
@@ -166,25 +166,13 @@ acts p s id idle claim =
     if nat_lt s.claims p.tiles
     then (after_claim s id, claimed (Some s.claims))
     else (after_last s id, claimed None)
-acts p s id idle open_tile = (s, not_enabled)
-acts p s id idle load = (s, not_enabled)
-acts p s id idle store = (s, not_enabled)
-acts p s id idle add = (s, not_enabled)
-acts p s id idle release = (s, not_enabled)
-acts p s id idle finish = (s, not_enabled)
+acts p s id idle e = (s, not_enabled)
 acts p s id ended e = (s, not_enabled)
-acts p s id (holding t) claim = (s, not_enabled)
 acts p s id (holding t) open_tile =
     if nat_le (needed_by p.gate p t) (seen_by p.gate s t)
     then (with_worker s id (working t 0 []), opened)
     else (s, shut p.gate (seen_by p.gate s t) (needed_by p.gate p t))
-acts p s id (holding t) load = (s, not_enabled)
-acts p s id (holding t) store = (s, not_enabled)
-acts p s id (holding t) add = (s, not_enabled)
-acts p s id (holding t) release = (s, not_enabled)
-acts p s id (holding t) finish = (s, not_enabled)
-acts p s id (working t k xs) claim = (s, not_enabled)
-acts p s id (working t k xs) open_tile = (s, not_enabled)
+acts p s id (holding t) e = (s, not_enabled)
 acts p s id (working t k xs) load =
     if nat_lt k (p.size t)
     then (if nat_lt (length xs) (length (p.read (p.place t k)))
@@ -196,6 +184,7 @@ acts p s id (working t k xs) add = last_act p s id t k xs add
 acts p s id (working t k xs) release = last_act p s id t k xs release
 acts p s id (working t k xs) finish =
     if nat_eq k (p.size t) then (after_finish s id, done) else (s, not_enabled)
+acts p s id (working t k xs) e = (s, not_enabled)
 
 -- the same of a worker who may not be there
 abbrev pub step_of : Plan → State → ℕ → plain.Option Worker → Event → State × Seen

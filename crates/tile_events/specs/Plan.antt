@@ -75,8 +75,8 @@ abbrev pub Awaits : Gate → Plan → ℕ → ℕ → Type 0
 Awaits waves p u i = p.wave (p.tile i) < p.wave u
 Awaits (counters cell needs) p u i = p.written i ≡ cell u
 
--- of two places the first comes earlier in one tile, or the other's tile waits for it, or for a place behind it in its
--- own tile
+-- of two places the first comes earlier in one tile, or the other's tile waits for it or for a place behind it in its
+-- tile
 abbrev pub Ordered : Plan → ℕ → ℕ → Type 0
 Ordered p i j =
     ((p.tile i ≡ p.tile j) × (p.position i < p.position j))
@@ -105,7 +105,7 @@ pub record IsCounted (p : Plan) (counter needed : ℕ → ℕ) : Type 0 where
   pub one : (i u : ℕ) (xs : List ℕ) → i < p.places → u < p.tiles → p.written i ≡ counter u → p.value i xs ≡ 1
   pub needs : (u : ℕ) → u < p.tiles → needed u ≡ count_of (λ i. nat_eq (p.written i) (counter u)) p.places
 
--- so where tiles are opened by counters
+-- what its gate asks of a plan
 abbrev pub IsGated : Gate → Plan → Type 0
 IsGated waves p = ⊤
 IsGated (counters cell needs) p = IsCounted p cell needs
