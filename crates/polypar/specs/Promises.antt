@@ -21,6 +21,7 @@ use Rattle.command_line.specs.Command.{IsTaken, command_of}
 use Rattle.polypar.specs.Told.{Told, HasHeldLines, IsHeld}
 use Rattle.polypar.specs.KernelText.{IsTextFor}
 use Rattle.polypar.specs.Runs.{IsRunText}
+use Rattle.polypar.specs.Answered.{NamesOf}
 use Rattle.polypar.specs.Deserves.{DeservesCase, DeservesData, DeservesFor, AsksFor, IsReadBy}
 
 -- all that is told was written: the text to `out`, the lines to `err`
@@ -138,6 +139,13 @@ abbrev pub AnswersCommand : Command → Status → SourceShows → SourceShows �
 AnswersCommand command status source source_after out out_after err err_after =
     ReadsInput command status source source_after out out_after err err_after
     ⊎ IsBroken status source source_after out out_after err err_after
+
+-- how this answer ended: the program whose names its line has is the one that was read, and the source was read on
+pub record Ends (Answer : Type 0) (status : Status) (named : Option Program) (source source_after : SourceShows)
+    : Type 0 where
+  pub answer : Answer
+  pub names : NamesOf source.left status named
+  pub read_on : IsReadOn source source_after
 
 -- the words were not taken, or memory ran out over them, and nothing was done
 pub record IsNoCommand (words : List (List ℕ)) (status : Status) (source source_after : SourceShows)
