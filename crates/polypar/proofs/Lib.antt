@@ -1,14 +1,14 @@
-mod AnswerLemmas
-mod CutLemmas
-mod EndLemmas
-mod KernelLemmas
-mod LineLemmas
-mod MemoryLemmas
-mod NamesLemmas
-mod OnceLemmas
-mod PrintLemmas
-mod ReadingLemmas
-mod RunLemmas
-mod RunningLemmas
-mod SourcesLemmas
-mod VerdictLemmas
+pub mod AnswerLemmas
+pub mod CutLemmas
+pub mod EndLemmas
+pub mod KernelLemmas
+pub mod LineLemmas
+pub mod MemoryLemmas
+pub mod NamesLemmas
+pub mod OnceLemmas
+pub mod PrintLemmas
+pub mod ReadingLemmas
+pub mod RunLemmas
+pub mod RunningLemmas
+pub mod SourcesLemmas
+pub mod VerdictLemmas

@@ -9,10 +9,10 @@ ghost use Rattle.polypar.specs.Runs.{IsPlanTold, IsSummaryText, left_by};
 ghost use Rattle.polypar.specs.Told.{IsHeld, told_of};
 
 use crate::executing::{Ran, run_planned};
-use crate::kernel::print_told;
+use crate::kernel::print_made;
 use crate::told::Told;
 use command_line::{GeneratedKernel, RunOptions};
-use io_ports::{Failed, Sink};
+use io_ports::Sink;
 use kernel_gen::{cells_in, generated, sum_of, summary};
 use kernel_runs::Workers;
 use report_text::Status;
@@ -90,11 +90,5 @@ pub(crate) fn print_summary<W: Workers, O: Sink, E: Sink>(
     ensures { AnswersTold (λ told. IsSummaryText kernel options told × IsHeld told) result (O.shows out.old)
         (O.shows out.new) (E.shows err.old) (E.shows err.new) }
 {
-    match summary_told(by, alloc, kernel, options) {
-        Ok(told) => match print_told(&told, out, err) {
-            Ok(()) => Status::Done,
-            Err(Failed) => Status::WriteFault,
-        },
-        Err(_) => Status::NoMemory,
-    }
+    print_made(summary_told(by, alloc, kernel, options), out, err)
 }
