@@ -1,5 +1,6 @@
 pub mod AnswerLemmas
 pub mod CutLemmas
+pub mod EndLemmas
 pub mod KernelLemmas
 pub mod LineLemmas
 pub mod MemoryLemmas

@@ -1,5 +1,6 @@
 -- What is printed is held in memory; trees of a plan can be printed.
-use Rattle.std.proofs.Common.{ℕ, ◌^◌, ◌<◌, length, arith}
+use Rattle.std.proofs.Common.{◌≡◌, sym, subst, ℕ, ◌^◌, ◌<◌, length, Result, Ok, Err, IfOk, arith}
+use Rattle.io_ports.specs.Writes.{SinkShows}
 use Rattle.scop_syntax.specs.Tree.{Program}
 use Rattle.loop_tree.specs.Marks.{FlatAll}
 use Rattle.loop_tree.specs.Shape.{NestAllTo, TreesAreOf, TreesAreOver, TreesAreUpTo}
@@ -8,7 +9,11 @@ use Rattle.loop_tree.specs.Tree.{Trees}
 use Rattle.kernel_plans.specs.Trees.{AreTreesOf}
 use Rattle.c_printer.specs.Printable.{AreNodes}
 use Rattle.polypar.specs.declared.told.Told as code
-use Rattle.polypar.specs.Told.{IsHeld, told_of}
+use Rattle.polypar.specs.Told.{Told, IsHeld, told_of}
+use Rattle.polypar.specs.Promises.{AnswersMade, AnswersTold}
+use Rattle.report_text.specs.declared.status.Status.{Status}
+use Rattle.report_text.specs.declared.status.Status.TheVariants.{Done, Usage, Refused, BadData, Outside, ReadFault}
+use Rattle.report_text.specs.declared.status.Status.TheVariants.{WriteFault, NoMemory}
 
 -- the code's lines and text lie in memory
 pub held : (t : code.Told) → IsHeld (told_of t)
@@ -16,6 +21,31 @@ held t = record {
   lines = omega (arith, t.lines.ok.0, t.lines.ok.1, t.lines.small);
   text = omega (arith, t.text.ok.0, t.text.ok.1, t.text.small);
 }
+
+-- what was told of something made is what is asked, where what was made is
+told_answers : (IsAsked : Told → Type 0) (t : code.Told) (status : Status) (out out_after err err_after : SinkShows)
+    → IsAsked (told_of t) → AnswersTold (λ u. (u ≡ told_of t) × IsHeld u) status out out_after err err_after
+    → AnswersTold (λ u. IsAsked u × IsHeld u) status out out_after err err_after
+told_answers IsAsked t Done out out_after err err_after asked (u, (same, kept), told) =
+    (u, (subst IsAsked (sym same) asked, kept), told)
+told_answers IsAsked t Usage out out_after err err_after asked answer = answer
+told_answers IsAsked t (Refused refusal) out out_after err err_after asked answer = answer
+told_answers IsAsked t (BadData refusal) out out_after err err_after asked answer = answer
+told_answers IsAsked t (Outside f) out out_after err err_after asked answer = answer
+told_answers IsAsked t ReadFault out out_after err err_after asked answer = answer
+told_answers IsAsked t WriteFault out out_after err err_after asked (u, (same, kept), cut) =
+    (u, (subst IsAsked (sym same) asked, kept), cut)
+told_answers IsAsked t NoMemory out out_after err err_after asked answer = answer
+
+-- what was made answers what is asked, where it is that
+pub made_answers : {E : Type 0} (IsAsked : Told → Type 0) (made : Result code.Told E) (status : Status)
+    (out out_after err err_after : SinkShows) → IfOk made (λ t. IsAsked (told_of t))
+    → AnswersMade made status out out_after err err_after
+    → AnswersTold (λ u. IsAsked u × IsHeld u) status out out_after err err_after
+made_answers IsAsked (Ok t) status out out_after err err_after asked answer =
+    told_answers IsAsked t status out out_after err err_after asked answer
+made_answers IsAsked (Err e) status out out_after err err_after asked (spent, same) =
+    subst (λ s. AnswersTold (λ u. IsAsked u × IsHeld u) s out out_after err err_after) (sym spent) same
 
 -- the law of flat trees
 abbrev pub FlatArePrinted : Type 0

@@ -1,6 +1,6 @@
 -- What the statuses of the parts of a call say: of the data, of the input, of the source, and of the sinks; only for
 -- the code's own steps.
-use Rattle.std.specs.Prelude.{◌≡◌, ◌⊎◌, ℕ, ℤ, ◌≤◌, List, Option, ⊤}
+use Rattle.std.specs.Prelude.{◌≡◌, ◌⊎◌, ℕ, ℤ, ◌≤◌, List, Option, Result, MatchResult, ⊤}
 use Rattle.std.specs.Io.KnownBytes.{Appends}
 use Rattle.io_ports.specs.Faults.{Rose}
 use Rattle.io_ports.specs.Bytes.{IsAllOf, GainsFront}
@@ -18,9 +18,11 @@ use Rattle.command_line.specs.declared.command.Command.TheVariants.{Run, OfKerne
 use Rattle.command_line.specs.declared.command.KernelCommand.{KernelCommand}
 use Rattle.command_line.specs.declared.command.RunOptions.{RunOptions}
 use Rattle.command_line.specs.Command.{IsTaken, command_of}
-use Rattle.polypar.specs.Told.{Told, HasHeldLines, IsHeld}
+use Rattle.polypar.specs.declared.told.Told as code
+use Rattle.polypar.specs.Told.{Told, HasHeldLines, IsHeld, told_of}
 use Rattle.polypar.specs.KernelText.{IsTextFor}
 use Rattle.polypar.specs.Runs.{IsRunText}
+use Rattle.polypar.specs.Answered.{NamesOf}
 use Rattle.polypar.specs.Deserves.{DeservesCase, DeservesData, DeservesFor, AsksFor, IsReadBy}
 
 -- all that is told was written: the text to `out`, the lines to `err`
@@ -50,6 +52,13 @@ AnswersTold IsAsked WriteFault out out_after err err_after =
     (told : Told) × IsAsked told × CutsTold told out out_after err err_after
 AnswersTold IsAsked NoMemory out out_after err err_after = AreUntouched out out_after err err_after
 AnswersTold IsAsked _ out out_after err err_after = ⊥
+
+-- of what was made to be told, which lies in memory; it was not made where memory ran out
+abbrev pub AnswersMade : {E : Type 0} → Result code.Told E → Status → SinkShows → SinkShows → SinkShows → SinkShows
+    → Type 0
+AnswersMade made status out out_after err err_after = MatchResult made
+    (λ told. AnswersTold (λ t. (t ≡ told_of told) × IsHeld t) status out out_after err err_after)
+    (λ _. (status ≡ NoMemory) × AreUntouched out out_after err err_after)
 
 -- what `run` is to tell of a case whose subscripts are inside
 abbrev pub AsksRun : RunOptions → Program → List ℤ → List (List ℕ) → Told → Type 0
@@ -138,6 +147,13 @@ abbrev pub AnswersCommand : Command → Status → SourceShows → SourceShows �
 AnswersCommand command status source source_after out out_after err err_after =
     ReadsInput command status source source_after out out_after err err_after
     ⊎ IsBroken status source source_after out out_after err err_after
+
+-- how this answer ended: the program whose names its line has is the one that was read, and the source was read on
+pub record Ends (Answer : Type 0) (status : Status) (named : Option Program) (source source_after : SourceShows)
+    : Type 0 where
+  pub answer : Answer
+  pub names : NamesOf source.left status named
+  pub read_on : IsReadOn source source_after
 
 -- the words were not taken, or memory ran out over them, and nothing was done
 pub record IsNoCommand (words : List (List ℕ)) (status : Status) (source source_after : SourceShows)

@@ -43,22 +43,24 @@ fn plan_by(alloc: Global, kernel: &Kernel, options: RunOptions) -> Result<Planne
     )
 }
 
-/// Puts how many tiles, waves and workers there are behind the lines of a plan, where a report is asked for.
+/// What is told of a run: the lines of its plan, and behind them how many tiles, waves and workers there are, where a
+/// report is asked for.
 fn with_counts(
     alloc: Global,
     lines: Vec<u8>,
     counts: Counts,
     options: RunOptions,
-) -> Result<Vec<u8>, AllocError>
-    ensures { IfOk result (λ all. all.items
+) -> Result<Ran, AllocError>
+    ensures lines { IfOk result (λ ran. ran.lines.items
         ≡ lines.items ++ (if options.report then tiles_text counts.tiles counts.waves options.workers else [])) }
+    ensures counts { IfOk result (λ ran. ran.counts ≡ counts) }
 {
     let mut lines = lines;
     if options.report {
         let last = tiles_text(alloc, counts.tiles, counts.waves, options.workers)?;
         lines.extend_from_slice(&last)?;
     }
-    Ok(lines)
+    Ok(Ran { lines, counts })
 }
 
 /// Plans a kernel and runs a case of it, whose subscripts are all inside, by that plan.
@@ -86,7 +88,7 @@ pub(crate) fn run_planned<W: Workers>(
         ran.counts.tiles ran.counts.waves ran.lines.items) }
 {
     let plan = plan_by(alloc, kernel, options)?;
-    let counts = run_case(
+    match run_case(
         by,
         alloc,
         kernel,
@@ -94,7 +96,8 @@ pub(crate) fn run_planned<W: Workers>(
         &plan.tree,
         &plan.tiling,
         options.workers,
-    )?;
-    let lines = with_counts(alloc, plan.lines, counts, options)?;
-    Ok(Ran { lines, counts })
+    ) {
+        Ok(counts) => Ok(with_counts(alloc, plan.lines, counts, options)?),
+        Err(_) => Err(AllocError),
+    }
 }

@@ -9,7 +9,7 @@ ghost use Rattle.kernel_plans.specs.Planning.{IsPlanOf};
 ghost use Rattle.polypar.specs.Told.{IsTextAlone, told_of};
 ghost use Rattle.polypar.specs.KernelText.{IsTextFor};
 ghost use Rattle.command_line.specs.Command.{IsSized};
-ghost use Rattle.polypar.specs.Promises.{AnswersProgram, WritesTold, CutsTold};
+ghost use Rattle.polypar.specs.Promises.{AnswersMade, AnswersProgram, WritesTold, CutsTold};
 
 use crate::loops::loops_told;
 use crate::sources::sources_told;
@@ -88,8 +88,25 @@ pub(crate) fn print_told<O: Sink, E: Sink>(
     }
 }
 
-/// Prints what a command asks of a kernel.
+/// Prints what was made to be told; where it was not made, memory ran out.
 #[tactic(auto, using(crate::proofs::PrintLemmas::held))]
+pub(crate) fn print_made<O: Sink, E: Sink>(
+    made: Result<Told, AllocError>,
+    out: &mut O,
+    err: &mut E,
+) -> Status
+    ensures { AnswersMade made result (O.shows out.old) (O.shows out.new) (E.shows err.old) (E.shows err.new) }
+{
+    match made {
+        Ok(told) => match print_told(&told, out, err) {
+            Ok(()) => Status::Done,
+            Err(Failed) => Status::WriteFault,
+        },
+        Err(_) => Status::NoMemory,
+    }
+}
+
+/// Prints what a command asks of a kernel.
 pub(crate) fn print_asked<O: Sink, E: Sink>(
     alloc: Global,
     kernel: &Kernel,
@@ -102,11 +119,5 @@ pub(crate) fn print_asked<O: Sink, E: Sink>(
     ensures { AnswersProgram asked result (program_of kernel.now) (O.shows out.old) (O.shows out.new) (E.shows err.old)
         (E.shows err.new) }
 {
-    match kernel_told(alloc, kernel, asked) {
-        Ok(told) => match print_told(&told, out, err) {
-            Ok(()) => Status::Done,
-            Err(Failed) => Status::WriteFault,
-        },
-        Err(_) => Status::NoMemory,
-    }
+    print_made(kernel_told(alloc, kernel, asked), out, err)
 }

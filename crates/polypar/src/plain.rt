@@ -7,8 +7,8 @@ ghost use Rattle.kernel_runs.specs.Running.{AreExecuted};
 ghost use Rattle.report_text.specs.declared.status.Status.{Status};
 ghost use Rattle.polypar.specs.Deserves.{Deserves, IsVerdict};
 ghost use Rattle.command_line.specs.Command.{HasSize};
-ghost use Rattle.polypar.specs.Promises.{AnswersCommand, AnswersWords, IsReadOn, TellsStatus};
-ghost use Rattle.polypar.specs.Answered.{Answered, NamesOf};
+ghost use Rattle.polypar.specs.Promises.{AnswersCommand, AnswersWords, Ends, TellsStatus};
+ghost use Rattle.polypar.specs.Answered.{Answered};
 
 use crate::generating::print_summary;
 use crate::run::{Ending, run};
@@ -118,10 +118,9 @@ fn answer<W: Workers, S: Source, O: Sink, E: Sink>(
     err: &mut E,
 ) -> Ending
     requires ready { W.ready by.now }
-    ensures answer { AnswersWords (map string_bytes words.now) result.status (S.shows source.old) (S.shows source.new)
-        (O.shows out.old) (O.shows out.new) (E.shows err.old) (E.shows err.new) }
-    ensures names { NamesOf (S.shows source.old).left result.status (option_map program_of result.kernel) }
-    ensures read_on { IsReadOn (S.shows source.old) (S.shows source.new) }
+    ensures { Ends (AnswersWords (map string_bytes words.now) result.status (S.shows source.old) (S.shows source.new)
+        (O.shows out.old) (O.shows out.new) (E.shows err.old) (E.shows err.new))
+        result.status (option_map program_of result.kernel) (S.shows source.old) (S.shows source.new) }
 {
     match command_of(alloc, words) {
         Ok(command) => answer_command(by, alloc, command, source, out, err),
@@ -141,16 +140,18 @@ fn answer_command<W: Workers, S: Source, O: Sink, E: Sink>(
 ) -> Ending
     requires ready { W.ready by.now }
     requires size { HasSize command }
-    ensures answer { AnswersCommand command result.status (S.shows source.old) (S.shows source.new) (O.shows out.old)
-        (O.shows out.new) (E.shows err.old) (E.shows err.new) }
-    ensures names { NamesOf (S.shows source.old).left result.status (option_map program_of result.kernel) }
-    ensures read_on { IsReadOn (S.shows source.old) (S.shows source.new) }
+    ensures { Ends (AnswersCommand command result.status (S.shows source.old) (S.shows source.new)
+        (O.shows out.old) (O.shows out.new) (E.shows err.old) (E.shows err.new))
+        result.status (option_map program_of result.kernel) (S.shows source.old) (S.shows source.new) }
 {
     let ending = end_of(by, alloc, command, source, out, err);
     match ending.status {
         Status::Done => match err.flush() {
             Ok(()) => ending,
-            Err(Failed) => Ending::of(Status::WriteFault),
+            Err(Failed) => Ending {
+                status: Status::WriteFault,
+                kernel: ending.kernel,
+            },
         },
         _ => ending,
     }
@@ -167,10 +168,9 @@ fn end_of<W: Workers, S: Source, O: Sink, E: Sink>(
 ) -> Ending
     requires ready { W.ready by.now }
     requires size { HasSize command }
-    ensures answer { AnswersCommand command result.status (S.shows source.old) (S.shows source.new) (O.shows out.old)
-        (O.shows out.new) (E.shows err.old) (E.shows err.new) }
-    ensures names { NamesOf (S.shows source.old).left result.status (option_map program_of result.kernel) }
-    ensures read_on { IsReadOn (S.shows source.old) (S.shows source.new) }
+    ensures { Ends (AnswersCommand command result.status (S.shows source.old) (S.shows source.new)
+        (O.shows out.old) (O.shows out.new) (E.shows err.old) (E.shows err.new))
+        result.status (option_map program_of result.kernel) (S.shows source.old) (S.shows source.new) }
 {
     match command {
         Command::Gen { generated, options } => {

@@ -12,7 +12,7 @@ ghost use Rattle.polypar.specs.Case.{IsShort};
 ghost use Rattle.polypar.specs.Deserves.{too_long};
 ghost use Rattle.polypar.specs.Promises.{AnswersCase, AnswersData, AnswersKernel, AnswersFor, AnswersCommand};
 ghost use Rattle.polypar.specs.Told.{lines_and_arrays};
-ghost use Rattle.polypar.specs.Promises.{CutsTold, IsReadOn, ReadsKernel, WritesTold};
+ghost use Rattle.polypar.specs.Promises.{CutsTold, Ends, ReadsKernel, WritesTold};
 ghost use Rattle.command_line.specs.Command.{AreSized, HasSize};
 ghost use Rattle.polypar.specs.Answered.{NamesOf};
 
@@ -65,10 +65,9 @@ pub(crate) fn run<W: Workers, S: Source, O: Sink, E: Sink>(
     requires ready { W.ready by.now }
     requires size { HasSize command }
     requires reads { ReadsKernel command }
-    ensures answer { AnswersCommand command result.status (S.shows source.old) (S.shows source.new) (O.shows out.old)
-        (O.shows out.new) (E.shows err.old) (E.shows err.new) }
-    ensures names { NamesOf (S.shows source.old).left result.status (option_map program_of result.kernel) }
-    ensures read_on { IsReadOn (S.shows source.old) (S.shows source.new) }
+    ensures { Ends (AnswersCommand command result.status (S.shows source.old) (S.shows source.new)
+        (O.shows out.old) (O.shows out.new) (E.shows err.old) (E.shows err.new))
+        result.status (option_map program_of result.kernel) (S.shows source.old) (S.shows source.new) }
 {
     match read_to_end(alloc, source, LONGEST_INPUT) {
         Ok(input) => run_input(by, alloc, command, &input, out, err),
@@ -161,7 +160,7 @@ fn run_kernel<W: Workers, O: Sink, E: Sink>(
         (E.shows err.old) (E.shows err.new) }
 {
     match read_data(alloc, kernel, text) {
-        Ok(case) => run_case(by, alloc, kernel, case, options, out, err),
+        Ok(mut case) => run_case(by, alloc, kernel, &mut case, options, out, err),
         Err(DataStop::Refused(refusal)) => Status::BadData(refusal),
         Err(DataStop::NoMemory) => Status::NoMemory,
     }
@@ -172,17 +171,17 @@ fn run_case<W: Workers, O: Sink, E: Sink>(
     by: &W,
     alloc: Global,
     kernel: &Kernel,
-    case: Case,
+    case: &mut Case,
     options: RunOptions,
     out: &mut O,
     err: &mut E,
 ) -> Status
     requires ready { W.ready by.now }
-    requires limits { WithinLimits (program_of kernel.now) case.params.items }
-    requires shape { IsShaped case.extents case.arrays }
-    requires extents { case.extents ≡ layout (program_of kernel.now) case.params.items }
+    requires limits { WithinLimits (program_of kernel.now) case.old.params.items }
+    requires shape { IsShaped case.old.extents case.old.arrays }
+    requires extents { case.old.extents ≡ layout (program_of kernel.now) case.old.params.items }
     requires options { AreSized options }
-    ensures { AnswersCase options result (program_of kernel.now) case.params.items case.arrays (O.shows out.old)
+    ensures { AnswersCase options result (program_of kernel.now) case.old.params.items case.old.arrays (O.shows out.old)
         (O.shows out.new) (E.shows err.old) (E.shows err.new) }
 {
     accesses_have_the_ranks_of_arrays();
@@ -198,23 +197,22 @@ fn run_inside<W: Workers, O: Sink, E: Sink>(
     by: &W,
     alloc: Global,
     kernel: &Kernel,
-    case: Case,
+    case: &mut Case,
     options: RunOptions,
     out: &mut O,
     err: &mut E,
 ) -> Status
     requires ready { W.ready by.now }
-    requires limits { WithinLimits (program_of kernel.now) case.params.items }
-    requires shape { IsShaped case.extents case.arrays }
-    requires extents { case.extents ≡ layout (program_of kernel.now) case.params.items }
-    requires inside { IsInside (program_of kernel.now) case.params.items }
+    requires limits { WithinLimits (program_of kernel.now) case.old.params.items }
+    requires shape { IsShaped case.old.extents case.old.arrays }
+    requires extents { case.old.extents ≡ layout (program_of kernel.now) case.old.params.items }
+    requires inside { IsInside (program_of kernel.now) case.old.params.items }
     requires options { AreSized options }
-    ensures { AnswersCase options result (program_of kernel.now) case.params.items case.arrays (O.shows out.old)
+    ensures { AnswersCase options result (program_of kernel.now) case.old.params.items case.old.arrays (O.shows out.old)
         (O.shows out.new) (E.shows err.old) (E.shows err.new) }
 {
-    let mut case = case;
-    match run_planned(by, alloc, kernel, &mut case, options) {
-        Ok(ran) => match print_run(kernel, &case, &ran.lines, out, err) {
+    match run_planned(by, alloc, kernel, case, options) {
+        Ok(ran) => match print_run(kernel, case, &ran.lines, out, err) {
             Ok(()) => Status::Done,
             Err(Failed) => Status::WriteFault,
         },

@@ -3,6 +3,9 @@ use Rattle.std.proofs.Common.{◌∙◌}
 use Rattle.polypar.proofs.MemoryLemmas.{stays_in_memory, decided_in_memory}
 use Rattle.polypar.proofs.in_memory.command_in_memory.Goals as goal
 
+pub returns-clause-whole : goal.returns-clause-whole
+returns-clause-whole c = c.plain_command.ensures.read_whole
+
 pub returns-clause-decided : goal.returns-clause-decided
 returns-clause-decided c = λ verdict deserves room line.
     decided_in_memory _ _ verdict c.args.source.now c.plain_command.new.source c.args.out.now c.plain_command.new.out
