@@ -2,10 +2,11 @@
 ghost use Rattle.std.specs.Prelude.{◌≡◌, ◌+◌, ◌<◌, ◌≤◌, ◌∷◌, ℕ, [], Bool, List, false, if◌then◌else◌, slice_index_or};
 ghost use Rattle.std.specs.Prelude.{take, true};
 ghost use Rattle.tile_events.specs.Copies.{expanded};
-ghost use Rattle.tile_events.specs.Core.{State, open_tile, replay, short, step};
+ghost use Rattle.tile_events.specs.Core.{State, add, added, not_enabled, open_tile, release, replay, short, step};
+ghost use Rattle.tile_events.specs.Core.{store};
 ghost use Rattle.tile_events.specs.Covers.{ArePairsOf, Covered};
-ghost use Rattle.tile_events.specs.Example.{adding, both_to_last, counted, counted_first, counted_last, counted_run};
-ghost use Rattle.tile_events.specs.Example.{sources_of_two, three, two};
+ghost use Rattle.tile_events.specs.Example.{adding, adding_first, adding_run, both_to_last, counted, counted_first};
+ghost use Rattle.tile_events.specs.Example.{counted_run, sources_of_two, three, two};
 ghost use Rattle.tile_events.specs.Plan.{GoodPlan, IsDealt, Plan, Touch, before, values_read, waves, words_of};
 ghost use Rattle.tile_events.specs.Releases.{AreCovered, Leads};
 ghost use Rattle.tile_events.specs.Sound.{IsBegun, IsFinished, Sound, is_done};
@@ -58,6 +59,17 @@ pub fn run_over_three_tiles()
     ensures end { slice_index_or (replay counted counted_first counted_run).cells 2 0 ≡ 11 }
 {
     release_laws::two_workers_release();
+}
+
+/// Where three tiles add to one cell, a store and a release are refused there and an add is told, by `store`, `release`
+/// and `add` of `two_workers_add`, and the cell ends as 6, by `end`.
+pub fn run_of_three_adds()
+    ensures store { (step adding (replay adding adding_first (take 2 adding_run)) 0 store).1 ≡ not_enabled }
+    ensures release { (step adding (replay adding adding_first (take 2 adding_run)) 0 release).1 ≡ not_enabled }
+    ensures add { (step adding (replay adding adding_first (take 2 adding_run)) 0 add).1 ≡ added }
+    ensures end { slice_index_or (replay adding adding_first adding_run).cells 0 0 ≡ 6 }
+{
+    sum_laws::two_workers_add();
 }
 
 /// Where three places have added 1, 2 and 3 to a cell it holds 6, by the clause of `cells_hold_their_sums`.

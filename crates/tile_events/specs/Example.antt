@@ -1,5 +1,5 @@
--- Runs of two workers: over two tiles in two waves, cell 0 := 5, then cell 1 := cell 0 + 1; and over three tiles, of
--- which the last waits for both others.
+-- Runs of two workers: over two tiles in two waves, cell 0 := 5, then cell 1 := cell 0 + 1; over three tiles that add to
+-- one cell; and over three tiles, of which the last waits for both others.
 use Rattle.std.specs.Prelude.{ℕ, zero, suc, ◌+◌, true, false, List, [], ◌∷◌, Option, Some, get_or, nat_lt}
 use Rattle.std.specs.Prelude.{if◌then◌else◌}
 use Rattle.tile_events.specs.Plan.{Plan, waves}
@@ -65,6 +65,20 @@ adding = record two {
   adds = λ c. true;
   value = λ j xs. suc j;
 }
+
+-- its state at first
+abbrev pub adding_first : State
+adding_first = record { claims = 0; finished = 0; cells = 0 ∷ []; workers = idle ∷ idle ∷ [] }
+
+-- and where both workers have ended: the cell holds the sum
+abbrev pub adding_last : State
+adding_last = record { claims = 5; finished = 3; cells = 6 ∷ []; workers = ended ∷ ended ∷ [] }
+
+-- worker 0 tries to store and to release before it adds
+abbrev pub adding_run : List (ℕ × Event)
+adding_run = (0, claim) ∷ (0, open_tile) ∷ (0, store) ∷ (0, release) ∷ (0, add) ∷ (0, finish) ∷ (1, claim)
+    ∷ (1, open_tile) ∷ (1, add) ∷ (1, finish) ∷ (0, claim) ∷ (0, open_tile) ∷ (0, add) ∷ (0, finish) ∷ (0, claim)
+    ∷ (1, claim) ∷ []
 
 -- three tiles of one place each: cell 0 := 5, cell 1 := 6, then cell 2 := cell 0 + cell 1
 abbrev pub three : Plan
