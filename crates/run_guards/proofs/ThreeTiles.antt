@@ -4,6 +4,7 @@ use Rattle.std.specs.Prelude.{nat_lt, if◌then◌else◌}
 use Rattle.std.proofs.lemmas.Bool.{ltb-false}
 use Rattle.scop_syntax.specs.Members.{In}
 use Rattle.tile_events.specs.Covers.{ArePairsOf, Covers, Meet}
+use Rattle.tile_events.specs.Deal.{tile_at}
 use Rattle.tile_events.specs.Example.{both_to_last, three}
 use Rattle.tile_events.specs.Plan.{GoodPlan, IsDealt}
 use Rattle.tile_events.specs.Releases.{AreEdges, Leads}
@@ -39,8 +40,13 @@ three_good = record {
 }
 
 pub three_edges : AreEdges 3 both_to_last
-three_edges = record { first = refl; last = refl; rises = rises; target = λ i l. omega arith }
+three_edges =
+    record { first = refl; last = refl; rises = rises; target = λ i l. omega arith; distinct = distinct }
   where
+    distinct : (i : ℕ) → suc i < 2 → tile_at both_to_last.start 3 i ≡ tile_at both_to_last.start 3 (suc i) → 2 < 2
+    distinct zero l same = let z : 0 ≡ 1 = same in absurd (omega (arith, z))
+    distinct (suc i) l same = absurd (omega (arith, l))
+
     rises : (t : ℕ) → t < 3 → both_to_last.start t ≤ both_to_last.start (suc t)
     rises zero l = omega arith
     rises (suc zero) l = omega arith

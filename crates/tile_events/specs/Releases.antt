@@ -16,14 +16,21 @@ pub record Edges : Type 0 where
   -- of a pair: the second of its tiles
   pub target : ℕ → ℕ
 
--- the pairs of each of n tiles stand behind those of the tile before it, and their second is one of the tiles
+-- the pairs of each of n tiles stand behind those of the tile before it, and no two pairs are the same
 pub record AreEdges (n : ℕ) (e : Edges) : Type 0 where
+  -- the first tile begins with the first pair
   pub first : e.start 0 ≡ 0
+  -- the last one ends with the last pair
   pub last : e.start n ≡ e.count
+  -- no tile ends before it begins
   pub rises : (t : ℕ) → t < n → e.start t ≤ e.start (suc t)
+  -- the second of a pair is one of the tiles
   pub target : (i : ℕ) → i < e.count → e.target i < n
+  -- the pairs of one tile are in the order of their seconds
+  pub distinct : (i : ℕ) → suc i < e.count → tile_at e.start n i ≡ tile_at e.start n (suc i)
+      → e.target i < e.target (suc i)
 
--- how many pairs have this tile as their second
+-- how many pairs have this tile as their second, so from how many tiles one leads to it: no two pairs are the same
 abbrev pub pairs_to : Edges → ℕ → ℕ
 pairs_to e u = count_of (λ i. nat_eq (e.target i) u) e.count
 
