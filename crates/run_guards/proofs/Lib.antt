@@ -1,1 +1,2 @@
+pub mod TwoTiles
 pub mod ThreeTiles

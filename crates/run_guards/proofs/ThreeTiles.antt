@@ -1,13 +1,19 @@
 -- The plan of three tiles, of which the last waits for both others.
 use Rattle.std.proofs.Common.{◌≡◌, ℕ, zero, suc, ◌<◌, ◌≤◌, inl, inr, Bool, true, false, [], ◌∷◌, refl, subst, arith}
-use Rattle.std.specs.Prelude.{nat_lt, if◌then◌else◌}
+use Rattle.std.specs.Prelude.{get_or, nat_lt, take, if◌then◌else◌}
+use mathlib.Core.Option.{some}
+use lib.ListN.{get_elem?}
 use Rattle.std.proofs.lemmas.Bool.{ltb-false}
 use Rattle.scop_syntax.specs.Members.{In}
 use Rattle.tile_events.specs.Covers.{ArePairsOf, Covers, Meet}
+use Rattle.tile_events.specs.Core.{holding, replay, working}
 use Rattle.tile_events.specs.Deal.{tile_at}
-use Rattle.tile_events.specs.Example.{both_to_last, three}
-use Rattle.tile_events.specs.Plan.{GoodPlan, IsDealt}
-use Rattle.tile_events.specs.Releases.{AreEdges, Leads}
+use Rattle.tile_events.specs.Example.{both_to_last, counted, counted_first, counted_run, three}
+use Rattle.tile_events.specs.Opening.{IsOpening}
+use Rattle.tile_events.specs.Plan.{GoodPlan, IsDealt, Touch}
+use Rattle.tile_events.specs.Releases.{AreCovered, AreEdges, Leads}
+use Rattle.tile_events.specs.Sound.{IsBegun}
+use Rattle.run_guards.proofs.TwoTiles.{both_idle}
 
 -- only the last place reads, and only cells 0 and 1
 reads_below : (j c : ℕ) → In c (three.read j) → (2 ≤ j) × (c < 2)
@@ -96,3 +102,36 @@ three_pairs = record {
             (omega (arith, w, d), omega (arith, b, l))
         by_kind (inr (w, r)) = let a = (reads_below i c.cell r).0 in let l = c.before in let m = c.within in
             absurd (omega (arith, a, l, m))
+
+-- so they join what touches
+pub three_covered : AreCovered three both_to_last
+three_covered i j before less touch = ([], inr (by_kind touch))
+  where
+    by_kind : Touch three i j → Leads three both_to_last i j
+    by_kind (inl x) = let same = x.0 in absurd (omega (arith, before, same))
+    by_kind (inr (inl h)) =
+        let a = reads_below j i h in
+        let b = a.0 in
+        let last : 2 ≡ j = omega (arith, b, less) in subst (λ (u : ℕ). Leads three both_to_last i u) last (leads i a.1)
+    by_kind (inr (inr h)) = let a = (reads_below i j h).0 in absurd (omega (arith, a, before, less))
+
+pub counted_opening : IsOpening counted counted_first
+counted_opening = record { claims = refl; finished = refl; idle = both_idle; wide = refl; cells = cells }
+  where
+    cells : (c : ℕ) → c < 6 → get_or counted_first.cells c 0 ≡ counted.initial c
+    cells zero l = refl
+    cells (suc zero) l = refl
+    cells (suc (suc zero)) l = refl
+    cells (suc (suc (suc zero))) l = refl
+    cells (suc (suc (suc (suc zero)))) l = refl
+    cells (suc (suc (suc (suc (suc zero))))) l = refl
+    cells (suc (suc (suc (suc (suc (suc c)))))) l = absurd (omega (arith, l))
+
+-- after the first 14 events of the run worker 1 works in the last tile
+pub last_begun : IsBegun (replay counted counted_first (take 14 counted_run)) 2
+last_begun = record { claimed = omega arith; awake = awake }
+  where
+    awake : (id : ℕ) → get_elem? (working 1 2 [] ∷ working 2 0 [] ∷ []) id ≡ some (holding 2) → ⊥
+    awake zero e = absurd cc
+    awake (suc zero) e = absurd cc
+    awake (suc (suc id)) e = absurd cc

@@ -12,17 +12,16 @@ ghost use Rattle.tile_events.specs.Covers.{Covers, IsCover};
 ghost use Rattle.tile_events.specs.Deal.{dealt};
 ghost use Rattle.tile_events.specs.Example.{counted, first, two};
 ghost use Rattle.tile_events.specs.Flat.{AreMarked, IsWalk, flat, is_marked, loads};
-ghost use Rattle.tile_events.specs.Plan.{GoodPlan, IsDealt, Plan, Touch, before, values_read};
+ghost use Rattle.tile_events.specs.Plan.{IsDealt, Plan, Touch, before, values_read};
 ghost use Rattle.tile_events.specs.Rule.{AreCounted, Held};
 ghost use Rattle.tile_events.specs.Sound.{Sound};
 
 use atomic_table::Play;
 use tile_events::{core_laws, deal_laws, flat_laws, table_laws};
 
-/// Events of two workers leave a sound state, by `replay` of `all_interleavings_agree`.
+/// Whatever two workers do from the start on, the state is sound, by `start` and `replay` of `all_interleavings_agree`.
 pub fn states_after_events_of_two_workers()
-    ensures { (es : List (ℕ × Event)) → GoodPlan two → IsDealt two → Sound two first
-        → Sound two (replay two first es) }
+    ensures { (es : List (ℕ × Event)) → Sound two (replay two first es) }
 {
     core_laws::all_interleavings_agree();
 }

@@ -2,7 +2,7 @@
 ghost use Rattle.std.specs.Prelude.{◌≡◌, ◌+◌, ◌<◌, ◌≤◌, ◌∷◌, ℕ, [], Bool, List, false, if◌then◌else◌, slice_index_or};
 ghost use Rattle.std.specs.Prelude.{take, true};
 ghost use Rattle.tile_events.specs.Copies.{expanded};
-ghost use Rattle.tile_events.specs.Core.{State, add, added, not_enabled, open_tile, release, replay, short, step};
+ghost use Rattle.tile_events.specs.Core.{Event, State, add, added, not_enabled, open_tile, release, replay, short, step};
 ghost use Rattle.tile_events.specs.Core.{store};
 ghost use Rattle.tile_events.specs.Covers.{ArePairsOf, Covered};
 ghost use Rattle.tile_events.specs.Example.{adding, adding_first, adding_run, both_to_last, counted, counted_first};
@@ -11,13 +11,13 @@ ghost use Rattle.tile_events.specs.Plan.{GoodPlan, IsDealt, Plan, Touch, before,
 ghost use Rattle.tile_events.specs.Releases.{AreCovered, Leads};
 ghost use Rattle.tile_events.specs.Sound.{IsBegun, IsFinished, Sound, is_done};
 
-use tile_events::{copy_laws, release_laws, sum_laws};
+use tile_events::{copy_laws, core_laws, release_laws, sum_laws};
 
 /// The plan of three tiles, of which the last waits for both others, is dealt with its releases, by `dealt` of
 /// `pairs_make_plans`, and good, by `good`; its last place reads 5 and 6, by `reads`, and cell 2 ends as 11, by `end`.
 pub fn plan_of_three_tiles()
     ensures dealt { IsDealt counted }
-    ensures good { AreCovered three both_to_last → GoodPlan counted }
+    ensures good { GoodPlan counted }
     ensures reads { values_read counted 2 ≡ 5 ∷ 6 ∷ [] }
     ensures end { before counted counted.places 2 ≡ 11 }
 {
@@ -44,12 +44,21 @@ pub fn last_of_three_tiles()
         → (is_done counted s 1 ≡ true) × (is_done counted s 4 ≡ true) }
     ensures counts { (s : State) → Sound counted s → IsBegun s 2 → slice_index_or s.cells 5 0 ≡ 2 }
     ensures releases { (s : State) → Sound counted s → is_done counted s 3 ≡ true → is_done counted s 0 ≡ true }
-    ensures conflicts { (s : State) → AreCovered three both_to_last → Sound counted s → Touch three 0 2
-        → IsBegun s 2 → is_done counted s 0 ≡ true }
+    ensures conflicts { (s : State) → Sound counted s → IsBegun s 2 → is_done counted s 0 ≡ true }
     ensures filled { (s : State) → Sound counted s → IsFinished s 0 → IsFinished s 1
         → 2 ≤ slice_index_or s.cells 5 0 }
 {
     release_laws::opened_tiles_have_waited();
+}
+
+/// Whatever two workers do there from the start on, the state is sound, and there are events after which the last tile
+/// is opened, by `start` and `replay` of `all_interleavings_agree`.
+pub fn states_over_three_tiles()
+    ensures sound { (es : List (ℕ × Event)) → Sound counted (replay counted counted_first es) }
+    ensures begun { (s : State) × Sound counted s × IsBegun s 2 }
+{
+    core_laws::all_interleavings_agree();
+    release_laws::pairs_make_plans();
 }
 
 /// The last tile is not opened where one other has released it, by `short` of `two_workers_release`, and at the end of
@@ -85,8 +94,8 @@ pub fn sum_of_three_places()
 /// cell what it held at first, by `cells`.
 pub fn copies_of_two_places()
     ensures reads { values_read (expanded two sources_of_two) 1 ≡ 5 ∷ [] }
-    ensures dealt { IsDealt two → IsDealt (expanded two sources_of_two) }
-    ensures good { IsDealt two → GoodPlan (expanded two sources_of_two) }
+    ensures dealt { IsDealt (expanded two sources_of_two) }
+    ensures good { GoodPlan (expanded two sources_of_two) }
     ensures copies { (done : ℕ → Bool) → words_of (expanded two sources_of_two) done 2 3 ≡ (if done 1 then 6 else 0) }
     ensures cells { (done : ℕ → Bool) → words_of (expanded two sources_of_two) done 2 0 ≡ 0 }
 {

@@ -3,6 +3,7 @@ use Rattle.std.specs.Prelude.{Some}
 use Rattle.scop_syntax.specs.Members.{In}
 use Rattle.tile_events.specs.Copies.{AreSources, IsFlowPlan}
 use Rattle.tile_events.specs.Example.{sources_of_two, two}
+use Rattle.run_guards.proofs.TwoTiles.{two_dealt, two_inside}
 use Rattle.run_guards.proofs.releases.copies_of_two_places.Goals as goal
 
 are : (j : ℕ) → j < two.places → AreSources two j (two.read j) (sources_of_two j)
@@ -20,22 +21,17 @@ flow = record { ordered = ordered }
     ordered i (suc j) l (inl e) = let z : i ≡ 0 = cc in inr (omega (arith, z))
     ordered i (suc j) l (inr s) = absurd s
 
-inside : (j c : ℕ) → j < two.places → In c (two.read j) → c < two.cells
-inside zero c l i = absurd i
-inside (suc j) c l (inl e) = omega (arith, e)
-inside (suc j) c l (inr i) = absurd i
-
 pub returns-clause-reads : goal.returns-clause-reads
 returns-clause-reads c =
-    c.copies_keep_what_is_read.ensures.reads two sources_of_two (λ cell. refl) inside are 1 (omega arith)
+    c.copies_keep_what_is_read.ensures.reads two sources_of_two (λ cell. refl) two_inside are 1 (omega arith)
 
 pub returns-clause-dealt : goal.returns-clause-dealt
-returns-clause-dealt c = λ deal.
-    c.copies_keep_what_is_read.ensures.dealt two sources_of_two (λ cell. refl) refl deal are
+returns-clause-dealt c =
+    c.copies_keep_what_is_read.ensures.dealt two sources_of_two (λ cell. refl) refl two_dealt are
 
 pub returns-clause-good : goal.returns-clause-good
-returns-clause-good c = λ deal.
-    c.copies_keep_what_is_read.ensures.good two sources_of_two (λ cell. refl) refl deal are flow
+returns-clause-good c =
+    c.copies_keep_what_is_read.ensures.good two sources_of_two (λ cell. refl) refl two_dealt are flow
 
 pub returns-clause-copies : goal.returns-clause-copies
 returns-clause-copies c = λ done.

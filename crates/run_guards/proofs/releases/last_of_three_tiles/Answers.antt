@@ -1,4 +1,4 @@
-use Rattle.std.proofs.Common.{◌≡◌, ◌∙◌, ℕ, zero, suc, ◌+◌, ◌<◌, ◌&&◌, ⊎_elim, Bool, true, refl, arith}
+use Rattle.std.proofs.Common.{◌≡◌, ◌∙◌, ℕ, zero, suc, ◌+◌, ◌<◌, ◌&&◌, inl, inr, ⊎_elim, Bool, true, refl, arith}
 use Rattle.std.specs.Prelude.{nat_eq}
 use Rattle.std.proofs.lemmas.Bool.{and_from}
 use Rattle.tile_events.specs.Core.{State}
@@ -6,7 +6,7 @@ use Rattle.tile_events.specs.Example.{both_to_last, counted, three}
 use Rattle.tile_events.specs.Plan.{count_of}
 use Rattle.tile_events.specs.Releases.{IsDone}
 use Rattle.tile_events.specs.Sound.{is_done, IsFinished}
-use Rattle.run_guards.proofs.ThreeTiles.{led, three_dealt, three_edges}
+use Rattle.run_guards.proofs.ThreeTiles.{led, three_covered, three_dealt, three_edges}
 use Rattle.run_guards.proofs.releases.last_of_three_tiles.Goals as goal
 
 both_count : (f : ℕ → Bool) → f 0 ≡ true → f 1 ≡ true → count_of f 2 ≡ 2
@@ -34,11 +34,11 @@ returns-clause-releases c = λ s sound done.
     told.releases 0 (omega arith) done 0 (omega arith)
 
 pub returns-clause-conflicts : goal.returns-clause-conflicts
-returns-clause-conflicts c = λ s covered sound touch begun. ⊎_elim
+returns-clause-conflicts c = λ s sound begun. ⊎_elim
     (λ (same : three.tile 0 ≡ three.tile 2). absurd (omega (arith, same)))
     (λ (all : IsDone three both_to_last s 0). all 0 (omega arith))
-    (c.opened_tiles_have_waited.ensures.conflicts three both_to_last s 0 2 three_dealt three_edges covered sound
-    (omega arith) (omega arith) touch begun)
+    (c.opened_tiles_have_waited.ensures.conflicts three both_to_last s 0 2 three_dealt three_edges
+    three_covered sound (omega arith) (omega arith) (inr (inl (inl refl))) begun)
 
 pub returns-clause-filled : goal.returns-clause-filled
 returns-clause-filled c = λ s sound first second.
