@@ -10,7 +10,7 @@ ghost use Rattle.scop_syntax.specs.Walk.{Visit};
 ghost use Rattle.tile_events.specs.Core.{Event, Worker, ended, holding, idle, replay, step, working};
 ghost use Rattle.tile_events.specs.Covers.{Covers, IsCover};
 ghost use Rattle.tile_events.specs.Deal.{dealt};
-ghost use Rattle.tile_events.specs.Example.{counted, first, two};
+ghost use Rattle.tile_events.specs.Example.{counted, first, some_run, two};
 ghost use Rattle.tile_events.specs.Flat.{AreMarked, IsWalk, flat, is_marked, loads};
 ghost use Rattle.tile_events.specs.Plan.{IsDealt, Plan, Touch, before, values_read};
 ghost use Rattle.tile_events.specs.Rule.{AreCounted, Held};
@@ -24,6 +24,13 @@ pub fn states_after_events_of_two_workers()
     ensures { (es : List (ℕ × Event)) → Sound two (replay two first es) }
 {
     core_laws::all_interleavings_agree();
+}
+
+/// At the end of a run of two workers the second cell holds 6, by the clause of `two_workers_run`.
+pub fn run_over_two_tiles()
+    ensures { slice_index_or (replay two first some_run).cells 1 0 ≡ 6 }
+{
+    core_laws::two_workers_run();
 }
 
 /// An event leaves two workers, by `workers` of `events_keep_count`, and its claim is counted, by `claims`.
