@@ -1,9 +1,9 @@
 //! Callers of the laws of releases, covers, sums and copies, over the small plans of `tile_events`' examples.
 ghost use Rattle.std.specs.Prelude.{◌≡◌, ◌+◌, ◌<◌, ◌≤◌, ◌∷◌, ℕ, [], Bool, List, false, if◌then◌else◌, slice_index_or};
-ghost use Rattle.std.specs.Prelude.{take, true};
+ghost use Rattle.std.specs.Prelude.{nat_lt, take, true};
 ghost use Rattle.tile_events.specs.Copies.{expanded};
-ghost use Rattle.tile_events.specs.Core.{Event, State, add, added, not_enabled, open_tile, release, replay, short, step};
-ghost use Rattle.tile_events.specs.Core.{store};
+ghost use Rattle.tile_events.specs.Core.{Event, State, add, added, not_enabled, open_tile, release, replay, short};
+ghost use Rattle.tile_events.specs.Core.{step, store};
 ghost use Rattle.tile_events.specs.Covers.{ArePairsOf, Covered};
 ghost use Rattle.tile_events.specs.Example.{adding, adding_first, adding_run, both_to_last, counted, counted_first};
 ghost use Rattle.tile_events.specs.Example.{counted_run, sources_of_two, three, two};
@@ -14,12 +14,14 @@ ghost use Rattle.tile_events.specs.Sound.{IsBegun, IsFinished, Sound, is_done};
 use tile_events::{copy_laws, core_laws, release_laws, sum_laws};
 
 /// The plan of three tiles, of which the last waits for both others, is dealt with its releases, by `dealt` of
-/// `pairs_make_plans`, and good, by `good`; its last place reads 5 and 6, by `reads`, and cell 2 ends as 11, by `end`.
+/// `pairs_make_plans`, and good, by `good`; its last place reads 5 and 6, by `reads`, and cell 2 ends as 11, by `end`;
+/// so it does where all three are done and nothing is released, by `words`.
 pub fn plan_of_three_tiles()
     ensures dealt { IsDealt counted }
     ensures good { GoodPlan counted }
     ensures reads { values_read counted 2 ≡ 5 ∷ 6 ∷ [] }
     ensures end { before counted counted.places 2 ≡ 11 }
+    ensures words { words_of counted (λ j. nat_lt j 3) counted.places 2 ≡ 11 }
 {
     release_laws::pairs_make_plans();
 }

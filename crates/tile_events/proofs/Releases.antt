@@ -5,13 +5,14 @@ use Rattle.std.specs.Prelude.{nat_eq, nat_lt, if◌then◌else◌}
 use Rattle.std.proofs.lemmas.Bool.{lt-ltb, le-ltb, eqb-true, eqb-false, eq-eqb, ne_eqb, cases_lt, and_from, and_right}
 use Rattle.std.proofs.Math.Nat.{mod-eq_of_lt}
 use Rattle.scop_syntax.specs.Members.{In}
-use Rattle.tile_events.specs.Plan.{Plan, updated, IsDealt, IsCounted, count_of, before, values_read}
+use Rattle.tile_events.specs.Plan.{Plan, updated, IsDealt, IsCounted, count_of, before, values_read, stored, words_of}
 use Rattle.tile_events.specs.Plan.{Touch, Ordered, Through, GoodPlan}
 use Rattle.tile_events.specs.Deal.{tile_at}
 use Rattle.tile_events.specs.Releases.{Edges, AreEdges, pairs_to, released, Leads, Precedes, Chain, AreCovered}
 use Rattle.tile_events.specs.Releases.{IsDone, IsReleased, released_to, Released}
 use Rattle.tile_events.specs.Core.{State, seen_by, needed_by}
 use Rattle.tile_events.specs.Sound.{is_done, IsFinished, IsBegun, Sound}
+use Rattle.tile_events.proofs.Cells.{words_all}
 use Rattle.tile_events.proofs.CountedNumbers.{count_within, count_same, count_behind}
 use Rattle.tile_events.proofs.Deals.{IsTileAt, rises, tile_at_is, tile_at_one}
 use Rattle.tile_events.proofs.ReadyInstances.{done_less, done_of_finished, is_begun_of_done}
@@ -323,19 +324,40 @@ module _ (p : Plan) (e : Edges) where
         ∙ map_same (before q k) (before p k) (p.read k)
         (λ d i. released_before k d (omega (arith, a)) (deal.read k d a i))
 
+    -- the cells hold what the done places leave in the plan without releases
+    words_old : (done : ℕ → Bool) (k c : ℕ) → k ≤ p.places → c < p.cells → words_of q done k c ≡ words_of p done k c
+    words_old done zero c l m = initial_old c m
+    words_old done (suc k) c l m =
+        let a : k < p.places = omega (arith, l) in
+        let value : stored q k ≡ stored p k =
+        ap (q.value k) (released_reads k a) ∙ value_old k (values_read p k) a in
+        ap₂ (λ (w o : ℕ). if done k && nat_eq w c then updated (q.adds c) o (stored q k) else o)
+        (written_old k a) (words_old done k c (omega (arith, l)) m)
+        ∙ ap₂ (λ (b : Bool) (x : ℕ). if done k && nat_eq (p.written k) c
+        then updated b (words_of p done k c) x else words_of p done k c)
+        (adds_old c m) value
+
     -- releases leave the cells
-    released_rest : (m c : ℕ) → m ≤ e.count → c < p.cells → before q (p.places + m) c ≡ before p p.places c
-    released_rest zero c l less =
-        ap (λ (n : ℕ). before q n c) (let s : p.places + 0 ≡ p.places = omega arith in s)
-        ∙ released_before p.places c (omega arith) less
-    released_rest (suc m) c l less =
+    words_rest : (done : ℕ → Bool) (m c : ℕ) → m ≤ e.count → c < p.cells
+        → words_of q done (p.places + m) c ≡ words_of p done p.places c
+    words_rest done zero c l less =
+        ap (λ (n : ℕ). words_of q done n c) (let s : p.places + 0 ≡ p.places = omega arith in s)
+        ∙ words_old done p.places c (omega arith) less
+    words_rest done (suc m) c l less =
         let w = written_new m in
-        ap (λ (n : ℕ). before q n c) (let s : p.places + suc m ≡ suc (p.places + m) = omega arith in s)
-        ∙ rw (ne_eqb (q.written (p.places + m)) c (λ h. omega (arith, w, h, less)))
-        (released_rest m c (omega (arith, l)) less)
+        ap (λ (n : ℕ). words_of q done n c) (let s : p.places + suc m ≡ suc (p.places + m) = omega arith in s)
+        ∙ rw (and_right (done (p.places + m)) (nat_eq (q.written (p.places + m)) c)
+        (ne_eqb (q.written (p.places + m)) c (λ h. omega (arith, w, h, less))))
+        (words_rest done m c (omega (arith, l)) less)
+
+    pub released_words : (done : ℕ → Bool) (c : ℕ) → c < p.cells
+        → words_of q done q.places c ≡ words_of p done p.places c
+    released_words done c less = words_rest done e.count c (omega arith) less
 
     pub released_end : (c : ℕ) → c < p.cells → before q q.places c ≡ before p p.places c
-    released_end c less = released_rest e.count c (omega arith) less
+    released_end c less =
+        sym (words_all q (λ i. true) q.places c (λ i l. refl))
+        ∙ (released_words (λ i. true) c less ∙ words_all p (λ i. true) p.places c (λ i l. refl))
 
     -- what a tile waits for: where it is begun, each pair to it is released, and the instances of that tile are done
     module _ (s : State) (sound : Sound q s) where

@@ -1,14 +1,14 @@
 //! Laws of plans whose tiles are opened by counters, as contracts of functions that do nothing.
-ghost use Rattle.std.specs.Prelude.{◌≡◌, ◌⊎◌, ℕ, ◌<◌, ◌≤◌, List, false, take};
+ghost use Rattle.std.specs.Prelude.{◌≡◌, ◌⊎◌, ℕ, ◌<◌, ◌≤◌, Bool, List, false, take};
 ghost use Rattle.tile_events.specs.Core.{State, needed_by, open_tile, replay, seen_by, short, step};
 ghost use Rattle.tile_events.specs.Covers.{ArePairsOf, Covered};
 ghost use Rattle.tile_events.specs.Example.{counted, counted_first, counted_last, counted_run};
-ghost use Rattle.tile_events.specs.Plan.{GoodPlan, IsDealt, Plan, Touch, before, values_read, waves};
+ghost use Rattle.tile_events.specs.Plan.{GoodPlan, IsDealt, Plan, Touch, before, values_read, waves, words_of};
 ghost use Rattle.tile_events.specs.Releases.{AreCovered, AreEdges, Edges, IsDone, Leads, Released, released};
 ghost use Rattle.tile_events.specs.Sound.{IsBegun, IsFinished, Sound};
 
 /// A plan with releases deals each place once, is good where chains of pairs join all that touch, and executes what the
-/// plan without them does.
+/// plan without them does; whichever places are done, that plan's cells hold what they hold without releases.
 pub fn pairs_make_plans()
     ensures dealt { (p : Plan) (e : Edges) → IsDealt p → AreEdges p.tiles e → IsDealt (released p e) }
     ensures good { (p : Plan) (e : Edges) → IsDealt p → AreEdges p.tiles e → AreCovered p e
@@ -17,6 +17,8 @@ pub fn pairs_make_plans()
         → values_read (released p e) k ≡ values_read p k }
     ensures end { (p : Plan) (e : Edges) → IsDealt p → AreEdges p.tiles e → (c : ℕ) → c < p.cells
         → before (released p e) (released p e).places c ≡ before p p.places c }
+    ensures words { (p : Plan) (e : Edges) → IsDealt p → AreEdges p.tiles e → (done : ℕ → Bool) (c : ℕ) → c < p.cells
+        → words_of (released p e) done (released p e).places c ≡ words_of p done p.places c }
 {}
 
 /// Chains of covers join all that touch, so the pairs of tiles that hold such places are enough, and each leads to a

@@ -1,4 +1,5 @@
 use Rattle.std.proofs.Common.{arith}
+use Rattle.std.specs.Prelude.{nat_lt}
 use Rattle.tile_events.specs.Example.{both_to_last, three}
 use Rattle.run_guards.proofs.ThreeTiles.{three_covered, three_dealt, three_edges}
 use Rattle.run_guards.proofs.releases.plan_of_three_tiles.Goals as goal
@@ -14,3 +15,7 @@ returns-clause-reads c = c.pairs_make_plans.ensures.reads three both_to_last thr
 
 pub returns-clause-end : goal.returns-clause-end
 returns-clause-end c = c.pairs_make_plans.ensures.end three both_to_last three_dealt three_edges 2 (omega arith)
+
+pub returns-clause-words : goal.returns-clause-words
+returns-clause-words c =
+    c.pairs_make_plans.ensures.words three both_to_last three_dealt three_edges (λ j. nat_lt j 3) 2 (omega arith)
