@@ -1,5 +1,5 @@
 //! Callers of the laws of events, seats, scans and walks.
-ghost use Rattle.std.specs.Prelude.{◌≡◌, ◌∷◌, ◌+◌, ◌-◌, ◌%◌, ◌^◌, ℕ, [], Bool, List, Some, if◌then◌else◌, false};
+ghost use Rattle.std.specs.Prelude.{◌≡◌, ◌∷◌, ◌<◌, ◌+◌, ◌-◌, ◌%◌, ◌^◌, ℕ, [], Bool, List, Some, if◌then◌else◌, false};
 ghost use Rattle.std.specs.Prelude.{length, map, nat_eq, slice_get, slice_index, slice_index_or};
 ghost use mathlib.Core.Option.{none};
 ghost use Rattle.atomic_table.specs.Table as table;
@@ -12,7 +12,7 @@ ghost use Rattle.tile_events.specs.Covers.{Covers, IsCover};
 ghost use Rattle.tile_events.specs.Deal.{dealt};
 ghost use Rattle.tile_events.specs.Example.{counted, first, some_run, two};
 ghost use Rattle.tile_events.specs.Flat.{AreMarked, IsWalk, flat, is_marked, loads};
-ghost use Rattle.tile_events.specs.Plan.{IsDealt, Plan, Touch, before, values_read};
+ghost use Rattle.tile_events.specs.Plan.{GoodPlan, IsDealt, Plan, Touch, before, values_read, waves};
 ghost use Rattle.tile_events.specs.Rule.{AreCounted, Held};
 ghost use Rattle.tile_events.specs.Sound.{Sound};
 
@@ -31,6 +31,17 @@ pub fn run_over_two_tiles()
     ensures { slice_index_or (replay two first some_run).cells 1 0 ≡ 6 }
 {
     core_laws::two_workers_run();
+}
+
+/// In any good plan by waves of which places 0 and 2 touch and lie in one wave, they stand in one tile in turn, by
+/// `ordered` of `plans_by_waves_are_good`; the plan of two tiles is good, by `good`.
+pub fn plans_by_waves()
+    ensures ordered { (p : Plan) → p.gate ≡ waves → GoodPlan p → 2 < p.places → Touch p 0 2
+        → p.wave (p.tile 0) ≡ p.wave (p.tile 2)
+        → (p.tile 0 ≡ p.tile 2) × (p.position 0 < p.position 2) }
+    ensures good { GoodPlan two }
+{
+    core_laws::plans_by_waves_are_good();
 }
 
 /// An event leaves two workers, by `workers` of `events_keep_count`, and its claim is counted, by `claims`.

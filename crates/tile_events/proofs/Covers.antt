@@ -5,7 +5,7 @@ use Rattle.std.specs.Prelude.{nat_eq}
 use Rattle.std.proofs.lemmas.Bool.{eqb-true, eqb-false}
 use Rattle.scop_syntax.specs.Members.{In}
 use Rattle.scop_syntax.proofs.Members.{nat_cases}
-use Rattle.tile_events.specs.Plan.{Plan, waves, Awaits, Ordered, Through, Touch, GoodPlan}
+use Rattle.tile_events.specs.Plan.{Plan, waves, Awaits, Ordered, IsByWaves, Through, Touch, GoodPlan}
 use Rattle.tile_events.specs.Releases.{Edges, Leads, Precedes, Chain, AreCovered}
 use Rattle.tile_events.specs.Covers.{AreFree, Meet, Covers, ArePairsOf, Covered}
 
@@ -92,15 +92,12 @@ covers_touch p stores i j c = by_kind c.meet
     by_kind (inr (w, h)) = inr (inr (subst (λ (d : ℕ). In d (p.read i)) (sym w) h))
 
 -- in a plan by waves what is ordered stands in one tile or leads to a later wave
-abbrev pub Apart : Plan → ℕ → ℕ → Type 0
-Apart p i j = ((p.tile i ≡ p.tile j) × (p.position i < p.position j)) ⊎ (p.wave (p.tile i) < p.wave (p.tile j))
-
-pub ordered_by_waves : (p : Plan) (i j : ℕ) → p.gate ≡ waves → i < p.places → Apart p i j → Ordered p i j
+pub ordered_by_waves : (p : Plan) (i j : ℕ) → p.gate ≡ waves → i < p.places → IsByWaves p i j → Ordered p i j
 ordered_by_waves p i j g less (inl x) = inl x
 ordered_by_waves p i j g less (inr x) =
     inr (i, less, refl, omega arith, subst (λ g. Awaits g p (p.tile j) i) (sym g) x)
 
-ordered_apart : (p : Plan) (i j : ℕ) → p.gate ≡ waves → Ordered p i j → Apart p i j
+ordered_apart : (p : Plan) (i j : ℕ) → p.gate ≡ waves → Ordered p i j → IsByWaves p i j
 ordered_apart p i j g o = ⊎_elim (λ x. inl x)
     (λ (x : (r : ℕ) × (r < p.places) × (p.tile r ≡ p.tile i) × (p.position i ≤ p.position r)
     × Awaits p.gate p (p.tile j) r).
@@ -108,15 +105,28 @@ ordered_apart p i j g o = ⊎_elim (λ x. inl x)
     let b = ap p.wave x.2 in inr (omega (arith, a, b)))
     o
 
-through_apart : (p : Plan) (ks : List ℕ) (i j : ℕ) → p.gate ≡ waves → Through p ks i j → Apart p i j
+through_apart : (p : Plan) (ks : List ℕ) (i j : ℕ) → p.gate ≡ waves → Through p ks i j → IsByWaves p i j
 through_apart p [] i j g o = ordered_apart p i j g o
 through_apart p (k ∷ ks) i j g o = join (ordered_apart p i k g o.1) (through_apart p ks k j g o.2)
   where
-    join : Apart p i k → Apart p k j → Apart p i j
+    join : IsByWaves p i k → IsByWaves p k j → IsByWaves p i j
     join (inl x) (inl y) = let a = x.1 in let b = y.1 in inl (x.0 ∙ y.0, omega (arith, a, b))
     join (inl x) (inr y) = let a = ap p.wave x.0 in inr (omega (arith, a, y))
     join (inr x) (inl y) = let a = ap p.wave y.0 in inr (omega (arith, a, x))
     join (inr x) (inr y) = inr (omega (arith, x, y))
+
+-- so a plan by waves is good exactly where all that touch are ordered so
+pub good_waves : (p : Plan) → p.gate ≡ waves → GoodPlan p → (i j : ℕ) → i < j → j < p.places → Touch p i j
+    → IsByWaves p i j
+good_waves p g good i j before less touch =
+    let o = good.ordered i j before less touch in through_apart p o.0 i j g o.1
+
+pub waves_good : (p : Plan) → p.gate ≡ waves
+    → ((i j : ℕ) → i < j → j < p.places → Touch p i j → IsByWaves p i j) → GoodPlan p
+waves_good p g all = record {
+  ordered = λ i j before less touch.
+      ([], ordered_by_waves p i j g (omega (arith, before, less)) (all i j before less touch));
+}
 
 module _ (p : Plan) (e : Edges) (stores : (c : ℕ) → p.adds c ≡ false) (by_waves : p.gate ≡ waves) (good : GoodPlan p)
     (pairs : ArePairsOf p e) where
@@ -126,10 +136,9 @@ module _ (p : Plan) (e : Edges) (stores : (c : ℕ) → p.adds c ≡ false) (by_
       by_test : (b : Bool) → nat_eq (p.tile i) (p.tile j) ≡ b → Precedes p e i j
       by_test true t =
           let s : p.tile i ≡ p.tile j = eqb-true (p.tile i) (p.tile j) t in
-          let o = good.ordered i j c.before c.within (covers_touch p stores i j c) in
           let w = ap p.wave s in
           ⊎_elim (λ x. inl x) (λ (x : p.wave (p.tile i) < p.wave (p.tile j)). absurd (omega (arith, x, w)))
-          (through_apart p o.0 i j by_waves o.1)
+          (good_waves p by_waves good i j c.before c.within (covers_touch p stores i j c))
       by_test false t = inr (pairs.all i j c (eqb-false (p.tile i) (p.tile j) t))
 
   chain : (ks : List ℕ) (i j : ℕ) → Covered p ks i j → Chain p e ks i j
@@ -143,11 +152,10 @@ module _ (p : Plan) (e : Edges) (stores : (c : ℕ) → p.adds c ≡ false) (by_
   pub pairs_rise : (t u : ℕ) → Leads p e t u → p.wave t < p.wave u
   pairs_rise t u l =
       let c = pairs.covers t u l in
-      let o = good.ordered c.0 c.1 c.4.before c.4.within (covers_touch p stores c.0 c.1 c.4) in
       let ft = ap p.wave c.2 in
       let fu = ap p.wave c.3 in
       ⊎_elim
       (λ (x : (p.tile c.0 ≡ p.tile c.1) × (p.position c.0 < p.position c.1)).
       absurd (pairs.apart t u l (sym c.2 ∙ (x.0 ∙ c.3))))
       (λ (x : p.wave (p.tile c.0) < p.wave (p.tile c.1)). omega (arith, x, ft, fu))
-      (through_apart p o.0 c.0 c.1 by_waves o.1)
+      (good_waves p by_waves good c.0 c.1 c.4.before c.4.within (covers_touch p stores c.0 c.1 c.4))

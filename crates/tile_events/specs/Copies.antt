@@ -1,7 +1,7 @@
 -- A plan in which each place writes a cell of its own, and a read takes the one of its source.
-use Rattle.std.specs.Prelude.{◌≡◌, ℕ, ◌+◌, ◌<◌, ◌≢◌, ◌⊎◌, ⊤, List, [], ◌∷◌, Option, Some, None, nat_lt, if◌then◌else◌}
+use Rattle.std.specs.Prelude.{◌≡◌, ℕ, ◌+◌, ◌<◌, ◌≢◌, ⊤, List, [], ◌∷◌, Option, Some, None, nat_lt, if◌then◌else◌}
 use Rattle.scop_syntax.specs.Members.{In}
-use Rattle.tile_events.specs.Plan.{Plan}
+use Rattle.tile_events.specs.Plan.{Plan, IsByWaves}
 
 -- the cell of a read where it has no source, else the copy of that source behind the n cells
 abbrev pub copy_of : ℕ → ℕ → Option ℕ → ℕ
@@ -37,5 +37,4 @@ AreSources p j (c ∷ cs) (i ∷ sources) = IsSource p j c i × AreSources p j c
 
 -- the source of a place's read comes first in one tile, or lies in an earlier wave
 pub record IsFlowPlan (p : Plan) (sources : ℕ → List (Option ℕ)) : Type 0 where
-  pub ordered : (i j : ℕ) → j < p.places → In (Some i) (sources j)
-      → ((p.tile i ≡ p.tile j) × (p.position i < p.position j)) ⊎ (p.wave (p.tile i) < p.wave (p.tile j))
+  pub ordered : (i j : ℕ) → j < p.places → In (Some i) (sources j) → IsByWaves p i j

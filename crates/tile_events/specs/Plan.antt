@@ -82,7 +82,11 @@ Ordered p i j =
     ((p.tile i ≡ p.tile j) × (p.position i < p.position j))
     ⊎ ((r : ℕ) × (r < p.places) × (p.tile r ≡ p.tile i) × (p.position i ≤ p.position r) × Awaits p.gate p (p.tile j) r)
 
--- so at once, or by way of places in between
+-- the same by waves: the first comes earlier in one tile, or its tile lies in an earlier wave
+abbrev pub IsByWaves : Plan → ℕ → ℕ → Type 0
+IsByWaves p i j = ((p.tile i ≡ p.tile j) × (p.position i < p.position j)) ⊎ (p.wave (p.tile i) < p.wave (p.tile j))
+
+-- ordered at once, or by way of places in between
 abbrev pub Through : Plan → List ℕ → ℕ → ℕ → Type 0
 Through p [] i j = Ordered p i j
 Through p (k ∷ ks) i j = (k < p.places) × Ordered p i k × Through p ks k j
