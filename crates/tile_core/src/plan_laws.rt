@@ -39,7 +39,7 @@ use tile_events::flat_laws::plans_execute_the_walk;
 use tile_list::laws::{numbers_tell_waves, tiles_stand_one_behind_another};
 
 /// The tiles of a plan hold each place of the walk once, and of two places that touch one cell the earlier comes first
-/// in one tile or lies in an earlier wave.
+/// in one tile or lies in an earlier wave, at once or by way of places in between.
 pub fn plans_are_good()
     ensures scan { (plan : Plan) → IsPlan plan → IsScan (deal_of plan) }
     ensures count { (plan : Plan) → IsPlan plan → length (scan_in plan) ≡ length (walk_in plan) }

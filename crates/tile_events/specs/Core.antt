@@ -15,7 +15,8 @@ pub data Worker : Type 0 where
   ended : Worker
   -- it holds a tile that it has not opened
   holding : ℕ → Worker
-  -- it works in an opened tile: the tile, how many of its instances are done, and the values read for the next one
+  -- it works in an opened tile: the tile, how many of its places are done, releases included, and the values read for
+  -- the next one
   working : ℕ → ℕ → List ℕ → Worker
 
 -- what all workers share, and where each of them stands
@@ -39,9 +40,10 @@ pub data Event : Type 0 where
   load : Event
   -- it stores the value of its instance
   store : Event
-  -- it adds the value of its instance
+  -- it adds the value of its instance, where tiles have no counters
   add : Event
-  -- it adds 1 to the counter of the next tile that waits for its own
+  -- it adds the value of its place, where they have: to the counter of a tile that waits for its own that is 1, as
+  -- `IsCounted` says
   release : Event
   -- it finishes its tile
   finish : Event
@@ -62,7 +64,7 @@ pub data Seen : Type 0 where
   stored : Seen
   -- it is added
   added : Seen
-  -- the other tile's counter is raised
+  -- it is added, where tiles have counters
   released : Seen
   -- the tile is finished
   done : Seen

@@ -1,5 +1,5 @@
--- Runs of two workers: over two tiles in two waves, cell 0 := 5, then cell 1 := cell 0 + 1; over three tiles that add to
--- one cell; and over three tiles, of which the last waits for both others.
+-- Runs of two workers: over two tiles in two waves, cell 0 := 5, then cell 1 := cell 0 + 1; over three tiles that add
+-- to one cell; and over three tiles, of which the last waits for both others.
 use Rattle.std.specs.Prelude.{ℕ, zero, suc, ◌+◌, true, false, List, [], ◌∷◌, Option, Some, get_or, nat_lt}
 use Rattle.std.specs.Prelude.{if◌then◌else◌}
 use Rattle.tile_events.specs.Plan.{Plan, waves}

@@ -9,7 +9,7 @@ use Rattle.scop_syntax.specs.Walk.{Visit}
 use Rattle.scop_syntax.specs.Values.{value_on, stored_by}
 use Rattle.scop_syntax.specs.Execution.{cell_number, held, IsCell}
 
--- whether an array is marked: one of those to which all statements that write it add
+-- whether an array is one of those that are marked
 abbrev pub is_marked : List ℕ → ℕ → Bool
 is_marked [] a = false
 is_marked (m ∷ ms) a = if nat_eq m a then true else is_marked ms a

@@ -32,9 +32,9 @@ pub record Plan : Type 0 where
   pub tile : ℕ → ℕ
   -- of a place: where it stands in its tile
   pub position : ℕ → ℕ
-  -- of a tile: how many instances it has
+  -- of a tile: how many places it has, releases included
   pub size : ℕ → ℕ
-  -- of a tile and a number below its size: the place of that instance
+  -- of a tile and a number below its size: the place that stands there
   pub place : ℕ → ℕ → ℕ
   -- of a tile: its wave
   pub wave : ℕ → ℕ

@@ -31,9 +31,10 @@ pub fn covers_join_what_touches()
         → ArePairsOf p e → (t u : ℕ) → Leads p e t u → p.wave t < p.wave u }
 {}
 
-/// At a sound state counters tell how many tiles have released theirs, which they do once all their instances are done,
-/// and an opened tile was released by all that lead to it; so every other tile that holds an earlier place which
-/// touches one of its own has all instances done. Where all that lead to a tile are finished, it can be opened.
+/// At a sound state counters tell how many pairs to their tiles are released, a tile releases another only once all its
+/// instances are done, and an opened tile was released by all that lead to it; so every other tile that holds an earlier
+/// place which touches one of its own has all instances done. Where all that lead to a tile are finished, it can be
+/// opened.
 pub fn opened_tiles_have_waited()
     ensures released { (p : Plan) (e : Edges) (s : State) → IsDealt p → AreEdges p.tiles e
         → e.count < 18446744073709551616 → Sound (released p e) s → Released p e s }
