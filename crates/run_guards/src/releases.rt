@@ -1,17 +1,26 @@
 //! Callers of the laws of releases, covers, sums and copies, over the small plans of `tile_events`' examples.
-ghost use Rattle.std.specs.Prelude.{◌≡◌, ◌+◌, ◌<◌, ◌≤◌, ◌∷◌, ℕ, [], Bool, List, false, if◌then◌else◌, slice_index_or};
-ghost use Rattle.std.specs.Prelude.{nat_lt, take, true};
+ghost use Rattle.std.specs.Prelude.{◌≡◌, ◌+◌, ◌<◌, ◌≤◌, ◌≢◌, ◌∷◌, ℕ, [], Bool, List, false, if◌then◌else◌, nat_lt};
+ghost use Rattle.std.specs.Prelude.{slice_index_or, take, true};
 ghost use Rattle.tile_events.specs.Copies.{expanded};
 ghost use Rattle.tile_events.specs.Core.{Event, State, add, added, not_enabled, open_tile, release, replay, short};
 ghost use Rattle.tile_events.specs.Core.{step, store};
 ghost use Rattle.tile_events.specs.Covers.{ArePairsOf, Covered};
+ghost use Rattle.tile_events.specs.Deal.{tile_at};
 ghost use Rattle.tile_events.specs.Example.{adding, adding_first, adding_run, both_to_last, counted, counted_first};
 ghost use Rattle.tile_events.specs.Example.{counted_run, sources_of_two, three, two};
 ghost use Rattle.tile_events.specs.Plan.{GoodPlan, IsDealt, Plan, Touch, before, values_read, waves, words_of};
-ghost use Rattle.tile_events.specs.Releases.{AreCovered, Leads};
+ghost use Rattle.tile_events.specs.Releases.{AreCovered, AreEdges, Edges, Leads};
 ghost use Rattle.tile_events.specs.Sound.{IsBegun, IsFinished, Sound, is_done};
 
 use tile_events::{copy_laws, core_laws, release_laws, sum_laws};
+
+/// Of pairs of three tiles the first and the third are not the same, by `once` of `pairs_make_plans`.
+pub fn pairs_of_three_tiles()
+    ensures { (e : Edges) → AreEdges 3 e → 2 < e.count → tile_at e.start 3 0 ≡ tile_at e.start 3 2
+        → e.target 0 ≢ e.target 2 }
+{
+    release_laws::pairs_make_plans();
+}
 
 /// The plan of three tiles, of which the last waits for both others, is dealt with its releases, by `dealt` of
 /// `pairs_make_plans`, and good, by `good`; its last place reads 5 and 6, by `reads`, and cell 2 ends as 11, by `end`;

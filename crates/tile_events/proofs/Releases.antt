@@ -5,6 +5,7 @@ use Rattle.std.specs.Prelude.{nat_eq, nat_lt, if◌then◌else◌}
 use Rattle.std.proofs.lemmas.Bool.{lt-ltb, le-ltb, eqb-true, eqb-false, eq-eqb, ne_eqb, cases_lt, and_from, and_right}
 use Rattle.std.proofs.Math.Nat.{mod-eq_of_lt}
 use Rattle.scop_syntax.specs.Members.{In}
+use Rattle.scop_syntax.proofs.Members.{nat_cases}
 use Rattle.tile_events.specs.Plan.{Plan, updated, IsDealt, IsCounted, count_of, before, values_read, stored, words_of}
 use Rattle.tile_events.specs.Plan.{Touch, Ordered, Through, GoodPlan}
 use Rattle.tile_events.specs.Deal.{tile_at}
@@ -17,6 +18,39 @@ use Rattle.tile_events.proofs.CountedNumbers.{count_within, count_same, count_be
 use Rattle.tile_events.proofs.Deals.{IsTileAt, rises, tile_at_is, tile_at_one}
 use Rattle.tile_events.proofs.ReadyInstances.{done_less, done_of_finished, is_begun_of_done}
 use Rattle.tile_events.proofs.Sums.{cell_counts}
+
+-- no two pairs are the same
+module _ (n : ℕ) (e : Edges) (edges : AreEdges n e) where
+  -- seconds rise within a tile
+  climbs : (i d : ℕ) → i + suc d < e.count → tile_at e.start n i ≡ tile_at e.start n (i + suc d)
+      → e.target i < e.target (i + suc d)
+  climbs i zero l same = let next : i + 1 ≡ suc i = omega arith in
+      subst (λ (m : ℕ). e.target i < e.target m) (sym next)
+      (edges.distinct i (omega (arith, l)) (same ∙ ap (tile_at e.start n) next))
+  climbs i (suc d) l same =
+      let last = edges.last in
+      let at = tile_at_is e.start n i edges.first (omega (arith, l, last)) in
+      let end = tile_at_is e.start n (i + suc (suc d)) edges.first (omega (arith, l, last)) in
+      let from = at.from in
+      let to = subst (λ (t : ℕ). i + suc (suc d) < e.start (suc t)) (sym same) end.to in
+      let middle : tile_at e.start n (i + suc d) ≡ tile_at e.start n i =
+      tile_at_one e.start n n (i + suc d) (tile_at e.start n i) edges.rises (omega arith) at.less (omega (arith, from))
+      (omega (arith, to)) in
+      let next : i + suc (suc d) ≡ suc (i + suc d) = omega arith in
+      let a = climbs i d (omega (arith, l)) (sym middle) in
+      let b = edges.distinct (i + suc d) (omega (arith, l)) (middle ∙ (same ∙ ap (tile_at e.start n) next)) in
+      subst (λ (m : ℕ). e.target i < e.target m) (sym next) (omega (arith, a, b))
+
+  pub pairs_once : (i j : ℕ) → i < e.count → j < e.count → tile_at e.start n i ≡ tile_at e.start n j
+      → e.target i ≡ e.target j → i ≡ j
+  pairs_once i j l m same to = nat_cases i j (λ a. absurd (apart i j m same to a)) (λ a. a)
+      (λ a. absurd (apart j i l (sym same) (sym to) a))
+    where
+      apart : (i j : ℕ) → j < e.count → tile_at e.start n i ≡ tile_at e.start n j → e.target i ≡ e.target j → i < j → ⊥
+      apart i j m same to less =
+          let there : i + suc (j - suc i) ≡ j = omega (arith, less) in
+          let c = climbs i (j - suc i) (omega (arith, there, m)) (same ∙ ap (tile_at e.start n) (sym there)) in
+          let z = ap e.target there in omega (arith, c, z, to)
 
 module _ (p : Plan) (e : Edges) where
   abbrev q : Plan

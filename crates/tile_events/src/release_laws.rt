@@ -2,14 +2,18 @@
 ghost use Rattle.std.specs.Prelude.{◌≡◌, ◌⊎◌, ℕ, ◌<◌, ◌≤◌, Bool, List, false, take};
 ghost use Rattle.tile_events.specs.Core.{State, needed_by, open_tile, replay, seen_by, short, step};
 ghost use Rattle.tile_events.specs.Covers.{ArePairsOf, Covered};
+ghost use Rattle.tile_events.specs.Deal.{tile_at};
 ghost use Rattle.tile_events.specs.Example.{counted, counted_first, counted_last, counted_run};
 ghost use Rattle.tile_events.specs.Plan.{GoodPlan, IsDealt, Plan, Touch, before, values_read, waves, words_of};
 ghost use Rattle.tile_events.specs.Releases.{AreCovered, AreEdges, Edges, IsDone, Leads, Released, released};
 ghost use Rattle.tile_events.specs.Sound.{IsBegun, IsFinished, Sound};
 
-/// A plan with releases deals each place once, is good where chains of pairs join all that touch, and executes what the
-/// plan without them does; whichever places are done, that plan's cells hold what they hold without releases.
+/// No two pairs are the same. A plan with releases deals each place once, is good where chains of pairs join all that
+/// touch, and executes what the plan without them does; whichever places are done, the cells of that plan hold what
+/// they hold without releases.
 pub fn pairs_make_plans()
+    ensures once { (n : ℕ) (e : Edges) → AreEdges n e → (i j : ℕ) → i < e.count → j < e.count
+        → tile_at e.start n i ≡ tile_at e.start n j → e.target i ≡ e.target j → i ≡ j }
     ensures dealt { (p : Plan) (e : Edges) → IsDealt p → AreEdges p.tiles e → IsDealt (released p e) }
     ensures good { (p : Plan) (e : Edges) → IsDealt p → AreEdges p.tiles e → AreCovered p e
         → GoodPlan (released p e) }
@@ -32,9 +36,9 @@ pub fn covers_join_what_touches()
 {}
 
 /// At a sound state counters tell how many pairs to their tiles are released, a tile releases another only once all its
-/// instances are done, and an opened tile was released by all that lead to it; so every other tile that holds an earlier
-/// place which touches one of its own has all instances done. Where all that lead to a tile are finished, it can be
-/// opened.
+/// instances are done, and an opened tile was released by all that lead to it; so every other tile that holds an
+/// earlier place which touches one of its own has all instances done. Where all that lead to a tile are finished, it
+/// can be opened.
 pub fn opened_tiles_have_waited()
     ensures released { (p : Plan) (e : Edges) (s : State) → IsDealt p → AreEdges p.tiles e
         → e.count < 18446744073709551616 → Sound (released p e) s → Released p e s }
