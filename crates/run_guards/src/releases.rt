@@ -1,5 +1,5 @@
 //! Callers of the laws of releases, covers, sums and copies, over the small plans of `tile_events`' examples.
-ghost use Rattle.std.specs.Prelude.{◌≡◌, ◌+◌, ◌<◌, ◌≤◌, ◌≢◌, ◌∷◌, ℕ, [], Bool, List, false, if◌then◌else◌, nat_lt};
+ghost use Rattle.std.specs.Prelude.{◌≡◌, ◌+◌, ◌<◌, ◌≤◌, ◌≢◌, ◌∷◌, ℕ, [], Bool, List, false, if◌then◌else◌};
 ghost use Rattle.std.specs.Prelude.{slice_index_or, take, true};
 ghost use Rattle.tile_events.specs.Copies.{expanded};
 ghost use Rattle.tile_events.specs.Core.{Event, State, add, added, not_enabled, open_tile, release, replay, short};
@@ -24,13 +24,13 @@ pub fn pairs_of_three_tiles()
 
 /// The plan of three tiles, of which the last waits for both others, is dealt with its releases, by `dealt` of
 /// `pairs_make_plans`, and good, by `good`; its last place reads 5 and 6, by `reads`, and cell 2 ends as 11, by `end`;
-/// so it does where all three are done and nothing is released, by `words`.
+/// whichever places are done, it holds what it holds without releases, by `words`.
 pub fn plan_of_three_tiles()
     ensures dealt { IsDealt counted }
     ensures good { GoodPlan counted }
     ensures reads { values_read counted 2 ≡ 5 ∷ 6 ∷ [] }
     ensures end { before counted counted.places 2 ≡ 11 }
-    ensures words { words_of counted (λ j. nat_lt j 3) counted.places 2 ≡ 11 }
+    ensures words { (done : ℕ → Bool) → words_of counted done counted.places 2 ≡ words_of three done 3 2 }
 {
     release_laws::pairs_make_plans();
 }

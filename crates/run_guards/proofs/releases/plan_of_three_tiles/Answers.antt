@@ -1,5 +1,4 @@
 use Rattle.std.proofs.Common.{arith}
-use Rattle.std.specs.Prelude.{nat_lt}
 use Rattle.tile_events.specs.Example.{both_to_last, three}
 use Rattle.run_guards.proofs.ThreeTiles.{three_covered, three_dealt, three_edges}
 use Rattle.run_guards.proofs.releases.plan_of_three_tiles.Goals as goal
@@ -17,5 +16,5 @@ pub returns-clause-end : goal.returns-clause-end
 returns-clause-end c = c.pairs_make_plans.ensures.end three both_to_last three_dealt three_edges 2 (omega arith)
 
 pub returns-clause-words : goal.returns-clause-words
-returns-clause-words c =
-    c.pairs_make_plans.ensures.words three both_to_last three_dealt three_edges (λ j. nat_lt j 3) 2 (omega arith)
+returns-clause-words c = λ done.
+    c.pairs_make_plans.ensures.words three both_to_last three_dealt three_edges done 2 (omega arith)
