@@ -1,2 +1,2 @@
-pub mod TwoTiles
+pub mod SmallPlans
 pub mod ThreeTiles

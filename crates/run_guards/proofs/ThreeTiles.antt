@@ -1,19 +1,20 @@
 -- The plan of three tiles, of which the last waits for both others.
-use Rattle.std.proofs.Common.{◌≡◌, ℕ, zero, suc, ◌<◌, ◌≤◌, inl, inr, Bool, true, false, [], ◌∷◌, refl, subst, arith}
-use Rattle.std.specs.Prelude.{get_or, nat_lt, take, if◌then◌else◌}
-use mathlib.Core.Option.{some}
+use Rattle.std.proofs.Common.{◌≡◌, ℕ, zero, suc, ◌<◌, ◌≤◌, inl, inr, Bool, true, false, [], ◌∷◌, get_or, refl, sym}
+use Rattle.std.proofs.Common.{subst, arith}
+use Rattle.std.specs.Prelude.{nat_lt, take, if◌then◌else◌}
+use mathlib.Core.Option.{some, some-injective}
 use lib.ListN.{get_elem?}
 use Rattle.std.proofs.lemmas.Bool.{ltb-false}
 use Rattle.scop_syntax.specs.Members.{In}
 use Rattle.tile_events.specs.Covers.{ArePairsOf, Covers, Meet}
-use Rattle.tile_events.specs.Core.{holding, replay, working}
+use Rattle.tile_events.specs.Core.{State, Worker, holding, idle, replay, working}
 use Rattle.tile_events.specs.Deal.{tile_at}
 use Rattle.tile_events.specs.Example.{both_to_last, counted, counted_first, counted_run, three}
 use Rattle.tile_events.specs.Opening.{IsOpening}
-use Rattle.tile_events.specs.Plan.{GoodPlan, IsDealt, Touch}
+use Rattle.tile_events.specs.Plan.{IsDealt, Touch}
 use Rattle.tile_events.specs.Releases.{AreCovered, AreEdges, Leads}
-use Rattle.tile_events.specs.Sound.{IsBegun}
-use Rattle.run_guards.proofs.TwoTiles.{both_idle}
+use Rattle.tile_events.specs.Sound.{Holds, IsBegun, IsFinished}
+use Rattle.run_guards.proofs.SmallPlans.{both_idle, single_dealt}
 
 -- only the last place reads, and only cells 0 and 1
 reads_below : (j c : ℕ) → In c (three.read j) → (2 ≤ j) × (c < 2)
@@ -26,24 +27,7 @@ reads_below j c i = by_test (nat_lt j 2) refl i
     by_test false e (inr (inr i)) = absurd i
 
 pub three_dealt : IsDealt three
-three_dealt = record {
-  tile = λ j l. l;
-  position = λ j l. omega arith;
-  there = λ j l. refl;
-  place = λ t k l m. l;
-  its_tile = λ t k l m. refl;
-  its_position = λ t k l m. omega (arith, m);
-  early = λ w t l o. o;
-  late = λ w t l o. o;
-  written = λ j l. l;
-  read = λ j c l i. let r = (reads_below j c i).1 in omega (arith, r);
-  gate = tt;
-}
-
-pub three_good : GoodPlan three
-three_good = record {
-  ordered = λ i j before less touch. ([], inr (i, omega (arith, before, less), refl, omega arith, before));
-}
+three_dealt = single_dealt three (λ j l. l) (λ j c l i. let r = (reads_below j c i).1 in omega (arith, r))
 
 pub three_edges : AreEdges 3 both_to_last
 three_edges =
@@ -127,11 +111,24 @@ counted_opening = record { claims = refl; finished = refl; idle = both_idle; wid
     cells (suc (suc (suc (suc (suc zero))))) l = refl
     cells (suc (suc (suc (suc (suc (suc c)))))) l = absurd (omega (arith, l))
 
--- after the first 14 events of the run worker 1 works in the last tile
-pub last_begun : IsBegun (replay counted counted_first (take 14 counted_run)) 2
+-- after the first 15 events of the run worker 1 works in the last tile, and the others are finished
+abbrev pub opened : State
+opened = replay counted counted_first (take 15 counted_run)
+
+pub last_begun : IsBegun opened 2
 last_begun = record { claimed = omega arith; awake = awake }
   where
-    awake : (id : ℕ) → get_elem? (working 1 2 [] ∷ working 2 0 [] ∷ []) id ≡ some (holding 2) → ⊥
+    awake : (id : ℕ) → get_elem? opened.workers id ≡ some (holding 2) → ⊥
     awake zero e = absurd cc
     awake (suc zero) e = absurd cc
     awake (suc (suc id)) e = absurd cc
+
+pub others_finished : (t : ℕ) → t < 2 → IsFinished opened t
+others_finished t l = record { claimed = omega (arith, l); free = free }
+  where
+    free : (id : ℕ) (w : Worker) → get_elem? opened.workers id ≡ some w → Holds w t → ⊥
+    free zero w e h = subst (λ v. Holds v t) (sym (some-injective idle w e)) h
+    free (suc zero) w e h =
+        let same : 2 ≡ t = subst (λ v. Holds v t) (sym (some-injective (working 2 0 []) w e)) h in
+        omega (arith, same, l)
+    free (suc (suc id)) w e h = absurd cc

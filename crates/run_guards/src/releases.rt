@@ -62,11 +62,11 @@ pub fn last_of_three_tiles()
     release_laws::opened_tiles_have_waited();
 }
 
-/// Whatever two workers do there from the start on, the state is sound, and there are events after which the last tile
-/// is opened, by `start` and `replay` of `all_interleavings_agree`.
+/// Whatever two workers do there from the start on, the state is sound, and there is one at which the last tile is
+/// opened and the others are finished, by `start` and `replay` of `all_interleavings_agree`.
 pub fn states_over_three_tiles()
     ensures sound { (es : List (ℕ × Event)) → Sound counted (replay counted counted_first es) }
-    ensures begun { (s : State) × Sound counted s × IsBegun s 2 }
+    ensures begun { (s : State) × Sound counted s × IsBegun s 2 × IsFinished s 0 × IsFinished s 1 }
 {
     core_laws::all_interleavings_agree();
     release_laws::pairs_make_plans();
@@ -90,6 +90,16 @@ pub fn run_of_three_adds()
     ensures end { slice_index_or (replay adding adding_first adding_run).cells 0 0 ≡ 6 }
 {
     sum_laws::two_workers_add();
+}
+
+/// Whatever two workers do there from the start on, the state is sound, and there is one at which all places are done,
+/// by `start` and `replay` of `all_interleavings_agree`.
+pub fn states_of_three_adds()
+    ensures sound { (es : List (ℕ × Event)) → Sound adding (replay adding adding_first es) }
+    ensures done { (s : State) × Sound adding s × (is_done adding s 0 ≡ true) × (is_done adding s 1 ≡ true)
+        × (is_done adding s 2 ≡ true) }
+{
+    core_laws::all_interleavings_agree();
 }
 
 /// Where three places have added 1, 2 and 3 to a cell it holds 6, by the clause of `cells_hold_their_sums`.

@@ -3,7 +3,7 @@ use Rattle.std.specs.Prelude.{Some}
 use Rattle.scop_syntax.specs.Members.{In}
 use Rattle.tile_events.specs.Copies.{AreSources, IsFlowPlan}
 use Rattle.tile_events.specs.Example.{sources_of_two, two}
-use Rattle.run_guards.proofs.TwoTiles.{two_dealt, two_inside}
+use Rattle.run_guards.proofs.SmallPlans.{two_dealt, two_inside}
 use Rattle.run_guards.proofs.releases.copies_of_two_places.Goals as goal
 
 are : (j : ℕ) → j < two.places → AreSources two j (two.read j) (sources_of_two j)

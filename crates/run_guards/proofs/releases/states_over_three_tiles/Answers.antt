@@ -1,7 +1,8 @@
+use Rattle.std.proofs.Common.{arith}
 use Rattle.std.specs.Prelude.{take}
-use Rattle.tile_events.specs.Core.{replay}
 use Rattle.tile_events.specs.Example.{both_to_last, counted, counted_first, counted_run, three}
-use Rattle.run_guards.proofs.ThreeTiles.{counted_opening, last_begun, three_covered, three_dealt, three_edges}
+use Rattle.run_guards.proofs.ThreeTiles.{counted_opening, last_begun, opened, others_finished, three_covered}
+use Rattle.run_guards.proofs.ThreeTiles.{three_dealt, three_edges}
 use Rattle.run_guards.proofs.releases.states_over_three_tiles.Goals as goal
 
 pub returns-clause-sound : goal.returns-clause-sound
@@ -13,7 +14,9 @@ returns-clause-sound c = λ es.
 
 pub returns-clause-begun : goal.returns-clause-begun
 returns-clause-begun c = (
-  replay counted counted_first (take 14 counted_run),
-  returns-clause-sound c (take 14 counted_run),
+  opened,
+  returns-clause-sound c (take 15 counted_run),
   last_begun,
+  others_finished 0 (omega arith),
+  others_finished 1 (omega arith),
 )
