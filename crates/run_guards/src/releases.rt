@@ -1,5 +1,5 @@
 //! Callers of the laws of releases, covers, sums and copies, over the small plans of `tile_events`' examples.
-ghost use Rattle.std.specs.Prelude.{◌≡◌, ◌+◌, ◌<◌, ◌≤◌, ◌≢◌, ◌∷◌, ℕ, [], Bool, List, false, if◌then◌else◌};
+ghost use Rattle.std.specs.Prelude.{◌≡◌, ◌<◌, ◌≤◌, ◌≢◌, ◌∷◌, ℕ, [], Bool, List, false, if◌then◌else◌};
 ghost use Rattle.std.specs.Prelude.{slice_index_or, take, true};
 ghost use Rattle.tile_events.specs.Copies.{expanded};
 ghost use Rattle.tile_events.specs.Core.{Event, State, add, added, not_enabled, open_tile, release, replay, short};

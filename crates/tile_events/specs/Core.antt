@@ -42,8 +42,8 @@ pub data Event : Type 0 where
   store : Event
   -- it adds the value of its instance, where tiles have no counters
   add : Event
-  -- it adds the value of its place, where they have: to the counter of a tile that waits for its own that is 1, as
-  -- `IsCounted` says
+  -- it adds the value of its place, where they have: 1, where that is to the counter of a tile that waits for its own
+  -- (`IsCounted`)
   release : Event
   -- it finishes its tile
   finish : Event

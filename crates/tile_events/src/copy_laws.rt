@@ -1,5 +1,5 @@
 //! The law of plans with copies, as the contract of a function that does nothing.
-ghost use Rattle.std.specs.Prelude.{◌≡◌, ℕ, ◌+◌, ◌<◌, ◌≤◌, Bool, List, Option, false, if◌then◌else◌};
+ghost use Rattle.std.specs.Prelude.{◌≡◌, ℕ, ◌+◌, ◌<◌, Bool, List, Option, false, if◌then◌else◌};
 ghost use Rattle.scop_syntax.specs.Members.{In};
 ghost use Rattle.tile_events.specs.Copies.{AreSources, IsFlowPlan, expanded};
 ghost use Rattle.tile_events.specs.Plan.{GoodPlan, IsDealt, Plan, stored, values_read, waves, words_of};
