@@ -2,9 +2,9 @@
 ghost use Rattle.std.specs.Prelude.{◌≡◌, ◌++◌, ◌*ℤ◌, ◌<ℤ◌, ◌≤ℤ◌, map, pos};
 ghost use Rattle.std.specs.Int.Signed.{le_z};
 ghost use Rattle.whole_numbers.specs.Affine.{value_of};
-ghost use Rattle.whole_numbers.specs.Floor.{ceiling, floor};
+ghost use Rattle.whole_numbers.specs.Floor.{ceiling, floor, remainder};
 ghost use Rattle.loop_tree.specs.steps.Chain.{values_in};
-ghost use Rattle.loop_tree.specs.Fits.{BoundsFit, FormFits, TestsFit, form_in};
+ghost use Rattle.loop_tree.specs.Fits.{BoundsFit, FormFits, Room, TestsFit, form_in};
 ghost use Rattle.loop_tree.specs.Marks.{AreBounds, AreTests, IsTest};
 ghost use Rattle.loop_tree.specs.Tree.{bounds_of};
 ghost use Rattle.loop_tree.specs.View.{test_of};
@@ -12,7 +12,6 @@ ghost use Rattle.loop_tree.specs.Walk.{all_hold as tests_hold, holds, lower, max
 
 use crate::outer::{Outer, value_at};
 use crate::tree::{Bound, Test};
-use wide_math::{ceil_div, floor_div, remainder};
 
 /// The greater of two numbers.
 fn greater(a: i128, b: i128) -> i128
@@ -28,36 +27,71 @@ fn less(a: i128, b: i128) -> i128
     if a <= b { a } else { b }
 }
 
+/// A number over a divisor, rounded down: the number itself over 1, and by 64 bits where they hold it, since a division
+/// of 128 bits is a call.
+#[inline]
+fn floor_of(number: i128, divisor: i64) -> i128
+    requires { pos 0 <ℤ divisor }
+    ensures { result ≡ floor number divisor }
+{
+    if divisor == 1 {
+        return number;
+    }
+    match i64::try_from(number) {
+        Ok(narrow) => i128::from(narrow.div_euclid(divisor)),
+        Err(_) => number.div_euclid(i128::from(divisor)),
+    }
+}
+
+/// The same rounded up.
+#[inline]
+fn ceiling_of(number: i128, divisor: i64) -> i128
+    requires divisor { pos 0 <ℤ divisor }
+    requires room { Room number }
+    ensures { result ≡ ceiling number divisor }
+{
+    -floor_of(-number, divisor)
+}
+
+/// What is left of a number by a divisor; by 64 bits where they hold it.
+#[inline]
+fn remainder_of(number: i128, divisor: i64) -> i128
+    requires { pos 0 <ℤ divisor }
+    ensures { result ≡ remainder number divisor }
+{
+    match i64::try_from(number) {
+        Ok(narrow) => i128::from(narrow.rem_euclid(divisor)),
+        Err(_) => number.rem_euclid(i128::from(divisor)),
+    }
+}
+
 /// Whether a number is a multiple of another.
-fn is_multiple(number: i128, of: i128) -> bool
-    requires { pos 1 ≤ℤ of }
+#[inline]
+fn is_multiple(number: i128, of: i64) -> bool
+    requires { pos 0 <ℤ of }
     ensures { result ≡ le_z number (floor number of *ℤ of) }
 {
-    remainder(number, of) == 0
+    remainder_of(number, of) == 0
 }
 
 /// A lower bound's number.
+#[inline]
 fn ceiling_at(bound: &Bound, outer: &Outer, params: &[i64]) -> i128
     requires divisor { pos 0 <ℤ bound.now.divisor }
     requires fits { FormFits bound.now.form (values_in outer.now ++ params.now) }
     ensures { result ≡ ceiling (value_of bound.now.form (values_in outer.now ++ params.now)) bound.now.divisor }
 {
-    match ceil_div(value_at(&bound.form, outer, params), bound.divisor as i128) {
-        Ok(quotient) => quotient,
-        Err(_) => unreachable!(),
-    }
+    ceiling_of(value_at(&bound.form, outer, params), bound.divisor)
 }
 
 /// An upper bound's number.
+#[inline]
 fn floor_at(bound: &Bound, outer: &Outer, params: &[i64]) -> i128
     requires divisor { pos 0 <ℤ bound.now.divisor }
     requires fits { FormFits bound.now.form (values_in outer.now ++ params.now) }
     ensures { result ≡ floor (value_of bound.now.form (values_in outer.now ++ params.now)) bound.now.divisor }
 {
-    match floor_div(value_at(&bound.form, outer, params), bound.divisor as i128) {
-        Ok(quotient) => quotient,
-        Err(_) => unreachable!(),
-    }
+    floor_of(value_at(&bound.form, outer, params), bound.divisor)
 }
 
 /// Where a loop with these lower bounds starts.
@@ -95,10 +129,7 @@ fn holds_at(test: &Test, outer: &Outer, params: &[i64]) -> bool
     match test {
         Test::AtLeast(form) => 0 <= value_at(form, outer, params),
         Test::Equal(form) => value_at(form, outer, params) == 0,
-        Test::Multiple(form, divisor) => is_multiple(
-            value_at(form, outer, params),
-            *divisor as i128,
-        ),
+        Test::Multiple(form, divisor) => is_multiple(value_at(form, outer, params), *divisor),
     }
 }
 
