@@ -17,14 +17,12 @@ use Rattle.std.proofs.lemmas.List.{length-map, length-take}
 use Rattle.loop_tree.specs.Tree.{Bounds, Trees, instance, loop, more, none}
 use Rattle.loop_tree.specs.Walk.{along, given, walk_all}
 use Rattle.loop_tree.specs.Conditions.{CanWalk, IsHeld}
-use Rattle.loop_tree.specs.Fits.{FormsFit, SumsFit}
 use Rattle.loop_tree.specs.Spot.{Mark, mark, rest_of, shown_from}
 use Rattle.loop_tree.specs.Stretches.{following, left_of}
 use Rattle.loop_tree.specs.declared.stretch.Stretch.{Stretch}
 use Rattle.loop_tree.specs.steps.Going.{CanGo, CanTurn, HasGone, HasTurned, rest_from}
 use Rattle.loop_tree.specs.steps.Stepping.{steps_of}
 use Rattle.loop_tree.proofs.VisitPlaces.{go_loop, gone_loop}
-use Rattle.loop_tree.proofs.Products.{fits_front}
 use Rattle.loop_tree.proofs.WalkSteps.{leaf_held, shown_none}
 
 -- a form's value at the next value of a loop
@@ -112,17 +110,6 @@ pub rest_done : (body : Trees) (ms : List Mark) (x last : ℤ) (params outer : L
 rest_done body ms x last params outer here done =
     let h : le_z x last ≡ true = grind (arith, ints) in
     rw (h, done) refl
-
--- the sums over the loops round a leaf's own fit
-pub fronts_fit : (forms : List Affine) (outer params : List ℤ) (x : ℤ)
-    → FormsFit forms ((outer ++ x ∷ []) ++ params)
-    → All (λ f. SumsFit (pos 0) f.coefficients outer) forms
-fronts_fit [] outer params x fits = All-nil (λ f. SumsFit (pos 0) f.coefficients outer)
-fronts_fit (f ∷ fs) outer params x fits =
-    All-cons (λ g. SumsFit (pos 0) g.coefficients outer) f fs
-    (fits_front (pos 0) f.coefficients outer (x ∷ [])
-    (fits_front (pos 0) f.coefficients (outer ++ x ∷ []) params fits.0.sums))
-    (fronts_fit fs outer params x fits.1)
 
 -- sums one by one, of which the first are those of two lists
 pub sums_front : (n : ℕ) (rs xs ys : List ℤ) → length rs ≡ length xs → length ys ≡ length xs

@@ -19,6 +19,7 @@ pub struct Braid {
 }
 
 /// Whose turn it is behind one of so many.
+#[inline]
 fn turn_behind(at: usize, count: usize) -> usize
     requires { at < count }
     ensures turn { result < count }
@@ -41,6 +42,7 @@ impl Braid {
     }
 
     /// Takes the first instance that is left, if there is one.
+    #[inline]
     pub(crate) fn next(&mut self) -> Option<Instance>
         requires { IsBraid self.old }
         ensures rest { left_of_braid self.old ≡ found_in result ++ left_of_braid self.new }

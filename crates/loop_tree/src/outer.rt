@@ -17,12 +17,24 @@ pub enum Outer<'a> {
 
 /// A sum of products, and the coefficients that are left.
 #[derive(Drop)]
-pub(crate) struct Part<'a> {
-    pub(crate) sum: i128,
-    pub(crate) rest: &'a [i64],
+struct Part<'a> {
+    sum: i128,
+    rest: &'a [i64],
+}
+
+/// The numbers behind the first one.
+#[inline]
+fn behind_first(numbers: &[i64]) -> &[i64]
+    ensures { result.now ≡ drop 1 numbers.now }
+{
+    match numbers.split_first() {
+        None => numbers,
+        Some((_, others)) => others,
+    }
 }
 
 /// The sum with the product of a coefficient and a value; most coefficients are 0, and those are not multiplied.
+#[inline]
 fn with_product(sum: i128, coefficient: i64, value: i128) -> i128
     requires { SumsFit sum (coefficient ∷ []) (value ∷ []) }
     ensures { result ≡ sum +ℤ (coefficient *ℤ value) }
@@ -34,6 +46,7 @@ fn with_product(sum: i128, coefficient: i64, value: i128) -> i128
 }
 
 /// The sum with the product of the next coefficient, if there is one, and a value.
+#[inline]
 fn with_entry<'a>(sum: i128, coefficients: &'a [i64], value: i128) -> Part<'a>
     requires { SumsFit sum coefficients.now (value ∷ []) }
     ensures sum { result.sum ≡ sum +ℤ dot coefficients.now (value ∷ []) }
@@ -52,7 +65,7 @@ fn with_entry<'a>(sum: i128, coefficients: &'a [i64], value: i128) -> Part<'a>
 }
 
 /// The products of the first coefficients with the values of the loops.
-pub(crate) fn outer_part<'a>(outer: &Outer, coefficients: &'a [i64]) -> Part<'a>
+fn outer_part<'a>(outer: &Outer, coefficients: &'a [i64]) -> Part<'a>
     requires { SumsFit (pos 0) coefficients.now (values_in outer.now) }
     ensures sum { result.sum ≡ dot coefficients.now (values_in outer.now) }
     ensures rest { result.rest.now ≡ drop (length (values_in outer.now)) coefficients.now }
@@ -69,7 +82,22 @@ pub(crate) fn outer_part<'a>(outer: &Outer, coefficients: &'a [i64]) -> Part<'a>
     }
 }
 
+/// The numbers behind the first ones, of which there is one for each of these loops.
+#[inline]
+pub(crate) fn behind<'a>(outer: &Outer, numbers: &'a [i64]) -> &'a [i64]
+    ensures { result.now ≡ drop (length (values_in outer.now)) numbers.now }
+{
+    let mut at = outer;
+    let mut rest = numbers;
+    while let Outer::Within(inner, _) = at {
+        rest = behind_first(rest);
+        at = inner;
+    }
+    rest
+}
+
 /// The sum with the products of the next coefficients and the parameters.
+#[inline]
 fn with_params(sum: i128, coefficients: &[i64], params: &[i64]) -> i128
     requires { SumsFit sum coefficients.now params.now }
     ensures { result ≡ sum +ℤ dot coefficients.now params.now }
@@ -85,6 +113,7 @@ fn with_params(sum: i128, coefficients: &[i64], params: &[i64]) -> i128
 }
 
 /// The value of a form within these loops, for these parameters.
+#[inline]
 pub fn value_at(form: &Aff, outer: &Outer, params: &[i64]) -> i128
     requires { FormFits form.now (values_in outer.now ++ params.now) }
     ensures { result ≡ value_of form.now (values_in outer.now ++ params.now) }

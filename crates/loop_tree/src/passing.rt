@@ -8,7 +8,6 @@ ghost use Rattle.loop_tree.specs.steps.Passing.{AreLeaves, CanPass, passed_by, p
 ghost use Rattle.loop_tree.specs.steps.Stepping.{steps_of};
 ghost use Rattle.loop_tree.specs.Braids.{IsBraid, left_of_braid};
 ghost use Rattle.loop_tree.specs.Conditions.{CanWalk, IsHeld};
-ghost use Rattle.loop_tree.specs.Fits.{SumsFit};
 ghost use Rattle.loop_tree.specs.Spot.{Mark as PlainMark, rest_of};
 ghost use Rattle.loop_tree.specs.SpotView.{mark_of, marks_of};
 ghost use Rattle.loop_tree.specs.Stretches.{left_of};
@@ -17,7 +16,7 @@ ghost use Rattle.loop_tree.specs.View.{nodes_of, tree_of};
 ghost use Rattle.loop_tree.specs.Walk.{along, given, walk_all};
 
 use crate::braid::{Braid, MOST_STRANDS};
-use crate::outer::{Outer, outer_part};
+use crate::outer::{Outer, behind};
 use crate::spot::Mark;
 use crate::stretch::Stretch;
 use crate::tree::{Leaf, Node};
@@ -33,6 +32,7 @@ pub(crate) enum Passed {
 }
 
 /// The first of some numbers; 0 where there is none.
+#[inline]
 fn first_of(numbers: &[i64]) -> i64
     ensures { result ≡ get_or numbers.now 0 (pos 0) }
 {
@@ -43,14 +43,15 @@ fn first_of(numbers: &[i64]) -> i64
 }
 
 /// The coefficient of a form for the value of a loop within these; 0 where it has none.
+#[inline]
 fn coefficient_within(form: &Aff, outer: &Outer) -> i64
-    requires { SumsFit (pos 0) form.now.coefficients (values_in outer.now) }
     ensures { result ≡ get_or form.now.coefficients (length (values_in outer.now)) (pos 0) }
 {
-    first_of(outer_part(outer, form.coefficients.as_slice()).rest)
+    first_of(behind(outer, form.coefficients.as_slice()))
 }
 
 /// The numbers, and zeros behind them.
+#[inline]
 fn padded(numbers: &[i64]) -> [i64; MAX_LOOPS]
     requires { length numbers.now ≤ 5 }
     ensures { take (length numbers.now) result ≡ numbers.now }
@@ -62,8 +63,7 @@ fn padded(numbers: &[i64]) -> [i64; MAX_LOOPS]
 
 /// What the turns of a leaf have more at the next value of a loop within these.
 fn steps_within(forms: &[Aff], outer: &Outer) -> [i64; MAX_LOOPS]
-    requires few { length forms.now ≤ 5 }
-    requires fits { All (λ f. SumsFit (pos 0) f.coefficients (values_in outer.now)) forms.now }
+    requires { length forms.now ≤ 5 }
     ensures { take (length forms.now) result ≡ steps_of forms.now (length (values_in outer.now)) }
 {
     let mut steps: ArrayVec<i64, MAX_LOOPS> = ArrayVec::new();
@@ -74,6 +74,7 @@ fn steps_within(forms: &[Aff], outer: &Outer) -> [i64; MAX_LOOPS]
 }
 
 /// How far it is from a number up to another; None where it is not up, or a word has no room for it.
+#[inline]
 fn way_up(from: i128, to: i128) -> Option<u64>
     ensures { IfSome result (λ n. pos n ≡ to -ℤ from) }
 {
@@ -84,6 +85,7 @@ fn way_up(from: i128, to: i128) -> Option<u64>
 }
 
 /// The leaf that a node is.
+#[inline]
 fn leaf_of(node: &Node) -> Option<&Leaf>
     ensures { IfSome result (λ leaf. tree_of node.now ≡ leaf_in leaf.now.statement leaf.now.turns.items) }
 {
@@ -95,6 +97,7 @@ fn leaf_of(node: &Node) -> Option<&Leaf>
 }
 
 /// Whether a node is a leaf.
+#[inline]
 fn is_leaf(node: &Node) -> bool
     ensures { IsTrue result → AreLeaves (more (tree_of node.now) none) }
 {
@@ -106,6 +109,7 @@ fn is_leaf(node: &Node) -> bool
 }
 
 /// The leaf that nodes are, where they are one alone.
+#[inline]
 fn leaf_alone(nodes: &[Node]) -> Option<&Leaf>
     ensures { IfSome result (λ leaf. nodes_of nodes.now
         ≡ more (leaf_in leaf.now.statement leaf.now.turns.items) none) }
@@ -122,6 +126,7 @@ fn leaf_alone(nodes: &[Node]) -> Option<&Leaf>
 }
 
 /// Whether the last of these nodes is a leaf, and was begun at this mark.
+#[inline]
 fn is_last(nodes: &[Node], mark: &Mark) -> bool
     ensures { IsTrue result → (ms : List PlainMark) → (params outer : List ℤ)
         → rest_of (nodes_of nodes.now) (mark_of mark.now ∷ ms) params outer ≡ [] }
@@ -138,6 +143,7 @@ fn is_last(nodes: &[Node], mark: &Mark) -> bool
 }
 
 /// The same at the first of some marks.
+#[inline]
 fn is_over(nodes: &[Node], marks: &[Mark]) -> bool
     ensures { IsTrue result → (params outer : List ℤ)
         → rest_of (nodes_of nodes.now) (marks_of marks.now) params outer ≡ [] }

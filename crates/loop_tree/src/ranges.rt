@@ -14,6 +14,7 @@ use crate::outer::{Outer, value_at};
 use crate::tree::{Bound, Test};
 
 /// The greater of two numbers.
+#[inline]
 fn greater(a: i128, b: i128) -> i128
     ensures { result ≡ max_z a b }
 {
@@ -21,6 +22,7 @@ fn greater(a: i128, b: i128) -> i128
 }
 
 /// The less of two numbers.
+#[inline]
 fn less(a: i128, b: i128) -> i128
     ensures { result ≡ min_z a b }
 {
@@ -121,6 +123,7 @@ pub fn upper_at(first: &Bound, others: &[Bound], outer: &Outer, params: &[i64]) 
 }
 
 /// Whether a test holds.
+#[inline]
 fn holds_at(test: &Test, outer: &Outer, params: &[i64]) -> bool
     requires divisor { IsTest (test_of test.now) }
     requires fits { FormFits (form_in (test_of test.now)) (values_in outer.now ++ params.now) }

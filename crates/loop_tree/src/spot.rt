@@ -98,6 +98,7 @@ fn depth_in(node: &Node) -> u64
 }
 
 /// A place where nothing was begun.
+#[inline]
 fn fresh() -> Mark
     ensures { mark_of result ≡ marked_at 0 false (pos 0) (pos 0) }
 {
@@ -110,6 +111,7 @@ fn fresh() -> Mark
 }
 
 /// Stands before all.
+#[inline]
 fn restart(marks: &mut [Mark])
     ensures { marks_of marks.new ≡ restarted (marks_of marks.old) }
 {
@@ -119,6 +121,7 @@ fn restart(marks: &mut [Mark])
 }
 
 /// Begins a node with these values, where it was not begun.
+#[inline]
 fn begin(mark: &mut Mark, value: i128, last: i128, deeper: &mut [Mark])
     requires { mark.old.begun ≡ false }
     ensures mark { mark_of mark.new ≡ marked_at mark.old.place true value last }
@@ -131,6 +134,7 @@ fn begin(mark: &mut Mark, value: i128, last: i128, deeper: &mut [Mark])
 }
 
 /// Begins a guard that lets pass, unless it was begun.
+#[inline]
 fn begin_guard(mark: &mut Mark, deeper: &mut [Mark])
     ensures place { mark.new.place ≡ mark.old.place }
     ensures begun { mark.new.begun ≡ true }
@@ -143,6 +147,7 @@ fn begin_guard(mark: &mut Mark, deeper: &mut [Mark])
 }
 
 /// Begins a loop at its first value, unless it was begun: then its bounds are not asked again.
+#[inline]
 fn begin_loop(head: &Loop, mark: &mut Mark, deeper: &mut [Mark], outer: &Outer, params: &[i64])
     requires divisors { AreBounds (bounds_in head.now.lower) × AreBounds (bounds_in head.now.upper) }
     requires fits { BoundsFit (bounds_in head.now.lower) (values_in outer.now ++ params.now)
@@ -163,6 +168,7 @@ fn begin_loop(head: &Loop, mark: &mut Mark, deeper: &mut [Mark], outer: &Outer, 
 }
 
 /// Whether a guard lets pass: one that was begun does, and its tests are not asked again.
+#[inline]
 fn lets_pass(guard: &Guard, begun: bool, outer: &Outer, params: &[i64]) -> bool
     requires divisors { AreTests (map test_of guard.now.tests.items) }
     requires fits { TestsFit (map test_of guard.now.tests.items) (values_in outer.now ++ params.now) }
@@ -342,6 +348,7 @@ fn next_within(
 }
 
 /// Puts what marks passed by, if anything, in place of a stretch and a braid with nothing left.
+#[inline]
 fn replace(stretch: &mut Stretch, braid: &mut Braid, passed: Option<Passed>)
     requires stretch { left_of stretch.old ≡ [] }
     requires braid { left_of_braid braid.old ≡ [] }
@@ -398,6 +405,7 @@ impl Spot {
 
     /// The next instance that `tree`, of which this is a spot, visits for `params`, with which it came to its place;
     /// None exactly where none is left, and then again and again. It takes no memory.
+    #[inline]
     pub fn next(&mut self, tree: &Tree, params: &[i64]) -> Option<Instance>
         requires walk { CanWalk (trees_in tree.now) params.now [] }
         requires spot { IsSpotOf (trees_in tree.now) params.now self.old }

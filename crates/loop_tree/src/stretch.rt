@@ -19,6 +19,7 @@ pub struct Stretch {
 }
 
 /// The sum of the entries at a place, where a turn has room for it; another number elsewhere.
+#[inline]
 fn sum_at(xs: &[i64; MAX_LOOPS], ys: &[i64; MAX_LOOPS], place: usize) -> i64
     requires { place < 5 }
     ensures { FitsSigned w64 (get_or xs.now place (pos 0) +ℤ get_or ys.now place (pos 0))
@@ -29,6 +30,7 @@ fn sum_at(xs: &[i64; MAX_LOOPS], ys: &[i64; MAX_LOOPS], place: usize) -> i64
 
 /// The instance whose turns are more by these steps. The entries behind its turns are of no account, so each sum may
 /// wrap.
+#[inline]
 fn stepped(instance: &Instance, steps: &[i64; MAX_LOOPS]) -> Instance
     requires { All (FitsSigned w64) (sums (instance_of instance.now).turns (take instance.now.loops steps.now)) }
     ensures instance { instance_of result ≡ record {
@@ -63,6 +65,7 @@ impl Stretch {
     }
 
     /// Goes on by one instance, whose turns have room.
+    #[inline]
     pub(crate) fn step(&mut self) -> Instance
         requires some { 0 < self.old.left }
         requires fits { All (FitsSigned w64)
@@ -75,6 +78,7 @@ impl Stretch {
     }
 
     /// Takes the first instance that is left.
+    #[inline]
     pub fn next(&mut self) -> Instance
         requires some { 0 < self.old.left }
         requires held { All IsHeld (left_of self.old) }

@@ -20,6 +20,7 @@ use scop_syntax::instance::{Instance, MAX_LOOPS};
 use scop_syntax::tree::Aff;
 
 /// The value of a form, as a turn.
+#[inline]
 fn turn_at(form: &Aff, outer: &Outer, params: &[i64]) -> i64
     requires fits { FormFits form.now (values_in outer.now ++ params.now) }
     requires held { FitsSigned w64 (value_of form.now (values_in outer.now ++ params.now)) }

@@ -11,8 +11,7 @@ returns c =
     let n = length (values_in c.args.outer.now) in
     let fits : FitsSigned w64 c.first_of.result = search rules in
     let slice : c.as_slice.result.now ≡ cs = search rules in
-    let rest : c.outer_part.result.rest.now ≡ drop n cs =
-    c.outer_part.ensures.rest ∙ ap (λ (xs : List ℤ). drop n xs) slice in
+    let rest : c.behind.result.now ≡ drop n cs = c.behind.ensures ∙ ap (λ (xs : List ℤ). drop n xs) slice in
     let at : n + 0 ≡ n = omega arith in
     to_z-of_z w64 c.first_of.result fits
     ∙ (c.first_of.ensures

@@ -1,16 +1,15 @@
-use Rattle.std.proofs.Common.{rules, ◌≡◌, ◌∙◌, ◌++◌, ◌∷◌, [], List, ℤ, All, arith, subst, sym, to_z, of_z, pos}
+use Rattle.std.proofs.Common.{rules, ◌≡◌, ◌∙◌, ◌++◌, ◌∷◌, [], List, ℤ, All, arith, subst, sym, to_z, of_z}
 use Rattle.std.proofs.Common.{length}
 use Rattle.std.specs.Prelude.{FitsSigned}
 use Rattle.std.specs.Int.{w128}
 use Rattle.std.proofs.lemmas.Int.{ints, to_z-of_z}
 use Rattle.scop_syntax.specs.Walk.{Instance}
-use Rattle.whole_numbers.specs.Affine.{Affine, values_of}
+use Rattle.whole_numbers.specs.Affine.{values_of}
 use Rattle.loop_tree.specs.steps.Chain.{values_in}
 use Rattle.loop_tree.specs.declared.stretch.Stretch.{Stretch}
 use Rattle.loop_tree.specs.Conditions.{IsHeld}
-use Rattle.loop_tree.specs.Fits.{SumsFit}
 use Rattle.loop_tree.proofs.Chains.{values_at}
-use Rattle.loop_tree.proofs.Stretches.{following_held, following_shown, fronts_fit, stretch_is}
+use Rattle.loop_tree.proofs.Stretches.{following_held, following_shown, stretch_is}
 use Rattle.loop_tree.proofs.WalkSteps.{leaf_held}
 use Rattle.loop_tree.proofs.passing.stretch_behind.Goals as goal
 
@@ -27,16 +26,6 @@ instance_at-before-requires-clause-held c =
     (sym within)
     (leaf_held leaf.statement leaf.turns.items params (outer ++ x ∷ [])
     (c.requires x (omega (arith, ints)) (omega (arith, ints))))
-
-pub steps_within-steps-requires-clause-fits : goal.steps_within-steps-requires-clause-fits
-steps_within-steps-requires-clause-fits c =
-    let leaf = c.args.leaf.now in
-    let x = c.args.value in
-    let params = c.args.params.now in
-    let outer = values_in c.args.outer.now in
-    let can = c.requires x (omega (arith, ints)) (omega (arith, ints)) in
-    subst (λ (fs : List Affine). All (λ f. SumsFit (pos 0) f.coefficients outer) fs) (sym c.as_slice.ensures.value)
-    (fronts_fit leaf.turns.items outer params x can.fits.0)
 
 pub returns-clause-rest : goal.returns-clause-rest
 returns-clause-rest c =
