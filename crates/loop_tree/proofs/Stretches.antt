@@ -1,28 +1,27 @@
 -- Instances of a leaf at the values of the loop round it: each has the same steps more in its turns than the one before
 -- it. What a loop that was begun has left.
-use Rattle.std.proofs.Common.{◌≡◌, ℕ, zero, suc, ◌<◌, Bool, true, false, ℤ, pos, negsuc, List, [], ◌∷◌, ◌++◌}
-use Rattle.std.proofs.Common.{length, map, take, get_or, ap, ap₂, sym, subst, ◌∙◌, refl, arith, append-nil}
+use Rattle.std.proofs.Common.{◌≡◌, ℕ, zero, suc, ◌<◌, ◌≤◌, true, false, ℤ, pos, negsuc, List, [], ◌∷◌, ◌++◌}
+use Rattle.std.proofs.Common.{length, map, take, get_or, ap, ap₂, sym, ◌∙◌, refl, arith, append-nil}
 use Rattle.std.specs.Prelude.{◌+ℤ◌, ◌-ℤ◌, ◌≤ℤ◌, All, FitsSigned}
 use Rattle.std.specs.Int.{w64}
 use Rattle.std.specs.Int.Signed.{le_z}
 use Rattle.std.proofs.lemmas.Int.{ints}
-use Rattle.std.proofs.lemmas.List.Elements.{All-nil, All-cons, All-head, All-tail}
+use Rattle.std.proofs.lemmas.List.Elements.{All-head, All-tail}
 use Rattle.whole_numbers.specs.Affine.{Affine, value_of, values_of}
 use Rattle.whole_numbers.specs.Lists.{dot, sums}
 use Rattle.whole_numbers.proofs.Ring.{mul_distrib_left, mul_one_right}
 use Rattle.scop_syntax.specs.Walk.{Instance, most_turns}
 use Rattle.scop_syntax.specs.View.{instance_of}
-use Rattle.std.proofs.lemmas.Bool.{false≢true}
 use Rattle.std.proofs.lemmas.List.{length-map, length-take}
-use Rattle.loop_tree.specs.Tree.{Bounds, Trees, instance, loop, more, none}
+use Rattle.loop_tree.specs.Tree.{Trees, instance, more, none}
 use Rattle.loop_tree.specs.Walk.{along, given, walk_all}
 use Rattle.loop_tree.specs.Conditions.{CanWalk, IsHeld}
 use Rattle.loop_tree.specs.Spot.{Mark, mark, rest_of, shown_from}
 use Rattle.loop_tree.specs.Stretches.{following, left_of}
 use Rattle.loop_tree.specs.declared.stretch.Stretch.{Stretch}
-use Rattle.loop_tree.specs.steps.Going.{CanGo, CanTurn, HasGone, HasTurned, rest_from}
+use Rattle.loop_tree.specs.steps.Going.{HasGone, rest_from}
+use Rattle.loop_tree.specs.steps.Passing.{IsAlone, IsOf, shown_along}
 use Rattle.loop_tree.specs.steps.Stepping.{steps_of}
-use Rattle.loop_tree.proofs.VisitPlaces.{go_loop, gone_loop}
 use Rattle.loop_tree.proofs.WalkSteps.{leaf_held, shown_none}
 
 -- a form's value at the next value of a loop
@@ -61,21 +60,6 @@ following_shown n forms params outer x (suc k) =
     ap (λ (ts : List ℤ). record { number = n; turns = ts } ∷ following n ts steps k) (values_next forms outer params x)
     ∙ ap (λ (is : List Instance). leaf_at n forms params outer (x +ℤ pos 1) ∷ is)
     (following_shown n forms params outer (x +ℤ pos 1) k)
-
-pub following_held : (n : ℕ) (forms : List Affine) (params outer : List ℤ) (x : ℤ) (k : ℕ)
-    → ((y : ℤ) → x ≤ℤ y → y ≤ℤ (x +ℤ pos k) → CanWalk (more (instance n forms) none) params (outer ++ y ∷ []))
-    → All IsHeld (following n (values_of forms ((outer ++ x ∷ []) ++ params)) (steps_of forms (length outer)) k)
-following_held n forms params outer x zero can = All-nil IsHeld
-following_held n forms params outer x (suc k) can =
-    let steps = steps_of forms (length outer) in
-    subst (λ (ts : List ℤ). All IsHeld (record { number = n; turns = ts } ∷ following n ts steps k))
-    (sym (values_next forms outer params x))
-    (All-cons IsHeld (leaf_at n forms params outer (x +ℤ pos 1))
-    (following n (values_of forms ((outer ++ (x +ℤ pos 1) ∷ []) ++ params)) steps k)
-    (leaf_held n forms params (outer ++ (x +ℤ pos 1) ∷ [])
-    (can (x +ℤ pos 1) (omega (arith, ints)) (omega (arith, ints))))
-    (following_held n forms params outer (x +ℤ pos 1) k
-    (λ y from to. can y (omega (arith, ints, from)) (omega (arith, ints, to)))))
 
 -- the first of a stretch, and those behind it
 pub first_held : (n : ℕ) (turns steps : List ℤ) (k : ℕ) → 0 < k → All IsHeld (following n turns steps k)
@@ -143,43 +127,47 @@ pub nothing_left : (s : Stretch) → s.left ≡ 0 → left_of s ≡ []
 nothing_left s empty =
     ap (λ (k : ℕ). following s.before.statement (instance_of s.before).turns (take s.before.loops s.steps) k) empty
 
+-- a leaf that is walked has few turns
+pub leaf_few : (n : ℕ) (forms : List Affine) (params outer : List ℤ)
+    → CanWalk (more (instance n forms) none) params outer → length forms ≤ 5
+leaf_few n forms params outer can =
+    let values = length-map forms (λ f. value_of f (outer ++ params)) in
+    let few = (leaf_held n forms params outer can).few in omega (arith, values, few)
+
 -- a stretch behind a leaf at a value
-pub stretch_is : (s : Stretch) (n : ℕ) (forms told : List Affine) (params outer vs : List ℤ) (x : ℤ)
-    → length s.before.turns ≡ 5 → vs ≡ outer ++ x ∷ [] → told ≡ forms
-    → instance_of s.before ≡ record { number = n; turns = values_of forms (vs ++ params) }
+pub stretch_is : (s : Stretch) (n : ℕ) (forms told : List Affine) (params outer : List ℤ) (x : ℤ)
+    → length s.before.turns ≡ 5 → told ≡ forms
+    → instance_of s.before ≡ record { number = n; turns = values_of forms ((outer ++ x ∷ []) ++ params) }
     → take (length told) s.steps ≡ steps_of told (length outer)
-    → left_of s ≡ following n (values_of forms ((outer ++ x ∷ []) ++ params)) (steps_of forms (length outer)) s.left
-stretch_is s n forms told params outer vs x whole at same before steps =
+    → left_of s ≡ shown_along (more (instance n forms) none) params outer (x +ℤ pos 1) s.left
+stretch_is s n forms told params outer x whole same before steps =
     let few = s.before.few in
     let taken = length-take s.before.loops s.before.turns in
     let turns = ap (λ (i : Instance). length i.turns) before in
-    let values = length-map forms (λ f. value_of f (vs ++ params)) in
+    let values = length-map forms (λ f. value_of f ((outer ++ x ∷ []) ++ params)) in
     let all = ap (λ (fs : List Affine). length fs) same in
     let loops : s.before.loops ≡ length told = omega (arith, few, taken, turns, values, whole, all) in
     ap₂ (λ (i : Instance) (ds : List ℤ). following i.number i.turns ds s.left) before
     (ap (λ (k : ℕ). take k s.steps) loops ∙ steps)
-    ∙ ap₂ (λ (us : List ℤ) (fs : List Affine). following n (values_of forms (us ++ params))
-    (steps_of fs (length outer)) s.left) at same
+    ∙ (ap (λ (fs : List Affine). following n (values_of forms ((outer ++ x ∷ []) ++ params))
+    (steps_of fs (length outer)) s.left) same
+    ∙ following_shown n forms params outer x s.left)
 
--- a loop that was begun: its body's marks at its value can go on, and it has gone on where they have
-pub go_begun : (flag : Bool) (lo up : Bounds) (body : Trees) (begun : Bool) (x z : ℤ) (ms : List Mark)
-    (params outer : List ℤ) → begun ≡ true
-    → CanGo (more (loop flag lo up body) none) (mark zero begun x z ∷ ms) params outer
-    → CanTurn body ms x z params outer
-go_begun flag lo up body true x z ms params outer b go =
-    subst (λ (w : ℤ). CanTurn body ms x w params outer) (sym go.stands.1)
-    (go_loop flag lo up body true x z ms params outer go)
-go_begun flag lo up body false x z ms params outer b go = absurd (false≢true b)
+-- what was found of one leaf alone is its instance
+first_of_leaf : (n : ℕ) (forms : List Affine) (ms : List Mark) (i : Instance) (is : List Instance)
+    (params outer : List ℤ) → rest_of (more (instance n forms) none) ms params outer ≡ i ∷ is
+    → IsOf n forms i params outer
+first_of_leaf n forms [] i is params outer e =
+    let l = ap (λ (js : List Instance). length js) e in absurd (omega (arith, l))
+first_of_leaf n forms (mark zero false x z ∷ ms) i is params outer e =
+    sym (ap (λ (js : List Instance). get_or js 0 i) e)
+first_of_leaf n forms (mark zero true x z ∷ ms) i is params outer e =
+    let l = ap (λ (js : List Instance). length js) e in absurd (omega (arith, l))
+first_of_leaf n forms (mark (suc k) begun x z ∷ ms) i is params outer e =
+    let l = ap (λ (js : List Instance). length js) e in absurd (omega (arith, l))
 
-pub gone_begun : (flag : Bool) (lo up : Bounds) (body : Trees) (begun : Bool) (x z : ℤ) (ms : List Mark)
-    (begun' : Bool) (y w : ℤ) (new : List Mark) (is : List Instance) (params outer : List ℤ) → begun ≡ true
-    → begun' ≡ true → w ≡ z → length new ≡ length ms
-    → CanGo (more (loop flag lo up body) none) (mark zero begun x z ∷ ms) params outer
-    → HasTurned body x ms y new z is params outer
-    → HasGone (more (loop flag lo up body) none) (mark zero begun x z ∷ ms) (mark zero begun' y w ∷ new) is params outer
-gone_begun flag lo up body true x z ms begun' y w new is params outer b b' last kept go gone =
-    let room = go.room in
-    gone_loop flag lo up body true x z ms begun' y w new is params outer (omega (arith, room)) kept b'
-    (last ∙ go.stands.1) go.stands
-    (subst (λ (v : ℤ). HasTurned body x ms y new v is params outer) go.stands.1 gone)
-gone_begun flag lo up body false x z ms begun' y w new is params outer b b' last kept go gone = absurd (false≢true b)
+pub found_alone : (ts : Trees) (ms new : List Mark) (i : Instance) (is : List Instance) (params outer : List ℤ)
+    → HasGone ts ms new (i ∷ is) params outer → IsAlone ts i params outer
+found_alone ts ms new i is params outer gone = λ n forms alone.
+    first_of_leaf n forms ms i (is ++ rest_of ts new params outer) params outer
+    (ap (λ (us : Trees). rest_of us ms params outer) (sym alone) ∙ gone.rest)

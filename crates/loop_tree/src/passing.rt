@@ -1,19 +1,19 @@
 //! The end of the loop that a place stands in, where a few instances are all that it has in it: the marks go there at
 //! once, and the instances that they pass by are told as a stretch or a braid.
-ghost use Rattle.std.specs.Prelude.{◌≡◌, ◌≤◌, ◌<◌, ◌+ℤ◌, ◌-ℤ◌, ◌≤ℤ◌, ◌++◌, ◌∷◌, [], All, IfSome, IsSome, IsTrue, List};
+ghost use Rattle.std.specs.Prelude.{◌≡◌, ◌≤◌, ◌<◌, ◌+ℤ◌, ◌-ℤ◌, ◌≤ℤ◌, ◌++◌, ◌∷◌, [], IfSome, IsSome, IsTrue, List};
 ghost use Rattle.std.specs.Prelude.{ℤ, get_or, length, map, pos, take, true};
+ghost use Rattle.scop_syntax.specs.View.{instance_of};
 ghost use Rattle.loop_tree.specs.steps.Chain.{values_in};
-ghost use Rattle.loop_tree.specs.steps.Going.{CanGo, CanTurn, HasGone, HasTurned, alone};
-ghost use Rattle.loop_tree.specs.steps.Passing.{AreLeaves, CanPass, passed_by, passed_in, shown_along};
+ghost use Rattle.loop_tree.specs.steps.Going.{CanTurn, HasTurned};
+ghost use Rattle.loop_tree.specs.steps.Passing.{AreLeaves, CanPass, IsAlone, IsOf, passed_by, passed_in, shown_along};
 ghost use Rattle.loop_tree.specs.steps.Stepping.{steps_of};
 ghost use Rattle.loop_tree.specs.Braids.{IsBraid, left_of_braid};
-ghost use Rattle.loop_tree.specs.Conditions.{CanWalk, IsHeld};
+ghost use Rattle.loop_tree.specs.Conditions.{CanWalk};
 ghost use Rattle.loop_tree.specs.Spot.{Mark as PlainMark, rest_of};
 ghost use Rattle.loop_tree.specs.SpotView.{mark_of, marks_of};
 ghost use Rattle.loop_tree.specs.Stretches.{left_of};
 ghost use Rattle.loop_tree.specs.Tree.{instance as leaf_in, more, none};
 ghost use Rattle.loop_tree.specs.View.{nodes_of, tree_of};
-ghost use Rattle.loop_tree.specs.Walk.{along, given, walk_all};
 
 use crate::braid::{Braid, MOST_STRANDS};
 use crate::outer::{Outer, behind};
@@ -22,10 +22,11 @@ use crate::stretch::Stretch;
 use crate::tree::{Leaf, Node};
 use crate::walking::instance_at;
 use arrayvec::ArrayVec;
-use scop_syntax::instance::MAX_LOOPS;
+use scop_syntax::instance::{Instance, MAX_LOOPS};
 use scop_syntax::tree::Aff;
 
 /// What marks pass by within a loop: the instances of one leaf, or those of several in turn.
+#[derive(Clone, Copy)]
 pub(crate) enum Passed {
     Straight(Stretch),
     Braided(Braid),
@@ -154,18 +155,14 @@ fn is_over(nodes: &[Node], marks: &[Mark]) -> bool
     }
 }
 
-/// So many instances of a leaf behind the one at a value of the loop within these.
-fn stretch_behind(leaf: &Leaf, value: i128, left: u64, outer: &Outer, params: &[i64]) -> Stretch
-    requires { (y : ℤ) → value ≤ℤ y → y ≤ℤ (value +ℤ pos left)
-        → CanWalk (more (leaf_in leaf.now.statement leaf.now.turns.items) none) params.now
-        (values_in outer.now ++ y ∷ []) }
-    ensures rest { left_of result ≡ map given (along (λ y. walk_all
-        (more (leaf_in leaf.now.statement leaf.now.turns.items) none) params.now (values_in outer.now ++ y ∷ []))
-        (value +ℤ pos 1) left) }
-    ensures held { All IsHeld (left_of result) }
+/// So many instances of a leaf behind one at a value of the loop within these.
+fn stretch_behind(leaf: &Leaf, before: Instance, left: u64, outer: &Outer) -> Stretch
+    requires { length leaf.now.turns.items ≤ 5 }
+    ensures { (params : List ℤ) (x : ℤ)
+        → IsOf leaf.now.statement leaf.now.turns.items (instance_of before) params (values_in outer.now ++ x ∷ [])
+        → left_of result ≡ shown_along (more (leaf_in leaf.now.statement leaf.now.turns.items) none) params
+        (values_in outer.now) (x +ℤ pos 1) left }
 {
-    let within = Outer::Within(&*outer, value);
-    let before = instance_at(leaf, &within, params);
     let steps = steps_within(leaf.turns.as_slice(), outer);
     Stretch {
         before,
@@ -182,15 +179,18 @@ fn strand_behind(
     outer: &Outer,
     params: &[i64],
 ) -> Option<Stretch>
-    requires { (y : ℤ) → value ≤ℤ y → y ≤ℤ (value +ℤ pos left)
-        → CanWalk (more (tree_of node.now) none) params.now (values_in outer.now ++ y ∷ []) }
+    requires { CanWalk (more (tree_of node.now) none) params.now (values_in outer.now ++ value ∷ []) }
     ensures leaf { IsSome result → AreLeaves (more (tree_of node.now) none) }
     ensures rest { IfSome result (λ s. left_of s ≡ shown_along (more (tree_of node.now) none) params.now
         (values_in outer.now) (value +ℤ pos 1) left) }
 {
     match leaf_of(node) {
         None => None,
-        Some(leaf) => Some(stretch_behind(leaf, value, left, outer, params)),
+        Some(leaf) => {
+            let within = Outer::Within(&*outer, value);
+            let before = instance_at(leaf, &within, params);
+            Some(stretch_behind(leaf, before, left, outer))
+        }
     }
 }
 
@@ -227,23 +227,26 @@ fn braid_behind(
     })
 }
 
-/// So many instances of nodes behind those at a value, where the nodes are a few leaves.
+/// So many instances of nodes behind those at a value, the last of which was found, where the nodes are a few leaves.
 fn leaves_behind(
+    found: &Instance,
     nodes: &[Node],
     value: i128,
     left: u64,
     outer: &Outer,
     params: &[i64],
 ) -> Option<Passed>
-    requires { (y : ℤ) → value ≤ℤ y → y ≤ℤ (value +ℤ pos left)
+    requires walk { (y : ℤ) → value ≤ℤ y → y ≤ℤ (value +ℤ pos left)
         → CanWalk (nodes_of nodes.now) params.now (values_in outer.now ++ y ∷ []) }
+    requires alone { IsAlone (nodes_of nodes.now) (instance_of found.now) params.now
+        (values_in outer.now ++ value ∷ []) }
     ensures leaves { IsSome result → AreLeaves (nodes_of nodes.now) }
     ensures rest { IfSome result (λ p. passed_by p ≡ shown_along (nodes_of nodes.now) params.now
         (values_in outer.now) (value +ℤ pos 1) left) }
     ensures held { IfSome result CanPass }
 {
     if let Some(leaf) = leaf_alone(nodes) {
-        let stretch = stretch_behind(leaf, value, left, outer, params);
+        let stretch = stretch_behind(leaf, *found, left, outer);
         return Some(Passed::Straight(stretch));
     }
     if nodes.is_empty() || nodes.len() > MOST_STRANDS {
@@ -257,6 +260,7 @@ fn leaves_behind(
 
 /// Goes to the last value of a loop that has a few leaves in it and nothing else, from behind those at a value.
 fn pass_leaves(
+    found: &Instance,
     body: &[Node],
     mark: &mut Mark,
     deeper: &[Mark],
@@ -266,6 +270,8 @@ fn pass_leaves(
     requires turn { CanTurn (nodes_of body.now) (marks_of deeper.now) mark.old.value mark.old.last params.now
         (values_in outer.now) }
     requires within { mark.old.value ≤ℤ mark.old.last }
+    requires alone { IsAlone (nodes_of body.now) (instance_of found.now) params.now
+        (values_in outer.now ++ mark.old.value ∷ []) }
     requires over { (ps vs : List ℤ) → rest_of (nodes_of body.now) (marks_of deeper.now) ps vs ≡ [] }
     ensures gone { HasTurned (nodes_of body.now) mark.old.value (marks_of deeper.now) mark.new.value
         (marks_of deeper.now) mark.old.last (passed_in result) params.now (values_in outer.now) }
@@ -278,118 +284,66 @@ fn pass_leaves(
     if left == 0 {
         return None;
     }
-    let passed = leaves_behind(body, mark.value, left, outer, params)?;
+    let passed = leaves_behind(found, body, mark.value, left, outer, params)?;
     mark.value = mark.last;
     Some(passed)
 }
 
-/// Goes to the end of the innermost loop at the place of these marks in nodes, where it has a few leaves alone in it.
-#[cycle(passing)]
-pub(crate) fn pass_by(
-    nodes: &[Node],
-    marks: &mut [Mark],
-    outer: &Outer,
-    params: &[i64],
-) -> Option<Passed>
-    requires { CanGo (nodes_of nodes.now) (marks_of marks.old) params.now (values_in outer.now) }
-    ensures gone { HasGone (nodes_of nodes.now) (marks_of marks.old) (marks_of marks.new) (passed_in result) params.now
-        (values_in outer.now) }
-    ensures held { IfSome result CanPass }
-{
-    match marks.split_first_mut() {
-        None => None,
-        Some((mark, deeper)) => pass_from(nodes, mark, deeper, outer, params),
-    }
-}
-
-/// The same from the node at a mark on.
-#[cycle(passing)]
-fn pass_from(
-    nodes: &[Node],
-    mark: &mut Mark,
-    deeper: &mut [Mark],
-    outer: &Outer,
-    params: &[i64],
-) -> Option<Passed>
-    requires { CanGo (nodes_of nodes.now) (marks_of (mark.old ∷ deeper.old)) params.now (values_in outer.now) }
-    ensures gone { HasGone (nodes_of nodes.now) (marks_of (mark.old ∷ deeper.old)) (marks_of (mark.new ∷ deeper.new))
-        (passed_in result) params.now (values_in outer.now) }
-    ensures held { IfSome result CanPass }
-{
-    if !mark.begun || mark.place >= nodes.len() {
-        return None;
-    }
-    let node = &nodes[mark.place];
-    pass_in(node, mark, deeper, outer, params)
-}
-
-/// The same within a node that was begun.
-#[cycle(passing)]
-fn pass_in(
-    node: &Node,
-    mark: &mut Mark,
-    deeper: &mut [Mark],
-    outer: &Outer,
-    params: &[i64],
-) -> Option<Passed>
-    requires go { CanGo (more (tree_of node.now) none) (alone (mark_of mark.old) (marks_of deeper.old)) params.now
-        (values_in outer.now) }
-    requires begun { mark.old.begun ≡ true }
-    ensures gone { HasGone (more (tree_of node.now) none) (alone (mark_of mark.old) (marks_of deeper.old))
-        (alone (mark_of mark.new) (marks_of deeper.new)) (passed_in result) params.now (values_in outer.now) }
-    ensures held { IfSome result CanPass }
-    ensures place { mark.new.place ≡ mark.old.place }
-    ensures begun { mark.new.begun ≡ true }
-{
-    match node {
-        Node::Loop(_, body) => pass_turns(body, mark, deeper, outer, params),
-        Node::Guard(_, body) => pass_by(body, deeper, outer, params),
-        Node::Instance(_) => None,
-    }
-}
-
-/// The same within a loop's body at the value of a mark.
-#[cycle(passing)]
-fn pass_turns(
+/// The same where the nodes are over at the marks within them.
+fn pass_turn(
+    found: &Instance,
     body: &[Node],
     mark: &mut Mark,
-    deeper: &mut [Mark],
+    deeper: &[Mark],
     outer: &Outer,
     params: &[i64],
 ) -> Option<Passed>
-    requires { CanTurn (nodes_of body.now) (marks_of deeper.old) mark.old.value mark.old.last params.now
+    requires turn { CanTurn (nodes_of body.now) (marks_of deeper.now) mark.old.value mark.old.last params.now
         (values_in outer.now) }
-    ensures gone { HasTurned (nodes_of body.now) mark.old.value (marks_of deeper.old) mark.new.value
-        (marks_of deeper.new) mark.old.last (passed_in result) params.now (values_in outer.now) }
+    requires within { mark.old.value ≤ℤ mark.old.last }
+    requires alone { IsAlone (nodes_of body.now) (instance_of found.now) params.now
+        (values_in outer.now ++ mark.old.value ∷ []) }
+    ensures gone { HasTurned (nodes_of body.now) mark.old.value (marks_of deeper.now) mark.new.value
+        (marks_of deeper.now) mark.old.last (passed_in result) params.now (values_in outer.now) }
     ensures held { IfSome result CanPass }
     ensures place { mark.new.place ≡ mark.old.place }
     ensures begun { mark.new.begun ≡ mark.old.begun }
     ensures last { mark.new.last ≡ mark.old.last }
-    ensures room { length deeper.new ≡ length deeper.old }
 {
-    if mark.last < mark.value {
+    if !is_over(body, deeper) {
         return None;
     }
-    if is_over(body, deeper) {
-        return pass_leaves(body, mark, deeper, outer, params);
-    }
-    pass_value(body, mark.value, deeper, outer, params)
+    pass_leaves(found, body, mark, deeper, outer, params)
 }
 
-/// The same within a loop's body at a value.
-#[cycle(passing)]
-fn pass_value(
+/// The same behind an instance that was found at the mark's value, unless something was passed by behind it already.
+pub(crate) fn pass_more(
+    passed: &mut Option<Passed>,
+    found: &Instance,
     body: &[Node],
-    value: i128,
-    deeper: &mut [Mark],
+    mark: &mut Mark,
+    deeper: &[Mark],
     outer: &Outer,
     params: &[i64],
-) -> Option<Passed>
-    requires { CanGo (nodes_of body.now) (marks_of deeper.old) params.now (values_in outer.now ++ value ∷ []) }
-    ensures gone { HasGone (nodes_of body.now) (marks_of deeper.old) (marks_of deeper.new) (passed_in result) params.now
-        (values_in outer.now ++ value ∷ []) }
-    ensures held { IfSome result CanPass }
+)
+    requires turn { CanTurn (nodes_of body.now) (marks_of deeper.now) mark.old.value mark.old.last params.now
+        (values_in outer.now) }
+    requires within { mark.old.value ≤ℤ mark.old.last }
+    requires alone { IsAlone (nodes_of body.now) (instance_of found.now) params.now
+        (values_in outer.now ++ mark.old.value ∷ []) }
+    requires held { IfSome passed.old CanPass }
+    ensures gone { (x : ℤ) (ms : List PlainMark)
+        → HasTurned (nodes_of body.now) x ms mark.old.value (marks_of deeper.now) mark.old.last
+        (instance_of found.now ∷ passed_in passed.old) params.now (values_in outer.now)
+        → HasTurned (nodes_of body.now) x ms mark.new.value (marks_of deeper.now) mark.old.last
+        (instance_of found.now ∷ passed_in passed.new) params.now (values_in outer.now) }
+    ensures held { IfSome passed.new CanPass }
+    ensures place { mark.new.place ≡ mark.old.place }
+    ensures begun { mark.new.begun ≡ mark.old.begun }
+    ensures last { mark.new.last ≡ mark.old.last }
 {
-    let within = Outer::Within(&*outer, value);
-    pass_by(body, deeper, &within, params)
+    if passed.is_some() {
+        return;
+    }
+    *passed = pass_turn(found, body, mark, deeper, outer, params);
 }

@@ -26,7 +26,7 @@ ghost use Rattle.std.specs.Prelude.{
 };
 ghost use Rattle.loop_tree.specs.steps.Chain.{values_in};
 ghost use Rattle.loop_tree.specs.steps.Going.{CanGo, CanTurn, HasGone, HasTurned, alone, rest_from, restarted};
-ghost use Rattle.loop_tree.specs.steps.Passing.{CanPass, passed_in};
+ghost use Rattle.loop_tree.specs.steps.Passing.{CanPass, passed_in, shown_in};
 ghost use Rattle.loop_tree.specs.Braids.{IsBraid, left_of_braid};
 ghost use Rattle.loop_tree.specs.Conditions.{CanWalk, IsHeld};
 ghost use Rattle.loop_tree.specs.Fits.{BoundsFit, TestsFit};
@@ -41,7 +41,7 @@ ghost use Rattle.loop_tree.specs.Walk.{all_hold as tests_hold, lower, upper, vis
 use crate::braid::Braid;
 use crate::guards::plus;
 use crate::outer::Outer;
-use crate::passing::{Passed, pass_by};
+use crate::passing::{Passed, pass_more};
 use crate::ranges::{all_hold, lower_at, upper_at};
 use crate::stretch::Stretch;
 use crate::tree::{Guard, Loop, Node, Tree};
@@ -182,18 +182,25 @@ fn lets_pass(guard: &Guard, begun: bool, outer: &Outer, params: &[i64]) -> bool
     all_hold(&guard.tests, outer, params)
 }
 
-/// The next instance of nodes.
+/// The next instance of nodes, and what the marks pass by behind it.
 #[cycle(going)]
-fn next_of(nodes: &[Node], marks: &mut [Mark], outer: &Outer, params: &[i64]) -> Option<Instance>
+fn next_of(
+    nodes: &[Node],
+    marks: &mut [Mark],
+    outer: &Outer,
+    params: &[i64],
+    passed: &mut Option<Passed>,
+) -> Option<Instance>
     requires { CanGo (nodes_of nodes.now) (marks_of marks.old) params.now (values_in outer.now) }
-    ensures gone { HasGone (nodes_of nodes.now) (marks_of marks.old) (marks_of marks.new) (found_in result) params.now
+    ensures gone { HasGone (nodes_of nodes.now) (marks_of marks.old) (marks_of marks.new) (shown_in result passed.new) params.now
         (values_in outer.now) }
+    ensures held { IsSome result → IfSome passed.new CanPass }
     ensures none { IsNone result
         → rest_of (nodes_of nodes.now) (marks_of marks.old) params.now (values_in outer.now) ≡ [] }
 {
     match marks.split_first_mut() {
         None => None,
-        Some((mark, deeper)) => next_from(nodes, mark, deeper, outer, params),
+        Some((mark, deeper)) => next_from(nodes, mark, deeper, outer, params, passed),
     }
 }
 
@@ -205,16 +212,18 @@ fn next_from(
     deeper: &mut [Mark],
     outer: &Outer,
     params: &[i64],
+    passed: &mut Option<Passed>,
 ) -> Option<Instance>
     requires { CanGo (nodes_of nodes.now) (marks_of (mark.old ∷ deeper.old)) params.now (values_in outer.now) }
     ensures gone { HasGone (nodes_of nodes.now) (marks_of (mark.old ∷ deeper.old)) (marks_of (mark.new ∷ deeper.new))
-        (found_in result) params.now (values_in outer.now) }
+        (shown_in result passed.new) params.now (values_in outer.now) }
+    ensures held { IsSome result → IfSome passed.new CanPass }
     ensures none { IsNone result
         → rest_of (nodes_of nodes.now) (marks_of (mark.old ∷ deeper.old)) params.now (values_in outer.now) ≡ [] }
 {
     while mark.place < nodes.len() {
         let node = &nodes[mark.place];
-        match next_in(node, mark, deeper, outer, params) {
+        match next_in(node, mark, deeper, outer, params, passed) {
             Some(instance) => return Some(instance),
             None => {
                 mark.place += 1;
@@ -233,12 +242,14 @@ fn next_in(
     deeper: &mut [Mark],
     outer: &Outer,
     params: &[i64],
+    passed: &mut Option<Passed>,
 ) -> Option<Instance>
     requires { CanGo (more (tree_of node.now) none) (alone (mark_of mark.old) (marks_of deeper.old)) params.now
         (values_in outer.now) }
     ensures gone { IsSome result → HasGone (more (tree_of node.now) none)
         (alone (mark_of mark.old) (marks_of deeper.old)) (alone (mark_of mark.new) (marks_of deeper.new))
-        (found_in result) params.now (values_in outer.now) }
+        (shown_in result passed.new) params.now (values_in outer.now) }
+    ensures held { IsSome result → IfSome passed.new CanPass }
     ensures none { IsNone result → rest_of (more (tree_of node.now) none)
         (alone (mark_of mark.old) (marks_of deeper.old)) params.now (values_in outer.now) ≡ [] }
     ensures place { mark.new.place ≡ mark.old.place }
@@ -246,11 +257,11 @@ fn next_in(
     ensures begun { IsSome result → mark.new.begun ≡ true }
 {
     match node {
-        Node::Loop(head, body) => next_loop(head, body, mark, deeper, outer, params),
+        Node::Loop(head, body) => next_loop(head, body, mark, deeper, outer, params, passed),
         Node::Guard(guard, body) => {
             if lets_pass(guard, mark.begun, outer, params) {
                 begin_guard(mark, deeper);
-                next_of(body, deeper, outer, params)
+                next_of(body, deeper, outer, params, passed)
             } else {
                 None
             }
@@ -260,6 +271,7 @@ fn next_in(
                 return None;
             }
             begin(mark, 0, 0, deeper);
+            *passed = None;
             Some(instance_at(leaf, outer, params))
         }
     }
@@ -274,13 +286,15 @@ fn next_loop(
     deeper: &mut [Mark],
     outer: &Outer,
     params: &[i64],
+    passed: &mut Option<Passed>,
 ) -> Option<Instance>
     requires { CanGo (more (loops head.now.parallel (bounds_in head.now.lower) (bounds_in head.now.upper)
         (nodes_of body.now)) none) (alone (mark_of mark.old) (marks_of deeper.old)) params.now (values_in outer.now) }
     ensures gone { IsSome result → HasGone (more (loops head.now.parallel (bounds_in head.now.lower)
         (bounds_in head.now.upper) (nodes_of body.now)) none)
         (alone (mark_of mark.old) (marks_of deeper.old)) (alone (mark_of mark.new) (marks_of deeper.new))
-        (found_in result) params.now (values_in outer.now) }
+        (shown_in result passed.new) params.now (values_in outer.now) }
+    ensures held { IsSome result → IfSome passed.new CanPass }
     ensures none { IsNone result → rest_of (more (loops head.now.parallel (bounds_in head.now.lower)
         (bounds_in head.now.upper) (nodes_of body.now)) none)
         (alone (mark_of mark.old) (marks_of deeper.old)) params.now (values_in outer.now) ≡ [] }
@@ -289,7 +303,7 @@ fn next_loop(
     ensures begun { IsSome result → mark.new.begun ≡ true }
 {
     begin_loop(head, mark, deeper, outer, params);
-    next_turn(body, mark, deeper, outer, params)
+    next_turn(body, mark, deeper, outer, params, passed)
 }
 
 /// The next instance of a loop's body from the value at a mark on.
@@ -300,11 +314,13 @@ fn next_turn(
     deeper: &mut [Mark],
     outer: &Outer,
     params: &[i64],
+    passed: &mut Option<Passed>,
 ) -> Option<Instance>
     requires { CanTurn (nodes_of body.now) (marks_of deeper.old) mark.old.value mark.old.last params.now
         (values_in outer.now) }
     ensures gone { IsSome result → HasTurned (nodes_of body.now) mark.old.value (marks_of deeper.old) mark.new.value
-        (marks_of deeper.new) mark.old.last (found_in result) params.now (values_in outer.now) }
+        (marks_of deeper.new) mark.old.last (shown_in result passed.new) params.now (values_in outer.now) }
+    ensures held { IsSome result → IfSome passed.new CanPass }
     ensures none { IsNone result
         → rest_from (nodes_of body.now) (marks_of deeper.old) mark.old.value mark.old.last params.now
         (values_in outer.now) ≡ [] }
@@ -314,8 +330,11 @@ fn next_turn(
     ensures room { length deeper.new ≡ length deeper.old }
 {
     while mark.value <= mark.last {
-        match next_within(body, mark.value, deeper, outer, params) {
-            Some(instance) => return Some(instance),
+        match next_within(body, mark.value, deeper, outer, params, passed) {
+            Some(instance) => {
+                pass_more(passed, &instance, body, mark, deeper, outer, params);
+                return Some(instance);
+            }
             None => {
                 if mark.last <= mark.value {
                     return None;
@@ -336,15 +355,17 @@ fn next_within(
     deeper: &mut [Mark],
     outer: &Outer,
     params: &[i64],
+    passed: &mut Option<Passed>,
 ) -> Option<Instance>
     requires { CanGo (nodes_of body.now) (marks_of deeper.old) params.now (values_in outer.now ++ value ∷ []) }
-    ensures gone { HasGone (nodes_of body.now) (marks_of deeper.old) (marks_of deeper.new) (found_in result) params.now
+    ensures gone { HasGone (nodes_of body.now) (marks_of deeper.old) (marks_of deeper.new) (shown_in result passed.new) params.now
         (values_in outer.now ++ value ∷ []) }
+    ensures held { IsSome result → IfSome passed.new CanPass }
     ensures none { IsNone result
         → rest_of (nodes_of body.now) (marks_of deeper.old) params.now (values_in outer.now ++ value ∷ []) ≡ [] }
 {
     let within = Outer::Within(&*outer, value);
-    next_of(body, deeper, &within, params)
+    next_of(body, deeper, &within, params, passed)
 }
 
 /// Puts what marks passed by, if anything, in place of a stretch and a braid with nothing left.
@@ -397,10 +418,14 @@ impl Spot {
         ensures spot { IsSpotOf (nodes_of nodes.now) params.now self.new }
     {
         let marks = self.marks.as_mut_slice();
-        let found = next_of(nodes, marks, &Outer::Top, params);
-        let passed = pass_by(nodes, marks, &Outer::Top, params);
-        replace(&mut self.stretch, &mut self.braid, passed);
-        found
+        let mut passed = None;
+        match next_of(nodes, marks, &Outer::Top, params, &mut passed) {
+            None => None,
+            Some(found) => {
+                replace(&mut self.stretch, &mut self.braid, passed);
+                Some(found)
+            }
+        }
     }
 
     /// The next instance that `tree`, of which this is a spot, visits for `params`, with which it came to its place;

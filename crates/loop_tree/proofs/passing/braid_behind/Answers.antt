@@ -1,4 +1,4 @@
-use Rattle.std.proofs.Common.{rules, ◌≡◌, ◌≤◌, ◌<◌, ◌++◌, ◌∷◌, [], List, ℤ, All, length, get_or, drop, map, take, pos}
+use Rattle.std.proofs.Common.{rules, ◌≡◌, ◌≤◌, ◌<◌, ◌++◌, ◌∷◌, [], List, ℤ, All, length, get_or, drop, map, take, pos, to_z, of_z}
 use Rattle.std.proofs.Common.{arith, sym, subst}
 use Rattle.std.specs.Prelude.{◌+ℤ◌, FitsSigned}
 use Rattle.std.specs.Int.{w128}
@@ -17,13 +17,13 @@ strand_behind-requires c =
     let nodes = c.args.nodes.now in
     let value = c.args.value in
     let fits : FitsSigned w128 value = search rules in
-    let v_is = to_z-of_z w128 value fits in
+    let v = to_z w128 (of_z w128 value) in
+    let v_is : v ≡ value = to_z-of_z w128 value fits in
     let node = c.node-item.result in
     let found : node ≡ get_or nodes c.loop-node.node-index node = c.node-item.is in
     let h : c.loop-node.node-index < length nodes = search arith in
-    λ y from to.
-    can_node nodes c.loop-node.node-index node c.args.params.now (values_in c.args.outer.now ++ y ∷ []) found h
-    (c.requires.walk y (omega (arith, ints, from, v_is)) (omega (arith, ints, to, v_is)))
+    can_node nodes c.loop-node.node-index node c.args.params.now (values_in c.args.outer.now ++ v ∷ []) found h
+    (c.requires.walk v (omega (arith, ints, v_is)) (omega (arith, ints, v_is)))
 
 pub returns-clause-rest : goal.returns-clause-rest
 returns-clause-rest c =

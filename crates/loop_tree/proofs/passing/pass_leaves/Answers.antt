@@ -1,18 +1,26 @@
-use Rattle.std.proofs.Common.{rules, ◌≡◌, ℤ, arith, refl, subst, sym, pos}
+use Rattle.std.proofs.Common.{rules, ◌≡◌, ◌++◌, ◌∷◌, [], ℤ, arith, refl, subst, sym, pos}
 use Rattle.std.specs.Prelude.{◌+ℤ◌, FitsSigned}
 use Rattle.std.specs.Int.{w128}
 use Rattle.std.proofs.lemmas.Int.{ints, to_z-of_z}
 use Rattle.loop_tree.specs.steps.Chain.{values_in}
 use Rattle.loop_tree.specs.steps.Going.{HasTurned}
-use Rattle.loop_tree.specs.steps.Passing.{passed_by, shown_along}
+use Rattle.loop_tree.specs.steps.Passing.{IsAlone, passed_by, shown_along}
+use Rattle.scop_syntax.specs.View.{instance_of}
 use Rattle.loop_tree.specs.SpotView.{marks_of}
 use Rattle.loop_tree.specs.View.{nodes_of}
 use Rattle.loop_tree.proofs.Braids.{turned_leaves}
 use Rattle.loop_tree.proofs.Stretches.{shown_up}
 use Rattle.loop_tree.proofs.passing.pass_leaves.Goals as goal
 
-pub leaves_behind-requires : goal.leaves_behind-requires
-leaves_behind-requires c =
+pub leaves_behind-requires-clause-alone : goal.leaves_behind-requires-clause-alone
+leaves_behind-requires-clause-alone c =
+    let value = c.args.mark.now.value in
+    let fits : FitsSigned w128 value = search rules in
+    subst (λ (x : ℤ). IsAlone (nodes_of c.args.body.now) (instance_of c.args.found.now) c.args.params.now
+    (values_in c.args.outer.now ++ x ∷ [])) (sym (to_z-of_z w128 value fits)) c.requires.alone
+
+pub leaves_behind-requires-clause-walk : goal.leaves_behind-requires-clause-walk
+leaves_behind-requires-clause-walk c =
     let value = c.args.mark.now.value in
     let last = c.args.mark.now.last in
     let fits : FitsSigned w128 value = search rules in

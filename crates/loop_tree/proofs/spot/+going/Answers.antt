@@ -7,9 +7,10 @@ use Rattle.std.proofs.lemmas.Int.{ints, to_z-of_z}
 use Rattle.scop_syntax.specs.View.{instance_of}
 use Rattle.loop_tree.specs.steps.Chain.{values_in}
 use Rattle.loop_tree.specs.steps.Going.{CanGo, CanTurn, HasGone, HasTurned, rest_from, restarted}
+use Rattle.loop_tree.specs.steps.Passing.{passed_in, shown_in}
 use Rattle.loop_tree.specs.Conditions.{CanWalk}
 use Rattle.loop_tree.specs.Spot.{IsAt, Mark, deep_all, mark as marked_at, rest_of}
-use Rattle.loop_tree.specs.SpotView.{found_in, marks_of}
+use Rattle.loop_tree.specs.SpotView.{marks_of}
 use Rattle.loop_tree.specs.Tree.{Tree, Trees, guard as guarded, instance, loop, more, none}
 use Rattle.loop_tree.specs.View.{bounds_in, nodes_of, test_of, tree_of}
 use Rattle.loop_tree.specs.Walk.{all_hold as tests_hold, lower, upper}
@@ -20,7 +21,7 @@ use Rattle.loop_tree.specs.declared.outer.Outer.TheVariants.{Within}
 use Rattle.loop_tree.proofs.Chains.{values_at}
 use Rattle.loop_tree.proofs.VisitPlaces.{at_next, at_restarted, begun_last, go_guard, go_loop, go_node, go_turn}
 use Rattle.loop_tree.proofs.VisitPlaces.{gone_guard, gone_instance, gone_loop, gone_node, length-marks}
-use Rattle.loop_tree.proofs.VisitPlaces.{length-restarted, node_done}
+use Rattle.loop_tree.proofs.VisitPlaces.{length-restarted, node_done, turned_within}
 use Rattle.loop_tree.proofs.VisitPlaces.{rest_end, rest_guard, rest_loop, rest_stopped, turns_fewer, turns_next}
 use Rattle.loop_tree.proofs.spot.+going.Goals as goal
 
@@ -59,7 +60,7 @@ next_from-returns-in-Some-clause-gone t c =
     let node = c.index-nodes-mark.result in
     let found : node ≡ get_or nodes l.mark.place node = c.index-nodes-mark.is in
     let new = c.next_in.new in
-    let is = found_in (Some c.in-Some.instance) in
+    let is = shown_in (Some c.in-Some.instance) new.passed in
     let gone = gone_node nodes l.mark.place node l.mark.begun l.mark.value l.mark.last ms new.mark.begun new.mark.value
     new.mark.last (marks_of new.deeper) is params outer found c.loop-mark-test.true (c.in-Some.ensures.gone refl) in
     let here = subst (λ k. HasGone (nodes_of nodes) (marks_of (l.mark ∷ l.deeper))
@@ -171,15 +172,15 @@ next_in-returns-then-lets_pass-clause-gone t c =
     let begun = c.begin_guard.new.mark in
     let b : begun.begun ≡ true = c.begin_guard.ensures.begun in
     λ e.
-    let gone = subst (λ (ks : List Mark). HasGone body ks (marks_of c.next_of.new.marks) (found_in c.next_of.result)
+    let gone = subst (λ (ks : List Mark). HasGone body ks (marks_of c.next_of.new.marks) (shown_in c.next_of.result c.next_of.new.passed)
     params outer) c.begin_guard.ensures.deeper
     (subst (λ (ts : Trees). HasGone ts (marks_of c.begin_guard.new.deeper) (marks_of c.next_of.new.marks)
-    (found_in c.next_of.result) params outer) body_is c.next_of.ensures.gone) in
+    (shown_in c.next_of.result c.next_of.new.passed) params outer) body_is c.next_of.ensures.gone) in
     subst (λ (u : Tree). HasGone (more u none) (marked_at 0 m.begun m.value m.last ∷ ms)
-    (marked_at 0 begun.begun begun.value begun.last ∷ marks_of c.next_of.new.marks) (found_in c.next_of.result) params
+    (marked_at 0 begun.begun begun.value begun.last ∷ marks_of c.next_of.new.marks) (shown_in c.next_of.result c.next_of.new.passed) params
     outer) (sym t_is)
     (gone_guard tests body m.begun m.value m.last ms begun.begun begun.value begun.last
-    (marks_of c.next_of.new.marks) (found_in c.next_of.result) params outer (omega (arith, room)) holds b gone)
+    (marks_of c.next_of.new.marks) (shown_in c.next_of.result c.next_of.new.passed) params outer (omega (arith, room)) holds b gone)
 
 pub next_in-returns-then-lets_pass-clause-none : goal.next_in-returns-then-lets_pass-clause-none
 next_in-returns-then-lets_pass-clause-none t c =
@@ -253,7 +254,7 @@ next_loop-returns-clause-gone t c =
     let room = c.requires.room in
     let new = c.next_turn.new in
     let ns = marks_of new.deeper in
-    let is = found_in c.next_turn.result in
+    let is = shown_in c.next_turn.result new.passed in
     let kept : length ns ≡ length (if m.begun then ms else restarted ms) =
     length-marks new.deeper
     ∙ (c.next_turn.ensures.room
@@ -434,7 +435,7 @@ next_in-returns-in-Loop-clause-gone t c =
     let new = c.next_loop.new in
     λ e.
     subst (λ (u : Tree). HasGone (more u none) (marked_at 0 m.begun m.value m.last ∷ ms)
-    (marked_at 0 new.mark.begun new.mark.value new.mark.last ∷ marks_of new.deeper) (found_in c.next_loop.result)
+    (marked_at 0 new.mark.begun new.mark.value new.mark.last ∷ marks_of new.deeper) (shown_in c.next_loop.result new.passed)
     params outer) (sym loop_is) (c.next_loop.ensures.gone e)
 
 pub next_in-returns-in-Loop-clause-none : goal.next_in-returns-in-Loop-clause-none
@@ -504,7 +505,7 @@ next_in-returns-else-mark-clause-gone t c =
     let forms = leaf.turns.items in
     let new = c.begin.new.mark in
     let ns = marks_of c.begin.new.deeper in
-    let is = found_in (Some c.instance_at.result) in
+    let is = instance_of c.instance_at.result ∷ [] in
     let t_is = ap tree_of c.in-Instance.is ∙ tree_instance leaf in
     let was : m.begun ≡ false = c.if-mark.false in
     let now : new.begun ≡ true = ap (λ (k : Mark). begun_of k) c.begin.ensures.mark in
@@ -534,7 +535,7 @@ next_within-next_of-requires t c =
 pub next_within-returns-clause-gone : goal.next_within-returns-clause-gone
 next_within-returns-clause-gone t c =
     subst (λ (os : List ℤ). HasGone (nodes_of c.args.body.now) (marks_of c.args.deeper.now)
-    (marks_of c.next_of.new.marks) (found_in c.next_of.result) c.args.params.now os)
+    (marks_of c.next_of.new.marks) (shown_in c.next_of.result c.next_of.new.passed) c.args.params.now os)
     (values_at c.args.outer c.args.value (to_z w128 (of_z w128 c.args.value))
     (to_z-of_z w128 c.args.value c.ranges.value)) c.next_of.ensures.gone
 
@@ -544,3 +545,33 @@ next_within-returns-clause-none t c =
     subst (λ (os : List ℤ). rest_of (nodes_of c.args.body.now) (marks_of c.args.deeper.now) c.args.params.now os ≡ [])
     (values_at c.args.outer c.args.value (to_z w128 (of_z w128 c.args.value))
     (to_z-of_z w128 c.args.value c.ranges.value)) (c.next_of.ensures.none e)
+
+pub next_turn-returns-in-Some-clause-gone : goal.next_turn-returns-in-Some-clause-gone
+next_turn-returns-in-Some-clause-gone t c =
+    let l = c.loop-mark in
+    let value = l.mark.value in
+    let last = l.mark.last in
+    let fits : FitsSigned w128 value = search rules in
+    let fits_last : FitsSigned w128 last = search rules in
+    let v_is = to_z-of_z w128 value fits in
+    let last_is = to_z-of_z w128 last fits_last in
+    let body = nodes_of c.args.body.now in
+    let params = c.args.params.now in
+    let outer = values_in c.args.outer.now in
+    let first = c.args.mark.now in
+    let old = marks_of c.args.deeper.now in
+    let ms = marks_of l.deeper in
+    let new = marks_of c.next_within.new.deeper in
+    let is = instance_of c.in-Some.instance ∷ passed_in c.next_within.new.passed in
+    let all = instance_of c.in-Some.instance ∷ passed_in c.pass_more.new.passed in
+    let here : value ≤ℤ last = grind (arith, ints, c.loop-mark-test.true, v_is, last_is) in
+    let turned = turned_within body ms new value last is params outer here
+    (subst (λ (x : ℤ). HasGone body ms new is params (outer ++ x ∷ [])) v_is c.in-Some.ensures.gone) in
+    let same : last ≡ first.last = l.invariant.6 in
+    let from = subst (λ (z : ℤ). rest_from body old first.value z params outer ≡ rest_from body ms value last params
+    outer) (sym same) l.invariant.2 in
+    let whole : HasTurned body first.value old value new last is params outer =
+    record { rest = from ∙ turned.rest; up = l.invariant.1; stands = turned.stands } in
+    λ e.
+    subst (λ (z : ℤ). HasTurned body first.value old c.pass_more.new.mark.value new z all params outer) same
+    (c.pass_more.ensures.gone first.value old whole)

@@ -1,0 +1,44 @@
+use Rattle.std.specs.Prelude.{◌+ℤ◌}
+use Rattle.std.proofs.lemmas.Int.{ints}
+use Rattle.loop_tree.specs.steps.Passing.{shown_along}
+use Rattle.loop_tree.proofs.Stretches.{leaf_few}
+use Rattle.std.proofs.Common.{◌∙◌, ap, pos, arith, ◌++◌, ◌∷◌, [], List, All, subst, sym}
+use Rattle.scop_syntax.specs.Walk.{Instance}
+use Rattle.loop_tree.specs.steps.Chain.{values_in}
+use Rattle.loop_tree.specs.Conditions.{CanWalk, IsHeld}
+use Rattle.loop_tree.specs.Tree.{Trees, instance, more, none}
+use Rattle.loop_tree.proofs.Braids.{shown_held}
+use Rattle.loop_tree.proofs.passing.leaves_behind.Goals as goal
+
+pub stretch_behind-stretch-requires : goal.stretch_behind-stretch-requires
+stretch_behind-stretch-requires c =
+    let leaf = c.in-Some.leaf.now in
+    let x = c.args.value in
+    let params = c.args.params.now in
+    let point = values_in c.args.outer.now ++ x ∷ [] in
+    leaf_few leaf.statement leaf.turns.items params point
+    (subst (λ (ts : Trees). CanWalk ts params point) c.in-Some.ensures
+    (c.requires.walk x (omega (arith, ints)) (omega (arith, ints))))
+
+pub returns-in-Some-clause-rest : goal.returns-in-Some-clause-rest
+returns-in-Some-clause-rest c =
+    let leaf = c.in-Some.leaf.now in
+    let x = c.args.value in
+    let params = c.args.params.now in
+    c.stretch_behind-stretch.ensures params x
+    (c.requires.alone leaf.statement leaf.turns.items c.in-Some.ensures)
+    ∙ ap (λ (ts : Trees). shown_along ts params (values_in c.args.outer.now) (x +ℤ pos 1) c.args.left)
+    (sym c.in-Some.ensures)
+
+pub returns-in-Some-clause-held : goal.returns-in-Some-clause-held
+returns-in-Some-clause-held c =
+    let leaf = c.in-Some.leaf.now in
+    let x = c.args.value in
+    let params = c.args.params.now in
+    let outer = values_in c.args.outer.now in
+    let shown = c.stretch_behind-stretch.ensures params x
+    (c.requires.alone leaf.statement leaf.turns.items c.in-Some.ensures) in
+    subst (λ (is : List Instance). All IsHeld is) (sym shown)
+    (shown_held (more (instance leaf.statement leaf.turns.items) none) params outer x c.args.left
+    (λ y from to. subst (λ (ts : Trees). CanWalk ts params (outer ++ y ∷ [])) c.in-Some.ensures
+    (c.requires.walk y from to)))
