@@ -7,7 +7,8 @@ use Rattle.std.proofs.lemmas.Int.{ints, to_z-of_z}
 use Rattle.scop_syntax.specs.View.{instance_of}
 use Rattle.loop_tree.specs.steps.Chain.{values_in}
 use Rattle.loop_tree.specs.steps.Going.{CanGo, CanTurn, HasGone, HasTurned, rest_from, restarted}
-use Rattle.loop_tree.specs.steps.Passing.{passed_in, shown_in}
+use Rattle.loop_tree.specs.steps.Passing.{IsAlone, passed_in, shown_in}
+use Rattle.loop_tree.proofs.Stretches.{found_alone}
 use Rattle.loop_tree.specs.Conditions.{CanWalk}
 use Rattle.loop_tree.specs.Spot.{IsAt, Mark, deep_all, mark as marked_at, rest_of}
 use Rattle.loop_tree.specs.SpotView.{marks_of}
@@ -575,3 +576,35 @@ next_turn-returns-in-Some-clause-gone t c =
     λ e.
     subst (λ (z : ℤ). HasTurned body first.value old c.pass_more.new.mark.value new z all params outer) same
     (c.pass_more.ensures.gone first.value old whole)
+
+pub next_turn-pass_more-requires-clause-alone : goal.next_turn-pass_more-requires-clause-alone
+next_turn-pass_more-requires-clause-alone t c =
+    let l = c.loop-mark in
+    let value = l.mark.value in
+    let fits : FitsSigned w128 value = search rules in
+    let v_is = to_z-of_z w128 value fits in
+    let body = nodes_of c.args.body.now in
+    let params = c.args.params.now in
+    let outer = values_in c.args.outer.now in
+    let i = instance_of c.in-Some.instance in
+    subst (λ (x : ℤ). IsAlone body i params (outer ++ x ∷ [])) v_is
+    (found_alone body (marks_of l.deeper) (marks_of c.next_within.new.deeper) i (passed_in c.next_within.new.passed)
+    params _ c.in-Some.ensures.gone)
+
+pub next_turn-pass_more-requires-clause-turn : goal.next_turn-pass_more-requires-clause-turn
+next_turn-pass_more-requires-clause-turn t c =
+    let l = c.loop-mark in
+    let value = l.mark.value in
+    let fits : FitsSigned w128 value = search rules in
+    let v_is = to_z-of_z w128 value fits in
+    let body = nodes_of c.args.body.now in
+    let params = c.args.params.now in
+    let outer = values_in c.args.outer.now in
+    let new = marks_of c.next_within.new.deeper in
+    let kept = c.in-Some.ensures.gone.room in
+    let room = l.invariant.0.room in
+    record {
+      walk = l.invariant.0.walk;
+      room = omega (arith, kept, room);
+      stands = λ h. subst (λ (x : ℤ). IsAt body new params (outer ++ x ∷ [])) v_is c.in-Some.ensures.gone.stands;
+    }
