@@ -1,9 +1,10 @@
--- A small kernel, a loop tree for it with each kind of node, and its text.
+-- A small kernel, a loop tree for it with each kind of node, and its text; statements of it with each operator and each
+-- kind of right side, and their texts.
 use Rattle.std.specs.Prelude.{ℕ, ℤ, true, false, pos, negsuc, List, [], ◌∷◌, ◌++◌, codes}
 use Rattle.whole_numbers.specs.Affine.{Affine, form_of}
 use Rattle.scop_lexer.specs.Bytes.{Text}
 use Rattle.scop_syntax.specs.Tree as source
-use Rattle.scop_syntax.specs.Tree.{Program, Access, Head, Expression}
+use Rattle.scop_syntax.specs.Tree.{Program, Access, Head, Expression, Right, Statement}
 use Rattle.loop_tree.specs.Tree.{Bound, only, besides, Test, at_least, equal, multiple, loop, guard, instance}
 use Rattle.loop_tree.specs.Tree.{Trees, none, more}
 
@@ -88,3 +89,31 @@ text = codes "#include <stdint.h>\n"
     ++ codes "    }\n"
     ++ codes "  }\n"
     ++ codes "}\n"
+
+-- `A[i]`
+abbrev here : Access
+here = cell 0 (form_of (pos 0 ∷ pos 1 ∷ []) (pos 0) ∷ [])
+
+-- a statement whose place is that cell
+abbrev to_here : Right → Statement
+to_here right = record { place = here; right = right }
+
+-- statements with each operator and each kind of right side
+abbrev pub statements : List Statement
+statements =
+    to_here (source.assigned (source.binary source.bits_or
+    (source.binary source.minus (source.read here) (source.constant 1))
+    (source.binary source.bits_xor (source.read here)
+    (source.binary source.bits_and (source.shifted_right (source.read here) 7) (source.constant 3)))))
+    ∷ to_here (source.combined source.minus (source.constant 2)) ∷ to_here (source.combined source.times (source.constant 3))
+    ∷ to_here (source.combined source.bits_and (source.constant 4))
+    ∷ to_here (source.combined source.bits_or (source.constant 5))
+    ∷ to_here (source.combined source.bits_xor (source.constant 6))
+    ∷ to_here (source.moved_left 7) ∷ to_here (source.moved_right 8) ∷ []
+
+-- their texts, where the iterator is `i`
+abbrev pub texts : List Text
+texts =
+    codes "A[i] = ((A[i] - 1ULL) | (A[i] ^ ((A[i] >> 7ULL) & 3ULL)))" ∷ codes "A[i] -= 2ULL" ∷ codes "A[i] *= 3ULL"
+    ∷ codes "A[i] &= 4ULL" ∷ codes "A[i] |= 5ULL" ∷ codes "A[i] ^= 6ULL" ∷ codes "A[i] <<= 7ULL" ∷ codes "A[i] >>= 8ULL"
+    ∷ []

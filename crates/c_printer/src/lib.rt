@@ -22,7 +22,7 @@ mod text_laws;
 mod texts;
 mod values;
 
-pub use examples::a_tree_and_its_text;
+pub use examples::{a_tree_and_its_text, statements_and_their_texts};
 pub use meaning_laws::{
     printed_divisions_are_those_of_the_tree, printed_iterators_are_the_source_s,
     the_functions_of_a_text_round_and_choose,

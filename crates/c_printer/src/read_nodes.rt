@@ -1,11 +1,13 @@
 //! Reads the nodes of an emitted text, and a whole one.
 
-ghost use Rattle.std.specs.Prelude.{◌≡◌, Some, length, map, option_map, suc, IfOk};
+ghost use Rattle.std.specs.Prelude.{◌≡◌, Some, length, map, option_map, suc, IfOk, IfSome, IsNone};
 ghost use Rattle.scop_syntax.specs.View.{program_of};
-ghost use Rattle.loop_tree.specs.Tree.{guard, loop};
+ghost use Rattle.loop_tree.specs.Tree.{guard, loop, Trees};
 ghost use Rattle.loop_tree.specs.View.{bounds_in, test_of, trees_in};
 ghost use Rattle.c_printer.specs.Forms.{loop_name, names_in};
 ghost use Rattle.standings.specs.View.{standing_of};
+ghost use Rattle.c_printer.specs.Nodes.{text_of};
+ghost use Rattle.c_printer.specs.Printable.{AreNodes, IsNamed};
 ghost use Rattle.c_printer.specs.Reading.{printed_as, read_node, read_nodes, read_text};
 ghost use Rattle.c_printer.specs.View.{body_in, body_part, line_in, node_in, sides_part};
 ghost use Rattle.c_printer.specs.steps.Reading.{closed_as, closed_body, guard_from, loop_from, lower_end};
@@ -19,6 +21,7 @@ use crate::place::{Place, within_guard, within_loop};
 use crate::read_bounds::read_bounds;
 use crate::read_instances::read_instance;
 use crate::read_tests::read_condition;
+use crate::text_laws::unread_texts_are_of_no_tree;
 use crate::texts::{copies, name_of_loop};
 use form_text::strip;
 use loop_tree::{Bounds, Guard, Loop, Node, Tree};
@@ -369,12 +372,8 @@ fn printed_as<'a>(
     Ok(None)
 }
 
-/// The loop tree whose text this is, or `None` where no tree that can be printed has this text. It recurses as deep
-/// as loops and guards of the text stand in one another.
-///
-/// # Errors
-/// `AllocError` alone.
-pub fn read_back(alloc: Global, kernel: &Kernel, text: &[u8]) -> Result<Option<Tree>, AllocError>
+/// The loop tree that is read of a text, or `None` where none is.
+fn read_whole(alloc: Global, kernel: &Kernel, text: &[u8]) -> Result<Option<Tree>, AllocError>
     ensures { IfOk result (λ read. option_map trees_in read ≡ read_text (program_of kernel.now) text.now) }
 {
     let mut front = Vec::new(alloc);
@@ -387,4 +386,20 @@ pub fn read_back(alloc: Global, kernel: &Kernel, text: &[u8]) -> Result<Option<T
         Ok(None) => Ok(None),
         Err(_) => Err(AllocError),
     }
+}
+
+/// The loop tree whose text this is, or `None` where no tree that can be printed has this text. It recurses as deep
+/// as loops and guards of the text stand in one another.
+///
+/// # Errors
+/// `AllocError` alone.
+pub fn read_back(alloc: Global, kernel: &Kernel, text: &[u8]) -> Result<Option<Tree>, AllocError>
+    ensures read { IfOk result (λ read. option_map trees_in read ≡ read_text (program_of kernel.now) text.now) }
+    ensures some { IfOk result (λ read. IfSome read
+        (λ tree. text_of (program_of kernel.now) (trees_in tree) ≡ text.now)) }
+    ensures none { IsNamed (program_of kernel.now) → IfOk result (λ read. IsNone read
+        → (ts : Trees) → AreNodes (program_of kernel.now) 0 ts → text_of (program_of kernel.now) ts ≡ text.now → ⊥) }
+{
+    unread_texts_are_of_no_tree();
+    read_whole(alloc, kernel, text)
 }

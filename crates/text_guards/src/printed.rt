@@ -1,6 +1,6 @@
 //! Callers of the text of loop trees: the call, and the laws at empty trees and in kernels without parameters.
 ghost use Rattle.std.specs.Prelude.{◌≡◌, ◌↔◌, ◌∷◌, ◌<◌, ◌^◌, [], ◌-ℤ◌, ◌*ℤ◌, ℕ, ℤ, IfOk, List, None, Some, length, pos};
-ghost use Rattle.std.specs.Prelude.{option_map, slice_get, true};
+ghost use Rattle.std.specs.Prelude.{IfSome, IsNone, option_map, slice_get, true};
 ghost use Rattle.whole_numbers.specs.Affine.{Affine, value_of, values_of};
 ghost use Rattle.whole_numbers.specs.Floor.{ceiling, floor};
 ghost use Rattle.scop_lexer.specs.Bytes.{Text};
@@ -36,13 +36,18 @@ pub fn text_of_a_tree(alloc: Global, kernel: &Kernel, tree: &Tree) -> Result<Vec
     print(alloc, kernel, tree)
 }
 
-/// Of a text that is not read no tree is read back, by the clause of `read_back`.
+/// Of a text that is not read no tree is read back, by `read` of `read_back`; a tree that is has the text, by `some`; where
+/// none is, the empty tree does not have it, by `none`.
 pub fn tree_of_a_text(
     alloc: Global,
     kernel: &Kernel,
     text: &[u8],
 ) -> Result<Option<Tree>, AllocError>
-    ensures { IfOk result (λ read. read_text (program_of kernel.now) text.now ≡ None
+    ensures some { IfOk result (λ read. IfSome read (λ tree. text_of (program_of kernel.now) (trees_in tree)
+        ≡ text.now)) }
+    ensures none { IsNamed (program_of kernel.now) → IfOk result (λ read. IsNone read
+        → text_of (program_of kernel.now) none ≡ text.now → ⊥) }
+    ensures read { IfOk result (λ read. read_text (program_of kernel.now) text.now ≡ None
         → option_map trees_in read ≡ None) }
 {
     read_back(alloc, kernel, text)
