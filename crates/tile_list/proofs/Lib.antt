@@ -1,5 +1,6 @@
 pub mod Order
 pub mod Stretches
+pub mod Braids
 pub mod Parts
 pub mod ListedTiles
 pub mod Waves

@@ -229,16 +229,60 @@ tile_along (tiled size statements) n turns steps i k some within one =
       tile = ap (λ (zs : List ℤ). front ++ zs) here;
     }
 
+-- what follows an instance lies in a tile where that one and the last do
+following_in_tile : (tiling : Tiling) (n : ℕ) (turns steps : List ℤ) (k : ℕ) (x : Instance) → HasSize tiling
+    → InOneTile tiling x (record { number = n; turns = turns }) → InOneTile tiling x (steps_on n turns steps k)
+    → (y : Instance) → In y (following n turns steps k) → InOneTile tiling x y
+following_in_tile tiling n turns steps k x some front last y h =
+    let before : Instance = record { number = n; turns = turns } in
+    let (i, low, within, is) = from_place n turns steps 0 turns k (first_sums turns steps) y h in
+    let ends = one-trans tiling before x (steps_on n turns steps k) (one-sym tiling x before front) last in
+    let here = tile_along tiling n turns steps i k some (omega (arith, within)) ends in
+    subst (InOneTile tiling x) (sym is) (one-trans tiling x before (steps_on n turns steps i) front here)
+
 -- what is left of a stretch lies in a tile where the instance in front of it and its last do
 pub stretch_in_tile : (tiling : Tiling) (s : Stretch) (x : Instance) → HasSize tiling
     → InOneTile tiling x (instance_of s.before) → InOneTile tiling x (instance_at s s.left)
     → (y : Instance) → In y (left_of s) → InOneTile tiling x y
-stretch_in_tile tiling s x some front last y h =
-    let before = instance_of s.before in
-    let (i, low, within, is) = left_at s y h in
-    let ends = one-trans tiling before x (instance_at s s.left) (one-sym tiling x before front) last in
-    let here = tile_along tiling before.number before.turns (take s.before.loops s.steps) i s.left some within ends in
-    subst (InOneTile tiling x) (sym is) (one-trans tiling x before (instance_at s i) front here)
+stretch_in_tile tiling s x =
+    following_in_tile tiling s.before.statement (instance_of s.before).turns (take s.before.loops s.steps) s.left x
+
+-- the first is one step on, and the others are steps behind it
+first_on : (k : ℕ) (turns steps : List ℤ)
+    → sums turns (multiples (pos (suc k)) steps) ≡ sums (sums turns steps) (multiples (pos k) steps)
+first_on k [] [] = refl
+first_on k [] (s ∷ steps) =
+    let e = one_step_more k s in
+    let first : pos (suc k) *ℤ s ≡ s +ℤ (pos k *ℤ s) = omega (arith, ints, e) in
+    ap₂ (λ (z : ℤ) (zs : List ℤ). z ∷ zs) first (first_on k [] steps)
+first_on k (t ∷ turns) [] = refl
+first_on k (t ∷ turns) (s ∷ steps) =
+    let e = one_step_more k s in
+    let first : t +ℤ (pos (suc k) *ℤ s) ≡ (t +ℤ s) +ℤ (pos k *ℤ s) = omega (arith, ints, e) in
+    ap₂ (λ (z : ℤ) (zs : List ℤ). z ∷ zs) first (first_on k turns steps)
+
+-- what follows lies in a tile where its first and its last do
+ends_in_tile : (tiling : Tiling) (n : ℕ) (turns steps : List ℤ) (k : ℕ) (x : Instance) → HasSize tiling
+    → InOneTile tiling x (steps_on n turns steps 1) → InOneTile tiling x (steps_on n turns steps k)
+    → (y : Instance) → In y (following n turns steps k) → InOneTile tiling x y
+ends_in_tile tiling n turns steps zero x some first last y h = absurd h
+ends_in_tile tiling n turns steps (suc k) x some first last y h =
+    let front : InOneTile tiling x (record { number = n; turns = sums turns steps }) =
+    subst (λ (ts : List ℤ). InOneTile tiling x (record { number = n; turns = ts })) (sym (first_sums turns steps))
+    first in
+    elim h [
+      | inl e ↦ subst (InOneTile tiling x) (sym e) front
+      | inr j ↦ following_in_tile tiling n (sums turns steps) steps k x some front
+          (subst (λ (ts : List ℤ). InOneTile tiling x (record { number = n; turns = ts })) (first_on k turns steps)
+          last) y j
+    ]
+
+-- so does what is left of a stretch
+pub strand_in_tile : (tiling : Tiling) (s : Stretch) (x : Instance) → HasSize tiling
+    → InOneTile tiling x (instance_at s 1) → InOneTile tiling x (instance_at s s.left)
+    → (y : Instance) → In y (left_of s) → InOneTile tiling x y
+strand_in_tile tiling s x =
+    ends_in_tile tiling s.before.statement (instance_of s.before).turns (take s.before.loops s.steps) s.left x
 
 -- a number of 64 bits as a signed one
 signed_is : (n : ℕ) → n < 2 ^ 64 → cast_signed w64 n ≡ int_wrap w64 (pos n)

@@ -1,5 +1,5 @@
 -- What is cut off grows instance by instance.
-use Rattle.std.proofs.Common.{◌≡◌, ◌≢◌, ◌∙◌, ℕ, suc, ◌+◌, ℤ, List, [], ◌∷◌, ◌++◌, length, drop, inl, inr, refl, ap}
+use Rattle.std.proofs.Common.{◌≡◌, ◌≢◌, ◌∙◌, ℕ, suc, ◌+◌, ℤ, List, [], ◌∷◌, ◌++◌, length, drop, inl, inr, refl, ap, ap₂}
 use Rattle.std.proofs.Common.{subst, sym, arith}
 use Rattle.std.specs.Prelude.{Some}
 use Rattle.std.proofs.lemmas.List.{length-append, map-append}
@@ -10,7 +10,7 @@ use Rattle.scop_syntax.specs.Members.{In}
 use Rattle.scop_syntax.specs.View.{instance_of}
 use Rattle.scop_syntax.specs.Walk.{Instance}
 use Rattle.scop_syntax.specs.declared.instance.Instance.{Instance as CodeInstance}
-use Rattle.loop_tree.specs.Braids.{left_of_braid}
+use Rattle.loop_tree.specs.Braids.{IsBraid, left_of_braid}
 use Rattle.loop_tree.specs.Conditions.{IsHeld}
 use Rattle.loop_tree.specs.Spot.{rest_of}
 use Rattle.loop_tree.specs.SpotView.{IsSpotOf, StandAlike, marks_in, to_come}
@@ -18,8 +18,10 @@ use Rattle.loop_tree.specs.Stretches.{left_of}
 use Rattle.loop_tree.specs.Tiling.{Tiling, tile_of, wave_of}
 use Rattle.loop_tree.specs.Tree.{Trees}
 use Rattle.loop_tree.specs.Walk.{visits}
+use Rattle.loop_tree.specs.declared.braid.Braid.{Braid}
 use Rattle.loop_tree.specs.declared.spot.Spot.{Spot}
 use Rattle.loop_tree.proofs.SameSpots.{rest_alike, spot_alike}
+use Rattle.loop_tree.proofs.Stretches.{nothing_left}
 use Rattle.tile_list.specs.Tiles.{AreWaves, InOneTile, IsNextWave, RiseByTile, TileBefore, joined}
 use Rattle.tile_list.specs.TilesView.{IsTile, firsts_of, waves_of}
 use Rattle.tile_list.specs.steps.Cutting.{AreTilesOf, HasBegun, HasGrown, IsCut, IsCutTo, IsNewTile, IsWaveOf}
@@ -216,22 +218,52 @@ takes_next tiling first spot old new next is other has =
       key = λ z key. keys_tell tiling z (instance_of first) new.key next key is (sym has.wave_of) (sym has.tile_of);
     }
 
--- what is left of a spot's stretch is in the current tile
-pub passes : (tiling : Tiling) (spot : Spot) (old new : Cut) (next : Key) → AllHaveKey tiling old.key spot.stretch
-    → HasGrown spot.stretch.left (record old { next = next }) new
-    → Passes tiling spot (record spot { stretch = record spot.stretch { left = 0 } }) old new
-passes tiling spot old new next all has =
-    let s = spot.stretch in
-    let behind : Trees → List ℤ → List Instance =
-    λ ts params. left_of_braid spot.braid ++ rest_of ts (marks_in spot) params [] in
+-- what a spot passes is in the current tile
+passes : (tiling : Tiling) (passed spot : Spot) (ys : List Instance) (count : ℕ) (old new : Cut) (next : Key)
+    → ((ts : Trees) (params : List ℤ) → IsSpotOf ts params passed → IsSpotOf ts params spot)
+    → ((ts : Trees) (params : List ℤ) → to_come ts params passed ≡ ys ++ to_come ts params spot)
+    → count ≡ length ys → ((y : Instance) → In y ys → HasKey tiling old.key y)
+    → HasGrown count (record old { next = next }) new → Passes tiling passed spot old new
+passes tiling passed spot ys count old new next spots all count_is one has =
     record {
-      spots = λ ts params is. record {
-        room = is.room;
-        stands = is.stands;
-        held = All-nil IsHeld;
-        braid = is.braid;
-      };
-      fewer = λ ts params. let l = length-append (left_of s) (behind ts params) in omega (arith, l);
-      cut = λ ts params. takes_all tiling (left_of s) s.left old new next (sym (length-left s)) all has ts params
-          (behind ts params);
+      spots = spots;
+      fewer = λ ts params. let e = ap (λ (xs : List Instance). length xs) (all ts params) in
+          let l = length-append ys (to_come ts params spot) in
+          omega (arith, e, l);
+      cut = λ ts params is. takes_all tiling ys count old new next count_is one has ts params (to_come ts params spot)
+          (subst (λ (xs : List Instance). IsCutTo ts params tiling xs old) (all ts params) is);
     }
+
+-- what is left of its stretch
+pub passes_stretch : (tiling : Tiling) (spot : Spot) (old new : Cut) (next : Key)
+    → AllHaveKey tiling old.key spot.stretch → HasGrown spot.stretch.left (record old { next = next }) new
+    → Passes tiling spot (record spot { stretch = record spot.stretch { left = 0 } }) old new
+passes_stretch tiling spot old new next =
+    let s = spot.stretch in
+    passes tiling spot (record spot { stretch = record s { left = 0 } }) (left_of s) s.left old new next
+    (λ ts params is. record {
+      room = is.room;
+      stands = is.stands;
+      held = All-nil IsHeld;
+      braid = is.braid;
+    })
+    (λ ts params. refl) (sym (length-left s))
+
+-- what is left of its braid
+pub passes_braid : (tiling : Tiling) (spot : Spot) (b : Braid) (count : ℕ) (old new : Cut) (next : Key)
+    → spot.stretch.left ≡ 0 → left_of_braid b ≡ [] → IsBraid b → count ≡ length (left_of_braid spot.braid)
+    → ((y : Instance) → In y (left_of_braid spot.braid) → HasKey tiling old.key y)
+    → HasGrown count (record old { next = next }) new → Passes tiling spot (record spot { braid = b }) old new
+passes_braid tiling spot b count old new next empty none is_braid =
+    let xs = left_of_braid spot.braid in
+    let rest : Trees → List ℤ → List Instance = λ ts params. rest_of ts (marks_in spot) params [] in
+    let gone = nothing_left spot.stretch empty in
+    passes tiling spot (record spot { braid = b }) xs count old new next
+    (λ ts params is. record {
+      room = is.room;
+      stands = is.stands;
+      held = is.held;
+      braid = is_braid;
+    })
+    (λ ts params. ap (λ (ys : List Instance). ys ++ (xs ++ rest ts params)) gone
+    ∙ sym (ap₂ (λ (ys zs : List Instance). xs ++ (ys ++ (zs ++ rest ts params))) gone none))

@@ -1,6 +1,6 @@
 -- From the first instance to the whole list.
 use Rattle.std.proofs.Common.{◌≡◌, ℕ, ℤ, List, [], ◌∷◌, ◌++◌, inl, inr, refl, ap, subst, sym}
-use Rattle.std.proofs.lemmas.List.{map-append}
+use Rattle.std.proofs.lemmas.List.{append_assoc, map-append}
 use Rattle.scop_syntax.specs.Members.{In}
 use Rattle.scop_syntax.specs.View.{instance_of}
 use Rattle.scop_syntax.specs.Walk.{Instance}
@@ -18,7 +18,7 @@ use Rattle.tile_list.specs.Tiles.{AreOffsets, AreTiles, AreWaves, CanTile, RiseB
 use Rattle.tile_list.specs.TilesView.{IsTileListOf, firsts_of, waves_of}
 use Rattle.tile_list.specs.steps.Cutting.{AreTilesOf, Begins, IsCut, IsCutTo, IsListed, IsNewTile, Takes}
 use Rattle.tile_list.specs.steps.Keys.{IsKeyOf}
-use Rattle.tile_list.specs.steps.Stretching.{AllRowsFit}
+use Rattle.tile_list.specs.steps.Stretching.{AllFit}
 use Rattle.tile_list.specs.declared.cutting.Cut.{Cut}
 use Rattle.tile_list.specs.declared.list.Tile.{Tile}
 use Rattle.tile_list.specs.declared.list.TileList.{TileList}
@@ -80,14 +80,16 @@ pub taken_next : (ts : Trees) (params : List ℤ) (tiling : Tiling) (x : Instanc
 taken_next ts params tiling x all spot old new e rise at takes is =
     takes.cut ts params rise at (subst (λ (zs : List Instance). IsCutTo ts params tiling zs old) e is)
 
--- the rows fit at what is left of a stretch
+-- the rows fit at what is left of a stretch and a braid
 pub left_fits : (ts : Trees) (params : List ℤ) (tiling : Tiling) (spot : Spot) (cut : Cut)
     → CanTile tiling (visits ts params) → IsCutTo ts params tiling (to_come ts params spot) cut
-    → AllRowsFit tiling spot.stretch
+    → AllFit tiling (left_of spot.stretch ++ left_of_braid spot.braid)
 left_fits ts params tiling spot cut can is x h =
-    let rest = left_of_braid spot.braid ++ rest_of ts (marks_in spot) params [] in
+    let rest = rest_of ts (marks_in spot) params [] in
+    let all = append_assoc (left_of spot.stretch) (left_of_braid spot.braid) rest in
     can.rows x (rest_visited ts params tiling (to_come ts params spot) cut is x
-    (in_front x (left_of spot.stretch) rest h))
+    (subst (λ (zs : List Instance). In x zs) all
+    (in_front x (left_of spot.stretch ++ left_of_braid spot.braid) rest h)))
 
 -- tiles with their offsets
 made_list : (ts : Trees) (params : List ℤ) (tiling : Tiling) (parts : List (List Instance)) (tiles : List Tile)

@@ -1,6 +1,7 @@
 //! One walk over a tree's visits, which begins a tile where wave or tile are others than before.
-ghost use Rattle.std.specs.Prelude.{◌≡◌, ◌+◌, ◌++◌, ◌∷◌, [], All, IfOk, OnOk};
+ghost use Rattle.std.specs.Prelude.{◌≡◌, ◌+◌, ◌*◌, ◌<◌, ◌++◌, ◌∷◌, [], All, IfOk, OnOk, false};
 ghost use Rattle.scop_syntax.specs.View.{instance_of};
+ghost use Rattle.loop_tree.specs.Braids.{IsBraid, left_of_braid};
 ghost use Rattle.loop_tree.specs.Conditions.{CanWalk, IsHeld};
 ghost use Rattle.loop_tree.specs.SpotView.{IsSpotOf, to_come};
 ghost use Rattle.loop_tree.specs.Stretches.{left_of};
@@ -12,12 +13,12 @@ ghost use Rattle.tile_list.specs.TilesView.{IsTileListOf};
 ghost use Rattle.tile_list.specs.steps.Cutting.{Begins, HasBegun, HasGrown, IsCutTo, IsListed};
 ghost use Rattle.tile_list.specs.steps.Cutting.{IsNewTile, IsWaveOf, Takes};
 ghost use Rattle.tile_list.specs.steps.Keys.{HasKey};
-ghost use Rattle.tile_list.specs.steps.Stretching.{AllRowsFit, Passes};
+ghost use Rattle.tile_list.specs.steps.Stretching.{AllFit, AllRowsFit, HasRounds, Passes};
 
 use crate::keys::{Key, are_one};
 use crate::list::{Tile, TileList};
 use crate::offsets::offsets_of;
-use loop_tree::{Spot, Tiling, Tree};
+use loop_tree::{Braid, Spot, Stretch, Tiling, Tree};
 use scop_syntax::instance::Instance;
 use std::alloc::{AllocError, Global};
 use std::mem;
@@ -39,6 +40,44 @@ fn more(number: usize, count: usize) -> Result<usize, AllocError>
         None => Err(AllocError),
         Some(sum) => Ok(sum),
     }
+}
+
+/// So many times, where a word has room for it.
+fn times(count: usize, number: usize) -> Result<usize, AllocError>
+    ensures { IfOk result (λ n. n ≡ count * number) }
+{
+    match count.checked_mul(number) {
+        None => Err(AllocError),
+        Some(product) => Ok(product),
+    }
+}
+
+/// How many rounds are left of a braid whose first strand is next, and whose strands have as many left; 0 elsewhere.
+fn rounds_left(braid: &Braid) -> u64
+    requires { IsBraid braid.now }
+    ensures { 0 < result → HasRounds braid.now result }
+{
+    if braid.at > 0 {
+        return 0;
+    }
+    let rounds = braid.strands[0].left;
+    for strand in &braid.strands[..braid.count] {
+        if strand.left != rounds {
+            return 0;
+        }
+    }
+    rounds
+}
+
+/// Whether something is left of a stretch or a braid.
+fn has_left(stretch: &Stretch, braid: &Braid) -> bool
+    requires { IsBraid braid.now }
+    ensures { result ≡ false → left_of stretch.now ++ left_of_braid braid.now ≡ [] }
+{
+    if stretch.left > 0 {
+        return true;
+    }
+    braid.strands[braid.at].left > 0
 }
 
 /// A tile that begins with an instance, the spot behind which is given.
@@ -122,9 +161,55 @@ impl Cut {
         }
     }
 
-    /// Takes what is left of the stretch behind an instance that was taken, where it lies in the current tile. Where it
-    /// does not, it is not to be asked again: its instances are taken one by one.
+    /// Takes what is left of the stretch behind an instance that was taken, where it lies in the current tile.
     fn take_stretch(
+        &mut self,
+        tiling: &Tiling,
+        taken: &Instance,
+        spot: &mut Spot,
+    ) -> Result<(), AllocError>
+        requires size { HasSize (tiling_of tiling.now) }
+        requires key { HasKey (tiling_of tiling.now) self.old.key (instance_of taken.now) }
+        requires held { All IsHeld (left_of spot.old.stretch) }
+        requires fits { AllRowsFit (tiling_of tiling.now) spot.old.stretch }
+        ensures { OnOk result (Passes (tiling_of tiling.now) spot.old spot.new self.old self.new) }
+    {
+        if !are_one(taken, &spot.stretch.before) {
+            return Ok(());
+        }
+        if !self.next.is_of_stretch(&self.key, tiling, &spot.stretch)? {
+            return Ok(());
+        }
+        self.grow(spot.stretch.left as usize)?;
+        spot.stretch.left = 0;
+        Ok(())
+    }
+
+    /// Takes what is left of the braid, where it lies in the current tile.
+    fn take_braid(&mut self, tiling: &Tiling, spot: &mut Spot) -> Result<(), AllocError>
+        requires size { HasSize (tiling_of tiling.now) }
+        requires stretch { spot.old.stretch.left ≡ 0 }
+        requires braid { IsBraid spot.old.braid }
+        requires fits { AllFit (tiling_of tiling.now) (left_of_braid spot.old.braid) }
+        ensures { OnOk result (Passes (tiling_of tiling.now) spot.old spot.new self.old self.new) }
+    {
+        let rounds = rounds_left(&spot.braid);
+        if rounds == 0 {
+            return Ok(());
+        }
+        let strands = &spot.braid.strands[..spot.braid.count];
+        if !self.next.is_of_strands(&self.key, tiling, strands)? {
+            return Ok(());
+        }
+        self.grow(times(spot.braid.count, rounds as usize)?)?;
+        spot.braid.count = 1;
+        spot.braid.strands[0].left = 0;
+        Ok(())
+    }
+
+    /// Takes what is left of the stretch or the braid behind an instance that was taken, where it lies in the current
+    /// tile. Where it does not, it is not to be asked again: its instances are taken one by one.
+    fn take_rest(
         &mut self,
         tiling: &Tiling,
         taken: &Instance,
@@ -134,18 +219,18 @@ impl Cut {
         requires size { HasSize (tiling_of tiling.now) }
         requires key { HasKey (tiling_of tiling.now) self.old.key (instance_of taken.now) }
         requires held { All IsHeld (left_of spot.old.stretch) }
-        requires fits { AllRowsFit (tiling_of tiling.now) spot.old.stretch }
+        requires braid { IsBraid spot.old.braid }
+        requires fits { AllFit (tiling_of tiling.now) (left_of spot.old.stretch ++ left_of_braid spot.old.braid) }
         ensures { OnOk result (Passes (tiling_of tiling.now) spot.old spot.new self.old self.new) }
     {
-        if asked || !are_one(taken, &spot.stretch.before) {
+        if asked {
             return Ok(());
         }
-        if !self.next.is_of_stretch(&self.key, tiling, &spot.stretch)? {
-            return Ok(());
+        if spot.stretch.left > 0 {
+            self.take_stretch(tiling, taken, spot)
+        } else {
+            self.take_braid(tiling, spot)
         }
-        self.grow(spot.stretch.left as usize)?;
-        spot.stretch.left = 0;
-        Ok(())
     }
 
     /// All tiles.
@@ -176,12 +261,12 @@ fn cut_rest(
     ensures { IfOk result (IsCutTo (trees_in tree.now) params.now (tiling_of tiling.now) []) }
 {
     let mut cut = Cut::of(alloc, tiling, first, spot)?;
-    cut.take_stretch(tiling, &first, false, spot)?;
-    let mut asked = spot.stretch.left > 0;
+    cut.take_rest(tiling, &first, false, spot)?;
+    let mut asked = has_left(&spot.stretch, &spot.braid);
     while let Some(instance) = spot.next(tree, params) {
         cut.take(alloc, tiling, instance, spot)?;
-        cut.take_stretch(tiling, &instance, asked, spot)?;
-        asked = spot.stretch.left > 0;
+        cut.take_rest(tiling, &instance, asked, spot)?;
+        asked = has_left(&spot.stretch, &spot.braid);
     }
     Ok(cut)
 }

@@ -12,7 +12,7 @@ ghost use Rattle.loop_tree.specs.Tiling.{coordinates, wave_sum};
 ghost use Rattle.loop_tree.specs.TilingView.{tiling_of};
 ghost use Rattle.tile_list.specs.Tiles.{HasSize, RowsFit};
 ghost use Rattle.tile_list.specs.steps.Keys.{HasKey, IsKeyOf};
-ghost use Rattle.tile_list.specs.steps.Stretching.{AllHaveKey, AllRowsFit, steps_on};
+ghost use Rattle.tile_list.specs.steps.Stretching.{AllHaveKey, AllRowsFit, instance_at, steps_on};
 
 use loop_tree::{Stretch, TileItems, TileRow, Tiling};
 use scop_syntax::affine_values::{exact_at, with_product};
@@ -229,6 +229,24 @@ impl Key {
         }
     }
 
+    /// Whether the other one is the key of the instance so many steps on a stretch.
+    fn is_at(
+        &mut self,
+        other: &Key,
+        tiling: &Tiling,
+        stretch: &Stretch,
+        count: u64,
+    ) -> Result<bool, AllocError>
+        requires size { HasSize (tiling_of tiling.now) }
+        requires held { All (FitsSigned w64) (instance_at stretch.now count).turns }
+        requires fits { RowsFit (tiling_of tiling.now) (instance_at stretch.now count) }
+        ensures { IfOk result (λ same. IsTrue same
+            → HasKey (tiling_of tiling.now) other.now (instance_at stretch.now count)) }
+    {
+        self.set(tiling, &after(&stretch.before, &stretch.steps, count))?;
+        Ok(self.is_that_of(other))
+    }
+
     /// Whether the other one is the key of all that is left of a stretch, where it is that of the instance in front: it
     /// is where it is that of the last, since along a stretch each coordinate of the tile rises, or each falls.
     ///
@@ -250,10 +268,52 @@ impl Key {
         if stretch.left == 0 {
             return Ok(false);
         }
-        self.set(
-            tiling,
-            &after(&stretch.before, &stretch.steps, stretch.left),
-        )?;
-        Ok(self.is_that_of(other))
+        self.is_at(other, tiling, stretch, stretch.left)
+    }
+
+    /// Whether the other one is the key of all that is left of a strand: it is where it is that of the first and of the
+    /// last.
+    fn is_of_strand(
+        &mut self,
+        other: &Key,
+        tiling: &Tiling,
+        strand: &Stretch,
+    ) -> Result<bool, AllocError>
+        requires size { HasSize (tiling_of tiling.now) }
+        requires held { All IsHeld (left_of strand.now) }
+        requires fits { AllRowsFit (tiling_of tiling.now) strand.now }
+        ensures { IfOk result (λ same. IsTrue same → AllHaveKey (tiling_of tiling.now) other.now strand.now) }
+    {
+        if strand.left == 0 {
+            return Ok(true);
+        }
+        if !self.is_at(other, tiling, strand, 1)? {
+            return Ok(false);
+        }
+        self.is_at(other, tiling, strand, strand.left)
+    }
+
+    /// Whether the other one is the key of all that is left of strands.
+    ///
+    /// # Errors
+    /// `AllocError` alone.
+    pub fn is_of_strands(
+        &mut self,
+        other: &Key,
+        tiling: &Tiling,
+        strands: &[Stretch],
+    ) -> Result<bool, AllocError>
+        requires size { HasSize (tiling_of tiling.now) }
+        requires held { All (λ s. All IsHeld (left_of s)) strands.now }
+        requires fits { All (AllRowsFit (tiling_of tiling.now)) strands.now }
+        ensures { IfOk result (λ same. IsTrue same
+            → All (AllHaveKey (tiling_of tiling.now) other.now) strands.now) }
+    {
+        for strand in strands {
+            if !self.is_of_strand(other, tiling, strand)? {
+                return Ok(false);
+            }
+        }
+        Ok(true)
     }
 }

@@ -1,5 +1,5 @@
--- The instances of a stretch by their places in it, and what a key tells of all of them.
-use Rattle.std.specs.Prelude.{◌≤◌, ℕ, ℤ, pos, List, length, take}
+-- The instances of a stretch by their places in it, what a key tells of all of them, and braids of whole rounds.
+use Rattle.std.specs.Prelude.{◌≡◌, ◌≤◌, ℕ, ℤ, pos, List, length, take, All}
 use Rattle.whole_numbers.specs.Lists.{multiples, sums}
 use Rattle.scop_syntax.specs.Members.{In}
 use Rattle.scop_syntax.specs.View.{instance_of}
@@ -8,6 +8,7 @@ use Rattle.loop_tree.specs.SpotView.{IsSpotOf, to_come}
 use Rattle.loop_tree.specs.Stretches.{left_of}
 use Rattle.loop_tree.specs.Tiling.{Tiling}
 use Rattle.loop_tree.specs.Tree.{Trees}
+use Rattle.loop_tree.specs.declared.braid.Braid.{Braid}
 use Rattle.loop_tree.specs.declared.spot.Spot.{Spot}
 use Rattle.loop_tree.specs.declared.stretch.Stretch.{Stretch}
 use Rattle.tile_list.specs.Tiles.{RowsFit}
@@ -24,13 +25,22 @@ steps_on n turns steps k = record { number = n; turns = sums turns (multiples (p
 abbrev pub instance_at : Stretch → ℕ → Instance
 instance_at s k = steps_on s.before.statement (instance_of s.before).turns (take s.before.loops s.steps) k
 
--- the rows fit at each instance that is left of a stretch
+-- the rows fit at each of these instances
+abbrev pub AllFit : Tiling → List Instance → Type 0
+AllFit tiling xs = (x : Instance) → In x xs → RowsFit tiling x
+
+-- at each instance that is left of a stretch
 abbrev pub AllRowsFit : Tiling → Stretch → Type 0
-AllRowsFit tiling s = (x : Instance) → In x (left_of s) → RowsFit tiling x
+AllRowsFit tiling s = AllFit tiling (left_of s)
 
 -- each instance that is left of a stretch lies in the tile whose key is given
 abbrev pub AllHaveKey : Tiling → Key → Stretch → Type 0
 AllHaveKey tiling key s = (y : Instance) → In y (left_of s) → HasKey tiling key y
+
+-- so many rounds are left of a braid, the first strand of which is next
+pub record HasRounds (b : Braid) (rounds : ℕ) : Type 0 where
+  pub turn : b.at ≡ 0
+  pub lefts : All (λ s. s.left ≡ rounds) (take b.count b.strands)
 
 -- the spot has gone on, and what it passed is in the tiles
 pub record Passes (tiling : Tiling) (passed spot : Spot) (old new : Cut) : Type 0 where

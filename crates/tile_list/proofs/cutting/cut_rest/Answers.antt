@@ -5,8 +5,8 @@ use Rattle.loop_tree.specs.View.{trees_in}
 use Rattle.tile_list.proofs.WholeLists.{left_fits, taken_next, taken_visited}
 use Rattle.tile_list.proofs.cutting.cut_rest.Goals as goal
 
-pub take_stretch-requires-clause-fits : goal.take_stretch-requires-clause-fits
-take_stretch-requires-clause-fits c =
+pub take_rest-requires-clause-fits : goal.take_rest-requires-clause-fits
+take_rest-requires-clause-fits c =
     let ts = trees_in c.args.tree.now in
     let params = c.args.params.now in
     left_fits ts params (tiling_of c.args.tiling.now) c.args.spot.now c.in_ok-cut.cut c.requires.fits
@@ -17,8 +17,8 @@ loop-instance-init c =
     let ts = trees_in c.args.tree.now in
     let params = c.args.params.now in
     record {
-      spot = c.in_ok-take_stretch.ensures.spots ts params c.requires.spot;
-      cut = c.in_ok-take_stretch.ensures.cut ts params
+      spot = c.in_ok-take_rest.ensures.spots ts params c.requires.spot;
+      cut = c.in_ok-take_rest.ensures.cut ts params
           (c.in_ok-cut.ensures.cut_is ts params c.requires.spot c.requires.first);
     }
 
@@ -31,8 +31,8 @@ take-requires-clause-fits c =
     (taken_visited ts params (tiling_of c.args.tiling.now) x (to_come ts params c.loop-instance.spot)
     (to_come ts params c.next.new.self) c.loop-instance.cut c.in-Some.ensures.rest c.loop-instance.invariant.cut)
 
-pub take_stretch-requires-in-Some-clause-fits : goal.take_stretch-requires-in-Some-clause-fits
-take_stretch-requires-in-Some-clause-fits c =
+pub take_rest-requires-in-Some-clause-fits : goal.take_rest-requires-in-Some-clause-fits
+take_rest-requires-in-Some-clause-fits c =
     let ts = trees_in c.args.tree.now in
     let params = c.args.params.now in
     let tiling = tiling_of c.args.tiling.now in
@@ -46,8 +46,8 @@ loop-instance-preserved c =
     let ts = trees_in c.args.tree.now in
     let params = c.args.params.now in
     record {
-      spot = c.in_ok-take_stretch-2.ensures.spots ts params c.in-Some.ensures.spot;
-      cut = c.in_ok-take_stretch-2.ensures.cut ts params
+      spot = c.in_ok-take_rest-2.ensures.spots ts params c.in-Some.ensures.spot;
+      cut = c.in_ok-take_rest-2.ensures.cut ts params
           (taken_next ts params (tiling_of c.args.tiling.now) (instance_of c.in-Some.instance)
           (to_come ts params c.loop-instance.spot) c.next.new.self c.loop-instance.cut c.take.new.self
           c.in-Some.ensures.rest c.requires.rise c.in-Some.ensures.spot c.in_ok-take.ensures
