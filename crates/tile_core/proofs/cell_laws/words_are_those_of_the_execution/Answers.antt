@@ -1,6 +1,5 @@
-use Rattle.std.proofs.Common.{◌≡◌, List, ℕ, ◌∙◌, map, subst}
+use Rattle.std.proofs.Common.{List, ℕ, ◌∙◌, map, subst}
 use Rattle.scop_syntax.specs.Execution.{cell_number}
-use Rattle.tile_events.specs.Flat.{flat}
 use Rattle.tile_events.specs.Rule.{core}
 use Rattle.tile_events.specs.Sound.{Sound}
 use Rattle.tile_events.proofs.Words.{word_of_cell}
