@@ -14,15 +14,11 @@ use Rattle.tile_events.specs.Sound.{all_passed, is_done}
 pub none_done : (visits : List Visit) (p : Plan) (s : State) (c : Cell) → s.claims ≡ 0
     → HasNoWriter visits (is_done p s) c
 none_done visits p s c none j w found over writes =
-    nothing (le-ltb (p.tile j) s.claims (omega (arith, none))) over
+    not_both (nat_lt (p.tile j) s.claims) (le-ltb (p.tile j) s.claims (omega (arith, none))) over
   where
-    nothing : nat_lt (p.tile j) s.claims ≡ false
-        → (nat_lt (p.tile j) s.claims && all_passed s.workers (p.tile j) (p.position j)) ≡ true → ⊥
-    nothing e h = absurd (not_both (nat_lt (p.tile j) s.claims) e h)
-      where
-        not_both : (b : Bool) → b ≡ false → (b && all_passed s.workers (p.tile j) (p.position j)) ≡ true → ⊥
-        not_both true e h = absurd e
-        not_both false e h = absurd h
+    not_both : (b : Bool) → b ≡ false → (b && all_passed s.workers (p.tile j) (p.position j)) ≡ true → ⊥
+    not_both true e h = absurd cc
+    not_both false e h = absurd cc
 
 -- behind the last place there is none
 pub last_done : (visits : List Visit) (done : ℕ → Bool) (c : Cell) (i : ℕ) (v : Visit) → suc i ≡ length visits
