@@ -1,15 +1,18 @@
 //! A caller of the top call: each of its clauses follows from one field of `Answered`, with what that field speaks of
 //! written out. So one of these fields that is emptied fails here, and so does a definition under it, but for those
 //! that are named here: which input is accepted or spells a kernel, what is asked for, what a generated kernel leaves,
-//! what the search finds or stops at (`IsSearched`, `IsCauseOf`), and what the trees of a plan are (`ArePlanned`).
+//! what the search finds or stops at (`IsSearched`, `IsCauseOf`), and what the trees of a plan are (`ArePlanned`), of
+//! which it is written out alone that tiled loops are marked parallel.
 
-ghost use Rattle.std.specs.Prelude.{◌≡◌, ◌≢◌, ◌⊎◌, ◌≤◌, ◌++◌, ℕ, true, false, List, [], Option, Some, map};
+ghost use Rattle.std.specs.Prelude.{◌≡◌, ◌≢◌, ◌⊎◌, ◌≤◌, ◌++◌, ℕ, ℤ, true, false, List, [], Option, Some, map};
 ghost use Rattle.std.specs.Prelude.{string_bytes};
 ghost use Rattle.std.specs.Io.KnownBytes.{Appends};
 ghost use Rattle.io_ports.specs.Bytes.{GainsFront, IsAllOf};
 ghost use Rattle.io_ports.specs.Faults.{Rose};
 ghost use Rattle.io_ports.specs.Writes.{SinkShows};
 ghost use Rattle.scop_syntax.specs.Execution.{exec};
+ghost use Rattle.scop_syntax.specs.Limits.{HasParameters};
+ghost use Rattle.scop_syntax.specs.Members.{In};
 ghost use Rattle.scop_syntax.specs.Tree.{Program};
 ghost use Rattle.scop_parser.specs.Spelling.{SpellsProgram};
 ghost use Rattle.data_lines.specs.declared.refusal.DataRefusal.{DataRefusal};
@@ -19,9 +22,10 @@ ghost use Rattle.dataflow.specs.ReadSources.{AreSources, NameLastWriters, reads_
 ghost use Rattle.dataflow.specs.Told.{AreTold};
 ghost use Rattle.dataflow.specs.declared.source.ReadSource.{ReadSource};
 ghost use Rattle.report_text.specs.Items.{Block};
-ghost use Rattle.loop_tree.specs.Plans.{walked};
-ghost use Rattle.loop_tree.specs.Tiling.{Tiling};
+ghost use Rattle.loop_tree.specs.Plans.{first_coordinate, has_rows, walked};
+ghost use Rattle.loop_tree.specs.Tiling.{Items, Tiling, items_at, tiled};
 ghost use Rattle.loop_tree.specs.Tree.{Trees};
+ghost use Rattle.loop_tree.specs.Walk.{Visit, walk_all};
 ghost use Rattle.tile_list.specs.Counting.{HasTiles, HasWaves};
 ghost use Rattle.c_printer.specs.Nodes.{text_of};
 ghost use Rattle.kernel_gen.specs.Cases as cases;
@@ -90,7 +94,10 @@ pub fn answered_call<S: Source, O: Sink, E: Sink>(
         → (input : List ℕ) × (kernel : Spelled input) × (plan : Tiling) × (trees : Trees) × (lines : List ℕ)
         × IsAllOf (S.shows source.old).left input × ArePlanned tile budget false kernel.program plan lines trees
         × Appends (O.shows out.old).taken (O.shows out.new).taken (text_of kernel.program trees)
-        × Appends (E.shows err.old).taken (E.shows err.new).taken lines }
+        × Appends (E.shows err.old).taken (E.shows err.new).taken lines
+        × ((params : List ℤ) (size : ℕ) (statements : List Items) → HasParameters kernel.program params
+        → plan ≡ tiled size statements → has_rows statements ≡ true → (v : Visit) → In v (walk_all trees params [])
+        → v.parallel ≡ first_coordinate size (items_at statements v.number).band v.turns) }
     ensures summary { (g : GeneratedKernel) (options : RunOptions)
         → IsGenCommand g options (map string_bytes words.now) → result ≡ Done
         → (plan : Tiling) × (trees : Trees) × (lines : List ℕ) × (tiles : ℕ) × (waves : ℕ)

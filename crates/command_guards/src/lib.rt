@@ -6,17 +6,24 @@
 
 pub mod calls;
 
-ghost use Rattle.std.specs.Prelude.{All, ◌≡◌, ◌⊎◌, ◌<◌, ◌^◌, ℕ, [], List, Option};
+ghost use Rattle.std.specs.Prelude.{All, ◌≡◌, ◌⊎◌, ◌<◌, ◌^◌, ℕ, ℤ, [], List, Option, Some, map};
 ghost use Rattle.clap.specs.Words.{fault_of};
 ghost use Rattle.io_ports.specs.Reads.{SourceShows};
 ghost use Rattle.io_ports.specs.Writes.{SinkShows};
-ghost use Rattle.scop_syntax.specs.Execution.{IsShaped, layout};
-ghost use Rattle.scop_syntax.specs.Limits.{WithinLimits};
+ghost use Rattle.scop_syntax.specs.Cells.{PlacesConflict};
+ghost use Rattle.scop_syntax.specs.Execution.{IsInside, IsShaped, exec, layout, performed_all};
+ghost use Rattle.scop_syntax.specs.Limits.{HasParameters, WithinLimits};
 ghost use Rattle.scop_syntax.specs.Members.{In};
 ghost use Rattle.scop_syntax.specs.Tree.{Program};
+ghost use Rattle.scop_syntax.specs.Walk.{Visit as Walked, instance, walk_of};
 ghost use Rattle.scop_parser.specs.Spelling.{SpellsProgram};
 ghost use Rattle.data_text.specs.Cases.{Says};
 ghost use Rattle.data_text.specs.Written.{case_text};
+ghost use Rattle.loop_tree.specs.Plans.{AreFree, Conflict, walked};
+ghost use Rattle.loop_tree.specs.Runs.{MayRunAll};
+ghost use Rattle.loop_tree.specs.Tree.{Trees};
+ghost use Rattle.loop_tree.specs.Walk.{Visit, given, visits, walk_all};
+ghost use Rattle.c_printer.specs.Reading.{read_text};
 ghost use Rattle.report_text.specs.declared.status.Status.TheVariants.{Done};
 ghost use Rattle.report_text.specs.declared.status.Status.{Status};
 ghost use Rattle.polypar.specs.Answered.{Answered, HasLines, PrintsText, PrintsTold};
@@ -25,8 +32,10 @@ ghost use Rattle.command_line.specs.Command.{NamesCommand, NamesNoKind, command_
 ghost use Rattle.command_line.specs.Stated.{tool};
 ghost use Rattle.polypar.specs.Deserves.{Deserves, IsVerdict};
 ghost use Rattle.polypar.specs.Emitting.{ReadsAsLoops};
-ghost use Rattle.polypar.specs.Running.{RunsKernel};
+ghost use Rattle.polypar.specs.Executions.{AreVisitsOf};
+ghost use Rattle.polypar.specs.Orders.{IsOrderOf};
 ghost use Rattle.polypar.specs.Sources.{TellsLastWrites};
+ghost use Rattle.polypar.specs.Trees.{StandInOrder};
 
 use command_line::{other_kinds_alone_are_not_taken, taken_words_name_a_command};
 use polypar::{
@@ -78,12 +87,26 @@ pub fn loops_of_tiles_of_size_1()
     printed_loops_are_read_back();
 }
 
-/// What these do, by the clause of `printed_loops_run_the_kernel`.
+/// What these do, by the clause of `printed_loops_run_the_kernel`, with what it says of the trees that are read of the
+/// text written out.
 pub fn runs_of_tiles_of_size_1()
     ensures { (words : List (List ℕ)) (budget : ℕ) (source source_after : SourceShows)
         (out out_after err err_after : SinkShows)
         → Answered words Done source source_after out out_after err err_after → IsEmitCommand 1 budget words
-        → PrintsText RunsKernel source.left out.taken out_after.taken }
+        → PrintsText (λ program text. (ts : Trees) × (read_text program text ≡ Some ts)
+        × ((params : List ℤ) → HasParameters program params
+        → MayRunAll ts params [] (walk_all ts params [])
+        × ((run : List Visit) → MayRunAll ts params [] run
+        → IsOrderOf (map given run) (walked program params)
+        × ((order : List Walked) × AreVisitsOf program params (map given run) order))
+        × ((i j : ℕ) (c : PlacesConflict (walk_of program params) i j)
+        → StandInOrder (visits ts params) (instance c.earlier) (instance c.later))
+        × AreFree (Conflict program params) ts params []
+        × ((contents : List (List ℕ)) (run : List Visit) (order : List Walked) → IsInside program params
+        → IsShaped (layout program params) contents → MayRunAll ts params [] run
+        → AreVisitsOf program params (map given run) order
+        → performed_all (layout program params) contents order ≡ exec program params contents)))
+        source.left out.taken out_after.taken }
 {
     printed_loops_run_the_kernel();
 }

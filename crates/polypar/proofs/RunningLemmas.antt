@@ -28,6 +28,9 @@ pub record Laws : Type 0 where
       → IsInside program params → IsShaped (layout program params) contents → MayRunAll ts params [] run
       → AreVisitsOf program params (map given run) order
       → performed_all (layout program params) contents order ≡ exec program params contents
+  pub visits_of : (program : Program) (params : List ℤ) (plan : Tiling) (ts : Trees) (run : List Visit)
+      → AreTreesOf program plan ts → HasParameters program params → MayRunAll ts params [] run
+      → (order : List Walked) × AreVisitsOf program params (map given run) order
   pub once : (program : Program) (params : List ℤ) (plan : Tiling) (ts : Trees) (run : List Visit)
       → AreTreesOf program plan ts → HasParameters program params → MayRunAll ts params [] run
       → IsOrderOf (map given run) (walked program params)
@@ -37,7 +40,9 @@ pub record Laws : Type 0 where
 trees_run : Laws → (program : Program) (params : List ℤ) (plan : Tiling) (ts : Trees) → AreTreesOf program plan ts
     → HasParameters program params → RunKernel program params ts
 trees_run laws program params plan ts is has = record {
-  once = laws.once program params plan ts (walk_all ts params []) is has (laws.walk ts params);
+  walk = laws.walk ts params;
+  once = λ run runs. laws.once program params plan ts run is has runs;
+  walked_visits = λ run runs. laws.visits_of program params plan ts run is has runs;
   in_order = laws.in_order program params plan ts is.even (is.carry_out params has);
   free = (is.carry_out params has).free;
   arrays = λ contents run order inside shaped runs visits.

@@ -11,5 +11,8 @@ pub mod Runs
 pub mod Sources
 pub mod Told
 -- Passed on: what this crate's contracts are told in.
+pub use Rattle.conflict_orders.specs.Orders
+pub use Rattle.kernel_plans.specs.Executions
 pub use Rattle.kernel_plans.specs.Planned
 pub use Rattle.kernel_plans.specs.Planning
+pub use Rattle.kernel_plans.specs.Trees

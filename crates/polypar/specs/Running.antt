@@ -9,19 +9,26 @@ use Rattle.conflict_orders.specs.Orders.{IsOrderOf}
 use Rattle.loop_tree.specs.Plans.{AreFree, Conflict, walked}
 use Rattle.loop_tree.specs.Runs.{MayRunAll}
 use Rattle.loop_tree.specs.Tree.{Trees}
-use Rattle.loop_tree.specs.Walk.{Visit, given, visits}
+use Rattle.loop_tree.specs.Walk.{Visit, given, visits, walk_all}
 use Rattle.kernel_plans.specs.Executions.{AreVisitsOf}
 use Rattle.kernel_plans.specs.Trees.{StandInOrder}
 use Rattle.c_printer.specs.Reading.{read_text}
 
--- trees that run the kernel at these parameters: they visit each walked instance once; of two places of the walk that
--- conflict, the earlier one's instance first; at each execution of a parallel loop, instances of two iterations do not
--- conflict; and in whichever order these are interleaved, the arrays are those of the source's own execution
+-- trees that run the kernel at these parameters
 pub record RunKernel (program : Program) (params : List ℤ) (ts : Trees) : Type 0 where
-  pub once : IsOrderOf (visits ts params) (walked program params)
+  -- the order of the trees' own visits is one that an execution may have
+  pub walk : MayRunAll ts params [] (walk_all ts params [])
+  -- in whichever order an execution interleaves the iterations of parallel loops, it visits each walked instance once
+  pub once : (run : List Visit) → MayRunAll ts params [] run → IsOrderOf (map given run) (walked program params)
+  -- and these are visits of the walk
+  pub walked_visits : (run : List Visit) → MayRunAll ts params [] run
+      → (order : List Walked) × AreVisitsOf program params (map given run) order
+  -- of two places of the walk that conflict, the trees visit the earlier one's instance first
   pub in_order : (i j : ℕ) (c : PlacesConflict (walk_of program params) i j)
       → StandInOrder (visits ts params) (instance c.earlier) (instance c.later)
+  -- at each execution of a parallel loop, instances of two iterations do not conflict
   pub free : AreFree (Conflict program params) ts params []
+  -- performed in the order of any execution, the visits leave the arrays of the source's own execution
   pub arrays : (contents : List (List ℕ)) (run : List Visit) (order : List Walked) → IsInside program params
       → IsShaped (layout program params) contents → MayRunAll ts params [] run
       → AreVisitsOf program params (map given run) order

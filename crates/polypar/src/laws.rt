@@ -67,9 +67,10 @@ pub fn printed_loops_are_read_back()
 }
 
 /// What `emit` prints runs the kernel: at Done some input, which is all that the source told, spells a kernel, and `out`
-/// has gained exactly a text that is read as loop trees which for all parameters in 0..=65536 visit each walked
-/// instance once, of two that conflict the earlier first, whose parallel loops are free of conflicts, and which leave
-/// the arrays of the source's own execution, in whichever order the iterations of those loops are interleaved.
+/// has gained exactly a text that is read as loop trees which for all parameters in 0..=65536 visit of two instances
+/// that conflict the earlier first, whose parallel loops are free of conflicts, and which visit each walked instance
+/// once and leave the arrays of the source's own execution, in whichever order the iterations of those loops are
+/// interleaved.
 pub fn printed_loops_run_the_kernel()
     ensures { (words : List (List ℕ)) (tile budget : ℕ) (source source_after : SourceShows)
         (out out_after err err_after : SinkShows)

@@ -1,2 +1,3 @@
 pub mod SmallPlans
 pub mod ThreeTiles
+pub mod LastPlaces

@@ -4,6 +4,7 @@
 //! each array holds what the program's own execution leaves there. Nothing is built on this crate.
 #![tactic(auto)]
 
+pub mod cells;
 pub mod cores;
 pub mod events;
 pub mod generated;

@@ -20,6 +20,7 @@ use Rattle.tile_events.specs.Flat.{AreMarked, IsWalk, flat, is_marked, read_by, 
 use Rattle.tile_events.specs.Plan as events
 use Rattle.tile_events.specs.Plan.{GoodPlan, IsDealt, Touch}
 use Rattle.tile_events.proofs.Covers.{ordered_by_waves}
+use Rattle.tile_events.proofs.Flat.{none_marked}
 use Rattle.tile_core.specs.Plans.{IsPlan, deal_of, extents_in, plan_of, program_in, scan_in, shape_of, sizes_of}
 use Rattle.tile_core.specs.Plans.{walk_in}
 use Rattle.tile_core.specs.Ranks.{start_at}
@@ -81,10 +82,6 @@ pub walk_over : (plan : Plan) (contents : List (List ℕ))
     → IsWalk (extents_in plan) contents [] (walk_in plan) (plan_of plan (flat contents))
 walk_over plan contents initial =
     record { written = λ j. refl; read = λ j. refl; adds = λ c is. refl; value = λ j xs. refl; initial = initial }
-
--- no array is marked
-pub none_marked : (visits : List Visit) → AreMarked [] visits
-none_marked visits = record { sums = λ v i e. absurd cc; others = λ v a i h. refl }
 
 walk_is : (plan : Plan) → IsWalk (extents_in plan) [] [] (walk_in plan) (shape_of plan)
 walk_is plan = walk_over plan [] (λ c is. refl)

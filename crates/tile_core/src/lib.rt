@@ -5,6 +5,7 @@
 #![tactic(auto)]
 
 pub mod board;
+pub mod cell_laws;
 pub mod cores;
 pub mod plan;
 pub mod plan_laws;

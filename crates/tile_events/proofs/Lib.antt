@@ -18,3 +18,4 @@ pub mod Covers
 pub mod Copies
 pub mod WalkCovers
 pub mod Flat
+pub mod DonePlaces

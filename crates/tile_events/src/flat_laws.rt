@@ -1,12 +1,13 @@
 //! Laws that tie a plan to the walk of a program, as contracts of functions that call the law which their proofs use.
-ghost use Rattle.std.specs.Prelude.{◌≡◌, ℕ, ◌≤◌, List, [], length, map, slice_get, slice_index_or, Some, false};
+ghost use Rattle.std.specs.Prelude.{◌≡◌, ℕ, ◌≤◌, Bool, List, [], length, map, slice_get, slice_index_or, Some, false};
 ghost use Rattle.scop_syntax.specs.Walk.{Visit};
 ghost use Rattle.scop_syntax.specs.Cells.{Cell, Conflict, cell_of};
 ghost use Rattle.scop_syntax.specs.Execution.{AreInside, IsCell, IsShaped, before_place, cell_number, held};
-ghost use Rattle.scop_syntax.specs.Execution.{performed_all};
+ghost use Rattle.scop_syntax.specs.Execution.{performed_all, value_stored_by};
 ghost use Rattle.tile_events.specs.Covers.{Covers, IsCover};
+ghost use Rattle.tile_events.specs.DonePlaces.{HasNoWriter, IsLastWriter};
 ghost use Rattle.tile_events.specs.Flat.{AreMarked, IsWalk, flat, is_marked, loads};
-ghost use Rattle.tile_events.specs.Plan.{Plan, Touch, before, values_read};
+ghost use Rattle.tile_events.specs.Plan.{Plan, Touch, before, values_read, words_of};
 
 use scop_syntax::execution_laws::cells_have_numbers_of_their_own;
 
@@ -28,6 +29,22 @@ pub fn plans_execute_the_walk()
         → IsWalk extents contents marked visits p → AreMarked marked visits → AreInside extents visits
         → (i j : ℕ) (v w : Visit) → slice_get visits i ≡ Some v → slice_get visits j ≡ Some w → Touch p i j
         → (a : ℕ) × (b : ℕ) × (c : Conflict v a w b) × (is_marked marked c.first.array ≡ false) }
+{
+    cells_have_numbers_of_their_own();
+}
+
+/// Where no array is marked and some places are done, a cell holds what the last of them that writes it stores in the
+/// walk's own execution, and what it held at first where none does.
+pub fn cells_hold_what_is_done()
+    ensures last { (extents contents : List (List ℕ)) (visits : List Visit) (p : Plan) (done : ℕ → Bool)
+        → IsWalk extents contents [] visits p → IsShaped extents contents → AreInside extents visits
+        → (c : Cell) (i : ℕ) (v : Visit) → IsCell extents c → IsLastWriter visits done c i v
+        → words_of p done (length visits) (cell_number extents c)
+        ≡ value_stored_by extents (before_place extents contents visits i) v.body v.point }
+    ensures first { (extents contents : List (List ℕ)) (visits : List Visit) (p : Plan) (done : ℕ → Bool)
+        → IsWalk extents contents [] visits p → AreInside extents visits
+        → (c : Cell) → IsCell extents c → HasNoWriter visits done c
+        → words_of p done (length visits) (cell_number extents c) ≡ held extents contents c }
 {
     cells_have_numbers_of_their_own();
 }

@@ -1,8 +1,10 @@
 use Rattle.command_guards.proofs.CallLemmas.{data_line, faulted, reported}
-use Rattle.std.proofs.Common.{◌∙◌, append-nil, map, subst}
+use Rattle.std.proofs.Common.{◌∙◌, append-nil, false, map, subst}
 use Rattle.std.specs.Prelude.{string_bytes}
 use Rattle.std.specs.Io.KnownBytes.{Appends}
+use Rattle.loop_tree.specs.Plans.{AreMarked}
 use Rattle.polypar.specs.Answered.{HasLines}
+use Rattle.polypar.proofs.ReadingLemmas.{planned_carried}
 use Rattle.command_guards.proofs.calls.answered_call.Goals as goal
 
 pub returns-clause-arrays : goal.returns-clause-arrays
@@ -47,6 +49,10 @@ returns-clause-loops g c = λ tile budget is done.
       prints.4.planned,
       subst (λ text. Appends old new text) prints.4.text prints.5,
       prints.6,
+      λ params size statements has is some.
+          (subst (λ plan. AreMarked plan prints.4.trees params) is
+          ((planned_carried tile budget false prints.1.program prints.4.plan prints.2.lines prints.4.trees
+          prints.4.planned).carry_out params has).marked).0 some,
     )
 
 pub returns-clause-summary : goal.returns-clause-summary

@@ -9,6 +9,7 @@ returns c = λ words tile budget source source_after out out_after err err_after
     let laws : Laws = record {
       in_order = c.trees_keep_conflicts_in_order.ensures;
       ends = c.loops_end_as_the_source_does.ensures.ends;
+      visits_of = c.loops_end_as_the_source_does.ensures.visits;
       once = c.loops_end_as_the_source_does.ensures.once;
       walk = c.loops_end_as_the_source_does.ensures.walk;
     } in (

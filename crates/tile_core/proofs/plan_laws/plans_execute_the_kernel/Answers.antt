@@ -2,7 +2,8 @@ use Rattle.std.proofs.Common.{arith, ◌∙◌, ◌≤◌, [], length}
 use Rattle.std.proofs.lemmas.Option.{slice_get_within}
 use Rattle.tile_events.specs.Flat.{flat}
 use Rattle.tile_core.specs.Plans.{extents_in, plan_of, walk_in}
-use Rattle.tile_core.proofs.Plans.{none_marked, walk_over}
+use Rattle.tile_core.proofs.Plans.{walk_over}
+use Rattle.tile_events.proofs.Flat.{none_marked}
 use Rattle.tile_core.proofs.plan_laws.plans_execute_the_kernel.Goals as goal
 
 pub returns-clause-reads : goal.returns-clause-reads

@@ -1,0 +1,55 @@
+//! What a cell holds between any two events of a run, in the words of the kernel's own execution.
+ghost use Rattle.std.specs.Prelude.{◌≡◌, ℕ, ◌+◌, List, map, slice_index, slice_index_or};
+ghost use Rattle.atomic_table.specs.Table as table;
+ghost use Rattle.scop_syntax.specs.Cells.{Cell};
+ghost use Rattle.scop_syntax.specs.Execution.{IsCell, IsShaped, before_place, cell_number, held, value_stored_by};
+ghost use Rattle.scop_syntax.specs.Walk.{Visit};
+ghost use Rattle.tile_events.specs.Core.{State};
+ghost use Rattle.tile_events.specs.DonePlaces.{HasNoWriter, IsLastWriter};
+ghost use Rattle.tile_events.specs.Flat.{flat};
+ghost use Rattle.tile_events.specs.Rule.{core};
+ghost use Rattle.tile_events.specs.Sound.{Sound, is_done};
+ghost use Rattle.tile_core.specs.Plans.{IsPlan, extents_in, plan_of, shape_of, walk_in};
+ghost use Rattle.tile_core.specs.Views.{Ruled, worker_in};
+ghost use Rattle.tile_core.specs.declared.plan.Plan.{Plan};
+ghost use Rattle.tile_core.specs.declared.view.Key.{Key};
+ghost use Rattle.tile_core.specs.declared.view.View.{View};
+
+use scop_syntax::execution_laws::cells_have_numbers_of_their_own;
+use tile_events::flat_laws::{cells_hold_what_is_done, plans_execute_the_walk};
+
+/// In a sound state of a plan over the arrays' contents one behind another, a cell holds the value that the last done
+/// instance which writes it stores in the kernel's own execution, and what it held at first where no done one does.
+pub fn cells_are_those_of_the_execution()
+    ensures last { (plan : Plan) (contents : List (List ℕ)) (s : State) (c : Cell) (i : ℕ) (v : Visit)
+        → IsPlan plan → IsShaped (extents_in plan) contents → Sound (plan_of plan (flat contents)) s
+        → IsCell (extents_in plan) c → IsLastWriter (walk_in plan) (is_done (shape_of plan) s) c i v
+        → slice_index_or s.cells (cell_number (extents_in plan) c) 0
+        ≡ value_stored_by (extents_in plan) (before_place (extents_in plan) contents (walk_in plan) i) v.body v.point }
+    ensures first { (plan : Plan) (contents : List (List ℕ)) (s : State) (c : Cell)
+        → IsPlan plan → IsShaped (extents_in plan) contents → Sound (plan_of plan (flat contents)) s
+        → IsCell (extents_in plan) c → HasNoWriter (walk_in plan) (is_done (shape_of plan) s) c
+        → slice_index_or s.cells (cell_number (extents_in plan) c) 0 ≡ held (extents_in plan) contents c }
+{
+    plans_execute_the_walk();
+    cells_hold_what_is_done();
+    cells_have_numbers_of_their_own();
+}
+
+/// The same of the words of a run, between any two steps.
+pub fn words_are_those_of_the_execution()
+    ensures last { (key : Key) (st : table.State (Unit {0}) View) (contents : List (List ℕ)) (c : Cell) (i : ℕ) (v : Visit)
+        → Ruled key st → IsPlan key.plan → IsShaped (extents_in key.plan) contents → key.cells.items ≡ flat contents
+        → IsCell (extents_in key.plan) c
+        → IsLastWriter (walk_in key.plan) (is_done (shape_of key.plan) (core st.words (map worker_in st.views))) c i v
+        → slice_index st.words (cell_number (extents_in key.plan) c + 2)
+        ≡ value_stored_by (extents_in key.plan) (before_place (extents_in key.plan) contents (walk_in key.plan) i)
+        v.body v.point }
+    ensures first { (key : Key) (st : table.State (Unit {0}) View) (contents : List (List ℕ)) (c : Cell)
+        → Ruled key st → IsPlan key.plan → IsShaped (extents_in key.plan) contents → key.cells.items ≡ flat contents
+        → IsCell (extents_in key.plan) c
+        → HasNoWriter (walk_in key.plan) (is_done (shape_of key.plan) (core st.words (map worker_in st.views))) c
+        → slice_index st.words (cell_number (extents_in key.plan) c + 2) ≡ held (extents_in key.plan) contents c }
+{
+    cells_are_those_of_the_execution();
+}

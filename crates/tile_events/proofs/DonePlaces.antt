@@ -1,0 +1,68 @@
+-- What a cell holds where some places are done, in the words of the walk's own execution.
+use Rattle.std.proofs.Common.{◌≡◌, ◌≢◌, ℕ, zero, suc, ◌<◌, ◌≤◌, ◌&&◌, Bool, true, false, List, [], length, Some, ap, sym}
+use Rattle.std.proofs.Common.{refl, ◌∙◌, subst, arith}
+use Rattle.std.specs.Prelude.{slice_get, nat_eq}
+use Rattle.std.proofs.lemmas.Bool.{eq-eqb, ne_eqb}
+use Rattle.std.proofs.lemmas.Option.{slice_get_within}
+use Rattle.scop_syntax.specs.Cells.{Cell, written}
+use Rattle.scop_syntax.specs.Execution.{AreInside, IsCell, IsShaped, before_place, cell_number, held, value_stored_by}
+use Rattle.scop_syntax.specs.Walk.{Visit}
+use Rattle.scop_syntax.proofs.Members.{nat_cases}
+use Rattle.scop_syntax.proofs.Writers.{visit_at, written_inside}
+use Rattle.tile_events.specs.DonePlaces.{HasNoWriter, IsLastWriter}
+use Rattle.tile_events.specs.Flat.{IsWalk, value_by, written_by}
+use Rattle.tile_events.specs.Plan.{Plan, stored, values_read, words_of}
+use Rattle.tile_events.proofs.Flat.{AreApart, flat_values, none_marked}
+
+-- a place is passed over that is not done or writes another cell
+passed_over : (b : Bool) (m c : ℕ) → (b ≡ true → m ≢ c) → (b && nat_eq m c) ≡ false
+passed_over true m c h = ne_eqb m c (h refl)
+passed_over false m c h = refl
+
+module _ (p : Plan) (done : ℕ → Bool) (c : ℕ) where
+  -- where no place below n is done and writes the cell, it holds what it held at first
+  none_holds : (n : ℕ) → ((j : ℕ) → j < n → done j ≡ true → p.written j ≢ c) → words_of p done n c ≡ p.initial c
+  none_holds zero h = refl
+  none_holds (suc n) h =
+      rw (passed_over (done n) (p.written n) c (h n (omega arith))) (none_holds n (λ j l. h j (omega (arith, l))))
+
+  -- a cell that is stored to holds what the last done place that writes it stores
+  last_holds : (i n : ℕ) → p.adds c ≡ false → done i ≡ true → p.written i ≡ c → i < n
+      → ((j : ℕ) → i < j → j < n → done j ≡ true → p.written j ≢ c) → words_of p done n c ≡ stored p i
+  last_holds i zero stores is writes l h = absurd (omega (arith, l))
+  last_holds i (suc n) stores is writes l h = nat_cases i n
+      (λ a. rw (passed_over (done n) (p.written n) c (h n a (omega arith)))
+      (last_holds i n stores is writes a (λ j m k. h j m (omega (arith, k)))))
+      (λ a. subst (λ (m : ℕ). words_of p done (suc m) c ≡ stored p i) a
+      (rw (is, eq-eqb (p.written i) c writes, stores) refl))
+      (λ a. absurd (omega (arith, a, l)))
+
+module _ (es contents : List (List ℕ)) (visits : List Visit) (p : Plan) (done : ℕ → Bool) (apart : AreApart es)
+    (walk : IsWalk es contents [] visits p) (inside : AreInside es visits) (c : Cell) (is : IsCell es c) where
+  -- a place that writes the cell's number writes the cell
+  other_cell : (j : ℕ) → j < length visits
+      → ((w : Visit) → slice_get visits j ≡ Some w → written w ≢ c) → p.written j ≢ cell_number es c
+  other_cell j l h e =
+      let w = visit_at visits j l in
+      h w.0 w.1 (apart (written w.0) c (written_inside es visits j w.0 inside w.1) is
+      (sym (walk.written j ∙ ap (written_by es) w.1) ∙ e))
+
+  pub holds_at_first : HasNoWriter visits done c
+      → words_of p done (length visits) (cell_number es c) ≡ held es contents c
+  holds_at_first none =
+      none_holds p done (cell_number es c) (length visits)
+      (λ j l over. other_cell j l (λ w found. none j w found over))
+      ∙ walk.initial c is
+
+  pub holds_the_last : IsShaped es contents → (i : ℕ) (v : Visit) → IsLastWriter visits done c i v
+      → words_of p done (length visits) (cell_number es c)
+      ≡ value_stored_by es (before_place es contents visits i) v.body v.point
+  holds_the_last shape i v last =
+      let within = slice_get_within visits i v last.there in
+      last_holds p done (cell_number es c) i (length visits) (walk.adds c is) last.over
+      (walk.written i ∙ ap (written_by es) last.there ∙ ap (cell_number es) last.writes) within
+      (λ j l k over. other_cell j k (λ w found. last.last j w l found over))
+      ∙ (walk.value i (values_read p i)
+      ∙ (ap (λ o. value_by [] o (values_read p i)) last.there
+      ∙ ap (value_by [] (Some v)) (flat_values es contents [] visits p apart walk (none_marked visits) shape inside
+      i v last.there (omega (arith, within)))))
