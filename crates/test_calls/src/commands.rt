@@ -22,7 +22,7 @@ pub struct Answer {
 }
 
 /// Whether a call ended with this exit status, and its sinks took these bytes.
-fn is_told(answer: Answer, exit: u8, out: &[u8], err: &[u8]) -> bool {
+pub fn is_told(answer: Answer, exit: u8, out: &[u8], err: &[u8]) -> bool {
     let is = answer.status.exit_code() == exit
         && answer.out.taken() == out
         && answer.err.taken() == err;
@@ -81,7 +81,7 @@ fn with_data(alloc: Global, data: &str) -> Result<String, AllocError> {
 }
 
 /// Runs an input over streams in memory that never fail.
-fn run_on(rt: &HostRuntime, input: &[u8]) -> Result<Answer, AllocError> {
+pub fn run_on(rt: &HostRuntime, input: &[u8]) -> Result<Answer, AllocError> {
     let words = words_of(rt.alloc(), &["polypar", "run"])?;
     let mut source = MemSource::of(rt.alloc(), input, 4096, &[])?;
     let mut out = MemSink::of(rt.alloc(), 200, 200, &[])?;
@@ -113,13 +113,20 @@ fn tells_a_source_and_a_sink_that_fail(rt: HostRuntime) -> Result<(), Fail> {
     Ok(())
 }
 
-#[test]
-fn refuses_an_input_that_is_too_long(rt: HostRuntime) -> Result<(), Fail> {
-    let spaces = vec![in rt.alloc(); b' '; 134_217_729]?;
+/// The answer to so many spaces.
+fn answer_to_spaces(rt: &HostRuntime, count: usize) -> Result<Answer, AllocError> {
+    let spaces = vec![in rt.alloc(); b' '; count]?;
     let source = MemSource::of(rt.alloc(), &spaces, 65536, &[])?;
     let out = MemSink::of(rt.alloc(), 9, 9, &[])?;
-    let answer = call(&rt, rt.alloc(), &["polypar", "run"], source, out)?;
-    assert!(rt; is_told(answer, 2, b"", b"refused: TooLong 1:1\n"));
+    call(rt, rt.alloc(), &["polypar", "run"], source, out)
+}
+
+#[test]
+fn refuses_an_input_that_is_too_long(rt: HostRuntime) -> Result<(), Fail> {
+    let last = answer_to_spaces(&rt, 134_217_728)?;
+    assert!(rt; is_told(last, 2, b"", b"refused: Unended 1:134217729\n"));
+    let past = answer_to_spaces(&rt, 134_217_729)?;
+    assert!(rt; is_told(past, 2, b"", b"refused: TooLong 1:1\n"));
     Ok(())
 }
 

@@ -12,6 +12,8 @@ mod error_texts;
 #[cfg(test)]
 mod expressions;
 #[cfg(test)]
+mod failing;
+#[cfg(test)]
 mod forms;
 #[cfg(test)]
 mod generated;
@@ -21,6 +23,8 @@ mod kernels;
 mod loop_trees;
 #[cfg(test)]
 mod made;
+#[cfg(test)]
+mod planning;
 #[cfg(test)]
 mod ports;
 #[cfg(test)]

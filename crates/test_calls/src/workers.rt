@@ -208,20 +208,31 @@ fn reports_tell_schedule_tiles_and_waves(rt: HostRuntime) -> Result<(), Fail> {
     Ok(())
 }
 
-/// A gate that holds the first tile until another one is left, for at most 1,000,000 turns of 1,000 looks each.
+/// Which tile is left before a held one goes on.
+#[derive(Clone, Copy, PartialEq)]
+enum Until {
+    Another,
+    Left(u64),
+}
+
+/// A gate that holds a tile until another one is left, for at most 1,000,000 turns of 1,000 looks each.
 #[derive(Drop)]
-struct HoldsFirst {
+struct Holds {
+    held: u64,
+    until: Until,
     other_left: AtomicBool,
     failed: AtomicBool,
-    entered: [AtomicU64; 4],
-    left: [AtomicU64; 4],
+    entered: [AtomicU64; 6],
+    left: [AtomicU64; 6],
     /// The tile that was left first; 9 before one is.
     first_left: AtomicU64,
 }
 
-/// Four counts of nothing.
-fn zeros() -> [AtomicU64; 4] {
+/// Six counts of nothing.
+fn zeros() -> [AtomicU64; 6] {
     [
+        AtomicU64::new(0),
+        AtomicU64::new(0),
         AtomicU64::new(0),
         AtomicU64::new(0),
         AtomicU64::new(0),
@@ -229,9 +240,11 @@ fn zeros() -> [AtomicU64; 4] {
     ]
 }
 
-impl HoldsFirst {
-    fn new() -> HoldsFirst {
-        HoldsFirst {
+impl Holds {
+    fn of(held: u64, until: Until) -> Holds {
+        Holds {
+            held,
+            until,
             other_left: AtomicBool::new(false),
             failed: AtomicBool::new(false),
             entered: zeros(),
@@ -240,7 +253,7 @@ impl HoldsFirst {
         }
     }
 
-    /// Whether another tile is left within the turns.
+    /// Whether the tile for which the held one waits is left within the turns.
     fn waits(&self) -> bool {
         for _ in 0..1_000_000 {
             for _ in 0..1_000 {
@@ -251,14 +264,22 @@ impl HoldsFirst {
         }
         false
     }
+
+    /// Whether the held one goes on where this one is left.
+    fn lets_go(&self, tile: u64) -> bool {
+        match self.until {
+            Until::Another => tile != self.held,
+            Until::Left(other) => tile == other,
+        }
+    }
 }
 
-impl Gate for HoldsFirst {
+impl Gate for Holds {
     fn enter(&self, tile: u64) {
-        if tile < 4 {
+        if tile < 6 {
             self.entered[tile as usize].fetch_add(1, Ordering::SeqCst);
         }
-        if tile == 0 && !self.waits() {
+        if tile == self.held && !self.waits() {
             self.failed.store(true, Ordering::SeqCst);
         }
     }
@@ -267,18 +288,18 @@ impl Gate for HoldsFirst {
         let _ = self
             .first_left
             .compare_exchange(9, tile, Ordering::SeqCst, Ordering::SeqCst);
-        if tile < 4 {
+        if tile < 6 {
             self.left[tile as usize].fetch_add(1, Ordering::SeqCst);
         }
-        if tile != 0 {
+        if self.lets_go(tile) {
             self.other_left.store(true, Ordering::SeqCst);
         }
     }
 }
 
-/// Whether each of these is 1.
-fn are_ones(counts: &[AtomicU64; 4]) -> bool {
-    for count in counts {
+/// Whether each of the first of these is 1.
+fn are_ones(counts: &[AtomicU64; 6], first: usize) -> bool {
+    for count in counts.iter().take(first) {
         if count.load(Ordering::SeqCst) != 1 {
             return false;
         }
@@ -288,14 +309,139 @@ fn are_ones(counts: &[AtomicU64; 4]) -> bool {
 
 #[test]
 fn two_workers_run_at_once(rt: HostRuntime) -> Result<(), Fail> {
-    let gate = HoldsFirst::new();
+    let gate = Holds::of(0, Until::Another);
     let words = ["polypar", "run", "--tile", "1", "--workers", "2"];
     let answer = call_on(&rt, rt.alloc(), &words, COPY_OF_FOUR.as_bytes(), &gate)?;
     assert!(rt; is_answer(answer, b"A = 1 2 3 4\nB = 1 2 3 4\n", b""));
     assert!(rt; !gate.failed.load(Ordering::SeqCst));
-    assert!(rt; are_ones(&gate.entered));
-    assert!(rt; are_ones(&gate.left));
+    assert!(rt; are_ones(&gate.entered, 4));
+    assert!(rt; are_ones(&gate.left, 4));
     assert!(rt; gate.first_left.load(Ordering::SeqCst) != 0);
+    Ok(())
+}
+
+/// Whether a sweep of which one tile is held until another of its wave was left prints its arrays, each tile done once.
+fn is_held<R: Threads + Wait + Sync>(
+    rt: &R,
+    alloc: Global,
+    held: u64,
+    other: u64,
+) -> Result<bool, AllocError> {
+    let gate = Holds::of(held, Until::Left(other));
+    let words = ["polypar", "run", "--tile", "1", "--workers", "3"];
+    let answer = call_on(rt, alloc, &words, SWEEP.as_bytes(), &gate)?;
+    Ok(
+        is_answer(answer, b"A = 1 9 21 29 1\n", b"")
+            && !gate.failed.load(Ordering::SeqCst)
+            && are_ones(&gate.entered, 6)
+            && are_ones(&gate.left, 6),
+    )
+}
+
+#[test]
+fn tiles_of_a_wave_are_done_in_any_order(rt: HostRuntime) -> Result<(), Fail> {
+    assert!(rt; is_held(&rt, rt.alloc(), 2, 3)?);
+    assert!(rt; is_held(&rt, rt.alloc(), 3, 2)?);
+    Ok(())
+}
+
+/// A run, and what it prints.
+struct Printed {
+    input: &'static str,
+    out: &'static str,
+}
+
+const PRINTED: &[Printed] = &[
+    Printed {
+        input: "void w(uint64_t A[1]) { A[0] += 1; }
+%%
+A = 18446744073709551615
+",
+        out: "A = 0\n",
+    },
+    Printed {
+        input: PRODUCT,
+        out: "A = 1 2 3 4\nB = 5 6 7 8\nC = 19 22 43 50\n",
+    },
+    Printed {
+        input: "void rev(int64_t N, uint64_t A[N]) {
+    for (int64_t i = N-1; i >= 1; i -= 2) A[i] = A[i-1]; }
+%%
+N = 5
+A = 10 20 30 40 50
+",
+        out: "A = 10 20 20 40 40\n",
+    },
+    Printed {
+        input: "void tri(int64_t N, uint64_t A[N][N]) {
+    for (int64_t i = 0; i < N; i++) for (int64_t j = 0; j <= i; j++)
+        A[i][j] = i + 10*j; }
+%%
+N = 3
+",
+        out: "A = 0 0 0 1 11 0 2 12 22\n",
+    },
+    Printed {
+        input: "void odd(int64_t N, uint64_t A[2*N]) {
+    for (int64_t j = 0; j < N; j++) A[2*j] = A[2*j+1]; }
+%%
+N = 2
+A = 1 2 3 4
+",
+        out: "A = 2 2 4 4\n",
+    },
+    Printed {
+        input: "void even(int64_t N, uint64_t A[2*N], uint64_t B[2*N]) {
+    for (int64_t j = 0; j < N; j++) A[2*j] = 7;
+    for (int64_t i = 0; i < 2*N; i++) B[i] = A[i]; }
+%%
+N = 2
+A = 1 2 3 4
+",
+        out: "A = 7 2 7 4\nB = 7 2 7 4\n",
+    },
+    Printed {
+        input: "void g(int64_t N, uint64_t A[N]) { int64_t i;
+    for (i = 0; i < N; i++) if ((i >= 1) && (2 >= i)) A[i] = i - 3; }
+%%
+N = 4
+",
+        out: "A = 0 18446744073709551614 18446744073709551615 0\n",
+    },
+    Printed {
+        input: "void copy(int64_t N, uint64_t A[N], uint64_t B[N]) {
+    for (int64_t i = 0; i < N; i++) B[i] = A[i]; }
+%%
+N=2
+A = seed 0
+",
+        out: "A = 11400714819323198485 4354685564936845354
+B = 11400714819323198485 4354685564936845354
+",
+    },
+];
+
+/// Whether a run by so many workers over tiles of this size prints what is told of it.
+fn is_printed<R: Threads + Wait + Sync>(
+    rt: &R,
+    alloc: Global,
+    run: &Printed,
+    tile: &'static str,
+    workers: &'static str,
+) -> Result<bool, AllocError> {
+    let words = ["polypar", "run", "--tile", tile, "--workers", workers];
+    let answer = call_on(rt, alloc, &words, run.input.as_bytes(), &OpenGate)?;
+    Ok(is_answer(answer, run.out.as_bytes(), b""))
+}
+
+#[test]
+fn runs_by_threads_print_the_arrays_of_the_execution(rt: HostRuntime) -> Result<(), Fail> {
+    for run in PRINTED {
+        for workers in WORKERS {
+            assert!(rt; is_printed(&rt, rt.alloc(), run, "1", workers)?);
+            assert!(rt; is_printed(&rt, rt.alloc(), run, "2", workers)?);
+        }
+    }
     Ok(())
 }
 

@@ -1,0 +1,104 @@
+//! Calls of the planner with answers that are worked out by hand: components of a graph, kernel vectors of rows, and the
+//! last write of a read at each of its instances.
+
+use dataflow::{ReadSource, last_writes};
+use iteration_domains::Model;
+use pluto_systems::kernel_vectors;
+use quast_trees::{Leaf, Quast};
+use scop_parser::reader::read_kernel;
+use std::alloc::{AllocError, Global};
+use std::test::Fail;
+use stmt_graph::components;
+
+#[test]
+fn a_component_comes_behind_those_that_lead_to_it(rt: HostRuntime) -> Result<(), Fail> {
+    let numbers = components(rt.alloc(), 2, &[(1, 0)])?;
+    assert!(rt; numbers.as_slice() == [1, 0].as_slice());
+    let numbers = components(rt.alloc(), 3, &[(0, 1), (1, 0), (2, 0)])?;
+    assert!(rt; numbers.as_slice() == [1, 1, 0].as_slice());
+    Ok(())
+}
+
+#[test]
+fn kernel_vectors_complete_a_row(rt: HostRuntime) -> Result<(), Fail> {
+    let row = vec![in rt.alloc(); 1, 0]?;
+    let rows = vec![in rt.alloc(); row]?;
+    let vectors = kernel_vectors(rt.alloc(), 2, &rows)?;
+    assert!(rt; vectors.len() == 1);
+    assert!(rt; vectors[0].as_slice() == [0, 1].as_slice());
+    Ok(())
+}
+
+const EVEN: &str = "void even(int64_t N, uint64_t A[2*N], uint64_t B[2*N]) {
+    for (int64_t j = 0; j < N; j++) A[2*j] = 7;
+    for (int64_t i = 0; i < 2*N; i++) B[i] = A[i]; }";
+
+const PREFIX: &str = "void pre(int64_t N, uint64_t A[N]) {
+    for (int64_t i = 1; i < N; i++) A[i] += A[i-1]; }";
+
+/// A kernel, a read by its number among all, the value of its parameter, and of each turn of the reader the turn that
+/// wrote last, or none where the value is the initial one.
+const WRITES: &[(&str, usize, i128, &[Option<i128>])] = &[
+    (EVEN, 0, 2, &[Some(0), None, Some(1), None]),
+    (PREFIX, 0, 4, &[None, None, None]),
+    (PREFIX, 1, 4, &[None, Some(0), Some(1)]),
+];
+
+/// The turn of a leaf's instance; none where the value is the initial one.
+fn turn_of(leaf: Leaf) -> Option<i128> {
+    match leaf {
+        Leaf::Initial => None,
+        Leaf::Found { source: _, values } => values.first().copied(),
+    }
+}
+
+/// Whether at each turn a source is as told.
+fn is_told(quast: &Quast, parameter: i128, turns: &[Option<i128>]) -> bool {
+    if quast.parameters() != 2 {
+        return false;
+    }
+    for turn in 0..turns.len() {
+        match quast.value_at(&[parameter, turn as i128]) {
+            Err(_) => return false,
+            Ok(leaf) => {
+                if turn_of(leaf) != turns[turn] {
+                    return false;
+                }
+            }
+        }
+    }
+    true
+}
+
+/// Whether the source of a read is as told.
+fn is_source(
+    alloc: Global,
+    text: &str,
+    read: usize,
+    parameter: i128,
+    turns: &[Option<i128>],
+) -> Result<bool, AllocError> {
+    match read_kernel(alloc, text.as_bytes()) {
+        Err(_) => Err(AllocError),
+        Ok(kernel) => {
+            let model = Model::of(alloc, &kernel)?;
+            let sources = last_writes(alloc, &model, 20000)?;
+            Ok(match sources.get(read) {
+                Some(ReadSource::Resolved(quast)) => is_told(quast, parameter, turns),
+                _ => false,
+            })
+        }
+    }
+}
+
+#[test]
+fn reads_have_these_last_writes(rt: HostRuntime) -> Result<(), Fail> {
+    for case in WRITES {
+        let (text, read, parameter, turns) = *case;
+        assert!(rt;
+            is_source(rt.alloc(), text, read, parameter, turns)?,
+            "{text} read {read}"
+        );
+    }
+    Ok(())
+}
