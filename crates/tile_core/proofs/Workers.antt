@@ -1,8 +1,9 @@
 -- Where a worker stands: before a tile, at its first instance, at the next one.
 use Rattle.std.proofs.Common.{◌≡◌, ℕ, zero, suc, ◌+◌, ◌<◌, List, [], ◌∷◌, ◌++◌, drop, length, Option, Some, None}
 use Rattle.std.proofs.Common.{ap, ap₂, map, sym, subst, refl}
-use Rattle.std.proofs.Common.{◌∙◌, arith}
+use Rattle.std.proofs.Common.{◌∙◌, Bor, arith}
 use Rattle.std.specs.Prelude.{All, replicate, slice_get, slice_index_or, IsNone, MatchOption}
+use Rattle.std.specs.Option.{option_copied}
 use Rattle.std.proofs.lemmas.List.{map-append, replicate-append-replicate}
 use Rattle.std.proofs.lemmas.List.Elements.{All-push}
 use Rattle.std.proofs.lemmas.Option.{slice_get_within}
@@ -97,7 +98,7 @@ first_is stand plan t tile spot is at set =
     }
 
 -- what stands in front of the rest of a list
-head_is : (ys : List Instance) (n : ℕ) (x : Instance) (rest : List Instance) → drop n ys ≡ x ∷ rest
+pub head_is : (ys : List Instance) (n : ℕ) (x : Instance) (rest : List Instance) → drop n ys ≡ x ∷ rest
     → (slice_get ys n ≡ Some x) × (drop (suc n) ys ≡ rest)
 head_is [] zero x rest e = absurd cc
 head_is [] (suc n) x rest e = absurd cc
@@ -157,3 +158,10 @@ due_is plan stage t k (Some i) spot is scan many works less left n =
       walked = same.0
           (in_from_place (scan_in plan) ((deal_of plan).start t + k) (instance_of i) (sym n.instance));
     }
+
+-- and so where it is lent
+pub lent : (plan : Plan) (stage : Stage) (o : Option (Bor CodeInstance))
+    → MatchOption (option_copied o) (HasNoneDue plan stage) (IsDue plan stage)
+    → MatchOption o (HasNoneDue plan stage) (λ i. IsDue plan stage i.now)
+lent plan stage None due = due
+lent plan stage (Some i) due = due

@@ -104,10 +104,10 @@ impl Board {
             return Err(NotEnabled);
         };
         let read = worker.reads.len();
-        if read >= plan.reads(&instance) {
+        if read >= plan.reads(instance) {
             return Err(NotEnabled);
         }
-        let value = cell_at(&self.cells, plan.cell_read(&instance, read));
+        let value = cell_at(&self.cells, plan.cell_read(instance, read));
         self.workers[id].read(value);
         Ok(Seen::Read(value))
     }
@@ -121,11 +121,11 @@ impl Board {
         let Some(instance) = worker.due(plan) else {
             return Err(NotEnabled);
         };
-        if worker.reads.len() != plan.reads(&instance) {
+        if worker.reads.len() != plan.reads(instance) {
             return Err(NotEnabled);
         }
-        let value = plan.value(&instance, worker.reads.as_slice());
-        self.cells[plan.cell_written(&instance)] = value;
+        let value = plan.value(instance, worker.reads.as_slice());
+        self.cells[plan.cell_written(instance)] = value;
         self.workers[id].advance(plan);
         Ok(Seen::Stored)
     }
