@@ -1,5 +1,6 @@
 pub mod Points
 pub mod Numbers
+pub mod Lanes
 pub mod Tables
 pub mod steps
 -- Passed on: what this crate's contracts are told in.

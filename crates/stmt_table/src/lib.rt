@@ -7,6 +7,7 @@
 #![tactic(auto)]
 
 mod forms;
+pub mod lane;
 mod numbers;
 mod points;
 mod rights;
