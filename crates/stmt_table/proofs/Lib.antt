@@ -1,5 +1,6 @@
 pub mod Congruences
 pub mod LoopPoints
+pub mod Lanes
 pub mod Linear
 pub mod Offsets
 pub mod Accesses

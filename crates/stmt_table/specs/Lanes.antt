@@ -1,5 +1,5 @@
 -- Numbers that go on by equal steps, modulo 2^64.
-use Rattle.std.specs.Prelude.{◌≡◌, ◌+◌, ◌≤◌, ◌%◌, ◌^◌, ℕ, ℤ, List, length, slice_get, Some}
+use Rattle.std.specs.Prelude.{◌≡◌, ◌+◌, ◌%◌, ◌^◌, ℕ, ℤ, List, slice_get, Some}
 use Rattle.whole_numbers.specs.Affine.{Affine, value_of}
 use Rattle.whole_numbers.specs.Lists.{sums}
 use Rattle.scop_syntax.specs.Values.{wrapped}
@@ -13,6 +13,5 @@ pub record IsLane (form : Affine) (steps turns : List ℤ) (lane : Lane) : Type 
 
 -- each form has the lane of its number
 pub record AreLanes (forms : List Affine) (steps turns : List ℤ) (lanes : List Lane) : Type 0 where
-  pub room : length forms ≤ length lanes
   pub each : (a : ℕ) (form : Affine) (lane : Lane) → slice_get forms a ≡ Some form → slice_get lanes a ≡ Some lane
       → IsLane form steps turns lane
