@@ -3,6 +3,7 @@ pub mod LoopPoints
 pub mod Linear
 pub mod Offsets
 pub mod Accesses
+pub mod Codes
 pub mod Pairs
 pub mod Tellings
 pub mod Visits
