@@ -1,3 +1,4 @@
+pub mod Codes
 pub mod Points
 pub mod Numbers
 pub mod Lanes

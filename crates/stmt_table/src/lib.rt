@@ -6,6 +6,7 @@
 //! that the right sides store what those of the statements do.
 #![tactic(auto)]
 
+pub mod code;
 mod forms;
 pub mod lane;
 mod numbers;
