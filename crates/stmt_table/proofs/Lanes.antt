@@ -1,7 +1,7 @@
 -- Values of forms along turns that go on by equal steps, as numbers below 2^64.
 use Rattle.std.proofs.Common.{◌≡◌, ◌∙◌, ap, ap₂, subst, sym, refl, ℕ, suc, ◌+◌, ◌<◌, ◌≤◌, ◌%◌, ◌^◌, List}
-use Rattle.std.proofs.Common.{arith, inl, inr, Some, set, zero, ◌⊎◌, ◌≢◌, [], ◌∷◌}
-use Rattle.std.specs.Prelude.{ℤ, pos, negsuc, neg_ℤ, ◌+ℤ◌, ◌-ℤ◌, slice_get}
+use Rattle.std.proofs.Common.{length, arith, inl, inr, Some, set, zero, ◌⊎◌, ◌≢◌, [], ◌∷◌}
+use Rattle.std.specs.Prelude.{ℤ, pos, negsuc, neg_ℤ, ◌+ℤ◌, ◌-ℤ◌, slice_get, map, take}
 use Rattle.std.specs.Int.{cast_signed, cast_unsigned, int_wrap, w64}
 use Rattle.std.proofs.lemmas.Int.{int_wrap-add_left, int_wrap-add_right, ints, of_z-to_z, to_z-of_z, wrapping_add-bits}
 use Rattle.std.proofs.lemmas.Int.{SFits-int_wrap}
@@ -106,3 +106,14 @@ lane_on k forms steps turns lanes old new here on are = record {
     | inr h ↦ are.left a form lane (omega (arith, more)) told h.1
   ];
 }
+
+-- where lanes stand
+pub stands_at : (forms : List Affine) (steps turns : List ℤ) (lanes : List Lane) → length forms ≤ length lanes
+    → AreLanes forms steps turns lanes
+    → map (λ lane. lane.at) (take (length forms) lanes) ≡ map (λ form. wrapped (value_of form turns)) forms
+stands_at [] steps turns lanes few are = refl
+stands_at (form ∷ forms) steps turns [] few are = absurd (omega (arith, few))
+stands_at (form ∷ forms) steps turns (lane ∷ lanes) few are =
+    ap₂ (λ (x : ℕ) (xs : List ℕ). x ∷ xs) (are.each 0 form lane refl refl).at
+    (stands_at forms steps turns lanes (omega (arith, few))
+    (record { each = λ a f l told at. are.each (suc a) f l told at; }))
