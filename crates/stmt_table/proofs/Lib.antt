@@ -1,8 +1,10 @@
 pub mod Congruences
 pub mod LoopPoints
+pub mod Lanes
 pub mod Linear
 pub mod Offsets
 pub mod Accesses
+pub mod Codes
 pub mod Pairs
 pub mod Tellings
 pub mod Visits
