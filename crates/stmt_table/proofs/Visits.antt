@@ -11,9 +11,7 @@ use Rattle.scop_syntax.specs.Members.{In}
 use Rattle.scop_syntax.specs.Statements.{Placed, Runs, Scope, loops_in, statements_of, visit_of}
 use Rattle.scop_syntax.specs.Tree.{Access, Program, Statement}
 use Rattle.scop_syntax.specs.Values.{stored_by, wrapped}
-use Rattle.scop_syntax.specs.View.{instance_of}
 use Rattle.scop_syntax.specs.Walk.{Instance, Visit, walk_of}
-use Rattle.scop_syntax.specs.declared.instance.Instance.{Instance as CodeInstance}
 use Rattle.scop_syntax.proofs.Members.{place_of, there_is}
 use Rattle.scop_meaning.specs.Instances.{IsVisitOf}
 use Rattle.standings.specs.Standings.{Standing, heads_in, standing, standings_of}
@@ -36,26 +34,26 @@ pub record WalkLaws : Type 0 where
   pub number : (program : Program) (k : ℕ) (p : Placed) → slice_get (statements_of program) k ≡ Some p → p.number ≡ k
 
 -- the row of an instance's statement, and how its visit lies in it
-pub record HasRow (program : Program) (params : List ℤ) (table : Table) (i : CodeInstance) (v : Visit) : Type 0 where
+pub record HasRow (program : Program) (params : List ℤ) (table : Table) (x : Instance) (v : Visit) : Type 0 where
   pub own : Standing
   pub row : Row
-  pub told : slice_get table.rows.items i.statement ≡ Some row
+  pub told : slice_get table.rows.items x.number ≡ Some row
   pub fits : IsRowOf (layout program params) params own row
   pub body : own.body ≡ v.body
-  pub turns : (instance_of i).turns ≡ v.turns
+  pub turns : x.turns ≡ v.turns
   pub many : length v.turns ≡ length own.heads
   pub point : point_in own.heads params v.turns ≡ v.point
 
-pub row_of : WalkLaws → (program : Program) (params : List ℤ) (table : Table) (i : CodeInstance) (v : Visit)
-    → IsTableOf program params table → IsVisitOf program params (instance_of i) v
-    → HasRow program params table i v
-row_of laws program params table i v is visit =
+pub row_of : WalkLaws → (program : Program) (params : List ℤ) (table : Table) (x : Instance) (v : Visit)
+    → IsTableOf program params table → IsVisitOf program params x v
+    → HasRow program params table x v
+row_of laws program params table x v is visit =
     let stood = laws.found program params v visit.walked in
     let p = stood.0 in
     let xs = stood.1 in
     let place = place_of (statements_of program) p stood.2 in
     let k = place.0 in
-    let number : i.statement ≡ k =
+    let number : x.number ≡ k =
     sym (ap (λ (x : Instance). x.number) visit.same)
     ∙ (ap (λ (w : Visit). w.number) stood.4 ∙ laws.number program k p place.1) in
     let around = standing (heads_in p.scopes) p.body in
@@ -85,21 +83,21 @@ row_of laws program params table i v is visit =
     }
 
 -- the forms of its accesses are those of the row
-pub forms_told : (program : Program) (params : List ℤ) (table : Table) (i : CodeInstance) (v : Visit)
-    (has : HasRow program params table i v) → slice_get (forms_in table) i.statement ≡ Some has.row.cells.items
-forms_told program params table i v has =
-    slice_get-map (λ (r : Row). r.cells.items) table.rows.items i.statement
+pub forms_told : (program : Program) (params : List ℤ) (table : Table) (x : Instance) (v : Visit)
+    (has : HasRow program params table x v) → slice_get (forms_in table) x.number ≡ Some has.row.cells.items
+forms_told program params table x v has =
+    slice_get-map (λ (r : Row). r.cells.items) table.rows.items x.number
     ∙ ap (option_map (λ (r : Row). r.cells.items)) has.told
 
 -- what the forms tell of an access is the number of the visit's cell
-pub cell_told : (program : Program) (params : List ℤ) (table : Table) (i : CodeInstance) (v : Visit) (a : ℕ)
+pub cell_told : (program : Program) (params : List ℤ) (table : Table) (x : Instance) (v : Visit) (a : ℕ)
     (touched : Access) (result : ℕ) → IsCell (layout program params) (cell_of touched v.point)
     → cell_number (layout program params) (cell_of touched v.point) < 2 ^ 22
-    → (has : HasRow program params table i v) → slice_get (accesses v.body) a ≡ Some touched
+    → (has : HasRow program params table x v) → slice_get (accesses v.body) a ≡ Some touched
     → ((form : Affine) → slice_get has.row.cells.items a ≡ Some form
-    → result ≡ wrapped (value_of form (instance_of i).turns))
+    → result ≡ wrapped (value_of form x.turns))
     → result ≡ cell_number (layout program params) (cell_of touched v.point)
-cell_told program params table i v a touched result cell small has at tells =
+cell_told program params table x v a touched result cell small has at tells =
     let extents = layout program params in
     let c = cell_number extents (cell_of touched v.point) in
     let there : slice_get (accesses has.own.body) a ≡ Some touched =
@@ -119,17 +117,17 @@ cell_told program params table i v a touched result cell small has at tells =
     kept n less = omega (arith, less)
 
 -- the code in the row takes as many values as the visit reads
-pub reads_told : (program : Program) (params : List ℤ) (table : Table) (i : CodeInstance) (v : Visit)
-    (has : HasRow program params table i v) → length (reads v.body) ≡ has.row.code.reads
-reads_told program params table i v has =
+pub reads_told : (program : Program) (params : List ℤ) (table : Table) (x : Instance) (v : Visit)
+    (has : HasRow program params table x v) → length (reads v.body) ≡ has.row.code.reads
+reads_told program params table x v has =
     ap (λ (s : Statement). length (reads s)) (sym has.body) ∙ sym (has.fits.stored.reads has.own.body.place)
 
 -- and makes of them what the visit stores
-pub value_told : (program : Program) (params : List ℤ) (table : Table) (i : CodeInstance) (v : Visit) (values : List ℕ)
-    (has : HasRow program params table i v) → length values ≡ length (reads v.body)
-    → value_by has.row.code (instance_of i).turns values ≡ stored_by v.body.right v.point values
-value_told program params table i v values has long =
+pub value_told : (program : Program) (params : List ℤ) (table : Table) (x : Instance) (v : Visit) (values : List ℕ)
+    (has : HasRow program params table x v) → length values ≡ length (reads v.body)
+    → value_by has.row.code x.turns values ≡ stored_by v.body.right v.point values
+value_told program params table x v values has long =
     ap (λ (xs : List ℤ). value_by has.row.code xs values) has.turns
-    ∙ (has.fits.stored.value v.turns values has.many (long ∙ reads_told program params table i v has)
+    ∙ (has.fits.stored.value v.turns values has.many (long ∙ reads_told program params table x v has)
     ∙ (ap (λ (s : Statement). stored_by s.right (point_in has.own.heads params v.turns) values) has.body
     ∙ ap (λ (p : List ℤ). stored_by v.body.right p values) has.point))

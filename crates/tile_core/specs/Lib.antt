@@ -6,3 +6,4 @@ pub mod Boards
 pub mod Cores
 pub mod Views
 pub mod Passes
+pub mod Rows

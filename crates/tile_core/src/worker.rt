@@ -2,11 +2,13 @@
 //! in the tree's visits behind that instance. Its steps take no memory.
 ghost use Rattle.std.specs.Prelude.{◌≡◌, ◌+◌, ◌-◌, ◌<◌, ◌≤◌, ◌⊎◌, ◌++◌, ◌∷◌, [], ℕ, ℤ, All, IfOk, IfSome, List};
 ghost use Rattle.std.specs.Prelude.{MatchOption, Some, drop, length, map, replicate, suc};
+ghost use Rattle.scop_syntax.specs.Members.{In};
+ghost use Rattle.scop_syntax.specs.View.{instance_of};
 ghost use Rattle.loop_tree.specs.SpotView.{IsSpotOf, to_come};
 ghost use Rattle.loop_tree.specs.Tree.{Trees};
 ghost use Rattle.tile_events.specs.Core.{idle};
 ghost use Rattle.tile_events.specs.Sound.{Holds};
-ghost use Rattle.tile_core.specs.Plans.{IsPlan, shape_of};
+ghost use Rattle.tile_core.specs.Plans.{IsPlan, place_of, places_in, shape_of};
 ghost use Rattle.tile_core.specs.Stretches.{CanPass, IsAhead, IsAlong, IsPart};
 ghost use Rattle.tile_core.specs.Workers.{HasNoneDue, IsDue, IsWorker, staged, worker_of};
 ghost use Rattle.tile_core.specs.declared.plan.Plan.{Plan as AnyPlan};
@@ -18,6 +20,7 @@ use arrayvec::ArrayVec;
 use loop_tree::{Spot, Stretch};
 use scop_syntax::instance::Instance;
 use std::alloc::{AllocError, Global};
+use stmt_table::desk::Desk;
 use tile_list::laws::tiles_stand_one_behind_another;
 
 /// Reads that a statement may have.
@@ -36,13 +39,15 @@ pub enum Stage {
 /// The values read so far for an instance, in the order of its reads.
 pub type Reads = ArrayVec<u64, MAX_READS>;
 
-/// At work in a tile with an instance left, `next` is that instance and `spot` the place behind it.
+/// At work in a tile with an instance left, `next` is that instance and `spot` the place behind it. The desk has room for
+/// the instances of each statement.
 #[derive(Drop)]
 pub struct Worker {
     pub stage: Stage,
     pub reads: Reads,
     pub next: Option<Instance>,
     pub spot: Spot,
+    pub desk: Desk,
 }
 
 /// How many instances from one on go by the steps of a stretch, where so many are left at most: all that the stretch has
@@ -86,11 +91,13 @@ impl Worker {
         ensures worker { IfOk result (IsWorker plan.now) }
     {
         let spot = Spot::of(alloc, plan.tree)?;
+        let desk = plan.table.desk(alloc)?;
         Ok(Worker {
             stage: Stage::Idle,
             reads: ArrayVec::new(),
             next: None,
             spot,
+            desk,
         })
     }
 
@@ -169,6 +176,22 @@ impl Worker {
         ensures worker { (plan : AnyPlan) → IsWorker plan self.old → IsWorker plan self.new }
     {
         self.reads.push(value);
+    }
+
+    /// What the instance stores, where its reads have the values that were read.
+    pub fn value(&mut self, plan: &Plan, instance: &Instance) -> u64
+        requires plan { IsPlan plan.now }
+        requires walked { In (instance_of instance.now) (places_in plan.now) }
+        requires reads { length self.old.reads.items
+            ≡ length ((shape_of plan.now).read (place_of plan.now instance.now)) }
+        requires worker { IsWorker plan.now self.old }
+        ensures value { result
+            ≡ (shape_of plan.now).value (place_of plan.now instance.now) self.old.reads.items }
+        ensures stage { self.new.stage ≡ self.old.stage }
+        ensures reads { self.new.reads.items ≡ self.old.reads.items }
+        ensures worker { IsWorker plan.now self.new }
+    {
+        plan.value(&mut self.desk, instance, self.reads.as_slice())
     }
 
     /// Goes on to the instance behind so many that it has done.
