@@ -4,6 +4,7 @@ pub mod Linear
 pub mod Offsets
 pub mod Accesses
 pub mod Codes
+pub mod Compiling
 pub mod Pairs
 pub mod Tellings
 pub mod Visits
