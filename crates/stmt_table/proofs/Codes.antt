@@ -1,7 +1,6 @@
 -- Straight-line code: what its steps make depends on the leaves and slots that they name alone.
-use Rattle.std.proofs.Common.{◌≡◌, ◌∙◌, ap, ap₂, refl, sym, subst, ℕ, suc, ◌+◌, ◌-◌, ◌*◌, ◌/◌, ◌%◌, ◌^◌, ◌<◌, ◌≤◌}
-use Rattle.std.proofs.Common.{List, [], ◌∷◌, ◌++◌, length, take, drop, get_or, set, arith}
-use Rattle.std.proofs.lemmas.List.{get_or-take, length-set, take-set-le, take_more_set}
+use Rattle.std.proofs.Common.{◌≡◌, ◌∙◌, ap, ap₂, refl, subst, ℕ, suc, ◌+◌, ◌-◌, ◌*◌, ◌/◌, ◌%◌, ◌^◌, ◌<◌, ◌≤◌}
+use Rattle.std.proofs.Common.{List, [], ◌∷◌, ◌++◌, length, get_or, arith}
 use Rattle.std.proofs.lemmas.List.{get_or_append_left, length_push}
 use Rattle.scop_syntax.specs.Values.{applied}
 use Rattle.scop_syntax.specs.View.{operator_of}
@@ -83,39 +82,3 @@ worked_front ls (step ∷ steps) xs k less =
     let grown = length_push xs (made ls xs step) in
     worked_front ls steps (xs ++ made ls xs step ∷ []) k (omega (arith, grown, less))
     ∙ get_or_append_left xs (made ls xs step ∷ []) 0 k less
-
--- so far so many steps have been worked in place, over the reads in front
-pub record IsWorkedTo (n reads : ℕ) (leaves : List ℕ) (steps : List Step) (old : List ℕ) (at : ℕ) (slots : List ℕ)
-    : Type 0 where
-  pub long : length slots ≡ length old
-  pub front : take reads slots ≡ take reads old
-  pub left : AreSteps n (reads + at) (drop at steps)
-  pub whole : worked leaves (drop at steps) (take (reads + at) slots) ≡ worked leaves steps (take reads old)
-
--- one step more
-pub worked_to_more : (n reads : ℕ) (leaves : List ℕ) (steps : List Step) (old : List ℕ) (at : ℕ) (slots new : List ℕ)
-    (step : Step) (value : ℕ) → at < length steps → reads + length steps ≤ length old
-    → drop at steps ≡ step ∷ drop (at + 1) steps → value ≡ made leaves slots step → new ≡ set slots (reads + at) value
-    → IsWorkedTo n reads leaves steps old at slots → IsWorkedTo n reads leaves steps old (at + 1) new
-worked_to_more n reads leaves steps old at slots new step value less room next is put so =
-    let rest = drop (at + 1) steps in
-    let long = so.long in
-    let here : reads + at < length slots = omega (arith, less, room, long) in
-    let xs = take (reads + at) slots in
-    let both : AreSteps n (reads + at) (step ∷ rest) = subst (AreSteps n (reads + at)) next so.left in
-    let same : reads + at + 1 ≡ reads + (at + 1) = omega arith in
-    let after : suc (reads + at) ≡ reads + (at + 1) = omega arith in
-    let exact : value ≡ made leaves xs step =
-    is ∙ made_same n (reads + at) leaves leaves slots xs step both.0 (λ k l. refl)
-    (λ k l. sym (get_or-take (reads + at) slots k 0 l)) in
-    let gained : take (reads + (at + 1)) new ≡ xs ++ made leaves xs step ∷ [] =
-    ap (λ (m : ℕ). take m new) (sym same)
-    ∙ (ap (take (reads + at + 1)) put
-    ∙ (take_more_set slots (reads + at) value here ∙ ap (λ (v : ℕ). xs ++ v ∷ []) exact)) in
-    record {
-      long = ap (λ (l : List ℕ). length l) put ∙ (length-set slots (reads + at) value ∙ long);
-      front = ap (take reads) put ∙ (take-set-le reads slots (reads + at) value (omega arith) ∙ so.front);
-      left = subst (λ (m : ℕ). AreSteps n m rest) after both.1;
-      whole = ap (worked leaves rest) gained
-          ∙ (ap (λ (ss : List Step). worked leaves ss xs) (sym next) ∙ so.whole);
-    }
