@@ -5,6 +5,7 @@ pub mod Linear
 pub mod Offsets
 pub mod Accesses
 pub mod Codes
+pub mod Desks
 pub mod Pairs
 pub mod Tellings
 pub mod Visits
