@@ -7,6 +7,7 @@
 #![tactic(auto)]
 
 pub mod code;
+pub mod desk;
 mod forms;
 pub mod lane;
 mod numbers;
