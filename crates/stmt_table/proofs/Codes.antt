@@ -1,7 +1,7 @@
 -- Straight-line code: what its steps make depends on the leaves and slots that they name alone.
-use Rattle.std.proofs.Common.{◌≡◌, ◌∙◌, ap, ap₂, refl, sym, subst, ℕ, suc, ◌+◌, ◌-◌, ◌*◌, ◌/◌, ◌%◌, ◌^◌, ◌<◌, ◌≤◌}
-use Rattle.std.proofs.Common.{List, [], ◌∷◌, ◌++◌, length, take, drop, get_or, set, arith}
-use Rattle.std.proofs.lemmas.List.{get_or-take, length-set, take-set-le, take_more_set}
+use Rattle.std.proofs.Common.{◌≡◌, ◌∙◌, ap, ap₂, refl, subst, ℕ, suc, ◌+◌, ◌-◌, ◌*◌, ◌/◌, ◌%◌, ◌^◌, ◌<◌, ◌≤◌}
+use Rattle.std.proofs.Common.{List, [], ◌∷◌, ◌++◌, length, get_or, arith}
+use Rattle.std.proofs.lemmas.List.{get_or_append_left, length_push}
 use Rattle.scop_syntax.specs.Values.{applied}
 use Rattle.scop_syntax.specs.View.{operator_of}
 use Rattle.stmt_table.specs.Codes.{AreSteps, IsStep, made, worked}
@@ -37,38 +37,48 @@ made_same n m ls ks xs ys (ShiftedLeft a count) is leaves slots =
     ap (λ (x : ℕ). (x * 2 ^ count) % 2 ^ 64) (slots a is)
 made_same n m ls ks xs ys (ShiftedRight a count) is leaves slots = ap (λ (x : ℕ). x / 2 ^ count) (slots a is)
 
--- so far so many steps have been worked in place, over the reads in front
-pub record IsWorkedTo (n reads : ℕ) (leaves : List ℕ) (steps : List Step) (old : List ℕ) (at : ℕ) (slots : List ℕ)
-    : Type 0 where
-  pub long : length slots ≡ length old
-  pub front : take reads slots ≡ take reads old
-  pub left : AreSteps n (reads + at) (drop at steps)
-  pub whole : worked leaves (drop at steps) (take (reads + at) slots) ≡ worked leaves steps (take reads old)
+-- steps that name leaves and slots that there are do so where there are more leaves
+pub steps_within : (n k m : ℕ) (steps : List Step) → n ≤ k → AreSteps n m steps → AreSteps k m steps
+steps_within n k m [] few are = tt
+steps_within n k m (step ∷ steps) few are =
+    (step_within n m k m step few (omega arith) are.0, steps_within n k (suc m) steps few are.1)
 
--- one step more
-pub worked_more : (n reads : ℕ) (leaves : List ℕ) (steps : List Step) (old : List ℕ) (at : ℕ) (slots new : List ℕ)
-    (step : Step) (value : ℕ) → at < length steps → reads + length steps ≤ length old
-    → drop at steps ≡ step ∷ drop (at + 1) steps → value ≡ made leaves slots step → new ≡ set slots (reads + at) value
-    → IsWorkedTo n reads leaves steps old at slots → IsWorkedTo n reads leaves steps old (at + 1) new
-worked_more n reads leaves steps old at slots new step value less room next is put so =
-    let rest = drop (at + 1) steps in
-    let long = so.long in
-    let here : reads + at < length slots = omega (arith, less, room, long) in
-    let xs = take (reads + at) slots in
-    let both : AreSteps n (reads + at) (step ∷ rest) = subst (AreSteps n (reads + at)) next so.left in
-    let same : reads + at + 1 ≡ reads + (at + 1) = omega arith in
-    let after : suc (reads + at) ≡ reads + (at + 1) = omega arith in
-    let exact : value ≡ made leaves xs step =
-    is ∙ made_same n (reads + at) leaves leaves slots xs step both.0 (λ k l. refl)
-    (λ k l. sym (get_or-take (reads + at) slots k 0 l)) in
-    let gained : take (reads + (at + 1)) new ≡ xs ++ made leaves xs step ∷ [] =
-    ap (λ (m : ℕ). take m new) (sym same)
-    ∙ (ap (take (reads + at + 1)) put
-    ∙ (take_more_set slots (reads + at) value here ∙ ap (λ (v : ℕ). xs ++ v ∷ []) exact)) in
-    record {
-      long = ap (λ (l : List ℕ). length l) put ∙ (length-set slots (reads + at) value ∙ long);
-      front = ap (take reads) put ∙ (take-set-le reads slots (reads + at) value (omega arith) ∙ so.front);
-      left = subst (λ (m : ℕ). AreSteps n m rest) after both.1;
-      whole = ap (worked leaves rest) gained
-          ∙ (ap (λ (ss : List Step). worked leaves ss xs) (sym next) ∙ so.whole);
-    }
+-- and with a step more
+pub steps_more : (n m : ℕ) (steps : List Step) (step : Step) → AreSteps n m steps → IsStep n (m + length steps) step
+    → AreSteps n m (steps ++ step ∷ [])
+steps_more n m [] step are is =
+    let same : m + 0 ≡ m = omega arith in (subst (λ (k : ℕ). IsStep n k step) same is, tt)
+steps_more n m (first ∷ steps) step are is =
+    let same : m + suc (length steps) ≡ suc m + length steps = omega arith in
+    (are.0, steps_more n (suc m) steps step are.1 (subst (λ (k : ℕ). IsStep n k step) same is))
+
+-- leaves count as far as the steps name them
+pub worked_same : (n m : ℕ) (ls ks : List ℕ) (steps : List Step) (xs : List ℕ) → AreSteps n m steps → Agree n ls ks
+    → length xs ≡ m → worked ls steps xs ≡ worked ks steps xs
+worked_same n m ls ks [] xs are agree long = refl
+worked_same n m ls ks (step ∷ steps) xs are agree long =
+    let same = made_same n m ls ks xs xs step are.0 agree (λ k l. refl) in
+    let grown = length_push xs (made ks xs step) in
+    ap (λ (v : ℕ). worked ls steps (xs ++ v ∷ [])) same
+    ∙ worked_same n (suc m) ls ks steps (xs ++ made ks xs step ∷ []) are.1 agree (omega (arith, grown, long))
+
+pub worked_more : (ls : List ℕ) (steps : List Step) (step : Step) (xs : List ℕ)
+    → worked ls (steps ++ step ∷ []) xs ≡ worked ls steps xs ++ made ls (worked ls steps xs) step ∷ []
+worked_more ls [] step xs = refl
+worked_more ls (first ∷ steps) step xs = worked_more ls steps step (xs ++ made ls xs first ∷ [])
+
+pub worked_long : (ls : List ℕ) (steps : List Step) (xs : List ℕ) → length (worked ls steps xs) ≡ length xs + length steps
+worked_long ls [] xs = omega arith
+worked_long ls (step ∷ steps) xs =
+    let grown = length_push xs (made ls xs step) in
+    let rest = worked_long ls steps (xs ++ made ls xs step ∷ []) in
+    omega (arith, grown, rest)
+
+-- the slots in front stay
+pub worked_front : (ls : List ℕ) (steps : List Step) (xs : List ℕ) (k : ℕ) → k < length xs
+    → get_or (worked ls steps xs) k 0 ≡ get_or xs k 0
+worked_front ls [] xs k less = refl
+worked_front ls (step ∷ steps) xs k less =
+    let grown = length_push xs (made ls xs step) in
+    worked_front ls steps (xs ++ made ls xs step ∷ []) k (omega (arith, grown, less))
+    ∙ get_or_append_left xs (made ls xs step ∷ []) 0 k less

@@ -10,7 +10,7 @@ use Rattle.whole_numbers.specs.Lists.{dot, sums}
 use Rattle.whole_numbers.proofs.Dot.{dot-sums, dot_comm}
 use Rattle.scop_syntax.specs.Values.{wrapped}
 use Rattle.scop_syntax.proofs.WrappedSums.{wrapped_is}
-use Rattle.stmt_table.specs.Lanes.{IsLane}
+use Rattle.stmt_table.specs.Lanes.{AreLanes, IsLane}
 use Rattle.stmt_table.specs.declared.lane.Lane.{Lane}
 
 below : (x : ℤ) → wrapped x < 2 ^ 64

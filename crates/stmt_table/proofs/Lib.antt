@@ -5,6 +5,8 @@ pub mod Linear
 pub mod Offsets
 pub mod Accesses
 pub mod Codes
+pub mod Compiling
+pub mod Desks
 pub mod Pairs
 pub mod Tellings
 pub mod Visits

@@ -47,13 +47,17 @@ pub record IsWellMade (code : Code) : Type 0 where
   pub steps : AreSteps (length code.leaves.items) code.reads code.steps.items
   pub result : code.result < code.reads + length code.steps.items
 
+-- the values of a code's leaves at these turns
+abbrev pub leaves_at : Code → List ℤ → List ℕ
+leaves_at code turns = map (λ form. wrapped (value_of form turns)) code.leaves.items
+
 -- the result of a code, where its leaves and its reads have these values
 abbrev pub result_by : Code → List ℕ → List ℕ → ℕ
 result_by code leaves values = slice_index_or (worked leaves code.steps.items values) code.result 0
 
 -- its result at these turns
 abbrev pub value_by : Code → List ℤ → List ℕ → ℕ
-value_by code turns values = result_by code (map (λ form. wrapped (value_of form turns)) code.leaves.items) values
+value_by code turns values = result_by code (leaves_at code turns) values
 
 -- at all turns of these loops the result is what a right side stores at the point within them, on any values read,
 -- and the code takes as many as that reads behind a place

@@ -6,11 +6,14 @@ ghost use Rattle.std.specs.Prelude.{◌≡◌, ◌+◌, ◌<◌, ℤ, IfOk, List
 ghost use Rattle.whole_numbers.specs.Affine.{Affine, value_of};
 ghost use Rattle.whole_numbers.specs.Lists.{sums};
 ghost use Rattle.scop_syntax.specs.Values.{wrapped};
+ghost use Rattle.scop_syntax.specs.View.{instance_of};
+ghost use Rattle.stmt_table.specs.declared.table.Row.{Row};
 ghost use Rattle.stmt_table.specs.Codes.{IsWellMade, value_by};
 ghost use Rattle.stmt_table.specs.Desks.{HasRoom, HasRoomForAll, HasSameRoom, IsLaid};
 
 use crate::lane::{Lane, go_on_all, lay_all};
 use crate::table::{Row, Table};
+use scop_syntax::instance::Instance;
 use std::alloc::{AllocError, Global};
 
 /// Room for one statement's instances: the lanes of its cells, the place first, then the reads, those of its affine
@@ -57,6 +60,24 @@ impl Table {
             slots = slots.max(row.slots()?);
         }
         Desk::of(alloc, cells, leaves, slots)
+    }
+
+    /// What the instance stores, where its reads have the values `reads`, in the order of the text.
+    pub fn value(&self, desk: &mut Desk, instance: &Instance, reads: &[u64]) -> u64
+        requires statement { instance.now.statement < length self.now.rows.items }
+        requires code { (row : Row) → slice_get self.now.rows.items instance.now.statement ≡ Some row
+            → IsWellMade row.code × (length reads.now ≡ row.code.reads) }
+        requires room { HasRoomForAll self.now desk.old }
+        ensures value { (row : Row) → slice_get self.now.rows.items instance.now.statement ≡ Some row
+            → result ≡ value_by row.code (instance_of instance.now).turns reads.now }
+        ensures room { HasSameRoom desk.old desk.new }
+    {
+        let row = self.row(instance.statement);
+        row.lay(desk, instance.turns(), &[]);
+        for read in 0..reads.len() {
+            row.put(desk, read, reads[read]);
+        }
+        row.value(desk)
     }
 }
 

@@ -52,7 +52,12 @@ fn cell(alloc: Global, form: &Aff) -> Result<Access, AllocError>
 
 /// A form over the turns of `heads` with the value of `form` at the point within them: the number of the cell of a row
 /// at which `form` points.
-fn form_over(alloc: Global, form: &Aff, heads: &[&Loop], params: &[i64]) -> Result<Aff, AllocError>
+pub(crate) fn form_over(
+    alloc: Global,
+    form: &Aff,
+    heads: &[&Loop],
+    params: &[i64],
+) -> Result<Aff, AllocError>
     requires loops { length heads.now ≤ MAX_LOOPS }
     requires room { length params.now + length heads.now ≤ ROOM }
     ensures { IfOk result (IsFormOver params.now (map (λ h. h.now) heads.now) form.now) }
