@@ -34,8 +34,8 @@ put_slots forms step old new slot begun put turns values long =
     let grown : ls ≡ ks ++ map f forms = ap (map f) put.leaves ∙ map-append f old.leaves.items forms in
     let many = length-map old.leaves.items f in
     let agree : Agree (length old.leaves.items) ls ks = λ k less.
-        ap (λ (l : List ℕ). get_or l k 0) grown
-        ∙ get_or_append_left ks (map f forms) 0 k (omega (arith, many, less)) in
+    ap (λ (l : List ℕ). get_or l k 0) grown
+    ∙ get_or_append_left ks (map f forms) 0 k (omega (arith, many, less)) in
     ap (λ (ss : List Step). worked ls ss values) put.steps
     ∙ (worked_more ls old.steps.items step values
     ∙ ap (λ (xs : List ℕ). xs ++ made ls xs step ∷ [])

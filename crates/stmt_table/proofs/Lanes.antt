@@ -116,4 +116,4 @@ stands_at (form ∷ forms) steps turns [] few are = absurd (omega (arith, few))
 stands_at (form ∷ forms) steps turns (lane ∷ lanes) few are =
     ap₂ (λ (x : ℕ) (xs : List ℕ). x ∷ xs) (are.each 0 form lane refl refl).at
     (stands_at forms steps turns lanes (omega (arith, few))
-    (record { each = λ a f l told at. are.each (suc a) f l told at; }))
+    (record { each = λ a f l told at. are.each (suc a) f l told at }))

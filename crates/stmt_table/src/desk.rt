@@ -89,7 +89,10 @@ impl Row {
     fn slots(&self) -> Result<usize, AllocError>
         ensures { IfOk result (λ n. n ≡ self.now.code.reads + length self.now.code.steps.items) }
     {
-        self.code.reads.checked_add(self.code.steps.len()).ok_or(AllocError)
+        self.code
+            .reads
+            .checked_add(self.code.steps.len())
+            .ok_or(AllocError)
     }
 
     /// Lays it on a desk at these turns, to go on by these steps.
