@@ -11,8 +11,8 @@ ghost use Rattle.stmt_table.specs.Codes.{IsStep, IsWellMade, Stores, made as exa
 ghost use Rattle.stmt_table.specs.declared.code.Step.TheVariants.{Affine as exact_affine};
 ghost use Rattle.stmt_table.specs.steps.Codes.{IsBegun, IsPut, MakesStored, MakesValue};
 
-use crate::lane::Lane;
 use crate::affine_parts::form_over;
+use crate::lane::Lane;
 use scop_meaning::accesses::read_count;
 use scop_meaning::operators::{combined, complemented, negated, shifted_left, shifted_right};
 use scop_syntax::instance::MAX_LOOPS;
