@@ -15,7 +15,7 @@ use Rattle.loop_tree.specs.Tiling.{Tiling}
 use Rattle.loop_tree.specs.declared.braid.Braid.{Braid}
 use Rattle.loop_tree.specs.declared.stretch.Stretch.{Stretch}
 use Rattle.loop_tree.proofs.Braids.{woven_next, woven_none}
-use Rattle.tile_list.specs.steps.Keys.{HasKey}
+use Rattle.tile_list.specs.steps.Keys.{IsKeyOf}
 use Rattle.tile_list.specs.steps.Stretching.{AllFit, AllHaveKey, AllRowsFit, HasRounds}
 use Rattle.tile_list.specs.declared.keys.Key.{Key}
 use Rattle.tile_list.proofs.Stretches.{length-left}
@@ -202,10 +202,10 @@ strands_fit tiling b rounds has fits k d below y h =
     let ss = take b.count b.strands in
     fits y (strand_in_braid b rounds has (get_or ss k d) (in_at ss k d below) y h)
 
--- what is left of a braid lies in a tile where that of its strands does
+-- what is left of a braid has a key where what is left of its strands has it
 pub braid_has_key : (tiling : Tiling) (key : Key) (b : Braid) (rounds : ℕ) → HasRounds b rounds
     → All (AllHaveKey tiling key) (take b.count b.strands) → (y : Instance) → In y (left_of_braid b)
-    → HasKey tiling key y
+    → IsKeyOf tiling y key
 braid_has_key tiling key b rounds has all y h =
     let ss = take b.count b.strands in
     let (l, at, of) = given_from (together (strands b)) (strands b) y

@@ -1,4 +1,5 @@
 pub mod Order
+pub mod TellingKeys
 pub mod Stretches
 pub mod Braids
 pub mod Parts

@@ -23,8 +23,10 @@ use Rattle.loop_tree.specs.Stretches.{following, left_of}
 use Rattle.loop_tree.specs.Tiling.{TileRow, Tiling, kept, tiled, coordinates, items_at, wave_sum}
 use Rattle.loop_tree.specs.declared.stretch.Stretch.{Stretch}
 use Rattle.tile_list.specs.Tiles.{HasSize, InOneTile}
-use Rattle.tile_list.specs.steps.Stretching.{instance_at, steps_on}
-use Rattle.tile_list.proofs.Order.{one-sym, one-trans}
+use Rattle.tile_list.specs.steps.Keys.{IsKeyOf}
+use Rattle.tile_list.specs.steps.Stretching.{AllHaveKey, instance_at, steps_on}
+use Rattle.tile_list.specs.declared.keys.Key.{Key}
+use Rattle.tile_list.proofs.TellingKeys.{key_tells, tells_key}
 
 -- once the steps are the steps
 once : (steps : List ℤ) → multiples (pos 1) steps ≡ steps
@@ -83,17 +85,7 @@ at_place n turns steps j here (suc k) e (suc (suc i)) high low =
 first_sums : (turns steps : List ℤ) → sums turns steps ≡ sums turns (multiples (pos 1) steps)
 first_sums turns steps = ap (λ (ss : List ℤ). sums turns ss) (sym (once steps))
 
--- each that is left stands some steps on
-pub left_at : (s : Stretch) (y : Instance) → In y (left_of s)
-    → (i : ℕ) × (1 ≤ i) × (i ≤ s.left) × (y ≡ instance_at s i)
-left_at s y h =
-    let turns = (instance_of s.before).turns in
-    let steps = take s.before.loops s.steps in
-    let (i, low, high, is) =
-    from_place s.before.statement turns steps 0 turns s.left (first_sums turns steps) y h in
-    (i, omega (arith, low), omega (arith, high), is)
-
--- and what stands some steps on is left
+-- what stands some steps on is left
 pub at_left : (s : Stretch) (i : ℕ) → 1 ≤ i → i ≤ s.left → In (instance_at s i) (left_of s)
 at_left s i low high =
     let turns = (instance_of s.before).turns in
@@ -229,23 +221,23 @@ tile_along (tiled size statements) n turns steps i k some within one =
       tile = ap (λ (zs : List ℤ). front ++ zs) here;
     }
 
--- what follows an instance lies in a tile where that one and the last do
-following_in_tile : (tiling : Tiling) (n : ℕ) (turns steps : List ℤ) (k : ℕ) (x : Instance) → HasSize tiling
-    → InOneTile tiling x (record { number = n; turns = turns }) → InOneTile tiling x (steps_on n turns steps k)
-    → (y : Instance) → In y (following n turns steps k) → InOneTile tiling x y
-following_in_tile tiling n turns steps k x some front last y h =
+-- what follows an instance has its key where the last has it
+following_has_key : (tiling : Tiling) (n : ℕ) (turns steps : List ℤ) (k : ℕ) (key : Key) → HasSize tiling
+    → IsKeyOf tiling (record { number = n; turns = turns }) key → IsKeyOf tiling (steps_on n turns steps k) key
+    → (y : Instance) → In y (following n turns steps k) → IsKeyOf tiling y key
+following_has_key tiling n turns steps k key some front last y h =
     let before : Instance = record { number = n; turns = turns } in
     let (i, low, within, is) = from_place n turns steps 0 turns k (first_sums turns steps) y h in
-    let ends = one-trans tiling before x (steps_on n turns steps k) (one-sym tiling x before front) last in
+    let ends = key_tells tiling before (steps_on n turns steps k) key front last in
     let here = tile_along tiling n turns steps i k some (omega (arith, within)) ends in
-    subst (InOneTile tiling x) (sym is) (one-trans tiling x before (steps_on n turns steps i) front here)
+    subst (λ z. IsKeyOf tiling z key) (sym is) (tells_key tiling before (steps_on n turns steps i) key here front)
 
--- what is left of a stretch lies in a tile where the instance in front of it and its last do
-pub stretch_in_tile : (tiling : Tiling) (s : Stretch) (x : Instance) → HasSize tiling
-    → InOneTile tiling x (instance_of s.before) → InOneTile tiling x (instance_at s s.left)
-    → (y : Instance) → In y (left_of s) → InOneTile tiling x y
-stretch_in_tile tiling s x =
-    following_in_tile tiling s.before.statement (instance_of s.before).turns (take s.before.loops s.steps) s.left x
+-- so has what is left of a stretch
+pub stretch_has_key : (tiling : Tiling) (s : Stretch) (key : Key) → HasSize tiling
+    → IsKeyOf tiling (instance_of s.before) key → IsKeyOf tiling (instance_at s s.left) key
+    → AllHaveKey tiling key s
+stretch_has_key tiling s key =
+    following_has_key tiling s.before.statement (instance_of s.before).turns (take s.before.loops s.steps) s.left key
 
 -- the first is one step on, and the others are steps behind it
 first_on : (k : ℕ) (turns steps : List ℤ)
@@ -261,28 +253,25 @@ first_on k (t ∷ turns) (s ∷ steps) =
     let first : t +ℤ (pos (suc k) *ℤ s) ≡ (t +ℤ s) +ℤ (pos k *ℤ s) = omega (arith, ints, e) in
     ap₂ (λ (z : ℤ) (zs : List ℤ). z ∷ zs) first (first_on k turns steps)
 
--- what follows lies in a tile where its first and its last do
-ends_in_tile : (tiling : Tiling) (n : ℕ) (turns steps : List ℤ) (k : ℕ) (x : Instance) → HasSize tiling
-    → InOneTile tiling x (steps_on n turns steps 1) → InOneTile tiling x (steps_on n turns steps k)
-    → (y : Instance) → In y (following n turns steps k) → InOneTile tiling x y
-ends_in_tile tiling n turns steps zero x some first last y h = absurd h
-ends_in_tile tiling n turns steps (suc k) x some first last y h =
-    let front : InOneTile tiling x (record { number = n; turns = sums turns steps }) =
-    subst (λ (ts : List ℤ). InOneTile tiling x (record { number = n; turns = ts })) (sym (first_sums turns steps))
-    first in
+-- what follows has a key where its first and its last have it
+ends_have_key : (tiling : Tiling) (n : ℕ) (turns steps : List ℤ) (k : ℕ) (key : Key) → HasSize tiling
+    → IsKeyOf tiling (steps_on n turns steps 1) key → IsKeyOf tiling (steps_on n turns steps k) key
+    → (y : Instance) → In y (following n turns steps k) → IsKeyOf tiling y key
+ends_have_key tiling n turns steps zero key some first last y h = absurd h
+ends_have_key tiling n turns steps (suc k) key some first last y h =
+    let at : List ℤ → Type 0 = λ ts. IsKeyOf tiling (record { number = n; turns = ts }) key in
+    let front : at (sums turns steps) = subst at (sym (first_sums turns steps)) first in
     elim h [
-      | inl e ↦ subst (InOneTile tiling x) (sym e) front
-      | inr j ↦ following_in_tile tiling n (sums turns steps) steps k x some front
-          (subst (λ (ts : List ℤ). InOneTile tiling x (record { number = n; turns = ts })) (first_on k turns steps)
-          last) y j
+      | inl e ↦ subst (λ z. IsKeyOf tiling z key) (sym e) front
+      | inr j ↦ following_has_key tiling n (sums turns steps) steps k key some front
+          (subst at (first_on k turns steps) last) y j
     ]
 
--- so does what is left of a stretch
-pub strand_in_tile : (tiling : Tiling) (s : Stretch) (x : Instance) → HasSize tiling
-    → InOneTile tiling x (instance_at s 1) → InOneTile tiling x (instance_at s s.left)
-    → (y : Instance) → In y (left_of s) → InOneTile tiling x y
-strand_in_tile tiling s x =
-    ends_in_tile tiling s.before.statement (instance_of s.before).turns (take s.before.loops s.steps) s.left x
+-- so has what is left of a stretch
+pub strand_has_key : (tiling : Tiling) (s : Stretch) (key : Key) → HasSize tiling
+    → IsKeyOf tiling (instance_at s 1) key → IsKeyOf tiling (instance_at s s.left) key → AllHaveKey tiling key s
+strand_has_key tiling s key =
+    ends_have_key tiling s.before.statement (instance_of s.before).turns (take s.before.loops s.steps) s.left key
 
 -- a number of 64 bits as a signed one
 signed_is : (n : ℕ) → n < 2 ^ 64 → cast_signed w64 n ≡ int_wrap w64 (pos n)

@@ -1,5 +1,5 @@
 -- What is cut off grows instance by instance.
-use Rattle.std.proofs.Common.{◌≡◌, ◌≢◌, ◌∙◌, ℕ, suc, ◌+◌, ℤ, List, [], ◌∷◌, ◌++◌, length, drop, inl, inr, refl, ap, ap₂}
+use Rattle.std.proofs.Common.{◌≡◌, ◌∙◌, ℕ, suc, ◌+◌, ℤ, List, [], ◌∷◌, ◌++◌, length, drop, inl, inr, refl, ap, ap₂}
 use Rattle.std.proofs.Common.{subst, sym, arith}
 use Rattle.std.specs.Prelude.{Some}
 use Rattle.std.proofs.lemmas.List.{length-append, map-append}
@@ -15,47 +15,27 @@ use Rattle.loop_tree.specs.Conditions.{IsHeld}
 use Rattle.loop_tree.specs.Spot.{rest_of}
 use Rattle.loop_tree.specs.SpotView.{IsSpotOf, StandAlike, marks_in, to_come}
 use Rattle.loop_tree.specs.Stretches.{left_of}
-use Rattle.loop_tree.specs.Tiling.{Tiling, tile_of, wave_of}
+use Rattle.loop_tree.specs.Tiling.{Tiling, kept, tiled, wave_of}
 use Rattle.loop_tree.specs.Tree.{Trees}
 use Rattle.loop_tree.specs.Walk.{visits}
 use Rattle.loop_tree.specs.declared.braid.Braid.{Braid}
 use Rattle.loop_tree.specs.declared.spot.Spot.{Spot}
 use Rattle.loop_tree.proofs.SameSpots.{rest_alike, spot_alike}
 use Rattle.loop_tree.proofs.Stretches.{nothing_left}
-use Rattle.tile_list.specs.Tiles.{AreWaves, InOneTile, IsNextWave, RiseByTile, TileBefore, joined}
+use Rattle.tile_list.specs.Tiles.{AreWaves, IsNextWave, RiseByTile, TileBefore, joined}
 use Rattle.tile_list.specs.TilesView.{IsTile, firsts_of, waves_of}
 use Rattle.tile_list.specs.steps.Cutting.{AreTilesOf, HasBegun, HasGrown, IsCut, IsCutTo, IsNewTile, IsWaveOf}
 use Rattle.tile_list.specs.steps.Cutting.{Takes}
-use Rattle.tile_list.specs.steps.Keys.{HasKey, IsKeyOf}
+use Rattle.tile_list.specs.steps.Keys.{IsKeyOf}
 use Rattle.tile_list.specs.steps.Stretching.{AllHaveKey, Passes}
 use Rattle.tile_list.specs.declared.cutting.Cut.{Cut}
 use Rattle.tile_list.specs.declared.keys.Key.{Key}
 use Rattle.tile_list.specs.declared.list.Tile.{Tile}
 use Rattle.tile_list.proofs.Stretches.{length-left}
+use Rattle.tile_list.proofs.TellingKeys.{key_tells, tells_key, tells_waves, waves_tell}
 use Rattle.tile_list.proofs.ListedTiles.{tile_more}
 use Rattle.tile_list.proofs.Parts.{grown, next_begun, next_rises}
 use Rattle.tile_list.proofs.Waves.{wave_more}
-
--- one key in place of another
-pub same_key : (tiling : Tiling) (x y : Instance) (key other : Key) → x ≡ y → IsKeyOf tiling x key
-    → other.wave.items ≡ key.wave.items → other.tile.items ≡ key.tile.items → IsKeyOf tiling y other
-same_key tiling x y key other e is waves tiles =
-    record {
-      wave = waves ∙ (is.wave ∙ ap (wave_of tiling) e);
-      tile = tiles ∙ (is.tile ∙ ap (tile_of tiling) e);
-    }
-
--- keys that are one are those of instances of one tile
-pub keys_tell : (tiling : Tiling) (x y : Instance) (key next : Key) → IsKeyOf tiling x key → IsKeyOf tiling y next
-    → next.wave.items ≡ key.wave.items → next.tile.items ≡ key.tile.items → InOneTile tiling x y
-keys_tell tiling x y key next is are waves tiles =
-    record { wave = sym is.wave ∙ (sym waves ∙ are.wave); tile = sym is.tile ∙ (sym tiles ∙ are.tile) }
-
--- and the other way round
-tells_keys : (tiling : Tiling) (x y : Instance) (key next : Key) → IsKeyOf tiling x key → IsKeyOf tiling y next
-    → InOneTile tiling x y → (next.wave.items ≡ key.wave.items) × (next.tile.items ≡ key.tile.items)
-tells_keys tiling x y key next is are one =
-    (are.wave ∙ (sym one.wave ∙ sym is.wave), are.tile ∙ (sym one.tile ∙ sym is.tile))
 
 -- a tile with so many instances more
 tile_grown : (ts : Trees) (params : List ℤ) (k : ℕ) (x : Instance) (more ys : List Instance)
@@ -93,11 +73,11 @@ tile_begun ts params front first spot n tile new is all =
     }
 
 -- the next instances are in the current tile
-pub takes_all : (tiling : Tiling) (ys : List Instance) (count : ℕ) (old new : Cut) (next : Key)
-    → count ≡ length ys → ((y : Instance) → In y ys → HasKey tiling old.key y)
-    → HasGrown count (record old { next = next }) new → (ts : Trees) (params : List ℤ) (rest : List Instance)
+pub takes_all : (tiling : Tiling) (ys : List Instance) (count : ℕ) (old new : Cut) → count ≡ length ys
+    → ((y : Instance) → In y ys → IsKeyOf tiling y old.key) → HasGrown count old new
+    → (ts : Trees) (params : List ℤ) (rest : List Instance)
     → IsCutTo ts params tiling (ys ++ rest) old → IsCutTo ts params tiling rest new
-takes_all tiling ys count old new next all_are one has ts params rest cut =
+takes_all tiling ys count old new all_are one has ts params rest cut =
     let x = instance_of old.current.first in
     let all = cut.more ++ ys in
     let same : instance_of new.current.first ≡ x = ap instance_of has.first in
@@ -106,7 +86,7 @@ takes_all tiling ys count old new next all_are one has ts params rest cut =
       more = all;
       parts = subst (λ z. IsCut tiling (visits ts params) cut.closed z all rest) (sym same)
           (grown tiling (visits ts params) cut.closed x cut.more ys rest cut.parts
-          (λ y i. one y i x cut.key));
+          (λ y i. key_tells tiling x y old.key cut.key (one y i)));
       tiles = subst (AreTilesOf ts params cut.closed) (sym has.tiles) cut.tiles;
       last = subst (λ z. IsTile ts params (length (joined cut.closed)) (z ∷ all) new.current) (sym same)
           (tile_grown ts params (length (joined cut.closed)) x cut.more ys old.current new.current cut.last has.first
@@ -117,42 +97,40 @@ takes_all tiling ys count old new next all_are one has ts params rest cut =
           (waves_of old.tiles.items ++ new.current.wave ∷ [])) (sym same)
           (subst (λ n. AreWaves tiling (firsts_of old.tiles.items ++ x ∷ []) (waves_of old.tiles.items ++ n ∷ []))
           (sym has.wave) cut.waves));
-      key = same_key tiling x (instance_of new.current.first) old.key new.key (sym same) cut.key has.wave_of
-          has.tile_of;
+      key = subst (λ z. IsKeyOf tiling z new.key) (sym same) (subst (IsKeyOf tiling x) (sym has.key) cut.key);
     }
 
 -- the next instance is in the current tile
-pub takes_same : (tiling : Tiling) (y : Instance) (spot : Spot) (old new : Cut) (next : Key)
-    → IsKeyOf tiling y next → next.wave.items ≡ old.key.wave.items → next.tile.items ≡ old.key.tile.items
-    → HasGrown 1 (record old { next = next }) new → Takes tiling y spot old new
-takes_same tiling y spot old new next is waves tiles has =
+pub takes_same : (tiling : Tiling) (y : Instance) (spot : Spot) (old new : Cut) → IsKeyOf tiling y old.key
+    → HasGrown 1 old new → Takes tiling y spot old new
+takes_same tiling y spot old new is has =
     record {
-      cut = λ ts params rise at. takes_all tiling (y ∷ []) 1 old new next refl one has ts params
+      cut = λ ts params rise at. takes_all tiling (y ∷ []) 1 old new refl one has ts params
           (to_come ts params spot);
-      key = λ z key. keys_tell tiling z y new.key next key is (waves ∙ sym has.wave_of) (tiles ∙ sym has.tile_of);
+      key = subst (IsKeyOf tiling y) (sym has.key) is;
     }
   where
-    one : (z : Instance) → In z (y ∷ []) → HasKey tiling old.key z
-    one z (inl e) x key = subst (InOneTile tiling x) (sym e) (keys_tell tiling x y old.key next key is waves tiles)
-    one z (inr j) x key = absurd j
+    one : (z : Instance) → In z (y ∷ []) → IsKeyOf tiling z old.key
+    one z (inl e) = subst (λ x. IsKeyOf tiling x old.key) (sym e) is
+    one z (inr j) = absurd j
 
 -- the number of the next wave
 next_number : (tiling : Tiling) (x y : Instance) (cut : Cut) (n : ℕ) → IsKeyOf tiling x cut.key
     → IsKeyOf tiling y cut.next → IsWaveOf cut n → TileBefore tiling x y
     → IsNextWave tiling x cut.current.wave y n
-next_number tiling x y cut n is are wave (inl less) =
-    let other : cut.next.wave.items ≢ cut.key.wave.items =
-    λ e. LexLess-irrefl (wave_of tiling y)
-    (subst (λ w. LexLess w (wave_of tiling y)) (sym is.wave ∙ (sym e ∙ are.wave)) less) in
-    let one = wave.other other in
+next_number kept x y cut n is are wave (inl less) = absurd less
+next_number kept x y cut n is are wave (inr less) = absurd less.1
+next_number (tiled size statements) x y cut n is are wave (inl less) =
+    let tiling = tiled size statements in
+    let one = wave.other (λ e. LexLess-irrefl (wave_of tiling y)
+    (subst (λ w. LexLess w (wave_of tiling y)) (waves_tell size statements x y cut.key cut.next is are e) less)) in
     inr (less, omega (arith, one))
-next_number tiling x y cut n is are wave (inr less) =
-    inl (less.0, wave.same (are.wave ∙ (sym less.0 ∙ sym is.wave)))
+next_number (tiled size statements) x y cut n is are wave (inr less) =
+    inl (less.0, wave.same (tells_waves size statements x y cut.key cut.next is are less.0))
 
 -- the next instance begins a tile
 begins_next : (tiling : Tiling) (first : CodeInstance) (spot : Spot) (old new : Cut) (next : Key)
-    → IsKeyOf tiling (instance_of first) next
-    → ((next.wave.items ≡ old.key.wave.items) × (next.tile.items ≡ old.key.tile.items) → ⊥)
+    → IsKeyOf tiling (instance_of first) next → (IsKeyOf tiling (instance_of first) old.key → ⊥)
     → HasBegun first spot (record old { next = next }) new
     → (ts : Trees) (params : List ℤ) → RiseByTile tiling (visits ts params) → IsSpotOf ts params spot
     → IsCutTo ts params tiling (instance_of first ∷ to_come ts params spot) old
@@ -166,7 +144,7 @@ begins_next tiling first spot old new next is other has ts params rise at cut =
     let same : instance_of new.current.first ≡ y = ap instance_of tile.first_is in
     let less : TileBefore tiling x y =
     elim (next_rises tiling (visits ts params) cut.closed x cut.more y rest rise cut.parts) [
-      | inl one ↦ absurd (other (tells_keys tiling x y old.key next cut.key is one))
+      | inl one ↦ absurd (other (tells_key tiling x y old.key one cut.key))
       | inr before ↦ before
     ] in
     let parts = next_begun tiling (visits ts params) cut.closed x cut.more y rest cut.parts less in
@@ -182,7 +160,7 @@ begins_next tiling first spot old new next is other has ts params rise at cut =
       waves = subst (λ (us : List Tile). AreWaves tiling (firsts_of us ++ instance_of new.current.first ∷ [])
           (waves_of us ++ new.current.wave ∷ [])) (sym has.tiles)
           (numbered ts params same (tile.wave_is) number cut);
-      key = same_key tiling y (instance_of new.current.first) next new.key (sym same) is has.wave_of has.tile_of;
+      key = subst (λ z. IsKeyOf tiling z new.key) (sym same) (subst (IsKeyOf tiling y) (sym has.key) is);
     }
   where
     numbered : (ts : Trees) (params : List ℤ) {rest : List Instance}
@@ -209,38 +187,37 @@ begins_next tiling first spot old new next is other has ts params rise at cut =
 
 -- so is it taken
 pub takes_next : (tiling : Tiling) (first : CodeInstance) (spot : Spot) (old new : Cut) (next : Key)
-    → IsKeyOf tiling (instance_of first) next
-    → ((next.wave.items ≡ old.key.wave.items) × (next.tile.items ≡ old.key.tile.items) → ⊥)
+    → IsKeyOf tiling (instance_of first) next → (IsKeyOf tiling (instance_of first) old.key → ⊥)
     → HasBegun first spot (record old { next = next }) new → Takes tiling (instance_of first) spot old new
 takes_next tiling first spot old new next is other has =
     record {
       cut = begins_next tiling first spot old new next is other has;
-      key = λ z key. keys_tell tiling z (instance_of first) new.key next key is (sym has.wave_of) (sym has.tile_of);
+      key = subst (IsKeyOf tiling (instance_of first)) (sym has.key) is;
     }
 
 -- what a spot passes is in the current tile
-passes : (tiling : Tiling) (passed spot : Spot) (ys : List Instance) (count : ℕ) (old new : Cut) (next : Key)
+passes : (tiling : Tiling) (passed spot : Spot) (ys : List Instance) (count : ℕ) (old new : Cut)
     → ((ts : Trees) (params : List ℤ) → IsSpotOf ts params passed → IsSpotOf ts params spot)
     → ((ts : Trees) (params : List ℤ) → to_come ts params passed ≡ ys ++ to_come ts params spot)
-    → count ≡ length ys → ((y : Instance) → In y ys → HasKey tiling old.key y)
-    → HasGrown count (record old { next = next }) new → Passes tiling passed spot old new
-passes tiling passed spot ys count old new next spots all count_is one has =
+    → count ≡ length ys → ((y : Instance) → In y ys → IsKeyOf tiling y old.key)
+    → HasGrown count old new → Passes tiling passed spot old new
+passes tiling passed spot ys count old new spots all count_is one has =
     record {
       spots = spots;
       fewer = λ ts params. let e = ap (λ (xs : List Instance). length xs) (all ts params) in
           let l = length-append ys (to_come ts params spot) in
           omega (arith, e, l);
-      cut = λ ts params is. takes_all tiling ys count old new next count_is one has ts params (to_come ts params spot)
+      cut = λ ts params is. takes_all tiling ys count old new count_is one has ts params (to_come ts params spot)
           (subst (λ (xs : List Instance). IsCutTo ts params tiling xs old) (all ts params) is);
     }
 
 -- what is left of its stretch
-pub passes_stretch : (tiling : Tiling) (spot : Spot) (old new : Cut) (next : Key)
-    → AllHaveKey tiling old.key spot.stretch → HasGrown spot.stretch.left (record old { next = next }) new
+pub passes_stretch : (tiling : Tiling) (spot : Spot) (old new : Cut)
+    → AllHaveKey tiling old.key spot.stretch → HasGrown spot.stretch.left old new
     → Passes tiling spot (record spot { stretch = record spot.stretch { left = 0 } }) old new
-passes_stretch tiling spot old new next =
+passes_stretch tiling spot old new =
     let s = spot.stretch in
-    passes tiling spot (record spot { stretch = record s { left = 0 } }) (left_of s) s.left old new next
+    passes tiling spot (record spot { stretch = record s { left = 0 } }) (left_of s) s.left old new
     (λ ts params is. record {
       room = is.room;
       stands = is.stands;
@@ -250,15 +227,15 @@ passes_stretch tiling spot old new next =
     (λ ts params. refl) (sym (length-left s))
 
 -- what is left of its braid
-pub passes_braid : (tiling : Tiling) (spot : Spot) (b : Braid) (count : ℕ) (old new : Cut) (next : Key)
+pub passes_braid : (tiling : Tiling) (spot : Spot) (b : Braid) (count : ℕ) (old new : Cut)
     → spot.stretch.left ≡ 0 → left_of_braid b ≡ [] → IsBraid b → count ≡ length (left_of_braid spot.braid)
-    → ((y : Instance) → In y (left_of_braid spot.braid) → HasKey tiling old.key y)
-    → HasGrown count (record old { next = next }) new → Passes tiling spot (record spot { braid = b }) old new
-passes_braid tiling spot b count old new next empty none is_braid =
+    → ((y : Instance) → In y (left_of_braid spot.braid) → IsKeyOf tiling y old.key)
+    → HasGrown count old new → Passes tiling spot (record spot { braid = b }) old new
+passes_braid tiling spot b count old new empty none is_braid =
     let xs = left_of_braid spot.braid in
     let rest : Trees → List ℤ → List Instance = λ ts params. rest_of ts (marks_in spot) params [] in
     let gone = nothing_left spot.stretch empty in
-    passes tiling spot (record spot { braid = b }) xs count old new next
+    passes tiling spot (record spot { braid = b }) xs count old new
     (λ ts params is. record {
       room = is.room;
       stands = is.stands;

@@ -25,7 +25,7 @@ use Rattle.tile_list.specs.declared.list.TileList.{TileList}
 use Rattle.tile_list.proofs.ListedTiles.{no_tiles, tile_more}
 use Rattle.tile_list.proofs.Offset.{offsets_are, waves_rise}
 use Rattle.tile_list.proofs.Parts.{begun, ended, none_cut}
-use Rattle.tile_list.proofs.TakenInstances.{keys_tell, same_key, tile_begun}
+use Rattle.tile_list.proofs.TakenInstances.{tile_begun}
 
 -- the first instance
 begun_cut : (tiling : Tiling) (first : CodeInstance) (spot : Spot) (cut : Cut)
@@ -46,7 +46,7 @@ begun_cut tiling first spot cut key tile none ts params at all =
       last = tile_begun ts params [] first spot 0 cut.current tile at (sym all);
       waves = subst (λ (us : List Tile). AreWaves tiling (firsts_of us ++ instance_of cut.current.first ∷ [])
           (waves_of us ++ cut.current.wave ∷ [])) (sym none) (tile.wave_is, tt);
-      key = same_key tiling x (instance_of cut.current.first) cut.key cut.key (sym same) key refl refl;
+      key = subst (λ z. IsKeyOf tiling z cut.key) (sym same) key;
     }
 
 -- it begins the cut
@@ -56,7 +56,7 @@ pub begins : (tiling : Tiling) (first : CodeInstance) (spot : Spot) (cut : Cut)
 begins tiling first spot cut key tile none =
     record {
       cut_is = begun_cut tiling first spot cut key tile none;
-      key = λ z is. keys_tell tiling z (instance_of first) cut.key cut.key is key refl refl;
+      key = key;
     }
 
 -- what is still to come is visited

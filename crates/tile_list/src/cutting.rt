@@ -12,7 +12,7 @@ ghost use Rattle.tile_list.specs.Tiles.{CanTile, HasSize, RiseByTile, RowsFit};
 ghost use Rattle.tile_list.specs.TilesView.{IsTileListOf};
 ghost use Rattle.tile_list.specs.steps.Cutting.{Begins, HasBegun, HasGrown, IsCutTo, IsListed};
 ghost use Rattle.tile_list.specs.steps.Cutting.{IsNewTile, IsWaveOf, Takes};
-ghost use Rattle.tile_list.specs.steps.Keys.{HasKey};
+ghost use Rattle.tile_list.specs.steps.Keys.{IsKeyOf};
 ghost use Rattle.tile_list.specs.steps.Stretching.{AllFit, AllRowsFit, HasRounds, Passes};
 
 use crate::keys::Key;
@@ -23,7 +23,7 @@ use scop_syntax::instance::Instance;
 use std::alloc::{AllocError, Global};
 use std::mem;
 
-/// The tiles that have come to their ends, the one that still grows with its key, and room for the key of an instance.
+/// The tiles that have come to their ends, the one that still grows with its key, and room for the key of the next one.
 #[derive(Drop)]
 struct Cut {
     tiles: Vec<Tile>,
@@ -70,6 +70,7 @@ fn rounds_left(braid: &Braid) -> u64
 }
 
 /// Whether something is left of a stretch or a braid.
+#[inline]
 fn has_left(stretch: &Stretch, braid: &Braid) -> bool
     requires { IsBraid braid.now }
     ensures { result ≡ false → left_of stretch.now ++ left_of_braid braid.now ≡ [] }
@@ -112,6 +113,7 @@ impl Cut {
     }
 
     /// The current tile has so many instances more.
+    #[inline]
     fn grow(&mut self, count: usize) -> Result<(), AllocError>
         ensures { OnOk result (HasGrown count self.old self.new) }
     {
@@ -142,6 +144,7 @@ impl Cut {
     }
 
     /// The next instance is in its tile.
+    #[inline]
     fn take(
         &mut self,
         alloc: Global,
@@ -153,12 +156,11 @@ impl Cut {
         requires fits { RowsFit (tiling_of tiling.now) (instance_of instance) }
         ensures { OnOk result (Takes (tiling_of tiling.now) (instance_of instance) spot.now self.old self.new) }
     {
-        self.next.set(tiling, &instance)?;
-        if self.next.is_that_of(&self.key) {
-            self.grow(1)
-        } else {
-            self.begin(alloc, instance, spot)
+        if self.key.is_of(tiling, &instance) {
+            return self.grow(1);
         }
+        self.next.set(tiling, &instance)?;
+        self.begin(alloc, instance, spot)
     }
 
     /// Takes what is left of the stretch behind an instance that was taken, where it lies in the current tile.
@@ -169,7 +171,7 @@ impl Cut {
         spot: &mut Spot,
     ) -> Result<(), AllocError>
         requires size { HasSize (tiling_of tiling.now) }
-        requires key { HasKey (tiling_of tiling.now) self.old.key (instance_of taken.now) }
+        requires key { IsKeyOf (tiling_of tiling.now) (instance_of taken.now) self.old.key }
         requires held { All IsHeld (left_of spot.old.stretch) }
         requires fits { AllRowsFit (tiling_of tiling.now) spot.old.stretch }
         ensures { OnOk result (Passes (tiling_of tiling.now) spot.old spot.new self.old self.new) }
@@ -177,7 +179,7 @@ impl Cut {
         if !spot.stretch.follows(taken) {
             return Ok(());
         }
-        if !self.next.is_of_stretch(&self.key, tiling, &spot.stretch)? {
+        if !self.key.is_of_stretch(tiling, &spot.stretch) {
             return Ok(());
         }
         self.grow(spot.stretch.left as usize)?;
@@ -198,7 +200,7 @@ impl Cut {
             return Ok(());
         }
         let strands = &spot.braid.strands[..spot.braid.count];
-        if !self.next.is_of_strands(&self.key, tiling, strands)? {
+        if !self.key.is_of_strands(tiling, strands) {
             return Ok(());
         }
         self.grow(times(spot.braid.count, rounds as usize)?)?;
@@ -217,7 +219,7 @@ impl Cut {
         spot: &mut Spot,
     ) -> Result<(), AllocError>
         requires size { HasSize (tiling_of tiling.now) }
-        requires key { HasKey (tiling_of tiling.now) self.old.key (instance_of taken.now) }
+        requires key { IsKeyOf (tiling_of tiling.now) (instance_of taken.now) self.old.key }
         requires held { All IsHeld (left_of spot.old.stretch) }
         requires braid { IsBraid spot.old.braid }
         requires fits { AllFit (tiling_of tiling.now) (left_of spot.old.stretch ++ left_of_braid spot.old.braid) }

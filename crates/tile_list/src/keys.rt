@@ -1,17 +1,18 @@
-//! The wave and the tile of an instance, in two buffers that are filled again for the next one.
-ghost use Rattle.std.specs.Prelude.{◌≡◌, ◌+ℤ◌, ◌<◌, ◌≤◌, ◌↔◌, ◌++◌, ◌∷◌, [], All, FitsSigned, IfOk, IsTrue, OnOk};
-ghost use Rattle.std.specs.Prelude.{false, get_or, if◌then◌else◌, map, pos, take, true};
-ghost use Rattle.std.specs.Int.{w64};
+//! The wave and the tile of an instance. Whether an instance has those of a key is told with no division: by its leading
+//! scalars, and by the interval that each coordinate stands for.
+ghost use Rattle.std.specs.Prelude.{◌≡◌, ◌+ℤ◌, ◌*ℤ◌, if◌then◌else◌, ◌<◌, ◌≤◌, ◌↔◌, ◌++◌, All, FitsSigned, IsTrue, OnOk};
+ghost use Rattle.std.specs.Prelude.{false, get_or, length, map, pos, take, true};
+ghost use Rattle.std.specs.Int.{w64, w128};
 ghost use Rattle.whole_numbers.specs.Affine.{value_of};
 ghost use Rattle.whole_numbers.specs.Floor.{floor};
 ghost use Rattle.whole_numbers.specs.Lists.{multiples};
 ghost use Rattle.scop_syntax.specs.View.{instance_of};
 ghost use Rattle.loop_tree.specs.Conditions.{IsHeld};
 ghost use Rattle.loop_tree.specs.Stretches.{left_of};
-ghost use Rattle.loop_tree.specs.Tiling.{coordinates, wave_sum};
-ghost use Rattle.loop_tree.specs.TilingView.{tiling_of};
+ghost use Rattle.loop_tree.specs.Tiling.{coordinates, items_at};
+ghost use Rattle.loop_tree.specs.TilingView.{items_of, tiling_of};
 ghost use Rattle.tile_list.specs.Tiles.{HasSize, RowsFit};
-ghost use Rattle.tile_list.specs.steps.Keys.{HasKey, IsKeyOf};
+ghost use Rattle.tile_list.specs.steps.Keys.{HaveOneWave, IsKeyAt, IsKeyOf, carried};
 ghost use Rattle.tile_list.specs.steps.Stretching.{AllHaveKey, AllRowsFit, instance_at, steps_on};
 
 use loop_tree::{Stretch, TileItems, TileRow, Tiling};
@@ -19,24 +20,17 @@ use scop_syntax::affine_values::{exact_at, with_product};
 use scop_syntax::instance::{Instance, MAX_LOOPS};
 use std::alloc::{AllocError, Global};
 
-/// An instance's wave, and its tile.
+/// An instance's wave and its tile: the leading scalars of its statement, the sum of the coordinates of the rows that
+/// carry, and the coordinates of all rows.
 #[derive(Drop)]
 pub struct Key {
-    pub wave: Vec<i128>,
-    pub tile: Vec<i128>,
-}
-
-/// Puts a statement's leading scalars behind others.
-fn push_scalars(list: &mut Vec<i128>, scalars: &[usize]) -> Result<(), AllocError>
-    ensures { OnOk result (list.new.items ≡ list.old.items ++ map pos scalars.now) }
-{
-    for scalar in scalars {
-        list.push(*scalar as i128)?;
-    }
-    Ok(())
+    pub leading: Vec<usize>,
+    pub sum: i128,
+    pub tile: Vec<i64>,
 }
 
 /// A number by another one, rounded down.
+#[inline]
 fn floor_of(value: i64, size: u64) -> i64
     requires { 1 ≤ size }
     ensures { result ≡ floor value (pos size) }
@@ -49,45 +43,18 @@ fn floor_of(value: i64, size: u64) -> i64
 }
 
 /// The value of a row, by the size of the tiles.
-fn coordinate(row: &TileRow, size: u64, turns: &[i64]) -> i128
+#[inline]
+fn coordinate(row: &TileRow, size: u64, turns: &[i64]) -> i64
     requires size { 1 ≤ size }
     requires fits { FitsSigned w64 (value_of row.now.form turns.now) }
-    ensures is { result ≡ floor (value_of row.now.form turns.now) (pos size) }
-    ensures small { FitsSigned w64 result }
+    ensures { result ≡ floor (value_of row.now.form turns.now) (pos size) }
 {
-    floor_of(exact_at(&row.form, turns), size) as i128
-}
-
-/// What a row adds to the wave.
-fn carried(row: &TileRow, size: u64, turns: &[i64]) -> i128
-    requires size { 1 ≤ size }
-    requires fits { FitsSigned w64 (value_of row.now.form turns.now) }
-    ensures is { result ≡ (if row.now.carries then floor (value_of row.now.form turns.now) (pos size) else pos 0) }
-    ensures small { FitsSigned w64 result }
-{
-    if row.carries {
-        coordinate(row, size, turns)
-    } else {
-        0
-    }
-}
-
-/// The sum of the coordinates of the rows that carry.
-fn wave_number(rows: &[TileRow], size: u64, turns: &[i64]) -> i128
-    requires size { 1 ≤ size }
-    requires fits { All (λ r. FitsSigned w64 (value_of r.form turns.now)) rows.now }
-    ensures { result ≡ wave_sum (pos size) rows.now turns.now }
-{
-    let mut sum = 0i128;
-    for row in rows {
-        sum += carried(row, size, turns);
-    }
-    sum
+    floor_of(exact_at(&row.form, turns), size)
 }
 
 /// Puts the coordinates of rows behind others.
 fn push_coordinates(
-    list: &mut Vec<i128>,
+    list: &mut Vec<i64>,
     rows: &[TileRow],
     size: u64,
     turns: &[i64],
@@ -102,35 +69,103 @@ fn push_coordinates(
     Ok(())
 }
 
-/// Puts a statement's wave and tile at some turns behind others.
-fn push_key(
-    wave: &mut Vec<i128>,
-    tile: &mut Vec<i128>,
-    items: &TileItems,
-    size: u64,
-    turns: &[i64],
-) -> Result<(), AllocError>
-    requires size { 1 ≤ size }
-    requires fits { All (λ r. FitsSigned w64 (value_of r.form turns.now)) items.now.band.items }
-    ensures wave { OnOk result (wave.new.items ≡ wave.old.items ++ (map pos items.now.leading.items
-        ++ wave_sum (pos size) items.now.band.items turns.now ∷ [])) }
-    ensures tile { OnOk result (tile.new.items ≡ tile.old.items ++ (map pos items.now.leading.items
-        ++ coordinates (pos size) items.now.band.items turns.now)) }
+/// The least number with a coordinate.
+#[inline]
+fn least_with(coordinate: i64, size: u64) -> i128
+    ensures is { result ≡ coordinate *ℤ pos size }
+    ensures small { FitsSigned w128 (result +ℤ pos size) }
 {
-    push_scalars(wave, &items.leading)?;
-    wave.push(wave_number(&items.band, size, turns))?;
-    push_scalars(tile, &items.leading)?;
-    push_coordinates(tile, &items.band, size, turns)
+    coordinate as i128 * size as i128
+}
+
+/// Whether a number by another one, rounded down, is a coordinate: a product and two comparisons tell it.
+#[inline]
+fn is_within(value: i64, size: u64, coordinate: i64) -> bool
+    requires { 1 ≤ size }
+    ensures within { result ≡ true → floor value (pos size) ≡ coordinate }
+    ensures outside { result ≡ false → floor value (pos size) ≡ coordinate → ⊥ }
+{
+    let least = least_with(coordinate, size);
+    if (value as i128) < least {
+        return false;
+    }
+    if least + size as i128 <= value as i128 {
+        return false;
+    }
+    true
+}
+
+/// Whether the coordinates of rows are these.
+fn are_within(rows: &[TileRow], size: u64, turns: &[i64], tile: &[i64]) -> bool
+    requires size { 1 ≤ size }
+    requires fits { All (λ r. FitsSigned w64 (value_of r.form turns.now)) rows.now }
+    ensures within { result ≡ true → tile.now ≡ coordinates (pos size) rows.now turns.now }
+    ensures outside { result ≡ false → tile.now ≡ coordinates (pos size) rows.now turns.now → ⊥ }
+{
+    if rows.len() != tile.len() {
+        return false;
+    }
+    for (place, row) in rows.iter().enumerate() {
+        if !is_within(exact_at(&row.form, turns), size, tile[place]) {
+            return false;
+        }
+    }
+    true
+}
+
+/// What a row's coordinate adds to the wave.
+#[inline]
+fn carried_by(row: &TileRow, coordinate: i64) -> i128
+    ensures is { result ≡ (if row.now.carries then coordinate else pos 0) }
+    ensures small { FitsSigned w64 result }
+{
+    if row.carries { coordinate as i128 } else { 0 }
+}
+
+/// The sum of the coordinates of the rows that carry.
+fn carried_sum(rows: &[TileRow], tile: &[i64]) -> i128
+    requires { length tile.now ≡ length rows.now }
+    ensures { result ≡ carried rows.now tile.now }
+{
+    let mut sum = 0i128;
+    for (place, row) in rows.iter().enumerate() {
+        sum += carried_by(row, tile[place]);
+    }
+    sum
 }
 
 /// Whether two lists of numbers are one.
-fn are_same(left: &[i128], right: &[i128]) -> bool
+#[inline]
+fn are_same(left: &[usize], right: &[usize]) -> bool
     ensures { IsTrue result ↔ (left.now ≡ right.now) }
 {
     left == right
 }
 
+/// A statement's leading scalars.
+#[inline]
+fn leading_at(statements: &[TileItems], statement: usize) -> &[usize]
+    ensures { result.now ≡ (items_at (map items_of statements.now) statement).leading }
+{
+    match statements.get(statement) {
+        None => &[],
+        Some(items) => &items.leading,
+    }
+}
+
+/// The rows of its first band.
+#[inline]
+fn band_at(statements: &[TileItems], statement: usize) -> &[TileRow]
+    ensures { result.now ≡ (items_at (map items_of statements.now) statement).band }
+{
+    match statements.get(statement) {
+        None => &[],
+        Some(items) => &items.band,
+    }
+}
+
 /// What a turn is so many steps on, where there is room for it; another number elsewhere.
+#[inline]
 fn turn_after(turns: &[i64; MAX_LOOPS], steps: &[i64; MAX_LOOPS], count: u64, place: usize) -> i64
     requires { place < 5 }
     ensures { FitsSigned w64 (get_or turns.now place (pos 0) +ℤ get_or (multiples (pos count) steps.now) place (pos 0))
@@ -163,9 +198,30 @@ impl Key {
     /// A key to be filled.
     pub fn empty(alloc: Global) -> Key {
         Key {
-            wave: Vec::new(alloc),
+            leading: Vec::new(alloc),
+            sum: 0,
             tile: Vec::new(alloc),
         }
+    }
+
+    /// Becomes that of a statement's turns.
+    fn set_at(
+        &mut self,
+        size: u64,
+        leading: &[usize],
+        band: &[TileRow],
+        turns: &[i64],
+    ) -> Result<(), AllocError>
+        requires size { 1 ≤ size }
+        requires fits { All (λ r. FitsSigned w64 (value_of r.form turns.now)) band.now }
+        ensures { OnOk result (IsKeyAt size leading.now band.now turns.now self.new) }
+    {
+        self.leading.clear();
+        self.leading.extend_from_slice(leading)?;
+        self.tile.clear();
+        push_coordinates(&mut self.tile, band, size, turns)?;
+        self.sum = carried_sum(band, &self.tile);
+        Ok(())
     }
 
     /// Becomes that of an instance.
@@ -177,132 +233,121 @@ impl Key {
         requires fits { RowsFit (tiling_of tiling.now) (instance_of instance.now) }
         ensures { OnOk result (IsKeyOf (tiling_of tiling.now) (instance_of instance.now) self.new) }
     {
-        self.wave.clear();
-        self.tile.clear();
         match tiling {
             Tiling::Kept => Ok(()),
-            Tiling::Tiled(size, statements) => match statements.get(instance.statement) {
-                None => {
-                    self.wave.push(0)?;
-                    Ok(())
-                }
-                Some(items) => push_key(
-                    &mut self.wave,
-                    &mut self.tile,
-                    items,
-                    *size,
-                    instance.turns(),
-                ),
-            },
+            Tiling::Tiled(size, statements) => self.set_at(
+                *size,
+                leading_at(statements, instance.statement),
+                band_at(statements, instance.statement),
+                instance.turns(),
+            ),
         }
     }
 
     /// Whether the waves are one.
     pub fn has_wave(&self, other: &Key) -> bool
-        ensures { IsTrue result ↔ (self.now.wave.items ≡ other.now.wave.items) }
+        ensures same { result ≡ true → HaveOneWave self.now other.now }
+        ensures other { result ≡ false → HaveOneWave self.now other.now → ⊥ }
     {
-        are_same(&self.wave, &other.wave)
+        if !are_same(&self.leading, &other.leading) {
+            return false;
+        }
+        self.sum == other.sum
     }
 
-    /// Whether waves and tiles are one.
-    pub fn is_that_of(&self, other: &Key) -> bool
-        ensures same { result ≡ true
-            → (self.now.wave.items ≡ other.now.wave.items) × (self.now.tile.items ≡ other.now.tile.items) }
-        ensures other { result ≡ false
-            → (self.now.wave.items ≡ other.now.wave.items) × (self.now.tile.items ≡ other.now.tile.items) → ⊥ }
+    /// Whether it is that of a statement's turns.
+    #[inline]
+    fn is_at(&self, size: u64, leading: &[usize], band: &[TileRow], turns: &[i64]) -> bool
+        requires size { 1 ≤ size }
+        requires fits { All (λ r. FitsSigned w64 (value_of r.form turns.now)) band.now }
+        ensures same { result ≡ true → IsKeyAt size leading.now band.now turns.now self.now }
+        ensures other { result ≡ false → IsKeyAt size leading.now band.now turns.now self.now → ⊥ }
     {
-        if self.has_wave(other) {
-            are_same(&self.tile, &other.tile)
-        } else {
-            false
+        if !are_same(&self.leading, leading) {
+            return false;
+        }
+        if !are_within(band, size, turns, &self.tile) {
+            return false;
+        }
+        if self.sum != carried_sum(band, &self.tile) {
+            return false;
+        }
+        true
+    }
+
+    /// Whether it is that of an instance. It takes no memory and no division.
+    #[inline]
+    pub fn is_of(&self, tiling: &Tiling, instance: &Instance) -> bool
+        requires size { HasSize (tiling_of tiling.now) }
+        requires fits { RowsFit (tiling_of tiling.now) (instance_of instance.now) }
+        ensures same { result ≡ true → IsKeyOf (tiling_of tiling.now) (instance_of instance.now) self.now }
+        ensures other { result ≡ false → IsKeyOf (tiling_of tiling.now) (instance_of instance.now) self.now → ⊥ }
+    {
+        match tiling {
+            Tiling::Kept => true,
+            Tiling::Tiled(size, statements) => self.is_at(
+                *size,
+                leading_at(statements, instance.statement),
+                band_at(statements, instance.statement),
+                instance.turns(),
+            ),
         }
     }
 
-    /// Whether the other one is the key of the instance so many steps on a stretch.
-    fn is_at(
-        &mut self,
-        other: &Key,
-        tiling: &Tiling,
-        stretch: &Stretch,
-        count: u64,
-    ) -> Result<bool, AllocError>
+    /// Whether it is that of the instance so many steps on a stretch.
+    #[inline]
+    fn is_on(&self, tiling: &Tiling, stretch: &Stretch, count: u64) -> bool
         requires size { HasSize (tiling_of tiling.now) }
         requires held { All (FitsSigned w64) (instance_at stretch.now count).turns }
         requires fits { RowsFit (tiling_of tiling.now) (instance_at stretch.now count) }
-        ensures { IfOk result (λ same. IsTrue same
-            → HasKey (tiling_of tiling.now) other.now (instance_at stretch.now count)) }
+        ensures { result ≡ true → IsKeyOf (tiling_of tiling.now) (instance_at stretch.now count) self.now }
     {
-        self.set(tiling, &after(&stretch.before, &stretch.steps, count))?;
-        Ok(self.is_that_of(other))
+        self.is_of(tiling, &after(&stretch.before, &stretch.steps, count))
     }
 
-    /// Whether the other one is the key of all that is left of a stretch, where it is that of the instance in front: it
-    /// is where it is that of the last, since along a stretch each coordinate of the tile rises, or each falls.
-    ///
-    /// # Errors
-    /// `AllocError` alone.
-    pub fn is_of_stretch(
-        &mut self,
-        other: &Key,
-        tiling: &Tiling,
-        stretch: &Stretch,
-    ) -> Result<bool, AllocError>
+    /// Whether it is that of all that is left of a stretch, where it is that of the instance in front: it is where it is
+    /// that of the last, since along a stretch each coordinate of the tile rises, or each falls.
+    pub fn is_of_stretch(&self, tiling: &Tiling, stretch: &Stretch) -> bool
         requires size { HasSize (tiling_of tiling.now) }
         requires held { All IsHeld (left_of stretch.now) }
         requires fits { AllRowsFit (tiling_of tiling.now) stretch.now }
-        ensures { IfOk result (λ same. IsTrue same
-            → HasKey (tiling_of tiling.now) other.now (instance_of stretch.now.before)
-            → AllHaveKey (tiling_of tiling.now) other.now stretch.now) }
+        ensures { result ≡ true → IsKeyOf (tiling_of tiling.now) (instance_of stretch.now.before) self.now
+            → AllHaveKey (tiling_of tiling.now) self.now stretch.now }
     {
         if stretch.left == 0 {
-            return Ok(false);
+            return false;
         }
-        self.is_at(other, tiling, stretch, stretch.left)
+        self.is_on(tiling, stretch, stretch.left)
     }
 
-    /// Whether the other one is the key of all that is left of a strand: it is where it is that of the first and of the
-    /// last.
-    fn is_of_strand(
-        &mut self,
-        other: &Key,
-        tiling: &Tiling,
-        strand: &Stretch,
-    ) -> Result<bool, AllocError>
+    /// Whether it is that of all that is left of a strand: it is where it is that of the first and of the last.
+    fn is_of_strand(&self, tiling: &Tiling, strand: &Stretch) -> bool
         requires size { HasSize (tiling_of tiling.now) }
         requires held { All IsHeld (left_of strand.now) }
         requires fits { AllRowsFit (tiling_of tiling.now) strand.now }
-        ensures { IfOk result (λ same. IsTrue same → AllHaveKey (tiling_of tiling.now) other.now strand.now) }
+        ensures { result ≡ true → AllHaveKey (tiling_of tiling.now) self.now strand.now }
     {
         if strand.left == 0 {
-            return Ok(true);
+            return true;
         }
-        if !self.is_at(other, tiling, strand, 1)? {
-            return Ok(false);
+        if !self.is_on(tiling, strand, 1) {
+            return false;
         }
-        self.is_at(other, tiling, strand, strand.left)
+        self.is_on(tiling, strand, strand.left)
     }
 
-    /// Whether the other one is the key of all that is left of strands.
-    ///
-    /// # Errors
-    /// `AllocError` alone.
-    pub fn is_of_strands(
-        &mut self,
-        other: &Key,
-        tiling: &Tiling,
-        strands: &[Stretch],
-    ) -> Result<bool, AllocError>
+    /// Whether it is that of all that is left of strands.
+    pub fn is_of_strands(&self, tiling: &Tiling, strands: &[Stretch]) -> bool
         requires size { HasSize (tiling_of tiling.now) }
         requires held { All (λ s. All IsHeld (left_of s)) strands.now }
         requires fits { All (AllRowsFit (tiling_of tiling.now)) strands.now }
-        ensures { IfOk result (λ same. IsTrue same
-            → All (AllHaveKey (tiling_of tiling.now) other.now) strands.now) }
+        ensures { result ≡ true → All (AllHaveKey (tiling_of tiling.now) self.now) strands.now }
     {
         for strand in strands {
-            if !self.is_of_strand(other, tiling, strand)? {
-                return Ok(false);
+            if !self.is_of_strand(tiling, strand) {
+                return false;
             }
         }
-        Ok(true)
+        true
     }
 }

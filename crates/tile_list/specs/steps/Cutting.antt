@@ -1,5 +1,5 @@
 -- How far the visits of a tree are cut into tiles.
-use Rattle.std.specs.Prelude.{◌≡◌, ℕ, ◌≤◌, ℤ, List, [], ◌∷◌, ◌++◌, length, slice_get, slice_index_or, Some, ◌+◌, ◌≢◌}
+use Rattle.std.specs.Prelude.{◌≡◌, ℕ, ◌≤◌, ℤ, List, [], ◌∷◌, ◌++◌, length, slice_get, slice_index_or, Some, ◌+◌}
 use Rattle.scop_syntax.specs.Members.{In, Sorted}
 use Rattle.scop_syntax.specs.View.{instance_of}
 use Rattle.scop_syntax.specs.Walk.{Instance}
@@ -11,7 +11,7 @@ use Rattle.loop_tree.specs.Tree.{Trees}
 use Rattle.loop_tree.specs.Walk.{visits}
 use Rattle.tile_list.specs.Tiles.{AreWaves, InOneTile, PartBefore, RiseByTile, TileBefore, joined, start_of}
 use Rattle.tile_list.specs.TilesView.{IsTile, firsts_of, waves_of}
-use Rattle.tile_list.specs.steps.Keys.{HasKey, IsKeyOf}
+use Rattle.tile_list.specs.steps.Keys.{HaveOneWave, IsKeyOf}
 use Rattle.tile_list.specs.steps.Offsets.{offsets_from}
 use Rattle.tile_list.specs.declared.cutting.Cut.{Cut}
 use Rattle.tile_list.specs.declared.list.Tile.{Tile}
@@ -58,33 +58,31 @@ pub record HasGrown (count : ℕ) (old new : Cut) : Type 0 where
   pub spot : StandAlike new.current.spot old.current.spot
   pub wave : new.current.wave ≡ old.current.wave
   pub size : new.current.size ≡ old.current.size + count
-  pub wave_of : new.key.wave.items ≡ old.key.wave.items
-  pub tile_of : new.key.tile.items ≡ old.key.tile.items
+  pub key : new.key ≡ old.key
 
 -- the number of the wave of the next tile
 pub record IsWaveOf (cut : Cut) (n : ℕ) : Type 0 where
-  pub same : cut.next.wave.items ≡ cut.key.wave.items → n ≡ cut.current.wave
-  pub other : cut.next.wave.items ≢ cut.key.wave.items → n ≡ cut.current.wave + 1
+  pub same : HaveOneWave cut.next cut.key → n ≡ cut.current.wave
+  pub other : (HaveOneWave cut.next cut.key → ⊥) → n ≡ cut.current.wave + 1
 
 -- the current tile is at its end, and the next one begins with an instance
 pub record HasBegun (first : CodeInstance) (spot : Spot) (old new : Cut) : Type 0 where
   pub tiles : new.tiles.items ≡ old.tiles.items ++ old.current ∷ []
   pub current : (n : ℕ) × IsWaveOf old n × IsNewTile first spot n new.current
-  pub wave_of : new.key.wave.items ≡ old.next.wave.items
-  pub tile_of : new.key.tile.items ≡ old.next.tile.items
+  pub key : new.key ≡ old.next
 
 -- the first of the visits of trees is in its tile
 pub record Begins (tiling : Tiling) (x : Instance) (spot : Spot) (cut : Cut) : Type 0 where
   pub cut_is : (ts : Trees) (params : List ℤ) → IsSpotOf ts params spot → visits ts params ≡ x ∷ to_come ts params spot
       → IsCutTo ts params tiling (to_come ts params spot) cut
-  pub key : HasKey tiling cut.key x
+  pub key : IsKeyOf tiling x cut.key
 
 -- so is the next one of the visits of trees, which rise by tile
 pub record Takes (tiling : Tiling) (x : Instance) (spot : Spot) (old new : Cut) : Type 0 where
   pub cut : (ts : Trees) (params : List ℤ) → RiseByTile tiling (visits ts params) → IsSpotOf ts params spot
       → IsCutTo ts params tiling (x ∷ to_come ts params spot) old
       → IsCutTo ts params tiling (to_come ts params spot) new
-  pub key : HasKey tiling new.key x
+  pub key : IsKeyOf tiling x new.key
 
 -- the list of these tiles, with their offsets
 pub record IsListed (tiles : List Tile) (list : TileList) : Type 0 where

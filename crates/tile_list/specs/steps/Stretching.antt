@@ -13,7 +13,7 @@ use Rattle.loop_tree.specs.declared.spot.Spot.{Spot}
 use Rattle.loop_tree.specs.declared.stretch.Stretch.{Stretch}
 use Rattle.tile_list.specs.Tiles.{RowsFit}
 use Rattle.tile_list.specs.steps.Cutting.{IsCutTo}
-use Rattle.tile_list.specs.steps.Keys.{HasKey}
+use Rattle.tile_list.specs.steps.Keys.{IsKeyOf}
 use Rattle.tile_list.specs.declared.cutting.Cut.{Cut}
 use Rattle.tile_list.specs.declared.keys.Key.{Key}
 
@@ -33,9 +33,9 @@ AllFit tiling xs = (x : Instance) → In x xs → RowsFit tiling x
 abbrev pub AllRowsFit : Tiling → Stretch → Type 0
 AllRowsFit tiling s = AllFit tiling (left_of s)
 
--- each instance that is left of a stretch lies in the tile whose key is given
+-- a key is that of each instance that is left of a stretch
 abbrev pub AllHaveKey : Tiling → Key → Stretch → Type 0
-AllHaveKey tiling key s = (y : Instance) → In y (left_of s) → HasKey tiling key y
+AllHaveKey tiling key s = (y : Instance) → In y (left_of s) → IsKeyOf tiling y key
 
 -- so many rounds are left of a braid, the first strand of which is next
 pub record HasRounds (b : Braid) (rounds : ℕ) : Type 0 where

@@ -5,15 +5,14 @@ use Rattle.loop_tree.specs.TilingView.{tiling_of}
 use Rattle.tile_list.proofs.TakenInstances.{takes_next, takes_same}
 use Rattle.tile_list.proofs.cutting.Cut.take.Goals as goal
 
-pub returns-then-is_that_of : goal.returns-then-is_that_of
-returns-then-is_that_of c =
-    let same = c.if-is_that_of.ensures.same refl in
+pub returns-then-is_of : goal.returns-then-is_of
+returns-then-is_of c =
     on_ok_weaker c.grow.result
     (λ has. takes_same (tiling_of c.args.tiling.now) (instance_of c.args.instance) c.args.spot.now c.args.self.now
-    c.grow.new.self c.set.new.self c.in_ok-set.ensures same.0 same.1 has) c.grow.ensures
+    c.grow.new.self (c.if-is_of.ensures.same refl) has) c.grow.ensures
 
-pub returns-else-is_that_of : goal.returns-else-is_that_of
-returns-else-is_that_of c =
+pub returns : goal.returns
+returns c =
     on_ok_weaker c.begin.result
     (λ has. takes_next (tiling_of c.args.tiling.now) c.args.instance c.args.spot.now c.args.self.now
-    c.begin.new.self c.set.new.self c.in_ok-set.ensures (c.if-is_that_of.ensures.other refl) has) c.begin.ensures
+    c.begin.new.self c.set.new.self c.in_ok-set.ensures (c.if-is_of.ensures.other refl) has) c.begin.ensures

@@ -36,8 +36,8 @@ returns c =
     let empty : Stretch = record first { left = 0 } in
     let new : Braid = record { strands = set b.strands 0 empty; count = 1; at = b.at } in
     let none = braid_done b.strands empty b.at (omega (arith, all)) refl has.turn in
-    passes_braid tiling c.args.spot.now new c.in_ok-times.field-0 old c.grow.new.self c.is_of_strands.new.self
+    passes_braid tiling c.args.spot.now new c.in_ok-times.field-0 old c.grow.new.self
     c.requires.stretch none (done_is_braid new none refl has.turn)
     (c.in_ok-times.ensures ∙ braid_count b rounds has (omega (arith, taken, few, all)))
-    (braid_has_key tiling old.key b rounds has (c.in_ok-is_of_strands.ensures c.if-not-branch.false))
+    (braid_has_key tiling old.key b rounds has (c.is_of_strands.ensures c.if-not-is_of_strands.false))
     c.in_ok-grow.ensures

@@ -5,11 +5,11 @@ use Rattle.tile_list.proofs.keys.Key.is_of_strands.Goals as goal
 
 pub loop-strand-preserved : goal.loop-strand-preserved
 loop-strand-preserved c =
-    all_next (AllHaveKey (tiling_of c.args.tiling.now) c.args.other.now) c.args.strands.now
+    all_next (AllHaveKey (tiling_of c.args.tiling.now) c.args.self.now) c.args.strands.now
     c.loop-strand.strand-index c.strand-item.result c.strand-item.is c.loop-strand-test.true c.loop-strand.invariant
-    (c.in_ok-is_of_strand.ensures c.if-not-branch.false)
+    (c.is_of_strand.ensures c.if-not-is_of_strand.false)
 
 pub returns : goal.returns
 returns c true =
-    all_taken (AllHaveKey (tiling_of c.args.tiling.now) c.args.other.now) c.args.strands.now
+    all_taken (AllHaveKey (tiling_of c.args.tiling.now) c.args.self.now) c.args.strands.now
     c.loop-strand.strand-index c.loop-strand-test.false c.loop-strand.invariant

@@ -4,4 +4,4 @@ use Rattle.tile_list.specs.steps.Stretching.{AllHaveKey}
 use Rattle.tile_list.proofs.keys.Key.is_of_strands.Given as goal
 
 abbrev pub invariant-loop-strand : goal.invariant-loop-strand
-invariant-loop-strand l = All (AllHaveKey (tiling_of l.tiling) l.other) (take l.strand-index l.strands)
+invariant-loop-strand l = All (AllHaveKey (tiling_of l.tiling) l.self) (take l.strand-index l.strands)

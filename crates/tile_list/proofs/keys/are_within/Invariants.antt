@@ -1,0 +1,7 @@
+use Rattle.std.proofs.Common.{◌≡◌, take, pos}
+use Rattle.loop_tree.specs.Tiling.{coordinates}
+use Rattle.tile_list.proofs.keys.are_within.Given as goal
+
+abbrev pub invariant-loop-place : goal.invariant-loop-place
+invariant-loop-place l =
+    take l.place l.tile ≡ coordinates (pos l.size) (take l.place l.rows) l.turns
