@@ -11,11 +11,37 @@ from timing import rounds_of
 
 WORKERS = (1, 2, 4)
 TINY = 4
-# Of each kernel its text, the values of its parameters, those of a start, and how many instances it has.
+TRIANGLE = """void triangle(int64_t T, int64_t N, uint64_t L[N][N], uint64_t x[N]) {
+  for (int64_t t = 0; t < T; t++)
+    for (int64_t i = 0; i < N; i++)
+      for (int64_t j = 0; j < i; j++)
+        x[i] -= L[i][j] * x[j];
+}
+"""
+GUARD = """void guard(int64_t T, int64_t N, uint64_t A[N][N], uint64_t B[N][N]) {
+  for (int64_t t = 0; t < T; t++)
+    for (int64_t i = 0; i < N; i++)
+      for (int64_t j = 0; j < N; j++)
+        if (i + j >= N) B[i][j] += A[i][j] + t;
+}
+"""
+STRIDES = """void strides(int64_t T, int64_t N, uint64_t A[N][N], uint64_t B[N][N]) {
+  for (int64_t t = 0; t < T; t++)
+    for (int64_t i = 0; i < N; i += 2)
+      for (int64_t j = 0; j < N; j += 3)
+        B[i][j] += A[i][j] * 3;
+}
+"""
+# Of each kernel its text or the file that has it, the values of its parameters, those of a start, and how many
+# instances it has.
 CASES = {
     "product": ("examples/product.c", {"N": 256}, {"N": TINY}, 256**3),
     "jacobi": ("examples/jacobi.c", {"T": 40, "N": 400}, {"T": 1, "N": TINY}, 2 * 40 * 398**2),
     "lu": ("examples/lu.c", {"N": 300}, {"N": TINY}, sum(k * k for k in range(300))),
+    "seidel": ("examples/seidel.c", {"T": 400, "N": 20000}, {"T": 1, "N": TINY}, 400 * 19998),
+    "triangle": (TRIANGLE, {"T": 200, "N": 300}, {"T": 1, "N": TINY}, 200 * sum(range(300))),
+    "guard": (GUARD, {"T": 200, "N": 300}, {"T": 1, "N": TINY}, 200 * sum(range(300))),
+    "strides": (STRIDES, {"T": 600, "N": 300}, {"T": 1, "N": TINY}, 600 * 150 * 100),
 }
 
 MAIN = """
@@ -88,7 +114,7 @@ def main():
     program, root, folder = sys.argv[1:4]
     rounds = rounds_of(sys.argv[4:], 5)
     for kind, (file, values, tiny, instances) in CASES.items():
-        kernel = kernel_of(os.path.join(root, file))
+        kernel = file if file.startswith("void ") else kernel_of(os.path.join(root, file))
         names = {name for name, extents in signature_of(kernel)[1] if not extents}
         if names != set(values):
             sys.exit(f"{kind}: the parameters are {sorted(names)}")

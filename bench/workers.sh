@@ -1,8 +1,9 @@
 #!/bin/sh
 # Times `polypar run` with 1, 2 and 4 workers beside the kernel's own text by gcc -O0, on a product of matrices, a
-# two-dimensional Jacobi sweep, an LU decomposition and `gen product 7 256`, in one run. Prints of each the seconds by
-# the clock, the shortest of several rounds, less those of a start on a tiny case, nanoseconds an instance, and the
-# ratios of one worker to the others and to gcc.
+# two-dimensional Jacobi sweep, an LU decomposition, a sweep of Gauss and Seidel over a line, a triangle, a guard,
+# strides 2 and 3, and `gen product 7 256`, in one run. Prints of each the seconds by the clock, the shortest of several
+# rounds, less those of a start on a tiny case, nanoseconds an instance, and the ratios of one worker to the others and
+# to gcc.
 # usage: bench/workers.sh [ROUNDS], at least 5
 set -eu
 root=$(CDPATH= cd -- "$(dirname -- "$0")/.." && pwd)
