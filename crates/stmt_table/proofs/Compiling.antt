@@ -19,7 +19,7 @@ use Rattle.stmt_table.specs.declared.code.Code.{Code}
 use Rattle.stmt_table.specs.declared.code.Step.{Step}
 use Rattle.stmt_table.specs.declared.code.Step.TheVariants.{Constant, Affine as Leaf, Binary}
 use Rattle.stmt_table.specs.steps.Codes.{GoesOn, IsBegun, IsPut, Makes, MakesStored, MakesValue, slots_by}
-use Rattle.stmt_table.specs.steps.Rights.{IsFormOver}
+use Rattle.stmt_table.specs.steps.AffineParts.{IsFormOver}
 use Rattle.stmt_table.proofs.Codes.{Agree, steps_more, steps_within, worked_front, worked_long, worked_more, worked_same}
 
 -- the slots behind a step more

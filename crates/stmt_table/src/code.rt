@@ -12,7 +12,7 @@ ghost use Rattle.stmt_table.specs.declared.code.Step.TheVariants.{Affine as exac
 ghost use Rattle.stmt_table.specs.steps.Codes.{IsBegun, IsPut, MakesStored, MakesValue};
 
 use crate::lane::Lane;
-use crate::rights::form_over;
+use crate::affine_parts::form_over;
 use scop_meaning::accesses::read_count;
 use scop_meaning::operators::{combined, complemented, negated, shifted_left, shifted_right};
 use scop_syntax::instance::MAX_LOOPS;
