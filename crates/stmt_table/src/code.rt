@@ -11,8 +11,8 @@ ghost use Rattle.stmt_table.specs.Codes.{IsStep, IsWellMade, Stores, made as exa
 ghost use Rattle.stmt_table.specs.declared.code.Step.TheVariants.{Affine as exact_affine};
 ghost use Rattle.stmt_table.specs.steps.Codes.{IsBegun, IsPut, MakesStored, MakesValue};
 
-use crate::lane::Lane;
 use crate::affine_parts::form_over;
+use crate::lane::Lane;
 use scop_meaning::accesses::read_count;
 use scop_meaning::operators::{combined, complemented, negated, shifted_left, shifted_right};
 use scop_syntax::instance::MAX_LOOPS;
@@ -70,8 +70,10 @@ impl Code {
         ensures reads { take self.now.reads slots.new ≡ take self.now.reads slots.old }
         ensures long { length slots.new ≡ length slots.old }
     {
-        for at in 0..self.steps.len() {
-            slots[self.reads + at] = made(&self.steps[at], leaves, slots);
+        let reads = self.reads;
+        let steps = self.steps.as_slice();
+        for at in 0..steps.len() {
+            slots[reads + at] = made(&steps[at], leaves, slots);
         }
         slots[self.result]
     }
