@@ -9,16 +9,10 @@ use Rattle.stmt_table.specs.declared.code.Step.{Step}
 use Rattle.stmt_table.specs.declared.code.Step.TheVariants.{Constant, Affine, Negated, Complemented, Binary}
 use Rattle.stmt_table.specs.declared.code.Step.TheVariants.{ShiftedLeft, ShiftedRight}
 
--- where there are more leaves and slots, a step names some of them still
-pub step_within : (n m k l : ℕ) (step : Step) → n ≤ k → m ≤ l → IsStep n m step → IsStep k l step
-step_within n m k l (Constant c) leaves slots is = tt
-step_within n m k l (Affine a) leaves slots is = omega (arith, leaves, is)
-step_within n m k l (Negated a) leaves slots is = omega (arith, slots, is)
-step_within n m k l (Complemented a) leaves slots is = omega (arith, slots, is)
-step_within n m k l (Binary op a b) leaves slots is =
-    let first = is.0 in let second = is.1 in (omega (arith, slots, first), omega (arith, slots, second))
-step_within n m k l (ShiftedLeft a count) leaves slots is = omega (arith, slots, is)
-step_within n m k l (ShiftedRight a count) leaves slots is = omega (arith, slots, is)
+-- where there are more leaves, a step names some of them still
+step_within : (n k m : ℕ) (step : Step) → n ≤ k → IsStep n m step → IsStep k m step
+step_within n k m (Affine a) few is = omega (arith, few, is)
+step_within n k m step few is = is
 
 -- two lists of values agree before a place
 abbrev pub Agree : ℕ → List ℕ → List ℕ → Type 0
@@ -41,7 +35,7 @@ made_same n m ls ks xs ys (ShiftedRight a count) is leaves slots = ap (λ (x : �
 pub steps_within : (n k m : ℕ) (steps : List Step) → n ≤ k → AreSteps n m steps → AreSteps k m steps
 steps_within n k m [] few are = tt
 steps_within n k m (step ∷ steps) few are =
-    (step_within n m k m step few (omega arith) are.0, steps_within n k (suc m) steps few are.1)
+    (step_within n k m step few are.0, steps_within n k (suc m) steps few are.1)
 
 -- and with a step more
 pub steps_more : (n m : ℕ) (steps : List Step) (step : Step) → AreSteps n m steps → IsStep n (m + length steps) step

@@ -70,8 +70,10 @@ impl Code {
         ensures reads { take self.now.reads slots.new ≡ take self.now.reads slots.old }
         ensures long { length slots.new ≡ length slots.old }
     {
-        for at in 0..self.steps.len() {
-            slots[self.reads + at] = made(&self.steps[at], leaves, slots);
+        let reads = self.reads;
+        let steps = self.steps.as_slice();
+        for at in 0..steps.len() {
+            slots[reads + at] = made(&steps[at], leaves, slots);
         }
         slots[self.result]
     }
