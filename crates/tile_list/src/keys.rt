@@ -298,8 +298,10 @@ impl Key {
     #[inline]
     fn is_on(&self, tiling: &Tiling, stretch: &Stretch, count: u64) -> bool
         requires size { HasSize (tiling_of tiling.now) }
-        requires held { All (FitsSigned w64) (instance_at stretch.now count).turns }
-        requires fits { RowsFit (tiling_of tiling.now) (instance_at stretch.now count) }
+        requires some { 1 ≤ count }
+        requires left { count ≤ stretch.now.left }
+        requires held { All IsHeld (left_of stretch.now) }
+        requires fits { AllRowsFit (tiling_of tiling.now) stretch.now }
         ensures { result ≡ true → IsKeyOf (tiling_of tiling.now) (instance_at stretch.now count) self.now }
     {
         self.is_of(tiling, &after(&stretch.before, &stretch.steps, count))
