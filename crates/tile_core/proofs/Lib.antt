@@ -7,5 +7,6 @@ pub mod TouchedCells
 pub mod Rows
 pub mod Workers
 pub mod Boards
+pub mod Acts
 pub mod States
 pub mod Passes

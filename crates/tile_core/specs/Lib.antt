@@ -2,6 +2,8 @@ pub mod Ranks
 pub mod Plans
 pub mod Workers
 pub mod Boards
+pub mod Acts
+pub mod steps
 pub mod Cores
 pub mod Views
 pub mod Passes
