@@ -1,9 +1,9 @@
 -- What the events of a worker's instances leave (`instance_run`, `stretch_run`).
-use Rattle.std.proofs.Common.{◌≡◌, ◌∙◌, ◌&&◌, not, Bool, true, false, ℕ, zero, suc, ◌+◌, ◌<◌, ◌≤◌, List, [], ◌∷◌, ◌++◌}
+use Rattle.std.proofs.Common.{take, ◌≡◌, ◌∙◌, ◌&&◌, not, Bool, true, false, ℕ, zero, suc, ◌+◌, ◌<◌, ◌≤◌, List, [], ◌∷◌, ◌++◌}
 use Rattle.std.proofs.Common.{length, get_or, set, length-append, ap, ap₂, sym, refl, arith}
 use Rattle.std.specs.Prelude.{nat_lt, nat_eq, if◌then◌else◌}
 use Rattle.std.proofs.lemmas.Bool.{and_from, eq-eqb, lt-ltb}
-use Rattle.std.proofs.lemmas.List.{append-nil, append_assoc, get_or_at, set-set}
+use Rattle.std.proofs.lemmas.List.{append-nil, append_assoc, get_or_at, map_more, set-set}
 use mathlib.Core.Option.{some}
 use lib.ListN.{get_elem?}
 use Rattle.atomic_table.proofs.Lists.{set_again}
@@ -118,3 +118,9 @@ stretch_run p s id t k n here stores within =
     ap (λ ws. replay p (record { claims = s.claims; finished = s.finished; cells = s.cells; workers = ws })
     (stretch_acts p id t k n)) (sym (set_again s.workers id (working t k []) here))
     ∙ from_there p s id t k n s.cells (working t k []) here stores within
+
+-- one value more is read
+pub values_more : (cells rs xs : List ℕ) (i x : ℕ) → i < length rs → xs ≡ values_at cells (take i rs)
+    → x ≡ get_or cells (get_or rs i 0) 0 → xs ++ x ∷ [] ≡ values_at cells (take (i + 1) rs)
+values_more cells rs xs i x less is found =
+    ap₂ (λ (ys : List ℕ) (y : ℕ). ys ++ y ∷ []) is found ∙ sym (map_more (λ c. get_or cells c 0) rs i 0 less)

@@ -8,5 +8,6 @@ pub mod Rows
 pub mod Workers
 pub mod Boards
 pub mod Acts
+pub mod BoardStretches
 pub mod States
 pub mod Passes

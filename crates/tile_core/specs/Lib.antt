@@ -1,9 +1,9 @@
 pub mod Ranks
+pub mod Acts
+pub mod steps
 pub mod Plans
 pub mod Workers
 pub mod Boards
-pub mod Acts
-pub mod steps
 pub mod Cores
 pub mod Views
 pub mod Passes
