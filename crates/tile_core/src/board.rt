@@ -1,15 +1,11 @@
 //! The state of a run, and what each event does to it.
-ghost use Rattle.std.specs.Prelude.{◌≡◌, ◌<◌, get_or, length, set};
-ghost use Rattle.scop_syntax.specs.Members.{In};
-ghost use Rattle.scop_syntax.specs.View.{instance_of};
+ghost use Rattle.std.specs.Prelude.{◌≡◌, ◌<◌, get_or, length};
 ghost use Rattle.tile_events.specs.Core.{claim, finish, load, open_tile, store};
 ghost use Rattle.tile_core.specs.Boards.{Does, IsBoard, Stretches, event_of};
-ghost use Rattle.tile_core.specs.Plans.{IsPlan, place_of, places_in, shape_of};
-ghost use Rattle.tile_core.specs.steps.Acts.{values_at};
 
 use crate::plan::Plan;
-use crate::worker::{Reads, Stage, Worker};
-use scop_syntax::instance::Instance;
+use crate::stretching::do_ahead;
+use crate::worker::{Stage, Worker};
 
 /// What a worker tries.
 #[derive(Clone, Copy)]
@@ -142,15 +138,15 @@ impl Board {
         ensures { Stretches plan.now self.old id result self.new }
     {
         let worker = &mut self.workers[id];
-        let Some(instance) = worker.due(plan) else {
-            return 0;
-        };
         if worker.reads.len() > 0 {
             return 0;
         }
-        do_instance(&mut self.cells, plan, &instance);
-        worker.advance(plan);
-        1
+        let count = worker.ahead(plan);
+        if count > 0 {
+            do_ahead(&mut self.cells, plan, worker, count);
+            worker.pass_by(plan, count);
+        }
+        count
     }
 
     fn finish(&mut self, plan: &Plan, id: usize) -> Result<Seen, NotEnabled>
@@ -168,22 +164,6 @@ impl Board {
         self.workers[id].put(Stage::Idle);
         Ok(Seen::Finished)
     }
-}
-
-/// Does the instance on the cells.
-fn do_instance(cells: &mut [u64], plan: &Plan, instance: &Instance)
-    requires plan { IsPlan plan.now }
-    requires walked { In (instance_of instance.now) (places_in plan.now) }
-    requires cells { length cells.old ≡ (shape_of plan.now).cells }
-    ensures { cells.new ≡ set cells.old ((shape_of plan.now).written (place_of plan.now instance.now))
-        ((shape_of plan.now).value (place_of plan.now instance.now)
-        (values_at cells.old ((shape_of plan.now).read (place_of plan.now instance.now)))) }
-{
-    let mut reads = Reads::new();
-    for read in 0..plan.reads(instance) {
-        reads.push(cell_at(cells, plan.cell_read(instance, read)));
-    }
-    cells[plan.cell_written(instance)] = plan.value(instance, reads.as_slice());
 }
 
 /// The cell's value.

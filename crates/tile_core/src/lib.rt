@@ -8,6 +8,7 @@ pub mod board;
 pub mod cores;
 pub mod plan;
 pub mod plan_laws;
+mod stretching;
 pub mod view;
 pub mod words;
 pub mod worker;

@@ -7,12 +7,15 @@ use Rattle.tile_events.specs.Plan.{Plan}
 abbrev pub values_at : List ℕ → List ℕ → List ℕ
 values_at cells cs = map (λ c. get_or cells c 0) cs
 
--- the cells after instance k of tile t
-abbrev pub after_instance : Plan → ℕ → ℕ → List ℕ → List ℕ
-after_instance p t k cells =
-    set cells (p.written (p.place t k)) (p.value (p.place t k) (values_at cells (p.read (p.place t k))))
+-- the cells after place j
+abbrev pub after_place : Plan → ℕ → List ℕ → List ℕ
+after_place p j cells = set cells (p.written j) (p.value j (values_at cells (p.read j)))
 
--- the cells after n instances, of which the first has number k
+-- after instance k of tile t
+abbrev pub after_instance : Plan → ℕ → ℕ → List ℕ → List ℕ
+after_instance p t k cells = after_place p (p.place t k) cells
+
+-- after n instances, of which the first has number k
 abbrev pub after_instances : Plan → ℕ → ℕ → ℕ → List ℕ → List ℕ
 after_instances p t k zero cells = cells
 after_instances p t k (suc n) cells = after_instance p t (k + n) (after_instances p t k n cells)
