@@ -1,6 +1,6 @@
 //! Stretches of a tree's visits: the instances of a loop with one instance in it and nothing else. Each has the same
 //! steps more in its turns than the one before it, since the forms of turns are linear in the loop's value.
-ghost use Rattle.std.specs.Prelude.{◌≡◌, ◌+ℤ◌, ◌<◌, ◌∷◌, All, FitsSigned, get_or, pos, take};
+ghost use Rattle.std.specs.Prelude.{◌≡◌, ◌+ℤ◌, ◌<◌, ◌↔◌, ◌∷◌, All, FitsSigned, IsTrue, get_or, pos, take};
 ghost use Rattle.std.specs.Int.{w64};
 ghost use Rattle.scop_syntax.specs.View.{instance_of};
 ghost use Rattle.whole_numbers.specs.Lists.{sums};
@@ -50,6 +50,19 @@ fn stepped(instance: &Instance, steps: &[i64; MAX_LOOPS]) -> Instance
     }
 }
 
+/// Whether two instances are one.
+#[inline]
+fn are_one(left: &Instance, right: &Instance) -> bool
+    ensures one { IsTrue result ↔ (instance_of left.now ≡ instance_of right.now) }
+    ensures loops { IsTrue result → left.now.loops ≡ right.now.loops }
+{
+    if left.statement == right.statement {
+        left.turns() == right.turns()
+    } else {
+        false
+    }
+}
+
 impl Stretch {
     /// One with nothing left.
     pub(crate) fn empty() -> Stretch
@@ -60,6 +73,15 @@ impl Stretch {
             steps: [0; MAX_LOOPS],
             left: 0,
         }
+    }
+
+    /// Whether this is the instance in front of it.
+    #[inline]
+    pub fn follows(&self, instance: &Instance) -> bool
+        ensures one { IsTrue result ↔ (instance_of instance.now ≡ instance_of self.now.before) }
+        ensures loops { IsTrue result → instance.now.loops ≡ self.now.before.loops }
+    {
+        are_one(instance, &self.before)
     }
 
     /// Goes on by one instance, whose turns have room.

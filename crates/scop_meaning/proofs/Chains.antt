@@ -3,13 +3,13 @@ use Rattle.std.proofs.Common.{◌≡◌, ℕ, ◌+◌, List, length, drop, ap, a
 use Rattle.std.specs.Prelude.{ℤ}
 use Rattle.std.specs.Global.{Box}
 use Rattle.std.proofs.lemmas.List.{drop-drop}
-use Rattle.scop_syntax.specs.Tree.{Access, Expression, Operator, binary, read}
+use Rattle.scop_syntax.specs.Tree.{Access, Expression, Operator, binary, constant, read}
 use Rattle.scop_syntax.specs.Cells.{reads_of}
 use Rattle.scop_syntax.specs.Values.{applied, value_on}
 use Rattle.scop_syntax.specs.View.{expression_of, expression_step, operator_of}
 use Rattle.scop_syntax.specs.declared.tree.Expr.{Expr}
 use Rattle.scop_syntax.specs.declared.tree.Operator.{Operator as Code}
-use Rattle.scop_syntax.specs.declared.tree.Expr.TheVariants.{Binary, Read, rolls-Read}
+use Rattle.scop_syntax.specs.declared.tree.Expr.TheVariants.{Binary, Constant, Read, rolls-Constant, rolls-Read}
 use Rattle.scop_syntax.specs.declared.tree.Expr.TheFolds.{fold-roll-Expr}
 use Rattle.scop_syntax.specs.declared.tree.Expr.TheOpen.{Expr-F}
 use Rattle.scop_syntax.proofs.Views.{expression_binary}
@@ -26,6 +26,10 @@ chained whole op left right l r is first second =
 pub expression_read : (a : Access) → expression_of (Read a) ≡ read a
 expression_read a =
     ap expression_of (sym (rolls-Read a)) ∙ fold-roll-Expr Expression expression_step (Expr-F.Read a)
+
+pub expression_constant : (c : ℕ) → expression_of (Constant c) ≡ constant c
+expression_constant c =
+    ap expression_of (sym (rolls-Constant c)) ∙ fold-roll-Expr Expression expression_step (Expr-F.Constant c)
 
 -- behind the reads of the right lie those that follow the whole
 pub chained_end : (whole e f : Expression) (op : Operator) (at next end : ℕ) → whole ≡ binary op e f

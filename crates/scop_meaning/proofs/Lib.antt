@@ -1,13 +1,13 @@
 mod Offsets
 mod Shifts
 mod Turns
-mod Chains
+pub mod Chains
 mod WalkSteps
 mod Runs
 mod Checks
 mod Kernels
 mod StatementSearch
-mod Nodes
+pub mod Nodes
 mod Numbering
 mod Ends
 pub mod Outside

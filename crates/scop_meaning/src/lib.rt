@@ -16,6 +16,6 @@ pub mod interpreter;
 pub mod last_writes;
 mod layout;
 pub mod loops;
-mod operators;
+pub mod operators;
 mod statements;
 pub mod worked_rows;

@@ -6,6 +6,7 @@ ghost use Rattle.scop_syntax.specs.Values.{applied};
 use scop_syntax::tree::Operator;
 
 /// The value of `left operator right`.
+#[inline]
 pub fn combined(operator: Operator, left: u64, right: u64) -> u64
     ensures { result ≡ applied (operator_of operator) left right }
 {
@@ -20,6 +21,7 @@ pub fn combined(operator: Operator, left: u64, right: u64) -> u64
 }
 
 /// The value of `-value`.
+#[inline]
 pub fn negated(value: u64) -> u64
     ensures { result ≡ (2 ^ 64 - value) % 2 ^ 64 }
 {
@@ -27,6 +29,7 @@ pub fn negated(value: u64) -> u64
 }
 
 /// The value of `~value`.
+#[inline]
 pub fn complemented(value: u64) -> u64
     ensures { result ≡ 2 ^ 64 - 1 - value }
 {
@@ -34,6 +37,7 @@ pub fn complemented(value: u64) -> u64
 }
 
 /// The value of `value << count`: its low 64 bits.
+#[inline]
 pub fn shifted_left(value: u64, count: u8) -> u64
     ensures { result ≡ (value * 2 ^ count) % 2 ^ 64 }
 {
@@ -44,6 +48,7 @@ pub fn shifted_left(value: u64, count: u8) -> u64
 }
 
 /// The value of `value >> count`.
+#[inline]
 pub fn shifted_right(value: u64, count: u8) -> u64
     ensures { result ≡ value / 2 ^ count }
 {

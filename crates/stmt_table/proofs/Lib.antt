@@ -1,8 +1,12 @@
 pub mod Congruences
 pub mod LoopPoints
+pub mod Lanes
 pub mod Linear
 pub mod Offsets
 pub mod Accesses
+pub mod Codes
+pub mod Compiling
+pub mod Desks
 pub mod Pairs
 pub mod Tellings
 pub mod Visits

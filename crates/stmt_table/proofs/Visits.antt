@@ -1,26 +1,25 @@
 -- The row of a visit's statement, and what it tells at the visit.
-use Rattle.std.proofs.Common.{◌≡◌, ◌∙◌, ap, sym, ℕ, ◌<◌, ◌^◌, ◌%◌, List, [], length}
-use Rattle.std.proofs.Common.{get_or, Some, arith}
+use Rattle.std.proofs.Common.{◌≡◌, ◌∙◌, ap, sym, ℕ, ◌<◌, ◌^◌, ◌%◌, List, length}
+use Rattle.std.proofs.Common.{Some, arith}
 use Rattle.std.specs.Prelude.{ℤ, slice_get}
 use Rattle.std.specs.Option.{option_map}
-use Rattle.std.proofs.lemmas.Option.{slice_get-map, slice_get_within, get_or_from_slice_get}
+use Rattle.std.proofs.lemmas.Option.{slice_get-map, slice_get_within}
 use Rattle.whole_numbers.specs.Affine.{Affine, value_of}
 use Rattle.scop_syntax.specs.Cells.{accesses, cell_of, reads}
 use Rattle.scop_syntax.specs.Execution.{IsCell, cell_number, layout}
 use Rattle.scop_syntax.specs.Members.{In}
 use Rattle.scop_syntax.specs.Statements.{Placed, Runs, Scope, loops_in, statements_of, visit_of}
-use Rattle.scop_syntax.specs.Tree.{Access, Program, Right, Statement}
+use Rattle.scop_syntax.specs.Tree.{Access, Program, Statement}
 use Rattle.scop_syntax.specs.Values.{stored_by, wrapped}
-use Rattle.scop_syntax.specs.View.{instance_of, right_of}
 use Rattle.scop_syntax.specs.Walk.{Instance, Visit, walk_of}
-use Rattle.scop_syntax.specs.declared.instance.Instance.{Instance as CodeInstance}
 use Rattle.scop_syntax.proofs.Members.{place_of, there_is}
-use Rattle.scop_meaning.specs.Instances.{IsVisitOf, values_wanted}
+use Rattle.scop_meaning.specs.Instances.{IsVisitOf}
 use Rattle.standings.specs.Standings.{Standing, heads_in, standing, standings_of}
 use Rattle.standings.proofs.Heads.{as_many_heads}
+use Rattle.stmt_table.specs.Codes.{value_by}
 use Rattle.stmt_table.specs.Numbers.{number_at}
 use Rattle.stmt_table.specs.Points.{point_in}
-use Rattle.stmt_table.specs.Tables.{AreForms, IsTableOf, Stores, forms_in, rights_in}
+use Rattle.stmt_table.specs.Tables.{IsRowOf, IsTableOf, forms_in}
 use Rattle.stmt_table.specs.declared.table.Row.{Row}
 use Rattle.stmt_table.specs.declared.table.Table.{Table}
 use Rattle.stmt_table.proofs.Offsets.{number_exact}
@@ -35,29 +34,26 @@ pub record WalkLaws : Type 0 where
   pub number : (program : Program) (k : ℕ) (p : Placed) → slice_get (statements_of program) k ≡ Some p → p.number ≡ k
 
 -- the row of an instance's statement, and how its visit lies in it
-pub record HasRow (program : Program) (params : List ℤ) (table : Table) (i : CodeInstance) (v : Visit) : Type 0 where
+pub record HasRow (program : Program) (params : List ℤ) (table : Table) (x : Instance) (v : Visit) : Type 0 where
   pub own : Standing
-  pub cells : List Affine
-  pub told : slice_get (forms_in table) i.statement ≡ Some cells
-  pub forms : AreForms (layout program params) params own cells
-  pub right : Right
-  pub right_told : slice_get (rights_in table) i.statement ≡ Some right
-  pub stored : Stores params own.heads own.body.right right
+  pub row : Row
+  pub told : slice_get table.rows.items x.number ≡ Some row
+  pub fits : IsRowOf (layout program params) params own row
   pub body : own.body ≡ v.body
-  pub turns : (instance_of i).turns ≡ v.turns
+  pub turns : x.turns ≡ v.turns
   pub many : length v.turns ≡ length own.heads
   pub point : point_in own.heads params v.turns ≡ v.point
 
-pub row_of : WalkLaws → (program : Program) (params : List ℤ) (table : Table) (i : CodeInstance) (v : Visit)
-    → IsTableOf program params table → IsVisitOf program params (instance_of i) v
-    → HasRow program params table i v
-row_of laws program params table i v is visit =
+pub row_of : WalkLaws → (program : Program) (params : List ℤ) (table : Table) (x : Instance) (v : Visit)
+    → IsTableOf program params table → IsVisitOf program params x v
+    → HasRow program params table x v
+row_of laws program params table x v is visit =
     let stood = laws.found program params v visit.walked in
     let p = stood.0 in
     let xs = stood.1 in
     let place = place_of (statements_of program) p stood.2 in
     let k = place.0 in
-    let number : i.statement ≡ k =
+    let number : x.number ≡ k =
     sym (ap (λ (x : Instance). x.number) visit.same)
     ∙ (ap (λ (w : Visit). w.number) stood.4 ∙ laws.number program k p place.1) in
     let around = standing (heads_in p.scopes) p.body in
@@ -76,14 +72,9 @@ row_of laws program params table i v is visit =
     let same = ap (λ (l : List ℤ). length l) turned in
     record {
       own = around;
-      cells = row.cells.items;
-      told = slice_get-map (λ (r : Row). r.cells.items) table.rows.items i.statement
-          ∙ ap (option_map (λ (r : Row). r.cells.items)) at;
-      forms = fits.forms;
-      right = right_of row.right;
-      right_told = slice_get-map (λ (r : Row). right_of r.right) table.rows.items i.statement
-          ∙ ap (option_map (λ (r : Row). right_of r.right)) at;
-      stored = fits.stored;
+      row = row;
+      told = at;
+      fits = fits;
       body = ap (λ (w : Visit). w.body) (sym stood.4);
       turns = sym (ap (λ (x : Instance). x.turns) visit.same);
       many = omega (arith, heads, long, same);
@@ -91,53 +82,52 @@ row_of laws program params table i v is visit =
           ∙ (sym (point_in_scopes p.scopes params xs) ∙ ap (λ (w : Visit). w.point) (sym stood.4));
     }
 
+-- the forms of its accesses are those of the row
+pub forms_told : (program : Program) (params : List ℤ) (table : Table) (x : Instance) (v : Visit)
+    (has : HasRow program params table x v) → slice_get (forms_in table) x.number ≡ Some has.row.cells.items
+forms_told program params table x v has =
+    slice_get-map (λ (r : Row). r.cells.items) table.rows.items x.number
+    ∙ ap (option_map (λ (r : Row). r.cells.items)) has.told
+
 -- what the forms tell of an access is the number of the visit's cell
-pub cell_told : (program : Program) (params : List ℤ) (table : Table) (i : CodeInstance) (v : Visit) (a : ℕ)
+pub cell_told : (program : Program) (params : List ℤ) (table : Table) (x : Instance) (v : Visit) (a : ℕ)
     (touched : Access) (result : ℕ) → IsCell (layout program params) (cell_of touched v.point)
-    → cell_number (layout program params) (cell_of touched v.point) < 2 ^ 22 → HasRow program params table i v
-    → slice_get (accesses v.body) a ≡ Some touched
-    → ((form : Affine) → slice_get (get_or (forms_in table) i.statement []) a ≡ Some form
-    → result ≡ wrapped (value_of form (instance_of i).turns))
+    → cell_number (layout program params) (cell_of touched v.point) < 2 ^ 22
+    → (has : HasRow program params table x v) → slice_get (accesses v.body) a ≡ Some touched
+    → ((form : Affine) → slice_get has.row.cells.items a ≡ Some form
+    → result ≡ wrapped (value_of form x.turns))
     → result ≡ cell_number (layout program params) (cell_of touched v.point)
-cell_told program params table i v a touched result cell small row at tells =
+cell_told program params table x v a touched result cell small has at tells =
     let extents = layout program params in
     let c = cell_number extents (cell_of touched v.point) in
-    let there : slice_get (accesses row.own.body) a ≡ Some touched =
-    ap (λ (s : Statement). slice_get (accesses s) a) row.body ∙ at in
-    let count = row.forms.count in
-    let within = slice_get_within (accesses row.own.body) a touched there in
-    let found = there_is row.cells a (omega (arith, count, within)) in
-    let same = get_or_from_slice_get (forms_in table) i.statement row.cells [] row.told in
+    let there : slice_get (accesses has.own.body) a ≡ Some touched =
+    ap (λ (s : Statement). slice_get (accesses s) a) has.body ∙ at in
+    let count = has.fits.forms.count in
+    let within = slice_get_within (accesses has.own.body) a touched there in
+    let found = there_is has.row.cells.items a (omega (arith, count, within)) in
     let form = found.0 in
-    let told = row.forms.each a touched form there found.1 v.turns row.many in
-    tells form (ap (λ (fs : List Affine). slice_get fs a) same ∙ found.1)
-    ∙ (ap (λ (xs : List ℤ). wrapped (value_of form xs)) row.turns
+    let told = has.fits.forms.each a touched form there found.1 v.turns has.many in
+    tells form found.1
+    ∙ (ap (λ (xs : List ℤ). wrapped (value_of form xs)) has.turns
     ∙ (told
-    ∙ (ap (λ (p : List ℤ). wrapped (number_at extents touched p)) row.point
+    ∙ (ap (λ (p : List ℤ). wrapped (number_at extents touched p)) has.point
     ∙ (ap wrapped (number_exact extents touched v.point cell) ∙ kept c small))))
   where
     kept : (n : ℕ) → n < 2 ^ 22 → n % 2 ^ 64 ≡ n
     kept n less = omega (arith, less)
 
--- the right side in the row wants as many values as the visit reads
-pub reads_told : (program : Program) (params : List ℤ) (table : Table) (i : CodeInstance) (v : Visit) (right : Right)
-    → HasRow program params table i v → slice_get (rights_in table) i.statement ≡ Some right
-    → length (reads v.body) ≡ values_wanted right
-reads_told program params table i v right row at =
-    let both : Some row.right ≡ Some right = sym row.right_told ∙ at in
-    let same : row.right ≡ right = cc in
-    ap (λ (s : Statement). length (reads s)) (sym row.body)
-    ∙ (sym (row.stored.reads row.own.body.place) ∙ ap values_wanted same)
+-- the code in the row takes as many values as the visit reads
+pub reads_told : (program : Program) (params : List ℤ) (table : Table) (x : Instance) (v : Visit)
+    (has : HasRow program params table x v) → length (reads v.body) ≡ has.row.code.reads
+reads_told program params table x v has =
+    ap (λ (s : Statement). length (reads s)) (sym has.body) ∙ sym (has.fits.stored.reads has.own.body.place)
 
--- and stores over the turns what the visit does
-pub value_told : (program : Program) (params : List ℤ) (table : Table) (i : CodeInstance) (v : Visit) (values : List ℕ)
-    (result : ℕ) → HasRow program params table i v
-    → ((right : Right) → slice_get (rights_in table) i.statement ≡ Some right
-    → result ≡ stored_by right (instance_of i).turns values)
-    → result ≡ stored_by v.body.right v.point values
-value_told program params table i v values result row tells =
-    tells row.right row.right_told
-    ∙ (ap (λ (xs : List ℤ). stored_by row.right xs values) row.turns
-    ∙ (row.stored.value v.turns values row.many
-    ∙ (ap (λ (s : Statement). stored_by s.right (point_in row.own.heads params v.turns) values) row.body
-    ∙ ap (λ (p : List ℤ). stored_by v.body.right p values) row.point)))
+-- and makes of them what the visit stores
+pub value_told : (program : Program) (params : List ℤ) (table : Table) (x : Instance) (v : Visit) (values : List ℕ)
+    (has : HasRow program params table x v) → length values ≡ length (reads v.body)
+    → value_by has.row.code x.turns values ≡ stored_by v.body.right v.point values
+value_told program params table x v values has long =
+    ap (λ (xs : List ℤ). value_by has.row.code xs values) has.turns
+    ∙ (has.fits.stored.value v.turns values has.many (long ∙ reads_told program params table x v has)
+    ∙ (ap (λ (s : Statement). stored_by s.right (point_in has.own.heads params v.turns) values) has.body
+    ∙ ap (λ (p : List ℤ). stored_by v.body.right p values) has.point))

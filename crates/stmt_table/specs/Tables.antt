@@ -1,13 +1,12 @@
 -- A table of a program's statements, in which their cells and what they store are told by forms of the turns.
 use Rattle.std.specs.Prelude.{◌≡◌, ℕ, ℤ, List, length, map, slice_get, Some}
 use Rattle.whole_numbers.specs.Affine.{Affine, value_of}
-use Rattle.scop_meaning.specs.Instances.{values_wanted}
-use Rattle.scop_syntax.specs.Cells.{accesses, reads_with}
+use Rattle.scop_syntax.specs.Cells.{accesses}
 use Rattle.scop_syntax.specs.Execution.{layout}
-use Rattle.scop_syntax.specs.Tree.{Access, Head, Program, Right}
-use Rattle.scop_syntax.specs.Values.{stored_by, wrapped}
-use Rattle.scop_syntax.specs.View.{right_of}
+use Rattle.scop_syntax.specs.Tree.{Access, Head, Program}
+use Rattle.scop_syntax.specs.Values.{wrapped}
 use Rattle.standings.specs.Standings.{Standing, standings_of}
+use Rattle.stmt_table.specs.Codes.{StoresBy}
 use Rattle.stmt_table.specs.Numbers.{number_at}
 use Rattle.stmt_table.specs.Points.{point_in}
 use Rattle.stmt_table.specs.declared.table.Row.{Row}
@@ -25,25 +24,14 @@ pub record AreForms (extents : List (List ℕ)) (params : List ℤ) (s : Standin
   pub each : (a : ℕ) (access : Access) (form : Affine) → slice_get (accesses s.body) a ≡ Some access
       → slice_get forms a ≡ Some form → Tells extents params s.heads access form
 
--- at all turns of these loops what a right side stores is what another stores at the point within them, on any values
--- read, and it wants as many as the other reads behind a place
-pub record Stores (params : List ℤ) (heads : List Head) (own right : Right) : Type 0 where
-  pub reads : (place : Access) → values_wanted right ≡ length (reads_with place own)
-  pub value : (turns : List ℤ) (values : List ℕ) → length turns ≡ length heads
-      → stored_by right turns values ≡ stored_by own (point_in heads params turns) values
-
--- the row of a statement: the forms of its accesses, and its right side over the turns
+-- the row of a statement: the forms of its accesses, and the code of its right side
 pub record IsRowOf (extents : List (List ℕ)) (params : List ℤ) (s : Standing) (row : Row) : Type 0 where
   pub forms : AreForms extents params s row.cells.items
-  pub stored : Stores params s.heads s.body.right (right_of row.right)
+  pub stored : StoresBy params s.heads s.body.right row.code
 
 -- the forms of each statement's accesses
 abbrev pub forms_in : Table → List (List Affine)
 forms_in table = map (λ row. row.cells.items) table.rows.items
-
--- the right side of each statement over the turns
-abbrev pub rights_in : Table → List Right
-rights_in table = map (λ row. right_of row.right) table.rows.items
 
 -- the table has the row of each of a program's statements
 pub record IsTableOf (program : Program) (params : List ℤ) (table : Table) : Type 0 where

@@ -1,4 +1,5 @@
 -- What only proofs and private contracts need.
 pub mod Same
+pub mod Codes
 pub mod Forms
 pub mod Rights

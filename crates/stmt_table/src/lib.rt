@@ -6,7 +6,10 @@
 //! that the right sides store what those of the statements do.
 #![tactic(auto)]
 
+pub mod code;
+pub mod desk;
 mod forms;
+pub mod lane;
 mod numbers;
 mod points;
 mod rights;

@@ -1,36 +1,33 @@
 //! The table of a kernel's statements.
 ghost use Rattle.std.specs.Prelude.{◌≡◌, ◌-◌, ◌<◌, ◌≤◌, IfOk, Some, [], length, slice_get, slice_index_or};
 ghost use Rattle.whole_numbers.specs.Affine.{Affine, value_of};
-ghost use Rattle.scop_meaning.specs.Instances.{values_wanted};
 ghost use Rattle.scop_syntax.specs.Execution.{layout};
 ghost use Rattle.scop_syntax.specs.Limits.{WithinLimits};
-ghost use Rattle.scop_syntax.specs.Tree.{Right as RightSide};
-ghost use Rattle.scop_syntax.specs.Values.{stored_by, wrapped};
-ghost use Rattle.scop_syntax.specs.View.{instance_of, program_of, right_of};
+ghost use Rattle.scop_syntax.specs.Values.{wrapped};
+ghost use Rattle.scop_syntax.specs.View.{instance_of, program_of};
 ghost use Rattle.standings.specs.View.{standing_of};
-ghost use Rattle.stmt_table.specs.Tables.{AreForms, IsRowOf, IsTableOf, forms_in, rights_in};
+ghost use Rattle.stmt_table.specs.Tables.{AreForms, IsRowOf, IsTableOf, forms_in};
 ghost use Rattle.stmt_table.specs.steps.Forms.{CanForm};
 
+use crate::code::{Code, compiled};
 use crate::forms::form_of;
-use crate::rights::right_over;
 use scop_meaning::accesses::{access_at, read_count};
-use scop_meaning::expressions::stored_on;
 use scop_syntax::affine_values::wrapped_at;
 use scop_syntax::arrays::Extents;
 use scop_syntax::instance::Instance;
 use scop_syntax::limit_laws::cells_lie_within_22_bits;
-use scop_syntax::tree::{Aff, Kernel, Right};
+use scop_syntax::tree::{Aff, Kernel};
 use scop_syntax::walk_laws::statements_are_numbered;
 use standings::{Standing, standings_of};
 use std::alloc::{AllocError, Global};
 
 /// What is told of a statement over the turns of the loops round it: for each access, the place first, a form of the
-/// row-major number of its cell among those of all arrays, modulo 2^64; and its right side, in which affine parts are
-/// such forms.
+/// row-major number of its cell among those of all arrays, modulo 2^64; and the code of its right side, in which affine
+/// parts are such forms.
 #[derive(Drop)]
 pub struct Row {
     pub cells: Vec<Aff>,
-    pub right: Right,
+    pub code: Code,
 }
 
 /// The row of each statement of a kernel, in textual order.
@@ -69,8 +66,18 @@ fn row_of(
     ensures { IfOk result (IsRowOf extents.now params.now (standing_of statement.now)) }
 {
     let cells = forms_of(alloc, statement, params, extents)?;
-    let right = right_over(alloc, &statement.body.right, &statement.heads, params)?;
-    Ok(Row { cells, right })
+    let code = compiled(alloc, statement.body, &statement.heads, params)?;
+    Ok(Row { cells, code })
+}
+
+impl Row {
+    /// How many values its code takes.
+    #[inline]
+    pub fn reads(&self) -> usize
+        ensures { result ≡ self.now.code.reads }
+    {
+        self.code.reads
+    }
 }
 
 impl Table {
@@ -128,22 +135,12 @@ impl Table {
         wrapped_at(self.form(instance.statement, access), instance.turns()) as usize
     }
 
-    /// The right side of the statement of this number.
-    fn right(&self, statement: usize) -> &Right
-        requires { statement < length (forms_in self.now) }
-        ensures { slice_get (rights_in self.now) statement ≡ Some (right_of result.now) }
+    /// The row of the statement of this number.
+    #[inline]
+    pub fn row(&self, statement: usize) -> &Row
+        requires { statement < length self.now.rows.items }
+        ensures { slice_get self.now.rows.items statement ≡ Some result.now }
     {
-        &self.rows[statement].right
-    }
-
-    /// What the instance stores, where its reads have the values `reads`, in the order of the text.
-    pub fn value(&self, instance: &Instance, reads: &[u64]) -> u64
-        requires statement { instance.now.statement < length (forms_in self.now) }
-        requires reads { (right : RightSide) → slice_get (rights_in self.now) instance.now.statement ≡ Some right
-            → length reads.now ≡ values_wanted right }
-        ensures { (right : RightSide) → slice_get (rights_in self.now) instance.now.statement ≡ Some right
-            → result ≡ stored_by right (instance_of instance.now).turns reads.now }
-    {
-        stored_on(self.right(instance.statement), instance.turns(), reads)
+        &self.rows[statement]
     }
 }

@@ -6,6 +6,7 @@ pub mod Tiles
 pub mod TouchedCells
 pub mod Rows
 pub mod Workers
+pub mod Stretches
 pub mod Boards
 pub mod Acts
 pub mod BoardStretches

@@ -12,41 +12,39 @@ use Rattle.scop_syntax.specs.Kernel.{IsKernel, IsPlaced, ranks_of}
 use Rattle.scop_syntax.specs.Members.{In}
 use Rattle.scop_syntax.specs.Statements.{Placed, Runs, statements_of, visit_of}
 use Rattle.scop_syntax.specs.Tree.{Access, Program}
-use Rattle.scop_syntax.specs.View.{instance_of}
 use Rattle.scop_syntax.specs.Walk.{Instance, Visit, instance, walk_of}
-use Rattle.scop_syntax.specs.declared.instance.Instance.{Instance as CodeInstance}
 use Rattle.scop_syntax.proofs.Members.{in_from_place, place_of, there_is}
 use Rattle.conflict_orders.proofs.SortedLists.{StandOnce}
 use Rattle.stmt_table.specs.Instances.{IsVisitOf}
 use Rattle.tile_events.specs.Flat.{read_by, value_by, written_by}
 use Rattle.tile_core.specs.Plans.{IsPlan, extents_in, places_in, program_in, walk_in}
-use Rattle.tile_core.specs.Plans as plans
+use Rattle.tile_core.specs.Ranks.{place_in}
 use Rattle.tile_core.specs.declared.plan.Plan.{Plan}
 use Rattle.tile_core.proofs.Ranks.{placed}
 
 -- the visit at an instance's place has its numbers
-pub record IsThere (plan : Plan) (i : CodeInstance) (v : Visit) : Type 0 where
-  pub at : slice_get (walk_in plan) (plans.place_of plan i) ≡ Some v
-  pub is : IsVisitOf (program_in plan) plan.params.now (instance_of i) v
+pub record IsThere (plan : Plan) (x : Instance) (v : Visit) : Type 0 where
+  pub at : slice_get (walk_in plan) (place_in (places_in plan) x) ≡ Some v
+  pub is : IsVisitOf (program_in plan) plan.params.now x v
 
-pub there : (plan : Plan) (i : CodeInstance) → In (instance_of i) (places_in plan) → (v : Visit) × IsThere plan i v
-there plan i walked =
+pub there : (plan : Plan) (x : Instance) → In x (places_in plan) → (v : Visit) × IsThere plan x v
+there plan x walked =
     let walk = walk_in plan in
-    let place = plans.place_of plan i in
-    let found = placed (places_in plan) (instance_of i) walked in
-    let within = slice_get_within (places_in plan) place (instance_of i) found in
+    let place = place_in (places_in plan) x in
+    let found = placed (places_in plan) x walked in
+    let within = slice_get_within (places_in plan) place x found in
     let many = length-map walk instance in
     let v = there_is walk place (omega (arith, within, many)) in
-    let e : Some (instance v.0) ≡ Some (instance_of i) =
+    let e : Some (instance v.0) ≡ Some x =
     sym (slice_get-map instance walk place ∙ ap (option_map instance) v.1) ∙ found in
-    let same : instance v.0 ≡ instance_of i = cc in
+    let same : instance v.0 ≡ x = cc in
     (v.0, record { at = v.1; is = record { walked = in_from_place walk place v.0 v.1; same = same } })
 
 -- it is the only one
-pub one : (plan : Plan) (i : CodeInstance) (v w : Visit) → StandOnce (program_in plan) plan.params.now
-    → IsVisitOf (program_in plan) plan.params.now (instance_of i) v
-    → IsVisitOf (program_in plan) plan.params.now (instance_of i) w → v ≡ w
-one plan i v w once a b =
+pub one : (plan : Plan) (x : Instance) (v w : Visit) → StandOnce (program_in plan) plan.params.now
+    → IsVisitOf (program_in plan) plan.params.now x v
+    → IsVisitOf (program_in plan) plan.params.now x w → v ≡ w
+one plan x v w once a b =
     let walk = walk_in plan in
     let p = place_of walk v a.walked in
     let q = place_of walk w b.walked in
@@ -58,20 +56,20 @@ one plan i v w once a b =
     same m n e g h = cc
 
 -- how many reads there are
-pub reads_there : (plan : Plan) (i : CodeInstance) (v : Visit) (extents : List (List ℕ)) → IsThere plan i v
-    → length (read_by extents [] (slice_get (walk_in plan) (plans.place_of plan i))) ≡ length (reads v.body)
-reads_there plan i v extents is =
+pub reads_there : (plan : Plan) (x : Instance) (v : Visit) (extents : List (List ℕ)) → IsThere plan x v
+    → length (read_by extents [] (slice_get (walk_in plan) (place_in (places_in plan) x))) ≡ length (reads v.body)
+reads_there plan x v extents is =
     ap (λ o. length (read_by extents [] o)) is.at
     ∙ (length-map (cells_read v) (cell_number extents) ∙ length-map (reads v.body) (λ access. cell_of access v.point))
 
-many_reads : (plan : Plan) (i : CodeInstance) (extents : List (List ℕ))
+many_reads : (plan : Plan) (x : Instance) (extents : List (List ℕ))
     → StandOnce (program_in plan) plan.params.now
-    → In (instance_of i) (places_in plan) → (v : Visit) → IsVisitOf (program_in plan) plan.params.now (instance_of i) v
-    → length (reads v.body) ≡ length (read_by extents [] (slice_get (walk_in plan) (plans.place_of plan i)))
-many_reads plan i extents once walked v is =
-    let t = there plan i walked in
-    ap (λ (w : Visit). length (reads w.body)) (one plan i v t.0 once is t.1.is) ∙ sym
-    (reads_there plan i t.0 extents t.1)
+    → In x (places_in plan) → (v : Visit) → IsVisitOf (program_in plan) plan.params.now x v
+    → length (reads v.body) ≡ length (read_by extents [] (slice_get (walk_in plan) (place_in (places_in plan) x)))
+many_reads plan x extents once walked v is =
+    let t = there plan x walked in
+    ap (λ (w : Visit). length (reads w.body)) (one plan x v t.0 once is t.1.is) ∙ sym
+    (reads_there plan x t.0 extents t.1)
 
 -- the laws of instances and statements
 abbrev pub AreFound : Type 0
@@ -98,29 +96,29 @@ few_at plan j extents found placed_law is less =
     omega (arith, few, same, n)
 
 -- and so for an instance
-pub few_reads : (plan : Plan) (i : CodeInstance) (extents : List (List ℕ)) → AreFound → ArePlaced → IsPlan plan
-    → In (instance_of i) (places_in plan)
-    → length (read_by extents [] (slice_get (walk_in plan) (plans.place_of plan i))) ≤ 16
-few_reads plan i extents found placed_law is walked =
-    let t = there plan i walked in
+pub few_reads : (plan : Plan) (x : Instance) (extents : List (List ℕ)) → AreFound → ArePlaced → IsPlan plan
+    → In x (places_in plan)
+    → length (read_by extents [] (slice_get (walk_in plan) (place_in (places_in plan) x))) ≤ 16
+few_reads plan x extents found placed_law is walked =
+    let t = there plan x walked in
     let s = found (program_in plan) plan.params.now t.0 t.1.is.walked in
     let few = (placed_law (program_in plan) s.0 is.limits.kernel s.2).body.few_reads in
     let same = ap (λ (w : Visit). length (reads w.body)) s.4 in
-    let n = reads_there plan i t.0 extents t.1 in
+    let n = reads_there plan x t.0 extents t.1 in
     omega (arith, few, same, n)
 
 -- a call that tells the cell of an access tells that of the plan
-abbrev pub TellsCell : Plan → CodeInstance → ℕ → ℕ → Type 0
-TellsCell plan i access result =
-    (v : Visit) (touched : Access) → IsVisitOf (program_in plan) plan.params.now (instance_of i) v
+abbrev pub TellsCell : Plan → Instance → ℕ → ℕ → Type 0
+TellsCell plan x access result =
+    (v : Visit) (touched : Access) → IsVisitOf (program_in plan) plan.params.now x v
     → slice_get (accesses v.body) access ≡ Some touched
     → result ≡ cell_number (extents_in plan) (cell_of touched v.point)
 
-pub written_is : (plan : Plan) (i : CodeInstance) (result : ℕ) → IsPlan plan → In (instance_of i) (places_in plan)
-    → TellsCell plan i 0 result
-    → result ≡ written_by (extents_in plan) (slice_get (walk_in plan) (plans.place_of plan i))
-written_is plan i result is walked tells =
-    let t = there plan i walked in
+pub written_is : (plan : Plan) (x : Instance) (result : ℕ) → IsPlan plan → In x (places_in plan)
+    → TellsCell plan x 0 result
+    → result ≡ written_by (extents_in plan) (slice_get (walk_in plan) (place_in (places_in plan) x))
+written_is plan x result is walked tells =
+    let t = there plan x walked in
     let v = t.0 in
     tells v v.body.place t.1.is refl ∙ sym (ap (written_by (extents_in plan)) t.1.at)
 
@@ -130,31 +128,24 @@ mapped f g [] i x e = absurd cc
 mapped f g (y ∷ ys) zero x e = ap (λ z. f (g z)) (let q : y ≡ x = cc in q)
 mapped f g (y ∷ ys) (suc i) x e = mapped f g ys i x e
 
-pub read_is : (plan : Plan) (i : CodeInstance) (read result : ℕ) → StandOnce (program_in plan) plan.params.now
-    → IsPlan plan → In (instance_of i) (places_in plan)
+pub read_is : (plan : Plan) (x : Instance) (read result : ℕ) → StandOnce (program_in plan) plan.params.now
+    → IsPlan plan → In x (places_in plan)
     → read < length (read_by (extents_in plan) []
-    (slice_get (walk_in plan) (plans.place_of plan i))) → TellsCell plan i (suc read) result
+    (slice_get (walk_in plan) (place_in (places_in plan) x))) → TellsCell plan x (suc read) result
     → result ≡ get_or (read_by (extents_in plan) []
-    (slice_get (walk_in plan) (plans.place_of plan i))) read 0
-read_is plan i read result once is walked less tells =
+    (slice_get (walk_in plan) (place_in (places_in plan) x))) read 0
+read_is plan x read result once is walked less tells =
     let extents = extents_in plan in
-    let t = there plan i walked in
+    let t = there plan x walked in
     let v = t.0 in
-    let n = many_reads plan i extents once walked v t.1.is in
+    let n = many_reads plan x extents once walked v t.1.is in
     let touched = there_is (reads v.body) read (omega (arith, less, n)) in
     tells v touched.0 t.1.is touched.1
     ∙ (sym (mapped (cell_number extents) (λ access. cell_of access v.point) (reads v.body) read touched.0 touched.1)
     ∙ sym (ap (λ o. get_or (read_by extents [] o) read 0) t.1.at))
 
-pub value_is : (plan : Plan) (i : CodeInstance) (result : ℕ) (values : List ℕ) → In (instance_of i) (places_in plan)
-    → ((v : Visit) → IsVisitOf (program_in plan) plan.params.now (instance_of i) v
-    → result ≡ value_by [] (Some v) values)
-    → result ≡ value_by [] (slice_get (walk_in plan) (plans.place_of plan i)) values
-value_is plan i result values walked tells =
-    let t = there plan i walked in tells t.0 t.1.is ∙ sym (ap (λ o. value_by [] o values) t.1.at)
-
 -- an instance's place is one of the walk
-pub place_within : (plan : Plan) (i : CodeInstance) → In (instance_of i) (places_in plan)
-    → plans.place_of plan i < length (walk_in plan)
-place_within plan i walked =
-    let t = there plan i walked in slice_get_within (walk_in plan) (plans.place_of plan i) t.0 t.1.at
+pub place_within : (plan : Plan) (x : Instance) → In x (places_in plan)
+    → place_in (places_in plan) x < length (walk_in plan)
+place_within plan x walked =
+    let t = there plan x walked in slice_get_within (walk_in plan) (place_in (places_in plan) x) t.0 t.1.at

@@ -1,8 +1,9 @@
 -- Where a worker stands: before a tile, at its first instance, at the next one.
 use Rattle.std.proofs.Common.{◌≡◌, ℕ, zero, suc, ◌+◌, ◌<◌, List, [], ◌∷◌, ◌++◌, drop, length, Option, Some, None}
 use Rattle.std.proofs.Common.{ap, ap₂, map, sym, subst, refl}
-use Rattle.std.proofs.Common.{◌∙◌, arith}
+use Rattle.std.proofs.Common.{◌∙◌, Bor, arith}
 use Rattle.std.specs.Prelude.{All, replicate, slice_get, slice_index_or, IsNone, MatchOption}
+use Rattle.std.specs.Option.{option_copied}
 use Rattle.std.proofs.lemmas.List.{map-append, replicate-append-replicate}
 use Rattle.std.proofs.lemmas.List.Elements.{All-push}
 use Rattle.std.proofs.lemmas.Option.{slice_get_within}
@@ -15,6 +16,7 @@ use Rattle.loop_tree.specs.View.{trees_in}
 use Rattle.loop_tree.specs.declared.spot.Spot.{Spot}
 use Rattle.loop_tree.proofs.Visits.{listed_same}
 use Rattle.loop_tree.proofs.SameSpots.{rest_alike}
+use Rattle.stmt_table.specs.Desks.{HasRoomForAll}
 use Rattle.tile_list.specs.Tiles.{start_of}
 use Rattle.tile_list.specs.declared.list.Tile.{Tile}
 use Rattle.tile_events.specs.Deal.{IsScan}
@@ -32,11 +34,12 @@ use Rattle.tile_core.proofs.Plans.{sizes_agree}
 
 -- a worker that holds no tile
 pub idle_is : (plan : Plan) (w : Worker) → w.stage ≡ Idle → IsSpotOf (trees_in plan.tree.now) plan.params.now w.spot
-    → IsWorker plan w
-idle_is plan w is spot = record {
+    → HasRoomForAll plan.table.now w.desk → IsWorker plan w
+idle_is plan w is spot desk = record {
   spot = spot;
   tile = λ t h. absurd (subst (λ s. Holds (staged s w.reads.items) t) is h);
   next = λ t k e l. absurd (differ t k (sym is ∙ e));
+  desk = desk;
 }
   where
     differ : (t k : ℕ) → Idle ≡ Working t k → ⊥
@@ -44,9 +47,9 @@ idle_is plan w is spot = record {
 
 -- one at work
 pub at_work : (plan : Plan) (w : Worker) (t k : ℕ) → w.stage ≡ Working t k
-    → IsSpotOf (trees_in plan.tree.now) plan.params.now w.spot → t < (shape_of plan).tiles
-    → (k < (shape_of plan).size t → IsNext plan ((deal_of plan).start t + k) w.next w.spot) → IsWorker plan w
-at_work plan w t k is spot less next = record {
+    → IsSpotOf (trees_in plan.tree.now) plan.params.now w.spot → HasRoomForAll plan.table.now w.desk
+    → t < (shape_of plan).tiles → (k < (shape_of plan).size t → IsNext plan ((deal_of plan).start t + k) w.next w.spot) → IsWorker plan w
+at_work plan w t k is spot desk less next = record {
   spot = spot;
   tile = λ u h.
       let same : t ≡ u = subst (λ s. Holds (staged s w.reads.items) u) is h in
@@ -59,6 +62,7 @@ at_work plan w t k is spot less next = record {
       (subst (λ v. v < (shape_of plan).size u) (sym q) left) in
       subst (λ v. IsNext plan ((deal_of plan).start v + m) w.next w.spot) p
       (subst (λ v. IsNext plan ((deal_of plan).start t + v) w.next w.spot) q (next l));
+  desk = desk;
 }
 
 -- an idle worker behind others
@@ -97,7 +101,7 @@ first_is stand plan t tile spot is at set =
     }
 
 -- what stands in front of the rest of a list
-head_is : (ys : List Instance) (n : ℕ) (x : Instance) (rest : List Instance) → drop n ys ≡ x ∷ rest
+pub head_is : (ys : List Instance) (n : ℕ) (x : Instance) (rest : List Instance) → drop n ys ≡ x ∷ rest
     → (slice_get ys n ≡ Some x) × (drop (suc n) ys ≡ rest)
 head_is [] zero x rest e = absurd cc
 head_is [] (suc n) x rest e = absurd cc
@@ -157,3 +161,10 @@ due_is plan stage t k (Some i) spot is scan many works less left n =
       walked = same.0
           (in_from_place (scan_in plan) ((deal_of plan).start t + k) (instance_of i) (sym n.instance));
     }
+
+-- and so where it is lent
+pub lent : (plan : Plan) (stage : Stage) (o : Option (Bor CodeInstance))
+    → MatchOption (option_copied o) (HasNoneDue plan stage) (IsDue plan stage)
+    → MatchOption o (HasNoneDue plan stage) (λ i. IsDue plan stage i.now)
+lent plan stage None due = due
+lent plan stage (Some i) due = due

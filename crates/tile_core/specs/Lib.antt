@@ -3,7 +3,9 @@ pub mod Acts
 pub mod steps
 pub mod Plans
 pub mod Workers
+pub mod Stretches
 pub mod Boards
 pub mod Cores
 pub mod Views
 pub mod Passes
+pub mod Rows

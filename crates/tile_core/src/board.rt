@@ -105,10 +105,10 @@ impl Board {
             return Err(NotEnabled);
         };
         let read = worker.reads.len();
-        if read >= plan.reads(&instance) {
+        if read >= plan.reads(instance) {
             return Err(NotEnabled);
         }
-        let value = cell_at(&self.cells, plan.cell_read(&instance, read));
+        let value = cell_at(&self.cells, plan.cell_read(instance, read));
         self.workers[id].read(value);
         Ok(Seen::Read(value))
     }
@@ -119,15 +119,17 @@ impl Board {
         ensures { Does plan.now self.old id store self.new result }
     {
         let worker = &self.workers[id];
-        let Some(instance) = worker.due(plan) else {
+        let Some(due) = worker.due(plan) else {
             return Err(NotEnabled);
         };
-        if worker.reads.len() != plan.reads(&instance) {
+        if worker.reads.len() != plan.reads(due) {
             return Err(NotEnabled);
         }
-        let value = plan.value(&instance, worker.reads.as_slice());
+        let instance = *due;
+        let worker = &mut self.workers[id];
+        let value = worker.value(plan, &instance);
+        worker.advance(plan);
         self.cells[plan.cell_written(&instance)] = value;
-        self.workers[id].advance(plan);
         Ok(Seen::Stored)
     }
 

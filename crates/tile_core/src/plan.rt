@@ -3,9 +3,11 @@
 ghost use Rattle.std.specs.Prelude.{◌≡◌, ◌<◌, ◌≤◌, Some, get_or, length, slice_get};
 ghost use Rattle.scop_syntax.specs.Members.{In};
 ghost use Rattle.scop_syntax.specs.View.{instance_of};
+ghost use Rattle.stmt_table.specs.Desks.{HasRoomForAll};
+ghost use Rattle.tile_core.specs.Rows.{IsRowAt};
 ghost use Rattle.tile_core.specs.Plans.{IsPlan, place_of, places_in, shape_of};
 
-use crate::plan_laws::plans_are_good;
+use crate::plan_laws::{plans_are_good, rows_tell_instances};
 use loop_tree::Tree;
 use scop_syntax::instance::Instance;
 use scop_syntax::limit_laws::cells_lie_within_22_bits;
@@ -13,7 +15,8 @@ use scop_syntax::tree::Kernel;
 use scop_syntax::walk_laws::{
     instances_are_those_of_statements, statements_are_numbered, walks_are_in_order,
 };
-use stmt_table::table::Table;
+use stmt_table::desk::Desk;
+use stmt_table::table::{Row, Table};
 use tile_list::{Tile, TileList};
 
 /// A kernel with its parameters, the table of its statements, the tree of a plan of it, and the tiles of its visits.
@@ -119,15 +122,28 @@ impl<'a> Plan<'a> {
         self.table.cell(instance, 0)
     }
 
-    /// What the instance stores, where its reads have these values.
-    pub fn value(&self, instance: &Instance, reads: &[u64]) -> u64
+    /// The row of the instance's statement.
+    #[inline]
+    pub fn row(&self, instance: &Instance) -> &Row
+        requires plan { IsPlan self.now }
+        requires walked { In (instance_of instance.now) (places_in self.now) }
+        ensures row { slice_get self.now.table.now.rows.items instance.now.statement ≡ Some result.now }
+        ensures tells { IsRowAt self.now result.now (instance_of instance.now) }
+    {
+        rows_tell_instances();
+        self.table.row(instance.statement)
+    }
+
+    /// What the instance stores, where its reads have these values. The desk is laid anew for it.
+    pub fn value(&self, desk: &mut Desk, instance: &Instance, reads: &[u64]) -> u64
         requires plan { IsPlan self.now }
         requires walked { In (instance_of instance.now) (places_in self.now) }
         requires reads { length reads.now ≡ length ((shape_of self.now).read (place_of self.now instance.now)) }
-        ensures { result ≡ (shape_of self.now).value (place_of self.now instance.now) reads.now }
+        requires desk { HasRoomForAll self.now.table.now desk.old }
+        ensures value { result ≡ (shape_of self.now).value (place_of self.now instance.now) reads.now }
+        ensures desk { HasRoomForAll self.now.table.now desk.new }
     {
-        instances_are_those_of_statements();
-        statements_are_numbered();
-        self.table.value(instance, reads)
+        rows_tell_instances();
+        self.table.value(desk, instance, reads)
     }
 }

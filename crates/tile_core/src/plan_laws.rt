@@ -10,7 +10,9 @@ ghost use Rattle.scop_syntax.specs.Execution.{
   held,
   values_read_by,
 };
-ghost use Rattle.scop_syntax.specs.Walk.{Visit};
+ghost use Rattle.scop_syntax.specs.Members.{In};
+ghost use Rattle.scop_syntax.specs.Walk.{Instance, Visit};
+ghost use Rattle.stmt_table.specs.declared.table.Row.{Row};
 ghost use Rattle.tile_events.specs.Core.{State};
 ghost use Rattle.tile_events.specs.Deal.{IsScan};
 ghost use Rattle.tile_events.specs.Flat.{flat};
@@ -21,15 +23,18 @@ ghost use Rattle.tile_core.specs.Plans.{
   IsPlan,
   deal_of,
   extents_in,
+  places_in,
   plan_of,
   program_in,
   scan_in,
   shape_of,
   walk_in,
 };
+ghost use Rattle.tile_core.specs.Rows.{IsRowAt};
 ghost use Rattle.tile_core.specs.declared.plan.Plan.{Plan};
 
 use scop_syntax::execution_laws::cells_have_numbers_of_their_own;
+use scop_syntax::limit_laws::cells_lie_within_22_bits;
 use scop_syntax::walk_laws::{
     instances_are_those_of_statements, statements_are_numbered, walks_are_in_order,
 };
@@ -80,4 +85,18 @@ pub fn instances_read_few()
 {
     instances_are_those_of_statements();
     statements_are_numbered();
+}
+
+/// The row of a walked instance's statement tells the cells that the instance touches, and what it stores.
+pub fn rows_tell_instances()
+    ensures there { (plan : Plan) (x : Instance) → IsPlan plan → In x (places_in plan)
+        → x.number < length plan.table.now.rows.items }
+    ensures tells { (plan : Plan) (x : Instance) (row : Row) → IsPlan plan → In x (places_in plan)
+        → slice_get plan.table.now.rows.items x.number ≡ Some row → IsRowAt plan row x }
+{
+    plans_are_good();
+    walks_are_in_order();
+    instances_are_those_of_statements();
+    statements_are_numbered();
+    cells_lie_within_22_bits();
 }

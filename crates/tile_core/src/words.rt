@@ -38,7 +38,7 @@ impl Pass {
             Stage::Idle => None,
             Stage::Ended => None,
             Stage::Holding(tile) => Some(words.plan.tile(tile).first),
-            Stage::Working(_, _) => self.worker.due(&words.plan),
+            Stage::Working(_, _) => self.worker.due(&words.plan).copied(),
         }
     }
 }

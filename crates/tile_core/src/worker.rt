@@ -1,9 +1,15 @@
 //! A worker: where it stands with its tile, the instance that it does next with the values read for it, and the place
 //! in the tree's visits behind that instance. Its steps take no memory.
-ghost use Rattle.std.specs.Prelude.{◌≡◌, ◌<◌, ◌++◌, ◌∷◌, [], ℕ, All, IfOk, MatchOption, length, map, replicate, suc};
+ghost use Rattle.std.specs.Prelude.{◌≡◌, ◌+◌, ◌-◌, ◌<◌, ◌≤◌, ◌⊎◌, ◌++◌, ◌∷◌, [], ℕ, ℤ, All, IfOk, IfSome, List};
+ghost use Rattle.std.specs.Prelude.{MatchOption, Some, drop, length, map, replicate, suc};
+ghost use Rattle.scop_syntax.specs.Members.{In};
+ghost use Rattle.scop_syntax.specs.View.{instance_of};
+ghost use Rattle.loop_tree.specs.SpotView.{IsSpotOf, to_come};
+ghost use Rattle.loop_tree.specs.Tree.{Trees};
 ghost use Rattle.tile_events.specs.Core.{idle};
 ghost use Rattle.tile_events.specs.Sound.{Holds};
-ghost use Rattle.tile_core.specs.Plans.{IsPlan, shape_of};
+ghost use Rattle.tile_core.specs.Plans.{IsPlan, place_of, places_in, shape_of};
+ghost use Rattle.tile_core.specs.Stretches.{CanPass, IsAhead, IsAlong, IsPart};
 ghost use Rattle.tile_core.specs.Workers.{HasNoneDue, IsDue, IsWorker, staged, worker_of};
 ghost use Rattle.tile_core.specs.declared.plan.Plan.{Plan as AnyPlan};
 ghost use Rattle.tile_core.specs.declared.worker.Stage.TheVariants as stage_of;
@@ -11,9 +17,10 @@ ghost use Rattle.tile_core.specs.declared.worker.Stage.TheVariants as stage_of;
 use crate::plan::Plan;
 use crate::plan_laws::plans_are_good;
 use arrayvec::ArrayVec;
-use loop_tree::Spot;
+use loop_tree::{Spot, Stretch};
 use scop_syntax::instance::Instance;
 use std::alloc::{AllocError, Global};
+use stmt_table::desk::Desk;
 use tile_list::laws::tiles_stand_one_behind_another;
 
 /// Reads that a statement may have.
@@ -32,13 +39,45 @@ pub enum Stage {
 /// The values read so far for an instance, in the order of its reads.
 pub type Reads = ArrayVec<u64, MAX_READS>;
 
-/// At work in a tile with an instance left, `next` is that instance and `spot` the place behind it.
+/// At work in a tile with an instance left, `next` is that instance and `spot` the place behind it. The desk has room for
+/// the instances of each statement.
 #[derive(Drop)]
 pub struct Worker {
     pub stage: Stage,
     pub reads: Reads,
     pub next: Option<Instance>,
     pub spot: Spot,
+    pub desk: Desk,
+}
+
+/// How many instances from one on go by the steps of a stretch, where so many are left at most: all that the stretch has
+/// left, where this is the instance in front of it.
+fn along(stretch: &Stretch, instance: &Instance, most: usize) -> usize
+    requires { 1 ≤ most }
+    ensures some { 1 ≤ result }
+    ensures part { IsPart most stretch.now.left result }
+    ensures along { 1 < result → IsAlong stretch.now instance.now result }
+{
+    if stretch.left == 0 || !stretch.follows(instance) {
+        return 1;
+    }
+    if stretch.left < most as u64 {
+        stretch.left as usize + 1
+    } else {
+        most
+    }
+}
+
+/// Leaves out all that a stretch has left, where more than one instance was done.
+fn leave(spot: &mut Spot, count: usize)
+    requires { (count ≡ 1) ⊎ (count ≡ suc spot.old.stretch.left) }
+    ensures spot { (ts : Trees) (params : List ℤ) → IsSpotOf ts params spot.old → IsSpotOf ts params spot.new }
+    ensures rest { (ts : Trees) (params : List ℤ)
+        → to_come ts params spot.new ≡ drop (count - 1) (to_come ts params spot.old) }
+{
+    if count > 1 {
+        spot.stretch.left = 0;
+    }
 }
 
 impl Worker {
@@ -52,11 +91,13 @@ impl Worker {
         ensures worker { IfOk result (IsWorker plan.now) }
     {
         let spot = Spot::of(alloc, plan.tree)?;
+        let desk = plan.table.desk(alloc)?;
         Ok(Worker {
             stage: Stage::Idle,
             reads: ArrayVec::new(),
             next: None,
             spot,
+            desk,
         })
     }
 
@@ -90,19 +131,40 @@ impl Worker {
     }
 
     /// The instance that it does next; None where it is not at work, or its tile has none left.
-    pub fn due(&self, plan: &Plan) -> Option<Instance>
+    #[inline]
+    pub fn due(&self, plan: &Plan) -> Option<&Instance>
         requires plan { IsPlan plan.now }
         requires worker { IsWorker plan.now self.now }
-        ensures { MatchOption result (HasNoneDue plan.now self.now.stage) (IsDue plan.now self.now.stage) }
+        ensures due { MatchOption result (HasNoneDue plan.now self.now.stage)
+            (λ i. IsDue plan.now self.now.stage i.now) }
+        ensures next { IfSome result (λ i. self.now.next ≡ Some i.now) }
     {
         plans_are_good();
         let Stage::Working(tile, done) = self.stage else {
             return None;
         };
         if done < plan.size(tile) {
-            self.next
+            self.next.as_ref()
         } else {
             None
+        }
+    }
+
+    /// How many instances it has ahead that go by the steps of its spot's stretch, the next one among them; 0 where it has
+    /// none due.
+    pub fn ahead(&self, plan: &Plan) -> usize
+        requires plan { IsPlan plan.now }
+        requires worker { IsWorker plan.now self.now }
+        ensures none { result ≡ 0 → HasNoneDue plan.now self.now.stage }
+        ensures ahead { 0 < result
+            → IsAhead plan.now self.now.stage self.now.next self.now.spot.stretch result }
+    {
+        let Stage::Working(tile, done) = self.stage else {
+            return 0;
+        };
+        match self.due(plan) {
+            None => 0,
+            Some(instance) => along(&self.spot.stretch, instance, plan.size(tile) - done),
         }
     }
 
@@ -116,6 +178,44 @@ impl Worker {
         self.reads.push(value);
     }
 
+    /// What the instance stores, where its reads have the values that were read.
+    pub fn value(&mut self, plan: &Plan, instance: &Instance) -> u64
+        requires plan { IsPlan plan.now }
+        requires walked { In (instance_of instance.now) (places_in plan.now) }
+        requires reads { length self.old.reads.items
+            ≡ length ((shape_of plan.now).read (place_of plan.now instance.now)) }
+        requires worker { IsWorker plan.now self.old }
+        ensures value { result
+            ≡ (shape_of plan.now).value (place_of plan.now instance.now) self.old.reads.items }
+        ensures stage { self.new.stage ≡ self.old.stage }
+        ensures reads { self.new.reads.items ≡ self.old.reads.items }
+        ensures worker { IsWorker plan.now self.new }
+    {
+        plan.value(&mut self.desk, instance, self.reads.as_slice())
+    }
+
+    /// Goes on to the instance behind so many that it has done.
+    pub fn pass_by(&mut self, plan: &Plan, count: usize)
+        requires plan { IsPlan plan.now }
+        requires worker { IsWorker plan.now self.old }
+        requires passes { CanPass plan.now self.old.stage self.old.spot.stretch count }
+        ensures stage { (t k : ℕ) → self.old.stage ≡ stage_of.Working t k
+            → self.new.stage ≡ stage_of.Working t (k + count) }
+        ensures reads { self.new.reads.items ≡ [] }
+        ensures worker { IsWorker plan.now self.new }
+    {
+        self.reads.clear();
+        let Stage::Working(tile, done) = self.stage else {
+            return;
+        };
+        let size = plan.size(tile);
+        self.stage = Stage::Working(tile, done + count);
+        if done + count < size {
+            leave(&mut self.spot, count);
+            self.next = self.spot.next(plan.tree, plan.params);
+        }
+    }
+
     /// Goes on to the instance behind the one that it has done.
     pub fn advance(&mut self, plan: &Plan)
         requires plan { IsPlan plan.now }
@@ -126,15 +226,7 @@ impl Worker {
         ensures reads { self.new.reads.items ≡ [] }
         ensures worker { IsWorker plan.now self.new }
     {
-        self.reads.clear();
-        let Stage::Working(tile, done) = self.stage else {
-            return;
-        };
-        let size = plan.size(tile);
-        self.stage = Stage::Working(tile, done + 1);
-        if done + 1 < size {
-            self.next = self.spot.next(plan.tree, plan.params);
-        }
+        self.pass_by(plan, 1);
     }
 }
 

@@ -14,7 +14,7 @@ ghost use Rattle.tile_list.specs.steps.Cutting.{IsNewTile, IsWaveOf, Takes};
 ghost use Rattle.tile_list.specs.steps.Keys.{HasKey};
 ghost use Rattle.tile_list.specs.steps.Stretching.{AllRowsFit, Passes};
 
-use crate::keys::{Key, are_one};
+use crate::keys::Key;
 use crate::list::{Tile, TileList};
 use crate::offsets::offsets_of;
 use loop_tree::{Spot, Tiling, Tree};
@@ -137,7 +137,7 @@ impl Cut {
         requires fits { AllRowsFit (tiling_of tiling.now) spot.old.stretch }
         ensures { OnOk result (Passes (tiling_of tiling.now) spot.old spot.new self.old self.new) }
     {
-        if asked || !are_one(taken, &spot.stretch.before) {
+        if asked || !spot.stretch.follows(taken) {
             return Ok(());
         }
         if !self.next.is_of_stretch(&self.key, tiling, &spot.stretch)? {

@@ -130,17 +130,6 @@ fn are_same(left: &[i128], right: &[i128]) -> bool
     left == right
 }
 
-/// Whether two instances are one.
-pub fn are_one(left: &Instance, right: &Instance) -> bool
-    ensures { IsTrue result → instance_of left.now ≡ instance_of right.now }
-{
-    if left.statement == right.statement {
-        left.turns() == right.turns()
-    } else {
-        false
-    }
-}
-
 /// What a turn is so many steps on, where there is room for it; another number elsewhere.
 fn turn_after(turns: &[i64; MAX_LOOPS], steps: &[i64; MAX_LOOPS], count: u64, place: usize) -> i64
     requires { place < 5 }

@@ -1,9 +1,8 @@
--- Forms and expressions over the turns of loops in place of those over the point within them.
+-- Forms over the turns of loops in place of those over the point within them.
 use Rattle.std.specs.Prelude.{◌≡◌, ℕ, ℤ, List, [], ◌∷◌, length}
 use Rattle.whole_numbers.specs.Affine.{Affine, value_of}
-use Rattle.scop_syntax.specs.Cells.{reads_of}
-use Rattle.scop_syntax.specs.Tree.{Access, Expression, Head}
-use Rattle.scop_syntax.specs.Values.{value_on, wrapped}
+use Rattle.scop_syntax.specs.Tree.{Access, Head}
+use Rattle.scop_syntax.specs.Values.{wrapped}
 use Rattle.stmt_table.specs.Points.{point_in}
 
 -- the extents of a single row, in which the number of a cell is its subscript
@@ -19,9 +18,3 @@ abbrev pub IsFormOver : List ℤ → List Head → Affine → Affine → Type 0
 IsFormOver params heads form over =
     (turns : List ℤ) → length turns ≡ length heads
     → wrapped (value_of over turns) ≡ wrapped (value_of form (point_in heads params turns))
-
--- there an expression has the value of another on any values read, and reads as many
-pub record IsOver (params : List ℤ) (heads : List Head) (e over : Expression) : Type 0 where
-  pub reads : length (reads_of over) ≡ length (reads_of e)
-  pub value : (turns : List ℤ) (values : List ℕ) → length turns ≡ length heads
-      → value_on over turns values ≡ value_on e (point_in heads params turns) values

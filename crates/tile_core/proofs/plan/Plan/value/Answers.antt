@@ -1,28 +1,25 @@
-use Rattle.std.proofs.Common.{◌∙◌}
-use Rattle.stmt_table.proofs.Visits.{WalkLaws}
-use Rattle.tile_core.proofs.Rows.{row_within, tells_value, values_counted}
+use Rattle.std.proofs.Common.{◌∙◌, sym}
+use Rattle.scop_syntax.specs.View.{instance_of}
+use Rattle.scop_syntax.proofs.Members.{there_is}
 use Rattle.tile_core.proofs.plan.Plan.value.Goals as goal
-use Rattle.tile_core.proofs.plan.Plan.value.Goals.{After-statements_are_numbered}
-
-laws : After-statements_are_numbered → WalkLaws
-laws c = record {
-  found = c.instances_are_those_of_statements.ensures.found;
-  turns = c.instances_are_those_of_statements.ensures.turns;
-  number = c.statements_are_numbered.ensures.number;
-}
 
 pub value-requires-clause-statement : goal.value-requires-clause-statement
 value-requires-clause-statement c =
-    row_within (laws (goal.at.value-requires-clause-statement c).After-statements_are_numbered) c.args.self.now
-    c.args.instance.now c.requires.plan c.requires.walked
+    c.rows_tell_instances.ensures.there c.args.self.now (instance_of c.args.instance.now) c.requires.plan
+    c.requires.walked
 
-pub value-requires-clause-reads : goal.value-requires-clause-reads
-value-requires-clause-reads c = λ right told.
-    c.requires.reads
-    ∙ values_counted (laws (goal.at.value-requires-clause-reads c).After-statements_are_numbered) c.args.self.now
-    c.args.instance.now c.requires.plan c.requires.walked right told
+pub value-requires-clause-code : goal.value-requires-clause-code
+value-requires-clause-code c = λ row at.
+    let tells = c.rows_tell_instances.ensures.tells c.args.self.now (instance_of c.args.instance.now) row
+    c.requires.plan c.requires.walked at in
+    (tells.made, c.requires.reads ∙ sym tells.reads)
 
-pub returns : goal.returns
-returns c =
-    tells_value (laws (goal.at.returns c).After-statements_are_numbered) c.args.self.now c.args.instance.now
-    c.requires.plan c.requires.walked c.args.reads.now c.value.result c.value.ensures
+pub returns-clause-value : goal.returns-clause-value
+returns-clause-value c =
+    let plan = c.args.self.now in
+    let i = c.args.instance.now in
+    let x = instance_of i in
+    let found = there_is plan.table.now.rows.items i.statement
+    (c.rows_tell_instances.ensures.there plan x c.requires.plan c.requires.walked) in
+    let tells = c.rows_tell_instances.ensures.tells plan x found.0 c.requires.plan c.requires.walked found.1 in
+    c.value.ensures.value found.0 found.1 ∙ tells.value c.args.reads.now (c.requires.reads ∙ sym tells.reads)

@@ -1,0 +1,56 @@
+-- Instances of a tile that follow one another by equal steps: what a worker has ahead, and what it may pass by.
+use Rattle.std.specs.Prelude.{◌≡◌, ◌+◌, ◌-◌, ◌<◌, ◌≤◌, ◌⊎◌, ℕ, zero, suc, ℤ, List, Option, Some, take}
+use Rattle.whole_numbers.specs.Lists.{sums}
+use Rattle.scop_syntax.specs.Members.{In}
+use Rattle.scop_syntax.specs.View.{instance_of}
+use Rattle.scop_syntax.specs.Walk.{Instance}
+use Rattle.scop_syntax.specs.declared.instance.Instance.{Instance as CodeInstance}
+use Rattle.loop_tree.specs.declared.stretch.Stretch.{Stretch}
+use Rattle.tile_core.specs.Plans.{places_in, shape_of}
+use Rattle.tile_core.specs.Ranks.{place_in}
+use Rattle.tile_core.specs.declared.plan.Plan.{Plan}
+use Rattle.tile_core.specs.declared.worker.Stage.{Stage}
+use Rattle.tile_core.specs.declared.worker.Stage.TheVariants.{Working}
+
+-- turns that went on by the same steps so many times
+abbrev pub turns_on : List ℤ → List ℤ → ℕ → List ℤ
+turns_on turns steps zero = turns
+turns_on turns steps (suc j) = sums (turns_on turns steps j) steps
+
+-- the instance so many steps behind another
+abbrev pub moved : Instance → List ℤ → ℕ → Instance
+moved x steps j = record { number = x.number; turns = turns_on x.turns steps j }
+
+-- this instance stands in front of a stretch, which has the others of so many left
+pub record IsAlong (stretch : Stretch) (i : CodeInstance) (count : ℕ) : Type 0 where
+  pub front : instance_of i ≡ instance_of stretch.before
+  pub loops : i.loops ≡ stretch.before.loops
+  pub within : count ≤ suc stretch.left
+
+-- of a number of instances so many may be passed by at once: one, or all, or one and all that a stretch has left
+pub record IsPart (most left count : ℕ) : Type 0 where
+  pub within : count ≤ most
+  pub way : (count ≡ 1) ⊎ ((count ≡ suc left) ⊎ (count ≡ most))
+
+-- so many of those that a worker's tile has left, if it is at work
+abbrev pub CanPass : Plan → Stage → Stretch → ℕ → Type 0
+CanPass plan stage stretch count =
+    (t k : ℕ) → stage ≡ Working t k
+    → (k < (shape_of plan).size t) × IsPart ((shape_of plan).size t - k) stretch.left count
+
+-- a worker has so many instances ahead, the next one first, each with a stretch's steps more in its turns than the one
+-- before it: they are those of its tile, in turn, and may be passed by at once
+pub record IsAhead (plan : Plan) (stage : Stage) (next : Option CodeInstance) (stretch : Stretch)
+    (count : ℕ) : Type 0 where
+  pub tile : ℕ
+  pub done : ℕ
+  pub works : stage ≡ Working tile done
+  pub instance : CodeInstance
+  pub first : next ≡ Some instance
+  pub some : 1 ≤ count
+  pub walked : (j : ℕ) → j < count
+      → In (moved (instance_of instance) (take instance.loops stretch.steps) j) (places_in plan)
+  pub place : (j : ℕ) → j < count
+      → place_in (places_in plan) (moved (instance_of instance) (take instance.loops stretch.steps) j)
+      ≡ (shape_of plan).place tile (done + j)
+  pub passes : CanPass plan stage stretch count
