@@ -5,6 +5,8 @@ pub mod Plans
 pub mod Tiles
 pub mod TouchedCells
 pub mod Rows
+pub mod Desks
+pub mod Ahead
 pub mod Workers
 pub mod Stretches
 pub mod Boards

@@ -16,7 +16,7 @@ use Rattle.scop_syntax.specs.Walk.{Instance, Visit, instance, walk_of}
 use Rattle.scop_syntax.proofs.Members.{in_from_place, place_of, there_is}
 use Rattle.conflict_orders.proofs.SortedLists.{StandOnce}
 use Rattle.stmt_table.specs.Instances.{IsVisitOf}
-use Rattle.tile_events.specs.Flat.{read_by, value_by, written_by}
+use Rattle.tile_events.specs.Flat.{read_by, written_by}
 use Rattle.tile_core.specs.Plans.{IsPlan, extents_in, places_in, program_in, walk_in}
 use Rattle.tile_core.specs.Ranks.{place_in}
 use Rattle.tile_core.specs.declared.plan.Plan.{Plan}

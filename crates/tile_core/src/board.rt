@@ -144,10 +144,11 @@ impl Board {
             return 0;
         }
         let count = worker.ahead(plan);
-        if count > 0 {
-            do_ahead(&mut self.cells, plan, worker, count);
-            worker.pass_by(plan, count);
+        if count == 0 {
+            return 0;
         }
+        do_ahead(&mut self.cells, plan, worker, count);
+        worker.pass_by(plan, count);
         count
     }
 

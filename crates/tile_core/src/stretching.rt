@@ -13,6 +13,7 @@ ghost use Rattle.tile_core.specs.steps.Desks.{IsDeskAt, StandsIn, StaysLaid};
 ghost use Rattle.whole_numbers.specs.Lists.{sums};
 
 use crate::plan::Plan;
+use crate::plan_laws::rows_tell_instances;
 use crate::worker::Worker;
 use stmt_table::desk::Desk;
 use stmt_table::table::Row;
@@ -59,6 +60,7 @@ pub(crate) fn do_ahead(cells: &mut [u64], plan: &Plan, worker: &mut Worker, coun
     ensures same { worker.new ≡ record worker.old { desk = worker.new.desk } }
     ensures worker { IsWorker plan.now worker.new }
 {
+    rows_tell_instances();
     let Some(first) = worker.next else {
         return;
     };
