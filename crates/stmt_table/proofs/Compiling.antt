@@ -19,7 +19,7 @@ use Rattle.stmt_table.specs.declared.code.Code.{Code}
 use Rattle.stmt_table.specs.declared.code.Step.{Step}
 use Rattle.stmt_table.specs.declared.code.Step.TheVariants.{Constant, Affine as Leaf, Binary}
 use Rattle.stmt_table.specs.steps.Codes.{GoesOn, IsBegun, IsPut, Makes, MakesStored, MakesValue, slots_by}
-use Rattle.stmt_table.specs.steps.Rights.{IsFormOver}
+use Rattle.stmt_table.specs.steps.AffineParts.{IsFormOver}
 use Rattle.stmt_table.proofs.Codes.{Agree, steps_more, steps_within, worked_front, worked_long, worked_more, worked_same}
 
 -- the slots behind a step more
@@ -34,8 +34,8 @@ put_slots forms step old new slot begun put turns values long =
     let grown : ls ≡ ks ++ map f forms = ap (map f) put.leaves ∙ map-append f old.leaves.items forms in
     let many = length-map old.leaves.items f in
     let agree : Agree (length old.leaves.items) ls ks = λ k less.
-        ap (λ (l : List ℕ). get_or l k 0) grown
-        ∙ get_or_append_left ks (map f forms) 0 k (omega (arith, many, less)) in
+    ap (λ (l : List ℕ). get_or l k 0) grown
+    ∙ get_or_append_left ks (map f forms) 0 k (omega (arith, many, less)) in
     ap (λ (ss : List Step). worked ls ss values) put.steps
     ∙ (worked_more ls old.steps.items step values
     ∙ ap (λ (xs : List ℕ). xs ++ made ls xs step ∷ [])

@@ -14,12 +14,12 @@ room_stays row before after has same =
     let d = same.cells in
     let e = same.leaves in
     let f = same.slots in
-    record { cells = omega (arith, a, d); leaves = omega (arith, b, e); slots = omega (arith, c, f); }
+    record { cells = omega (arith, a, d); leaves = omega (arith, b, e); slots = omega (arith, c, f) }
 
 pub room_stays_for_all : (table : Table) (before after : Desk) → HasRoomForAll table before
     → HasSameRoom before after → HasRoomForAll table after
 room_stays_for_all table before after has same =
-    record { each = λ k row at. room_stays row before after (has.each k row at) same; }
+    record { each = λ k row at. room_stays row before after (has.each k row at) same }
 
 pub same_room_chain : (first second third : Desk) → HasSameRoom first second → HasSameRoom second third
     → HasSameRoom first third

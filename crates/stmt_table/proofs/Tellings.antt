@@ -17,7 +17,7 @@ use Rattle.stmt_table.specs.Numbers.{number_at}
 use Rattle.stmt_table.specs.Points.{point_in}
 use Rattle.stmt_table.specs.Tables.{Tells}
 use Rattle.stmt_table.specs.steps.Forms.{number_form}
-use Rattle.stmt_table.specs.steps.Rights.{IsFormOver, cell_of_row, one_row}
+use Rattle.stmt_table.specs.steps.AffineParts.{IsFormOver, cell_of_row, one_row}
 use Rattle.stmt_table.specs.steps.Same.{IsSame}
 use Rattle.stmt_table.proofs.Linear.{coefficient_told, constant_told, number_told}
 use Rattle.stmt_table.proofs.Congruences.{forms_same, same_wrapped, wrapped_same}

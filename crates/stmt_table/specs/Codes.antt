@@ -61,7 +61,7 @@ value_by code turns values = result_by code (leaves_at code turns) values
 
 -- at all turns of these loops the result is what a right side stores at the point within them, on any values read,
 -- and the code takes as many as that reads behind a place
-pub record StoresBy (params : List ℤ) (heads : List Head) (own : Right) (code : Code) : Type 0 where
+pub record Stores (params : List ℤ) (heads : List Head) (own : Right) (code : Code) : Type 0 where
   pub made : IsWellMade code
   pub reads : (place : Access) → code.reads ≡ length (reads_with place own)
   pub value : (turns : List ℤ) (values : List ℕ) → length turns ≡ length heads → length values ≡ code.reads

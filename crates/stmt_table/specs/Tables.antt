@@ -6,7 +6,7 @@ use Rattle.scop_syntax.specs.Execution.{layout}
 use Rattle.scop_syntax.specs.Tree.{Access, Head, Program}
 use Rattle.scop_syntax.specs.Values.{wrapped}
 use Rattle.standings.specs.Standings.{Standing, standings_of}
-use Rattle.stmt_table.specs.Codes.{StoresBy}
+use Rattle.stmt_table.specs.Codes.{Stores}
 use Rattle.stmt_table.specs.Numbers.{number_at}
 use Rattle.stmt_table.specs.Points.{point_in}
 use Rattle.stmt_table.specs.declared.table.Row.{Row}
@@ -27,7 +27,7 @@ pub record AreForms (extents : List (List ℕ)) (params : List ℤ) (s : Standin
 -- the row of a statement: the forms of its accesses, and the code of its right side
 pub record IsRowOf (extents : List (List ℕ)) (params : List ℤ) (s : Standing) (row : Row) : Type 0 where
   pub forms : AreForms extents params s row.cells.items
-  pub stored : StoresBy params s.heads s.body.right row.code
+  pub stored : Stores params s.heads s.body.right row.code
 
 -- the forms of each statement's accesses
 abbrev pub forms_in : Table → List (List Affine)

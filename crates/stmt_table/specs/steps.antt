@@ -2,4 +2,4 @@
 pub mod Same
 pub mod Codes
 pub mod Forms
-pub mod Rights
+pub mod AffineParts

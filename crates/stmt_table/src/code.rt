@@ -7,12 +7,12 @@ ghost use Rattle.scop_syntax.specs.Cells.{reads, reads_of, reads_with};
 ghost use Rattle.scop_syntax.specs.Tree.{Access, affine};
 ghost use Rattle.scop_syntax.specs.View.{expression_of, right_of, statement_of};
 ghost use Rattle.scop_syntax.specs.declared.instance.TheConstants.{MAX_LOOPS};
-ghost use Rattle.stmt_table.specs.Codes.{IsStep, IsWellMade, StoresBy, made as exact_made, result_by};
+ghost use Rattle.stmt_table.specs.Codes.{IsStep, IsWellMade, Stores, made as exact_made, result_by};
 ghost use Rattle.stmt_table.specs.declared.code.Step.TheVariants.{Affine as exact_affine};
 ghost use Rattle.stmt_table.specs.steps.Codes.{IsBegun, IsPut, MakesStored, MakesValue};
 
+use crate::affine_parts::form_over;
 use crate::lane::Lane;
-use crate::rights::form_over;
 use scop_meaning::accesses::read_count;
 use scop_meaning::operators::{combined, complemented, negated, shifted_left, shifted_right};
 use scop_syntax::instance::MAX_LOOPS;
@@ -207,7 +207,7 @@ pub(crate) fn compiled(
     requires reads { length (reads (statement_of statement.now)) ≤ 16 }
     requires loops { length heads.now ≤ MAX_LOOPS }
     requires room { length params.now + length heads.now ≤ ROOM }
-    ensures { IfOk result (StoresBy params.now (map (λ h. h.now) heads.now) (right_of statement.now.right)) }
+    ensures { IfOk result (Stores params.now (map (λ h. h.now) heads.now) (right_of statement.now.right)) }
 {
     let mut code = Code {
         reads: read_count(statement),

@@ -3,9 +3,9 @@ use Rattle.std.proofs.lemmas.Result.{IfOk-weaker}
 use Rattle.scop_meaning.specs.Instances.{AreLayout}
 use Rattle.scop_syntax.specs.Tree.{Access, Head}
 use Rattle.stmt_table.specs.Tables.{Tells}
-use Rattle.stmt_table.specs.steps.Rights.{IsFormOver, cell_of_row}
+use Rattle.stmt_table.specs.steps.AffineParts.{IsFormOver, cell_of_row}
 use Rattle.stmt_table.proofs.Tellings.{form_in_row, row_layout}
-use Rattle.stmt_table.proofs.rights.form_over.Goals as goal
+use Rattle.stmt_table.proofs.affine_parts.form_over.Goals as goal
 
 pub form_of-requires-clause-layout : goal.form_of-requires-clause-layout
 form_of-requires-clause-layout c = subst AreLayout (sym c.in_ok-extents.ensures) row_layout

@@ -1,8 +1,9 @@
-//! Forms over the turns of the loops round a statement, in place of those over the point within the loops.
+//! The affine parts of a right side as forms of the turns of the loops round its statement: each is the number of a cell
+//! in a single row. Promises the same values at all turns, modulo 2^64.
 ghost use Rattle.std.specs.Prelude.{◌≡◌, ◌+◌, ◌≤◌, ◌∷◌, [], IfOk, length, map};
 ghost use Rattle.scop_meaning.specs.declared.loops.TheConstants.{ROOM};
 ghost use Rattle.scop_syntax.specs.declared.instance.TheConstants.{MAX_LOOPS};
-ghost use Rattle.stmt_table.specs.steps.Rights.{IsFormOver, cell_of_row, one_row};
+ghost use Rattle.stmt_table.specs.steps.AffineParts.{IsFormOver, cell_of_row, one_row};
 
 use crate::forms::form_of;
 use scop_syntax::arrays::Extents;
