@@ -1,18 +1,19 @@
 -- What each event of the only worker leaves.
-use Rattle.std.proofs.Common.{◌≡◌, ◌∙◌, ◌&&◌, not, Bool, true, false, ℕ, zero, suc, ◌<◌, ◌≤◌, [], ◌∷◌, ◌++◌, length}
-use Rattle.std.proofs.Common.{get_or, set, length-append, ap, sym, subst, refl, arith}
-use Rattle.std.specs.Prelude.{nat_lt, nat_le, nat_eq, if◌then◌else◌}
-use Rattle.std.proofs.lemmas.Bool.{le-leb, lt-ltb, ltb-false, ltb-true, eq-eqb, and_from}
+use Rattle.std.proofs.Common.{◌≡◌, ◌∙◌, ◌+◌, Bool, true, false, ℕ, zero, suc, ◌<◌, ◌≤◌, [], ◌∷◌}
+use Rattle.std.proofs.Common.{set, ap, sym, subst, arith}
+use Rattle.std.specs.Prelude.{nat_lt, nat_le, if◌then◌else◌}
+use Rattle.std.proofs.lemmas.Bool.{le-leb, lt-ltb}
 use mathlib.Core.Option.{some, some-injective, some-ne-none}
 use lib.ListN.{get_elem?}
 use Rattle.scop_syntax.proofs.Members.{nat_cases}
-use Rattle.tile_events.specs.Core as core
-use Rattle.tile_events.specs.Core.{Event, Seen, State, Worker, acts, claim, finish, holding, idle, load, not_enabled}
-use Rattle.tile_events.specs.Core.{open_tile, put, step, step_of, store, working, needed_by, seen_by, is_last_act}
+use Rattle.tile_events.specs.Core.{Event, Seen, State, Worker, acts, claim, holding, idle}
+use Rattle.tile_events.specs.Core.{open_tile, put, step, step_of, working, needed_by, seen_by}
 use Rattle.tile_events.specs.Opening.{IsQuiet}
 use Rattle.tile_events.specs.Plan.{Plan, waves}
 use Rattle.tile_events.specs.Sound.{Holds}
-use Rattle.kernel_runs.specs.steps.Alone.{HasRead, IsAlone, reads_at}
+use Rattle.tile_core.specs.Acts.{DoesStretch}
+use Rattle.tile_core.proofs.Acts.{stretch_run}
+use Rattle.kernel_runs.specs.steps.Alone.{IsAlone}
 
 if_so : {A : Type 0} (b : Bool) (x y z : A) → b ≡ true → (if b then x else y) ≡ z → x ≡ z
 if_so true x y z e h = h
@@ -65,87 +66,19 @@ opens_alone p s d seen t by_waves early less h a =
       alone = alone_put s (suc t) t (holding t) (working t 0 []) a;
     })
 
--- a load that tells something reads one value more
-pub loads_alone : (p : Plan) (s d : State) (seen : Seen) (t k n : ℕ) → k < p.size t → HasRead p s t k n
-    → step p s 0 load ≡ (d, seen) → (seen ≡ not_enabled → ⊥)
-    → (n < length (reads_at p t k)) × HasRead p d t k (suc n)
-loads_alone p s d seen t k n left r h told =
-    by_test (nat_lt (length r.values) (length (reads_at p t k))) refl
-    (if_so (nat_lt k (p.size t)) _ _ (d, seen) (lt-ltb k (p.size t) left)
-    (alone_acts p s (suc t) t (working t k r.values) load (d, seen) r.stands h))
-  where
-    value : ℕ
-    value = get_or s.cells (core.cell_read p t k (length r.values)) 0
+-- the worker alone is the first
+pub at_first : (s : State) (c f : ℕ) (w : Worker) → IsAlone s c f w → get_elem? s.workers 0 ≡ some w
+at_first s c f w a = ap (λ ws. get_elem? ws 0) a.alone
 
-    by_test : (b : Bool) → nat_lt (length r.values) (length (reads_at p t k)) ≡ b
-        → ◌≡◌ {A = State × Seen}
-        (if b then (core.after_load p s 0 t k r.values, core.value_read value) else (s, not_enabled)) (d, seen)
-        → (n < length (reads_at p t k)) × HasRead p d t k (suc n)
-    by_test true e new =
-        let count = r.count in
-        let more = ltb-true (length r.values) (length (reads_at p t k)) e in
-        let one = length-append r.values (value ∷ []) in (
-          omega (arith, count, more),
-          subst (λ (x : State). HasRead p x t k (suc n)) (ap (λ x. x.0) new) (record {
-            values = r.values ++ value ∷ [];
-            count = omega (arith, count, one);
-            stands = record {
-              claims_are = r.stands.claims_are;
-              finished_are = r.stands.finished_are;
-              alone = alone_put s (suc t) t (working t k r.values) (working t k (r.values ++ value ∷ [])) r.stands;
-            };
-          }),
-        )
-    by_test false e new = absurd (told (sym (ap (λ x. x.1) new)))
-
--- one that tells nothing has nothing left to read
-pub loads_none : (p : Plan) (s d : State) (t k n : ℕ) → k < p.size t → HasRead p s t k n
-    → step p s 0 load ≡ (d, not_enabled) → (length (reads_at p t k) ≤ n) × HasRead p d t k n
-loads_none p s d t k n left r h =
-    by_test (nat_lt (length r.values) (length (reads_at p t k))) refl
-    (if_so (nat_lt k (p.size t)) _ _ (d, not_enabled) (lt-ltb k (p.size t) left)
-    (alone_acts p s (suc t) t (working t k r.values) load (d, not_enabled) r.stands h))
-  where
-    value : ℕ
-    value = get_or s.cells (core.cell_read p t k (length r.values)) 0
-
-    by_test : (b : Bool) → nat_lt (length r.values) (length (reads_at p t k)) ≡ b
-        → ◌≡◌ {A = State × Seen}
-        (if b then (core.after_load p s 0 t k r.values, core.value_read value) else (s, not_enabled)) (d, not_enabled)
-        → (length (reads_at p t k) ≤ n) × HasRead p d t k n
-    by_test true e new = absurd (let none = ap (λ x. x.1) new in cc)
-    by_test false e new =
-        let count = r.count in
-        let all = ltb-false (length r.values) (length (reads_at p t k)) e in
-        (omega (arith, count, all), subst (λ (x : State). HasRead p x t k n) (ap (λ x. x.0) new) r)
-
-pub stores_alone : (p : Plan) (s d : State) (seen : Seen) (t k : ℕ) → k < p.size t
-    → HasRead p s t k (length (reads_at p t k)) → p.adds (p.written (p.place t k)) ≡ false
-    → step p s 0 store ≡ (d, seen)
-    → IsAlone d (suc t) t (working t (suc k) [])
-stores_alone p s d seen t k left r stores h =
-    let all = and_from (nat_eq (length r.values) (length (reads_at p t k)))
-    (is_last_act p store (p.written (p.place t k)))
-    (eq-eqb (length r.values) (length (reads_at p t k)) r.count) (ap not stores) in
-    let new = if_so (nat_eq (length r.values) (length (reads_at p t k))
-    && is_last_act p store (p.written (p.place t k))) _ _ (d, seen) all
-    (if_so (nat_lt k (p.size t)) _ _ (d, seen) (lt-ltb k (p.size t) left)
-    (alone_acts p s (suc t) t (working t k r.values) store (d, seen) r.stands h)) in
-    subst (λ (x : State). IsAlone x (suc t) t (working t (suc k) [])) (ap (λ x. x.0) new) (record {
-      claims_are = r.stands.claims_are;
-      finished_are = r.stands.finished_are;
-      alone = alone_put s (suc t) t (working t k r.values) (working t (suc k) []) r.stands;
-    })
-
-pub finishes_alone : (p : Plan) (s d : State) (seen : Seen) (t : ℕ) → step p s 0 finish ≡ (d, seen)
-    → IsAlone s (suc t) t (working t (p.size t) []) → IsAlone d (suc t) (suc t) idle
-finishes_alone p s d seen t h a =
-    let new = if_so (nat_eq (p.size t) (p.size t)) _ _ (d, seen) (eq-eqb (p.size t) (p.size t) refl)
-    (alone_acts p s (suc t) t (working t (p.size t) []) finish (d, seen) a h) in
-    subst (λ (x : State). IsAlone x (suc t) (suc t) idle) (ap (λ x. x.0) new) (record {
+-- n instances of its tile
+pub stretch_alone : (p : Plan) (s d : State) (t k n : ℕ) → ((c : ℕ) → p.adds c ≡ false)
+    → DoesStretch p s 0 t k n d → IsAlone s (suc t) t (working t k []) → IsAlone d (suc t) t (working t (k + n) [])
+stretch_alone p s d t k n stores does a =
+    subst (λ (x : State). IsAlone x (suc t) t (working t (k + n) []))
+    (sym (does.acts ∙ stretch_run p s 0 t k n (at_first s (suc t) t (working t k []) a) stores does.within)) (record {
       claims_are = a.claims_are;
-      finished_are = ap suc a.finished_are;
-      alone = alone_put s (suc t) t (working t (p.size t) []) idle a;
+      finished_are = a.finished_are;
+      alone = alone_put s (suc t) t (working t k []) (working t (k + n) []) a;
     })
 
 -- where all tiles are claimed and the worker is idle the run is quiet

@@ -1,17 +1,15 @@
-//! One worker's run of a plan: its events go through the core one after another, on the caller's own thread.
-ghost use Rattle.std.specs.Prelude.{◌≡◌, ◌<◌, length};
+//! One worker's run of a plan on the caller's own thread: the core claims, opens and finishes its tiles one after another,
+//! and does the instances of each by stretches.
+ghost use Rattle.std.specs.Prelude.{◌≡◌, ◌<◌, [], length, suc};
 ghost use Rattle.tile_core.specs.Boards.{event_of, seen_of};
 ghost use Rattle.tile_core.specs.Cores.{IsCore, plan_in, state_in};
 ghost use Rattle.tile_core.specs.Plans.{IsPlan};
-ghost use Rattle.tile_events.specs.Core.{idle, step as stepped};
-ghost use Rattle.kernel_runs.specs.steps.Alone.{DoesInstance, DoesTile, IsAlone, IsLater};
-ghost use Rattle.kernel_runs.specs.steps.Alone.{OpensTile, ReadsAll, shape_in};
+ghost use Rattle.tile_events.specs.Core.{idle, step as stepped, working};
+ghost use Rattle.kernel_runs.specs.steps.Alone.{IsAlone, IsLater, shape_in};
 
 use tile_core::board::{Event, NotEnabled, Seen};
 use tile_core::cores::Core;
 use tile_core::plan::Plan;
-use tile_core::plan_laws::instances_read_few;
-use tile_core::worker::MAX_READS;
 
 /// One event of the worker.
 fn act(core: &mut Core, event: Event) -> Result<Seen, NotEnabled>
@@ -24,53 +22,31 @@ fn act(core: &mut Core, event: Event) -> Result<Seen, NotEnabled>
     core.step(0, event)
 }
 
-/// Reads all that its instance reads.
-fn read_all(core: &mut Core)
-    requires core { IsCore core.old }
-    requires some { 0 < length (state_in core.old).workers }
-    ensures later { IsLater core.old core.new }
-    ensures reads { ReadsAll core.old core.new }
-{
-    instances_read_few();
-    for _ in 0..MAX_READS {
-        if act(core, Event::Load).is_err() {
-            return;
-        }
-    }
-}
-
-/// Does one instance of its tile.
-fn do_instance(core: &mut Core)
-    requires core { IsCore core.old }
-    requires some { 0 < length (state_in core.old).workers }
-    ensures later { IsLater core.old core.new }
-    ensures does { DoesInstance core.old core.new }
-{
-    read_all(core);
-    let _ = act(core, Event::Store);
-}
-
 /// Claims the next tile and opens it.
-fn open_next(core: &mut Core)
+fn open_next(core: &mut Core, tile: u64)
     requires core { IsCore core.old }
-    requires some { 0 < length (state_in core.old).workers }
+    requires tile { tile < (shape_in core.old).tiles }
+    requires alone { IsAlone (state_in core.old) tile tile idle }
     ensures later { IsLater core.old core.new }
-    ensures opens { OpensTile core.old core.new }
+    ensures alone { IsAlone (state_in core.new) (suc tile) tile (working tile 0 []) }
 {
     let _ = act(core, Event::Claim);
     let _ = act(core, Event::Open);
 }
 
 /// Does the next tile, which has so many instances.
-fn do_tile(core: &mut Core, size: usize)
+fn do_tile(core: &mut Core, tile: u64, size: usize)
     requires core { IsCore core.old }
-    requires some { 0 < length (state_in core.old).workers }
+    requires tile { tile < (shape_in core.old).tiles }
+    requires size { size ≡ (shape_in core.old).size tile }
+    requires alone { IsAlone (state_in core.old) tile tile idle }
     ensures later { IsLater core.old core.new }
-    ensures does { DoesTile size core.old core.new }
+    ensures alone { IsAlone (state_in core.new) (suc tile) (suc tile) idle }
 {
-    open_next(core);
-    for _ in 0..size {
-        do_instance(core);
+    open_next(core, tile);
+    let mut done = 0;
+    while done < size {
+        done += core.do_stretch(0);
     }
     let _ = act(core, Event::Finish);
 }
@@ -85,6 +61,6 @@ pub(crate) fn do_all(core: &mut Core, plan: &Plan)
     ensures alone { IsAlone (state_in core.new) (shape_in core.old).tiles (shape_in core.old).tiles idle }
 {
     for tile in 0..plan.tiles() {
-        do_tile(core, plan.size(tile));
+        do_tile(core, tile, plan.size(tile));
     }
 }

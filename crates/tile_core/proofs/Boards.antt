@@ -63,7 +63,7 @@ step_here : (plan : Plan) (b : Board) (id : ℕ) (w : Worker) (v : core.Worker) 
 step_here plan b id w v e at is =
     ap (λ o. step_of (shape_of plan) (state_of b) id o e) (at.here ∙ ap (λ (x : core.Worker). some x) is)
 
-set_worker : (b : Board) (id : ℕ) (x : Worker) (v : core.Worker) → worker_of x ≡ v
+pub set_worker : (b : Board) (id : ℕ) (x : Worker) (v : core.Worker) → worker_of x ≡ v
     → set (map worker_of b.workers.items) id v ≡ map worker_of (set b.workers.items id x)
 set_worker b id x v e =
     ap (set (map worker_of b.workers.items) id) (sym e) ∙ sym (map-set worker_of b.workers.items id x)

@@ -5,8 +5,12 @@ pub mod Plans
 pub mod Tiles
 pub mod TouchedCells
 pub mod Rows
+pub mod Desks
+pub mod Ahead
 pub mod Workers
 pub mod Stretches
 pub mod Boards
+pub mod Acts
+pub mod BoardStretches
 pub mod States
 pub mod Passes

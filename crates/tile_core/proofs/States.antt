@@ -1,7 +1,7 @@
 -- Runs in memory: their first state, and what each event keeps.
-use Rattle.std.proofs.Common.{◌≡◌, ◌&&◌, Bool, true, false, ℕ, zero, suc, ◌+◌, ◌<◌, List, length, get_or, map, drop}
+use Rattle.std.proofs.Common.{◌≡◌, ◌&&◌, Bool, true, false, ℕ, zero, suc, ◌+◌, ◌<◌, List, [], ◌∷◌, length, get_or, map, drop}
 use Rattle.std.proofs.Common.{add-one, drop-cons, ap, ap₂, sym, refl}
-use Rattle.std.proofs.Common.{subst, arith}
+use Rattle.std.proofs.Common.{◌∙◌, subst, arith}
 use Rattle.std.specs.Prelude.{Result, replicate, nat_lt, nat_eq, if◌then◌else◌}
 use Rattle.std.proofs.lemmas.List.{length-replicate}
 use mathlib.Core.Option.{some, some-injective, some-ne-none}
@@ -15,7 +15,7 @@ use Rattle.tile_events.specs.Core.{step, step_of, replay}
 use Rattle.tile_events.specs.Opening.{IsOpening, ReadsRight}
 use Rattle.tile_events.specs.Rule.{AreCounted}
 use Rattle.tile_events.specs.Sound.{Sound}
-use Rattle.tile_core.specs.Boards.{Does, IsBoard, IsRun, event_of, opening_state, state_of}
+use Rattle.tile_core.specs.Boards.{Does, IsBoard, IsRun, Stretches, event_of, opening_state, state_of}
 use Rattle.tile_core.specs.Cores.{turn_of}
 use Rattle.tile_core.specs.Plans.{plan_of, shape_of}
 use Rattle.tile_core.specs.declared.board.Board.{Board}
@@ -60,6 +60,40 @@ board_kept laws plan b d id e r does board = record {
   opening = board.opening;
   run = run_kept laws plan board.opening b d id e r does board.run;
 }
+
+-- so do events one after another
+pub replay_kept : EventLaws → (plan : Plan) (opening : List ℕ) (s : State) (es : List (ℕ × Event))
+    → IsRun (plan_of plan opening) s → IsRun (plan_of plan opening) (replay (shape_of plan) s es)
+replay_kept laws plan opening s [] run = run
+replay_kept laws plan opening s (e ∷ es) run =
+    replay_kept laws plan opening (step (shape_of plan) s e.0 e.1).0 es
+    (run_step laws (plan_of plan opening) s e.0 e.1 run)
+
+replay_count : EventLaws → (p : events.Plan) (s : State) (es : List (ℕ × Event))
+    → length (replay p s es).workers ≡ length s.workers
+replay_count laws p s [] = refl
+replay_count laws p s (e ∷ es) =
+    replay_count laws p (step p s e.0 e.1).0 es ∙ laws.workers p s e.0 e.1
+
+-- what a stretch leaves is a run, from the same cells, and as many workers
+module _ (laws : EventLaws) (plan : Plan) (b d : Board) (id n : ℕ) (does : Stretches plan b id n d) where
+  pub stretch_kept : (opening : List ℕ) → IsRun (plan_of plan opening) (state_of b)
+      → IsRun (plan_of plan opening) (state_of d)
+  stretch_kept opening run =
+      subst (IsRun (plan_of plan opening)) (sym does.replayed)
+      (replay_kept laws plan opening (state_of b) does.acts run)
+
+  pub stretch_count : length (state_of d).workers ≡ length (state_of b).workers
+  stretch_count =
+      ap (λ (s : State). length s.workers) does.replayed ∙ replay_count laws (shape_of plan) (state_of b) does.acts
+
+  pub stretch_board : IsBoard plan b → IsBoard plan d
+  stretch_board board = record {
+    planned = board.planned;
+    workers = does.workers;
+    opening = board.opening;
+    run = stretch_kept board.opening board.run;
+  }
 
 all_idle : (n i : ℕ) (w : core.Worker) → get_elem? (replicate n idle) i ≡ some w → w ≡ idle
 all_idle zero i w e = absurd (some-ne-none w (sym e))

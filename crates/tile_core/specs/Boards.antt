@@ -1,11 +1,12 @@
 -- The state of a run in memory as plain data, and what is known of it.
 use Rattle.std.specs.Prelude.{◌≡◌, ℕ, ◌+◌, ◌<◌, List, All, map, length, replicate, Result, Ok, Err}
 use Rattle.tile_events.specs.Core as core
-use Rattle.tile_events.specs.Core.{State, step}
+use Rattle.tile_events.specs.Core.{State, replay, step}
 use Rattle.tile_events.specs.Rule.{AreCounted}
 use Rattle.tile_events.specs.Plan as events
 use Rattle.tile_events.specs.Plan.{GoodPlan, IsDealt}
 use Rattle.tile_events.specs.Sound.{Sound}
+use Rattle.tile_core.specs.Acts.{DoesStretch, IsAtInstance}
 use Rattle.tile_core.specs.Plans.{IsPlan, plan_of, shape_of}
 use Rattle.tile_core.specs.Workers.{IsWorker, worker_of}
 use Rattle.tile_core.specs.declared.board.Board.{Board}
@@ -58,6 +59,17 @@ pub record IsBoard (plan : Plan) (b : Board) : Type 0 where
 pub record Does (plan : Plan) (b : Board) (id : ℕ) (e : core.Event) (d : Board)
     (r : Result Seen NotEnabled) : Type 0 where
   pub event : step (shape_of plan) (state_of b) id e ≡ (state_of d, seen_of r)
+  pub workers : All (IsWorker plan) d.workers.items
+
+-- what it leaves that worker id does n instances at once: exactly what their events do to the state, and workers of the
+-- plan; n is 0 where it is at no instance
+pub record Stretches (plan : Plan) (b : Board) (id n : ℕ) (d : Board) : Type 0 where
+  pub stretch : (t k : ℕ) → IsAtInstance (shape_of plan) (state_of b) id t k
+      → DoesStretch (shape_of plan) (state_of b) id t k n (state_of d)
+  pub none : ((t k : ℕ) → IsAtInstance (shape_of plan) (state_of b) id t k → ⊥)
+      → (n ≡ 0) × (state_of d ≡ state_of b)
+  pub acts : List (ℕ × core.Event)
+  pub replayed : state_of d ≡ replay (shape_of plan) (state_of b) acts
   pub workers : All (IsWorker plan) d.workers.items
 
 -- nothing is claimed or finished, and so many workers are idle

@@ -1,4 +1,6 @@
 pub mod Ranks
+pub mod Acts
+pub mod steps
 pub mod Plans
 pub mod Workers
 pub mod Stretches

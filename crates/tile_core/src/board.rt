@@ -1,9 +1,10 @@
 //! The state of a run, and what each event does to it.
 ghost use Rattle.std.specs.Prelude.{◌≡◌, ◌<◌, get_or, length};
 ghost use Rattle.tile_events.specs.Core.{claim, finish, load, open_tile, store};
-ghost use Rattle.tile_core.specs.Boards.{Does, IsBoard, event_of};
+ghost use Rattle.tile_core.specs.Boards.{Does, IsBoard, Stretches, event_of};
 
 use crate::plan::Plan;
+use crate::stretching::do_ahead;
 use crate::worker::{Stage, Worker};
 
 /// What a worker tries.
@@ -132,6 +133,25 @@ impl Board {
         Ok(Seen::Stored)
     }
 
+    /// Does instances of a worker's tile, one after another; tells how many.
+    pub(crate) fn do_stretch(&mut self, plan: &Plan, id: usize) -> usize
+        requires board { IsBoard plan.now self.old }
+        requires id { id < length self.old.workers.items }
+        ensures { Stretches plan.now self.old id result self.new }
+    {
+        let worker = &mut self.workers[id];
+        if worker.reads.len() > 0 {
+            return 0;
+        }
+        let count = worker.ahead(plan);
+        if count == 0 {
+            return 0;
+        }
+        do_ahead(&mut self.cells, plan, worker, count);
+        worker.pass_by(plan, count);
+        count
+    }
+
     fn finish(&mut self, plan: &Plan, id: usize) -> Result<Seen, NotEnabled>
         requires board { IsBoard plan.now self.old }
         requires id { id < length self.old.workers.items }
@@ -150,6 +170,7 @@ impl Board {
 }
 
 /// The cell's value.
+#[inline]
 fn cell_at(cells: &[u64], at: usize) -> u64
     requires { at < length cells.now }
     ensures { result ≡ get_or cells.now at 0 }

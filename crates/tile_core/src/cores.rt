@@ -1,6 +1,7 @@
 //! The core: a plan, and the state that its events lead to.
 ghost use Rattle.std.specs.Prelude.{◌≡◌, ℕ, ◌<◌, ◌≤◌, All, IfOk, List, length, map};
 ghost use Rattle.tile_events.specs.Core.{replay as replayed, step as stepped};
+ghost use Rattle.tile_core.specs.Acts.{DoesStretch, IsAtInstance};
 ghost use Rattle.tile_core.specs.Boards.{IsRun, event_of, opening_state, seen_of};
 ghost use Rattle.tile_core.specs.Plans.{IsPlan, plan_of, shape_of};
 
@@ -81,6 +82,27 @@ impl<'a> Core<'a> {
         all_interleavings_agree();
         events_keep_count();
         self.board.act(&self.plan, worker, event)
+    }
+
+    /// Does the instances that come next in the worker's tile, one at least, each by its events, where the worker is at one
+    /// for which it has read nothing; tells how many it did. Elsewhere it is 0, and nothing has changed.
+    pub fn do_stretch(&mut self, worker: usize) -> usize
+        requires core { IsCore self.old }
+        requires worker { worker < length (state_in self.old).workers }
+        ensures core { IsCore self.new }
+        ensures plan { plan_in self.new ≡ plan_in self.old }
+        ensures workers { length (state_in self.new).workers ≡ length (state_in self.old).workers }
+        ensures stretch { (tile k : ℕ) → IsAtInstance (shape_of (plan_in self.old)) (state_in self.old) worker tile k
+            → DoesStretch (shape_of (plan_in self.old)) (state_in self.old) worker tile k result (state_in self.new) }
+        ensures none { ((tile k : ℕ)
+            → IsAtInstance (shape_of (plan_in self.old)) (state_in self.old) worker tile k → ⊥)
+            → (result ≡ 0) × (state_in self.new ≡ state_in self.old) }
+        ensures run { (opening : List ℕ) → IsRun (plan_of (plan_in self.old) opening) (state_in self.old)
+            → IsRun (plan_of (plan_in self.old) opening) (state_in self.new) }
+    {
+        all_interleavings_agree();
+        events_keep_count();
+        self.board.do_stretch(&self.plan, worker)
     }
 
     /// Events of any workers, one after another.

@@ -9,6 +9,7 @@ pub mod cell_laws;
 pub mod cores;
 pub mod plan;
 pub mod plan_laws;
+mod stretching;
 pub mod view;
 pub mod words;
 pub mod worker;

@@ -1,0 +1,126 @@
+-- What the events of a worker's instances leave (`instance_run`, `stretch_run`).
+use Rattle.std.proofs.Common.{take, ◌≡◌, ◌∙◌, ◌&&◌, not, Bool, true, false, ℕ, zero, suc, ◌+◌, ◌<◌, ◌≤◌, List, [], ◌∷◌, ◌++◌}
+use Rattle.std.proofs.Common.{length, get_or, set, length-append, ap, ap₂, sym, refl, arith}
+use Rattle.std.specs.Prelude.{nat_lt, nat_eq, if◌then◌else◌}
+use Rattle.std.proofs.lemmas.Bool.{and_from, eq-eqb, lt-ltb}
+use Rattle.std.proofs.lemmas.List.{append-nil, append_assoc, get_or_at, map_more, set-set}
+use mathlib.Core.Option.{some}
+use lib.ListN.{get_elem?}
+use Rattle.atomic_table.proofs.Lists.{set_again}
+use Rattle.tile_events.specs.Core.{Event, State, Worker, is_last_act, load}
+use Rattle.tile_events.specs.Core.{replay, Seen, step, step_of, store, working}
+use Rattle.tile_events.specs.Plan.{Plan, updated}
+use Rattle.tile_events.proofs.Workers.{set_at}
+use Rattle.tile_core.specs.Acts.{instance_acts, stretch_acts}
+use Rattle.tile_core.specs.steps.Acts.{after_instance, after_instances, values_at, with_cells}
+
+-- the first branch
+taken : {A : Type 0} (b : Bool) (x y : A) → b ≡ true → (if b then x else y) ≡ x
+taken b x y e = rw e refl
+
+-- a worker at instance k of tile t, where it stores
+module _ (p : Plan) (s : State) (id t k : ℕ) (v : Worker) (there : get_elem? s.workers id ≡ some v)
+    (left : k < p.size t) (stores : p.adds (p.written (p.place t k)) ≡ false) where
+  abbrev reads : List ℕ
+  reads = p.read (p.place t k)
+
+  abbrev cell : ℕ
+  cell = p.written (p.place t k)
+
+  at_step : (cells xs : List ℕ) (e : Event)
+      → step p (with_cells s id cells (working t k xs)) id e
+      ≡ step_of p (with_cells s id cells (working t k xs)) id (some (working t k xs)) e
+  at_step cells xs e =
+      ap (λ o. step_of p (with_cells s id cells (working t k xs)) id o e) (set_at s.workers id v (working t k xs) there)
+
+  loads : (cells xs : List ℕ) → length xs < length reads
+      → (step p (with_cells s id cells (working t k xs)) id load).0
+      ≡ with_cells s id cells (working t k (xs ++ get_or cells (get_or reads (length xs) 0) 0 ∷ []))
+  loads cells xs more =
+      ap (λ (x : State × Seen). x.0) (at_step cells xs load
+      ∙ (taken (nat_lt k (p.size t)) _ _ (lt-ltb k (p.size t) left)
+      ∙ taken (nat_lt (length xs) (length reads)) _ _ (lt-ltb (length xs) (length reads) more)))
+      ∙ ap (λ ws. record { claims = s.claims; finished = s.finished; cells = cells; workers = ws })
+      (set-set s.workers id _ _)
+
+  puts : (cells xs : List ℕ) → length xs ≡ length reads
+      → (step p (with_cells s id cells (working t k xs)) id store).0
+      ≡ with_cells s id (set cells cell (p.value (p.place t k) xs)) (working t (suc k) [])
+  puts cells xs all =
+      ap (λ (x : State × Seen). x.0) (at_step cells xs store
+      ∙ (taken (nat_lt k (p.size t)) _ _ (lt-ltb k (p.size t) left)
+      ∙ taken (nat_eq (length xs) (length reads) && is_last_act p store cell) _ _
+      (and_from (nat_eq (length xs) (length reads)) (is_last_act p store cell)
+      (eq-eqb (length xs) (length reads) all) (ap not stores))))
+      ∙ ap₂ (λ (b : Bool) (ws : List Worker). record {
+        claims = s.claims;
+        finished = s.finished;
+        cells = set cells cell (updated b (get_or cells cell 0) (p.value (p.place t k) xs));
+        workers = ws;
+      }) stores (set-set s.workers id _ _)
+
+  -- the values xs of the first cells are read, and the others are still to be read
+  rest_run : (cells done more xs : List ℕ) → reads ≡ done ++ more → length xs ≡ length done
+      → replay p (with_cells s id cells (working t k xs)) (instance_acts id (length more))
+      ≡ with_cells s id (set cells cell (p.value (p.place t k) (xs ++ values_at cells more))) (working t (suc k) [])
+  rest_run cells done [] xs is count =
+      puts cells xs (count ∙ sym (ap length (is ∙ append-nil done)))
+      ∙ ap (λ (ys : List ℕ). with_cells s id (set cells cell (p.value (p.place t k) ys)) (working t (suc k) []))
+      (sym (append-nil xs))
+  rest_run cells done (c ∷ more) xs is count =
+      let x = get_or cells c 0 in
+      let n = ap length is in
+      let long = length-append done (c ∷ more) in
+      let one = length-append xs (x ∷ []) in
+      let two = length-append done (c ∷ []) in
+      let found : get_or reads (length xs) 0 ≡ c =
+      ap (λ (cs : List ℕ). get_or cs (length xs) 0) is ∙ get_or_at done c more 0 (length xs) (sym count) in
+      let next : (step p (with_cells s id cells (working t k xs)) id load).0
+      ≡ with_cells s id cells (working t k (xs ++ x ∷ [])) =
+      loads cells xs (omega (arith, n, long, count))
+      ∙ ap (λ d. with_cells s id cells (working t k (xs ++ get_or cells d 0 ∷ []))) found in
+      ap (λ (d : State). replay p d (instance_acts id (length more))) next
+      ∙ (rest_run cells (done ++ c ∷ []) more (xs ++ x ∷ []) (is ∙ sym (append_assoc done (c ∷ []) more))
+      (omega (arith, one, two, count))
+      ∙ ap (λ (ys : List ℕ). with_cells s id (set cells cell (p.value (p.place t k) ys)) (working t (suc k) []))
+      (append_assoc xs (x ∷ []) (values_at cells more)))
+
+  instance_run : (cells : List ℕ) → replay p (with_cells s id cells (working t k [])) (instance_acts id (length reads))
+      ≡ with_cells s id (after_instance p t k cells) (working t (suc k) [])
+  instance_run cells = rest_run cells [] reads [] refl refl
+
+replay_behind : (p : Plan) (s : State) (es fs : List (ℕ × Event)) → replay p s (es ++ fs) ≡ replay p (replay p s es) fs
+replay_behind p s [] fs = refl
+replay_behind p s (e ∷ es) fs = replay_behind p (step p s e.0 e.1).0 es fs
+
+-- n instances from k on, in a plan whose places store
+from_there : (p : Plan) (s : State) (id t k n : ℕ) (cells : List ℕ) (v : Worker) → get_elem? s.workers id ≡ some v
+    → ((c : ℕ) → p.adds c ≡ false) → k + n ≤ p.size t
+    → replay p (with_cells s id cells (working t k [])) (stretch_acts p id t k n)
+    ≡ with_cells s id (after_instances p t k n cells) (working t (k + n) [])
+from_there p s id t k zero cells v there stores within =
+    ap (λ m. with_cells s id cells (working t m [])) (let e : k ≡ k + 0 = omega arith in e)
+from_there p s id t k (suc n) cells v there stores within =
+    replay_behind p (with_cells s id cells (working t k [])) (stretch_acts p id t k n) _
+    ∙ (ap (λ (d : State). replay p d (instance_acts id (length (p.read (p.place t (k + n))))))
+    (from_there p s id t k n cells v there stores (omega (arith, within)))
+    ∙ (instance_run p s id t (k + n) v there (omega (arith, within)) (stores (p.written (p.place t (k + n))))
+    (after_instances p t k n cells)
+    ∙ ap (λ m. with_cells s id (after_instances p t k (suc n) cells) (working t m []))
+    (let e : suc (k + n) ≡ k + suc n = omega arith in e)))
+
+-- what the events of n instances leave, where the worker is at the first of them and has read nothing
+pub stretch_run : (p : Plan) (s : State) (id t k n : ℕ) → get_elem? s.workers id ≡ some (working t k [])
+    → ((c : ℕ) → p.adds c ≡ false) → k + n ≤ p.size t
+    → replay p s (stretch_acts p id t k n)
+    ≡ with_cells s id (after_instances p t k n s.cells) (working t (k + n) [])
+stretch_run p s id t k n here stores within =
+    ap (λ ws. replay p (record { claims = s.claims; finished = s.finished; cells = s.cells; workers = ws })
+    (stretch_acts p id t k n)) (sym (set_again s.workers id (working t k []) here))
+    ∙ from_there p s id t k n s.cells (working t k []) here stores within
+
+-- one value more is read
+pub values_more : (cells rs xs : List ℕ) (i x : ℕ) → i < length rs → xs ≡ values_at cells (take i rs)
+    → x ≡ get_or cells (get_or rs i 0) 0 → xs ++ x ∷ [] ≡ values_at cells (take (i + 1) rs)
+values_more cells rs xs i x less is found =
+    ap₂ (λ (ys : List ℕ) (y : ℕ). ys ++ y ∷ []) is found ∙ sym (map_more (λ c. get_or cells c 0) rs i 0 less)

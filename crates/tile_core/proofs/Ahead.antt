@@ -1,0 +1,36 @@
+-- The instances that a worker has ahead, from the one that it does next: they are walked, and those of its tile.
+use Rattle.std.proofs.Common.{◌≡◌, ◌∙◌, ℕ, ◌+◌, ◌<◌, Option, Some, sym, subst, take}
+use Rattle.scop_syntax.specs.Members.{In}
+use Rattle.scop_syntax.specs.View.{instance_of}
+use Rattle.scop_syntax.specs.declared.instance.Instance.{Instance}
+use Rattle.loop_tree.specs.declared.stretch.Stretch.{Stretch}
+use Rattle.tile_core.specs.Plans.{places_in, shape_of}
+use Rattle.tile_core.specs.Ranks.{place_in}
+use Rattle.tile_core.specs.Stretches.{IsAhead, moved}
+use Rattle.tile_core.specs.declared.plan.Plan.{Plan}
+use Rattle.tile_core.specs.declared.worker.Stage.{Stage}
+use Rattle.tile_core.specs.declared.worker.Stage.TheVariants.{Working}
+
+module _ (plan : Plan) (stage : Stage) (next : Option Instance) (stretch : Stretch) (count : ℕ) (i : Instance)
+    (ahead : IsAhead plan stage next stretch count) (is : next ≡ Some i) where
+  same : ahead.instance ≡ i
+  same = let both : Some ahead.instance ≡ Some i = sym ahead.first ∙ is in cc
+
+  pub walked_ahead : (j : ℕ) → j < count
+      → In (moved (instance_of i) (take i.loops stretch.steps) j) (places_in plan)
+  walked_ahead j less =
+      subst (λ v. In (moved (instance_of v) (take v.loops stretch.steps) j) (places_in plan)) same
+      (ahead.walked j less)
+
+  pub place_ahead : (t k j : ℕ) → stage ≡ Working t k → j < count
+      → place_in (places_in plan) (moved (instance_of i) (take i.loops stretch.steps) j) ≡ (shape_of plan).place t (k + j)
+  place_ahead t k j works less =
+      let both : Working ahead.tile ahead.done ≡ Working t k = sym ahead.works ∙ works in
+      let tile : ahead.tile ≡ t = cc in
+      let done : ahead.done ≡ k = cc in
+      subst (λ u. place_in (places_in plan) (moved (instance_of i) (take i.loops stretch.steps) j)
+      ≡ (shape_of plan).place u (k + j)) tile
+      (subst (λ m. place_in (places_in plan) (moved (instance_of i) (take i.loops stretch.steps) j)
+      ≡ (shape_of plan).place ahead.tile (m + j)) done
+      (subst (λ v. place_in (places_in plan) (moved (instance_of v) (take v.loops stretch.steps) j)
+      ≡ (shape_of plan).place ahead.tile (ahead.done + j)) same (ahead.place j less)))

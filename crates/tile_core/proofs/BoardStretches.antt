@@ -1,0 +1,91 @@
+-- What a worker's instances, done at once, leave of a board (`none_done`, `some_done`).
+use Rattle.std.proofs.Common.{◌≡◌, ◌∙◌, ℕ, ◌+◌, ◌<◌, ◌≤◌, List, [], length, get_or, map, ap, ap₂, sym, subst, refl, arith}
+use Rattle.std.specs.Prelude.{Vec}
+use Rattle.std.specs.Global.{Global}
+use Rattle.std.specs.Vec.{with_item}
+use mathlib.Core.Option.{some, some-injective}
+use lib.ListN.{get_elem?}
+use Rattle.atomic_table.proofs.Lists.{at_index, set_again}
+use Rattle.tile_events.specs.Core as core
+use Rattle.tile_events.specs.Core.{State, replay, working}
+use Rattle.tile_core.specs.Acts.{DoesStretch, IsAtInstance, stretch_acts}
+use Rattle.tile_core.specs.Boards.{IsBoard, Stretches, state_of}
+use Rattle.tile_core.specs.Plans.{shape_of}
+use Rattle.tile_core.specs.Workers.{IsWorker, staged, worker_of}
+use Rattle.tile_core.specs.declared.board.Board.{Board}
+use Rattle.tile_core.specs.declared.plan.Plan.{Plan}
+use Rattle.tile_core.specs.declared.worker.Stage.{Stage}
+use Rattle.tile_core.specs.declared.worker.Stage.TheVariants.{Idle, Ended, Holding, Working}
+use Rattle.tile_core.specs.declared.worker.Worker.{Worker}
+use Rattle.tile_core.specs.steps.Acts.{after_instances}
+use Rattle.tile_core.proofs.Acts.{stretch_run}
+use Rattle.tile_core.proofs.Boards.{at_board, set_worker, worker_there, workers_kept}
+
+stage_there : (s : Stage) (xs : List ℕ) (t k : ℕ) → staged s xs ≡ working t k [] → (s ≡ Working t k) × (xs ≡ [])
+stage_there Idle xs t k e = absurd cc
+stage_there Ended xs t k e = absurd cc
+stage_there (Holding u) xs t k e = absurd cc
+stage_there (Working u m) xs t k e =
+    let same : u ≡ t = cc in let count : m ≡ k = cc in let none : xs ≡ [] = cc in (ap₂ Working same count, none)
+
+module _ (plan : Plan) (b : Board) (id : ℕ) (w : Worker) (board : IsBoard plan b) (within : id < length b.workers.items)
+    (is : w ≡ get_or b.workers.items id w) where
+  here : get_elem? (map worker_of b.workers.items) id ≡ some (worker_of w)
+  here = (at_board b id w within is).here
+
+  where_it_is : (t k : ℕ) → IsAtInstance (shape_of plan) (state_of b) id t k
+      → (w.stage ≡ Working t k) × (w.reads.items ≡ [])
+  where_it_is t k at =
+      stage_there w.stage w.reads.items t k (some-injective (worker_of w) (working t k []) (sym here ∙ at.0))
+
+  -- no instance is due, or values are read for it
+  pub none_done : ((t k : ℕ) → w.stage ≡ Working t k → w.reads.items ≡ [] → k < (shape_of plan).size t → ⊥)
+      → Stretches plan b id 0 (record b { workers = with_item b.workers id w })
+  none_done none =
+      let same : state_of (record b { workers = with_item b.workers id w }) ≡ state_of b =
+      ap (λ ws. record {
+        claims = b.claims;
+        finished = b.finished;
+        cells = b.cells.items;
+        workers = map worker_of ws;
+      }) (set_again b.workers.items id w (at_index b.workers.items id w within is)) in
+      record {
+        stretch = λ t k at. let there = where_it_is t k at in absurd (none t k there.0 there.1 at.1);
+        none = λ h. (refl, same);
+        acts = [];
+        replayed = same;
+        workers = workers_kept plan b id w board (worker_there plan b id w board within is);
+      }
+
+  -- n instances are done
+  pub some_done : (x : Worker) (cs : Vec ℕ Global) (t k n : ℕ) → w.stage ≡ Working t k → w.reads.items ≡ []
+      → 1 ≤ n → k + n ≤ (shape_of plan).size t → x.stage ≡ Working t (k + n) → x.reads.items ≡ []
+      → cs.items ≡ after_instances (shape_of plan) t k n b.cells.items → IsWorker plan x
+      → Stretches plan b id n (record b { cells = cs; workers = with_item b.workers id x })
+  some_done x cs t k n stage unread some_left fits stands cleared cells kept =
+      let p = shape_of plan in
+      let s = state_of b in
+      let d : Board = record b { cells = cs; workers = with_item b.workers id x } in
+      let at : worker_of w ≡ working t k [] = ap₂ staged stage unread in
+      let run : state_of d ≡ replay p s (stretch_acts p id t k n) =
+      ap₂ (λ (ys : List ℕ) (ws : List core.Worker). record {
+        claims = b.claims;
+        finished = b.finished;
+        cells = ys;
+        workers = ws;
+      }) cells (sym (set_worker b id x (working t (k + n) []) (ap₂ staged stands cleared)))
+      ∙ sym (stretch_run p s id t k n (here ∙ ap (λ (v : core.Worker). some v) at) (λ c. refl) fits) in
+      let does : DoesStretch p s id t k n (state_of d) =
+      record { some = some_left; within = fits; acts = run } in
+      record {
+        stretch = λ u m there.
+            let both : Working t k ≡ Working u m = sym stage ∙ (where_it_is u m there).0 in
+            let same : t ≡ u = cc in
+            let count : k ≡ m = cc in
+            subst (λ v. DoesStretch p s id u v n (state_of d)) count
+            (subst (λ v. DoesStretch p s id v k n (state_of d)) same does);
+        none = λ h. absurd (h t k (here ∙ ap (λ (v : core.Worker). some v) at, omega (arith, some_left, fits)));
+        acts = stretch_acts p id t k n;
+        replayed = run;
+        workers = workers_kept plan b id x board kept;
+      }

@@ -1,0 +1,47 @@
+use Rattle.std.proofs.Common.{rules, ◌∙◌, ◌+◌, ◌≤◌, List, ℕ, ap, arith, length, subst, sym}
+use Rattle.std.proofs.lemmas.List.{nil_from_length, with_items_is}
+use Rattle.tile_core.specs.Plans.{shape_of}
+use Rattle.tile_core.specs.Stretches.{CanPass, IsAhead}
+use Rattle.tile_core.specs.declared.worker.Worker.{Worker}
+use Rattle.tile_core.specs.steps.Acts.{after_instances}
+use Rattle.tile_core.proofs.BoardStretches.{none_done, some_done}
+use Rattle.tile_core.proofs.board.Board.do_stretch.Goals as goal
+use Rattle.tile_core.proofs.board.Board.do_stretch.Goals.{After-do_ahead}
+
+pub returns-then-len-gt0 : goal.returns-then-len-gt0
+returns-then-len-gt0 c =
+    none_done c.args.plan.now c.args.self.now c.args.id c.index_mut-worker.result.now c.requires.board c.requires.id
+    (search rules) (λ t k at none left. let e = ap length none in search rules)
+
+pub returns-then-count-eq0 : goal.returns-then-count-eq0
+returns-then-count-eq0 c =
+    none_done c.args.plan.now c.args.self.now c.args.id c.index_mut-worker.result.now c.requires.board c.requires.id
+    (search rules)
+    (λ t k at none left. let full = c.ahead-count.ensures.none (search rules) t k at in omega (arith, full, left))
+
+ahead : (c : After-do_ahead)
+    → IsAhead c.args.plan.now c.index_mut-worker.result.now.stage c.index_mut-worker.result.now.next
+    c.index_mut-worker.result.now.spot.stretch c.ahead-count.result
+ahead c = c.ahead-count.ensures.ahead (search rules)
+
+pub pass_by-requires-clause-passes : goal.pass_by-requires-clause-passes
+pass_by-requires-clause-passes c =
+    subst (λ (w : Worker). CanPass c.args.plan.now w.stage w.spot.stretch c.ahead-count.result)
+    (sym c.do_ahead.ensures.same) (ahead (goal.at.pass_by-requires-clause-passes c).After-do_ahead).passes
+
+pub returns : goal.returns
+returns c =
+    let p = shape_of c.args.plan.now in
+    let a = ahead (goal.at.returns c).After-do_ahead in
+    let left = (a.passes a.tile a.done a.works).0 in
+    let most = (a.passes a.tile a.done a.works).1.within in
+    let fits : a.done + c.ahead-count.result ≤ p.size a.tile = omega (arith, left, most) in
+    some_done c.args.plan.now c.args.self.now c.args.id c.index_mut-worker.result.now c.requires.board c.requires.id
+    (search rules) c.pass_by.new.self _ a.tile a.done c.ahead-count.result a.works (nil_from_length _ (search rules))
+    a.some fits
+    (c.pass_by.ensures.stage a.tile a.done (ap (λ (w : Worker). w.stage) c.do_ahead.ensures.same ∙ a.works))
+    (search rules)
+    (with_items_is c.args.self.now.cells c.do_ahead.new.cells (search rules)
+    ∙ (c.do_ahead.ensures.cells a.tile a.done a.works
+    ∙ ap (λ (ys : List ℕ). after_instances p a.tile a.done c.ahead-count.result ys) c.deref_mut.ensures.value))
+    c.pass_by.ensures.worker

@@ -1,0 +1,26 @@
+-- The events of a worker that does instances of its tile.
+use Rattle.std.specs.Prelude.{◌≡◌, ℕ, zero, suc, ◌+◌, ◌<◌, ◌≤◌, List, [], ◌∷◌, ◌++◌, length}
+use mathlib.Core.Option.{some}
+use lib.ListN.{get_elem?}
+use Rattle.tile_events.specs.Core.{Event, State, load, replay, store, working}
+use Rattle.tile_events.specs.Plan.{Plan}
+
+-- those of one instance that reads so many cells: as many loads, then the store
+abbrev pub instance_acts : ℕ → ℕ → List (ℕ × Event)
+instance_acts id zero = (id, store) ∷ []
+instance_acts id (suc reads) = (id, load) ∷ instance_acts id reads
+
+-- those of n instances of tile t, of which the first has number k there
+abbrev pub stretch_acts : Plan → ℕ → ℕ → ℕ → ℕ → List (ℕ × Event)
+stretch_acts p id t k zero = []
+stretch_acts p id t k (suc n) = stretch_acts p id t k n ++ instance_acts id (length (p.read (p.place t (k + n))))
+
+-- worker id is at work in tile t, at its instance k, and has read nothing for it
+abbrev pub IsAtInstance : Plan → State → ℕ → ℕ → ℕ → Type 0
+IsAtInstance p s id t k = (get_elem? s.workers id ≡ some (working t k [])) × (k < p.size t)
+
+-- from there it has done n instances of the tile, one at least
+pub record DoesStretch (p : Plan) (s : State) (id t k n : ℕ) (d : State) : Type 0 where
+  pub some : 1 ≤ n
+  pub within : k + n ≤ p.size t
+  pub acts : d ≡ replay p s (stretch_acts p id t k n)
