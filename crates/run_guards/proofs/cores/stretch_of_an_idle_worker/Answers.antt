@@ -1,6 +1,6 @@
 use Rattle.std.proofs.Common.{◌≡◌, ◌∙◌, ℕ, [], sym}
 use mathlib.Core.Option.{some}
-use Rattle.tile_events.specs.Core.{Worker, idle, working}
+use Rattle.tile_events.specs.Core.{idle, working}
 use Rattle.run_guards.proofs.cores.stretch_of_an_idle_worker.Goals as goal
 
 differ : (t k : ℕ) → some idle ≡ some (working t k []) → ⊥
