@@ -2,7 +2,7 @@
 //! written out. So one of these fields that is emptied fails here, and so does a definition under it, but for those
 //! that are named here: which input is accepted or spells a kernel, what is asked for, what a generated kernel leaves,
 //! what the search finds or stops at (`IsSearched`, `IsCauseOf`), and what the trees of a plan are (`ArePlanned`), of
-//! which it is written out alone that tiled loops are marked parallel.
+//! which it is written out alone which loops of a tiled plan are marked parallel.
 
 ghost use Rattle.std.specs.Prelude.{◌≡◌, ◌≢◌, ◌⊎◌, ◌≤◌, ◌++◌, ℕ, ℤ, true, false, List, [], Option, Some, map};
 ghost use Rattle.std.specs.Prelude.{string_bytes};

@@ -21,7 +21,8 @@ pub record HasSameRoom (before after : Desk) : Type 0 where
   pub leaves : length after.leaves.items ≡ length before.leaves.items
   pub slots : length after.slots.items ≡ length before.slots.items
 
--- the lanes of a row's cells and affine parts stand at these turns and go on by these steps
+-- the lanes of a row's cells and affine parts, as far as the desk has them (`HasRoom`: all), stand at these turns and go
+-- on by these steps
 pub record IsLaid (row : Row) (steps turns : List ℤ) (desk : Desk) : Type 0 where
   pub cells : AreLanes row.cells.items steps turns desk.cells.items
   pub leaves : AreLanes row.code.leaves.items steps turns desk.leaves.items

@@ -11,7 +11,7 @@ pub record IsLane (form : Affine) (steps turns : List ℤ) (lane : Lane) : Type 
   pub step : (ts : List ℤ)
       → wrapped (value_of form (sums ts steps)) ≡ (wrapped (value_of form ts) + lane.step) % 2 ^ 64
 
--- each form has the lane of its number
+-- each form has the lane of its number, as far as there are lanes
 pub record AreLanes (forms : List Affine) (steps turns : List ℤ) (lanes : List Lane) : Type 0 where
   pub each : (a : ℕ) (form : Affine) (lane : Lane) → slice_get forms a ≡ Some form → slice_get lanes a ≡ Some lane
       → IsLane form steps turns lane

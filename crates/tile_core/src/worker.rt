@@ -152,8 +152,8 @@ impl Worker {
         }
     }
 
-    /// How many instances it has ahead that go by the steps of its spot's stretch, the next one among them; 0 where it has
-    /// none due.
+    /// A number of instances that it has ahead and that go by the steps of its spot's stretch, the next one among them; 0
+    /// exactly where it has none due.
     #[inline]
     pub fn ahead(&self, plan: &Plan) -> usize
         requires plan { IsPlan plan.now }
