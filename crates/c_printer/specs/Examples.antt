@@ -1,5 +1,5 @@
--- A small kernel, a loop tree for it with each kind of node, and its text; statements of it with each operator and each
--- kind of right side, and their texts.
+-- A small kernel, a loop tree for it with each kind of node, and its text; statements of it with the operators and the
+-- kinds of right side that the tree's own has not, and their texts.
 use Rattle.std.specs.Prelude.{ℕ, ℤ, true, false, pos, negsuc, List, [], ◌∷◌, ◌++◌, codes}
 use Rattle.whole_numbers.specs.Affine.{Affine, form_of}
 use Rattle.scop_lexer.specs.Bytes.{Text}
@@ -98,7 +98,7 @@ here = cell 0 (form_of (pos 0 ∷ pos 1 ∷ []) (pos 0) ∷ [])
 abbrev to_here : Right → Statement
 to_here right = record { place = here; right = right }
 
--- statements with each operator and each kind of right side
+-- statements with the operators and the kinds of right side that the tree's own has not
 abbrev pub statements : List Statement
 statements =
     to_here (source.assigned (source.binary source.bits_or

@@ -10,7 +10,7 @@ pub fn a_tree_and_its_text()
     ensures { text_of kernel tree ≡ text }
 {}
 
-/// Statements with each operator and each kind of right side, and their texts.
+/// Statements with the operators and the kinds of right side that the tree's own has not, and their texts.
 pub fn statements_and_their_texts()
     ensures { map (statement_text kernel (codes "N" ∷ codes "i" ∷ [])) statements ≡ texts }
 {}
