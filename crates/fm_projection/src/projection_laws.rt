@@ -14,7 +14,8 @@ pub fn eliminations_are_exact_one_after_another()
         → IsLeftOf (s.dimensions - n) n s (projected n s) }
 {}
 
-/// A whole point of a system, without its entry of an eliminated dimension, is one of what the elimination leaves; so is
+/// A whole point of a system, without its entry of an eliminated dimension, is one of what the elimination leaves;
+/// so is
 /// the front of one of a projection on the first dimensions, and, for parameters in 0..=65536, the last value of one of
 /// what is left of the last dimension alone.
 pub fn eliminations_keep_the_points()
