@@ -10,3 +10,4 @@ pub mod Stretches
 pub mod Boards
 pub mod States
 pub mod Passes
+pub mod Crosses
