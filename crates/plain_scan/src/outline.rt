@@ -9,7 +9,7 @@ ghost use Rattle.fm_projection.specs.Alone.{last_alone};
 ghost use Rattle.fm_projection.specs.declared.stop.FmStop.TheVariants.{Large};
 ghost use Rattle.plain_scan.specs.Between.{AreNumbersOf, IsLargeOf};
 ghost use Rattle.plain_scan.specs.Outlines.{AreRows, AreShadows, HasSmallConstraints};
-ghost use Rattle.plain_scan.specs.Outlines.{IsEquality, IsOpen, IsOpenSomewhere};
+ghost use Rattle.plain_scan.specs.Outlines.{IsEquality, IsNext, IsOpen, IsOpenSomewhere};
 ghost use Rattle.plain_scan.specs.Outlines.{IsRow, IsShadowOf, PassAlone, StopsSet, StopsShadow};
 
 use crate::numbers::{Numbers, has_small_numbers, large_among, numbers_alone};
@@ -149,12 +149,24 @@ fn shadow_of(alloc: Global, projection: &System) -> Result<Option<Shadow>, FmSto
     }
 }
 
+/// The projection of a set that comes behind so many others: without the last dimension of the one before it, or the set
+/// itself as the first.
+fn next_projection(alloc: Global, last: System, count: usize) -> Result<System, FmStop>
+    requires { 0 < last.dimensions }
+    ensures { IsNext count last result }
+{
+    if count == 0 {
+        return Ok(last);
+    }
+    without(alloc, &last, last.dimensions() - 1)
+}
+
 /// The shadows of a set's projections, that on all dimensions first; None where a dimension has no bound from one side.
 ///
 /// # Errors
 /// `Wide` or `Crowded` as the first elimination that stops: of a projection's others and of the parameters, for its
-/// last dimension alone, or then of that dimension; `Large` with a number beyond 2^40 of what is left of a last
-/// dimension alone, or of a constraint of the set; `NoMemory`.
+/// last dimension alone, or then of that dimension, if it is not the first; `Large` with a number beyond 2^40 of what is
+/// left of a last dimension alone, or of a constraint of the set; `NoMemory`.
 pub fn outline_of(alloc: Global, set: &ScanSet) -> Result<Option<Vec<Shadow>>, FmStop>
     requires few { variables_in set.now.system < 2 ^ 32 }
     ensures found { IfOk result (λ found. MatchOption found (IsOpenSomewhere set.now.system)
@@ -173,7 +185,11 @@ pub fn outline_of(alloc: Global, set: &ScanSet) -> Result<Option<Vec<Shadow>>, F
         Ok(copy) => copy,
     };
     let mut shadows = Vec::new(alloc);
-    while left.dimensions() > 0 {
+    for count in 0..system.dimensions() {
+        match next_projection(alloc, left, count) {
+            Err(stop) => return Err(stop),
+            Ok(next) => left = next,
+        }
         match shadow_of(alloc, &left) {
             Err(stop) => return Err(stop),
             Ok(None) => return Ok(None),
@@ -181,10 +197,6 @@ pub fn outline_of(alloc: Global, set: &ScanSet) -> Result<Option<Vec<Shadow>>, F
                 Err(_) => return Err(FmStop::NoMemory),
                 Ok(()) => {}
             },
-        }
-        match without(alloc, &left, left.dimensions() - 1) {
-            Err(stop) => return Err(stop),
-            Ok(next) => left = next,
         }
     }
     match large_of(system) {

@@ -15,8 +15,8 @@ returns-in-Err c budget =
     c.by_elimination.ensures)
     (narrowing-halts budget (s.dimensions - 1) c.args.variable s c.in-Err.stop c.in-Err.ensures.run)
 
-pub returns-in-Ok-without_column : goal.returns-in-Ok-without_column
-returns-in-Ok-without_column c budget =
+pub returns : goal.returns
+returns c budget =
     let s = c.args.system.now in
     let v = c.args.variable in
     let t = c.in-Ok.left in
