@@ -51,33 +51,56 @@ fn push_both(out: &mut Vec<Form>, form: &Form) -> Result<(), AllocError>
     }
 }
 
-/// Whether one of the rows has these coefficients and a constant below the limit.
-pub fn has_below(rows: &[Form], coefficients: &[i128], limit: i128) -> bool {
+/// Whether a row says no more than another wherever no parameter is negative: the same coefficients of so many
+/// dimensions, and none of a parameter less, nor the constant.
+fn is_looser(row: &Form, other: &Form, dimensions: usize) -> bool {
+    let (own, its) = (row.coefficients(), other.coefficients());
+    if own.len() != its.len() || own.len() < dimensions || row.constant() < other.constant() {
+        return false;
+    }
+    if own[..dimensions] != its[..dimensions] {
+        return false;
+    }
+    for at in dimensions..own.len() {
+        if own[at] < its[at] {
+            return false;
+        }
+    }
+    true
+}
+
+/// Whether one of the rows says all that the form does, and more if it is to.
+pub fn has_tighter(rows: &[Form], form: &Form, dimensions: usize, more: bool) -> bool {
     for row in rows {
-        if row.constant() < limit && row.coefficients() == coefficients {
+        if is_looser(form, row, dimensions) && !(more && is_looser(row, form, dimensions)) {
             return true;
         }
     }
     false
 }
 
-/// Appends a copy of the form where its numbers are small, if neither one of the others is a tighter row of the same
-/// coefficients nor the form is there already.
-fn push_tightest(out: &mut Vec<Form>, form: &Form, others: &[Form]) -> Result<(), AllocError>
+/// Appends a copy of the form where its numbers are small, if neither one of the others says more, no parameter being
+/// negative, nor one that is there already says as much.
+fn push_tightest(
+    out: &mut Vec<Form>,
+    form: &Form,
+    others: &[Form],
+    dimensions: usize,
+) -> Result<(), AllocError>
     ensures { OnOk result ((t : Constraints) → (HasSmallNumbers form.now → IsRow t form.now)
         → AreRows t out.old.items → AreRows t out.new.items) }
 {
-    if has_below(others, form.coefficients(), form.constant()) {
+    if has_tighter(others, form, dimensions, true) {
         return Ok(());
     }
-    if has_below(out, form.coefficients(), form.constant().saturating_add(1)) {
+    if has_tighter(out, form, dimensions, false) {
         return Ok(());
     }
     push_small(out, form)
 }
 
-/// The rows of a system, the tightest of those with the same coefficients, and its equalities as two rows, as far as
-/// their numbers are small.
+/// The rows of a system that say most, no parameter being negative, and its equalities as two rows, as far as their
+/// numbers are small.
 fn rows_of(alloc: Global, system: &System) -> Result<Vec<Form>, AllocError>
     ensures { IfOk result (λ v. AreRows system.now v.items) }
 {
@@ -86,7 +109,7 @@ fn rows_of(alloc: Global, system: &System) -> Result<Vec<Form>, AllocError>
         push_both(&mut out, form)?;
     }
     for form in system.rows() {
-        push_tightest(&mut out, form, system.rows())?;
+        push_tightest(&mut out, form, system.rows(), system.dimensions())?;
     }
     Ok(out)
 }
