@@ -1,5 +1,5 @@
 //! Callers of eliminations one after another.
-ghost use Rattle.std.specs.Prelude.{◌≡◌, ◌↔◌, ◌<◌, ◌≤◌, ◌+◌, ◌-◌, ◌^◌, ◌++◌, ◌∷◌, [], ℤ, List, IfOk, length};
+ghost use Rattle.std.specs.Prelude.{◌≡◌, ◌↔◌, ◌<◌, ◌≤◌, ◌+◌, ◌-◌, ◌^◌, ◌++◌, ◌∷◌, [], ℤ, pos, ◌<ℤ◌, List, IfOk, length};
 ghost use Rattle.fractions.specs.Fractions.{HoldsOver};
 ghost use Rattle.integer_sets.specs.Constraints.{Constraints, IsSized, variables_in};
 ghost use Rattle.integer_sets.specs.Points.{Satisfies};
@@ -38,9 +38,9 @@ pub fn last_of(alloc: Global, system: &System) -> Result<System, FmStop>
 /// The first dimension's elimination over fractions, by `gone` of `eliminations_are_exact_one_after_another`, and the
 /// last's, by `projected`.
 pub fn fractions_for_one_dimension()
-    ensures gone { (s : Constraints) (d : ℤ) (back : List ℤ)
+    ensures gone { (s : Constraints) (d : ℤ) (back : List ℤ) → pos 0 <ℤ d
         → HoldsOver (gone 0 s).equalities (gone 0 s).rows d back ↔ HoldsForSomeBetween 1 s d [] back }
-    ensures projected { (s : Constraints) (d : ℤ) (front back : List ℤ) → 1 ≤ s.dimensions
+    ensures projected { (s : Constraints) (d : ℤ) (front back : List ℤ) → 1 ≤ s.dimensions → pos 0 <ℤ d
         → length front ≡ s.dimensions - 1
         → HoldsOver (gone (s.dimensions - 1) s).equalities (gone (s.dimensions - 1) s).rows d (front ++ back)
         ↔ HoldsForSomeBetween 1 s d front back }

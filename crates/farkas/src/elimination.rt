@@ -6,7 +6,7 @@ ghost use Rattle.farkas.specs.Gives.{Follows};
 
 use crate::dropping::without_implied;
 use crate::stuck::{Stuck, by_elimination};
-use fm_projection::without;
+use fm_projection::{eliminate, without_column};
 use integer_sets::System;
 use std::alloc::Global;
 
@@ -17,9 +17,12 @@ fn eliminated(alloc: Global, system: &System, variable: usize) -> Result<System,
     ensures { (budget : ℕ)
         → Follows (λ s. s) budget result (narrowing (system.now.dimensions - 1) variable system.now) }
 {
-    match without(alloc, system, variable) {
+    match eliminate(alloc, system, variable) {
         Err(stop) => Err(by_elimination(stop)),
-        Ok(left) => Ok(left),
+        Ok(left) => match without_column(alloc, &left, variable) {
+            Err(_) => Err(Stuck::NoMemory),
+            Ok(narrow) => Ok(narrow),
+        },
     }
 }
 

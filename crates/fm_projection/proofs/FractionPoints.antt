@@ -19,6 +19,8 @@ use Rattle.fractions.proofs.Chain.{narrowed_holds, chain_end}
 use Rattle.integer_sets.specs.Constraints.{Constraints}
 use Rattle.integer_sets.specs.Points.{Satisfies}
 use Rattle.fm_projection.specs.Projecting.{elimination_of, gone, projected, all_gone, HoldsForSomeBetween, IsLeftOf}
+use Rattle.fm_projection.specs.Projecting.{without_column}
+use Rattle.fm_projection.proofs.TightestRows.{loosened_holds}
 use Rattle.fm_projection.proofs.WholePoints.{follow_over, one_more}
 use Rattle.fm_projection.proofs.Law.{whole_point}
 
@@ -58,10 +60,11 @@ seam k front x back v i size =
     ∙ set-append_seam (multiples k front) (k *ℤ x) (multiples k back) v
 
 -- one elimination
-one_from : (i : ℕ) (s : Constraints) (d : ℤ) (front back : List ℤ) → length front ≡ i → At (gone i s) d (front ++ back)
-    → ForOne s d front back
-one_from i s d front back size h =
+one_from : (i : ℕ) (s : Constraints) (d : ℤ) (front back : List ℤ) → pos 0 <ℤ d → length front ≡ i
+    → At (gone i s) d (front ++ back) → ForOne s d front back
+one_from i s d front back positive size tight =
     let left = elimination_of i s in
+    let h = loosened_holds d (front ++ back) positive (without_column i left) tight in
     let absent = eliminated_absent i s.equalities s.rows in
     let holds = narrowed_holds left.equalities left.rows d front (pos 0) back i size absent.0 absent.1 in
     let inside : i < length (front ++ pos 0 ∷ back) = omega (arith, length-append front (pos 0 ∷ back), size) in
@@ -101,15 +104,15 @@ projected_point j k x front between back =
     (one_more (multiples (j *ℤ k) front) (j *ℤ x) (between ++ multiples (j *ℤ k) back))
 
 -- n eliminations at a place
-all_from : (i n : ℕ) (s : Constraints) (d : ℤ) (front back : List ℤ) → length front ≡ i
+all_from : (i n : ℕ) (s : Constraints) (d : ℤ) (front back : List ℤ) → pos 0 <ℤ d → length front ≡ i
     → At (all_gone i n s) d (front ++ back)
     → HoldsForSomeBetween n s d front back
-all_from i zero s d front back size h = none_between s d front back h
-all_from i (suc n) s d front back size h =
-    let one = one_from i (all_gone i n s) d front back size h in
+all_from i zero s d front back positive size h = none_between s d front back h
+all_from i (suc n) s d front back positive size h =
+    let one = one_from i (all_gone i n s) d front back positive size h in
     let k = one.factor in
     let more = all_from i n s (k *ℤ d) (multiples k front) (one.value ∷ multiples k back)
-    (length-multiples k front ∙ size) one.holds in
+    (mul_positive k d one.positive positive) (length-multiples k front ∙ size) one.holds in
     let j = more.factor in
     let v = j *ℤ one.value in
     record {
@@ -140,18 +143,19 @@ all_to i (suc n) s e front (x ∷ between) back size count h =
     gone_first j (suc m) t = ap (gone j) (gone_first j m t)
 
 -- a projection
-projected_from : (n : ℕ) (s : Constraints) (d : ℤ) (front back : List ℤ) → n ≤ s.dimensions
+projected_from : (n : ℕ) (s : Constraints) (d : ℤ) (front back : List ℤ) → n ≤ s.dimensions → pos 0 <ℤ d
     → length front ≡ s.dimensions - n
     → At (projected n s) d (front ++ back)
     → HoldsForSomeBetween n s d front back
-projected_from zero s d front back few size h = none_between s d front back h
-projected_from (suc n) s d front back few size h =
-    let one = one_from (s.dimensions - suc n) (projected n s) d front back size h in
+projected_from zero s d front back few positive size h = none_between s d front back h
+projected_from (suc n) s d front back few positive size h =
+    let one = one_from (s.dimensions - suc n) (projected n s) d front back positive size h in
     let k = one.factor in
     let longer = multiples k front ++ one.value ∷ [] in
     let total : length longer ≡ s.dimensions - n =
     omega (arith, few, size, length-multiples k front, length-append (multiples k front) (one.value ∷ [])) in
-    let more = projected_from n s (k *ℤ d) longer (multiples k back) (omega (arith, few)) total
+    let more = projected_from n s (k *ℤ d) longer (multiples k back) (omega (arith, few))
+    (mul_positive k d one.positive positive) total
     (subst (At (projected n s) (k *ℤ d)) (sym (one_more (multiples k front) one.value (multiples k back))) one.holds) in
     let j = more.factor in
     let v = j *ℤ one.value in
@@ -181,12 +185,13 @@ projected_to (suc n) s e front (x ∷ between) back size count h =
 
 -- both ways
 left_of : (i n : ℕ) (s t : Constraints)
-    → ((d : ℤ) (front back : List ℤ) → length front ≡ i → At t d (front ++ back) → HoldsForSomeBetween n s d front back)
+    → ((d : ℤ) (front back : List ℤ) → pos 0 <ℤ d → length front ≡ i → At t d (front ++ back)
+    → HoldsForSomeBetween n s d front back)
     → ((e : ℤ) (front between back : List ℤ) → length front ≡ i → length between ≡ n
     → At s e (front ++ (between ++ back)) → At t e (front ++ back))
     → IsLeftOf i n s t
-left_of i n s t from to d front back size = (
-  from d front back size,
+left_of i n s t from to d front back positive size = (
+  from d front back positive size,
   λ m.
       unscaled t m.factor d (front ++ back) m.positive
       (subst (At t (m.factor *ℤ d)) (sym (multiples-append m.factor front back))
@@ -200,7 +205,7 @@ all_left i n s = left_of i n s (all_gone i n s) (all_from i n s) (all_to i n s)
 pub projected_left : (n : ℕ) (s : Constraints) → n ≤ s.dimensions → IsLeftOf (s.dimensions - n) n s (projected n s)
 projected_left n s few =
     left_of (s.dimensions - n) n s (projected n s)
-    (λ d front back size. projected_from n s d front back few size)
+    (λ d front back positive size. projected_from n s d front back few positive size)
     (λ e front between back size. projected_to n s e front between back (omega (arith, size, few)))
 
 -- the front of a whole point is a point of the projection

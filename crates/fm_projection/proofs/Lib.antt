@@ -3,6 +3,7 @@ pub mod Loops
 pub mod Exact
 pub mod Law
 pub mod RemovedEntries
+pub mod TightestRows
 pub mod WholePoints
 pub mod EliminationRuns
 pub mod RangeRows

@@ -14,9 +14,10 @@ use Rattle.fractions.proofs.AbsentVariables.{eliminated_absent}
 use Rattle.fractions.proofs.Chain.{narrowed_holds}
 use Rattle.integer_sets.specs.Constraints.{Constraints, IsSized, variables_in}
 use Rattle.affine_forms.specs.Parts.{variables_of}
-use Rattle.fm_projection.specs.Projecting.{elimination_of, gone, Follow, projected}
+use Rattle.fm_projection.specs.Projecting.{elimination_of, gone, Follow, projected, without_column}
 use Rattle.fm_projection.proofs.Exact.{eliminated_sized}
 use Rattle.fm_projection.proofs.RemovedEntries.{narrowed_sized}
+use Rattle.fm_projection.proofs.TightestRows.{kept, tightened_holds}
 use Rattle.fm_projection.proofs.Law.{whole_point}
 
 -- a point's own value is a fraction for the variable
@@ -45,8 +46,9 @@ follow_over i s d front x back size h =
     let some = own_value i s.equalities s.rows d (front ++ x ∷ back) h in
     let left = (elimination_is_exact i s.equalities s.rows d (front ++ x ∷ back) inside).1 some in
     let absent = eliminated_absent i s.equalities s.rows in
-    (narrowed_holds (elimination_of i s).equalities (elimination_of i s).rows d front x back i size absent.0 absent.1).1
-    left
+    tightened_holds (without_column i (elimination_of i s)) d (front ++ back)
+    ((narrowed_holds (elimination_of i s).equalities (elimination_of i s).rows d front x back i size absent.0 absent.1).1
+    left)
 
 pub follow : (i : ℕ) (s : Constraints) → Follow i s (gone i s)
 follow i s outer x rest size h =
@@ -77,7 +79,9 @@ projected_sized (suc n) s few sized =
       record {
         equalities_sized = narrowed_sized i (variables_in (gone i t)) (elimination_of i t).equalities
             (gone i t).equalities (subst (λ k. P k (elimination_of i t).equalities) v wide.0) inside refl;
-        rows_sized = narrowed_sized i (variables_in (gone i t)) (elimination_of i t).rows (gone i t).rows
-            (subst (λ k. P k (elimination_of i t).rows) v wide.1) inside refl;
+        rows_sized = kept (λ f. variables_of f ≡ variables_in (gone i t)) (without_column i (elimination_of i t)).rows
+            (narrowed_sized i (variables_in (gone i t)) (elimination_of i t).rows
+            (without_column i (elimination_of i t)).rows (subst (λ k. P k (elimination_of i t).rows) v wide.1) inside
+            refl);
       },
     )

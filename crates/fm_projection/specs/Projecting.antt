@@ -8,6 +8,7 @@ use Rattle.integer_sets.specs.Constraints.{Constraints, system_of}
 use Rattle.integer_sets.specs.Points.{Satisfies}
 use Rattle.fm_projection.specs.declared.stop.FmStop.{FmStop}
 use Rattle.fm_projection.specs.Gives.{Eliminates}
+use Rattle.fm_projection.specs.Tightest.{tightened}
 
 -- the elimination of variable i
 abbrev pub elimination_of : ℕ → Constraints → Constraints
@@ -18,15 +19,15 @@ elimination_of i s = system_of s.dimensions s.parameters (eliminated i s.equalit
 abbrev pub without_column : ℕ → Constraints → Constraints
 without_column i s = system_of (s.dimensions - 1) s.parameters (map (narrowed i) s.equalities) (map (narrowed i) s.rows)
 
--- dimension i eliminated, and its column with it
+-- dimension i eliminated, and its column with it; of rows with the same coefficients the tightest stays
 abbrev pub gone : ℕ → Constraints → Constraints
-gone i s = without_column i (elimination_of i s)
+gone i s = tightened (without_column i (elimination_of i s))
 
 -- the elimination of dimension i forms few pairs, and numbers of 128 bits
 abbrev pub Passes : ℕ → Constraints → Type 0
 Passes i s = Eliminates i s (Ok (elimination_of i s))
 
--- the call eliminates the dimension and drops its column, or stops as the elimination does
+-- the call eliminates the dimension, drops its column, and keeps the tightest rows, or stops as the elimination does
 abbrev pub Drops : ℕ → Constraints → Result Constraints FmStop → Type 0
 Drops i s (Ok t) = Passes i s × (t ≡ gone i s)
 Drops i s (Err stop) = Eliminates i s (Err stop)
@@ -61,5 +62,5 @@ pub record HoldsForSomeBetween (n : ℕ) (s : Constraints) (d : ℤ) (front back
 
 -- a point of fractions satisfies t exactly where some fractions for n dimensions from i on satisfy s with it
 abbrev pub IsLeftOf : ℕ → ℕ → Constraints → Constraints → Type 0
-IsLeftOf i n s t = (d : ℤ) (front back : List ℤ) → length front ≡ i
+IsLeftOf i n s t = (d : ℤ) (front back : List ℤ) → pos 0 <ℤ d → length front ≡ i
     → HoldsOver t.equalities t.rows d (front ++ back) ↔ HoldsForSomeBetween n s d front back

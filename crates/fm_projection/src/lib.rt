@@ -10,6 +10,7 @@ mod projecting;
 mod projection_laws;
 mod rows;
 mod stop;
+mod tightest;
 
 pub use alone::{last_alone, place_form};
 pub use columns::{narrow_form, without_column};

@@ -1,5 +1,5 @@
 -- Rows appended to rows.
-use Rattle.std.proofs.Common.{◌≡◌, ℕ, zero, suc, ◌+◌, ◌-◌, ◌<◌, ℤ, pos, negsuc, List, [], ◌∷◌, ◌++◌, length, get_or}
+use Rattle.std.proofs.Common.{◌≡◌, ℕ, zero, suc, ◌-◌, ◌<◌, ℤ, pos, negsuc, List, [], ◌∷◌, ◌++◌, length, get_or}
 use Rattle.std.proofs.Common.{refl, ap, subst, sym, ◌∙◌, All, arith}
 use Rattle.std.specs.Prelude.{◌≤◌, ◌^◌, ◌≤ℤ◌, Some, unsigned_abs}
 use Rattle.std.proofs.lemmas.Int.{ints}
@@ -8,7 +8,7 @@ use Rattle.whole_numbers.proofs.Dot.{length-multiples}
 use Rattle.affine_forms.specs.Parts.{variables_of}
 use Rattle.integer_sets.specs.Constraints.{Constraints, variables_in}
 use Rattle.integer_sets.specs.Points.{Satisfies}
-use Rattle.fm_projection.specs.Projecting.{projected, gone, all_gone}
+use Rattle.fm_projection.specs.Projecting.{projected, all_gone}
 use Rattle.fm_projection.specs.Alone.{last_alone, ranged}
 use Rattle.fm_projection.proofs.EliminationRuns.{gone_dimensions}
 use Rattle.plain_scan.specs.Between.{HasSmallNumbers}
@@ -72,17 +72,6 @@ pub one_shadow : (s : Constraints) (old new : List Shadow) (h : Shadow) → new 
 one_shadow s old new h is each one =
     subst (λ xs. (n : ℕ) (d : Shadow) → n < length xs → IsShadowOf (projected n s) (get_or xs n d)) (sym is)
     (at_end (λ n. IsShadowOf (projected n s)) old h each one)
-
-pub next_left : (s t u : Constraints) (n m place : ℕ) → t ≡ projected n s → n + t.dimensions ≡ s.dimensions
-    → 0 < t.dimensions
-    → u ≡ gone place t → place ≡ t.dimensions - 1 → m ≡ n + 1 → (u ≡ projected m s) × (m + u.dimensions ≡ s.dimensions)
-next_left s t u n m place is count some step at one =
-    let d = ap (λ (w : Constraints). w.dimensions) step in
-    let place_is : place ≡ s.dimensions - suc n = omega (arith, count, some, at) in
-    let m_is : suc n ≡ m = omega (arith, one) in (
-      step ∙ ap (λ k. gone k t) place_is ∙ ap (λ w. gone (s.dimensions - suc n) w) is ∙ ap (λ k. projected k s) m_is,
-      omega (arith, d, count, some, one),
-    )
 
 pub low_high : (n : Numbers) (low high x : ℤ) → n.low ≡ Some low → n.high ≡ Some high → LiesBetween n x → (low ≤ℤ x)
     × (x ≤ℤ high)

@@ -172,10 +172,13 @@ record LastIs (t : Constraints) (y : ℤ) : Type 0 where
 alone_from : (t : Constraints) (y : ℤ) → 0 < t.dimensions → Satisfies (last_alone t) (y ∷ []) → LastIs t y
 alone_from t y some h =
     let p = t.parameters in
-    let a = (all_left 1 p (last_with_parameters t) (pos 1) (y ∷ []) [] refl).0
+    let one : pos 0 <ℤ pos 1 = omega (arith, ints) in
+    let a = (all_left 1 p (last_with_parameters t) (pos 1) (y ∷ []) [] one refl).0
     ((whole_point (last_alone t) (y ∷ [])).1 h) in
     let e = a.factor *ℤ pos 1 in
-    let b = (all_left 0 (t.dimensions - 1) (ranged t) e [] ((a.factor *ℤ y) ∷ (a.between ++ [])) refl).0 a.holds in
+    let some_e = mul_positive a.factor (pos 1) a.positive one in
+    let b = (all_left 0 (t.dimensions - 1) (ranged t) e [] ((a.factor *ℤ y) ∷ (a.between ++ [])) some_e refl).0
+    a.holds in
     let d = b.factor *ℤ e in
     let x = b.factor *ℤ (a.factor *ℤ y) in
     let ps = multiples b.factor (a.between ++ []) in
@@ -194,7 +197,7 @@ alone_from t y some h =
       denominator = d;
       front = b.between;
       params = ps;
-      positive = mul_positive b.factor e b.positive (mul_positive a.factor (pos 1) a.positive (omega (arith, ints)));
+      positive = mul_positive b.factor e b.positive some_e;
       size = size;
       count = count;
       range = λ k v inside.
@@ -221,7 +224,7 @@ far_value s n y less bounded h =
     let front = a.front ++ x ∷ [] in
     let asize = a.size in
     let size : length front ≡ s.dimensions - n = omega (arith, length-append a.front (x ∷ []), asize, td) in
-    let b = (projected_left n s (omega (arith, less)) d front a.params size).0
+    let b = (projected_left n s (omega (arith, less)) d front a.params a.positive size).0
     (subst (HoldsOver t.equalities t.rows d) (sym (one_more a.front x a.params)) a.holds) in
     let m = b.factor in
     let values = multiples m front ++ b.between in

@@ -1,6 +1,6 @@
 -- Rows and numbers that hold at each point of a set's projections, and why they are not found.
-use Rattle.std.specs.Prelude.{◌≡◌, ℕ, suc, ◌-◌, ◌<◌, ◌≤◌, ◌^◌, ℤ, pos, ◌≤ℤ◌, List, [], ◌∷◌, ◌++◌, length, get_or, All}
-use Rattle.std.specs.Prelude.{unsigned_abs, ◌⊎◌, Err, ⊤}
+use Rattle.std.specs.Prelude.{◌≡◌, ℕ, zero, suc, ◌-◌, ◌<◌, ◌≤◌, ◌^◌, ℤ, pos, ◌≤ℤ◌, List, [], ◌∷◌, ◌++◌, length, get_or, All}
+use Rattle.std.specs.Prelude.{unsigned_abs, ◌⊎◌, Result, Ok, Err, ⊤}
 use Rattle.whole_numbers.specs.Affine.{Affine, value_of}
 use Rattle.affine_forms.specs.Parts.{variables_of}
 use Rattle.integer_sets.specs.Constraints.{Constraints, IsSized, variables_in}
@@ -8,7 +8,7 @@ use Rattle.integer_sets.specs.Points.{Satisfies}
 use Rattle.fm_projection.specs.declared.stop.FmStop.{FmStop}
 use Rattle.fm_projection.specs.declared.stop.FmStop.TheVariants as fm
 use Rattle.fm_projection.specs.Gives.{Eliminates}
-use Rattle.fm_projection.specs.Projecting.{PassProjecting, projected}
+use Rattle.fm_projection.specs.Projecting.{Drops, PassProjecting, projected}
 use Rattle.fm_projection.specs.Alone.{AllPass, AreInRange, StopsAlone, last_alone, last_with_parameters, ranged}
 use Rattle.plain_scan.specs.Between.{HasSmallNumbers}
 use Rattle.plain_scan.specs.declared.outline.Shadow.{Shadow}
@@ -78,29 +78,42 @@ StopsShadow t (fm.Crowded pairs) = StopsAlone t (fm.Crowded pairs)
 StopsShadow t (fm.Large number) = PassAlone t × IsLargeOf (last_alone t) number
 StopsShadow t fm.NoMemory = ⊤
 
+-- the projection that comes behind n others: without the last dimension of the one before it, or the set itself as the
+-- first
+abbrev pub IsNext : ℕ → Constraints → Result Constraints FmStop → Type 0
+IsNext zero last result = result ≡ Ok last
+IsNext (suc n) last result = Drops (last.dimensions - 1) last result
+
 -- the first elimination of a set's projections that stops does so: of the others and the parameters, for the last
--- dimension alone, or then of the last dimension
+-- dimension alone, or then of the last dimension, if it is not the first
 pub record StopsAt (s : Constraints) (stop : FmStop) : Type 0 where
   pub before : ℕ
   pub less : before < s.dimensions
   pub passed : PassProjecting before s
   pub alone : PassEachAlone before s
   pub stops : StopsAlone (projected before s) stop
-      ⊎ (PassAlone (projected before s) × Eliminates (s.dimensions - suc before) (projected before s) (Err stop))
+      ⊎ ((suc before < s.dimensions) × PassAlone (projected before s)
+      × Eliminates (s.dimensions - suc before) (projected before s) (Err stop))
 
 -- a number beyond 2^40 is one of what is left of a projection's last dimension alone, where the eliminations on the way
--- pass; or it is one of the set's own, where all pass
+-- pass
 pub record IsLargeAt (s : Constraints) (number : ℤ) : Type 0 where
   pub before : ℕ
+  pub less : before < s.dimensions
   pub passed : PassProjecting before s
   pub alone : PassEachAlone before s
-  pub large : ((before < s.dimensions) × PassAlone (projected before s)
-      × IsLargeOf (last_alone (projected before s)) number)
-      ⊎ ((before ≡ s.dimensions) × IsLargeOf s number)
+  pub last : PassAlone (projected before s)
+  pub large : IsLargeOf (last_alone (projected before s)) number
+
+-- it is one of the set's own, where all eliminations of its projections pass
+pub record IsLargeOwn (s : Constraints) (number : ℤ) : Type 0 where
+  pub passed : PassProjecting (s.dimensions - 1) s
+  pub alone : PassEachAlone s.dimensions s
+  pub large : IsLargeOf s number
 
 -- why the shadows of a set are not found; want of memory is free
 abbrev pub StopsSet : Constraints → FmStop → Type 0
 StopsSet s (fm.Wide w) = StopsAt s (fm.Wide w)
 StopsSet s (fm.Crowded pairs) = StopsAt s (fm.Crowded pairs)
-StopsSet s (fm.Large number) = IsLargeAt s number
+StopsSet s (fm.Large number) = IsLargeAt s number ⊎ IsLargeOwn s number
 StopsSet s fm.NoMemory = ⊤

@@ -9,7 +9,7 @@ ghost use Rattle.fm_projection.specs.Alone.{last_alone};
 ghost use Rattle.fm_projection.specs.declared.stop.FmStop.TheVariants.{Large};
 ghost use Rattle.plain_scan.specs.Between.{AreNumbersOf, IsLargeOf};
 ghost use Rattle.plain_scan.specs.Outlines.{AreRows, AreShadows, HasSmallConstraints};
-ghost use Rattle.plain_scan.specs.Outlines.{IsEquality, IsOpen, IsOpenSomewhere};
+ghost use Rattle.plain_scan.specs.Outlines.{IsEquality, IsNext, IsOpen, IsOpenSomewhere};
 ghost use Rattle.plain_scan.specs.Outlines.{IsRow, IsShadowOf, PassAlone, StopsSet, StopsShadow};
 
 use crate::numbers::{Numbers, has_small_numbers, large_among, numbers_alone};
@@ -51,33 +51,56 @@ fn push_both(out: &mut Vec<Form>, form: &Form) -> Result<(), AllocError>
     }
 }
 
-/// Whether one of the rows has these coefficients and a constant below the limit.
-pub fn has_below(rows: &[Form], coefficients: &[i128], limit: i128) -> bool {
+/// Whether a row says no more than another wherever no parameter is negative: the same coefficients of so many
+/// dimensions, and none of a parameter less, nor the constant.
+fn is_looser(row: &Form, other: &Form, dimensions: usize) -> bool {
+    let (own, its) = (row.coefficients(), other.coefficients());
+    if own.len() != its.len() || own.len() < dimensions || row.constant() < other.constant() {
+        return false;
+    }
+    if own[..dimensions] != its[..dimensions] {
+        return false;
+    }
+    for at in dimensions..own.len() {
+        if own[at] < its[at] {
+            return false;
+        }
+    }
+    true
+}
+
+/// Whether one of the rows says all that the form does, and more if it is to.
+pub fn has_tighter(rows: &[Form], form: &Form, dimensions: usize, more: bool) -> bool {
     for row in rows {
-        if row.constant() < limit && row.coefficients() == coefficients {
+        if is_looser(form, row, dimensions) && !(more && is_looser(row, form, dimensions)) {
             return true;
         }
     }
     false
 }
 
-/// Appends a copy of the form where its numbers are small, if neither one of the others is a tighter row of the same
-/// coefficients nor the form is there already.
-fn push_tightest(out: &mut Vec<Form>, form: &Form, others: &[Form]) -> Result<(), AllocError>
+/// Appends a copy of the form where its numbers are small, if neither one of the others says more, no parameter being
+/// negative, nor one that is there already says as much.
+fn push_tightest(
+    out: &mut Vec<Form>,
+    form: &Form,
+    others: &[Form],
+    dimensions: usize,
+) -> Result<(), AllocError>
     ensures { OnOk result ((t : Constraints) → (HasSmallNumbers form.now → IsRow t form.now)
         → AreRows t out.old.items → AreRows t out.new.items) }
 {
-    if has_below(others, form.coefficients(), form.constant()) {
+    if has_tighter(others, form, dimensions, true) {
         return Ok(());
     }
-    if has_below(out, form.coefficients(), form.constant().saturating_add(1)) {
+    if has_tighter(out, form, dimensions, false) {
         return Ok(());
     }
     push_small(out, form)
 }
 
-/// The rows of a system, the tightest of those with the same coefficients, and its equalities as two rows, as far as
-/// their numbers are small.
+/// The rows of a system that say most, no parameter being negative, and its equalities as two rows, as far as their
+/// numbers are small.
 fn rows_of(alloc: Global, system: &System) -> Result<Vec<Form>, AllocError>
     ensures { IfOk result (λ v. AreRows system.now v.items) }
 {
@@ -86,7 +109,7 @@ fn rows_of(alloc: Global, system: &System) -> Result<Vec<Form>, AllocError>
         push_both(&mut out, form)?;
     }
     for form in system.rows() {
-        push_tightest(&mut out, form, system.rows())?;
+        push_tightest(&mut out, form, system.rows(), system.dimensions())?;
     }
     Ok(out)
 }
@@ -149,12 +172,24 @@ fn shadow_of(alloc: Global, projection: &System) -> Result<Option<Shadow>, FmSto
     }
 }
 
+/// The projection of a set that comes behind so many others: without the last dimension of the one before it, or the set
+/// itself as the first.
+fn next_projection(alloc: Global, last: System, count: usize) -> Result<System, FmStop>
+    requires { 0 < last.dimensions }
+    ensures { IsNext count last result }
+{
+    if count == 0 {
+        return Ok(last);
+    }
+    without(alloc, &last, last.dimensions() - 1)
+}
+
 /// The shadows of a set's projections, that on all dimensions first; None where a dimension has no bound from one side.
 ///
 /// # Errors
 /// `Wide` or `Crowded` as the first elimination that stops: of a projection's others and of the parameters, for its
-/// last dimension alone, or then of that dimension; `Large` with a number beyond 2^40 of what is left of a last
-/// dimension alone, or of a constraint of the set; `NoMemory`.
+/// last dimension alone, or then of that dimension, if it is not the first; `Large` with a number beyond 2^40 of what is
+/// left of a last dimension alone, or of a constraint of the set; `NoMemory`.
 pub fn outline_of(alloc: Global, set: &ScanSet) -> Result<Option<Vec<Shadow>>, FmStop>
     requires few { variables_in set.now.system < 2 ^ 32 }
     ensures found { IfOk result (λ found. MatchOption found (IsOpenSomewhere set.now.system)
@@ -173,7 +208,11 @@ pub fn outline_of(alloc: Global, set: &ScanSet) -> Result<Option<Vec<Shadow>>, F
         Ok(copy) => copy,
     };
     let mut shadows = Vec::new(alloc);
-    while left.dimensions() > 0 {
+    for count in 0..system.dimensions() {
+        match next_projection(alloc, left, count) {
+            Err(stop) => return Err(stop),
+            Ok(next) => left = next,
+        }
         match shadow_of(alloc, &left) {
             Err(stop) => return Err(stop),
             Ok(None) => return Ok(None),
@@ -181,10 +220,6 @@ pub fn outline_of(alloc: Global, set: &ScanSet) -> Result<Option<Vec<Shadow>>, F
                 Err(_) => return Err(FmStop::NoMemory),
                 Ok(()) => {}
             },
-        }
-        match without(alloc, &left, left.dimensions() - 1) {
-            Err(stop) => return Err(stop),
-            Ok(next) => left = next,
         }
     }
     match large_of(system) {

@@ -13,7 +13,7 @@ use crate::level::Level;
 use crate::part::Part;
 use crate::questions::{complement, is_void};
 use affine_forms::{Form, copies, push, push_copy};
-use plain_scan::shared::{Outline, has_below};
+use plain_scan::shared::{Outline, has_tighter};
 use std::alloc::{AllocError, Global};
 
 /// The greatest number of parts of a node.
@@ -52,13 +52,10 @@ fn push_part(
     Ok(())
 }
 
-/// Whether a row of the node or of the part says as much.
+/// Whether a row of the node or of the part says as much, no parameter being negative.
 fn is_known(level: &Level, cuts: &[Form], row: &Form) -> bool {
-    let limit = row.constant().saturating_add(1);
-    if has_below(&level.inside, row.coefficients(), limit) {
-        return true;
-    }
-    has_below(cuts, row.coefficients(), limit)
+    let dimensions = level.place + 1;
+    has_tighter(&level.inside, row, dimensions, false) || has_tighter(cuts, row, dimensions, false)
 }
 
 /// Cuts by a row of the next set: where the row does not hold, the set goes, and the rest goes on where it does.
