@@ -1,7 +1,6 @@
 -- What the steps of instances that are laid on a desk ask, and what is left of these behind each.
 use Rattle.std.proofs.Common.{◌≡◌, ◌∙◌, ◌+◌, ◌-◌, ◌<◌, ◌≤◌, ℕ, suc, ℤ, List, [], Some, length, get_or, ap, ap₂, subst, sym}
-use Rattle.std.proofs.Common.{arith}
-use Rattle.std.proofs.Common.{take}
+use Rattle.std.proofs.Common.{arith, take}
 use Rattle.std.specs.Prelude.{Option, slice_get}
 use Rattle.atomic_table.specs.declared.shared.Seat.{Seat}
 use Rattle.whole_numbers.specs.Lists.{sums}
@@ -14,6 +13,7 @@ use Rattle.stmt_table.specs.Codes.{value_by}
 use Rattle.stmt_table.specs.Desks.{HasRoom, HasSameRoom, IsLaid}
 use Rattle.stmt_table.specs.declared.desk.Desk.{Desk}
 use Rattle.stmt_table.specs.declared.table.Row.{Row}
+use Rattle.stmt_table.proofs.Desks.{room_stays, room_stays_for_all}
 use Rattle.tile_core.specs.Plans.{IsPlan, places_in, plan_of, shape_of}
 use Rattle.tile_core.specs.Ranks.{place_in}
 use Rattle.tile_core.specs.Rows.{IsFormed, IsRowAt}
@@ -106,24 +106,12 @@ module _ (plan : Plan) (s : Stage) (row : Row) (desk : Desk) (a : AreLaid plan s
   next_store cells xs c x tells long formed made =
       let p = plan_of plan cells in
       let within = a.within in
-      subst (λ (u : Stage). IsNextStore p u xs c x) (sym a.works)
-      (omega (arith, within), long ∙ (tells.reads ∙ ap (λ j. length (p.read j)) first_place),
-      tells.written c formed ∙ ap p.written first_place,
-      made ∙ (tells.value xs long ∙ ap (λ j. p.value j xs) first_place))
-
--- room is kept
-pub room_kept : (row : Row) (before after : Desk) → HasRoom row before → HasSameRoom before after → HasRoom row after
-room_kept row before after room same =
-    let c = room.cells in
-    let l = room.leaves in
-    let k = room.slots in
-    let d = same.cells in
-    let m = same.leaves in
-    let n = same.slots in record {
-      cells = omega (arith, c, d);
-      leaves = omega (arith, l, m);
-      slots = omega (arith, k, n);
-    }
+      subst (λ (u : Stage). IsNextStore p u xs c x) (sym a.works) (
+        omega (arith, within),
+        long ∙ (tells.reads ∙ ap (λ j. length (p.read j)) first_place),
+        tells.written c formed ∙ ap p.written first_place,
+        made ∙ (tells.value xs long ∙ ap (λ j. p.value j xs) first_place),
+      )
 
 -- behind the first of them the others are laid on a desk that has gone on
 pub others_laid : (plan : Plan) (s : Stage) (row : Row) (desk new : Desk) (n : ℕ) → AreLaid plan s row desk (suc n)
@@ -141,12 +129,18 @@ others_laid plan s row desk new n a on same =
       first = moved x a.steps 1;
       steps = a.steps;
       own = a.own;
-      room = room_kept row desk new a.room same;
+      room = room_stays row desk new a.room same;
       laid = on a.steps x.turns a.laid;
       walked = λ j l. subst (λ (y : Instance). In y (places_in plan)) (sym (along j)) (a.walked (suc j) (omega (arith, l)));
       place = λ j l. ap (place_in (places_in plan)) (along j) ∙ (a.place (suc j) (omega (arith, l))
           ∙ ap ((shape_of plan).place a.tile) (let q : a.done + suc j ≡ suc a.done + j = omega arith in q));
     }
+
+-- where a stage at work stands, with nothing more done
+pub stands : (s : Stage) (t k : ℕ) → s ≡ Working t k → s ≡ Working (tile_at s) (done_at s + 0)
+stands s t k e =
+    let done = ap done_at e in
+    e ∙ ap₂ Working (sym (ap tile_at e)) (let same : k ≡ done_at s + 0 = omega (arith, done) in same)
 
 module _ (words : Words) (row : Row) (seat : Seat (Unit {0}) View) (desk : Desk) (t d j count : ℕ)
     (is : IsSeat words (Working t (d + j)) [] seat) (a : AreLaid words.plan (Working t (d + j)) row desk (count - j))
@@ -178,10 +172,6 @@ module _ (words : Words) (row : Row) (seat : Seat (Unit {0}) View) (desk : Desk)
       (subst (λ (n : ℕ). AreLaid words.plan (Working t (d + j)) row desk n)
       (let q : count - j ≡ suc (count - (j + 1)) = omega (arith, less) in q) a) on same)
 
-pub same_room : (one two three : Desk) → HasSameRoom one two → HasSameRoom two three → HasSameRoom one three
-same_room one two three a b =
-    record { cells = b.cells ∙ a.cells; leaves = b.leaves ∙ a.leaves; slots = b.slots ∙ a.slots }
-
 -- a worker with another desk of the same room is still one of the plan
 pub worker_kept : (plan : Plan) (w : Worker) (new : Desk) → IsWorker plan w → HasSameRoom w.desk new
     → IsWorker plan (record w { desk = new })
@@ -189,5 +179,5 @@ worker_kept plan w new is same = record {
   spot = is.spot;
   tile = is.tile;
   next = is.next;
-  desk = record { each = λ k row e. room_kept row w.desk new (is.desk.each k row e) same };
+  desk = room_stays_for_all plan.table.now w.desk new is.desk same;
 }

@@ -40,8 +40,6 @@ fn lay_next<'a>(plan: &'a Plan, worker: &mut Worker) -> &'a Row
         → AreLaid plan.now worker.old.stage result.now worker.new.desk count }
     ensures worker { IsWorker plan.now worker.new }
     ensures stage { worker.new.stage ≡ worker.old.stage }
-    ensures reads { worker.new.reads ≡ worker.old.reads }
-    ensures next { worker.new.next ≡ worker.old.next }
     ensures spot { worker.new.spot ≡ worker.old.spot }
 {
     let Some(next) = worker.next else {
@@ -49,7 +47,11 @@ fn lay_next<'a>(plan: &'a Plan, worker: &mut Worker) -> &'a Row
     };
     let steps = worker.spot.stretch.steps;
     let row = plan.row(&next);
-    row.lay(&mut worker.desk, next.turns(), first_steps(&steps, next.loops));
+    row.lay(
+        &mut worker.desk,
+        next.turns(),
+        first_steps(&steps, next.loops),
+    );
     row
 }
 
