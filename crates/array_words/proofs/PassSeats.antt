@@ -1,7 +1,6 @@
--- The seat of a pass, and a pass of a seat.
-use Rattle.std.proofs.Common.{◌≡◌, ℕ, ◌∙◌, List, refl, subst, sym}
+-- The seat of a pass: what is known of where its worker stands is known of where its view does.
+use Rattle.std.proofs.Common.{ℕ, List, refl, subst, sym}
 use Rattle.tile_core.specs.Passes.{IsPass}
-use Rattle.tile_core.specs.Workers.{IsWorker}
 use Rattle.tile_core.specs.declared.words.Pass.{Pass}
 use Rattle.tile_core.specs.declared.words.Words.{Words}
 use Rattle.tile_core.specs.declared.worker.Stage.{Stage}
@@ -20,21 +19,7 @@ module _ (words : Words) (pass : Pass) where
     reads = refl;
   }
 
-  -- with a worker who stands where the seat does it is a pass
-  pub pass_of : (s : Stage) (xs : List ℕ) → IsSeat words s xs pass.seat → s ≡ pass.worker.stage
-      → xs ≡ pass.worker.reads.items → IsWorker words.plan pass.worker → IsPass words pass
-  pass_of s xs is stands reads worker = record {
-    of = is.of;
-    table = is.table;
-    key = is.key;
-    slots = is.slots;
-    parts = is.parts;
-    stage = is.stage ∙ stands;
-    reads = is.reads ∙ reads;
-    worker = worker;
-  }
-
-  -- what is known of where the worker stands is known of where the view does
+  -- what is known at the worker's stage and reads is known at the view's
   pub at_view : (P : Stage → List ℕ → Type 0) → IsPass words pass → P pass.worker.stage pass.worker.reads.items
       → P pass.seat.me.0.stage pass.seat.me.0.reads
   at_view P is p =
