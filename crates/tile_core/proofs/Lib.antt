@@ -9,6 +9,7 @@ pub mod Desks
 pub mod Ahead
 pub mod Workers
 pub mod Stretches
+pub mod Rounds
 pub mod Boards
 pub mod Acts
 pub mod BoardStretches
