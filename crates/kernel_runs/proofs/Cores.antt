@@ -29,7 +29,7 @@ by_first a b e x later h = subst (λ (p : Plan). step (shape_of p) (state_in b) 
 module _ (a b d : Core) (t k n : ℕ) (later : IsLater a b) (left : k < (shape_in a).size t)
     (alone : IsAlone (state_in b) (suc t) t (working t k []))
     (does : (u m : ℕ) → IsAtInstance (shape_in b) (state_in b) 0 u m
-        → DoesStretch (shape_in b) (state_in b) 0 u m n (state_in d)) where
+    → DoesStretch (shape_in b) (state_in b) 0 u m n (state_in d)) where
   pub some_more : DoesStretch (shape_in a) (state_in b) 0 t k n (state_in d)
   some_more =
       subst (λ (p : Plan). DoesStretch (shape_of p) (state_in b) 0 t k n (state_in d)) later.plan

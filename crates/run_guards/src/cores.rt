@@ -1,9 +1,11 @@
 //! Callers of the core over a kernel's plan: the opening state, events, the cells, and what plans execute.
 ghost use Rattle.std.specs.Prelude.{◌≡◌, ℕ, ◌<◌, ◌≤◌, IfOk, List, MatchOption, Some, length, slice_get, slice_index_or};
+ghost use mathlib.Core.Option.{some};
+ghost use lib.ListN.{get_elem?};
 ghost use Rattle.scop_syntax.specs.Cells.{Cell};
 ghost use Rattle.scop_syntax.specs.Execution.{IsCell, IsShaped, cell_number, exec, held, values_read_by};
 ghost use Rattle.scop_syntax.specs.Walk.{Visit};
-ghost use Rattle.tile_events.specs.Core.{State, step};
+ghost use Rattle.tile_events.specs.Core.{State, idle, step};
 ghost use Rattle.tile_events.specs.Flat.{flat};
 ghost use Rattle.tile_events.specs.Opening.{IsQuiet};
 ghost use Rattle.tile_events.specs.Plan.{GoodPlan, IsDealt, values_read};
@@ -62,6 +64,16 @@ pub fn replay_one(core: &mut Core, turn: Turn)
 {
     let turns = [turn];
     core.replay(&turns);
+}
+
+/// An idle worker does no instance, and nothing changes, by `none` of `Core::do_stretch`.
+pub fn stretch_of_an_idle_worker(core: &mut Core) -> usize
+    requires core { IsCore core.old }
+    requires worker { 0 < length (state_in core.old).workers }
+    requires idle { get_elem? (state_in core.old).workers 0 ≡ some idle }
+    ensures { (result ≡ 0) × (state_in core.new ≡ state_in core.old) }
+{
+    core.do_stretch(0)
 }
 
 /// How many cells there are, by the clause of `Core::cells`.

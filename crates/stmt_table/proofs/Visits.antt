@@ -19,7 +19,7 @@ use Rattle.standings.proofs.Heads.{as_many_heads}
 use Rattle.stmt_table.specs.Codes.{value_by}
 use Rattle.stmt_table.specs.Numbers.{number_at}
 use Rattle.stmt_table.specs.Points.{point_in}
-use Rattle.stmt_table.specs.Tables.{IsRowOf, IsTableOf, forms_in}
+use Rattle.stmt_table.specs.Tables.{IsRowOf, IsTableOf}
 use Rattle.stmt_table.specs.declared.table.Row.{Row}
 use Rattle.stmt_table.specs.declared.table.Table.{Table}
 use Rattle.stmt_table.proofs.Offsets.{number_exact}
@@ -81,13 +81,6 @@ row_of laws program params table x v is visit =
       point = ap (point_in (heads_in p.scopes) params) turned
           ∙ (sym (point_in_scopes p.scopes params xs) ∙ ap (λ (w : Visit). w.point) (sym stood.4));
     }
-
--- the forms of its accesses are those of the row
-pub forms_told : (program : Program) (params : List ℤ) (table : Table) (x : Instance) (v : Visit)
-    (has : HasRow program params table x v) → slice_get (forms_in table) x.number ≡ Some has.row.cells.items
-forms_told program params table x v has =
-    slice_get-map (λ (r : Row). r.cells.items) table.rows.items x.number
-    ∙ ap (option_map (λ (r : Row). r.cells.items)) has.told
 
 -- what the forms tell of an access is the number of the visit's cell
 pub cell_told : (program : Program) (params : List ℤ) (table : Table) (x : Instance) (v : Visit) (a : ℕ)

@@ -1,5 +1,5 @@
 -- A table of a program's statements, in which their cells and what they store are told by forms of the turns.
-use Rattle.std.specs.Prelude.{◌≡◌, ℕ, ℤ, List, length, map, slice_get, Some}
+use Rattle.std.specs.Prelude.{◌≡◌, ℕ, ℤ, List, length, slice_get, Some}
 use Rattle.whole_numbers.specs.Affine.{Affine, value_of}
 use Rattle.scop_syntax.specs.Cells.{accesses}
 use Rattle.scop_syntax.specs.Execution.{layout}
@@ -28,10 +28,6 @@ pub record AreForms (extents : List (List ℕ)) (params : List ℤ) (s : Standin
 pub record IsRowOf (extents : List (List ℕ)) (params : List ℤ) (s : Standing) (row : Row) : Type 0 where
   pub forms : AreForms extents params s row.cells.items
   pub stored : Stores params s.heads s.body.right row.code
-
--- the forms of each statement's accesses
-abbrev pub forms_in : Table → List (List Affine)
-forms_in table = map (λ row. row.cells.items) table.rows.items
 
 -- the table has the row of each of a program's statements
 pub record IsTableOf (program : Program) (params : List ℤ) (table : Table) : Type 0 where

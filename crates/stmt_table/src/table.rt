@@ -1,12 +1,12 @@
 //! The table of a kernel's statements.
-ghost use Rattle.std.specs.Prelude.{◌≡◌, ◌-◌, ◌<◌, ◌≤◌, IfOk, Some, [], length, slice_get, slice_index_or};
+ghost use Rattle.std.specs.Prelude.{◌≡◌, ◌<◌, IfOk, Some, length, slice_get};
 ghost use Rattle.whole_numbers.specs.Affine.{Affine, value_of};
 ghost use Rattle.scop_syntax.specs.Execution.{layout};
 ghost use Rattle.scop_syntax.specs.Limits.{WithinLimits};
 ghost use Rattle.scop_syntax.specs.Values.{wrapped};
-ghost use Rattle.scop_syntax.specs.View.{instance_of, program_of};
+ghost use Rattle.scop_syntax.specs.View.{program_of};
 ghost use Rattle.standings.specs.View.{standing_of};
-ghost use Rattle.stmt_table.specs.Tables.{AreForms, IsRowOf, IsTableOf, forms_in};
+ghost use Rattle.stmt_table.specs.Tables.{AreForms, IsRowOf, IsTableOf};
 ghost use Rattle.stmt_table.specs.steps.Forms.{CanForm};
 
 use crate::code::{Code, compiled};
@@ -14,7 +14,6 @@ use crate::forms::form_of;
 use scop_meaning::accesses::{access_at, read_count};
 use scop_syntax::affine_values::wrapped_at;
 use scop_syntax::arrays::Extents;
-use scop_syntax::instance::Instance;
 use scop_syntax::limit_laws::cells_lie_within_22_bits;
 use scop_syntax::tree::{Aff, Kernel};
 use scop_syntax::walk_laws::statements_are_numbered;
@@ -78,6 +77,17 @@ impl Row {
     {
         self.code.reads
     }
+
+    /// The number of the cell that access `access` touches at these turns, among those of all arrays: array after array as
+    /// declared, row by row, from 0. Access 0 is the place that is written, the reads are numbered from 1.
+    #[inline]
+    pub fn cell_at(&self, turns: &[i64], access: usize) -> usize
+        requires { access < length self.now.cells.items }
+        ensures { (form : Affine) → slice_get self.now.cells.items access ≡ Some form
+            → result ≡ wrapped (value_of form turns.now) }
+    {
+        wrapped_at(&self.cells[access], turns) as usize
+    }
 }
 
 impl Table {
@@ -103,36 +113,6 @@ impl Table {
             rows.push(row_of(alloc, statement, params, extents)?)?;
         }
         Ok(Table { rows })
-    }
-
-    /// How many cells each instance of the statement of this number reads.
-    pub fn reads(&self, statement: usize) -> usize
-        requires statement { statement < length (forms_in self.now) }
-        requires place { 1 ≤ length (slice_index_or (forms_in self.now) statement []) }
-        ensures { result ≡ length (slice_index_or (forms_in self.now) statement []) - 1 }
-    {
-        self.rows[statement].cells.len() - 1
-    }
-
-    /// The form of the access of this number.
-    fn form(&self, statement: usize, access: usize) -> &Aff
-        requires statement { statement < length (forms_in self.now) }
-        requires access { access < length (slice_index_or (forms_in self.now) statement []) }
-        ensures { slice_get (slice_index_or (forms_in self.now) statement []) access ≡ Some result.now }
-    {
-        &self.rows[statement].cells[access]
-    }
-
-    /// The number of the cell that access `access` of the instance touches, among those of all arrays: array after array
-    /// as declared, row by row, from 0. Access 0 is the place that is written, the reads are numbered from 1.
-    pub fn cell(&self, instance: &Instance, access: usize) -> usize
-        requires statement { instance.now.statement < length (forms_in self.now) }
-        requires access { access < length (slice_index_or (forms_in self.now) instance.now.statement []) }
-        ensures { (form : Affine)
-            → slice_get (slice_index_or (forms_in self.now) instance.now.statement []) access ≡ Some form
-            → result ≡ wrapped (value_of form (instance_of instance.now).turns) }
-    {
-        wrapped_at(self.form(instance.statement, access), instance.turns()) as usize
     }
 
     /// The row of the statement of this number.

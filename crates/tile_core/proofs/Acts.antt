@@ -76,7 +76,7 @@ module _ (p : Plan) (s : State) (id t k : ℕ) (v : Worker) (there : get_elem? s
       let found : get_or reads (length xs) 0 ≡ c =
       ap (λ (cs : List ℕ). get_or cs (length xs) 0) is ∙ get_or_at done c more 0 (length xs) (sym count) in
       let next : (step p (with_cells s id cells (working t k xs)) id load).0
-          ≡ with_cells s id cells (working t k (xs ++ x ∷ [])) =
+      ≡ with_cells s id cells (working t k (xs ++ x ∷ [])) =
       loads cells xs (omega (arith, n, long, count))
       ∙ ap (λ d. with_cells s id cells (working t k (xs ++ get_or cells d 0 ∷ []))) found in
       ap (λ (d : State). replay p d (instance_acts id (length more))) next

@@ -1,10 +1,8 @@
 -- A worker's desk at an instance of a plan: what its lanes tell there (`read_cell`, `written_cell`, `value_there`), and
 -- that it stays there.
-use Rattle.std.proofs.Common.{◌≡◌, ◌∙◌, ℕ, ℤ, suc, ◌+◌, ◌<◌, List, length, get_or, Some, ap, subst, refl, arith}
+use Rattle.std.proofs.Common.{◌≡◌, ◌∙◌, ℕ, ℤ, suc, ◌+◌, ◌<◌, List, length, get_or, Some, ap, subst, arith}
 use Rattle.std.specs.Prelude.{slice_get}
 use Rattle.std.proofs.lemmas.List.{length-map}
-use Rattle.whole_numbers.specs.Affine.{Affine, value_of}
-use Rattle.scop_syntax.specs.Values.{wrapped}
 use Rattle.scop_syntax.specs.Walk.{Instance}
 use Rattle.stmt_table.specs.Codes.{value_by}
 use Rattle.stmt_table.specs.Desks.{HasSameRoom, IsLaid}
@@ -15,19 +13,7 @@ use Rattle.tile_core.specs.Plans.{places_in, shape_of}
 use Rattle.tile_core.specs.Ranks.{place_in}
 use Rattle.tile_core.specs.declared.plan.Plan.{Plan}
 use Rattle.tile_core.specs.steps.Acts.{values_at}
-use Rattle.tile_core.specs.steps.Desks.{IsDeskAt, StaysLaid}
-
--- the number of an access where the desk is laid
-abbrev pub TellsCell : Row → Desk → ℕ → ℕ → Type 0
-TellsCell row desk access number =
-    (steps turns : List ℤ) (form : Affine) → IsLaid row steps turns desk
-    → slice_get row.cells.items access ≡ Some form → number ≡ wrapped (value_of form turns)
-
-pub stays : (row : Row) (desk : Desk) → StaysLaid row desk desk
-stays row desk = record {
-  laid = λ steps turns is. is;
-  room = record { cells = refl; leaves = refl; slots = refl };
-}
+use Rattle.tile_core.specs.steps.Desks.{IsDeskAt, StaysLaid, TellsCell}
 
 pub stays_then : (row : Row) (a b c : Desk) → StaysLaid row a b
     → ((steps turns : List ℤ) → IsLaid row steps turns b → IsLaid row steps turns c) → HasSameRoom b c

@@ -2,21 +2,18 @@
 use Rattle.std.proofs.Common.{◌≡◌, ◌∙◌, ap, sym, subst, ℕ, suc, ◌<◌, ◌^◌, ℤ, List, [], length, get_or, Some}
 use Rattle.std.proofs.Common.{arith}
 use Rattle.std.specs.Prelude.{slice_get}
-use Rattle.std.proofs.lemmas.Option.{get_or_from_slice_get, slice_get_within}
-use Rattle.whole_numbers.specs.Affine.{Affine, value_of}
+use Rattle.std.proofs.lemmas.Option.{slice_get_within}
 use Rattle.scop_syntax.specs.Cells.{Cell, accesses, cell_of, reads}
 use Rattle.scop_syntax.specs.Execution.{IsCell, cell_number, layout}
 use Rattle.scop_syntax.specs.Limits.{WithinLimits}
 use Rattle.scop_syntax.specs.Members.{In}
 use Rattle.scop_syntax.specs.Tree.{Program, Statement}
-use Rattle.scop_syntax.specs.Values.{wrapped}
 use Rattle.scop_syntax.specs.Walk.{Instance, Visit}
 use Rattle.scop_syntax.proofs.Members.{in_at, in_from_place}
 use Rattle.conflict_orders.proofs.SortedLists.{StandOnce}
 use Rattle.stmt_table.specs.Instances.{IsVisitOf}
-use Rattle.stmt_table.specs.Tables.{forms_in}
 use Rattle.stmt_table.specs.declared.table.Row.{Row}
-use Rattle.stmt_table.proofs.Visits.{HasRow, WalkLaws, cell_told, forms_told, reads_told, row_of, value_told}
+use Rattle.stmt_table.proofs.Visits.{HasRow, WalkLaws, cell_told, reads_told, row_of, value_told}
 use Rattle.tile_events.specs.Flat.{read_by, value_by}
 use Rattle.tile_events.specs.Plan.{IsDealt}
 use Rattle.tile_core.specs.Plans.{IsPlan, extents_in, places_in, program_in, shape_of, walk_in}
@@ -38,12 +35,6 @@ module _ (laws : WalkLaws) (plan : Plan) (x : Instance) (is : IsPlan plan) where
   pub row_at : (v : Visit) → IsVisitOf (program_in plan) plan.params.now x v → RowOf plan x v
   row_at v visit = row_of laws (program_in plan) plan.params.now plan.table.now x v is.table visit
 
-  -- the forms of a visit's row
-  forms_at : (v : Visit) (has : RowOf plan x v) → get_or (forms_in plan.table.now) x.number [] ≡ has.row.cells.items
-  forms_at v has =
-      get_or_from_slice_get (forms_in plan.table.now) x.number has.row.cells.items []
-      (forms_told (program_in plan) plan.params.now plan.table.now x v has)
-
   -- the table has a row of a walked instance
   pub row_within : In x (places_in plan) → x.number < length plan.table.now.rows.items
   row_within walked =
@@ -51,38 +42,19 @@ module _ (laws : WalkLaws) (plan : Plan) (x : Instance) (is : IsPlan plan) where
       let has = row_at t.0 t.1.is in
       slice_get_within plan.table.now.rows.items x.number has.row has.told
 
-  -- so it has its forms
-  pub forms_within : In x (places_in plan) → x.number < length (forms_in plan.table.now)
-  forms_within walked =
-      let t = there plan x walked in
-      let has = row_at t.0 t.1.is in
-      slice_get_within (forms_in plan.table.now) x.number has.row.cells.items
-      (forms_told (program_in plan) plan.params.now plan.table.now x t.0 has)
-
-  -- there is a form for the place and for each read
-  pub forms_counted : In x (places_in plan)
-      → length (get_or (forms_in plan.table.now) x.number [])
-      ≡ suc (length (read_by (extents_in plan) [] (slice_get (walk_in plan) (place_in (places_in plan) x))))
-  forms_counted walked =
-      let t = there plan x walked in
-      let has = row_at t.0 t.1.is in
-      let found = ap (λ (fs : List Affine). length fs) (forms_at t.0 has) in
-      let count = has.fits.forms.count in
-      let body = ap (λ (s : Statement). length (reads s)) has.body in
-      let many = reads_there plan x t.0 (extents_in plan) t.1 in
-      omega (arith, found, count, body, many)
-
-  -- a form of the table tells the cell of its access
-  pub tells_cell : AreSmall → (access result : ℕ)
-      → ((form : Affine) → slice_get (get_or (forms_in plan.table.now) x.number []) access ≡ Some form
-      → result ≡ wrapped (value_of form x.turns)) → TellsCell plan x access result
-  tells_cell small access result told v touched visit at =
+  -- a number by the form of an access is that of its cell
+  tells_cell : AreSmall → (row : Row) → slice_get plan.table.now.rows.items x.number ≡ Some row → (access number : ℕ)
+      → IsFormed row x access number → TellsCell plan x access number
+  tells_cell small row told access number tells v touched visit at =
       let program = program_in plan in
+      let params = plan.params.now in
       let has = row_at v visit in
+      let both : Some row ≡ Some has.row = sym told ∙ has.told in
+      let same : row ≡ has.row = cc in
       let cell = is.inside v visit.walked touched (in_from_place (accesses v.body) access touched at) in
-      cell_told program plan.params.now plan.table.now x v access touched result cell
-      (small program plan.params.now (cell_of touched v.point) is.limits cell) has at
-      (λ form e. told form (ap (λ (fs : List Affine). slice_get fs access) (forms_at v has) ∙ e))
+      cell_told program params plan.table.now x v access touched number cell
+      (small program params (cell_of touched v.point) is.limits cell) has at
+      (λ form e. tells form (ap (λ (r : Row). slice_get r.cells.items access) same ∙ e))
 
   -- what the row of a walked instance tells
   pub row_tells : AreSmall → StandOnce (program_in plan) plan.params.now → ArePlaced → IsDealt (shape_of plan)
@@ -104,18 +76,15 @@ module _ (laws : WalkLaws) (plan : Plan) (x : Instance) (is : IsPlan plan) where
       let count = has.fits.forms.count in
       let body = ap (λ (s : Statement). length (reads s)) has.body in
       let few = few_reads plan x (extents_in plan) laws.found placed is walked in
-      let formed : (access number : ℕ) → IsFormed has.row x access number → TellsCell plan x access number =
-      λ access number tells. tells_cell small access number
-      (λ form e. tells form (sym (ap (λ (fs : List Affine). slice_get fs access) (forms_at v has)) ∙ e)) in
       subst (λ r. IsRowAt plan r x) same (record {
         made = has.fits.stored.made;
         accesses = omega (arith, count, body, told_reads);
         reads = sym told_reads ∙ sym many;
         few = omega (arith, few, told_reads, many);
-        written = λ number tells. written_is plan x number is walked (formed 0 number tells);
+        written = λ number tells. written_is plan x number is walked (tells_cell small has.row has.told 0 number tells);
         written_inside = dealt.written place within;
         read = λ r number l tells. read_is plan x r number once is walked (omega (arith, l, told_reads, many))
-            (formed (suc r) number tells);
+            (tells_cell small has.row has.told (suc r) number tells);
         read_inside = λ r l. dealt.read place (get_or touched r 0) within
             (in_at touched r 0 (omega (arith, l, told_reads, many)));
         value = λ values long. value_told program params plan.table.now x v values has (long ∙ sym told_reads)

@@ -170,6 +170,7 @@ impl Board {
 }
 
 /// The cell's value.
+#[inline]
 fn cell_at(cells: &[u64], at: usize) -> u64
     requires { at < length cells.now }
     ensures { result ≡ get_or cells.now at 0 }

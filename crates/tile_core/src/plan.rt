@@ -10,11 +10,7 @@ ghost use Rattle.tile_core.specs.Plans.{IsPlan, place_of, places_in, shape_of};
 use crate::plan_laws::{plans_are_good, rows_tell_instances};
 use loop_tree::Tree;
 use scop_syntax::instance::Instance;
-use scop_syntax::limit_laws::cells_lie_within_22_bits;
 use scop_syntax::tree::Kernel;
-use scop_syntax::walk_laws::{
-    instances_are_those_of_statements, statements_are_numbered, walks_are_in_order,
-};
 use stmt_table::desk::Desk;
 use stmt_table::table::{Row, Table};
 use tile_list::{Tile, TileList};
@@ -30,6 +26,7 @@ pub struct Plan<'a> {
 }
 
 /// The tile with this number.
+#[inline]
 fn tile_at(tiles: &[Tile], at: usize) -> &Tile
     requires { at < length tiles.now }
     ensures { slice_get tiles.now at ≡ Some result.now }
@@ -38,6 +35,7 @@ fn tile_at(tiles: &[Tile], at: usize) -> &Tile
 }
 
 /// The number there.
+#[inline]
 fn number_at(numbers: &[usize], at: usize) -> usize
     requires { at < length numbers.now }
     ensures { slice_get numbers.now at ≡ Some result }
@@ -47,6 +45,7 @@ fn number_at(numbers: &[usize], at: usize) -> usize
 
 impl<'a> Plan<'a> {
     /// How many tiles there are.
+    #[inline]
     pub fn tiles(&self) -> u64
         ensures { result ≡ (shape_of self.now).tiles }
     {
@@ -54,6 +53,7 @@ impl<'a> Plan<'a> {
     }
 
     /// A tile.
+    #[inline]
     pub fn tile(&self, tile: u64) -> &Tile
         requires { tile < (shape_of self.now).tiles }
         ensures { slice_get self.now.list.now.tiles.items tile ≡ Some result.now }
@@ -72,54 +72,13 @@ impl<'a> Plan<'a> {
     }
 
     /// How many instances the tile has.
+    #[inline]
     pub fn size(&self, tile: u64) -> usize
         requires plan { IsPlan self.now }
         requires tile { tile < (shape_of self.now).tiles }
         ensures { result ≡ (shape_of self.now).size tile }
     {
         self.tile(tile).size
-    }
-
-    /// How many cells the instance reads.
-    pub fn reads(&self, instance: &Instance) -> usize
-        requires plan { IsPlan self.now }
-        requires walked { In (instance_of instance.now) (places_in self.now) }
-        ensures count { result ≡ length ((shape_of self.now).read (place_of self.now instance.now)) }
-        ensures few { result ≤ 16 }
-    {
-        instances_are_those_of_statements();
-        statements_are_numbered();
-        self.table.reads(instance.statement)
-    }
-
-    /// The cell of read `read` of the instance, by its number among those of all arrays.
-    pub fn cell_read(&self, instance: &Instance, read: usize) -> usize
-        requires plan { IsPlan self.now }
-        requires walked { In (instance_of instance.now) (places_in self.now) }
-        requires read { read < length ((shape_of self.now).read (place_of self.now instance.now)) }
-        ensures cell { result ≡ get_or ((shape_of self.now).read (place_of self.now instance.now)) read 0 }
-        ensures inside { result < (shape_of self.now).cells }
-    {
-        plans_are_good();
-        walks_are_in_order();
-        instances_are_those_of_statements();
-        statements_are_numbered();
-        cells_lie_within_22_bits();
-        self.table.cell(instance, read + 1)
-    }
-
-    /// The cell that the instance writes, by its number among those of all arrays.
-    pub fn cell_written(&self, instance: &Instance) -> usize
-        requires plan { IsPlan self.now }
-        requires walked { In (instance_of instance.now) (places_in self.now) }
-        ensures cell { result ≡ (shape_of self.now).written (place_of self.now instance.now) }
-        ensures inside { result < (shape_of self.now).cells }
-    {
-        plans_are_good();
-        instances_are_those_of_statements();
-        statements_are_numbered();
-        cells_lie_within_22_bits();
-        self.table.cell(instance, 0)
     }
 
     /// The row of the instance's statement.
@@ -132,6 +91,40 @@ impl<'a> Plan<'a> {
     {
         rows_tell_instances();
         self.table.row(instance.statement)
+    }
+
+    /// How many cells the instance reads.
+    #[inline]
+    pub fn reads(&self, instance: &Instance) -> usize
+        requires plan { IsPlan self.now }
+        requires walked { In (instance_of instance.now) (places_in self.now) }
+        ensures count { result ≡ length ((shape_of self.now).read (place_of self.now instance.now)) }
+        ensures few { result ≤ 16 }
+    {
+        self.row(instance).reads()
+    }
+
+    /// The cell of read `read` of the instance, by its number among those of all arrays.
+    #[inline]
+    pub fn cell_read(&self, instance: &Instance, read: usize) -> usize
+        requires plan { IsPlan self.now }
+        requires walked { In (instance_of instance.now) (places_in self.now) }
+        requires read { read < length ((shape_of self.now).read (place_of self.now instance.now)) }
+        ensures cell { result ≡ get_or ((shape_of self.now).read (place_of self.now instance.now)) read 0 }
+        ensures inside { result < (shape_of self.now).cells }
+    {
+        self.row(instance).cell_at(instance.turns(), read + 1)
+    }
+
+    /// The cell that the instance writes, by its number among those of all arrays.
+    #[inline]
+    pub fn cell_written(&self, instance: &Instance) -> usize
+        requires plan { IsPlan self.now }
+        requires walked { In (instance_of instance.now) (places_in self.now) }
+        ensures cell { result ≡ (shape_of self.now).written (place_of self.now instance.now) }
+        ensures inside { result < (shape_of self.now).cells }
+    {
+        self.row(instance).cell_at(instance.turns(), 0)
     }
 
     /// What the instance stores, where its reads have these values. The desk is laid anew for it.

@@ -71,6 +71,7 @@ fn desks_of(alloc: Global, table: &Table, count: usize) -> Result<Vec<Desk>, All
 
 /// How many instances from one on go by the steps of a stretch, where so many are left at most: all that the stretch has
 /// left, where this is the instance in front of it.
+#[inline]
 fn along(stretch: &Stretch, instance: &Instance, most: usize) -> usize
     requires { 1 ≤ most }
     ensures some { 1 ≤ result }
@@ -88,6 +89,7 @@ fn along(stretch: &Stretch, instance: &Instance, most: usize) -> usize
 }
 
 /// Leaves out all that a stretch has left, where more than one instance was done.
+#[inline]
 fn leave(spot: &mut Spot, count: usize)
     requires { (count ≡ 1) ⊎ (count ≡ suc spot.old.stretch.left) }
     ensures spot { (ts : Trees) (params : List ℤ) → IsSpotOf ts params spot.old → IsSpotOf ts params spot.new }
@@ -214,6 +216,7 @@ impl Worker {
 
     /// How many instances it has ahead that go by the steps of its spot's stretch, the next one among them; 0 where it has
     /// none due.
+    #[inline]
     pub fn ahead(&self, plan: &Plan) -> usize
         requires plan { IsPlan plan.now }
         requires worker { IsWorker plan.now self.now }
@@ -251,6 +254,7 @@ impl Worker {
     }
 
     /// Keeps a value that was read.
+    #[inline]
     pub fn read(&mut self, value: u64)
         requires { length self.old.reads.items < 16 }
         ensures stage { self.new.stage ≡ self.old.stage }
@@ -277,6 +281,7 @@ impl Worker {
     }
 
     /// Goes on to the instance behind so many that it has done.
+    #[inline]
     pub fn pass_by(&mut self, plan: &Plan, count: usize)
         requires plan { IsPlan plan.now }
         requires worker { IsWorker plan.now self.old }
@@ -322,6 +327,7 @@ impl Worker {
     }
 
     /// Goes on to the instance behind the one that it has done.
+    #[inline]
     pub fn advance(&mut self, plan: &Plan)
         requires plan { IsPlan plan.now }
         requires worker { IsWorker plan.now self.old }

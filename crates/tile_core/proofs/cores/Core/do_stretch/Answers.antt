@@ -23,9 +23,3 @@ pub returns-clause-workers : goal.returns-clause-workers
 returns-clause-workers c =
     stretch_count (laws (goal.at.returns-clause-workers c).After-do_stretch) c.args.self.now.plan
     c.args.self.now.board c.do_stretch.new.self c.args.worker c.do_stretch.result c.do_stretch.ensures
-
-pub returns-clause-stretch : goal.returns-clause-stretch
-returns-clause-stretch c = c.do_stretch.ensures.stretch
-
-pub returns-clause-none : goal.returns-clause-none
-returns-clause-none c = c.do_stretch.ensures.none
