@@ -189,14 +189,16 @@ module _ (plan : Plan) (stage : Stage) (t k : ℕ) (i : CodeInstance) (spot : Sp
       (taken_at b.strands count at within ∙ there)
       ∙ ap (λ (n : ℕ). Some (in_round s n)) (let q : 0 + round ≡ round = omega arith in q))
 
-  pub woven_is : rounds * count < (shape_of plan).size t - k → IsWoven plan stage (Some i) spot rounds
-  woven_is fits =
+  pub woven_is : 0 < rounds → rounds * count < (shape_of plan).size t - k
+      → IsWoven plan stage (Some i) spot rounds
+  woven_is some fits =
       let xs = scan_in plan in
       let part : IsPart ((shape_of plan).size t - k) spot.stretch.left 1 =
       record { within = omega (arith, left); way = inl refl } in record {
         first = ahead_is plan stage t k i spot 1 is works left next (omega arith) part
             (λ (more : 1 < 1). absurd (omega (arith, more)));
         alone = alone;
+        some = some;
         few = few;
         has = has;
         within = λ u m. at_stage (λ v n. n + suc (rounds * count) ≤ (shape_of plan).size v) stage t k u m works

@@ -73,6 +73,7 @@ pub record IsWoven (plan : Plan) (stage : Stage) (next : Option CodeInstance) (s
     (rounds : ℕ) : Type 0 where
   pub first : IsAhead plan stage next spot.stretch 1
   pub alone : spot.stretch.left ≡ 0
+  pub some : 0 < rounds
   pub few : spot.braid.count ≤ 4
   pub has : HasRounds spot.braid rounds
   pub within : (t k : ℕ) → stage ≡ Working t k → k + suc (rounds * spot.braid.count) ≤ (shape_of plan).size t

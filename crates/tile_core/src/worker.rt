@@ -303,27 +303,31 @@ impl Worker {
         }
     }
 
-    /// Goes on behind its next instance and so many whole rounds behind it, which it has done.
-    pub fn pass_rounds(&mut self, plan: &Plan, rounds: usize)
+    /// Goes on behind its next instance and so many whole rounds behind it, which it has done; tells how many instances
+    /// these are.
+    pub fn pass_rounds(&mut self, plan: &Plan, rounds: usize) -> usize
         requires plan { IsPlan plan.now }
         requires worker { IsWorker plan.now self.old }
         requires woven { IsWoven plan.now self.old.stage self.old.next self.old.spot rounds }
         ensures stage { (t k : ℕ) → self.old.stage ≡ stage_of.Working t k
             → self.new.stage ≡ stage_of.Working t (k + suc (rounds * self.old.spot.braid.count)) }
+        ensures count { (t k : ℕ) → self.old.stage ≡ stage_of.Working t k
+            → result ≡ suc (rounds * self.old.spot.braid.count) }
         ensures reads { self.new.reads.items ≡ [] }
         ensures worker { IsWorker plan.now self.new }
     {
         self.reads.clear();
         let Stage::Working(tile, done) = self.stage else {
-            return;
+            return 0;
         };
         let size = plan.size(tile);
-        let passed = done + 1 + rounds * self.spot.braid.count;
-        self.stage = Stage::Working(tile, passed);
-        if passed < size {
+        let count = 1 + rounds * self.spot.braid.count;
+        self.stage = Stage::Working(tile, done + count);
+        if done + count < size {
             leave_braid(&mut self.spot, rounds);
             self.next = self.spot.next(plan.tree, plan.params);
         }
+        count
     }
 
     /// Goes on to the instance behind the one that it has done.

@@ -30,4 +30,4 @@ returns-in-Some c some =
     (woven_is plan w.stage t k c.in-Some.field-0.now w.spot rounds c.requires.plan c.in-Working.is left
     (subst (λ o. IsNext plan ((deal_of plan).start t + k) o w.spot) next
     (c.requires.worker.next t k c.in-Working.is left)) (omega (arith, none)) (c.rounds_left-rounds.ensures.strands more) c.requires.worker.spot.braid.few has
-    (omega (arith, within, size)))
+    some (omega (arith, within, size)))
