@@ -212,7 +212,7 @@ module _ (plan : Plan) (stage : Stage) (t k : ℕ) (i : CodeInstance) (spot : Sp
             ≡ (shape_of plan).place v (n + suc (round * count + at))) stage t k u m works
             (ap (rank_in (places_in plan)) (sym (scanned round at s less within there)
             ∙ ap (slice_get xs) (let q : suc from + (round * count + at)
-                ≡ (deal_of plan).start t + (k + suc (round * count + at)) = omega arith in q))) e;
+            ≡ (deal_of plan).start t + (k + suc (round * count + at)) = omega arith in q))) e;
       }
 
 -- a braid of which the strand that is next has nothing left

@@ -58,7 +58,7 @@ module _ (table : Table) (b : Braid) (desks : List Desk) (i : ℕ) (desk : Desk)
       elim (eq-or-lt_of_le (let e : at ≤ i = omega (arith, high) in e)) [
         | inr less ↦ others_laid 0 i round (inr (omega arith)) laid at strand d low less there row has
         | inl e ↦ (let both : Some s ≡ Some strand =
-              sym here ∙ (ap (slice_get b.strands) (sym e) ∙ there) in
+            sym here ∙ (ap (slice_get b.strands) (sym e) ∙ there) in
             let same : s ≡ strand = cc in
             subst (λ (y : Desk). IsLaid row (take strand.before.loops strand.steps) (in_round strand round).turns y)
             (sym (ap (λ (n : ℕ). get_or (set desks i desk) n d) e ∙ get_or-set_same desks i desk d within))

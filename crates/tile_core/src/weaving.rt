@@ -24,7 +24,11 @@ fn lay_strand(table: &Table, strand: &Stretch, desk: &mut Desk)
     ensures room { HasRoomForAll table.now desk.new }
 {
     let row = table.row(strand.before.statement);
-    row.lay(desk, strand.before.turns(), &strand.steps[..strand.before.loops]);
+    row.lay(
+        desk,
+        strand.before.turns(),
+        &strand.steps[..strand.before.loops],
+    );
     row.go_on(desk);
 }
 

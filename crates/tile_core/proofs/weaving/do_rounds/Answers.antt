@@ -44,10 +44,10 @@ loop-preserved c =
     let inv = c.loop.invariant in
     let new = c.do_round.new.worker in
     let gives = subst (λ (v : Worker). (round t k : ℕ) → IsRound plan v.spot.braid round t k w.desks.items
-        → c.do_round.new.cells ≡ after_instances p t k v.spot.braid.count c.loop.cells) inv.same c.do_round.ensures.cells in
+    → c.do_round.new.cells ≡ after_instances p t k v.spot.braid.count c.loop.cells) inv.same c.do_round.ensures.cells in
     let goes = subst (λ (v : Worker). (round : ℕ)
-        → AreLaid table v.spot.braid 0 v.spot.braid.count round w.desks.items
-        → AreLaid table v.spot.braid 0 v.spot.braid.count (suc round) new.desks.items) inv.same c.do_round.ensures.laid in
+    → AreLaid table v.spot.braid 0 v.spot.braid.count round w.desks.items
+    → AreLaid table v.spot.braid 0 v.spot.braid.count (suc round) new.desks.items) inv.same c.do_round.ensures.laid in
     let next : suc q ≡ q + 1 = omega arith in record {
       cells = λ t k works.
           gives q t (suc k + q * count) record {
