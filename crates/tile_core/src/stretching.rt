@@ -1,4 +1,5 @@
-//! Instances that a worker has ahead, done on a row of cells by its desk, one after another.
+//! Instances that a worker has ahead, done on a row of cells by its desk, one after another. Promises that the cells end
+//! as those instances of its tile leave them, each by the values that its reads find.
 ghost use Rattle.std.specs.Prelude.{◌≡◌, ℕ, ℤ, List, length, take};
 ghost use Rattle.scop_syntax.specs.Walk.{Instance};
 ghost use Rattle.stmt_table.specs.Desks.{HasSameRoom, IsLaid};
