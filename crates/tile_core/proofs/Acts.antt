@@ -109,6 +109,16 @@ from_there p s id t k (suc n) cells v there stores within =
     ∙ ap (λ m. with_cells s id (after_instances p t k (suc n) cells) (working t m []))
     (let e : suc (k + n) ≡ k + suc n = omega arith in e)))
 
+-- n instances behind m others
+pub after_more : (p : Plan) (t k m n : ℕ) (cells : List ℕ)
+    → after_instances p t (k + m) n (after_instances p t k m cells) ≡ after_instances p t k (m + n) cells
+after_more p t k m zero cells =
+    ap (λ i. after_instances p t k i cells) (let e : m ≡ m + 0 = omega arith in e)
+after_more p t k m (suc n) cells =
+    ap₂ (λ (i : ℕ) (ys : List ℕ). after_instance p t i ys) (let e : (k + m) + n ≡ k + (m + n) = omega arith in e)
+    (after_more p t k m n cells)
+    ∙ ap (λ i. after_instances p t k i cells) (let e : suc (m + n) ≡ m + suc n = omega arith in e)
+
 -- what the events of n instances leave, where the worker is at the first of them and has read nothing
 pub stretch_run : (p : Plan) (s : State) (id t k n : ℕ) → get_elem? s.workers id ≡ some (working t k [])
     → ((c : ℕ) → p.adds c ≡ false) → k + n ≤ p.size t

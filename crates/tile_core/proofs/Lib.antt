@@ -9,6 +9,8 @@ pub mod Desks
 pub mod Ahead
 pub mod Workers
 pub mod Stretches
+pub mod Rounds
+pub mod Strands
 pub mod Boards
 pub mod Acts
 pub mod BoardStretches

@@ -24,7 +24,7 @@ use Rattle.tile_events.specs.Sound.{Holds}
 use Rattle.tile_core.specs.Plans.{IsPlan, deal_of, places_in, program_in, scan_in, shape_of, walk_in}
 use Rattle.tile_core.specs.Ranks.{rank_in, start_at}
 use Rattle.tile_events.specs.Core.{idle}
-use Rattle.tile_core.specs.Workers.{HasNoneDue, IsDue, IsNext, IsWorker, staged, worker_of}
+use Rattle.tile_core.specs.Workers.{AreDesks, HasNoneDue, IsDue, IsNext, IsWorker, staged, worker_of}
 use Rattle.tile_core.specs.declared.plan.Plan.{Plan}
 use Rattle.tile_core.specs.declared.worker.Stage.{Stage}
 use Rattle.tile_core.specs.declared.worker.Stage.TheVariants.{Idle, Working}
@@ -34,12 +34,13 @@ use Rattle.tile_core.proofs.Plans.{sizes_agree}
 
 -- a worker that holds no tile
 pub idle_is : (plan : Plan) (w : Worker) → w.stage ≡ Idle → IsSpotOf (trees_in plan.tree.now) plan.params.now w.spot
-    → HasRoomForAll plan.table.now w.desk → IsWorker plan w
-idle_is plan w is spot desk = record {
+    → HasRoomForAll plan.table.now w.desk → AreDesks plan.table.now w.desks.items → IsWorker plan w
+idle_is plan w is spot desk desks = record {
   spot = spot;
   tile = λ t h. absurd (subst (λ s. Holds (staged s w.reads.items) t) is h);
   next = λ t k e l. absurd (differ t k (sym is ∙ e));
   desk = desk;
+  desks = desks;
 }
   where
     differ : (t k : ℕ) → Idle ≡ Working t k → ⊥
@@ -48,8 +49,9 @@ idle_is plan w is spot desk = record {
 -- one at work
 pub at_work : (plan : Plan) (w : Worker) (t k : ℕ) → w.stage ≡ Working t k
     → IsSpotOf (trees_in plan.tree.now) plan.params.now w.spot → HasRoomForAll plan.table.now w.desk
-    → t < (shape_of plan).tiles → (k < (shape_of plan).size t → IsNext plan ((deal_of plan).start t + k) w.next w.spot) → IsWorker plan w
-at_work plan w t k is spot desk less next = record {
+    → AreDesks plan.table.now w.desks.items → t < (shape_of plan).tiles
+    → (k < (shape_of plan).size t → IsNext plan ((deal_of plan).start t + k) w.next w.spot) → IsWorker plan w
+at_work plan w t k is spot desk desks less next = record {
   spot = spot;
   tile = λ u h.
       let same : t ≡ u = subst (λ s. Holds (staged s w.reads.items) u) is h in
@@ -63,6 +65,7 @@ at_work plan w t k is spot desk less next = record {
       subst (λ v. IsNext plan ((deal_of plan).start v + m) w.next w.spot) p
       (subst (λ v. IsNext plan ((deal_of plan).start t + v) w.next w.spot) q (next l));
   desk = desk;
+  desks = desks;
 }
 
 -- an idle worker behind others

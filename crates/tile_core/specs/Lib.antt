@@ -4,6 +4,7 @@ pub mod steps
 pub mod Plans
 pub mod Workers
 pub mod Stretches
+pub mod Strands
 pub mod Boards
 pub mod Cores
 pub mod Views

@@ -1,10 +1,13 @@
--- Instances of a tile that follow one another by equal steps: what a worker has ahead, and what it may pass by.
-use Rattle.std.specs.Prelude.{◌≡◌, ◌+◌, ◌-◌, ◌<◌, ◌≤◌, ◌⊎◌, ℕ, zero, suc, ℤ, List, Option, Some, take}
+-- Instances of a tile that follow one another by equal steps, or in rounds of a few that do: what a worker has ahead, and
+-- what it may pass by.
+use Rattle.std.specs.Prelude.{◌≡◌, ◌+◌, ◌-◌, ◌*◌, ◌<◌, ◌≤◌, ◌⊎◌, ℕ, zero, suc, ℤ, All, List, Option, Some, slice_get, take}
 use Rattle.whole_numbers.specs.Lists.{sums}
 use Rattle.scop_syntax.specs.Members.{In}
 use Rattle.scop_syntax.specs.View.{instance_of}
 use Rattle.scop_syntax.specs.Walk.{Instance}
 use Rattle.scop_syntax.specs.declared.instance.Instance.{Instance as CodeInstance}
+use Rattle.loop_tree.specs.declared.braid.Braid.{Braid}
+use Rattle.loop_tree.specs.declared.spot.Spot.{Spot}
 use Rattle.loop_tree.specs.declared.stretch.Stretch.{Stretch}
 use Rattle.tile_core.specs.Plans.{places_in, shape_of}
 use Rattle.tile_core.specs.Ranks.{place_in}
@@ -54,3 +57,29 @@ pub record IsAhead (plan : Plan) (stage : Stage) (next : Option CodeInstance) (s
       → place_in (places_in plan) (moved (instance_of instance) (take instance.loops stretch.steps) j)
       ≡ (shape_of plan).place tile (done + j)
   pub passes : CanPass plan stage stretch count
+
+-- so many rounds are left of a braid, the first strand of which is next
+pub record HasRounds (b : Braid) (rounds : ℕ) : Type 0 where
+  pub turn : b.at ≡ 0
+  pub lefts : All (λ s. s.left ≡ rounds) (take b.count b.strands)
+
+-- what a strand gives in a round, where the first round has number 0
+abbrev pub in_round : Stretch → ℕ → Instance
+in_round s round = moved (instance_of s.before) (take s.before.loops s.steps) (suc round)
+
+-- a worker has its next instance ahead, and behind it as many whole rounds as are left of its spot's braid: they are
+-- those of its tile, strand after strand and round after round
+pub record IsWoven (plan : Plan) (stage : Stage) (next : Option CodeInstance) (spot : Spot)
+    (rounds : ℕ) : Type 0 where
+  pub first : IsAhead plan stage next spot.stretch 1
+  pub alone : spot.stretch.left ≡ 0
+  pub some : 0 < rounds
+  pub few : spot.braid.count ≤ 4
+  pub has : HasRounds spot.braid rounds
+  pub within : (t k : ℕ) → stage ≡ Working t k → k + suc (rounds * spot.braid.count) ≤ (shape_of plan).size t
+  pub walked : (round at : ℕ) (strand : Stretch) → round < rounds → at < spot.braid.count
+      → slice_get spot.braid.strands at ≡ Some strand → In (in_round strand round) (places_in plan)
+  pub place : (t k round at : ℕ) (strand : Stretch) → stage ≡ Working t k → round < rounds → at < spot.braid.count
+      → slice_get spot.braid.strands at ≡ Some strand
+      → place_in (places_in plan) (in_round strand round)
+      ≡ (shape_of plan).place t (k + suc (round * spot.braid.count + at))

@@ -1,5 +1,5 @@
 -- A worker in memory as plain data, and where it stands in the visits of the plan's tree.
-use Rattle.std.specs.Prelude.{◌≡◌, ℕ, suc, ◌+◌, ◌<◌, ◌≤◌, List, drop, slice_get, Option}
+use Rattle.std.specs.Prelude.{◌≡◌, ℕ, suc, ◌+◌, ◌<◌, ◌≤◌, All, List, drop, length, slice_get, Option}
 use Rattle.std.specs.Option.{option_map}
 use Rattle.scop_syntax.specs.Members.{In}
 use Rattle.scop_syntax.specs.View.{instance_of}
@@ -8,6 +8,8 @@ use Rattle.loop_tree.specs.SpotView.{IsSpotOf, to_come}
 use Rattle.loop_tree.specs.View.{trees_in}
 use Rattle.loop_tree.specs.declared.spot.Spot.{Spot}
 use Rattle.stmt_table.specs.Desks.{HasRoomForAll}
+use Rattle.stmt_table.specs.declared.desk.Desk.{Desk}
+use Rattle.stmt_table.specs.declared.table.Table.{Table}
 use Rattle.tile_events.specs.Core as core
 use Rattle.tile_events.specs.Sound.{Holds}
 use Rattle.tile_core.specs.Plans.{deal_of, place_of, places_in, scan_in, shape_of}
@@ -31,14 +33,20 @@ pub record IsNext (plan : Plan) (r : ℕ) (next : Option Instance) (spot : Spot)
   pub instance : option_map instance_of next ≡ slice_get (scan_in plan) r
   pub behind : to_come (trees_in plan.tree.now) plan.params.now spot ≡ drop (suc r) (scan_in plan)
 
+-- a desk for each strand of a braid, with room for each statement
+pub record AreDesks (table : Table) (desks : List Desk) : Type 0 where
+  pub many : length desks ≡ 4
+  pub room : All (HasRoomForAll table) desks
+
 -- a worker of the plan: the tile that it holds is one of the plan's, in an opened one it knows the instance that comes
--- next, where one is left, and its desk has room for each statement
+-- next, where one is left, and its desks have room for each statement
 pub record IsWorker (plan : Plan) (w : Worker) : Type 0 where
   pub spot : IsSpotOf (trees_in plan.tree.now) plan.params.now w.spot
   pub tile : (t : ℕ) → Holds (worker_of w) t → t < (shape_of plan).tiles
   pub next : (t k : ℕ) → w.stage ≡ Working t k → k < (shape_of plan).size t
       → IsNext plan ((deal_of plan).start t + k) w.next w.spot
   pub desk : HasRoomForAll plan.table.now w.desk
+  pub desks : AreDesks plan.table.now w.desks.items
 
 -- the instance is the next one of a worker that stands so
 pub record IsDue (plan : Plan) (stage : Stage) (i : Instance) : Type 0 where

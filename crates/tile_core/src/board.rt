@@ -5,6 +5,7 @@ ghost use Rattle.tile_core.specs.Boards.{Does, IsBoard, Stretches, event_of};
 
 use crate::plan::Plan;
 use crate::stretching::do_ahead;
+use crate::weaving::do_woven;
 use crate::worker::{Stage, Worker};
 
 /// What a worker tries.
@@ -142,6 +143,10 @@ impl Board {
         let worker = &mut self.workers[id];
         if worker.reads.len() > 0 {
             return 0;
+        }
+        let rounds = worker.rounds(plan);
+        if rounds > 0 {
+            return do_woven(&mut self.cells, plan, worker, rounds);
         }
         let count = worker.ahead(plan);
         if count == 0 {

@@ -11,5 +11,6 @@ pub mod plan;
 pub mod plan_laws;
 mod stretching;
 pub mod view;
+mod weaving;
 pub mod words;
 pub mod worker;

@@ -36,7 +36,7 @@ fn read_all(cells: &[u64], row: &Row, desk: &mut Desk)
 
 /// Does the instance where the desk stands, and takes the desk one step on.
 #[inline]
-fn do_laid(cells: &mut [u64], row: &Row, desk: &mut Desk)
+pub(crate) fn do_laid(cells: &mut [u64], row: &Row, desk: &mut Desk)
     requires { StandsIn row.now desk.old cells.old }
     ensures cells { (plan : AnyPlan) (steps : List ℤ) (x : Instance) → IsDeskAt plan row.now steps x desk.old
         → cells.new ≡ after_place (shape_of plan) (place_in (places_in plan) x) cells.old }

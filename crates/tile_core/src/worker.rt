@@ -1,15 +1,17 @@
 //! A worker: where it stands with its tile, the instance that it does next with the values read for it, and the place
 //! in the tree's visits behind that instance. Its steps take no memory.
-ghost use Rattle.std.specs.Prelude.{◌≡◌, ◌+◌, ◌-◌, ◌<◌, ◌≤◌, ◌⊎◌, ◌++◌, ◌∷◌, [], ℕ, ℤ, All, IfOk, IfSome, List};
+ghost use Rattle.std.specs.Prelude.{◌≡◌, ◌+◌, ◌-◌, ◌*◌, ◌<◌, ◌≤◌, ◌⊎◌, ◌++◌, ◌∷◌, [], ℕ, ℤ, All, IfOk, IfSome, List};
 ghost use Rattle.std.specs.Prelude.{MatchOption, Some, drop, length, map, replicate, suc};
 ghost use Rattle.scop_syntax.specs.Members.{In};
 ghost use Rattle.scop_syntax.specs.View.{instance_of};
+ghost use Rattle.loop_tree.specs.Braids.{IsBraid};
 ghost use Rattle.loop_tree.specs.SpotView.{IsSpotOf, to_come};
 ghost use Rattle.loop_tree.specs.Tree.{Trees};
+ghost use Rattle.stmt_table.specs.Desks.{HasRoomForAll};
 ghost use Rattle.tile_events.specs.Core.{idle};
 ghost use Rattle.tile_events.specs.Sound.{Holds};
 ghost use Rattle.tile_core.specs.Plans.{IsPlan, place_of, places_in, shape_of};
-ghost use Rattle.tile_core.specs.Stretches.{CanPass, IsAhead, IsAlong, IsPart};
+ghost use Rattle.tile_core.specs.Stretches.{CanPass, HasRounds, IsAhead, IsAlong, IsPart, IsWoven};
 ghost use Rattle.tile_core.specs.Workers.{HasNoneDue, IsDue, IsWorker, staged, worker_of};
 ghost use Rattle.tile_core.specs.declared.plan.Plan.{Plan as AnyPlan};
 ghost use Rattle.tile_core.specs.declared.worker.Stage.TheVariants as stage_of;
@@ -17,10 +19,11 @@ ghost use Rattle.tile_core.specs.declared.worker.Stage.TheVariants as stage_of;
 use crate::plan::Plan;
 use crate::plan_laws::plans_are_good;
 use arrayvec::ArrayVec;
-use loop_tree::{Spot, Stretch};
+use loop_tree::{Braid, Spot, Stretch};
 use scop_syntax::instance::Instance;
 use std::alloc::{AllocError, Global};
 use stmt_table::desk::Desk;
+use stmt_table::table::Table;
 use tile_list::laws::tiles_stand_one_behind_another;
 
 /// Reads that a statement may have.
@@ -40,7 +43,7 @@ pub enum Stage {
 pub type Reads = ArrayVec<u64, MAX_READS>;
 
 /// At work in a tile with an instance left, `next` is that instance and `spot` the place behind it. The desk has room for
-/// the instances of each statement.
+/// the instances of each statement; so has each of `desks`, one for each strand of a braid.
 #[derive(Drop)]
 pub struct Worker {
     pub stage: Stage,
@@ -48,6 +51,22 @@ pub struct Worker {
     pub next: Option<Instance>,
     pub spot: Spot,
     pub desk: Desk,
+    pub desks: Vec<Desk>,
+}
+
+/// So many desks.
+///
+/// # Errors
+/// `AllocError` alone.
+fn desks_of(alloc: Global, table: &Table, count: usize) -> Result<Vec<Desk>, AllocError>
+    ensures many { IfOk result (λ v. length v.items ≡ count) }
+    ensures room { IfOk result (λ v. All (HasRoomForAll table.now) v.items) }
+{
+    let mut desks = Vec::with_capacity(alloc, count)?;
+    for _ in 0..count {
+        desks.push(table.desk(alloc)?)?;
+    }
+    Ok(desks)
 }
 
 /// How many instances from one on go by the steps of a stretch, where so many are left at most: all that the stretch has
@@ -82,6 +101,47 @@ fn leave(spot: &mut Spot, count: usize)
     }
 }
 
+/// How many rounds are left of a braid whose first strand is next, and whose strands have as many left; 0 elsewhere.
+fn rounds_left(braid: &Braid) -> u64
+    requires { IsBraid braid.now }
+    ensures rounds { 0 < result → HasRounds braid.now result }
+    ensures strands { 0 < result → length braid.now.strands ≡ 4 }
+{
+    if braid.at > 0 {
+        return 0;
+    }
+    let rounds = braid.strands[0].left;
+    for strand in &braid.strands[..braid.count] {
+        if strand.left != rounds {
+            return 0;
+        }
+    }
+    rounds
+}
+
+/// So many rounds of so many instances, where these are fewer than `most`; 0 elsewhere.
+fn rounds_within(rounds: u64, count: usize, most: usize) -> usize
+    ensures rounds { 0 < result → result ≡ rounds }
+    ensures within { 0 < result → result * count < most }
+{
+    match (rounds as usize).checked_mul(count) {
+        Some(all) if all < most => rounds as usize,
+        _ => 0,
+    }
+}
+
+/// Leaves out all that a braid of whole rounds has left.
+fn leave_braid(spot: &mut Spot, rounds: usize)
+    requires alone { spot.old.stretch.left ≡ 0 }
+    requires few { spot.old.braid.count ≤ 4 }
+    requires has { HasRounds spot.old.braid rounds }
+    ensures spot { (ts : Trees) (params : List ℤ) → IsSpotOf ts params spot.old → IsSpotOf ts params spot.new }
+    ensures rest { (ts : Trees) (params : List ℤ) → IsSpotOf ts params spot.old
+        → to_come ts params spot.new ≡ drop (rounds * spot.old.braid.count) (to_come ts params spot.old) }
+{
+    spot.braid.strands[0].left = 0;
+}
+
 impl Worker {
     /// A worker that holds no tile.
     ///
@@ -94,12 +154,14 @@ impl Worker {
     {
         let spot = Spot::of(alloc, plan.tree)?;
         let desk = plan.table.desk(alloc)?;
+        let desks = desks_of(alloc, plan.table, spot.braid.strands.len())?;
         Ok(Worker {
             stage: Stage::Idle,
             reads: ArrayVec::new(),
             next: None,
             spot,
             desk,
+            desks,
         })
     }
 
@@ -171,6 +233,26 @@ impl Worker {
         }
     }
 
+    /// How many whole rounds it has ahead behind its next instance, where these are all that is left of a loop with a
+    /// few instances in it, and its tile has them all; 0 elsewhere.
+    pub fn rounds(&self, plan: &Plan) -> usize
+        requires plan { IsPlan plan.now }
+        requires worker { IsWorker plan.now self.now }
+        ensures { 0 < result → IsWoven plan.now self.now.stage self.now.next self.now.spot result }
+    {
+        let Stage::Working(tile, done) = self.stage else {
+            return 0;
+        };
+        if self.spot.stretch.left > 0 {
+            return 0;
+        }
+        let rounds = rounds_left(&self.spot.braid);
+        match self.due(plan) {
+            None => 0,
+            Some(_) => rounds_within(rounds, self.spot.braid.count, plan.size(tile) - done),
+        }
+    }
+
     /// Keeps a value that was read.
     #[inline]
     pub fn read(&mut self, value: u64)
@@ -219,6 +301,33 @@ impl Worker {
             leave(&mut self.spot, count);
             self.next = self.spot.next(plan.tree, plan.params);
         }
+    }
+
+    /// Goes on behind its next instance and so many whole rounds behind it, which it has done; tells how many instances
+    /// these are.
+    pub fn pass_rounds(&mut self, plan: &Plan, rounds: usize) -> usize
+        requires plan { IsPlan plan.now }
+        requires worker { IsWorker plan.now self.old }
+        requires woven { IsWoven plan.now self.old.stage self.old.next self.old.spot rounds }
+        ensures stage { (t k : ℕ) → self.old.stage ≡ stage_of.Working t k
+            → self.new.stage ≡ stage_of.Working t (k + suc (rounds * self.old.spot.braid.count)) }
+        ensures count { (t k : ℕ) → self.old.stage ≡ stage_of.Working t k
+            → result ≡ suc (rounds * self.old.spot.braid.count) }
+        ensures reads { self.new.reads.items ≡ [] }
+        ensures worker { IsWorker plan.now self.new }
+    {
+        self.reads.clear();
+        let Stage::Working(tile, done) = self.stage else {
+            return 0;
+        };
+        let size = plan.size(tile);
+        let count = 1 + rounds * self.spot.braid.count;
+        self.stage = Stage::Working(tile, done + count);
+        if done + count < size {
+            leave_braid(&mut self.spot, rounds);
+            self.next = self.spot.next(plan.tree, plan.params);
+        }
+        count
     }
 
     /// Goes on to the instance behind the one that it has done.

@@ -43,5 +43,19 @@ returns c =
     (search rules)
     (with_items_is c.args.self.now.cells c.do_ahead.new.cells (search rules)
     ∙ (c.do_ahead.ensures.cells a.tile a.done a.works
-    ∙ ap (λ (ys : List ℕ). after_instances p a.tile a.done c.ahead-count.result ys) c.deref_mut.ensures.value))
+    ∙ ap (λ (ys : List ℕ). after_instances p a.tile a.done c.ahead-count.result ys) c.deref_mut-2.ensures.value))
     c.pass_by.ensures.worker
+
+pub returns-then-rounds-gt0 : goal.returns-then-rounds-gt0
+returns-then-rounds-gt0 c =
+    let p = shape_of c.args.plan.now in
+    let woven = c.rounds-rounds.ensures (search rules) in
+    let a = woven.first in
+    let many = c.do_woven.ensures.count a.tile a.done a.works in
+    some_done c.args.plan.now c.args.self.now c.args.id c.index_mut-worker.result.now c.requires.board c.requires.id
+    (search rules) c.do_woven.new.worker _ a.tile a.done c.do_woven.result a.works (nil_from_length _ (search rules))
+    many.0 many.1 (c.do_woven.ensures.stage a.tile a.done a.works) c.do_woven.ensures.reads
+    (with_items_is c.args.self.now.cells c.do_woven.new.cells (search rules)
+    ∙ (c.do_woven.ensures.cells a.tile a.done a.works
+    ∙ ap (λ (ys : List ℕ). after_instances p a.tile a.done c.do_woven.result ys) c.deref_mut.ensures.value))
+    c.do_woven.ensures.worker

@@ -16,6 +16,6 @@ returns-clause-worker c =
     let spot = (c.requires.plan.tiles.tiles c.args.tile tile c.tile-first.ensures).spot in
     at_work plan _ c.args.tile 0 refl
     (spot_alike (trees_in plan.tree.now) plan.params.now c.set.new.self tile.spot c.set.ensures spot)
-    c.requires.worker.desk c.requires.tile
+    c.requires.worker.desk c.requires.worker.desks c.requires.tile
     (λ left. first_is c.tiles_stand_one_behind_another.ensures.at plan c.args.tile tile c.set.new.self c.requires.plan
     c.tile-first.ensures c.set.ensures)

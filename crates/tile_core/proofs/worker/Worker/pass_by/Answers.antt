@@ -59,7 +59,7 @@ returns-then-done-count-clause-worker c =
     let behind = behind_passed (scan_in plan) (to_come ts plan.params.now w.spot)
     (to_come ts plan.params.now c.leave.new.spot) start k count w.spot.stretch.left two here.behind
     (c.leave.ensures.rest ts plan.params.now) in
-    at_work plan _ t (k + count) refl c.next-self.ensures.spot c.requires.worker.desk less
+    at_work plan _ t (k + count) refl c.next-self.ensures.spot c.requires.worker.desk c.requires.worker.desks less
     (λ left. next_is plan (start + (k + count)) c.next-self.result c.leave.new.spot c.next-self.new.self behind
     c.next-self.ensures.rest c.next-self.ensures.none.0)
 
@@ -72,5 +72,5 @@ returns-else-done-count-clause-worker c =
     let less = c.requires.worker.tile t (subst (λ s. Holds (staged s w.reads.items) t) (sym c.in-Working.is) refl) in
     let size = c.size-size.ensures in
     let none = c.if-done-count.false in
-    at_work plan _ t (k + c.args.count) refl c.requires.worker.spot c.requires.worker.desk less
+    at_work plan _ t (k + c.args.count) refl c.requires.worker.spot c.requires.worker.desk c.requires.worker.desks less
     (λ (left : k + c.args.count < (shape_of plan).size t). absurd (omega (arith, left, size, none)))
