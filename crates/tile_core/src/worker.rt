@@ -288,6 +288,8 @@ impl Worker {
         requires passes { CanPass plan.now self.old.stage self.old.spot.stretch count }
         ensures stage { (t k : ℕ) → self.old.stage ≡ stage_of.Working t k
             → self.new.stage ≡ stage_of.Working t (k + count) }
+        ensures other { ((t k : ℕ) → self.old.stage ≡ stage_of.Working t k → ⊥)
+            → self.new.stage ≡ self.old.stage }
         ensures reads { self.new.reads.items ≡ [] }
         ensures worker { IsWorker plan.now self.new }
     {
@@ -338,6 +340,8 @@ impl Worker {
         requires left { (t k : ℕ) → self.old.stage ≡ stage_of.Working t k → k < (shape_of plan.now).size t }
         ensures stage { (t k : ℕ) → self.old.stage ≡ stage_of.Working t k
             → self.new.stage ≡ stage_of.Working t (suc k) }
+        ensures other { ((t k : ℕ) → self.old.stage ≡ stage_of.Working t k → ⊥)
+            → self.new.stage ≡ self.old.stage }
         ensures reads { self.new.reads.items ≡ [] }
         ensures worker { IsWorker plan.now self.new }
     {
