@@ -10,6 +10,7 @@ use Rattle.tile_core.specs.Stretches.{IsAhead, moved}
 use Rattle.tile_core.specs.declared.plan.Plan.{Plan}
 use Rattle.tile_core.specs.declared.worker.Stage.{Stage}
 use Rattle.tile_core.specs.declared.worker.Stage.TheVariants.{Working}
+use Rattle.tile_core.proofs.Workers.{at_stage}
 
 module _ (plan : Plan) (stage : Stage) (next : Option Instance) (stretch : Stretch) (count : ℕ) (i : Instance)
     (ahead : IsAhead plan stage next stretch count) (is : next ≡ Some i) where
@@ -25,12 +26,7 @@ module _ (plan : Plan) (stage : Stage) (next : Option Instance) (stretch : Stret
   pub place_ahead : (t k j : ℕ) → stage ≡ Working t k → j < count
       → place_in (places_in plan) (moved (instance_of i) (take i.loops stretch.steps) j) ≡ (shape_of plan).place t (k + j)
   place_ahead t k j works less =
-      let both : Working ahead.tile ahead.done ≡ Working t k = sym ahead.works ∙ works in
-      let tile : ahead.tile ≡ t = cc in
-      let done : ahead.done ≡ k = cc in
-      subst (λ u. place_in (places_in plan) (moved (instance_of i) (take i.loops stretch.steps) j)
-      ≡ (shape_of plan).place u (k + j)) tile
-      (subst (λ m. place_in (places_in plan) (moved (instance_of i) (take i.loops stretch.steps) j)
-      ≡ (shape_of plan).place ahead.tile (m + j)) done
+      at_stage (λ u m. place_in (places_in plan) (moved (instance_of i) (take i.loops stretch.steps) j)
+      ≡ (shape_of plan).place u (m + j)) stage ahead.tile ahead.done t k ahead.works
       (subst (λ v. place_in (places_in plan) (moved (instance_of v) (take v.loops stretch.steps) j)
-      ≡ (shape_of plan).place ahead.tile (ahead.done + j)) same (ahead.place j less)))
+      ≡ (shape_of plan).place ahead.tile (ahead.done + j)) same (ahead.place j less)) works

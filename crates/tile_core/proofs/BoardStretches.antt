@@ -1,5 +1,5 @@
 -- What a worker's instances, done at once, leave of a board (`none_done`, `some_done`).
-use Rattle.std.proofs.Common.{◌≡◌, ◌∙◌, ℕ, ◌+◌, ◌<◌, ◌≤◌, List, [], length, get_or, map, ap, ap₂, sym, subst, refl, arith}
+use Rattle.std.proofs.Common.{◌≡◌, ◌∙◌, ℕ, ◌+◌, ◌<◌, ◌≤◌, List, [], length, get_or, map, ap, ap₂, sym, refl, arith}
 use Rattle.std.specs.Prelude.{Vec}
 use Rattle.std.specs.Global.{Global}
 use Rattle.std.specs.Vec.{with_item}
@@ -19,6 +19,7 @@ use Rattle.tile_core.specs.declared.worker.Stage.TheVariants.{Idle, Ended, Holdi
 use Rattle.tile_core.specs.declared.worker.Worker.{Worker}
 use Rattle.tile_core.specs.steps.Acts.{after_instances}
 use Rattle.tile_core.proofs.Acts.{stretch_run}
+use Rattle.tile_core.proofs.Workers.{at_stage}
 use Rattle.tile_core.proofs.Boards.{at_board, set_worker, worker_there, workers_kept}
 
 stage_there : (s : Stage) (xs : List ℕ) (t k : ℕ) → staged s xs ≡ working t k [] → (s ≡ Working t k) × (xs ≡ [])
@@ -79,11 +80,7 @@ module _ (plan : Plan) (b : Board) (id : ℕ) (w : Worker) (board : IsBoard plan
       record { some = some_left; within = fits; acts = run } in
       record {
         stretch = λ u m there.
-            let both : Working t k ≡ Working u m = sym stage ∙ (where_it_is u m there).0 in
-            let same : t ≡ u = cc in
-            let count : k ≡ m = cc in
-            subst (λ v. DoesStretch p s id u v n (state_of d)) count
-            (subst (λ v. DoesStretch p s id v k n (state_of d)) same does);
+            at_stage (λ v i. DoesStretch p s id v i n (state_of d)) w.stage t k u m stage does (where_it_is u m there).0;
         none = λ h. absurd (h t k (here ∙ ap (λ (v : core.Worker). some v) at, omega (arith, some_left, fits)));
         acts = stretch_acts p id t k n;
         replayed = run;

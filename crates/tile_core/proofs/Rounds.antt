@@ -23,6 +23,7 @@ use Rattle.loop_tree.specs.declared.stretch.Stretch.{Stretch}
 use Rattle.loop_tree.proofs.Braids.{woven_none}
 use Rattle.loop_tree.proofs.Stretches.{nothing_left}
 use Rattle.loop_tree.proofs.Visits.{listed_same}
+use Rattle.tile_list.proofs.Stretches.{length-following}
 use Rattle.tile_core.specs.Plans.{IsPlan, deal_of, places_in, program_in, scan_in, shape_of}
 use Rattle.tile_core.specs.Ranks.{place_in, rank_in}
 use Rattle.tile_core.specs.Stretches.{HasRounds, IsPart, IsWoven, in_round, turns_on}
@@ -31,7 +32,7 @@ use Rattle.tile_core.specs.declared.plan.Plan.{Plan}
 use Rattle.tile_core.specs.declared.worker.Stage.{Stage}
 use Rattle.tile_core.specs.declared.worker.Stage.TheVariants.{Working}
 use Rattle.tile_core.proofs.Stretches.{ahead_is}
-use Rattle.tile_core.proofs.Workers.{head_is}
+use Rattle.tile_core.proofs.Workers.{at_stage, head_is}
 
 -- what a strand has left, where it has k left, so many rounds on
 abbrev left_behind : ℕ → ℕ → Stretch → List Instance
@@ -64,18 +65,14 @@ one_round (s ∷ ss) round k (suc m) n done many =
     ∙ (one_round ss round k m n (done ++ is ∷ []) (omega (arith, many))
     ∙ ap (λ (ls : List (List Instance)). given_in round ss ++ taking n ls) (append_assoc done (is ∷ []) then)))
 
-length-behind : (s : Stretch) (round k : ℕ) → length (left_behind round k s) ≡ k
-length-behind s round zero = refl
-length-behind s round (suc k) = ap suc (length-behind s (suc round) k)
-
 together_round : (ss : List Stretch) (round k : ℕ)
     → together (map (left_behind round (suc k)) ss) ≡ length ss + together (map (left_behind (suc round) k) ss)
 together_round [] round k = refl
 together_round (s ∷ ss) round k =
     let rest = together_round ss round k in
-    let now = length-behind s round (suc k) in
-    let then = length-behind s (suc round) k in
-    omega (arith, rest, now, then)
+    let steps = take s.before.loops s.steps in
+    let many = length-following s.before.statement (turns_on (instance_of s.before).turns steps (suc round)) steps k in
+    omega (arith, rest, many)
 
 together_none : (ss : List Stretch) (round : ℕ) → together (map (left_behind round 0) ss) ≡ 0
 together_none [] round = refl
@@ -153,15 +150,6 @@ taken_at [] n at less = ap (λ (ys : List Stretch). slice_get ys at) (take_all n
 taken_at (x ∷ xs) zero at less = absurd (omega (arith, less))
 taken_at (x ∷ xs) (suc n) zero less = refl
 taken_at (x ∷ xs) (suc n) (suc at) less = taken_at xs n at (omega (arith, less))
-
--- what is known at the stage of a worker at work
-at_stage : (holds : ℕ → ℕ → Type 0) (stage : Stage) (t k u m : ℕ) → stage ≡ Working t k → holds t k
-    → stage ≡ Working u m → holds u m
-at_stage holds stage t k u m works is e =
-    let both : Working t k ≡ Working u m = sym works ∙ e in
-    let p : t ≡ u = cc in
-    let q : k ≡ m = cc in
-    subst (λ v. holds v m) p (subst (λ n. holds t n) q is)
 
 -- behind a worker's next instance
 module _ (plan : Plan) (stage : Stage) (t k : ℕ) (i : CodeInstance) (spot : Spot) (rounds : ℕ) (is : IsPlan plan)

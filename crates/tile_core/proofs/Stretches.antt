@@ -1,5 +1,5 @@
 -- Instances that a worker has ahead, and the place behind those that it passes by.
-use Rattle.std.proofs.Common.{◌≡◌, ◌∙◌, ◌+◌, ◌-◌, ◌≤◌, ◌<◌, ℕ, zero, suc, ℤ, List, [], ◌++◌, Some, ap, ap₂, subst, sym, refl}
+use Rattle.std.proofs.Common.{◌≡◌, ◌∙◌, ◌+◌, ◌-◌, ◌≤◌, ◌<◌, ℕ, zero, suc, ℤ, List, [], ◌++◌, Some, ap, ap₂, sym, refl}
 use Rattle.std.proofs.Common.{arith, drop, inl, inr, take}
 use Rattle.std.specs.Prelude.{◌⊎◌, slice_get}
 use Rattle.std.proofs.lemmas.List.{drop-drop, drop_at}
@@ -24,7 +24,7 @@ use Rattle.tile_core.specs.Workers.{IsNext}
 use Rattle.tile_core.specs.declared.plan.Plan.{Plan}
 use Rattle.tile_core.specs.declared.worker.Stage.{Stage}
 use Rattle.tile_core.specs.declared.worker.Stage.TheVariants.{Working}
-use Rattle.tile_core.proofs.Workers.{head_is}
+use Rattle.tile_core.proofs.Workers.{at_stage, head_is}
 
 -- a step more, in front or behind
 pub step_first : (turns steps : List ℤ) (j : ℕ) → turns_on (sums turns steps) steps j ≡ turns_on turns steps (suc j)
@@ -67,13 +67,9 @@ ahead_at plan r i spot count (suc j) n along l =
 can_pass : (plan : Plan) (stage : Stage) (t k : ℕ) (stretch : Stretch) (count : ℕ) → stage ≡ Working t k
     → k < (shape_of plan).size t → IsPart ((shape_of plan).size t - k) stretch.left count
     → CanPass plan stage stretch count
-can_pass plan stage t k stretch count works left part u m e =
-    let both : Working t k ≡ Working u m = sym works ∙ e in
-    let p : t ≡ u = cc in
-    let q : k ≡ m = cc in
-    let can : ℕ → ℕ → Type 0 =
-    λ v n. (n < (shape_of plan).size v) × IsPart ((shape_of plan).size v - n) stretch.left count in
-    subst (λ v. can v m) p (subst (λ n. can t n) q (left, part))
+can_pass plan stage t k stretch count works left part u m =
+    at_stage (λ v n. (n < (shape_of plan).size v) × IsPart ((shape_of plan).size v - n) stretch.left count) stage t k u m
+    works (left, part)
 
 -- so they are those of the tile, in turn
 pub ahead_is : (plan : Plan) (stage : Stage) (t k : ℕ) (i : CodeInstance) (spot : Spot) (count : ℕ) → IsPlan plan

@@ -46,6 +46,15 @@ idle_is plan w is spot desk desks = record {
     differ : (t k : ℕ) → Idle ≡ Working t k → ⊥
     differ t k e = cc
 
+-- what is known of the place of one at work
+pub at_stage : (holds : ℕ → ℕ → Type 0) (stage : Stage) (t k u m : ℕ) → stage ≡ Working t k → holds t k
+    → stage ≡ Working u m → holds u m
+at_stage holds stage t k u m works is e =
+    let both : Working t k ≡ Working u m = sym works ∙ e in
+    let p : t ≡ u = cc in
+    let q : k ≡ m = cc in
+    subst (λ v. holds v m) p (subst (λ n. holds t n) q is)
+
 -- one at work
 pub at_work : (plan : Plan) (w : Worker) (t k : ℕ) → w.stage ≡ Working t k
     → IsSpotOf (trees_in plan.tree.now) plan.params.now w.spot → HasRoomForAll plan.table.now w.desk
@@ -56,14 +65,9 @@ at_work plan w t k is spot desk desks less next = record {
   tile = λ u h.
       let same : t ≡ u = subst (λ s. Holds (staged s w.reads.items) u) is h in
       subst (λ v. v < (shape_of plan).tiles) same less;
-  next = λ u m e left.
-      let both : Working t k ≡ Working u m = sym is ∙ e in
-      let p : t ≡ u = cc in
-      let q : k ≡ m = cc in
-      let l : k < (shape_of plan).size t = subst (λ v. k < (shape_of plan).size v) (sym p)
-      (subst (λ v. v < (shape_of plan).size u) (sym q) left) in
-      subst (λ v. IsNext plan ((deal_of plan).start v + m) w.next w.spot) p
-      (subst (λ v. IsNext plan ((deal_of plan).start t + v) w.next w.spot) q (next l));
+  next = λ u m e.
+      at_stage (λ v n. n < (shape_of plan).size v → IsNext plan ((deal_of plan).start v + n) w.next w.spot) w.stage t k u m
+      is next e;
   desk = desk;
   desks = desks;
 }

@@ -100,7 +100,7 @@ pub held_at : (s : Stretch) (i : ℕ) → 1 ≤ i → i ≤ s.left → All IsHel
 held_at s i low high held = (all_in IsHeld (left_of s) (instance_at s i) held (at_left s i low high)).turns
 
 -- how many follow
-length-following : (n : ℕ) (turns steps : List ℤ) (k : ℕ) → length (following n turns steps k) ≡ k
+pub length-following : (n : ℕ) (turns steps : List ℤ) (k : ℕ) → length (following n turns steps k) ≡ k
 length-following n turns steps zero = refl
 length-following n turns steps (suc k) = ap suc (length-following n (sums turns steps) steps k)
 
