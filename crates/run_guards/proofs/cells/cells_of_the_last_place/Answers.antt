@@ -1,4 +1,3 @@
-use Rattle.tile_events.specs.Flat.{flat}
 use Rattle.tile_events.specs.Sound.{is_done}
 use Rattle.tile_core.specs.Plans.{shape_of, walk_in}
 use Rattle.run_guards.proofs.LastPlaces.{last_done, none_done}
