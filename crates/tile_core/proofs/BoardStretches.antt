@@ -7,7 +7,7 @@ use mathlib.Core.Option.{some, some-injective}
 use lib.ListN.{get_elem?}
 use Rattle.atomic_table.proofs.Lists.{at_index, set_again}
 use Rattle.tile_events.specs.Core as core
-use Rattle.tile_events.specs.Core.{State, replay, working}
+use Rattle.tile_events.specs.Core.{replay, working}
 use Rattle.tile_core.specs.Acts.{DoesStretch, IsAtInstance, stretch_acts}
 use Rattle.tile_core.specs.Boards.{IsBoard, Stretches, state_of}
 use Rattle.tile_core.specs.Plans.{shape_of}
