@@ -1,5 +1,6 @@
 pub mod Loads
 pub mod Stores
+pub mod PassSeats
 pub mod OpeningState
 pub mod Members
 pub mod Joins

@@ -1,6 +1,7 @@
--- What a load of a cell does to the pass that makes it.
+-- What a load of a cell does to the seat that makes it.
 use Rattle.std.specs.Prelude.{◌≡◌, ℕ, ◌+◌, ◌<◌, List, [], ◌∷◌, ◌++◌, length}
 use mathlib.Core.Option as plain_option
+use Rattle.atomic_table.specs.declared.shared.Seat.{Seat}
 use Rattle.atomic_table.specs.Table.{Me, Step, step}
 use Rattle.tile_events.specs.Plan as plain
 use Rattle.tile_events.specs.Core.{cell_read}
@@ -24,7 +25,11 @@ abbrev pub Loads : Step (Unit {0}) → Me (Unit {0}) View → ℕ → Me (Unit {
 Loads st m r n =
     (r ≡ executed (plan_at m.0.key) m.0.stage m.0.reads) × (n ≡ (at_stage m.0 m.0.stage (m.0.reads ++ r ∷ []), m.1))
 
--- a load is its event on the pass's own view, by the number that it found
+-- a load is its event on the view of the seat, by the number that it found
+abbrev pub LoadsAt : Words → Seat (Unit {0}) View → ℕ → ℕ → Seat (Unit {0}) View → Type 0
+LoadsAt words old cell result new =
+    Loads (step words.table.shared.table_id.slots (cell + 2) 0 0 plain_option.none) old.me result new.me
+
+-- so on the pass's own seat
 abbrev pub DoesLoad : Words → Pass → ℕ → ℕ → Pass → Type 0
-DoesLoad words old cell result new =
-    Loads (step words.table.shared.table_id.slots (cell + 2) 0 0 plain_option.none) old.seat.me result new.seat.me
+DoesLoad words old cell result new = LoadsAt words old.seat cell result new.seat

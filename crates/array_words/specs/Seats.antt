@@ -1,7 +1,8 @@
--- Seats that stand for several workers, at the start.
+-- Seats at the table: of one worker, and at the start of several.
 use Rattle.std.specs.Prelude.{◌≡◌, ℕ, ◌-◌, List, [], Some}
 use Rattle.atomic_table.specs.declared.shared.Seat.{Seat}
 use Rattle.tile_core.specs.declared.plan.Plan.{Plan}
+use Rattle.tile_core.specs.declared.worker.Stage.{Stage}
 use Rattle.tile_core.specs.declared.worker.Stage.TheVariants.{Idle}
 use Rattle.tile_core.specs.declared.worker.Worker.{Worker}
 use Rattle.tile_core.specs.Workers.{IsWorker}
@@ -9,6 +10,16 @@ use Rattle.tile_core.specs.declared.view.View.{View}
 use Rattle.tile_core.specs.declared.words.Words.{Words}
 use Rattle.tile_core.specs.declared.words.Pass.{Pass}
 use Rattle.tile_core.specs.Passes.{IsWords}
+
+-- the seat stands for one worker, which is at stage s and has read xs for its next instance
+pub record IsSeat (words : Words) (s : Stage) (xs : List ℕ) (seat : Seat (Unit {0}) View) : Type 0 where
+  pub of : IsWords words
+  pub table : seat.table_id ≡ words.table.shared.table_id
+  pub key : seat.me.0.key ≡ Some words.table.shared.key
+  pub slots : seat.me.1 ≡ []
+  pub parts : seat.me.0.parts ≡ 1
+  pub stage : seat.me.0.stage ≡ s
+  pub reads : seat.me.0.reads ≡ xs
 
 -- one worker is given away
 abbrev pub fewer : View → View

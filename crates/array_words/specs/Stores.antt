@@ -1,6 +1,7 @@
--- What a store of a cell does to the pass that makes it.
+-- What a store of a cell does to the seat that makes it.
 use Rattle.std.specs.Prelude.{◌≡◌, ℕ, suc, ◌+◌, ◌<◌, List, [], length}
 use mathlib.Core.Option as plain_option
+use Rattle.atomic_table.specs.declared.shared.Seat.{Seat}
 use Rattle.atomic_table.specs.Table.{Me, Step, step}
 use Rattle.tile_events.specs.Plan as plain
 use Rattle.tile_core.specs.declared.worker.Stage.{Stage}
@@ -23,7 +24,11 @@ IsNextStore p (Working t k) xs c x =
 abbrev pub Stores : Step (Unit {0}) → Me (Unit {0}) View → ℕ → Me (Unit {0}) View → Type 0
 Stores st m r n = n ≡ (at_stage m.0 (Working (tile_at m.0.stage) (suc (done_at m.0.stage))) [], m.1)
 
--- a store is its event on the pass's own view
+-- a store is its event on the view of the seat
+abbrev pub StoresAt : Words → Seat (Unit {0}) View → ℕ → ℕ → Seat (Unit {0}) View → Type 0
+StoresAt words old cell value new =
+    Stores (step words.table.shared.table_id.slots (cell + 2) value 0 plain_option.none) old.me value new.me
+
+-- so on the pass's own seat
 abbrev pub DoesStore : Words → Pass → ℕ → ℕ → Pass → Type 0
-DoesStore words old cell value new =
-    Stores (step words.table.shared.table_id.slots (cell + 2) value 0 plain_option.none) old.seat.me value new.seat.me
+DoesStore words old cell value new = StoresAt words old.seat cell value new.seat

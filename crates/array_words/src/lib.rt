@@ -12,6 +12,6 @@ mod storing;
 
 pub use closing::{Closed, close};
 pub use gathering::Merge;
-pub use loading::{Loading, load};
+pub use loading::{Loading, load, load_at};
 pub use opening::{Cut, start};
-pub use storing::{Storing, store};
+pub use storing::{Storing, store, store_at};

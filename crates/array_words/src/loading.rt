@@ -1,16 +1,17 @@
 //! The load of a cell: one load of its word.
 ghost use Rattle.std.specs.Prelude.{◌≡◌, ◌++◌, ◌∷◌, []};
-ghost use Rattle.array_words.specs.Loads.{DoesLoad, IsNextRead};
+ghost use Rattle.array_words.specs.Loads.{DoesLoad, IsNextRead, LoadsAt};
+ghost use Rattle.array_words.specs.Seats.{IsSeat};
 ghost use Rattle.tile_core.specs.Passes.{IsPass, plan_in};
 ghost use Rattle.tile_core.specs.Views.{executed};
 
-use atomic_table::Play;
+use atomic_table::{Play, Seat};
 use tile_core::plan_laws::{instances_read_few, plans_are_good};
 use tile_core::view::View;
 use tile_core::words::{Pass, Words};
 use tile_events::table_laws::events_are_allowed;
 
-/// What a load tells its pass.
+/// What a load tells its seat.
 pub struct Loading;
 
 impl Play<(), View> for Loading {
@@ -19,8 +20,24 @@ impl Play<(), View> for Loading {
     ghost then = { Loads };
 }
 
+/// The value of the cell that the next instance of the seat's worker reads next: the one that execution reads there. It
+/// takes no memory and waits for nobody.
+#[inline]
+pub fn load_at(words: &Words, seat: &mut Seat<(), View>, cell: usize) -> u64
+    requires seat { IsSeat words.now seat.old.me.0.stage seat.old.me.0.reads seat.old }
+    requires next { IsNextRead (plan_in words.now) seat.old.me.0.stage seat.old.me.0.reads cell }
+    ensures seat { IsSeat words.now seat.old.me.0.stage (seat.old.me.0.reads ++ result ∷ []) seat.new }
+    ensures value { result ≡ executed (plan_in words.now) seat.old.me.0.stage seat.old.me.0.reads }
+    ensures event { LoadsAt words.now seat.old cell result seat.new }
+{
+    plans_are_good();
+    events_are_allowed::<View, Loading>();
+    words.table.shared.load::<Loading>(seat, cell + 2)
+}
+
 /// The value of the cell that the pass's next instance reads next: the one that execution reads there. It takes no
 /// memory and waits for nobody.
+#[inline]
 pub fn load(words: &Words, pass: &mut Pass, cell: usize) -> u64
     requires pass { IsPass words.now pass.old }
     requires next { IsNextRead (plan_in words.now) pass.old.worker.stage pass.old.worker.reads.items cell }
@@ -32,8 +49,7 @@ pub fn load(words: &Words, pass: &mut Pass, cell: usize) -> u64
 {
     plans_are_good();
     instances_read_few();
-    events_are_allowed::<View, Loading>();
-    let value = words.table.shared.load::<Loading>(&mut pass.seat, cell + 2);
+    let value = load_at(words, &mut pass.seat, cell);
     pass.worker.read(value);
     value
 }

@@ -21,6 +21,7 @@ impl Play<(), View> for Claiming {
 
 /// Claims the next tile for a pass that holds none; None exactly where the number fetched is not below that of the
 /// tiles, and the pass has then ended. It takes no memory and waits for nobody.
+#[inline]
 pub fn claim(words: &Words, pass: &mut Pass) -> Option<u64>
     requires pass { IsPass words.now pass.old }
     requires idle { pass.old.worker.stage ≡ Idle }

@@ -16,3 +16,4 @@ pub mod Acts
 pub mod BoardStretches
 pub mod States
 pub mod Passes
+pub mod Crosses

@@ -27,7 +27,7 @@ use Rattle.tile_core.specs.declared.worker.Stage.TheVariants.{Working}
 use Rattle.tile_core.proofs.Workers.{at_stage, head_is}
 
 -- a step more, in front or behind
-step_first : (turns steps : List ℤ) (j : ℕ) → turns_on (sums turns steps) steps j ≡ turns_on turns steps (suc j)
+pub step_first : (turns steps : List ℤ) (j : ℕ) → turns_on (sums turns steps) steps j ≡ turns_on turns steps (suc j)
 step_first turns steps zero = refl
 step_first turns steps (suc j) = ap (λ (ts : List ℤ). sums ts steps) (step_first turns steps j)
 

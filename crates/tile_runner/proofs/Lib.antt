@@ -1,2 +1,2 @@
-pub mod Instances
+pub mod Laid
 pub mod Passes

@@ -5,6 +5,7 @@
 #![tactic(auto)]
 
 mod running;
+mod stretches;
 mod working;
 
 pub use running::run_plan;

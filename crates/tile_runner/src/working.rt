@@ -1,36 +1,15 @@
 //! The run of one worker.
-ghost use Rattle.std.specs.Prelude.{◌≡◌, [], suc};
+ghost use Rattle.std.specs.Prelude.{◌≡◌, []};
 ghost use Rattle.tile_core.specs.Passes.{IsPass, plan_in};
-ghost use Rattle.tile_core.specs.Views.{done_at, tile_at};
-ghost use Rattle.tile_core.specs.Workers.{IsDue};
 ghost use Rattle.tile_core.specs.declared.worker.Stage.TheVariants.{Ended, Holding, Idle, Working};
 
-use array_words::{load, store};
+use crate::stretches::do_stretch;
 use io_ports::Gate;
-use scop_syntax::instance::Instance;
 use std::sync::Wait;
 use std::thread;
 use tile_claims::claim;
 use tile_core::words::{Pass, Words};
 use wave_barrier::{finish, try_open};
-
-/// Reads all that the next instance reads, and stores its value.
-fn do_instance(words: &Words, pass: &mut Pass, instance: &Instance)
-    requires pass { IsPass words.now pass.old }
-    requires due { IsDue words.now.plan pass.old.worker.stage instance.now }
-    requires reads { pass.old.worker.reads.items ≡ [] }
-    ensures pass { IsPass words.now pass.new }
-    ensures stage { pass.new.worker.stage
-        ≡ Working (tile_at pass.old.worker.stage) (suc (done_at pass.old.worker.stage)) }
-    ensures reads { pass.new.worker.reads.items ≡ [] }
-{
-    let plan = &words.plan;
-    for read in 0..plan.reads(instance) {
-        load(words, pass, plan.cell_read(instance, read));
-    }
-    let value = plan.value(instance, pass.worker.reads.as_slice());
-    store(words, pass, plan.cell_written(instance), value);
-}
 
 /// Does every instance of the tile that was opened.
 fn do_tile(words: &Words, pass: &mut Pass, tile: u64)
@@ -40,11 +19,12 @@ fn do_tile(words: &Words, pass: &mut Pass, tile: u64)
     ensures pass { IsPass words.now pass.new }
     ensures stage { pass.new.worker.stage ≡ Working tile ((plan_in words.now).size tile) }
 {
-    for _ in 0..words.plan.size(tile) {
-        let Some(instance) = pass.worker.due(&words.plan) else {
-            unreachable!()
-        };
-        do_instance(words, pass, &instance);
+    loop {
+        let count = pass.worker.ahead(&words.plan);
+        if count == 0 {
+            return;
+        }
+        do_stretch(words, pass, count);
     }
 }
 

@@ -21,6 +21,7 @@ impl Play<(), View> for Finishing {
 
 /// Counts the tile that the pass holds as finished, where every instance of it is done, and gives it up. It takes no
 /// memory and waits for nobody.
+#[inline]
 pub fn finish(words: &Words, pass: &mut Pass)
     requires pass { IsPass words.now pass.old }
     requires full { IsFull (plan_in words.now) pass.old.worker.stage }

@@ -32,6 +32,7 @@ pub struct NotYet {
 ///
 /// # Errors
 /// `NotYet` exactly where fewer tiles were finished at this load than lie in earlier waves; it tells both numbers.
+#[inline]
 pub fn try_open(words: &Words, pass: &mut Pass) -> Result<(), NotYet>
     requires pass { IsPass words.now pass.old }
     requires holding { IsHolding pass.old.worker.stage }

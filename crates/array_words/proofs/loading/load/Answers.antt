@@ -1,38 +1,28 @@
-use Rattle.std.proofs.Common.{arith}
-use Rattle.array_words.proofs.Loads.{loads, read_below, few_read, told}
+use Rattle.std.proofs.Common.{◌≡◌}
+use Rattle.tile_core.specs.Passes.{plan_in}
+use Rattle.tile_core.specs.Views.{executed}
+use Rattle.array_words.specs.Loads.{IsNextRead}
+use Rattle.array_words.proofs.Loads.{few_read}
+use Rattle.array_words.proofs.PassSeats.{at_view, at_worker, seat_of}
 use Rattle.array_words.proofs.loading.load.Goals as goal
 
-pub overflow_add-cell : goal.overflow_add-cell
-overflow_add-cell c =
+pub load_at-value-requires : goal.load_at-value-requires
+load_at-value-requires c =
     let w = c.args.words.now in
-    let of = c.requires.pass.of in
-    let room = of.room in
-    let b = read_below w c.args.pass.now
-    (c.plans_are_good.ensures.dealt w.plan w.table.shared.key.cells.items of.planned) c.args.cell c.requires.pass
-    c.requires.next in
-    omega (arith, b, room)
-
-pub load-value-requires : goal.load-value-requires
-load-value-requires c =
-    let w = c.args.words.now in
-    let of = c.requires.pass.of in
-    let long = of.long in
-    let b = read_below w c.args.pass.now
-    (c.plans_are_good.ensures.dealt w.plan w.table.shared.key.cells.items of.planned) c.args.cell c.requires.pass
-    c.requires.next in (
-      c.requires.pass.table,
-      omega (arith, b, long),
-      loads w c.args.pass.now c.events_are_allowed.ensures.load
-          c.args.cell c.requires.pass c.requires.next,
-    )
+    let p = c.args.pass.now in record {
+      seat = seat_of w p c.requires.pass;
+      next = at_view w p (λ s xs. IsNextRead (plan_in w) s xs c.args.cell) c.requires.pass c.requires.next;
+    }
 
 pub read-requires : goal.read-requires
 read-requires c =
     let w = c.args.words.now in
-    let of = c.requires.pass.of in
-    few_read w c.args.pass.now (c.plans_are_good.ensures.dealt w.plan w.table.shared.key.cells.items of.planned)
-    (λ j l. c.instances_read_few.ensures w.plan j of.planned l) c.args.cell c.requires.pass c.requires.next
+    let worker = c.args.pass.now.worker in
+    few_read w (c.plans_are_good.ensures.dealt w.plan w.table.shared.key.cells.items c.requires.pass.of.planned)
+    (λ j l. c.instances_read_few.ensures w.plan j c.requires.pass.of.planned l) worker.stage worker.reads.items
+    c.args.cell c.requires.next
 
 pub returns-clause-value : goal.returns-clause-value
-returns-clause-value c = told c.args.words.now c.args.pass.now c.load-value.result c.requires.pass
-    c.load-value.ensures.2.0
+returns-clause-value c =
+    at_worker c.args.words.now c.args.pass.now (λ s xs. c.load_at-value.result ≡ executed (plan_in c.args.words.now) s xs)
+    c.requires.pass c.load_at-value.ensures.value

@@ -1,11 +1,16 @@
-use Rattle.std.proofs.Common.{◌≡◌, []}
+use Rattle.std.proofs.Common.{◌≡◌, ◌-◌, ◌≤◌, []}
 use Rattle.tile_core.specs.declared.worker.Stage.TheVariants.{Working}
-use Rattle.tile_core.specs.Passes.{IsPass}
+use Rattle.tile_core.specs.Passes.{IsPass, plan_in}
+use Rattle.tile_core.specs.Views.{done_at}
 use Rattle.tile_runner.proofs.working.do_tile.Given as goal
 
-abbrev pub invariant-loop : goal.invariant-loop
-invariant-loop l = record {
+abbrev pub invariant-loop-tile : goal.invariant-loop-tile
+invariant-loop-tile l = record {
   pass : IsPass l.words l.pass;
-  stage : l.pass.worker.stage ≡ Working l.tile l.counter;
+  stage : l.pass.worker.stage ≡ Working l.tile (done_at l.pass.worker.stage);
+  within : done_at l.pass.worker.stage ≤ (plan_in l.words).size l.tile;
   reads : l.pass.worker.reads.items ≡ [];
 }
+
+abbrev pub decreases-loop-tile : goal.decreases-loop-tile
+decreases-loop-tile l = (plan_in l.words).size l.tile - done_at l.pass.worker.stage

@@ -1,0 +1,183 @@
+-- What the steps of instances that are laid on a desk ask, and what is left of these behind each.
+use Rattle.std.proofs.Common.{◌≡◌, ◌∙◌, ◌+◌, ◌-◌, ◌<◌, ◌≤◌, ℕ, suc, ℤ, List, [], Some, length, get_or, ap, ap₂, subst, sym}
+use Rattle.std.proofs.Common.{arith, take}
+use Rattle.std.specs.Prelude.{Option, slice_get}
+use Rattle.atomic_table.specs.declared.shared.Seat.{Seat}
+use Rattle.whole_numbers.specs.Lists.{sums}
+use Rattle.scop_syntax.specs.Members.{In}
+use Rattle.scop_syntax.specs.View.{instance_of}
+use Rattle.scop_syntax.specs.Walk.{Instance}
+use Rattle.scop_syntax.specs.declared.instance.Instance.{Instance as CodeInstance}
+use Rattle.loop_tree.specs.declared.stretch.Stretch.{Stretch}
+use Rattle.stmt_table.specs.Codes.{value_by}
+use Rattle.stmt_table.specs.Desks.{HasRoom, HasSameRoom, IsLaid}
+use Rattle.stmt_table.specs.declared.desk.Desk.{Desk}
+use Rattle.stmt_table.specs.declared.table.Row.{Row}
+use Rattle.stmt_table.proofs.Desks.{room_stays, room_stays_for_all}
+use Rattle.tile_core.specs.Plans.{IsPlan, places_in, plan_of, shape_of}
+use Rattle.tile_core.specs.Ranks.{place_in}
+use Rattle.tile_core.specs.Rows.{IsFormed, IsRowAt}
+use Rattle.tile_core.specs.Stretches.{IsAhead, moved}
+use Rattle.tile_core.specs.Views.{done_at, tile_at}
+use Rattle.tile_core.specs.Workers.{IsWorker}
+use Rattle.tile_core.specs.declared.plan.Plan.{Plan}
+use Rattle.tile_core.specs.declared.view.View.{View}
+use Rattle.tile_core.specs.declared.words.Words.{Words}
+use Rattle.tile_core.specs.declared.worker.Stage.{Stage}
+use Rattle.tile_core.specs.declared.worker.Worker.{Worker}
+use Rattle.tile_core.specs.declared.worker.Stage.TheVariants.{Working}
+use Rattle.tile_core.proofs.Stretches.{step_first}
+use Rattle.array_words.specs.Loads.{IsNextRead}
+use Rattle.array_words.specs.Seats.{IsSeat}
+use Rattle.array_words.specs.Stores.{IsNextStore}
+use Rattle.tile_runner.specs.Laid.{AreLaid}
+
+-- the law of rows
+abbrev pub RowsTell : Type 0
+RowsTell = (plan : Plan) (x : Instance) (row : Row) → IsPlan plan → In x (places_in plan)
+    → slice_get plan.table.now.rows.items x.number ≡ Some row → IsRowAt plan row x
+
+-- the instances that a worker has ahead are laid where the row of the first is, at its turns and by the stretch's steps
+pub ahead_laid : (plan : Plan) (s : Stage) (next : Option CodeInstance) (stretch : Stretch) (count : ℕ)
+    (i : CodeInstance) (row : Row) (desk : Desk) → IsAhead plan s next stretch count → next ≡ Some i
+    → slice_get plan.table.now.rows.items i.statement ≡ Some row → HasRoom row desk
+    → IsLaid row (take i.loops stretch.steps) (instance_of i).turns desk → AreLaid plan s row desk count
+ahead_laid plan s next stretch count i row desk a at own room laid =
+    let same : Some a.instance ≡ Some i = sym a.first ∙ at in
+    let one : a.instance ≡ i = cc in
+    let x : CodeInstance → ℕ → Instance = λ k j. moved (instance_of k) (take k.loops stretch.steps) j in
+    let part = (a.passes a.tile a.done a.works).1 in
+    let within = part.within in
+    let some = a.some in record {
+      tile = a.tile;
+      done = a.done;
+      works = a.works;
+      within = omega (arith, within, some);
+      first = instance_of i;
+      steps = take i.loops stretch.steps;
+      own = own;
+      room = room;
+      laid = laid;
+      walked = λ j l. subst (λ (k : CodeInstance). In (x k j) (places_in plan)) one (a.walked j l);
+      place = λ j l. ap (λ (k : CodeInstance). place_in (places_in plan) (x k j)) (sym one) ∙ a.place j l;
+    }
+
+-- so many of them
+pub fewer_laid : (plan : Plan) (s : Stage) (row : Row) (desk : Desk) (count n : ℕ) → n ≤ count
+    → AreLaid plan s row desk count → AreLaid plan s row desk n
+fewer_laid plan s row desk count n few a =
+    let within = a.within in record {
+      tile = a.tile;
+      done = a.done;
+      works = a.works;
+      within = omega (arith, few, within);
+      first = a.first;
+      steps = a.steps;
+      own = a.own;
+      room = a.room;
+      laid = a.laid;
+      walked = λ j l. a.walked j (omega (arith, l, few));
+      place = λ j l. a.place j (omega (arith, l, few));
+    }
+
+module _ (plan : Plan) (s : Stage) (row : Row) (desk : Desk) (a : AreLaid plan s row desk 1) where
+  -- the place of the first
+  first_place : place_in (places_in plan) a.first ≡ (shape_of plan).place a.tile a.done
+  first_place = a.place 0 (omega arith) ∙ ap ((shape_of plan).place a.tile) (let q : a.done + 0 ≡ a.done = omega arith in q)
+
+  pub first_tells : RowsTell → IsPlan plan → IsRowAt plan row a.first
+  first_tells law is = law plan a.first row is (a.walked 0 (omega arith)) a.own
+
+  -- where its first n reads are known, the next one is that of access n + 1
+  pub next_read : (cells xs : List ℕ) (n c : ℕ) → IsRowAt plan row a.first → length xs ≡ n → n < row.code.reads
+      → IsFormed row a.first (n + 1) c → IsNextRead (plan_of plan cells) s xs c
+  next_read cells xs n c tells long less formed =
+      let p = plan_of plan cells in
+      let within = a.within in
+      let reads = tells.reads ∙ ap (λ j. length (p.read j)) first_place in
+      let at = tells.read n c less (subst (λ (m : ℕ). IsFormed row a.first m c) (let q : n + 1 ≡ suc n = omega arith in q) formed)
+      ∙ ap₂ (λ (j m : ℕ). get_or (p.read j) m 0) first_place (sym long) in
+      subst (λ (u : Stage). IsNextRead p u xs c) (sym a.works)
+      (omega (arith, within), omega (arith, long, less, reads), at)
+
+  -- where all are known, it stores what the code makes of them in the cell of access 0
+  pub next_store : (cells xs : List ℕ) (c x : ℕ) → IsRowAt plan row a.first → length xs ≡ row.code.reads
+      → IsFormed row a.first 0 c → x ≡ value_by row.code a.first.turns xs → IsNextStore (plan_of plan cells) s xs c x
+  next_store cells xs c x tells long formed made =
+      let p = plan_of plan cells in
+      let within = a.within in
+      subst (λ (u : Stage). IsNextStore p u xs c x) (sym a.works) (
+        omega (arith, within),
+        long ∙ (tells.reads ∙ ap (λ j. length (p.read j)) first_place),
+        tells.written c formed ∙ ap p.written first_place,
+        made ∙ (tells.value xs long ∙ ap (λ j. p.value j xs) first_place),
+      )
+
+-- behind the first of them the others are laid on a desk that has gone on
+pub others_laid : (plan : Plan) (s : Stage) (row : Row) (desk new : Desk) (n : ℕ) → AreLaid plan s row desk (suc n)
+    → ((steps turns : List ℤ) → IsLaid row steps turns desk → IsLaid row steps (sums turns steps) new)
+    → HasSameRoom desk new → AreLaid plan (Working (tile_at s) (suc (done_at s))) row new n
+others_laid plan s row desk new n a on same =
+    let within = a.within in
+    let x = a.first in
+    let along : (j : ℕ) → moved (moved x a.steps 1) a.steps j ≡ moved x a.steps (suc j) =
+    λ j. ap (λ (ts : List ℤ). record { number = x.number; turns = ts }) (step_first x.turns a.steps j) in record {
+      tile = a.tile;
+      done = suc a.done;
+      works = ap₂ (λ (t k : ℕ). Working t (suc k)) (ap tile_at a.works) (ap done_at a.works);
+      within = omega (arith, within);
+      first = moved x a.steps 1;
+      steps = a.steps;
+      own = a.own;
+      room = room_stays row desk new a.room same;
+      laid = on a.steps x.turns a.laid;
+      walked = λ j l. subst (λ (y : Instance). In y (places_in plan)) (sym (along j)) (a.walked (suc j) (omega (arith, l)));
+      place = λ j l. ap (place_in (places_in plan)) (along j) ∙ (a.place (suc j) (omega (arith, l))
+          ∙ ap ((shape_of plan).place a.tile) (let q : a.done + suc j ≡ suc a.done + j = omega arith in q));
+    }
+
+-- where a stage at work stands, with nothing more done
+pub stands : (s : Stage) (t k : ℕ) → s ≡ Working t k → s ≡ Working (tile_at s) (done_at s + 0)
+stands s t k e =
+    let done = ap done_at e in
+    e ∙ ap₂ Working (sym (ap tile_at e)) (let same : k ≡ done_at s + 0 = omega (arith, done) in same)
+
+module _ (words : Words) (row : Row) (seat : Seat (Unit {0}) View) (desk : Desk) (t d j count : ℕ)
+    (is : IsSeat words (Working t (d + j)) [] seat) (a : AreLaid words.plan (Working t (d + j)) row desk (count - j))
+    (less : j < count) where
+  -- the first of them, where the view of the seat stands
+  pub here_laid : AreLaid words.plan seat.me.0.stage row desk 1
+  here_laid =
+      subst (λ (u : Stage). AreLaid words.plan u row desk 1) (sym is.stage)
+      (fewer_laid words.plan (Working t (d + j)) row desk (count - j) 1 (omega (arith, less)) a)
+
+  more : suc (d + j) ≡ d + (j + 1)
+  more = omega arith
+
+  -- the seat behind it
+  pub seat_on : (new : Seat (Unit {0}) View)
+      → IsSeat words (Working (tile_at seat.me.0.stage) (suc (done_at seat.me.0.stage))) [] new
+      → IsSeat words (Working t (d + (j + 1))) [] new
+  seat_on new after =
+      subst (λ (k : ℕ). IsSeat words (Working t k) [] new) more
+      (subst (λ (u : Stage). IsSeat words (Working (tile_at u) (suc (done_at u))) [] new) is.stage after)
+
+  -- and the desk
+  pub laid_on : (new : Desk)
+      → ((steps turns : List ℤ) → IsLaid row steps turns desk → IsLaid row steps (sums turns steps) new)
+      → HasSameRoom desk new → AreLaid words.plan (Working t (d + (j + 1))) row new (count - (j + 1))
+  laid_on new on same =
+      subst (λ (k : ℕ). AreLaid words.plan (Working t k) row new (count - (j + 1))) more
+      (others_laid words.plan (Working t (d + j)) row desk new (count - (j + 1))
+      (subst (λ (n : ℕ). AreLaid words.plan (Working t (d + j)) row desk n)
+      (let q : count - j ≡ suc (count - (j + 1)) = omega (arith, less) in q) a) on same)
+
+-- a worker with another desk of the same room is still one of the plan
+pub worker_kept : (plan : Plan) (w : Worker) (new : Desk) → IsWorker plan w → HasSameRoom w.desk new
+    → IsWorker plan (record w { desk = new })
+worker_kept plan w new is same = record {
+  spot = is.spot;
+  tile = is.tile;
+  next = is.next;
+  desk = room_stays_for_all plan.table.now w.desk new is.desk same;
+}

@@ -1,0 +1,95 @@
+//! The instances that a worker has ahead along a stretch: the row of their statement is laid on the worker's desk once,
+//! and each then costs the loads of what it reads, the steps of its code, and a store.
+ghost use Rattle.std.specs.Prelude.{◌≡◌, ◌+◌, ◌≤◌, ℕ, ℤ, [], List, suc, take};
+ghost use Rattle.array_words.specs.Seats.{IsSeat};
+ghost use Rattle.stmt_table.specs.Desks.{HasSameRoom, IsLaid};
+ghost use Rattle.tile_core.specs.Passes.{IsPass};
+ghost use Rattle.tile_core.specs.Plans.{IsPlan};
+ghost use Rattle.tile_core.specs.Stretches.{IsAhead};
+ghost use Rattle.tile_core.specs.Views.{done_at, tile_at};
+ghost use Rattle.tile_core.specs.Workers.{IsWorker};
+ghost use Rattle.tile_core.specs.declared.worker.Stage.TheVariants.{Working};
+ghost use Rattle.tile_runner.specs.Laid.{AreLaid};
+
+use array_words::{load_at, store_at};
+use atomic_table::Seat;
+use scop_syntax::instance::MAX_LOOPS;
+use stmt_table::desk::Desk;
+use stmt_table::table::Row;
+use tile_core::plan::Plan;
+use tile_core::plan_laws::rows_tell_instances;
+use tile_core::view::View;
+use tile_core::words::{Pass, Words};
+use tile_core::worker::Worker;
+
+/// The first steps.
+fn first_steps(steps: &[i64; MAX_LOOPS], loops: usize) -> &[i64]
+    requires { loops ≤ 5 }
+    ensures { result.now ≡ take loops steps.now }
+{
+    &steps[..loops]
+}
+
+/// Lays the row of the next instance on the worker's desk, to go on by the steps of the stretch that it has ahead.
+fn lay_next<'a>(plan: &'a Plan, worker: &mut Worker) -> &'a Row
+    requires plan { IsPlan plan.now }
+    requires worker { IsWorker plan.now worker.old }
+    requires ahead { (count : ℕ)
+        × IsAhead plan.now worker.old.stage worker.old.next worker.old.spot.stretch count }
+    ensures laid { (count : ℕ) → IsAhead plan.now worker.old.stage worker.old.next worker.old.spot.stretch count
+        → AreLaid plan.now worker.old.stage result.now worker.new.desk count }
+    ensures worker { IsWorker plan.now worker.new }
+    ensures stage { worker.new.stage ≡ worker.old.stage }
+    ensures spot { worker.new.spot ≡ worker.old.spot }
+{
+    let Some(next) = worker.next else {
+        unreachable!()
+    };
+    let steps = worker.spot.stretch.steps;
+    let row = plan.row(&next);
+    row.lay(
+        &mut worker.desk,
+        next.turns(),
+        first_steps(&steps, next.loops),
+    );
+    row
+}
+
+/// Does the first of the instances that are laid on the desk, the next one of the tile at which the seat stands.
+#[inline]
+fn do_laid(words: &Words, seat: &mut Seat<(), View>, row: &Row, desk: &mut Desk)
+    requires seat { IsSeat words.now seat.old.me.0.stage [] seat.old }
+    requires laid { AreLaid words.now.plan seat.old.me.0.stage row.now desk.old 1 }
+    ensures seat { IsSeat words.now (Working (tile_at seat.old.me.0.stage) (suc (done_at seat.old.me.0.stage))) []
+        seat.new }
+    ensures laid { (steps turns : List ℤ) → IsLaid row.now steps turns desk.old → IsLaid row.now steps turns desk.new }
+    ensures room { HasSameRoom desk.old desk.new }
+{
+    rows_tell_instances();
+    for read in 0..row.reads() {
+        let value = load_at(words, seat, row.cell(desk, read + 1));
+        row.put(desk, read, value);
+    }
+    let value = row.value(desk);
+    store_at(words, seat, row.cell(desk, 0), value);
+}
+
+/// Does so many of the instances that a pass has ahead, all that go by the steps of a stretch or a part of them.
+#[inline]
+pub(crate) fn do_stretch(words: &Words, pass: &mut Pass, count: usize)
+    requires pass { IsPass words.now pass.old }
+    requires ahead { IsAhead words.now.plan pass.old.worker.stage pass.old.worker.next pass.old.worker.spot.stretch
+        count }
+    requires reads { pass.old.worker.reads.items ≡ [] }
+    ensures pass { IsPass words.now pass.new }
+    ensures stage { pass.new.worker.stage
+        ≡ Working (tile_at pass.old.worker.stage) (done_at pass.old.worker.stage + count) }
+    ensures reads { pass.new.worker.reads.items ≡ [] }
+{
+    let row = lay_next(&words.plan, &mut pass.worker);
+    for _ in 0..count {
+        do_laid(words, &mut pass.seat, row, &mut pass.worker.desk);
+        row.go_on(&mut pass.worker.desk);
+    }
+    pass.worker.pass_by(&words.plan, count);
+}
