@@ -1,6 +1,7 @@
 -- What the steps of instances that are laid on a desk ask, and what is left of these behind each.
 use Rattle.std.proofs.Common.{◌≡◌, ◌∙◌, ◌+◌, ◌-◌, ◌<◌, ◌≤◌, ℕ, suc, ℤ, List, [], Some, length, get_or, ap, ap₂, subst, sym}
-use Rattle.std.proofs.Common.{arith, take}
+use Rattle.std.proofs.Common.{arith}
+use Rattle.std.proofs.Common.{take}
 use Rattle.std.specs.Prelude.{Option, slice_get}
 use Rattle.atomic_table.specs.declared.shared.Seat.{Seat}
 use Rattle.whole_numbers.specs.Lists.{sums}
@@ -30,7 +31,7 @@ use Rattle.tile_core.proofs.Stretches.{step_first}
 use Rattle.array_words.specs.Loads.{IsNextRead}
 use Rattle.array_words.specs.Seats.{IsSeat}
 use Rattle.array_words.specs.Stores.{IsNextStore}
-use Rattle.tile_runner.specs.Laid.{AreLaid}
+use Rattle.tile_runner.specs.Laid.{AreOnDesk}
 
 -- the law of rows
 abbrev pub RowsTell : Type 0
@@ -41,7 +42,7 @@ RowsTell = (plan : Plan) (x : Instance) (row : Row) → IsPlan plan → In x (pl
 pub ahead_laid : (plan : Plan) (s : Stage) (next : Option CodeInstance) (stretch : Stretch) (count : ℕ)
     (i : CodeInstance) (row : Row) (desk : Desk) → IsAhead plan s next stretch count → next ≡ Some i
     → slice_get plan.table.now.rows.items i.statement ≡ Some row → HasRoom row desk
-    → IsLaid row (take i.loops stretch.steps) (instance_of i).turns desk → AreLaid plan s row desk count
+    → IsLaid row (take i.loops stretch.steps) (instance_of i).turns desk → AreOnDesk plan s row desk count
 ahead_laid plan s next stretch count i row desk a at own room laid =
     let same : Some a.instance ≡ Some i = sym a.first ∙ at in
     let one : a.instance ≡ i = cc in
@@ -64,7 +65,7 @@ ahead_laid plan s next stretch count i row desk a at own room laid =
 
 -- so many of them
 pub fewer_laid : (plan : Plan) (s : Stage) (row : Row) (desk : Desk) (count n : ℕ) → n ≤ count
-    → AreLaid plan s row desk count → AreLaid plan s row desk n
+    → AreOnDesk plan s row desk count → AreOnDesk plan s row desk n
 fewer_laid plan s row desk count n few a =
     let within = a.within in record {
       tile = a.tile;
@@ -80,7 +81,7 @@ fewer_laid plan s row desk count n few a =
       place = λ j l. a.place j (omega (arith, l, few));
     }
 
-module _ (plan : Plan) (s : Stage) (row : Row) (desk : Desk) (a : AreLaid plan s row desk 1) where
+module _ (plan : Plan) (s : Stage) (row : Row) (desk : Desk) (a : AreOnDesk plan s row desk 1) where
   -- the place of the first
   first_place : place_in (places_in plan) a.first ≡ (shape_of plan).place a.tile a.done
   first_place = a.place 0 (omega arith) ∙ ap ((shape_of plan).place a.tile) (let q : a.done + 0 ≡ a.done = omega arith in q)
@@ -114,9 +115,9 @@ module _ (plan : Plan) (s : Stage) (row : Row) (desk : Desk) (a : AreLaid plan s
       )
 
 -- behind the first of them the others are laid on a desk that has gone on
-pub others_laid : (plan : Plan) (s : Stage) (row : Row) (desk new : Desk) (n : ℕ) → AreLaid plan s row desk (suc n)
+pub others_laid : (plan : Plan) (s : Stage) (row : Row) (desk new : Desk) (n : ℕ) → AreOnDesk plan s row desk (suc n)
     → ((steps turns : List ℤ) → IsLaid row steps turns desk → IsLaid row steps (sums turns steps) new)
-    → HasSameRoom desk new → AreLaid plan (Working (tile_at s) (suc (done_at s))) row new n
+    → HasSameRoom desk new → AreOnDesk plan (Working (tile_at s) (suc (done_at s))) row new n
 others_laid plan s row desk new n a on same =
     let within = a.within in
     let x = a.first in
@@ -142,34 +143,46 @@ stands s t k e =
     let done = ap done_at e in
     e ∙ ap₂ Working (sym (ap tile_at e)) (let same : k ≡ done_at s + 0 = omega (arith, done) in same)
 
+-- before the first of those that are laid
+pub laid_at_first : (plan : Plan) (s : Stage) (row : Row) (desk : Desk) (count : ℕ) → AreOnDesk plan s row desk count
+    → AreOnDesk plan (Working (tile_at s) (done_at s + 0)) row desk (count - 0)
+laid_at_first plan s row desk count a =
+    subst (λ (u : Stage). AreOnDesk plan u row desk (count - 0)) (stands s a.tile a.done a.works)
+    (subst (λ (n : ℕ). AreOnDesk plan s row desk n) (let q : count ≡ count - 0 = omega arith in q) a)
+
+-- a seat that went so many instances on
+pub seat_past : (words : Words) (seat new : Seat (Unit {0}) View) (t k n : ℕ) → IsSeat words (Working t k) [] seat
+    → IsSeat words (Working (tile_at seat.me.0.stage) (done_at seat.me.0.stage + n)) [] new
+    → IsSeat words (Working t (k + n)) [] new
+seat_past words seat new t k n is after =
+    subst (λ (u : Stage). IsSeat words (Working (tile_at u) (done_at u + n)) [] new) is.stage after
+
+-- by one
+pub seat_on : (words : Words) (seat new : Seat (Unit {0}) View) (t d j : ℕ) → IsSeat words (Working t (d + j)) [] seat
+    → IsSeat words (Working (tile_at seat.me.0.stage) (suc (done_at seat.me.0.stage))) [] new
+    → IsSeat words (Working t (d + (j + 1))) [] new
+seat_on words seat new t d j is after =
+    subst (λ (k : ℕ). IsSeat words (Working t k) [] new) (let q : suc (d + j) ≡ d + (j + 1) = omega arith in q)
+    (subst (λ (u : Stage). IsSeat words (Working (tile_at u) (suc (done_at u))) [] new) is.stage after)
+
 module _ (words : Words) (row : Row) (seat : Seat (Unit {0}) View) (desk : Desk) (t d j count : ℕ)
-    (is : IsSeat words (Working t (d + j)) [] seat) (a : AreLaid words.plan (Working t (d + j)) row desk (count - j))
+    (is : IsSeat words (Working t (d + j)) [] seat) (a : AreOnDesk words.plan (Working t (d + j)) row desk (count - j))
     (less : j < count) where
   -- the first of them, where the view of the seat stands
-  pub here_laid : AreLaid words.plan seat.me.0.stage row desk 1
+  pub here_laid : AreOnDesk words.plan seat.me.0.stage row desk 1
   here_laid =
-      subst (λ (u : Stage). AreLaid words.plan u row desk 1) (sym is.stage)
+      subst (λ (u : Stage). AreOnDesk words.plan u row desk 1) (sym is.stage)
       (fewer_laid words.plan (Working t (d + j)) row desk (count - j) 1 (omega (arith, less)) a)
 
-  more : suc (d + j) ≡ d + (j + 1)
-  more = omega arith
-
-  -- the seat behind it
-  pub seat_on : (new : Seat (Unit {0}) View)
-      → IsSeat words (Working (tile_at seat.me.0.stage) (suc (done_at seat.me.0.stage))) [] new
-      → IsSeat words (Working t (d + (j + 1))) [] new
-  seat_on new after =
-      subst (λ (k : ℕ). IsSeat words (Working t k) [] new) more
-      (subst (λ (u : Stage). IsSeat words (Working (tile_at u) (suc (done_at u))) [] new) is.stage after)
-
-  -- and the desk
+  -- the others, behind it
   pub laid_on : (new : Desk)
       → ((steps turns : List ℤ) → IsLaid row steps turns desk → IsLaid row steps (sums turns steps) new)
-      → HasSameRoom desk new → AreLaid words.plan (Working t (d + (j + 1))) row new (count - (j + 1))
+      → HasSameRoom desk new → AreOnDesk words.plan (Working t (d + (j + 1))) row new (count - (j + 1))
   laid_on new on same =
-      subst (λ (k : ℕ). AreLaid words.plan (Working t k) row new (count - (j + 1))) more
+      subst (λ (k : ℕ). AreOnDesk words.plan (Working t k) row new (count - (j + 1)))
+      (let q : suc (d + j) ≡ d + (j + 1) = omega arith in q)
       (others_laid words.plan (Working t (d + j)) row desk new (count - (j + 1))
-      (subst (λ (n : ℕ). AreLaid words.plan (Working t (d + j)) row desk n)
+      (subst (λ (n : ℕ). AreOnDesk words.plan (Working t (d + j)) row desk n)
       (let q : count - j ≡ suc (count - (j + 1)) = omega (arith, less) in q) a) on same)
 
 -- a worker with another desk of the same room is still one of the plan
@@ -180,4 +193,5 @@ worker_kept plan w new is same = record {
   tile = is.tile;
   next = is.next;
   desk = room_stays_for_all plan.table.now w.desk new is.desk same;
+  desks = is.desks;
 }

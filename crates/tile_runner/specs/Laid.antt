@@ -1,12 +1,14 @@
--- Instances of a tile that are laid on a desk.
+-- Instances of a tile that are laid on a desk, and strands that each are on a desk of their own.
 use Rattle.std.specs.Prelude.{◌≡◌, ◌+◌, ◌<◌, ◌≤◌, ℕ, ℤ, List, slice_get, Some}
 use Rattle.scop_syntax.specs.Members.{In}
 use Rattle.scop_syntax.specs.Walk.{Instance}
+use Rattle.loop_tree.specs.declared.braid.Braid.{Braid}
 use Rattle.stmt_table.specs.Desks.{HasRoom, IsLaid}
 use Rattle.stmt_table.specs.declared.desk.Desk.{Desk}
 use Rattle.stmt_table.specs.declared.table.Row.{Row}
 use Rattle.tile_core.specs.Plans.{places_in, shape_of}
 use Rattle.tile_core.specs.Ranks.{place_in}
+use Rattle.tile_core.specs.Strands.{IsRound}
 use Rattle.tile_core.specs.Stretches.{moved}
 use Rattle.tile_core.specs.declared.plan.Plan.{Plan}
 use Rattle.tile_core.specs.declared.worker.Stage.{Stage}
@@ -14,7 +16,7 @@ use Rattle.tile_core.specs.declared.worker.Stage.TheVariants.{Working}
 
 -- so many instances come next in the tile, each with the same steps more in its turns than the one before it, and the
 -- desk stands at the first of them and goes on by these steps
-pub record AreLaid (plan : Plan) (s : Stage) (row : Row) (desk : Desk) (count : ℕ) : Type 0 where
+pub record AreOnDesk (plan : Plan) (s : Stage) (row : Row) (desk : Desk) (count : ℕ) : Type 0 where
   pub tile : ℕ
   pub done : ℕ
   pub works : s ≡ Working tile done
@@ -27,3 +29,12 @@ pub record AreLaid (plan : Plan) (s : Stage) (row : Row) (desk : Desk) (count : 
   pub walked : (j : ℕ) → j < count → In (moved first steps j) (places_in plan)
   pub place : (j : ℕ) → j < count
       → place_in (places_in plan) (moved first steps j) ≡ (shape_of plan).place tile (done + j)
+
+-- what a braid's strands give in a round comes next in the tile, in turn, and each strand's desk stands there
+pub record AreStrandsNext (plan : Plan) (s : Stage) (b : Braid) (desks : List Desk) : Type 0 where
+  pub round : ℕ
+  pub tile : ℕ
+  pub done : ℕ
+  pub works : s ≡ Working tile done
+  pub within : done + b.count ≤ (shape_of plan).size tile
+  pub is : IsRound plan b round tile done desks

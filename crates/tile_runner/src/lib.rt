@@ -4,6 +4,8 @@
 //! workers.
 #![tactic(auto)]
 
+mod ahead;
+mod rounds;
 mod running;
 mod stretches;
 mod working;

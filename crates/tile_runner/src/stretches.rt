@@ -2,14 +2,14 @@
 //! and each then costs the loads of what it reads, the steps of its code, and a store.
 ghost use Rattle.std.specs.Prelude.{◌≡◌, ◌+◌, ◌≤◌, ℕ, ℤ, [], List, suc, take};
 ghost use Rattle.array_words.specs.Seats.{IsSeat};
+ghost use Rattle.whole_numbers.specs.Lists.{sums};
 ghost use Rattle.stmt_table.specs.Desks.{HasSameRoom, IsLaid};
-ghost use Rattle.tile_core.specs.Passes.{IsPass};
 ghost use Rattle.tile_core.specs.Plans.{IsPlan};
 ghost use Rattle.tile_core.specs.Stretches.{IsAhead};
 ghost use Rattle.tile_core.specs.Views.{done_at, tile_at};
 ghost use Rattle.tile_core.specs.Workers.{IsWorker};
 ghost use Rattle.tile_core.specs.declared.worker.Stage.TheVariants.{Working};
-ghost use Rattle.tile_runner.specs.Laid.{AreLaid};
+ghost use Rattle.tile_runner.specs.Laid.{AreOnDesk};
 
 use array_words::{load_at, store_at};
 use atomic_table::Seat;
@@ -19,7 +19,7 @@ use stmt_table::table::Row;
 use tile_core::plan::Plan;
 use tile_core::plan_laws::rows_tell_instances;
 use tile_core::view::View;
-use tile_core::words::{Pass, Words};
+use tile_core::words::Words;
 use tile_core::worker::Worker;
 
 /// The first steps.
@@ -30,17 +30,17 @@ fn first_steps(steps: &[i64; MAX_LOOPS], loops: usize) -> &[i64]
     &steps[..loops]
 }
 
-/// Lays the row of the next instance on the worker's desk, to go on by the steps of the stretch that it has ahead.
+/// Lays the row of the next instance on the worker's desk, to go on by the steps of the stretch that it has ahead. Of the
+/// worker nothing but its desk changes.
 fn lay_next<'a>(plan: &'a Plan, worker: &mut Worker) -> &'a Row
     requires plan { IsPlan plan.now }
     requires worker { IsWorker plan.now worker.old }
     requires ahead { (count : ℕ)
         × IsAhead plan.now worker.old.stage worker.old.next worker.old.spot.stretch count }
     ensures laid { (count : ℕ) → IsAhead plan.now worker.old.stage worker.old.next worker.old.spot.stretch count
-        → AreLaid plan.now worker.old.stage result.now worker.new.desk count }
+        → AreOnDesk plan.now worker.old.stage result.now worker.new.desk count }
     ensures worker { IsWorker plan.now worker.new }
-    ensures stage { worker.new.stage ≡ worker.old.stage }
-    ensures spot { worker.new.spot ≡ worker.old.spot }
+    ensures same { worker.new ≡ record worker.old { desk = worker.new.desk } }
 {
     let Some(next) = worker.next else {
         unreachable!()
@@ -55,14 +55,16 @@ fn lay_next<'a>(plan: &'a Plan, worker: &mut Worker) -> &'a Row
     row
 }
 
-/// Does the first of the instances that are laid on the desk, the next one of the tile at which the seat stands.
+/// Does the first of the instances that are laid on the desk, the next one of the tile at which the seat stands, and
+/// takes the desk one step on.
 #[inline]
-fn do_laid(words: &Words, seat: &mut Seat<(), View>, row: &Row, desk: &mut Desk)
+pub(crate) fn do_laid(words: &Words, seat: &mut Seat<(), View>, row: &Row, desk: &mut Desk)
     requires seat { IsSeat words.now seat.old.me.0.stage [] seat.old }
-    requires laid { AreLaid words.now.plan seat.old.me.0.stage row.now desk.old 1 }
+    requires laid { AreOnDesk words.now.plan seat.old.me.0.stage row.now desk.old 1 }
     ensures seat { IsSeat words.now (Working (tile_at seat.old.me.0.stage) (suc (done_at seat.old.me.0.stage))) []
         seat.new }
-    ensures laid { (steps turns : List ℤ) → IsLaid row.now steps turns desk.old → IsLaid row.now steps turns desk.new }
+    ensures laid { (steps turns : List ℤ) → IsLaid row.now steps turns desk.old
+        → IsLaid row.now steps (sums turns steps) desk.new }
     ensures room { HasSameRoom desk.old desk.new }
 {
     rows_tell_instances();
@@ -72,24 +74,22 @@ fn do_laid(words: &Words, seat: &mut Seat<(), View>, row: &Row, desk: &mut Desk)
     }
     let value = row.value(desk);
     store_at(words, seat, row.cell(desk, 0), value);
+    row.go_on(desk);
 }
 
-/// Does so many of the instances that a pass has ahead, all that go by the steps of a stretch or a part of them.
-#[inline]
-pub(crate) fn do_stretch(words: &Words, pass: &mut Pass, count: usize)
-    requires pass { IsPass words.now pass.old }
-    requires ahead { IsAhead words.now.plan pass.old.worker.stage pass.old.worker.next pass.old.worker.spot.stretch
-        count }
-    requires reads { pass.old.worker.reads.items ≡ [] }
-    ensures pass { IsPass words.now pass.new }
-    ensures stage { pass.new.worker.stage
-        ≡ Working (tile_at pass.old.worker.stage) (done_at pass.old.worker.stage + count) }
-    ensures reads { pass.new.worker.reads.items ≡ [] }
+/// Does so many of the instances that the worker has ahead along a stretch, by the steps of the seat. Of the worker nothing
+/// but its desk changes.
+pub(crate) fn do_along(words: &Words, seat: &mut Seat<(), View>, worker: &mut Worker, count: usize)
+    requires seat { IsSeat words.now worker.old.stage [] seat.old }
+    requires worker { IsWorker words.now.plan worker.old }
+    requires ahead { IsAhead words.now.plan worker.old.stage worker.old.next worker.old.spot.stretch count }
+    ensures seat { IsSeat words.now (Working (tile_at worker.old.stage) (done_at worker.old.stage + count)) []
+        seat.new }
+    ensures worker { IsWorker words.now.plan worker.new }
+    ensures same { worker.new ≡ record worker.old { desk = worker.new.desk } }
 {
-    let row = lay_next(&words.plan, &mut pass.worker);
+    let row = lay_next(&words.plan, worker);
     for _ in 0..count {
-        do_laid(words, &mut pass.seat, row, &mut pass.worker.desk);
-        row.go_on(&mut pass.worker.desk);
+        do_laid(words, seat, row, &mut worker.desk);
     }
-    pass.worker.pass_by(&words.plan, count);
 }

@@ -3,7 +3,7 @@ ghost use Rattle.std.specs.Prelude.{◌≡◌, []};
 ghost use Rattle.tile_core.specs.Passes.{IsPass, plan_in};
 ghost use Rattle.tile_core.specs.declared.worker.Stage.TheVariants.{Ended, Holding, Idle, Working};
 
-use crate::stretches::do_stretch;
+use crate::ahead::do_ahead;
 use io_ports::Gate;
 use std::sync::Wait;
 use std::thread;
@@ -20,11 +20,10 @@ fn do_tile(words: &Words, pass: &mut Pass, tile: u64)
     ensures stage { pass.new.worker.stage ≡ Working tile ((plan_in words.now).size tile) }
 {
     loop {
-        let count = pass.worker.ahead(&words.plan);
+        let count = do_ahead(words, pass);
         if count == 0 {
             return;
         }
-        do_stretch(words, pass, count);
     }
 }
 
