@@ -42,7 +42,12 @@ fn do_round(words: &Words, seat: &mut Seat<(), View>, worker: &mut Worker)
 
 /// Does so many whole rounds that the worker has ahead behind its next instance, which the seat has done. Of the worker
 /// nothing but its desks changes.
-pub(crate) fn do_rounds(words: &Words, seat: &mut Seat<(), View>, worker: &mut Worker, rounds: usize)
+pub(crate) fn do_rounds(
+    words: &Words,
+    seat: &mut Seat<(), View>,
+    worker: &mut Worker,
+    rounds: usize,
+)
     requires seat { IsSeat words.now (Working (tile_at worker.old.stage) (suc (done_at worker.old.stage))) []
         seat.old }
     requires worker { IsWorker words.now.plan worker.old }

@@ -76,11 +76,11 @@ loop-at-preserved c =
       seat = seat_on c.args.words.now c.loop-at.seat c.do_laid.new.seat (tile_at s) (done_at s) at inv.seat
           c.do_laid.ensures.seat;
       laid = λ round laid. let two = inv.laid round laid in (
-          laid_more table a.spot.braid w.desks.items at new strand (suc round) within there
-              (laid_on plan a.spot.braid w.desks.items at strand desk row inv.worker.desks few less there is c.row-row.ensures
-              new c.do_laid.ensures.laid round two.1) two.0,
-          laid_behind table a.spot.braid w.desks.items at new a.spot.braid.count round two.1,
-          );
+        laid_more table a.spot.braid w.desks.items at new strand (suc round) within there
+            (laid_on plan a.spot.braid w.desks.items at strand desk row inv.worker.desks few less there is c.row-row.ensures
+            new c.do_laid.ensures.laid round two.1) two.0,
+        laid_behind table a.spot.braid w.desks.items at new a.spot.braid.count round two.1,
+      );
       same = ap (λ (v : Worker). record v { desks = with_item w.desks at new }) inv.same;
       worker = worker_with plan w (with_item w.desks at new) inv.worker
           (desks_put table w.desks.items at new inv.worker.desks

@@ -51,12 +51,12 @@ loop-preserved c =
     let t = tile_at a.stage in
     let k = suc (done_at a.stage) in
     let goes = subst (λ (v : Worker). (round : ℕ)
-        → AreLaid table v.spot.braid 0 v.spot.braid.count round w.desks.items
-        → AreLaid table v.spot.braid 0 v.spot.braid.count (suc round) new.desks.items) inv.same c.do_round.ensures.laid in
+    → AreLaid table v.spot.braid 0 v.spot.braid.count round w.desks.items
+    → AreLaid table v.spot.braid 0 v.spot.braid.count (suc round) new.desks.items) inv.same c.do_round.ensures.laid in
     let far = subst (λ (v : Worker). IsSeat words (Working t ((k + q * count) + v.spot.braid.count)) []
-        c.do_round.new.seat) inv.same
-        (seat_past words c.loop.seat c.do_round.new.seat t (k + q * count) w.spot.braid.count inv.seat
-        c.do_round.ensures.seat) in
+    c.do_round.new.seat) inv.same
+    (seat_past words c.loop.seat c.do_round.new.seat t (k + q * count) w.spot.braid.count inv.seat
+    c.do_round.ensures.seat) in
     record {
       seat = subst (λ (n : ℕ). IsSeat words (Working t n) [] c.do_round.new.seat)
           (let e : (k + q * count) + count ≡ k + (q + 1) * count = omega arith in e) far;
