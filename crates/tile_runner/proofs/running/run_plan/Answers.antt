@@ -5,7 +5,8 @@ use Rattle.array_words.specs.Closing.{IsClosed}
 use Rattle.scop_syntax.specs.Execution.{cell_number}
 use Rattle.tile_core.specs.Plans.{extents_in, plan_of, walk_in}
 use Rattle.tile_events.specs.Flat.{flat}
-use Rattle.tile_core.proofs.Plans.{none_marked, walk_over}
+use Rattle.tile_core.proofs.Plans.{walk_over}
+use Rattle.tile_events.proofs.Flat.{none_marked}
 use Rattle.tile_runner.proofs.running.run_plan.Goals as goal
 
 pub returns-clause-arrays : goal.returns-clause-arrays
