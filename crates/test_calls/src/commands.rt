@@ -114,18 +114,22 @@ fn tells_a_source_and_a_sink_that_fail(rt: HostRuntime) -> Result<(), Fail> {
 }
 
 /// The answer to so many spaces.
-fn answer_to_spaces(rt: &HostRuntime, count: usize) -> Result<Answer, AllocError> {
-    let spaces = vec![in rt.alloc(); b' '; count]?;
-    let source = MemSource::of(rt.alloc(), &spaces, 65536, &[])?;
-    let out = MemSink::of(rt.alloc(), 9, 9, &[])?;
-    call(rt, rt.alloc(), &["polypar", "run"], source, out)
+fn answer_to_spaces<R: Threads + Wait + Sync>(
+    rt: &R,
+    alloc: Global,
+    count: usize,
+) -> Result<Answer, AllocError> {
+    let spaces = vec![in alloc; b' '; count]?;
+    let source = MemSource::of(alloc, &spaces, 65536, &[])?;
+    let out = MemSink::of(alloc, 9, 9, &[])?;
+    call(rt, alloc, &["polypar", "run"], source, out)
 }
 
 #[test]
 fn refuses_an_input_that_is_too_long(rt: HostRuntime) -> Result<(), Fail> {
-    let last = answer_to_spaces(&rt, 134_217_728)?;
+    let last = answer_to_spaces(&rt, rt.alloc(), 134_217_728)?;
     assert!(rt; is_told(last, 2, b"", b"refused: Unended 1:134217729\n"));
-    let past = answer_to_spaces(&rt, 134_217_729)?;
+    let past = answer_to_spaces(&rt, rt.alloc(), 134_217_729)?;
     assert!(rt; is_told(past, 2, b"", b"refused: TooLong 1:1\n"));
     Ok(())
 }
