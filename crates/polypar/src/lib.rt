@@ -24,6 +24,6 @@ pub use laws::{
     only_plans_have_lines, printed_arrays_are_data, printed_loops_are_read_back,
     printed_loops_run_the_kernel, printed_sources_tell_last_writes,
 };
-pub use plain::{deserved_once, plain_command, polypar};
+pub use plain::{command_by, deserved_once, plain_command, polypar};
 pub use report_text::{DataRefusal, Outside, Refusal, RefusalKind, Status};
 pub use run::LONGEST_INPUT;

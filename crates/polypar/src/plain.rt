@@ -71,8 +71,8 @@ pub fn polypar<R: Threads + Wait + Sync, S: Source, O: Sink, E: Sink, G: Gate>(
     command_by(&By { run }, alloc, words, source, out, err)
 }
 
-/// Does what the words ask for, where tiles are run by these workers, and tells a status other than Done.
-fn command_by<W: Workers, S: Source, O: Sink, E: Sink>(
+/// Does what the words ask for, as `plain_command`, but these workers run the tiles.
+pub fn command_by<W: Workers, S: Source, O: Sink, E: Sink>(
     by: &W,
     alloc: Global,
     words: &[String],

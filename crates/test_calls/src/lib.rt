@@ -32,6 +32,8 @@ mod sets;
 #[cfg(test)]
 mod solver;
 #[cfg(test)]
+mod steps;
+#[cfg(test)]
 mod texts;
 #[cfg(test)]
 mod trees;

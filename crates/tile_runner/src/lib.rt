@@ -11,4 +11,4 @@ mod stretches;
 mod working;
 
 pub use running::run_plan;
-pub use working::work;
+pub use working::{do_tile, work};

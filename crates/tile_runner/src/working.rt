@@ -11,8 +11,8 @@ use tile_claims::claim;
 use tile_core::words::{Pass, Words};
 use wave_barrier::{finish, try_open};
 
-/// Does every instance of the tile that was opened.
-fn do_tile(words: &Words, pass: &mut Pass, tile: u64)
+/// Does every instance of the tile that was opened. It takes no memory and waits for nobody.
+pub fn do_tile(words: &Words, pass: &mut Pass, tile: u64)
     requires pass { IsPass words.now pass.old }
     requires stage { pass.old.worker.stage ≡ Working tile 0 }
     requires reads { pass.old.worker.reads.items ≡ [] }
