@@ -16,7 +16,7 @@ use Rattle.tile_core.specs.Workers.{staged}
 use Rattle.tile_core.specs.declared.view.Key.{Key}
 use Rattle.tile_core.specs.declared.view.View.{View}
 use Rattle.tile_core.specs.declared.words.Words.{Words}
-use Rattle.tile_core.specs.Views.{key_plan, worker_in, parts_in, Ruled}
+use Rattle.tile_core.specs.Views.{key_plan, worker_in, parts_in, clock_in, Ruled}
 use Rattle.tile_core.specs.Passes.{plan_in}
 use Rattle.array_words.specs.Closing.{IsGathered, IsClosed, stage_after}
 
@@ -37,7 +37,7 @@ cells_for : EndIsExecuted View → (key : Key) (row new : List ℕ) (slots : Lis
 cells_for ends key row new slots id v ended all (s, (held, here), words, homes, at_home) copied c less =
     sym (at_get row (c + 2) (get_or new c 0) (copied c less))
     ∙ (ap (λ (ws : List ℕ). slice_index ws (c + 2)) (sym words)
-    ∙ ends (key_plan key) key.workers worker_in parts_in s id v held here ended all c less)
+    ∙ ends (key_plan key) key.workers worker_in parts_in clock_in s id v held here ended all c less)
 
 -- a plan with the words' cells at first
 abbrev at_plan : Words → Plan → events.Plan

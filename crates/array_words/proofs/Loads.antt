@@ -6,6 +6,7 @@ use Rattle.atomic_table.specs.Table.{Me, Allows, step}
 use Rattle.atomic_table.specs.declared.shared.Seat.{Seat}
 use Rattle.scop_syntax.proofs.Members.{in_at}
 use Rattle.tile_events.specs.Plan.{IsDealt, values_read}
+use Rattle.tile_events.specs.Core.{cell_read}
 use Rattle.tile_events.specs.Allowed.{LoadIsAllowed}
 use Rattle.tile_core.specs.declared.plan.Plan.{Plan}
 use Rattle.tile_core.specs.declared.worker.Stage.{Stage}
@@ -16,7 +17,8 @@ use Rattle.tile_core.specs.declared.words.Words.{Words}
 use Rattle.tile_core.specs.Plans.{plan_of}
 use Rattle.tile_core.specs.Ranks.{start_at}
 use Rattle.tile_core.specs.Workers.{staged}
-use Rattle.tile_core.specs.Views.{key_plan, plan_at, worker_in, parts_in, at_stage, executed, Ruled}
+use Rattle.tile_core.specs.Views.{key_plan, plan_at, worker_in, parts_in, clock_in, at_stage, behind}
+use Rattle.tile_core.specs.Views.{executed, Ruled}
 use Rattle.tile_core.specs.Passes.{plan_in}
 use Rattle.array_words.specs.Loads.{IsNextRead, Loads}
 use Rattle.array_words.specs.Seats.{IsSeat}
@@ -39,10 +41,12 @@ module _ (words : Words) (seat : Seat (Unit {0}) View) where
       ≡ get_or (values_read (key_plan key) ((key_plan key).place t k)) (length xs) 0 =
       ap (λ v. executed (plan_at v) me.0.stage me.0.reads) is.key ∙ ap₂ (executed (key_plan key)) is.stage is.reads in
       subst (λ (d : ℕ). MayLoad words seat d) (sym at)
-      (allowed (key_plan key) key.workers worker_in parts_in words.table.shared.table_id.slots seat.id t k xs me
-      (λ x. at_stage me.0 me.0.stage (me.0.reads ++ x ∷ []))
-      (ap₂ staged is.stage is.reads) (λ x. ap₂ (λ s ys. staged s (ys ++ x ∷ [])) is.stage is.reads) (λ x. refl) less more
-      (λ x f. (f ∙ sym value, refl)))
+      (allowed (key_plan key) key.workers worker_in parts_in clock_in words.table.shared.table_id.slots seat.id t k xs me
+      (λ stamp x. at_stage (behind me.0 stamp (cell_read (key_plan key) t k (length xs) + 2) x) me.0.stage
+      (me.0.reads ++ x ∷ []))
+      (ap₂ staged is.stage is.reads)
+      (λ stamp x. (ap₂ (λ s ys. staged s (ys ++ x ∷ [])) is.stage is.reads, refl, refl)) less more
+      (λ stamp x f. (f ∙ sym value, stamp, refl)))
 
   pub loads : LoadIsAllowed Loads → (s : Stage) (xs : List ℕ) (c : ℕ) → IsSeat words s xs seat
       → IsNextRead (plan_in words) s xs c → MayLoad words seat c

@@ -14,7 +14,8 @@ use Rattle.tile_core.specs.declared.words.Words.{Words}
 use Rattle.tile_core.specs.declared.plan.Plan.{Plan}
 use Rattle.tile_core.specs.Plans.{shape_of, plan_of}
 use Rattle.tile_core.specs.Workers.{staged}
-use Rattle.tile_core.specs.Views.{key_plan, worker_in, parts_in, at_stage, tile_at, done_at, Ruled}
+use Rattle.tile_core.specs.Views.{key_plan, worker_in, parts_in, clock_in, at_stage, behind, tile_at}
+use Rattle.tile_core.specs.Views.{done_at, Ruled}
 use Rattle.tile_core.specs.Passes.{plan_in}
 use Rattle.array_words.specs.Seats.{IsSeat}
 use Rattle.array_words.specs.Stores.{IsNextStore, Stores}
@@ -35,10 +36,12 @@ module _ (words : Words) (seat : Seat (Unit {0}) View) where
       let key : Key = words.table.shared.key in
       let me : Me (Unit {0}) View = seat.me in
       subst (λ (d : ℕ). MayStore words seat d x) (sym at)
-      (allowed (key_plan key) key.workers worker_in parts_in words.table.shared.table_id.slots seat.id t k x xs me
-      (at_stage me.0 (Working (tile_at me.0.stage) (suc (done_at me.0.stage))) [])
-      (ap₂ staged is.stage is.reads) (ap₂ (λ a b. working a (suc b) []) (ap tile_at is.stage) (ap done_at is.stage)) refl
-      less all refl value refl)
+      (allowed (key_plan key) key.workers worker_in parts_in clock_in words.table.shared.table_id.slots seat.id t k x xs me
+      (λ stamp. at_stage (behind me.0 stamp ((key_plan key).written ((key_plan key).place t k) + 2) x)
+      (Working (tile_at me.0.stage) (suc (done_at me.0.stage))) [])
+      (ap₂ staged is.stage is.reads)
+      (λ stamp. (ap₂ (λ a b. working a (suc b) []) (ap tile_at is.stage) (ap done_at is.stage), refl, refl))
+      less all refl value (λ stamp. (stamp, refl)))
 
   pub stores : StoreIsAllowed Stores → (s : Stage) (xs : List ℕ) (c x : ℕ) → IsSeat words s xs seat
       → IsNextStore (plan_in words) s xs c x → MayStore words seat c x

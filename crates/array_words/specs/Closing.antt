@@ -3,6 +3,7 @@ use Rattle.std.specs.Prelude.{◌≡◌, ℕ, zero, suc, ◌+◌, ◌<◌, ◌�
 use Rattle.atomic_table.specs.declared.shared.Seat.{Seat}
 use Rattle.tile_events.specs.Plan as plain
 use Rattle.tile_events.specs.Plan.{before}
+use Rattle.tile_events.specs.Rule.{both_clocks, unmoved}
 use Rattle.tile_core.specs.declared.worker.Stage.{Stage}
 use Rattle.tile_core.specs.declared.worker.Stage.TheVariants.{Idle, Ended, Holding, Working}
 use Rattle.tile_core.specs.declared.view.View.{View}
@@ -16,13 +17,18 @@ joined Ended s = Ended
 joined (Holding t) s = Ended
 joined (Working t k) s = Ended
 
--- both in one: it has ended where either had
+-- both in one: it has ended where either had, and made the steps of both
 abbrev pub together : View → View → View
-together v u = record v { parts = v.parts + u.parts; stage = joined v.stage u.stage; reads = [] }
+together v u = record v {
+  parts = v.parts + u.parts;
+  stage = joined v.stage u.stage;
+  reads = [];
+  clock = both_clocks v.clock u.clock;
+}
 
 -- what is left of a view that was joined away
 abbrev pub spent_view : View
-spent_view = record { key = None; parts = 0; stage = Idle; reads = [] }
+spent_view = record { key = None; parts = 0; stage = Idle; reads = []; clock = unmoved }
 
 abbrev pub Rests : Stage → Type 0
 Rests Idle = ⊤

@@ -10,7 +10,7 @@ use Rattle.tile_core.specs.declared.worker.Stage.TheVariants.{Idle, Ended, Holdi
 use Rattle.tile_core.specs.declared.view.View.{View}
 use Rattle.tile_core.specs.declared.words.Words.{Words}
 use Rattle.tile_core.specs.declared.words.Pass.{Pass}
-use Rattle.tile_core.specs.Views.{at_stage, plan_at, executed}
+use Rattle.tile_core.specs.Views.{at_stage, behind, plan_at, executed}
 
 -- the next act of the tile is to read this cell
 abbrev pub IsNextRead : plain.Plan → Stage → List ℕ → ℕ → Type 0
@@ -23,7 +23,8 @@ IsNextRead p (Working t k) xs c = (k < p.size t) × (length xs < length (p.read 
 -- the number r that it found is the one that execution reads there, and is kept
 abbrev pub Loads : Step (Unit {0}) → Me (Unit {0}) View → ℕ → Me (Unit {0}) View → Type 0
 Loads st m r n =
-    (r ≡ executed (plan_at m.0.key) m.0.stage m.0.reads) × (n ≡ (at_stage m.0 m.0.stage (m.0.reads ++ r ∷ []), m.1))
+    (r ≡ executed (plan_at m.0.key) m.0.stage m.0.reads) × (stamp : ℕ)
+    × (n ≡ (at_stage (behind m.0 stamp st.word r) m.0.stage (m.0.reads ++ r ∷ []), m.1))
 
 -- a load is its event on the view of the seat, by the number that it found
 abbrev pub LoadsAt : Words → Seat (Unit {0}) View → ℕ → ℕ → Seat (Unit {0}) View → Type 0

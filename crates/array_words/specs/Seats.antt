@@ -1,6 +1,7 @@
 -- Seats at the table: of one worker, and at the start of several.
 use Rattle.std.specs.Prelude.{◌≡◌, ℕ, ◌-◌, List, [], Some}
 use Rattle.atomic_table.specs.declared.shared.Seat.{Seat}
+use Rattle.tile_events.specs.Rule.{unmoved}
 use Rattle.tile_core.specs.declared.plan.Plan.{Plan}
 use Rattle.tile_core.specs.declared.worker.Stage.{Stage}
 use Rattle.tile_core.specs.declared.worker.Stage.TheVariants.{Idle}
@@ -25,9 +26,9 @@ pub record IsSeat (words : Words) (s : Stage) (xs : List ℕ) (seat : Seat (Unit
 abbrev pub fewer : View → View
 fewer v = record v { parts = v.parts - 1 }
 
--- and has a view of its own
+-- and has a view of its own, without a step
 abbrev pub one_of : View → View
-one_of v = record v { parts = 1 }
+one_of v = record v { parts = 1; clock = unmoved }
 
 -- the words are of this plan, these cells at first, and so many workers
 pub record IsStart (words : Words) (plan : Plan) (cells : List ℕ) (workers : ℕ) : Type 0 where
@@ -35,7 +36,7 @@ pub record IsStart (words : Words) (plan : Plan) (cells : List ℕ) (workers : �
   pub opening : words.table.shared.key.cells.items ≡ cells
   pub all : words.table.shared.key.workers ≡ workers
 
--- the seat stands for n workers, and all of them are idle
+-- the seat stands for n workers, all of them are idle, and no step has been made
 pub record IsRest (words : Words) (n : ℕ) (seat : Seat (Unit {0}) View) : Type 0 where
   pub of : IsWords words
   pub table : seat.table_id ≡ words.table.shared.table_id
@@ -44,10 +45,15 @@ pub record IsRest (words : Words) (n : ℕ) (seat : Seat (Unit {0}) View) : Type
   pub parts : seat.me.0.parts ≡ n
   pub stage : seat.me.0.stage ≡ Idle
   pub reads : seat.me.0.reads ≡ []
+  pub unmoved : seat.me.0.clock.steps ≡ 0
 
 -- the pass's worker is idle
 abbrev pub IsIdlePass : Pass → Type 0
 IsIdlePass pass = pass.worker.stage ≡ Idle
+
+-- the pass has made no step
+abbrev pub IsUnmoved : Pass → Type 0
+IsUnmoved pass = pass.seat.me.0.clock.steps ≡ 0
 
 -- a worker of the plan that is idle and has read nothing
 pub record IsIdleWorker (plan : Plan) (w : Worker) : Type 0 where

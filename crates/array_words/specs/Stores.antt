@@ -9,7 +9,7 @@ use Rattle.tile_core.specs.declared.worker.Stage.TheVariants.{Idle, Ended, Holdi
 use Rattle.tile_core.specs.declared.view.View.{View}
 use Rattle.tile_core.specs.declared.words.Words.{Words}
 use Rattle.tile_core.specs.declared.words.Pass.{Pass}
-use Rattle.tile_core.specs.Views.{at_stage, tile_at, done_at}
+use Rattle.tile_core.specs.Views.{at_stage, behind, tile_at, done_at}
 
 -- the next act of the tile is to store this value in this cell
 abbrev pub IsNextStore : plain.Plan → Stage → List ℕ → ℕ → ℕ → Type 0
@@ -22,7 +22,8 @@ IsNextStore p (Working t k) xs c x =
 
 -- one instance more is done, and nothing is read of the next
 abbrev pub Stores : Step (Unit {0}) → Me (Unit {0}) View → ℕ → Me (Unit {0}) View → Type 0
-Stores st m r n = n ≡ (at_stage m.0 (Working (tile_at m.0.stage) (suc (done_at m.0.stage))) [], m.1)
+Stores st m r n = (stamp : ℕ) × (n
+    ≡ (at_stage (behind m.0 stamp st.word st.first) (Working (tile_at m.0.stage) (suc (done_at m.0.stage))) [], m.1))
 
 -- a store is its event on the view of the seat
 abbrev pub StoresAt : Words → Seat (Unit {0}) View → ℕ → ℕ → Seat (Unit {0}) View → Type 0

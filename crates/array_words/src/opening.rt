@@ -1,6 +1,6 @@
 //! The start: the words of the opening state, and a pass for each worker.
 ghost use Rattle.std.specs.Prelude.{◌≡◌, ◌-◌, ◌<◌, ◌≤◌, ◌∷◌, All, IfOk, length};
-ghost use Rattle.array_words.specs.Seats.{IsIdlePass, IsIdleWorker, IsRest, IsStart};
+ghost use Rattle.array_words.specs.Seats.{IsIdlePass, IsIdleWorker, IsRest, IsStart, IsUnmoved};
 ghost use Rattle.tile_core.specs.Passes.{IsPass, IsWords};
 ghost use Rattle.tile_core.specs.Plans.{IsPlan, shape_of};
 ghost use Rattle.tile_core.specs.declared.worker.Stage.TheVariants.{Idle};
@@ -70,6 +70,7 @@ fn split(words: &Words, rest: &mut Seat<(), View>, worker: Worker) -> Pass
     ensures rest { IsRest words.now (rest.old.me.0.parts - 1) rest.new }
     ensures pass { IsPass words.now result }
     ensures idle { result.worker.stage ≡ Idle }
+    ensures unmoved { IsUnmoved result }
 {
     seats_are_allowed::<View>();
     Pass {
@@ -78,7 +79,7 @@ fn split(words: &Words, rest: &mut Seat<(), View>, worker: Worker) -> Pass
     }
 }
 
-/// The words of the opening state, with these cells, and a pass for each worker.
+/// The words of the opening state, with these cells, and a pass for each worker, none of which has made a step.
 ///
 /// # Errors
 /// `AllocError`.
@@ -96,6 +97,7 @@ pub fn start<'a>(
     ensures words { IfOk result (λ r. IsWords r.0) }
     ensures passes { IfOk result (λ r. All (IsPass r.0) r.1.items) }
     ensures idle { IfOk result (λ r. All IsIdlePass r.1.items) }
+    ensures unmoved { IfOk result (λ r. All IsUnmoved r.1.items) }
     ensures count { IfOk result (λ r. length r.1.items ≡ workers) }
 {
     let (words, mut rest) = opened(alloc, plan, cells, workers)?;

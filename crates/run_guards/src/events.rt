@@ -1,20 +1,23 @@
 //! Callers of the laws of events, seats, scans and walks.
 ghost use Rattle.std.specs.Prelude.{◌≡◌, ◌∷◌, ◌<◌, ◌+◌, ◌-◌, ◌%◌, ◌^◌, ℕ, [], Bool, List, Some, if◌then◌else◌, false};
-ghost use Rattle.std.specs.Prelude.{length, map, nat_eq, slice_get, slice_index, slice_index_or};
-ghost use mathlib.Core.Option.{none};
+ghost use Rattle.std.specs.Prelude.{length, map, nat_eq, slice_get, slice_index, slice_index_or, suc};
+ghost use lib.ListN.{get_elem?};
+ghost use mathlib.Core.Option.{none, some};
 ghost use Rattle.atomic_table.specs.Table as table;
 ghost use Rattle.atomic_table.specs.Table.{Allows, Joins, Me, Splits, State};
 ghost use Rattle.scop_syntax.specs.Cells.{Cell, Conflict, cell_of};
 ghost use Rattle.scop_syntax.specs.Execution.{AreInside, IsCell, IsShaped, cell_number, held, performed_all};
 ghost use Rattle.scop_syntax.specs.Walk.{Visit};
+ghost use Rattle.tile_events.specs.Allowed.{IsBehind};
 ghost use Rattle.tile_events.specs.Core.{Event, Worker, ended, holding, idle, replay, step, working};
 ghost use Rattle.tile_events.specs.Covers.{Covers, IsCover};
 ghost use Rattle.tile_events.specs.Deal.{dealt};
 ghost use Rattle.tile_events.specs.Example.{counted, first, some_run, two};
 ghost use Rattle.tile_events.specs.Flat.{AreMarked, IsWalk, flat, is_marked, loads};
 ghost use Rattle.tile_events.specs.Plan.{GoodPlan, IsDealt, Plan, Touch, before, values_read, waves};
-ghost use Rattle.tile_events.specs.Rule.{AreCounted, Held};
+ghost use Rattle.tile_events.specs.Rule.{AreCounted, Held, missed, ticked, unmoved};
 ghost use Rattle.tile_events.specs.Sound.{Sound};
+ghost use Rattle.tile_events.specs.declared.clock.Clock.{Clock};
 
 use atomic_table::Play;
 use tile_events::{core_laws, deal_laws, flat_laws, table_laws};
@@ -102,40 +105,86 @@ pub fn covers_over_four_cells()
 /// finish it; where the last of three tiles has a counter, it may open that tile by it, and release it from the first;
 /// where each step may tell so, by the clauses of `events_are_allowed`.
 pub fn steps_of_one_worker<V, M: Play<(), V>>()
-    ensures claim { (worker : V → Worker) (me : Me (Unit {0}) V) (won : ℕ → V) (lost : V) → worker me.0 ≡ idle
-        → ((t : ℕ) → worker (won t) ≡ holding t) → worker lost ≡ ended
+    ensures claim { (worker : V → Worker) (clock : V → Clock) (me : Me (Unit {0}) V) (won lost : ℕ → ℕ → V)
+        → worker me.0 ≡ idle
+        → ((stamp t : ℕ)
+        → IsBehind worker (λ v. 1) clock me.0 (won stamp t) (holding t) (ticked (clock me.0) stamp 0 (suc t)))
+        → ((stamp t : ℕ)
+        → IsBehind worker (λ v. 1) clock me.0 (lost stamp t) ended (missed (clock me.0) stamp 0 (suc t)))
         → ((n : ℕ) (v : V) → M.then (table.step 0 0 1 0 none) me n (v, me.1))
-        → Allows (Held two 2 worker (λ v. 1)) 0 0 me 0 (λ n. (n + 1) % 2 ^ 64) (M.then (table.step 0 0 1 0 none) me) }
-    ensures open { (worker : V → Worker) (me : Me (Unit {0}) V) (opened : V) → worker me.0 ≡ holding 1
-        → worker opened ≡ working 1 0 [] → ((n : ℕ) (v : V) → M.then (table.step 0 1 0 0 none) me n (v, me.1))
-        → Allows (Held two 2 worker (λ v. 1)) 0 0 me 1 (λ n. n) (M.then (table.step 0 1 0 0 none) me) }
-    ensures open_by_counter { (worker : V → Worker) (me : Me (Unit {0}) V) (opened : V) → worker me.0 ≡ holding 2
-        → worker opened ≡ working 2 0 [] → ((n : ℕ) (v : V) → M.then (table.step 0 7 0 0 none) me n (v, me.1))
-        → Allows (Held counted 2 worker (λ v. 1)) 0 0 me 7 (λ n. n) (M.then (table.step 0 7 0 0 none) me) }
-    ensures load { (worker : V → Worker) (me : Me (Unit {0}) V) (next : ℕ → V) → worker me.0 ≡ working 1 0 []
-        → ((x : ℕ) → worker (next x) ≡ working 1 0 (x ∷ [])) → M.then (table.step 0 2 0 0 none) me 5 (next 5, me.1)
-        → Allows (Held two 2 worker (λ v. 1)) 0 0 me 2 (λ n. n) (M.then (table.step 0 2 0 0 none) me) }
-    ensures store { (worker : V → Worker) (me : Me (Unit {0}) V) (next : V) → worker me.0 ≡ working 1 0 (5 ∷ [])
-        → worker next ≡ working 1 1 [] → M.then (table.step 0 3 6 0 none) me 6 (next, me.1)
-        → Allows (Held two 2 worker (λ v. 1)) 0 0 me 3 (λ n. 6) (λ n. M.then (table.step 0 3 6 0 none) me 6) }
-    ensures add { (worker : V → Worker) (me : Me (Unit {0}) V) (next : V) → worker me.0 ≡ working 0 1 []
-        → worker next ≡ working 0 2 [] → ((n : ℕ) → M.then (table.step 0 7 1 0 none) me n (next, me.1))
-        → Allows (Held counted 2 worker (λ v. 1)) 0 0 me 7 (λ n. (n + 1) % 2 ^ 64)
+        → Allows (Held two 2 worker (λ v. 1) clock) 0 0 me 0 (λ n. (n + 1) % 2 ^ 64)
+        (M.then (table.step 0 0 1 0 none) me) }
+    ensures open { (worker : V → Worker) (clock : V → Clock) (me : Me (Unit {0}) V) (opened waits : ℕ → ℕ → V)
+        → worker me.0 ≡ holding 1
+        → ((stamp n : ℕ)
+        → IsBehind worker (λ v. 1) clock me.0 (opened stamp n) (working 1 0 []) (ticked (clock me.0) stamp 1 n))
+        → ((stamp n : ℕ)
+        → IsBehind worker (λ v. 1) clock me.0 (waits stamp n) (holding 1) (ticked (clock me.0) stamp 1 n))
+        → ((n : ℕ) (v : V) → M.then (table.step 0 1 0 0 none) me n (v, me.1))
+        → Allows (Held two 2 worker (λ v. 1) clock) 0 0 me 1 (λ n. n) (M.then (table.step 0 1 0 0 none) me) }
+    ensures open_by_counter { (worker : V → Worker) (clock : V → Clock) (me : Me (Unit {0}) V)
+        (opened waits : ℕ → ℕ → V) → worker me.0 ≡ holding 2
+        → ((stamp n : ℕ)
+        → IsBehind worker (λ v. 1) clock me.0 (opened stamp n) (working 2 0 []) (ticked (clock me.0) stamp 7 n))
+        → ((stamp n : ℕ)
+        → IsBehind worker (λ v. 1) clock me.0 (waits stamp n) (holding 2) (ticked (clock me.0) stamp 7 n))
+        → ((n : ℕ) (v : V) → M.then (table.step 0 7 0 0 none) me n (v, me.1))
+        → Allows (Held counted 2 worker (λ v. 1) clock) 0 0 me 7 (λ n. n) (M.then (table.step 0 7 0 0 none) me) }
+    ensures load { (worker : V → Worker) (clock : V → Clock) (me : Me (Unit {0}) V) (next : ℕ → ℕ → V)
+        → worker me.0 ≡ working 1 0 []
+        → ((stamp x : ℕ)
+        → IsBehind worker (λ v. 1) clock me.0 (next stamp x) (working 1 0 (x ∷ [])) (ticked (clock me.0) stamp 2 x))
+        → ((stamp : ℕ) → M.then (table.step 0 2 0 0 none) me 5 (next stamp 5, me.1))
+        → Allows (Held two 2 worker (λ v. 1) clock) 0 0 me 2 (λ n. n) (M.then (table.step 0 2 0 0 none) me) }
+    ensures store { (worker : V → Worker) (clock : V → Clock) (me : Me (Unit {0}) V) (next : ℕ → V)
+        → worker me.0 ≡ working 1 0 (5 ∷ [])
+        → ((stamp : ℕ)
+        → IsBehind worker (λ v. 1) clock me.0 (next stamp) (working 1 1 []) (ticked (clock me.0) stamp 3 6))
+        → ((stamp : ℕ) → M.then (table.step 0 3 6 0 none) me 6 (next stamp, me.1))
+        → Allows (Held two 2 worker (λ v. 1) clock) 0 0 me 3 (λ n. 6) (λ n. M.then (table.step 0 3 6 0 none) me 6) }
+    ensures add { (worker : V → Worker) (clock : V → Clock) (me : Me (Unit {0}) V) (next : ℕ → ℕ → V)
+        → worker me.0 ≡ working 0 1 []
+        → ((stamp n : ℕ) → IsBehind worker (λ v. 1) clock me.0 (next stamp n) (working 0 2 [])
+        (ticked (clock me.0) stamp 7 ((n + 1) % 2 ^ 64)))
+        → ((stamp n : ℕ) → M.then (table.step 0 7 1 0 none) me n (next stamp n, me.1))
+        → Allows (Held counted 2 worker (λ v. 1) clock) 0 0 me 7 (λ n. (n + 1) % 2 ^ 64)
         (M.then (table.step 0 7 1 0 none) me) }
-    ensures finish { (worker : V → Worker) (me : Me (Unit {0}) V) (next : V) → worker me.0 ≡ working 1 1 []
-        → worker next ≡ idle → ((n : ℕ) → M.then (table.step 0 1 1 0 none) me n (next, me.1))
-        → Allows (Held two 2 worker (λ v. 1)) 0 0 me 1 (λ n. (n + 1) % 2 ^ 64) (M.then (table.step 0 1 1 0 none) me) }
+    ensures finish { (worker : V → Worker) (clock : V → Clock) (me : Me (Unit {0}) V) (next : ℕ → ℕ → V)
+        → worker me.0 ≡ working 1 1 []
+        → ((stamp n : ℕ)
+        → IsBehind worker (λ v. 1) clock me.0 (next stamp n) idle (ticked (clock me.0) stamp 1 (suc n)))
+        → ((stamp n : ℕ) → M.then (table.step 0 1 1 0 none) me n (next stamp n, me.1))
+        → Allows (Held two 2 worker (λ v. 1) clock) 0 0 me 1 (λ n. (n + 1) % 2 ^ 64)
+        (M.then (table.step 0 1 1 0 none) me) }
 {
     table_laws::events_are_allowed::<V, M>();
+}
+
+/// Where one seat alone goes on by one step, what its clock says that this left in word 1 is there, by `steps` of
+/// `clocks_tell`; where it was a claim that found no tile of two, the count of claims goes on from 2 to 3, by `misses`;
+/// where it has made no step, the first cell is 0, by `opening`.
+pub fn clocks_of_one_seat<V>()
+    ensures steps { (worker : V → Worker) (clock : V → Clock) (s t : State (Unit {0}) V) (v w : V)
+        → Held two 2 worker (λ v. 1) clock s → Held two 2 worker (λ v. 1) clock t → s.views ≡ v ∷ []
+        → t.views ≡ w ∷ [] → clock w ≡ ticked (clock v) 9 1 2 → slice_index t.words 1 ≡ 2 }
+    ensures misses { (worker : V → Worker) (clock : V → Clock) (s t : State (Unit {0}) V) (v w : V)
+        → Held two 2 worker (λ v. 1) clock s → Held two 2 worker (λ v. 1) clock t → s.views ≡ v ∷ []
+        → t.views ≡ w ∷ [] → (clock w).misses ≡ suc (clock v).misses → slice_index s.words 0 ≡ 2
+        → slice_index t.words 0 ≡ 3 }
+    ensures opening { (worker : V → Worker) (clock : V → Clock) (s : State (Unit {0}) V)
+        → Held two 2 worker (λ v. 1) clock s
+        → ((i : ℕ) (v : V) → get_elem? s.views i ≡ some v → (clock v).steps ≡ 0) → slice_index s.words 2 ≡ 0 }
+{
+    table_laws::clocks_tell::<V>();
 }
 
 /// Where a seat is the number of workers for whom it stands, an idle seat of three is split into one of one and one of
 /// two, by `split` of `seats_are_allowed`; two that have ended become one of three and one of nobody, by `join`; where
 /// a seat of all three has ended, the second cell of two tiles holds 6, by `end`.
 pub fn seats_of_three_workers()
-    ensures split { Splits (Held two 3 (λ v. idle) (λ v. v)) 0 3 1 2 }
-    ensures join { Joins (Held two 3 (λ v. if nat_eq v 0 then idle else ended) (λ v. v)) 0 1 1 2 3 0 }
-    ensures end { (s : State (Unit {0}) ℕ) → Held two 3 (λ v. ended) (λ v. v) s → s.views ≡ 3 ∷ []
+    ensures split { Splits (Held two 3 (λ v. idle) (λ v. v) (λ v. unmoved)) 0 3 1 2 }
+    ensures join { Joins (Held two 3 (λ v. if nat_eq v 0 then idle else ended) (λ v. v) (λ v. unmoved)) 0 1 1 2 3 0 }
+    ensures end { (s : State (Unit {0}) ℕ) → Held two 3 (λ v. ended) (λ v. v) (λ v. unmoved) s → s.views ≡ 3 ∷ []
         → slice_index s.words 3 ≡ 6 }
 {
     table_laws::seats_are_allowed::<u64>();

@@ -5,7 +5,8 @@ use Rattle.tile_events.specs.Plan as plain
 use Rattle.tile_events.specs.Plan.{waves, values_read}
 use Rattle.tile_events.specs.Core as core
 use Rattle.tile_events.specs.Core.{needed_by}
-use Rattle.tile_events.specs.Rule.{Held}
+use Rattle.tile_events.specs.Rule.{Held, ticked, missed, unmoved}
+use Rattle.tile_events.specs.declared.clock.Clock.{Clock}
 use Rattle.tile_core.specs.declared.worker.Stage.{Stage}
 use Rattle.tile_core.specs.declared.worker.Stage.TheVariants.{Idle, Ended, Holding, Working}
 use Rattle.tile_core.specs.Plans.{plan_of}
@@ -25,17 +26,28 @@ worker_in v = staged v.stage v.reads
 abbrev pub parts_in : View → ℕ
 parts_in v = v.parts
 
--- words and views are a sound state of the core, and the views stand for all workers
+-- what steps it has made
+abbrev pub clock_in : View → Clock
+clock_in v = v.clock
+
+-- words and views are a sound state of the core, the views stand for all workers, and the last step is known
 abbrev pub Ruled : Key → table.State (Unit {0}) View → Type 0
-Ruled key = Held (key_plan key) key.workers worker_in parts_in
+Ruled key = Held (key_plan key) key.workers worker_in parts_in clock_in
 
 -- the first pass stands for all workers
 abbrev pub opening_view : Key → View
-opening_view key = record { key = Some key; parts = key.workers; stage = Idle; reads = [] }
+opening_view key = record { key = Some key; parts = key.workers; stage = Idle; reads = []; clock = unmoved }
 
 -- the view at another stage, with these values read
 abbrev pub at_stage : View → Stage → List ℕ → View
 at_stage v s xs = record v { stage = s; reads = xs }
+
+-- the view behind a step of this stamp that left so much in the word, and behind one that was a claim without a tile
+abbrev pub behind : View → ℕ → ℕ → ℕ → View
+behind v stamp word left = record v { clock = ticked v.clock stamp word left }
+
+abbrev pub behind_miss : View → ℕ → ℕ → ℕ → View
+behind_miss v stamp word left = record v { clock = missed v.clock stamp word left }
 
 -- a plan of no tiles
 abbrev pub nothing : plain.Plan

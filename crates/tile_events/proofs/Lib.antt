@@ -11,6 +11,7 @@ pub mod Rests
 pub mod Runs
 pub mod Counts
 pub mod Words
+pub mod Clocks
 pub mod Table
 pub mod Deals
 pub mod Releases

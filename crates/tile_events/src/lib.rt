@@ -7,6 +7,7 @@
 //! allows. No code.
 #![tactic(auto)]
 
+pub mod clock;
 pub mod copy_laws;
 pub mod core_laws;
 pub mod deal_laws;

@@ -1,8 +1,8 @@
 //! Laws of the rule of an atomic table, as contracts of functions that do nothing: which steps it allows a seat, and
 //! what the words are at the end.
 ghost use Rattle.tile_events.specs.Allowed.{AddIsAllowed, ClaimIsAllowed, EndIsExecuted, FinishIsAllowed};
-ghost use Rattle.tile_events.specs.Allowed.{JoinIsAllowed, LoadIsAllowed, OpenIsAllowed, SplitIsAllowed};
-ghost use Rattle.tile_events.specs.Allowed.{StoreIsAllowed};
+ghost use Rattle.tile_events.specs.Allowed.{JoinIsAllowed, LoadIsAllowed, MissesCount, OpenIsAllowed, OpeningIsSeen};
+ghost use Rattle.tile_events.specs.Allowed.{SplitIsAllowed, StepsAreSeen, StoreIsAllowed};
 
 use atomic_table::Play;
 
@@ -21,4 +21,12 @@ pub fn seats_are_allowed<V>()
     ensures split { SplitIsAllowed V }
     ensures join { JoinIsAllowed V }
     ensures end { EndIsExecuted V }
+{}
+
+/// What clocks tell: what the last step of a seat left in its word, that a claim which finds no tile counts, and that
+/// where no step was made the words are those of the opening state.
+pub fn clocks_tell<V>()
+    ensures steps { StepsAreSeen V }
+    ensures misses { MissesCount V }
+    ensures opening { OpeningIsSeen V }
 {}

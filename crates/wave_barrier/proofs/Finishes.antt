@@ -1,5 +1,5 @@
 -- The end of a tile of which every instance is done is allowed by the rule of its table.
-use Rattle.std.proofs.Common.{◌≡◌, ◌+◌, ◌%◌, ◌^◌, ◌∙◌, [], ap₂, refl, sym, subst}
+use Rattle.std.proofs.Common.{◌≡◌, suc, ◌+◌, ◌%◌, ◌^◌, ◌∙◌, [], ap₂, refl, sym, subst}
 use mathlib.Core.Option.{none}
 use Rattle.atomic_table.specs.Table.{Allows, step}
 use Rattle.tile_events.specs.Allowed.{FinishIsAllowed}
@@ -11,7 +11,7 @@ use Rattle.tile_core.specs.declared.words.Pass.{Pass}
 use Rattle.tile_core.specs.declared.plan.Plan.{Plan}
 use Rattle.tile_core.specs.Plans.{plan_of}
 use Rattle.tile_core.specs.Workers.{staged}
-use Rattle.tile_core.specs.Views.{key_plan, worker_in, parts_in, at_stage, Ruled}
+use Rattle.tile_core.specs.Views.{key_plan, worker_in, parts_in, clock_in, at_stage, behind, Ruled}
 use Rattle.tile_core.specs.Passes.{plan_in, IsPass}
 use Rattle.wave_barrier.specs.Finishes.{IsFull, Finishes}
 
@@ -29,10 +29,10 @@ module _ (words : Words) (pass : Pass) where
   finishes_at allowed (Holding t) is at full = absurd full
   finishes_at allowed (Working t k) is at full =
       let key : Key = words.table.shared.key in
-      allowed (key_plan key) key.workers worker_in parts_in words.table.shared.table_id.slots pass.seat.id t k
+      allowed (key_plan key) key.workers worker_in parts_in clock_in words.table.shared.table_id.slots pass.seat.id t k
       pass.worker.reads.items
-      pass.seat.me (at_stage pass.seat.me.0 Idle [])
-      (ap₂ staged (is.stage ∙ at) is.reads) refl refl full (λ n. refl)
+      pass.seat.me (λ stamp n. at_stage (behind pass.seat.me.0 stamp 1 (suc n)) Idle [])
+      (ap₂ staged (is.stage ∙ at) is.reads) (λ stamp n. (refl, refl, refl)) full (λ stamp n. (stamp, refl))
 
   pub finishes : FinishIsAllowed Finishes → IsPass words pass → IsFull (plan_in words) pass.worker.stage
       → MayFinish words pass

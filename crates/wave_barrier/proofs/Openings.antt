@@ -12,7 +12,8 @@ use Rattle.tile_core.specs.declared.words.Words.{Words}
 use Rattle.tile_core.specs.declared.words.Pass.{Pass}
 use Rattle.tile_core.specs.Plans.{shape_of}
 use Rattle.tile_core.specs.Workers.{staged}
-use Rattle.tile_core.specs.Views.{key_plan, plan_at, worker_in, parts_in, at_stage, tile_at, needs_at, Ruled}
+use Rattle.tile_core.specs.Views.{key_plan, plan_at, worker_in, parts_in, clock_in, at_stage, behind}
+use Rattle.tile_core.specs.Views.{tile_at, needs_at, Ruled}
 use Rattle.tile_core.specs.Passes.{IsPass}
 use Rattle.wave_barrier.specs.Opens.{Opens}
 
@@ -26,11 +27,12 @@ opens allowed words pass t is holding =
     let at : me.0.stage ≡ Holding t = is.stage ∙ holding in
     let e : needs_at (plan_at me.0.key) me.0.stage ≡ (key_plan key).offset ((key_plan key).wave t) =
     ap₂ (λ k s. needs_at (plan_at k) s) is.key at in
-    allowed (key_plan key) key.workers worker_in parts_in words.table.shared.table_id.slots pass.seat.id t me
-    (at_stage me.0 (Working (tile_at me.0.stage) 0) [])
-    (ap₂ staged at is.reads) (ap (λ (n : ℕ). working n 0 []) (ap tile_at at)) refl
-    (λ n l. (λ h. refl, λ h. absurd (omega (arith, h, l, e))))
-    (λ n l. (λ h. absurd (omega (arith, h, l, e)), λ h. refl))
+    allowed (key_plan key) key.workers worker_in parts_in clock_in words.table.shared.table_id.slots pass.seat.id t me
+    (λ stamp n. at_stage (behind me.0 stamp 1 n) (Working (tile_at me.0.stage) 0) []) (λ stamp n. behind me.0 stamp 1 n)
+    (ap₂ staged at is.reads) (λ stamp n. (ap (λ (n : ℕ). working n 0 []) (ap tile_at at), refl, refl))
+    (λ stamp n. (ap₂ staged at is.reads, refl, refl))
+    (λ stamp n l. (stamp, λ h. refl, λ h. absurd (omega (arith, h, l, e))))
+    (λ stamp n l. (stamp, λ h. absurd (omega (arith, h, l, e)), λ h. refl))
 
 -- the tile that it holds is one of the plan's
 pub held_tile : (words : Words) (pass : Pass) (t : ℕ) → IsPass words pass → pass.worker.stage ≡ Holding t

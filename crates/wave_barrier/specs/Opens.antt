@@ -7,7 +7,7 @@ use Rattle.tile_core.specs.declared.worker.Stage.TheVariants.{Holding, Working}
 use Rattle.tile_core.specs.declared.view.View.{View}
 use Rattle.tile_core.specs.declared.words.Words.{Words}
 use Rattle.tile_core.specs.declared.words.Pass.{Pass}
-use Rattle.tile_core.specs.Views.{at_stage, plan_at, tile_at, needs_at}
+use Rattle.tile_core.specs.Views.{at_stage, behind, plan_at, tile_at, needs_at}
 use Rattle.tile_core.specs.Passes.{plan_in}
 use Rattle.wave_barrier.specs.declared.opening.NotYet.{NotYet}
 
@@ -15,11 +15,12 @@ use Rattle.wave_barrier.specs.declared.opening.NotYet.{NotYet}
 abbrev pub IsHolding : Stage → Type 0
 IsHolding s = (t : ℕ) × (s ≡ Holding t)
 
--- the tile is opened where the number r that it found is enough, else nothing changes
+-- the tile is opened where the number r that it found in the word is enough, else it stays as it is
 abbrev pub Opens : Step (Unit {0}) → Me (Unit {0}) View → ℕ → Me (Unit {0}) View → Type 0
-Opens st m r n =
-    (needs_at (plan_at m.0.key) m.0.stage ≤ r → n ≡ (at_stage m.0 (Working (tile_at m.0.stage) 0) [], m.1))
-    × (r < needs_at (plan_at m.0.key) m.0.stage → n ≡ m)
+Opens st m r n = (stamp : ℕ)
+    × (needs_at (plan_at m.0.key) m.0.stage ≤ r
+    → n ≡ (at_stage (behind m.0 stamp st.word r) (Working (tile_at m.0.stage) 0) [], m.1))
+    × (r < needs_at (plan_at m.0.key) m.0.stage → n ≡ (behind m.0 stamp st.word r, m.1))
 
 -- Ok exactly where at least as many are finished as have to be
 abbrev pub OpenedBy : ℕ → ℕ → Result ⊤ NotYet → Type 0

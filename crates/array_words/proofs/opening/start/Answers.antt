@@ -1,7 +1,7 @@
 use Rattle.std.proofs.Common.{rules, arith, ◌≡◌, ◌+◌, ◌<◌, ◌∷◌, ◌++◌, [], length, refl, sym, ◌∙◌}
 use Rattle.array_words.proofs.Members.{all_and}
 use Rattle.tile_core.specs.Passes.{IsPass}
-use Rattle.array_words.specs.Seats.{IsIdlePass}
+use Rattle.array_words.specs.Seats.{IsIdlePass, IsUnmoved}
 use Rattle.array_words.proofs.opening.start.Goals as goal
 
 pub loop-preserved : goal.loop-preserved
@@ -22,11 +22,14 @@ loop-preserved c =
         parts = refl;
         stage = r.stage;
         reads = r.reads;
+        unmoved = r.unmoved;
       };
       passes = all_and (IsPass c.in_ok-words.words) c.loop.passes.items c.push.new.self.items c.split.result i.passes
           c.split.ensures.pass items;
       idle = all_and IsIdlePass c.loop.passes.items c.push.new.self.items c.split.result i.idle c.split.ensures.idle
           items;
+      unmoved = all_and IsUnmoved c.loop.passes.items c.push.new.self.items c.split.result i.unmoved
+          c.split.ensures.unmoved items;
       count = omega (arith, p, n, l, more);
       at = omega (arith, a, l);
     }
@@ -52,3 +55,12 @@ returns-clause-passes c =
     } in
     all_and (IsPass c.in_ok-words.words) c.loop.passes.items c.push-2.new.self.items
     (record { seat = c.loop.rest; worker = worker }) i.passes last items
+
+pub returns-clause-unmoved : goal.returns-clause-unmoved
+returns-clause-unmoved c =
+    let i = c.loop.invariant in
+    let worker = c.in_ok-idle.field-0 in
+    let items : c.push-2.new.self.items ≡ c.loop.passes.items ++ (record { seat = c.loop.rest; worker = worker }) ∷ []
+    = search rules in
+    all_and IsUnmoved c.loop.passes.items c.push-2.new.self.items
+    (record { seat = c.loop.rest; worker = worker }) i.unmoved i.rest.unmoved items
