@@ -10,16 +10,12 @@ use Rattle.clap.specs.Walk.{walk, walk_from}
 use Rattle.clap.specs.Simple.{Shape, argument_words, built, entered, label_of, names_of, rows_at, subcommand_of}
 use Rattle.scop_syntax.specs.Members.{In}
 use Rattle.scop_syntax.proofs.Members.{in_map}
+use Rattle.command_line.proofs.NumberRows.{none_behind}
 use Rattle.command_line.specs.Command.{IsTaken, NamesCommand, NamesNoKind, command_met, command_named, command_names}
 use Rattle.command_line.specs.Command.{kernel_of, kind_in, run_options_in}
 use Rattle.command_line.specs.declared.command.Command.TheVariants.{Gen}
 use Rattle.kernel_gen.specs.declared.kind.Kind.{Kind}
 use Rattle.command_line.specs.Stated.{tool}
-
--- where one thing or another fails by no kind, the other does
-none_behind : (a b : Kinds) → or_else a b ≡ [] → b ≡ []
-none_behind [] b none = none
-none_behind (k ∷ ks) b none = cc
 
 -- where a level of a parse fails by no kind, its last check does not
 last_check : (s : Shape) (names : Names) (h : Held) (words : List Text) (met : Bool) (below : Kinds)

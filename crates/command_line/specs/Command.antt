@@ -1,5 +1,5 @@
 -- The command lines that the program takes, and the commands that they name.
-use Rattle.std.specs.Prelude.{◌≡◌, ◌≤◌, ℕ, nat_le, ◌&&◌, Bool, false, List, [], ◌∷◌, codes, Option, None, Some, ⊤}
+use Rattle.std.specs.Prelude.{◌≡◌, ◌≤◌, ℕ, Bool, false, List, [], ◌∷◌, codes, Option, None, Some, ⊤}
 use Rattle.std.specs.Prelude.{if◌then◌else◌, is_some, option_and_then, option_map, unwrap_or, true}
 use Rattle.std.specs.Option.{option_map_or}
 use Rattle.std.specs.Str.{bytes_eq}
@@ -33,14 +33,6 @@ number_of usual text =
 abbrev pub number_in : Text → ℕ → List Row → ℕ
 number_in name usual rows = option_map_or (number_of usual) (one_of name rows) usual
 
--- a number from 1 to `most`; another one is never met, since words with it are not taken
-abbrev pub within : ℕ → ℕ → ℕ → ℕ
-within most usual n = if nat_le 1 n && nat_le n most then n else usual
-
--- the value of an argument that is a number from 1 to `most`
-abbrev pub number_within : Text → ℕ → ℕ → List Row → ℕ
-number_within name most usual rows = within most usual (number_in name usual rows)
-
 -- a flag is given
 abbrev pub flag_in : Text → List Row → Bool
 flag_in name rows = option_map_or (λ text. bytes_eq text (codes "true")) (one_of name rows) false
@@ -48,8 +40,8 @@ flag_in name rows = option_map_or (λ text. bytes_eq text (codes "true")) (one_o
 -- the options of a run; a command without `--report` has no row of that name
 abbrev pub run_options_in : List Row → RunOptions
 run_options_in rows = record {
-  workers = number_within (codes "workers") most_workers usual_workers rows;
-  tile = number_within (codes "tile") most_tile usual_tile rows;
+  workers = number_in (codes "workers") usual_workers rows;
+  tile = number_in (codes "tile") usual_tile rows;
   budget = number_in (codes "budget") most_moves rows;
   report = flag_in (codes "report") rows;
 }
@@ -70,7 +62,7 @@ abbrev pub kernel_of : List Row → Kind → GeneratedKernel
 kernel_of rows kind = record {
   kind = kind;
   seed = number_in (codes "seed") 0 rows;
-  size = number_within (codes "size") most_size 1 rows;
+  size = number_in (codes "size") 1 rows;
 }
 
 -- the kernel of KIND, SEED and SIZE
@@ -83,8 +75,8 @@ kernel_command_named named =
     let budget = number_in (codes "budget") most_moves named.1 in
     if bytes_eq named.0 (codes "schedule") then Some (Schedule budget)
     else (if bytes_eq named.0 (codes "deps") then Some (Deps budget)
-    else (if bytes_eq named.0 (codes "emit")
-    then Some (Emit (number_within (codes "tile") most_tile usual_tile named.1) budget) else None))
+    else (if bytes_eq named.0 (codes "emit") then Some (Emit (number_in (codes "tile") usual_tile named.1) budget)
+    else None))
 
 -- `gen` with these matches; none where its KIND is no kind
 abbrev pub gen_named : List Row → Option Command
@@ -146,6 +138,14 @@ abbrev pub HasSize : Command → Type 0
 HasSize (Run options) = AreSized options
 HasSize (OfKernel asked) = IsSized asked
 HasSize (Gen generated options) = (1 ≤ generated.size) × (generated.size ≤ most_size) × AreSized options
+
+-- how many moves each question of a command may make
+abbrev pub budget_of : Command → ℕ
+budget_of (Run options) = options.budget
+budget_of (OfKernel (Schedule budget)) = budget
+budget_of (OfKernel (Deps budget)) = budget
+budget_of (OfKernel (Emit tile budget)) = budget
+budget_of (Gen generated options) = options.budget
 
 -- the names of the commands
 abbrev pub command_names : List Text

@@ -1,7 +1,7 @@
 //! The command line: the words that the program takes, as `clap` reads them, and the command that they name.
 //!
-//! Promises that a command comes exactly of words that are taken, that it is the one that they name, with workers, size
-//! of tiles and SIZE in their ranges, and that words which are taken are refused for want of memory alone.
+//! Promises that a command comes exactly of words that are taken, that it is the one that they name, with its numbers
+//! in their ranges, and that words which are taken are refused for want of memory alone.
 #![tactic(auto)]
 
 mod command;
@@ -11,5 +11,7 @@ mod stated;
 mod taken;
 
 pub use command::{Command, CommandStop, GeneratedKernel, KernelCommand, RunOptions};
-pub use laws::{other_kinds_alone_are_not_taken, taken_words_name_a_command};
+pub use laws::{
+    numbers_of_taken_words_are_in_range, other_kinds_alone_are_not_taken, taken_words_name_a_command,
+};
 pub use taken::command_of;

@@ -1,14 +1,12 @@
 //! What the matches of a command say: the values of its options and arguments, and the command that they name.
 
-ghost use Rattle.std.specs.Prelude.{◌≡◌, ◌≤◌, IfSome};
+ghost use Rattle.std.specs.Prelude.{◌≡◌};
 ghost use Rattle.clap.specs.Words.{found_of, rows_of, subcommand_rows_of};
-ghost use Rattle.command_line.specs.Command.{AreSized, HasSize, IsSized, command_met, command_named, flag_in, gen_named};
-ghost use Rattle.command_line.specs.Command.{generated_in, kernel_command_named, kind_in, kind_named, number_in};
-ghost use Rattle.command_line.specs.Command.{number_within, run_options_in};
-ghost use Rattle.command_line.specs.Stated.{most_size};
+ghost use Rattle.command_line.specs.Command.{command_met, command_named, flag_in, gen_named, generated_in};
+ghost use Rattle.command_line.specs.Command.{kernel_command_named, kind_in, kind_named, number_in, run_options_in};
 
 use crate::command::{Command, GeneratedKernel, KernelCommand, RunOptions};
-use crate::stated::{MOST_MOVES, MOST_SIZE, MOST_TILE, MOST_WORKERS};
+use crate::stated::MOST_MOVES;
 use clap::ArgMatches;
 use kernel_gen::Kind;
 
@@ -28,21 +26,6 @@ fn number_in(matches: &ArgMatches, name: &str, usual: u64) -> u64
     }
 }
 
-/// The same, from 1 to `most`.
-fn number_within(matches: &ArgMatches, name: &str, most: u64, usual: u64) -> u64
-    requires least { 1 ≤ usual }
-    requires most { usual ≤ most }
-    ensures number { result ≡ number_within name.now most usual (rows_of (found_of matches.now)) }
-    ensures least { 1 ≤ result }
-    ensures most { result ≤ most }
-{
-    let number = number_in(matches, name, usual);
-    if 1 <= number && number <= most {
-        return number;
-    }
-    usual
-}
-
 /// Whether the matches of a command have a flag.
 fn flag_in(matches: &ArgMatches, name: &str) -> bool
     ensures { result ≡ flag_in name.now (rows_of (found_of matches.now)) }
@@ -55,12 +38,11 @@ fn flag_in(matches: &ArgMatches, name: &str) -> bool
 
 /// The options of a run.
 fn run_options_in(matches: &ArgMatches) -> RunOptions
-    ensures options { result ≡ run_options_in (rows_of (found_of matches.now)) }
-    ensures size { AreSized result }
+    ensures { result ≡ run_options_in (rows_of (found_of matches.now)) }
 {
     RunOptions {
-        workers: number_within(matches, "workers", MOST_WORKERS, USUAL_WORKERS),
-        tile: number_within(matches, "tile", MOST_TILE, USUAL_TILE),
+        workers: number_in(matches, "workers", USUAL_WORKERS),
+        tile: number_in(matches, "tile", USUAL_TILE),
         budget: number_in(matches, "budget", MOST_MOVES),
         report: flag_in(matches, "report"),
     }
@@ -94,12 +76,10 @@ fn kind_in(matches: &ArgMatches) -> Option<Kind>
 
 /// The kernel that the matches of `gen` describe.
 fn generated_in(matches: &ArgMatches) -> Option<GeneratedKernel>
-    ensures kernel { result ≡ generated_in (rows_of (found_of matches.now)) }
-    ensures least { IfSome result (λ g. 1 ≤ g.size) }
-    ensures most { IfSome result (λ g. g.size ≤ most_size) }
+    ensures { result ≡ generated_in (rows_of (found_of matches.now)) }
 {
     let seed = number_in(matches, "seed", 0);
-    let size = number_within(matches, "size", MOST_SIZE, 1);
+    let size = number_in(matches, "size", 1);
     match kind_in(matches) {
         Some(kind) => Some(GeneratedKernel { kind, seed, size }),
         None => None,
@@ -108,8 +88,7 @@ fn generated_in(matches: &ArgMatches) -> Option<GeneratedKernel>
 
 /// What the command of this name with these matches asks of a kernel alone.
 fn kernel_command_named(name: &str, matches: &ArgMatches) -> Option<KernelCommand>
-    ensures command { result ≡ kernel_command_named (name.now, rows_of (found_of matches.now)) }
-    ensures size { IfSome result IsSized }
+    ensures { result ≡ kernel_command_named (name.now, rows_of (found_of matches.now)) }
 {
     let budget = number_in(matches, "budget", MOST_MOVES);
     if name == "schedule" {
@@ -119,7 +98,7 @@ fn kernel_command_named(name: &str, matches: &ArgMatches) -> Option<KernelComman
         return Some(KernelCommand::Deps { budget });
     }
     if name == "emit" {
-        let tile = number_within(matches, "tile", MOST_TILE, USUAL_TILE);
+        let tile = number_in(matches, "tile", USUAL_TILE);
         return Some(KernelCommand::Emit { tile, budget });
     }
     None
@@ -127,8 +106,7 @@ fn kernel_command_named(name: &str, matches: &ArgMatches) -> Option<KernelComman
 
 /// The command `gen` with these matches.
 fn gen_named(matches: &ArgMatches) -> Option<Command>
-    ensures command { result ≡ gen_named (rows_of (found_of matches.now)) }
-    ensures size { IfSome result HasSize }
+    ensures { result ≡ gen_named (rows_of (found_of matches.now)) }
 {
     let options = run_options_in(matches);
     match generated_in(matches) {
@@ -139,8 +117,7 @@ fn gen_named(matches: &ArgMatches) -> Option<Command>
 
 /// The command of this name with these matches. There is none where the kind of a generated kernel is no kind.
 fn command_named(name: &str, matches: &ArgMatches) -> Option<Command>
-    ensures command { result ≡ command_named (name.now, rows_of (found_of matches.now)) }
-    ensures size { IfSome result HasSize }
+    ensures { result ≡ command_named (name.now, rows_of (found_of matches.now)) }
 {
     if name == "run" {
         return Some(Command::Run(run_options_in(matches)));
@@ -156,8 +133,7 @@ fn command_named(name: &str, matches: &ArgMatches) -> Option<Command>
 
 /// The command that matches of the stated command name.
 pub(crate) fn command_met(matches: &ArgMatches) -> Option<Command>
-    ensures command { result ≡ command_met (subcommand_rows_of matches.now) }
-    ensures size { IfSome result HasSize }
+    ensures { result ≡ command_met (subcommand_rows_of matches.now) }
 {
     match matches.subcommand() {
         Some((name, inner)) => command_named(name, inner),

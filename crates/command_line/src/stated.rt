@@ -11,16 +11,16 @@ use clap::{Arg, ArgAction};
 use std::alloc::{AllocError, Global};
 
 /// The most workers.
-pub(crate) const MOST_WORKERS: u64 = 64;
+const MOST_WORKERS: u64 = 64;
 
 /// The greatest size of tiles.
-pub(crate) const MOST_TILE: u64 = 1024;
+const MOST_TILE: u64 = 1024;
 
 /// The most moves of a question.
 pub(crate) const MOST_MOVES: u64 = 20_000;
 
 /// The greatest size of a generated kernel.
-pub(crate) const MOST_SIZE: u64 = 512;
+const MOST_SIZE: u64 = 512;
 
 /// An option of this name, whose value is a number from 1 to `most`.
 fn number_option<'a>(alloc: Global, name: &'a str, most: u64) -> Arg<'a>

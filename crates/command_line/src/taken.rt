@@ -6,6 +6,7 @@ ghost use Rattle.command_line.specs.Command.{HasSize, IsTaken, command_of};
 ghost use Rattle.command_line.specs.Stated.{tool};
 
 use crate::command::{Command, CommandStop};
+use crate::laws::numbers_of_taken_words_are_in_range;
 use crate::matched::command_met;
 use crate::stated::stated;
 use clap::ArgMatches;
@@ -45,6 +46,7 @@ pub fn command_of<'a>(alloc: Global, words: &'a [String]) -> Result<Command, Com
     ensures size { IfOk result HasSize }
     ensures usage { IsErrOf result CommandStop.Usage → IsTaken (map string_bytes words.now) → ⊥ }
 {
+    numbers_of_taken_words_are_in_range();
     let matches = match matches_of(alloc, words) {
         Ok(matches) => matches,
         Err(stop) => return Err(stop),

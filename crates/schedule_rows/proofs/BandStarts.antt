@@ -1,4 +1,4 @@
--- Where the bands of a schedule began, and what their marks say.
+-- Where the bands of a schedule began, what their marks say, and what bounds their rows.
 use Rattle.std.proofs.Common.{◌≡◌, ℕ, zero, suc, ◌+◌, List, [], ◌∷◌, ◌++◌, refl, sym, ◌∙◌, ap, ap₂, subst, ◌⊎◌, inl}
 use Rattle.std.proofs.Common.{inr, arith, length, All, append_assoc, Some}
 use Rattle.std.specs.Prelude.{Bool, true, ⊤, ◌↔◌, slice_get, Option}
@@ -6,8 +6,9 @@ use Rattle.std.proofs.lemmas.List.{append-nil, length-append, length-map}
 use Rattle.std.proofs.lemmas.List.Elements.{All-nil, All-cons, All-head, All-tail, All-append}
 use Rattle.scop_syntax.specs.Members.{In}
 use Rattle.iteration_domains.specs.Dependence.{Dependence}
-use Rattle.schedule_rows.specs.Items.{Row, Marked, Block, scalar, band, closed_by}
+use Rattle.schedule_rows.specs.Items.{Row, Marked, Block, scalar, band, part_of, closed_by}
 use Rattle.schedule_rows.specs.Dependences.{IsEqualAt}
+use Rattle.schedule_rows.specs.Posed.{IsBounded, loops_of}
 use Rattle.schedule_rows.specs.Next.{State, Restricts, Goes, Ends}
 use Rattle.schedule_rows.specs.Outcomes.{goes, state, Next, Runs, IsSchedule}
 use Rattle.schedule_rows.specs.Reaching.{Path, Reached}
@@ -36,16 +37,18 @@ pub reached_first : (m : ℕ) (loops : List ℕ) (deps taken : List Dependence) 
     → Reached m loops deps (state [] [] taken)
 reached_first m loops deps taken h = record { taken = taken; states = []; takes = h; path = refl }
 
--- a row is marked exactly where it has equal values at all pairs of what remains
-abbrev pub IsExact : ℕ → List Dependence → Marked → Type 0
-IsExact m remaining r = (r.parallel ≡ true) ↔ ((d : Dependence) → In d remaining → IsEqualAt m r.row d)
+-- a row is marked exactly where it has equal values at all pairs of what remains, and bounds their distances
+pub record IsMade (m : ℕ) (loops : List ℕ) (remaining : List Dependence) (r : Marked) : Type 0 where
+  pub exact : (r.parallel ≡ true) ↔ ((d : Dependence) → In d remaining → IsEqualAt m r.row d)
+  pub sized : (s : ℕ) → length (part_of r.row s).coefficients ≡ loops_of loops s
+  pub bounded : (d : Dependence) → In d remaining → IsBounded r.row d
 
 -- a band, when it began
 pub record Began (m : ℕ) (loops : List ℕ) (deps : List Dependence) (before : List Block) (ms : List Marked) : Type 0
   where
     pub remaining : List Dependence
     pub reached : Reached m loops deps (state before [] remaining)
-    pub exact : All (IsExact m remaining) ms
+    pub made : All (IsMade m loops remaining) ms
 
 -- the bands among blocks that stand behind others
 abbrev pub AreBegun : ℕ → List ℕ → List Dependence → List Block → List Block → Type 0
@@ -73,15 +76,15 @@ record Stands (m : ℕ) (loops : List ℕ) (deps : List Dependence) (s : State) 
   pub reached : Reached m loops deps s
   pub began : Reached m loops deps (state s.closed [] s.remaining)
   pub closed : AreBegun m loops deps [] s.closed
-  pub rows : All (IsExact m s.remaining) s.rows
+  pub rows : All (IsMade m loops s.remaining) s.rows
 
 closed_begun : (m : ℕ) (loops : List ℕ) (deps : List Dependence) (closed : List Block) (rows : List Marked)
     (remaining : List Dependence) → Reached m loops deps (state closed [] remaining) → AreBegun m loops deps [] closed
-    → All (IsExact m remaining) rows → AreBegun m loops deps [] (closed_by closed rows)
+    → All (IsMade m loops remaining) rows → AreBegun m loops deps [] (closed_by closed rows)
 closed_begun m loops deps closed [] remaining r h k = h
 closed_begun m loops deps closed (q ∷ qs) remaining r h k =
     begun_append m loops deps [] closed (band (q ∷ qs) ∷ []) h
-    (record { remaining = remaining; reached = r; exact = k }, tt)
+    (record { remaining = remaining; reached = r; made = k }, tt)
 
 -- a state whose band is not open yet
 fresh : (m : ℕ) (loops : List ℕ) (deps : List Dependence) (t : State) (closed : List Block)
@@ -91,21 +94,25 @@ fresh m loops deps t closed r e c h =
       reached = r;
       began = subst (λ (z : List Marked). Reached m loops deps (state t.closed z t.remaining)) e r;
       closed = subst (λ (z : List Block). AreBegun m loops deps [] z) (sym c) h;
-      rows = subst (λ (z : List Marked). All (IsExact m t.remaining) z) (sym e) (All-nil (IsExact m t.remaining));
+      rows = subst (λ (z : List Marked). All (IsMade m loops t.remaining) z) (sym e)
+          (All-nil (IsMade m loops t.remaining));
     }
 
 stands_goes : (m : ℕ) (loops : List ℕ) (deps : List Dependence) (s t : State) → Stands m loops deps s
     → Reached m loops deps t → Goes m loops s t → Stands m loops deps t
 stands_goes m loops deps s t h r (inl a) =
-    let rows = All-append (IsExact m s.remaining) s.rows (a.row ∷ []) h.rows
-    (All-cons (IsExact m s.remaining) a.row [] a.parallel (All-nil (IsExact m s.remaining))) in
+    let p = a.least.posed in
+    let own : IsMade m loops s.remaining a.row =
+    record { exact = a.parallel; sized = p.sized; bounded = p.bounded } in
+    let rows = All-append (IsMade m loops s.remaining) s.rows (a.row ∷ []) h.rows
+    (All-cons (IsMade m loops s.remaining) a.row [] own (All-nil (IsMade m loops s.remaining))) in
     record {
       reached = r;
       began = subst (λ (z : List Block). Reached m loops deps (state z [] t.remaining)) (sym a.closed)
           (subst (λ (z : List Dependence). Reached m loops deps (state s.closed [] z)) (sym a.remaining) h.began);
       closed = subst (λ (z : List Block). AreBegun m loops deps [] z) (sym a.closed) h.closed;
-      rows = subst (λ (z : List Marked). All (IsExact m t.remaining) z) (sym a.rows)
-          (subst (λ (z : List Dependence). All (IsExact m z) (s.rows ++ a.row ∷ [])) (sym a.remaining) rows);
+      rows = subst (λ (z : List Marked). All (IsMade m loops t.remaining) z) (sym a.rows)
+          (subst (λ (z : List Dependence). All (IsMade m loops z) (s.rows ++ a.row ∷ [])) (sym a.remaining) rows);
     }
 stands_goes m loops deps s t h r (inr (inl c)) =
     fresh m loops deps t (closed_by s.closed s.rows) r c.rows c.closed
@@ -132,13 +139,13 @@ run_begun m loops deps s (t ∷ ts) blocks h e =
     (stands_goes m loops deps s t h (reached_more m loops deps s t h.reached e.0) (next_goes m loops s t e.0)) e.1
 
 -- the bands of a schedule
-schedule_begun : (m : ℕ) (loops : List ℕ) (deps : List Dependence) (blocks : List Block)
+pub schedule_begun : (m : ℕ) (loops : List ℕ) (deps : List Dependence) (blocks : List Block)
     → IsSchedule m loops deps blocks
     → AreBegun m loops deps [] blocks
 schedule_begun m loops deps blocks s =
     let first = reached_first m loops deps s.taken s.takes in
     run_begun m loops deps (state [] [] s.taken) s.states blocks
-    (record { reached = first; began = first; closed = tt; rows = All-nil (IsExact m s.taken) }) s.runs
+    (record { reached = first; began = first; closed = tt; rows = All-nil (IsMade m loops s.taken) }) s.runs
 
 abbrev row_in : Row → Option Item → Row
 row_in d (Some (plain.row r)) = r
@@ -165,12 +172,13 @@ abbrev marked_in : Marked → Option Marked → Marked
 marked_in d (Some z) = z
 marked_in d o = d
 
-exact_at : (m : ℕ) (remaining : List Dependence) (ms : List Marked) (k : ℕ) (r : Marked)
-    → All (IsExact m remaining) ms → slice_get ms k ≡ Some r → IsExact m remaining r
-exact_at m remaining [] k r h e = absurd cc
-exact_at m remaining (q ∷ ms) zero r h e =
-    subst (IsExact m remaining) (ap (marked_in r) e) (All-head (IsExact m remaining) q ms h)
-exact_at m remaining (q ∷ ms) (suc k) r h e = exact_at m remaining ms k r (All-tail (IsExact m remaining) q ms h) e
+made_at : (m : ℕ) (loops : List ℕ) (remaining : List Dependence) (ms : List Marked) (k : ℕ) (r : Marked)
+    → All (IsMade m loops remaining) ms → slice_get ms k ≡ Some r → IsMade m loops remaining r
+made_at m loops remaining [] k r h e = absurd cc
+made_at m loops remaining (q ∷ ms) zero r h e =
+    subst (IsMade m loops remaining) (ap (marked_in r) e) (All-head (IsMade m loops remaining) q ms h)
+made_at m loops remaining (q ∷ ms) (suc k) r h e =
+    made_at m loops remaining ms k r (All-tail (IsMade m loops remaining) q ms h) e
 
 -- where a row is found among blocks that stand behind others
 record Found (m : ℕ) (loops : List ℕ) (deps : List Dependence) (all : List Block) (k : ℕ) (r : Row) (mark : Bool) : Type
@@ -226,7 +234,7 @@ find_row m loops deps before (band ms ∷ bs) k r mark h i g = elim (in_band ms 
     began = h.0.reached;
     place = refl;
     own = own;
-    exact = exact_at m h.0.remaining ms k (record { row = r; parallel = mark }) h.0.exact own;
+    exact = (made_at m loops h.0.remaining ms k (record { row = r; parallel = mark }) h.0.made own).exact;
   }
   | inr e ↦
       let one = band ms ∷ [] in

@@ -39,7 +39,7 @@ pub record Holds (m : ℕ) (loops : List ℕ) (deps : List Dependence) (closed :
       → Relates params e x y
       → AreKept rows x y
 
-suits : (loops : List ℕ) (d : Dependence) (r : Row) → IsSizedDep loops d
+pub suits : (loops : List ℕ) (d : Dependence) (r : Row) → IsSizedDep loops d
     → ((s : ℕ) → length (part_of r s).coefficients ≡ loops_of loops s) → Suits d r
 suits loops d r h k = (k d.source.statement ∙ sym h.source_turns, k d.target.statement ∙ sym h.target_turns)
 
@@ -285,6 +285,17 @@ run_ended m loops deps s (t ∷ ts) blocks h e d params x y i size r =
     run_ended m loops deps t ts blocks
     (holds_step m loops deps s t h (next_goes m loops s t e.0)) e.1 d params x y i size r
 
+-- when a run begins
+pub holds_first : (m : ℕ) (loops : List ℕ) (deps taken : List Dependence)
+    → ((d : Dependence) → In d deps → IsSizedDep loops d) → Restricts m [] deps taken → Holds m loops deps [] [] taken
+holds_first m loops deps taken sized takes =
+    record {
+      sized = restricts_sized m loops [] deps taken sized takes;
+      sized_rows = tt;
+      pairs = λ d params x y i size r. restricts_pair m loops [] deps taken d params x y sized tt size takes i r tt;
+      kept = λ e params x y i size r. tt;
+    }
+
 -- a schedule keeps each pair of each dependence, band by band
 pub schedule_along : (m : ℕ) (loops : List ℕ) (deps : List Dependence) (blocks : List Block)
     → ((d : Dependence) → In d deps → IsSizedDep loops d)
@@ -293,10 +304,4 @@ pub schedule_along : (m : ℕ) (loops : List ℕ) (deps : List Dependence) (bloc
     → Relates params d x y → Along blocks x y (x.number ≡ y.number)
 schedule_along m loops deps blocks sized s d params x y i size r =
     run_ended m loops deps (record { closed = []; rows = []; remaining = s.taken }) s.states blocks
-    (record {
-      sized = restricts_sized m loops [] deps s.taken sized s.takes;
-      sized_rows = tt;
-      pairs = λ c ps v w j l q. restricts_pair m loops [] deps s.taken c ps v w sized tt l s.takes j q tt;
-      kept = λ e ps v w j l q. tt;
-    })
-    s.runs d params x y i size r
+    (holds_first m loops deps s.taken sized s.takes) s.runs d params x y i size r

@@ -15,7 +15,8 @@ pub use pair_laws::{
     no_rising_pair_is_parallel, parts_that_do_not_fall_make_good_pairs,
 };
 pub use run_laws::{
-    each_state_has_one_outcome, least_rows_are_unique, runs_are_short, schedules_are_good_plans,
+    dependences_have_one_schedule, each_state_has_one_outcome, least_rows_are_unique,
+    runs_are_short, schedules_are_good_plans, schedules_bound_distances,
     schedules_have_small_items, schedules_keep_every_band, times_rise_along_dependences,
     values_are_in_order,
 };

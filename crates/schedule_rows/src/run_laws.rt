@@ -1,9 +1,10 @@
 //! What the determined run gives.
-ghost use Rattle.std.specs.Prelude.{◌≡◌, ℕ, ◌≤◌, ℤ, pos, ◌<ℤ◌, List, [], ◌∷◌, ◌++◌, length, ◌⊎◌};
+ghost use Rattle.std.specs.Prelude.{◌≡◌, ℕ, ◌≤◌, ℤ, pos, ◌<ℤ◌, ◌≤ℤ◌, ◌+ℤ◌, ◌-ℤ◌, List, [], ◌∷◌, ◌++◌, length, ◌⊎◌};
 ghost use Rattle.whole_numbers.specs.Lexicographic.{LexLess};
+ghost use Rattle.whole_numbers.specs.Lists.{dot};
 ghost use Rattle.scop_syntax.specs.Members.{In};
 ghost use Rattle.scop_syntax.specs.Walk.{Instance};
-ghost use Rattle.schedule_rows.specs.Items.{Row, Block, values};
+ghost use Rattle.schedule_rows.specs.Items.{Row, Marked, Block, band, phi, values};
 ghost use Rattle.schedule_rows.specs.Bands.{Along};
 ghost use Rattle.schedule_rows.specs.Sized.{AreSized};
 ghost use Rattle.iteration_domains.specs.Dependence.{Dependence};
@@ -60,6 +61,22 @@ pub fn schedules_are_good_plans()
         → IsGoodPair size blocks n x y }
 {}
 
+/// A row of a schedule rises by at most u.n + w at each pair of a dependence that is left when its band begins: the
+/// values of all items before are equal there.
+pub fn schedules_bound_distances()
+    ensures { (m : ℕ) (loops : List ℕ) (deps : List Dependence) (before : List Block) (rows : List Marked)
+        (behind : List Block)
+        → ((d : Dependence) → In d deps → IsSizedDep loops d)
+        → IsSchedule m loops deps (before ++ band rows ∷ behind)
+        → (r : Marked) (d : Dependence) (params : List ℤ) (x y : Instance)
+        → In r rows
+        → In d deps
+        → length params ≡ m
+        → Relates params d x y
+        → values before x ≡ values before y
+        → (phi r.row y -ℤ phi r.row x) ≤ℤ (dot r.row.u params +ℤ r.row.w) }
+{}
+
 /// A run has no more steps than the measure: twice the kernel vectors and the dependences, and the open band.
 pub fn runs_are_short()
     ensures { (m : ℕ) (loops : List ℕ) (s : State) (states : List State) (blocks : List Block)
@@ -75,6 +92,16 @@ pub fn each_state_has_one_outcome()
     ensures { (m : ℕ) (loops : List ℕ) (s : State) (o q : Outcome) → Next m loops s o → Next m loops s q → o ≡ q }
 {
     numberings_are_unique();
+}
+
+/// Dependences have one schedule.
+pub fn dependences_have_one_schedule()
+    ensures { (m : ℕ) (loops : List ℕ) (deps : List Dependence) (blocks others : List Block)
+        → IsSchedule m loops deps blocks
+        → IsSchedule m loops deps others
+        → blocks ≡ others }
+{
+    each_state_has_one_outcome();
 }
 
 /// The time of the earlier of two dependent instances, its item values and its statement's number, comes first.
