@@ -1,7 +1,9 @@
 //! Callers of domains: the laws in kernels without parameters.
 ghost use Rattle.std.specs.Prelude.{◌≡◌, ◌++◌, [], ℕ, IfOk, Some, length, map, slice_get};
+ghost use Rattle.integer_sets.specs.Constraints.{Constraints};
 ghost use Rattle.integer_sets.specs.Points.{Satisfies};
 ghost use Rattle.scop_syntax.specs.Cells.{accesses, cell_of};
+ghost use Rattle.scop_syntax.specs.Execution.{IsInside, layout};
 ghost use Rattle.scop_syntax.specs.Kernel.{IsKernel};
 ghost use Rattle.scop_syntax.specs.Members.{In};
 ghost use Rattle.scop_syntax.specs.Tree.{Program};
@@ -9,9 +11,12 @@ ghost use Rattle.scop_syntax.specs.View.{program_of};
 ghost use Rattle.scop_syntax.specs.Walk.{Visit, walk_of};
 ghost use Rattle.iteration_domains.specs.Instances.{IsInstanceOf};
 ghost use Rattle.iteration_domains.specs.Model.{Modelled, model_of};
+ghost use Rattle.iteration_domains.specs.Outside.{Asks, FailsAt, Side, outside_systems};
 
 use iteration_domains::Model;
-use iteration_domains::domain_laws::{accesses_touch_the_cells, domains_hold_the_instances};
+use iteration_domains::domain_laws::{
+    accesses_touch_the_cells, domains_hold_the_instances, outside_points_are_failures,
+};
 use scop_syntax::tree::Kernel;
 use std::alloc::{AllocError, Global};
 
@@ -46,4 +51,24 @@ pub fn cells_of_kernels_without_parameters()
         → map (λ a. cell_of a (v.turns ++ [])) s.accesses ≡ map (λ a. cell_of a v.point) (accesses v.body) }
 {
     accesses_touch_the_cells();
+}
+
+/// There, by the clauses of `outside_points_are_failures` of these names: each system of the index check is that of a
+/// subscript and a side, and each such system stands among them; where one without dimensions holds, an instance fails;
+/// an instance that fails satisfies its system; and where there is no system, every subscript lies inside.
+pub fn questions_of_kernels_without_parameters()
+    ensures systems { (program : Program) (c : Constraints) → In c (outside_systems program [])
+        → (s : Modelled) × (a : ℕ) × (d : ℕ) × (side : Side) × Asks program [] s a d side c }
+    ensures each { (program : Program) (s : Modelled) (a d : ℕ) (side : Side) (c : Constraints)
+        → Asks program [] s a d side c → In c (outside_systems program []) }
+    ensures point { (program : Program) (s : Modelled) (a d : ℕ) (side : Side) (c : Constraints) → IsKernel program
+        → program.parameters ≡ [] → Asks program [] s a d side c → c.dimensions ≡ 0 → Satisfies c []
+        → (v : Visit) × In v (walk_of program []) × (v.number ≡ s.number) × FailsAt (layout program []) v a d side }
+    ensures failure { (program : Program) (s : Modelled) (a d : ℕ) (side : Side) (c : Constraints) (v : Visit)
+        → program.parameters ≡ [] → Asks program [] s a d side c → IsInstanceOf program [] s v
+        → FailsAt (layout program []) v a d side → Satisfies c v.turns }
+    ensures inside { (program : Program) → IsKernel program → program.parameters ≡ []
+        → outside_systems program [] ≡ [] → IsInside program [] }
+{
+    outside_points_are_failures();
 }

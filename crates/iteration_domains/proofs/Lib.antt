@@ -6,3 +6,7 @@ pub mod SmallRuns
 pub mod Surroundings
 pub mod TreeStatements
 pub mod AddedConstraints
+pub mod FixedForms
+pub mod OutsideLaws
+pub mod OutsideSteps
+pub mod Asking

@@ -7,5 +7,7 @@ pub mod Standing
 pub mod Path
 pub mod Dependence
 pub mod Restrictions
+pub mod Outside
+pub mod steps
 -- Passed on: what this crate's contracts are told in.
 pub use Rattle.integer_sets.specs.Parts

@@ -120,7 +120,7 @@ fn with_equality(alloc: Global, system: &System, form: Form) -> Result<System, A
 }
 
 /// A copy of a system, with a row more.
-fn with_row(alloc: Global, system: &System, form: Form) -> Result<System, AllocError>
+pub fn with_row(alloc: Global, system: &System, form: Form) -> Result<System, AllocError>
     requires { variables_of form ≡ variables_in system.now }
     ensures { IfOk result (λ s. s ≡ system_of system.now.dimensions system.now.parameters
         system.now.equalities (system.now.rows ++ form ∷ [])) }

@@ -1,14 +1,20 @@
 //! Laws of the domains, as contracts of functions that do nothing.
 ghost use Rattle.std.specs.Prelude.{◌≡◌, ℕ, ℤ, List, Some, ◌++◌, length, map, slice_get};
+ghost use Rattle.integer_sets.specs.Constraints.{Constraints};
 ghost use Rattle.integer_sets.specs.Points.{Satisfies};
 ghost use Rattle.scop_syntax.specs.Cells.{accesses, cell_of};
+ghost use Rattle.scop_syntax.specs.Execution.{IsInside, layout};
 ghost use Rattle.scop_syntax.specs.Kernel.{IsKernel};
 ghost use Rattle.scop_syntax.specs.Members.{In};
 ghost use Rattle.scop_syntax.specs.Tree.{Program};
 ghost use Rattle.scop_syntax.specs.Walk.{Visit, walk_of};
 ghost use Rattle.iteration_domains.specs.Instances.{IsInstanceOf};
 ghost use Rattle.iteration_domains.specs.Model.{Modelled, model_of};
+ghost use Rattle.iteration_domains.specs.Outside.{Asks, FailsAt, Side, outside_systems};
+ghost use Rattle.whole_numbers.specs.Lists.{NotNegative};
 
+use scop_syntax::failure_laws::failures_are_the_first;
+use scop_syntax::limit_laws::accesses_have_the_ranks_of_arrays;
 use scop_syntax::walk_laws::{
     instances_are_those_of_statements, statements_are_numbered, walks_are_in_order,
 };
@@ -42,4 +48,32 @@ pub fn accesses_touch_the_cells()
 {
     instances_are_those_of_statements();
     statements_are_numbered();
+}
+
+/// The systems of the index check are those of the subscripts, one for each side; the whole points of each are exactly
+/// the turns of the instances at which that access fails there; and where none has such a point, no subscript lies
+/// outside.
+pub fn outside_points_are_failures()
+    ensures systems { (program : Program) (params : List ℤ) (c : Constraints) → In c (outside_systems program params)
+        → (s : Modelled) × (a : ℕ) × (d : ℕ) × (side : Side) × Asks program params s a d side c }
+    ensures each { (program : Program) (params : List ℤ) (s : Modelled) (a d : ℕ) (side : Side) (c : Constraints)
+        → Asks program params s a d side c → In c (outside_systems program params) }
+    ensures point { (program : Program) (params : List ℤ) (s : Modelled) (a d : ℕ) (side : Side) (c : Constraints)
+        (xs : List ℤ) → IsKernel program → length params ≡ length program.parameters
+        → Asks program params s a d side c → length xs ≡ c.dimensions → Satisfies c xs
+        → (v : Visit) × IsInstanceOf program params s v × (v.turns ≡ xs) × FailsAt (layout program params) v a d side }
+    ensures failure { (program : Program) (params : List ℤ) (s : Modelled) (a d : ℕ) (side : Side) (c : Constraints)
+        (v : Visit) → length params ≡ length program.parameters → Asks program params s a d side c
+        → IsInstanceOf program params s v → FailsAt (layout program params) v a d side
+        → (length v.turns ≡ c.dimensions) × Satisfies c v.turns }
+    ensures inside { (program : Program) (params : List ℤ) → IsKernel program
+        → length params ≡ length program.parameters
+        → ((c : Constraints) → In c (outside_systems program params) → (xs : List ℤ) → length xs ≡ c.dimensions
+        → NotNegative xs → Satisfies c xs → ⊥)
+        → IsInside program params }
+{
+    instances_are_those_of_statements();
+    statements_are_numbered();
+    failures_are_the_first();
+    accesses_have_the_ranks_of_arrays();
 }

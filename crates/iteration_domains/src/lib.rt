@@ -12,6 +12,7 @@ pub mod domain_laws;
 mod forms;
 mod items;
 mod model;
+mod outside;
 mod rows;
 mod statement;
 
@@ -26,4 +27,4 @@ pub use rows::{Scope, StatementRows, rows_within};
 pub use statement::{AccessForms, StatementModel};
 
 // Passed on: what goes with this crate's contracts.
-pub use integer_sets::{Form, push};
+pub use integer_sets::{Form, System, push};

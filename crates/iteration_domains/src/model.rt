@@ -1,12 +1,17 @@
 //! The model of a kernel: its statements in textual order, each with its domain and its accesses.
 ghost use Rattle.std.specs.Prelude.{◌≡◌, ◌≤◌, ℕ, All, IfOk, slice_get, Some};
 ghost use Rattle.scop_syntax.specs.Kernel.{IsKernel};
+ghost use Rattle.scop_syntax.specs.Limits.{WithinLimits};
 ghost use Rattle.scop_syntax.specs.View.{program_of};
 ghost use Rattle.iteration_domains.specs.Model.{Modelled, model_of};
+ghost use Rattle.iteration_domains.specs.Outside.{outside_systems};
 ghost use Rattle.iteration_domains.specs.Sizes.{HaveOneCount};
 
 use crate::items::{Path, model_items};
+use crate::outside::push_statement;
 use crate::statement::StatementModel;
+use integer_sets::System;
+use scop_syntax::limit_laws::cells_lie_within_22_bits;
 use scop_syntax::tree::Kernel;
 use scop_syntax::walk_laws::statements_are_numbered;
 use std::alloc::{AllocError, Global};
@@ -69,5 +74,30 @@ impl Model {
         ensures places { (k : ℕ) (s : Modelled) → slice_get result.now k ≡ Some s → s.number ≡ k }
     {
         self.statements.as_slice()
+    }
+
+    /// The systems of the index check at these parameters: by statement, access and dimension two each, whose whole
+    /// points are the instances at which the subscript is at most -1, and at least its extent.
+    ///
+    /// # Errors
+    /// `AllocError` alone.
+    pub fn outside_systems(
+        &self,
+        alloc: Global,
+        kernel: &Kernel,
+        params: &[i64],
+    ) -> Result<Vec<System>, AllocError>
+        requires kernel { IsKernel (program_of kernel.now) }
+        requires model { self.now ≡ model_of (program_of kernel.now) }
+        requires params { WithinLimits (program_of kernel.now) params.now }
+        ensures { IfOk result (λ v. v.items ≡ outside_systems (program_of kernel.now) params.now) }
+    {
+        statements_are_numbered();
+        cells_lie_within_22_bits();
+        let mut systems = Vec::new(alloc);
+        for statement in &self.statements {
+            push_statement(&mut systems, alloc, statement, kernel, params)?;
+        }
+        Ok(systems)
     }
 }

@@ -11,6 +11,7 @@ mod cut;
 mod executing;
 mod generating;
 mod in_memory;
+mod index_check;
 mod kernel;
 mod laws;
 mod loops;

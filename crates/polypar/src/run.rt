@@ -18,13 +18,13 @@ ghost use Rattle.polypar.specs.Answered.{NamesOf};
 
 use crate::cut::cut;
 use crate::executing::run_planned;
+use crate::index_check::outside_in;
 use crate::kernel::print_asked;
 use command_line::{Command, RunOptions};
 use data_text::{Case, DataStop, read_data, write_arrays};
 use io_ports::{Failed, ReadError, Sink, Source, read_to_end, write_whole};
 use kernel_runs::Workers;
 use report_text::{Refusal, RefusalKind, Status};
-use scop_meaning::index::first_outside;
 use scop_parser::reader::{ReadKernelError, read_kernel};
 use scop_syntax::failure_laws::failures_are_the_first;
 use scop_syntax::limit_laws::accesses_have_the_ranks_of_arrays;
@@ -186,7 +186,7 @@ fn run_case<W: Workers, O: Sink, E: Sink>(
 {
     accesses_have_the_ranks_of_arrays();
     failures_are_the_first();
-    match first_outside(kernel, &case.params, &case.extents) {
+    match outside_in(alloc, kernel, &case.params, &case.extents) {
         Some(outside) => Status::Outside(outside),
         None => run_inside(by, alloc, kernel, case, options, out, err),
     }

@@ -9,5 +9,4 @@ mod Kernels
 mod StatementSearch
 pub mod Nodes
 mod Numbering
-mod Ends
 pub mod Outside

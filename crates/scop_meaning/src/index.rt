@@ -1,7 +1,7 @@
 //! The index check: the first instance of the walk that has a subscript outside its extent, with its
 //! least access and of that its least dimension.
-ghost use Rattle.std.specs.Prelude.{◌≡◌, ◌+◌, ◌≤◌, ◌∷◌, ◌^◌, [], All, FitsSigned, IfSome, MatchOption, length, map, pos};
-ghost use Rattle.std.specs.Prelude.{true, ⊤};
+ghost use Rattle.std.specs.Prelude.{◌≡◌, ◌+◌, ◌≤◌, ◌∷◌, ◌^◌, [], All, FitsSigned, MatchOption, length, map, pos};
+ghost use Rattle.std.specs.Prelude.{⊤};
 ghost use Rattle.std.specs.Int.{w64};
 ghost use Rattle.std.specs.Option.{option_map};
 ghost use Rattle.whole_numbers.specs.Affine.{value_of};
@@ -11,23 +11,20 @@ ghost use Rattle.scop_syntax.specs.Failures.{failures, first_outside as first_fa
 ghost use Rattle.scop_syntax.specs.Fits.{AccessFits, ExpressionFits, RightFits, StatementFits};
 ghost use Rattle.scop_syntax.specs.Kernel.{IsAccess, IsExpression, IsRight, IsStatement};
 ghost use Rattle.scop_syntax.specs.Limits.{WithinLimits};
-ghost use Rattle.scop_syntax.specs.Tree.{loop, more, none, statement as only};
+ghost use Rattle.scop_syntax.specs.Tree.{loop, more, none};
 ghost use Rattle.scop_syntax.specs.View.{expression_of, items_of, program_of, right_of, statement_of, tree_of};
-ghost use Rattle.scop_syntax.specs.Walk.{RunsFor, Visit, condition_at, statements_in, statements_in_all, turn_point};
+ghost use Rattle.scop_syntax.specs.Walk.{Visit, statements_in, statements_in_all, turn_point};
 ghost use Rattle.scop_syntax.specs.Walk.{walk, walk_all, walk_of};
 ghost use Rattle.scop_meaning.specs.Conditions.{CanCheck, CanTurn};
 ghost use Rattle.scop_meaning.specs.Outside.{FindsFirst, first_of, outside_of};
 ghost use Rattle.scop_meaning.specs.declared.loops.TheConstants.{ROOM};
 
 use crate::guards::all_hold;
-use crate::loops::{Point, enter_turn, point_at, point_in_turn, turns_of};
+use crate::loops::{Point, enter_turn, point_at, turns_of};
 use scop_syntax::affine_values::exact_at;
 use scop_syntax::arrays::Extents;
 use scop_syntax::limit_laws::numbers_of_runs_fit;
 use scop_syntax::tree::{Access, Aff, Expr, Item, Kernel, Loop, Right, Stmt};
-
-/// The fewest turns of a loop that is asked at its ends first.
-const LEAST_TURNS: u64 = 3;
 
 /// A subscript outside its extent: of which statement, counted from 1, of which of its accesses,
 /// where 0 is the place written and the reads are counted from 1, and in which dimension, counted
@@ -197,73 +194,6 @@ fn outside_statement(
     outside_assignment(&statement.place, &statement.right, extents, point, stmt)
 }
 
-/// The statement that a loop's body is, where it is one statement alone.
-fn only_statement(body: &[Item]) -> Option<&Stmt>
-    ensures { IfSome result (λ s. items_of body.now ≡ more (only (statement_of s.now)) none) }
-{
-    if body.len() != 1 {
-        return None;
-    }
-    match &body[0] {
-        Item::Stmt(statement) => Some(statement),
-        Item::Loop(_, _) => None,
-        Item::Guard(_, _) => None,
-    }
-}
-
-/// Whether the one statement of a loop has no subscript outside at turn `turn`, where the loop's first iterator is
-/// `first`.
-fn lies_inside_in(
-    head: &Loop,
-    first: i64,
-    statement: &Stmt,
-    turn: u64,
-    number: usize,
-    extents: &Extents,
-    point: &[i64],
-) -> bool
-    requires turn { CanTurn ROOM head.now first turn point.now }
-    requires body { CanCheck ROOM extents.now (more (only (statement_of statement.now)) none) number
-        (turn_point head.now point.now (pos turn)) }
-    ensures { result ≡ true → failures extents.now (walk (only (statement_of statement.now)) number
-        (turn_point head.now point.now (pos turn))) ≡ [] }
-{
-    let inner = point_in_turn(head, first, turn, point);
-    outside_statement(statement, extents, inner.as_slice(), number + 1).is_none()
-}
-
-/// Whether a loop over one statement alone has no subscript outside at its first and at its last turn: then it has none
-/// at a turn between, since subscripts are affine.
-fn ends_lie_inside(
-    head: &Loop,
-    first: i64,
-    body: &[Item],
-    turns: u64,
-    number: usize,
-    extents: &Extents,
-    point: &[i64],
-) -> bool
-    requires check { CanCheck ROOM extents.now (more (loop head.now (items_of body.now)) none) number point.now }
-    requires first { first ≡ value_of head.now.first point.now }
-    requires turns { RunsFor (λ k. condition_at head.now point.now (pos k)) turns }
-    requires few { turns ≤ 2 ^ 63 }
-    ensures { result ≡ true → failures extents.now (walk (loop head.now (items_of body.now)) number point.now) ≡ [] }
-{
-    if turns < LEAST_TURNS {
-        return false;
-    }
-    match only_statement(body) {
-        Some(statement) => {
-            if lies_inside_in(head, first, statement, 0, number, extents, point) {
-                lies_inside_in(head, first, statement, turns - 1, number, extents, point)
-            } else {
-                false
-            }
-        }
-        None => false,
-    }
-}
-
 /// How many statements stand in `items`.
 #[cycle(counting)]
 fn count_all(items: &[Item]) -> usize
@@ -335,7 +265,7 @@ fn outside_item(item: &Item, number: usize, extents: &Extents, point: &mut Point
     }
 }
 
-/// The first failure of a loop, turn after turn where its ends do not tell that there is none.
+/// The first failure of a loop, turn after turn.
 #[cycle(checking)]
 fn outside_loop(
     head: &Loop,
@@ -351,9 +281,6 @@ fn outside_loop(
 {
     let first = exact_at(&head.first, point.as_slice());
     let turns = turns_of(head, first, point);
-    if ends_lie_inside(head, first, body, turns, number, extents, point.as_slice()) {
-        return None;
-    }
     for turn in 0..turns {
         match outside_turn(head, first, body, turn, number, extents, point) {
             Some(outside) => return Some(outside),

@@ -38,16 +38,6 @@ pub fn enter_turn(head: &Loop, first: i64, turn: u64, point: &mut Point)
     point.push(with_product(first, head.stride, turn as i64));
 }
 
-/// The point of turn `turn` of a loop at `point`, whose first iterator is `first`.
-pub fn point_in_turn(head: &Loop, first: i64, turn: u64, point: &[i64]) -> Point
-    requires { CanTurn ROOM head.now first turn point.now }
-    ensures { result.items ≡ turn_point head.now point.now (pos turn) }
-{
-    let mut inner = point_at(point);
-    enter_turn(head, first, turn, &mut inner);
-    inner
-}
-
 /// Puts the iterator of turn `turn` on the stack, modulo 2^64: it is exact where it fits, whatever the parts of its sum
 /// are.
 pub fn enter_at(head: &Loop, turn: i64, point: &mut Point)

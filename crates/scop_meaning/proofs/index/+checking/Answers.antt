@@ -70,38 +70,6 @@ outside_loop-exact_at-first-requires t c =
     (sym (ap (λ (h : Head). h.first) c.head.view_is))
     (subst (λ (x : List ℤ). FitsSigned w64 (value_of head.first x)) (sym c.as_slice.ensures.value) fits)
 
-pub outside_loop-ends_lie_inside-requires : goal.outside_loop-ends_lie_inside-requires
-outside_loop-ends_lie_inside-requires t c =
-    let es = c.args.extents.now in
-    let head = c.args.head.now in
-    let body = items_of c.args.body.now in
-    let start = c.args.point.now.items in
-    let m = c.turns_of-turns.result in
-    let first = c.exact_at-first.result in
-    let fit : FitsSigned w64 first = search rules in
-    let is : first ≡ value_of head.first start =
-    c.exact_at-first.ensures
-    ∙ ap₂ (λ (f : Affine) (x : List ℤ). value_of f x) (ap (λ (h : Head). h.first) c.head.view_is)
-    c.as_slice.ensures.value in
-    let same : c.as_slice-2.result.now ≡ start = c.as_slice-2.ensures.value ∙ c.turns_of-turns.ensures.point in
-    let back = to_z-of_z w64 first fit in
-    record {
-      check = subst (λ (x : List ℤ). CanCheck ROOM es (more (loop head body) none) c.args.number x) (sym same)
-          c.requires;
-      first = back ∙ (is ∙ ap (λ (x : List ℤ). value_of head.first x) (sym same));
-      turns = subst (λ (x : List ℤ). RunsFor (λ k. condition_at head x (pos k)) m) (sym same)
-          c.turns_of-turns.ensures.turns;
-      few = c.turns_of-turns.ensures.few;
-    }
-
-pub outside_loop-returns-then-ends_lie_inside-clause-found : goal.outside_loop-returns-then-ends_lie_inside-clause-found
-outside_loop-returns-then-ends_lie_inside-clause-found t c =
-    let es = c.args.extents.now in
-    let tree = loop c.args.head.now (items_of c.args.body.now) in
-    let same = c.as_slice-2.ensures.value ∙ c.turns_of-turns.ensures.point in
-    let none = c.ends_lie_inside.ensures c.if-ends_lie_inside.true in
-    sym (ap first_of (subst (λ (x : List ℤ). failures es (walk tree c.args.number x) ≡ []) same none))
-
 pub outside_loop-loop-turn-init : goal.outside_loop-loop-turn-init
 outside_loop-loop-turn-init t c =
     turns_first ROOM c.args.extents.now c.args.head.now (items_of c.args.body.now) c.turns_of-turns.result

@@ -1,0 +1,13 @@
+use Rattle.std.proofs.Common.{◌≡◌, ◌++◌, drop}
+use Rattle.std.specs.List.{flat_map}
+use Rattle.scop_syntax.specs.Execution.{layout}
+use Rattle.scop_syntax.specs.View.{program_of}
+use Rattle.iteration_domains.specs.Outside.{outside_statement}
+use Rattle.iteration_domains.proofs.model.Model.outside_systems.Given as goal
+
+abbrev pub invariant-loop-statement : goal.invariant-loop-statement
+invariant-loop-statement l =
+    l.systems.items
+    ++ flat_map (outside_statement (layout (program_of l.kernel) l.params) l.params)
+    (drop l.statement-index l.statement-items)
+    ≡ flat_map (outside_statement (layout (program_of l.kernel) l.params) l.params) l.statement-items

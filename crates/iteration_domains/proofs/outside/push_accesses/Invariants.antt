@@ -1,0 +1,11 @@
+use Rattle.std.proofs.Common.{◌≡◌, ◌++◌, drop}
+use Rattle.scop_syntax.specs.Execution.{layout}
+use Rattle.scop_syntax.specs.View.{program_of}
+use Rattle.iteration_domains.specs.Outside.{outside_accesses}
+use Rattle.iteration_domains.proofs.outside.push_accesses.Given as goal
+
+abbrev pub invariant-loop-access : goal.invariant-loop-access
+invariant-loop-access l =
+    l.out.items
+    ++ outside_accesses (layout (program_of l.kernel) l.params) l.domain l.forms (drop l.access-index l.accesses)
+    ≡ l.fn.out.items ++ outside_accesses (layout (program_of l.kernel) l.params) l.domain l.forms l.accesses
