@@ -43,8 +43,21 @@ fn tiled_sets(alloc: Global, schedule: &Schedule, size: u64) -> Result<Vec<ScanS
     Ok(sets)
 }
 
+/// How many dimensions stand before those of so many items.
+fn before_items(sets: &[ScanSet], items: usize) -> usize {
+    match sets.first() {
+        None => 0,
+        Some(set) => set.first().saturating_sub(items),
+    }
+}
+
 /// The tree of sets: separated, where each question may make so many moves of the solver, or else the hull of all.
-fn tree_of_sets(alloc: Global, sets: &[ScanSet], budget: Option<u64>) -> Result<Tree, FmStop>
+fn tree_of_sets(
+    alloc: Global,
+    sets: &[ScanSet],
+    items: usize,
+    budget: Option<u64>,
+) -> Result<Tree, FmStop>
     requires scanned { AreScanned sets.now }
     requires rise { NumbersRise sets.now }
     ensures scan { IfOk result (λ t. IsScan (parameters_of sets.now) sets.now (trees_in t)) }
@@ -53,7 +66,7 @@ fn tree_of_sets(alloc: Global, sets: &[ScanSet], budget: Option<u64>) -> Result<
     ensures stops { IfErr result (StopsScan sets.now) }
 {
     match budget {
-        Some(budget) => split_scan::scan(alloc, sets, budget),
+        Some(budget) => split_scan::scan(alloc, sets, before_items(sets, items), budget),
         None => plain_scan::scan(alloc, sets),
     }
 }
@@ -80,7 +93,7 @@ fn scanned_tree(
         Err(_) => return Err(FmStop::NoMemory),
         Ok(sets) => sets,
     };
-    match tree_of_sets(alloc, &sets, budget) {
+    match tree_of_sets(alloc, &sets, schedule.items().len(), budget) {
         Err(stop) => Err(stop),
         Ok(tree) => Ok(tree),
     }

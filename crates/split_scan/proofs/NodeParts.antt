@@ -1,9 +1,10 @@
 -- Parts of a node, cut by the rows of one set after another.
 use Rattle.std.proofs.Common.{◌≡◌, ℕ, zero, suc, ◌+◌, ◌<◌, Bool, true, false, ℤ, pos, negsuc, List, [], ◌∷◌, ◌++◌}
 use Rattle.std.proofs.Common.{length, take, get_or, ◌⊎◌, inl, inr, refl, sym, ap, subst, ◌∙◌, All, arith, length-append}
-use Rattle.std.specs.Prelude.{◌≤ℤ◌, ◌<ℤ◌}
+use Rattle.std.specs.Prelude.{◌≤ℤ◌, ◌<ℤ◌, not}
+use Rattle.std.specs.Bool.{IsTrue}
 use Rattle.std.proofs.lemmas.Int.{ints}
-use Rattle.std.proofs.lemmas.List.Elements.{All-append, All-cons, All-nil}
+use Rattle.std.proofs.lemmas.List.Elements.{All-append, All-cons, All-head, All-nil, All-tail}
 use Rattle.whole_numbers.specs.Affine.{Affine, complement, value_of}
 use Rattle.whole_numbers.proofs.Values.{value_of-complement}
 use Rattle.whole_numbers.proofs.Order.{le_or_lt}
@@ -19,8 +20,10 @@ use Rattle.plain_scan.specs.Hulls.{IsAlike, sets_in}
 use Rattle.plain_scan.proofs.CodeBounds.{take_next}
 use Rattle.plain_scan.proofs.Pieces.{all_append, append_all}
 use Rattle.plain_scan.proofs.HullLoops.{row_holds}
-use Rattle.split_scan.specs.Questions.{IsCut}
-use Rattle.split_scan.specs.Parts.{Goes, HasMarks, Implies, InPart, IsCutting, IsHeld, IsNext, IsPart, staying}
+use Rattle.fm_projection.specs.Alone.{AreInRange}
+use Rattle.split_scan.specs.Questions.{IsCut, IsVoid}
+use Rattle.split_scan.specs.Parts.{Goes, HasMarks, Implies, InPart, IsCell, IsHeld, IsNext, IsPart, Keeps}
+use Rattle.split_scan.specs.Parts.{staying}
 use Rattle.split_scan.specs.declared.part.Part.{Part}
 
 -- the keys of the sets that stay are keys of all
@@ -74,6 +77,13 @@ complement_cut m n f is small = record {
       is.bounds (omega (arith, ints, e, g, t, o));
 }
 
+-- a cell more
+pub one_cell : (m n : ℕ) (old new : List Part) (p : Part) → new ≡ old ++ p ∷ [] → IsCell m n p
+    → All (IsCell m n) old → All (IsCell m n) new
+one_cell m n old new p is one olds =
+    subst (All (IsCell m n)) (sym is)
+    (All-append (IsCell m n) old (p ∷ []) olds (All-cons (IsCell m n) p [] one (All-nil (IsCell m n))))
+
 -- parts one behind another
 pub in_front_part : (ps qs : List Part) (point : List ℤ) → InPart ps point → InPart (ps ++ qs) point
 in_front_part [] qs point h = absurd h
@@ -92,39 +102,14 @@ in_part_append (p ∷ ps) qs point (inr h) = elim (in_part_append ps qs point h)
   | inr g ↦ inr g
 ]
 
--- a part is cut by a row of the next set
-pub cutting_more : (m n : ℕ) (inside : List Affine) (all : List Scanned) (stays : List Bool) (s : Scanned)
-    (row : Affine) (cuts less : List Affine) (old new : List Part) (p : Part) → IsCut m n row
-    → HasSmallNumbers (complement row) → IsNext stays all s → Implies m s row → less ≡ cuts ++ row ∷ []
-    → p.cuts.items ≡ cuts ++ complement row ∷ [] → p.stays.items ≡ stays ++ false ∷ [] → new ≡ old ++ p ∷ []
-    → IsCutting m n inside all stays cuts old → IsCutting m n inside all stays less new
-cutting_more m n inside all stays s row cuts less old new p is small next implies less_is cuts_is stays_is new_is h =
-    record {
-      rows = subst (All (IsCut m n)) (sym less_is)
-          (All-append (IsCut m n) cuts (row ∷ []) h.rows (All-cons (IsCut m n) row [] is (All-nil (IsCut m n))));
-      keeps = λ params outer x at hold r k.
-          h.keeps params outer x at (near (outer ++ x ∷ params) hold) r k;
-      parts = subst (All (IsPart m n inside all)) (sym new_is)
-          (All-append (IsPart m n inside all) old (p ∷ []) h.parts
-          (All-cons (IsPart m n inside all) p [] far (All-nil (IsPart m n inside all))));
-    }
-  where
-    near : (point : List ℤ) → AllAtLeast less point → AllAtLeast cuts point
-    near point hold = (append_all cuts (row ∷ []) point (subst (λ fs. AllAtLeast fs point) less_is hold)).0
-
-    far : IsPart m n inside all p
-    far = record {
-      cuts = subst (All (IsCut m n)) (sym cuts_is)
-          (All-append (IsCut m n) cuts (complement row ∷ []) h.rows
-          (All-cons (IsCut m n) (complement row) [] (complement_cut m n row is small) (All-nil (IsCut m n))));
-      keeps = λ params outer x at hold r k.
-          let point = outer ++ x ∷ params in
-          let sides = append_all cuts (complement row ∷ []) point (subst (λ fs. AllAtLeast fs point) cuts_is hold) in
-          subst (λ bs. Keys (staying bs all) params (outer ++ x ∷ r)) (sym stays_is)
-          (staying_false stays all s params (outer ++ x ∷ r) next
-          (λ is. both_sides row point (implies params outer x r at.parameters at.size is) sides.1.0)
-          (h.keeps params outer x at sides.0 r k));
-    }
+-- a cell is cut by a row of a set
+pub cell_more : (m n : ℕ) (row : Affine) (cuts : List Affine) (old new : List Part) (p : Part) → IsCut m n row
+    → HasSmallNumbers (complement row) → p.cuts.items ≡ cuts ++ complement row ∷ [] → new ≡ old ++ p ∷ []
+    → All (IsCut m n) cuts → All (IsCell m n) old → All (IsCell m n) new
+cell_more m n row cuts old new p is small cuts_is new_is h olds =
+    let far = complement row in
+    one_cell m n old new p new_is (subst (All (IsCut m n)) (sym cuts_is) (All-append (IsCut m n) cuts (far ∷ []) h
+    (All-cons (IsCut m n) far [] (complement_cut m n row is small) (All-nil (IsCut m n))))) olds
 
 pub goes_more : (m : ℕ) (inside : List Affine) (row : Affine) (cuts less : List Affine) (old new : List Part) (p : Part)
     → less ≡ cuts ++ row ∷ [] → p.cuts.items ≡ cuts ++ complement row ∷ [] → new ≡ old ++ p ∷ []
@@ -147,27 +132,43 @@ goes_more m inside row cuts less old new p less_is cuts_is new_is params outer x
     by_side (inl h) = cut_at h (one_side row point)
     by_side (inr h) = inr (subst (λ ps. InPart ps point) (sym new_is) (in_front_part old (p ∷ []) point h))
 
--- marks, one more
-pub marks_more : (stays : List Bool) (b : Bool) (old new : List Part) (p : Part) → p.stays.items ≡ stays ++ b ∷ []
-    → new ≡ old ++ p ∷ [] → All (HasMarks (length stays + 1)) old → All (HasMarks (length stays + 1)) new
-marks_more stays b old new p stays_is new_is h =
-    let P = HasMarks (length stays + 1) in
-    subst (All P) (sym new_is) (All-append P old (p ∷ []) h (All-cons P p [] (ap length stays_is
-    ∙ length-append stays (b ∷ [])) (All-nil P)))
+-- all rows that no point of the set leaves
+implied_at : (m : ℕ) (s : Scanned) (rows : List Affine) → All (Implies m s) rows → (params outer r : List ℤ) (x : ℤ)
+    → AreInRange params → length outer ≡ m → IsKeyOf params s (outer ++ x ∷ r)
+    → AllAtLeast rows (outer ++ x ∷ params)
+implied_at m s [] implies params outer r x range size key = tt
+implied_at m s (f ∷ rows) implies params outer r x range size key = (
+  All-head (Implies m s) f rows implies params outer x r range size key,
+  implied_at m s rows (All-tail (Implies m s) f rows implies) params outer r x range size key,
+)
 
--- where all rows of the set hold it stays
-pub near_more : (m n : ℕ) (inside : List Affine) (all : List Scanned) (stays : List Bool) (cuts : List Affine)
-    (old new : List Part) (p : Part) → p.cuts.items ≡ cuts → p.stays.items ≡ stays ++ true ∷ [] → new ≡ old ++ p ∷ []
-    → IsCutting m n inside all stays cuts old → All (IsPart m n inside all) new
-near_more m n inside all stays cuts old new p cuts_is stays_is new_is h =
+-- a mark more: the set goes where it has no points
+pub keeps_mark : (m : ℕ) (inside : List Affine) (all : List Scanned) (s : Scanned) (rows cuts : List Affine)
+    (stays : List Bool) (none : Bool) → (IsTrue none → IsVoid m inside (cuts ++ rows)) → IsNext stays all s
+    → All (Implies m s) rows → Keeps m inside all stays cuts → Keeps m inside all (stays ++ not none ∷ []) cuts
+keeps_mark m inside all s rows cuts stays false void next implies keeps params outer x at hold r key =
+    subst (λ ss. Keys ss params (outer ++ x ∷ r)) (sym (staying_true stays all)) (keeps params outer x at hold r key)
+keeps_mark m inside all s rows cuts stays true void next implies keeps params outer x at hold r key =
+    staying_false stays all s params (outer ++ x ∷ r) next
+    (λ is. void refl params outer x at (all_append cuts rows (outer ++ x ∷ params) hold
+    (implied_at m s rows implies params outer r x at.parameters at.size is))) (keeps params outer x at hold r key)
+
+-- parts of cells, one by one
+pub part_more : (m n : ℕ) (inside : List Affine) (all : List Scanned) (cuts : List Affine) (old new : List Part)
+    (p : Part) → p.cuts.items ≡ cuts → new ≡ old ++ p ∷ [] → All (IsCut m n) cuts
+    → Keeps m inside all p.stays.items cuts → All (IsPart m n inside all) old → All (IsPart m n inside all) new
+part_more m n inside all cuts old new p cuts_is new_is rows keeps olds =
     let P = IsPart m n inside all in
-    subst (All P) (sym new_is) (All-append P old (p ∷ []) h.parts (All-cons P p [] (record {
-      cuts = subst (All (IsCut m n)) (sym cuts_is) h.rows;
-      keeps = λ params outer x at hold r k.
-          subst (λ bs. Keys (staying bs all) params (outer ++ x ∷ r)) (sym stays_is)
-          (subst (λ ss. Keys ss params (outer ++ x ∷ r)) (sym (staying_true stays all))
-          (h.keeps params outer x at (subst (λ fs. AllAtLeast fs (outer ++ x ∷ params)) cuts_is hold) r k));
+    subst (All P) (sym new_is) (All-append P old (p ∷ []) olds (All-cons P p [] (record {
+      cuts = subst (All (IsCut m n)) (sym cuts_is) rows;
+      keeps = subst (Keeps m inside all p.stays.items) (sym cuts_is) keeps;
     }) (All-nil P)))
+
+pub marks_more : (i : ℕ) (old new : List Part) (p : Part) → new ≡ old ++ p ∷ [] → HasMarks i p
+    → All (HasMarks i) old → All (HasMarks i) new
+marks_more i old new p is one olds =
+    subst (All (HasMarks i)) (sym is)
+    (All-append (HasMarks i) old (p ∷ []) olds (All-cons (HasMarks i) p [] one (All-nil (HasMarks i))))
 
 pub near_goes : (cuts : List Affine) (old new : List Part) (p : Part) (point : List ℤ) → p.cuts.items ≡ cuts
     → new ≡ old ++ p ∷ [] → IsHeld cuts old point → InPart new point

@@ -32,6 +32,10 @@ pub record IsPart (m n : ℕ) (inside : List Affine) (all : List Scanned) (p : P
   pub cuts : All (IsCut m n) p.cuts.items
   pub keeps : Keeps m inside all p.stays.items p.cuts.items
 
+-- a cell of the node, of which no set is known to be gone
+abbrev pub IsCell : ℕ → ℕ → Part → Type 0
+IsCell m n p = All (IsCut m n) p.cuts.items
+
 -- each of the first i sets has a mark
 abbrev pub HasMarks : ℕ → Part → Type 0
 HasMarks i p = length p.stays.items ≡ i
@@ -54,10 +58,3 @@ Goes m inside cuts ps less more = (params outer : List ℤ) (x : ℤ) → IsIn m
 abbrev pub Implies : ℕ → Scanned → Affine → Type 0
 Implies m s f = (params outer : List ℤ) (x : ℤ) (r : List ℤ) → AreInRange params → length outer ≡ m
     → IsKeyOf params s (outer ++ x ∷ r) → pos 0 ≤ℤ value_of f (outer ++ x ∷ params)
-
--- what stands when a part is being cut: its rows so far, and the parts that were cut off
-pub record IsCutting (m n : ℕ) (inside : List Affine) (all : List Scanned) (stays : List Bool) (cuts : List Affine)
-    (out : List Part) : Type 0 where
-  pub rows : All (IsCut m n) cuts
-  pub keeps : Keeps m inside all stays cuts
-  pub parts : All (IsPart m n inside all) out

@@ -9,6 +9,7 @@ mod copies;
 mod cutting;
 mod halt;
 mod level;
+mod marking;
 mod nodes;
 mod ordering;
 mod part;

@@ -16,24 +16,52 @@ ghost use Rattle.split_scan.specs.Nodes.{IsNode, IsShaped};
 
 use crate::bars::{bars, level_of};
 use crate::copies::staying;
-use crate::cutting::{separated, whole};
+use crate::cutting::whole;
 use crate::halt::Halt;
 use crate::level::Level;
+use crate::marking::separated;
 use crate::ordering::ordered;
 use crate::part::Part;
 use crate::questions::joined;
 use affine_forms::Form;
 use loop_tree::Node;
-use plain_scan::shared::{Outline, leaves, loop_round};
+use plain_scan::shared::{Outline, Shadow, leaves, loop_round};
 use std::alloc::{AllocError, Global};
 
-/// What all nodes of a scan share: how many parameters there are, which dimension is marked, and how many moves a
-/// question may make.
+/// The greatest number of parts of a node beside a core.
+const MOST: usize = 72;
+
+/// What all nodes of a scan share: how many parameters there are, which dimension is marked, at how many of the first
+/// ones the hull of all sets is taken, and how many moves a question may make.
 #[derive(Clone, Copy)]
 pub struct Shape {
     pub parameters: usize,
     pub parallel: Option<usize>,
+    pub hulls: usize,
     pub budget: u64,
+}
+
+/// Whether a shadow is there, of one number.
+fn is_number(shadow: Option<&Shadow>) -> bool {
+    match shadow {
+        None => false,
+        Some(shadow) => shadow.low == shadow.high,
+    }
+}
+
+/// Whether each of the sets has one number at a dimension.
+fn are_numbers(outlines: &[Outline], depth: usize) -> bool {
+    for outline in outlines {
+        if !is_number(outline.shadows.get(depth)) {
+            return false;
+        }
+    }
+    true
+}
+
+/// Whether sets are to be separated at the dimension of a node.
+fn is_apart(level: &Level, numbers: bool, hulls: usize) -> bool {
+    level.natural && (numbers || hulls <= level.place)
 }
 
 /// The parts of a node in their order.
@@ -42,14 +70,47 @@ fn separated_in_order(
     level: &Level,
     outlines: &[Outline],
     depth: usize,
+    all: bool,
+    most: usize,
 ) -> Result<Vec<Part>, Halt>
     requires alike { All (IsAlike depth (level.now.place + 1 + level.now.parameters)) outlines.now }
     requires dimensions { All (λ o. o.set.now.system.dimensions ≡ level.now.place + suc depth) outlines.now }
     ensures { IfOk result (λ v. AreParts level.now.place (level.now.place + 1 + level.now.parameters)
         level.now.inside.items (sets_in outlines.now) v.items) }
 {
-    let parts = separated(alloc, level, outlines, depth)?;
+    let parts = separated(alloc, level, outlines, depth, all, most)?;
     ordered(alloc, level, parts)
+}
+
+/// The greatest number of parts that each set cuts: two borders a set, or one a number.
+fn most_parts(sets: usize, numbers: bool) -> usize {
+    if numbers {
+        usize::MAX
+    } else {
+        sets.saturating_mul(2).saturating_add(1)
+    }
+}
+
+/// The parts of a node in their order: as all sets cut them, or where there are too many of those a core with all that
+/// is beside it.
+fn parts_in_order(
+    alloc: Global,
+    level: &Level,
+    outlines: &[Outline],
+    depth: usize,
+    numbers: bool,
+) -> Result<Vec<Part>, Halt>
+    requires alike { All (IsAlike depth (level.now.place + 1 + level.now.parameters)) outlines.now }
+    requires dimensions { All (λ o. o.set.now.system.dimensions ≡ level.now.place + suc depth) outlines.now }
+    ensures { IfOk result (λ v. AreParts level.now.place (level.now.place + 1 + level.now.parameters)
+        level.now.inside.items (sets_in outlines.now) v.items) }
+{
+    let most = most_parts(outlines.len(), numbers);
+    match separated_in_order(alloc, level, outlines, depth, true, most) {
+        Ok(parts) => Ok(parts),
+        Err(Halt::Stopped) => separated_in_order(alloc, level, outlines, depth, false, MOST),
+        Err(Halt::NoMemory) => Err(Halt::NoMemory),
+    }
 }
 
 /// The parts of a node in their order, or one for all of it where it is not separated.
@@ -58,6 +119,7 @@ fn parts_of(
     level: &Level,
     outlines: &[Outline],
     depth: usize,
+    hulls: usize,
 ) -> Result<Vec<Part>, AllocError>
     requires some { 0 < length outlines.now }
     requires alike { All (IsAlike depth (level.now.place + 1 + level.now.parameters)) outlines.now }
@@ -65,10 +127,11 @@ fn parts_of(
     ensures { IfOk result (λ v. AreParts level.now.place (level.now.place + 1 + level.now.parameters)
         level.now.inside.items (sets_in outlines.now) v.items) }
 {
-    if !level.natural {
+    let numbers = are_numbers(outlines, depth);
+    if !is_apart(level, numbers, hulls) {
         return whole(alloc);
     }
-    match separated_in_order(alloc, level, outlines, depth) {
+    match parts_in_order(alloc, level, outlines, depth, numbers) {
         Ok(parts) => Ok(parts),
         Err(Halt::Stopped) => whole(alloc),
         Err(Halt::NoMemory) => Err(AllocError),
@@ -132,7 +195,7 @@ pub fn nodes(
         shape.parameters,
         shape.budget,
     )?;
-    let parts = parts_of(alloc, &level, outlines, depth)?;
+    let parts = parts_of(alloc, &level, outlines, depth, shape.hulls)?;
     let mut out = Vec::new(alloc);
     for part in &parts {
         let alive = staying(alloc, outlines, &part.stays)?;

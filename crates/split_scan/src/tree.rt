@@ -52,14 +52,15 @@ fn scan_outlines(
 /// dimensions, and at one point by statement. At each dimension the sets are separated: what one loop would visit is
 /// cut into parts, each with the sets that have points there. A question of a separation may make so many moves of the
 /// solver; where one makes more, or a number is beyond 2^40, or there are too many parts, or they have no order, the
-/// hull is taken there as `plain_scan` does.
+/// hull is taken there as `plain_scan` does. So it is at the first `hulls` dimensions, but where each set has one
+/// number.
 ///
 /// # Errors
 /// Those of `plain_scan`: `Wide` or `Crowded` only where an elimination of a set stops so, of the last dimension of its
 /// projection on the first, or, for the bounds of that dimension alone, of the others and of the parameters; `Large`
 /// only where a number of what is left of such a dimension alone, or of the set, is beyond 2^40 in absolute value;
 /// `NoMemory`.
-pub fn scan(alloc: Global, sets: &[ScanSet], budget: u64) -> Result<Tree, FmStop>
+pub fn scan(alloc: Global, sets: &[ScanSet], hulls: usize, budget: u64) -> Result<Tree, FmStop>
     requires sets { AreScanned sets.now }
     requires rise { NumbersRise sets.now }
     ensures exact { IfOk result (λ t. (params : List ℤ) → AreInRange params
@@ -90,6 +91,7 @@ pub fn scan(alloc: Global, sets: &[ScanSet], budget: u64) -> Result<Tree, FmStop
     let shape = Shape {
         parameters: parameters_in(sets),
         parallel: mark_in(sets),
+        hulls,
         budget,
     };
     match scan_outlines(alloc, &outlines, dimensions_in(sets), &shape) {

@@ -1,4 +1,4 @@
-use Rattle.std.proofs.Common.{◌≡◌, ◌≢◌, ◌+◌, ◌++◌, [], ◌∷◌, pos, rules, ap₂, subst, sym, ◌∙◌, false, List, All}
+use Rattle.std.proofs.Common.{◌≡◌, ◌≢◌, ◌+◌, ◌++◌, [], ◌∷◌, pos, rules, ap₂, subst, sym, ◌∙◌, List, All}
 use Rattle.std.proofs.lemmas.List.Elements.{All-append, All-cons, All-nil}
 use Rattle.whole_numbers.specs.Affine.{Affine, complement}
 use Rattle.whole_numbers.proofs.Dot.{length-multiples}
@@ -6,7 +6,8 @@ use Rattle.affine_forms.specs.Parts.{variables_of}
 use Rattle.fractions.specs.Elimination.{coefficient_of}
 use Rattle.plain_scan.specs.Between.{HasSmallNumbers}
 use Rattle.std.specs.Prelude.{negsuc}
-use Rattle.split_scan.proofs.NodeParts.{cutting_more, goes_more, marks_more}
+use Rattle.split_scan.specs.Questions.{IsCut}
+use Rattle.split_scan.proofs.NodeParts.{cell_more, goes_more}
 use Rattle.split_scan.proofs.cutting.cut_by.Goals as goal
 use Rattle.split_scan.proofs.cutting.cut_by.Goals.{After-deref-3}
 
@@ -27,30 +28,34 @@ is_void-requires c =
     (All-append P cuts (complement row ∷ []) c.requires.sized (All-cons P (complement row) []
     (length-multiples (negsuc 0) row.coefficients ∙ c.requires.row) (All-nil P)))
 
-pub returns-clause-parts : goal.returns-clause-parts
-returns-clause-parts c all s next implies h =
+pub returns-clause-cuts : goal.returns-clause-cuts
+returns-clause-cuts c h =
     let level = c.args.level.now in
     let row = c.args.row.now in
-    let part = c.in_ok-push_part.ensures in
+    let P = IsCut level.place (level.place + 1 + level.parameters) in
+    let bounds : coefficient_of level.place row ≢ pos 0 = search rules in
+    subst (All P) (sym c.in_ok-push_copy.ensures) (All-append P c.args.cuts.now.items (row ∷ []) h
+    (All-cons P row [] (record { sized = c.requires.row; small = c.requires.small; bounds = bounds }) (All-nil P)))
+
+pub returns-clause-cells : goal.returns-clause-cells
+returns-clause-cells c h olds =
+    let level = c.args.level.now in
+    let row = c.args.row.now in
+    let cell = c.in_ok-push_cell.ensures in
     let bounds : coefficient_of level.place row ≢ pos 0 = search rules in
     let far = subst HasSmallNumbers c.in_ok-far.ensures.row c.in_ok-far.ensures.small in
-    cutting_more level.place (level.place + 1 + level.parameters) level.inside.items all c.args.stays.now s row
-    c.args.cuts.now.items c.push_copy.new.forms.items c.args.out.now.items c.push_part.new.out.items part.0
-    (record { sized = c.requires.row; small = c.requires.small; bounds = bounds }) far next implies
-    c.in_ok-push_copy.ensures (part.2 ∙ beyond_there (goal.at.returns-clause-parts c).After-deref-3) part.3 part.1 h
+    cell_more level.place (level.place + 1 + level.parameters) row c.args.cuts.now.items c.args.out.now.items
+    c.push_cell.new.out.items cell.0
+    (record { sized = c.requires.row; small = c.requires.small; bounds = bounds }) far
+    (cell.2 ∙ beyond_there (goal.at.returns-clause-cells c).After-deref-3) cell.1 h olds
 
 pub returns-clause-goes : goal.returns-clause-goes
 returns-clause-goes c =
     let level = c.args.level.now in
-    let part = c.in_ok-push_part.ensures in
+    let cell = c.in_ok-push_cell.ensures in
     goes_more level.place level.inside.items c.args.row.now c.args.cuts.now.items c.push_copy.new.forms.items
-    c.args.out.now.items c.push_part.new.out.items part.0 c.in_ok-push_copy.ensures
-    (part.2 ∙ beyond_there (goal.at.returns-clause-goes c).After-deref-3) part.1
-
-pub returns-clause-marks : goal.returns-clause-marks
-returns-clause-marks c =
-    let part = c.in_ok-push_part.ensures in
-    marks_more c.args.stays.now false c.args.out.now.items c.push_part.new.out.items part.0 part.3 part.1
+    c.args.out.now.items c.push_cell.new.out.items cell.0 c.in_ok-push_copy.ensures
+    (cell.2 ∙ beyond_there (goal.at.returns-clause-goes c).After-deref-3) cell.1
 
 pub returns-clause-sized : goal.returns-clause-sized
 returns-clause-sized c =

@@ -5,8 +5,8 @@ use Rattle.split_scan.proofs.OutlineCopies.{sets_count}
 use Rattle.split_scan.proofs.PartOrder.{whole_parts}
 use Rattle.split_scan.proofs.nodes.parts_of.Goals as goal
 
-pub returns-then-not-level : goal.returns-then-not-level
-returns-then-not-level c =
+pub returns-then-not-is_apart : goal.returns-then-not-is_apart
+returns-then-not-is_apart c =
     let level = c.args.level.now in
     let os = c.args.outlines.now in
     let some = c.requires.some in

@@ -1,0 +1,7 @@
+use Rattle.std.proofs.Common.{◌≡◌, ◌++◌, [], ◌∷◌, rules}
+use Rattle.split_scan.proofs.cutting.push_cell.Goals as goal
+
+pub returns : goal.returns
+returns c =
+    let pushed : c.push.new.self.items ≡ c.args.out.now.items ++ c.cell_of.result ∷ [] = search rules in
+    (c.cell_of.result, pushed, c.cell_of.ensures.cuts)
