@@ -6,8 +6,8 @@ static int64_t pp_min(int64_t a, int64_t b) { return a < b ? a : b; }
 void lu(int64_t N, uint64_t A[N][N]) {
   for (int64_t pp_1 = 0; pp_1 <= pp_floord(3*N - 6, 32); pp_1++) {
     #pragma omp parallel for
-    for (int64_t pp_2 = pp_max(0, pp_ceild(-N + 16*pp_1 + 2, 16)); pp_2 <= pp_min(pp_floord(N - 2, 32), pp_floord(16*pp_1 + 31, 48)); pp_2++) {
-      for (int64_t pp_3 = pp_max(0, pp_max(pp_ceild(32*pp_2 - 31, 32), pp_ceild(-N + 32*pp_1 - 32*pp_2 + 2, 32))); pp_3 <= pp_min(pp_floord(N - 2, 32), pp_floord(32*pp_1 - 64*pp_2 + 31, 32)); pp_3++) {
+    for (int64_t pp_2 = pp_max(0, pp_ceild(-N + 16*pp_1 + 2, 16)); pp_2 <= pp_min(pp_floord(N - 2, 32), pp_floord(pp_1 + 1, 3)); pp_2++) {
+      for (int64_t pp_3 = pp_max(pp_2, pp_ceild(-N + 32*pp_1 - 32*pp_2 + 2, 32)); pp_3 <= pp_min(pp_floord(N - 2, 32), pp_1 - 2*pp_2); pp_3++) {
         for (int64_t pp_4 = 32*pp_2; pp_4 <= pp_min(N - 2, 32*pp_2 + 31); pp_4++) {
           for (int64_t pp_5 = pp_max(32*pp_3, pp_4); pp_5 <= pp_min(N - 2, 32*pp_3 + 31); pp_5++) {
             for (int64_t pp_6 = pp_max(32*pp_1 - 32*pp_2 - 32*pp_3, pp_4); pp_6 <= pp_min(N - 2, 32*pp_1 - 32*pp_2 - 32*pp_3 + 31); pp_6++) {

@@ -1,5 +1,5 @@
 -- Forms over the new loops and the parameters have the values of the old ones, and their numbers fit.
-use Rattle.std.proofs.Common.{◌≡◌, ℕ, suc, ◌+◌, ◌*◌, ◌^◌, ◌≤◌, Bool, false, ℤ, pos, List, [], ◌∷◌, ◌++◌}
+use Rattle.std.proofs.Common.{◌≡◌, ℕ, suc, ◌+◌, ◌*◌, ◌^◌, ◌≤◌, Bool, true, false, ℤ, pos, List, [], ◌∷◌, ◌++◌}
 use Rattle.std.proofs.Common.{length, map, ap, ap₂, subst, sym, ◌∙◌, refl, arith, length-append, mul-le-mul}
 use Rattle.std.specs.Prelude.{All, ◌*ℤ◌, unsigned_abs, if◌then◌else◌}
 use Rattle.std.proofs.lemmas.List.{map-append}
@@ -21,6 +21,7 @@ use Rattle.loop_tree.specs.Walk.{all_hold, holds, lower, upper, max_z, min_z}
 use Rattle.loop_tree.proofs.Fits.{form_fits}
 use Rattle.loop_tree.proofs.SourceSizes.{entries_size}
 use Rattle.tree_simplification.specs.steps.Inlined.{AreNear, IsPlace, bounds_over, test_over}
+use Rattle.tree_simplification.proofs.Rounding.{rounded_flat, rounded_high, rounded_holds, rounded_low, rounded_sized}
 
 -- each form of a place is over the new loops and the parameters
 pub place_sized : (m k : ℕ) (loops forms : List Affine) → IsPlace m k loops forms → All (IsOver (k + m)) forms
@@ -54,27 +55,35 @@ values_over n forms point old at (f ∷ fs) =
     ap₂ (λ (z : ℤ) (zs : List ℤ). z ∷ zs) (value_over n forms point old at f) (values_over n forms point old at fs)
 
 pub lower_over : (n : ℕ) (forms : List Affine) (point old : List ℤ) → values_of forms point ≡ old → (bs : Bounds)
-    → lower (bounds_over n forms bs) point ≡ lower bs old
+    → lower (bounds_over true n forms bs) point ≡ lower bs old
 lower_over n forms point old at (only b) =
-    ap (λ (z : ℤ). ceiling z b.divisor) (value_over n forms point old at b.form)
+    rounded_low (record { form = composed b.form forms n; divisor = b.divisor }) point
+    ∙ ap (λ (z : ℤ). ceiling z b.divisor) (value_over n forms point old at b.form)
 lower_over n forms point old at (besides b bs) =
-    ap₂ (λ (y z : ℤ). max_z (ceiling y b.divisor) z) (value_over n forms point old at b.form)
+    ap₂ (λ (y z : ℤ). max_z y z)
+    (rounded_low (record { form = composed b.form forms n; divisor = b.divisor }) point
+    ∙ ap (λ (z : ℤ). ceiling z b.divisor) (value_over n forms point old at b.form))
     (lower_over n forms point old at bs)
 
 pub upper_over : (n : ℕ) (forms : List Affine) (point old : List ℤ) → values_of forms point ≡ old → (bs : Bounds)
-    → upper (bounds_over n forms bs) point ≡ upper bs old
+    → upper (bounds_over false n forms bs) point ≡ upper bs old
 upper_over n forms point old at (only b) =
-    ap (λ (z : ℤ). floor z b.divisor) (value_over n forms point old at b.form)
+    rounded_high (record { form = composed b.form forms n; divisor = b.divisor }) point
+    ∙ ap (λ (z : ℤ). floor z b.divisor) (value_over n forms point old at b.form)
 upper_over n forms point old at (besides b bs) =
-    ap₂ (λ (y z : ℤ). min_z (floor y b.divisor) z) (value_over n forms point old at b.form)
+    ap₂ (λ (y z : ℤ). min_z y z)
+    (rounded_high (record { form = composed b.form forms n; divisor = b.divisor }) point
+    ∙ ap (λ (z : ℤ). floor z b.divisor) (value_over n forms point old at b.form))
     (upper_over n forms point old at bs)
 
 holds_over : (n : ℕ) (forms : List Affine) (point old : List ℤ) → values_of forms point ≡ old → (test : Test)
     → holds (test_over n forms test) point ≡ holds test old
 holds_over n forms point old at (at_least f) =
-    ap (λ (z : ℤ). le_z (pos 0) z) (value_over n forms point old at f)
+    rounded_holds (at_least (composed f forms n)) point
+    ∙ ap (λ (z : ℤ). le_z (pos 0) z) (value_over n forms point old at f)
 holds_over n forms point old at (equal f) =
-    ap (λ (z : ℤ). if le_z (pos 0) z then le_z z (pos 0) else false) (value_over n forms point old at f)
+    rounded_holds (equal (composed f forms n)) point
+    ∙ ap (λ (z : ℤ). if le_z (pos 0) z then le_z z (pos 0) else false) (value_over n forms point old at f)
 holds_over n forms point old at (multiple f d) =
     ap (λ (z : ℤ). le_z z (floor z d *ℤ d)) (value_over n forms point old at f)
 
@@ -86,10 +95,16 @@ all_hold_over n forms point old at (test ∷ tests) =
     (all_hold_over n forms point old at tests)
 
 -- how many coefficients they have
-pub bounds_sized : (n : ℕ) (forms : List Affine) → All (IsOver n) forms → (bs : Bounds)
-    → BoundsAreOver n (bounds_over n forms bs)
-bounds_sized n forms sized (only b) = length-composed n b.form forms sized
-bounds_sized n forms sized (besides b bs) = (length-composed n b.form forms sized, bounds_sized n forms sized bs)
+pub bounds_sized : (up : Bool) (n : ℕ) (forms : List Affine) → All (IsOver n) forms → (bs : Bounds)
+    → BoundsAreOver n (bounds_over up n forms bs)
+bounds_sized up n forms sized (only b) =
+    rounded_sized n up (record { form = composed b.form forms n; divisor = b.divisor })
+    (length-composed n b.form forms sized)
+bounds_sized up n forms sized (besides b bs) = (
+  rounded_sized n up (record { form = composed b.form forms n; divisor = b.divisor })
+      (length-composed n b.form forms sized),
+  bounds_sized up n forms sized bs,
+)
 
 pub forms_sized : (n : ℕ) (forms : List Affine) → All (IsOver n) forms → (fs : List Affine)
     → All (IsOver n) (map (λ f. composed f forms n) fs)
@@ -98,10 +113,12 @@ forms_sized n forms sized (f ∷ fs) =
     All-cons (IsOver n) (composed f forms n) (map (λ g. composed g forms n) fs) (length-composed n f forms sized)
     (forms_sized n forms sized fs)
 
--- divisors stay
-pub bounds_flat : (n : ℕ) (forms : List Affine) (bs : Bounds) → AreBounds bs → AreBounds (bounds_over n forms bs)
-bounds_flat n forms (only b) h = h
-bounds_flat n forms (besides b bs) h = (h.0, bounds_flat n forms bs h.1)
+-- divisors stay positive
+pub bounds_flat : (up : Bool) (n : ℕ) (forms : List Affine) (bs : Bounds) → AreBounds bs
+    → AreBounds (bounds_over up n forms bs)
+bounds_flat up n forms (only b) h = rounded_flat up (record { form = composed b.form forms n; divisor = b.divisor }) h
+bounds_flat up n forms (besides b bs) h =
+    (rounded_flat up (record { form = composed b.form forms n; divisor = b.divisor }) h.0, bounds_flat up n forms bs h.1)
 
 -- few small values make a point that is not too large
 pub near_size : (d : ℕ) (params outer : List ℤ) → AreNear d params outer → size (outer ++ params) ≤ 2 ^ 80

@@ -28,7 +28,7 @@ use Rattle.loop_tree.specs.Tree.{Bound, Bounds, only, besides, bounds_of, Test, 
 use Rattle.loop_tree.specs.Walk.{all_hold, holds, lower, upper}
 use Rattle.loop_tree.proofs.Extremes.{above_min, below_max, max_below, min_above}
 use Rattle.tree_simplification.specs.steps.Context.{ArePartsOver, Context, Hold, IsSizedContext, Meets, NaturalAbove}
-use Rattle.tree_simplification.specs.steps.Context.{NeverHolds, OnSide, form_row, part_row, parts, sided, sign_of}
+use Rattle.tree_simplification.specs.steps.Context.{NeverHolds, NeverSpeaks, OnSide, form_row, part_row, parts, sided, sign_of}
 use Rattle.tree_simplification.specs.steps.Context.{test_rows, tested, tests_rows}
 use Rattle.tree_simplification.proofs.RowValues.{opposite_side, turned_is, value_form_row, value_part_row}
 use Rattle.tree_simplification.proofs.RowValues.{value_widened}
@@ -276,6 +276,20 @@ never_from c row natural empty params outer m =
         );
       }))
     ]
+
+pub never_speaks_from : (c : Context) → c.natural ≡ true
+    → ((x p : List ℤ) → IsBoundedPoint (system_of c.loops c.parameters [] c.rows) x p → ⊥) → NeverSpeaks c
+never_speaks_from c natural empty params outer m =
+    let point = outer ++ params in
+    let P : Affine → Type 0 = λ f. pos 0 ≤ℤ value_of f point in
+    let low : All (λ z. pos 0 ≤ℤ z) params = range_low params m.range in
+    empty outer params (record {
+      dimensions = m.loops_are;
+      parameters = m.parameters_are;
+      not_negative = not_negative-append outer params (m.whole natural) ((not_negative_all params).1 low);
+      bounded = range_high params m.range;
+      inside = (All-nil (λ (f : Affine). value_of f point ≡ pos 0), All-from_recursion P c.rows m.inside);
+    })
 
 -- a part that with one more is never exceeded
 pub implied_part : (c : Context) (turned : Bool) (bs others : List Bound) (b : Bound)

@@ -1,12 +1,14 @@
 -- Bounds, tests and numbers, one by one.
 use Rattle.std.proofs.Common.{◌≡◌, ℕ, zero, suc, ◌+◌, ◌^◌, ◌<◌, ◌≤◌, Bool, true, false, ℤ, pos, List, [], ◌∷◌, ◌++◌}
 use Rattle.std.proofs.Common.{length, map, take, get_or, ap, subst, sym, ◌∙◌, refl, arith, inl, inr}
-use Rattle.std.specs.Prelude.{All, ◌*ℤ◌, ◌≤ℤ◌, unsigned_abs, if◌then◌else◌}
+use Rattle.std.specs.Prelude.{All, not, ◌*ℤ◌, ◌≤ℤ◌, unsigned_abs, if◌then◌else◌}
 use Rattle.std.specs.Int.Signed.{le_z}
 use Rattle.std.proofs.lemmas.Int.{ints}
-use Rattle.std.proofs.lemmas.List.{map-append, map_more}
+use Rattle.std.proofs.lemmas.List.{append_assoc, map-append, map_more}
 use Rattle.std.proofs.lemmas.List.Elements.{All-nil, All-cons, All-head, All-tail, All-push}
-use Rattle.whole_numbers.specs.Affine.{Affine, value_of}
+use Rattle.whole_numbers.specs.Affine.{Affine, composed, value_of}
+use Rattle.whole_numbers.specs.Lists.{multiples}
+use Rattle.whole_numbers.proofs.Dot.{length-multiples, length-sums}
 use Rattle.whole_numbers.specs.Floor.{floor}
 use Rattle.scop_syntax.specs.Kernel.{AreAtMost}
 use Rattle.scop_syntax.proofs.Members.{le_z_holds}
@@ -19,7 +21,11 @@ use Rattle.loop_tree.specs.View.{test_of}
 use Rattle.loop_tree.specs.Walk.{all_hold, holds}
 use Rattle.loop_tree.specs.declared.tree.Test.{Test as CodeTest}
 use Rattle.loop_tree.proofs.Fits.{dot_zeros}
-use Rattle.tree_simplification.specs.steps.Inlined.{AreTestsFor, AreWith, bound_over, bounds_over, test_over}
+use Rattle.tree_simplification.specs.steps.Context.{sign_of}
+use Rattle.tree_simplification.specs.steps.Inlined.{AreTestsFor, AreTestsOf, AreWith, bound_over, bounds_over}
+use Rattle.tree_simplification.specs.steps.Inlined.{side_form, side_tests, test_over}
+use Rattle.tree_simplification.specs.steps.Rounded.{rounded_test}
+use Rattle.tree_simplification.proofs.Rounding.{test_flat as rounded_test_flat, test_sized as rounded_test_sized}
 
 at_most_next : (k : ℕ) (xs : List ℤ) (i : ℕ) (d : ℤ) → i < length xs → AreAtMost k (take i xs)
     → unsigned_abs (get_or xs i d) ≤ k → AreAtMost k (take (suc i) xs)
@@ -59,11 +65,11 @@ multiple_holds f d zeros is point =
     ap (λ (z : ℤ). le_z z (floor z d *ℤ d)) v ∙ is
 
 -- bounds as a first one and others
-pub bounds_of_over : (n : ℕ) (forms : List Affine) (b : Bound) (bs : List Bound)
-    → bounds_of (bound_over n forms b) (map (bound_over n forms) bs) ≡ bounds_over n forms (bounds_of b bs)
-bounds_of_over n forms b [] = refl
-bounds_of_over n forms b (c ∷ bs) =
-    ap (λ (cs : Bounds). besides (bound_over n forms b) cs) (bounds_of_over n forms c bs)
+pub bounds_of_over : (up : Bool) (n : ℕ) (forms : List Affine) (b : Bound) (bs : List Bound)
+    → bounds_of (bound_over up n forms b) (map (bound_over up n forms) bs) ≡ bounds_over up n forms (bounds_of b bs)
+bounds_of_over up n forms b [] = refl
+bounds_of_over up n forms b (c ∷ bs) =
+    ap (λ (cs : Bounds). besides (bound_over up n forms b) cs) (bounds_of_over up n forms c bs)
 
 pub over_parts : (n : ℕ) (b : Bound) (bs : List Bound) → BoundsAreOver n (bounds_of b bs)
     → IsOver n b.form × All (λ c. IsOver n c.form) bs
@@ -86,7 +92,7 @@ up_to_from n b (c ∷ bs) h all =
     (h, up_to_from n c bs (All-head P c bs all) (All-tail P c bs all))
 
 -- tests, one more
-all_hold_append : (xs ys : List Test) (point : List ℤ)
+pub all_hold_append : (xs ys : List Test) (point : List ℤ)
     → all_hold (xs ++ ys) point ≡ (if all_hold xs point then all_hold ys point else false)
 all_hold_append [] ys point = refl
 all_hold_append (x ∷ xs) ys point = first (holds x point) (all_hold_append xs ys point)
@@ -105,41 +111,40 @@ tests_push : (xs : List Test) (t : Test) → AreTests xs → IsTest t → AreTes
 tests_push [] t h k = (k, tt)
 tests_push (x ∷ xs) t h k = (h.0, tests_push xs t h.1 k)
 
-test_flat : (n : ℕ) (forms : List Affine) (t : Test) → IsTest t → IsTest (test_over n forms t)
-test_flat n forms (at_least f) h = tt
-test_flat n forms (equal f) h = tt
-test_flat n forms (multiple f d) h = h
+-- none
+pub no_tests : (n : ℕ) → AreTestsOf n [] []
+no_tests n =
+    record {
+      same = λ point. refl;
+      over = All-nil (λ (test : Test). IsOver n (form_in test));
+      small = All-nil (TestIsUpTo (2 ^ 45));
+      flat = λ h. tt;
+    }
 
 -- a test that stays
-pub test_kept : (n : ℕ) (forms : List Affine) (old new : List Test) (t : Test) → AreTestsFor n forms old new
-    → IsOver n (form_in (test_over n forms t)) → TestIsUpTo (2 ^ 45) (test_over n forms t)
-    → AreTestsFor n forms (old ++ t ∷ []) (new ++ test_over n forms t ∷ [])
-test_kept n forms old new t are over small =
-    let u = test_over n forms t in
+test_kept : (n : ℕ) (old new : List Test) (t : Test) → AreTestsOf n old new → IsOver n (form_in t)
+    → TestIsUpTo (2 ^ 45) t → AreTestsOf n (old ++ t ∷ []) (new ++ t ∷ [])
+test_kept n old new t are over small =
     record {
       same = λ point.
-          all_hold_append new (u ∷ []) point
-          ∙ (ap (λ (b : Bool). if b then all_hold (u ∷ []) point else false) (are.same point)
-          ∙ (sym (all_hold_append (map (test_over n forms) old) (u ∷ []) point)
-          ∙ ap (λ (ts : List Test). all_hold ts point) (sym (map-append (test_over n forms) old (t ∷ [])))));
-      over = All-push (λ (test : Test). IsOver n (form_in test)) new u are.over over;
-      small = All-push (TestIsUpTo (2 ^ 45)) new u are.small small;
-      flat = λ h. let f = tests_front old t h in tests_push new u (are.flat f.0) (test_flat n forms t f.1);
+          all_hold_append new (t ∷ []) point
+          ∙ (ap (λ (b : Bool). if b then all_hold (t ∷ []) point else false) (are.same point)
+          ∙ sym (all_hold_append old (t ∷ []) point));
+      over = All-push (λ (test : Test). IsOver n (form_in test)) new t are.over over;
+      small = All-push (TestIsUpTo (2 ^ 45)) new t are.small small;
+      flat = λ h. let f = tests_front old t h in tests_push new t (are.flat f.0) f.1;
     }
 
 -- a test that goes, since it holds everywhere
-pub test_gone : (n : ℕ) (forms : List Affine) (old new : List Test) (t : Test) → AreTestsFor n forms old new
-    → ((point : List ℤ) → holds (test_over n forms t) point ≡ true) → AreTestsFor n forms (old ++ t ∷ []) new
-test_gone n forms old new t are always =
-    let u = test_over n forms t in
+test_gone : (n : ℕ) (old new : List Test) (t : Test) → AreTestsOf n old new
+    → ((point : List ℤ) → holds t point ≡ true) → AreTestsOf n (old ++ t ∷ []) new
+test_gone n old new t are always =
     record {
       same = λ point.
-          let b = all_hold (map (test_over n forms) old) point in
-          let last : all_hold (u ∷ []) point ≡ true = ap (λ (c : Bool). if c then true else false) (always point) in
+          let last : all_hold (t ∷ []) point ≡ true = ap (λ (c : Bool). if c then true else false) (always point) in
           are.same point
-          ∙ (sym (stays b (all_hold (u ∷ []) point) last)
-          ∙ (sym (all_hold_append (map (test_over n forms) old) (u ∷ []) point)
-          ∙ ap (λ (ts : List Test). all_hold ts point) (sym (map-append (test_over n forms) old (t ∷ [])))));
+          ∙ (sym (stays (all_hold old point) (all_hold (t ∷ []) point) last)
+          ∙ sym (all_hold_append old (t ∷ []) point));
       over = are.over;
       small = are.small;
       flat = λ h. are.flat (tests_front old t h).0;
@@ -149,11 +154,35 @@ test_gone n forms old new t are always =
     stays true c h = h
     stays false c h = refl
 
-pub test_sized : (n : ℕ) (forms : List Affine) → All (IsOver n) forms → (t : Test)
+-- one of the code that stays or goes
+pub test_more : (n : ℕ) (old : List Test) (made : CodeTest) (all next : List CodeTest)
+    → AreTestsOf n old (map test_of all) → IsOver n (form_in (test_of made)) → TestIsUpTo (2 ^ 45) (test_of made)
+    → AreWith all made next → AreTestsOf n (old ++ test_of made ∷ []) (map test_of next)
+test_more n old made all next are over small (inl pushed) =
+    subst (AreTestsOf n (old ++ test_of made ∷ []))
+    (sym (ap (λ (ts : List CodeTest). map test_of ts) pushed ∙ map-append test_of all (made ∷ [])))
+    (test_kept n old (map test_of all) (test_of made) are over small)
+test_more n old made all next are over small (inr stays) =
+    subst (λ (ts : List CodeTest). AreTestsOf n (old ++ test_of made ∷ []) (map test_of ts)) (sym stays.0)
+    (test_gone n old (map test_of all) (test_of made) are stays.1)
+
+test_sized : (n : ℕ) (forms : List Affine) → All (IsOver n) forms → (t : Test)
     → IsOver n (form_in (test_over n forms t))
-test_sized n forms sized (at_least f) = length-composed n f forms sized
-test_sized n forms sized (equal f) = length-composed n f forms sized
+test_sized n forms sized (at_least f) =
+    rounded_test_sized n (at_least (composed f forms n)) (length-composed n f forms sized)
+test_sized n forms sized (equal f) =
+    rounded_test_sized n (equal (composed f forms n)) (length-composed n f forms sized)
 test_sized n forms sized (multiple f d) = length-composed n f forms sized
+
+-- tests that the forms stand in keep their divisors
+pub tests_flat : (n : ℕ) (forms : List Affine) (tests : List Test) → AreTests tests
+    → AreTests (map (test_over n forms) tests)
+tests_flat n forms [] h = tt
+tests_flat n forms (at_least f ∷ tests) h =
+    (rounded_test_flat (at_least (composed f forms n)) tt, tests_flat n forms tests h.1)
+tests_flat n forms (equal f ∷ tests) h =
+    (rounded_test_flat (equal (composed f forms n)) tt, tests_flat n forms tests h.1)
+tests_flat n forms (multiple f d ∷ tests) h = (h.0, tests_flat n forms tests h.1)
 
 -- what holds of the trees that a list's elements stand for holds of one of them
 pub all_mapped : {A B : Type 0} (P : B → Type 0) (f : A → B) (xs : List A) (i : ℕ) (x : A) → x ≡ get_or xs i x
@@ -170,24 +199,42 @@ pub tests_next : (n : ℕ) (forms : List Affine) (tests : List CodeTest) (i : �
     → test_of made ≡ test_over n forms (test_of item) → TestIsUpTo (2 ^ 45) (test_of made) → AreWith all made next
     → AreTestsFor n forms (map test_of (take (i + 1) tests)) (map test_of next)
 tests_next n forms tests i item made all next found inside are sized is small with =
-    let t = test_of item in
     let old = map test_of (take i tests) in
-    let taken : map test_of (take (i + 1) tests) ≡ old ++ t ∷ [] =
+    let taken : map test_of (take (i + 1) tests) ≡ old ++ test_of item ∷ [] =
     map_more test_of tests i item inside ∙ ap (λ (x : CodeTest). old ++ test_of x ∷ []) (sym found) in
-    subst (λ (ts : List Test). AreTestsFor n forms ts (map test_of next)) (sym taken) (by_way with)
+    let mapped : map (test_over n forms) (map test_of (take (i + 1) tests))
+    ≡ map (test_over n forms) old ++ test_of made ∷ [] =
+    ap (λ (ts : List Test). map (test_over n forms) ts) taken
+    ∙ (map-append (test_over n forms) old (test_of item ∷ [])
+    ∙ ap (λ (t : Test). map (test_over n forms) old ++ t ∷ []) (sym is)) in
+    subst (λ (ts : List Test). AreTestsOf n ts (map test_of next)) (sym mapped)
+    (test_more n (map (test_over n forms) old) made all next are
+    (subst (λ (t : Test). IsOver n (form_in t)) (sym is) (test_sized n forms sized (test_of item))) small with)
+
+-- one side's test more
+pub side_more : (n : ℕ) (turned : Bool) (f : Affine) (before : List Test) (bs : List Bound) (i : ℕ) (b : Bound)
+    → (made : CodeTest) (all next : List CodeTest) → b ≡ get_or bs i b → i < length bs
+    → AreTestsOf n (before ++ side_tests turned f (take i bs)) (map test_of all) → IsOver n f → IsOver n b.form
+    → test_of made ≡ rounded_test (at_least (side_form turned f b)) → TestIsUpTo (2 ^ 45) (test_of made)
+    → AreWith all made next
+    → AreTestsOf n (before ++ side_tests turned f (take (i + 1) bs)) (map test_of next)
+side_more n turned f before bs i b made all next found inside are own over is small with =
+    let side : Bound → Test = λ a. rounded_test (at_least (side_form turned f a)) in
+    let front = map side (take i bs) in
+    let taken : map side (take (i + 1) bs) ≡ front ++ test_of made ∷ [] =
+    map_more side bs i b inside ∙ (ap (λ (a : Bound). front ++ side a ∷ []) (sym found)
+    ∙ ap (λ (t : Test). front ++ t ∷ []) (sym is)) in
+    let all_is : before ++ map side (take (i + 1) bs) ≡ (before ++ front) ++ test_of made ∷ [] =
+    ap (λ (ts : List Test). before ++ ts) taken ∙ sym (append_assoc before front (test_of made ∷ [])) in
+    subst (λ (ts : List Test). AreTestsOf n ts (map test_of next)) (sym all_is)
+    (test_more n (before ++ front) made all next are
+    (subst (λ (t : Test). IsOver n (form_in t)) (sym is)
+    (rounded_test_sized n (at_least (side_form turned f b)) (side_sized n turned f b own over))) small with)
   where
-    by_way : AreWith all made next
-        → AreTestsFor n forms (map test_of (take i tests) ++ test_of item ∷ []) (map test_of next)
-    by_way (inl pushed) =
-        let new : map test_of next ≡ map test_of all ++ test_over n forms (test_of item) ∷ [] =
-        ap (λ (ts : List CodeTest). map test_of ts) pushed
-        ∙ (map-append test_of all (made ∷ []) ∙ ap (λ (t : Test). map test_of all ++ t ∷ []) is) in
-        subst (λ (ts : List Test). AreTestsFor n forms (map test_of (take i tests) ++ test_of item ∷ []) ts) (sym new)
-        (test_kept n forms (map test_of (take i tests)) (map test_of all) (test_of item) are
-        (test_sized n forms sized (test_of item)) (subst (λ (t : Test). TestIsUpTo (2 ^ 45) t) is small))
-    by_way (inr stays) =
-        subst
-        (λ (ts : List CodeTest). AreTestsFor n forms (map test_of (take i tests) ++ test_of item ∷ []) (map test_of ts))
-        (sym stays.0)
-        (test_gone n forms (map test_of (take i tests)) (map test_of all) (test_of item) are
-        (λ point. subst (λ (t : Test). holds t point ≡ true) is (stays.1 point)))
+    side_sized : (n : ℕ) (turned : Bool) (f : Affine) (b : Bound) → IsOver n f → IsOver n b.form
+        → IsOver n (side_form turned f b)
+    side_sized n turned f b own over =
+        let x = length-multiples (sign_of turned *ℤ pos 1) b.form.coefficients in
+        let y = length-multiples (sign_of (not turned) *ℤ b.divisor) f.coefficients in
+        length-sums (multiples (sign_of turned *ℤ pos 1) b.form.coefficients)
+        (multiples (sign_of (not turned) *ℤ b.divisor) f.coefficients) (x ∙ over ∙ sym own ∙ sym y) ∙ x ∙ over

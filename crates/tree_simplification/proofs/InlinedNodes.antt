@@ -1,14 +1,11 @@
 -- Old and new nodes, kind by kind, where loops that run once go.
 use Rattle.std.proofs.Common.{◌≡◌, ℕ, zero, suc, ◌+◌, ◌^◌, ◌≤◌, Bool, true, false, ℤ, pos, List, [], ◌∷◌, ◌++◌}
 use Rattle.std.proofs.Common.{length, map, ap, ap₂, subst, sym, ◌∙◌, refl, arith, length-append}
-use Rattle.std.specs.Prelude.{All, ◌+ℤ◌, ◌-ℤ◌, ◌≤ℤ◌, if◌then◌else◌}
+use Rattle.std.specs.Prelude.{All, ◌+ℤ◌, ◌-ℤ◌, ◌≤ℤ◌, ◌<ℤ◌, if◌then◌else◌}
 use Rattle.std.proofs.lemmas.Int.{ints}
 use Rattle.std.proofs.lemmas.List.{map-append, append-nil, length-map}
 use Rattle.std.proofs.lemmas.List.Elements.{All-head, All-tail}
 use Rattle.whole_numbers.specs.Affine.{Affine, value_of, values_of, composed}
-use Rattle.whole_numbers.specs.Floor.{floor, ceiling}
-use Rattle.whole_numbers.proofs.Floors.{floor_is, floor_unique, ceiling_is, ceiling_unique}
-use Rattle.whole_numbers.proofs.Ring.{mul_one_right}
 use Rattle.whole_numbers.proofs.Sizes.{abs_at_most}
 use Rattle.fm_projection.specs.Alone.{AreInRange}
 use Rattle.scop_syntax.specs.Kernel.{AreAtMost}
@@ -17,7 +14,7 @@ use Rattle.scop_syntax.specs.Tree.{Program}
 use Rattle.scop_syntax.specs.Walk.{most_turns, Instance}
 use Rattle.scop_syntax.proofs.Members.{in_map, in_map_from}
 use Rattle.loop_tree.specs.Fits.{FitsAll}
-use Rattle.loop_tree.specs.Marks.{AreTests, Flat, FlatAll}
+use Rattle.loop_tree.specs.Marks.{AreBounds, AreTests, Flat, FlatAll}
 use Rattle.loop_tree.specs.Plans.{AreFree, Conflict}
 use Rattle.loop_tree.specs.Scans.{Within}
 use Rattle.loop_tree.specs.Shape.{BoundsAreUpTo, IsUpTo, NestAllTo, NestsTo, TreesAreOver}
@@ -25,14 +22,18 @@ use Rattle.loop_tree.specs.Tree.{Bounds, Test, Tree, loop, guard, instance, Tree
 use Rattle.loop_tree.specs.Walk.{Visit, all_hold, along, between, given, lower, upper, through, walk, walk_all}
 use Rattle.tree_simplification.specs.Simplified.{shown, StayWithin}
 use Rattle.tree_simplification.specs.steps.Inlined.{AreNear, AreTestsFor, Inlines, IsInlined, IsPlace, bounds_over}
-use Rattle.tree_simplification.specs.steps.Inlined.{inside, once}
+use Rattle.tree_simplification.specs.steps.Inlined.{IsOnce, inside, side_tests}
+use Rattle.tree_simplification.specs.steps.Context.{parts}
 use Rattle.tree_simplification.specs.steps.Joined.{joined}
 use Rattle.tree_simplification.proofs.ComposedForms.{all_hold_over, bounds_fit_near, bounds_flat, bounds_sized}
 use Rattle.tree_simplification.proofs.ComposedForms.{forms_fit_near}
 use Rattle.tree_simplification.proofs.ComposedForms.{forms_sized, lower_over, near_more, near_size, place_sized}
 use Rattle.tree_simplification.proofs.ComposedForms.{place_values}
 use Rattle.tree_simplification.proofs.ComposedForms.{tests_fit_near, upper_over, values_over}
+use Rattle.loop_tree.proofs.Lists.{between_none}
+use Rattle.tree_simplification.proofs.Heads.{tests_flat}
 use Rattle.tree_simplification.proofs.InnerForms.{inside_values}
+use Rattle.tree_simplification.proofs.Once.{at_most_once, sides_flat}
 use Rattle.tree_simplification.proofs.JoinedTrees.{fits_joined, flat_joined, free_joined, nested_joined, of_joined}
 use Rattle.tree_simplification.proofs.JoinedTrees.{over_joined}
 use Rattle.tree_simplification.proofs.JoinedTrees.{serial_joined, small_joined, walk_joined}
@@ -93,21 +94,9 @@ old_visit vs ws same v h =
     let r = in_map_from shown (shown v) ws m in
     (r.0, r.1, ap given r.2)
 
-floor_one : (z : ℤ) → floor z (pos 1) ≡ z
-floor_one z =
-    let e = mul_one_right z in
-    floor_unique z (pos 1) (floor z (pos 1)) z (omega (arith, ints)) (floor_is z (pos 1) (omega (arith, ints)))
-    (record { below = omega (arith, ints); above = omega (arith, ints) })
-
-ceiling_one : (z : ℤ) → ceiling z (pos 1) ≡ z
-ceiling_one z =
-    let e = mul_one_right z in
-    ceiling_unique z (pos 1) (ceiling z (pos 1)) z (omega (arith, ints)) (ceiling_is z (pos 1) (omega (arith, ints)))
-    (record { above = omega (arith, ints); below = omega (arith, ints) })
-
 within_over : (n : ℕ) (forms : List Affine) (point old : List ℤ) → values_of forms point ≡ old → (lo up : Bounds)
     → (x : ℤ)
-    → Within (bounds_over n forms lo) (bounds_over n forms up) point x → Within lo up old x
+    → Within (bounds_over true n forms lo) (bounds_over false n forms up) point x → Within lo up old x
 within_over n forms point old at lo up x w = (
   subst (λ (z : ℤ). z ≤ℤ x) (lower_over n forms point old at lo) w.0,
   subst (λ (z : ℤ). x ≤ℤ z) (upper_over n forms point old at up) w.1,
@@ -126,7 +115,7 @@ instance_nests zero k forms = tt
 instance_nests (suc n) k forms = tt
 
 -- the tests and the body of a guard of a text
-guard_tests : (tests : List Test) (body : Trees) → Flat (guard tests body) → AreTests tests × FlatAll body
+pub guard_tests : (tests : List Test) (body : Trees) → Flat (guard tests body) → AreTests tests × FlatAll body
 guard_tests [] body h = absurd h
 guard_tests (test ∷ tests) body h = h
 
@@ -174,9 +163,9 @@ then_others m k loops t ts a b one rest =
 
 -- a loop that stays, at a point: it runs over the same values
 record AtLoop (m k : ℕ) (loops forms : List Affine) (lo up : Bounds) (params outer : List ℤ) : Type 0 where
-  first : lower (bounds_over (k + m) forms lo) (outer ++ params)
+  first : lower (bounds_over true (k + m) forms lo) (outer ++ params)
       ≡ lower lo (values_of loops (outer ++ params) ++ params)
-  last : upper (bounds_over (k + m) forms up) (outer ++ params) ≡ upper up (values_of loops (outer ++ params) ++ params)
+  last : upper (bounds_over false (k + m) forms up) (outer ++ params) ≡ upper up (values_of loops (outer ++ params) ++ params)
 
 at_loop : (m k : ℕ) (loops forms : List Affine) (lo up : Bounds) (params outer : List ℤ) → IsPlace m k loops forms
     → length params ≡ m → length outer ≡ k → AtLoop m k loops forms lo up params outer
@@ -201,7 +190,7 @@ kept_free : (m k : ℕ) (loops forms : List Affine) (flag : Bool) (lo up : Bound
     → (params outer : List ℤ) → length params ≡ m → length outer ≡ k
     → AreFree (Conflict program params) (more (loop flag lo up body) none) params (values_of loops (outer ++ params))
     → AreFree (Conflict program params)
-    (more (loop flag (bounds_over (k + m) forms lo) (bounds_over (k + m) forms up) new) none) params outer
+    (more (loop flag (bounds_over true (k + m) forms lo) (bounds_over false (k + m) forms up) new) none) params outer
 kept_free m k loops forms flag lo up body new place within program params outer p o h =
     let point = outer ++ params in
     let old = values_of loops point in
@@ -229,11 +218,11 @@ kept_free m k loops forms flag lo up body new place within program params outer 
 
 kept_fits : (m k : ℕ) (loops forms : List Affine) (flag : Bool) (lo up : Bounds) (body new : Trees)
     → IsPlace m k loops forms → Inlines m (k + 1) (inside m k loops) body new
-    → BoundsAreUpTo (2 ^ 45) (bounds_over (k + m) forms lo) → BoundsAreUpTo (2 ^ 45) (bounds_over (k + m) forms up)
+    → BoundsAreUpTo (2 ^ 45) (bounds_over true (k + m) forms lo) → BoundsAreUpTo (2 ^ 45) (bounds_over false (k + m) forms up)
     → (d : ℕ) (params outer : List ℤ) → length params ≡ m → length outer ≡ k
     → NestAllTo d (more (loop flag lo up body) none) → AreNear d params outer
     → StayWithin (2 ^ 40) (more (loop flag lo up body) none) params (values_of loops (outer ++ params))
-    → FitsAll (more (loop flag (bounds_over (k + m) forms lo) (bounds_over (k + m) forms up) new) none) params outer
+    → FitsAll (more (loop flag (bounds_over true (k + m) forms lo) (bounds_over false (k + m) forms up) new) none) params outer
 kept_fits m k loops forms flag lo up body new place within low high zero params outer p o nests near stay =
     absurd nests.0
 kept_fits m k loops forms flag lo up body new place within low high (suc d) params outer p o nests near stay =
@@ -242,8 +231,8 @@ kept_fits m k loops forms flag lo up body new place within low high (suc d) para
     let at = place_values m k loops forms params outer place p o in
     let s = near_size (suc d) params outer near in (
       (
-        bounds_fit_near (bounds_over (k + m) forms lo) point s low,
-        bounds_fit_near (bounds_over (k + m) forms up) point s high,
+        bounds_fit_near (bounds_over true (k + m) forms lo) point s low,
+        bounds_fit_near (bounds_over false (k + m) forms up) point s high,
         (λ x w.
             let here = stay.0 x (within_over (k + m) forms point (old ++ params) at lo up x w) in
             let room = here.0 in
@@ -269,9 +258,9 @@ kept_nested m k loops flag lo up low high body new within (suc n) (suc i) l h =
 -- a loop that stays
 pub kept_loop : (m k : ℕ) (loops forms : List Affine) (flag : Bool) (lo up : Bounds) (body new : Trees)
     → IsPlace m k loops forms → Inlines m (k + 1) (inside m k loops) body new
-    → BoundsAreUpTo (2 ^ 45) (bounds_over (k + m) forms lo) → BoundsAreUpTo (2 ^ 45) (bounds_over (k + m) forms up)
+    → BoundsAreUpTo (2 ^ 45) (bounds_over true (k + m) forms lo) → BoundsAreUpTo (2 ^ 45) (bounds_over false (k + m) forms up)
     → Inlines m k loops (more (loop flag lo up body) none)
-    (more (loop flag (bounds_over (k + m) forms lo) (bounds_over (k + m) forms up) new) none)
+    (more (loop flag (bounds_over true (k + m) forms lo) (bounds_over false (k + m) forms up) new) none)
 kept_loop m k loops forms flag lo up body new place within low high =
     let n = k + m in
     let sized = place_sized m k loops forms place in
@@ -292,37 +281,54 @@ kept_loop m k loops forms flag lo up body new place within low high =
       free = kept_free m k loops forms flag lo up body new place within;
       fits = kept_fits m k loops forms flag lo up body new place within low high;
       serial = λ h. ((h.0.0, within.serial h.0.1), tt);
-      flat = λ h. ((bounds_flat n forms lo h.0.0, bounds_flat n forms up h.0.1, within.flat h.0.2), tt);
+      flat = λ h. ((bounds_flat true n forms lo h.0.0, bounds_flat false n forms up h.0.1, within.flat h.0.2), tt);
       statements = λ program h. (within.statements program h.0, tt);
       over = (
         (
-          bounds_sized n forms sized lo,
-          bounds_sized n forms sized up,
+          bounds_sized true n forms sized lo,
+          bounds_sized false n forms sized up,
           subst (λ i. TreesAreOver i new) e within.over,
         ),
         tt,
       );
       small = ((low, high, within.small), tt);
       nested =
-          kept_nested m k loops flag lo up (bounds_over n forms lo) (bounds_over n forms up) body new within;
+          kept_nested m k loops flag lo up (bounds_over true n forms lo) (bounds_over false n forms up) body new within;
     }
 
--- a loop that runs once, at a point: its one value
-record AtOnce (loops : List Affine) (lo up : Bounds) (f : Affine) (params outer : List ℤ) : Type 0 where
-  first : lower lo (values_of loops (outer ++ params) ++ params) ≡ value_of f (outer ++ params)
-  last : upper up (values_of loops (outer ++ params) ++ params) ≡ value_of f (outer ++ params)
+-- a loop that runs at most once, at a point: its one value
+record AtOnce (loops : List Affine) (lo up : Bounds) (f : Affine) (tests : List Test) (params outer : List ℤ)
+    : Type 0 where
+  first : all_hold tests (outer ++ params) ≡ true
+      → lower lo (values_of loops (outer ++ params) ++ params) ≡ value_of f (outer ++ params)
+  last : all_hold tests (outer ++ params) ≡ true
+      → upper up (values_of loops (outer ++ params) ++ params) ≡ value_of f (outer ++ params)
+  never : all_hold tests (outer ++ params) ≡ false
+      → upper up (values_of loops (outer ++ params) ++ params) <ℤ lower lo (values_of loops (outer ++ params) ++ params)
   values : values_of (loops ++ f ∷ []) (outer ++ params)
       ≡ values_of loops (outer ++ params) ++ value_of f (outer ++ params) ∷ []
 
-at_once : (m k : ℕ) (loops forms : List Affine) (lo up : Bounds) (f : Affine) → IsPlace m k loops forms
-    → bounds_over (k + m) forms lo ≡ once f → bounds_over (k + m) forms up ≡ once f
-    → (params outer : List ℤ) → length params ≡ m → length outer ≡ k → AtOnce loops lo up f params outer
-at_once m k loops forms lo up f place is_low is_high params outer p o =
+-- what is known of such a loop
+pub record GoesOnce (m k : ℕ) (loops forms : List Affine) (lo up : Bounds) (f : Affine) (tests : List Test)
+    : Type 0 where
+  pub place : IsPlace m k loops forms
+  pub flat_low : AreBounds lo
+  pub flat_high : AreBounds up
+  pub once : IsOnce (k + m) f (bounds_over true (k + m) forms lo) (bounds_over false (k + m) forms up) tests
+
+at_once : (m k : ℕ) (loops forms : List Affine) (lo up : Bounds) (f : Affine) (tests : List Test)
+    → GoesOnce m k loops forms lo up f tests → (params outer : List ℤ) → length params ≡ m → length outer ≡ k
+    → AtOnce loops lo up f tests params outer
+at_once m k loops forms lo up f tests goes params outer p o =
     let point = outer ++ params in
-    let at = at_loop m k loops forms lo up params outer place p o in
+    let n = k + m in
+    let at = at_loop m k loops forms lo up params outer goes.place p o in
+    let most = at_most_once n f (bounds_over true n forms lo) (bounds_over false n forms up) tests point goes.once
+    (bounds_flat true n forms lo goes.flat_low) (bounds_flat false n forms up goes.flat_high) in
     record {
-      first = sym at.first ∙ (ap (λ (bs : Bounds). lower bs point) is_low ∙ ceiling_one (value_of f point));
-      last = sym at.last ∙ (ap (λ (bs : Bounds). upper bs point) is_high ∙ floor_one (value_of f point));
+      first = λ h. sym at.first ∙ most.first h;
+      last = λ h. sym at.last ∙ most.last h;
+      never = λ h. let less = most.never h in let a = at.first in let b = at.last in omega (arith, ints);
       values = map-append (λ g. value_of g point) loops (f ∷ []);
     }
 
@@ -330,21 +336,62 @@ once_within : (lo up : Bounds) (point : List ℤ) (v : ℤ) → lower lo point �
     → Within lo up point v
 once_within lo up point v a b = (omega (arith, ints, a), omega (arith, ints, b))
 
-gone_fits : (m k : ℕ) (loops forms : List Affine) (lo up : Bounds) (f : Affine) (body new : Trees)
-    → IsPlace m k loops forms → bounds_over (k + m) forms lo ≡ once f → bounds_over (k + m) forms up ≡ once f
-    → Inlines m k (loops ++ f ∷ []) body new
+once_alike : (b : Bool) (v first last : ℤ) (g : ℤ → List Visit) (inner : List Visit)
+    → map shown inner ≡ map shown (g v) → (b ≡ true → first ≡ v) → (b ≡ true → last ≡ v)
+    → (b ≡ false → last <ℤ first)
+    → map shown (if b then inner else []) ≡ map shown (between g first last ++ [])
+once_alike true v first last g inner same a b never =
+    same
+    ∙ (ap (λ (vs : List Visit). map shown vs)
+    (sym (append-nil (g v)) ∙ ap (λ (vs : List Visit). vs ++ []) (sym (between_once g v)))
+    ∙ sym (ap₂ (λ (y z : ℤ). map shown (between g y z ++ [])) (a refl) (b refl)))
+once_alike false v first last g inner same a b never =
+    sym (ap (λ (vs : List Visit). map shown (vs ++ [])) (between_none g first last (never refl)))
+
+gone_alike : (m k : ℕ) (loops forms : List Affine) (lo up : Bounds) (f : Affine) (tests : List Test)
+    → (body new : Trees) → GoesOnce m k loops forms lo up f tests → Inlines m k (loops ++ f ∷ []) body new
+    → (params outer : List ℤ) → length params ≡ m → length outer ≡ k
+    → map shown (if all_hold tests (outer ++ params) then walk_all new params outer else [])
+    ≡ map shown (walk_all (more (loop false lo up body) none) params (values_of loops (outer ++ params)))
+gone_alike m k loops forms lo up f tests body new goes within params outer p o =
+    let point = outer ++ params in
+    let old = values_of loops point in
+    let v = value_of f point in
+    let at = at_once m k loops forms lo up f tests goes params outer p o in
+    once_alike (all_hold tests point) v (lower lo (old ++ params)) (upper up (old ++ params))
+    (λ x. map (through false x) (walk_all body params (old ++ x ∷ []))) (walk_all new params outer)
+    (within.alike params outer p o
+    ∙ (ap (λ (ys : List ℤ). map shown (walk_all body params ys)) at.values
+    ∙ sym (through_serial v (walk_all body params (old ++ v ∷ [])))))
+    at.first at.last at.never
+
+gone_free : (m k : ℕ) (loops forms : List Affine) (lo up : Bounds) (f : Affine) (tests : List Test)
+    → (body new : Trees) → GoesOnce m k loops forms lo up f tests → Inlines m k (loops ++ f ∷ []) body new
+    → (program : Program) (params outer : List ℤ) → length params ≡ m → length outer ≡ k
+    → AreFree (Conflict program params) (more (loop false lo up body) none) params (values_of loops (outer ++ params))
+    → all_hold tests (outer ++ params) ≡ true → AreFree (Conflict program params) new params outer
+gone_free m k loops forms lo up f tests body new goes within program params outer p o h holds =
+    let point = outer ++ params in
+    let v = value_of f point in
+    let at = at_once m k loops forms lo up f tests goes params outer p o in
+    within.free program params outer p o
+    (subst (λ (ys : List ℤ). AreFree (Conflict program params) body params ys) (sym at.values)
+    (h.0.1 v (once_within lo up (values_of loops point ++ params) v (at.first holds) (at.last holds))))
+
+gone_fits : (m k : ℕ) (loops forms : List Affine) (lo up : Bounds) (f : Affine) (tests : List Test)
+    → (body new : Trees) → GoesOnce m k loops forms lo up f tests → Inlines m k (loops ++ f ∷ []) body new
     → (d : ℕ) (params outer : List ℤ) → length params ≡ m → length outer ≡ k
     → NestAllTo d (more (loop false lo up body) none) → AreNear d params outer
     → StayWithin (2 ^ 40) (more (loop false lo up body) none) params (values_of loops (outer ++ params))
-    → FitsAll new params outer
-gone_fits m k loops forms lo up f body new place is_low is_high within zero params outer p o nests near stay =
+    → all_hold tests (outer ++ params) ≡ true → FitsAll new params outer
+gone_fits m k loops forms lo up f tests body new goes within zero params outer p o nests near stay holds =
     absurd nests.0
-gone_fits m k loops forms lo up f body new place is_low is_high within (suc d) params outer p o nests near stay =
+gone_fits m k loops forms lo up f tests body new goes within (suc d) params outer p o nests near stay holds =
     let point = outer ++ params in
-    let at = at_once m k loops forms lo up f place is_low is_high params outer p o in
+    let at = at_once m k loops forms lo up f tests goes params outer p o in
     let few = near.few_loops in
     let here = stay.0 (value_of f point)
-    (once_within lo up (values_of loops point ++ params) (value_of f point) at.first at.last) in
+    (once_within lo up (values_of loops point ++ params) (value_of f point) (at.first holds) (at.last holds)) in
     within.fits d params outer p o nests.0
     (record {
       few_parameters = near.few_parameters;
@@ -361,37 +408,61 @@ gone_nested m k loops lo up body new within (suc n) i l h = within.nested n i (o
 
 -- a loop that runs once gives way to its body
 pub gone_loop : (m k : ℕ) (loops forms : List Affine) (lo up : Bounds) (f : Affine) (body new : Trees)
-    → IsPlace m k loops forms → bounds_over (k + m) forms lo ≡ once f → bounds_over (k + m) forms up ≡ once f
-    → Inlines m k (loops ++ f ∷ []) body new → Inlines m k loops (more (loop false lo up body) none) new
-gone_loop m k loops forms lo up f body new place is_low is_high within =
+    → GoesOnce m k loops forms lo up f [] → Inlines m k (loops ++ f ∷ []) body new
+    → Inlines m k loops (more (loop false lo up body) none) new
+gone_loop m k loops forms lo up f body new goes within =
     record {
-      alike = λ params outer p o.
-          let point = outer ++ params in
-          let old = values_of loops point in
-          let v = value_of f point in
-          let at = at_once m k loops forms lo up f place is_low is_high params outer p o in
-          let inner = walk_all body params (old ++ v ∷ []) in
-          let g : ℤ → List Visit = λ x. map (through false x) (walk_all body params (old ++ x ∷ [])) in
-          within.alike params outer p o
-          ∙ (ap (λ (ys : List ℤ). map shown (walk_all body params ys)) at.values
-          ∙ (sym (through_serial v inner)
-          ∙ (ap (λ (vs : List Visit). map shown vs)
-          (sym (append-nil (g v)) ∙ ap (λ (vs : List Visit). vs ++ []) (sym (between_once g v)))
-          ∙ sym (ap₂ (λ (y z : ℤ). map shown (between g y z ++ [])) at.first at.last))));
+      alike = gone_alike m k loops forms lo up f [] body new goes within;
       free = λ program params outer p o h.
-          let point = outer ++ params in
-          let v = value_of f point in
-          let at = at_once m k loops forms lo up f place is_low is_high params outer p o in
-          within.free program params outer p o
-          (subst (λ (ys : List ℤ). AreFree (Conflict program params) body params ys) (sym at.values)
-          (h.0.1 v (once_within lo up (values_of loops point ++ params) v at.first at.last)));
-      fits = gone_fits m k loops forms lo up f body new place is_low is_high within;
+          gone_free m k loops forms lo up f [] body new goes within program params outer p o h refl;
+      fits = λ d params outer p o nests near stay.
+          gone_fits m k loops forms lo up f [] body new goes within d params outer p o nests near stay refl;
       serial = λ h. within.serial h.0.1;
       flat = λ h. within.flat h.0.2;
       statements = λ program h. within.statements program h.0;
       over = within.over;
       small = within.small;
       nested = gone_nested m k (loops ++ f ∷ []) lo up body new within;
+    }
+
+-- one that runs at most once, to a guard round it
+pub guarded_loop : (m k : ℕ) (loops forms : List Affine) (lo up : Bounds) (f : Affine) (test : Test)
+    → (others : List Test) (body new : Trees) → GoesOnce m k loops forms lo up f (test ∷ others)
+    → Inlines m k (loops ++ f ∷ []) body new
+    → Inlines m k loops (more (loop false lo up body) none) (more (guard (test ∷ others) new) none)
+guarded_loop m k loops forms lo up f test others body new goes within =
+    let here = test ∷ others in
+    let are = goes.once.between in
+    let n = k + m in
+    record {
+      alike = λ params outer p o.
+          ap (λ (vs : List Visit). map shown vs)
+          (append-nil (if all_hold here (outer ++ params) then walk_all new params outer else []))
+          ∙ gone_alike m k loops forms lo up f here body new goes within params outer p o;
+      free = λ program params outer p o h.
+          (gone_free m k loops forms lo up f here body new goes within program params outer p o h, tt);
+      fits = λ d params outer p o nests near stay. (
+        (
+          tests_fit_near here (outer ++ params) (near_size d params outer near) are.small,
+          gone_fits m k loops forms lo up f here body new goes within d params outer p o nests near stay,
+        ),
+        tt,
+      );
+      serial = λ h. (within.serial h.0.1, tt);
+      flat = λ h. (
+        (
+          are.flat (sides_flat true f (parts (bounds_over true n forms lo))
+              (side_tests false f (parts (bounds_over false n forms up)))
+              (subst AreTests (append-nil (side_tests false f (parts (bounds_over false n forms up))))
+              (sides_flat false f (parts (bounds_over false n forms up)) [] tt))),
+          within.flat h.0.2,
+        ),
+        tt,
+      );
+      statements = λ program h. (within.statements program h.0, tt);
+      over = ((are.over, within.over), tt);
+      small = ((are.small, within.small), tt);
+      nested = λ i j l h. (guard_nests j here new (gone_nested m k (loops ++ f ∷ []) lo up body new within i j l h), tt);
     }
 
 -- tests over the new loops hold where the old ones do
@@ -435,7 +506,7 @@ kept_guard m k loops forms tests test others body new place are within =
         tt,
       );
       serial = λ h. (within.serial h.0, tt);
-      flat = λ h. ((are.flat (guard_tests tests body h.0).0, within.flat (guard_tests tests body h.0).1), tt);
+      flat = λ h. ((are.flat (tests_flat (k + m) forms tests (guard_tests tests body h.0).0), within.flat (guard_tests tests body h.0).1), tt);
       statements = λ program h. (within.statements program h.0, tt);
       over = ((are.over, within.over), tt);
       small = ((are.small, within.small), tt);

@@ -1,5 +1,5 @@
 -- Nodes of the code one by one, and what the code asks of their parts.
-use Rattle.std.proofs.Common.{◌≡◌, ℕ, zero, suc, ◌+◌, ◌^◌, ◌<◌, ◌≤◌, Bool, false, List, [], ◌∷◌, ◌++◌, length, map}
+use Rattle.std.proofs.Common.{◌≡◌, ℕ, zero, suc, ◌+◌, ◌^◌, ◌<◌, ◌≤◌, Bool, true, false, List, [], ◌∷◌, ◌++◌, length, map}
 use Rattle.std.proofs.Common.{drop, get_or}
 use Rattle.std.proofs.Common.{ap, subst, sym, ◌∙◌, arith, length-append}
 use Rattle.std.specs.Prelude.{All}
@@ -9,6 +9,7 @@ use Rattle.whole_numbers.specs.Affine.{Affine, composed, widened}
 use Rattle.iteration_domains.specs.Rows.{variable, variables}
 use Rattle.iteration_domains.proofs.Surroundings.{length-variables}
 use Rattle.loop_tree.specs.Fits.{form_in}
+use Rattle.loop_tree.specs.Marks.{AreBounds, FlatAll}
 use Rattle.loop_tree.specs.Shape.{BoundsAreOver, BoundsAreUpTo, IsOver, IsUpTo, NestAllTo, TestIsUpTo, TreesAreOver}
 use Rattle.loop_tree.specs.Shape.{TreesAreUpTo}
 use Rattle.loop_tree.specs.Tree.{Bounds, Test, Tree, loop, guard, instance, Trees, none, more}
@@ -16,11 +17,13 @@ use Rattle.loop_tree.specs.View.{nodes_of, test_of, tree_of}
 use Rattle.loop_tree.specs.declared.tree.Node.{Node}
 use Rattle.loop_tree.specs.declared.tree.Test.{Test as CodeTest}
 use Rattle.loop_tree.proofs.Weights.{node_here}
-use Rattle.tree_simplification.specs.steps.Inlined.{AreTestsFor, CanInline, Extends, Inlines, IsPlace, bounds_over}
-use Rattle.tree_simplification.specs.steps.Inlined.{inside, once}
+use Rattle.tree_simplification.specs.steps.Inlined.{AreTestsFor, CanInline, Extends, Inlines, IsOnce, IsPlace}
+use Rattle.tree_simplification.specs.steps.Inlined.{bounds_over}
+use Rattle.tree_simplification.specs.steps.Inlined.{inside}
 use Rattle.tree_simplification.specs.steps.Joined.{joined}
-use Rattle.tree_simplification.proofs.ComposedForms.{bounds_sized, place_sized}
-use Rattle.tree_simplification.proofs.InlinedNodes.{gone_guard, gone_loop, kept_guard, kept_loop, leaf_stays}
+use Rattle.tree_simplification.proofs.ComposedForms.{place_sized}
+use Rattle.tree_simplification.proofs.InlinedNodes.{GoesOnce, gone_guard, gone_loop, guard_tests, guarded_loop}
+use Rattle.tree_simplification.proofs.InlinedNodes.{kept_guard, kept_loop, leaf_stays}
 use Rattle.tree_simplification.proofs.InlinedNodes.{nests_guard, nothing_stays, then_others}
 use Rattle.tree_simplification.proofs.InnerForms.{inside_sized}
 use Rattle.tree_simplification.proofs.JoinedTrees.{joined_assoc, joined_none, nodes_joined}
@@ -103,6 +106,7 @@ can_first m k loops forms t ts can =
       place = can.place;
       few = can.few;
       deep = (can.deep.0, can.deep.1, (can.deep.2.0, tt));
+      flat = (can.flat.0, tt);
       over = (can.over.0, tt);
       small = (can.small.0, tt);
     }
@@ -114,6 +118,7 @@ can_rest m k loops forms t ts can =
       place = can.place;
       few = can.few;
       deep = (can.deep.0, can.deep.1, can.deep.2.1);
+      flat = can.flat.1;
       over = can.over.1;
       small = can.small.1;
     }
@@ -149,6 +154,7 @@ guard_can m k loops forms tests body can =
             place = can.place;
             few = can.few;
             deep = (can.deep.0, can.deep.1, nests_guard can.deep.0 tests body can.deep.2.0);
+            flat = (guard_tests tests body can.flat.0).1;
             over = can.over.0.1;
             small = can.small.0.1;
           };
@@ -166,6 +172,8 @@ pub record LoopCan (m k : ℕ) (loops forms : List Affine) (lo up : Bounds) (bod
   pub high : BoundsAreOver (length forms) up
   pub low_numbers : BoundsAreUpTo (2 ^ 40) lo
   pub high_numbers : BoundsAreUpTo (2 ^ 40) up
+  pub flat_low : AreBounds lo
+  pub flat_high : AreBounds up
   pub sized : All (IsOver (k + m)) forms
   pub few : k + 1 + m ≤ 2 ^ 34
   pub stays : (others : List Affine) → others ≡ inside m k loops ++ variables (k + 1 + m) (k + 1) m
@@ -199,6 +207,8 @@ loop_can m k loops forms flag lo up body can =
       high = subst (λ i. BoundsAreOver i up) (sym l) can.over.0.1;
       low_numbers = can.small.0.0;
       high_numbers = can.small.0.1;
+      flat_low = can.flat.0.0;
+      flat_high = can.flat.0.1;
       sized = place_sized m k loops forms can.place;
       few = omega (arith, few, room);
       stays = λ others are.
@@ -208,6 +218,7 @@ loop_can m k loops forms flag lo up body can =
             place = record { are = are; sized = inside_sized m k loops can.place.sized };
             few = can.few;
             deep = deep;
+            flat = can.flat.0.2;
             over = subst (λ i. TreesAreOver i body) e can.over.0.2;
             small = can.small.0.2;
           };
@@ -218,16 +229,11 @@ loop_can m k loops forms flag lo up body can =
             place = record { are = are; sized = All-push (IsOver (k + m)) loops f can.place.sized own };
             few = can.few;
             deep = (deep.0, omega (arith, room), deep.2);
+            flat = can.flat.0.2;
             over = subst (λ i. TreesAreOver i body) e can.over.0.2;
             small = can.small.0.2;
           };
     }
-
--- the form of a loop that runs once is over the new loops and the parameters
-pub once_sized : (n : ℕ) (forms : List Affine) (lo new : Bounds) (f : Affine) → All (IsOver n) forms
-    → new ≡ bounds_over n forms lo → new ≡ once f → IsOver n f
-once_sized n forms lo new f sized made is =
-    subst (λ (bs : Bounds). BoundsAreOver n bs) (sym made ∙ is) (bounds_sized n forms sized lo)
 
 -- a guard that goes
 pub guard_goes : (m k : ℕ) (loops forms : List Affine) (tests : List Test) (body before after : Trees)
@@ -247,24 +253,46 @@ guard_stays m k loops forms tests body new [] place are some within = absurd (om
 guard_stays m k loops forms tests body new (test ∷ found) place are some within =
     kept_guard m k loops forms tests (test_of test) (map test_of found) body new place are within
 
+-- what is known of a loop that runs at most once
+pub goes_once : (m k : ℕ) (loops forms : List Affine) (flag : Bool) (lo up : Bounds) (f : Affine) (tests : List Test)
+    → (body : Trees) → CanInline m k loops forms (more (loop flag lo up body) none)
+    → IsOnce (k + m) f (bounds_over true (k + m) forms lo) (bounds_over false (k + m) forms up) tests
+    → GoesOnce m k loops forms lo up f tests
+goes_once m k loops forms flag lo up f tests body can once =
+    record { place = can.place; flat_low = can.flat.0.0; flat_high = can.flat.0.1; once = once }
+
 -- a loop that goes
-pub loop_goes : (m k i j : ℕ) (loops inner forms : List Affine) (flag : Bool) (lo up low high : Bounds) (f : Affine)
-    → (body before after : Trees) → IsPlace m k loops forms → flag ≡ false → low ≡ bounds_over (k + m) forms lo
-    → high ≡ bounds_over (k + m) forms up → low ≡ once f → high ≡ once f → i ≡ m → j ≡ k → inner ≡ loops ++ f ∷ []
-    → Extends i j inner body before after → Extends m k loops (more (loop flag lo up body) none) before after
-loop_goes m k i j loops inner forms flag lo up low high f body old new place serial is_low is_high one same a b e gone =
+pub loop_goes : (m k i j : ℕ) (loops inner forms : List Affine) (flag : Bool) (lo up : Bounds) (f : Affine)
+    → (found : List CodeTest) (body before after : Trees) → GoesOnce m k loops forms lo up f (map test_of found)
+    → flag ≡ false → length found ≡ 0 → i ≡ m → j ≡ k → inner ≡ loops ++ f ∷ [] → Extends i j inner body before after
+    → Extends m k loops (more (loop flag lo up body) none) before after
+loop_goes m k i j loops inner forms flag lo up f (test ∷ found) body old new goes serial empty a b e gone =
+    absurd (omega arith)
+loop_goes m k i j loops inner forms flag lo up f [] body old new goes serial empty a b e gone =
     let within =
-    at_place (λ x y fs. Inlines x y fs body gone.0) m k i j (loops ++ f ∷ []) inner a b e gone.2 in
-    let goes = gone_loop m k loops forms lo up f body gone.0 place (sym is_low ∙ one) (sym is_high ∙ same) within in (
+    at_place (λ x y fs. Inlines x y fs body gone.0) m k i j (loops ++ f ∷ []) inner a b e gone.2 in (
       gone.0,
       gone.1,
-      subst (λ (c : Bool). Inlines m k loops (more (loop c lo up body) none) gone.0) (sym serial) goes,
+      subst (λ (c : Bool). Inlines m k loops (more (loop c lo up body) none) gone.0) (sym serial)
+          (gone_loop m k loops forms lo up f body gone.0 goes within),
     )
+
+-- one that gives way to a guard
+pub loop_guarded : (m k i j : ℕ) (loops inner forms : List Affine) (flag : Bool) (lo up : Bounds) (f : Affine)
+    → (found : List CodeTest) (body new : Trees) → GoesOnce m k loops forms lo up f (map test_of found)
+    → flag ≡ false → 0 < length found → i ≡ m → j ≡ k → inner ≡ loops ++ f ∷ [] → Inlines i j inner body new
+    → Inlines m k loops (more (loop flag lo up body) none) (more (guard (map test_of found) new) none)
+loop_guarded m k i j loops inner forms flag lo up f [] body new goes serial some a b e within = absurd (omega arith)
+loop_guarded m k i j loops inner forms flag lo up f (test ∷ found) body new goes serial some a b e within =
+    let here = more (guard (map test_of (test ∷ found)) new) none in
+    subst (λ (c : Bool). Inlines m k loops (more (loop c lo up body) none) here) (sym serial)
+    (guarded_loop m k loops forms lo up f (test_of test) (map test_of found) body new goes
+    (at_place (λ x y fs. Inlines x y fs body new) m k i j (loops ++ f ∷ []) inner a b e within))
 
 -- a loop that stays
 pub loop_stays : (m k i j : ℕ) (loops inner forms : List Affine) (flag : Bool) (lo up low high : Bounds)
-    → (body new : Trees) → IsPlace m k loops forms → low ≡ bounds_over (k + m) forms lo
-    → high ≡ bounds_over (k + m) forms up → BoundsAreUpTo (2 ^ 45) low → BoundsAreUpTo (2 ^ 45) high → i ≡ m → j ≡ k + 1
+    → (body new : Trees) → IsPlace m k loops forms → low ≡ bounds_over true (k + m) forms lo
+    → high ≡ bounds_over false (k + m) forms up → BoundsAreUpTo (2 ^ 45) low → BoundsAreUpTo (2 ^ 45) high → i ≡ m → j ≡ k + 1
     → inner ≡ inside m k loops → Inlines i j inner body new
     → Inlines m k loops (more (loop flag lo up body) none) (more (loop flag low high new) none)
 loop_stays m k i j loops inner forms flag lo up low high body new place is_low is_high l h a b e within =
@@ -276,7 +304,7 @@ loop_stays m k i j loops inner forms flag lo up low high body new place is_low i
     subst (λ (bs : Bounds). Inlines m k loops (more (loop flag lo up body) none) (more (loop flag bs high new) none))
     (sym is_low)
     (subst (λ (bs : Bounds). Inlines m k loops (more (loop flag lo up body) none)
-    (more (loop flag (bounds_over (k + m) forms lo) bs new) none)) (sym is_high) stays)
+    (more (loop flag (bounds_over true (k + m) forms lo) bs new) none)) (sym is_high) stays)
 
 -- a leaf
 pub leaf_goes : (m k : ℕ) (loops forms : List Affine) (number other : ℕ) (turns new : List Affine)
@@ -299,13 +327,15 @@ can_at m k i j loops inner forms ts a b e can =
 
 -- the whole tree
 pub whole_can : (m d : ℕ) (forms : List Affine) (ts : Trees) → m < 2 ^ 32 → d < 2 ^ 32 → NestAllTo d ts
-    → forms ≡ [] ++ variables (0 + m) 0 m → TreesAreOver m ts → TreesAreUpTo (2 ^ 40) ts → CanInline m 0 [] forms ts
-whole_can m d forms ts few deep nests are over small =
+    → forms ≡ [] ++ variables (0 + m) 0 m → FlatAll ts → TreesAreOver m ts → TreesAreUpTo (2 ^ 40) ts
+    → CanInline m 0 [] forms ts
+whole_can m d forms ts few deep nests are flat over small =
     let e : m ≡ 0 + m = omega arith in
     record {
       place = record { are = are; sized = All-nil (IsOver (0 + m)) };
       few = omega arith;
       deep = (d, omega arith, nests);
+      flat = flat;
       over = subst (λ i. TreesAreOver i ts) e over;
       small = small;
     }

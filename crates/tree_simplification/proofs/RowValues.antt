@@ -39,7 +39,7 @@ value_form_row f turned less point =
     omega (arith, ints, d, e)
 
 -- the opposite sign's product with a divisor and the loop's value
-other_sign : (turned : Bool) (d x : ℤ) → (sign_of (not turned) *ℤ d) *ℤ x ≡ neg_ℤ (sign_of turned *ℤ (x *ℤ d))
+pub other_sign : (turned : Bool) (d x : ℤ) → (sign_of (not turned) *ℤ d) *ℤ x ≡ neg_ℤ (sign_of turned *ℤ (x *ℤ d))
 other_sign true d x =
     let a = mul_one_left d in
     let b = ap (λ (z : ℤ). z *ℤ x) a in

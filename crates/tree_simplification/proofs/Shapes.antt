@@ -182,21 +182,39 @@ alike_same ts =
       nested = λ n h. h;
     }
 
+-- nothing
+alike_none : (ts : Trees) → Alike ts none
+alike_none ts =
+    record {
+      serial = λ h. tt;
+      flat = λ h. tt;
+      statements = λ program h. tt;
+      over = λ n h. tt;
+      small = λ n h. tt;
+      nested = λ n h. tt;
+    }
+
 -- what is left of trees is like them
 mutual
   alike_one : (c : Context) (t : Tree) (new : Trees) → Trims c t new → Alike (more t none) new
-  alike_one c (loop flag lo up body) new h =
+  alike_one c (loop flag lo up body) new (inl h) =
       let lower = h.0 in
       let upper = h.1 in
       let inner = h.2 in
       subst (Alike (more (loop flag lo up body) none)) (sym h.4)
       (alike_loop flag lo up lower upper body inner h.5.lower_parts h.5.upper_parts
       (alike_all (entered c (parts lo) (parts up) h.3) body inner h.7))
-  alike_one c (guard tests body) new h =
+  alike_one c (loop flag lo up body) new (inr h) =
+      subst (Alike (more (loop flag lo up body) none)) (sym h.1) (alike_none (more (loop flag lo up body) none))
+  alike_one c (guard tests body) new (inl h) =
       subst (Alike (more (guard tests body) none)) (sym h.2)
       (alike_guard tests h.0 body h.1 h.3.parts (alike_all (tested c tests) body h.1 h.4))
-  alike_one c (instance n forms) new h =
+  alike_one c (guard tests body) new (inr h) =
+      subst (Alike (more (guard tests body) none)) (sym h.0) (alike_none (more (guard tests body) none))
+  alike_one c (instance n forms) new (inl h) =
       subst (Alike (more (instance n forms) none)) (sym h) (alike_same (more (instance n forms) none))
+  alike_one c (instance n forms) new (inr h) =
+      subst (Alike (more (instance n forms) none)) (sym h.0) (alike_none (more (instance n forms) none))
 
   pub alike_all : (c : Context) (ts new : Trees) → TrimsAll c ts new → Alike ts new
   alike_all c none new h = subst (Alike none) (sym h) (alike_same none)

@@ -1,14 +1,15 @@
 -- What is left of nodes, one by one, as code goes over them.
-use Rattle.std.proofs.Common.{◌≡◌, ℕ, zero, suc, ◌+◌, ◌<◌, List, [], ◌∷◌, length, drop, get_or, ap, subst, sym}
+use Rattle.std.proofs.Common.{◌≡◌, ℕ, zero, suc, ◌+◌, ◌<◌, List, [], ◌∷◌, length, drop, get_or, ap, subst, sym, inl, inr}
 use Rattle.std.proofs.Common.{◌∙◌, refl, arith}
-use Rattle.std.specs.Prelude.{Result, Ok, Err, OnOk, is_ok, if◌then◌else◌}
-use Rattle.loop_tree.specs.Tree.{Trees, none, more}
+use Rattle.std.specs.Prelude.{Bool, Result, Ok, Err, OnOk, is_ok, if◌then◌else◌}
+use Rattle.loop_tree.specs.Tree.{Bounds, Test, Trees, guard, loop, more, none}
 use Rattle.loop_tree.specs.View.{nodes_of, tree_of}
 use Rattle.loop_tree.specs.declared.tree.Node.{Node}
 use Rattle.loop_tree.proofs.Weights.{node_here}
-use Rattle.tree_simplification.specs.steps.Context.{Context}
+use Rattle.tree_simplification.specs.steps.Context.{Context, tested}
 use Rattle.tree_simplification.specs.steps.Joined.{joined}
-use Rattle.tree_simplification.specs.steps.Trimmed.{CanTrim, Trims, TrimsAll}
+use Rattle.tree_simplification.specs.steps.Trimmed.{CanTrim, IsEntered, Trims, TrimsAll, TrimsBounds}
+use Rattle.tree_simplification.specs.steps.Trimmed.{TrimsTests, under}
 use Rattle.tree_simplification.proofs.JoinedTrees.{joined_assoc, joined_none}
 
 -- what a call that may fail leaves where it does not
@@ -53,3 +54,31 @@ pub leaves_all : (c : Context) (nodes : List Node) (i : ℕ) (out : List Node) �
 leaves_all c nodes i out e so_far =
     subst (TrimsAll c (nodes_of nodes)) (joined_none (nodes_of out))
     (so_far none (subst (λ (ns : List Node). TrimsAll c (nodes_of ns) none) (sym e) refl))
+
+-- a loop of which something is left, or nothing
+pub loop_left : (c within : Context) (flag : Bool) (lo up lower upper : Bounds) (body inner new : Trees)
+    → IsEntered c lo up within → TrimsBounds c lo up lower upper → TrimsAll within body inner
+    → new ≡ more (loop flag lower upper inner) none → Trims c (loop flag lo up body) new
+loop_left c within flag lo up lower upper body inner new e bounds left is =
+    inl (lower, upper, inner, e.0, is, bounds, e.2, subst (λ (d : Context). TrimsAll d body inner) e.1 left)
+
+pub loop_dropped : (c within : Context) (flag : Bool) (lo up : Bounds) (body : Trees) (nodes : List Node)
+    → IsEntered c lo up within → length nodes ≡ 0 → TrimsAll within body (nodes_of nodes)
+    → Trims c (loop flag lo up body) (nodes_of nodes)
+loop_dropped c within flag lo up body [] e empty left =
+    inr (e.0, refl, e.2, subst (λ (d : Context). TrimsAll d body none) e.1 left)
+loop_dropped c within flag lo up body (n ∷ nodes) e empty left = absurd (omega (arith, empty))
+
+-- so of a guard
+pub guard_left : (c within : Context) (tests kept : List Test) (body inner new : Trees)
+    → within ≡ tested c tests → TrimsTests c tests kept → TrimsAll within body inner → new ≡ under kept inner
+    → Trims c (guard tests body) new
+guard_left c within tests kept body inner new e kept_is left is =
+    inl (kept, inner, is, kept_is, subst (λ (d : Context). TrimsAll d body inner) e left)
+
+pub guard_dropped : (c within : Context) (tests : List Test) (body : Trees) (nodes : List Node)
+    → within ≡ tested c tests → length nodes ≡ 0 → TrimsAll within body (nodes_of nodes)
+    → Trims c (guard tests body) (nodes_of nodes)
+guard_dropped c within tests body [] e empty left =
+    inr (refl, subst (λ (d : Context). TrimsAll d body none) e left)
+guard_dropped c within tests body (n ∷ nodes) e empty left = absurd (omega (arith, empty))

@@ -1,6 +1,6 @@
 -- A tree without what is implied visits what it visits, and is like it.
-use Rattle.std.proofs.Common.{◌≡◌, ℕ, ◌+◌, ◌^◌, ◌<◌, inl, inr, ℤ, pos, List, [], ◌∷◌, ◌++◌, length, subst}
-use Rattle.std.proofs.Common.{sym, refl}
+use Rattle.std.proofs.Common.{◌≡◌, ℕ, ◌+◌, ◌^◌, ◌<◌, inl, inr, ℤ, pos, List, [], ◌∷◌, ◌++◌, length, map, subst}
+use Rattle.std.proofs.Common.{ap, sym, ◌∙◌, refl}
 use Rattle.std.proofs.Common.{arith}
 use Rattle.std.specs.Prelude.{Bool, true, false, ⊤, ◌-ℤ◌, ◌*ℤ◌, ◌≤ℤ◌}
 use Rattle.std.proofs.lemmas.List.Elements.{All-nil}
@@ -16,10 +16,14 @@ use Rattle.loop_tree.specs.Plans.{Conflict}
 use Rattle.loop_tree.specs.Shape.{TreesAreOver, TreesAreUpTo}
 use Rattle.loop_tree.specs.Tree.{Bound, Bounds, Trees, only, besides}
 use Rattle.loop_tree.proofs.Fits.{small_fits_all}
+use Rattle.loop_tree.proofs.LargerBounds.{trees_more}
+use Rattle.tree_simplification.specs.Simplified.{shown, Simplifies}
 use Rattle.tree_simplification.specs.steps.Context.{Context, Meets, OnSide, TrimsSide, outside, parts, sign_of}
+use Rattle.tree_simplification.specs.steps.Inlined.{IsInlined}
 use Rattle.tree_simplification.specs.steps.Trimmed.{Among, IsTrimmed, TrimsAll, TrimsBounds}
 use Rattle.tree_simplification.proofs.Contexts.{high_from, high_to, low_from, low_to}
 use Rattle.tree_simplification.proofs.Shapes.{alike_all, bounds_flat}
+use Rattle.tree_simplification.proofs.Once.{on_member}
 use Rattle.tree_simplification.proofs.Walks.{Agrees, agree_all, stays_all}
 
 -- there is always a part
@@ -27,14 +31,7 @@ pub some_part : (bs : Bounds) → 0 < length (parts bs)
 some_part (only b) = omega arith
 some_part (besides b bs) = omega arith
 
--- a part of a side, and some of its parts
-on_member : (turned : Bool) (b : Bound) (bs : List Bound) (point : List ℤ) (x : ℤ) → In b bs → OnSide turned bs point x
-    → pos 0 ≤ℤ (sign_of turned *ℤ (value_of b.form point -ℤ (x *ℤ b.divisor)))
-on_member turned b [] point x i on = absurd i
-on_member turned b (a ∷ bs) point x (inl e) on =
-    subst (λ (c : Bound). pos 0 ≤ℤ (sign_of turned *ℤ (value_of c.form point -ℤ (x *ℤ c.divisor)))) (sym e) on.0
-on_member turned b (a ∷ bs) point x (inr i) on = on_member turned b bs point x i on.1
-
+-- some parts of a side
 on_among : (turned : Bool) (kept bs : List Bound) (point : List ℤ) (x : ℤ) → Among kept bs → OnSide turned bs point x
     → OnSide turned kept point x
 on_among turned [] bs point x among on = tt
@@ -75,10 +72,9 @@ meets_outside parameters params e range =
     record { loops_are = refl; parameters_are = e; range = range; whole = λ _. tt; inside = tt }
 
 -- what is left at no loop visits what all visits, and is like it
-pub trimmed_is : (parameters : ℕ) (old new : Trees) → parameters < 2 ^ 32 → FlatAll old → TreesAreOver parameters old
-    → TreesAreUpTo (2 ^ 40) old → (d : ℕ) → d < 2 ^ 32 → AreSmallTrees d old → TrimsAll (outside parameters) old new
-    → IsTrimmed parameters old new
-trimmed_is parameters old new few flat over numbers d less small trims =
+pub trimmed_is : (parameters : ℕ) (old new : Trees) → FlatAll old → TreesAreOver parameters old
+    → TrimsAll (outside parameters) old new → IsTrimmed parameters old new
+trimmed_is parameters old new flat over trims =
     let alike = alike_all (outside parameters) old new trims in
     let sized = All-nil (λ (f : Affine). variables_of f ≡ 0 + parameters) in
     let total : parameters ≡ 0 + parameters = omega arith in
@@ -90,16 +86,46 @@ trimmed_is parameters old new few flat over numbers d less small trims =
     record {
       walk = λ params e range. (agrees (λ x y. ⊤) params e range).visits;
       free = λ program params e range. (agrees (Conflict program params) params e range).free;
-      fits = λ params e range.
-          let s = size_params params range in
-          (agrees (λ x y. ⊤) params e range).fits
-          (small_fits_all d old params [] small (omega (arith, s, e, few, less)));
-      within = λ params e range. (agrees (λ x y. ⊤) params e range).stays (2 ^ 40)
-          (stays_all d old params [] small flat);
+      fits = λ params e range. (agrees (λ x y. ⊤) params e range).fits;
       serial = alike.serial;
       flat = alike.flat flat;
       statements = alike.statements;
       over = alike.over parameters over;
-      small = alike.small (2 ^ 40) numbers;
+      small = alike.small;
       nested = alike.nested;
+    }
+
+-- trees that are trimmed, and not inlined before
+pub trimmed_alone : (parameters d : ℕ) (old new : Trees) → parameters < 2 ^ 32 → d < 2 ^ 32 → AreSmallTrees d old
+    → TreesAreUpTo (2 ^ 40) old → IsTrimmed parameters old new → Simplifies parameters old new
+trimmed_alone parameters d old new few less small numbers t =
+    record {
+      shown = λ params count range. ap (map shown) (t.walk params count range);
+      free = t.free;
+      fits = λ params e range.
+          let s = size_params params range in
+          t.fits params e range (small_fits_all d old params [] small (omega (arith, s, e, few, less)));
+      serial = t.serial;
+      flat = λ f. t.flat;
+      statements = t.statements;
+      over = t.over;
+      small = t.small (2 ^ 45) (trees_more (2 ^ 40) (2 ^ 45) old (omega arith) numbers);
+      nested = t.nested;
+    }
+
+-- and inlined before
+pub trimmed_inlined : (parameters d : ℕ) (old middle new : Trees) → FlatAll old → AreSmallTrees d old
+    → IsInlined parameters old middle → IsTrimmed parameters middle new → Simplifies parameters old new
+trimmed_inlined parameters d old middle new flat small i t =
+    record {
+      shown = λ params count range. ap (map shown) (t.walk params count range) ∙ i.alike params count;
+      free = λ program params count range h. t.free program params count range (i.free program params count h);
+      fits = λ params count range.
+          t.fits params count range (i.fits params count range (stays_all d old params [] small flat));
+      serial = λ h. t.serial (i.serial h);
+      flat = λ h. t.flat;
+      statements = λ program h. t.statements program (i.statements program h);
+      over = t.over;
+      small = t.small (2 ^ 45) i.small;
+      nested = λ n h. t.nested n (i.nested n h);
     }

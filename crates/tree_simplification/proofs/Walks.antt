@@ -23,7 +23,7 @@ use Rattle.loop_tree.specs.Walk.{Visit, all_hold, along, between, lower, upper, 
 use Rattle.loop_tree.proofs.Lists.{between_none}
 use Rattle.loop_tree.proofs.Fits.{dot_zeros}
 use Rattle.tree_simplification.specs.Simplified.{StayWithin, StaysWithin}
-use Rattle.tree_simplification.specs.steps.Context.{ArePartsOver, Context, IsSizedContext, Meets, OnSide, entered}
+use Rattle.tree_simplification.specs.steps.Context.{ArePartsOver, Context, IsSizedContext, Meets, NaturalAbove, OnSide, entered}
 use Rattle.tree_simplification.specs.steps.Context.{parts}
 use Rattle.tree_simplification.specs.steps.Context.{sign_of, tested}
 use Rattle.tree_simplification.specs.steps.Joined.{joined}
@@ -79,14 +79,8 @@ pub record Agrees (C : Instance → Instance → Type 0) (params outer : List �
   pub visits : walk_all new params outer ≡ walk_all old params outer
   pub free : AreFree C old params outer → AreFree C new params outer
   pub fits : FitsAll old params outer → FitsAll new params outer
-  pub stays : (n : ℕ) → StayWithin n old params outer → StayWithin n new params outer
 
 -- one behind the other
-stays_joined : (n : ℕ) (ts us : Trees) (params outer : List ℤ) → StayWithin n ts params outer
-    → StayWithin n us params outer → StayWithin n (joined ts us) params outer
-stays_joined n none us params outer h k = k
-stays_joined n (more t ts) us params outer h k = (h.0, stays_joined n ts us params outer h.1 k)
-
 agrees_joined : (C : Instance → Instance → Type 0) (params outer : List ℤ) (t : Tree) (ts front back : Trees)
     → Agrees C params outer (more t none) front → Agrees C params outer ts back
     → Agrees C params outer (more t ts) (joined front back)
@@ -96,7 +90,6 @@ agrees_joined C params outer t ts front back f b =
           ∙ ap₂ (λ (xs ys : List Visit). xs ++ ys) (f.visits ∙ append-nil (walk t params outer)) b.visits;
       free = λ h. free_joined C front back params outer (f.free (h.0, tt)) (b.free h.1);
       fits = λ h. fits_joined front back params outer (f.fits (h.0, tt)) (b.fits h.1);
-      stays = λ n h. stays_joined n front back params outer (f.stays n (h.0, tt)) (b.stays n h.1);
     }
 
 -- facts of forms at a point
@@ -156,10 +149,6 @@ agrees_loop C params outer flag lo up low high body inner lows highs same within
         ),
         tt,
       );
-      stays = λ n h. (
-        (λ x wx. let k = h.0 x ((same x).1 wx) in (k.0, (within x ((same x).1 wx)).stays n k.1)),
-        tt,
-      );
     }
 
 -- tests round a body
@@ -182,7 +171,6 @@ agrees_guard C params outer tests [] body inner among truth within =
       visits = a.visits ∙ sym (append-nil (walk (guard tests body) params outer) ∙ opened);
       free = λ h. a.free (h.0 truth);
       fits = λ h. a.fits (h.0.1 truth);
-      stays = λ n h. a.stays n (h.0 truth);
     }
 agrees_guard C params outer tests (test ∷ kept) body inner among truth within =
     let point = outer ++ params in
@@ -198,11 +186,10 @@ agrees_guard C params outer tests (test ∷ kept) body inner among truth within 
         ),
         tt,
       );
-      stays = λ n h. ((λ e. (within (truth ∙ e)).stays n (h.0 (truth ∙ e))), tt);
     }
 
 agrees_same : (C : Instance → Instance → Type 0) (params outer : List ℤ) (ts : Trees) → Agrees C params outer ts ts
-agrees_same C params outer ts = record { visits = refl; free = λ h. h; fits = λ h. h; stays = λ n h. h }
+agrees_same C params outer ts = record { visits = refl; free = λ h. h; fits = λ h. h }
 
 -- parts of bounds over n variables
 pub parts_over : (n : ℕ) (bs : Bounds) → BoundsAreOver n bs → AreBounds bs → ArePartsOver n (parts bs)
@@ -222,35 +209,104 @@ parts_over n (besides b bs) over flat =
 pub one_more : (n m : ℕ) → suc (n + m) ≡ suc n + m
 one_more n m = omega arith
 
+-- nothing, where nothing is visited
+agrees_none : (C : Instance → Instance → Type 0) (params outer : List ℤ) (ts : Trees)
+    → walk_all ts params outer ≡ [] → Agrees C params outer ts none
+agrees_none C params outer ts e =
+    record { visits = sym e; free = λ h. tt; fits = λ h. tt }
+
+abbrev nowhere : ℤ → List Visit
+nowhere x = []
+
+between_nothing : (first last : ℤ) → between nowhere first last ≡ []
+between_nothing first last = turns (most_turns (last -ℤ first)) first
+  where
+    turns : (n : ℕ) (x : ℤ) → along nowhere x n ≡ []
+    turns zero x = refl
+    turns (suc n) x = turns n (x +ℤ pos 1)
+
+loop_nothing : (flag : Bool) (lo up : Bounds) (body : Trees) (params outer : List ℤ)
+    → ((x : ℤ) → Within lo up (outer ++ params) x → walk_all body params (outer ++ x ∷ []) ≡ [])
+    → walk_all (more (loop flag lo up body) none) params outer ≡ []
+loop_nothing flag lo up body params outer empty =
+    let point = outer ++ params in
+    let old : ℤ → List Visit = λ x. map (through flag x) (walk_all body params (outer ++ x ∷ [])) in
+    ap (λ (vs : List Visit). vs ++ [])
+    (between_same old nowhere (lower lo point) (upper up point)
+    (λ x a b. ap (map (through flag x)) (empty x (a, b)))
+    ∙ between_nothing (lower lo point) (upper up point))
+
+guard_nothing : (tests : List Test) (body : Trees) (params outer : List ℤ)
+    → (all_hold tests (outer ++ params) ≡ true → walk_all body params outer ≡ [])
+    → walk_all (more (guard tests body) none) params outer ≡ []
+guard_nothing tests body params outer empty =
+    ap (λ (vs : List Visit). vs ++ []) (pick (all_hold tests (outer ++ params)) refl)
+  where
+    pick : (b : Bool) → all_hold tests (outer ++ params) ≡ b
+        → (if b then walk_all body params outer else []) ≡ []
+    pick true e = empty e
+    pick false e = refl
+
+-- what is known within a loop of a text: how many variables there are, and that the context speaks
+record InLoop (c : Context) (natural : Bool) (lo up : Bounds) (body : Trees) (params outer : List ℤ)
+    : Type 0 where
+  sized : IsSizedContext (entered c (parts lo) (parts up) natural)
+  over : TreesAreOver (suc c.loops + c.parameters) body
+  meets : (x : ℤ) → Within lo up (outer ++ params) x
+      → Meets (entered c (parts lo) (parts up) natural) params (outer ++ x ∷ [])
+
+within_loop : (c : Context) (flag natural : Bool) (lo up : Bounds) (body : Trees) (params outer : List ℤ)
+    → IsSizedContext c → TreeIsOver (c.loops + c.parameters) (loop flag lo up body)
+    → FlatAll (more (loop flag lo up body) none) → Meets c params outer
+    → (natural ≡ true → NaturalAbove c (parts lo)) → InLoop c natural lo up body params outer
+within_loop c flag natural lo up body params outer sized over flat m from =
+    let n = c.loops + c.parameters in
+    let low_over = parts_over n lo over.0 flat.0.0 in
+    let high_over = parts_over n up over.1 flat.0.1 in
+    record {
+      sized = sized_sided c true natural (parts lo) (parts up) sized low_over.forms high_over.forms;
+      over = subst (λ k. TreesAreOver k body) (one_more c.loops c.parameters) over.2;
+      meets = λ x w.
+          let low = low_to lo (outer ++ params) x flat.0.0 w.0 in
+          let high = high_to up (outer ++ params) x flat.0.1 w.1 in
+          meets_sided c true natural (parts lo) (parts up) params outer x low_over.forms high_over.forms m low high
+          (λ e. from e params outer m x low);
+    }
+
 -- what is left of trees agrees with them wherever the context speaks
 mutual
   agree_one : (C : Instance → Instance → Type 0) (c : Context) (t : Tree) (new : Trees) (params outer : List ℤ)
       → Trims c t new → IsSizedContext c → TreeIsOver (c.loops + c.parameters) t → FlatAll (more t none)
       → Meets c params outer → Agrees C params outer (more t none) new
-  agree_one C c (loop flag lo up body) new params outer h sized over flat m =
-      let n = c.loops + c.parameters in
-      let low_over = parts_over n lo over.0 flat.0.0 in
-      let high_over = parts_over n up over.1 flat.0.1 in
-      let within = entered c (parts lo) (parts up) h.3 in
-      let deeper = subst (λ k. TreesAreOver k body) (one_more c.loops c.parameters) over.2 in
-      let all = sized_sided c true h.3 (parts lo) (parts up) sized low_over.forms high_over.forms in
+  agree_one C c (loop flag lo up body) new params outer (inl h) sized over flat m =
+      let inner = within_loop c flag h.3 lo up body params outer sized over flat m h.6 in
       subst (Agrees C params outer (more (loop flag lo up body) none)) (sym h.4)
       (agrees_loop C params outer flag lo up h.0 h.1 body h.2 h.5.lower_parts h.5.upper_parts
       (h.5.values params outer m)
-      (λ x w.
-      let low = low_to lo (outer ++ params) x flat.0.0 w.0 in
-      let high = high_to up (outer ++ params) x flat.0.1 w.1 in
-      agree_all C within body h.2 params (outer ++ x ∷ []) h.7 all deeper flat.0.2
-      (meets_sided c true h.3 (parts lo) (parts up) params outer x low_over.forms high_over.forms m low high
-      (λ e. h.6 e params outer m x low))))
-  agree_one C c (guard tests body) new params outer h sized over flat m =
+      (λ x w. agree_all C (entered c (parts lo) (parts up) h.3) body h.2 params (outer ++ x ∷ []) h.7 inner.sized
+      inner.over flat.0.2 (inner.meets x w)))
+  agree_one C c (loop flag lo up body) new params outer (inr h) sized over flat m =
+      let inner = within_loop c flag h.0 lo up body params outer sized over flat m h.2 in
+      subst (Agrees C params outer (more (loop flag lo up body) none)) (sym h.1)
+      (agrees_none C params outer (more (loop flag lo up body) none)
+      (loop_nothing flag lo up body params outer
+      (λ x w. sym (agree_all C (entered c (parts lo) (parts up) h.0) body none params (outer ++ x ∷ []) h.3 inner.sized
+      inner.over flat.0.2 (inner.meets x w)).visits)))
+  agree_one C c (guard tests body) new params outer (inl h) sized over flat m =
       subst (Agrees C params outer (more (guard tests body) none)) (sym h.2)
       (agrees_guard C params outer tests h.0 body h.1 h.3.parts (h.3.truth params outer m)
       (λ e. agree_all C (tested c tests) body h.1 params outer h.4 (sized_tested c tests sized over.0) over.1
       (flat_body tests body flat) (meets_tested c tests params outer m e)))
-  agree_one C c (instance n forms) new params outer h sized over flat m =
+  agree_one C c (guard tests body) new params outer (inr h) sized over flat m =
+      subst (Agrees C params outer (more (guard tests body) none)) (sym h.0)
+      (agrees_none C params outer (more (guard tests body) none)
+      (guard_nothing tests body params outer
+      (λ e. sym (agree_all C (tested c tests) body none params outer h.1 (sized_tested c tests sized over.0) over.1
+      (flat_body tests body flat) (meets_tested c tests params outer m e)).visits)))
+  agree_one C c (instance n forms) new params outer (inl h) sized over flat m =
       subst (Agrees C params outer (more (instance n forms) none)) (sym h)
       (agrees_same C params outer (more (instance n forms) none))
+  agree_one C c (instance n forms) new params outer (inr h) sized over flat m = absurd (h.1 params outer m)
 
   pub agree_all : (C : Instance → Instance → Type 0) (c : Context) (ts new : Trees) (params outer : List ℤ)
       → TrimsAll c ts new → IsSizedContext c → TreesAreOver (c.loops + c.parameters) ts → FlatAll ts

@@ -1,6 +1,7 @@
 -- What only proofs and private contracts need.
 pub mod Joined
-pub mod Inlined
 pub mod Context
 pub mod ContextView
+pub mod Rounded
+pub mod Inlined
 pub mod Trimmed

@@ -9,14 +9,14 @@ ghost use Rattle.loop_tree.specs.Fits.{form_in};
 ghost use Rattle.loop_tree.specs.View.{test_of};
 ghost use Rattle.loop_tree.specs.Walk.{holds};
 ghost use Rattle.tree_simplification.specs.steps.Context.{ArePartsOver, Meets, NaturalAbove, NaturalBetween};
-ghost use Rattle.tree_simplification.specs.steps.Context.{NeverHolds};
+ghost use Rattle.tree_simplification.specs.steps.Context.{NeverHolds, NeverSpeaks};
 ghost use Rattle.tree_simplification.specs.steps.Context.{ImpliesPart, form_row, tested};
 ghost use Rattle.tree_simplification.specs.steps.ContextView.{context_of};
 
 use crate::context::Context;
 use crate::entering::{sided, tested};
 use crate::rows::{form_row, part_row};
-use affine_forms::{Form, push};
+use affine_forms::{Form, copies, push};
 use integer_sets::System;
 use loop_tree::{Bound, Test};
 use pip_solver::{Stop, is_empty};
@@ -44,6 +44,18 @@ fn never_holds(alloc: Global, context: Context, row: Form, budget: u64) -> Resul
     }
     let mut rows = context.rows;
     push(&mut rows, row)?;
+    let system = System::from_parts(context.loops, context.parameters, Vec::new(alloc), rows);
+    found_empty(alloc, &system, budget)
+}
+
+/// Whether the context is found to speak of no values.
+pub fn never_speaks(alloc: Global, context: &Context, budget: u64) -> Result<bool, AllocError>
+    ensures { IfOk result (λ b. b ≡ true → NeverSpeaks (context_of context.now)) }
+{
+    if !context.natural {
+        return Ok(false);
+    }
+    let rows = copies(alloc, &context.rows)?;
     let system = System::from_parts(context.loops, context.parameters, Vec::new(alloc), rows);
     found_empty(alloc, &system, budget)
 }

@@ -1,10 +1,10 @@
 //! The tree without the tests and the parts of bounds that the loops and tests round them imply.
 
-ghost use Rattle.std.specs.Prelude.{◌≡◌, ◌+◌, ◌<◌, ◌^◌, All, IfOk, OnOk, ℕ, length, map};
+ghost use Rattle.std.specs.Prelude.{◌≡◌, ◌+◌, ◌<◌, All, IfOk, OnOk, length, map};
 ghost use Rattle.affine_forms.specs.Parts.{variables_of};
-ghost use Rattle.loop_tree.specs.Fits.{AreSmallTrees, form_in};
+ghost use Rattle.loop_tree.specs.Fits.{form_in};
 ghost use Rattle.loop_tree.specs.Marks.{AreBounds, FlatAll};
-ghost use Rattle.loop_tree.specs.Shape.{BoundsAreOver, TreesAreOver, TreesAreUpTo};
+ghost use Rattle.loop_tree.specs.Shape.{BoundsAreOver, TreesAreOver};
 ghost use Rattle.loop_tree.specs.Tree.{guard as guards, instance, loop as loops, more, none};
 ghost use Rattle.loop_tree.specs.View.{bounds_in, nodes_of, test_of, tree_of, trees_in};
 ghost use Rattle.tree_simplification.specs.steps.Context.{parts};
@@ -13,7 +13,7 @@ ghost use Rattle.tree_simplification.specs.steps.Joined.{joined};
 ghost use Rattle.tree_simplification.specs.steps.Trimmed.{CanTrim, IsEntered, IsTrimmed, Trims, TrimsAll};
 ghost use Rattle.tree_simplification.specs.steps.Trimmed.{TrimsBounds, TrimsTests, under};
 
-use crate::asking::are_natural_above;
+use crate::asking::{are_natural_above, never_speaks};
 use crate::context::Context;
 use crate::copies::{copied_leaf, copied_parts, copied_tests};
 use crate::entering::{sided, tested};
@@ -128,6 +128,22 @@ fn instance_again(alloc: Global, leaf: &Leaf) -> Result<Vec<Node>, AllocError>
     alone(alloc, Node::Instance(leaf))
 }
 
+/// What is left of an instance: nothing, where it is found never to be visited.
+fn trim_leaf(
+    alloc: Global,
+    leaf: &Leaf,
+    context: &Context,
+    budget: u64,
+) -> Result<Vec<Node>, AllocError>
+    ensures { IfOk result (λ v. Trims (context_of context.now)
+        (instance leaf.now.statement leaf.now.turns.items) (nodes_of v.items)) }
+{
+    if never_speaks(alloc, context, budget)? {
+        return Ok(Vec::new(alloc));
+    }
+    instance_again(alloc, leaf)
+}
+
 /// Nodes with others behind them.
 fn append(nodes: &mut Vec<Node>, more: Vec<Node>) -> Result<(), AllocError>
     ensures { OnOk result (nodes_of nodes.new.items ≡ joined (nodes_of nodes.old.items) (nodes_of more.items)) }
@@ -168,7 +184,7 @@ fn trim_node(
     match node {
         Node::Loop(head, body) => trim_loop(alloc, head, body, context, budget),
         Node::Guard(guard, body) => trim_guard(alloc, guard, body, context, budget),
-        Node::Instance(leaf) => instance_again(alloc, leaf),
+        Node::Instance(leaf) => trim_leaf(alloc, leaf, context, budget),
     }
 }
 
@@ -190,6 +206,9 @@ fn trim_loop(
 {
     let within = entered(alloc, context, head, budget)?;
     let nodes = trim_nodes(alloc, body, &within, budget)?;
+    if nodes.is_empty() {
+        return Ok(nodes);
+    }
     let head = trimmed_head(alloc, context, head, budget)?;
     looped(alloc, head, nodes)
 }
@@ -210,11 +229,15 @@ fn trim_guard(
 {
     let within = tested(alloc, context, &guard.tests)?;
     let nodes = trim_nodes(alloc, body, &within, budget)?;
+    if nodes.is_empty() {
+        return Ok(nodes);
+    }
     let tests = kept_tests(alloc, context, &guard.tests, budget)?;
     guarded(alloc, tests, nodes)
 }
 
-/// The tree without the tests and the parts of bounds that the loops and tests round them imply. The tree speaks of so
+/// The tree without the tests and the parts of bounds that the loops and tests round them imply, and without what they
+/// show is never visited. The tree speaks of so
 /// many parameters. Each question may make so many moves of the solver; where it needs more, the thing stays.
 ///
 /// # Errors
@@ -225,11 +248,8 @@ pub fn without_implied(
     parameters: usize,
     budget: u64,
 ) -> Result<Tree, AllocError>
-    requires few { parameters < 2 ^ 32 }
     requires flat { FlatAll (trees_in tree.now) }
     requires over { TreesAreOver parameters (trees_in tree.now) }
-    requires numbers { TreesAreUpTo (2 ^ 40) (trees_in tree.now) }
-    requires small { (d : ℕ) × (d < 2 ^ 32) × AreSmallTrees d (trees_in tree.now) }
     ensures { IfOk result (λ t. IsTrimmed parameters (trees_in tree.now) (trees_in t)) }
 {
     let context = Context {

@@ -14,7 +14,7 @@ use scop_syntax::tree::Aff;
 use std::alloc::{AllocError, Global};
 
 /// The number or its opposite.
-fn signed(number: i64, turned: bool) -> i128
+pub fn signed(number: i64, turned: bool) -> i128
     ensures { result ≡ sign_of turned *ℤ number }
 {
     if turned {

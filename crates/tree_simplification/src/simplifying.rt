@@ -12,10 +12,10 @@ use crate::single::without_single;
 use loop_tree::Tree;
 use std::alloc::{AllocError, Global};
 
-/// A tree that shows what this one shows for all parameters in 0..=65536: tests and parts of bounds that are found to be
-/// implied are left out, and loops that are found to run once give way to their value. The tree speaks of so many
-/// parameters; each question whether something is implied may make so many moves of the solver, and where it needs more
-/// the thing stays.
+/// A tree that shows what this one shows for all parameters in 0..=65536: bounds and tests lose common factors, loops
+/// that are found to run at most once give way to their value under tests, and tests and parts of bounds that are found
+/// to be implied are left out, so is what is found never to be visited. The tree speaks of so many parameters; each
+/// question may make so many moves of the solver, and where it needs more the thing stays.
 ///
 /// # Errors
 /// `AllocError` alone.
@@ -32,9 +32,8 @@ pub fn simplified(
     requires small { (d : ℕ) × (d < 2 ^ 32) × AreSmallTrees d (trees_in tree.now) }
     ensures { IfOk result (λ t. Simplifies parameters (trees_in tree.now) (trees_in t)) }
 {
-    let trimmed = without_implied(alloc, tree, parameters, budget)?;
-    match without_single(alloc, &trimmed, parameters)? {
-        Some(inlined) => Ok(inlined),
-        None => Ok(trimmed),
+    match without_single(alloc, tree, parameters)? {
+        Some(inlined) => without_implied(alloc, &inlined, parameters, budget),
+        None => without_implied(alloc, tree, parameters, budget),
     }
 }

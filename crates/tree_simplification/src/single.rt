@@ -3,6 +3,8 @@
 mod heads;
 mod nodes;
 mod numbers;
+mod once;
 mod place;
+mod rounding;
 
 pub(crate) use nodes::without_single;

@@ -130,3 +130,7 @@ pub record TrimsSide (c : Context) (turned : Bool) (bs others kept : List Bound)
 -- the form is below 0 wherever the context speaks
 abbrev pub NeverHolds : Context → Affine → Type 0
 NeverHolds c f = (params outer : List ℤ) → Meets c params outer → value_of f (outer ++ params) <ℤ pos 0
+
+-- the context speaks of no values
+abbrev pub NeverSpeaks : Context → Type 0
+NeverSpeaks c = (params outer : List ℤ) → Meets c params outer → ⊥

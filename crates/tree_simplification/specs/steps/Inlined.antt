@@ -1,21 +1,24 @@
 -- Trees in which the loops that run once have given way to their values.
-use Rattle.std.specs.Prelude.{◌≡◌, ℕ, ◌+◌, ◌^◌, ◌≤◌, true, ℤ, List, [], ◌∷◌, ◌++◌, All, length, map, pos}
+use Rattle.std.specs.Prelude.{◌≡◌, ℕ, ◌+◌, ◌^◌, ◌≤◌, Bool, true, false, ℤ, ◌*ℤ◌, not, List, [], ◌∷◌, ◌++◌, All, length, map, pos}
 use Rattle.std.specs.Prelude.{◌⊎◌}
-use Rattle.whole_numbers.specs.Affine.{Affine, composed, values_of, widened}
+use Rattle.whole_numbers.specs.Affine.{Affine, composed, multiple_of_form, sum_of_forms, values_of, widened}
 use Rattle.fm_projection.specs.Alone.{AreInRange}
 use Rattle.scop_syntax.specs.Kernel.{AreAtMost}
+use Rattle.scop_syntax.specs.Members.{In}
 use Rattle.scop_syntax.specs.Tree.{Program}
 use Rattle.iteration_domains.specs.Rows.{variable, variables}
 use Rattle.loop_tree.specs.Fits.{FitsAll, form_in}
 use Rattle.loop_tree.specs.Marks.{AreTests, FlatAll}
 use Rattle.loop_tree.specs.Plans.{AreFree, Conflict}
-use Rattle.loop_tree.specs.Shape.{AreSerial, IsOver, NestAllTo, TestIsUpTo, TreesAreOf, TreesAreOver, TreesAreUpTo}
+use Rattle.loop_tree.specs.Shape.{AreSerial, BoundsAreUpTo, IsOver, NestAllTo, TestIsUpTo, TreesAreOf, TreesAreOver, TreesAreUpTo}
 use Rattle.loop_tree.specs.Tree.{Bound, Bounds, only, besides, Test, at_least, equal, multiple, Trees}
 use Rattle.loop_tree.specs.View.{test_of}
 use Rattle.loop_tree.specs.Walk.{all_hold, holds, walk_all}
 use Rattle.loop_tree.specs.declared.tree.Test.{Test as CodeTest}
 use Rattle.tree_simplification.specs.Simplified.{shown, shows, StayWithin}
+use Rattle.tree_simplification.specs.steps.Context.{parts, sign_of}
 use Rattle.tree_simplification.specs.steps.Joined.{joined}
+use Rattle.tree_simplification.specs.steps.Rounded.{rounded, rounded_test}
 
 -- for all parameters the new trees show what the old ones show, and iterations of parallel loops that were free of
 -- conflicts are so; the numbers fit for parameters in 0..=65536 for which the values of the old loops lie within 2^40
@@ -66,31 +69,55 @@ pub record IsPlace (parameters kept : ℕ) (loops forms : List Affine) : Type 0 
 abbrev pub inside : ℕ → ℕ → List Affine → List Affine
 inside parameters k loops = map (widened k) loops ++ variable (k + 1 + parameters) k ∷ []
 
--- a bound over n variables, where the forms stand for its variables
-abbrev pub bound_over : ℕ → List Affine → Bound → Bound
-bound_over n forms b = record { form = composed b.form forms n; divisor = b.divisor }
+-- a lower bound (true) or an upper one over n variables, where the forms stand for its variables
+abbrev pub bound_over : Bool → ℕ → List Affine → Bound → Bound
+bound_over up n forms b = rounded up (record { form = composed b.form forms n; divisor = b.divisor })
 
 -- so are bounds
-abbrev pub bounds_over : ℕ → List Affine → Bounds → Bounds
-bounds_over n forms (only b) = only (bound_over n forms b)
-bounds_over n forms (besides b bs) = besides (bound_over n forms b) (bounds_over n forms bs)
+abbrev pub bounds_over : Bool → ℕ → List Affine → Bounds → Bounds
+bounds_over up n forms (only b) = only (bound_over up n forms b)
+bounds_over up n forms (besides b bs) = besides (bound_over up n forms b) (bounds_over up n forms bs)
 
 -- a test
 abbrev pub test_over : ℕ → List Affine → Test → Test
-test_over n forms (at_least f) = at_least (composed f forms n)
-test_over n forms (equal f) = equal (composed f forms n)
+test_over n forms (at_least f) = rounded_test (at_least (composed f forms n))
+test_over n forms (equal f) = rounded_test (equal (composed f forms n))
 test_over n forms (multiple f d) = multiple (composed f forms n) d
 
--- the bound that is one form
-abbrev pub once : Affine → Bounds
-once f = only (record { form = f; divisor = pos 1 })
-
--- tests over n variables that hold where the old ones do
-pub record AreTestsFor (n : ℕ) (forms : List Affine) (old new : List Test) : Type 0 where
-  pub same : (point : List ℤ) → all_hold new point ≡ all_hold (map (test_over n forms) old) point
+-- tests over n variables that hold where these do
+pub record AreTestsOf (n : ℕ) (old new : List Test) : Type 0 where
+  pub same : (point : List ℤ) → all_hold new point ≡ all_hold old point
   pub over : All (λ test. IsOver n (form_in test)) new
   pub small : All (TestIsUpTo (2 ^ 45)) new
   pub flat : AreTests old → AreTests new
+
+-- where the old ones do, the forms standing for their variables
+abbrev pub AreTestsFor : ℕ → List Affine → List Test → List Test → Type 0
+AreTestsFor n forms old new = AreTestsOf n (map (test_over n forms) old) new
+
+-- the bound that is one form
+abbrev pub whole : Affine → Bound
+whole f = record { form = f; divisor = pos 1 }
+
+-- what is at least 0 where f is at least a lower bound (turned), or at most an upper one
+abbrev pub side_form : Bool → Affine → Bound → Affine
+side_form turned f b =
+    sum_of_forms (multiple_of_form (sign_of turned *ℤ pos 1) b.form)
+    (multiple_of_form (sign_of (not turned) *ℤ b.divisor) f)
+
+-- the tests whether f is so of several
+abbrev pub side_tests : Bool → Affine → List Bound → List Test
+side_tests turned f bs = map (λ b. rounded_test (at_least (side_form turned f b))) bs
+
+-- a form over n variables that is one of the bounds of both sides, and tests whether it lies between all
+pub record IsOnceIn (n : ℕ) (f : Affine) (lows ups : List Bound) (tests : List Test) : Type 0 where
+  pub over : IsOver n f
+  pub low : In (whole f) lows
+  pub high : In (whole f) ups
+  pub between : AreTestsOf n (side_tests true f lows ++ side_tests false f ups) tests
+
+abbrev pub IsOnce : ℕ → Affine → Bounds → Bounds → List Test → Type 0
+IsOnce n f lo up tests = IsOnceIn n f (parts lo) (parts up) tests
 
 -- the tests and one more behind them, or only they, where that one holds everywhere
 abbrev pub AreWith : List CodeTest → CodeTest → List CodeTest → Type 0
@@ -101,8 +128,26 @@ pub record CanInline (parameters kept : ℕ) (loops forms : List Affine) (ts : T
   pub place : IsPlace parameters kept loops forms
   pub few : parameters ≤ 2 ^ 32
   pub deep : (d : ℕ) × (kept + d ≤ 2 ^ 32) × NestAllTo d ts
+  pub flat : FlatAll ts
   pub over : TreesAreOver (length loops + parameters) ts
   pub small : TreesAreUpTo (2 ^ 40) ts
+
+-- what it asks of a loop that stays, with these new bounds
+pub record CanKeep (parameters kept : ℕ) (loops forms : List Affine) (lo up low high : Bounds) (old : Trees)
+    : Type 0 where
+  pub can : CanInline parameters kept loops forms old
+  pub lower : low ≡ bounds_over true (kept + parameters) forms lo
+  pub upper : high ≡ bounds_over false (kept + parameters) forms up
+  pub small_low : BoundsAreUpTo (2 ^ 45) low
+  pub small_high : BoundsAreUpTo (2 ^ 45) high
+
+-- and of one that runs at most once
+pub record CanGoOnce (parameters kept : ℕ) (loops forms : List Affine) (flag : Bool) (lo up : Bounds) (f : Affine)
+    (tests : List Test) (old : Trees) : Type 0 where
+  pub can : CanInline parameters kept loops forms old
+  pub serial : flag ≡ false
+  pub once : IsOnce (kept + parameters) f (bounds_over true (kept + parameters) forms lo)
+      (bounds_over false (kept + parameters) forms up) tests
 
 -- behind the trees there were stand those that the old ones gave way to
 abbrev pub Extends : ℕ → ℕ → List Affine → Trees → Trees → Trees → Type 0

@@ -1,5 +1,5 @@
 -- Trees without the tests and the parts of bounds that what stands round them implies.
-use Rattle.std.specs.Prelude.{◌≡◌, ◌↔◌, ℕ, ◌+◌, ◌^◌, Bool, true, ℤ, List, [], ◌∷◌, ◌++◌, length}
+use Rattle.std.specs.Prelude.{◌≡◌, ◌↔◌, ◌⊎◌, ℕ, ◌+◌, Bool, true, ℤ, List, [], ◌∷◌, ◌++◌, length}
 use Rattle.fm_projection.specs.Alone.{AreInRange}
 use Rattle.scop_syntax.specs.Members.{In}
 use Rattle.scop_syntax.specs.Tree.{Program}
@@ -10,8 +10,8 @@ use Rattle.loop_tree.specs.Scans.{Within}
 use Rattle.loop_tree.specs.Shape.{AreSerial, NestAllTo, TreesAreOf, TreesAreOver, TreesAreUpTo}
 use Rattle.loop_tree.specs.Tree.{Bounds, Test, Tree, loop, guard, instance, Trees, none, more}
 use Rattle.loop_tree.specs.Walk.{all_hold, walk_all}
-use Rattle.tree_simplification.specs.Simplified.{StayWithin}
-use Rattle.tree_simplification.specs.steps.Context.{Context, Meets, NaturalAbove, parts, entered, tested}
+use Rattle.tree_simplification.specs.steps.Context.{Context, Meets, NaturalAbove, NeverSpeaks, parts}
+use Rattle.tree_simplification.specs.steps.Context.{entered, tested}
 use Rattle.tree_simplification.specs.steps.Joined.{joined}
 
 -- each of xs is one of ys
@@ -37,16 +37,19 @@ pub record TrimsTests (c : Context) (tests kept : List Test) : Type 0 where
       → all_hold tests (outer ++ params) ≡ all_hold kept (outer ++ params)
 
 abbrev mutual
-  -- the trees are what is left of the tree where the context speaks
+  -- the trees are what is left of the tree where the context speaks; nothing, where no instance within is visited
   pub Trims : Context → Tree → Trees → Type 0
   Trims c (loop flag lo up body) new =
-      (lower upper : Bounds) × (inner : Trees) × (natural : Bool) × (new ≡ more (loop flag lower upper inner) none)
+      ((lower upper : Bounds) × (inner : Trees) × (natural : Bool) × (new ≡ more (loop flag lower upper inner) none)
       × TrimsBounds c lo up lower upper × (natural ≡ true → NaturalAbove c (parts lo))
-      × TrimsAll (entered c (parts lo) (parts up) natural) body inner
+      × TrimsAll (entered c (parts lo) (parts up) natural) body inner)
+      ⊎ ((natural : Bool) × (new ≡ none) × (natural ≡ true → NaturalAbove c (parts lo))
+      × TrimsAll (entered c (parts lo) (parts up) natural) body none)
   Trims c (guard tests body) new =
-      (kept : List Test) × (inner : Trees) × (new ≡ under kept inner) × TrimsTests c tests kept
-      × TrimsAll (tested c tests) body inner
-  Trims c (instance n forms) new = new ≡ more (instance n forms) none
+      ((kept : List Test) × (inner : Trees) × (new ≡ under kept inner) × TrimsTests c tests kept
+      × TrimsAll (tested c tests) body inner)
+      ⊎ ((new ≡ none) × TrimsAll (tested c tests) body none)
+  Trims c (instance n forms) new = (new ≡ more (instance n forms) none) ⊎ ((new ≡ none) × NeverSpeaks c)
 
   -- they are what is left of trees, one after another
   pub TrimsAll : Context → Trees → Trees → Type 0
@@ -70,12 +73,11 @@ pub record IsTrimmed (parameters : ℕ) (old new : Trees) : Type 0 where
       → walk_all new params [] ≡ walk_all old params []
   pub free : (program : Program) (params : List ℤ) → length params ≡ parameters → AreInRange params
       → AreFree (Conflict program params) old params [] → AreFree (Conflict program params) new params []
-  pub fits : (params : List ℤ) → length params ≡ parameters → AreInRange params → FitsAll new params []
-  pub within : (params : List ℤ) → length params ≡ parameters → AreInRange params
-      → StayWithin (2 ^ 40) new params []
+  pub fits : (params : List ℤ) → length params ≡ parameters → AreInRange params → FitsAll old params []
+      → FitsAll new params []
   pub serial : AreSerial old → AreSerial new
   pub flat : FlatAll new
   pub statements : (program : Program) → TreesAreOf program old → TreesAreOf program new
   pub over : TreesAreOver parameters new
-  pub small : TreesAreUpTo (2 ^ 40) new
+  pub small : (n : ℕ) → TreesAreUpTo n old → TreesAreUpTo n new
   pub nested : (n : ℕ) → NestAllTo n old → NestAllTo n new

@@ -8,10 +8,11 @@ ghost use Rattle.loop_tree.specs.Fits.{AreZeros, form_in};
 ghost use Rattle.loop_tree.specs.Shape.{BoundsAreOver, BoundsAreUpTo, IsOver, IsOverUpTo, IsUpTo, TestIsUpTo};
 ghost use Rattle.loop_tree.specs.View.{bounds_in, test_of};
 ghost use Rattle.loop_tree.specs.Walk.{holds};
-ghost use Rattle.tree_simplification.specs.steps.Inlined.{AreTestsFor, AreWith, bound_over, bounds_over, once};
+ghost use Rattle.tree_simplification.specs.steps.Inlined.{AreTestsFor, AreWith, bound_over, bounds_over};
 ghost use Rattle.tree_simplification.specs.steps.Inlined.{test_over};
 
-use crate::single::numbers::{Stop, composition};
+use crate::single::numbers::{Stop, composed, composition};
+use crate::single::rounding::{rounded, rounded_at_least, rounded_equal};
 use affine_forms::{Form, push};
 use loop_tree::{Bound, Bounds, Leaf, Test};
 use scop_syntax::tree::Aff;
@@ -19,18 +20,21 @@ use std::alloc::Global;
 use wide_math::remainder;
 
 /// A bound.
-fn bound_at(alloc: Global, bound: &Bound, forms: &[Form], variables: usize) -> Result<Bound, Stop>
+fn bound_at(
+    alloc: Global,
+    bound: &Bound,
+    forms: &[Form],
+    variables: usize,
+    up: bool,
+) -> Result<Bound, Stop>
     requires count { IsOver (length forms.now) bound.now.form }
     requires divisor { unsigned_abs bound.now.divisor ≤ 2 ^ 40 }
     requires sized { All (IsOver variables) forms.now }
-    ensures bound { IfOk result (λ b. b ≡ bound_over variables forms.now bound.now) }
+    ensures bound { IfOk result (λ b. b ≡ bound_over up variables forms.now bound.now) }
     ensures small { IfOk result (λ b. IsOverUpTo (2 ^ 45) b.form b.divisor) }
 {
-    let form = composition(alloc, &bound.form, forms, variables)?;
-    Ok(Bound {
-        form,
-        divisor: bound.divisor,
-    })
+    let form = composed(alloc, &bound.form, forms, variables)?;
+    rounded(alloc, &form, bound.divisor, up)
 }
 
 /// Bounds, one after another.
@@ -39,81 +43,38 @@ fn all_bounds(
     bounds: &[Bound],
     forms: &[Form],
     variables: usize,
+    up: bool,
 ) -> Result<Vec<Bound>, Stop>
     requires count { All (λ b. IsOver (length forms.now) b.form) bounds.now }
     requires divisors { All (λ b. unsigned_abs b.divisor ≤ 2 ^ 40) bounds.now }
     requires sized { All (IsOver variables) forms.now }
-    ensures bounds { IfOk result (λ bs. bs.items ≡ map (bound_over variables forms.now) bounds.now) }
+    ensures bounds { IfOk result (λ bs. bs.items ≡ map (bound_over up variables forms.now) bounds.now) }
     ensures small { IfOk result (λ bs. All (λ b. IsOverUpTo (2 ^ 45) b.form b.divisor) bs.items) }
 {
     let mut all = Vec::new(alloc);
     for bound in bounds {
-        push(&mut all, bound_at(alloc, bound, forms, variables)?)?;
+        push(&mut all, bound_at(alloc, bound, forms, variables, up)?)?;
     }
     Ok(all)
 }
 
-/// The bounds of a loop from one side.
+/// The bounds of a loop from one side, the lower one (`up`) or the upper one.
 pub fn bounds_at(
     alloc: Global,
     bounds: &Bounds,
     forms: &[Form],
     variables: usize,
+    up: bool,
 ) -> Result<Bounds, Stop>
     requires count { BoundsAreOver (length forms.now) (bounds_in bounds.now) }
     requires numbers { BoundsAreUpTo (2 ^ 40) (bounds_in bounds.now) }
     requires sized { All (IsOver variables) forms.now }
-    ensures bounds { IfOk result (λ bs. bounds_in bs ≡ bounds_over variables forms.now (bounds_in bounds.now)) }
+    ensures bounds { IfOk result (λ bs. bounds_in bs ≡ bounds_over up variables forms.now (bounds_in bounds.now)) }
     ensures small { IfOk result (λ bs. BoundsAreUpTo (2 ^ 45) (bounds_in bs)) }
 {
-    let first = bound_at(alloc, &bounds.first, forms, variables)?;
-    let others = all_bounds(alloc, bounds.others.as_slice(), forms, variables)?;
+    let first = bound_at(alloc, &bounds.first, forms, variables, up)?;
+    let others = all_bounds(alloc, bounds.others.as_slice(), forms, variables, up)?;
     Ok(Bounds { first, others })
-}
-
-/// Whether two lists have the same numbers.
-fn same_numbers(xs: &[i64], ys: &[i64]) -> bool
-    ensures { result ≡ true → xs.now ≡ ys.now }
-{
-    xs == ys
-}
-
-/// Whether two forms are one.
-fn same_form(a: &Aff, b: &Aff) -> bool
-    ensures { result ≡ true → a.now ≡ b.now }
-{
-    if a.constant != b.constant {
-        return false;
-    }
-    same_numbers(a.coefficients.as_slice(), b.coefficients.as_slice())
-}
-
-/// Whether the bounds are one form.
-fn is_form(bounds: &Bounds) -> bool
-    ensures { result ≡ true → bounds_in bounds.now ≡ once bounds.now.first.form }
-{
-    if !bounds.others.is_empty() {
-        return false;
-    }
-    bounds.first.divisor == 1
-}
-
-/// Whether a loop with these bounds, which is parallel or not, runs once and is not parallel.
-pub fn runs_once(parallel: bool, lower: &Bounds, upper: &Bounds) -> bool
-    ensures serial { result ≡ true → parallel ≡ false }
-    ensures lower { result ≡ true → bounds_in lower.now ≡ once lower.now.first.form }
-    ensures upper { result ≡ true → bounds_in upper.now ≡ once lower.now.first.form }
-{
-    if parallel {
-        return false;
-    }
-    if !is_form(lower) {
-        return false;
-    }
-    if !is_form(upper) {
-        return false;
-    }
-    same_form(&lower.first.form, &upper.first.form)
 }
 
 /// A test.
@@ -125,8 +86,14 @@ fn test_at(alloc: Global, test: &Test, forms: &[Form], variables: usize) -> Resu
     ensures small { IfOk result (λ t. TestIsUpTo (2 ^ 45) (test_of t)) }
 {
     match test {
-        Test::AtLeast(form) => Ok(Test::AtLeast(composition(alloc, form, forms, variables)?)),
-        Test::Equal(form) => Ok(Test::Equal(composition(alloc, form, forms, variables)?)),
+        Test::AtLeast(form) => {
+            let form = composed(alloc, form, forms, variables)?;
+            rounded_at_least(alloc, &form)
+        }
+        Test::Equal(form) => {
+            let form = composed(alloc, form, forms, variables)?;
+            rounded_equal(alloc, &form)
+        }
         Test::Multiple(form, divisor) => {
             let form = composition(alloc, form, forms, variables)?;
             Ok(Test::Multiple(form, *divisor))
@@ -207,7 +174,7 @@ fn always_holds(test: &Test) -> bool
 }
 
 /// Appends a test, but for one that holds everywhere.
-fn push_test(tests: &mut Vec<Test>, test: Test) -> Result<(), Stop>
+pub fn push_test(tests: &mut Vec<Test>, test: Test) -> Result<(), Stop>
     ensures { OnOk result (AreWith tests.old.items test tests.new.items) }
 {
     if always_holds(&test) {

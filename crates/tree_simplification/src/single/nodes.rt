@@ -1,15 +1,17 @@
 //! The nodes of a tree, gone down with the place at which they stand.
 ghost use Rattle.std.specs.Prelude.{◌<◌, ◌^◌, IfOk, IfSome, OnOk, map, ℕ};
+ghost use Rattle.loop_tree.specs.Marks.{FlatAll};
 ghost use Rattle.loop_tree.specs.Shape.{NestAllTo, TreesAreOver, TreesAreUpTo};
 ghost use Rattle.loop_tree.specs.Tree.{guard as guarded, loop as loops, more, none};
 ghost use Rattle.loop_tree.specs.View.{bounds_in, nodes_of, test_of, tree_of, trees_in};
-ghost use Rattle.tree_simplification.specs.steps.Inlined.{CanInline, Extends, IsInlined};
+ghost use Rattle.tree_simplification.specs.steps.Inlined.{CanGoOnce, CanInline, CanKeep, Extends, IsInlined};
 
-use crate::single::heads::{bounds_at, leaf_at, runs_once, tests_at};
+use crate::single::heads::{bounds_at, leaf_at, tests_at};
 use crate::single::numbers::Stop;
+use crate::single::once::{Once, once_at};
 use crate::single::place::{Place, place_of, within_loop, within_once};
 use affine_forms::push;
-use loop_tree::{Guard, Loop, Node, Tree};
+use loop_tree::{Bounds, Guard, Loop, Node, Tree};
 use std::alloc::{AllocError, Global};
 
 /// Appends the nodes that stand for these.
@@ -68,12 +70,33 @@ fn inline_loop(
         (nodes_of out.old.items) (nodes_of out.new.items)) }
 {
     let variables = place.kept + place.parameters;
-    let lower = bounds_at(alloc, &head.lower, place.forms.as_slice(), variables)?;
-    let upper = bounds_at(alloc, &head.upper, place.forms.as_slice(), variables)?;
-    if runs_once(head.parallel, &lower, &upper) {
-        let within = within_once(alloc, place, &lower)?;
-        return inline_nodes(alloc, body, &within, out);
+    let lower = bounds_at(alloc, &head.lower, place.forms.as_slice(), variables, true)?;
+    let upper = bounds_at(alloc, &head.upper, place.forms.as_slice(), variables, false)?;
+    match once_at(alloc, head.parallel, &lower, &upper, variables)? {
+        None => keep_loop(alloc, head, lower, upper, body, place, out),
+        Some(once) => inline_once(alloc, head, once, body, place, out),
     }
+}
+
+/// Appends a loop with these bounds.
+#[cycle(inlining)]
+fn keep_loop(
+    alloc: Global,
+    head: &Loop,
+    lower: Bounds,
+    upper: Bounds,
+    body: &[Node],
+    place: &Place,
+    out: &mut Vec<Node>,
+) -> Result<(), Stop>
+    requires { CanKeep place.now.parameters place.now.kept place.now.loops.items place.now.forms.items
+        (bounds_in head.now.lower) (bounds_in head.now.upper) (bounds_in lower) (bounds_in upper)
+        (more (loops head.now.parallel (bounds_in head.now.lower) (bounds_in head.now.upper) (nodes_of body.now))
+        none) }
+    ensures { OnOk result (Extends place.now.parameters place.now.kept place.now.loops.items
+        (more (loops head.now.parallel (bounds_in head.now.lower) (bounds_in head.now.upper) (nodes_of body.now)) none)
+        (nodes_of out.old.items) (nodes_of out.new.items)) }
+{
     let within = within_loop(alloc, place)?;
     let mut nodes = Vec::new(alloc);
     inline_nodes(alloc, body, &within, &mut nodes)?;
@@ -84,6 +107,36 @@ fn inline_loop(
         upper,
     };
     push(out, Node::Loop(head, nodes))?;
+    Ok(())
+}
+
+/// Appends those that stand for a loop that runs at most once.
+#[cycle(inlining)]
+fn inline_once(
+    alloc: Global,
+    head: &Loop,
+    once: Once,
+    body: &[Node],
+    place: &Place,
+    out: &mut Vec<Node>,
+) -> Result<(), Stop>
+    requires { CanGoOnce place.now.parameters place.now.kept place.now.loops.items place.now.forms.items
+        head.now.parallel (bounds_in head.now.lower) (bounds_in head.now.upper) once.form
+        (map test_of once.tests.items)
+        (more (loops head.now.parallel (bounds_in head.now.lower) (bounds_in head.now.upper) (nodes_of body.now))
+        none) }
+    ensures { OnOk result (Extends place.now.parameters place.now.kept place.now.loops.items
+        (more (loops head.now.parallel (bounds_in head.now.lower) (bounds_in head.now.upper) (nodes_of body.now)) none)
+        (nodes_of out.old.items) (nodes_of out.new.items)) }
+{
+    let within = within_once(alloc, place, &once.form)?;
+    let tests = once.tests;
+    if tests.is_empty() {
+        return inline_nodes(alloc, body, &within, out);
+    }
+    let mut nodes = Vec::new(alloc);
+    inline_nodes(alloc, body, &within, &mut nodes)?;
+    push(out, Node::Guard(Guard { tests }, nodes))?;
     Ok(())
 }
 
@@ -118,9 +171,10 @@ fn inline_guard(
     Ok(())
 }
 
-/// The tree without the loops that run once.
+/// The tree without the loops that run at most once.
 fn inlined_tree(alloc: Global, tree: &Tree, parameters: usize) -> Result<Tree, Stop>
     requires few { parameters < 2 ^ 32 }
+    requires flat { FlatAll (trees_in tree.now) }
     requires over { TreesAreOver parameters (trees_in tree.now) }
     requires numbers { TreesAreUpTo (2 ^ 40) (trees_in tree.now) }
     requires nested { (d : ℕ) × (d < 2 ^ 32) × NestAllTo d (trees_in tree.now) }
@@ -132,8 +186,9 @@ fn inlined_tree(alloc: Global, tree: &Tree, parameters: usize) -> Result<Tree, S
     Ok(Tree { nodes })
 }
 
-/// The tree without the loops that run once: one that is not parallel and starts and ends at one same form. The form
-/// stands for the loop's value within. Nothing where a number would pass 2^45.
+/// The tree without the loops that run at most once: those that are not parallel, and that a form bounds from both
+/// sides. The form stands for the loop's value within, under tests whether it lies between the other bounds. Bounds and
+/// tests lose common factors. Nothing where a number would pass 2^45.
 ///
 /// # Errors
 /// `AllocError` alone.
@@ -143,6 +198,7 @@ pub(crate) fn without_single(
     parameters: usize,
 ) -> Result<Option<Tree>, AllocError>
     requires few { parameters < 2 ^ 32 }
+    requires flat { FlatAll (trees_in tree.now) }
     requires over { TreesAreOver parameters (trees_in tree.now) }
     requires numbers { TreesAreUpTo (2 ^ 40) (trees_in tree.now) }
     requires nested { (d : ℕ) × (d < 2 ^ 32) × NestAllTo d (trees_in tree.now) }

@@ -43,7 +43,7 @@ pub fn wide(alloc: Global, form: &Aff) -> Result<Form, AllocError>
 }
 
 /// A number as one of a tree, if it lies within 2^45.
-fn narrow_number(number: i128) -> Option<i64>
+pub fn narrow_number(number: i128) -> Option<i64>
     ensures { IfSome result (λ x. (x ≡ number) × (unsigned_abs x ≤ 2 ^ 45)) }
 {
     if number.unsigned_abs() <= MOST {
@@ -54,7 +54,7 @@ fn narrow_number(number: i128) -> Option<i64>
 }
 
 /// Numbers as those of a tree.
-fn narrow_numbers(alloc: Global, numbers: &[i128]) -> Result<Vec<i64>, Stop>
+pub fn narrow_numbers(alloc: Global, numbers: &[i128]) -> Result<Vec<i64>, Stop>
     ensures same { IfOk result (λ xs. xs.items ≡ numbers.now) }
     ensures small { IfOk result (λ xs. AreAtMost (2 ^ 45) numbers.now) }
 {
@@ -69,7 +69,7 @@ fn narrow_numbers(alloc: Global, numbers: &[i128]) -> Result<Vec<i64>, Stop>
 }
 
 /// A form as one of a tree.
-fn narrow(alloc: Global, form: &Form) -> Result<Aff, Stop>
+pub fn narrow(alloc: Global, form: &Form) -> Result<Aff, Stop>
     ensures form { IfOk result (λ a. a ≡ form.now) }
     ensures small { IfOk result (λ a. IsUpTo (2 ^ 45) form.now) }
 {
@@ -84,16 +84,26 @@ fn narrow(alloc: Global, form: &Form) -> Result<Aff, Stop>
 }
 
 /// The form over `variables` variables that puts `forms`, in order, in place of the variables of `form`.
+pub fn composed(alloc: Global, form: &Aff, forms: &[Form], variables: usize) -> Result<Form, Stop>
+    requires count { IsOver (length forms.now) form.now }
+    requires sized { All (IsOver variables) forms.now }
+    ensures { IfOk result (λ a. a ≡ composed form.now forms.now variables) }
+{
+    let wide = wide(alloc, form)?;
+    match wide.compose(forms, variables) {
+        Ok(composed) => Ok(composed),
+        Err(FormStop::Wide(_)) => Err(Stop::Large),
+        Err(FormStop::NoMemory) => Err(Stop::NoMemory),
+    }
+}
+
+/// So as a form of a tree.
 pub fn composition(alloc: Global, form: &Aff, forms: &[Form], variables: usize) -> Result<Aff, Stop>
     requires count { IsOver (length forms.now) form.now }
     requires sized { All (IsOver variables) forms.now }
     ensures form { IfOk result (λ a. a ≡ composed form.now forms.now variables) }
     ensures small { IfOk result (IsUpTo (2 ^ 45)) }
 {
-    let wide = wide(alloc, form)?;
-    match wide.compose(forms, variables) {
-        Ok(composition) => narrow(alloc, &composition),
-        Err(FormStop::Wide(_)) => Err(Stop::Large),
-        Err(FormStop::NoMemory) => Err(Stop::NoMemory),
-    }
+    let composed = composed(alloc, form, forms, variables)?;
+    narrow(alloc, &composed)
 }

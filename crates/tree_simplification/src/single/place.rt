@@ -6,10 +6,8 @@ ghost use Rattle.loop_tree.specs.Shape.{IsOver};
 ghost use Rattle.tree_simplification.specs.steps.Inlined.{inside};
 
 use crate::rows::widen_all;
-use crate::single::numbers::wide;
-use affine_forms::{Form, copies, push};
+use affine_forms::{Form, copies, push, push_copy};
 use iteration_domains::variable_form;
-use loop_tree::Bounds;
 use std::alloc::{AllocError, Global};
 
 /// The forms of the old loops over so many new loops that were kept and so many parameters, and with those of the
@@ -82,16 +80,16 @@ pub fn within_loop(alloc: Global, place: &Place) -> Result<Place, AllocError>
     place_of(alloc, loops, kept, place.parameters)
 }
 
-/// The place within a loop that runs once, where the first of its bounds gives its value.
-pub fn within_once(alloc: Global, place: &Place, bounds: &Bounds) -> Result<Place, AllocError>
+/// The place within a loop that runs at most once, where a form gives its value.
+pub fn within_once(alloc: Global, place: &Place, form: &Form) -> Result<Place, AllocError>
     requires few { place.now.kept + place.now.parameters ≤ 2 ^ 34 }
-    ensures loops { IfOk result (λ p. p.loops.items ≡ place.now.loops.items ++ bounds.now.first.form ∷ []) }
+    ensures loops { IfOk result (λ p. p.loops.items ≡ place.now.loops.items ++ form.now ∷ []) }
     ensures forms { IfOk result (λ p. p.forms.items
         ≡ p.loops.items ++ variables (place.now.kept + place.now.parameters) place.now.kept place.now.parameters) }
     ensures kept { IfOk result (λ p. p.kept ≡ place.now.kept) }
     ensures parameters { IfOk result (λ p. p.parameters ≡ place.now.parameters) }
 {
     let mut loops = copies(alloc, place.loops.as_slice())?;
-    push(&mut loops, wide(alloc, &bounds.first.form)?)?;
+    push_copy(&mut loops, form)?;
     place_of(alloc, loops, place.kept, place.parameters)
 }

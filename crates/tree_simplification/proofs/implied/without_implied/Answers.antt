@@ -7,8 +7,6 @@ use Rattle.tree_simplification.proofs.implied.without_implied.Goals as goal
 
 pub returns : goal.returns
 returns c =
-    let small = c.requires.small in
     let nodes = nodes_of c.in_ok-nodes.nodes.items in
     let trimmed : TrimsAll (outside c.args.parameters) (trees_in c.args.tree.now) nodes = search rules in
-    trimmed_is c.args.parameters (trees_in c.args.tree.now) nodes c.requires.few c.requires.flat c.requires.over
-    c.requires.numbers small.0 small.1 small.2 trimmed
+    trimmed_is c.args.parameters (trees_in c.args.tree.now) nodes c.requires.flat c.requires.over trimmed

@@ -34,9 +34,9 @@ returns-clause-bounds c =
     let forms = c.args.forms.now in
     let bs = c.args.bounds.now in
     let others = c.in_ok-others.ensures.bounds
-    ∙ ap (λ (cs : List Bound). map (bound_over n forms) cs) c.as_slice.ensures.value in
+    ∙ ap (λ (cs : List Bound). map (bound_over c.args.up n forms) cs) c.as_slice.ensures.value in
     ap₂ (λ (b : Bound) (cs : List Bound). bounds_of b cs) c.in_ok-first.ensures.bound others
-    ∙ bounds_of_over n forms bs.first bs.others.items
+    ∙ bounds_of_over c.args.up n forms bs.first bs.others.items
 
 pub returns-clause-small : goal.returns-clause-small
 returns-clause-small c =

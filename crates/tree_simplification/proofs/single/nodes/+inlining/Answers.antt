@@ -1,4 +1,4 @@
-use Rattle.std.proofs.Common.{◌≡◌, ◌+◌, ◌<◌, List, [], ◌∷◌, ◌++◌, length, map, ap, subst, sym, ◌∙◌, arith}
+use Rattle.std.proofs.Common.{◌≡◌, ◌+◌, ◌<◌, true, false, List, [], ◌∷◌, ◌++◌, length, map, ap, subst, sym, ◌∙◌, arith}
 use Rattle.std.proofs.Common.{rules, drop_of_length-le}
 use Rattle.std.specs.Prelude.{All}
 use Rattle.std.proofs.lemmas.Result.{on_ok_weaker}
@@ -6,17 +6,18 @@ use Rattle.whole_numbers.specs.Affine.{Affine, composed}
 use Rattle.iteration_domains.specs.Rows.{variables}
 use Rattle.loop_tree.specs.Fits.{form_in}
 use Rattle.loop_tree.specs.Shape.{BoundsAreOver, IsOver}
-use Rattle.loop_tree.specs.Tree.{Tree, guard, instance, loop, more, none}
+use Rattle.loop_tree.specs.Tree.{Bounds, Test, Tree, guard, instance, loop, more, none}
 use Rattle.loop_tree.specs.View.{bounds_in, nodes_of, test_of, tree_of}
-use Rattle.loop_tree.specs.declared.tree.Test.{Test}
+use Rattle.loop_tree.specs.declared.tree.Test.{Test as CodeTest}
 use Rattle.loop_tree.proofs.Views.{tree_guard, tree_instance, tree_loop}
 use Rattle.loop_tree.proofs.Weights.{node_weight, weight, weight_all}
-use Rattle.tree_simplification.specs.steps.Inlined.{AreTestsFor, CanInline, Extends, bounds_over, inside}
+use Rattle.tree_simplification.specs.steps.Inlined.{AreTestsFor, CanGoOnce, CanInline, CanKeep, Extends, IsOnce}
+use Rattle.tree_simplification.specs.steps.Inlined.{bounds_over, inside}
 use Rattle.tree_simplification.proofs.Nodes.{all_gone, alone_gone, can_at, can_node, guard_can, guard_goes, guard_stays}
-use Rattle.tree_simplification.proofs.Nodes.{leaf_can, leaf_goes, loop_can, loop_goes, loop_stays, none_gone}
-use Rattle.tree_simplification.proofs.Nodes.{once_sized}
+use Rattle.tree_simplification.proofs.Nodes.{goes_once, leaf_can, leaf_goes, loop_can, loop_goes, loop_guarded}
+use Rattle.tree_simplification.proofs.Nodes.{loop_stays, none_gone}
 use Rattle.tree_simplification.proofs.Nodes.{one_gone, with_node}
-use Rattle.tree_simplification.proofs.ComposedForms.{place_sized}
+use Rattle.tree_simplification.proofs.ComposedForms.{bounds_sized, place_sized}
 use Rattle.tree_simplification.proofs.single.nodes.+inlining.Goals as goal
 
 pub inline_nodes-loop-node-init : goal.inline_nodes-loop-node-init
@@ -97,7 +98,7 @@ inline_guard-tests_at-requires-clause-count t c =
     c.requires in
     subst (λ (fs : List Affine). All (λ test. IsOver (length fs) (form_in test)) (map test_of c.as_slice.result.now))
     (sym c.as_slice-2.ensures.value)
-    (subst (λ (ts : List Test). All (λ test. IsOver (length p.forms.items) (form_in test)) (map test_of ts))
+    (subst (λ (ts : List CodeTest). All (λ test. IsOver (length p.forms.items) (form_in test)) (map test_of ts))
     (sym c.as_slice.ensures.value) can.count)
 
 pub inline_guard-tests_at-requires-clause-sized : goal.inline_guard-tests_at-requires-clause-sized
@@ -115,7 +116,7 @@ inline_guard-returns-then-is_empty t c =
     let empty : length found ≡ 0 = search rules in
     let are = subst (λ (fs : List Affine). AreTestsFor n fs (map test_of tests) (map test_of found))
     c.as_slice-2.ensures.value
-    (subst (λ (ts : List Test). AreTestsFor n c.as_slice-2.result.now (map test_of ts) (map test_of found))
+    (subst (λ (ts : List CodeTest). AreTestsFor n c.as_slice-2.result.now (map test_of ts) (map test_of found))
     c.as_slice.ensures.value c.in_ok-tests.ensures) in
     on_ok_weaker c.inline_nodes.result
     (λ gone. guard_goes p.parameters p.kept p.loops.items p.forms.items (map test_of tests) (nodes_of c.args.body.now)
@@ -133,7 +134,7 @@ inline_guard-returns t c =
     let some : 0 < length found = search rules in
     let are = subst (λ (fs : List Affine). AreTestsFor n fs (map test_of tests) (map test_of found))
     c.as_slice-2.ensures.value
-    (subst (λ (ts : List Test). AreTestsFor n c.as_slice-2.result.now (map test_of ts) (map test_of found))
+    (subst (λ (ts : List CodeTest). AreTestsFor n c.as_slice-2.result.now (map test_of ts) (map test_of found))
     c.as_slice.ensures.value c.in_ok-tests.ensures) in
     let inner = alone_gone p.parameters p.kept p.loops.items body c.new-nodes.result.items nodes.items
     c.new-nodes.ensures.items c.in_ok-inline_nodes.ensures in
@@ -174,98 +175,199 @@ inline_loop-bounds_at-requires-2-clause-sized t c =
     subst (λ (fs : List Affine). All (IsOver (p.kept + p.parameters)) fs) (sym c.as_slice-2.ensures.value)
     (place_sized p.parameters p.kept p.loops.items p.forms.items c.requires.place)
 
-pub inline_loop-inline_nodes-requires : goal.inline_loop-inline_nodes-requires
-inline_loop-inline_nodes-requires t c =
+pub inline_loop-once_at-requires-clause-lower : goal.inline_loop-once_at-requires-clause-lower
+inline_loop-once_at-requires-clause-lower t c =
+    let p = c.args.place.now in
+    let n = p.kept + p.parameters in
+    let lo = bounds_in c.args.head.now.lower in
+    subst (BoundsAreOver n)
+    (sym (c.in_ok-lower.ensures.bounds
+    ∙ ap (λ (fs : List Affine). bounds_over true n fs lo) c.as_slice.ensures.value))
+    (bounds_sized true n p.forms.items
+    (place_sized p.parameters p.kept p.loops.items p.forms.items c.requires.place) lo)
+
+pub inline_loop-once_at-requires-clause-upper : goal.inline_loop-once_at-requires-clause-upper
+inline_loop-once_at-requires-clause-upper t c =
+    let p = c.args.place.now in
+    let n = p.kept + p.parameters in
+    let up = bounds_in c.args.head.now.upper in
+    subst (BoundsAreOver n)
+    (sym (c.in_ok-upper.ensures.bounds
+    ∙ ap (λ (fs : List Affine). bounds_over false n fs up) c.as_slice-2.ensures.value))
+    (bounds_sized false n p.forms.items
+    (place_sized p.parameters p.kept p.loops.items p.forms.items c.requires.place) up)
+
+pub inline_loop-keep_loop-requires : goal.inline_loop-keep_loop-requires
+inline_loop-keep_loop-requires t c =
+    let p = c.args.place.now in
+    let n = p.kept + p.parameters in
+    let head = c.args.head.now in
+    let body = nodes_of c.args.body.now in
+    let lo = bounds_in head.lower in
+    let up = bounds_in head.upper in
+    let keep : CanKeep p.parameters p.kept p.loops.items p.forms.items lo up (bounds_in c.in_ok-lower.lower)
+    (bounds_in c.in_ok-upper.upper) (more (loop head.parallel lo up body) none) =
+    record {
+      can = c.requires;
+      lower = c.in_ok-lower.ensures.bounds
+          ∙ ap (λ (fs : List Affine). bounds_over true n fs lo) c.as_slice.ensures.value;
+      upper = c.in_ok-upper.ensures.bounds
+          ∙ ap (λ (fs : List Affine). bounds_over false n fs up) c.as_slice-2.ensures.value;
+      small_low = c.in_ok-lower.ensures.small;
+      small_high = c.in_ok-upper.ensures.small;
+    } in
+    let less : weight_all body + 2 < weight_all body + 3 = omega arith in
+    search rules
+
+pub inline_loop-inline_once-requires : goal.inline_loop-inline_once-requires
+inline_loop-inline_once-requires t c =
+    let p = c.args.place.now in
+    let n = p.kept + p.parameters in
+    let head = c.args.head.now in
+    let body = nodes_of c.args.body.now in
+    let lo = bounds_in head.lower in
+    let up = bounds_in head.upper in
+    let low = bounds_in c.in_ok-lower.lower in
+    let high = bounds_in c.in_ok-upper.upper in
+    let f = c.in-Some.once.form in
+    let tests = map test_of c.in-Some.once.tests.items in
+    let known : (head.parallel ≡ false) × IsOnce n f low high tests = search rules in
+    let is_low = c.in_ok-lower.ensures.bounds
+    ∙ ap (λ (fs : List Affine). bounds_over true n fs lo) c.as_slice.ensures.value in
+    let is_high = c.in_ok-upper.ensures.bounds
+    ∙ ap (λ (fs : List Affine). bounds_over false n fs up) c.as_slice-2.ensures.value in
+    let goes : CanGoOnce p.parameters p.kept p.loops.items p.forms.items head.parallel lo up f tests
+    (more (loop head.parallel lo up body) none) =
+    record {
+      can = c.requires;
+      serial = known.0;
+      once = subst (λ (bs : Bounds). IsOnce n f bs (bounds_over false n p.forms.items up) tests) is_low
+          (subst (λ (bs : Bounds). IsOnce n f low bs tests) is_high known.1);
+    } in
+    let less : weight_all body + 2 < weight_all body + 3 = omega arith in
+    search rules
+
+pub keep_loop-inline_nodes-requires : goal.keep_loop-inline_nodes-requires
+keep_loop-inline_nodes-requires t c =
     let p = c.args.place.now in
     let m = p.parameters in
     let k = p.kept in
     let head = c.args.head.now in
     let body = nodes_of c.args.body.now in
     let within = c.in_ok-within.within in
-    let f = c.in_ok-lower.lower.first.form in
     let can = loop_can m k p.loops.items p.forms.items head.parallel (bounds_in head.lower) (bounds_in head.upper) body
-    c.requires in
-    let own : IsOver (k + m) f =
-    once_sized (k + m) p.forms.items (bounds_in head.lower) (bounds_in c.in_ok-lower.lower) f
-    can.sized
-    (c.in_ok-lower.ensures.bounds
-    ∙ ap (λ (fs : List Affine). bounds_over (k + m) fs (bounds_in head.lower)) c.as_slice.ensures.value)
-    (c.runs_once.ensures.lower c.if-runs_once.true) in
-    let here = can.goes f within.forms.items own
+    c.requires.can in
+    let here = can.stays within.forms.items
+    (c.in_ok-within.ensures.forms
+    ∙ ap (λ (fs : List Affine). fs ++ variables (k + 1 + m) (k + 1) m) c.in_ok-within.ensures.loops) in
+    let asked : CanInline within.parameters within.kept within.loops.items within.forms.items body =
+    can_at m (k + 1) within.parameters within.kept (inside m k p.loops.items) within.loops.items within.forms.items body
+    c.in_ok-within.ensures.parameters c.in_ok-within.ensures.kept c.in_ok-within.ensures.loops here in
+    let less : weight_all body + 1 < weight_all body + 2 = omega arith in
+    search rules
+
+pub keep_loop-returns : goal.keep_loop-returns
+keep_loop-returns t c =
+    let p = c.args.place.now in
+    let m = p.parameters in
+    let k = p.kept in
+    let head = c.args.head.now in
+    let body = nodes_of c.args.body.now in
+    let lower = bounds_in c.args.lower in
+    let upper = bounds_in c.args.upper in
+    let within = c.in_ok-within.within in
+    let nodes = c.inline_nodes.new.out in
+    let inner = alone_gone within.parameters within.kept within.loops.items body c.new-nodes.result.items nodes.items
+    c.new-nodes.ensures.items c.in_ok-inline_nodes.ensures in
+    let stays =
+    loop_stays m k within.parameters within.kept p.loops.items within.loops.items p.forms.items head.parallel
+    (bounds_in head.lower) (bounds_in head.upper) lower upper body (nodes_of nodes.items) c.requires.can.place
+    c.requires.lower c.requires.upper c.requires.small_low c.requires.small_high c.in_ok-within.ensures.parameters
+    c.in_ok-within.ensures.kept c.in_ok-within.ensures.loops inner in
+    let pushed = c.in_ok-push.ensures.pushed in
+    with_node m k p.loops.items
+    (more (loop head.parallel (bounds_in head.lower) (bounds_in head.upper) body) none) c.args.out.now.items
+    c.push.new.list.items _ (loop head.parallel lower upper (nodes_of nodes.items)) pushed (tree_loop _ nodes) stays
+
+pub inline_once-inline_nodes-requires : goal.inline_once-inline_nodes-requires
+inline_once-inline_nodes-requires t c =
+    let p = c.args.place.now in
+    let m = p.parameters in
+    let k = p.kept in
+    let head = c.args.head.now in
+    let body = nodes_of c.args.body.now in
+    let f = c.args.once.form in
+    let within = c.in_ok-within.within in
+    let can = loop_can m k p.loops.items p.forms.items head.parallel (bounds_in head.lower) (bounds_in head.upper) body
+    c.requires.can in
+    let here = can.goes f within.forms.items c.requires.once.over
     (c.in_ok-within.ensures.forms
     ∙ ap (λ (fs : List Affine). fs ++ variables (k + m) k m) c.in_ok-within.ensures.loops) in
     let asked : CanInline within.parameters within.kept within.loops.items within.forms.items body =
     can_at m k within.parameters within.kept (p.loops.items ++ f ∷ []) within.loops.items within.forms.items body
     c.in_ok-within.ensures.parameters c.in_ok-within.ensures.kept c.in_ok-within.ensures.loops here in
-    let less : weight_all body + 1 < weight_all body + 3 = omega arith in
+    let less : weight_all body + 1 < weight_all body + 2 = omega arith in
     search rules
 
-pub inline_loop-returns-then-runs_once : goal.inline_loop-returns-then-runs_once
-inline_loop-returns-then-runs_once t c =
+pub inline_once-inline_nodes-requires-2 : goal.inline_once-inline_nodes-requires-2
+inline_once-inline_nodes-requires-2 t c =
     let p = c.args.place.now in
     let m = p.parameters in
     let k = p.kept in
     let head = c.args.head.now in
-    let lower = c.in_ok-lower.lower in
-    let upper = c.in_ok-upper.upper in
+    let body = nodes_of c.args.body.now in
+    let f = c.args.once.form in
     let within = c.in_ok-within.within in
+    let can = loop_can m k p.loops.items p.forms.items head.parallel (bounds_in head.lower) (bounds_in head.upper) body
+    c.requires.can in
+    let here = can.goes f within.forms.items c.requires.once.over
+    (c.in_ok-within.ensures.forms
+    ∙ ap (λ (fs : List Affine). fs ++ variables (k + m) k m) c.in_ok-within.ensures.loops) in
+    let asked : CanInline within.parameters within.kept within.loops.items within.forms.items body =
+    can_at m k within.parameters within.kept (p.loops.items ++ f ∷ []) within.loops.items within.forms.items body
+    c.in_ok-within.ensures.parameters c.in_ok-within.ensures.kept c.in_ok-within.ensures.loops here in
+    let less : weight_all body + 1 < weight_all body + 2 = omega arith in
+    search rules
+
+pub inline_once-returns-then-is_empty : goal.inline_once-returns-then-is_empty
+inline_once-returns-then-is_empty t c =
+    let p = c.args.place.now in
+    let m = p.parameters in
+    let k = p.kept in
+    let head = c.args.head.now in
+    let body = nodes_of c.args.body.now in
+    let within = c.in_ok-within.within in
+    let found = c.args.once.tests.items in
+    let empty : length found ≡ 0 = search rules in
+    let goes = goes_once m k p.loops.items p.forms.items head.parallel (bounds_in head.lower) (bounds_in head.upper)
+    c.args.once.form (map test_of found) body c.requires.can c.requires.once in
     on_ok_weaker c.inline_nodes.result
     (λ gone. loop_goes m k within.parameters within.kept p.loops.items within.loops.items p.forms.items head.parallel
-    (bounds_in head.lower) (bounds_in head.upper) (bounds_in lower) (bounds_in upper) lower.first.form
-    (nodes_of c.args.body.now) (nodes_of c.args.out.now.items) (nodes_of c.inline_nodes.new.out.items) c.requires.place
-    (c.runs_once.ensures.serial c.if-runs_once.true)
-    (c.in_ok-lower.ensures.bounds
-    ∙ ap (λ (fs : List Affine). bounds_over (k + m) fs (bounds_in head.lower)) c.as_slice.ensures.value)
-    (c.in_ok-upper.ensures.bounds
-    ∙ ap (λ (fs : List Affine). bounds_over (k + m) fs (bounds_in head.upper)) c.as_slice-2.ensures.value)
-    (c.runs_once.ensures.lower c.if-runs_once.true) (c.runs_once.ensures.upper c.if-runs_once.true)
-    c.in_ok-within.ensures.parameters c.in_ok-within.ensures.kept c.in_ok-within.ensures.loops gone)
+    (bounds_in head.lower) (bounds_in head.upper) c.args.once.form found body (nodes_of c.args.out.now.items)
+    (nodes_of c.inline_nodes.new.out.items) goes c.requires.serial empty c.in_ok-within.ensures.parameters
+    c.in_ok-within.ensures.kept c.in_ok-within.ensures.loops gone)
     c.inline_nodes.ensures
 
-pub inline_loop-inline_nodes-requires-2 : goal.inline_loop-inline_nodes-requires-2
-inline_loop-inline_nodes-requires-2 t c =
+pub inline_once-returns : goal.inline_once-returns
+inline_once-returns t c =
     let p = c.args.place.now in
     let m = p.parameters in
     let k = p.kept in
     let head = c.args.head.now in
     let body = nodes_of c.args.body.now in
-    let within = c.in_ok-within-2.within in
-    let can = loop_can m k p.loops.items p.forms.items head.parallel (bounds_in head.lower) (bounds_in head.upper) body
-    c.requires in
-    let here = can.stays within.forms.items
-    (c.in_ok-within-2.ensures.forms
-    ∙ ap (λ (fs : List Affine). fs ++ variables (k + 1 + m) (k + 1) m) c.in_ok-within-2.ensures.loops) in
-    let asked : CanInline within.parameters within.kept within.loops.items within.forms.items body =
-    can_at m (k + 1) within.parameters within.kept (inside m k p.loops.items) within.loops.items within.forms.items body
-    c.in_ok-within-2.ensures.parameters c.in_ok-within-2.ensures.kept c.in_ok-within-2.ensures.loops here in
-    let less : weight_all body + 1 < weight_all body + 3 = omega arith in
-    search rules
-
-pub inline_loop-returns : goal.inline_loop-returns
-inline_loop-returns t c =
-    let p = c.args.place.now in
-    let m = p.parameters in
-    let k = p.kept in
-    let head = c.args.head.now in
-    let body = nodes_of c.args.body.now in
-    let lower = c.in_ok-lower.lower in
-    let upper = c.in_ok-upper.upper in
-    let within = c.in_ok-within-2.within in
+    let within = c.in_ok-within.within in
+    let found = c.args.once.tests.items in
     let nodes = c.inline_nodes-2.new.out in
+    let some : 0 < length found = search rules in
+    let goes = goes_once m k p.loops.items p.forms.items head.parallel (bounds_in head.lower) (bounds_in head.upper)
+    c.args.once.form (map test_of found) body c.requires.can c.requires.once in
     let inner = alone_gone within.parameters within.kept within.loops.items body c.new-nodes.result.items nodes.items
     c.new-nodes.ensures.items c.in_ok-inline_nodes.ensures in
-    let stays =
-    loop_stays m k within.parameters within.kept p.loops.items within.loops.items p.forms.items head.parallel
-    (bounds_in head.lower) (bounds_in head.upper) (bounds_in lower) (bounds_in upper) body (nodes_of nodes.items)
-    c.requires.place
-    (c.in_ok-lower.ensures.bounds
-    ∙ ap (λ (fs : List Affine). bounds_over (k + m) fs (bounds_in head.lower)) c.as_slice.ensures.value)
-    (c.in_ok-upper.ensures.bounds
-    ∙ ap (λ (fs : List Affine). bounds_over (k + m) fs (bounds_in head.upper)) c.as_slice-2.ensures.value)
-    c.in_ok-lower.ensures.small c.in_ok-upper.ensures.small c.in_ok-within-2.ensures.parameters
-    c.in_ok-within-2.ensures.kept c.in_ok-within-2.ensures.loops inner in
+    let guarded = loop_guarded m k within.parameters within.kept p.loops.items within.loops.items p.forms.items
+    head.parallel (bounds_in head.lower) (bounds_in head.upper) c.args.once.form found body (nodes_of nodes.items) goes
+    c.requires.serial some c.in_ok-within.ensures.parameters c.in_ok-within.ensures.kept c.in_ok-within.ensures.loops
+    inner in
     let pushed = c.in_ok-push.ensures.pushed in
     with_node m k p.loops.items
     (more (loop head.parallel (bounds_in head.lower) (bounds_in head.upper) body) none) c.args.out.now.items
-    c.push.new.list.items _ (loop head.parallel (bounds_in lower) (bounds_in upper) (nodes_of nodes.items)) pushed
-    (tree_loop _ nodes) stays
+    c.push.new.list.items _ (guard (map test_of found) (nodes_of nodes.items)) pushed (tree_guard _ nodes) guarded

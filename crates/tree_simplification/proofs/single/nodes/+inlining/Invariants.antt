@@ -13,6 +13,12 @@ decreases-inline_node l = weight (tree_of l.node.now)
 abbrev pub decreases-inline_loop : goal.decreases-inline_loop
 decreases-inline_loop l = weight_all (nodes_of l.body.now) + 3
 
+abbrev pub decreases-keep_loop : goal.decreases-keep_loop
+decreases-keep_loop l = weight_all (nodes_of l.body.now) + 2
+
+abbrev pub decreases-inline_once : goal.decreases-inline_once
+decreases-inline_once l = weight_all (nodes_of l.body.now) + 2
+
 abbrev pub decreases-inline_guard : goal.decreases-inline_guard
 decreases-inline_guard l = weight_all (nodes_of l.body.now) + 3
 

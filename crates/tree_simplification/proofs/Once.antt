@@ -1,0 +1,126 @@
+-- A loop that a form bounds from both sides runs at most once: where the form lies between the other bounds.
+use Rattle.std.proofs.Common.{◌≡◌, ℕ, inl, inr, ℤ, pos, Bool, true, false, List, [], ◌∷◌, ◌++◌}
+use Rattle.std.proofs.Common.{ap, ap₂, subst, sym, ◌∙◌, refl, arith}
+use Rattle.std.specs.Prelude.{All, not, ◌-ℤ◌, ◌*ℤ◌, ◌≤ℤ◌, ◌<ℤ◌, if◌then◌else◌}
+use Rattle.std.proofs.lemmas.Int.{ints}
+use Rattle.std.proofs.lemmas.List.Elements.{All-cons, All-head, All-nil, All-tail}
+use Rattle.whole_numbers.specs.Affine.{Affine, multiple_of_form, value_of}
+use Rattle.whole_numbers.proofs.Order.{le_or_lt}
+use Rattle.whole_numbers.proofs.Ring.{mul_one_left, mul_one_right, mul_sub_left}
+use Rattle.whole_numbers.proofs.Values.{value_of-multiple, value_of-sum}
+use Rattle.scop_syntax.specs.Members.{In}
+use Rattle.scop_syntax.proofs.Members.{both, holds_le_z, le_z_holds}
+use Rattle.loop_tree.specs.Marks.{AreBounds, AreTests}
+use Rattle.loop_tree.specs.Shape.{BoundsAreOver, IsOver}
+use Rattle.loop_tree.specs.Tree.{Bound, Bounds, Test, at_least, besides, only}
+use Rattle.loop_tree.specs.Walk.{all_hold, holds, lower, upper}
+use Rattle.tree_simplification.specs.steps.Context.{OnSide, parts, sign_of}
+use Rattle.tree_simplification.specs.steps.Inlined.{IsOnce, side_form, side_tests, whole}
+use Rattle.tree_simplification.specs.steps.Rounded.{rounded_test}
+use Rattle.tree_simplification.proofs.Contexts.{high_from, high_to, low_from, low_to}
+use Rattle.tree_simplification.proofs.Heads.{all_hold_append}
+use Rattle.tree_simplification.proofs.Rounding.{rounded_holds, test_flat}
+use Rattle.tree_simplification.proofs.RowValues.{other_sign, turned_is}
+
+-- a part of a side
+pub on_member : (turned : Bool) (b : Bound) (bs : List Bound) (point : List ℤ) (x : ℤ) → In b bs
+    → OnSide turned bs point x → pos 0 ≤ℤ (sign_of turned *ℤ (value_of b.form point -ℤ (x *ℤ b.divisor)))
+on_member turned b [] point x i on = absurd i
+on_member turned b (a ∷ bs) point x (inl e) on =
+    subst (λ (c : Bound). pos 0 ≤ℤ (sign_of turned *ℤ (value_of c.form point -ℤ (x *ℤ c.divisor)))) (sym e) on.0
+on_member turned b (a ∷ bs) point x (inr i) on = on_member turned b bs point x i on.1
+
+-- what is tested is what the side says of the form's value
+side_value : (turned : Bool) (f : Affine) (b : Bound) (point : List ℤ)
+    → value_of (side_form turned f b) point
+    ≡ sign_of turned *ℤ (value_of b.form point -ℤ (value_of f point *ℤ b.divisor))
+side_value turned f b point =
+    let s = sign_of turned in
+    let k = sign_of (not turned) *ℤ b.divisor in
+    let v = value_of f point in
+    let x = value_of-sum (multiple_of_form (s *ℤ pos 1) b.form) (multiple_of_form k f) point in
+    let y = value_of-multiple (s *ℤ pos 1) b.form point in
+    let z = value_of-multiple k f point in
+    let o = other_sign turned b.divisor v in
+    let e = ap (λ (t : ℤ). t *ℤ value_of b.form point) (mul_one_right s) in
+    let m = mul_sub_left (value_of b.form point) (v *ℤ b.divisor) s in
+    omega (arith, ints, x, y, z, o, e, m)
+
+sides_to : (turned : Bool) (f : Affine) (bs : List Bound) (point : List ℤ)
+    → all_hold (side_tests turned f bs) point ≡ true → OnSide turned bs point (value_of f point)
+sides_to turned f [] point h = tt
+sides_to turned f (b ∷ bs) point h =
+    let q = both _ _ h in
+    let up = holds_le_z (pos 0) (value_of (side_form turned f b) point)
+    (sym (rounded_holds (at_least (side_form turned f b)) point) ∙ q.0) in
+    (subst (λ (z : ℤ). pos 0 ≤ℤ z) (side_value turned f b point) up, sides_to turned f bs point q.1)
+
+sides_from : (turned : Bool) (f : Affine) (bs : List Bound) (point : List ℤ)
+    → OnSide turned bs point (value_of f point) → all_hold (side_tests turned f bs) point ≡ true
+sides_from turned f [] point on = refl
+sides_from turned f (b ∷ bs) point on =
+    let side = side_form turned f b in
+    let up = le_z_holds (pos 0) (value_of side point)
+    (subst (λ (z : ℤ). pos 0 ≤ℤ z) (sym (side_value turned f b point)) on.0) in
+    ap₂ (λ (x y : Bool). if x then y else false) (rounded_holds (at_least side) point ∙ up)
+    (sides_from turned f bs point on.1)
+
+pub sides_flat : (turned : Bool) (f : Affine) (bs : List Bound) (tests : List Test) → AreTests tests
+    → AreTests (side_tests turned f bs ++ tests)
+sides_flat turned f [] tests h = h
+sides_flat turned f (b ∷ bs) tests h = (test_flat (at_least (side_form turned f b)) tt, sides_flat turned f bs tests h)
+
+-- the loop's first and last value where the tests hold; where they do not, there is none
+pub record AtMostOnce (low high : Bounds) (f : Affine) (tests : List Test) (point : List ℤ) : Type 0 where
+  pub first : all_hold tests point ≡ true → lower low point ≡ value_of f point
+  pub last : all_hold tests point ≡ true → upper high point ≡ value_of f point
+  pub never : all_hold tests point ≡ false → upper high point <ℤ lower low point
+
+pub at_most_once : (n : ℕ) (f : Affine) (low high : Bounds) (tests : List Test) (point : List ℤ)
+    → IsOnce n f low high tests → AreBounds low → AreBounds high → AtMostOnce low high f tests point
+at_most_once n f low high tests point once flat_low flat_high =
+    let v = value_of f point in
+    let l = lower low point in
+    let u = upper high point in
+    let lows = side_tests true f (parts low) in
+    let highs = side_tests false f (parts high) in
+    let above = on_member true (whole f) (parts low) point l once.low (low_to low point l flat_low (omega (arith, ints)))
+    in
+    let below = on_member false (whole f) (parts high) point u once.high
+    (high_to high point u flat_high (omega (arith, ints))) in
+    let t = turned_is (v -ℤ (l *ℤ pos 1)) in
+    let o = mul_one_left (v -ℤ (u *ℤ pos 1)) in
+    let a = mul_one_right l in
+    let b = mul_one_right u in
+    let same = once.between.same point ∙ all_hold_append lows highs point in
+    let low_true : all_hold tests point ≡ true → l ≤ℤ v =
+    λ h. low_from low point v flat_low (sides_to true f (parts low) point (both _ _ (sym same ∙ h)).0) in
+    let high_true : all_hold tests point ≡ true → v ≤ℤ u =
+    λ h. high_from high point v flat_high (sides_to false f (parts high) point (both _ _ (sym same ∙ h)).1) in
+    record {
+      first = λ h. let k = low_true h in omega (arith, ints);
+      last = λ h. let k = high_true h in omega (arith, ints);
+      never = λ h. elim (le_or_lt l u) [
+        | inr less ↦ less
+        | inl some ↦
+            let x = sides_from true f (parts low) point (low_to low point v flat_low (omega (arith, ints))) in
+            let y = sides_from false f (parts high) point (high_to high point v flat_high (omega (arith, ints))) in
+            let yes : all_hold tests point ≡ true =
+            same ∙ ap₂ (λ (p q : Bool). if p then q else false) x y in absurd (not_both (sym yes ∙ h))
+      ];
+    }
+  where
+    not_both : true ≡ false → ⊥
+    not_both e = cc
+
+-- the parts of bounds over n variables
+pub parts_sized : (n : ℕ) (bs : Bounds) → BoundsAreOver n bs → All (λ b. IsOver n b.form) (parts bs)
+parts_sized n (only b) h = All-cons (λ b. IsOver n b.form) b [] h (All-nil (λ (b : Bound). IsOver n b.form))
+parts_sized n (besides b bs) h = All-cons (λ b. IsOver n b.form) b (parts bs) h.0 (parts_sized n bs h.1)
+
+-- a form that is one of them is over n variables
+pub member_over : (n : ℕ) (f : Affine) (bs : List Bound) → All (λ b. IsOver n b.form) bs → In (whole f) bs → IsOver n f
+member_over n f [] all i = absurd i
+member_over n f (b ∷ bs) all (inl e) =
+    subst (λ (c : Bound). IsOver n c.form) (sym e) (All-head (λ (c : Bound). IsOver n c.form) b bs all)
+member_over n f (b ∷ bs) all (inr i) = member_over n f bs (All-tail (λ (c : Bound). IsOver n c.form) b bs all) i

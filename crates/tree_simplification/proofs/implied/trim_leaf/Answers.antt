@@ -1,0 +1,10 @@
+use Rattle.std.proofs.Common.{ap, inl, inr}
+use Rattle.std.proofs.lemmas.Result.{IfOk-weaker}
+use Rattle.loop_tree.specs.View.{nodes_of}
+use Rattle.tree_simplification.proofs.implied.trim_leaf.Goals as goal
+
+pub returns-then-branch : goal.returns-then-branch
+returns-then-branch c = inr (ap nodes_of c.new.ensures.items, c.in_ok-never_speaks.ensures c.if-branch.true)
+
+pub returns : goal.returns
+returns c = IfOk-weaker c.instance_again.result _ _ (λ left is. inl is) c.instance_again.ensures

@@ -1,0 +1,10 @@
+use Rattle.std.proofs.Common.{subst, sym}
+use Rattle.loop_tree.specs.Tree.{Bound}
+use Rattle.scop_syntax.specs.Members.{In}
+use Rattle.scop_syntax.proofs.Members.{member_at}
+use Rattle.tree_simplification.proofs.single.once.is_among.Goals as goal
+
+pub returns-then-same_part : goal.returns-then-same_part
+returns-then-same_part c same =
+    subst (λ (b : Bound). In b c.args.parts.now) (sym (c.same_part.ensures c.if-same_part.true))
+    (member_at c.args.parts.now c.loop-other.other-index c.other-item.result c.other-item.is c.loop-other-test.true)

@@ -1,0 +1,40 @@
+use Rattle.std.proofs.Common.{◌≡◌, ◌++◌, ℕ, List, false, map, rules, subst, sym, true}
+use Rattle.std.specs.Prelude.{All}
+use Rattle.affine_forms.specs.Parts.{variables_of}
+use Rattle.scop_syntax.specs.Members.{In}
+use Rattle.loop_tree.specs.Shape.{IsOver}
+use Rattle.loop_tree.specs.View.{test_of}
+use Rattle.tree_simplification.specs.steps.Inlined.{AreTestsOf, side_tests, whole}
+use Rattle.tree_simplification.proofs.Once.{member_over}
+use Rattle.tree_simplification.proofs.single.once.once_between.Goals as goal
+
+pub side_tests-requires-clause-lows : goal.side_tests-requires-clause-lows
+side_tests-requires-clause-lows c =
+    let f = c.in-Some.form in
+    let lows = c.args.lows.now in
+    let known : In (whole f) lows × In (whole f) c.args.ups.now = search rules in
+    let over : variables_of f ≡ c.args.variables = member_over c.args.variables f lows c.requires.lows known.0 in
+    subst (λ (n : ℕ). All (λ b. IsOver n b.form) lows) (sym over) c.requires.lows
+
+pub side_tests-requires-clause-ups : goal.side_tests-requires-clause-ups
+side_tests-requires-clause-ups c =
+    let f = c.in-Some.form in
+    let lows = c.args.lows.now in
+    let known : In (whole f) lows × In (whole f) c.args.ups.now = search rules in
+    let over : variables_of f ≡ c.args.variables = member_over c.args.variables f lows c.requires.lows known.0 in
+    subst (λ (n : ℕ). All (λ b. IsOver n b.form) c.args.ups.now) (sym over) c.requires.ups
+
+pub returns-in_ok-tests-in-Some : goal.returns-in_ok-tests-in-Some
+returns-in_ok-tests-in-Some c =
+    let f = c.in-Some.form in
+    let lows = c.args.lows.now in
+    let ups = c.args.ups.now in
+    let known : In (whole f) lows × In (whole f) ups = search rules in
+    let over : variables_of f ≡ c.args.variables = member_over c.args.variables f lows c.requires.lows known.0 in
+    record {
+      over = over;
+      low = known.0;
+      high = known.1;
+      between = subst (λ (n : ℕ). AreTestsOf n (side_tests true f lows ++ side_tests false f ups)
+          (map test_of c.in_ok-tests-in-Some.tests.items)) over c.in_ok-tests-in-Some.ensures;
+    }

@@ -1,0 +1,5 @@
+use Rattle.std.specs.Prelude.{⊤}
+use Rattle.tree_simplification.proofs.single.once.shared_form.Given as goal
+
+abbrev pub invariant-loop-part : goal.invariant-loop-part
+invariant-loop-part l = ⊤

@@ -1,0 +1,16 @@
+use Rattle.std.proofs.Common.{List, [], ap, map, subst, sym, true}
+use Rattle.affine_forms.specs.Parts.{variables_of}
+use Rattle.loop_tree.specs.Tree.{Test}
+use Rattle.loop_tree.specs.View.{test_of}
+use Rattle.loop_tree.specs.declared.tree.Test.{Test as CodeTest}
+use Rattle.tree_simplification.specs.steps.Inlined.{AreTestsOf, side_tests}
+use Rattle.tree_simplification.proofs.Heads.{no_tests}
+use Rattle.tree_simplification.proofs.single.once.side_tests.Goals as goal
+
+pub returns : goal.returns
+returns c =
+    let f = c.args.form.now in
+    let n = variables_of f in
+    let start = subst (λ (ts : List CodeTest). AreTestsOf n [] (map test_of ts)) (sym c.new-tests.ensures.items)
+    (no_tests n) in
+    c.in_ok-push_side-2.ensures (side_tests true f c.args.lows.now) (c.in_ok-push_side.ensures [] start)
