@@ -1,5 +1,5 @@
 use Rattle.std.proofs.Common.{take}
-use Rattle.std.specs.Prelude.{ℤ, List, All, ⊥}
+use Rattle.std.specs.Prelude.{ℤ, List, All}
 use Rattle.pip_solver.specs.Emptiness.{IsBoundedPoint}
 use Rattle.polypar.proofs.index_check.all_have_none.Given as goal
 
