@@ -1,6 +1,6 @@
 -- Parts of a node, cut by the rows of one set after another.
 use Rattle.std.proofs.Common.{◌≡◌, ℕ, zero, suc, ◌+◌, ◌<◌, Bool, true, false, ℤ, pos, negsuc, List, [], ◌∷◌, ◌++◌}
-use Rattle.std.proofs.Common.{length, take, get_or, ◌⊎◌, inl, inr, refl, sym, ap, subst, ◌∙◌, All, arith, length-append}
+use Rattle.std.proofs.Common.{length, take, get_or, ◌⊎◌, inl, inr, refl, sym, ap, subst, ◌∙◌, All, arith}
 use Rattle.std.specs.Prelude.{◌≤ℤ◌, ◌<ℤ◌, not}
 use Rattle.std.specs.Bool.{IsTrue}
 use Rattle.std.proofs.lemmas.Int.{ints}
@@ -18,7 +18,7 @@ use Rattle.plain_scan.specs.declared.outline.Shadow.{Shadow}
 use Rattle.plain_scan.specs.declared.set_outline.Outline.{Outline}
 use Rattle.plain_scan.specs.Hulls.{IsAlike, sets_in}
 use Rattle.plain_scan.proofs.CodeBounds.{take_next}
-use Rattle.plain_scan.proofs.Pieces.{all_append, append_all}
+use Rattle.plain_scan.proofs.Pieces.{all_append}
 use Rattle.plain_scan.proofs.HullLoops.{row_holds}
 use Rattle.fm_projection.specs.Alone.{AreInRange}
 use Rattle.split_scan.specs.Questions.{IsCut, IsVoid}
@@ -54,7 +54,7 @@ staying_false (true ∷ bs) (t ∷ sets) s params r next never (inl h) = inl h
 staying_false (true ∷ bs) (t ∷ sets) s params r next never (inr h) = inr (staying_false bs sets s params r next never h)
 staying_false (false ∷ bs) (t ∷ sets) s params r next never h = staying_false bs sets s params r next never h
 
--- a row or its complement holds, and not both
+-- a row or its complement holds
 one_side : (f : Affine) (point : List ℤ) → (pos 0 ≤ℤ value_of f point) ⊎ (pos 0 ≤ℤ value_of (complement f) point)
 one_side f point = by_order (le_or_lt (pos 0) (value_of f point))
   where
@@ -62,9 +62,6 @@ one_side f point = by_order (le_or_lt (pos 0) (value_of f point))
         → (pos 0 ≤ℤ value_of f point) ⊎ (pos 0 ≤ℤ value_of (complement f) point)
     by_order (inl h) = inl h
     by_order (inr h) = let e = value_of-complement f point in inr (omega (arith, ints, h, e))
-
-both_sides : (f : Affine) (point : List ℤ) → pos 0 ≤ℤ value_of f point → pos 0 ≤ℤ value_of (complement f) point → ⊥
-both_sides f point a b = let e = value_of-complement f point in omega (arith, ints, a, b, e)
 
 pub complement_cut : (m n : ℕ) (f : Affine) → IsCut m n f → HasSmallNumbers (complement f) → IsCut m n (complement f)
 complement_cut m n f is small = record {

@@ -1,9 +1,7 @@
-use Rattle.std.proofs.Common.{◌≡◌, ◌+◌, ◌++◌, [], ◌∷◌, ◌∙◌, ap, subst, sym, rules, All, arith, length, length-append}
-use Rattle.whole_numbers.specs.Affine.{Affine}
+use Rattle.std.proofs.Common.{◌≡◌, ◌+◌, ◌++◌, [], ◌∷◌, ◌∙◌, ap, subst, sym, rules, arith, length, length-append}
 use Rattle.plain_scan.specs.Hulls.{IsAlike, sets_in}
 use Rattle.plain_scan.specs.declared.outline.Shadow.{Shadow}
 use Rattle.plain_scan.specs.declared.set_outline.Outline.{Outline}
-use Rattle.split_scan.specs.Questions.{IsVoid}
 use Rattle.split_scan.specs.Parts.{Keeps}
 use Rattle.std.specs.Prelude.{not}
 use Rattle.split_scan.proofs.NodeParts.{implied_rows, keeps_mark, next_at}
