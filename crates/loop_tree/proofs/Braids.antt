@@ -20,8 +20,8 @@ use Rattle.loop_tree.specs.Stretches.{following, left_of}
 use Rattle.loop_tree.specs.Tree.{Tree, Trees, guard, instance, loop, more, none}
 use Rattle.loop_tree.specs.View.{nodes_of, tree_of}
 use Rattle.loop_tree.specs.Walk.{Visit, along, given, walk_all}
-use Rattle.loop_tree.specs.steps.Going.{HasTurned}
-use Rattle.loop_tree.specs.steps.Passing.{AreLeaves, shown_along}
+use Rattle.loop_tree.specs.steps.Going.{CanTurn, HasTurned, rest_from}
+use Rattle.loop_tree.specs.steps.Passing.{AreLeaves, CanPass, IsSpent, passed_by, shown_along}
 use Rattle.loop_tree.specs.declared.braid.Braid.{Braid}
 use Rattle.loop_tree.specs.declared.stretch.Stretch.{Stretch}
 use Rattle.loop_tree.specs.declared.tree.Node.{Node}
@@ -199,6 +199,43 @@ turned_leaves body ms x y last is params outer leaves up within over shown =
           (sym (rest_done body ms y last params outer within (over params (outer ++ y ∷ [])))));
       up = up;
       stands = λ h. at_leaves body ms params (outer ++ y ∷ []) leaves;
+    }
+
+-- where nothing is passed by
+pub spent_passed : (s : Stretch) (b : Braid) → IsSpent s b → passed_by s b ≡ []
+spent_passed s b spent =
+    ap₂ (λ (is js : List Instance). is ++ js) (nothing_left s spent.stretch) spent.nothing
+
+pub spent_can : (s : Stretch) (b : Braid) → IsSpent s b → CanPass s b
+spent_can s b spent =
+    record {
+      held = subst (λ (is : List Instance). All IsHeld is) (sym (nothing_left s spent.stretch)) (All-nil IsHeld);
+      braid = spent.braid;
+    }
+
+pub turned_spent : (body : Trees) (ms : List Mark) (x last : ℤ) (s : Stretch) (b : Braid) (params outer : List ℤ)
+    → CanTurn body ms x last params outer → IsSpent s b
+    → HasTurned body x ms x ms last (passed_by s b) params outer
+turned_spent body ms x last s b params outer can spent =
+    record {
+      rest = ap (λ (is : List Instance). is ++ rest_from body ms x last params outer) (sym (spent_passed s b spent));
+      up = omega (arith, ints);
+      stands = can.stands;
+    }
+
+-- one that was found, and those that are then passed by
+pub turned_then : (body : Trees) (x : ℤ) (ms : List Mark) (y z last : ℤ) (new : List Mark) (i : Instance)
+    (is js : List Instance) (params outer : List ℤ) → is ≡ [] → HasTurned body x ms y new last (i ∷ is) params outer
+    → HasTurned body y new z new last js params outer → HasTurned body x ms z new last (i ∷ js) params outer
+turned_then body x ms y z last new i is js params outer nothing first behind =
+    let to = first.up in
+    let on = behind.up in
+    record {
+      rest = first.rest
+          ∙ (ap (λ (ks : List Instance). i ∷ (ks ++ rest_from body new y last params outer)) nothing
+          ∙ ap (λ (ks : List Instance). i ∷ ks) behind.rest);
+      up = omega (arith, ints, to, on);
+      stands = behind.stands;
     }
 
 -- nothing is to come where the last node is a leaf that was begun

@@ -1,11 +1,12 @@
 //! The end of the loop that a place stands in, where a few instances are all that it has in it: the marks go there at
 //! once, and the instances that they pass by are told as a stretch or a braid.
 ghost use Rattle.std.specs.Prelude.{◌≡◌, ◌≤◌, ◌<◌, ◌+ℤ◌, ◌-ℤ◌, ◌≤ℤ◌, ◌++◌, ◌∷◌, [], IfSome, IsSome, IsTrue, List};
-ghost use Rattle.std.specs.Prelude.{ℤ, get_or, length, map, pos, take, true};
+ghost use Rattle.std.specs.Prelude.{ℤ, false, get_or, length, map, pos, take, true};
 ghost use Rattle.scop_syntax.specs.View.{instance_of};
 ghost use Rattle.loop_tree.specs.steps.Chain.{values_in};
 ghost use Rattle.loop_tree.specs.steps.Going.{CanTurn, HasTurned};
-ghost use Rattle.loop_tree.specs.steps.Passing.{AreLeaves, CanPass, IsAlone, IsOf, passed_by, passed_in, shown_along};
+ghost use Rattle.loop_tree.specs.steps.Passing.{AreLeaves, CanPass, IsAlone, IsOf, IsSpent, passed_by, shown_along};
+ghost use Rattle.loop_tree.specs.steps.Passing.{shown_in};
 ghost use Rattle.loop_tree.specs.steps.Stepping.{steps_of};
 ghost use Rattle.loop_tree.specs.Braids.{IsBraid, left_of_braid};
 ghost use Rattle.loop_tree.specs.Conditions.{CanWalk};
@@ -24,13 +25,6 @@ use crate::walking::instance_at;
 use arrayvec::ArrayVec;
 use scop_syntax::instance::{Instance, MAX_LOOPS};
 use scop_syntax::tree::Aff;
-
-/// What marks pass by within a loop: the instances of one leaf, or those of several in turn.
-#[derive(Clone, Copy)]
-pub(crate) enum Passed {
-    Straight(Stretch),
-    Braided(Braid),
-}
 
 /// The first of some numbers; 0 where there is none.
 #[inline]
@@ -79,6 +73,9 @@ fn steps_within(forms: &[Aff], outer: &Outer) -> [i64; MAX_LOOPS]
 fn way_up(from: i128, to: i128) -> Option<u64>
     ensures { IfSome result (λ n. pos n ≡ to -ℤ from) }
 {
+    if to <= from {
+        return None;
+    }
     match to.checked_sub(from) {
         None => None,
         Some(way) => u64::try_from(way).ok(),
@@ -155,10 +152,24 @@ fn is_over(nodes: &[Node], marks: &[Mark]) -> bool
     }
 }
 
-/// So many instances of a leaf behind one at a value of the loop within these.
+/// Whether something is left of a stretch or a braid.
+#[inline]
+fn has_left(stretch: &Stretch, braid: &Braid) -> bool
+    requires { IsBraid braid.now }
+    ensures { result ≡ false → IsSpent stretch.now braid.now }
+{
+    if stretch.left > 0 {
+        return true;
+    }
+    braid.strands[braid.at].left > 0
+}
+
+/// So many instances of a leaf behind this one, which stands at a value of the loop within these.
+#[inline]
 fn stretch_behind(leaf: &Leaf, before: Instance, left: u64, outer: &Outer) -> Stretch
     requires { length leaf.now.turns.items ≤ 5 }
-    ensures { (params : List ℤ) (x : ℤ)
+    ensures before { result.before ≡ before }
+    ensures rest { (params : List ℤ) (x : ℤ)
         → IsOf leaf.now.statement leaf.now.turns.items (instance_of before) params (values_in outer.now ++ x ∷ [])
         → left_of result ≡ shown_along (more (leaf_in leaf.now.statement leaf.now.turns.items) none) params
         (values_in outer.now) (x +ℤ pos 1) left }
@@ -229,121 +240,106 @@ fn braid_behind(
 
 /// So many instances of nodes behind those at a value, the last of which was found, where the nodes are a few leaves.
 fn leaves_behind(
-    found: &Instance,
     nodes: &[Node],
     value: i128,
     left: u64,
     outer: &Outer,
     params: &[i64],
-) -> Option<Passed>
+    stretch: &mut Stretch,
+    braid: &mut Braid,
+) -> bool
     requires walk { (y : ℤ) → value ≤ℤ y → y ≤ℤ (value +ℤ pos left)
         → CanWalk (nodes_of nodes.now) params.now (values_in outer.now ++ y ∷ []) }
-    requires alone { IsAlone (nodes_of nodes.now) (instance_of found.now) params.now
+    requires alone { IsAlone (nodes_of nodes.now) (instance_of stretch.old.before) params.now
         (values_in outer.now ++ value ∷ []) }
-    ensures leaves { IsSome result → AreLeaves (nodes_of nodes.now) }
-    ensures rest { IfSome result (λ p. passed_by p ≡ shown_along (nodes_of nodes.now) params.now
-        (values_in outer.now) (value +ℤ pos 1) left) }
-    ensures held { IfSome result CanPass }
+    requires spent { IsSpent stretch.old braid.old }
+    ensures before { stretch.new.before ≡ stretch.old.before }
+    ensures none { result ≡ false → IsSpent stretch.new braid.new }
+    ensures leaves { result ≡ true → AreLeaves (nodes_of nodes.now) }
+    ensures rest { result ≡ true → passed_by stretch.new braid.new ≡ shown_along (nodes_of nodes.now) params.now
+        (values_in outer.now) (value +ℤ pos 1) left }
+    ensures held { result ≡ true → CanPass stretch.new braid.new }
 {
     if let Some(leaf) = leaf_alone(nodes) {
-        let stretch = stretch_behind(leaf, *found, left, outer);
-        return Some(Passed::Straight(stretch));
+        *stretch = stretch_behind(leaf, stretch.before, left, outer);
+        return true;
     }
     if nodes.is_empty() || nodes.len() > MOST_STRANDS {
-        return None;
+        return false;
     }
     match braid_behind(nodes, value, left, outer, params) {
-        None => None,
-        Some(braid) => Some(Passed::Braided(braid)),
+        None => false,
+        Some(found) => {
+            *braid = found;
+            true
+        }
     }
 }
 
 /// Goes to the last value of a loop that has a few leaves in it and nothing else, from behind those at a value.
 fn pass_leaves(
-    found: &Instance,
     body: &[Node],
     mark: &mut Mark,
     deeper: &[Mark],
     outer: &Outer,
     params: &[i64],
-) -> Option<Passed>
-    requires turn { CanTurn (nodes_of body.now) (marks_of deeper.now) mark.old.value mark.old.last params.now
-        (values_in outer.now) }
-    requires within { mark.old.value ≤ℤ mark.old.last }
-    requires alone { IsAlone (nodes_of body.now) (instance_of found.now) params.now
-        (values_in outer.now ++ mark.old.value ∷ []) }
-    requires over { (ps vs : List ℤ) → rest_of (nodes_of body.now) (marks_of deeper.now) ps vs ≡ [] }
-    ensures gone { HasTurned (nodes_of body.now) mark.old.value (marks_of deeper.now) mark.new.value
-        (marks_of deeper.now) mark.old.last (passed_in result) params.now (values_in outer.now) }
-    ensures held { IfSome result CanPass }
-    ensures place { mark.new.place ≡ mark.old.place }
-    ensures begun { mark.new.begun ≡ mark.old.begun }
-    ensures last { mark.new.last ≡ mark.old.last }
-{
-    let left = way_up(mark.value, mark.last)?;
-    if left == 0 {
-        return None;
-    }
-    let passed = leaves_behind(found, body, mark.value, left, outer, params)?;
-    mark.value = mark.last;
-    Some(passed)
-}
-
-/// The same where the nodes are over at the marks within them.
-fn pass_turn(
-    found: &Instance,
-    body: &[Node],
-    mark: &mut Mark,
-    deeper: &[Mark],
-    outer: &Outer,
-    params: &[i64],
-) -> Option<Passed>
-    requires turn { CanTurn (nodes_of body.now) (marks_of deeper.now) mark.old.value mark.old.last params.now
-        (values_in outer.now) }
-    requires within { mark.old.value ≤ℤ mark.old.last }
-    requires alone { IsAlone (nodes_of body.now) (instance_of found.now) params.now
-        (values_in outer.now ++ mark.old.value ∷ []) }
-    ensures gone { HasTurned (nodes_of body.now) mark.old.value (marks_of deeper.now) mark.new.value
-        (marks_of deeper.now) mark.old.last (passed_in result) params.now (values_in outer.now) }
-    ensures held { IfSome result CanPass }
-    ensures place { mark.new.place ≡ mark.old.place }
-    ensures begun { mark.new.begun ≡ mark.old.begun }
-    ensures last { mark.new.last ≡ mark.old.last }
-{
-    if !is_over(body, deeper) {
-        return None;
-    }
-    pass_leaves(found, body, mark, deeper, outer, params)
-}
-
-/// The same behind an instance that was found at the mark's value, unless something was passed by behind it already.
-pub(crate) fn pass_more(
-    passed: &mut Option<Passed>,
-    found: &Instance,
-    body: &[Node],
-    mark: &mut Mark,
-    deeper: &[Mark],
-    outer: &Outer,
-    params: &[i64],
+    stretch: &mut Stretch,
+    braid: &mut Braid,
 )
     requires turn { CanTurn (nodes_of body.now) (marks_of deeper.now) mark.old.value mark.old.last params.now
         (values_in outer.now) }
     requires within { mark.old.value ≤ℤ mark.old.last }
-    requires alone { IsAlone (nodes_of body.now) (instance_of found.now) params.now
+    requires alone { IsAlone (nodes_of body.now) (instance_of stretch.old.before) params.now
         (values_in outer.now ++ mark.old.value ∷ []) }
-    requires held { IfSome passed.old CanPass }
-    ensures gone { (x : ℤ) (ms : List PlainMark)
-        → HasTurned (nodes_of body.now) x ms mark.old.value (marks_of deeper.now) mark.old.last
-        (instance_of found.now ∷ passed_in passed.old) params.now (values_in outer.now)
-        → HasTurned (nodes_of body.now) x ms mark.new.value (marks_of deeper.now) mark.old.last
-        (instance_of found.now ∷ passed_in passed.new) params.now (values_in outer.now) }
-    ensures held { IfSome passed.new CanPass }
+    requires over { (ps vs : List ℤ) → rest_of (nodes_of body.now) (marks_of deeper.now) ps vs ≡ [] }
+    requires spent { IsSpent stretch.old braid.old }
+    ensures gone { HasTurned (nodes_of body.now) mark.old.value (marks_of deeper.now) mark.new.value
+        (marks_of deeper.now) mark.old.last (passed_by stretch.new braid.new) params.now (values_in outer.now) }
+    ensures before { stretch.new.before ≡ stretch.old.before }
+    ensures held { CanPass stretch.new braid.new }
     ensures place { mark.new.place ≡ mark.old.place }
     ensures begun { mark.new.begun ≡ mark.old.begun }
     ensures last { mark.new.last ≡ mark.old.last }
 {
-    if passed.is_some() {
+    let Some(left) = way_up(mark.value, mark.last) else {
+        return;
+    };
+    if leaves_behind(body, mark.value, left, outer, params, stretch, braid) {
+        mark.value = mark.last;
+    }
+}
+
+/// The same behind an instance that was found at the mark's value, where the nodes are over at the marks within them,
+/// unless something was passed by behind it already.
+pub(crate) fn pass_more(
+    body: &[Node],
+    mark: &mut Mark,
+    deeper: &[Mark],
+    outer: &Outer,
+    params: &[i64],
+    stretch: &mut Stretch,
+    braid: &mut Braid,
+)
+    requires turn { CanTurn (nodes_of body.now) (marks_of deeper.now) mark.old.value mark.old.last params.now
+        (values_in outer.now) }
+    requires within { mark.old.value ≤ℤ mark.old.last }
+    requires alone { IsAlone (nodes_of body.now) (instance_of stretch.old.before) params.now
+        (values_in outer.now ++ mark.old.value ∷ []) }
+    requires held { CanPass stretch.old braid.old }
+    ensures gone { (x : ℤ) (ms : List PlainMark)
+        → HasTurned (nodes_of body.now) x ms mark.old.value (marks_of deeper.now) mark.old.last
+        (shown_in true stretch.old braid.old) params.now (values_in outer.now)
+        → HasTurned (nodes_of body.now) x ms mark.new.value (marks_of deeper.now) mark.old.last
+        (shown_in true stretch.new braid.new) params.now (values_in outer.now) }
+    ensures held { CanPass stretch.new braid.new }
+    ensures place { mark.new.place ≡ mark.old.place }
+    ensures begun { mark.new.begun ≡ mark.old.begun }
+    ensures last { mark.new.last ≡ mark.old.last }
+{
+    if has_left(stretch, braid) {
         return;
     }
-    *passed = pass_turn(found, body, mark, deeper, outer, params);
+    if is_over(body, deeper) {
+        pass_leaves(body, mark, deeper, outer, params, stretch, braid);
+    }
 }

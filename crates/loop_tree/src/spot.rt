@@ -26,7 +26,7 @@ ghost use Rattle.std.specs.Prelude.{
 };
 ghost use Rattle.loop_tree.specs.steps.Chain.{values_in};
 ghost use Rattle.loop_tree.specs.steps.Going.{CanGo, CanTurn, HasGone, HasTurned, alone, rest_from, restarted};
-ghost use Rattle.loop_tree.specs.steps.Passing.{CanPass, passed_in, shown_in};
+ghost use Rattle.loop_tree.specs.steps.Passing.{CanPass, IsSpent, shown_in};
 ghost use Rattle.loop_tree.specs.Braids.{IsBraid, left_of_braid};
 ghost use Rattle.loop_tree.specs.Conditions.{CanWalk, IsHeld};
 ghost use Rattle.loop_tree.specs.Fits.{BoundsFit, TestsFit};
@@ -41,7 +41,7 @@ ghost use Rattle.loop_tree.specs.Walk.{all_hold as tests_hold, lower, upper, vis
 use crate::braid::Braid;
 use crate::guards::plus;
 use crate::outer::Outer;
-use crate::passing::{Passed, pass_more};
+use crate::passing::pass_more;
 use crate::ranges::{all_hold, lower_at, upper_at};
 use crate::stretch::Stretch;
 use crate::tree::{Guard, Loop, Node, Tree};
@@ -182,25 +182,29 @@ fn lets_pass(guard: &Guard, begun: bool, outer: &Outer, params: &[i64]) -> bool
     all_hold(&guard.tests, outer, params)
 }
 
-/// The next instance of nodes, and what the marks pass by behind it.
+/// Whether there is a next instance of nodes, which is then put in front of the stretch; and what the marks pass by
+/// behind it, as the stretch or the braid.
 #[cycle(going)]
 fn next_of(
     nodes: &[Node],
     marks: &mut [Mark],
     outer: &Outer,
     params: &[i64],
-    passed: &mut Option<Passed>,
-) -> Option<Instance>
-    requires { CanGo (nodes_of nodes.now) (marks_of marks.old) params.now (values_in outer.now) }
-    ensures gone { HasGone (nodes_of nodes.now) (marks_of marks.old) (marks_of marks.new) (shown_in result passed.new) params.now
-        (values_in outer.now) }
-    ensures held { IsSome result → IfSome passed.new CanPass }
-    ensures none { IsNone result
+    stretch: &mut Stretch,
+    braid: &mut Braid,
+) -> bool
+    requires go { CanGo (nodes_of nodes.now) (marks_of marks.old) params.now (values_in outer.now) }
+    requires spent { IsSpent stretch.old braid.old }
+    ensures gone { HasGone (nodes_of nodes.now) (marks_of marks.old) (marks_of marks.new)
+        (shown_in result stretch.new braid.new) params.now (values_in outer.now) }
+    ensures ready { result ≡ false → IsSpent stretch.new braid.new }
+    ensures held { result ≡ true → CanPass stretch.new braid.new }
+    ensures none { result ≡ false
         → rest_of (nodes_of nodes.now) (marks_of marks.old) params.now (values_in outer.now) ≡ [] }
 {
     match marks.split_first_mut() {
-        None => None,
-        Some((mark, deeper)) => next_from(nodes, mark, deeper, outer, params, passed),
+        None => false,
+        Some((mark, deeper)) => next_from(nodes, mark, deeper, outer, params, stretch, braid),
     }
 }
 
@@ -212,26 +216,27 @@ fn next_from(
     deeper: &mut [Mark],
     outer: &Outer,
     params: &[i64],
-    passed: &mut Option<Passed>,
-) -> Option<Instance>
-    requires { CanGo (nodes_of nodes.now) (marks_of (mark.old ∷ deeper.old)) params.now (values_in outer.now) }
+    stretch: &mut Stretch,
+    braid: &mut Braid,
+) -> bool
+    requires go { CanGo (nodes_of nodes.now) (marks_of (mark.old ∷ deeper.old)) params.now (values_in outer.now) }
+    requires spent { IsSpent stretch.old braid.old }
     ensures gone { HasGone (nodes_of nodes.now) (marks_of (mark.old ∷ deeper.old)) (marks_of (mark.new ∷ deeper.new))
-        (shown_in result passed.new) params.now (values_in outer.now) }
-    ensures held { IsSome result → IfSome passed.new CanPass }
-    ensures none { IsNone result
+        (shown_in result stretch.new braid.new) params.now (values_in outer.now) }
+    ensures ready { result ≡ false → IsSpent stretch.new braid.new }
+    ensures held { result ≡ true → CanPass stretch.new braid.new }
+    ensures none { result ≡ false
         → rest_of (nodes_of nodes.now) (marks_of (mark.old ∷ deeper.old)) params.now (values_in outer.now) ≡ [] }
 {
     while mark.place < nodes.len() {
         let node = &nodes[mark.place];
-        match next_in(node, mark, deeper, outer, params, passed) {
-            Some(instance) => return Some(instance),
-            None => {
-                mark.place += 1;
-                mark.begun = false;
-            }
+        if next_in(node, mark, deeper, outer, params, stretch, braid) {
+            return true;
         }
+        mark.place += 1;
+        mark.begun = false;
     }
-    None
+    false
 }
 
 /// The next instance of the node at a mark.
@@ -242,37 +247,40 @@ fn next_in(
     deeper: &mut [Mark],
     outer: &Outer,
     params: &[i64],
-    passed: &mut Option<Passed>,
-) -> Option<Instance>
-    requires { CanGo (more (tree_of node.now) none) (alone (mark_of mark.old) (marks_of deeper.old)) params.now
+    stretch: &mut Stretch,
+    braid: &mut Braid,
+) -> bool
+    requires go { CanGo (more (tree_of node.now) none) (alone (mark_of mark.old) (marks_of deeper.old)) params.now
         (values_in outer.now) }
-    ensures gone { IsSome result → HasGone (more (tree_of node.now) none)
+    requires spent { IsSpent stretch.old braid.old }
+    ensures gone { result ≡ true → HasGone (more (tree_of node.now) none)
         (alone (mark_of mark.old) (marks_of deeper.old)) (alone (mark_of mark.new) (marks_of deeper.new))
-        (shown_in result passed.new) params.now (values_in outer.now) }
-    ensures held { IsSome result → IfSome passed.new CanPass }
-    ensures none { IsNone result → rest_of (more (tree_of node.now) none)
+        (shown_in true stretch.new braid.new) params.now (values_in outer.now) }
+    ensures ready { result ≡ false → IsSpent stretch.new braid.new }
+    ensures held { result ≡ true → CanPass stretch.new braid.new }
+    ensures none { result ≡ false → rest_of (more (tree_of node.now) none)
         (alone (mark_of mark.old) (marks_of deeper.old)) params.now (values_in outer.now) ≡ [] }
     ensures place { mark.new.place ≡ mark.old.place }
     ensures room { length deeper.new ≡ length deeper.old }
-    ensures begun { IsSome result → mark.new.begun ≡ true }
+    ensures begun { result ≡ true → mark.new.begun ≡ true }
 {
     match node {
-        Node::Loop(head, body) => next_loop(head, body, mark, deeper, outer, params, passed),
+        Node::Loop(head, body) => next_loop(head, body, mark, deeper, outer, params, stretch, braid),
         Node::Guard(guard, body) => {
             if lets_pass(guard, mark.begun, outer, params) {
                 begin_guard(mark, deeper);
-                next_of(body, deeper, outer, params, passed)
+                next_of(body, deeper, outer, params, stretch, braid)
             } else {
-                None
+                false
             }
         }
         Node::Instance(leaf) => {
             if mark.begun {
-                return None;
+                return false;
             }
             begin(mark, 0, 0, deeper);
-            *passed = None;
-            Some(instance_at(leaf, outer, params))
+            stretch.before = instance_at(leaf, outer, params);
+            true
         }
     }
 }
@@ -286,24 +294,27 @@ fn next_loop(
     deeper: &mut [Mark],
     outer: &Outer,
     params: &[i64],
-    passed: &mut Option<Passed>,
-) -> Option<Instance>
-    requires { CanGo (more (loops head.now.parallel (bounds_in head.now.lower) (bounds_in head.now.upper)
+    stretch: &mut Stretch,
+    braid: &mut Braid,
+) -> bool
+    requires go { CanGo (more (loops head.now.parallel (bounds_in head.now.lower) (bounds_in head.now.upper)
         (nodes_of body.now)) none) (alone (mark_of mark.old) (marks_of deeper.old)) params.now (values_in outer.now) }
-    ensures gone { IsSome result → HasGone (more (loops head.now.parallel (bounds_in head.now.lower)
+    requires spent { IsSpent stretch.old braid.old }
+    ensures gone { result ≡ true → HasGone (more (loops head.now.parallel (bounds_in head.now.lower)
         (bounds_in head.now.upper) (nodes_of body.now)) none)
         (alone (mark_of mark.old) (marks_of deeper.old)) (alone (mark_of mark.new) (marks_of deeper.new))
-        (shown_in result passed.new) params.now (values_in outer.now) }
-    ensures held { IsSome result → IfSome passed.new CanPass }
-    ensures none { IsNone result → rest_of (more (loops head.now.parallel (bounds_in head.now.lower)
+        (shown_in true stretch.new braid.new) params.now (values_in outer.now) }
+    ensures ready { result ≡ false → IsSpent stretch.new braid.new }
+    ensures held { result ≡ true → CanPass stretch.new braid.new }
+    ensures none { result ≡ false → rest_of (more (loops head.now.parallel (bounds_in head.now.lower)
         (bounds_in head.now.upper) (nodes_of body.now)) none)
         (alone (mark_of mark.old) (marks_of deeper.old)) params.now (values_in outer.now) ≡ [] }
     ensures place { mark.new.place ≡ mark.old.place }
     ensures room { length deeper.new ≡ length deeper.old }
-    ensures begun { IsSome result → mark.new.begun ≡ true }
+    ensures begun { result ≡ true → mark.new.begun ≡ true }
 {
     begin_loop(head, mark, deeper, outer, params);
-    next_turn(body, mark, deeper, outer, params, passed)
+    next_turn(body, mark, deeper, outer, params, stretch, braid)
 }
 
 /// The next instance of a loop's body from the value at a mark on.
@@ -314,14 +325,17 @@ fn next_turn(
     deeper: &mut [Mark],
     outer: &Outer,
     params: &[i64],
-    passed: &mut Option<Passed>,
-) -> Option<Instance>
-    requires { CanTurn (nodes_of body.now) (marks_of deeper.old) mark.old.value mark.old.last params.now
+    stretch: &mut Stretch,
+    braid: &mut Braid,
+) -> bool
+    requires turn { CanTurn (nodes_of body.now) (marks_of deeper.old) mark.old.value mark.old.last params.now
         (values_in outer.now) }
-    ensures gone { IsSome result → HasTurned (nodes_of body.now) mark.old.value (marks_of deeper.old) mark.new.value
-        (marks_of deeper.new) mark.old.last (shown_in result passed.new) params.now (values_in outer.now) }
-    ensures held { IsSome result → IfSome passed.new CanPass }
-    ensures none { IsNone result
+    requires spent { IsSpent stretch.old braid.old }
+    ensures gone { result ≡ true → HasTurned (nodes_of body.now) mark.old.value (marks_of deeper.old) mark.new.value
+        (marks_of deeper.new) mark.old.last (shown_in true stretch.new braid.new) params.now (values_in outer.now) }
+    ensures ready { result ≡ false → IsSpent stretch.new braid.new }
+    ensures held { result ≡ true → CanPass stretch.new braid.new }
+    ensures none { result ≡ false
         → rest_from (nodes_of body.now) (marks_of deeper.old) mark.old.value mark.old.last params.now
         (values_in outer.now) ≡ [] }
     ensures place { mark.new.place ≡ mark.old.place }
@@ -330,21 +344,17 @@ fn next_turn(
     ensures room { length deeper.new ≡ length deeper.old }
 {
     while mark.value <= mark.last {
-        match next_within(body, mark.value, deeper, outer, params, passed) {
-            Some(instance) => {
-                pass_more(passed, &instance, body, mark, deeper, outer, params);
-                return Some(instance);
-            }
-            None => {
-                if mark.last <= mark.value {
-                    return None;
-                }
-                mark.value += 1;
-                restart(deeper);
-            }
+        if next_within(body, mark.value, deeper, outer, params, stretch, braid) {
+            pass_more(body, mark, deeper, outer, params, stretch, braid);
+            return true;
         }
+        if mark.last <= mark.value {
+            return false;
+        }
+        mark.value += 1;
+        restart(deeper);
     }
-    None
+    false
 }
 
 /// The next instance of a loop's body at a value.
@@ -355,35 +365,20 @@ fn next_within(
     deeper: &mut [Mark],
     outer: &Outer,
     params: &[i64],
-    passed: &mut Option<Passed>,
-) -> Option<Instance>
-    requires { CanGo (nodes_of body.now) (marks_of deeper.old) params.now (values_in outer.now ++ value ∷ []) }
-    ensures gone { HasGone (nodes_of body.now) (marks_of deeper.old) (marks_of deeper.new) (shown_in result passed.new) params.now
-        (values_in outer.now ++ value ∷ []) }
-    ensures held { IsSome result → IfSome passed.new CanPass }
-    ensures none { IsNone result
+    stretch: &mut Stretch,
+    braid: &mut Braid,
+) -> bool
+    requires go { CanGo (nodes_of body.now) (marks_of deeper.old) params.now (values_in outer.now ++ value ∷ []) }
+    requires spent { IsSpent stretch.old braid.old }
+    ensures gone { HasGone (nodes_of body.now) (marks_of deeper.old) (marks_of deeper.new)
+        (shown_in result stretch.new braid.new) params.now (values_in outer.now ++ value ∷ []) }
+    ensures ready { result ≡ false → IsSpent stretch.new braid.new }
+    ensures held { result ≡ true → CanPass stretch.new braid.new }
+    ensures none { result ≡ false
         → rest_of (nodes_of body.now) (marks_of deeper.old) params.now (values_in outer.now ++ value ∷ []) ≡ [] }
 {
     let within = Outer::Within(&*outer, value);
-    next_of(body, deeper, &within, params, passed)
-}
-
-/// Puts what marks passed by, if anything, in place of a stretch and a braid with nothing left.
-#[inline]
-fn replace(stretch: &mut Stretch, braid: &mut Braid, passed: Option<Passed>)
-    requires stretch { left_of stretch.old ≡ [] }
-    requires braid { left_of_braid braid.old ≡ [] }
-    requires turn { IsBraid braid.old }
-    requires held { IfSome passed CanPass }
-    ensures rest { left_of stretch.new ++ left_of_braid braid.new ≡ passed_in passed }
-    ensures held { All IsHeld (left_of stretch.new) }
-    ensures braid { IsBraid braid.new }
-{
-    match passed {
-        None => {}
-        Some(Passed::Straight(found)) => *stretch = found,
-        Some(Passed::Braided(found)) => *braid = found,
-    }
+    next_of(body, deeper, &within, params, stretch, braid)
 }
 
 impl Spot {
@@ -418,13 +413,10 @@ impl Spot {
         ensures spot { IsSpotOf (nodes_of nodes.now) params.now self.new }
     {
         let marks = self.marks.as_mut_slice();
-        let mut passed = None;
-        match next_of(nodes, marks, &Outer::Top, params, &mut passed) {
-            None => None,
-            Some(found) => {
-                replace(&mut self.stretch, &mut self.braid, passed);
-                Some(found)
-            }
+        if next_of(nodes, marks, &Outer::Top, params, &mut self.stretch, &mut self.braid) {
+            Some(self.stretch.before)
+        } else {
+            None
         }
     }
 

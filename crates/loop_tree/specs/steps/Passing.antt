@@ -1,16 +1,15 @@
 -- What marks pass by within a loop.
-use Rattle.std.specs.Prelude.{◌≡◌, ℕ, ℤ, List, [], ◌∷◌, ◌++◌, map, All, Option, Some, None, ⊤}
+use Rattle.std.specs.Prelude.{◌≡◌, ℕ, ℤ, List, [], ◌∷◌, ◌++◌, map, All, Bool, false, true, ⊤}
 use Rattle.whole_numbers.specs.Affine.{Affine, values_of}
 use Rattle.scop_syntax.specs.View.{instance_of}
-use Rattle.scop_syntax.specs.declared.instance.Instance.{Instance as CodeInstance}
 use Rattle.scop_syntax.specs.Walk.{Instance}
 use Rattle.loop_tree.specs.Braids.{IsBraid, left_of_braid}
 use Rattle.loop_tree.specs.Conditions.{IsHeld}
 use Rattle.loop_tree.specs.Stretches.{left_of}
 use Rattle.loop_tree.specs.Tree.{Trees, none, more, loop, guard, instance}
 use Rattle.loop_tree.specs.Walk.{along, given, walk_all}
-use Rattle.loop_tree.specs.declared.passing.Passed.{Passed}
-use Rattle.loop_tree.specs.declared.passing.Passed.TheVariants.{Straight, Braided}
+use Rattle.loop_tree.specs.declared.braid.Braid.{Braid}
+use Rattle.loop_tree.specs.declared.stretch.Stretch.{Stretch}
 
 -- the trees are instances alone
 abbrev pub AreLeaves : Trees → Type 0
@@ -20,28 +19,28 @@ AreLeaves (more (guard tests body) ts) = ⊥
 AreLeaves (more (instance n forms) ts) = AreLeaves ts
 
 -- the instances that are passed by
-abbrev pub passed_by : Passed → List Instance
-passed_by (Straight s) = left_of s
-passed_by (Braided b) = left_of_braid b
-
--- those of one, or none
-abbrev pub passed_in : Option Passed → List Instance
-passed_in None = []
-passed_in (Some p) = passed_by p
+abbrev pub passed_by : Stretch → Braid → List Instance
+passed_by s b = left_of s ++ left_of_braid b
 
 -- they can be gone through
-abbrev pub CanPass : Passed → Type 0
-CanPass (Straight s) = All IsHeld (left_of s)
-CanPass (Braided b) = IsBraid b
+pub record CanPass (s : Stretch) (b : Braid) : Type 0 where
+  pub held : All IsHeld (left_of s)
+  pub braid : IsBraid b
+
+-- there are none
+pub record IsSpent (s : Stretch) (b : Braid) : Type 0 where
+  pub stretch : s.left ≡ 0
+  pub braid : IsBraid b
+  pub nothing : left_of_braid b ≡ []
 
 -- the instances of a loop's body at so many values from x on
 abbrev pub shown_along : Trees → List ℤ → List ℤ → ℤ → ℕ → List Instance
 shown_along body params outer x k = map given (along (λ y. walk_all body params (outer ++ y ∷ [])) x k)
 
--- one that was found, if any, and those that are passed by behind it
-abbrev pub shown_in : Option CodeInstance → Option Passed → List Instance
-shown_in None p = []
-shown_in (Some i) p = instance_of i ∷ passed_in p
+-- the one in front of the stretch, where one was found, and those that are passed by behind it
+abbrev pub shown_in : Bool → Stretch → Braid → List Instance
+shown_in false s b = []
+shown_in true s b = instance_of s.before ∷ passed_by s b
 
 -- the instance of a leaf within loops of these values
 abbrev pub IsOf : ℕ → List Affine → Instance → List ℤ → List ℤ → Type 0

@@ -1,4 +1,4 @@
-use Rattle.std.proofs.Common.{rules, ◌≡◌, ◌++◌, ◌∷◌, [], ℤ, arith, refl, subst, sym, pos}
+use Rattle.std.proofs.Common.{rules, ◌≡◌, ◌++◌, ◌∷◌, [], ℤ, arith, subst, sym, pos}
 use Rattle.std.specs.Prelude.{◌+ℤ◌, FitsSigned}
 use Rattle.std.specs.Int.{w128}
 use Rattle.std.proofs.lemmas.Int.{ints, to_z-of_z}
@@ -8,7 +8,7 @@ use Rattle.loop_tree.specs.steps.Passing.{IsAlone, passed_by, shown_along}
 use Rattle.scop_syntax.specs.View.{instance_of}
 use Rattle.loop_tree.specs.SpotView.{marks_of}
 use Rattle.loop_tree.specs.View.{nodes_of}
-use Rattle.loop_tree.proofs.Braids.{turned_leaves}
+use Rattle.loop_tree.proofs.Braids.{spent_can, turned_leaves, turned_spent}
 use Rattle.loop_tree.proofs.Stretches.{shown_up}
 use Rattle.loop_tree.proofs.passing.pass_leaves.Goals as goal
 
@@ -16,7 +16,7 @@ pub leaves_behind-requires-clause-alone : goal.leaves_behind-requires-clause-alo
 leaves_behind-requires-clause-alone c =
     let value = c.args.mark.now.value in
     let fits : FitsSigned w128 value = search rules in
-    subst (λ (x : ℤ). IsAlone (nodes_of c.args.body.now) (instance_of c.args.found.now) c.args.params.now
+    subst (λ (x : ℤ). IsAlone (nodes_of c.args.body.now) (instance_of c.args.stretch.now.before) c.args.params.now
     (values_in c.args.outer.now ++ x ∷ [])) (sym (to_z-of_z w128 value fits)) c.requires.alone
 
 pub leaves_behind-requires-clause-walk : goal.leaves_behind-requires-clause-walk
@@ -27,12 +27,12 @@ leaves_behind-requires-clause-walk c =
     let fits_last : FitsSigned w128 last = search rules in
     let v_is = to_z-of_z w128 value fits in
     let last_is = to_z-of_z w128 last fits_last in
-    let way = c.in_ok-left.ensures in
+    let way = c.in-Some.ensures in
     λ y from to.
     c.requires.turn.walk y (omega (arith, ints, from, v_is)) (omega (arith, ints, to, v_is, last_is, way))
 
-pub returns-clause-gone : goal.returns-clause-gone
-returns-clause-gone c =
+pub returns-then-leaves_behind-clause-gone : goal.returns-then-leaves_behind-clause-gone
+returns-then-leaves_behind-clause-gone c =
     let body = nodes_of c.args.body.now in
     let ms = marks_of c.args.deeper.now in
     let params = c.args.params.now in
@@ -43,12 +43,35 @@ returns-clause-gone c =
     let fits_last : FitsSigned w128 last = search rules in
     let v_is = to_z-of_z w128 value fits in
     let last_is = to_z-of_z w128 last fits_last in
-    let is = passed_by c.in_ok-passed.passed in
-    let left = c.in_ok-left.left in
-    let way = c.in_ok-left.ensures in
+    let is = passed_by c.leaves_behind.new.stretch c.leaves_behind.new.braid in
+    let left = c.in-Some.left in
+    let way = c.in-Some.ensures in
     let within = c.requires.within in
     let shown = shown_up body params outer value last left is (omega (arith, ints, way, v_is, last_is))
-    (subst (λ (x : ℤ). is ≡ shown_along body params outer (x +ℤ pos 1) left) v_is c.in_ok-passed.ensures.rest) in
+    (subst (λ (x : ℤ). is ≡ shown_along body params outer (x +ℤ pos 1) left) v_is
+    (c.leaves_behind.ensures.rest c.if-leaves_behind.true)) in
     subst (λ (z : ℤ). HasTurned body value ms z ms last is params outer) (sym last_is)
-    (turned_leaves body ms value last last is params outer (c.in_ok-passed.ensures.leaves refl) within
-    (omega (arith, ints)) c.requires.over shown)
+    (turned_leaves body ms value last last is params outer (c.leaves_behind.ensures.leaves c.if-leaves_behind.true)
+    within (omega (arith, ints)) c.requires.over shown)
+
+pub returns-else-leaves_behind-clause-gone : goal.returns-else-leaves_behind-clause-gone
+returns-else-leaves_behind-clause-gone c =
+    let m = c.args.mark.now in
+    let then = c.leaves_behind.new in
+    turned_spent (nodes_of c.args.body.now) (marks_of c.args.deeper.now) m.value m.last then.stretch then.braid
+    c.args.params.now (values_in c.args.outer.now) c.requires.turn
+    (c.leaves_behind.ensures.none c.if-leaves_behind.false)
+
+pub returns-else-leaves_behind-clause-held : goal.returns-else-leaves_behind-clause-held
+returns-else-leaves_behind-clause-held c =
+    let then = c.leaves_behind.new in
+    spent_can then.stretch then.braid (c.leaves_behind.ensures.none c.if-leaves_behind.false)
+
+pub returns-in_default-clause-gone : goal.returns-in_default-clause-gone
+returns-in_default-clause-gone c =
+    let m = c.args.mark.now in
+    turned_spent (nodes_of c.args.body.now) (marks_of c.args.deeper.now) m.value m.last c.args.stretch.now
+    c.args.braid.now c.args.params.now (values_in c.args.outer.now) c.requires.turn c.requires.spent
+
+pub returns-in_default-clause-held : goal.returns-in_default-clause-held
+returns-in_default-clause-held c = spent_can c.args.stretch.now c.args.braid.now c.requires.spent

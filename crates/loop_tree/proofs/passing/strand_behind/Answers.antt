@@ -45,5 +45,5 @@ returns-in-Some-clause-rest c =
     let within = values_at c.args.outer x (to_z w128 (of_z w128 x)) (to_z-of_z w128 x fits) in
     let before = subst (λ (vs : List ℤ). IsOf leaf.statement leaf.turns.items (instance_of c.instance_at-before.result)
     params vs) within c.instance_at-before.ensures in
-    c.stretch_behind.ensures params x before
+    c.stretch_behind.ensures.rest params x before
     ∙ ap (λ (t : Tree). shown_along (more t none) params outer (x +ℤ pos 1) c.args.left) (sym c.in-Some.ensures)

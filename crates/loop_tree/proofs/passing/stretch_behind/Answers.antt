@@ -4,8 +4,8 @@ use Rattle.loop_tree.specs.declared.stretch.Stretch.{Stretch}
 use Rattle.loop_tree.proofs.Stretches.{stretch_is}
 use Rattle.loop_tree.proofs.passing.stretch_behind.Goals as goal
 
-pub returns : goal.returns
-returns c = λ params x is.
+pub returns-clause-rest : goal.returns-clause-rest
+returns-clause-rest c = λ params x is.
     let leaf = c.args.leaf.now in
     let s : Stretch =
     record { before = c.args.before; steps = c.steps_within-steps.result; left = c.args.left } in

@@ -3,6 +3,7 @@ use Rattle.std.specs.Prelude.{◌-ℤ◌, ◌≤ℤ◌}
 use Rattle.scop_syntax.specs.Walk.{most_turns}
 use Rattle.loop_tree.specs.steps.Chain.{values_in}
 use Rattle.loop_tree.specs.steps.Going.{CanGo, CanTurn, rest_from}
+use Rattle.loop_tree.specs.steps.Passing.{IsSpent}
 use Rattle.loop_tree.specs.Spot.{rest_of}
 use Rattle.loop_tree.specs.SpotView.{marks_of}
 use Rattle.loop_tree.specs.View.{nodes_of, tree_of}
@@ -32,7 +33,7 @@ invariant-next_from-loop-mark l =
     CanGo (nodes_of l.nodes) (marks_of (l.mark ∷ l.deeper)) l.params (values_in l.outer)
     × (rest_of (nodes_of l.nodes) (marks_of (l.fn.mark ∷ l.fn.deeper)) l.params (values_in l.outer)
     ≡ rest_of (nodes_of l.nodes) (marks_of (l.mark ∷ l.deeper)) l.params (values_in l.outer))
-    × (length l.deeper ≡ length l.fn.deeper)
+    × (length l.deeper ≡ length l.fn.deeper) × IsSpent l.stretch l.braid
 
 abbrev pub decreases-next_from-loop-mark : goal.decreases-next_from-loop-mark
 decreases-next_from-loop-mark l = length l.nodes - l.mark.place
@@ -44,7 +45,7 @@ invariant-next_turn-loop-mark l =
     × (rest_from (nodes_of l.body) (marks_of l.fn.deeper) l.fn.mark.value l.fn.mark.last l.params (values_in l.outer)
     ≡ rest_from (nodes_of l.body) (marks_of l.deeper) l.mark.value l.mark.last l.params (values_in l.outer))
     × (length l.deeper ≡ length l.fn.deeper) × (l.mark.place ≡ l.fn.mark.place) × (l.mark.begun ≡ l.fn.mark.begun)
-    × (l.mark.last ≡ l.fn.mark.last)
+    × (l.mark.last ≡ l.fn.mark.last) × IsSpent l.stretch l.braid
 
 abbrev pub decreases-next_turn-loop-mark : goal.decreases-next_turn-loop-mark
 decreases-next_turn-loop-mark l = most_turns (l.mark.last -ℤ l.mark.value)

@@ -4,12 +4,11 @@ use Rattle.loop_tree.specs.View.{nodes_of}
 use Rattle.loop_tree.specs.steps.Going.{CanGo}
 use Rattle.loop_tree.specs.declared.spot.Mark.{Mark as CodeMark}
 use Rattle.loop_tree.proofs.Chains.{values_top}
-use Rattle.loop_tree.proofs.Stretches.{nothing_left}
 use Rattle.loop_tree.proofs.VisitPlaces.{length-marks}
 use Rattle.loop_tree.proofs.spot.Spot.search.Goals as goal
 
-pub next_of-requires : goal.next_of-requires
-next_of-requires c =
+pub next_of-requires-clause-go : goal.next_of-requires-clause-go
+next_of-requires-clause-go c =
     let ts = nodes_of c.args.nodes.now in
     let ms = c.args.self.now.marks.items in
     let params = c.args.params.now in
@@ -20,5 +19,6 @@ next_of-requires c =
     subst (λ (os : List ℤ). CanGo ts (marks_of c.as_mut_slice-marks.result.now) params os) (sym values_top)
     (subst (λ (ks : List CodeMark). CanGo ts (marks_of ks) params []) (sym c.as_mut_slice-marks.ensures.value) can)
 
-pub replace-requires-clause-stretch : goal.replace-requires-clause-stretch
-replace-requires-clause-stretch c = nothing_left c.args.self.now.stretch c.requires.stretch
+pub next_of-requires-clause-spent : goal.next_of-requires-clause-spent
+next_of-requires-clause-spent c =
+    record { stretch = c.requires.stretch; braid = c.requires.spot.braid; nothing = c.requires.braid }

@@ -1,0 +1,12 @@
+use Rattle.std.proofs.Common.{rules, ◌≡◌, arith, length, get_or}
+use Rattle.loop_tree.proofs.Braids.{braid_none}
+use Rattle.loop_tree.proofs.passing.has_left.Goals as goal
+
+pub returns : goal.returns
+returns c false =
+    let b = c.args.braid.now in
+    let d = c.index-braid-braid.result in
+    let all : length b.strands ≡ 4 = search rules in
+    let empty : (get_or b.strands b.at d).left ≡ 0 = grind (arith, false) in
+    let none = c.if-stretch-gt0.false in
+    record { stretch = omega (arith, none); braid = c.requires; nothing = braid_none b d c.requires all empty }
