@@ -265,7 +265,9 @@ fn next_in(
     ensures begun { result ≡ true → mark.new.begun ≡ true }
 {
     match node {
-        Node::Loop(head, body) => next_loop(head, body, mark, deeper, outer, params, stretch, braid),
+        Node::Loop(head, body) => next_loop(
+            head, body, mark, deeper, outer, params, stretch, braid,
+        ),
         Node::Guard(guard, body) => {
             if lets_pass(guard, mark.begun, outer, params) {
                 begin_guard(mark, deeper);
@@ -413,7 +415,14 @@ impl Spot {
         ensures spot { IsSpotOf (nodes_of nodes.now) params.now self.new }
     {
         let marks = self.marks.as_mut_slice();
-        if next_of(nodes, marks, &Outer::Top, params, &mut self.stretch, &mut self.braid) {
+        if next_of(
+            nodes,
+            marks,
+            &Outer::Top,
+            params,
+            &mut self.stretch,
+            &mut self.braid,
+        ) {
             Some(self.stretch.before)
         } else {
             None

@@ -148,17 +148,19 @@ fn steps_on_the_core(alloc: Global, plan: &Plan, cells: &[u64]) -> Result<bool, 
     requires cells { length cells.now ≡ (shape_of plan.now).cells }
 {
     let mut core = Core::of(alloc, plan, cells, 2)?;
-    Ok(claims_next(&mut core, 0, 0)
-        && does(&mut core, 0)
-        && claims_next(&mut core, 0, 1)
-        && does(&mut core, 0)
-        && claims_next(&mut core, 0, 2)
-        && claims_next(&mut core, 1, 3)
-        && does(&mut core, 1)
-        && claims_next(&mut core, 1, 4)
-        && waits(&mut core, 1)
-        && does(&mut core, 0)
-        && opens(&mut core, 1))
+    Ok(
+        claims_next(&mut core, 0, 0)
+            && does(&mut core, 0)
+            && claims_next(&mut core, 0, 1)
+            && does(&mut core, 0)
+            && claims_next(&mut core, 0, 2)
+            && claims_next(&mut core, 1, 3)
+            && does(&mut core, 1)
+            && claims_next(&mut core, 1, 4)
+            && waits(&mut core, 1)
+            && does(&mut core, 0)
+            && opens(&mut core, 1),
+    )
 }
 
 /// Whether the pass claims this tile.
@@ -275,7 +277,14 @@ fn two_workers_step_over_a_sweep(rt: HostRuntime) -> Result<(), Fail> {
     let mut source = MemSource::of(rt.alloc(), SWEEP, 4096, &[])?;
     let mut out = MemSink::of(rt.alloc(), 4096, 4096, &[])?;
     let mut err = MemSink::of(rt.alloc(), 4096, 4096, &[])?;
-    let status = command_by(&stepped, rt.alloc(), &words, &mut source, &mut out, &mut err);
+    let status = command_by(
+        &stepped,
+        rt.alloc(),
+        &words,
+        &mut source,
+        &mut out,
+        &mut err,
+    );
     assert!(rt; status.exit_code() == 0);
     assert!(rt; out.taken() == b"A = 1 9 21 29 1\n");
     assert!(rt; stepped.on_the_core.load(Ordering::SeqCst));
