@@ -118,7 +118,8 @@ pub bounds_flat : (up : Bool) (n : ℕ) (forms : List Affine) (bs : Bounds) → 
     → AreBounds (bounds_over up n forms bs)
 bounds_flat up n forms (only b) h = rounded_flat up (record { form = composed b.form forms n; divisor = b.divisor }) h
 bounds_flat up n forms (besides b bs) h =
-    (rounded_flat up (record { form = composed b.form forms n; divisor = b.divisor }) h.0, bounds_flat up n forms bs h.1)
+    let first = rounded_flat up (record { form = composed b.form forms n; divisor = b.divisor }) h.0 in
+    (first, bounds_flat up n forms bs h.1)
 
 -- few small values make a point that is not too large
 pub near_size : (d : ℕ) (params outer : List ℤ) → AreNear d params outer → size (outer ++ params) ≤ 2 ^ 80

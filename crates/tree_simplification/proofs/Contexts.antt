@@ -28,8 +28,8 @@ use Rattle.loop_tree.specs.Tree.{Bound, Bounds, only, besides, bounds_of, Test, 
 use Rattle.loop_tree.specs.Walk.{all_hold, holds, lower, upper}
 use Rattle.loop_tree.proofs.Extremes.{above_min, below_max, max_below, min_above}
 use Rattle.tree_simplification.specs.steps.Context.{ArePartsOver, Context, Hold, IsSizedContext, Meets, NaturalAbove}
-use Rattle.tree_simplification.specs.steps.Context.{NeverHolds, NeverSpeaks, OnSide, form_row, part_row, parts, sided, sign_of}
-use Rattle.tree_simplification.specs.steps.Context.{test_rows, tested, tests_rows}
+use Rattle.tree_simplification.specs.steps.Context.{NeverHolds, NeverSpeaks, OnSide, form_row, part_row, parts, sided}
+use Rattle.tree_simplification.specs.steps.Context.{sign_of, test_rows, tested, tests_rows}
 use Rattle.tree_simplification.proofs.RowValues.{opposite_side, turned_is, value_form_row, value_part_row}
 use Rattle.tree_simplification.proofs.RowValues.{value_widened}
 

@@ -165,7 +165,8 @@ then_others m k loops t ts a b one rest =
 record AtLoop (m k : ℕ) (loops forms : List Affine) (lo up : Bounds) (params outer : List ℤ) : Type 0 where
   first : lower (bounds_over true (k + m) forms lo) (outer ++ params)
       ≡ lower lo (values_of loops (outer ++ params) ++ params)
-  last : upper (bounds_over false (k + m) forms up) (outer ++ params) ≡ upper up (values_of loops (outer ++ params) ++ params)
+  last : upper (bounds_over false (k + m) forms up) (outer ++ params)
+      ≡ upper up (values_of loops (outer ++ params) ++ params)
 
 at_loop : (m k : ℕ) (loops forms : List Affine) (lo up : Bounds) (params outer : List ℤ) → IsPlace m k loops forms
     → length params ≡ m → length outer ≡ k → AtLoop m k loops forms lo up params outer
@@ -218,11 +219,13 @@ kept_free m k loops forms flag lo up body new place within program params outer 
 
 kept_fits : (m k : ℕ) (loops forms : List Affine) (flag : Bool) (lo up : Bounds) (body new : Trees)
     → IsPlace m k loops forms → Inlines m (k + 1) (inside m k loops) body new
-    → BoundsAreUpTo (2 ^ 45) (bounds_over true (k + m) forms lo) → BoundsAreUpTo (2 ^ 45) (bounds_over false (k + m) forms up)
+    → BoundsAreUpTo (2 ^ 45) (bounds_over true (k + m) forms lo)
+    → BoundsAreUpTo (2 ^ 45) (bounds_over false (k + m) forms up)
     → (d : ℕ) (params outer : List ℤ) → length params ≡ m → length outer ≡ k
     → NestAllTo d (more (loop flag lo up body) none) → AreNear d params outer
     → StayWithin (2 ^ 40) (more (loop flag lo up body) none) params (values_of loops (outer ++ params))
-    → FitsAll (more (loop flag (bounds_over true (k + m) forms lo) (bounds_over false (k + m) forms up) new) none) params outer
+    → FitsAll (more (loop flag (bounds_over true (k + m) forms lo) (bounds_over false (k + m) forms up) new) none)
+    params outer
 kept_fits m k loops forms flag lo up body new place within low high zero params outer p o nests near stay =
     absurd nests.0
 kept_fits m k loops forms flag lo up body new place within low high (suc d) params outer p o nests near stay =
@@ -258,7 +261,8 @@ kept_nested m k loops flag lo up low high body new within (suc n) (suc i) l h =
 -- a loop that stays
 pub kept_loop : (m k : ℕ) (loops forms : List Affine) (flag : Bool) (lo up : Bounds) (body new : Trees)
     → IsPlace m k loops forms → Inlines m (k + 1) (inside m k loops) body new
-    → BoundsAreUpTo (2 ^ 45) (bounds_over true (k + m) forms lo) → BoundsAreUpTo (2 ^ 45) (bounds_over false (k + m) forms up)
+    → BoundsAreUpTo (2 ^ 45) (bounds_over true (k + m) forms lo)
+    → BoundsAreUpTo (2 ^ 45) (bounds_over false (k + m) forms up)
     → Inlines m k loops (more (loop flag lo up body) none)
     (more (loop flag (bounds_over true (k + m) forms lo) (bounds_over false (k + m) forms up) new) none)
 kept_loop m k loops forms flag lo up body new place within low high =
@@ -462,7 +466,8 @@ guarded_loop m k loops forms lo up f test others body new goes within =
       statements = λ program h. (within.statements program h.0, tt);
       over = ((are.over, within.over), tt);
       small = ((are.small, within.small), tt);
-      nested = λ i j l h. (guard_nests j here new (gone_nested m k (loops ++ f ∷ []) lo up body new within i j l h), tt);
+      nested = λ i j l h.
+          (guard_nests j here new (gone_nested m k (loops ++ f ∷ []) lo up body new within i j l h), tt);
     }
 
 -- tests over the new loops hold where the old ones do
@@ -506,7 +511,9 @@ kept_guard m k loops forms tests test others body new place are within =
         tt,
       );
       serial = λ h. (within.serial h.0, tt);
-      flat = λ h. ((are.flat (tests_flat (k + m) forms tests (guard_tests tests body h.0).0), within.flat (guard_tests tests body h.0).1), tt);
+      flat = λ h.
+          let g = guard_tests tests body h.0 in
+          ((are.flat (tests_flat (k + m) forms tests g.0), within.flat g.1), tt);
       statements = λ program h. (within.statements program h.0, tt);
       over = ((are.over, within.over), tt);
       small = ((are.small, within.small), tt);

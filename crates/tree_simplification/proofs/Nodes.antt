@@ -1,6 +1,6 @@
 -- Nodes of the code one by one, and what the code asks of their parts.
-use Rattle.std.proofs.Common.{◌≡◌, ℕ, zero, suc, ◌+◌, ◌^◌, ◌<◌, ◌≤◌, Bool, true, false, List, [], ◌∷◌, ◌++◌, length, map}
-use Rattle.std.proofs.Common.{drop, get_or}
+use Rattle.std.proofs.Common.{◌≡◌, ℕ, zero, suc, ◌+◌, ◌^◌, ◌<◌, ◌≤◌, Bool, true, false, List, [], ◌∷◌, ◌++◌, length}
+use Rattle.std.proofs.Common.{map, drop, get_or}
 use Rattle.std.proofs.Common.{ap, subst, sym, ◌∙◌, arith, length-append}
 use Rattle.std.specs.Prelude.{All}
 use Rattle.std.proofs.lemmas.List.{length-map}
@@ -292,7 +292,8 @@ loop_guarded m k i j loops inner forms flag lo up f (test ∷ found) body new go
 -- a loop that stays
 pub loop_stays : (m k i j : ℕ) (loops inner forms : List Affine) (flag : Bool) (lo up low high : Bounds)
     → (body new : Trees) → IsPlace m k loops forms → low ≡ bounds_over true (k + m) forms lo
-    → high ≡ bounds_over false (k + m) forms up → BoundsAreUpTo (2 ^ 45) low → BoundsAreUpTo (2 ^ 45) high → i ≡ m → j ≡ k + 1
+    → high ≡ bounds_over false (k + m) forms up → BoundsAreUpTo (2 ^ 45) low → BoundsAreUpTo (2 ^ 45) high → i ≡ m
+    → j ≡ k + 1
     → inner ≡ inside m k loops → Inlines i j inner body new
     → Inlines m k loops (more (loop flag lo up body) none) (more (loop flag low high new) none)
 loop_stays m k i j loops inner forms flag lo up low high body new place is_low is_high l h a b e within =

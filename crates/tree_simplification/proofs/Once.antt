@@ -13,10 +13,9 @@ use Rattle.scop_syntax.proofs.Members.{both, holds_le_z, le_z_holds}
 use Rattle.loop_tree.specs.Marks.{AreBounds, AreTests}
 use Rattle.loop_tree.specs.Shape.{BoundsAreOver, IsOver}
 use Rattle.loop_tree.specs.Tree.{Bound, Bounds, Test, at_least, besides, only}
-use Rattle.loop_tree.specs.Walk.{all_hold, holds, lower, upper}
+use Rattle.loop_tree.specs.Walk.{all_hold, lower, upper}
 use Rattle.tree_simplification.specs.steps.Context.{OnSide, parts, sign_of}
 use Rattle.tree_simplification.specs.steps.Inlined.{IsOnce, side_form, side_tests, whole}
-use Rattle.tree_simplification.specs.steps.Rounded.{rounded_test}
 use Rattle.tree_simplification.proofs.Contexts.{high_from, high_to, low_from, low_to}
 use Rattle.tree_simplification.proofs.Heads.{all_hold_append}
 use Rattle.tree_simplification.proofs.Rounding.{rounded_holds, test_flat}
@@ -84,8 +83,8 @@ at_most_once n f low high tests point once flat_low flat_high =
     let u = upper high point in
     let lows = side_tests true f (parts low) in
     let highs = side_tests false f (parts high) in
-    let above = on_member true (whole f) (parts low) point l once.low (low_to low point l flat_low (omega (arith, ints)))
-    in
+    let above = on_member true (whole f) (parts low) point l once.low
+    (low_to low point l flat_low (omega (arith, ints))) in
     let below = on_member false (whole f) (parts high) point u once.high
     (high_to high point u flat_high (omega (arith, ints))) in
     let t = turned_is (v -ℤ (l *ℤ pos 1)) in
@@ -93,10 +92,12 @@ at_most_once n f low high tests point once flat_low flat_high =
     let a = mul_one_right l in
     let b = mul_one_right u in
     let same = once.between.same point ∙ all_hold_append lows highs point in
+    let sides : all_hold tests point ≡ true → (all_hold lows point ≡ true) × (all_hold highs point ≡ true) =
+    λ h. both (all_hold lows point) (all_hold highs point) (sym same ∙ h) in
     let low_true : all_hold tests point ≡ true → l ≤ℤ v =
-    λ h. low_from low point v flat_low (sides_to true f (parts low) point (both _ _ (sym same ∙ h)).0) in
+    λ h. low_from low point v flat_low (sides_to true f (parts low) point (sides h).0) in
     let high_true : all_hold tests point ≡ true → v ≤ℤ u =
-    λ h. high_from high point v flat_high (sides_to false f (parts high) point (both _ _ (sym same ∙ h)).1) in
+    λ h. high_from high point v flat_high (sides_to false f (parts high) point (sides h).1) in
     record {
       first = λ h. let k = low_true h in omega (arith, ints);
       last = λ h. let k = high_true h in omega (arith, ints);

@@ -1,15 +1,15 @@
 -- Bounds and tests without common factors say what they said (`rounded_low`, `rounded_high`, `rounded_holds`).
-use Rattle.std.proofs.Common.{◌≡◌, ℕ, zero, suc, ◌^◌, ◌<◌, ◌≤◌, inl, inr, ℤ, pos, negsuc, Bool, true, false, List, length, All}
+use Rattle.std.proofs.Common.{◌≡◌, ℕ, zero, suc, ◌≤◌, inl, inr, ℤ, pos, negsuc, Bool, true, false, List, All}
 use Rattle.std.proofs.Common.{ap, ap₂, subst, sym, ◌∙◌, refl, arith}
-use Rattle.std.specs.Prelude.{◌⊎◌, ◌+ℤ◌, ◌-ℤ◌, ◌*ℤ◌, ◌≤ℤ◌, ◌<ℤ◌, neg_ℤ, if◌then◌else◌, unsigned_abs}
+use Rattle.std.specs.Prelude.{◌⊎◌, ◌+ℤ◌, ◌*ℤ◌, ◌≤ℤ◌, ◌<ℤ◌, neg_ℤ, if◌then◌else◌, unsigned_abs}
 use Rattle.std.specs.Int.Signed.{le_z}
 use Rattle.std.proofs.lemmas.Int.{ints}
-use Rattle.whole_numbers.specs.Affine.{Affine, form_of, value_of}
+use Rattle.whole_numbers.specs.Affine.{Affine, value_of}
 use Rattle.whole_numbers.specs.Content.{content_from}
 use Rattle.whole_numbers.specs.Division.{IsFloor}
 use Rattle.whole_numbers.specs.Divisors.{Divides}
 use Rattle.whole_numbers.specs.Floor.{ceiling, floor, floors}
-use Rattle.whole_numbers.specs.Lists.{dot, multiples}
+use Rattle.whole_numbers.specs.Lists.{dot}
 use Rattle.whole_numbers.proofs.Contents.{content_from_divides}
 use Rattle.whole_numbers.proofs.Divisors.{divides_sizes, sizes_divide}
 use Rattle.whole_numbers.proofs.Dot.{dot-multiples}
@@ -19,13 +19,13 @@ use Rattle.whole_numbers.proofs.Order.{le_or_lt, mul_le_left, mul_positive, posi
 use Rattle.whole_numbers.proofs.Remainders.{length-floors}
 use Rattle.whole_numbers.proofs.Ring.{left_comm, mul_comm_int, mul_distrib_left, mul_neg_right, mul_one_right}
 use Rattle.whole_numbers.proofs.Ring.{mul_zero_right}
-use Rattle.scop_syntax.proofs.Members.{holds_le_z, le_z_holds}
+use Rattle.scop_syntax.proofs.Members.{le_z_holds}
 use Rattle.loop_tree.specs.Fits.{form_in}
 use Rattle.loop_tree.specs.Marks.{IsTest}
 use Rattle.loop_tree.specs.Shape.{IsOver}
 use Rattle.loop_tree.specs.Tree.{Bound, Test, at_least, equal, multiple}
 use Rattle.loop_tree.specs.Walk.{holds}
-use Rattle.tree_simplification.specs.steps.Rounded.{divisor_by, factor_of, form_by, quotient, rounded, rounded_test}
+use Rattle.tree_simplification.specs.steps.Rounded.{divisor_by, factor_of, form_by, rounded, rounded_test}
 
 -- floor((g a + c) / (g d)) = floor((a + floor(c / g)) / d)
 floor_rounded : (g d a c : ℤ) → pos 0 <ℤ g → pos 0 <ℤ d
@@ -162,7 +162,8 @@ high_by (suc (suc n)) b point (inr h) =
 
 -- a lower and an upper bound
 pub rounded_low : (b : Bound) (point : List ℤ)
-    → ceiling (value_of (rounded true b).form point) (rounded true b).divisor ≡ ceiling (value_of b.form point) b.divisor
+    → ceiling (value_of (rounded true b).form point) (rounded true b).divisor
+    ≡ ceiling (value_of b.form point) b.divisor
 unfolding rounded
 rounded_low b point =
     low_by (factor_of b.divisor b.form.coefficients) b point (has_factor b.divisor b.form.coefficients)
@@ -245,35 +246,3 @@ unfolding rounded_test
 test_flat (at_least f) h = tt
 test_flat (equal f) h = tt
 test_flat (multiple f d) h = h
-
--- what the code makes, by the number
-pub form_stays : (n : ℕ) (up : Bool) (f : Affine) → n < 2 → f ≡ form_by n up f
-form_stays zero up f h = refl
-form_stays (suc zero) up f h = refl
-form_stays (suc (suc n)) up f h = absurd (omega (arith, h))
-
-pub form_goes : (n : ℕ) (up : Bool) (f : Affine) → 2 ≤ n
-    → form_of (floors (pos n) f.coefficients) (quotient up f.constant (pos n)) ≡ form_by n up f
-form_goes zero up f h = absurd (omega (arith, h))
-form_goes (suc zero) up f h = absurd (omega (arith, h))
-form_goes (suc (suc n)) up f h = refl
-
-pub divisor_stays : (n : ℕ) (d : ℤ) → n < 2 → d ≡ divisor_by n d
-divisor_stays zero d h = refl
-divisor_stays (suc zero) d h = refl
-divisor_stays (suc (suc n)) d h = absurd (omega (arith, h))
-
-pub divisor_goes : (n : ℕ) (d : ℤ) → 2 ≤ n → floor d (pos n) ≡ divisor_by n d
-divisor_goes zero d h = absurd (omega (arith, h))
-divisor_goes (suc zero) d h = absurd (omega (arith, h))
-divisor_goes (suc (suc n)) d h = refl
-
-pub factor_of_none : (d : ℤ) (xs : List ℤ) → d <ℤ pos 1 → 1 ≡ factor_of d xs
-factor_of_none (pos zero) xs h = refl
-factor_of_none (pos (suc d)) xs h = absurd (omega (arith, ints, h))
-factor_of_none (negsuc d) xs h = refl
-
-pub factor_of_positive : (d : ℤ) (xs : List ℤ) → pos 1 ≤ℤ d → content_from (unsigned_abs d) xs ≡ factor_of d xs
-factor_of_positive (pos zero) xs h = absurd (omega (arith, ints, h))
-factor_of_positive (pos (suc d)) xs h = refl
-factor_of_positive (negsuc d) xs h = absurd (omega (arith, ints, h))

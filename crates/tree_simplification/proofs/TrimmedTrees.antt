@@ -1,13 +1,12 @@
 -- A tree without what is implied visits what it visits, and is like it.
-use Rattle.std.proofs.Common.{◌≡◌, ℕ, ◌+◌, ◌^◌, ◌<◌, inl, inr, ℤ, pos, List, [], ◌∷◌, ◌++◌, length, map, subst}
-use Rattle.std.proofs.Common.{ap, sym, ◌∙◌, refl}
+use Rattle.std.proofs.Common.{◌≡◌, ℕ, ◌+◌, ◌^◌, ◌<◌, inl, inr, ℤ, List, [], ◌∷◌, ◌++◌, length, map, subst}
+use Rattle.std.proofs.Common.{ap, ◌∙◌, refl}
 use Rattle.std.proofs.Common.{arith}
-use Rattle.std.specs.Prelude.{Bool, true, false, ⊤, ◌-ℤ◌, ◌*ℤ◌, ◌≤ℤ◌}
+use Rattle.std.specs.Prelude.{Bool, true, false, ⊤}
 use Rattle.std.proofs.lemmas.List.Elements.{All-nil}
-use Rattle.whole_numbers.specs.Affine.{Affine, value_of}
+use Rattle.whole_numbers.specs.Affine.{Affine}
 use Rattle.affine_forms.specs.Parts.{variables_of}
 use Rattle.fm_projection.specs.Alone.{AreInRange}
-use Rattle.scop_syntax.specs.Members.{In}
 use Rattle.scop_syntax.specs.Walk.{Instance}
 use Rattle.scop_syntax.proofs.Limits.{size_params}
 use Rattle.loop_tree.specs.Fits.{AreSmallTrees}
@@ -18,7 +17,7 @@ use Rattle.loop_tree.specs.Tree.{Bound, Bounds, Trees, only, besides}
 use Rattle.loop_tree.proofs.Fits.{small_fits_all}
 use Rattle.loop_tree.proofs.LargerBounds.{trees_more}
 use Rattle.tree_simplification.specs.Simplified.{shown, Simplifies}
-use Rattle.tree_simplification.specs.steps.Context.{Context, Meets, OnSide, TrimsSide, outside, parts, sign_of}
+use Rattle.tree_simplification.specs.steps.Context.{Context, Meets, OnSide, TrimsSide, outside, parts}
 use Rattle.tree_simplification.specs.steps.Inlined.{IsInlined}
 use Rattle.tree_simplification.specs.steps.Trimmed.{Among, IsTrimmed, TrimsAll, TrimsBounds}
 use Rattle.tree_simplification.proofs.Contexts.{high_from, high_to, low_from, low_to}

@@ -23,8 +23,8 @@ use Rattle.loop_tree.specs.Walk.{Visit, all_hold, along, between, lower, upper, 
 use Rattle.loop_tree.proofs.Lists.{between_none}
 use Rattle.loop_tree.proofs.Fits.{dot_zeros}
 use Rattle.tree_simplification.specs.Simplified.{StayWithin, StaysWithin}
-use Rattle.tree_simplification.specs.steps.Context.{ArePartsOver, Context, IsSizedContext, Meets, NaturalAbove, OnSide, entered}
-use Rattle.tree_simplification.specs.steps.Context.{parts}
+use Rattle.tree_simplification.specs.steps.Context.{ArePartsOver, Context, IsSizedContext, Meets, NaturalAbove, OnSide}
+use Rattle.tree_simplification.specs.steps.Context.{entered, parts}
 use Rattle.tree_simplification.specs.steps.Context.{sign_of, tested}
 use Rattle.tree_simplification.specs.steps.Joined.{joined}
 use Rattle.tree_simplification.specs.steps.Trimmed.{Among, Trims, TrimsAll, under}

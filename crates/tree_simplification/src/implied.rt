@@ -237,8 +237,8 @@ fn trim_guard(
 }
 
 /// The tree without the tests and the parts of bounds that the loops and tests round them imply, and without what they
-/// show is never visited. The tree speaks of so
-/// many parameters. Each question may make so many moves of the solver; where it needs more, the thing stays.
+/// show is never visited. The tree speaks of so many parameters. Each question may make so many moves of the solver;
+/// where it needs more, the thing stays.
 ///
 /// # Errors
 /// `AllocError` alone.

@@ -1,6 +1,6 @@
 -- Trees in which the loops that run once have given way to their values.
-use Rattle.std.specs.Prelude.{◌≡◌, ℕ, ◌+◌, ◌^◌, ◌≤◌, Bool, true, false, ℤ, ◌*ℤ◌, not, List, [], ◌∷◌, ◌++◌, All, length, map, pos}
-use Rattle.std.specs.Prelude.{◌⊎◌}
+use Rattle.std.specs.Prelude.{◌≡◌, ℕ, ◌+◌, ◌^◌, ◌≤◌, Bool, true, false, ℤ, ◌*ℤ◌, not, List, [], ◌∷◌, ◌++◌, All}
+use Rattle.std.specs.Prelude.{◌⊎◌, length, map, pos}
 use Rattle.whole_numbers.specs.Affine.{Affine, composed, multiple_of_form, sum_of_forms, values_of, widened}
 use Rattle.fm_projection.specs.Alone.{AreInRange}
 use Rattle.scop_syntax.specs.Kernel.{AreAtMost}
@@ -10,7 +10,8 @@ use Rattle.iteration_domains.specs.Rows.{variable, variables}
 use Rattle.loop_tree.specs.Fits.{FitsAll, form_in}
 use Rattle.loop_tree.specs.Marks.{AreTests, FlatAll}
 use Rattle.loop_tree.specs.Plans.{AreFree, Conflict}
-use Rattle.loop_tree.specs.Shape.{AreSerial, BoundsAreUpTo, IsOver, NestAllTo, TestIsUpTo, TreesAreOf, TreesAreOver, TreesAreUpTo}
+use Rattle.loop_tree.specs.Shape.{AreSerial, BoundsAreUpTo, IsOver, NestAllTo, TestIsUpTo, TreesAreOf, TreesAreOver}
+use Rattle.loop_tree.specs.Shape.{TreesAreUpTo}
 use Rattle.loop_tree.specs.Tree.{Bound, Bounds, only, besides, Test, at_least, equal, multiple, Trees}
 use Rattle.loop_tree.specs.View.{test_of}
 use Rattle.loop_tree.specs.Walk.{all_hold, holds, walk_all}

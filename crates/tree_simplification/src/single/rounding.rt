@@ -6,7 +6,8 @@ ghost use Rattle.scop_syntax.specs.Kernel.{AreAtMost};
 ghost use Rattle.loop_tree.specs.Shape.{IsOverUpTo, IsUpTo, TestIsUpTo};
 ghost use Rattle.loop_tree.specs.Tree.{at_least, equal};
 ghost use Rattle.loop_tree.specs.View.{test_of};
-ghost use Rattle.tree_simplification.specs.steps.Rounded.{divisor_by, factor_of, form_by, quotient, rounded, rounded_test};
+ghost use Rattle.tree_simplification.specs.steps.Rounded.{divisor_by, factor_of, form_by, quotient, rounded};
+ghost use Rattle.tree_simplification.specs.steps.Rounded.{rounded_test};
 
 use crate::single::numbers::{Stop, narrow, narrow_number, narrow_numbers};
 use affine_forms::{Form, content, divide_row};

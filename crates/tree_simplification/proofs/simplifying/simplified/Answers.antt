@@ -17,8 +17,8 @@ returns-in-Some c =
     let middle = trees_in c.in-Some.inlined in
     let inlined : IsInlined c.args.parameters old middle = search rules in
     IfOk-weaker c.without_implied.result _ _
-    (λ tree trimmed. trimmed_inlined c.args.parameters small.0 old middle (trees_in tree) c.requires.flat small.2 inlined
-    trimmed)
+    (λ tree trimmed. trimmed_inlined c.args.parameters small.0 old middle (trees_in tree) c.requires.flat small.2
+    inlined trimmed)
     c.without_implied.ensures
 
 pub returns-in-None : goal.returns-in-None

@@ -6,7 +6,7 @@ use Rattle.whole_numbers.specs.Affine.{Affine, composed}
 use Rattle.iteration_domains.specs.Rows.{variables}
 use Rattle.loop_tree.specs.Fits.{form_in}
 use Rattle.loop_tree.specs.Shape.{BoundsAreOver, IsOver}
-use Rattle.loop_tree.specs.Tree.{Bounds, Test, Tree, guard, instance, loop, more, none}
+use Rattle.loop_tree.specs.Tree.{Bounds, Tree, guard, instance, loop, more, none}
 use Rattle.loop_tree.specs.View.{bounds_in, nodes_of, test_of, tree_of}
 use Rattle.loop_tree.specs.declared.tree.Test.{Test as CodeTest}
 use Rattle.loop_tree.proofs.Views.{tree_guard, tree_instance, tree_loop}

@@ -16,8 +16,8 @@ inline_nodes-requires c =
     let nested = c.requires.nested in
     let forms = c.in_ok-place.ensures.forms
     ∙ ap (λ (fs : List Affine). fs ++ variables (0 + m) 0 m) c.new.ensures.items in
-    let can = whole_can m nested.0 p.forms.items old c.requires.few nested.1 nested.2 forms c.requires.flat c.requires.over
-    c.requires.numbers in
+    let can = whole_can m nested.0 p.forms.items old c.requires.few nested.1 nested.2 forms c.requires.flat
+    c.requires.over c.requires.numbers in
     subst (λ (ns : List Node). CanInline p.parameters p.kept p.loops.items p.forms.items (nodes_of ns))
     (sym c.as_slice.ensures.value)
     (can_at m 0 p.parameters p.kept [] p.loops.items p.forms.items old c.in_ok-place.ensures.parameters

@@ -1,4 +1,4 @@
-use Rattle.std.proofs.Common.{◌≡◌, ◌++◌, ℕ, List, false, map, rules, subst, sym, true}
+use Rattle.std.proofs.Common.{◌≡◌, ◌++◌, ℕ, false, map, rules, subst, sym, true}
 use Rattle.std.specs.Prelude.{All}
 use Rattle.affine_forms.specs.Parts.{variables_of}
 use Rattle.scop_syntax.specs.Members.{In}

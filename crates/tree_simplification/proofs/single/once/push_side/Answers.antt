@@ -1,7 +1,6 @@
-use Rattle.std.proofs.Common.{◌≡◌, List, ◌++◌, ap, subst, sym, rules, take_all, ◌∙◌, map, refl}
+use Rattle.std.proofs.Common.{◌≡◌, rules, refl}
 use Rattle.affine_forms.specs.Parts.{variables_of}
 use Rattle.loop_tree.specs.Shape.{IsOver}
-use Rattle.loop_tree.specs.Tree.{Test}
 use Rattle.tree_simplification.specs.steps.Rounded.{rounded_test}
 use Rattle.tree_simplification.specs.steps.Inlined.{side_form}
 use Rattle.tree_simplification.proofs.Heads.{side_more}

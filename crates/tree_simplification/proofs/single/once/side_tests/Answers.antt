@@ -1,6 +1,5 @@
-use Rattle.std.proofs.Common.{List, [], ap, map, subst, sym, true}
+use Rattle.std.proofs.Common.{List, [], map, subst, sym, true}
 use Rattle.affine_forms.specs.Parts.{variables_of}
-use Rattle.loop_tree.specs.Tree.{Test}
 use Rattle.loop_tree.specs.View.{test_of}
 use Rattle.loop_tree.specs.declared.tree.Test.{Test as CodeTest}
 use Rattle.tree_simplification.specs.steps.Inlined.{AreTestsOf, side_tests}
