@@ -7,6 +7,7 @@ pub mod Accesses
 pub mod Codes
 pub mod Compiling
 pub mod Desks
+pub mod Joins
 pub mod Pairs
 pub mod Tellings
 pub mod Visits

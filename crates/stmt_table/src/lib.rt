@@ -11,6 +11,7 @@ mod affine_parts;
 pub mod code;
 pub mod desk;
 mod forms;
+pub mod join;
 pub mod lane;
 mod numbers;
 mod points;

@@ -7,6 +7,7 @@ pub mod TouchedCells
 pub mod Rows
 pub mod Desks
 pub mod Ahead
+pub mod Joins
 pub mod Workers
 pub mod Stretches
 pub mod Rounds

@@ -13,6 +13,7 @@ ghost use Rattle.tile_core.specs.steps.Acts.{after_instances, after_place, value
 ghost use Rattle.tile_core.specs.steps.Desks.{IsDeskAt, StandsIn, StaysLaid};
 ghost use Rattle.whole_numbers.specs.Lists.{sums};
 
+use crate::joining::do_joins;
 use crate::plan::Plan;
 use crate::plan_laws::rows_tell_instances;
 use crate::worker::Worker;
@@ -67,6 +68,10 @@ pub(crate) fn do_ahead(cells: &mut [u64], plan: &Plan, worker: &mut Worker, coun
     };
     let row = plan.row(&first);
     let steps = &worker.spot.stretch.steps[..first.loops];
+    if let Some(lanes) = row.lay_join(first.turns(), steps) {
+        do_joins(cells, lanes, count);
+        return;
+    }
     row.lay(&mut worker.desk, first.turns(), steps);
     for _ in 0..count {
         do_laid(cells, row, &mut worker.desk);

@@ -11,7 +11,7 @@ use Rattle.scop_syntax.specs.Walk.{Instance}
 use Rattle.scop_syntax.specs.declared.instance.Instance.{Instance as CodeInstance}
 use Rattle.loop_tree.specs.declared.stretch.Stretch.{Stretch}
 use Rattle.stmt_table.specs.Codes.{value_by}
-use Rattle.stmt_table.specs.Desks.{HasRoom, HasSameRoom, IsLaid}
+use Rattle.stmt_table.specs.Desks.{HasSameRoom, IsLaid}
 use Rattle.stmt_table.specs.declared.desk.Desk.{Desk}
 use Rattle.stmt_table.specs.declared.table.Row.{Row}
 use Rattle.stmt_table.proofs.Desks.{room_stays, room_stays_for_all}
@@ -31,19 +31,20 @@ use Rattle.tile_core.proofs.Stretches.{step_first}
 use Rattle.array_words.specs.Loads.{IsNextRead}
 use Rattle.array_words.specs.Seats.{IsSeat}
 use Rattle.array_words.specs.Stores.{IsNextStore}
-use Rattle.tile_runner.specs.Laid.{AreOnDesk}
+use Rattle.tile_runner.specs.Laid.{AreNext, IsOnDesk}
 
 -- the law of rows
 abbrev pub RowsTell : Type 0
 RowsTell = (plan : Plan) (x : Instance) (row : Row) → IsPlan plan → In x (places_in plan)
     → slice_get plan.table.now.rows.items x.number ≡ Some row → IsRowAt plan row x
 
--- the instances that a worker has ahead are laid where the row of the first is, at its turns and by the stretch's steps
+-- the instances that a worker has ahead come next where something is laid at the turns of the first, by the stretch's
+-- steps
 pub ahead_laid : (plan : Plan) (s : Stage) (next : Option CodeInstance) (stretch : Stretch) (count : ℕ)
-    (i : CodeInstance) (row : Row) (desk : Desk) → IsAhead plan s next stretch count → next ≡ Some i
-    → slice_get plan.table.now.rows.items i.statement ≡ Some row → HasRoom row desk
-    → IsLaid row (take i.loops stretch.steps) (instance_of i).turns desk → AreOnDesk plan s row desk count
-ahead_laid plan s next stretch count i row desk a at own room laid =
+    (i : CodeInstance) (row : Row) (Laid : List ℤ → List ℤ → Type 0) → IsAhead plan s next stretch count → next ≡ Some i
+    → slice_get plan.table.now.rows.items i.statement ≡ Some row
+    → Laid (take i.loops stretch.steps) (instance_of i).turns → AreNext plan s row Laid count
+ahead_laid plan s next stretch count i row Laid a at own laid =
     let same : Some a.instance ≡ Some i = sym a.first ∙ at in
     let one : a.instance ≡ i = cc in
     let x : CodeInstance → ℕ → Instance = λ k j. moved (instance_of k) (take k.loops stretch.steps) j in
@@ -57,16 +58,15 @@ ahead_laid plan s next stretch count i row desk a at own room laid =
       first = instance_of i;
       steps = take i.loops stretch.steps;
       own = own;
-      room = room;
       laid = laid;
       walked = λ j l. subst (λ (k : CodeInstance). In (x k j) (places_in plan)) one (a.walked j l);
       place = λ j l. ap (λ (k : CodeInstance). place_in (places_in plan) (x k j)) (sym one) ∙ a.place j l;
     }
 
 -- so many of them
-pub fewer_laid : (plan : Plan) (s : Stage) (row : Row) (desk : Desk) (count n : ℕ) → n ≤ count
-    → AreOnDesk plan s row desk count → AreOnDesk plan s row desk n
-fewer_laid plan s row desk count n few a =
+pub fewer_laid : (plan : Plan) (s : Stage) (row : Row) (Laid : List ℤ → List ℤ → Type 0) (count n : ℕ) → n ≤ count
+    → AreNext plan s row Laid count → AreNext plan s row Laid n
+fewer_laid plan s row Laid count n few a =
     let within = a.within in record {
       tile = a.tile;
       done = a.done;
@@ -75,13 +75,12 @@ fewer_laid plan s row desk count n few a =
       first = a.first;
       steps = a.steps;
       own = a.own;
-      room = a.room;
       laid = a.laid;
       walked = λ j l. a.walked j (omega (arith, l, few));
       place = λ j l. a.place j (omega (arith, l, few));
     }
 
-module _ (plan : Plan) (s : Stage) (row : Row) (desk : Desk) (a : AreOnDesk plan s row desk 1) where
+module _ (plan : Plan) (s : Stage) (row : Row) (Laid : List ℤ → List ℤ → Type 0) (a : AreNext plan s row Laid 1) where
   -- the place of the first
   first_place : place_in (places_in plan) a.first ≡ (shape_of plan).place a.tile a.done
   first_place = a.place 0 (omega arith) ∙ ap ((shape_of plan).place a.tile) (let q : a.done + 0 ≡ a.done = omega arith in q)
@@ -114,11 +113,11 @@ module _ (plan : Plan) (s : Stage) (row : Row) (desk : Desk) (a : AreOnDesk plan
         made ∙ (tells.value xs long ∙ ap (λ j. p.value j xs) first_place),
       )
 
--- behind the first of them the others are laid on a desk that has gone on
-pub others_laid : (plan : Plan) (s : Stage) (row : Row) (desk new : Desk) (n : ℕ) → AreOnDesk plan s row desk (suc n)
-    → ((steps turns : List ℤ) → IsLaid row steps turns desk → IsLaid row steps (sums turns steps) new)
-    → HasSameRoom desk new → AreOnDesk plan (Working (tile_at s) (suc (done_at s))) row new n
-others_laid plan s row desk new n a on same =
+-- behind the first of them the others come next where what was laid has gone on
+pub others_laid : (plan : Plan) (s : Stage) (row : Row) (Old New : List ℤ → List ℤ → Type 0) (n : ℕ)
+    → AreNext plan s row Old (suc n) → ((steps turns : List ℤ) → Old steps turns → New steps (sums turns steps))
+    → AreNext plan (Working (tile_at s) (suc (done_at s))) row New n
+others_laid plan s row Old New n a on =
     let within = a.within in
     let x = a.first in
     let along : (j : ℕ) → moved (moved x a.steps 1) a.steps j ≡ moved x a.steps (suc j) =
@@ -130,7 +129,6 @@ others_laid plan s row desk new n a on same =
       first = moved x a.steps 1;
       steps = a.steps;
       own = a.own;
-      room = room_stays row desk new a.room same;
       laid = on a.steps x.turns a.laid;
       walked = λ j l. subst (λ (y : Instance). In y (places_in plan)) (sym (along j)) (a.walked (suc j) (omega (arith, l)));
       place = λ j l. ap (place_in (places_in plan)) (along j) ∙ (a.place (suc j) (omega (arith, l))
@@ -143,12 +141,12 @@ stands s t k e =
     let done = ap done_at e in
     e ∙ ap₂ Working (sym (ap tile_at e)) (let same : k ≡ done_at s + 0 = omega (arith, done) in same)
 
--- before the first of those that are laid
-pub laid_at_first : (plan : Plan) (s : Stage) (row : Row) (desk : Desk) (count : ℕ) → AreOnDesk plan s row desk count
-    → AreOnDesk plan (Working (tile_at s) (done_at s + 0)) row desk (count - 0)
-laid_at_first plan s row desk count a =
-    subst (λ (u : Stage). AreOnDesk plan u row desk (count - 0)) (stands s a.tile a.done a.works)
-    (subst (λ (n : ℕ). AreOnDesk plan s row desk n) (let q : count ≡ count - 0 = omega arith in q) a)
+-- before the first of those that come next
+pub laid_at_first : (plan : Plan) (s : Stage) (row : Row) (Laid : List ℤ → List ℤ → Type 0) (count : ℕ)
+    → AreNext plan s row Laid count → AreNext plan (Working (tile_at s) (done_at s + 0)) row Laid (count - 0)
+laid_at_first plan s row Laid count a =
+    subst (λ (u : Stage). AreNext plan u row Laid (count - 0)) (stands s a.tile a.done a.works)
+    (subst (λ (n : ℕ). AreNext plan s row Laid n) (let q : count ≡ count - 0 = omega arith in q) a)
 
 -- a seat that went so many instances on
 pub seat_past : (words : Words) (seat new : Seat (Unit {0}) View) (t k n : ℕ) → IsSeat words (Working t k) [] seat
@@ -165,25 +163,32 @@ seat_on words seat new t d j is after =
     subst (λ (k : ℕ). IsSeat words (Working t k) [] new) (let q : suc (d + j) ≡ d + (j + 1) = omega arith in q)
     (subst (λ (u : Stage). IsSeat words (Working (tile_at u) (suc (done_at u))) [] new) is.stage after)
 
-module _ (words : Words) (row : Row) (seat : Seat (Unit {0}) View) (desk : Desk) (t d j count : ℕ)
-    (is : IsSeat words (Working t (d + j)) [] seat) (a : AreOnDesk words.plan (Working t (d + j)) row desk (count - j))
+module _ (words : Words) (row : Row) (seat : Seat (Unit {0}) View) (Laid : List ℤ → List ℤ → Type 0) (t d j count : ℕ)
+    (is : IsSeat words (Working t (d + j)) [] seat) (a : AreNext words.plan (Working t (d + j)) row Laid (count - j))
     (less : j < count) where
   -- the first of them, where the view of the seat stands
-  pub here_laid : AreOnDesk words.plan seat.me.0.stage row desk 1
+  pub here_laid : AreNext words.plan seat.me.0.stage row Laid 1
   here_laid =
-      subst (λ (u : Stage). AreOnDesk words.plan u row desk 1) (sym is.stage)
-      (fewer_laid words.plan (Working t (d + j)) row desk (count - j) 1 (omega (arith, less)) a)
+      subst (λ (u : Stage). AreNext words.plan u row Laid 1) (sym is.stage)
+      (fewer_laid words.plan (Working t (d + j)) row Laid (count - j) 1 (omega (arith, less)) a)
 
   -- the others, behind it
-  pub laid_on : (new : Desk)
-      → ((steps turns : List ℤ) → IsLaid row steps turns desk → IsLaid row steps (sums turns steps) new)
-      → HasSameRoom desk new → AreOnDesk words.plan (Working t (d + (j + 1))) row new (count - (j + 1))
-  laid_on new on same =
-      subst (λ (k : ℕ). AreOnDesk words.plan (Working t k) row new (count - (j + 1)))
+  pub laid_on : (New : List ℤ → List ℤ → Type 0)
+      → ((steps turns : List ℤ) → Laid steps turns → New steps (sums turns steps))
+      → AreNext words.plan (Working t (d + (j + 1))) row New (count - (j + 1))
+  laid_on New on =
+      subst (λ (k : ℕ). AreNext words.plan (Working t k) row New (count - (j + 1)))
       (let q : suc (d + j) ≡ d + (j + 1) = omega arith in q)
-      (others_laid words.plan (Working t (d + j)) row desk new (count - (j + 1))
-      (subst (λ (n : ℕ). AreOnDesk words.plan (Working t (d + j)) row desk n)
-      (let q : count - j ≡ suc (count - (j + 1)) = omega (arith, less) in q) a) on same)
+      (others_laid words.plan (Working t (d + j)) row Laid New (count - (j + 1))
+      (subst (λ (n : ℕ). AreNext words.plan (Working t (d + j)) row Laid n)
+      (let q : count - j ≡ suc (count - (j + 1)) = omega (arith, less) in q) a) on)
+
+-- a desk that goes on
+pub desk_on : (row : Row) (old new : Desk)
+    → ((steps turns : List ℤ) → IsLaid row steps turns old → IsLaid row steps (sums turns steps) new)
+    → HasSameRoom old new → (steps turns : List ℤ) → IsOnDesk row old steps turns
+    → IsOnDesk row new steps (sums turns steps)
+desk_on row old new on same steps turns is = (room_stays row old new is.0 same, on steps turns is.1)
 
 -- a worker with another desk of the same room is still one of the plan
 pub worker_kept : (plan : Plan) (w : Worker) (new : Desk) → IsWorker plan w → HasSameRoom w.desk new

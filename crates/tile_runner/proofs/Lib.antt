@@ -1,3 +1,4 @@
+pub mod JoinsNext
 pub mod Laid
 pub mod Passes
 pub mod StrandsNext

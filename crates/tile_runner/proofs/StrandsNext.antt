@@ -36,8 +36,10 @@ strand_next plan b desks i s desk row are few less there is has stage round t k 
       first = x;
       steps = steps;
       own = has;
-      room = (room_there plan b desks i s desk row are few less there is has).each s.before.statement row has;
-      laid = laid_there plan b desks i s desk row are few less there is has round laid;
+      laid = (
+        (room_there plan b desks i s desk row are few less there is has).each s.before.statement row has,
+        laid_there plan b desks i s desk row are few less there is has round laid,
+      );
       walked = λ j l.
           subst (λ (n : ℕ). In (moved x steps n) (places_in plan)) (let q : 0 ≡ j = omega (arith, l) in q)
           (here.walked i s less there);

@@ -1,10 +1,13 @@
--- Instances of a tile that are laid on a desk, and strands that each are on a desk of their own.
+-- Instances of a tile that are laid on a desk, or on the lanes of a join, and strands that each are on a desk of their
+-- own.
 use Rattle.std.specs.Prelude.{◌≡◌, ◌+◌, ◌<◌, ◌≤◌, ℕ, ℤ, List, slice_get, Some}
 use Rattle.scop_syntax.specs.Members.{In}
 use Rattle.scop_syntax.specs.Walk.{Instance}
 use Rattle.loop_tree.specs.declared.braid.Braid.{Braid}
 use Rattle.stmt_table.specs.Desks.{HasRoom, IsLaid}
+use Rattle.stmt_table.specs.Joins.{IsJoinAt}
 use Rattle.stmt_table.specs.declared.desk.Desk.{Desk}
+use Rattle.stmt_table.specs.declared.join.JoinLanes.{JoinLanes}
 use Rattle.stmt_table.specs.declared.table.Row.{Row}
 use Rattle.tile_core.specs.Plans.{places_in, shape_of}
 use Rattle.tile_core.specs.Ranks.{place_in}
@@ -14,9 +17,9 @@ use Rattle.tile_core.specs.declared.plan.Plan.{Plan}
 use Rattle.tile_core.specs.declared.worker.Stage.{Stage}
 use Rattle.tile_core.specs.declared.worker.Stage.TheVariants.{Working}
 
--- so many instances come next in the tile, each with the same steps more in its turns than the one before it, and the
--- desk stands at the first of them and goes on by these steps
-pub record AreOnDesk (plan : Plan) (s : Stage) (row : Row) (desk : Desk) (count : ℕ) : Type 0 where
+-- so many instances come next in the tile, each with the same steps more in its turns than the one before it, and
+-- what goes on by these steps is laid at the turns of the first
+pub record AreNext (plan : Plan) (s : Stage) (row : Row) (Laid : List ℤ → List ℤ → Type 0) (count : ℕ) : Type 0 where
   pub tile : ℕ
   pub done : ℕ
   pub works : s ≡ Working tile done
@@ -24,11 +27,23 @@ pub record AreOnDesk (plan : Plan) (s : Stage) (row : Row) (desk : Desk) (count 
   pub first : Instance
   pub steps : List ℤ
   pub own : slice_get plan.table.now.rows.items first.number ≡ Some row
-  pub room : HasRoom row desk
-  pub laid : IsLaid row steps first.turns desk
+  pub laid : Laid steps first.turns
   pub walked : (j : ℕ) → j < count → In (moved first steps j) (places_in plan)
   pub place : (j : ℕ) → j < count
       → place_in (places_in plan) (moved first steps j) ≡ (shape_of plan).place tile (done + j)
+
+-- a desk with room stands at these turns and goes on by these steps
+abbrev pub IsOnDesk : Row → Desk → List ℤ → List ℤ → Type 0
+IsOnDesk row desk steps turns = HasRoom row desk × IsLaid row steps turns desk
+
+-- so for the instances that come next
+abbrev pub AreOnDesk : Plan → Stage → Row → Desk → ℕ → Type 0
+AreOnDesk plan s row desk = AreNext plan s row (IsOnDesk row desk)
+
+-- the lanes of a join do
+pub record AreJoined (plan : Plan) (s : Stage) (lanes : JoinLanes) (count : ℕ) : Type 0 where
+  pub row : Row
+  pub are : AreNext plan s row (λ steps turns. IsJoinAt row steps turns lanes) count
 
 -- what a braid's strands give in a round comes next in the tile, in turn, and each strand's desk stands there
 pub record AreStrandsNext (plan : Plan) (s : Stage) (b : Braid) (desks : List Desk) : Type 0 where

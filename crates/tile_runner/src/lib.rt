@@ -5,6 +5,7 @@
 #![tactic(auto)]
 
 mod ahead;
+mod joins;
 mod rounds;
 mod running;
 mod stretches;

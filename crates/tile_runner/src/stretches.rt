@@ -1,5 +1,6 @@
 //! The instances that a worker has ahead along a stretch: the row of their statement is laid on the worker's desk once,
-//! and each then costs the loads of what it reads, the steps of its code, and a store.
+//! and each then costs the loads of what it reads, the steps of its code, and a store. Where the code is a join, its lanes
+//! are at hand instead.
 ghost use Rattle.std.specs.Prelude.{◌≡◌, ◌+◌, ◌≤◌, ℕ, ℤ, [], List, suc, take};
 ghost use Rattle.array_words.specs.Seats.{IsSeat};
 ghost use Rattle.whole_numbers.specs.Lists.{sums};
@@ -11,6 +12,7 @@ ghost use Rattle.tile_core.specs.Workers.{IsWorker};
 ghost use Rattle.tile_core.specs.declared.worker.Stage.TheVariants.{Working};
 ghost use Rattle.tile_runner.specs.Laid.{AreOnDesk};
 
+use crate::joins::{do_joins, lay_join};
 use array_words::{load_at, store_at};
 use atomic_table::Seat;
 use scop_syntax::instance::MAX_LOOPS;
@@ -23,7 +25,7 @@ use tile_core::words::Words;
 use tile_core::worker::Worker;
 
 /// The first steps.
-fn first_steps(steps: &[i64; MAX_LOOPS], loops: usize) -> &[i64]
+pub(crate) fn first_steps(steps: &[i64; MAX_LOOPS], loops: usize) -> &[i64]
     requires { loops ≤ 5 }
     ensures { result.now ≡ take loops steps.now }
 {
@@ -77,9 +79,9 @@ pub(crate) fn do_laid(words: &Words, seat: &mut Seat<(), View>, row: &Row, desk:
     row.go_on(desk);
 }
 
-/// Does so many of the instances that the worker has ahead along a stretch, by the steps of the seat. Of the worker nothing
-/// but its desk changes.
-pub(crate) fn do_along(words: &Words, seat: &mut Seat<(), View>, worker: &mut Worker, count: usize)
+/// Does so many of the instances that the worker has ahead along a stretch, by its desk. Of the worker nothing but its
+/// desk changes.
+fn do_on_desk(words: &Words, seat: &mut Seat<(), View>, worker: &mut Worker, count: usize)
     requires seat { IsSeat words.now worker.old.stage [] seat.old }
     requires worker { IsWorker words.now.plan worker.old }
     requires ahead { IsAhead words.now.plan worker.old.stage worker.old.next worker.old.spot.stretch count }
@@ -91,5 +93,22 @@ pub(crate) fn do_along(words: &Words, seat: &mut Seat<(), View>, worker: &mut Wo
     let row = lay_next(&words.plan, worker);
     for _ in 0..count {
         do_laid(words, seat, row, &mut worker.desk);
+    }
+}
+
+/// Does so many of the instances that the worker has ahead along a stretch, by the steps of the seat. Of the worker nothing
+/// but its desk changes.
+pub(crate) fn do_along(words: &Words, seat: &mut Seat<(), View>, worker: &mut Worker, count: usize)
+    requires seat { IsSeat words.now worker.old.stage [] seat.old }
+    requires worker { IsWorker words.now.plan worker.old }
+    requires ahead { IsAhead words.now.plan worker.old.stage worker.old.next worker.old.spot.stretch count }
+    ensures seat { IsSeat words.now (Working (tile_at worker.old.stage) (done_at worker.old.stage + count)) []
+        seat.new }
+    ensures worker { IsWorker words.now.plan worker.new }
+    ensures same { worker.new ≡ record worker.old { desk = worker.new.desk } }
+{
+    match lay_join(&words.plan, worker) {
+        Some(lanes) => do_joins(words, seat, lanes, count),
+        None => do_on_desk(words, seat, worker, count),
     }
 }

@@ -1,13 +1,15 @@
-use Rattle.std.proofs.Common.{rules, ◌≡◌, ◌∙◌, ◌+◌, ℕ, List, ap, arith, length, subst, suc, take}
+use Rattle.std.proofs.Common.{rules, ◌≡◌, ◌∙◌, ◌+◌, ℕ, ℤ, List, ap, arith, length, subst, suc, take}
 use Rattle.scop_syntax.specs.View.{instance_of}
 use Rattle.stmt_table.specs.Desks.{IsLaid}
 use Rattle.stmt_table.proofs.Desks.{room_stays, same_room_chain}
+use Rattle.stmt_table.specs.Joins.{IsJoinAt}
 use Rattle.tile_core.specs.Plans.{shape_of}
 use Rattle.tile_core.specs.Stretches.{moved, turns_on}
 use Rattle.tile_core.specs.declared.worker.Worker.{Worker}
 use Rattle.tile_core.specs.steps.Acts.{after_instances, after_place}
 use Rattle.tile_core.specs.steps.Desks.{IsDeskAt}
 use Rattle.tile_core.proofs.Ahead.{place_ahead, walked_ahead}
+use Rattle.tile_core.proofs.Joins.{joined_from}
 use Rattle.tile_core.proofs.stretching.do_ahead.Goals as goal
 use Rattle.tile_core.proofs.stretching.do_ahead.Goals.{In-loop}
 
@@ -64,3 +66,40 @@ loop-preserved c =
       room = same_room_chain w.desk c.loop.worker.desk c.do_laid.new.desk inv.room c.do_laid.ensures.room;
       same = ap (λ (v : Worker). record v { desk = c.do_laid.new.desk }) inv.same;
     }
+
+pub do_joins-requires : goal.do_joins-requires
+do_joins-requires c =
+    let plan = c.args.plan.now in
+    let w = c.args.worker.now in
+    let i = c.in-Some.first in
+    let row = c.row-row.result.now in
+    let ahead = c.requires.ahead in
+    let lanes = c.in-Some-lay_join.lanes in
+    let laid = subst (λ (ts : List ℤ). IsJoinAt row (take i.loops w.spot.stretch.steps) ts lanes) c.turns.ensures
+    c.in-Some-lay_join.ensures in
+    record {
+      plan = plan;
+      row = row;
+      steps = take i.loops w.spot.stretch.steps;
+      instance = instance_of i;
+      tile = ahead.tile;
+      first = ahead.done;
+      from = joined_from plan w.stage w.next w.spot.stretch c.args.count i row lanes
+          (λ x walked own. c.rows_tell_instances.ensures.tells plan x row c.requires.plan walked own) ahead c.in-Some.is
+          c.row-row.ensures.row laid ahead.tile ahead.done ahead.works;
+      wide = c.requires.cells;
+    }
+
+pub returns-in-Some-lay_join-clause-cells : goal.returns-in-Some-lay_join-clause-cells
+returns-in-Some-lay_join-clause-cells c = λ t k works.
+    let plan = c.args.plan.now in
+    let w = c.args.worker.now in
+    let i = c.in-Some.first in
+    let row = c.row-row.result.now in
+    let lanes = c.in-Some-lay_join.lanes in
+    let laid = subst (λ (ts : List ℤ). IsJoinAt row (take i.loops w.spot.stretch.steps) ts lanes) c.turns.ensures
+    c.in-Some-lay_join.ensures in
+    c.do_joins.ensures plan row (take i.loops w.spot.stretch.steps) (instance_of i) t k
+    (joined_from plan w.stage w.next w.spot.stretch c.args.count i row lanes
+    (λ x walked own. c.rows_tell_instances.ensures.tells plan x row c.requires.plan walked own) c.requires.ahead
+    c.in-Some.is c.row-row.ensures.row laid t k works)

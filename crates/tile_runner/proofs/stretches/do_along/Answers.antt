@@ -1,44 +1,22 @@
-use Rattle.std.proofs.Common.{[], ap, subst}
+use Rattle.std.proofs.Common.{[], ◌+◌, subst, sym}
 use Rattle.array_words.specs.Seats.{IsSeat}
 use Rattle.tile_core.specs.Views.{done_at, tile_at}
 use Rattle.tile_core.specs.declared.worker.Stage.{Stage}
-use Rattle.tile_core.specs.declared.worker.Worker.{Worker}
-use Rattle.tile_runner.proofs.Laid.{here_laid, laid_at_first, laid_on, seat_on, stands, worker_kept}
+use Rattle.tile_core.specs.declared.worker.Stage.TheVariants.{Working}
+use Rattle.tile_runner.specs.Laid.{AreJoined}
 use Rattle.tile_runner.proofs.stretches.do_along.Goals as goal
 
-pub loop-init : goal.loop-init
-loop-init c =
-    let w = c.args.words.now in
-    let s = c.args.worker.now.stage in
-    let a = c.requires.ahead in
-    record {
-      seat = subst (λ (u : Stage). IsSeat w u [] c.args.seat.now) (stands s a.tile a.done a.works) c.requires.seat;
-      laid = laid_at_first w.plan s c.lay_next-row.result.now c.lay_next-row.new.worker.desk c.args.count
-          (c.lay_next-row.ensures.laid c.args.count a);
-      worker = c.lay_next-row.ensures.worker;
-      same = c.lay_next-row.ensures.same;
-    }
+pub do_joins-requires-clause-seat : goal.do_joins-requires-clause-seat
+do_joins-requires-clause-seat c =
+    let is = c.requires.seat in
+    subst (λ (u : Stage). IsSeat c.args.words.now u [] c.args.seat.now) (sym is.stage) is
 
-pub do_laid-requires-clause-laid : goal.do_laid-requires-clause-laid
-do_laid-requires-clause-laid c =
-    let s = c.args.worker.now.stage in
-    here_laid c.args.words.now c.lay_next-row.result.now c.loop.seat c.loop.worker.desk (tile_at s) (done_at s)
-    c.loop.counter c.args.count c.loop.invariant.seat c.loop.invariant.laid c.loop-test.true
+pub do_joins-requires-clause-laid : goal.do_joins-requires-clause-laid
+do_joins-requires-clause-laid c =
+    subst (λ (u : Stage). AreJoined c.args.words.now.plan u c.in-Some.lanes c.args.count) (sym c.requires.seat.stage)
+    (c.in-Some.ensures c.args.count c.requires.ahead)
 
-pub loop-preserved : goal.loop-preserved
-loop-preserved c =
-    let w = c.args.words.now in
-    let s = c.args.worker.now.stage in
-    let row = c.lay_next-row.result.now in
-    let is = c.loop.invariant in
-    let worker = c.loop.worker in
-    let new = c.do_laid.new.desk in
-    let room = c.do_laid.ensures.room in
-    record {
-      seat = seat_on w c.loop.seat c.do_laid.new.seat (tile_at s) (done_at s) c.loop.counter is.seat
-          c.do_laid.ensures.seat;
-      laid = laid_on w row c.loop.seat worker.desk (tile_at s) (done_at s) c.loop.counter c.args.count is.seat is.laid
-          c.loop-test.true new c.do_laid.ensures.laid room;
-      worker = worker_kept w.plan worker new is.worker room;
-      same = ap (λ (v : Worker). record v { desk = new }) is.same;
-    }
+pub returns-in-Some-clause-seat : goal.returns-in-Some-clause-seat
+returns-in-Some-clause-seat c =
+    subst (λ (u : Stage).
+    IsSeat c.args.words.now (Working (tile_at u) (done_at u + c.args.count)) [] c.do_joins.new.seat) c.requires.seat.stage c.do_joins.ensures

@@ -4,13 +4,15 @@ use Rattle.array_words.specs.Stores.{IsNextStore}
 use Rattle.stmt_table.specs.Codes.{value_by}
 use Rattle.tile_core.specs.Passes.{plan_in}
 use Rattle.tile_core.specs.declared.worker.Stage.{Stage}
+use Rattle.tile_runner.specs.Laid.{IsOnDesk}
 use Rattle.tile_runner.proofs.Laid.{first_tells, next_read, next_store}
 use Rattle.tile_runner.proofs.stretches.do_laid.Goals as goal
 
 pub cell-requires-clause-access : goal.cell-requires-clause-access
 cell-requires-clause-access c =
-    let tells = first_tells c.args.words.now.plan c.args.seat.now.me.0.stage c.args.row.now c.args.desk.now
-    c.requires.laid c.rows_tell_instances.ensures.tells c.requires.seat.of.planned in
+    let tells = first_tells c.args.words.now.plan c.args.seat.now.me.0.stage c.args.row.now
+    (IsOnDesk c.args.row.now c.args.desk.now) c.requires.laid c.rows_tell_instances.ensures.tells
+    c.requires.seat.of.planned in
     let n = tells.accesses in
     let end = c.reads-read-end.ensures in
     let less = c.loop-read-test.true in
@@ -23,24 +25,26 @@ load_at-value-requires-clause-next c =
     let a = c.requires.laid in
     let is = c.loop-read.invariant in
     let xs = c.loop-read.seat.me.0.reads in
-    let tells = first_tells w.plan s c.args.row.now c.args.desk.now a c.rows_tell_instances.ensures.tells
-    c.requires.seat.of.planned in
+    let tells = first_tells w.plan s c.args.row.now (IsOnDesk c.args.row.now c.args.desk.now) a
+    c.rows_tell_instances.ensures.tells c.requires.seat.of.planned in
     let end = c.reads-read-end.ensures in
     let less = c.loop-read-test.true in
     subst (λ (u : Stage). IsNextRead (plan_in w) u xs c.cell.result) (sym is.seat.stage)
-    (next_read w.plan s c.args.row.now c.args.desk.now a w.table.shared.key.cells.items xs c.loop-read.read c.cell.result
-    tells is.count (omega (arith, end, less))
-    (λ form e. c.cell.ensures a.steps a.first.turns form (is.laid a.steps a.first.turns a.laid) e))
+    (next_read w.plan s c.args.row.now (IsOnDesk c.args.row.now c.args.desk.now) a w.table.shared.key.cells.items xs
+    c.loop-read.read c.cell.result tells is.count (omega (arith, end, less))
+    (λ form e. c.cell.ensures a.steps a.first.turns form (is.laid a.steps a.first.turns a.laid.1) e))
 
 pub value-value-requires-clause-made : goal.value-value-requires-clause-made
 value-value-requires-clause-made c =
-    (first_tells c.args.words.now.plan c.args.seat.now.me.0.stage c.args.row.now c.args.desk.now c.requires.laid
+    (first_tells c.args.words.now.plan c.args.seat.now.me.0.stage c.args.row.now
+    (IsOnDesk c.args.row.now c.args.desk.now) c.requires.laid
     c.rows_tell_instances.ensures.tells c.requires.seat.of.planned).made
 
 pub cell-requires-2-clause-access : goal.cell-requires-2-clause-access
 cell-requires-2-clause-access c =
-    let tells = first_tells c.args.words.now.plan c.args.seat.now.me.0.stage c.args.row.now c.args.desk.now
-    c.requires.laid c.rows_tell_instances.ensures.tells c.requires.seat.of.planned in
+    let tells = first_tells c.args.words.now.plan c.args.seat.now.me.0.stage c.args.row.now
+    (IsOnDesk c.args.row.now c.args.desk.now) c.requires.laid c.rows_tell_instances.ensures.tells
+    c.requires.seat.of.planned in
     let n = tells.accesses in
     omega (arith, n)
 
@@ -53,17 +57,17 @@ store_at-requires-clause-next c =
     let turns = a.first.turns in
     let is = c.loop-read.invariant in
     let xs = c.loop-read.seat.me.0.reads in
-    let tells = first_tells w.plan s row c.args.desk.now a c.rows_tell_instances.ensures.tells
+    let tells = first_tells w.plan s row (IsOnDesk row c.args.desk.now) a c.rows_tell_instances.ensures.tells
     c.requires.seat.of.planned in
     let end = c.reads-read-end.ensures in
     let over = c.loop-read-test.false in
     let within = c.loop-read.auto.read-end in
     let all : c.loop-read.read ≡ row.code.reads = omega (arith, end, over, within) in
-    let laid = is.laid a.steps turns a.laid in
+    let laid = is.laid a.steps turns a.laid.1 in
     let values : take row.code.reads c.loop-read.desk.slots.items ≡ xs =
     ap (λ (n : ℕ). take n c.loop-read.desk.slots.items) (sym all) ∙ is.slots in
     subst (λ (u : Stage). IsNextStore (plan_in w) u xs c.cell-2.result c.value-value.result) (sym is.seat.stage)
-    (next_store w.plan s row c.args.desk.now a w.table.shared.key.cells.items xs c.cell-2.result c.value-value.result tells
-    (is.count ∙ all)
+    (next_store w.plan s row (IsOnDesk row c.args.desk.now) a w.table.shared.key.cells.items xs c.cell-2.result
+    c.value-value.result tells (is.count ∙ all)
     (λ form e. c.cell-2.ensures a.steps turns form (c.value-value.ensures.laid a.steps turns laid) e)
     (c.value-value.ensures.value a.steps turns laid ∙ ap (value_by row.code turns) values))

@@ -1,6 +1,7 @@
 use Rattle.std.proofs.Common.{List, ℤ, subst, take}
 use Rattle.stmt_table.specs.Desks.{IsLaid}
 use Rattle.stmt_table.proofs.Desks.{room_stays}
+use Rattle.tile_runner.specs.Laid.{IsOnDesk}
 use Rattle.tile_runner.proofs.Laid.{ahead_laid}
 use Rattle.tile_runner.proofs.stretches.lay_next.Goals as goal
 
@@ -10,7 +11,10 @@ returns-clause-laid c = λ count a.
     let next = c.in-Some.next in
     let row = c.row-row.result.now in
     let room = c.requires.worker.desk.each next.statement row c.row-row.ensures.row in
-    ahead_laid c.args.plan.now w.stage w.next w.spot.stretch count next row c.lay.new.desk a c.in-Some.is
-    c.row-row.ensures.row (room_stays row w.desk c.lay.new.desk room c.lay.ensures.room)
-    (subst (λ (ts : List ℤ). IsLaid row (take next.loops w.spot.stretch.steps) ts c.lay.new.desk) c.turns.ensures
-    (subst (λ (ts : List ℤ). IsLaid row ts c.turns.result.now c.lay.new.desk) c.first_steps.ensures c.lay.ensures.laid))
+    ahead_laid c.args.plan.now w.stage w.next w.spot.stretch count next row (IsOnDesk row c.lay.new.desk) a c.in-Some.is
+    c.row-row.ensures.row (
+      room_stays row w.desk c.lay.new.desk room c.lay.ensures.room,
+      subst (λ (ts : List ℤ). IsLaid row (take next.loops w.spot.stretch.steps) ts c.lay.new.desk) c.turns.ensures
+          (subst (λ (ts : List ℤ). IsLaid row ts c.turns.result.now c.lay.new.desk) c.first_steps.ensures
+          c.lay.ensures.laid),
+    )
