@@ -6,7 +6,7 @@
 
 pub mod calls;
 
-ghost use Rattle.std.specs.Prelude.{All, ◌≡◌, ◌⊎◌, ◌<◌, ◌^◌, ℕ, ℤ, [], List, Option, Some, map};
+ghost use Rattle.std.specs.Prelude.{All, ◌≡◌, ◌⊎◌, ◌<◌, ◌≤◌, ◌^◌, ℕ, ℤ, [], List, Option, Some, map};
 ghost use Rattle.clap.specs.Words.{fault_of};
 ghost use Rattle.io_ports.specs.Reads.{SourceShows};
 ghost use Rattle.io_ports.specs.Writes.{SinkShows};
@@ -27,8 +27,10 @@ ghost use Rattle.c_printer.specs.Reading.{read_text};
 ghost use Rattle.report_text.specs.declared.status.Status.TheVariants.{Done};
 ghost use Rattle.report_text.specs.declared.status.Status.{Status};
 ghost use Rattle.polypar.specs.Answered.{Answered, HasLines, PrintsText, PrintsTold};
-ghost use Rattle.command_line.specs.Command.{IsDepsCommand, IsEmitCommand, IsScheduleCommand, IsTaken};
-ghost use Rattle.command_line.specs.Command.{NamesCommand, NamesNoKind, command_names};
+ghost use Rattle.command_line.specs.Command.{IsDepsCommand, IsEmitCommand, IsGenCommand, IsScheduleCommand};
+ghost use Rattle.command_line.specs.Command.{IsTaken, NamesCommand, NamesNoKind, command_names};
+ghost use Rattle.command_line.specs.declared.command.GeneratedKernel.{GeneratedKernel};
+ghost use Rattle.command_line.specs.declared.command.RunOptions.{RunOptions};
 ghost use Rattle.command_line.specs.Stated.{tool};
 ghost use Rattle.polypar.specs.Deserves.{Deserves, IsVerdict};
 ghost use Rattle.polypar.specs.Emitting.{ReadsAsLoops};
@@ -37,7 +39,10 @@ ghost use Rattle.polypar.specs.Orders.{IsOrderOf};
 ghost use Rattle.polypar.specs.Sources.{TellsLastWrites};
 ghost use Rattle.polypar.specs.Trees.{StandInOrder};
 
-use command_line::{other_kinds_alone_are_not_taken, taken_words_name_a_command};
+use command_line::{
+    numbers_of_taken_words_are_in_range, other_kinds_alone_are_not_taken,
+    taken_words_name_a_command,
+};
 use polypar::{
     deserved_once, only_plans_have_lines, printed_arrays_are_data, printed_loops_are_read_back,
     printed_loops_run_the_kernel, printed_sources_tell_last_writes,
@@ -133,6 +138,17 @@ pub fn commands_of_words()
         → (name : List ℕ) × In name command_names × NamesCommand name words }
 {
     taken_words_name_a_command();
+}
+
+/// `gen` has a SIZE from 1 to 512, by `size` of `numbers_of_taken_words_are_in_range`; `schedule` has a budget from 1,
+/// by `least_budget`, to 20000, by `most_budget`.
+pub fn numbers_of_words()
+    ensures size { (words : List (List ℕ)) (generated : GeneratedKernel) (options : RunOptions)
+        → IsGenCommand generated options words → (1 ≤ generated.size) × (generated.size ≤ 512) }
+    ensures least_budget { (words : List (List ℕ)) (budget : ℕ) → IsScheduleCommand budget words → 1 ≤ budget }
+    ensures most_budget { (words : List (List ℕ)) (budget : ℕ) → IsScheduleCommand budget words → budget ≤ 20000 }
+{
+    numbers_of_taken_words_are_in_range();
 }
 
 /// Words in which `clap` finds no fault are taken but for kinds that are none, by the clause of

@@ -1,6 +1,7 @@
 //! Callers of what the determined run gives.
-ghost use Rattle.std.specs.Prelude.{◌≡◌, ◌∷◌, [], ◌⊎◌, ◌≤◌, ℕ, ℤ, pos, ◌<ℤ◌, List};
+ghost use Rattle.std.specs.Prelude.{◌≡◌, ◌∷◌, ◌++◌, [], ◌⊎◌, ◌≤◌, ℕ, ℤ, pos, ◌<ℤ◌, ◌≤ℤ◌, ◌+ℤ◌, ◌-ℤ◌, List};
 ghost use Rattle.whole_numbers.specs.Lexicographic.{LexLess};
+ghost use Rattle.whole_numbers.specs.Lists.{dot};
 ghost use Rattle.scop_syntax.specs.Cells.{PlacesConflict};
 ghost use Rattle.scop_syntax.specs.Kernel.{IsKernel};
 ghost use Rattle.scop_syntax.specs.Members.{In};
@@ -11,7 +12,7 @@ ghost use Rattle.iteration_domains.specs.Model.{model_of};
 ghost use Rattle.conflict_deps.specs.Conflicts.{conflicts_of};
 ghost use Rattle.schedule_rows.specs.Bands.{Along};
 ghost use Rattle.schedule_rows.specs.Dependences.{Relates};
-ghost use Rattle.schedule_rows.specs.Items.{Block, Row, values};
+ghost use Rattle.schedule_rows.specs.Items.{Block, Marked, Row, band, phi, values};
 ghost use Rattle.schedule_rows.specs.Measure.{measure};
 ghost use Rattle.schedule_rows.specs.Next.{IsSizedDep, State};
 ghost use Rattle.schedule_rows.specs.Outcomes.{IsSchedule, Next, Outcome, Runs, ends};
@@ -46,6 +47,17 @@ pub fn plans_without_items()
     schedule_rows::schedules_are_good_plans();
 }
 
+/// Without parameters a row rises by at most w at pairs with equal values before its band, by the clause of
+/// `schedules_bound_distances`.
+pub fn distances_without_parameters()
+    ensures { (loops : List ℕ) (deps : List Dependence) (before : List Block) (rows : List Marked) (behind : List Block)
+        (r : Marked) (d : Dependence) (x y : Instance) → ((d : Dependence) → In d deps → IsSizedDep loops d)
+        → IsSchedule 0 loops deps (before ++ band rows ∷ behind) → In r rows → In d deps → Relates [] d x y
+        → values before x ≡ values before y → (phi r.row y -ℤ phi r.row x) ≤ℤ (dot r.row.u [] +ℤ r.row.w) }
+{
+    schedule_rows::schedules_bound_distances();
+}
+
 /// Where a run has a step the measure is not 0, by the clause of `runs_are_short`.
 pub fn measure_of_a_step()
     ensures { (m : ℕ) (loops : List ℕ) (s t : State) (blocks : List Block) → Runs m loops s (t ∷ []) blocks
@@ -60,6 +72,14 @@ pub fn ends_are_the_only_outcome()
         → Next m loops s o → ends blocks ≡ o }
 {
     schedule_rows::each_state_has_one_outcome();
+}
+
+/// Dependences without parameters have one schedule, by the clause of `dependences_have_one_schedule`.
+pub fn schedules_without_parameters_are_one()
+    ensures { (loops : List ℕ) (deps : List Dependence) (blocks others : List Block) → IsSchedule 0 loops deps blocks
+        → IsSchedule 0 loops deps others → blocks ≡ others }
+{
+    schedule_rows::dependences_have_one_schedule();
 }
 
 /// Where a schedule has no item, statements' numbers rise along dependences unless turns do, by the clause of

@@ -1,4 +1,6 @@
 pub mod Firsts
+pub mod OneStop
+pub mod OneAnswer
 pub mod QuestionStops
 pub mod Emptiness
 pub mod RestrictedDependences

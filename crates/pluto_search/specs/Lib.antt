@@ -5,6 +5,7 @@ pub mod Stopping
 pub mod Steps
 pub mod StepParts
 pub mod Searching
+pub mod Alike
 -- Passed on: what this crate's contracts are told in.
 pub use Rattle.pip_solver.specs.declared.stop.Stop
 pub use Rattle.pluto_systems.specs.Stuck

@@ -16,10 +16,10 @@ mod state;
 mod stops;
 
 pub use kept::Kept;
-pub use laws::schedules_order_conflicts;
+pub use laws::{schedules_order_conflicts, searches_answer_once};
 pub use searching::search;
 
 // Passed on: what goes with this crate's contracts.
 pub use pip_solver::Stop;
 pub use pluto_systems::Stuck;
-pub use schedule_rows::{Schedule, each_state_has_one_outcome};
+pub use schedule_rows::{Schedule, dependences_have_one_schedule, each_state_has_one_outcome};
