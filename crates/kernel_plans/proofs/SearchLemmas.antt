@@ -1,41 +1,21 @@
--- What a search over a model's conflicts finds, and that dependences have one schedule.
-use Rattle.std.proofs.Common.{◌≡◌, subst, ℕ, List, [], ◌∷◌, Ok}
+-- What a search over a model's conflicts finds, and the text of its schedule.
+use Rattle.std.proofs.Common.{◌≡◌, subst, ℕ, List, Ok}
 use Rattle.iteration_domains.specs.Dependence.{Dependence}
 use Rattle.iteration_domains.specs.Model.{KernelModel, model_of}
 use Rattle.conflict_deps.specs.Conflicts.{conflicts_of}
 use Rattle.pluto_search.specs.Items.{Block}
-use Rattle.pluto_search.specs.Next.{State}
-use Rattle.pluto_search.specs.Outcomes.{Outcome, ends, goes, IsSchedule, Next, Runs, state}
+use Rattle.pluto_search.specs.Outcomes.{ends, IsSchedule}
 use Rattle.pluto_search.specs.Schedule.{Scheduled, IsScheduled, loops_in}
-use Rattle.pluto_search.proofs.Determinism.{restricts_unique}
 use Rattle.pluto_search.specs.Questions.{ComesAnswered}
 use Rattle.pluto_search.specs.Searching.{Searches}
 use Rattle.report_text.specs.ScheduleText.{schedule_text, IsTextOf}
 use Rattle.scop_syntax.specs.Tree.{Program}
 use Rattle.kernel_plans.specs.Planning.{IsSearched}
 
--- a state has one outcome
-abbrev pub OneOutcome : Type 0
-OneOutcome = (m : ℕ) (loops : List ℕ) (s : State) (o q : Outcome) → Next m loops s o → Next m loops s q → o ≡ q
-
--- so runs from one state have one end
-one_end : OneOutcome → (m : ℕ) (loops : List ℕ) (s : State) (ss : List State) (bs : List Block) (ts : List State)
-    (cs : List Block) → Runs m loops s ss bs → Runs m loops s ts cs → bs ≡ cs
-one_end one m loops s [] bs [] cs a b = let same = one m loops s (ends bs) (ends cs) a b in cc
-one_end one m loops s [] bs (t ∷ ts) cs a b = let same = one m loops s (ends bs) (goes t) a b.0 in cc
-one_end one m loops s (u ∷ us) bs [] cs a b = let same = one m loops s (goes u) (ends cs) a.0 b in cc
-one_end one m loops s (u ∷ us) bs (t ∷ ts) cs a b =
-    let goes_on = one m loops s (goes u) (goes t) a.0 b.0 in
-    let same : u ≡ t = cc in
-    one_end one m loops t us bs ts cs (subst (λ v. Runs m loops v us bs) same a.1) b.1
-
--- and dependences have one schedule
-one_schedule : OneOutcome → (m : ℕ) (loops : List ℕ) (deps : List Dependence) (bs cs : List Block)
-    → IsSchedule m loops deps bs → IsSchedule m loops deps cs → bs ≡ cs
-one_schedule one m loops deps bs cs a b =
-    let same = restricts_unique m [] deps a.taken b.taken a.takes b.takes in
-    one_end one m loops (state [] [] b.taken) a.states bs b.states cs
-    (subst (λ taken. Runs m loops (state [] [] taken) a.states bs) same a.runs) b.runs
+-- dependences have one schedule
+abbrev pub OneSchedule : Type 0
+OneSchedule = (m : ℕ) (loops : List ℕ) (deps : List Dependence) (blocks others : List Block)
+    → IsSchedule m loops deps blocks → IsSchedule m loops deps others → blocks ≡ others
 
 -- what a search over the model's conflicts finds
 pub searched : (budget : ℕ) (model : KernelModel) (deps : List Dependence) (s : Scheduled) → deps ≡ conflicts_of model
@@ -57,8 +37,8 @@ program_searched budget program model deps s own conflicts found =
     subst (λ m. IsSearched budget m found.2.blocks) own (searched budget model deps s conflicts found)
 
 -- the text of a schedule is that of its blocks
-pub text_of_blocks : OneOutcome → (s : Scheduled) (is : IsScheduled s) (text : List ℕ) → IsTextOf s text
+pub text_of_blocks : OneSchedule → (s : Scheduled) (is : IsScheduled s) (text : List ℕ) → IsTextOf s text
     → text ≡ schedule_text is.blocks
 text_of_blocks one s is text told =
-    let same = one_schedule one s.model.parameters (loops_in s.model) s.deps told.blocks is.blocks told.run is.run in
+    let same = one s.model.parameters (loops_in s.model) s.deps told.blocks is.blocks told.run is.run in
     subst (λ blocks. text ≡ schedule_text blocks) same told.text_is

@@ -9,10 +9,10 @@ use Rattle.pluto_search.specs.declared.kept.Kept.{Kept}
 use Rattle.report_text.specs.declared.kept_line.KeptLine.{KeptLine}
 use Rattle.report_text.specs.ScheduleText.{IsTextOf}
 use Rattle.kernel_plans.specs.Planning.{line_of_kept, IsLineText, IsPlanOf}
-use Rattle.kernel_plans.proofs.SearchLemmas.{OneOutcome, searched, text_of_blocks}
+use Rattle.kernel_plans.proofs.SearchLemmas.{OneSchedule, searched, text_of_blocks}
 
 -- the text of the schedule that is found
-pub schedule_is_plan : OneOutcome → (budget : ℕ) (model : KernelModel) (deps : List Dependence) (s : Scheduled)
+pub schedule_is_plan : OneSchedule → (budget : ℕ) (model : KernelModel) (deps : List Dependence) (s : Scheduled)
     (text : List ℕ) → deps ≡ conflicts_of model → Searches model deps budget (Ok s) → IsTextOf s text
     → IsPlanOf budget model text
 schedule_is_plan one budget model deps s text conflicts found is = inl (

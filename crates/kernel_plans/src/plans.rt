@@ -11,7 +11,7 @@ ghost use Rattle.kernel_plans.specs.steps.Plans.{IsKeptPlan, IsTiledPlan};
 use crate::lines::line_text;
 use loop_tree::{Tiling, Tree};
 use plan_tree::{source_tree, tiling};
-use pluto_search::{Schedule, each_state_has_one_outcome};
+use pluto_search::{Schedule, dependences_have_one_schedule};
 use report_text::{KeptLine, schedule_text};
 use scop_syntax::tree::Kernel;
 use std::alloc::{AllocError, Global};
@@ -29,7 +29,7 @@ pub struct Planned {
 fn report_lines(alloc: Global, schedule: &Schedule, report: bool) -> Result<Vec<u8>, AllocError>
     ensures { IfOk result (λ lines. (s : IsScheduled schedule.now) → lines.items ≡ report_of report s.blocks) }
 {
-    each_state_has_one_outcome();
+    dependences_have_one_schedule();
     if report {
         return schedule_text(alloc, schedule);
     }

@@ -6,7 +6,7 @@ ghost use Rattle.kernel_plans.specs.Planning.{line_of_kept, IsPlanOf};
 use crate::lines::{line_of_kept, line_text};
 use conflict_deps::conflicts;
 use iteration_domains::Model;
-use pluto_search::{each_state_has_one_outcome, search};
+use pluto_search::{dependences_have_one_schedule, search};
 use report_text::schedule_text;
 use std::alloc::{AllocError, Global};
 
@@ -18,7 +18,7 @@ use std::alloc::{AllocError, Global};
 pub fn plan_text(alloc: Global, model: &Model, budget: u64) -> Result<Vec<u8>, AllocError>
     ensures { IfOk result (λ text. IsPlanOf budget model.now text.items) }
 {
-    each_state_has_one_outcome();
+    dependences_have_one_schedule();
     let deps = match conflicts(alloc, model) {
         Ok(deps) => deps,
         Err(_) => return Err(AllocError),

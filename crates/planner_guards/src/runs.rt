@@ -1,14 +1,15 @@
 //! Callers of what the determined run gives.
-ghost use Rattle.std.specs.Prelude.{◌≡◌, ◌∷◌, ◌++◌, [], ◌⊎◌, ◌≤◌, ℕ, ℤ, pos, ◌<ℤ◌, ◌≤ℤ◌, ◌+ℤ◌, ◌-ℤ◌, List};
+ghost use Rattle.std.specs.Prelude.{◌≡◌, ◌∷◌, ◌++◌, [], ◌⊎◌, ◌≤◌, ℕ, ℤ, pos, ◌<ℤ◌, ◌≤ℤ◌, ◌+ℤ◌, ◌-ℤ◌, Err, List, Ok};
 ghost use Rattle.whole_numbers.specs.Lexicographic.{LexLess};
 ghost use Rattle.whole_numbers.specs.Lists.{dot};
+ghost use Rattle.integer_sets.specs.Constraints.{Constraints};
 ghost use Rattle.scop_syntax.specs.Cells.{PlacesConflict};
 ghost use Rattle.scop_syntax.specs.Kernel.{IsKernel};
 ghost use Rattle.scop_syntax.specs.Members.{In};
 ghost use Rattle.scop_syntax.specs.Tree.{Program};
 ghost use Rattle.scop_syntax.specs.Walk.{Instance, instance, walk_of};
 ghost use Rattle.iteration_domains.specs.Dependence.{Dependence};
-ghost use Rattle.iteration_domains.specs.Model.{model_of};
+ghost use Rattle.iteration_domains.specs.Model.{KernelModel, model_of};
 ghost use Rattle.conflict_deps.specs.Conflicts.{conflicts_of};
 ghost use Rattle.schedule_rows.specs.Bands.{Along};
 ghost use Rattle.schedule_rows.specs.Dependences.{Relates};
@@ -17,8 +18,10 @@ ghost use Rattle.schedule_rows.specs.Measure.{measure};
 ghost use Rattle.schedule_rows.specs.Next.{IsSizedDep, State};
 ghost use Rattle.schedule_rows.specs.Outcomes.{IsSchedule, Next, Outcome, Runs, ends};
 ghost use Rattle.schedule_rows.specs.Posed.{IsLeast};
-ghost use Rattle.schedule_rows.specs.Schedule.{loops_in};
+ghost use Rattle.schedule_rows.specs.Schedule.{Scheduled, loops_in};
 ghost use Rattle.schedule_rows.specs.Tiles.{IsGoodPair};
+ghost use Rattle.pluto_search.specs.Searching.{Searches};
+ghost use Rattle.pluto_search.specs.declared.kept.Kept.TheVariants.{NoRow};
 
 /// Where a schedule has no item, all pairs are of one statement, by the clause of `schedules_keep_every_band`.
 pub fn pairs_without_items()
@@ -80,6 +83,17 @@ pub fn schedules_without_parameters_are_one()
         → IsSchedule 0 loops deps others → blocks ≡ others }
 {
     schedule_rows::dependences_have_one_schedule();
+}
+
+/// Two searches find one schedule, and where one finds none for want of a row another finds none, by the clause of
+/// `searches_answer_once`.
+pub fn schedules_that_searches_find()
+    ensures found { (model : KernelModel) (deps : List Dependence) (budget : ℕ) (s t : Scheduled)
+        → Searches model deps budget (Ok s) → Searches model deps budget (Ok t) → s ≡ t }
+    ensures kept { (model : KernelModel) (deps : List Dependence) (budget : ℕ) (s : Scheduled) (posed : Constraints)
+        → Searches model deps budget (Ok s) → Searches model deps budget (Err (NoRow posed)) → ⊥ }
+{
+    pluto_search::searches_answer_once();
 }
 
 /// Where a schedule has no item, statements' numbers rise along dependences unless turns do, by the clause of

@@ -1,26 +1,34 @@
 //! Callers of schedules.
-ghost use Rattle.std.specs.Prelude.{◌≡◌, ◌<◌, ◌≤◌, ◌∷◌, [], true, All, IfOk, List, Some, ℕ, length, slice_get};
+ghost use Rattle.std.specs.Prelude.{◌≡◌, ◌<◌, ◌≤◌, ◌+◌, ◌++◌, ◌∷◌, ◌↔◌, [], true, All, IfOk, List, Some, ℕ, length};
+ghost use Rattle.std.specs.Prelude.{slice_get};
 ghost use Rattle.scop_syntax.specs.Members.{In};
 ghost use Rattle.iteration_domains.specs.Dependence.{Dependence};
 ghost use Rattle.schedule_rows.specs.Dependences.{IsEqualAt};
-ghost use Rattle.schedule_rows.specs.Items.{Block, Row, scalar};
+ghost use Rattle.schedule_rows.specs.Items.{Block, Marked, Row, band, scalar};
 ghost use Rattle.schedule_rows.specs.Outcomes.{IsSchedule, state};
 ghost use Rattle.schedule_rows.specs.Reaching.{Reached};
-ghost use Rattle.schedule_rows.specs.Schedule.{loops_in, row};
+ghost use Rattle.schedule_rows.specs.Schedule.{items_of, loops_in, row};
 
 use iteration_domains::Model;
 use schedule_rows::Schedule;
 use std::alloc::{AllocError, Global};
 
-/// A row that is told as parallel has equal values at all pairs that remained where its band began, by `exact` of
-/// `is_parallel`.
+/// A row is told as parallel exactly where it has equal values at all pairs that remained where its own band began, by
+/// `exact` of `is_parallel`, with what it says of the row's place written out.
 pub fn is_parallel_row(schedule: &Schedule, item: usize) -> bool
     requires { item < length schedule.now.items }
-    ensures { (r : Row) → slice_get schedule.now.items item ≡ Some (row r) → result ≡ true
-        → (before : List Block) × (remaining : List Dependence)
+    ensures { (r : Row) → slice_get schedule.now.items item ≡ Some (row r)
+        → (before : List Block) × (rows : List Marked) × (behind : List Block) × (at : ℕ)
+        × (remaining : List Dependence)
+        × IsSchedule schedule.now.model.parameters (loops_in schedule.now.model) schedule.now.deps
+        (before ++ band rows ∷ behind)
+        × (schedule.now.items ≡ items_of (before ++ band rows ∷ behind))
+        × (item ≡ length (items_of before) + at)
+        × (slice_get rows at ≡ Some (record { row = r; parallel = result }))
         × Reached schedule.now.model.parameters (loops_in schedule.now.model) schedule.now.deps
         (state before [] remaining)
-        × ((d : Dependence) → In d remaining → IsEqualAt schedule.now.model.parameters r d) }
+        × ((result ≡ true) ↔ ((d : Dependence) → In d remaining
+        → IsEqualAt schedule.now.model.parameters r d)) }
 {
     schedule.is_parallel(item)
 }

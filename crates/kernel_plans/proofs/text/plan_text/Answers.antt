@@ -7,7 +7,7 @@ use Rattle.kernel_plans.proofs.text.plan_text.Goals as goal
 pub returns-in-Ok-search : goal.returns-in-Ok-search
 returns-in-Ok-search c =
     IfOk-weaker c.schedule_text.result _ _
-    (λ text is. schedule_is_plan c.each_state_has_one_outcome.ensures c.args.budget c.args.model.now
+    (λ text is. schedule_is_plan c.dependences_have_one_schedule.ensures c.args.budget c.args.model.now
     c.deref.result.now c.in-Ok-search.schedule text.items (c.deref.ensures.value ∙ c.in-Ok.ensures)
     c.in-Ok-search.ensures.search is)
     c.schedule_text.ensures
