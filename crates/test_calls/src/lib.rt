@@ -32,8 +32,6 @@ mod sets;
 #[cfg(test)]
 mod solver;
 #[cfg(test)]
-mod steps;
-#[cfg(test)]
 mod texts;
 #[cfg(test)]
 mod trees;
