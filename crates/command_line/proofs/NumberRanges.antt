@@ -128,40 +128,76 @@ module _ (name : Text) (low high : ℕ) where
 
 -- what the stated command asks of its numbers
 workers_asked : ShapesAsk (codes "workers") 1 most_workers (built tool).subs
-workers_asked =
-    (((refl, refl), (tt, (tt, (tt, (tt, tt))))),
-    ((tt, (tt, tt)),
-    ((tt, (tt, tt)),
-    ((tt, (tt, (tt, tt))),
-    ((tt, (tt, (tt, ((refl, refl), (tt, (tt, (tt, tt))))))),
-    tt)))))
+workers_asked = (
+  ((refl, refl), (tt, (tt, (tt, (tt, tt))))),
+  (
+    (tt, (tt, tt)),
+    (
+      (tt, (tt, tt)),
+      (
+        (tt, (tt, (tt, tt))),
+        (
+          (tt, (tt, (tt, ((refl, refl), (tt, (tt, (tt, tt))))))),
+          tt,
+        ),
+      ),
+    ),
+  ),
+)
 
 tile_asked : ShapesAsk (codes "tile") 1 most_tile (built tool).subs
-tile_asked =
-    ((tt, ((refl, refl), (tt, (tt, (tt, tt))))),
-    ((tt, (tt, tt)),
-    ((tt, (tt, tt)),
-    ((tt, ((refl, refl), (tt, tt))),
-    ((tt, (tt, (tt, (tt, ((refl, refl), (tt, (tt, tt))))))),
-    tt)))))
+tile_asked = (
+  (tt, ((refl, refl), (tt, (tt, (tt, tt))))),
+  (
+    (tt, (tt, tt)),
+    (
+      (tt, (tt, tt)),
+      (
+        (tt, ((refl, refl), (tt, tt))),
+        (
+          (tt, (tt, (tt, (tt, ((refl, refl), (tt, (tt, tt))))))),
+          tt,
+        ),
+      ),
+    ),
+  ),
+)
 
 budget_asked : ShapesAsk (codes "budget") 1 most_moves (built tool).subs
-budget_asked =
-    ((tt, (tt, ((refl, refl), (tt, (tt, tt))))),
-    (((refl, refl), (tt, tt)),
-    (((refl, refl), (tt, tt)),
-    (((refl, refl), (tt, (tt, tt))),
-    ((tt, (tt, (tt, (tt, (tt, ((refl, refl), (tt, tt))))))),
-    tt)))))
+budget_asked = (
+  (tt, (tt, ((refl, refl), (tt, (tt, tt))))),
+  (
+    ((refl, refl), (tt, tt)),
+    (
+      ((refl, refl), (tt, tt)),
+      (
+        ((refl, refl), (tt, (tt, tt))),
+        (
+          (tt, (tt, (tt, (tt, (tt, ((refl, refl), (tt, tt))))))),
+          tt,
+        ),
+      ),
+    ),
+  ),
+)
 
 size_asked : ShapesAsk (codes "size") 1 most_size (built tool).subs
-size_asked =
-    ((tt, (tt, (tt, (tt, (tt, tt))))),
-    ((tt, (tt, tt)),
-    ((tt, (tt, tt)),
-    ((tt, (tt, (tt, tt))),
-    ((tt, (tt, ((refl, refl), (tt, (tt, (tt, (tt, tt))))))),
-    tt)))))
+size_asked = (
+  (tt, (tt, (tt, (tt, (tt, tt))))),
+  (
+    (tt, (tt, tt)),
+    (
+      (tt, (tt, tt)),
+      (
+        (tt, (tt, (tt, tt))),
+        (
+          (tt, (tt, ((refl, refl), (tt, (tt, (tt, (tt, tt))))))),
+          tt,
+        ),
+      ),
+    ),
+  ),
+)
 
 -- rows whose numbers lie in their ranges
 record AreInRange (rows : List Row) : Type 0 where
