@@ -11,21 +11,24 @@ from timing import rounds_of
 
 WORKERS = (1, 2, 4)
 TINY = 4
-TRIANGLE = """void triangle(int64_t T, int64_t N, uint64_t L[N][N], uint64_t x[N]) {
+TRIANGLE = """#include <stdint.h>
+void triangle(int64_t T, int64_t N, uint64_t L[N][N], uint64_t x[N]) {
   for (int64_t t = 0; t < T; t++)
     for (int64_t i = 0; i < N; i++)
       for (int64_t j = 0; j < i; j++)
         x[i] -= L[i][j] * x[j];
 }
 """
-GUARD = """void guard(int64_t T, int64_t N, uint64_t A[N][N], uint64_t B[N][N]) {
+GUARD = """#include <stdint.h>
+void guard(int64_t T, int64_t N, uint64_t A[N][N], uint64_t B[N][N]) {
   for (int64_t t = 0; t < T; t++)
     for (int64_t i = 0; i < N; i++)
       for (int64_t j = 0; j < N; j++)
         if (i + j >= N) B[i][j] += A[i][j] + t;
 }
 """
-STRIDES = """void strides(int64_t T, int64_t N, uint64_t A[N][N], uint64_t B[N][N]) {
+STRIDES = """#include <stdint.h>
+void strides(int64_t T, int64_t N, uint64_t A[N][N], uint64_t B[N][N]) {
   for (int64_t t = 0; t < T; t++)
     for (int64_t i = 0; i < N; i += 2)
       for (int64_t j = 0; j < N; j += 3)
