@@ -12,8 +12,8 @@ void even(int64_t N, uint64_t A[2*N], uint64_t B[2*N]) {
       }
       { /* S2 */ const int64_t i = pp_2; B[i] = A[i]; }
     }
-    if (-N + 16*pp_1 + 16 >= 0) {
-      { /* S2 */ const int64_t i = 2*N - 1; B[i] = A[i]; }
+    for (int64_t pp_2 = 2*N - 1; pp_2 <= pp_min(2*N - 1, 32*pp_1 + 31); pp_2++) {
+      { /* S2 */ const int64_t i = pp_2; B[i] = A[i]; }
     }
   }
 }

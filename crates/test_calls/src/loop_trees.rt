@@ -33,9 +33,6 @@ const TRIANGLE: &str = "void tri(int64_t N, uint64_t A[N][N]) {
 const TWO: &str = "void two(int64_t N, uint64_t A[N+1], uint64_t B[N]) {
     for (int64_t i = 0; i < N; i++) { A[i] = A[i] + 1; B[i] = A[i+1]; } }";
 
-const PAIR: &str = "void pair(int64_t N, uint64_t A[N], uint64_t B[N]) {
-    for (int64_t i = 0; i < N; i++) { A[i] = A[i] + 1; B[i] = A[i]; } }";
-
 /// The turns of the triangle's statement at N = 4 in tiles of 2, tile by tile.
 const TURNS: &[(i64, i64)] = &[
     (0, 0),
@@ -174,16 +171,8 @@ fn a_triangle_is_visited_tile_by_tile(rt: HostRuntime) -> Result<(), Fail> {
 
 #[test]
 fn separated_trees_have_fewer_guards(rt: HostRuntime) -> Result<(), Fail> {
-    let separated = guards(rt.alloc(), PAIR, Scan::Separated)?;
-    let hull = guards(rt.alloc(), PAIR, Scan::Hull)?;
-    assert!(rt; separated < hull, "{separated} {hull}");
-    Ok(())
-}
-
-#[test]
-fn shifted_statements_have_no_more_guards_apart(rt: HostRuntime) -> Result<(), Fail> {
     let separated = guards(rt.alloc(), TWO, Scan::Separated)?;
     let hull = guards(rt.alloc(), TWO, Scan::Hull)?;
-    assert!(rt; separated <= hull, "{separated} {hull}");
+    assert!(rt; separated < hull, "{separated} {hull}");
     Ok(())
 }

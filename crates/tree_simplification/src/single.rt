@@ -6,5 +6,6 @@ mod numbers;
 mod once;
 mod place;
 mod rounding;
+mod straight;
 
 pub(crate) use nodes::without_single;

@@ -10,6 +10,7 @@ use crate::single::heads::{bounds_at, leaf_at, tests_at};
 use crate::single::numbers::Stop;
 use crate::single::once::{Once, once_at};
 use crate::single::place::{Place, place_of, within_loop, within_once};
+use crate::single::straight::is_border;
 use affine_forms::push;
 use loop_tree::{Bounds, Guard, Loop, Node, Tree};
 use std::alloc::{AllocError, Global};
@@ -72,7 +73,8 @@ fn inline_loop(
     let variables = place.kept + place.parameters;
     let lower = bounds_at(alloc, &head.lower, place.forms.as_slice(), variables, true)?;
     let upper = bounds_at(alloc, &head.upper, place.forms.as_slice(), variables, false)?;
-    match once_at(alloc, head.parallel, &lower, &upper, variables)? {
+    let stays = is_border(place.within_tile, body);
+    match once_at(alloc, head.parallel, stays, &lower, &upper, variables)? {
         None => keep_loop(alloc, head, lower, upper, body, place, out),
         Some(once) => inline_once(alloc, head, once, body, place, out),
     }
@@ -97,7 +99,7 @@ fn keep_loop(
         (more (loops head.now.parallel (bounds_in head.now.lower) (bounds_in head.now.upper) (nodes_of body.now)) none)
         (nodes_of out.old.items) (nodes_of out.new.items)) }
 {
-    let within = within_loop(alloc, place)?;
+    let within = within_loop(alloc, place, head.parallel)?;
     let mut nodes = Vec::new(alloc);
     inline_nodes(alloc, body, &within, &mut nodes)?;
     let parallel = head.parallel;
@@ -180,15 +182,15 @@ fn inlined_tree(alloc: Global, tree: &Tree, parameters: usize) -> Result<Tree, S
     requires nested { (d : ℕ) × (d < 2 ^ 32) × NestAllTo d (trees_in tree.now) }
     ensures { IfOk result (λ t. IsInlined parameters (trees_in tree.now) (trees_in t)) }
 {
-    let place = place_of(alloc, Vec::new(alloc), 0, parameters)?;
+    let place = place_of(alloc, Vec::new(alloc), 0, parameters, false)?;
     let mut nodes = Vec::new(alloc);
     inline_nodes(alloc, tree.nodes.as_slice(), &place, &mut nodes)?;
     Ok(Tree { nodes })
 }
 
 /// The tree without the loops that run at most once: those that are not parallel, and that a form bounds from both
-/// sides. The form stands for the loop's value within, under tests whether it lies between the other bounds. Bounds and
-/// tests lose common factors. Nothing where a number would pass 2^45.
+/// sides, but for those at the border of a tile. The form stands for the loop's value within, under tests whether it lies
+/// between the other bounds. Bounds and tests lose common factors. Nothing where a number would pass 2^45.
 ///
 /// # Errors
 /// `AllocError` alone.

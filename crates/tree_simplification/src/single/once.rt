@@ -36,7 +36,7 @@ fn same_form(a: &Aff, b: &Aff) -> bool
 }
 
 /// Whether two parts of bounds are one.
-fn same_part(a: &Bound, b: &Bound) -> bool
+pub fn same_part(a: &Bound, b: &Bound) -> bool
     ensures { result ≡ true → a.now ≡ b.now }
 {
     if a.divisor != b.divisor {
@@ -46,7 +46,7 @@ fn same_part(a: &Bound, b: &Bound) -> bool
 }
 
 /// Whether a part of bounds is one of these.
-fn is_among(part: &Bound, parts: &[Bound]) -> bool
+pub fn is_among(part: &Bound, parts: &[Bound]) -> bool
     ensures { result ≡ true → In part.now parts.now }
 {
     for other in parts {
@@ -154,9 +154,11 @@ fn once_between(
 }
 
 /// What is known of a loop with these bounds, which is parallel or not, if it is not, and is found to run at most once.
+/// Nothing where it stays a loop all the same.
 pub fn once_at(
     alloc: Global,
     parallel: bool,
+    stays: bool,
     lower: &Bounds,
     upper: &Bounds,
     variables: usize,
@@ -167,6 +169,9 @@ pub fn once_at(
         × IsOnce variables o.form (bounds_in lower.now) (bounds_in upper.now) (map test_of o.tests.items))) }
 {
     if parallel {
+        return Ok(None);
+    }
+    if stays {
         return Ok(None);
     }
     let lows = copied_parts(alloc, lower)?;

@@ -11,13 +11,14 @@ use iteration_domains::variable_form;
 use std::alloc::{AllocError, Global};
 
 /// The forms of the old loops over so many new loops that were kept and so many parameters, and with those of the
-/// parameters behind.
+/// parameters behind; and whether it is directly within a parallel loop, where what is tested is tested for each tile.
 #[derive(Drop)]
 pub struct Place {
     pub loops: Vec<Form>,
     pub forms: Vec<Form>,
     pub kept: usize,
     pub parameters: usize,
+    pub within_tile: bool,
 }
 
 /// Appends the variables from `from` on to the last.
@@ -42,6 +43,7 @@ pub fn place_of(
     loops: Vec<Form>,
     kept: usize,
     parameters: usize,
+    within_tile: bool,
 ) -> Result<Place, AllocError>
     requires { kept + parameters ≤ 2 ^ 34 }
     ensures loops { IfOk result (λ p. p.loops.items ≡ loops.items) }
@@ -56,11 +58,12 @@ pub fn place_of(
         forms,
         kept,
         parameters,
+        within_tile,
     })
 }
 
-/// The place within a loop that stays.
-pub fn within_loop(alloc: Global, place: &Place) -> Result<Place, AllocError>
+/// The place within a loop that stays, which is parallel or not.
+pub fn within_loop(alloc: Global, place: &Place, parallel: bool) -> Result<Place, AllocError>
     requires few { place.now.kept + 1 + place.now.parameters ≤ 2 ^ 34 }
     requires sized { All (IsOver (place.now.kept + place.now.parameters)) place.now.loops.items }
     ensures loops { IfOk result (λ p. p.loops.items
@@ -77,7 +80,7 @@ pub fn within_loop(alloc: Global, place: &Place) -> Result<Place, AllocError>
         &mut loops,
         variable_form(alloc, kept + place.parameters, place.kept)?,
     )?;
-    place_of(alloc, loops, kept, place.parameters)
+    place_of(alloc, loops, kept, place.parameters, parallel)
 }
 
 /// The place within a loop that runs at most once, where a form gives its value.
@@ -91,5 +94,5 @@ pub fn within_once(alloc: Global, place: &Place, form: &Form) -> Result<Place, A
 {
     let mut loops = copies(alloc, place.loops.as_slice())?;
     push_copy(&mut loops, form)?;
-    place_of(alloc, loops, place.kept, place.parameters)
+    place_of(alloc, loops, place.kept, place.parameters, false)
 }

@@ -1,0 +1,5 @@
+use Rattle.std.specs.Prelude.{⊤}
+use Rattle.tree_simplification.proofs.single.straight.is_straight_loop.Given as goal
+
+abbrev pub invariant-loop-part : goal.invariant-loop-part
+invariant-loop-part l = ⊤
