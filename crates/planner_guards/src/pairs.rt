@@ -1,12 +1,12 @@
 //! Callers of what a row is to the pairs of a dependence: the laws without parameters.
-ghost use Rattle.std.specs.Prelude.{◌≡◌, ◌∷◌, [], ℕ, ℤ, pos, ◌<ℤ◌, ◌+ℤ◌, ◌-ℤ◌, ◌≤ℤ◌, length};
+ghost use Rattle.std.specs.Prelude.{◌≡◌, ◌∷◌, [], ◌⊎◌, false, ℕ, ℤ, pos, ◌<ℤ◌, ◌+ℤ◌, ◌-ℤ◌, ◌≤ℤ◌, length};
 ghost use Rattle.whole_numbers.specs.Lists.{dot};
 ghost use Rattle.whole_numbers.specs.Lexicographic.{LexLess};
 ghost use Rattle.scop_syntax.specs.Walk.{Instance};
 ghost use Rattle.iteration_domains.specs.Dependence.{Dependence};
 ghost use Rattle.schedule_rows.specs.Bands.{Along};
 ghost use Rattle.schedule_rows.specs.Dependences.{IsEmptyDep, IsKept, Relates, Suits, above_at, equal_at};
-ghost use Rattle.schedule_rows.specs.Items.{Block, Row, phi};
+ghost use Rattle.schedule_rows.specs.Items.{Block, Row, band, phi};
 ghost use Rattle.schedule_rows.specs.Posed.{IsBounded, IsLegal};
 ghost use Rattle.schedule_rows.specs.Tiles.{IsGoodPair};
 
@@ -38,11 +38,13 @@ pub fn rows_without_rising_pairs()
     schedule_rows::no_rising_pair_is_parallel();
 }
 
-/// Without items two instances of one statement are a good pair, by the clause of
+/// Of one row that carries two instances of one statement whose value rises, or stays, are a good pair, by the clause of
 /// `parts_that_do_not_fall_make_good_pairs`.
-pub fn good_pairs_of_one_statement()
-    ensures { (size : ℤ) (n : ℕ) (x y : Instance) → pos 0 <ℤ size → x.number ≡ y.number
-        → length x.turns ≡ length y.turns → LexLess x.turns y.turns → IsGoodPair size [] n x y }
+pub fn good_pairs_of_one_row()
+    ensures { (size : ℤ) (n : ℕ) (r : Row) (x y : Instance) → pos 0 <ℤ size → x.number ≡ y.number
+        → length x.turns ≡ length y.turns → LexLess x.turns y.turns
+        → (phi r x <ℤ phi r y) ⊎ (phi r x ≡ phi r y)
+        → IsGoodPair size (band (record { row = r; parallel = false } ∷ []) ∷ []) n x y }
 {
     schedule_rows::parts_that_do_not_fall_make_good_pairs();
 }

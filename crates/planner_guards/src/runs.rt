@@ -1,7 +1,9 @@
 //! Callers of what the determined run gives.
-ghost use Rattle.std.specs.Prelude.{◌≡◌, ◌∷◌, ◌++◌, [], ◌⊎◌, ◌≤◌, ℕ, ℤ, pos, ◌<ℤ◌, ◌≤ℤ◌, ◌+ℤ◌, ◌-ℤ◌, Err, List, Ok};
+ghost use Rattle.std.specs.Prelude.{◌≡◌, ◌∷◌, ◌++◌, [], ◌⊎◌, ◌≤◌, ◌-◌, ℕ, ℤ, pos, ◌<ℤ◌, ◌≤ℤ◌, ◌+ℤ◌, ◌-ℤ◌, Err, List, Ok};
+ghost use Rattle.std.specs.Prelude.{true, false, length};
+ghost use Rattle.whole_numbers.specs.Floor.{floor};
 ghost use Rattle.whole_numbers.specs.Lexicographic.{LexLess};
-ghost use Rattle.whole_numbers.specs.Lists.{dot};
+ghost use Rattle.whole_numbers.specs.Lists.{dot, zeros};
 ghost use Rattle.integer_sets.specs.Constraints.{Constraints};
 ghost use Rattle.scop_syntax.specs.Cells.{PlacesConflict};
 ghost use Rattle.scop_syntax.specs.Kernel.{IsKernel};
@@ -19,15 +21,17 @@ ghost use Rattle.schedule_rows.specs.Next.{IsSizedDep, State};
 ghost use Rattle.schedule_rows.specs.Outcomes.{IsSchedule, Next, Outcome, Runs, ends};
 ghost use Rattle.schedule_rows.specs.Posed.{IsLeast};
 ghost use Rattle.schedule_rows.specs.Schedule.{Scheduled, loops_in};
-ghost use Rattle.schedule_rows.specs.Tiles.{IsGoodPair};
 ghost use Rattle.pluto_search.specs.Searching.{Searches};
 ghost use Rattle.pluto_search.specs.declared.kept.Kept.TheVariants.{NoRow};
 
-/// Where a schedule has no item, all pairs are of one statement, by the clause of `schedules_keep_every_band`.
-pub fn pairs_without_items()
-    ensures { (loops : List ℕ) (deps : List Dependence) (d : Dependence) (x y : Instance)
-        → ((d : Dependence) → In d deps → IsSizedDep loops d) → IsSchedule 0 loops deps [] → In d deps
-        → Relates [] d x y → x.number ≡ y.number }
+/// Of one band of one row: its value does not fall along a dependence, stays where the row is parallel, and where it does
+/// not rise the statements are one, by the clause of `schedules_keep_every_band`.
+pub fn pairs_along_one_row()
+    ensures { (loops : List ℕ) (deps : List Dependence) (r : Marked) (d : Dependence) (x y : Instance)
+        → ((d : Dependence) → In d deps → IsSizedDep loops d) → IsSchedule 0 loops deps (band (r ∷ []) ∷ [])
+        → In d deps → Relates [] d x y
+        → (phi r.row x ≤ℤ phi r.row y) × (r.parallel ≡ true → phi r.row x ≡ phi r.row y)
+        × ((phi r.row x <ℤ phi r.row y) ⊎ ((phi r.row x ≡ phi r.row y) × (x.number ≡ y.number))) }
 {
     schedule_rows::schedules_keep_every_band();
 }
@@ -41,11 +45,18 @@ pub fn values_of_one_block()
     schedule_rows::values_are_in_order();
 }
 
-/// A schedule without items is a good plan, by the clause of `schedules_are_good_plans`.
-pub fn plans_without_items()
-    ensures { (loops : List ℕ) (deps : List Dependence) (size : ℤ) (n : ℕ) (d : Dependence) (x y : Instance)
-        → pos 0 <ℤ size → ((d : Dependence) → In d deps → IsSizedDep loops d) → IsSchedule 0 loops deps []
-        → In d deps → Relates [] d x y → LexLess x.turns y.turns → IsGoodPair size [] n x y }
+/// A schedule of one row that carries is a good plan: tiles rise along a dependence, or are one in which the times rise,
+/// by the clause of `schedules_are_good_plans`.
+pub fn plans_of_one_row()
+    ensures { (loops : List ℕ) (deps : List Dependence) (size : ℤ) (n : ℕ) (r : Row) (d : Dependence) (x y : Instance)
+        → pos 0 <ℤ size → ((d : Dependence) → In d deps → IsSizedDep loops d)
+        → IsSchedule 0 loops deps (band (record { row = r; parallel = false } ∷ []) ∷ []) → In d deps
+        → Relates [] d x y → LexLess x.turns y.turns
+        → LexLess ((floor (phi r x) size +ℤ pos 0) ∷ []) ((floor (phi r y) size +ℤ pos 0) ∷ [])
+        ⊎ ((floor (phi r x) size ∷ [] ≡ floor (phi r y) size ∷ [])
+        × LexLess ((floor (phi r x) size +ℤ pos 0) ∷ floor (phi r x) size ∷ phi r x ∷ (x.turns ++ (zeros
+        (n - length x.turns) ++ pos x.number ∷ []))) ((floor (phi r y) size +ℤ pos 0) ∷ floor (phi r y) size
+        ∷ phi r y ∷ (y.turns ++ (zeros (n - length y.turns) ++ pos y.number ∷ [])))) }
 {
     schedule_rows::schedules_are_good_plans();
 }
@@ -96,13 +107,13 @@ pub fn schedules_that_searches_find()
     pluto_search::searches_answer_once();
 }
 
-/// Where a schedule has no item, statements' numbers rise along dependences unless turns do, by the clause of
+/// Of one row its value rises along a dependence, or the statement's number does, unless turns do, by the clause of
 /// `times_rise_along_dependences`.
-pub fn times_without_items()
-    ensures { (loops : List ℕ) (deps : List Dependence) (d : Dependence) (x y : Instance)
-        → ((d : Dependence) → In d deps → IsSizedDep loops d) → IsSchedule 0 loops deps [] → In d deps
-        → Relates [] d x y → (x.number ≡ y.number → LexLess x.turns y.turns)
-        → LexLess (pos x.number ∷ []) (pos y.number ∷ []) }
+pub fn times_of_one_row()
+    ensures { (loops : List ℕ) (deps : List Dependence) (r : Marked) (d : Dependence) (x y : Instance)
+        → ((d : Dependence) → In d deps → IsSizedDep loops d) → IsSchedule 0 loops deps (band (r ∷ []) ∷ [])
+        → In d deps → Relates [] d x y → (x.number ≡ y.number → LexLess x.turns y.turns)
+        → LexLess (phi r.row x ∷ pos x.number ∷ []) (phi r.row y ∷ pos y.number ∷ []) }
 {
     schedule_rows::times_rise_along_dependences();
 }

@@ -4,6 +4,8 @@
 #![tactic(auto)]
 
 #[cfg(test)]
+mod cells;
+#[cfg(test)]
 mod commands;
 #[cfg(test)]
 mod conflicts;
@@ -31,6 +33,8 @@ mod ports;
 mod sets;
 #[cfg(test)]
 mod solver;
+#[cfg(test)]
+mod steps;
 #[cfg(test)]
 mod texts;
 #[cfg(test)]
