@@ -1,5 +1,7 @@
 -- The values of a chain of loops, at each kind.
-use Rattle.std.proofs.Common.{◌≡◌, suc, ℤ, List, [], ◌∷◌, ◌++◌, length, length-append, Bor, ap, sym, ◌∙◌, arith}
+use Rattle.std.proofs.Common.{◌≡◌, ◌+◌, ◌<◌, ℕ, suc, ℤ, List, [], ◌∷◌, ◌++◌, length, length-append, Bor, ap, ap₂, sym, ◌∙◌, arith}
+use Rattle.std.proofs.Common.{drop, set}
+use Rattle.std.proofs.lemmas.List.{append_assoc, drop-set}
 use Rattle.loop_tree.specs.declared.outer.Outer.{Outer}
 use Rattle.loop_tree.specs.declared.outer.Outer.TheVariants.{Top, Within, rolls-Top, rolls-Within}
 use Rattle.loop_tree.specs.declared.outer.Outer.TheFolds.{fold-roll-Outer}
@@ -25,3 +27,14 @@ length_within at inner x is =
     let m = ap (λ (xs : List ℤ). length xs) (values_within inner x) in
     let n = length-append (values_in inner.now) (x ∷ []) in
     omega (arith, l, m, n)
+
+-- the innermost loop's value in front of a row
+pub laid_one : (at : Outer) (inner : Bor Outer) (x y : ℤ) (row : List ℤ) (k n : ℕ) → at ≡ Within inner x → y ≡ x
+    → n ≡ suc k → k < length row → values_in inner.now ++ drop k (set row k y) ≡ values_in at ++ drop n row
+laid_one at inner x y row k n is same next inside =
+    let whole = ap values_in is ∙ values_within inner x in
+    let later : k + 1 ≡ n = omega (arith, next) in
+    ap (λ (ys : List ℤ). values_in inner.now ++ ys) (drop-set row k y inside)
+    ∙ (ap₂ (λ (z : ℤ) (i : ℕ). values_in inner.now ++ z ∷ drop i row) same later
+    ∙ (sym (append_assoc (values_in inner.now) (x ∷ []) (drop n row))
+    ∙ ap (λ (ys : List ℤ). ys ++ drop n row) (sym whole)))

@@ -1,7 +1,7 @@
 -- Sums of products in parts: of the first entries, and of the rest.
 use Rattle.std.proofs.Common.{◌≡◌, ℕ, zero, suc, ℤ, pos, negsuc, List, [], ◌∷◌}
 use Rattle.std.proofs.Common.{◌++◌, length, drop, ap, refl, sym}
-use Rattle.std.proofs.Common.{arith, subst}
+use Rattle.std.proofs.Common.{arith, subst, ◌+◌, ◌∙◌}
 use Rattle.std.specs.Prelude.{◌+ℤ◌, ◌*ℤ◌, FitsSigned}
 use Rattle.std.specs.Int.{w128}
 use Rattle.std.proofs.lemmas.Int.{ints}
@@ -70,3 +70,14 @@ pub summed_fits : (start sum : ℤ) (coefficients rest xs ys zs : List ℤ) (y :
     → Summing start sum coefficients rest xs ys → ys ≡ y ∷ zs → SumsFit sum rest (y ∷ [])
 summed_fits start sum coefficients rest xs ys zs y s here =
     fits_front sum rest (y ∷ []) zs (subst (SumsFit sum rest) here s.fits)
+
+-- one more is left out
+drop_next : (k : ℕ) (cs : List ℤ) → drop 1 (drop k cs) ≡ drop (suc k) cs
+drop_next zero cs = refl
+drop_next (suc k) [] = refl
+drop_next (suc k) (c ∷ cs) = drop_next k cs
+
+pub drop_one : (k : ℕ) (cs : List ℤ) → drop 1 (drop k cs) ≡ drop (k + 1) cs
+drop_one k cs =
+    let e : suc k ≡ k + 1 = omega arith in
+    drop_next k cs ∙ ap (λ (n : ℕ). drop n cs) e

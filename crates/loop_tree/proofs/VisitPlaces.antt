@@ -1,7 +1,7 @@
 -- What is to come at a place of a tree's visits, node by node and value by value.
 use Rattle.std.proofs.Common.{◌≡◌, ℕ, zero, suc, ◌+◌, ◌≤◌, ◌<◌, Bool, true, false, ℤ, pos, List, [], ◌∷◌, ◌++◌, length}
 use Rattle.std.proofs.Common.{drop, get_or, replicate, map, ap, sym, subst, ◌∙◌, refl, arith, append-nil}
-use Rattle.std.proofs.Common.{inl, inr}
+use Rattle.std.proofs.Common.{inl, inr, drop_of_length-le}
 use Rattle.std.specs.Prelude.{if◌then◌else◌, ◌+ℤ◌, ◌≤ℤ◌, ◌<ℤ◌, ◌⊎◌}
 use Rattle.std.specs.Int.Signed.{le_z}
 use Rattle.std.proofs.lemmas.Bool.{false≢true}
@@ -389,3 +389,40 @@ gone_loop flag lo up body begun x z ms begun' y w new is params outer room kept 
         λ h. gone.stands (subst (λ (v : ℤ). y ≤ℤ v) last h),
       );
     })
+
+-- nothing is to come behind the last node where nothing is to come of it
+pub ended_at : (nodes : List Node) (k : ℕ) (node : Node) (begun : Bool) (x z : ℤ) (ms : List Mark)
+    (params outer : List ℤ) → node ≡ get_or nodes k node → k < length nodes → length nodes ≤ k + 1 → begun ≡ true
+    → (IsAt (more (tree_of node) none) (mark zero true x z ∷ ms) params outer
+    → rest_of (more (tree_of node) none) (mark zero true x z ∷ ms) params outer ≡ [])
+    → IsAt (nodes_of nodes) (mark k begun x z ∷ ms) params outer
+    → rest_of (nodes_of nodes) (mark k begun x z ∷ ms) params outer ≡ []
+ended_at nodes k node false x z ms params outer found h last b each at = absurd (false≢true b)
+ended_at nodes k node true x z ms params outer found h last b each at =
+    let short : length nodes ≤ suc k = omega (arith, last) in
+    let over : drop (suc k) nodes ≡ [] = drop_of_length-le nodes short in
+    rest_at nodes k node true x z ms params outer found h
+    ∙ (ap (λ (js : List Instance). js ++ shown_by (drop (suc k) nodes) params outer)
+    (each (at_node nodes k node true x z ms params outer found h at))
+    ∙ ap (λ (l : List Node). shown_by l params outer) over)
+
+-- nor of a loop at its last value
+pub loop_ended : (flag : Bool) (lo up : Bounds) (body : Trees) (x z : ℤ) (ms : List Mark) (params outer : List ℤ)
+    → z ≤ℤ x → (IsAt body ms params (outer ++ x ∷ []) → rest_of body ms params (outer ++ x ∷ []) ≡ [])
+    → IsAt (more (loop flag lo up body) none) (mark zero true x z ∷ ms) params outer
+    → rest_of (more (loop flag lo up body) none) (mark zero true x z ∷ ms) params outer ≡ []
+loop_ended flag lo up body x z ms params outer past each at =
+    append-nil (rest_in (loop flag lo up body) x ms params outer) ∙ by (le_or_lt x last)
+  where
+    last : ℤ
+    last = upper up (outer ++ params)
+
+    by : ((x ≤ℤ last) ⊎ (last <ℤ x)) → rest_in (loop flag lo up body) x ms params outer ≡ []
+    by (inl here) =
+        let h : le_z x last ≡ true = grind (arith, ints) in
+        let inside : x ≤ℤ z = subst (λ (y : ℤ). x ≤ℤ y) (sym at.1) here in
+        let end : last ≤ℤ x = subst (λ (y : ℤ). y ≤ℤ x) at.1 past in
+        rw (h, each (at.2 inside)) (shown_none body params outer (x +ℤ pos 1) last (omega (arith, ints, end)))
+    by (inr out) =
+        let h : le_z x last ≡ false = grind (arith, ints) in
+        rw h refl

@@ -1,6 +1,6 @@
 -- Two statements: S0 at 0 <= x <= p, S1 at 2 <= x <= p + 1; once as a hull with guards, once in pieces. A loop of two
 -- iterations, parallel or not.
-use Rattle.std.specs.Prelude.{Bool, true, false, if◌then◌else◌, ℤ, pos, negsuc, List, [], ◌∷◌}
+use Rattle.std.specs.Prelude.{Bool, true, if◌then◌else◌, ℤ, pos, negsuc, List, [], ◌∷◌}
 use Rattle.whole_numbers.specs.Affine.{form_of}
 use Rattle.loop_tree.specs.Tree.{Bound, only, besides, at_least, Tree, loop, guard, instance, Trees, none, more}
 use Rattle.loop_tree.specs.Walk.{Visit}

@@ -5,6 +5,7 @@
 #![tactic(auto)]
 
 mod braid;
+mod ending;
 mod examples;
 mod guards;
 mod outer;

@@ -1,10 +1,11 @@
 //! Values of forms at a node. The values of the loops round it stand in a chain on the call stack, so that a walk of
-//! any depth takes no memory. Sums of products are exact: each of them fits by the calls' conditions.
-ghost use Rattle.std.specs.Prelude.{◌≡◌, ◌+ℤ◌, ◌*ℤ◌, ◌++◌, ◌∷◌, [], drop, length, pos};
+//! any depth takes no memory. Where forms are asked for, those of the innermost loops are laid in a row first, once for
+//! all forms of a node. Sums of products are exact: each of them fits by the calls' conditions.
+ghost use Rattle.std.specs.Prelude.{◌≡◌, ◌≤◌, ◌+ℤ◌, ◌*ℤ◌, ◌++◌, ◌∷◌, [], drop, length, pos};
 ghost use Rattle.whole_numbers.specs.Affine.{value_of};
 ghost use Rattle.whole_numbers.specs.Lists.{dot};
 ghost use Rattle.loop_tree.specs.Fits.{FormFits, SumsFit};
-ghost use Rattle.loop_tree.specs.steps.Chain.{values_in};
+ghost use Rattle.loop_tree.specs.steps.Chain.{values_at, values_in};
 
 use scop_syntax::tree::Aff;
 
@@ -13,6 +14,23 @@ use scop_syntax::tree::Aff;
 pub enum Outer<'a> {
     Top,
     Within(&'a Outer<'a>, i128),
+}
+
+/// How many values of innermost loops a row has room for.
+pub(crate) const MOST_IN_ROW: usize = 12;
+
+/// The same values: those of a chain, and those of the loops within in a row.
+#[derive(Drop)]
+pub struct Point<'a> {
+    chain: &'a Outer<'a>,
+    row: &'a [i128],
+}
+
+/// What is left of a chain, and the place in a row from which on the values of the others lie.
+#[derive(Drop)]
+struct Laid<'a> {
+    chain: &'a Outer<'a>,
+    start: usize,
 }
 
 /// A sum of products, and the coefficients that are left.
@@ -96,6 +114,54 @@ pub(crate) fn behind<'a>(outer: &Outer, numbers: &'a [i64]) -> &'a [i64]
     rest
 }
 
+/// Lays values of innermost loops into a row, as many as it has room for.
+#[inline]
+fn lay<'a>(outer: &'a Outer<'a>, row: &mut [i128]) -> Laid<'a>
+    ensures start { result.start ≤ length row.new }
+    ensures values { values_in result.chain.now ++ drop result.start row.new ≡ values_in outer.now }
+{
+    let mut at = outer;
+    let mut start = row.len();
+    while let Outer::Within(inner, value) = at {
+        if start == 0 {
+            return Laid { chain: at, start };
+        }
+        start -= 1;
+        row[start] = *value;
+        at = inner;
+    }
+    Laid { chain: at, start }
+}
+
+/// The values of the loops, of which some are laid into a row.
+#[inline]
+pub(crate) fn point_in<'a>(outer: &'a Outer<'a>, row: &'a mut [i128]) -> Point<'a>
+    ensures { values_at result ≡ values_in outer.now }
+{
+    let laid = lay(outer, row);
+    Point {
+        chain: laid.chain,
+        row: row.split_at(laid.start).1,
+    }
+}
+
+/// The sum with the products of the next coefficients and the values of a row.
+#[inline]
+fn with_row<'a>(sum: i128, coefficients: &'a [i64], row: &[i128]) -> Part<'a>
+    requires { SumsFit sum coefficients.now row.now }
+    ensures sum { result.sum ≡ sum +ℤ dot coefficients.now row.now }
+    ensures rest { result.rest.now ≡ drop (length row.now) coefficients.now }
+{
+    let mut sum = sum;
+    let mut rest = coefficients;
+    for value in row {
+        let part = with_entry(sum, rest, *value);
+        sum = part.sum;
+        rest = part.rest;
+    }
+    Part { sum, rest }
+}
+
 /// The sum with the products of the next coefficients and the parameters.
 #[inline]
 fn with_params(sum: i128, coefficients: &[i64], params: &[i64]) -> i128
@@ -112,12 +178,23 @@ fn with_params(sum: i128, coefficients: &[i64], params: &[i64]) -> i128
     sum
 }
 
+/// The products of the first coefficients with the values of all loops.
+#[inline]
+fn loops_part<'a>(point: &Point, coefficients: &'a [i64]) -> Part<'a>
+    requires { SumsFit (pos 0) coefficients.now (values_at point.now) }
+    ensures sum { result.sum ≡ dot coefficients.now (values_at point.now) }
+    ensures rest { result.rest.now ≡ drop (length (values_at point.now)) coefficients.now }
+{
+    let part = outer_part(point.chain, coefficients);
+    with_row(part.sum, part.rest, point.row)
+}
+
 /// The value of a form within these loops, for these parameters.
 #[inline]
-pub fn value_at(form: &Aff, outer: &Outer, params: &[i64]) -> i128
-    requires { FormFits form.now (values_in outer.now ++ params.now) }
-    ensures { result ≡ value_of form.now (values_in outer.now ++ params.now) }
+pub fn value_at(form: &Aff, point: &Point, params: &[i64]) -> i128
+    requires { FormFits form.now (values_at point.now ++ params.now) }
+    ensures { result ≡ value_of form.now (values_at point.now ++ params.now) }
 {
-    let part = outer_part(outer, form.coefficients.as_slice());
+    let part = loops_part(point, form.coefficients.as_slice());
     with_params(part.sum, part.rest, params) + form.constant as i128
 }

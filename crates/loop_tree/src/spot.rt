@@ -39,10 +39,11 @@ ghost use Rattle.loop_tree.specs.View.{bounds_in, nodes_of, test_of, tree_of, tr
 ghost use Rattle.loop_tree.specs.Walk.{all_hold as tests_hold, lower, upper, visits};
 
 use crate::braid::Braid;
+use crate::ending::is_ended;
 use crate::guards::plus;
 use crate::outer::Outer;
 use crate::passing::pass_more;
-use crate::ranges::{all_hold, lower_at, upper_at};
+use crate::ranges::{all_hold, range_at};
 use crate::stretch::Stretch;
 use crate::tree::{Guard, Loop, Node, Tree};
 use crate::walking::instance_at;
@@ -161,9 +162,8 @@ fn begin_loop(head: &Loop, mark: &mut Mark, deeper: &mut [Mark], outer: &Outer, 
         ≡ (if mark.old.begun then marks_of deeper.old else restarted (marks_of deeper.old)) }
 {
     if !mark.begun {
-        let first = lower_at(&head.lower.first, &head.lower.others, outer, params);
-        let last = upper_at(&head.upper.first, &head.upper.others, outer, params);
-        begin(mark, first, last, deeper);
+        let range = range_at(head, outer, params);
+        begin(mark, range.first, range.last, deeper);
     }
 }
 
@@ -379,6 +379,9 @@ fn next_within(
     ensures none { result ≡ false
         → rest_of (nodes_of body.now) (marks_of deeper.old) params.now (values_in outer.now ++ value ∷ []) ≡ [] }
 {
+    if is_ended(body, deeper) {
+        return false;
+    }
     let within = Outer::Within(&*outer, value);
     next_of(body, deeper, &within, params, stretch, braid)
 }

@@ -4,15 +4,15 @@ ghost use Rattle.std.specs.Int.{w64};
 ghost use Rattle.scop_syntax.specs.View.{instance_of};
 ghost use Rattle.scop_syntax.specs.Walk.{Instance as PlainInstance};
 ghost use Rattle.whole_numbers.specs.Affine.{value_of, values_of};
-ghost use Rattle.loop_tree.specs.steps.Chain.{values_in};
+ghost use Rattle.loop_tree.specs.steps.Chain.{values_at, values_in};
 ghost use Rattle.loop_tree.specs.Conditions.{CanWalk, IsHeld};
 ghost use Rattle.loop_tree.specs.Fits.{FormFits, FormsFit};
 ghost use Rattle.loop_tree.specs.Tree.{loop as loops, more, none};
 ghost use Rattle.loop_tree.specs.View.{bounds_in, nodes_of, tree_of, trees_in};
 ghost use Rattle.loop_tree.specs.Walk.{between, given, visits, walk, walk_all};
 
-use crate::outer::{Outer, value_at};
-use crate::ranges::{all_hold, lower_at, upper_at};
+use crate::outer::{MOST_IN_ROW, Outer, Point, point_in, value_at};
+use crate::ranges::{all_hold, range_at};
 use crate::tree::{Leaf, Loop, Node, Tree};
 use crate::visitor::Visitor;
 use arrayvec::ArrayVec;
@@ -21,24 +21,24 @@ use scop_syntax::tree::Aff;
 
 /// The value of a form, as a turn.
 #[inline]
-fn turn_at(form: &Aff, outer: &Outer, params: &[i64]) -> i64
-    requires fits { FormFits form.now (values_in outer.now ++ params.now) }
-    requires held { FitsSigned w64 (value_of form.now (values_in outer.now ++ params.now)) }
-    ensures { result ≡ value_of form.now (values_in outer.now ++ params.now) }
+fn turn_at(form: &Aff, point: &Point, params: &[i64]) -> i64
+    requires fits { FormFits form.now (values_at point.now ++ params.now) }
+    requires held { FitsSigned w64 (value_of form.now (values_at point.now ++ params.now)) }
+    ensures { result ≡ value_of form.now (values_at point.now ++ params.now) }
 {
-    value_at(form, outer, params) as i64
+    value_at(form, point, params) as i64
 }
 
 /// The turns that forms give.
-fn turns_at(forms: &[Aff], outer: &Outer, params: &[i64]) -> ArrayVec<i64, MAX_LOOPS>
+fn turns_at(forms: &[Aff], point: &Point, params: &[i64]) -> ArrayVec<i64, MAX_LOOPS>
     requires few { length forms.now ≤ 5 }
-    requires fits { FormsFit forms.now (values_in outer.now ++ params.now) }
-    requires held { All (FitsSigned w64) (values_of forms.now (values_in outer.now ++ params.now)) }
-    ensures { result.items ≡ values_of forms.now (values_in outer.now ++ params.now) }
+    requires fits { FormsFit forms.now (values_at point.now ++ params.now) }
+    requires held { All (FitsSigned w64) (values_of forms.now (values_at point.now ++ params.now)) }
+    ensures { result.items ≡ values_of forms.now (values_at point.now ++ params.now) }
 {
     let mut turns: ArrayVec<i64, MAX_LOOPS> = ArrayVec::new();
     for form in forms {
-        turns.push(turn_at(form, outer, params));
+        turns.push(turn_at(form, point, params));
     }
     turns
 }
@@ -55,7 +55,9 @@ pub fn instance_at(leaf: &Leaf, outer: &Outer, params: &[i64]) -> Instance
       turns = values_of leaf.now.turns.items (values_in outer.now ++ params.now);
     } }
 {
-    let turns = turns_at(leaf.turns.as_slice(), outer, params);
+    let mut row = [0; MOST_IN_ROW];
+    let point = point_in(outer, &mut row);
+    let turns = turns_at(leaf.turns.as_slice(), &point, params);
     Instance::of(leaf.statement, turns.as_slice())
 }
 
@@ -98,9 +100,8 @@ fn walk_loop<V: Visitor>(head: &Loop, body: &[Node], outer: &Outer, params: &[i6
         (l ++ map given (walk (loops head.now.parallel (bounds_in head.now.lower) (bounds_in head.now.upper)
         (nodes_of body.now)) params.now (values_in outer.now))) }
 {
-    let first = lower_at(&head.lower.first, &head.lower.others, outer, params);
-    let last = upper_at(&head.upper.first, &head.upper.others, outer, params);
-    walk_values(body, first, last, outer, params, visitor);
+    let range = range_at(head, outer, params);
+    walk_values(body, range.first, range.last, outer, params, visitor);
 }
 
 /// Shows those of a loop's body, value after value.

@@ -6,29 +6,29 @@ use Rattle.whole_numbers.specs.Affine.{Affine, value_of}
 use Rattle.whole_numbers.specs.Lists.{dot}
 use Rattle.whole_numbers.proofs.Ring.{add_zero_left}
 use Rattle.whole_numbers.proofs.Lists.{dot-split}
-use Rattle.loop_tree.specs.steps.Chain.{values_in}
+use Rattle.loop_tree.specs.steps.Chain.{values_at}
 use Rattle.loop_tree.specs.Fits.{SumsFit}
 use Rattle.loop_tree.proofs.Products.{fits_back, fits_front, room_fits}
 use Rattle.loop_tree.proofs.outer.value_at.Goals as goal
 
-pub outer_part-part-requires : goal.outer_part-part-requires
-outer_part-part-requires c =
+pub loops_part-part-requires : goal.loops_part-part-requires
+loops_part-part-requires c =
     let f = c.args.form.now in
     let cs : c.as_slice.result.now ≡ f.coefficients =
     c.as_slice.ensures.value ∙ ap (λ (g : Affine). g.coefficients) c.form.view_is in
-    subst (λ (zs : List ℤ). SumsFit (pos 0) zs (values_in c.args.outer.now)) (sym cs)
-    (fits_front (pos 0) f.coefficients (values_in c.args.outer.now) c.args.params.now c.requires.sums)
+    subst (λ (zs : List ℤ). SumsFit (pos 0) zs (values_at c.args.point.now)) (sym cs)
+    (fits_front (pos 0) f.coefficients (values_at c.args.point.now) c.args.params.now c.requires.sums)
 
 pub with_params-requires : goal.with_params-requires
 with_params-requires c =
     let f = c.args.form.now in
-    let vo = values_in c.args.outer.now in
+    let vo = values_at c.args.point.now in
     let ps = c.args.params.now in
-    let part = c.outer_part-part.result in
+    let part = c.loops_part-part.result in
     let cs : c.as_slice.result.now ≡ f.coefficients =
     c.as_slice.ensures.value ∙ ap (λ (g : Affine). g.coefficients) c.form.view_is in
-    let sum_is = c.outer_part-part.ensures.sum ∙ ap (λ (zs : List ℤ). dot zs vo) cs in
-    let rest_is = c.outer_part-part.ensures.rest ∙ ap (λ (zs : List ℤ). drop (length vo) zs) cs in
+    let sum_is = c.loops_part-part.ensures.sum ∙ ap (λ (zs : List ℤ). dot zs vo) cs in
+    let rest_is = c.loops_part-part.ensures.rest ∙ ap (λ (zs : List ℤ). drop (length vo) zs) cs in
     let back = fits_back (pos 0) f.coefficients vo ps c.requires.sums in
     let zero : pos 0 +ℤ dot f.coefficients vo ≡ part.sum = add_zero_left (dot f.coefficients vo) ∙ sym sum_is in
     let whole : SumsFit part.sum part.rest.now ps =
@@ -41,14 +41,14 @@ with_params-requires c =
 pub overflow_add-result : goal.overflow_add-result
 overflow_add-result c =
     let f = c.args.form.now in
-    let vo = values_in c.args.outer.now in
+    let vo = values_at c.args.point.now in
     let ps = c.args.params.now in
-    let part = c.outer_part-part.result in
+    let part = c.loops_part-part.result in
     let k = c.form.inside.constant in
     let cs : c.as_slice.result.now ≡ f.coefficients =
     c.as_slice.ensures.value ∙ ap (λ (g : Affine). g.coefficients) c.form.view_is in
-    let sum_is = c.outer_part-part.ensures.sum ∙ ap (λ (zs : List ℤ). dot zs vo) cs in
-    let rest_is = c.outer_part-part.ensures.rest ∙ ap (λ (zs : List ℤ). drop (length vo) zs) cs in
+    let sum_is = c.loops_part-part.ensures.sum ∙ ap (λ (zs : List ℤ). dot zs vo) cs in
+    let rest_is = c.loops_part-part.ensures.rest ∙ ap (λ (zs : List ℤ). drop (length vo) zs) cs in
     let fits_sum : FitsSigned w128 part.sum = search rules in
     let all : c.with_params.result ≡ dot f.coefficients (vo ++ ps) =
     c.with_params.ensures
@@ -66,14 +66,14 @@ overflow_add-result c =
 pub returns : goal.returns
 returns c =
     let f = c.args.form.now in
-    let vo = values_in c.args.outer.now in
+    let vo = values_at c.args.point.now in
     let ps = c.args.params.now in
-    let part = c.outer_part-part.result in
+    let part = c.loops_part-part.result in
     let k = c.form.inside.constant in
     let cs : c.as_slice.result.now ≡ f.coefficients =
     c.as_slice.ensures.value ∙ ap (λ (g : Affine). g.coefficients) c.form.view_is in
-    let sum_is = c.outer_part-part.ensures.sum ∙ ap (λ (zs : List ℤ). dot zs vo) cs in
-    let rest_is = c.outer_part-part.ensures.rest ∙ ap (λ (zs : List ℤ). drop (length vo) zs) cs in
+    let sum_is = c.loops_part-part.ensures.sum ∙ ap (λ (zs : List ℤ). dot zs vo) cs in
+    let rest_is = c.loops_part-part.ensures.rest ∙ ap (λ (zs : List ℤ). drop (length vo) zs) cs in
     let fits_sum : FitsSigned w128 part.sum = search rules in
     let all : c.with_params.result ≡ dot f.coefficients (vo ++ ps) =
     c.with_params.ensures

@@ -1,5 +1,5 @@
 use Rattle.std.proofs.Common.{rules, ◌≡◌, ◌<◌, ◌++◌, ◌∷◌, [], List, false, true, length, pos, ℤ, ℕ, ◌+◌, ◌≤◌, Bool}
-use Rattle.std.proofs.Common.{◌+ℤ◌, ◌-ℤ◌, ◌≤ℤ◌, ◌<ℤ◌, FitsSigned, to_z, of_z, Some, refl, ap, subst, sym, ◌∙◌, arith}
+use Rattle.std.proofs.Common.{◌+ℤ◌, ◌-ℤ◌, ◌≤ℤ◌, ◌<ℤ◌, FitsSigned, to_z, of_z, refl, ap, subst, sym, ◌∙◌, arith}
 use Rattle.std.proofs.Common.{get_or, map}
 use Rattle.std.specs.Prelude.{if◌then◌else◌}
 use Rattle.std.specs.Int.{w128}
@@ -662,3 +662,12 @@ next_turn-returns-then-mark-clause-none t c = λ e.
     l.invariant.2
     ∙ (rest_done body ms value last params outer here empty
     ∙ shown_none body params outer (value +ℤ pos 1) last (omega (arith, ints, past)))
+
+pub next_within-returns-then-is_ended-clause-gone : goal.next_within-returns-then-is_ended-clause-gone
+next_within-returns-then-is_ended-clause-gone t c =
+    record { rest = refl; room = refl; stands = c.requires.go.stands }
+
+pub next_within-returns-then-is_ended-clause-none : goal.next_within-returns-then-is_ended-clause-none
+next_within-returns-then-is_ended-clause-none t c = λ e.
+    c.is_ended.ensures c.if-is_ended.true c.args.params.now (values_in c.args.outer.now ++ c.args.value ∷ [])
+    c.requires.go.stands

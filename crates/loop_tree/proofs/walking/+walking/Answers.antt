@@ -8,7 +8,7 @@ use Rattle.scop_syntax.specs.Walk.{Instance}
 use Rattle.loop_tree.specs.steps.Chain.{values_in}
 use Rattle.loop_tree.specs.Conditions.{CanWalk}
 use Rattle.loop_tree.specs.Tree.{Trees, more, none}
-use Rattle.loop_tree.specs.Tree.{Tree, Bound, bounds_of, guard, loop}
+use Rattle.loop_tree.specs.Tree.{Tree, guard, loop}
 use Rattle.loop_tree.specs.View.{bounds_in, nodes_of, test_of, tree_of}
 use Rattle.loop_tree.specs.Walk.{all_hold, lower, upper, given, walk, walk_all}
 use Rattle.loop_tree.proofs.Views.{tree_guard, tree_instance, tree_loop}
@@ -79,18 +79,14 @@ walk_loop-walk_values-requires g t c κs within =
     let outer = values_in c.args.outer.now in
     let point = outer ++ params in
     let body = nodes_of c.args.body.now in
-    let fits_low : FitsSigned w128 c.lower_at-first.result = search rules in
-    let fits_high : FitsSigned w128 c.upper_at-last.result = search rules in
-    let first = to_z w128 (of_z w128 c.lower_at-first.result) in
-    let last = to_z w128 (of_z w128 c.upper_at-last.result) in
+    let fits_low : FitsSigned w128 c.range_at-range.result.first = search rules in
+    let fits_high : FitsSigned w128 c.range_at-range.result.last = search rules in
+    let first = to_z w128 (of_z w128 c.range_at-range.result.first) in
+    let last = to_z w128 (of_z w128 c.range_at-range.result.last) in
     let low_is : first ≡ lower (bounds_in head.lower) point =
-    to_z-of_z w128 c.lower_at-first.result fits_low
-    ∙ (c.lower_at-first.ensures
-    ∙ ap (λ (bs : List Bound). lower (bounds_of head.lower.first bs) point) c.deref.ensures.value) in
+    to_z-of_z w128 c.range_at-range.result.first fits_low ∙ c.range_at-range.ensures.first in
     let high_is : last ≡ upper (bounds_in head.upper) point =
-    to_z-of_z w128 c.upper_at-last.result fits_high
-    ∙ (c.upper_at-last.ensures
-    ∙ ap (λ (bs : List Bound). upper (bounds_of head.upper.first bs) point) c.deref-2.ensures.value) in
+    to_z-of_z w128 c.range_at-range.result.last fits_high ∙ c.range_at-range.ensures.last in
     let each : (x : ℤ) → first ≤ℤ x → x ≤ℤ last → CanWalk body params (outer ++ x ∷ []) =
     λ x a b.
     walk_turn head.parallel (bounds_in head.lower) (bounds_in head.upper) body params outer x c.requires
@@ -105,18 +101,14 @@ walk_loop-returns g t c =
     let outer = values_in c.args.outer.now in
     let point = outer ++ params in
     let body = nodes_of c.args.body.now in
-    let fits_low : FitsSigned w128 c.lower_at-first.result = search rules in
-    let fits_high : FitsSigned w128 c.upper_at-last.result = search rules in
-    let first = to_z w128 (of_z w128 c.lower_at-first.result) in
-    let last = to_z w128 (of_z w128 c.upper_at-last.result) in
+    let fits_low : FitsSigned w128 c.range_at-range.result.first = search rules in
+    let fits_high : FitsSigned w128 c.range_at-range.result.last = search rules in
+    let first = to_z w128 (of_z w128 c.range_at-range.result.first) in
+    let last = to_z w128 (of_z w128 c.range_at-range.result.last) in
     let low_is : first ≡ lower (bounds_in head.lower) point =
-    to_z-of_z w128 c.lower_at-first.result fits_low
-    ∙ (c.lower_at-first.ensures
-    ∙ ap (λ (bs : List Bound). lower (bounds_of head.lower.first bs) point) c.deref.ensures.value) in
+    to_z-of_z w128 c.range_at-range.result.first fits_low ∙ c.range_at-range.ensures.first in
     let high_is : last ≡ upper (bounds_in head.upper) point =
-    to_z-of_z w128 c.upper_at-last.result fits_high
-    ∙ (c.upper_at-last.ensures
-    ∙ ap (λ (bs : List Bound). upper (bounds_of head.upper.first bs) point) c.deref-2.ensures.value) in
+    to_z-of_z w128 c.range_at-range.result.last fits_high ∙ c.range_at-range.ensures.last in
     let shown = ap₂ (λ (a b : ℤ). turns_shown body params outer a b) low_is high_is
     ∙ sym (loop_shown head.parallel (bounds_in head.lower) (bounds_in head.upper) body params outer) in
     λ l s. subst (λ (is : List Instance). g.V.Visitor.stands c.walk_values.new.visitor (l ++ is)) shown
