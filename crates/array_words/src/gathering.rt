@@ -28,7 +28,11 @@ fn first(words: &Words, pass: Pass) -> (Seat<(), View>, usize)
     ensures seat { IsGathered words.now 1 (one_if_ended pass.worker.stage) result.0 }
     ensures ended { result.1 ≡ one_if_ended pass.worker.stage }
 {
-    let Pass { seat, worker } = pass;
+    let Pass {
+        seat,
+        worker,
+        margin: _,
+    } = pass;
     let ended = match worker.stage {
         Stage::Ended => 1,
         _ => 0,
@@ -49,6 +53,7 @@ fn take_in(words: &Words, seat: &mut Seat<(), View>, ended: usize, pass: Pass) -
     let Pass {
         seat: other,
         worker,
+        margin: _,
     } = pass;
     let ended = match worker.stage {
         Stage::Ended => ended + 1,

@@ -1,5 +1,5 @@
 //! The start: the words of the opening state, and a pass for each worker.
-ghost use Rattle.std.specs.Prelude.{◌≡◌, ◌-◌, ◌<◌, ◌≤◌, ◌∷◌, All, IfOk, length};
+ghost use Rattle.std.specs.Prelude.{◌≡◌, ◌-◌, ◌<◌, ◌≤◌, All, IfOk, length};
 ghost use Rattle.array_words.specs.Seats.{IsIdlePass, IsIdleWorker, IsRest, IsStart, IsUnmoved};
 ghost use Rattle.tile_core.specs.Passes.{IsPass, IsWords};
 ghost use Rattle.tile_core.specs.Plans.{IsPlan, shape_of};
@@ -7,6 +7,7 @@ ghost use Rattle.tile_core.specs.declared.worker.Stage.TheVariants.{Idle};
 
 use atomic_table::{Seat, Split, Table};
 use std::alloc::{AllocError, Global};
+use tile_core::first_words::FirstWords;
 use tile_core::plan::Plan;
 use tile_core::plan_laws::plans_are_good;
 use tile_core::view::{Key, View};
@@ -26,39 +27,35 @@ impl Split<View> for Cut {
     ghost right = { one_of };
 }
 
-/// The words at the start: both counts, then the cells.
-fn first_words(alloc: Global, cells: &[u64]) -> Result<Vec<u64>, AllocError>
-    ensures { IfOk result (λ v. v.items ≡ 0 ∷ 0 ∷ cells.now) }
-{
-    let mut row = Vec::with_capacity(alloc, cells.len() + 2)?;
-    row.push(0)?;
-    row.push(0)?;
-    row.extend_from_slice(cells)?;
-    Ok(row)
-}
-
 /// The table in its opening state, with a seat that stands for all workers.
 fn opened<'a>(
     alloc: Global,
     plan: Plan<'a>,
-    cells: &[u64],
+    cells: &mut Vec<u64>,
     workers: usize,
 ) -> Result<(Words<'a>, Seat<(), View>), AllocError>
     requires plan { IsPlan plan }
-    requires cells { length cells.now ≡ (shape_of plan).cells }
+    requires cells { length cells.old.items ≡ (shape_of plan).cells }
     requires workers { workers ≤ 64 }
-    ensures key { IfOk result (λ r. IsStart r.0 plan.entry cells.now workers) }
+    ensures key { IfOk result (λ r. IsStart r.0 plan.entry cells.old.items workers) }
     ensures rest { IfOk result (λ r. IsRest r.0 workers r.1) }
+    ensures kept { cells.new.items ≡ cells.old.items }
 {
     plans_are_good();
     all_interleavings_agree();
-    let row = first_words(alloc, cells)?;
     let key = Key {
         plan,
-        cells: cells.to_vec(alloc)?,
+        cells: FirstWords::of(alloc, cells)?,
         workers: workers as u64,
     };
-    let (table, rest) = Table::of_words(alloc, row.as_slice(), &key)?;
+    let made = Table::of_words(alloc, key.cells.words(), &key);
+    let Key {
+        plan,
+        cells: row,
+        workers: _,
+    } = key;
+    *cells = row.into_cells();
+    let (table, rest) = made?;
     Ok((Words { plan, table }, rest))
 }
 
@@ -73,27 +70,26 @@ fn split(words: &Words, rest: &mut Seat<(), View>, worker: Worker) -> Pass
     ensures unmoved { IsUnmoved result }
 {
     seats_are_allowed::<View>();
-    Pass {
-        seat: words.table.shared.split_seat::<Cut>(rest),
-        worker,
-    }
+    Pass::of(words.table.shared.split_seat::<Cut>(rest), worker)
 }
 
-/// The words of the opening state, with these cells, and a pass for each worker, none of which has made a step.
+/// The words of the opening state, with these cells, which stay as they are, and a pass for each worker, none of which has
+/// made a step.
 ///
 /// # Errors
 /// `AllocError`.
 pub fn start<'a>(
     alloc: Global,
     plan: Plan<'a>,
-    cells: &[u64],
+    cells: &mut Vec<u64>,
     workers: usize,
 ) -> Result<(Words<'a>, Vec<Pass>), AllocError>
     requires plan { IsPlan plan }
-    requires cells { length cells.now ≡ (shape_of plan).cells }
+    requires cells { length cells.old.items ≡ (shape_of plan).cells }
     requires some { 1 ≤ workers }
     requires few { workers ≤ 64 }
-    ensures key { IfOk result (λ r. IsStart r.0 plan.entry cells.now workers) }
+    ensures key { IfOk result (λ r. IsStart r.0 plan.entry cells.old.items workers) }
+    ensures kept { cells.new.items ≡ cells.old.items }
     ensures words { IfOk result (λ r. IsWords r.0) }
     ensures passes { IfOk result (λ r. All (IsPass r.0) r.1.items) }
     ensures idle { IfOk result (λ r. All IsIdlePass r.1.items) }
@@ -106,9 +102,6 @@ pub fn start<'a>(
         let worker = Worker::idle(alloc, &words.plan)?;
         passes.push(split(&words, &mut rest, worker))?;
     }
-    passes.push(Pass {
-        seat: rest,
-        worker: Worker::idle(alloc, &words.plan)?,
-    })?;
+    passes.push(Pass::of(rest, Worker::idle(alloc, &words.plan)?))?;
     Ok((words, passes))
 }

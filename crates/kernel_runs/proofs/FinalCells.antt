@@ -1,6 +1,7 @@
 -- What the cells are at the end of a plan's run.
-use Rattle.std.proofs.Common.{◌≡◌, ℕ, List, get_or, length, subst, sym, arith}
+use Rattle.std.proofs.Common.{◌≡◌, ◌∙◌, ℕ, ℤ, List, ap₂, get_or, length, subst, sym, arith}
 use Rattle.scop_syntax.specs.Cells.{Cell}
+use Rattle.scop_syntax.specs.Tree.{Program}
 use Rattle.scop_syntax.specs.Execution.{IsCell, IsShaped, cell_number, exec, held}
 use Rattle.tile_core.specs.Boards.{IsRun}
 use Rattle.tile_core.specs.Cores.{plan_in, state_in}
@@ -11,6 +12,8 @@ use Rattle.tile_events.specs.Core.{State, idle}
 use Rattle.tile_events.specs.Flat.{flat}
 use Rattle.tile_events.specs.Opening.{IsQuiet}
 use Rattle.tile_events.specs.Sound.{Sound}
+use Rattle.kernel_runs.specs.Running.{AreExecuted}
+use Rattle.kernel_runs.specs.steps.Rows.{Executes}
 use Rattle.kernel_runs.specs.steps.Alone.{IsAlone, IsLater, shape_in}
 use Rattle.kernel_runs.proofs.Cells.{row_is, shape_executed}
 use Rattle.kernel_runs.proofs.Steps.{quiet_alone}
@@ -28,6 +31,14 @@ pub row_executed : (plan : Plan) (contents : List (List ℕ)) (cells : List ℕ)
 row_executed plan contents cells shape long holds =
     row_is (extents_in plan) (exec (program_in plan) plan.params.now contents) cells
     (shape_executed (program_in plan) plan.params.now contents shape) long holds
+
+-- told by the plan's program, parameters and extents
+pub executes : (plan : Plan) (program : Program) (params : List ℤ) (es : List (List ℕ)) (old new : List ℕ)
+    → program_in plan ≡ program → plan.params.now ≡ params → extents_in plan ≡ es → AreExecuted plan old new
+    → Executes program params es old new
+executes plan program params es old new of by laid run = λ contents shape is.
+    run contents (subst (λ (xs : List (List ℕ)). IsShaped xs contents) (sym laid) shape) is
+    ∙ ap₂ (λ (p : Program) (ps : List ℤ). flat (exec p ps contents)) of by
 
 -- a sound state in which nothing is left to do has the cells of execution
 abbrev pub SoundEnds : Type 0

@@ -3,3 +3,4 @@ pub mod Steps
 pub mod Cores
 pub mod Members
 pub mod FinalCells
+pub mod FirstArray

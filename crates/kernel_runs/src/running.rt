@@ -1,6 +1,6 @@
 //! A kernel's case run by a plan, from arrays to arrays.
-ghost use Rattle.std.specs.Prelude.{◌≡◌, ◌-◌, ◌≤◌, IfErr, IfOk, length};
-ghost use Rattle.scop_syntax.specs.Execution.{IsInside, IsShaped, exec, layout};
+ghost use Rattle.std.specs.Prelude.{◌≡◌, ◌-◌, ◌≤◌, ◌++◌, IfErr, IfOk, length};
+ghost use Rattle.scop_syntax.specs.Execution.{IsInside, IsShaped, exec, layout, total_cells};
 ghost use Rattle.scop_syntax.specs.Limits.{WithinLimits};
 ghost use Rattle.scop_syntax.specs.View.{program_of};
 ghost use Rattle.loop_tree.specs.Plans.{walked};
@@ -9,13 +9,15 @@ ghost use Rattle.loop_tree.specs.View.{trees_in};
 ghost use Rattle.loop_tree.specs.Walk.{visits};
 ghost use Rattle.plan_tree.specs.Trees.{AreTreesOf};
 ghost use Rattle.stmt_table.specs.Tables.{IsTableOf};
-ghost use Rattle.tile_core.specs.Plans.{IsPlan, extents_in, program_in};
+ghost use Rattle.tile_core.specs.Plans.{IsPlan, extents_in, program_in, shape_of};
 ghost use Rattle.tile_events.specs.Flat.{flat};
 ghost use Rattle.tile_list.specs.Counting.{HasTiles, HasWaves};
 ghost use Rattle.tile_list.specs.Tiles.{CanTile};
 ghost use Rattle.tile_list.specs.TilesView.{IsTileListOf};
+ghost use Rattle.kernel_runs.specs.Running.{AreExecuted};
+ghost use Rattle.kernel_runs.specs.steps.Rows.{Begins, Executes};
 
-use crate::rows::{put_back, row_of};
+use crate::rows::{append_all, give_back, give_first, take_first};
 use crate::workers::Workers;
 use data_text::Case;
 use loop_tree::{Tiling, Tree};
@@ -88,25 +90,28 @@ pub fn plan_of<'a>(
     }
 }
 
-/// The cells of all arrays after a run of the plan, one array behind another.
+/// Puts the cells of these arrays behind those of the row, and runs the plan on them.
+///
+/// # Errors
+/// `AllocError`; the row begins as it was.
 fn run_row<W: Workers>(
     by: &W,
     alloc: Global,
     plan: Plan,
+    row: &mut Vec<u64>,
     arrays: &Arrays,
     workers: usize,
-) -> Result<Vec<u64>, AllocError>
+) -> Result<(), AllocError>
     requires ready { W.ready by.now }
     requires plan { IsPlan plan }
-    requires shape { IsShaped (extents_in plan) arrays.now }
+    requires cells { length (row.old.items ++ flat arrays.now) ≡ (shape_of plan).cells }
     requires some { 1 ≤ workers }
     requires few { workers ≤ 64 }
-    ensures { IfOk result (λ row. row.items
-        ≡ flat (exec (program_in plan.entry) plan.entry.params.now arrays.now)) }
+    ensures executed { IfOk result (λ _. AreExecuted plan.entry (row.old.items ++ flat arrays.now) row.new.items) }
+    ensures begins { IfErr result (λ _. Begins row.old.items row.new.items) }
 {
-    let mut row = row_of(alloc, arrays)?;
-    by.run(alloc, plan, &mut row, workers)?;
-    Ok(row)
+    append_all(row, arrays)?;
+    by.run(alloc, plan, row, workers)
 }
 
 /// How many tiles and waves a list has.
@@ -120,38 +125,44 @@ fn counts_of(list: &TileList) -> Counts
     }
 }
 
-/// The cells of all arrays after a run of the case, and how many tiles and waves it has.
+/// Puts the cells of the case's arrays behind those of the row, and runs the case on them; tells how many tiles and
+/// waves it has.
+///
+/// # Errors
+/// `AllocError`; the row begins as it was.
 fn run_shared<W: Workers>(
     by: &W,
     alloc: Global,
     kernel: &Kernel,
     case: &Case,
+    row: &mut Vec<u64>,
     tree: &Tree,
     tiling: &Tiling,
     workers: u64,
-) -> Result<(Vec<u64>, Counts), AllocError>
+) -> Result<Counts, AllocError>
     requires ready { W.ready by.now }
     requires limits { WithinLimits (program_of kernel.now) case.now.params.items }
     requires laid { case.now.extents ≡ layout (program_of kernel.now) case.now.params.items }
-    requires shape { IsShaped case.now.extents case.now.arrays }
+    requires cells { length (row.old.items ++ flat case.now.arrays) ≡ total_cells case.now.extents }
     requires inside { IsInside (program_of kernel.now) case.now.params.items }
     requires trees { AreTreesOf (program_of kernel.now) (tiling_of tiling.now) (trees_in tree.now) }
     requires fits { CanTile (tiling_of tiling.now) (visits (trees_in tree.now) case.now.params.items) }
     requires some { 1 ≤ workers }
     requires few { workers ≤ 64 }
-    ensures row { IfOk result (λ made. made.0.items
-        ≡ flat (exec (program_of kernel.now) case.now.params.items case.now.arrays)) }
-    ensures tiles { IfOk result (λ made.
-        HasTiles (tiling_of tiling.now) (walked (program_of kernel.now) case.now.params.items) made.1.tiles) }
-    ensures waves { IfOk result (λ made.
-        HasWaves (tiling_of tiling.now) (walked (program_of kernel.now) case.now.params.items) made.1.waves) }
+    ensures executed { IfOk result (λ _. Executes (program_of kernel.now) case.now.params.items case.now.extents
+        (row.old.items ++ flat case.now.arrays) row.new.items) }
+    ensures begins { IfErr result (λ _. Begins row.old.items row.new.items) }
+    ensures tiles { IfOk result (λ n.
+        HasTiles (tiling_of tiling.now) (walked (program_of kernel.now) case.now.params.items) n.tiles) }
+    ensures waves { IfOk result (λ n.
+        HasWaves (tiling_of tiling.now) (walked (program_of kernel.now) case.now.params.items) n.waves) }
 {
     tiles_are_counted();
     let list = tiles_of(alloc, kernel, case, tree, tiling)?;
     let table = Table::of(alloc, kernel, &case.params, &case.extents)?;
     let plan = plan_of(kernel, case, &table, tree, tiling, &list);
-    let row = run_row(by, alloc, plan, &case.arrays, workers as usize)?;
-    Ok((row, counts_of(&list)))
+    run_row(by, alloc, plan, row, &case.arrays, workers as usize)?;
+    Ok(counts_of(&list))
 }
 
 /// Runs a kernel's case by the tree of a plan, with so many workers; the arrays are then those of the kernel's own
@@ -187,7 +198,16 @@ pub fn run_case<W: Workers>(
     ensures shape { IsShaped case.new.extents case.new.arrays }
     ensures unchanged { IfErr result (λ _. case.new.arrays ≡ case.old.arrays) }
 {
-    let (row, counts) = run_shared(by, alloc, kernel, case, tree, tiling, workers)?;
-    put_back(&row, &mut case.arrays);
-    Ok(counts)
+    let mut row = take_first(alloc, &mut case.arrays);
+    let first = row.len();
+    match run_shared(by, alloc, kernel, case, &mut row, tree, tiling, workers) {
+        Ok(counts) => {
+            give_back(&mut case.arrays, row, first);
+            Ok(counts)
+        }
+        Err(AllocError) => {
+            give_first(&mut case.arrays, row, first);
+            Err(AllocError)
+        }
+    }
 }

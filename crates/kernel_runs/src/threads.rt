@@ -18,19 +18,19 @@ pub struct By<F> {
     pub run: F,
 }
 
-impl<F: Fn(Global, Plan, &mut [u64], usize) -> Result<(), AllocError>> Workers for By<F> {
+impl<F: Fn(Global, Plan, &mut Vec<u64>, usize) -> Result<(), AllocError>> Workers for By<F> {
     ghost ready = { λ by. (alloc : _) (plan : _) (cells : _) (workers : ℕ) → IsPlan plan
-        → length cells.now ≡ (shape_of plan).cells → 1 ≤ workers → workers ≤ 64
+        → length cells.now.items ≡ (shape_of plan).cells → 1 ≤ workers → workers ≤ 64
         → F.pre by.run alloc plan cells workers
         × ((result : _) (after : _) → F.post by.run alloc plan cells workers result after
-        → IfOk result (λ _. AreExecuted plan cells.now after.now)
-        × IfErr result (λ _. after.now ≡ cells.now)) };
+        → IfOk result (λ _. AreExecuted plan cells.now.items after.now.items)
+        × IfErr result (λ _. after.now.items ≡ cells.now.items)) };
 
     fn run(
         &self,
         alloc: Global,
         plan: Plan,
-        cells: &mut [u64],
+        cells: &mut Vec<u64>,
         workers: usize,
     ) -> Result<(), AllocError> {
         (self.run)(alloc, plan, cells, workers)
@@ -47,15 +47,15 @@ pub fn run_on_threads<R: Threads + Wait + Sync, G: Gate>(
     gate: &G,
     alloc: Global,
     plan: Plan,
-    cells: &mut [u64],
+    cells: &mut Vec<u64>,
     workers: usize,
 ) -> Result<(), AllocError>
     requires plan { IsPlan plan }
-    requires cells { length cells.old ≡ (shape_of plan).cells }
+    requires cells { length cells.old.items ≡ (shape_of plan).cells }
     requires some { 1 ≤ workers }
     requires few { workers ≤ 64 }
-    ensures arrays { IfOk result (λ _. AreExecuted plan.entry cells.old cells.new) }
-    ensures unchanged { IfErr result (λ _. cells.new ≡ cells.old) }
+    ensures arrays { IfOk result (λ _. AreExecuted plan.entry cells.old.items cells.new.items) }
+    ensures unchanged { IfErr result (λ _. cells.new.items ≡ cells.old.items) }
 {
     if workers < 2 {
         return OneWorker.run(alloc, plan, cells, workers);

@@ -23,16 +23,16 @@ pub trait Workers {
         &self,
         alloc: Global,
         plan: Plan,
-        cells: &mut [u64],
+        cells: &mut Vec<u64>,
         workers: usize,
     ) -> Result<(), AllocError>
         requires ready { ready self.now }
         requires plan { IsPlan plan }
-        requires cells { length cells.old ≡ (shape_of plan).cells }
+        requires cells { length cells.old.items ≡ (shape_of plan).cells }
         requires some { 1 ≤ workers }
         requires few { workers ≤ 64 }
-        ensures arrays { IfOk result (λ _. AreExecuted plan.entry cells.old cells.new) }
-        ensures unchanged { IfErr result (λ _. cells.new ≡ cells.old) };
+        ensures arrays { IfOk result (λ _. AreExecuted plan.entry cells.old.items cells.new.items) }
+        ensures unchanged { IfErr result (λ _. cells.new.items ≡ cells.old.items) };
 }
 
 /// One worker, whose events go through the core one after another, on the caller's own thread.
@@ -46,13 +46,13 @@ impl Workers for OneWorker {
         &self,
         alloc: Global,
         plan: Plan,
-        cells: &mut [u64],
+        cells: &mut Vec<u64>,
         _workers: usize,
     ) -> Result<(), AllocError> {
         plans_execute_the_kernel();
         let mut core = Core::of(alloc, &plan, cells, 1)?;
         do_all(&mut core, &plan);
-        cells.copy_from_slice(core.cells());
+        *cells = core.into_cells();
         Ok(())
     }
 }

@@ -57,16 +57,16 @@ pub fn polypar<R: Threads + Wait + Sync, S: Source, O: Sink, E: Sink, G: Gate>(
     ensures { Answered (map string_bytes words.now) result (S.shows source.old) (S.shows source.new) (O.shows out.old)
         (O.shows out.new) (E.shows err.old) (E.shows err.new) }
 {
-    let run = |alloc: Global, plan: Plan, cells: &mut [u64], workers: usize| -> Result<
+    let run = |alloc: Global, plan: Plan, cells: &mut Vec<u64>, workers: usize| -> Result<
         (),
         AllocError,
     >
         requires plan { IsPlan plan }
-        requires cells { length cells.old ≡ (shape_of plan).cells }
+        requires cells { length cells.old.items ≡ (shape_of plan).cells }
         requires some { 1 ≤ workers }
         requires few { workers ≤ 64 }
-        ensures arrays { IfOk result (λ _. AreExecuted plan.entry cells.old cells.new) }
-        ensures unchanged { IfErr result (λ _. cells.new ≡ cells.old) }
+        ensures arrays { IfOk result (λ _. AreExecuted plan.entry cells.old.items cells.new.items) }
+        ensures unchanged { IfErr result (λ _. cells.new.items ≡ cells.old.items) }
     { run_on_threads(rt, gate, alloc, plan, cells, workers) };
     command_by(&By { run }, alloc, words, source, out, err)
 }

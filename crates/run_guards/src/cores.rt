@@ -28,14 +28,14 @@ use tile_core::words::{Pass, Words};
 pub fn core_of_one_worker<'a>(
     alloc: Global,
     plan: &Plan<'a>,
-    cells: &[u64],
+    cells: &mut Vec<u64>,
 ) -> Result<Core<'a>, AllocError>
     requires plan { IsPlan plan.now }
-    requires cells { length cells.now ≡ (shape_of plan.now).cells }
+    requires cells { length cells.old.items ≡ (shape_of plan.now).cells }
     ensures core { IfOk result IsCore }
     ensures plan { IfOk result (λ c. plan_in c ≡ plan.now) }
-    ensures state { IfOk result (λ c. state_in c ≡ opening_state cells.now 1) }
-    ensures run { IfOk result (λ c. IsRun (plan_of plan.now cells.now) (state_in c)) }
+    ensures state { IfOk result (λ c. state_in c ≡ opening_state cells.old.items 1) }
+    ensures run { IfOk result (λ c. IsRun (plan_of plan.now cells.old.items) (state_in c)) }
 {
     Core::of(alloc, plan, cells, 1)
 }
@@ -76,11 +76,11 @@ pub fn stretch_of_an_idle_worker(core: &mut Core) -> usize
     core.do_stretch(0)
 }
 
-/// How many cells there are, by the clause of `Core::cells`.
-pub fn cells_in(core: &Core) -> u64
-    ensures { result ≡ length (state_in core.now).cells }
+/// How many cells there are, by the clause of `Core::into_cells`.
+pub fn cells_in(core: Core) -> u64
+    ensures { result ≡ length (state_in core.entry).cells }
 {
-    core.cells().len() as u64
+    core.into_cells().len() as u64
 }
 
 /// The instance that comes next, by the clause of `Pass::instance`.

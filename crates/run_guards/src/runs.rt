@@ -30,14 +30,14 @@ pub fn run_by_one_worker<'a, R: Threads + Wait + Sync>(
     rt: &R,
     alloc: Global,
     plan: Plan<'a>,
-    cells: &mut [u64],
+    cells: &mut Vec<u64>,
 ) -> Result<Closed<'a>, AllocError>
     requires plan { IsPlan plan }
-    requires cells { length cells.old ≡ (shape_of plan).cells }
-    ensures cells { IfOk result (λ _. IsClosed (plan_of plan.entry cells.old) cells.old cells.new) }
+    requires cells { length cells.old.items ≡ (shape_of plan).cells }
+    ensures cells { IfOk result (λ _. IsClosed (plan_of plan.entry cells.old.items) cells.old.items cells.new.items) }
     ensures plan { IfOk result (λ c. c.plan ≡ plan.entry) }
     ensures ended { IfOk result (λ c. c.ended ≡ 1) }
-    ensures unchanged { IfErr result (λ _. cells.new ≡ cells.old) }
+    ensures unchanged { IfErr result (λ _. cells.new.items ≡ cells.old.items) }
 {
     run_plan(rt, alloc, plan, cells, 1, &OpenGate)
 }
@@ -48,17 +48,17 @@ pub fn run_as_executed<'a, R: Threads + Wait + Sync, G: Gate>(
     rt: &R,
     alloc: Global,
     plan: Plan<'a>,
-    cells: &mut [u64],
+    cells: &mut Vec<u64>,
     workers: usize,
     gate: &G,
 ) -> Result<Closed<'a>, AllocError>
     requires plan { IsPlan plan }
-    requires cells { length cells.old ≡ (shape_of plan).cells }
+    requires cells { length cells.old.items ≡ (shape_of plan).cells }
     requires some { 1 ≤ workers }
     requires few { workers ≤ 64 }
     ensures { IfOk result (λ _. (contents : List (List ℕ)) → IsShaped (extents_in plan.entry) contents
-        → cells.old ≡ flat contents → (c : Cell) → IsCell (extents_in plan.entry) c
-        → get_or cells.new (cell_number (extents_in plan.entry) c) 0
+        → cells.old.items ≡ flat contents → (c : Cell) → IsCell (extents_in plan.entry) c
+        → get_or cells.new.items (cell_number (extents_in plan.entry) c) 0
         ≡ held (extents_in plan.entry) (exec (program_in plan.entry) plan.entry.params.now contents) c) }
 {
     run_plan(rt, alloc, plan, cells, workers, gate)

@@ -159,7 +159,8 @@ fn steps_on_the_core(alloc: Global, plan: &Plan, cells: &[u64]) -> Result<bool, 
     requires plan { IsPlan plan.now }
     requires cells { length cells.now ≡ (shape_of plan.now).cells }
 {
-    let mut core = Core::of(alloc, plan, cells, 2)?;
+    let mut cells = cells.to_vec(alloc)?;
+    let mut core = Core::of(alloc, plan, &mut cells, 2)?;
     let first = claims_and_does(&mut core, 0, 0);
     let second = claims_and_does(&mut core, 0, 1);
     let claimed = claims_next(&mut core, 0, 2);
@@ -284,7 +285,8 @@ fn steps_on_the_words(alloc: Global, plan: Plan, cells: &[u64]) -> Result<bool, 
     requires plan { IsPlan plan }
     requires cells { length cells.now ≡ (shape_of plan).cells }
 {
-    let (words, mut passes) = start(alloc, plan, cells, 2)?;
+    let mut cells = cells.to_vec(alloc)?;
+    let (words, mut passes) = start(alloc, plan, &mut cells, 2)?;
     let Some(mut second) = passes.pop() else {
         return Ok(false);
     };
@@ -308,11 +310,11 @@ impl Workers for Stepped {
         &self,
         alloc: Global,
         plan: Plan,
-        cells: &mut [u64],
+        cells: &mut Vec<u64>,
         workers: usize,
     ) -> Result<(), AllocError> {
-        let core = steps_on_the_core(alloc, &plan, cells)?;
-        let words = steps_on_the_words(alloc, plan, cells)?;
+        let core = steps_on_the_core(alloc, &plan, cells.as_slice())?;
+        let words = steps_on_the_words(alloc, plan, cells.as_slice())?;
         self.on_the_core.store(core, Ordering::SeqCst);
         self.on_the_words.store(words, Ordering::SeqCst);
         OneWorker.run(alloc, plan, cells, workers)

@@ -572,6 +572,15 @@ fn is_summary<R: Threads + Wait + Sync>(
     Ok(is_answer(answer, wanted.as_slice(), b""))
 }
 
+/// Thin waves, and more workers than there are processors: who waits for a tile lets the one go on that holds it.
+#[test]
+fn workers_beyond_the_processors_end_soon(rt: HostRuntime) -> Result<(), Fail> {
+    for case in GENERATED {
+        assert!(rt; is_summary(&rt, rt.alloc(), case, "64")?);
+    }
+    Ok(())
+}
+
 #[test]
 fn generated_kernels_leave_what_the_interpreter_does(rt: HostRuntime) -> Result<(), Fail> {
     for case in GENERATED {

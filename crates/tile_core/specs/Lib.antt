@@ -7,6 +7,7 @@ pub mod Stretches
 pub mod Strands
 pub mod Boards
 pub mod Cores
+pub mod FirstWords
 pub mod Views
 pub mod Passes
 pub mod Rows

@@ -1,5 +1,5 @@
 //! The core: a plan, and the state that its events lead to.
-ghost use Rattle.std.specs.Prelude.{◌≡◌, ℕ, ◌<◌, ◌≤◌, All, IfOk, List, length, map};
+ghost use Rattle.std.specs.Prelude.{◌≡◌, ℕ, ◌<◌, ◌≤◌, All, IfErr, IfOk, List, length, map};
 ghost use Rattle.tile_events.specs.Core.{replay as replayed, step as stepped};
 ghost use Rattle.tile_core.specs.Acts.{DoesStretch, IsAtInstance};
 ghost use Rattle.tile_core.specs.Boards.{IsRun, event_of, opening_state, seen_of};
@@ -10,6 +10,7 @@ use crate::plan::Plan;
 use crate::plan_laws::plans_are_good;
 use crate::worker::idle_workers;
 use std::alloc::{AllocError, Global};
+use std::mem;
 use tile_events::core_laws::{all_interleavings_agree, events_keep_count};
 
 /// An event with the worker whose event it is.
@@ -29,28 +30,29 @@ pub struct Core<'a> {
 impl<'a> Core<'a> {
     ghost use Rattle.tile_core.specs.Cores.{IsCore, IsTurn, ReadsExecuted, plan_in, state_in, turn_of};
 
-    /// The core at the start, with these cells, those of all arrays one behind another.
+    /// The core at the start, which takes over these cells, those of all arrays one behind another.
     ///
     /// # Errors
-    /// `AllocError` alone.
+    /// `AllocError`; the cells are then as they were.
     pub fn of(
         alloc: Global,
         plan: &Plan<'a>,
-        cells: &[u64],
+        cells: &mut Vec<u64>,
         workers: usize,
     ) -> Result<Core<'a>, AllocError>
         requires plan { IsPlan plan.now }
-        requires cells { length cells.now ≡ (shape_of plan.now).cells }
+        requires cells { length cells.old.items ≡ (shape_of plan.now).cells }
         requires workers { workers ≤ 64 }
         ensures core { IfOk result IsCore }
         ensures plan { IfOk result (λ c. plan_in c ≡ plan.now) }
-        ensures state { IfOk result (λ c. state_in c ≡ opening_state cells.now workers) }
-        ensures run { IfOk result (λ c. IsRun (plan_of plan.now cells.now) (state_in c)) }
+        ensures state { IfOk result (λ c. state_in c ≡ opening_state cells.old.items workers) }
+        ensures run { IfOk result (λ c. IsRun (plan_of plan.now cells.old.items) (state_in c)) }
+        ensures unchanged { IfErr result (λ _. cells.new.items ≡ cells.old.items) }
     {
         plans_are_good();
         all_interleavings_agree();
-        let row = cells.to_vec(alloc)?;
         let all = idle_workers(alloc, plan, workers)?;
+        let row = mem::replace(cells, Vec::new(alloc));
         Ok(Core {
             plan: *plan,
             board: Board {
@@ -123,9 +125,17 @@ impl<'a> Core<'a> {
     }
 
     /// The cells as they are.
-    pub fn cells(&self) -> &[u64]
-        ensures { result.now ≡ (state_in self.now).cells }
+    pub fn into_cells(self) -> Vec<u64>
+        ensures { result.items ≡ (state_in self.entry).cells }
     {
-        &self.board.cells
+        let Core { plan: _, board } = self;
+        let Board {
+            claims: _,
+            finished: _,
+            cells,
+            workers,
+        } = board;
+        drop(workers);
+        cells
     }
 }

@@ -7,6 +7,7 @@
 pub mod board;
 pub mod cell_laws;
 pub mod cores;
+pub mod first_words;
 mod joining;
 pub mod plan;
 pub mod plan_laws;

@@ -1,4 +1,5 @@
 //! What the table of a run is told, what it knows of each pass, and the rule that it keeps.
+use crate::first_words::FirstWords;
 use crate::plan::Plan;
 use crate::worker::Stage;
 use atomic_table::TableRule;
@@ -10,7 +11,7 @@ use tile_events::clock::Clock;
 #[derive(Drop)]
 pub struct Key<'a> {
     pub plan: Plan<'a>,
-    pub cells: Vec<u64>,
+    pub cells: FirstWords,
     pub workers: u64,
 }
 

@@ -1,5 +1,5 @@
 //! The words of a run, and the passes with which its workers step on them.
-ghost use Rattle.std.specs.Prelude.{MatchOption};
+ghost use Rattle.std.specs.Prelude.{◌≡◌, MatchOption};
 
 use crate::plan::Plan;
 use crate::view::{Key, View, WordRule};
@@ -16,15 +16,29 @@ pub struct Words<'a> {
     pub table: Table<(), View, Key<'a>, WordRule, Global>,
 }
 
-/// A seat at the table, and where the worker that has it stands.
+/// A seat at the table, and where the worker that has it stands. Passes lie side by side, and each worker writes in its
+/// own at each instance: the margin, two cache lines wide, keeps that off the lines of the pass behind it.
 #[derive(Drop)]
 pub struct Pass {
     pub seat: Seat<(), View>,
     pub worker: Worker,
+    pub margin: [u64; 16],
 }
 
 impl Pass {
     ghost use Rattle.tile_core.specs.Passes.{HasNoneNext, IsNextIn, IsPass};
+
+    /// A pass of this seat and this worker.
+    pub fn of(seat: Seat<(), View>, worker: Worker) -> Pass
+        ensures seat { result.seat ≡ seat }
+        ensures worker { result.worker ≡ worker }
+    {
+        Pass {
+            seat,
+            worker,
+            margin: [0; 16],
+        }
+    }
 
     /// The instance that comes next in the tile that the pass holds, one of these words; None exactly where it holds none
     /// or nothing of it is left. It takes no memory.

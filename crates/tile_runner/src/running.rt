@@ -48,18 +48,18 @@ fn run_passes<'a, R: Threads + Wait + Sync, G: Gate>(
     rt: &R,
     alloc: Global,
     plan: Plan<'a>,
-    cells: &mut [u64],
+    cells: &mut Vec<u64>,
     workers: usize,
     gate: &G,
 ) -> Result<Closed<'a>, AllocError>
     requires plan { IsPlan plan }
-    requires cells { length cells.old ≡ (shape_of plan).cells }
+    requires cells { length cells.old.items ≡ (shape_of plan).cells }
     requires some { 1 ≤ workers }
     requires few { workers ≤ 64 }
-    ensures cells { IfOk result (λ _. IsClosed (plan_of plan.entry cells.old) cells.old cells.new) }
+    ensures cells { IfOk result (λ _. IsClosed (plan_of plan.entry cells.old.items) cells.old.items cells.new.items) }
     ensures plan { IfOk result (λ c. c.plan ≡ plan.entry) }
     ensures ended { IfOk result (λ c. c.ended ≡ workers) }
-    ensures unchanged { IfErr result (λ _. cells.new ≡ cells.old) }
+    ensures unchanged { IfErr result (λ _. cells.new.items ≡ cells.old.items) }
 {
     let (words, mut passes) = start(alloc, plan, cells, workers)?;
     work_all(rt, &words, &mut passes, workers, gate);
@@ -76,22 +76,22 @@ pub fn run_plan<'a, R: Threads + Wait + Sync, G: Gate>(
     rt: &R,
     alloc: Global,
     plan: Plan<'a>,
-    cells: &mut [u64],
+    cells: &mut Vec<u64>,
     workers: usize,
     gate: &G,
 ) -> Result<Closed<'a>, AllocError>
     requires plan { IsPlan plan }
-    requires cells { length cells.old ≡ (shape_of plan).cells }
+    requires cells { length cells.old.items ≡ (shape_of plan).cells }
     requires some { 1 ≤ workers }
     requires few { workers ≤ 64 }
     ensures arrays { IfOk result (λ _. (contents : List (List ℕ)) → IsShaped (extents_in plan.entry) contents
-        → cells.old ≡ flat contents → (c : Cell) → IsCell (extents_in plan.entry) c
-        → get_or cells.new (cell_number (extents_in plan.entry) c) 0
+        → cells.old.items ≡ flat contents → (c : Cell) → IsCell (extents_in plan.entry) c
+        → get_or cells.new.items (cell_number (extents_in plan.entry) c) 0
         ≡ held (extents_in plan.entry) (exec (program_in plan.entry) plan.entry.params.now contents) c) }
-    ensures cells { IfOk result (λ _. IsClosed (plan_of plan.entry cells.old) cells.old cells.new) }
+    ensures cells { IfOk result (λ _. IsClosed (plan_of plan.entry cells.old.items) cells.old.items cells.new.items) }
     ensures plan { IfOk result (λ c. c.plan ≡ plan.entry) }
     ensures ended { IfOk result (λ c. c.ended ≡ workers) }
-    ensures unchanged { IfErr result (λ _. cells.new ≡ cells.old) }
+    ensures unchanged { IfErr result (λ _. cells.new.items ≡ cells.old.items) }
 {
     plans_execute_the_walk();
     cells_have_numbers_of_their_own();

@@ -1,4 +1,5 @@
-use Rattle.std.proofs.Common.{ℤ, List, subst, sym}
+use Rattle.std.proofs.Common.{◌∙◌, ℤ, List, ap, subst, sym}
+use Rattle.scop_syntax.specs.Execution.{total_cells}
 use Rattle.scop_syntax.specs.Limits.{has_parameters}
 use Rattle.scop_syntax.specs.View.{program_of}
 use Rattle.loop_tree.specs.Plans.{walked}
@@ -7,8 +8,18 @@ use Rattle.loop_tree.specs.TilingView.{tiling_of}
 use Rattle.loop_tree.specs.View.{trees_in}
 use Rattle.loop_tree.specs.Walk.{visits}
 use Rattle.tile_list.specs.Counting.{HasTiles, HasWaves}
+use Rattle.kernel_runs.proofs.FinalCells.{executes}
 use Rattle.kernel_runs.proofs.Members.{walked_values}
 use Rattle.kernel_runs.proofs.running.run_shared.Goals as goal
+
+pub run_row-requires-clause-cells : goal.run_row-requires-clause-cells
+run_row-requires-clause-cells g c = c.requires.cells ∙ ap total_cells (sym c.plan_of-plan.ensures.laid)
+
+pub returns-clause-executed : goal.returns-clause-executed
+returns-clause-executed g c =
+    executes c.plan_of-plan.result (program_of c.args.kernel.now) c.args.case.now.params.items
+    c.args.case.now.extents _ _ c.plan_of-plan.ensures.program c.plan_of-plan.ensures.params c.plan_of-plan.ensures.laid
+    c.in_ok-run_row.ensures.executed
 
 pub returns-clause-tiles : goal.returns-clause-tiles
 returns-clause-tiles g c =

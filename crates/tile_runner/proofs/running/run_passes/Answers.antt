@@ -1,4 +1,5 @@
-use Rattle.std.proofs.Common.{rules, arith, ◌≡◌, length, subst, List, ℕ}
+use Rattle.std.proofs.Common.{rules, arith, ◌≡◌, ◌∙◌, ◌++◌, ap, drop, length, subst, sym, take, List, ℕ}
+use Rattle.std.proofs.Math.Seq.{take-append_seam}
 use Rattle.tile_core.specs.declared.plan.Plan.{Plan}
 use Rattle.tile_core.specs.Plans.{plan_of}
 use Rattle.array_words.specs.Closing.{IsClosed}
@@ -25,10 +26,21 @@ returns-clause-ended g c =
     let e = c.close.ensures.ended in
     omega (arith, t, k, e)
 
+-- the row behind the slice that was closed is the slice itself
 pub returns-clause-cells : goal.returns-clause-cells
 returns-clause-cells g c =
-    let old = c.args.cells.now in
+    let first = c.args.cells.now.items in
     let new = c.close.new.cells in
+    let row = c.start.new.cells in
+    let words = c.in_ok-words.words in
     let k = c.in_ok-words.ensures.key in
-    subst (λ (p : Plan). IsClosed (plan_of p old) old new) k.planned
-    (subst (λ (xs : List ℕ). IsClosed (plan_of c.in_ok-words.words.plan xs) old new) k.opening c.close.ensures.cells)
+    let closed = c.close.ensures.cells in
+    let same : c.deref_mut-2.result.now ≡ first = c.deref_mut-2.ensures.value ∙ c.in_ok-words.ensures.kept in
+    let many : row.len ≡ length new = sym (closed.long ∙ c.deref_mut-2.ensures.len) in
+    let rest = drop (length new) row.items in
+    let back : take row.len (new ++ rest) ≡ new = ap (λ (n : ℕ). take n (new ++ rest)) many
+    ∙ take-append_seam new rest in
+    subst (IsClosed (plan_of c.args.plan first) first) (sym back)
+    (subst (λ (p : Plan). IsClosed (plan_of p first) first new) k.planned
+    (subst (λ (xs : List ℕ). IsClosed (plan_of words.plan xs) first new) k.opening
+    (subst (λ (xs : List ℕ). IsClosed (plan_of words.plan words.table.shared.key.cells.items) xs new) same closed)))

@@ -14,7 +14,8 @@ returns-clause-arrays g c = IfOk-weaker c.run_passes.result _ _
     (λ closed is contents shaped same d cell.
     let plan = c.args.plan in
     let extents = extents_in plan in
-    let over = subst (λ (xs : List ℕ). IsClosed (plan_of plan xs) c.args.cells.now c.run_passes.new.cells) same is in
+    let over = subst (λ (xs : List ℕ). IsClosed (plan_of plan xs) c.args.cells.now.items
+    c.run_passes.new.cells.items) same is in
     let p = plan_of plan (flat contents) in
     let walk = walk_over plan contents
     (λ e inside. c.plans_execute_the_walk.ensures.row extents contents e shaped inside) in

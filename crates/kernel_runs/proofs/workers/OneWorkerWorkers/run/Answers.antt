@@ -4,8 +4,7 @@ use Rattle.kernel_runs.proofs.workers.OneWorkerWorkers.run.Goals as goal
 
 pub returns-clause-arrays : goal.returns-clause-arrays
 returns-clause-arrays c = λ contents shape same.
-    c.copy_from_slice.ensures.after
-    ∙ (c.cells.ensures
-    ∙ alone_executed c.plans_execute_the_kernel.ensures.end c.args.plan c.args.cells.now c.in_ok-core.core
+    c.into_cells.ensures
+    ∙ alone_executed c.plans_execute_the_kernel.ensures.end c.args.plan c.args.cells.now.items c.in_ok-core.core
     c.do_all.new.core contents c.requires.plan c.in_ok-core.ensures.plan c.in_ok-core.ensures.run
-    c.do_all.ensures.later c.do_all.ensures.alone shape same)
+    c.do_all.ensures.later c.do_all.ensures.alone shape same

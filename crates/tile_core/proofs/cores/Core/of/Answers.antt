@@ -10,19 +10,19 @@ returns-clause-core c =
     record {
       planned = c.requires.plan;
       workers = search rules;
-      opening = c.args.cells.now;
-      run = opening_run c.all_interleavings_agree.ensures.start c.args.plan.now c.args.cells.now c.in_ok-row.row.items
-          c.args.workers (map worker_of c.in_ok-all.all.items)
-          (c.plans_are_good.ensures.good c.args.plan.now c.args.cells.now c.requires.plan)
-          (c.plans_are_good.ensures.dealt c.args.plan.now c.args.cells.now c.requires.plan)
+      opening = c.args.cells.now.items;
+      run = opening_run c.all_interleavings_agree.ensures.start c.args.plan.now c.args.cells.now.items
+          c.replace-row.result.items c.args.workers (map worker_of c.in_ok-all.all.items)
+          (c.plans_are_good.ensures.good c.args.plan.now c.args.cells.now.items c.requires.plan)
+          (c.plans_are_good.ensures.dealt c.args.plan.now c.args.cells.now.items c.requires.plan)
           c.requires.cells few (search rules) (search rules);
     }
 
 pub returns-clause-run : goal.returns-clause-run
 returns-clause-run c =
     let few : (shape_of c.args.plan.now).tiles + c.args.workers < 18446744073709551615 = search rules in
-    opening_run c.all_interleavings_agree.ensures.start c.args.plan.now c.args.cells.now c.in_ok-row.row.items
-    c.args.workers (map worker_of c.in_ok-all.all.items)
-    (c.plans_are_good.ensures.good c.args.plan.now c.args.cells.now c.requires.plan)
-    (c.plans_are_good.ensures.dealt c.args.plan.now c.args.cells.now c.requires.plan)
+    opening_run c.all_interleavings_agree.ensures.start c.args.plan.now c.args.cells.now.items
+    c.replace-row.result.items c.args.workers (map worker_of c.in_ok-all.all.items)
+    (c.plans_are_good.ensures.good c.args.plan.now c.args.cells.now.items c.requires.plan)
+    (c.plans_are_good.ensures.dealt c.args.plan.now c.args.cells.now.items c.requires.plan)
     c.requires.cells few (search rules) (search rules)
