@@ -132,12 +132,23 @@ fn side_tests(alloc: Global, form: &Form, lows: &[Bound], ups: &[Bound]) -> Resu
     Ok(tests)
 }
 
+/// The form under its tests; nothing where there are tests, and the loop rather stays.
+fn once_under(form: Form, tests: Vec<Test>, stays: bool) -> Option<Once>
+    ensures { IfSome result (λ o. (o.form ≡ form) × (o.tests.items ≡ tests.items)) }
+{
+    if stays && !tests.is_empty() {
+        return None;
+    }
+    Some(Once { form, tests })
+}
+
 /// What is known of a loop between these parts that runs at most once, if it is found to.
 fn once_between(
     alloc: Global,
     lows: &[Bound],
     ups: &[Bound],
     variables: usize,
+    stays: bool,
 ) -> Result<Option<Once>, Stop>
     requires lows { All (λ b. IsOver variables b.form) lows.now }
     requires ups { All (λ b. IsOver variables b.form) ups.now }
@@ -148,13 +159,13 @@ fn once_between(
         None => Ok(None),
         Some(form) => {
             let tests = side_tests(alloc, &form, lows, ups)?;
-            Ok(Some(Once { form, tests }))
+            Ok(once_under(form, tests, stays))
         }
     }
 }
 
 /// What is known of a loop with these bounds, which is parallel or not, if it is not, and is found to run at most once.
-/// Nothing where it stays a loop all the same.
+/// Nothing where it stays a loop rather than go under a test.
 pub fn once_at(
     alloc: Global,
     parallel: bool,
@@ -171,10 +182,7 @@ pub fn once_at(
     if parallel {
         return Ok(None);
     }
-    if stays {
-        return Ok(None);
-    }
     let lows = copied_parts(alloc, lower)?;
     let ups = copied_parts(alloc, upper)?;
-    once_between(alloc, &lows, &ups, variables)
+    once_between(alloc, &lows, &ups, variables, stays)
 }

@@ -1,10 +1,12 @@
-use Rattle.std.proofs.Common.{◌≡◌, ◌++◌, ℕ, false, map, rules, subst, sym, true}
+use Rattle.std.proofs.Common.{◌≡◌, ◌++◌, ℕ, List, false, map, rules, subst, sym, true}
+use Rattle.std.proofs.lemmas.Option.{IfSome_then}
 use Rattle.std.specs.Prelude.{All}
 use Rattle.affine_forms.specs.Parts.{variables_of}
 use Rattle.scop_syntax.specs.Members.{In}
 use Rattle.loop_tree.specs.Shape.{IsOver}
 use Rattle.loop_tree.specs.View.{test_of}
-use Rattle.tree_simplification.specs.steps.Inlined.{AreTestsOf, side_tests, whole}
+use Rattle.loop_tree.specs.declared.tree.Test.{Test}
+use Rattle.tree_simplification.specs.steps.Inlined.{AreTestsOf, IsOnceIn, side_tests, whole}
 use Rattle.tree_simplification.proofs.Once.{member_over}
 use Rattle.tree_simplification.proofs.single.once.once_between.Goals as goal
 
@@ -29,12 +31,14 @@ returns-in_ok-tests-in-Some c =
     let f = c.in-Some.form in
     let lows = c.args.lows.now in
     let ups = c.args.ups.now in
-    let known : In (whole f) lows × In (whole f) ups = search rules in
-    let over : variables_of f ≡ c.args.variables = member_over c.args.variables f lows c.requires.lows known.0 in
-    record {
+    let sides : In (whole f) lows × In (whole f) ups = search rules in
+    let over : variables_of f ≡ c.args.variables = member_over c.args.variables f lows c.requires.lows sides.0 in
+    IfSome_then c.once_under.result c.once_under.ensures (λ once known.
+    subst (λ g. IsOnceIn c.args.variables g lows ups (map test_of once.tests.items)) (sym known.0)
+    (subst (λ (ts : List Test). IsOnceIn c.args.variables f lows ups (map test_of ts)) (sym known.1) (record {
       over = over;
-      low = known.0;
-      high = known.1;
+      low = sides.0;
+      high = sides.1;
       between = subst (λ (n : ℕ). AreTestsOf n (side_tests true f lows ++ side_tests false f ups)
           (map test_of c.in_ok-tests-in-Some.tests.items)) over c.in_ok-tests-in-Some.ensures;
-    }
+    })))
