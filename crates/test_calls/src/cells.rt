@@ -11,6 +11,7 @@ const LAST: &str = "void z(int64_t N, uint64_t A[N][64]) {}";
 const PAST: &str = "void z(int64_t N, uint64_t A[N][65]) {}";
 
 /// How many cells the case of a kernel has, or more than there may be.
+#[derive(Clone, Copy)]
 enum Found {
     Held(u64),
     TooMany(u128),
