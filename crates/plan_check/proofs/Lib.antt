@@ -1,0 +1,13 @@
+pub mod SoundDerivations
+pub mod GoalPoints
+pub mod PlanOrder
+pub mod ConflictPairs
+pub mod PrunedDerivations
+pub mod GoalRows
+pub mod ReadTerms
+pub mod Progresses
+pub mod Stages
+pub mod StepLines
+pub mod LineSplits
+pub mod Walks
+pub mod Reached

@@ -1,0 +1,12 @@
+use Rattle.std.proofs.Common.{rules, Ok}
+use Rattle.wide_math.specs.Gives.{IsTold}
+use Rattle.plan_check.specs.Judged.{step_judged, proving}
+use Rattle.plan_check.specs.TextView.{rejected_in, step_view}
+use Rattle.plan_check.proofs.Reached.{told_opening}
+use Rattle.plan_check.proofs.checking.step_line.Goals as goal
+
+pub returns-in-Err : goal.returns-in-Err
+returns-in-Err c =
+    let run = step_judged c.args.lines c.args.checker (step_view c.args.line.now) in
+    let told : IsTold (rejected_in c.in-Err.stop) run = search rules in
+    told_opening (rejected_in c.in-Err.stop) run (λ p. Ok (proving p)) told

@@ -1,0 +1,8 @@
+use Rattle.std.proofs.Common.{◌≡◌, ◌++◌, drop, negsuc}
+use Rattle.whole_numbers.specs.Lists.{multiples}
+use Rattle.plan_check.proofs.differences.push_opposites.Given as goal
+
+abbrev pub invariant-loop-at : goal.invariant-loop-at
+invariant-loop-at l =
+    l.out.items ++ multiples (negsuc 0) (drop l.at l.numbers)
+    ≡ l.fn.out.items ++ multiples (negsuc 0) l.numbers

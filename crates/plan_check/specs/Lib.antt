@@ -1,0 +1,9 @@
+pub mod Derivations
+pub mod Plans
+pub mod PlanView
+pub mod Goals
+pub mod Progress
+pub mod Text
+pub mod Judged
+pub mod TextView
+pub mod steps

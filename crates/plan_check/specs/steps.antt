@@ -1,0 +1,4 @@
+-- What only proofs and private contracts need.
+pub mod Walks
+pub mod Stages
+pub mod Taking

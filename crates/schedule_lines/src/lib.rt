@@ -1,0 +1,13 @@
+//! The lines of a schedule's items over plain numbers, as specs/Lines.antt prints them, and their readers.
+//! Promises that what is read is exactly what specs/Reading.antt says; numbers beyond 128 bits are read as 2^128 - 1.
+#![tactic(auto)]
+
+mod numerals;
+mod parts;
+mod rows;
+mod scalars;
+
+pub use numerals::{Read, push_number, read_numeral};
+pub use parts::PartLine;
+pub use rows::{RowLine, read_row};
+pub use scalars::{ScalarLine, read_scalar};
