@@ -1,0 +1,11 @@
+pub mod Passing
+pub mod Traces
+pub mod Taken
+pub mod PutPairs
+pub mod Visits
+pub mod RowLists
+pub mod RowEdges
+pub mod FindingTiles
+pub mod PassedPlaces
+pub mod FoundEdges
+pub mod KeptTraces

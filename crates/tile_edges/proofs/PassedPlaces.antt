@@ -1,0 +1,298 @@
+-- A pass over the walk goes on by one place.
+use Rattle.std.proofs.Common.{◌≡◌, ◌<◌, ◌≤◌, ◌^◌, ℕ, zero, suc, ℤ, List, [], ◌∷◌, ◌++◌, Some, ap, ap₂, sym, refl, ◌∙◌, subst, arith}
+use Rattle.std.proofs.Common.{length, map, get_or, drop}
+use Rattle.std.specs.Prelude.{slice_get}
+use Rattle.std.specs.Option.{option_map}
+use Rattle.std.proofs.lemmas.List.{length-map}
+use Rattle.std.proofs.lemmas.Option.{slice_get-map, slice_get_within}
+use Rattle.whole_numbers.specs.Affine.{Affine, value_of}
+use Rattle.scop_syntax.specs.Cells.{Cell, accesses, cell_of, reads}
+use Rattle.scop_syntax.specs.Execution.{IsCell, cell_number, layout}
+use Rattle.scop_syntax.specs.Limits.{WithinLimits}
+use Rattle.scop_syntax.specs.Members.{In, Sorted}
+use Rattle.scop_syntax.specs.Tree.{Program, Statement}
+use Rattle.scop_syntax.specs.Values.{wrapped}
+use Rattle.scop_syntax.specs.Walk.{Instance, Visit, instance, walk_of}
+use Rattle.scop_syntax.proofs.Members.{in_from_place, in_map, there_is}
+use Rattle.stmt_table.specs.declared.table.Row.{Row}
+use Rattle.stmt_table.specs.declared.table.Table.{Table}
+use Rattle.stmt_table.proofs.Visits.{HasRow, WalkLaws, cell_told, row_of}
+use Rattle.loop_tree.specs.Tiling.{Tiling}
+use Rattle.tile_list.specs.declared.list.TileList.{TileList}
+use Rattle.tile_events.specs.Flat.{read_by, written_by}
+use Rattle.tile_edges.specs.Edges.{IsTileOf}
+use Rattle.tile_edges.specs.steps.Gains.{Gains}
+use Rattle.tile_edges.specs.steps.Rows.{joined, rows_in}
+use Rattle.tile_edges.specs.steps.Touches.{AreEven, marks_in, readers_in}
+use Rattle.tile_edges.specs.steps.Traces.{AreTraces, met}
+use Rattle.tile_edges.specs.steps.Walks.{AreFound, CanPass, CanTake, HasPassed, HasTaken, IsOnItsWay, IsTaken, cells_at}
+use Rattle.tile_edges.specs.steps.Walks.{held_by, met_at, touched}
+use Rattle.tile_edges.specs.declared.pairing.Pairs.{Pairs}
+use Rattle.tile_edges.specs.declared.touching.Traces.{Traces}
+use Rattle.tile_edges.proofs.Traces.{met_place, none_traced, pairs_more, traced_more}
+
+-- the numbers of cells are small
+abbrev pub AreSmall : Type 0
+AreSmall = (program : Program) (params : List ℤ) (c : Cell) → WithinLimits program params
+    → IsCell (layout program params) c → cell_number (layout program params) c < 2 ^ 22
+
+-- two lists that give the same numbers
+mapped_same : {A B : Type 0} (f : A → ℕ) (g : B → ℕ) (xs : List A) (ys : List B) → length xs ≡ length ys
+    → ((a : ℕ) (x : A) (y : B) → slice_get xs a ≡ Some x → slice_get ys a ≡ Some y → f x ≡ g y)
+    → map f xs ≡ map g ys
+mapped_same f g [] [] e h = refl
+mapped_same f g [] (y ∷ ys) e h = absurd (omega (arith, e))
+mapped_same f g (x ∷ xs) [] e h = absurd (omega (arith, e))
+mapped_same f g (x ∷ xs) (y ∷ ys) e h =
+    ap₂ (λ (n : ℕ) (ns : List ℕ). n ∷ ns) (h 0 x y refl refl)
+    (mapped_same f g xs ys (omega (arith, e)) (λ a u v hu hv. h (suc a) u v hu hv))
+
+fused : {A B : Type 0} (f : B → ℕ) (g : A → B) (xs : List A) → map (λ a. f (g a)) xs ≡ map f (map g xs)
+fused f g [] = refl
+fused f g (x ∷ xs) = ap (λ (ns : List ℕ). f (g x) ∷ ns) (fused f g xs)
+
+-- what comes next of a list
+next_left : (xs : List Instance) (n : ℕ) (x : Instance) (rest : List Instance) → x ∷ rest ≡ drop n xs
+    → (slice_get xs n ≡ Some x) × (rest ≡ drop (suc n) xs)
+next_left [] zero x rest e = absurd cc
+next_left [] (suc n) x rest e = absurd cc
+next_left (y ∷ xs) zero x rest e =
+    let head : x ≡ y = cc in
+    let tail : rest ≡ xs = cc in
+    (ap Some (sym head), tail)
+next_left (y ∷ xs) (suc n) x rest e = next_left xs n x rest e
+
+-- none is left
+none_left : (xs : List Instance) (n : ℕ) → [] ≡ drop n xs → length xs ≤ n
+none_left [] n e = omega arith
+none_left (x ∷ xs) zero e = absurd cc
+none_left (x ∷ xs) (suc n) e = let l = none_left xs n e in omega (arith, l)
+
+module _ (program : Program) (params : List ℤ) (tiling : Tiling) (list : TileList) (table : Table)
+    (can : CanPass program params tiling list table) where
+  abbrev walk : List Visit
+  walk = walk_of program params
+
+  -- the place that comes next
+  pub record NextPlace (x : Instance) (rest : List Instance) (kept : Traces) (found : Pairs) : Type 0 where
+    pub n : ℕ
+    pub visit : Visit
+    pub at : slice_get walk n ≡ Some visit
+    pub same : instance visit ≡ x
+    pub passed : HasPassed program params tiling list n kept found
+    pub left : rest ≡ drop (suc n) (map instance walk)
+
+  pub next_place : (x : Instance) (all rest : List Instance) (kept : Traces) (found : Pairs) → all ≡ x ∷ rest
+      → IsOnItsWay program params tiling list all kept found → NextPlace x rest kept found
+  next_place x all rest kept found is way =
+      let next = next_left (map instance walk) way.done x rest (sym is ∙ way.left) in
+      let less = slice_get_within (map instance walk) way.done x next.0 in
+      let long = length-map walk instance in
+      let there = there_is walk way.done (omega (arith, less, long)) in
+      let both : Some (instance there.0) ≡ Some x =
+      sym (ap (option_map instance) there.1) ∙ (sym (slice_get-map instance walk way.done) ∙ next.0) in
+      record { n = way.done; visit = there.0; at = there.1; same = cc; passed = way.passed; left = next.1 }
+
+  -- it is an instance of the walk
+  pub next_walked : (x : Instance) (rest : List Instance) (kept : Traces) (found : Pairs) → NextPlace x rest kept found
+      → In x (map instance walk)
+  next_walked x rest kept found next =
+      subst (λ y. In y (map instance walk)) next.same
+      (in_map instance next.visit walk (in_from_place walk next.n next.visit next.at))
+
+  module _ (laws : WalkLaws) (small : AreSmall) where
+    has_row : (x : Instance) (rest : List Instance) (kept : Traces) (found : Pairs)
+        → (next : NextPlace x rest kept found) → HasRow program params table x next.visit
+    has_row x rest kept found next =
+        row_of laws program params table x next.visit can.told
+        (record { walked = in_from_place walk next.n next.visit next.at; same = next.same })
+
+    pub row_within : (x : Instance) (rest : List Instance) (kept : Traces) (found : Pairs)
+        → NextPlace x rest kept found → x.number < length table.rows.items
+    row_within x rest kept found next =
+        let has = has_row x rest kept found next in
+        slice_get_within table.rows.items x.number has.row has.told
+
+    -- the row tells the cells of the place
+    pub cells_told : (x : Instance) (rest : List Instance) (kept : Traces) (found : Pairs)
+        → (next : NextPlace x rest kept found) (row : Row) → slice_get table.rows.items x.number ≡ Some row
+        → cells_at row x.turns ≡ (touched program params).written next.n ∷ (touched program params).read next.n
+    cells_told x rest kept found next row told =
+        let v = next.visit in
+        let extents = layout program params in
+        let has = has_row x rest kept found next in
+        let both : Some row ≡ Some has.row = sym told ∙ has.told in
+        let same : row ≡ has.row = cc in
+        let count = has.fits.forms.count in
+        let body = ap (λ (s : Statement). length (accesses s)) has.body in
+        let numbers = mapped_same (λ form. wrapped (value_of form x.turns))
+        (λ access. cell_number extents (cell_of access v.point)) has.row.cells.items (accesses v.body)
+        (omega (arith, count, body))
+        (λ a form access formed accessed.
+        let inside = can.inside v (in_from_place walk next.n v next.at) access
+        (in_from_place (accesses v.body) a access accessed) in
+        cell_told program params table x v a access (wrapped (value_of form x.turns)) inside
+        (small program params (cell_of access v.point) can.limits inside) has accessed
+        (λ other e. one_form form other (sym formed ∙ e))) in
+        ap (λ (r : Row). cells_at r x.turns) same
+        ∙ (numbers
+        ∙ (ap (λ (ns : List ℕ). cell_number extents (cell_of v.body.place v.point) ∷ ns)
+        (fused (cell_number extents) (λ access. cell_of access v.point) (reads v.body))
+        ∙ sym (ap (λ o. written_by extents o ∷ read_by extents [] o) next.at)))
+      where
+        one_form : (form other : Affine) → Some form ≡ Some other
+            → wrapped (value_of form x.turns) ≡ wrapped (value_of other x.turns)
+        one_form form other e =
+            let same : form ≡ other = cc in ap (λ (f : Affine). wrapped (value_of f x.turns)) same
+
+  -- a place can be taken
+  pub can_take : (x : Instance) (rest : List Instance) (kept : Traces) (found : Pairs)
+      → (next : NextPlace x rest kept found) (cells : List ℕ)
+      → cells ≡ (touched program params).written next.n ∷ (touched program params).read next.n
+      → CanTake cells kept found
+  can_take x rest kept found next cells are = record {
+    even = next.passed.even;
+    count = next.passed.count;
+    tiles = λ w rs e t i.
+        let both : w ∷ rs ≡ (touched program params).written next.n ∷ (touched program params).read next.n =
+        sym e ∙ are in
+        let first : w ≡ (touched program params).written next.n = cc in
+        let met_there = subst (λ cs. In t (met_at kept cs ((touched program params).written next.n))) are
+        (subst (λ c. In t (met_at kept cells c)) first i) in
+        let place = met_place (held_by program params tiling list) (touched program params) next.n (marks_in kept)
+        (readers_in kept) next.passed.traces t met_there in
+        let tile = place.2.tile in
+        let less = slice_get_within list.tiles.items t tile.tile tile.is in
+        let long = next.passed.long in
+        omega (arith, less, long);
+  }
+
+  -- and when it has been, the pass has gone on
+  pub gone_on : (x : Instance) (rest : List Instance) (kept kept_then : Traces) (found found_then : Pairs)
+      → (next : NextPlace x rest kept found) (cells : List ℕ)
+      → cells ≡ (touched program params).written next.n ∷ (touched program params).read next.n
+      → IsTaken tiling list x cells kept found kept_then found_then
+      → IsOnItsWay program params tiling list rest kept_then found_then
+  gone_on x rest kept kept_then found found_then next cells are took =
+      let p = touched program params in
+      let H = held_by program params tiling list in
+      let n = next.n in
+      let holds : H took.tile n = record {
+        visit = next.visit;
+        is = next.at;
+        tile = subst (IsTileOf tiling list took.tile) (sym next.same) took.is;
+      } in
+      let gains = subst (λ cs. Gains (met (marks_in kept) cs ++ get_or (readers_in kept) (p.written n) []) took.tile
+      (rows_in found) (rows_in found_then)) are (took.taken.gains (p.written n) (p.read n) are) in
+      let long = next.passed.long in
+      let same = gains.long in
+      let seen = length-map found.rows.items (λ s. s.keys) in
+      let seen_then = length-map found_then.rows.items (λ s. s.keys) in
+      let less = slice_get_within walk n next.visit next.at in
+      record {
+        done = suc n;
+        within = omega (arith, less);
+        left = next.left;
+        passed = record {
+          even = took.taken.even;
+          traces = traced_more H p n took.tile (marks_in kept) (marks_in kept_then) (readers_in kept)
+              (readers_in kept_then) holds next.passed.traces (took.taken.visited (p.written n) (p.read n) are);
+          pairs = pairs_more H p n took.tile (marks_in kept) (readers_in kept) (rows_in found) (rows_in found_then) holds
+              next.passed.traces next.passed.pairs gains;
+          rises = gains.rises next.passed.rises;
+          count = took.taken.count;
+          long = omega (arith, long, same, seen, seen_then);
+        };
+      }
+
+  -- what a pass has found where it ends
+  pub found_all : (most : ℕ) (all : List Instance) (kept : Traces) (found : Pairs) → all ≡ []
+      → IsOnItsWay program params tiling list all kept found → AreFound program params tiling list most found
+  found_all most all kept found none way =
+      let past = none_left (map instance walk) way.done (sym none ∙ way.left) in
+      let long = length-map walk instance in
+      let within = way.within in
+      record {
+        done = way.done;
+        within = way.within;
+        all = λ few. omega (arith, past, long, within);
+        pairs = way.passed.pairs;
+        rises = way.passed.rises;
+        count = way.passed.count;
+        long = way.passed.long;
+      }
+
+  -- and where it stops
+  pub found_many : (most : ℕ) (rest : List Instance) (kept : Traces) (found : Pairs) → most < found.count
+      → IsOnItsWay program params tiling list rest kept found → AreFound program params tiling list most found
+  found_many most rest kept found many way = record {
+    done = way.done;
+    within = way.within;
+    all = λ few. absurd (omega (arith, few, many));
+    pairs = way.passed.pairs;
+    rises = way.passed.rises;
+    count = way.passed.count;
+    long = way.passed.long;
+  }
+
+  module _ (laws : WalkLaws) (small : AreSmall) where
+    pub step_on : (x : Instance) (all rest : List Instance) (kept kept_then : Traces) (found found_then : Pairs)
+        → all ≡ x ∷ rest → IsOnItsWay program params tiling list all kept found
+        → ((row : Row) → slice_get table.rows.items x.number ≡ Some row
+        → IsTaken tiling list x (cells_at row x.turns) kept found kept_then found_then)
+        → IsOnItsWay program params tiling list rest kept_then found_then
+    step_on x all rest kept kept_then found found_then is way took =
+        let next = next_place x all rest kept found is way in
+        let has = has_row laws small x rest kept found next in
+        gone_on x rest kept kept_then found found_then next (cells_at has.row x.turns)
+        (cells_told laws small x rest kept found next has.row has.told) (took has.row has.told)
+
+-- rows without numbers
+no_row : (rows : List (List ℕ)) → joined rows ≡ [] → (t : ℕ) → get_or rows t [] ≡ []
+no_row [] e zero = refl
+no_row [] e (suc t) = refl
+no_row (row ∷ rows) e zero = front row e
+  where
+    front : (xs : List ℕ) → xs ++ joined rows ≡ [] → xs ≡ []
+    front [] e = refl
+    front (x ∷ xs) e = absurd cc
+no_row (row ∷ rows) e (suc t) = no_row rows (back row e) t
+  where
+    back : (xs : List ℕ) → xs ++ joined rows ≡ [] → joined rows ≡ []
+    back [] e = e
+    back (x ∷ xs) e = absurd cc
+
+-- before all places
+pub none_passed : (program : Program) (params : List ℤ) (tiling : Tiling) (list : TileList) (kept : Traces) (found : Pairs)
+    → AreEven kept → marks_in kept ≡ [] → readers_in kept ≡ [] → length found.rows.items ≡ length list.tiles.items
+    → joined (rows_in found) ≡ [] → found.count ≡ 0 → HasPassed program params tiling list 0 kept found
+none_passed program params tiling list kept found even marks readers long none count =
+    let H = held_by program params tiling list in
+    let p = touched program params in
+    record {
+      even = even;
+      traces = subst (λ ms. AreTraces H p 0 ms (readers_in kept)) (sym marks)
+          (subst (λ rs. AreTraces H p 0 [] rs) (sym readers) (none_traced H p 0));
+      pairs = record {
+        sound = λ t u i. absurd (subst (λ row. In u row) (no_row (rows_in found) none t) i);
+        complete = λ i k less s. absurd (omega (arith, less));
+      };
+      rises = λ t. subst (λ row. Sorted (λ a b. a < b) row) (sym (no_row (rows_in found) none t)) tt;
+      count = count ∙ sym (ap length none);
+      long = long;
+    }
+
+-- a place whose cells were told by a row
+pub is_taken : (tiling : Tiling) (list : TileList) (x : Instance) (kept kept_then : Traces) (found found_then : Pairs)
+    (row given : Row) (cells : List ℕ) (turns : List ℤ) (tile : ℕ) → IsTileOf tiling list tile x
+    → cells ≡ cells_at given turns → turns ≡ x.turns → Some row ≡ Some given
+    → HasTaken cells tile kept found kept_then found_then
+    → IsTaken tiling list x (cells_at row x.turns) kept found kept_then found_then
+is_taken tiling list x kept kept_then found found_then row given cells turns tile is told at both taken =
+    let same : given ≡ row = cc in
+    record {
+      tile = tile;
+      is = is;
+      taken = subst (λ cs. HasTaken cs tile kept found kept_then found_then)
+          (told ∙ ap₂ (λ (r : Row) (ts : List ℤ). cells_at r ts) same at) taken;
+    }

@@ -1,0 +1,10 @@
+use Rattle.std.proofs.Common.{sym, subst, length, ◌-◌}
+use Rattle.std.proofs.lemmas.Bool.{eqb-true}
+use Rattle.scop_syntax.specs.Members.{In}
+use Rattle.scop_syntax.proofs.Members.{in_from_place}
+use Rattle.tile_edges.proofs.touching.ends_with.Goals as goal
+
+pub returns-in-Some : goal.returns-in-Some
+returns-in-Some c e =
+    subst (λ v. In v c.args.list.now) (eqb-true c.in-Some.last.now c.args.tile e)
+    (in_from_place c.args.list.now (length c.args.list.now - 1) c.in-Some.last.now (sym c.in-Some.ensures.value))

@@ -1,0 +1,8 @@
+use Rattle.std.proofs.Common.{◌≡◌, map, take}
+use Rattle.whole_numbers.specs.Affine.{value_of}
+use Rattle.scop_syntax.specs.Values.{wrapped}
+use Rattle.tile_edges.proofs.walking.put_cells.Given as goal
+
+abbrev pub invariant-loop-access : goal.invariant-loop-access
+invariant-loop-access l =
+    l.cells.items ≡ map (λ form. wrapped (value_of form l.turns)) (take l.access l.row.cells.items)

@@ -1,0 +1,14 @@
+//! Which tiles of a plan wait for which, so that a tile may begin as soon as those before it have released it (J. Park and
+//! others, "Sparsifying synchronization for high-performance shared-memory sparse triangular solver", ISC 2014): exactly
+//! the pairs of tiles of which the first holds a place of the walk that covers one of the second. One pass over the walk
+//! finds them.
+#![tactic(auto)]
+
+mod finding;
+mod pairing;
+mod rows;
+mod touching;
+mod waiting;
+mod walking;
+
+pub use waiting::{EdgesStop, TileEdges, edges};
