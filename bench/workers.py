@@ -117,7 +117,7 @@ def main():
     program, root, folder = sys.argv[1:4]
     rounds = rounds_of(sys.argv[4:], 5)
     for kind, (file, values, tiny, instances) in CASES.items():
-        kernel = file if file.startswith("void ") else kernel_of(os.path.join(root, file))
+        kernel = file if "\n" in file else kernel_of(os.path.join(root, file))
         names = {name for name, extents in signature_of(kernel)[1] if not extents}
         if names != set(values):
             sys.exit(f"{kind}: the parameters are {sorted(names)}")
