@@ -11,3 +11,6 @@ pub mod StepLines
 pub mod LineSplits
 pub mod Walks
 pub mod Reached
+pub mod PrintedTexts
+pub mod FirstFaults
+pub mod ReadTexts

@@ -18,9 +18,9 @@ use Rattle.plan_check.specs.Derivations.{held, row_said}
 use Rattle.plan_check.specs.Goals.{goals_in, loops_in}
 use Rattle.plan_check.specs.Judged.{Laid, Stage, laying, proving, Rejected, are_held, form_of_part, forms_of, goal_judged}
 use Rattle.plan_check.specs.Judged.{goals_opened, has_rows, is_next_band, line_judged, nothing_laid, plan_of_lines, row_held}
-use Rattle.plan_check.specs.Judged.{row_judged, row_laid, scalar_judged, scalar_laid, step_held, step_judged, step_of_line}
+use Rattle.plan_check.specs.Judged.{row_laid, scalar_laid, step_held, step_judged, step_of_line}
 use Rattle.plan_check.specs.Judged.{plan_behind, laid_stage, proving_stage, then_goals, went_on}
-use Rattle.plan_check.specs.Plans.{AreFor, AreUp, IsFor, IsFormUp, IsItemUp, IsUp, Plan, PlanRow, PlanItem, Suits, rows}
+use Rattle.plan_check.specs.Plans.{AreFor, AreUp, IsFor, IsFormUp, IsItemUp, IsUp, Plan, Suits, rows}
 use Rattle.plan_check.specs.Plans.{numbers}
 use Rattle.plan_check.specs.Progress.{Progress, begun_with, goal_begun, goal_run, line_added, next_begun, opening}
 use Rattle.plan_check.specs.Progress.{with_row as row_added}

@@ -1,9 +1,11 @@
 pub mod Derivations
 pub mod Plans
+pub mod Printed
 pub mod PlanView
 pub mod Goals
 pub mod Progress
 pub mod Text
 pub mod Judged
+pub mod FirstFaults
 pub mod TextView
 pub mod steps

@@ -1,6 +1,6 @@
 //! A certificate's goals while its lines are read: those that are left, and the derivation of the open one. Contracts see
 //! a `Checker` as the plain data of specs/Progress.antt.
-ghost use Rattle.std.specs.Prelude.{◌≡◌, ◌+◌, All, IfOk, Ok, length, true};
+ghost use Rattle.std.specs.Prelude.{◌≡◌, All, IfOk, Ok, length, true};
 ghost use Rattle.wide_math.specs.Gives.{Gives};
 ghost use Rattle.plan_check.specs.Derivations.{IsLine, fault_of, held, step_of};
 ghost use Rattle.plan_check.specs.Goals.{HasNoPoint, goals_in, loops_in};
@@ -9,9 +9,9 @@ ghost use Rattle.plan_check.specs.PlanView.{plan_of};
 ghost use Rattle.plan_check.specs.Progress.{CanGain, IsNext, begun_with, goal_begun, goal_run, line_added};
 ghost use Rattle.plan_check.specs.Progress.{none_left, opening, with_row};
 
-use crate::goal_rows::{goal_rows, goal_variables};
 use crate::goals::Goals;
 use crate::lines::{Fault, Line, LineStop, contradicts, row_of};
+use crate::numbered_rows::{goal_rows, goal_variables};
 use crate::plan::PlanItems;
 use affine_forms::{Form, push};
 use iteration_domains::{Dep, Model as KernelModel};

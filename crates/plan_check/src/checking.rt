@@ -10,7 +10,7 @@ ghost use Rattle.plan_check.specs.Goals.{HasNoPoint, InRange, goals_in, loops_in
 ghost use Rattle.plan_check.specs.Judged.{SaysPlan, end_judged, goals_ended, goals_opened, judged, line_judged, lines_judged};
 ghost use Rattle.plan_check.specs.Judged.{goal_judged, laid_stage, laying, nothing_laid, plan_of_lines, proving, proving_stage};
 ghost use Rattle.plan_check.specs.Judged.{row_judged, scalar_judged, step_judged};
-ghost use Rattle.plan_check.specs.Plans.{Plan, Suits, tiling_of};
+ghost use Rattle.plan_check.specs.Plans.{Plan, tiling_of};
 ghost use Rattle.plan_check.specs.PlanView.{plan_of};
 ghost use Rattle.plan_check.specs.Text.{IsStep, goal, lines_of, said_in};
 ghost use Rattle.plan_check.specs.TextView.{laid_view, rejected_in, said_view, stage_view, step_view};

@@ -1,6 +1,5 @@
 //! A line of a derivation: the row that it adds to those before it.
 ghost use Rattle.std.specs.Prelude.{◌≡◌, ◌≤ℤ◌, All, IfOk, Ok, Some, length, option_map, pos};
-ghost use Rattle.whole_numbers.specs.Affine.{form_of};
 ghost use Rattle.whole_numbers.specs.Floor.{floor, floors};
 ghost use Rattle.wide_math.specs.Gives.{Gives};
 ghost use Rattle.affine_forms.specs.Parts.{variables_of};
@@ -157,8 +156,11 @@ fn sum_of(alloc: Global, variables: usize, terms: &[Term], rows: &[Form]) -> Res
     }
 }
 
-/// A row over the divisor, if that divides its coefficients.
-fn quotient_of(alloc: Global, divisor: i128, row: &Form) -> Result<Form, LineStop>
+/// A row over the divisor, its constant rounded down, if that divides its coefficients.
+///
+/// # Errors
+/// `Faulty` exactly with Division, or `NoMemory`.
+pub fn quotient_of(alloc: Global, divisor: i128, row: &Form) -> Result<Form, LineStop>
     requires { pos 1 ≤ℤ divisor }
     ensures run { Gives fault_of (λ f. f) result (quotient_said divisor (Ok row.now)) }
     ensures size { IfOk result (λ f. variables_of f ≡ variables_of row.now) }
@@ -175,6 +177,27 @@ fn quotient_of(alloc: Global, divisor: i128, row: &Form) -> Result<Form, LineSto
     }
 }
 
+/// The sum of the rows that terms name, each taken as often as its term says.
+///
+/// # Errors
+/// `Faulty` exactly with Row where a term names none, with Wide where a product or a sum leaves 128 bits; or `NoMemory`.
+pub fn sum_of_terms(
+    alloc: Global,
+    variables: usize,
+    rows: &[Form],
+    terms: &[Term],
+) -> Result<Form, LineStop>
+    requires sized { All (λ f. variables_of f ≡ variables) rows.now }
+    ensures run { Gives fault_of (λ f. f) result (sum_said variables terms.now (named rows.now terms.now)) }
+    ensures size { IfOk result (λ f. variables_of f ≡ variables) }
+{
+    match gathered(alloc, rows, terms) {
+        Err(_) => Err(LineStop::NoMemory),
+        Ok(None) => Err(LineStop::Faulty(Fault::Row)),
+        Ok(Some(found)) => sum_of(alloc, variables, terms, &found),
+    }
+}
+
 /// The row that a line adds to those before it.
 pub fn row_of(alloc: Global, variables: usize, rows: &[Form], line: &Line) -> Result<Form, LineStop>
     requires sized { All (λ f. variables_of f ≡ variables) rows.now }
@@ -182,12 +205,8 @@ pub fn row_of(alloc: Global, variables: usize, rows: &[Form], line: &Line) -> Re
     ensures run { Gives fault_of (λ f. f) result (row_said variables rows.now (step_of line.now)) }
     ensures size { IfOk result (λ f. variables_of f ≡ variables) }
 {
-    match gathered(alloc, rows, &line.terms) {
-        Err(_) => Err(LineStop::NoMemory),
-        Ok(None) => Err(LineStop::Faulty(Fault::Row)),
-        Ok(Some(found)) => match sum_of(alloc, variables, &line.terms, &found) {
-            Err(stop) => Err(stop),
-            Ok(sum) => quotient_of(alloc, line.divisor, &sum),
-        },
+    match sum_of_terms(alloc, variables, rows, &line.terms) {
+        Err(stop) => Err(stop),
+        Ok(sum) => quotient_of(alloc, line.divisor, &sum),
     }
 }

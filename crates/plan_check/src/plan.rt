@@ -1,7 +1,6 @@
 //! A plan while it is read: items of all statements at once. Contracts see it by `plan_of` of specs/PlanView.antt as the
 //! plain data of specs/Plans.antt.
 ghost use Rattle.std.specs.Prelude.{◌≡◌, ◌++◌, ◌∷◌, [], OnOk};
-ghost use Rattle.plan_check.specs.Plans.{Plan};
 ghost use Rattle.plan_check.specs.PlanView.{item_of, plan_of, row_of};
 
 use affine_forms::{Form, push};

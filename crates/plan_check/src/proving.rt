@@ -1,5 +1,5 @@
 //! The lines of goals.
-ghost use Rattle.std.specs.Prelude.{◌≡◌, ◌<◌, ◌^◌, ◌-◌, IfOk, Some, length, map, option_map, suc};
+ghost use Rattle.std.specs.Prelude.{◌≡◌, ◌<◌, ◌^◌, ◌-◌, IfOk, map, option_map, suc};
 ghost use Rattle.std.specs.List.{list_all};
 ghost use Rattle.wide_math.specs.Gives.{Gives};
 ghost use Rattle.plan_check.specs.Derivations.{fault_of, step_of};

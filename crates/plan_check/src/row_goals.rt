@@ -6,7 +6,7 @@ ghost use Rattle.plan_check.specs.Goals.{above, bounded, difference};
 ghost use Rattle.plan_check.specs.steps.Walks.{FitsRow};
 
 use crate::differences::{at_least_one, at_most_minus_one, difference};
-use crate::goal_rows::goal_variables;
+use crate::numbered_rows::goal_variables;
 use affine_forms::Form;
 use iteration_domains::{Dep, term_form};
 use std::alloc::{AllocError, Global};

@@ -1,8 +1,8 @@
 //! The lines of a certificate.
-ghost use Rattle.std.specs.Prelude.{◌≡◌, ◌≤◌, ◌++◌, ◌∷◌, [], IfOk, OnOk, length, map, option_map};
+ghost use Rattle.std.specs.Prelude.{◌≡◌, ◌≤◌, [], IfOk, length, map, option_map};
 ghost use Rattle.std.specs.List.{position_or_len};
 ghost use Rattle.schedule_lines.specs.View.{number_read, read_in};
-ghost use Rattle.plan_check.specs.Text.{goal_in, is_line_feed, positive_in, proof_in, said_in, some_terms_in, step_in, term_in};
+ghost use Rattle.plan_check.specs.Text.{goal_in, is_line_feed, positive_in, proof_in, said_in, step_in, term_in};
 ghost use Rattle.plan_check.specs.Text.{terms_in};
 ghost use Rattle.plan_check.specs.TextView.{said_view, step_view, term_view};
 

@@ -41,7 +41,7 @@ parts_have at (n ∷ ns) text ps e =
     ap (λ (q : List Part × Text). map (λ p. length p.coefficients) q.0) (sym (same_Some _ ps qs.2))
     ∙ ap₂ (λ k ks. k ∷ ks) (part_has at n text p.0 p.1) (parts_have (suc at) ns p.0.1 qs.0 qs.1)
 
-whole_is : {A : Type 0} (x : A) (text : Text) (y : A) → whole x text ≡ Some y → x ≡ y
+pub whole_is : {A : Type 0} (x : A) (text : Text) (y : A) → whole x text ≡ Some y → x ≡ y
 whole_is x [] y e = same_Some x y e
 whole_is x (b ∷ bs) y e = absurd (none-some y e)
 

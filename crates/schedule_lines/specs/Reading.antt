@@ -13,9 +13,16 @@ numeral_in (b ∷ bs) =
     if b == 48 then Some (0, bs)
     else if is_digit b then Some (saturated (number_in_front 0 (b ∷ bs)), behind_digits (b ∷ bs)) else None
 
+-- the same, of any size
+abbrev pub whole_numeral_in : Text → Option (ℕ × Text)
+whole_numeral_in [] = None
+whole_numeral_in (b ∷ bs) =
+    if b == 48 then Some (0, bs)
+    else if is_digit b then Some (number_in_front 0 (b ∷ bs), behind_digits (b ∷ bs)) else None
+
 -- what stands behind this number
 abbrev pub behind_number : ℕ → Text → Option Text
-behind_number k text = when (numeral_in text) (λ n. if n.0 == k then Some n.1 else None)
+behind_number k text = when (whole_numeral_in text) (λ n. if n.0 == k then Some n.1 else None)
 
 -- one more in front of those that were read
 abbrev pub with_first : {A : Type 0} → A → Option (List A × Text) → Option (List A × Text)

@@ -1,5 +1,5 @@
 //! Numbers, and numbers in parentheses.
-ghost use Rattle.std.specs.Prelude.{◌≡◌, ◌++◌, ◌∷◌, [], IfOk, OnOk, length};
+ghost use Rattle.std.specs.Prelude.{◌≡◌, ◌++◌, ◌∷◌, [], IfOk, OnOk, length, suc};
 ghost use Rattle.form_text.specs.View.{text_in};
 ghost use Rattle.schedule_lines.specs.Lines.{before};
 ghost use Rattle.schedule_lines.specs.Reading.{behind_number, entry_in, list_in, numbers_in, numeral_in};
@@ -35,14 +35,15 @@ pub fn read_numeral<'a>(text: &'a [u8]) -> Option<Read<'a, u128>>
     Some(Read { found, rest })
 }
 
-/// What stands behind this number.
-pub(crate) fn behind_number<'a>(number: u128, text: &'a [u8]) -> Option<&'a [u8]>
-    ensures { text_in result ≡ behind_number number text.now }
+/// What stands behind the number of the statement at this place.
+#[tactic(auto, using(crate::proofs::NumeralLemmas::behind_numbers))]
+pub(crate) fn behind_number<'a>(at: usize, text: &'a [u8]) -> Option<&'a [u8]>
+    ensures { text_in result ≡ behind_number (suc at) text.now }
 {
     match read_numeral(text) {
         None => None,
         Some(read) => {
-            if read.found == number {
+            if read.found == at as u128 + 1 {
                 Some(read.rest)
             } else {
                 None

@@ -25,7 +25,7 @@ pub(crate) fn behind_label<'a>(at: usize, text: &'a [u8]) -> Option<&'a [u8]>
     let Some(number) = strip(label, b"S") else {
         return None;
     };
-    let Some(behind) = behind_number(at as u128 + 1, number) else {
+    let Some(behind) = behind_number(at, number) else {
         return None;
     };
     strip(behind, b" ")

@@ -1,6 +1,4 @@
-use Rattle.std.proofs.Common.{rules, subst, refl, sym, ap, ◌≡◌}
-use Rattle.plan_check.specs.Judged.{lines_judged, laying, nothing_laid, plan_of_lines}
-use Rattle.plan_check.specs.Text.{lines_of}
+use Rattle.std.proofs.Common.{rules, refl}
 use Rattle.iteration_domains.specs.Model.{model_of}
 use Rattle.scop_syntax.specs.View.{program_of}
 use Rattle.plan_check.specs.steps.Stages.{PlanHolds}

@@ -1,7 +1,7 @@
-use Rattle.std.proofs.Common.{rules, ap, sym, subst, ◌≡◌, ◌+◌, ◌<◌, ◌≤◌, length, take, true, Ok}
+use Rattle.std.proofs.Common.{rules, sym, subst, ◌≡◌, ◌+◌, ◌<◌, ◌≤◌, length, take, true, Ok}
 use Rattle.wide_math.specs.Gives.{Gives, IsTold}
 use Rattle.plan_check.specs.Goals.{loops_in}
-use Rattle.plan_check.specs.Judged.{Stage, laying, line_judged}
+use Rattle.plan_check.specs.Judged.{laying, line_judged}
 use Rattle.plan_check.specs.Text.{said_in}
 use Rattle.plan_check.specs.TextView.{stage_view, rejected_in}
 use Rattle.plan_check.proofs.Reached.{IsReached, first_reached, next_reached, stop_reached, end_reached, end_stage}

@@ -2,7 +2,7 @@ use Rattle.std.proofs.Common.{rules, ◌≡◌, All}
 use Rattle.affine_forms.specs.Parts.{variables_of}
 use Rattle.integer_sets.specs.Constraints.{variables_in}
 use Rattle.plan_check.proofs.Progresses.{run_sized}
-use Rattle.plan_check.proofs.goal_rows.goal_rows.Goals as goal
+use Rattle.plan_check.proofs.numbered_rows.goal_rows.Goals as goal
 
 pub returns-in-Ok-push_copies-clause-sized : goal.returns-in-Ok-push_copies-clause-sized
 returns-in-Ok-push_copies-clause-sized c =
