@@ -1,3 +1,4 @@
+pub mod CertificateLemmas
 pub mod PlanLemmas
 pub mod SearchLemmas
 pub mod TextLemmas

@@ -7,8 +7,9 @@ use Rattle.pluto_search.specs.Schedule.{Scheduled, loops_in}
 use Rattle.pluto_search.specs.Searching.{Keeps, Searches}
 use Rattle.pluto_search.specs.declared.kept.Kept.{Kept}
 use Rattle.report_text.specs.declared.kept_line.KeptLine.{KeptLine}
+use Rattle.report_text.specs.KeptText.{kept_text}
 use Rattle.report_text.specs.ScheduleText.{IsTextOf}
-use Rattle.kernel_plans.specs.Planning.{line_of_kept, IsLineText, IsPlanOf}
+use Rattle.kernel_plans.specs.Planning.{line_of_kept, IsCauseOf, IsLineText, IsPlanOf}
 use Rattle.kernel_plans.proofs.SearchLemmas.{OneSchedule, searched, text_of_blocks}
 
 -- the text of the schedule that is found
@@ -21,12 +22,20 @@ schedule_is_plan one budget model deps s text conflicts found is = inl (
   text_of_blocks one s found.2 text is,
 )
 
--- the line of what keeps the order
+-- the line of what keeps the order tells a cause that holds
+pub kept_cause : (budget : ℕ) (model : KernelModel) (deps : List Dependence) (cause : Kept) (line : Option KeptLine)
+    (text : List ℕ) → deps ≡ conflicts_of model → Keeps model.parameters (loops_in model) deps budget cause
+    → line ≡ line_of_kept cause → IsLineText line text
+    → (told : KeptLine) × IsCauseOf budget model told × (text ≡ kept_text told)
+kept_cause budget model deps cause line text conflicts keeps same told =
+    let holds = subst (λ ds. Keeps model.parameters (loops_in model) ds budget cause) conflicts keeps in
+    let of_cause = subst (λ l. IsLineText l text) same told in
+    (of_cause.0, (cause, holds, of_cause.1), of_cause.2)
+
+-- so it is what is printed
 pub kept_is_plan : (budget : ℕ) (model : KernelModel) (deps : List Dependence) (cause : Kept)
     (line : Option KeptLine) (text : List ℕ) → deps ≡ conflicts_of model
     → Keeps model.parameters (loops_in model) deps budget cause → line ≡ line_of_kept cause → IsLineText line text
     → IsPlanOf budget model text
 kept_is_plan budget model deps cause line text conflicts keeps same told =
-    let holds = subst (λ ds. Keeps model.parameters (loops_in model) ds budget cause) conflicts keeps in
-    let of_cause = subst (λ l. IsLineText l text) same told in
-    inr (of_cause.0, (cause, holds, of_cause.1), of_cause.2)
+    inr (kept_cause budget model deps cause line text conflicts keeps same told)

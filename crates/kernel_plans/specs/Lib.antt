@@ -1,3 +1,4 @@
+pub mod Certifying
 pub mod Planned
 pub mod Planning
 pub mod steps

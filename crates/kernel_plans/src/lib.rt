@@ -1,14 +1,17 @@
 //! The plan of a kernel: that of the schedule which the search finds, or the kept order and why. Promises that the
 //! plan's loop tree is one of the tiles of the schedule of the determined run, or the source's own, behind the line of a
 //! cause that holds, and that its tiles can be told for all parameters in 0..=65536 (U. Bondhugula and others, "A
-//! practical automatic polyhedral parallelizer and locality optimizer", PLDI 2008).
+//! practical automatic polyhedral parallelizer and locality optimizer", PLDI 2008); and the certificate of that schedule,
+//! which the checker accepts.
 #![tactic(auto)]
 
+mod certificates;
 mod lines;
 mod planning;
 mod plans;
 mod text;
 
+pub use certificates::certificate_text;
 pub use planning::planned;
 pub use plans::Planned;
 pub use text::plan_text;

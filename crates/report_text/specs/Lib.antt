@@ -8,5 +8,6 @@ pub mod Pieces
 pub mod ScheduleLines
 pub mod ScheduleText
 pub mod StatusText
+pub mod UncertifiedText
 -- Passed on: what this crate's contracts are told in.
 pub use Rattle.schedule_rows.specs.Items

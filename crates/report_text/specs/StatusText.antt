@@ -3,11 +3,13 @@ use Rattle.std.specs.Prelude.{ℕ, ℤ, List, [], ◌++◌, map, slice_index_or,
 use Rattle.std.specs.Fmt.{signed_decimal}
 use Rattle.scop_syntax.specs.Tree.{Program}
 use Rattle.scop_meaning.specs.declared.index.Outside.{Outside as Subscript}
+use Rattle.plan_check.specs.declared.kinds.FaultKind.{FaultKind}
+use Rattle.plan_check.specs.declared.kinds.FaultKind.TheVariants as fault
 use Rattle.data_text.specs.DataRefusal.{DataRefusal}
 use Rattle.data_text.specs.DataRefusal.TheVariants as rule
 use Rattle.report_text.specs.declared.status.Status.{Status}
 use Rattle.report_text.specs.declared.status.Status.TheVariants.{Done, Usage, Refused, BadData, Outside, ReadFault}
-use Rattle.report_text.specs.declared.status.Status.TheVariants.{WriteFault, NoMemory}
+use Rattle.report_text.specs.declared.status.Status.TheVariants.{WriteFault, NoMemory, Rejected}
 use Rattle.scop_parser.specs.declared.refusal.RefusalKind.{RefusalKind}
 use Rattle.scop_parser.specs.declared.refusal.RefusalKind.TheVariants.{Character, Directive, LiteralRange}
 use Rattle.scop_parser.specs.declared.refusal.RefusalKind.TheVariants.{UnendedComment}
@@ -112,10 +114,22 @@ abbrev pub outside_text : Subscript → List ℕ
 outside_text f = (numbered (codes "outside: S") f.stmt [] ++ numbered (codes " access ") f.access [])
     ++ (numbered (codes " dimension ") f.dim (codes " value ") ++ bounds_text f.value f.extent)
 
+-- `rejected: KIND line `
+abbrev pub fault_text : FaultKind → List ℕ
+fault_text fault.Form = codes "rejected: Form line "
+fault_text fault.Row = codes "rejected: Row line "
+fault_text fault.Division = codes "rejected: Division line "
+fault_text fault.Goal = codes "rejected: Goal line "
+fault_text fault.Wide = codes "rejected: Wide line "
+
+-- `rejected: KIND line LINE` and a line feed
+abbrev pub rejection_text : FaultKind → ℕ → List ℕ
+rejection_text kind line = numbered (fault_text kind) line (codes "\n")
+
 -- the commands and options, as the usage line gives them
 abbrev pub usage_text : List ℕ
 usage_text =
-    codes "usage: polypar run|schedule|deps|emit|gen [--workers 1..64] [--tile 1..1024] [--budget 1..20000] [--report]\n"
+    codes "usage: polypar run|schedule|deps|emit|gen|certify|check [--workers 1..64] [--tile 1..1024] [--budget 1..20000] [--report]\n"
 
 -- what the error stream gains as the last act of a call; nothing where it is Done
 abbrev pub status_text : Option Program → Status → List ℕ
@@ -124,6 +138,7 @@ status_text program Usage = usage_text
 status_text program (Refused refusal) = refusal_text refusal
 status_text program (BadData refusal) = data_text program refusal
 status_text program (Outside f) = outside_text f
+status_text program (Rejected kind line) = rejection_text kind line
 status_text program ReadFault = codes "read fault\n"
 status_text program WriteFault = codes "write fault\n"
 status_text program NoMemory = codes "no memory\n"
@@ -138,3 +153,4 @@ exit_code_of (Outside _) = 4
 exit_code_of ReadFault = 5
 exit_code_of WriteFault = 6
 exit_code_of NoMemory = 7
+exit_code_of (Rejected _ _) = 8

@@ -3,13 +3,14 @@
 ghost use Rattle.std.specs.Prelude.{◌≡◌, option_map};
 ghost use Rattle.scop_syntax.specs.View.{program_of};
 ghost use Rattle.io_ports.specs.Writes.{Writes, Puts};
-ghost use Rattle.report_text.specs.StatusText.{kind_text, refusal_text, status_text};
+ghost use Rattle.report_text.specs.StatusText.{fault_text, kind_text, refusal_text, rejection_text, status_text};
 
 use crate::data_line::put_data;
 use crate::outside_line::put_outside;
-use crate::parts::{Part, put_parts};
+use crate::parts::{Part, put_numbered, put_parts};
 use crate::status::Status;
 use io_ports::{Failed, Pieces, Sink};
+use plan_check::FaultKind;
 use scop_parser::refusal::{Refusal, RefusalKind};
 use scop_syntax::tree::Kernel;
 
@@ -58,6 +59,7 @@ fn put_status<K: Sink>(
         Status::Refused(refusal) => put_refusal(pieces, sink, refusal),
         Status::BadData(refusal) => put_data(pieces, sink, kernel, refusal),
         Status::Outside(outside) => put_outside(pieces, sink, outside),
+        Status::Rejected { kind, line } => put_rejection(pieces, sink, kind, line),
         Status::ReadFault => pieces.put(sink, b"read fault\n"),
         Status::WriteFault => pieces.put(sink, b"write fault\n"),
         Status::NoMemory => pieces.put(sink, b"no memory\n"),
@@ -66,7 +68,7 @@ fn put_status<K: Sink>(
 
 /// The commands and options of the whole program.
 const USAGE: &[u8] =
-    b"usage: polypar run|schedule|deps|emit|gen [--workers 1..64] [--tile 1..1024] [--budget 1..20000] [--report]\n";
+    b"usage: polypar run|schedule|deps|emit|gen|certify|check [--workers 1..64] [--tile 1..1024] [--budget 1..20000] [--report]\n";
 
 /// Puts `refused: KIND LINE:COLUMN` and a line feed.
 fn put_refusal<K: Sink>(pieces: &mut Pieces, sink: &mut K, refusal: Refusal) -> Result<(), Failed>
@@ -84,6 +86,31 @@ fn put_refusal<K: Sink>(pieces: &mut Pieces, sink: &mut K, refusal: Refusal) -> 
             Part::Text(b"\n"),
         ],
     )
+}
+
+/// Puts `rejected: KIND line LINE` and a line feed.
+fn put_rejection<K: Sink>(
+    pieces: &mut Pieces,
+    sink: &mut K,
+    kind: FaultKind,
+    line: u64,
+) -> Result<(), Failed>
+    ensures { Puts (K.shows sink.old) pieces.old (K.shows sink.new) pieces.new (rejection_text kind line) result }
+{
+    put_numbered(pieces, sink, fault_text(kind), line, b"\n")
+}
+
+/// `rejected: KIND line `.
+fn fault_text(kind: FaultKind) -> &'static [u8]
+    ensures { result.now ≡ fault_text kind }
+{
+    match kind {
+        FaultKind::Form => b"rejected: Form line ",
+        FaultKind::Row => b"rejected: Row line ",
+        FaultKind::Division => b"rejected: Division line ",
+        FaultKind::Goal => b"rejected: Goal line ",
+        FaultKind::Wide => b"rejected: Wide line ",
+    }
 }
 
 /// `refused: KIND`.

@@ -1,6 +1,7 @@
 //! The statuses that a call can end with, and the exit status that each has.
 
 use data_text::DataRefusal;
+use plan_check::FaultKind;
 use scop_meaning::index::Outside;
 use scop_parser::refusal::Refusal;
 
@@ -17,6 +18,9 @@ pub enum Status {
     BadData(DataRefusal),
     /// A subscript lies outside its extent: the first in the walk.
     Outside(Outside),
+    /// The kernel was read, and what stands behind it is no certificate of a plan: the first line that has a fault,
+    /// counted from 1, and its least one.
+    Rejected { kind: FaultKind, line: u64 },
     /// The source failed.
     ReadFault,
     /// A sink failed.
@@ -42,6 +46,7 @@ impl Status {
             Status::ReadFault => 5,
             Status::WriteFault => 6,
             Status::NoMemory => 7,
+            Status::Rejected { .. } => 8,
         }
     }
 }

@@ -5,6 +5,7 @@
 #![tactic(auto)]
 
 pub mod arithmetic;
+pub mod certificates;
 pub mod data;
 pub mod expressions;
 pub mod forms;

@@ -52,3 +52,9 @@ returns-in-NoMemory g c =
     puts_as _ _ _ _ _ _ _
     (sym (ap (status_text (option_map (λ (k : Bor Kernel). program_of k.now) c.args.kernel)) c.in-NoMemory.is))
     c.put-in-NoMemory.ensures
+
+pub returns-in-Rejected : goal.returns-in-Rejected
+returns-in-Rejected g c =
+    puts_as _ _ _ _ _ _ _
+    (sym (ap (status_text (option_map (λ (k : Bor Kernel). program_of k.now) c.args.kernel)) c.in-Rejected.is))
+    c.put_rejection.ensures

@@ -1,0 +1,69 @@
+-- From what certifying answers to the text that is printed.
+use Rattle.std.proofs.Common.{◌≡◌, ◌∙◌, sym, subst, ap, refl, inl, inr, ℕ, true, List, Option, Result, Ok, Err}
+use Rattle.scop_syntax.specs.Tree.{Program}
+use Rattle.iteration_domains.specs.Dependence.{Dependence}
+use Rattle.iteration_domains.specs.Model.{KernelModel, model_of}
+use Rattle.conflict_deps.specs.Conflicts.{conflicts_of}
+use Rattle.pluto_search.specs.Schedule.{Scheduled, loops_in}
+use Rattle.pluto_search.specs.Searching.{Keeps, Searches}
+use Rattle.pluto_search.specs.declared.kept.Kept.{Kept}
+use Rattle.report_text.specs.declared.kept_line.KeptLine.{KeptLine}
+use Rattle.report_text.specs.KeptText.{kept_text}
+use Rattle.report_text.specs.UncertifiedText.{uncertified_text}
+use Rattle.plan_check.specs.Judged.{judged}
+use Rattle.plan_certificate.specs.Certificates.{Certifies, certificate_of}
+use Rattle.plan_certificate.specs.View.{uncertified_in}
+use Rattle.plan_certificate.specs.declared.stop.CertifyStop.{CertifyStop}
+use Rattle.plan_certificate.specs.declared.stop.CertifyStop.TheVariants as stop
+use Rattle.wide_math.specs.Gives.{IsTold}
+use Rattle.kernel_plans.specs.Certifying.{IsCertificateText, IsGivenText}
+use Rattle.kernel_plans.specs.Planning.{line_of_kept, IsCauseOf, IsLineText}
+use Rattle.kernel_plans.proofs.SearchLemmas.{OneSchedule, program_searched}
+use Rattle.kernel_plans.proofs.TextLemmas.{kept_cause}
+
+-- the text is what certifying the schedule gives
+abbrev pub IsGivenOf : Program → Scheduled → List ℕ → Type 0
+IsGivenOf program s text = (given : Result (List ℕ) ℕ) × Certifies s given × IsGivenText program given text
+
+-- of a certificate that the checker accepts
+pub accepted_given : (program : Program) (s : Scheduled) (text : List ℕ)
+    → ((given : Result (List ℕ) ℕ) × Certifies s given × (given ≡ Ok text)) → judged program text ≡ Ok true
+    → IsGivenOf program s text
+accepted_given program s text (given, certifies, is) accepted =
+    (given, certifies, subst (λ g. IsGivenText program g text) (sym is) (refl, accepted))
+
+-- of the line of a goal without a derivation
+pub goal_given : (program : Program) (s : Scheduled) (told : CertifyStop) (goal : ℕ) (text : List ℕ)
+    → told ≡ stop.Uncertified goal
+    → ((given : Result (List ℕ) ℕ) × Certifies s given × IsTold (uncertified_in told) given)
+    → text ≡ uncertified_text goal → IsGivenOf program s text
+goal_given program s told goal text same (given, certifies, is) line =
+    let first : given ≡ Err goal = subst (λ t. IsTold (uncertified_in t) given) same is in
+    (given, certifies, subst (λ g. IsGivenText program g text) (sym first) line)
+
+-- what certifying the schedule gives that is found
+pub schedule_certified : OneSchedule → (budget : ℕ) (program : Program) (model : KernelModel) (deps : List Dependence)
+    (s : Scheduled) (text : List ℕ) → model ≡ model_of program → deps ≡ conflicts_of model
+    → Searches model deps budget (Ok s) → IsGivenOf program s text → IsCertificateText budget program text
+schedule_certified one budget program model deps s text own conflicts found (given, certifies, told) =
+    let blocks = found.2.blocks in
+    let same : certifies.blocks ≡ blocks =
+    one s.model.parameters (loops_in s.model) s.deps certifies.blocks blocks certifies.run found.2.run in
+    let given_is : given ≡ certificate_of (model_of program) blocks =
+    certifies.given_is ∙ (ap (λ m. certificate_of m certifies.blocks) (found.0 ∙ own)
+    ∙ ap (certificate_of (model_of program)) same) in
+    inl (
+      blocks,
+      program_searched budget program model deps s own conflicts found,
+      subst (λ g. IsGivenText program g text) given_is told,
+    )
+
+-- the line of what keeps the order
+pub kept_certified : (budget : ℕ) (program : Program) (model : KernelModel) (deps : List Dependence) (cause : Kept)
+    (line : Option KeptLine) (text : List ℕ) → model ≡ model_of program → deps ≡ conflicts_of model
+    → Keeps model.parameters (loops_in model) deps budget cause → line ≡ line_of_kept cause → IsLineText line text
+    → IsCertificateText budget program text
+kept_certified budget program model deps cause line text own conflicts keeps same told =
+    inr
+    (subst (λ m. (told : KeptLine) × IsCauseOf budget m told × (text ≡ kept_text told)) own
+    (kept_cause budget model deps cause line text conflicts keeps same told))

@@ -1,0 +1,24 @@
+-- The text is what certifying gives, or that of the line that tells what keeps the order.
+use Rattle.std.proofs.Common.{◌∙◌}
+use Rattle.std.proofs.lemmas.Result.{IfOk-weaker}
+use Rattle.scop_syntax.specs.View.{program_of}
+use Rattle.kernel_plans.proofs.CertificateLemmas.{kept_certified, schedule_certified}
+use Rattle.kernel_plans.proofs.certificates.certificate_text.Goals as goal
+
+pub returns-in-Ok-search : goal.returns-in-Ok-search
+returns-in-Ok-search c =
+    let program = program_of c.args.kernel.now in
+    let found = c.in-Ok-search.ensures.search in
+    IfOk-weaker c.given_text.result _ _
+    (λ text given. schedule_certified c.dependences_have_one_schedule.ensures c.args.budget program c.args.model.now
+    c.deref.result.now c.in-Ok-search.schedule text.items c.requires.model (c.deref.ensures.value ∙ c.in-Ok.ensures)
+    found given)
+    (c.given_text.ensures program c.requires.kernel (found.0 ∙ c.requires.model))
+
+pub returns : goal.returns
+returns c =
+    IfOk-weaker c.line_text.result _ _
+    (λ text told. kept_certified c.args.budget (program_of c.args.kernel.now) c.args.model.now c.deref.result.now
+    c.in-Err-search.kept c.line_of_kept-line.result text.items c.requires.model (c.deref.ensures.value ∙ c.in-Ok.ensures)
+    c.in-Err-search.ensures.search c.line_of_kept-line.ensures told)
+    c.line_text.ensures

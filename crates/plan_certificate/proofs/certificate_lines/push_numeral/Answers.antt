@@ -1,0 +1,13 @@
+-- What is formatted is the numeral.
+use Rattle.std.proofs.Common.{rules, ◌≡◌, ◌++◌, sym, subst, arith, ℕ, List}
+use Rattle.std.specs.Prelude.{OnOk}
+use Rattle.schedule_lines.specs.Lines.{numeral}
+use Rattle.plan_certificate.proofs.NumeralTexts.{decimal_is_numeral}
+use Rattle.plan_certificate.proofs.certificate_lines.push_numeral.Goals as goal
+
+pub returns : goal.returns
+returns c =
+    let same = decimal_is_numeral c.args.number (omega (arith, c.ranges.number.fits)) in
+    let text : c.as_bytes.result.now ≡ numeral c.args.number = rw (sym same) (search rules) in
+    subst (λ (z : List ℕ). OnOk c.push_text.result (c.push_text.new.out.items ≡ c.args.out.now.items ++ z)) text
+    c.push_text.ensures

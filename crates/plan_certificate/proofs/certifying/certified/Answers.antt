@@ -1,0 +1,58 @@
+-- The text of the items is that of the blocks whose plan has these goals.
+use Rattle.std.proofs.Common.{◌∙◌, subst, All, List, Ok}
+use Rattle.iteration_domains.specs.Dependence.{Dependence}
+use Rattle.schedule_rows.specs.Schedule.{IsScheduled, loops_in}
+use Rattle.report_text.specs.ScheduleText.{IsTextOf}
+use Rattle.plan_check.specs.Goals.{goals_in}
+use Rattle.plan_check.specs.PlanView.{plan_of}
+use Rattle.plan_check.specs.steps.Walks.{AreAll}
+use Rattle.plan_certificate.specs.SchedulePlan.{plan_of_blocks}
+use Rattle.plan_certificate.specs.View.{uncertified_in}
+use Rattle.plan_certificate.specs.steps.ItemPlans.{IsPlanned}
+use Rattle.plan_certificate.specs.steps.Narrow.{HasNarrow, IsNarrow}
+use Rattle.plan_certificate.proofs.GoalTexts.{certificate_is, gives_same, goals_are}
+use Rattle.plan_certificate.proofs.Narrow.{goals_narrow, if_narrow, items_narrow, rows_narrow, scalars_narrow}
+use Rattle.plan_certificate.proofs.certifying.certified.Goals as goal
+
+pub returns-in-Err : goal.returns-in-Err
+returns-in-Err c =
+    record { blocks = c.plan_items.ensures.blocks; run = c.plan_items.ensures.run; gives = tt; narrow = tt }
+
+pub returns-in-Err-of : goal.returns-in-Err-of
+returns-in-Err-of c =
+    record { blocks = c.plan_items.ensures.blocks; run = c.plan_items.ensures.run; gives = tt; narrow = tt }
+
+pub returns-in-Err-schedule_text : goal.returns-in-Err-schedule_text
+returns-in-Err-schedule_text c =
+    record { blocks = c.plan_items.ensures.blocks; run = c.plan_items.ensures.run; gives = tt; narrow = tt }
+
+pub returns-in-Ok-schedule_text : goal.returns-in-Ok-schedule_text
+returns-in-Ok-schedule_text c =
+    let s = c.args.schedule.now in
+    let planned : IsPlanned s (Ok c.in-Ok.plan) = c.in-Ok.ensures in
+    let blocks = planned.blocks in
+    let text : IsTextOf s c.in-Ok-schedule_text.text.items = c.in-Ok-schedule_text.ensures in
+    let all : AreAll (goals_in c.model.result.now (plan_of c.in-Ok.plan)) c.in-Ok-of.goals = c.in-Ok-of.ensures in
+    let one = c.dependences_have_one_schedule.ensures s.model.parameters (loops_in s.model) s.deps text.blocks blocks
+    text.run planned.run in
+    let own : IsScheduled s = c.items-items.ensures.schedule in
+    let same = c.dependences_have_one_schedule.ensures s.model.parameters (loops_in s.model) s.deps own.blocks blocks
+    own.run planned.run in
+    let items = items_narrow own.blocks blocks c.read_items.ensures (c.items-items.ensures.items ∙ own.items) same in
+    let goals = goals_are s.model c.model.result.now blocks (plan_of c.in-Ok.plan) c.in-Ok-of.goals.left
+    planned.plan.plan_is c.model.ensures all.left in
+    record {
+      blocks = blocks;
+      run = planned.run;
+      gives = gives_same uncertified_in _ c.with_proofs.result _ _
+          (certificate_is s.model blocks text.blocks _ c.in-Ok-of.goals.left one text.text_is goals)
+          c.with_proofs.ensures.gives;
+      narrow = if_narrow c.with_proofs.result (All HasNarrow c.in-Ok-of.goals.left) (IsNarrow s.model blocks)
+          (λ each. record {
+            rows = rows_narrow blocks items;
+            scalars = scalars_narrow blocks items;
+            lines = λ d steps is. goals_narrow (goals_in s.model (plan_of_blocks blocks)) d
+                (subst (λ (ds : List Dependence). All HasNarrow ds) goals each) is steps;
+          })
+          c.with_proofs.ensures.narrow;
+    }

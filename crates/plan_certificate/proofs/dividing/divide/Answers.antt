@@ -1,0 +1,25 @@
+use Rattle.std.proofs.Common.{rules, ◌≡◌, ◌<◌, length, arith}
+use Rattle.plan_certificate.specs.steps.States.{state_of}
+use Rattle.plan_certificate.proofs.Moves.{grows_then, divided_goes}
+use Rattle.plan_certificate.proofs.dividing.divide.Goals as goal
+
+pub returns-in-Ok-Ended-clause-grows : goal.returns-in-Ok-Ended-clause-grows
+returns-in-Ok-Ended-clause-grows c =
+    grows_then c.args.variables _ c.loop-at.rows.rows.items _ c.loop-at.invariant.grows c.in-Ok-Ended.ensures.grows
+
+pub returns-in-Ok-Passed-clause-grows : goal.returns-in-Ok-Passed-clause-grows
+returns-in-Ok-Passed-clause-grows c =
+    grows_then c.args.variables _ c.loop-at.rows.rows.items _ c.loop-at.invariant.grows c.in-Ok-Passed.ensures.grows
+
+pub loop-at-preserved : goal.loop-at-preserved
+loop-at-preserved c =
+    let count : c.len-count.result ≡ length c.args.rows.now.rows.items = search rules in
+    let inside : c.loop-at.at < length c.args.rows.now.rows.items = omega (arith, count, c.loop-at-test.true) in
+    record {
+      grows = grows_then c.args.variables _ c.loop-at.rows.rows.items _ c.loop-at.invariant.grows
+          c.in-Ok-Goes.ensures.grows;
+      rest = divided_goes c.args.variables c.loop-at.at c.args.rows.now.rows.items c.loop-at.invariant.grows.more
+          c.loop-at.rows.rows.items (state_of c.loop-at.rows) (state_of c.divide_row.new.rows) _ inside
+          c.loop-at.invariant.grows.is c.loop-at.invariant.rest
+          (rw c.in-Ok-Goes.field-0-is at c.in-Ok-Goes.ensures.comes);
+    }
