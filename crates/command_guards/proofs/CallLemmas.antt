@@ -1,6 +1,6 @@
 -- What the fields of a call's promise say, written out.
 use Rattle.std.proofs.Common.{◌≡◌, ◌∙◌, ◌⊎◌, inl, inr, refl, ap, subst, ℕ, ◌≤◌, List, [], ◌++◌, Option, None, Some}
-use Rattle.std.proofs.Common.{true}
+use Rattle.std.proofs.Common.{true, sym, Result, Ok, Err}
 use Rattle.std.specs.Prelude.{if◌then◌else◌}
 use Rattle.std.specs.Io.KnownBytes.{Appends}
 use Rattle.io_ports.specs.Bytes.{GainsFront, IsAllOf}
@@ -14,15 +14,30 @@ use Rattle.loop_tree.specs.Plans.{walked}
 use Rattle.loop_tree.specs.Tiling.{Tiling}
 use Rattle.loop_tree.specs.Tree.{Trees}
 use Rattle.tile_list.specs.Counting.{HasTiles, HasWaves}
+use Rattle.iteration_domains.specs.Model.{model_of}
+use Rattle.report_text.specs.Items.{Block}
+use Rattle.report_text.specs.KeptText.{kept_text}
+use Rattle.report_text.specs.UncertifiedText.{uncertified_text}
+use Rattle.report_text.specs.declared.kept_line.KeptLine.{KeptLine}
 use Rattle.report_text.specs.StatusText.{status_text}
 use Rattle.report_text.specs.TilesText.{tiles_text}
 use Rattle.report_text.specs.declared.status.Status.{Status}
-use Rattle.report_text.specs.declared.status.Status.TheVariants.{BadData, WriteFault}
+use Rattle.report_text.specs.declared.status.Status.TheVariants.{BadData, Rejected, WriteFault}
+use Rattle.plan_check.specs.Judged.{judged, rejected_at}
+use Rattle.plan_check.specs.declared.kinds.FaultKind.{FaultKind}
+use Rattle.plan_certificate.specs.Certificates.{certificate_of}
+use Rattle.command_line.specs.declared.command.Command.{Command}
+use Rattle.command_line.specs.declared.command.Command.TheVariants.{Check, Gen, OfKernel, Run}
+use Rattle.command_line.specs.Command.{command_of}
 use Rattle.command_line.specs.declared.command.RunOptions.{RunOptions}
+use Rattle.polypar.specs.Certifying.{IsGivenText}
 use Rattle.polypar.specs.Planned.{ArePlanned}
-use Rattle.polypar.specs.Answered.{Answered, GainsLine, GainsTo, HasLines, NamesOf, PrintsArrays}
-use Rattle.polypar.specs.Case.{Accepted}
-use Rattle.polypar.specs.Cut.{kernel_part}
+use Rattle.polypar.specs.Planning.{IsCauseOf, IsSearched}
+use Rattle.polypar.specs.Answered.{Answered, GainsLine, GainsTo, HasLines, IsDeserved, NamesOf, PrintsArrays}
+use Rattle.polypar.specs.Answered.{PrintsCertificate}
+use Rattle.polypar.specs.Case.{Accepted, Spelled}
+use Rattle.polypar.specs.Cut.{data_part, kernel_part}
+use Rattle.polypar.specs.Deserves.{DeservesFor}
 
 -- `err` gained a report behind the lines of a plan
 abbrev pub GainsReport : RunOptions → Option (List ℕ) → SinkShows → SinkShows → Type 0
@@ -106,3 +121,73 @@ faulted named status out out_after err mid err_after is (inl whole) =
     inl (subst (λ s. Appends mid.taken err_after.taken (status_text named s)) is whole)
 faulted named status out out_after err mid err_after is (inr part) =
     inr (subst (λ s. GainsFront mid.taken err_after.taken (status_text named s)) is part.0, part.1.1 is)
+
+-- the text is the certificate that is given, which the checker accepts; or it tells the number of the goal that has none
+abbrev pub IsGiven : Program → Result (List ℕ) ℕ → List ℕ → Type 0
+IsGiven program given text =
+    ((given ≡ Ok text) × (judged program text ≡ Ok true))
+    ⊎ ((goal : ℕ) × (given ≡ Err goal) × (text ≡ uncertified_text goal))
+
+is_given : (program : Program) (given : Result (List ℕ) ℕ) (text : List ℕ) → IsGivenText program given text
+    → IsGiven program given text
+is_given program (Ok certificate) text is = inl (ap Ok (sym is.0), is.1)
+is_given program (Err goal) text is = inr (goal, refl, is)
+
+-- `out` gained what certifying the schedule gives that is found, or the line of what keeps the order
+abbrev pub GainsCertificate : ℕ → Option (List ℕ) → Option (List ℕ) → Option (List ℕ) → Type 0
+GainsCertificate budget left old new =
+    (input : List ℕ) × (kernel : Spelled input) × (text : List ℕ) × IsAllOf left input
+    × (((blocks : List Block) × IsSearched budget (model_of kernel.program) blocks
+    × IsGiven kernel.program (certificate_of (model_of kernel.program) blocks) text)
+    ⊎ ((why : KeptLine) × IsCauseOf budget (model_of kernel.program) why × (text ≡ kept_text why)))
+    × Appends old new text
+
+-- so it did
+pub certificate_line : (budget : ℕ) (left old new : Option (List ℕ)) → PrintsCertificate budget left old new
+    → GainsCertificate budget left old new
+certificate_line budget left old new (input, kernel, text, whole, inl (blocks, searched, given), gained) =
+    (input, kernel, text, whole, inl (blocks, searched, is_given kernel.program _ text given), gained)
+certificate_line budget left old new (input, kernel, text, whole, inr kept, gained) =
+    (input, kernel, text, whole, inr kept, gained)
+
+-- what stands behind the kernel has this first fault
+abbrev pub IsRejected : List ℕ → FaultKind → ℕ → Type 0
+IsRejected input kind line =
+    (program : Program) × SpellsProgram (kernel_part input) program
+    × (judged program (data_part input) ≡ Err (rejected_at kind line))
+
+-- `check` alone rejects
+rejected_for : (command : Command) (input : List ℕ) (kind : FaultKind) (line : ℕ)
+    → DeservesFor command input (Rejected kind line) → IsRejected input kind line
+rejected_for (Run options) input kind line (inl (short, inl (program, spelled, inl (p, a, said, inl case)))) =
+    absurd (let is = case.1 in cc)
+rejected_for (Run options) input kind line (inl (short, inl (program, spelled, inl (p, a, said, inr case)))) =
+    absurd (let is = case.2 in cc)
+rejected_for (Run options) input kind line (inl (short, inl (program, spelled, inr broken))) =
+    absurd (let is = broken.2 in cc)
+rejected_for (Run options) input kind line (inl (short, inr refused)) = absurd (let is = refused.2 in cc)
+rejected_for (Run options) input kind line (inr long) = absurd (let is = long.1 in cc)
+rejected_for (OfKernel asked) input kind line (inl (short, inl spelled)) = absurd (let is = spelled.2 in cc)
+rejected_for (OfKernel asked) input kind line (inl (short, inr refused)) = absurd (let is = refused.2 in cc)
+rejected_for (OfKernel asked) input kind line (inr long) = absurd (let is = long.1 in cc)
+rejected_for Check input kind line (inl (short, inl (program, spelled, inl accepted))) =
+    absurd (let is = accepted.1 in cc)
+rejected_for Check input kind line (inl (short, inl (program, spelled, inr (fault, told, is)))) =
+    let kinds : fault.kind ≡ kind = cc in
+    let lines : fault.line ≡ line = cc in (
+      program,
+      spelled,
+      told ∙ (ap (λ k. Err (rejected_at k fault.line)) kinds ∙ ap (λ l. Err (rejected_at kind l)) lines),
+    )
+rejected_for Check input kind line (inl (short, inr refused)) = absurd (let is = refused.2 in cc)
+rejected_for Check input kind line (inr long) = absurd (let is = long.1 in cc)
+rejected_for (Gen generated options) input kind line is = absurd cc
+
+-- why a certificate is rejected
+pub rejected_by : (words : List (List ℕ)) (left : Option (List ℕ)) (kind : FaultKind) (line : ℕ)
+    → IsDeserved words left (Rejected kind line)
+    → (input : List ℕ) × (program : Program) × IsAllOf left input × SpellsProgram (kernel_part input) program
+    × (judged program (data_part input) ≡ Err (rejected_at kind line))
+rejected_by words left kind line (input, whole, inl (taken, deserved)) =
+    let why = rejected_for (command_of words) input kind line deserved in (input, why.0, whole, why.1, why.2)
+rejected_by words left kind line (input, whole, inr (none, is)) = absurd cc

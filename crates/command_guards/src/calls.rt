@@ -1,11 +1,12 @@
 //! A caller of the top call: each of its clauses follows from one field of `Answered`, with what that field speaks of
 //! written out. So one of these fields that is emptied fails here, and so does a definition under it, but for those
 //! that are named here: which input is accepted or spells a kernel, what is asked for, what a generated kernel leaves,
-//! what the search finds or stops at (`IsSearched`, `IsCauseOf`), and what the trees of a plan are (`ArePlanned`), of
+//! what the search finds or stops at (`IsSearched`, `IsCauseOf`), what a certificate is (`certificate_of`) and whether it
+//! is accepted (`judged`), and what the trees of a plan are (`ArePlanned`), of
 //! which it is written out alone which loops of a tiled plan are marked parallel.
 
-ghost use Rattle.std.specs.Prelude.{◌≡◌, ◌≢◌, ◌⊎◌, ◌≤◌, ◌++◌, ℕ, ℤ, true, false, List, [], Option, Some, map};
-ghost use Rattle.std.specs.Prelude.{string_bytes};
+ghost use Rattle.std.specs.Prelude.{◌≡◌, ◌≢◌, ◌⊎◌, ◌<◌, ◌≤◌, ◌++◌, ℕ, ℤ, true, false, List, [], Option, Some, map};
+ghost use Rattle.std.specs.Prelude.{Err, Ok, codes, length, string_bytes};
 ghost use Rattle.std.specs.Io.KnownBytes.{Appends};
 ghost use Rattle.io_ports.specs.Bytes.{GainsFront, IsAllOf};
 ghost use Rattle.io_ports.specs.Faults.{Rose};
@@ -23,11 +24,16 @@ ghost use Rattle.dataflow.specs.Told.{AreTold};
 ghost use Rattle.dataflow.specs.declared.source.ReadSource.{ReadSource};
 ghost use Rattle.report_text.specs.Items.{Block};
 ghost use Rattle.loop_tree.specs.Plans.{first_coordinate, has_rows, walked};
-ghost use Rattle.loop_tree.specs.Tiling.{Items, Tiling, items_at, tiled};
+ghost use Rattle.loop_tree.specs.Tiling.{IsGoodPlan, Items, Tiling, items_at, tiled};
 ghost use Rattle.loop_tree.specs.Tree.{Trees};
 ghost use Rattle.loop_tree.specs.Walk.{Visit, walk_all};
 ghost use Rattle.tile_list.specs.Counting.{HasTiles, HasWaves};
 ghost use Rattle.c_printer.specs.Nodes.{text_of};
+ghost use Rattle.plan_check.specs.Goals.{InRange};
+ghost use Rattle.plan_check.specs.Judged.{SaysPlan, judged, rejected_at};
+ghost use Rattle.plan_check.specs.Plans.{Plan, tiling_of};
+ghost use Rattle.plan_check.specs.declared.kinds.FaultKind.{FaultKind};
+ghost use Rattle.plan_certificate.specs.Certificates.{certificate_of};
 ghost use Rattle.kernel_gen.specs.Cases as cases;
 ghost use Rattle.kernel_gen.specs.Summary.{summary_text};
 ghost use Rattle.kernel_gen.specs.Totals.{cells_in, sum_of};
@@ -36,16 +42,17 @@ ghost use Rattle.report_text.specs.KeptText.{kept_text};
 ghost use Rattle.report_text.specs.ScheduleText.{schedule_text};
 ghost use Rattle.report_text.specs.StatusText.{status_text};
 ghost use Rattle.report_text.specs.TilesText.{tiles_text};
+ghost use Rattle.report_text.specs.UncertifiedText.{uncertified_text};
 ghost use Rattle.report_text.specs.declared.kept_line.KeptLine.{KeptLine};
-ghost use Rattle.report_text.specs.declared.status.Status.TheVariants.{BadData, Done, Usage, WriteFault};
+ghost use Rattle.report_text.specs.declared.status.Status.TheVariants.{BadData, Done, Rejected, Usage, WriteFault};
 ghost use Rattle.polypar.specs.Planned.{ArePlanned};
 ghost use Rattle.polypar.specs.Planning.{IsCauseOf, IsSearched};
 ghost use Rattle.command_line.specs.Command.{IsDepsCommand, IsEmitCommand, IsGenCommand, IsRunCommand};
-ghost use Rattle.command_line.specs.Command.{IsScheduleCommand};
+ghost use Rattle.command_line.specs.Command.{IsCertifyCommand, IsCheckCommand, IsScheduleCommand};
 ghost use Rattle.command_line.specs.declared.command.GeneratedKernel.{GeneratedKernel};
 ghost use Rattle.command_line.specs.declared.command.RunOptions.{RunOptions};
 ghost use Rattle.polypar.specs.Case.{Accepted, Spelled};
-ghost use Rattle.polypar.specs.Cut.{kernel_part};
+ghost use Rattle.polypar.specs.Cut.{data_part, kernel_part};
 ghost use Rattle.polypar.specs.Deserves.{Asks};
 ghost use Rattle.polypar.specs.Runs.{left_by};
 ghost use Rattle.polypar.specs.Told.{Told};
@@ -55,7 +62,8 @@ use polypar::{Status, plain_command};
 use std::alloc::Global;
 
 /// A call of `plain_command`: by `done` the arrays and the report of `run`, by `scheduled`, `sourced`, `emitted` and
-/// `generated` what another command tells, by `unread`, `nothing` and `written` what else ports show; by `error_line`
+/// `generated`, `checked` and `certified` what another command tells, by `deserved` why a certificate is rejected, by
+/// `unread`, `nothing` and `written` what else ports show; by `error_line`
 /// the line of data that is refused, with the names of the program that was read, the lines of a command that is done,
 /// and those of one that is cut off, with the count that rose.
 pub fn answered_call<S: Source, O: Sink, E: Sink>(
@@ -107,6 +115,24 @@ pub fn answered_call<S: Source, O: Sink, E: Sink>(
         × Appends (O.shows out.old).taken (O.shows out.new).taken
         (summary_text g.kind g.seed g.size tiles waves (cells_in (left_by g)) (sum_of (left_by g)))
         × Appends (E.shows err.old).taken (E.shows err.new).taken lines }
+    ensures checked { IsCheckCommand (map string_bytes words.now) → result ≡ Done
+        → (input : List ℕ) × (kernel : Spelled input) × (plan : Plan) × IsAllOf (S.shows source.old).left input
+        × SaysPlan kernel.program (data_part input) plan
+        × ((params : List ℤ) (size : ℕ) → length params ≡ length kernel.program.parameters → InRange params → 0 < size
+        → IsGoodPlan kernel.program params (tiling_of size (length (model_of kernel.program).statements) plan))
+        × Appends (O.shows out.old).taken (O.shows out.new).taken (codes "yes\n") }
+    ensures certified { (budget : ℕ) → IsCertifyCommand budget (map string_bytes words.now) → result ≡ Done
+        → (input : List ℕ) × (kernel : Spelled input) × (text : List ℕ) × IsAllOf (S.shows source.old).left input
+        × (((blocks : List Block) × IsSearched budget (model_of kernel.program) blocks
+        × (((certificate_of (model_of kernel.program) blocks ≡ Ok text) × (judged kernel.program text ≡ Ok true))
+        ⊎ ((goal : ℕ) × (certificate_of (model_of kernel.program) blocks ≡ Err goal)
+        × (text ≡ uncertified_text goal))))
+        ⊎ ((why : KeptLine) × IsCauseOf budget (model_of kernel.program) why × (text ≡ kept_text why)))
+        × Appends (O.shows out.old).taken (O.shows out.new).taken text }
+    ensures rejected { (kind : FaultKind) (line : ℕ) → result ≡ Rejected kind line
+        → (input : List ℕ) × (program : Program) × IsAllOf (S.shows source.old).left input
+        × SpellsProgram (kernel_part input) program
+        × (judged program (data_part input) ≡ Err (rejected_at kind line)) }
     ensures unread { result ≡ Usage → S.shows source.new ≡ S.shows source.old }
     ensures nothing { result ≢ Done → result ≢ WriteFault → O.shows out.new ≡ O.shows out.old }
     ensures front { result ≡ WriteFault → (input : List ℕ) × (told : Told)

@@ -27,7 +27,8 @@ ghost use Rattle.c_printer.specs.Reading.{read_text};
 ghost use Rattle.report_text.specs.declared.status.Status.TheVariants.{Done};
 ghost use Rattle.report_text.specs.declared.status.Status.{Status};
 ghost use Rattle.polypar.specs.Answered.{Answered, HasLines, PrintsText, PrintsTold};
-ghost use Rattle.command_line.specs.Command.{IsDepsCommand, IsEmitCommand, IsGenCommand, IsScheduleCommand};
+ghost use Rattle.command_line.specs.Command.{IsCertifyCommand, IsCheckCommand, IsDepsCommand, IsEmitCommand};
+ghost use Rattle.command_line.specs.Command.{IsGenCommand, IsScheduleCommand};
 ghost use Rattle.command_line.specs.Command.{IsTaken, NamesCommand, NamesNoKind, command_names};
 ghost use Rattle.command_line.specs.declared.command.GeneratedKernel.{GeneratedKernel};
 ghost use Rattle.command_line.specs.declared.command.RunOptions.{RunOptions};
@@ -128,6 +129,22 @@ pub fn lines_of_schedules_within_one_move()
 pub fn lines_of_sources_within_one_move()
     ensures { (words : List (List ℕ)) (left : Option (List ℕ)) (out : SinkShows) (lines : List ℕ)
         → HasLines words left Done out out lines → IsDepsCommand 1 words → lines ≡ [] }
+{
+    only_plans_have_lines();
+}
+
+/// The same of `certify`, by `certify` of `only_plans_have_lines`.
+pub fn lines_of_certificates_within_one_move()
+    ensures { (words : List (List ℕ)) (left : Option (List ℕ)) (out : SinkShows) (lines : List ℕ)
+        → HasLines words left Done out out lines → IsCertifyCommand 1 words → lines ≡ [] }
+{
+    only_plans_have_lines();
+}
+
+/// The same of `check`, by `check` of `only_plans_have_lines`.
+pub fn lines_of_checks()
+    ensures { (words : List (List ℕ)) (left : Option (List ℕ)) (out : SinkShows) (lines : List ℕ)
+        → HasLines words left Done out out lines → IsCheckCommand words → lines ≡ [] }
 {
     only_plans_have_lines();
 }

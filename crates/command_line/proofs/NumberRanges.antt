@@ -1,5 +1,5 @@
 -- The numbers of words that are taken lie in their ranges.
-use Rattle.std.proofs.Common.{◌≡◌, ◌∙◌, ap, sym, subst, refl, arith, ℕ, ◌≤◌, Bool, true, false, List, [], ◌∷◌, All}
+use Rattle.std.proofs.Common.{◌≡◌, sym, subst, refl, arith, ℕ, ◌≤◌, Bool, true, false, List, [], ◌∷◌, All}
 use Rattle.std.proofs.Common.{is_some}
 use Rattle.std.specs.Prelude.{⊤, codes, Option, None, Some, IfSome, find, if◌then◌else◌, option_and_then, option_map}
 use Rattle.std.specs.Prelude.{slice_get}
@@ -10,11 +10,11 @@ use Rattle.std.specs.Str.Parse.{digits_value, without_leading_plus}
 use Rattle.std.proofs.lemmas.List.Elements.{All-nil, All-cons, All-head}
 use Rattle.clap.specs.Faults.{check_fault, defaults_fault, entered_fault, fault_of, level_fault, settle_fault}
 use Rattle.clap.specs.Faults.{walk_fault}
-use Rattle.clap.specs.Kinds.{Kinds, or_else}
+use Rattle.clap.specs.Kinds.{or_else}
 use Rattle.clap.specs.Simple.{Shape, argument_words, built, entered, label_of, names_of, rows_at, subcommand_of}
 use Rattle.clap.specs.ValueTests.{is_unsigned_in}
 use Rattle.clap.specs.Values.{read_as}
-use Rattle.clap.specs.Walk.{Held, Names, Row, Rule, Text, answers_to, finished, nothing_held, one_of, row_text}
+use Rattle.clap.specs.Walk.{Row, Rule, Text, answers_to, finished, nothing_held, row_text}
 use Rattle.clap.specs.Walk.{settled, stop_after}
 use Rattle.clap.specs.Walk.{walk, walk_from}
 use Rattle.clap.specs.declared.builder.value_parser.Reading.{Reading}
@@ -23,11 +23,11 @@ use Rattle.clap.specs.declared.builder.value_parser.ValueParser.TheVariants as v
 use Rattle.clap.proofs.ValueTestLemmas.{accepts-Accepts}
 use Rattle.kernel_gen.specs.declared.kind.Kind.{Kind}
 use Rattle.command_line.specs.Command.{AreSized, HasSize, IsTaken, budget_of, command_met, command_named, command_of}
-use Rattle.command_line.specs.Command.{gen_named, generated_in, kernel_command_named, kind_in, number_in, number_of}
+use Rattle.command_line.specs.Command.{gen_named, kernel_command_named, kind_in, number_in, number_of}
 use Rattle.command_line.specs.Command.{run_options_in, kernel_of, usual_tile, usual_workers}
 use Rattle.command_line.specs.declared.command.Command.{Command}
-use Rattle.command_line.specs.declared.command.Command.TheVariants.{Gen, OfKernel, Run}
-use Rattle.command_line.specs.declared.command.KernelCommand.TheVariants.{Deps, Emit, Schedule}
+use Rattle.command_line.specs.declared.command.Command.TheVariants.{Check, Gen, OfKernel, Run}
+use Rattle.command_line.specs.declared.command.KernelCommand.TheVariants.{Certify, Deps, Emit, Schedule}
 use Rattle.command_line.specs.Stated.{most_moves, most_size, most_tile, most_workers, tool}
 use Rattle.command_line.proofs.NumberRows.{AreWithin, AsksOf, IsWithin, found_all, level_kept, none_behind}
 use Rattle.command_line.proofs.NumberRows.{none_front}
@@ -137,8 +137,14 @@ workers_asked = (
       (
         (tt, (tt, (tt, tt))),
         (
-          (tt, (tt, (tt, ((refl, refl), (tt, (tt, (tt, tt))))))),
-          tt,
+          (tt, (tt, tt)),
+          (
+            (tt, (tt, (tt, ((refl, refl), (tt, (tt, (tt, tt))))))),
+            (
+              (tt, tt),
+              tt,
+            ),
+          ),
         ),
       ),
     ),
@@ -155,8 +161,14 @@ tile_asked = (
       (
         (tt, ((refl, refl), (tt, tt))),
         (
-          (tt, (tt, (tt, (tt, ((refl, refl), (tt, (tt, tt))))))),
-          tt,
+          (tt, (tt, tt)),
+          (
+            (tt, (tt, (tt, (tt, ((refl, refl), (tt, (tt, tt))))))),
+            (
+              (tt, tt),
+              tt,
+            ),
+          ),
         ),
       ),
     ),
@@ -173,8 +185,14 @@ budget_asked = (
       (
         ((refl, refl), (tt, (tt, tt))),
         (
-          (tt, (tt, (tt, (tt, (tt, ((refl, refl), (tt, tt))))))),
-          tt,
+          ((refl, refl), (tt, tt)),
+          (
+            (tt, (tt, (tt, (tt, (tt, ((refl, refl), (tt, tt))))))),
+            (
+              (tt, tt),
+              tt,
+            ),
+          ),
         ),
       ),
     ),
@@ -191,8 +209,14 @@ size_asked = (
       (
         (tt, (tt, (tt, tt))),
         (
-          (tt, (tt, ((refl, refl), (tt, (tt, (tt, (tt, tt))))))),
-          tt,
+          (tt, (tt, tt)),
+          (
+            (tt, (tt, ((refl, refl), (tt, (tt, (tt, (tt, tt))))))),
+            (
+              (tt, tt),
+              tt,
+            ),
+          ),
         ),
       ),
     ),
@@ -255,27 +279,31 @@ kernel_in_range : (name : Text) (rows : List Row) → AreInRange rows
     → IfSome (option_map OfKernel (kernel_command_named (name, rows))) IsInRange
 kernel_in_range name rows within =
     go (bytes_eq name (codes "schedule")) (bytes_eq name (codes "deps")) (bytes_eq name (codes "emit"))
+    (bytes_eq name (codes "certify"))
   where
-    go : (schedule deps emit : Bool)
+    go : (schedule deps emit certify : Bool)
         → IfSome (option_map OfKernel (if schedule then Some (Schedule (number_in (codes "budget") most_moves rows))
         else (if deps then Some (Deps (number_in (codes "budget") most_moves rows))
         else (if emit
         then Some (Emit (number_in (codes "tile") usual_tile rows) (number_in (codes "budget") most_moves rows))
-        else None)))) IsInRange
-    go true deps emit = (tt, (budget_in rows within).0, (budget_in rows within).1)
-    go false true emit = (tt, (budget_in rows within).0, (budget_in rows within).1)
-    go false false true = (tile_in rows within, (budget_in rows within).0, (budget_in rows within).1)
-    go false false false = tt
+        else (if certify then Some (Certify (number_in (codes "budget") most_moves rows)) else None))))) IsInRange
+    go true deps emit certify = (tt, (budget_in rows within).0, (budget_in rows within).1)
+    go false true emit certify = (tt, (budget_in rows within).0, (budget_in rows within).1)
+    go false false true certify = (tile_in rows within, (budget_in rows within).0, (budget_in rows within).1)
+    go false false false true = (tt, (budget_in rows within).0, (budget_in rows within).1)
+    go false false false false = tt
 
 named_in_range : (name : Text) (rows : List Row) → AreInRange rows → IfSome (command_named (name, rows)) IsInRange
-named_in_range name rows within = go (bytes_eq name (codes "run")) (bytes_eq name (codes "gen"))
+named_in_range name rows within =
+    go (bytes_eq name (codes "run")) (bytes_eq name (codes "gen")) (bytes_eq name (codes "check"))
   where
-    go : (run gen : Bool)
-        → IfSome (if run then Some (Run (run_options_in rows))
-        else (if gen then gen_named rows else option_map OfKernel (kernel_command_named (name, rows)))) IsInRange
-    go true gen = (options_sized rows within, (budget_in rows within).0, (budget_in rows within).1)
-    go false true = gen_in_range rows within
-    go false false = kernel_in_range name rows within
+    go : (run gen check : Bool)
+        → IfSome (if run then Some (Run (run_options_in rows)) else (if gen then gen_named rows
+        else (if check then Some Check else option_map OfKernel (kernel_command_named (name, rows))))) IsInRange
+    go true gen check = (options_sized rows within, (budget_in rows within).0, (budget_in rows within).1)
+    go false true check = gen_in_range rows within
+    go false false true = (tt, omega arith, omega arith)
+    go false false false = kernel_in_range name rows within
 
 -- the numbers of a command that taken words name
 pub in_range : (words : List Text) → IsTaken words → IsInRange (command_of words)

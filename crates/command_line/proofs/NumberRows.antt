@@ -1,5 +1,5 @@
 -- The rows that a walk over words without faults leaves for an argument that is a number: each value lies in its range.
-use Rattle.std.proofs.Common.{rules, ◌≡◌, ◌∙◌, sym, ap, subst, inl, inr, refl, ◌⊎◌, ℕ, zero, suc, Bool, true, false}
+use Rattle.std.proofs.Common.{rules, ◌≡◌, ◌∙◌, sym, ap, subst, refl, ℕ, zero, suc, Bool, true, false}
 use Rattle.std.proofs.Common.{cond, true≢false}
 use Rattle.std.proofs.Common.{List, [], ◌∷◌, ◌++◌, length, All, is_some}
 use Rattle.std.specs.Prelude.{⊤, ◌+◌, ◌==◌, ◌&&◌, ◌||◌, not, Option, None, Some, min, slice_get, drop, encode_utf8}
@@ -19,26 +19,25 @@ use Rattle.clap.specs.Lexer.{long_of, short_of}
 use Rattle.clap.specs.Matches.{count_text}
 use Rattle.clap.specs.Simple.{Shape}
 use Rattle.clap.specs.Values.{reading_of, refused_kind}
-use Rattle.clap.specs.ValueTests.{accepts, is_unsigned_in}
+use Rattle.clap.specs.ValueTests.{is_unsigned_in}
 use Rattle.clap.specs.Walk.{Held, Names, Outcome, Row, Rule, Step, Text, Waiting, Walk, action_of, after_flag}
 use Rattle.clap.specs.Walk.{after_step}
 use Rattle.clap.specs.Walk.{arg_by_id, arg_by_index, arg_by_long, arg_by_short, at_row, attached_value, bundle}
 use Rattle.clap.specs.Walk.{bundle_met}
 use Rattle.clap.specs.Walk.{bundle_step, count_of, counted, default_rows, done, finished, flag_met, has_long}
 use Rattle.clap.specs.Walk.{has_short, is_empty, has_row, idle, is_pending, long_met}
-use Rattle.clap.specs.Walk.{long_or_other, long_word, more_values, most_values, new_count, next, nothing_held, option}
+use Rattle.clap.specs.Walk.{long_or_other, more_values, most_values, new_count, next, nothing_held, option}
 use Rattle.clap.specs.Walk.{option_met, option_word}
-use Rattle.clap.specs.Walk.{plain, plain_word, positional, positional_held, reacted, reading_by, refused, rows_after}
+use Rattle.clap.specs.Walk.{plain, plain_word, positional, reacted, reading_by, refused, rows_after}
 use Rattle.clap.specs.Walk.{settled, settled_rows, short_met, short_or_plain, stronger, subcommand, subcommand_met}
 use Rattle.clap.specs.Walk.{subcommand_or_other, takes_several, takes_values, to_positional, trailing, used, used_as}
 use Rattle.clap.specs.Walk.{used_by_id, value, values_or_missing, waits, walk, walk_from, walked, walked_from}
-use Rattle.clap.specs.Walk.{with_count, with_default, with_values, without, word_met}
+use Rattle.clap.specs.Walk.{with_default, with_values, without, word_met}
 use Rattle.clap.specs.declared.builder.action.ArgAction.{ArgAction}
 use Rattle.clap.specs.declared.builder.action.ArgAction.TheVariants as action
 use Rattle.clap.specs.declared.error.kind.ErrorKind.TheVariants as kind
 use Rattle.clap.specs.declared.builder.value_parser.Reading.{Reading}
 use Rattle.clap.specs.declared.builder.value_parser.Reading.TheVariants as reading
-use Rattle.clap.specs.declared.builder.value_parser.ValueParser.{ValueParser}
 use Rattle.clap.specs.declared.builder.value_parser.ValueParser.TheVariants as vp
 use Rattle.clap.specs.declared.parser.matches.ValueSource.{ValueSource}
 use Rattle.clap.specs.declared.parser.matches.ValueSource.TheVariants.{CommandLine, DefaultValue}

@@ -86,7 +86,9 @@ asked_or_none name rows (inl is) = inl (subst (IsAsked rows) (sym is) refl)
 asked_or_none name rows (inr (inl is)) = inl (subst (IsAsked rows) (sym is) refl)
 asked_or_none name rows (inr (inr (inl is))) = inl (subst (IsAsked rows) (sym is) refl)
 asked_or_none name rows (inr (inr (inr (inl is)))) = inl (subst (IsAsked rows) (sym is) refl)
-asked_or_none name rows (inr (inr (inr (inr (inl is))))) = go (kind_in rows) refl
+asked_or_none name rows (inr (inr (inr (inr (inl is))))) = inl (subst (IsAsked rows) (sym is) refl)
+asked_or_none name rows (inr (inr (inr (inr (inr (inr (inl is))))))) = inl (subst (IsAsked rows) (sym is) refl)
+asked_or_none name rows (inr (inr (inr (inr (inr (inl is)))))) = go (kind_in rows) refl
   where
     go : (kind : Option Kind) → kind_in rows ≡ kind → IsAsked rows name ⊎ ((name ≡ codes "gen") × (kind_in rows ≡ None))
     go None none = inr (is, none)
@@ -95,7 +97,7 @@ asked_or_none name rows (inr (inr (inr (inr (inl is))))) = go (kind_in rows) ref
         ap (λ (k : Option Kind). is_some (option_map (λ generated. Gen generated (run_options_in rows))
         (option_map (kernel_of rows) k))) some in
         inl (subst (IsAsked rows) (sym is) asked)
-asked_or_none name rows (inr (inr (inr (inr (inr none))))) = absurd none
+asked_or_none name rows (inr (inr (inr (inr (inr (inr (inr none))))))) = absurd none
 
 -- words that the stated command takes are taken, unless they are `gen` with a kind that is none
 pub taken_or_none : (words : List Text) → fault_of tool words ≡ [] → IsTaken words ⊎ NamesNoKind words

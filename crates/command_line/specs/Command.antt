@@ -9,10 +9,10 @@ use Rattle.clap.specs.ValueTests.{is_unsigned_in}
 use Rattle.kernel_gen.specs.declared.kind.Kind.{Kind}
 use Rattle.kernel_gen.specs.declared.kind.Kind.TheVariants.{Product, Sweep, Chain}
 use Rattle.command_line.specs.declared.command.Command.{Command}
-use Rattle.command_line.specs.declared.command.Command.TheVariants.{Run, OfKernel, Gen}
+use Rattle.command_line.specs.declared.command.Command.TheVariants.{Run, OfKernel, Check, Gen}
 use Rattle.command_line.specs.declared.command.GeneratedKernel.{GeneratedKernel}
 use Rattle.command_line.specs.declared.command.KernelCommand.{KernelCommand}
-use Rattle.command_line.specs.declared.command.KernelCommand.TheVariants.{Schedule, Deps, Emit}
+use Rattle.command_line.specs.declared.command.KernelCommand.TheVariants.{Schedule, Deps, Emit, Certify}
 use Rattle.command_line.specs.declared.command.RunOptions.{RunOptions}
 use Rattle.command_line.specs.Stated.{most_moves, most_size, most_tile, most_workers, tool}
 
@@ -76,7 +76,7 @@ kernel_command_named named =
     if bytes_eq named.0 (codes "schedule") then Some (Schedule budget)
     else (if bytes_eq named.0 (codes "deps") then Some (Deps budget)
     else (if bytes_eq named.0 (codes "emit") then Some (Emit (number_in (codes "tile") usual_tile named.1) budget)
-    else None))
+    else (if bytes_eq named.0 (codes "certify") then Some (Certify budget) else None)))
 
 -- `gen` with these matches; none where its KIND is no kind
 abbrev pub gen_named : List Row → Option Command
@@ -87,7 +87,8 @@ abbrev pub command_named : Text × List Row → Option Command
 command_named named =
     if bytes_eq named.0 (codes "run") then Some (Run (run_options_in named.1))
     else (if bytes_eq named.0 (codes "gen") then gen_named named.1
-    else option_map OfKernel (kernel_command_named named))
+    else (if bytes_eq named.0 (codes "check") then Some Check
+    else option_map OfKernel (kernel_command_named named)))
 
 -- the command that is met
 abbrev pub command_met : Option (Text × List Row) → Option Command
@@ -117,6 +118,14 @@ IsDepsCommand budget words = IsTaken words × (command_of words ≡ OfKernel (De
 abbrev pub IsEmitCommand : ℕ → ℕ → List Text → Type 0
 IsEmitCommand tile budget words = IsTaken words × (command_of words ≡ OfKernel (Emit tile budget))
 
+-- the words are `certify` with this budget
+abbrev pub IsCertifyCommand : ℕ → List Text → Type 0
+IsCertifyCommand budget words = IsTaken words × (command_of words ≡ OfKernel (Certify budget))
+
+-- the words are `check`
+abbrev pub IsCheckCommand : List Text → Type 0
+IsCheckCommand words = IsTaken words × (command_of words ≡ Check)
+
 -- the words are `gen` with this kernel and these options
 abbrev pub IsGenCommand : GeneratedKernel → RunOptions → List Text → Type 0
 IsGenCommand generated options words = IsTaken words × (command_of words ≡ Gen generated options)
@@ -137,19 +146,23 @@ IsSized other = ⊤
 abbrev pub HasSize : Command → Type 0
 HasSize (Run options) = AreSized options
 HasSize (OfKernel asked) = IsSized asked
+HasSize Check = ⊤
 HasSize (Gen generated options) = (1 ≤ generated.size) × (generated.size ≤ most_size) × AreSized options
 
--- how many moves each question of a command may make
+-- how many moves each question of a command may make; `check`, which poses none, has the one where none is given
 abbrev pub budget_of : Command → ℕ
 budget_of (Run options) = options.budget
 budget_of (OfKernel (Schedule budget)) = budget
 budget_of (OfKernel (Deps budget)) = budget
 budget_of (OfKernel (Emit tile budget)) = budget
+budget_of (OfKernel (Certify budget)) = budget
+budget_of Check = most_moves
 budget_of (Gen generated options) = options.budget
 
 -- the names of the commands
 abbrev pub command_names : List Text
-command_names = codes "run" ∷ codes "schedule" ∷ codes "deps" ∷ codes "emit" ∷ codes "gen" ∷ []
+command_names =
+    codes "run" ∷ codes "schedule" ∷ codes "deps" ∷ codes "emit" ∷ codes "certify" ∷ codes "gen" ∷ codes "check" ∷ []
 
 -- the words name this command, with some matches
 abbrev pub NamesCommand : Text → List Text → Type 0

@@ -72,22 +72,32 @@ budget_tool name = with_rule (new_app name) (number_option (codes "budget") most
 abbrev pub emit_tool : App
 emit_tool = with_rule (budget_tool (codes "emit")) (number_option (codes "tile") most_tile)
 
+-- `check`
+abbrev pub check_tool : App
+check_tool = new_app (codes "check")
+
 -- `polypar`, which wants one of its commands; `help` is none of them
 abbrev pub bare_tool : App
 bare_tool =
     on_top (λ top. record top { subcommand_required = true; disable_help_subcommand = true })
     (new_app (codes "polypar"))
 
--- a command with `schedule [--budget B]`, `deps [--budget B]` and `emit [--tile T] [--budget B]`
+-- a command with `schedule [--budget B]`, `deps [--budget B]`, `emit [--tile T] [--budget B]` and
+-- `certify [--budget B]`
 abbrev pub with_kernel_tools : App → App
 with_kernel_tools a =
     with_subcommand
+    (with_subcommand
     (with_subcommand (with_subcommand a (budget_tool (codes "schedule")).top) (budget_tool (codes "deps")).top)
-    emit_tool.top
+    emit_tool.top)
+    (budget_tool (codes "certify")).top
 
--- the stated command: `polypar` with `run`, those that ask of a kernel alone, and `gen`
+-- the stated command: `polypar` with `run`, those that ask of a kernel alone, `gen` and `check`
 abbrev pub tool : App
-tool = with_subcommand (with_kernel_tools (with_subcommand bare_tool run_tool.top)) gen_tool.top
+tool =
+    with_subcommand
+    (with_subcommand (with_kernel_tools (with_subcommand bare_tool run_tool.top)) gen_tool.top)
+    check_tool.top
 
 -- an argument of the code is this one, and is its command's own
 pub record IsArgument (r : Rule) (arg : Arg) : Type 0 where

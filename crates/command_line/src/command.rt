@@ -35,6 +35,8 @@ pub enum KernelCommand {
     Deps { budget: u64 },
     /// The loops of the schedule's tiles of this size; the budget is that of the schedule.
     Emit { tile: u64, budget: u64 },
+    /// The certificate of the schedule; the budget is that of the schedule.
+    Certify { budget: u64 },
 }
 
 /// What a command line asks for.
@@ -44,6 +46,8 @@ pub enum Command {
     Run(RunOptions),
     /// What is told of a kernel alone.
     OfKernel(KernelCommand),
+    /// Whether what stands behind a kernel is the certificate of a plan of it.
+    Check,
     /// A run of a generated kernel.
     Gen {
         generated: GeneratedKernel,

@@ -101,6 +101,9 @@ fn kernel_command_named(name: &str, matches: &ArgMatches) -> Option<KernelComman
         let tile = number_in(matches, "tile", USUAL_TILE);
         return Some(KernelCommand::Emit { tile, budget });
     }
+    if name == "certify" {
+        return Some(KernelCommand::Certify { budget });
+    }
     None
 }
 
@@ -124,6 +127,9 @@ fn command_named(name: &str, matches: &ArgMatches) -> Option<Command>
     }
     if name == "gen" {
         return gen_named(matches);
+    }
+    if name == "check" {
+        return Some(Command::Check);
     }
     match kernel_command_named(name, matches) {
         Some(asked) => Some(Command::OfKernel(asked)),

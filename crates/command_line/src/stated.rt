@@ -2,8 +2,9 @@
 
 ghost use Rattle.std.specs.Prelude.{IfOk};
 ghost use Rattle.clap.specs.Words.{App, Rule, with_rule, with_subcommand};
-ghost use Rattle.command_line.specs.Stated.{IsArgument, IsCommand, bare_tool, budget_tool, emit_tool, gen_arguments};
-ghost use Rattle.command_line.specs.Stated.{gen_tool, number_option, report_flag, run_tool, tool, wanted, wanted_number};
+ghost use Rattle.command_line.specs.Stated.{IsArgument, IsCommand, bare_tool, budget_tool, check_tool, emit_tool};
+ghost use Rattle.command_line.specs.Stated.{gen_arguments, gen_tool, number_option, report_flag, run_tool, tool, wanted};
+ghost use Rattle.command_line.specs.Stated.{wanted_number};
 ghost use Rattle.command_line.specs.Stated.{with_kernel_tools, with_run_options};
 
 use clap::builder::ValueParser;
@@ -142,6 +143,14 @@ fn emit_command<'a>(alloc: Global) -> Result<clap::Command<'a>, AllocError>
     )
 }
 
+/// The command `check`.
+#[tactic(auto, using(crate::proofs::BuiltCommands::building))]
+fn check_command<'a>(alloc: Global) -> Result<clap::Command<'a>, AllocError>
+    ensures { IfOk result (IsCommand check_tool) }
+{
+    Ok(clap::Command::new(alloc, "check"))
+}
+
 /// The stated command without its commands, of which it wants one.
 #[tactic(auto, using(crate::proofs::BuiltCommands::building))]
 fn bare<'a>(alloc: Global) -> clap::Command<'a>
@@ -161,7 +170,8 @@ fn with_kernel_commands<'a>(
 {
     let with_schedule = with_command(command, budget_command(alloc, "schedule"));
     let with_deps = with_command(with_schedule, budget_command(alloc, "deps"));
-    with_command(with_deps, emit_command(alloc))
+    let with_emit = with_command(with_deps, emit_command(alloc));
+    with_command(with_emit, budget_command(alloc, "certify"))
 }
 
 /// The stated command. Its definition in specs/Stated.antt says which words it takes.
@@ -170,5 +180,6 @@ pub(crate) fn stated<'a>(alloc: Global) -> Result<clap::Command<'a>, AllocError>
 {
     let with_run = with_command(Ok(bare(alloc)), run_command(alloc));
     let of_kernels = with_kernel_commands(alloc, with_run);
-    with_command(of_kernels, gen_command(alloc))
+    let with_gen = with_command(of_kernels, gen_command(alloc));
+    with_command(with_gen, check_command(alloc))
 }

@@ -17,15 +17,16 @@ use Rattle.scop_syntax.specs.View.{program_of}
 use Rattle.scop_syntax.specs.Tree.{Program}
 use Rattle.report_text.specs.declared.status.Status.{Status}
 use Rattle.report_text.specs.declared.status.Status.TheVariants.{Done, Usage, Refused, BadData, Outside, ReadFault}
-use Rattle.report_text.specs.declared.status.Status.TheVariants.{WriteFault, NoMemory}
+use Rattle.report_text.specs.declared.status.Status.TheVariants.{WriteFault, NoMemory, Rejected}
 use Rattle.command_line.specs.declared.command.Command.{Command}
-use Rattle.command_line.specs.declared.command.Command.TheVariants.{Run, OfKernel, Gen}
+use Rattle.command_line.specs.declared.command.Command.TheVariants.{Run, OfKernel, Check, Gen}
 use Rattle.command_line.specs.declared.command.KernelCommand.{KernelCommand}
-use Rattle.command_line.specs.declared.command.KernelCommand.TheVariants.{Schedule, Deps, Emit}
+use Rattle.command_line.specs.declared.command.KernelCommand.TheVariants.{Schedule, Deps, Emit, Certify}
 use Rattle.command_line.specs.declared.command.GeneratedKernel.{GeneratedKernel}
 use Rattle.command_line.specs.declared.command.RunOptions.{RunOptions}
 use Rattle.command_line.specs.Command.{IsTaken, command_of}
 use Rattle.polypar.specs.Case.{Accepted}
+use Rattle.kernel_plans.specs.Certifying.{IsCertificateText}
 use Rattle.kernel_plans.specs.Planning.{IsPlanText}
 use Rattle.polypar.specs.Sources.{IsSourcesText}
 use Rattle.polypar.specs.Told.{Told, IsTextAlone}
@@ -34,7 +35,7 @@ use Rattle.report_text.specs.StatusText.{status_text}
 use Rattle.polypar.specs.KernelText.{IsTextFor}
 use Rattle.polypar.specs.Promises.{WritesTold, CutsTold, AreUntouched, AnswersFor, AnswersCommand, AnswersWords}
 use Rattle.polypar.specs.Promises.{IsReadOn, TellsStatus}
-use Rattle.polypar.specs.Answered.{PrintsArrays, PrintsSummary, PrintsText, PrintsTold, PrintsFront}
+use Rattle.polypar.specs.Answered.{ChecksPlan, PrintsArrays, PrintsSummary, PrintsText, PrintsTold, PrintsFront}
 use Rattle.polypar.specs.Answered.{IsDeserved, NamesOf, IsFrontOf}
 use Rattle.polypar.specs.Answered.{HasLines, GainsTo, GainsLine, NoneRose, HasRoomForText, Answered}
 
@@ -55,6 +56,8 @@ asks_is_done : (command : Command) (input : List ℕ) (told : Told) → AsksFor 
     → DeservesFor command input Done
 asks_is_done (Run options) input told asks = accepted_is_done input asks.0
 asks_is_done (OfKernel asked) input told asks = inl (asks.0.short, inl (asks.0.program, asks.0.spelled, refl))
+asks_is_done Check input told asks =
+    inl (asks.0.short, inl (asks.0.program, asks.0.spelled, inl (asks.1.accepted, refl)))
 asks_is_done (Gen generated options) input told asks = refl
 
 -- words and an input deserve one status
@@ -85,6 +88,7 @@ answer_deserves command Usage input out out_after err err_after answer write mem
 answer_deserves command (Refused refusal) input out out_after err err_after answer write memory = answer.0
 answer_deserves command (BadData refusal) input out out_after err err_after answer write memory = answer.0
 answer_deserves command (Outside f) input out out_after err err_after answer write memory = answer.0
+answer_deserves command (Rejected kind line) input out out_after err err_after answer write memory = answer.0
 answer_deserves command ReadFault input out out_after err err_after answer write memory = absurd answer
 answer_deserves command WriteFault input out out_after err err_after answer write memory = absurd (write refl)
 answer_deserves command NoMemory input out out_after err err_after answer write memory = absurd (memory refl)
@@ -98,6 +102,7 @@ answer_leaves command Usage input out out_after err err_after answer not_done wr
 answer_leaves command (Refused refusal) input out out_after err err_after answer not_done write = answer.1
 answer_leaves command (BadData refusal) input out out_after err err_after answer not_done write = answer.1
 answer_leaves command (Outside f) input out out_after err err_after answer not_done write = answer.1
+answer_leaves command (Rejected kind line) input out out_after err err_after answer not_done write = answer.1
 answer_leaves command ReadFault input out out_after err err_after answer not_done write = absurd answer
 answer_leaves command WriteFault input out out_after err err_after answer not_done write = absurd (write refl)
 answer_leaves command NoMemory input out out_after err err_after answer not_done write = answer
@@ -192,6 +197,20 @@ prints_summary kernel options command left out out_after err err_after is printe
     let all = subst (λ c. PrintsFor c left out out_after err err_after) is printed in
     (all.1, all.3.0, all.4, all.5)
 
+checks_plan : (command : Command) (left : Option (List ℕ)) (out out_after err err_after : SinkShows) → command ≡ Check
+    → PrintsFor command left out out_after err err_after → ChecksPlan left out.taken out_after.taken
+checks_plan command left out out_after err err_after is printed =
+    let all = subst (λ c. PrintsFor c left out out_after err err_after) is printed in
+    let accepted = all.3.1 in (
+      all.0,
+      all.3.0,
+      accepted.plan,
+      all.2,
+      accepted.said,
+      accepted.good,
+      subst (λ (told : Told). Appends out.taken out_after.taken told.text) accepted.yes all.4,
+    )
+
 prints_told : (asked : KernelCommand) (command : Command) (left : Option (List ℕ))
     (out out_after err err_after : SinkShows) → command ≡ OfKernel asked
     → PrintsFor command left out out_after err err_after
@@ -223,6 +242,7 @@ fault_or_not Usage = inr (inr (inr (λ e. cc, λ e. cc, λ e. cc)))
 fault_or_not (Refused refusal) = inr (inr (inr (λ e. cc, λ e. cc, λ e. cc)))
 fault_or_not (BadData refusal) = inr (inr (inr (λ e. cc, λ e. cc, λ e. cc)))
 fault_or_not (Outside f) = inr (inr (inr (λ e. cc, λ e. cc, λ e. cc)))
+fault_or_not (Rejected kind line) = inr (inr (inr (λ e. cc, λ e. cc, λ e. cc)))
 fault_or_not ReadFault = inr (inl refl)
 fault_or_not WriteFault = inr (inr (inl refl))
 fault_or_not NoMemory = inl refl
@@ -376,6 +396,8 @@ module _ (words : List (List ℕ)) (named : Option Program) (source source_after
   lines (Refused refusal) ends = no_lines (Refused refusal) refl (untouched (Refused refusal) ends (λ e. cc) (λ e. cc))
   lines (BadData refusal) ends = no_lines (BadData refusal) refl (untouched (BadData refusal) ends (λ e. cc) (λ e. cc))
   lines (Outside f) ends = no_lines (Outside f) refl (untouched (Outside f) ends (λ e. cc) (λ e. cc))
+  lines (Rejected kind line) ends =
+      no_lines (Rejected kind line) refl (untouched (Rejected kind line) ends (λ e. cc) (λ e. cc))
   lines ReadFault ends = no_lines ReadFault refl (untouched ReadFault ends (λ e. cc) (λ e. cc))
   lines NoMemory ends = no_lines NoMemory refl (untouched NoMemory ends (λ e. cc) (λ e. cc))
 
@@ -456,6 +478,8 @@ module _ (words : List (List ℕ)) (named : Option Program) (source source_after
   ready (BadData refusal) ends room line =
       untouched_ready (BadData refusal) (untouched (BadData refusal) ends (λ e. cc) (λ e. cc)) line
   ready (Outside f) ends room line = untouched_ready (Outside f) (untouched (Outside f) ends (λ e. cc) (λ e. cc)) line
+  ready (Rejected kind number) ends room line =
+      untouched_ready (Rejected kind number) (untouched (Rejected kind number) ends (λ e. cc) (λ e. cc)) line
   ready ReadFault ends room line = untouched_ready ReadFault (untouched ReadFault ends (λ e. cc) (λ e. cc)) line
   ready NoMemory ends room line = untouched_ready NoMemory (untouched NoMemory ends (λ e. cc) (λ e. cc)) line
 
@@ -507,6 +531,9 @@ answered law words status named source source_after out out_after err mid after 
       emitted = λ tile budget emit is. asked (Emit tile budget) emit.1 is;
       generated = λ kernel options gen is.
           prints_summary kernel options (command_of words) source.left out out_after err after gen.1 (all is);
+      checked = λ check is. checks_plan (command_of words) source.left out out_after err after check.1 (all is);
+      certified = λ budget certify is. prints_text (IsCertificateText budget) source.left out out_after err after
+          (asked (Certify budget) certify.1 is);
       read_whole = λ is. (done words named source source_after out out_after err mid after status ends is).1;
       usage = λ is. (usage words named source source_after out out_after err mid after status ends is).0;
       stranger = stranger words named source source_after out out_after err mid after status ends;

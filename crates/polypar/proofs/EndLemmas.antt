@@ -10,9 +10,9 @@ use Rattle.scop_syntax.specs.Tree.{Program}
 use Rattle.scop_parser.specs.Spelling.{SpellsProgram}
 use Rattle.report_text.specs.declared.status.Status.{Status}
 use Rattle.report_text.specs.declared.status.Status.TheVariants.{Done, Usage, Refused, BadData, Outside, ReadFault}
-use Rattle.report_text.specs.declared.status.Status.TheVariants.{WriteFault, NoMemory}
+use Rattle.report_text.specs.declared.status.Status.TheVariants.{WriteFault, NoMemory, Rejected}
 use Rattle.command_line.specs.declared.command.Command.{Command}
-use Rattle.command_line.specs.declared.command.Command.TheVariants.{Run, OfKernel, Gen}
+use Rattle.command_line.specs.declared.command.Command.TheVariants.{Run, OfKernel, Check, Gen}
 use Rattle.command_line.specs.declared.command.GeneratedKernel.{GeneratedKernel}
 use Rattle.command_line.specs.declared.command.RunOptions.{RunOptions}
 use Rattle.command_line.specs.Command.{IsTaken, command_of}
@@ -42,6 +42,7 @@ names_read left input Usage None whole names = tt
 names_read left input (Refused refusal) None whole names = tt
 names_read left input (BadData refusal) None whole names = absurd names
 names_read left input (Outside f) None whole names = tt
+names_read left input (Rejected kind line) None whole names = tt
 names_read left input ReadFault None whole names = tt
 names_read left input WriteFault None whole names = tt
 names_read left input NoMemory None whole names = tt
@@ -51,6 +52,7 @@ read_by : (command : Command) (source source_after : SourceShows) → ReadsKerne
     → IsReadBy command source source_after
 read_by (Run options) source source_after reads end = end
 read_by (OfKernel asked) source source_after reads end = end
+read_by Check source source_after reads end = end
 read_by (Gen generated options) source source_after reads end = absurd reads
 
 -- an input was read to its end, and answered
@@ -117,6 +119,7 @@ told_named IsAsked Usage left out out_after err err_after answer = tt
 told_named IsAsked (Refused refusal) left out out_after err err_after answer = tt
 told_named IsAsked (BadData refusal) left out out_after err err_after answer = absurd answer
 told_named IsAsked (Outside f) left out out_after err err_after answer = tt
+told_named IsAsked (Rejected kind line) left out out_after err err_after answer = tt
 told_named IsAsked ReadFault left out out_after err err_after answer = tt
 told_named IsAsked WriteFault left out out_after err err_after answer = tt
 told_named IsAsked NoMemory left out out_after err err_after answer = tt

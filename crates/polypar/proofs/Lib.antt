@@ -1,4 +1,5 @@
 pub mod AnswerLemmas
+pub mod CheckLemmas
 pub mod CutLemmas
 pub mod EndLemmas
 pub mod KernelLemmas

@@ -1,11 +1,11 @@
--- `schedule` and `deps` have no lines.
-use Rattle.std.proofs.Common.{◌≡◌, ◌∙◌, sym, subst, refl, inl, inr, ℕ, List, [], ◌∷◌, ◌++◌, Option}
+-- `schedule`, `deps`, `certify` and `check` have no lines.
+use Rattle.std.proofs.Common.{◌≡◌, ◌∙◌, sym, subst, ap, refl, inl, inr, ℕ, List, [], ◌∷◌, ◌++◌, Option}
 use Rattle.io_ports.specs.Writes.{SinkShows}
 use Rattle.report_text.specs.declared.status.Status.{Status}
 use Rattle.report_text.specs.declared.status.Status.TheVariants.{Done, Usage, Refused, BadData, Outside, ReadFault}
-use Rattle.report_text.specs.declared.status.Status.TheVariants.{WriteFault, NoMemory}
-use Rattle.command_line.specs.declared.command.Command.TheVariants.{OfKernel}
-use Rattle.command_line.specs.declared.command.KernelCommand.TheVariants.{Schedule, Deps}
+use Rattle.report_text.specs.declared.status.Status.TheVariants.{WriteFault, NoMemory, Rejected}
+use Rattle.command_line.specs.declared.command.Command.TheVariants.{OfKernel, Check}
+use Rattle.command_line.specs.declared.command.KernelCommand.TheVariants.{Schedule, Deps, Certify}
 use Rattle.command_line.specs.Command.{command_of}
 use Rattle.polypar.specs.Told.{Told}
 use Rattle.polypar.specs.Deserves.{AsksFor, Asks}
@@ -26,6 +26,17 @@ pub deps_quiet : (words : List (List ℕ)) (budget : ℕ) → command_of words �
 deps_quiet words budget is input told asks =
     let asked = subst (λ c. AsksFor c input told) is asks.1 in asked.1.1
 
+-- so does `certify`
+pub certify_quiet : (words : List (List ℕ)) (budget : ℕ) → command_of words ≡ OfKernel (Certify budget)
+    → AskNoLines words
+certify_quiet words budget is input told asks =
+    let asked = subst (λ c. AsksFor c input told) is asks.1 in asked.1.1
+
+-- so does `check`
+pub check_quiet : (words : List (List ℕ)) → command_of words ≡ Check → AskNoLines words
+check_quiet words is input told asks =
+    let asked = subst (λ c. AsksFor c input told) is asks.1 in ap (λ (t : Told). t.lines) asked.1.yes
+
 -- a front of nothing is nothing
 front_nothing : (front rest : List ℕ) → front ++ rest ≡ [] → front ≡ []
 front_nothing [] rest is = refl
@@ -45,5 +56,6 @@ quiet_lines words left Usage out out_after lines has quiet = has
 quiet_lines words left (Refused refusal) out out_after lines has quiet = has
 quiet_lines words left (BadData refusal) out out_after lines has quiet = has
 quiet_lines words left (Outside f) out out_after lines has quiet = has
+quiet_lines words left (Rejected kind line) out out_after lines has quiet = has
 quiet_lines words left ReadFault out out_after lines has quiet = has
 quiet_lines words left NoMemory out out_after lines has quiet = has

@@ -2,7 +2,7 @@
 use Rattle.std.proofs.Common.{◌≡◌, ◌∙◌, sym, subst, ap, inl, inr, ℕ, ◌≤◌, ◌^◌, ℤ, List, length, Option, None, Some}
 use Rattle.std.proofs.Common.{arith}
 use Rattle.std.proofs.lemmas.Option.{same_Some}
-use Rattle.std.specs.Prelude.{Err}
+use Rattle.std.specs.Prelude.{Err, Ok, true}
 use Rattle.scop_syntax.specs.Tree.{Program}
 use Rattle.scop_syntax.specs.Walk.{Visit}
 use Rattle.scop_syntax.specs.Execution.{AreInside}
@@ -13,14 +13,17 @@ use Rattle.scop_parser.specs.declared.refusal.Refusal.{Refusal}
 use Rattle.scop_parser.specs.declared.refusal.RefusalKind.{RefusalKind}
 use Rattle.data_lines.specs.declared.refusal.DataRefusal.{DataRefusal}
 use Rattle.data_text.specs.Cases.{Says, data_said}
+use Rattle.plan_check.specs.Judged.{judged}
+use Rattle.plan_check.specs.Judged.{Rejected as Fault}
 use Rattle.report_text.specs.declared.status.Status.{Status}
-use Rattle.report_text.specs.declared.status.Status.TheVariants.{Outside, Refused, BadData}
+use Rattle.report_text.specs.declared.status.Status.TheVariants.{Outside, Refused, BadData, Rejected}
 use Rattle.polypar.specs.Cut.{kernel_part, data_part}
 use Rattle.command_line.specs.declared.command.Command.{Command}
-use Rattle.command_line.specs.declared.command.Command.TheVariants.{Run, OfKernel, Gen}
+use Rattle.command_line.specs.declared.command.Command.TheVariants.{Run, OfKernel, Check, Gen}
 use Rattle.command_line.specs.Command.{command_of}
 use Rattle.polypar.specs.Deserves.{DeservesCase, DeservesData, DeservesText, DeservesInput, DeservesKernel}
-use Rattle.polypar.specs.Deserves.{DeservesSpelled, DeservesFor, Deserves}
+use Rattle.polypar.specs.Deserves.{DeservesSpelled, DeservesCertificate, DeservesJudged, DeservesChecked, DeservesFor}
+use Rattle.polypar.specs.Deserves.{Deserves}
 
 -- the laws of failures, of texts and of data on which this stands
 pub record Laws : Type 0 where
@@ -88,10 +91,44 @@ spelled_once laws input a b (inl x) (inr y) = let short : length input ≤ 2 ^ 2
 spelled_once laws input a b (inr x) (inl y) = let short : length input ≤ 2 ^ 27 = y.0 in absurd (omega (arith, x.0))
 spelled_once laws input a b (inr x) (inr y) = x.1 ∙ sym y.1
 
+-- a certificate has one first fault
+fault_same : (program : Program) (text : List ℕ) (f g : Fault) → judged program text ≡ Err f
+    → judged program text ≡ Err g → f ≡ g
+fault_same program text f g x y = let both = sym x ∙ y in cc
+
+-- or none
+no_fault : {P : Type 0} (program : Program) (text : List ℕ) (f : Fault) → judged program text ≡ Ok true
+    → judged program text ≡ Err f → P
+no_fault program text f x y = absurd (let both = sym x ∙ y in cc)
+
+certificate_once : (program : Program) (text : List ℕ) (a b : Status) → DeservesCertificate program text a
+    → DeservesCertificate program text b → a ≡ b
+certificate_once program text a b (inl x) (inl y) = x.1 ∙ sym y.1
+certificate_once program text a b (inl x) (inr y) = no_fault program text y.0 x.0 y.1
+certificate_once program text a b (inr x) (inl y) = no_fault program text x.0 y.0 x.1
+certificate_once program text a b (inr x) (inr y) =
+    x.2 ∙ (ap (λ (f : Fault). Rejected f.kind f.line) (fault_same program text x.0 y.0 x.1 y.1) ∙ sym y.2)
+
+judged_once : Laws → (kernel text : List ℕ) (a b : Status) → DeservesJudged kernel text a → DeservesJudged kernel text b
+    → a ≡ b
+judged_once laws kernel text a b (inl x) (inl y) =
+    certificate_once y.0 text a b
+    (subst (λ program. DeservesCertificate program text a) (laws.program kernel x.0 y.0 x.1 y.1) x.2) y.2
+judged_once laws kernel text a b (inl x) (inr y) = absurd (laws.fault kernel y.0.kind y.1.at x.0 y.1.fault x.1)
+judged_once laws kernel text a b (inr x) (inl y) = absurd (laws.fault kernel x.0.kind x.1.at y.0 x.1.fault y.1)
+judged_once laws kernel text a b (inr x) (inr y) = x.2 ∙ (ap Refused (laws.refusal kernel x.0 y.0 x.1 y.1) ∙ sym y.2)
+
+checked_once : Laws → (input : List ℕ) (a b : Status) → DeservesChecked input a → DeservesChecked input b → a ≡ b
+checked_once laws input a b (inl x) (inl y) = judged_once laws (kernel_part input) (data_part input) a b x.1 y.1
+checked_once laws input a b (inl x) (inr y) = let short : length input ≤ 2 ^ 27 = x.0 in absurd (omega (arith, y.0))
+checked_once laws input a b (inr x) (inl y) = let short : length input ≤ 2 ^ 27 = y.0 in absurd (omega (arith, x.0))
+checked_once laws input a b (inr x) (inr y) = x.1 ∙ sym y.1
+
 command_once : Laws → (command : Command) (input : List ℕ) (a b : Status) → DeservesFor command input a
     → DeservesFor command input b → a ≡ b
 command_once laws (Run options) input a b x y = input_once laws input a b x y
 command_once laws (OfKernel asked) input a b x y = spelled_once laws input a b x y
+command_once laws Check input a b x y = checked_once laws input a b x y
 command_once laws (Gen generated options) input a b x y = x ∙ sym y
 
 -- words and an input deserve one status

@@ -13,7 +13,7 @@ use Rattle.polypar.specs.Told.{Told, IsHeld, told_of}
 use Rattle.polypar.specs.Promises.{AnswersMade, AnswersTold}
 use Rattle.report_text.specs.declared.status.Status.{Status}
 use Rattle.report_text.specs.declared.status.Status.TheVariants.{Done, Usage, Refused, BadData, Outside, ReadFault}
-use Rattle.report_text.specs.declared.status.Status.TheVariants.{WriteFault, NoMemory}
+use Rattle.report_text.specs.declared.status.Status.TheVariants.{WriteFault, NoMemory, Rejected}
 
 -- the code's lines and text lie in memory
 pub held : (t : code.Told) → IsHeld (told_of t)
@@ -32,6 +32,7 @@ told_answers IsAsked t Usage out out_after err err_after asked answer = answer
 told_answers IsAsked t (Refused refusal) out out_after err err_after asked answer = answer
 told_answers IsAsked t (BadData refusal) out out_after err err_after asked answer = answer
 told_answers IsAsked t (Outside f) out out_after err err_after asked answer = answer
+told_answers IsAsked t (Rejected kind line) out out_after err err_after asked answer = answer
 told_answers IsAsked t ReadFault out out_after err err_after asked answer = answer
 told_answers IsAsked t WriteFault out out_after err err_after asked (u, (same, kept), cut) =
     (u, (subst IsAsked (sym same) asked, kept), cut)

@@ -7,9 +7,9 @@ use Rattle.scop_parser.specs.declared.refusal.Refusal.{Refusal}
 use Rattle.data_text.specs.Cases.{Says}
 use Rattle.report_text.specs.declared.status.Status.{Status}
 use Rattle.report_text.specs.declared.status.Status.TheVariants.{Done, Usage, Refused, BadData, Outside, ReadFault}
-use Rattle.report_text.specs.declared.status.Status.TheVariants.{WriteFault, NoMemory}
+use Rattle.report_text.specs.declared.status.Status.TheVariants.{WriteFault, NoMemory, Rejected}
 use Rattle.command_line.specs.declared.command.Command.{Command}
-use Rattle.command_line.specs.declared.command.Command.TheVariants.{Run, OfKernel, Gen}
+use Rattle.command_line.specs.declared.command.Command.TheVariants.{Run, OfKernel, Check, Gen}
 use Rattle.command_line.specs.declared.command.KernelCommand.{KernelCommand}
 use Rattle.command_line.specs.declared.command.GeneratedKernel.{GeneratedKernel}
 use Rattle.command_line.specs.declared.command.RunOptions.{RunOptions}
@@ -18,7 +18,8 @@ use Rattle.polypar.specs.Case.{IsShort}
 use Rattle.polypar.specs.Told.{Told, IsHeld}
 use Rattle.polypar.specs.Runs.{IsSummaryText}
 use Rattle.polypar.specs.Deserves.{too_long, AsksFor}
-use Rattle.polypar.specs.Promises.{AnswersCase, AnswersData, AnswersProgram, AnswersTold, AnswersKernel, AnswersFor}
+use Rattle.polypar.specs.Promises.{AnswersCase, AnswersCertificate, AnswersData, AnswersProgram, AnswersTold}
+use Rattle.polypar.specs.Promises.{AnswersKernel, AnswersFor}
 use Rattle.polypar.specs.Promises.{AreUntouched, AsksData, ReadsKernel}
 
 -- the answer to a case that the data says is the answer to the data
@@ -36,6 +37,8 @@ data_answers options (BadData refusal) program text params contents out out_afte
     absurd answer
 data_answers options (Outside f) program text params contents out out_after err err_after said answer =
     (inl (params, contents, said, answer.0), answer.1)
+data_answers options (Rejected kind line) program text params contents out out_after err err_after said answer =
+    absurd answer
 data_answers options ReadFault program text params contents out out_after err err_after said answer =
     absurd answer
 data_answers options WriteFault program text params contents out out_after err err_after said answer =
@@ -79,6 +82,8 @@ input_answers_of options (BadData refusal) input program out out_after err err_a
     (inl (short, inl (program, spelled, answer.0)), answer.1)
 input_answers_of options (Outside f) input program out out_after err err_after short spelled answer =
     (inl (short, inl (program, spelled, answer.0)), answer.1)
+input_answers_of options (Rejected kind line) input program out out_after err err_after short spelled answer =
+    absurd answer
 input_answers_of options ReadFault input program out out_after err err_after short spelled answer =
     absurd answer
 input_answers_of options WriteFault input program out out_after err err_after short spelled answer =
@@ -99,10 +104,30 @@ spelled_answers_of asked (Refused refusal) input program out out_after err err_a
 spelled_answers_of asked (BadData refusal) input program out out_after err err_after short spelled answer =
     absurd answer
 spelled_answers_of asked (Outside f) input program out out_after err err_after short spelled answer = absurd answer
+spelled_answers_of asked (Rejected kind line) input program out out_after err err_after short spelled answer =
+    absurd answer
 spelled_answers_of asked ReadFault input program out out_after err err_after short spelled answer = absurd answer
 spelled_answers_of asked WriteFault input program out out_after err err_after short spelled answer =
     (answer.0, (record { short = short; program = program; spelled = spelled }, answer.1.0, answer.1.1), answer.2)
 spelled_answers_of asked NoMemory input program out out_after err err_after short spelled answer = answer
+
+-- the answer to the certificate behind a program is the answer of `check` to an input that spells the program
+checked_answers_of : (status : Status) (input : List ℕ) (program : Program) (out out_after err err_after : SinkShows)
+    → IsShort input → SpellsProgram (kernel_part input) program
+    → AnswersCertificate status program (data_part input) out out_after err err_after
+    → AnswersFor Check status input out out_after err err_after
+checked_answers_of Done input program out out_after err err_after short spelled answer =
+    (answer.0, (record { short = short; program = program; spelled = spelled }, answer.1), answer.2)
+checked_answers_of Usage input program out out_after err err_after short spelled answer = absurd answer
+checked_answers_of (Refused refusal) input program out out_after err err_after short spelled answer = absurd answer
+checked_answers_of (BadData refusal) input program out out_after err err_after short spelled answer = absurd answer
+checked_answers_of (Outside f) input program out out_after err err_after short spelled answer = absurd answer
+checked_answers_of (Rejected kind line) input program out out_after err err_after short spelled answer =
+    (inl (short, inl (program, spelled, answer.0)), answer.1)
+checked_answers_of ReadFault input program out out_after err err_after short spelled answer = absurd answer
+checked_answers_of WriteFault input program out out_after err err_after short spelled answer =
+    (answer.0, (record { short = short; program = program; spelled = spelled }, answer.1), answer.2)
+checked_answers_of NoMemory input program out out_after err err_after short spelled answer = answer
 
 -- of a command
 command_answers_of : (command : Command) (status : Status) (input : List ℕ) (program : Program)
@@ -114,6 +139,8 @@ command_answers_of (Run options) status input program out out_after err err_afte
     input_answers_of options status input program out out_after err err_after short spelled answer
 command_answers_of (OfKernel asked) status input program out out_after err err_after short spelled answer =
     spelled_answers_of asked status input program out out_after err err_after short spelled answer
+command_answers_of Check status input program out out_after err err_after short spelled answer =
+    checked_answers_of status input program out out_after err err_after short spelled answer
 command_answers_of (Gen generated options) status input program out out_after err err_after short spelled answer =
     absurd answer
 
@@ -127,6 +154,7 @@ summary_answers kernel options Usage input out out_after err err_after answer = 
 summary_answers kernel options (Refused refusal) input out out_after err err_after answer = absurd answer
 summary_answers kernel options (BadData refusal) input out out_after err err_after answer = absurd answer
 summary_answers kernel options (Outside f) input out out_after err err_after answer = absurd answer
+summary_answers kernel options (Rejected kind line) input out out_after err err_after answer = absurd answer
 summary_answers kernel options ReadFault input out out_after err err_after answer = absurd answer
 summary_answers kernel options WriteFault input out out_after err err_after answer = answer
 summary_answers kernel options NoMemory input out out_after err err_after answer = answer
@@ -147,6 +175,7 @@ pub long_answers : (command : Command) (input : List ℕ) (out err : SinkShows) 
     → ReadsKernel command → AnswersFor command too_long input out out err err
 long_answers (Run options) input out err long reads = (inr (long, refl), untouched out err)
 long_answers (OfKernel asked) input out err long reads = (inr (long, refl), untouched out err)
+long_answers Check input out err long reads = (inr (long, refl), untouched out err)
 long_answers (Gen generated options) input out err long reads = absurd reads
 
 -- a text that is refused
@@ -156,5 +185,7 @@ pub refused_answers : (command : Command) (input kernel : List ℕ) (refusal : R
 refused_answers (Run options) input kernel refusal out err short front refused reads =
     (inl (short, inr (refusal, subst (λ t. IsRefusedAs t refusal) front refused, refl)), untouched out err)
 refused_answers (OfKernel asked) input kernel refusal out err short front refused reads =
+    (inl (short, inr (refusal, subst (λ t. IsRefusedAs t refusal) front refused, refl)), untouched out err)
+refused_answers Check input kernel refusal out err short front refused reads =
     (inl (short, inr (refusal, subst (λ t. IsRefusedAs t refusal) front refused, refl)), untouched out err)
 refused_answers (Gen generated options) input kernel refusal out err short front refused reads = absurd reads

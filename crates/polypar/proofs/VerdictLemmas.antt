@@ -9,24 +9,27 @@ use Rattle.scop_syntax.specs.Kernel.{IsKernel}
 use Rattle.scop_syntax.specs.Execution.{AreInside, layout}
 use Rattle.scop_syntax.specs.Failures.{Failure, VisitsAreRanked, first_outside}
 use Rattle.scop_meaning.specs.Outside.{outside_of}
-use Rattle.scop_parser.specs.Spelling.{SpellsProgram, IsFirstFault}
+use Rattle.scop_parser.specs.Spelling.{SpellsProgram, IsFirstFault, IsRefusedAs}
 use Rattle.scop_parser.specs.declared.refusal.Refusal.{Refusal}
 use Rattle.scop_parser.specs.declared.refusal.RefusalKind.{RefusalKind}
 use Rattle.data_lines.specs.declared.refusal.DataRefusal.{DataRefusal}
 use Rattle.data_lines.specs.Naming.{line_of}
 use Rattle.data_text.specs.Cases.{Said, Says, data_said}
 use Rattle.data_text.specs.Described.{Describes}
+use Rattle.plan_check.specs.Judged.{judged}
 use Rattle.report_text.specs.declared.status.Status.{Status}
-use Rattle.report_text.specs.declared.status.Status.TheVariants.{Done, Usage, Outside, Refused, BadData}
+use Rattle.report_text.specs.declared.status.Status.TheVariants.{Done, Usage, Outside, Refused, BadData, Rejected}
 use Rattle.clap.specs.Words.{fault_of, subcommand_of}
 use Rattle.clap.specs.Kinds.{Kinds}
 use Rattle.command_line.specs.declared.command.Command.{Command}
-use Rattle.command_line.specs.declared.command.Command.TheVariants.{Run, OfKernel, Gen}
+use Rattle.command_line.specs.declared.command.Command.TheVariants.{Run, OfKernel, Check, Gen}
 use Rattle.command_line.specs.Command.{IsTaken, command_met, command_of}
 use Rattle.command_line.specs.Stated.{tool}
 use Rattle.polypar.specs.Cut.{kernel_part, data_part}
 use Rattle.polypar.specs.Deserves.{DeservesCase, DeservesData, DeservesText, DeservesInput, DeservesKernel}
-use Rattle.polypar.specs.Deserves.{DeservesSpelled, DeservesFor, Deserves, IsVerdict, too_long}
+use Rattle.polypar.specs.Deserves.{DeservesSpelled, DeservesCertificate, DeservesJudged, DeservesChecked, DeservesFor}
+use Rattle.polypar.specs.Deserves.{Deserves, IsVerdict, too_long}
+use Rattle.polypar.proofs.CheckLemmas.{IsJudged, is_judged}
 
 -- the laws of texts, of data and of failures on which this stands
 pub record Laws : Type 0 where
@@ -63,18 +66,22 @@ data_deserves laws program text kernel (inl said) =
     (rest.0, rest.1, inl (params, said.0.contents, said.1, rest.2))
 data_deserves laws program text kernel (inr broken) = (BadData broken.0, tt, inr (broken.0, broken.1, refl))
 
+-- a first fault as it is told
+refusal_of : (kernel : List ℕ) (kind : RefusalKind) (at : ℕ) → IsFirstFault kernel kind at
+    → (refusal : Refusal) × IsRefusedAs kernel refusal
+refusal_of kernel kind at fault = (
+  record { kind = kind; line = line_behind (take at kernel); column = column_behind (take at kernel) },
+  record { at = at; fault = fault; line = refl; column = refl },
+)
+
 text_deserves : Laws → (kernel text : List ℕ) → ((p : Program) × SpellsProgram kernel p)
     ⊎ ((kind : RefusalKind) × (at : ℕ) × IsFirstFault kernel kind at) → HasVerdict (DeservesText kernel text)
 text_deserves laws kernel text (inl spelled) =
     let rest = data_deserves laws spelled.0 text (laws.kernel kernel spelled.0 spelled.1) (laws.said text spelled.0) in
     (rest.0, rest.1, inl (spelled.0, spelled.1, rest.2))
 text_deserves laws kernel text (inr fault) =
-    let refusal : Refusal = record {
-      kind = fault.0;
-      line = line_behind (take fault.1 kernel);
-      column = column_behind (take fault.1 kernel);
-    } in
-    (Refused refusal, tt, inr (refusal, record { at = fault.1; fault = fault.2; line = refl; column = refl }, refl))
+    let refused = refusal_of kernel fault.0 fault.1 fault.2 in
+    (Refused refused.0, tt, inr (refused.0, refused.1, refl))
 
 input_deserves : Laws → (input : List ℕ) (long : Bool) → ltb (2 ^ 27) (length input) ≡ long
     → HasVerdict (DeservesInput input)
@@ -87,12 +94,8 @@ kernel_deserves : (kernel : List ℕ) → ((p : Program) × SpellsProgram kernel
     ⊎ ((kind : RefusalKind) × (at : ℕ) × IsFirstFault kernel kind at) → HasVerdict (DeservesKernel kernel)
 kernel_deserves kernel (inl spelled) = (Done, tt, inl (spelled.0, spelled.1, refl))
 kernel_deserves kernel (inr fault) =
-    let refusal : Refusal = record {
-      kind = fault.0;
-      line = line_behind (take fault.1 kernel);
-      column = column_behind (take fault.1 kernel);
-    } in
-    (Refused refusal, tt, inr (refusal, record { at = fault.1; fault = fault.2; line = refl; column = refl }, refl))
+    let refused = refusal_of kernel fault.0 fault.1 fault.2 in
+    (Refused refused.0, tt, inr (refused.0, refused.1, refl))
 
 spelled_deserves : Laws → (input : List ℕ) (long : Bool) → ltb (2 ^ 27) (length input) ≡ long
     → HasVerdict (DeservesSpelled input)
@@ -101,9 +104,31 @@ spelled_deserves laws input false is =
     let rest = kernel_deserves (kernel_part input) (laws.text (kernel_part input)) in
     (rest.0, rest.1, inl (ltb-false (2 ^ 27) (length input) is, rest.2))
 
+certificate_deserves : (program : Program) (text : List ℕ) → IsJudged (judged program text)
+    → HasVerdict (DeservesCertificate program text)
+certificate_deserves program text (inl accepted) = (Done, tt, inl (accepted, refl))
+certificate_deserves program text (inr (fault, is)) = (Rejected fault.kind fault.line, tt, inr (fault, is, refl))
+
+judged_deserves : (kernel text : List ℕ) → ((p : Program) × SpellsProgram kernel p)
+    ⊎ ((kind : RefusalKind) × (at : ℕ) × IsFirstFault kernel kind at) → HasVerdict (DeservesJudged kernel text)
+judged_deserves kernel text (inl spelled) =
+    let rest = certificate_deserves spelled.0 text (is_judged spelled.0 text) in
+    (rest.0, rest.1, inl (spelled.0, spelled.1, rest.2))
+judged_deserves kernel text (inr fault) =
+    let refused = refusal_of kernel fault.0 fault.1 fault.2 in
+    (Refused refused.0, tt, inr (refused.0, refused.1, refl))
+
+checked_deserves : Laws → (input : List ℕ) (long : Bool) → ltb (2 ^ 27) (length input) ≡ long
+    → HasVerdict (DeservesChecked input)
+checked_deserves laws input true is = (too_long, tt, inr (ltb-true (2 ^ 27) (length input) is, refl))
+checked_deserves laws input false is =
+    let rest = judged_deserves (kernel_part input) (data_part input) (laws.text (kernel_part input)) in
+    (rest.0, rest.1, inl (ltb-false (2 ^ 27) (length input) is, rest.2))
+
 command_deserves : Laws → (command : Command) (input : List ℕ) → HasVerdict (DeservesFor command input)
 command_deserves laws (Run options) input = input_deserves laws input _ refl
 command_deserves laws (OfKernel asked) input = spelled_deserves laws input _ refl
+command_deserves laws Check input = checked_deserves laws input _ refl
 command_deserves laws (Gen generated options) input = (Done, tt, refl)
 
 -- words are taken, or not

@@ -10,6 +10,10 @@ use Rattle.report_text.specs.declared.status.Status.TheVariants.{Done, Usage, Ba
 use Rattle.scop_syntax.specs.Tree.{Program}
 use Rattle.scop_parser.specs.Spelling.{SpellsProgram}
 use Rattle.polypar.specs.Case.{Accepted, asked_text, Spelled}
+use Rattle.polypar.specs.Checking.{IsGoodAlways, yes_text}
+use Rattle.plan_check.specs.Judged.{SaysPlan}
+use Rattle.plan_check.specs.Plans.{Plan}
+use Rattle.kernel_plans.specs.Certifying.{IsCertificateText}
 use Rattle.kernel_plans.specs.Planning.{IsPlanText}
 use Rattle.polypar.specs.Sources.{IsSourcesText}
 use Rattle.polypar.specs.Emitting.{IsLoopsText}
@@ -19,7 +23,8 @@ use Rattle.command_line.specs.declared.command.GeneratedKernel.{GeneratedKernel}
 use Rattle.command_line.specs.declared.command.RunOptions.{RunOptions}
 use Rattle.command_line.specs.Command.{IsTaken, command_of}
 use Rattle.command_line.specs.Command.{IsRunCommand, IsScheduleCommand, IsDepsCommand, IsEmitCommand, IsGenCommand}
-use Rattle.polypar.specs.Cut.{kernel_part}
+use Rattle.command_line.specs.Command.{IsCertifyCommand, IsCheckCommand}
+use Rattle.polypar.specs.Cut.{kernel_part, data_part}
 use Rattle.polypar.specs.Deserves.{Deserves, Asks, IsReadBy}
 use Rattle.report_text.specs.StatusText.{status_text}
 
@@ -57,6 +62,17 @@ PrintsTold IsToldOf left out out_after err err_after =
 abbrev pub PrintsLoops : ℕ → ℕ → Option (List ℕ) → SinkShows → SinkShows → SinkShows → SinkShows → Type 0
 PrintsLoops tile budget left out out_after err err_after =
     PrintsTold (IsLoopsText tile budget) left out out_after err err_after
+
+-- an input that spells a kernel was read, and exactly `yes` and a line feed was printed; the plan that the text behind
+-- the kernel says is good for every size of tiles and all parameters in 0..=65536
+abbrev pub ChecksPlan : Option (List ℕ) → Option (List ℕ) → Option (List ℕ) → Type 0
+ChecksPlan left old new =
+    (input : List ℕ) × (kernel : Spelled input) × (plan : Plan) × IsAllOf left input
+    × SaysPlan kernel.program (data_part input) plan × IsGoodAlways kernel.program plan × Appends old new yes_text
+
+-- the certificate of its schedule, the number of the first goal that has none, or the kept line of a cause that holds
+abbrev pub PrintsCertificate : ℕ → Option (List ℕ) → Option (List ℕ) → Option (List ℕ) → Type 0
+PrintsCertificate budget left old new = PrintsText (IsCertificateText budget) left old new
 
 -- exactly the summary of the generated kernel's run was printed, and the line of a kept order, if it is kept
 abbrev pub PrintsSummary : GeneratedKernel → RunOptions → SinkShows → SinkShows → SinkShows → SinkShows → Type 0
@@ -154,6 +170,12 @@ pub record Answered (words : List (List ℕ)) (status : Status) (source source_a
       → PrintsLoops tile budget source.left out out_after err err_after
   pub generated : (kernel : GeneratedKernel) (options : RunOptions) → IsGenCommand kernel options words
       → status ≡ Done → PrintsSummary kernel options out out_after err err_after
+  -- of `check` that the certificate is accepted: then its plan is good for every size of tiles and all parameters
+  pub checked : IsCheckCommand words → status ≡ Done → ChecksPlan source.left out.taken out_after.taken
+  -- of `certify` the certificate of the schedule, which `check` accepts, the number of the first goal that has none, or
+  -- why the order is kept
+  pub certified : (budget : ℕ) → IsCertifyCommand budget words → status ≡ Done
+      → PrintsCertificate budget source.left out.taken out_after.taken
   pub read_whole : status ≡ Done → IsReadBy (command_of words) source source_after
   -- each status and its cause; want of memory may come over words too
   pub usage : status ≡ Usage → IsTaken words → ⊥

@@ -30,7 +30,7 @@ final_text program params contents = array_text program (exec program params con
 abbrev pub asked_text : {input : List ℕ} → Accepted input → List ℕ
 asked_text accepted = final_text accepted.program accepted.params accepted.contents
 
--- an input whose text before its first line `%%` spells the program; what stands behind that line is not looked at
+-- an input whose text before its first line `%%` spells the program; of what stands behind that line nothing is said
 pub record Spelled (input : List ℕ) : Type 0 where
   pub short : IsShort input
   pub program : Program

@@ -1,6 +1,6 @@
 -- The status that words and an input deserve where nothing fails: check after check in the order of work, and the
 -- status of the first that is not passed.
-use Rattle.std.specs.Prelude.{◌≡◌, ◌⊎◌, ℕ, ◌^◌, ◌<◌, ℤ, List, length, Some, Err, ⊤}
+use Rattle.std.specs.Prelude.{◌≡◌, ◌⊎◌, ℕ, ◌^◌, ◌<◌, ℤ, true, List, length, Some, Ok, Err, ⊤}
 use Rattle.std.specs.Io.KnownBytes.{IsAtEnd}
 use Rattle.io_ports.specs.Reads.{SourceShows}
 use Rattle.scop_syntax.specs.Tree.{Program}
@@ -13,14 +13,17 @@ use Rattle.scop_parser.specs.declared.refusal.Refusal.{Refusal}
 use Rattle.scop_parser.specs.declared.refusal.RefusalKind.TheVariants.{TooLong}
 use Rattle.data_lines.specs.declared.refusal.DataRefusal.{DataRefusal}
 use Rattle.data_text.specs.Cases.{Says, data_said}
+use Rattle.plan_check.specs.Judged.{judged}
+use Rattle.plan_check.specs.Judged.{Rejected as Fault}
 use Rattle.report_text.specs.declared.status.Status.{Status}
 use Rattle.report_text.specs.declared.status.Status.TheVariants.{Done, Usage, Refused, BadData, Outside, ReadFault}
-use Rattle.report_text.specs.declared.status.Status.TheVariants.{WriteFault, NoMemory}
+use Rattle.report_text.specs.declared.status.Status.TheVariants.{WriteFault, NoMemory, Rejected}
 use Rattle.command_line.specs.declared.command.Command.{Command}
-use Rattle.command_line.specs.declared.command.Command.TheVariants.{Run, OfKernel, Gen}
+use Rattle.command_line.specs.declared.command.Command.TheVariants.{Run, OfKernel, Check, Gen}
 use Rattle.command_line.specs.Command.{IsTaken, command_of}
 use Rattle.polypar.specs.Cut.{kernel_part, data_part}
 use Rattle.polypar.specs.Case.{IsShort, Accepted, Spelled}
+use Rattle.polypar.specs.Checking.{IsAccepted}
 use Rattle.polypar.specs.Told.{Told, HasHeldLines, IsHeld}
 use Rattle.polypar.specs.Runs.{IsRunText, IsSummaryText}
 use Rattle.polypar.specs.KernelText.{IsTextFor}
@@ -67,10 +70,29 @@ DeservesSpelled input status =
     (IsShort input × DeservesKernel (kernel_part input) status)
     ⊎ ((2 ^ 27 < length input) × (status ≡ too_long))
 
+-- the text behind a program is accepted as a certificate, or its first fault is told, with its kind and its line
+abbrev pub DeservesCertificate : Program → List ℕ → Status → Type 0
+DeservesCertificate program text status =
+    ((judged program text ≡ Ok true) × (status ≡ Done))
+    ⊎ ((fault : Fault) × (judged program text ≡ Err fault) × (status ≡ Rejected fault.kind fault.line))
+
+-- of `check`: the text spells a program, or its first fault is told
+abbrev pub DeservesJudged : List ℕ → List ℕ → Status → Type 0
+DeservesJudged kernel text status =
+    ((program : Program) × SpellsProgram kernel program × DeservesCertificate program text status)
+    ⊎ ((refusal : Refusal) × IsRefusedAs kernel refusal × (status ≡ Refused refusal))
+
+-- of `check`: the input is short enough, or too long
+abbrev pub DeservesChecked : List ℕ → Status → Type 0
+DeservesChecked input status =
+    (IsShort input × DeservesJudged (kernel_part input) (data_part input) status)
+    ⊎ ((2 ^ 27 < length input) × (status ≡ too_long))
+
 -- of a command; `gen` looks at no input
 abbrev pub DeservesFor : Command → List ℕ → Status → Type 0
 DeservesFor (Run options) input status = DeservesInput input status
 DeservesFor (OfKernel asked) input status = DeservesSpelled input status
+DeservesFor Check input status = DeservesChecked input status
 DeservesFor (Gen generated options) input status = status ≡ Done
 
 -- the words are taken, or not
@@ -86,13 +108,15 @@ IsVerdict WriteFault = ⊥
 IsVerdict NoMemory = ⊥
 IsVerdict other = ⊤
 
--- an input asks a command for this: `run` for the arrays of its accepted case, another for what it tells of the kernel,
--- as far as memory can hold that; `gen` asks for the summary, whatever the input
+-- an input asks a command for this: `run` for the arrays of its accepted case, `check` for `yes` where the certificate
+-- is accepted, another for what it tells of the kernel, as far as memory can hold that; `gen` asks for the summary,
+-- whatever the input
 abbrev pub AsksFor : Command → List ℕ → Told → Type 0
 AsksFor (Run options) input told =
     (accepted : Accepted input)
     × IsRunText options accepted.program accepted.params accepted.contents told × HasHeldLines told
 AsksFor (OfKernel asked) input told = (kernel : Spelled input) × IsTextFor asked kernel.program told × IsHeld told
+AsksFor Check input told = (kernel : Spelled input) × IsAccepted kernel.program (data_part input) told
 AsksFor (Gen generated options) input told = IsSummaryText generated options told × IsHeld told
 
 -- the words and the input ask for this

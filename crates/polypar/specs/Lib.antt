@@ -1,6 +1,7 @@
 pub mod Answered
 pub mod Promises
 pub mod Case
+pub mod Checking
 pub mod Cut
 pub mod Deserves
 pub mod Emitting
@@ -12,6 +13,7 @@ pub mod Sources
 pub mod Told
 -- Passed on: what this crate's contracts are told in.
 pub use Rattle.conflict_orders.specs.Orders
+pub use Rattle.kernel_plans.specs.Certifying
 pub use Rattle.kernel_plans.specs.Executions
 pub use Rattle.kernel_plans.specs.Planned
 pub use Rattle.kernel_plans.specs.Planning

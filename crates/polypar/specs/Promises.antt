@@ -11,10 +11,10 @@ use Rattle.scop_syntax.specs.Execution.{IsInside}
 use Rattle.data_text.specs.Cases.{Says}
 use Rattle.report_text.specs.declared.status.Status.{Status}
 use Rattle.report_text.specs.declared.status.Status.TheVariants.{Done, Usage, BadData, Outside, ReadFault, WriteFault}
-use Rattle.report_text.specs.declared.status.Status.TheVariants.{NoMemory}
+use Rattle.report_text.specs.declared.status.Status.TheVariants.{NoMemory, Rejected}
 use Rattle.report_text.specs.StatusText.{status_text}
 use Rattle.command_line.specs.declared.command.Command.{Command}
-use Rattle.command_line.specs.declared.command.Command.TheVariants.{Run, OfKernel, Gen}
+use Rattle.command_line.specs.declared.command.Command.TheVariants.{Run, OfKernel, Check, Gen}
 use Rattle.command_line.specs.declared.command.KernelCommand.{KernelCommand}
 use Rattle.command_line.specs.declared.command.RunOptions.{RunOptions}
 use Rattle.command_line.specs.Command.{IsTaken, command_of}
@@ -22,8 +22,10 @@ use Rattle.polypar.specs.declared.told.Told as code
 use Rattle.polypar.specs.Told.{Told, HasHeldLines, IsHeld, told_of}
 use Rattle.polypar.specs.KernelText.{IsTextFor}
 use Rattle.polypar.specs.Runs.{IsRunText}
+use Rattle.polypar.specs.Checking.{IsAccepted}
 use Rattle.polypar.specs.Answered.{NamesOf}
-use Rattle.polypar.specs.Deserves.{DeservesCase, DeservesData, DeservesFor, AsksFor, IsReadBy}
+use Rattle.polypar.specs.Deserves.{DeservesCase, DeservesCertificate, DeservesData, DeservesFor, AsksFor}
+use Rattle.polypar.specs.Deserves.{IsReadBy}
 
 -- all that is told was written: the text to `out`, the lines to `err`
 pub record WritesTold (told : Told) (out out_after err err_after : SinkShows) : Type 0 where
@@ -96,6 +98,13 @@ abbrev pub AnswersProgram : KernelCommand → Status → Program → SinkShows �
 AnswersProgram asked status program out out_after err err_after =
     AnswersTold (λ told. IsTextFor asked program told × IsHeld told) status out out_after err err_after
 
+-- of the certificate behind a program, and of the sinks
+abbrev pub AnswersCertificate : Status → Program → List ℕ → SinkShows → SinkShows → SinkShows → SinkShows → Type 0
+AnswersCertificate (Rejected kind line) program text out out_after err err_after =
+    DeservesCertificate program text (Rejected kind line) × AreUntouched out out_after err err_after
+AnswersCertificate status program text out out_after err err_after =
+    AnswersTold (IsAccepted program text) status out out_after err err_after
+
 -- the command reads an input
 abbrev pub ReadsKernel : Command → Type 0
 ReadsKernel (Gen generated options) = ⊥
@@ -107,6 +116,8 @@ AnswersKernel (Run options) status program text out out_after err err_after =
     AnswersData options status program text out out_after err err_after
 AnswersKernel (OfKernel asked) status program text out out_after err err_after =
     AnswersProgram asked status program out out_after err err_after
+AnswersKernel Check status program text out out_after err err_after =
+    AnswersCertificate status program text out out_after err err_after
 AnswersKernel (Gen generated options) status program text out out_after err err_after = ⊥
 
 -- of an input that a command was given, and of the sinks

@@ -11,6 +11,7 @@ ghost use Rattle.polypar.specs.KernelText.{IsTextFor};
 ghost use Rattle.command_line.specs.Command.{IsSized};
 ghost use Rattle.polypar.specs.Promises.{AnswersMade, AnswersProgram, WritesTold, CutsTold};
 
+use crate::certifying::certificate_told;
 use crate::loops::loops_told;
 use crate::sources::sources_told;
 use crate::told::Told;
@@ -46,6 +47,7 @@ fn model_told(
         KernelCommand::Schedule { budget } => plan_told(alloc, model, budget),
         KernelCommand::Deps { budget } => sources_told(alloc, kernel, model, budget),
         KernelCommand::Emit { tile, budget } => loops_told(alloc, kernel, model, tile, budget),
+        KernelCommand::Certify { budget } => certificate_told(alloc, kernel, model, budget),
     }
 }
 
@@ -63,7 +65,7 @@ fn kernel_told(alloc: Global, kernel: &Kernel, asked: KernelCommand) -> Result<T
 
 /// Writes a text, and flushes it.
 #[tactic(auto, using(io_ports::proofs::PutTexts::flushed))]
-fn print_text<O: Sink>(text: &[u8], out: &mut O) -> Result<(), Failed>
+pub(crate) fn print_text<O: Sink>(text: &[u8], out: &mut O) -> Result<(), Failed>
     ensures { Writes (O.shows out.old) (O.shows out.new) text.now result }
 {
     match write_whole(out, text) {

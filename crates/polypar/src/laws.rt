@@ -13,7 +13,8 @@ ghost use Rattle.data_text.specs.Written.{case_text};
 ghost use Rattle.report_text.specs.declared.status.Status.TheVariants.{Done};
 ghost use Rattle.report_text.specs.declared.status.Status.{Status};
 ghost use Rattle.polypar.specs.Answered.{Answered, HasLines, PrintsText, PrintsTold};
-ghost use Rattle.command_line.specs.Command.{IsDepsCommand, IsEmitCommand, IsScheduleCommand};
+ghost use Rattle.command_line.specs.Command.{IsCertifyCommand, IsCheckCommand, IsDepsCommand, IsEmitCommand};
+ghost use Rattle.command_line.specs.Command.{IsScheduleCommand};
 ghost use Rattle.polypar.specs.Emitting.{ReadsAsLoops};
 ghost use Rattle.polypar.specs.Running.{RunsKernel};
 ghost use Rattle.polypar.specs.Sources.{TellsLastWrites};
@@ -82,7 +83,7 @@ pub fn printed_loops_run_the_kernel()
     trees_keep_conflicts_in_order();
 }
 
-/// `schedule` and `deps` have no lines, so all that `err` gains is the status line.
+/// `schedule`, `deps`, `certify` and `check` have no lines, so all that `err` gains is the status line.
 pub fn only_plans_have_lines()
     ensures schedule { (words : List (List ℕ)) (budget : ℕ) (left : Option (List ℕ)) (status : Status)
         (out out_after : SinkShows) (lines : List ℕ) → HasLines words left status out out_after lines
@@ -90,4 +91,9 @@ pub fn only_plans_have_lines()
     ensures deps { (words : List (List ℕ)) (budget : ℕ) (left : Option (List ℕ)) (status : Status)
         (out out_after : SinkShows) (lines : List ℕ) → HasLines words left status out out_after lines
         → IsDepsCommand budget words → lines ≡ [] }
+    ensures certify { (words : List (List ℕ)) (budget : ℕ) (left : Option (List ℕ)) (status : Status)
+        (out out_after : SinkShows) (lines : List ℕ) → HasLines words left status out out_after lines
+        → IsCertifyCommand budget words → lines ≡ [] }
+    ensures check { (words : List (List ℕ)) (left : Option (List ℕ)) (status : Status) (out out_after : SinkShows)
+        (lines : List ℕ) → HasLines words left status out out_after lines → IsCheckCommand words → lines ≡ [] }
 {}

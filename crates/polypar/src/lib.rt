@@ -4,9 +4,13 @@
 //! kernel's own sequential execution, for any number of workers, what `schedule` prints is the schedule of the
 //! determined run over the kernel's conflicts, or why its order is kept, what `deps` prints names for each read that is
 //! resolved its last write, what `emit` prints are loops that visit each instance once, conflicting ones in order, what
-//! `gen` prints tells what a generated kernel's own execution leaves, and each status comes from its cause alone.
+//! `gen` prints tells what a generated kernel's own execution leaves, what `certify` prints is the certificate of the
+//! schedule, the number of the first goal without one, or why the order is kept, where `check` prints `yes` the plan that
+//! it was given is good for tiles of every size and all parameters, and each status comes from its cause alone.
 #![tactic(auto)]
 
+mod certifying;
+mod checking;
 mod cut;
 mod executing;
 mod generating;
@@ -26,5 +30,5 @@ pub use laws::{
     printed_loops_run_the_kernel, printed_sources_tell_last_writes,
 };
 pub use plain::{command_by, deserved_once, plain_command, polypar};
-pub use report_text::{DataRefusal, Outside, Refusal, RefusalKind, Status};
+pub use report_text::{DataRefusal, FaultKind, Outside, Refusal, RefusalKind, Status};
 pub use run::LONGEST_INPUT;

@@ -1,5 +1,6 @@
 //! What a command that reads an input does: the source is read to its end and cut into a kernel and its data. For `run`
-//! the data's case is run by the kernel's plan, and the final arrays are printed; for the other commands see `kernel`.
+//! the data's case is run by the kernel's plan, and the final arrays are printed; for the other commands see `kernel` and
+//! `checking`.
 
 ghost use Rattle.std.specs.Prelude.{◌≡◌, MatchResult, Some, option_map};
 ghost use Rattle.io_ports.specs.Writes.{Writes};
@@ -16,6 +17,7 @@ ghost use Rattle.polypar.specs.Promises.{CutsTold, Ends, ReadsKernel, WritesTold
 ghost use Rattle.command_line.specs.Command.{AreSized, HasSize};
 ghost use Rattle.polypar.specs.Answered.{NamesOf};
 
+use crate::checking::check;
 use crate::cut::cut;
 use crate::executing::run_planned;
 use crate::index_check::outside_in;
@@ -119,7 +121,7 @@ fn run_input<W: Workers, O: Sink, E: Sink>(
     }
 }
 
-/// Goes on with what the command asks of a kernel; `text` is its data.
+/// Goes on with what the command asks of a kernel; `text` is what stands behind it.
 fn run_command<W: Workers, O: Sink, E: Sink>(
     by: &W,
     alloc: Global,
@@ -139,6 +141,7 @@ fn run_command<W: Workers, O: Sink, E: Sink>(
     match command {
         Command::Run(options) => run_kernel(by, alloc, kernel, text, options, out, err),
         Command::OfKernel(asked) => print_asked(alloc, kernel, asked, out, err),
+        Command::Check => check(alloc, kernel, text, out),
         Command::Gen { .. } => unreachable!(),
     }
 }

@@ -1,9 +1,9 @@
-use Rattle.command_guards.proofs.CallLemmas.{data_line, faulted, reported}
-use Rattle.std.proofs.Common.{◌∙◌, append-nil, false, map, subst}
+use Rattle.command_guards.proofs.CallLemmas.{certificate_line, data_line, faulted, rejected_by, reported}
+use Rattle.std.proofs.Common.{◌∙◌, append-nil, false, map, subst, sym}
 use Rattle.std.specs.Prelude.{string_bytes}
 use Rattle.std.specs.Io.KnownBytes.{Appends}
 use Rattle.loop_tree.specs.Plans.{AreMarked}
-use Rattle.polypar.specs.Answered.{HasLines}
+use Rattle.polypar.specs.Answered.{HasLines, IsDeserved}
 use Rattle.polypar.proofs.ReadingLemmas.{planned_carried}
 use Rattle.command_guards.proofs.calls.answered_call.Goals as goal
 
@@ -74,6 +74,22 @@ returns-clause-summary g c = λ kernel options is done.
       subst (λ text. Appends old new text) prints.1.text prints.2,
       subst (λ lines. Appends err_old err_new lines) (plan.told ∙ append-nil plan.front) prints.3,
     )
+
+pub returns-clause-checked : goal.returns-clause-checked
+returns-clause-checked g c = λ is done. c.plain_command.ensures.checked is done
+
+pub returns-clause-certified : goal.returns-clause-certified
+returns-clause-certified g c = λ budget is done.
+    certificate_line budget (g.S.Source.shows c.args.source.now).left (g.O.Sink.shows c.args.out.now).taken
+    (g.O.Sink.shows c.plain_command.new.out).taken (c.plain_command.ensures.certified budget is done)
+
+pub returns-clause-rejected : goal.returns-clause-rejected
+returns-clause-rejected g c = λ kind line is.
+    let words = map string_bytes c.args.words.now in
+    let left = (g.S.Source.shows c.args.source.now).left in
+    let not_done = c.plain_command.ensures.deserved (λ e. let both = sym is ∙ e in cc) (λ e. let both = sym is ∙ e in cc)
+    (λ e. let both = sym is ∙ e in cc) in
+    rejected_by words left kind line (subst (λ s. IsDeserved words left s) is not_done)
 
 pub returns-clause-front : goal.returns-clause-front
 returns-clause-front g c = λ fault.
