@@ -1,7 +1,7 @@
 #!/bin/sh
 # Runs each kernel of examples/ and compares what it prints with the arrays beside it, and its schedule, the sources of
-# its reads and its emitted text with those beside it, which are compiled and run where there is a compiler; looks that
-# the stored calls of crates/test_cases have each of these files, byte for byte; and that a process ends with each exit
+# its reads, its certificate and its emitted text with those beside it; the certificate is checked, the text compiled and
+# run where there is a compiler; looks that the stored calls of crates/test_cases have each of these files, byte for byte; and that a process ends with each exit
 # status that its streams can be brought to give.
 set -u
 root=$(CDPATH= cd -- "$(dirname -- "$0")/.." && pwd)
@@ -18,12 +18,26 @@ compare() {
     fi
 }
 
+# Whether `polypar check` and the second reader accept the certificate $2 of the kernel $1.
+accept() {
+    for reader in "$root/polypar check" "$root/tools/check_certificate"; do
+        if [ "$({ sed '/^%%$/,$d' "$1"; echo %%; cat "$2"; } | $reader)" = yes ]; then
+            passed=$((passed + 1))
+        else
+            failed=$((failed + 1))
+            echo "${reader##*/} does not accept ${2##*/}"
+        fi
+    done
+}
+
 . "$root/bench/example_kernels.sh"
 for kernel in "$@"; do
     compare run "$kernel" "${kernel%.c}.out"
     compare schedule "$kernel" "${kernel%.c}.schedule"
     compare deps "$kernel" "${kernel%.c}.deps"
     compare emit "$kernel" "${kernel%.c}.emit.c"
+    compare certify "$kernel" "${kernel%.c}.certificate"
+    accept "$kernel" "${kernel%.c}.certificate"
     python3 -c 'import sys; sys.exit(open(sys.argv[1], "rb").read() not in open(sys.argv[2], "rb").read())' \
         "$kernel" "$root/crates/test_cases/stdin" || {
         failed=$((failed + 1))

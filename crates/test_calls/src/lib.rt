@@ -30,6 +30,8 @@ mod planning;
 #[cfg(test)]
 mod ports;
 #[cfg(test)]
+mod posed;
+#[cfg(test)]
 mod sets;
 #[cfg(test)]
 mod solver;
