@@ -1,9 +1,9 @@
 //! A caller of the top call: each of its clauses follows from one field of `Answered`, with what that field speaks of
 //! written out. So one of these fields that is emptied fails here, and so does a definition under it, but for those
 //! that are named here: which input is accepted or spells a kernel, what is asked for, what a generated kernel leaves,
-//! what the search finds or stops at (`IsSearched`, `IsCauseOf`), what a certificate is (`certificate_of`) and whether it
-//! is accepted (`judged`), and what the trees of a plan are (`ArePlanned`), of
-//! which it is written out alone which loops of a tiled plan are marked parallel.
+//! what the search finds or stops at (`IsSearched`, `IsCauseOf`), what a certificate is (`certificate_of`) and whether
+//! it is accepted (`judged`), and what the trees of a plan are (`ArePlanned`), of which it is written out alone which
+//! loops of a tiled plan are marked parallel.
 
 ghost use Rattle.std.specs.Prelude.{◌≡◌, ◌≢◌, ◌⊎◌, ◌<◌, ◌≤◌, ◌++◌, ℕ, ℤ, true, false, List, [], Option, Some, map};
 ghost use Rattle.std.specs.Prelude.{Err, Ok, codes, length, string_bytes};
@@ -61,11 +61,11 @@ use io_ports::{Sink, Source};
 use polypar::{Status, plain_command};
 use std::alloc::Global;
 
-/// A call of `plain_command`: by `done` the arrays and the report of `run`, by `scheduled`, `sourced`, `emitted` and
+/// A call of `plain_command`: by `done` the arrays and the report of `run`, by `scheduled`, `sourced`, `emitted`,
 /// `generated`, `checked` and `certified` what another command tells, by `deserved` why a certificate is rejected, by
-/// `unread`, `nothing` and `written` what else ports show; by `error_line`
-/// the line of data that is refused, with the names of the program that was read, the lines of a command that is done,
-/// and those of one that is cut off, with the count that rose.
+/// `unread`, `nothing` and `written` what else ports show; by `error_line` the line of data that is refused, with the
+/// names of the program that was read, the lines of a command that is done, and those of one that is cut off, with the
+/// count that rose.
 pub fn answered_call<S: Source, O: Sink, E: Sink>(
     alloc: Global,
     words: &[String],

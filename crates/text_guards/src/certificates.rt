@@ -1,12 +1,18 @@
 //! Callers of the laws of certificates' texts.
-ghost use Rattle.std.specs.Prelude.{◌≡◌, Ok, true};
+ghost use Rattle.std.specs.Prelude.{◌≡◌, List, Ok, Some, length, suc, true, ℕ};
+ghost use Rattle.form_text.specs.View.{saturated};
 ghost use Rattle.scop_lexer.specs.Bytes.{Text};
 ghost use Rattle.scop_syntax.specs.Tree.{Program};
 ghost use Rattle.plan_check.specs.FirstFaults.{IsFirstFault};
 ghost use Rattle.plan_check.specs.Judged.{Rejected, SaysPlan, judged};
 ghost use Rattle.plan_check.specs.Plans.{Plan};
+ghost use Rattle.plan_check.specs.Printed.{goal_text};
+ghost use Rattle.plan_check.specs.Text.{goal, said_in};
+ghost use Rattle.plan_check.specs.declared.kinds.FaultKind.TheVariants.{Goal};
 
-use plan_check::{rejections_are_the_first, texts_say_one_plan};
+use plan_check::{
+    lines_are_read_where_they_are_printed, rejections_are_the_first, texts_say_one_plan,
+};
 
 /// A text has one first fault, and none where it is accepted.
 pub fn first_faults_are_unique()
@@ -18,10 +24,26 @@ pub fn first_faults_are_unique()
     rejections_are_the_first();
 }
 
+/// A fault that is not Goal stands behind the lines that were taken, by `line` of `rejections_are_the_first`.
+pub fn other_faults_are_at_the_next_line()
+    ensures { (program : Program) (text : Text) (r : Rejected) → (f : IsFirstFault program text r)
+        → (r.kind ≡ Goal → ⊥) → r.line ≡ suc (length f.before) }
+{
+    rejections_are_the_first();
+}
+
 /// Two plans of one text are one.
 pub fn plans_of_a_text_are_one()
     ensures { (program : Program) (text : Text) (a b : Plan) → SaysPlan program text a → SaysPlan program text b
         → b ≡ a }
 {
     texts_say_one_plan();
+}
+
+/// A line that says a goal is a printed one, by `read` of `lines_are_read_where_they_are_printed`.
+pub fn lines_of_goals_are_printed()
+    ensures { (loops : List ℕ) (line : Text) (g : ℕ) → said_in loops line ≡ Some (goal g)
+        → (h : ℕ) × (line ≡ goal_text h) × (g ≡ saturated h) }
+{
+    lines_are_read_where_they_are_printed();
 }
