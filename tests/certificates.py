@@ -1,8 +1,8 @@
 """Changes certificates at random, and compares what `polypar check` says with what tools/check_certificate does.
 
-usage: certificates.py PROGRAM COUNT FILE.c..; beside each kernel stands FILE.certificate. A change puts another number,
-drops, doubles, moves or breaks a line, or puts a byte: most are rejected, some are certificates again. Prints how many
-were answered alike, and how many of these were accepted.
+usage: certificates.py PROGRAM COUNT FILE.c..; beside each kernel stands FILE.certificate; emitted texts are left out. A
+change puts another number, drops, doubles, moves or breaks a line, or puts a byte: most are rejected, some are
+certificates again. Prints how many were answered alike, and how many of these were accepted.
 """
 
 import importlib.machinery
@@ -73,6 +73,8 @@ def main():
     check, draw, alike, accepted = reader(), random.Random(7), 0, 0
     cases = []
     for file in files:
+        if file.endswith(".emit.c"):
+            continue
         with open(file[: -len(".c")] + ".certificate", encoding="latin-1", newline="") as source:
             cases.append((kernel_of(file), source.read()))
     for _ in range(int(count)):

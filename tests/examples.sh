@@ -1,8 +1,8 @@
 #!/bin/sh
 # Runs each kernel of examples/ and compares what it prints with the arrays beside it, and its schedule, the sources of
 # its reads, its certificate and its emitted text with those beside it; the certificate is checked, the text compiled and
-# run where there is a compiler; looks that the stored calls of crates/test_cases have each of these files, byte for byte; and that a process ends with each exit
-# status that its streams can be brought to give.
+# run where there is a compiler; looks that the stored calls of crates/test_cases have each of these files, byte for
+# byte; and that a process ends with each exit status that its streams can be brought to give.
 set -u
 root=$(CDPATH= cd -- "$(dirname -- "$0")/.." && pwd)
 failed=0
@@ -18,14 +18,16 @@ compare() {
     fi
 }
 
-# Whether `polypar check` and the second reader accept the certificate $2 of the kernel $1.
+# Whether `polypar check` and tools/check_certificate accept the certificate $2 of the kernel $1.
 accept() {
-    for reader in "$root/polypar check" "$root/tools/check_certificate"; do
-        if [ "$({ sed '/^%%$/,$d' "$1"; echo %%; cat "$2"; } | $reader)" = yes ]; then
+    for reader in polypar tools/check_certificate; do
+        word=check
+        [ "$reader" = polypar ] || word=/dev/stdin
+        if [ "$({ sed '/^%%$/,$d' "$1"; echo %%; cat "$2"; } | "$root/$reader" "$word")" = yes ]; then
             passed=$((passed + 1))
         else
             failed=$((failed + 1))
-            echo "${reader##*/} does not accept ${2##*/}"
+            echo "$reader does not accept ${2##*/}"
         fi
     done
 }
@@ -73,6 +75,9 @@ expect 1 'usage: ' '' deps --budget 20001
 expect 1 'usage: ' '' emit --tile 1025
 expect 2 'refused: Unended 1:7' 'void c' run
 expect 3 'data: Missing N' "$copy" run
+expect 8 'rejected: Form line 1' "${copy}goal 1\n" check
+expect 1 'usage: ' '' check --budget 2
+expect 1 'usage: ' '' certify --tile 2
 expect 4 'outside: S1 access 1 dimension 1 value 1 extent 1' "${copy}N = 1\n" run
 if [ -c /dev/full ]; then
     "$root/polypar" run <"$root/examples/copy.c" 2>/dev/null >/dev/full
