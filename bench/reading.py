@@ -67,7 +67,7 @@ def compare(make, program, baseline, source, rounds):
     """Prints the shortest times and the highest peaks over one input, and the ratio of the times."""
     write(make, source)
     wanted, text = INPUTS[make]
-    runs = {"polypar": ([program, "run"], wanted, text), "gcc -O2": ([baseline], 0, None)}
+    runs = {"polypar": ([program, "run", "--budget", "1"], wanted, text), "gcc -O2": ([baseline], 0, None)}
     times, peaks = {}, {}
     for _ in range(rounds):
         for name, (command, status, told) in runs.items():
