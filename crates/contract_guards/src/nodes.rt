@@ -3,11 +3,11 @@ ghost use Rattle.std.specs.Prelude.{◌≡◌, ◌<◌, Err, IfOk, OnOk, None, S
 ghost use Rattle.wide_math.specs.declared.Wide.{Wide};
 ghost use Rattle.lexmin_runs.specs.Solutions.{ArePlaced, IsNode, LeadsOn};
 ghost use Rattle.checked_tableau.specs.declared.stop.TableauStop.TheVariants as tableau;
-ghost use Rattle.tableau_nodes.specs.Node.{next_of, node_of};
+ghost use Rattle.pip_solver.specs.Node.{next_of, node_of};
 
 use checked_tableau::TableauStop;
+use pip_solver::{Move, Tableau};
 use std::alloc::Global;
-use tableau_nodes::{Move, Tableau};
 use wide_math::Wide;
 
 /// A pivot of a node that stopped stops so again, by `again` of `Tableau::pivot`; else it leads to a node, by

@@ -15,7 +15,7 @@ use Rattle.lexmin_runs.specs.Nodes.{Counted, formed, answered, ask}
 use Rattle.lexmin_runs.specs.Emptiness.{equality_rows_run, bound_rows, posed_run, emptied, empty_run}
 use Rattle.lexmin_runs.proofs.Emptiness.{posed_points}
 use Rattle.lexmin_runs.proofs.AddedParameters.{all_speak}
-use Rattle.tableau_nodes.specs.Problem.{Problem}
+use Rattle.checked_tableau.specs.declared.problem.Problem.{Problem}
 use Rattle.pip_solver.specs.declared.stop.Stop.TheVariants as solver
 use Rattle.pip_solver.specs.Promises.{Decides, Empties, IsPosed, IsProblem, IsUnposed, FormedUntil, decided}
 use Rattle.pip_solver.proofs.PosedRows.{until-stops}

@@ -8,8 +8,8 @@ use Rattle.quast_trees.specs.Tree.{Tree, leaf, bind, branch}
 use Rattle.quast_trees.specs.Source.{unnamed}
 use Rattle.quast_trees.specs.Postfix.{top, branched, bound}
 use Rattle.lexmin_runs.specs.Nodes.{Counted, resumed, whole}
-use Rattle.tableau_nodes.specs.declared.node.Tableau.{Tableau}
-use Rattle.tableau_nodes.specs.Node.{node_of}
+use Rattle.pip_solver.specs.declared.node.Tableau.{Tableau}
+use Rattle.pip_solver.specs.Node.{node_of}
 use Rattle.pip_solver.specs.declared.frames.Frame.TheVariants as frame
 use Rattle.pip_solver.specs.Frames.{framing, under, joins, seconds, IsReady, AreReady, KeepsSides}
 

@@ -10,9 +10,9 @@ use Rattle.lexmin_runs.specs.Nodes.{Node, Next, Counted, resumed, whole, step}
 use Rattle.lexmin_runs.specs.Nodes as node
 use Rattle.lexmin_runs.proofs.KeptSolutions.{step_nodes}
 use Rattle.lexmin_runs.proofs.Steps.{Costs, costs_step, resumed_step, resumed_stops}
-use Rattle.tableau_nodes.specs.declared.node.Tableau.{Tableau}
-use Rattle.tableau_nodes.specs.declared.node.Move.TheVariants as move
-use Rattle.tableau_nodes.specs.Node.{node_of, next_of, AreGoing}
+use Rattle.pip_solver.specs.declared.node.Tableau.{Tableau}
+use Rattle.pip_solver.specs.declared.node.Move.TheVariants as move
+use Rattle.pip_solver.specs.Node.{node_of, next_of, AreGoing}
 use Rattle.pip_solver.specs.declared.frames.Frame.TheVariants as frame
 use Rattle.pip_solver.specs.declared.question.QuestionStop.{QuestionStop}
 use Rattle.pip_solver.specs.declared.question.QuestionStop.TheVariants as stop

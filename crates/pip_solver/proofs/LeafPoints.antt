@@ -8,7 +8,7 @@ use Rattle.whole_numbers.specs.Affine.{Affine, values_of}
 use Rattle.whole_numbers.specs.Lists.{dot}
 use Rattle.whole_numbers.proofs.Dot.{dot-nil}
 use Rattle.tableau_rows.specs.Problem.{Problem, IsLexmin, IsEmpty, Speaks, problem_of}
-use Rattle.tableau_nodes.specs.Problem.{Problem as Posed}
+use Rattle.checked_tableau.specs.declared.problem.Problem.{Problem as Posed}
 use Rattle.quast_trees.specs.Tree.{Tree}
 use Rattle.quast_trees.specs.Leaf.{Leaf}
 use Rattle.lexmin_runs.specs.Nodes.{lexmin_run}

@@ -1,3 +1,6 @@
+pub mod CopiedLists
+pub mod LineParts
+pub mod NodeMoves
 pub mod QuestionRuns
 pub mod PosedRows
 pub mod Decisions

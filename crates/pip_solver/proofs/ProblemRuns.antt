@@ -6,10 +6,10 @@ use Rattle.quast_trees.specs.Tree.{Tree, Speaks as TreeSpeaks}
 use Rattle.lexmin_runs.specs.Nodes.{Node, whole, first_node, lexmin_run}
 use Rattle.lexmin_runs.specs.Solutions.{IsNode}
 use Rattle.lexmin_runs.proofs.KeptSolutions.{first_is_node, lexmin-speaks}
-use Rattle.tableau_nodes.proofs.Beginnings.{speaks_all}
-use Rattle.tableau_nodes.specs.Problem.{Problem}
-use Rattle.tableau_nodes.specs.declared.node.Tableau.{Tableau}
-use Rattle.tableau_nodes.specs.Node.{node_of, IsGoing}
+use Rattle.checked_tableau.proofs.Beginnings.{speaks_all}
+use Rattle.checked_tableau.specs.declared.problem.Problem.{Problem}
+use Rattle.pip_solver.specs.declared.node.Tableau.{Tableau}
+use Rattle.pip_solver.specs.Node.{node_of, IsGoing}
 use Rattle.pip_solver.specs.Frames.{IsReady}
 use Rattle.pip_solver.specs.Solving.{solved}
 

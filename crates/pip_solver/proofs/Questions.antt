@@ -20,8 +20,8 @@ use Rattle.lexmin_runs.specs.Nodes.{broken_somewhere, all_zero}
 use Rattle.lexmin_runs.specs.Solutions.{IsNode}
 use Rattle.lexmin_runs.proofs.QuestionAnswers.{opposite-value, above-value}
 use Rattle.lexmin_runs.proofs.KeptSolutions.{part_size}
-use Rattle.tableau_nodes.specs.declared.node.Tableau.{Tableau}
-use Rattle.tableau_nodes.specs.Node.{node_of}
+use Rattle.pip_solver.specs.declared.node.Tableau.{Tableau}
+use Rattle.pip_solver.specs.Node.{node_of}
 use Rattle.pip_solver.specs.declared.question.QuestionStop.{QuestionStop}
 use Rattle.pip_solver.specs.declared.question.QuestionStop.TheVariants as stop
 use Rattle.pip_solver.specs.Promises.{Tells, AsksOf}

@@ -14,7 +14,7 @@ use Rattle.integer_sets.specs.Points.{Satisfies}
 use Rattle.tableau_rows.specs.Problem.{problem_of, IsPoint, IsLexmin, IsEmpty}
 use Rattle.lexmin_runs.specs.Emptiness.{posed_run}
 use Rattle.lexmin_runs.proofs.Emptiness.{posed_points}
-use Rattle.tableau_nodes.specs.Problem.{Problem}
+use Rattle.checked_tableau.specs.declared.problem.Problem.{Problem}
 use Rattle.pip_solver.specs.declared.stop.Stop.TheVariants as solver
 use Rattle.pip_solver.specs.Promises.{IsPosed, IsUnposed}
 use Rattle.pip_solver.specs.Solving.{Finds}

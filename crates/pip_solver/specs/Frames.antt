@@ -5,9 +5,9 @@ use Rattle.quast_trees.specs.Tree.{Tree, initial}
 use Rattle.quast_trees.specs.Postfix.{top}
 use Rattle.lexmin_runs.specs.Nodes.{Counted, Frame, binding, second, joining, resumed, whole}
 use Rattle.lexmin_runs.specs.Solutions.{IsNode}
-use Rattle.tableau_nodes.specs.declared.node.Tableau.{Tableau}
-use Rattle.tableau_nodes.specs.declared.node.Move.TheVariants as move
-use Rattle.tableau_nodes.specs.Node.{node_of, IsGoing}
+use Rattle.pip_solver.specs.declared.node.Tableau.{Tableau}
+use Rattle.pip_solver.specs.declared.node.Move.TheVariants as move
+use Rattle.pip_solver.specs.Node.{node_of, IsGoing}
 use Rattle.pip_solver.specs.declared.frames.Frame.TheVariants as frame
 use Rattle.pip_solver.specs.declared.question.QuestionStop.{QuestionStop}
 use Rattle.pip_solver.specs.declared.run.Progress.TheVariants as progress

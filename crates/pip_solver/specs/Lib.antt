@@ -1,3 +1,4 @@
+pub mod Node
 pub mod Promises
 pub mod Steps
 pub mod Frames
@@ -7,4 +8,4 @@ pub mod Minimum
 pub use Rattle.lexmin_runs.specs.Emptiness
 pub use Rattle.lexmin_runs.specs.Leaves
 pub use Rattle.lexmin_runs.specs.Nodes
-pub use Rattle.tableau_nodes.specs.Problem
+pub use Rattle.checked_tableau.specs.declared.problem.Problem

@@ -4,7 +4,7 @@ use Rattle.std.specs.declared.alloc.Global.{Global}
 use Rattle.whole_numbers.specs.Lexicographic.{IsLeast}
 use Rattle.integer_sets.specs.Constraints.{Constraints, IsSized, variables_in}
 use Rattle.integer_sets.specs.Points.{Satisfies}
-use Rattle.tableau_nodes.specs.Problem.{Problem}
+use Rattle.checked_tableau.specs.declared.problem.Problem.{Problem}
 use Rattle.pip_solver.specs.declared.stop.Stop.TheVariants as solver
 use Rattle.pip_solver.specs.Promises.{IsPosed, IsUnposed}
 use Rattle.pip_solver.specs.Solving.{Finds}

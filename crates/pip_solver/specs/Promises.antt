@@ -9,15 +9,15 @@ use Rattle.affine_forms.specs.declared.stop.FormStop.TheVariants as form_stop
 use Rattle.lexmin_runs.specs.Emptiness.{negated_run, equality_rows_run, posed_run, emptied, empty_run}
 use Rattle.integer_sets.specs.Constraints.{Constraints, variables_in}
 use Rattle.tableau_rows.specs.Problem.{problem_of, Speaks}
-use Rattle.tableau_nodes.specs.Problem.{Problem}
+use Rattle.checked_tableau.specs.declared.problem.Problem.{Problem}
 use Rattle.pip_solver.specs.declared.stop.Stop.TheVariants as solver
 use Rattle.tableau_rows.specs.Run as run
 use Rattle.tableau_rows.specs.Run.{Step, Verdict, Outcome}
 use Rattle.lexmin_runs.specs.Nodes.{Counted, answered, part_of}
 use Rattle.tableau_rows.specs.Moves.{row_at}
-use Rattle.tableau_nodes.specs.declared.node.Tableau.{Tableau}
-use Rattle.tableau_nodes.specs.Table.{Table}
-use Rattle.tableau_nodes.specs.TableauStop.TheVariants as moved
+use Rattle.pip_solver.specs.declared.node.Tableau.{Tableau}
+use Rattle.checked_tableau.specs.Table.{Table}
+use Rattle.checked_tableau.specs.declared.stop.TableauStop.TheVariants as moved
 use Rattle.pip_solver.specs.declared.question.Step.TheVariants as step
 use Rattle.pip_solver.specs.declared.question.QuestionStop.{QuestionStop}
 use Rattle.pip_solver.specs.declared.question.QuestionStop.TheVariants as stop

@@ -3,8 +3,8 @@ use Rattle.std.specs.Prelude.{◌≡◌, ℕ, take, [], Result, Ok, Err}
 use Rattle.quast_trees.specs.Tree.{initial}
 use Rattle.lexmin_runs.specs.Nodes.{Next, ends, Counted, leaf_tree}
 use Rattle.lexmin_runs.specs.Solutions.{IsNode}
-use Rattle.tableau_nodes.specs.declared.node.Tableau.{Tableau}
-use Rattle.tableau_nodes.specs.Node.{node_of, next_of, IsGoing, AreGoing}
+use Rattle.pip_solver.specs.declared.node.Tableau.{Tableau}
+use Rattle.pip_solver.specs.Node.{node_of, next_of, IsGoing, AreGoing}
 use Rattle.pip_solver.specs.declared.question.QuestionStop.{QuestionStop}
 use Rattle.pip_solver.specs.declared.step.Next.TheVariants as next
 use Rattle.pip_solver.specs.Promises.{Tells}

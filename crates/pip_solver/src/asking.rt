@@ -8,17 +8,18 @@ ghost use Rattle.tableau_rows.specs.Moves.{row_at};
 ghost use Rattle.lexmin_runs.specs.Nodes.{ask, context_holds, below_somewhere, above_somewhere, broken_somewhere};
 ghost use Rattle.lexmin_runs.specs.Nodes.{none_below, part_of, longer_form, formed};
 ghost use Rattle.lexmin_runs.specs.Nodes.{opposite_run, above_run, under_run};
-ghost use Rattle.tableau_nodes.specs.Node.{node_of};
+ghost use Rattle.pip_solver.specs.Node.{node_of};
 ghost use Rattle.pip_solver.specs.Promises.{Tells, AsksOf};
 
+use crate::forms::{above, opposite, under};
 use crate::leaf::longer_with;
+use crate::node::Tableau;
+use crate::parts::{constant_of, is_constant, part_of};
 use crate::question::{QuestionStop, question};
 use affine_forms::{Form, FormStop};
+use checked_tableau::{Rows, remainder_of};
 use std::alloc::Global;
 use std::slice;
-use tableau_nodes::{
-    Rows, Tableau, above, constant_of, is_constant, opposite, part_of, remainder_of, under,
-};
 
 /// Whether forms, in two parts, have a whole point that is not negative.
 pub fn ask(

@@ -5,10 +5,10 @@ ghost use Rattle.std.specs.Prelude.{◌≡◌, suc, [], ◌∷◌, ◌++◌, len
 ghost use Rattle.quast_trees.specs.Postfix.{standing};
 ghost use Rattle.pip_solver.specs.Frames.{joins, Resumes};
 
+use crate::node::Tableau;
 use affine_forms::Form;
 use quast_trees::Builder;
 use std::alloc::AllocError;
-use tableau_nodes::Tableau;
 
 /// What waits while a node is run.
 #[derive(Drop)]

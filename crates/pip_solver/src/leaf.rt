@@ -13,12 +13,13 @@ ghost use Rattle.quast_trees.specs.Postfix.{standing, top};
 ghost use Rattle.lexmin_runs.specs.Nodes.{all_divided, divided, padded, part_of, leaf_tree, longer_form};
 ghost use Rattle.pip_solver.specs.Frames.{under, KeepsSides};
 
+use crate::forms::longer_forms;
 use crate::frames::{Frame, put};
 use affine_forms::{Form, push};
+use checked_tableau::{Rows, remainder_of};
 use quast_trees::Builder;
 use std::alloc::{AllocError, Global};
 use std::mem;
-use tableau_nodes::{Rows, longer_forms, remainder_of};
 
 /// Whether a divisor divides each number.
 fn all_divided(numbers: &[i128], divisor: i128) -> bool

@@ -2,13 +2,13 @@
 ghost use Rattle.std.specs.Prelude.{◌≡◌, ℕ, ◌<◌, ◌≤◌, length, take, Ok, Some, None};
 ghost use Rattle.lexmin_runs.specs.Nodes.{first_asked, below_somewhere, broken_somewhere, part_of};
 ghost use Rattle.lexmin_runs.specs.Solutions.{IsNode};
-ghost use Rattle.tableau_nodes.specs.Node.{node_of};
+ghost use Rattle.pip_solver.specs.Node.{node_of};
 ghost use Rattle.pip_solver.specs.Promises.{Tells};
 
 use crate::asking::{below_somewhere, broken_somewhere};
+use crate::node::Tableau;
 use crate::question::QuestionStop;
 use std::alloc::Global;
-use tableau_nodes::Tableau;
 
 /// The first row whose part is at most -1 somewhere in the context.
 pub fn first_below(

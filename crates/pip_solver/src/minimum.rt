@@ -10,12 +10,13 @@ ghost use Rattle.quast_trees.specs.Value.{value};
 ghost use Rattle.lexmin_runs.specs.Leaves.{IsAnswer};
 ghost use Rattle.pip_solver.specs.Solving.{Counts, Solves};
 
+use crate::node::Tableau;
 use crate::question::QuestionStop;
 use crate::run::run;
 use crate::stop::Stop;
+use checked_tableau::Problem;
 use quast_trees::{Builder, Quast};
 use std::alloc::Global;
-use tableau_nodes::{Problem, Tableau};
 
 /// A problem's quast, and how many moves its run took.
 #[derive(Drop)]

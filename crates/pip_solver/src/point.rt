@@ -11,9 +11,9 @@ ghost use Rattle.pip_solver.specs.Solving.{Finds, IsGiven};
 use crate::minimum::lexmin;
 use crate::stop::Stop;
 use affine_forms::Form;
+use checked_tableau::Problem;
 use quast_trees::{Part, Quast};
 use std::alloc::{AllocError, Global};
-use tableau_nodes::Problem;
 
 /// The constants of forms.
 fn constants(alloc: Global, forms: &[Form]) -> Result<Vec<i128>, AllocError>

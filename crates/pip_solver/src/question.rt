@@ -5,7 +5,7 @@ ghost use Rattle.tableau_rows.specs.Run.{cuts, next, pivots, run};
 ghost use Rattle.lexmin_runs.specs.Nodes.{answered};
 ghost use Rattle.pip_solver.specs.Promises.{Shows, Advances, Tells, stop_of};
 
-use tableau_nodes::{Rows, TableauStop};
+use checked_tableau::{Rows, TableauStop};
 
 /// What a question does next.
 enum Step {

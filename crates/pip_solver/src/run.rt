@@ -2,17 +2,17 @@
 ghost use Rattle.std.specs.Prelude.{◌≡◌, [], ◌++◌, ◌≤◌, length, reverse, OnOk};
 ghost use Rattle.quast_trees.specs.Postfix.{standing};
 ghost use Rattle.lexmin_runs.specs.Nodes.{whole};
-ghost use Rattle.tableau_nodes.specs.Node.{node_of};
+ghost use Rattle.pip_solver.specs.Node.{node_of};
 ghost use Rattle.pip_solver.specs.Frames.{under, joins, frames_for, IsReady, AreReady, Proceeds, Runs};
 
 use crate::frames::{Frame, put, resume};
 use crate::leaf::leaf;
+use crate::node::{Move, Tableau};
 use crate::question::QuestionStop;
 use crate::step::{Next, step};
 use quast_trees::Builder;
 use std::alloc::{AllocError, Global};
 use std::mem;
-use tableau_nodes::{Move, Tableau};
 
 /// How far a step brings a run.
 pub enum Progress {

@@ -4,14 +4,14 @@ ghost use Rattle.std.specs.Prelude.{◌≡◌, ◌<◌, ◌≤◌, length, Some,
 ghost use Rattle.tableau_rows.specs.Moves.{row_at};
 ghost use Rattle.lexmin_runs.specs.Nodes.{split, pivot, cut, pivot_or_empty, treated, looked, step, part_of};
 ghost use Rattle.lexmin_runs.specs.Solutions.{IsNode};
-ghost use Rattle.tableau_nodes.specs.Node.{node_of};
+ghost use Rattle.pip_solver.specs.Node.{node_of};
 ghost use Rattle.pip_solver.specs.Steps.{Steps};
 
 use crate::asking::{above_somewhere, context_holds};
 use crate::looking::{first_below, first_broken};
+use crate::node::{Move, Tableau};
 use crate::question::QuestionStop;
 use std::alloc::Global;
-use tableau_nodes::{Move, Tableau};
 
 /// What a node does next.
 pub enum Next {

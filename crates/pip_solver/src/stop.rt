@@ -1,6 +1,6 @@
 //! Why the solver stops.
 
-use tableau_nodes::Problem;
+use checked_tableau::Problem;
 use thiserror::Error;
 
 /// Why a problem is not solved. It tells the problem, and how many moves were made.

@@ -5,9 +5,9 @@ ghost use Rattle.pip_solver.specs.Minimum.{IsMinimum, Minimizes, Poses, held};
 use crate::point::least_point;
 use crate::stop::Stop;
 use crate::system_rows::{equality_rows, joined};
+use checked_tableau::Problem;
 use integer_sets::System;
 use std::alloc::Global;
-use tableau_nodes::Problem;
 
 /// The problem of a system without parameters.
 fn pose(alloc: Global, system: &System) -> Result<Problem, Stop>

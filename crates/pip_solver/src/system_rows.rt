@@ -6,11 +6,12 @@ ghost use Rattle.integer_sets.specs.Constraints.{variables_in};
 ghost use Rattle.lexmin_runs.specs.Emptiness.{negated_run};
 ghost use Rattle.pip_solver.specs.Promises.{Forms, FormsEqualities, IsProblem};
 
+use crate::forms::oppose;
 use crate::stop::Stop;
 use affine_forms::{Form, FormStop, push, push_copies, push_copy};
+use checked_tableau::Problem;
 use integer_sets::System;
 use std::alloc::{AllocError, Global};
-use tableau_nodes::{Problem, oppose};
 use wide_math::sub;
 
 /// The form with each sign turned: the coefficients in order, then the constant.

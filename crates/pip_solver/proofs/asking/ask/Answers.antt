@@ -1,7 +1,7 @@
 use Rattle.std.proofs.Common.{◌++◌, Bool, subst, sym}
 use Rattle.tableau_rows.specs.Run.{run}
 use Rattle.lexmin_runs.specs.Nodes.{Counted, answered}
-use Rattle.tableau_nodes.specs.Table.{Table}
+use Rattle.checked_tableau.specs.Table.{Table}
 use Rattle.pip_solver.specs.Promises.{Tells}
 use Rattle.pip_solver.proofs.Questions.{ask-is}
 use Rattle.pip_solver.proofs.asking.ask.Goals as goal

@@ -2,8 +2,8 @@ use Rattle.std.proofs.Common.{◌∙◌, Bool, ℕ, sym, subst, ap, arith}
 use Rattle.std.specs.Prelude.{Option, Ok, Err}
 use Rattle.tableau_rows.specs.Rows.{Row}
 use Rattle.lexmin_runs.specs.Nodes.{Counted, below_somewhere, part_of}
-use Rattle.tableau_nodes.specs.declared.node.Tableau.{Tableau}
-use Rattle.tableau_nodes.specs.Node.{node_of}
+use Rattle.pip_solver.specs.declared.node.Tableau.{Tableau}
+use Rattle.pip_solver.specs.Node.{node_of}
 use Rattle.pip_solver.specs.Promises.{Tells}
 use Rattle.pip_solver.proofs.Questions.{asks_of, asked-yes, asked-more, asked-stops}
 use Rattle.pip_solver.proofs.looking.first_below.Goals as goal

@@ -1,6 +1,6 @@
 use Rattle.std.proofs.Common.{◌≡◌, ◌≤◌, drop}
 use Rattle.lexmin_runs.specs.Nodes.{first_asked, below_somewhere, part_of}
-use Rattle.tableau_nodes.specs.Node.{node_of}
+use Rattle.pip_solver.specs.Node.{node_of}
 use Rattle.pip_solver.proofs.looking.first_below.Given as goal
 
 abbrev pub invariant-loop-row : goal.invariant-loop-row

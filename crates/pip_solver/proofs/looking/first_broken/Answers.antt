@@ -4,8 +4,8 @@ use Rattle.std.proofs.lemmas.List.{get_or-take, length-take-le}
 use Rattle.tableau_rows.specs.Rows.{Row, row_of}
 use Rattle.tableau_rows.specs.Moves.{row_at}
 use Rattle.lexmin_runs.specs.Nodes.{Counted, broken_somewhere, part_of}
-use Rattle.tableau_nodes.specs.declared.node.Tableau.{Tableau}
-use Rattle.tableau_nodes.specs.Node.{node_of}
+use Rattle.pip_solver.specs.declared.node.Tableau.{Tableau}
+use Rattle.pip_solver.specs.Node.{node_of}
 use Rattle.pip_solver.specs.Promises.{Tells}
 use Rattle.pip_solver.proofs.Questions.{asks_of, asked-yes, asked-more, asked-stops}
 use Rattle.pip_solver.proofs.looking.first_broken.Goals as goal

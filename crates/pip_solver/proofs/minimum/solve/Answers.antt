@@ -6,7 +6,7 @@ use Rattle.quast_trees.specs.Value.{value}
 use Rattle.tableau_rows.specs.Problem.{problem_of}
 use Rattle.lexmin_runs.specs.Leaves.{IsAnswer}
 use Rattle.lexmin_runs.specs.Nodes.{Counted, whole}
-use Rattle.tableau_nodes.specs.Node.{node_of}
+use Rattle.pip_solver.specs.Node.{node_of}
 use Rattle.pip_solver.specs.Frames.{Runs}
 use Rattle.lexmin_runs.proofs.Trees.{lexmin-right}
 use Rattle.lexmin_runs.proofs.KeptSolutions.{lexmin-forms}

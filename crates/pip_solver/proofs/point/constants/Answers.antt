@@ -3,7 +3,7 @@ use Rattle.std.specs.Int.{w128}
 use Rattle.std.proofs.lemmas.Int.{to_z-of_z}
 use Rattle.std.proofs.lemmas.List.{take_all}
 use Rattle.whole_numbers.specs.Affine.{Affine}
-use Rattle.tableau_nodes.proofs.CopiedLists.{mapped_more}
+use Rattle.pip_solver.proofs.CopiedLists.{mapped_more}
 use Rattle.pip_solver.proofs.point.constants.Goals as goal
 
 pub loop-form-preserved : goal.loop-form-preserved

@@ -3,8 +3,8 @@ use Rattle.std.specs.Prelude.{suc, Err, None, Option, Ok, Result}
 use Rattle.wide_math.specs.declared.Wide.{Wide}
 use Rattle.tableau_rows.specs.Moves.{row_at, cut_run}
 use Rattle.tableau_rows.specs.Run.{run, cuts, next}
-use Rattle.tableau_nodes.specs.Table.{Table, Cuts, resumed}
-use Rattle.tableau_nodes.specs.TableauStop.TheVariants as moved
+use Rattle.checked_tableau.specs.Table.{Table, Cuts, resumed}
+use Rattle.checked_tableau.specs.declared.stop.TableauStop.TheVariants as moved
 use Rattle.pip_solver.specs.declared.question.QuestionStop.{QuestionStop}
 use Rattle.pip_solver.specs.Promises.{Advances, stop_of}
 use Rattle.pip_solver.proofs.QuestionRuns.{run_spent, run_cuts, run_cuts-wide}

@@ -2,7 +2,7 @@ use Rattle.std.proofs.Common.{rules, ◌≡◌, ◌-◌, ap, refl, subst, arith}
 use Rattle.std.specs.Prelude.{suc, Ok, Err, Option}
 use Rattle.wide_math.specs.declared.Wide.{Wide}
 use Rattle.tableau_rows.specs.Moves.{pivot_run}
-use Rattle.tableau_nodes.specs.Table.{resumed}
+use Rattle.checked_tableau.specs.Table.{resumed}
 use Rattle.tableau_rows.specs.Run.{pivots}
 use Rattle.pip_solver.proofs.QuestionRuns.{run_spent, run_pivots, run_pivots-wide}
 use Rattle.pip_solver.proofs.question.pay_for_pivot.Goals as goal

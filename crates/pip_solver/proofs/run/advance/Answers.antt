@@ -2,7 +2,7 @@ use Rattle.std.proofs.Common.{◌≡◌, ◌∙◌, ◌≤◌, ℕ, [], length, 
 use Rattle.std.specs.Prelude.{Ok}
 use Rattle.quast_trees.specs.Postfix.{standing, top}
 use Rattle.lexmin_runs.specs.Nodes.{leaf_tree, step}
-use Rattle.tableau_nodes.specs.Node.{node_of}
+use Rattle.pip_solver.specs.Node.{node_of}
 use Rattle.pip_solver.specs.declared.step.Next.TheVariants as next
 use Rattle.pip_solver.specs.Steps.{Steps}
 use Rattle.pip_solver.specs.Frames.{under}

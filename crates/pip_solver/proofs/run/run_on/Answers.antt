@@ -4,8 +4,8 @@ use Rattle.std.specs.declared.alloc.AllocError.{AllocError}
 use Rattle.quast_trees.specs.Postfix.{standing}
 use Rattle.quast_trees.specs.Tree.{Tree}
 use Rattle.lexmin_runs.specs.Nodes.{Counted, whole}
-use Rattle.tableau_nodes.specs.declared.node.Tableau.{Tableau}
-use Rattle.tableau_nodes.specs.Node.{node_of}
+use Rattle.pip_solver.specs.declared.node.Tableau.{Tableau}
+use Rattle.pip_solver.specs.Node.{node_of}
 use Rattle.pip_solver.specs.declared.run.Progress.TheVariants as progress
 use Rattle.pip_solver.specs.Frames.{under, Proceeds, Resumes}
 use Rattle.pip_solver.specs.Promises.{Tells}

@@ -6,7 +6,7 @@ use Rattle.wide_math.specs.declared.Wide.{Wide}
 use Rattle.wide_math.specs.Checked.{difference_of}
 use Rattle.whole_numbers.specs.Affine.{Affine, form_of}
 use Rattle.affine_forms.specs.Gives.{Gives}
-use Rattle.tableau_nodes.proofs.Tables.{written_whole}
+use Rattle.checked_tableau.proofs.Tables.{written_whole}
 use Rattle.pip_solver.proofs.PosedRows.{negated-err, negated-wide, negated-ok}
 use Rattle.pip_solver.proofs.system_rows.negated.Goals as goal
 

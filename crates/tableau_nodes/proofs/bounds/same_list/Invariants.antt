@@ -1,6 +1,0 @@
-use Rattle.std.proofs.Common.{◌≡◌, drop}
-use Rattle.checked_tableau.specs.Nodes.{same_list}
-use Rattle.tableau_nodes.proofs.bounds.same_list.Given as goal
-
-abbrev pub invariant-loop-at : goal.invariant-loop-at
-invariant-loop-at l = same_list (drop l.at l.xs) (drop l.at l.ys) ≡ same_list l.xs l.ys
