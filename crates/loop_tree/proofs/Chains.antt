@@ -3,13 +3,13 @@ use Rattle.std.proofs.Common.{◌≡◌, ◌+◌, ◌<◌, ℕ, suc, ℤ, List, 
 use Rattle.std.proofs.Common.{drop, set}
 use Rattle.std.proofs.lemmas.List.{append_assoc, drop-set}
 use Rattle.loop_tree.specs.declared.outer.Outer.{Outer}
-use Rattle.loop_tree.specs.declared.outer.Outer.TheVariants.{Top, Within, rolls-Top, rolls-Within}
+use Rattle.loop_tree.specs.declared.outer.Outer.TheVariants.{Row, Within, rolls-Row, rolls-Within}
 use Rattle.loop_tree.specs.declared.outer.Outer.TheFolds.{fold-roll-Outer}
 use Rattle.loop_tree.specs.declared.outer.Outer.TheOpen.{Outer-F}
 use Rattle.loop_tree.specs.steps.Chain.{chain_step, values_in}
 
-pub values_top : values_in Top ≡ []
-values_top = ap values_in (sym rolls-Top) ∙ fold-roll-Outer (List ℤ) chain_step Outer-F.Top
+pub values_row : (values : Bor (List ℤ)) → values_in (Row values) ≡ values.now
+values_row values = ap values_in (sym (rolls-Row values)) ∙ fold-roll-Outer (List ℤ) chain_step (Outer-F.Row values)
 
 pub values_within : (inner : Bor Outer) (x : ℤ) → values_in (Within inner x) ≡ values_in inner.now ++ x ∷ []
 values_within inner x =

@@ -1,12 +1,12 @@
 -- What is to come at a place of a tree's visits, node by node and value by value.
 use Rattle.std.proofs.Common.{◌≡◌, ℕ, zero, suc, ◌+◌, ◌≤◌, ◌<◌, Bool, true, false, ℤ, pos, List, [], ◌∷◌, ◌++◌, length}
 use Rattle.std.proofs.Common.{drop, get_or, replicate, map, ap, sym, subst, ◌∙◌, refl, arith, append-nil}
-use Rattle.std.proofs.Common.{inl, inr, drop_of_length-le}
+use Rattle.std.proofs.Common.{inl, inr, drop_of_length-le, take}
 use Rattle.std.specs.Prelude.{if◌then◌else◌, ◌+ℤ◌, ◌≤ℤ◌, ◌<ℤ◌, ◌⊎◌}
 use Rattle.std.specs.Int.Signed.{le_z}
 use Rattle.std.proofs.lemmas.Bool.{false≢true}
 use Rattle.std.proofs.lemmas.Int.{ints}
-use Rattle.loop_tree.specs.steps.Going.{CanGo, CanTurn, HasGone, HasTurned, restarted, rest_from}
+use Rattle.loop_tree.specs.steps.Going.{CanGo, CanTurn, HasGone, HasTurned, Leads, Within, restarted, rest_from}
 use Rattle.std.proofs.lemmas.List.{map-append, append_assoc, length-map}
 use Rattle.loop_tree.specs.SpotView.{mark_of, marks_of}
 use Rattle.loop_tree.specs.declared.spot.Mark.{Mark as CodeMark}
@@ -426,3 +426,86 @@ loop_ended flag lo up body x z ms params outer past each at =
     by (inr out) =
         let h : le_z x last ≡ false = grind (arith, ints) in
         rw h refl
+
+-- a loop that was begun and is not behind its last value
+pub within_loop : (nodes : List Node) (k : ℕ) (node : Node) (begun : Bool) (x z : ℤ) (flag : Bool) (lo up : Bounds)
+    (body : Trees) → node ≡ get_or nodes k node → k < length nodes → tree_of node ≡ loop flag lo up body → begun ≡ true
+    → x ≤ℤ z → Within (nodes_of nodes) (mark k begun x z) x body
+within_loop nodes k node false x z flag lo up body found h is b inside = absurd (false≢true b)
+within_loop nodes k node true x z flag lo up body found h is b inside =
+    record {
+      can = λ ms params outer go.
+          let there = here ms params outer go in
+          go_turn body ms x (upper up (outer ++ params)) params outer (go_loop flag lo up body true x z ms params outer
+          there) (within ms params outer there);
+      lifts = λ ms new found params outer go gone.
+          let there = here ms params outer go in
+          let room = there.room in
+          let last = begun_last flag lo up body true x z ms params outer there.stands refl in
+          let turned = turned_within body ms new x (upper up (outer ++ params)) found params outer
+          (within ms params outer there) gone in
+          gone_node nodes k node true x z ms true x z new found params outer found_at h
+          (subst (λ (t : Tree). HasGone (more t none) (mark zero true x z ∷ ms) (mark zero true x z ∷ new) found params
+          outer) (sym is) (gone_loop flag lo up body true x z ms true x z new found params outer (omega (arith, room))
+          gone.room refl last there.stands turned));
+    }
+  where
+    found_at : node ≡ get_or nodes k node
+    found_at = found
+
+    here : (ms : List Mark) (params outer : List ℤ) → CanGo (nodes_of nodes) (mark k true x z ∷ ms) params outer
+        → CanGo (more (loop flag lo up body) none) (mark zero true x z ∷ ms) params outer
+    here ms params outer go =
+        subst (λ (t : Tree). CanGo (more t none) (mark zero true x z ∷ ms) params outer) is
+        (go_node nodes k node true x z ms params outer found_at h go)
+
+    within : (ms : List Mark) (params outer : List ℤ)
+        → CanGo (more (loop flag lo up body) none) (mark zero true x z ∷ ms) params outer
+        → x ≤ℤ upper up (outer ++ params)
+    within ms params outer go =
+        subst (λ (y : ℤ). x ≤ℤ y) (begun_last flag lo up body true x z ms params outer go.stands refl) inside
+
+take_more : (k : ℕ) (ms : List Mark) (m : Mark) (rest new : List Mark) → drop k ms ≡ m ∷ rest
+    → take k ms ++ m ∷ new ≡ take (suc k) ms ++ new
+take_more zero [] m rest new h = let l = ap (λ (ns : List Mark). length ns) h in absurd (omega (arith, l))
+take_more zero (n ∷ ms) m rest new h = ap (λ (a : Mark). a ∷ new) (sym (ap (λ (ns : List Mark). get_or ns 0 m) h))
+take_more (suc k) [] m rest new h = let l = ap (λ (ns : List Mark). length ns) h in absurd (omega (arith, l))
+take_more (suc k) (n ∷ ms) m rest new h = ap (λ (ns : List Mark). n ∷ ns) (take_more k ms m rest new h)
+
+pub leads_all : (ts : Trees) (ms : List Mark) (params values : List ℤ) → values ≡ [] → CanGo ts ms params []
+    → Leads ts ms params ts 0 values
+leads_all ts ms params values empty can =
+    subst (λ (vs : List ℤ). Leads ts ms params ts 0 vs) (sym empty) (record { can = can; lifts = λ new found gone. gone })
+
+-- one loop further in
+pub leads_within : (ts us body : Trees) (ms : List Mark) (params values : List ℤ) (k : ℕ) (m : Mark) (x : ℤ)
+    → drop k ms ≡ m ∷ drop (suc k) ms → Within us m x body → Leads ts ms params us k values
+    → Leads ts ms params body (suc k) (values ++ x ∷ [])
+leads_within ts us body ms params values k m x is within leads =
+    let inner = drop (suc k) ms in
+    let can : CanGo us (m ∷ inner) params values =
+    subst (λ (ns : List Mark). CanGo us ns params values) is leads.can in
+    record {
+      can = within.can inner params values can;
+      lifts = λ new found gone.
+          subst (λ (ns : List Mark). HasGone ts ms ns found params []) (take_more k ms m inner new is)
+          (leads.lifts (m ∷ new) found
+          (subst (λ (ns : List Mark). HasGone us ns (m ∷ new) found params values) (sym is)
+          (within.lifts inner new found params values can gone)));
+    }
+
+-- the marks from one on begin with it
+pub marks_here : (ms : List CodeMark) (k : ℕ) (other m : CodeMark) → m ≡ get_or ms k other → k < length ms
+    → drop k (marks_of ms) ≡ mark_of m ∷ drop (suc k) (marks_of ms)
+marks_here [] k other m is h = absurd (omega arith)
+marks_here (n ∷ ms) zero other m is h = ap (λ (a : CodeMark). mark_of a ∷ marks_of ms) (sym is)
+marks_here (n ∷ ms) (suc k) other m is h = marks_here ms k other m is (omega arith)
+
+-- the same nodes, with the values of another row that begins alike
+pub leads_moved : (ts : Trees) (ms : List Mark) (params row new : List ℤ) (us vs : List Node) (k n : ℕ) → vs ≡ us
+    → n ≡ k → take n new ≡ take n row → Leads ts ms params (nodes_of us) k (take k row)
+    → Leads ts ms params (nodes_of vs) n (take n new)
+leads_moved ts ms params row new us vs k n nodes depth alike leads =
+    subst (λ (values : List ℤ). Leads ts ms params (nodes_of vs) n values) (sym alike)
+    (subst (λ (j : ℕ). Leads ts ms params (nodes_of vs) j (take j row)) (sym depth)
+    (subst (λ (ns : List Node). Leads ts ms params (nodes_of ns) k (take k row)) (sym nodes) leads))

@@ -9,10 +9,10 @@ ghost use Rattle.loop_tree.specs.steps.Chain.{values_at, values_in};
 
 use scop_syntax::tree::Aff;
 
-/// The values of the loops round a node: none, or those round a loop and the loop's own.
+/// The values of the loops round a node: all in a row, or those round a loop and the loop's own.
 #[derive(Drop)]
 pub enum Outer<'a> {
-    Top,
+    Row(&'a [i128]),
     Within(&'a Outer<'a>, i128),
 }
 
@@ -89,10 +89,7 @@ fn outer_part<'a>(outer: &Outer, coefficients: &'a [i64]) -> Part<'a>
     ensures rest { result.rest.now ≡ drop (length (values_in outer.now)) coefficients.now }
 {
     match outer {
-        Outer::Top => Part {
-            sum: 0,
-            rest: coefficients,
-        },
+        Outer::Row(values) => with_row(0, coefficients, values),
         Outer::Within(inner, value) => {
             let part = outer_part(inner, coefficients);
             with_entry(part.sum, part.rest, *value)
@@ -100,18 +97,25 @@ fn outer_part<'a>(outer: &Outer, coefficients: &'a [i64]) -> Part<'a>
     }
 }
 
-/// The numbers behind the first ones, of which there is one for each of these loops.
+/// The numbers behind so many.
 #[inline]
+fn behind_some(numbers: &[i64], count: usize) -> &[i64]
+    ensures { result.now ≡ drop count numbers.now }
+{
+    if numbers.len() <= count {
+        return &[];
+    }
+    numbers.split_at(count).1
+}
+
+/// The numbers behind the first ones, of which there is one for each of these loops.
 pub(crate) fn behind<'a>(outer: &Outer, numbers: &'a [i64]) -> &'a [i64]
     ensures { result.now ≡ drop (length (values_in outer.now)) numbers.now }
 {
-    let mut at = outer;
-    let mut rest = numbers;
-    while let Outer::Within(inner, _) = at {
-        rest = behind_first(rest);
-        at = inner;
+    match outer {
+        Outer::Row(values) => behind_some(numbers, values.len()),
+        Outer::Within(inner, _) => behind_first(behind(inner, numbers)),
     }
-    rest
 }
 
 /// Lays values of innermost loops into a row, as many as it has room for.

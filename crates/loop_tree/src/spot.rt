@@ -41,7 +41,8 @@ ghost use Rattle.loop_tree.specs.Walk.{all_hold as tests_hold, lower, upper, vis
 use crate::braid::Braid;
 use crate::ending::is_ended;
 use crate::guards::plus;
-use crate::outer::Outer;
+use crate::near::near_of;
+use crate::outer::{MOST_IN_ROW, Outer};
 use crate::passing::pass_more;
 use crate::ranges::{all_hold, range_at};
 use crate::stretch::Stretch;
@@ -386,6 +387,29 @@ fn next_within(
     next_of(body, deeper, &within, params, stretch, braid)
 }
 
+/// The next instance of nodes from the innermost loop with values left on; none where the search has to begin further
+/// out.
+fn next_near(
+    nodes: &[Node],
+    marks: &mut [Mark],
+    params: &[i64],
+    stretch: &mut Stretch,
+    braid: &mut Braid,
+) -> bool
+    requires go { CanGo (nodes_of nodes.now) (marks_of marks.old) params.now [] }
+    requires spent { IsSpent stretch.old braid.old }
+    ensures gone { HasGone (nodes_of nodes.now) (marks_of marks.old) (marks_of marks.new)
+        (shown_in result stretch.new braid.new) params.now [] }
+    ensures ready { result ≡ false → IsSpent stretch.new braid.new }
+    ensures held { result ≡ true → CanPass stretch.new braid.new }
+{
+    let mut row = [0; MOST_IN_ROW];
+    let near = near_of(nodes, marks, &mut row);
+    let (_, inner) = marks.split_at_mut(near.depth);
+    let outer = Outer::Row(row.split_at(near.depth).0);
+    next_of(near.nodes, inner, &outer, params, stretch, braid)
+}
+
 impl Spot {
     /// The place before the first instance of `tree`, whatever the parameters.
     ///
@@ -418,10 +442,14 @@ impl Spot {
         ensures spot { IsSpotOf (nodes_of nodes.now) params.now self.new }
     {
         let marks = self.marks.as_mut_slice();
+        if next_near(nodes, marks, params, &mut self.stretch, &mut self.braid) {
+            return Some(self.stretch.before);
+        }
+        let marks = self.marks.as_mut_slice();
         if next_of(
             nodes,
             marks,
-            &Outer::Top,
+            &Outer::Row(&[]),
             params,
             &mut self.stretch,
             &mut self.braid,

@@ -148,6 +148,6 @@ impl Tree {
         ensures { (l : List PlainInstance) → V.stands visitor.old l
             → V.stands visitor.new (l ++ visits (trees_in self.now) params.now) }
     {
-        walk_nodes(self.nodes.as_slice(), &Outer::Top, params, visitor);
+        walk_nodes(self.nodes.as_slice(), &Outer::Row(&[]), params, visitor);
     }
 }

@@ -7,7 +7,7 @@ use Rattle.loop_tree.specs.declared.outer.Point.{Point}
 
 -- one loop of the chain, over the values of those round it
 abbrev pub chain_step : Outer-F (List ℤ) → List ℤ
-chain_step Outer-F.Top = []
+chain_step (Outer-F.Row values) = values.now
 chain_step (Outer-F.Within inner value) = inner.now ++ value ∷ []
 
 -- the values of the chain's loops, outermost first

@@ -1,5 +1,6 @@
 -- What goes on between two places of a tree's visits.
-use Rattle.std.specs.Prelude.{◌≡◌, ◌≤◌, ◌+ℤ◌, ◌≤ℤ◌, zero, false, ℤ, pos, List, [], ◌∷◌, ◌++◌, length, if◌then◌else◌}
+use Rattle.std.specs.Prelude.{◌≡◌, ◌≤◌, ◌+ℤ◌, ◌≤ℤ◌, ℕ, zero, false, ℤ, pos, List, [], ◌∷◌, ◌++◌, length}
+use Rattle.std.specs.Prelude.{drop, take, if◌then◌else◌}
 use Rattle.std.specs.Int.Signed.{le_z}
 use Rattle.scop_syntax.specs.Walk.{Instance}
 use Rattle.loop_tree.specs.Conditions.{CanWalk}
@@ -46,3 +47,16 @@ alone (mark k begun x z) ms = mark zero begun x z ∷ ms
 abbrev pub restarted : List Mark → List Mark
 restarted [] = []
 restarted (m ∷ ms) = mark zero false (pos 0) (pos 0) ∷ ms
+
+-- these trees stand in loops of these values, k marks further in, and what goes on there goes on in all
+pub record Leads (ts : Trees) (ms : List Mark) (params : List ℤ) (us : Trees) (k : ℕ) (values : List ℤ) : Type 0 where
+  pub can : CanGo us (drop k ms) params values
+  pub lifts : (new : List Mark) (found : List Instance) → HasGone us (drop k ms) new found params values
+      → HasGone ts ms (take k ms ++ new) found params []
+
+-- a mark that stands within a loop's value, and what goes on there goes on at the mark
+pub record Within (us : Trees) (m : Mark) (x : ℤ) (body : Trees) : Type 0 where
+  pub can : (ms : List Mark) (params outer : List ℤ) → CanGo us (m ∷ ms) params outer
+      → CanGo body ms params (outer ++ x ∷ [])
+  pub lifts : (ms new : List Mark) (found : List Instance) (params outer : List ℤ) → CanGo us (m ∷ ms) params outer
+      → HasGone body ms new found params (outer ++ x ∷ []) → HasGone us (m ∷ ms) (m ∷ new) found params outer

@@ -5,12 +5,11 @@ use Rattle.std.specs.Prelude.{◌+ℤ◌, FitsSigned}
 use Rattle.std.specs.Int.{w128}
 use Rattle.std.proofs.lemmas.Int.{to_z-of_z}
 use Rattle.whole_numbers.specs.Lists.{dot}
-use Rattle.whole_numbers.proofs.Dot.{dot-nil}
 use Rattle.whole_numbers.proofs.Ring.{add_zero_left}
 use Rattle.whole_numbers.proofs.Lists.{dot-split}
 use Rattle.loop_tree.specs.steps.Chain.{values_in}
 use Rattle.loop_tree.specs.Fits.{SumsFit}
-use Rattle.loop_tree.proofs.Chains.{values_top, values_within}
+use Rattle.loop_tree.proofs.Chains.{values_row, values_within}
 use Rattle.loop_tree.proofs.Products.{drop_parts, fits_back, fits_front}
 use Rattle.loop_tree.proofs.outer.+outer_part.Goals as goal
 
@@ -44,10 +43,23 @@ with_entry-requires t c =
     subst (λ (n : ℤ). SumsFit n part.rest.now (to_z w128 (of_z w128 x) ∷ [])) (sym (to_z-of_z w128 part.sum fits_sum))
     (subst (λ (y : ℤ). SumsFit part.sum part.rest.now (y ∷ [])) (sym (to_z-of_z w128 x fits_value)) whole)
 
-pub returns-in-Top-clause-sum : goal.returns-in-Top-clause-sum
-returns-in-Top-clause-sum t c =
+pub with_row-requires : goal.with_row-requires
+with_row-requires t c =
+    subst (λ (xs : List ℤ). SumsFit (pos 0) c.args.coefficients.now xs)
+    (ap values_in c.in-Row.is ∙ values_row c.in-Row.values) c.requires
+
+pub returns-in-Row-clause-sum : goal.returns-in-Row-clause-sum
+returns-in-Row-clause-sum t c =
     let cs = c.args.coefficients.now in
-    sym (ap (λ (xs : List ℤ). dot cs xs) (ap values_in c.in-Top.is ∙ values_top) ∙ dot-nil cs)
+    c.with_row.ensures.sum
+    ∙ (add_zero_left (dot cs c.in-Row.values.now)
+    ∙ ap (λ (xs : List ℤ). dot cs xs) (sym (ap values_in c.in-Row.is ∙ values_row c.in-Row.values)))
+
+pub returns-in-Row-clause-rest : goal.returns-in-Row-clause-rest
+returns-in-Row-clause-rest t c =
+    c.with_row.ensures.rest
+    ∙ ap (λ (xs : List ℤ). drop (length xs) c.args.coefficients.now)
+    (sym (ap values_in c.in-Row.is ∙ values_row c.in-Row.values))
 
 pub returns-in-Within-clause-sum : goal.returns-in-Within-clause-sum
 returns-in-Within-clause-sum t c =
