@@ -2,3 +2,4 @@ pub mod Precedence
 pub mod SortedLists
 mod Commutation
 mod SameContents
+mod CoverOrders

@@ -1,6 +1,7 @@
--- Other orders of a list of visits, and those that keep its conflicts.
-use Rattle.std.specs.Prelude.{◌≡◌, ◌≢◌, ◌↔◌, ◌⊎◌, ℕ, List, [], ◌∷◌}
+-- Other orders of a list of visits, and those that keep its conflicts or its covers.
+use Rattle.std.specs.Prelude.{◌≡◌, ◌≢◌, ◌↔◌, ◌⊎◌, ℕ, List, [], ◌∷◌, slice_get, Some}
 use Rattle.scop_syntax.specs.Cells.{PlacesConflict}
+use Rattle.scop_syntax.specs.Covers.{Cover}
 use Rattle.scop_syntax.specs.Members.{In, Sorted}
 use Rattle.scop_syntax.specs.Walk.{Visit}
 
@@ -22,3 +23,9 @@ pub record IsOrderOf {A : Type 0} (order xs : List A) : Type 0 where
 abbrev pub KeepsConflicts : List Visit → List Visit → Type 0
 KeepsConflicts visits order =
     (i j : ℕ) (c : PlacesConflict visits i j) → StandsBefore order c.earlier c.later
+
+-- of each two places of which the second covers the first, the earlier one's visit stands before the later one's
+abbrev pub KeepsCovers : List Visit → List Visit → Type 0
+KeepsCovers visits order =
+    (i j : ℕ) (v w : Visit) → slice_get visits i ≡ Some v → slice_get visits j ≡ Some w → Cover visits i j
+    → StandsBefore order v w

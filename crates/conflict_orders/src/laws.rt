@@ -3,8 +3,9 @@ ghost use Rattle.std.specs.Prelude.{◌≡◌, ℕ, ℤ, List};
 ghost use Rattle.scop_syntax.specs.Execution.{AreInside, IsInside, IsShaped, exec, layout, performed_all};
 ghost use Rattle.scop_syntax.specs.Tree.{Program};
 ghost use Rattle.scop_syntax.specs.Walk.{Visit, walk_of};
-ghost use Rattle.conflict_orders.specs.Orders.{AreDistinct, IsOrderOf, KeepsConflicts};
+ghost use Rattle.conflict_orders.specs.Orders.{AreDistinct, IsOrderOf, KeepsConflicts, KeepsCovers};
 
+use scop_syntax::cover_laws::conflicts_are_chains_of_covers;
 use scop_syntax::walk_laws::walks_are_in_order;
 
 /// Visits that are made in another order, each once, leave the same contents, where of each two places that conflict the
@@ -24,4 +25,12 @@ pub fn orders_of_walks_end_as_they_do()
 {
     orders_that_keep_conflicts_end_alike();
     walks_are_in_order();
+}
+
+/// An order that has each visit once and keeps the covers keeps the conflicts.
+pub fn orders_that_keep_covers_keep_conflicts()
+    ensures { (visits order : List Visit) → AreDistinct order → KeepsCovers visits order
+        → KeepsConflicts visits order }
+{
+    conflicts_are_chains_of_covers();
 }

@@ -16,5 +16,6 @@ pub mod Numbers
 pub mod Bounds
 pub mod Values
 pub mod Conflicts
+pub mod Covers
 pub mod WrappedSums
 pub mod FallingLoop

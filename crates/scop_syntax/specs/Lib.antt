@@ -9,6 +9,7 @@ pub mod Cells
 pub mod Values
 pub mod Execution
 pub mod Writers
+pub mod Covers
 pub mod Acts
 pub mod Limits
 pub mod Failures

@@ -6,6 +6,7 @@
 
 pub mod affine_values;
 pub mod arrays;
+pub mod cover_laws;
 mod examples;
 pub mod execution_laws;
 pub mod failure_laws;

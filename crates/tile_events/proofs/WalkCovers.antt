@@ -8,6 +8,7 @@ use Rattle.std.proofs.lemmas.Option.{slice_get_within}
 use Rattle.scop_syntax.specs.Walk.{Visit}
 use Rattle.scop_syntax.specs.Tree.{Access}
 use Rattle.scop_syntax.specs.Cells.{Cell, cell_of, cell_at, reads, accesses, written}
+use Rattle.scop_syntax.specs.Covers.{Cover}
 use Rattle.scop_syntax.specs.Members.{In}
 use Rattle.scop_syntax.specs.Execution.{cell_number, IsCell, AreInside}
 use Rattle.scop_syntax.specs.Writers.{writes, last_writer, next_writer, last_of}
@@ -16,7 +17,7 @@ use Rattle.scop_syntax.proofs.Writers.{same_cells, last_is, none_writes, next_is
 use Rattle.scop_syntax.proofs.Writers.{writer_of}
 use Rattle.tile_events.specs.Plan.{Plan}
 use Rattle.tile_events.specs.Flat.{IsWalk, written_by, read_by}
-use Rattle.tile_events.specs.Covers.{AreFree, Meet, Covers, IsCover}
+use Rattle.tile_events.specs.Covers.{AreFree, Meet, Covers}
 
 module _ (es contents : List (List ℕ)) (visits : List Visit) (p : Plan)
     (apart : (c d : Cell) → IsCell es c → IsCell es d → cell_number es c ≡ cell_number es d → c ≡ d)
@@ -96,7 +97,7 @@ module _ (es contents : List (List ℕ)) (visits : List Visit) (p : Plan)
       let r = place_of (reads v.body) a.0 a.1 in (r.0, a.0, r.1, n.2 ∙ ap (cell_number es) a.2)
 
   -- from numbers to visits
-  pub to_cover : (i j : ℕ) → Covers p i j → IsCover visits i j
+  pub to_cover : (i j : ℕ) → Covers p i j → Cover visits i j
   to_cover i j c = by_kind c.meet
     where
       vi : (v : Visit) × (slice_get visits i ≡ Some v)
@@ -116,7 +117,7 @@ module _ (es contents : List (List ℕ)) (visits : List Visit) (p : Plan)
           (number_writes i (cell_of access vj.0.point) less_i (access_inside j a vj.0 access vj.1 at) (wrote ∙ is))
           (free_of_numbers i j (cell_of access vj.0.point) (subst (AreFree p i j) is c.free))
 
-      by_kind : Meet p i j c.cell → IsCover visits i j
+      by_kind : Meet p i j c.cell → Cover visits i j
       by_kind (inl (w, inl v)) =
           inl (0, last 0 vj.0.body.place refl (sym v ∙ at_place j vj.0 vj.1) w)
       by_kind (inl (w, inr h)) = let r = read_of j c.cell vj.0 vj.1 h in inl (suc r.0, last (suc r.0) r.1 r.2 r.3 w)
@@ -166,7 +167,7 @@ module _ (es contents : List (List ℕ)) (visits : List Visit) (p : Plan)
       (in_map (λ access. cell_of access v.point) access (reads v.body) (in_from_place (reads v.body) r access at)))
 
   -- and from visits to numbers
-  pub from_cover : (i j : ℕ) → IsCover visits i j → Covers p i j
+  pub from_cover : (i j : ℕ) → Cover visits i j → Covers p i j
   from_cover i j (inl (a, h)) =
       let s = some_cell (cell_at visits j a) (last_writer visits j) i h in
       let f = found_access j a s.0 s.1 in

@@ -1,8 +1,6 @@
 -- Which places stand directly behind one another at some cell, and the pairs of tiles that hold such places.
-use Rattle.std.specs.Prelude.{◌≡◌, ℕ, suc, ◌<◌, ◌≢◌, ◌⊎◌, List, [], ◌∷◌, Some}
+use Rattle.std.specs.Prelude.{◌≡◌, ℕ, ◌<◌, ◌≢◌, ◌⊎◌, List, [], ◌∷◌}
 use Rattle.scop_syntax.specs.Members.{In}
-use Rattle.scop_syntax.specs.Walk.{Visit}
-use Rattle.scop_syntax.specs.Writers.{last_of, next_of}
 use Rattle.tile_events.specs.Plan.{Plan}
 use Rattle.tile_events.specs.Releases.{Edges, Leads}
 
@@ -34,9 +32,3 @@ pub record ArePairsOf (p : Plan) (e : Edges) : Type 0 where
   pub apart : (t u : ℕ) → Leads p e t u → t ≢ u
   pub covers : (t u : ℕ) → Leads p e t u → (i : ℕ) × (j : ℕ) × (p.tile i ≡ t) × (p.tile j ≡ u) × Covers p i j
   pub all : (i j : ℕ) → Covers p i j → p.tile i ≢ p.tile j → Leads p e (p.tile i) (p.tile j)
-
--- the same of two visits of a walk: the last write of a cell before an access of the later, or the next write of a cell
--- behind a read of the earlier
-abbrev pub IsCover : List Visit → ℕ → ℕ → Type 0
-IsCover visits i j =
-    ((a : ℕ) × (last_of visits j a ≡ Some i)) ⊎ ((r : ℕ) × (next_of visits i (suc r) ≡ Some j))

@@ -2,9 +2,10 @@
 ghost use Rattle.std.specs.Prelude.{◌≡◌, ℕ, ◌≤◌, Bool, List, [], length, map, slice_get, slice_index_or, Some, false};
 ghost use Rattle.scop_syntax.specs.Walk.{Visit};
 ghost use Rattle.scop_syntax.specs.Cells.{Cell, Conflict, cell_of};
+ghost use Rattle.scop_syntax.specs.Covers.{Cover};
 ghost use Rattle.scop_syntax.specs.Execution.{AreInside, IsCell, IsShaped, before_place, cell_number, held};
 ghost use Rattle.scop_syntax.specs.Execution.{performed_all, value_stored_by};
-ghost use Rattle.tile_events.specs.Covers.{Covers, IsCover};
+ghost use Rattle.tile_events.specs.Covers.{Covers};
 ghost use Rattle.tile_events.specs.DonePlaces.{HasNoWriter, IsLastWriter};
 ghost use Rattle.tile_events.specs.Flat.{AreMarked, IsWalk, flat, is_marked, loads};
 ghost use Rattle.tile_events.specs.Plan.{Plan, Touch, before, values_read, words_of};
@@ -53,7 +54,7 @@ pub fn cells_hold_what_is_done()
 pub fn covers_are_those_of_the_walk()
     ensures { (extents contents : List (List ℕ)) (visits : List Visit) (p : Plan)
         → IsWalk extents contents [] visits p → AreInside extents visits → p.places ≡ length visits → (i j : ℕ)
-        → (Covers p i j → IsCover visits i j) × (IsCover visits i j → Covers p i j) }
+        → (Covers p i j → Cover visits i j) × (Cover visits i j → Covers p i j) }
 {
     cells_have_numbers_of_their_own();
 }
