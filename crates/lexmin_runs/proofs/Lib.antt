@@ -10,3 +10,5 @@ pub mod Trees
 pub mod SingleLeaf
 pub mod Steps
 pub mod Emptiness
+pub mod BoundSigns
+pub mod TurnNumbers

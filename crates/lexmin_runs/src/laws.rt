@@ -7,6 +7,7 @@ ghost use Rattle.lexmin_runs.specs.Emptiness.{empty_run, IsBoundedPoint, HasBoun
 ghost use Rattle.tableau_rows.specs.Problem.{IsPoint, problem_of, row_values, Speaks};
 ghost use Rattle.tableau_rows.specs.Run.{Stop};
 ghost use Rattle.quast_trees.specs.Tree.{Tree, LeavesHave, Speaks as TreeSpeaks};
+ghost use Rattle.quast_trees.specs.Turns.{BindsUp, CanTell};
 ghost use Rattle.quast_trees.specs.Value.{value};
 ghost use Rattle.lexmin_runs.specs.Leaves.{IsAnswer, IsOneLeaf};
 ghost use Rattle.lexmin_runs.specs.Nodes as next;
@@ -36,6 +37,30 @@ pub fn trees_are_right()
         → Speaks m context
         → lexmin_run budget m (problem_of n rows) context ≡ Ok (tree, left)
         → LeavesHave n tree }
+{}
+
+/// Where the run of a problem with parameters ends, no quotient that its tree binds is negative at a point of the
+/// context.
+pub fn binds_are_not_negative()
+    ensures { (budget n m : ℕ) (rows context : List Affine) (tree : Tree) (left : ℕ)
+        → Speaks (n + m) rows
+        → Speaks m context
+        → lexmin_run budget m (problem_of n rows) context ≡ Ok (tree, left)
+        → (p : List ℤ)
+        → length p ≡ m
+        → NotNegative p
+        → NotNegative (row_values context p)
+        → BindsUp tree p }
+{}
+
+/// 128 bits hold the numbers of the rows by which the turns of a run's tree are told: the run formed the opposite of each
+/// test, and the two rows that tie each quotient.
+pub fn turns_of_runs_can_be_told()
+    ensures { (budget n m : ℕ) (rows context : List Affine) (tree : Tree) (left : ℕ)
+        → Speaks (n + m) rows
+        → Speaks m context
+        → lexmin_run budget m (problem_of n rows) context ≡ Ok (tree, left)
+        → CanTell tree }
 {}
 
 /// Without parameters no node splits, and no cut or leaf binds one: the tree of a run is one leaf.

@@ -6,6 +6,7 @@
 mod laws;
 
 pub use laws::{
-    emptiness_is_answered_right, runs_begin_with_their_problem, runs_go_on_by_steps,
-    steps_keep_the_solutions, trees_are_right, trees_without_parameters_are_leaves,
+    binds_are_not_negative, emptiness_is_answered_right, runs_begin_with_their_problem,
+    runs_go_on_by_steps, steps_keep_the_solutions, trees_are_right,
+    trees_without_parameters_are_leaves, turns_of_runs_can_be_told,
 };

@@ -6,3 +6,5 @@ pub mod JoinForms
 pub mod Chains
 pub mod Steps
 pub mod Marks
+pub mod JoinSigns
+pub mod JoinTurns

@@ -33,7 +33,7 @@ dot-shifted (suc n) k (c ∷ cs) (x ∷ point) middle rest h g =
     ap (λ (z : ℤ). (c *ℤ x) +ℤ z) (dot-shifted n k cs point middle rest (omega arith) g)
 
 -- so a form has the same value
-value-shifted : (n k : ℕ) (f : Affine) (point middle rest : List ℤ) → length point ≡ n → length middle ≡ k
+pub value-shifted : (n k : ℕ) (f : Affine) (point middle rest : List ℤ) → length point ≡ n → length middle ≡ k
     → value_of (shifted_form n k f) (point ++ (middle ++ rest)) ≡ value_of f (point ++ rest)
 value-shifted n k f point middle rest h g =
     ap (λ (z : ℤ). z +ℤ f.constant) (dot-shifted n k f.coefficients point middle rest h g)

@@ -4,9 +4,11 @@ ghost use Rattle.std.specs.Prelude.{◌≡◌, ℕ, ℤ, pos, ◌+◌, ◌+ℤ�
 ghost use Rattle.whole_numbers.specs.Affine.{Affine};
 ghost use Rattle.quast_trees.specs.Tree.{Tree, count, Speaks};
 ghost use Rattle.quast_trees.specs.Postfix.{written};
+ghost use Rattle.quast_trees.specs.Turns.{BindsUp, CanTell};
 ghost use Rattle.quast_trees.specs.Value.{value};
 ghost use Rattle.quast_joins.specs.Ways.{chosen};
 ghost use Rattle.quast_joins.specs.Joins.{join, test_of, join_from};
+ghost use Rattle.quast_joins.specs.Limits.{leaf_limit};
 ghost use Rattle.quast_joins.specs.Counts.{join_count, HasForms, join_node, capped};
 ghost use Rattle.quast_joins.specs.Sizes.{IsWithin, AreWithin, IsFormWithin, LeavesWithin};
 ghost use Rattle.quast_joins.specs.Steps.{Placed_node, paired, depths, from_last, depths_of, steps, join_step};
@@ -36,6 +38,19 @@ pub fn tests_are_small()
         × IsWithin ((bound +ℤ bound) +ℤ pos 1) (test_of way f g).constant }
     ensures leaves { (way : Way) (bound : ℤ) (n : ℕ) (a b : Tree) → pos 0 ≤ℤ bound → LeavesWithin bound a
         → LeavesWithin bound b → LeavesWithin bound (join way n a b) }
+{}
+
+/// Where no quotient that two trees bind on the way of a point is negative, none is that their join binds there.
+pub fn joins_keep_the_signs_of_binds()
+    ensures { (way : Way) (n : ℕ) (a b : Tree) (point : List ℤ) → length point ≡ n → Speaks n a → BindsUp a point
+        → BindsUp b point → BindsUp (join way n a b) point }
+{}
+
+/// 128 bits hold the numbers by which a join's turns are told, where they hold those of its sides, and the numbers of its
+/// sides' leaves are within the limit.
+pub fn joins_can_be_told()
+    ensures { (way : Way) (n : ℕ) (a b : Tree) → LeavesWithin leaf_limit a → LeavesWithin leaf_limit b → CanTell a
+        → CanTell b → CanTell (join way n a b) }
 {}
 
 /// Made node by node on a stack of trees, with the number of binds round each node, the join stands on top; and those

@@ -3,7 +3,10 @@
 #![tactic(auto)]
 
 pub use join::{earlier_of, later_of};
-pub use laws::{joins_are_built, joins_are_counted, joins_choose, tests_are_small};
+pub use laws::{
+    joins_are_built, joins_are_counted, joins_can_be_told, joins_choose,
+    joins_keep_the_signs_of_binds, tests_are_small,
+};
 pub use way::{JoinStop, Way};
 
 mod binds;

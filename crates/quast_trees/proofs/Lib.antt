@@ -9,3 +9,8 @@ pub mod MappedTrees
 pub mod NamedTrees
 pub mod TreeStack
 pub mod PlaceNodes
+pub mod HeldNumbers
+pub mod MappedTurns
+pub mod LeafPaths
+pub mod LivePaths
+pub mod FoundPaths

@@ -7,3 +7,6 @@ pub mod Value
 pub mod Mapped
 pub mod Place
 pub mod Shows
+pub mod Turns
+pub mod Paths
+pub mod steps

@@ -6,12 +6,15 @@
 
 pub use builder::Builder;
 pub use laws::{
-    binds_divide, binds_round_down, branches_test_the_sign, maps_keep_the_points,
+    answers_are_leaves, answers_are_live_leaves, binds_divide, binds_round_down,
+    blocked_paths_have_no_point, bound_quotients_are_not_negative, branches_test_the_sign,
+    mapped_trees_can_be_told, mapped_trees_keep_the_signs_of_binds, maps_keep_the_points,
     nodes_are_read_as_their_tree, runs_are_exact, tests_may_be_scaled,
 };
 pub use leaf::Leaf;
 pub use naming::copied_source;
 pub use node::{Forms, Node, Source};
+pub use paths::{Path, Turn};
 pub use place::{Part, Place};
 pub use quast::Quast;
 
@@ -24,6 +27,7 @@ mod leaf;
 mod map;
 mod naming;
 mod node;
+mod paths;
 mod place;
 mod quast;
 mod value;
