@@ -19,7 +19,7 @@ use Rattle.farkas.specs.declared.layout.Layout.{Layout}
 use Rattle.iteration_domains.specs.Dependence.{IsOne}
 use Rattle.farkas.specs.Unknowns.{behind, places, layout_of, coefficients_of, shift_of, bounds_of}
 use Rattle.farkas.specs.Claims.{target_factor, source_factor, bound_factor, claimed, only, iterators, parameters}
-use Rattle.farkas.specs.Claims.{linear, constant}
+use Rattle.farkas.specs.Claims.{linear, constant, nones}
 use Rattle.farkas.specs.Meaning.{phi}
 
 -- where the unknowns stand
@@ -125,32 +125,48 @@ parameters_value n i k (suc count) xs h =
     (parameters_value n (suc i) k count xs (omega arith))
 
 -- all coefficients
-pub linear_sized : (claim : Claim) (source target : DepEnd) (p : ℕ)
-    → All (λ l. length l ≡ (layout_of p source target).unknowns) (linear claim source target p)
+nones_sized : (n b : ℕ) → All (λ l. length l ≡ n) (nones n b)
+nones_sized n zero = All-nil (λ l. length l ≡ n)
+nones_sized n (suc b) = All-cons (λ l. length l ≡ n) (zeros n) (nones n b) (length-zeros n) (nones_sized n b)
+
+pub nones_length : (n b : ℕ) → length (nones n b) ≡ b
+nones_length n zero = refl
+nones_length n (suc b) = ap suc (nones_length n b)
+
+nones_value : (n b : ℕ) (xs : List ℤ) → map (λ l. dot l xs) (nones n b) ≡ zeros b
+nones_value n zero xs = refl
+nones_value n (suc b) xs = ap₂ (λ (z : ℤ) (zs : List ℤ). z ∷ zs) (dot-zeros n xs) (nones_value n b xs)
+
+pub linear_sized : (claim : Claim) (source target : DepEnd) (b p : ℕ)
+    → All (λ l. length l ≡ (layout_of p source target).unknowns) (linear claim source target b p)
 unfolding linear
-linear_sized claim source target p =
+linear_sized claim source target b p =
     let l = layout_of p source target in
     let n = l.unknowns in
     let first = iterators n l.source (source_factor claim) source.loops in
     let second = iterators n l.target (target_factor claim) target.loops in
-    let third = parameters n 0 (bound_factor claim) p in
+    let last = parameters n 0 (bound_factor claim) p in
+    let third = nones n b ++ last in
     All-append (λ l. length l ≡ n) first (second ++ third) (iterators_sized n l.source (source_factor claim)
     source.loops)
     (All-append (λ l. length l ≡ n) second third (iterators_sized n l.target (target_factor claim) target.loops)
-    (parameters_sized n 0 (bound_factor claim) p))
+    (All-append (λ l. length l ≡ n) (nones n b) last (nones_sized n b) (parameters_sized n 0 (bound_factor claim) p)))
 
-pub linear_length : (claim : Claim) (source target : DepEnd) (p : ℕ)
-    → length (linear claim source target p) ≡ source.loops + target.loops + p
+pub linear_length : (claim : Claim) (source target : DepEnd) (b p : ℕ)
+    → length (linear claim source target b p) ≡ source.loops + target.loops + b + p
 unfolding linear
-linear_length claim source target p =
+linear_length claim source target b p =
     let l = layout_of p source target in
     let n = l.unknowns in
     let first = iterators n l.source (source_factor claim) source.loops in
     let second = iterators n l.target (target_factor claim) target.loops in
-    let third = parameters n 0 (bound_factor claim) p in
+    let last = parameters n 0 (bound_factor claim) p in
+    let third = nones n b ++ last in
     let a = iterators_length n l.source (source_factor claim) source.loops in
-    let b = iterators_length n l.target (target_factor claim) target.loops in
+    let g = iterators_length n l.target (target_factor claim) target.loops in
     let c = parameters_length n 0 (bound_factor claim) p in
+    let f = length-append (nones n b) last in
+    let h = nones_length n b in
     let d = length-append first (second ++ third) in
     let e = length-append second third in
     omega arith
@@ -232,25 +248,28 @@ constant_value claim source target p l xs false same f h =
     (target_factor claim) xs f.bound f.source_inside f.target_inside f.source_behind f.target_behind (f.two h)
 
 -- the form whose numbers have these factors is the claimed one
-pub claimed_is : (claim : Claim) (source target : DepEnd) (p : ℕ) (xs : List ℤ) → IsOne source target
-    → form_at (linear claim source target p) (constant claim source target p) xs ≡ claimed claim source target p xs
+pub claimed_is : (claim : Claim) (source target : DepEnd) (b p : ℕ) (xs : List ℤ) → IsOne source target
+    → form_at (linear claim source target b p) (constant claim source target p) xs
+    ≡ claimed claim source target b p xs
 unfolding linear constant claimed
-claimed_is claim source target p xs same =
+claimed_is claim source target b p xs same =
     let l = layout_of p source target in
     let n = l.unknowns in
     let f = facts p source target l refl same in
     let value : List ℤ → ℤ = λ z. dot z xs in
     let first = iterators n l.source (source_factor claim) source.loops in
     let second = iterators n l.target (target_factor claim) target.loops in
-    let third = parameters n 0 (bound_factor claim) p in
+    let last = parameters n 0 (bound_factor claim) p in
+    let third = nones n b ++ last in
     let inside = f.source_inside in
     let within = f.target_inside in
     let low = f.bound in
     let a = iterators_value n l.source (source_factor claim) source.loops xs (omega arith) in
-    let b = iterators_value n l.target (target_factor claim) target.loops xs (omega arith) in
-    let c = parameters_value n 0 (bound_factor claim) p xs (omega arith) in
+    let g = iterators_value n l.target (target_factor claim) target.loops xs (omega arith) in
+    let c = map-append value (nones n b) last ∙ ap₂ (λ (ys zs : List ℤ). ys ++ zs) (nones_value n b xs)
+    (parameters_value n 0 (bound_factor claim) p xs (omega arith)) in
     let coefficients = map-append value first (second ++ third)
-    ∙ ap₂ (λ (ys zs : List ℤ). ys ++ zs) a (map-append value second third ∙ ap₂ (λ (ys zs : List ℤ). ys ++ zs) b c) in
+    ∙ ap₂ (λ (ys zs : List ℤ). ys ++ zs) a (map-append value second third ∙ ap₂ (λ (ys zs : List ℤ). ys ++ zs) g c) in
     ap₂ (λ (ys : List ℤ) (z : ℤ). form_of ys z) coefficients
     (constant_value claim source target p l xs (nat_eq source.statement target.statement) same f refl)
 
@@ -259,14 +278,14 @@ coefficients_length : (xs : List ℤ) (first loops : ℕ) → length (coefficien
 coefficients_length xs first zero = refl
 coefficients_length xs first (suc loops) = ap suc (coefficients_length xs first loops)
 
-pub claimed_value : (claim : Claim) (source target : DepEnd) (p : ℕ) (xs i j q : List ℤ) → length i ≡ source.loops
-    → length j ≡ target.loops
-    → value_of (claimed claim source target p xs) (i ++ (j ++ q))
+pub claimed_value : (claim : Claim) (source target : DepEnd) (b p : ℕ) (xs i j r q : List ℤ)
+    → length i ≡ source.loops → length j ≡ target.loops → length r ≡ b
+    → value_of (claimed claim source target b p xs) (i ++ (j ++ (r ++ q)))
     ≡ (bound_factor claim *ℤ (dot (bounds_of xs 0 p) q +ℤ get_or xs p (pos 0)))
     +ℤ ((source_factor claim *ℤ phi xs (layout_of p source target).source source.loops i)
     +ℤ (target_factor claim *ℤ phi xs (layout_of p source target).target target.loops j))
 unfolding claimed
-claimed_value claim source target p xs i j q hi hj =
+claimed_value claim source target b p xs i j r q hi hj hr =
     let l = layout_of p source target in
     let cs = coefficients_of xs l.source source.loops in
     let ct = coefficients_of xs l.target target.loops in
@@ -278,8 +297,11 @@ claimed_value claim source target p xs i j q hi hj =
     let size_t = coefficients_length xs l.target target.loops in
     let long_s = length-multiples ks cs in
     let long_t = length-multiples kt ct in
-    let a = dot-append (multiples ks cs) (multiples kt ct ++ multiples kb u) i (j ++ q) (omega arith) in
-    let b = dot-append (multiples kt ct) (multiples kb u) j q (omega arith) in
+    let a = dot-append (multiples ks cs) (multiples kt ct ++ (zeros b ++ multiples kb u)) i (j ++ (r ++ q))
+    (omega arith) in
+    let k = dot-append (multiples kt ct) (zeros b ++ multiples kb u) j (r ++ q) (omega arith) in
+    let m = dot-append (zeros b) (multiples kb u) r q (omega (arith, length-zeros b)) in
+    let o = dot-zeros b r in
     let c = dot-multiples ks cs i in
     let d = dot-multiples kt ct j in
     let e = dot-multiples kb u q in

@@ -1,6 +1,6 @@
 -- Eliminations, one after another.
 use Rattle.std.proofs.Common.{◌≡◌, ℕ, suc, ◌+◌, ◌-◌, ◌<◌, List, sym, ◌∙◌, ap, ap₂, subst, arith}
-use Rattle.std.specs.Prelude.{Result, Ok, Err, IfOk}
+use Rattle.std.specs.Prelude.{◌≤◌, Result, Ok, Err, IfOk}
 use Rattle.whole_numbers.specs.Affine.{Affine}
 use Rattle.integer_sets.specs.Constraints.{Constraints, IsSized, system_of, variables_in}
 use Rattle.fm_projection.specs.declared.stop.FmStop.{FmStop}
@@ -9,6 +9,7 @@ use Rattle.farkas.specs.declared.claim.Claim.{Claim}
 use Rattle.iteration_domains.specs.declared.dep.DepEnd.{DepEnd}
 use Rattle.farkas.specs.declared.stuck.Stuck.TheVariants as stuck
 use Rattle.iteration_domains.specs.Dependence.{IsOne}
+use Rattle.iteration_domains.specs.Dependence.{binds_between}
 use Rattle.farkas.specs.Unknowns.{layout_of}
 use Rattle.farkas.specs.Claims.{linear, constant}
 use Rattle.farkas.specs.Matching.{matching_run, multipliers_of}
@@ -119,8 +120,8 @@ unfolding posed_run
 posed-shape claim source target s t h =
     let n = (layout_of s.parameters source target).unknowns in
     let k = multipliers_of s in
-    let c = then-ok (formed (matching_run (linear claim source target s.parameters) (constant claim source target
-    s.parameters) s))
+    let c = then-ok (formed (matching_run (linear claim source target (binds_between source target s) s.parameters)
+    (constant claim source target s.parameters) s))
     (λ (es : List Affine). Ok (posed n k es)) t h in
     let is : posed n k c.0 ≡ t = cc (c.2) in
     (sym (ap (λ (u : Constraints). u.dimensions) is), sym (ap (λ (u : Constraints). u.parameters) is))
@@ -152,7 +153,7 @@ follows-same budget (Err e) r q same h = halts-same budget e r q same h
 
 pub follows-farkas : (budget : ℕ) (claim : Claim) (source target : DepEnd) (s : Constraints)
     (result : Result Constraints stuck.the_data) → IsSized (variables_in s) s.equalities s.rows
-    → s.dimensions ≡ source.loops + target.loops → IsOne source target
+    → source.loops + target.loops ≤ s.dimensions → IsOne source target
     → Follows {X = Constraints} {Y = Constraints} (λ s. s) budget result (rows_run budget claim source target s)
     → IfOk result (IsFarkas claim source target s)
 follows-farkas budget claim source target s (Ok t) sized iterators one h =

@@ -1,5 +1,6 @@
 -- The matching is formed, part by part.
-use Rattle.std.proofs.Common.{◌≡◌, ℕ, suc, ◌+◌, List, ◌++◌, length, sym, ◌∙◌, ap, ap₂, subst, All, arith, append_assoc}
+use Rattle.std.proofs.Common.{◌≡◌, ℕ, suc, ◌+◌, ◌≤◌, List, ◌++◌, length, sym, ◌∙◌, ap, ap₂, subst, All, arith}
+use Rattle.std.proofs.Common.{append_assoc}
 use Rattle.std.specs.Prelude.{Result, Ok, Err}
 use Rattle.whole_numbers.specs.Affine.{Affine}
 use Rattle.wide_math.specs.declared.Wide.{Wide}
@@ -13,15 +14,17 @@ use Rattle.integer_sets.specs.Constraints.{Constraints, IsSized, system_of}
 use Rattle.farkas.specs.declared.claim.Claim.{Claim}
 use Rattle.iteration_domains.specs.declared.dep.DepEnd.{DepEnd}
 use Rattle.farkas.specs.declared.layout.Layout.{Layout}
+use Rattle.iteration_domains.specs.Dependence.{binds_between}
 use Rattle.farkas.specs.Unknowns.{layout_of}
-use Rattle.farkas.specs.Claims.{target_factor, source_factor, bound_factor, iterators, parameters, linear, constant}
+use Rattle.farkas.specs.Claims.{target_factor, source_factor, bound_factor, iterators, nones, parameters, linear}
+use Rattle.farkas.specs.Claims.{constant}
 use Rattle.farkas.specs.Matching.{coefficients_run, matching_run, multipliers_of}
 use Rattle.farkas.specs.Run.{◌>>◌, formed, posed, posed_run}
 use Rattle.farkas.specs.Gives.{with_more, Gains, Halts, stuck_of_form}
 use Rattle.farkas.specs.Meaning.{rows_of}
 use Rattle.farkas.proofs.Chains.{halts-then, halts-formed}
 use Rattle.farkas.proofs.Columns.{matching_is, multipliers_are, matched_sized, own_rows_speak}
-use Rattle.farkas.proofs.ClaimedForms.{linear_sized, constant_length, iterators_length}
+use Rattle.farkas.proofs.ClaimedForms.{linear_sized, constant_length, iterators_length, nones_length}
 use Rattle.farkas.proofs.Steps.{coefficients_append, with_more-ok}
 
 -- three runs, what they give put together
@@ -38,19 +41,22 @@ abbrev pub target_run : Claim → DepEnd → DepEnd → Layout → Constraints �
 target_run claim source target l s =
     coefficients_run source.loops (iterators l.unknowns l.target (target_factor claim) target.loops) s
 
-abbrev pub bound_run : Claim → Layout → Constraints → Result (List Affine) Wide
-bound_run claim l s = coefficients_run s.dimensions (parameters l.unknowns 0 (bound_factor claim) s.parameters) s
+abbrev pub bound_run : Claim → DepEnd → DepEnd → Layout → Constraints → Result (List Affine) Wide
+bound_run claim source target l s =
+    coefficients_run (source.loops + target.loops)
+    (nones l.unknowns (binds_between source target s) ++ parameters l.unknowns 0 (bound_factor claim) s.parameters) s
 
 pub linear_run : (claim : Claim) (source target : DepEnd) (l : Layout) (s : Constraints)
-    → l ≡ layout_of s.parameters source target → s.dimensions ≡ source.loops + target.loops
-    → coefficients_run 0 (linear claim source target s.parameters) s
-    ≡ together (source_run claim source l s) (target_run claim source target l s) (bound_run claim l s)
+    → l ≡ layout_of s.parameters source target → source.loops + target.loops ≤ s.dimensions
+    → coefficients_run 0 (linear claim source target (binds_between source target s) s.parameters) s
+    ≡ together (source_run claim source l s) (target_run claim source target l s) (bound_run claim source target l s)
 unfolding linear
 linear_run claim source target l s is dims =
     let m = layout_of s.parameters source target in
     let first = iterators m.unknowns m.source (source_factor claim) source.loops in
     let second = iterators m.unknowns m.target (target_factor claim) target.loops in
-    let third = parameters m.unknowns 0 (bound_factor claim) s.parameters in
+    let third = nones m.unknowns (binds_between source target s)
+    ++ parameters m.unknowns 0 (bound_factor claim) s.parameters in
     let a = coefficients_append 0 first (second ++ third) s in
     let b = coefficients_append source.loops second third s in
     let at : 0 + length first ≡ source.loops = omega (
@@ -58,7 +64,7 @@ linear_run claim source target l s is dims =
       iterators_length m.unknowns m.source (source_factor
           claim) source.loops,
     ) in
-    let behind : source.loops + length second ≡ s.dimensions =
+    let behind : source.loops + length second ≡ source.loops + target.loops =
     omega (arith, iterators_length m.unknowns m.target (target_factor claim) target.loops) in
     let whole = a
     ∙ ap (λ (i : ℕ). coefficients_run 0 first s >>= λ fs. coefficients_run i (second ++ third) s >>= λ gs. Ok (fs ++
@@ -67,7 +73,43 @@ linear_run claim source target l s is dims =
     ∙ ap (λ (i : ℕ). together (coefficients_run 0 first s) (coefficients_run source.loops second s) (coefficients_run
     i third s)) behind in
     subst (λ (k : Layout). coefficients_run 0 (first ++ (second ++ third)) s
-    ≡ together (source_run claim source k s) (target_run claim source target k s) (bound_run claim k s)) (sym is) whole
+    ≡ together (source_run claim source k s) (target_run claim source target k s) (bound_run claim source target k s))
+    (sym is) whole
+
+-- two runs, what they give put together
+abbrev pub both : Result (List Affine) Wide → Result (List Affine) Wide → Result (List Affine) Wide
+both a b = a >>= λ fs. b >>= λ gs. Ok (fs ++ gs)
+
+pub rest_run : (claim : Claim) (source target : DepEnd) (n : ℕ) (s : Constraints)
+    → source.loops + target.loops ≤ s.dimensions
+    → coefficients_run (source.loops + target.loops)
+    (nones n (binds_between source target s) ++ parameters n 0 (bound_factor claim) s.parameters) s
+    ≡ both (coefficients_run (source.loops + target.loops) (nones n (binds_between source target s)) s)
+    (coefficients_run s.dimensions (parameters n 0 (bound_factor claim) s.parameters) s)
+rest_run claim source target n s within =
+    let d = source.loops + target.loops in
+    let b = binds_between source target s in
+    let last = parameters n 0 (bound_factor claim) s.parameters in
+    let at : d + length (nones n b) ≡ s.dimensions = let k = nones_length n b in omega arith in
+    coefficients_append d (nones n b) last s
+    ∙ ap (λ (i : ℕ). both (coefficients_run d (nones n b) s) (coefficients_run i last s)) at
+
+pub fails-both : (stop : FormStop) (a b : Result (List Affine) Wide) → Fails stop a → Fails stop (both a b)
+fails-both (form_stop.Wide w) a b h = ap (λ (r : Result (List Affine) Wide). both r b) h
+fails-both form_stop.NoMemory a b h = tt
+
+pub gains-both : {U : Type 0} (old mid new : List Affine) (a b : Result (List Affine) Wide) (result : Result U FormStop)
+    → with_more old a ≡ Ok mid → Gains mid new result b → Gains old new result (both a b)
+gains-both old mid new a b (Ok x) first second =
+    let m = with_more-ok old mid a first in
+    let n = with_more-ok mid new b second in
+    ap₂ (λ (q r : Result (List Affine) Wide). with_more old (both q r)) m.1 n.1
+    ∙ ap (λ (fs : List Affine). Ok fs)
+    (sym (append_assoc old m.0 n.0) ∙ ap (λ (fs : List Affine). fs ++ n.0) (sym m.2) ∙ sym n.2)
+gains-both old mid new a b (Err (form_stop.Wide w)) first second =
+    let m = with_more-ok old mid a first in
+    ap₂ (λ (q r : Result (List Affine) Wide). both q r) m.1 second
+gains-both old mid new a b (Err form_stop.NoMemory) first second = tt
 
 pub fails-same : (stop : FormStop) (r q : Result (List Affine) Wide) → r ≡ q → Fails stop r → Fails stop q
 fails-same (form_stop.Wide w) r q same h = sym same ∙ h
@@ -114,26 +156,29 @@ gains-same old new r q (Err form_stop.NoMemory) same h = tt
 
 -- the posed system
 pub posed-halts : (budget : ℕ) (claim : Claim) (source target : DepEnd) (s : Constraints) (stop : FormStop)
-    → Fails stop (matching_run (linear claim source target s.parameters) (constant claim source target s.parameters) s)
+    → Fails stop (matching_run (linear claim source target (binds_between source target s) s.parameters)
+    (constant claim source target s.parameters) s)
     → Halts budget (stuck_of_form stop) (posed_run claim source target s)
 unfolding posed_run
 posed-halts budget claim source target s stop h =
-    let run = matching_run (linear claim source target s.parameters) (constant claim source target s.parameters) s in
+    let run = matching_run (linear claim source target (binds_between source target s) s.parameters)
+    (constant claim source target s.parameters) s in
     halts-then budget (stuck_of_form stop) (formed run)
     (λ (es : List Affine). Ok (posed (layout_of s.parameters source target).unknowns (multipliers_of s) es))
     (halts-formed budget stop run h)
 
 pub posed-sized : (claim : Claim) (source target : DepEnd) (s : Constraints) (es rows : List Affine) (n k all : ℕ)
     → n ≡ (layout_of s.parameters source target).unknowns → k ≡ multipliers_of s → all ≡ n + k
-    → matching_run (linear claim source target s.parameters) (constant claim source target s.parameters) s ≡ Ok es
+    → matching_run (linear claim source target (binds_between source target s) s.parameters)
+    (constant claim source target s.parameters) s ≡ Ok es
     → own_rows n k ≡ rows → IsSized (all + 0) es rows
 posed-sized claim source target s es rows n k all unknowns count total formed own =
-    let owns = linear claim source target s.parameters in
+    let owns = linear claim source target (binds_between source target s) s.parameters in
     let last = constant claim source target s.parameters in
     let size : n + k ≡ all + 0 = omega arith in
     let many : k ≡ suc (length (rows_of s)) = count ∙ multipliers_are s in
-    let each = subst (λ (m : ℕ). All (λ l. length l ≡ m) owns) (sym unknowns) (linear_sized claim source target
-    s.parameters) in
+    let each = subst (λ (m : ℕ). All (λ l. length l ≡ m) owns) (sym unknowns)
+    (linear_sized claim source target (binds_between source target s) s.parameters) in
     let matched = matched_sized n k 0 owns last (rows_of s) each (constant_length claim source target s.parameters ∙
     sym unknowns) many in
     record {
@@ -146,7 +191,8 @@ posed-sized claim source target s es rows n k all unknowns count total formed ow
 
 pub posed-gives : (claim : Claim) (source target : DepEnd) (s t : Constraints) (es rows : List Affine) (n k all : ℕ)
     → n ≡ (layout_of s.parameters source target).unknowns → k ≡ multipliers_of s → all ≡ n + k
-    → matching_run (linear claim source target s.parameters) (constant claim source target s.parameters) s ≡ Ok es
+    → matching_run (linear claim source target (binds_between source target s) s.parameters)
+    (constant claim source target s.parameters) s ≡ Ok es
     → own_rows n k ≡ rows → t ≡ system_of all 0 es rows → posed_run claim source target s ≡ Ok t
 unfolding posed_run
 posed-gives claim source target s t es rows n k all unknowns count total run own is =

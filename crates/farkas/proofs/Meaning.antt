@@ -21,6 +21,7 @@ use Rattle.farkas.specs.declared.claim.Claim.{Claim}
 use Rattle.farkas.specs.declared.claim.Claim.TheVariants.{Legality, Bounding}
 use Rattle.iteration_domains.specs.declared.dep.DepEnd.{DepEnd}
 use Rattle.iteration_domains.specs.Dependence.{IsOne}
+use Rattle.iteration_domains.specs.Dependence.{binds_between}
 use Rattle.farkas.specs.Unknowns.{layout_of, bounds_of}
 use Rattle.farkas.specs.Claims.{claimed, linear, constant, target_factor, source_factor, bound_factor}
 use Rattle.farkas.specs.Matching.{matching_run, multipliers_of}
@@ -56,7 +57,8 @@ rows_of_sized s sized =
 rows-left : (budget : ℕ) (claim : Claim) (source target : DepEnd) (s t : Constraints)
     → rows_run budget claim source target s ≡ Ok t
     → Leaves (layout_of s.parameters source target).unknowns (suc (length (rows_of s)))
-    (matched_from 0 (linear claim source target s.parameters) (constant claim source target s.parameters) (rows_of s))
+    (matched_from 0 (linear claim source target (binds_between source target s) s.parameters)
+    (constant claim source target s.parameters) (rows_of s))
     (own_rows (layout_of s.parameters source target).unknowns (suc (length (rows_of s)))) t.equalities t.rows
     × (t.dimensions ≡ (layout_of s.parameters source target).unknowns) × (t.parameters ≡ 0)
 unfolding rows_run posed_run
@@ -65,7 +67,8 @@ rows-left budget claim source target s t h =
     let n = (layout_of p source target).unknowns in
     let k = multipliers_of s in
     let count = suc (length (rows_of s)) in
-    let owns = linear claim source target p in
+    let r = binds_between source target s in
+    let owns = linear claim source target r p in
     let last = constant claim source target p in
     let a = then-ok (posed_run claim source target s) (λ (all : Constraints). left_run budget n k all) t h in
     let b = then-ok (formed (matching_run owns last s)) (λ (es : List Affine). Ok (posed n k es)) a.0 a.1 in
@@ -77,22 +80,23 @@ rows-left budget claim source target s t h =
     let run = subst (λ (j : ℕ). left_run budget n j (posed n j es) ≡ Ok t) many
     (subst (λ (u : Constraints). left_run budget n k u ≡ Ok t) all a.2) in
     left-leaves budget n count (posed n count es) t [] refl refl
-    (matched_sized n count 0 owns last (rows_of s) (linear_sized claim source target p) (constant_length claim source
+    (matched_sized n count 0 owns last (rows_of s) (linear_sized claim source target r p) (constant_length claim source
     target p) refl)
     (own_rows_speak n count (n + count) refl) (matched_homogeneous 0 owns last (rows_of s)) (own_rows_homogeneous n
     count)
     (sym (append-nil (own_rows n count))) run
 
 pub rows-farkas : (budget : ℕ) (claim : Claim) (source target : DepEnd) (s t : Constraints)
-    → IsSized (variables_in s) s.equalities s.rows → s.dimensions ≡ source.loops + target.loops → IsOne source target
+    → IsSized (variables_in s) s.equalities s.rows → source.loops + target.loops ≤ s.dimensions → IsOne source target
     → rows_run budget claim source target s ≡ Ok t → IsFarkas claim source target s t
 rows-farkas budget claim source target s t sized iterators one h =
     let p = s.parameters in
     let n = (layout_of p source target).unknowns in
-    let owns = linear claim source target p in
+    let r = binds_between source target s in
+    let owns = linear claim source target r p in
     let last = constant claim source target p in
     let left = rows-left budget claim source target s t h in
-    let many : variables_in s ≡ length owns = omega (arith, linear_length claim source target p) in
+    let many : variables_in s ≡ length owns = omega (arith, linear_length claim source target r p) in
     record {
       dimensions = left.1;
       parameters = left.2;
@@ -100,15 +104,15 @@ rows-farkas budget claim source target s t sized iterators one h =
           let is : length xs ≡ n = size ∙ left.1 in
           let leaves = subst (λ (m : ℕ). Leaves m (suc (length (rows_of s))) (matched_from 0 owns last (rows_of s))
           (own_rows m (suc (length (rows_of s)))) t.equalities t.rows) (sym is) left.0 in
-          let owns_sized = subst (λ (m : ℕ). All (λ l. length l ≡ m) owns) (sym is) (linear_sized claim source target
-          p) in
+          let owns_sized = subst (λ (m : ℕ). All (λ l. length l ≡ m) owns) (sym is)
+          (linear_sized claim source target r p) in
           let last_sized : length last ≡ length xs = constant_length claim source target p ∙ sym is in
           let rows_sized = subst (λ (m : ℕ). All (λ g. length g.coefficients ≤ m) (rows_of s)) many (rows_of_sized s
           sized) in
           let f = left_is_farkas owns last (rows_of s) t.equalities t.rows xs owns_sized last_sized rows_sized
           positive leaves in
           let g = subst (λ (form : Affine). HoldsOver t.equalities t.rows (pos 1) xs ↔ HasFarkas (rows_of s) form)
-          (claimed_is claim source target p xs one) f in
+          (claimed_is claim source target r p xs one) f in
           let w = whole_point t xs in
           (λ holds. g.0 (w.1 holds), λ identity. w.0 (g.1 identity));
     }
@@ -121,14 +125,16 @@ not_negative : (claim : Claim) (source target : DepEnd) (s t : Constraints) (xs 
     +ℤ (target_factor claim *ℤ phi xs (layout_of s.parameters source target).target target.loops j)))
 not_negative claim source target s t xs i j q farkas taken inside =
     let p = s.parameters in
-    let form = claimed claim source target p xs in
-    let point = i ++ (j ++ q) in
+    let b = binds_between source target s in
+    let form = claimed claim source target b p xs in
+    let point = i ++ (j ++ (inside.bound ++ q)) in
     let identity = (farkas.exact xs taken.0 taken.1).0 taken.2 in
     let least = farkas_of_system s.equalities s.rows form (pos 1) point identity (omega (arith, ints))
     ((whole_point s point).1 inside.inside) in
     subst (λ (z : ℤ). pos 0 ≤ℤ z)
     (value_over-one form point
-    ∙ claimed_value claim source target p xs i j q inside.source_iterators inside.target_iterators) least
+    ∙ claimed_value claim source target b p xs i j inside.bound q inside.source_iterators inside.target_iterators
+    inside.quotients) least
 
 pub farkas-keeps : (source target : DepEnd) (s t : Constraints) → IsFarkas Legality source target s t
     → Keeps source target s t

@@ -19,6 +19,7 @@ use Rattle.iteration_domains.specs.declared.dep.DepEnd.{DepEnd}
 use Rattle.farkas.specs.declared.claim.Claim.{Claim}
 use Rattle.farkas.specs.declared.claim.Claim.TheVariants.{Legality, Bounding}
 use Rattle.farkas.specs.declared.layout.Layout.{Layout}
+use Rattle.iteration_domains.specs.Dependence.{binds_between}
 use Rattle.farkas.specs.Unknowns.{behind, places, layout_of, coefficients_of, shift_of, bounds_of, Part, Unknowns}
 use Rattle.farkas.specs.Unknowns.{AreOf, part_numbers, numbers_of, Stands, Shows}
 use Rattle.farkas.specs.Claims.{claimed, distance, slack}
@@ -218,11 +219,11 @@ minus : (x : ℤ) → negsuc 0 *ℤ x ≡ pos 0 -ℤ x
 minus x = let a = mul_neg_left (pos 1) x in let b = mul_one_left x in omega (arith, ints)
 
 -- the claimed forms there
-distance_is : (p : ℕ) (source target : DepEnd) (x : Unknowns) (numbers : List ℤ) → AreOf p source target x
+distance_is : (b p : ℕ) (source target : DepEnd) (x : Unknowns) (numbers : List ℤ) → AreOf p source target x
     → Shows p source target (layout_of p source target) numbers x
-    → claimed Legality source target p numbers ≡ distance p x
+    → claimed Legality source target b p numbers ≡ distance b p x
 unfolding claimed
-distance_is p source target x numbers are h =
+distance_is q p source target x numbers are h =
     let k = x.source.shift in
     let l = x.target.shift in
     let w = get_or numbers p (pos 0) in
@@ -234,15 +235,15 @@ distance_is p source target x numbers are h =
     (ap₂ (λ (v vs : List ℤ). v ++ vs) (ap (multiples (negsuc 0)) h.source_part.coefficients)
     (ap₂ (λ (v vs : List ℤ). v ++ vs)
     (ap (multiples (pos 1)) h.target_part.coefficients ∙ multiples-one x.target.coefficients)
-    (ap (multiples (pos 0)) h.bounds ∙ nones x.u p are.bounds)))
+    (ap (λ (vs : List ℤ). zeros q ++ vs) (ap (multiples (pos 0)) h.bounds ∙ nones x.u p are.bounds))))
     (ap₂ (λ (y z : ℤ). (pos 0 *ℤ w) +ℤ ((negsuc 0 *ℤ y) +ℤ (pos 1 *ℤ z))) h.source_part.shift h.target_part.shift
     ∙ constant)
 
-slack_is : (p : ℕ) (source target : DepEnd) (x : Unknowns) (numbers : List ℤ)
+slack_is : (b p : ℕ) (source target : DepEnd) (x : Unknowns) (numbers : List ℤ)
     → Shows p source target (layout_of p source target) numbers x
-    → claimed Bounding source target p numbers ≡ slack x
+    → claimed Bounding source target b p numbers ≡ slack b x
 unfolding claimed
-slack_is p source target x numbers h =
+slack_is q p source target x numbers h =
     let k = x.source.shift in
     let l = x.target.shift in
     let a = mul_one_left x.w in
@@ -253,7 +254,7 @@ slack_is p source target x numbers h =
     (ap₂ (λ (v vs : List ℤ). v ++ vs)
     (ap (multiples (pos 1)) h.source_part.coefficients ∙ multiples-one x.source.coefficients)
     (ap₂ (λ (v vs : List ℤ). v ++ vs) (ap (multiples (negsuc 0)) h.target_part.coefficients)
-    (ap (multiples (pos 1)) h.bounds ∙ multiples-one x.u)))
+    (ap (λ (vs : List ℤ). zeros q ++ vs) (ap (multiples (pos 1)) h.bounds ∙ multiples-one x.u))))
     (ap (λ (z : ℤ). (pos 1 *ℤ z) +ℤ ((pos 1 *ℤ shift_of numbers (layout_of p source target).source source.loops)
     +ℤ (negsuc 0 *ℤ shift_of numbers (layout_of p source target).target target.loops))) h.bound
     ∙ ap₂ (λ (y z : ℤ). (pos 1 *ℤ x.w) +ℤ ((pos 1 *ℤ y) +ℤ (negsuc 0 *ℤ z))) h.source_part.shift h.target_part.shift
@@ -268,18 +269,21 @@ row_length claim source target s t x h are = (shows s.parameters source target x
 -- what the rows say of the unknowns
 pub legal_says : (source target : DepEnd) (s t : Constraints) (x : Unknowns) → IsFarkas Legality source target s t
     → AreOf s.parameters source target x → AreNotNegative (numbers_of source target x)
-    → Satisfies t (numbers_of source target x) ↔ HasFarkas (rows_of s) (distance s.parameters x)
+    → Satisfies t (numbers_of source target x) ↔ HasFarkas (rows_of s)
+    (distance (binds_between source target s) s.parameters x)
 legal_says source target s t x h are up =
     let numbers = numbers_of source target x in
     subst (λ (f : Affine). Satisfies t numbers ↔ HasFarkas (rows_of s) f)
-    (distance_is s.parameters source target x numbers are (shows s.parameters source target x are))
+    (distance_is (binds_between source target s) s.parameters source target x numbers are
+    (shows s.parameters source target x are))
     (h.exact numbers (row_length Legality source target s t x h are) up)
 
 pub bounded_says : (source target : DepEnd) (s t : Constraints) (x : Unknowns) → IsFarkas Bounding source target s t
     → AreOf s.parameters source target x → AreNotNegative (numbers_of source target x)
-    → Satisfies t (numbers_of source target x) ↔ HasFarkas (rows_of s) (slack x)
+    → Satisfies t (numbers_of source target x) ↔ HasFarkas (rows_of s) (slack (binds_between source target s) x)
 bounded_says source target s t x h are up =
     let numbers = numbers_of source target x in
     subst (λ (f : Affine). Satisfies t numbers ↔ HasFarkas (rows_of s) f)
-    (slack_is s.parameters source target x numbers (shows s.parameters source target x are))
+    (slack_is (binds_between source target s) s.parameters source target x numbers
+    (shows s.parameters source target x are))
     (h.exact numbers (row_length Bounding source target s t x h are) up)

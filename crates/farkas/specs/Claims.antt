@@ -26,30 +26,31 @@ abbrev pub bound_factor : Claim → ℤ
 bound_factor Legality = pos 0
 bound_factor Bounding = pos 1
 
--- the claimed form at given unknowns: over the source's iterators, the target's, and p parameters
-unfoldable pub claimed : Claim → DepEnd → DepEnd → ℕ → List ℤ → Affine
-claimed claim source target p unknowns =
+-- the claimed form at given unknowns: over the source's iterators, the target's, b quotients that are bound, which it
+-- does not speak of, and p parameters
+unfoldable pub claimed : Claim → DepEnd → DepEnd → ℕ → ℕ → List ℤ → Affine
+claimed claim source target b p unknowns =
     let places = layout_of p source target in
     form_of
     (multiples (source_factor claim) (coefficients_of unknowns places.source source.loops)
     ++ (multiples (target_factor claim) (coefficients_of unknowns places.target target.loops)
-    ++ multiples (bound_factor claim) (bounds_of unknowns 0 p)))
+    ++ (zeros b ++ multiples (bound_factor claim) (bounds_of unknowns 0 p))))
     ((bound_factor claim *ℤ get_or unknowns p (pos 0))
     +ℤ ((source_factor claim *ℤ shift_of unknowns places.source source.loops)
     +ℤ (target_factor claim *ℤ shift_of unknowns places.target target.loops)))
 
 -- The claimed forms of unknowns by name.
 
--- how much later the target comes, phi_T(t) - phi_S(s), over both's iterators and p parameters
-abbrev pub distance : ℕ → Unknowns → Affine
-distance p x =
-    form_of (multiples (negsuc 0) x.source.coefficients ++ (x.target.coefficients ++ zeros p))
+-- how much later the target comes, phi_T(t) - phi_S(s), over both's iterators, b quotients and p parameters
+abbrev pub distance : ℕ → ℕ → Unknowns → Affine
+distance b p x =
+    form_of (multiples (negsuc 0) x.source.coefficients ++ (x.target.coefficients ++ (zeros b ++ zeros p)))
     (x.target.shift -ℤ x.source.shift)
 
 -- what the bound leaves of it, u.n + w - (phi_T(t) - phi_S(s))
-abbrev pub slack : Unknowns → Affine
-slack x =
-    form_of (x.source.coefficients ++ (multiples (negsuc 0) x.target.coefficients ++ x.u))
+abbrev pub slack : ℕ → Unknowns → Affine
+slack b x =
+    form_of (x.source.coefficients ++ (multiples (negsuc 0) x.target.coefficients ++ (zeros b ++ x.u)))
     (x.w +ℤ (x.source.shift -ℤ x.target.shift))
 
 -- The claimed form's numbers as lists of factors of the unknowns.
@@ -63,18 +64,23 @@ abbrev pub iterators : ℕ → ℕ → ℤ → ℕ → List (List ℤ)
 iterators n first k zero = []
 iterators n first k (suc loops) = only n (first + loops) k ∷ iterators n first k loops
 
+-- those of bound quotients: none
+abbrev pub nones : ℕ → ℕ → List (List ℤ)
+nones n zero = []
+nones n (suc count) = zeros n ∷ nones n count
+
 -- those of the parameters from i on
 abbrev pub parameters : ℕ → ℕ → ℤ → ℕ → List (List ℤ)
 parameters n i k zero = []
 parameters n i k (suc count) = only n i k ∷ parameters n (suc i) k count
 
 -- those of all coefficients
-unfoldable pub linear : Claim → DepEnd → DepEnd → ℕ → List (List ℤ)
-linear claim source target p =
+unfoldable pub linear : Claim → DepEnd → DepEnd → ℕ → ℕ → List (List ℤ)
+linear claim source target b p =
     let places = layout_of p source target in
     iterators places.unknowns places.source (source_factor claim) source.loops
     ++ (iterators places.unknowns places.target (target_factor claim) target.loops
-    ++ parameters places.unknowns 0 (bound_factor claim) p)
+    ++ (nones places.unknowns b ++ parameters places.unknowns 0 (bound_factor claim) p))
 
 -- those of the constant; where source and target are one statement, its shift falls out
 unfoldable pub constant : Claim → DepEnd → DepEnd → ℕ → List ℤ

@@ -7,6 +7,7 @@ use Rattle.integer_sets.specs.Constraints.{Constraints}
 use Rattle.integer_sets.specs.Points.{Satisfies}
 use Rattle.farkas.specs.declared.claim.Claim.{Claim}
 use Rattle.iteration_domains.specs.declared.dep.DepEnd.{DepEnd}
+use Rattle.iteration_domains.specs.Dependence.{binds_between}
 use Rattle.farkas.specs.Unknowns.{layout_of, coefficients_of, shift_of, bounds_of}
 use Rattle.farkas.specs.Claims.{claimed}
 
@@ -25,18 +26,21 @@ pub record IsFarkas (claim : Claim) (source target : DepEnd) (s t : Constraints)
   pub dimensions : t.dimensions ≡ (layout_of s.parameters source target).unknowns
   pub parameters : t.parameters ≡ 0
   pub exact : (unknowns : List ℤ) → length unknowns ≡ t.dimensions → AreNotNegative unknowns
-      → Satisfies t unknowns ↔ HasFarkas (rows_of s) (claimed claim source target s.parameters unknowns)
+      → Satisfies t unknowns ↔ HasFarkas (rows_of s)
+      (claimed claim source target (binds_between source target s) s.parameters unknowns)
 
 -- the unknowns satisfy t
 abbrev pub IsTaken : Constraints → List ℤ → Type 0
 IsTaken t unknowns = (length unknowns ≡ t.dimensions) × AreNotNegative unknowns × Satisfies t unknowns
 
--- the source's iterators, the target's and the parameters are a point of a dependence
+-- the source's iterators, the target's and the parameters are a point of a dependence, with some bound quotients
 pub record IsInstance (source target : DepEnd) (s : Constraints) (i j p : List ℤ) : Type 0 where
   pub source_iterators : length i ≡ source.loops
   pub target_iterators : length j ≡ target.loops
   pub parameters : length p ≡ s.parameters
-  pub inside : Satisfies s (i ++ (j ++ p))
+  pub bound : List ℤ
+  pub quotients : length bound ≡ binds_between source target s
+  pub inside : Satisfies s (i ++ (j ++ (bound ++ p)))
 
 -- at each whole point of the dependence the target's row is not below the source's
 abbrev pub Keeps : DepEnd → DepEnd → Constraints → Constraints → Type 0

@@ -12,6 +12,7 @@ use Rattle.pip_solver.specs.Nodes.{Counted, opposite_run}
 use Rattle.pip_solver.specs.Emptiness.{empty_run}
 use Rattle.farkas.specs.declared.claim.Claim.{Claim}
 use Rattle.iteration_domains.specs.declared.dep.DepEnd.{DepEnd}
+use Rattle.iteration_domains.specs.Dependence.{binds_between}
 use Rattle.farkas.specs.Unknowns.{layout_of}
 use Rattle.farkas.specs.Claims.{linear, constant}
 use Rattle.farkas.specs.Matching.{matching_run, multipliers_of}
@@ -95,7 +96,8 @@ posed n k equalities = system_of (n + k) 0 equalities (own_rows n k)
 -- the matching of a claim's coefficients on a dependence
 unfoldable pub posed_run : Claim → DepEnd → DepEnd → Constraints → Result Constraints Halt
 posed_run claim source target s =
-    formed (matching_run (linear claim source target s.parameters) (constant claim source target s.parameters) s)
+    formed (matching_run (linear claim source target (binds_between source target s) s.parameters)
+    (constant claim source target s.parameters) s)
     >> λ equalities. Ok (posed (layout_of s.parameters source target).unknowns (multipliers_of s) equalities)
 
 -- the rows of a claim: what the matching leaves when m0 and the multipliers are eliminated in this order

@@ -6,6 +6,7 @@ ghost use Rattle.whole_numbers.specs.Lists.{dot};
 ghost use Rattle.fractions.specs.Farkas.{AreNotNegative, HasFarkas};
 ghost use Rattle.integer_sets.specs.Constraints.{Constraints};
 ghost use Rattle.integer_sets.specs.Points.{Satisfies};
+ghost use Rattle.iteration_domains.specs.Dependence.{binds_between};
 ghost use Rattle.farkas.specs.Unknowns.{layout_of, bounds_of, behind, places, Unknowns, AreOf, numbers_of, Shows};
 ghost use Rattle.farkas.specs.Claims.{claimed, target_factor, source_factor, bound_factor, distance, slack};
 ghost use Rattle.farkas.specs.Meaning.{phi, rows_of, IsFarkas};
@@ -18,10 +19,11 @@ use iteration_domains::DepEnd;
 /// each with its factor: so the legality form is the distance, and the bounding form what the bound leaves of it.
 #[tactic(auto, using(crate::proofs::ClaimedForms::value_laws))]
 pub fn claimed_forms_are_distances()
-    ensures { (claim : Claim) (source target : DepEnd) (p : ℕ) (unknowns i j q : List ℤ)
+    ensures { (claim : Claim) (source target : DepEnd) (b p : ℕ) (unknowns i j r q : List ℤ)
         → length i ≡ source.loops
         → length j ≡ target.loops
-        → value_of (claimed claim source target p unknowns) (i ++ (j ++ q))
+        → length r ≡ b
+        → value_of (claimed claim source target b p unknowns) (i ++ (j ++ (r ++ q)))
         ≡ (bound_factor claim *ℤ (dot (bounds_of unknowns 0 p) q +ℤ get_or unknowns p (pos 0)))
         +ℤ ((source_factor claim *ℤ phi unknowns (layout_of p source target).source source.loops i)
         +ℤ (target_factor claim *ℤ phi unknowns (layout_of p source target).target target.loops j)) }
@@ -50,9 +52,11 @@ pub fn rows_speak_of_the_layout()
     ensures legality { (source target : DepEnd) (s t : Constraints) (x : Unknowns)
         → IsFarkas Legality source target s t → AreOf s.parameters source target x
         → AreNotNegative (numbers_of source target x)
-        → Satisfies t (numbers_of source target x) ↔ HasFarkas (rows_of s) (distance s.parameters x) }
+        → Satisfies t (numbers_of source target x) ↔ HasFarkas (rows_of s)
+        (distance (binds_between source target s) s.parameters x) }
     ensures bounding { (source target : DepEnd) (s t : Constraints) (x : Unknowns)
         → IsFarkas Bounding source target s t → AreOf s.parameters source target x
         → AreNotNegative (numbers_of source target x)
-        → Satisfies t (numbers_of source target x) ↔ HasFarkas (rows_of s) (slack x) }
+        → Satisfies t (numbers_of source target x) ↔ HasFarkas (rows_of s)
+        (slack (binds_between source target s) x) }
 {}

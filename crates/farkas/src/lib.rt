@@ -4,7 +4,7 @@
 //! others, A practical automatic polyhedral parallelizer and locality optimizer, 2008).
 #![tactic(auto)]
 
-ghost use Rattle.std.specs.Prelude.{◌≡◌, ℕ, ◌+◌, IfOk};
+ghost use Rattle.std.specs.Prelude.{◌≡◌, ◌≤◌, ℕ, ◌+◌, IfOk};
 ghost use Rattle.std.specs.Option.{ForSome};
 ghost use Rattle.integer_sets.specs.Constraints.{IsSized, variables_in};
 ghost use Rattle.farkas.specs.Matching.{multipliers_of};
@@ -62,7 +62,7 @@ fn posed(
     layout: Layout,
 ) -> Result<System, Stuck>
     requires layout { layout ≡ layout_of system.now.parameters source target }
-    requires iterators { system.now.dimensions ≡ source.loops + target.loops }
+    requires iterators { source.loops + target.loops ≤ system.now.dimensions }
     requires one { IsOne source target }
     ensures run { (budget : ℕ) → Follows (λ s. s) budget result (posed_run claim source target system.now) }
     ensures sized { IfOk result (λ _. IsSized (variables_in system.now) system.now.equalities system.now.rows) }
@@ -99,7 +99,7 @@ fn rows_of(
     system: &System,
     budget: u64,
 ) -> Result<System, Stuck>
-    requires iterators { system.now.dimensions ≡ source.loops + target.loops }
+    requires iterators { source.loops + target.loops ≤ system.now.dimensions }
     requires one { IsOne source target }
     ensures run { Follows (λ s. s) budget result (rows_run budget claim source target system.now) }
     ensures farkas { IfOk result (IsFarkas claim source target system.now) }

@@ -1,14 +1,15 @@
 //! The matching of coefficients: an equality for each variable of a dependence and one for the constant, over the
 //! unknowns, `m0` and the multipliers.
 
-ghost use Rattle.std.specs.Prelude.{◌≡◌, ◌<◌, ◌≤◌, ◌+◌, ◌^◌, pos, All, IfOk, Ok, vec_len};
+ghost use Rattle.std.specs.Prelude.{◌≡◌, ◌<◌, ◌≤◌, ◌+◌, ◌++◌, ◌^◌, pos, All, IfOk, Ok, vec_len};
 ghost use Rattle.affine_forms.specs.Parts.{variables_of};
 ghost use Rattle.whole_numbers.specs.Affine.{form_of};
+ghost use Rattle.whole_numbers.specs.Lists.{zeros};
 ghost use Rattle.affine_forms.specs.Gives.{Gives};
 ghost use Rattle.integer_sets.specs.Constraints.{variables_in};
-ghost use Rattle.iteration_domains.specs.Dependence.{IsOne};
+ghost use Rattle.iteration_domains.specs.Dependence.{IsOne, binds_between};
 ghost use Rattle.farkas.specs.Unknowns.{layout_of};
-ghost use Rattle.farkas.specs.Claims.{only, iterators, parameters, linear, constant};
+ghost use Rattle.farkas.specs.Claims.{bound_factor, only, iterators, nones, parameters, linear, constant};
 ghost use Rattle.farkas.specs.Matching.{entry_of, HasEntry, equality_columns_run, row_columns_run, matched_run};
 ghost use Rattle.farkas.specs.Matching.{coefficients_run, matching_run};
 ghost use Rattle.farkas.specs.Gives.{Gains};
@@ -144,6 +145,22 @@ fn match_coefficient(
     }
 }
 
+/// The equality of a coefficient in which no unknown stands.
+fn match_none(
+    system: &System,
+    unknowns: usize,
+    variable: usize,
+    alloc: Global,
+) -> Result<Form, FormStop>
+    requires variable { variable < variables_in system.now }
+    ensures { Gives (λ f. f) result (matched_run (Coefficient variable) (zeros unknowns) (pos 0) system.now) }
+{
+    match Vec::from_elem(alloc, 0i128, unknowns) {
+        Err(_) => Err(FormStop::NoMemory),
+        Ok(own) => matched(alloc, own, 0, system, Entry::Coefficient(variable)),
+    }
+}
+
 /// Appends the equalities of a statement's iterators, from the outermost; their coefficients stand the other way.
 fn match_iterators(
     equalities: &mut Vec<Form>,
@@ -226,6 +243,57 @@ fn constant_factors(
     }
 }
 
+/// Appends the equalities of what is bound behind the turns of both ends, in which no unknown stands.
+fn match_nones(
+    equalities: &mut Vec<Form>,
+    system: &System,
+    unknowns: usize,
+    count: usize,
+    variable: usize,
+) -> Result<(), FormStop>
+    requires variable { variable + count ≤ variables_in system.now }
+    requires fits { variables_in system.now < 2 ^ 64 }
+    ensures { Gains equalities.old.items equalities.new.items result
+        (coefficients_run variable (nones unknowns count) system.now) }
+{
+    let alloc = *equalities.allocator();
+    for at in 0..count {
+        match match_none(system, unknowns, variable + at, alloc) {
+            Err(stop) => return Err(stop),
+            Ok(form) => match equalities.push(form) {
+                Err(_) => return Err(FormStop::NoMemory),
+                Ok(()) => {}
+            },
+        }
+    }
+    Ok(())
+}
+
+/// Appends the equalities of all that stands behind the turns of both ends.
+fn match_rest(
+    equalities: &mut Vec<Form>,
+    claim: Claim,
+    source: DepEnd,
+    target: DepEnd,
+    unknowns: usize,
+    system: &System,
+) -> Result<(), FormStop>
+    requires place { system.now.parameters ≤ unknowns }
+    requires iterators { source.loops + target.loops ≤ system.now.dimensions }
+    requires fits { variables_in system.now < 2 ^ 64 }
+    ensures { Gains equalities.old.items equalities.new.items result
+        (coefficients_run (source.loops + target.loops) (nones unknowns (binds_between source target system.now)
+        ++ parameters unknowns 0 (bound_factor claim) system.now.parameters) system.now) }
+{
+    let turns = source.loops + target.loops;
+    let count = system.dimensions() - turns;
+    match match_nones(equalities, system, unknowns, count, turns) {
+        Err(stop) => return Err(stop),
+        Ok(()) => {}
+    }
+    match_parameters(equalities, system, unknowns, claim.bound())
+}
+
 /// The equalities of all coefficients in order.
 #[tactic(auto, unfolding(crate::specs::Claims::linear))]
 fn match_coefficients(
@@ -238,10 +306,11 @@ fn match_coefficients(
 ) -> Result<(), FormStop>
     requires layout { layout ≡ layout_of system.now.parameters source target }
     requires one { IsOne source target }
-    requires iterators { system.now.dimensions ≡ source.loops + target.loops }
+    requires iterators { source.loops + target.loops ≤ system.now.dimensions }
     requires fits { variables_in system.now < 2 ^ 64 }
     ensures { Gains equalities.old.items equalities.new.items result
-        (coefficients_run 0 (linear claim source target system.now.parameters) system.now) }
+        (coefficients_run 0 (linear claim source target (binds_between source target system.now) system.now.parameters)
+        system.now) }
 {
     let unknowns = layout.unknowns;
     let factor = claim.source();
@@ -270,7 +339,7 @@ fn match_coefficients(
         Err(stop) => return Err(stop),
         Ok(()) => {}
     }
-    match_parameters(equalities, system, unknowns, claim.bound())
+    match_rest(equalities, claim, source, target, unknowns, system)
 }
 
 /// The equalities of all coefficients in order, then that of the constant.
@@ -285,9 +354,10 @@ pub fn matching(
 ) -> Result<Vec<Form>, FormStop>
     requires layout { layout ≡ layout_of system.now.parameters source target }
     requires one { IsOne source target }
-    requires iterators { system.now.dimensions ≡ source.loops + target.loops }
+    requires iterators { source.loops + target.loops ≤ system.now.dimensions }
     requires fits { variables_in system.now < 2 ^ 64 }
-    ensures { Gives (λ v. v.items) result (matching_run (linear claim source target system.now.parameters)
+    ensures { Gives (λ v. v.items) result (matching_run
+        (linear claim source target (binds_between source target system.now) system.now.parameters)
         (constant claim source target system.now.parameters) system.now) }
 {
     let mut equalities = Vec::new(alloc);

@@ -7,6 +7,8 @@ pub mod Standing
 pub mod Path
 pub mod Dependence
 pub mod Restrictions
+pub mod Related
+pub mod Held
 pub mod Outside
 pub mod steps
 -- Passed on: what this crate's contracts are told in.

@@ -1,5 +1,5 @@
-//! A dependence between two accesses: an ordered pair of them with a system over the turns of both instances and the
-//! parameters.
+//! A dependence between two accesses: an ordered pair of them with a system over the turns of both instances, quotients
+//! that are bound behind them, and the parameters.
 ghost use Rattle.std.specs.Prelude.{◌≡◌, ℤ, pos, ◌≤ℤ◌, List, ◌++◌, ◌∷◌, [], ◌↔◌, IfOk};
 ghost use Rattle.whole_numbers.specs.Affine.{value_of};
 ghost use Rattle.integer_sets.specs.Parts.{variables_of};
@@ -22,7 +22,8 @@ pub struct DepEnd {
 
 /// A dependence: its source runs before its target. `depth` is the loop, counted from 1 from the outermost, in whose
 /// turns they differ first; where no turn of their common loops differs it is 1 more than these.
-/// The system's dimensions are the source's turns, then the target's; one statement has one number of loops.
+/// The system's dimensions are the source's turns, then the target's, then quotients that are bound by its rows; one
+/// statement has one number of loops.
 #[derive(Drop)]
 pub struct Dep {
     pub source: DepEnd,

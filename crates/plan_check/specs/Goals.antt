@@ -1,12 +1,13 @@
 -- The goals of a dependence under a plan: systems none of which may have a whole point.
 use Rattle.std.specs.Prelude.{ℕ, zero, suc, ◌+◌, nat_lt, if◌then◌else◌, ℤ, pos, negsuc}
-use Rattle.std.specs.Prelude.{◌+ℤ◌, ◌-ℤ◌, ◌≤ℤ◌, List, [], ◌∷◌, ◌++◌, map, set, All}
+use Rattle.std.specs.Prelude.{◌+ℤ◌, ◌-ℤ◌, List, [], ◌∷◌, ◌++◌, map, set}
 use Rattle.std.specs.List.{flat_map}
 use Rattle.whole_numbers.specs.Affine.{Affine, form_of, complement, multiple_of_form}
 use Rattle.whole_numbers.specs.Lists.{multiples, zeros}
 use Rattle.integer_sets.specs.Constraints.{IsSized, variables_in}
 use Rattle.integer_sets.specs.Points.{Satisfies}
 use Rattle.iteration_domains.specs.Dependence.{Dependence}
+pub use Rattle.iteration_domains.specs.Related.{InRange}
 use Rattle.iteration_domains.specs.Restrictions.{equality_behind, row_behind}
 use Rattle.iteration_domains.specs.Model.{KernelModel}
 use Rattle.conflict_deps.specs.Conflicts.{conflicts_of}
@@ -79,10 +80,6 @@ goals_of m p d = leading_goals (bounded m d) p.leading (band_goals m (bounded m 
 
 abbrev pub goals_in : KernelModel → Plan → List Dependence
 goals_in model p = flat_map (goals_of model.parameters p) (conflicts_of model)
-
--- parameters in 0..=65536
-abbrev pub InRange : List ℤ → Type 0
-InRange params = All (λ p. (pos 0 ≤ℤ p) × (p ≤ℤ pos 65536)) params
 
 -- no whole point satisfies the goal
 abbrev pub HasNoPoint : Dependence → Type 0

@@ -9,6 +9,7 @@ use Rattle.iteration_domains.specs.declared.dep.DepEnd.{DepEnd}
 use Rattle.farkas.specs.declared.claim.Claim.{Claim}
 use Rattle.farkas.specs.declared.claim.Claim.TheVariants.{Legality, Bounding}
 use Rattle.farkas.specs.Unknowns.{Unknowns, AreOf, numbers_of}
+use Rattle.iteration_domains.specs.Dependence.{binds_between}
 use Rattle.farkas.specs.Claims.{distance, slack}
 use Rattle.farkas.specs.Meaning.{rows_of, IsFarkas}
 
@@ -20,11 +21,13 @@ pub record RowLaws : Type 0 where
   pub legality : (source target : DepEnd) (s t : Constraints) (x : Unknowns)
       → IsFarkas Legality source target s t → AreOf s.parameters source target x
       → AreNotNegative (numbers_of source target x)
-      → Satisfies t (numbers_of source target x) ↔ HasFarkas (rows_of s) (distance s.parameters x)
+      → Satisfies t (numbers_of source target x) ↔ HasFarkas (rows_of s)
+      (distance (binds_between source target s) s.parameters x)
   pub bounding : (source target : DepEnd) (s t : Constraints) (x : Unknowns)
       → IsFarkas Bounding source target s t → AreOf s.parameters source target x
       → AreNotNegative (numbers_of source target x)
-      → Satisfies t (numbers_of source target x) ↔ HasFarkas (rows_of s) (slack x)
+      → Satisfies t (numbers_of source target x) ↔ HasFarkas (rows_of s)
+      (slack (binds_between source target s) x)
 
 -- kernel vectors are as long as the rows
 abbrev pub VectorsAreLong : Type 0

@@ -24,6 +24,7 @@ use Rattle.null_space.specs.Narrowing.{Grows, sum_of_products}
 use Rattle.null_space.specs.Sizes.{AreLong}
 use Rattle.farkas.specs.Unknowns.{Part, AreOf, part_numbers}
 use Rattle.farkas.specs.Unknowns as unknowns
+use Rattle.iteration_domains.specs.Dependence.{binds_in}
 use Rattle.farkas.specs.Claims.{distance}
 use Rattle.schedule_rows.specs.Items.{Row, part_of, numbers_of}
 use Rattle.schedule_rows.specs.Dependences.{unknowns_of}
@@ -152,7 +153,8 @@ facts laws m loops x r h b s n =
       one = λ e. ap (λ (i : ℕ). part_of r i) e;
     } in
     let up = subst AreNotNegative same (not_negative d.source.statement d.target.statement r n) in
-    let legal = subst (λ (i : ℕ). Satisfies x.legal all ↔ HasFarkas (rows_of d.system) (distance i y)) b.parameters
+    let legal = subst (λ (i : ℕ). Satisfies x.legal all ↔ HasFarkas (rows_of d.system) (distance (binds_in d) i y))
+    b.parameters
     (laws.legality d.source d.target d.system x.legal y h.legal are up) in
     let bounded = laws.bounding d.source d.target d.system x.bounded y h.bounded are up in
     let legal_columns = laws.columns Legality d.source d.target d.system x.legal y h.legal are in

@@ -3,9 +3,10 @@ use Rattle.std.specs.Prelude.{Ok}
 use Rattle.std.specs.Int.{w128}
 use Rattle.std.proofs.lemmas.Int.{to_z-of_z}
 use Rattle.affine_forms.specs.Gives.{Fails}
-use Rattle.farkas.specs.Claims.{iterators, parameters, linear}
+use Rattle.iteration_domains.specs.Dependence.{binds_between}
+use Rattle.farkas.specs.Claims.{iterators, linear}
 use Rattle.farkas.specs.Matching.{coefficients_run}
-use Rattle.farkas.specs.Gives.{with_more, Gains}
+use Rattle.farkas.specs.Gives.{with_more}
 use Rattle.farkas.proofs.ClaimedForms.{facts}
 use Rattle.farkas.proofs.MatchingParts.{together, source_run, target_run, bound_run, linear_run, fails-same}
 use Rattle.farkas.proofs.MatchingParts.{fails-first, fails-second, gains-together, gains-same}
@@ -22,8 +23,8 @@ match_iterators-requires-2-clause-place c =
     let inside = (facts _ _ _ _ c.requires.layout c.requires.one).target_inside in
     omega arith
 
-pub match_parameters-requires-clause-place : goal.match_parameters-requires-clause-place
-match_parameters-requires-clause-place c =
+pub match_rest-requires-clause-place : goal.match_rest-requires-clause-place
+match_rest-requires-clause-place c =
     let inside = (facts _ _ _ _ c.requires.layout c.requires.one).bound in
     omega arith
 
@@ -46,13 +47,13 @@ returns-in-Err c =
     let fits : FitsSigned w128 c.source-factor.result = search rules in
     let first = source_run claim c.args.source l s in
     let second = target_run claim c.args.source c.args.target l s in
-    let third = bound_run claim l s in
+    let third = bound_run claim c.args.source c.args.target l s in
     let told = simp to_z-of_z at c.in-Err.ensures in
     let failed = subst (λ (k : ℤ). Fails c.in-Err.stop (coefficients_run 0 (iterators l.unknowns l.source k
     c.args.source.loops) s))
     c.source-factor.ensures told in
-    fails-same c.in-Err.stop (together first second third) (coefficients_run 0 (linear claim c.args.source
-    c.args.target s.parameters) s)
+    fails-same c.in-Err.stop (together first second third) (coefficients_run 0 (linear claim c.args.source c.args.target
+    (binds_between c.args.source c.args.target s) s.parameters) s)
     (sym (linear_run claim c.args.source c.args.target l s c.requires.layout c.requires.iterators))
     (fails-first c.in-Err.stop first second third failed)
 
@@ -65,13 +66,13 @@ returns-in-Err-match_iterators c =
     let fits : FitsSigned w128 c.target-factor.result = search rules in
     let first = source_run claim c.args.source l s in
     let second = target_run claim c.args.source c.args.target l s in
-    let third = bound_run claim l s in
+    let third = bound_run claim c.args.source c.args.target l s in
     let told = simp to_z-of_z at c.in-Err-match_iterators.ensures in
     let failed = subst (λ (k : ℤ). Fails stop (coefficients_run c.args.source.loops (iterators l.unknowns l.target k
     c.args.target.loops) s))
     c.target-factor.ensures told in
     fails-same stop (together first second third) (coefficients_run 0 (linear claim c.args.source c.args.target
-    s.parameters) s)
+    (binds_between c.args.source c.args.target s) s.parameters) s)
     (sym (linear_run claim c.args.source c.args.target l s c.requires.layout c.requires.iterators))
     (fails-second stop c.args.equalities.now.items c.match_iterators.new.equalities.items first second third
     (formed (goal.at.returns-in-Err-match_iterators c).In-Ok) failed)
@@ -84,22 +85,18 @@ returns c =
     let old = c.args.equalities.now.items in
     let mid = c.match_iterators.new.equalities.items in
     let late = c.match_iterators-2.new.equalities.items in
-    let new = c.match_parameters.new.equalities.items in
-    let result = c.match_parameters.result in
+    let new = c.match_rest.new.equalities.items in
+    let result = c.match_rest.result in
     let fits : FitsSigned w128 c.target-factor.result = search rules in
-    let fits_b : FitsSigned w128 c.bound.result = search rules in
     let first = source_run claim c.args.source l s in
     let second = target_run claim c.args.source c.args.target l s in
-    let third = bound_run claim l s in
+    let third = bound_run claim c.args.source c.args.target l s in
     let given = simp to_z-of_z at c.in-Ok-match_iterators.ensures in
     let gives = subst (λ (k : ℤ). with_more mid (coefficients_run c.args.source.loops (iterators l.unknowns l.target k
     c.args.target.loops) s) ≡ Ok late)
     c.target-factor.ensures given in
-    let given_b = simp to_z-of_z at c.match_parameters.ensures in
-    let gives_b = subst (λ (k : ℤ). Gains late new result (coefficients_run s.dimensions (parameters l.unknowns 0 k
-    s.parameters) s))
-    c.bound.ensures given_b in
     gains-same old new (together first second third) (coefficients_run 0 (linear claim c.args.source c.args.target
-    s.parameters) s) result
+    (binds_between c.args.source c.args.target s) s.parameters) s) result
     (sym (linear_run claim c.args.source c.args.target l s c.requires.layout c.requires.iterators))
-    (gains-together old mid late new first second third result (formed (goal.at.returns c).In-Ok) gives gives_b)
+    (gains-together old mid late new first second third result (formed (goal.at.returns c).In-Ok) gives
+    c.match_rest.ensures)
