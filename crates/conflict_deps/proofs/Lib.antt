@@ -5,3 +5,4 @@ pub mod Sources
 pub mod Shapes
 pub mod GatheredDependences
 pub mod Parts
+pub mod RelatedPairs

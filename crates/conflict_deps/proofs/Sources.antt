@@ -1,5 +1,6 @@
--- The earlier writers of the cell that an access touches are the points of the systems from writes to that access.
-use Rattle.std.proofs.Common.{◌≡◌, ℕ, ◌<◌, ◌≤◌, true, false, ℤ, List, length, Option, Some, inl, ap, ap₂, subst}
+-- The earlier writers of the cell that an access touches are the points of the systems from writes to that access, the
+-- later ones those from that access to writes.
+use Rattle.std.proofs.Common.{◌≡◌, ℕ, ◌<◌, ◌≤◌, true, false, ℤ, List, length, Option, Some, inl, inr, ap, ap₂, subst}
 use Rattle.std.proofs.Common.{sym, ◌∙◌, refl, arith}
 use Rattle.std.specs.Prelude.{slice_get}
 use Rattle.whole_numbers.specs.Lists.{NotNegative}
@@ -10,7 +11,7 @@ use Rattle.scop_syntax.specs.Writers.{writes, IsLast}
 use Rattle.scop_syntax.proofs.Writers.{same_cells, writer_of}
 use Rattle.scop_syntax.proofs.Members.{nat_cases}
 use Rattle.iteration_domains.specs.Dependence.{Dependence}
-use Rattle.conflict_deps.specs.Pairs.{IsPoint, IsEnd, TouchesAt, WritesBefore}
+use Rattle.conflict_deps.specs.Pairs.{IsPoint, IsEnd, TouchesAt, WritesBefore, WritesBehind}
 use Rattle.conflict_deps.proofs.Pairs.{PlaceLaws, KernelLaws, points_conflict, conflicts_are_points}
 
 pub writers_are_points : (program : Program) (params : List ℤ) (k j : ℕ) (u w : Visit) (b : ℕ) (c : Cell)
@@ -80,6 +81,75 @@ points_are_writers program params j w b c dep xs places kernel once count reads 
       },
       record { statement = pair.source.statement; access = write },
       pair.source_turns,
+    )
+
+pub writers_behind_are_points : (program : Program) (params : List ℤ) (k j : ℕ) (u w : Visit) (b : ℕ) (c : Cell)
+    → PlaceLaws program params → length params ≡ length program.parameters → NotNegative params
+    → TouchesAt program params j w b c → WritesBehind program params k j u c
+    → (dep : Dependence) × IsPoint program params dep w.turns u.turns × IsEnd dep.source w b × IsEnd dep.target u 0
+writers_behind_are_points program params k j u w b c places count up reads writer =
+    conflicts_are_points program params j k
+    (record {
+      earlier = w;
+      later = u;
+      first = b;
+      second = 0;
+      order = writer.later;
+      is_earlier = reads.place;
+      is_later = writer.place;
+      conflict = record {
+        first = reads.access;
+        second = u.body.place;
+        is_first = reads.is_access;
+        is_second = refl;
+        writes = inr refl;
+        cell = reads.cell ∙ sym writer.writes;
+      };
+    })
+    places count up
+
+pub points_are_writers_behind : (program : Program) (params : List ℤ) (j : ℕ) (w : Visit) (b : ℕ) (c : Cell)
+    (dep : Dependence) (xs : List ℤ) → PlaceLaws program params → KernelLaws program params
+    → ((i k : ℕ) (u v : Visit) → slice_get (walk_of program params) i ≡ Some u
+    → slice_get (walk_of program params) k ≡ Some v → u.number ≡ v.number → u.turns ≡ v.turns → i ≡ k)
+    → length params ≡ length program.parameters
+    → TouchesAt program params j w b c → IsPoint program params dep w.turns xs → IsEnd dep.source w b
+    → dep.target.access ≡ 0
+    → (k : ℕ) × (u : Visit) × WritesBehind program params k j u c × IsEnd dep.target u 0 × (u.turns ≡ xs)
+points_are_writers_behind program params j w b c dep xs places kernel once count reads point source write =
+    let r = points_conflict program params dep w.turns xs places kernel count point in
+    let j' = r.0 in
+    let k = r.1 in
+    let pair = r.2 in
+    let w' = pair.conflict.earlier in
+    let u = pair.conflict.later in
+    let touch = pair.conflict.conflict in
+    let same : j' ≡ j = once j' j w' w pair.conflict.is_earlier reads.place
+    (sym pair.source.statement ∙ source.statement) pair.source_turns in
+    let there : slice_get (walk_of program params) j ≡ Some w' =
+    subst (λ (n : ℕ). slice_get (walk_of program params) n ≡ Some w') same pair.conflict.is_earlier in
+    let here = reads.place in
+    let visit : w' ≡ w = cc in
+    let zeroth : pair.conflict.second ≡ 0 = sym pair.target.access ∙ write in
+    let bth : pair.conflict.first ≡ b = sym pair.source.access ∙ source.access in
+    let second0 : slice_get (accesses u.body) 0 ≡ Some touch.second =
+    ap (λ (n : ℕ). slice_get (accesses u.body) n) (sym zeroth) ∙ touch.is_second in
+    let second : u.body.place ≡ touch.second = cc in
+    let first0 : slice_get (accesses w.body) b ≡ Some touch.first =
+    ap₂ (λ (z : Visit) (n : ℕ). slice_get (accesses z.body) n) (sym visit) (sym bth) ∙ touch.is_first in
+    let is_b = reads.is_access in
+    let first : touch.first ≡ reads.access = cc in
+    let cell : written u ≡ c = ap (λ (f : Access). cell_of f u.point) second
+    ∙ (sym touch.cell ∙ (ap₂ (λ (f : Access) (z : Visit). cell_of f z.point) first visit ∙ reads.cell)) in (
+      k,
+      u,
+      record {
+        later = subst (λ (n : ℕ). n < k) same pair.conflict.order;
+        place = pair.conflict.is_later;
+        writes = cell;
+      },
+      record { statement = pair.target.statement; access = write },
+      pair.target_turns,
     )
 
 wrote_at : (o : Option Visit) (u : Visit) (c : Cell) → o ≡ Some u → written u ≡ c → writes o c ≡ true

@@ -42,3 +42,9 @@ pub record WritesBefore (program : Program) (params : List ℤ) (k j : ℕ) (u :
   pub earlier : k < j
   pub place : slice_get (walk_of program params) k ≡ Some u
   pub writes : written u ≡ c
+
+-- place k comes behind place j, and its instance u writes the cell
+pub record WritesBehind (program : Program) (params : List ℤ) (k j : ℕ) (u : Visit) (c : Cell) : Type 0 where
+  pub later : j < k
+  pub place : slice_get (walk_of program params) k ≡ Some u
+  pub writes : written u ≡ c

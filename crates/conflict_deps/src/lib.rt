@@ -1,8 +1,8 @@
 //! Conflicts of a kernel's accesses as systems of whole numbers: which instance may have to run before which.
 //! Promises that the list is exactly that of specs/Conflicts.antt, that where no parameter is negative the whole
 //! points of its systems are exactly the pairs of conflicting places, the earlier first, each in one system only
-//! (`conflict_laws`), and that a read's earlier writers are the points of the systems from writes to it
-//! (`source_laws`).
+//! (`conflict_laws`), and that a read's earlier writers are the points of the systems from writes to it, its later
+//! writers those of the systems from it to writes (`source_laws`).
 //! Feautrier, "Dataflow analysis of array and scalar references" (1991).
 #![tactic(auto)]
 

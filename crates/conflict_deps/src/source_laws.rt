@@ -1,4 +1,5 @@
-//! What the sources of a read are, by the systems, as the contracts of functions that do nothing.
+//! What the sources of a read are, by the systems, and what overwrites its cell, as the contracts of functions that do
+//! nothing.
 ghost use Rattle.std.specs.Prelude.{◌≡◌, ℕ, ◌≤◌, ℤ, List, Some, None, length};
 ghost use Rattle.whole_numbers.specs.Lists.{NotNegative};
 ghost use Rattle.scop_syntax.specs.Cells.{Cell};
@@ -7,7 +8,7 @@ ghost use Rattle.scop_syntax.specs.Tree.{Program};
 ghost use Rattle.scop_syntax.specs.Walk.{Visit, walk_of};
 ghost use Rattle.scop_syntax.specs.Writers.{last_writer};
 ghost use Rattle.iteration_domains.specs.Dependence.{Dependence};
-ghost use Rattle.conflict_deps.specs.Pairs.{IsEnd, IsPoint, TouchesAt, WritesBefore};
+ghost use Rattle.conflict_deps.specs.Pairs.{IsEnd, IsPoint, TouchesAt, WritesBefore, WritesBehind};
 
 use scop_syntax::execution_laws::last_writers_are_greatest_places;
 use scop_syntax::walk_laws::{
@@ -27,6 +28,25 @@ pub fn earlier_writers_are_points()
         → TouchesAt program params j w b c → IsPoint program params dep xs w.turns → dep.source.access ≡ 0
         → IsEnd dep.target w b
         → (k : ℕ) × (u : Visit) × WritesBefore program params k j u c × IsEnd dep.source u 0 × (u.turns ≡ xs) }
+{
+    instances_are_those_of_statements();
+    statements_are_numbered();
+    walks_are_in_order();
+}
+
+/// The later writers of the cell that an access touches are exactly the points of the systems from that access to
+/// written places.
+pub fn later_writers_are_points()
+    ensures points { (program : Program) (params : List ℤ) (k j : ℕ) (u w : Visit) (b : ℕ) (c : Cell)
+        → length params ≡ length program.parameters → NotNegative params → TouchesAt program params j w b c
+        → WritesBehind program params k j u c
+        → (dep : Dependence) × IsPoint program params dep w.turns u.turns × IsEnd dep.source w b
+        × IsEnd dep.target u 0 }
+    ensures writers { (program : Program) (params : List ℤ) (j : ℕ) (w : Visit) (b : ℕ) (c : Cell) (dep : Dependence)
+        (xs : List ℤ) → IsKernel program → length params ≡ length program.parameters
+        → TouchesAt program params j w b c → IsPoint program params dep w.turns xs → IsEnd dep.source w b
+        → dep.target.access ≡ 0
+        → (k : ℕ) × (u : Visit) × WritesBehind program params k j u c × IsEnd dep.target u 0 × (u.turns ≡ xs) }
 {
     instances_are_those_of_statements();
     statements_are_numbered();

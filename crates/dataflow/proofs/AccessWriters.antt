@@ -1,30 +1,34 @@
 -- The join over all candidates of an access names its last or next writer.
-use Rattle.std.proofs.Common.{◌≡◌, ℕ, ◌<◌, true, ℤ, List, length, Option, Some, None, inl, inr, ◌⊎◌}
+use Rattle.std.proofs.Common.{◌≡◌, ℕ, true, ℤ, List, length, Option, Some, None, inl, inr, ◌⊎◌}
 use Rattle.std.proofs.Common.{ap, ap₂, subst, sym, ◌∙◌, refl}
 use Rattle.std.specs.Prelude.{slice_get}
 use Rattle.whole_numbers.specs.Lists.{NotNegative}
 use Rattle.whole_numbers.proofs.Entries.{get_map}
 use Rattle.quast_trees.specs.Tree.{Tree}
 use Rattle.quast_trees.specs.Tree as tree
+use Rattle.quast_trees.specs.Leaf.{Leaf}
 use Rattle.quast_trees.specs.Value.{value}
 use Rattle.quast_joins.specs.declared.way.Way.{Way}
 use Rattle.quast_joins.specs.declared.way.Way.TheVariants.{Later, Earlier}
-use Rattle.scop_syntax.specs.Tree.{Access, Program}
+use Rattle.scop_syntax.specs.Tree.{Program}
 use Rattle.scop_syntax.specs.Members.{In}
 use Rattle.scop_syntax.specs.Statements.{Placed, statements_of}
 use Rattle.scop_syntax.specs.Walk.{Visit, walk_of}
-use Rattle.scop_syntax.specs.Cells.{accesses, Cell, cell_of, written}
-use Rattle.scop_syntax.specs.Writers.{writes, last_writer, next_writer}
+use Rattle.scop_syntax.specs.Cells.{Cell, written}
+use Rattle.scop_syntax.specs.Writers.{writes}
 use Rattle.scop_syntax.proofs.Members.{in_from_place, place_of}
 use Rattle.scop_syntax.proofs.Writers.{cell_same, same_cells}
 use Rattle.iteration_domains.specs.Model.{model_of, modelled}
 use Rattle.iteration_domains.specs.Dependence.{Dependence}
 use Rattle.conflict_deps.specs.Conflicts.{conflicts_of}
 use Rattle.conflict_deps.specs.Pairs.{IsEnd, TouchesAt}
-use Rattle.conflict_deps.proofs.Pairs.{PlaceLaws, KernelLaws, points_conflict, conflicts_are_points}
+use Rattle.conflict_deps.proofs.Pairs.{PlaceLaws, KernelLaws}
+use Rattle.conflict_deps.proofs.Sources.{writers_are_points, points_are_writers, writers_behind_are_points}
+use Rattle.conflict_deps.proofs.Sources.{points_are_writers_behind}
 use Rattle.dataflow.specs.Places.{Names, IsOrdered}
 use Rattle.dataflow.specs.Candidates.{IsAmong, Finds, Writes, joined}
-use Rattle.dataflow.specs.Sources.{writer_end, reader_end, IsWritePoint, loops_in, loops_round, IsCandidate, IsSolved}
+use Rattle.dataflow.specs.Sources.{writer_end, reader_end, wanted_writer, IsWritePoint, loops_in, loops_round}
+use Rattle.dataflow.specs.Sources.{IsCandidate, IsSolved}
 use Rattle.dataflow.proofs.Candidates.{candidate_finds, joined_finds, same_finds, finds_last, finds_next}
 
 -- what the laws of the walk say of a program at its parameters
@@ -70,51 +74,13 @@ pub writer_is_point : (way : Way) (program : Program) (params : List ℤ) (j k :
     (reader_end way dep) w b
 writer_is_point Later program params j k w b c places count up reads h =
     let u = written_by program params k c (slice_get (walk_of program params) k) refl h.1 in
-    let r = conflicts_are_points program params k j
-    (record {
-      earlier = u.0;
-      later = w;
-      first = 0;
-      second = b;
-      order = h.0;
-      is_earlier = u.1;
-      is_later = reads.place;
-      conflict =
-          record {
-            first = u.0.body.place;
-            second = reads.access;
-            is_first = refl;
-            is_second = reads.is_access;
-            writes
-                = inl refl;
-            cell = u.2 ∙ sym reads.cell;
-          };
-    })
-    places count up in
+    let r = writers_are_points program params k j u.0 w b c places count up reads
+    (record { earlier = h.0; place = u.1; writes = u.2 }) in
     (r.0, u.0, u.1, r.1, r.2, r.3)
 writer_is_point Earlier program params j k w b c places count up reads h =
     let u = written_by program params k c (slice_get (walk_of program params) k) refl h.1 in
-    let r = conflicts_are_points program params j k
-    (record {
-      earlier = w;
-      later = u.0;
-      first = b;
-      second = 0;
-      order = h.0;
-      is_earlier = reads.place;
-      is_later = u.1;
-      conflict =
-          record {
-            first = reads.access;
-            second = u.0.body.place;
-            is_first = reads.is_access;
-            is_second = refl;
-            writes
-                = inr refl;
-            cell = reads.cell ∙ sym u.2;
-          };
-    })
-    places count up in
+    let r = writers_behind_are_points program params k j u.0 w b c places count up reads
+    (record { later = h.0; place = u.1; writes = u.2 }) in
     (r.0, u.0, u.1, r.1, r.3, r.2)
 
 -- and each point of a candidate is such a writer
@@ -125,78 +91,24 @@ pub point_is_writer : (way : Way) (program : Program) (params : List ℤ) (j : �
     → (k : ℕ) × (u : Visit) × (slice_get (walk_of program params) k ≡ Some u) × Writes way
     (walk_of program params) j c k × (u.number ≡ (writer_end way dep).statement) × (u.turns ≡ xs)
 point_is_writer Later program params j w b c dep xs laws count reads point write its =
-    let r = points_conflict program params dep xs w.turns laws.places laws.kernel count point in
-    let k = r.0 in
-    let j' = r.1 in
-    let pair = r.2 in
-    let u = pair.conflict.earlier in
-    let w' = pair.conflict.later in
-    let touch = pair.conflict.conflict in
-    let same : j' ≡ j = laws.once j' j w' w pair.conflict.is_later reads.place
-    (sym pair.target.statement ∙ its.statement) pair.target_turns in
-    let there : slice_get (walk_of program params) j ≡ Some w' = subst
-    (λ (n : ℕ). slice_get (walk_of program params) n ≡ Some w') same pair.conflict.is_later in
-    let here = reads.place in
-    let visit : w' ≡ w = cc in
-    let zeroth : pair.conflict.first ≡ 0 = sym pair.source.access ∙ write in
-    let bth : pair.conflict.second ≡ b = sym pair.target.access ∙ its.access in
-    let first0 : slice_get (accesses u.body) 0 ≡ Some touch.first = ap (λ (n : ℕ). slice_get (accesses u.body) n)
-    (sym zeroth) ∙ touch.is_first in
-    let first : u.body.place ≡ touch.first = cc in
-    let second0 : slice_get (accesses w.body) b ≡ Some touch.second = ap₂
-    (λ (z : Visit) (n : ℕ). slice_get (accesses z.body) n) (sym visit) (sym bth) ∙ touch.is_second in
-    let is_b = reads.is_access in
-    let second : touch.second ≡ reads.access = cc in
-    let cell : written u ≡ c = ap (λ (f : Access). cell_of f u.point) first
-    ∙ (touch.cell ∙ (ap₂ (λ (f : Access) (z : Visit). cell_of f z.point) second visit ∙ reads.cell)) in
-    let less : k < j = subst (λ (n : ℕ). k < n) same pair.conflict.order in (
-      k,
-      u,
-      pair.conflict.is_earlier,
-      (
-        less,
-        writes_so
-            (walk_of program params) k u c pair.conflict.is_earlier cell,
-      ),
-      sym pair.source.statement,
-      pair.source_turns,
+    let r = points_are_writers program params j w b c dep xs laws.places laws.kernel laws.once count reads point write
+    its in (
+      r.0,
+      r.1,
+      r.2.place,
+      (r.2.earlier, writes_so (walk_of program params) r.0 r.1 c r.2.place r.2.writes),
+      sym r.3.statement,
+      r.4,
     )
 point_is_writer Earlier program params j w b c dep xs laws count reads point write its =
-    let r = points_conflict program params dep w.turns xs laws.places laws.kernel count point in
-    let j' = r.0 in
-    let k = r.1 in
-    let pair = r.2 in
-    let w' = pair.conflict.earlier in
-    let u = pair.conflict.later in
-    let touch = pair.conflict.conflict in
-    let same : j' ≡ j = laws.once j' j w' w pair.conflict.is_earlier reads.place
-    (sym pair.source.statement ∙ its.statement) pair.source_turns in
-    let there : slice_get (walk_of program params) j ≡ Some w' = subst
-    (λ (n : ℕ). slice_get (walk_of program params) n ≡ Some w') same pair.conflict.is_earlier in
-    let here = reads.place in
-    let visit : w' ≡ w = cc in
-    let zeroth : pair.conflict.second ≡ 0 = sym pair.target.access ∙ write in
-    let bth : pair.conflict.first ≡ b = sym pair.source.access ∙ its.access in
-    let first0 : slice_get (accesses u.body) 0 ≡ Some touch.second = ap (λ (n : ℕ). slice_get (accesses u.body) n)
-    (sym zeroth) ∙ touch.is_second in
-    let first : u.body.place ≡ touch.second = cc in
-    let second0 : slice_get (accesses w.body) b ≡ Some touch.first = ap₂
-    (λ (z : Visit) (n : ℕ). slice_get (accesses z.body) n) (sym visit) (sym bth) ∙ touch.is_first in
-    let is_b = reads.is_access in
-    let second : touch.first ≡ reads.access = cc in
-    let cell : written u ≡ c = ap (λ (f : Access). cell_of f u.point) first
-    ∙ (sym touch.cell ∙ (ap₂ (λ (f : Access) (z : Visit). cell_of f z.point) second visit ∙ reads.cell)) in
-    let less : j < k = subst (λ (n : ℕ). n < k) same pair.conflict.order in (
-      k,
-      u,
-      pair.conflict.is_later,
-      (
-        less,
-        writes_so
-            (walk_of program params) k u c pair.conflict.is_later cell,
-      ),
-      sym pair.target.statement,
-      pair.target_turns,
+    let r = points_are_writers_behind program params j w b c dep xs laws.places laws.kernel laws.once count reads point
+    its write in (
+      r.0,
+      r.1,
+      r.2.place,
+      (r.2.later, writes_so (walk_of program params) r.0 r.1 c r.2.place r.2.writes),
+      sym r.3.statement,
+      r.4,
     )
 
 -- the loops round a statement of the text are those of its number in the model
@@ -279,28 +191,21 @@ all_found way program params j w b c n point tree_of deps laws count up reads lo
     inr (r.0, whole r.0 candidate, (r.1, r.2, sym r.4.statement, r.3)))
     found
 
-pub last_is_found : (program : Program) (params : List ℤ) (j : ℕ) (w : Visit) (b : ℕ) (c : Cell) (n : ℕ)
-    (point : List ℤ) (tree_of : Dependence → Tree) (deps : List Dependence)
-    → Laws program params → length params ≡ length program.parameters → NotNegative params
-    → TouchesAt program params j w b c → length point ≡ n
-    → ((dep : Dependence) → IsCandidate Later program w b dep → In dep deps)
-    → ((dep : Dependence) → In dep deps → IsCandidate Later program w b dep)
-    → ((dep : Dependence) → In dep deps → IsSolved Later program params w n point dep (tree_of dep))
-    → Names (walk_of program params) (value (joined Later n tree_of tree.initial deps) point)
-    (last_writer (walk_of program params) j c)
-last_is_found program params j w b c n point tree_of deps laws count up reads long whole only solved =
-    finds_last (walk_of program params) j c (value (joined Later n tree_of tree.initial deps) point)
-    (all_found Later program params j w b c n point tree_of deps laws count up reads long whole only solved)
+-- so it names it
+finds_wanted : (way : Way) (visits : List Visit) (j : ℕ) (c : Cell) (l : Leaf)
+    → Finds way visits (Writes way visits j c) l → Names visits l (wanted_writer way visits j c)
+finds_wanted Later visits j c l f = finds_last visits j c l f
+finds_wanted Earlier visits j c l f = finds_next visits j c l f
 
-pub next_is_found : (program : Program) (params : List ℤ) (j : ℕ) (w : Visit) (b : ℕ) (c : Cell) (n : ℕ)
+pub wanted_is_found : (way : Way) (program : Program) (params : List ℤ) (j : ℕ) (w : Visit) (b : ℕ) (c : Cell) (n : ℕ)
     (point : List ℤ) (tree_of : Dependence → Tree) (deps : List Dependence)
     → Laws program params → length params ≡ length program.parameters → NotNegative params
     → TouchesAt program params j w b c → length point ≡ n
-    → ((dep : Dependence) → IsCandidate Earlier program w b dep → In dep deps)
-    → ((dep : Dependence) → In dep deps → IsCandidate Earlier program w b dep)
-    → ((dep : Dependence) → In dep deps → IsSolved Earlier program params w n point dep (tree_of dep))
-    → Names (walk_of program params) (value (joined Earlier n tree_of tree.initial deps) point)
-    (next_writer (walk_of program params) j c)
-next_is_found program params j w b c n point tree_of deps laws count up reads long whole only solved =
-    finds_next (walk_of program params) j c (value (joined Earlier n tree_of tree.initial deps) point)
-    (all_found Earlier program params j w b c n point tree_of deps laws count up reads long whole only solved)
+    → ((dep : Dependence) → IsCandidate way program w b dep → In dep deps)
+    → ((dep : Dependence) → In dep deps → IsCandidate way program w b dep)
+    → ((dep : Dependence) → In dep deps → IsSolved way program params w n point dep (tree_of dep))
+    → Names (walk_of program params) (value (joined way n tree_of tree.initial deps) point)
+    (wanted_writer way (walk_of program params) j c)
+wanted_is_found way program params j w b c n point tree_of deps laws count up reads long whole only solved =
+    finds_wanted way (walk_of program params) j c (value (joined way n tree_of tree.initial deps) point)
+    (all_found way program params j w b c n point tree_of deps laws count up reads long whole only solved)

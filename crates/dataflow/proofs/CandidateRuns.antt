@@ -12,7 +12,7 @@ use Rattle.quast_joins.specs.Joins.{join}
 use Rattle.quast_joins.specs.Counts.{join_count, capped}
 use Rattle.quast_joins.specs.Limits.{node_limit, most_told, leaf_limit}
 use Rattle.quast_joins.specs.Sizes.{LeavesWithin}
-use Rattle.quast_joins.specs.declared.way.Way.TheVariants.{Later}
+use Rattle.quast_joins.specs.declared.way.Way.{Way}
 use Rattle.quast_joins.proofs.Sizes.{join_within}
 use Rattle.quast_trees.specs.Value.{value}
 use Rattle.scop_syntax.specs.Cells.{Cell}
@@ -20,7 +20,6 @@ use Rattle.scop_syntax.specs.Limits.{HasParameters}
 use Rattle.scop_syntax.specs.Members.{In}
 use Rattle.scop_syntax.specs.Tree.{Program}
 use Rattle.scop_syntax.specs.Walk.{Visit, walk_of}
-use Rattle.scop_syntax.specs.Writers.{last_writer}
 use Rattle.scop_syntax.proofs.Members.{place_of}
 use Rattle.scop_syntax.specs.Kernel.{IsKernel}
 use Rattle.scop_syntax.specs.Statements.{Placed, statements_of}
@@ -30,10 +29,12 @@ use Rattle.iteration_domains.proofs.TreeStatements.{model_is_one}
 use Rattle.conflict_deps.specs.Pairs.{TouchesAt}
 use Rattle.iteration_domains.specs.Dependence.{Dependence}
 use Rattle.dataflow.specs.ReadSources.{IsSourceOf, AreSources, reads_from, reads_in}
-use Rattle.dataflow.specs.ReadSources.{reads_of_statement, reads_of, NameLastWriters}
+use Rattle.dataflow.specs.ReadSources.{reads_of_statement, reads_of, NameWriters}
 use Rattle.dataflow.specs.Places.{Names}
-use Rattle.dataflow.specs.LastRuns.{Stopped, last_run, solve_run, is_candidate, chosen_deps, turns_in, read_variables}
+use Rattle.dataflow.specs.WriterRuns.{Stopped, writers_run, solve_run, is_candidate, chosen_deps, turns_in}
+use Rattle.dataflow.specs.WriterRuns.{read_variables}
 use Rattle.dataflow.specs.Runs.{Halt, then_join, sources_run}
+use Rattle.dataflow.specs.Sources.{writer_end, reader_end, wanted_writer}
 use Rattle.dataflow.specs.Steps.{IsJoinable, GoesOn, GainsSources}
 use Rattle.dataflow.specs.declared.reads.Halted.TheVariants as halt
 use Rattle.dataflow.specs.declared.source.ReadSource.{ReadSource}
@@ -41,33 +42,33 @@ use Rattle.dataflow.specs.declared.source.ReadSource.TheVariants as source
 use Rattle.dataflow.specs.declared.source.SourceStop.TheVariants as stop
 
 -- a join with too many nodes ends the run
-pub joins_too_many : (model : KernelModel) (budget n : ℕ) (first second : Tree) (dep : Dependence) (told : ℕ)
-    → solve_run model budget dep ≡ Ok second → node_limit < join_count first second
+pub joins_too_many : (way : Way) (model : KernelModel) (budget n : ℕ) (first second : Tree) (dep : Dependence)
+    (told : ℕ) → solve_run way model budget dep ≡ Ok second → node_limit < join_count first second
     → told ≡ capped most_told (join_count first second)
-    → GoesOn model budget n first dep (Err (halt.Stop (stop.Join told)))
-joins_too_many model budget n first second dep told e many is = λ deps.
-    let go_on : Tree → Result Tree (Halt Stopped) = λ t. sources_run Later n (solve_run model budget) t deps in
+    → GoesOn way model budget n first dep (Err (halt.Stop (stop.Join told)))
+joins_too_many way model budget n first second dep told e many is = λ deps.
+    let go_on : Tree → Result Tree (Halt Stopped) = λ t. sources_run way n (solve_run way model budget) t deps in
     let b : nat_lt node_limit (join_count first second) ≡ true = grind arith in
-    (join_count first second, ap (λ (r : Result Tree Stopped). then_join Later n first r go_on) e ∙ rw b refl, is)
+    (join_count first second, ap (λ (r : Result Tree Stopped). then_join way n first r go_on) e ∙ rw b refl, is)
 
 -- a join that is made goes on
-pub joins_on : (model : KernelModel) (budget n : ℕ) (first second quast : Postfix) (dep : Dependence)
-    → solve_run model budget dep ≡ Ok (tree_of second) → join_count (tree_of first) (tree_of second) ≤ node_limit
+pub joins_on : (way : Way) (model : KernelModel) (budget n : ℕ) (first second quast : Postfix) (dep : Dependence)
+    → solve_run way model budget dep ≡ Ok (tree_of second) → join_count (tree_of first) (tree_of second) ≤ node_limit
     → IsJoinable n first → IsJoinable n second → quast.parameters ≡ first.parameters
-    → tree_of quast ≡ join Later first.parameters (tree_of first) (tree_of second)
-    → GoesOn model budget n (tree_of first) dep (Ok quast)
-joins_on model budget n first second quast dep e few own other over is =
-    let joined : tree_of quast ≡ join Later n (tree_of first) (tree_of second) =
-    is ∙ ap (λ (i : ℕ). join Later i (tree_of first) (tree_of second)) own.parameters in
+    → tree_of quast ≡ join way first.parameters (tree_of first) (tree_of second)
+    → GoesOn way model budget n (tree_of first) dep (Ok quast)
+joins_on way model budget n first second quast dep e few own other over is =
+    let joined : tree_of quast ≡ join way n (tree_of first) (tree_of second) =
+    is ∙ ap (λ (i : ℕ). join way i (tree_of first) (tree_of second)) own.parameters in
     let b : nat_lt node_limit (join_count (tree_of first) (tree_of second)) ≡ false = grind arith in (
       record {
         parameters = over ∙ own.parameters;
         leaves = subst (LeavesWithin leaf_limit) (sym joined)
-            (join_within Later leaf_limit n (tree_of first) (tree_of second) (omega arith) own.leaves other.leaves);
+            (join_within way leaf_limit n (tree_of first) (tree_of second) (omega arith) own.leaves other.leaves);
       },
       λ deps.
-          let go_on : Tree → Result Tree (Halt Stopped) = λ t. sources_run Later n (solve_run model budget) t deps in
-          ap (λ (r : Result Tree Stopped). then_join Later n (tree_of first) r go_on) e
+          let go_on : Tree → Result Tree (Halt Stopped) = λ t. sources_run way n (solve_run way model budget) t deps in
+          ap (λ (r : Result Tree Stopped). then_join way n (tree_of first) r go_on) e
           ∙ rw b (ap go_on (sym joined)),
     )
 
@@ -89,15 +90,17 @@ pub left_out : (test : Dependence → Bool) (deps : List Dependence) (i : ℕ) (
     → chosen_deps test (drop i deps) ≡ chosen_deps test (drop (i + 1) deps)
 left_out test deps i dep found h is = ap (chosen_deps test) (deps_at deps i dep found h) ∙ rw is refl
 
--- a candidate's reader is the statement of the read
-pub reader_is : (statement access : ℕ) (dep : Dependence) → is_candidate statement access dep ≡ true
-    → dep.target.statement ≡ statement
-reader_is statement access dep h = by_first (nat_eq dep.target.statement statement) refl h
+-- a candidate's reader is the statement of the access
+pub reader_is : (way : Way) (statement access : ℕ) (dep : Dependence) → is_candidate way statement access dep ≡ true
+    → (reader_end way dep).statement ≡ statement
+reader_is way statement access dep h =
+    by_first (nat_eq (reader_end way dep).statement statement) refl h
   where
-    by_first : (b : Bool) → nat_eq dep.target.statement statement ≡ b
-        → (if b then (if nat_eq dep.target.access access then nat_eq dep.source.access 0 else false) else false) ≡ true
-        → dep.target.statement ≡ statement
-    by_first true e g = eqb-true dep.target.statement statement e
+    by_first : (b : Bool) → nat_eq (reader_end way dep).statement statement ≡ b
+        → (if b then (if nat_eq (reader_end way dep).access access then nat_eq (writer_end way dep).access 0 else false)
+        else false) ≡ true
+        → (reader_end way dep).statement ≡ statement
+    by_first true e g = eqb-true (reader_end way dep).statement statement e
     by_first false e g = absurd cc
 
 -- how many variables the quast of a statement's read speaks of
@@ -111,86 +114,88 @@ variables_are model s places h =
     ap (λ (o : Option Modelled). model.parameters + turns_in o) at
 
 -- sources behind others
-pub sources-append : (model : KernelModel) (budget : ℕ) (rs qs : List (ℕ × ℕ)) (ss us : List ReadSource)
-    → AreSources model budget rs ss → AreSources model budget qs us → AreSources model budget (rs ++ qs) (ss ++ us)
-sources-append model budget [] qs [] us h k = k
-sources-append model budget [] qs (s ∷ ss) us h k = absurd h
-sources-append model budget (r ∷ rs) qs [] us h k = absurd h
-sources-append model budget (r ∷ rs) qs (s ∷ ss) us h k = (h.0, sources-append model budget rs qs ss us h.1 k)
+pub sources-append : (way : Way) (model : KernelModel) (budget : ℕ) (rs qs : List (ℕ × ℕ)) (ss us : List ReadSource)
+    → AreSources way model budget rs ss → AreSources way model budget qs us
+    → AreSources way model budget (rs ++ qs) (ss ++ us)
+sources-append way model budget [] qs [] us h k = k
+sources-append way model budget [] qs (s ∷ ss) us h k = absurd h
+sources-append way model budget (r ∷ rs) qs [] us h k = absurd h
+sources-append way model budget (r ∷ rs) qs (s ∷ ss) us h k = (h.0, sources-append way model budget rs qs ss us h.1 k)
 
 -- the source at a place
-pub source_at : (model : KernelModel) (budget : ℕ) (rs : List (ℕ × ℕ)) (ss : List ReadSource) (k : ℕ) (r : ℕ × ℕ)
-    (s : ReadSource) → AreSources model budget rs ss → slice_get rs k ≡ Some r → slice_get ss k ≡ Some s
-    → IsSourceOf model budget r.0 r.1 s
-source_at model budget [] ss k r s h a b = absurd cc
-source_at model budget (q ∷ rs) [] k r s h a b = absurd h
-source_at model budget (q ∷ rs) (u ∷ ss) zero r s h a b =
+pub source_at : (way : Way) (model : KernelModel) (budget : ℕ) (rs : List (ℕ × ℕ)) (ss : List ReadSource) (k : ℕ)
+    (r : ℕ × ℕ) (s : ReadSource) → AreSources way model budget rs ss → slice_get rs k ≡ Some r → slice_get ss k ≡ Some s
+    → IsSourceOf way model budget r.0 r.1 s
+source_at way model budget [] ss k r s h a b = absurd cc
+source_at way model budget (q ∷ rs) [] k r s h a b = absurd h
+source_at way model budget (q ∷ rs) (u ∷ ss) zero r s h a b =
     let e : q ≡ r = cc in
     let f : u ≡ s = cc in
-    subst (λ (z : ℕ × ℕ). IsSourceOf model budget z.0 z.1 s) e (subst (IsSourceOf model budget q.0 q.1) f h.0)
-source_at model budget (q ∷ rs) (u ∷ ss) (suc k) r s h a b = source_at model budget rs ss k r s h.1 a b
+    subst (λ (z : ℕ × ℕ). IsSourceOf way model budget z.0 z.1 s) e (subst (IsSourceOf way model budget q.0 q.1) f h.0)
+source_at way model budget (q ∷ rs) (u ∷ ss) (suc k) r s h a b = source_at way model budget rs ss k r s h.1 a b
 
 -- the run of a read with the quast so far, from a dependence on
-pub record Running (model : KernelModel) (budget statement access : ℕ) (deps : List Dependence) (i : ℕ)
+pub record Running (way : Way) (model : KernelModel) (budget statement access : ℕ) (deps : List Dependence) (i : ℕ)
     (found : Postfix)
     : Type 0 where
   pub joinable : IsJoinable (read_variables model statement) found
-  pub run : sources_run Later (read_variables model statement) (solve_run model budget) (tree_of found)
-      (chosen_deps (is_candidate statement access) (drop i deps))
-      ≡ sources_run Later (read_variables model statement) (solve_run model budget) initial
-      (chosen_deps (is_candidate statement access) deps)
+  pub run : sources_run way (read_variables model statement) (solve_run way model budget) (tree_of found)
+      (chosen_deps (is_candidate way statement access) (drop i deps))
+      ≡ sources_run way (read_variables model statement) (solve_run way model budget) initial
+      (chosen_deps (is_candidate way statement access) deps)
 
 -- a candidate more
-pub run_on : (model : KernelModel) (budget statement access : ℕ) (deps : List Dependence) (i : ℕ) (found next : Postfix)
-    (dep : Dependence) → Running model budget statement access deps i found → dep ≡ get_or deps i dep
-    → i < length deps → is_candidate statement access dep ≡ true
-    → GoesOn model budget (read_variables model dep.target.statement) (tree_of found) dep (Ok next)
-    → Running model budget statement access deps (i + 1) next
-run_on model budget statement access deps i found next dep r here h is goes =
+pub run_on : (way : Way) (model : KernelModel) (budget statement access : ℕ) (deps : List Dependence) (i : ℕ)
+    (found next : Postfix) (dep : Dependence) → Running way model budget statement access deps i found → dep ≡ get_or deps i dep
+    → i < length deps → is_candidate way statement access dep ≡ true
+    → GoesOn way model budget (read_variables model (reader_end way dep).statement) (tree_of found) dep (Ok next)
+    → Running way model budget statement access deps (i + 1) next
+run_on way model budget statement access deps i found next dep r here h is goes =
     let n = read_variables model statement in
-    let solve = solve_run model budget in
-    let test = is_candidate statement access in
+    let solve = solve_run way model budget in
+    let test = is_candidate way statement access in
     let rest = chosen_deps test (drop (i + 1) deps) in
-    let on : GoesOn model budget n (tree_of found) dep (Ok next) =
-    subst (λ (k : ℕ). GoesOn model budget (read_variables model k) (tree_of found) dep (Ok next))
-    (reader_is statement access dep is) goes in
+    let on : GoesOn way model budget n (tree_of found) dep (Ok next) =
+    subst (λ (k : ℕ). GoesOn way model budget (read_variables model k) (tree_of found) dep (Ok next))
+    (reader_is way statement access dep is) goes in
     record {
       joinable = on.0;
-      run = sym (on.1 rest) ∙ (ap (sources_run Later n solve (tree_of found)) (sym (taken test deps i dep here h is))
+      run = sym (on.1 rest) ∙ (ap (sources_run way n solve (tree_of found)) (sym (taken test deps i dep here h is))
           ∙ r.run);
     }
 
 -- no candidate
-pub run_past : (model : KernelModel) (budget statement access : ℕ) (deps : List Dependence) (i : ℕ) (found : Postfix)
-    (dep : Dependence) → Running model budget statement access deps i found → dep ≡ get_or deps i dep
-    → i < length deps → is_candidate statement access dep ≡ false
-    → Running model budget statement access deps (i + 1) found
-run_past model budget statement access deps i found dep r here h is =
+pub run_past : (way : Way) (model : KernelModel) (budget statement access : ℕ) (deps : List Dependence) (i : ℕ)
+    (found : Postfix) (dep : Dependence) → Running way model budget statement access deps i found → dep ≡ get_or deps i dep
+    → i < length deps → is_candidate way statement access dep ≡ false
+    → Running way model budget statement access deps (i + 1) found
+run_past way model budget statement access deps i found dep r here h is =
     record {
       joinable = r.joinable;
-      run = ap (sources_run Later (read_variables model statement) (solve_run model budget) (tree_of found))
-          (sym (left_out (is_candidate statement access) deps i dep here h is)) ∙ r.run;
+      run = ap (sources_run way (read_variables model statement) (solve_run way model budget) (tree_of found))
+          (sym (left_out (is_candidate way statement access) deps i dep here h is)) ∙ r.run;
     }
 
 -- sources of the first reads, and those that are left
-pub record Gathered (model : KernelModel) (budget : ℕ) (whole rest : List (ℕ × ℕ))
+pub record Gathered (way : Way) (model : KernelModel) (budget : ℕ) (whole rest : List (ℕ × ℕ))
     (sources : List ReadSource) : Type 0 where
   pub done : List (ℕ × ℕ)
-  pub are : AreSources model budget done sources
+  pub are : AreSources way model budget done sources
   pub left : done ++ rest ≡ whole
 
 -- a read's more
-pub read_gathered : (model : KernelModel) (budget statement k count : ℕ) (whole : List (ℕ × ℕ))
+pub read_gathered : (way : Way) (model : KernelModel) (budget statement k count : ℕ) (whole : List (ℕ × ℕ))
     (old new : List ReadSource) (source : ReadSource) → k < count
-    → Gathered model budget whole (reads_from statement k (count - k)) old → IsSourceOf model budget statement k source
-    → new ≡ old ++ source ∷ [] → Gathered model budget whole (reads_from statement (k + 1) (count - (k + 1))) new
-read_gathered model budget statement k count whole old new source h g is pushed =
+    → Gathered way model budget whole (reads_from statement k (count - k)) old
+    → IsSourceOf way model budget statement k source
+    → new ≡ old ++ source ∷ [] → Gathered way model budget whole (reads_from statement (k + 1) (count - (k + 1))) new
+read_gathered way model budget statement k count whole old new source h g is pushed =
     let e : count - k ≡ suc (count - (k + 1)) = omega arith in
     let rest = reads_from statement (k + 1) (count - (k + 1)) in
     record {
       done = g.done ++ (statement, k) ∷ [];
-      are = subst (AreSources model budget (g.done ++ (statement, k) ∷ [])) (sym pushed)
-          (sources-append model budget g.done ((statement, k) ∷ []) old (source ∷ []) g.are (is, tt));
+      are = subst (AreSources way model budget (g.done ++ (statement, k) ∷ [])) (sym pushed)
+          (sources-append way model budget g.done ((statement, k) ∷ []) old (source ∷ []) g.are (is, tt));
       left = append_assoc g.done ((statement, k) ∷ []) rest
           ∙ (ap (λ (i : ℕ). g.done ++ reads_from statement k i) (sym e) ∙ g.left);
     }
@@ -203,12 +208,12 @@ statements_at ss i s found h =
     first ∙ ap (λ (d : Modelled). d ∷ drop (i + 1) ss) (sym found)
 
 -- a statement's more
-pub statement_gathered : (model : KernelModel) (budget : ℕ) (ss : List Modelled) (i : ℕ) (s : Modelled)
+pub statement_gathered : (way : Way) (model : KernelModel) (budget : ℕ) (ss : List Modelled) (i : ℕ) (s : Modelled)
     (old new : List ReadSource) → s ≡ get_or ss i s → i < length ss
-    → Gathered model budget (reads_in ss) (reads_in (drop i ss)) old
-    → GainsSources model budget old new (reads_of_statement s)
-    → Gathered model budget (reads_in ss) (reads_in (drop (i + 1) ss)) new
-statement_gathered model budget ss i s old new here h g gains =
+    → Gathered way model budget (reads_in ss) (reads_in (drop i ss)) old
+    → GainsSources way model budget old new (reads_of_statement s)
+    → Gathered way model budget (reads_in ss) (reads_in (drop (i + 1) ss)) new
+statement_gathered way model budget ss i s old new here h g gains =
     record {
       done = g.done ++ reads_of_statement s;
       are = gains g.done g.are;
@@ -217,38 +222,38 @@ statement_gathered model budget ss i s old new here h g gains =
     }
 
 -- the run begins with the initial value
-pub run_begins : (model : KernelModel) (budget access : ℕ) (s : Modelled) (deps : List Dependence) (found : Postfix)
-    → ((k : ℕ) (t : Modelled) → slice_get model.statements k ≡ Some t → t.number ≡ k) → In s model.statements
+pub run_begins : (way : Way) (model : KernelModel) (budget access : ℕ) (s : Modelled) (deps : List Dependence)
+    (found : Postfix) → ((k : ℕ) (t : Modelled) → slice_get model.statements k ≡ Some t → t.number ≡ k) → In s model.statements
     → found.parameters ≡ model.parameters + s.domain.dimensions → tree_of found ≡ initial
-    → Running model budget s.number access deps 0 found
-run_begins model budget access s deps found places h over is =
+    → Running way model budget s.number access deps 0 found
+run_begins way model budget access s deps found places h over is =
     record {
       joinable = record {
         parameters = over ∙ sym (variables_are model s places h);
         leaves = subst (LeavesWithin leaf_limit) (sym is) tt;
       };
-      run = ap (λ (t : Tree). sources_run Later (read_variables model s.number) (solve_run model budget) t
-          (chosen_deps (is_candidate s.number access) deps)) is;
+      run = ap (λ (t : Tree). sources_run way (read_variables model s.number) (solve_run way model budget) t
+          (chosen_deps (is_candidate way s.number access) deps)) is;
     }
 
 -- all reads have their sources
-pub all_gathered : (model : KernelModel) (budget : ℕ) (whole : List (ℕ × ℕ)) (sources : List ReadSource)
-    → Gathered model budget whole [] sources → AreSources model budget whole sources
-all_gathered model budget whole sources g =
-    subst (λ (rs : List (ℕ × ℕ)). AreSources model budget rs sources) (sym (append-nil g.done) ∙ g.left) g.are
+pub all_gathered : (way : Way) (model : KernelModel) (budget : ℕ) (whole : List (ℕ × ℕ)) (sources : List ReadSource)
+    → Gathered way model budget whole [] sources → AreSources way model budget whole sources
+all_gathered way model budget whole sources g =
+    subst (λ (rs : List (ℕ × ℕ)). AreSources way model budget rs sources) (sym (append-nil g.done) ∙ g.left) g.are
 
--- those that are resolved name the last writers
-pub last_named : (model : KernelModel) (budget : ℕ) (sources : List ReadSource)
-    → AreSources model budget (reads_of model) sources
+-- those that are resolved name the wanted writers
+pub all_named : (way : Way) (model : KernelModel) (budget : ℕ) (sources : List ReadSource)
+    → AreSources way model budget (reads_of model) sources
     → ((program : Program) (params : List ℤ) (j : ℕ) (w : Visit) (access : ℕ) (c : Cell) (budget : ℕ) (u : Tree)
     → HasParameters program params → TouchesAt program params j w access c
-    → last_run (model_of program) budget w.number access ≡ Ok u
-    → Names (walk_of program params) (value u (params ++ w.turns)) (last_writer (walk_of program params) j c))
-    → NameLastWriters model sources
-last_named model budget sources are law = λ program params j w access c k quast is has touches read got.
+    → writers_run way (model_of program) budget w.number access ≡ Ok u
+    → Names (walk_of program params) (value u (params ++ w.turns)) (wanted_writer way (walk_of program params) j c))
+    → NameWriters way model sources
+all_named way model budget sources are law = λ program params j w access c k quast is has touches read got.
     law program params j w access c budget (tree_of quast) has touches
-    (subst (λ (m : KernelModel). last_run m budget w.number access ≡ Ok (tree_of quast)) is
-    (source_at model budget (reads_of model) sources k (w.number, access) (source.Resolved quast) are read got))
+    (subst (λ (m : KernelModel). writers_run way m budget w.number access ≡ Ok (tree_of quast)) is
+    (source_at way model budget (reads_of model) sources k (w.number, access) (source.Resolved quast) are read got))
 
 -- nothing is left behind the last
 pub dropped : (ss : List Modelled) (i : ℕ) → length ss ≤ i → drop i ss ≡ []

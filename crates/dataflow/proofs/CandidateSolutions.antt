@@ -1,5 +1,5 @@
--- A solved candidate: the least point of the posed problem, turned back, is the greatest writer's turns.
-use Rattle.std.proofs.Common.{◌≡◌, ℕ, ◌+◌, ◌^◌, ℤ, pos, ◌-ℤ◌, ◌≤ℤ◌, ◌<ℤ◌, List, [], ◌∷◌, ◌++◌, length, map, Some, All}
+-- A solved candidate: the least point of the posed problem, turned back, is the wanted writer's turns.
+use Rattle.std.proofs.Common.{◌≡◌, ℕ, ◌+◌, ◌^◌, ℤ, pos, ◌≤ℤ◌, ◌<ℤ◌, List, [], ◌∷◌, ◌++◌, length, map, Some, All}
 use Rattle.std.proofs.Common.{refl, sym, ap, ap₂, subst, ◌∙◌, arith, length-append, append_assoc}
 use Rattle.std.specs.Prelude.{slice_get}
 use Rattle.std.proofs.lemmas.Int.{ints}
@@ -13,7 +13,8 @@ use Rattle.pip_solver.specs.Leaves.{IsAnswer}
 use Rattle.quast_trees.specs.Tree.{Tree}
 use Rattle.quast_trees.specs.Value.{value}
 use Rattle.quast_trees.specs.Leaf.{Leaf, initial, found}
-use Rattle.quast_joins.specs.declared.way.Way.TheVariants.{Later}
+use Rattle.quast_joins.specs.declared.way.Way.{Way}
+use Rattle.quast_joins.specs.declared.way.Way.TheVariants.{Later, Earlier}
 use Rattle.integer_sets.specs.Points.{Satisfies}
 use Rattle.scop_syntax.specs.Tree.{Program}
 use Rattle.scop_syntax.specs.Members.{In}
@@ -27,67 +28,210 @@ use Rattle.iteration_domains.specs.Dependence.{Dependence}
 use Rattle.iteration_domains.proofs.RowLaws.{GoesOn, goes_on, goes_on_last, values-variables}
 use Rattle.iteration_domains.proofs.Surroundings.{length-variables}
 use Rattle.conflict_deps.specs.Conflicts.{Side, After, loops_of, source_form, target_form, cell_rows, pair_size}
-use Rattle.conflict_deps.specs.Pairs.{IsPoint, TouchesAt}
+use Rattle.conflict_deps.specs.Conflicts.{conflicts_of}
+use Rattle.conflict_deps.specs.Pairs.{TouchesAt}
 use Rattle.conflict_deps.specs.Parts.{HasParts}
-use Rattle.conflict_deps.proofs.Orders.{value_of-target}
+use Rattle.conflict_deps.proofs.Orders.{value_of-source, value_of-target}
 use Rattle.dataflow.specs.Flips.{flipped}
 use Rattle.dataflow.specs.Candidates.{IsWanted}
-use Rattle.dataflow.specs.Sources.{IsCandidate}
-use Rattle.dataflow.specs.Problems.{top, turned, moved, flat, own, own_rows, all_below, posed_rows, posed_context}
-use Rattle.dataflow.specs.Problems.{turned_leaf}
-use Rattle.dataflow.proofs.Maxima.{max_from_min, flip_twice}
+use Rattle.dataflow.specs.Sources.{writer_end, reader_end, IsCandidate, IsWritePoint}
+use Rattle.dataflow.specs.Problems.{top, turned, moved, flat, own, own_rows, own_equalities_of, own_rows_of, all_below}
+use Rattle.dataflow.specs.Problems.{posed_rows, posed_context, turned_leaf, writer_turns}
+use Rattle.dataflow.proofs.Maxima.{length-turns, turns_twice, wanted_from_min}
 use Rattle.dataflow.proofs.AccessWriters.{Laws, point_is_writer}
 use Rattle.dataflow.proofs.ProblemPoints.{Zero, Up, zero_of_all, all_of_zero, up_of_all, all_of_up, zero-append}
 use Rattle.dataflow.proofs.ProblemPoints.{zero_parts, up-append, up_parts, zero_mapped, zero_unmapped, up_mapped}
-use Rattle.dataflow.proofs.ProblemPoints.{up_unmapped, flat_up, up_flat, up_rows, rows_up, turned-value, moved-value}
-use Rattle.dataflow.proofs.ProblemPoints.{below_up, own_is, own_rows_is}
+use Rattle.dataflow.proofs.ProblemPoints.{up_unmapped, flat_up, up_flat, up_rows, rows_up, pair_point, turned-value}
+use Rattle.dataflow.proofs.ProblemPoints.{moved-value, below_up, own_is, own_rows_is}
 
--- the parts of a conflict's system
-abbrev E1 : Side → Side → List Affine
-E1 s t = map (source_form (loops_of s) (loops_of t)) s.statement.domain.equalities
+-- the side of a conflict that writes, and the other
+abbrev pub writer_of : Way → Side → Side → Side
+writer_of Later s t = s
+writer_of Earlier s t = t
 
-abbrev E2 : Side → Side → List Affine
-E2 s t = map (target_form (loops_of s)) t.statement.domain.equalities
+abbrev pub reader_of : Way → Side → Side → Side
+reader_of Later s t = t
+reader_of Earlier s t = s
 
-abbrev E3 : Side → Side → After → List Affine
-E3 s t a = equalities_in (cell_rows s t) ++ equalities_in a.rows
+-- forms of these over the variables of the pair
+abbrev writer_form : Way → Side → Side → Affine → Affine
+writer_form Later s t = source_form (loops_of s) (loops_of t)
+writer_form Earlier s t = target_form (loops_of s)
 
-abbrev R1 : Side → Side → List Affine
-R1 s t = map (source_form (loops_of s) (loops_of t)) s.statement.domain.rows
+abbrev reader_form : Way → Side → Side → Affine → Affine
+reader_form Later s t = target_form (loops_of s)
+reader_form Earlier s t = source_form (loops_of s) (loops_of t)
 
-abbrev R2 : Side → Side → List Affine
-R2 s t = map (target_form (loops_of s)) t.statement.domain.rows
+-- the parts of a conflict's system: what the writer's domain gives, the reader's, and what belongs to the pair
+abbrev WE : Way → Side → Side → List Affine
+WE way s t = map (writer_form way s t) (writer_of way s t).statement.domain.equalities
+
+abbrev RE : Way → Side → Side → List Affine
+RE way s t = map (reader_form way s t) (reader_of way s t).statement.domain.equalities
+
+abbrev PE : Side → Side → After → List Affine
+PE s t a = equalities_in (cell_rows s t) ++ equalities_in a.rows
+
+abbrev WR : Way → Side → Side → List Affine
+WR way s t = map (writer_form way s t) (writer_of way s t).statement.domain.rows
+
+abbrev RR : Way → Side → Side → List Affine
+RR way s t = map (reader_form way s t) (reader_of way s t).statement.domain.rows
 
 abbrev V : ℕ → Side → Side → List Affine
 V m s t = variables (pair_size m s t) (loops_of s + loops_of t) m
 
--- the rows of the problem by the parts
-pub posed_is : (program : Program) (dep : Dependence) (p : HasParts (model_of program) dep) (m : ℕ)
-    → m ≡ length program.parameters
-    → posed_rows p.from.statement p.to.statement m dep
-    ≡ flat (map (turned (loops_of p.from) m (loops_of p.to)) (E1 p.from p.to ++ E3 p.from p.to p.order)) ++ map
-    (turned (loops_of p.from) m (loops_of p.to)) (R1 p.from p.to ++ rows_in p.order.rows)
-posed_is program dep p m count =
+-- these hold at a point
+record Holds (way : Way) (m : ℕ) (s t : Side) (a : After) (x : List ℤ) : Type 0 where
+  pub writer_equalities : Zero (WE way s t) x
+  pub reader_equalities : Zero (RE way s t) x
+  pub pair_equalities : Zero (PE s t a) x
+  pub writer_rows : Up (WR way s t) x
+  pub reader_rows : Up (RR way s t) x
+  pub order : Up (rows_in a.rows) x
+  pub parameters : Up (V m s t) x
+
+-- where they do, the other way round they do
+turned_round : (m : ℕ) (s t : Side) (a : After) (x : List ℤ) → Holds Later m s t a x → Holds Earlier m s t a x
+turned_round m s t a x h =
+    record {
+      writer_equalities = h.reader_equalities;
+      reader_equalities = h.writer_equalities;
+      pair_equalities = h.pair_equalities;
+      writer_rows = h.reader_rows;
+      reader_rows = h.writer_rows;
+      order = h.order;
+      parameters = h.parameters;
+    }
+
+turned_again : (m : ℕ) (s t : Side) (a : After) (x : List ℤ) → Holds Earlier m s t a x → Holds Later m s t a x
+turned_again m s t a x h =
+    record {
+      writer_equalities = h.reader_equalities;
+      reader_equalities = h.writer_equalities;
+      pair_equalities = h.pair_equalities;
+      writer_rows = h.reader_rows;
+      reader_rows = h.writer_rows;
+      order = h.order;
+      parameters = h.parameters;
+    }
+
+-- a point of the system is one at which they hold
+parts_behind : (program : Program) (dep : Dependence) (p : HasParts (model_of program) dep) (x : List ℤ)
+    → Satisfies dep.system x → Holds Later (length program.parameters) p.from p.to p.order x
+parts_behind program dep p x holds =
     let s = p.from in
     let t = p.to in
     let M = length program.parameters in
-    let h = turned (loops_of s) m (loops_of t) in
-    let a = length-map s.statement.domain.equalities (source_form (loops_of s) (loops_of t)) in
-    let b = length-map t.statement.domain.equalities (target_form (loops_of s)) in
-    let c = length-map s.statement.domain.rows (source_form (loops_of s) (loops_of t)) in
-    let d = length-map t.statement.domain.rows (target_form (loops_of s)) in
-    let eqs : own (length s.statement.domain.equalities) (length t.statement.domain.equalities) dep.system.equalities
-    ≡ E1 s t ++ E3 s t p.order =
+    let order = rows_in p.order.rows in
+    let eqs = zero_parts (WE Later s t) (RE Later s t ++ PE s t p.order) x
+    (subst (λ (fs : List Affine). Zero fs x) p.equalities (zero_of_all dep.system.equalities x holds.0)) in
+    let rest = zero_parts (RE Later s t) (PE s t p.order) x eqs.1 in
+    let ups = up_parts (WR Later s t) (RR Later s t ++ (order ++ V M s t)) x
+    (subst (λ (fs : List Affine). Up fs x) p.rows (up_of_all dep.system.rows x holds.1)) in
+    let behind = up_parts (RR Later s t) (order ++ V M s t) x ups.1 in
+    let last = up_parts order (V M s t) x behind.1 in
+    record {
+      writer_equalities = eqs.0;
+      reader_equalities = rest.0;
+      pair_equalities = rest.1;
+      writer_rows = ups.0;
+      reader_rows = behind.0;
+      order = last.0;
+      parameters = last.1;
+    }
+
+parts_hold : (way : Way) (program : Program) (dep : Dependence) (p : HasParts (model_of program) dep) (x : List ℤ)
+    → Satisfies dep.system x → Holds way (length program.parameters) p.from p.to p.order x
+parts_hold Later program dep p x holds = parts_behind program dep p x holds
+parts_hold Earlier program dep p x holds =
+    turned_round (length program.parameters) p.from p.to p.order x (parts_behind program dep p x holds)
+
+-- and back
+behind_holds : (program : Program) (dep : Dependence) (p : HasParts (model_of program) dep) (x : List ℤ)
+    → Holds Later (length program.parameters) p.from p.to p.order x → Satisfies dep.system x
+behind_holds program dep p x h =
+    let s = p.from in
+    let t = p.to in
+    let M = length program.parameters in
+    let order = rows_in p.order.rows in (
+      all_of_zero dep.system.equalities x
+          (subst (λ (fs : List Affine). Zero fs x) (sym p.equalities)
+          (zero-append (WE Later s t) (RE Later s t ++ PE s t p.order) x h.writer_equalities
+          (zero-append (RE Later s t) (PE s t p.order) x h.reader_equalities h.pair_equalities))),
+      all_of_up dep.system.rows x
+          (subst (λ (fs : List Affine). Up fs x) (sym p.rows)
+          (up-append (WR Later s t) (RR Later s t ++ (order ++ V M s t)) x h.writer_rows
+          (up-append (RR Later s t) (order ++ V M s t) x h.reader_rows
+          (up-append order (V M s t) x h.order h.parameters)))),
+    )
+
+hold_parts : (way : Way) (program : Program) (dep : Dependence) (p : HasParts (model_of program) dep) (x : List ℤ)
+    → Holds way (length program.parameters) p.from p.to p.order x → Satisfies dep.system x
+hold_parts Later program dep p x h = behind_holds program dep p x h
+hold_parts Earlier program dep p x h =
+    behind_holds program dep p x (turned_again (length program.parameters) p.from p.to p.order x h)
+
+-- a system's forms but those of the reader's domain
+own_equalities : (way : Way) (program : Program) (dep : Dependence) (p : HasParts (model_of program) dep)
+    → own_equalities_of way (writer_of way p.from p.to).statement (reader_of way p.from p.to).statement dep
+    ≡ WE way p.from p.to ++ PE p.from p.to p.order
+own_equalities Later program dep p =
+    let s = p.from in
+    let t = p.to in
+    let a = length-map s.statement.domain.equalities (writer_form Later s t) in
+    let b = length-map t.statement.domain.equalities (reader_form Later s t) in
     ap₂ (λ (i k : ℕ). own i k dep.system.equalities) (sym a) (sym b)
-    ∙ (ap (own (length (E1 s t)) (length (E2 s t))) p.equalities ∙ own_is (E1 s t) (E2 s t) (E3 s t p.order)) in
-    let rows : own_rows (length s.statement.domain.rows) (length t.statement.domain.rows) m dep.system.rows ≡ R1 s t
-    ++ rows_in p.order.rows =
+    ∙ (ap (own (length (WE Later s t)) (length (RE Later s t))) p.equalities
+    ∙ own_is (WE Later s t) (RE Later s t) (PE s t p.order))
+own_equalities Earlier program dep p =
+    let s = p.from in
+    let t = p.to in
+    let b = length-map s.statement.domain.equalities (reader_form Earlier s t) in
+    ap (λ (k : ℕ). own 0 k dep.system.equalities) (sym b)
+    ∙ (ap (own 0 (length (RE Earlier s t))) p.equalities
+    ∙ own_is [] (RE Earlier s t) (WE Earlier s t ++ PE s t p.order))
+
+own_rows_are : (way : Way) (program : Program) (dep : Dependence) (p : HasParts (model_of program) dep) (m : ℕ)
+    → m ≡ length program.parameters
+    → own_rows_of way (writer_of way p.from p.to).statement (reader_of way p.from p.to).statement m dep
+    ≡ WR way p.from p.to ++ rows_in p.order.rows
+own_rows_are Later program dep p m count =
+    let s = p.from in
+    let t = p.to in
+    let M = length program.parameters in
+    let c = length-map s.statement.domain.rows (writer_form Later s t) in
+    let d = length-map t.statement.domain.rows (reader_form Later s t) in
     ap₂ (λ (i k : ℕ). own_rows i k m dep.system.rows) (sym c) (sym d)
-    ∙ (ap (λ (i : ℕ). own_rows (length (R1 s t)) (length (R2 s t)) i dep.system.rows)
+    ∙ (ap (λ (i : ℕ). own_rows (length (WR Later s t)) (length (RR Later s t)) i dep.system.rows)
     (count ∙ sym (length-variables (pair_size M s t) (loops_of s + loops_of t) M))
-    ∙ (ap (own_rows (length (R1 s t)) (length (R2 s t)) (length (V M s t))) p.rows
-    ∙ own_rows_is (R1 s t) (R2 s t) (rows_in p.order.rows) (V M s t))) in
-    ap₂ (λ (xs ys : List Affine). flat (map h xs) ++ map h ys) eqs rows
+    ∙ (ap (own_rows (length (WR Later s t)) (length (RR Later s t)) (length (V M s t))) p.rows
+    ∙ own_rows_is (WR Later s t) (RR Later s t) (rows_in p.order.rows) (V M s t)))
+own_rows_are Earlier program dep p m count =
+    let s = p.from in
+    let t = p.to in
+    let M = length program.parameters in
+    let order = rows_in p.order.rows in
+    let d = length-map s.statement.domain.rows (reader_form Earlier s t) in
+    ap (λ (k : ℕ). own_rows 0 k m dep.system.rows) (sym d)
+    ∙ (ap (λ (i : ℕ). own_rows 0 (length (RR Earlier s t)) i dep.system.rows)
+    (count ∙ sym (length-variables (pair_size M s t) (loops_of s + loops_of t) M))
+    ∙ (ap (own_rows 0 (length (RR Earlier s t)) (length (V M s t)))
+    (p.rows ∙ ap (λ (fs : List Affine). RR Earlier s t ++ fs) (sym (append_assoc (WR Earlier s t) order (V M s t))))
+    ∙ own_rows_is [] (RR Earlier s t) (WR Earlier s t ++ order) (V M s t)))
+
+-- the rows of the problem by the parts
+posed_is : (way : Way) (program : Program) (dep : Dependence) (p : HasParts (model_of program) dep) (m : ℕ)
+    → m ≡ length program.parameters
+    → posed_rows way (writer_of way p.from p.to).statement (reader_of way p.from p.to).statement m dep
+    ≡ flat (map (turned way (loops_of (writer_of way p.from p.to)) m (loops_of (reader_of way p.from p.to)))
+    (WE way p.from p.to ++ PE p.from p.to p.order))
+    ++ map (turned way (loops_of (writer_of way p.from p.to)) m (loops_of (reader_of way p.from p.to)))
+    (WR way p.from p.to ++ rows_in p.order.rows)
+posed_is way program dep p m count =
+    let h = turned way (loops_of (writer_of way p.from p.to)) m (loops_of (reader_of way p.from p.to)) in
+    ap₂ (λ (xs ys : List Affine). flat (map h xs) ++ map h ys) (own_equalities way program dep p)
+    (own_rows_are way program dep p m count)
 
 -- the reader's instance: in its domain, over parameters that are not negative
 pub record Reads (params ys : List ℤ) (t : Modelled) : Type 0 where
@@ -95,97 +239,121 @@ pub record Reads (params ys : List ℤ) (t : Modelled) : Type 0 where
   pub holds : Satisfies t.domain (ys ++ params)
   pub up : NotNegative params
 
--- a point of the problem, turned back, is one of the system
-pub turned_back : (program : Program) (params ys : List ℤ) (dep : Dependence) (p : HasParts (model_of program) dep)
-    → length params ≡ length program.parameters → Reads params ys p.to.statement
-    → (xs : List ℤ) → IsProblemPoint (problem_of (loops_of p.from)
-    (posed_rows p.from.statement p.to.statement (length params) dep)) (params ++ ys) xs
-    → Satisfies dep.system (flipped top xs ++ (ys ++ params))
-turned_back program params ys dep p count reads xs point =
-    let s = p.from in
-    let t = p.to in
-    let m = length params in
-    let d = loops_of s in
-    let e = loops_of t in
-    let h = turned d m e in
-    let x = flipped top xs ++ (ys ++ params) in
-    let y = xs ++ (params ++ ys) in
-    let same : (f : Affine) → value_of (h f) y ≡ value_of f x =
-    λ f. turned-value d m e xs params ys f point.size refl reads.size in
-    let long : length (flipped top xs) ≡ d = length-map xs (λ (z : ℤ). top -ℤ z) ∙ point.size in
-    let target : (f : Affine) → value_of (target_form d f) x ≡ value_of f (ys ++ params) = λ f. value_of-target d f
-    (flipped top xs) (ys ++ params) long in
-    let rows : Up (flat (map h (E1 s t ++ E3 s t p.order)) ++ map h (R1 s t ++ rows_in p.order.rows)) y =
-    subst (λ (fs : List Affine). Up fs y) (posed_is program dep p m count)
-    (rows_up (posed_rows s.statement t.statement m dep) y point.rows) in
-    let both = up_parts (flat (map h (E1 s t ++ E3 s t p.order))) (map h (R1 s t ++ rows_in p.order.rows)) y rows in
-    let eqs = zero_parts (E1 s t) (E3 s t p.order) x (zero_unmapped h (E1 s t ++ E3 s t p.order) x y same
-    (up_flat (map h (E1 s t ++ E3 s t p.order)) y both.0)) in
-    let ups = up_parts (R1 s t) (rows_in p.order.rows) x
-    (up_unmapped h (R1 s t ++ rows_in p.order.rows) x y same both.1) in
-    let e2 : Zero (E2 s t) x = zero_mapped (target_form d) t.statement.domain.equalities (ys ++ params) x target
-    (zero_of_all t.statement.domain.equalities (ys ++ params) reads.holds.0) in
-    let r2 : Up (R2 s t) x = up_mapped (target_form d) t.statement.domain.rows (ys ++ params) x target
-    (up_of_all t.statement.domain.rows (ys ++ params) reads.holds.1) in
-    let M = length program.parameters in
-    let size : pair_size M s t ≡ length x = (let a = length-append (flipped top xs)
-    (ys ++ params) in let b = length-append ys params in let c = reads.size in omega arith) in
-    let front : length (flipped top xs ++ ys) ≡ d + e =
-    (let a = length-append (flipped top xs) ys in let c = reads.size in omega arith) in
-    let at : GoesOn x (d + e) params =
-    subst (λ (i : ℕ). GoesOn x i params) front
-    (subst (λ (z : List ℤ). GoesOn z (length (flipped top xs ++ ys)) params) (append_assoc (flipped top xs) ys params)
-    (goes_on_last (flipped top xs ++ ys) params)) in
-    let v : Up (V M s t) x = rows_up (V M s t) x (subst NotNegative
-    (sym (values-variables (pair_size M s t) (d + e) M x params size count at)) reads.up) in (
-      all_of_zero dep.system.equalities x
-          (subst (λ (fs : List Affine). Zero fs x) (sym p.equalities)
-          (zero-append (E1 s t) (E2 s t ++ E3 s t p.order) x eqs.0
-          (zero-append (E2 s t) (E3 s t p.order) x e2 eqs.1))),
-      all_of_up dep.system.rows x
-          (subst (λ (fs : List Affine). Up fs x) (sym p.rows)
-          (up-append (R1 s t) (R2 s t ++ (rows_in p.order.rows ++ V M s t)) x ups.0
-          (up-append (R2 s t) (rows_in p.order.rows ++ V M s t) x r2
-          (up-append (rows_in p.order.rows) (V M s t) x ups.1 v)))),
+-- what a form of the reader's domain is worth at a point of the pair, and where the parameters stand there
+reader_value : (way : Way) (s t : Side) (xs ys params : List ℤ) (f : Affine) → length xs ≡ loops_of (writer_of way s t)
+    → length ys ≡ loops_of (reader_of way s t)
+    → value_of (reader_form way s t f) (pair_point way xs ys params) ≡ value_of f (ys ++ params)
+reader_value Later s t xs ys params f h k = value_of-target (loops_of s) f xs (ys ++ params) h
+reader_value Earlier s t xs ys params f h k = value_of-source (loops_of s) (loops_of t) f ys xs params k h
+
+parameters_at : (us vs params : List ℤ) (k : ℕ) → length us + length vs ≡ k
+    → GoesOn (us ++ (vs ++ params)) k params × (k + length params ≡ length (us ++ (vs ++ params)))
+parameters_at us vs params k e =
+    let a = length-append us vs in
+    let b = length-append us (vs ++ params) in
+    let c = length-append vs params in (
+      subst (λ (i : ℕ). GoesOn (us ++ (vs ++ params)) i params) (a ∙ e)
+          (subst (λ (z : List ℤ). GoesOn z (length (us ++ vs)) params) (append_assoc us vs params)
+          (goes_on_last (us ++ vs) params)),
+      omega arith,
     )
 
--- and a point of the system, turned, is one of the problem
-pub turned_to : (program : Program) (params ys : List ℤ) (dep : Dependence) (p : HasParts (model_of program) dep)
-    → length params ≡ length program.parameters → length ys ≡ loops_of p.to
-    → (xs : List ℤ) → length xs ≡ loops_of p.from → NotNegative (flipped top xs)
-    → Satisfies dep.system (xs ++ (ys ++ params))
-    → IsProblemPoint (problem_of (loops_of p.from) (posed_rows p.from.statement p.to.statement (length params) dep))
-    (params ++ ys) (flipped top xs)
-turned_to program params ys dep p count wide xs size up holds =
+parameters_in : (way : Way) (s t : Side) (xs ys params : List ℤ) → length xs ≡ loops_of (writer_of way s t)
+    → length ys ≡ loops_of (reader_of way s t)
+    → GoesOn (pair_point way xs ys params) (loops_of s + loops_of t) params
+    × (loops_of s + loops_of t + length params ≡ length (pair_point way xs ys params))
+parameters_in Later s t xs ys params h k =
+    parameters_at xs ys params (loops_of s + loops_of t) (ap₂ (λ (i j : ℕ). i + j) h k)
+parameters_in Earlier s t xs ys params h k =
+    parameters_at ys xs params (loops_of s + loops_of t) (ap₂ (λ (i j : ℕ). i + j) k h)
+
+-- a point of the problem, turned back, is one of the system
+pub turned_back : (way : Way) (program : Program) (params ys : List ℤ) (dep : Dependence)
+    (p : HasParts (model_of program) dep)
+    → length params ≡ length program.parameters → Reads params ys (reader_of way p.from p.to).statement
+    → (xs : List ℤ) → IsProblemPoint (problem_of (loops_of (writer_of way p.from p.to))
+    (posed_rows way (writer_of way p.from p.to).statement (reader_of way p.from p.to).statement (length params) dep))
+    (params ++ ys) xs
+    → Satisfies dep.system (pair_point way (writer_turns way xs) ys params)
+turned_back way program params ys dep p count reads xs point =
     let s = p.from in
     let t = p.to in
     let m = length params in
-    let d = loops_of s in
-    let e = loops_of t in
-    let h = turned d m e in
-    let x = xs ++ (ys ++ params) in
-    let zs = flipped top xs in
-    let y = zs ++ (params ++ ys) in
-    let long : length zs ≡ d = length-map xs (λ (z : ℤ). top -ℤ z) ∙ size in
-    let same : (f : Affine) → value_of (h f) y ≡ value_of f x = λ f. turned-value d m e zs params ys f long refl wide
-    ∙ ap (λ (us : List ℤ). value_of f (us ++ (ys ++ params))) (flip_twice top xs) in
     let M = length program.parameters in
-    let eqs0 = zero_parts (E1 s t) (E2 s t ++ E3 s t p.order) x
-    (subst (λ (fs : List Affine). Zero fs x) p.equalities (zero_of_all dep.system.equalities x holds.0)) in
-    let eqs1 = zero_parts (E2 s t) (E3 s t p.order) x eqs0.1 in
-    let ups0 = up_parts (R1 s t) (R2 s t ++ (rows_in p.order.rows ++ V M s t)) x
-    (subst (λ (fs : List Affine). Up fs x) p.rows (up_of_all dep.system.rows x holds.1)) in
-    let ups1 = up_parts (R2 s t) (rows_in p.order.rows ++ V M s t) x ups0.1 in
-    let ups2 = up_parts (rows_in p.order.rows) (V M s t) x ups1.1 in
-    let eqs : Zero (map h (E1 s t ++ E3 s t p.order)) y = zero_mapped h (E1 s t ++ E3 s t p.order) x y same
-    (zero-append (E1 s t) (E3 s t p.order) x eqs0.0 eqs1.1) in
-    let ups : Up (map h (R1 s t ++ rows_in p.order.rows)) y = up_mapped h (R1 s t ++ rows_in p.order.rows) x y same
-    (up-append (R1 s t) (rows_in p.order.rows) x ups0.0 ups2.0) in
-    let all : Up (posed_rows s.statement t.statement m dep) y =
-    subst (λ (fs : List Affine). Up fs y) (sym (posed_is program dep p m count))
-    (up-append (flat (map h (E1 s t ++ E3 s t p.order))) (map h (R1 s t ++ rows_in p.order.rows)) y
-    (flat_up (map h (E1 s t ++ E3 s t p.order)) y eqs) ups) in
-    record { size = long; not_negative = up; rows = up_rows (posed_rows s.statement t.statement m dep) y all }
+    let writer = writer_of way s t in
+    let reader = reader_of way s t in
+    let h = turned way (loops_of writer) m (loops_of reader) in
+    let zs = writer_turns way xs in
+    let x = pair_point way zs ys params in
+    let y = xs ++ (params ++ ys) in
+    let same : (f : Affine) → value_of (h f) y ≡ value_of f x =
+    λ f. turned-value way (loops_of writer) m (loops_of reader) xs params ys f point.size refl reads.size in
+    let long : length zs ≡ loops_of writer = length-turns way xs ∙ point.size in
+    let own : (f : Affine) → value_of (reader_form way s t f) x ≡ value_of f (ys ++ params) =
+    λ f. reader_value way s t zs ys params f long reads.size in
+    let rows : Up (flat (map h (WE way s t ++ PE s t p.order)) ++ map h (WR way s t ++ rows_in p.order.rows)) y =
+    subst (λ (fs : List Affine). Up fs y) (posed_is way program dep p m count)
+    (rows_up (posed_rows way writer.statement reader.statement m dep) y point.rows) in
+    let both = up_parts (flat (map h (WE way s t ++ PE s t p.order))) (map h (WR way s t ++ rows_in p.order.rows)) y
+    rows in
+    let eqs = zero_parts (WE way s t) (PE s t p.order) x (zero_unmapped h (WE way s t ++ PE s t p.order) x y same
+    (up_flat (map h (WE way s t ++ PE s t p.order)) y both.0)) in
+    let ups = up_parts (WR way s t) (rows_in p.order.rows) x
+    (up_unmapped h (WR way s t ++ rows_in p.order.rows) x y same both.1) in
+    let at = parameters_in way s t zs ys params long reads.size in
+    let size : pair_size M s t ≡ length x = ap (λ (i : ℕ). loops_of s + loops_of t + i) (sym count) ∙ at.1 in
+    hold_parts way program dep p x
+    (record {
+      writer_equalities = eqs.0;
+      reader_equalities = zero_mapped (reader_form way s t) reader.statement.domain.equalities (ys ++ params) x own
+          (zero_of_all reader.statement.domain.equalities (ys ++ params) reads.holds.0);
+      pair_equalities = eqs.1;
+      writer_rows = ups.0;
+      reader_rows = up_mapped (reader_form way s t) reader.statement.domain.rows (ys ++ params) x own
+          (up_of_all reader.statement.domain.rows (ys ++ params) reads.holds.1);
+      order = ups.1;
+      parameters = rows_up (V M s t) x (subst NotNegative
+          (sym (values-variables (pair_size M s t) (loops_of s + loops_of t) M x params size count at.0)) reads.up);
+    })
+
+-- and a point of the system, turned, is one of the problem
+pub turned_to : (way : Way) (program : Program) (params ys : List ℤ) (dep : Dependence)
+    (p : HasParts (model_of program) dep)
+    → length params ≡ length program.parameters → length ys ≡ loops_of (reader_of way p.from p.to)
+    → (xs : List ℤ) → length xs ≡ loops_of (writer_of way p.from p.to) → NotNegative (writer_turns way xs)
+    → Satisfies dep.system (pair_point way xs ys params)
+    → IsProblemPoint (problem_of (loops_of (writer_of way p.from p.to))
+    (posed_rows way (writer_of way p.from p.to).statement (reader_of way p.from p.to).statement (length params) dep))
+    (params ++ ys) (writer_turns way xs)
+turned_to way program params ys dep p count wide xs size up holds =
+    let s = p.from in
+    let t = p.to in
+    let m = length params in
+    let writer = writer_of way s t in
+    let reader = reader_of way s t in
+    let h = turned way (loops_of writer) m (loops_of reader) in
+    let x = pair_point way xs ys params in
+    let zs = writer_turns way xs in
+    let y = zs ++ (params ++ ys) in
+    let long : length zs ≡ loops_of writer = length-turns way xs ∙ size in
+    let same : (f : Affine) → value_of (h f) y ≡ value_of f x =
+    λ f. turned-value way (loops_of writer) m (loops_of reader) zs params ys f long refl wide
+    ∙ ap (λ (us : List ℤ). value_of f (pair_point way us ys params)) (turns_twice way xs) in
+    let parts = parts_hold way program dep p x holds in
+    let eqs : Zero (map h (WE way s t ++ PE s t p.order)) y = zero_mapped h (WE way s t ++ PE s t p.order) x y same
+    (zero-append (WE way s t) (PE s t p.order) x parts.writer_equalities parts.pair_equalities) in
+    let ups : Up (map h (WR way s t ++ rows_in p.order.rows)) y =
+    up_mapped h (WR way s t ++ rows_in p.order.rows) x y same
+    (up-append (WR way s t) (rows_in p.order.rows) x parts.writer_rows parts.order) in
+    let all : Up (posed_rows way writer.statement reader.statement m dep) y =
+    subst (λ (fs : List Affine). Up fs y) (sym (posed_is way program dep p m count))
+    (up-append (flat (map h (WE way s t ++ PE s t p.order))) (map h (WR way s t ++ rows_in p.order.rows)) y
+    (flat_up (map h (WE way s t ++ PE s t p.order)) y eqs) ups) in
+    record {
+      size = long;
+      not_negative = up;
+      rows = up_rows (posed_rows way writer.statement reader.statement m dep) y all;
+    }
 
 not_above : (xs : List ℤ) → All (λ x. (pos 0 ≤ℤ x) × (x <ℤ pos (2 ^ 46))) xs → NotNegative (flipped top xs)
 not_above [] all = tt
@@ -193,50 +361,6 @@ not_above (x ∷ xs) all =
     let h = All-head (λ (z : ℤ). (pos 0 ≤ℤ z) × (z <ℤ pos (2 ^ 46))) x xs all in
     let h1 = h.1 in
     (omega (arith, ints), not_above xs (All-tail (λ (z : ℤ). (pos 0 ≤ℤ z) × (z <ℤ pos (2 ^ 46))) x xs all))
-
--- what the minimum says of the problem, the turned leaf says of the writers
-pub answer_wanted : (program : Program) (params : List ℤ) (j : ℕ) (w : Visit) (b : ℕ) (c : Cell) (dep : Dependence)
-    (p : HasParts (model_of program) dep) (number : ℕ) (loops : List ℕ) (l : Leaf)
-    → Laws program params → length params ≡ length program.parameters
-    → ((k : ℕ) (u : Visit) → slice_get (walk_of program params) k ≡ Some u
-    → All (λ x. (pos 0 ≤ℤ x) × (x <ℤ pos (2 ^ 46))) u.turns)
-    → TouchesAt program params j w b c → IsCandidate Later program w b dep → Reads params w.turns p.to.statement
-    → dep.source.loops ≡ loops_of p.from → dep.target.loops ≡ loops_of p.to
-    → IsAnswer (problem_of (loops_of p.from) (posed_rows p.from.statement p.to.statement (length params) dep))
-    (params ++ w.turns) l
-    → IsWanted Later number loops (λ xs. IsPoint program params dep xs w.turns) (turned_leaf number loops l)
-answer_wanted program params j w b c dep p number loops l laws count small touches cand reads source target answer =
-    by_leaf l answer
-  where
-    problem : Problem
-    problem = problem_of (loops_of p.from) (posed_rows p.from.statement p.to.statement (length params) dep)
-
-    to : (xs : List ℤ) → IsPoint program params dep xs w.turns
-        → IsProblemPoint problem (params ++ w.turns) (flipped top xs)
-    to xs q =
-        let r = point_is_writer Later program params j w b c dep xs laws count touches q cand.writes cand.access in
-        let up = not_above xs (subst (λ (us : List ℤ). All (λ x. (pos 0 ≤ℤ x) × (x <ℤ pos (2 ^ 46))) us) r.5
-        (small r.0 r.1 r.2)) in
-        turned_to program params w.turns dep p count reads.size xs (q.source ∙ source) up q.holds
-
-    of : (xs : List ℤ) → IsProblemPoint problem (params ++ w.turns) xs
-        → IsPoint program params dep (flipped top xs) w.turns
-    of xs q =
-        record {
-          among = cand.among;
-          source = length-map xs (λ (z : ℤ). top -ℤ z) ∙ (q.size ∙ sym source);
-          target = reads.size ∙ sym target;
-          holds = turned_back program params w.turns dep p count reads xs q;
-        }
-
-    by_leaf : (l : Leaf) → IsAnswer problem (params ++ w.turns) l
-        → IsWanted Later number loops (λ xs. IsPoint program params dep xs w.turns) (turned_leaf number loops l)
-    by_leaf initial none = λ xs q. none (flipped top xs) (to xs q)
-    by_leaf (found o x) least =
-        let m = max_from_min top (loops_of p.from) (λ xs. IsPoint program params dep xs w.turns)
-        (λ xs. IsProblemPoint problem (params ++ w.turns) xs) x to of (λ ys q. q.size) least.inside
-        (λ ys q less. least.least ys q.size q less) in
-        (refl, m.0, m.1)
 
 pub up_bounded : (most : ℤ) (xs : List ℤ) → All (λ x. (pos 0 ≤ℤ x) × (x ≤ℤ most)) xs → NotNegative xs
 up_bounded most [] all = tt
@@ -253,6 +377,83 @@ up_turns (x ∷ xs) all = (
   up_turns xs
       (All-tail (λ (z : ℤ). (pos 0 ≤ℤ z) × (z <ℤ pos (2 ^ 46))) x xs all),
 )
+
+unknowns_up : (way : Way) (xs : List ℤ) → All (λ x. (pos 0 ≤ℤ x) × (x <ℤ pos (2 ^ 46))) xs
+    → NotNegative (writer_turns way xs)
+unknowns_up Later xs all = not_above xs all
+unknowns_up Earlier xs all = up_turns xs all
+
+-- a point of a candidate, either way
+point_holds : (way : Way) (program : Program) (params : List ℤ) (dep : Dependence) (p : HasParts (model_of program) dep)
+    (xs ys : List ℤ) → IsWritePoint way program params dep xs ys
+    → (length xs ≡ loops_of (writer_of way p.from p.to)) × Satisfies dep.system (pair_point way xs ys params)
+point_holds Later program params dep p xs ys q =
+    (q.source ∙ ap (λ (d : Dependence). d.source.loops) p.is, q.holds)
+point_holds Earlier program params dep p xs ys q =
+    (q.target ∙ ap (λ (d : Dependence). d.target.loops) p.is, q.holds)
+
+is_point : (way : Way) (program : Program) (params : List ℤ) (dep : Dependence) (p : HasParts (model_of program) dep)
+    (xs ys : List ℤ) → In dep (conflicts_of (model_of program)) → length xs ≡ loops_of (writer_of way p.from p.to)
+    → length ys ≡ loops_of (reader_of way p.from p.to) → Satisfies dep.system (pair_point way xs ys params)
+    → IsWritePoint way program params dep xs ys
+is_point Later program params dep p xs ys among h k holds =
+    record {
+      among = among;
+      source = h ∙ sym (ap (λ (d : Dependence). d.source.loops) p.is);
+      target = k ∙ sym (ap (λ (d : Dependence). d.target.loops) p.is);
+      holds = holds;
+    }
+is_point Earlier program params dep p xs ys among h k holds =
+    record {
+      among = among;
+      source = k ∙ sym (ap (λ (d : Dependence). d.source.loops) p.is);
+      target = h ∙ sym (ap (λ (d : Dependence). d.target.loops) p.is);
+      holds = holds;
+    }
+
+-- what the minimum says of the problem, the turned leaf says of the writers
+answer_wanted : (way : Way) (program : Program) (params : List ℤ) (j : ℕ) (w : Visit) (b : ℕ) (c : Cell)
+    (dep : Dependence) (p : HasParts (model_of program) dep) (number : ℕ) (loops : List ℕ) (l : Leaf)
+    → Laws program params → length params ≡ length program.parameters
+    → ((k : ℕ) (u : Visit) → slice_get (walk_of program params) k ≡ Some u
+    → All (λ x. (pos 0 ≤ℤ x) × (x <ℤ pos (2 ^ 46))) u.turns)
+    → TouchesAt program params j w b c → IsCandidate way program w b dep
+    → Reads params w.turns (reader_of way p.from p.to).statement
+    → IsAnswer (problem_of (loops_of (writer_of way p.from p.to))
+    (posed_rows way (writer_of way p.from p.to).statement (reader_of way p.from p.to).statement (length params) dep))
+    (params ++ w.turns) l
+    → IsWanted way number loops (λ xs. IsWritePoint way program params dep xs w.turns) (turned_leaf way number loops l)
+answer_wanted way program params j w b c dep p number loops l laws count small touches cand reads answer =
+    by_leaf l answer
+  where
+    problem : Problem
+    problem = problem_of (loops_of (writer_of way p.from p.to))
+        (posed_rows way (writer_of way p.from p.to).statement (reader_of way p.from p.to).statement (length params) dep)
+
+    Point : List ℤ → Type 0
+    Point xs = IsWritePoint way program params dep xs w.turns
+
+    to : (xs : List ℤ) → Point xs → IsProblemPoint problem (params ++ w.turns) (writer_turns way xs)
+    to xs q =
+        let r = point_is_writer way program params j w b c dep xs laws count touches q cand.writes cand.access in
+        let up = unknowns_up way xs (subst (λ (us : List ℤ). All (λ x. (pos 0 ≤ℤ x) × (x <ℤ pos (2 ^ 46))) us) r.5
+        (small r.0 r.1 r.2)) in
+        let h = point_holds way program params dep p xs w.turns q in
+        turned_to way program params w.turns dep p count reads.size xs h.0 up h.1
+
+    of : (xs : List ℤ) → IsProblemPoint problem (params ++ w.turns) xs → Point (writer_turns way xs)
+    of xs q =
+        is_point way program params dep p (writer_turns way xs) w.turns cand.among (length-turns way xs ∙ q.size)
+        reads.size (turned_back way program params w.turns dep p count reads xs q)
+
+    by_leaf : (l : Leaf) → IsAnswer problem (params ++ w.turns) l
+        → IsWanted way number loops Point (turned_leaf way number loops l)
+    by_leaf initial none = λ xs q. none (writer_turns way xs) (to xs q)
+    by_leaf (found o x) least =
+        let m = wanted_from_min way (loops_of (writer_of way p.from p.to)) Point
+        (λ xs. IsProblemPoint problem (params ++ w.turns) xs) x to of (λ ys q. q.size) least.inside
+        (λ ys q less. least.least ys q.size q less) in
+        (refl, m.0, m.1)
 
 -- the context holds at the kernel's parameters and an instance's turns
 pub context_up : (params ys : List ℤ) (t : Modelled) → Reads params ys t
@@ -275,31 +476,47 @@ context_up params ys t reads bounds =
     (up-append (map h t.domain.rows) (all_below (pos 65536) (m + e) 0 m) x rows most))
 
 -- the minimum of a candidate's problem, turned back, is the wanted writer
-pub minimum_wanted : (program : Program) (params : List ℤ) (j : ℕ) (w : Visit) (b : ℕ) (c : Cell) (dep : Dependence)
-    (p : HasParts (model_of program) dep) (number : ℕ) (loops : List ℕ) (t : Tree)
+pub minimum_wanted : (way : Way) (program : Program) (params : List ℤ) (j : ℕ) (w : Visit) (b : ℕ) (c : Cell)
+    (dep : Dependence) (p : HasParts (model_of program) dep) (number : ℕ) (loops : List ℕ) (t : Tree)
     → Laws program params → length params ≡ length program.parameters
     → All (λ x. (pos 0 ≤ℤ x) × (x ≤ℤ pos 65536)) params
     → ((k : ℕ) (u : Visit) → slice_get (walk_of program params) k ≡ Some u
     → All (λ x. (pos 0 ≤ℤ x) × (x <ℤ pos (2 ^ 46))) u.turns)
-    → TouchesAt program params j w b c → IsCandidate Later program w b dep
-    → (length w.turns ≡ p.to.statement.domain.dimensions) × Satisfies p.to.statement.domain (w.turns ++ params)
-    → ((q : List ℤ) → length q ≡ length params + loops_of p.to → NotNegative q
-    → NotNegative (row_values (posed_context p.to.statement (length params)) q)
-    → IsAnswer (problem_of (loops_of p.from) (posed_rows p.from.statement p.to.statement (length params) dep)) q
-    (value t q))
-    → IsWanted Later number loops (λ xs. IsPoint program params dep xs w.turns)
-    (turned_leaf number loops (value t (params ++ w.turns)))
-minimum_wanted program params j w b c dep p number loops t laws count bounds small touches cand inside least =
+    → TouchesAt program params j w b c → IsCandidate way program w b dep
+    → (length w.turns ≡ loops_of (reader_of way p.from p.to))
+    × Satisfies (reader_of way p.from p.to).statement.domain (w.turns ++ params)
+    → ((q : List ℤ) → length q ≡ length params + loops_of (reader_of way p.from p.to) → NotNegative q
+    → NotNegative (row_values (posed_context (reader_of way p.from p.to).statement (length params)) q)
+    → IsAnswer (problem_of (loops_of (writer_of way p.from p.to)) (posed_rows way (writer_of way p.from p.to).statement
+    (reader_of way p.from p.to).statement (length params) dep)) q (value t q))
+    → IsWanted way number loops (λ xs. IsWritePoint way program params dep xs w.turns)
+    (turned_leaf way number loops (value t (params ++ w.turns)))
+minimum_wanted way program params j w b c dep p number loops t laws count bounds small touches cand inside least =
+    let reader = (reader_of way p.from p.to).statement in
     let up = up_bounded (pos 65536) params bounds in
-    let reads : Reads params w.turns p.to.statement = record { size = inside.0; holds = inside.1; up = up } in
-    let long : length (params ++ w.turns) ≡ length params + loops_of p.to =
+    let reads : Reads params w.turns reader = record { size = inside.0; holds = inside.1; up = up } in
+    let long : length (params ++ w.turns) ≡ length params + loops_of (reader_of way p.from p.to) =
     (let a = length-append params w.turns in let e = inside.0 in omega arith) in
-    answer_wanted program params j w b c dep p number loops
+    answer_wanted way program params j w b c dep p number loops
     (value t (params ++ w.turns)) laws count small touches cand reads
-    (ap (λ (d : Dependence). d.source.loops) p.is) (ap (λ (d : Dependence). d.target.loops) p.is)
     (least (params ++ w.turns) long (not_negative-append params w.turns up (up_turns w.turns (small j w touches.place)))
-    (context_up params w.turns p.to.statement reads bounds))
+    (context_up params w.turns reader reads bounds))
 
-pub in_statements : (program : Program) (dep : Dependence) (p : HasParts (model_of program) dep)
-    → In p.to.statement (model_of program).statements
-in_statements program dep p = in_from_place (model_of program).statements dep.target.statement p.to.statement p.target
+-- both sides are statements of the model
+pub writer_slot : (way : Way) (program : Program) (dep : Dependence) (p : HasParts (model_of program) dep)
+    → slice_get (model_of program).statements (writer_end way dep).statement
+    ≡ Some (writer_of way p.from p.to).statement
+writer_slot Later program dep p = p.source
+writer_slot Earlier program dep p = p.target
+
+pub reader_slot : (way : Way) (program : Program) (dep : Dependence) (p : HasParts (model_of program) dep)
+    → slice_get (model_of program).statements (reader_end way dep).statement
+    ≡ Some (reader_of way p.from p.to).statement
+reader_slot Later program dep p = p.target
+reader_slot Earlier program dep p = p.source
+
+pub in_statements : (way : Way) (program : Program) (dep : Dependence) (p : HasParts (model_of program) dep)
+    → In (reader_of way p.from p.to).statement (model_of program).statements
+in_statements way program dep p =
+    in_from_place (model_of program).statements (reader_end way dep).statement (reader_of way p.from p.to).statement
+    (reader_slot way program dep p)

@@ -15,10 +15,10 @@ use Rattle.quast_trees.specs.declared.node.Node.TheVariants as node
 use Rattle.quast_joins.specs.Limits.{leaf_limit}
 use Rattle.quast_joins.specs.Sizes.{IsWithin, AreWithin, IsFormWithin, AreFormsWithin, LeavesWithin}
 use Rattle.scop_syntax.proofs.Members.{both, holds_le_z}
-use Rattle.dataflow.specs.LastRuns.{number_fits, numbers_fit, form_fits, forms_fit, leaves_fit, fitting}
+use Rattle.dataflow.specs.WriterRuns.{number_fits, numbers_fit, form_fits, forms_fit, leaves_fit, fitting}
 use Rattle.dataflow.specs.Problems.{all_below}
 use Rattle.dataflow.specs.Steps.{node_fits, nodes_fit}
-use Rattle.dataflow.proofs.LastWriters.{size-below}
+use Rattle.dataflow.proofs.ResolvedWriters.{size-below}
 
 -- numbers that fit are within the bound
 number_within : (most z : ℤ) → number_fits most z ≡ true → IsWithin most z

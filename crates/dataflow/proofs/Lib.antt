@@ -5,7 +5,7 @@ pub mod JoinedRuns
 pub mod Maxima
 pub mod ProblemPoints
 pub mod CandidateSolutions
-pub mod LastWriters
+pub mod ResolvedWriters
 pub mod Sizes
 pub mod PosableCandidates
 pub mod Lists

@@ -1,9 +1,14 @@
--- A maximum by a minimum.
+-- A maximum by a minimum, and a wanted point either way by the least point of a problem.
 use Rattle.std.proofs.Common.{◌≡◌, ℕ, ℤ, ◌-ℤ◌, List, [], ◌∷◌, length, inl, inr, ◌⊎◌, refl, sym, ap₂, subst, ◌∙◌, arith}
+use Rattle.std.proofs.lemmas.List.{length-map}
 use Rattle.std.proofs.lemmas.Int.{ints}
 use Rattle.whole_numbers.specs.Lexicographic.{LexLess, LexLe}
 use Rattle.whole_numbers.proofs.Lexicographic.{lex_total, LexLe-from_less, LexLe-refl}
+use Rattle.quast_joins.specs.declared.way.Way.{Way}
+use Rattle.quast_joins.specs.declared.way.Way.TheVariants.{Later, Earlier}
+use Rattle.dataflow.specs.Candidates.{TurnsAtMost}
 use Rattle.dataflow.specs.Flips.{flipped}
+use Rattle.dataflow.specs.Problems.{top, writer_turns}
 
 lex_le_or_less : (xs ys : List ℤ) → LexLe xs ys ⊎ LexLess ys xs
 lex_le_or_less xs ys = elim (lex_total xs ys) [
@@ -39,3 +44,23 @@ max_from_min top n Q P x to of size inside least = (of x inside, λ ys q. at_mos
           (flip-order top x (flipped top ys) (size x inside ∙ sym (size (flipped top ys) p)) l)
       | inr l ↦ absurd (least (flipped top ys) p l)
     ]
+
+-- the unknowns of a problem and the writer's turns
+pub length-turns : (way : Way) (xs : List ℤ) → length (writer_turns way xs) ≡ length xs
+length-turns Later xs = length-map xs (λ (z : ℤ). top -ℤ z)
+length-turns Earlier xs = refl
+
+pub turns_twice : (way : Way) (xs : List ℤ) → writer_turns way (writer_turns way xs) ≡ xs
+turns_twice Later xs = flip_twice top xs
+turns_twice Earlier xs = refl
+
+-- a least point in the unknowns is a wanted one in the turns
+pub wanted_from_min : (way : Way) (n : ℕ) (Q P : List ℤ → Type 0) (x : List ℤ)
+    → ((ys : List ℤ) → Q ys → P (writer_turns way ys)) → ((ys : List ℤ) → P ys → Q (writer_turns way ys))
+    → ((ys : List ℤ) → P ys → length ys ≡ n) → P x → ((y : List ℤ) → P y → LexLess y x → ⊥)
+    → Q (writer_turns way x) × ((ys : List ℤ) → Q ys → TurnsAtMost way ys (writer_turns way x))
+wanted_from_min Later n Q P x to of size inside least = max_from_min top n Q P x to of size inside least
+wanted_from_min Earlier n Q P x to of size inside least = (
+  of x inside,
+  λ ys q. elim (lex_le_or_less x ys) [ inl l ↦ l | inr l ↦ absurd (least ys (to ys q) l) ],
+)

@@ -9,6 +9,8 @@ use Rattle.std.proofs.lemmas.List.Elements.{All-nil, All-cons, All-head, All-tai
 use Rattle.whole_numbers.specs.Affine.{Affine, composed}
 use Rattle.affine_forms.specs.Parts.{variables_of}
 use Rattle.integer_sets.specs.Constraints.{Constraints, variables_in}
+use Rattle.quast_joins.specs.declared.way.Way.{Way}
+use Rattle.quast_joins.specs.declared.way.Way.TheVariants.{Later, Earlier}
 use Rattle.scop_syntax.specs.Kernel.{AreAtMost, IsKernel, IsPlaced, ranks_of}
 use Rattle.scop_syntax.specs.Members.{In}
 use Rattle.scop_syntax.specs.Order.{common}
@@ -28,10 +30,12 @@ use Rattle.conflict_deps.specs.Conflicts.{deps_between, conflicts_of, source_for
 use Rattle.conflict_deps.specs.Parts.{HasParts}
 use Rattle.conflict_deps.proofs.Sides.{in_flat_map_from}
 use Rattle.dataflow.specs.Posed.{CanPose, IsSmall}
-use Rattle.dataflow.specs.Problems.{top, below, all_below, turned_variables, moved_variables, flat, own}
-use Rattle.dataflow.specs.Problems.{own_equalities_of, turned}
+use Rattle.dataflow.specs.Problems.{top, below, all_below, moved_pair, moved_variables, flat, own, own_equalities_of}
+use Rattle.dataflow.specs.Problems.{reader_begins, turned}
+use Rattle.dataflow.specs.Sources.{writer_end, reader_end}
+use Rattle.dataflow.proofs.CandidateSolutions.{writer_of, reader_of, writer_slot, reader_slot}
 use Rattle.dataflow.proofs.Lists.{equalities_put}
-use Rattle.dataflow.proofs.LastWriters.{size-below, length-all_below}
+use Rattle.dataflow.proofs.ResolvedWriters.{length-all_below, size-pair}
 use Rattle.dataflow.proofs.Sizes.{AreSmall, all_small, side_small, statement_of_model, order_small, between_small}
 
 -- all numbers of a conflict's system are small
@@ -54,12 +58,12 @@ system_small program dep is placed h =
       subst (λ (d : Dependence). AreSmall d.system.rows) (sym a.2) small.1,
     )
 
--- so it can be posed
-pub can_pose : (program : Program) (dep : Dependence) (p : HasParts (model_of program) dep) → IsKernel program
+-- so it can be posed, its source as the writer
+pose_behind : (program : Program) (dep : Dependence) (p : HasParts (model_of program) dep) → IsKernel program
     → ((q : Placed) → In q (statements_of program) → IsPlaced (ranks_of program) (length program.parameters) q)
     → In dep (conflicts_of (model_of program))
     → CanPose (length program.parameters) p.from.statement p.to.statement dep
-can_pose program dep p is placed h =
+pose_behind program dep p is placed h =
     let model = model_of program in
     let m = length program.parameters in
     let s = p.from in
@@ -104,6 +108,35 @@ can_pose program dep p is placed h =
       small_reader_rows = all_small dt.rows other.rows;
     }
 
+-- and either way
+can_pose : (way : Way) (program : Program) (dep : Dependence) (p : HasParts (model_of program) dep) → IsKernel program
+    → ((q : Placed) → In q (statements_of program) → IsPlaced (ranks_of program) (length program.parameters) q)
+    → In dep (conflicts_of (model_of program))
+    → CanPose (length program.parameters) (writer_of way p.from p.to).statement
+    (reader_of way p.from p.to).statement dep
+can_pose Later program dep p is placed h = pose_behind program dep p is placed h
+can_pose Earlier program dep p is placed h =
+    let can = pose_behind program dep p is placed h in
+    let source = p.from.statement in
+    let own = statement_of_model program source is placed
+    (in_from_place (model_of program).statements dep.source.statement source p.source) in
+    let variables = can.variables in
+    let equalities = can.equalities in
+    let rows = can.rows in
+    record {
+      few = can.few;
+      few_turns = can.few_reader_turns;
+      few_reader_turns = can.few_turns;
+      parameters = own.parameters;
+      variables = omega arith;
+      equalities = omega arith;
+      rows = omega arith;
+      small_equalities = can.small_equalities;
+      small_rows = can.small_rows;
+      small_reader_equalities = all_small source.domain.equalities own.equalities;
+      small_reader_rows = all_small source.domain.rows own.rows;
+    }
+
 -- the sizes of what is put in
 size-one_below : (n j : ℕ) → form_size (below top n j) ≤ 2 ^ 46 + 1
 size-one_below n j =
@@ -141,30 +174,41 @@ can_compose n k inner (f ∷ fs) count sized few over small =
     (can_compose n k inner fs count sized few (All-tail (λ f. variables_of f ≡ k) f fs over)
     (All-tail IsSmall f fs small))
 
--- those of a conflict's system, of d and e turns and m parameters
-pub turned_can : (d m e : ℕ) (fs : List Affine) → d ≤ 5 → m ≤ 4 → e ≤ 5
-    → All (λ f. variables_of f ≡ d + e + m) fs → All IsSmall fs
-    → All (CanCompose (d + (m + e)) (turned_variables d m e)) fs
-turned_can d m e fs hd hm he over small =
-    let n = d + (m + e) in
-    let P : Affine → Type 0 = λ g. variables_of g ≡ n in
-    let a = all_below top n 0 d in
-    let b = variables n (d + m) e in
-    let c = variables n d m in
-    let la = length-all_below top n 0 d in
-    let lb = length-variables n (d + m) e in
-    let lc = length-variables n d m in
+-- three lists of such, one behind another
+three_can : (n k : ℕ) (a b c fs : List Affine) → length a + (length b + length c) ≡ k
+    → All (λ g. variables_of g ≡ n) (a ++ (b ++ c)) → forms_size a + (forms_size b + forms_size c) ≤ 2 ^ 50
+    → All (λ f. variables_of f ≡ k) fs → All IsSmall fs → All (CanCompose n (a ++ (b ++ c))) fs
+three_can n k a b c fs count sized few over small =
     let l = length-append a (b ++ c) in
     let l2 = length-append b c in
     let s = sizes-append a (b ++ c) in
     let s2 = sizes-append b c in
+    can_compose n k (a ++ (b ++ c)) fs (omega arith) sized (omega arith) over small
+
+-- those of a conflict's system, of d turns of the writer and e of the reader, and m parameters
+turned_can : (way : Way) (d m e : ℕ) (fs : List Affine) → d ≤ 5 → m ≤ 4 → e ≤ 5
+    → All (λ f. variables_of f ≡ d + e + m) fs → All IsSmall fs
+    → All (CanCompose (d + (m + e)) (moved_pair way d m e)) fs
+turned_can Later d m e fs hd hm he over small =
+    let n = d + (m + e) in
+    let la = length-all_below top n 0 d in
+    let lb = length-variables n (d + m) e in
+    let lc = length-variables n d m in
     let sa = sizes-below n 0 d in
     let sb = size-variables n (d + m) e in
     let sc = size-variables n d m in
-    can_compose n (d + e + m) (turned_variables d m e) fs (omega arith)
-    (All-append P a (b ++ c) (size-below top n 0 d)
-    (All-append P b c (sized-variables n (d + m) e) (sized-variables n d m)))
-    (omega arith) over small
+    three_can n (d + e + m) (all_below top n 0 d) (variables n (d + m) e) (variables n d m) fs (omega arith)
+    (size-pair Later d m e) (omega arith) over small
+turned_can Earlier d m e fs hd hm he over small =
+    let n = d + (m + e) in
+    let la = length-variables n (d + m) e in
+    let lb = length-variables n 0 d in
+    let lc = length-variables n d m in
+    let sa = size-variables n (d + m) e in
+    let sb = size-variables n 0 d in
+    let sc = size-variables n d m in
+    three_can n (d + e + m) (variables n (d + m) e) (variables n 0 d) (variables n d m) fs (omega arith)
+    (size-pair Earlier d m e) (omega arith) over small
 
 -- those of the reader's domain
 pub moved_can : (m e : ℕ) (fs : List Affine) → m ≤ 4 → e ≤ 5 → All (λ f. variables_of f ≡ e + m) fs → All IsSmall fs
@@ -184,38 +228,40 @@ moved_can m e fs hm he over small =
     (All-append P b c (sized-variables n m e) (sized-variables n 0 m)) (omega arith) over small
 
 -- a list of a conflict's system, by what the calls lend
-pub own_can : (m : ℕ) (s t : Modelled) (dep : Dependence) (system : Constraints) (inner : List Affine) (a b : ℕ)
-    (fs whole : List Affine) → CanPose m s t dep → system ≡ dep.system
-    → inner ≡ turned_variables s.domain.dimensions m t.domain.dimensions → a ≡ s.domain.dimensions
+pub own_can : (way : Way) (m : ℕ) (s t : Modelled) (dep : Dependence) (system : Constraints) (inner : List Affine)
+    (a b : ℕ) (fs whole : List Affine) → CanPose m s t dep → system ≡ dep.system
+    → inner ≡ moved_pair way s.domain.dimensions m t.domain.dimensions → a ≡ s.domain.dimensions
     → b ≡ t.domain.dimensions → All (λ f. variables_of f ≡ variables_in system) fs → fs ≡ whole → All IsSmall whole
     → All (CanCompose (a + (m + b)) inner) fs
-own_can m s t dep system inner a b fs whole can same is la lb over whole_is small =
+own_can way m s t dep system inner a b fs whole can same is la lb over whole_is small =
     let d = s.domain.dimensions in
     let e = t.domain.dimensions in
     subst (λ (gs : List Affine). All (CanCompose (a + (m + b)) gs) fs) (sym is)
-    (subst (λ (k : ℕ). All (CanCompose k (turned_variables d m e)) fs)
+    (subst (λ (k : ℕ). All (CanCompose k (moved_pair way d m e)) fs)
     (sym (ap₂ (λ (i k : ℕ). i + (m + k)) la lb))
-    (turned_can d m e fs can.few_turns can.few can.few_reader_turns
+    (turned_can way d m e fs can.few_turns can.few can.few_reader_turns
     (subst (λ (k : ℕ). All (λ f. variables_of f ≡ k) fs) (ap variables_in same ∙ can.variables) over)
     (subst (λ (gs : List Affine). All IsSmall gs) (sym whole_is) small)))
 
 -- its equalities, put together
-pub own_put : (m : ℕ) (s t : Modelled) (dep : Dependence) (inner : List Affine) (a b k j : ℕ)
-    (fs start first second : List Affine) → inner ≡ turned_variables s.domain.dimensions m t.domain.dimensions
-    → a ≡ s.domain.dimensions → b ≡ t.domain.dimensions → k ≡ length s.domain.equalities
+pub own_put : (way : Way) (m : ℕ) (s t : Modelled) (dep : Dependence) (inner : List Affine) (a b k j : ℕ)
+    (fs start first second : List Affine) → inner ≡ moved_pair way s.domain.dimensions m t.domain.dimensions
+    → a ≡ s.domain.dimensions → b ≡ t.domain.dimensions → k ≡ reader_begins way (length s.domain.equalities)
     → j ≡ length t.domain.equalities → fs ≡ dep.system.equalities
     → first ≡ start ++ flat (map (λ f. composed f inner (a + (m + b))) (take k fs))
     → second ≡ first ++ flat (map (λ f. composed f inner (a + (m + b))) (take (length fs - (k + j)) (drop (k + j) fs)))
-    → second ≡ start ++ flat (map (turned s.domain.dimensions m t.domain.dimensions) (own_equalities_of s t dep))
-own_put m s t dep inner a b k j fs start first second is la lb lk lj whole_is one two =
+    → second ≡ start
+    ++ flat (map (turned way s.domain.dimensions m t.domain.dimensions) (own_equalities_of way s t dep))
+own_put way m s t dep inner a b k j fs start first second is la lb lk lj whole_is one two =
     let d = s.domain.dimensions in
     let e = t.domain.dimensions in
+    let h = turned way d m e in
     equalities_put (λ f. composed f inner (a + (m + b))) fs k j start first second one two
     ∙ (ap₂ (λ (gs : List Affine) (i : ℕ). start ++ flat (map (λ f. composed f gs i) (own k j fs))) is
     (ap₂ (λ (i k : ℕ). i + (m + k)) la lb)
-    ∙ (ap₂ (λ (x y : ℕ). start ++ flat (map (turned d m e) (own x y fs))) lk lj
-    ∙ ap (λ (gs : List Affine). start ++ flat (map (turned d m e)
-    (own (length s.domain.equalities) (length t.domain.equalities) gs))) whole_is))
+    ∙ (ap₂ (λ (x y : ℕ). start ++ flat (map h (own x y fs))) lk lj
+    ∙ ap (λ (gs : List Affine). start ++ flat (map h
+    (own (reader_begins way (length s.domain.equalities)) (length t.domain.equalities) gs))) whole_is))
 
 -- a list of the reader's domain
 pub reader_can : (m e : ℕ) (t : Modelled) (system : Constraints) (inner fs whole : List Affine) → m ≤ 4 → e ≤ 5
@@ -230,30 +276,31 @@ reader_can m e t system inner fs whole hm he same count long is over whole_is sm
     (subst (λ (gs : List Affine). All IsSmall gs) (sym whole_is) small))
 
 -- a candidate's statements, between which it can be posed
-pub record IsReady (model : KernelModel) (dep : Dependence) : Type 0 where
+pub record IsReady (way : Way) (model : KernelModel) (dep : Dependence) : Type 0 where
   pub writer : Modelled
   pub reader : Modelled
-  pub source : slice_get model.statements dep.source.statement ≡ Some writer
-  pub target : slice_get model.statements dep.target.statement ≡ Some reader
+  pub writes : slice_get model.statements (writer_end way dep).statement ≡ Some writer
+  pub reads : slice_get model.statements (reader_end way dep).statement ≡ Some reader
   pub can : CanPose model.parameters writer reader dep
 
-pub ready : (program : Program) (model : KernelModel) (dep : Dependence) → IsKernel program → model ≡ model_of program
+pub ready : (way : Way) (program : Program) (model : KernelModel) (dep : Dependence) → IsKernel program
+    → model ≡ model_of program
     → ((p q : Placed) → In p (statements_of program) → In q (statements_of program) → p.number ≡ q.number → p ≡ q)
     → ((k : ℕ) (p : Placed) → slice_get (statements_of program) k ≡ Some p → p.number ≡ k)
     → ((q : Placed) → In q (statements_of program) → IsPlaced (ranks_of program) (length program.parameters) q)
     → ((m : KernelModel) (d : Dependence) → IsKernelModel m → In d (conflicts_of m) → HasParts m d)
-    → In dep (conflicts_of model) → IsReady model dep
-ready program model dep is e same number placed parts =
-    subst (λ (m : KernelModel). In dep (conflicts_of m) → IsReady m dep) (sym e) (λ h.
+    → In dep (conflicts_of model) → IsReady way model dep
+ready way program model dep is e same number placed parts =
+    subst (λ (m : KernelModel). In dep (conflicts_of m) → IsReady way m dep) (sym e) (λ h.
     let m = length program.parameters in
     let one = model_is_one program m (map (modelled m) (statements_of program)) is same number refl in
     let p = parts (model_of program) dep one h in
     record {
-      writer = p.from.statement;
-      reader = p.to.statement;
-      source = p.source;
-      target = p.target;
-      can = can_pose program dep p is placed h;
+      writer = (writer_of way p.from p.to).statement;
+      reader = (reader_of way p.from p.to).statement;
+      writes = writer_slot way program dep p;
+      reads = reader_slot way program dep p;
+      can = can_pose way program dep p is placed h;
     })
 
 -- what stands at a place

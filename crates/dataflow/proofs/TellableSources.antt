@@ -3,7 +3,7 @@
 use Rattle.std.proofs.Common.{◌≡◌, ℕ, zero, suc, ◌+◌, ◌^◌, ◌<◌, ◌≤◌, Bool, true, false, List, [], ◌∷◌, ◌++◌, length}
 use Rattle.std.proofs.Common.{All, ◌-◌}
 use Rattle.std.proofs.Common.{Option, Some, None, Result, Ok, Err, refl, sym, ap, subst, ◌∙◌, arith, inl, inr}
-use Rattle.std.specs.Prelude.{⊤, nat_eq, nat_lt, if◌then◌else◌, slice_get}
+use Rattle.std.specs.Prelude.{⊤, IfOk, nat_eq, nat_lt, if◌then◌else◌, slice_get}
 use Rattle.std.proofs.lemmas.List.Elements.{All-head, All-tail}
 use Rattle.std.proofs.lemmas.List.{length-map}
 use Rattle.whole_numbers.specs.Affine.{Affine}
@@ -12,13 +12,12 @@ use Rattle.wide_math.proofs.Steps.{chain-ok}
 use Rattle.affine_forms.specs.Runs.{compose_run}
 use Rattle.pip_solver.specs.declared.stop.Stop.TheVariants as solver
 use Rattle.tableau_rows.specs.Run as run
-use Rattle.pip_solver.proofs.KeptSolutions.{lexmin-speaks}
+use Rattle.pip_solver.proofs.KeptSolutions.{lexmin-speaks, lexmin-forms}
 use Rattle.quast_trees.specs.Source.{Source, Forms, source_of}
 use Rattle.quast_trees.specs.Tree.{Tree, initial, leaf, branch, bind, count, named, Speaks, LeavesHave}
 use Rattle.quast_trees.specs.Mapped.{composed_run, leaf_run, map_run}
 use Rattle.quast_trees.proofs.ListRuns.{each_run-map}
 use Rattle.quast_trees.specs.Postfix.{tree_of}
-use Rattle.quast_trees.proofs.MappedTrees.{map_run-speaks}
 use Rattle.quast_trees.proofs.NamedTrees.{named-speaks}
 use Rattle.quast_joins.specs.Counts.{join_count, HasForms}
 use Rattle.quast_joins.specs.Joins.{test_of, last_leaf, chain, meet, under, moved, join_from, join}
@@ -26,7 +25,7 @@ use Rattle.quast_joins.specs.Limits.{node_limit}
 use Rattle.quast_joins.specs.Shifts.{shifted_leaf, widened}
 use Rattle.quast_joins.specs.Ways.{statement_of, loops_of, text}
 use Rattle.quast_joins.specs.declared.way.Way.{Way}
-use Rattle.quast_joins.specs.declared.way.Way.TheVariants.{Later}
+use Rattle.quast_joins.specs.declared.way.Way.TheVariants.{Later, Earlier}
 use Rattle.quast_joins.proofs.Counts.{join-count, join-forms}
 use Rattle.quast_joins.proofs.Variables.{join-speaks}
 use Rattle.scop_syntax.specs.Members.{In}
@@ -37,18 +36,20 @@ use Rattle.iteration_domains.specs.Dependence.{Dependence}
 use Rattle.iteration_domains.specs.Model.{Modelled, KernelModel, model_of, modelled}
 use Rattle.conflict_deps.specs.Conflicts.{conflicts_of}
 use Rattle.dataflow.specs.ReadSources.{AreSources, IsSourceOf, TellsStop, reads_from, reads_of_statement, reads_in, reads_of}
-use Rattle.dataflow.specs.LastRuns as last
-use Rattle.dataflow.specs.LastRuns.{Stopped, last_run, solve_run, solve_between, is_candidate, candidates_of, turns_in}
-use Rattle.dataflow.specs.LastRuns.{read_variables}
+use Rattle.dataflow.specs.WriterRuns as writer
+use Rattle.dataflow.specs.WriterRuns.{Stopped, writers_run, solve_run, solve_between, turned_back, is_candidate}
+use Rattle.dataflow.specs.WriterRuns.{candidates_of, turns_in, read_variables}
 use Rattle.dataflow.specs.Problems.{top, all_below, posed_rows, posed_context}
 use Rattle.dataflow.specs.Runs.{Halt, nodes, then_join, sources_run}
+use Rattle.dataflow.specs.Sources.{writer_end, reader_end}
 use Rattle.dataflow.specs.Steps.{IsHeldSource}
 use Rattle.dataflow.specs.Told.{IsInstance, NamesInstances, IsToldStop, IsToldOver, IsToldAt, AreTold}
 use Rattle.dataflow.specs.declared.source.ReadSource.{ReadSource}
 use Rattle.dataflow.specs.declared.source.ReadSource.TheVariants as source
 use Rattle.dataflow.specs.declared.source.SourceStop.TheVariants as stop
-use Rattle.dataflow.proofs.CandidateRuns.{reader_is}
-use Rattle.dataflow.proofs.LastWriters.{chosen_in, posed-speaks, context-speaks, solved_of, length-all_below}
+use Rattle.dataflow.proofs.CandidateRuns.{reader_is, variables_are}
+use Rattle.dataflow.proofs.ResolvedWriters.{chosen_in, posed-speaks, context-speaks, solved_of, back_speaks}
+use Rattle.dataflow.proofs.ResolvedWriters.{length-all_below}
 
 -- ---- leaves name instances
 
@@ -136,6 +137,13 @@ mapped-forms forms (bind f divisor t) u h =
     let e : u ≡ bind f divisor c.0 = cc (c.2) in
     rw e (mapped-forms forms t c.0 c.1)
 
+-- a minimum turned back
+back_forms : (way : Way) (d : ℕ) (least back : Tree) → LeavesHave d least → turned_back way d least ≡ Ok back
+    → LeavesHave d back
+back_forms Later d least back forms h =
+    subst (λ (i : ℕ). LeavesHave i back) (length-all_below top d 0 d) (mapped-forms (all_below top d 0 d) least back h)
+back_forms Earlier d least back forms h = let same : least ≡ back = cc in subst (LeavesHave d) same forms
+
 -- a named tree
 named-forms : (s : Source) (t : Tree) → LeavesHave (length s.loops) t → HasForms (named s t)
 named-forms s initial h = tt
@@ -146,7 +154,7 @@ named-forms s (bind f d x) h = named-forms s x h
 -- ---- the run
 
 -- what a candidate's quast is
-abbrev IsOver : KernelModel → ℕ → Tree → Type 0
+abbrev pub IsOver : KernelModel → ℕ → Tree → Type 0
 IsOver model n t = Speaks n t × NamesInstances model t × HasForms t
 
 -- each statement has a dimension for each loop
@@ -156,116 +164,134 @@ HaveLoops model = (t : Modelled) → In t model.statements → length t.loops �
 initial_over : (model : KernelModel) (n : ℕ) (t : Tree) → initial ≡ t → IsOver model n t
 initial_over model n t e = subst (IsOver model n) e (tt, tt, tt)
 
-between_over : (model : KernelModel) (budget : ℕ) (dep : Dependence) (o q : Option Modelled) (tree : Tree)
-    → HaveLoops model → slice_get model.statements dep.source.statement ≡ o
-    → solve_between model.parameters budget dep o q ≡ Ok tree
+between_over : (way : Way) (model : KernelModel) (budget : ℕ) (dep : Dependence) (o q : Option Modelled) (tree : Tree)
+    → HaveLoops model → slice_get model.statements (writer_end way dep).statement ≡ o
+    → solve_between way model.parameters budget dep o q ≡ Ok tree
     → IsOver model (model.parameters + turns_in q) tree
-between_over model budget dep None q tree loops here h = initial_over model (model.parameters + turns_in q) tree cc
-between_over model budget dep (Some s) None tree loops here h = initial_over model (model.parameters + 0) tree cc
-between_over model budget dep (Some s) (Some t) tree loops here h =
+between_over way model budget dep None q tree loops here h =
+    initial_over model (model.parameters + turns_in q) tree cc
+between_over way model budget dep (Some s) None tree loops here h =
+    initial_over model (model.parameters + 0) tree cc
+between_over way model budget dep (Some s) (Some t) tree loops here h =
     let m = model.parameters in
     let d = s.domain.dimensions in
     let n = m + t.domain.dimensions in
-    let solved = solved_of m budget dep s t tree h in
+    let rows = posed-speaks way s t m dep in
+    let context = context-speaks t m in
+    let solved = solved_of way m budget dep s t tree h in
     let least = solved.minimum in
-    let speaks = lexmin-speaks budget d n (posed_rows s t m dep) (posed_context t m) least solved.left
-    (posed-speaks s t m dep) (context-speaks t m) solved.run in
-    let from = source_of dep.source.statement s.loops in
-    let back = solved.turned_back in
-    let inside = in_from_place model.statements dep.source.statement s here in
-    let forms : LeavesHave d back = subst (λ (i : ℕ). LeavesHave i back) (length-all_below top d 0 d)
-    (mapped-forms (all_below top d 0 d) least back solved.mapped) in
+    let speaks = lexmin-speaks budget d n (posed_rows way s t m dep) (posed_context t m) least solved.left rows context
+    solved.run in
+    let number = (writer_end way dep).statement in
+    let from = source_of number s.loops in
+    let back = solved.back in
+    let inside = in_from_place model.statements number s here in
+    let forms : LeavesHave d back = back_forms way d least back
+    (lexmin-forms budget d n (posed_rows way s t m dep) (posed_context t m) least solved.left rows context solved.run)
+    solved.turned in
     subst (IsOver model n) (sym solved.is) (
-      named-speaks from n back (map_run-speaks (all_below top d 0 d) n least back speaks solved.mapped),
+      named-speaks from n back (back_speaks way d n least back speaks solved.turned),
       named-instances model from back (s, here, refl),
       named-forms from back (subst (λ (i : ℕ). LeavesHave i back) (sym (loops s inside)) forms),
     )
 
-solved_over : (model : KernelModel) (budget : ℕ) (dep : Dependence) (tree : Tree) → HaveLoops model
-    → solve_run model budget dep ≡ Ok tree → IsOver model (read_variables model dep.target.statement) tree
+pub solved_over : (way : Way) (model : KernelModel) (budget : ℕ) (dep : Dependence) (tree : Tree) → HaveLoops model
+    → solve_run way model budget dep ≡ Ok tree → IsOver model (read_variables model (reader_end way dep).statement) tree
 unfolding solve_run
-solved_over model budget dep tree loops h =
-    between_over model budget dep (slice_get model.statements dep.source.statement)
-    (slice_get model.statements dep.target.statement) tree loops refl h
+solved_over way model budget dep tree loops h =
+    between_over way model budget dep (slice_get model.statements (writer_end way dep).statement)
+    (slice_get model.statements (reader_end way dep).statement) tree loops refl h
 
 -- a join that the run goes on from has few nodes
-few_nodes : {E : Type 0} (b : Bool) (a t : Tree) (n : ℕ) (rest : Result Tree (Halt E)) (u : Tree)
+few_nodes : {E : Type 0} (way : Way) (b : Bool) (a t : Tree) (n : ℕ) (rest : Result Tree (Halt E)) (u : Tree)
     → nat_lt node_limit (join_count a t) ≡ b
     → (if b then Err (nodes (join_count a t)) else rest) ≡ Ok u
-    → (count (join Later n a t) ≤ node_limit) × (rest ≡ Ok u)
-few_nodes true a t n rest u e h = absurd cc
-few_nodes false a t n rest u e h =
-    let same = join-count Later n a t in
+    → (count (join way n a t) ≤ node_limit) × (rest ≡ Ok u)
+few_nodes way true a t n rest u e h = absurd cc
+few_nodes way false a t n rest u e h =
+    let same = join-count way n a t in
     let few : join_count a t ≤ node_limit = grind arith in
     (omega (arith, same, few), h)
 
 -- what joins keep, of all candidates' trees and the first, the run's tree has
-run_keeps : {C E : Type 0} (P : Tree → Type 0) (n : ℕ) (solve : C → Result Tree E)
-    → ((a b : Tree) → P a → P b → P (join Later n a b)) → (cs : List C) (acc u : Tree)
+pub run_keeps : {C E : Type 0} (way : Way) (P : Tree → Type 0) (n : ℕ) (solve : C → Result Tree E)
+    → ((a b : Tree) → P a → P b → P (join way n a b)) → (cs : List C) (acc u : Tree)
     → ((c : C) (t : Tree) → In c cs → solve c ≡ Ok t → P t) → P acc → count acc ≤ node_limit
-    → sources_run Later n solve acc cs ≡ Ok u → P u × (count u ≤ node_limit)
-run_keeps P n solve joins [] acc u each first few h =
+    → sources_run way n solve acc cs ≡ Ok u → P u × (count u ≤ node_limit)
+run_keeps way P n solve joins [] acc u each first few h =
     let e : acc ≡ u = cc in
     subst (λ t. P t × (count t ≤ node_limit)) e (first, few)
-run_keeps {C} {E} P n solve joins (c ∷ cs) acc u each first few h =
+run_keeps {C} {E} way P n solve joins (c ∷ cs) acc u each first few h =
     by_tree (solve c) refl h (λ t e small g.
-    run_keeps P n solve joins cs (join Later n acc t) u (λ d v i. each d v (inr i))
+    run_keeps way P n solve joins cs (join way n acc t) u (λ d v i. each d v (inr i))
     (joins acc t first (each c t (inl refl) e)) small g)
   where
     by_tree : (r : Result Tree E) → solve c ≡ r
-        → then_join Later n acc r (λ t. sources_run Later n solve t cs) ≡ Ok u
-        → ((t : Tree) → solve c ≡ Ok t → count (join Later n acc t) ≤ node_limit
-        → sources_run Later n solve (join Later n acc t) cs ≡ Ok u → P u × (count u ≤ node_limit))
+        → then_join way n acc r (λ t. sources_run way n solve t cs) ≡ Ok u
+        → ((t : Tree) → solve c ≡ Ok t → count (join way n acc t) ≤ node_limit
+        → sources_run way n solve (join way n acc t) cs ≡ Ok u → P u × (count u ≤ node_limit))
         → P u × (count u ≤ node_limit)
     by_tree (Err stopped) e g go_on = absurd cc
     by_tree (Ok t) e g go_on =
-        let step = few_nodes (nat_lt node_limit (join_count acc t)) acc t n
-        (sources_run Later n solve (join Later n acc t) cs) u refl g in
+        let step = few_nodes way (nat_lt node_limit (join_count acc t)) acc t n
+        (sources_run way n solve (join way n acc t) cs) u refl g in
         go_on t e step.0 step.1
 
--- the quast of a read
-last_over : (model : KernelModel) (budget statement access : ℕ) (u : Tree) → HaveLoops model
-    → last_run model budget statement access ≡ Ok u
+-- the quast of an access
+pub quast_over : (way : Way) (model : KernelModel) (budget statement access : ℕ) (u : Tree) → HaveLoops model
+    → writers_run way model budget statement access ≡ Ok u
     → IsOver model (read_variables model statement) u × (count u ≤ node_limit)
-last_over model budget statement access u loops h =
+quast_over way model budget statement access u loops h =
     let n = read_variables model statement in
-    run_keeps (IsOver model n) n (solve_run model budget)
+    run_keeps way (IsOver model n) n (solve_run way model budget)
     (λ a b x y. (
-      join-speaks Later n a b x.0 y.0,
-      join_names Later model n 0 a b x.1 y.1,
-      join-forms Later n a b x.2 y.2,
+      join-speaks way n a b x.0 y.0,
+      join_names way model n 0 a b x.1 y.1,
+      join-forms way n a b x.2 y.2,
     ))
-    (candidates_of model statement access) initial u
-    (λ dep t i e. let c = chosen_in (is_candidate statement access) (conflicts_of model) dep i in
-    subst (λ (k : ℕ). IsOver model (read_variables model k) t) (reader_is statement access dep c.1)
-    (solved_over model budget dep t loops e))
+    (candidates_of way model statement access) initial u
+    (λ dep t i e. let c = chosen_in (is_candidate way statement access) (conflicts_of model) dep i in
+    subst (λ (k : ℕ). IsOver model (read_variables model k) t) (reader_is way statement access dep c.1)
+    (solved_over way model budget dep t loops e))
     (tt, tt, tt) (omega arith) h
 
 -- ---- sources
 
 -- a stop's moves are the budget
-stop_told : (model : KernelModel) (budget : ℕ) (told : solver.the_data) (why : Stopped) → budget < 2 ^ 64
-    → TellsStop model budget told why → IsToldStop told
-stop_told model budget (solver.Wide told moves) why small h = tt
-stop_told model budget (solver.Spent told moves) (last.solver dep run.spent) small h =
+stop_told : (way : Way) (model : KernelModel) (budget : ℕ) (told : solver.the_data) (why : Stopped) → budget < 2 ^ 64
+    → TellsStop way model budget told why → IsToldStop told
+stop_told way model budget (solver.Wide told moves) why small h = tt
+stop_told way model budget (solver.Spent told moves) (writer.solver dep run.spent) small h =
     let same = h.0 in omega (arith, same)
-stop_told model budget (solver.Spent told moves) (last.solver dep (run.wide w left)) small h = absurd h
-stop_told model budget (solver.Spent told moves) (last.wide_leaf dep) small h = absurd h
-stop_told model budget solver.NoMemory (last.solver dep run.spent) small h = absurd h
-stop_told model budget solver.NoMemory (last.solver dep (run.wide w left)) small h = absurd h
-stop_told model budget solver.NoMemory (last.wide_leaf dep) small h = absurd h
+stop_told way model budget (solver.Spent told moves) (writer.solver dep (run.wide w left)) small h = absurd h
+stop_told way model budget (solver.Spent told moves) (writer.wide_leaf dep) small h = absurd h
+stop_told way model budget solver.NoMemory (writer.solver dep run.spent) small h = absurd h
+stop_told way model budget solver.NoMemory (writer.solver dep (run.wide w left)) small h = absurd h
+stop_told way model budget solver.NoMemory (writer.wide_leaf dep) small h = absurd h
 
 -- a source
-source_told : (model : KernelModel) (budget statement access : ℕ) (from : ReadSource) → HaveLoops model
-    → budget < 2 ^ 64 → IsSourceOf model budget statement access from → IsHeldSource from
+source_told : (way : Way) (model : KernelModel) (budget statement access : ℕ) (from : ReadSource) → HaveLoops model
+    → budget < 2 ^ 64 → IsSourceOf way model budget statement access from → IsHeldSource from
     → IsToldOver model (read_variables model statement) from
-source_told model budget statement access (source.Resolved quast) loops small is held =
-    let r = last_over model budget statement access (tree_of quast) loops is in
+source_told way model budget statement access (source.Resolved quast) loops small is held =
+    let r = quast_over way model budget statement access (tree_of quast) loops is in
     record { speaks = r.0.0; numbers = held; leaves = r.0.1; forms = r.0.2; few = r.1 }
-source_told model budget statement access (source.Unresolved (stop.Solver told)) loops small is held =
-    stop_told model budget told is.0 small is.2
-source_told model budget statement access (source.Unresolved (stop.Join count)) loops small is held =
+source_told way model budget statement access (source.Unresolved (stop.Solver told)) loops small is held =
+    stop_told way model budget told is.0 small is.2
+source_told way model budget statement access (source.Unresolved (stop.Join count)) loops small is held =
     let same = is.2 in omega (arith, same)
+
+-- that of a statement's access, where there is one
+pub told_if_ok : {E : Type 0} (way : Way) (model : KernelModel) (budget access : ℕ) (s : Modelled)
+    (r : Result ReadSource E) → HaveLoops model
+    → ((k : ℕ) (t : Modelled) → slice_get model.statements k ≡ Some t → t.number ≡ k) → budget < 2 ^ 64
+    → In s model.statements → IfOk r (IsSourceOf way model budget s.number access) → IfOk r IsHeldSource
+    → IfOk r (IsToldOver model (model.parameters + length s.loops))
+told_if_ok way model budget access s (Err e) loops places small among is held = tt
+told_if_ok way model budget access s (Ok from) loops places small among is held =
+    subst (λ (n : ℕ). IsToldOver model n from)
+    (variables_are model s places among ∙ ap (λ (d : ℕ). model.parameters + d) (sym (loops s among)))
+    (source_told way model budget s.number access from loops small is held)
 
 -- ---- reads
 
@@ -317,16 +343,16 @@ source_at_read model number from there told =
     (subst (λ (d : ℕ). IsToldOver model (model.parameters + d) from) (sym there.2) over)
 
 -- sources of a model's reads are told
-pub sources_told : (model : KernelModel) (budget : ℕ) (reads : List (ℕ × ℕ)) (sources : List ReadSource)
-    → HaveLoops model → budget < 2 ^ 64 → AreReads model reads → AreSources model budget reads sources
+pub sources_told : (way : Way) (model : KernelModel) (budget : ℕ) (reads : List (ℕ × ℕ)) (sources : List ReadSource)
+    → HaveLoops model → budget < 2 ^ 64 → AreReads model reads → AreSources way model budget reads sources
     → All IsHeldSource sources → AreTold model reads sources
-sources_told model budget [] [] loops small there are held = tt
-sources_told model budget [] (s ∷ ss) loops small there are held = absurd are
-sources_told model budget (r ∷ rs) [] loops small there are held = absurd are
-sources_told model budget (r ∷ rs) (s ∷ ss) loops small there are held = (
+sources_told way model budget [] [] loops small there are held = tt
+sources_told way model budget [] (s ∷ ss) loops small there are held = absurd are
+sources_told way model budget (r ∷ rs) [] loops small there are held = absurd are
+sources_told way model budget (r ∷ rs) (s ∷ ss) loops small there are held = (
   source_at_read model r.0 s there.0
-      (source_told model budget r.0 r.1 s loops small are.0 (All-head IsHeldSource s ss held)),
-  sources_told model budget rs ss loops small there.1 are.1 (All-tail IsHeldSource s ss held),
+      (source_told way model budget r.0 r.1 s loops small are.0 (All-head IsHeldSource s ss held)),
+  sources_told way model budget rs ss loops small there.1 are.1 (All-tail IsHeldSource s ss held),
 )
 
 -- a statement of a kernel has a dimension for each loop

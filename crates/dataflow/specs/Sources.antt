@@ -7,6 +7,8 @@ use Rattle.quast_joins.specs.declared.way.Way.TheVariants.{Later, Earlier}
 use Rattle.scop_syntax.specs.Tree.{Program}
 use Rattle.scop_syntax.specs.Members.{In}
 use Rattle.scop_syntax.specs.Walk.{Visit}
+use Rattle.scop_syntax.specs.Cells.{Cell}
+use Rattle.scop_syntax.specs.Writers.{last_writer, next_writer}
 use Rattle.iteration_domains.specs.Model.{Modelled, KernelModel, model_of}
 use Rattle.iteration_domains.specs.Dependence.{Dependence}
 use Rattle.iteration_domains.specs.declared.dep.DepEnd.{DepEnd}
@@ -23,6 +25,11 @@ writer_end Earlier dep = dep.target
 abbrev pub reader_end : Way → Dependence → DepEnd
 reader_end Later dep = dep.target
 reader_end Earlier dep = dep.source
+
+-- the writer of a cell that is wanted: the last before a place, or the next behind it
+abbrev pub wanted_writer : Way → List Visit → ℕ → Cell → Option ℕ
+wanted_writer Later visits j c = last_writer visits j c
+wanted_writer Earlier visits j c = next_writer visits j c
 
 -- the writer's turns xs and the reader's turns ys are a point of the pair
 abbrev pub IsWritePoint : Way → Program → List ℤ → Dependence → List ℤ → List ℤ → Type 0

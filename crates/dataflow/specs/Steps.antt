@@ -9,17 +9,19 @@ use Rattle.quast_trees.specs.declared.node.Node.{Node}
 use Rattle.quast_trees.specs.declared.node.Node.TheVariants as node
 use Rattle.quast_joins.specs.Limits.{leaf_limit}
 use Rattle.quast_joins.specs.Sizes.{LeavesWithin}
-use Rattle.quast_joins.specs.declared.way.Way.TheVariants.{Later}
+use Rattle.quast_joins.specs.declared.way.Way.{Way}
 use Rattle.iteration_domains.specs.Model.{KernelModel}
 use Rattle.iteration_domains.specs.Dependence.{Dependence}
 use Rattle.dataflow.specs.ReadSources.{TellsStop, Unresolves, AreSources}
-use Rattle.dataflow.specs.LastRuns.{Stopped, forms_fit, solve_run, read_variables}
 use Rattle.dataflow.specs.Runs.{sources_run}
+use Rattle.dataflow.specs.Sources.{reader_end}
+use Rattle.dataflow.specs.WriterRuns.{Stopped, forms_fit, solve_run, read_variables}
 use Rattle.dataflow.specs.declared.reads.Halted.{Halted}
 use Rattle.dataflow.specs.declared.reads.Halted.TheVariants as halt
 use Rattle.dataflow.specs.declared.source.ReadSource.{ReadSource}
 use Rattle.dataflow.specs.declared.source.ReadSource.TheVariants as source
-use Rattle.dataflow.specs.Told.{IsHeld, HoldsNumbers}
+use Rattle.quast_trees.specs.Turns.{IsHeld}
+use Rattle.dataflow.specs.Told.{HoldsNumbers}
 
 -- whether each number of a node's forms, if it is a leaf's, fits
 abbrev pub node_fits : ℤ → Node → Bool
@@ -47,34 +49,34 @@ pub record IsJoinable (n : ℕ) (quast : Postfix) : Type 0 where
   pub leaves : LeavesWithin leaf_limit (tree_of quast)
 
 -- a stop of the solver tells a candidate's; want of memory is free
-abbrev pub IsToldAs : KernelModel → ℕ → solver.the_data → Stopped → Type 0
-IsToldAs model budget solver.NoMemory why = ⊤
-IsToldAs model budget stop why = TellsStop model budget stop why
+abbrev pub IsToldAs : Way → KernelModel → ℕ → solver.the_data → Stopped → Type 0
+IsToldAs way model budget solver.NoMemory why = ⊤
+IsToldAs way model budget stop why = TellsStop way model budget stop why
 
 -- a candidate's quast is its run's, or a stop tells the run's; want of memory is free
-abbrev pub Solves : KernelModel → ℕ → Dependence → Result Postfix solver.the_data → Type 0
-Solves model budget dep (Ok quast) =
-    (solve_run model budget dep ≡ Ok (tree_of quast))
-    × IsJoinable (read_variables model dep.target.statement) quast
-Solves model budget dep (Err solver.NoMemory) = ⊤
-Solves model budget dep (Err stop) =
-    (why : Stopped) × (solve_run model budget dep ≡ Err why) × TellsStop model budget stop why
+abbrev pub Solves : Way → KernelModel → ℕ → Dependence → Result Postfix solver.the_data → Type 0
+Solves way model budget dep (Ok quast) =
+    (solve_run way model budget dep ≡ Ok (tree_of quast))
+    × IsJoinable (read_variables model (reader_end way dep).statement) quast
+Solves way model budget dep (Err solver.NoMemory) = ⊤
+Solves way model budget dep (Err stop) =
+    (why : Stopped) × (solve_run way model budget dep ≡ Err why) × TellsStop way model budget stop why
 
 -- the run over a candidate and others goes on from a quast, or ends at a stop; want of memory is free
-abbrev pub GoesOn : KernelModel → ℕ → ℕ → Tree → Dependence → Result Postfix halt.the_data → Type 0
-GoesOn model budget n first dep (Ok quast) =
+abbrev pub GoesOn : Way → KernelModel → ℕ → ℕ → Tree → Dependence → Result Postfix halt.the_data → Type 0
+GoesOn way model budget n first dep (Ok quast) =
     IsJoinable n quast
-    × ((deps : List Dependence) → sources_run Later n (solve_run model budget) first (dep ∷ deps)
-    ≡ sources_run Later n (solve_run model budget) (tree_of quast) deps)
-GoesOn model budget n first dep (Err (halt.Stop told)) =
+    × ((deps : List Dependence) → sources_run way n (solve_run way model budget) first (dep ∷ deps)
+    ≡ sources_run way n (solve_run way model budget) (tree_of quast) deps)
+GoesOn way model budget n first dep (Err (halt.Stop told)) =
     (deps : List Dependence)
-    → Unresolves model budget told (sources_run Later n (solve_run model budget) first (dep ∷ deps))
-GoesOn model budget n first dep (Err halt.NoMemory) = ⊤
+    → Unresolves way model budget told (sources_run way n (solve_run way model budget) first (dep ∷ deps))
+GoesOn way model budget n first dep (Err halt.NoMemory) = ⊤
 
 -- sources gain those of more reads
-abbrev pub GainsSources : KernelModel → ℕ → List ReadSource → List ReadSource → List (ℕ × ℕ) → Type 0
-GainsSources model budget old new gains =
-    (reads : List (ℕ × ℕ)) → AreSources model budget reads old → AreSources model budget (reads ++ gains) new
+abbrev pub GainsSources : Way → KernelModel → ℕ → List ReadSource → List ReadSource → List (ℕ × ℕ) → Type 0
+GainsSources way model budget old new gains =
+    (reads : List (ℕ × ℕ)) → AreSources way model budget reads old → AreSources way model budget (reads ++ gains) new
 
 -- 128 bits hold each number of a node
 abbrev pub IsHeldNode : Node → Type 0

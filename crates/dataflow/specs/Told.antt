@@ -1,11 +1,11 @@
 -- What the sources of a kernel's reads are made of, whatever they say: forms over the variables that stand at their
 -- places, numbers that their types hold, leaves that are instances of the kernel's statements.
 use Rattle.std.specs.Prelude.{◌≡◌, ℕ, ◌+◌, ◌^◌, ◌<◌, ◌≤◌, true, List, [], ◌∷◌, length, All, ⊤, Option, Some, None, slice_get}
-use Rattle.whole_numbers.specs.Affine.{Affine}
 use Rattle.whole_numbers.specs.Fits.{fits}
 use Rattle.pip_solver.specs.declared.stop.Stop.TheVariants as solver
 use Rattle.quast_trees.specs.Source.{Source}
 use Rattle.quast_trees.specs.Tree.{Tree, initial, leaf, branch, bind, count, Speaks}
+use Rattle.quast_trees.specs.Turns.{IsHeld}
 use Rattle.quast_trees.specs.Postfix.{tree_of}
 use Rattle.quast_joins.specs.Counts.{HasForms}
 use Rattle.quast_joins.specs.Limits.{node_limit}
@@ -14,12 +14,7 @@ use Rattle.dataflow.specs.declared.source.ReadSource.{ReadSource}
 use Rattle.dataflow.specs.declared.source.ReadSource.TheVariants as source
 use Rattle.dataflow.specs.declared.source.SourceStop.TheVariants as stop
 
--- 128 bits hold each number of a form
-pub record IsHeld (form : Affine) : Type 0 where
-  pub coefficients : All (λ c. fits c ≡ true) form.coefficients
-  pub constant : fits form.constant ≡ true
-
--- they hold each number of a tree
+-- 128 bits hold each number of a tree
 abbrev pub HoldsNumbers : Tree → Type 0
 HoldsNumbers initial = ⊤
 HoldsNumbers (leaf l) = All IsHeld l.forms

@@ -1,11 +1,13 @@
-//! Where the values that a kernel reads come from: for each read the last write before it to the cell that it touches,
-//! as a quast over the kernel's parameters and the reader's turns. Promises that where a read is resolved, its quast
-//! names at each walked instance the last writer, and the initial value exactly where nothing wrote the cell before.
+//! Where the values that a kernel reads come from, and what overwrites them: for each read the last write before it to
+//! the cell that it touches, and the next one behind it, as quasts over the kernel's parameters and the reader's turns.
+//! Promises that where a read is resolved, its quast names at each walked instance the last writer, or the next, and
+//! the initial value exactly where nothing writes the cell before, or behind.
 //! P. Feautrier, "Dataflow analysis of array and scalar references" (International Journal of Parallel Programming
 //! 20(1), 1991).
 #![tactic(auto)]
 
 mod candidate;
+mod ends;
 mod forms;
 mod numbers;
 mod problem;
@@ -13,7 +15,7 @@ mod reads;
 mod source;
 pub mod source_laws;
 
-pub use reads::last_writes;
+pub use reads::{last_writes, next_writes};
 pub use source::{ReadSource, SourceStop};
 
 // Passed on: what goes with this crate's contracts.

@@ -4,7 +4,8 @@ ghost use Rattle.std.specs.Prelude.{◌≡◌, All, true};
 ghost use Rattle.whole_numbers.specs.Fits.{fits};
 ghost use Rattle.quast_trees.specs.Postfix.{tree_of};
 ghost use Rattle.dataflow.specs.Steps.{IsHeldNode};
-ghost use Rattle.dataflow.specs.Told.{HoldsNumbers, IsHeld};
+ghost use Rattle.quast_trees.specs.Turns.{IsHeld};
+ghost use Rattle.dataflow.specs.Told.{HoldsNumbers};
 
 use affine_forms::Form;
 use quast_trees::{Node, Quast};

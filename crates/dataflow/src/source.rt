@@ -15,11 +15,11 @@ pub enum SourceStop {
     },
 }
 
-/// What a read's value comes from: a quast over the kernel's parameters and then the reader's turns, or the first stop
-/// that was met.
+/// What a read's value comes from, or what overwrites it: a quast over the kernel's parameters and then the reader's
+/// turns, or the first stop that was met.
 #[derive(Drop)]
 pub enum ReadSource {
-    /// At each instance of the reader the last writer, or the initial value.
+    /// At each instance of the reader the last or next writer, or the initial value.
     Resolved(Quast),
     /// Not told.
     Unresolved(SourceStop),

@@ -7,6 +7,7 @@ ghost use Rattle.tableau_rows.specs.Problem.{problem_of, row_values};
 ghost use Rattle.pip_solver.specs.Leaves.{IsAnswer};
 ghost use Rattle.quast_trees.specs.Tree.{Tree, initial};
 ghost use Rattle.quast_trees.specs.Value.{value};
+ghost use Rattle.quast_joins.specs.declared.way.Way.{Way};
 ghost use Rattle.quast_joins.specs.declared.way.Way.TheVariants.{Later, Earlier};
 ghost use Rattle.scop_syntax.specs.Cells.{Cell};
 ghost use Rattle.scop_syntax.specs.Kernel.{IsKernel};
@@ -23,13 +24,13 @@ ghost use Rattle.conflict_deps.specs.Parts.{HasParts};
 ghost use Rattle.dataflow.specs.ReadSources.{AreSources, reads_of};
 ghost use Rattle.dataflow.specs.Candidates.{joined, IsWanted};
 ghost use Rattle.dataflow.specs.Flips.{flipped};
-ghost use Rattle.dataflow.specs.LastRuns.{last_run};
 ghost use Rattle.dataflow.specs.Places.{Names};
 ghost use Rattle.dataflow.specs.Problems.{all_below, posed_rows, posed_context, turned_leaf};
 ghost use Rattle.dataflow.specs.Posed.{IsOfKernel};
 ghost use Rattle.dataflow.specs.Sources.{IsCandidate, IsSolved};
 ghost use Rattle.dataflow.specs.Steps.{IsHeldSource};
 ghost use Rattle.dataflow.specs.Told.{AreTold};
+ghost use Rattle.dataflow.specs.WriterRuns.{writers_run};
 ghost use Rattle.dataflow.specs.declared.source.ReadSource.{ReadSource};
 
 use iteration_domains::domain_laws::domains_hold_the_instances;
@@ -81,10 +82,10 @@ pub fn minima_are_the_last_writers()
         → p.to.statement.number ≡ w.number
         → ((q : List ℤ) → length q ≡ length params + loops_of p.to → NotNegative q
         → NotNegative (row_values (posed_context p.to.statement (length params)) q)
-        → IsAnswer (problem_of (loops_of p.from) (posed_rows p.from.statement p.to.statement (length params) dep)) q
-        (value t q))
+        → IsAnswer (problem_of (loops_of p.from) (posed_rows Later p.from.statement p.to.statement (length params) dep))
+        q (value t q))
         → IsWanted Later number loops (λ xs. IsPoint program params dep xs w.turns)
-        (turned_leaf number loops (value t (params ++ w.turns))) }
+        (turned_leaf Later number loops (value t (params ++ w.turns))) }
 {
     instances_are_those_of_statements();
     statements_are_numbered();
@@ -93,14 +94,51 @@ pub fn minima_are_the_last_writers()
     domains_hold_the_instances();
 }
 
-/// Where the run over a read's candidates ends well, its quast names at each walked instance the last writer of the
-/// cell that the read touches, and the initial value exactly where nothing wrote it before.
+/// The minimum of a candidate's problem, with the candidate's source, is the least next writer's turns at each walked
+/// instance of the reader, or the initial value where the candidate has no writer.
+pub fn minima_are_the_next_writers()
+    ensures { (program : Program) (params : List ℤ) (j : ℕ) (w : Visit) (b : ℕ) (c : Cell) (dep : Dependence)
+        (p : HasParts (model_of program) dep) (number : ℕ) (loops : List ℕ) (t : Tree)
+        → HasParameters program params → TouchesAt program params j w b c → IsCandidate Earlier program w b dep
+        → p.from.statement.number ≡ w.number
+        → ((q : List ℤ) → length q ≡ length params + loops_of p.from → NotNegative q
+        → NotNegative (row_values (posed_context p.from.statement (length params)) q)
+        → IsAnswer (problem_of (loops_of p.to) (posed_rows Earlier p.to.statement p.from.statement (length params) dep))
+        q (value t q))
+        → IsWanted Earlier number loops (λ xs. IsPoint program params dep w.turns xs)
+        (turned_leaf Earlier number loops (value t (params ++ w.turns))) }
+{
+    instances_are_those_of_statements();
+    statements_are_numbered();
+    walks_are_in_order();
+    values_lie_within_45_bits();
+    domains_hold_the_instances();
+}
+
+/// Where the run over an access's candidates ends well, its quast names at each walked instance the last writer of the
+/// cell that the access touches, and the initial value exactly where nothing wrote it before.
 pub fn resolved_reads_have_their_last_writer()
     ensures { (program : Program) (params : List ℤ) (j : ℕ) (w : Visit) (access : ℕ) (c : Cell) (budget : ℕ) (u : Tree)
         → HasParameters program params → TouchesAt program params j w access c
-        → last_run (model_of program) budget w.number access ≡ Ok u
+        → writers_run Later (model_of program) budget w.number access ≡ Ok u
         → Names (walk_of program params) (value u (params ++ w.turns))
         (last_writer (walk_of program params) j c) }
+{
+    instances_are_those_of_statements();
+    statements_are_numbered();
+    walks_are_in_order();
+    values_lie_within_45_bits();
+    domains_hold_the_instances();
+}
+
+/// Where the run over an access's candidates behind it ends well, its quast names at each walked instance the next
+/// writer of the cell that the access touches, and the initial value exactly where nothing writes it behind.
+pub fn resolved_reads_have_their_next_writer()
+    ensures { (program : Program) (params : List ℤ) (j : ℕ) (w : Visit) (access : ℕ) (c : Cell) (budget : ℕ) (u : Tree)
+        → HasParameters program params → TouchesAt program params j w access c
+        → writers_run Earlier (model_of program) budget w.number access ≡ Ok u
+        → Names (walk_of program params) (value u (params ++ w.turns))
+        (next_writer (walk_of program params) j c) }
 {
     instances_are_those_of_statements();
     statements_are_numbered();
@@ -113,8 +151,8 @@ pub fn resolved_reads_have_their_last_writer()
 /// turns and what is bound round the place, names instances of the kernel's statements, and has few nodes; no read is
 /// unresolved for want of memory.
 pub fn sources_are_told()
-    ensures { (model : KernelModel) (budget : ℕ) (sources : List ReadSource) → IsOfKernel model → budget < 2 ^ 64
-        → AreSources model budget (reads_of model) sources → All IsHeldSource sources
+    ensures { (way : Way) (model : KernelModel) (budget : ℕ) (sources : List ReadSource) → IsOfKernel model
+        → budget < 2 ^ 64 → AreSources way model budget (reads_of model) sources → All IsHeldSource sources
         → AreTold model (reads_of model) sources }
 {
     statements_are_numbered();

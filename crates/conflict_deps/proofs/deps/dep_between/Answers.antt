@@ -1,4 +1,4 @@
-use Rattle.std.proofs.Common.{◌≡◌, ◌+◌, ap, ◌∙◌, sym, subst, refl}
+use Rattle.std.proofs.Common.{◌≡◌, ◌+◌, ap, ◌∙◌, sym, subst, arith}
 use Rattle.integer_sets.specs.Constraints.{Constraints}
 use Rattle.iteration_domains.specs.Dependence.{IsDependence, dependence}
 use Rattle.conflict_deps.specs.Conflicts.{loops_of, pair_size, tests_between, dep_of}
@@ -54,7 +54,7 @@ built c =
     (shown (goal.at.invariant_of-result c).In_ok-push_up) c.from_parts-system.ensures c.end.ensures c.end-2.ensures
 
 pub invariant_of-result : goal.invariant_of-result
-invariant_of-result c = subst IsDependence (sym (built c)) (record { turns = refl; one = c.requires.one })
+invariant_of-result c = subst IsDependence (sym (built c)) (record { turns = omega arith; one = c.requires.one })
 
 pub returns : goal.returns
 returns c = built (goal.at.returns c).After-end-2

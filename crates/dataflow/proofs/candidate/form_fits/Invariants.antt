@@ -1,6 +1,6 @@
 use Rattle.std.proofs.Common.{◌≡◌, drop}
 use Rattle.quast_joins.specs.Limits.{leaf_limit}
-use Rattle.dataflow.specs.LastRuns.{numbers_fit}
+use Rattle.dataflow.specs.WriterRuns.{numbers_fit}
 use Rattle.dataflow.proofs.candidate.form_fits.Given as goal
 
 abbrev pub invariant-loop-coefficient : goal.invariant-loop-coefficient

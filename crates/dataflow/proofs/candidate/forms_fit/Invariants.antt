@@ -1,6 +1,6 @@
 use Rattle.std.proofs.Common.{◌≡◌, drop}
 use Rattle.quast_joins.specs.Limits.{leaf_limit}
-use Rattle.dataflow.specs.LastRuns.{forms_fit}
+use Rattle.dataflow.specs.WriterRuns.{forms_fit}
 use Rattle.dataflow.proofs.candidate.forms_fit.Given as goal
 
 abbrev pub invariant-loop-form : goal.invariant-loop-form

@@ -1,5 +1,5 @@
 use Rattle.whole_numbers.proofs.Entries.{all_next, all_taken}
-use Rattle.dataflow.specs.Told.{IsHeld}
+use Rattle.quast_trees.specs.Turns.{IsHeld}
 use Rattle.dataflow.proofs.numbers.look_at_forms.Goals as goal
 
 pub loop-form-preserved : goal.loop-form-preserved

@@ -1,5 +1,5 @@
 use Rattle.std.proofs.Common.{All, take}
-use Rattle.dataflow.specs.Told.{IsHeld}
+use Rattle.quast_trees.specs.Turns.{IsHeld}
 use Rattle.dataflow.proofs.numbers.look_at_forms.Given as goal
 
 abbrev pub invariant-loop-form : goal.invariant-loop-form

@@ -14,7 +14,7 @@ loop-access-preserved c =
     let less = subst (λ (n : ℕ). c.loop-access.access < n) (ap length c.accesses-access-end.ensures.accesses)
     c.loop-access-test.true in (
       λ reads are.
-          read_gathered c.args.model.now c.args.budget s.number c.loop-access.access (length s.accesses)
+          read_gathered c.args.way c.args.model.now c.args.budget s.number c.loop-access.access (length s.accesses)
           (reads ++ reads_of_statement s) old c.push.new.list.items new less
           (c.loop-access.invariant.0 reads are) c.in_ok-source.ensures.run c.in_ok-push.ensures.pushed,
       λ held.

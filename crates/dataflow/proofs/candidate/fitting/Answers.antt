@@ -1,0 +1,16 @@
+use Rattle.std.proofs.Common.{◌∙◌, Ok, ap, refl, sym}
+use Rattle.quast_trees.specs.Postfix.{tree_of}
+use Rattle.quast_joins.specs.Limits.{leaf_limit}
+use Rattle.dataflow.specs.Steps.{nodes_fit}
+use Rattle.dataflow.proofs.Fits.{fitting_no, fitting_yes}
+use Rattle.dataflow.proofs.candidate.fitting.Goals as goal
+
+pub returns-then-nodes_fit-clause-tree : goal.returns-then-nodes_fit-clause-tree
+returns-then-nodes_fit-clause-tree c =
+    fitting_yes (Ok (tree_of c.args.quast)) (tree_of c.args.quast) refl
+    (sym (c.nodes_fit.ensures ∙ ap (nodes_fit leaf_limit) c.nodes.ensures.nodes) ∙ c.if-nodes_fit.true)
+
+pub returns-else-nodes_fit-clause-tree : goal.returns-else-nodes_fit-clause-tree
+returns-else-nodes_fit-clause-tree c =
+    fitting_no (Ok (tree_of c.args.quast)) (tree_of c.args.quast) refl
+    (sym (c.nodes_fit.ensures ∙ ap (nodes_fit leaf_limit) c.nodes.ensures.nodes) ∙ c.if-nodes_fit.false)

@@ -1,0 +1,15 @@
+use Rattle.std.proofs.Common.{◌+◌}
+use Rattle.iteration_domains.specs.Rows.{variables}
+use Rattle.dataflow.proofs.Lists.{three_put}
+use Rattle.dataflow.proofs.problem.pair_ahead.Goals as goal
+
+pub returns : goal.returns
+returns c =
+    let d = c.args.unknowns in
+    let m = c.args.parameters in
+    let e = c.args.turns in
+    let n = d + (m + e) in
+    three_put (variables n (d + m) e) (variables n 0 d) (variables n d m) c.new-inner.result.items
+    c.push_variables.new.out.items c.push_variables-2.new.out.items c.push_variables-3.new.out.items
+    c.new-inner.ensures.items c.in_ok-push_variables.ensures c.in_ok-push_variables-2.ensures
+    c.in_ok-push_variables-3.ensures

@@ -1,5 +1,0 @@
-use Rattle.dataflow.proofs.CandidateRuns.{Running}
-use Rattle.dataflow.proofs.reads.source_of.Given as goal
-
-abbrev pub invariant-loop-dep : goal.invariant-loop-dep
-invariant-loop-dep l = Running l.model l.budget l.statement.number l.access l.deps l.dep-index l.found
