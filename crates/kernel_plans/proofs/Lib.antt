@@ -1,4 +1,5 @@
 pub mod CertificateLemmas
+pub mod ConflictLemmas
 pub mod PlanLemmas
 pub mod SearchLemmas
 pub mod TextLemmas

@@ -1,13 +1,15 @@
 -- From the parts of a plan to what is promised of it.
-use Rattle.std.proofs.Common.{◌≡◌, ◌∙◌, sym, subst, ap, inl, inr, ℕ, ◌≤◌, ℤ, Bool, List, Option, length}
+use Rattle.std.proofs.Common.{◌≡◌, ◌∙◌, sym, subst, ap, inl, inr, ℕ, ◌≤◌, ℤ, Bool, List, Option, Ok, length}
 use Rattle.std.specs.Prelude.{All, FitsSigned}
 use Rattle.std.specs.Int.{w64}
 use Rattle.whole_numbers.specs.Affine.{value_of}
+use Rattle.scop_syntax.specs.Kernel.{IsKernel}
 use Rattle.scop_syntax.specs.Limits.{HasParameters}
 use Rattle.scop_syntax.specs.Members.{In}
 use Rattle.scop_syntax.specs.Tree.{Program}
 use Rattle.scop_syntax.specs.Walk.{Instance}
 use Rattle.iteration_domains.specs.Dependence.{Dependence}
+use Rattle.iteration_domains.specs.Held.{HoldCovers}
 use Rattle.iteration_domains.specs.Model.{KernelModel, model_of}
 use Rattle.conflict_deps.specs.Conflicts.{conflicts_of}
 use Rattle.fm_projection.specs.declared.stop.FmStop.{FmStop}
@@ -21,7 +23,9 @@ use Rattle.loop_tree.specs.Walk.{visits}
 use Rattle.tile_list.specs.Tiles.{CanTile}
 use Rattle.plan_tree.specs.Tilings.{schedule_tiling, statements_from}
 use Rattle.plan_tree.specs.Trees.{AreTreesOf, IsScheduleFor, StopsTiled, tiling_of}
-use Rattle.pluto_search.specs.Searching.{Keeps}
+use Rattle.pluto_search.specs.Next.{IsSizedDep}
+use Rattle.pluto_search.specs.Searching.{Keeps, Searches}
+use Rattle.pluto_search.specs.Steps.{AreBetween}
 use Rattle.pluto_search.specs.declared.kept.Kept.{Kept}
 use Rattle.report_text.specs.declared.kept_line.KeptLine.{KeptLine}
 use Rattle.kernel_plans.specs.declared.plans.Planned.{Planned}
@@ -101,6 +105,25 @@ stopped_is_planned tile budget report program s run stop line p own found stops 
       subst (λ m. StopsTiled m tile run.blocks stop) own.model stops,
       sym same ∙ made.told.1,
     ))
+
+-- a search over dependences that hold the covers of a program finds a schedule for it
+pub found_for : (program : Program) (model : KernelModel) (budget : ℕ) (deps : List Dependence) (s : Scheduled)
+    → IsKernel program → model ≡ model_of program → AreBetween model.parameters (loops_in model) deps
+    → ((params : List ℤ) → HasParameters program params → HoldCovers program params deps)
+    → Searches model deps budget (Ok s) → IsScheduleFor program s
+found_for program model budget deps s kernel own between held found =
+    let sized : (d : Dependence) → In d deps → IsSizedDep (loops_in model) d =
+    λ d i.
+    let b = (between d i).0 in
+    record { source = b.source; target = b.target; source_turns = b.source_loops; target_turns = b.target_loops } in
+    record {
+      kernel = kernel;
+      model = found.0 ∙ own;
+      sized = subst (λ (m : KernelModel). (d : Dependence) → In d s.deps → IsSizedDep (loops_in m) d) (sym found.0)
+          (subst (λ (ds : List Dependence). (d : Dependence) → In d ds → IsSizedDep (loops_in model) d) (sym found.1)
+          sized);
+      covers = λ params has. subst (HoldCovers program params) (sym found.1) (held params has);
+    }
 
 -- where the search stops
 pub unscheduled_is_planned : (tile budget : ℕ) (report : Bool) (program : Program) (model : KernelModel)

@@ -9,8 +9,8 @@ ghost use Rattle.iteration_domains.specs.Model.{model_of};
 ghost use Rattle.plan_certificate.specs.Certificates.{Certifies};
 ghost use Rattle.kernel_plans.specs.Certifying.{IsCertificateText, IsGivenText};
 
+use crate::dependences::dependences_of;
 use crate::lines::{line_of_kept, line_text};
-use conflict_deps::conflicts;
 use iteration_domains::Model;
 use plan_certificate::{CertifyStop, certify_plan};
 use pluto_search::{Schedule, dependences_have_one_schedule, search};
@@ -47,7 +47,7 @@ pub fn certificate_text(
     ensures { IfOk result (λ text. IsCertificateText budget (program_of kernel.now) text.items) }
 {
     dependences_have_one_schedule();
-    let deps = match conflicts(alloc, model) {
+    let deps = match dependences_of(alloc, model) {
         Ok(deps) => deps,
         Err(_) => return Err(AllocError),
     };

@@ -6,12 +6,14 @@
 #![tactic(auto)]
 
 mod certificates;
+mod dependences;
 mod lines;
 mod planning;
 mod plans;
 mod text;
 
 pub use certificates::certificate_text;
+pub use dependences::dependences_of;
 pub use planning::planned;
 pub use plans::Planned;
 pub use text::plan_text;

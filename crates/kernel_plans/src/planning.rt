@@ -10,9 +10,9 @@ ghost use Rattle.plan_tree.specs.Trees.{IsScheduleFor};
 ghost use Rattle.kernel_plans.specs.Planned.{IsPlanned};
 ghost use Rattle.kernel_plans.specs.Planning.{IsSearched};
 
+use crate::dependences::dependences_of;
 use crate::lines::{line_of, line_of_kept};
 use crate::plans::{Planned, kept_plan, tiled_plan};
-use conflict_deps::conflicts;
 use iteration_domains::Model;
 use plan_tree::laws::rows_of_schedules_fit;
 use plan_tree::tiled_tree;
@@ -65,7 +65,7 @@ pub fn planned(
     requires tile { (1 ≤ tile) × (tile ≤ 1024) }
     ensures { IfOk result (IsPlanned tile budget report (program_of kernel.now)) }
 {
-    let deps = match conflicts(alloc, model) {
+    let deps = match dependences_of(alloc, model) {
         Ok(deps) => deps,
         Err(_) => return Err(AllocError),
     };

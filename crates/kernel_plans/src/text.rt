@@ -3,8 +3,8 @@
 ghost use Rattle.std.specs.Prelude.{IfOk};
 ghost use Rattle.kernel_plans.specs.Planning.{line_of_kept, IsPlanOf};
 
+use crate::dependences::dependences_of;
 use crate::lines::{line_of_kept, line_text};
-use conflict_deps::conflicts;
 use iteration_domains::Model;
 use pluto_search::{dependences_have_one_schedule, search};
 use report_text::schedule_text;
@@ -19,7 +19,7 @@ pub fn plan_text(alloc: Global, model: &Model, budget: u64) -> Result<Vec<u8>, A
     ensures { IfOk result (λ text. IsPlanOf budget model.now text.items) }
 {
     dependences_have_one_schedule();
-    let deps = match conflicts(alloc, model) {
+    let deps = match dependences_of(alloc, model) {
         Ok(deps) => deps,
         Err(_) => return Err(AllocError),
     };

@@ -1,9 +1,10 @@
--- A schedule of a program's conflicts, its blocks and its scan sets.
-use Rattle.std.proofs.Common.{◌≡◌, ℕ, ◌<◌, ◌≤◌, ◌∙◌, List, pos, ap, subst}
-use Rattle.iteration_domains.specs.Dependence.{Dependence}
-use Rattle.iteration_domains.specs.Model.{KernelModel, model_of}
-use Rattle.tile_skew.specs.Conflicts.{conflicts_of}
+-- A program's schedule, its blocks and its scan sets.
+use Rattle.std.proofs.Common.{◌≡◌, ℕ, ◌<◌, ◌≤◌, List, pos, ap, subst}
+use Rattle.scop_syntax.specs.Members.{In}
 use Rattle.scop_syntax.specs.Tree.{Program}
+use Rattle.iteration_domains.specs.Dependence.{Dependence}
+use Rattle.iteration_domains.specs.Model.{KernelModel}
+use Rattle.tile_skew.specs.Next.{IsSizedDep}
 use Rattle.tile_skew.specs.Outcomes.{IsSchedule}
 use Rattle.tile_skew.specs.Schedule.{IsScheduled, Scheduled, loops_in}
 use Rattle.tile_skew.specs.ScanSets.{scan_sets}
@@ -14,16 +15,14 @@ use Rattle.plan_tree.specs.steps.Scanning.{IsTiled, sets_of}
 pub tiled_blocks : (program : Program) (size : ℕ) (s : Scheduled) (r : IsScheduled s) → 0 < size → size ≤ 1024
     → IsScheduleFor program s → IsTiled program size r.blocks
 tiled_blocks program size s r some few is =
-    let deps = is.deps ∙ ap conflicts_of is.model in
-    let own = subst (λ (ds : List Dependence). IsSchedule s.model.parameters (loops_in s.model) ds r.blocks) deps r.run
-    in
     record {
       kernel = is.kernel;
       some = some;
       few = few;
-      schedule = subst
-          (λ (m : KernelModel). IsSchedule m.parameters (loops_in m) (conflicts_of (model_of program)) r.blocks)
-          is.model own;
+      deps = s.deps;
+      sized = subst (λ (m : KernelModel). (d : Dependence) → In d s.deps → IsSizedDep (loops_in m) d) is.model is.sized;
+      covers = is.covers;
+      schedule = subst (λ (m : KernelModel). IsSchedule m.parameters (loops_in m) s.deps r.blocks) is.model r.run;
     }
 
 -- its scan sets are those of the tiling

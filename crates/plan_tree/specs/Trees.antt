@@ -2,11 +2,13 @@
 use Rattle.std.specs.Prelude.{◌≡◌, ℕ, ◌^◌, ◌<◌, ℤ, pos, List, [], length, slice_get, Some, ⊤}
 use Rattle.scop_syntax.specs.Kernel.{IsKernel}
 use Rattle.scop_syntax.specs.Limits.{HasParameters}
+use Rattle.scop_syntax.specs.Members.{In}
 use Rattle.scop_syntax.specs.Statements.{statements_of}
 use Rattle.scop_syntax.specs.Tree.{Program}
 use Rattle.scop_syntax.specs.Walk.{Instance}
+use Rattle.iteration_domains.specs.Dependence.{Dependence}
+use Rattle.iteration_domains.specs.Held.{HoldCovers}
 use Rattle.iteration_domains.specs.Model.{KernelModel, model_of}
-use Rattle.tile_skew.specs.Conflicts.{conflicts_of}
 use Rattle.plain_scan.specs.FmStop.{FmStop}
 use Rattle.loop_tree.specs.Fits.{FitsAll}
 use Rattle.loop_tree.specs.Marks.{FlatAll}
@@ -15,7 +17,8 @@ use Rattle.loop_tree.specs.Shape.{NestAllTo, TreesAreOf, TreesAreOver, TreesAreU
 use Rattle.loop_tree.specs.Tiling.{Tiling, kept, tiled, items_at}
 use Rattle.loop_tree.specs.Tree.{Trees}
 use Rattle.tile_skew.specs.Items.{Block}
-use Rattle.tile_skew.specs.Schedule.{Scheduled}
+use Rattle.tile_skew.specs.Next.{IsSizedDep}
+use Rattle.tile_skew.specs.Schedule.{Scheduled, loops_in}
 use Rattle.tile_skew.specs.ScanSets.{scan_sets}
 use Rattle.tile_skew.specs.Tilings.{schedule_tiling}
 use Rattle.plain_scan.specs.Scanning.{StopsScan}
@@ -46,11 +49,13 @@ pub record AreTreesOf (program : Program) (plan : Tiling) (ts : Trees) : Type 0 
   pub fits : (params : List ℤ) → HasParameters program params → FitsAll ts params []
   pub carry_out : (params : List ℤ) → HasParameters program params → CarryOut program params plan ts
 
--- the schedule is one of the program's conflicts
+-- the schedule is one of dependences between the program's statements that hold the covers of its walk, for all
+-- parameters in 0..=65536
 pub record IsScheduleFor (program : Program) (s : Scheduled) : Type 0 where
   pub kernel : IsKernel program
   pub model : s.model ≡ model_of program
-  pub deps : s.deps ≡ conflicts_of s.model
+  pub sized : (d : Dependence) → In d s.deps → IsSizedDep (loops_in s.model) d
+  pub covers : (params : List ℤ) → HasParameters program params → HoldCovers program params s.deps
 
 -- the tiling of a program's schedule by tiles of a size
 abbrev pub tiling_of : Program → ℕ → List Block → Tiling

@@ -27,7 +27,7 @@ use tile_skew::laws::kept_orders_are_good_plans;
 use tile_skew::{Schedule, tiled};
 use tree_simplification::simplified;
 
-/// The scan sets of a schedule of a kernel's conflicts, which can be scanned together.
+/// The scan sets of a kernel's schedule, which can be scanned together.
 fn tiled_sets(alloc: Global, schedule: &Schedule, size: u64) -> Result<Vec<ScanSet>, AllocError>
     requires size { (0 < size) × (size ≤ 1024) }
     requires schedule { (program : Program) × IsScheduleFor program schedule.now }
@@ -71,7 +71,7 @@ fn tree_of_sets(
     }
 }
 
-/// The tree that scans the sets of a schedule of a kernel's conflicts, for tiles of this size.
+/// The tree that scans the sets of a kernel's schedule, for tiles of this size.
 fn scanned_tree(
     alloc: Global,
     schedule: &Schedule,
@@ -99,7 +99,7 @@ fn scanned_tree(
     }
 }
 
-/// The loop tree of a schedule of a kernel's conflicts, for tiles of this size, as the hull of its scan sets: one loop
+/// The loop tree of a kernel's schedule, for tiles of this size, as the hull of its scan sets: one loop
 /// a dimension round all statements, each under all constraints of its set.
 ///
 /// # Errors
@@ -115,7 +115,7 @@ pub fn hull_tree(alloc: Global, schedule: &Schedule, size: u64) -> Result<Tree, 
     scanned_tree(alloc, schedule, size, None)
 }
 
-/// The loop tree of a schedule of a kernel's conflicts, for tiles of this size: tile by tile within rising waves, the
+/// The loop tree of a kernel's schedule, for tiles of this size: tile by tile within rising waves, the
 /// loop over the first tile coordinate parallel. Each question of the separation of the schedule's scan sets, and each
 /// whether a test or a bound is implied, may make so many moves of the solver; where it wants more the tree is another
 /// one that does the same.

@@ -8,8 +8,8 @@ pub mod Counts
 pub mod GoodStates
 pub mod NextStates
 pub mod RunSteps
-pub mod Conflicts
 pub mod CutDependences
 pub mod ValueOrder
 -- Passed on: lemmas about what this crate passes on.
 pub use Rattle.schedule_rows.proofs.Determinism
+pub use Rattle.schedule_rows.proofs.ModelLoops

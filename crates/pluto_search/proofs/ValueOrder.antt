@@ -1,80 +1,75 @@
--- Along a schedule of a kernel's conflicts the values of conflicting places rise.
-use Rattle.std.proofs.Common.{◌≡◌, ℕ, ◌<◌, ℤ, List, [], sym, ◌∙◌, ap, subst, inl, inr}
-use Rattle.std.proofs.Common.{length, Some}
+-- Along a schedule of dependences that hold the covers of a walk the values of conflicting places rise.
+use Rattle.std.proofs.Common.{◌≡◌, ℕ, ◌<◌, ℤ, List, [], ◌∷◌, sym, ◌∙◌, ap, subst, inl, inr, length, Some}
 use Rattle.std.specs.Prelude.{slice_get}
 use Rattle.whole_numbers.specs.Lexicographic.{LexLess}
-use Rattle.fractions.specs.Farkas.{AreNotNegative}
+use Rattle.scop_syntax.specs.Covers.{Chain, Cover, Follows}
 use Rattle.scop_syntax.specs.Members.{In}
 use Rattle.scop_syntax.specs.Tree.{Program}
-use Rattle.scop_syntax.specs.Statements.{Placed, statements_of, Runs, visit_of}
-use Rattle.scop_syntax.specs.Walk.{Visit, walk_of, instance}
-use Rattle.scop_syntax.proofs.Statements.{runs_not_negative}
-use Rattle.scop_syntax.proofs.Members.{in_from_place}
-use Rattle.iteration_domains.specs.Dependence.{Dependence, IsDependence}
-use Rattle.conflict_deps.specs.Pairs.{IsPoint, IsEnd}
-use Rattle.schedule_rows.specs.Dependences.{InRange, Relates}
-use Rattle.schedule_rows.specs.Items.{Block, values}
+use Rattle.scop_syntax.specs.Walk.{Instance, Visit, walk_of, instance}
+use Rattle.scop_syntax.proofs.Covers.{cover_conflicts}
+use Rattle.iteration_domains.specs.Dependence.{Dependence}
+use Rattle.iteration_domains.specs.Held.{HoldCovers}
+use Rattle.iteration_domains.specs.Related.{Relates}
+use Rattle.schedule_rows.specs.Bands.{Along}
+use Rattle.schedule_rows.specs.Items.{Block, rows_in, values}
 use Rattle.schedule_rows.specs.Next.{IsSizedDep}
-use Rattle.schedule_rows.specs.Outcomes.{IsSchedule, state}
-use Rattle.schedule_rows.specs.Posed.{loops_of}
+use Rattle.schedule_rows.specs.Posed.{IsFull, loops_of}
 use Rattle.schedule_rows.proofs.BlockOrder.{along_values}
-use Rattle.schedule_rows.proofs.RunInvariants.{schedule_along}
-use Rattle.schedule_rows.proofs.Times.{LeavesOnly0, turns_same, runs_full}
-use Rattle.pluto_systems.specs.Posing.{IsBetween}
+use Rattle.schedule_rows.proofs.Times.{LeavesOnly0, turns_same}
 
--- what the walk's instances are: those of statements at turns that run
-abbrev pub FindsRuns : Program → List ℤ → Type 0
-FindsRuns program params =
-    (v : Visit) → In v (walk_of program params) → (p : Placed) × (xs : List ℤ) × In p (statements_of program)
-    × Runs p.scopes params xs × (v ≡ visit_of p params xs)
+-- an instance of a statement, with as many turns as that has loops
+abbrev pub IsTurned : List ℕ → Instance → Type 0
+IsTurned loops x = (x.number < length loops) × (length x.turns ≡ loops_of loops x.number)
 
-pub turns_from_0 : (program : Program) (params : List ℤ) (i : ℕ) (v : Visit) → FindsRuns program params
-    → slice_get (walk_of program params) i ≡ Some v → AreNotNegative v.turns
-turns_from_0 program params i v found h =
-    let f = found v (in_from_place (walk_of program params) i v h) in
-    subst (λ (z : List ℤ). AreNotNegative z) (sym (ap (λ (z : Visit). z.turns) f.4))
-    (runs_not_negative f.0.scopes params f.1 f.3)
+-- both instances of a pair are
+source_turned : (loops : List ℕ) (d : Dependence) (params : List ℤ) (x y : Instance) → IsSizedDep loops d
+    → Relates params d x y → IsTurned loops x
+source_turned loops d params x y s r = (
+  subst (λ (k : ℕ). k < length loops) (sym r.source) s.source,
+  r.source_size ∙ (s.source_turns ∙ ap (loops_of loops) (sym r.source)),
+)
 
-sized : (m : ℕ) (loops : List ℕ) (d : Dependence) → IsBetween m loops d → IsSizedDep loops d
-sized m loops d b =
-    record { source = b.source; target = b.target; source_turns = b.source_loops; target_turns = b.target_loops }
+target_turned : (loops : List ℕ) (d : Dependence) (params : List ℤ) (x y : Instance) → IsSizedDep loops d
+    → Relates params d x y → IsTurned loops y
+target_turned loops d params x y s r = (
+  subst (λ (k : ℕ). k < length loops) (sym r.target) s.target,
+  r.target_size ∙ (s.target_turns ∙ ap (loops_of loops) (sym r.target)),
+)
 
--- the pair of a dependence
-pub pair_of : (program : Program) (params : List ℤ) (dep : Dependence) (v w : Visit) (a b : ℕ) → InRange params
-    → IsPoint program params dep v.turns w.turns → IsEnd dep.source v a → IsEnd dep.target w b
-    → AreNotNegative v.turns → AreNotNegative w.turns → Relates params dep (instance v) (instance w)
-pair_of program params dep v w a b range p e f x y =
-    record {
-      range = range;
-      source = sym e.statement;
-      target = sym f.statement;
-      source_size = p.source;
-      target_size = p.target;
-      source_from_0 = x;
-      target_from_0 = y;
-      equalities = p.holds.0;
-      rows = p.holds.1;
-    }
+-- with which cover a chain begins and with which it ends
+first_cover : (visits : List Visit) (i : ℕ) (ks : List ℕ) (j : ℕ) → Follows visits i ks j → (k : ℕ) × Cover visits i k
+first_cover visits i [] j h = (j, h)
+first_cover visits i (k ∷ ks) j h = (k, h.0)
 
--- the values of a pair rise, if its instances are two
-pub values_rise : LeavesOnly0 → (m : ℕ) (loops : List ℕ) (deps : List Dependence) (blocks : List Block)
-    (d : Dependence) (params : List ℤ) (v w : Visit)
-    → ((e : Dependence) → In e deps → IsBetween m loops e × IsDependence e) → IsSchedule m loops deps blocks → In d deps
-    → length params ≡ m → Relates params d (instance v) (instance w)
-    → (v.number ≡ w.number → v.turns ≡ w.turns → ⊥)
-    → LexLess (values blocks (instance v)) (values blocks (instance w))
-values_rise full_rank m loops deps blocks d params v w between s i l r apart =
-    let x = instance v in
-    let y = instance w in
-    let sizes = λ (e : Dependence) (k : In e deps). sized m loops e (between e k).0 in
-    elim (along_values blocks x y (x.number ≡ y.number)
-    (schedule_along m loops deps blocks sizes s d params x y i l r)) [
+last_cover : (visits : List Visit) (i : ℕ) (ks : List ℕ) (j : ℕ) → Follows visits i ks j → (k : ℕ) × Cover visits k j
+last_cover visits i [] j h = (i, h)
+last_cover visits i (k ∷ ks) j h = last_cover visits k ks j h.1
+
+-- so both places of a conflict are
+pub places_turned : (program : Program) (params : List ℤ) (loops : List ℕ) (deps : List Dependence)
+    → ((d : Dependence) → In d deps → IsSizedDep loops d) → HoldCovers program params deps → (i j : ℕ)
+    → Chain (walk_of program params) i j → (v w : Visit) → slice_get (walk_of program params) i ≡ Some v
+    → slice_get (walk_of program params) j ≡ Some w → IsTurned loops (instance v) × IsTurned loops (instance w)
+places_turned program params loops deps sized holds i j chain v w at there =
+    let visits = walk_of program params in
+    let first = first_cover visits i chain.0 j chain.1 in
+    let z = cover_conflicts visits i first.0 first.1 in
+    let d = holds i first.0 v z.later at z.is_later first.1 in
+    let last = last_cover visits i chain.0 j chain.1 in
+    let y = cover_conflicts visits last.0 j last.1 in
+    let e = holds last.0 j y.earlier w y.is_earlier there last.1 in (
+      source_turned loops d.0 params (instance v) (instance z.later) (sized d.0 d.1) d.2,
+      target_turned loops e.0 params (instance y.earlier) (instance w) (sized e.0 e.1) e.2,
+    )
+
+-- what goes along a schedule of full rank rises, if it is two instances
+pub values_rise : LeavesOnly0 → (loops : List ℕ) (blocks : List Block) (x y : Instance)
+    → IsFull loops (rows_in blocks) → IsTurned loops x → IsTurned loops y → Along blocks x y (x.number ≡ y.number)
+    → (x.number ≡ y.number → x.turns ≡ y.turns → ⊥) → LexLess (values blocks x) (values blocks y)
+values_rise full_rank loops blocks x y full first second along apart =
+    elim (along_values blocks x y (x.number ≡ y.number) along) [
       | inl less ↦ less
       | inr e ↦
-          let z = sizes d i in
-          let at = subst (λ (k : ℕ). k < length loops) (sym r.source) z.source in
-          let lx = r.source_size ∙ (z.source_turns ∙ ap (loops_of loops) (sym r.source)) in
-          let ly = r.target_size ∙ (z.target_turns ∙ ap (loops_of loops) (sym r.target ∙ sym e.1)) in
-          let full = runs_full m loops (state [] [] s.taken) s.states blocks s.runs in
-          absurd (apart e.1 (turns_same full_rank loops blocks x y full e.1 at lx ly e.0))
+          let many = second.1 ∙ ap (loops_of loops) (sym e.1) in
+          absurd (apart e.1 (turns_same full_rank loops blocks x y full e.1 first.0 first.1 many e.0))
     ]

@@ -1,5 +1,5 @@
 -- How large the numbers of rows are, and what they are rows over.
-use Rattle.std.specs.Prelude.{◌≡◌, ℕ, ◌+◌, ◌<◌, ℤ, pos, ◌≤ℤ◌, List, [], ◌∷◌, length, All}
+use Rattle.std.specs.Prelude.{◌≡◌, ℕ, ◌+◌, ◌<◌, ◌≤◌, ℤ, pos, ◌≤ℤ◌, List, [], ◌∷◌, length, All}
 use Rattle.iteration_domains.specs.Dependence.{Dependence}
 use Rattle.null_space.specs.Narrowing.{narrowed_by}
 use Rattle.null_space.specs.Sizes.{AreCoefficients, AreLong, AreNarrow}
@@ -20,7 +20,7 @@ pub record CanTell (m : ℕ) (r : Row) (d : Dependence) : Type 0 where
   pub source_loops : length (part_of r d.source.statement).coefficients ≡ d.source.loops
   pub target_loops : length (part_of r d.target.statement).coefficients ≡ d.target.loops
   pub parameters : d.system.parameters ≡ m
-  pub turns : d.system.dimensions ≡ d.source.loops + d.target.loops
+  pub turns : d.source.loops + d.target.loops ≤ d.system.dimensions
   pub source_counts : AreCounts (part_of r d.source.statement).coefficients
   pub source_shift : IsCount (part_of r d.source.statement).shift
   pub target_shift : IsCount (part_of r d.target.statement).shift

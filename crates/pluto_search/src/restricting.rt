@@ -4,7 +4,7 @@ ghost use Rattle.std.specs.Prelude.{false, All, IfErr, IfOk, OnOk, length, map, 
 ghost use Rattle.whole_numbers.specs.Affine.{form_of};
 ghost use Rattle.whole_numbers.specs.Lists.{multiples, zeros};
 ghost use Rattle.scop_syntax.specs.Members.{In};
-ghost use Rattle.iteration_domains.specs.Dependence.{Dependence};
+ghost use Rattle.iteration_domains.specs.Dependence.{Dependence, binds_in};
 ghost use Rattle.pluto_systems.specs.Claims.{distance};
 ghost use Rattle.schedule_rows.specs.Items.{part_of};
 ghost use Rattle.schedule_rows.specs.Dependences.{IsEmptyDep, unknowns_of, equal_at, above_at};
@@ -53,16 +53,19 @@ fn part_at(row: &Row, s: usize) -> &Part
 /// The coefficients of `phi_T - phi_S`.
 fn difference_numbers(
     alloc: Global,
+    binds: usize,
     parameters: usize,
     source: &[i128],
     target: &[i128],
 ) -> Result<Numbers, AllocError>
     requires { AreCounts source.now }
-    ensures { IfOk result (λ v. v.items ≡ multiples (negsuc 0) source.now ++ (target.now ++ zeros parameters)) }
+    ensures { IfOk result (λ v. v.items
+        ≡ multiples (negsuc 0) source.now ++ (target.now ++ (zeros binds ++ zeros parameters))) }
 {
     let mut numbers = Numbers::new(alloc);
     push_opposites(&mut numbers, source)?;
     numbers.extend_from_slice(target)?;
+    push_zeros(&mut numbers, binds)?;
     push_zeros(&mut numbers, parameters)?;
     Ok(numbers)
 }
@@ -87,13 +90,16 @@ fn difference_and(
 ) -> Result<Form, AllocError>
     requires tells { CanTell parameters (row_of row.now) dep.now }
     requires more { (more ≡ pos 0) ⊎ (more ≡ negsuc 0) }
-    ensures { IfOk result (λ f. f ≡ form_of (distance parameters (unknowns_of dep.now (row_of row.now))).coefficients
-        ((distance parameters (unknowns_of dep.now (row_of row.now))).constant +ℤ more)) }
+    ensures { IfOk result (λ f. f
+        ≡ form_of (distance (binds_in dep.now) parameters (unknowns_of dep.now (row_of row.now))).coefficients
+        ((distance (binds_in dep.now) parameters (unknowns_of dep.now (row_of row.now))).constant +ℤ more)) }
 {
     let source = part_at(row, dep.source.statement);
     let target = part_at(row, dep.target.statement);
+    let turns = dep.source.loops + dep.target.loops;
     let numbers = difference_numbers(
         alloc,
+        dep.system.dimensions() - turns,
         parameters,
         &source.coefficients,
         &target.coefficients,

@@ -1,6 +1,6 @@
 //! The search, item by item.
-ghost use Rattle.std.specs.Prelude.{◌≡◌, ◌≤◌, All};
-ghost use Rattle.conflict_deps.specs.Conflicts.{conflicts_of};
+ghost use Rattle.std.specs.Prelude.{◌≤◌, All};
+ghost use Rattle.schedule_rows.specs.Schedule.{loops_in};
 ghost use Rattle.pluto_search.specs.Searching.{Runs, Starts, Searches};
 ghost use Rattle.pluto_search.specs.Steps.{AreBetween};
 
@@ -9,7 +9,6 @@ use crate::kept::Kept;
 use crate::next::next_item;
 use crate::restricting::restrict_all;
 use crate::state::{Progress, Step};
-use conflict_deps::conflict_laws::systems_have_parts;
 use iteration_domains::{Dep, Model};
 use pluto_systems::loops_in;
 use schedule_rows::{Block, Schedule};
@@ -63,8 +62,8 @@ fn run(
     }
 }
 
-/// The schedule of a kernel's conflicts: each row the least of its posed set, a scalar item where there is no row. Each
-/// question has the whole budget.
+/// The schedule of dependences between a model's statements: each row the least of its posed set, a scalar item where
+/// there is no row. Each question has the whole budget.
 ///
 /// # Errors
 /// `NoRow`, `NoOrder` and `Large` exactly where the determined run ends so and no question before stops, `Stuck` exactly
@@ -75,11 +74,9 @@ pub fn search<'a>(
     deps: &'a [Dep],
     budget: u64,
 ) -> Result<Schedule<'a>, Kept>
-    requires { deps.now ≡ conflicts_of model.now }
+    requires { AreBetween model.now.parameters (loops_in model.now) deps.now }
     ensures search { Searches model.now deps.now budget result }
 {
-    systems_have_parts();
-    let _statements = model.statements();
     let parameters = model.parameters();
     let loops = match loops_in(alloc, model) {
         Err(_) => return Err(Kept::NoMemory),

@@ -6,7 +6,7 @@ use Rattle.std.proofs.lemmas.List.Elements.{All-cons, All-nil, All-push, All-hea
 use Rattle.std.proofs.lemmas.Int.{ints}
 use Rattle.whole_numbers.specs.Lists.{dot, multiples, zeros}
 use Rattle.whole_numbers.specs.Affine.{Affine, value_of}
-use Rattle.whole_numbers.proofs.Dot.{dot-append, dot-multiples, dot-zeros, length-multiples}
+use Rattle.whole_numbers.proofs.Dot.{dot-append, dot-multiples, dot-zeros, length-multiples, length-zeros}
 use Rattle.whole_numbers.specs.Affine.{form_of}
 use Rattle.fractions.specs.Fractions.{value_over}
 use Rattle.fractions.specs.Farkas.{HasFarkas, two_rows}
@@ -18,26 +18,31 @@ use Rattle.schedule_rows.specs.Posed.{IsLegal, IsBounded}
 use Rattle.schedule_rows.proofs.BlockOrder.{le_apart}
 use Rattle.scop_syntax.specs.Walk.{Instance}
 use Rattle.schedule_rows.specs.Items.{Row, part_of, phi}
-use Rattle.iteration_domains.specs.Dependence.{Dependence}
+use Rattle.iteration_domains.specs.Dependence.{Dependence, binds_in}
 use Rattle.schedule_rows.specs.Dependences.{Relates, IsEmptyDep, unknowns_of, Suits, equal_at, above_at}
 use Rattle.schedule_rows.specs.Dependences.{IsKept, IsEqualAt, point_of}
 
 -- the form's value is the difference of the values
-pub distance-value : (m : ℕ) (d : Dependence) (r : Row) (params : List ℤ) (x y : Instance)
+pub distance-value : (m : ℕ) (d : Dependence) (r : Row) (params bound : List ℤ) (x y : Instance)
+    → length bound ≡ binds_in d
     → x.number ≡ d.source.statement → y.number ≡ d.target.statement → length x.turns ≡ d.source.loops
     → length y.turns ≡ d.target.loops
-    → Suits d r → value_of (distance m (unknowns_of d r)) (point_of params x y) ≡ phi r y -ℤ phi r x
-distance-value m d r params x y hs ht ls lt h =
+    → Suits d r → value_of (distance (binds_in d) m (unknowns_of d r)) (point_of params bound x y)
+    ≡ phi r y -ℤ phi r x
+distance-value m d r params bound x y lb hs ht ls lt h =
     let p = part_of r d.source.statement in
     let q = part_of r d.target.statement in
     let ps : part_of r x.number ≡ p = ap (λ (s : ℕ). part_of r s) hs in
     let pt : part_of r y.number ≡ q = ap (λ (s : ℕ). part_of r s) ht in
-    let a = dot-append (multiples (negsuc 0) p.coefficients) (q.coefficients ++ zeros m) x.turns
-    (y.turns ++ params)
+    let n = binds_in d in
+    let a = dot-append (multiples (negsuc 0) p.coefficients) (q.coefficients ++ (zeros n ++ zeros m)) x.turns
+    (y.turns ++ (bound ++ params))
     (length-multiples (negsuc 0) p.coefficients ∙ (h.0 ∙ sym ls)) in
-    let b = dot-append q.coefficients (zeros m) y.turns params (h.1 ∙ sym lt) in
+    let b = dot-append q.coefficients (zeros n ++ zeros m) y.turns (bound ++ params) (h.1 ∙ sym lt) in
+    let e = dot-append (zeros n) (zeros m) bound params (length-zeros n ∙ sym lb) in
     let c = dot-multiples (negsuc 0) p.coefficients x.turns in
     let z = dot-zeros m params in
+    let o = dot-zeros n bound in
     let fx : phi r x ≡ dot p.coefficients x.turns +ℤ p.shift =
     ap (λ k. dot k.coefficients x.turns +ℤ k.shift) ps in
     let fy : phi r y ≡ dot q.coefficients y.turns +ℤ q.shift =
@@ -49,10 +54,10 @@ pub equal_to : (m : ℕ) (d : Dependence) (r : Row) (params : List ℤ) (x y : I
     → Relates params (equal_at m r d) x y → Relates params d x y × (phi r x ≡ phi r y)
 equal_to m d r params x y s h =
     let all = h.equalities in
-    let Zero = λ (f : Affine). value_of f (point_of params x y) ≡ pos 0 in
-    let e = All-head Zero (distance m (unknowns_of d r)) []
-    (all_back Zero d.system.equalities (distance m (unknowns_of d r) ∷ []) all) in
-    let v = distance-value m d r params x y h.source h.target h.source_size h.target_size s in (
+    let Zero = λ (f : Affine). value_of f (point_of params h.bound x y) ≡ pos 0 in
+    let e = All-head Zero (distance (binds_in d) m (unknowns_of d r)) []
+    (all_back Zero d.system.equalities (distance (binds_in d) m (unknowns_of d r) ∷ []) all) in
+    let v = distance-value m d r params h.bound x y h.bound_size h.source h.target h.source_size h.target_size s in (
       record {
         range = h.range;
         source = h.source;
@@ -61,7 +66,10 @@ equal_to m d r params x y s h =
         target_size = h.target_size;
         source_from_0 = h.source_from_0;
         target_from_0 = h.target_from_0;
-        equalities = all_front Zero d.system.equalities (distance m (unknowns_of d r) ∷ []) all;
+        bound = h.bound;
+        bound_size = h.bound_size;
+        bound_from_0 = h.bound_from_0;
+        equalities = all_front Zero d.system.equalities (distance (binds_in d) m (unknowns_of d r) ∷ []) all;
         rows = h.rows;
       },
       omega (arith, ints),
@@ -70,8 +78,8 @@ equal_to m d r params x y s h =
 pub equal_from : (m : ℕ) (d : Dependence) (r : Row) (params : List ℤ) (x y : Instance) → Suits d r
     → Relates params d x y → phi r x ≡ phi r y → Relates params (equal_at m r d) x y
 equal_from m d r params x y s h e =
-    let Zero = λ (f : Affine). value_of f (point_of params x y) ≡ pos 0 in
-    let v = distance-value m d r params x y h.source h.target h.source_size h.target_size s in
+    let Zero = λ (f : Affine). value_of f (point_of params h.bound x y) ≡ pos 0 in
+    let v = distance-value m d r params h.bound x y h.bound_size h.source h.target h.source_size h.target_size s in
     record {
       range = h.range;
       source = h.source;
@@ -80,7 +88,11 @@ equal_from m d r params x y s h e =
       target_size = h.target_size;
       source_from_0 = h.source_from_0;
       target_from_0 = h.target_from_0;
-      equalities = All-push Zero d.system.equalities (distance m (unknowns_of d r)) h.equalities (omega (arith, ints));
+      bound = h.bound;
+      bound_size = h.bound_size;
+      bound_from_0 = h.bound_from_0;
+      equalities = All-push Zero d.system.equalities (distance (binds_in d) m (unknowns_of d r)) h.equalities
+          (omega (arith, ints));
       rows = h.rows;
     }
 
@@ -92,10 +104,10 @@ above_value c k xs = omega (arith, ints)
 pub above_from : (m : ℕ) (d : Dependence) (r : Row) (params : List ℤ) (x y : Instance) → Suits d r
     → Relates params d x y → phi r x <ℤ phi r y → Relates params (above_at m r d) x y
 above_from m d r params x y s h l =
-    let Least = λ (f : Affine). pos 0 ≤ℤ value_of f (point_of params x y) in
-    let v = distance-value m d r params x y h.source h.target h.source_size h.target_size s in
-    let k = above_value (distance m (unknowns_of d r)).coefficients (distance m (unknowns_of d r)).constant
-    (point_of params x y) in
+    let Least = λ (f : Affine). pos 0 ≤ℤ value_of f (point_of params h.bound x y) in
+    let v = distance-value m d r params h.bound x y h.bound_size h.source h.target h.source_size h.target_size s in
+    let k = above_value (distance (binds_in d) m (unknowns_of d r)).coefficients
+    (distance (binds_in d) m (unknowns_of d r)).constant (point_of params h.bound x y) in
     record {
       range = h.range;
       source = h.source;
@@ -104,23 +116,25 @@ above_from m d r params x y s h l =
       target_size = h.target_size;
       source_from_0 = h.source_from_0;
       target_from_0 = h.target_from_0;
+      bound = h.bound;
+      bound_size = h.bound_size;
+      bound_from_0 = h.bound_from_0;
       equalities = h.equalities;
       rows = All-push Least d.system.rows
-          (form_of (distance m (unknowns_of d r)).coefficients ((distance m
-          (unknowns_of d r)).constant +ℤ negsuc 0)) h.rows
-          (omega (arith, ints));
+          (form_of (distance (binds_in d) m (unknowns_of d r)).coefficients
+          ((distance (binds_in d) m (unknowns_of d r)).constant +ℤ negsuc 0)) h.rows (omega (arith, ints));
     }
 
 pub above_to : (m : ℕ) (d : Dependence) (r : Row) (params : List ℤ) (x y : Instance) → Suits d r
     → Relates params (above_at m r d) x y → Relates params d x y × (phi r x <ℤ phi r y)
 above_to m d r params x y s h =
-    let Least = λ (f : Affine). pos 0 ≤ℤ value_of f (point_of params x y) in
-    let g = form_of (distance m (unknowns_of d r)).coefficients ((distance m
-    (unknowns_of d r)).constant +ℤ negsuc 0) in
+    let Least = λ (f : Affine). pos 0 ≤ℤ value_of f (point_of params h.bound x y) in
+    let g = form_of (distance (binds_in d) m (unknowns_of d r)).coefficients
+    ((distance (binds_in d) m (unknowns_of d r)).constant +ℤ negsuc 0) in
     let e = All-head Least g [] (all_back Least d.system.rows (g ∷ []) h.rows) in
-    let v = distance-value m d r params x y h.source h.target h.source_size h.target_size s in
-    let k = above_value (distance m (unknowns_of d r)).coefficients (distance m (unknowns_of d r)).constant
-    (point_of params x y) in (
+    let v = distance-value m d r params h.bound x y h.bound_size h.source h.target h.source_size h.target_size s in
+    let k = above_value (distance (binds_in d) m (unknowns_of d r)).coefficients
+    (distance (binds_in d) m (unknowns_of d r)).constant (point_of params h.bound x y) in (
       record {
         range = h.range;
         source = h.source;
@@ -129,6 +143,9 @@ above_to m d r params x y s h =
         target_size = h.target_size;
         source_from_0 = h.source_from_0;
         target_from_0 = h.target_from_0;
+        bound = h.bound;
+        bound_size = h.bound_size;
+        bound_from_0 = h.bound_from_0;
         equalities = h.equalities;
         rows = all_front Least d.system.rows (g ∷ []) h.rows;
       },
@@ -160,10 +177,10 @@ all_over P Q to (f ∷ fs) h =
 
 -- a form with Farkas's identity over the dependence's rows is not negative at its pairs
 pub farkas_at : (d : Dependence) (form : Affine) (params : List ℤ) (x y : Instance)
-    → HasFarkas (two_rows d.system.equalities ++ d.system.rows) form → Relates params d x y
-    → pos 0 ≤ℤ value_of form (point_of params x y)
+    → HasFarkas (two_rows d.system.equalities ++ d.system.rows) form → (h : Relates params d x y)
+    → pos 0 ≤ℤ value_of form (point_of params h.bound x y)
 farkas_at d form params x y f h =
-    let at = point_of params x y in
+    let at = point_of params h.bound x y in
     let es = all_over (λ g. value_of g at ≡ pos 0) (λ g. value_over g (pos 1) at ≡ pos 0)
     (λ g k. sym (over_one g at) ∙ k) d.system.equalities h.equalities in
     let rs = all_over (λ g. pos 0 ≤ℤ value_of g at) (λ g. pos 0 ≤ℤ value_over g (pos 1) at)
@@ -174,23 +191,26 @@ farkas_at d form params x y f h =
 -- a legal row is kept
 pub legal_kept : (m : ℕ) (d : Dependence) (r : Row) → Suits d r → IsLegal m r d → IsKept m r d
 legal_kept m d r s f params x y size h =
-    let v = distance-value m d r params x y h.source h.target h.source_size h.target_size s in
-    let k = farkas_at d (distance m (unknowns_of d r)) params x y f h in
+    let v = distance-value m d r params h.bound x y h.bound_size h.source h.target h.source_size h.target_size s in
+    let k = farkas_at d (distance (binds_in d) m (unknowns_of d r)) params x y f h in
     omega (arith, ints)
 
-slack_value : (d : Dependence) (r : Row) (params : List ℤ) (x y : Instance)
+slack_value : (d : Dependence) (r : Row) (params bound : List ℤ) (x y : Instance) → length bound ≡ binds_in d
     → x.number ≡ d.source.statement → y.number ≡ d.target.statement → length x.turns ≡ d.source.loops
     → length y.turns ≡ d.target.loops
-    → Suits d r → value_of (slack (unknowns_of d r)) (point_of params x y)
+    → Suits d r → value_of (slack (binds_in d) (unknowns_of d r)) (point_of params bound x y)
     ≡ (dot r.u params +ℤ r.w) -ℤ (phi r y -ℤ phi r x)
-slack_value d r params x y hs ht ls lt h =
+slack_value d r params bound x y lb hs ht ls lt h =
     let p = part_of r d.source.statement in
     let q = part_of r d.target.statement in
     let ps : part_of r x.number ≡ p = ap (λ (s : ℕ). part_of r s) hs in
     let pt : part_of r y.number ≡ q = ap (λ (s : ℕ). part_of r s) ht in
-    let a = dot-append p.coefficients (multiples (negsuc 0) q.coefficients ++ r.u) x.turns (y.turns ++ params)
-    (h.0 ∙ sym ls) in
-    let b = dot-append (multiples (negsuc 0) q.coefficients) r.u y.turns params
+    let n = binds_in d in
+    let a = dot-append p.coefficients (multiples (negsuc 0) q.coefficients ++ (zeros n ++ r.u)) x.turns
+    (y.turns ++ (bound ++ params)) (h.0 ∙ sym ls) in
+    let e = dot-append (zeros n) r.u bound params (length-zeros n ∙ sym lb) in
+    let o = dot-zeros n bound in
+    let b = dot-append (multiples (negsuc 0) q.coefficients) (zeros n ++ r.u) y.turns (bound ++ params)
     (length-multiples (negsuc 0) q.coefficients ∙ (h.1 ∙ sym lt)) in
     let c = dot-multiples (negsuc 0) q.coefficients y.turns in
     let fx : phi r x ≡ dot p.coefficients x.turns +ℤ p.shift =
@@ -204,6 +224,6 @@ pub bounded_distance : (d : Dependence) (r : Row) (params : List ℤ) (x y : Ins
     → IsBounded r d → Relates params d x y
     → (phi r y -ℤ phi r x) ≤ℤ (dot r.u params +ℤ r.w)
 bounded_distance d r params x y s f h =
-    let v = slack_value d r params x y h.source h.target h.source_size h.target_size s in
-    let k = farkas_at d (slack (unknowns_of d r)) params x y f h in
+    let v = slack_value d r params h.bound x y h.bound_size h.source h.target h.source_size h.target_size s in
+    let k = farkas_at d (slack (binds_in d) (unknowns_of d r)) params x y f h in
     omega (arith, ints)

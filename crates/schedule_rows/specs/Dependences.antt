@@ -1,33 +1,13 @@
 -- Dependences, and what restricting them is.
-use Rattle.std.specs.Prelude.{◌≡◌, ℕ, ℤ, pos, negsuc, ◌+ℤ◌, ◌≤ℤ◌, List, ◌++◌, length, map, All}
-use Rattle.whole_numbers.specs.Affine.{value_of, form_of}
-use Rattle.fractions.specs.Farkas.{AreNotNegative}
+use Rattle.std.specs.Prelude.{◌≡◌, ℕ, ℤ, negsuc, ◌+ℤ◌, ◌≤ℤ◌, List, length, map}
+use Rattle.whole_numbers.specs.Affine.{form_of}
 use Rattle.scop_syntax.specs.Walk.{Instance}
-use Rattle.iteration_domains.specs.Dependence.{Dependence}
+use Rattle.iteration_domains.specs.Dependence.{Dependence, binds_in}
+pub use Rattle.iteration_domains.specs.Related.{InRange, Relates, point_of}
 use Rattle.iteration_domains.specs.Restrictions.{equality_behind, row_behind}
 use Rattle.farkas.specs.Unknowns.{Unknowns}
 use Rattle.farkas.specs.Claims.{distance}
 use Rattle.schedule_rows.specs.Items.{Row, part_of, phi}
-
--- parameters in 0..=65536
-abbrev pub InRange : List ℤ → Type 0
-InRange params = All (λ p. (pos 0 ≤ℤ p) × (p ≤ℤ pos 65536)) params
-
--- where a pair stands: the turns of both, then the parameters
-abbrev pub point_of : List ℤ → Instance → Instance → List ℤ
-point_of params x y = x.turns ++ (y.turns ++ params)
-
--- at the parameters the target y depends on the source x: the pair is a whole point >= 0 of the system
-pub record Relates (params : List ℤ) (d : Dependence) (x y : Instance) : Type 0 where
-  pub range : InRange params
-  pub source : x.number ≡ d.source.statement
-  pub target : y.number ≡ d.target.statement
-  pub source_size : length x.turns ≡ d.source.loops
-  pub target_size : length y.turns ≡ d.target.loops
-  pub source_from_0 : AreNotNegative x.turns
-  pub target_from_0 : AreNotNegative y.turns
-  pub equalities : All (λ f. value_of f (point_of params x y) ≡ pos 0) d.system.equalities
-  pub rows : All (λ f. pos 0 ≤ℤ value_of f (point_of params x y)) d.system.rows
 
 -- no pair, for m parameters in range: what `is_empty` says
 abbrev pub IsEmptyDep : ℕ → Dependence → Type 0
@@ -46,13 +26,14 @@ Suits d r =
 
 -- the pairs at which the row has equal values
 abbrev pub equal_at : ℕ → Row → Dependence → Dependence
-equal_at m r d = equality_behind d (distance m (unknowns_of d r))
+equal_at m r d = equality_behind d (distance (binds_in d) m (unknowns_of d r))
 
 -- the pairs at which phi_T - phi_S >= 1: this row stands last
 abbrev pub above_at : ℕ → Row → Dependence → Dependence
 above_at m r d =
     row_behind d
-    (form_of (distance m (unknowns_of d r)).coefficients ((distance m (unknowns_of d r)).constant +ℤ negsuc 0))
+    (form_of (distance (binds_in d) m (unknowns_of d r)).coefficients
+    ((distance (binds_in d) m (unknowns_of d r)).constant +ℤ negsuc 0))
 
 -- no pair of the dependence has falling values
 abbrev pub IsKept : ℕ → Row → Dependence → Type 0

@@ -5,18 +5,18 @@ use Rattle.whole_numbers.specs.Lexicographic.{LexLess}
 use Rattle.fractions.specs.Farkas.{AreNotNegative, HasFarkas, two_rows}
 use Rattle.scop_syntax.specs.Members.{In}
 use Rattle.schedule_rows.specs.Items.{Row, part_of, numbers_of}
-use Rattle.iteration_domains.specs.Dependence.{Dependence}
+use Rattle.iteration_domains.specs.Dependence.{Dependence, binds_in}
 use Rattle.farkas.specs.Claims.{distance, slack}
 use Rattle.schedule_rows.specs.Dependences.{unknowns_of}
 use Rattle.null_space.specs.Narrowing.{kernel_vectors, Grows}
 
 -- legality and bounding by Farkas's identity over the dependence's rows
 abbrev pub IsLegal : ℕ → Row → Dependence → Type 0
-IsLegal m r d = HasFarkas (two_rows d.system.equalities ++ d.system.rows) (distance m (unknowns_of d r))
+IsLegal m r d = HasFarkas (two_rows d.system.equalities ++ d.system.rows) (distance (binds_in d) m (unknowns_of d r))
 
 -- the same of the bound of its distances
 abbrev pub IsBounded : Row → Dependence → Type 0
-IsBounded r d = HasFarkas (two_rows d.system.equalities ++ d.system.rows) (slack (unknowns_of d r))
+IsBounded r d = HasFarkas (two_rows d.system.equalities ++ d.system.rows) (slack (binds_in d) (unknowns_of d r))
 
 -- how many loops a statement has
 abbrev pub loops_of : List ℕ → ℕ → ℕ

@@ -17,7 +17,7 @@ pub use pair_laws::{
 pub use run_laws::{
     dependences_have_one_schedule, each_state_has_one_outcome, least_rows_are_unique,
     runs_are_short, schedules_are_good_plans, schedules_bound_distances,
-    schedules_have_small_items, schedules_keep_every_band, times_rise_along_dependences,
-    values_are_in_order,
+    schedules_have_small_items, schedules_keep_every_band, schedules_of_covers_are_good_plans,
+    times_rise_along_dependences, values_are_in_order,
 };
 pub use schedule::Schedule;

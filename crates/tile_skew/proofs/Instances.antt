@@ -25,12 +25,12 @@ use Rattle.schedule_rows.specs.Items.{Marked, Block, scalar, band, part_of}
 use Rattle.schedule_rows.specs.Posed.{loops_of}
 use Rattle.schedule_rows.specs.Schedule.{loops_in}
 use Rattle.schedule_rows.specs.Sized.{IsSmall, AreSizedRows, AreSized}
+use Rattle.schedule_rows.proofs.ModelLoops.{loops_at}
 use Rattle.tile_skew.specs.Places.{before_iterators, place_of}
 use Rattle.tile_skew.specs.declared.layout.Layout.{Layout}
 use Rattle.tile_skew.specs.ScanSets.{count_of, front_of, points_of}
 use Rattle.tile_skew.specs.Tilings.{form_at, rows_at, row_items, block_items, first_band_at, behind_at, statement_items}
 use Rattle.tile_skew.specs.steps.Sizes.{AreRowsOver, AreItemsOver, AreOver}
-use Rattle.tile_skew.proofs.ConflictPairs.{loops_at}
 use Rattle.tile_skew.proofs.Points.{Parts, Says, point, point_from, point_to, at_tiles}
 
 -- a list in two parts

@@ -1,6 +1,6 @@
-pub mod ConflictPairs
+pub mod WalkedInstances
 pub mod TilingAgreement
-pub mod ConflictOrder
+pub mod TilingOrder
 pub mod SetValues
 pub mod Points
 pub mod ItemParts
@@ -13,6 +13,7 @@ pub mod ConstraintVariables
 pub mod ItemFits
 pub mod ModelStatements
 pub mod Numbers
+pub mod JoinedPairs
 pub mod Ranks
 pub mod Counts
 pub mod DimensionBounds

@@ -1,4 +1,5 @@
--- A schedule of statements with at most n loops has at most n rows; its scalars drop dependences.
+-- A schedule of statements with at most n loops has at most n rows; each of its scalars parts two statements that
+-- dependences have joined.
 use Rattle.std.proofs.Common.{◌≡◌, ℕ, suc, ◌+◌, ◌<◌, List, [], ◌∷◌, ◌++◌, sym, ◌∙◌, ap, ap₂, subst, ◌⊎◌}
 use Rattle.std.proofs.Common.{inl, inr, arith, length}
 use Rattle.std.specs.Prelude.{◌≤◌, ⊤}
@@ -6,16 +7,18 @@ use Rattle.std.proofs.lemmas.List.{append-nil, length-append, nil_from_length}
 use Rattle.std.proofs.lemmas.Bool.{cases_lt}
 use Rattle.null_space.specs.Narrowing.{narrowed_by, Grows}
 use Rattle.null_space.proofs.Sizes.{units_length}
+use Rattle.scop_syntax.specs.Members.{In}
 use Rattle.stmt_graph.specs.Graph.{number_in}
 use Rattle.iteration_domains.specs.Dependence.{Dependence}
 use Rattle.schedule_rows.specs.Dependences.{edges_of}
 use Rattle.schedule_rows.specs.Items.{Row, Marked, Block, scalar, band, part_of, band_rows, rows_in, closed_by}
 use Rattle.schedule_rows.specs.Posed.{vectors_of, IsFull, loops_of}
-use Rattle.schedule_rows.specs.Next.{State, rows_of, Goes, Ends}
+use Rattle.schedule_rows.specs.Next.{State, rows_of, Goes, Ends, IsSizedDep}
 use Rattle.schedule_rows.specs.Outcomes.{Runs, IsSchedule, items_in}
 use Rattle.schedule_rows.proofs.Measures.{VectorLaws, vectors_more, rows_closed, rows_scalar, rows_appended}
 use Rattle.schedule_rows.proofs.NextSteps.{next_goes, next_ends}
-use Rattle.schedule_rows.proofs.Measures.{restricts_length}
+use Rattle.schedule_rows.proofs.RunInvariants.{restricts_sized, uncuts_from}
+use Rattle.tile_skew.proofs.JoinedPairs.{joined_pairs, restricted_pairs, cut_pairs}
 use Rattle.tile_skew.proofs.Numbers.{numbers_below}
 
 -- as many kernel vectors as loops less rows, or none
@@ -90,11 +93,12 @@ closing : (s t : State) (closed : List Block) → t.closed ≡ closed → t.rows
 closing s t closed e f =
     ap₂ (λ (bs : List Block) (ms : List Marked). rows_in bs ++ band_rows ms) e f ∙ append-nil (rows_in closed)
 
--- a state of a run with statements of at most n loops that began with k dependences
+-- a state of a run with statements of at most n loops, of which k pairs were joined at first
 record IsRanked (n k : ℕ) (loops : List ℕ) (s : State) : Type 0 where
   pub rank : HasRank loops (rows_of s)
   pub few : length (rows_of s) ≤ n
-  pub items : (items_in s.closed + length s.rows) + length s.remaining ≤ length (rows_of s) + k
+  pub sized : (d : Dependence) → In d s.remaining → IsSizedDep loops d
+  pub items : (items_in s.closed + length s.rows) + joined_pairs (length loops) s.remaining ≤ length (rows_of s) + k
   pub numbers : AreNumbered (length loops) s.closed
 
 ranked_goes : VectorLaws → (n k m : ℕ) (loops : List ℕ) (s t : State) → ((i : ℕ) → loops_of loops i ≤ n)
@@ -105,12 +109,13 @@ ranked_goes laws n k m loops s t most h (inl a) =
     let f = rank_few n loops (rows_of s) most h.rank a.more in
     let i = ap items_in a.closed in
     let r = ap length a.rows ∙ length-append s.rows (a.row ∷ []) in
-    let d = ap length a.remaining in
+    let d = ap (joined_pairs (length loops)) a.remaining in
     let own = h.items in
     record {
       rank = subst (HasRank loops) (sym e)
           (rank_more laws loops (rows_of s) a.row.row h.rank a.least.posed.grows);
       few = omega arith;
+      sized = λ e i. h.sized e (subst (In e) a.remaining i);
       items = omega arith;
       numbers = subst (AreNumbered (length loops)) (sym a.closed) h.numbers;
     }
@@ -119,12 +124,13 @@ ranked_goes laws n k m loops s t most h (inr (inl c)) =
     let l = ap length e in
     let i = ap items_in c.closed ∙ items_closed s.closed s.rows in
     let r = ap length c.rows in
-    let d = restricts_length m s.rows s.remaining t.remaining c.remaining in
+    let d = restricted_pairs (length loops) m s.rows s.remaining t.remaining c.remaining in
     let own = h.items in
     let few = h.few in
     record {
       rank = subst (HasRank loops) (sym e) h.rank;
       few = omega arith;
+      sized = restricts_sized m loops s.rows s.remaining t.remaining h.sized c.remaining;
       items = omega arith;
       numbers = subst (AreNumbered (length loops)) (sym c.closed)
           (numbered_closed (length loops) s.closed s.rows h.numbers);
@@ -136,19 +142,20 @@ ranked_goes laws n k m loops s t most h (inr (inr c)) =
     let l = ap length e in
     let i = ap items_in c.closed ∙ items_more s.closed (scalar c.numbers ∷ []) in
     let r = ap length c.rows in
-    let d = c.fewer in
+    let d = cut_pairs loops c.numbers s.remaining t.remaining c.remaining c.fewer h.sized in
     let own = h.items in
     let few = h.few in
     record {
       rank = subst (HasRank loops) (sym e) h.rank;
       few = omega arith;
+      sized = λ e i. h.sized e (uncuts_from c.numbers s.remaining t.remaining e c.remaining i);
       items = omega arith;
       numbers = subst (AreNumbered (length loops)) (sym c.closed)
           (numbered_more (length loops) s.closed c.numbers h.numbers
           (numbers_below (length loops) (edges_of s.remaining) c.numbers c.numbering));
     }
 
--- what a schedule of statements with at most n loops and of k dependences is like
+-- what a schedule of statements with at most n loops is like, of which dependences join k pairs
 pub record HasFewItems (n k : ℕ) (loops : List ℕ) (blocks : List Block) : Type 0 where
   pub rows : length (rows_in blocks) ≤ n
   pub items : items_in blocks ≤ suc (n + k)
@@ -192,15 +199,17 @@ ranked_run laws n k m loops s (t ∷ ts) blocks most h r =
     ranked_run laws n k m loops t ts blocks most
     (ranked_goes laws n k m loops s t most h (next_goes m loops s t r.0)) r.1
 
-pub schedule_few : VectorLaws → (n m : ℕ) (loops : List ℕ) (deps : List Dependence) (blocks : List Block)
-    → ((i : ℕ) → loops_of loops i ≤ n) → IsSchedule m loops deps blocks → HasFewItems n (length deps) loops blocks
-schedule_few laws n m loops deps blocks most s =
+pub schedule_few : VectorLaws → (n k m : ℕ) (loops : List ℕ) (deps : List Dependence) (blocks : List Block)
+    → ((i : ℕ) → loops_of loops i ≤ n) → joined_pairs (length loops) deps ≤ k
+    → ((d : Dependence) → In d deps → IsSizedDep loops d) → IsSchedule m loops deps blocks → HasFewItems n k loops blocks
+schedule_few laws n k m loops deps blocks most joined sized s =
     let first : State = record { closed = []; rows = []; remaining = s.taken } in
-    let few = restricts_length m [] deps s.taken s.takes in
-    let ranked : IsRanked n (length deps) loops first = record {
+    let few = restricted_pairs (length loops) m [] deps s.taken s.takes in
+    let ranked : IsRanked n k loops first = record {
       rank = rank_first loops;
       few = omega arith;
+      sized = restricts_sized m loops [] deps s.taken sized s.takes;
       items = omega arith;
       numbers = tt;
     } in
-    ranked_run laws n (length deps) m loops first s.states blocks most ranked s.runs
+    ranked_run laws n k m loops first s.states blocks most ranked s.runs

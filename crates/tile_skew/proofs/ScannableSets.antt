@@ -1,4 +1,4 @@
--- The scan sets of a schedule of a kernel's conflicts: bounded, of few dimensions, in the order of their statements.
+-- The scan sets of a kernel's schedule: bounded, of few dimensions, in the order of their statements.
 use Rattle.std.proofs.Common.{◌≡◌, ℕ, suc, ◌+◌, ◌^◌, ◌<◌, ◌≤◌, pos, List, [], ◌∷◌, sym, ◌∙◌, ap, subst}
 use Rattle.std.proofs.Common.{refl, arith, length, Some}
 use Rattle.std.specs.Prelude.{◌≤ℤ◌, All, slice_get}
@@ -16,11 +16,11 @@ use Rattle.scop_syntax.proofs.Members.{in_map_from, place_of as place_in, sorted
 use Rattle.stmt_graph.specs.Graph.{number_in}
 use Rattle.iteration_domains.specs.Model.{Modelled, modelled, model_of}
 use Rattle.iteration_domains.specs.Sizes.{IsKernelModel}
-use Rattle.conflict_deps.specs.Conflicts.{conflicts_of}
 use Rattle.loop_tree.specs.Tiling.{TileRow, row, scalar as number}
 use Rattle.schedule_rows.specs.Items.{Marked, Block, scalar, band, band_rows, rows_in}
 use Rattle.schedule_rows.specs.Schedule.{loops_in}
 use Rattle.schedule_rows.specs.Sized.{AreSized}
+use Rattle.schedule_rows.proofs.ModelLoops.{loops_at}
 use Rattle.tile_skew.specs.ScanSets.{most_iterators, layout_of, scan_set, scan_sets}
 use Rattle.tile_skew.specs.Tilings.{row_items, block_items, first_band, first_band_at, leading_at, behind_at}
 use Rattle.tile_skew.specs.Tilings.{statement_items, form_at}
@@ -28,8 +28,7 @@ use Rattle.tile_skew.specs.steps.Facts.{StatementFacts}
 use Rattle.tile_skew.specs.steps.Sizes.{FitsTurns, FitsItem, IsLow, AreModest}
 use Rattle.tile_skew.proofs.AlikeSets.{band_many, within_most}
 use Rattle.tile_skew.proofs.DimensionBounds.{HasNearTurns, set_bounded}
-use Rattle.tile_skew.proofs.ConflictPairs.{loops_at}
-use Rattle.tile_skew.proofs.Counts.{conflicts_few, items_many, most_few, statement_few, statements_few}
+use Rattle.tile_skew.proofs.Counts.{dimensions_few, items_many, most_few, statements_few}
 use Rattle.tile_skew.proofs.ItemFits.{first_fit, behind_fit}
 use Rattle.tile_skew.proofs.Instances.{loops_are, parameters_are}
 use Rattle.tile_skew.proofs.Ranks.{AreNumbered, HasFewItems}
@@ -102,13 +101,13 @@ items_modest program blocks k m kernel one i sized few =
       low = behind_low (length loops) 32 blocks m.number few.numbers below many;
     }
 
--- what is known of a kernel with a schedule of its k conflicts
+-- what is known of a kernel with a schedule of dependences between its statements
 pub record HasSchedule (program : Program) (blocks : List Block) : Type 0 where
   pub kernel : IsKernel program
   pub model : IsKernelModel (model_of program)
   pub facts : StatementFacts program
   pub sized : AreSized (loops_in (model_of program)) blocks
-  pub few : HasFewItems 5 (length (conflicts_of (model_of program))) (loops_in (model_of program)) blocks
+  pub few : HasFewItems 5 1024 (loops_in (model_of program)) blocks
 
 pub sets_bounded : (program : Program) (blocks : List Block) (size : ℕ) (s : Scanned) → HasSchedule program blocks
     → ((m : Modelled) → In m (model_of program).statements → HasNearTurns m) → 0 < size → size ≤ 1024
@@ -120,9 +119,8 @@ sets_bounded program blocks size s h near positive small among =
     let q = in_map_from Set s ss among in
     let m = q.0 in
     let items = statement_items blocks m.number in
-    let few = (statement_few program m h.facts q.1).dimensions in
-    let modest = items_modest program blocks (length (conflicts_of (model_of program))) m h.kernel h.model q.1 h.sized
-    h.few in
+    let few = dimensions_few program m h.facts q.1 in
+    let modest = items_modest program blocks 1024 m h.kernel h.model q.1 h.sized h.few in
     let low : pos 1 ≤ℤ pos size = omega (arith, ints) in
     let high : pos size ≤ℤ pos 1024 = omega (arith, ints) in
     subst (λ (z : Scanned). IsBounded z.system) (sym q.2)
@@ -146,8 +144,7 @@ sets_few program blocks size s h among =
     let least = h.kernel.few_parameters in
     let items = items_many blocks m.number in
     let all = h.few.items in
-    let conflicts = conflicts_few program h.kernel h.facts in
-    let most = most_few ss 5 (λ t i. (statement_few program t h.facts i).dimensions) in
+    let most = most_few ss 5 (λ t i. dimensions_few program t h.facts i) in
     let own = within_most ss m q.1 in
     let first : (Set m).first + (Set m).iterators ≤ (Set m).system.dimensions = omega arith in
     let few : (Set m).system.dimensions + (Set m).system.parameters < 2 ^ 32 = omega arith in

@@ -3,8 +3,9 @@ pub mod Places
 pub mod ScanSets
 pub mod steps
 -- Passed on: what this crate's contracts are told in.
-pub use Rattle.conflict_deps.specs.Conflicts
+pub use Rattle.iteration_domains.specs.Held
 pub use Rattle.schedule_rows.specs.Items
+pub use Rattle.schedule_rows.specs.Next
 pub use Rattle.schedule_rows.specs.Outcomes
 pub use Rattle.schedule_rows.specs.Schedule
 pub use Rattle.schedule_rows.specs.Sized

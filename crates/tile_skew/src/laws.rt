@@ -11,12 +11,13 @@ ghost use Rattle.scop_syntax.specs.Statements as source;
 ghost use Rattle.scop_syntax.specs.Statements.{Placed, statements_of};
 ghost use Rattle.scop_syntax.specs.Tree.{Program};
 ghost use Rattle.scop_syntax.specs.Walk.{Instance, Visit};
+ghost use Rattle.iteration_domains.specs.Dependence.{Dependence};
+ghost use Rattle.iteration_domains.specs.Held.{HoldCovers};
 ghost use Rattle.iteration_domains.specs.Instances.{IsInstanceOf};
 ghost use Rattle.iteration_domains.specs.Model.{KernelModel, Modelled, model_of};
-ghost use Rattle.conflict_deps.specs.Conflicts.{conflicts_of};
 ghost use Rattle.loop_tree.specs.Tiling.{IsGoodPlan, item_values, kept, order_of};
-ghost use Rattle.schedule_rows.specs.Dependences.{InRange};
 ghost use Rattle.schedule_rows.specs.Items.{Block, Marked, values};
+ghost use Rattle.schedule_rows.specs.Next.{IsSizedDep};
 ghost use Rattle.schedule_rows.specs.Outcomes.{IsSchedule};
 ghost use Rattle.schedule_rows.specs.Schedule.{loops_in};
 ghost use Rattle.schedule_rows.specs.Sized.{AreSized};
@@ -24,29 +25,24 @@ ghost use Rattle.tile_skew.specs.Places.{place_of};
 ghost use Rattle.tile_skew.specs.ScanSets.{scan_set, scan_sets};
 ghost use Rattle.tile_skew.specs.Tilings.{first_band, form_at, schedule_tiling, statement_items, statements_from};
 
-use conflict_deps::conflict_laws::{conflicts_are_the_points_of_the_systems, systems_have_parts};
 use iteration_domains::domain_laws::domains_hold_the_instances;
 use null_space::{kernel_vectors_are_kept, rows_take_kernel_vectors};
-use schedule_rows::{schedules_are_good_plans, schedules_have_small_items};
-use scop_syntax::walk_laws::{
-    instances_are_those_of_statements, statements_are_numbered, walks_are_in_order,
-};
+use schedule_rows::{schedules_have_small_items, schedules_of_covers_are_good_plans};
+use scop_syntax::walk_laws::{instances_are_those_of_statements, statements_are_numbered};
 
-/// The tiling of a schedule of a kernel's conflicts is a good plan, for any size of tiles and parameters in 0..=65536:
-/// two conflicting places lie in one tile, the earlier first, or the wave rises from the earlier to the later.
+/// The tiling of a schedule of dependences that hold all covers of a program's walk is a good plan, for any size of
+/// tiles: two conflicting places lie in one tile, the earlier first, or the wave rises from the earlier to the later.
 pub fn tiled_schedules_are_good_plans()
-    ensures { (program : Program) (blocks : List Block) (params : List ℤ) (size : ℕ) → IsKernel program
-        → length params ≡ length program.parameters → InRange params → 0 < size
-        → IsSchedule (model_of program).parameters (loops_in (model_of program)) (conflicts_of (model_of program))
-        blocks
+    ensures { (program : Program) (deps : List Dependence) (blocks : List Block) (params : List ℤ) (size : ℕ)
+        → length params ≡ length program.parameters → 0 < size
+        → ((d : Dependence) → In d deps → IsSizedDep (loops_in (model_of program)) d)
+        → HoldCovers program params deps
+        → IsSchedule (model_of program).parameters (loops_in (model_of program)) deps blocks
         → IsGoodPlan program params (schedule_tiling size (length (model_of program).statements) blocks) }
 {
-    conflicts_are_the_points_of_the_systems();
-    systems_have_parts();
     instances_are_those_of_statements();
     statements_are_numbered();
-    walks_are_in_order();
-    schedules_are_good_plans();
+    schedules_of_covers_are_good_plans();
 }
 
 /// The whole points of a statement's scan set are exactly the places of its instances, at all parameters.
@@ -106,18 +102,18 @@ pub fn scan_sets_are_alike()
         → (x.system.dimensions ≡ y.system.dimensions) × (x.parallel ≡ y.parallel) }
 {}
 
-/// The scan sets of a schedule of a kernel's conflicts can be scanned, for tiles of sizes 1 to 1024: they are bounded
-/// for parameters in 0..=65536, of a few dimensions, and stand in the order of their statements, with an iterator for
-/// each loop round the statement.
+/// The scan sets of a schedule of dependences between a kernel's statements can be scanned, for tiles of sizes 1 to
+/// 1024: they are bounded for parameters in 0..=65536, of a few dimensions, and stand in the order of their statements,
+/// with an iterator for each loop round the statement.
 pub fn scan_sets_can_be_scanned()
-    ensures bounded { (program : Program) (blocks : List Block) (size : ℕ) (s : Scanned) → IsKernel program
-        → 0 < size → size ≤ 1024
-        → IsSchedule (model_of program).parameters (loops_in (model_of program)) (conflicts_of (model_of program))
-        blocks
+    ensures bounded { (program : Program) (deps : List Dependence) (blocks : List Block) (size : ℕ) (s : Scanned)
+        → IsKernel program → 0 < size → size ≤ 1024
+        → ((d : Dependence) → In d deps → IsSizedDep (loops_in (model_of program)) d)
+        → IsSchedule (model_of program).parameters (loops_in (model_of program)) deps blocks
         → In s (scan_sets (pos size) blocks (model_of program)) → IsBounded s.system }
-    ensures parts { (program : Program) (blocks : List Block) (size : ℕ) (s : Scanned) → IsKernel program
-        → IsSchedule (model_of program).parameters (loops_in (model_of program)) (conflicts_of (model_of program))
-        blocks
+    ensures parts { (program : Program) (deps : List Dependence) (blocks : List Block) (size : ℕ) (s : Scanned)
+        → IsKernel program → ((d : Dependence) → In d deps → IsSizedDep (loops_in (model_of program)) d)
+        → IsSchedule (model_of program).parameters (loops_in (model_of program)) deps blocks
         → In s (scan_sets (pos size) blocks (model_of program))
         → (s.system.parameters ≡ length program.parameters) × (s.first + s.iterators ≤ s.system.dimensions)
         × (s.system.dimensions + s.system.parameters < 2 ^ 32) }

@@ -3,7 +3,7 @@
 //! others, "A practical automatic polyhedral parallelizer and locality optimizer", PLDI 2008; scattering dimensions:
 //! C. Bastoul, "Code generation in the polyhedral model is easier than you think", PACT 2004).
 //! Promises that `tiling` is exactly that of specs/Tilings.antt and `tiled` gives exactly the sets of
-//! specs/ScanSets.antt, that a tiling of a kernel's conflicts is a good plan at all parameters, that the whole points
+//! specs/ScanSets.antt, that the tiling of a schedule of covers is a good plan at all parameters, that the whole points
 //! of those sets are the places of the instances, each once, that places come in the tiling's order, and that those
 //! sets can be scanned (`laws`).
 #![tactic(auto)]

@@ -2,13 +2,15 @@
 use Rattle.std.specs.Prelude.{◌≡◌, ℕ, zero, ◌^◌, ◌<◌, ◌≤◌, ℤ, pos, List, [], length, map}
 use Rattle.plain_scan.specs.Alone.{AreInRange}
 use Rattle.scop_syntax.specs.Kernel.{IsKernel}
+use Rattle.scop_syntax.specs.Limits.{HasParameters}
 use Rattle.scop_syntax.specs.Members.{In}
 use Rattle.scop_syntax.specs.Tree.{Program}
 use Rattle.scop_syntax.specs.Walk.{Instance, instance, Visit as Walked}
 use Rattle.integer_sets.specs.Scanned.{Scanned}
+use Rattle.iteration_domains.specs.Dependence.{Dependence}
+use Rattle.iteration_domains.specs.Held.{HoldCovers}
 use Rattle.iteration_domains.specs.Instances.{IsInstanceOf}
 use Rattle.iteration_domains.specs.Model.{Modelled, model_of}
-use Rattle.tile_skew.specs.Conflicts.{conflicts_of}
 use Rattle.loop_tree.specs.Fits.{FitsAll}
 use Rattle.loop_tree.specs.Marks.{FlatAll, MarksAll}
 use Rattle.loop_tree.specs.Plans.{AreInOrder}
@@ -17,6 +19,7 @@ use Rattle.loop_tree.specs.Shape.{NestAllTo, TreesAreOver, TreesAreUpTo}
 use Rattle.loop_tree.specs.Tree.{Trees}
 use Rattle.loop_tree.specs.Walk.{Visit, given, walk_all}
 use Rattle.tile_skew.specs.Items.{Block}
+use Rattle.tile_skew.specs.Next.{IsSizedDep}
 use Rattle.tile_skew.specs.Outcomes.{IsSchedule}
 use Rattle.tile_skew.specs.Schedule.{loops_in}
 use Rattle.tile_skew.specs.Places.{place_of}
@@ -27,13 +30,16 @@ use Rattle.plain_scan.specs.Scanning.{AreOfSets, GiveIterators, dimensions_of, m
 use Rattle.plain_scan.specs.Sets.{Keys}
 use Rattle.plan_tree.specs.Trees.{tiling_of}
 
--- the blocks are those of a schedule of the kernel's conflicts, for tiles of a size within 1 to 1024
+-- the blocks are those of a schedule of dependences that hold the covers of the kernel's walk, for tiles of a size
+-- within 1 to 1024
 pub record IsTiled (program : Program) (size : ℕ) (blocks : List Block) : Type 0 where
   pub kernel : IsKernel program
   pub some : 0 < size
   pub few : size ≤ 1024
-  pub schedule : IsSchedule (model_of program).parameters (loops_in (model_of program))
-      (conflicts_of (model_of program)) blocks
+  pub deps : List Dependence
+  pub sized : (d : Dependence) → In d deps → IsSizedDep (loops_in (model_of program)) d
+  pub covers : (params : List ℤ) → HasParameters program params → HoldCovers program params deps
+  pub schedule : IsSchedule (model_of program).parameters (loops_in (model_of program)) deps blocks
 
 -- its scan sets
 abbrev pub sets_of : Program → ℕ → List Block → List Scanned

@@ -24,8 +24,8 @@ returns c program size blocks ts is scan =
       even = tilings_are_even program size blocks;
       fits = λ params has. scan.fits params has.parameters has.count;
       carry_out = λ params has.
-          let good = c.tiled_schedules_are_good_plans.ensures program blocks params size is.kernel has.count
-          has.parameters is.some is.schedule in
+          let good = c.tiled_schedules_are_good_plans.ensures program is.deps blocks params size has.count is.some is.sized
+          (is.covers params has) is.schedule in
           let visits = c.visits_are_in_order.ensures program params size blocks (walk_all ts params []) is has.count
           (scan.exact params has.parameters) (scan.iterators params has.parameters) in
           let gives = scan.iterators params has.parameters in

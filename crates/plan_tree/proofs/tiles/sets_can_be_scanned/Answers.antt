@@ -8,8 +8,9 @@ pub returns-clause-scanned : goal.returns-clause-scanned
 returns-clause-scanned c program size blocks is =
     are_scanned (length program.parameters) (sets_of program size blocks)
     (c.scan_sets_are_alike.ensures (pos size) blocks (model_of program))
-    (λ s i. c.scan_sets_can_be_scanned.ensures.parts program blocks size s is.kernel is.schedule i)
-    (λ s i. c.scan_sets_can_be_scanned.ensures.bounded program blocks size s is.kernel is.some is.few is.schedule i)
+    (λ s i. c.scan_sets_can_be_scanned.ensures.parts program is.deps blocks size s is.kernel is.sized is.schedule i)
+    (λ s i. c.scan_sets_can_be_scanned.ensures.bounded program is.deps blocks size s is.kernel is.some is.few is.sized
+    is.schedule i)
 
 pub returns-clause-rise : goal.returns-clause-rise
 returns-clause-rise c program size blocks is =
@@ -19,9 +20,9 @@ returns-clause-rise c program size blocks is =
 pub returns-clause-few : goal.returns-clause-few
 returns-clause-few c program size blocks is =
     few_dimensions (length program.parameters) (sets_of program size blocks)
-    (λ s i. c.scan_sets_can_be_scanned.ensures.parts program blocks size s is.kernel is.schedule i)
+    (λ s i. c.scan_sets_can_be_scanned.ensures.parts program is.deps blocks size s is.kernel is.sized is.schedule i)
 
 pub returns-clause-parameters : goal.returns-clause-parameters
 returns-clause-parameters c program size blocks is some =
     many_parameters (length program.parameters) (sets_of program size blocks)
-    (λ s i. c.scan_sets_can_be_scanned.ensures.parts program blocks size s is.kernel is.schedule i) some
+    (λ s i. c.scan_sets_can_be_scanned.ensures.parts program is.deps blocks size s is.kernel is.sized is.schedule i) some

@@ -1,7 +1,6 @@
 use Rattle.std.proofs.Common.{length}
 use Rattle.iteration_domains.specs.Model.{model_of}
 use Rattle.tile_skew.specs.Schedule.{loops_in}
-use Rattle.tile_skew.specs.Conflicts.{conflicts_of}
 use Rattle.tile_skew.specs.ScanSets.{most_iterators}
 use Rattle.tile_skew.proofs.AlikeSets.{within_most}
 use Rattle.tile_skew.proofs.Counts.{most_few}
@@ -14,8 +13,7 @@ returns c program params size blocks vs is count exact gives =
     let model = model_of program in
     let ss = model.statements in
     let n = most_iterators ss in
-    let sized = c.schedules_have_small_items.ensures model.parameters (loops_in model) (conflicts_of model) blocks
-    is.schedule in
+    let sized = c.schedules_have_small_items.ensures model.parameters (loops_in model) is.deps blocks is.schedule in
     let statements : StatementFacts program = record {
       same = c.statements_are_numbered.ensures.same program;
       few = λ p i. (c.statements_are_numbered.ensures.placed program p is.kernel i).few_loops;

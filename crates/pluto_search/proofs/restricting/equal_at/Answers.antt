@@ -1,6 +1,7 @@
 use Rattle.std.proofs.Common.{ap, arith, length, ◌++◌}
 use Rattle.std.specs.Prelude.{negsuc}
 use Rattle.std.proofs.lemmas.List.{length-append}
+use Rattle.iteration_domains.specs.Dependence.{binds_in}
 use Rattle.whole_numbers.specs.Affine.{Affine}
 use Rattle.whole_numbers.specs.Lists.{multiples, zeros}
 use Rattle.whole_numbers.proofs.Dot.{length-multiples, length-zeros}
@@ -16,12 +17,15 @@ with_equality-requires c =
     let xs = (part_of r d.source.statement).coefficients in
     let ys = (part_of r d.target.statement).coefficients in
     let e = ap (λ (f : Affine). length f.coefficients) c.in_ok-form.ensures in
-    let l = length-append (multiples (negsuc 0) xs) (ys ++ zeros m) in
-    let k = length-append ys (zeros m) in
+    let b = binds_in d in
+    let l = length-append (multiples (negsuc 0) xs) (ys ++ (zeros b ++ zeros m)) in
+    let k = length-append ys (zeros b ++ zeros m) in
+    let j = length-append (zeros b) (zeros m) in
+    let y = length-zeros b in
     let n = length-multiples (negsuc 0) xs in
     let z = length-zeros m in
     let a = c.requires.source_loops in
-    let b = c.requires.target_loops in
+    let s = c.requires.target_loops in
     let t = c.requires.turns in
     let p = c.requires.parameters in
     omega arith

@@ -1,40 +1,19 @@
-use Rattle.std.proofs.Common.{◌≡◌, ◌∙◌, ℕ, List, All, map, sym, subst, Some}
-use Rattle.std.specs.Prelude.{◌≤◌, slice_get}
-use Rattle.iteration_domains.specs.Model.{Modelled}
-use Rattle.iteration_domains.specs.Sizes.{HaveOneCount, IsKernelModel}
+use Rattle.std.proofs.Common.{◌∙◌, ℕ, List, map, sym, subst}
 use Rattle.schedule_rows.specs.Outcomes.{ends}
 use Rattle.pluto_search.specs.Questions.{ComesAnswered}
 use Rattle.schedule_rows.specs.Schedule.{block_of, loops_in}
 use Rattle.pluto_search.specs.Steps.{AreBetween}
-use Rattle.pluto_search.proofs.Conflicts.{all_between}
 use Rattle.pluto_search.proofs.RunSteps.{comes_schedule, comes_found}
 use Rattle.pluto_search.proofs.searching.search.Goals as goal
-use Rattle.pluto_search.proofs.searching.search.Goals.{After-deref, In-Ok-run}
-
--- what the model's own clauses say
-kernel : (c : After-deref) → IsKernelModel c.args.model.now
-kernel c =
-    let model = c.args.model.now in
-    let told = c.statements-statements.ensures in
-    record {
-      few_parameters = subst (λ (n : ℕ). n ≤ 4) c.parameters-parameters.ensures.parameters
-          c.parameters-parameters.ensures.few;
-      domains = subst (λ (l : List Modelled). All (λ s. s.domain.parameters ≡ model.parameters) l) told.statements
-          told.parameters;
-      numbers = subst (λ (l : List Modelled). All (λ s. All (HaveOneCount s) l) l) told.statements told.numbers;
-      places = subst (λ (l : List Modelled). (k : ℕ) (s : Modelled) → slice_get l k ≡ Some s → s.number ≡ k)
-          told.statements told.places;
-    }
+use Rattle.pluto_search.proofs.searching.search.Goals.{In-Ok-run}
 
 pub run-requires-clause-between : goal.run-requires-clause-between
 run-requires-clause-between c =
     let model = c.args.model.now in
     let deps = c.args.deps.now in
-    let one = kernel c in
     subst (λ (m : ℕ). AreBetween m c.deref.result.now deps) (sym c.parameters-parameters.ensures.parameters)
     (subst (λ (loops : List ℕ). AreBetween model.parameters loops deps)
-    (sym (c.deref.ensures.value ∙ c.in-Ok.ensures.loops))
-    (all_between model deps (λ d k. c.systems_have_parts.ensures model d one k) c.requires))
+    (sym (c.deref.ensures.value ∙ c.in-Ok.ensures.loops)) c.requires)
 
 -- the blocks are those of the run over the model's own numbers
 comes : (c : In-Ok-run) → ComesAnswered c.args.model.now.parameters (loops_in c.args.model.now) c.args.budget

@@ -4,7 +4,7 @@ use Rattle.std.proofs.lemmas.Int.{ints}
 use Rattle.whole_numbers.proofs.Lists.{not_negative_all}
 use Rattle.iteration_domains.specs.Model.{model_of}
 use Rattle.iteration_domains.proofs.TreeStatements.{one_model}
-use Rattle.tile_skew.proofs.ConflictPairs.{turns_from_0}
+use Rattle.tile_skew.proofs.WalkedInstances.{turns_from_0}
 use Rattle.schedule_rows.specs.Schedule.{loops_in}
 use Rattle.tile_skew.specs.Places.{place_of}
 use Rattle.tile_skew.specs.ScanSets.{layout_of}
