@@ -1,3 +1,4 @@
+pub mod Instances
 pub mod Loads
 pub mod Stores
 pub mod PassSeats

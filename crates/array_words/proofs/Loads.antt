@@ -1,5 +1,5 @@
 -- A load of the cell that the next instance of a seat's worker reads next is allowed by the rule of its table.
-use Rattle.std.proofs.Common.{◌≡◌, ℕ, zero, suc, ◌-◌, ◌+◌, ◌<◌, ◌≤◌, ◌∙◌, List, [], ◌∷◌, ◌++◌, length, map, get_or, ap, ap₂}
+use Rattle.std.proofs.Common.{◌≡◌, ℕ, ◌+◌, ◌<◌, ◌≤◌, ◌∙◌, List, [], ◌∷◌, ◌++◌, length, get_or, ap, ap₂}
 use Rattle.std.proofs.Common.{arith, refl, sym, subst}
 use mathlib.Core.Option.{none}
 use Rattle.atomic_table.specs.Table.{Me, Allows, step}
@@ -15,13 +15,13 @@ use Rattle.tile_core.specs.declared.view.View.{View}
 use Rattle.tile_core.specs.declared.view.Key.{Key}
 use Rattle.tile_core.specs.declared.words.Words.{Words}
 use Rattle.tile_core.specs.Plans.{plan_of}
-use Rattle.tile_core.specs.Ranks.{start_at}
 use Rattle.tile_core.specs.Workers.{staged}
 use Rattle.tile_core.specs.Views.{key_plan, plan_at, worker_in, parts_in, clock_in, at_stage, behind}
 use Rattle.tile_core.specs.Views.{executed, Ruled}
-use Rattle.tile_core.specs.Passes.{plan_in}
+use Rattle.tile_core.specs.Passes.{plan_in, walk_in}
 use Rattle.array_words.specs.Loads.{IsNextRead, Loads}
 use Rattle.array_words.specs.Seats.{IsSeat}
+use Rattle.array_words.proofs.Instances.{read_next, tile_in}
 
 module _ (words : Words) (seat : Seat (Unit {0}) View) where
   abbrev MayLoad : Words → Seat (Unit {0}) View → ℕ → Type 0
@@ -48,11 +48,12 @@ module _ (words : Words) (seat : Seat (Unit {0}) View) where
       (λ stamp x. (ap₂ (λ s ys. staged s (ys ++ x ∷ [])) is.stage is.reads, refl, refl)) less more
       (λ stamp x f. (f ∙ sym value, stamp, refl)))
 
-  pub loads : LoadIsAllowed Loads → (s : Stage) (xs : List ℕ) (c : ℕ) → IsSeat words s xs seat
-      → IsNextRead (plan_in words) s xs c → MayLoad words seat c
-  loads allowed s xs c is next =
+  pub loads : IsDealt (walk_in words) → LoadIsAllowed Loads → (s : Stage) (xs : List ℕ) (c : ℕ) → IsSeat words s xs seat
+      → IsNextRead (walk_in words) s xs c → MayLoad words seat c
+  loads dealt allowed s xs c is next =
       loads_at allowed s xs c is
-      (subst (λ (p : Plan). IsNextRead (plan_of p words.table.shared.key.cells.items) s xs c) (sym is.of.plan) next)
+      (subst (λ (p : Plan). IsNextRead (plan_of p words.table.shared.key.cells.items) s xs c) (sym is.of.plan)
+      (read_next words.plan words.table.shared.key.cells.items dealt s xs c next))
 
   -- what was found is told of the plan of the words
   pub told : (s : Stage) (xs : List ℕ) (r : ℕ) → IsSeat words s xs seat
@@ -62,34 +63,22 @@ module _ (words : Words) (seat : Seat (Unit {0}) View) where
       ∙ (ap (λ (p : Plan). executed (plan_of p words.table.shared.key.cells.items) seat.me.0.stage seat.me.0.reads)
       is.of.plan ∙ ap₂ (executed (plan_in words)) is.stage is.reads))
 
--- a list of sizes has one where a tile has an instance
-some_in : {A : Type 0} (size : A → ℕ) (xs : List A) (t k : ℕ)
-    → k < start_at (map size xs) (suc t) - start_at (map size xs) t → t < length xs
-some_in size [] zero k l = absurd (omega (arith, l))
-some_in size [] (suc t) k l = absurd (omega (arith, l))
-some_in size (x ∷ xs) zero k l = omega arith
-some_in size (x ∷ xs) (suc t) k l = let i = some_in size xs t k (omega (arith, l)) in omega (arith, i)
-
 module _ (words : Words) where
-  -- a tile with an instance is one of the plan's
-  pub tile_in : (t k : ℕ) → k < (plan_in words).size t → t < (plan_in words).tiles
-  tile_in t k l = some_in _ words.plan.list.now.tiles.items t k l
-
   -- the cell that is read is one of the plan's
-  pub read_below : IsDealt (plan_in words) → (s : Stage) (xs : List ℕ) (c : ℕ) → IsNextRead (plan_in words) s xs c
-      → c < (plan_in words).cells
+  pub read_below : IsDealt (walk_in words) → (s : Stage) (xs : List ℕ) (c : ℕ) → IsNextRead (walk_in words) s xs c
+      → c < (walk_in words).cells
   read_below dealt Idle xs c next = absurd next
   read_below dealt Ended xs c next = absurd next
   read_below dealt (Holding t) xs c next = absurd next
   read_below dealt (Working t k) xs c (less, more, at) =
-      subst (λ (d : ℕ). d < (plan_in words).cells) (sym at)
-      (dealt.read ((plan_in words).place t k) _ (dealt.place t k (tile_in t k less) less) (in_at _ _ 0 more))
+      subst (λ (d : ℕ). d < (walk_in words).cells) (sym at)
+      (dealt.read ((walk_in words).place t k) _ (dealt.place t k (tile_in words.plan t k less) less) (in_at _ _ 0 more))
 
   -- there is room for one more value
-  pub few_read : IsDealt (plan_in words) → ((j : ℕ) → j < (plan_in words).places → length ((plan_in words).read j) ≤ 16)
-      → (s : Stage) (xs : List ℕ) (c : ℕ) → IsNextRead (plan_in words) s xs c → length xs < 16
+  pub few_read : IsDealt (walk_in words) → ((j : ℕ) → j < (walk_in words).places → length ((walk_in words).read j) ≤ 16)
+      → (s : Stage) (xs : List ℕ) (c : ℕ) → IsNextRead (walk_in words) s xs c → length xs < 16
   few_read dealt few Idle xs c next = absurd next
   few_read dealt few Ended xs c next = absurd next
   few_read dealt few (Holding t) xs c next = absurd next
   few_read dealt few (Working t k) xs c (less, more, at) =
-      let f = few ((plan_in words).place t k) (dealt.place t k (tile_in t k less) less) in omega (arith, f, more)
+      let f = few ((walk_in words).place t k) (dealt.place t k (tile_in words.plan t k less) less) in omega (arith, f, more)

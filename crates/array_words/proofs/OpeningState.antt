@@ -1,5 +1,5 @@
 -- The opening state meets the rule, and a seat that stands for several idle workers may be cut.
-use Rattle.std.proofs.Common.{◌≡◌, ℕ, zero, suc, ◌+◌, ◌<◌, ◌≤◌, List, [], ◌∷◌, length, ap, ap₂, refl, sym, subst}
+use Rattle.std.proofs.Common.{◌≡◌, ℕ, zero, suc, ◌+◌, ◌<◌, ◌≤◌, List, [], ◌∷◌, length, ap, ap₂, refl, sym, subst, ◌∙◌}
 use Rattle.std.proofs.Common.{arith}
 use Rattle.std.specs.Prelude.{slice_index}
 use mathlib.Core.Option.{some, some-injective, some-ne-none}
@@ -16,8 +16,10 @@ use Rattle.tile_events.specs.Allowed.{SplitIsAllowed}
 use Rattle.tile_core.specs.declared.worker.Stage.TheVariants.{Idle}
 use Rattle.tile_core.specs.declared.view.Key.{Key}
 use Rattle.tile_core.specs.declared.view.View.{View}
+use Rattle.tile_core.specs.Plans.{HasRest}
 use Rattle.tile_core.specs.Workers.{staged}
 use Rattle.tile_core.specs.Views.{key_plan, worker_in, parts_in, clock_in, Ruled, opening_view}
+use Rattle.tile_core.proofs.Gates.{initial_is}
 use Rattle.array_words.specs.Seats.{fewer, one_of}
 
 one_idle : (i : ℕ) (w : core.Worker) → get_elem? (core.idle ∷ []) i ≡ some w → w ≡ core.idle
@@ -37,9 +39,9 @@ only_first key P is zero v e = subst P (some-injective (opening_view key) v e) i
 only_first key P is (suc i) v e = absurd (some-ne-none v (sym e))
 
 -- no step has been made
-timed_at : (key : Key) → length key.cells.items ≡ (key_plan key).cells
+timed_at : (key : Key) → length key.cells.items ≡ (key_plan key).cells → HasRest key.plan key.cells.items
     → AreTimed parts_in clock_in (key_plan key) (0 ∷ 0 ∷ key.cells.items) (opening_view key ∷ [])
-timed_at key wide = record {
+timed_at key wide rest = record {
   until = only_first key (λ v. (clock_in v).stamp ≤ 0) (omega arith);
   last = λ made. absurd (omega (arith, made));
   left = λ i v e made. absurd (omega (arith, made));
@@ -47,7 +49,8 @@ timed_at key wide = record {
   first = λ e. record {
     claims = refl;
     finished = refl;
-    cells = λ c less. ap (slice_index (0 ∷ 0 ∷ key.cells.items)) (two_more c);
+    cells = λ c less. ap (slice_index (0 ∷ 0 ∷ key.cells.items)) (two_more c)
+        ∙ initial_is key.plan key.cells.items rest c;
   };
 }
   where
@@ -56,10 +59,11 @@ timed_at key wide = record {
 
 held_at : ((p : events.Plan) (s : State) → IsOpening p s → Sound p s) → (key : Key) → GoodPlan (key_plan key)
     → IsDealt (key_plan key)
-    → length key.cells.items ≡ (key_plan key).cells → (key_plan key).tiles + key.workers < 18446744073709551615
+    → length key.cells.items ≡ (key_plan key).cells → HasRest key.plan key.cells.items
+    → (key_plan key).tiles + key.workers < 18446744073709551615
     → Held (key_plan key) key.workers worker_in parts_in clock_in
     (opening {S = Unit {0}} (0 ∷ 0 ∷ key.cells.items) [] (opening_view key))
-held_at starts key good dealt wide few = record {
+held_at starts key good dealt wide rest few = record {
   good = good;
   dealt = dealt;
   few = few;
@@ -69,25 +73,25 @@ held_at starts key good dealt wide few = record {
     finished = refl;
     idle = one_idle;
     wide = wide;
-    cells = λ c l. refl;
+    cells = λ c l. initial_is key.plan key.cells.items rest c;
   });
   workers = omega arith;
   claims = omega arith;
   misses = only_first key (λ v. (clock_in v).misses ≤ if_ended (worker_in v) (parts_in v)) (omega arith);
   stands = nobody_holds key;
-  timed = timed_at key wide;
+  timed = timed_at key wide rest;
 }
 
 -- these words under this key meet the rule
 pub opening_held : ((p : events.Plan) (s : State) → IsOpening p s → Sound p s) → (key : Key) (row : List ℕ)
     → GoodPlan (key_plan key) → IsDealt (key_plan key) → row ≡ 0 ∷ 0 ∷ key.cells.items
-    → length key.cells.items ≡ (key_plan key).cells
+    → length key.cells.items ≡ (key_plan key).cells → HasRest key.plan key.cells.items
     → (key_plan key).tiles + key.workers < 18446744073709551615
     → Ruled key (opening {S = Unit {0}} row [] (opening_view key))
-opening_held starts key row good dealt is wide few =
+opening_held starts key row good dealt is wide rest few =
     subst (λ (ws : List ℕ). Held (key_plan key) key.workers worker_in parts_in clock_in
     (opening {S = Unit {0}} ws [] (opening_view key)))
-    (sym is) (held_at starts key good dealt wide few)
+    (sym is) (held_at starts key good dealt wide rest few)
 
 -- a seat of idle workers may be cut
 pub split_allowed : SplitIsAllowed View → (key : Key) (id : ℕ) (v : View) → v.stage ≡ Idle → v.reads ≡ [] → 1 < v.parts

@@ -12,14 +12,14 @@ use Rattle.tile_core.specs.declared.view.View.{View}
 use Rattle.tile_core.specs.declared.view.Key.{Key}
 use Rattle.tile_core.specs.declared.words.Words.{Words}
 use Rattle.tile_core.specs.declared.plan.Plan.{Plan}
-use Rattle.tile_core.specs.Plans.{shape_of, plan_of}
+use Rattle.tile_core.specs.Plans.{plan_of, walk_shape}
 use Rattle.tile_core.specs.Workers.{staged}
 use Rattle.tile_core.specs.Views.{key_plan, worker_in, parts_in, clock_in, at_stage, behind, tile_at}
 use Rattle.tile_core.specs.Views.{done_at, Ruled}
-use Rattle.tile_core.specs.Passes.{plan_in}
+use Rattle.tile_core.specs.Passes.{walk_in}
 use Rattle.array_words.specs.Seats.{IsSeat}
 use Rattle.array_words.specs.Stores.{IsNextStore, Stores}
-use Rattle.array_words.proofs.Loads.{tile_in}
+use Rattle.array_words.proofs.Instances.{IsStored, store_next, stored_next, tile_in}
 
 module _ (words : Words) (seat : Seat (Unit {0}) View) where
   abbrev MayStore : Words → Seat (Unit {0}) View → ℕ → ℕ → Type 0
@@ -28,11 +28,12 @@ module _ (words : Words) (seat : Seat (Unit {0}) View) where
       (λ _. Stores (step words.table.shared.table_id.slots (c + 2) x 0 none) seat.me x)
 
   stores_at : StoreIsAllowed Stores → (s : Stage) (xs : List ℕ) (c x : ℕ) → IsSeat words s xs seat
-      → IsNextStore (key_plan words.table.shared.key) s xs c x → MayStore words seat c x
-  stores_at allowed Idle xs c x is next = absurd next
-  stores_at allowed Ended xs c x is next = absurd next
-  stores_at allowed (Holding t) xs c x is next = absurd next
-  stores_at allowed (Working t k) xs c x is (less, all, at, value) =
+      → IsNextStore (key_plan words.table.shared.key) s xs c x → IsStored (key_plan words.table.shared.key) s
+      → MayStore words seat c x
+  stores_at allowed Idle xs c x is next stored = absurd next
+  stores_at allowed Ended xs c x is next stored = absurd next
+  stores_at allowed (Holding t) xs c x is next stored = absurd next
+  stores_at allowed (Working t k) xs c x is (less, all, at, value) stored =
       let key : Key = words.table.shared.key in
       let me : Me (Unit {0}) View = seat.me in
       subst (λ (d : ℕ). MayStore words seat d x) (sym at)
@@ -41,32 +42,36 @@ module _ (words : Words) (seat : Seat (Unit {0}) View) where
       (Working (tile_at me.0.stage) (suc (done_at me.0.stage))) [])
       (ap₂ staged is.stage is.reads)
       (λ stamp. (ap₂ (λ a b. working a (suc b) []) (ap tile_at is.stage) (ap done_at is.stage), refl, refl))
-      less all refl value (λ stamp. (stamp, refl)))
+      less all stored value (λ stamp. (stamp, refl)))
 
-  pub stores : StoreIsAllowed Stores → (s : Stage) (xs : List ℕ) (c x : ℕ) → IsSeat words s xs seat
-      → IsNextStore (plan_in words) s xs c x → MayStore words seat c x
-  stores allowed s xs c x is next =
+  pub stores : IsDealt (walk_in words) → StoreIsAllowed Stores → (s : Stage) (xs : List ℕ) (c x : ℕ)
+      → IsSeat words s xs seat → IsNextStore (walk_in words) s xs c x → MayStore words seat c x
+  stores dealt allowed s xs c x is next =
+      let cells = words.table.shared.key.cells.items in
       stores_at allowed s xs c x is
-      (subst (λ (p : Plan). IsNextStore (plan_of p words.table.shared.key.cells.items) s xs c x) (sym is.of.plan) next)
+      (subst (λ (p : Plan). IsNextStore (plan_of p cells) s xs c x) (sym is.of.plan)
+      (store_next words.plan cells dealt s xs c x next))
+      (subst (λ (p : Plan). IsStored (plan_of p cells) s) (sym is.of.plan)
+      (stored_next words.plan cells dealt s xs c x next))
 
 module _ (words : Words) where
   -- the cell is one of the plan's
-  pub written_below : IsDealt (plan_in words) → (s : Stage) (xs : List ℕ) (c x : ℕ)
-      → IsNextStore (plan_in words) s xs c x → c < (plan_in words).cells
+  pub written_below : IsDealt (walk_in words) → (s : Stage) (xs : List ℕ) (c x : ℕ)
+      → IsNextStore (walk_in words) s xs c x → c < (walk_in words).cells
   written_below dealt Idle xs c x next = absurd next
   written_below dealt Ended xs c x next = absurd next
   written_below dealt (Holding t) xs c x next = absurd next
   written_below dealt (Working t k) xs c x (less, all, at, value) =
-      subst (λ (d : ℕ). d < (plan_in words).cells) (sym at)
-      (dealt.written ((plan_in words).place t k) (dealt.place t k (tile_in words t k less) less))
+      subst (λ (d : ℕ). d < (walk_in words).cells) (sym at)
+      (dealt.written ((walk_in words).place t k) (dealt.place t k (tile_in words.plan t k less) less))
 
   -- an instance of the tile is left
-  pub instance_left : (s : Stage) (xs : List ℕ) (c x : ℕ) → IsNextStore (plan_in words) s xs c x → (t k : ℕ)
-      → s ≡ Working t k → k < (shape_of words.plan).size t
-  instance_left s xs c x next t k e = (subst (λ s. IsNextStore (plan_in words) s xs c x) e next).0
+  pub instance_left : (s : Stage) (xs : List ℕ) (c x : ℕ) → IsNextStore (walk_in words) s xs c x → (t k : ℕ)
+      → s ≡ Working t k → k < (walk_shape words.plan).size t
+  instance_left s xs c x next t k e = (subst (λ s. IsNextStore (walk_in words) s xs c x) e next).0
 
   -- where the worker stands behind the instance
-  pub stage_after_store : (s : Stage) (xs : List ℕ) (c x : ℕ) (new : Stage) → IsNextStore (plan_in words) s xs c x
+  pub stage_after_store : (s : Stage) (xs : List ℕ) (c x : ℕ) (new : Stage) → IsNextStore (walk_in words) s xs c x
       → ((t k : ℕ) → s ≡ Working t k → new ≡ Working t (suc k)) → new ≡ Working (tile_at s) (suc (done_at s))
   stage_after_store Idle xs c x new next f = absurd next
   stage_after_store Ended xs c x new next f = absurd next

@@ -2,11 +2,11 @@
 ghost use Rattle.std.specs.Prelude.{◌≡◌, ◌++◌, ◌∷◌, []};
 ghost use Rattle.array_words.specs.Loads.{DoesLoad, IsNextRead, LoadsAt};
 ghost use Rattle.array_words.specs.Seats.{IsSeat};
-ghost use Rattle.tile_core.specs.Passes.{IsPass, plan_in};
+ghost use Rattle.tile_core.specs.Passes.{IsPass, plan_in, walk_in};
 ghost use Rattle.tile_core.specs.Views.{executed};
 
 use atomic_table::{Play, Seat};
-use tile_core::plan_laws::{instances_read_few, plans_are_good};
+use tile_core::plan_laws::{instances_read_few, walks_are_dealt};
 use tile_core::view::View;
 use tile_core::words::{Pass, Words};
 use tile_events::table_laws::events_are_allowed;
@@ -25,12 +25,12 @@ impl Play<(), View> for Loading {
 #[inline]
 pub fn load_at(words: &Words, seat: &mut Seat<(), View>, cell: usize) -> u64
     requires seat { IsSeat words.now seat.old.me.0.stage seat.old.me.0.reads seat.old }
-    requires next { IsNextRead (plan_in words.now) seat.old.me.0.stage seat.old.me.0.reads cell }
+    requires next { IsNextRead (walk_in words.now) seat.old.me.0.stage seat.old.me.0.reads cell }
     ensures seat { IsSeat words.now seat.old.me.0.stage (seat.old.me.0.reads ++ result ∷ []) seat.new }
     ensures value { result ≡ executed (plan_in words.now) seat.old.me.0.stage seat.old.me.0.reads }
     ensures event { LoadsAt words.now seat.old cell result seat.new }
 {
-    plans_are_good();
+    walks_are_dealt();
     events_are_allowed::<View, Loading>();
     words.table.shared.load::<Loading>(seat, cell + 2)
 }
@@ -40,14 +40,14 @@ pub fn load_at(words: &Words, seat: &mut Seat<(), View>, cell: usize) -> u64
 #[inline]
 pub fn load(words: &Words, pass: &mut Pass, cell: usize) -> u64
     requires pass { IsPass words.now pass.old }
-    requires next { IsNextRead (plan_in words.now) pass.old.worker.stage pass.old.worker.reads.items cell }
+    requires next { IsNextRead (walk_in words.now) pass.old.worker.stage pass.old.worker.reads.items cell }
     ensures pass { IsPass words.now pass.new }
     ensures value { result ≡ executed (plan_in words.now) pass.old.worker.stage pass.old.worker.reads.items }
     ensures stage { pass.new.worker.stage ≡ pass.old.worker.stage }
     ensures reads { pass.new.worker.reads.items ≡ pass.old.worker.reads.items ++ result ∷ [] }
     ensures event { DoesLoad words.now pass.old cell result pass.new }
 {
-    plans_are_good();
+    walks_are_dealt();
     instances_read_few();
     let value = load_at(words, &mut pass.seat, cell);
     pass.worker.read(value);

@@ -2,7 +2,7 @@
 ghost use Rattle.std.specs.Prelude.{◌≡◌, ◌-◌, ◌<◌, ◌≤◌, All, IfOk, length};
 ghost use Rattle.array_words.specs.Seats.{IsIdlePass, IsIdleWorker, IsRest, IsStart, IsUnmoved};
 ghost use Rattle.tile_core.specs.Passes.{IsPass, IsWords};
-ghost use Rattle.tile_core.specs.Plans.{IsPlan, shape_of};
+ghost use Rattle.tile_core.specs.Plans.{HasRest, IsPlan, shape_of};
 ghost use Rattle.tile_core.specs.declared.worker.Stage.TheVariants.{Idle};
 
 use atomic_table::{Seat, Split, Table};
@@ -36,6 +36,7 @@ fn opened<'a>(
 ) -> Result<(Words<'a>, Seat<(), View>), AllocError>
     requires plan { IsPlan plan }
     requires cells { length cells.old.items ≡ (shape_of plan).cells }
+    requires rest { HasRest plan cells.old.items }
     requires workers { workers ≤ 64 }
     ensures key { IfOk result (λ r. IsStart r.0 plan.entry cells.old.items workers) }
     ensures rest { IfOk result (λ r. IsRest r.0 workers r.1) }
@@ -74,7 +75,7 @@ fn split(words: &Words, rest: &mut Seat<(), View>, worker: Worker) -> Pass
 }
 
 /// The words of the opening state, with these cells, which stay as they are, and a pass for each worker, none of which has
-/// made a step.
+/// made a step. Behind the cells of all arrays stands a counter for each tile where tiles are released one by one.
 ///
 /// # Errors
 /// `AllocError`.
@@ -86,6 +87,7 @@ pub fn start<'a>(
 ) -> Result<(Words<'a>, Vec<Pass>), AllocError>
     requires plan { IsPlan plan }
     requires cells { length cells.old.items ≡ (shape_of plan).cells }
+    requires rest { HasRest plan cells.old.items }
     requires some { 1 ≤ workers }
     requires few { workers ≤ 64 }
     ensures key { IfOk result (λ r. IsStart r.0 plan.entry cells.old.items workers) }

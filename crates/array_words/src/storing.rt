@@ -2,12 +2,12 @@
 ghost use Rattle.std.specs.Prelude.{◌≡◌, [], suc};
 ghost use Rattle.array_words.specs.Seats.{IsSeat};
 ghost use Rattle.array_words.specs.Stores.{DoesStore, IsNextStore, StoresAt};
-ghost use Rattle.tile_core.specs.Passes.{IsPass, plan_in};
+ghost use Rattle.tile_core.specs.Passes.{IsPass, walk_in};
 ghost use Rattle.tile_core.specs.Views.{done_at, tile_at};
 ghost use Rattle.tile_core.specs.declared.worker.Stage.TheVariants.{Working};
 
 use atomic_table::{Play, Seat};
-use tile_core::plan_laws::plans_are_good;
+use tile_core::plan_laws::walks_are_dealt;
 use tile_core::view::View;
 use tile_core::words::{Pass, Words};
 use tile_events::table_laws::events_are_allowed;
@@ -26,12 +26,12 @@ impl Play<(), View> for Storing {
 #[inline]
 pub fn store_at(words: &Words, seat: &mut Seat<(), View>, cell: usize, value: u64)
     requires seat { IsSeat words.now seat.old.me.0.stage seat.old.me.0.reads seat.old }
-    requires next { IsNextStore (plan_in words.now) seat.old.me.0.stage seat.old.me.0.reads cell value }
+    requires next { IsNextStore (walk_in words.now) seat.old.me.0.stage seat.old.me.0.reads cell value }
     ensures seat { IsSeat words.now (Working (tile_at seat.old.me.0.stage) (suc (done_at seat.old.me.0.stage))) []
         seat.new }
     ensures event { StoresAt words.now seat.old cell value seat.new }
 {
-    plans_are_good();
+    walks_are_dealt();
     events_are_allowed::<View, Storing>();
     words.table.shared.store::<Storing>(seat, cell + 2, value);
 }
@@ -41,7 +41,7 @@ pub fn store_at(words: &Words, seat: &mut Seat<(), View>, cell: usize, value: u6
 #[inline]
 pub fn store(words: &Words, pass: &mut Pass, cell: usize, value: u64)
     requires pass { IsPass words.now pass.old }
-    requires next { IsNextStore (plan_in words.now) pass.old.worker.stage pass.old.worker.reads.items cell value }
+    requires next { IsNextStore (walk_in words.now) pass.old.worker.stage pass.old.worker.reads.items cell value }
     ensures pass { IsPass words.now pass.new }
     ensures stage { pass.new.worker.stage
         ≡ Working (tile_at pass.old.worker.stage) (suc (done_at pass.old.worker.stage)) }

@@ -12,7 +12,8 @@ use Rattle.tile_events.specs.Core.{replay, Seen, step, step_of, store, working}
 use Rattle.tile_events.specs.Plan.{Plan, updated}
 use Rattle.tile_events.proofs.Workers.{set_at}
 use Rattle.tile_core.specs.Acts.{instance_acts, stretch_acts}
-use Rattle.tile_core.specs.steps.Acts.{after_instance, after_instances, values_at, with_cells}
+use Rattle.tile_core.specs.steps.Acts.{after_instance, after_instances, after_place, values_at, with_cells}
+use Rattle.tile_core.proofs.Gates.{Extends}
 
 -- the first branch
 taken : {A : Type 0} (b : Bool) (x y : A) → b ≡ true → (if b then x else y) ≡ x
@@ -93,9 +94,13 @@ replay_behind : (p : Plan) (s : State) (es fs : List (ℕ × Event)) → replay 
 replay_behind p s [] fs = refl
 replay_behind p s (e ∷ es) fs = replay_behind p (step p s e.0 e.1).0 es fs
 
--- n instances from k on, in a plan whose places store
+-- n instances of a tile from number k on store what they make
+abbrev pub AreStored : Plan → ℕ → ℕ → ℕ → Type 0
+AreStored p t k n = (m : ℕ) → m < n → p.adds (p.written (p.place t (k + m))) ≡ false
+
+-- such instances
 from_there : (p : Plan) (s : State) (id t k n : ℕ) (cells : List ℕ) (v : Worker) → get_elem? s.workers id ≡ some v
-    → ((c : ℕ) → p.adds c ≡ false) → k + n ≤ p.size t
+    → AreStored p t k n → k + n ≤ p.size t
     → replay p (with_cells s id cells (working t k [])) (stretch_acts p id t k n)
     ≡ with_cells s id (after_instances p t k n cells) (working t (k + n) [])
 from_there p s id t k zero cells v there stores within =
@@ -103,8 +108,8 @@ from_there p s id t k zero cells v there stores within =
 from_there p s id t k (suc n) cells v there stores within =
     replay_behind p (with_cells s id cells (working t k [])) (stretch_acts p id t k n) _
     ∙ (ap (λ (d : State). replay p d (instance_acts id (length (p.read (p.place t (k + n))))))
-    (from_there p s id t k n cells v there stores (omega (arith, within)))
-    ∙ (instance_run p s id t (k + n) v there (omega (arith, within)) (stores (p.written (p.place t (k + n))))
+    (from_there p s id t k n cells v there (λ m l. stores m (omega (arith, l))) (omega (arith, within)))
+    ∙ (instance_run p s id t (k + n) v there (omega (arith, within)) (stores n (omega arith))
     (after_instances p t k n cells)
     ∙ ap (λ m. with_cells s id (after_instances p t k (suc n) cells) (working t m []))
     (let e : suc (k + n) ≡ k + suc n = omega arith in e)))
@@ -121,13 +126,49 @@ after_more p t k m (suc n) cells =
 
 -- what the events of n instances leave, where the worker is at the first of them and has read nothing
 pub stretch_run : (p : Plan) (s : State) (id t k n : ℕ) → get_elem? s.workers id ≡ some (working t k [])
-    → ((c : ℕ) → p.adds c ≡ false) → k + n ≤ p.size t
+    → AreStored p t k n → k + n ≤ p.size t
     → replay p s (stretch_acts p id t k n)
     ≡ with_cells s id (after_instances p t k n s.cells) (working t (k + n) [])
 stretch_run p s id t k n here stores within =
     ap (λ ws. replay p (record { claims = s.claims; finished = s.finished; cells = s.cells; workers = ws })
     (stretch_acts p id t k n)) (sym (set_again s.workers id (working t k []) here))
     ∙ from_there p s id t k n s.cells (working t k []) here stores within
+
+-- a plan with the same instances and more behind them has the same events, which leave the same
+module _ (p q : Plan) (more : Extends p q) (id t : ℕ) (there : (k : ℕ) → k < p.size t → p.place t k < p.places) where
+  same_place : (k : ℕ) → k < p.size t → q.place t k ≡ p.place t k
+  same_place k l = more.place t k l
+
+  pub same_acts : (k n : ℕ) → k + n ≤ p.size t → stretch_acts q id t k n ≡ stretch_acts p id t k n
+  same_acts k zero within = refl
+  same_acts k (suc n) within =
+      let less : k + n < p.size t = omega (arith, within) in
+      ap₂ (λ (es : List (ℕ × Event)) (rs : List ℕ). es ++ instance_acts id (length rs))
+      (same_acts k n (omega (arith, within)))
+      (ap q.read (same_place (k + n) less) ∙ more.read (p.place t (k + n)) (there (k + n) less))
+
+  after_same : (j : ℕ) (cells : List ℕ) → j < p.places → after_place q j cells ≡ after_place p j cells
+  after_same j cells less =
+      ap₂ (λ (c : ℕ) (v : ℕ). set cells c v) (more.written j less)
+      (ap₂ (λ (f : List ℕ → ℕ) (rs : List ℕ). f (values_at cells rs)) (more.value j less) (more.read j less))
+
+  pub same_after : (k n : ℕ) (cells : List ℕ) → k + n ≤ p.size t
+      → after_instances q t k n cells ≡ after_instances p t k n cells
+  same_after k zero cells within = refl
+  same_after k (suc n) cells within =
+      let less : k + n < p.size t = omega (arith, within) in
+      ap₂ (λ (j : ℕ) (ys : List ℕ). after_place q j ys) (same_place (k + n) less)
+      (same_after k n cells (omega (arith, within)))
+      ∙ after_same (p.place t (k + n)) (after_instances p t k n cells) (there (k + n) less)
+
+  pub same_stored : (k n : ℕ) → k + n ≤ p.size t
+      → ((j : ℕ) → j < p.places → p.written j < p.cells) → AreStored p t k n → AreStored q t k n
+  same_stored k n within inside stored m l =
+      let less : k + m < p.size t = omega (arith, l, within) in
+      let j = p.place t (k + m) in
+      let is = there (k + m) less in
+      ap q.adds (ap q.written (same_place (k + m) less) ∙ more.written j is)
+      ∙ (more.adds (p.written j) (inside j is) ∙ stored m l)
 
 -- one value more is read
 pub values_more : (cells rs xs : List ℕ) (i x : ℕ) → i < length rs → xs ≡ values_at cells (take i rs)

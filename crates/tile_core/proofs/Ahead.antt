@@ -4,7 +4,7 @@ use Rattle.scop_syntax.specs.Members.{In}
 use Rattle.scop_syntax.specs.View.{instance_of}
 use Rattle.scop_syntax.specs.declared.instance.Instance.{Instance}
 use Rattle.loop_tree.specs.declared.stretch.Stretch.{Stretch}
-use Rattle.tile_core.specs.Plans.{places_in, shape_of}
+use Rattle.tile_core.specs.Plans.{places_in, walk_shape}
 use Rattle.tile_core.specs.Ranks.{place_in}
 use Rattle.tile_core.specs.Stretches.{IsAhead, moved}
 use Rattle.tile_core.specs.declared.plan.Plan.{Plan}
@@ -24,9 +24,9 @@ module _ (plan : Plan) (stage : Stage) (next : Option Instance) (stretch : Stret
       (ahead.walked j less)
 
   pub place_ahead : (t k j : ℕ) → stage ≡ Working t k → j < count
-      → place_in (places_in plan) (moved (instance_of i) (take i.loops stretch.steps) j) ≡ (shape_of plan).place t (k + j)
+      → place_in (places_in plan) (moved (instance_of i) (take i.loops stretch.steps) j) ≡ (walk_shape plan).place t (k + j)
   place_ahead t k j works less =
       at_stage (λ u m. place_in (places_in plan) (moved (instance_of i) (take i.loops stretch.steps) j)
-      ≡ (shape_of plan).place u (m + j)) stage ahead.tile ahead.done t k ahead.works
+      ≡ (walk_shape plan).place u (m + j)) stage ahead.tile ahead.done t k ahead.works
       (subst (λ v. place_in (places_in plan) (moved (instance_of v) (take v.loops stretch.steps) j)
-      ≡ (shape_of plan).place ahead.tile (ahead.done + j)) same (ahead.place j less)) works
+      ≡ (walk_shape plan).place ahead.tile (ahead.done + j)) same (ahead.place j less)) works

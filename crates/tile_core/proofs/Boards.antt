@@ -1,30 +1,37 @@
 -- Each event in memory is the one on plain data.
-use Rattle.std.proofs.Common.{◌≡◌, ⊎_elim, ◌&&◌, Bool, true, false, ℕ, suc, ◌+◌, ◌<◌, ◌≤◌, List, [], ◌∷◌, ◌++◌, length}
-use Rattle.std.proofs.Common.{get_or, map, set, Some, None, ap, ap₂, sym, refl}
+use Rattle.std.proofs.Common.{◌≡◌, ⊎_elim, ◌&&◌, not, Bool, true, false, ℕ, zero, suc, ◌+◌, ◌%◌, ◌^◌, ◌<◌, ◌≤◌, List, []}
+use Rattle.std.proofs.Common.{◌∷◌, ◌++◌, length, get_or, map, set, take, Some, None, ap, ap₂, sym, refl}
 use Rattle.std.proofs.Common.{◌∙◌, subst, arith}
-use Rattle.std.specs.Prelude.{All, Vec, nat_lt, nat_le, nat_eq, if◌then◌else◌}
+use Rattle.std.specs.Prelude.{All, Vec, nat_lt, nat_le, nat_eq}
 use Rattle.std.specs.Global.{Global}
 use Rattle.std.specs.Vec.{with_item}
-use Rattle.std.proofs.lemmas.Bool.{lt-ltb, le-ltb, le-leb, lt-leb, eq-eqb}
+use Rattle.std.proofs.lemmas.Bool.{and_from, lt-ltb, le-ltb, le-leb, lt-leb, eq-eqb}
 use Rattle.std.proofs.lemmas.Bool.Decides.{eqb_tells}
 use Rattle.std.proofs.lemmas.List.{map-set}
 use Rattle.std.proofs.lemmas.List.Elements.{All-set}
 use mathlib.Core.Option.{some, some-injective}
 use lib.ListN.{get_elem?}
 use Rattle.atomic_table.proofs.Lists.{at_map, at_index}
+use Rattle.scop_syntax.specs.View.{instance_of}
 use Rattle.scop_syntax.specs.declared.instance.Instance.{Instance as CodeInstance}
+use Rattle.scop_syntax.proofs.Members.{nat_cases}
 use Rattle.tile_events.specs.Core as core
-use Rattle.tile_events.specs.Core.{State, claim, open_tile, load, store, finish, acts, step, step_of}
+use Rattle.tile_events.specs.Core.{State, claim, open_tile, load, store, release, finish, acts, step, step_of}
+use Rattle.tile_events.specs.Core.{is_counted, is_last_act, needed_by, seen_by, shut}
+use Rattle.tile_events.specs.Plan as events
+use Rattle.tile_events.specs.Plan.{IsDealt, before, updated}
 use Rattle.tile_events.specs.Rule.{if_ended}
 use Rattle.tile_events.specs.Sound.{Holds, total}
 use Rattle.tile_core.specs.Boards.{IsBoard, state_of}
-use Rattle.tile_core.specs.Plans.{place_of, shape_of}
-use Rattle.tile_core.specs.Workers.{HasNoneDue, IsDue, IsWorker, staged, worker_of}
+use Rattle.tile_core.specs.Plans.{place_of, plan_of, shape_of, walk_shape}
+use Rattle.tile_core.specs.Workers.{HasNoneDue, IsDue, IsReleasing, IsWorker, ReleasesNone, staged, worker_of}
 use Rattle.tile_core.specs.declared.board.Board.{Board}
 use Rattle.tile_core.specs.declared.plan.Plan.{Plan}
 use Rattle.tile_core.specs.declared.worker.Stage.{Stage}
 use Rattle.tile_core.specs.declared.worker.Stage.TheVariants.{Idle, Ended, Holding, Working}
 use Rattle.tile_core.specs.declared.worker.Worker.{Worker}
+use Rattle.tile_core.proofs.Gates.{IsRelease, if_false, if_true, releases_there, shape_extends}
+use Rattle.tile_core.proofs.TouchedCells.{place_within}
 
 -- worker id of the board is w
 pub record IsAt (b : Board) (id : ℕ) (w : Worker) : Type 0 where
@@ -74,11 +81,9 @@ staged_as w s xs e f = ap₂ staged e f
 ne-eqb : (a b : ℕ) → (a ≡ b → ⊥) → nat_eq a b ≡ false
 ne-eqb a b h = ⊎_elim (λ x. absurd (h x.1)) (λ x. x.0) (eqb_tells a b)
 
-if_true : {A : Type 0} (b : Bool) (x y : A) → b ≡ true → (if b then x else y) ≡ x
-if_true b x y e = rw e refl
-
-if_false : {A : Type 0} (b : Bool) (x y : A) → b ≡ false → (if b then x else y) ≡ y
-if_false b x y e = rw e refl
+and_none : (b c : Bool) → c ≡ false → (b && c) ≡ false
+and_none true c e = e
+and_none false c e = refl
 
 -- claim
 pub claims_tile : (plan : Plan) (b : Board) (id : ℕ) (w x : Worker) → IsAt b id w → w.stage ≡ Idle
@@ -124,29 +129,36 @@ refuses_claim plan b id w at h =
     step_here plan b id w (worker_of w) claim at refl ∙ claim_refused (state_of b) plan id w.stage w.reads.items h
 
 -- open
-pub opens : (plan : Plan) (b : Board) (id t : ℕ) (w x : Worker) → IsAt b id w → w.stage ≡ Holding t
-    → (shape_of plan).offset ((shape_of plan).wave t) ≤ b.finished → x.stage ≡ Working t 0 → x.reads.items ≡ []
+pub opens : (plan : Plan) (b : Board) (id t needs seen : ℕ) (w x : Worker) → IsAt b id w → w.stage ≡ Holding t
+    → needs ≡ needed_by (shape_of plan).gate (shape_of plan) t → seen ≡ seen_by (shape_of plan).gate (state_of b) t
+    → needs ≤ seen → x.stage ≡ Working t 0 → x.reads.items ≡ []
     → step (shape_of plan) (state_of b) id open_tile ≡ (
       state_of
           (record b { workers = with_item b.workers id x }),
       core.opened,
     )
-opens plan b id t w x at is enough new none =
+opens plan b id t needs seen w x at is e f enough new none =
+    let p = shape_of plan in
+    let there = subst (λ n. n ≤ seen_by p.gate (state_of b) t) e (subst (λ n. needs ≤ n) f enough) in
     step_here plan b id w (core.holding t) open_tile at (staged_as w (Holding t) w.reads.items is refl)
-    ∙ (if_true (nat_le ((shape_of plan).offset ((shape_of plan).wave t)) b.finished) _ _
-    (le-leb ((shape_of plan).offset ((shape_of plan).wave t)) b.finished enough)
+    ∙ (if_true (nat_le (needed_by p.gate p t) (seen_by p.gate (state_of b) t)) _ _
+    (le-leb (needed_by p.gate p t) (seen_by p.gate (state_of b) t) there)
     ∙ ap (λ (ws : List core.Worker).
     (record { claims = b.claims; finished = b.finished; cells = b.cells.items; workers = ws }, core.opened))
     (set_worker b id x (core.working t 0 []) (staged_as x (Working t 0) [] new none)))
 
-pub not_yet : (plan : Plan) (b : Board) (id t needs : ℕ) (w : Worker) → IsAt b id w → w.stage ≡ Holding t
-    → needs ≡ (shape_of plan).offset ((shape_of plan).wave t) → b.finished < needs
-    → step (shape_of plan) (state_of b) id open_tile ≡ (state_of b, core.not_yet b.finished needs)
-not_yet plan b id t needs w at is e less =
+pub stays_shut : (plan : Plan) (b : Board) (id t needs seen : ℕ) (told : core.Seen) (w : Worker) → IsAt b id w
+    → w.stage ≡ Holding t → needs ≡ needed_by (shape_of plan).gate (shape_of plan) t
+    → seen ≡ seen_by (shape_of plan).gate (state_of b) t → seen < needs → told ≡ shut (shape_of plan).gate seen needs
+    → step (shape_of plan) (state_of b) id open_tile ≡ (state_of b, told)
+stays_shut plan b id t needs seen told w at is e f less tells =
+    let p = shape_of plan in
+    let there = subst (λ n. seen_by p.gate (state_of b) t < n) e (subst (λ n. n < needs) f less) in
     step_here plan b id w (core.holding t) open_tile at (staged_as w (Holding t) w.reads.items is refl)
-    ∙ (if_false (nat_le ((shape_of plan).offset ((shape_of plan).wave t)) b.finished) _ _
-    (lt-leb ((shape_of plan).offset ((shape_of plan).wave t)) b.finished (subst (λ n. b.finished < n) e less))
-    ∙ ap (λ (n : ℕ). (state_of b, core.not_yet b.finished n)) (sym e))
+    ∙ (if_false (nat_le (needed_by p.gate p t) (seen_by p.gate (state_of b) t)) _ _
+    (lt-leb (needed_by p.gate p t) (seen_by p.gate (state_of b) t) there)
+    ∙ (ap₂ (λ (n m : ℕ). (state_of b, shut p.gate n m)) (sym f) (sym e)
+    ∙ ap (λ (x : core.Seen). (state_of b, x)) (sym tells)))
 
 open_refused : (p : core.State) (plan : Plan) (id : ℕ) (s : Stage) (xs : List ℕ) → ((t : ℕ) → s ≡ Holding t → ⊥)
     → acts (shape_of plan) p id (staged s xs) open_tile ≡ (p, core.not_enabled)
@@ -167,7 +179,14 @@ load_refused p plan id Idle xs h = refl
 load_refused p plan id Ended xs h = refl
 load_refused p plan id (Holding t) xs h = refl
 load_refused p plan id (Working t k) xs h =
-    if_false (nat_lt k ((shape_of plan).size t)) _ _ (le-ltb k ((shape_of plan).size t) (h t k refl))
+    let q = shape_of plan in
+    nat_cases k (q.size t)
+    (λ l. if_true (nat_lt k (q.size t)) _ _ (lt-ltb k (q.size t) l)
+    ∙ if_false (nat_lt (length xs) (length (q.read (q.place t k)))) _ _
+    (le-ltb (length xs) (length (q.read (q.place t k)))
+    (let none = ap (λ (rs : List ℕ). length rs) (releases_there plan t k (h t k refl) l).read in omega (arith, none))))
+    (λ e. if_false (nat_lt k (q.size t)) _ _ (le-ltb k (q.size t) (omega (arith, e))))
+    (λ l. if_false (nat_lt k (q.size t)) _ _ (le-ltb k (q.size t) (omega (arith, l))))
 
 store_refused : (p : core.State) (plan : Plan) (id : ℕ) (s : Stage) (xs : List ℕ) → HasNoneDue plan s
     → acts (shape_of plan) p id (staged s xs) store ≡ (p, core.not_enabled)
@@ -175,7 +194,14 @@ store_refused p plan id Idle xs h = refl
 store_refused p plan id Ended xs h = refl
 store_refused p plan id (Holding t) xs h = refl
 store_refused p plan id (Working t k) xs h =
-    if_false (nat_lt k ((shape_of plan).size t)) _ _ (le-ltb k ((shape_of plan).size t) (h t k refl))
+    let q = shape_of plan in
+    nat_cases k (q.size t)
+    (λ l. if_true (nat_lt k (q.size t)) _ _ (lt-ltb k (q.size t) l)
+    ∙ if_false (nat_eq (length xs) (length (q.read (q.place t k))) && is_last_act q store (q.written (q.place t k))) _ _
+    (and_none (nat_eq (length xs) (length (q.read (q.place t k)))) (is_last_act q store (q.written (q.place t k)))
+    (ap not (releases_there plan t k (h t k refl) l).adds)))
+    (λ e. if_false (nat_lt k (q.size t)) _ _ (le-ltb k (q.size t) (omega (arith, e))))
+    (λ l. if_false (nat_lt k (q.size t)) _ _ (le-ltb k (q.size t) (omega (arith, l))))
 
 pub refuses_load : (plan : Plan) (b : Board) (id : ℕ) (w : Worker) → IsAt b id w → HasNoneDue plan w.stage
     → step (shape_of plan) (state_of b) id load ≡ (state_of b, core.not_enabled)
@@ -190,38 +216,56 @@ refuses_store plan b id w at h =
 -- one whose next instance is due
 module _ (plan : Plan) (b : Board) (id : ℕ) (w : Worker) (i : CodeInstance) (at : IsAt b id w)
     (d : IsDue plan w.stage i) where
+  abbrev p : events.Plan
+  p = shape_of plan
+
   abbrev here : List ℕ
-  here = (shape_of plan).read (place_of plan i)
+  here = (walk_shape plan).read (place_of plan i)
 
   abbrev there : List ℕ
-  there = (shape_of plan).read ((shape_of plan).place d.tile d.count)
+  there = p.read (p.place d.tile d.count)
+
+  walked_place : place_of plan i < (walk_shape plan).places
+  walked_place = place_within plan (instance_of i) d.walked
+
+  same_place : p.place d.tile d.count ≡ place_of plan i
+  same_place = (shape_extends plan).place d.tile d.count d.left ∙ sym d.place
 
   same_reads : here ≡ there
-  same_reads = ap (shape_of plan).read d.place
+  same_reads = sym ((shape_extends plan).read (place_of plan i) walked_place) ∙ ap p.read (sym same_place)
+
+  same_cell : (walk_shape plan).written (place_of plan i) ≡ p.written (p.place d.tile d.count)
+  same_cell = sym ((shape_extends plan).written (place_of plan i) walked_place) ∙ ap p.written (sym same_place)
+
+  same_value : (xs : List ℕ) → (walk_shape plan).value (place_of plan i) xs ≡ p.value (p.place d.tile d.count) xs
+  same_value xs =
+      ap (λ (f : List ℕ → ℕ). f xs) (sym ((shape_extends plan).value (place_of plan i) walked_place))
+      ∙ ap (λ j. p.value j xs) (sym same_place)
 
   at_instance : (e : core.Event)
-      → step (shape_of plan) (state_of b) id e ≡ acts (shape_of plan) (state_of b) id
-      (core.working d.tile d.count w.reads.items) e
+      → step p (state_of b) id e ≡ acts p (state_of b) id (core.working d.tile d.count w.reads.items) e
   at_instance e =
       step_here plan b id w (core.working d.tile d.count w.reads.items) e at
       (staged_as w (Working d.tile d.count) w.reads.items d.works refl)
 
-  some_left : nat_lt d.count ((shape_of plan).size d.tile) ≡ true
-  some_left = lt-ltb d.count ((shape_of plan).size d.tile) d.left
+  some_left : nat_lt d.count (p.size d.tile) ≡ true
+  some_left =
+      let left = d.left in
+      let more = (shape_extends plan).size d.tile in
+      lt-ltb d.count (p.size d.tile) (omega (arith, left, more))
 
-  pub all_read : length here ≤ length w.reads.items
-      → step (shape_of plan) (state_of b) id load ≡ (state_of b, core.not_enabled)
+  pub all_read : length here ≤ length w.reads.items → step p (state_of b) id load ≡ (state_of b, core.not_enabled)
   all_read all =
       let n = ap (λ (rs : List ℕ). length rs) same_reads in
       at_instance load
-      ∙ (if_true (nat_lt d.count ((shape_of plan).size d.tile)) _ _ some_left
+      ∙ (if_true (nat_lt d.count (p.size d.tile)) _ _ some_left
       ∙ if_false (nat_lt (length w.reads.items) (length there)) _ _
       (le-ltb (length w.reads.items) (length there) (omega (arith, n, all))))
 
   pub loads : (x : Worker) (value : ℕ) → length w.reads.items < length here
       → value ≡ get_or b.cells.items (get_or here (length w.reads.items) 0) 0
       → x.stage ≡ w.stage → x.reads.items ≡ w.reads.items ++ value ∷ []
-      → step (shape_of plan) (state_of b) id load ≡ (
+      → step p (state_of b) id load ≡ (
         state_of
             (record b { workers = with_item b.workers id x }),
         core.value_read value,
@@ -230,7 +274,7 @@ module _ (plan : Plan) (b : Board) (id : ℕ) (w : Worker) (i : CodeInstance) (a
       let n = ap (λ (rs : List ℕ). length rs) same_reads in
       let is = found ∙ ap (λ (rs : List ℕ). get_or b.cells.items (get_or rs (length w.reads.items) 0) 0) same_reads in
       at_instance load
-      ∙ (if_true (nat_lt d.count ((shape_of plan).size d.tile)) _ _ some_left
+      ∙ (if_true (nat_lt d.count (p.size d.tile)) _ _ some_left
       ∙ (if_true (nat_lt (length w.reads.items) (length there)) _ _
       (lt-ltb (length w.reads.items) (length there) (omega (arith, n, more)))
       ∙ (ap (λ (v : ℕ). (
@@ -250,36 +294,159 @@ module _ (plan : Plan) (b : Board) (id : ℕ) (w : Worker) (i : CodeInstance) (a
       (staged_as x (Working d.tile d.count) (w.reads.items ++ value ∷ []) (new ∙ d.works) taken)))))
 
   pub reads_left : (length w.reads.items ≡ length here → ⊥)
-      → step (shape_of plan) (state_of b) id store ≡ (state_of b, core.not_enabled)
+      → step p (state_of b) id store ≡ (state_of b, core.not_enabled)
   reads_left left =
       let n = ap (λ (rs : List ℕ). length rs) same_reads in
       at_instance store
-      ∙ (if_true (nat_lt d.count ((shape_of plan).size d.tile)) _ _ some_left
-      ∙ if_false (nat_eq (length w.reads.items) (length there) && true) _ _
-      (ap (λ (b : Bool). b && true) (ne-eqb (length w.reads.items) (length there) (λ e. left (e ∙ sym n)))))
+      ∙ (if_true (nat_lt d.count (p.size d.tile)) _ _ some_left
+      ∙ if_false (nat_eq (length w.reads.items) (length there) && is_last_act p store (p.written (p.place d.tile d.count)))
+      _ _
+      (ap (λ (b : Bool). b && is_last_act p store (p.written (p.place d.tile d.count)))
+      (ne-eqb (length w.reads.items) (length there) (λ e. left (e ∙ sym n)))))
 
   pub stores : (x : Worker) (cs : Vec ℕ Global) (value : ℕ) → length w.reads.items ≡ length here
-      → value ≡ (shape_of plan).value (place_of plan i) w.reads.items
-      → cs.items ≡ set b.cells.items ((shape_of plan).written (place_of plan i)) value
+      → (walk_shape plan).written (place_of plan i) < (walk_shape plan).cells
+      → value ≡ (walk_shape plan).value (place_of plan i) w.reads.items
+      → cs.items ≡ set b.cells.items ((walk_shape plan).written (place_of plan i)) value
       → x.stage ≡ Working d.tile (suc d.count) → x.reads.items ≡ []
-      → step (shape_of plan) (state_of b) id store ≡ (
+      → step p (state_of b) id store ≡ (
         state_of
             (record b { cells = cs; workers = with_item b.workers id x }),
         core.stored,
       )
-  stores x cs value all is put new none =
+  stores x cs value all inside is put new none =
       let n = ap (λ (rs : List ℕ). length rs) same_reads in
-      let stored = is ∙ ap (λ p. (shape_of plan).value p w.reads.items) d.place in
-      let cells = put ∙ ap (λ p. set b.cells.items ((shape_of plan).written p) value) d.place in
+      let xs = w.reads.items in
+      let place = p.place d.tile d.count in
+      let cell = p.written place in
+      let stored = is ∙ same_value xs in
+      let cells = put ∙ ap₂ (λ (c v : ℕ). set b.cells.items c v) same_cell stored in
+      let plain : p.adds cell ≡ false =
+      ap p.adds (sym same_cell) ∙ (shape_extends plan).adds ((walk_shape plan).written (place_of plan i)) inside in
       at_instance store
-      ∙ (if_true (nat_lt d.count ((shape_of plan).size d.tile)) _ _ some_left
-      ∙ (if_true (nat_eq (length w.reads.items) (length there) && true) _ _
-      (ap (λ (b : Bool). b && true) (eq-eqb (length w.reads.items) (length there) (all ∙ n)))
+      ∙ (if_true (nat_lt d.count (p.size d.tile)) _ _ some_left
+      ∙ (if_true (nat_eq (length xs) (length there) && is_last_act p store cell) _ _
+      (and_from (nat_eq (length xs) (length there)) (is_last_act p store cell)
+      (eq-eqb (length xs) (length there) (all ∙ n)) (ap not plain))
+      ∙ (ap (λ (c : Bool). (
+        record {
+          claims = b.claims;
+          finished = b.finished;
+          cells = set b.cells.items cell (updated c (get_or b.cells.items cell 0) (p.value place xs));
+          workers = set (map worker_of b.workers.items) id (core.working d.tile (suc d.count) []);
+        },
+        core.stored,
+      )) plain
       ∙ ap₂ (λ (cells : List ℕ) (ws : List core.Worker).
       (record { claims = b.claims; finished = b.finished; cells = cells; workers = ws }, core.stored))
-      (ap (set b.cells.items ((shape_of plan).written ((shape_of plan).place d.tile d.count))) (sym stored) ∙ sym cells)
+      (sym cells)
       (set_worker b id x (core.working d.tile (suc d.count) [])
-      (staged_as x (Working d.tile (suc d.count)) [] new none))))
+      (staged_as x (Working d.tile (suc d.count)) [] new none)))))
+
+-- release
+release_refused : (s : core.State) (plan : Plan) (id : ℕ) (v : Stage) (xs : List ℕ) → IsDealt (walk_shape plan)
+    → ((t k : ℕ) → v ≡ Working t k → t < (shape_of plan).tiles) → ReleasesNone plan v
+    → acts (shape_of plan) s id (staged v xs) release ≡ (s, core.not_enabled)
+release_refused s plan id Idle xs dealt below h = refl
+release_refused s plan id Ended xs dealt below h = refl
+release_refused s plan id (Holding t) xs dealt below h = refl
+release_refused s plan id (Working t k) xs dealt below h = ⊎_elim early late (h t k refl)
+  where
+    early : k < (walk_shape plan).size t
+        → acts (shape_of plan) s id (staged (Working t k) xs) release ≡ (s, core.not_enabled)
+    early left =
+        let p = shape_of plan in
+        let more = shape_extends plan in
+        let tiles = more.tiles in
+        let less = below t k refl in
+        let size = more.size t in
+        let j = (walk_shape plan).place t k in
+        let within = dealt.place t k (omega (arith, less, tiles)) left in
+        let cell = p.written (p.place t k) in
+        let same : cell ≡ (walk_shape plan).written j =
+        ap p.written (more.place t k left) ∙ more.written j within in
+        let plain : p.adds cell ≡ false =
+        ap p.adds same ∙ more.adds ((walk_shape plan).written j) (dealt.written j within) in
+        if_true (nat_lt k (p.size t)) _ _ (lt-ltb k (p.size t) (omega (arith, left, size)))
+        ∙ if_false (nat_eq (length xs) (length (p.read (p.place t k))) && is_last_act p release cell) _ _
+        (and_none (nat_eq (length xs) (length (p.read (p.place t k)))) (is_last_act p release cell)
+        (ap (λ (c : Bool). c && is_counted p.gate) plain))
+
+    late : (shape_of plan).size t ≤ k
+        → acts (shape_of plan) s id (staged (Working t k) xs) release ≡ (s, core.not_enabled)
+    late over = if_false (nat_lt k ((shape_of plan).size t)) _ _ (le-ltb k ((shape_of plan).size t) over)
+
+pub refuses_release : (plan : Plan) (b : Board) (id : ℕ) (w : Worker) → IsAt b id w → IsDealt (walk_shape plan)
+    → IsWorker plan w → ReleasesNone plan w.stage
+    → step (shape_of plan) (state_of b) id release ≡ (state_of b, core.not_enabled)
+refuses_release plan b id w at dealt is h =
+    step_here plan b id w (worker_of w) release at refl
+    ∙ release_refused (state_of b) plan id w.stage w.reads.items dealt (λ t k e. working_tile plan w t k is e) h
+
+-- one whose tile releases another
+module _ (plan : Plan) (b : Board) (id u : ℕ) (w : Worker) (at : IsAt b id w) (r : IsReleasing plan w.stage u)
+    (board : IsBoard plan b) where
+  abbrev q : events.Plan
+  q = shape_of plan
+
+  abbrev act : ℕ
+  act = q.place r.tile r.count
+
+  is_release : IsRelease q act
+  is_release = releases_there plan r.tile r.count r.done r.left
+
+  take_none : (n : ℕ) → take {A = ℕ} n [] ≡ []
+  take_none zero = refl
+  take_none (suc n) = refl
+
+  nothing_read : w.reads.items ≡ []
+  nothing_read =
+      let o = plan_of plan board.opening in
+      let here = at.here
+      ∙ ap (λ (x : core.Worker). some x) (staged_as w (Working r.tile r.count) w.reads.items r.works refl) in
+      let right = board.run.sound.reads id r.tile r.count w.reads.items here in
+      right.values r.left
+      ∙ (ap (λ (rs : List ℕ). take (length w.reads.items) (map (before o act) rs)) is_release.read
+      ∙ take_none (length w.reads.items))
+
+  pub releases : (x : Worker) (cs : Vec ℕ Global) (cell : ℕ) → cell ≡ (walk_shape plan).cells + u
+      → cs.items ≡ set b.cells.items cell ((get_or b.cells.items cell 0 + 1) % 2 ^ 64)
+      → x.stage ≡ Working r.tile (suc r.count) → x.reads.items ≡ []
+      → step q (state_of b) id release ≡ (
+        state_of
+            (record b { cells = cs; workers = with_item b.workers id x }),
+        core.released,
+      )
+  releases x cs cell there put new none =
+      let xs = w.reads.items in
+      let own = q.written act in
+      let same : cell ≡ own = there ∙ sym r.counter in
+      let one = is_release.value xs in
+      let adds = is_release.adds in
+      let all : length xs ≡ length (q.read act) =
+      ap (λ (ys : List ℕ). length ys) nothing_read ∙ sym (ap (λ (ys : List ℕ). length ys) is_release.read) in
+      let cells = put ∙ ap (λ c. set b.cells.items c ((get_or b.cells.items c 0 + 1) % 2 ^ 64)) same in
+      step_here plan b id w (core.working r.tile r.count xs) release at
+      (staged_as w (Working r.tile r.count) xs r.works refl)
+      ∙ (if_true (nat_lt r.count (q.size r.tile)) _ _ (lt-ltb r.count (q.size r.tile) r.left)
+      ∙ (if_true (nat_eq (length xs) (length (q.read act)) && is_last_act q release own) _ _
+      (and_from (nat_eq (length xs) (length (q.read act))) (is_last_act q release own)
+      (eq-eqb (length xs) (length (q.read act)) all)
+      (and_from (q.adds own) (is_counted q.gate) adds is_release.counted))
+      ∙ (ap₂ (λ (c : Bool) (v : ℕ). (
+        record {
+          claims = b.claims;
+          finished = b.finished;
+          cells = set b.cells.items own (updated c (get_or b.cells.items own 0) v);
+          workers = set (map worker_of b.workers.items) id (core.working r.tile (suc r.count) []);
+        },
+        core.released,
+      )) adds one
+      ∙ ap₂ (λ (cells : List ℕ) (ws : List core.Worker).
+      (record { claims = b.claims; finished = b.finished; cells = cells; workers = ws }, core.released))
+      (sym cells)
+      (set_worker b id x (core.working r.tile (suc r.count) [])
+      (staged_as x (Working r.tile (suc r.count)) [] new none)))))
 
 -- finish
 finish_refused : (p : core.State) (plan : Plan) (id : ℕ) (s : Stage) (xs : List ℕ) → ((t k : ℕ) → s ≡ Working t k → ⊥)

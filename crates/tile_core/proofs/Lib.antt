@@ -1,6 +1,7 @@
 pub mod Ranks
 pub mod Cuts
 pub mod Scans
+pub mod Gates
 pub mod Plans
 pub mod Tiles
 pub mod TouchedCells
@@ -9,6 +10,10 @@ pub mod Desks
 pub mod Ahead
 pub mod Joins
 pub mod Workers
+pub mod HeldTiles
+pub mod GatedPlans
+pub mod Successors
+pub mod Waiting
 pub mod Stretches
 pub mod Rounds
 pub mod Strands

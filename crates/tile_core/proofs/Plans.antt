@@ -21,7 +21,7 @@ use Rattle.tile_events.specs.Plan as events
 use Rattle.tile_events.specs.Plan.{GoodPlan, IsDealt, Touch}
 use Rattle.tile_events.proofs.Covers.{ordered_by_waves}
 use Rattle.tile_events.proofs.Flat.{none_marked}
-use Rattle.tile_core.specs.Plans.{IsPlan, deal_of, extents_in, plan_of, program_in, scan_in, shape_of, sizes_of}
+use Rattle.tile_core.specs.Plans.{IsPlan, deal_of, extents_in, walk_plan, program_in, scan_in, walk_shape, sizes_of}
 use Rattle.tile_core.specs.Plans.{walk_in}
 use Rattle.tile_core.specs.Ranks.{start_at}
 use Rattle.tile_core.specs.declared.plan.Plan.{Plan}
@@ -79,11 +79,11 @@ pub record PlanLaws : Type 0 where
 pub walk_over : (plan : Plan) (contents : List (List ℕ))
     → ((c : Cell) → IsCell (extents_in plan) c
     → get_or (flat contents) (cell_number (extents_in plan) c) 0 ≡ held (extents_in plan) contents c)
-    → IsWalk (extents_in plan) contents [] (walk_in plan) (plan_of plan (flat contents))
+    → IsWalk (extents_in plan) contents [] (walk_in plan) (walk_plan plan (flat contents))
 walk_over plan contents initial =
     record { written = λ j. refl; read = λ j. refl; adds = λ c is. refl; value = λ j xs. refl; initial = initial }
 
-walk_is : (plan : Plan) → IsWalk (extents_in plan) [] [] (walk_in plan) (shape_of plan)
+walk_is : (plan : Plan) → IsWalk (extents_in plan) [] [] (walk_in plan) (walk_shape plan)
 walk_is plan = walk_over plan [] (λ c is. refl)
 
 module _ (laws : PlanLaws) (plan : Plan) (is : IsPlan plan) where
@@ -91,7 +91,7 @@ module _ (laws : PlanLaws) (plan : Plan) (is : IsPlan plan) where
   deal = deal_of plan
 
   -- the scan, cut into the tiles of the list
-  list_cut : IsCut is.tiling (scan_in plan) deal.tiles deal.start deal.wave
+  pub list_cut : IsCut is.tiling (scan_in plan) deal.tiles deal.start deal.wave
   list_cut =
       let list = is.tiles in
       let tiles = plan.list.now.tiles.items in
@@ -116,7 +116,7 @@ module _ (laws : PlanLaws) (plan : Plan) (is : IsPlan plan) where
       subst (λ (n : ℕ). IsCut tiling (scan_in plan) n (start_at (sizes_of tiles)) deal.wave) (sym list.count)
       (subst (λ (ns : List ℕ). IsCut tiling (scan_in plan) (length list.parts) (start_at ns) deal.wave) (sym sizes) cut)
 
-  once : StandOnce (program_in plan) plan.params.now
+  pub once : StandOnce (program_in plan) plan.params.now
   once = laws.once (program_in plan) plan.params.now
 
   -- the tree visits as many instances as there are places
@@ -140,19 +140,19 @@ module _ (laws : PlanLaws) (plan : Plan) (is : IsPlan plan) where
         by_wave = λ t l. cut.by_wave t (suc t) (omega arith) l;
       }
 
-  pub dealt_is : (cells : List ℕ) → IsDealt (plan_of plan cells)
+  pub dealt_is : (cells : List ℕ) → IsDealt (walk_plan plan cells)
   dealt_is cells =
-      let p = plan_of plan cells in
+      let p = walk_plan plan cells in
       laws.deals deal p.cells p.adds p.written p.read p.value p.initial scan_is
       (visit_written (extents_in plan) (walk_in plan) (laws.below (extents_in plan)) is.inside)
       (visit_read (extents_in plan) (walk_in plan) (laws.below (extents_in plan)) is.inside)
 
   -- a place whose rank lies in a tile stands there
-  stands_in : (cells : List ℕ) (j t : ℕ) (x : Instance) → j < length (walk_in plan)
+  pub stands_in : (cells : List ℕ) (j t : ℕ) (x : Instance) → j < length (walk_in plan)
       → IsInTile (scan_in plan) deal.tiles deal.start t (deal.rank j) x
-      → ((plan_of plan cells).tile j ≡ t) × ((plan_of plan cells).position j ≡ deal.rank j - deal.start t)
+      → ((walk_plan plan cells).tile j ≡ t) × ((walk_plan plan cells).position j ≡ deal.rank j - deal.start t)
   stands_in cells j t x less a =
-      let p = plan_of plan cells in
+      let p = walk_plan plan cells in
       let d = dealt_is cells in
       let from = a.from in
       let to = a.to in
@@ -167,9 +167,9 @@ module _ (laws : PlanLaws) (plan : Plan) (is : IsPlan plan) where
       → IsInTile (scan_in plan) deal.tiles deal.start t (deal.rank i) x
       → IsInTile (scan_in plan) deal.tiles deal.start u (deal.rank j) y
       → ((t ≡ u) × (deal.rank i < deal.rank j)) ⊎ (deal.wave t < deal.wave u)
-      → (((plan_of plan cells).tile i ≡ (plan_of plan cells).tile j)
-      × ((plan_of plan cells).position i < (plan_of plan cells).position j))
-      ⊎ (deal.wave ((plan_of plan cells).tile i) < deal.wave ((plan_of plan cells).tile j))
+      → (((walk_plan plan cells).tile i ≡ (walk_plan plan cells).tile j)
+      × ((walk_plan plan cells).position i < (walk_plan plan cells).position j))
+      ⊎ (deal.wave ((walk_plan plan cells).tile i) < deal.wave ((walk_plan plan cells).tile j))
   placed_by cells i j t u x y l m a b (inl g) =
       let e = stands_in cells i t x l a in
       let f = stands_in cells j u y m b in
@@ -182,10 +182,10 @@ module _ (laws : PlanLaws) (plan : Plan) (is : IsPlan plan) where
   placed_by cells i j t u x y l m a b (inr g) =
       let e = stands_in cells i t x l a in
       let f = stands_in cells j u y m b in
-      inr (subst (λ n. deal.wave n < deal.wave ((plan_of plan cells).tile j)) (sym e.0)
+      inr (subst (λ n. deal.wave n < deal.wave ((walk_plan plan cells).tile j)) (sym e.0)
       (subst (λ n. deal.wave t < deal.wave n) (sym f.0) g))
 
-  pub good_is : (cells : List ℕ) → GoodPlan (plan_of plan cells)
+  pub good_is : (cells : List ℕ) → GoodPlan (walk_plan plan cells)
   good_is cells =
       let program = program_in plan in
       let params = plan.params.now in
@@ -195,7 +195,7 @@ module _ (laws : PlanLaws) (plan : Plan) (is : IsPlan plan) where
             let early : i < length (walk_in plan) = omega (arith, less, within) in
             let v = instance_at program params tiling xs once is.order i early in
             let w = instance_at program params tiling xs once is.order j within in
-            let c = laws.touches (extents_in plan) [] [] (walk_in plan) (shape_of plan)
+            let c = laws.touches (extents_in plan) [] [] (walk_in plan) (walk_shape plan)
             (walk_is plan) (none_marked (walk_in plan)) is.inside i j v.0 w.0
             v.1 w.1 touch in
             let conflict : PlacesConflict (walk_in plan) i j = record {
@@ -215,5 +215,5 @@ module _ (laws : PlanLaws) (plan : Plan) (is : IsPlan plan) where
             let o = placed_by cells i j a.0 b.0 x y early within a.1 b.1
             (tiles_in_order program params tiling xs deal.tiles deal.start deal.wave i j (deal.rank i) (deal.rank j) a.0
             b.0 x y (walked_distinct program params once) is.order list_cut v.2 w.2 a.1 b.1 (is.good i j conflict)) in
-            ([], ordered_by_waves (plan_of plan cells) i j refl early o);
+            ([], ordered_by_waves (walk_plan plan cells) i j refl early o);
       }

@@ -24,7 +24,7 @@ use Rattle.loop_tree.proofs.Braids.{woven_none}
 use Rattle.loop_tree.proofs.Stretches.{nothing_left}
 use Rattle.loop_tree.proofs.Visits.{listed_same}
 use Rattle.tile_list.proofs.Stretches.{length-following}
-use Rattle.tile_core.specs.Plans.{IsPlan, deal_of, places_in, program_in, scan_in, shape_of}
+use Rattle.tile_core.specs.Plans.{IsPlan, deal_of, places_in, program_in, scan_in, walk_shape}
 use Rattle.tile_core.specs.Ranks.{place_in, rank_in}
 use Rattle.tile_core.specs.Stretches.{HasRounds, IsPart, IsWoven, in_round, turns_on}
 use Rattle.tile_core.specs.Workers.{IsNext}
@@ -153,7 +153,7 @@ taken_at (x ∷ xs) (suc n) (suc at) less = taken_at xs n at (omega (arith, less
 
 -- behind a worker's next instance
 module _ (plan : Plan) (stage : Stage) (t k : ℕ) (i : CodeInstance) (spot : Spot) (rounds : ℕ) (is : IsPlan plan)
-    (works : stage ≡ Working t k) (left : k < (shape_of plan).size t)
+    (works : stage ≡ Working t k) (left : k < (walk_shape plan).size t)
     (next : IsNext plan ((deal_of plan).start t + k) (Some i) spot) (alone : spot.stretch.left ≡ 0)
     (all : length spot.braid.strands ≡ 4) (few : spot.braid.count ≤ 4) (has : HasRounds spot.braid rounds) where
   abbrev count : ℕ
@@ -177,11 +177,11 @@ module _ (plan : Plan) (stage : Stage) (t k : ℕ) (i : CodeInstance) (spot : Sp
       (taken_at b.strands count at within ∙ there)
       ∙ ap (λ (n : ℕ). Some (in_round s n)) (let q : 0 + round ≡ round = omega arith in q))
 
-  pub woven_is : 0 < rounds → rounds * count < (shape_of plan).size t - k
+  pub woven_is : 0 < rounds → rounds * count < (walk_shape plan).size t - k
       → IsWoven plan stage (Some i) spot rounds
   woven_is some fits =
       let xs = scan_in plan in
-      let part : IsPart ((shape_of plan).size t - k) spot.stretch.left 1 =
+      let part : IsPart ((walk_shape plan).size t - k) spot.stretch.left 1 =
       record { within = omega (arith, left); way = inl refl } in record {
         first = ahead_is plan stage t k i spot 1 is works left next (omega arith) part
             (λ (more : 1 < 1). absurd (omega (arith, more)));
@@ -189,7 +189,7 @@ module _ (plan : Plan) (stage : Stage) (t k : ℕ) (i : CodeInstance) (spot : Sp
         some = some;
         few = few;
         has = has;
-        within = λ u m. at_stage (λ v n. n + suc (rounds * count) ≤ (shape_of plan).size v) stage t k u m works
+        within = λ u m. at_stage (λ v n. n + suc (rounds * count) ≤ (walk_shape plan).size v) stage t k u m works
             (omega (arith, fits, left));
         walked = λ round at s less within there.
             (listed_same (program_in plan) plan.params.now is.tiling xs is.order (in_round s round)).0
@@ -197,7 +197,7 @@ module _ (plan : Plan) (stage : Stage) (t k : ℕ) (i : CodeInstance) (spot : Sp
             (scanned round at s less within there));
         place = λ u m round at s e less within there.
             at_stage (λ v n. place_in (places_in plan) (in_round s round)
-            ≡ (shape_of plan).place v (n + suc (round * count + at))) stage t k u m works
+            ≡ (walk_shape plan).place v (n + suc (round * count + at))) stage t k u m works
             (ap (rank_in (places_in plan)) (sym (scanned round at s less within there)
             ∙ ap (slice_get xs) (let q : suc from + (round * count + at)
             ≡ (deal_of plan).start t + (k + suc (round * count + at)) = omega arith in q))) e;

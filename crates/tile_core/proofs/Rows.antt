@@ -16,7 +16,7 @@ use Rattle.stmt_table.specs.declared.table.Row.{Row}
 use Rattle.stmt_table.proofs.Visits.{HasRow, WalkLaws, cell_told, reads_told, row_of, value_told}
 use Rattle.tile_events.specs.Flat.{read_by, value_by}
 use Rattle.tile_events.specs.Plan.{IsDealt}
-use Rattle.tile_core.specs.Plans.{IsPlan, extents_in, places_in, program_in, shape_of, walk_in}
+use Rattle.tile_core.specs.Plans.{IsPlan, extents_in, places_in, program_in, walk_shape, walk_in}
 use Rattle.tile_core.specs.Ranks.{place_in}
 use Rattle.tile_core.specs.Rows.{IsFormed, IsRowAt}
 use Rattle.tile_core.specs.declared.plan.Plan.{Plan}
@@ -57,7 +57,7 @@ module _ (laws : WalkLaws) (plan : Plan) (x : Instance) (is : IsPlan plan) where
       (λ form e. tells form (ap (λ (r : Row). slice_get r.cells.items access) same ∙ e))
 
   -- what the row of a walked instance tells
-  pub row_tells : AreSmall → StandOnce (program_in plan) plan.params.now → ArePlaced → IsDealt (shape_of plan)
+  pub row_tells : AreSmall → StandOnce (program_in plan) plan.params.now → ArePlaced → IsDealt (walk_shape plan)
       → In x (places_in plan) → (row : Row) → slice_get plan.table.now.rows.items x.number ≡ Some row
       → IsRowAt plan row x
   row_tells small once placed dealt walked row told =

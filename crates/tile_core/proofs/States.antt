@@ -2,27 +2,29 @@
 use Rattle.std.proofs.Common.{◌≡◌, ◌&&◌, Bool, true, false, ℕ, zero, suc, ◌+◌, ◌<◌, List, [], ◌∷◌, length, get_or, map, drop}
 use Rattle.std.proofs.Common.{add-one, drop-cons, ap, ap₂, sym, refl}
 use Rattle.std.proofs.Common.{◌∙◌, subst, arith}
-use Rattle.std.specs.Prelude.{Result, replicate, nat_lt, nat_eq, if◌then◌else◌}
+use Rattle.std.specs.Prelude.{Result, replicate, nat_lt, nat_le, nat_eq, if◌then◌else◌}
 use Rattle.std.proofs.lemmas.List.{length-replicate}
-use mathlib.Core.Option.{some, some-injective, some-ne-none}
+use mathlib.Core.Option as plain
+use mathlib.Core.Option.{none, some, some-injective, some-ne-none}
 use lib.ListN.{get_elem?}
 use Rattle.tile_events.specs.Plan as events
-use Rattle.tile_events.specs.Plan.{GoodPlan, IsDealt, values_read}
+use Rattle.tile_events.specs.Plan.{Gate, GoodPlan, IsDealt, counters, values_read, waves}
 use Rattle.tile_events.specs.Core as core
 use Rattle.tile_events.specs.Core.{State, Event, Seen, idle, working, claim, open_tile, load, store, add, release}
 use Rattle.tile_events.specs.Core.{finish, value_read, stored, added, released, done, not_enabled, acts, is_last_act}
-use Rattle.tile_events.specs.Core.{step, step_of, replay}
+use Rattle.tile_events.specs.Core.{ended, holding, needed_by, opened, replay, seen_by, shut, step, step_of, with_worker}
 use Rattle.tile_events.specs.Opening.{IsOpening, ReadsRight}
 use Rattle.tile_events.specs.Rule.{AreCounted}
 use Rattle.tile_events.specs.Sound.{Sound}
 use Rattle.tile_core.specs.Boards.{Does, IsBoard, IsRun, Stretches, event_of, opening_state, state_of}
 use Rattle.tile_core.specs.Cores.{turn_of}
-use Rattle.tile_core.specs.Plans.{plan_of, shape_of}
+use Rattle.tile_core.specs.Plans.{HasRest, gated, plan_of, shape_of, walk_plan}
 use Rattle.tile_core.specs.declared.board.Board.{Board}
 use Rattle.tile_core.specs.declared.board.NotEnabled.{NotEnabled}
 use Rattle.tile_core.specs.declared.board.Seen.{Seen as CodeSeen}
 use Rattle.tile_core.specs.declared.cores.Turn.{Turn}
 use Rattle.tile_core.specs.declared.plan.Plan.{Plan}
+use Rattle.tile_core.proofs.Gates.{initial_is}
 
 -- the laws of events
 pub record EventLaws : Type 0 where
@@ -43,13 +45,48 @@ run_step laws p s id e run =
       counted = laws.claims p s id e run.counted;
     }
 
+-- what an event does hangs on no cell at first
+module _ (p : events.Plan) (f : ℕ → ℕ) (s : State) (id : ℕ) where
+  abbrev other : events.Plan
+  other = record p { initial = f }
+
+  needed_alike : (g : Gate) (t : ℕ) → needed_by g other t ≡ needed_by g p t
+  needed_alike waves t = refl
+  needed_alike (counters cell needs) t = refl
+
+  acts_alike : (w : core.Worker) (e : Event) → acts other s id w e ≡ acts p s id w e
+  acts_alike idle claim = refl
+  acts_alike idle e = refl
+  acts_alike ended claim = refl
+  acts_alike ended e = refl
+  acts_alike (holding t) open_tile =
+      ap (λ (n : ℕ). if◌then◌else◌ {A = State × Seen} (nat_le n (seen_by p.gate s t))
+      (with_worker s id (working t 0 []), opened) (s, shut p.gate (seen_by p.gate s t) n))
+      (needed_alike p.gate t)
+  acts_alike (holding t) e = refl
+  acts_alike (working t k xs) load = refl
+  acts_alike (working t k xs) e = refl
+
+  step_alike : (e : Event) → step other s id e ≡ step p s id e
+  step_alike e = at (get_elem? s.workers id)
+    where
+      at : (o : plain.Option core.Worker) → step_of other s id o e ≡ step_of p s id o e
+      at none = refl
+      at (some w) = acts_alike w e
+
+pub step_shape : (plan : Plan) (opening : List ℕ) (s : State) (id : ℕ) (e : Event)
+    → step (plan_of plan opening) s id e ≡ step (shape_of plan) s id e
+step_shape plan opening s id e =
+    step_alike (shape_of plan) (gated plan.edges (walk_plan plan opening)).initial s id e
+
 -- what an event does leaves a run of the plan, from the same cells
 pub run_kept : EventLaws
     → (plan : Plan) (opening : List ℕ) (b d : Board) (id : ℕ) (e : Event) (r : Result CodeSeen NotEnabled)
     → Does plan b id e d r
     → IsRun (plan_of plan opening) (state_of b) → IsRun (plan_of plan opening) (state_of d)
 run_kept laws plan opening b d id e r does run =
-    subst (IsRun (plan_of plan opening)) (ap (λ (x : State × Seen). x.0) does.event)
+    subst (IsRun (plan_of plan opening))
+    (ap (λ (x : State × Seen). x.0) (step_shape plan opening (state_of b) id e ∙ does.event))
     (run_step laws (plan_of plan opening) (state_of b) id e run)
 
 pub board_kept : EventLaws → (plan : Plan) (b d : Board) (id : ℕ) (e : Event) (r : Result CodeSeen NotEnabled)
@@ -67,7 +104,8 @@ pub replay_kept : EventLaws → (plan : Plan) (opening : List ℕ) (s : State) (
 replay_kept laws plan opening s [] run = run
 replay_kept laws plan opening s (e ∷ es) run =
     replay_kept laws plan opening (step (shape_of plan) s e.0 e.1).0 es
-    (run_step laws (plan_of plan opening) s e.0 e.1 run)
+    (subst (IsRun (plan_of plan opening)) (ap (λ (x : State × Seen). x.0) (step_shape plan opening s e.0 e.1))
+    (run_step laws (plan_of plan opening) s e.0 e.1 run))
 
 replay_count : EventLaws → (p : events.Plan) (s : State) (es : List (ℕ × Event))
     → length (replay p s es).workers ≡ length s.workers
@@ -104,10 +142,11 @@ all_idle (suc n) (suc i) w e = all_idle n i w e
 pub opening_run : ((p : events.Plan) (s : State) → IsOpening p s → Sound p s)
     → (plan : Plan) (cells row : List ℕ) (n : ℕ) (ws : List core.Worker)
     → GoodPlan (plan_of plan cells) → IsDealt (plan_of plan cells) → length cells ≡ (shape_of plan).cells
+    → HasRest plan cells
     → (shape_of plan).tiles + n < 18446744073709551615
     → row ≡ cells → ws ≡ replicate n idle
     → IsRun (plan_of plan cells) (record { claims = 0; finished = 0; cells = row; workers = ws })
-opening_run start plan cells row n ws good dealt wide few same all =
+opening_run start plan cells row n ws good dealt wide rest few same all =
     subst (IsRun (plan_of plan cells)) (ap₂ (λ (xs : List ℕ)
     (vs : List core.Worker). record { claims = 0; finished = 0; cells = xs; workers = vs }) (sym same) (sym all))
     (record {
@@ -119,7 +158,7 @@ opening_run start plan cells row n ws good dealt wide few same all =
         finished = refl;
         idle = all_idle n;
         wide = wide;
-        cells = λ c l. refl;
+        cells = λ c l. initial_is plan cells rest c;
       });
       counted = omega arith;
     })

@@ -20,7 +20,7 @@ use Rattle.stmt_table.specs.Desks.{HasRoomForAll, IsLaid}
 use Rattle.stmt_table.specs.declared.desk.Desk.{Desk}
 use Rattle.stmt_table.specs.declared.table.Row.{Row}
 use Rattle.stmt_table.specs.declared.table.Table.{Table}
-use Rattle.tile_core.specs.Plans.{places_in, shape_of}
+use Rattle.tile_core.specs.Plans.{places_in, walk_shape}
 use Rattle.tile_core.specs.Rows.{IsRowAt}
 use Rattle.tile_core.specs.Stretches.{IsWoven, in_round}
 use Rattle.tile_core.specs.Strands.{AreLaid, HaveRows, IsLaidFor, IsRoundAt}
@@ -133,7 +133,7 @@ module _ (plan : Plan) (stage : Stage) (next : Option CodeInstance) (spot : Spot
     walked = λ at strand within there. woven.walked round at strand less within there;
     place = λ at strand within there.
         woven.place t k round at strand works less within there
-        ∙ ap ((shape_of plan).place t) (omega arith);
+        ∙ ap ((walk_shape plan).place t) (omega arith);
   }
 
   pub rows_there : ((x : Instance) → In x (places_in plan) → x.number < length plan.table.now.rows.items)

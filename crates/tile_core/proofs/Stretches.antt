@@ -17,7 +17,7 @@ use Rattle.loop_tree.specs.declared.spot.Spot.{Spot}
 use Rattle.loop_tree.specs.declared.stretch.Stretch.{Stretch}
 use Rattle.loop_tree.proofs.Visits.{listed_same}
 use Rattle.tile_list.proofs.Stretches.{length-left}
-use Rattle.tile_core.specs.Plans.{IsPlan, deal_of, places_in, program_in, scan_in, shape_of}
+use Rattle.tile_core.specs.Plans.{IsPlan, deal_of, places_in, program_in, scan_in, walk_shape}
 use Rattle.tile_core.specs.Ranks.{rank_in}
 use Rattle.tile_core.specs.Stretches.{CanPass, IsAhead, IsAlong, IsPart, moved, turns_on}
 use Rattle.tile_core.specs.Workers.{IsNext}
@@ -65,17 +65,17 @@ ahead_at plan r i spot count (suc j) n along l =
 
 -- what may be passed by, told of the tile of a worker at work
 can_pass : (plan : Plan) (stage : Stage) (t k : ℕ) (stretch : Stretch) (count : ℕ) → stage ≡ Working t k
-    → k < (shape_of plan).size t → IsPart ((shape_of plan).size t - k) stretch.left count
+    → k < (walk_shape plan).size t → IsPart ((walk_shape plan).size t - k) stretch.left count
     → CanPass plan stage stretch count
 can_pass plan stage t k stretch count works left part u m =
-    at_stage (λ v n. (n < (shape_of plan).size v) × IsPart ((shape_of plan).size v - n) stretch.left count) stage t k u m
+    at_stage (λ v n. (n < (walk_shape plan).size v) × IsPart ((walk_shape plan).size v - n) stretch.left count) stage t k u m
     works (left, part)
 
 -- so they are those of the tile, in turn
 pub ahead_is : (plan : Plan) (stage : Stage) (t k : ℕ) (i : CodeInstance) (spot : Spot) (count : ℕ) → IsPlan plan
-    → stage ≡ Working t k → k < (shape_of plan).size t → IsNext plan ((deal_of plan).start t + k) (Some i) spot
+    → stage ≡ Working t k → k < (walk_shape plan).size t → IsNext plan ((deal_of plan).start t + k) (Some i) spot
     → 1 ≤ count
-    → IsPart ((shape_of plan).size t - k) spot.stretch.left count
+    → IsPart ((walk_shape plan).size t - k) spot.stretch.left count
     → (1 < count → IsAlong spot.stretch i count) → IsAhead plan stage (Some i) spot.stretch count
 ahead_is plan stage t k i spot count is works left n some part along =
     let xs = scan_in plan in

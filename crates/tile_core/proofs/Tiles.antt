@@ -12,7 +12,7 @@ use Rattle.tile_list.specs.TilesView.{waves_of}
 use Rattle.tile_list.specs.declared.list.Tile.{Tile}
 use Rattle.tile_events.specs.Deal.{offset_to}
 use Rattle.tile_events.specs.Plan.{IsDealt}
-use Rattle.tile_core.specs.Plans.{IsPlan, deal_of, plan_of, sizes_of}
+use Rattle.tile_core.specs.Plans.{IsPlan, deal_of, walk_plan, sizes_of}
 use Rattle.tile_core.specs.Ranks.{start_at}
 use Rattle.tile_core.specs.declared.plan.Plan.{Plan}
 
@@ -54,10 +54,10 @@ offset_there plan t tile is at =
     omega (arith, b, c)
 
 -- and it is the plan's
-pub offset_is : (plan : Plan) (cells : List ℕ) (t k : ℕ) (tile : Tile) → IsPlan plan → IsDealt (plan_of plan cells)
+pub offset_is : (plan : Plan) (cells : List ℕ) (t k : ℕ) (tile : Tile) → IsPlan plan → IsDealt (walk_plan plan cells)
     → slice_get plan.list.now.tiles.items t ≡ Some tile
     → slice_get plan.list.now.offsets.items tile.wave ≡ Some k
-    → k ≡ (plan_of plan cells).offset ((plan_of plan cells).wave t)
+    → k ≡ (walk_plan plan cells).offset ((walk_plan plan cells).wave t)
 offset_is plan cells t k tile is deal at found =
     let tiles = plan.list.now.tiles.items in
     let w = tile.wave in

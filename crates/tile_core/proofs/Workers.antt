@@ -21,7 +21,7 @@ use Rattle.tile_list.specs.Tiles.{start_of}
 use Rattle.tile_list.specs.declared.list.Tile.{Tile}
 use Rattle.tile_events.specs.Deal.{IsScan}
 use Rattle.tile_events.specs.Sound.{Holds}
-use Rattle.tile_core.specs.Plans.{IsPlan, deal_of, places_in, program_in, scan_in, shape_of, walk_in}
+use Rattle.tile_core.specs.Plans.{IsPlan, deal_of, places_in, program_in, scan_in, shape_of, walk_in, walk_shape}
 use Rattle.tile_core.specs.Ranks.{rank_in, start_at}
 use Rattle.tile_events.specs.Core.{idle}
 use Rattle.tile_core.specs.Workers.{AreDesks, HasNoneDue, IsDue, IsNext, IsWorker, staged, worker_of}
@@ -30,6 +30,7 @@ use Rattle.tile_core.specs.declared.worker.Stage.{Stage}
 use Rattle.tile_core.specs.declared.worker.Stage.TheVariants.{Idle, Working}
 use Rattle.tile_core.specs.declared.worker.Worker.{Worker}
 use Rattle.tile_core.proofs.Cuts.{PartsStand, starts_rise, sum_start}
+use Rattle.tile_core.proofs.Gates.{tiles_are}
 use Rattle.tile_core.proofs.Plans.{sizes_agree}
 
 -- a worker that holds no tile
@@ -59,14 +60,14 @@ at_stage holds stage t k u m works is e =
 pub at_work : (plan : Plan) (w : Worker) (t k : ℕ) → w.stage ≡ Working t k
     → IsSpotOf (trees_in plan.tree.now) plan.params.now w.spot → HasRoomForAll plan.table.now w.desk
     → AreDesks plan.table.now w.desks.items → t < (shape_of plan).tiles
-    → (k < (shape_of plan).size t → IsNext plan ((deal_of plan).start t + k) w.next w.spot) → IsWorker plan w
+    → (k < (walk_shape plan).size t → IsNext plan ((deal_of plan).start t + k) w.next w.spot) → IsWorker plan w
 at_work plan w t k is spot desk desks less next = record {
   spot = spot;
   tile = λ u h.
       let same : t ≡ u = subst (λ s. Holds (staged s w.reads.items) u) is h in
       subst (λ v. v < (shape_of plan).tiles) same less;
   next = λ u m e.
-      at_stage (λ v n. n < (shape_of plan).size v → IsNext plan ((deal_of plan).start v + n) w.next w.spot) w.stage t k u m
+      at_stage (λ v n. n < (walk_shape plan).size v → IsNext plan ((deal_of plan).start v + n) w.next w.spot) w.stage t k u m
       is next e;
   desk = desk;
   desks = desks;
@@ -138,17 +139,18 @@ next_is plan r None old new at goes ends =
 
 -- the rank of an instance of a tile is one of the scan
 rank_within : (plan : Plan) (t k : ℕ) → IsScan (deal_of plan) → length (scan_in plan) ≡ length (walk_in plan)
-    → t < (shape_of plan).tiles → k < (shape_of plan).size t → (deal_of plan).start t + k < length (scan_in plan)
+    → t < (shape_of plan).tiles → k < (walk_shape plan).size t → (deal_of plan).start t + k < length (scan_in plan)
 rank_within plan t k scan many less left =
     let d = deal_of plan in
-    let up = starts_rise d.start d.tiles scan.rises (suc t) d.tiles (omega (arith, less)) (omega arith) in
+    let tiles = tiles_are plan in
+    let up = starts_rise d.start d.tiles scan.rises (suc t) d.tiles (omega (arith, less, tiles)) (omega arith) in
     let last = scan.last in
     omega (arith, up, last, left, many)
 
 -- the next instance of a worker at work is due
 pub due_is : (plan : Plan) (stage : Stage) (t k : ℕ) (next : Option CodeInstance) (spot : Spot) → IsPlan plan
     → IsScan (deal_of plan) → length (scan_in plan) ≡ length (walk_in plan) → stage ≡ Working t k
-    → t < (shape_of plan).tiles → k < (shape_of plan).size t → IsNext plan ((deal_of plan).start t + k) next spot
+    → t < (shape_of plan).tiles → k < (walk_shape plan).size t → IsNext plan ((deal_of plan).start t + k) next spot
     → MatchOption next (HasNoneDue plan stage) (IsDue plan stage)
 due_is plan stage t k None spot is scan many works less left n =
     let r = (deal_of plan).start t + k in

@@ -19,8 +19,11 @@ stretch_acts p id t k (suc n) = stretch_acts p id t k n ++ instance_acts id (len
 abbrev pub IsAtInstance : Plan → State → ℕ → ℕ → ℕ → Type 0
 IsAtInstance p s id t k = (get_elem? s.workers id ≡ some (working t k [])) × (k < p.size t)
 
--- from there it has done n instances of the tile, one at least
-pub record DoesStretch (p : Plan) (s : State) (id t k n : ℕ) (d : State) : Type 0 where
+-- from there it has done n instances of the tile, one at least; p has the instances alone, q the releases too
+pub record DoesStretch (p q : Plan) (s : State) (id t k n : ℕ) (d : State) : Type 0 where
   pub some : 1 ≤ n
   pub within : k + n ≤ p.size t
-  pub acts : d ≡ replay p s (stretch_acts p id t k n)
+  -- by the events of the instances
+  pub acts : d ≡ replay q s (stretch_acts p id t k n)
+  -- which need no releases
+  pub alone : d ≡ replay p s (stretch_acts p id t k n)

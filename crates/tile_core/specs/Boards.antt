@@ -7,7 +7,7 @@ use Rattle.tile_events.specs.Plan as events
 use Rattle.tile_events.specs.Plan.{GoodPlan, IsDealt}
 use Rattle.tile_events.specs.Sound.{Sound}
 use Rattle.tile_core.specs.Acts.{DoesStretch, IsAtInstance}
-use Rattle.tile_core.specs.Plans.{IsPlan, plan_of, shape_of}
+use Rattle.tile_core.specs.Plans.{IsPlan, plan_of, shape_of, walk_shape}
 use Rattle.tile_core.specs.Workers.{IsWorker, worker_of}
 use Rattle.tile_core.specs.declared.board.Board.{Board}
 use Rattle.tile_core.specs.declared.board.Event.{Event}
@@ -28,6 +28,7 @@ event_of event.Claim = core.claim
 event_of event.Open = core.open_tile
 event_of event.Load = core.load
 event_of event.Store = core.store
+event_of event.Release = core.release
 event_of event.Finish = core.finish
 
 -- what is seen of it
@@ -35,8 +36,10 @@ abbrev pub seen_of : Result Seen NotEnabled → core.Seen
 seen_of (Ok (seen.Claimed t)) = core.claimed t
 seen_of (Ok seen.Opened) = core.opened
 seen_of (Ok (seen.NotYet done needs)) = core.not_yet done needs
+seen_of (Ok (seen.Short held needs)) = core.short held needs
 seen_of (Ok (seen.Read x)) = core.value_read x
 seen_of (Ok seen.Stored) = core.stored
+seen_of (Ok seen.Released) = core.released
 seen_of (Ok seen.Finished) = core.done
 seen_of (Err e) = core.not_enabled
 
@@ -64,9 +67,9 @@ pub record Does (plan : Plan) (b : Board) (id : ℕ) (e : core.Event) (d : Board
 -- what it leaves that worker id does n instances at once: exactly what their events do to the state, and workers of the
 -- plan; n is 0 where it is at no instance
 pub record Stretches (plan : Plan) (b : Board) (id n : ℕ) (d : Board) : Type 0 where
-  pub stretch : (t k : ℕ) → IsAtInstance (shape_of plan) (state_of b) id t k
-      → DoesStretch (shape_of plan) (state_of b) id t k n (state_of d)
-  pub none : ((t k : ℕ) → IsAtInstance (shape_of plan) (state_of b) id t k → ⊥)
+  pub stretch : (t k : ℕ) → IsAtInstance (walk_shape plan) (state_of b) id t k
+      → DoesStretch (walk_shape plan) (shape_of plan) (state_of b) id t k n (state_of d)
+  pub none : ((t k : ℕ) → IsAtInstance (walk_shape plan) (state_of b) id t k → ⊥)
       → (n ≡ 0) × (state_of d ≡ state_of b)
   pub acts : List (ℕ × core.Event)
   pub replayed : state_of d ≡ replay (shape_of plan) (state_of b) acts

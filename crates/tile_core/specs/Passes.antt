@@ -3,7 +3,7 @@ use Rattle.std.specs.Prelude.{◌≡◌, ℕ, ◌+◌, ◌<◌, ◌≤◌, [], l
 use Rattle.tile_events.specs.Plan as plain
 use Rattle.tile_events.specs.Sound.{Holds}
 use Rattle.scop_syntax.specs.declared.instance.Instance.{Instance}
-use Rattle.tile_core.specs.Plans.{IsPlan, place_of, plan_of, shape_of}
+use Rattle.tile_core.specs.Plans.{IsPlan, place_of, plan_of, walk_plan, walk_shape}
 use Rattle.tile_core.specs.Views.{done_at}
 use Rattle.tile_core.specs.declared.plan.Plan.{Plan}
 use Rattle.tile_core.specs.declared.worker.Stage.{Stage}
@@ -14,6 +14,10 @@ use Rattle.tile_core.specs.declared.words.Pass.{Pass}
 -- the plan of the words, with the cells at first
 abbrev pub plan_in : Words → plain.Plan
 plan_in words = plan_of words.plan words.table.shared.key.cells.items
+
+-- the walk's places alone, with the cells at first
+abbrev pub walk_in : Words → plain.Plan
+walk_in words = walk_plan words.plan words.table.shared.key.cells.items
 
 -- the table is that of the plan: two counts and the cells
 pub record IsWords (words : Words) : Type 0 where
@@ -39,9 +43,9 @@ pub record IsPass (words : Words) (pass : Pass) : Type 0 where
 pub record IsNextIn (plan : Plan) (stage : Stage) (i : Instance) : Type 0 where
   pub tile : ℕ
   pub held : Holds (staged stage []) tile
-  pub left : done_at stage < (shape_of plan).size tile
-  pub place : place_of plan i ≡ (shape_of plan).place tile (done_at stage)
+  pub left : done_at stage < (walk_shape plan).size tile
+  pub place : place_of plan i ≡ (walk_shape plan).place tile (done_at stage)
 
 -- none does: no tile is held, or nothing of it is left
 abbrev pub HasNoneNext : Plan → Stage → Type 0
-HasNoneNext plan stage = (t : ℕ) → Holds (staged stage []) t → (shape_of plan).size t ≤ done_at stage
+HasNoneNext plan stage = (t : ℕ) → Holds (staged stage []) t → (walk_shape plan).size t ≤ done_at stage

@@ -1,5 +1,7 @@
 -- A plan of a kernel as plain data.
-use Rattle.std.specs.Prelude.{ℕ, false, List, [], length, map, get_or, slice_get}
+use Rattle.std.specs.Prelude.{◌≡◌, ℕ, ◌+◌, ◌<◌, ◌≤◌, ⊤, false, List, [], length, map, get_or, slice_get}
+use Rattle.std.specs.Prelude.{IsSome, MatchOption, Option, Some, None}
+use Rattle.std.specs.Borrow.{Bor}
 use Rattle.scop_syntax.specs.Execution.{IsInside, layout, total_cells}
 use Rattle.scop_syntax.specs.Limits.{WithinLimits}
 use Rattle.scop_syntax.specs.Tree.{Program}
@@ -14,9 +16,13 @@ use Rattle.loop_tree.specs.Walk.{visits}
 use Rattle.stmt_table.specs.Tables.{IsTableOf}
 use Rattle.tile_list.specs.TilesView.{IsTileListOf, waves_of}
 use Rattle.tile_list.specs.declared.list.Tile.{Tile}
+use Rattle.tile_list.specs.declared.list.TileList.{TileList}
+use Rattle.tile_edges.specs.Edges.{AreEdgesOf, edges_of}
+use Rattle.tile_edges.specs.declared.waiting.TileEdges.{TileEdges}
 use Rattle.tile_events.specs.Deal.{Deal, dealt}
-use Rattle.tile_events.specs.Flat.{read_by, value_by, written_by}
+use Rattle.tile_events.specs.Flat.{flat, read_by, value_by, written_by}
 use Rattle.tile_events.specs.Plan as events
+use Rattle.tile_events.specs.Releases.{released}
 use Rattle.tile_core.specs.Ranks.{place_in, rank_in, start_at}
 use Rattle.tile_core.specs.declared.plan.Plan.{Plan}
 
@@ -59,20 +65,52 @@ deal_of plan = record {
 abbrev pub extents_in : Plan → List (List ℕ)
 extents_in plan = layout (program_in plan) plan.params.now
 
--- the plan over these cells, those of all arrays one behind another
-abbrev pub plan_of : Plan → List ℕ → events.Plan
-plan_of plan cells =
+-- the places of the walk as a plan by waves, over these cells, those of all arrays one behind another
+abbrev pub walk_plan : Plan → List ℕ → events.Plan
+walk_plan plan cells =
     dealt (deal_of plan) (total_cells (extents_in plan)) (λ c. false)
     (λ j. written_by (extents_in plan) (slice_get (walk_in plan) j))
     (λ j. read_by (extents_in plan) [] (slice_get (walk_in plan) j)) (λ j. value_by [] (slice_get (walk_in plan) j))
     (λ c. get_or cells c 0)
 
--- what does not hang on the cells
+-- what of it does not hang on the cells
+abbrev pub walk_shape : Plan → events.Plan
+walk_shape plan = walk_plan plan []
+
+-- where a plan has pairs of tiles: with a counter for each tile, and the releases
+abbrev pub gated : Option (Bor TileEdges) → events.Plan → events.Plan
+gated None p = p
+gated (Some e) p = released p (edges_of e.now)
+
+-- the plan with its releases, where tiles are released one by one, but for what the cells hold at first
 abbrev pub shape_of : Plan → events.Plan
-shape_of plan = plan_of plan []
+shape_of plan = gated plan.edges (walk_shape plan)
+
+-- over these cells, `gated plan.edges (walk_plan plan cells)`: all but the cells at first is that of the shape
+abbrev pub plan_of : Plan → List ℕ → events.Plan
+plan_of plan cells = record (shape_of plan) { initial = (gated plan.edges (walk_plan plan cells)).initial }
+
+-- its tiles are released one by one
+abbrev pub HasEdges : Plan → Type 0
+HasEdges plan = IsSome plan.edges
+
+-- no tile has so many instances that they and all pairs could not be counted in 64 bits
+abbrev pub HaveRoom : TileList → TileEdges → Type 0
+HaveRoom list e =
+    (t : ℕ) (tile : Tile) → slice_get list.tiles.items t ≡ Some tile
+    → tile.size + length e.targets.items < 18446744073709551616
+
+-- behind the cells of all arrays stand counters alone, which are 0
+abbrev pub HasRest : Plan → List ℕ → Type 0
+HasRest plan cells = (c : ℕ) → (walk_shape plan).cells ≤ c → get_or cells c 0 ≡ 0
+
+-- a row holds these contents, one array behind another, and 0 behind them
+abbrev pub HoldsContents : List (List ℕ) → List ℕ → Type 0
+HoldsContents contents row = (c : ℕ) → get_or row c 0 ≡ get_or (flat contents) c 0
 
 -- a kernel within the limits, whose subscripts are inside; the table of its statements; a tree that visits each walked
--- instance once, in the order of a good plan; and the tiles of its visits
+-- instance once, in the order of a good plan; the tiles of its visits, and exactly the pairs of these of which one waits
+-- for the other, where they are released one by one
 pub record IsPlan (plan : Plan) : Type 0 where
   pub tiling : Tiling
   pub limits : WithinLimits (program_in plan) plan.params.now
@@ -82,3 +120,6 @@ pub record IsPlan (plan : Plan) : Type 0 where
   pub order : AreInOrder (program_in plan) plan.params.now tiling (scan_in plan)
   pub good : IsGoodPlan (program_in plan) plan.params.now tiling
   pub tiles : IsTileListOf (trees_in plan.tree.now) plan.params.now tiling plan.list.now
+  pub edges : MatchOption plan.edges ⊤
+      (λ e. AreEdgesOf (program_in plan) plan.params.now tiling plan.list.now e.now)
+  pub room : MatchOption plan.edges ⊤ (λ e. HaveRoom plan.list.now e.now)

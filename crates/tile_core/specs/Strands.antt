@@ -7,7 +7,7 @@ use Rattle.stmt_table.specs.Desks.{IsLaid}
 use Rattle.stmt_table.specs.declared.desk.Desk.{Desk}
 use Rattle.stmt_table.specs.declared.table.Row.{Row}
 use Rattle.stmt_table.specs.declared.table.Table.{Table}
-use Rattle.tile_core.specs.Plans.{places_in, shape_of}
+use Rattle.tile_core.specs.Plans.{places_in, walk_shape}
 use Rattle.tile_core.specs.Ranks.{place_in}
 use Rattle.tile_core.specs.Stretches.{in_round}
 use Rattle.tile_core.specs.declared.plan.Plan.{Plan}
@@ -35,7 +35,7 @@ pub record IsRoundAt (plan : Plan) (b : Braid) (round t k : ℕ) : Type 0 where
   pub walked : (at : ℕ) (strand : Stretch) → at < b.count → slice_get b.strands at ≡ Some strand
       → In (in_round strand round) (places_in plan)
   pub place : (at : ℕ) (strand : Stretch) → at < b.count → slice_get b.strands at ≡ Some strand
-      → place_in (places_in plan) (in_round strand round) ≡ (shape_of plan).place t (k + at)
+      → place_in (places_in plan) (in_round strand round) ≡ (walk_shape plan).place t (k + at)
 
 -- they are to give these, and their desks are laid for it
 pub record IsRound (plan : Plan) (b : Braid) (round t k : ℕ) (desks : List Desk) : Type 0 where

@@ -9,7 +9,7 @@ use Rattle.scop_syntax.specs.declared.instance.Instance.{Instance as CodeInstanc
 use Rattle.loop_tree.specs.declared.braid.Braid.{Braid}
 use Rattle.loop_tree.specs.declared.spot.Spot.{Spot}
 use Rattle.loop_tree.specs.declared.stretch.Stretch.{Stretch}
-use Rattle.tile_core.specs.Plans.{places_in, shape_of}
+use Rattle.tile_core.specs.Plans.{places_in, walk_shape}
 use Rattle.tile_core.specs.Ranks.{place_in}
 use Rattle.tile_core.specs.declared.plan.Plan.{Plan}
 use Rattle.tile_core.specs.declared.worker.Stage.{Stage}
@@ -39,7 +39,7 @@ pub record IsPart (most left count : ℕ) : Type 0 where
 abbrev pub CanPass : Plan → Stage → Stretch → ℕ → Type 0
 CanPass plan stage stretch count =
     (t k : ℕ) → stage ≡ Working t k
-    → (k < (shape_of plan).size t) × IsPart ((shape_of plan).size t - k) stretch.left count
+    → (k < (walk_shape plan).size t) × IsPart ((walk_shape plan).size t - k) stretch.left count
 
 -- a worker has so many instances ahead, the next one first, each with a stretch's steps more in its turns than the one
 -- before it: they are those of its tile, in turn, and may be passed by at once
@@ -55,7 +55,7 @@ pub record IsAhead (plan : Plan) (stage : Stage) (next : Option CodeInstance) (s
       → In (moved (instance_of instance) (take instance.loops stretch.steps) j) (places_in plan)
   pub place : (j : ℕ) → j < count
       → place_in (places_in plan) (moved (instance_of instance) (take instance.loops stretch.steps) j)
-      ≡ (shape_of plan).place tile (done + j)
+      ≡ (walk_shape plan).place tile (done + j)
   pub passes : CanPass plan stage stretch count
 
 -- so many rounds are left of a braid, the first strand of which is next
@@ -76,10 +76,10 @@ pub record IsWoven (plan : Plan) (stage : Stage) (next : Option CodeInstance) (s
   pub some : 0 < rounds
   pub few : spot.braid.count ≤ 4
   pub has : HasRounds spot.braid rounds
-  pub within : (t k : ℕ) → stage ≡ Working t k → k + suc (rounds * spot.braid.count) ≤ (shape_of plan).size t
+  pub within : (t k : ℕ) → stage ≡ Working t k → k + suc (rounds * spot.braid.count) ≤ (walk_shape plan).size t
   pub walked : (round at : ℕ) (strand : Stretch) → round < rounds → at < spot.braid.count
       → slice_get spot.braid.strands at ≡ Some strand → In (in_round strand round) (places_in plan)
   pub place : (t k round at : ℕ) (strand : Stretch) → stage ≡ Working t k → round < rounds → at < spot.braid.count
       → slice_get spot.braid.strands at ≡ Some strand
       → place_in (places_in plan) (in_round strand round)
-      ≡ (shape_of plan).place t (k + suc (round * spot.braid.count + at))
+      ≡ (walk_shape plan).place t (k + suc (round * spot.braid.count + at))

@@ -1,5 +1,5 @@
 -- A worker in memory as plain data, and where it stands in the visits of the plan's tree.
-use Rattle.std.specs.Prelude.{◌≡◌, ℕ, suc, ◌+◌, ◌<◌, ◌≤◌, All, List, drop, length, slice_get, Option}
+use Rattle.std.specs.Prelude.{◌≡◌, ◌⊎◌, ℕ, suc, ◌+◌, ◌<◌, ◌≤◌, All, List, drop, length, slice_get, Option}
 use Rattle.std.specs.Option.{option_map}
 use Rattle.scop_syntax.specs.Members.{In}
 use Rattle.scop_syntax.specs.View.{instance_of}
@@ -12,7 +12,7 @@ use Rattle.stmt_table.specs.declared.desk.Desk.{Desk}
 use Rattle.stmt_table.specs.declared.table.Table.{Table}
 use Rattle.tile_events.specs.Core as core
 use Rattle.tile_events.specs.Sound.{Holds}
-use Rattle.tile_core.specs.Plans.{deal_of, place_of, places_in, scan_in, shape_of}
+use Rattle.tile_core.specs.Plans.{deal_of, place_of, places_in, scan_in, shape_of, walk_shape}
 use Rattle.tile_core.specs.declared.plan.Plan.{Plan}
 use Rattle.tile_core.specs.declared.worker.Stage.{Stage}
 use Rattle.tile_core.specs.declared.worker.Stage.TheVariants.{Idle, Ended, Holding, Working}
@@ -43,7 +43,7 @@ pub record AreDesks (table : Table) (desks : List Desk) : Type 0 where
 pub record IsWorker (plan : Plan) (w : Worker) : Type 0 where
   pub spot : IsSpotOf (trees_in plan.tree.now) plan.params.now w.spot
   pub tile : (t : ℕ) → Holds (worker_of w) t → t < (shape_of plan).tiles
-  pub next : (t k : ℕ) → w.stage ≡ Working t k → k < (shape_of plan).size t
+  pub next : (t k : ℕ) → w.stage ≡ Working t k → k < (walk_shape plan).size t
       → IsNext plan ((deal_of plan).start t + k) w.next w.spot
   pub desk : HasRoomForAll plan.table.now w.desk
   pub desks : AreDesks plan.table.now w.desks.items
@@ -53,10 +53,25 @@ pub record IsDue (plan : Plan) (stage : Stage) (i : Instance) : Type 0 where
   pub tile : ℕ
   pub count : ℕ
   pub works : stage ≡ Working tile count
-  pub left : count < (shape_of plan).size tile
-  pub place : place_of plan i ≡ (shape_of plan).place tile count
+  pub left : count < (walk_shape plan).size tile
+  pub place : place_of plan i ≡ (walk_shape plan).place tile count
   pub walked : In (instance_of i) (places_in plan)
 
--- it has none: it is not at work, or its tile has none left
+-- it has none: it is not at work, or no instance of its tile is left
 abbrev pub HasNoneDue : Plan → Stage → Type 0
-HasNoneDue plan stage = (t k : ℕ) → stage ≡ Working t k → (shape_of plan).size t ≤ k
+HasNoneDue plan stage = (t k : ℕ) → stage ≡ Working t k → (walk_shape plan).size t ≤ k
+
+-- all instances of its tile are done, and tile u is the next that this one releases: the act adds to the counter of u
+pub record IsReleasing (plan : Plan) (stage : Stage) (u : ℕ) : Type 0 where
+  pub tile : ℕ
+  pub count : ℕ
+  pub works : stage ≡ Working tile count
+  pub done : (walk_shape plan).size tile ≤ count
+  pub left : count < (shape_of plan).size tile
+  pub next : u < (shape_of plan).tiles
+  pub counter : (shape_of plan).written ((shape_of plan).place tile count) ≡ (walk_shape plan).cells + u
+
+-- it is not at work, an instance of its tile is left, or no release
+abbrev pub ReleasesNone : Plan → Stage → Type 0
+ReleasesNone plan stage =
+    (t k : ℕ) → stage ≡ Working t k → (k < (walk_shape plan).size t) ⊎ ((shape_of plan).size t ≤ k)

@@ -1,9 +1,11 @@
 //! The state of a run, and what each event does to it.
-ghost use Rattle.std.specs.Prelude.{◌≡◌, ◌<◌, get_or, length};
-ghost use Rattle.tile_events.specs.Core.{claim, finish, load, open_tile, store};
-ghost use Rattle.tile_core.specs.Boards.{Does, IsBoard, Stretches, event_of};
+ghost use Rattle.std.specs.Prelude.{◌≡◌, ◌+◌, ◌<◌, Ok, get_or, length};
+ghost use Rattle.tile_events.specs.Core.{claim, finish, load, open_tile, release, seen_by, shut as told_shut, store};
+ghost use Rattle.tile_core.specs.Boards.{Does, IsBoard, Stretches, event_of, seen_of, state_of};
+ghost use Rattle.tile_core.specs.Plans.{HasEdges, shape_of, walk_shape};
 
 use crate::plan::Plan;
+use crate::plan_laws::walks_are_dealt;
 use crate::stretching::do_ahead;
 use crate::weaving::do_woven;
 use crate::worker::{Stage, Worker};
@@ -15,6 +17,7 @@ pub enum Event {
     Open,
     Load,
     Store,
+    Release,
     Finish,
 }
 
@@ -24,8 +27,10 @@ pub enum Seen {
     Claimed(Option<u64>),
     Opened,
     NotYet { done: u64, needs: u64 },
+    Short { seen: u64, needs: u64 },
     Read(u64),
     Stored,
+    Released,
     Finished,
 }
 
@@ -54,6 +59,7 @@ impl Board {
             Event::Open => self.open(plan, id),
             Event::Load => self.load(plan, id),
             Event::Store => self.store(plan, id),
+            Event::Release => self.release(plan, id),
             Event::Finish => self.finish(plan, id),
         }
     }
@@ -77,6 +83,29 @@ impl Board {
         }
     }
 
+    /// Where the tile's counter stands.
+    fn counter(&self, plan: &Plan, tile: u64) -> usize
+        requires board { IsBoard plan.now self.now }
+        requires edges { HasEdges plan.now }
+        requires tile { tile < (shape_of plan.now).tiles }
+        ensures counter { result ≡ (walk_shape plan.now).cells + tile }
+        ensures inside { result < length self.now.cells.items }
+    {
+        self.cells.len() - plan.tiles() as usize + tile as usize
+    }
+
+    /// How much is seen before the tile is opened: how many tiles are finished, or what its counter holds.
+    fn seen(&self, plan: &Plan, tile: u64) -> u64
+        requires board { IsBoard plan.now self.now }
+        requires tile { tile < (shape_of plan.now).tiles }
+        ensures { result ≡ seen_by (shape_of plan.now).gate (state_of self.now) tile }
+    {
+        match plan.edges {
+            None => self.finished,
+            Some(_) => cell_at(&self.cells, self.counter(plan, tile)),
+        }
+    }
+
     fn open(&mut self, plan: &Plan, id: usize) -> Result<Seen, NotEnabled>
         requires board { IsBoard plan.now self.old }
         requires id { id < length self.old.workers.items }
@@ -86,11 +115,9 @@ impl Board {
             return Err(NotEnabled);
         };
         let needs = plan.needs(tile);
-        if self.finished < needs {
-            return Ok(Seen::NotYet {
-                done: self.finished,
-                needs,
-            });
+        let seen = self.seen(plan, tile);
+        if seen < needs {
+            return Ok(shut(plan, seen, needs));
         }
         self.workers[id].open(plan, tile);
         Ok(Seen::Opened)
@@ -134,12 +161,29 @@ impl Board {
         Ok(Seen::Stored)
     }
 
+    fn release(&mut self, plan: &Plan, id: usize) -> Result<Seen, NotEnabled>
+        requires board { IsBoard plan.now self.old }
+        requires id { id < length self.old.workers.items }
+        ensures { Does plan.now self.old id release self.new result }
+    {
+        walks_are_dealt();
+        let Some(next) = self.workers[id].releases(plan) else {
+            return Err(NotEnabled);
+        };
+        let at = self.counter(plan, next);
+        let held = cell_at(&self.cells, at);
+        self.workers[id].pass_release(plan);
+        self.cells[at] = held.wrapping_add(1);
+        Ok(Seen::Released)
+    }
+
     /// Does instances of a worker's tile, one after another; tells how many.
     pub(crate) fn do_stretch(&mut self, plan: &Plan, id: usize) -> usize
         requires board { IsBoard plan.now self.old }
         requires id { id < length self.old.workers.items }
         ensures { Stretches plan.now self.old id result self.new }
     {
+        walks_are_dealt();
         let worker = &mut self.workers[id];
         if worker.reads.len() > 0 {
             return 0;
@@ -171,6 +215,16 @@ impl Board {
         self.finished += 1;
         self.workers[id].put(Stage::Idle);
         Ok(Seen::Finished)
+    }
+}
+
+/// What is told of a tile that is not opened.
+fn shut(plan: &Plan, seen: u64, needs: u64) -> Seen
+    ensures { seen_of (Ok result) ≡ told_shut (shape_of plan.now).gate seen needs }
+{
+    match plan.edges {
+        None => Seen::NotYet { done: seen, needs },
+        Some(_) => Seen::Short { seen, needs },
     }
 }
 

@@ -9,14 +9,16 @@ ghost use Rattle.tile_events.specs.DonePlaces.{HasNoWriter, IsLastWriter};
 ghost use Rattle.tile_events.specs.Flat.{flat};
 ghost use Rattle.tile_events.specs.Rule.{core};
 ghost use Rattle.tile_events.specs.Sound.{Sound, is_done};
-ghost use Rattle.tile_core.specs.Plans.{IsPlan, extents_in, plan_of, shape_of, walk_in};
+ghost use Rattle.tile_core.specs.Plans.{HoldsContents, IsPlan, extents_in, plan_of, shape_of, walk_in};
 ghost use Rattle.tile_core.specs.Views.{Ruled, worker_in};
 ghost use Rattle.tile_core.specs.declared.plan.Plan.{Plan};
 ghost use Rattle.tile_core.specs.declared.view.Key.{Key};
 ghost use Rattle.tile_core.specs.declared.view.View.{View};
 
+use crate::plan_laws::walks_are_dealt;
 use scop_syntax::execution_laws::cells_have_numbers_of_their_own;
 use tile_events::flat_laws::{cells_hold_what_is_done, plans_execute_the_walk};
+use tile_events::release_laws::pairs_make_plans;
 
 /// In a sound state of a plan over the arrays' contents one behind another, a cell holds the value that the last done
 /// instance which writes it stores in the kernel's own execution, and what it held at first where no done one does.
@@ -31,22 +33,24 @@ pub fn cells_are_those_of_the_execution()
         → IsCell (extents_in plan) c → HasNoWriter (walk_in plan) (is_done (shape_of plan) s) c
         → slice_index_or s.cells (cell_number (extents_in plan) c) 0 ≡ held (extents_in plan) contents c }
 {
+    walks_are_dealt();
+    pairs_make_plans();
     plans_execute_the_walk();
     cells_hold_what_is_done();
     cells_have_numbers_of_their_own();
 }
 
-/// The same of the words of a run, between any two steps.
+/// The same of the words of a run, between any two steps; behind the arrays' contents stand counters that are 0 at first.
 pub fn words_are_those_of_the_execution()
     ensures last { (key : Key) (st : table.State (Unit {0}) View) (contents : List (List ℕ)) (c : Cell) (i : ℕ) (v : Visit)
-        → Ruled key st → IsPlan key.plan → IsShaped (extents_in key.plan) contents → key.cells.items ≡ flat contents
+        → Ruled key st → IsPlan key.plan → IsShaped (extents_in key.plan) contents → HoldsContents contents key.cells.items
         → IsCell (extents_in key.plan) c
         → IsLastWriter (walk_in key.plan) (is_done (shape_of key.plan) (core st.words (map worker_in st.views))) c i v
         → slice_index st.words (cell_number (extents_in key.plan) c + 2)
         ≡ value_stored_by (extents_in key.plan) (before_place (extents_in key.plan) contents (walk_in key.plan) i)
         v.body v.point }
     ensures first { (key : Key) (st : table.State (Unit {0}) View) (contents : List (List ℕ)) (c : Cell)
-        → Ruled key st → IsPlan key.plan → IsShaped (extents_in key.plan) contents → key.cells.items ≡ flat contents
+        → Ruled key st → IsPlan key.plan → IsShaped (extents_in key.plan) contents → HoldsContents contents key.cells.items
         → IsCell (extents_in key.plan) c
         → HasNoWriter (walk_in key.plan) (is_done (shape_of key.plan) (core st.words (map worker_in st.views))) c
         → slice_index st.words (cell_number (extents_in key.plan) c + 2) ≡ held (extents_in key.plan) contents c }

@@ -3,7 +3,7 @@ ghost use Rattle.std.specs.Prelude.{◌≡◌, ℕ, ◌<◌, ◌≤◌, All, IfE
 ghost use Rattle.tile_events.specs.Core.{replay as replayed, step as stepped};
 ghost use Rattle.tile_core.specs.Acts.{DoesStretch, IsAtInstance};
 ghost use Rattle.tile_core.specs.Boards.{IsRun, event_of, opening_state, seen_of};
-ghost use Rattle.tile_core.specs.Plans.{IsPlan, plan_of, shape_of};
+ghost use Rattle.tile_core.specs.Plans.{HasRest, IsPlan, plan_of, shape_of, walk_shape};
 
 use crate::board::{Board, Event, NotEnabled, Seen};
 use crate::plan::Plan;
@@ -30,7 +30,8 @@ pub struct Core<'a> {
 impl<'a> Core<'a> {
     ghost use Rattle.tile_core.specs.Cores.{IsCore, IsTurn, ReadsExecuted, plan_in, state_in, turn_of};
 
-    /// The core at the start, which takes over these cells, those of all arrays one behind another.
+    /// The core at the start, which takes over these cells, those of all arrays one behind another, and behind them a
+    /// counter for each tile where tiles are released one by one.
     ///
     /// # Errors
     /// `AllocError`; the cells are then as they were.
@@ -42,6 +43,7 @@ impl<'a> Core<'a> {
     ) -> Result<Core<'a>, AllocError>
         requires plan { IsPlan plan.now }
         requires cells { length cells.old.items ≡ (shape_of plan.now).cells }
+        requires rest { HasRest plan.now cells.old.items }
         requires workers { workers ≤ 64 }
         ensures core { IfOk result IsCore }
         ensures plan { IfOk result (λ c. plan_in c ≡ plan.now) }
@@ -94,10 +96,11 @@ impl<'a> Core<'a> {
         ensures core { IsCore self.new }
         ensures plan { plan_in self.new ≡ plan_in self.old }
         ensures workers { length (state_in self.new).workers ≡ length (state_in self.old).workers }
-        ensures stretch { (tile k : ℕ) → IsAtInstance (shape_of (plan_in self.old)) (state_in self.old) worker tile k
-            → DoesStretch (shape_of (plan_in self.old)) (state_in self.old) worker tile k result (state_in self.new) }
+        ensures stretch { (tile k : ℕ) → IsAtInstance (walk_shape (plan_in self.old)) (state_in self.old) worker tile k
+            → DoesStretch (walk_shape (plan_in self.old)) (shape_of (plan_in self.old)) (state_in self.old) worker tile
+            k result (state_in self.new) }
         ensures none { ((tile k : ℕ)
-            → IsAtInstance (shape_of (plan_in self.old)) (state_in self.old) worker tile k → ⊥)
+            → IsAtInstance (walk_shape (plan_in self.old)) (state_in self.old) worker tile k → ⊥)
             → (result ≡ 0) × (state_in self.new ≡ state_in self.old) }
         ensures run { (opening : List ℕ) → IsRun (plan_of (plan_in self.old) opening) (state_in self.old)
             → IsRun (plan_of (plan_in self.old) opening) (state_in self.new) }

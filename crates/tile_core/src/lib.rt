@@ -11,6 +11,7 @@ pub mod first_words;
 mod joining;
 pub mod plan;
 pub mod plan_laws;
+pub mod release_laws;
 mod stretching;
 pub mod view;
 mod weaving;

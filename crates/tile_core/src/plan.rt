@@ -1,21 +1,25 @@
 //! A plan of a kernel for some parameters: its loop tree, cut into tiles in waves, and what each instance touches and
 //! stores.
-ghost use Rattle.std.specs.Prelude.{◌≡◌, ◌<◌, ◌≤◌, Some, get_or, length, slice_get};
+ghost use Rattle.std.specs.Prelude.{◌≡◌, ◌+◌, ◌<◌, ◌≤◌, Some, get_or, length, slice_get, true};
 ghost use Rattle.scop_syntax.specs.Members.{In};
 ghost use Rattle.scop_syntax.specs.View.{instance_of};
 ghost use Rattle.stmt_table.specs.Desks.{HasRoomForAll};
 ghost use Rattle.tile_core.specs.Rows.{IsRowAt};
-ghost use Rattle.tile_core.specs.Plans.{IsPlan, place_of, places_in, shape_of};
+ghost use Rattle.tile_events.specs.Core.{needed_by};
+ghost use Rattle.tile_core.specs.Plans.{HaveRoom, IsPlan, place_of, places_in, shape_of, walk_shape};
 
-use crate::plan_laws::{plans_are_good, rows_tell_instances};
+use crate::plan_laws::{rows_tell_instances, walks_are_dealt};
 use loop_tree::Tree;
 use scop_syntax::instance::Instance;
 use scop_syntax::tree::Kernel;
 use stmt_table::desk::Desk;
 use stmt_table::table::{Row, Table};
+use tile_edges::TileEdges;
 use tile_list::{Tile, TileList};
 
-/// A kernel with its parameters, the table of its statements, the tree of a plan of it, and the tiles of its visits.
+/// A kernel with its parameters, the table of its statements, the tree of a plan of it, and the tiles of its visits. Where
+/// it has the pairs of these of which one waits for the other, a tile is opened once all that lead to it have released
+/// it, else once all tiles of earlier waves are finished.
 #[derive(Clone, Copy)]
 pub struct Plan<'a> {
     pub kernel: &'a Kernel,
@@ -23,6 +27,7 @@ pub struct Plan<'a> {
     pub table: &'a Table,
     pub tree: &'a Tree,
     pub list: &'a TileList,
+    pub edges: Option<&'a TileEdges>,
 }
 
 /// The tile with this number.
@@ -32,6 +37,18 @@ fn tile_at(tiles: &[Tile], at: usize) -> &Tile
     ensures { slice_get tiles.now at ≡ Some result.now }
 {
     &tiles[at]
+}
+
+/// Whether the instances of each tile and all pairs can be counted in 64 bits.
+pub fn have_room(list: &TileList, edges: &TileEdges) -> bool
+    ensures { result ≡ true → HaveRoom list.now edges.now }
+{
+    for tile in &list.tiles {
+        if tile.size > usize::MAX - edges.targets.len() {
+            return false;
+        }
+    }
+    true
 }
 
 /// The number there.
@@ -61,24 +78,65 @@ impl<'a> Plan<'a> {
         tile_at(&self.list.tiles, tile as usize)
     }
 
-    /// How many tiles have to be finished before this one may be opened.
+    /// How much has to be seen before the tile may be opened: how many tiles are finished, or how many have released it.
     pub fn needs(&self, tile: u64) -> u64
         requires plan { IsPlan self.now }
         requires tile { tile < (shape_of self.now).tiles }
-        ensures { result ≡ (shape_of self.now).offset ((shape_of self.now).wave tile) }
+        ensures { result ≡ needed_by (shape_of self.now).gate (shape_of self.now) tile }
     {
-        plans_are_good();
-        number_at(&self.list.offsets, self.tile(tile).wave) as u64
+        walks_are_dealt();
+        match self.edges {
+            None => number_at(&self.list.offsets, self.tile(tile).wave) as u64,
+            Some(edges) => edges.needs[tile as usize],
+        }
     }
 
     /// How many instances the tile has.
     #[inline]
+    pub fn instances(&self, tile: u64) -> usize
+        requires plan { IsPlan self.now }
+        requires tile { tile < (shape_of self.now).tiles }
+        ensures { result ≡ (walk_shape self.now).size tile }
+    {
+        self.tile(tile).size
+    }
+
+    /// How many tiles it releases.
+    pub fn successors(&self, tile: u64) -> usize
+        requires plan { IsPlan self.now }
+        requires tile { tile < (shape_of self.now).tiles }
+        ensures { (walk_shape self.now).size tile + result ≡ (shape_of self.now).size tile }
+    {
+        match self.edges {
+            None => 0,
+            Some(edges) => edges.starts[tile as usize + 1] - edges.starts[tile as usize],
+        }
+    }
+
+    /// How many acts it has: its instances, and behind them the releases of others.
     pub fn size(&self, tile: u64) -> usize
         requires plan { IsPlan self.now }
         requires tile { tile < (shape_of self.now).tiles }
         ensures { result ≡ (shape_of self.now).size tile }
     {
-        self.tile(tile).size
+        self.instances(tile) + self.successors(tile)
+    }
+
+    /// The tile that it releases behind so many others: the act adds to the counter of that one, which stands behind the
+    /// cells of all arrays.
+    pub fn successor(&self, tile: u64, released: usize) -> u64
+        requires plan { IsPlan self.now }
+        requires tile { tile < (shape_of self.now).tiles }
+        requires left { (walk_shape self.now).size tile + released < (shape_of self.now).size tile }
+        ensures tile { result < (shape_of self.now).tiles }
+        ensures counter { (shape_of self.now).written
+            ((shape_of self.now).place tile ((walk_shape self.now).size tile + released))
+            ≡ (walk_shape self.now).cells + result }
+    {
+        let Some(edges) = self.edges else {
+            unreachable!()
+        };
+        edges.targets[edges.starts[tile as usize] + released] as u64
     }
 
     /// The row of the instance's statement.
@@ -98,7 +156,7 @@ impl<'a> Plan<'a> {
     pub fn reads(&self, instance: &Instance) -> usize
         requires plan { IsPlan self.now }
         requires walked { In (instance_of instance.now) (places_in self.now) }
-        ensures count { result ≡ length ((shape_of self.now).read (place_of self.now instance.now)) }
+        ensures count { result ≡ length ((walk_shape self.now).read (place_of self.now instance.now)) }
         ensures few { result ≤ 16 }
     {
         self.row(instance).reads()
@@ -109,9 +167,9 @@ impl<'a> Plan<'a> {
     pub fn cell_read(&self, instance: &Instance, read: usize) -> usize
         requires plan { IsPlan self.now }
         requires walked { In (instance_of instance.now) (places_in self.now) }
-        requires read { read < length ((shape_of self.now).read (place_of self.now instance.now)) }
-        ensures cell { result ≡ get_or ((shape_of self.now).read (place_of self.now instance.now)) read 0 }
-        ensures inside { result < (shape_of self.now).cells }
+        requires read { read < length ((walk_shape self.now).read (place_of self.now instance.now)) }
+        ensures cell { result ≡ get_or ((walk_shape self.now).read (place_of self.now instance.now)) read 0 }
+        ensures inside { result < (walk_shape self.now).cells }
     {
         self.row(instance).cell_at(instance.turns(), read + 1)
     }
@@ -121,8 +179,8 @@ impl<'a> Plan<'a> {
     pub fn cell_written(&self, instance: &Instance) -> usize
         requires plan { IsPlan self.now }
         requires walked { In (instance_of instance.now) (places_in self.now) }
-        ensures cell { result ≡ (shape_of self.now).written (place_of self.now instance.now) }
-        ensures inside { result < (shape_of self.now).cells }
+        ensures cell { result ≡ (walk_shape self.now).written (place_of self.now instance.now) }
+        ensures inside { result < (walk_shape self.now).cells }
     {
         self.row(instance).cell_at(instance.turns(), 0)
     }
@@ -131,9 +189,9 @@ impl<'a> Plan<'a> {
     pub fn value(&self, desk: &mut Desk, instance: &Instance, reads: &[u64]) -> u64
         requires plan { IsPlan self.now }
         requires walked { In (instance_of instance.now) (places_in self.now) }
-        requires reads { length reads.now ≡ length ((shape_of self.now).read (place_of self.now instance.now)) }
+        requires reads { length reads.now ≡ length ((walk_shape self.now).read (place_of self.now instance.now)) }
         requires desk { HasRoomForAll self.now.table.now desk.old }
-        ensures value { result ≡ (shape_of self.now).value (place_of self.now instance.now) reads.now }
+        ensures value { result ≡ (walk_shape self.now).value (place_of self.now instance.now) reads.now }
         ensures desk { HasRoomForAll self.now.table.now desk.new }
     {
         rows_tell_instances();

@@ -11,8 +11,9 @@ ghost use Rattle.scop_syntax.specs.Execution.{
   values_read_by,
 };
 ghost use Rattle.scop_syntax.specs.Members.{In};
-ghost use Rattle.scop_syntax.specs.Walk.{Instance, Visit};
+ghost use Rattle.scop_syntax.specs.Walk.{Instance, Visit, instance};
 ghost use Rattle.stmt_table.specs.declared.table.Row.{Row};
+ghost use Rattle.tile_edges.specs.Edges.{IsTileOf};
 ghost use Rattle.tile_events.specs.Core.{State};
 ghost use Rattle.tile_events.specs.Deal.{IsScan};
 ghost use Rattle.tile_events.specs.Flat.{flat};
@@ -20,6 +21,7 @@ ghost use Rattle.tile_events.specs.Opening.{IsQuiet};
 ghost use Rattle.tile_events.specs.Plan.{GoodPlan, IsDealt, values_read};
 ghost use Rattle.tile_events.specs.Sound.{Sound};
 ghost use Rattle.tile_core.specs.Plans.{
+  HoldsContents,
   IsPlan,
   deal_of,
   extents_in,
@@ -27,8 +29,9 @@ ghost use Rattle.tile_core.specs.Plans.{
   plan_of,
   program_in,
   scan_in,
-  shape_of,
   walk_in,
+  walk_plan,
+  walk_shape,
 };
 ghost use Rattle.tile_core.specs.Rows.{IsRowAt};
 ghost use Rattle.tile_core.specs.declared.plan.Plan.{Plan};
@@ -40,16 +43,19 @@ use scop_syntax::walk_laws::{
 };
 use tile_events::core_laws::all_interleavings_agree;
 use tile_events::deal_laws::scans_are_dealt;
-use tile_events::flat_laws::plans_execute_the_walk;
+use tile_events::flat_laws::{covers_are_those_of_the_walk, plans_execute_the_walk};
+use tile_events::release_laws::{covers_join_what_touches, pairs_make_plans};
 use tile_list::laws::{numbers_tell_waves, tiles_stand_one_behind_another};
 
-/// The tiles of a plan hold each place of the walk once, and of two places that touch one cell the earlier comes first
-/// in one tile or lies in an earlier wave, at once or by way of places in between.
-pub fn plans_are_good()
+/// The tiles of a plan hold each place of the walk once, that of its instance, and of two places that touch one cell the earlier comes first
+/// in one tile or lies in an earlier wave.
+pub fn walks_are_dealt()
     ensures scan { (plan : Plan) → IsPlan plan → IsScan (deal_of plan) }
     ensures count { (plan : Plan) → IsPlan plan → length (scan_in plan) ≡ length (walk_in plan) }
-    ensures good { (plan : Plan) (cells : List ℕ) → IsPlan plan → GoodPlan (plan_of plan cells) }
-    ensures dealt { (plan : Plan) (cells : List ℕ) → IsPlan plan → IsDealt (plan_of plan cells) }
+    ensures held { (plan : Plan) (is : IsPlan plan) (j : ℕ) (v : Visit) → slice_get (walk_in plan) j ≡ Some v
+        → IsTileOf is.tiling plan.list.now ((walk_shape plan).tile j) (instance v) }
+    ensures good { (plan : Plan) (cells : List ℕ) → IsPlan plan → GoodPlan (walk_plan plan cells) }
+    ensures dealt { (plan : Plan) (cells : List ℕ) → IsPlan plan → IsDealt (walk_plan plan cells) }
 {
     walks_are_in_order();
     cells_have_numbers_of_their_own();
@@ -59,9 +65,25 @@ pub fn plans_are_good()
     numbers_tell_waves();
 }
 
+/// A plan, also one whose tiles are released one by one, deals each place to a tile, and of two places that touch one cell
+/// the later waits for the earlier, at once or by way of places in between.
+pub fn plans_are_good()
+    ensures scan { (plan : Plan) → IsPlan plan → IsScan (deal_of plan) }
+    ensures count { (plan : Plan) → IsPlan plan → length (scan_in plan) ≡ length (walk_in plan) }
+    ensures good { (plan : Plan) (cells : List ℕ) → IsPlan plan → GoodPlan (plan_of plan cells) }
+    ensures dealt { (plan : Plan) (cells : List ℕ) → IsPlan plan → IsDealt (plan_of plan cells) }
+{
+    walks_are_dealt();
+    covers_are_those_of_the_walk();
+    covers_join_what_touches();
+    pairs_make_plans();
+}
+
 /// Over the arrays' contents one behind another, each place of a plan reads what the kernel's own execution reads
-/// there, and a sound state in which all tiles are done has its arrays.
+/// there, and a sound state in which all tiles are done has its arrays. Zeros behind the contents change no plan.
 pub fn plans_execute_the_kernel()
+    ensures row { (plan : Plan) (contents : List (List ℕ)) (cells : List ℕ) → HoldsContents contents cells
+        → plan_of plan cells ≡ plan_of plan (flat contents) }
     ensures reads { (plan : Plan) (contents : List (List ℕ)) (j : ℕ) (v : Visit) → IsPlan plan
         → IsShaped (extents_in plan) contents → slice_get (walk_in plan) j ≡ Some v
         → values_read (plan_of plan (flat contents)) j
@@ -72,6 +94,8 @@ pub fn plans_execute_the_kernel()
         → slice_index_or s.cells (cell_number (extents_in plan) c) 0
         ≡ held (extents_in plan) (exec (program_in plan) plan.params.now contents) c }
 {
+    walks_are_dealt();
+    pairs_make_plans();
     plans_are_good();
     plans_execute_the_walk();
     cells_have_numbers_of_their_own();
@@ -80,8 +104,8 @@ pub fn plans_execute_the_kernel()
 
 /// No instance of a plan has more than 16 reads.
 pub fn instances_read_few()
-    ensures { (plan : Plan) (j : ℕ) → IsPlan plan → j < (shape_of plan).places
-        → length ((shape_of plan).read j) ≤ 16 }
+    ensures { (plan : Plan) (j : ℕ) → IsPlan plan → j < (walk_shape plan).places
+        → length ((walk_shape plan).read j) ≤ 16 }
 {
     instances_are_those_of_statements();
     statements_are_numbered();
@@ -94,7 +118,7 @@ pub fn rows_tell_instances()
     ensures tells { (plan : Plan) (x : Instance) (row : Row) → IsPlan plan → In x (places_in plan)
         → slice_get plan.table.now.rows.items x.number ≡ Some row → IsRowAt plan row x }
 {
-    plans_are_good();
+    walks_are_dealt();
     walks_are_in_order();
     instances_are_those_of_statements();
     statements_are_numbered();

@@ -9,7 +9,8 @@ use scop_syntax::instance::Instance;
 use std::alloc::Global;
 use tile_list::laws::tiles_stand_one_behind_another;
 
-/// The plan, and the table of all words: the count of claims, the count of finished tiles, the cells.
+/// The plan, and the table of all words: the count of claims, the count of finished tiles, the cells, and behind these a
+/// counter for each tile where tiles are released one by one.
 #[derive(Drop)]
 pub struct Words<'a> {
     pub plan: Plan<'a>,

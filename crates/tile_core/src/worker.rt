@@ -10,9 +10,9 @@ ghost use Rattle.loop_tree.specs.Tree.{Trees};
 ghost use Rattle.stmt_table.specs.Desks.{HasRoomForAll};
 ghost use Rattle.tile_events.specs.Core.{idle};
 ghost use Rattle.tile_events.specs.Sound.{Holds};
-ghost use Rattle.tile_core.specs.Plans.{IsPlan, place_of, places_in, shape_of};
+ghost use Rattle.tile_core.specs.Plans.{IsPlan, place_of, places_in, shape_of, walk_shape};
 ghost use Rattle.tile_core.specs.Stretches.{CanPass, HasRounds, IsAhead, IsAlong, IsPart, IsWoven};
-ghost use Rattle.tile_core.specs.Workers.{HasNoneDue, IsDue, IsWorker, staged, worker_of};
+ghost use Rattle.tile_core.specs.Workers.{HasNoneDue, IsDue, IsReleasing, IsWorker, ReleasesNone, staged, worker_of};
 ghost use Rattle.tile_core.specs.declared.plan.Plan.{Plan as AnyPlan};
 ghost use Rattle.tile_core.specs.declared.worker.Stage.TheVariants as stage_of;
 
@@ -207,11 +207,32 @@ impl Worker {
         let Stage::Working(tile, done) = self.stage else {
             return None;
         };
-        if done < plan.size(tile) {
+        if done < plan.instances(tile) {
             self.next.as_ref()
         } else {
             None
         }
+    }
+
+    /// The tile that its own tile releases next; None where it is not at work, or its tile has an instance left or has
+    /// released all.
+    pub fn releases(&self, plan: &Plan) -> Option<u64>
+        requires plan { IsPlan plan.now }
+        requires worker { IsWorker plan.now self.now }
+        ensures { MatchOption result (ReleasesNone plan.now self.now.stage)
+            (IsReleasing plan.now self.now.stage) }
+    {
+        let Stage::Working(tile, done) = self.stage else {
+            return None;
+        };
+        let instances = plan.instances(tile);
+        if done < instances {
+            return None;
+        }
+        if plan.size(tile) <= done {
+            return None;
+        }
+        Some(plan.successor(tile, done - instances))
     }
 
     /// A number of instances that it has ahead and that go by the steps of its spot's stretch, the next one among them; 0
@@ -229,7 +250,7 @@ impl Worker {
         };
         match self.due(plan) {
             None => 0,
-            Some(instance) => along(&self.spot.stretch, instance, plan.size(tile) - done),
+            Some(instance) => along(&self.spot.stretch, instance, plan.instances(tile) - done),
         }
     }
 
@@ -249,7 +270,7 @@ impl Worker {
         let rounds = rounds_left(&self.spot.braid);
         match self.due(plan) {
             None => 0,
-            Some(_) => rounds_within(rounds, self.spot.braid.count, plan.size(tile) - done),
+            Some(_) => rounds_within(rounds, self.spot.braid.count, plan.instances(tile) - done),
         }
     }
 
@@ -269,10 +290,10 @@ impl Worker {
         requires plan { IsPlan plan.now }
         requires walked { In (instance_of instance.now) (places_in plan.now) }
         requires reads { length self.old.reads.items
-            ≡ length ((shape_of plan.now).read (place_of plan.now instance.now)) }
+            ≡ length ((walk_shape plan.now).read (place_of plan.now instance.now)) }
         requires worker { IsWorker plan.now self.old }
         ensures value { result
-            ≡ (shape_of plan.now).value (place_of plan.now instance.now) self.old.reads.items }
+            ≡ (walk_shape plan.now).value (place_of plan.now instance.now) self.old.reads.items }
         ensures stage { self.new.stage ≡ self.old.stage }
         ensures reads { self.new.reads.items ≡ self.old.reads.items }
         ensures worker { IsWorker plan.now self.new }
@@ -297,7 +318,7 @@ impl Worker {
         let Stage::Working(tile, done) = self.stage else {
             return;
         };
-        let size = plan.size(tile);
+        let size = plan.instances(tile);
         self.stage = Stage::Working(tile, done + count);
         if done + count < size {
             leave(&mut self.spot, count);
@@ -322,7 +343,7 @@ impl Worker {
         let Stage::Working(tile, done) = self.stage else {
             return 0;
         };
-        let size = plan.size(tile);
+        let size = plan.instances(tile);
         let count = 1 + rounds * self.spot.braid.count;
         self.stage = Stage::Working(tile, done + count);
         if done + count < size {
@@ -337,7 +358,7 @@ impl Worker {
     pub fn advance(&mut self, plan: &Plan)
         requires plan { IsPlan plan.now }
         requires worker { IsWorker plan.now self.old }
-        requires left { (t k : ℕ) → self.old.stage ≡ stage_of.Working t k → k < (shape_of plan.now).size t }
+        requires left { (t k : ℕ) → self.old.stage ≡ stage_of.Working t k → k < (walk_shape plan.now).size t }
         ensures stage { (t k : ℕ) → self.old.stage ≡ stage_of.Working t k
             → self.new.stage ≡ stage_of.Working t (suc k) }
         ensures other { ((t k : ℕ) → self.old.stage ≡ stage_of.Working t k → ⊥)
@@ -346,6 +367,26 @@ impl Worker {
         ensures worker { IsWorker plan.now self.new }
     {
         self.pass_by(plan, 1);
+    }
+
+    /// Goes on behind a release.
+    pub fn pass_release(&mut self, plan: &Plan)
+        requires plan { IsPlan plan.now }
+        requires worker { IsWorker plan.now self.old }
+        requires left { (t k : ℕ) → self.old.stage ≡ stage_of.Working t k
+            → ((walk_shape plan.now).size t ≤ k) × (k < (shape_of plan.now).size t) }
+        ensures stage { (t k : ℕ) → self.old.stage ≡ stage_of.Working t k
+            → self.new.stage ≡ stage_of.Working t (suc k) }
+        ensures other { ((t k : ℕ) → self.old.stage ≡ stage_of.Working t k → ⊥)
+            → self.new.stage ≡ self.old.stage }
+        ensures reads { self.new.reads.items ≡ [] }
+        ensures worker { IsWorker plan.now self.new }
+    {
+        self.reads.clear();
+        let Stage::Working(tile, done) = self.stage else {
+            return;
+        };
+        self.stage = Stage::Working(tile, done + 1);
     }
 }
 

@@ -7,6 +7,7 @@ use Rattle.std.proofs.lemmas.Option.{slice_get_within}
 use Rattle.scop_syntax.specs.Execution.{AreInside, IsInside, layout}
 use Rattle.scop_syntax.specs.Limits.{WithinLimits}
 use Rattle.scop_syntax.specs.Members.{In}
+use Rattle.scop_syntax.specs.Covers.{Cover}
 use Rattle.scop_syntax.specs.Tree.{Program}
 use Rattle.scop_syntax.specs.Walk.{Instance, Visit, instance, walk_of}
 use Rattle.loop_tree.specs.Plans.{AreInOrder, walked}
@@ -18,7 +19,7 @@ use Rattle.stmt_table.specs.declared.table.Table.{Table}
 use Rattle.tile_list.specs.Tiles.{CanTile}
 use Rattle.tile_list.specs.TilesView.{IsTileListOf}
 use Rattle.tile_list.specs.declared.list.TileList.{TileList}
-use Rattle.tile_events.specs.Covers.{Covers, IsCover}
+use Rattle.tile_events.specs.Covers.{Covers}
 use Rattle.tile_events.specs.Deal.{tile_at}
 use Rattle.tile_events.specs.Flat.{IsWalk}
 use Rattle.tile_events.specs.Plan.{Plan}
@@ -36,7 +37,7 @@ use Rattle.tile_edges.proofs.RowEdges.{edges_are, edges_by, in_leads, in_within,
 abbrev pub AreWalkCovers : Type 0
 AreWalkCovers = (extents contents : List (List ℕ)) (visits : List Visit) (p : Plan)
     → IsWalk extents contents [] visits p → AreInside extents visits → p.places ≡ length visits → (i j : ℕ)
-    → (Covers p i j → IsCover visits i j) × (IsCover visits i j → Covers p i j)
+    → (Covers p i j → Cover visits i j) × (Cover visits i j → Covers p i j)
 
 -- the law that no two pairs are the same
 abbrev pub AreOnce : Type 0
@@ -44,17 +45,17 @@ AreOnce = (n : ℕ) (e : Edges) → AreEdges n e → (i j : ℕ) → i < e.count
     → tile_at e.start n i ≡ tile_at e.start n j → e.target i ≡ e.target j → i ≡ j
 
 -- an instance of the walk is visited
-in_scan : (program : Program) (params : List ℤ) (tiling : Tiling) (xs : List Instance) → AreInOrder program params tiling xs
+pub in_scan : (program : Program) (params : List ℤ) (tiling : Tiling) (xs : List Instance) → AreInOrder program params tiling xs
     → (x : Instance) → In x (walked program params) → In x xs
 in_scan program params kept xs order x i = subst (λ ys. In x ys) (sym order) i
 in_scan program params (tiled size statements) xs order x i = (order.1 x).1 i
 
 -- numbers through a function, from one on
-listing : (ℕ → ℕ × ℕ) → ℕ → ℕ → List (ℕ × ℕ)
+pub listing : (ℕ → ℕ × ℕ) → ℕ → ℕ → List (ℕ × ℕ)
 listing f a zero = []
 listing f a (suc k) = f a ∷ listing f (suc a) k
 
-listed_many : (f : ℕ → ℕ × ℕ) (a k : ℕ) → length (listing f a k) ≡ k
+pub listed_many : (f : ℕ → ℕ × ℕ) (a k : ℕ) → length (listing f a k) ≡ k
 unfolding listing
 listed_many f a zero = refl
 listed_many f a (suc k) = ap suc (listed_many f (suc a) k)
@@ -70,18 +71,31 @@ listed_at f a (suc k) (suc i) x e =
     let less = r.0 in
     let same : suc a + i ≡ a + suc i = omega arith in (omega (arith, less), r.1 ∙ ap f same)
 
-listed_first : (f : ℕ → ℕ × ℕ) (k i : ℕ) (x : ℕ × ℕ) → slice_get (listing f 0 k) i ≡ Some x → (i < k) × (x ≡ f i)
+pub listed_first : (f : ℕ → ℕ × ℕ) (k i : ℕ) (x : ℕ × ℕ) → slice_get (listing f 0 k) i ≡ Some x → (i < k) × (x ≡ f i)
 listed_first f k i x e =
     let r = listed_at f 0 k i x e in
     let same : 0 + i ≡ i = omega arith in (r.0, r.1 ∙ ap f same)
 
-listed_in : (f : ℕ → ℕ × ℕ) (a k : ℕ) (x : ℕ × ℕ) → In x (listing f a k) → (i : ℕ) × (i < a + k) × (x ≡ f i)
+pub listed_in : (f : ℕ → ℕ × ℕ) (a k : ℕ) (x : ℕ × ℕ) → In x (listing f a k) → (i : ℕ) × (i < a + k) × (x ≡ f i)
 unfolding listing
 listed_in f a zero x i = absurd i
 listed_in f a (suc k) x (inl e) = (a, omega arith, e)
 listed_in f a (suc k) x (inr i) =
     let r = listed_in f (suc a) k x i in
     let less = r.1 in (r.0, omega (arith, less), r.2)
+
+in_listing : (f : ℕ → ℕ × ℕ) (a k i : ℕ) → i < k → In (f (a + i)) (listing f a k)
+unfolding listing
+in_listing f a zero i less = absurd (omega (arith, less))
+in_listing f a (suc k) zero less = let same : a + 0 ≡ a = omega arith in inl (ap f same)
+in_listing f a (suc k) (suc i) less =
+    let same : suc a + i ≡ a + suc i = omega arith in
+    inr (subst (λ n. In (f n) (listing f (suc a) k)) same (in_listing f (suc a) k i (omega (arith, less))))
+
+pub in_listed : (f : ℕ → ℕ × ℕ) (k i : ℕ) → i < k → In (f i) (listing f 0 k)
+in_listed f k i less =
+    let same : 0 + i ≡ i = omega arith in
+    subst (λ n. In (f n) (listing f 0 k)) same (in_listing f 0 k i less)
 
 module _ (law : AreWalkCovers) (once : AreOnce) (program : Program) (params : List ℤ) (ts : Trees) (tiling : Tiling)
     (list : TileList) (limits : WithinLimits program params) (inside : IsInside program params)
@@ -92,7 +106,7 @@ module _ (law : AreWalkCovers) (once : AreOnce) (program : Program) (params : Li
   abbrev p : Plan
   p = touched program params
 
-  both : (i j : ℕ) → (Covers p i j → IsCover walk i j) × (IsCover walk i j → Covers p i j)
+  both : (i j : ℕ) → (Covers p i j → Cover walk i j) × (Cover walk i j → Covers p i j)
   both i j =
       law (layout program params) [] walk p
       (record { written = λ j. refl; read = λ j. refl; adds = λ c cell. refl; value = λ j xs. refl; initial = λ c cell. refl })

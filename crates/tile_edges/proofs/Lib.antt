@@ -9,3 +9,5 @@ pub mod FindingTiles
 pub mod PassedPlaces
 pub mod FoundEdges
 pub mod KeptTraces
+pub mod CountedEdges
+pub mod KeptOrders

@@ -1,6 +1,7 @@
 -- Which tiles wait for one another: of two tiles the second waits for the first where that holds a place of the walk that
 -- covers one of the second.
 use Rattle.std.specs.Prelude.{◌≡◌, ◌≢◌, ◌↔◌, ℕ, suc, ◌<◌, ℤ, List, length, get_or, slice_get, Some}
+use Rattle.scop_syntax.specs.Covers.{Cover}
 use Rattle.scop_syntax.specs.Members.{In}
 use Rattle.scop_syntax.specs.Tree.{Program}
 use Rattle.scop_syntax.specs.View.{instance_of}
@@ -9,7 +10,6 @@ use Rattle.loop_tree.specs.Tiling.{Tiling}
 use Rattle.tile_list.specs.Tiles.{InOneTile}
 use Rattle.tile_list.specs.declared.list.Tile.{Tile}
 use Rattle.tile_list.specs.declared.list.TileList.{TileList}
-use Rattle.tile_events.specs.Covers.{IsCover}
 use Rattle.tile_events.specs.Deal.{tile_at}
 use Rattle.tile_events.specs.Releases.{AreEdges, Edges, pairs_to}
 use Rattle.tile_edges.specs.declared.waiting.TileEdges.{TileEdges}
@@ -31,7 +31,7 @@ pub record Waits (program : Program) (params : List ℤ) (tiling : Tiling) (list
   pub apart : t ≢ u
   pub earlier : ℕ
   pub later : ℕ
-  pub cover : IsCover (walk_of program params) earlier later
+  pub cover : Cover (walk_of program params) earlier later
   pub first : Holds (walk_of program params) tiling list t earlier
   pub second : Holds (walk_of program params) tiling list u later
 

@@ -1,2 +1,3 @@
 pub mod Edges
+pub mod Counting
 pub mod steps

@@ -5,6 +5,7 @@
 #![tactic(auto)]
 
 mod finding;
+pub mod laws;
 mod pairing;
 mod rows;
 mod touching;

@@ -1,12 +1,12 @@
 -- A worker's desk at an instance of a plan, and the cells that it goes to.
-use Rattle.std.specs.Prelude.{◌≡◌, ℕ, ℤ, List, length, slice_get, Some}
+use Rattle.std.specs.Prelude.{◌≡◌, ◌≤◌, ℕ, ℤ, List, length, slice_get, Some}
 use Rattle.whole_numbers.specs.Affine.{Affine, value_of}
 use Rattle.scop_syntax.specs.Values.{wrapped}
 use Rattle.scop_syntax.specs.Walk.{Instance}
 use Rattle.stmt_table.specs.Desks.{HasRoom, HasSameRoom, IsLaid}
 use Rattle.stmt_table.specs.declared.desk.Desk.{Desk}
 use Rattle.stmt_table.specs.declared.table.Row.{Row}
-use Rattle.tile_core.specs.Plans.{shape_of}
+use Rattle.tile_core.specs.Plans.{walk_shape}
 use Rattle.tile_core.specs.Rows.{IsRowAt}
 use Rattle.tile_core.specs.declared.plan.Plan.{Plan}
 
@@ -22,13 +22,13 @@ pub record IsDeskAt (plan : Plan) (row : Row) (steps : List ℤ) (x : Instance) 
   pub room : HasRoom row desk
   pub laid : IsLaid row steps x.turns desk
 
--- so for some plan that has as many cells as these
+-- so for some plan whose cells are among these
 pub record StandsIn (row : Row) (desk : Desk) (cells : List ℕ) : Type 0 where
   pub plan : Plan
   pub steps : List ℤ
   pub instance : Instance
   pub at : IsDeskAt plan row steps instance desk
-  pub wide : length cells ≡ (shape_of plan).cells
+  pub wide : (walk_shape plan).cells ≤ length cells
 
 -- the desk stays laid as it was, with as much room
 pub record StaysLaid (row : Row) (before after : Desk) : Type 0 where

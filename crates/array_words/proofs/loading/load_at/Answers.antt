@@ -1,4 +1,5 @@
 use Rattle.std.proofs.Common.{arith}
+use Rattle.tile_core.proofs.Gates.{shape_extends}
 use Rattle.array_words.proofs.Loads.{loads, read_below, told}
 use Rattle.array_words.proofs.loading.load_at.Goals as goal
 
@@ -8,9 +9,10 @@ overflow_add-cell c =
     let v = c.args.seat.now.me.0 in
     let of = c.requires.seat.of in
     let room = of.room in
-    let b = read_below w (c.plans_are_good.ensures.dealt w.plan w.table.shared.key.cells.items of.planned) v.stage
+    let more = (shape_extends w.plan).cells in
+    let b = read_below w (c.walks_are_dealt.ensures.dealt w.plan w.table.shared.key.cells.items of.planned) v.stage
     v.reads c.args.cell c.requires.next in
-    omega (arith, b, room)
+    omega (arith, b, room, more)
 
 pub load-requires : goal.load-requires
 load-requires c =
@@ -18,12 +20,13 @@ load-requires c =
     let v = c.args.seat.now.me.0 in
     let of = c.requires.seat.of in
     let long = of.long in
-    let b = read_below w (c.plans_are_good.ensures.dealt w.plan w.table.shared.key.cells.items of.planned) v.stage
+    let more = (shape_extends w.plan).cells in
+    let b = read_below w (c.walks_are_dealt.ensures.dealt w.plan w.table.shared.key.cells.items of.planned) v.stage
     v.reads c.args.cell c.requires.next in (
       c.requires.seat.table,
-      omega (arith, b, long),
-      loads w c.args.seat.now c.events_are_allowed.ensures.load v.stage v.reads c.args.cell c.requires.seat
-          c.requires.next,
+      omega (arith, b, long, more),
+      loads w c.args.seat.now (c.walks_are_dealt.ensures.dealt w.plan w.table.shared.key.cells.items of.planned)
+          c.events_are_allowed.ensures.load v.stage v.reads c.args.cell c.requires.seat c.requires.next,
     )
 
 pub returns-clause-value : goal.returns-clause-value

@@ -1,5 +1,6 @@
-use Rattle.std.proofs.Common.{rules, ◌≡◌, ◌∷◌, ◌+◌, ◌<◌, ◌∙◌, length, ap}
-use Rattle.tile_core.specs.Plans.{shape_of}
+use Rattle.std.proofs.Common.{rules, ◌≡◌, ◌∷◌, ◌+◌, ◌<◌, ◌∙◌, List, ℕ, length, ap, subst, sym}
+use Rattle.tile_core.specs.Plans.{HasRest, shape_of}
+use Rattle.tile_core.proofs.Gates.{tiles_are}
 use Rattle.array_words.proofs.OpeningState.{opening_held}
 use Rattle.array_words.proofs.opening.opened.Goals as goal
 
@@ -10,9 +11,10 @@ of_words-made-requires c =
     let same : cells.items ≡ c.args.cells.now.items = search rules in
     let row : c.words.result.now ≡ 0 ∷ 0 ∷ cells.items = search rules in
     let wide = c.requires.cells in
+    let tiles = tiles_are plan in
     let few : (shape_of plan).tiles + c.args.workers < 18446744073709551615 = search rules in
     opening_held c.all_interleavings_agree.ensures.start
     (record { plan = plan; cells = cells; workers = c.args.workers }) c.words.result.now
     (c.plans_are_good.ensures.good plan cells.items c.requires.plan)
     (c.plans_are_good.ensures.dealt plan cells.items c.requires.plan)
-    row (ap length same ∙ wide) few
+    row (ap length same ∙ wide) (subst (λ (xs : List ℕ). HasRest plan xs) (sym same) c.requires.rest) few

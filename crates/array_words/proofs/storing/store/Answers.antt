@@ -1,4 +1,4 @@
-use Rattle.tile_core.specs.Passes.{plan_in}
+use Rattle.tile_core.specs.Passes.{walk_in}
 use Rattle.array_words.specs.Stores.{IsNextStore}
 use Rattle.array_words.proofs.PassSeats.{at_view, seat_of}
 use Rattle.array_words.proofs.Stores.{instance_left, stage_after_store}
@@ -9,7 +9,7 @@ store_at-requires c =
     let w = c.args.words.now in
     let p = c.args.pass.now in record {
       seat = seat_of w p c.requires.pass;
-      next = at_view w p (λ s xs. IsNextStore (plan_in w) s xs c.args.cell c.args.value) c.requires.pass
+      next = at_view w p (λ s xs. IsNextStore (walk_in w) s xs c.args.cell c.args.value) c.requires.pass
           c.requires.next;
     }
 

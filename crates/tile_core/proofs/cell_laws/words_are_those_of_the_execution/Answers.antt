@@ -1,10 +1,13 @@
-use Rattle.std.proofs.Common.{List, ℕ, ◌∙◌, map, subst}
+use Rattle.std.proofs.Common.{◌∙◌, map, subst}
 use Rattle.scop_syntax.specs.Execution.{cell_number}
+use Rattle.tile_events.specs.Flat.{flat}
+use Rattle.tile_events.specs.Plan.{Plan}
 use Rattle.tile_events.specs.Rule.{core}
 use Rattle.tile_events.specs.Sound.{Sound}
 use Rattle.tile_events.proofs.Words.{word_of_cell}
-use Rattle.tile_core.specs.Plans.{extents_in, plan_of}
+use Rattle.tile_core.specs.Plans.{extents_in}
 use Rattle.tile_core.specs.Views.{worker_in}
+use Rattle.tile_core.proofs.Gates.{same_plan}
 use Rattle.tile_core.proofs.cell_laws.words_are_those_of_the_execution.Goals as goal
 
 pub returns-clause-last : goal.returns-clause-last
@@ -12,11 +15,11 @@ returns-clause-last c key st contents d i v ruled is shaped same cell last =
     let s = core st.words (map worker_in st.views) in
     word_of_cell st.words (cell_number (extents_in key.plan) d) ruled.long
     ∙ c.cells_are_those_of_the_execution.ensures.last key.plan contents s d i v is shaped
-    (subst (λ (cs : List ℕ). Sound (plan_of key.plan cs) s) same ruled.sound) cell last
+    (subst (λ (p : Plan). Sound p s) (same_plan key.plan key.cells.items (flat contents) same) ruled.sound) cell last
 
 pub returns-clause-first : goal.returns-clause-first
 returns-clause-first c key st contents d ruled is shaped same cell none =
     let s = core st.words (map worker_in st.views) in
     word_of_cell st.words (cell_number (extents_in key.plan) d) ruled.long
     ∙ c.cells_are_those_of_the_execution.ensures.first key.plan contents s d is shaped
-    (subst (λ (cs : List ℕ). Sound (plan_of key.plan cs) s) same ruled.sound) cell none
+    (subst (λ (p : Plan). Sound p s) (same_plan key.plan key.cells.items (flat contents) same) ruled.sound) cell none

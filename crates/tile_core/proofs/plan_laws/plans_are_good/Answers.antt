@@ -1,24 +1,20 @@
-use Rattle.tile_core.proofs.Plans.{PlanLaws, count_is, dealt_is, good_is, scan_is}
+use Rattle.tile_core.proofs.GatedPlans.{GateLaws, gated_dealt, gated_good}
 use Rattle.tile_core.proofs.plan_laws.plans_are_good.Goals as goal
 
 pub returns : goal.returns
 returns c =
-    let laws : PlanLaws = record {
-      tiles = record {
-        next = c.tiles_stand_one_behind_another.ensures.next;
-        last = c.tiles_stand_one_behind_another.ensures.last;
-        at = c.tiles_stand_one_behind_another.ensures.at;
-        less = c.numbers_tell_waves.ensures.less;
-        rise = c.numbers_tell_waves.ensures.rise;
-      };
-      once = c.walks_are_in_order.ensures.once;
-      below = c.cells_have_numbers_of_their_own.ensures.below;
-      deals = c.scans_are_dealt.ensures;
-      touches = c.plans_execute_the_walk.ensures.conflicts;
+    let laws : GateLaws = record {
+      held = c.walks_are_dealt.ensures.held;
+      dealt = c.walks_are_dealt.ensures.dealt;
+      good = c.walks_are_dealt.ensures.good;
+      covers = c.covers_are_those_of_the_walk.ensures;
+      covered = c.covers_join_what_touches.ensures.covered;
+      deals = c.pairs_make_plans.ensures.dealt;
+      orders = c.pairs_make_plans.ensures.good;
     } in
     record {
-      scan = λ plan is. scan_is laws plan is;
-      count = λ plan is. count_is laws plan is;
-      good = λ plan cells is. good_is laws plan is cells;
-      dealt = λ plan cells is. dealt_is laws plan is cells;
+      scan = c.walks_are_dealt.ensures.scan;
+      count = c.walks_are_dealt.ensures.count;
+      good = λ plan cells is. gated_good laws plan is cells;
+      dealt = λ plan cells is. gated_dealt laws plan is cells;
     }

@@ -20,4 +20,4 @@ pub returns-clause-tells : goal.returns-clause-tells
 returns-clause-tells c plan x row is walked told =
     row_tells (laws (goal.at.returns-clause-tells c).After-cells_lie_within_22_bits) plan x is
     c.cells_lie_within_22_bits.ensures.numbers (c.walks_are_in_order.ensures.once (program_in plan) plan.params.now)
-    c.statements_are_numbered.ensures.placed (c.plans_are_good.ensures.dealt plan [] is) walked row told
+    c.statements_are_numbered.ensures.placed (c.walks_are_dealt.ensures.dealt plan [] is) walked row told

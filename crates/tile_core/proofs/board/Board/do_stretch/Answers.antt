@@ -1,6 +1,6 @@
-use Rattle.std.proofs.Common.{rules, ◌∙◌, ◌+◌, ◌≤◌, List, ℕ, ap, arith, length, subst, sym}
+use Rattle.std.proofs.Common.{rules, ◌∙◌, ◌+◌, ◌≤◌, List, ℕ, [], ap, arith, length, subst, sym}
 use Rattle.std.proofs.lemmas.List.{nil_from_length, with_items_is}
-use Rattle.tile_core.specs.Plans.{shape_of}
+use Rattle.tile_core.specs.Plans.{walk_shape}
 use Rattle.tile_core.specs.Stretches.{CanPass, IsAhead}
 use Rattle.tile_core.specs.declared.worker.Worker.{Worker}
 use Rattle.tile_core.specs.steps.Acts.{after_instances}
@@ -31,13 +31,13 @@ pass_by-requires-clause-passes c =
 
 pub returns : goal.returns
 returns c =
-    let p = shape_of c.args.plan.now in
+    let p = walk_shape c.args.plan.now in
     let a = ahead (goal.at.returns c).After-do_ahead in
     let left = (a.passes a.tile a.done a.works).0 in
     let most = (a.passes a.tile a.done a.works).1.within in
     let fits : a.done + c.ahead-count.result ≤ p.size a.tile = omega (arith, left, most) in
     some_done c.args.plan.now c.args.self.now c.args.id c.index_mut-worker.result.now c.requires.board c.requires.id
-    (search rules) c.pass_by.new.self _ a.tile a.done c.ahead-count.result a.works (nil_from_length _ (search rules))
+    (search rules) (c.walks_are_dealt.ensures.dealt c.args.plan.now [] c.requires.board.planned) c.pass_by.new.self _ a.tile a.done c.ahead-count.result a.works (nil_from_length _ (search rules))
     a.some fits
     (c.pass_by.ensures.stage a.tile a.done (ap (λ (w : Worker). w.stage) c.do_ahead.ensures.same ∙ a.works))
     (search rules)
@@ -48,12 +48,12 @@ returns c =
 
 pub returns-then-rounds-gt0 : goal.returns-then-rounds-gt0
 returns-then-rounds-gt0 c =
-    let p = shape_of c.args.plan.now in
+    let p = walk_shape c.args.plan.now in
     let woven = c.rounds-rounds.ensures (search rules) in
     let a = woven.first in
     let many = c.do_woven.ensures.count a.tile a.done a.works in
     some_done c.args.plan.now c.args.self.now c.args.id c.index_mut-worker.result.now c.requires.board c.requires.id
-    (search rules) c.do_woven.new.worker _ a.tile a.done c.do_woven.result a.works (nil_from_length _ (search rules))
+    (search rules) (c.walks_are_dealt.ensures.dealt c.args.plan.now [] c.requires.board.planned) c.do_woven.new.worker _ a.tile a.done c.do_woven.result a.works (nil_from_length _ (search rules))
     many.0 many.1 (c.do_woven.ensures.stage a.tile a.done a.works) c.do_woven.ensures.reads
     (with_items_is c.args.self.now.cells c.do_woven.new.cells (search rules)
     ∙ (c.do_woven.ensures.cells a.tile a.done a.works

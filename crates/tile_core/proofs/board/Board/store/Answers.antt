@@ -1,6 +1,6 @@
-use Rattle.std.proofs.Common.{ap, rules, ◌∙◌}
+use Rattle.std.proofs.Common.{ap, rules, subst, ◌∙◌, ◌<◌}
 use Rattle.std.specs.Vec.{with_item}
-use Rattle.tile_core.specs.Plans.{place_of, shape_of}
+use Rattle.tile_core.specs.Plans.{place_of, walk_shape}
 use Rattle.tile_core.specs.declared.worker.Worker.{Worker}
 use Rattle.tile_core.proofs.Boards.{at_board, one_at, reads_left, refuses_store, stores, workers_kept}
 use Rattle.tile_core.proofs.board.Board.store.Goals as goal
@@ -33,7 +33,8 @@ returns c =
           (at_board c.args.self.now c.args.id w c.requires.id (search rules)) due c.advance.new.self
           (with_item c.args.self.now.cells c.cell_written.result c.value-value.result) c.value-value.result
           (search rules)
-          (value.value ∙ ap (λ (x : Worker). (shape_of plan).value place x.reads.items) same)
+          (subst (λ n. n < (walk_shape plan).cells) c.cell_written.ensures.cell c.cell_written.ensures.inside)
+          (value.value ∙ ap (λ (x : Worker). (walk_shape plan).value place x.reads.items) same)
           (search rules)
           (c.advance.ensures.stage due.tile due.count
           (value.stage ∙ (ap (λ (x : Worker). x.stage) same ∙ due.works))) c.advance.ensures.reads;

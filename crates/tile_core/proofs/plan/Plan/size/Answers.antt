@@ -1,5 +1,10 @@
-use Rattle.tile_core.proofs.Tiles.{size_is}
+use Rattle.std.proofs.Common.{rules, ◌+◌, ◌<◌}
+use Rattle.tile_core.proofs.Successors.{sum_fits}
 use Rattle.tile_core.proofs.plan.Plan.size.Goals as goal
 
-pub returns : goal.returns
-returns c = size_is c.args.self.now.list.now.tiles.items c.args.tile c.tile.result.now c.tile.ensures
+pub overflow_add-result : goal.overflow_add-result
+overflow_add-result c =
+    let fits : c.instances.result + c.successors.result < 18446744073709551616 =
+    sum_fits c.args.self.now c.requires.plan c.args.tile c.instances.result c.successors.result c.requires.tile
+    c.instances.ensures c.successors.ensures c.instances.type_inv in
+    search rules

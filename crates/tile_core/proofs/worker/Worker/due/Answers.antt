@@ -1,23 +1,23 @@
 use Rattle.std.proofs.Common.{refl, rules, subst, sym, ◌<◌}
 use Rattle.tile_events.specs.Sound.{Holds}
-use Rattle.tile_core.specs.Plans.{shape_of}
+use Rattle.tile_core.specs.Plans.{walk_shape}
 use Rattle.std.specs.Prelude.{MatchOption}
 use Rattle.tile_core.specs.Workers.{HasNoneDue, IsDue, staged}
 use Rattle.tile_core.proofs.Workers.{due_is, lent}
 use Rattle.tile_core.proofs.worker.Worker.due.Goals as goal
 
-pub size-requires-clause-tile : goal.size-requires-clause-tile
-size-requires-clause-tile c =
+pub instances-requires-clause-tile : goal.instances-requires-clause-tile
+instances-requires-clause-tile c =
     c.requires.worker.tile c.in-Working.tile
     (subst (λ s. Holds (staged s c.args.self.now.reads.items) c.in-Working.tile) (sym c.in-Working.is) refl)
 
-pub returns-then-done-size-clause-due : goal.returns-then-done-size-clause-due
-returns-then-done-size-clause-due c =
+pub returns-then-done-instances-clause-due : goal.returns-then-done-instances-clause-due
+returns-then-done-instances-clause-due c =
     let plan = c.args.plan.now in
     let w = c.args.self.now in
     let less = c.requires.worker.tile c.in-Working.tile
     (subst (λ s. Holds (staged s w.reads.items) c.in-Working.tile) (sym c.in-Working.is) refl) in
-    let left : c.in-Working.done < (shape_of plan).size c.in-Working.tile = search rules in
+    let left : c.in-Working.done < (walk_shape plan).size c.in-Working.tile = search rules in
     lent plan w.stage c.as_ref.result
     (subst (λ o. MatchOption o (HasNoneDue plan w.stage) (IsDue plan w.stage)) (sym c.as_ref.ensures.value)
     (due_is plan w.stage c.in-Working.tile c.in-Working.done w.next w.spot c.requires.plan

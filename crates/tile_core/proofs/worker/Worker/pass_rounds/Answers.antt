@@ -3,45 +3,45 @@ use Rattle.std.proofs.lemmas.List.{drop-drop}
 use Rattle.loop_tree.specs.SpotView.{to_come}
 use Rattle.loop_tree.specs.View.{trees_in}
 use Rattle.tile_events.specs.Sound.{Holds}
-use Rattle.tile_core.specs.Plans.{deal_of, scan_in, shape_of}
+use Rattle.tile_core.specs.Plans.{deal_of, scan_in, walk_shape}
 use Rattle.tile_core.specs.Workers.{staged}
 use Rattle.tile_core.proofs.Workers.{at_work, next_is}
 use Rattle.tile_core.proofs.worker.Worker.pass_rounds.Goals as goal
 
-pub size-size-requires-clause-tile : goal.size-size-requires-clause-tile
-size-size-requires-clause-tile c =
+pub instances-size-requires-clause-tile : goal.instances-size-requires-clause-tile
+instances-size-requires-clause-tile c =
     c.requires.worker.tile c.in-Working.tile
     (subst (λ s. Holds (staged s c.args.self.now.reads.items) c.in-Working.tile) (sym c.in-Working.is) refl)
 
 pub overflow_mul-count : goal.overflow_mul-count
 overflow_mul-count c =
     let within = c.requires.woven.within c.in-Working.tile c.in-Working.done c.in-Working.is in
-    let size = c.size-size.ensures in
-    let fits = c.size-size.type_inv in
+    let size = c.instances-size.ensures in
+    let fits = c.instances-size.type_inv in
     let room : c.args.rounds * c.args.self.now.spot.braid.count < 18446744073709551616 = omega (arith, within, size, fits) in
     search rules
 
 pub overflow_add-count : goal.overflow_add-count
 overflow_add-count c =
     let within = c.requires.woven.within c.in-Working.tile c.in-Working.done c.in-Working.is in
-    let size = c.size-size.ensures in
-    let fits = c.size-size.type_inv in
+    let size = c.instances-size.ensures in
+    let fits = c.instances-size.type_inv in
     let room : 1 + c.args.rounds * c.args.self.now.spot.braid.count < 18446744073709551616 = omega (arith, within, size, fits) in
     search rules
 
 pub overflow_add-self : goal.overflow_add-self
 overflow_add-self c =
     let within = c.requires.woven.within c.in-Working.tile c.in-Working.done c.in-Working.is in
-    let size = c.size-size.ensures in
-    let fits = c.size-size.type_inv in
+    let size = c.instances-size.ensures in
+    let fits = c.instances-size.type_inv in
     let room : c.in-Working.done + (1 + c.args.rounds * c.args.self.now.spot.braid.count) < 18446744073709551616 = omega (arith, within, size, fits) in
     search rules
 
 pub overflow_add-done : goal.overflow_add-done
 overflow_add-done c =
     let within = c.requires.woven.within c.in-Working.tile c.in-Working.done c.in-Working.is in
-    let size = c.size-size.ensures in
-    let fits = c.size-size.type_inv in
+    let size = c.instances-size.ensures in
+    let fits = c.instances-size.type_inv in
     let room : c.in-Working.done + (1 + c.args.rounds * c.args.self.now.spot.braid.count) < 18446744073709551616 = omega (arith, within, size, fits) in
     search rules
 
@@ -74,7 +74,7 @@ returns-else-done-count-clause-worker c =
     let k = c.in-Working.done in
     let passed = k + (1 + c.args.rounds * w.spot.braid.count) in
     let less = c.requires.worker.tile t (subst (λ s. Holds (staged s w.reads.items) t) (sym c.in-Working.is) refl) in
-    let size = c.size-size.ensures in
+    let size = c.instances-size.ensures in
     let none = c.if-done-count.false in
     at_work plan _ t passed refl c.requires.worker.spot c.requires.worker.desk c.requires.worker.desks less
-    (λ (left : passed < (shape_of plan).size t). absurd (omega (arith, left, size, none)))
+    (λ (left : passed < (walk_shape plan).size t). absurd (omega (arith, left, size, none)))

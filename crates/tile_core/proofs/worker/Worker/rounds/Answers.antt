@@ -1,13 +1,13 @@
 use Rattle.std.proofs.Common.{arith, rules, ◌+◌, ◌<◌, refl, subst, sym}
 use Rattle.tile_events.specs.Sound.{Holds}
-use Rattle.tile_core.specs.Plans.{deal_of, shape_of}
+use Rattle.tile_core.specs.Plans.{deal_of, walk_shape}
 use Rattle.tile_core.specs.Stretches.{HasRounds, IsWoven}
 use Rattle.tile_core.specs.Workers.{IsNext, staged}
 use Rattle.tile_core.proofs.Rounds.{woven_is}
 use Rattle.tile_core.proofs.worker.Worker.rounds.Goals as goal
 
-pub size-requires-clause-tile : goal.size-requires-clause-tile
-size-requires-clause-tile c =
+pub instances-requires-clause-tile : goal.instances-requires-clause-tile
+instances-requires-clause-tile c =
     c.requires.worker.tile c.in-Working.tile
     (subst (λ s. Holds (staged s c.args.self.now.reads.items) c.in-Working.tile) (sym c.in-Working.is) refl)
 
@@ -18,12 +18,12 @@ returns-in-Some c some =
     let t = c.in-Working.tile in
     let k = c.in-Working.done in
     let rounds = c.rounds_within.result in
-    let left : k < (shape_of plan).size t = search rules in
+    let left : k < (walk_shape plan).size t = search rules in
     let next = c.in-Some.ensures.next in
     let none = c.if-self-gt0.false in
     let same = c.rounds_within.ensures.rounds some in
     let within = c.rounds_within.ensures.within some in
-    let size = c.size.ensures in
+    let size = c.instances.ensures in
     let more : 0 < c.rounds_left-rounds.result = omega (arith, same, some) in
     let has = subst (HasRounds w.spot.braid) (sym same) (c.rounds_left-rounds.ensures.rounds more) in
     subst (λ o. IsWoven plan w.stage o w.spot rounds) (sym next)
