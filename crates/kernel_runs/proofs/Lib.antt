@@ -4,3 +4,5 @@ pub mod Cores
 pub mod Members
 pub mod FinalCells
 pub mod FirstArray
+pub mod CounterRows
+pub mod LentPairs

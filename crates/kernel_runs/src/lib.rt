@@ -1,9 +1,12 @@
 //! Kernels run by a plan, from arrays to arrays: the tiles of the plan's loop tree are done by one worker, or by several
 //! on threads (U. Bondhugula and others, "A practical automatic polyhedral parallelizer and locality optimizer", PLDI
-//! 2008). Promises that the arrays end as the kernel's own execution leaves them, and how many tiles and waves there are.
+//! 2008). Tiles are opened by waves, or released one by one. Promises that the arrays end as the kernel's own execution leaves
+//! them, and how many tiles, waves and pairs of waiting tiles there are.
 #![tactic(auto)]
 
 mod alone;
+mod counters;
+mod pairs;
 mod rows;
 mod running;
 mod threads;
@@ -15,3 +18,4 @@ pub use workers::{OneWorker, Workers};
 
 // Passed on: what goes with this crate's contracts.
 pub use tile_core::plan::Plan;
+pub use tile_edges::TileEdges;

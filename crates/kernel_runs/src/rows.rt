@@ -1,6 +1,6 @@
 //! The cells of all arrays in one row, one array behind another. The row has the memory of the first array.
 ghost use Rattle.std.specs.Prelude.{◌≡◌, ◌<◌, ◌++◌, ℕ, List, [], IfErr, OnOk, length, map, slice_index_or, slice_set};
-ghost use Rattle.std.specs.Prelude.{◌≤◌, drop, take};
+ghost use Rattle.std.specs.Prelude.{◌≤◌, drop, replicate, take};
 ghost use Rattle.tile_events.specs.Flat.{flat};
 ghost use Rattle.kernel_runs.specs.steps.Rows.{Begins};
 
@@ -25,17 +25,31 @@ fn append(row: &mut Vec<u64>, cells: &[u64]) -> Result<(), AllocError>
     row.extend_from_slice(cells)
 }
 
-/// Puts the cells of all arrays behind those of the row, and makes room for two more.
+/// Puts the cells of all arrays behind those of the row, and makes room for so many more.
 ///
 /// # Errors
 /// `AllocError`; the row begins as it was.
-pub(crate) fn append_all(row: &mut Vec<u64>, arrays: &Arrays) -> Result<(), AllocError>
+pub(crate) fn append_all(row: &mut Vec<u64>, arrays: &Arrays, room: usize) -> Result<(), AllocError>
     ensures all { OnOk result (row.new.items ≡ row.old.items ++ flat arrays.now) }
     ensures begins { IfErr result (λ _. Begins row.old.items row.new.items) }
 {
-    row.reserve_exact(cells_in(arrays).saturating_add(2))?;
+    row.reserve_exact(cells_in(arrays).saturating_add(room))?;
     for array in 0..arrays.count() {
         append(row, arrays.array(array))?;
+    }
+    Ok(())
+}
+
+/// Puts so many zeros behind the cells of the row.
+///
+/// # Errors
+/// `AllocError`; the row begins as it was.
+pub(crate) fn append_zeros(row: &mut Vec<u64>, count: usize) -> Result<(), AllocError>
+    ensures zeros { OnOk result (row.new.items ≡ row.old.items ++ replicate count 0) }
+    ensures begins { IfErr result (λ _. Begins row.old.items row.new.items) }
+{
+    for _ in 0..count {
+        row.push(0)?;
     }
     Ok(())
 }

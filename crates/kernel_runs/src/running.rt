@@ -1,22 +1,26 @@
 //! A kernel's case run by a plan, from arrays to arrays.
-ghost use Rattle.std.specs.Prelude.{◌≡◌, ◌-◌, ◌≤◌, ◌++◌, IfErr, IfOk, length};
+ghost use Rattle.std.specs.Prelude.{◌≡◌, ◌-◌, ◌≤◌, ◌++◌, ⊤, IfErr, IfOk, MatchOption, length};
 ghost use Rattle.scop_syntax.specs.Execution.{IsInside, IsShaped, exec, layout, total_cells};
 ghost use Rattle.scop_syntax.specs.Limits.{WithinLimits};
 ghost use Rattle.scop_syntax.specs.View.{program_of};
+ghost use Rattle.scop_syntax.specs.Walk.{walk_of};
 ghost use Rattle.loop_tree.specs.Plans.{walked};
 ghost use Rattle.loop_tree.specs.TilingView.{tiling_of};
 ghost use Rattle.loop_tree.specs.View.{trees_in};
 ghost use Rattle.loop_tree.specs.Walk.{visits};
 ghost use Rattle.plan_tree.specs.Trees.{AreTreesOf};
 ghost use Rattle.stmt_table.specs.Tables.{IsTableOf};
-ghost use Rattle.tile_core.specs.Plans.{IsPlan, extents_in, program_in, shape_of};
+ghost use Rattle.tile_core.specs.Plans.{HaveRoom, IsPlan, extents_in, program_in, walk_shape};
+ghost use Rattle.tile_edges.specs.Counting.{IsReleaseOf};
+ghost use Rattle.tile_edges.specs.Edges.{AreEdgesOf};
 ghost use Rattle.tile_events.specs.Flat.{flat};
 ghost use Rattle.tile_list.specs.Counting.{HasTiles, HasWaves};
 ghost use Rattle.tile_list.specs.Tiles.{CanTile};
 ghost use Rattle.tile_list.specs.TilesView.{IsTileListOf};
-ghost use Rattle.kernel_runs.specs.Running.{AreExecuted};
 ghost use Rattle.kernel_runs.specs.steps.Rows.{Begins, Executes};
 
+use crate::counters::{counters_of, run_with_counters};
+use crate::pairs::{edges_of, pairs_in};
 use crate::rows::{append_all, give_back, give_first, take_first};
 use crate::workers::Workers;
 use data_text::Case;
@@ -27,14 +31,17 @@ use scop_syntax::tree::Kernel;
 use std::alloc::{AllocError, Global};
 use stmt_table::table::Table;
 use tile_core::plan::Plan;
+use tile_edges::TileEdges;
 use tile_list::laws::{orders_rise_by_tile, tiles_are_counted};
 use tile_list::{TileList, tiles};
 
-/// How many tiles hold an instance, and how many waves hold such a tile.
+/// How many tiles hold an instance, how many waves hold such a tile, and, where tiles were released one by one, how many
+/// pairs there are of which the second waits for the first.
 #[derive(Clone, Copy)]
 pub struct Counts {
     pub tiles: u64,
     pub waves: u64,
+    pub edges: Option<u64>,
 }
 
 /// The tiles of what a plan's tree visits.
@@ -68,6 +75,7 @@ pub fn plan_of<'a>(
     tree: &'a Tree,
     tiling: &'a Tiling,
     list: &'a TileList,
+    edges: Option<&'a TileEdges>,
 ) -> Plan<'a>
     requires limits { WithinLimits (program_of kernel.now) case.now.params.items }
     requires laid { case.now.extents ≡ layout (program_of kernel.now) case.now.params.items }
@@ -75,6 +83,9 @@ pub fn plan_of<'a>(
     requires trees { AreTreesOf (program_of kernel.now) (tiling_of tiling.now) (trees_in tree.now) }
     requires table { IsTableOf (program_of kernel.now) case.now.params.items table.now }
     requires tiles { IsTileListOf (trees_in tree.now) case.now.params.items (tiling_of tiling.now) list.now }
+    requires edges { MatchOption edges ⊤ (λ e.
+        AreEdgesOf (program_of kernel.now) case.now.params.items (tiling_of tiling.now) list.now e.now) }
+    requires room { MatchOption edges ⊤ (λ e. HaveRoom list.now e.now) }
     ensures plan { IsPlan result }
     ensures program { program_in result ≡ program_of kernel.now }
     ensures params { result.params.now ≡ case.now.params.items }
@@ -87,6 +98,7 @@ pub fn plan_of<'a>(
         table,
         tree,
         list,
+        edges,
     }
 }
 
@@ -104,29 +116,32 @@ fn run_row<W: Workers>(
 ) -> Result<(), AllocError>
     requires ready { W.ready by.now }
     requires plan { IsPlan plan }
-    requires cells { length (row.old.items ++ flat arrays.now) ≡ (shape_of plan).cells }
+    requires cells { length (row.old.items ++ flat arrays.now) ≡ (walk_shape plan).cells }
     requires some { 1 ≤ workers }
     requires few { workers ≤ 64 }
-    ensures executed { IfOk result (λ _. AreExecuted plan.entry (row.old.items ++ flat arrays.now) row.new.items) }
+    ensures executed { IfOk result (λ _. Executes (program_in plan.entry) plan.entry.params.now (extents_in plan.entry)
+        (row.old.items ++ flat arrays.now) row.new.items) }
     ensures begins { IfErr result (λ _. Begins row.old.items row.new.items) }
 {
-    append_all(row, arrays)?;
-    by.run(alloc, plan, row, workers)
+    append_all(row, arrays, counters_of(&plan).saturating_add(2))?;
+    run_with_counters(by, alloc, plan, row, workers)
 }
 
-/// How many tiles and waves a list has.
-fn counts_of(list: &TileList) -> Counts
+/// How many tiles and waves a list has, with so many pairs of tiles.
+fn counts_of(list: &TileList, edges: Option<u64>) -> Counts
     ensures tiles { result.tiles ≡ length list.now.tiles.items }
     ensures waves { result.waves ≡ length list.now.offsets.items - 1 }
+    ensures edges { result.edges ≡ edges }
 {
     Counts {
         tiles: list.tiles.len() as u64,
         waves: list.waves() as u64,
+        edges,
     }
 }
 
-/// Puts the cells of the case's arrays behind those of the row, and runs the case on them; tells how many tiles and
-/// waves it has.
+/// Puts the cells of the case's arrays behind those of the row, and runs the case on them; tells how many tiles, waves
+/// and pairs of tiles it has.
 ///
 /// # Errors
 /// `AllocError`; the row begins as it was.
@@ -138,6 +153,7 @@ fn run_shared<W: Workers>(
     row: &mut Vec<u64>,
     tree: &Tree,
     tiling: &Tiling,
+    release: bool,
     workers: u64,
 ) -> Result<Counts, AllocError>
     requires ready { W.ready by.now }
@@ -156,17 +172,21 @@ fn run_shared<W: Workers>(
         HasTiles (tiling_of tiling.now) (walked (program_of kernel.now) case.now.params.items) n.tiles) }
     ensures waves { IfOk result (λ n.
         HasWaves (tiling_of tiling.now) (walked (program_of kernel.now) case.now.params.items) n.waves) }
+    ensures edges { IfOk result (λ n. IsReleaseOf release (tiling_of tiling.now)
+        (walk_of (program_of kernel.now) case.now.params.items) n.edges) }
 {
     tiles_are_counted();
     let list = tiles_of(alloc, kernel, case, tree, tiling)?;
     let table = Table::of(alloc, kernel, &case.params, &case.extents)?;
-    let plan = plan_of(kernel, case, &table, tree, tiling, &list);
+    let pairs = edges_of(alloc, kernel, case, &table, tree, tiling, &list, release)?;
+    let plan = plan_of(kernel, case, &table, tree, tiling, &list, pairs.as_ref());
     run_row(by, alloc, plan, row, &case.arrays, workers as usize)?;
-    Ok(counts_of(&list))
+    Ok(counts_of(&list, pairs_in(&pairs)))
 }
 
 /// Runs a kernel's case by the tree of a plan, with so many workers; the arrays are then those of the kernel's own
-/// execution.
+/// execution. Where `release` is true, and there are not more than 2^22 pairs of tiles of which the second waits for the
+/// first, tiles are released one by one; else they are opened by waves.
 ///
 /// # Errors
 /// `AllocError`; the case is then as it was.
@@ -177,6 +197,7 @@ pub fn run_case<W: Workers>(
     case: &mut Case,
     tree: &Tree,
     tiling: &Tiling,
+    release: bool,
     workers: u64,
 ) -> Result<Counts, AllocError>
     requires ready { W.ready by.now }
@@ -193,6 +214,8 @@ pub fn run_case<W: Workers>(
         HasTiles (tiling_of tiling.now) (walked (program_of kernel.now) case.old.params.items) n.tiles) }
     ensures waves { IfOk result (λ n.
         HasWaves (tiling_of tiling.now) (walked (program_of kernel.now) case.old.params.items) n.waves) }
+    ensures edges { IfOk result (λ n. IsReleaseOf release (tiling_of tiling.now)
+        (walk_of (program_of kernel.now) case.old.params.items) n.edges) }
     ensures params { case.new.params.items ≡ case.old.params.items }
     ensures extents { case.new.extents ≡ case.old.extents }
     ensures shape { IsShaped case.new.extents case.new.arrays }
@@ -200,7 +223,9 @@ pub fn run_case<W: Workers>(
 {
     let mut row = take_first(alloc, &mut case.arrays);
     let first = row.len();
-    match run_shared(by, alloc, kernel, case, &mut row, tree, tiling, workers) {
+    match run_shared(
+        by, alloc, kernel, case, &mut row, tree, tiling, release, workers,
+    ) {
         Ok(counts) => {
             give_back(&mut case.arrays, row, first);
             Ok(counts)

@@ -1,10 +1,11 @@
 //! Plans run by a closure, and by workers who each have a thread.
 ghost use Rattle.std.specs.Prelude.{◌≡◌, ◌≤◌, ℕ, IfErr, IfOk, length};
-ghost use Rattle.tile_core.specs.Plans.{IsPlan, shape_of};
+ghost use Rattle.tile_core.specs.Plans.{HasRest, IsPlan, shape_of};
 ghost use Rattle.kernel_runs.specs.Running.{AreExecuted};
 
 use crate::workers::{OneWorker, Workers};
 use io_ports::Gate;
+use scop_syntax::execution_laws::cells_have_numbers_of_their_own;
 use std::alloc::{AllocError, Global};
 use std::sync::Wait;
 use std::thread::Threads;
@@ -20,7 +21,7 @@ pub struct By<F> {
 
 impl<F: Fn(Global, Plan, &mut Vec<u64>, usize) -> Result<(), AllocError>> Workers for By<F> {
     ghost ready = { λ by. (alloc : _) (plan : _) (cells : _) (workers : ℕ) → IsPlan plan
-        → length cells.now.items ≡ (shape_of plan).cells → 1 ≤ workers → workers ≤ 64
+        → length cells.now.items ≡ (shape_of plan).cells → HasRest plan cells.now.items → 1 ≤ workers → workers ≤ 64
         → F.pre by.run alloc plan cells workers
         × ((result : _) (after : _) → F.post by.run alloc plan cells workers result after
         → IfOk result (λ _. AreExecuted plan cells.now.items after.now.items)
@@ -52,11 +53,13 @@ pub fn run_on_threads<R: Threads + Wait + Sync, G: Gate>(
 ) -> Result<(), AllocError>
     requires plan { IsPlan plan }
     requires cells { length cells.old.items ≡ (shape_of plan).cells }
+    requires rest { HasRest plan cells.old.items }
     requires some { 1 ≤ workers }
     requires few { workers ≤ 64 }
     ensures arrays { IfOk result (λ _. AreExecuted plan.entry cells.old.items cells.new.items) }
     ensures unchanged { IfErr result (λ _. cells.new.items ≡ cells.old.items) }
 {
+    cells_have_numbers_of_their_own();
     if workers < 2 {
         return OneWorker.run(alloc, plan, cells, workers);
     }

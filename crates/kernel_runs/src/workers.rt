@@ -1,9 +1,10 @@
 //! Who runs the tiles of a plan, as a trait, and one worker by itself.
 ghost use Rattle.std.specs.Prelude.{◌≡◌, ◌≤◌, IfErr, IfOk, length};
-ghost use Rattle.tile_core.specs.Plans.{IsPlan, shape_of};
+ghost use Rattle.tile_core.specs.Plans.{HasRest, IsPlan, shape_of};
 ghost use Rattle.kernel_runs.specs.Running.{AreExecuted};
 
 use crate::alone::do_all;
+use scop_syntax::execution_laws::cells_have_numbers_of_their_own;
 use std::alloc::{AllocError, Global};
 use tile_core::cores::Core;
 use tile_core::plan::Plan;
@@ -15,7 +16,7 @@ pub trait Workers {
     ghost ready: { Self → Type 0 };
 
     /// Runs the plan on these cells with so many workers. Where the cells are those of all arrays, one array behind
-    /// another, they are left as the kernel's own execution leaves them.
+    /// another, with the counters behind them, they are left as the kernel's own execution leaves them.
     ///
     /// # Errors
     /// `AllocError`; the cells are then as they were.
@@ -29,6 +30,7 @@ pub trait Workers {
         requires ready { ready self.now }
         requires plan { IsPlan plan }
         requires cells { length cells.old.items ≡ (shape_of plan).cells }
+        requires rest { HasRest plan cells.old.items }
         requires some { 1 ≤ workers }
         requires few { workers ≤ 64 }
         ensures arrays { IfOk result (λ _. AreExecuted plan.entry cells.old.items cells.new.items) }
@@ -50,6 +52,7 @@ impl Workers for OneWorker {
         _workers: usize,
     ) -> Result<(), AllocError> {
         plans_execute_the_kernel();
+        cells_have_numbers_of_their_own();
         let mut core = Core::of(alloc, &plan, cells, 1)?;
         do_all(&mut core, &plan);
         *cells = core.into_cells();

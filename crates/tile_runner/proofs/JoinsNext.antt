@@ -6,13 +6,13 @@ use Rattle.stmt_table.specs.Codes.{leaves_at}
 use Rattle.stmt_table.specs.Joins.{IsJoinAt, joined_by}
 use Rattle.stmt_table.specs.declared.join.JoinLanes.{JoinLanes}
 use Rattle.stmt_table.specs.declared.lane.Lane.{Lane}
-use Rattle.tile_core.specs.Plans.{IsPlan, plan_of}
+use Rattle.tile_core.specs.Plans.{IsPlan, walk_plan}
 use Rattle.tile_core.specs.Rows.{IsRowAt}
 use Rattle.tile_core.specs.declared.plan.Plan.{Plan}
 use Rattle.tile_core.specs.declared.view.View.{View}
 use Rattle.tile_core.specs.declared.words.Words.{Words}
 use Rattle.tile_core.specs.declared.worker.Stage.{Stage}
-use Rattle.tile_core.specs.Passes.{plan_in}
+use Rattle.tile_core.specs.Passes.{walk_in}
 use Rattle.array_words.specs.Loads.{IsNextRead}
 use Rattle.array_words.specs.Seats.{IsSeat}
 use Rattle.array_words.specs.Stores.{IsNextStore}
@@ -30,7 +30,7 @@ module _ (plan : Plan) (s : Stage) (lanes : JoinLanes) (a : AreJoined plan s lan
   -- where its first n reads are known, the next one is that of lane n + 1
   pub lane_read : (cells xs : List ℕ) (n : ℕ) (lane : Lane) → length xs ≡ n → n < 3
       → slice_get (lanes.place ∷ lanes.first ∷ lanes.second ∷ lanes.third ∷ []) (n + 1) ≡ Some lane
-      → IsNextRead (plan_of plan cells) s xs lane.at
+      → IsNextRead (walk_plan plan cells) s xs lane.at
   lane_read cells xs n lane long less there =
       let reads = a.are.laid.joins.reads in
       next_read plan s a.row Laid a.are cells xs n lane.at tells long (omega (arith, less, reads))
@@ -38,7 +38,7 @@ module _ (plan : Plan) (s : Stage) (lanes : JoinLanes) (a : AreJoined plan s lan
 
   -- where all are known, it stores what the join makes of them
   pub lane_store : (cells : List ℕ) (x y z : ℕ)
-      → IsNextStore (plan_of plan cells) s (x ∷ y ∷ z ∷ []) lanes.place.at (joined_by lanes.join x y z)
+      → IsNextStore (walk_plan plan cells) s (x ∷ y ∷ z ∷ []) lanes.place.at (joined_by lanes.join x y z)
   lane_store cells x y z =
       next_store plan s a.row Laid a.are cells (x ∷ y ∷ z ∷ []) lanes.place.at (joined_by lanes.join x y z) tells
       (sym a.are.laid.joins.reads) (λ form told. (a.are.laid.cells.each 0 form lanes.place told refl).at)
@@ -53,14 +53,14 @@ module _ (words : Words) (s : Stage) (xs : List ℕ) (seat : Seat (Unit {0}) Vie
       (subst (λ (ys : List ℕ). IsSeat words seat.me.0.stage (ys ++ r ∷ []) new) is.reads after)
 
   -- what comes next, told of where the seat stands
-  pub reads_next : (c : ℕ) → IsNextRead (plan_in words) s xs c
-      → IsNextRead (plan_in words) seat.me.0.stage seat.me.0.reads c
+  pub reads_next : (c : ℕ) → IsNextRead (walk_in words) s xs c
+      → IsNextRead (walk_in words) seat.me.0.stage seat.me.0.reads c
   reads_next c next =
-      subst (λ (u : Stage). IsNextRead (plan_in words) u seat.me.0.reads c) (sym is.stage)
-      (subst (λ (ys : List ℕ). IsNextRead (plan_in words) s ys c) (sym is.reads) next)
+      subst (λ (u : Stage). IsNextRead (walk_in words) u seat.me.0.reads c) (sym is.stage)
+      (subst (λ (ys : List ℕ). IsNextRead (walk_in words) s ys c) (sym is.reads) next)
 
-  pub stores_next : (c x : ℕ) → IsNextStore (plan_in words) s xs c x
-      → IsNextStore (plan_in words) seat.me.0.stage seat.me.0.reads c x
+  pub stores_next : (c x : ℕ) → IsNextStore (walk_in words) s xs c x
+      → IsNextStore (walk_in words) seat.me.0.stage seat.me.0.reads c x
   stores_next c x next =
-      subst (λ (u : Stage). IsNextStore (plan_in words) u seat.me.0.reads c x) (sym is.stage)
-      (subst (λ (ys : List ℕ). IsNextStore (plan_in words) s ys c x) (sym is.reads) next)
+      subst (λ (u : Stage). IsNextStore (walk_in words) u seat.me.0.reads c x) (sym is.stage)
+      (subst (λ (ys : List ℕ). IsNextStore (walk_in words) s ys c x) (sym is.reads) next)

@@ -15,7 +15,7 @@ use Rattle.stmt_table.specs.Desks.{HasSameRoom, IsLaid}
 use Rattle.stmt_table.specs.declared.desk.Desk.{Desk}
 use Rattle.stmt_table.specs.declared.table.Row.{Row}
 use Rattle.stmt_table.proofs.Desks.{room_stays, room_stays_for_all}
-use Rattle.tile_core.specs.Plans.{IsPlan, places_in, plan_of, shape_of}
+use Rattle.tile_core.specs.Plans.{IsPlan, places_in, walk_plan, walk_shape}
 use Rattle.tile_core.specs.Ranks.{place_in}
 use Rattle.tile_core.specs.Rows.{IsFormed, IsRowAt}
 use Rattle.tile_core.specs.Stretches.{IsAhead, moved}
@@ -82,17 +82,17 @@ fewer_laid plan s row Laid count n few a =
 
 module _ (plan : Plan) (s : Stage) (row : Row) (Laid : List ℤ → List ℤ → Type 0) (a : AreNext plan s row Laid 1) where
   -- the place of the first
-  first_place : place_in (places_in plan) a.first ≡ (shape_of plan).place a.tile a.done
-  first_place = a.place 0 (omega arith) ∙ ap ((shape_of plan).place a.tile) (let q : a.done + 0 ≡ a.done = omega arith in q)
+  first_place : place_in (places_in plan) a.first ≡ (walk_shape plan).place a.tile a.done
+  first_place = a.place 0 (omega arith) ∙ ap ((walk_shape plan).place a.tile) (let q : a.done + 0 ≡ a.done = omega arith in q)
 
   pub first_tells : RowsTell → IsPlan plan → IsRowAt plan row a.first
   first_tells law is = law plan a.first row is (a.walked 0 (omega arith)) a.own
 
   -- where its first n reads are known, the next one is that of access n + 1
   pub next_read : (cells xs : List ℕ) (n c : ℕ) → IsRowAt plan row a.first → length xs ≡ n → n < row.code.reads
-      → IsFormed row a.first (n + 1) c → IsNextRead (plan_of plan cells) s xs c
+      → IsFormed row a.first (n + 1) c → IsNextRead (walk_plan plan cells) s xs c
   next_read cells xs n c tells long less formed =
-      let p = plan_of plan cells in
+      let p = walk_plan plan cells in
       let within = a.within in
       let reads = tells.reads ∙ ap (λ j. length (p.read j)) first_place in
       let at = tells.read n c less (subst (λ (m : ℕ). IsFormed row a.first m c) (let q : n + 1 ≡ suc n = omega arith in q) formed)
@@ -102,9 +102,9 @@ module _ (plan : Plan) (s : Stage) (row : Row) (Laid : List ℤ → List ℤ →
 
   -- where all are known, it stores what the code makes of them in the cell of access 0
   pub next_store : (cells xs : List ℕ) (c x : ℕ) → IsRowAt plan row a.first → length xs ≡ row.code.reads
-      → IsFormed row a.first 0 c → x ≡ value_by row.code a.first.turns xs → IsNextStore (plan_of plan cells) s xs c x
+      → IsFormed row a.first 0 c → x ≡ value_by row.code a.first.turns xs → IsNextStore (walk_plan plan cells) s xs c x
   next_store cells xs c x tells long formed made =
-      let p = plan_of plan cells in
+      let p = walk_plan plan cells in
       let within = a.within in
       subst (λ (u : Stage). IsNextStore p u xs c x) (sym a.works) (
         omega (arith, within),
@@ -132,7 +132,7 @@ others_laid plan s row Old New n a on =
       laid = on a.steps x.turns a.laid;
       walked = λ j l. subst (λ (y : Instance). In y (places_in plan)) (sym (along j)) (a.walked (suc j) (omega (arith, l)));
       place = λ j l. ap (place_in (places_in plan)) (along j) ∙ (a.place (suc j) (omega (arith, l))
-          ∙ ap ((shape_of plan).place a.tile) (let q : a.done + suc j ≡ suc a.done + j = omega arith in q));
+          ∙ ap ((walk_shape plan).place a.tile) (let q : a.done + suc j ≡ suc a.done + j = omega arith in q));
     }
 
 -- where a stage at work stands, with nothing more done

@@ -1,9 +1,14 @@
 -- Passes before and after a run.
-use Rattle.std.proofs.Common.{◌≡◌, ◌∙◌, ℕ, suc, List, [], ◌∷◌, ◌++◌, take, drop, All, length, ap, refl, arith}
-use Rattle.tile_events.specs.Sound.{total}
+use Rattle.std.proofs.Common.{◌≡◌, ◌∙◌, ◌<◌, ℕ, suc, List, [], ◌∷◌, ◌++◌, take, drop, All, length, ap, refl, sym}
+use Rattle.std.proofs.Common.{subst, arith}
+use Rattle.tile_events.specs.Sound.{Holds, total}
+use Rattle.tile_core.specs.Passes.{IsPass}
+use Rattle.tile_core.specs.Plans.{shape_of}
+use Rattle.tile_core.specs.Workers.{staged}
+use Rattle.tile_core.specs.declared.worker.Stage.TheVariants.{Working}
 use Rattle.tile_core.specs.declared.words.Words.{Words}
 use Rattle.tile_core.specs.declared.words.Pass.{Pass}
-use Rattle.array_words.specs.Closing.{one_if_ended, stage_in}
+use Rattle.array_words.specs.Closing.{IsResting, Rests, one_if_ended, stage_in}
 use Rattle.tile_runner.specs.Running.{IsOver}
 
 -- where all passes have ended they are counted all
@@ -22,10 +27,31 @@ rewritten [] (y ∷ ys) e = absurd (omega (arith, e))
 rewritten (x ∷ xs) [] e = absurd (omega (arith, e))
 rewritten (x ∷ xs) (y ∷ ys) e = ap (λ zs. x ∷ zs) (rewritten xs ys (omega (arith, e)))
 
+whole : (old new : List Pass) (n : ℕ) → n ≡ length old → length new ≡ length old
+    → take n (new ++ drop (length new) old) ≡ new
+whole old new n is same = ap (λ (m : ℕ). take m (new ++ drop (length new) old)) is ∙ rewritten new old same
+
 -- where each pass of so many was replaced by one that has ended, all have
 pub all_count : (words : Words) (old new : List Pass) (n : ℕ) → n ≡ length old → length new ≡ length old
     → All (IsOver words) new
     → total (λ p. one_if_ended (stage_in p)) (take n (new ++ drop (length new) old)) ≡ length old
 all_count words old new n is same over =
-    let whole = ap (λ (m : ℕ). take m (new ++ drop (length new) old)) is ∙ rewritten new old same in
-    ap (total (λ (p : Pass). one_if_ended (stage_in p))) whole ∙ (all_over words new over ∙ same)
+    ap (total (λ (p : Pass). one_if_ended (stage_in p))) (whole old new n is same) ∙ (all_over words new over ∙ same)
+
+-- all are passes of the words
+pub all_passes : (words : Words) (old new : List Pass) (n : ℕ) → n ≡ length old → length new ≡ length old
+    → All (IsOver words) new → All (IsPass words) (take n (new ++ drop (length new) old))
+all_passes words old new n is same over =
+    subst (All (IsPass words)) (sym (whole old new n is same)) (λ k d l. (over k d l).is)
+
+-- and hold no tile
+pub all_rest : (words : Words) (old new : List Pass) (n : ℕ) → n ≡ length old → length new ≡ length old
+    → All (IsOver words) new → All IsResting (take n (new ++ drop (length new) old))
+all_rest words old new n is same over =
+    subst (All IsResting) (sym (whole old new n is same)) (λ k d l. subst Rests (sym (over k d l).ended) tt)
+
+-- the tile in which a pass works is one of the plan's
+pub works_within : (words : Words) (pass : Pass) (t k : ℕ) → IsPass words pass → pass.worker.stage ≡ Working t k
+    → t < (shape_of words.plan).tiles
+works_within words pass t k is works =
+    is.worker.tile t (subst (λ s. Holds (staged s pass.worker.reads.items) t) (sym works) refl)

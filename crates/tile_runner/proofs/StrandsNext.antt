@@ -8,7 +8,7 @@ use Rattle.loop_tree.specs.declared.spot.Spot.{Spot}
 use Rattle.loop_tree.specs.declared.stretch.Stretch.{Stretch}
 use Rattle.stmt_table.specs.declared.desk.Desk.{Desk}
 use Rattle.stmt_table.specs.declared.table.Row.{Row}
-use Rattle.tile_core.specs.Plans.{places_in, shape_of}
+use Rattle.tile_core.specs.Plans.{places_in, walk_shape}
 use Rattle.tile_core.specs.Ranks.{place_in}
 use Rattle.tile_core.specs.Strands.{AreLaid, IsRoundAt}
 use Rattle.tile_core.specs.Stretches.{IsWoven, in_round, moved}
@@ -24,7 +24,7 @@ use Rattle.tile_runner.specs.Laid.{AreOnDesk, AreStrandsNext}
 pub strand_next : (plan : Plan) (b : Braid) (desks : List Desk) (i : ℕ) (s : Stretch) (desk : Desk) (row : Row)
     → AreDesks plan.table.now desks → b.count ≤ 4 → i < b.count → slice_get b.strands i ≡ Some s
     → desk ≡ get_or desks i desk → slice_get plan.table.now.rows.items s.before.statement ≡ Some row
-    → (stage : Stage) (round t k : ℕ) → stage ≡ Working t (k + i) → k + b.count ≤ (shape_of plan).size t
+    → (stage : Stage) (round t k : ℕ) → stage ≡ Working t (k + i) → k + b.count ≤ (walk_shape plan).size t
     → IsRoundAt plan b round t k → AreLaid plan.table.now b i b.count round desks → AreOnDesk plan stage row desk 1
 strand_next plan b desks i s desk row are few less there is has stage round t k works within here laid =
     let x = in_round s round in
@@ -44,9 +44,9 @@ strand_next plan b desks i s desk row are few less there is has stage round t k 
           subst (λ (n : ℕ). In (moved x steps n) (places_in plan)) (let q : 0 ≡ j = omega (arith, l) in q)
           (here.walked i s less there);
       place = λ j l.
-          subst (λ (n : ℕ). place_in (places_in plan) (moved x steps n) ≡ (shape_of plan).place t ((k + i) + n))
+          subst (λ (n : ℕ). place_in (places_in plan) (moved x steps n) ≡ (walk_shape plan).place t ((k + i) + n))
           (let q : 0 ≡ j = omega (arith, l) in q)
-          (here.place i s less there ∙ ap ((shape_of plan).place t) (let q : k + i ≡ (k + i) + 0 = omega arith in q));
+          (here.place i s less there ∙ ap ((walk_shape plan).place t) (let q : k + i ≡ (k + i) + 0 = omega arith in q));
     }
 
 -- a round before the last of so many ends before they do

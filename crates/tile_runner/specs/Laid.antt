@@ -9,7 +9,7 @@ use Rattle.stmt_table.specs.Joins.{IsJoinAt}
 use Rattle.stmt_table.specs.declared.desk.Desk.{Desk}
 use Rattle.stmt_table.specs.declared.join.JoinLanes.{JoinLanes}
 use Rattle.stmt_table.specs.declared.table.Row.{Row}
-use Rattle.tile_core.specs.Plans.{places_in, shape_of}
+use Rattle.tile_core.specs.Plans.{places_in, walk_shape}
 use Rattle.tile_core.specs.Ranks.{place_in}
 use Rattle.tile_core.specs.Strands.{IsRound}
 use Rattle.tile_core.specs.Stretches.{moved}
@@ -23,14 +23,14 @@ pub record AreNext (plan : Plan) (s : Stage) (row : Row) (Laid : List ℤ → Li
   pub tile : ℕ
   pub done : ℕ
   pub works : s ≡ Working tile done
-  pub within : done + count ≤ (shape_of plan).size tile
+  pub within : done + count ≤ (walk_shape plan).size tile
   pub first : Instance
   pub steps : List ℤ
   pub own : slice_get plan.table.now.rows.items first.number ≡ Some row
   pub laid : Laid steps first.turns
   pub walked : (j : ℕ) → j < count → In (moved first steps j) (places_in plan)
   pub place : (j : ℕ) → j < count
-      → place_in (places_in plan) (moved first steps j) ≡ (shape_of plan).place tile (done + j)
+      → place_in (places_in plan) (moved first steps j) ≡ (walk_shape plan).place tile (done + j)
 
 -- a desk with room stands at these turns and goes on by these steps
 abbrev pub IsOnDesk : Row → Desk → List ℤ → List ℤ → Type 0
@@ -51,5 +51,5 @@ pub record AreStrandsNext (plan : Plan) (s : Stage) (b : Braid) (desks : List De
   pub tile : ℕ
   pub done : ℕ
   pub works : s ≡ Working tile done
-  pub within : done + b.count ≤ (shape_of plan).size tile
+  pub within : done + b.count ≤ (walk_shape plan).size tile
   pub is : IsRound plan b round tile done desks

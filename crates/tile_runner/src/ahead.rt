@@ -1,7 +1,7 @@
 //! What a pass has ahead at once, done by the steps of its seat and then passed by: instances along a stretch, or whole
 //! rounds of a braid.
 ghost use Rattle.std.specs.Prelude.{◌≡◌, ◌+◌, ◌<◌, ◌≤◌, [], ℕ};
-ghost use Rattle.tile_core.specs.Passes.{IsPass, plan_in};
+ghost use Rattle.tile_core.specs.Passes.{IsPass, walk_in};
 ghost use Rattle.tile_core.specs.Stretches.{IsAhead, IsWoven};
 ghost use Rattle.tile_core.specs.Workers.{HasNoneDue};
 ghost use Rattle.tile_core.specs.declared.worker.Stage.TheVariants.{Working};
@@ -33,7 +33,7 @@ fn do_woven(words: &Words, pass: &mut Pass, rounds: usize) -> usize
     requires woven { IsWoven words.now.plan pass.old.worker.stage pass.old.worker.next pass.old.worker.spot rounds }
     requires reads { pass.old.worker.reads.items ≡ [] }
     ensures some { 0 < result }
-    ensures within { (t k : ℕ) → pass.old.worker.stage ≡ Working t k → k + result ≤ (plan_in words.now).size t }
+    ensures within { (t k : ℕ) → pass.old.worker.stage ≡ Working t k → k + result ≤ (walk_in words.now).size t }
     ensures stage { (t k : ℕ) → pass.old.worker.stage ≡ Working t k
         → pass.new.worker.stage ≡ Working t (k + result) }
     ensures reads { pass.new.worker.reads.items ≡ [] }
@@ -51,7 +51,7 @@ pub(crate) fn do_ahead(words: &Words, pass: &mut Pass) -> usize
     requires reads { pass.old.worker.reads.items ≡ [] }
     ensures none { result ≡ 0 → HasNoneDue words.now.plan pass.old.worker.stage }
     ensures within { (t k : ℕ) → pass.old.worker.stage ≡ Working t k → 0 < result
-        → k + result ≤ (plan_in words.now).size t }
+        → k + result ≤ (walk_in words.now).size t }
     ensures stage { (t k : ℕ) → pass.old.worker.stage ≡ Working t k
         → pass.new.worker.stage ≡ Working t (k + result) }
     ensures reads { pass.new.worker.reads.items ≡ [] }

@@ -1,7 +1,7 @@
-//! The workers of a run: each claims tiles, opens each in its wave, does its instances and finishes it, until the claims
-//! run out, and all of them do so at once, each on its own pass (U. Bondhugula and others, "A practical automatic
-//! polyhedral parallelizer and locality optimizer", PLDI 2008). The cells end as execution leaves them, for any number of
-//! workers.
+//! The workers of a run: each claims tiles, opens each in its wave or once all for which it waits have released it, does
+//! its instances, releases the tiles that wait for it and finishes it, until the claims run out, and all of them do so at
+//! once, each on its own pass (U. Bondhugula and others, "A practical automatic polyhedral parallelizer and locality
+//! optimizer", PLDI 2008). The cells end as execution leaves them, for any number of workers.
 #![tactic(auto)]
 
 mod ahead;
@@ -12,4 +12,4 @@ mod stretches;
 mod working;
 
 pub use running::run_plan;
-pub use working::{do_tile, work};
+pub use working::{do_tile, is_opened, release_all, work};

@@ -3,8 +3,7 @@ ghost use Rattle.array_words.specs.Closing.{IsClosed};
 ghost use Rattle.std.specs.Prelude.{◌≡◌, ℕ, ◌<◌, ◌≤◌, All, IfErr, IfOk, List, get_or, length};
 ghost use Rattle.scop_syntax.specs.Cells.{Cell};
 ghost use Rattle.scop_syntax.specs.Execution.{IsCell, IsShaped, cell_number, exec, held};
-ghost use Rattle.tile_core.specs.Plans.{IsPlan, extents_in, plan_of, program_in, shape_of};
-ghost use Rattle.tile_events.specs.Flat.{flat};
+ghost use Rattle.tile_core.specs.Plans.{HasRest, HoldsContents, IsPlan, extents_in, plan_of, program_in, shape_of};
 ghost use Rattle.tile_runner.specs.Running.{IsOver, IsReady};
 
 use crate::working::work;
@@ -16,8 +15,10 @@ use std::sync::Wait;
 use std::thread;
 use std::thread::Threads;
 use tile_core::plan::Plan;
+use tile_core::plan_laws::{plans_execute_the_kernel, walks_are_dealt};
 use tile_core::words::{Pass, Words};
 use tile_events::flat_laws::plans_execute_the_walk;
+use tile_events::release_laws::pairs_make_plans;
 
 /// Runs every pass, on at most so many threads.
 fn work_all<R: Threads + Wait + Sync, G: Gate>(
@@ -54,6 +55,7 @@ fn run_passes<'a, R: Threads + Wait + Sync, G: Gate>(
 ) -> Result<Closed<'a>, AllocError>
     requires plan { IsPlan plan }
     requires cells { length cells.old.items ≡ (shape_of plan).cells }
+    requires rest { HasRest plan cells.old.items }
     requires some { 1 ≤ workers }
     requires few { workers ≤ 64 }
     ensures cells { IfOk result (λ _. IsClosed (plan_of plan.entry cells.old.items) cells.old.items cells.new.items) }
@@ -67,8 +69,8 @@ fn run_passes<'a, R: Threads + Wait + Sync, G: Gate>(
 }
 
 /// Runs the plan on these cells with so many workers, each on a thread where there is one. All memory is taken before
-/// the first claim. Where the cells are those of all arrays, one array behind another, each is left as the kernel's own
-/// execution leaves it.
+/// the first claim. Where the cells are those of all arrays, one array behind another, and the counters of tiles, which are
+/// 0, stand behind them where tiles are released one by one, each is left as the kernel's own execution leaves it.
 ///
 /// # Errors
 /// `AllocError`; the cells are then as they were.
@@ -82,10 +84,11 @@ pub fn run_plan<'a, R: Threads + Wait + Sync, G: Gate>(
 ) -> Result<Closed<'a>, AllocError>
     requires plan { IsPlan plan }
     requires cells { length cells.old.items ≡ (shape_of plan).cells }
+    requires rest { HasRest plan cells.old.items }
     requires some { 1 ≤ workers }
     requires few { workers ≤ 64 }
     ensures arrays { IfOk result (λ _. (contents : List (List ℕ)) → IsShaped (extents_in plan.entry) contents
-        → cells.old.items ≡ flat contents → (c : Cell) → IsCell (extents_in plan.entry) c
+        → HoldsContents contents cells.old.items → (c : Cell) → IsCell (extents_in plan.entry) c
         → get_or cells.new.items (cell_number (extents_in plan.entry) c) 0
         ≡ held (extents_in plan.entry) (exec (program_in plan.entry) plan.entry.params.now contents) c) }
     ensures cells { IfOk result (λ _. IsClosed (plan_of plan.entry cells.old.items) cells.old.items cells.new.items) }
@@ -93,7 +96,10 @@ pub fn run_plan<'a, R: Threads + Wait + Sync, G: Gate>(
     ensures ended { IfOk result (λ c. c.ended ≡ workers) }
     ensures unchanged { IfErr result (λ _. cells.new.items ≡ cells.old.items) }
 {
+    walks_are_dealt();
+    plans_execute_the_kernel();
     plans_execute_the_walk();
+    pairs_make_plans();
     cells_have_numbers_of_their_own();
     run_passes(rt, alloc, plan, cells, workers, gate)
 }

@@ -1,2 +1,5 @@
+pub mod Counters
+pub mod NoReads
 pub mod Openings
+pub mod Releases
 pub mod Finishes

@@ -10,7 +10,7 @@ use Rattle.tile_core.specs.declared.words.Words.{Words}
 use Rattle.tile_core.specs.declared.words.Pass.{Pass}
 use Rattle.tile_core.specs.Views.{at_stage, behind}
 
--- every instance of the tile is done
+-- every act of the tile is done: its instances, and the releases of the tiles that wait for it
 abbrev pub IsFull : plain.Plan → Stage → Type 0
 IsFull p Idle = ⊥
 IsFull p Ended = ⊥

@@ -9,6 +9,8 @@ use Rattle.tile_core.specs.declared.words.Words.{Words}
 use Rattle.tile_core.specs.declared.words.Pass.{Pass}
 use Rattle.tile_core.specs.Views.{at_stage, behind, plan_at, tile_at, needs_at}
 use Rattle.tile_core.specs.Passes.{plan_in}
+use Rattle.tile_events.specs.Rule.{gate_word}
+use Rattle.wave_barrier.specs.declared.counting.Short.{Short}
 use Rattle.wave_barrier.specs.declared.opening.NotYet.{NotYet}
 
 -- it holds a tile that it has not opened
@@ -32,3 +34,20 @@ abbrev pub DoesOpen : Words → Pass → Result ⊤ NotYet → Pass → Type 0
 DoesOpen words old result new =
     (r : ℕ) × Opens (step words.table.shared.table_id.slots 1 0 0 plain_option.none) old.seat.me r new.seat.me
     × OpenedBy (needs_at (plan_in words) old.worker.stage) r result
+
+-- Ok exactly where the counter holds at least as much as it has to
+abbrev pub FilledBy : ℕ → ℕ → Result ⊤ Short → Type 0
+FilledBy needs r (Ok x) = needs ≤ r
+FilledBy needs r (Err e) = (r < needs) × (e.seen ≡ r) × (e.needs ≡ needs)
+
+-- an opening by this word is its event on the pass's own view
+abbrev pub DoesOpenBy : Words → Pass → ℕ → ℕ → Result ⊤ Short → Pass → Type 0
+DoesOpenBy words old word needs result new =
+    (r : ℕ) × Opens (step words.table.shared.table_id.slots word 0 0 plain_option.none) old.seat.me r new.seat.me
+    × FilledBy needs r result
+
+-- so where the word is that of the tile's own counter
+abbrev pub DoesOpenTile : Words → Pass → Result ⊤ Short → Pass → Type 0
+DoesOpenTile words old result new =
+    DoesOpenBy words old (gate_word (plan_in words).gate (tile_at old.worker.stage))
+    (needs_at (plan_in words) old.worker.stage) result new

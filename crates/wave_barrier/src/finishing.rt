@@ -19,8 +19,8 @@ impl Play<(), View> for Finishing {
     ghost then = { Finishes };
 }
 
-/// Counts the tile that the pass holds as finished, where every instance of it is done, and gives it up. It takes no
-/// memory and waits for nobody.
+/// Counts the tile that the pass holds as finished, where every instance of it is done and every tile that waits for it
+/// released, and gives it up. It takes no memory and waits for nobody.
 #[inline]
 pub fn finish(words: &Words, pass: &mut Pass)
     requires pass { IsPass words.now pass.old }

@@ -1,8 +1,10 @@
-//! The opening of a tile: one load of word 1, which counts the finished ones.
-ghost use Rattle.std.specs.Prelude.{◌≡◌, ◌<◌, IfErr, IfOk, []};
-ghost use Rattle.tile_core.specs.Passes.{IsPass, plan_in};
+//! The opening of a tile by waves: one load of word 1, which counts the finished ones.
+ghost use Rattle.std.specs.Prelude.{◌≡◌, ◌<◌, IfErr, IfOk, None, []};
+ghost use Rattle.tile_core.specs.Passes.{IsPass, IsWords, plan_in};
+ghost use Rattle.tile_core.specs.Plans.{shape_of};
 ghost use Rattle.tile_core.specs.Views.{needs_at, tile_at};
 ghost use Rattle.tile_core.specs.declared.worker.Stage.TheVariants.{Working};
+ghost use Rattle.tile_events.specs.Core.{needed_by};
 ghost use Rattle.wave_barrier.specs.Opens.{DoesOpen, IsHolding};
 
 use atomic_table::Play;
@@ -27,6 +29,15 @@ pub struct NotYet {
     pub needs: u64,
 }
 
+/// How much has to be seen before the tile is opened.
+pub(crate) fn needed(words: &Words, tile: u64) -> u64
+    requires words { IsWords words.now }
+    requires tile { tile < (shape_of words.now.plan).tiles }
+    ensures { result ≡ needed_by (plan_in words.now).gate (plan_in words.now) tile }
+{
+    words.plan.needs(tile)
+}
+
 /// Opens the tile that the pass holds, where all tiles of earlier waves are finished. It takes no memory and waits for
 /// nobody.
 ///
@@ -36,6 +47,7 @@ pub struct NotYet {
 pub fn try_open(words: &Words, pass: &mut Pass) -> Result<(), NotYet>
     requires pass { IsPass words.now pass.old }
     requires holding { IsHolding pass.old.worker.stage }
+    requires edges { words.now.plan.edges ≡ None }
     ensures pass { IsPass words.now pass.new }
     ensures opened { IfOk result (λ _. pass.new.worker.stage ≡ Working (tile_at pass.old.worker.stage) 0) }
     ensures reads { IfOk result (λ _. pass.new.worker.reads.items ≡ []) }
@@ -48,7 +60,7 @@ pub fn try_open(words: &Words, pass: &mut Pass) -> Result<(), NotYet>
     let Stage::Holding(tile) = pass.worker.stage else {
         unreachable!()
     };
-    let needs = words.plan.needs(tile);
+    let needs = needed(words, tile);
     let done = words.table.shared.load::<Opening>(&mut pass.seat, 1);
     if done < needs {
         return Err(NotYet { done, needs });

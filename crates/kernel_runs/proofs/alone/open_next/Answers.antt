@@ -1,9 +1,10 @@
-use Rattle.std.proofs.Common.{refl}
+use Rattle.std.proofs.Common.{subst, sym, ◌<◌}
 use Rattle.tile_core.specs.Boards.{seen_of}
-use Rattle.tile_core.specs.Cores.{state_in}
-use Rattle.tile_events.specs.Core.{open_tile}
+use Rattle.tile_core.specs.Cores.{plan_in, state_in}
+use Rattle.tile_core.specs.Plans.{shape_of}
+use Rattle.tile_core.specs.declared.plan.Plan.{Plan}
 use Rattle.kernel_runs.specs.steps.Alone.{shape_in}
-use Rattle.kernel_runs.proofs.Cores.{by_first, later_then}
+use Rattle.kernel_runs.proofs.Cores.{enough_seen, later_then}
 use Rattle.kernel_runs.proofs.Steps.{claims_alone, opens_alone}
 use Rattle.kernel_runs.proofs.alone.open_next.Goals as goal
 
@@ -16,10 +17,12 @@ returns-clause-alone c =
     let a = c.args.core.now in
     let b = c.act.new.core in
     let d = c.act-2.new.core in
-    let p = shape_in a in
     let t = c.args.tile in
-    opens_alone p (state_in b) (state_in d) (seen_of c.act-2.result) t refl c.requires.core.run.dealt.early
-    c.requires.tile
-    (by_first a b open_tile (state_in d, seen_of c.act-2.result) c.act.ensures.later c.act-2.ensures.step)
-    (claims_alone p (state_in a) (state_in b) (seen_of c.act.result) t c.requires.tile c.act.ensures.step
-    c.requires.alone)
+    let later = c.act.ensures.later in
+    let held = claims_alone (shape_in a) (state_in a) (state_in b) (seen_of c.act.result) t c.requires.tile
+    c.act.ensures.step c.requires.alone in
+    let less = subst (λ (p : Plan). t < (shape_of p).tiles) (sym later.plan) c.requires.tile in
+    opens_alone (shape_in b) (state_in b) (state_in d) (seen_of c.act-2.result) t
+    (enough_seen c.opened_tiles_were_released.ensures.filled (plan_in b) later.core.opening (state_in b) t
+    later.core.planned later.core.run less held)
+    c.act-2.ensures.step held

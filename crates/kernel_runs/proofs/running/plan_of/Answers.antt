@@ -1,4 +1,5 @@
 use Rattle.std.proofs.Common.{subst, sym, ℤ, List, []}
+use Rattle.std.specs.Prelude.{⊤, MatchOption}
 use Rattle.scop_syntax.specs.Execution.{IsInside}
 use Rattle.scop_syntax.specs.Limits.{WithinLimits, has_parameters}
 use Rattle.scop_syntax.specs.View.{program_of}
@@ -9,6 +10,7 @@ use Rattle.loop_tree.specs.TilingView.{tiling_of}
 use Rattle.loop_tree.specs.View.{trees_in}
 use Rattle.loop_tree.specs.Walk.{visits}
 use Rattle.stmt_table.specs.Tables.{IsTableOf}
+use Rattle.tile_edges.specs.Edges.{AreEdgesOf}
 use Rattle.tile_list.specs.TilesView.{IsTileListOf}
 use Rattle.kernel_runs.proofs.running.plan_of.Goals as goal
 
@@ -31,4 +33,7 @@ returns-clause-plan c =
       order = subst (λ (ps : List ℤ). AreInOrder program ps tiling (visits ts ps)) same carried.exact;
       good = subst (λ (ps : List ℤ). IsGoodPlan program ps tiling) same carried.good;
       tiles = subst (λ (ps : List ℤ). IsTileListOf ts ps tiling c.args.list.now) same c.requires.tiles;
+      edges = subst (λ (ps : List ℤ).
+          MatchOption c.args.edges ⊤ (λ e. AreEdgesOf program ps tiling c.args.list.now e.now)) same c.requires.edges;
+      room = c.requires.room;
     }

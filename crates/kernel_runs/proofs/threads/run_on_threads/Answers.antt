@@ -1,8 +1,15 @@
-use Rattle.std.proofs.Common.{◌∙◌}
+use Rattle.std.proofs.Common.{◌≤◌, arith, length}
+use Rattle.tile_core.specs.Plans.{shape_of}
 use Rattle.kernel_runs.proofs.FinalCells.{row_executed}
 use Rattle.kernel_runs.proofs.threads.run_on_threads.Goals as goal
 
 pub returns-in-Ok-clause-arrays : goal.returns-in-Ok-clause-arrays
-returns-in-Ok-clause-arrays g c = λ contents shape same.
-    row_executed c.args.plan contents c.run_plan.new.cells.items shape (c.in-Ok.ensures.cells.long ∙ c.requires.cells)
-    (c.in-Ok.ensures.arrays contents shape same)
+returns-in-Ok-clause-arrays g c = λ contents shape holds.
+    let new = c.run_plan.new.cells.items in
+    let long = c.in-Ok.ensures.cells.long in
+    let all = c.requires.cells in
+    let most : (shape_of c.args.plan).cells ≤ length new = omega (arith, long, all) in (
+      long,
+      row_executed c.cells_have_numbers_of_their_own.ensures.below c.args.plan contents new shape most
+          (c.in-Ok.ensures.arrays contents shape holds),
+    )

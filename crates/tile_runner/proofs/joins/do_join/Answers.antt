@@ -1,7 +1,7 @@
 use Rattle.std.proofs.Common.{[], ◌∷◌, arith, refl, subst, suc, sym}
 use Rattle.array_words.specs.Seats.{IsSeat}
 use Rattle.array_words.specs.Stores.{IsNextStore}
-use Rattle.tile_core.specs.Passes.{plan_in}
+use Rattle.tile_core.specs.Passes.{walk_in}
 use Rattle.tile_core.specs.Views.{done_at, tile_at}
 use Rattle.tile_core.specs.declared.worker.Stage.{Stage}
 use Rattle.tile_core.specs.declared.worker.Stage.TheVariants.{Working}
@@ -59,7 +59,7 @@ store_at-requires-clause-next c =
     let three = seat_read w s (x ∷ y ∷ []) c.load_at-second.new.seat two c.load_at-third.new.seat z
     c.load_at-third.ensures.seat in
     stores_next w s (x ∷ y ∷ z ∷ []) c.load_at-third.new.seat three lanes.place.at c.of-value.result
-    (subst (IsNextStore (plan_in w) s (x ∷ y ∷ z ∷ []) lanes.place.at) (sym c.of-value.ensures)
+    (subst (IsNextStore (walk_in w) s (x ∷ y ∷ z ∷ []) lanes.place.at) (sym c.of-value.ensures)
     (lane_store w.plan s lanes c.requires.laid c.rows_tell_instances.ensures.tells c.requires.seat.of.planned
     w.table.shared.key.cells.items x y z))
 

@@ -3,7 +3,7 @@ use Rattle.std.proofs.Math.Seq.{take-append_seam}
 use Rattle.tile_core.specs.declared.plan.Plan.{Plan}
 use Rattle.tile_core.specs.Plans.{plan_of}
 use Rattle.array_words.specs.Closing.{IsClosed}
-use Rattle.tile_runner.proofs.Passes.{all_count}
+use Rattle.tile_runner.proofs.Passes.{all_count, all_passes, all_rest}
 use Rattle.tile_runner.proofs.running.run_passes.Goals as goal
 
 pub close-requires-clause-over : goal.close-requires-clause-over
@@ -15,6 +15,20 @@ close-requires-clause-over g c =
     c.work_all.ensures.passes in
     let w = c.requires.some in
     omega (arith, t, k, w)
+
+pub close-requires-clause-passes : goal.close-requires-clause-passes
+close-requires-clause-passes g c =
+    let n : c.in_ok-words.passes.len ≡ length c.in_ok-words.passes.items = search rules in
+    let l : length c.work_all.new.passes ≡ length c.in_ok-words.passes.items = search rules in
+    all_passes c.in_ok-words.words c.in_ok-words.passes.items c.work_all.new.passes c.in_ok-words.passes.len n l
+    c.work_all.ensures.passes
+
+pub close-requires-clause-rest : goal.close-requires-clause-rest
+close-requires-clause-rest g c =
+    let n : c.in_ok-words.passes.len ≡ length c.in_ok-words.passes.items = search rules in
+    let l : length c.work_all.new.passes ≡ length c.in_ok-words.passes.items = search rules in
+    all_rest c.in_ok-words.words c.in_ok-words.passes.items c.work_all.new.passes c.in_ok-words.passes.len n l
+    c.work_all.ensures.passes
 
 pub returns-clause-ended : goal.returns-clause-ended
 returns-clause-ended g c =

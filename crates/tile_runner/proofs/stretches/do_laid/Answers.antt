@@ -2,7 +2,7 @@ use Rattle.std.proofs.Common.{◌≡◌, ◌∙◌, ℕ, ap, arith, subst, sym, 
 use Rattle.array_words.specs.Loads.{IsNextRead}
 use Rattle.array_words.specs.Stores.{IsNextStore}
 use Rattle.stmt_table.specs.Codes.{value_by}
-use Rattle.tile_core.specs.Passes.{plan_in}
+use Rattle.tile_core.specs.Passes.{walk_in}
 use Rattle.tile_core.specs.declared.worker.Stage.{Stage}
 use Rattle.tile_runner.specs.Laid.{IsOnDesk}
 use Rattle.tile_runner.proofs.Laid.{first_tells, next_read, next_store}
@@ -29,7 +29,7 @@ load_at-value-requires-clause-next c =
     c.rows_tell_instances.ensures.tells c.requires.seat.of.planned in
     let end = c.reads-read-end.ensures in
     let less = c.loop-read-test.true in
-    subst (λ (u : Stage). IsNextRead (plan_in w) u xs c.cell.result) (sym is.seat.stage)
+    subst (λ (u : Stage). IsNextRead (walk_in w) u xs c.cell.result) (sym is.seat.stage)
     (next_read w.plan s c.args.row.now (IsOnDesk c.args.row.now c.args.desk.now) a w.table.shared.key.cells.items xs
     c.loop-read.read c.cell.result tells is.count (omega (arith, end, less))
     (λ form e. c.cell.ensures a.steps a.first.turns form (is.laid a.steps a.first.turns a.laid.1) e))
@@ -66,7 +66,7 @@ store_at-requires-clause-next c =
     let laid = is.laid a.steps turns a.laid.1 in
     let values : take row.code.reads c.loop-read.desk.slots.items ≡ xs =
     ap (λ (n : ℕ). take n c.loop-read.desk.slots.items) (sym all) ∙ is.slots in
-    subst (λ (u : Stage). IsNextStore (plan_in w) u xs c.cell-2.result c.value-value.result) (sym is.seat.stage)
+    subst (λ (u : Stage). IsNextStore (walk_in w) u xs c.cell-2.result c.value-value.result) (sym is.seat.stage)
     (next_store w.plan s row (IsOnDesk row c.args.desk.now) a w.table.shared.key.cells.items xs c.cell-2.result
     c.value-value.result tells (is.count ∙ all)
     (λ form e. c.cell-2.ensures a.steps turns form (c.value-value.ensures.laid a.steps turns laid) e)

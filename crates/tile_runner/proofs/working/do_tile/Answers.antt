@@ -1,7 +1,7 @@
 use Rattle.std.proofs.Common.{◌≡◌, ◌∙◌, ◌+◌, ap, arith, sym}
 use Rattle.tile_core.specs.Views.{done_at}
 use Rattle.tile_core.specs.declared.worker.Stage.TheVariants.{Working}
-use Rattle.tile_core.specs.Passes.{plan_in}
+use Rattle.tile_core.specs.Passes.{walk_in}
 use Rattle.tile_runner.proofs.working.do_tile.Goals as goal
 
 pub returns-then-count-eq0-clause-stage : goal.returns-then-count-eq0-clause-stage
@@ -13,7 +13,7 @@ returns-then-count-eq0-clause-stage c =
     let zero = c.if-count-eq0.true in
     let none = did.none zero c.args.tile k is.stage in
     let within = is.within in
-    let all : k + n ≡ (plan_in c.args.words.now).size c.args.tile = omega (arith, none, within, zero) in
+    let all : k + n ≡ (walk_in c.args.words.now).size c.args.tile = omega (arith, none, within, zero) in
     did.stage c.args.tile k is.stage ∙ ap (Working c.args.tile) all
 
 pub loop-tile-preserved : goal.loop-tile-preserved

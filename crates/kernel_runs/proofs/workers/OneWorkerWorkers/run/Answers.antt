@@ -1,10 +1,12 @@
-use Rattle.std.proofs.Common.{◌∙◌}
+use Rattle.std.proofs.Common.{List, subst, sym, ℕ}
+use Rattle.kernel_runs.specs.Running.{AreExecuted}
 use Rattle.kernel_runs.proofs.FinalCells.{alone_executed}
 use Rattle.kernel_runs.proofs.workers.OneWorkerWorkers.run.Goals as goal
 
 pub returns-clause-arrays : goal.returns-clause-arrays
-returns-clause-arrays c = λ contents shape same.
-    c.into_cells.ensures
-    ∙ alone_executed c.plans_execute_the_kernel.ensures.end c.args.plan c.args.cells.now.items c.in_ok-core.core
-    c.do_all.new.core contents c.requires.plan c.in_ok-core.ensures.plan c.in_ok-core.ensures.run
-    c.do_all.ensures.later c.do_all.ensures.alone shape same
+returns-clause-arrays c =
+    subst (λ (xs : List ℕ). AreExecuted c.args.plan c.args.cells.now.items xs) (sym c.into_cells.ensures)
+    (alone_executed c.plans_execute_the_kernel.ensures.end c.plans_execute_the_kernel.ensures.row
+    c.cells_have_numbers_of_their_own.ensures.below c.args.plan c.args.cells.now.items c.in_ok-core.core
+    c.do_all.new.core c.requires.plan c.in_ok-core.ensures.plan c.in_ok-core.ensures.run c.do_all.ensures.later
+    c.do_all.ensures.alone c.requires.cells)
