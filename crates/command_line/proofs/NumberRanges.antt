@@ -24,10 +24,12 @@ use Rattle.clap.proofs.ValueTestLemmas.{accepts-Accepts}
 use Rattle.kernel_gen.specs.declared.kind.Kind.{Kind}
 use Rattle.command_line.specs.Command.{AreSized, HasSize, IsTaken, budget_of, command_met, command_named, command_of}
 use Rattle.command_line.specs.Command.{gen_named, kernel_command_named, kind_in, number_in, number_of}
-use Rattle.command_line.specs.Command.{run_options_in, kernel_of, usual_tile, usual_workers}
+use Rattle.command_line.specs.Command.{kernel_of, run_named, run_options_in, sync_in, usual_tile, usual_workers}
 use Rattle.command_line.specs.declared.command.Command.{Command}
 use Rattle.command_line.specs.declared.command.Command.TheVariants.{Check, Gen, OfKernel, Run}
 use Rattle.command_line.specs.declared.command.KernelCommand.TheVariants.{Certify, Deps, Emit, Schedule}
+use Rattle.command_line.specs.declared.command.Sync.{Sync}
+use Rattle.command_line.specs.declared.command.Sync.TheVariants.{Waves}
 use Rattle.command_line.specs.Stated.{most_moves, most_size, most_tile, most_workers, tool}
 use Rattle.command_line.proofs.NumberRows.{AreWithin, AsksOf, IsWithin, found_all, level_kept, none_behind}
 use Rattle.command_line.proofs.NumberRows.{none_front}
@@ -129,7 +131,7 @@ module _ (name : Text) (low high : ℕ) where
 -- what the stated command asks of its numbers
 workers_asked : ShapesAsk (codes "workers") 1 most_workers (built tool).subs
 workers_asked = (
-  ((refl, refl), (tt, (tt, (tt, (tt, tt))))),
+  ((refl, refl), (tt, (tt, (tt, (tt, (tt, tt)))))),
   (
     (tt, (tt, tt)),
     (
@@ -153,7 +155,7 @@ workers_asked = (
 
 tile_asked : ShapesAsk (codes "tile") 1 most_tile (built tool).subs
 tile_asked = (
-  (tt, ((refl, refl), (tt, (tt, (tt, tt))))),
+  (tt, ((refl, refl), (tt, (tt, (tt, (tt, tt)))))),
   (
     (tt, (tt, tt)),
     (
@@ -177,7 +179,7 @@ tile_asked = (
 
 budget_asked : ShapesAsk (codes "budget") 1 most_moves (built tool).subs
 budget_asked = (
-  (tt, (tt, ((refl, refl), (tt, (tt, tt))))),
+  (tt, (tt, ((refl, refl), (tt, (tt, (tt, tt)))))),
   (
     ((refl, refl), (tt, tt)),
     (
@@ -201,7 +203,7 @@ budget_asked = (
 
 size_asked : ShapesAsk (codes "size") 1 most_size (built tool).subs
 size_asked = (
-  (tt, (tt, (tt, (tt, (tt, tt))))),
+  (tt, (tt, (tt, (tt, (tt, (tt, tt)))))),
   (
     (tt, (tt, tt)),
     (
@@ -257,23 +259,30 @@ size_in rows within =
     number_range (codes "size") 1 most_size 1 rows (omega arith, omega arith)
     within.size
 
-options_sized : (rows : List Row) → AreInRange rows → AreSized (run_options_in rows)
-options_sized rows within =
+options_sized : (sync : Sync) (rows : List Row) → AreInRange rows → AreSized (run_options_in sync rows)
+options_sized sync rows within =
     let workers = workers_in rows within in
     let tile = tile_in rows within in
     record { workers_from = workers.0; workers_to = workers.1; tile_from = tile.0; tile_to = tile.1 }
+
+run_in_range : (rows : List Row) → AreInRange rows → IfSome (run_named rows) IsInRange
+run_in_range rows within = go (sync_in rows)
+  where
+    go : (sync : Option Sync) → IfSome (option_map (λ s. Run (run_options_in s rows)) sync) IsInRange
+    go None = tt
+    go (Some sync) = (options_sized sync rows within, (budget_in rows within).0, (budget_in rows within).1)
 
 gen_in_range : (rows : List Row) → AreInRange rows → IfSome (gen_named rows) IsInRange
 gen_in_range rows within = go (kind_in rows)
   where
     go : (kind : Option Kind)
-        → IfSome (option_map (λ generated. Gen generated (run_options_in rows)) (option_map (kernel_of rows) kind))
+        → IfSome (option_map (λ generated. Gen generated (run_options_in Waves rows)) (option_map (kernel_of rows) kind))
         IsInRange
     go None = tt
     go (Some kind) =
         let size = size_in rows within in
         let budget = budget_in rows within in
-        ((size.0, size.1, options_sized rows within), budget.0, budget.1)
+        ((size.0, size.1, options_sized Waves rows within), budget.0, budget.1)
 
 kernel_in_range : (name : Text) (rows : List Row) → AreInRange rows
     → IfSome (option_map OfKernel (kernel_command_named (name, rows))) IsInRange
@@ -298,9 +307,9 @@ named_in_range name rows within =
     go (bytes_eq name (codes "run")) (bytes_eq name (codes "gen")) (bytes_eq name (codes "check"))
   where
     go : (run gen check : Bool)
-        → IfSome (if run then Some (Run (run_options_in rows)) else (if gen then gen_named rows
+        → IfSome (if run then run_named rows else (if gen then gen_named rows
         else (if check then Some Check else option_map OfKernel (kernel_command_named (name, rows))))) IsInRange
-    go true gen check = (options_sized rows within, (budget_in rows within).0, (budget_in rows within).1)
+    go true gen check = run_in_range rows within
     go false true check = gen_in_range rows within
     go false false true = (tt, omega arith, omega arith)
     go false false false = kernel_in_range name rows within
@@ -316,12 +325,12 @@ in_range words taken =
     }) taken.1
   where
     some : (c : Option Command) → IfSome c IsInRange → is_some c ≡ true
-        → IsInRange (unwrap_or c (Run (run_options_in [])))
+        → IsInRange (unwrap_or c (Run (run_options_in Waves [])))
     some None in_range is = absurd cc
     some (Some c) in_range is = in_range
 
     go : (met : Option (Text × List Row))
         → ((name : Text) (rows : List Row) → met ≡ Some (name, rows) → AreInRange rows)
-        → is_some (command_met met) ≡ true → IsInRange (unwrap_or (command_met met) (Run (run_options_in [])))
+        → is_some (command_met met) ≡ true → IsInRange (unwrap_or (command_met met) (Run (run_options_in Waves [])))
     go None within is = absurd cc
     go (Some p) within is = some (command_named p) (named_in_range p.0 p.1 (within p.0 p.1 refl)) is

@@ -11,9 +11,11 @@ use Rattle.clap.specs.Simple.{Shape, argument_words, built, entered, label_of, n
 use Rattle.scop_syntax.specs.Members.{In}
 use Rattle.scop_syntax.proofs.Members.{in_map}
 use Rattle.command_line.proofs.NumberRows.{none_behind}
-use Rattle.command_line.specs.Command.{IsTaken, NamesCommand, NamesNoKind, command_met, command_named, command_names}
-use Rattle.command_line.specs.Command.{kernel_of, kind_in, run_options_in}
-use Rattle.command_line.specs.declared.command.Command.TheVariants.{Gen}
+use Rattle.command_line.specs.Command.{IsTaken, NamesCommand, NamesNoKind, NamesNoSync, command_met, command_named}
+use Rattle.command_line.specs.Command.{command_names, kernel_of, kind_in, run_options_in, sync_in}
+use Rattle.command_line.specs.declared.command.Command.TheVariants.{Gen, Run}
+use Rattle.command_line.specs.declared.command.Sync.{Sync}
+use Rattle.command_line.specs.declared.command.Sync.TheVariants.{Waves}
 use Rattle.kernel_gen.specs.declared.kind.Kind.{Kind}
 use Rattle.command_line.specs.Stated.{tool}
 
@@ -79,10 +81,22 @@ names_one words faultless =
 abbrev IsAsked : List Row → Text → Type 0
 IsAsked rows name = is_some (command_named (name, rows)) ≡ true
 
--- a command of the stated one is asked for, unless it is `gen` with a kind that is none
-asked_or_none : (name : Text) (rows : List Row) → In name command_names
-    → IsAsked rows name ⊎ ((name ≡ codes "gen") × (kind_in rows ≡ None))
-asked_or_none name rows (inl is) = inl (subst (IsAsked rows) (sym is) refl)
+-- one of the names that are judged beside the stated command is none
+abbrev IsNone : List Row → Text → Type 0
+IsNone rows name =
+    ((name ≡ codes "gen") × (kind_in rows ≡ None)) ⊎ ((name ≡ codes "run") × (sync_in rows ≡ None))
+
+-- a command of the stated one is asked for, unless it is `gen` with a kind that is none, or `run` with such a value
+-- of `--sync`
+asked_or_none : (name : Text) (rows : List Row) → In name command_names → IsAsked rows name ⊎ IsNone rows name
+asked_or_none name rows (inl is) = go (sync_in rows) refl
+  where
+    go : (sync : Option Sync) → sync_in rows ≡ sync → IsAsked rows name ⊎ IsNone rows name
+    go None none = inr (inr (is, none))
+    go (Some sync) some =
+        let asked : IsAsked rows (codes "run") =
+        ap (λ (s : Option Sync). is_some (option_map (λ sync. Run (run_options_in sync rows)) s)) some in
+        inl (subst (IsAsked rows) (sym is) asked)
 asked_or_none name rows (inr (inl is)) = inl (subst (IsAsked rows) (sym is) refl)
 asked_or_none name rows (inr (inr (inl is))) = inl (subst (IsAsked rows) (sym is) refl)
 asked_or_none name rows (inr (inr (inr (inl is)))) = inl (subst (IsAsked rows) (sym is) refl)
@@ -90,22 +104,24 @@ asked_or_none name rows (inr (inr (inr (inr (inl is))))) = inl (subst (IsAsked r
 asked_or_none name rows (inr (inr (inr (inr (inr (inr (inl is))))))) = inl (subst (IsAsked rows) (sym is) refl)
 asked_or_none name rows (inr (inr (inr (inr (inr (inl is)))))) = go (kind_in rows) refl
   where
-    go : (kind : Option Kind) → kind_in rows ≡ kind → IsAsked rows name ⊎ ((name ≡ codes "gen") × (kind_in rows ≡ None))
-    go None none = inr (is, none)
+    go : (kind : Option Kind) → kind_in rows ≡ kind → IsAsked rows name ⊎ IsNone rows name
+    go None none = inr (inl (is, none))
     go (Some kind) some =
         let asked : IsAsked rows (codes "gen") =
-        ap (λ (k : Option Kind). is_some (option_map (λ generated. Gen generated (run_options_in rows))
+        ap (λ (k : Option Kind). is_some (option_map (λ generated. Gen generated (run_options_in Waves rows))
         (option_map (kernel_of rows) k))) some in
         inl (subst (IsAsked rows) (sym is) asked)
 asked_or_none name rows (inr (inr (inr (inr (inr (inr (inr none))))))) = absurd none
 
--- words that the stated command takes are taken, unless they are `gen` with a kind that is none
-pub taken_or_none : (words : List Text) → fault_of tool words ≡ [] → IsTaken words ⊎ NamesNoKind words
+-- words that the stated command takes are taken, unless one of these names is none
+pub taken_or_none : (words : List Text) → fault_of tool words ≡ []
+    → IsTaken words ⊎ (NamesNoKind words ⊎ NamesNoSync words)
 taken_or_none words faultless =
     let named = names_one words faultless in
     go named.0 named.2.0 named.2.1 (asked_or_none named.0 named.2.0 named.1)
   where
     go : (name : Text) (rows : List Row) → subcommand_of tool words ≡ Some (name, rows)
-        → IsAsked rows name ⊎ ((name ≡ codes "gen") × (kind_in rows ≡ None)) → IsTaken words ⊎ NamesNoKind words
+        → IsAsked rows name ⊎ IsNone rows name → IsTaken words ⊎ (NamesNoKind words ⊎ NamesNoSync words)
     go name rows named (inl asked) = inl (faultless, ap (λ met. is_some (command_met met)) named ∙ asked)
-    go name rows named (inr other) = inr (rows, named ∙ ap (λ n. Some (n, rows)) other.0, other.1)
+    go name rows named (inr (inl other)) = inr (inl (rows, named ∙ ap (λ n. Some (n, rows)) other.0, other.1))
+    go name rows named (inr (inr other)) = inr (inr (rows, named ∙ ap (λ n. Some (n, rows)) other.0, other.1))

@@ -14,6 +14,8 @@ use Rattle.command_line.specs.declared.command.GeneratedKernel.{GeneratedKernel}
 use Rattle.command_line.specs.declared.command.KernelCommand.{KernelCommand}
 use Rattle.command_line.specs.declared.command.KernelCommand.TheVariants.{Schedule, Deps, Emit, Certify}
 use Rattle.command_line.specs.declared.command.RunOptions.{RunOptions}
+use Rattle.command_line.specs.declared.command.Sync.{Sync}
+use Rattle.command_line.specs.declared.command.Sync.TheVariants.{Waves, Tiles}
 use Rattle.command_line.specs.Stated.{most_moves, most_size, most_tile, most_workers, tool}
 
 -- how many workers where none are given
@@ -37,14 +39,30 @@ number_in name usual rows = option_map_or (number_of usual) (one_of name rows) u
 abbrev pub flag_in : Text → List Row → Bool
 flag_in name rows = option_map_or (λ text. bytes_eq text (codes "true")) (one_of name rows) false
 
--- the options of a run; a command without `--report` has no row of that name
-abbrev pub run_options_in : List Row → RunOptions
-run_options_in rows = record {
+-- the options of a run whose tiles begin so; a command without `--report` has no row of that name
+abbrev pub run_options_in : Sync → List Row → RunOptions
+run_options_in sync rows = record {
   workers = number_in (codes "workers") usual_workers rows;
   tile = number_in (codes "tile") usual_tile rows;
   budget = number_in (codes "budget") most_moves rows;
   report = flag_in (codes "report") rows;
+  sync = sync;
 }
+
+-- when tiles begin, by a text
+abbrev pub sync_named : Text → Option Sync
+sync_named text =
+    if bytes_eq text (codes "waves") then Some Waves
+    else (if bytes_eq text (codes "tiles") then Some Tiles else None)
+
+-- the value of `--sync`: by waves where it is not given
+abbrev pub sync_in : List Row → Option Sync
+sync_in rows = option_map_or sync_named (first_of (codes "sync") rows) (Some Waves)
+
+-- tiles begin where those that they wait for have released them
+abbrev pub is_by_tiles : Sync → Bool
+is_by_tiles Waves = false
+is_by_tiles Tiles = true
 
 -- the kind that a text names
 abbrev pub kind_named : Text → Option Kind
@@ -78,14 +96,18 @@ kernel_command_named named =
     else (if bytes_eq named.0 (codes "emit") then Some (Emit (number_in (codes "tile") usual_tile named.1) budget)
     else (if bytes_eq named.0 (codes "certify") then Some (Certify budget) else None)))
 
--- `gen` with these matches; none where its KIND is no kind
+-- `run` with these matches; none where the value of `--sync` is neither `waves` nor `tiles`
+abbrev pub run_named : List Row → Option Command
+run_named rows = option_map (λ sync. Run (run_options_in sync rows)) (sync_in rows)
+
+-- `gen` with these matches, by waves; none where its KIND is no kind
 abbrev pub gen_named : List Row → Option Command
-gen_named rows = option_map (λ generated. Gen generated (run_options_in rows)) (generated_in rows)
+gen_named rows = option_map (λ generated. Gen generated (run_options_in Waves rows)) (generated_in rows)
 
 -- the command of this name with these matches
 abbrev pub command_named : Text × List Row → Option Command
 command_named named =
-    if bytes_eq named.0 (codes "run") then Some (Run (run_options_in named.1))
+    if bytes_eq named.0 (codes "run") then run_named named.1
     else (if bytes_eq named.0 (codes "gen") then gen_named named.1
     else (if bytes_eq named.0 (codes "check") then Some Check
     else option_map OfKernel (kernel_command_named named)))
@@ -94,13 +116,14 @@ command_named named =
 abbrev pub command_met : Option (Text × List Row) → Option Command
 command_met met = option_and_then command_named met
 
--- the stated command takes the words, the program's name first, and the KIND in them is a kind
+-- the stated command takes the words, the program's name first, the KIND in them is a kind, and the value of `--sync`
+-- is `waves` or `tiles`
 abbrev pub IsTaken : List Text → Type 0
 IsTaken words = (fault_of tool words ≡ []) × (is_some (command_met (subcommand_of tool words)) ≡ true)
 
 -- the command that words which are taken name
 abbrev pub command_of : List Text → Command
-command_of words = unwrap_or (command_met (subcommand_of tool words)) (Run (run_options_in []))
+command_of words = unwrap_or (command_met (subcommand_of tool words)) (Run (run_options_in Waves []))
 
 -- the words are `run` with these options
 abbrev pub IsRunCommand : RunOptions → List Text → Type 0
@@ -172,3 +195,8 @@ NamesCommand name words = (rows : List Row) × (subcommand_of tool words ≡ Som
 abbrev pub NamesNoKind : List Text → Type 0
 NamesNoKind words =
     (rows : List Row) × (subcommand_of tool words ≡ Some (codes "gen", rows)) × (kind_in rows ≡ None)
+
+-- the words are `run`, and the value of `--sync` in them is neither `waves` nor `tiles`
+abbrev pub NamesNoSync : List Text → Type 0
+NamesNoSync words =
+    (rows : List Row) × (subcommand_of tool words ≡ Some (codes "run", rows)) × (sync_in rows ≡ None)

@@ -33,6 +33,10 @@ number_option name most =
 abbrev pub report_flag : Rule
 report_flag = record (new_rule (codes "report")) { long = Some (codes "report"); action = Some SetTrue }
 
+-- `--sync TEXT`; of its value, the stated command takes any text
+abbrev pub sync_option : Rule
+sync_option = record (new_rule (codes "sync")) { long = Some (codes "sync"); action = Some Set }
+
 -- an argument that has to be given, at its place among those without a name
 abbrev pub wanted : Text → Rule
 wanted name = record (new_rule name) { action = Some Set; required = true }
@@ -48,9 +52,9 @@ with_run_options a =
     (with_rule (with_rule a (number_option (codes "workers") most_workers)) (number_option (codes "tile") most_tile))
     (number_option (codes "budget") most_moves)
 
--- `run [--workers K] [--tile T] [--budget B] [--report]`
+-- `run [--workers K] [--tile T] [--budget B] [--report] [--sync TEXT]`
 abbrev pub run_tool : App
-run_tool = with_rule (with_run_options (new_app (codes "run"))) report_flag
+run_tool = with_rule (with_rule (with_run_options (new_app (codes "run"))) report_flag) sync_option
 
 -- `gen KIND SEED SIZE`; of its kind, the stated command takes any text
 abbrev pub gen_arguments : App

@@ -2,7 +2,17 @@
 
 use kernel_gen::Kind;
 
-/// By how many workers a plan is run, its size of tiles, the budget of its questions, and whether it is told.
+/// When a tile may begin.
+#[derive(Clone, Copy)]
+pub enum Sync {
+    /// Once all tiles of earlier waves are finished.
+    Waves,
+    /// Once each tile that it waits for has released it.
+    Tiles,
+}
+
+/// By how many workers a plan is run, its size of tiles, the budget of its questions, whether it is told, and when its
+/// tiles begin.
 #[derive(Clone, Copy)]
 pub struct RunOptions {
     /// How many workers, from 1 to 64.
@@ -13,6 +23,8 @@ pub struct RunOptions {
     pub budget: u64,
     /// Whether the lines of the plan are to be told.
     pub report: bool,
+    /// When a tile may begin.
+    pub sync: Sync,
 }
 
 /// A generated kernel: its kind, seed and size.

@@ -3,8 +3,8 @@
 ghost use Rattle.std.specs.Prelude.{◌≡◌, ◌≤◌, ◌⊎◌, [], ℕ, List};
 ghost use Rattle.clap.specs.Words.{fault_of};
 ghost use Rattle.scop_syntax.specs.Members.{In};
-ghost use Rattle.command_line.specs.Command.{HasSize, IsTaken, NamesCommand, NamesNoKind, budget_of, command_names};
-ghost use Rattle.command_line.specs.Command.{command_of};
+ghost use Rattle.command_line.specs.Command.{HasSize, IsTaken, NamesCommand, NamesNoKind, NamesNoSync, budget_of};
+ghost use Rattle.command_line.specs.Command.{command_names, command_of};
 ghost use Rattle.command_line.specs.Stated.{most_moves, tool};
 
 /// Words that are taken name one of the stated command's commands.
@@ -13,9 +13,11 @@ pub fn taken_words_name_a_command()
         → (name : List ℕ) × In name command_names × NamesCommand name words }
 {}
 
-/// Words that the stated command takes are taken, unless they are `gen` with a kind that is none.
-pub fn other_kinds_alone_are_not_taken()
-    ensures { (words : List (List ℕ)) → fault_of tool words ≡ [] → IsTaken words ⊎ NamesNoKind words }
+/// Words that the stated command takes are taken, unless they are `gen` with a kind that is none, or `run` with
+/// another text behind `--sync` than `waves` and `tiles`.
+pub fn other_names_alone_are_not_taken()
+    ensures { (words : List (List ℕ)) → fault_of tool words ≡ []
+        → IsTaken words ⊎ (NamesNoKind words ⊎ NamesNoSync words) }
 {}
 
 /// The numbers of words that are taken lie in their ranges.

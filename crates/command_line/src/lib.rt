@@ -10,9 +10,9 @@ mod matched;
 mod stated;
 mod taken;
 
-pub use command::{Command, CommandStop, GeneratedKernel, KernelCommand, RunOptions};
+pub use command::{Command, CommandStop, GeneratedKernel, KernelCommand, RunOptions, Sync};
 pub use laws::{
-    numbers_of_taken_words_are_in_range, other_kinds_alone_are_not_taken,
+    numbers_of_taken_words_are_in_range, other_names_alone_are_not_taken,
     taken_words_name_a_command,
 };
 pub use taken::command_of;

@@ -3,9 +3,11 @@
 ghost use Rattle.std.specs.Prelude.{◌≡◌};
 ghost use Rattle.clap.specs.Words.{found_of, rows_of, subcommand_rows_of};
 ghost use Rattle.command_line.specs.Command.{command_met, command_named, flag_in, gen_named, generated_in};
-ghost use Rattle.command_line.specs.Command.{kernel_command_named, kind_in, kind_named, number_in, run_options_in};
+ghost use Rattle.command_line.specs.Command.{kernel_command_named, kind_in, kind_named, number_in, run_named};
+ghost use Rattle.command_line.specs.Command.{run_options_in, sync_in, sync_named};
+ghost use Rattle.command_line.specs.declared.command.Sync.TheVariants.{Waves};
 
-use crate::command::{Command, GeneratedKernel, KernelCommand, RunOptions};
+use crate::command::{Command, GeneratedKernel, KernelCommand, RunOptions, Sync};
 use crate::stated::MOST_MOVES;
 use clap::ArgMatches;
 use kernel_gen::Kind;
@@ -36,15 +38,39 @@ fn flag_in(matches: &ArgMatches, name: &str) -> bool
     }
 }
 
-/// The options of a run.
-fn run_options_in(matches: &ArgMatches) -> RunOptions
-    ensures { result ≡ run_options_in (rows_of (found_of matches.now)) }
+/// The options of a run whose tiles begin so.
+fn run_options_in(matches: &ArgMatches, sync: Sync) -> RunOptions
+    ensures { result ≡ run_options_in sync (rows_of (found_of matches.now)) }
 {
     RunOptions {
         workers: number_in(matches, "workers", USUAL_WORKERS),
         tile: number_in(matches, "tile", USUAL_TILE),
         budget: number_in(matches, "budget", MOST_MOVES),
         report: flag_in(matches, "report"),
+        sync,
+    }
+}
+
+/// When tiles begin by a text.
+fn sync_named(text: &str) -> Option<Sync>
+    ensures { result ≡ sync_named text.now }
+{
+    if text == "waves" {
+        return Some(Sync::Waves);
+    }
+    if text == "tiles" {
+        return Some(Sync::Tiles);
+    }
+    None
+}
+
+/// When tiles begin by the matches of `run`.
+fn sync_in(matches: &ArgMatches) -> Option<Sync>
+    ensures { result ≡ sync_in (rows_of (found_of matches.now)) }
+{
+    match matches.get_str("sync") {
+        Some(text) => sync_named(text),
+        None => Some(Sync::Waves),
     }
 }
 
@@ -107,23 +133,34 @@ fn kernel_command_named(name: &str, matches: &ArgMatches) -> Option<KernelComman
     None
 }
 
+/// The command `run` with these matches.
+fn run_named(matches: &ArgMatches) -> Option<Command>
+    ensures { result ≡ run_named (rows_of (found_of matches.now)) }
+{
+    match sync_in(matches) {
+        Some(sync) => Some(Command::Run(run_options_in(matches, sync))),
+        None => None,
+    }
+}
+
 /// The command `gen` with these matches.
 fn gen_named(matches: &ArgMatches) -> Option<Command>
     ensures { result ≡ gen_named (rows_of (found_of matches.now)) }
 {
-    let options = run_options_in(matches);
+    let options = run_options_in(matches, Sync::Waves);
     match generated_in(matches) {
         Some(generated) => Some(Command::Gen { generated, options }),
         None => None,
     }
 }
 
-/// The command of this name with these matches. There is none where the kind of a generated kernel is no kind.
+/// The command of this name with these matches. There is none where the kind of a generated kernel is no kind, or where
+/// what stands behind `--sync` tells no way to begin tiles.
 fn command_named(name: &str, matches: &ArgMatches) -> Option<Command>
     ensures { result ≡ command_named (name.now, rows_of (found_of matches.now)) }
 {
     if name == "run" {
-        return Some(Command::Run(run_options_in(matches)));
+        return run_named(matches);
     }
     if name == "gen" {
         return gen_named(matches);

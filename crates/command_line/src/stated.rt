@@ -3,8 +3,8 @@
 ghost use Rattle.std.specs.Prelude.{IfOk};
 ghost use Rattle.clap.specs.Words.{App, Rule, with_rule, with_subcommand};
 ghost use Rattle.command_line.specs.Stated.{IsArgument, IsCommand, bare_tool, budget_tool, check_tool, emit_tool};
-ghost use Rattle.command_line.specs.Stated.{gen_arguments, gen_tool, number_option, report_flag, run_tool, tool, wanted};
-ghost use Rattle.command_line.specs.Stated.{wanted_number};
+ghost use Rattle.command_line.specs.Stated.{gen_arguments, gen_tool, number_option, report_flag, run_tool, sync_option};
+ghost use Rattle.command_line.specs.Stated.{tool, wanted, wanted_number};
 ghost use Rattle.command_line.specs.Stated.{with_kernel_tools, with_run_options};
 
 use clap::builder::ValueParser;
@@ -40,6 +40,13 @@ fn report_flag<'a>(alloc: Global) -> Arg<'a>
     Arg::new(alloc, "report")
         .long("report")
         .action(ArgAction::SetTrue)
+}
+
+/// The option `--sync`, whose value is any text.
+fn sync_option<'a>(alloc: Global) -> Arg<'a>
+    ensures { IsArgument sync_option result }
+{
+    Arg::new(alloc, "sync").long("sync").action(ArgAction::Set)
 }
 
 /// An argument that has to be given, at its place among those without a name.
@@ -106,7 +113,8 @@ fn run_command<'a>(alloc: Global) -> Result<clap::Command<'a>, AllocError>
     ensures { IfOk result (IsCommand run_tool) }
 {
     let run = with_run_options(alloc, Ok(clap::Command::new(alloc, "run")));
-    with_argument(run, report_flag(alloc))
+    let with_report = with_argument(run, report_flag(alloc));
+    with_argument(with_report, sync_option(alloc))
 }
 
 /// The command `gen` with its arguments alone.

@@ -14,6 +14,7 @@ use Rattle.scop_syntax.proofs.Members.{in_front, in_back, in_from_place, place_o
 use Rattle.iteration_domains.specs.Instances.{IsInstanceOf}
 use Rattle.iteration_domains.specs.Model.{Modelled, KernelModel, model_of}
 use Rattle.dataflow.specs.Pairs.{TouchesAt}
+use Rattle.dataflow.specs.Way.TheVariants.{Later}
 use Rattle.dataflow.specs.ReadSources.{reads_from, reads_of_statement, reads_in, reads_of, AreSources, NameLastWriters}
 use Rattle.dataflow.specs.Told.{AreTold}
 use Rattle.dataflow.specs.declared.source.ReadSource.{ReadSource}
@@ -24,13 +25,13 @@ use Rattle.polypar.specs.Sources.{IsSourcesText, IsSourceAt, NamesIfResolved, Te
 -- the text that a call gives, where it is that of the sources of the model's reads
 pub sources_told : {E : Type 0} (budget : ℕ) (program : Program) (model : KernelModel) (sources : List ReadSource)
     (result : Result (Vec ℕ Global) E) → model ≡ model_of program
-    → AreSources model budget (reads_of model) sources → NameLastWriters model sources
+    → AreSources Later model budget (reads_of model) sources → NameLastWriters model sources
     → AreTold model (reads_of model) sources
     → IfOk result (λ text. text.items ≡ deps_text program sources)
     → IfOk result (λ text. IsSourcesText budget program text.items)
 sources_told budget program model sources (Ok text) own run last made told = record {
   sources = sources;
-  run = subst (λ m. AreSources m budget (reads_of m) sources) own run;
+  run = subst (λ m. AreSources Later m budget (reads_of m) sources) own run;
   last = subst (λ m. NameLastWriters m sources) own last;
   made = subst (λ m. AreTold m (reads_of m) sources) own made;
   told = told;
@@ -63,7 +64,7 @@ read_among s (t ∷ ss) read (inr behind) within =
 
 -- each read has its source
 source_at : (model : KernelModel) (budget : ℕ) (reads : List (ℕ × ℕ)) (sources : List ReadSource) (k : ℕ) (r : ℕ × ℕ)
-    → AreSources model budget reads sources → slice_get reads k ≡ Some r
+    → AreSources Later model budget reads sources → slice_get reads k ≡ Some r
     → (from : ReadSource) × (slice_get sources k ≡ Some from)
 source_at model budget [] sources k r are at = absurd cc
 source_at model budget (r ∷ rs) [] k q are at = absurd are
@@ -96,7 +97,7 @@ names_last program sources params j w access c k (source.Unresolved told) last h
 
 -- each walked read has its source, which names the last write where it is resolved
 each_read : Laws → (budget : ℕ) (program : Program) (sources : List ReadSource)
-    → AreSources (model_of program) budget (reads_of (model_of program)) sources
+    → AreSources Later (model_of program) budget (reads_of (model_of program)) sources
     → NameLastWriters (model_of program) sources
     → (params : List ℤ) (j : ℕ) (w : Visit) (read : ℕ) (c : Cell) → HasParameters program params
     → TouchesAt program params j w (suc read) c

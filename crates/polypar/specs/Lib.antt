@@ -18,3 +18,4 @@ pub use Rattle.kernel_plans.specs.Executions
 pub use Rattle.kernel_plans.specs.Planned
 pub use Rattle.kernel_plans.specs.Planning
 pub use Rattle.kernel_plans.specs.Trees
+pub use Rattle.kernel_runs.specs.Counting

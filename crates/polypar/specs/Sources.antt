@@ -11,6 +11,7 @@ use Rattle.iteration_domains.specs.Model.{model_of}
 use Rattle.dataflow.specs.Pairs.{TouchesAt}
 use Rattle.dataflow.specs.ReadSources.{reads_of, AreSources, NameLastWriters}
 use Rattle.dataflow.specs.Places.{Names}
+use Rattle.dataflow.specs.Way.TheVariants.{Later}
 use Rattle.dataflow.specs.Told.{AreTold}
 use Rattle.dataflow.specs.declared.source.ReadSource.{ReadSource}
 use Rattle.dataflow.specs.declared.source.ReadSource.TheVariants as source
@@ -21,7 +22,7 @@ use Rattle.report_text.specs.DepsText.{deps_text}
 -- made of what its text tells
 pub record IsSourcesText (budget : ℕ) (program : Program) (text : List ℕ) : Type 0 where
   pub sources : List ReadSource
-  pub run : AreSources (model_of program) budget (reads_of (model_of program)) sources
+  pub run : AreSources Later (model_of program) budget (reads_of (model_of program)) sources
   pub last : NameLastWriters (model_of program) sources
   pub made : AreTold (model_of program) (reads_of (model_of program)) sources
   pub told : text ≡ deps_text program sources

@@ -5,21 +5,21 @@ ghost use Rattle.scop_syntax.specs.Execution.{IsInside, IsShaped, exec, layout};
 ghost use Rattle.scop_syntax.specs.Kernel.{IsKernel};
 ghost use Rattle.scop_syntax.specs.Limits.{WithinLimits};
 ghost use Rattle.scop_syntax.specs.View.{program_of};
-ghost use Rattle.command_line.specs.Command.{AreSized};
+ghost use Rattle.command_line.specs.Command.{AreSized, is_by_tiles};
 ghost use Rattle.kernel_plans.specs.Planned.{IsPlanned};
 ghost use Rattle.report_text.specs.TilesText.{tiles_text};
-ghost use Rattle.polypar.specs.Runs.{IsPlanTold};
+ghost use Rattle.polypar.specs.Runs.{IsPlanTold, edges_line, release_line};
 
-use command_line::RunOptions;
+use command_line::{RunOptions, Sync};
 use data_text::Case;
 use iteration_domains::Model;
 use kernel_plans::{Planned, planned};
 use kernel_runs::{Counts, Workers, run_case};
-use report_text::tiles_text;
+use report_text::{edges_text, tiles_text, waves_edges_text};
 use scop_syntax::tree::Kernel;
 use std::alloc::{AllocError, Global};
 
-/// What a run leaves to tell: the lines of its plan, and how many tiles and waves that has.
+/// What a run leaves to tell: the lines of its plan, and how many tiles and waves that has, and how many pairs of tiles.
 #[derive(Drop)]
 pub(crate) struct Ran {
     pub(crate) lines: Vec<u8>,
@@ -43,24 +43,71 @@ fn plan_by(alloc: Global, kernel: &Kernel, options: RunOptions) -> Result<Planne
     )
 }
 
-/// What is told of a run: the lines of its plan, and behind them how many tiles, waves and workers there are, where a
-/// report is asked for.
+/// Whether a tile begins when those that it waits for have released it.
+fn is_by_tiles(sync: Sync) -> bool
+    ensures { result ≡ is_by_tiles sync }
+{
+    match sync {
+        Sync::Waves => false,
+        Sync::Tiles => true,
+    }
+}
+
+/// The first line: that tiles begin by waves, where it was asked for otherwise.
+fn release_line(alloc: Global, sync: Sync, edges: Option<u64>) -> Result<Vec<u8>, AllocError>
+    ensures { IfOk result (λ text. text.items ≡ release_line sync edges) }
+{
+    match (sync, edges) {
+        (Sync::Tiles, None) => waves_edges_text(alloc),
+        _ => Ok(Vec::new(alloc)),
+    }
+}
+
+/// The last line of a report: how many pairs of tiles there are, where they were counted.
+fn edges_line(alloc: Global, edges: Option<u64>) -> Result<Vec<u8>, AllocError>
+    ensures { IfOk result (λ text. text.items ≡ edges_line edges) }
+{
+    match edges {
+        Some(edges) => edges_text(alloc, edges),
+        None => Ok(Vec::new(alloc)),
+    }
+}
+
+/// The last lines of a report: how many tiles, waves and workers there are, and how many pairs of tiles.
+fn counts_lines(alloc: Global, counts: Counts, workers: u64) -> Result<Vec<u8>, AllocError>
+    ensures { IfOk result (λ text. text.items
+        ≡ tiles_text counts.tiles counts.waves workers ++ edges_line counts.edges) }
+{
+    let mut text = tiles_text(alloc, counts.tiles, counts.waves, workers)?;
+    let last = edges_line(alloc, counts.edges)?;
+    text.extend_from_slice(&last)?;
+    Ok(text)
+}
+
+/// What is told of a run: first that tiles begin by waves, where it was asked for otherwise, then the lines of its plan,
+/// and behind them the numbers of a report, where one is asked for.
 fn with_counts(
     alloc: Global,
     lines: Vec<u8>,
     counts: Counts,
     options: RunOptions,
 ) -> Result<Ran, AllocError>
-    ensures lines { IfOk result (λ ran. ran.lines.items
-        ≡ lines.items ++ (if options.report then tiles_text counts.tiles counts.waves options.workers else [])) }
+    ensures lines { IfOk result (λ ran. ran.lines.items ≡ release_line options.sync counts.edges
+        ++ (lines.items ++ (if options.report
+        then tiles_text counts.tiles counts.waves options.workers ++ edges_line counts.edges
+        else []))) }
     ensures counts { IfOk result (λ ran. ran.counts ≡ counts) }
 {
-    let mut lines = lines;
+    let mut told = release_line(alloc, options.sync, counts.edges)?;
+    told.extend_from_slice(&lines)?;
     if options.report {
-        let last = tiles_text(alloc, counts.tiles, counts.waves, options.workers)?;
-        lines.extend_from_slice(&last)?;
+        let last = counts_lines(alloc, counts, options.workers)?;
+        told.extend_from_slice(&last)?;
     }
-    Ok(Ran { lines, counts })
+    Ok(Ran {
+        lines: told,
+        counts,
+    })
 }
 
 /// Plans a kernel and runs a case of it, whose subscripts are all inside, by that plan.
@@ -95,6 +142,7 @@ pub(crate) fn run_planned<W: Workers>(
         case,
         &plan.tree,
         &plan.tiling,
+        is_by_tiles(options.sync),
         options.workers,
     ) {
         Ok(counts) => Ok(with_counts(alloc, plan.lines, counts, options)?),

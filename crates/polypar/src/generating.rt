@@ -4,6 +4,7 @@ ghost use Rattle.std.specs.Prelude.{◌≡◌, ◌≤◌, false, IfOk};
 ghost use Rattle.kernel_gen.specs.Cases.{params, program};
 ghost use Rattle.kernel_gen.specs.Totals.{cells_in, sum_of};
 ghost use Rattle.command_line.specs.Command.{AreSized};
+ghost use Rattle.command_line.specs.declared.command.Sync.TheVariants.{Waves};
 ghost use Rattle.polypar.specs.Promises.{AnswersTold};
 ghost use Rattle.polypar.specs.Runs.{IsPlanTold, IsSummaryText, left_by};
 ghost use Rattle.polypar.specs.Told.{IsHeld, told_of};
@@ -11,14 +12,14 @@ ghost use Rattle.polypar.specs.Told.{IsHeld, told_of};
 use crate::executing::{Ran, run_planned};
 use crate::kernel::print_made;
 use crate::told::Told;
-use command_line::{GeneratedKernel, RunOptions};
+use command_line::{GeneratedKernel, RunOptions, Sync};
 use io_ports::Sink;
 use kernel_gen::{cells_in, generated, sum_of, summary};
 use kernel_runs::Workers;
 use report_text::Status;
 use std::alloc::{AllocError, Global};
 
-/// Runs a generated kernel: what that leaves to tell, without a report, how many cells its arrays have, and their sum.
+/// Runs a generated kernel by waves: what that leaves to tell, without a report, how many cells its arrays have, and their sum.
 fn run_generated<W: Workers>(
     by: &W,
     alloc: Global,
@@ -28,7 +29,7 @@ fn run_generated<W: Workers>(
     requires ready { W.ready by.now }
     requires size { (1 ≤ kernel.size) × (kernel.size ≤ 512) }
     requires options { AreSized options }
-    ensures told { IfOk result (λ left. IsPlanTold (record options { report = false })
+    ensures told { IfOk result (λ left. IsPlanTold (record options { report = false; sync = Waves })
         (program kernel.kind kernel.seed) (params kernel.kind kernel.size) left.0.counts.tiles left.0.counts.waves
         left.0.lines.items) }
     ensures cells { IfOk result (λ left. left.1 ≡ cells_in (left_by kernel)) }
@@ -38,6 +39,7 @@ fn run_generated<W: Workers>(
     let (made, mut case) = generated(alloc, kind, seed, size)?;
     let quiet = RunOptions {
         report: false,
+        sync: Sync::Waves,
         ..options
     };
     match run_planned(by, alloc, &made, &mut case, quiet) {

@@ -2,7 +2,7 @@
 
 ghost use Rattle.std.specs.Prelude.{◌≡◌, ◌≤◌, ℕ, IfErr, IfOk, List, length, map, string_bytes, option_map};
 ghost use Rattle.scop_syntax.specs.View.{program_of};
-ghost use Rattle.kernel_runs.specs.Plans.{IsPlan, shape_of};
+ghost use Rattle.kernel_runs.specs.Plans.{HasRest, IsPlan, shape_of};
 ghost use Rattle.kernel_runs.specs.Running.{AreExecuted};
 ghost use Rattle.report_text.specs.declared.status.Status.{Status};
 ghost use Rattle.polypar.specs.Deserves.{Deserves, IsVerdict};
@@ -63,6 +63,7 @@ pub fn polypar<R: Threads + Wait + Sync, S: Source, O: Sink, E: Sink, G: Gate>(
     >
         requires plan { IsPlan plan }
         requires cells { length cells.old.items ≡ (shape_of plan).cells }
+        requires rest { HasRest plan cells.old.items }
         requires some { 1 ≤ workers }
         requires few { workers ≤ 64 }
         ensures arrays { IfOk result (λ _. AreExecuted plan.entry cells.old.items cells.new.items) }

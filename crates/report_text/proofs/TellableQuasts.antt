@@ -10,7 +10,8 @@ use Rattle.iteration_domains.specs.Model.{Modelled, KernelModel}
 use Rattle.quast_trees.specs.Source.{Source}
 use Rattle.quast_trees.specs.Tree.{Tree, initial, leaf, branch, bind, count, Speaks}
 use Rattle.quast_text.specs.Reading.{IsOneOf, IsTellable}
-use Rattle.dataflow.specs.Told.{IsHeld, HoldsNumbers, IsInstance, NamesInstances, IsQuastOver}
+use Rattle.quast_trees.specs.Turns.{IsHeld}
+use Rattle.dataflow.specs.Told.{HoldsNumbers, IsInstance, NamesInstances, IsQuastOver}
 
 -- the loops round each statement, by its number
 abbrev pub loops_of : KernelModel → List (List ℕ)

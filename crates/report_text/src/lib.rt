@@ -1,12 +1,13 @@
 //! The statuses that a call can end with, the exit status that each has, and the line on the error stream that tells
-//! it; the text of a schedule, and the lines that tell why a kernel's order is kept, how many tiles and waves a plan has
-//! and which goal has no derivation; the text of the sources of reads.
+//! it; the text of a schedule, and the lines that tell why a kernel's order is kept, how many tiles and waves a plan has,
+//! how its tiles were released and which goal has no derivation; the text of the sources of reads.
 #![tactic(auto)]
 
 mod data_line;
 mod deps_laws;
 mod deps_lines;
 mod deps_names;
+mod edges_line;
 mod item_lines;
 mod kept_line;
 mod line;
@@ -22,6 +23,7 @@ pub use deps_laws::{
     deps_texts_are_read_in_one_way, printed_sources_are_read_in_one_way, texts_of_two_kernels,
 };
 pub use deps_lines::deps_text;
+pub use edges_line::{edges_text, waves_edges_text};
 pub use item_lines::schedule_text;
 pub use kept_line::{KeptLine, kept_text};
 pub use line::status_line;
