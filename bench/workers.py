@@ -1,10 +1,9 @@
 """Times parallel runs against a C compiler, by the clock. Called by workers.sh."""
 
 import os
-import subprocess
 import sys
-import time
 
+from by_clock import input_of, shortest
 from harness import arrays_of, built, call_of, declarations, signature_of
 from kernel_texts import kernel_of
 from timing import rounds_of
@@ -56,28 +55,6 @@ int main(void) {
 """
 
 
-def clock(command, text=b""):
-    """The seconds by the clock that a command takes on a text, and what it prints."""
-    begin = time.perf_counter()
-    done = subprocess.run(command, input=text, stdout=subprocess.PIPE, check=True)
-    return time.perf_counter() - begin, done.stdout
-
-
-def shortest(commands, rounds):
-    """The shortest time of each of the named commands, run in turn, each with its text; and what each printed."""
-    times, printed = {}, {}
-    for _ in range(rounds):
-        for name, (command, text) in commands.items():
-            seconds, printed[name] = clock(command, text)
-            times[name] = min(seconds, times.get(name, seconds))
-    return times, printed
-
-
-def data_lines(kernel, values):
-    """The lines that give the parameters, and each array by the seed 0."""
-    return [f"{name} = {value}" for name, value in values.items()] + [f"{name} = seed 0" for name, _ in arrays_of(kernel)]
-
-
 def c_program(kernel, values):
     """A C program that runs a kernel on arrays by the seed 0, and prints all of them as `run` does."""
     lines = declarations(kernel, values)
@@ -93,7 +70,7 @@ def c_program(kernel, values):
 
 def commands_of(program, folder, kind, kernel, values, start):
     """The commands for a case of a kernel, named with `start` in front."""
-    text = (kernel + "\n%%\n" + "\n".join(data_lines(kernel, values)) + "\n").encode()
+    text = input_of(kernel, values)
     compiled, said = built(folder, kind + start.strip(), c_program(kernel, values), ["gcc", "-O0"])
     if compiled is None:
         sys.exit(said)

@@ -1,16 +1,17 @@
 #!/bin/sh
-# Runs each kernel of examples/ and compares what it prints with the arrays beside it, and its schedule, the sources of
-# its reads, its certificate and its emitted text with those beside it; the certificate is checked, the text compiled and
-# run where there is a compiler; looks that the stored calls of crates/test_cases have each of these files, byte for
-# byte; and that a process ends with each exit status that its streams can be brought to give.
+# Runs each kernel of examples/, by waves and with tiles released one by one, and compares what it prints with the arrays
+# beside it, and its schedule, the sources of its reads, its certificate and its emitted text with those beside it; the
+# certificate is checked, the text compiled and run where there is a compiler; looks that the stored calls of
+# crates/test_cases have each of these files, byte for byte; and that a process ends with each exit status that its streams
+# can be brought to give, and tells that tiles go by waves where too many would wait for one another.
 set -u
 root=$(CDPATH= cd -- "$(dirname -- "$0")/.." && pwd)
 failed=0
 passed=0
 
-# Compares what `polypar $1` prints of the kernel $2 with the file $3.
+# Compares what `polypar` with the words $1 prints of the kernel $2 with the file $3.
 compare() {
-    if "$root/polypar" "$1" <"$2" | cmp -s - "$3"; then
+    if "$root/polypar" $1 <"$2" | cmp -s - "$3"; then
         passed=$((passed + 1))
     else
         failed=$((failed + 1))
@@ -35,6 +36,7 @@ accept() {
 . "$root/bench/example_kernels.sh"
 for kernel in "$@"; do
     compare run "$kernel" "${kernel%.c}.out"
+    compare 'run --sync tiles --tile 1 --workers 2' "$kernel" "${kernel%.c}.out"
     compare schedule "$kernel" "${kernel%.c}.schedule"
     compare deps "$kernel" "${kernel%.c}.deps"
     compare emit "$kernel" "${kernel%.c}.emit.c"
@@ -79,6 +81,10 @@ expect 8 'rejected: Form line 1' "${copy}goal 1\n" check
 expect 1 'usage: ' '' check --budget 2
 expect 1 'usage: ' '' certify --tile 2
 expect 4 'outside: S1 access 1 dimension 1 value 1 extent 1' "${copy}N = 1\n" run
+many='void m(int64_t N, uint64_t A[8*N+16], uint64_t B[8*N]) { for (int64_t i = 0; i < 8*N + 15; i++) A[i] = i;\n'
+many="$many"'for (int64_t i = 0; i < 8*N; i++) B[i] = A[i] + A[i+1] + A[i+2] + A[i+3] + A[i+4] + A[i+5] + A[i+6] + A[i+7] +\n'
+many="$many"'A[i+8] + A[i+9] + A[i+10] + A[i+11] + A[i+12] + A[i+13] + A[i+14] + A[i+15]; }\n%%\nN = 40000\n'
+expect 0 'waves: edges' "$many" run --tile 1 --sync tiles
 if [ -c /dev/full ]; then
     "$root/polypar" run <"$root/examples/copy.c" 2>/dev/null >/dev/full
     if [ $? -eq 6 ]; then passed=$((passed + 1)); else failed=$((failed + 1)) && echo "a full device is no write fault"; fi

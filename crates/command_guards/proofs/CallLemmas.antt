@@ -8,6 +8,7 @@ use Rattle.io_ports.specs.Faults.{Rose}
 use Rattle.io_ports.specs.Reads.{SourceShows}
 use Rattle.io_ports.specs.Writes.{SinkShows}
 use Rattle.scop_syntax.specs.Tree.{Program}
+use Rattle.scop_syntax.specs.Walk.{walk_of}
 use Rattle.scop_parser.specs.Spelling.{SpellsProgram}
 use Rattle.data_lines.specs.declared.refusal.DataRefusal.{DataRefusal}
 use Rattle.loop_tree.specs.Plans.{walked}
@@ -28,7 +29,7 @@ use Rattle.plan_check.specs.declared.kinds.FaultKind.{FaultKind}
 use Rattle.plan_certificate.specs.Certificates.{certificate_of}
 use Rattle.command_line.specs.declared.command.Command.{Command}
 use Rattle.command_line.specs.declared.command.Command.TheVariants.{Check, Gen, OfKernel, Run}
-use Rattle.command_line.specs.Command.{command_of}
+use Rattle.command_line.specs.Command.{command_of, is_by_tiles}
 use Rattle.command_line.specs.declared.command.RunOptions.{RunOptions}
 use Rattle.polypar.specs.Certifying.{IsGivenText}
 use Rattle.polypar.specs.Planned.{ArePlanned}
@@ -36,8 +37,10 @@ use Rattle.polypar.specs.Planning.{IsCauseOf, IsSearched}
 use Rattle.polypar.specs.Answered.{Answered, GainsLine, GainsTo, HasLines, IsDeserved, NamesOf, PrintsArrays}
 use Rattle.polypar.specs.Answered.{PrintsCertificate}
 use Rattle.polypar.specs.Case.{Accepted, Spelled}
+use Rattle.polypar.specs.Counting.{IsReleaseOf}
 use Rattle.polypar.specs.Cut.{data_part, kernel_part}
 use Rattle.polypar.specs.Deserves.{DeservesFor}
+use Rattle.polypar.specs.Runs.{edges_line, release_line}
 
 -- `err` gained a report behind the lines of a plan
 abbrev pub GainsReport : RunOptions → Option (List ℕ) → SinkShows → SinkShows → Type 0
@@ -47,7 +50,9 @@ GainsReport options left err err_after =
     × ArePlanned options.tile options.budget true accepted.program plan front trees
     × HasTiles plan (walked accepted.program accepted.params) tiles
     × HasWaves plan (walked accepted.program accepted.params) waves
-    × Appends err.taken err_after.taken (front ++ tiles_text tiles waves options.workers)
+    × (edges : Option ℕ) × IsReleaseOf (is_by_tiles options.sync) plan (walk_of accepted.program accepted.params) edges
+    × Appends err.taken err_after.taken (release_line options.sync edges
+    ++ (front ++ (tiles_text tiles waves options.workers ++ edges_line edges)))
 
 -- the lines of a run whose report is asked for
 pub reported : (options : RunOptions) (left : Option (List ℕ)) (out out_after err err_after : SinkShows)
@@ -55,8 +60,8 @@ pub reported : (options : RunOptions) (left : Option (List ℕ)) (out out_after 
     → GainsReport options left err err_after
 reported options left out out_after err err_after asked prints =
     let plan = prints.4.2 in
-    let is : (if options.report then tiles_text prints.4.0 prints.4.1 options.workers else [])
-    ≡ tiles_text prints.4.0 prints.4.1 options.workers = rw asked refl in (
+    let numbers = tiles_text prints.4.0 prints.4.1 options.workers ++ edges_line plan.edges in
+    let is : (if options.report then numbers else []) ≡ numbers = rw asked refl in (
       prints.0,
       prints.1,
       plan.plan,
@@ -69,8 +74,10 @@ reported options left out out_after err err_after asked prints =
           asked plan.planned,
       plan.has_tiles,
       plan.has_waves,
+      plan.edges,
+      plan.has_edges,
       subst (λ lines. Appends err.taken err_after.taken lines)
-          (plan.told ∙ ap (λ more. plan.front ++ more) is) prints.6,
+          (plan.told ∙ ap (λ more. release_line options.sync plan.edges ++ (plan.front ++ more)) is) prints.6,
     )
 
 -- the line of data that is refused: an input was read, whose kernel spells a program, and `err`, which had gained

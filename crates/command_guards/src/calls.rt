@@ -15,11 +15,13 @@ ghost use Rattle.scop_syntax.specs.Execution.{exec};
 ghost use Rattle.scop_syntax.specs.Limits.{HasParameters};
 ghost use Rattle.scop_syntax.specs.Members.{In};
 ghost use Rattle.scop_syntax.specs.Tree.{Program};
+ghost use Rattle.scop_syntax.specs.Walk.{walk_of};
 ghost use Rattle.scop_parser.specs.Spelling.{SpellsProgram};
 ghost use Rattle.data_lines.specs.declared.refusal.DataRefusal.{DataRefusal};
 ghost use Rattle.data_text.specs.ArrayText.{array_text};
 ghost use Rattle.iteration_domains.specs.Model.{model_of};
 ghost use Rattle.dataflow.specs.ReadSources.{AreSources, NameLastWriters, reads_of};
+ghost use Rattle.dataflow.specs.Way.TheVariants.{Later};
 ghost use Rattle.dataflow.specs.Told.{AreTold};
 ghost use Rattle.dataflow.specs.declared.source.ReadSource.{ReadSource};
 ghost use Rattle.report_text.specs.Items.{Block};
@@ -47,14 +49,15 @@ ghost use Rattle.report_text.specs.declared.kept_line.KeptLine.{KeptLine};
 ghost use Rattle.report_text.specs.declared.status.Status.TheVariants.{BadData, Done, Rejected, Usage, WriteFault};
 ghost use Rattle.polypar.specs.Planned.{ArePlanned};
 ghost use Rattle.polypar.specs.Planning.{IsCauseOf, IsSearched};
-ghost use Rattle.command_line.specs.Command.{IsDepsCommand, IsEmitCommand, IsGenCommand, IsRunCommand};
+ghost use Rattle.command_line.specs.Command.{IsDepsCommand, IsEmitCommand, IsGenCommand, IsRunCommand, is_by_tiles};
 ghost use Rattle.command_line.specs.Command.{IsCertifyCommand, IsCheckCommand, IsScheduleCommand};
 ghost use Rattle.command_line.specs.declared.command.GeneratedKernel.{GeneratedKernel};
 ghost use Rattle.command_line.specs.declared.command.RunOptions.{RunOptions};
 ghost use Rattle.polypar.specs.Case.{Accepted, Spelled};
 ghost use Rattle.polypar.specs.Cut.{data_part, kernel_part};
 ghost use Rattle.polypar.specs.Deserves.{Asks};
-ghost use Rattle.polypar.specs.Runs.{left_by};
+ghost use Rattle.polypar.specs.Counting.{IsReleaseOf};
+ghost use Rattle.polypar.specs.Runs.{edges_line, left_by, release_line};
 ghost use Rattle.polypar.specs.Told.{Told};
 
 use io_ports::{Sink, Source};
@@ -84,8 +87,10 @@ pub fn answered_call<S: Source, O: Sink, E: Sink>(
         × ArePlanned options.tile options.budget true accepted.program plan front trees
         × HasTiles plan (walked accepted.program accepted.params) tiles
         × HasWaves plan (walked accepted.program accepted.params) waves
-        × Appends (E.shows err.old).taken (E.shows err.new).taken
-        (front ++ tiles_text tiles waves options.workers) }
+        × (edges : Option ℕ)
+        × IsReleaseOf (is_by_tiles options.sync) plan (walk_of accepted.program accepted.params) edges
+        × Appends (E.shows err.old).taken (E.shows err.new).taken (release_line options.sync edges
+        ++ (front ++ (tiles_text tiles waves options.workers ++ edges_line edges))) }
     ensures schedule { (budget : ℕ) → IsScheduleCommand budget (map string_bytes words.now) → result ≡ Done
         → (input : List ℕ) × (kernel : Spelled input) × (text : List ℕ) × IsAllOf (S.shows source.old).left input
         × (((blocks : List Block) × IsSearched budget (model_of kernel.program) blocks × (text ≡ schedule_text blocks))
@@ -94,7 +99,7 @@ pub fn answered_call<S: Source, O: Sink, E: Sink>(
     ensures sources { (budget : ℕ) → IsDepsCommand budget (map string_bytes words.now) → result ≡ Done
         → (input : List ℕ) × (kernel : Spelled input) × (sources : List ReadSource)
         × IsAllOf (S.shows source.old).left input
-        × AreSources (model_of kernel.program) budget (reads_of (model_of kernel.program)) sources
+        × AreSources Later (model_of kernel.program) budget (reads_of (model_of kernel.program)) sources
         × NameLastWriters (model_of kernel.program) sources
         × AreTold (model_of kernel.program) (reads_of (model_of kernel.program)) sources
         × Appends (O.shows out.old).taken (O.shows out.new).taken (deps_text kernel.program sources) }

@@ -29,7 +29,7 @@ ghost use Rattle.report_text.specs.declared.status.Status.{Status};
 ghost use Rattle.polypar.specs.Answered.{Answered, HasLines, PrintsText, PrintsTold};
 ghost use Rattle.command_line.specs.Command.{IsCertifyCommand, IsCheckCommand, IsDepsCommand, IsEmitCommand};
 ghost use Rattle.command_line.specs.Command.{IsGenCommand, IsScheduleCommand};
-ghost use Rattle.command_line.specs.Command.{IsTaken, NamesCommand, NamesNoKind, command_names};
+ghost use Rattle.command_line.specs.Command.{IsTaken, NamesCommand, NamesNoKind, NamesNoSync, command_names};
 ghost use Rattle.command_line.specs.declared.command.GeneratedKernel.{GeneratedKernel};
 ghost use Rattle.command_line.specs.declared.command.RunOptions.{RunOptions};
 ghost use Rattle.command_line.specs.Stated.{tool};
@@ -41,7 +41,7 @@ ghost use Rattle.polypar.specs.Sources.{TellsLastWrites};
 ghost use Rattle.polypar.specs.Trees.{StandInOrder};
 
 use command_line::{
-    numbers_of_taken_words_are_in_range, other_kinds_alone_are_not_taken,
+    numbers_of_taken_words_are_in_range, other_names_alone_are_not_taken,
     taken_words_name_a_command,
 };
 use polypar::{
@@ -168,10 +168,11 @@ pub fn numbers_of_words()
     numbers_of_taken_words_are_in_range();
 }
 
-/// Words in which `clap` finds no fault are taken but for kinds that are none, by the clause of
-/// `other_kinds_alone_are_not_taken`.
-pub fn words_of_other_kinds()
-    ensures { (words : List (List ℕ)) → fault_of tool words ≡ [] → IsTaken words ⊎ NamesNoKind words }
+/// Words in which `clap` finds no fault are taken but for kinds and values of `--sync` that are none, by the clause of
+/// `other_names_alone_are_not_taken`.
+pub fn words_of_other_names()
+    ensures { (words : List (List ℕ)) → fault_of tool words ≡ []
+        → IsTaken words ⊎ (NamesNoKind words ⊎ NamesNoSync words) }
 {
-    other_kinds_alone_are_not_taken();
+    other_names_alone_are_not_taken();
 }

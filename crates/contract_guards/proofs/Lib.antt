@@ -3,3 +3,4 @@ pub mod Quotients
 pub mod NodeSteps
 pub mod Tableaus
 pub mod Turns
+pub mod Evens

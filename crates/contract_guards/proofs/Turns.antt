@@ -1,5 +1,5 @@
 -- The worked dependence from each turn to the next at its points, and what numbers say there.
-use Rattle.std.proofs.Common.{◌≡◌, refl, subst, arith, ℕ, ℤ, pos, negsuc, List, [], ◌∷◌}
+use Rattle.std.proofs.Common.{◌≡◌, refl, subst, arith, ℕ, ℤ, pos, negsuc, List, [], ◌∷◌, ◌++◌, length}
 use Rattle.std.specs.Prelude.{◌+ℤ◌, ◌≤ℤ◌, get_or}
 use Rattle.std.proofs.lemmas.Int.{ints}
 use Rattle.std.proofs.lemmas.List.Elements.{All-cons, All-head, All-nil}
@@ -21,10 +21,17 @@ at_points P all x y n inside =
     let zero = All-head (λ f. value_of f (x ∷ y ∷ n ∷ []) ≡ pos 0) rises [] inside.0 in
     let more : x +ℤ pos 1 ≡ y = omega (arith, ints, zero) in subst (λ y. P (x ∷ []) (y ∷ []) (n ∷ [])) more (all x n)
 
+-- no quotient is bound there
+without_quotients : (P : List ℤ → List ℤ → List ℤ → Type 0)
+    → ((x n : ℤ) → P (x ∷ []) ((x +ℤ pos 1) ∷ []) (n ∷ [])) → (x y n : ℤ) (bound : List ℤ) → length bound ≡ 0
+    → Satisfies next_turn (x ∷ y ∷ (bound ++ n ∷ [])) → P (x ∷ []) (y ∷ []) (n ∷ [])
+without_quotients P all x y n [] none inside = at_points P all x y n inside
+without_quotients P all x y n (q ∷ bound) none inside = absurd cc
+
 -- it holds of each instance
 pub at_each : (P : List ℤ → List ℤ → List ℤ → Type 0) → ((x n : ℤ) → P (x ∷ []) ((x +ℤ pos 1) ∷ []) (n ∷ []))
     → (s t : ℕ) (i j p : List ℤ) → IsInstance (end s) (end t) next_turn i j p → P i j p
-at_each P all s t (x ∷ []) (y ∷ []) (n ∷ []) is = at_points P all x y n is.inside
+at_each P all s t (x ∷ []) (y ∷ []) (n ∷ []) is = without_quotients P all x y n is.bound is.quotients is.inside
 at_each P all s t [] j p is = absurd (omega (arith, is.source_iterators))
 at_each P all s t (x ∷ w ∷ i) j p is = absurd (omega (arith, is.source_iterators))
 at_each P all s t (x ∷ []) [] p is = absurd (omega (arith, is.target_iterators))
@@ -39,6 +46,8 @@ instance s t x =
       source_iterators = refl;
       target_iterators = refl;
       parameters = refl;
+      bound = [];
+      quotients = refl;
       inside = (
         All-cons (λ f. value_of f (x ∷ (x +ℤ pos 1) ∷ pos 4 ∷ []) ≡ pos 0) rises [] (omega (arith, ints))
             (All-nil (λ f. value_of f (x ∷ (x +ℤ pos 1) ∷ pos 4 ∷ []) ≡ pos 0)),

@@ -11,10 +11,13 @@ ghost use Rattle.iteration_domains.specs.Model.{KernelModel};
 ghost use Rattle.iteration_domains.specs.Sizes.{IsKernelModel};
 ghost use Rattle.conflict_deps.specs.Conflicts.{After, Side, conflicts_of, dep_of};
 ghost use Rattle.conflict_deps.specs.Pairs.{IsEnd, IsPair, IsPoint, TouchesAt, WritesBefore};
+ghost use Rattle.conflict_deps.specs.Pairs.{WritesBehind};
 
 use conflict_deps::conflict_laws::{conflicts_are_the_points_of_the_systems, systems_have_parts};
 use conflict_deps::conflicts;
-use conflict_deps::source_laws::{earlier_writers_are_points, last_writers_are_last_points};
+use conflict_deps::source_laws::{
+    earlier_writers_are_points, last_writers_are_last_points, later_writers_are_points,
+};
 use iteration_domains::{Dep, Model};
 use std::alloc::{AllocError, Global};
 
@@ -57,6 +60,18 @@ pub fn writers_of_kernels_without_parameters()
         → dep.source.access ≡ 0 → IsEnd dep.target w b → (k : ℕ) × (u : Visit) × WritesBefore program [] k j u c }
 {
     earlier_writers_are_points();
+}
+
+/// There a later writer is a point, by `points` of `later_writers_are_points`; such a point is one, by `writers`.
+pub fn later_writers_of_kernels_without_parameters()
+    ensures points { (program : Program) (k j : ℕ) (u w : Visit) (b : ℕ) (c : Cell) → program.parameters ≡ []
+        → TouchesAt program [] j w b c → WritesBehind program [] k j u c
+        → (dep : Dependence) × IsPoint program [] dep w.turns u.turns }
+    ensures writers { (program : Program) (j : ℕ) (w : Visit) (b : ℕ) (c : Cell) (dep : Dependence) (xs : List ℤ)
+        → IsKernel program → program.parameters ≡ [] → TouchesAt program [] j w b c → IsPoint program [] dep w.turns xs
+        → IsEnd dep.source w b → dep.target.access ≡ 0 → (k : ℕ) × (u : Visit) × WritesBehind program [] k j u c }
+{
+    later_writers_are_points();
 }
 
 /// There the last writer is a point, by `last` of `last_writers_are_last_points`; no such point is behind it, by

@@ -3,6 +3,7 @@ ghost use Rattle.std.specs.Prelude.{◌≡◌, ◌≤ℤ◌, ◌+ℤ◌, [], ℕ
 ghost use Rattle.whole_numbers.specs.Lists.{dot};
 ghost use Rattle.fractions.specs.Farkas.{AreNotNegative, HasFarkas};
 ghost use Rattle.integer_sets.specs.Points.{Satisfies};
+ghost use Rattle.iteration_domains.specs.Dependence.{binds_in};
 ghost use Rattle.farkas.specs.Claims.{claimed};
 ghost use Rattle.farkas.specs.Meaning.{IsInstance, IsTaken, phi, rows_of};
 ghost use Rattle.farkas.specs.Run.{crowded, rows_run};
@@ -24,7 +25,8 @@ pub fn rows_that_keep(alloc: Global, dependence: &Dep, budget: u64) -> Result<Sy
         → rows_run budget Legality dependence.now.source dependence.now.target dependence.now.system ≡ Err (crowded pairs) }
     ensures farkas { IfOk result (λ rows. (unknowns : List ℤ) → length unknowns ≡ rows.dimensions
         → AreNotNegative unknowns → Satisfies rows unknowns → HasFarkas (rows_of dependence.now.system)
-        (claimed Legality dependence.now.source dependence.now.target dependence.now.system.parameters unknowns)) }
+        (claimed Legality dependence.now.source dependence.now.target (binds_in dependence.now)
+        dependence.now.system.parameters unknowns)) }
     ensures keeps { IfOk result (λ rows. (unknowns i j : List ℤ) → IsTaken rows unknowns
         → IsInstance dependence.now.source dependence.now.target dependence.now.system i j []
         → phi unknowns (layout_of dependence.now.system.parameters dependence.now.source dependence.now.target).source
@@ -42,7 +44,8 @@ pub fn rows_that_bound(alloc: Global, dependence: &Dep, budget: u64) -> Result<S
         → rows_run budget Bounding dependence.now.source dependence.now.target dependence.now.system ≡ Err (crowded pairs) }
     ensures farkas { IfOk result (λ rows. (unknowns : List ℤ) → length unknowns ≡ rows.dimensions
         → AreNotNegative unknowns → Satisfies rows unknowns → HasFarkas (rows_of dependence.now.system)
-        (claimed Bounding dependence.now.source dependence.now.target dependence.now.system.parameters unknowns)) }
+        (claimed Bounding dependence.now.source dependence.now.target (binds_in dependence.now)
+        dependence.now.system.parameters unknowns)) }
     ensures bounds { IfOk result (λ rows. (unknowns i j : List ℤ) → IsTaken rows unknowns
         → IsInstance dependence.now.source dependence.now.target dependence.now.system i j []
         → phi unknowns (layout_of dependence.now.system.parameters dependence.now.source dependence.now.target).target

@@ -4,9 +4,11 @@ ghost use Rattle.whole_numbers.specs.Affine.{Affine};
 ghost use Rattle.quast_joins.specs.Counts.{HasForms, capped, join_node};
 ghost use Rattle.quast_joins.specs.Steps.{Placed_node, depths, depths_of, from_last, join_step, paired, steps};
 ghost use Rattle.quast_joins.specs.Joins.{join, test_of};
+ghost use Rattle.quast_joins.specs.Limits.{leaf_limit};
 ghost use Rattle.quast_trees.specs.Postfix.{written};
 ghost use Rattle.quast_joins.specs.Sizes.{IsFormWithin, IsWithin, LeavesWithin};
 ghost use Rattle.quast_trees.specs.Tree.{Speaks, Tree, count, initial};
+ghost use Rattle.quast_trees.specs.Turns.{BindsUp, CanTell};
 ghost use Rattle.quast_trees.specs.Value.{value};
 ghost use Rattle.quast_trees.specs.declared.node.Node.TheVariants as node;
 ghost use Rattle.quast_joins.specs.declared.way.Way.{Way};
@@ -40,6 +42,22 @@ pub fn constants_of_tests_are_small()
         → LeavesWithin bound (join way n initial tree) }
 {
     quast_joins::tests_are_small();
+}
+
+/// A join with the initial value binds what the other quast does, by the clause of `joins_keep_the_signs_of_binds`.
+pub fn signs_of_joins_with_the_initial_value()
+    ensures { (way : Way) (n : ℕ) (tree : Tree) (point : List ℤ) → length point ≡ n → BindsUp tree point
+        → BindsUp (join way n initial tree) point }
+{
+    quast_joins::joins_keep_the_signs_of_binds();
+}
+
+/// And can be told where that can, by the clause of `joins_can_be_told`.
+pub fn numbers_of_joins_with_the_initial_value()
+    ensures { (way : Way) (n : ℕ) (tree : Tree) → LeavesWithin leaf_limit tree → CanTell tree
+        → CanTell (join way n initial tree) }
+{
+    quast_joins::joins_can_be_told();
 }
 
 /// How joins are built on an empty stack: clause by clause of `joins_are_built`.

@@ -3,6 +3,7 @@ ghost use Rattle.std.specs.Prelude.{◌≡◌, ◌↔◌, ◌∷◌, [], ℕ, �
 ghost use Rattle.whole_numbers.specs.Affine.{form_of};
 ghost use Rattle.integer_sets.specs.Constraints.{system_of};
 ghost use Rattle.quast_trees.specs.Tree.{LeavesHave, Speaks, Tree};
+ghost use Rattle.quast_trees.specs.Turns.{BindsUp, CanTell};
 ghost use Rattle.tableau_rows.specs.Problem.{IsLexmin, IsPoint, problem_of};
 ghost use Rattle.tableau_rows.specs.Run.{spent};
 ghost use Rattle.lexmin_runs.specs.Emptiness.{HasBoundedPoint, IsBoundedPoint};
@@ -15,8 +16,9 @@ ghost use Rattle.contract_guards.specs.Halves.{above, at_zero, bound, first, fiv
 ghost use Rattle.contract_guards.specs.Halves.{solved, zero_leaf};
 
 use lexmin_runs::{
-    emptiness_is_answered_right, runs_begin_with_their_problem, runs_go_on_by_steps,
-    steps_keep_the_solutions, trees_are_right, trees_without_parameters_are_leaves,
+    binds_are_not_negative, emptiness_is_answered_right, runs_begin_with_their_problem,
+    runs_go_on_by_steps, steps_keep_the_solutions, trees_are_right,
+    trees_without_parameters_are_leaves, turns_of_runs_can_be_told,
 };
 
 /// The least x where p is 5 is 3, by `answers` of `trees_are_right`; the tree speaks of one parameter, by `speaks`, and
@@ -29,6 +31,21 @@ pub fn the_tree_of_halves()
         → LeavesHave 1 tree }
 {
     trees_are_right();
+}
+
+/// Where p is 5, no quotient that the tree binds is negative, by the clause of `binds_are_not_negative`.
+pub fn binds_of_halves()
+    ensures { (budget left : ℕ) (tree : Tree) → lexmin_run budget 1 halved five ≡ Ok (tree, left)
+        → BindsUp tree (pos 5 ∷ []) }
+{
+    binds_are_not_negative();
+}
+
+/// Its turns can be told, by the clause of `turns_of_runs_can_be_told`.
+pub fn turns_of_halves()
+    ensures { (budget left : ℕ) (tree : Tree) → lexmin_run budget 1 halved five ≡ Ok (tree, left) → CanTell tree }
+{
+    turns_of_runs_can_be_told();
 }
 
 /// The tree of the least x of 2 x - 3 >= 0 is one leaf, by the clause of `trees_without_parameters_are_leaves`.

@@ -4,6 +4,7 @@ ghost use Rattle.std.specs.Prelude.{false, length, negsuc, pos, slice_get, unsig
 ghost use Rattle.whole_numbers.specs.Affine.{value_of};
 ghost use Rattle.scop_syntax.specs.Acts.{acts_all};
 ghost use Rattle.scop_syntax.specs.Cells.{Cell, PlacesConflict, written};
+ghost use Rattle.scop_syntax.specs.Covers.{Chain, Cover};
 ghost use Rattle.scop_syntax.specs.Examples.{falling_by_two, form, head, rising};
 ghost use Rattle.scop_syntax.specs.Execution.{IsCell, IsShaped, before_place, cell_number, held, layout, performed_all};
 ghost use Rattle.scop_syntax.specs.Execution.{stored, value_stored_at};
@@ -14,7 +15,9 @@ ghost use Rattle.scop_syntax.specs.Tree.{Head, Program, moved_left};
 ghost use Rattle.scop_syntax.specs.Values.{stored_by};
 ghost use Rattle.scop_syntax.specs.Walk.{Falls, Visit, condition_at, loop_walk, walk_of};
 ghost use Rattle.scop_syntax.specs.Writers.{last_writer, left_by, next_of, next_writer, writes};
+ghost use Rattle.conflict_deps.specs.Examples.{two};
 
+use scop_syntax::cover_laws::conflicts_are_chains_of_covers;
 use scop_syntax::execution_laws::{
     cells_have_numbers_of_their_own, cells_hold_the_last_write, executions_go_along_the_places,
     next_writers_are_least_places, writers_conflict,
@@ -96,6 +99,19 @@ pub fn writers_of_a_rising_loop()
     ensures next { (visits : List Visit) (a k : ℕ) → next_of visits 0 a ≡ Some k → PlacesConflict visits 0 k }
 {
     writers_conflict();
+}
+
+/// Of two turns of two statements, of which the first writes what the second has read a turn before: the second place
+/// does not cover the first, but that read is covered by the write, so the two conflict, by `covers` of
+/// `conflicts_are_chains_of_covers`; what conflicts is a chain of covers, by `closure`, and lies behind, by `rises`.
+pub fn covers_of_two_statements()
+    ensures none { Cover (walk_of two (pos 2 ∷ [])) 0 1 → ⊥ }
+    ensures covers { PlacesConflict (walk_of two (pos 2 ∷ [])) 1 2 }
+    ensures closure { (i j : ℕ) → PlacesConflict (walk_of two (pos 2 ∷ [])) i j
+        → Chain (walk_of two (pos 2 ∷ [])) i j }
+    ensures rises { (j : ℕ) → Chain (walk_of two (pos 2 ∷ [])) 1 j → 1 < j }
+{
+    conflicts_are_chains_of_covers();
 }
 
 /// Of six cells and four the numbers are below ten, by `below` of `cells_have_numbers_of_their_own`, and apart, by

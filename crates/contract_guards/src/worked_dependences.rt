@@ -1,14 +1,16 @@
 //! Which numbers keep and which bound the dependence of `A[i] += A[i - 1]` from each turn to the next: worked rows and
-//! counterexamples of both definitions, and callers of what the numbers of a row stand for.
-ghost use Rattle.std.specs.Prelude.{◌≡◌, ◌+ℤ◌, ◌*ℤ◌, ◌∷◌, ℤ, [], List, get_or, negsuc, pos};
+//! counterexamples of both definitions, and callers of what the numbers of a row stand for. Which pairs a dependence
+//! relates that binds a quotient.
+ghost use Rattle.std.specs.Prelude.{◌≡◌, ◌+◌, ◌+ℤ◌, ◌*ℤ◌, ◌∷◌, ℕ, ℤ, [], List, get_or, negsuc, pos};
 ghost use Rattle.whole_numbers.specs.Affine.{value_of};
 ghost use Rattle.integer_sets.specs.Constraints.{Constraints};
+ghost use Rattle.iteration_domains.specs.Related.{Relates};
 ghost use Rattle.iteration_domains.specs.declared.dep.DepEnd.{DepEnd};
 ghost use Rattle.farkas.specs.Claims.{claimed};
 ghost use Rattle.farkas.specs.Meaning.{Bounds, IsTaken, Keeps, phi};
 ghost use Rattle.farkas.specs.Unknowns.{AreOf, Shows, Unknowns, layout_of, numbers_of, places};
 ghost use Rattle.farkas.specs.declared.claim.Claim.TheVariants.{Legality};
-ghost use Rattle.contract_guards.specs.Worked.{end, next_turn};
+ghost use Rattle.contract_guards.specs.Worked.{end, every_other_turn, next_turn, turn};
 
 use farkas::{claimed_forms_are_distances, unknowns_stand_by_the_layout};
 
@@ -33,10 +35,19 @@ pub fn a_target_that_falls_behind()
         → Keeps (end 2) (end 1) next_turn t → ⊥ }
 {}
 
-/// The legality form of two loops without parameters is the target's row less the source's, by the clause of
-/// `claimed_forms_are_distances`.
+/// With the quotient bound that `i = 2 q + 2` says, even turns from 2 on are related to the next, by the definition
+/// `Relates` of `iteration_domains`; not turn 0, whose quotient is less than 0, nor an odd one, which has none.
+pub fn each_even_turn_to_the_next()
+    ensures even { (q : ℕ) → Relates [] every_other_turn (turn (pos (2 + (q + q)))) (turn (pos (3 + (q + q)))) }
+    ensures below { (y : ℤ) → Relates [] every_other_turn (turn (pos 0)) (turn y) → ⊥ }
+    ensures odd { (y : ℤ) → Relates [] every_other_turn (turn (pos 5)) (turn y) → ⊥ }
+{}
+
+/// The legality form of two loops without parameters is the target's row less the source's, whatever quotient is bound,
+/// by the clause of `claimed_forms_are_distances`.
 pub fn distances_of_two_loops()
-    ensures { (numbers : List ℤ) (i j : ℤ) → value_of (claimed Legality (end 2) (end 1) 0 numbers) (i ∷ j ∷ [])
+    ensures { (numbers : List ℤ) (i j q : ℤ)
+        → value_of (claimed Legality (end 2) (end 1) 1 0 numbers) (i ∷ j ∷ q ∷ [])
         ≡ (pos 0 *ℤ (pos 0 +ℤ get_or numbers 0 (pos 0)))
         +ℤ ((negsuc 0 *ℤ phi numbers 3 1 (i ∷ [])) +ℤ (pos 1 *ℤ phi numbers 1 1 (j ∷ []))) }
 {

@@ -8,7 +8,7 @@ ghost use Rattle.scop_syntax.specs.Limits.{HasParameters};
 ghost use Rattle.scop_syntax.specs.Tree.{Program, none as nothing};
 ghost use Rattle.scop_syntax.specs.View.{program_of};
 ghost use Rattle.scop_syntax.specs.Walk.{Visit as Walked, instance, walk_of};
-ghost use Rattle.conflict_orders.specs.Orders.{IsOrderOf};
+ghost use Rattle.conflict_orders.specs.Orders.{IsOrderOf, KeepsCovers};
 ghost use Rattle.loop_tree.specs.Plans.{CarryOut, walked};
 ghost use Rattle.loop_tree.specs.Runs.{MayRunAll};
 ghost use Rattle.loop_tree.specs.Tiling.{Tiling, kept};
@@ -19,6 +19,9 @@ ghost use Rattle.plan_tree.specs.Executions.{AreVisitsOf};
 ghost use Rattle.schedule_rows.specs.Schedule.{IsScheduled};
 ghost use Rattle.plan_tree.specs.Trees.{AreTreesOf, IsScheduleFor, StandInOrder, StopsTiled, tiling_of};
 
+use conflict_orders::laws::{
+    orders_of_walks_end_as_they_do, orders_that_keep_covers_keep_conflicts,
+};
 use fm_projection::FmStop;
 use loop_tree::Tree;
 use plan_tree::laws;
@@ -52,6 +55,18 @@ pub fn trees_of_the_source_keep_conflicts_in_order()
         → StandInOrder (visits ts []) (instance c.earlier) (instance c.later) }
 {
     laws::trees_keep_conflicts_in_order();
+}
+
+/// An order of a walk's visits that keeps its covers ends as the walk does, by the clause of
+/// `orders_that_keep_covers_keep_conflicts`.
+pub fn orders_of_covers_end_as_the_walk_does()
+    ensures { (program : Program) (contents : List (List ℕ)) (order : List Walked)
+        → IsShaped (layout program []) contents → IsInside program [] → IsOrderOf order (walk_of program [])
+        → KeepsCovers (walk_of program []) order
+        → performed_all (layout program []) contents order ≡ exec program [] contents }
+{
+    orders_of_walks_end_as_they_do();
+    orders_that_keep_covers_keep_conflicts();
 }
 
 /// Runs of trees without parameters, by the clauses of `loops_end_as_the_source_does` of these names.

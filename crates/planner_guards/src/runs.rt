@@ -6,13 +6,12 @@ ghost use Rattle.whole_numbers.specs.Lexicographic.{LexLess};
 ghost use Rattle.whole_numbers.specs.Lists.{dot, zeros};
 ghost use Rattle.integer_sets.specs.Constraints.{Constraints};
 ghost use Rattle.scop_syntax.specs.Cells.{PlacesConflict};
-ghost use Rattle.scop_syntax.specs.Kernel.{IsKernel};
 ghost use Rattle.scop_syntax.specs.Members.{In};
 ghost use Rattle.scop_syntax.specs.Tree.{Program};
 ghost use Rattle.scop_syntax.specs.Walk.{Instance, instance, walk_of};
 ghost use Rattle.iteration_domains.specs.Dependence.{Dependence};
+ghost use Rattle.iteration_domains.specs.Held.{HoldCovers};
 ghost use Rattle.iteration_domains.specs.Model.{KernelModel, model_of};
-ghost use Rattle.conflict_deps.specs.Conflicts.{conflicts_of};
 ghost use Rattle.schedule_rows.specs.Bands.{Along};
 ghost use Rattle.schedule_rows.specs.Dependences.{Relates};
 ghost use Rattle.schedule_rows.specs.Items.{Block, Marked, Row, band, phi, values};
@@ -21,6 +20,7 @@ ghost use Rattle.schedule_rows.specs.Next.{IsSizedDep, State};
 ghost use Rattle.schedule_rows.specs.Outcomes.{IsSchedule, Next, Outcome, Runs, ends};
 ghost use Rattle.schedule_rows.specs.Posed.{IsLeast};
 ghost use Rattle.schedule_rows.specs.Schedule.{Scheduled, loops_in};
+ghost use Rattle.schedule_rows.specs.Tiles.{IsGoodPair};
 ghost use Rattle.pluto_search.specs.Searching.{Searches};
 ghost use Rattle.pluto_search.specs.declared.kept.Kept.TheVariants.{NoRow};
 
@@ -59,6 +59,17 @@ pub fn plans_of_one_row()
         ∷ phi r y ∷ (y.turns ++ (zeros (n - length y.turns) ++ pos y.number ∷ [])))) }
 {
     schedule_rows::schedules_are_good_plans();
+}
+
+/// Without parameters a schedule without items is a good plan where its dependences hold the covers of a walk, by the
+/// clause of `schedules_of_covers_are_good_plans`.
+pub fn plans_of_covers()
+    ensures { (program : Program) (loops : List ℕ) (deps : List Dependence) (size : ℤ) (n i j : ℕ)
+        (c : PlacesConflict (walk_of program []) i j) → pos 0 <ℤ size
+        → ((d : Dependence) → In d deps → IsSizedDep loops d) → IsSchedule 0 loops deps []
+        → HoldCovers program [] deps → IsGoodPair size [] n (instance c.earlier) (instance c.later) }
+{
+    schedule_rows::schedules_of_covers_are_good_plans();
 }
 
 /// Without parameters a row rises by at most w at pairs with equal values before its band, by the clause of
@@ -125,12 +136,13 @@ pub fn least_first_rows_are_unique()
     schedule_rows::least_rows_are_unique();
 }
 
-/// Conflicting places of a kernel without parameters are in order, by the clause of `schedules_order_conflicts`.
+/// Conflicting places of a kernel without parameters are in order along a schedule of dependences that hold its covers,
+/// by the clause of `schedules_order_conflicts`.
 pub fn conflicts_of_kernels_without_parameters_are_in_order()
-    ensures { (program : Program) (blocks : List Block) (i j : ℕ) (c : PlacesConflict (walk_of program []) i j)
-        → IsKernel program → program.parameters ≡ []
-        → IsSchedule (model_of program).parameters (loops_in (model_of program)) (conflicts_of (model_of program))
-        blocks
+    ensures { (program : Program) (deps : List Dependence) (blocks : List Block) (i j : ℕ)
+        (c : PlacesConflict (walk_of program []) i j) → program.parameters ≡ []
+        → ((d : Dependence) → In d deps → IsSizedDep (loops_in (model_of program)) d) → HoldCovers program [] deps
+        → IsSchedule (model_of program).parameters (loops_in (model_of program)) deps blocks
         → LexLess (values blocks (instance c.earlier)) (values blocks (instance c.later)) }
 {
     pluto_search::schedules_order_conflicts();

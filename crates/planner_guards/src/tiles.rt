@@ -8,12 +8,14 @@ ghost use Rattle.scop_syntax.specs.Kernel.{IsKernel};
 ghost use Rattle.scop_syntax.specs.Members.{In};
 ghost use Rattle.scop_syntax.specs.Tree.{Program};
 ghost use Rattle.scop_syntax.specs.Walk.{Instance, Visit};
+ghost use Rattle.iteration_domains.specs.Dependence.{Dependence};
+ghost use Rattle.iteration_domains.specs.Held.{HoldCovers};
 ghost use Rattle.iteration_domains.specs.Instances.{IsInstanceOf};
 ghost use Rattle.iteration_domains.specs.Model.{KernelModel, Modelled, model_of};
-ghost use Rattle.conflict_deps.specs.Conflicts.{conflicts_of};
 ghost use Rattle.loop_tree.specs.Tiling.{IsGoodPlan, item_values, kept, order_of, tiled};
 ghost use Rattle.loop_tree.specs.TilingView.{tiling_of};
 ghost use Rattle.schedule_rows.specs.Items.{Block, Marked, values};
+ghost use Rattle.schedule_rows.specs.Next.{IsSizedDep};
 ghost use Rattle.schedule_rows.specs.Outcomes.{IsSchedule};
 ghost use Rattle.schedule_rows.specs.Schedule.{IsScheduled, loops_in};
 ghost use Rattle.schedule_rows.specs.Sized.{AreSized};
@@ -50,9 +52,9 @@ pub fn sets_of_tiles(
 
 /// Tiles of size 1 of a schedule are a good plan, by the clause of `tiled_schedules_are_good_plans`.
 pub fn plans_of_tiles()
-    ensures { (program : Program) (blocks : List Block) → IsKernel program → program.parameters ≡ []
-        → IsSchedule (model_of program).parameters (loops_in (model_of program)) (conflicts_of (model_of program))
-        blocks
+    ensures { (program : Program) (deps : List Dependence) (blocks : List Block) → program.parameters ≡ []
+        → ((d : Dependence) → In d deps → IsSizedDep (loops_in (model_of program)) d) → HoldCovers program [] deps
+        → IsSchedule (model_of program).parameters (loops_in (model_of program)) deps blocks
         → IsGoodPlan program [] (schedule_tiling 1 (length (model_of program).statements) blocks) }
 {
     laws::tiled_schedules_are_good_plans();

@@ -22,10 +22,10 @@ ghost use Rattle.conflict_deps.specs.Pairs.{IsPoint, TouchesAt};
 ghost use Rattle.conflict_deps.specs.Parts.{HasParts};
 ghost use Rattle.dataflow.specs.Candidates.{IsWanted, joined};
 ghost use Rattle.dataflow.specs.Flips.{flipped};
-ghost use Rattle.dataflow.specs.LastRuns.{last_run};
 ghost use Rattle.dataflow.specs.Places.{Names};
 ghost use Rattle.dataflow.specs.Problems.{all_below, posed_context, posed_rows, turned_leaf};
 ghost use Rattle.dataflow.specs.Sources.{IsCandidate, IsSolved};
+ghost use Rattle.dataflow.specs.WriterRuns.{writers_run};
 
 use dataflow::source_laws;
 
@@ -69,19 +69,45 @@ pub fn minima_in_kernels_without_parameters()
         → TouchesAt program [] j w b c → IsCandidate Later program w b dep → p.to.statement.number ≡ w.number
         → ((q : List ℤ) → length q ≡ 0 + loops_of p.to → NotNegative q
         → NotNegative (row_values (posed_context p.to.statement 0) q)
-        → IsAnswer (problem_of (loops_of p.from) (posed_rows p.from.statement p.to.statement 0 dep)) q (value t q))
+        → IsAnswer (problem_of (loops_of p.from) (posed_rows Later p.from.statement p.to.statement 0 dep)) q
+        (value t q))
         → IsWanted Later number loops (λ xs. IsPoint program [] dep xs w.turns)
-        (turned_leaf number loops (value t w.turns)) }
+        (turned_leaf Later number loops (value t w.turns)) }
 {
     source_laws::minima_are_the_last_writers();
+}
+
+/// Its minimum is its least next writer, by the clause of `minima_are_the_next_writers`.
+pub fn next_minima_in_kernels_without_parameters()
+    ensures { (program : Program) (j : ℕ) (w : Visit) (b : ℕ) (c : Cell) (dep : Dependence)
+        (p : HasParts (model_of program) dep) (number : ℕ) (loops : List ℕ) (t : Tree) → HasParameters program []
+        → TouchesAt program [] j w b c → IsCandidate Earlier program w b dep → p.from.statement.number ≡ w.number
+        → ((q : List ℤ) → length q ≡ 0 + loops_of p.from → NotNegative q
+        → NotNegative (row_values (posed_context p.from.statement 0) q)
+        → IsAnswer (problem_of (loops_of p.to) (posed_rows Earlier p.to.statement p.from.statement 0 dep)) q
+        (value t q))
+        → IsWanted Earlier number loops (λ xs. IsPoint program [] dep w.turns xs)
+        (turned_leaf Earlier number loops (value t w.turns)) }
+{
+    source_laws::minima_are_the_next_writers();
 }
 
 /// A read's run that ends well names the last writer, by the clause of `resolved_reads_have_their_last_writer`.
 pub fn resolved_reads_in_kernels_without_parameters()
     ensures { (program : Program) (j : ℕ) (w : Visit) (access : ℕ) (c : Cell) (budget : ℕ) (u : Tree)
         → HasParameters program [] → TouchesAt program [] j w access c
-        → last_run (model_of program) budget w.number access ≡ Ok u
+        → writers_run Later (model_of program) budget w.number access ≡ Ok u
         → Names (walk_of program []) (value u w.turns) (last_writer (walk_of program []) j c) }
 {
     source_laws::resolved_reads_have_their_last_writer();
+}
+
+/// It names the next writer where it looks on, by the clause of `resolved_reads_have_their_next_writer`.
+pub fn next_writers_in_kernels_without_parameters()
+    ensures { (program : Program) (j : ℕ) (w : Visit) (access : ℕ) (c : Cell) (budget : ℕ) (u : Tree)
+        → HasParameters program [] → TouchesAt program [] j w access c
+        → writers_run Earlier (model_of program) budget w.number access ≡ Ok u
+        → Names (walk_of program []) (value u w.turns) (next_writer (walk_of program []) j c) }
+{
+    source_laws::resolved_reads_have_their_next_writer();
 }

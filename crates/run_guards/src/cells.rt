@@ -10,7 +10,7 @@ ghost use Rattle.tile_events.specs.Core.{State};
 ghost use Rattle.tile_events.specs.Flat.{flat};
 ghost use Rattle.tile_events.specs.Rule.{core};
 ghost use Rattle.tile_events.specs.Sound.{Sound, is_done};
-ghost use Rattle.tile_core.specs.Plans.{IsPlan, extents_in, plan_of, shape_of, walk_in};
+ghost use Rattle.tile_core.specs.Plans.{HoldsContents, IsPlan, extents_in, plan_of, shape_of, walk_in};
 ghost use Rattle.tile_core.specs.Views.{Ruled, worker_in};
 ghost use Rattle.tile_core.specs.declared.plan.Plan.{Plan};
 ghost use Rattle.tile_core.specs.declared.view.Key.{Key};
@@ -38,11 +38,11 @@ pub fn cells_of_the_last_place()
 /// The same of words, by the clauses of `words_are_those_of_the_execution`.
 pub fn words_of_the_last_place()
     ensures first { (key : Key) (st : table.State (Unit {0}) View) (contents : List (List ℕ)) (c : Cell)
-        → Ruled key st → IsPlan key.plan → IsShaped (extents_in key.plan) contents → key.cells.items ≡ flat contents
+        → Ruled key st → IsPlan key.plan → IsShaped (extents_in key.plan) contents → HoldsContents contents key.cells.items
         → IsCell (extents_in key.plan) c → slice_index st.words 0 ≡ 0
         → slice_index st.words (cell_number (extents_in key.plan) c + 2) ≡ held (extents_in key.plan) contents c }
     ensures last { (key : Key) (st : table.State (Unit {0}) View) (contents : List (List ℕ)) (c : Cell) (i : ℕ) (v : Visit)
-        → Ruled key st → IsPlan key.plan → IsShaped (extents_in key.plan) contents → key.cells.items ≡ flat contents
+        → Ruled key st → IsPlan key.plan → IsShaped (extents_in key.plan) contents → HoldsContents contents key.cells.items
         → IsCell (extents_in key.plan) c
         → suc i ≡ length (walk_in key.plan) → slice_get (walk_in key.plan) i ≡ Some v → written v ≡ c
         → is_done (shape_of key.plan) (core st.words (map worker_in st.views)) i ≡ true

@@ -4,7 +4,8 @@ ghost use mathlib.Core.Option.{some};
 ghost use lib.ListN.{get_elem?};
 ghost use Rattle.scop_syntax.specs.Cells.{Cell};
 ghost use Rattle.scop_syntax.specs.Execution.{IsCell, IsShaped, cell_number, exec, held, values_read_by};
-ghost use Rattle.scop_syntax.specs.Walk.{Visit};
+ghost use Rattle.scop_syntax.specs.Walk.{Visit, instance};
+ghost use Rattle.tile_edges.specs.Edges.{IsTileOf};
 ghost use Rattle.tile_events.specs.Core.{State, idle, step};
 ghost use Rattle.tile_events.specs.Flat.{flat};
 ghost use Rattle.tile_events.specs.Opening.{IsQuiet};
@@ -13,7 +14,8 @@ ghost use Rattle.tile_events.specs.Sound.{Sound};
 ghost use Rattle.tile_core.specs.Boards.{IsRun, event_of, opening_state};
 ghost use Rattle.tile_core.specs.Cores.{IsCore, ReadsExecuted, plan_in, state_in};
 ghost use Rattle.tile_core.specs.Passes.{HasNoneNext, IsNextIn, IsPass};
-ghost use Rattle.tile_core.specs.Plans.{IsPlan, deal_of, extents_in, plan_of, program_in, scan_in, shape_of, walk_in};
+ghost use Rattle.tile_core.specs.Plans.{HasRest, HoldsContents, IsPlan, deal_of, extents_in, plan_of, program_in, scan_in};
+ghost use Rattle.tile_core.specs.Plans.{shape_of, walk_in, walk_shape};
 ghost use Rattle.tile_core.specs.declared.plan.Plan.{Plan as AnyPlan};
 
 use scop_syntax::instance::Instance;
@@ -32,6 +34,7 @@ pub fn core_of_one_worker<'a>(
 ) -> Result<Core<'a>, AllocError>
     requires plan { IsPlan plan.now }
     requires cells { length cells.old.items ≡ (shape_of plan.now).cells }
+    requires rest { HasRest plan.now cells.old.items }
     ensures core { IfOk result IsCore }
     ensures plan { IfOk result (λ c. plan_in c ≡ plan.now) }
     ensures state { IfOk result (λ c. state_in c ≡ opening_state cells.old.items 1) }
@@ -93,8 +96,10 @@ pub fn instance_of(words: &Words, pass: &Pass) -> Option<Instance>
 }
 
 /// The first place reads what the arrays hold at first, by `reads` of `plans_execute_the_kernel`; where all tiles are
-/// done the cells are those of execution, by `end`.
+/// done the cells are those of execution, by `end`; a row that holds the contents makes the same plan, by `row`.
 pub fn values_of_plans()
+    ensures row { (plan : AnyPlan) (contents : List (List ℕ)) (cells : List ℕ) → HoldsContents contents cells
+        → plan_of plan cells ≡ plan_of plan (flat contents) }
     ensures reads { (plan : AnyPlan) (contents : List (List ℕ)) (v : Visit) → IsPlan plan
         → IsShaped (extents_in plan) contents → slice_get (walk_in plan) 0 ≡ Some v
         → values_read (plan_of plan (flat contents)) 0 ≡ values_read_by (extents_in plan) contents v.body v.point }
@@ -118,9 +123,22 @@ pub fn plans_of_three_places()
     plan_laws::plans_are_good();
 }
 
+/// The same of the walk's places alone, by the clauses of `walks_are_dealt`; the tile of the first place is that of its
+/// instance, by `held`.
+pub fn walks_of_three_places()
+    ensures scan { (plan : AnyPlan) → IsPlan plan → length (walk_in plan) ≡ 3 → (deal_of plan).rank 0 < 3 }
+    ensures count { (plan : AnyPlan) → IsPlan plan → length (walk_in plan) ≡ 3 → length (scan_in plan) ≡ 3 }
+    ensures good { (plan : AnyPlan) → IsPlan plan → GoodPlan (walk_shape plan) }
+    ensures dealt { (plan : AnyPlan) → IsPlan plan → IsDealt (walk_shape plan) }
+    ensures held { (plan : AnyPlan) (is : IsPlan plan) (v : Visit) → slice_get (walk_in plan) 0 ≡ Some v
+        → IsTileOf is.tiling plan.list.now ((walk_shape plan).tile 0) (instance v) }
+{
+    plan_laws::walks_are_dealt();
+}
+
 /// The first place of some reads at most 16 cells, by the clause of `instances_read_few`.
 pub fn reads_of_the_first_place()
-    ensures { (plan : AnyPlan) → IsPlan plan → 0 < (shape_of plan).places → length ((shape_of plan).read 0) ≤ 16 }
+    ensures { (plan : AnyPlan) → IsPlan plan → 0 < (walk_shape plan).places → length ((walk_shape plan).read 0) ≤ 16 }
 {
     plan_laws::instances_read_few();
 }

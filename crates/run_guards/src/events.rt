@@ -6,11 +6,12 @@ ghost use mathlib.Core.Option.{none, some};
 ghost use Rattle.atomic_table.specs.Table as table;
 ghost use Rattle.atomic_table.specs.Table.{Allows, Joins, Me, Splits, State};
 ghost use Rattle.scop_syntax.specs.Cells.{Cell, Conflict, cell_of};
+ghost use Rattle.scop_syntax.specs.Covers.{Cover};
 ghost use Rattle.scop_syntax.specs.Execution.{AreInside, IsCell, IsShaped, cell_number, held, performed_all};
 ghost use Rattle.scop_syntax.specs.Walk.{Visit};
 ghost use Rattle.tile_events.specs.Allowed.{IsBehind};
 ghost use Rattle.tile_events.specs.Core.{Event, Worker, ended, holding, idle, replay, step, working};
-ghost use Rattle.tile_events.specs.Covers.{Covers, IsCover};
+ghost use Rattle.tile_events.specs.Covers.{Covers};
 ghost use Rattle.tile_events.specs.Deal.{dealt};
 ghost use Rattle.tile_events.specs.Example.{counted, first, some_run, two};
 ghost use Rattle.tile_events.specs.Flat.{AreMarked, IsWalk, flat, is_marked, loads};
@@ -96,7 +97,7 @@ pub fn covers_over_four_cells()
     ensures { (contents : List (List ℕ)) (visits : List Visit) (p : Plan)
         → IsWalk ((4 ∷ []) ∷ []) contents [] visits p → AreInside ((4 ∷ []) ∷ []) visits
         → p.places ≡ length visits
-        → (Covers p 0 1 → IsCover visits 0 1) × (IsCover visits 0 1 → Covers p 0 1) }
+        → (Covers p 0 1 → Cover visits 0 1) × (Cover visits 0 1 → Covers p 0 1) }
 {
     flat_laws::covers_are_those_of_the_walk();
 }

@@ -10,8 +10,7 @@ ghost use Rattle.loop_tree.specs.View.{trees_in};
 ghost use Rattle.loop_tree.specs.Walk.{visits};
 ghost use Rattle.plan_tree.specs.Trees.{AreTreesOf};
 ghost use Rattle.tile_list.specs.Tiles.{CanTile};
-ghost use Rattle.tile_events.specs.Flat.{flat};
-ghost use Rattle.tile_core.specs.Plans.{IsPlan, extents_in, plan_of, program_in, shape_of};
+ghost use Rattle.tile_core.specs.Plans.{HasRest, HoldsContents, IsPlan, extents_in, plan_of, program_in, shape_of};
 
 use array_words::Closed;
 use data_text::Case;
@@ -34,6 +33,7 @@ pub fn run_by_one_worker<'a, R: Threads + Wait + Sync>(
 ) -> Result<Closed<'a>, AllocError>
     requires plan { IsPlan plan }
     requires cells { length cells.old.items ≡ (shape_of plan).cells }
+    requires rest { HasRest plan cells.old.items }
     ensures cells { IfOk result (λ _. IsClosed (plan_of plan.entry cells.old.items) cells.old.items cells.new.items) }
     ensures plan { IfOk result (λ c. c.plan ≡ plan.entry) }
     ensures ended { IfOk result (λ c. c.ended ≡ 1) }
@@ -54,10 +54,11 @@ pub fn run_as_executed<'a, R: Threads + Wait + Sync, G: Gate>(
 ) -> Result<Closed<'a>, AllocError>
     requires plan { IsPlan plan }
     requires cells { length cells.old.items ≡ (shape_of plan).cells }
+    requires rest { HasRest plan cells.old.items }
     requires some { 1 ≤ workers }
     requires few { workers ≤ 64 }
     ensures { IfOk result (λ _. (contents : List (List ℕ)) → IsShaped (extents_in plan.entry) contents
-        → cells.old.items ≡ flat contents → (c : Cell) → IsCell (extents_in plan.entry) c
+        → HoldsContents contents cells.old.items → (c : Cell) → IsCell (extents_in plan.entry) c
         → get_or cells.new.items (cell_number (extents_in plan.entry) c) 0
         ≡ held (extents_in plan.entry) (exec (program_in plan.entry) plan.entry.params.now contents) c) }
 {
@@ -83,5 +84,5 @@ pub fn case_stays_without_memory<W: Workers>(
     ensures params { case.new.params.items ≡ case.old.params.items }
     ensures unchanged { IfErr result (λ _. case.new.arrays ≡ case.old.arrays) }
 {
-    run_case(by, alloc, kernel, case, tree, tiling, 1)
+    run_case(by, alloc, kernel, case, tree, tiling, true, 1)
 }

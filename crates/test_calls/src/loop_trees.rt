@@ -11,8 +11,8 @@ ghost use Rattle.loop_tree.specs.View.{trees_in};
 ghost use Rattle.plan_tree.specs.Trees.{IsScheduleFor};
 
 use c_printer::{print, read_back};
-use conflict_deps::conflicts;
 use iteration_domains::Model;
+use kernel_plans::dependences_of;
 use loop_tree::{Spot, Tree};
 use plan_tree::laws::trees_of_plans_can_be_walked;
 use plan_tree::{hull_tree, tiled_tree};
@@ -81,7 +81,7 @@ fn planned(alloc: Global, kernel: &Kernel, size: u64, scan: Scan) -> Result<Tree
         → CanWalk (trees_in t) params []) }
 {
     let model = Model::of(alloc, kernel)?;
-    let deps = conflicts(alloc, &model)?;
+    let deps = dependences_of(alloc, &model)?;
     match search(alloc, &model, &deps, BUDGET) {
         Ok(schedule) => scanned(alloc, &schedule, size, scan),
         Err(_) => Err(AllocError),

@@ -1,7 +1,7 @@
-//! Calls of the planner with answers that are worked out by hand: components of a graph, kernel vectors of rows, and the
-//! last write of a read at each of its instances.
+//! Calls of the planner with answers that are worked out by hand: components of a graph, kernel vectors of rows, and
+//! the last write and the next write of a read at each of its instances.
 
-use dataflow::{ReadSource, last_writes};
+use dataflow::{ReadSource, last_writes, next_writes};
 use iteration_domains::Model;
 use pluto_systems::kernel_vectors;
 use quast_trees::{Leaf, Quast};
@@ -44,6 +44,17 @@ const WRITES: &[(&str, usize, i128, &[Option<i128>])] = &[
     (PREFIX, 1, 4, &[None, Some(0), Some(1)]),
 ];
 
+const SHIFT: &str = "void shift(int64_t N, uint64_t A[N]) {
+    for (int64_t i = 0; i < N - 1; i++) A[i] = A[i+1]; }";
+
+/// The same of the turn that writes next behind a reader: `even` and `pre` write no cell behind a read of it.
+const OVERWRITES: &[(&str, usize, i128, &[Option<i128>])] = &[
+    (EVEN, 0, 2, &[None, None, None, None]),
+    (PREFIX, 0, 4, &[None, None, None]),
+    (PREFIX, 1, 4, &[None, None, None]),
+    (SHIFT, 0, 4, &[Some(1), Some(2), None]),
+];
+
 /// The turn of a leaf's instance; none where the value is the initial one.
 fn turn_of(leaf: Leaf) -> Option<i128> {
     match leaf {
@@ -70,6 +81,14 @@ fn is_told(quast: &Quast, parameter: i128, turns: &[Option<i128>]) -> bool {
     true
 }
 
+/// Whether a read's source among these is as told.
+fn is_among(sources: &[ReadSource], read: usize, parameter: i128, turns: &[Option<i128>]) -> bool {
+    match sources.get(read) {
+        Some(ReadSource::Resolved(quast)) => is_told(quast, parameter, turns),
+        _ => false,
+    }
+}
+
 /// Whether the source of a read is as told.
 fn is_source(
     alloc: Global,
@@ -83,10 +102,25 @@ fn is_source(
         Ok(kernel) => {
             let model = Model::of(alloc, &kernel)?;
             let sources = last_writes(alloc, &model, 20000)?;
-            Ok(match sources.get(read) {
-                Some(ReadSource::Resolved(quast)) => is_told(quast, parameter, turns),
-                _ => false,
-            })
+            Ok(is_among(&sources, read, parameter, turns))
+        }
+    }
+}
+
+/// Whether what overwrites the cell of a read is as told.
+fn is_overwritten(
+    alloc: Global,
+    text: &str,
+    read: usize,
+    parameter: i128,
+    turns: &[Option<i128>],
+) -> Result<bool, AllocError> {
+    match read_kernel(alloc, text.as_bytes()) {
+        Err(_) => Err(AllocError),
+        Ok(kernel) => {
+            let model = Model::of(alloc, &kernel)?;
+            let sources = next_writes(alloc, &model, 20000)?;
+            Ok(is_among(&sources, read, parameter, turns))
         }
     }
 }
@@ -97,6 +131,18 @@ fn reads_have_these_last_writes(rt: HostRuntime) -> Result<(), Fail> {
         let (text, read, parameter, turns) = *case;
         assert!(rt;
             is_source(rt.alloc(), text, read, parameter, turns)?,
+            "{text} read {read}"
+        );
+    }
+    Ok(())
+}
+
+#[test]
+fn reads_have_these_next_writes(rt: HostRuntime) -> Result<(), Fail> {
+    for case in OVERWRITES {
+        let (text, read, parameter, turns) = *case;
+        assert!(rt;
+            is_overwritten(rt.alloc(), text, read, parameter, turns)?,
             "{text} read {read}"
         );
     }

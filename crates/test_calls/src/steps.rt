@@ -1,9 +1,10 @@
-//! Steps of two workers over a sweep of six tiles in five waves, call by call: on the core, and on the words.
+//! Steps of two workers over a sweep of six tiles in five waves, call by call, by waves and with tiles released one by
+//! one: on the core, and on the words.
 
-ghost use Rattle.std.specs.Prelude.{◌≡◌, ◌<◌, length, true};
+ghost use Rattle.std.specs.Prelude.{◌≡◌, ◌<◌, None, length, true};
 ghost use Rattle.tile_core.specs.Cores.{IsCore, state_in};
 ghost use Rattle.tile_core.specs.Passes.{IsPass};
-ghost use Rattle.tile_core.specs.Plans.{IsPlan, shape_of};
+ghost use Rattle.tile_core.specs.Plans.{HasEdges, HasRest, IsPlan, shape_of};
 ghost use Rattle.tile_core.specs.declared.worker.Stage.TheVariants.{Idle};
 ghost use Rattle.wave_barrier.specs.Opens.{IsHolding};
 
@@ -21,8 +22,9 @@ use tile_core::cores::Core;
 use tile_core::plan::Plan;
 use tile_core::words::{Pass, Words};
 use tile_core::worker::Stage;
-use tile_runner::do_tile;
-use wave_barrier::{finish, try_open};
+use tile_edges::TileEdges;
+use tile_runner::{do_tile, is_opened, release_all};
+use wave_barrier::{finish, try_open, try_open_tile};
 
 const SWEEP: &[u8] = b"void seidel(int64_t T, int64_t N, uint64_t A[N]) {
     for (int64_t t = 0; t < T; t++) for (int64_t i = 1; i < N - 1; i++)
@@ -32,6 +34,30 @@ T = 2
 N = 5
 A = 1 1 1 1 1
 ";
+
+/// How many tiles wait for each.
+const WAITING: [usize; 6] = [2, 3, 2, 1, 1, 0];
+
+/// How many tiles this one releases.
+fn waiting_for(plan: &Plan, tile: usize) -> usize
+    requires { tile < 6 }
+{
+    match plan.edges {
+        Some(_) => WAITING[tile],
+        None => 0,
+    }
+}
+
+/// Whether these are the nine pairs of tiles of which the second waits for the first.
+fn are_nine(edges: &TileEdges) -> bool {
+    if edges.starts.as_slice() != [0, 2, 5, 7, 8, 9, 9].as_slice() {
+        return false;
+    }
+    if edges.targets.as_slice() != [1, 3, 2, 3, 4, 4, 5, 4, 5].as_slice() {
+        return false;
+    }
+    edges.needs.as_slice() == [0, 1, 1, 2, 3, 2].as_slice()
+}
 
 /// An event of one of two workers, and what it sees; None where it is none that the worker may do.
 fn act(core: &mut Core, worker: usize, event: Event) -> Option<Seen>
@@ -89,26 +115,55 @@ fn loads(core: &mut Core, worker: usize) -> bool
     }
 }
 
-/// Whether the worker stores the instance's value, and finishes its tile.
-fn ends(core: &mut Core, worker: usize) -> bool
+/// Whether the worker stores the instance's value.
+fn stores(core: &mut Core, worker: usize) -> bool
     requires core { IsCore core.old }
     requires workers { length (state_in core.old).workers ≡ 2 }
     requires worker { worker < 2 }
     ensures core { IsCore core.new }
     ensures workers { length (state_in core.new).workers ≡ 2 }
 {
-    let stored = match act(core, worker, Event::Store) {
+    match act(core, worker, Event::Store) {
         Some(Seen::Stored) => true,
-        _ => false,
-    };
-    match act(core, worker, Event::Finish) {
-        Some(Seen::Finished) => stored,
         _ => false,
     }
 }
 
-/// Whether the worker opens its tile and does it.
-fn does(core: &mut Core, worker: usize) -> bool
+/// Whether the worker releases so many tiles, and no more.
+fn releases(core: &mut Core, worker: usize, waiting: usize) -> bool
+    requires core { IsCore core.old }
+    requires workers { length (state_in core.old).workers ≡ 2 }
+    requires worker { worker < 2 }
+    ensures core { IsCore core.new }
+    ensures workers { length (state_in core.new).workers ≡ 2 }
+{
+    for _ in 0..waiting {
+        match act(core, worker, Event::Release) {
+            Some(Seen::Released) => {}
+            _ => return false,
+        }
+    }
+    act(core, worker, Event::Release).is_none()
+}
+
+/// Whether the worker stores the instance's value, releases so many tiles, and finishes its own.
+fn ends(core: &mut Core, worker: usize, waiting: usize) -> bool
+    requires core { IsCore core.old }
+    requires workers { length (state_in core.old).workers ≡ 2 }
+    requires worker { worker < 2 }
+    ensures core { IsCore core.new }
+    ensures workers { length (state_in core.new).workers ≡ 2 }
+{
+    let stored = stores(core, worker);
+    let released = releases(core, worker, waiting);
+    match act(core, worker, Event::Finish) {
+        Some(Seen::Finished) => stored && released,
+        _ => false,
+    }
+}
+
+/// Whether the worker opens its tile, does it, and releases so many others.
+fn does(core: &mut Core, worker: usize, waiting: usize) -> bool
     requires core { IsCore core.old }
     requires workers { length (state_in core.old).workers ≡ 2 }
     requires worker { worker < 2 }
@@ -119,11 +174,11 @@ fn does(core: &mut Core, worker: usize) -> bool
     let first = loads(core, worker);
     let second = loads(core, worker);
     let third = loads(core, worker);
-    ends(core, worker) && opened && first && second && third
+    ends(core, worker, waiting) && opened && first && second && third
 }
 
-/// Whether the worker claims this tile, opens it and does it.
-fn claims_and_does(core: &mut Core, worker: usize, tile: u64) -> bool
+/// Whether the worker claims this tile, opens it, does it, and releases so many others.
+fn claims_and_does(core: &mut Core, worker: usize, tile: u64, waiting: usize) -> bool
     requires core { IsCore core.old }
     requires workers { length (state_in core.old).workers ≡ 2 }
     requires worker { worker < 2 }
@@ -131,11 +186,11 @@ fn claims_and_does(core: &mut Core, worker: usize, tile: u64) -> bool
     ensures workers { length (state_in core.new).workers ≡ 2 }
 {
     let claimed = claims_next(core, worker, tile);
-    does(core, worker) && claimed
+    does(core, worker, waiting) && claimed
 }
 
-/// Whether the worker's tile may not be opened yet, since three tiles are finished and four have to be, and nothing can
-/// be loaded then.
+/// Whether the worker's tile may not be opened yet, since three tiles are finished and four have to be, or since two
+/// tiles have released it and three have to, and nothing can be loaded then.
 fn waits(core: &mut Core, worker: usize) -> bool
     requires core { IsCore core.old }
     requires workers { length (state_in core.old).workers ≡ 2 }
@@ -145,6 +200,7 @@ fn waits(core: &mut Core, worker: usize) -> bool
 {
     let waits = match act(core, worker, Event::Open) {
         Some(Seen::NotYet { done, needs }) => done == 3 && needs == 4,
+        Some(Seen::Short { seen, needs }) => seen == 2 && needs == 3,
         _ => false,
     };
     match act(core, worker, Event::Load) {
@@ -158,16 +214,17 @@ fn waits(core: &mut Core, worker: usize) -> bool
 fn steps_on_the_core(alloc: Global, plan: &Plan, cells: &[u64]) -> Result<bool, AllocError>
     requires plan { IsPlan plan.now }
     requires cells { length cells.now ≡ (shape_of plan.now).cells }
+    requires rest { HasRest plan.now cells.now }
 {
     let mut cells = cells.to_vec(alloc)?;
     let mut core = Core::of(alloc, plan, &mut cells, 2)?;
-    let first = claims_and_does(&mut core, 0, 0);
-    let second = claims_and_does(&mut core, 0, 1);
+    let first = claims_and_does(&mut core, 0, 0, waiting_for(plan, 0));
+    let second = claims_and_does(&mut core, 0, 1, waiting_for(plan, 1));
     let claimed = claims_next(&mut core, 0, 2);
-    let third = claims_and_does(&mut core, 1, 3);
+    let third = claims_and_does(&mut core, 1, 3, waiting_for(plan, 3));
     let last = claims_next(&mut core, 1, 4);
     let held_up = waits(&mut core, 1);
-    let done = does(&mut core, 0);
+    let done = does(&mut core, 0, waiting_for(plan, 2));
     let opened = opens(&mut core, 1);
     Ok(first && second && claimed && third && last && held_up && done && opened)
 }
@@ -185,7 +242,7 @@ fn takes(words: &Words, pass: &mut Pass, tile: u64) -> bool
     }
 }
 
-/// Whether the pass opens its tile and does it.
+/// Whether the pass opens its tile, does it, and releases those that wait for it.
 fn works(words: &Words, pass: &mut Pass) -> bool
     requires pass { IsPass words.now pass.old }
     requires holds { IsHolding pass.old.worker.stage }
@@ -195,24 +252,53 @@ fn works(words: &Words, pass: &mut Pass) -> bool
     let Stage::Holding(tile) = pass.worker.stage else {
         unreachable!()
     };
-    if try_open(words, pass).is_err() {
+    if !is_opened(words, pass, tile) {
         return false;
     }
     do_tile(words, pass, tile);
+    release_all(words, pass, tile);
     finish(words, pass);
     true
 }
 
 /// Whether the pass's tile may not be opened yet, since three tiles are finished and four have to be.
-fn is_held_up(words: &Words, pass: &mut Pass) -> bool
+fn comes_too_early(words: &Words, pass: &mut Pass) -> bool
     requires pass { IsPass words.now pass.old }
     requires holds { IsHolding pass.old.worker.stage }
+    requires edges { words.now.plan.edges ≡ None }
     ensures pass { IsPass words.now pass.new }
     ensures holds { result ≡ true → IsHolding pass.new.worker.stage }
 {
     match try_open(words, pass) {
         Err(not_yet) => not_yet.done == 3 && not_yet.needs == 4,
         Ok(()) => false,
+    }
+}
+
+/// Whether it may not, since two tiles have released it and three have to.
+fn falls_short(words: &Words, pass: &mut Pass) -> bool
+    requires pass { IsPass words.now pass.old }
+    requires holds { IsHolding pass.old.worker.stage }
+    requires edges { HasEdges words.now.plan }
+    ensures pass { IsPass words.now pass.new }
+    ensures holds { result ≡ true → IsHolding pass.new.worker.stage }
+{
+    match try_open_tile(words, pass) {
+        Err(short) => short.seen == 2 && short.needs == 3,
+        Ok(()) => false,
+    }
+}
+
+/// Whether the pass's tile may not be opened yet, by waves or by its counter.
+fn is_held_up(words: &Words, pass: &mut Pass) -> bool
+    requires pass { IsPass words.now pass.old }
+    requires holds { IsHolding pass.old.worker.stage }
+    ensures pass { IsPass words.now pass.new }
+    ensures holds { result ≡ true → IsHolding pass.new.worker.stage }
+{
+    match words.plan.edges {
+        Some(_) => falls_short(words, pass),
+        None => comes_too_early(words, pass),
     }
 }
 
@@ -284,6 +370,7 @@ fn step_by_passes(words: &Words, first: &mut Pass, second: &mut Pass) -> bool
 fn steps_on_the_words(alloc: Global, plan: Plan, cells: &[u64]) -> Result<bool, AllocError>
     requires plan { IsPlan plan }
     requires cells { length cells.now ≡ (shape_of plan).cells }
+    requires rest { HasRest plan cells.now }
 {
     let mut cells = cells.to_vec(alloc)?;
     let (words, mut passes) = start(alloc, plan, &mut cells, 2)?;
@@ -301,6 +388,16 @@ fn steps_on_the_words(alloc: Global, plan: Plan, cells: &[u64]) -> Result<bool, 
 struct Stepped {
     on_the_core: AtomicBool,
     on_the_words: AtomicBool,
+    by_nine_pairs: AtomicBool,
+}
+
+/// Nothing is told yet.
+fn unstepped() -> Stepped {
+    Stepped {
+        on_the_core: AtomicBool::new(false),
+        on_the_words: AtomicBool::new(false),
+        by_nine_pairs: AtomicBool::new(false),
+    }
 }
 
 impl Workers for Stepped {
@@ -313,6 +410,11 @@ impl Workers for Stepped {
         cells: &mut Vec<u64>,
         workers: usize,
     ) -> Result<(), AllocError> {
+        let nine = match plan.edges {
+            Some(edges) => are_nine(edges),
+            None => false,
+        };
+        self.by_nine_pairs.store(nine, Ordering::SeqCst);
         let core = steps_on_the_core(alloc, &plan, cells.as_slice())?;
         let words = steps_on_the_words(alloc, plan, cells.as_slice())?;
         self.on_the_core.store(core, Ordering::SeqCst);
@@ -321,27 +423,42 @@ impl Workers for Stepped {
     }
 }
 
+/// Whether a command runs the sweep, and two workers step over it as they should.
+fn steps_over_a_sweep(
+    alloc: Global,
+    stepped: &Stepped,
+    arguments: &[&'static str],
+) -> Result<bool, Fail> {
+    let words = words_of(alloc, arguments)?;
+    let mut source = MemSource::of(alloc, SWEEP, 4096, &[])?;
+    let mut out = MemSink::of(alloc, 4096, 4096, &[])?;
+    let mut err = MemSink::of(alloc, 4096, 4096, &[])?;
+    let status = command_by(stepped, alloc, &words, &mut source, &mut out, &mut err);
+    Ok(status.exit_code() == 0 && out.taken() == b"A = 1 9 21 29 1\n".as_slice())
+}
+
 #[test]
 fn two_workers_step_over_a_sweep(rt: HostRuntime) -> Result<(), Fail> {
-    let stepped = Stepped {
-        on_the_core: AtomicBool::new(false),
-        on_the_words: AtomicBool::new(false),
-    };
-    let words = words_of(rt.alloc(), &["polypar", "run", "--tile", "1"])?;
-    let mut source = MemSource::of(rt.alloc(), SWEEP, 4096, &[])?;
-    let mut out = MemSink::of(rt.alloc(), 4096, 4096, &[])?;
-    let mut err = MemSink::of(rt.alloc(), 4096, 4096, &[])?;
-    let status = command_by(
-        &stepped,
-        rt.alloc(),
-        &words,
-        &mut source,
-        &mut out,
-        &mut err,
-    );
-    assert!(rt; status.exit_code() == 0);
-    assert!(rt; out.taken() == b"A = 1 9 21 29 1\n".as_slice());
+    let stepped = unstepped();
+    let ran = steps_over_a_sweep(rt.alloc(), &stepped, &["polypar", "run", "--tile", "1"])?;
+    assert!(rt; ran);
     assert!(rt; stepped.on_the_core.load(Ordering::SeqCst));
     assert!(rt; stepped.on_the_words.load(Ordering::SeqCst));
+    assert!(rt; !stepped.by_nine_pairs.load(Ordering::SeqCst));
+    Ok(())
+}
+
+#[test]
+fn two_workers_release_tiles_of_a_sweep(rt: HostRuntime) -> Result<(), Fail> {
+    let stepped = unstepped();
+    let ran = steps_over_a_sweep(
+        rt.alloc(),
+        &stepped,
+        &["polypar", "run", "--tile", "1", "--sync", "tiles"],
+    )?;
+    assert!(rt; ran);
+    assert!(rt; stepped.on_the_core.load(Ordering::SeqCst));
+    assert!(rt; stepped.on_the_words.load(Ordering::SeqCst));
+    assert!(rt; stepped.by_nine_pairs.load(Ordering::SeqCst));
     Ok(())
 }

@@ -74,6 +74,8 @@ struct Reported {
     /// What stands before the numbers of tiles, waves and workers: the schedule, or the line of a kept order.
     plan: &'static str,
     counts: &'static str,
+    /// What stands behind them where tiles are released one by one: how many pairs of tiles there are.
+    edges: &'static str,
 }
 
 const REPORTED: &[Reported] = &[
@@ -85,6 +87,7 @@ const REPORTED: &[Reported] = &[
         arrays: "A = 1 2 3 4 5\n",
         plan: PREFIX_ROW,
         counts: "tiles 4 waves 4",
+        edges: "edges 3\n",
     },
     Reported {
         kernel: PREFIX,
@@ -94,6 +97,7 @@ const REPORTED: &[Reported] = &[
         arrays: "A = 9\n",
         plan: PREFIX_ROW,
         counts: "tiles 0 waves 0",
+        edges: "edges 0\n",
     },
     Reported {
         kernel: SWEEP,
@@ -103,6 +107,7 @@ const REPORTED: &[Reported] = &[
         arrays: "A = 1 9 21 29 1\n",
         plan: SWEEP_ROWS,
         counts: "tiles 6 waves 5",
+        edges: "edges 9\n",
     },
     Reported {
         kernel: SWEEP,
@@ -112,6 +117,7 @@ const REPORTED: &[Reported] = &[
         arrays: "A = 1 9 21 29 1\n",
         plan: SWEEP_ROWS,
         counts: "tiles 2 waves 2",
+        edges: "edges 1\n",
     },
     Reported {
         kernel: TWO,
@@ -121,6 +127,7 @@ const REPORTED: &[Reported] = &[
         arrays: "A = 2 3 4 4\nB = 2 3 4\n",
         plan: TWO_ROWS,
         counts: "tiles 4 waves 1",
+        edges: "edges 0\n",
     },
     Reported {
         kernel: PRODUCT,
@@ -130,6 +137,7 @@ const REPORTED: &[Reported] = &[
         arrays: "A = 1 2 3 4\nB = 5 6 7 8\nC = 19 22 43 50\n",
         plan: "kept: spent 1\n",
         counts: "tiles 1 waves 1",
+        edges: "edges 0\n",
     },
 ];
 
@@ -173,12 +181,13 @@ fn report_of(
     Ok(report)
 }
 
-/// Whether a run by so many workers prints what is told of it.
+/// Whether a run by so many workers, whose tiles begin so, prints what is told of it.
 fn is_reported<R: Threads + Wait + Sync>(
     rt: &R,
     alloc: Global,
     run: &Reported,
     workers: &'static str,
+    sync: &'static str,
 ) -> Result<bool, AllocError> {
     let mut input = String::from_str(alloc, run.kernel)?;
     input.push_str(run.data)?;
@@ -192,17 +201,23 @@ fn is_reported<R: Threads + Wait + Sync>(
         run.budget,
         "--workers",
         workers,
+        "--sync",
+        sync,
     ];
     let answer = call_on(rt, alloc, &words, input.as_bytes(), &OpenGate)?;
-    let report = report_of(alloc, run.plan, run.counts, workers)?;
+    let mut report = report_of(alloc, run.plan, run.counts, workers)?;
+    if sync == "tiles" {
+        report.push_str(run.edges)?;
+    }
     Ok(is_answer(answer, run.arrays.as_bytes(), report.as_bytes()))
 }
 
 #[test]
-fn reports_tell_schedule_tiles_and_waves(rt: HostRuntime) -> Result<(), Fail> {
+fn reports_tell_schedule_tiles_waves_and_pairs(rt: HostRuntime) -> Result<(), Fail> {
     for run in REPORTED {
         for workers in WORKERS {
-            assert!(rt; is_reported(&rt, rt.alloc(), run, workers)?);
+            assert!(rt; is_reported(&rt, rt.alloc(), run, workers, "waves")?);
+            assert!(rt; is_reported(&rt, rt.alloc(), run, workers, "tiles")?);
         }
     }
     Ok(())

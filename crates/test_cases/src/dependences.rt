@@ -47,7 +47,7 @@ fn read_sides<R: Print + AllocGlobal>(
 fn dependence(source: DepEnd, target: DepEnd, system: System) -> Option<Dep> {
     let iterators = source.loops.checked_add(target.loops)?;
     let one = source.statement == target.statement;
-    if system.dimensions() != iterators || (one && source.loops != target.loops) {
+    if system.dimensions() < iterators || (one && source.loops != target.loops) {
         return None;
     }
     Some(Dep {

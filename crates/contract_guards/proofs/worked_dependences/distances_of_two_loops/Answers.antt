@@ -6,5 +6,6 @@ use Rattle.contract_guards.proofs.worked_dependences.distances_of_two_loops.Goal
 
 pub returns : goal.returns
 unfolding layout_of
-returns c = λ numbers i j.
-    c.claimed_forms_are_distances.ensures Legality (end 2) (end 1) 0 numbers (i ∷ []) (j ∷ []) [] refl refl
+returns c = λ numbers i j q.
+    c.claimed_forms_are_distances.ensures Legality (end 2) (end 1) 1 0 numbers (i ∷ []) (j ∷ []) (q ∷ []) [] refl refl
+    refl
