@@ -1,10 +1,16 @@
 """Times commands against each other by the clock, the shortest of several rounds taken in turn, and makes the input of a
 kernel's run."""
 
+import os
 import subprocess
+import sys
 import time
 
 from harness import arrays_of
+from kernel_texts import kernel_of
+
+# What stands in front of the name of a command on a tiny case, whose time is that of a start.
+START = "start of "
 
 
 def clock(command, text=b""):
@@ -22,6 +28,19 @@ def shortest(commands, rounds):
             seconds, printed[name] = clock(command, text)
             times[name] = min(seconds, times.get(name, seconds))
     return times, printed
+
+
+def net_times(kind, commands, starts, rounds):
+    """The shortest times of commands that print the same arrays, each less that of its start."""
+    times, printed = shortest(commands | starts, rounds)
+    if len({printed[name] for name in commands}) != 1:
+        sys.exit(f"{kind}: the arrays differ")
+    return {name: times[name] - times[START + name] for name in commands}
+
+
+def kernel_in(root, file):
+    """The kernel of a file below the root, or the text that stands in its place."""
+    return file if "\n" in file else kernel_of(os.path.join(root, file))
 
 
 def input_of(kernel, values):

@@ -1,11 +1,9 @@
 """Times releases from tile to tile against waves, by the clock. Called by sync.sh."""
 
-import os
 import subprocess
 import sys
 
-from by_clock import input_of, shortest
-from kernel_texts import kernel_of
+from by_clock import START, input_of, kernel_in, net_times
 from timing import rounds_of
 
 WORKERS = (2, 4)
@@ -51,13 +49,9 @@ def main():
     program, root = sys.argv[1:3]
     rounds = rounds_of(sys.argv[3:], 5)
     for kind, (file, values, tiny) in CASES.items():
-        kernel = file if "\n" in file else kernel_of(os.path.join(root, file))
+        kernel = kernel_in(root, file)
         text = input_of(kernel, values)
-        commands = commands_of(program, text, "")
-        times, printed = shortest(commands | commands_of(program, input_of(kernel, tiny), "start of "), rounds)
-        if len({printed[name] for name in commands}) != 1:
-            sys.exit(f"{kind}: the arrays differ")
-        net = {name: times[name] - times["start of " + name] for name in commands}
+        net = net_times(kind, commands_of(program, text, ""), commands_of(program, input_of(kernel, tiny), START), rounds)
         print(f"{kind}: {counts_of(program, text)}")
         for name, seconds in net.items():
             print(f"  {name}: {seconds:.3f} s")

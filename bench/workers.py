@@ -1,11 +1,9 @@
 """Times parallel runs against a C compiler, by the clock. Called by workers.sh."""
 
-import os
 import sys
 
-from by_clock import input_of, shortest
+from by_clock import START, input_of, kernel_in, net_times, shortest
 from harness import arrays_of, built, call_of, declarations, signature_of
-from kernel_texts import kernel_of
 from timing import rounds_of
 
 WORKERS = (1, 2, 4)
@@ -94,16 +92,13 @@ def main():
     program, root, folder = sys.argv[1:4]
     rounds = rounds_of(sys.argv[4:], 5)
     for kind, (file, values, tiny, instances) in CASES.items():
-        kernel = file if "\n" in file else kernel_of(os.path.join(root, file))
+        kernel = kernel_in(root, file)
         names = {name for name, extents in signature_of(kernel)[1] if not extents}
         if names != set(values):
             sys.exit(f"{kind}: the parameters are {sorted(names)}")
         commands = commands_of(program, folder, kind, kernel, values, "")
-        commands |= commands_of(program, folder, kind, kernel, tiny, "start of ")
-        times, printed = shortest(commands, rounds)
-        if len({printed[f"{k} workers"] for k in WORKERS} | {printed["gcc -O0"]}) != 1:
-            sys.exit(f"{kind}: the arrays differ")
-        tell(kind, {n: s - times["start of " + n] for n, s in times.items() if not n.startswith("start of ")}, instances)
+        starts = commands_of(program, folder, kind, kernel, tiny, START)
+        tell(kind, net_times(kind, commands, starts, rounds), instances)
     times, _ = shortest({f"{k} workers": ([program, "gen", "product", "7", "256", "--workers", str(k)], b"") for k in WORKERS}, rounds)
     tell("gen product 7 256", times, 256**3)
 
