@@ -5,14 +5,15 @@ use Rattle.scop_lexer.specs.Stands.{stands_at}
 use Rattle.scop_lexer.specs.Tokens.{HasFault, HasTokens}
 use Rattle.scop_lexer.specs.declared.token.Fault.{Fault}
 use Rattle.scop_lexer.specs.declared.token.FaultKind.TheVariants.{Character}
-use Rattle.scop_lexer.specs.declared.token.Kind.TheVariants.{Name, Sign}
-use Rattle.scop_lexer.specs.declared.token.Punctuator.TheVariants.{Semicolon}
+use Rattle.expression_grammar.specs.Outside.TheVariants.{Semicolon}
+use Rattle.expression_grammar.specs.Token.TheVariants.{Name, Outside}
 use Rattle.scop_lexer.specs.declared.token.Token.{Token}
 
 -- a name and a sign
 abbrev pub name_and_sign : List Token
 name_and_sign =
-    record { kind = Name; start = 0; end = 1 } ∷ record { kind = Sign Semicolon; start = 1; end = 2 } ∷ []
+    record { kind = Name; value = 0; start = 0; end = 1 }
+    ∷ record { kind = Outside Semicolon; value = 0; start = 1; end = 2 } ∷ []
 
 -- they are the tokens of `x;`
 pub lexed : HasTokens (codes "x;") name_and_sign

@@ -1,8 +1,8 @@
 //! Callers of the laws of both grammars, at a name alone and at the tokens of `void k(int64_t n) {}`.
 ghost use Rattle.std.specs.Prelude.{◌∷◌, ◌≡◌, ℕ, [], List, Ok};
 ghost use Rattle.expression_grammar.specs.declared.node.Node.TheVariants as node;
-ghost use Rattle.expression_grammar.specs.declared.token.Token.TheVariants as token;
-ghost use Rattle.expression_grammar.specs.declared.token.Token.{Token};
+ghost use Rattle.expression_grammar.specs.Token.TheVariants as token;
+ghost use Rattle.expression_grammar.specs.Token.{Token};
 ghost use Rattle.expression_grammar.specs.Grammar as expressions;
 ghost use Rattle.expression_grammar.specs.Machine as machine;
 ghost use Rattle.expression_grammar.specs.Tree.{Tree, written};

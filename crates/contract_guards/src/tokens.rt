@@ -1,13 +1,15 @@
 //! Callers of the laws of tokens and signs at texts that are given: `x;`, `@`, and `<<= 1`, which begins with `<<=`.
 ghost use Rattle.std.specs.Prelude.{◌≡◌, ◌∷◌, [], List, codes};
 ghost use Rattle.scop_lexer.specs.Bytes.{Text};
-ghost use Rattle.scop_lexer.specs.Signs.{BeginsWith, IsLongestSign, spelling};
+ghost use Rattle.expression_grammar.specs.Assign.TheVariants as assign;
+ghost use Rattle.expression_grammar.specs.Op.TheVariants as op;
+ghost use Rattle.expression_grammar.specs.Outside.TheVariants as outside;
+ghost use Rattle.expression_grammar.specs.Token.TheVariants as kind;
+ghost use Rattle.expression_grammar.specs.Token.{Token as Kind};
+ghost use Rattle.scop_lexer.specs.Signs.{BeginsWith, IsLongestSign, IsWritten, assigns};
 ghost use Rattle.scop_lexer.specs.Tokens.{HasFault, HasTokens};
 ghost use Rattle.scop_lexer.specs.declared.token.Fault.{Fault};
 ghost use Rattle.scop_lexer.specs.declared.token.FaultKind.TheVariants.{Character};
-ghost use Rattle.scop_lexer.specs.declared.token.Kind.TheVariants as kind;
-ghost use Rattle.scop_lexer.specs.declared.token.Punctuator.TheVariants as sign;
-ghost use Rattle.scop_lexer.specs.declared.token.Punctuator.{Punctuator};
 ghost use Rattle.scop_lexer.specs.declared.token.Token.{Token};
 
 use scop_lexer::{
@@ -18,11 +20,12 @@ use scop_lexer::{
 /// `x;` is two tokens and no others, by the clause of `tokens_are_unique`; it has no fault, by that of
 /// `tokens_exclude_a_fault`.
 pub fn a_name_and_a_sign()
-    ensures has { (ts : List Token) → ts ≡ record { kind = kind.Name; start = 0; end = 1 }
-        ∷ record { kind = kind.Sign sign.Semicolon; start = 1; end = 2 } ∷ [] → HasTokens (codes "x;") ts }
+    ensures has { (ts : List Token) → ts ≡ record { kind = kind.Name; value = 0; start = 0; end = 1 }
+        ∷ record { kind = kind.Outside outside.Semicolon; value = 0; start = 1; end = 2 } ∷ []
+        → HasTokens (codes "x;") ts }
     ensures tokens { (ts : List Token) → HasTokens (codes "x;") ts
-        → ts ≡ record { kind = kind.Name; start = 0; end = 1 }
-        ∷ record { kind = kind.Sign sign.Semicolon; start = 1; end = 2 } ∷ [] }
+        → ts ≡ record { kind = kind.Name; value = 0; start = 0; end = 1 }
+        ∷ record { kind = kind.Outside outside.Semicolon; value = 0; start = 1; end = 2 } ∷ [] }
     ensures sound { (fault : Fault) → HasFault (codes "x;") fault → ⊥ }
 {
     tokens_are_unique();
@@ -45,10 +48,10 @@ pub fn a_character_of_no_token()
 /// The longest sign of `<<= 1` is `<<=`, and no sign begins `@`, by the clause of `longest_sign_is_told`; `<<` is not
 /// the longest of the former, and `<=` does not begin it, by the definition `IsLongestSign`.
 pub fn the_longest_of_three_signs()
-    ensures longest { IsLongestSign (codes "<<= 1") sign.ShiftLeftAssign }
-    ensures none { (s : Punctuator) → BeginsWith (spelling s) (codes "@") → ⊥ }
-    ensures shorter { IsLongestSign (codes "<<= 1") sign.ShiftLeft → ⊥ }
-    ensures other { IsLongestSign (codes "<<= 1") sign.LessEqual → ⊥ }
+    ensures longest { (w : Text) × IsLongestSign (codes "<<= 1") w (assigns assign.ShiftLeft) }
+    ensures none { (w : Text) (s : Kind) → IsWritten w s → BeginsWith w (codes "@") → ⊥ }
+    ensures shorter { IsLongestSign (codes "<<= 1") (codes "<<") (kind.Binary op.ShiftLeft) → ⊥ }
+    ensures other { IsLongestSign (codes "<<= 1") (codes "<=") (kind.Binary op.AtMost) → ⊥ }
 {
     longest_sign_is_told();
 }

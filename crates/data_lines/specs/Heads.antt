@@ -4,12 +4,12 @@ use Rattle.scop_lexer.specs.Bytes.{Text}
 use Rattle.scop_lexer.specs.Stands.{stands_at}
 use Rattle.scop_lexer.specs.declared.stand.Stand.{Stand}
 use Rattle.scop_lexer.specs.declared.stand.Stand.TheVariants.{Lexeme}
-use Rattle.scop_lexer.specs.declared.token.Kind.TheVariants.{Name}
+use Rattle.scop_lexer.specs.Kind.TheVariants.{Name}
 use Rattle.data_lines.specs.Words.{unindented}
 
 -- how long a name is that stands somewhere, 0 where none does
 abbrev pub name_bytes : Stand → ℕ
-name_bytes (Lexeme Name n) = n
+name_bytes (Lexeme Name value n) = n
 name_bytes other = 0
 
 -- how long the name is that a text begins with, a name as kernels have it; 0 where it begins with none

@@ -43,7 +43,7 @@ fn name_len(text: &[u8]) -> usize
 
 /// The end of a token, if it is a name at the text's start; else 0.
 fn name_end(token: Token) -> usize
-    ensures { result ≡ (if token.start == 0 then name_bytes (Lexeme token.kind token.end) else 0) }
+    ensures { result ≡ (if token.start == 0 then name_bytes (Lexeme token.kind token.value token.end) else 0) }
 {
     if token.start > 0 {
         return 0;

@@ -1,11 +1,11 @@
 -- Every tree drives the machine over its tokens, whatever comes behind.
 use Rattle.std.proofs.Common.{◌≡◌, ℕ, ◌+◌, ◌-◌, ◌≤◌, List, [], ◌∷◌, ◌++◌, refl, ◌∙◌, append_assoc, length-append, arith}
 use Rattle.std.proofs.lemmas.Bool.{le-leb}
-use Rattle.expression_grammar.specs.declared.token.Op.{Op}
+use Rattle.scop_tokens.specs.declared.Op.{Op}
 use Rattle.expression_grammar.specs.declared.token.Sign.{Sign}
 use Rattle.expression_grammar.specs.declared.token.Sign.TheVariants as sign
-use Rattle.expression_grammar.specs.declared.token.Token.{Token}
-use Rattle.expression_grammar.specs.declared.token.Token.TheVariants as token
+use Rattle.scop_tokens.specs.declared.Token.{Token}
+use Rattle.scop_tokens.specs.declared.Token.TheVariants as token
 use Rattle.expression_grammar.specs.declared.node.Node.{Node}
 use Rattle.expression_grammar.specs.declared.node.Node.TheVariants as node
 use Rattle.expression_grammar.specs.declared.node.Held.{Held}

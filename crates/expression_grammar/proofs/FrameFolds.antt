@@ -4,7 +4,7 @@ use Rattle.std.proofs.Common.{length-append, arith}
 use Rattle.std.specs.Prelude.{max, nat_lt}
 use Rattle.std.proofs.lemmas.Bool.Decides.{nat_tests}
 use Rattle.std.proofs.lemmas.Bool.{lt-ltb}
-use Rattle.expression_grammar.specs.declared.token.Op.{Op}
+use Rattle.scop_tokens.specs.declared.Op.{Op}
 use Rattle.expression_grammar.specs.declared.token.Sign.{Sign}
 use Rattle.expression_grammar.specs.Tree.{Tree, unary, cast, binary, level, rank, size, depth, operators, written}
 use Rattle.expression_grammar.specs.Tree.{WellBracketed, tokens_of}

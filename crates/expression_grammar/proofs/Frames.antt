@@ -1,10 +1,10 @@
 -- What a state stands for: trees that wait in frames, and the tree in hand. Any such state can be completed.
 use Rattle.std.proofs.Common.{◌≡◌, ℕ, ◌+◌, ◌≤◌, List, [], ◌∷◌, ◌++◌, length, sym, ◌∙◌, append_assoc, append-nil, arith}
 use Rattle.std.specs.Prelude.{max, ⊤}
-use Rattle.expression_grammar.specs.declared.token.Op.{Op}
+use Rattle.scop_tokens.specs.declared.Op.{Op}
 use Rattle.expression_grammar.specs.declared.token.Sign.{Sign}
-use Rattle.expression_grammar.specs.declared.token.Token.{Token}
-use Rattle.expression_grammar.specs.declared.token.Token.TheVariants as token
+use Rattle.scop_tokens.specs.declared.Token.{Token}
+use Rattle.scop_tokens.specs.declared.Token.TheVariants as token
 use Rattle.expression_grammar.specs.declared.node.Node.{Node}
 use Rattle.expression_grammar.specs.declared.node.Node.TheVariants as node
 use Rattle.expression_grammar.specs.declared.node.Held.{Held}

@@ -3,9 +3,9 @@ use Rattle.std.proofs.Common.{◌≡◌, ℕ, ◌+◌, ◌≤◌, List, [], ◌�
 use Rattle.std.proofs.Common.{arith}
 use Rattle.std.specs.Prelude.{max, Some}
 use Rattle.std.proofs.lemmas.Option.{same_Some}
-use Rattle.expression_grammar.specs.declared.token.Suffix.TheVariants as suffix
-use Rattle.expression_grammar.specs.declared.token.Token.{Token}
-use Rattle.expression_grammar.specs.declared.token.Token.TheVariants as token
+use Rattle.scop_tokens.specs.declared.Suffix.TheVariants as suffix
+use Rattle.scop_tokens.specs.declared.Token.{Token}
+use Rattle.scop_tokens.specs.declared.Token.TheVariants as token
 use Rattle.expression_grammar.specs.declared.node.Node.{Node}
 use Rattle.expression_grammar.specs.declared.node.Mode.TheVariants as mode
 use Rattle.expression_grammar.specs.Tree.{Tree, constant, rank, size, depth, operators, written, WellBracketed}

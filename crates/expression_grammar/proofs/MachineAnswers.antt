@@ -2,7 +2,7 @@
 use Rattle.std.proofs.Common.{◌≡◌, ℕ, ◌+◌, ◌≤◌, false, List, [], ◌∷◌, ◌++◌, length, refl, sym, ap, ◌∙◌, append_assoc}
 use Rattle.std.proofs.Common.{append-nil, length-append, arith}
 use Rattle.std.specs.Prelude.{max, Option, Some, None, Ok, Err}
-use Rattle.expression_grammar.specs.declared.token.Token.{Token}
+use Rattle.scop_tokens.specs.declared.Token.{Token}
 use Rattle.expression_grammar.specs.declared.node.Node.{Node}
 use Rattle.expression_grammar.specs.Tree.{Tree, size, written}
 use Rattle.expression_grammar.specs.Grammar.{Spells, IsFront}

@@ -3,7 +3,7 @@ use Rattle.std.proofs.Common.{◌≡◌, ℕ, ◌+◌, ◌<◌, ◌≤◌, true,
 use Rattle.std.proofs.Common.{add-one, refl, sym, ap, ◌∙◌, length-append, arith}
 use Rattle.std.specs.Prelude.{max, Err, if◌then◌else◌}
 use Rattle.std.proofs.Math.Seq.{drop-cons, take-suc}
-use Rattle.expression_grammar.specs.declared.token.Token.{Token}
+use Rattle.scop_tokens.specs.declared.Token.{Token}
 use Rattle.expression_grammar.specs.Machine.{State, Move, start, go, stops, step, fits, goes, run, deep, answer, read}
 use Rattle.expression_grammar.specs.Machine.{or_fault, complete, unfit, unended, depth}
 use Rattle.expression_grammar.specs.Grammar.{told_at}

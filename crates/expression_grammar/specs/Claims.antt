@@ -1,6 +1,6 @@
 -- What an answer of the machine claims of the tokens.
 use Rattle.std.specs.Prelude.{ℕ, List, Ok, Err}
-use Rattle.expression_grammar.specs.declared.token.Token.{Token}
+use Rattle.scop_tokens.specs.declared.Token.{Token}
 use Rattle.expression_grammar.specs.Promises.{IsRead, IsUnfit, IsUnended, IsTooDeep}
 use Rattle.expression_grammar.specs.Machine.{Answer, unfit, unended, depth}
 

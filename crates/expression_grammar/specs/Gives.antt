@@ -1,6 +1,6 @@
 -- The answer that a result of the code stands for.
 use Rattle.std.specs.Prelude.{◌≡◌, ℕ, List, Result, Ok, Err, ⊤}
-use Rattle.expression_grammar.specs.declared.token.Token.{Token}
+use Rattle.scop_tokens.specs.declared.Token.{Token}
 use Rattle.expression_grammar.specs.declared.node.Node.{Node}
 use Rattle.expression_grammar.specs.Promises.{IsUnfit, IsUnended, IsTooDeep}
 use Rattle.expression_grammar.specs.declared.reader.Expression.{Expression}

@@ -1,7 +1,7 @@
 -- What a text of the grammar is, within limits and without, and which fronts can still become one.
 use Rattle.std.specs.Prelude.{◌≡◌, ℕ, ◌-◌, ◌≤◌, List, ◌++◌}
-use Rattle.expression_grammar.specs.declared.token.Token.{Token}
-use Rattle.expression_grammar.specs.declared.token.Token.TheVariants as token
+use Rattle.scop_tokens.specs.declared.Token.{Token}
+use Rattle.scop_tokens.specs.declared.Token.TheVariants as token
 use Rattle.expression_grammar.specs.Tree.{Tree, tokens_of, rank, WellBracketed, depth, operators}
 
 -- an expression without a comma of its own

@@ -2,12 +2,12 @@
 -- bracket, innermost first, and the nodes that are complete.
 use Rattle.std.specs.Prelude.{ℕ, ◌+◌, ◌-◌, ◌&&◌, nat_lt, nat_le, Bool, if◌then◌else◌, List, [], ◌∷◌, ◌++◌, Option, Some}
 use Rattle.std.specs.Prelude.{None, Result, Ok, Err}
-use Rattle.expression_grammar.specs.declared.token.Op.{Op}
-use Rattle.expression_grammar.specs.declared.token.Op.TheVariants as op
+use Rattle.scop_tokens.specs.declared.Op.{Op}
+use Rattle.scop_tokens.specs.declared.Op.TheVariants as op
 use Rattle.expression_grammar.specs.declared.token.Sign.{Sign}
 use Rattle.expression_grammar.specs.declared.token.Sign.TheVariants as sign
-use Rattle.expression_grammar.specs.declared.token.Token.{Token}
-use Rattle.expression_grammar.specs.declared.token.Token.TheVariants as token
+use Rattle.scop_tokens.specs.declared.Token.{Token}
+use Rattle.scop_tokens.specs.declared.Token.TheVariants as token
 use Rattle.expression_grammar.specs.declared.node.Node.{Node}
 use Rattle.expression_grammar.specs.declared.node.Node.TheVariants as node
 use Rattle.expression_grammar.specs.declared.node.Held.{Held}

@@ -1,6 +1,6 @@
 -- What an answer says of the tokens, in terms of the grammar alone.
 use Rattle.std.specs.Prelude.{◌≡◌, ℕ, List, [], ◌∷◌, ◌++◌, length, ⊤}
-use Rattle.expression_grammar.specs.declared.token.Token.{Token}
+use Rattle.scop_tokens.specs.declared.Token.{Token}
 use Rattle.expression_grammar.specs.declared.node.Node.{Node}
 use Rattle.expression_grammar.specs.Tree.{Tree, written}
 use Rattle.expression_grammar.specs.Grammar.{Spells, IsFront, IsFrontWithoutLimits, told_at}

@@ -6,8 +6,8 @@ use Rattle.expression_grammar.specs.declared.node.Node.TheVariants as node
 use Rattle.expression_grammar.specs.declared.node.Held.{Held}
 use Rattle.expression_grammar.specs.declared.node.Held.TheVariants as held
 use Rattle.expression_grammar.specs.Tree.{level}
-use Rattle.expression_grammar.specs.declared.token.Op.{Op}
-use Rattle.expression_grammar.specs.declared.token.Token.TheVariants as token
+use Rattle.scop_tokens.specs.declared.Op.{Op}
+use Rattle.scop_tokens.specs.declared.Token.TheVariants as token
 use Rattle.expression_grammar.specs.Machine.{State, state, Move, Pair, go, stops, complete, reduced, joined, after_pair}
 
 -- a list without its first element

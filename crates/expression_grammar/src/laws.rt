@@ -1,6 +1,6 @@
 //! Laws of the grammar, as contracts of functions that do nothing.
 ghost use Rattle.std.specs.Prelude.{◌≡◌, ℕ, List, Ok, length};
-ghost use Rattle.expression_grammar.specs.declared.token.Token.{Token};
+ghost use Rattle.scop_tokens.specs.declared.Token.{Token};
 ghost use Rattle.expression_grammar.specs.Tree.{Tree, written};
 ghost use Rattle.expression_grammar.specs.Grammar.{Spells};
 ghost use Rattle.expression_grammar.specs.Machine.{read};

@@ -2,8 +2,8 @@
 use Rattle.std.proofs.Common.{◌≡◌, ℕ, zero, suc, ◌+◌, ◌-◌, true, false, List, [], ◌∷◌, ◌++◌, refl, append_assoc, arith}
 use Rattle.std.proofs.Common.{rules}
 use Rattle.std.specs.Prelude.{nat_eq}
-use Rattle.expression_grammar.specs.declared.token.Assign.TheVariants as set
-use Rattle.expression_grammar.specs.declared.token.Token.TheVariants as token
+use Rattle.expression_grammar.specs.Assign.TheVariants as set
+use Rattle.expression_grammar.specs.Token.TheVariants as token
 use Rattle.expression_grammar.specs.Tree.{Tree, name, index, IsPlace, operators}
 use Rattle.expression_grammar.proofs.Drives.{place_rank}
 use Rattle.kernel_grammar.specs.declared.table.Level.{Level}

@@ -5,7 +5,7 @@ use Rattle.std.specs.Prelude.{Option, Some, None, Result, Ok, Err}
 use Rattle.expression_grammar.specs.declared.node.Node.{Node}
 use Rattle.expression_grammar.specs.declared.reader.Stop.{Stop}
 use Rattle.expression_grammar.specs.declared.reader.Stop.TheVariants as fault
-use Rattle.expression_grammar.specs.declared.token.Token.{Token}
+use Rattle.expression_grammar.specs.Token.{Token}
 use Rattle.expression_grammar.specs.Machine.{State, Move, go, stops, step, fits, complete}
 use Rattle.kernel_grammar.specs.declared.table.Role.{Role}
 use Rattle.kernel_grammar.specs.declared.table.Want.{Want}

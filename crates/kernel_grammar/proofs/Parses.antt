@@ -2,13 +2,13 @@
 use Rattle.std.proofs.Common.{◌≡◌, ℕ, zero, suc, ◌+◌, ◌-◌, ◌≤◌, Bool, true, false, List, [], ◌∷◌, ◌++◌, length, refl}
 use Rattle.std.proofs.Common.{ap, ◌∙◌, append_assoc, arith, rules}
 use Rattle.std.specs.Prelude.{⊤, nat_eq, if◌then◌else◌}
-use Rattle.expression_grammar.specs.declared.token.Assign.{Assign}
-use Rattle.expression_grammar.specs.declared.token.Assign.TheVariants as set
-use Rattle.expression_grammar.specs.declared.token.Count.{Count}
-use Rattle.expression_grammar.specs.declared.token.Op.TheVariants as op
-use Rattle.expression_grammar.specs.declared.token.Outside.TheVariants as outside
-use Rattle.expression_grammar.specs.declared.token.Token.{Token}
-use Rattle.expression_grammar.specs.declared.token.Token.TheVariants as token
+use Rattle.expression_grammar.specs.Assign.{Assign}
+use Rattle.expression_grammar.specs.Assign.TheVariants as set
+use Rattle.expression_grammar.specs.Count.{Count}
+use Rattle.expression_grammar.specs.Op.TheVariants as op
+use Rattle.expression_grammar.specs.Outside.TheVariants as outside
+use Rattle.expression_grammar.specs.Token.{Token}
+use Rattle.expression_grammar.specs.Token.TheVariants as token
 use Rattle.expression_grammar.specs.Tree.{Tree, name, index, IsPlace, tokens_of, operators}
 use Rattle.kernel_grammar.specs.declared.table.Level.{Level}
 use Rattle.kernel_grammar.specs.declared.table.Level.TheVariants as level

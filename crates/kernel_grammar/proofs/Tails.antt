@@ -1,11 +1,11 @@
 -- From each want some elements lead to the end.
 use Rattle.std.proofs.Common.{◌≡◌, ℕ, zero, suc, ◌+◌, ◌-◌, false, List, [], ◌∷◌, refl, arith, rules}
 use Rattle.std.specs.Prelude.{nat_eq, Some}
-use Rattle.expression_grammar.specs.declared.token.Assign.TheVariants as set
-use Rattle.expression_grammar.specs.declared.token.Count.TheVariants as count
-use Rattle.expression_grammar.specs.declared.token.Outside.TheVariants as outside
-use Rattle.expression_grammar.specs.declared.token.Token.{Token}
-use Rattle.expression_grammar.specs.declared.token.Token.TheVariants as token
+use Rattle.expression_grammar.specs.Assign.TheVariants as set
+use Rattle.expression_grammar.specs.Count.TheVariants as count
+use Rattle.expression_grammar.specs.Outside.TheVariants as outside
+use Rattle.expression_grammar.specs.Token.{Token}
+use Rattle.expression_grammar.specs.Token.TheVariants as token
 use Rattle.expression_grammar.specs.Tree.{Tree, operators}
 use Rattle.expression_grammar.proofs.Fronts.{one}
 use Rattle.kernel_grammar.specs.declared.part.Mark.TheVariants as kept

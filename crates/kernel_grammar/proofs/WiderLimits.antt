@@ -1,7 +1,7 @@
 -- A text that stops at a token within limits stops there within wider ones too: the token is misplaced.
 use Rattle.std.proofs.Common.{◌≡◌, ℕ, ◌+◌, ◌≤◌, Bool, true, false, List, [], ◌∷◌, refl, ap, subst, arith}
 use Rattle.std.specs.Prelude.{if◌then◌else◌, Err, ⊤}
-use Rattle.expression_grammar.specs.declared.token.Token.{Token}
+use Rattle.expression_grammar.specs.Token.{Token}
 use Rattle.expression_grammar.specs.Machine.{Move, go, stops, step, fits, unfit}
 use Rattle.expression_grammar.proofs.RunEnds.{fits_wider}
 use Rattle.kernel_grammar.specs.declared.table.Role.{Role}

@@ -1,7 +1,7 @@
 -- The machine that reads a kernel, one token a step: what may come next, a count of the open braces, the pieces so
 -- far, and a machine for the expression in hand. No stack: behind a complete item every open `if` and `for` ends.
 use Rattle.std.specs.Prelude.{ℕ, ◌+◌, if◌then◌else◌, List, [], ◌∷◌, ◌++◌, Option, Some, None, Result, Ok, Err}
-use Rattle.expression_grammar.specs.declared.token.Token.{Token}
+use Rattle.expression_grammar.specs.Token.{Token}
 use Rattle.expression_grammar.specs.declared.node.Node.{Node}
 use Rattle.expression_grammar.specs.Machine.{State, start, Move, go, stops, step, fits, complete, Kind, unfit, unended}
 use Rattle.expression_grammar.specs.Machine.{depth}

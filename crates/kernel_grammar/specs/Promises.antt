@@ -1,6 +1,6 @@
 -- What an answer for a text says of its tokens, in terms of the grammar alone.
 use Rattle.std.specs.Prelude.{◌≡◌, ◌≤◌, ℕ, List, [], ◌∷◌, ◌++◌, length}
-use Rattle.expression_grammar.specs.declared.token.Token.{Token}
+use Rattle.expression_grammar.specs.Token.{Token}
 use Rattle.expression_grammar.specs.Grammar.{told_at}
 use Rattle.kernel_grammar.specs.Kernel.{Kernel, kernel_elements, Piece, pieces, Spells, IsFront}
 

@@ -1,12 +1,12 @@
 -- Which sign may come where, and what stands behind it: the text between expressions, as a finite table with a
 -- count of braces.
 use Rattle.std.specs.Prelude.{ℕ, ◌+◌, ◌-◌, nat_eq, if◌then◌else◌, Option, Some, None}
-use Rattle.expression_grammar.specs.declared.token.Assign.{Assign}
-use Rattle.expression_grammar.specs.declared.token.Assign.TheVariants as assign
-use Rattle.expression_grammar.specs.declared.token.Op.TheVariants as op
-use Rattle.expression_grammar.specs.declared.token.Outside.TheVariants as outside
-use Rattle.expression_grammar.specs.declared.token.Token.{Token}
-use Rattle.expression_grammar.specs.declared.token.Token.TheVariants as token
+use Rattle.expression_grammar.specs.Assign.{Assign}
+use Rattle.expression_grammar.specs.Assign.TheVariants as assign
+use Rattle.expression_grammar.specs.Op.TheVariants as op
+use Rattle.expression_grammar.specs.Outside.TheVariants as outside
+use Rattle.expression_grammar.specs.Token.{Token}
+use Rattle.expression_grammar.specs.Token.TheVariants as token
 use Rattle.kernel_grammar.specs.declared.part.Mark.{Mark}
 use Rattle.kernel_grammar.specs.declared.part.Mark.TheVariants as kept
 use Rattle.kernel_grammar.specs.declared.table.Role.{Role}

@@ -1,6 +1,6 @@
 -- What the code does to the machine's spot, and what its results stand for.
 use Rattle.std.specs.Prelude.{◌≡◌, ℕ, ◌<◌, ◌^◌, ◌++◌, List, map, Result, Ok, Err, ⊤}
-use Rattle.expression_grammar.specs.declared.token.Token.{Token}
+use Rattle.expression_grammar.specs.Token.{Token}
 use Rattle.expression_grammar.specs.declared.reader.Stop.{Stop}
 use Rattle.expression_grammar.specs.declared.reader.Stop.TheVariants as fault
 use Rattle.expression_grammar.specs.Machine.{unfit, unended, depth}

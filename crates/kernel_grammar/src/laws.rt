@@ -1,6 +1,6 @@
 //! Laws of the grammar, as contracts of functions that do nothing.
 ghost use Rattle.std.specs.Prelude.{◌≡◌, ◌≤◌, ℕ, List, Ok};
-ghost use Rattle.expression_grammar.specs.declared.token.Token.{Token};
+ghost use Rattle.expression_grammar.specs.Token.{Token};
 ghost use Rattle.kernel_grammar.specs.Claims.{IsAnswer};
 ghost use Rattle.kernel_grammar.specs.Kernel.{Kernel, Piece, Spells, kernel_elements, pieces};
 ghost use Rattle.kernel_grammar.specs.Machine.{Spot, read, run, turn};

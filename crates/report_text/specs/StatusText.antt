@@ -10,16 +10,16 @@ use Rattle.data_text.specs.DataRefusal.TheVariants as rule
 use Rattle.report_text.specs.declared.status.Status.{Status}
 use Rattle.report_text.specs.declared.status.Status.TheVariants.{Done, Usage, Refused, BadData, Outside, ReadFault}
 use Rattle.report_text.specs.declared.status.Status.TheVariants.{WriteFault, NoMemory, Rejected}
-use Rattle.scop_parser.specs.declared.refusal.RefusalKind.{RefusalKind}
-use Rattle.scop_parser.specs.declared.refusal.RefusalKind.TheVariants.{Character, Directive, LiteralRange}
-use Rattle.scop_parser.specs.declared.refusal.RefusalKind.TheVariants.{UnendedComment}
-use Rattle.scop_parser.specs.declared.refusal.RefusalKind.TheVariants.{Token, Unended}
-use Rattle.scop_parser.specs.declared.refusal.RefusalKind.TheVariants.{UnknownName, Redeclared, NotAffine, Coefficient}
-use Rattle.scop_parser.specs.declared.refusal.RefusalKind.TheVariants.{LoopForm, Condition}
-use Rattle.scop_parser.specs.declared.refusal.RefusalKind.TheVariants.{SignedValue, ShiftCount, Division, Call, Rank}
-use Rattle.scop_parser.specs.declared.refusal.RefusalKind.TheVariants.{IteratorOutside}
-use Rattle.scop_parser.specs.declared.refusal.RefusalKind.TheVariants.{Depth, Statements, Arrays, Parameters, Reads}
-use Rattle.scop_parser.specs.declared.refusal.RefusalKind.TheVariants.{TooLong}
+use Rattle.scop_parser.specs.RefusalKind.{Kind as RefusalKind}
+use Rattle.scop_parser.specs.RefusalKind.TheVariants.{Character, Directive, LiteralRange}
+use Rattle.scop_parser.specs.RefusalKind.TheVariants.{UnendedComment}
+use Rattle.scop_parser.specs.RefusalKind.TheVariants.{Token, Unended}
+use Rattle.scop_parser.specs.RefusalKind.TheVariants.{UnknownName, Redeclared, NotAffine, Coefficient}
+use Rattle.scop_parser.specs.RefusalKind.TheVariants.{LoopForm, Condition}
+use Rattle.scop_parser.specs.RefusalKind.TheVariants.{SignedValue, ShiftCount, Division, Call, Rank}
+use Rattle.scop_parser.specs.RefusalKind.TheVariants.{IteratorOutside}
+use Rattle.scop_parser.specs.RefusalKind.TheVariants.{Depth, Statements, Arrays, Parameters, Reads}
+use Rattle.scop_parser.specs.RefusalKind.TheVariants.{TooLong}
 use Rattle.scop_parser.specs.declared.refusal.Refusal.{Refusal}
 
 -- a number between two texts

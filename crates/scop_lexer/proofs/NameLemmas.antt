@@ -1,43 +1,34 @@
 -- What stands as a name is a name by itself: no constant, no sign and no gap is told as one.
 use Rattle.std.proofs.Common.{◌≡◌, ◌∙◌, sym, ap, subst, refl, ℕ, ◌==◌, Bool, true, false, ◌&&◌, ◌||◌, if◌then◌else◌}
-use Rattle.std.proofs.Common.{[], ◌∷◌, length, take, drop, get_or, nat_le}
-use Rattle.std.specs.Prelude.{Option, Some, None, cond, nat_lt, ◌^◌, ◌-◌, ⊤}
+use Rattle.std.proofs.Common.{List, [], ◌∷◌, length, take, drop, get_or, nat_le}
+use Rattle.std.specs.Prelude.{Option, Some, None, cond, ⊤}
 use Rattle.std.specs.List.{list_all, prefix_len, take_while}
+use Rattle.std.proofs.lemmas.Bool.{and_parts}
 use Rattle.std.proofs.lemmas.List.{length-take-le}
 use Rattle.std.proofs.lemmas.List.Sums.{prefix_len-le-length, take_while-cons}
 use Rattle.scop_lexer.specs.Bytes.{Text, is_blank, is_letter, is_digit, is_word_byte, is_fresh}
 use Rattle.scop_lexer.specs.Words.{IsName, kind_of_word, word_stands}
-use Rattle.scop_lexer.specs.Constants.{is_hex_digit, number_behind, is_suffix, with_suffix, constant_in, is_hexadecimal}
-use Rattle.scop_lexer.specs.Constants.{is_octal, constant_of, numeral_stands_as, numeral_stands}
+use Rattle.scop_lexer.specs.Constants.{constant_of, numeral_stands_as, numeral_stands}
 use Rattle.scop_lexer.specs.Gaps.{close, comment_stands_as, comment_stands, is_directive, line_of, hash_stands}
-use Rattle.scop_lexer.specs.Signs.{single, with_equal, doubled, doubled_with_equal, sign_or, sign_stands}
+use Rattle.scop_lexer.specs.Signs.{single, with_equal, doubled, doubled_with_equal, sign_or, sign_stands, sign_in}
+use Rattle.scop_lexer.specs.Signs.{singles, equals, doubles, doubles_with_equal}
 use Rattle.scop_lexer.specs.Stands.{word_of, slash_stands, stands, stands_at}
 use Rattle.scop_lexer.specs.declared.stand.Stand.{Stand}
 use Rattle.scop_lexer.specs.declared.stand.Stand.TheVariants as stand
 use Rattle.scop_lexer.specs.declared.token.FaultKind.TheVariants as wrong
-use Rattle.scop_lexer.specs.declared.token.Kind.{Kind}
-use Rattle.scop_lexer.specs.declared.token.Kind.TheVariants as kind
-use Rattle.scop_lexer.specs.declared.token.Punctuator.{Punctuator}
+use Rattle.scop_tokens.specs.declared.Suffix.{Suffix}
+use Rattle.scop_tokens.specs.declared.Token.{Token as Kind}
+use Rattle.scop_tokens.specs.declared.Token.TheVariants as kind
 
 -- a name that stands in front of a text is one by itself
 abbrev IsNamed : Text → Stand → Type 0
-IsNamed text (stand.Lexeme kind.Name n) = IsName (take n text)
+IsNamed text (stand.Lexeme kind.Name v n) = IsName (take n text)
 IsNamed text _ = ⊤
-
--- a constant, if it is there
-abbrev IsConstant : Option Kind → Type 0
-IsConstant (Some (kind.Constant value suffixed)) = ⊤
-IsConstant (Some _) = ⊥
-IsConstant None = ⊤
 
 named_if : (text : Text) (b : Bool) (x y : Stand) → (b ≡ true → IsNamed text x) → IsNamed text y
     → IsNamed text (if b then x else y)
 named_if text true x y h k = h refl
 named_if text false x y h k = k
-
-constant_if : (b : Bool) (x y : Option Kind) → IsConstant x → IsConstant y → IsConstant (if b then x else y)
-constant_if true x y h k = h
-constant_if false x y h k = k
 
 -- the word that a text begins with has nothing but bytes of words
 bytes_by : (b : ℕ) (rest : Text) (is : Bool) → is_word_byte b ≡ is → list_all is_word_byte rest ≡ true
@@ -65,73 +56,68 @@ word_is b bs letter short same =
     record {
       letter = ap (λ v. is_letter (get_or v 0 0)) first ∙ letter;
       bytes = word_bytes (b ∷ bs);
-      word = ap (λ c. if c then stand.Lexeme (kind_of_word w) (length w) else stand.Wrong wrong.Character 63) short
-          ∙ ap (λ k. stand.Lexeme k (length w)) same;
+      word = ap (λ c. if c then stand.Lexeme (kind_of_word w) 0 (length w) else stand.Wrong wrong.Character 63) short
+          ∙ ap (λ k. stand.Lexeme k 0 (length w)) same;
     }
 
-kind_named : (text : Text) (k : Kind) (n : ℕ) → (k ≡ kind.Name → IsName (take n text))
-    → IsNamed text (stand.Lexeme k n)
-kind_named text kind.Void n h = tt
-kind_named text kind.For n h = tt
-kind_named text kind.If n h = tt
-kind_named text kind.Int64 n h = tt
-kind_named text kind.Uint64 n h = tt
-kind_named text kind.Keyword n h = tt
-kind_named text kind.Name n h = h refl
-kind_named text (kind.Constant value suffixed) n h = tt
-kind_named text (kind.Sign s) n h = tt
+kind_named : (text : Text) (k : Kind) (v n : ℕ) → (k ≡ kind.Name → IsName (take n text))
+    → IsNamed text (stand.Lexeme k v n)
+kind_named text kind.Name v n h = h refl
+kind_named text _ v n h = tt
 
 word_named : (b : ℕ) (bs : Text) → is_letter b ≡ true → IsNamed (b ∷ bs) (word_stands (word_of (b ∷ bs)))
 word_named b bs letter =
     let w = word_of (b ∷ bs) in
-    named_if (b ∷ bs) (nat_le (length w) 63) (stand.Lexeme (kind_of_word w) (length w)) (stand.Wrong wrong.Character 63)
-    (λ short. kind_named (b ∷ bs) (kind_of_word w) (length w)
+    named_if (b ∷ bs) (nat_le (length w) 63) (stand.Lexeme (kind_of_word w) 0 (length w)) (stand.Wrong wrong.Character 63)
+    (λ short. kind_named (b ∷ bs) (kind_of_word w) 0 (length w)
     (λ same. subst IsName (sym (word_front (b ∷ bs))) (word_is b bs letter short same))) tt
 
 -- what begins with a digit is a constant
-suffix_constant : (limit value : ℕ) (w : Text) → IsConstant (with_suffix limit value w)
-suffix_constant limit value [] =
-    constant_if (nat_le value limit) (Some (kind.Constant value false)) None tt tt
-suffix_constant limit value (b ∷ bs) =
-    constant_if (is_suffix (b ∷ bs) && nat_lt value (2 ^ 64)) (Some (kind.Constant value true)) None tt tt
+numeral_named : (text : Text) (o : Option (Suffix × ℕ)) (n : ℕ) → IsNamed text (numeral_stands_as o n)
+numeral_named text (Some constant) n = tt
+numeral_named text None n = tt
 
-in_constant : (base : ℕ) (test : ℕ → Bool) (limit : ℕ) (w : Text) → IsConstant (constant_in base test limit w)
-in_constant base test limit w =
-    constant_if (prefix_len test w == 0) None
-    (with_suffix limit (number_behind base 0 (take_while test w)) (drop (prefix_len test w) w)) tt
-    (suffix_constant limit (number_behind base 0 (take_while test w)) (drop (prefix_len test w) w))
+-- no sign is a name
+abbrev is_other : Kind → Bool
+is_other kind.Name = false
+is_other _ = true
 
-is_constant : (w : Text) → IsConstant (constant_of w)
-is_constant w =
-    let hex = constant_in 16 is_hex_digit (2 ^ 64 - 1) (drop 2 w) in
-    let decimal = constant_in 10 is_digit (2 ^ 63 - 1) w in
-    constant_if (is_hexadecimal w) hex (if is_octal w then None else decimal)
-    (in_constant 16 is_hex_digit (2 ^ 64 - 1) (drop 2 w))
-    (constant_if (is_octal w) None decimal tt (in_constant 10 is_digit (2 ^ 63 - 1) w))
+abbrev IsOther : Option Kind → Type 0
+IsOther (Some k) = is_other k ≡ true
+IsOther None = ⊤
 
-constant_named : (text : Text) (o : Option Kind) (n : ℕ) → IsConstant o → IsNamed text (numeral_stands_as o n)
-constant_named text (Some k) n h = kind_named text k n (λ same. absurd (subst (λ j. IsConstant (Some j)) same h))
-constant_named text None n h = tt
+other_if : (b : Bool) (x y : Option Kind) → IsOther x → IsOther y → IsOther (if b then x else y)
+other_if true x y h k = h
+other_if false x y h k = k
 
--- signs and gaps
-sign_named : (text : Text) (o : Option Punctuator) (n : ℕ) (otherwise : Stand) → IsNamed text otherwise
+others_in : (rows : List (ℕ × Kind)) (b : ℕ) → list_all (λ (row : ℕ × Kind). is_other row.1) rows ≡ true → IsOther (sign_in rows b)
+others_in [] b h = tt
+others_in (row ∷ rows) b h =
+    let parts = and_parts (is_other row.1) (list_all (λ (row : ℕ × Kind). is_other row.1) rows) h in
+    other_if (b == row.0) (Some row.1) (sign_in rows b) parts.0 (others_in rows b parts.1)
+
+sign_named : (text : Text) (o : Option Kind) (n : ℕ) (otherwise : Stand) → IsOther o → IsNamed text otherwise
     → IsNamed text (sign_or o n otherwise)
-sign_named text (Some s) n otherwise h = tt
-sign_named text None n otherwise h = h
+sign_named text (Some k) n otherwise h named =
+    kind_named text k 0 n (λ same. let none : false ≡ true = subst (λ j. is_other j ≡ true) same h in absurd (cc none))
+sign_named text None n otherwise h named = named
 
 signs_named : (text : Text) → IsNamed text (sign_stands text)
 signs_named text =
     let a = get_or text 0 0 in
     let b = get_or text 1 0 in
     let c = get_or text 2 0 in
-    let three : Option Punctuator = if b == a && c == 61 then doubled_with_equal a else None in
-    let two : Option Punctuator = if b == a then doubled a else None in
-    let equal : Option Punctuator = if b == 61 then with_equal a else None in
     let last : Stand = sign_or (single a) 1 (stand.Wrong wrong.Character 0) in
+    let three : Option Kind = if b == a && c == 61 then doubled_with_equal a else None in
+    let two : Option Kind = if b == a then doubled a else None in
+    let equal : Option Kind = if b == 61 then with_equal a else None in
     sign_named text three 3 (sign_or two 2 (sign_or equal 2 last))
-    (sign_named text two 2 (sign_or equal 2 last)
-    (sign_named text equal 2 last (sign_named text (single a) 1 (stand.Wrong wrong.Character 0) tt)))
+    (other_if (b == a && c == 61) (doubled_with_equal a) None (others_in doubles_with_equal a refl) tt)
+    (sign_named text two 2 (sign_or equal 2 last) (other_if (b == a) (doubled a) None (others_in doubles a refl) tt)
+    (sign_named text equal 2 last (other_if (b == 61) (with_equal a) None (others_in equals a refl) tt)
+    (sign_named text (single a) 1 (stand.Wrong wrong.Character 0) (others_in singles a refl) tt)))
 
+-- gaps
 comment_named : (text : Text) (o : Option ℕ) → IsNamed text (comment_stands_as o)
 comment_named text (Some n) = tt
 comment_named text None = tt
@@ -160,7 +146,7 @@ stands_named fresh (b ∷ bs) =
     named_if text (is_blank b) (stand.Gap 1) letter (λ e. tt)
     (named_if text (is_letter b) (word_stands word) digit (word_named b bs)
     (named_if text (is_digit b) (numeral_stands word) hash
-    (λ e. constant_named text (constant_of word) (length word) (is_constant word))
+    (λ e. numeral_named text (constant_of word) (length word))
     (named_if text (b == 35) (hash_stands fresh text) slash (λ e. hash_named fresh text)
     (named_if text (b == 47) (slash_stands text) (sign_stands text) (λ e. slash_named text) (signs_named text)))))
 
@@ -169,5 +155,6 @@ unfolding stands_at
 at_named text at = stands_named (is_fresh (take at text)) (drop at text)
 
 -- what stands as a name at a place of a text is a name by itself
-pub name_at : (text : Text) (at n : ℕ) → stands_at text at ≡ stand.Lexeme kind.Name n → IsName (take n (drop at text))
-name_at text at n is = subst (IsNamed (drop at text)) is (at_named text at)
+pub name_at : (text : Text) (at v n : ℕ) → stands_at text at ≡ stand.Lexeme kind.Name v n
+    → IsName (take n (drop at text))
+name_at text at v n is = subst (IsNamed (drop at text)) is (at_named text at)

@@ -13,8 +13,8 @@ use Rattle.scop_lexer.specs.Constants.{constant_of, numeral_stands, numeral_stan
 use Rattle.scop_lexer.specs.Signs.{single, with_equal, doubled, doubled_with_equal, sign_or, sign_stands}
 use Rattle.scop_lexer.specs.Gaps.{line_of, turns, close, comment_stands_as, is_directive, hash_stands}
 use Rattle.scop_lexer.specs.Stands.{word_of, slash_stands, stands, stands_at, HasRoom}
-use Rattle.scop_lexer.specs.declared.token.Kind.{Kind}
-use Rattle.scop_lexer.specs.declared.token.Punctuator.{Punctuator}
+use Rattle.scop_tokens.specs.declared.Suffix.{Suffix}
+use Rattle.scop_tokens.specs.declared.Token.{Token as Kind}
 use Rattle.scop_lexer.specs.declared.token.FaultKind.TheVariants.{Character}
 use Rattle.scop_lexer.specs.declared.stand.Stand.{Stand}
 use Rattle.scop_lexer.specs.declared.stand.Stand.TheVariants.{Gap, Wrong}
@@ -52,18 +52,18 @@ word_room word m some within = elim (cases_Bool (nat_le (length word) 63)) [
   | inr e ↦ rw e (grind (arith, nat_tests, e, within))
 ]
 
-numeral_room : (found : Option Kind) (n m : ℕ) → 0 < n → n ≤ m → HasRoom m (numeral_stands_as found n)
-numeral_room (Some kind) n m some within = (some, within)
+numeral_room : (found : Option (Suffix × ℕ)) (n m : ℕ) → 0 < n → n ≤ m → HasRoom m (numeral_stands_as found n)
+numeral_room (Some constant) n m some within = (some, within)
 numeral_room None n m some within = omega (arith, some, within)
 
-sign_room : (found : Option Punctuator) (n m : ℕ) (otherwise : Stand) → 0 < n
-    → ((sign : Punctuator) → found ≡ Some sign → n ≤ m) → HasRoom m otherwise
+sign_room : (found : Option Kind) (n m : ℕ) (otherwise : Stand) → 0 < n
+    → ((sign : Kind) → found ≡ Some sign → n ≤ m) → HasRoom m otherwise
     → HasRoom m (sign_or found n otherwise)
 sign_room (Some sign) n m otherwise some within room = (some, within sign refl)
 sign_room None n m otherwise some within room = room
 
 -- a sign that is there under a test has the byte that the test asks for
-under_test : (text : Text) (i : ℕ) (test : Bool) (found : Option Punctuator) (sign : Punctuator)
+under_test : (text : Text) (i : ℕ) (test : Bool) (found : Option Kind) (sign : Kind)
     → (test ≡ true → found ≡ Some sign → 0 < get_or text i 0) → (if test then found else None) ≡ Some sign
     → i < length text
 under_test text i true found sign is h = some_byte text i (is refl h)
@@ -75,9 +75,9 @@ signs_room text some =
     let b = get_or text 1 0 in
     let c = get_or text 2 0 in
     let m = length text in
-    let three : Option Punctuator = if b == a && c == 61 then doubled_with_equal a else None in
-    let two : Option Punctuator = if b == a then doubled a else None in
-    let equal : Option Punctuator = if b == 61 then with_equal a else None in
+    let three : Option Kind = if b == a && c == 61 then doubled_with_equal a else None in
+    let two : Option Kind = if b == a then doubled a else None in
+    let equal : Option Kind = if b == 61 then with_equal a else None in
     let last : Stand = sign_or (single a) 1 (Wrong Character 0) in
     let last_room = sign_room (single a) 1 m (Wrong Character 0) (omega arith) (λ sign h. some) some in
     let equal_room = sign_room equal 2 m last (omega arith)

@@ -7,8 +7,8 @@ use Rattle.scop_lexer.specs.Bytes.{Text, is_fresh}
 use Rattle.scop_lexer.specs.Stands.{stands, stands_at, HasRoom}
 use Rattle.scop_lexer.specs.Tokens.{AreGaps, IsGap, IsToken, AreTokens, HasTokens, IsFault, HasFault, IsNext}
 use Rattle.scop_lexer.specs.Tokens.{AreBetween, token_of, token_at, tokens_at}
-use Rattle.scop_lexer.specs.declared.token.Kind.{Kind}
-use Rattle.scop_lexer.specs.declared.token.Kind.TheVariants.{Name}
+use Rattle.scop_tokens.specs.declared.Token.{Token as Kind}
+use Rattle.scop_tokens.specs.declared.Token.TheVariants.{Name}
 use Rattle.scop_lexer.specs.declared.token.FaultKind.{FaultKind}
 use Rattle.scop_lexer.specs.declared.token.FaultKind.TheVariants.{Character}
 use Rattle.scop_lexer.specs.declared.token.Token.{Token}
@@ -55,13 +55,13 @@ IsNoGap stand = (n : ℕ) → stand ≡ Gap n → ⊥
 
 -- neither gap nor token
 abbrev IsLast : Stand → Type 0
-IsLast stand = ((n : ℕ) → stand ≡ Gap n → ⊥) × ((kind : Kind) (n : ℕ) → stand ≡ Lexeme kind n → ⊥)
+IsLast stand = ((n : ℕ) → stand ≡ Gap n → ⊥) × ((kind : Kind) (value n : ℕ) → stand ≡ Lexeme kind value n → ⊥)
 
 -- how many bytes a gap has
 abbrev gap_length : Stand → ℕ
 gap_length (Gap n) = n
 gap_length End = 0
-gap_length (Lexeme kind n) = 0
+gap_length (Lexeme kind value n) = 0
 gap_length (Wrong kind n) = 0
 
 -- two gaps from one place end at one place
@@ -80,33 +80,41 @@ lexeme-no_gap text t is n h = absurd (cc)
 
 -- the length of a token
 abbrev lexeme_length : Stand → ℕ
-lexeme_length (Lexeme kind n) = n
+lexeme_length (Lexeme kind value n) = n
 lexeme_length (Gap n) = 0
 lexeme_length End = 0
 lexeme_length (Wrong kind n) = 0
 
 -- the kind of a token
 abbrev lexeme_kind : Stand → Kind
-lexeme_kind (Lexeme kind n) = kind
+lexeme_kind (Lexeme kind value n) = kind
 lexeme_kind (Gap n) = Name
 lexeme_kind End = Name
 lexeme_kind (Wrong kind n) = Name
 
+-- what a token is worth
+abbrev lexeme_value : Stand → ℕ
+lexeme_value (Lexeme kind value n) = value
+lexeme_value (Gap n) = 0
+lexeme_value End = 0
+lexeme_value (Wrong kind n) = 0
+
 -- a token of these parts
-abbrev token : Kind → ℕ → ℕ → Token
-token kind start end = record { kind = kind; start = start; end = end }
+abbrev token : Kind → ℕ → ℕ → ℕ → Token
+token kind value start end = record { kind = kind; value = value; start = start; end = end }
 
 -- two tokens at one place are one
 token-agree : (text : Text) (t u : Token) → IsToken text t → IsToken text u → t.start ≡ u.start → t ≡ u
 token-agree text t u f g same =
     let stand = sym f.1 ∙ (ap (stands_at text) same ∙ g.1) in
     let end : t.end ≡ u.end = f.2 ∙ (omega (arith, same, ap lexeme_length stand) ∙ sym g.2) in
-    ap (λ k. token k t.start t.end) (ap lexeme_kind stand)
-    ∙ (ap (λ n. token u.kind n t.end) same ∙ ap (λ n. token u.kind u.start n) end)
+    ap (λ k. token k t.value t.start t.end) (ap lexeme_kind stand)
+    ∙ (ap (λ v. token u.kind v t.start t.end) (ap lexeme_value stand)
+    ∙ (ap (λ n. token u.kind u.value n t.end) same ∙ ap (λ n. token u.kind u.value u.start n) end))
 
 -- a token is found at its start
 pub token-there : (text : Text) (t : Token) → IsToken text t → token_at text t.start ≡ t
-token-there text t is = ap (token_of t.start) is.1 ∙ ap (λ n. token t.kind t.start n) (sym is.2)
+token-there text t is = ap (token_of t.start) is.1 ∙ ap (λ n. token t.kind t.value t.start n) (sym is.2)
 
 -- one start more
 pub starts-more : (text : Text) (starts : List ℕ) (t : Token) → IsToken text t
@@ -123,10 +131,10 @@ tokens-agree text at to up [] [] f g last_f last_g =
     (refl, gaps-agree text at to up f.0 g.0 f.1 g.1 last_f.0 last_g.0)
 tokens-agree text at to up [] (u ∷ us) f g last_f last_g =
     let same = gaps-agree text at to u.start f.0 g.0.0 f.1 g.0.1 last_f.0 (lexeme-no_gap text u g.1) in
-    absurd (last_f.1 u.kind g.1.0 (ap (stands_at text) same ∙ g.1.1))
+    absurd (last_f.1 u.kind u.value g.1.0 (ap (stands_at text) same ∙ g.1.1))
 tokens-agree text at to up (t ∷ ts) [] f g last_f last_g =
     let same = gaps-agree text at up t.start g.0 f.0.0 g.1 f.0.1 last_g.0 (lexeme-no_gap text t f.1) in
-    absurd (last_g.1 t.kind f.1.0 (ap (stands_at text) same ∙ f.1.1))
+    absurd (last_g.1 t.kind t.value f.1.0 (ap (stands_at text) same ∙ f.1.1))
 tokens-agree text at to up (t ∷ ts) (u ∷ us) f g last_f last_g =
     let start = gaps-agree text at t.start u.start f.0.0 g.0.0 f.0.1 g.0.1 (lexeme-no_gap text t f.1)
     (lexeme-no_gap text u g.1) in
@@ -144,11 +152,11 @@ end-at : (text : Text) → stands_at text (length text) ≡ End
 end-at text = end-behind text (length text) (omega arith)
 
 end-last : (text : Text) → IsLast (stands_at text (length text))
-end-last text = (λ n h. absurd (cc (end-at text)), λ kind n h. absurd (cc (end-at text)))
+end-last text = (λ n h. absurd (cc (end-at text)), λ kind value n h. absurd (cc (end-at text)))
 
 -- a fault
 fault-last : (text : Text) (at : ℕ) (fault : Fault) → IsFault text at fault → IsLast (stands_at text at)
-fault-last text at fault is = (λ n h. absurd (cc is.1), λ kind n h. absurd (cc is.1))
+fault-last text at fault is = (λ n h. absurd (cc is.1), λ kind value n h. absurd (cc is.1))
 
 -- a text has one list of tokens at most
 pub one-list : (text : Text) (ts us : List Token) → HasTokens text ts → HasTokens text us → ts ≡ us
@@ -168,14 +176,14 @@ abbrev wrong_length : Stand → ℕ
 wrong_length (Wrong kind n) = n
 wrong_length (Gap n) = 0
 wrong_length End = 0
-wrong_length (Lexeme kind n) = 0
+wrong_length (Lexeme kind value n) = 0
 
 -- the kind of a fault
 abbrev wrong_kind : Stand → FaultKind
 wrong_kind (Wrong kind n) = kind
 wrong_kind (Gap n) = Character
 wrong_kind End = Character
-wrong_kind (Lexeme kind n) = Character
+wrong_kind (Lexeme kind value n) = Character
 
 -- a fault of these parts
 abbrev fault_of : FaultKind → ℕ → Fault
@@ -211,9 +219,9 @@ outcome-by text at fuel End within small here room next =
 outcome-by text at fuel (Gap n) within small here room next =
     let k = next (at + n) (omega (arith, within, room.1)) (omega (arith, small, room.0)) in
     (k.0, k.1, gap-tokens text at n k.1 k.0 here k.2, k.3)
-outcome-by text at fuel (Lexeme kind n) within small here room next =
+outcome-by text at fuel (Lexeme kind value n) within small here room next =
     let k = next (at + n) (omega (arith, within, room.1)) (omega (arith, small, room.0)) in
-    (token kind at (at + n) ∷ k.0, k.1, (gap-nothing text at, (n, here, refl), k.2), k.3)
+    (token kind value at (at + n) ∷ k.0, k.1, (gap-nothing text at, (n, here, refl), k.2), k.3)
 outcome-by text at fuel (Wrong kind n) within small here room next =
     ([], at, gap-nothing text at, inr (fault_of kind (at + n), (n, here, refl)))
 

@@ -1,12 +1,13 @@
 -- Integer constants (C17 6.4.4.1): `0`, decimals without a leading zero, hexadecimals, each with or
 -- without the suffix of `unsigned long long`.
-use Rattle.std.specs.Prelude.{ℕ, ◌+◌, ◌-◌, ◌*◌, ◌^◌, Bool, true, false, ◌==◌, ◌||◌, ◌&&◌, nat_le, nat_lt}
+use Rattle.std.specs.Prelude.{ℕ, ◌+◌, ◌-◌, ◌*◌, ◌^◌, Bool, ◌==◌, ◌||◌, ◌&&◌, nat_le, nat_lt}
 use Rattle.std.specs.Prelude.{if◌then◌else◌, List, [], ◌∷◌, length, drop, get_or, codes, Option, Some, None}
 use Rattle.std.specs.List.{list_any, prefix_len, take_while}
 use Rattle.std.specs.Str.{bytes_eq}
 use Rattle.scop_lexer.specs.Bytes.{Text, is_digit}
-use Rattle.scop_lexer.specs.declared.token.Kind.{Kind}
-use Rattle.scop_lexer.specs.declared.token.Kind.TheVariants.{Constant}
+use Rattle.scop_tokens.specs.declared.Suffix.{Suffix}
+use Rattle.scop_tokens.specs.declared.Suffix.TheVariants.{Absent, Present}
+use Rattle.scop_tokens.specs.declared.Token.TheVariants.{Constant}
 use Rattle.scop_lexer.specs.declared.token.FaultKind.TheVariants.{LiteralRange}
 use Rattle.scop_lexer.specs.declared.stand.Stand.{Stand}
 use Rattle.scop_lexer.specs.declared.stand.Stand.TheVariants.{Lexeme, Wrong}
@@ -34,13 +35,13 @@ abbrev pub is_suffix : Text → Bool
 is_suffix text = list_any (λ suffix. bytes_eq suffix text) suffixes
 
 -- a constant of this value with this text behind its digits, where it is at most the limit without a suffix
-abbrev pub with_suffix : ℕ → ℕ → Text → Option Kind
-with_suffix limit value [] = if nat_le value limit then Some (Constant value false) else None
+abbrev pub with_suffix : ℕ → ℕ → Text → Option (Suffix × ℕ)
+with_suffix limit value [] = if nat_le value limit then Some (Absent, value) else None
 with_suffix limit value (b ∷ bs) = if is_suffix (b ∷ bs) && nat_lt value (2 ^ 64)
-    then Some (Constant value true) else None
+    then Some (Present, value) else None
 
 -- a constant by its longest run of digits of a base, of which there are some
-abbrev pub constant_in : ℕ → (ℕ → Bool) → ℕ → Text → Option Kind
+abbrev pub constant_in : ℕ → (ℕ → Bool) → ℕ → Text → Option (Suffix × ℕ)
 constant_in base test limit text = if prefix_len test text == 0 then None
     else with_suffix limit (number_behind base 0 (take_while test text)) (drop (prefix_len test text) text)
 
@@ -52,14 +53,14 @@ is_hexadecimal word = get_or word 0 0 == 48 && (get_or word 1 0 == 120 || get_or
 abbrev pub is_octal : Text → Bool
 is_octal word = get_or word 0 0 == 48 && is_digit (get_or word 1 0)
 
--- the constant that a word is
-abbrev pub constant_of : Text → Option Kind
+-- the constant that a word is: its suffix and its value
+abbrev pub constant_of : Text → Option (Suffix × ℕ)
 constant_of word = if is_hexadecimal word then constant_in 16 is_hex_digit (2 ^ 64 - 1) (drop 2 word)
     else (if is_octal word then None else constant_in 10 is_digit (2 ^ 63 - 1) word)
 
 -- what stands in front where a word begins with a digit
-abbrev pub numeral_stands_as : Option Kind → ℕ → Stand
-numeral_stands_as (Some kind) n = Lexeme kind n
+abbrev pub numeral_stands_as : Option (Suffix × ℕ) → ℕ → Stand
+numeral_stands_as (Some constant) n = Lexeme (Constant constant.0) constant.1 n
 numeral_stands_as None n = Wrong LiteralRange 0
 
 -- a word that begins with a digit

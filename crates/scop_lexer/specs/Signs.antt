@@ -1,85 +1,75 @@
 -- Signs (C17 6.4.6): those of a kernel's expressions, statements and lists, the longest first.
-use Rattle.std.specs.Prelude.{◌≡◌, ◌≤◌, ◌++◌, codes, ℕ, ◌==◌, ◌&&◌, if◌then◌else◌, Option, Some, None, get_or}
-use Rattle.std.specs.Prelude.{length}
+use Rattle.std.specs.Prelude.{◌≡◌, ◌⊎◌, ◌≤◌, ◌++◌, ℕ, ◌==◌, ◌&&◌, if◌then◌else◌, Option, Some, None, List, [], ◌∷◌}
+use Rattle.std.specs.Prelude.{get_or, length}
+use Rattle.scop_tokens.specs.declared.Assign.{Assign}
+use Rattle.scop_tokens.specs.declared.Assign.TheVariants as assign
+use Rattle.scop_tokens.specs.declared.Count.TheVariants as count
+use Rattle.scop_tokens.specs.declared.Op.TheVariants as op
+use Rattle.scop_tokens.specs.declared.Outside.TheVariants as outside
+use Rattle.scop_tokens.specs.declared.Token.{Token as Kind}
+use Rattle.scop_tokens.specs.declared.Token.TheVariants.{Binary, Complement, Not, Open, Close, OpenIndex, CloseIndex}
+use Rattle.scop_tokens.specs.declared.Token.TheVariants.{Outside}
 use Rattle.scop_lexer.specs.Bytes.{Text}
-use Rattle.scop_lexer.specs.declared.token.Kind.TheVariants.{Sign}
-use Rattle.scop_lexer.specs.declared.token.Punctuator.{Punctuator}
-use Rattle.scop_lexer.specs.declared.token.Punctuator.TheVariants.{OpenParenthesis, CloseParenthesis}
-use Rattle.scop_lexer.specs.declared.token.Punctuator.TheVariants.{OpenBracket, CloseBracket, OpenBrace}
-use Rattle.scop_lexer.specs.declared.token.Punctuator.TheVariants.{CloseBrace, Semicolon, Comma, Tilde, Assign}
-use Rattle.scop_lexer.specs.declared.token.Punctuator.TheVariants.{Not, Star, Slash, Percent, Caret, Plus}
-use Rattle.scop_lexer.specs.declared.token.Punctuator.TheVariants.{Minus, Ampersand, Bar, Less, Greater}
-use Rattle.scop_lexer.specs.declared.token.Punctuator.TheVariants.{EqualEqual, NotEqual, StarAssign}
-use Rattle.scop_lexer.specs.declared.token.Punctuator.TheVariants.{SlashAssign, PercentAssign, CaretAssign}
-use Rattle.scop_lexer.specs.declared.token.Punctuator.TheVariants.{PlusAssign, MinusAssign, AmpersandAssign}
-use Rattle.scop_lexer.specs.declared.token.Punctuator.TheVariants.{BarAssign, LessEqual, GreaterEqual}
-use Rattle.scop_lexer.specs.declared.token.Punctuator.TheVariants.{PlusPlus, MinusMinus, AmpersandAmpersand}
-use Rattle.scop_lexer.specs.declared.token.Punctuator.TheVariants.{BarBar, ShiftLeft, ShiftRight}
-use Rattle.scop_lexer.specs.declared.token.Punctuator.TheVariants.{ShiftLeftAssign, ShiftRightAssign}
 use Rattle.scop_lexer.specs.declared.token.FaultKind.TheVariants.{Character}
 use Rattle.scop_lexer.specs.declared.stand.Stand.{Stand}
 use Rattle.scop_lexer.specs.declared.stand.Stand.TheVariants.{Lexeme, Wrong}
 
+-- a sign that assigns
+abbrev pub assigns : Assign → Kind
+assigns a = Outside (outside.Assign a)
+
+-- the sign of a byte in a table
+abbrev pub sign_in : List (ℕ × Kind) → ℕ → Option Kind
+sign_in [] b = None
+sign_in (row ∷ rows) b = if b == row.0 then Some row.1 else sign_in rows b
+
+-- `( ) [ ] { } ; , ~ = ! * / % ^ + - & | < >`
+abbrev pub singles : List (ℕ × Kind)
+singles =
+    (40, Open) ∷ (41, Close) ∷ (91, OpenIndex) ∷ (93, CloseIndex) ∷ (123, Outside outside.BraceOpen)
+    ∷ (125, Outside outside.BraceClose) ∷ (59, Outside outside.Semicolon) ∷ (44, Binary op.Comma) ∷ (126, Complement)
+    ∷ (61, assigns assign.Set) ∷ (33, Not) ∷ (42, Binary op.Times) ∷ (47, Binary op.Divide)
+    ∷ (37, Binary op.Remainder) ∷ (94, Binary op.BitXor) ∷ (43, Binary op.Plus) ∷ (45, Binary op.Minus)
+    ∷ (38, Binary op.BitAnd) ∷ (124, Binary op.BitOr) ∷ (60, Binary op.Less) ∷ (62, Binary op.Greater) ∷ []
+
+-- `== != *= /= %= ^= += -= &= |= <= >=`, by their first bytes
+abbrev pub equals : List (ℕ × Kind)
+equals =
+    (61, Binary op.Equal) ∷ (33, Binary op.NotEqual) ∷ (42, assigns assign.Times) ∷ (47, assigns assign.Divide)
+    ∷ (37, assigns assign.Remainder) ∷ (94, assigns assign.Xor) ∷ (43, assigns assign.Plus)
+    ∷ (45, assigns assign.Minus) ∷ (38, assigns assign.And) ∷ (124, assigns assign.Or) ∷ (60, Binary op.AtMost)
+    ∷ (62, Binary op.AtLeast) ∷ []
+
+-- `++ -- && || << >>`, by their bytes
+abbrev pub doubles : List (ℕ × Kind)
+doubles =
+    (43, Outside (outside.Count count.Up)) ∷ (45, Outside (outside.Count count.Down)) ∷ (38, Binary op.LogicalAnd)
+    ∷ (124, Binary op.LogicalOr) ∷ (60, Binary op.ShiftLeft) ∷ (62, Binary op.ShiftRight) ∷ []
+
+-- `<<= >>=`, by their first bytes
+abbrev pub doubles_with_equal : List (ℕ × Kind)
+doubles_with_equal =
+    (60, assigns assign.ShiftLeft) ∷ (62, assigns assign.ShiftRight) ∷ []
+
 -- the sign that a byte is
-abbrev pub single : ℕ → Option Punctuator
-single b = if b == 40 then Some OpenParenthesis
-    else if b == 41 then Some CloseParenthesis
-    else if b == 91 then Some OpenBracket
-    else if b == 93 then Some CloseBracket
-    else if b == 123 then Some OpenBrace
-    else if b == 125 then Some CloseBrace
-    else if b == 59 then Some Semicolon
-    else if b == 44 then Some Comma
-    else if b == 126 then Some Tilde
-    else if b == 61 then Some Assign
-    else if b == 33 then Some Not
-    else if b == 42 then Some Star
-    else if b == 47 then Some Slash
-    else if b == 37 then Some Percent
-    else if b == 94 then Some Caret
-    else if b == 43 then Some Plus
-    else if b == 45 then Some Minus
-    else if b == 38 then Some Ampersand
-    else if b == 124 then Some Bar
-    else if b == 60 then Some Less
-    else if b == 62 then Some Greater
-    else None
+abbrev pub single : ℕ → Option Kind
+single b = sign_in singles b
 
 -- the sign that a byte and `=` are
-abbrev pub with_equal : ℕ → Option Punctuator
-with_equal b = if b == 61 then Some EqualEqual
-    else if b == 33 then Some NotEqual
-    else if b == 42 then Some StarAssign
-    else if b == 47 then Some SlashAssign
-    else if b == 37 then Some PercentAssign
-    else if b == 94 then Some CaretAssign
-    else if b == 43 then Some PlusAssign
-    else if b == 45 then Some MinusAssign
-    else if b == 38 then Some AmpersandAssign
-    else if b == 124 then Some BarAssign
-    else if b == 60 then Some LessEqual
-    else if b == 62 then Some GreaterEqual
-    else None
+abbrev pub with_equal : ℕ → Option Kind
+with_equal b = sign_in equals b
 
 -- the sign that a byte twice is, but for `==`
-abbrev pub doubled : ℕ → Option Punctuator
-doubled b = if b == 43 then Some PlusPlus
-    else if b == 45 then Some MinusMinus
-    else if b == 38 then Some AmpersandAmpersand
-    else if b == 124 then Some BarBar
-    else if b == 60 then Some ShiftLeft
-    else if b == 62 then Some ShiftRight
-    else None
+abbrev pub doubled : ℕ → Option Kind
+doubled b = sign_in doubles b
 
 -- the sign that a byte twice and `=` are
-abbrev pub doubled_with_equal : ℕ → Option Punctuator
-doubled_with_equal b = if b == 60 then Some ShiftLeftAssign
-    else if b == 62 then Some ShiftRightAssign
-    else None
+abbrev pub doubled_with_equal : ℕ → Option Kind
+doubled_with_equal b = sign_in doubles_with_equal b
 
 -- a sign of this length stands in front, else what is told otherwise
-abbrev pub sign_or : Option Punctuator → ℕ → Stand → Stand
-sign_or (Some sign) n otherwise = Lexeme (Sign sign) n
+abbrev pub sign_or : Option Kind → ℕ → Stand → Stand
+sign_or (Some sign) n otherwise = Lexeme sign 0 n
 sign_or None n otherwise = otherwise
 
 -- the longest sign that these three bytes begin with
@@ -94,61 +84,28 @@ sign_stands_at a b c =
 abbrev pub sign_stands : Text → Stand
 sign_stands text = sign_stands_at (get_or text 0 0) (get_or text 1 0) (get_or text 2 0)
 
--- how a sign is written
-abbrev pub spelling : Punctuator → Text
-spelling OpenParenthesis = codes "("
-spelling CloseParenthesis = codes ")"
-spelling OpenBracket = codes "["
-spelling CloseBracket = codes "]"
-spelling OpenBrace = codes "{"
-spelling CloseBrace = codes "}"
-spelling Semicolon = codes ";"
-spelling Comma = codes ","
-spelling Tilde = codes "~"
-spelling Assign = codes "="
-spelling Not = codes "!"
-spelling Star = codes "*"
-spelling Slash = codes "/"
-spelling Percent = codes "%"
-spelling Caret = codes "^"
-spelling Plus = codes "+"
-spelling Minus = codes "-"
-spelling Ampersand = codes "&"
-spelling Bar = codes "|"
-spelling Less = codes "<"
-spelling Greater = codes ">"
-spelling EqualEqual = codes "=="
-spelling NotEqual = codes "!="
-spelling StarAssign = codes "*="
-spelling SlashAssign = codes "/="
-spelling PercentAssign = codes "%="
-spelling CaretAssign = codes "^="
-spelling PlusAssign = codes "+="
-spelling MinusAssign = codes "-="
-spelling AmpersandAssign = codes "&="
-spelling BarAssign = codes "|="
-spelling LessEqual = codes "<="
-spelling GreaterEqual = codes ">="
-spelling PlusPlus = codes "++"
-spelling MinusMinus = codes "--"
-spelling AmpersandAmpersand = codes "&&"
-spelling BarBar = codes "||"
-spelling ShiftLeft = codes "<<"
-spelling ShiftRight = codes ">>"
-spelling ShiftLeftAssign = codes "<<="
-spelling ShiftRightAssign = codes ">>="
+-- these bytes are the sign
+abbrev pub IsWritten : Text → Kind → Type 0
+IsWritten (a ∷ []) sign = single a ≡ Some sign
+IsWritten (a ∷ b ∷ []) sign = ((b ≡ 61) × (with_equal a ≡ Some sign)) ⊎ ((b ≡ a) × (doubled a ≡ Some sign))
+IsWritten (a ∷ b ∷ c ∷ []) sign = (b ≡ a) × (c ≡ 61) × (doubled_with_equal a ≡ Some sign)
+IsWritten other sign = ⊥
 
 -- the text begins with these bytes
 abbrev pub BeginsWith : Text → Text → Type 0
 BeginsWith front text = (rest : Text) × (text ≡ front ++ rest)
 
--- the sign stands in front of the text, and none that is longer does
-abbrev pub IsLongestSign : Text → Punctuator → Type 0
-IsLongestSign text sign = BeginsWith (spelling sign) text
-    × ((other : Punctuator) → BeginsWith (spelling other) text → length (spelling other) ≤ length (spelling sign))
+-- no sign that is longer than m bytes stands in front of the text
+abbrev pub HasNoLonger : ℕ → Text → Type 0
+HasNoLonger m text = (w : Text) (sign : Kind) → IsWritten w sign → BeginsWith w text → length w ≤ m
+
+-- the sign stands in front of the text, written so, and none that is longer does
+abbrev pub IsLongestSign : Text → Text → Kind → Type 0
+IsLongestSign text w sign = IsWritten w sign × BeginsWith w text × HasNoLonger (length w) text
 
 -- what stands in front of the text is its longest sign; it is no character of the language where it has none
 abbrev pub StandsAsSign : Text → Stand → Type 0
-StandsAsSign text (Lexeme (Sign sign) n) = IsLongestSign text sign × (n ≡ length (spelling sign))
-StandsAsSign text (Wrong Character n) = (n ≡ 0) × ((sign : Punctuator) → BeginsWith (spelling sign) text → ⊥)
+StandsAsSign text (Lexeme sign value n) = (w : Text) × IsLongestSign text w sign × (value ≡ 0) × (n ≡ length w)
+StandsAsSign text (Wrong Character n) = (n ≡ 0)
+    × ((w : Text) (sign : Kind) → IsWritten w sign → BeginsWith w text → ⊥)
 StandsAsSign text other = ⊥

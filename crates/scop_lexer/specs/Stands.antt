@@ -36,5 +36,5 @@ stands_at text at = stands (is_fresh (take at text)) (drop at text)
 abbrev pub HasRoom : ℕ → Stand → Type 0
 HasRoom m End = m ≡ 0
 HasRoom m (Gap n) = (0 < n) × (n ≤ m)
-HasRoom m (Lexeme kind n) = (0 < n) × (n ≤ m)
+HasRoom m (Lexeme kind value n) = (0 < n) × (n ≤ m)
 HasRoom m (Wrong kind n) = n < m

@@ -6,7 +6,7 @@ use Rattle.scop_lexer.specs.declared.token.Token.{Token}
 use Rattle.scop_lexer.specs.declared.token.Fault.{Fault}
 use Rattle.scop_lexer.specs.declared.token.Stop.{Stop}
 use Rattle.scop_lexer.specs.declared.token.Stop.TheVariants.{Refused, NoMemory}
-use Rattle.scop_lexer.specs.declared.token.Kind.TheVariants.{Name}
+use Rattle.scop_tokens.specs.declared.Token.TheVariants.{Name}
 use Rattle.scop_lexer.specs.declared.stand.Stand.{Stand}
 use Rattle.scop_lexer.specs.declared.stand.Stand.TheVariants.{Gap, Lexeme, Wrong}
 
@@ -21,12 +21,13 @@ IsGap text at to = (lengths : List ℕ) × AreGaps text at lengths to
 
 -- the token stands at its start, up to its end
 abbrev pub IsToken : Text → Token → Type 0
-IsToken text token = (n : ℕ) × (stands_at text token.start ≡ Lexeme token.kind n) × (token.end ≡ token.start + n)
+IsToken text token = (n : ℕ) × (stands_at text token.start ≡ Lexeme token.kind token.value n)
+    × (token.end ≡ token.start + n)
 
 -- the token that begins at a place where this stands; an empty name where it is none
 abbrev pub token_of : ℕ → Stand → Token
-token_of at (Lexeme kind n) = record { kind = kind; start = at; end = at + n }
-token_of at _ = record { kind = Name; start = at; end = at }
+token_of at (Lexeme kind value n) = record { kind = kind; value = value; start = at; end = at + n }
+token_of at _ = record { kind = Name; value = 0; start = at; end = at }
 
 -- the token that begins at a place of a text
 abbrev pub token_at : Text → ℕ → Token

@@ -3,8 +3,9 @@ use Rattle.std.specs.Prelude.{◌≡◌, true, nat_le, if◌then◌else◌, List
 use Rattle.std.specs.List.{list_all, list_any}
 use Rattle.std.specs.Str.{bytes_eq}
 use Rattle.scop_lexer.specs.Bytes.{Text, is_letter, is_word_byte}
-use Rattle.scop_lexer.specs.declared.token.Kind.{Kind}
-use Rattle.scop_lexer.specs.declared.token.Kind.TheVariants.{Void, For, If, Int64, Uint64, Keyword, Name}
+use Rattle.scop_tokens.specs.declared.Outside.TheVariants.{Void, For, If, Int64, Keyword}
+use Rattle.scop_tokens.specs.declared.Token.{Token as Kind}
+use Rattle.scop_tokens.specs.declared.Token.TheVariants.{Outside, Uint64, Name}
 use Rattle.scop_lexer.specs.declared.token.FaultKind.TheVariants.{Character}
 use Rattle.scop_lexer.specs.declared.stand.Stand.{Stand}
 use Rattle.scop_lexer.specs.declared.stand.Stand.TheVariants.{Lexeme, Wrong}
@@ -21,20 +22,20 @@ other_keywords = codes "auto" ∷ codes "break" ∷ codes "case" ∷ codes "char
 
 -- the kind of a word that begins with a letter
 abbrev pub kind_of_word : Text → Kind
-kind_of_word word = if bytes_eq word (codes "void") then Void
-    else if bytes_eq word (codes "for") then For
-    else if bytes_eq word (codes "if") then If
-    else if bytes_eq word (codes "int64_t") then Int64
+kind_of_word word = if bytes_eq word (codes "void") then Outside Void
+    else if bytes_eq word (codes "for") then Outside For
+    else if bytes_eq word (codes "if") then Outside If
+    else if bytes_eq word (codes "int64_t") then Outside Int64
     else if bytes_eq word (codes "uint64_t") then Uint64
-    else if list_any (λ keyword. bytes_eq keyword word) other_keywords then Keyword
+    else if list_any (λ keyword. bytes_eq keyword word) other_keywords then Outside Keyword
     else Name
 
 -- a word that begins with a letter; its 64th byte is wrong (C17 5.2.4.1 asks for 63)
 abbrev pub word_stands : Text → Stand
-word_stands word = if nat_le (length word) 63 then Lexeme (kind_of_word word) (length word) else Wrong Character 63
+word_stands word = if nat_le (length word) 63 then Lexeme (kind_of_word word) 0 (length word) else Wrong Character 63
 
 -- a name, from its first byte, a letter or `_`, to its last
 pub record IsName (name : Text) : Type 0 where
   pub letter : is_letter (get_or name 0 0) ≡ true
   pub bytes : list_all is_word_byte name ≡ true
-  pub word : word_stands name ≡ Lexeme Name (length name)
+  pub word : word_stands name ≡ Lexeme Name 0 (length name)

@@ -9,6 +9,7 @@ ghost use Rattle.scop_lexer.specs.Constants.{constant_in, is_hexadecimal, is_oct
 use crate::bytes::byte_at;
 use crate::stand::Stand;
 use crate::token::{FaultKind, Kind};
+use scop_tokens::Suffix;
 
 /// The greatest decimal without a suffix.
 const GREATEST_SIGNED: u64 = 0x7FFF_FFFF_FFFF_FFFF;
@@ -23,13 +24,13 @@ pub(crate) fn numeral_stands(word: &[u8]) -> Stand
     ensures { result ≡ numeral_stands word.now }
 {
     match constant_of(word) {
-        Some(kind) => Stand::Lexeme(kind, word.len()),
+        Some((suffix, value)) => Stand::Lexeme(Kind::Constant(suffix), value, word.len()),
         None => Stand::Wrong(FaultKind::LiteralRange, 0),
     }
 }
 
-/// The constant that a word is.
-fn constant_of(word: &[u8]) -> Option<Kind>
+/// The constant that a word is: its suffix and its value.
+fn constant_of(word: &[u8]) -> Option<(Suffix, u64)>
     ensures { result ≡ constant_of word.now }
 {
     if is_hexadecimal(word) {
@@ -42,7 +43,7 @@ fn constant_of(word: &[u8]) -> Option<Kind>
 }
 
 /// The decimal that a text is.
-fn decimal(text: &[u8]) -> Option<Kind>
+fn decimal(text: &[u8]) -> Option<(Suffix, u64)>
     ensures { result ≡ constant_in 10 is_digit (2 ^ 63 - 1) text.now }
 {
     let count = digit_len(text);
@@ -54,7 +55,7 @@ fn decimal(text: &[u8]) -> Option<Kind>
 }
 
 /// The constant of hexadecimal digits that a text is.
-fn hexadecimal(text: &[u8]) -> Option<Kind>
+fn hexadecimal(text: &[u8]) -> Option<(Suffix, u64)>
     ensures { result ≡ constant_in 16 is_hex_digit (2 ^ 64 - 1) text.now }
 {
     let count = hex_digit_len(text);
@@ -66,7 +67,7 @@ fn hexadecimal(text: &[u8]) -> Option<Kind>
 }
 
 /// The constant of these digits and this text behind them.
-fn constant(base: u64, limit: u64, digits: &[u8], tail: &[u8]) -> Option<Kind>
+fn constant(base: u64, limit: u64, digits: &[u8], tail: &[u8]) -> Option<(Suffix, u64)>
     requires { 0 < base }
     ensures { result ≡ with_suffix limit (number_behind base 0 digits.now) tail.now }
 {
@@ -77,23 +78,17 @@ fn constant(base: u64, limit: u64, digits: &[u8], tail: &[u8]) -> Option<Kind>
 }
 
 /// The constant of this value and this text behind its digits.
-fn with_suffix(limit: u64, value: u64, tail: &[u8]) -> Option<Kind>
+fn with_suffix(limit: u64, value: u64, tail: &[u8]) -> Option<(Suffix, u64)>
     ensures { result ≡ with_suffix limit value tail.now }
 {
     if tail.is_empty() {
         if value <= limit {
-            return Some(Kind::Constant {
-                value,
-                suffixed: false,
-            });
+            return Some((Suffix::Absent, value));
         }
         return None;
     }
     if is_suffix(tail) {
-        return Some(Kind::Constant {
-            value,
-            suffixed: true,
-        });
+        return Some((Suffix::Present, value));
     }
     None
 }

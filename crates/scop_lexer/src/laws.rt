@@ -7,7 +7,7 @@ ghost use Rattle.scop_lexer.specs.Stands.{stands_at};
 ghost use Rattle.scop_lexer.specs.Signs.{StandsAsSign, sign_stands};
 ghost use Rattle.scop_lexer.specs.Tokens.{HasTokens, HasFault};
 ghost use Rattle.scop_lexer.specs.declared.stand.Stand.TheVariants.{Lexeme};
-ghost use Rattle.scop_lexer.specs.declared.token.Kind.TheVariants.{Name};
+ghost use Rattle.scop_tokens.specs.declared.Token.TheVariants.{Name};
 ghost use Rattle.scop_lexer.specs.declared.token.Token.{Token};
 ghost use Rattle.scop_lexer.specs.declared.token.Fault.{Fault};
 
@@ -41,5 +41,6 @@ pub fn longest_sign_is_told()
 
 /// What stands as a name in a text is a name by itself.
 pub fn names_stand_by_themselves()
-    ensures { (text : Text) (at n : ℕ) → stands_at text at ≡ Lexeme Name n → IsName (take n (drop at text)) }
+    ensures { (text : Text) (at value n : ℕ) → stands_at text at ≡ Lexeme Name value n
+        → IsName (take n (drop at text)) }
 {}

@@ -24,9 +24,10 @@ pub fn next_token(text: &[u8], from: usize) -> Result<Option<Token>, Fault>
         match stands_at(text, at) {
             Stand::End => return Ok(None),
             Stand::Gap(count) => at += count,
-            Stand::Lexeme(kind, count) => {
+            Stand::Lexeme(kind, value, count) => {
                 return Ok(Some(Token {
                     kind,
+                    value,
                     start: at,
                     end: at + count,
                 }));
@@ -47,6 +48,7 @@ fn nothing(at: usize) -> Token
 {
     Token {
         kind: Kind::Name,
+        value: 0,
         start: at,
         end: at,
     }
@@ -60,8 +62,9 @@ pub fn token_at(text: &[u8], at: usize) -> Token
         return nothing(at);
     }
     match stands_at(text, at) {
-        Stand::Lexeme(kind, count) => Token {
+        Stand::Lexeme(kind, value, count) => Token {
             kind,
+            value,
             start: at,
             end: at + count,
         },

@@ -21,4 +21,4 @@ pub use laws::{
 };
 pub use lexer::{next_token, starts, token_at, tokens};
 pub use places::{Place, position};
-pub use token::{Fault, FaultKind, Kind, Punctuator, Stop, Token};
+pub use token::{Fault, FaultKind, Kind, Stop, Token};

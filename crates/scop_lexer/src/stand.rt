@@ -9,8 +9,8 @@ pub enum Stand {
     End,
     /// A blank, a comment or a directive line.
     Gap(usize),
-    /// A token.
-    Lexeme(Kind, usize),
+    /// A token, with the number that a constant is, 0 of any other.
+    Lexeme(Kind, u64, usize),
     /// A fault, so many bytes behind the place.
     Wrong(FaultKind, usize),
 }

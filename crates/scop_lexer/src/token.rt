@@ -5,120 +5,15 @@ ghost use Rattle.scop_lexer.specs.declared.token.Stop.TheVariants as stop;
 
 use std::alloc::AllocError;
 
-/// The kind of a token.
-#[derive(Clone, Copy)]
-pub enum Kind {
-    /// `void`
-    Void,
-    /// `for`
-    For,
-    /// `if`
-    If,
-    /// `int64_t`
-    Int64,
-    /// `uint64_t`
-    Uint64,
-    /// Another keyword of C17.
-    Keyword,
-    /// A name.
-    Name,
-    /// A constant, and whether a suffix makes it unsigned.
-    Constant { value: u64, suffixed: bool },
-    /// A sign.
-    Sign(Punctuator),
-}
+/// The kind of a token, which is all that the grammars see of it.
+pub use scop_tokens::Token as Kind;
 
-/// The signs.
-#[derive(Clone, Copy)]
-pub enum Punctuator {
-    /// `(`
-    OpenParenthesis,
-    /// `)`
-    CloseParenthesis,
-    /// `[`
-    OpenBracket,
-    /// `]`
-    CloseBracket,
-    /// `{`
-    OpenBrace,
-    /// `}`
-    CloseBrace,
-    /// `;`
-    Semicolon,
-    /// `,`
-    Comma,
-    /// `~`
-    Tilde,
-    /// `=`
-    Assign,
-    /// `!`
-    Not,
-    /// `*`
-    Star,
-    /// `/`
-    Slash,
-    /// `%`
-    Percent,
-    /// `^`
-    Caret,
-    /// `+`
-    Plus,
-    /// `-`
-    Minus,
-    /// `&`
-    Ampersand,
-    /// `|`
-    Bar,
-    /// `<`
-    Less,
-    /// `>`
-    Greater,
-    /// `==`
-    EqualEqual,
-    /// `!=`
-    NotEqual,
-    /// `*=`
-    StarAssign,
-    /// `/=`
-    SlashAssign,
-    /// `%=`
-    PercentAssign,
-    /// `^=`
-    CaretAssign,
-    /// `+=`
-    PlusAssign,
-    /// `-=`
-    MinusAssign,
-    /// `&=`
-    AmpersandAssign,
-    /// `|=`
-    BarAssign,
-    /// `<=`
-    LessEqual,
-    /// `>=`
-    GreaterEqual,
-    /// `++`
-    PlusPlus,
-    /// `--`
-    MinusMinus,
-    /// `&&`
-    AmpersandAmpersand,
-    /// `||`
-    BarBar,
-    /// `<<`
-    ShiftLeft,
-    /// `>>`
-    ShiftRight,
-    /// `<<=`
-    ShiftLeftAssign,
-    /// `>>=`
-    ShiftRightAssign,
-}
-
-/// A token: its kind, and the span of its bytes in the text.
+/// A token: its kind, what it is worth, and the span of its bytes in the text.
 #[derive(Clone, Copy)]
 pub struct Token {
     pub kind: Kind,
+    /// The number that a constant is; 0 of any other token.
+    pub value: u64,
     /// The place of its first byte, counted from 0.
     pub start: usize,
     /// The place behind its last byte.

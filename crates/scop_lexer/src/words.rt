@@ -7,6 +7,7 @@ ghost use Rattle.scop_lexer.specs.Words.{other_keywords, kind_of_word, word_stan
 
 use crate::stand::Stand;
 use crate::token::{FaultKind, Kind};
+use scop_tokens::Outside;
 
 /// The longest name, in bytes (C17 5.2.4.1).
 const LONGEST_NAME: usize = 63;
@@ -72,22 +73,22 @@ fn kind_of_word(word: &[u8]) -> Kind
         return Kind::Name;
     }
     if word == b"void".as_slice() {
-        return Kind::Void;
+        return Kind::Outside(Outside::Void);
     }
     if word == b"for".as_slice() {
-        return Kind::For;
+        return Kind::Outside(Outside::For);
     }
     if word == b"if".as_slice() {
-        return Kind::If;
+        return Kind::Outside(Outside::If);
     }
     if word == b"int64_t".as_slice() {
-        return Kind::Int64;
+        return Kind::Outside(Outside::Int64);
     }
     if word == b"uint64_t".as_slice() {
         return Kind::Uint64;
     }
     if is_other_keyword(word) {
-        return Kind::Keyword;
+        return Kind::Outside(Outside::Keyword);
     }
     Kind::Name
 }
@@ -99,5 +100,5 @@ pub(crate) fn word_stands(word: &[u8]) -> Stand
     if word.len() > LONGEST_NAME {
         return Stand::Wrong(FaultKind::Character, LONGEST_NAME);
     }
-    Stand::Lexeme(kind_of_word(word), word.len())
+    Stand::Lexeme(kind_of_word(word), 0, word.len())
 }

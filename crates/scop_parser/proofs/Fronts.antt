@@ -1,6 +1,6 @@
 -- The first token with which no text goes on is one.
 use Rattle.std.proofs.Common.{◌≡◌, ℕ, ◌≤◌, List, [], ◌∷◌, ◌++◌, length, refl, sym, subst, append_assoc, arith}
-use Rattle.expression_grammar.specs.declared.token.Token.{Token}
+use Rattle.expression_grammar.specs.Token.{Token}
 use Rattle.expression_grammar.specs.Tree.{Tree}
 use Rattle.kernel_grammar.specs.Kernel.{Step, counted, counts, assigned, Head, branch, loop, Item, block, empty, assign}
 use Rattle.kernel_grammar.specs.Kernel.{headed, Items, none, more, Parameter, number, array, Fits, AllFit, StepFits}

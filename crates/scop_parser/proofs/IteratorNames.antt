@@ -4,8 +4,8 @@ use Rattle.std.proofs.Common.{length, map, slice_get, inl, inr, arith}
 use Rattle.std.specs.Prelude.{All, Some}
 use Rattle.std.proofs.lemmas.List.Elements.{All-nil, All-cons, All-head, All-map, All-tail}
 use Rattle.expression_grammar.specs.Tree as expression
-use Rattle.expression_grammar.specs.declared.token.Token.{Token}
-use Rattle.expression_grammar.specs.declared.token.Token.TheVariants as token
+use Rattle.expression_grammar.specs.Token.{Token}
+use Rattle.expression_grammar.specs.Token.TheVariants as token
 use Rattle.kernel_grammar.specs.Kernel.{Element, spelled, Step, branch, loop, Item, block, empty, assign, headed, Items}
 use Rattle.kernel_grammar.specs.Kernel.{none, more, Kernel, begins, ends, item_elements, all_elements, head_elements}
 use Rattle.kernel_grammar.specs.Kernel.{parameter_elements, other_parameters, declarations, kernel_elements}

@@ -7,17 +7,17 @@ use Rattle.scop_lexer.specs.Lines.{line_behind, column_behind}
 use Rattle.scop_lexer.specs.declared.token.Fault.{Fault as TokenFault}
 use Rattle.scop_lexer.specs.declared.token.Token.{Token as Lexeme}
 use Rattle.scop_lexer.proofs.Splits.{one-list, no-fault, one-fault}
-use Rattle.expression_grammar.specs.declared.token.Token.{Token}
+use Rattle.expression_grammar.specs.Token.{Token}
 use Rattle.expression_grammar.specs.Grammar.{told_at}
 use Rattle.kernel_grammar.specs.Kernel.{IsFront}
 use Rattle.kernel_grammar.specs.Promises.{IsUnfit, IsMisplaced, IsUnended, IsTooDeep}
 use Rattle.scop_roles.specs.declared.fault.Fault.{Fault}
 use Rattle.scop_roles.specs.Faults.{first}
 use Rattle.scop_parser.specs.declared.refusal.Refusal.{Refusal}
-use Rattle.scop_parser.specs.declared.refusal.RefusalKind.{RefusalKind}
+use Rattle.scop_roles.specs.declared.fault.Kind.{Kind as RefusalKind}
 use Rattle.scop_units.specs.Words.{start_of, words_of, grammar_tokens}
 use Rattle.scop_units.specs.Judging.{faults_of}
-use Rattle.scop_parser.specs.Spelling.{IsText, token_kind, judged_kind, IsGrammarFault, IsFirstFault, IsRefusedAs}
+use Rattle.scop_parser.specs.Spelling.{IsText, token_kind, IsGrammarFault, IsFirstFault, IsRefusedAs}
 use Rattle.scop_parser.proofs.Fronts.{front-more, front-shorter, one-break, one-split}
 use Rattle.scop_parser.proofs.UniquePrograms.{no-kernel, same-faults}
 
@@ -113,7 +113,7 @@ fault-once text k l a b (inr (inr x)) (inr (inr y)) =
     ap (λ (ts : List Lexeme). faults_of (words_of text ts) y.kernel) e in
     let list = same-faults text x.tokens x.kernel y.kernel x.is_text z ∙ sym moved in
     let same = some-same x.fault y.fault (sym x.first ∙ (ap first list ∙ y.first)) in (
-      x.kind ∙ (ap (λ (f : Fault). judged_kind f.kind) same ∙ sym y.kind),
+      x.kind ∙ (ap (λ (f : Fault). f.kind) same ∙ sym y.kind),
       x.place
           ∙ (ap (λ (f : Fault). start_of text x.tokens f.place) same
           ∙ (ap (λ (ts : List Lexeme). start_of text ts y.fault.place) (sym e) ∙ sym y.place)),

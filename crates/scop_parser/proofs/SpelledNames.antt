@@ -7,55 +7,34 @@ use Rattle.scop_lexer.specs.Words.{IsName}
 use Rattle.scop_lexer.specs.Stands.{stands_at}
 use Rattle.scop_lexer.specs.Tokens.{IsToken, AreTokens}
 use Rattle.scop_lexer.specs.declared.stand.Stand.TheVariants.{Lexeme}
-use Rattle.scop_lexer.specs.declared.token.Kind.{Kind}
-use Rattle.scop_lexer.specs.declared.token.Kind.TheVariants as kind
-use Rattle.scop_lexer.specs.declared.token.Punctuator.{Punctuator}
-use Rattle.scop_lexer.specs.declared.token.Punctuator.TheVariants as sign
 use Rattle.scop_lexer.specs.declared.token.Token.{Token}
-use Rattle.expression_grammar.specs.declared.token.Token.{Token as GrammarToken}
-use Rattle.expression_grammar.specs.declared.token.Token.TheVariants as token
+use Rattle.expression_grammar.specs.Token.TheVariants as token
 use Rattle.kernel_grammar.specs.Kernel.{Kernel, kernel_elements, spelled}
 use Rattle.scop_syntax.specs.Tree.{Program}
-use Rattle.scop_units.specs.Words.{Words, grammar_token, grammar_tokens, sign_token, spelling_of, words_of}
+use Rattle.scop_units.specs.Words.{Words, grammar_tokens, spelling_of, words_of}
 use Rattle.scop_units.specs.Names.{SpellNames, header_names}
 use Rattle.scop_units.specs.Programs.{program_spelled}
 use Rattle.scop_parser.specs.Spelling.{SpellsProgram}
 
 -- what stands as a name in a text is one by itself, and a kernel's tokens spell its names
 pub record NameLaws : Type 0 where
-  pub stands : (text : Text) (at n : ℕ) → stands_at text at ≡ Lexeme kind.Name n → IsName (take n (drop at text))
+  pub stands : (text : Text) (at v n : ℕ) → stands_at text at ≡ Lexeme token.Name v n
+      → IsName (take n (drop at text))
   pub spelled : (words : Words) (k : Kernel) → SpellNames words (spelled (kernel_elements k))
       → All IsName (header_names (program_spelled words k))
 
--- the grammar's names are the lexer's
-abbrev is_name : GrammarToken → Bool
-is_name token.Name = true
-is_name _ = false
-
-sign_apart : (s : Punctuator) → is_name (sign_token s) ≡ false
-sign_apart sign.OpenParenthesis = refl
-sign_apart _ = refl
-
-kind_of_name : (k : Kind) → is_name (grammar_token k) ≡ true → k ≡ kind.Name
-kind_of_name kind.Name e = refl
-kind_of_name (kind.Constant value true) e = absurd cc
-kind_of_name (kind.Constant value false) e = absurd cc
-kind_of_name (kind.Sign s) e = absurd (let apart = sign_apart s in cc)
-kind_of_name _ e = absurd cc
-
-token_spells : NameLaws → (text : Text) (t : Token) → IsToken text t → t.kind ≡ kind.Name
+token_spells : NameLaws → (text : Text) (t : Token) → IsToken text t → t.kind ≡ token.Name
     → IsName (take (t.end - t.start) (drop t.start text))
 token_spells laws text t is named =
     let long : is.0 ≡ t.end - t.start = omega (arith, is.2) in
     subst (λ n. IsName (take n (drop t.start text))) long
-    (laws.stands text t.start is.0 (is.1 ∙ ap (λ k. Lexeme k is.0) named))
+    (laws.stands text t.start t.value is.0 (is.1 ∙ ap (λ k. Lexeme k t.value is.0) named))
 
 tokens_spell : NameLaws → (text : Text) (from to : ℕ) (ts : List Token) (at : ℕ) → AreTokens text from ts to
     → slice_get (grammar_tokens ts) at ≡ Some token.Name → IsName (spelling_of text (slice_get ts at))
 tokens_spell laws text from to [] at h is = absurd cc
 tokens_spell laws text from to (t ∷ ts) zero h is =
-    let same : grammar_token t.kind ≡ token.Name = cc in
-    token_spells laws text t h.1 (kind_of_name t.kind (ap is_name same))
+    token_spells laws text t h.1 cc
 tokens_spell laws text from to (t ∷ ts) (suc at) h is = tokens_spell laws text t.end to ts at h.2 is
 
 -- so the tokens of a text that spells a program spell its kernel's names

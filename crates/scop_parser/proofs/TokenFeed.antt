@@ -6,7 +6,7 @@ use Rattle.std.proofs.Math.ListN.{get_or-map}
 use Rattle.std.proofs.lemmas.List.{drop_all, length-map}
 use Rattle.expression_grammar.specs.declared.reader.Stop.{Stop}
 use Rattle.expression_grammar.specs.declared.reader.Stop.TheVariants as fault
-use Rattle.expression_grammar.specs.declared.token.Token.{Token}
+use Rattle.expression_grammar.specs.Token.{Token}
 use Rattle.kernel_grammar.specs.declared.reader.Text.{Text as Parts}
 use Rattle.kernel_grammar.specs.declared.table.Want.{Want}
 use Rattle.kernel_grammar.specs.declared.table.Want.TheVariants as want
@@ -22,7 +22,7 @@ use Rattle.scop_lexer.specs.Tokens.{token_at, tokens_at}
 use Rattle.scop_lexer.specs.declared.token.Token.{Token as Lexeme}
 use Rattle.scop_units.specs.Judging.{faults_of}
 use Rattle.scop_units.specs.Programs.{program_spelled}
-use Rattle.scop_units.specs.Words.{Words, grammar_token, grammar_tokens}
+use Rattle.scop_units.specs.Words.{Words, grammar_tokens}
 use Rattle.scop_pass.specs.Machine as machine
 use Rattle.scop_pass.specs.Machine.{State, first_state, program_at}
 use Rattle.scop_pass.specs.Passing.{ComeNext}
@@ -30,7 +30,7 @@ use Rattle.scop_pass.proofs.Kernels.{run-faults, run-program}
 
 -- the token that begins at a start, as the grammar sees it
 abbrev pub seen : Text → ℕ → Token
-seen text start = grammar_token (token_at text start).kind
+seen text start = (token_at text start).kind
 
 -- all of them
 abbrev pub all_seen : Text → List ℕ → List Token
@@ -40,14 +40,14 @@ all_seen text starts = grammar_tokens (tokens_at text starts)
 seen_at : (text : Text) (starts : List ℕ) (i : ℕ) (t : Token) → t ≡ seen text (get_or starts i 0)
     → get_or (all_seen text starts) i (seen text 0) ≡ t
 seen_at text starts i t is =
-    let kind : Lexeme → Token = λ (u : Lexeme). grammar_token u.kind in
+    let kind : Lexeme → Token = λ (u : Lexeme). u.kind in
     get_or-map kind (tokens_at text starts) i (token_at text 0)
     ∙ (ap kind (get_or-map (token_at text) starts i 0) ∙ sym is)
 
 -- there are as many as starts
 seen_count : (text : Text) (starts : List ℕ) → length (all_seen text starts) ≡ length starts
 seen_count text starts =
-    length-map (tokens_at text starts) (λ (t : Lexeme). grammar_token t.kind) ∙ length-map starts (token_at text)
+    length-map (tokens_at text starts) (λ (t : Lexeme). t.kind) ∙ length-map starts (token_at text)
 
 -- the reader stands behind so many tokens, its own pieces behind those that were taken
 abbrev pub Fed : List Token → List Piece → ℕ → Spot → Type 0

@@ -9,7 +9,7 @@ use Rattle.scop_lexer.specs.declared.token.Fault.{Fault as TokenFault}
 use Rattle.scop_lexer.specs.Tokens.{HasTokens, HasFault}
 use Rattle.kernel_grammar.specs.Kernel.{Piece, pieces, Kernel, kernel_elements, Spells}
 use Rattle.scop_lexer.proofs.Splits.{one-list, no-fault, one-holds}
-use Rattle.expression_grammar.specs.declared.token.Token.{Token as Kind}
+use Rattle.expression_grammar.specs.Token.{Token as Kind}
 use Rattle.expression_grammar.specs.Grammar.{told_at}
 use Rattle.expression_grammar.specs.declared.reader.Stop.{Stop}
 use Rattle.expression_grammar.specs.declared.reader.Stop.TheVariants as stop
@@ -29,9 +29,9 @@ use Rattle.scop_units.specs.Words.{start_of, words_of, grammar_tokens}
 use Rattle.scop_units.specs.Judging.{faults_of}
 use Rattle.scop_units.specs.Programs.{program_spelled}
 use Rattle.scop_pass.specs.Machine.{first_state, run, program_at}
-use Rattle.scop_parser.specs.declared.refusal.RefusalKind.{RefusalKind}
-use Rattle.scop_parser.specs.declared.refusal.RefusalKind.TheVariants as refusal
-use Rattle.scop_parser.specs.Spelling.{IsText, SpellsProgram, token_kind, judged_kind, IsGrammarFault, HasGrammarFault}
+use Rattle.scop_roles.specs.declared.fault.Kind.{Kind as RefusalKind}
+use Rattle.scop_roles.specs.declared.fault.Kind.TheVariants as refusal
+use Rattle.scop_parser.specs.Spelling.{IsText, SpellsProgram, token_kind, IsGrammarFault, HasGrammarFault}
 use Rattle.scop_parser.specs.Spelling.{IsFirstFault}
 use Rattle.scop_pass.proofs.Kernels.{run-faults, run-program}
 
@@ -134,7 +134,7 @@ by-faults text ts k [] f x e g =
 by-faults text ts k (h ∷ fs) (Some f) x e g =
     let found = ap first e ∙ g in
     inr (
-      judged_kind f.kind,
+      f.kind,
       start_of text ts f.place,
       inr (inr (record { tokens = ts; kernel = k; is_text = x; fault = f; first = found; kind = refl; place = refl })),
     )

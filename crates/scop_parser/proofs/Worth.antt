@@ -1,13 +1,12 @@
 -- The constants of a text have 64 bits.
 use Rattle.std.proofs.Common.{◌≡◌, ℕ, zero, suc, ◌-◌, ◌^◌, ◌<◌, ◌≤◌, Bool, true, false, ◌&&◌, if◌then◌else◌, ◌==◌, List}
-use Rattle.std.proofs.Common.{[], ◌∷◌, length, take, drop, get_or, codes, refl, subst, arith, nat_le, nat_lt, slice_get}
-use Rattle.std.proofs.Common.{bytes_eq}
+use Rattle.std.proofs.Common.{[], ◌∷◌, length, take, drop, get_or, refl, subst, arith, nat_le, nat_lt, slice_get}
 use Rattle.std.specs.Prelude.{Option, Some, None, ⊤}
-use Rattle.std.specs.List.{list_any, prefix_len, take_while}
+use Rattle.std.specs.List.{prefix_len, take_while}
 use Rattle.std.proofs.lemmas.Bool.{and_parts, leb-true}
 use Rattle.std.proofs.lemmas.Bool.Decides.{nat_tests}
 use Rattle.scop_lexer.specs.Bytes.{Text, is_blank, is_letter, is_digit, is_fresh}
-use Rattle.scop_lexer.specs.Words.{other_keywords, kind_of_word, word_stands}
+use Rattle.scop_lexer.specs.Words.{kind_of_word, word_stands}
 use Rattle.scop_lexer.specs.Constants.{is_hex_digit, number_behind, is_suffix, with_suffix, constant_in, is_hexadecimal}
 use Rattle.scop_lexer.specs.Constants.{is_octal, constant_of, numeral_stands_as, numeral_stands}
 use Rattle.scop_lexer.specs.Gaps.{close, comment_stands_as, comment_stands, is_directive, line_of, hash_stands}
@@ -17,57 +16,34 @@ use Rattle.scop_lexer.specs.Tokens.{IsToken, AreTokens, HasTokens}
 use Rattle.scop_lexer.specs.declared.stand.Stand.{Stand}
 use Rattle.scop_lexer.specs.declared.stand.Stand.TheVariants as stand
 use Rattle.scop_lexer.specs.declared.token.FaultKind.TheVariants as wrong
-use Rattle.scop_lexer.specs.declared.token.Kind.{Kind}
-use Rattle.scop_lexer.specs.declared.token.Kind.TheVariants as kind
-use Rattle.scop_lexer.specs.declared.token.Punctuator.{Punctuator}
+use Rattle.expression_grammar.specs.Suffix.{Suffix}
+use Rattle.expression_grammar.specs.Suffix.TheVariants.{Absent, Present}
+use Rattle.expression_grammar.specs.Token.{Token as Kind}
 use Rattle.scop_lexer.specs.declared.token.Token.{Token}
-use Rattle.scop_units.specs.Words.{worth_of_kind, worth_of, words_of, HasWorth}
-
-abbrev IsSmall : Kind → Type 0
-IsSmall k = worth_of_kind k < 2 ^ 64
+use Rattle.scop_units.specs.Words.{worth_of, words_of, HasWorth}
 
 -- a constant that stands somewhere has 64 bits
 abbrev Small : Stand → Type 0
-Small (stand.Lexeme k n) = IsSmall k
+Small (stand.Lexeme k v n) = v < 2 ^ 64
 Small _ = ⊤
 
-abbrev MayBeSmall : Option Kind → Type 0
-MayBeSmall (Some k) = IsSmall k
+abbrev MayBeSmall : Option (Suffix × ℕ) → Type 0
+MayBeSmall (Some constant) = constant.1 < 2 ^ 64
 MayBeSmall None = ⊤
 
 small_if : (b : Bool) (x y : Stand) → Small x → Small y → Small (if b then x else y)
 small_if true x y h k = h
 small_if false x y h k = k
 
-kind_if : (b : Bool) (k l : Kind) → worth_of_kind k ≡ 0 → worth_of_kind l ≡ 0 → worth_of_kind (if b then k else l) ≡ 0
-kind_if true k l e f = e
-kind_if false k l e f = f
-
-option_if : (b : Bool) (x y : Option Kind) → (b ≡ true → MayBeSmall x) → MayBeSmall y
+option_if : (b : Bool) (x y : Option (Suffix × ℕ)) → (b ≡ true → MayBeSmall x) → MayBeSmall y
     → MayBeSmall (if b then x else y)
 option_if true x y h k = h refl
 option_if false x y h k = k
 
--- words are no constants
-word_worth : (w : Text) → worth_of_kind (kind_of_word w) ≡ 0
-word_worth w =
-    let six : Kind = if list_any (λ keyword. bytes_eq keyword w) other_keywords then kind.Keyword else kind.Name in
-    let five : Kind = if bytes_eq w (codes "uint64_t") then kind.Uint64 else six in
-    let four : Kind = if bytes_eq w (codes "int64_t") then kind.Int64 else five in
-    let three : Kind = if bytes_eq w (codes "if") then kind.If else four in
-    let two : Kind = if bytes_eq w (codes "for") then kind.For else three in
-    kind_if (bytes_eq w (codes "void")) kind.Void two refl
-    (kind_if (bytes_eq w (codes "for")) kind.For three refl
-    (kind_if (bytes_eq w (codes "if")) kind.If four refl
-    (kind_if (bytes_eq w (codes "int64_t")) kind.Int64 five refl
-    (kind_if (bytes_eq w (codes "uint64_t")) kind.Uint64 six refl
-    (kind_if (list_any (λ keyword. bytes_eq keyword w) other_keywords) kind.Keyword kind.Name refl refl)))))
-
 word_small : (w : Text) → Small (word_stands w)
 word_small w =
-    let none = word_worth w in
-    let small : IsSmall (kind_of_word w) = omega (arith, none) in
-    small_if (nat_le (length w) 63) (stand.Lexeme (kind_of_word w) (length w)) (stand.Wrong wrong.Character 63) small tt
+    small_if (nat_le (length w) 63) (stand.Lexeme (kind_of_word w) 0 (length w)) (stand.Wrong wrong.Character 63)
+    (omega arith) tt
 
 is_below : (a b : ℕ) → nat_lt a b ≡ true → a < b
 is_below a b e = grind (arith, nat_tests, e)
@@ -77,10 +53,10 @@ upto_below a b c h k = omega (arith, h, k)
 
 suffix_small : (limit value : ℕ) (w : Text) → limit < 2 ^ 64 → MayBeSmall (with_suffix limit value w)
 suffix_small limit value [] h =
-    option_if (nat_le value limit) (Some (kind.Constant value false)) None
+    option_if (nat_le value limit) (Some (Absent, value)) None
     (λ e. upto_below value limit (2 ^ 64) (leb-true value limit e) h) tt
 suffix_small limit value (b ∷ bs) h =
-    option_if (is_suffix (b ∷ bs) && nat_lt value (2 ^ 64)) (Some (kind.Constant value true)) None
+    option_if (is_suffix (b ∷ bs) && nat_lt value (2 ^ 64)) (Some (Present, value)) None
     (λ e. is_below value (2 ^ 64) (and_parts (is_suffix (b ∷ bs)) (nat_lt value (2 ^ 64)) e).1) tt
 
 in_small : (base : ℕ) (test : ℕ → Bool) (limit : ℕ) (w : Text) → limit < 2 ^ 64
@@ -94,15 +70,15 @@ constant_small : (w : Text) → MayBeSmall (constant_of w)
 constant_small w =
     let hex = constant_in 16 is_hex_digit (2 ^ 64 - 1) (drop 2 w) in
     let decimal = constant_in 10 is_digit (2 ^ 63 - 1) w in
-    let other : Option Kind = if is_octal w then None else decimal in
+    let other : Option (Suffix × ℕ) = if is_octal w then None else decimal in
     option_if (is_hexadecimal w) hex other (λ e. in_small 16 is_hex_digit (2 ^ 64 - 1) (drop 2 w) (omega arith))
     (option_if (is_octal w) None decimal (λ e. tt) (in_small 10 is_digit (2 ^ 63 - 1) w (omega arith)))
 
-numeral_small : (o : Option Kind) (n : ℕ) → MayBeSmall o → Small (numeral_stands_as o n)
+numeral_small : (o : Option (Suffix × ℕ)) (n : ℕ) → MayBeSmall o → Small (numeral_stands_as o n)
 numeral_small (Some k) n h = h
 numeral_small None n h = tt
 
-sign_small : (o : Option Punctuator) (n : ℕ) (otherwise : Stand) → Small otherwise → Small (sign_or o n otherwise)
+sign_small : (o : Option Kind) (n : ℕ) (otherwise : Stand) → Small otherwise → Small (sign_or o n otherwise)
 sign_small (Some s) n otherwise h = omega arith
 sign_small None n otherwise h = h
 
@@ -111,9 +87,9 @@ signs_small text =
     let a = get_or text 0 0 in
     let b = get_or text 1 0 in
     let c = get_or text 2 0 in
-    let three : Option Punctuator = if b == a && c == 61 then doubled_with_equal a else None in
-    let two : Option Punctuator = if b == a then doubled a else None in
-    let equal : Option Punctuator = if b == 61 then with_equal a else None in
+    let three : Option Kind = if b == a && c == 61 then doubled_with_equal a else None in
+    let two : Option Kind = if b == a then doubled a else None in
+    let equal : Option Kind = if b == 61 then with_equal a else None in
     let last : Stand = sign_or (single a) 1 (stand.Wrong wrong.Character 0) in
     sign_small three 3 (sign_or two 2 (sign_or equal 2 last))
     (sign_small two 2 (sign_or equal 2 last)
@@ -155,7 +131,7 @@ at_small : (text : Text) (at : ℕ) → Small (stands_at text at)
 unfolding stands_at
 at_small text at = stands_small (is_fresh (take at text)) (drop at text)
 
-token_small : (text : Text) (t : Token) → IsToken text t → IsSmall t.kind
+token_small : (text : Text) (t : Token) → IsToken text t → t.value < 2 ^ 64
 token_small text t h = subst Small h.1 (at_small text t.start)
 
 tokens_small : (text : Text) (from to : ℕ) (ts : List Token) (at : ℕ) → AreTokens text from ts to

@@ -9,15 +9,13 @@ use Rattle.scop_lexer.specs.declared.token.Fault.{Fault as TokenFault}
 use Rattle.scop_lexer.specs.declared.token.FaultKind.{FaultKind}
 use Rattle.scop_lexer.specs.declared.token.FaultKind.TheVariants as lexical
 use Rattle.kernel_grammar.specs.Kernel.{Kernel, Spells}
-use Rattle.expression_grammar.specs.declared.token.Token.{Token as GrammarToken}
+use Rattle.expression_grammar.specs.Token.{Token as GrammarToken}
 use Rattle.kernel_grammar.specs.Promises.{IsMisplaced, IsUnended, IsTooDeep}
-use Rattle.scop_roles.specs.declared.fault.Kind.{Kind}
-use Rattle.scop_roles.specs.declared.fault.Kind.TheVariants as judged
+use Rattle.scop_roles.specs.declared.fault.Kind.{Kind as RefusalKind}
+use Rattle.scop_roles.specs.declared.fault.Kind.TheVariants as kind
 use Rattle.scop_roles.specs.declared.fault.Fault.{Fault}
 use Rattle.scop_roles.specs.Faults.{first}
 use Rattle.scop_parser.specs.declared.refusal.Refusal.{Refusal}
-use Rattle.scop_parser.specs.declared.refusal.RefusalKind.{RefusalKind}
-use Rattle.scop_parser.specs.declared.refusal.RefusalKind.TheVariants as kind
 use Rattle.scop_units.specs.Words.{words_of, grammar_tokens, start_of}
 use Rattle.scop_units.specs.Judging.{faults_of}
 use Rattle.scop_units.specs.Programs.{program_spelled}
@@ -41,26 +39,6 @@ token_kind lexical.Character = kind.Character
 token_kind lexical.Directive = kind.Directive
 token_kind lexical.LiteralRange = kind.LiteralRange
 token_kind lexical.UnendedComment = kind.UnendedComment
-
--- the kind of a refusal for a fault of a kernel of the grammar
-abbrev pub judged_kind : Kind → RefusalKind
-judged_kind judged.UnknownName = kind.UnknownName
-judged_kind judged.Redeclared = kind.Redeclared
-judged_kind judged.NotAffine = kind.NotAffine
-judged_kind judged.Coefficient = kind.Coefficient
-judged_kind judged.LoopForm = kind.LoopForm
-judged_kind judged.Condition = kind.Condition
-judged_kind judged.SignedValue = kind.SignedValue
-judged_kind judged.ShiftCount = kind.ShiftCount
-judged_kind judged.Division = kind.Division
-judged_kind judged.Call = kind.Call
-judged_kind judged.Rank = kind.Rank
-judged_kind judged.IteratorOutside = kind.IteratorOutside
-judged_kind judged.Depth = kind.Depth
-judged_kind judged.Statements = kind.Statements
-judged_kind judged.Arrays = kind.Arrays
-judged_kind judged.Parameters = kind.Parameters
-judged_kind judged.Reads = kind.Reads
 
 -- the first fault of the text's tokens
 pub record HasTokenFault (text : Text) (k : RefusalKind) (at : ℕ) : Type 0 where
@@ -89,7 +67,7 @@ pub record HasKernelFault (text : Text) (k : RefusalKind) (at : ℕ) : Type 0 wh
   pub is_text : IsText text tokens kernel
   pub fault : Fault
   pub first : first (faults_of (words_of text tokens) kernel) ≡ Some fault
-  pub kind : k ≡ judged_kind fault.kind
+  pub kind : k ≡ fault.kind
   pub place : at ≡ start_of text tokens fault.place
 
 -- the first fault of a text, at a byte

@@ -10,11 +10,11 @@ ghost use Rattle.scop_syntax.specs.Kernel.{IsKernel};
 ghost use Rattle.scop_syntax.specs.View.{program_of};
 ghost use Rattle.scop_units.specs.Names.{HasDistinctNames};
 ghost use Rattle.scop_units.specs.View.{tokens_in, words_in};
-ghost use Rattle.scop_units.specs.Words.{grammar_token, grammar_tokens};
+ghost use Rattle.scop_units.specs.Words.{grammar_tokens};
 ghost use Rattle.scop_pass.specs.declared.pass.Stop.TheVariants as pass_stop;
 ghost use Rattle.scop_pass.specs.Passing.{Judges};
 ghost use Rattle.scop_parser.specs.Reading.{IsGrammatical, RefusesText, TellsKernel};
-ghost use Rattle.scop_parser.specs.Spelling.{IsFirstFault, SpellsProgram, judged_kind, token_kind};
+ghost use Rattle.scop_parser.specs.Spelling.{IsFirstFault, SpellsProgram, token_kind};
 
 use crate::laws::spelled_programs_are_kernels;
 use crate::refusal::{Refusal, RefusalKind};
@@ -23,9 +23,8 @@ use expression_grammar::token::Token;
 use kernel_grammar::reader::KernelReader;
 use scop_lexer::{FaultKind, Stop as TokenStop, position, starts, token_at};
 use scop_pass::pass::{Pass, Stop as PassStop};
-use scop_roles::fault::Kind;
 use scop_syntax::tree::Kernel;
-use scop_units::words::{Words, grammar_token};
+use scop_units::words::Words;
 use std::alloc::Global;
 
 /// Why there is no kernel.
@@ -44,30 +43,6 @@ fn token_kind(kind: FaultKind) -> RefusalKind
         FaultKind::Directive => RefusalKind::Directive,
         FaultKind::LiteralRange => RefusalKind::LiteralRange,
         FaultKind::UnendedComment => RefusalKind::UnendedComment,
-    }
-}
-
-fn judged_kind(kind: Kind) -> RefusalKind
-    ensures { result ≡ judged_kind kind }
-{
-    match kind {
-        Kind::UnknownName => RefusalKind::UnknownName,
-        Kind::Redeclared => RefusalKind::Redeclared,
-        Kind::NotAffine => RefusalKind::NotAffine,
-        Kind::Coefficient => RefusalKind::Coefficient,
-        Kind::LoopForm => RefusalKind::LoopForm,
-        Kind::Condition => RefusalKind::Condition,
-        Kind::SignedValue => RefusalKind::SignedValue,
-        Kind::ShiftCount => RefusalKind::ShiftCount,
-        Kind::Division => RefusalKind::Division,
-        Kind::Call => RefusalKind::Call,
-        Kind::Rank => RefusalKind::Rank,
-        Kind::IteratorOutside => RefusalKind::IteratorOutside,
-        Kind::Depth => RefusalKind::Depth,
-        Kind::Statements => RefusalKind::Statements,
-        Kind::Arrays => RefusalKind::Arrays,
-        Kind::Parameters => RefusalKind::Parameters,
-        Kind::Reads => RefusalKind::Reads,
     }
 }
 
@@ -117,19 +92,15 @@ fn judged_stop(words: &Words, stop: PassStop) -> ReadKernelError
 {
     match stop {
         PassStop::NoMemory => ReadKernelError::NoMemory,
-        PassStop::Refused(fault) => refused(
-            words.text,
-            judged_kind(fault.kind),
-            words.start(fault.place),
-        ),
+        PassStop::Refused(fault) => refused(words.text, fault.kind, words.start(fault.place)),
     }
 }
 
-// The token that begins at a start, as the grammar sees it.
+// What the grammar sees of the token that begins at a start.
 fn seen(words: &Words, start: u32) -> Token
-    ensures { result ≡ grammar_token (token_at words.now.text.now start).kind }
+    ensures { result ≡ (token_at words.now.text.now start).kind }
 {
-    grammar_token(token_at(words.text, start as usize).kind)
+    token_at(words.text, start as usize).kind
 }
 
 // Whether the tokens spell a kernel: its parts are thrown away as they come.

@@ -1,7 +1,7 @@
 -- Heads that are completed one by one: the machine's completion from that of the innermost.
 use Rattle.std.proofs.Common.{◌≡◌, ℕ, ◌-◌, List, [], ◌∷◌, ◌++◌, length, take, None, Result, Ok, Err, inl, refl}
 use Rattle.std.proofs.Common.{sym, ap, ◌∙◌, arith}
-use Rattle.scop_lexer.specs.Bytes.{Text}
+use Rattle.scop_units.specs.Bytes.{Text}
 use Rattle.scop_syntax.specs.Tree.{Test, Head, Tree}
 use Rattle.scop_syntax.specs.Tree as scop
 use Rattle.scop_roles.specs.declared.fault.Fault.{Fault}

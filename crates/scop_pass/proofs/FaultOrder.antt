@@ -4,8 +4,8 @@ use Rattle.std.proofs.Common.{◌≡◌, ℕ, ◌+◌, ◌<◌, ◌≤◌, ◌==
 use Rattle.std.proofs.Common.{Option, Some, None, refl, sym, ap, subst, ◌∙◌, append_assoc, length-append, arith}
 use Rattle.std.specs.Prelude.{⊤, if◌then◌else◌}
 use Rattle.std.proofs.lemmas.List.{append-nil}
-use Rattle.expression_grammar.specs.declared.token.Assign.{Assign}
-use Rattle.expression_grammar.specs.declared.token.Count.{Count}
+use Rattle.expression_grammar.specs.Assign.{Assign}
+use Rattle.expression_grammar.specs.Count.{Count}
 use Rattle.expression_grammar.specs.Tree.{Tree, tokens_of, size, written}
 use Rattle.kernel_grammar.specs.declared.part.Mark.{Mark}
 use Rattle.kernel_grammar.specs.declared.part.Mark.TheVariants as kept
@@ -27,7 +27,8 @@ use Rattle.scop_pass.specs.Machine.{loop_named, loop_first, loop_step, placed, v
 use Rattle.scop_pass.specs.Machine.{guard_opened, loop_opened, whole_head, stated, whole_statement, ranked, idle_step}
 use Rattle.scop_pass.specs.Machine.{begun_step, change_step, change_whole, first_sign, counted_sign, named_sign}
 use Rattle.scop_pass.specs.Machine.{placed_step, sign_step, formula_step, look_in, step_in, step, settled_in, settled}
-use Rattle.scop_pass.specs.Machine.{run, first_state, formula_of_nodes, look_inside}
+use Rattle.scop_roles.specs.Resolving.{formula_of_nodes}
+use Rattle.scop_pass.specs.Machine.{run, first_state, look_inside}
 use Rattle.scop_units.specs.Judging.{width}
 use Rattle.scop_pass.proofs.CompletedHeads.{unwound_faults, unwound_pending}
 use Rattle.scop_pass.proofs.Pieces.{pieces-at, pieces-append}

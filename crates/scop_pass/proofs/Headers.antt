@@ -20,7 +20,7 @@ use Rattle.scop_units.specs.Programs.{array_in, arrays_in}
 use Rattle.scop_units.proofs.FaultlessKernels.{extents_length}
 use Rattle.scop_pass.specs.Machine.{idle, State, expects, numbered, declared, run}
 use Rattle.scop_pass.specs.Machine as machine
-use Rattle.scop_pass.proofs.Formulas.{formula-of-written}
+use Rattle.scop_roles.proofs.FormulaStack.{formula-of-written}
 use Rattle.scop_pass.proofs.Pieces.{pieces-append}
 use Rattle.scop_pass.proofs.PieceRuns.{run-append}
 

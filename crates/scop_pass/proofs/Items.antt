@@ -7,7 +7,7 @@ use Rattle.expression_grammar.specs.Tree.{size}
 use Rattle.kernel_grammar.specs.Kernel.{expression, pieces, Head, branch, loop, Item, block, empty, assign, headed}
 use Rattle.kernel_grammar.specs.Kernel.{Items, none, more, head_elements, place_elements, item_elements, all_elements}
 use Rattle.kernel_grammar.specs.Kernel.{assign_sign, ends, semicolon, ItemFits, ItemsFit}
-use Rattle.scop_lexer.specs.Bytes.{Text}
+use Rattle.scop_units.specs.Bytes.{Text}
 use Rattle.scop_syntax.specs.Tree.{Tree}
 use Rattle.scop_syntax.specs.Tree as scop
 use Rattle.scop_roles.specs.declared.fault.Fault.{Fault}
@@ -22,7 +22,7 @@ use Rattle.scop_units.specs.Programs.{headed_by, wrapped, item_trees, all_trees}
 use Rattle.scop_pass.specs.Machine.{Frame, idle, placed, State, completed, complete}
 use Rattle.scop_pass.specs.Machine.{expects, run, without_loop, whole_statement, stated}
 use Rattle.scop_pass.specs.Machine as machine
-use Rattle.scop_pass.proofs.Formulas.{formula-of-written}
+use Rattle.scop_roles.proofs.FormulaStack.{formula-of-written}
 use Rattle.scop_pass.proofs.PieceRuns.{run-elements, place-width, place-run, head-run, opened}
 
 -- more faults, statements and trees

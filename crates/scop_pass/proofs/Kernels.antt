@@ -3,7 +3,7 @@ use Rattle.std.proofs.Common.{◌≡◌, ℕ, zero, suc, ◌+◌, List, [], ◌�
 use Rattle.kernel_grammar.specs.declared.part.Mark.TheVariants as kept
 use Rattle.kernel_grammar.specs.Kernel.{Element, pieces, Kernel, KernelFits, kernel_elements, begins, ends}
 use Rattle.kernel_grammar.specs.Kernel.{parameter_elements, other_parameters, declarations, all_elements}
-use Rattle.scop_lexer.specs.Bytes.{Text}
+use Rattle.scop_units.specs.Bytes.{Text}
 use Rattle.scop_syntax.specs.View.{trees_of}
 use Rattle.scop_units.specs.Words.{Words}
 use Rattle.scop_units.specs.Scopes.{Scope, no_scope, with_iterator}

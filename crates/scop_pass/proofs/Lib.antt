@@ -1,4 +1,3 @@
-pub mod Formulas
 pub mod Pieces
 pub mod PieceRuns
 pub mod Items

@@ -1,6 +1,6 @@
 -- The pass over the pieces of an item finds the item's faults and its trees of the program.
 use Rattle.std.proofs.Common.{◌≡◌, ℕ, ◌+◌, true, false, List, [], ◌∷◌, ◌++◌, length, refl, sym, ap, ◌∙◌, length-append}
-use Rattle.expression_grammar.specs.declared.token.Token.TheVariants as token
+use Rattle.expression_grammar.specs.Token.TheVariants as token
 use Rattle.expression_grammar.specs.Tree.{Tree, size, tokens_of, written, IsPlace}
 use Rattle.expression_grammar.specs.Tree as tree
 use Rattle.kernel_grammar.specs.Kernel.{Element, plain, expression, Piece, nodes_from, pieces, Step, counted, counts}
@@ -15,9 +15,10 @@ use Rattle.scop_units.specs.Judging.{condition}
 use Rattle.scop_pass.specs.declared.pending.Begun.{Begun}
 use Rattle.scop_pass.specs.declared.pending.StepRead.TheVariants as read
 use Rattle.scop_pass.specs.Machine.{idle, loop_step, placed, State, expects, guard_opened, loop_opened, step, run}
-use Rattle.scop_pass.specs.Machine.{formula_of_nodes, look_inside}
+use Rattle.scop_roles.specs.Resolving.{formula_of_nodes}
+use Rattle.scop_pass.specs.Machine.{look_inside}
 use Rattle.scop_pass.specs.Machine as machine
-use Rattle.scop_pass.proofs.Formulas.{formula-of-written}
+use Rattle.scop_roles.proofs.FormulaStack.{formula-of-written}
 use Rattle.scop_pass.proofs.Pieces.{pieces-append, width-append}
 
 -- pieces one after another

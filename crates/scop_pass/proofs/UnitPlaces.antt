@@ -3,9 +3,9 @@ use Rattle.std.proofs.Common.{◌≡◌, ℕ, zero, suc, ◌+◌, ◌<◌, ◌�
 use Rattle.std.proofs.Common.{Some, None, refl, sym, subst, length-append, arith, rules}
 use Rattle.std.specs.Prelude.{All, ⊤, slice_get, not}
 use Rattle.std.proofs.lemmas.List.Elements.{All-head, All-tail}
-use Rattle.expression_grammar.specs.declared.token.Assign.{Assign}
-use Rattle.expression_grammar.specs.declared.token.Assign.TheVariants as assigns
-use Rattle.expression_grammar.specs.declared.token.Token.TheVariants as token
+use Rattle.expression_grammar.specs.Assign.{Assign}
+use Rattle.expression_grammar.specs.Assign.TheVariants as assigns
+use Rattle.expression_grammar.specs.Token.TheVariants as token
 use Rattle.expression_grammar.specs.Tree.{Tree, tokens_of, size, written}
 use Rattle.expression_grammar.specs.Tree as tree
 use Rattle.scop_roles.specs.declared.fault.Fault.{Fault}
@@ -25,8 +25,8 @@ use Rattle.scop_units.specs.Loops.{LoopHead, Change, counted, assigned, change_f
 use Rattle.scop_units.specs.Loops.{is_form}
 use Rattle.scop_units.specs.Units.{Stored, name_faults, number_faults, array_faults, extent_faults, statement_faults}
 use Rattle.scop_units.specs.Units.{stored_faults, cell_faults, own_cell, own_assign, own_read, reads_of, read_limit}
-use Rattle.scop_pass.specs.Machine.{formula_of_nodes}
-use Rattle.scop_pass.proofs.Formulas.{formula-of-written}
+use Rattle.scop_roles.specs.Resolving.{formula_of_nodes}
+use Rattle.scop_roles.proofs.FormulaStack.{formula-of-written}
 
 -- places between
 

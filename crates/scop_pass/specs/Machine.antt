@@ -1,21 +1,19 @@
 -- The pass over a kernel's pieces, which needs no tree: what is in scope, the faults so far, the open blocks and heads,
 -- and the trees of the innermost one. An item that is complete completes the heads that it stands under.
 use Rattle.std.specs.Prelude.{ℕ, ◌+◌, ◌-◌, true, false, List, [], ◌∷◌, ◌++◌, length, map, take, Option, Some, None}
-use Rattle.expression_grammar.specs.declared.token.Assign.{Assign}
-use Rattle.expression_grammar.specs.declared.token.Count.{Count}
-use Rattle.expression_grammar.specs.declared.node.Node.{Node}
-use Rattle.expression_grammar.specs.declared.node.Node.TheVariants as node
+use Rattle.expression_grammar.specs.Assign.{Assign}
+use Rattle.expression_grammar.specs.Count.{Count}
 use Rattle.kernel_grammar.specs.Kernel.{Piece, mark_at, nodes_from}
 use Rattle.kernel_grammar.specs.declared.part.Mark.{Mark}
 use Rattle.kernel_grammar.specs.declared.part.Mark.TheVariants as kept
-use Rattle.scop_lexer.specs.Bytes.{Text}
+use Rattle.scop_units.specs.Bytes.{Text}
 use Rattle.scop_syntax.specs.Tree.{Declaration, Test, Head, Tree, Trees, Program}
 use Rattle.scop_syntax.specs.Tree as scop
 use Rattle.scop_syntax.specs.View.{trees_of}
 use Rattle.scop_roles.specs.declared.fault.Fault.{Fault}
-use Rattle.scop_roles.specs.declared.formula.Meaning.TheVariants as meaning
 use Rattle.scop_roles.specs.declared.formula.Role.TheVariants as role
-use Rattle.scop_roles.specs.Formula.{Formula, constant, name, index, bare_call, call, unary, cast, binary, Lookup}
+use Rattle.scop_roles.specs.Formula.{Formula, name, index, Lookup}
+use Rattle.scop_roles.specs.Resolving.{formula_of_nodes}
 use Rattle.scop_roles.specs.Faults.{faults}
 use Rattle.scop_roles.specs.Values.{tests}
 use Rattle.scop_units.specs.Words.{Words}
@@ -29,66 +27,6 @@ use Rattle.scop_units.specs.Programs.{wrapped}
 use Rattle.scop_pass.specs.declared.pending.Begun.{Begun}
 use Rattle.scop_pass.specs.declared.pending.StepRead.{StepRead}
 use Rattle.scop_pass.specs.declared.pending.StepRead.TheVariants as read
-
--- formulas out of nodes in postfix order
-
--- a call's name is the node below its arguments
-abbrev pub called : Formula → List Formula → List Formula
-called f (name m at ∷ stack) = call m f at ∷ stack
-called f stack = f ∷ stack
-
--- the name of a call without arguments is the node on top
-abbrev pub bare_called : List Formula → List Formula
-bare_called (name m at ∷ stack) = bare_call m at ∷ stack
-bare_called stack = stack
-
--- a node over the one that is complete: a sign, a cast or a call
-abbrev pub over_one : Lookup → ℕ → Node → Formula → List Formula → List Formula
-over_one see b (node.Unary s at) f stack = unary s f (b + at) ∷ stack
-over_one see b (node.Cast at) f stack = cast f (b + at) ∷ stack
-over_one see b _ f stack = called f stack
-
--- a node over the two that are complete: a binary operator or a subscript
-abbrev pub over_two : Lookup → ℕ → Node → Formula → Formula → List Formula → List Formula
-over_two see b (node.Binary o at) g f stack = binary o f g (b + at) ∷ stack
-over_two see b _ g f stack = index f g ∷ stack
-
--- a node over the formula on top
-abbrev pub on_one : Lookup → ℕ → Node → List Formula → List Formula
-on_one see b x [] = []
-on_one see b x (f ∷ stack) = over_one see b x f stack
-
--- a node over the two formulas on top
-abbrev pub on_two : Lookup → ℕ → Node → List Formula → List Formula
-on_two see b x (g ∷ f ∷ stack) = over_two see b x g f stack
-on_two see b x stack = stack
-
--- a node, with places counted from the expression's first, put on the stack of formulas that are complete
-abbrev pub put : Lookup → ℕ → List Formula → Node → List Formula
-put see b stack (node.Constant s at) = constant s (see.worth (b + at)) (b + at) ∷ stack
-put see b stack (node.Name at) = name (see.meaning (b + at)) (b + at) ∷ stack
-put see b stack (node.BareCall at) = bare_called stack
-put see b stack (node.Call at) = on_one see b (node.Call at) stack
-put see b stack (node.Unary s at) = on_one see b (node.Unary s at) stack
-put see b stack (node.Cast at) = on_one see b (node.Cast at) stack
-put see b stack (node.Index at) = on_two see b (node.Index at) stack
-put see b stack (node.Binary o at) = on_two see b (node.Binary o at) stack
-
--- nodes put on the stack, one after another
-abbrev pub stacked : Lookup → ℕ → List Formula → List Node → List Formula
-stacked see b stack [] = stack
-stacked see b stack (x ∷ xs) = stacked see b (put see b stack x) xs
-
--- the formula on top; of an empty stack nothing is asked
-abbrev pub top : List Formula → Formula
-top [] = name meaning.Unknown 0
-top (f ∷ stack) = f
-
--- the formula of nodes whose places count from a place
-abbrev pub formula_of_nodes : Lookup → ℕ → List Node → Formula
-formula_of_nodes see b nodes = top (stacked see b [] nodes)
-
--- the pass
 
 -- what is open: a block, or a head with the trees in front of it
 pub data Frame : Type 0 where

@@ -8,50 +8,21 @@ use Rattle.scop_roles.specs.declared.fault.Kind.TheVariants as kind
 use Rattle.scop_roles.specs.Faults.{number, precedes, first_of, first, told, judged}
 use Rattle.scop_roles.specs.Judgement.{part_or_own}
 
-number_small : (k : Kind) → number k ≤ 23
-number_small kind.UnknownName = omega arith
-number_small kind.Redeclared = omega arith
-number_small kind.NotAffine = omega arith
-number_small kind.Coefficient = omega arith
-number_small kind.LoopForm = omega arith
-number_small kind.Condition = omega arith
-number_small kind.SignedValue = omega arith
-number_small kind.ShiftCount = omega arith
-number_small kind.Division = omega arith
-number_small kind.Call = omega arith
-number_small kind.Rank = omega arith
-number_small kind.IteratorOutside = omega arith
-number_small kind.Depth = omega arith
-number_small kind.Statements = omega arith
-number_small kind.Arrays = omega arith
-number_small kind.Parameters = omega arith
-number_small kind.Reads = omega arith
+-- by two numbers, the first first
+before_then : (a k b l c m : ℕ) → (nat_lt a b || (a == b && nat_lt k l)) ≡ true
+    → (nat_lt b c || (b == c && nat_lt l m)) ≡ true → (nat_lt a c || (a == c && nat_lt k m)) ≡ true
+before_then a k b l c m p q = grind arith
 
--- place and kind as one number
-below_key : (a k b l : ℕ) → k ≤ 23 → (nat_lt a b || (a == b && nat_lt k l)) ≡ true → 32 * a + k < 32 * b + l
-below_key a k b l small h = grind arith
-
-key_below : (a k b l : ℕ) → l ≤ 23 → 32 * a + k < 32 * b + l → (nat_lt a b || (a == b && nat_lt k l)) ≡ true
-key_below a k b l small h = grind arith
-
-not_below : (a k b l : ℕ) → l ≤ 23 → (nat_lt a b || (a == b && nat_lt k l)) ≡ false → 32 * b + l ≤ 32 * a + k
-not_below a k b l small h = grind arith
-
-key_not : (a k b l : ℕ) → k ≤ 23 → 32 * b + l ≤ 32 * a + k → (nat_lt a b || (a == b && nat_lt k l)) ≡ false
-key_not a k b l small h = grind arith
+before_not : (a k b l c m : ℕ) → (nat_lt a b || (a == b && nat_lt k l)) ≡ false
+    → (nat_lt b c || (b == c && nat_lt l m)) ≡ false → (nat_lt a c || (a == c && nat_lt k m)) ≡ false
+before_not a k b l c m p q = grind arith
 
 -- what stands before another stands before all that the other does
 pub precedes_then : (f g h : Fault) → precedes f g ≡ true → precedes g h ≡ true → precedes f h ≡ true
-precedes_then f g h a b =
-    let p = below_key f.place (number f.kind) g.place (number g.kind) (number_small f.kind) a in
-    let q = below_key g.place (number g.kind) h.place (number h.kind) (number_small g.kind) b in
-    key_below f.place (number f.kind) h.place (number h.kind) (number_small h.kind) (omega arith)
+precedes_then f g h a b = before_then f.place (number f.kind) g.place (number g.kind) h.place (number h.kind) a b
 
 pub precedes_not : (f g h : Fault) → precedes f g ≡ false → precedes g h ≡ false → precedes f h ≡ false
-precedes_not f g h a b =
-    let p = not_below f.place (number f.kind) g.place (number g.kind) (number_small g.kind) a in
-    let q = not_below g.place (number g.kind) h.place (number h.kind) (number_small h.kind) b in
-    key_not f.place (number f.kind) h.place (number h.kind) (number_small f.kind) (omega arith)
+precedes_not f g h a b = before_not f.place (number f.kind) g.place (number g.kind) h.place (number h.kind) a b
 
 -- of three
 by_order : (f g h : Fault) (a b c : Bool) → precedes g f ≡ a → precedes h g ≡ b → precedes h f ≡ c

@@ -1,77 +1,69 @@
--- The stack of formulas reads a tree's nodes as the tree's formula; how many tokens a tree has.
+-- The stack of formulas reads a tree's nodes as the tree's formula (`formula-of-written`); how many tokens a tree has.
 use Rattle.std.proofs.Common.{◌≡◌, ℕ, zero, suc, ◌+◌, ◌<◌, ◌≤◌, List, [], ◌∷◌, ◌++◌, length, drop, fold, get_or, refl}
-use Rattle.std.proofs.Common.{ap, sym, ◌∙◌, arith, length-append, add-one, drop-cons}
+use Rattle.std.proofs.Common.{ap, sym, ◌∙◌, arith, append_assoc, length-append, add-one, drop-cons}
 use Rattle.std.specs.Prelude.{⊤}
-use Rattle.std.proofs.lemmas.List.{drop_all}
+use Rattle.std.proofs.lemmas.List.{append-nil}
 use Rattle.expression_grammar.specs.Tree.{Tree, constant, name, group, index, bare_call, call, unary, cast, binary}
 use Rattle.expression_grammar.specs.Tree.{written, size}
-use Rattle.expression_grammar.specs.declared.token.Op.{Op}
+use Rattle.expression_grammar.specs.Op.{Op}
 use Rattle.expression_grammar.specs.declared.token.Sign.{Sign}
 use Rattle.expression_grammar.specs.declared.node.Node.{Node}
 use Rattle.expression_grammar.specs.declared.node.Node.TheVariants as node
 use Rattle.scop_roles.specs.Formula as f
 use Rattle.scop_roles.specs.Formula.{Formula, Lookup, formula}
-use Rattle.scop_roles.specs.Resolving.{built, top, place_of}
+use Rattle.scop_roles.specs.Resolving.{built, top, formula_of_nodes, place_of}
 
--- reading nodes and then more is reading them all
-pub fold-append : (look : Lookup) (first : ℕ) (stack : List Formula) (xs ys : List Node)
-    → fold (built look first) stack (xs ++ ys) ≡ fold (built look first) (fold (built look first) stack xs) ys
-fold-append look first stack [] ys = refl
-fold-append look first stack (x ∷ xs) ys = fold-append look first (built look first stack x) xs ys
+-- the nodes of a tree at a place leave its formula on the stack
+fold-written : (look : Lookup) (first at p : ℕ) (t : Tree) (stack : List Formula) (rest : List Node) → first + at ≡ p
+    → fold (built look first) stack (written at t ++ rest) ≡ fold (built look first) (formula look p t ∷ stack) rest
+fold-written look first at p (constant s) stack rest e = rw e refl
+fold-written look first at p name stack rest e = rw e refl
+fold-written look first at p (group t) stack rest e =
+    fold-written look first (at + 1) (p + 1) t stack rest (omega (arith, e))
+fold-written look first at p (index t i) stack rest e =
+    let x = node.Index (at + size t) in
+    let q = p + size t + 1 in
+    let flat : written at (index t i) ++ rest ≡ written at t ++ (written (at + size t + 1) i ++ x ∷ rest) =
+    simp append_assoc refl in
+    ap (fold (built look first) stack) flat
+    ∙ (fold-written look first at p t stack (written (at + size t + 1) i ++ x ∷ rest) e
+    ∙ fold-written look first (at + size t + 1) q i (formula look p t ∷ stack) (x ∷ rest) (omega (arith, e)))
+fold-written look first at p bare_call stack rest e = rw e refl
+fold-written look first at p (call t) stack rest e =
+    let x = node.Call (at + 1) in
+    let flat : written at (call t) ++ rest ≡ node.Name at ∷ (written (at + 1 + 1) t ++ x ∷ rest) =
+    simp append_assoc refl in
+    let n = f.name (look.meaning p) p in
+    ap (fold (built look first) stack) flat
+    ∙ (ap (λ (q : ℕ). fold (built look first) (f.name (look.meaning q) q ∷ stack) (written (at + 1 + 1) t ++ x ∷ rest)) e
+    ∙ fold-written look first (at + 1 + 1) (p + 1 + 1) t (n ∷ stack) (x ∷ rest) (omega (arith, e)))
+fold-written look first at p (unary s t) stack rest e =
+    let x = node.Unary s at in
+    let flat : written at (unary s t) ++ rest ≡ written (at + 1) t ++ x ∷ rest = simp append_assoc refl in
+    ap (fold (built look first) stack) flat
+    ∙ (fold-written look first (at + 1) (p + 1) t stack (x ∷ rest) (omega (arith, e)) ∙ rw e refl)
+fold-written look first at p (cast t) stack rest e =
+    let x = node.Cast at in
+    let flat : written at (cast t) ++ rest ≡ written (at + 1 + 1 + 1) t ++ x ∷ rest = simp append_assoc refl in
+    ap (fold (built look first) stack) flat
+    ∙ (fold-written look first (at + 1 + 1 + 1) (p + 1 + 1 + 1) t stack (x ∷ rest) (omega (arith, e)) ∙ rw e refl)
+fold-written look first at p (binary o l r) stack rest e =
+    let x = node.Binary o (at + size l) in
+    let q = p + size l + 1 in
+    let flat : written at (binary o l r) ++ rest ≡ written at l ++ (written (at + size l + 1) r ++ x ∷ rest) =
+    simp append_assoc refl in
+    let place : first + (at + size l) ≡ p + size l = omega (arith, e) in
+    ap (fold (built look first) stack) flat
+    ∙ (fold-written look first at p l stack (written (at + size l + 1) r ++ x ∷ rest) e
+    ∙ (fold-written look first (at + size l + 1) q r (formula look p l ∷ stack) (x ∷ rest) (omega (arith, e))
+    ∙ rw place refl))
 
-one_more : (first at k : ℕ) → first + (at + k) ≡ first + at + k
-one_more first at k = omega arith
-
--- reading what a tree writes pushes the tree's formula
-pub fold-written : (look : Lookup) (first at : ℕ) (t : Tree) (stack : List Formula)
-    → fold (built look first) stack (written at t) ≡ formula look (first + at) t ∷ stack
-fold-written look first at (constant s) stack = refl
-fold-written look first at name stack = refl
-fold-written look first at (group t) stack =
-    rw (fold-written look first (at + 1) t stack, one_more first at 1) refl
-fold-written look first at (index t i) stack =
-    rw (
-      fold-append look first stack (written at t) (written (at + size t + 1) i ++ node.Index (at + size t) ∷ []),
-      fold-written look first at t stack,
-      fold-append look first (formula look (first + at) t ∷ stack) (written (at + size t + 1) i)
-          (node.Index (at + size t) ∷ []),
-      fold-written look first (at + size t + 1) i (formula look (first + at) t ∷ stack),
-      one_more first (at + size t) 1,
-      one_more first at (size t),
-    ) refl
-fold-written look first at bare_call stack = refl
-fold-written look first at (call t) stack =
-    rw (
-      fold-append look first (f.name (look.meaning (first + at)) (first + at) ∷ stack) (written (at + 1 + 1) t)
-          (node.Call (at + 1) ∷ []),
-      fold-written look first (at + 1 + 1) t (f.name (look.meaning (first + at)) (first + at) ∷ stack),
-      one_more first (at + 1) 1,
-      one_more first at 1,
-    ) refl
-fold-written look first at (unary s t) stack =
-    rw (
-      fold-append look first stack (written (at + 1) t) (node.Unary s at ∷ []),
-      fold-written look first (at + 1) t stack,
-      one_more first at 1,
-    ) refl
-fold-written look first at (cast t) stack =
-    rw (
-      fold-append look first stack (written (at + 1 + 1 + 1) t) (node.Cast at ∷ []),
-      fold-written look first (at + 1 + 1 + 1) t stack,
-      one_more first (at + 1 + 1) 1,
-      one_more first (at + 1) 1,
-      one_more first at 1,
-    ) refl
-fold-written look first at (binary o a b) stack =
-    rw (
-      fold-append look first stack (written at a) (written (at + size a + 1) b ++ node.Binary o (at + size a) ∷ []),
-      fold-written look first at a stack,
-      fold-append look first (formula look (first + at) a ∷ stack) (written (at + size a + 1) b)
-          (node.Binary o (at + size a) ∷ []),
-      fold-written look first (at + size a + 1) b (formula look (first + at) a ∷ stack),
-      one_more first (at + size a) 1,
-      one_more first at (size a),
-    ) refl
+-- the nodes of a tree make its formula
+pub formula-of-written : (look : Lookup) (first : ℕ) (t : Tree)
+    → formula_of_nodes look first (written 0 t) ≡ formula look first t
+formula-of-written look first t =
+    ap (λ (ns : List Node). top (fold (built look first) [] ns)) (sym (append-nil (written 0 t)))
+    ∙ ap top (fold-written look first 0 first t [] [] (omega arith))
 
 -- one node more was read
 pub read_next : (look : Lookup) (first : ℕ) (old new all : List Formula) (nodes : List Node) (i : ℕ) (d : Node)
@@ -150,14 +142,3 @@ places_below at end (binary o a b) h =
     (places_below at end a (omega arith))
     (below-append end (written (at + size a + 1) b) (node.Binary o (at + size a) ∷ [])
     (places_below (at + size a + 1) end b (omega arith)) (omega arith, tt))
-
--- at the end of the nodes the formula stands on top
-pub resolved : (look : Lookup) (first : ℕ) (t : Tree) (nodes : List Node) (i : ℕ) (stack : List Formula)
-    → nodes ≡ written 0 t → length nodes ≤ i
-    → fold (built look first) stack (drop i nodes) ≡ fold (built look first) [] nodes
-    → top stack ≡ formula look first t
-resolved look first t nodes i stack spelled past e =
-    let all : stack ≡ fold (built look first) [] nodes = rw (drop_all i nodes past) at e in
-    let zero_more : first + 0 ≡ first = omega arith in
-    ap top (all ∙ ap (λ ns. fold (built look first) [] ns) spelled ∙ fold-written look first 0 t [])
-    ∙ ap (λ k. formula look k t) zero_more

@@ -1,8 +1,8 @@
 -- The formulas that the code's values stand for, at each kind.
 use Rattle.std.proofs.Common.{◌≡◌, ℕ, Vec, Global, map, fold, ap, sym, ◌∙◌}
 use Rattle.std.specs.Global.{Box}
-use Rattle.expression_grammar.specs.declared.token.Op.{Op}
-use Rattle.expression_grammar.specs.declared.token.Op.TheVariants as op
+use Rattle.expression_grammar.specs.Op.{Op}
+use Rattle.expression_grammar.specs.Op.TheVariants as op
 use Rattle.expression_grammar.specs.declared.token.Sign.{Sign}
 use Rattle.scop_roles.specs.declared.formula.Meaning.{Meaning}
 use Rattle.scop_roles.specs.declared.formula.Argument.{Argument}

@@ -2,11 +2,11 @@
 -- counts: the one at the least place, at one place the one of the least kind.
 use Rattle.std.specs.Prelude.{ℕ, ◌^◌, Bool, true, false, ◌==◌, ◌&&◌, ◌||◌, not, if◌then◌else◌, nat_le, nat_lt, List, []}
 use Rattle.std.specs.Prelude.{◌∷◌, ◌++◌, Option, Some, None}
-use Rattle.expression_grammar.specs.declared.token.Op.{Op}
-use Rattle.expression_grammar.specs.declared.token.Op.TheVariants as op
+use Rattle.expression_grammar.specs.Op.{Op}
+use Rattle.expression_grammar.specs.Op.TheVariants as op
 use Rattle.expression_grammar.specs.declared.token.Sign.{Sign}
 use Rattle.expression_grammar.specs.declared.token.Sign.TheVariants as sign
-use Rattle.expression_grammar.specs.declared.token.Suffix.TheVariants as suffix
+use Rattle.expression_grammar.specs.Suffix.TheVariants as suffix
 use Rattle.scop_roles.specs.declared.fault.Kind.{Kind}
 use Rattle.scop_roles.specs.declared.fault.Kind.TheVariants as kind
 use Rattle.scop_roles.specs.declared.fault.Fault.{Fault}
@@ -21,6 +21,12 @@ use Rattle.scop_roles.specs.Forms.{is_within}
 
 -- the kinds in their order
 abbrev pub number : Kind → ℕ
+number kind.Character = 1
+number kind.Directive = 2
+number kind.LiteralRange = 3
+number kind.UnendedComment = 4
+number kind.Token = 5
+number kind.Unended = 6
 number kind.UnknownName = 7
 number kind.Redeclared = 8
 number kind.NotAffine = 9
@@ -38,6 +44,7 @@ number kind.Statements = 20
 number kind.Arrays = 21
 number kind.Parameters = 22
 number kind.Reads = 23
+number kind.TooLong = 24
 
 -- a fault stands before another: at an earlier place, or at the same as a lesser kind
 abbrev pub precedes : Fault → Fault → Bool

@@ -1,9 +1,10 @@
--- Nodes in postfix order read by a stack of formulas.
+-- Nodes in postfix order read by a stack of formulas: the formula that they make.
 use Rattle.std.specs.Prelude.{◌≡◌, ℕ, ◌+◌, ◌^◌, ◌≤◌, List, [], ◌∷◌, map, reverse}
+use Rattle.std.specs.List.{fold}
 use Rattle.expression_grammar.specs.Tree.{Tree, written, size}
 use Rattle.expression_grammar.specs.declared.node.Node.{Node}
 use Rattle.expression_grammar.specs.declared.node.Node.TheVariants as node
-use Rattle.expression_grammar.specs.declared.token.Suffix.TheVariants as suffix
+use Rattle.expression_grammar.specs.Suffix.TheVariants as suffix
 use Rattle.scop_roles.specs.declared.formula.Formula.{Formula as CodeFormula}
 use Rattle.scop_roles.specs.Formula.{Formula, constant, name, index, bare_call, call, unary, cast, binary, Lookup}
 use Rattle.scop_roles.specs.Formula.{place, meaning_of, formula_of}
@@ -46,6 +47,10 @@ built look first fs (node.Call at) =
 built look first fs (node.Unary s at) = unary s (top fs) (first + at) ∷ below fs
 built look first fs (node.Cast at) = cast (top fs) (first + at) ∷ below fs
 built look first fs (node.Binary o at) = binary o (top (below fs)) (top fs) (first + at) ∷ below (below fs)
+
+-- the formula of nodes whose places count from a first one
+abbrev pub formula_of_nodes : Lookup → ℕ → List Node → Formula
+formula_of_nodes look first nodes = top (fold (built look first) [] nodes)
 
 -- the formulas that a stack of the code holds, the last pushed first
 abbrev pub held : List CodeFormula → List Formula

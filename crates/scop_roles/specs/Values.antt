@@ -4,8 +4,8 @@ use Rattle.whole_numbers.specs.Affine.{Affine, form_of, sum_of_forms, multiple_o
 use Rattle.scop_syntax.specs.Tree.{Access, Operator, plus, minus, times, bits_and, bits_or, bits_xor, Expression, read}
 use Rattle.scop_syntax.specs.Tree.{affine, negated, complemented, shifted_left, shifted_right, Test, at_least, equal}
 use Rattle.scop_syntax.specs.Tree as scop
-use Rattle.expression_grammar.specs.declared.token.Op.{Op}
-use Rattle.expression_grammar.specs.declared.token.Op.TheVariants as op
+use Rattle.expression_grammar.specs.Op.{Op}
+use Rattle.expression_grammar.specs.Op.TheVariants as op
 use Rattle.expression_grammar.specs.declared.token.Sign.{Sign}
 use Rattle.expression_grammar.specs.declared.token.Sign.TheVariants as sign
 use Rattle.scop_roles.specs.declared.formula.Meaning.{Meaning}

@@ -1,18 +1,30 @@
-//! What can be wrong with a text that is grammatical, in the order of the kinds at one place.
+//! What can be wrong with a text, in the order of the kinds at one place.
 ghost use Rattle.std.specs.Prelude.{◌≡◌};
 ghost use Rattle.scop_roles.specs.Faults.{first, first_of, number, only_where, precedes, told};
 ghost use Rattle.scop_roles.specs.Judgement.{part_or_own};
 
-/// The kinds of faults of roles, scopes and limits.
+/// The kinds of faults, in the order in which they are looked for, and at one place in their order.
 #[derive(Clone, Copy)]
 pub enum Kind {
+    /// A byte begins no token, or is the 64th of a name.
+    Character = 1,
+    /// A directive line is neither `include` nor `pragma`, or goes on behind its line.
+    Directive,
+    /// A word that begins with a digit is no constant.
+    LiteralRange,
+    /// A comment has no end.
+    UnendedComment,
+    /// No text of the grammar goes on with this token.
+    Token,
+    /// The text ends within the grammar.
+    Unended,
     /// A name is not in scope.
     UnknownName,
-    /// A name is declared again, or begins with `pp_`.
+    /// A name is in scope already, or begins with `pp_`.
     Redeclared,
-    /// What must be affine is not.
+    /// A part that must be affine is not.
     NotAffine,
-    /// A coefficient or a constant is beyond the limits of affine forms.
+    /// An affine part leaves the limits of coefficients and constants.
     Coefficient,
     /// A loop's head is none of the forms that are read.
     LoopForm,
@@ -20,26 +32,28 @@ pub enum Kind {
     Condition,
     /// An operator has signed operands where C's result would depend on their width.
     SignedValue,
-    /// A shift's count is no constant in 0..=63.
+    /// A shift's count is no constant from 0 to 63.
     ShiftCount,
-    /// `/` or `%`.
+    /// A division or a remainder.
     Division,
-    /// A function is called.
+    /// A call.
     Call,
     /// A name has another number of subscripts than its declaration, or an array more than four extents.
     Rank,
     /// An iterator stands outside its loop, or a number where something is stored.
     IteratorOutside,
-    /// Too many loops or comparisons stand round a place.
+    /// Too many loops, comparisons, brackets or operators in one another.
     Depth,
-    /// Too many statements.
+    /// More than 32 statements.
     Statements,
-    /// Too many arrays.
+    /// More than 16 arrays.
     Arrays,
-    /// Too many parameters.
+    /// More than four parameters.
     Parameters,
-    /// A statement reads too many cells.
+    /// More than 16 reads in a statement.
     Reads,
+    /// The text is longer than it may be: told before it is read, and of no text that is read.
+    TooLong,
 }
 
 /// A fault, and the place of its token among the tokens.
@@ -53,25 +67,7 @@ pub struct Fault {
 fn number(kind: Kind) -> u8
     ensures { result ≡ number kind }
 {
-    match kind {
-        Kind::UnknownName => 7,
-        Kind::Redeclared => 8,
-        Kind::NotAffine => 9,
-        Kind::Coefficient => 10,
-        Kind::LoopForm => 11,
-        Kind::Condition => 12,
-        Kind::SignedValue => 13,
-        Kind::ShiftCount => 14,
-        Kind::Division => 15,
-        Kind::Call => 16,
-        Kind::Rank => 17,
-        Kind::IteratorOutside => 18,
-        Kind::Depth => 19,
-        Kind::Statements => 20,
-        Kind::Arrays => 21,
-        Kind::Parameters => 22,
-        Kind::Reads => 23,
-    }
+    kind as u8
 }
 
 /// Whether a fault stands before another: at an earlier place, or at the same as a lesser kind.

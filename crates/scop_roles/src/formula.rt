@@ -1,11 +1,10 @@
 //! Expressions without parentheses, each name looked up, each node with the place of its token.
 ghost use Rattle.std.specs.Prelude.{◌≡◌, ◌+◌, ◌==◌, ◌<◌, ◌^◌, ◌∷◌, IfOk, OnOk, map};
-ghost use Rattle.expression_grammar.specs.declared.token.Op.TheVariants as op;
+ghost use Rattle.expression_grammar.specs.Op.TheVariants as op;
 ghost use Rattle.std.specs.List.{fold};
-ghost use Rattle.expression_grammar.specs.Tree.{Tree, written};
-ghost use Rattle.scop_roles.specs.Formula.{Lookup, argument_of, bare_call, binary, call, cast, formula, formula_of};
+ghost use Rattle.scop_roles.specs.Formula.{Lookup, argument_of, bare_call, binary, call, cast, formula_of};
 ghost use Rattle.scop_roles.specs.Formula.{index, meaning_of, place, subscripts, unary, with_argument};
-ghost use Rattle.scop_roles.specs.Resolving.{IsWritten, below, built, held, place_of, top};
+ghost use Rattle.scop_roles.specs.Resolving.{IsWritten, below, built, formula_of_nodes, held, place_of, top};
 
 use crate::pairs::{boxed, in_box, push_behind};
 use expression_grammar::node::Node;
@@ -387,8 +386,7 @@ pub fn resolve<N: Names>(
     names: &N,
 ) -> Result<Formula, AllocError>
     requires { IsWritten nodes.now first }
-    ensures { (t : Tree) → nodes.now ≡ written 0 t
-        → IfOk result (λ f. formula_of f ≡ formula (N.lookup names.now) first t) }
+    ensures { IfOk result (λ f. formula_of f ≡ formula_of_nodes (N.lookup names.now) first nodes.now) }
 {
     let mut stack = Vec::new(alloc);
     for node in nodes {

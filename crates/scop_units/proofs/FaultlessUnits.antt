@@ -5,9 +5,9 @@ use Rattle.std.specs.Prelude.{Option, Some, None}
 use Rattle.std.proofs.lemmas.Bool.{and_parts, leb-true, ltb-false}
 use Rattle.std.proofs.lemmas.Bool.Decides.{nat_tests}
 use Rattle.expression_grammar.specs.Tree.{Tree}
-use Rattle.expression_grammar.specs.declared.token.Assign.{Assign}
-use Rattle.expression_grammar.specs.declared.token.Assign.TheVariants as assigns
-use Rattle.expression_grammar.specs.declared.token.Suffix.TheVariants as suffix
+use Rattle.expression_grammar.specs.Assign.{Assign}
+use Rattle.expression_grammar.specs.Assign.TheVariants as assigns
+use Rattle.expression_grammar.specs.Suffix.TheVariants as suffix
 use Rattle.scop_syntax.specs.Kernel.{IsAffine, IsComparison, test_form, IsAccess, IsExpression, IsRight, IsStatement}
 use Rattle.scop_syntax.specs.Cells.{reads_of, reads}
 use Rattle.scop_roles.specs.declared.fault.Fault.{Fault}

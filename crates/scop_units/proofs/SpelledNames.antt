@@ -3,8 +3,8 @@ use Rattle.std.proofs.Common.{◌≡◌, ◌∙◌, ap, subst, refl, ℕ, suc, �
 use Rattle.std.proofs.Common.{arith}
 use Rattle.std.specs.Prelude.{All, slice_get, Some}
 use Rattle.std.proofs.lemmas.List.Elements.{All-nil, All-cons, All-append, All-map}
-use Rattle.expression_grammar.specs.declared.token.Token.{Token}
-use Rattle.expression_grammar.specs.declared.token.Token.TheVariants as token
+use Rattle.expression_grammar.specs.Token.{Token}
+use Rattle.expression_grammar.specs.Token.TheVariants as token
 use Rattle.kernel_grammar.specs.Kernel.{Element, spelled, Parameter, number, array, Kernel, parameter_elements}
 use Rattle.kernel_grammar.specs.Kernel.{other_parameters, kernel_elements, begins, ends, declarations, all_elements}
 use Rattle.kernel_grammar.proofs.Parses.{spelled_append}

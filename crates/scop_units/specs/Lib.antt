@@ -6,3 +6,5 @@ pub mod Judging
 pub mod Programs
 pub mod Names
 pub mod View
+-- Passed on: texts.
+pub use Rattle.scop_lexer.specs.Bytes

@@ -3,8 +3,8 @@ use Rattle.std.specs.Prelude.{ℕ, ◌-◌, Bool, true, false, not, nat_le, nat_
 use Rattle.std.specs.Prelude.{slice_get, Option, Some, None}
 use Rattle.whole_numbers.specs.Affine.{Affine, form_of}
 use Rattle.whole_numbers.specs.Lists.{zeros}
-use Rattle.expression_grammar.specs.declared.token.Assign.{Assign}
-use Rattle.expression_grammar.specs.declared.token.Assign.TheVariants as assigns
+use Rattle.expression_grammar.specs.Assign.{Assign}
+use Rattle.expression_grammar.specs.Assign.TheVariants as assigns
 use Rattle.scop_syntax.specs.Tree.{plus, minus, times, bits_and, bits_or, bits_xor, Right, assigned, combined}
 use Rattle.scop_syntax.specs.Tree.{moved_left, moved_right, Statement, Declaration}
 use Rattle.scop_roles.specs.declared.fault.Kind.{Kind}

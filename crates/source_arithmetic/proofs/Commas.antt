@@ -1,6 +1,6 @@
 -- Expressions of the grammar have commas in calls alone.
 use Rattle.std.proofs.Common.{ℕ, ◌+◌, ◌≤◌, arith}
-use Rattle.expression_grammar.specs.declared.token.Op.TheVariants as op
+use Rattle.expression_grammar.specs.Op.TheVariants as op
 use Rattle.expression_grammar.specs.Tree.{Tree, rank, IsPlace, WellBracketed, size}
 use Rattle.expression_grammar.specs.Tree as tree
 use Rattle.scop_roles.specs.Formula.{Lookup, formula}

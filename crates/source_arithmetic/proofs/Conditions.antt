@@ -5,8 +5,8 @@ use Rattle.std.specs.Prelude.{Some, None, ⊤}
 use Rattle.std.proofs.lemmas.Int.{ints}
 use Rattle.whole_numbers.specs.Affine.{Affine, value_of, form_of, sum_of_forms, multiple_of_form}
 use Rattle.whole_numbers.proofs.Values.{value_of-sum, value_of-multiple}
-use Rattle.expression_grammar.specs.declared.token.Op.{Op}
-use Rattle.expression_grammar.specs.declared.token.Op.TheVariants as op
+use Rattle.expression_grammar.specs.Op.{Op}
+use Rattle.expression_grammar.specs.Op.TheVariants as op
 use Rattle.scop_syntax.specs.Tree.{Test}
 use Rattle.scop_syntax.specs.Statements.{AllHold}
 use Rattle.scop_syntax.specs.Statements as tests

@@ -7,10 +7,10 @@ use Rattle.std.proofs.lemmas.Bool.{eqb-true}
 use Rattle.std.proofs.Math.Seq.{get_or-append_seam}
 use Rattle.whole_numbers.specs.Affine.{value_of}
 use Rattle.whole_numbers.proofs.Ring.{mul_distrib_left, mul_one_right, mul_zero_right}
-use Rattle.expression_grammar.specs.declared.token.Assign.TheVariants as assigns
-use Rattle.expression_grammar.specs.declared.token.Count.TheVariants as counts
-use Rattle.expression_grammar.specs.declared.token.Op.TheVariants as op
-use Rattle.expression_grammar.specs.declared.token.Suffix.TheVariants as suffix
+use Rattle.expression_grammar.specs.Assign.TheVariants as assigns
+use Rattle.expression_grammar.specs.Count.TheVariants as counts
+use Rattle.expression_grammar.specs.Op.TheVariants as op
+use Rattle.expression_grammar.specs.Suffix.TheVariants as suffix
 use Rattle.scop_syntax.specs.Walk.{turn_point, condition_at}
 use Rattle.scop_roles.specs.declared.fault.Kind.TheVariants as kind
 use Rattle.scop_roles.specs.declared.fault.Fault.{Fault}

@@ -4,7 +4,7 @@ use Rattle.std.proofs.Common.{◌∙◌, refl}
 use Rattle.std.specs.Prelude.{None, if◌then◌else◌}
 use Rattle.std.proofs.lemmas.List.{map-append, append-nil}
 use Rattle.whole_numbers.specs.Affine.{value_of}
-use Rattle.expression_grammar.specs.declared.token.Op.{Op}
+use Rattle.expression_grammar.specs.Op.{Op}
 use Rattle.expression_grammar.specs.declared.token.Sign.TheVariants as sign
 use Rattle.scop_syntax.specs.Tree.{Access, Expression, affine}
 use Rattle.scop_syntax.specs.Cells.{Cell, cell_of, reads_of, values}

@@ -2,8 +2,8 @@
 use Rattle.std.proofs.Common.{◌≡◌, ℕ, ◌*◌, ◌/◌, ◌%◌, ◌^◌, ◌≤◌, true, ℤ, List, [], ◌∷◌, ◌++◌, length, map, All, ap, ap₂}
 use Rattle.std.proofs.Common.{sym}
 use Rattle.std.specs.Prelude.{None}
-use Rattle.expression_grammar.specs.declared.token.Assign.{Assign}
-use Rattle.expression_grammar.specs.declared.token.Assign.TheVariants as assigns
+use Rattle.expression_grammar.specs.Assign.{Assign}
+use Rattle.expression_grammar.specs.Assign.TheVariants as assigns
 use Rattle.scop_syntax.specs.Tree.{plus, minus, times, bits_and, bits_or, bits_xor}
 use Rattle.scop_syntax.specs.Cells.{Cell, cell_of, reads_with}
 use Rattle.scop_syntax.specs.Values.{applied, stored_by}

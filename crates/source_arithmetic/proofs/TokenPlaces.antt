@@ -6,11 +6,11 @@ use Rattle.std.proofs.lemmas.List.Elements.{All-nil, All-cons, All-append}
 use Rattle.whole_numbers.proofs.Entries.{found_front, get_behind}
 use Rattle.expression_grammar.specs.declared.node.Node.{Node}
 use Rattle.expression_grammar.specs.declared.node.Node.TheVariants as node
-use Rattle.expression_grammar.specs.declared.token.Token.{Token}
-use Rattle.expression_grammar.specs.declared.token.Token.TheVariants as token
-use Rattle.expression_grammar.specs.declared.token.Outside.TheVariants as outside
-use Rattle.expression_grammar.specs.declared.token.Assign.{Assign}
-use Rattle.expression_grammar.specs.declared.token.Assign.TheVariants as set
+use Rattle.expression_grammar.specs.Token.{Token}
+use Rattle.expression_grammar.specs.Token.TheVariants as token
+use Rattle.expression_grammar.specs.Outside.TheVariants as outside
+use Rattle.expression_grammar.specs.Assign.{Assign}
+use Rattle.expression_grammar.specs.Assign.TheVariants as set
 use Rattle.expression_grammar.specs.Tree.{Tree, IsPlace, WellBracketed, tokens_of, size, written, sign_token}
 use Rattle.expression_grammar.specs.Tree as tree
 use Rattle.kernel_grammar.specs.Kernel.{Element, spelled, expression, semicolon, comma, Step, counted, counts}

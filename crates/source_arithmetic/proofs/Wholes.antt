@@ -12,10 +12,10 @@ use Rattle.whole_numbers.proofs.Dot.{length-zeros, dot-zeros, dot-multiples, dot
 use Rattle.whole_numbers.proofs.Values.{value_of-sum, value_of-multiple}
 use Rattle.whole_numbers.proofs.Ring.{mul_comm_int, mul_zero_right}
 use Rattle.scop_syntax.specs.Kernel.{IsAffine}
-use Rattle.expression_grammar.specs.declared.token.Op.{Op}
-use Rattle.expression_grammar.specs.declared.token.Op.TheVariants as op
+use Rattle.expression_grammar.specs.Op.{Op}
+use Rattle.expression_grammar.specs.Op.TheVariants as op
 use Rattle.expression_grammar.specs.declared.token.Sign.TheVariants as sign
-use Rattle.expression_grammar.specs.declared.token.Suffix.TheVariants as suffix
+use Rattle.expression_grammar.specs.Suffix.TheVariants as suffix
 use Rattle.scop_roles.specs.declared.fault.Kind.TheVariants as kind
 use Rattle.scop_roles.specs.declared.formula.Meaning.{Meaning}
 use Rattle.scop_roles.specs.declared.formula.Meaning.TheVariants as meaning

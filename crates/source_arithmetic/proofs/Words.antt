@@ -6,10 +6,10 @@ use Rattle.std.specs.Prelude.{Some, None, if◌then◌else◌}
 use Rattle.std.proofs.lemmas.List.{map-append, length-map}
 use Rattle.std.proofs.Math.Seq.{drop-append_seam}
 use Rattle.whole_numbers.specs.Affine.{value_of}
-use Rattle.expression_grammar.specs.declared.token.Op.{Op}
-use Rattle.expression_grammar.specs.declared.token.Op.TheVariants as op
+use Rattle.expression_grammar.specs.Op.{Op}
+use Rattle.expression_grammar.specs.Op.TheVariants as op
 use Rattle.expression_grammar.specs.declared.token.Sign.TheVariants as sign
-use Rattle.expression_grammar.specs.declared.token.Suffix.TheVariants as suffix
+use Rattle.expression_grammar.specs.Suffix.TheVariants as suffix
 use Rattle.scop_syntax.specs.Tree.{Access, Operator, plus, minus, times, bits_and, bits_or, bits_xor, Expression}
 use Rattle.scop_syntax.specs.Tree.{affine}
 use Rattle.scop_syntax.specs.Tree.{negated}

@@ -3,13 +3,13 @@
 use Rattle.std.specs.Prelude.{◌≡◌, ℕ, ◌-◌, ◌*◌, ◌/◌, ◌%◌, ◌^◌, ◌<◌, Bool, true, false, ◌&&◌, if◌then◌else◌, ℤ, pos}
 use Rattle.std.specs.Prelude.{neg_ℤ, ◌+ℤ◌, ◌-ℤ◌, ◌*ℤ◌}
 use Rattle.std.specs.Prelude.{◌≤ℤ◌, ◌<ℤ◌, List, [], ◌∷◌, ◌++◌, get_or, ⊤}
-use Rattle.expression_grammar.specs.declared.token.Assign.{Assign}
-use Rattle.expression_grammar.specs.declared.token.Assign.TheVariants as assign
-use Rattle.expression_grammar.specs.declared.token.Count.TheVariants as count
-use Rattle.expression_grammar.specs.declared.token.Op.{Op}
-use Rattle.expression_grammar.specs.declared.token.Op.TheVariants as op
+use Rattle.expression_grammar.specs.Assign.{Assign}
+use Rattle.expression_grammar.specs.Assign.TheVariants as assign
+use Rattle.expression_grammar.specs.Count.TheVariants as count
+use Rattle.expression_grammar.specs.Op.{Op}
+use Rattle.expression_grammar.specs.Op.TheVariants as op
 use Rattle.expression_grammar.specs.declared.token.Sign.TheVariants as sign
-use Rattle.expression_grammar.specs.declared.token.Suffix.TheVariants as suffix
+use Rattle.expression_grammar.specs.Suffix.TheVariants as suffix
 use Rattle.scop_syntax.specs.Tree.{plus, minus, times, bits_and, bits_or, bits_xor}
 use Rattle.scop_syntax.specs.Cells.{Cell}
 use Rattle.scop_syntax.specs.Values.{wrapped, applied}

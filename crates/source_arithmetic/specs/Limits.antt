@@ -2,11 +2,11 @@
 use Rattle.std.specs.Prelude.{◌≡◌, ◌⊎◌, ℕ, ◌+◌, ◌^◌, ◌<◌, ◌≤◌, Bool, true, false, ◌&&◌, pos, ◌-ℤ◌, unsigned_abs, set}
 use Rattle.std.specs.Prelude.{length, None, ⊤}
 use Rattle.whole_numbers.specs.Lists.{zeros}
-use Rattle.expression_grammar.specs.declared.token.Assign.TheVariants as assign
-use Rattle.expression_grammar.specs.declared.token.Count.TheVariants as count
-use Rattle.expression_grammar.specs.declared.token.Op.TheVariants as op
+use Rattle.expression_grammar.specs.Assign.TheVariants as assign
+use Rattle.expression_grammar.specs.Count.TheVariants as count
+use Rattle.expression_grammar.specs.Op.TheVariants as op
 use Rattle.expression_grammar.specs.declared.token.Sign.TheVariants as sign
-use Rattle.expression_grammar.specs.declared.token.Suffix.TheVariants as suffix
+use Rattle.expression_grammar.specs.Suffix.TheVariants as suffix
 use Rattle.scop_roles.specs.declared.formula.Meaning.TheVariants as meaning
 use Rattle.scop_roles.specs.Faults.{are_plain_constants, rank}
 use Rattle.scop_roles.specs.Forms.{has_name}

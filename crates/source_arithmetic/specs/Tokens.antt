@@ -1,10 +1,10 @@
 -- Where a text's formulas stand: each name, constant, operator and sign that is judged at a place is the token there,
 -- the parts of an expression stand in the order of the text, and the scope tells what the names there mean.
 use Rattle.std.specs.Prelude.{◌≡◌, ◌⊎◌, ℕ, zero, suc, ◌+◌, ◌<◌, ◌≤◌, List, [], ◌∷◌, slice_get, Some, ⊤}
-use Rattle.expression_grammar.specs.declared.token.Assign.TheVariants as set
-use Rattle.expression_grammar.specs.declared.token.Outside.TheVariants as outside
-use Rattle.expression_grammar.specs.declared.token.Token.{Token}
-use Rattle.expression_grammar.specs.declared.token.Token.TheVariants as token
+use Rattle.expression_grammar.specs.Assign.TheVariants as set
+use Rattle.expression_grammar.specs.Outside.TheVariants as outside
+use Rattle.expression_grammar.specs.Token.{Token}
+use Rattle.expression_grammar.specs.Token.TheVariants as token
 use Rattle.expression_grammar.specs.declared.node.Node.{Node}
 use Rattle.expression_grammar.specs.declared.node.Node.TheVariants as node
 use Rattle.expression_grammar.specs.Tree.{sign_token}

@@ -1,10 +1,10 @@
 -- A worked loop, `for (int64_t i = 0; i < 7; i++) A[2 * i + 1] += i * A[i];`, outside all others: the formulas of its
 -- parts, where i is the one entry of a point and A is array 0, of one dimension.
 use Rattle.std.specs.Prelude.{true, codes}
-use Rattle.expression_grammar.specs.declared.token.Assign.TheVariants as assign
-use Rattle.expression_grammar.specs.declared.token.Count.TheVariants as count
-use Rattle.expression_grammar.specs.declared.token.Op.TheVariants as op
-use Rattle.expression_grammar.specs.declared.token.Suffix.TheVariants as suffix
+use Rattle.expression_grammar.specs.Assign.TheVariants as assign
+use Rattle.expression_grammar.specs.Count.TheVariants as count
+use Rattle.expression_grammar.specs.Op.TheVariants as op
+use Rattle.expression_grammar.specs.Suffix.TheVariants as suffix
 use Rattle.scop_roles.specs.declared.formula.Meaning.TheVariants as meaning
 use Rattle.scop_roles.specs.Formula.{Formula, binary, constant, index, name}
 use Rattle.scop_units.specs.Loops.{LoopHead, counted}

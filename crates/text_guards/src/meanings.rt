@@ -2,11 +2,11 @@
 //! kernels and of expressions that are given.
 ghost use Rattle.std.specs.Prelude.{◌≡◌, ◌∷◌, ◌≤◌, ◌<◌, ◌^◌, ℕ, [], All, List, None, Some, length, map, slice_get};
 ghost use Rattle.expression_grammar.specs.Tree.{name as name_tree, tokens_of, written};
-ghost use Rattle.expression_grammar.specs.declared.token.Assign.TheVariants as assign;
-ghost use Rattle.expression_grammar.specs.declared.token.Op.TheVariants as op;
-ghost use Rattle.expression_grammar.specs.declared.token.Outside.TheVariants as outside;
-ghost use Rattle.expression_grammar.specs.declared.token.Suffix.TheVariants as suffix;
-ghost use Rattle.expression_grammar.specs.declared.token.Token.TheVariants as token;
+ghost use Rattle.expression_grammar.specs.Assign.TheVariants as assign;
+ghost use Rattle.expression_grammar.specs.Op.TheVariants as op;
+ghost use Rattle.expression_grammar.specs.Outside.TheVariants as outside;
+ghost use Rattle.expression_grammar.specs.Suffix.TheVariants as suffix;
+ghost use Rattle.expression_grammar.specs.Token.TheVariants as token;
 ghost use Rattle.kernel_grammar.specs.Kernel.{Kernel, none as no_items, number};
 ghost use Rattle.scop_lexer.specs.Bytes.{Text};
 ghost use Rattle.scop_lexer.specs.declared.token.Token.{Token};

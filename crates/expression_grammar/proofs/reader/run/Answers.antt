@@ -1,5 +1,5 @@
 use Rattle.std.proofs.Common.{◌∙◌, get_or, sym, ap, ap₂, subst}
-use Rattle.expression_grammar.specs.declared.token.Token.TheVariants as token
+use Rattle.scop_tokens.specs.declared.Token.TheVariants as token
 use Rattle.std.specs.Prelude.{Err}
 use Rattle.expression_grammar.specs.Gives.{Gives}
 use Rattle.expression_grammar.specs.Grammar.{told_at}

@@ -1,9 +1,10 @@
-use Rattle.std.proofs.Common.{rules, ◌<◌, ◌≤◌, [], length, fold, sym, subst, ◌∙◌, arith}
+use Rattle.std.proofs.Common.{rules, ◌<◌, ◌≤◌, [], length, fold, ap, sym, subst, ◌∙◌, arith}
+use Rattle.std.proofs.lemmas.List.{drop_all}
 use Rattle.expression_grammar.specs.Tree.{size}
 use Rattle.expression_grammar.specs.declared.node.Node.TheVariants as node
-use Rattle.expression_grammar.specs.declared.token.Suffix.TheVariants as suffix
-use Rattle.scop_roles.specs.Resolving.{built, held}
-use Rattle.scop_roles.proofs.FormulaStack.{AreBelow, place_below, places_below, read_next, resolved}
+use Rattle.expression_grammar.specs.Suffix.TheVariants as suffix
+use Rattle.scop_roles.specs.Resolving.{built, held, top}
+use Rattle.scop_roles.proofs.FormulaStack.{AreBelow, place_below, places_below, read_next}
 use Rattle.scop_roles.proofs.formula.resolve.Goals as goal
 
 pub joined-requires : goal.joined-requires
@@ -25,8 +26,6 @@ loop-node-preserved g c =
     (node.Constant suffix.Absent 0) c.loop-node-test.true (c.in-Ok-push.ensures ∙ c.in-Ok.ensures) l.invariant
 
 pub returns : goal.returns
-returns g c t e =
+returns g c =
     let past : length c.args.nodes.now ≤ c.loop-node.node-index = search rules in
-    c.pop.ensures.top
-    ∙ resolved (g.N.Names.lookup c.args.names.now) c.args.first t c.args.nodes.now c.loop-node.node-index
-    (held c.loop-node.stack.items) e past c.loop-node.invariant
+    c.pop.ensures.top ∙ ap top (rw (drop_all c.loop-node.node-index c.args.nodes.now past) at c.loop-node.invariant)

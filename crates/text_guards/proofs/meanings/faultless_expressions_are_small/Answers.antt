@@ -1,4 +1,4 @@
-use Rattle.expression_grammar.specs.declared.token.Suffix.TheVariants as suffix
+use Rattle.expression_grammar.specs.Suffix.TheVariants as suffix
 use Rattle.scop_roles.specs.declared.formula.Meaning.TheVariants as meaning
 use Rattle.scop_roles.specs.Formula.{constant, index, name}
 use Rattle.text_guards.proofs.meanings.faultless_expressions_are_small.Goals as goal

@@ -1,7 +1,7 @@
 use Rattle.std.proofs.Common.{◌≡◌, refl, sym, subst, arith, ◌∷◌, []}
 use Rattle.std.proofs.lemmas.List.Elements.{All-nil, All-cons}
-use Rattle.expression_grammar.specs.declared.token.Assign.TheVariants as assign
-use Rattle.expression_grammar.specs.declared.token.Suffix.TheVariants as suffix
+use Rattle.expression_grammar.specs.Assign.TheVariants as assign
+use Rattle.expression_grammar.specs.Suffix.TheVariants as suffix
 use Rattle.scop_roles.specs.declared.formula.Meaning.TheVariants as meaning
 use Rattle.scop_roles.specs.Faults.{rank}
 use Rattle.scop_roles.specs.Formula.{constant, index, name, meaning_of, subscripts}

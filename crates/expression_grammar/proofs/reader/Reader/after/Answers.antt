@@ -1,6 +1,6 @@
 use Rattle.expression_grammar.specs.Tree.{level}
 use Rattle.expression_grammar.specs.Machine.{joined, after_pair, reduced}
-use Rattle.expression_grammar.specs.declared.token.Token.TheVariants as token
+use Rattle.scop_tokens.specs.declared.Token.TheVariants as token
 use Rattle.expression_grammar.proofs.Reductions.{stepped}
 use Rattle.expression_grammar.proofs.reader.Reader.after.Goals as goal
 

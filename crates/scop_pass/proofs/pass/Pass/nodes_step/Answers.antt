@@ -1,6 +1,7 @@
 use Rattle.std.proofs.Common.{◌∙◌, ℕ, Option, ap, subst}
 use Rattle.scop_roles.specs.Formula.{Formula}
-use Rattle.scop_pass.specs.Machine.{expects, formula_of_nodes, formula_step}
+use Rattle.scop_roles.specs.Resolving.{formula_of_nodes}
+use Rattle.scop_pass.specs.Machine.{expects, formula_step}
 use Rattle.scop_pass.specs.Passing.{Comes, pending_of, state_of}
 use Rattle.scop_units.specs.Scopes.{look}
 use Rattle.scop_units.specs.View.{scope_of, scope_within, words_in}
