@@ -3,10 +3,10 @@ use Rattle.std.proofs.Common.{◌≡◌, ℕ, ℤ, pos, ◌+ℤ◌, ◌*ℤ◌, 
 use Rattle.std.specs.Prelude.{Result, Ok, Err, IfOk}
 use Rattle.std.proofs.lemmas.Int.{ints}
 use Rattle.std.proofs.Math.ListN.{length-set}
-use Rattle.whole_numbers.specs.Lists.{dot, sums, multiples}
-use Rattle.whole_numbers.specs.Affine.{Affine, value_of, sum_of_forms, multiple_of_form, substituted, form_of}
-use Rattle.whole_numbers.proofs.Ring.{mul_one_left, mul_neg_left}
-use Rattle.whole_numbers.proofs.Lists.{multiples-one}
+use Rattle.wide_math.specs.Lists.{dot, sums, multiples}
+use Rattle.wide_math.specs.Affine.{Affine, value_of, sum_of_forms, multiple_of_form, substituted, form_of}
+use Rattle.wide_math.proofs.Ring.{mul_one_left, mul_neg_left}
+use Rattle.wide_math.proofs.Lists.{multiples-one}
 use Rattle.wide_math.specs.declared.Wide.{Wide}
 use Rattle.wide_math.specs.Checked.{sum_of, product_of, cross_of, cross_sum_of, ◌>>=◌}
 use Rattle.wide_math.proofs.Steps.{sum_of-ok, product_of-ok, cross_of-exact, cross_sum_of-exact, chain-ok}

@@ -2,7 +2,7 @@
 use Rattle.std.proofs.Common.{◌≡◌, ℤ, ◌+ℤ◌, ◌*ℤ◌, Bool, true, false, IsTrue, IsFalse, List, [], ◌∷◌, refl, sym}
 use Rattle.std.proofs.Common.{ap, ◌∙◌, inl, inr, ◌↔◌}
 use Rattle.std.specs.Prelude.{Result, Err}
-use Rattle.whole_numbers.specs.Fits.{fits}
+use Rattle.wide_math.specs.Fits.{fits}
 use Rattle.wide_math.specs.declared.Op.TheVariants.{Add, Mul}
 use Rattle.wide_math.specs.declared.Wide.{Wide}
 use Rattle.wide_math.specs.Checked.{wide}

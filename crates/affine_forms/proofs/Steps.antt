@@ -7,7 +7,7 @@ use Rattle.std.proofs.Math.ListN.{drop_of_length-le}
 use Rattle.std.proofs.lemmas.List.{take_more_set, drop-set-lt, take_all, append-nil}
 use Rattle.wide_math.specs.declared.Wide.{Wide}
 use Rattle.wide_math.specs.Checked.{◌>>=◌}
-use Rattle.whole_numbers.specs.Affine.{Affine, form_of}
+use Rattle.wide_math.specs.Affine.{Affine, form_of}
 use Rattle.affine_forms.specs.Runs.{map_run, zip_run, multiply_add_run, dot_run_from}
 use Rattle.affine_forms.specs.Runs.{form_run, plus_multiple_run, plus_combination_run}
 

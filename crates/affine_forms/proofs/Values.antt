@@ -2,11 +2,11 @@
 use Rattle.std.proofs.Common.{◌≡◌, ℕ, suc, ◌<◌, ℤ, List, [], ◌∷◌, sym, ap, ◌∙◌}
 use Rattle.std.proofs.Common.{arith, All}
 use Rattle.std.specs.Prelude.{Ok}
-use Rattle.whole_numbers.specs.Lists.{multiples, zeros}
-use Rattle.whole_numbers.specs.Affine.{Affine, value_of, form_of, plus_combination, composed}
-use Rattle.whole_numbers.proofs.Dot.{length-sums, length-multiples, length-zeros}
-use Rattle.whole_numbers.proofs.Values.{value_of-sum, value_of-multiple, value_of-substituted}
-use Rattle.whole_numbers.proofs.Values.{value_of-composed, length-combination}
+use Rattle.wide_math.specs.Lists.{multiples, zeros}
+use Rattle.wide_math.specs.Affine.{Affine, value_of, form_of, plus_combination, composed}
+use Rattle.wide_math.proofs.Dot.{length-sums, length-multiples, length-zeros}
+use Rattle.wide_math.proofs.Values.{value_of-sum, value_of-multiple, value_of-substituted}
+use Rattle.wide_math.proofs.Values.{value_of-composed, length-combination}
 use Rattle.wide_math.proofs.Steps.{chain-ok}
 use Rattle.affine_forms.specs.Parts.{variables_of}
 use Rattle.affine_forms.specs.Runs.{plus_run, scaled_run, plus_multiple_run, substitute_run, compose_run}

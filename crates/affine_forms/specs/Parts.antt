@@ -1,6 +1,6 @@
 -- The parts of a form: its number of variables, a coefficient, the form without a variable.
 use Rattle.std.specs.Prelude.{ℕ, ℤ, pos, length, get_or, slice_set}
-use Rattle.whole_numbers.specs.Affine.{Affine, form_of}
+use Rattle.wide_math.specs.Affine.{Affine, form_of}
 
 -- how many variables a form speaks of
 abbrev pub variables_of : Affine → ℕ

@@ -1,7 +1,7 @@
 -- Arithmetic of lists and forms in 128 bits, number by number.
 use Rattle.std.specs.Prelude.{ℕ, ℤ, pos, List, [], ◌∷◌, Result, Ok}
-use Rattle.whole_numbers.specs.Affine.{Affine, form_of}
-use Rattle.whole_numbers.specs.Lists.{zeros}
+use Rattle.wide_math.specs.Affine.{Affine, form_of}
+use Rattle.wide_math.specs.Lists.{zeros}
 use Rattle.wide_math.specs.declared.Wide.{Wide}
 use Rattle.wide_math.specs.Checked.{sum_of, product_of, cross_of, cross_sum_of, ◌>>=◌}
 use Rattle.affine_forms.specs.Parts.{coefficient_of, without_variable}

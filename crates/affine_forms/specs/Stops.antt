@@ -1,6 +1,6 @@
 -- Where a sum of products first leaves 128 bits.
 use Rattle.std.specs.Prelude.{◌≡◌, ℤ, ◌+ℤ◌, ◌*ℤ◌, List, [], ◌∷◌, ◌⊎◌, IsTrue, IsFalse}
-use Rattle.whole_numbers.specs.Fits.{fits}
+use Rattle.wide_math.specs.Fits.{fits}
 use Rattle.wide_math.specs.declared.Op.TheVariants.{Add, Mul}
 use Rattle.wide_math.specs.declared.Wide.{Wide}
 use Rattle.wide_math.specs.Checked.{wide}

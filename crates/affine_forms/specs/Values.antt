@@ -1,6 +1,6 @@
 -- Sums, multiples, substitutions and compositions of forms by their values at every point.
 use Rattle.std.specs.Prelude.{◌≡◌, ◌+ℤ◌, ◌*ℤ◌, ℕ, ℤ, List, length, slice_set}
-use Rattle.whole_numbers.specs.Affine.{Affine, value_of, values_of}
+use Rattle.wide_math.specs.Affine.{Affine, value_of, values_of}
 use Rattle.affine_forms.specs.Parts.{variables_of}
 
 -- at every point h has the value of f plus the value of g

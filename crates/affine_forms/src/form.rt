@@ -3,13 +3,13 @@
 //! 128 bits.
 
 ghost use Rattle.std.specs.Prelude.{◌≡◌, ◌≢◌, ℤ, neg_ℤ, ◌<◌, ◌≤◌, All, Result, Ok, Err, IfOk, IsOk, length};
-ghost use Rattle.whole_numbers.specs.Affine.{value_of, sum_of_forms, multiple_of_form, substituted, composed, form_of};
-ghost use Rattle.whole_numbers.specs.Lists.{zeros};
+ghost use Rattle.wide_math.specs.Affine.{value_of, sum_of_forms, multiple_of_form, substituted, composed, form_of};
+ghost use Rattle.wide_math.specs.Lists.{zeros};
 ghost use Rattle.affine_forms.specs.Parts.{variables_of, coefficient_of, without_variable};
 ghost use Rattle.affine_forms.specs.Runs.{value_run, plus_run, scaled_run, plus_multiple_run};
 ghost use Rattle.affine_forms.specs.Runs.{plus_combination_run, substitute_run, compose_run, forms_sum_run};
 ghost use Rattle.affine_forms.specs.Runs.{forms_difference_run};
-ghost use Rattle.whole_numbers.specs.Content.{lowest_of_form};
+ghost use Rattle.wide_math.specs.Content.{lowest_of_form};
 ghost use Rattle.affine_forms.specs.Runs.{combined_run};
 ghost use Rattle.affine_forms.specs.InPlace.{CombinesAs};
 ghost use Rattle.affine_forms.specs.Gives.{Gives};
@@ -37,7 +37,7 @@ pub struct Form {
 }
 
 impl Model for Form {
-    ghost use Rattle.whole_numbers.specs.Affine.{Affine, form_of};
+    ghost use Rattle.wide_math.specs.Affine.{Affine, form_of};
 
     ghost Value = { Affine };
 

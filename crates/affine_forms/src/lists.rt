@@ -1,7 +1,7 @@
 //! Lists that grow by one, where what finds no room is dropped, copies of forms, and forms over one variable more.
 
 ghost use Rattle.std.specs.Prelude.{◌≡◌, ◌≤◌, [], ◌∷◌, ◌++◌, All, IfOk, OnErr, OnOk, map};
-ghost use Rattle.whole_numbers.specs.Affine.{widened};
+ghost use Rattle.wide_math.specs.Affine.{widened};
 ghost use Rattle.affine_forms.specs.Parts.{variables_of};
 
 use crate::form::Form;

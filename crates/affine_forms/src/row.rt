@@ -1,8 +1,8 @@
 //! Rows of whole numbers: the checked loops under the forms, each over slices. None takes memory.
 
 ghost use Rattle.std.specs.Prelude.{◌≡◌, ◌≤◌, ℤ, Result, pos, length, map};
-ghost use Rattle.whole_numbers.specs.Floor.{floor};
-ghost use Rattle.whole_numbers.specs.Content.{content_from};
+ghost use Rattle.wide_math.specs.Floor.{floor};
+ghost use Rattle.wide_math.specs.Content.{content_from};
 ghost use Rattle.wide_math.specs.Gives.{Becomes};
 ghost use Rattle.wide_math.specs.declared.Wide.{Wide};
 ghost use Rattle.affine_forms.specs.InPlace.{CombinesAs, TurnsAs};

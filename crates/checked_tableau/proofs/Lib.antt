@@ -8,3 +8,10 @@ pub mod MultipliedRows
 pub use Rattle.lexmin_runs.proofs.AddedParameters
 pub use Rattle.lexmin_runs.proofs.KeptSolutions
 pub use Rattle.tableau_rows.proofs.Lines
+pub use Rattle.lexmin_runs.proofs.BoundSigns
+pub use Rattle.lexmin_runs.proofs.Emptiness
+pub use Rattle.lexmin_runs.proofs.QuestionAnswers
+pub use Rattle.lexmin_runs.proofs.SingleLeaf
+pub use Rattle.lexmin_runs.proofs.Steps
+pub use Rattle.lexmin_runs.proofs.Trees
+pub use Rattle.lexmin_runs.proofs.TurnNumbers

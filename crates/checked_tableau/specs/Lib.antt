@@ -8,3 +8,5 @@ pub use Rattle.tableau_rows.specs.Moves
 pub use Rattle.tableau_rows.specs.Problem
 pub use Rattle.tableau_rows.specs.Rows
 pub use Rattle.tableau_rows.specs.Run
+pub use Rattle.lexmin_runs.specs.Emptiness
+pub use Rattle.lexmin_runs.specs.Leaves

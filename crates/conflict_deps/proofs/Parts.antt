@@ -45,7 +45,7 @@ all_rows [] = refl
 all_rows (f ∷ fs) = ap (λ us. f ∷ us) (all_rows fs)
 
 -- a side of the model stands at its statement's place
-stands : (model : KernelModel) (s : Side) → IsKernelModel model → In s (sides_in model)
+pub stands : (model : KernelModel) (s : Side) → IsKernelModel model → In s (sides_in model)
     → slice_get model.statements s.statement.number ≡ Some s.statement
 stands model s is h =
     let q = in_flat_map_from sides_of model.statements s h in

@@ -12,4 +12,5 @@ mod forms;
 pub mod source_laws;
 mod worked_rows;
 
-pub use deps::conflicts;
+pub use deps::{AccessOf, conflicts};
+pub use forms::{push_sources, push_subscripts, push_targets};

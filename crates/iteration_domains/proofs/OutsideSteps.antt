@@ -1,8 +1,8 @@
 -- The systems of the index check one after another: those of one dimension more, and of one access or statement more.
 use Rattle.std.proofs.Common.{◌≡◌, ℕ, ◌+◌, ◌<◌, ◌≤◌, ◌^◌, ℤ, pos}
 use Rattle.std.proofs.Common.{negsuc, List, [], ◌∷◌, ◌++◌, length, map, drop, get_or}
-use Rattle.std.proofs.Common.{ap, ap₂, sym, subst, ◌∙◌, refl}
-use Rattle.std.proofs.Common.{arith, add-one, append_assoc, append-nil, drop-cons, drop_of_length-le}
+use Rattle.std.proofs.Common.{ap, sym, subst, ◌∙◌, refl}
+use Rattle.std.proofs.Common.{arith, add-one, append_assoc, drop-cons}
 use Rattle.std.specs.Prelude.{◌≤ℤ◌, All, Some, slice_get}
 use Rattle.std.specs.List.{flat_map}
 use Rattle.std.proofs.lemmas.Int.{ints}
@@ -33,14 +33,6 @@ dimension_more domain forms fs es i f e done next whole inside within is size gr
     ap (λ (ys : List Constraints). ys ++ rest) grown
     ∙ (append_assoc done two rest ∙ (ap (λ (ys : List Constraints). done ++ ys) (sym here) ∙ so_far))
 
-pub dimensions_end : (domain : Constraints) (forms fs : List Affine) (es : List ℕ) (i : ℕ)
-    (done whole : List Constraints) → length fs ≤ i
-    → done ++ outside_dimensions domain forms (drop i fs) (drop i es) ≡ whole → done ≡ whole
-dimensions_end domain forms fs es i done whole behind so_far =
-    sym (append-nil done)
-    ∙ (ap (λ (gs : List Affine). done ++ outside_dimensions domain forms gs (drop i es))
-    (sym (drop_of_length-le fs behind)) ∙ so_far)
-
 pub piece_more : {A B : Type 0} (f : A → List B) (xs : List A) (i : ℕ) (x : A) (done next whole : List B)
     → i < length xs → x ≡ get_or xs i x → next ≡ done ++ f x → done ++ flat_map f (drop i xs) ≡ whole
     → next ++ flat_map f (drop (i + 1) xs) ≡ whole
@@ -48,12 +40,6 @@ piece_more f xs i x done next whole inside is grown so_far =
     let rest = flat_map f (drop (i + 1) xs) in
     let here : flat_map f (drop i xs) ≡ f x ++ rest = rw (drop-cons xs i x inside, ← is, add-one i) refl in
     ap (λ ys. ys ++ rest) grown ∙ (append_assoc done (f x) rest ∙ (ap (λ ys. done ++ ys) (sym here) ∙ so_far))
-
-pub pieces_end : {A B : Type 0} (f : A → List B) (xs : List A) (i : ℕ) (done whole : List B) → length xs ≤ i
-    → done ++ flat_map f (drop i xs) ≡ whole → done ≡ whole
-pieces_end f xs i done whole behind so_far =
-    sym (append-nil done)
-    ∙ (ap (λ (ys : List _). done ++ flat_map f ys) (sym (drop_of_length-le xs behind)) ∙ so_far)
 
 -- an extent within the limits, as 64 bits show it
 wrapped_extent : (z : ℤ) → pos 0 ≤ℤ z → z ≤ℤ pos (2 ^ 22) → wrapped z ≡ size_of z

@@ -11,10 +11,10 @@ use Rattle.whole_numbers.specs.Affine.{Affine}
 use Rattle.integer_sets.specs.Constraints.{Constraints, IsSized, variables_in}
 use Rattle.tableau_rows.specs.Problem.{problem_of, Speaks}
 use Rattle.tableau_rows.specs.Run.{point, none, wide, Outcome, question}
-use Rattle.lexmin_runs.specs.Nodes.{Counted, formed, answered, ask}
-use Rattle.lexmin_runs.specs.Emptiness.{equality_rows_run, bound_rows, posed_run, emptied, empty_run}
-use Rattle.lexmin_runs.proofs.Emptiness.{posed_points}
-use Rattle.lexmin_runs.proofs.AddedParameters.{all_speak}
+use Rattle.checked_tableau.specs.Nodes.{Counted, formed, answered, ask}
+use Rattle.checked_tableau.specs.Emptiness.{equality_rows_run, bound_rows, posed_run, emptied, empty_run}
+use Rattle.checked_tableau.proofs.Emptiness.{posed_points}
+use Rattle.checked_tableau.proofs.AddedParameters.{all_speak}
 use Rattle.checked_tableau.specs.declared.problem.Problem.{Problem}
 use Rattle.pip_solver.specs.declared.stop.Stop.TheVariants as solver
 use Rattle.pip_solver.specs.Promises.{Decides, Empties, IsPosed, IsProblem, IsUnposed, FormedUntil, decided}

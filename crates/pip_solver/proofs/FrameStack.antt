@@ -7,7 +7,7 @@ use Rattle.whole_numbers.specs.Affine.{Affine}
 use Rattle.quast_trees.specs.Tree.{Tree, leaf, bind, branch}
 use Rattle.quast_trees.specs.Source.{unnamed}
 use Rattle.quast_trees.specs.Postfix.{top, branched, bound}
-use Rattle.lexmin_runs.specs.Nodes.{Counted, resumed, whole}
+use Rattle.checked_tableau.specs.Nodes.{Counted, resumed, whole}
 use Rattle.pip_solver.specs.declared.node.Tableau.{Tableau}
 use Rattle.pip_solver.specs.Node.{node_of}
 use Rattle.pip_solver.specs.declared.frames.Frame.TheVariants as frame

@@ -6,10 +6,10 @@ use Rattle.std.proofs.lemmas.List.{append-nil}
 use Rattle.quast_trees.specs.Tree.{Tree, initial}
 use Rattle.quast_trees.specs.Postfix.{top}
 use Rattle.tableau_rows.specs.Run as run
-use Rattle.lexmin_runs.specs.Nodes.{Node, Next, Counted, resumed, whole, step}
-use Rattle.lexmin_runs.specs.Nodes as node
-use Rattle.lexmin_runs.proofs.KeptSolutions.{step_nodes}
-use Rattle.lexmin_runs.proofs.Steps.{Costs, costs_step, resumed_step, resumed_stops}
+use Rattle.checked_tableau.specs.Nodes.{Node, Next, Counted, resumed, whole, step}
+use Rattle.checked_tableau.specs.Nodes as node
+use Rattle.checked_tableau.proofs.KeptSolutions.{step_nodes}
+use Rattle.checked_tableau.proofs.Steps.{Costs, costs_step, resumed_step, resumed_stops}
 use Rattle.pip_solver.specs.declared.node.Tableau.{Tableau}
 use Rattle.pip_solver.specs.declared.node.Move.TheVariants as move
 use Rattle.pip_solver.specs.Node.{node_of, next_of, AreGoing}

@@ -11,9 +11,9 @@ use Rattle.tableau_rows.specs.Problem.{Problem, IsLexmin, IsEmpty, Speaks, probl
 use Rattle.checked_tableau.specs.declared.problem.Problem.{Problem as Posed}
 use Rattle.quast_trees.specs.Tree.{Tree}
 use Rattle.quast_trees.specs.Leaf.{Leaf}
-use Rattle.lexmin_runs.specs.Nodes.{lexmin_run}
-use Rattle.lexmin_runs.specs.Leaves.{IsAnswer, IsOneLeaf}
-use Rattle.lexmin_runs.proofs.SingleLeaf.{lexmin-alone}
+use Rattle.checked_tableau.specs.Nodes.{lexmin_run}
+use Rattle.checked_tableau.specs.Leaves.{IsAnswer, IsOneLeaf}
+use Rattle.checked_tableau.proofs.SingleLeaf.{lexmin-alone}
 use Rattle.pip_solver.specs.Solving.{IsGiven, solved}
 use Rattle.pip_solver.proofs.ProblemRuns.{IsSized}
 

@@ -5,7 +5,7 @@ use Rattle.whole_numbers.specs.Floor.{floor}
 use Rattle.whole_numbers.specs.Affine.{form_of}
 use Rattle.tableau_rows.specs.Rows.{Row, entry}
 use Rattle.tableau_rows.specs.Moves.{line_row}
-use Rattle.lexmin_runs.specs.Nodes.{all_divided, divided, part_of}
+use Rattle.checked_tableau.specs.Nodes.{all_divided, divided, part_of}
 use Rattle.tableau_rows.proofs.Lines.{entry_at}
 
 -- the numbers behind the constant

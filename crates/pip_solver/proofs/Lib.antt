@@ -14,7 +14,9 @@ pub mod ProblemRuns
 pub mod LeafPoints
 pub mod Systems
 -- Passed on: lemmas about what this crate passes on.
-pub use Rattle.lexmin_runs.proofs.Emptiness as EmptinessLaws
-pub use Rattle.lexmin_runs.proofs.KeptSolutions
-pub use Rattle.lexmin_runs.proofs.QuestionAnswers
-pub use Rattle.lexmin_runs.proofs.Trees
+pub use Rattle.checked_tableau.proofs.Emptiness as EmptinessLaws
+pub use Rattle.checked_tableau.proofs.KeptSolutions
+pub use Rattle.checked_tableau.proofs.QuestionAnswers
+pub use Rattle.checked_tableau.proofs.Trees
+pub use Rattle.checked_tableau.proofs.BoundSigns
+pub use Rattle.checked_tableau.proofs.TurnNumbers

@@ -2,7 +2,7 @@
 use Rattle.std.proofs.Common.{◌≡◌, ℕ, true, false, refl, subst, sym}
 use Rattle.std.specs.Prelude.{Result, Ok, if◌then◌else◌}
 use Rattle.quast_trees.specs.Tree.{initial}
-use Rattle.lexmin_runs.specs.Nodes.{Node, Next, Counted, ends, chained, context_holds, looked, step}
+use Rattle.checked_tableau.specs.Nodes.{Node, Next, Counted, ends, chained, context_holds, looked, step}
 use Rattle.pip_solver.specs.declared.node.Tableau.{Tableau}
 use Rattle.pip_solver.specs.declared.question.QuestionStop.{QuestionStop}
 use Rattle.pip_solver.specs.declared.step.Next.TheVariants as next

@@ -2,7 +2,7 @@
 use Rattle.std.proofs.Common.{◌≡◌, ℕ, zero, suc, ◌+◌, ◌<◌, ℤ, pos, negsuc, false, List}
 use Rattle.std.proofs.Common.{length, drop, get_or, drop-cons, refl, sym, ◌∙◌, add-one}
 use Rattle.whole_numbers.specs.Floor.{remainder}
-use Rattle.lexmin_runs.specs.Nodes.{all_divided, is_zero}
+use Rattle.checked_tableau.specs.Nodes.{all_divided, is_zero}
 
 pub divided-more : (d : ℤ) (xs : List ℤ) (k : ℕ) (r : ℤ) → k < length xs → r ≡ remainder (get_or xs k (pos 0)) d
     → r ≡ pos 0 → all_divided d (drop k xs) ≡ all_divided d (drop (k + 1) xs)

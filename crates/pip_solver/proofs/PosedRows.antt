@@ -9,8 +9,8 @@ use Rattle.wide_math.specs.Checked.{difference_of, ◌>>=◌}
 use Rattle.whole_numbers.specs.Affine.{Affine, form_of}
 use Rattle.whole_numbers.specs.Lists.{zeros}
 use Rattle.affine_forms.specs.Runs.{map_run}
-use Rattle.lexmin_runs.specs.Nodes.{opposites_run}
-use Rattle.lexmin_runs.specs.Emptiness.{negated_run, equality_rows_run, bound_rows}
+use Rattle.checked_tableau.specs.Nodes.{opposites_run}
+use Rattle.checked_tableau.specs.Emptiness.{negated_run, equality_rows_run, bound_rows}
 use Rattle.wide_math.proofs.Steps.{chain-ok}
 use Rattle.affine_forms.specs.Gives.{Gives}
 use Rattle.pip_solver.specs.Promises.{FormedUntil, Forms}

@@ -3,9 +3,9 @@ use Rattle.std.proofs.Common.{◌≡◌, ℕ, ◌+◌, length, refl, subst, ap, 
 use Rattle.std.specs.Prelude.{All, Ok}
 use Rattle.tableau_rows.specs.Problem.{problem_of, Speaks}
 use Rattle.quast_trees.specs.Tree.{Tree, Speaks as TreeSpeaks}
-use Rattle.lexmin_runs.specs.Nodes.{Node, whole, first_node, lexmin_run}
-use Rattle.lexmin_runs.specs.Solutions.{IsNode}
-use Rattle.lexmin_runs.proofs.KeptSolutions.{first_is_node, lexmin-speaks}
+use Rattle.checked_tableau.specs.Nodes.{Node, whole, first_node, lexmin_run}
+use Rattle.checked_tableau.specs.Solutions.{IsNode}
+use Rattle.checked_tableau.proofs.KeptSolutions.{first_is_node, lexmin-speaks}
 use Rattle.checked_tableau.proofs.Beginnings.{speaks_all}
 use Rattle.checked_tableau.specs.declared.problem.Problem.{Problem}
 use Rattle.pip_solver.specs.declared.node.Tableau.{Tableau}

@@ -15,11 +15,11 @@ use Rattle.tableau_rows.specs.Rows.{Row, row_of}
 use Rattle.tableau_rows.specs.Moves.{row_at, is_positive}
 use Rattle.tableau_rows.specs.Problem.{problem_of, first_rows}
 use Rattle.tableau_rows.specs.Run.{question, run}
-use Rattle.lexmin_runs.specs.Nodes.{Counted, Node, formed, chained, answered, ask, opposite_run, above_run, first_asked}
-use Rattle.lexmin_runs.specs.Nodes.{broken_somewhere, all_zero}
-use Rattle.lexmin_runs.specs.Solutions.{IsNode}
-use Rattle.lexmin_runs.proofs.QuestionAnswers.{opposite-value, above-value}
-use Rattle.lexmin_runs.proofs.KeptSolutions.{part_size}
+use Rattle.checked_tableau.specs.Nodes.{Counted, Node, formed, chained, answered, ask, opposite_run, above_run, first_asked}
+use Rattle.checked_tableau.specs.Nodes.{broken_somewhere, all_zero}
+use Rattle.checked_tableau.specs.Solutions.{IsNode}
+use Rattle.checked_tableau.proofs.QuestionAnswers.{opposite-value, above-value}
+use Rattle.checked_tableau.proofs.KeptSolutions.{part_size}
 use Rattle.pip_solver.specs.declared.node.Tableau.{Tableau}
 use Rattle.pip_solver.specs.Node.{node_of}
 use Rattle.pip_solver.specs.declared.question.QuestionStop.{QuestionStop}

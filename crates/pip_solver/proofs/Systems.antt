@@ -12,8 +12,8 @@ use Rattle.whole_numbers.proofs.Lists.{not_negative_all}
 use Rattle.integer_sets.specs.Constraints.{Constraints, IsSized, variables_in}
 use Rattle.integer_sets.specs.Points.{Satisfies}
 use Rattle.tableau_rows.specs.Problem.{problem_of, IsPoint, IsLexmin, IsEmpty}
-use Rattle.lexmin_runs.specs.Emptiness.{posed_run}
-use Rattle.lexmin_runs.proofs.Emptiness.{posed_points}
+use Rattle.checked_tableau.specs.Emptiness.{posed_run}
+use Rattle.checked_tableau.proofs.Emptiness.{posed_points}
 use Rattle.checked_tableau.specs.declared.problem.Problem.{Problem}
 use Rattle.pip_solver.specs.declared.stop.Stop.TheVariants as solver
 use Rattle.pip_solver.specs.Promises.{IsPosed, IsUnposed}

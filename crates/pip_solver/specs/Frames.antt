@@ -3,8 +3,8 @@ use Rattle.std.specs.Prelude.{◌≡◌, ℕ, suc, ◌+◌, ◌<◌, List, [], �
 use Rattle.std.specs.Prelude.{Ok, Err, ⊤}
 use Rattle.quast_trees.specs.Tree.{Tree, initial}
 use Rattle.quast_trees.specs.Postfix.{top}
-use Rattle.lexmin_runs.specs.Nodes.{Counted, Frame, binding, second, joining, resumed, whole}
-use Rattle.lexmin_runs.specs.Solutions.{IsNode}
+use Rattle.checked_tableau.specs.Nodes.{Counted, Frame, binding, second, joining, resumed, whole}
+use Rattle.checked_tableau.specs.Solutions.{IsNode}
 use Rattle.pip_solver.specs.declared.node.Tableau.{Tableau}
 use Rattle.pip_solver.specs.declared.node.Move.TheVariants as move
 use Rattle.pip_solver.specs.Node.{node_of, IsGoing}

@@ -5,7 +5,7 @@ pub mod Frames
 pub mod Solving
 pub mod Minimum
 -- Passed on: what this crate's contracts are told in.
-pub use Rattle.lexmin_runs.specs.Emptiness
-pub use Rattle.lexmin_runs.specs.Leaves
-pub use Rattle.lexmin_runs.specs.Nodes
+pub use Rattle.checked_tableau.specs.Emptiness
+pub use Rattle.checked_tableau.specs.Leaves
+pub use Rattle.checked_tableau.specs.Nodes
 pub use Rattle.checked_tableau.specs.declared.problem.Problem

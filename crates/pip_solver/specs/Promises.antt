@@ -6,14 +6,14 @@ use Rattle.wide_math.specs.declared.Wide.{Wide}
 use Rattle.whole_numbers.specs.Affine.{Affine}
 use Rattle.affine_forms.specs.declared.stop.FormStop.{FormStop}
 use Rattle.affine_forms.specs.declared.stop.FormStop.TheVariants as form_stop
-use Rattle.lexmin_runs.specs.Emptiness.{negated_run, equality_rows_run, posed_run, emptied, empty_run}
+use Rattle.checked_tableau.specs.Emptiness.{negated_run, equality_rows_run, posed_run, emptied, empty_run}
 use Rattle.integer_sets.specs.Constraints.{Constraints, variables_in}
 use Rattle.tableau_rows.specs.Problem.{problem_of, Speaks}
 use Rattle.checked_tableau.specs.declared.problem.Problem.{Problem}
 use Rattle.pip_solver.specs.declared.stop.Stop.TheVariants as solver
 use Rattle.tableau_rows.specs.Run as run
 use Rattle.tableau_rows.specs.Run.{Step, Verdict, Outcome}
-use Rattle.lexmin_runs.specs.Nodes.{Counted, answered, part_of}
+use Rattle.checked_tableau.specs.Nodes.{Counted, answered, part_of}
 use Rattle.tableau_rows.specs.Moves.{row_at}
 use Rattle.pip_solver.specs.declared.node.Tableau.{Tableau}
 use Rattle.checked_tableau.specs.Table.{Table}

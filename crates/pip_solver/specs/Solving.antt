@@ -9,7 +9,7 @@ use Rattle.quast_trees.specs.Postfix.{Postfix, tree_of}
 use Rattle.quast_trees.specs.Source.{Source}
 use Rattle.quast_trees.specs.Leaf.{Leaf, initial, found}
 use Rattle.quast_trees.specs.Value.{value}
-use Rattle.lexmin_runs.specs.Nodes.{Counted, lexmin_run}
+use Rattle.checked_tableau.specs.Nodes.{Counted, lexmin_run}
 use Rattle.checked_tableau.specs.declared.problem.Problem.{Problem}
 use Rattle.pip_solver.specs.declared.stop.Stop.TheVariants as solver
 use Rattle.pip_solver.specs.declared.minimum.Solution.{Solution}

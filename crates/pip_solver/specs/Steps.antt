@@ -1,8 +1,8 @@
 -- When a step of a node is its run's.
 use Rattle.std.specs.Prelude.{◌≡◌, ℕ, take, [], Result, Ok, Err}
 use Rattle.quast_trees.specs.Tree.{initial}
-use Rattle.lexmin_runs.specs.Nodes.{Next, ends, Counted, leaf_tree}
-use Rattle.lexmin_runs.specs.Solutions.{IsNode}
+use Rattle.checked_tableau.specs.Nodes.{Next, ends, Counted, leaf_tree}
+use Rattle.checked_tableau.specs.Solutions.{IsNode}
 use Rattle.pip_solver.specs.declared.node.Tableau.{Tableau}
 use Rattle.pip_solver.specs.Node.{node_of, next_of, IsGoing, AreGoing}
 use Rattle.pip_solver.specs.declared.question.QuestionStop.{QuestionStop}

@@ -5,9 +5,9 @@ ghost use Rattle.std.specs.Prelude.{◌≡◌, ◌+◌, [], ◌∷◌, ◌++◌,
 ghost use Rattle.affine_forms.specs.Parts.{variables_of};
 ghost use Rattle.tableau_rows.specs.Problem.{Speaks};
 ghost use Rattle.tableau_rows.specs.Moves.{row_at};
-ghost use Rattle.lexmin_runs.specs.Nodes.{ask, context_holds, below_somewhere, above_somewhere, broken_somewhere};
-ghost use Rattle.lexmin_runs.specs.Nodes.{none_below, part_of, longer_form, formed};
-ghost use Rattle.lexmin_runs.specs.Nodes.{opposite_run, above_run, under_run};
+ghost use Rattle.checked_tableau.specs.Nodes.{ask, context_holds, below_somewhere, above_somewhere, broken_somewhere};
+ghost use Rattle.checked_tableau.specs.Nodes.{none_below, part_of, longer_form, formed};
+ghost use Rattle.checked_tableau.specs.Nodes.{opposite_run, above_run, under_run};
 ghost use Rattle.pip_solver.specs.Node.{node_of};
 ghost use Rattle.pip_solver.specs.Promises.{Tells, AsksOf};
 

@@ -5,8 +5,8 @@ ghost use Rattle.whole_numbers.specs.Affine.{form_of};
 ghost use Rattle.affine_forms.specs.Parts.{variables_of};
 ghost use Rattle.integer_sets.specs.Constraints.{IsSized, variables_in};
 ghost use Rattle.whole_numbers.specs.Lists.{zeros};
-ghost use Rattle.lexmin_runs.specs.Emptiness.{equality_rows_run, bound_rows};
-ghost use Rattle.lexmin_runs.specs.Emptiness.{IsBoundedPoint, HasBoundedPoint};
+ghost use Rattle.checked_tableau.specs.Emptiness.{equality_rows_run, bound_rows};
+ghost use Rattle.checked_tableau.specs.Emptiness.{IsBoundedPoint, HasBoundedPoint};
 ghost use Rattle.pip_solver.specs.Promises.{Decides, Empties};
 
 use crate::asking::ask;

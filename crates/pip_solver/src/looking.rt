@@ -1,7 +1,7 @@
 //! The first row of a node of which a question's answer is yes.
 ghost use Rattle.std.specs.Prelude.{◌≡◌, ℕ, ◌<◌, ◌≤◌, length, take, Ok, Some, None};
-ghost use Rattle.lexmin_runs.specs.Nodes.{first_asked, below_somewhere, broken_somewhere, part_of};
-ghost use Rattle.lexmin_runs.specs.Solutions.{IsNode};
+ghost use Rattle.checked_tableau.specs.Nodes.{first_asked, below_somewhere, broken_somewhere, part_of};
+ghost use Rattle.checked_tableau.specs.Solutions.{IsNode};
 ghost use Rattle.pip_solver.specs.Node.{node_of};
 ghost use Rattle.pip_solver.specs.Promises.{Tells};
 

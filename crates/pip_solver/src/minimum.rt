@@ -7,7 +7,7 @@ ghost use Rattle.tableau_rows.specs.Problem.{problem_of, row_values};
 ghost use Rattle.quast_trees.specs.Tree.{LeavesHave};
 ghost use Rattle.quast_trees.specs.Postfix.{tree_of};
 ghost use Rattle.quast_trees.specs.Value.{value};
-ghost use Rattle.lexmin_runs.specs.Leaves.{IsAnswer};
+ghost use Rattle.checked_tableau.specs.Leaves.{IsAnswer};
 ghost use Rattle.pip_solver.specs.Solving.{Counts, Solves};
 
 use crate::node::Tableau;

@@ -5,7 +5,7 @@ ghost use Rattle.affine_forms.specs.Parts.{variables_of};
 ghost use Rattle.tableau_rows.specs.Problem.{problem_of, IsLexmin, IsEmpty};
 ghost use Rattle.quast_trees.specs.Postfix.{tree_of};
 ghost use Rattle.quast_trees.specs.Value.{value};
-ghost use Rattle.lexmin_runs.specs.Leaves.{IsOneLeaf};
+ghost use Rattle.checked_tableau.specs.Leaves.{IsOneLeaf};
 ghost use Rattle.pip_solver.specs.Solving.{Finds, IsGiven};
 
 use crate::minimum::lexmin;

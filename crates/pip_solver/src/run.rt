@@ -1,7 +1,7 @@
 //! The run of a node: a loop over its steps with a stack of frames. Nothing recurses.
 ghost use Rattle.std.specs.Prelude.{◌≡◌, [], ◌++◌, ◌≤◌, length, reverse, OnOk};
 ghost use Rattle.quast_trees.specs.Postfix.{standing};
-ghost use Rattle.lexmin_runs.specs.Nodes.{whole};
+ghost use Rattle.checked_tableau.specs.Nodes.{whole};
 ghost use Rattle.pip_solver.specs.Node.{node_of};
 ghost use Rattle.pip_solver.specs.Frames.{under, joins, frames_for, IsReady, AreReady, Proceeds, Runs};
 

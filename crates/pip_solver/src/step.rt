@@ -2,8 +2,8 @@
 //! formed, and the moves of questions stand in the same count.
 ghost use Rattle.std.specs.Prelude.{◌≡◌, ◌<◌, ◌≤◌, length, Some, None};
 ghost use Rattle.tableau_rows.specs.Moves.{row_at};
-ghost use Rattle.lexmin_runs.specs.Nodes.{split, pivot, cut, pivot_or_empty, treated, looked, step, part_of};
-ghost use Rattle.lexmin_runs.specs.Solutions.{IsNode};
+ghost use Rattle.checked_tableau.specs.Nodes.{split, pivot, cut, pivot_or_empty, treated, looked, step, part_of};
+ghost use Rattle.checked_tableau.specs.Solutions.{IsNode};
 ghost use Rattle.pip_solver.specs.Node.{node_of};
 ghost use Rattle.pip_solver.specs.Steps.{Steps};
 

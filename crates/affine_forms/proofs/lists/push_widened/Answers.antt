@@ -1,5 +1,5 @@
-use Rattle.whole_numbers.specs.Affine.{widened}
-use Rattle.whole_numbers.proofs.Entries.{map_more, map_end}
+use Rattle.wide_math.specs.Affine.{widened}
+use Rattle.wide_math.proofs.Entries.{map_more, map_end}
 use Rattle.affine_forms.proofs.lists.push_widened.Goals as goal
 
 pub loop-form-preserved : goal.loop-form-preserved

@@ -1,5 +1,5 @@
 use Rattle.std.proofs.Common.{◌≡◌, ◌++◌, map, drop}
-use Rattle.whole_numbers.specs.Affine.{widened}
+use Rattle.wide_math.specs.Affine.{widened}
 use Rattle.affine_forms.proofs.lists.push_widened.Given as goal
 
 abbrev pub invariant-loop-form : goal.invariant-loop-form

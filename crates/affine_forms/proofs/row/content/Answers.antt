@@ -1,8 +1,8 @@
 use Rattle.std.proofs.Common.{rules, ◌∙◌, sym, ap, arith, ℕ, pos, drop, get_or, FitsSigned, add-one, drop-cons}
 use Rattle.std.specs.Int.{w128}
 use Rattle.std.proofs.lemmas.Int.{to_z-of_z}
-use Rattle.whole_numbers.specs.Content.{content_from}
-use Rattle.whole_numbers.proofs.Contents.{gcd_of_same, content_from_one}
+use Rattle.wide_math.specs.Content.{content_from}
+use Rattle.wide_math.proofs.Contents.{gcd_of_same, content_from_one}
 use Rattle.affine_forms.proofs.row.content.Goals as goal
 
 pub returns-then-content-eq1 : goal.returns-then-content-eq1

@@ -1,5 +1,5 @@
 use Rattle.std.proofs.Common.{◌≡◌, drop}
-use Rattle.whole_numbers.specs.Content.{content_from}
+use Rattle.wide_math.specs.Content.{content_from}
 use Rattle.affine_forms.proofs.row.content.Given as goal
 
 abbrev pub invariant-loop-at : goal.invariant-loop-at

@@ -4,7 +4,7 @@ use Rattle.std.specs.Int.{w128}
 use Rattle.std.proofs.lemmas.Int.{to_z-of_z}
 use Rattle.std.proofs.lemmas.List.{take_more_set, drop-set-lt}
 use Rattle.std.specs.Prelude.{map, set, length}
-use Rattle.whole_numbers.specs.Floor.{floor}
+use Rattle.wide_math.specs.Floor.{floor}
 use Rattle.affine_forms.proofs.row.divide_row.Goals as goal
 
 -- one more entry in front is done

@@ -1,6 +1,6 @@
 use Rattle.std.proofs.Common.{◌≡◌, ◌++◌, take, drop, pos}
 use Rattle.std.specs.Prelude.{map}
-use Rattle.whole_numbers.specs.Floor.{floor}
+use Rattle.wide_math.specs.Floor.{floor}
 use Rattle.affine_forms.proofs.row.divide_row.Given as goal
 
 abbrev pub invariant-loop-at : goal.invariant-loop-at

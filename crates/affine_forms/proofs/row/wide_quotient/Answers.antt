@@ -2,7 +2,7 @@ use Rattle.std.proofs.Common.{rules, ◌≡◌, ◌∙◌, ap, FitsSigned, ℕ, 
 use Rattle.std.specs.Prelude.{◌-ℤ◌, ◌<ℤ◌, unsigned_abs}
 use Rattle.std.specs.Int.{w128}
 use Rattle.std.proofs.lemmas.Int.{to_z-of_z, ints}
-use Rattle.whole_numbers.specs.Floor.{floor}
+use Rattle.wide_math.specs.Floor.{floor}
 use Rattle.affine_forms.proofs.row.wide_quotient.Goals as goal
 
 -- the quotient of a negative number, from that of its complement

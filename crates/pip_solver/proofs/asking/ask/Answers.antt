@@ -1,6 +1,6 @@
 use Rattle.std.proofs.Common.{◌++◌, Bool, subst, sym}
 use Rattle.tableau_rows.specs.Run.{run}
-use Rattle.lexmin_runs.specs.Nodes.{Counted, answered}
+use Rattle.checked_tableau.specs.Nodes.{Counted, answered}
 use Rattle.checked_tableau.specs.Table.{Table}
 use Rattle.pip_solver.specs.Promises.{Tells}
 use Rattle.pip_solver.proofs.Questions.{ask-is}

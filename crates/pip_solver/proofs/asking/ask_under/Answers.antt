@@ -3,8 +3,8 @@ use Rattle.std.specs.Int.{w128}
 use Rattle.std.proofs.lemmas.Int.{to_z-of_z}
 use Rattle.std.specs.Prelude.{Bool}
 use Rattle.whole_numbers.specs.Affine.{Affine}
-use Rattle.lexmin_runs.specs.Nodes.{Counted, ask, formed, under_run, longer_form}
-use Rattle.lexmin_runs.proofs.AddedParameters.{speaks-longer, speaks-append}
+use Rattle.checked_tableau.specs.Nodes.{Counted, ask, formed, under_run, longer_form}
+use Rattle.checked_tableau.proofs.AddedParameters.{speaks-longer, speaks-append}
 use Rattle.pip_solver.specs.Promises.{Tells}
 use Rattle.pip_solver.proofs.Decisions.{speaks_at}
 use Rattle.pip_solver.proofs.Questions.{asked-behind}

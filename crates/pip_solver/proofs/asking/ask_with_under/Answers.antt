@@ -1,5 +1,5 @@
 use Rattle.std.proofs.Common.{◌∙◌, ◌∷◌, [], refl}
-use Rattle.lexmin_runs.proofs.QuestionAnswers.{under-size}
+use Rattle.checked_tableau.proofs.QuestionAnswers.{under-size}
 use Rattle.pip_solver.proofs.Decisions.{speaks_at}
 use Rattle.pip_solver.proofs.asking.ask_with_under.Goals as goal
 

@@ -6,7 +6,7 @@ use Rattle.whole_numbers.specs.Floor.{remainder}
 use Rattle.affine_forms.specs.Parts.{variables_of}
 use Rattle.tableau_rows.specs.Rows.{Row}
 use Rattle.tableau_rows.specs.Moves.{row_at}
-use Rattle.lexmin_runs.specs.Nodes.{part_of}
+use Rattle.checked_tableau.specs.Nodes.{part_of}
 use Rattle.pip_solver.specs.Node.{node_of}
 use Rattle.pip_solver.proofs.Questions.{broken-constant}
 use Rattle.pip_solver.proofs.asking.broken_somewhere.Goals as goal

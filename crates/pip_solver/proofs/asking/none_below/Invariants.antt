@@ -1,5 +1,5 @@
 use Rattle.std.proofs.Common.{◌≡◌, drop}
-use Rattle.lexmin_runs.specs.Nodes.{none_below}
+use Rattle.checked_tableau.specs.Nodes.{none_below}
 use Rattle.pip_solver.proofs.asking.none_below.Given as goal
 
 abbrev pub invariant-loop-form : goal.invariant-loop-form

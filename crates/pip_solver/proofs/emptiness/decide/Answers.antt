@@ -2,7 +2,7 @@ use Rattle.std.proofs.Common.{◌≡◌, ◌∙◌, ◌++◌, List, length, ap, 
 use Rattle.std.specs.Prelude.{Result, Err, All}
 use Rattle.whole_numbers.specs.Affine.{Affine}
 use Rattle.whole_numbers.proofs.Entries.{all_front, all_back}
-use Rattle.lexmin_runs.specs.Nodes.{Counted, ask}
+use Rattle.checked_tableau.specs.Nodes.{Counted, ask}
 use Rattle.pip_solver.specs.Promises.{Tells}
 use Rattle.pip_solver.specs.declared.question.QuestionStop.{QuestionStop}
 use Rattle.pip_solver.proofs.Decisions.{decided_is, turned}

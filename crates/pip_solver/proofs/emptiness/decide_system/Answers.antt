@@ -1,7 +1,7 @@
 use Rattle.std.proofs.Common.{◌≡◌, ◌∙◌, ◌++◌, ap, sym, ℕ, List}
 use Rattle.std.specs.Prelude.{Ok}
 use Rattle.whole_numbers.specs.Affine.{Affine}
-use Rattle.lexmin_runs.specs.Emptiness.{bound_rows, posed_run}
+use Rattle.checked_tableau.specs.Emptiness.{bound_rows, posed_run}
 use Rattle.pip_solver.proofs.Decisions.{posed_parts, posed_flat, posed_sized, empties_rows}
 use Rattle.pip_solver.proofs.emptiness.decide_system.Goals as goal
 use Rattle.pip_solver.proofs.emptiness.decide_system.Goals.{Then-parameters-eq0, In-Ok}

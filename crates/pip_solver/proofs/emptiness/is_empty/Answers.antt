@@ -1,7 +1,7 @@
 use Rattle.std.proofs.Common.{◌≡◌, Bool, true, false, subst}
 use Rattle.std.specs.Prelude.{Result, Ok, IfOk}
 use Rattle.integer_sets.specs.Constraints.{IsSized, variables_in}
-use Rattle.lexmin_runs.proofs.Emptiness.{empty-true, empty-false}
+use Rattle.checked_tableau.proofs.Emptiness.{empty-true, empty-false}
 use Rattle.pip_solver.specs.Promises.{Empties}
 use Rattle.pip_solver.specs.declared.stop.Stop.TheVariants as solver
 use Rattle.pip_solver.proofs.emptiness.is_empty.Goals as goal

@@ -2,7 +2,7 @@ use Rattle.std.proofs.Common.{rules, ◌≡◌, ◌+◌, ◌-◌, ◌++◌, ◌�
 use Rattle.std.specs.Prelude.{negsuc}
 use Rattle.whole_numbers.specs.Lists.{zeros}
 use Rattle.whole_numbers.specs.Affine.{Affine, form_of}
-use Rattle.lexmin_runs.specs.Emptiness.{bound_rows}
+use Rattle.checked_tableau.specs.Emptiness.{bound_rows}
 use Rattle.pip_solver.proofs.PosedRows.{bounds-more}
 use Rattle.pip_solver.proofs.emptiness.push_bounds.Goals as goal
 

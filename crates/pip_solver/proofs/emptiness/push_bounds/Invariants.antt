@@ -1,5 +1,5 @@
 use Rattle.std.proofs.Common.{◌≡◌, ◌++◌, ◌-◌}
-use Rattle.lexmin_runs.specs.Emptiness.{bound_rows}
+use Rattle.checked_tableau.specs.Emptiness.{bound_rows}
 use Rattle.pip_solver.proofs.emptiness.push_bounds.Given as goal
 
 abbrev pub invariant-loop-place : goal.invariant-loop-place

@@ -1,5 +1,5 @@
 use Rattle.std.proofs.Common.{◌≡◌, drop}
-use Rattle.lexmin_runs.specs.Nodes.{all_divided}
+use Rattle.checked_tableau.specs.Nodes.{all_divided}
 use Rattle.pip_solver.proofs.leaf.all_divided.Given as goal
 
 abbrev pub invariant-loop-number : goal.invariant-loop-number

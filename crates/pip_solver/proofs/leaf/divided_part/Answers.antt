@@ -5,7 +5,7 @@ use Rattle.std.proofs.lemmas.Int.{to_z-of_z}
 use Rattle.whole_numbers.specs.Floor.{floor}
 use Rattle.whole_numbers.specs.Affine.{Affine, form_of}
 use Rattle.tableau_rows.specs.Moves.{row_at}
-use Rattle.lexmin_runs.specs.Nodes.{divided, padded, part_of}
+use Rattle.checked_tableau.specs.Nodes.{divided, padded, part_of}
 use Rattle.pip_solver.proofs.LeafTrees.{divided-line}
 use Rattle.pip_solver.proofs.leaf.divided_part.Goals as goal
 

@@ -3,7 +3,7 @@ use Rattle.std.specs.Int.{w128}
 use Rattle.std.proofs.lemmas.Int.{to_z-of_z}
 use Rattle.tableau_rows.specs.Rows.{entry}
 use Rattle.tableau_rows.specs.Moves.{row_at}
-use Rattle.lexmin_runs.specs.Nodes.{all_divided}
+use Rattle.checked_tableau.specs.Nodes.{all_divided}
 use Rattle.pip_solver.proofs.LeafTrees.{numbers-line}
 use Rattle.pip_solver.proofs.leaf.is_divided.Goals as goal
 

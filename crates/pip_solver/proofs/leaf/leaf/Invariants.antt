@@ -1,7 +1,7 @@
 use Rattle.std.proofs.Common.{◌≡◌, ℕ, ◌+◌, List, [], drop, take}
 use Rattle.std.specs.Prelude.{Ok}
 use Rattle.quast_trees.specs.Tree.{Tree}
-use Rattle.lexmin_runs.specs.Nodes.{leaf_tree}
+use Rattle.checked_tableau.specs.Nodes.{leaf_tree}
 use Rattle.pip_solver.specs.Frames.{under, KeepsSides}
 use Rattle.pip_solver.proofs.leaf.leaf.Given as goal
 

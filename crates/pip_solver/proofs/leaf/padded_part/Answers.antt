@@ -4,7 +4,7 @@ use Rattle.std.specs.Int.{w128}
 use Rattle.std.proofs.lemmas.Int.{to_z-of_z}
 use Rattle.whole_numbers.specs.Affine.{Affine, form_of}
 use Rattle.tableau_rows.specs.Moves.{row_at}
-use Rattle.lexmin_runs.specs.Nodes.{padded, part_of}
+use Rattle.checked_tableau.specs.Nodes.{padded, part_of}
 use Rattle.pip_solver.proofs.LeafTrees.{part-line}
 use Rattle.pip_solver.proofs.leaf.padded_part.Goals as goal
 

@@ -1,7 +1,7 @@
 use Rattle.std.proofs.Common.{◌∙◌, Bool, ℕ, sym, subst, ap, arith}
 use Rattle.std.specs.Prelude.{Option, Ok, Err}
 use Rattle.tableau_rows.specs.Rows.{Row}
-use Rattle.lexmin_runs.specs.Nodes.{Counted, below_somewhere, part_of}
+use Rattle.checked_tableau.specs.Nodes.{Counted, below_somewhere, part_of}
 use Rattle.pip_solver.specs.declared.node.Tableau.{Tableau}
 use Rattle.pip_solver.specs.Node.{node_of}
 use Rattle.pip_solver.specs.Promises.{Tells}

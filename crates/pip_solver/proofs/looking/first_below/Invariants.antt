@@ -1,5 +1,5 @@
 use Rattle.std.proofs.Common.{◌≡◌, ◌≤◌, drop}
-use Rattle.lexmin_runs.specs.Nodes.{first_asked, below_somewhere, part_of}
+use Rattle.checked_tableau.specs.Nodes.{first_asked, below_somewhere, part_of}
 use Rattle.pip_solver.specs.Node.{node_of}
 use Rattle.pip_solver.proofs.looking.first_below.Given as goal
 

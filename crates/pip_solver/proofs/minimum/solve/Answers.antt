@@ -4,12 +4,12 @@ use Rattle.quast_trees.specs.Tree.{Tree, LeavesHave}
 use Rattle.quast_trees.specs.Postfix.{standing, top}
 use Rattle.quast_trees.specs.Value.{value}
 use Rattle.tableau_rows.specs.Problem.{problem_of}
-use Rattle.lexmin_runs.specs.Leaves.{IsAnswer}
-use Rattle.lexmin_runs.specs.Nodes.{Counted, whole}
+use Rattle.checked_tableau.specs.Leaves.{IsAnswer}
+use Rattle.checked_tableau.specs.Nodes.{Counted, whole}
 use Rattle.pip_solver.specs.Node.{node_of}
 use Rattle.pip_solver.specs.Frames.{Runs}
-use Rattle.lexmin_runs.proofs.Trees.{lexmin-right}
-use Rattle.lexmin_runs.proofs.KeptSolutions.{lexmin-forms}
+use Rattle.checked_tableau.proofs.Trees.{lexmin-right}
+use Rattle.checked_tableau.proofs.KeptSolutions.{lexmin-forms}
 use Rattle.pip_solver.specs.Promises.{Tells}
 use Rattle.pip_solver.specs.Solving.{solved}
 use Rattle.pip_solver.specs.declared.question.QuestionStop.{QuestionStop}

@@ -5,7 +5,7 @@ use Rattle.whole_numbers.specs.Affine.{Affine}
 use Rattle.tableau_rows.specs.Problem.{row_values, problem_of}
 use Rattle.quast_trees.specs.Postfix.{tree_of}
 use Rattle.quast_trees.specs.Value.{value}
-use Rattle.lexmin_runs.specs.Leaves.{IsAnswer}
+use Rattle.checked_tableau.specs.Leaves.{IsAnswer}
 use Rattle.pip_solver.proofs.ProblemRuns.{is_sized}
 use Rattle.pip_solver.proofs.LeafPoints.{found-alone, given-least, given-none}
 use Rattle.pip_solver.proofs.point.least_point.Goals as goal

@@ -1,7 +1,7 @@
 use Rattle.std.proofs.Common.{◌≡◌, ◌∙◌, ◌≤◌, ℕ, [], length, take, drop, sym, subst, arith}
 use Rattle.std.specs.Prelude.{Ok}
 use Rattle.quast_trees.specs.Postfix.{standing, top}
-use Rattle.lexmin_runs.specs.Nodes.{leaf_tree, step}
+use Rattle.checked_tableau.specs.Nodes.{leaf_tree, step}
 use Rattle.pip_solver.specs.Node.{node_of}
 use Rattle.pip_solver.specs.declared.step.Next.TheVariants as next
 use Rattle.pip_solver.specs.Steps.{Steps}

@@ -3,7 +3,7 @@ use Rattle.std.specs.Prelude.{Ok, Err, Option}
 use Rattle.std.specs.declared.alloc.AllocError.{AllocError}
 use Rattle.quast_trees.specs.Postfix.{standing}
 use Rattle.quast_trees.specs.Tree.{Tree}
-use Rattle.lexmin_runs.specs.Nodes.{Counted, whole}
+use Rattle.checked_tableau.specs.Nodes.{Counted, whole}
 use Rattle.pip_solver.specs.declared.node.Tableau.{Tableau}
 use Rattle.pip_solver.specs.Node.{node_of}
 use Rattle.pip_solver.specs.declared.run.Progress.TheVariants as progress

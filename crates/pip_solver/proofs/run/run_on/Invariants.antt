@@ -1,6 +1,6 @@
 use Rattle.std.proofs.Common.{◌≡◌, ◌≤◌, ◌+◌, length, reverse}
 use Rattle.quast_trees.specs.Postfix.{standing}
-use Rattle.lexmin_runs.specs.Nodes.{whole}
+use Rattle.checked_tableau.specs.Nodes.{whole}
 use Rattle.pip_solver.specs.Node.{node_of}
 use Rattle.pip_solver.specs.Frames.{under, joins, seconds, IsReady, AreReady}
 use Rattle.pip_solver.proofs.run.run_on.Given as goal

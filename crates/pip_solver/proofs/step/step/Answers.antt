@@ -1,7 +1,7 @@
 use Rattle.std.proofs.Common.{rules, ◌≡◌, ◌∙◌, Bool, true, false, subst, sym, ap}
 use Rattle.std.specs.Prelude.{Ok, Err, if◌then◌else◌}
 use Rattle.quast_trees.specs.Tree.{initial}
-use Rattle.lexmin_runs.specs.Nodes.{Next, Counted, ends, context_holds, looked, chained}
+use Rattle.checked_tableau.specs.Nodes.{Next, Counted, ends, context_holds, looked, chained}
 use Rattle.pip_solver.specs.Node.{node_of}
 use Rattle.pip_solver.specs.Promises.{Tells}
 use Rattle.pip_solver.specs.Steps.{Steps}

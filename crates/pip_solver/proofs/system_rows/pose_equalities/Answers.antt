@@ -2,7 +2,7 @@ use Rattle.std.proofs.Common.{◌≡◌, ◌∙◌, ◌+◌, ◌++◌, ◌∷◌
 use Rattle.std.proofs.Math.Seq.{take-suc}
 use Rattle.std.specs.Prelude.{Ok}
 use Rattle.whole_numbers.specs.Affine.{Affine}
-use Rattle.lexmin_runs.specs.Emptiness.{equality_rows_run}
+use Rattle.checked_tableau.specs.Emptiness.{equality_rows_run}
 use Rattle.pip_solver.proofs.PosedRows.{rows-more, forms-stop}
 use Rattle.pip_solver.proofs.system_rows.pose_equalities.Goals as goal
 

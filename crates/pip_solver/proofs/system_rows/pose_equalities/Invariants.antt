@@ -1,6 +1,6 @@
 use Rattle.std.proofs.Common.{◌≡◌, take}
 use Rattle.std.specs.Prelude.{Ok}
-use Rattle.lexmin_runs.specs.Emptiness.{equality_rows_run}
+use Rattle.checked_tableau.specs.Emptiness.{equality_rows_run}
 use Rattle.pip_solver.proofs.system_rows.pose_equalities.Given as goal
 
 abbrev pub invariant-loop-form : goal.invariant-loop-form

@@ -1,9 +1,9 @@
-use Rattle.whole_numbers.specs.Affine.{form_of}
+use Rattle.wide_math.specs.Affine.{form_of}
 use Rattle.std.proofs.Common.{rules, ◌≡◌, ◌∙◌, sym, ap, FitsSigned}
 use Rattle.std.specs.Int.{w128}
 use Rattle.std.proofs.lemmas.Int.{to_z-of_z}
-use Rattle.whole_numbers.specs.Lists.{zeros}
-use Rattle.whole_numbers.proofs.Dot.{length-zeros}
+use Rattle.wide_math.specs.Lists.{zeros}
+use Rattle.wide_math.proofs.Dot.{length-zeros}
 use Rattle.affine_forms.specs.Parts.{variables_of}
 use Rattle.affine_forms.specs.Runs.{compose_run}
 use Rattle.affine_forms.proofs.Values.{compose_run-exact, compose_run-value, compose_run-variables}

@@ -1,7 +1,7 @@
 use Rattle.std.proofs.Common.{ℤ, List, Ok, ap, sym, ◌∙◌, rules}
 use Rattle.std.proofs.lemmas.Int.{to_z-of_z}
-use Rattle.whole_numbers.specs.Affine.{form_of}
-use Rattle.whole_numbers.proofs.Dot.{replicate-zeros}
+use Rattle.wide_math.specs.Affine.{form_of}
+use Rattle.wide_math.proofs.Dot.{replicate-zeros}
 use Rattle.affine_forms.proofs.form.Form.constant_of.Goals as goal
 
 pub returns-in-Ok-clause-form : goal.returns-in-Ok-clause-form

@@ -2,11 +2,11 @@ use Rattle.std.proofs.Common.{rules, ◌≡◌, ◌∙◌, sym, ap, ap₂, arith
 use Rattle.std.specs.Int.{w128}
 use Rattle.std.proofs.lemmas.Int.{to_z-of_z}
 use Rattle.std.specs.Prelude.{length}
-use Rattle.whole_numbers.specs.Affine.{form_of}
-use Rattle.whole_numbers.specs.Floor.{floor, floors}
-use Rattle.whole_numbers.specs.Content.{content_from, content_of_form, lowest_of_form}
-use Rattle.whole_numbers.proofs.Contents.{gcd_of_nothing}
-use Rattle.whole_numbers.proofs.Lowest.{lowest_form_stays}
+use Rattle.wide_math.specs.Affine.{form_of}
+use Rattle.wide_math.specs.Floor.{floor, floors}
+use Rattle.wide_math.specs.Content.{content_from, content_of_form, lowest_of_form}
+use Rattle.wide_math.proofs.Contents.{gcd_of_nothing}
+use Rattle.wide_math.proofs.Lowest.{lowest_form_stays}
 use Rattle.affine_forms.proofs.Steps.{refill_same}
 use Rattle.affine_forms.proofs.form.Form.lower.Goals as goal
 
