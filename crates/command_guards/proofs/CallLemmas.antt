@@ -4,55 +4,29 @@ use Rattle.std.proofs.Common.{true, sym, Result, Ok, Err}
 use Rattle.std.specs.Prelude.{if◌then◌else◌}
 use Rattle.std.specs.Io.KnownBytes.{Appends}
 use Rattle.io_ports.specs.Bytes.{GainsFront, IsAllOf}
-use Rattle.io_ports.specs.Faults.{Rose}
 use Rattle.io_ports.specs.Reads.{SourceShows}
 use Rattle.io_ports.specs.Writes.{SinkShows}
 use Rattle.scop_syntax.specs.Tree.{Program}
-use Rattle.scop_syntax.specs.Walk.{walk_of}
 use Rattle.scop_parser.specs.Spelling.{SpellsProgram}
 use Rattle.data_lines.specs.declared.refusal.DataRefusal.{DataRefusal}
-use Rattle.loop_tree.specs.Plans.{walked}
-use Rattle.loop_tree.specs.Tiling.{Tiling}
-use Rattle.loop_tree.specs.Tree.{Trees}
-use Rattle.tile_list.specs.Counting.{HasTiles, HasWaves}
-use Rattle.iteration_domains.specs.Model.{model_of}
-use Rattle.report_text.specs.Items.{Block}
-use Rattle.report_text.specs.KeptText.{kept_text}
-use Rattle.report_text.specs.UncertifiedText.{uncertified_text}
-use Rattle.report_text.specs.declared.kept_line.KeptLine.{KeptLine}
 use Rattle.report_text.specs.StatusText.{status_text}
 use Rattle.report_text.specs.TilesText.{tiles_text}
 use Rattle.report_text.specs.declared.status.Status.{Status}
 use Rattle.report_text.specs.declared.status.Status.TheVariants.{BadData, Rejected, WriteFault}
 use Rattle.plan_check.specs.Judged.{judged, rejected_at}
 use Rattle.plan_check.specs.declared.kinds.FaultKind.{FaultKind}
-use Rattle.plan_certificate.specs.Certificates.{certificate_of}
 use Rattle.command_line.specs.declared.command.Command.{Command}
 use Rattle.command_line.specs.declared.command.Command.TheVariants.{Check, Gen, OfKernel, Run}
-use Rattle.command_line.specs.Command.{command_of, is_by_tiles}
+use Rattle.command_line.specs.Command.{command_of}
 use Rattle.command_line.specs.declared.command.RunOptions.{RunOptions}
 use Rattle.polypar.specs.Certifying.{IsGivenText}
 use Rattle.polypar.specs.Planned.{ArePlanned}
-use Rattle.polypar.specs.Planning.{IsCauseOf, IsSearched}
 use Rattle.polypar.specs.Answered.{Answered, GainsLine, GainsTo, HasLines, IsDeserved, NamesOf, PrintsArrays}
 use Rattle.polypar.specs.Answered.{PrintsCertificate}
-use Rattle.polypar.specs.Case.{Accepted, Spelled}
-use Rattle.polypar.specs.Counting.{IsReleaseOf}
 use Rattle.polypar.specs.Cut.{data_part, kernel_part}
 use Rattle.polypar.specs.Deserves.{DeservesFor}
+use Rattle.command_guards.specs.Shown.{GainsCertificate, GainsFault, GainsReport, IsGiven, TellsData}
 use Rattle.polypar.specs.Runs.{edges_line, release_line}
-
--- `err` gained a report behind the lines of a plan
-abbrev pub GainsReport : RunOptions → Option (List ℕ) → SinkShows → SinkShows → Type 0
-GainsReport options left err err_after =
-    (input : List ℕ) × (accepted : Accepted input) × (plan : Tiling) × (trees : Trees) × (front : List ℕ)
-    × (tiles : ℕ) × (waves : ℕ) × IsAllOf left input
-    × ArePlanned options.tile options.budget true accepted.program plan front trees
-    × HasTiles plan (walked accepted.program accepted.params) tiles
-    × HasWaves plan (walked accepted.program accepted.params) waves
-    × (edges : Option ℕ) × IsReleaseOf (is_by_tiles options.sync) plan (walk_of accepted.program accepted.params) edges
-    × Appends err.taken err_after.taken (release_line options.sync edges
-    ++ (front ++ (tiles_text tiles waves options.workers ++ edges_line edges)))
 
 -- the lines of a run whose report is asked for
 pub reported : (options : RunOptions) (left : Option (List ℕ)) (out out_after err err_after : SinkShows)
@@ -80,16 +54,6 @@ reported options left out out_after err err_after asked prints =
           (plan.told ∙ ap (λ more. release_line options.sync plan.edges ++ (plan.front ++ more)) is) prints.6,
     )
 
--- the line of data that is refused: an input was read, whose kernel spells a program, and `err`, which had gained
--- nothing, gained the line with that program's names, or a front of it where its count of faults rose
-abbrev pub TellsData : Option (List ℕ) → DataRefusal → SinkShows → SinkShows → Type 0
-TellsData left refusal err err_after =
-    (input : List ℕ) × (program : Program) × (mid : SinkShows) × IsAllOf left input
-    × SpellsProgram (kernel_part input) program × Appends err.taken mid.taken [] × (err.faults ≤ mid.faults)
-    × (Appends mid.taken err_after.taken (status_text (Some program) (BadData refusal))
-    ⊎ (GainsFront mid.taken err_after.taken (status_text (Some program) (BadData refusal))
-    × Rose mid.faults err_after.faults))
-
 -- data is refused with the names of a program, and its line is written or cut off
 named_line : (left : Option (List ℕ)) (refusal : DataRefusal) (out out_after err mid err_after : SinkShows)
     (named : Option Program) → NamesOf left (BadData refusal) named → GainsTo err mid []
@@ -113,14 +77,7 @@ data_line words status source source_after out out_after err err_after refusal i
     (subst (λ lines. GainsTo err line.3 lines) none line.5)
     (subst (λ s. GainsLine line.0 s out out_after err line.3 err_after) is line.6)
 
--- the status line of a command that is cut off, or a front of it, and then a count had risen before
-abbrev pub GainsFault : Option Program → SinkShows → SinkShows → SinkShows → SinkShows → SinkShows → Type 0
-GainsFault named out out_after err mid err_after =
-    Appends mid.taken err_after.taken (status_text named WriteFault)
-    ⊎ (GainsFront mid.taken err_after.taken (status_text named WriteFault)
-    × (Rose out.faults out_after.faults ⊎ Rose err.faults mid.faults))
-
--- so it is
+-- the status line of a command that is cut off
 pub faulted : (named : Option Program) (status : Status) (out out_after err mid err_after : SinkShows)
     → status ≡ WriteFault → GainsLine named status out out_after err mid err_after
     → GainsFault named out out_after err mid err_after
@@ -129,27 +86,13 @@ faulted named status out out_after err mid err_after is (inl whole) =
 faulted named status out out_after err mid err_after is (inr part) =
     inr (subst (λ s. GainsFront mid.taken err_after.taken (status_text named s)) is part.0, part.1.1 is)
 
--- the text is the certificate that is given, which the checker accepts; or it tells the number of the goal that has none
-abbrev pub IsGiven : Program → Result (List ℕ) ℕ → List ℕ → Type 0
-IsGiven program given text =
-    ((given ≡ Ok text) × (judged program text ≡ Ok true))
-    ⊎ ((goal : ℕ) × (given ≡ Err goal) × (text ≡ uncertified_text goal))
-
+-- a certificate that is given
 is_given : (program : Program) (given : Result (List ℕ) ℕ) (text : List ℕ) → IsGivenText program given text
     → IsGiven program given text
 is_given program (Ok certificate) text is = inl (ap Ok (sym is.0), is.1)
 is_given program (Err goal) text is = inr (goal, refl, is)
 
--- `out` gained what certifying the schedule gives that is found, or the line of what keeps the order
-abbrev pub GainsCertificate : ℕ → Option (List ℕ) → Option (List ℕ) → Option (List ℕ) → Type 0
-GainsCertificate budget left old new =
-    (input : List ℕ) × (kernel : Spelled input) × (text : List ℕ) × IsAllOf left input
-    × (((blocks : List Block) × IsSearched budget (model_of kernel.program) blocks
-    × IsGiven kernel.program (certificate_of (model_of kernel.program) blocks) text)
-    ⊎ ((why : KeptLine) × IsCauseOf budget (model_of kernel.program) why × (text ≡ kept_text why)))
-    × Appends old new text
-
--- so it did
+-- what `certify` prints
 pub certificate_line : (budget : ℕ) (left old new : Option (List ℕ)) → PrintsCertificate budget left old new
     → GainsCertificate budget left old new
 certificate_line budget left old new (input, kernel, text, whole, inl (blocks, searched, given), gained) =

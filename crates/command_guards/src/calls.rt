@@ -5,17 +5,15 @@
 //! it is accepted (`judged`), and what the trees of a plan are (`ArePlanned`), of which it is written out alone which
 //! loops of a tiled plan are marked parallel.
 
-ghost use Rattle.std.specs.Prelude.{◌≡◌, ◌≢◌, ◌⊎◌, ◌<◌, ◌≤◌, ◌++◌, ℕ, ℤ, true, false, List, [], Option, Some, map};
-ghost use Rattle.std.specs.Prelude.{Err, Ok, codes, length, string_bytes};
+ghost use Rattle.std.specs.Prelude.{◌≡◌, ◌≢◌, ◌⊎◌, ◌<◌, ◌++◌, ℕ, ℤ, true, false, List, [], Option, map};
+ghost use Rattle.std.specs.Prelude.{Err, codes, length, string_bytes};
 ghost use Rattle.std.specs.Io.KnownBytes.{Appends};
 ghost use Rattle.io_ports.specs.Bytes.{GainsFront, IsAllOf};
-ghost use Rattle.io_ports.specs.Faults.{Rose};
 ghost use Rattle.io_ports.specs.Writes.{SinkShows};
 ghost use Rattle.scop_syntax.specs.Execution.{exec};
 ghost use Rattle.scop_syntax.specs.Limits.{HasParameters};
 ghost use Rattle.scop_syntax.specs.Members.{In};
 ghost use Rattle.scop_syntax.specs.Tree.{Program};
-ghost use Rattle.scop_syntax.specs.Walk.{walk_of};
 ghost use Rattle.scop_parser.specs.Spelling.{SpellsProgram};
 ghost use Rattle.data_lines.specs.declared.refusal.DataRefusal.{DataRefusal};
 ghost use Rattle.data_text.specs.ArrayText.{array_text};
@@ -42,22 +40,19 @@ ghost use Rattle.kernel_gen.specs.Totals.{cells_in, sum_of};
 ghost use Rattle.report_text.specs.DepsText.{deps_text};
 ghost use Rattle.report_text.specs.KeptText.{kept_text};
 ghost use Rattle.report_text.specs.ScheduleText.{schedule_text};
-ghost use Rattle.report_text.specs.StatusText.{status_text};
-ghost use Rattle.report_text.specs.TilesText.{tiles_text};
-ghost use Rattle.report_text.specs.UncertifiedText.{uncertified_text};
 ghost use Rattle.report_text.specs.declared.kept_line.KeptLine.{KeptLine};
 ghost use Rattle.report_text.specs.declared.status.Status.TheVariants.{BadData, Done, Rejected, Usage, WriteFault};
 ghost use Rattle.polypar.specs.Planned.{ArePlanned};
 ghost use Rattle.polypar.specs.Planning.{IsCauseOf, IsSearched};
-ghost use Rattle.command_line.specs.Command.{IsDepsCommand, IsEmitCommand, IsGenCommand, IsRunCommand, is_by_tiles};
+ghost use Rattle.command_line.specs.Command.{IsDepsCommand, IsEmitCommand, IsGenCommand, IsRunCommand};
 ghost use Rattle.command_line.specs.Command.{IsCertifyCommand, IsCheckCommand, IsScheduleCommand};
 ghost use Rattle.command_line.specs.declared.command.GeneratedKernel.{GeneratedKernel};
 ghost use Rattle.command_line.specs.declared.command.RunOptions.{RunOptions};
+ghost use Rattle.command_guards.specs.Shown.{GainsCertificate, GainsFault, GainsReport, TellsData};
 ghost use Rattle.polypar.specs.Case.{Accepted, Spelled};
 ghost use Rattle.polypar.specs.Cut.{data_part, kernel_part};
 ghost use Rattle.polypar.specs.Deserves.{Asks};
-ghost use Rattle.polypar.specs.Counting.{IsReleaseOf};
-ghost use Rattle.polypar.specs.Runs.{edges_line, left_by, release_line};
+ghost use Rattle.polypar.specs.Runs.{left_by};
 ghost use Rattle.polypar.specs.Told.{Told};
 
 use io_ports::{Sink, Source};
@@ -82,15 +77,7 @@ pub fn answered_call<S: Source, O: Sink, E: Sink>(
         (array_text accepted.program (exec accepted.program accepted.params accepted.contents)) }
     ensures report { (options : RunOptions) → IsRunCommand options (map string_bytes words.now)
         → options.report ≡ true → result ≡ Done
-        → (input : List ℕ) × (accepted : Accepted input) × (plan : Tiling) × (trees : Trees) × (front : List ℕ)
-        × (tiles : ℕ) × (waves : ℕ) × IsAllOf (S.shows source.old).left input
-        × ArePlanned options.tile options.budget true accepted.program plan front trees
-        × HasTiles plan (walked accepted.program accepted.params) tiles
-        × HasWaves plan (walked accepted.program accepted.params) waves
-        × (edges : Option ℕ)
-        × IsReleaseOf (is_by_tiles options.sync) plan (walk_of accepted.program accepted.params) edges
-        × Appends (E.shows err.old).taken (E.shows err.new).taken (release_line options.sync edges
-        ++ (front ++ (tiles_text tiles waves options.workers ++ edges_line edges))) }
+        → GainsReport options (S.shows source.old).left (E.shows err.old) (E.shows err.new) }
     ensures schedule { (budget : ℕ) → IsScheduleCommand budget (map string_bytes words.now) → result ≡ Done
         → (input : List ℕ) × (kernel : Spelled input) × (text : List ℕ) × IsAllOf (S.shows source.old).left input
         × (((blocks : List Block) × IsSearched budget (model_of kernel.program) blocks × (text ≡ schedule_text blocks))
@@ -127,13 +114,7 @@ pub fn answered_call<S: Source, O: Sink, E: Sink>(
         → IsGoodPlan kernel.program params (tiling_of size (length (model_of kernel.program).statements) plan))
         × Appends (O.shows out.old).taken (O.shows out.new).taken (codes "yes\n") }
     ensures certified { (budget : ℕ) → IsCertifyCommand budget (map string_bytes words.now) → result ≡ Done
-        → (input : List ℕ) × (kernel : Spelled input) × (text : List ℕ) × IsAllOf (S.shows source.old).left input
-        × (((blocks : List Block) × IsSearched budget (model_of kernel.program) blocks
-        × (((certificate_of (model_of kernel.program) blocks ≡ Ok text) × (judged kernel.program text ≡ Ok true))
-        ⊎ ((goal : ℕ) × (certificate_of (model_of kernel.program) blocks ≡ Err goal)
-        × (text ≡ uncertified_text goal))))
-        ⊎ ((why : KeptLine) × IsCauseOf budget (model_of kernel.program) why × (text ≡ kept_text why)))
-        × Appends (O.shows out.old).taken (O.shows out.new).taken text }
+        → GainsCertificate budget (S.shows source.old).left (O.shows out.old).taken (O.shows out.new).taken }
     ensures rejected { (kind : FaultKind) (line : ℕ) → result ≡ Rejected kind line
         → (input : List ℕ) × (program : Program) × IsAllOf (S.shows source.old).left input
         × SpellsProgram (kernel_part input) program
@@ -144,12 +125,7 @@ pub fn answered_call<S: Source, O: Sink, E: Sink>(
         × IsAllOf (S.shows source.old).left input × Asks (map string_bytes words.now) input told
         × GainsFront (O.shows out.old).taken (O.shows out.new).taken told.text }
     ensures line { (refusal : DataRefusal) → result ≡ BadData refusal
-        → (input : List ℕ) × (program : Program) × (mid : SinkShows) × IsAllOf (S.shows source.old).left input
-        × SpellsProgram (kernel_part input) program × Appends (E.shows err.old).taken mid.taken []
-        × ((E.shows err.old).faults ≤ mid.faults)
-        × (Appends mid.taken (E.shows err.new).taken (status_text (Some program) (BadData refusal))
-        ⊎ (GainsFront mid.taken (E.shows err.new).taken (status_text (Some program) (BadData refusal))
-        × Rose mid.faults (E.shows err.new).faults)) }
+        → TellsData (S.shows source.old).left refusal (E.shows err.old) (E.shows err.new) }
     ensures lines { result ≡ Done → (input : List ℕ) × (told : Told) × (mid : SinkShows)
         × IsAllOf (S.shows source.old).left input × Asks (map string_bytes words.now) input told
         × Appends (O.shows out.old).taken (O.shows out.new).taken told.text
@@ -159,9 +135,7 @@ pub fn answered_call<S: Source, O: Sink, E: Sink>(
         × (((lines ≡ told.lines) × GainsFront (O.shows out.old).taken (O.shows out.new).taken told.text)
         ⊎ (((rest : List ℕ) × (told.lines ≡ lines ++ rest)) × (O.shows out.new ≡ O.shows out.old)))
         × Appends (E.shows err.old).taken mid.taken lines
-        × (Appends mid.taken (E.shows err.new).taken (status_text named WriteFault)
-        ⊎ (GainsFront mid.taken (E.shows err.new).taken (status_text named WriteFault)
-        × (Rose (O.shows out.old).faults (O.shows out.new).faults ⊎ Rose (E.shows err.old).faults mid.faults))) }
+        × GainsFault named (O.shows out.old) (O.shows out.new) (E.shows err.old) mid (E.shows err.new) }
 {
     plain_command(alloc, words, source, out, err)
 }

@@ -14,3 +14,16 @@ pub mod CandidateQuasts
 pub mod CandidateRuns
 pub mod NodeNumbers
 pub mod TellableSources
+pub mod LeafForms
+pub mod LeafShapes
+pub mod LeafPoints
+pub mod LeafLoops
+pub mod LeafPlaces
+pub mod CoverEnds
+pub mod LeafFacts
+pub mod LeafPairs
+pub mod AccessSides
+pub mod HeldCovers
+pub mod CoverPoints
+pub mod QuastSigns
+pub mod CoverFacts

@@ -313,7 +313,7 @@ placed_slot program p number is =
     (λ (k : ℕ). slice_get (statements_of program) k ≡ Some p) (sym (number f.0 p f.1)) f.1 in
     get_map (modelled (length program.parameters)) (statements_of program) p.number p here
 
-visit_turns : (program : Program) (params : List ℤ) → Laws program params → (j : ℕ) (w : Visit)
+pub visit_turns : (program : Program) (params : List ℤ) → Laws program params → (j : ℕ) (w : Visit)
     → slice_get (walk_of program params) j ≡ Some w
     → length w.turns ≡ turns_in (slice_get (model_of program).statements w.number)
 visit_turns program params laws j w got =
@@ -324,7 +324,7 @@ visit_turns program params laws j w got =
     (e ∙ sym (ap turns_in s))
 
 -- a candidate that the run solves is solved
-candidate_solved : (way : Way) (program : Program) (params : List ℤ) (j : ℕ) (w : Visit) (access : ℕ) (c : Cell)
+pub candidate_solved : (way : Way) (program : Program) (params : List ℤ) (j : ℕ) (w : Visit) (access : ℕ) (c : Cell)
     (budget : ℕ) (dep : Dependence) (tree : Tree)
     → Laws program params → IsKernelModel (model_of program) → length params ≡ length program.parameters
     → All (λ x. (pos 0 ≤ℤ x) × (x ≤ℤ pos 65536)) params

@@ -1,9 +1,8 @@
--- Sources are what a text can tell: their quasts speak of the variables at their places, and name instances. What a run
--- over candidates keeps of all trees (`run_keeps`).
+-- Sources are what a text can tell: their quasts speak of the variables at their places, and name instances.
 use Rattle.std.proofs.Common.{◌≡◌, ℕ, zero, suc, ◌+◌, ◌^◌, ◌<◌, ◌≤◌, Bool, true, false, List, [], ◌∷◌, ◌++◌, length}
 use Rattle.std.proofs.Common.{All, ◌-◌}
 use Rattle.std.proofs.Common.{Option, Some, None, Result, Ok, Err, refl, sym, ap, subst, ◌∙◌, arith, inl, inr}
-use Rattle.std.specs.Prelude.{⊤, IfOk, nat_eq, nat_lt, if◌then◌else◌, slice_get}
+use Rattle.std.specs.Prelude.{⊤, IfOk, nat_eq, if◌then◌else◌, slice_get}
 use Rattle.std.proofs.lemmas.List.Elements.{All-head, All-tail}
 use Rattle.std.proofs.lemmas.List.{length-map}
 use Rattle.whole_numbers.specs.Affine.{Affine}
@@ -19,14 +18,14 @@ use Rattle.quast_trees.specs.Mapped.{composed_run, leaf_run, map_run}
 use Rattle.quast_trees.proofs.ListRuns.{each_run-map}
 use Rattle.quast_trees.specs.Postfix.{tree_of}
 use Rattle.quast_trees.proofs.NamedTrees.{named-speaks}
-use Rattle.quast_joins.specs.Counts.{join_count, HasForms}
-use Rattle.quast_joins.specs.Joins.{test_of, last_leaf, chain, meet, under, moved, join_from, join}
+use Rattle.quast_joins.specs.Counts.{HasForms}
+use Rattle.quast_joins.specs.Joins.{test_of, last_leaf, chain, meet, under, moved, join_from}
 use Rattle.quast_joins.specs.Limits.{node_limit}
 use Rattle.quast_joins.specs.Shifts.{shifted_leaf, widened}
 use Rattle.quast_joins.specs.Ways.{statement_of, loops_of, text}
 use Rattle.quast_joins.specs.declared.way.Way.{Way}
 use Rattle.quast_joins.specs.declared.way.Way.TheVariants.{Later, Earlier}
-use Rattle.quast_joins.proofs.Counts.{join-count, join-forms}
+use Rattle.quast_joins.proofs.Counts.{join-forms}
 use Rattle.quast_joins.proofs.Variables.{join-speaks}
 use Rattle.scop_syntax.specs.Members.{In}
 use Rattle.scop_syntax.specs.Statements.{Placed, loops_in, statements_of}
@@ -40,7 +39,6 @@ use Rattle.dataflow.specs.WriterRuns as writer
 use Rattle.dataflow.specs.WriterRuns.{Stopped, writers_run, solve_run, solve_between, turned_back, is_candidate}
 use Rattle.dataflow.specs.WriterRuns.{candidates_of, turns_in, read_variables}
 use Rattle.dataflow.specs.Problems.{top, all_below, posed_rows, posed_context}
-use Rattle.dataflow.specs.Runs.{Halt, nodes, then_join, sources_run}
 use Rattle.dataflow.specs.Sources.{writer_end, reader_end}
 use Rattle.dataflow.specs.Steps.{IsHeldSource}
 use Rattle.dataflow.specs.Told.{IsInstance, NamesInstances, IsToldStop, IsToldOver, IsToldAt, AreTold}
@@ -48,6 +46,7 @@ use Rattle.dataflow.specs.declared.source.ReadSource.{ReadSource}
 use Rattle.dataflow.specs.declared.source.ReadSource.TheVariants as source
 use Rattle.dataflow.specs.declared.source.SourceStop.TheVariants as stop
 use Rattle.dataflow.proofs.CandidateRuns.{reader_is, variables_are}
+use Rattle.dataflow.proofs.JoinedRuns.{run_keeps}
 use Rattle.dataflow.proofs.ResolvedWriters.{chosen_in, posed-speaks, context-speaks, solved_of, back_speaks}
 use Rattle.dataflow.proofs.ResolvedWriters.{length-all_below}
 
@@ -201,41 +200,6 @@ unfolding solve_run
 solved_over way model budget dep tree loops h =
     between_over way model budget dep (slice_get model.statements (writer_end way dep).statement)
     (slice_get model.statements (reader_end way dep).statement) tree loops refl h
-
--- a join that the run goes on from has few nodes
-few_nodes : {E : Type 0} (way : Way) (b : Bool) (a t : Tree) (n : ℕ) (rest : Result Tree (Halt E)) (u : Tree)
-    → nat_lt node_limit (join_count a t) ≡ b
-    → (if b then Err (nodes (join_count a t)) else rest) ≡ Ok u
-    → (count (join way n a t) ≤ node_limit) × (rest ≡ Ok u)
-few_nodes way true a t n rest u e h = absurd cc
-few_nodes way false a t n rest u e h =
-    let same = join-count way n a t in
-    let few : join_count a t ≤ node_limit = grind arith in
-    (omega (arith, same, few), h)
-
--- what joins keep, of all candidates' trees and the first, the run's tree has
-pub run_keeps : {C E : Type 0} (way : Way) (P : Tree → Type 0) (n : ℕ) (solve : C → Result Tree E)
-    → ((a b : Tree) → P a → P b → P (join way n a b)) → (cs : List C) (acc u : Tree)
-    → ((c : C) (t : Tree) → In c cs → solve c ≡ Ok t → P t) → P acc → count acc ≤ node_limit
-    → sources_run way n solve acc cs ≡ Ok u → P u × (count u ≤ node_limit)
-run_keeps way P n solve joins [] acc u each first few h =
-    let e : acc ≡ u = cc in
-    subst (λ t. P t × (count t ≤ node_limit)) e (first, few)
-run_keeps {C} {E} way P n solve joins (c ∷ cs) acc u each first few h =
-    by_tree (solve c) refl h (λ t e small g.
-    run_keeps way P n solve joins cs (join way n acc t) u (λ d v i. each d v (inr i))
-    (joins acc t first (each c t (inl refl) e)) small g)
-  where
-    by_tree : (r : Result Tree E) → solve c ≡ r
-        → then_join way n acc r (λ t. sources_run way n solve t cs) ≡ Ok u
-        → ((t : Tree) → solve c ≡ Ok t → count (join way n acc t) ≤ node_limit
-        → sources_run way n solve (join way n acc t) cs ≡ Ok u → P u × (count u ≤ node_limit))
-        → P u × (count u ≤ node_limit)
-    by_tree (Err stopped) e g go_on = absurd cc
-    by_tree (Ok t) e g go_on =
-        let step = few_nodes way (nat_lt node_limit (join_count acc t)) acc t n
-        (sources_run way n solve (join way n acc t) cs) u refl g in
-        go_on t e step.0 step.1
 
 -- the quast of an access
 pub quast_over : (way : Way) (model : KernelModel) (budget statement access : ℕ) (u : Tree) → HaveLoops model

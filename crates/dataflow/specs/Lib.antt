@@ -9,6 +9,11 @@ pub mod WriterRuns
 pub mod Posed
 pub mod ReadSources
 pub mod Told
+pub mod LeafRows
+pub mod Leaves
+pub mod Covering
+pub mod CoverPoints
+pub mod LeafSteps
 pub mod Steps
 -- Passed on: what this crate's contracts are told in.
 pub use Rattle.conflict_deps.specs.Pairs

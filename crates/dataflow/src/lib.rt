@@ -7,14 +7,19 @@
 #![tactic(auto)]
 
 mod candidate;
+pub mod cover_laws;
+mod covers;
 mod ends;
 mod forms;
+mod leaf_deps;
+mod leaf_rows;
 mod numbers;
 mod problem;
 mod reads;
 mod source;
 pub mod source_laws;
 
+pub use covers::covering;
 pub use reads::{last_writes, next_writes};
 pub use source::{ReadSource, SourceStop};
 

@@ -1,23 +1,20 @@
 -- From what certifying answers to the text that is printed.
 use Rattle.std.proofs.Common.{◌≡◌, ◌∙◌, sym, subst, ap, refl, inl, inr, ℕ, true, List, Option, Result, Ok, Err}
 use Rattle.scop_syntax.specs.Tree.{Program}
-use Rattle.iteration_domains.specs.Dependence.{Dependence}
 use Rattle.iteration_domains.specs.Model.{KernelModel, model_of}
-use Rattle.conflict_deps.specs.Conflicts.{conflicts_of}
 use Rattle.pluto_search.specs.Schedule.{Scheduled, loops_in}
-use Rattle.pluto_search.specs.Searching.{Keeps, Searches}
-use Rattle.pluto_search.specs.declared.kept.Kept.{Kept}
-use Rattle.report_text.specs.declared.kept_line.KeptLine.{KeptLine}
-use Rattle.report_text.specs.KeptText.{kept_text}
-use Rattle.report_text.specs.UncertifiedText.{uncertified_text}
-use Rattle.plan_check.specs.Judged.{judged}
+use Rattle.plan_certificate.specs.KeptLine.{KeptLine}
+use Rattle.plan_certificate.specs.KeptText.{kept_text}
+use Rattle.plan_certificate.specs.UncertifiedText.{uncertified_text}
+use Rattle.plan_certificate.specs.Judged.{judged}
 use Rattle.plan_certificate.specs.Certificates.{Certifies, certificate_of}
 use Rattle.plan_certificate.specs.View.{uncertified_in}
 use Rattle.plan_certificate.specs.declared.stop.CertifyStop.{CertifyStop}
 use Rattle.plan_certificate.specs.declared.stop.CertifyStop.TheVariants as stop
-use Rattle.wide_math.specs.Gives.{IsTold}
+use Rattle.plan_certificate.specs.Gives.{IsTold}
 use Rattle.kernel_plans.specs.Certifying.{IsCertificateText, IsGivenText}
-use Rattle.kernel_plans.specs.Planning.{line_of_kept, IsCauseOf, IsLineText}
+use Rattle.kernel_plans.specs.Planning.{IsCauseOf, IsLineText}
+use Rattle.kernel_plans.specs.Found.{IsFound, IsKeptLine}
 use Rattle.kernel_plans.proofs.SearchLemmas.{OneSchedule, program_searched}
 use Rattle.kernel_plans.proofs.TextLemmas.{kept_cause}
 
@@ -42,28 +39,28 @@ goal_given program s told goal text same (given, certifies, is) line =
     (given, certifies, subst (λ g. IsGivenText program g text) (sym first) line)
 
 -- what certifying the schedule gives that is found
-pub schedule_certified : OneSchedule → (budget : ℕ) (program : Program) (model : KernelModel) (deps : List Dependence)
-    (s : Scheduled) (text : List ℕ) → model ≡ model_of program → deps ≡ conflicts_of model
-    → Searches model deps budget (Ok s) → IsGivenOf program s text → IsCertificateText budget program text
-schedule_certified one budget program model deps s text own conflicts found (given, certifies, told) =
-    let blocks = found.2.blocks in
+pub schedule_certified : OneSchedule → (budget : ℕ) (program : Program) (model : KernelModel) (s : Scheduled)
+    (text : List ℕ) → model ≡ model_of program → IsFound budget model s → IsGivenOf program s text
+    → IsCertificateText budget program text
+schedule_certified one budget program model s text own found (given, certifies, told) =
+    let is = found.searches in
+    let blocks = is.2.blocks in
     let same : certifies.blocks ≡ blocks =
-    one s.model.parameters (loops_in s.model) s.deps certifies.blocks blocks certifies.run found.2.run in
+    one s.model.parameters (loops_in s.model) s.deps certifies.blocks blocks certifies.run is.2.run in
     let given_is : given ≡ certificate_of (model_of program) blocks =
-    certifies.given_is ∙ (ap (λ m. certificate_of m certifies.blocks) (found.0 ∙ own)
+    certifies.given_is ∙ (ap (λ m. certificate_of m certifies.blocks) (is.0 ∙ own)
     ∙ ap (certificate_of (model_of program)) same) in
     inl (
       blocks,
-      program_searched budget program model deps s own conflicts found,
+      program_searched budget program model s own found,
       subst (λ g. IsGivenText program g text) given_is told,
     )
 
 -- the line of what keeps the order
-pub kept_certified : (budget : ℕ) (program : Program) (model : KernelModel) (deps : List Dependence) (cause : Kept)
-    (line : Option KeptLine) (text : List ℕ) → model ≡ model_of program → deps ≡ conflicts_of model
-    → Keeps model.parameters (loops_in model) deps budget cause → line ≡ line_of_kept cause → IsLineText line text
+pub kept_certified : (budget : ℕ) (program : Program) (model : KernelModel) (line : Option KeptLine) (text : List ℕ)
+    → model ≡ model_of program → IsKeptLine budget model line → IsLineText line text
     → IsCertificateText budget program text
-kept_certified budget program model deps cause line text own conflicts keeps same told =
+kept_certified budget program model line text own kept is =
     inr
     (subst (λ m. (told : KeptLine) × IsCauseOf budget m told × (text ≡ kept_text told)) own
-    (kept_cause budget model deps cause line text conflicts keeps same told))
+    (kept_cause budget model line text kept is))

@@ -1,5 +1,5 @@
 pub mod CertificateLemmas
-pub mod ConflictLemmas
+pub mod CoverLemmas
 pub mod PlanLemmas
 pub mod SearchLemmas
 pub mod TextLemmas

@@ -1,20 +1,16 @@
 -- From the parts of a plan to what is promised of it.
-use Rattle.std.proofs.Common.{◌≡◌, ◌∙◌, sym, subst, ap, inl, inr, ℕ, ◌≤◌, ℤ, Bool, List, Option, Ok, length}
+use Rattle.std.proofs.Common.{◌≡◌, ◌∙◌, sym, subst, ap, inl, inr, ℕ, ◌≤◌, ℤ, Bool, List, Option, length}
 use Rattle.std.specs.Prelude.{All, FitsSigned}
 use Rattle.std.specs.Int.{w64}
 use Rattle.whole_numbers.specs.Affine.{value_of}
-use Rattle.scop_syntax.specs.Kernel.{IsKernel}
 use Rattle.scop_syntax.specs.Limits.{HasParameters}
 use Rattle.scop_syntax.specs.Members.{In}
 use Rattle.scop_syntax.specs.Tree.{Program}
 use Rattle.scop_syntax.specs.Walk.{Instance}
-use Rattle.iteration_domains.specs.Dependence.{Dependence}
-use Rattle.iteration_domains.specs.Held.{HoldCovers}
 use Rattle.iteration_domains.specs.Model.{KernelModel, model_of}
-use Rattle.conflict_deps.specs.Conflicts.{conflicts_of}
 use Rattle.fm_projection.specs.declared.stop.FmStop.{FmStop}
 use Rattle.pluto_search.specs.Stuck.TheVariants as stuck
-use Rattle.pluto_search.specs.Schedule.{Scheduled, IsScheduled, loops_in}
+use Rattle.pluto_search.specs.Schedule.{Scheduled, IsScheduled}
 use Rattle.loop_tree.specs.Tiling.{Tiling, kept, items_at}
 use Rattle.loop_tree.specs.TilingView.{tiling_of as tiling_in}
 use Rattle.loop_tree.specs.Tree.{Trees}
@@ -23,14 +19,11 @@ use Rattle.loop_tree.specs.Walk.{visits}
 use Rattle.tile_list.specs.Tiles.{CanTile}
 use Rattle.plan_tree.specs.Tilings.{schedule_tiling, statements_from}
 use Rattle.plan_tree.specs.Trees.{AreTreesOf, IsScheduleFor, StopsTiled, tiling_of}
-use Rattle.pluto_search.specs.Next.{IsSizedDep}
-use Rattle.pluto_search.specs.Searching.{Keeps, Searches}
-use Rattle.pluto_search.specs.Steps.{AreBetween}
-use Rattle.pluto_search.specs.declared.kept.Kept.{Kept}
-use Rattle.report_text.specs.declared.kept_line.KeptLine.{KeptLine}
+use Rattle.plan_certificate.specs.KeptLine.{KeptLine}
 use Rattle.kernel_plans.specs.declared.plans.Planned.{Planned}
 use Rattle.kernel_plans.specs.Planned.{IsCauseOfKept, IsPlanned}
-use Rattle.kernel_plans.specs.Planning.{IsSearched, line_of, line_of_kept}
+use Rattle.kernel_plans.specs.Planning.{IsCauseOf, IsSearched, line_of}
+use Rattle.kernel_plans.specs.Found.{IsKeptLine}
 use Rattle.kernel_plans.specs.steps.Plans.{IsKeptPlan, IsTiledPlan}
 
 -- at what the trees of a schedule's tiles visit, the values of the rows of the first band have 64 bits
@@ -106,32 +99,10 @@ stopped_is_planned tile budget report program s run stop line p own found stops 
       sym same ∙ made.told.1,
     ))
 
--- a search over dependences that hold the covers of a program finds a schedule for it
-pub found_for : (program : Program) (model : KernelModel) (budget : ℕ) (deps : List Dependence) (s : Scheduled)
-    → IsKernel program → model ≡ model_of program → AreBetween model.parameters (loops_in model) deps
-    → ((params : List ℤ) → HasParameters program params → HoldCovers program params deps)
-    → Searches model deps budget (Ok s) → IsScheduleFor program s
-found_for program model budget deps s kernel own between held found =
-    let sized : (d : Dependence) → In d deps → IsSizedDep (loops_in model) d =
-    λ d i.
-    let b = (between d i).0 in
-    record { source = b.source; target = b.target; source_turns = b.source_loops; target_turns = b.target_loops } in
-    record {
-      kernel = kernel;
-      model = found.0 ∙ own;
-      sized = subst (λ (m : KernelModel). (d : Dependence) → In d s.deps → IsSizedDep (loops_in m) d) (sym found.0)
-          (subst (λ (ds : List Dependence). (d : Dependence) → In d ds → IsSizedDep (loops_in model) d) (sym found.1)
-          sized);
-      covers = λ params has. subst (HoldCovers program params) (sym found.1) (held params has);
-    }
-
 -- where the search stops
 pub unscheduled_is_planned : (tile budget : ℕ) (report : Bool) (program : Program) (model : KernelModel)
-    (deps : List Dependence) (cause : Kept) (line : Option KeptLine) (p : Planned) → model ≡ model_of program
-    → deps ≡ conflicts_of model → Keeps model.parameters (loops_in model) deps budget cause
-    → line ≡ line_of_kept cause → IsKeptPlan program line p → IsPlanned tile budget report program p
-unscheduled_is_planned tile budget report program model deps cause line p own conflicts keeps same made =
-    let over_conflicts = subst (λ ds. Keeps model.parameters (loops_in model) ds budget cause) conflicts keeps in
-    let over_program =
-    subst (λ m. Keeps m.parameters (loops_in m) (conflicts_of m) budget cause) own over_conflicts in
-    kept_is_planned tile budget report program line p made (inl (cause, over_program, sym same ∙ made.told.1))
+    (line : Option KeptLine) (p : Planned) → model ≡ model_of program → IsKeptLine budget model line
+    → IsKeptPlan program line p → IsPlanned tile budget report program p
+unscheduled_is_planned tile budget report program model line p own cause made =
+    kept_is_planned tile budget report program line p made
+    (inl (subst (λ m. IsCauseOf budget m made.told.0) own (cause made.told.0 made.told.1)))

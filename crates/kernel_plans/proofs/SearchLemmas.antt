@@ -1,40 +1,88 @@
--- What a search over a model's conflicts finds, and the text of its schedule.
-use Rattle.std.proofs.Common.{◌≡◌, subst, ℕ, List, Ok}
-use Rattle.iteration_domains.specs.Dependence.{Dependence}
-use Rattle.iteration_domains.specs.Model.{KernelModel, model_of}
-use Rattle.conflict_deps.specs.Conflicts.{conflicts_of}
-use Rattle.pluto_search.specs.Items.{Block}
-use Rattle.pluto_search.specs.Outcomes.{ends, IsSchedule}
-use Rattle.pluto_search.specs.Schedule.{Scheduled, IsScheduled, loops_in}
-use Rattle.pluto_search.specs.Questions.{ComesAnswered}
-use Rattle.pluto_search.specs.Searching.{Searches}
-use Rattle.report_text.specs.ScheduleText.{schedule_text, IsTextOf}
+-- What a search over a model's covers comes to: a schedule for each program of the model, with its text, or a cause that
+-- keeps the order.
+use Rattle.std.proofs.Common.{◌≡◌, ◌∙◌, sym, subst, ℕ, ℤ, List, Option, Ok}
+use Rattle.scop_syntax.specs.Kernel.{IsKernel}
+use Rattle.scop_syntax.specs.Limits.{HasParameters}
+use Rattle.scop_syntax.specs.Members.{In}
 use Rattle.scop_syntax.specs.Tree.{Program}
-use Rattle.kernel_plans.specs.Planning.{IsSearched}
+use Rattle.iteration_domains.specs.Dependence.{Dependence}
+use Rattle.iteration_domains.specs.Held.{HoldCovers}
+use Rattle.iteration_domains.specs.Model.{KernelModel, model_of}
+use Rattle.dataflow.specs.Covering.{LiesBetween, covers_of}
+use Rattle.pluto_search.specs.Items.{Block}
+use Rattle.pluto_search.specs.Next.{IsSizedDep}
+use Rattle.pluto_search.specs.Outcomes.{IsSchedule}
+use Rattle.pluto_search.specs.Schedule.{Scheduled, IsScheduled, loops_in}
+use Rattle.pluto_search.specs.Searching.{Keeps, Searches}
+use Rattle.pluto_search.specs.Steps.{AreBetween}
+use Rattle.pluto_search.specs.declared.kept.Kept.{Kept}
+use Rattle.plan_certificate.specs.KeptLine.{KeptLine}
+use Rattle.plan_certificate.specs.ScheduleText.{schedule_text, IsTextOf}
+use Rattle.plan_tree.specs.Trees.{IsScheduleFor}
+use Rattle.kernel_plans.specs.Planning.{line_of_kept, IsSearched}
+use Rattle.kernel_plans.specs.Found.{IsFound, IsKeptLine}
+use Rattle.kernel_plans.proofs.CoverLemmas.{are_between}
 
 -- dependences have one schedule
 abbrev pub OneSchedule : Type 0
 OneSchedule = (m : ℕ) (loops : List ℕ) (deps : List Dependence) (blocks others : List Block)
     → IsSchedule m loops deps blocks → IsSchedule m loops deps others → blocks ≡ others
 
--- what a search over the model's conflicts finds
-pub searched : (budget : ℕ) (model : KernelModel) (deps : List Dependence) (s : Scheduled) → deps ≡ conflicts_of model
-    → (found : Searches model deps budget (Ok s)) → IsSearched budget model found.2.blocks
-searched budget model deps s conflicts found =
-    let Run : KernelModel → List Dependence → Type 0 =
-    λ m ds. IsSchedule m.parameters (loops_in m) ds found.2.blocks in
-    let Comes : List Dependence → Type 0 =
-    λ ds. ComesAnswered model.parameters (loops_in model) budget ds (ends found.2.blocks) in
-    let over_model = subst (λ m. Run m s.deps) found.0 found.2.run in
-    let over_deps = subst (λ ds. Run model ds) found.1 over_model in
-    (subst (λ ds. Run model ds) conflicts over_deps, subst Comes conflicts found.3)
+-- a search over dependences that hold the covers of a program finds a schedule for it
+found_for : (program : Program) (model : KernelModel) (budget : ℕ) (deps : List Dependence) (s : Scheduled)
+    → IsKernel program → model ≡ model_of program → AreBetween model.parameters (loops_in model) deps
+    → ((params : List ℤ) → HasParameters program params → HoldCovers program params deps)
+    → Searches model deps budget (Ok s) → IsScheduleFor program s
+found_for program model budget deps s kernel own between held found =
+    let sized : (d : Dependence) → In d deps → IsSizedDep (loops_in model) d =
+    λ d i.
+    let b = (between d i).0 in
+    record { source = b.source; target = b.target; source_turns = b.source_loops; target_turns = b.target_loops } in
+    record {
+      kernel = kernel;
+      model = found.0 ∙ own;
+      sized = subst (λ (m : KernelModel). (d : Dependence) → In d s.deps → IsSizedDep (loops_in m) d) (sym found.0)
+          (subst (λ (ds : List Dependence). (d : Dependence) → In d ds → IsSizedDep (loops_in model) d) (sym found.1)
+          sized);
+      covers = λ params has. subst (HoldCovers program params) (sym found.1) (held params has);
+    }
 
--- what a search for a program's model finds
-pub program_searched : (budget : ℕ) (program : Program) (model : KernelModel) (deps : List Dependence) (s : Scheduled)
-    → model ≡ model_of program → deps ≡ conflicts_of model → (found : Searches model deps budget (Ok s))
-    → IsSearched budget (model_of program) found.2.blocks
-program_searched budget program model deps s own conflicts found =
-    subst (λ m. IsSearched budget m found.2.blocks) own (searched budget model deps s conflicts found)
+-- so over a model's covers
+pub found_of : (budget : ℕ) (model : KernelModel) (s : Scheduled)
+    → ((d : Dependence) → In d (covers_of budget model) → LiesBetween model d)
+    → ((program : Program) (params : List ℤ) → HasParameters program params
+    → HoldCovers program params (covers_of budget (model_of program)))
+    → Searches model (covers_of budget model) budget (Ok s) → IsFound budget model s
+found_of budget model s lie held found = record {
+  searches = found;
+  own = λ program kernel own.
+      found_for program model budget (covers_of budget model) s kernel own
+      (are_between model (covers_of budget model) lie)
+      (λ params has. subst (λ (m : KernelModel). HoldCovers program params (covers_of budget m)) (sym own)
+      (held program params has)) found;
+}
+
+-- the line of what keeps the order tells a cause that holds
+pub kept_of : (budget : ℕ) (model : KernelModel) (cause : Kept) (line : Option KeptLine)
+    → Keeps model.parameters (loops_in model) (covers_of budget model) budget cause → line ≡ line_of_kept cause
+    → IsKeptLine budget model line
+kept_of budget model cause line keeps same = λ told is. (cause, keeps, sym same ∙ is)
+
+-- what is found is searched
+pub searched : (budget : ℕ) (model : KernelModel) (s : Scheduled) (found : IsFound budget model s)
+    → IsSearched budget model found.searches.2.blocks
+searched budget model s found =
+    let is = found.searches in
+    let Run : KernelModel → List Dependence → Type 0 =
+    λ m ds. IsSchedule m.parameters (loops_in m) ds is.2.blocks in
+    (subst (λ ds. Run model ds) is.1 (subst (λ m. Run m s.deps) is.0 is.2.run), is.3)
+
+-- so for a program of the model
+pub program_searched : (budget : ℕ) (program : Program) (model : KernelModel) (s : Scheduled)
+    → model ≡ model_of program → (found : IsFound budget model s)
+    → IsSearched budget (model_of program) found.searches.2.blocks
+program_searched budget program model s own found =
+    subst (λ m. IsSearched budget m found.searches.2.blocks) own (searched budget model s found)
 
 -- the text of a schedule is that of its blocks
 pub text_of_blocks : OneSchedule → (s : Scheduled) (is : IsScheduled s) (text : List ℕ) → IsTextOf s text

@@ -4,10 +4,10 @@ use Rattle.std.specs.Prelude.{◌≡◌, ◌⊎◌, ℕ, true, List, Result, Ok,
 use Rattle.scop_syntax.specs.Tree.{Program}
 use Rattle.iteration_domains.specs.Model.{model_of}
 use Rattle.pluto_search.specs.Items.{Block}
-use Rattle.report_text.specs.declared.kept_line.KeptLine.{KeptLine}
-use Rattle.report_text.specs.KeptText.{kept_text}
-use Rattle.report_text.specs.UncertifiedText.{uncertified_text}
-use Rattle.plan_check.specs.Judged.{judged}
+use Rattle.plan_certificate.specs.KeptLine.{KeptLine}
+use Rattle.plan_certificate.specs.KeptText.{kept_text}
+use Rattle.plan_certificate.specs.UncertifiedText.{uncertified_text}
+use Rattle.plan_certificate.specs.Judged.{judged}
 use Rattle.plan_certificate.specs.Certificates.{certificate_of}
 use Rattle.kernel_plans.specs.Planning.{IsSearched, IsCauseOf}
 

@@ -14,9 +14,9 @@ use Rattle.loop_tree.specs.View.{trees_in}
 use Rattle.loop_tree.specs.Walk.{visits}
 use Rattle.plan_tree.specs.Trees.{AreTreesOf, StopsTiled, tiling_of}
 use Rattle.tile_list.specs.Tiles.{CanTile}
-use Rattle.report_text.specs.declared.kept_line.KeptLine.{KeptLine}
-use Rattle.report_text.specs.KeptText.{kept_text}
-use Rattle.report_text.specs.ScheduleText.{schedule_text}
+use Rattle.plan_certificate.specs.KeptLine.{KeptLine}
+use Rattle.plan_certificate.specs.KeptText.{kept_text}
+use Rattle.plan_certificate.specs.ScheduleText.{schedule_text}
 use Rattle.kernel_plans.specs.declared.plans.Planned.{Planned}
 use Rattle.kernel_plans.specs.Planning.{IsCauseOf, IsSearched, line_of}
 

@@ -2,7 +2,7 @@
 use Rattle.std.specs.Prelude.{◌≡◌, ◌⊎◌, ℕ, List, Option, Some, None}
 use Rattle.scop_syntax.specs.Tree.{Program}
 use Rattle.iteration_domains.specs.Model.{KernelModel, model_of}
-use Rattle.conflict_deps.specs.Conflicts.{conflicts_of}
+use Rattle.dataflow.specs.Covering.{covers_of}
 use Rattle.fm_projection.specs.declared.FmStop.TheVariants as elimination
 use Rattle.pluto_search.specs.Stop.TheVariants as solver
 use Rattle.pluto_search.specs.Stuck.{Stuck}
@@ -14,10 +14,10 @@ use Rattle.pluto_search.specs.Questions.{ComesAnswered}
 use Rattle.pluto_search.specs.Searching.{Keeps}
 use Rattle.pluto_search.specs.declared.kept.Kept.{Kept}
 use Rattle.pluto_search.specs.declared.kept.Kept.TheVariants as kept
-use Rattle.report_text.specs.declared.kept_line.KeptLine.{KeptLine}
-use Rattle.report_text.specs.declared.kept_line.KeptLine.TheVariants as line
-use Rattle.report_text.specs.KeptText.{kept_text}
-use Rattle.report_text.specs.ScheduleText.{schedule_text}
+use Rattle.plan_certificate.specs.KeptLine.{KeptLine}
+use Rattle.plan_certificate.specs.KeptLine.TheVariants as line
+use Rattle.plan_certificate.specs.KeptText.{kept_text}
+use Rattle.plan_certificate.specs.ScheduleText.{schedule_text}
 
 -- the line of a question or an elimination that stops; none for want of memory
 abbrev pub line_of : Stuck → Option KeptLine
@@ -42,21 +42,21 @@ line_of_kept (kept.Large row) = Some line.Large
 abbrev pub IsLineText : Option KeptLine → List ℕ → Type 0
 IsLineText told text = (some : KeptLine) × (told ≡ Some some) × (text ≡ kept_text some)
 
--- the blocks are the schedule of the determined run over the model's conflicts
-abbrev pub IsScheduleOf : KernelModel → List Block → Type 0
-IsScheduleOf model blocks = IsSchedule model.parameters (loops_in model) (conflicts_of model) blocks
+-- the blocks are the schedule of the determined run over the covers of the model, as this budget tells them
+abbrev pub IsScheduleOf : ℕ → KernelModel → List Block → Type 0
+IsScheduleOf budget model blocks = IsSchedule model.parameters (loops_in model) (covers_of budget model) blocks
 
 -- it is what a search with this budget finds: all questions that the run poses are answered within it
 abbrev pub IsSearched : ℕ → KernelModel → List Block → Type 0
 IsSearched budget model blocks =
-    IsScheduleOf model blocks
-    × ComesAnswered model.parameters (loops_in model) budget (conflicts_of model) (ends blocks)
+    IsScheduleOf budget model blocks
+    × ComesAnswered model.parameters (loops_in model) budget (covers_of budget model) (ends blocks)
 
--- what a kept line tells holds: the determined run over the model's conflicts comes to that outcome, or a question that
+-- what a kept line tells holds: the determined run over the model's covers comes to that outcome, or a question that
 -- the search for it poses with this budget stops so
 abbrev pub IsCauseOf : ℕ → KernelModel → KeptLine → Type 0
 IsCauseOf budget model told =
-    (cause : Kept) × Keeps model.parameters (loops_in model) (conflicts_of model) budget cause
+    (cause : Kept) × Keeps model.parameters (loops_in model) (covers_of budget model) budget cause
     × (line_of_kept cause ≡ Some told)
 
 -- the text is that of the schedule that is found, or the kept line of a cause that holds

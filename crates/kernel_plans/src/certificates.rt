@@ -9,12 +9,11 @@ ghost use Rattle.iteration_domains.specs.Model.{model_of};
 ghost use Rattle.plan_certificate.specs.Certificates.{Certifies};
 ghost use Rattle.kernel_plans.specs.Certifying.{IsCertificateText, IsGivenText};
 
-use crate::dependences::dependences_of;
-use crate::lines::{line_of_kept, line_text};
+use crate::lines::line_text;
+use crate::schedules::{covers, schedule_of};
 use iteration_domains::Model;
-use plan_certificate::{CertifyStop, certify_plan};
-use pluto_search::{Schedule, dependences_have_one_schedule, search};
-use report_text::uncertified_text;
+use plan_certificate::{CertifyStop, certify_plan, uncertified_text};
+use pluto_search::{Schedule, dependences_have_one_schedule};
 use scop_syntax::tree::Kernel;
 use std::alloc::{AllocError, Global};
 
@@ -47,16 +46,12 @@ pub fn certificate_text(
     ensures { IfOk result (λ text. IsCertificateText budget (program_of kernel.now) text.items) }
 {
     dependences_have_one_schedule();
-    let deps = match dependences_of(alloc, model) {
+    let deps = match covers(alloc, model, budget) {
         Ok(deps) => deps,
         Err(_) => return Err(AllocError),
     };
-    match search(alloc, model, &deps, budget) {
+    match schedule_of(alloc, model, &deps, budget) {
         Ok(schedule) => given_text(alloc, &schedule),
-        Err(kept) => {
-            let line = line_of_kept(&kept);
-            drop(kept);
-            line_text(alloc, line)
-        }
+        Err(line) => line_text(alloc, line),
     }
 }

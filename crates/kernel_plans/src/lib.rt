@@ -6,17 +6,26 @@
 #![tactic(auto)]
 
 mod certificates;
-mod dependences;
 mod lines;
 mod planning;
 mod plans;
+mod schedules;
 mod text;
 
 pub use certificates::certificate_text;
-pub use dependences::dependences_of;
 pub use planning::planned;
 pub use plans::Planned;
+pub use schedules::{covers, schedule_of};
 pub use text::plan_text;
 
-// Passed on: what goes with this crate's contracts.
-pub use plan_tree::laws::{loops_end_as_the_source_does, trees_keep_conflicts_in_order};
+// Passed on: what goes with this crate's contracts, and lines and texts that commands tell.
+pub use dataflow::last_writes;
+pub use plan_certificate::{
+    DataRefusal, FaultKind, KeptLine, Outside, Refusal, RefusalKind, Status, deps_text, edges_text,
+    status_line, tiles_text, waves_edges_text,
+};
+pub use plan_tree::laws::{
+    loops_end_as_the_source_does, trees_keep_conflicts_in_order, trees_of_plans_can_be_walked,
+};
+pub use plan_tree::{hull_tree, tiled_tree};
+pub use pluto_search::{Kept, Schedule, Stuck};

@@ -4,8 +4,8 @@ ghost use Rattle.std.specs.Prelude.{◌≡◌, IfOk, None, Some};
 ghost use Rattle.kernel_plans.specs.Planning.{line_of, line_of_kept, IsLineText};
 
 use fm_projection::FmStop;
+use plan_certificate::{KeptLine, kept_text};
 use pluto_search::{Kept, Stop, Stuck};
-use report_text::{KeptLine, kept_text};
 use std::alloc::{AllocError, Global};
 
 /// The line of a question or an elimination that stops; none for want of memory.

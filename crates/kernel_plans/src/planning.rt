@@ -10,13 +10,13 @@ ghost use Rattle.plan_tree.specs.Trees.{IsScheduleFor};
 ghost use Rattle.kernel_plans.specs.Planned.{IsPlanned};
 ghost use Rattle.kernel_plans.specs.Planning.{IsSearched};
 
-use crate::dependences::dependences_of;
-use crate::lines::{line_of, line_of_kept};
+use crate::lines::line_of;
 use crate::plans::{Planned, kept_plan, tiled_plan};
+use crate::schedules::{covers, schedule_of};
 use iteration_domains::Model;
 use plan_tree::laws::rows_of_schedules_fit;
 use plan_tree::tiled_tree;
-use pluto_search::{Schedule, Stuck, search};
+use pluto_search::{Schedule, Stuck};
 use scop_syntax::tree::Kernel;
 use std::alloc::{AllocError, Global};
 
@@ -65,16 +65,12 @@ pub fn planned(
     requires tile { (1 ≤ tile) × (tile ≤ 1024) }
     ensures { IfOk result (IsPlanned tile budget report (program_of kernel.now)) }
 {
-    let deps = match dependences_of(alloc, model) {
+    let deps = match covers(alloc, model, budget) {
         Ok(deps) => deps,
         Err(_) => return Err(AllocError),
     };
-    match search(alloc, model, &deps, budget) {
+    match schedule_of(alloc, model, &deps, budget) {
         Ok(schedule) => schedule_plan(alloc, kernel, &schedule, tile, budget, report),
-        Err(kept) => {
-            let line = line_of_kept(&kept);
-            drop(kept);
-            kept_plan(alloc, kernel, line)
-        }
+        Err(line) => kept_plan(alloc, kernel, line),
     }
 }

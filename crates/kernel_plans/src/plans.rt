@@ -10,9 +10,9 @@ ghost use Rattle.kernel_plans.specs.steps.Plans.{IsKeptPlan, IsTiledPlan};
 
 use crate::lines::line_text;
 use loop_tree::{Tiling, Tree};
+use plan_certificate::{KeptLine, schedule_text};
 use plan_tree::{source_tree, tiling};
 use pluto_search::{Schedule, dependences_have_one_schedule};
-use report_text::{KeptLine, schedule_text};
 use scop_syntax::tree::Kernel;
 use std::alloc::{AllocError, Global};
 

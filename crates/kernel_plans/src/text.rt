@@ -1,13 +1,14 @@
 //! The text of a schedule, or the line that tells why the kernel's order is kept.
 
 ghost use Rattle.std.specs.Prelude.{IfOk};
-ghost use Rattle.kernel_plans.specs.Planning.{line_of_kept, IsPlanOf};
+ghost use Rattle.dataflow.specs.Posed.{IsOfKernel};
+ghost use Rattle.kernel_plans.specs.Planning.{IsPlanOf};
 
-use crate::dependences::dependences_of;
-use crate::lines::{line_of_kept, line_text};
+use crate::lines::line_text;
+use crate::schedules::{covers, schedule_of};
 use iteration_domains::Model;
-use pluto_search::{dependences_have_one_schedule, search};
-use report_text::schedule_text;
+use plan_certificate::schedule_text;
+use pluto_search::dependences_have_one_schedule;
 use std::alloc::{AllocError, Global};
 
 /// The text of a model's schedule, or the line that tells why the order is kept. Each question of the search may make
@@ -16,19 +17,16 @@ use std::alloc::{AllocError, Global};
 /// # Errors
 /// `AllocError` alone.
 pub fn plan_text(alloc: Global, model: &Model, budget: u64) -> Result<Vec<u8>, AllocError>
+    requires { IsOfKernel model.now }
     ensures { IfOk result (λ text. IsPlanOf budget model.now text.items) }
 {
     dependences_have_one_schedule();
-    let deps = match dependences_of(alloc, model) {
+    let deps = match covers(alloc, model, budget) {
         Ok(deps) => deps,
         Err(_) => return Err(AllocError),
     };
-    match search(alloc, model, &deps, budget) {
+    match schedule_of(alloc, model, &deps, budget) {
         Ok(schedule) => schedule_text(alloc, &schedule),
-        Err(kept) => {
-            let line = line_of_kept(&kept);
-            drop(kept);
-            line_text(alloc, line)
-        }
+        Err(line) => line_text(alloc, line),
     }
 }

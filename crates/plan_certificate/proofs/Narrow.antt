@@ -1,6 +1,6 @@
 -- What holds of each item holds of the rows and scalars of its blocks, and what holds of each goal of any.
 use Rattle.std.proofs.Common.{◌≡◌, ◌∙◌, sym, subst, ap, ℕ, ◌^◌, List, [], ◌∷◌, map, inl, inr, arith}
-use Rattle.std.proofs.Common.{Some, FitsSigned}
+use Rattle.std.proofs.Common.{FitsSigned}
 use Rattle.std.specs.Prelude.{All, ℤ, pos, ◌<ℤ◌, IfOk, Result, Ok, Err}
 use Rattle.std.specs.Int.{w128}
 use Rattle.std.proofs.lemmas.Int.{ints}
@@ -11,9 +11,7 @@ use Rattle.iteration_domains.specs.Dependence.{Dependence}
 use Rattle.schedule_rows.specs.Items.{Block, Marked, scalar, band, band_rows, rows_in}
 use Rattle.schedule_rows.specs.Schedule as plain
 use Rattle.schedule_rows.specs.Schedule.{Item, items_of}
-use Rattle.plan_check.specs.Derivations.{Step}
-use Rattle.plan_certificate.specs.Certificates.{derivation_of}
-use Rattle.plan_certificate.specs.steps.Narrow.{AreNarrow, AreNarrowNumbers, HasNarrow, IsNarrowItem, IsNarrowRow}
+use Rattle.plan_certificate.specs.steps.Narrow.{AreNarrowNumbers, HasNarrow, IsNarrowItem, IsNarrowRow}
 
 abbrev as_items : List Marked → List Item
 as_items ms = map (λ m. plain.row m.row) ms
@@ -69,13 +67,6 @@ pub goals_narrow : (ds : List Dependence) (d : Dependence) → All HasNarrow ds 
 goals_narrow [] d all is = absurd is
 goals_narrow (e ∷ ds) d all (inl same) = subst HasNarrow (sym same) (All-head HasNarrow e ds all)
 goals_narrow (e ∷ ds) d all (inr is) = goals_narrow ds d (All-tail HasNarrow e ds all) is
-
--- a goal with this derivation
-pub goal_narrow : (d : Dependence) (own : List Step) → derivation_of d ≡ Some own → AreNarrow own → HasNarrow d
-goal_narrow d own is narrow steps other = subst AreNarrow (some_is own steps (sym is ∙ other)) narrow
-  where
-    some_is : (xs ys : List Step) → Some xs ≡ Some ys → xs ≡ ys
-    some_is xs ys same = cc
 
 -- all numbers of a type are below its bound
 pub all_below : (zs : List ℤ) → All (FitsSigned w128) zs → All (λ z. z <ℤ pos (2 ^ 127)) zs

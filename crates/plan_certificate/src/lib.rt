@@ -22,3 +22,9 @@ pub use certifying::certify_plan;
 pub use derivation_laws::derivations_are_accepted;
 pub use determined::derivation;
 pub use stop::CertifyStop;
+
+// Passed on: lines and texts that commands tell.
+pub use report_text::{
+    DataRefusal, FaultKind, KeptLine, Outside, Refusal, RefusalKind, Status, deps_text, edges_text,
+    kept_text, schedule_text, status_line, tiles_text, uncertified_text, waves_edges_text,
+};

@@ -1,1 +1,2 @@
 pub mod NoSources
+pub mod OneAccess

@@ -3,6 +3,7 @@
 //! and no proof above cites it, the caller here no longer proves. Nothing is built on this crate.
 #![tactic(auto)]
 
+pub mod covers;
 pub mod loop_trees;
 pub mod pairs;
 pub mod plans;

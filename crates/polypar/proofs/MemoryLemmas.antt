@@ -3,10 +3,10 @@ use Rattle.std.proofs.Common.{◌≡◌, ◌⊎◌, sym, subst, ap, refl, ℕ, t
 use Rattle.io_ports.specs.Faults.{Rose, none_to_come}
 use Rattle.io_ports.specs.Writes.{IsWithin, HasRoom}
 use Rattle.io_ports.specs.Memory.{SourceState, source_shows, SinkState, sink_shows}
-use Rattle.report_text.specs.declared.status.Status.{Status}
-use Rattle.report_text.specs.declared.status.Status.TheVariants.{NoMemory}
+use Rattle.kernel_plans.specs.Status.{Status}
+use Rattle.kernel_plans.specs.Status.TheVariants.{NoMemory}
 use Rattle.polypar.specs.Deserves.{Deserves, Asks}
-use Rattle.report_text.specs.StatusText.{status_text}
+use Rattle.kernel_plans.specs.StatusText.{status_text}
 use Rattle.polypar.specs.Answered.{Answered, CountsStay}
 use Rattle.polypar.specs.InMemory.{NeverFail, Holds, HoldsText, HoldsLine}
 

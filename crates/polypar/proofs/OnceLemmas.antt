@@ -10,13 +10,13 @@ use Rattle.scop_syntax.specs.Failures.{first_outside}
 use Rattle.scop_meaning.specs.Outside.{outside_of}
 use Rattle.scop_parser.specs.Spelling.{SpellsProgram, IsFirstFault, IsRefusedAs}
 use Rattle.scop_parser.specs.declared.refusal.Refusal.{Refusal}
-use Rattle.scop_parser.specs.declared.refusal.RefusalKind.{RefusalKind}
+use Rattle.scop_parser.specs.RefusalKind.{Kind as RefusalKind}
 use Rattle.data_lines.specs.declared.refusal.DataRefusal.{DataRefusal}
 use Rattle.data_text.specs.Cases.{Says, data_said}
 use Rattle.plan_check.specs.Judged.{judged}
 use Rattle.plan_check.specs.Judged.{Rejected as Fault}
-use Rattle.report_text.specs.declared.status.Status.{Status}
-use Rattle.report_text.specs.declared.status.Status.TheVariants.{Outside, Refused, BadData, Rejected}
+use Rattle.kernel_plans.specs.Status.{Status}
+use Rattle.kernel_plans.specs.Status.TheVariants.{Outside, Refused, BadData, Rejected}
 use Rattle.polypar.specs.Cut.{kernel_part, data_part}
 use Rattle.command_line.specs.declared.command.Command.{Command}
 use Rattle.command_line.specs.declared.command.Command.TheVariants.{Run, OfKernel, Check, Gen}

@@ -11,9 +11,9 @@ use Rattle.c_printer.specs.Printable.{AreNodes}
 use Rattle.polypar.specs.declared.told.Told as code
 use Rattle.polypar.specs.Told.{Told, IsHeld, told_of}
 use Rattle.polypar.specs.Promises.{AnswersMade, AnswersTold}
-use Rattle.report_text.specs.declared.status.Status.{Status}
-use Rattle.report_text.specs.declared.status.Status.TheVariants.{Done, Usage, Refused, BadData, Outside, ReadFault}
-use Rattle.report_text.specs.declared.status.Status.TheVariants.{WriteFault, NoMemory, Rejected}
+use Rattle.kernel_plans.specs.Status.{Status}
+use Rattle.kernel_plans.specs.Status.TheVariants.{Done, Usage, Refused, BadData, Outside, ReadFault}
+use Rattle.kernel_plans.specs.Status.TheVariants.{WriteFault, NoMemory, Rejected}
 
 -- the code's lines and text lie in memory
 pub held : (t : code.Told) → IsHeld (told_of t)

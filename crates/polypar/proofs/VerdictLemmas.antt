@@ -11,14 +11,14 @@ use Rattle.scop_syntax.specs.Failures.{Failure, VisitsAreRanked, first_outside}
 use Rattle.scop_meaning.specs.Outside.{outside_of}
 use Rattle.scop_parser.specs.Spelling.{SpellsProgram, IsFirstFault, IsRefusedAs}
 use Rattle.scop_parser.specs.declared.refusal.Refusal.{Refusal}
-use Rattle.scop_parser.specs.declared.refusal.RefusalKind.{RefusalKind}
+use Rattle.scop_parser.specs.RefusalKind.{Kind as RefusalKind}
 use Rattle.data_lines.specs.declared.refusal.DataRefusal.{DataRefusal}
 use Rattle.data_lines.specs.Naming.{line_of}
 use Rattle.data_text.specs.Cases.{Said, Says, data_said}
 use Rattle.data_text.specs.Described.{Describes}
 use Rattle.plan_check.specs.Judged.{judged}
-use Rattle.report_text.specs.declared.status.Status.{Status}
-use Rattle.report_text.specs.declared.status.Status.TheVariants.{Done, Usage, Outside, Refused, BadData, Rejected}
+use Rattle.kernel_plans.specs.Status.{Status}
+use Rattle.kernel_plans.specs.Status.TheVariants.{Done, Usage, Outside, Refused, BadData, Rejected}
 use Rattle.clap.specs.Words.{fault_of, subcommand_of}
 use Rattle.clap.specs.Kinds.{Kinds}
 use Rattle.command_line.specs.declared.command.Command.{Command}

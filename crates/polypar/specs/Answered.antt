@@ -5,8 +5,8 @@ use Rattle.io_ports.specs.Faults.{Rose}
 use Rattle.io_ports.specs.Bytes.{IsAllOf, GainsFront}
 use Rattle.io_ports.specs.Reads.{SourceShows, IsSteady}
 use Rattle.io_ports.specs.Writes.{SinkShows, HasRoom}
-use Rattle.report_text.specs.declared.status.Status.{Status}
-use Rattle.report_text.specs.declared.status.Status.TheVariants.{Done, Usage, BadData, ReadFault, WriteFault, NoMemory}
+use Rattle.kernel_plans.specs.Status.{Status}
+use Rattle.kernel_plans.specs.Status.TheVariants.{Done, Usage, BadData, ReadFault, WriteFault, NoMemory}
 use Rattle.scop_syntax.specs.Tree.{Program}
 use Rattle.scop_parser.specs.Spelling.{SpellsProgram}
 use Rattle.polypar.specs.Case.{Accepted, asked_text, Spelled}
@@ -26,7 +26,7 @@ use Rattle.command_line.specs.Command.{IsRunCommand, IsScheduleCommand, IsDepsCo
 use Rattle.command_line.specs.Command.{IsCertifyCommand, IsCheckCommand}
 use Rattle.polypar.specs.Cut.{kernel_part, data_part}
 use Rattle.polypar.specs.Deserves.{Deserves, Asks, IsReadBy}
-use Rattle.report_text.specs.StatusText.{status_text}
+use Rattle.kernel_plans.specs.StatusText.{status_text}
 
 -- an accepted input was read, and exactly the text of the arrays that it asks for was printed; `err` has gained exactly
 -- the line of a kept order, if it is kept, and the report, where one is asked for
@@ -156,10 +156,11 @@ HasRoomForLine left status err = (named : Option Program) → NamesOf left statu
 pub record Answered (words : List (List ℕ)) (status : Status) (source source_after : SourceShows)
     (out out_after err err_after : SinkShows) : Type 0 where
   -- the headline: of `run` exactly the arrays of the kernel's own sequential execution are printed, for any number of
-  -- workers and any tiles, of `schedule` the schedule of the determined run over the kernel's conflicts, or why its
+  -- workers and any tiles, of `schedule` the schedule of the determined run over the kernel's covers, or why its
   -- order is kept, of `deps` for each read that is resolved its last write, of `emit` loops that visit each instance
-  -- once, conflicting ones in order, of `gen` what the generated kernel's own execution leaves; and the input was read
-  -- whole
+  -- once, conflicting ones in order, of `gen` what the generated kernel's own execution leaves, of `check` that the plan
+  -- is good for every size of tiles and all parameters, of `certify` the certificate of the schedule, which `check`
+  -- accepts, the number of the first goal that has none, or why the order is kept; and the input was read whole
   pub done : (options : RunOptions) → IsRunCommand options words → status ≡ Done
       → PrintsArrays options source.left out out_after err err_after
   pub scheduled : (budget : ℕ) → IsScheduleCommand budget words → status ≡ Done
@@ -170,10 +171,7 @@ pub record Answered (words : List (List ℕ)) (status : Status) (source source_a
       → PrintsLoops tile budget source.left out out_after err err_after
   pub generated : (kernel : GeneratedKernel) (options : RunOptions) → IsGenCommand kernel options words
       → status ≡ Done → PrintsSummary kernel options out out_after err err_after
-  -- of `check` that the certificate is accepted: then its plan is good for every size of tiles and all parameters
   pub checked : IsCheckCommand words → status ≡ Done → ChecksPlan source.left out.taken out_after.taken
-  -- of `certify` the certificate of the schedule, which `check` accepts, the number of the first goal that has none, or
-  -- why the order is kept
   pub certified : (budget : ℕ) → IsCertifyCommand budget words → status ≡ Done
       → PrintsCertificate budget source.left out.taken out_after.taken
   pub read_whole : status ≡ Done → IsReadBy (command_of words) source source_after

@@ -10,14 +10,14 @@ use Rattle.scop_syntax.specs.Failures.{Failure, first_outside}
 use Rattle.scop_meaning.specs.Outside.{outside_of}
 use Rattle.scop_parser.specs.Spelling.{SpellsProgram, IsRefusedAs}
 use Rattle.scop_parser.specs.declared.refusal.Refusal.{Refusal}
-use Rattle.scop_parser.specs.declared.refusal.RefusalKind.TheVariants.{TooLong}
+use Rattle.scop_parser.specs.RefusalKind.TheVariants.{TooLong}
 use Rattle.data_lines.specs.declared.refusal.DataRefusal.{DataRefusal}
 use Rattle.data_text.specs.Cases.{Says, data_said}
 use Rattle.plan_check.specs.Judged.{judged}
 use Rattle.plan_check.specs.Judged.{Rejected as Fault}
-use Rattle.report_text.specs.declared.status.Status.{Status}
-use Rattle.report_text.specs.declared.status.Status.TheVariants.{Done, Usage, Refused, BadData, Outside, ReadFault}
-use Rattle.report_text.specs.declared.status.Status.TheVariants.{WriteFault, NoMemory, Rejected}
+use Rattle.kernel_plans.specs.Status.{Status}
+use Rattle.kernel_plans.specs.Status.TheVariants.{Done, Usage, Refused, BadData, Outside, ReadFault}
+use Rattle.kernel_plans.specs.Status.TheVariants.{WriteFault, NoMemory, Rejected}
 use Rattle.command_line.specs.declared.command.Command.{Command}
 use Rattle.command_line.specs.declared.command.Command.TheVariants.{Run, OfKernel, Check, Gen}
 use Rattle.command_line.specs.Command.{IsTaken, command_of}

@@ -12,7 +12,7 @@ use Rattle.kernel_runs.specs.Counting.{IsReleaseOf}
 use Rattle.kernel_gen.specs.Cases.{contents, params, program}
 use Rattle.kernel_gen.specs.Summary.{summary_text}
 use Rattle.kernel_gen.specs.Totals.{cells_in, sum_of}
-use Rattle.report_text.specs.TilesText.{edges_text, tiles_text, waves_edges_text}
+use Rattle.kernel_plans.specs.TilesText.{edges_text, tiles_text, waves_edges_text}
 use Rattle.command_line.specs.declared.command.GeneratedKernel.{GeneratedKernel}
 use Rattle.command_line.specs.Command.{is_by_tiles}
 use Rattle.command_line.specs.declared.command.RunOptions.{RunOptions}

@@ -8,14 +8,14 @@ use Rattle.scop_syntax.specs.Tree.{Program}
 use Rattle.scop_syntax.specs.Walk.{Visit, walk_of}
 use Rattle.scop_syntax.specs.Writers.{last_writer}
 use Rattle.iteration_domains.specs.Model.{model_of}
-use Rattle.dataflow.specs.Pairs.{TouchesAt}
-use Rattle.dataflow.specs.ReadSources.{reads_of, AreSources, NameLastWriters}
-use Rattle.dataflow.specs.Places.{Names}
-use Rattle.dataflow.specs.Way.TheVariants.{Later}
-use Rattle.dataflow.specs.Told.{AreTold}
-use Rattle.dataflow.specs.declared.source.ReadSource.{ReadSource}
-use Rattle.dataflow.specs.declared.source.ReadSource.TheVariants as source
-use Rattle.report_text.specs.DepsText.{deps_text}
+use Rattle.kernel_plans.specs.Pairs.{TouchesAt}
+use Rattle.kernel_plans.specs.ReadSources.{reads_of, AreSources, NameLastWriters}
+use Rattle.kernel_plans.specs.Places.{Names}
+use Rattle.kernel_plans.specs.Way.TheVariants.{Later}
+use Rattle.kernel_plans.specs.Told.{AreTold}
+use Rattle.kernel_plans.specs.ReadSource.{ReadSource}
+use Rattle.kernel_plans.specs.ReadSource.TheVariants as source
+use Rattle.kernel_plans.specs.DepsText.{deps_text}
 
 -- the text is that of the sources of the program's reads, by statement and read: each is the end of the run over the
 -- read's candidates, each of which may make so many moves, where it is resolved it names the last writers, and it is

@@ -7,15 +7,14 @@ ghost use Rattle.scop_syntax.specs.Limits.{WithinLimits};
 ghost use Rattle.scop_syntax.specs.View.{program_of};
 ghost use Rattle.command_line.specs.Command.{AreSized, is_by_tiles};
 ghost use Rattle.kernel_plans.specs.Planned.{IsPlanned};
-ghost use Rattle.report_text.specs.TilesText.{tiles_text};
+ghost use Rattle.kernel_plans.specs.TilesText.{tiles_text};
 ghost use Rattle.polypar.specs.Runs.{IsPlanTold, edges_line, release_line};
 
 use command_line::{RunOptions, Sync};
 use data_text::Case;
 use iteration_domains::Model;
-use kernel_plans::{Planned, planned};
+use kernel_plans::{Planned, edges_text, planned, tiles_text, waves_edges_text};
 use kernel_runs::{Counts, Workers, run_case};
-use report_text::{edges_text, tiles_text, waves_edges_text};
 use scop_syntax::tree::Kernel;
 use std::alloc::{AllocError, Global};
 

@@ -15,8 +15,8 @@ use crate::told::Told;
 use command_line::{GeneratedKernel, RunOptions, Sync};
 use io_ports::Sink;
 use kernel_gen::{cells_in, generated, sum_of, summary};
+use kernel_plans::Status;
 use kernel_runs::Workers;
-use report_text::Status;
 use std::alloc::{AllocError, Global};
 
 /// Runs a generated kernel by waves: what that leaves to tell, without a report, how many cells its arrays have, and their sum.

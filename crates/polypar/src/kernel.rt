@@ -5,6 +5,7 @@ ghost use Rattle.io_ports.specs.Writes.{Writes};
 ghost use Rattle.scop_syntax.specs.Kernel.{IsKernel};
 ghost use Rattle.scop_syntax.specs.View.{program_of};
 ghost use Rattle.iteration_domains.specs.Model.{model_of};
+ghost use Rattle.kernel_plans.specs.Posed.{IsOfKernel};
 ghost use Rattle.kernel_plans.specs.Planning.{IsPlanOf};
 ghost use Rattle.polypar.specs.Told.{IsTextAlone, told_of};
 ghost use Rattle.polypar.specs.KernelText.{IsTextFor};
@@ -18,13 +19,13 @@ use crate::told::Told;
 use command_line::KernelCommand;
 use io_ports::{Failed, Sink, write_whole};
 use iteration_domains::Model;
-use kernel_plans::plan_text;
-use report_text::Status;
+use kernel_plans::{Status, plan_text};
 use scop_syntax::tree::Kernel;
 use std::alloc::{AllocError, Global};
 
 /// What `schedule` tells of a model: the text alone.
 fn plan_told(alloc: Global, model: &Model, budget: u64) -> Result<Told, AllocError>
+    requires { IsOfKernel model.now }
     ensures { IfOk result (λ told. IsTextAlone (IsPlanOf budget model.now) (told_of told)) }
 {
     let text = plan_text(alloc, model, budget)?;

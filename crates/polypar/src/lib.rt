@@ -2,7 +2,7 @@
 //!
 //! The clause of `plain_command` and `polypar` carries the whole claim: what `run` prints are exactly the arrays of the
 //! kernel's own sequential execution, for any number of workers, what `schedule` prints is the schedule of the
-//! determined run over the kernel's conflicts, or why its order is kept, what `deps` prints names for each read that is
+//! determined run over the kernel's covers, or why its order is kept, what `deps` prints names for each read that is
 //! resolved its last write, what `emit` prints are loops that visit each instance once, conflicting ones in order, what
 //! `gen` prints tells what a generated kernel's own execution leaves, what `certify` prints is the certificate of the
 //! schedule, the number of the first goal without one, or why the order is kept, where `check` prints `yes` the plan that
@@ -30,5 +30,11 @@ pub use laws::{
     printed_loops_run_the_kernel, printed_sources_tell_last_writes,
 };
 pub use plain::{command_by, deserved_once, plain_command, polypar};
-pub use report_text::{DataRefusal, FaultKind, Outside, Refusal, RefusalKind, Status};
 pub use run::LONGEST_INPUT;
+
+// Passed on: what goes with this crate's contracts.
+pub use kernel_plans::{
+    DataRefusal, FaultKind, Kept, Outside, Refusal, RefusalKind, Schedule, Status, Stuck, covers,
+    hull_tree, schedule_of, tiled_tree, trees_of_plans_can_be_walked,
+};
+pub use kernel_runs::{OneWorker, Workers};

@@ -8,9 +8,8 @@ ghost use Rattle.polypar.specs.Sources.{IsSourcesText};
 ghost use Rattle.polypar.specs.Told.{told_of, IsTextAlone};
 
 use crate::told::Told;
-use dataflow::last_writes;
 use iteration_domains::Model;
-use report_text::deps_text;
+use kernel_plans::{deps_text, last_writes};
 use scop_syntax::tree::Kernel;
 use std::alloc::{AllocError, Global};
 

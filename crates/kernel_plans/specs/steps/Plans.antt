@@ -9,7 +9,7 @@ use Rattle.loop_tree.specs.View.{trees_in}
 use Rattle.pluto_search.specs.Schedule.{Scheduled, IsScheduled}
 use Rattle.plan_tree.specs.Tilings.{schedule_tiling}
 use Rattle.plan_tree.specs.Trees.{AreTreesOf}
-use Rattle.report_text.specs.declared.kept_line.KeptLine.{KeptLine}
+use Rattle.plan_certificate.specs.KeptLine.{KeptLine}
 use Rattle.kernel_plans.specs.declared.plans.Planned.{Planned}
 use Rattle.kernel_plans.specs.Planned.{report_of}
 use Rattle.kernel_plans.specs.Planning.{IsLineText}

@@ -1,0 +1,76 @@
+-- What a call shows, with what its promise speaks of written out.
+use Rattle.std.specs.Prelude.{◌≡◌, ◌⊎◌, ℕ, ◌≤◌, true, List, [], ◌++◌, Option, Some, Result, Ok, Err}
+use Rattle.std.specs.Io.KnownBytes.{Appends}
+use Rattle.io_ports.specs.Bytes.{GainsFront, IsAllOf}
+use Rattle.io_ports.specs.Faults.{Rose}
+use Rattle.io_ports.specs.Writes.{SinkShows}
+use Rattle.scop_syntax.specs.Tree.{Program}
+use Rattle.scop_syntax.specs.Walk.{walk_of}
+use Rattle.scop_parser.specs.Spelling.{SpellsProgram}
+use Rattle.data_lines.specs.declared.refusal.DataRefusal.{DataRefusal}
+use Rattle.loop_tree.specs.Plans.{walked}
+use Rattle.loop_tree.specs.Tiling.{Tiling}
+use Rattle.loop_tree.specs.Tree.{Trees}
+use Rattle.tile_list.specs.Counting.{HasTiles, HasWaves}
+use Rattle.iteration_domains.specs.Model.{model_of}
+use Rattle.report_text.specs.Items.{Block}
+use Rattle.report_text.specs.KeptText.{kept_text}
+use Rattle.report_text.specs.UncertifiedText.{uncertified_text}
+use Rattle.report_text.specs.declared.kept_line.KeptLine.{KeptLine}
+use Rattle.report_text.specs.StatusText.{status_text}
+use Rattle.report_text.specs.TilesText.{tiles_text}
+use Rattle.report_text.specs.declared.status.Status.TheVariants.{BadData, WriteFault}
+use Rattle.plan_check.specs.Judged.{judged}
+use Rattle.plan_certificate.specs.Certificates.{certificate_of}
+use Rattle.command_line.specs.Command.{is_by_tiles}
+use Rattle.command_line.specs.declared.command.RunOptions.{RunOptions}
+use Rattle.polypar.specs.Planned.{ArePlanned}
+use Rattle.polypar.specs.Planning.{IsCauseOf, IsSearched}
+use Rattle.polypar.specs.Case.{Accepted, Spelled}
+use Rattle.polypar.specs.Counting.{IsReleaseOf}
+use Rattle.polypar.specs.Cut.{kernel_part}
+use Rattle.polypar.specs.Runs.{edges_line, release_line}
+
+-- `err` gained a report behind the lines of a plan
+abbrev pub GainsReport : RunOptions → Option (List ℕ) → SinkShows → SinkShows → Type 0
+GainsReport options left err err_after =
+    (input : List ℕ) × (accepted : Accepted input) × (plan : Tiling) × (trees : Trees) × (front : List ℕ)
+    × (tiles : ℕ) × (waves : ℕ) × IsAllOf left input
+    × ArePlanned options.tile options.budget true accepted.program plan front trees
+    × HasTiles plan (walked accepted.program accepted.params) tiles
+    × HasWaves plan (walked accepted.program accepted.params) waves
+    × (edges : Option ℕ) × IsReleaseOf (is_by_tiles options.sync) plan (walk_of accepted.program accepted.params) edges
+    × Appends err.taken err_after.taken (release_line options.sync edges
+    ++ (front ++ (tiles_text tiles waves options.workers ++ edges_line edges)))
+
+-- the line of data that is refused: an input was read, whose kernel spells a program, and `err`, which had gained
+-- nothing, gained the line with that program's names, or a front of it where its count of faults rose
+abbrev pub TellsData : Option (List ℕ) → DataRefusal → SinkShows → SinkShows → Type 0
+TellsData left refusal err err_after =
+    (input : List ℕ) × (program : Program) × (mid : SinkShows) × IsAllOf left input
+    × SpellsProgram (kernel_part input) program × Appends err.taken mid.taken [] × (err.faults ≤ mid.faults)
+    × (Appends mid.taken err_after.taken (status_text (Some program) (BadData refusal))
+    ⊎ (GainsFront mid.taken err_after.taken (status_text (Some program) (BadData refusal))
+    × Rose mid.faults err_after.faults))
+
+-- the status line of a command that is cut off, or a front of it, and then a count had risen before
+abbrev pub GainsFault : Option Program → SinkShows → SinkShows → SinkShows → SinkShows → SinkShows → Type 0
+GainsFault named out out_after err mid err_after =
+    Appends mid.taken err_after.taken (status_text named WriteFault)
+    ⊎ (GainsFront mid.taken err_after.taken (status_text named WriteFault)
+    × (Rose out.faults out_after.faults ⊎ Rose err.faults mid.faults))
+
+-- the text is the certificate that is given, which the checker accepts; or it tells the number of the goal that has none
+abbrev pub IsGiven : Program → Result (List ℕ) ℕ → List ℕ → Type 0
+IsGiven program given text =
+    ((given ≡ Ok text) × (judged program text ≡ Ok true))
+    ⊎ ((goal : ℕ) × (given ≡ Err goal) × (text ≡ uncertified_text goal))
+
+-- `out` gained what certifying the schedule gives that is found, or the line of what keeps the order
+abbrev pub GainsCertificate : ℕ → Option (List ℕ) → Option (List ℕ) → Option (List ℕ) → Type 0
+GainsCertificate budget left old new =
+    (input : List ℕ) × (kernel : Spelled input) × (text : List ℕ) × IsAllOf left input
+    × (((blocks : List Block) × IsSearched budget (model_of kernel.program) blocks
+    × IsGiven kernel.program (certificate_of (model_of kernel.program) blocks) text)
+    ⊎ ((why : KeptLine) × IsCauseOf budget (model_of kernel.program) why × (text ≡ kept_text why)))
+    × Appends old new text

@@ -1,0 +1,189 @@
+-- No quotient that an access's quast binds on the way of a walked instance is negative, and 128 bits hold the numbers by
+-- which its turns are told.
+use Rattle.std.proofs.Common.{◌≡◌, ℕ, ◌+◌, ◌^◌, ℤ, pos, ◌≤ℤ◌, ◌<ℤ◌, List, [], ◌∷◌, ◌++◌, length, All}
+use Rattle.std.proofs.Common.{Option, Some, None, Result, Ok, Err, sym, ap₂, subst, ◌∙◌, refl, arith}
+use Rattle.std.proofs.Common.{length-append}
+use Rattle.std.specs.Prelude.{slice_get}
+use Rattle.std.proofs.lemmas.Int.{ints}
+use Rattle.std.proofs.lemmas.List.Elements.{All-head, All-tail}
+use Rattle.whole_numbers.specs.Lists.{NotNegative}
+use Rattle.whole_numbers.proofs.Lists.{not_negative-append}
+use Rattle.wide_math.specs.declared.Wide.{Wide}
+use Rattle.tableau_rows.specs.Problem.{row_values}
+use Rattle.pip_solver.specs.Nodes.{Counted}
+use Rattle.pip_solver.proofs.BoundSigns.{lexmin-up}
+use Rattle.pip_solver.proofs.TurnNumbers.{lexmin-tells}
+use Rattle.quast_trees.specs.Source.{source_of}
+use Rattle.quast_trees.specs.Tree.{Tree, initial, named, Speaks}
+use Rattle.quast_trees.specs.Turns.{BindsUp, CanTell}
+use Rattle.quast_trees.proofs.MappedTurns.{mapped_keeps, named_tells, named_up}
+use Rattle.quast_joins.specs.Limits.{leaf_limit}
+use Rattle.quast_joins.specs.Sizes.{LeavesWithin}
+use Rattle.quast_joins.specs.declared.way.Way.{Way}
+use Rattle.quast_joins.specs.declared.way.Way.TheVariants.{Later, Earlier}
+use Rattle.quast_joins.proofs.JoinSigns.{join-up}
+use Rattle.quast_joins.proofs.JoinTurns.{join-tells}
+use Rattle.quast_joins.proofs.Sizes.{join_within}
+use Rattle.quast_joins.proofs.Variables.{join-speaks}
+use Rattle.scop_syntax.specs.Cells.{Cell}
+use Rattle.scop_syntax.specs.Members.{In}
+use Rattle.scop_syntax.specs.Tree.{Program}
+use Rattle.scop_syntax.specs.Walk.{Visit, walk_of}
+use Rattle.integer_sets.specs.Points.{Satisfies}
+use Rattle.iteration_domains.specs.Model.{Modelled, KernelModel, model_of}
+use Rattle.iteration_domains.specs.Sizes.{IsKernelModel}
+use Rattle.iteration_domains.specs.Dependence.{Dependence}
+use Rattle.conflict_deps.specs.Pairs.{TouchesAt}
+use Rattle.conflict_deps.proofs.Parts.{parts_of}
+use Rattle.dataflow.specs.Problems.{all_below, posed_context, posed_rows, top}
+use Rattle.dataflow.specs.Sources.{writer_end, reader_end, IsCandidate}
+use Rattle.dataflow.specs.WriterRuns.{candidates_of, fitting, solve_between, solve_run, sourced, turned_back}
+use Rattle.dataflow.specs.WriterRuns.{posed_run, read_variables, turned_tree, turns_in, writers_run}
+use Rattle.dataflow.proofs.AccessWriters.{Laws}
+use Rattle.dataflow.proofs.CandidateSolutions.{Reads, context_up, in_statements, reader_of, reader_slot, up_bounded}
+use Rattle.dataflow.proofs.CandidateSolutions.{writer_of, writer_slot}
+use Rattle.dataflow.proofs.Fits.{fitting_is, named_within}
+use Rattle.dataflow.proofs.JoinedRuns.{run_keeps}
+use Rattle.dataflow.proofs.ResolvedWriters.{candidate_of, candidate_solved, context-speaks, posed-speaks}
+use Rattle.dataflow.proofs.ResolvedWriters.{solved_of, visit_turns}
+
+-- a minimum turned back binds the same
+back_up : (way : Way) (d : ℕ) (least back : Tree) (point : List ℤ) → turned_back way d least ≡ Ok back
+    → BindsUp least point → BindsUp back point
+back_up Later d least back point h ups = (mapped_keeps (all_below top d 0 d) least back h).ups point ups
+back_up Earlier d least back point h ups = let same : least ≡ back = cc in subst (λ t. BindsUp t point) same ups
+
+back_tells : (way : Way) (d : ℕ) (least back : Tree) → turned_back way d least ≡ Ok back → CanTell least
+    → CanTell back
+back_tells Later d least back h tells = (mapped_keeps (all_below top d 0 d) least back h).tells tells
+back_tells Earlier d least back h tells = let same : least ≡ back = cc in subst CanTell same tells
+
+-- turns are not negative
+pub turns_up : (xs : List ℤ) → All (λ x. (pos 0 ≤ℤ x) × (x <ℤ pos (2 ^ 46))) xs → NotNegative xs
+turns_up [] all = tt
+turns_up (x ∷ xs) all = (
+  (All-head (λ (z : ℤ). (pos 0 ≤ℤ z) × (z <ℤ pos (2 ^ 46))) x xs all).0,
+  turns_up xs (All-tail (λ (z : ℤ). (pos 0 ≤ℤ z) × (z <ℤ pos (2 ^ 46))) x xs all),
+)
+
+-- a solved candidate binds no negative quotient on the way of a walked instance of the reader
+candidate_up : (way : Way) (program : Program) (params : List ℤ) (j : ℕ) (w : Visit) (access : ℕ) (c : Cell)
+    (budget : ℕ) (dep : Dependence) (tree : Tree)
+    → IsKernelModel (model_of program) → length params ≡ length program.parameters
+    → All (λ x. (pos 0 ≤ℤ x) × (x ≤ℤ pos 65536)) params
+    → ((k : ℕ) (u : Visit) → slice_get (walk_of program params) k ≡ Some u
+    → All (λ x. (pos 0 ≤ℤ x) × (x <ℤ pos (2 ^ 46))) u.turns)
+    → ((t : Modelled) → In t (model_of program).statements → w.number ≡ t.number
+    → (length w.turns ≡ t.domain.dimensions) × Satisfies t.domain (w.turns ++ params))
+    → TouchesAt program params j w access c → IsCandidate way program w access dep
+    → solve_run way (model_of program) budget dep ≡ Ok tree → BindsUp tree (params ++ w.turns)
+unfolding solve_run
+candidate_up way program params j w access c budget dep tree model_is count bounds small inside touches cand run =
+    let model = model_of program in
+    let m = length program.parameters in
+    let p = parts_of model dep model_is cand.among in
+    let s = (writer_of way p.from p.to).statement in
+    let t = (reader_of way p.from p.to).statement in
+    let d = s.domain.dimensions in
+    let n = m + t.domain.dimensions in
+    let point = params ++ w.turns in
+    let solved = solved_of way m budget dep s t tree
+    (sym (ap₂ (solve_between way m budget dep) (writer_slot way program dep p) (reader_slot way program dep p)) ∙ run) in
+    let slot : slice_get model.statements w.number ≡ Some t = subst
+    (λ (k : ℕ). slice_get model.statements k ≡ Some t) cand.access.statement (reader_slot way program dep p) in
+    let dims = inside t (in_statements way program dep p) (sym (model_is.places w.number t slot)) in
+    let up = up_bounded (pos 65536) params bounds in
+    let reads : Reads params w.turns t = record { size = dims.0; holds = dims.1; up = up } in
+    let long : length point ≡ n = (let a = length-append params w.turns in let b = dims.0 in omega arith) in
+    let above : NotNegative (row_values (posed_context t m) point) = subst
+    (λ (i : ℕ). NotNegative (row_values (posed_context t i) point)) count (context_up params w.turns t reads bounds) in
+    let least = lexmin-up budget d n (posed_rows way s t m dep) (posed_context t m) solved.minimum solved.left
+    (posed-speaks way s t m dep) (context-speaks t m) solved.run point long
+    (not_negative-append params w.turns up (turns_up w.turns (small j w touches.place))) above in
+    subst (λ (u : Tree). BindsUp u point) (sym solved.is)
+    (named_up (source_of (writer_end way dep).statement s.loops) solved.back point
+    (back_up way d solved.minimum solved.back point solved.turned least))
+
+-- nor does the quast of an access that is told
+pub resolved_up : (way : Way) (program : Program) (params : List ℤ) (j : ℕ) (w : Visit) (access : ℕ) (c : Cell)
+    (budget : ℕ) (u : Tree)
+    → Laws program params → IsKernelModel (model_of program) → length params ≡ length program.parameters
+    → All (λ x. (pos 0 ≤ℤ x) × (x ≤ℤ pos 65536)) params
+    → ((k : ℕ) (v : Visit) → slice_get (walk_of program params) k ≡ Some v
+    → All (λ x. (pos 0 ≤ℤ x) × (x <ℤ pos (2 ^ 46))) v.turns)
+    → ((t : Modelled) → In t (model_of program).statements → w.number ≡ t.number
+    → (length w.turns ≡ t.domain.dimensions) × Satisfies t.domain (w.turns ++ params))
+    → TouchesAt program params j w access c → writers_run way (model_of program) budget w.number access ≡ Ok u
+    → BindsUp u (params ++ w.turns)
+resolved_up way program params j w access c budget u laws model_is count bounds small inside touches run =
+    let model = model_of program in
+    let n = length program.parameters + turns_in (slice_get model.statements w.number) in
+    let point = params ++ w.turns in
+    let long : length point ≡ n =
+    (let a = length-append params w.turns in let b = visit_turns program params laws j w touches.place in omega
+    (arith, a, b, count)) in
+    (run_keeps way (λ t. Speaks n t × BindsUp t point) n (solve_run way model budget)
+    (λ a b x y. (join-speaks way n a b x.0 y.0, join-up way n a b point long x.0 x.1 y.1))
+    (candidates_of way model w.number access) initial u
+    (λ d t h is.
+    let cand = candidate_of way program w access d h in (
+      (candidate_solved way program params j w access c budget d t laws model_is count bounds small inside touches cand
+          is).speaks,
+      candidate_up way program params j w access c budget d t model_is count bounds small inside touches cand is,
+    ))
+    (tt, tt) (omega arith) run).0.1
+
+-- a candidate between two statements is told, and its leaves are small
+sourced_tells : (way : Way) (dep : Dependence) (loops : List ℕ) (r : Result Tree Wide) (tree : Tree)
+    → sourced way dep loops (fitting r) ≡ Ok tree → ((back : Tree) → r ≡ Ok back → CanTell back)
+    → LeavesWithin leaf_limit tree × CanTell tree
+sourced_tells way dep loops r tree h tells = by_fit (fitting r) refl h
+  where
+    by_fit : (o : Option Tree) → fitting r ≡ o → sourced way dep loops o ≡ Ok tree
+        → LeavesWithin leaf_limit tree × CanTell tree
+    by_fit None e h = absurd cc
+    by_fit (Some back) e h =
+        let s = source_of (writer_end way dep).statement loops in
+        let f = fitting_is r back e in
+        let is : named s back ≡ tree = cc in
+        subst (λ (t : Tree). LeavesWithin leaf_limit t × CanTell t) is
+        (named_within leaf_limit s back f.1, named_tells s back (tells back f.0))
+
+turned_tells : (way : Way) (m budget : ℕ) (dep : Dependence) (s t : Modelled) (tree : Tree) (r : Counted Tree)
+    → posed_run way m budget dep s t ≡ r → turned_tree way dep s.domain.dimensions s.loops r ≡ Ok tree
+    → LeavesWithin leaf_limit tree × CanTell tree
+turned_tells way m budget dep s t tree (Err stop) e h = absurd cc
+turned_tells way m budget dep s t tree (Ok pair) e h =
+    sourced_tells way dep s.loops (turned_back way s.domain.dimensions pair.0) tree h
+    (λ back is. back_tells way s.domain.dimensions pair.0 back is
+    (lexmin-tells budget s.domain.dimensions (m + t.domain.dimensions) (posed_rows way s t m dep) (posed_context t m)
+    pair.0 pair.1 (posed-speaks way s t m dep) (context-speaks t m) e))
+
+solved_tells : (way : Way) (m budget : ℕ) (dep : Dependence) (s t : Option Modelled) (tree : Tree)
+    → solve_between way m budget dep s t ≡ Ok tree → LeavesWithin leaf_limit tree × CanTell tree
+solved_tells way m budget dep (Some s) (Some t) tree h =
+    turned_tells way m budget dep s t tree (posed_run way m budget dep s t) refl h
+solved_tells way m budget dep (Some s) None tree h =
+    let is : initial ≡ tree = cc in subst (λ (t : Tree). LeavesWithin leaf_limit t × CanTell t) is (tt, tt)
+solved_tells way m budget dep None t tree h =
+    let is : initial ≡ tree = cc in subst (λ (t : Tree). LeavesWithin leaf_limit t × CanTell t) is (tt, tt)
+
+candidate_tells : (way : Way) (model : KernelModel) (budget : ℕ) (dep : Dependence) (tree : Tree)
+    → solve_run way model budget dep ≡ Ok tree → LeavesWithin leaf_limit tree × CanTell tree
+unfolding solve_run
+candidate_tells way model budget dep tree h =
+    solved_tells way model.parameters budget dep (slice_get model.statements (writer_end way dep).statement)
+    (slice_get model.statements (reader_end way dep).statement) tree h
+
+-- the quast of an access can be told
+pub resolved_tells : (way : Way) (model : KernelModel) (budget statement access : ℕ) (u : Tree)
+    → writers_run way model budget statement access ≡ Ok u → LeavesWithin leaf_limit u × CanTell u
+resolved_tells way model budget statement access u run =
+    (run_keeps way (λ t. LeavesWithin leaf_limit t × CanTell t) (read_variables model statement)
+    (solve_run way model budget)
+    (λ a b x y. (
+      join_within way leaf_limit (read_variables model statement) a b (omega (arith, ints)) x.0 y.0,
+      join-tells way (read_variables model statement) a b x.0 y.0 x.1 y.1,
+    ))
+    (candidates_of way model statement access) initial u (λ d t h is. candidate_tells way model budget d t is) (tt, tt)
+    (omega arith) run).0

@@ -1,0 +1,10 @@
+use Rattle.std.proofs.Common.{◌≡◌, ◌++◌, drop}
+use Rattle.std.specs.List.{flat_map}
+use Rattle.conflict_deps.specs.Conflicts.{sides_of}
+use Rattle.dataflow.specs.Covering.{covers_at}
+use Rattle.dataflow.proofs.covers.covering.Given as goal
+
+abbrev pub invariant-loop-statement : goal.invariant-loop-statement
+invariant-loop-statement l =
+    l.deps.items ++ flat_map (covers_at l.budget l.model) (flat_map sides_of (drop l.statement-index l.statement-items))
+    ≡ flat_map (covers_at l.budget l.model) (flat_map sides_of l.statement-items)

@@ -1,0 +1,23 @@
+use Rattle.std.proofs.Common.{◌++◌}
+use Rattle.std.specs.List.{flat_map}
+use Rattle.conflict_deps.specs.Conflicts.{sides_from}
+use Rattle.conflict_deps.proofs.GatheredDependences.{pair_can, sides_step}
+use Rattle.dataflow.specs.Covering.{covers_at}
+use Rattle.dataflow.proofs.covers.push_statement.Goals as goal
+
+pub push_access-requires-clause-reader : goal.push_access-requires-clause-reader
+push_access-requires-clause-reader c = record {
+  statement = c.requires.statement;
+  pairs = pair_can c.args.model.now.parameters c.args.statement.now c.loop-number.number _
+      c.accesses-accesses.result.now c.loops-loops.result.now c.loops-loops.ensures.loops
+      c.loops-loops.ensures.dimensions c.loops-loops.ensures.few c.requires.parameters
+      c.accesses-accesses.ensures.narrow c.index-accesses-number.is c.loop-number-test.true;
+}
+
+pub loop-number-preserved : goal.loop-number-preserved
+loop-number-preserved c =
+    let f = covers_at c.args.budget c.args.model.now in
+    sides_step f c.args.statement.now c.accesses-accesses.result.now c.loop-number.number
+    c.index-accesses-number.result c.loop-number.out.items c.push_access.new.out.items
+    (c.args.out.now.items ++ flat_map f (sides_from c.args.statement.now 0 c.accesses-accesses.result.now))
+    c.index-accesses-number.is c.loop-number-test.true c.loop-number.invariant c.in_ok-push_access.ensures

@@ -1,0 +1,10 @@
+use Rattle.std.proofs.Common.{◌≡◌, ◌++◌, drop}
+use Rattle.std.specs.List.{flat_map}
+use Rattle.conflict_deps.specs.Conflicts.{sides_from}
+use Rattle.dataflow.specs.Covering.{covers_at}
+use Rattle.dataflow.proofs.covers.push_statement.Given as goal
+
+abbrev pub invariant-loop-number : goal.invariant-loop-number
+invariant-loop-number l =
+    l.out.items ++ flat_map (covers_at l.budget l.model) (sides_from l.statement l.number (drop l.number l.accesses))
+    ≡ l.fn.out.items ++ flat_map (covers_at l.budget l.model) (sides_from l.statement 0 l.accesses)

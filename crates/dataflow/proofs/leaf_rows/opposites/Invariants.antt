@@ -1,0 +1,7 @@
+use Rattle.std.proofs.Common.{◌≡◌, ◌++◌, drop, negsuc}
+use Rattle.whole_numbers.specs.Lists.{multiples}
+use Rattle.dataflow.proofs.leaf_rows.opposites.Given as goal
+
+abbrev pub invariant-loop-number : goal.invariant-loop-number
+invariant-loop-number l =
+    l.all.items ++ multiples (negsuc 0) (drop l.number-index l.numbers) ≡ multiples (negsuc 0) l.numbers

@@ -1,0 +1,244 @@
+//! The dependences that hold each access with its last writer and each read with its next writer: one for each leaf of
+//! their quasts, and where a quast is not told all conflicts with the access in that role.
+ghost use Rattle.std.specs.Prelude.{◌≡◌, ◌++◌, ◌∷◌, [], IfOk, IfSome, OnOk, MatchOption, None, Some};
+ghost use Rattle.std.specs.List.{flat_map};
+ghost use Rattle.scop_syntax.specs.Members.{In};
+ghost use Rattle.quast_trees.specs.Postfix.{tree_of};
+ghost use Rattle.conflict_deps.specs.Conflicts.{conflicts_of, sides_of};
+ghost use Rattle.conflict_deps.specs.View.{CanPair, side_of};
+ghost use Rattle.dataflow.specs.Covering.{conflicts_at, covers_at, covers_of, is_in_role, next_deps, role_deps};
+ghost use Rattle.dataflow.specs.LeafSteps.{CanTellAll, CanTellWriter, IsReader};
+ghost use Rattle.dataflow.specs.Leaves.{deps_of_leaf, leaf_deps, writer_of};
+ghost use Rattle.dataflow.specs.Posed.{IsOfKernel};
+ghost use Rattle.dataflow.specs.WriterRuns.{chosen_deps};
+
+use crate::ends::reader_end;
+use crate::leaf_deps::leaf_dep;
+use crate::reads::source_of;
+use crate::source::ReadSource;
+use affine_forms::push;
+use conflict_deps::AccessOf;
+use iteration_domains::{Dep, Model, StatementModel};
+use quast_joins::Way;
+use quast_trees::{Path, Quast};
+use scop_syntax::walk_laws::statements_are_numbered;
+use std::alloc::{AllocError, Global};
+
+// The access that writes at a leaf's source, the first of its statement.
+fn writer_of<'a>(model: &'a Model, path: &Path) -> Option<AccessOf<'a>>
+    ensures writer { MatchOption result (writer_of model.now path.now.leaf.source ≡ None)
+        (λ writer. writer_of model.now path.now.leaf.source ≡ Some (side_of writer)) }
+    ensures pairs { IfSome result (λ writer. CanPair model.now.parameters (side_of writer)) }
+{
+    let leaf = path.leaf;
+    let Some(source) = &leaf.source else {
+        return None;
+    };
+    let statement = model.statements().get(source.statement)?;
+    let _loops = statement.loops();
+    let access = statement.accesses().first()?;
+    Some(AccessOf {
+        statement,
+        number: 0,
+        access,
+    })
+}
+
+// Appends the dependence of a leaf, where it names a statement.
+fn push_leaf(
+    out: &mut Vec<Dep>,
+    alloc: Global,
+    way: Way,
+    model: &Model,
+    reader: &AccessOf,
+    path: &Path,
+) -> Result<(), AllocError>
+    requires reader { CanPair model.now.parameters (side_of reader.now) }
+    requires leaf { CanTellWriter model.now (side_of reader.now) path.now }
+    ensures { OnOk result
+        (out.new.items ≡ out.old.items ++ deps_of_leaf way model.now (side_of reader.now) path.now) }
+{
+    let Some(writer) = writer_of(model, path) else {
+        return Ok(());
+    };
+    let dep = leaf_dep(alloc, way, model.parameters(), reader, &writer, path)?;
+    push(out, dep)
+}
+
+// Appends the dependences of an access's quast.
+fn push_leaves(
+    out: &mut Vec<Dep>,
+    alloc: Global,
+    way: Way,
+    model: &Model,
+    reader: &AccessOf,
+    quast: &Quast,
+) -> Result<(), AllocError>
+    requires reader { CanPair model.now.parameters (side_of reader.now) }
+    requires leaves { CanTellAll model.now (side_of reader.now) (tree_of quast.now) }
+    ensures { OnOk result
+        (out.new.items ≡ out.old.items ++ leaf_deps way model.now (side_of reader.now) (tree_of quast.now)) }
+{
+    let paths = quast.live_paths()?;
+    for path in &paths {
+        push_leaf(out, alloc, way, model, reader, path)?;
+    }
+    Ok(())
+}
+
+// Whether a dependence has the access in that role.
+fn is_in_role(way: Way, dep: &Dep, statement: usize, access: usize) -> bool
+    ensures { result ≡ is_in_role way statement access dep.now }
+{
+    let reader = reader_end(way, dep);
+    reader.statement == statement && reader.access == access
+}
+
+// Appends a copy of a conflict, where it has the access in that role.
+fn push_conflict(
+    out: &mut Vec<Dep>,
+    alloc: Global,
+    way: Way,
+    dep: &Dep,
+    statement: usize,
+    access: usize,
+) -> Result<(), AllocError>
+    ensures { OnOk result
+        (out.new.items ≡ out.old.items ++ chosen_deps (is_in_role way statement access) (dep.now ∷ [])) }
+{
+    if !is_in_role(way, dep, statement, access) {
+        return Ok(());
+    }
+    let again = dep.copy(alloc)?;
+    push(out, again)
+}
+
+// Appends copies of the conflicts with an access in that role.
+fn push_conflicts(
+    out: &mut Vec<Dep>,
+    alloc: Global,
+    way: Way,
+    deps: &[Dep],
+    statement: usize,
+    access: usize,
+) -> Result<(), AllocError>
+    ensures { OnOk result
+        (out.new.items ≡ out.old.items ++ chosen_deps (is_in_role way statement access) deps.now) }
+{
+    for dep in deps {
+        push_conflict(out, alloc, way, dep, statement, access)?;
+    }
+    Ok(())
+}
+
+// Appends the dependences of an access with its last writers, or its next.
+fn push_role(
+    out: &mut Vec<Dep>,
+    alloc: Global,
+    way: Way,
+    model: &Model,
+    conflicts: &[Dep],
+    reader: &AccessOf,
+    budget: u64,
+) -> Result<(), AllocError>
+    requires kernel { IsOfKernel model.now }
+    requires conflicts { conflicts.now ≡ conflicts_of model.now }
+    requires reader { IsReader model.now (side_of reader.now) }
+    ensures { OnOk result
+        (out.new.items ≡ out.old.items ++ role_deps budget way model.now (side_of reader.now)) }
+{
+    statements_are_numbered();
+    let statement = reader.statement;
+    let source = source_of(
+        alloc,
+        way,
+        model,
+        conflicts,
+        statement,
+        reader.number,
+        budget,
+    )?;
+    match source {
+        ReadSource::Resolved(quast) => push_leaves(out, alloc, way, model, reader, &quast),
+        ReadSource::Unresolved(_) => push_conflicts(
+            out,
+            alloc,
+            way,
+            conflicts,
+            statement.number(),
+            reader.number,
+        ),
+    }
+}
+
+// Appends the dependences of an access with its last writers, and behind them, where it is a read, its next.
+fn push_access(
+    out: &mut Vec<Dep>,
+    alloc: Global,
+    model: &Model,
+    conflicts: &[Dep],
+    reader: &AccessOf,
+    budget: u64,
+) -> Result<(), AllocError>
+    requires kernel { IsOfKernel model.now }
+    requires conflicts { conflicts.now ≡ conflicts_of model.now }
+    requires reader { IsReader model.now (side_of reader.now) }
+    ensures { OnOk result (out.new.items ≡ out.old.items ++ covers_at budget model.now (side_of reader.now)) }
+{
+    push_role(out, alloc, Way::Later, model, conflicts, reader, budget)?;
+    if reader.number == 0 {
+        return Ok(());
+    }
+    push_role(out, alloc, Way::Earlier, model, conflicts, reader, budget)
+}
+
+// Appends those of a statement's accesses.
+fn push_statement(
+    out: &mut Vec<Dep>,
+    alloc: Global,
+    model: &Model,
+    conflicts: &[Dep],
+    statement: &StatementModel,
+    budget: u64,
+) -> Result<(), AllocError>
+    requires kernel { IsOfKernel model.now }
+    requires conflicts { conflicts.now ≡ conflicts_of model.now }
+    requires statement { In statement.now model.now.statements }
+    requires parameters { statement.now.domain.parameters ≡ model.now.parameters }
+    ensures { OnOk result
+        (out.new.items ≡ out.old.items ++ flat_map (covers_at budget model.now) (sides_of statement.now)) }
+{
+    let accesses = statement.accesses();
+    let _loops = statement.loops();
+    for number in 0..accesses.len() {
+        let reader = AccessOf {
+            statement,
+            number,
+            access: &accesses[number],
+        };
+        push_access(out, alloc, model, conflicts, &reader, budget)?;
+    }
+    Ok(())
+}
+
+/// The dependences that hold each access with its last writers and each read with its next, by statement and access, in a
+/// budget of moves for each candidate's problem. `conflicts` are those of the model.
+///
+/// # Errors
+/// `AllocError` alone.
+pub fn covering(
+    alloc: Global,
+    model: &Model,
+    conflicts: &[Dep],
+    budget: u64,
+) -> Result<Vec<Dep>, AllocError>
+    requires kernel { IsOfKernel model.now }
+    requires conflicts { conflicts.now ≡ conflicts_of model.now }
+    ensures deps { IfOk result (λ v. v.items ≡ covers_of budget model.now) }
+{
+    let mut deps = Vec::new(alloc);
+    for statement in model.statements() {
+        push_statement(&mut deps, alloc, model, conflicts, statement, budget)?;
+    }
+    Ok(deps)
+}

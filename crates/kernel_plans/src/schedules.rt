@@ -1,0 +1,54 @@
+//! The dependences of a kernel's covers, and the schedule that is found over them.
+
+ghost use Rattle.std.specs.Prelude.{◌≡◌, IfErr, IfOk};
+ghost use Rattle.dataflow.specs.Covering.{covers_of};
+ghost use Rattle.dataflow.specs.Posed.{IsOfKernel};
+ghost use Rattle.kernel_plans.specs.Found.{IsFound, IsKeptLine};
+
+use crate::lines::line_of_kept;
+use conflict_deps::conflicts;
+use dataflow::cover_laws::{covers_are_held, covers_lie_between_statements};
+use dataflow::covering;
+use iteration_domains::{Dep, Model};
+use plan_certificate::KeptLine;
+use pluto_search::{Schedule, search};
+use std::alloc::{AllocError, Global};
+
+/// The dependences of a kernel's covers, where the problem of each access may make `budget` moves of the solver.
+///
+/// # Errors
+/// `AllocError` alone.
+pub fn covers(alloc: Global, model: &Model, budget: u64) -> Result<Vec<Dep>, AllocError>
+    requires { IsOfKernel model.now }
+    ensures { IfOk result (λ deps. deps.items ≡ covers_of budget model.now) }
+{
+    let all = conflicts(alloc, model)?;
+    covering(alloc, model, &all, budget)
+}
+
+/// The schedule that is found over these, where each question of the search may make `budget` moves of the solver.
+///
+/// # Errors
+/// The line that tells why the order is kept; none for want of memory.
+pub fn schedule_of<'a>(
+    alloc: Global,
+    model: &'a Model,
+    deps: &'a [Dep],
+    budget: u64,
+) -> Result<Schedule<'a>, Option<KeptLine>>
+    requires kernel { IsOfKernel model.now }
+    requires covers { deps.now ≡ covers_of budget model.now }
+    ensures found { IfOk result (IsFound budget model.now) }
+    ensures kept { IfErr result (IsKeptLine budget model.now) }
+{
+    covers_lie_between_statements();
+    covers_are_held();
+    match search(alloc, model, deps, budget) {
+        Ok(schedule) => Ok(schedule),
+        Err(kept) => {
+            let line = line_of_kept(&kept);
+            drop(kept);
+            Err(line)
+        }
+    }
+}
