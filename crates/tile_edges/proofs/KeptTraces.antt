@@ -1,12 +1,11 @@
 -- What is met and visited where room was made before.
 use Rattle.std.proofs.Common.{◌≡◌, ℕ, suc, ⊎_elim, inl, inr, List, [], ◌∷◌, ◌++◌, ap, ap₂, sym, refl, ◌∙◌, subst, get_or}
-use Rattle.std.proofs.Common.{length}
 use Rattle.std.specs.Prelude.{nat_eq, if◌then◌else◌}
 use Rattle.scop_syntax.specs.Members.{In}
 use Rattle.tile_edges.specs.steps.Touches.{KeepSame, marks_in, readers_in}
 use Rattle.tile_edges.specs.steps.Traces.{HasVisited, marked, met}
 use Rattle.tile_edges.specs.steps.Gains.{Gains}
-use Rattle.tile_edges.specs.steps.Rows.{joined, rows_in}
+use Rattle.tile_edges.specs.steps.Rows.{AreKept, rows_in}
 use Rattle.tile_edges.specs.steps.Touches.{AreEven}
 use Rattle.tile_edges.specs.steps.Walks.{CanTake, HasTaken, met_at}
 use Rattle.tile_edges.specs.declared.pairing.Pairs.{Pairs}
@@ -38,7 +37,7 @@ pub none_taken : (cells : List ℕ) (u : ℕ) (kept : Traces) (found : Pairs) �
     → HasTaken cells u kept found kept found
 none_taken cells u kept found none can = record {
   even = can.even;
-  count = can.count;
+  kept_is = can.kept_is;
   visited = λ w rs e. absurd (apart w rs (sym e ∙ none));
   gains = λ w rs e. absurd (apart w rs (sym e ∙ none));
 }
@@ -48,13 +47,13 @@ none_taken cells u kept found none can = record {
 
 -- a place whose cells are these
 pub has_taken : (w : ℕ) (rs cells : List ℕ) (u : ℕ) (kept kept_then : Traces) (found found_then : Pairs)
-    → cells ≡ w ∷ rs → AreEven kept_then → found_then.count ≡ length (joined (rows_in found_then))
+    → cells ≡ w ∷ rs → AreEven kept_then → AreKept found_then
     → HasVisited u w rs (marks_in kept) (readers_in kept) (marks_in kept_then) (readers_in kept_then)
     → Gains (met_at kept cells w) u (rows_in found) (rows_in found_then)
     → HasTaken cells u kept found kept_then found_then
-has_taken w rs cells u kept kept_then found found_then is even count visited gains = record {
+has_taken w rs cells u kept kept_then found found_then is even kept_is visited gains = record {
   even = even;
-  count = count;
+  kept_is = kept_is;
   visited = λ v ss e.
       let both : w ∷ rs ≡ v ∷ ss = sym is ∙ e in
       let first : w ≡ v = cc in

@@ -11,3 +11,4 @@ pub mod FoundEdges
 pub mod KeptTraces
 pub mod CountedEdges
 pub mod KeptOrders
+pub mod Ahead

@@ -22,7 +22,7 @@ use Rattle.tile_list.specs.declared.list.TileList.{TileList}
 use Rattle.tile_events.specs.Flat.{read_by, written_by}
 use Rattle.tile_edges.specs.Edges.{IsTileOf}
 use Rattle.tile_edges.specs.steps.Gains.{Gains}
-use Rattle.tile_edges.specs.steps.Rows.{joined, rows_in}
+use Rattle.tile_edges.specs.steps.Rows.{AreKept, joined, rows_in}
 use Rattle.tile_edges.specs.steps.Touches.{AreEven, marks_in, readers_in}
 use Rattle.tile_edges.specs.steps.Traces.{AreTraces, met}
 use Rattle.tile_edges.specs.steps.Walks.{AreFound, CanPass, CanTake, HasPassed, HasTaken, IsOnItsWay, IsTaken, cells_at}
@@ -152,7 +152,7 @@ module _ (program : Program) (params : List ℤ) (tiling : Tiling) (list : TileL
       → CanTake cells kept found
   can_take x rest kept found next cells are = record {
     even = next.passed.even;
-    count = next.passed.count;
+    kept_is = next.passed.kept_is;
     tiles = λ w rs e t i.
         let both : w ∷ rs ≡ (touched program params).written next.n ∷ (touched program params).read next.n =
         sym e ∙ are in
@@ -200,7 +200,7 @@ module _ (program : Program) (params : List ℤ) (tiling : Tiling) (list : TileL
           pairs = pairs_more H p n took.tile (marks_in kept) (readers_in kept) (rows_in found) (rows_in found_then) holds
               next.passed.traces next.passed.pairs gains;
           rises = gains.rises next.passed.rises;
-          count = took.taken.count;
+          kept_is = took.taken.kept_is;
           long = omega (arith, long, same, seen, seen_then);
         };
       }
@@ -218,7 +218,7 @@ module _ (program : Program) (params : List ℤ) (tiling : Tiling) (list : TileL
         all = λ few. omega (arith, past, long, within);
         pairs = way.passed.pairs;
         rises = way.passed.rises;
-        count = way.passed.count;
+        count = way.passed.kept_is.count;
         long = way.passed.long;
       }
 
@@ -231,7 +231,7 @@ module _ (program : Program) (params : List ℤ) (tiling : Tiling) (list : TileL
     all = λ few. absurd (omega (arith, few, many));
     pairs = way.passed.pairs;
     rises = way.passed.rises;
-    count = way.passed.count;
+    count = way.passed.kept_is.count;
     long = way.passed.long;
   }
 
@@ -265,8 +265,8 @@ no_row (row ∷ rows) e (suc t) = no_row rows (back row e) t
 -- before all places
 pub none_passed : (program : Program) (params : List ℤ) (tiling : Tiling) (list : TileList) (kept : Traces) (found : Pairs)
     → AreEven kept → marks_in kept ≡ [] → readers_in kept ≡ [] → length found.rows.items ≡ length list.tiles.items
-    → joined (rows_in found) ≡ [] → found.count ≡ 0 → HasPassed program params tiling list 0 kept found
-none_passed program params tiling list kept found even marks readers long none count =
+    → joined (rows_in found) ≡ [] → AreKept found → HasPassed program params tiling list 0 kept found
+none_passed program params tiling list kept found even marks readers long none kept_is =
     let H = held_by program params tiling list in
     let p = touched program params in
     record {
@@ -278,7 +278,7 @@ none_passed program params tiling list kept found even marks readers long none c
         complete = λ i k less s. absurd (omega (arith, less));
       };
       rises = λ t. subst (λ row. Sorted (λ a b. a < b) row) (sym (no_row (rows_in found) none t)) tt;
-      count = count ∙ sym (ap length none);
+      kept_is = kept_is;
       long = long;
     }
 

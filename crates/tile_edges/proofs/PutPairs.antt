@@ -1,15 +1,18 @@
 -- Pairs that are put into rows of tiles.
-use Rattle.std.proofs.Common.{◌≡◌, ◌≢◌, ◌<◌, ◌+◌, ℕ, zero, suc, ◌⊎◌, inl, inr, ⊎_elim, Bool, true, false, List, [], ◌∷◌, ◌++◌}
+use Rattle.std.proofs.Common.{◌≡◌, ◌≢◌, ◌<◌, ◌+◌, ◌-◌, ℕ, zero, suc, ◌⊎◌, inl, inr, ⊎_elim, Bool, true, false, List, [], ◌∷◌, ◌++◌}
 use Rattle.std.proofs.Common.{ap, sym, refl, ◌∙◌, subst, arith, length, map, get_or, take}
 use Rattle.std.specs.Prelude.{slice_set, nat_lt, ◌==◌}
 use Rattle.std.specs.BTreeSet.{insert_key}
 use Rattle.std.specs.Ordering.{nat_cmp}
 use Rattle.std.proofs.lemmas.Bool.{eqb-true, eqb-false, ltb-true, ltb-false}
-use Rattle.std.proofs.lemmas.List.{get_or-set_same, get_or-set_other, length-append, length-set, length-map, map-append, append_assoc}
+use Rattle.std.proofs.lemmas.List.{get_or-set_same, get_or-set_other, get_or_default, length-append, length-set}
+use Rattle.std.proofs.lemmas.List.{length-map, map-append, append_assoc}
 use Rattle.scop_syntax.specs.Members.{In, Sorted}
 use Rattle.scop_syntax.proofs.Members.{in_append, in_front, in_back, nat_cases}
 use Rattle.tile_edges.specs.steps.Gains.{Gains}
-use Rattle.tile_edges.specs.steps.Rows.{joined}
+use Rattle.tile_edges.specs.steps.Rows.{AreKept, joined, rows_in}
+use Rattle.tile_edges.specs.steps.Traces.{marked}
+use Rattle.tile_edges.specs.declared.pairing.Pairs.{Pairs}
 use Rattle.tile_edges.proofs.Taken.{taken_more, seen_at, seen_set}
 
 -- what is put into a list that rises
@@ -91,6 +94,16 @@ put_gains t u rows less apart = record {
         other : r ≢ t → P (get_or (slice_set rows t new) r [])
         other ne = subst P (sym (get_or-set_other rows t r new [] ne)) (there ne)
 
+-- nor does one that has the number
+pub told_gains : (t u : ℕ) (rows : List (List ℕ)) → In u (get_or rows t []) → Gains (t ∷ []) u rows rows
+told_gains t u rows has = record {
+  long = refl;
+  rises = λ s. s;
+  found = λ r v i. inl i;
+  kept = λ r v i. i;
+  gained = λ r i ne. ⊎_elim (λ (e : r ≡ t). subst (λ k. In u (get_or rows k [])) (sym e) has) (λ j. absurd j) i;
+}
+
 -- no tile gains nothing
 pub none_gains : (u : ℕ) (rows : List (List ℕ)) → Gains [] u rows rows
 none_gains u rows = record {
@@ -99,16 +112,6 @@ none_gains u rows = record {
   found = λ r v i. inl i;
   kept = λ r v i. i;
   gained = λ r i. absurd i;
-}
-
--- a tile does not wait for itself
-pub own_gains : (t u : ℕ) (rows : List (List ℕ)) → t ≡ u → Gains (t ∷ []) u rows rows
-own_gains t u rows e = record {
-  long = refl;
-  rises = λ s. s;
-  found = λ r v i. inl i;
-  kept = λ r v i. i;
-  gained = λ r i ne. absurd (⊎_elim (λ same. ne (same ∙ e)) (λ j. absurd j) i);
 }
 
 -- gains one after another
@@ -181,3 +184,62 @@ none_more {A = A} f rows new x none empty e =
     ∙ (ap joined (map-append f rows (x ∷ []))
     ∙ (joined_append (map f rows) (f x ∷ [])
     ∙ (ap (λ (zs : List ℕ). zs ++ (f x ++ [])) none ∙ ap (λ (zs : List ℕ). zs ++ []) empty)))
+
+-- a mark of a tile
+pub marked_is : (mark : ℕ) → mark ≢ 0 → (mark - 1) ∷ [] ≡ marked mark
+marked_is zero some = absurd (some refl)
+marked_is (suc t) some =
+    let less : suc t - 1 ≡ t = omega arith in
+    ap (λ (n : ℕ). n ∷ []) less
+
+-- what was told last, if not the tile itself, is a pair
+pub told_before : (pairs : Pairs) (t u told : ℕ) → AreKept pairs → t < length pairs.rows.items
+    → told ≡ get_or pairs.told.items t told → told ≡ u → t ≢ u → In u (get_or (rows_in pairs) t [])
+told_before pairs t u told are inside taken same apart =
+    let long = are.long in
+    let is : get_or pairs.told.items t t ≡ u =
+    get_or_default pairs.told.items t t told (omega (arith, inside, long)) ∙ (sym taken ∙ same) in
+    ⊎_elim (λ e. absurd (apart (sym e ∙ is))) (λ i. subst (λ v. In v (get_or (rows_in pairs) t [])) is i) (are.told t)
+
+pub told_after : (pairs new : Pairs) (t u : ℕ) → AreKept pairs → t < length pairs.rows.items → t ≢ u
+    → Gains (t ∷ []) u (rows_in pairs) (rows_in new) → new.told.items ≡ slice_set pairs.told.items t u
+    → new.count ≡ length (joined (rows_in new)) → AreKept new
+told_after pairs new t u are inside apart gains is count =
+    let long = are.long in
+    let same = gains.long in
+    let seen = length-map pairs.rows.items (λ s. s.keys) in
+    let seen_then = length-map new.rows.items (λ s. s.keys) in
+    let set = ap length is ∙ length-set pairs.told.items t u in
+    record {
+      count = count;
+      long = omega (arith, long, same, seen, seen_then, set);
+      told = λ r. subst (λ (ts : List ℕ). (get_or ts r r ≡ r) ⊎ In (get_or ts r r) (get_or (rows_in new) r [])) (sym is)
+          (nat_cases r t (λ l. other r (λ e. omega (arith, l, e)))
+          (λ e. subst (λ k. (get_or (slice_set pairs.told.items t u) k k ≡ k)
+          ⊎ In (get_or (slice_set pairs.told.items t u) k k) (get_or (rows_in new) k [])) (sym e)
+          (inr (subst (λ v. In v (get_or (rows_in new) t []))
+          (sym (get_or-set_same pairs.told.items t u t (omega (arith, inside, long))))
+          (gains.gained t (inl refl) apart))))
+          (λ l. other r (λ e. omega (arith, l, e))));
+    }
+  where
+    other : (r : ℕ) → r ≢ t → (get_or (slice_set pairs.told.items t u) r r ≡ r)
+        ⊎ In (get_or (slice_set pairs.told.items t u) r r) (get_or (rows_in new) r [])
+    other r ne =
+        subst (λ v. (v ≡ r) ⊎ In v (get_or (rows_in new) r [])) (sym (get_or-set_other pairs.told.items t r u r ne))
+        (⊎_elim (λ e. inl e) (λ i. inr (gains.kept r (get_or pairs.told.items r r) i)) (are.told r))
+
+-- the numbers of places, and one more
+pub indices_more : (xs new : List ℕ) (k : ℕ) → length xs ≡ k → ((t : ℕ) → get_or xs t t ≡ t) → new ≡ xs ++ k ∷ []
+    → (t : ℕ) → get_or new t t ≡ t
+indices_more xs new k count is e t =
+    ap (λ (ys : List ℕ). get_or ys t t) e
+    ∙ ⊎_elim (λ same. same ∙ is t) (λ last. last.1 ∙ (sym count ∙ sym last.0)) (pushed xs t)
+  where
+    pushed : (ys : List ℕ) (i : ℕ) → (get_or (ys ++ k ∷ []) i t ≡ get_or ys i t)
+        ⊎ ((i ≡ length ys) × (get_or (ys ++ k ∷ []) i t ≡ k))
+    pushed [] zero = inr (refl, refl)
+    pushed [] (suc i) = inl refl
+    pushed (y ∷ ys) zero = inl refl
+    pushed (y ∷ ys) (suc i) =
+        ⊎_elim (λ same. inl same) (λ last. let at = last.0 in inr (omega (arith, at), last.1)) (pushed ys i)

@@ -1,6 +1,6 @@
 -- A list gone through element by element.
 use Rattle.std.proofs.Common.{◌≡◌, ◌<◌, ◌+◌, ℕ, List, [], ◌∷◌, ◌++◌, length, map, get_or, take, sym, ap, ◌∙◌}
-use Rattle.std.proofs.lemmas.List.{take_more, get_or-map, map-set, map-append, append_assoc}
+use Rattle.std.proofs.lemmas.List.{take_more, get_or-map, map-set, map-append}
 use Rattle.std.proofs.lemmas.Grind.{get_or_default_zero}
 use Rattle.std.proofs.Common.{Some}
 use Rattle.std.specs.Prelude.{slice_get, slice_set}
@@ -26,25 +26,6 @@ seen_at f rows row i inside taken = get_or-map f rows i row [] inside ∙ ap f (
 pub seen_set : {A : Type 0} (f : A → List ℕ) (rows : List A) (new : A) (i : ℕ) (row : List ℕ) → f new ≡ row
     → map f (slice_set rows i new) ≡ slice_set (map f rows) i row
 seen_set f rows new i row is = map-set f rows i new ∙ ap (λ (r : List ℕ). slice_set (map f rows) i r) is
-
--- one more is put behind others through a function
-pub put_more : {B : Type 0} (f : ℕ → B) (old all new : List B) (xs : List ℕ) (k : ℕ) (y : B) → k < length xs
-    → y ≡ f (get_or xs k 0) → all ≡ old ++ map f (take k xs) → new ≡ all ++ y ∷ []
-    → new ≡ old ++ map f (take (k + 1) xs)
-put_more {B = B} f old all new xs k y inside is done e =
-    e ∙ (ap (λ (zs : List B). zs ++ y ∷ []) done
-    ∙ (append_assoc old (map f (take k xs)) (y ∷ [])
-    ∙ ap (λ (zs : List B). old ++ zs) (ap (λ (z : B). map f (take k xs) ++ z ∷ []) is
-    ∙ (sym (map-append f (take k xs) (get_or xs k 0 ∷ []))
-    ∙ ap (map f) (sym (taken_more xs k (get_or xs k 0) inside (number_at xs k inside)))))))
-
--- a copy more is
-pub copy_more : {A : Type 0} (old all new xs : List A) (k : ℕ) (x : A) → k < length xs → x ≡ get_or xs k x
-    → all ≡ old ++ take k xs → new ≡ all ++ x ∷ [] → new ≡ old ++ take (k + 1) xs
-copy_more {A = A} old all new xs k x inside is done e =
-    e ∙ (ap (λ (zs : List A). zs ++ x ∷ []) done
-    ∙ (append_assoc old (take k xs) (x ∷ [])
-    ∙ ap (λ (zs : List A). old ++ zs) (sym (taken_more xs k x inside is))))
 
 -- one more is put that is told by the element there
 pub map_told : {A : Type 0} (f : A → ℕ) (xs : List A) (k y : ℕ) (all new : List ℕ) → k < length xs

@@ -12,10 +12,6 @@ use Rattle.tile_edges.specs.declared.touching.Traces.{Traces}
 use Rattle.tile_edges.specs.steps.Traces.{HasVisited, marked, met}
 use Rattle.tile_edges.proofs.Taken.{taken_more, seen_at, seen_set}
 
--- a list that has the tile already
-pub has_tile : (u : ℕ) (xs : List ℕ) → In u xs → HasTile u xs xs
-has_tile u xs i = record { found = λ t j. inl j; kept = λ t j. j; there = i }
-
 -- a list that gets it
 pub gets_tile : (u : ℕ) (xs new : List ℕ) → new ≡ xs ++ u ∷ [] → HasTile u xs new
 gets_tile u xs new e = subst (λ ys. HasTile u xs ys) (sym e) (record {
@@ -108,28 +104,21 @@ met_append marks (c ∷ cs) ds =
     ap (λ (ts : List ℕ). marked (get_or marks c 0) ++ ts) (met_append marks cs ds)
     ∙ sym (append_assoc (marked (get_or marks c 0)) (met marks cs) (met marks ds))
 
-pub met_more : (marks cells : List ℕ) (k cell mark : ℕ) (tiles new : List ℕ) → k < length cells
-    → cell ≡ get_or cells k cell → mark ≡ get_or marks cell 0 → tiles ≡ met marks (take k cells)
-    → new ≡ tiles ++ marked mark → new ≡ met marks (take (k + 1) cells)
-met_more marks cells k cell mark tiles new inside is of done e =
-    e ∙ (ap (λ (ts : List ℕ). ts ++ marked mark) done
-    ∙ (ap (λ (m : ℕ). met marks (take k cells) ++ marked m) of
+pub met_more : (marks cells : List ℕ) (k cell mark : ℕ) → k < length cells → cell ≡ get_or cells k cell
+    → mark ≡ get_or marks cell 0 → met marks (take k cells) ++ marked mark ≡ met marks (take (k + 1) cells)
+met_more marks cells k cell mark inside is of =
+    ap (λ (m : ℕ). met marks (take k cells) ++ marked m) of
     ∙ (ap (λ (ts : List ℕ). met marks (take k cells) ++ ts) (sym (append-nil (marked (get_or marks cell 0))))
     ∙ (sym (met_append marks (take k cells) (cell ∷ []))
-    ∙ ap (λ (cs : List ℕ). met marks cs) (sym (taken_more cells k cell inside is))))))
+    ∙ ap (λ (cs : List ℕ). met marks cs) (sym (taken_more cells k cell inside is))))
 
--- what is kept where room is made
-pub longer_mark : (marks : List ℕ) (c : ℕ) → get_or (marks ++ 0 ∷ []) c 0 ≡ get_or marks c 0
-longer_mark [] zero = refl
-longer_mark [] (suc c) = refl
-longer_mark (m ∷ marks) zero = refl
-longer_mark (m ∷ marks) (suc c) = longer_mark marks c
-
-pub longer_rows : (rows : List (List ℕ)) (c : ℕ) → get_or (rows ++ [] ∷ []) c [] ≡ get_or rows c []
-longer_rows [] zero = refl
-longer_rows [] (suc c) = refl
-longer_rows (r ∷ rows) zero = refl
-longer_rows (r ∷ rows) (suc c) = longer_rows rows c
+-- a cell's writer is one of them
+pub in_met : (marks cs : List ℕ) (k t : ℕ) → k < length cs → In t (marked (get_or marks (get_or cs k 0) 0))
+    → In t (met marks cs)
+in_met marks [] k t less i = absurd (omega (arith, less))
+in_met marks (c ∷ cs) zero t less i = in_front t (marked (get_or marks c 0)) (met marks cs) i
+in_met marks (c ∷ cs) (suc k) t less i =
+    in_back t (marked (get_or marks c 0)) (met marks cs) (in_met marks cs k t (omega (arith, less)) i)
 
 pub keep_both : (a b c : Traces) → KeepSame a b → KeepSame b c → KeepSame a c
 keep_both a b c g h =

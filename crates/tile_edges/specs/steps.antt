@@ -6,3 +6,4 @@ pub mod Touches
 pub mod Rows
 pub mod Finding
 pub mod Walks
+pub mod Ahead

@@ -7,12 +7,17 @@ ghost use Rattle.whole_numbers.specs.Floor.{floor};
 ghost use Rattle.scop_syntax.specs.View.{instance_of};
 ghost use Rattle.loop_tree.specs.Tiling.{coordinates, items_at, wave_sum};
 ghost use Rattle.loop_tree.specs.TilingView.{items_of, tiling_of};
+ghost use Rattle.loop_tree.specs.Conditions.{IsHeld};
+ghost use Rattle.loop_tree.specs.Stretches.{left_of};
 ghost use Rattle.tile_list.specs.Tiles.{HasSize, RowsFit};
+ghost use Rattle.tile_list.specs.steps.Stretching.{AllRowsFit};
 ghost use Rattle.tile_edges.specs.Edges.{IsTileOf};
+ghost use Rattle.tile_edges.specs.steps.Ahead.{LieIn};
 ghost use Rattle.tile_edges.specs.steps.Finding.{ArePlacesOf, FirstsFit, HasTileOf, IsFinder, IsPlaceOf, Stands};
 ghost use Rattle.tile_edges.specs.steps.Finding.{TilesRise, comes_before};
 
-use loop_tree::{TileItems, TileRow, Tiling};
+use crate::stretching::{after, likely_ahead};
+use loop_tree::{Stretch, TileItems, TileRow, Tiling};
 use scop_syntax::affine_values::exact_at;
 use scop_syntax::instance::Instance;
 use std::alloc::{AllocError, Global};
@@ -136,7 +141,7 @@ fn leading_at(statements: &[TileItems], statement: usize) -> &[usize]
 }
 
 /// The rows of its first band.
-fn band_at(statements: &[TileItems], statement: usize) -> &[TileRow]
+pub(crate) fn band_at(statements: &[TileItems], statement: usize) -> &[TileRow]
     ensures { result.now ≡ (items_at (map items_of statements.now) statement).band }
 {
     match statements.get(statement) {
@@ -314,6 +319,7 @@ impl Finder {
         requires there { HasTileOf (tiling_of tiling.now) list.now (instance_of instance.now) }
         ensures finder { OnOk result (IsFinder (tiling_of tiling.now) list.now self.new) }
         ensures tile { IfOk result (λ t. IsTileOf (tiling_of tiling.now) list.now t (instance_of instance.now)) }
+        ensures at { IfOk result (λ t. t ≡ self.new.at) }
     {
         self.here.set(tiling, instance)?;
         if self.here.is(&self.places[self.at]) {
@@ -321,5 +327,35 @@ impl Finder {
         }
         self.at = search(self.places.as_slice(), &self.here);
         Ok(self.at)
+    }
+
+    /// How many of the instances that are left of a stretch, the next ones, surely lie in the tile of the one in front,
+    /// which was found last: along a stretch each coordinate of the tile rises, or each falls, so the last of them
+    /// tells it. The list is there for the contract alone.
+    pub fn ahead(
+        &mut self,
+        tiling: &Tiling,
+        list: &TileList,
+        stretch: &Stretch,
+    ) -> Result<u64, AllocError>
+        requires size { HasSize (tiling_of tiling.now) }
+        requires held { All IsHeld (left_of stretch.now) }
+        requires fits { AllRowsFit (tiling_of tiling.now) stretch.now }
+        requires finder { IsFinder (tiling_of tiling.now) list.now self.old }
+        requires front { IsTileOf (tiling_of tiling.now) list.now self.old.at (instance_of stretch.now.before) }
+        ensures finder { OnOk result (IsFinder (tiling_of tiling.now) list.now self.new) }
+        ensures few { IfOk result (λ n. n ≤ stretch.now.left) }
+        ensures tile { IfOk result (λ n. LieIn (tiling_of tiling.now) list.now self.new.at stretch.now n) }
+    {
+        let count = likely_ahead(tiling, stretch);
+        if count == 0 {
+            return Ok(0);
+        }
+        let last = after(&stretch.before, &stretch.steps, count);
+        self.here.set(tiling, &last)?;
+        if self.here.is(&self.places[self.at]) {
+            return Ok(count);
+        }
+        Ok(0)
     }
 }

@@ -8,6 +8,7 @@ mod finding;
 pub mod laws;
 mod pairing;
 mod rows;
+mod stretching;
 mod touching;
 mod waiting;
 mod walking;

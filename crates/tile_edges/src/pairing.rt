@@ -4,16 +4,19 @@ ghost use Rattle.std.specs.BTreeSet.{insert_key};
 ghost use Rattle.std.specs.Ordering.{nat_cmp};
 ghost use Rattle.scop_syntax.specs.Members.{In};
 ghost use Rattle.tile_edges.specs.steps.Gains.{Gains};
-ghost use Rattle.tile_edges.specs.steps.Rows.{joined, rows_in};
+ghost use Rattle.tile_edges.specs.steps.Rows.{AreKept, joined, rows_in};
+ghost use Rattle.tile_edges.specs.steps.Traces.{marked};
 
 use std::alloc::{AllocError, Global};
 use std::collections::BTreeSet;
 
-/// The tiles that wait for each tile, and how many pairs these are.
+/// The tiles that wait for each tile, how many pairs these are, and the one of them that was told last, which is often
+/// told once more.
 #[derive(Drop)]
 pub struct Pairs {
     pub rows: Vec<BTreeSet<usize>>,
     pub count: usize,
+    pub told: Vec<usize>,
 }
 
 /// A set without numbers.
@@ -50,36 +53,57 @@ impl Pairs {
     pub fn none(alloc: Global, tiles: usize) -> Result<Pairs, AllocError>
         ensures long { IfOk result (λ pairs. length pairs.rows.items ≡ tiles) }
         ensures none { IfOk result (λ pairs. joined (rows_in pairs) ≡ []) }
-        ensures count { IfOk result (λ pairs. pairs.count ≡ 0) }
+        ensures kept { IfOk result AreKept }
     {
         let mut rows = Vec::new(alloc);
-        for _ in 0..tiles {
+        let mut told = Vec::new(alloc);
+        for tile in 0..tiles {
             rows.push(no_tiles(alloc))?;
+            told.push(tile)?;
         }
-        Ok(Pairs { rows, count: 0 })
+        let count = 0;
+        Ok(Pairs { rows, count, told })
     }
 
     /// The second tile waits for the first, where these are two.
     fn add(&mut self, first: usize, second: usize) -> Result<(), AllocError>
         requires first { first < length self.old.rows.items }
-        requires count { self.old.count ≡ length (joined (rows_in self.old)) }
+        requires kept { AreKept self.old }
         ensures gains { OnOk result (Gains (first ∷ []) second (rows_in self.old) (rows_in self.new)) }
-        ensures count { OnOk result (self.new.count ≡ length (joined (rows_in self.new))) }
+        ensures kept { OnOk result (AreKept self.new) }
     {
         if first == second {
             return Ok(());
         }
+        if self.told[first] == second {
+            return Ok(());
+        }
         let more = put(&mut self.rows[first], second)?;
         self.count = sum(self.count, more)?;
+        self.told[first] = second;
+        Ok(())
+    }
+
+    /// The second tile waits for the one that a mark stands for, if it stands for one.
+    pub fn add_marked(&mut self, mark: usize, second: usize) -> Result<(), AllocError>
+        requires first { (t : ℕ) → In t (marked mark) → t < length self.old.rows.items }
+        requires kept { AreKept self.old }
+        ensures gains { OnOk result (Gains (marked mark) second (rows_in self.old) (rows_in self.new)) }
+        ensures kept { OnOk result (AreKept self.new) }
+    {
+        if mark == 0 {
+            return Ok(());
+        }
+        self.add(mark - 1, second)?;
         Ok(())
     }
 
     /// The second tile waits for each of the first ones, but not for itself.
     pub fn add_all(&mut self, firsts: &[usize], second: usize) -> Result<(), AllocError>
         requires firsts { (t : ℕ) → In t firsts.now → t < length self.old.rows.items }
-        requires count { self.old.count ≡ length (joined (rows_in self.old)) }
+        requires kept { AreKept self.old }
         ensures gains { OnOk result (Gains firsts.now second (rows_in self.old) (rows_in self.new)) }
-        ensures count { OnOk result (self.new.count ≡ length (joined (rows_in self.new))) }
+        ensures kept { OnOk result (AreKept self.new) }
     {
         for first in firsts {
             self.add(*first, second)?;

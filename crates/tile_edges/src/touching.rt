@@ -1,9 +1,13 @@
 //! What is kept of each cell: the tile of its last writer, and those of its readers since then.
-ghost use Rattle.std.specs.Prelude.{◌≡◌, ◌++◌, ◌<◌, ◌≤◌, ℕ, [], OnOk, get_or, length, slice_set, suc, true};
+ghost use Rattle.std.specs.Prelude.{◌≡◌, ◌<◌, ◌≤◌, ℕ, [], OnOk, get_or, length, slice_set, suc, true};
 ghost use Rattle.scop_syntax.specs.Members.{In};
+ghost use Rattle.tile_edges.specs.steps.Gains.{Gains};
+ghost use Rattle.tile_edges.specs.steps.Rows.{AreKept, rows_in};
 ghost use Rattle.tile_edges.specs.steps.Touches.{AreEven, HasEntered, HasRoom, HasTile, KeepSame, marks_in, readers_in};
-ghost use Rattle.tile_edges.specs.steps.Traces.{HasVisited, marked, met};
+ghost use Rattle.tile_edges.specs.steps.Traces.{HasVisited, met};
+ghost use Rattle.tile_edges.specs.steps.Walks.{met_at};
 
+use crate::pairing::Pairs;
 use std::alloc::{AllocError, Global};
 
 /// Of each cell a mark, 0 or one more than the tile of its last writer, and the tiles of its readers since then.
@@ -31,24 +35,6 @@ fn enter(list: &mut Vec<usize>, tile: usize) -> Result<(), AllocError>
         return Ok(());
     }
     list.push(tile)?;
-    Ok(())
-}
-
-/// Puts tiles behind others.
-fn append(list: &mut Vec<usize>, tiles: &[usize]) -> Result<(), AllocError>
-    ensures { OnOk result (list.new.items ≡ list.old.items ++ tiles.now) }
-{
-    list.extend_from_slice(tiles)
-}
-
-/// Puts the tile that a mark stands for behind others.
-fn push_marked(mark: usize, list: &mut Vec<usize>) -> Result<(), AllocError>
-    ensures { OnOk result (list.new.items ≡ list.old.items ++ marked mark) }
-{
-    if mark == 0 {
-        return Ok(());
-    }
-    list.push(mark - 1)?;
     Ok(())
 }
 
@@ -92,14 +78,22 @@ impl Traces {
         Ok(())
     }
 
-    /// The tiles of the last writers of cells.
-    fn writers(&self, cells: &[usize], tiles: &mut Vec<usize>) -> Result<(), AllocError>
+    /// The tile waits for the last writers of cells.
+    fn meet_writers(
+        &self,
+        cells: &[usize],
+        tile: usize,
+        pairs: &mut Pairs,
+    ) -> Result<(), AllocError>
         requires room { HasRoom cells.now self.now }
-        ensures { OnOk result (tiles.new.items ≡ met (marks_in self.now) cells.now) }
+        requires tiles { (t : ℕ) → In t (met (marks_in self.now) cells.now) → t < length pairs.old.rows.items }
+        requires kept { AreKept pairs.old }
+        ensures gains { OnOk result (Gains (met (marks_in self.now) cells.now) tile (rows_in pairs.old)
+            (rows_in pairs.new)) }
+        ensures kept { OnOk result (AreKept pairs.new) }
     {
-        tiles.clear();
         for cell in cells {
-            push_marked(self.marks[*cell], tiles)?;
+            pairs.add_marked(self.marks[*cell], tile)?;
         }
         Ok(())
     }
@@ -112,21 +106,26 @@ impl Traces {
         &self.readers[cell]
     }
 
-    /// The tiles that are met where these cells are touched, and one of them is written.
+    /// The tile waits for those that are met where it touches these cells, and writes one of them.
     pub fn meet(
         &self,
         cells: &[usize],
         cell: usize,
-        tiles: &mut Vec<usize>,
+        tile: usize,
+        pairs: &mut Pairs,
     ) -> Result<(), AllocError>
         requires even { AreEven self.now }
         requires room { HasRoom cells.now self.now }
         requires written { cell < length self.now.marks.items }
-        ensures { OnOk result (tiles.new.items
-            ≡ met (marks_in self.now) cells.now ++ get_or (readers_in self.now) cell []) }
+        requires tiles { (t : ℕ) → In t (met_at self.now cells.now cell) → t < length pairs.old.rows.items }
+        requires kept { AreKept pairs.old }
+        ensures gains { OnOk result (Gains (met_at self.now cells.now cell) tile (rows_in pairs.old)
+            (rows_in pairs.new)) }
+        ensures kept { OnOk result (AreKept pairs.new) }
     {
-        self.writers(cells, tiles)?;
-        append(tiles, self.readers(cell))
+        self.meet_writers(cells, tile, pairs)?;
+        pairs.add_all(self.readers(cell), tile)?;
+        Ok(())
     }
 
     /// The tile reads cells.

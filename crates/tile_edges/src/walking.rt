@@ -1,24 +1,27 @@
 //! One pass over a kernel's walk: which tiles meet at which cells.
-ghost use Rattle.std.specs.Prelude.{◌≡◌, ◌∷◌, ◌<◌, ℕ, IfOk, OnOk, Some, [], length, map, slice_get};
+ghost use Rattle.std.specs.Prelude.{◌≡◌, ◌∷◌, ◌<◌, ◌≤◌, ℕ, ℤ, IfOk, List, OnOk, Some, [], length, slice_get};
 ghost use Rattle.scop_syntax.specs.Members.{In};
 ghost use Rattle.scop_syntax.specs.View.{instance_of, program_of};
-ghost use Rattle.scop_syntax.specs.Walk.{instance, walk_of};
 ghost use Rattle.loop_tree.specs.Conditions.{CanWalk};
-ghost use Rattle.loop_tree.specs.SpotView.{IsSpotOf, to_come};
+ghost use Rattle.loop_tree.specs.SpotView.{to_come};
 ghost use Rattle.loop_tree.specs.TilingView.{tiling_of};
 ghost use Rattle.loop_tree.specs.View.{trees_in};
+ghost use Rattle.stmt_table.specs.Desks.{HasRoom, HasRoomForAll, IsLaid};
 ghost use Rattle.stmt_table.specs.declared.table.Row.{Row as GivenRow};
 ghost use Rattle.tile_list.specs.Tiles.{HasSize, RowsFit};
+ghost use Rattle.tile_edges.specs.Edges.{IsTileOf};
+ghost use Rattle.tile_edges.specs.steps.Ahead.{IsPassing, LieIn, to_come_on};
 ghost use Rattle.tile_edges.specs.steps.Finding.{FirstsFit, HasTileOf, IsFinder, TilesRise};
 ghost use Rattle.tile_edges.specs.steps.Gains.{Gains};
-ghost use Rattle.tile_edges.specs.steps.Rows.{joined, rows_in};
+ghost use Rattle.tile_edges.specs.steps.Rows.{AreKept, joined, rows_in};
 ghost use Rattle.tile_edges.specs.steps.Touches.{AreEven, marks_in, readers_in};
 ghost use Rattle.tile_edges.specs.steps.Traces.{HasVisited};
-ghost use Rattle.tile_edges.specs.steps.Walks.{AreFound, CanPass, CanTake, HasPassed, HasTaken, IsTaken, cells_at};
-ghost use Rattle.tile_edges.specs.steps.Walks.{met_at};
+ghost use Rattle.tile_edges.specs.steps.Walks.{AreFound, CanPass, CanTake, HasTaken, IsOnItsWay, IsTaken};
+ghost use Rattle.tile_edges.specs.steps.Walks.{cells_at, met_at};
 
 use crate::finding::Finder;
 use crate::pairing::Pairs;
+use crate::stretching::go_along;
 use crate::touching::Traces;
 use loop_tree::{Spot, Tiling, Tree};
 use scop_syntax::instance::Instance;
@@ -26,21 +29,22 @@ use scop_syntax::limit_laws::cells_lie_within_22_bits;
 use scop_syntax::tree::Kernel;
 use scop_syntax::walk_laws::{instances_are_those_of_statements, statements_are_numbered};
 use std::alloc::{AllocError, Global};
+use stmt_table::desk::Desk;
 use stmt_table::table::{Row, Table};
 use tile_list::TileList;
 
 /// As many pairs as there may be.
 pub const MOST: usize = 4194304;
 
-/// Where the search for tiles stands, what is kept of cells, the pairs so far, and room for a place's cells and for the
-/// tiles that it meets.
+/// Where the search for tiles stands, what is kept of cells, the pairs so far, a desk for what lies ahead, and room for a
+/// place's cells.
 #[derive(Drop)]
 pub struct Pass {
     pub finder: Finder,
     pub traces: Traces,
     pub pairs: Pairs,
+    pub desk: Desk,
     pub cells: Vec<usize>,
-    pub met: Vec<usize>,
 }
 
 /// The numbers of the cells that a row's accesses touch at these turns, the written one first.
@@ -54,6 +58,19 @@ fn put_cells(row: &Row, turns: &[i64], cells: &mut Vec<usize>) -> Result<(), All
     Ok(())
 }
 
+/// The same where the row is laid on a desk.
+fn put_laid(row: &Row, desk: &Desk, cells: &mut Vec<usize>) -> Result<(), AllocError>
+    requires { HasRoom row.now desk.now }
+    ensures { OnOk result ((steps turns : List ℤ) → IsLaid row.now steps turns desk.now
+        → cells.new.items ≡ cells_at row.now turns) }
+{
+    cells.clear();
+    for access in 0..row.cells.len() {
+        cells.push(row.cell(desk, access))?;
+    }
+    Ok(())
+}
+
 /// A tile holds a place that reads cells and then writes one; `cells` are these, the written one first.
 fn take(
     alloc: Global,
@@ -61,22 +78,20 @@ fn take(
     written: usize,
     read: &[usize],
     tile: usize,
-    met: &mut Vec<usize>,
     traces: &mut Traces,
     pairs: &mut Pairs,
 ) -> Result<(), AllocError>
     requires cells { cells.now ≡ written ∷ read.now }
     requires can { CanTake cells.now traces.old pairs.old }
     ensures even { OnOk result (AreEven traces.new) }
-    ensures count { OnOk result (pairs.new.count ≡ length (joined (rows_in pairs.new))) }
+    ensures kept { OnOk result (AreKept pairs.new) }
     ensures visited { OnOk result (HasVisited tile written read.now (marks_in traces.old) (readers_in traces.old)
         (marks_in traces.new) (readers_in traces.new)) }
     ensures gains { OnOk result (Gains (met_at traces.old cells.now written) tile (rows_in pairs.old)
         (rows_in pairs.new)) }
 {
     traces.reach_all(alloc, cells)?;
-    traces.meet(cells, written, met)?;
-    pairs.add_all(met.as_slice(), tile)?;
+    traces.meet(cells, written, tile, pairs)?;
     traces.visit(read, written, tile)?;
     Ok(())
 }
@@ -86,7 +101,6 @@ fn take_all(
     alloc: Global,
     cells: &[usize],
     tile: usize,
-    met: &mut Vec<usize>,
     traces: &mut Traces,
     pairs: &mut Pairs,
 ) -> Result<(), AllocError>
@@ -96,7 +110,7 @@ fn take_all(
     match cells.split_first() {
         None => Ok(()),
         Some((written, read)) => {
-            take(alloc, cells, *written, read, tile, met, traces, pairs)?;
+            take(alloc, cells, *written, read, tile, traces, pairs)?;
             Ok(())
         }
     }
@@ -104,25 +118,32 @@ fn take_all(
 
 impl Pass {
     /// No place was passed.
-    fn of(alloc: Global, tiling: &Tiling, list: &TileList) -> Result<Pass, AllocError>
+    fn of(
+        alloc: Global,
+        table: &Table,
+        tiling: &Tiling,
+        list: &TileList,
+    ) -> Result<Pass, AllocError>
         requires size { HasSize (tiling_of tiling.now) }
         requires fits { FirstsFit (tiling_of tiling.now) list.now.tiles.items }
         ensures finder { IfOk result (λ pass. IsFinder (tiling_of tiling.now) list.now pass.finder) }
+        ensures room { IfOk result (λ pass. HasRoomForAll table.now pass.desk) }
         ensures even { IfOk result (λ pass. AreEven pass.traces) }
         ensures marks { IfOk result (λ pass. marks_in pass.traces ≡ []) }
         ensures readers { IfOk result (λ pass. readers_in pass.traces ≡ []) }
         ensures long { IfOk result (λ pass. length pass.pairs.rows.items ≡ length list.now.tiles.items) }
         ensures none { IfOk result (λ pass. joined (rows_in pass.pairs) ≡ []) }
-        ensures count { IfOk result (λ pass. pass.pairs.count ≡ 0) }
+        ensures kept { IfOk result (λ pass. AreKept pass.pairs) }
     {
         let finder = Finder::of(alloc, tiling, list)?;
         let pairs = Pairs::none(alloc, list.tiles.len())?;
+        let desk = table.desk(alloc)?;
         Ok(Pass {
             finder,
             traces: Traces::none(alloc),
             pairs,
+            desk,
             cells: Vec::new(alloc),
-            met: Vec::new(alloc),
         })
     }
 
@@ -144,6 +165,8 @@ impl Pass {
         requires take { (row : GivenRow) → slice_get table.now.rows.items instance.now.statement ≡ Some row
             → CanTake (cells_at row (instance_of instance.now).turns) self.old.traces self.old.pairs }
         ensures finder { OnOk result (IsFinder (tiling_of tiling.now) list.now self.new.finder) }
+        ensures here { OnOk result (IsTileOf (tiling_of tiling.now) list.now self.new.finder.at (instance_of instance.now)) }
+        ensures desk { self.new.desk ≡ self.old.desk }
         ensures taken { OnOk result ((row : GivenRow)
             → slice_get table.now.rows.items instance.now.statement ≡ Some row
             → IsTaken (tiling_of tiling.now) list.now (instance_of instance.now)
@@ -160,12 +183,90 @@ impl Pass {
             alloc,
             self.cells.as_slice(),
             tile,
-            &mut self.met,
             &mut self.traces,
             &mut self.pairs,
         )?;
         Ok(())
     }
+}
+
+/// Passes so many of the next places of a stretch, which lie in the tile that was found last: the cells of each by a sum an
+/// access.
+fn take_ahead(
+    alloc: Global,
+    kernel: &Kernel,
+    source: &Tree,
+    params: &[i64],
+    table: &Table,
+    tiling: &Tiling,
+    list: &TileList,
+    spot: &Spot,
+    count: u64,
+    pass: &mut Pass,
+) -> Result<(), AllocError>
+    requires can { CanPass (program_of kernel.now) params.now (tiling_of tiling.now) list.now table.now }
+    requires some { 1 ≤ count }
+    requires few { count ≤ spot.now.stretch.left }
+    requires tile { LieIn (tiling_of tiling.now) list.now pass.old.finder.at spot.now.stretch count }
+    requires room { HasRoomForAll table.now pass.old.desk }
+    requires way { IsOnItsWay (program_of kernel.now) params.now (tiling_of tiling.now) list.now
+        (to_come (trees_in source.now) params.now spot.now) pass.old.traces pass.old.pairs }
+    ensures finder { OnOk result (pass.new.finder ≡ pass.old.finder) }
+    ensures room { OnOk result (HasRoomForAll table.now pass.new.desk) }
+    ensures way { OnOk result (IsOnItsWay (program_of kernel.now) params.now (tiling_of tiling.now) list.now
+        (to_come_on (trees_in source.now) params.now spot.now count) pass.new.traces pass.new.pairs) }
+{
+    instances_are_those_of_statements();
+    statements_are_numbered();
+    cells_lie_within_22_bits();
+    let before = &spot.stretch.before;
+    let tile = pass.finder.at;
+    let row = table.row(before.statement);
+    let steps = &spot.stretch.steps[..before.loops];
+    row.lay(&mut pass.desk, before.turns(), steps);
+    for _ in 0..count {
+        row.go_on(&mut pass.desk);
+        put_laid(row, &pass.desk, &mut pass.cells)?;
+        let cells = pass.cells.as_slice();
+        take_all(alloc, cells, tile, &mut pass.traces, &mut pass.pairs)?;
+    }
+    Ok(())
+}
+
+/// Passes the places of the stretch behind an instance that was passed, as far as its tile surely holds them.
+fn pass_ahead(
+    alloc: Global,
+    kernel: &Kernel,
+    source: &Tree,
+    params: &[i64],
+    table: &Table,
+    tiling: &Tiling,
+    list: &TileList,
+    passed: &Instance,
+    spot: &mut Spot,
+    pass: &mut Pass,
+) -> Result<(), AllocError>
+    requires can { CanPass (program_of kernel.now) params.now (tiling_of tiling.now) list.now table.now }
+    requires front { IsTileOf (tiling_of tiling.now) list.now pass.old.finder.at (instance_of passed.now) }
+    requires passing { IsPassing (program_of kernel.now) params.now (trees_in source.now) (tiling_of tiling.now) list.now
+        table.now spot.old pass.old }
+    ensures passing { OnOk result (IsPassing (program_of kernel.now) params.now (trees_in source.now)
+        (tiling_of tiling.now) list.now table.now spot.new pass.new) }
+    ensures fewer { OnOk result (length (to_come (trees_in source.now) params.now spot.new)
+        ≤ length (to_come (trees_in source.now) params.now spot.old)) }
+{
+    if !spot.stretch.follows(passed) {
+        return Ok(());
+    }
+    let count = pass.finder.ahead(tiling, list, &spot.stretch)?;
+    if count == 0 {
+        return Ok(());
+    }
+    take_ahead(
+        alloc, kernel, source, params, table, tiling, list, spot, count, pass,
+    )?;
+    go_along(&mut spot.stretch, count);
+    Ok(())
 }
 
 /// Passes the places that are left, until there are too many pairs.
@@ -182,12 +283,8 @@ fn pass_rest(
 ) -> Result<(), AllocError>
     requires can { CanPass (program_of kernel.now) params.now (tiling_of tiling.now) list.now table.now }
     requires walk { CanWalk (trees_in source.now) params.now [] }
-    requires spot { IsSpotOf (trees_in source.now) params.now spot.old }
-    requires all { to_come (trees_in source.now) params.now spot.old
-        ≡ map instance (walk_of (program_of kernel.now) params.now) }
-    requires finder { IsFinder (tiling_of tiling.now) list.now pass.old.finder }
-    requires none { HasPassed (program_of kernel.now) params.now (tiling_of tiling.now) list.now 0 pass.old.traces
-        pass.old.pairs }
+    requires passing { IsPassing (program_of kernel.now) params.now (trees_in source.now) (tiling_of tiling.now) list.now
+        table.now spot.old pass.old }
     ensures { OnOk result (AreFound (program_of kernel.now) params.now (tiling_of tiling.now) list.now 4194304
         pass.new.pairs) }
 {
@@ -196,6 +293,9 @@ fn pass_rest(
     cells_lie_within_22_bits();
     while let Some(instance) = spot.next(source, params) {
         pass.pass(alloc, table, tiling, list, &instance)?;
+        pass_ahead(
+            alloc, kernel, source, params, table, tiling, list, &instance, spot, pass,
+        )?;
         if pass.pairs.count > MOST {
             return Ok(());
         }
@@ -217,7 +317,7 @@ pub(crate) fn pairs_of(
 {
     let source = Tree::of_source(alloc, kernel)?;
     let mut spot = Spot::of(alloc, &source)?;
-    let mut pass = Pass::of(alloc, tiling, list)?;
+    let mut pass = Pass::of(alloc, table, tiling, list)?;
     pass_rest(
         alloc, kernel, &source, params, table, tiling, list, &mut spot, &mut pass,
     )?;

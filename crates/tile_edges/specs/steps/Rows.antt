@@ -1,5 +1,6 @@
 -- Rows of tiles, one behind another.
-use Rattle.std.specs.Prelude.{◌≡◌, ℕ, ◌+◌, ◌<◌, List, [], ◌∷◌, ◌++◌, length, map, get_or, nat_eq}
+use Rattle.std.specs.Prelude.{◌≡◌, ◌⊎◌, ℕ, ◌+◌, ◌<◌, List, [], ◌∷◌, ◌++◌, length, map, get_or, nat_eq}
+use Rattle.scop_syntax.specs.Members.{In}
 use Rattle.tile_events.specs.Plan.{count_of}
 use Rattle.tile_edges.specs.declared.waiting.TileEdges.{TileEdges}
 use Rattle.tile_edges.specs.declared.pairing.Pairs.{Pairs}
@@ -12,6 +13,13 @@ rows_in pairs = map (λ s. s.keys) pairs.rows.items
 abbrev pub joined : List (List ℕ) → List ℕ
 joined [] = []
 joined (row ∷ rows) = row ++ joined rows
+
+-- they are counted, and what was told of a tile last, if not itself, waits for it
+pub record AreKept (pairs : Pairs) : Type 0 where
+  pub count : pairs.count ≡ length (joined (rows_in pairs))
+  pub long : length pairs.told.items ≡ length pairs.rows.items
+  pub told : (t : ℕ) → (get_or pairs.told.items t t ≡ t)
+      ⊎ In (get_or pairs.told.items t t) (get_or (rows_in pairs) t [])
 
 -- where each begins, and where the last one ends, from k on
 abbrev pub starts_from : ℕ → List (List ℕ) → List ℕ

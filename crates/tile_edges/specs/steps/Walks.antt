@@ -19,7 +19,7 @@ use Rattle.tile_list.specs.Tiles.{HasSize, RowsFit}
 use Rattle.tile_edges.specs.Edges.{Holds, IsTileOf}
 use Rattle.tile_edges.specs.steps.Finding.{FirstsFit, HasTileOf, TilesRise}
 use Rattle.tile_edges.specs.steps.Gains.{AreRising, Gains}
-use Rattle.tile_edges.specs.steps.Rows.{joined, rows_in}
+use Rattle.tile_edges.specs.steps.Rows.{AreKept, joined, rows_in}
 use Rattle.tile_edges.specs.steps.Touches.{AreEven, marks_in, readers_in}
 use Rattle.tile_edges.specs.steps.Traces.{ArePairs, AreTraces, HasVisited, met}
 use Rattle.tile_edges.specs.declared.pairing.Pairs.{Pairs}
@@ -61,7 +61,7 @@ pub record HasPassed (program : Program) (params : List ℤ) (tiling : Tiling) (
       (readers_in kept)
   pub pairs : ArePairs (held_by program params tiling list) (touched program params) n (rows_in found)
   pub rises : AreRising (rows_in found)
-  pub count : found.count ≡ length (joined (rows_in found))
+  pub kept_is : AreKept found
   pub long : length found.rows.items ≡ length list.tiles.items
 
 -- these instances are left of the walk
@@ -101,14 +101,14 @@ met_at kept cells w = met (marks_in kept) cells ++ get_or (readers_in kept) w []
 -- a place that touches these cells can be taken, and has been, the first by writing it
 pub record CanTake (cells : List ℕ) (kept : Traces) (found : Pairs) : Type 0 where
   pub even : AreEven kept
-  pub count : found.count ≡ length (joined (rows_in found))
+  pub kept_is : AreKept found
   pub tiles : (w : ℕ) (rs : List ℕ) → cells ≡ w ∷ rs → (t : ℕ) → In t (met_at kept cells w)
       → t < length found.rows.items
 
 pub record HasTaken (cells : List ℕ) (u : ℕ) (kept : Traces) (found : Pairs) (kept_then : Traces) (found_then : Pairs)
     : Type 0 where
   pub even : AreEven kept_then
-  pub count : found_then.count ≡ length (joined (rows_in found_then))
+  pub kept_is : AreKept found_then
   pub visited : (w : ℕ) (rs : List ℕ) → cells ≡ w ∷ rs
       → HasVisited u w rs (marks_in kept) (readers_in kept) (marks_in kept_then) (readers_in kept_then)
   pub gains : (w : ℕ) (rs : List ℕ) → cells ≡ w ∷ rs

@@ -1,4 +1,4 @@
-use Rattle.std.proofs.Common.{◌∙◌}
+use Rattle.std.proofs.Common.{◌∙◌, arith}
 use Rattle.scop_syntax.specs.Limits.{has_parameters}
 use Rattle.scop_syntax.specs.View.{program_of}
 use Rattle.loop_tree.specs.TilingView.{tiling_of}
@@ -12,16 +12,18 @@ pub pass_rest-requires-clause-walk : goal.pass_rest-requires-clause-walk
 pass_rest-requires-clause-walk c =
     c.in_ok-source.ensures.walk c.args.params.now (has_parameters c.requires.limits)
 
-pub pass_rest-requires-clause-spot : goal.pass_rest-requires-clause-spot
-pass_rest-requires-clause-spot c = c.in_ok-spot.ensures.spot c.args.params.now
-
-pub pass_rest-requires-clause-all : goal.pass_rest-requires-clause-all
-pass_rest-requires-clause-all c =
-    c.in_ok-spot.ensures.rest c.args.params.now
-    ∙ c.in_ok-source.ensures.visits c.args.params.now c.requires.limits.count
-
-pub pass_rest-requires-clause-none : goal.pass_rest-requires-clause-none
-pass_rest-requires-clause-none c =
-    none_passed (program_of c.args.kernel.now) c.args.params.now (tiling_of c.args.tiling.now) c.args.list.now
-    c.in_ok-pass.pass.traces c.in_ok-pass.pass.pairs c.in_ok-pass.ensures.even c.in_ok-pass.ensures.marks
-    c.in_ok-pass.ensures.readers c.in_ok-pass.ensures.long c.in_ok-pass.ensures.none c.in_ok-pass.ensures.count
+pub pass_rest-requires-clause-passing : goal.pass_rest-requires-clause-passing
+pass_rest-requires-clause-passing c = record {
+  spot_is = c.in_ok-spot.ensures.spot c.args.params.now;
+  finder = c.in_ok-pass.ensures.finder;
+  room = c.in_ok-pass.ensures.room;
+  way = record {
+    done = 0;
+    within = omega arith;
+    left = c.in_ok-spot.ensures.rest c.args.params.now
+        ∙ c.in_ok-source.ensures.visits c.args.params.now c.requires.limits.count;
+    passed = none_passed (program_of c.args.kernel.now) c.args.params.now (tiling_of c.args.tiling.now) c.args.list.now
+        c.in_ok-pass.pass.traces c.in_ok-pass.pass.pairs c.in_ok-pass.ensures.even c.in_ok-pass.ensures.marks
+        c.in_ok-pass.ensures.readers c.in_ok-pass.ensures.long c.in_ok-pass.ensures.none c.in_ok-pass.ensures.kept;
+  };
+}

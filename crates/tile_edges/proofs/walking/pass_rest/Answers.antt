@@ -1,20 +1,14 @@
-use Rattle.std.proofs.Common.{◌≡◌, ◌<◌, [], arith, rules}
+use Rattle.std.proofs.Common.{◌≡◌, ◌<◌, [], rules, subst, sym}
 use Rattle.scop_syntax.specs.View.{instance_of, program_of}
 use Rattle.loop_tree.specs.SpotView.{to_come}
 use Rattle.loop_tree.specs.TilingView.{tiling_of}
 use Rattle.loop_tree.specs.View.{trees_in}
+use Rattle.stmt_table.specs.Desks.{HasRoomForAll}
 use Rattle.stmt_table.proofs.Visits.{WalkLaws}
 use Rattle.tile_edges.specs.steps.Walks.{cells_at}
 use Rattle.tile_edges.proofs.PassedPlaces.{can_take, cells_told, found_all, found_many, next_place, next_walked}
 use Rattle.tile_edges.proofs.PassedPlaces.{row_within, step_on}
 use Rattle.tile_edges.proofs.walking.pass_rest.Goals as goal
-
-pub loop-instance-init : goal.loop-instance-init
-loop-instance-init c = record {
-  spot = c.requires.spot;
-  finder = c.requires.finder;
-  way = record { done = 0; within = omega arith; left = c.requires.all; passed = c.requires.none };
-}
 
 pub pass-requires-clause-row : goal.pass-requires-clause-row
 pass-requires-clause-row c =
@@ -96,8 +90,8 @@ pass-requires-clause-take c row told =
     (cells_told program params tiling list table can laws c.cells_lie_within_22_bits.ensures.numbers x rest kept found
     next row told)
 
-pub loop-instance-preserved : goal.loop-instance-preserved
-loop-instance-preserved c =
+pub pass_ahead-requires-clause-passing : goal.pass_ahead-requires-clause-passing
+pass_ahead-requires-clause-passing c =
     let program = program_of c.args.kernel.now in
     let params = c.args.params.now in
     let tiling = tiling_of c.args.tiling.now in
@@ -112,8 +106,9 @@ loop-instance-preserved c =
       number = c.statements_are_numbered.ensures.number;
     } in
     record {
-      spot = c.in-Some.ensures.spot;
+      spot_is = c.in-Some.ensures.spot;
       finder = c.in_ok-pass.ensures.finder;
+      room = subst (HasRoomForAll table) (sym c.in_ok-pass.ensures.desk) c.loop-instance.invariant.room;
       way = step_on program params tiling list table c.requires.can laws c.cells_lie_within_22_bits.ensures.numbers x
           all rest c.loop-instance.pass.traces c.pass.new.self.traces c.loop-instance.pass.pairs c.pass.new.self.pairs
           c.in-Some.ensures.rest c.loop-instance.invariant.way c.in_ok-pass.ensures.taken;
@@ -121,25 +116,11 @@ loop-instance-preserved c =
 
 pub returns-then-pass-gt-MOST : goal.returns-then-pass-gt-MOST
 returns-then-pass-gt-MOST c =
-    let program = program_of c.args.kernel.now in
-    let params = c.args.params.now in
-    let tiling = tiling_of c.args.tiling.now in
-    let list = c.args.list.now in
-    let table = c.args.table.now in
-    let x = instance_of c.in-Some.instance in
-    let all = to_come (trees_in c.args.source.now) params c.loop-instance.spot in
-    let rest = to_come (trees_in c.args.source.now) params c.next.new.self in
-    let laws : WalkLaws = record {
-      found = c.instances_are_those_of_statements.ensures.found;
-      turns = c.instances_are_those_of_statements.ensures.turns;
-      number = c.statements_are_numbered.ensures.number;
-    } in
-    let many : 4194304 < c.pass.new.self.pairs.count = search rules in
-    found_many program params tiling list table c.requires.can 4194304 rest c.pass.new.self.traces
-    c.pass.new.self.pairs many
-    (step_on program params tiling list table c.requires.can laws c.cells_lie_within_22_bits.ensures.numbers x all rest
-    c.loop-instance.pass.traces c.pass.new.self.traces c.loop-instance.pass.pairs c.pass.new.self.pairs
-    c.in-Some.ensures.rest c.loop-instance.invariant.way c.in_ok-pass.ensures.taken)
+    let many : 4194304 < c.pass_ahead.new.pass.pairs.count = search rules in
+    found_many (program_of c.args.kernel.now) c.args.params.now (tiling_of c.args.tiling.now) c.args.list.now
+    c.args.table.now c.requires.can 4194304
+    (to_come (trees_in c.args.source.now) c.args.params.now c.pass_ahead.new.spot) c.pass_ahead.new.pass.traces
+    c.pass_ahead.new.pass.pairs many c.in_ok-pass_ahead.ensures.passing.way
 
 pub returns : goal.returns
 returns c =

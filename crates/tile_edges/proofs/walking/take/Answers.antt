@@ -1,4 +1,4 @@
-use Rattle.std.proofs.Common.{◌≡◌, ◌∙◌, inl, inr, refl, rules, subst, sym}
+use Rattle.std.proofs.Common.{inl, inr, refl, subst, sym}
 use Rattle.scop_syntax.specs.Members.{In}
 use Rattle.tile_edges.specs.steps.Gains.{Gains}
 use Rattle.tile_edges.specs.steps.Rows.{rows_in}
@@ -11,15 +11,12 @@ meet-requires-clause-written c =
     c.in_ok-reach_all.ensures.room c.args.written
     (subst (λ cs. In c.args.written cs) (sym c.requires.cells) (inl refl))
 
-pub add_all-requires-clause-firsts : goal.add_all-requires-clause-firsts
-add_all-requires-clause-firsts c t i =
-    let lent : c.as_slice.result.now ≡ c.meet.new.tiles.items = search rules in
+pub meet-requires-clause-tiles : goal.meet-requires-clause-tiles
+meet-requires-clause-tiles c t i =
     c.requires.can.tiles c.args.written c.args.read.now c.requires.cells t
     (subst (λ ts. In t ts)
-    (lent
-    ∙ (c.in_ok-meet.ensures
-    ∙ met_at_same c.args.traces.now c.reach_all.new.self c.args.cells.now c.args.written
-    c.in_ok-reach_all.ensures.same)) i)
+    (met_at_same c.args.traces.now c.reach_all.new.self c.args.cells.now c.args.written
+    c.in_ok-reach_all.ensures.same) i)
 
 pub visit-requires-clause-room : goal.visit-requires-clause-room
 visit-requires-clause-room c d i =
@@ -37,9 +34,6 @@ returns-clause-visited c =
 
 pub returns-clause-gains : goal.returns-clause-gains
 returns-clause-gains c =
-    let lent : c.as_slice.result.now ≡ c.meet.new.tiles.items = search rules in
-    subst (λ ts. Gains ts c.args.tile (rows_in c.args.pairs.now) (rows_in c.add_all.new.self))
-    (lent
-    ∙ (c.in_ok-meet.ensures
-    ∙ met_at_same c.args.traces.now c.reach_all.new.self c.args.cells.now c.args.written
-    c.in_ok-reach_all.ensures.same)) c.in_ok-add_all.ensures.gains
+    subst (λ ts. Gains ts c.args.tile (rows_in c.args.pairs.now) (rows_in c.meet.new.pairs))
+    (met_at_same c.args.traces.now c.reach_all.new.self c.args.cells.now c.args.written
+    c.in_ok-reach_all.ensures.same) c.in_ok-meet.ensures.gains

@@ -13,5 +13,5 @@ take-requires-clause-cells c = c.in-Some.ensures.cases.0
 pub returns-in_ok-take-in-Some : goal.returns-in_ok-take-in-Some
 returns-in_ok-take-in-Some c =
     has_taken c.in-Some.written.now c.in-Some.read.now c.args.cells.now c.args.tile c.args.traces.now c.take.new.traces
-    c.args.pairs.now c.take.new.pairs c.in-Some.ensures.cases.0 c.in_ok-take-in-Some.ensures.even c.in_ok-take-in-Some.ensures.count
+    c.args.pairs.now c.take.new.pairs c.in-Some.ensures.cases.0 c.in_ok-take-in-Some.ensures.even c.in_ok-take-in-Some.ensures.kept
     c.in_ok-take-in-Some.ensures.visited c.in_ok-take-in-Some.ensures.gains

@@ -10,7 +10,7 @@ use Rattle.tile_edges.proofs.pairing.Pairs.add_all.Goals as goal
 pub loop-first-init : goal.loop-first-init
 loop-first-init c = record {
   gains = none_gains c.args.second (rows_in c.args.self.now);
-  count = c.requires.count;
+  kept = c.requires.kept;
   long = refl;
 }
 
@@ -33,7 +33,7 @@ loop-first-preserved c =
       gains = gains_more c.args.firsts.now c.loop-first.first-index (get_or c.args.firsts.now c.loop-first.first-index 0) c.args.second
           (rows_in c.args.self.now) (rows_in c.loop-first.self) (rows_in c.add.new.self) (omega arith) (number_at c.args.firsts.now c.loop-first.first-index (omega arith))
           c.loop-first.invariant.gains gains;
-      count = c.in_ok-add.ensures.count;
+      kept = c.in_ok-add.ensures.kept;
       long = omega (arith, long, same, seen, seen_then);
     }
 

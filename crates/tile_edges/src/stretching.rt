@@ -1,0 +1,115 @@
+//! Stretches of the walk: how many of the next instances a tile may hold, and going on by many of them at once.
+ghost use Rattle.std.specs.Prelude.{◌≡◌, ◌+ℤ◌, ◌<◌, ◌≤◌, All, FitsSigned, get_or, pos, take};
+ghost use Rattle.std.specs.Int.{w64};
+ghost use Rattle.scop_syntax.specs.View.{instance_of};
+ghost use Rattle.whole_numbers.specs.Lists.{multiples};
+ghost use Rattle.loop_tree.specs.Conditions.{IsHeld};
+ghost use Rattle.loop_tree.specs.Stretches.{left_of};
+ghost use Rattle.loop_tree.specs.TilingView.{tiling_of};
+ghost use Rattle.tile_list.specs.Tiles.{HasSize};
+ghost use Rattle.tile_list.specs.steps.Stretching.{steps_on};
+ghost use Rattle.tile_edges.specs.steps.Ahead.{left_on};
+
+use crate::finding::band_at;
+use loop_tree::{Stretch, TileRow, Tiling};
+use scop_syntax::affine_values::{value_at, with_product};
+use scop_syntax::instance::{Instance, MAX_LOOPS};
+
+/// What a turn is so many steps on, where there is room for it; another number elsewhere.
+fn turn_after(turns: &[i64; MAX_LOOPS], steps: &[i64; MAX_LOOPS], count: u64, place: usize) -> i64
+    requires { place < 5 }
+    ensures { FitsSigned w64 (get_or turns.now place (pos 0) +ℤ get_or (multiples (pos count) steps.now) place (pos 0))
+        → result ≡ get_or turns.now place (pos 0) +ℤ get_or (multiples (pos count) steps.now) place (pos 0) }
+{
+    with_product(turns[place], steps[place], count.cast_signed())
+}
+
+/// The instance so many steps behind another one.
+pub(crate) fn after(before: &Instance, steps: &[i64; MAX_LOOPS], count: u64) -> Instance
+    requires { All (FitsSigned w64) (steps_on before.now.statement (instance_of before.now).turns
+        (take before.now.loops steps.now) count).turns }
+    ensures instance { instance_of result ≡ steps_on before.now.statement (instance_of before.now).turns
+        (take before.now.loops steps.now) count }
+    ensures loops { result.loops ≡ before.now.loops }
+{
+    Instance {
+        statement: before.statement,
+        loops: before.loops,
+        turns: [
+            turn_after(&before.turns, steps, count, 0),
+            turn_after(&before.turns, steps, count, 1),
+            turn_after(&before.turns, steps, count, 2),
+            turn_after(&before.turns, steps, count, 3),
+            turn_after(&before.turns, steps, count, 4),
+        ],
+    }
+}
+
+/// How far a number stands above the next multiple of the size below it.
+fn offset_in(value: i64, size: u64) -> u64
+    requires { 1 ≤ size }
+{
+    if value >= 0 {
+        value as u64 % size
+    } else {
+        (size - 1).wrapping_sub((-1 - value) as u64 % size)
+    }
+}
+
+/// For how many steps a row's value stays within its coordinate, modulo 2^64.
+fn steps_within(row: &TileRow, size: u64, turns: &[i64], steps: &[i64]) -> u64
+    requires { 1 ≤ size }
+{
+    let step = value_at(&row.form, steps).wrapping_sub(row.form.constant);
+    let pace = step.unsigned_abs();
+    if pace == 0 {
+        return u64::MAX;
+    }
+    let offset = offset_in(value_at(&row.form, turns), size);
+    if step < 0 {
+        offset / pace
+    } else {
+        (size - 1).wrapping_sub(offset) / pace
+    }
+}
+
+/// For how many steps the values of all rows do, `most` at most.
+fn all_within(rows: &[TileRow], size: u64, turns: &[i64], steps: &[i64], most: u64) -> u64
+    requires { 1 ≤ size }
+    ensures { result ≤ most }
+{
+    let mut least = most;
+    for row in rows {
+        least = least.min(steps_within(row, size, turns, steps));
+    }
+    least
+}
+
+/// How many of the instances that are left of a stretch lie in the tile of the one in front, if no number is too large:
+/// who wants to be sure looks at the last of them.
+pub(crate) fn likely_ahead(tiling: &Tiling, stretch: &Stretch) -> u64
+    requires { HasSize (tiling_of tiling.now) }
+    ensures { result ≤ stretch.now.left }
+{
+    match tiling {
+        Tiling::Kept => stretch.left,
+        Tiling::Tiled(size, statements) => all_within(
+            band_at(statements, stretch.before.statement),
+            *size,
+            stretch.before.turns(),
+            &stretch.steps[..stretch.before.loops],
+            stretch.left,
+        ),
+    }
+}
+
+/// Passes so many of the instances that are left of a stretch.
+pub(crate) fn go_along(stretch: &mut Stretch, count: u64)
+    requires some { 1 ≤ count }
+    requires few { count ≤ stretch.old.left }
+    requires held { All IsHeld (left_of stretch.old) }
+    ensures { left_of stretch.new ≡ left_on stretch.old count }
+{
+    stretch.before = after(&stretch.before, &stretch.steps, count);
+    stretch.left -= count;
+}
