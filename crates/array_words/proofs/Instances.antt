@@ -1,7 +1,6 @@
--- The next instance of a tile in the plan with its releases: its reads (`read_next`), and its store (`store_next`).
-use Rattle.std.proofs.Common.{◌≡◌, ◌∙◌, ℕ, zero, suc, ◌-◌, ◌<◌, false, List, [], ◌∷◌, length, get_or, map}
+-- The next instance of a tile in the plan with its releases: its reads (`read_next`), and its last act (`last_next`).
+use Rattle.std.proofs.Common.{◌≡◌, ◌∙◌, ℕ, zero, suc, ◌-◌, ◌<◌, Bool, List, [], ◌∷◌, length, get_or, map}
 use Rattle.std.proofs.Common.{ap, sym, arith}
-use Rattle.std.specs.Prelude.{⊤}
 use Rattle.tile_events.specs.Plan as plain
 use Rattle.tile_events.specs.Plan.{IsDealt}
 use Rattle.tile_core.specs.Plans.{plan_of, walk_plan, walk_shape}
@@ -11,7 +10,7 @@ use Rattle.tile_core.specs.declared.worker.Stage.{Stage}
 use Rattle.tile_core.specs.declared.worker.Stage.TheVariants.{Idle, Ended, Holding, Working}
 use Rattle.tile_core.proofs.Gates.{shape_extends}
 use Rattle.array_words.specs.Loads.{IsNextRead}
-use Rattle.array_words.specs.Stores.{IsNextStore}
+use Rattle.array_words.specs.Stores.{IsNextLast}
 
 -- a list of sizes has one where a tile has an instance
 some_in : {A : Type 0} (size : A → ℕ) (xs : List A) (t k : ℕ)
@@ -24,13 +23,6 @@ some_in size (x ∷ xs) (suc t) k l = let i = some_in size xs t k (omega (arith,
 -- a tile with an instance is one of the plan's
 pub tile_in : (plan : Plan) (t k : ℕ) → k < (walk_shape plan).size t → t < (walk_shape plan).tiles
 tile_in plan t k l = some_in _ plan.list.now.tiles.items t k l
-
--- the cell of the next act is stored to
-abbrev pub IsStored : plain.Plan → Stage → Type 0
-IsStored p Idle = ⊤
-IsStored p Ended = ⊤
-IsStored p (Holding t) = ⊤
-IsStored p (Working t k) = p.adds (p.written (p.place t k)) ≡ false
 
 module _ (plan : Plan) (cells : List ℕ) (dealt : IsDealt (walk_plan plan cells)) where
   abbrev p : plain.Plan
@@ -71,22 +63,17 @@ module _ (plan : Plan) (cells : List ℕ) (dealt : IsDealt (walk_plan plan cells
         at ∙ sym (ap (λ (rs : List ℕ). get_or rs (length xs) 0) same),
       )
 
-  pub store_next : (s : Stage) (xs : List ℕ) (c x : ℕ) → IsNextStore p s xs c x → IsNextStore q s xs c x
-  store_next Idle xs c x next = absurd next
-  store_next Ended xs c x next = absurd next
-  store_next (Holding t) xs c x next = absurd next
-  store_next (Working t k) xs c x (less, all, at, value) =
+  pub last_next : (adds : Bool) (s : Stage) (xs : List ℕ) (c x : ℕ) → IsNextLast adds p s xs c x
+      → IsNextLast adds q s xs c x
+  last_next adds Idle xs c x next = absurd next
+  last_next adds Ended xs c x next = absurd next
+  last_next adds (Holding t) xs c x next = absurd next
+  last_next adds (Working t k) xs c x (less, all, kind, at, value) =
       let n = ap (λ (rs : List ℕ). length rs) (same_reads t k less) in (
         size_in t k less,
         omega (arith, all, n),
+        ap q.adds (same_cell t k less)
+            ∙ ((shape_extends plan).adds (p.written (p.place t k)) (dealt.written (p.place t k) (within t k less)) ∙ kind),
         at ∙ sym (same_cell t k less),
         value ∙ sym (same_value t k xs less),
       )
-
-  pub stored_next : (s : Stage) (xs : List ℕ) (c x : ℕ) → IsNextStore p s xs c x → IsStored q s
-  stored_next Idle xs c x next = absurd next
-  stored_next Ended xs c x next = absurd next
-  stored_next (Holding t) xs c x next = absurd next
-  stored_next (Working t k) xs c x (less, all, at, value) =
-      ap q.adds (same_cell t k less)
-      ∙ (shape_extends plan).adds (p.written (p.place t k)) (dealt.written (p.place t k) (within t k less))

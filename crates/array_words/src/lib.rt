@@ -4,12 +4,14 @@
 //! a load tells the value that execution reads there.
 #![tactic(auto)]
 
+mod adding;
 mod closing;
 mod gathering;
 mod loading;
 mod opening;
 mod storing;
 
+pub use adding::{Adding, add, add_at};
 pub use closing::{Closed, close};
 pub use gathering::Merge;
 pub use loading::{Loading, load, load_at};

@@ -45,7 +45,7 @@ module _ (a b d : Core) (t k n : ℕ) (later : IsLater a b) (left : k < (walk_sh
 
   pub alone_more : IsAlone (state_in d) (suc t) t (working t (k + n) [])
   alone_more =
-      stretch_alone (walk_shape (plan_in a)) (shape_in a) (state_in b) (state_in d) t k n (λ c. refl) some_more alone
+      stretch_alone (walk_shape (plan_in a)) (shape_in a) (state_in b) (state_in d) t k n refl some_more alone
 
 -- where its instances are done, a release is one of its acts
 pub release_more : (a b d : Core) (seen : Seen) (t k : ℕ) → IsLater a b → (walk_shape (plan_in a)).size t ≤ k

@@ -83,12 +83,12 @@ pub at_first : (s : State) (c f : ℕ) (w : Worker) → IsAlone s c f w → get_
 at_first s c f w a = ap (λ ws. get_elem? ws 0) a.alone
 
 -- n instances of its tile
-pub stretch_alone : (p q : Plan) (s d : State) (t k n : ℕ) → ((c : ℕ) → p.adds c ≡ false)
+pub stretch_alone : (p q : Plan) (s d : State) (t k n : ℕ) → is_counted p.gate ≡ false
     → DoesStretch p q s 0 t k n d → IsAlone s (suc t) t (working t k []) → IsAlone d (suc t) t (working t (k + n) [])
-stretch_alone p q s d t k n stores does a =
+stretch_alone p q s d t k n plain does a =
     subst (λ (x : State). IsAlone x (suc t) t (working t (k + n) []))
     (sym (does.alone ∙ stretch_run p s 0 t k n (at_first s (suc t) t (working t k []) a)
-    (λ m l. stores (p.written (p.place t (k + m)))) does.within)) (record {
+    (λ m l adds. plain) does.within)) (record {
       claims_are = a.claims_are;
       finished_are = a.finished_are;
       alone = alone_put s (suc t) t (working t k []) (working t (k + n) []) a;

@@ -99,6 +99,7 @@ pub fn plan_of<'a>(
         tree,
         list,
         edges,
+        marked: &[],
     }
 }
 
@@ -177,7 +178,7 @@ fn run_shared<W: Workers>(
 {
     tiles_are_counted();
     let list = tiles_of(alloc, kernel, case, tree, tiling)?;
-    let table = Table::of(alloc, kernel, &case.params, &case.extents)?;
+    let table = Table::of(alloc, kernel, &case.params, &case.extents, &[])?;
     let pairs = edges_of(alloc, kernel, case, &table, tree, tiling, &list, release)?;
     let plan = plan_of(kernel, case, &table, tree, tiling, &list, pairs.as_ref());
     run_row(by, alloc, plan, row, &case.arrays, workers as usize)?;

@@ -3,7 +3,8 @@ ghost use Rattle.std.specs.Prelude.{◌≡◌, ℕ, ◌<◌, ◌≤◌, IfOk, Li
 ghost use mathlib.Core.Option.{some};
 ghost use lib.ListN.{get_elem?};
 ghost use Rattle.scop_syntax.specs.Cells.{Cell};
-ghost use Rattle.scop_syntax.specs.Execution.{IsCell, IsShaped, cell_number, exec, held, values_read_by};
+ghost use Rattle.scop_syntax.specs.Execution.{IsCell, IsShaped, cell_number, exec, held};
+ghost use Rattle.tile_core.specs.Marks.{values_loaded_by};
 ghost use Rattle.scop_syntax.specs.Walk.{Visit, instance};
 ghost use Rattle.tile_edges.specs.Edges.{IsTileOf};
 ghost use Rattle.tile_events.specs.Core.{State, idle, step};
@@ -95,14 +96,15 @@ pub fn instance_of(words: &Words, pass: &Pass) -> Option<Instance>
     pass.instance(words)
 }
 
-/// The first place reads what the arrays hold at first, by `reads` of `plans_execute_the_kernel`; where all tiles are
+/// The first place loads what the arrays hold at first, by `reads` of `plans_execute_the_kernel`; where all tiles are
 /// done the cells are those of execution, by `end`; a row that holds the contents makes the same plan, by `row`.
 pub fn values_of_plans()
     ensures row { (plan : AnyPlan) (contents : List (List ℕ)) (cells : List ℕ) → HoldsContents contents cells
         → plan_of plan cells ≡ plan_of plan (flat contents) }
     ensures reads { (plan : AnyPlan) (contents : List (List ℕ)) (v : Visit) → IsPlan plan
         → IsShaped (extents_in plan) contents → slice_get (walk_in plan) 0 ≡ Some v
-        → values_read (plan_of plan (flat contents)) 0 ≡ values_read_by (extents_in plan) contents v.body v.point }
+        → values_read (plan_of plan (flat contents)) 0
+        ≡ values_loaded_by plan.marked.now (extents_in plan) contents v.body v.point }
     ensures end { (plan : AnyPlan) (contents : List (List ℕ)) (s : State) → IsPlan plan
         → IsShaped (extents_in plan) contents → Sound (plan_of plan (flat contents)) s
         → IsQuiet (plan_of plan (flat contents)) s → (c : Cell) → IsCell (extents_in plan) c

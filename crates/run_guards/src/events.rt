@@ -14,7 +14,8 @@ ghost use Rattle.tile_events.specs.Core.{Event, Worker, ended, holding, idle, re
 ghost use Rattle.tile_events.specs.Covers.{Covers};
 ghost use Rattle.tile_events.specs.Deal.{dealt};
 ghost use Rattle.tile_events.specs.Example.{counted, first, some_run, two};
-ghost use Rattle.tile_events.specs.Flat.{AreMarked, IsWalk, flat, is_marked, loads};
+ghost use Rattle.scop_syntax.specs.Reductions.{AreMarked, is_marked, loads};
+ghost use Rattle.tile_events.specs.Flat.{IsWalk, flat};
 ghost use Rattle.tile_events.specs.Plan.{GoodPlan, IsDealt, Plan, Touch, before, values_read, waves};
 ghost use Rattle.tile_events.specs.Rule.{AreCounted, Held, missed, ticked, unmoved};
 ghost use Rattle.tile_events.specs.Sound.{Sound};

@@ -1,7 +1,7 @@
-//! Callers of the steps of a pass: load, store, claim, opening, release and end of a tile, and of a run that is over.
+//! Callers of the steps of a pass: load, store, add, claim, opening, release and end of a tile, and of a run that is over.
 ghost use Rattle.std.specs.Prelude.{◌≡◌, ◌<◌, IfErr, None, [], length, true};
 ghost use Rattle.array_words.specs.Loads.{DoesLoad, IsNextRead};
-ghost use Rattle.array_words.specs.Stores.{DoesStore, IsNextStore};
+ghost use Rattle.array_words.specs.Stores.{DoesAdd, DoesStore, IsNextAdd, IsNextStore};
 ghost use Rattle.tile_claims.specs.Claims.{DoesClaim};
 ghost use Rattle.tile_core.specs.Passes.{IsPass, plan_in, walk_in};
 ghost use Rattle.tile_core.specs.Plans.{HasEdges};
@@ -32,6 +32,15 @@ pub fn zero_stored(words: &Words, pass: &mut Pass, cell: usize)
     ensures { DoesStore words.now pass.old cell 0 pass.new }
 {
     array_words::store(words, pass, cell, 0);
+}
+
+/// The step on the pass's view, by `event` of `add`.
+pub fn one_added(words: &Words, pass: &mut Pass, cell: usize)
+    requires pass { IsPass words.now pass.old }
+    requires next { IsNextAdd (walk_in words.now) pass.old.worker.stage pass.old.worker.reads.items cell 1 }
+    ensures { DoesAdd words.now pass.old cell 1 pass.new }
+{
+    array_words::add(words, pass, cell, 1);
 }
 
 /// Nothing is read yet, by `reads` of `claim`; the step on the pass's view, by `event`.

@@ -11,6 +11,7 @@ pub mod Execution
 pub mod Writers
 pub mod Covers
 pub mod Acts
+pub mod Reductions
 pub mod Limits
 pub mod Failures
 pub mod Fits

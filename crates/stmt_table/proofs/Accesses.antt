@@ -1,9 +1,10 @@
 -- Each access of a well-formed statement names an array.
-use Rattle.std.proofs.Common.{◌≡◌, ◌+◌, ◌<◌, inl, inr, ℕ, ℤ, List, length, map, Some, subst, sym, arith}
+use Rattle.std.proofs.Common.{◌≡◌, ◌∙◌, ◌+◌, ◌<◌, inl, inr, ℕ, zero, suc, ℤ, Bool, true, false, List, [], ◌∷◌, length, map}
+use Rattle.std.proofs.Common.{Some, drop, refl, subst, sym, arith}
 use Rattle.std.specs.Prelude.{slice_get}
 use Rattle.std.proofs.lemmas.List.{length-map}
 use Rattle.scop_meaning.specs.Instances.{AreLayout}
-use Rattle.scop_syntax.specs.Cells.{accesses, reads_of, reads_with, values}
+use Rattle.scop_syntax.specs.Cells.{accesses, reads, reads_of, reads_with, values}
 use Rattle.scop_syntax.specs.Execution.{layout, size_of}
 use Rattle.scop_syntax.specs.Kernel.{IsExpression, IsKernel, IsPlaced, IsRight, IsStatement, ranks_of}
 use Rattle.scop_syntax.specs.Limits.{WithinLimits}
@@ -15,6 +16,7 @@ use Rattle.scop_syntax.specs.Tree.{Declaration, Program, Statement}
 use Rattle.scop_syntax.proofs.Members.{in_append, in_from_place, in_map_from}
 use Rattle.standings.specs.Standings.{Standing, heads_in, standing, standings_of}
 use Rattle.standings.proofs.Heads.{as_many_heads}
+use Rattle.stmt_table.specs.Tables.{touched}
 use Rattle.stmt_table.specs.steps.Forms.{CanForm}
 
 abbrev Names : List ℕ → Access → Type 0
@@ -85,3 +87,14 @@ can_form_at program params k s limits laid placed at =
     (in_from_place (standings_of program) k s at) in
     subst (CanForm (layout program params) params) (sym from.2)
     (can_form program params from.0 limits laid (placed from.0 limits.kernel from.1))
+
+-- what a statement touches is one of its accesses
+drop_one : {A : Type 0} (xs : List A) (a : ℕ) → slice_get (drop 1 xs) a ≡ slice_get xs (suc a)
+drop_one [] a = refl
+drop_one (x ∷ xs) a = refl
+
+pub touched_access : (adds : Bool) (s : Statement) (a : ℕ) (access : Access)
+    → slice_get (touched adds s) a ≡ Some access → (b : ℕ) × (slice_get (accesses s) b ≡ Some access)
+touched_access false s a access at = (a, at)
+touched_access true s zero access at = (zero, at)
+touched_access true s (suc a) access at = (suc (suc a), sym (drop_one (reads s) a) ∙ at)

@@ -1,5 +1,5 @@
 -- A code that grows step by step: slots keep their values, and each kind of node makes its value of those of its parts.
-use Rattle.std.proofs.Common.{◌≡◌, ◌∙◌, ap, ap₂, refl, sym, subst, ℕ, suc, ◌+◌, ◌<◌, ◌≤◌}
+use Rattle.std.proofs.Common.{◌≡◌, ◌∙◌, ap, ap₂, refl, sym, subst, ℕ, suc, ◌+◌, ◌-◌, ◌%◌, ◌^◌, ◌<◌, ◌≤◌}
 use Rattle.std.proofs.Common.{ℤ, List, [], ◌∷◌, ◌++◌, length, map, drop, get_or, arith, length-append}
 use Rattle.std.proofs.lemmas.List.{get_or-drop, get_or_append_left, get_or_push, length-map, length_push}
 use Rattle.std.proofs.lemmas.List.{map-append}
@@ -17,7 +17,7 @@ use Rattle.stmt_table.specs.Codes.{AreSteps, IsStep, leaves_at, made, worked}
 use Rattle.stmt_table.specs.Points.{point_in}
 use Rattle.stmt_table.specs.declared.code.Code.{Code}
 use Rattle.stmt_table.specs.declared.code.Step.{Step}
-use Rattle.stmt_table.specs.declared.code.Step.TheVariants.{Constant, Affine as Leaf, Binary}
+use Rattle.stmt_table.specs.declared.code.Step.TheVariants.{Constant, Affine as Leaf, Binary, Negated}
 use Rattle.stmt_table.specs.steps.Codes.{GoesOn, IsBegun, IsPut, Makes, MakesStored, MakesValue, slots_by}
 use Rattle.stmt_table.specs.steps.AffineParts.{IsFormOver}
 use Rattle.stmt_table.proofs.Codes.{Agree, steps_more, steps_within, worked_front, worked_long, worked_more, worked_same}
@@ -236,3 +236,32 @@ combined_made params heads own e op old mid new part result is reads of_part =
     ap₂ (applied (operator_of op))
     (worked_front (leaves_at mid turns) mid.steps.items values 0 (omega (arith, long, some)))
     (of_part.value turns values many long) ∙ ap (λ (r : Right). stored_by r point values) (sym is)) put)
+
+-- an addend, by the operator
+pub zero_made : {E : Type 0} (loops : ℕ) (value : List ℤ → List ℕ → ℕ) (old mid new : Code) (result : Result ℕ E)
+    → GoesOn old mid → ((turns : List ℤ) (values : List ℕ) → value turns values ≡ 0)
+    → IfOk result (IsPut [] (Constant 0) mid new) → IfOk result (Makes loops value old new)
+zero_made loops value old mid new result goes none =
+    IfOk-weaker result (IsPut [] (Constant 0) mid new) (Makes loops value old new) (λ slot put.
+    put_makes loops value [] (Constant 0) old mid new slot goes tt (λ turns values many long. sym (none turns values)) put)
+
+pub minus_made : {E : Type 0} (loops : ℕ) (value meant : List ℤ → List ℕ → ℕ) (old mid new : Code) (part : ℕ)
+    (result : Result ℕ E) → Makes loops meant old mid part
+    → ((turns : List ℤ) (values : List ℕ) → value turns values ≡ (2 ^ 64 - meant turns values) % 2 ^ 64)
+    → IfOk result (IsPut [] (Negated part) mid new) → IfOk result (Makes loops value old new)
+minus_made loops value meant old mid new part result of_part is =
+    IfOk-weaker result (IsPut [] (Negated part) mid new) (Makes loops value old new) (λ slot put.
+    put_makes loops value [] (Negated part) old mid new slot of_part.code of_part.there
+    (λ turns values many long.
+    ap (λ (x : ℕ). (2 ^ 64 - x) % 2 ^ 64) (of_part.value turns values many long) ∙ sym (is turns values)) put)
+
+-- another meaning that is the same
+pub means_so : {E : Type 0} (loops : ℕ) (value meant : List ℤ → List ℕ → ℕ) (old new : Code) (result : Result ℕ E)
+    → ((turns : List ℤ) (values : List ℕ) → value turns values ≡ meant turns values)
+    → IfOk result (Makes loops meant old new) → IfOk result (Makes loops value old new)
+means_so loops value meant old new result is =
+    IfOk-weaker result (Makes loops meant old new) (Makes loops value old new) (λ slot makes. record {
+      code = makes.code;
+      there = makes.there;
+      value = λ turns values many long. makes.value turns values many long ∙ sym (is turns values);
+    })

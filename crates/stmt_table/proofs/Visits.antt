@@ -1,25 +1,26 @@
 -- The row of a visit's statement, and what it tells at the visit.
-use Rattle.std.proofs.Common.{◌≡◌, ◌∙◌, ap, sym, ℕ, ◌<◌, ◌^◌, ◌%◌, List, length}
+use Rattle.std.proofs.Common.{◌≡◌, ◌∙◌, ap, sym, ℕ, ◌<◌, ◌^◌, ◌%◌, List, [], length}
 use Rattle.std.proofs.Common.{Some, arith}
 use Rattle.std.specs.Prelude.{ℤ, slice_get}
 use Rattle.std.specs.Option.{option_map}
 use Rattle.std.proofs.lemmas.Option.{slice_get-map, slice_get_within}
 use Rattle.whole_numbers.specs.Affine.{Affine, value_of}
-use Rattle.scop_syntax.specs.Cells.{accesses, cell_of, reads}
+use Rattle.scop_syntax.specs.Cells.{accesses, cell_of}
 use Rattle.scop_syntax.specs.Execution.{IsCell, cell_number, layout}
 use Rattle.scop_syntax.specs.Members.{In}
+use Rattle.scop_syntax.specs.Reductions.{is_marked, loads}
 use Rattle.scop_syntax.specs.Statements.{Placed, Runs, Scope, loops_in, statements_of, visit_of}
 use Rattle.scop_syntax.specs.Tree.{Access, Program, Statement}
-use Rattle.scop_syntax.specs.Values.{stored_by, wrapped}
+use Rattle.scop_syntax.specs.Values.{wrapped}
 use Rattle.scop_syntax.specs.Walk.{Instance, Visit, walk_of}
 use Rattle.scop_syntax.proofs.Members.{place_of, there_is}
 use Rattle.scop_meaning.specs.Instances.{IsVisitOf}
 use Rattle.standings.specs.Standings.{Standing, heads_in, standing, standings_of}
 use Rattle.standings.proofs.Heads.{as_many_heads}
-use Rattle.stmt_table.specs.Codes.{value_by}
+use Rattle.stmt_table.specs.Codes.{given_by, value_by}
 use Rattle.stmt_table.specs.Numbers.{number_at}
 use Rattle.stmt_table.specs.Points.{point_in}
-use Rattle.stmt_table.specs.Tables.{IsRowOf, IsTableOf}
+use Rattle.stmt_table.specs.Tables.{IsRowBy, IsTableBy, IsTableOf, touched}
 use Rattle.stmt_table.specs.declared.table.Row.{Row}
 use Rattle.stmt_table.specs.declared.table.Table.{Table}
 use Rattle.stmt_table.proofs.Offsets.{number_exact}
@@ -34,20 +35,25 @@ pub record WalkLaws : Type 0 where
   pub number : (program : Program) (k : ℕ) (p : Placed) → slice_get (statements_of program) k ≡ Some p → p.number ≡ k
 
 -- the row of an instance's statement, and how its visit lies in it
-pub record HasRow (program : Program) (params : List ℤ) (table : Table) (x : Instance) (v : Visit) : Type 0 where
+pub record HasRowBy (marked : List ℕ) (program : Program) (params : List ℤ) (table : Table) (x : Instance)
+    (v : Visit) : Type 0 where
   pub own : Standing
   pub row : Row
   pub told : slice_get table.rows.items x.number ≡ Some row
-  pub fits : IsRowOf (layout program params) params own row
+  pub fits : IsRowBy marked (layout program params) params own row
   pub body : own.body ≡ v.body
   pub turns : x.turns ≡ v.turns
   pub many : length v.turns ≡ length own.heads
   pub point : point_in own.heads params v.turns ≡ v.point
 
-pub row_of : WalkLaws → (program : Program) (params : List ℤ) (table : Table) (x : Instance) (v : Visit)
-    → IsTableOf program params table → IsVisitOf program params x v
-    → HasRow program params table x v
-row_of laws program params table x v is visit =
+-- where no array is marked
+abbrev pub HasRow : Program → List ℤ → Table → Instance → Visit → Type 0
+HasRow = HasRowBy []
+
+pub row_by : WalkLaws → (marked : List ℕ) (program : Program) (params : List ℤ) (table : Table) (x : Instance) (v : Visit)
+    → IsTableBy marked program params table → IsVisitOf program params x v
+    → HasRowBy marked program params table x v
+row_by laws marked program params table x v is visit =
     let stood = laws.found program params v visit.walked in
     let p = stood.0 in
     let xs = stood.1 in
@@ -82,45 +88,67 @@ row_of laws program params table x v is visit =
           ∙ (sym (point_in_scopes p.scopes params xs) ∙ ap (λ (w : Visit). w.point) (sym stood.4));
     }
 
--- what the forms tell of an access is the number of the visit's cell
-pub cell_told : (program : Program) (params : List ℤ) (table : Table) (x : Instance) (v : Visit) (a : ℕ)
-    (touched : Access) (result : ℕ) → IsCell (layout program params) (cell_of touched v.point)
-    → cell_number (layout program params) (cell_of touched v.point) < 2 ^ 22
-    → (has : HasRow program params table x v) → slice_get (accesses v.body) a ≡ Some touched
+pub row_of : WalkLaws → (program : Program) (params : List ℤ) (table : Table) (x : Instance) (v : Visit)
+    → IsTableOf program params table → IsVisitOf program params x v → HasRow program params table x v
+row_of laws program params table x v = row_by laws [] program params table x v
+
+-- what the forms tell of what is touched is the number of the visit's cell
+pub cell_told_by : (marked : List ℕ) (program : Program) (params : List ℤ) (table : Table) (x : Instance) (v : Visit)
+    (a : ℕ) (access : Access) (result : ℕ) → IsCell (layout program params) (cell_of access v.point)
+    → cell_number (layout program params) (cell_of access v.point) < 2 ^ 22
+    → (has : HasRowBy marked program params table x v)
+    → slice_get (touched (is_marked marked v.body.place.array) v.body) a ≡ Some access
     → ((form : Affine) → slice_get has.row.cells.items a ≡ Some form
     → result ≡ wrapped (value_of form x.turns))
-    → result ≡ cell_number (layout program params) (cell_of touched v.point)
-cell_told program params table x v a touched result cell small has at tells =
+    → result ≡ cell_number (layout program params) (cell_of access v.point)
+cell_told_by marked program params table x v a access result cell small has at tells =
     let extents = layout program params in
-    let c = cell_number extents (cell_of touched v.point) in
-    let there : slice_get (accesses has.own.body) a ≡ Some touched =
-    ap (λ (s : Statement). slice_get (accesses s) a) has.body ∙ at in
+    let c = cell_number extents (cell_of access v.point) in
+    let there : slice_get (touched (is_marked marked has.own.body.place.array) has.own.body) a ≡ Some access =
+    ap (λ (s : Statement). slice_get (touched (is_marked marked s.place.array) s) a) has.body ∙ at in
     let count = has.fits.forms.count in
-    let within = slice_get_within (accesses has.own.body) a touched there in
+    let within = slice_get_within (touched (is_marked marked has.own.body.place.array) has.own.body) a access there in
     let found = there_is has.row.cells.items a (omega (arith, count, within)) in
     let form = found.0 in
-    let told = has.fits.forms.each a touched form there found.1 v.turns has.many in
+    let told = has.fits.forms.each a access form there found.1 v.turns has.many in
     tells form found.1
     ∙ (ap (λ (xs : List ℤ). wrapped (value_of form xs)) has.turns
     ∙ (told
-    ∙ (ap (λ (p : List ℤ). wrapped (number_at extents touched p)) has.point
-    ∙ (ap wrapped (number_exact extents touched v.point cell) ∙ kept c small))))
+    ∙ (ap (λ (p : List ℤ). wrapped (number_at extents access p)) has.point
+    ∙ (ap wrapped (number_exact extents access v.point cell) ∙ kept c small))))
   where
     kept : (n : ℕ) → n < 2 ^ 22 → n % 2 ^ 64 ≡ n
     kept n less = omega (arith, less)
 
--- the code in the row takes as many values as the visit reads
-pub reads_told : (program : Program) (params : List ℤ) (table : Table) (x : Instance) (v : Visit)
-    (has : HasRow program params table x v) → length (reads v.body) ≡ has.row.code.reads
-reads_told program params table x v has =
-    ap (λ (s : Statement). length (reads s)) (sym has.body) ∙ sym (has.fits.stored.reads has.own.body.place)
+pub cell_told : (program : Program) (params : List ℤ) (table : Table) (x : Instance) (v : Visit) (a : ℕ)
+    (access : Access) (result : ℕ) → IsCell (layout program params) (cell_of access v.point)
+    → cell_number (layout program params) (cell_of access v.point) < 2 ^ 22
+    → (has : HasRow program params table x v) → slice_get (accesses v.body) a ≡ Some access
+    → ((form : Affine) → slice_get has.row.cells.items a ≡ Some form
+    → result ≡ wrapped (value_of form x.turns))
+    → result ≡ cell_number (layout program params) (cell_of access v.point)
+cell_told program params table x v = cell_told_by [] program params table x v
 
--- and makes of them what the visit stores
-pub value_told : (program : Program) (params : List ℤ) (table : Table) (x : Instance) (v : Visit) (values : List ℕ)
-    (has : HasRow program params table x v) → length values ≡ length (reads v.body)
-    → value_by has.row.code x.turns values ≡ stored_by v.body.right v.point values
-value_told program params table x v values has long =
+-- the row tells whether the visit adds to its cell
+pub adds_told : (marked : List ℕ) (program : Program) (params : List ℤ) (table : Table) (x : Instance) (v : Visit)
+    (has : HasRowBy marked program params table x v) → has.row.adds ≡ is_marked marked v.body.place.array
+adds_told marked program params table x v has =
+    has.fits.adds_so ∙ ap (λ (s : Statement). is_marked marked s.place.array) has.body
+
+-- the code in the row takes as many values as the visit loads
+pub reads_told : (marked : List ℕ) (program : Program) (params : List ℤ) (table : Table) (x : Instance) (v : Visit)
+    (has : HasRowBy marked program params table x v) → length (loads marked v.body) ≡ has.row.code.reads
+reads_told marked program params table x v has =
+    ap (λ (s : Statement). length (loads marked s)) (sym has.body) ∙ sym (has.fits.stored.reads has.own.body.place)
+
+-- and makes of them what the visit stores or adds
+pub value_told : (marked : List ℕ) (program : Program) (params : List ℤ) (table : Table) (x : Instance) (v : Visit)
+    (values : List ℕ) (has : HasRowBy marked program params table x v) → length values ≡ length (loads marked v.body)
+    → value_by has.row.code x.turns values
+    ≡ given_by (is_marked marked v.body.place.array) v.body.right v.point values
+value_told marked program params table x v values has long =
     ap (λ (xs : List ℤ). value_by has.row.code xs values) has.turns
-    ∙ (has.fits.stored.value v.turns values has.many (long ∙ reads_told program params table x v has)
-    ∙ (ap (λ (s : Statement). stored_by s.right (point_in has.own.heads params v.turns) values) has.body
-    ∙ ap (λ (p : List ℤ). stored_by v.body.right p values) has.point))
+    ∙ (has.fits.stored.value v.turns values has.many (long ∙ reads_told marked program params table x v has)
+    ∙ (ap (λ (s : Statement). given_by (is_marked marked s.place.array) s.right
+    (point_in has.own.heads params v.turns) values) has.body
+    ∙ ap (λ (p : List ℤ). given_by (is_marked marked v.body.place.array) v.body.right p values) has.point))

@@ -1,9 +1,10 @@
 -- A right side as straight-line code: each step makes one value more of those in the slots before it.
 use Rattle.std.specs.Prelude.{◌≡◌, ◌+◌, ◌-◌, ◌*◌, ◌/◌, ◌%◌, ◌^◌, ◌<◌, ℕ, suc, ℤ, List, [], ◌∷◌, ◌++◌, length, map, ⊤}
-use Rattle.std.specs.Prelude.{slice_index_or}
+use Rattle.std.specs.Prelude.{Bool, false, drop, if◌then◌else◌, slice_index_or}
 use Rattle.whole_numbers.specs.Affine.{value_of}
-use Rattle.scop_syntax.specs.Cells.{reads_with}
-use Rattle.scop_syntax.specs.Tree.{Access, Head, Right}
+use Rattle.scop_syntax.specs.Cells.{reads}
+use Rattle.scop_syntax.specs.Reductions.{added_by}
+use Rattle.scop_syntax.specs.Tree.{Access, Head, Right, Statement}
 use Rattle.scop_syntax.specs.Values.{applied, stored_by, wrapped}
 use Rattle.scop_syntax.specs.View.{operator_of}
 use Rattle.stmt_table.specs.Points.{point_in}
@@ -59,10 +60,22 @@ result_by code leaves values = slice_index_or (worked leaves code.steps.items va
 abbrev pub value_by : Code → List ℤ → List ℕ → ℕ
 value_by code turns values = result_by code (leaves_at code turns) values
 
--- at all turns of these loops the result is what a right side stores at the point within them, on any values read,
--- and the code takes as many as that reads behind a place
-pub record Stores (params : List ℤ) (heads : List Head) (own : Right) (code : Code) : Type 0 where
+-- what a statement loads: all that it reads, or, where it adds to its place, all but that
+abbrev pub loaded : Bool → Statement → List Access
+loaded adds s = if adds then drop 1 (reads s) else reads s
+
+-- what a right side gives its place: what it adds to it, or what it stores there
+abbrev pub given_by : Bool → Right → List ℤ → List ℕ → ℕ
+given_by adds own point values = if adds then added_by own point values else stored_by own point values
+
+-- at all turns of these loops the result is what a right side gives its place at the point within them, on any values
+-- loaded, and the code takes as many as that loads behind a place
+pub record Gives (adds : Bool) (params : List ℤ) (heads : List Head) (own : Right) (code : Code) : Type 0 where
   pub made : IsWellMade code
-  pub reads : (place : Access) → code.reads ≡ length (reads_with place own)
+  pub reads : (place : Access) → code.reads ≡ length (loaded adds (record { place = place; right = own }))
   pub value : (turns : List ℤ) (values : List ℕ) → length turns ≡ length heads → length values ≡ code.reads
-      → value_by code turns values ≡ stored_by own (point_in heads params turns) values
+      → value_by code turns values ≡ given_by adds own (point_in heads params turns) values
+
+-- the same of a right side that stores: the code takes what it reads, and makes what it stores
+abbrev pub Stores : List ℤ → List Head → Right → Code → Type 0
+Stores params heads own code = Gives false params heads own code

@@ -23,7 +23,8 @@ pub record Joins (code : Code) (join : Join) : Type 0 where
   pub reads : code.reads ≡ 3
   pub value : (leaves : List ℕ) (x y z : ℕ) → result_by code leaves (x ∷ y ∷ z ∷ []) ≡ joined_by join x y z
 
--- a row's code is a join, and the lanes of its cells stand at these turns and go on by these steps
+-- a row's statement stores, its code is a join, and the lanes of its cells stand at these turns and go on by these steps
 pub record IsJoinAt (row : Row) (steps turns : List ℤ) (lanes : JoinLanes) : Type 0 where
   pub cells : AreLanes row.cells.items steps turns (lanes.place ∷ lanes.first ∷ lanes.second ∷ lanes.third ∷ [])
+  pub stores : row.adds ≡ false
   pub joins : Joins row.code lanes.join

@@ -1,12 +1,12 @@
 -- A table of a program's statements, in which their cells and what they store are told by forms of the turns.
-use Rattle.std.specs.Prelude.{◌≡◌, ℕ, ℤ, List, length, slice_get, Some}
+use Rattle.std.specs.Prelude.{◌≡◌, ℕ, ℤ, Bool, List, [], ◌∷◌, length, slice_get, Some}
 use Rattle.whole_numbers.specs.Affine.{Affine, value_of}
-use Rattle.scop_syntax.specs.Cells.{accesses}
 use Rattle.scop_syntax.specs.Execution.{layout}
-use Rattle.scop_syntax.specs.Tree.{Access, Head, Program}
+use Rattle.scop_syntax.specs.Reductions.{is_marked}
+use Rattle.scop_syntax.specs.Tree.{Access, Head, Program, Statement}
 use Rattle.scop_syntax.specs.Values.{wrapped}
 use Rattle.standings.specs.Standings.{Standing, standings_of}
-use Rattle.stmt_table.specs.Codes.{Stores}
+use Rattle.stmt_table.specs.Codes.{Gives, loaded}
 use Rattle.stmt_table.specs.Numbers.{number_at}
 use Rattle.stmt_table.specs.Points.{point_in}
 use Rattle.stmt_table.specs.declared.table.Row.{Row}
@@ -18,19 +18,38 @@ Tells extents params heads access form =
     (turns : List ℤ) → length turns ≡ length heads
     → wrapped (value_of form turns) ≡ wrapped (number_at extents access (point_in heads params turns))
 
--- there is such a form for each access of a statement
-pub record AreForms (extents : List (List ℕ)) (params : List ℤ) (s : Standing) (forms : List Affine) : Type 0 where
-  pub count : length forms ≡ length (accesses s.body)
-  pub each : (a : ℕ) (access : Access) (form : Affine) → slice_get (accesses s.body) a ≡ Some access
+-- what a statement touches: its place, and behind it what it loads
+abbrev pub touched : Bool → Statement → List Access
+touched adds s = s.place ∷ loaded adds s
+
+-- there is such a form for each access that a statement touches
+pub record AreForms (adds : Bool) (extents : List (List ℕ)) (params : List ℤ) (s : Standing)
+    (forms : List Affine) : Type 0 where
+  pub count : length forms ≡ length (touched adds s.body)
+  pub each : (a : ℕ) (access : Access) (form : Affine) → slice_get (touched adds s.body) a ≡ Some access
       → slice_get forms a ≡ Some form → Tells extents params s.heads access form
 
--- the row of a statement: the forms of its accesses, and the code of its right side
-pub record IsRowOf (extents : List (List ℕ)) (params : List ℤ) (s : Standing) (row : Row) : Type 0 where
-  pub forms : AreForms extents params s row.cells.items
-  pub stored : Stores params s.heads s.body.right row.code
+-- the row of a statement that adds to its place, or of one that stores there: the forms of its accesses, and the code of
+-- what it gives its place
+pub record IsRow (adds : Bool) (extents : List (List ℕ)) (params : List ℤ) (s : Standing) (row : Row) : Type 0 where
+  pub forms : AreForms adds extents params s row.cells.items
+  pub adds_so : row.adds ≡ adds
+  pub stored : Gives adds params s.heads s.body.right row.code
+
+-- the row of a statement, where it adds to its place if that lies in a marked array
+abbrev pub IsRowBy : List ℕ → List (List ℕ) → List ℤ → Standing → Row → Type 0
+IsRowBy marked extents params s row = IsRow (is_marked marked s.body.place.array) extents params s row
+
+-- where no array is marked
+abbrev pub IsRowOf : List (List ℕ) → List ℤ → Standing → Row → Type 0
+IsRowOf = IsRowBy []
 
 -- the table has the row of each of a program's statements
-pub record IsTableOf (program : Program) (params : List ℤ) (table : Table) : Type 0 where
+pub record IsTableBy (marked : List ℕ) (program : Program) (params : List ℤ) (table : Table) : Type 0 where
   pub count : length table.rows.items ≡ length (standings_of program)
   pub rows : (k : ℕ) (s : Standing) (row : Row) → slice_get (standings_of program) k ≡ Some s
-      → slice_get table.rows.items k ≡ Some row → IsRowOf (layout program params) params s row
+      → slice_get table.rows.items k ≡ Some row → IsRowBy marked (layout program params) params s row
+
+-- where no array is marked
+abbrev pub IsTableOf : Program → List ℤ → Table → Type 0
+IsTableOf = IsTableBy []

@@ -1,19 +1,20 @@
 //! A right side as straight-line code: the values read and those of its affine parts over the turns of the loops round
 //! the statement, and steps that each make one value more (A. V. Aho, M. S. Lam, R. Sethi and J. D. Ullman,
-//! "Compilers", 2007, 6.2). Promises that the result is what the right side stores, at all turns.
-ghost use Rattle.std.specs.Prelude.{◌≡◌, ◌+◌, ◌≤◌, ◌∷◌, ℕ, [], IfOk, length, map, take};
+//! "Compilers", 2007, 6.2). Promises that the result is what the right side stores, or adds to its place, at all turns.
+ghost use Rattle.std.specs.Prelude.{◌≡◌, ◌+◌, ◌≤◌, ◌∷◌, ℕ, ℤ, [], IfOk, List, drop, length, map, take};
 ghost use Rattle.scop_meaning.specs.declared.loops.TheConstants.{ROOM};
 ghost use Rattle.scop_syntax.specs.Cells.{reads, reads_of, reads_with};
 ghost use Rattle.scop_syntax.specs.Tree.{Access, affine};
-ghost use Rattle.scop_syntax.specs.View.{expression_of, right_of, statement_of};
+ghost use Rattle.scop_syntax.specs.Reductions.{addend};
+ghost use Rattle.scop_syntax.specs.View.{expression_of, operator_of, right_of, statement_of};
 ghost use Rattle.scop_syntax.specs.declared.instance.TheConstants.{MAX_LOOPS};
-ghost use Rattle.stmt_table.specs.Codes.{IsStep, IsWellMade, Stores, made as exact_made, result_by};
+ghost use Rattle.stmt_table.specs.Codes.{Gives, IsStep, IsWellMade, loaded, made as exact_made, result_by};
 ghost use Rattle.stmt_table.specs.declared.code.Step.TheVariants.{Affine as exact_affine};
-ghost use Rattle.stmt_table.specs.steps.Codes.{IsBegun, IsPut, MakesStored, MakesValue};
+ghost use Rattle.stmt_table.specs.steps.Codes.{IsBegun, IsPut, Makes, MakesAdded, MakesGiven, MakesStored, MakesValue};
 
 use crate::affine_parts::form_over;
 use crate::lane::Lane;
-use scop_meaning::accesses::read_count;
+use crate::loads::load_count;
 use scop_meaning::operators::{combined, complemented, negated, shifted_left, shifted_right};
 use scop_syntax::instance::MAX_LOOPS;
 use scop_syntax::tree::{Aff, Expr, Loop, Operator, Right, Stmt};
@@ -32,7 +33,7 @@ pub enum Step {
 }
 
 /// A right side as code. Its slots are the values read, `reads` many in the order of the text, and then what each step
-/// makes; `leaves` are its affine parts as forms of the turns, and `result` is the slot of what is stored.
+/// makes; `leaves` are its affine parts as forms of the turns, and `result` is the slot of what is stored or added.
 #[derive(Drop)]
 pub struct Code {
     pub reads: usize,
@@ -196,27 +197,94 @@ fn put_right(
     }
 }
 
-/// The code of the statement's right side over the turns of `heads`, where the parameters are `params`.
+/// Puts a step that makes what `operator=` adds of the value in a slot.
+fn put_addend(code: &mut Code, operator: Operator, slot: usize) -> Result<usize, AllocError>
+    requires { code.old.reads ≤ 16 }
+    ensures { (loops : ℕ) (meant : List ℤ → List ℕ → ℕ) (before : Code) → Makes loops meant before code.old slot
+        → IfOk result (Makes loops (λ turns values. addend (operator_of operator) (meant turns values)) before code.new) }
+{
+    match operator {
+        Operator::Plus => Ok(slot),
+        Operator::Minus => put(code, Step::Negated(slot)),
+        Operator::Times => put(code, Step::Constant(0)),
+        Operator::And => put(code, Step::Constant(0)),
+        Operator::Or => put(code, Step::Constant(0)),
+        Operator::Xor => put(code, Step::Constant(0)),
+    }
+}
+
+/// Makes code for what a right side adds to its place, which is not among the reads of the code.
+fn put_added(
+    alloc: Global,
+    right: &Right,
+    heads: &[&Loop],
+    params: &[i64],
+    code: &mut Code,
+) -> Result<usize, AllocError>
+    requires loops { length heads.now ≤ MAX_LOOPS }
+    requires room { length params.now + length heads.now ≤ ROOM }
+    requires begun { IsBegun code.old }
+    requires reads { (place : Access) → code.old.reads ≡ length (drop 1 (reads_with place (right_of right.now))) }
+    ensures { IfOk result
+        (MakesAdded params.now (map (λ h. h.now) heads.now) (right_of right.now) code.old code.new) }
+{
+    match right {
+        Right::Assigned(_) => put(code, Step::Constant(0)),
+        Right::Combined(operator, value) => {
+            let slot = put_value(alloc, value, heads, params, &mut 0, code)?;
+            put_addend(code, *operator, slot)
+        }
+        Right::ShiftedLeft(_) => put(code, Step::Constant(0)),
+        Right::ShiftedRight(_) => put(code, Step::Constant(0)),
+    }
+}
+
+/// Makes code for what a right side gives its place: what it adds to it, or what it stores there.
+fn put_given(
+    alloc: Global,
+    right: &Right,
+    adds: bool,
+    heads: &[&Loop],
+    params: &[i64],
+    code: &mut Code,
+) -> Result<usize, AllocError>
+    requires loops { length heads.now ≤ MAX_LOOPS }
+    requires room { length params.now + length heads.now ≤ ROOM }
+    requires begun { IsBegun code.old }
+    requires reads { (place : Access) → code.old.reads
+        ≡ length (loaded adds (record { place = place; right = right_of right.now })) }
+    ensures { IfOk result
+        (MakesGiven adds params.now (map (λ h. h.now) heads.now) (right_of right.now) code.old code.new) }
+{
+    if adds {
+        put_added(alloc, right, heads, params, code)
+    } else {
+        put_right(alloc, right, heads, params, code)
+    }
+}
+
+/// The code of what the statement gives its place over the turns of `heads`, where the parameters are `params`.
 ///
 /// # Errors
 /// `AllocError` alone.
 pub(crate) fn compiled(
     alloc: Global,
     statement: &Stmt,
+    adds: bool,
     heads: &[&Loop],
     params: &[i64],
 ) -> Result<Code, AllocError>
     requires reads { length (reads (statement_of statement.now)) ≤ 16 }
     requires loops { length heads.now ≤ MAX_LOOPS }
     requires room { length params.now + length heads.now ≤ ROOM }
-    ensures { IfOk result (Stores params.now (map (λ h. h.now) heads.now) (right_of statement.now.right)) }
+    ensures { IfOk result (Gives adds params.now (map (λ h. h.now) heads.now) (right_of statement.now.right)) }
 {
     let mut code = Code {
-        reads: read_count(statement),
+        reads: load_count(statement, adds),
         leaves: Vec::new(alloc),
         steps: Vec::new(alloc),
         result: 0,
     };
-    code.result = put_right(alloc, &statement.right, heads, params, &mut code)?;
+    code.result = put_given(alloc, &statement.right, adds, heads, params, &mut code)?;
     Ok(code)
 }

@@ -98,10 +98,13 @@ impl JoinLanes {
 }
 
 impl Row {
-    /// Its lanes from these turns on, by these steps, where its code is a join.
+    /// Its lanes from these turns on, by these steps, where it stores, and its code is a join.
     pub fn lay_join(&self, turns: &[i64], steps: &[i64]) -> Option<JoinLanes>
         ensures { IfSome result (IsJoinAt self.now steps.now turns.now) }
     {
+        if self.adds {
+            return None;
+        }
         let [place, first, second, third] = self.cells.as_slice() else {
             return None;
         };

@@ -13,6 +13,7 @@ pub mod desk;
 mod forms;
 pub mod join;
 pub mod lane;
+mod loads;
 mod numbers;
 mod points;
 pub mod table;

@@ -6,12 +6,12 @@ ghost use Rattle.scop_syntax.specs.Limits.{WithinLimits};
 ghost use Rattle.scop_syntax.specs.Values.{wrapped};
 ghost use Rattle.scop_syntax.specs.View.{program_of};
 ghost use Rattle.standings.specs.View.{standing_of};
-ghost use Rattle.stmt_table.specs.Tables.{AreForms, IsRowOf, IsTableOf};
+ghost use Rattle.stmt_table.specs.Tables.{AreForms, IsRow, IsTableBy};
 ghost use Rattle.stmt_table.specs.steps.Forms.{CanForm};
 
 use crate::code::{Code, compiled};
 use crate::forms::form_of;
-use scop_meaning::accesses::{access_at, read_count};
+use crate::loads::{adds_to_place, load_count, touched_at};
 use scop_syntax::affine_values::wrapped_at;
 use scop_syntax::arrays::Extents;
 use scop_syntax::limit_laws::cells_lie_within_22_bits;
@@ -20,12 +20,13 @@ use scop_syntax::walk_laws::statements_are_numbered;
 use standings::{Standing, standings_of};
 use std::alloc::{AllocError, Global};
 
-/// What is told of a statement over the turns of the loops round it: for each access, the place first, a form of the
-/// row-major number of its cell among those of all arrays, modulo 2^64; and the code of its right side, in which affine
-/// parts are such forms.
+/// What is told of a statement over the turns of the loops round it: for each access, the place first, then what it loads,
+/// a form of the row-major number of its cell among those of all arrays, modulo 2^64; whether it adds to its place, which
+/// it does not load then; and the code of what it adds or stores, in which affine parts are such forms.
 #[derive(Drop)]
 pub struct Row {
     pub cells: Vec<Aff>,
+    pub adds: bool,
     pub code: Code,
 }
 
@@ -35,20 +36,21 @@ pub struct Table {
     pub rows: Vec<Row>,
 }
 
-/// The forms of a statement's accesses.
+/// The forms of what a statement touches.
 fn forms_of(
     alloc: Global,
     statement: &Standing,
+    adds: bool,
     params: &[i64],
     extents: &Extents,
 ) -> Result<Vec<Aff>, AllocError>
     requires { CanForm extents.now params.now (standing_of statement.now) }
-    ensures { IfOk result (λ v. AreForms extents.now params.now (standing_of statement.now) v.items) }
+    ensures { IfOk result (λ v. AreForms adds extents.now params.now (standing_of statement.now) v.items) }
 {
-    let count = read_count(statement.body) + 1;
+    let count = load_count(statement.body, adds) + 1;
     let mut forms = Vec::with_capacity(alloc, count)?;
     for at in 0..count {
-        let access = access_at(statement.body, at);
+        let access = touched_at(statement.body, adds, at);
         forms.push(form_of(alloc, access, extents, &statement.heads, params)?)?;
     }
     Ok(forms)
@@ -58,15 +60,16 @@ fn forms_of(
 fn row_of(
     alloc: Global,
     statement: &Standing,
+    adds: bool,
     params: &[i64],
     extents: &Extents,
 ) -> Result<Row, AllocError>
     requires { CanForm extents.now params.now (standing_of statement.now) }
-    ensures { IfOk result (IsRowOf extents.now params.now (standing_of statement.now)) }
+    ensures { IfOk result (IsRow adds extents.now params.now (standing_of statement.now)) }
 {
-    let cells = forms_of(alloc, statement, params, extents)?;
-    let code = compiled(alloc, statement.body, &statement.heads, params)?;
-    Ok(Row { cells, code })
+    let cells = forms_of(alloc, statement, adds, params, extents)?;
+    let code = compiled(alloc, statement.body, adds, &statement.heads, params)?;
+    Ok(Row { cells, adds, code })
 }
 
 impl Row {
@@ -79,7 +82,7 @@ impl Row {
     }
 
     /// The number of the cell that access `access` touches at these turns, among those of all arrays: array after array as
-    /// declared, row by row, from 0. Access 0 is the place that is written, the reads are numbered from 1.
+    /// declared, row by row, from 0. Access 0 is the place that is written, what is loaded is numbered from 1.
     #[inline]
     pub fn cell_at(&self, turns: &[i64], access: usize) -> usize
         requires { access < length self.now.cells.items }
@@ -91,7 +94,8 @@ impl Row {
 }
 
 impl Table {
-    /// The table of the kernel for these parameters, with the extents of its arrays.
+    /// The table of the kernel for these parameters, with the extents of its arrays, of which some are marked: what writes
+    /// a cell of such an array adds to it.
     ///
     /// # Errors
     /// `AllocError` alone.
@@ -100,17 +104,19 @@ impl Table {
         kernel: &Kernel,
         params: &[i64],
         extents: &Extents,
+        marked: &[usize],
     ) -> Result<Table, AllocError>
         requires limits { WithinLimits (program_of kernel.now) params.now }
         requires extents { extents.now ≡ layout (program_of kernel.now) params.now }
-        ensures { IfOk result (IsTableOf (program_of kernel.now) params.now) }
+        ensures { IfOk result (IsTableBy marked.now (program_of kernel.now) params.now) }
     {
         statements_are_numbered();
         cells_lie_within_22_bits();
         let statements = standings_of(alloc, kernel)?;
         let mut rows = Vec::with_capacity(alloc, statements.len())?;
         for statement in &statements {
-            rows.push(row_of(alloc, statement, params, extents)?)?;
+            let adds = adds_to_place(marked, statement.body);
+            rows.push(row_of(alloc, statement, adds, params, extents)?)?;
         }
         Ok(Table { rows })
     }

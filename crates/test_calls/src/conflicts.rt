@@ -1,6 +1,8 @@
-//! The conflicts of two small kernels: the whole points of their systems, by `holds_at` over all candidates.
+//! The conflicts of small kernels, and their covering dependences: the whole points of their systems, by `holds_at` over
+//! all candidates.
 
 use conflict_deps::conflicts;
+use dataflow::covering;
 use iteration_domains::{Dep, Model};
 use scop_parser::reader::read_kernel;
 use std::alloc::{AllocError, Global};
@@ -37,19 +39,35 @@ fn push_points(
     Ok(())
 }
 
-/// The points of a kernel's conflicts; an error where the text is no kernel.
-fn points(alloc: Global, text: &str, parameter: usize) -> Result<Vec<Pair>, AllocError> {
+/// Which dependences of a kernel.
+#[derive(Clone, Copy)]
+enum Which {
+    Conflicts,
+    Covers,
+}
+
+/// The dependences of a kernel; an error where the text is none.
+fn dependences(alloc: Global, text: &str, which: Which) -> Result<Vec<Dep>, AllocError> {
     match read_kernel(alloc, text.as_bytes()) {
         Err(_) => Err(AllocError),
         Ok(kernel) => {
             let model = Model::of(alloc, &kernel)?;
-            let mut pairs = Vec::new(alloc);
-            for dep in &conflicts(alloc, &model)? {
-                push_points(&mut pairs, dep, 6, parameter)?;
+            let all = conflicts(alloc, &model)?;
+            match which {
+                Which::Conflicts => Ok(all),
+                Which::Covers => covering(alloc, &model, &all, 20000),
             }
-            Ok(pairs)
         }
     }
+}
+
+/// The points of dependences.
+fn points(alloc: Global, deps: &[Dep], parameter: usize) -> Result<Vec<Pair>, AllocError> {
+    let mut pairs = Vec::new(alloc);
+    for dep in deps {
+        push_points(&mut pairs, dep, 6, parameter)?;
+    }
+    Ok(pairs)
 }
 
 /// The second statement reads what the first writes a turn later.
@@ -60,17 +78,48 @@ const AHEAD: &str = "void k(int64_t N, uint64_t A[N+1], uint64_t B[N]) {
 const EVEN: &str = "void k(int64_t N, uint64_t A[2*N]) {
     for (int64_t j = 0; j < N; j++) A[2*j] = A[2*j+1]; }";
 
-/// Kernels, the value of their parameter, and the pairs that conflict.
-const KERNELS: &[(&str, usize, &[Pair])] = &[
-    (AHEAD, 3, &[[(1, 0, 1), (0, 1, 0)], [(1, 1, 1), (0, 2, 0)]]),
-    (EVEN, 4, &[]),
+/// Each turn reads and writes one cell.
+const SUM: &str = "void k(int64_t N, uint64_t A[1], uint64_t B[N]) {
+    for (int64_t i = 0; i < N; i++) A[0] = A[0] + B[i]; }";
+
+/// Kernels, the value of their parameter, and the pairs of their dependences. Of the sum, whose turns all conflict, each
+/// write and each read has the write before it, and each read the write behind it.
+const KERNELS: &[(&str, Which, usize, &[Pair])] = &[
+    (
+        AHEAD,
+        Which::Conflicts,
+        3,
+        &[[(1, 0, 1), (0, 1, 0)], [(1, 1, 1), (0, 2, 0)]],
+    ),
+    (
+        AHEAD,
+        Which::Covers,
+        3,
+        &[[(1, 0, 1), (0, 1, 0)], [(1, 1, 1), (0, 2, 0)]],
+    ),
+    (EVEN, Which::Conflicts, 4, &[]),
+    (EVEN, Which::Covers, 4, &[]),
+    (
+        SUM,
+        Which::Covers,
+        3,
+        &[
+            [(0, 0, 0), (0, 1, 0)],
+            [(0, 1, 0), (0, 2, 0)],
+            [(0, 0, 0), (0, 1, 1)],
+            [(0, 1, 0), (0, 2, 1)],
+            [(0, 0, 1), (0, 1, 0)],
+            [(0, 1, 1), (0, 2, 0)],
+        ],
+    ),
 ];
 
 #[test]
-fn conflicts_are_these_pairs(rt: HostRuntime) -> Result<(), Fail> {
+fn dependences_are_these_pairs(rt: HostRuntime) -> Result<(), Fail> {
     for case in KERNELS {
-        let (text, parameter, pairs) = *case;
-        let found = points(rt.alloc(), text, parameter)?;
+        let (text, which, parameter, pairs) = *case;
+        let deps = dependences(rt.alloc(), text, which)?;
+        let found = points(rt.alloc(), &deps, parameter)?;
         assert!(rt; found.as_slice() == pairs, "{text}");
     }
     Ok(())

@@ -6,7 +6,7 @@ use checked_tableau::TableauStop;
 use fm_projection::FmStop;
 use io_ports::Failed;
 use pip_solver::Stop;
-use pluto_search::{Kept, Stuck};
+use polypar::{Kept, Stuck};
 use std::alloc::Global;
 use std::fmt::Display;
 use std::test::Fail;

@@ -8,15 +8,12 @@ ghost use Rattle.scop_syntax.specs.Tree.{Program};
 ghost use Rattle.scop_syntax.specs.View.{program_of};
 ghost use Rattle.loop_tree.specs.Conditions.{CanWalk};
 ghost use Rattle.loop_tree.specs.View.{trees_in};
-ghost use Rattle.plan_tree.specs.Trees.{IsScheduleFor};
+ghost use Rattle.polypar.specs.Trees.{IsScheduleFor};
 
 use c_printer::{print, read_back};
 use iteration_domains::Model;
-use kernel_plans::dependences_of;
 use loop_tree::{Spot, Tree};
-use plan_tree::laws::trees_of_plans_can_be_walked;
-use plan_tree::{hull_tree, tiled_tree};
-use pluto_search::{Schedule, search};
+use polypar::{Schedule, covers, hull_tree, schedule_of, tiled_tree, trees_of_plans_can_be_walked};
 use scop_parser::reader::read_kernel;
 use scop_syntax::instance::Instance;
 use scop_syntax::tree::Kernel;
@@ -81,8 +78,8 @@ fn planned(alloc: Global, kernel: &Kernel, size: u64, scan: Scan) -> Result<Tree
         → CanWalk (trees_in t) params []) }
 {
     let model = Model::of(alloc, kernel)?;
-    let deps = dependences_of(alloc, &model)?;
-    match search(alloc, &model, &deps, BUDGET) {
+    let deps = covers(alloc, &model, BUDGET)?;
+    match schedule_of(alloc, &model, &deps, BUDGET) {
         Ok(schedule) => scanned(alloc, &schedule, size, scan),
         Err(_) => Err(AllocError),
     }

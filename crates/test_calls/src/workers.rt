@@ -56,8 +56,8 @@ A = 1 2 3 4
 
 const PREFIX_ROW: &str = "row 1 band 1 carries u (0) w 1: S1 (1) + 0\n";
 
-const SWEEP_ROWS: &str = "row 1 band 1 carries u (1 0) w 0: S1 (1 0) + 0
-row 2 band 1 carries u (1 0) w 0: S1 (1 1) + 0
+const SWEEP_ROWS: &str = "row 1 band 1 carries u (0 0) w 1: S1 (1 0) + 0
+row 2 band 1 carries u (0 0) w 1: S1 (1 1) + 0
 ";
 
 const TWO_ROWS: &str = "row 1 band 1 parallel u (0) w 0: S1 (1) + 0, S2 (1) + 1

@@ -7,11 +7,11 @@ use Rattle.std.proofs.lemmas.List.{append-nil, append_assoc, get_or_at, map_more
 use mathlib.Core.Option.{some}
 use lib.ListN.{get_elem?}
 use Rattle.atomic_table.proofs.Lists.{set_again}
-use Rattle.tile_events.specs.Core.{Event, State, Worker, is_last_act, load}
-use Rattle.tile_events.specs.Core.{replay, Seen, step, step_of, store, working}
+use Rattle.tile_events.specs.Core.{Event, State, Worker, acts, is_counted, is_last_act, last_act, load}
+use Rattle.tile_events.specs.Core.{replay, Seen, step, step_of, working}
 use Rattle.tile_events.specs.Plan.{Plan, updated}
 use Rattle.tile_events.proofs.Workers.{set_at}
-use Rattle.tile_core.specs.Acts.{instance_acts, stretch_acts}
+use Rattle.tile_core.specs.Acts.{instance_acts, last_event, place_acts, stretch_acts}
 use Rattle.tile_core.specs.steps.Acts.{after_instance, after_instances, after_place, values_at, with_cells}
 use Rattle.tile_core.proofs.Gates.{Extends}
 
@@ -19,14 +19,29 @@ use Rattle.tile_core.proofs.Gates.{Extends}
 taken : {A : Type 0} (b : Bool) (x y : A) → b ≡ true → (if b then x else y) ≡ x
 taken b x y e = rw e refl
 
--- a worker at instance k of tile t, where it stores
+-- what an event does that is the last act of an instance
+pub acts_last : (p : Plan) (s : State) (id t k : ℕ) (xs : List ℕ) (b : Bool)
+    → acts p s id (working t k xs) (last_event b) ≡ last_act p s id t k xs (last_event b)
+acts_last p s id t k xs true = refl
+acts_last p s id t k xs false = refl
+
+-- the event is that of the cell's kind, where a cell that is added to is no counter
+pub is_last : (p : Plan) (b : Bool) (c : ℕ) → p.adds c ≡ b → (b ≡ true → is_counted p.gate ≡ false)
+    → is_last_act p (last_event b) c ≡ true
+is_last p true c kind alone = and_from (p.adds c) (not (is_counted p.gate)) kind (ap not (alone refl))
+is_last p false c kind alone = ap not kind
+
+-- a worker at instance k of tile t, whose cell is no counter
 module _ (p : Plan) (s : State) (id t k : ℕ) (v : Worker) (there : get_elem? s.workers id ≡ some v)
-    (left : k < p.size t) (stores : p.adds (p.written (p.place t k)) ≡ false) where
+    (left : k < p.size t) (alone : p.adds (p.written (p.place t k)) ≡ true → is_counted p.gate ≡ false) where
   abbrev reads : List ℕ
   reads = p.read (p.place t k)
 
   abbrev cell : ℕ
   cell = p.written (p.place t k)
+
+  abbrev last : Event
+  last = last_event (p.adds cell)
 
   at_step : (cells xs : List ℕ) (e : Event)
       → step p (with_cells s id cells (working t k xs)) id e
@@ -44,29 +59,34 @@ module _ (p : Plan) (s : State) (id t k : ℕ) (v : Worker) (there : get_elem? s
       ∙ ap (λ ws. record { claims = s.claims; finished = s.finished; cells = cells; workers = ws })
       (set-set s.workers id _ _)
 
+  -- what the cells are behind its last act, by the values read
+  abbrev given : List ℕ → List ℕ → List ℕ
+  given cells xs = set cells cell (updated (p.adds cell) (get_or cells cell 0) (p.value (p.place t k) xs))
+
   puts : (cells xs : List ℕ) → length xs ≡ length reads
-      → (step p (with_cells s id cells (working t k xs)) id store).0
-      ≡ with_cells s id (set cells cell (p.value (p.place t k) xs)) (working t (suc k) [])
+      → (step p (with_cells s id cells (working t k xs)) id last).0
+      ≡ with_cells s id (given cells xs) (working t (suc k) [])
   puts cells xs all =
-      ap (λ (x : State × Seen). x.0) (at_step cells xs store
+      ap (λ (x : State × Seen). x.0) (at_step cells xs last
+      ∙ (acts_last p (with_cells s id cells (working t k xs)) id t k xs (p.adds cell)
       ∙ (taken (nat_lt k (p.size t)) _ _ (lt-ltb k (p.size t) left)
-      ∙ taken (nat_eq (length xs) (length reads) && is_last_act p store cell) _ _
-      (and_from (nat_eq (length xs) (length reads)) (is_last_act p store cell)
-      (eq-eqb (length xs) (length reads) all) (ap not stores))))
-      ∙ ap₂ (λ (b : Bool) (ws : List Worker). record {
+      ∙ taken (nat_eq (length xs) (length reads) && is_last_act p last cell) _ _
+      (and_from (nat_eq (length xs) (length reads)) (is_last_act p last cell)
+      (eq-eqb (length xs) (length reads) all) (is_last p (p.adds cell) cell refl alone)))))
+      ∙ ap (λ (ws : List Worker). record {
         claims = s.claims;
         finished = s.finished;
-        cells = set cells cell (updated b (get_or cells cell 0) (p.value (p.place t k) xs));
+        cells = given cells xs;
         workers = ws;
-      }) stores (set-set s.workers id _ _)
+      }) (set-set s.workers id _ _)
 
   -- the values xs of the first cells are read, and the others are still to be read
   rest_run : (cells done more xs : List ℕ) → reads ≡ done ++ more → length xs ≡ length done
-      → replay p (with_cells s id cells (working t k xs)) (instance_acts id (length more))
-      ≡ with_cells s id (set cells cell (p.value (p.place t k) (xs ++ values_at cells more))) (working t (suc k) [])
+      → replay p (with_cells s id cells (working t k xs)) (instance_acts id last (length more))
+      ≡ with_cells s id (given cells (xs ++ values_at cells more)) (working t (suc k) [])
   rest_run cells done [] xs is count =
       puts cells xs (count ∙ sym (ap length (is ∙ append-nil done)))
-      ∙ ap (λ (ys : List ℕ). with_cells s id (set cells cell (p.value (p.place t k) ys)) (working t (suc k) []))
+      ∙ ap (λ (ys : List ℕ). with_cells s id (given cells ys) (working t (suc k) []))
       (sym (append-nil xs))
   rest_run cells done (c ∷ more) xs is count =
       let x = get_or cells c 0 in
@@ -80,13 +100,13 @@ module _ (p : Plan) (s : State) (id t k : ℕ) (v : Worker) (there : get_elem? s
       ≡ with_cells s id cells (working t k (xs ++ x ∷ [])) =
       loads cells xs (omega (arith, n, long, count))
       ∙ ap (λ d. with_cells s id cells (working t k (xs ++ get_or cells d 0 ∷ []))) found in
-      ap (λ (d : State). replay p d (instance_acts id (length more))) next
+      ap (λ (d : State). replay p d (instance_acts id last (length more))) next
       ∙ (rest_run cells (done ++ c ∷ []) more (xs ++ x ∷ []) (is ∙ sym (append_assoc done (c ∷ []) more))
       (omega (arith, one, two, count))
-      ∙ ap (λ (ys : List ℕ). with_cells s id (set cells cell (p.value (p.place t k) ys)) (working t (suc k) []))
+      ∙ ap (λ (ys : List ℕ). with_cells s id (given cells ys) (working t (suc k) []))
       (append_assoc xs (x ∷ []) (values_at cells more)))
 
-  instance_run : (cells : List ℕ) → replay p (with_cells s id cells (working t k [])) (instance_acts id (length reads))
+  instance_run : (cells : List ℕ) → replay p (with_cells s id cells (working t k [])) (place_acts p id (p.place t k))
       ≡ with_cells s id (after_instance p t k cells) (working t (suc k) [])
   instance_run cells = rest_run cells [] reads [] refl refl
 
@@ -94,22 +114,22 @@ replay_behind : (p : Plan) (s : State) (es fs : List (ℕ × Event)) → replay 
 replay_behind p s [] fs = refl
 replay_behind p s (e ∷ es) fs = replay_behind p (step p s e.0 e.1).0 es fs
 
--- n instances of a tile from number k on store what they make
-abbrev pub AreStored : Plan → ℕ → ℕ → ℕ → Type 0
-AreStored p t k n = (m : ℕ) → m < n → p.adds (p.written (p.place t (k + m))) ≡ false
+-- n instances of a tile from number k on write no counters
+abbrev pub AreAlone : Plan → ℕ → ℕ → ℕ → Type 0
+AreAlone p t k n = (m : ℕ) → m < n → p.adds (p.written (p.place t (k + m))) ≡ true → is_counted p.gate ≡ false
 
 -- such instances
 from_there : (p : Plan) (s : State) (id t k n : ℕ) (cells : List ℕ) (v : Worker) → get_elem? s.workers id ≡ some v
-    → AreStored p t k n → k + n ≤ p.size t
+    → AreAlone p t k n → k + n ≤ p.size t
     → replay p (with_cells s id cells (working t k [])) (stretch_acts p id t k n)
     ≡ with_cells s id (after_instances p t k n cells) (working t (k + n) [])
-from_there p s id t k zero cells v there stores within =
+from_there p s id t k zero cells v there alone within =
     ap (λ m. with_cells s id cells (working t m [])) (let e : k ≡ k + 0 = omega arith in e)
-from_there p s id t k (suc n) cells v there stores within =
+from_there p s id t k (suc n) cells v there alone within =
     replay_behind p (with_cells s id cells (working t k [])) (stretch_acts p id t k n) _
-    ∙ (ap (λ (d : State). replay p d (instance_acts id (length (p.read (p.place t (k + n))))))
-    (from_there p s id t k n cells v there (λ m l. stores m (omega (arith, l))) (omega (arith, within)))
-    ∙ (instance_run p s id t (k + n) v there (omega (arith, within)) (stores n (omega arith))
+    ∙ (ap (λ (d : State). replay p d (place_acts p id (p.place t (k + n))))
+    (from_there p s id t k n cells v there (λ m l. alone m (omega (arith, l))) (omega (arith, within)))
+    ∙ (instance_run p s id t (k + n) v there (omega (arith, within)) (alone n (omega arith))
     (after_instances p t k n cells)
     ∙ ap (λ m. with_cells s id (after_instances p t k (suc n) cells) (working t m []))
     (let e : suc (k + n) ≡ k + suc n = omega arith in e)))
@@ -126,31 +146,41 @@ after_more p t k m (suc n) cells =
 
 -- what the events of n instances leave, where the worker is at the first of them and has read nothing
 pub stretch_run : (p : Plan) (s : State) (id t k n : ℕ) → get_elem? s.workers id ≡ some (working t k [])
-    → AreStored p t k n → k + n ≤ p.size t
+    → AreAlone p t k n → k + n ≤ p.size t
     → replay p s (stretch_acts p id t k n)
     ≡ with_cells s id (after_instances p t k n s.cells) (working t (k + n) [])
-stretch_run p s id t k n here stores within =
+stretch_run p s id t k n here alone within =
     ap (λ ws. replay p (record { claims = s.claims; finished = s.finished; cells = s.cells; workers = ws })
     (stretch_acts p id t k n)) (sym (set_again s.workers id (working t k []) here))
-    ∙ from_there p s id t k n s.cells (working t k []) here stores within
+    ∙ from_there p s id t k n s.cells (working t k []) here alone within
 
 -- a plan with the same instances and more behind them has the same events, which leave the same
-module _ (p q : Plan) (more : Extends p q) (id t : ℕ) (there : (k : ℕ) → k < p.size t → p.place t k < p.places) where
+module _ (p q : Plan) (more : Extends p q) (id t : ℕ) (there : (k : ℕ) → k < p.size t → p.place t k < p.places)
+    (inside : (j : ℕ) → j < p.places → p.written j < p.cells) where
   same_place : (k : ℕ) → k < p.size t → q.place t k ≡ p.place t k
   same_place k l = more.place t k l
+
+  same_kind : (j : ℕ) → j < p.places → q.adds (q.written j) ≡ p.adds (p.written j)
+  same_kind j l = ap q.adds (more.written j l) ∙ more.adds (p.written j) (inside j l)
 
   pub same_acts : (k n : ℕ) → k + n ≤ p.size t → stretch_acts q id t k n ≡ stretch_acts p id t k n
   same_acts k zero within = refl
   same_acts k (suc n) within =
       let less : k + n < p.size t = omega (arith, within) in
-      ap₂ (λ (es : List (ℕ × Event)) (rs : List ℕ). es ++ instance_acts id (length rs))
-      (same_acts k n (omega (arith, within)))
-      (ap q.read (same_place (k + n) less) ∙ more.read (p.place t (k + n)) (there (k + n) less))
+      let j = p.place t (k + n) in
+      ap₂ (λ (es : List (ℕ × Event)) (m : ℕ). es ++ place_acts q id m)
+      (same_acts k n (omega (arith, within))) (same_place (k + n) less)
+      ∙ ap₂ (λ (b : Bool) (rs : List ℕ). stretch_acts p id t k n ++ instance_acts id (last_event b) (length rs))
+      (same_kind j (there (k + n) less)) (more.read j (there (k + n) less))
 
   after_same : (j : ℕ) (cells : List ℕ) → j < p.places → after_place q j cells ≡ after_place p j cells
   after_same j cells less =
-      ap₂ (λ (c : ℕ) (v : ℕ). set cells c v) (more.written j less)
-      (ap₂ (λ (f : List ℕ → ℕ) (rs : List ℕ). f (values_at cells rs)) (more.value j less) (more.read j less))
+      ap₂ (λ (b : Bool) (c : ℕ).
+      set cells c (updated b (get_or cells c 0) (q.value j (values_at cells (q.read j))))) (same_kind j less)
+      (more.written j less)
+      ∙ ap₂ (λ (f : List ℕ → ℕ) (rs : List ℕ). set cells (p.written j)
+      (updated (p.adds (p.written j)) (get_or cells (p.written j) 0) (f (values_at cells rs)))) (more.value j less)
+      (more.read j less)
 
   pub same_after : (k n : ℕ) (cells : List ℕ) → k + n ≤ p.size t
       → after_instances q t k n cells ≡ after_instances p t k n cells
@@ -161,14 +191,13 @@ module _ (p q : Plan) (more : Extends p q) (id t : ℕ) (there : (k : ℕ) → k
       (same_after k n cells (omega (arith, within)))
       ∙ after_same (p.place t (k + n)) (after_instances p t k n cells) (there (k + n) less)
 
-  pub same_stored : (k n : ℕ) → k + n ≤ p.size t
-      → ((j : ℕ) → j < p.places → p.written j < p.cells) → AreStored p t k n → AreStored q t k n
-  same_stored k n within inside stored m l =
+  pub same_alone : (k n : ℕ) → k + n ≤ p.size t → ((c : ℕ) → p.adds c ≡ true → is_counted q.gate ≡ false)
+      → AreAlone q t k n
+  same_alone k n within alone m l adds =
       let less : k + m < p.size t = omega (arith, l, within) in
       let j = p.place t (k + m) in
-      let is = there (k + m) less in
-      ap q.adds (ap q.written (same_place (k + m) less) ∙ more.written j is)
-      ∙ (more.adds (p.written j) (inside j is) ∙ stored m l)
+      alone (p.written j) (sym (same_kind j (there (k + m) less))
+      ∙ (ap (λ (i : ℕ). q.adds (q.written i)) (sym (same_place (k + m) less)) ∙ adds))
 
 -- one value more is read
 pub values_more : (cells rs xs : List ℕ) (i x : ℕ) → i < length rs → xs ≡ values_at cells (take i rs)

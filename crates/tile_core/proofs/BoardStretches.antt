@@ -19,8 +19,9 @@ use Rattle.tile_core.specs.declared.worker.Stage.{Stage}
 use Rattle.tile_core.specs.declared.worker.Stage.TheVariants.{Idle, Ended, Holding, Working}
 use Rattle.tile_core.specs.declared.worker.Worker.{Worker}
 use Rattle.tile_core.specs.steps.Acts.{after_instances, with_cells}
-use Rattle.tile_core.proofs.Acts.{same_acts, same_after, same_stored, stretch_run}
+use Rattle.tile_core.proofs.Acts.{same_acts, same_after, same_alone, stretch_run}
 use Rattle.tile_core.proofs.Gates.{shape_extends}
+use Rattle.tile_core.proofs.Marks.{by_waves_alone}
 use Rattle.tile_core.proofs.Workers.{at_stage}
 use Rattle.tile_core.proofs.Boards.{at_board, set_worker, worker_there, workers_kept, working_tile}
 
@@ -86,14 +87,15 @@ module _ (plan : Plan) (b : Board) (id : ℕ) (w : Worker) (board : IsBoard plan
         workers = ws;
       }) cells (sym (set_worker b id x (working t (k + n) []) (ap₂ staged stands cleared))) in
       let alone : state_of d ≡ replay p s (stretch_acts p id t k n) =
-      left ∙ sym (stretch_run p s id t k n standing (λ m l. refl) fits) in
+      left ∙ sym (stretch_run p s id t k n standing (λ m l adds. refl) fits) in
       let run : state_of d ≡ replay q s (stretch_acts p id t k n) =
       left
       ∙ (ap (λ (ys : List ℕ). with_cells s id ys (working t (k + n) []))
-      (sym (same_after p q more id t there k n b.cells.items fits))
-      ∙ (sym (stretch_run q s id t k n standing (same_stored p q more id t there k n fits dealt.written (λ m l. refl))
+      (sym (same_after p q more id t there dealt.written k n b.cells.items fits))
+      ∙ (sym (stretch_run q s id t k n standing (same_alone p q more id t there dealt.written k n fits
+      (λ c adds. by_waves_alone plan c adds board.planned))
       (omega (arith, fits, sizes)))
-      ∙ ap (λ (es : List (ℕ × core.Event)). replay q s es) (same_acts p q more id t there k n fits))) in
+      ∙ ap (λ (es : List (ℕ × core.Event)). replay q s es) (same_acts p q more id t there dealt.written k n fits))) in
       let does : DoesStretch p q s id t k n (state_of d) =
       record { some = some_left; within = fits; acts = run; alone = alone } in
       record {

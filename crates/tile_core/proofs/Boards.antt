@@ -16,20 +16,23 @@ use Rattle.scop_syntax.specs.View.{instance_of}
 use Rattle.scop_syntax.specs.declared.instance.Instance.{Instance as CodeInstance}
 use Rattle.scop_syntax.proofs.Members.{nat_cases}
 use Rattle.tile_events.specs.Core as core
-use Rattle.tile_events.specs.Core.{State, claim, open_tile, load, store, release, finish, acts, step, step_of}
-use Rattle.tile_events.specs.Core.{is_counted, is_last_act, needed_by, seen_by, shut}
+use Rattle.tile_events.specs.Core.{State, claim, open_tile, load, release, finish, acts, last_act, step, step_of}
+use Rattle.tile_events.specs.Core.{is_counted, is_last_act, needed_by, seen_by, shut, told}
 use Rattle.tile_events.specs.Plan as events
 use Rattle.tile_events.specs.Plan.{IsDealt, before, updated}
 use Rattle.tile_events.specs.Rule.{if_ended}
 use Rattle.tile_events.specs.Sound.{Holds, total}
+use Rattle.tile_core.specs.Acts.{last_event}
 use Rattle.tile_core.specs.Boards.{IsBoard, state_of}
-use Rattle.tile_core.specs.Plans.{place_of, plan_of, shape_of, walk_shape}
+use Rattle.tile_core.specs.Plans.{IsPlan, place_of, plan_of, shape_of, walk_shape}
 use Rattle.tile_core.specs.Workers.{HasNoneDue, IsDue, IsReleasing, IsWorker, ReleasesNone, staged, worker_of}
 use Rattle.tile_core.specs.declared.board.Board.{Board}
 use Rattle.tile_core.specs.declared.plan.Plan.{Plan}
 use Rattle.tile_core.specs.declared.worker.Stage.{Stage}
 use Rattle.tile_core.specs.declared.worker.Stage.TheVariants.{Idle, Ended, Holding, Working}
 use Rattle.tile_core.specs.declared.worker.Worker.{Worker}
+use Rattle.tile_core.proofs.Acts.{acts_last, is_last}
+use Rattle.tile_core.proofs.Marks.{by_waves_alone}
 use Rattle.tile_core.proofs.Gates.{IsRelease, if_false, if_true, releases_there, shape_extends}
 use Rattle.tile_core.proofs.TouchedCells.{place_within}
 
@@ -188,30 +191,43 @@ load_refused p plan id (Working t k) xs h =
     (λ e. if_false (nat_lt k (q.size t)) _ _ (le-ltb k (q.size t) (omega (arith, e))))
     (λ l. if_false (nat_lt k (q.size t)) _ _ (le-ltb k (q.size t) (omega (arith, l))))
 
-store_refused : (p : core.State) (plan : Plan) (id : ℕ) (s : Stage) (xs : List ℕ) → HasNoneDue plan s
-    → acts (shape_of plan) p id (staged s xs) store ≡ (p, core.not_enabled)
-store_refused p plan id Idle xs h = refl
-store_refused p plan id Ended xs h = refl
-store_refused p plan id (Holding t) xs h = refl
-store_refused p plan id (Working t k) xs h =
+last_refused : (p : core.State) (plan : Plan) (id : ℕ) (b : Bool) (s : Stage) (xs : List ℕ) → HasNoneDue plan s
+    → acts (shape_of plan) p id (staged s xs) (last_event b) ≡ (p, core.not_enabled)
+last_refused p plan id true Idle xs h = refl
+last_refused p plan id false Idle xs h = refl
+last_refused p plan id b Ended xs h = refl
+last_refused p plan id true (Holding t) xs h = refl
+last_refused p plan id false (Holding t) xs h = refl
+last_refused p plan id b (Working t k) xs h =
     let q = shape_of plan in
-    nat_cases k (q.size t)
+    let cell = q.written (q.place t k) in
+    acts_last q p id t k xs b
+    ∙ nat_cases k (q.size t)
     (λ l. if_true (nat_lt k (q.size t)) _ _ (lt-ltb k (q.size t) l)
-    ∙ if_false (nat_eq (length xs) (length (q.read (q.place t k))) && is_last_act q store (q.written (q.place t k))) _ _
-    (and_none (nat_eq (length xs) (length (q.read (q.place t k)))) (is_last_act q store (q.written (q.place t k)))
-    (ap not (releases_there plan t k (h t k refl) l).adds)))
+    ∙ if_false (nat_eq (length xs) (length (q.read (q.place t k))) && is_last_act q (last_event b) cell) _ _
+    (and_none (nat_eq (length xs) (length (q.read (q.place t k)))) (is_last_act q (last_event b) cell)
+    (no_last b l)))
     (λ e. if_false (nat_lt k (q.size t)) _ _ (le-ltb k (q.size t) (omega (arith, e))))
     (λ l. if_false (nat_lt k (q.size t)) _ _ (le-ltb k (q.size t) (omega (arith, l))))
+  where
+    no_last : (b : Bool) → k < (shape_of plan).size t
+        → is_last_act (shape_of plan) (last_event b) ((shape_of plan).written ((shape_of plan).place t k)) ≡ false
+    no_last true l =
+        let r = releases_there plan t k (h t k refl) l in
+        and_none ((shape_of plan).adds ((shape_of plan).written ((shape_of plan).place t k)))
+        (not (is_counted (shape_of plan).gate)) (ap not r.counted)
+    no_last false l = ap not (releases_there plan t k (h t k refl) l).adds
 
 pub refuses_load : (plan : Plan) (b : Board) (id : ℕ) (w : Worker) → IsAt b id w → HasNoneDue plan w.stage
     → step (shape_of plan) (state_of b) id load ≡ (state_of b, core.not_enabled)
 refuses_load plan b id w at h =
     step_here plan b id w (worker_of w) load at refl ∙ load_refused (state_of b) plan id w.stage w.reads.items h
 
-pub refuses_store : (plan : Plan) (b : Board) (id : ℕ) (w : Worker) → IsAt b id w → HasNoneDue plan w.stage
-    → step (shape_of plan) (state_of b) id store ≡ (state_of b, core.not_enabled)
-refuses_store plan b id w at h =
-    step_here plan b id w (worker_of w) store at refl ∙ store_refused (state_of b) plan id w.stage w.reads.items h
+pub refuses_last : (plan : Plan) (b : Board) (id : ℕ) (w : Worker) (adds : Bool) → IsAt b id w → HasNoneDue plan w.stage
+    → step (shape_of plan) (state_of b) id (last_event adds) ≡ (state_of b, core.not_enabled)
+refuses_last plan b id w adds at h =
+    step_here plan b id w (worker_of w) (last_event adds) at refl
+    ∙ last_refused (state_of b) plan id adds w.stage w.reads.items h
 
 -- one whose next instance is due
 module _ (plan : Plan) (b : Board) (id : ℕ) (w : Worker) (i : CodeInstance) (at : IsAt b id w)
@@ -293,41 +309,73 @@ module _ (plan : Plan) (b : Board) (id : ℕ) (w : Worker) (i : CodeInstance) (a
       (set_worker b id x (core.working d.tile d.count (w.reads.items ++ value ∷ []))
       (staged_as x (Working d.tile d.count) (w.reads.items ++ value ∷ []) (new ∙ d.works) taken)))))
 
-  pub reads_left : (length w.reads.items ≡ length here → ⊥)
-      → step p (state_of b) id store ≡ (state_of b, core.not_enabled)
-  reads_left left =
-      let n = ap (λ (rs : List ℕ). length rs) same_reads in
-      at_instance store
-      ∙ (if_true (nat_lt d.count (p.size d.tile)) _ _ some_left
-      ∙ if_false (nat_eq (length w.reads.items) (length there) && is_last_act p store (p.written (p.place d.tile d.count)))
-      _ _
-      (ap (λ (b : Bool). b && is_last_act p store (p.written (p.place d.tile d.count)))
-      (ne-eqb (length w.reads.items) (length there) (λ e. left (e ∙ sym n)))))
+  at_last : (adds : Bool) → step p (state_of b) id (last_event adds)
+      ≡ last_act p (state_of b) id d.tile d.count w.reads.items (last_event adds)
+  at_last adds =
+      at_instance (last_event adds) ∙ acts_last p (state_of b) id d.tile d.count w.reads.items adds
 
-  pub stores : (x : Worker) (cs : Vec ℕ Global) (value : ℕ) → length w.reads.items ≡ length here
+  pub reads_left : (adds : Bool) → (length w.reads.items ≡ length here → ⊥)
+      → step p (state_of b) id (last_event adds) ≡ (state_of b, core.not_enabled)
+  reads_left adds left =
+      let n = ap (λ (rs : List ℕ). length rs) same_reads in
+      let kind = is_last_act p (last_event adds) (p.written (p.place d.tile d.count)) in
+      at_last adds
+      ∙ (if_true (nat_lt d.count (p.size d.tile)) _ _ some_left
+      ∙ if_false (nat_eq (length w.reads.items) (length there) && kind) _ _
+      (ap (λ (b : Bool). b && kind) (ne-eqb (length w.reads.items) (length there) (λ e. left (e ∙ sym n)))))
+
+  -- what its cell asks for
+  same_kind : (walk_shape plan).written (place_of plan i) < (walk_shape plan).cells
+      → p.adds (p.written (p.place d.tile d.count)) ≡ (walk_shape plan).adds ((walk_shape plan).written (place_of plan i))
+  same_kind inside =
+      ap p.adds (sym same_cell) ∙ (shape_extends plan).adds ((walk_shape plan).written (place_of plan i)) inside
+
+  other_kind : (adds kind : Bool) (c : ℕ) → p.adds c ≡ kind → (kind ≡ adds → ⊥) → is_last_act p (last_event adds) c ≡ false
+  other_kind true true c is h = absurd (h refl)
+  other_kind true false c is h = ap (λ (b : Bool). b && not (is_counted p.gate)) is
+  other_kind false true c is h = ap not is
+  other_kind false false c is h = absurd (h refl)
+
+  pub is_other : (adds : Bool) → (walk_shape plan).written (place_of plan i) < (walk_shape plan).cells
+      → ((walk_shape plan).adds ((walk_shape plan).written (place_of plan i)) ≡ adds → ⊥)
+      → step p (state_of b) id (last_event adds) ≡ (state_of b, core.not_enabled)
+  is_other adds inside h =
+      let cell = p.written (p.place d.tile d.count) in
+      at_last adds
+      ∙ (if_true (nat_lt d.count (p.size d.tile)) _ _ some_left
+      ∙ if_false (nat_eq (length w.reads.items) (length there) && is_last_act p (last_event adds) cell) _ _
+      (and_none (nat_eq (length w.reads.items) (length there)) (is_last_act p (last_event adds) cell)
+      (other_kind adds (p.adds cell) cell refl (λ e. h (sym (same_kind inside) ∙ e)))))
+
+  pub does_last : (adds : Bool) (x : Worker) (cs : Vec ℕ Global) (value : ℕ) → IsPlan plan
+      → length w.reads.items ≡ length here
       → (walk_shape plan).written (place_of plan i) < (walk_shape plan).cells
+      → (walk_shape plan).adds ((walk_shape plan).written (place_of plan i)) ≡ adds
       → value ≡ (walk_shape plan).value (place_of plan i) w.reads.items
-      → cs.items ≡ set b.cells.items ((walk_shape plan).written (place_of plan i)) value
-      → x.stage ≡ Working d.tile (suc d.count) → x.reads.items ≡ []
-      → step p (state_of b) id store ≡ (
+      → cs.items ≡ set b.cells.items ((walk_shape plan).written (place_of plan i))
+      (updated adds (get_or b.cells.items ((walk_shape plan).written (place_of plan i)) 0) value)
+      → x.stage ≡ Working d.tile (suc d.count) → x.reads.items ≡ [] → (seen : core.Seen) → seen ≡ told (last_event adds)
+      → step p (state_of b) id (last_event adds) ≡ (
         state_of
             (record b { cells = cs; workers = with_item b.workers id x }),
-        core.stored,
+        seen,
       )
-  stores x cs value all inside is put new none =
+  does_last adds x cs value planned all inside own is put new none seen tells =
       let n = ap (λ (rs : List ℕ). length rs) same_reads in
       let xs = w.reads.items in
       let place = p.place d.tile d.count in
       let cell = p.written place in
-      let stored = is ∙ same_value xs in
-      let cells = put ∙ ap₂ (λ (c v : ℕ). set b.cells.items c v) same_cell stored in
-      let plain : p.adds cell ≡ false =
-      ap p.adds (sym same_cell) ∙ (shape_extends plan).adds ((walk_shape plan).written (place_of plan i)) inside in
-      at_instance store
+      let given = is ∙ same_value xs in
+      let cells = put
+      ∙ ap₂ (λ (c v : ℕ). set b.cells.items c (updated adds (get_or b.cells.items c 0) v)) same_cell given in
+      let kind : p.adds cell ≡ adds = same_kind inside ∙ own in
+      let alone : adds ≡ true → is_counted p.gate ≡ false =
+      λ e. by_waves_alone plan ((walk_shape plan).written (place_of plan i)) (own ∙ e) planned in
+      at_last adds
       ∙ (if_true (nat_lt d.count (p.size d.tile)) _ _ some_left
-      ∙ (if_true (nat_eq (length xs) (length there) && is_last_act p store cell) _ _
-      (and_from (nat_eq (length xs) (length there)) (is_last_act p store cell)
-      (eq-eqb (length xs) (length there) (all ∙ n)) (ap not plain))
+      ∙ (if_true (nat_eq (length xs) (length there) && is_last_act p (last_event adds) cell) _ _
+      (and_from (nat_eq (length xs) (length there)) (is_last_act p (last_event adds) cell)
+      (eq-eqb (length xs) (length there) (all ∙ n)) (is_last p adds cell kind alone))
       ∙ (ap (λ (c : Bool). (
         record {
           claims = b.claims;
@@ -335,23 +383,30 @@ module _ (plan : Plan) (b : Board) (id : ℕ) (w : Worker) (i : CodeInstance) (a
           cells = set b.cells.items cell (updated c (get_or b.cells.items cell 0) (p.value place xs));
           workers = set (map worker_of b.workers.items) id (core.working d.tile (suc d.count) []);
         },
-        core.stored,
-      )) plain
+        told (last_event adds),
+      )) kind
       ∙ ap₂ (λ (cells : List ℕ) (ws : List core.Worker).
-      (record { claims = b.claims; finished = b.finished; cells = cells; workers = ws }, core.stored))
+      (record { claims = b.claims; finished = b.finished; cells = cells; workers = ws }, told (last_event adds)))
       (sym cells)
       (set_worker b id x (core.working d.tile (suc d.count) [])
-      (staged_as x (Working d.tile (suc d.count)) [] new none)))))
+      (staged_as x (Working d.tile (suc d.count)) [] new none))
+      ∙ ap (λ (o : core.Seen).
+      (state_of (record b { cells = cs; workers = with_item b.workers id x }), o)) (sym tells))))
 
 -- release
-release_refused : (s : core.State) (plan : Plan) (id : ℕ) (v : Stage) (xs : List ℕ) → IsDealt (walk_shape plan)
-    → ((t k : ℕ) → v ≡ Working t k → t < (shape_of plan).tiles) → ReleasesNone plan v
+release_refused : (s : core.State) (plan : Plan) (id : ℕ) (v : Stage) (xs : List ℕ) → IsPlan plan
+    → IsDealt (walk_shape plan) → ((t k : ℕ) → v ≡ Working t k → t < (shape_of plan).tiles) → ReleasesNone plan v
     → acts (shape_of plan) s id (staged v xs) release ≡ (s, core.not_enabled)
-release_refused s plan id Idle xs dealt below h = refl
-release_refused s plan id Ended xs dealt below h = refl
-release_refused s plan id (Holding t) xs dealt below h = refl
-release_refused s plan id (Working t k) xs dealt below h = ⊎_elim early late (h t k refl)
+release_refused s plan id Idle xs is dealt below h = refl
+release_refused s plan id Ended xs is dealt below h = refl
+release_refused s plan id (Holding t) xs is dealt below h = refl
+release_refused s plan id (Working t k) xs is dealt below h = ⊎_elim early late (h t k refl)
   where
+    no_release : (b : Bool) → (b ≡ true → is_counted (shape_of plan).gate ≡ false)
+        → (b && is_counted (shape_of plan).gate) ≡ false
+    no_release true alone = alone refl
+    no_release false alone = refl
+
     early : k < (walk_shape plan).size t
         → acts (shape_of plan) s id (staged (Working t k) xs) release ≡ (s, core.not_enabled)
     early left =
@@ -365,23 +420,23 @@ release_refused s plan id (Working t k) xs dealt below h = ⊎_elim early late (
         let cell = p.written (p.place t k) in
         let same : cell ≡ (walk_shape plan).written j =
         ap p.written (more.place t k left) ∙ more.written j within in
-        let plain : p.adds cell ≡ false =
+        let kind : p.adds cell ≡ (walk_shape plan).adds ((walk_shape plan).written j) =
         ap p.adds same ∙ more.adds ((walk_shape plan).written j) (dealt.written j within) in
         if_true (nat_lt k (p.size t)) _ _ (lt-ltb k (p.size t) (omega (arith, left, size)))
         ∙ if_false (nat_eq (length xs) (length (p.read (p.place t k))) && is_last_act p release cell) _ _
         (and_none (nat_eq (length xs) (length (p.read (p.place t k)))) (is_last_act p release cell)
-        (ap (λ (c : Bool). c && is_counted p.gate) plain))
+        (no_release (p.adds cell) (λ e. by_waves_alone plan ((walk_shape plan).written j) (sym kind ∙ e) is)))
 
     late : (shape_of plan).size t ≤ k
         → acts (shape_of plan) s id (staged (Working t k) xs) release ≡ (s, core.not_enabled)
     late over = if_false (nat_lt k ((shape_of plan).size t)) _ _ (le-ltb k ((shape_of plan).size t) over)
 
-pub refuses_release : (plan : Plan) (b : Board) (id : ℕ) (w : Worker) → IsAt b id w → IsDealt (walk_shape plan)
-    → IsWorker plan w → ReleasesNone plan w.stage
+pub refuses_release : (plan : Plan) (b : Board) (id : ℕ) (w : Worker) → IsAt b id w → IsPlan plan
+    → IsDealt (walk_shape plan) → IsWorker plan w → ReleasesNone plan w.stage
     → step (shape_of plan) (state_of b) id release ≡ (state_of b, core.not_enabled)
-refuses_release plan b id w at dealt is h =
+refuses_release plan b id w at planned dealt is h =
     step_here plan b id w (worker_of w) release at refl
-    ∙ release_refused (state_of b) plan id w.stage w.reads.items dealt (λ t k e. working_tile plan w t k is e) h
+    ∙ release_refused (state_of b) plan id w.stage w.reads.items planned dealt (λ t k e. working_tile plan w t k is e) h
 
 -- one whose tile releases another
 module _ (plan : Plan) (b : Board) (id u : ℕ) (w : Worker) (at : IsAt b id w) (r : IsReleasing plan w.stage u)

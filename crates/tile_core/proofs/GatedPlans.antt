@@ -22,6 +22,7 @@ use Rattle.tile_edges.proofs.FindingTiles.{one_tile}
 use Rattle.tile_core.specs.Plans.{IsPlan, extents_in, gated, plan_of, program_in, walk_in, walk_plan, walk_shape}
 use Rattle.tile_core.specs.declared.plan.Plan.{Plan}
 use Rattle.tile_core.proofs.Gates.{plan_is}
+use Rattle.tile_core.proofs.Marks.{none_added}
 use Rattle.tile_core.proofs.Plans.{walk_over}
 
 -- the laws that make a plan with pairs a good one
@@ -41,7 +42,7 @@ pub record GateLaws : Type 0 where
 
 -- the pairs are those of the walk's covers
 module _ (laws : GateLaws) (plan : Plan) (is : IsPlan plan) (cells : List ℕ) (e : TileEdges)
-    (are : AreEdgesOf (program_in plan) plan.params.now is.tiling plan.list.now e) where
+    (are : AreEdgesOf (program_in plan) plan.params.now is.tiling plan.list.now e) (none : plan.marked.now ≡ []) where
   abbrev p : events.Plan
   p = walk_plan plan cells
 
@@ -51,8 +52,9 @@ module _ (laws : GateLaws) (plan : Plan) (is : IsPlan plan) (cells : List ℕ) (
   both : (i j : ℕ) → (Covers (walk_shape plan) i j → Cover (walk_in plan) i j)
       × (Cover (walk_in plan) i j → Covers (walk_shape plan) i j)
   both i j =
-      laws.covers (extents_in plan) [] (walk_in plan) (walk_shape plan) (walk_over plan [] (λ c is. refl)) is.inside refl
-      i j
+      laws.covers (extents_in plan) [] (walk_in plan) (walk_shape plan)
+      (subst (λ (ms : List ℕ). IsWalk (extents_in plan) [] ms (walk_in plan) (walk_shape plan)) none
+      (walk_over plan [] (λ c is. refl))) is.inside refl i j
 
   to_walk : (i j : ℕ) → Covers p i j → Cover (walk_in plan) i j
   to_walk i j c = (both i j).0
@@ -96,7 +98,8 @@ module _ (laws : GateLaws) (plan : Plan) (is : IsPlan plan) (cells : List ℕ) (
   }
 
   pub covered_is : AreCovered p pairs
-  covered_is = laws.covered p pairs (λ c. refl) refl (laws.good plan cells is) pairs_are
+  covered_is = laws.covered p pairs (λ c. none_added (extents_in plan) plan.marked.now c none) refl
+      (laws.good plan cells is) pairs_are
 
   pub released_dealt : IsDealt (released p pairs)
   released_dealt = laws.deals p pairs (laws.dealt plan cells is) are.rows
@@ -109,23 +112,28 @@ module _ (laws : GateLaws) (plan : Plan) (is : IsPlan plan) (cells : List ℕ) w
   abbrev Are : TileEdges → Type 0
   Are e = AreEdgesOf (program_in plan) plan.params.now is.tiling plan.list.now e
 
-  dealt_by : (o : Option (Bor TileEdges)) → MatchOption o ⊤ (λ e. Are e.now) → IsDealt (gated o (walk_plan plan cells))
-  dealt_by None are = laws.dealt plan cells is
-  dealt_by (Some e) are = released_dealt laws plan is cells e.now are
+  abbrev Alone : Option (Bor TileEdges) → Type 0
+  Alone o = MatchOption o ⊤ (λ e. plan.marked.now ≡ [])
 
-  good_by : (o : Option (Bor TileEdges)) → MatchOption o ⊤ (λ e. Are e.now) → GoodPlan (gated o (walk_plan plan cells))
-  good_by None are = laws.good plan cells is
-  good_by (Some e) are = released_good laws plan is cells e.now are
+  dealt_by : (o : Option (Bor TileEdges)) → MatchOption o ⊤ (λ e. Are e.now) → Alone o
+      → IsDealt (gated o (walk_plan plan cells))
+  dealt_by None are alone = laws.dealt plan cells is
+  dealt_by (Some e) are alone = released_dealt laws plan is cells e.now are alone
+
+  good_by : (o : Option (Bor TileEdges)) → MatchOption o ⊤ (λ e. Are e.now) → Alone o
+      → GoodPlan (gated o (walk_plan plan cells))
+  good_by None are alone = laws.good plan cells is
+  good_by (Some e) are alone = released_good laws plan is cells e.now are alone
 
   pub gated_dealt : IsDealt (plan_of plan cells)
-  gated_dealt = subst (λ q. IsDealt q) (sym (plan_is plan cells)) (dealt_by plan.edges is.edges)
+  gated_dealt = subst (λ q. IsDealt q) (sym (plan_is plan cells)) (dealt_by plan.edges is.edges is.alone)
 
   pub gated_good : GoodPlan (plan_of plan cells)
-  gated_good = subst (λ q. GoodPlan q) (sym (plan_is plan cells)) (good_by plan.edges is.edges)
+  gated_good = subst (λ q. GoodPlan q) (sym (plan_is plan cells)) (good_by plan.edges is.edges is.alone)
 
 -- visits in conflict touch one cell
 module _ (plan : Plan) (cells : List ℕ) (i j : ℕ) (v w : Visit) (at_i : slice_get (walk_in plan) i ≡ Some v)
-    (at_j : slice_get (walk_in plan) j ≡ Some w) where
+    (at_j : slice_get (walk_in plan) j ≡ Some w) (none : plan.marked.now ≡ []) where
   abbrev touched : Access → Visit → ℕ
   touched a x = cell_number (extents_in plan) (cell_of a x.point)
 
@@ -136,9 +144,10 @@ module _ (plan : Plan) (cells : List ℕ) (i j : ℕ) (v w : Visit) (at_i : slic
   reads_it : (k r : ℕ) (x : Visit) (a : Access) → slice_get (walk_in plan) k ≡ Some x
       → slice_get (reads x.body) r ≡ Some a → In (touched a x) ((walk_shape plan).read k)
   reads_it k r x a at there =
-      subst (λ o. In (touched a x) (read_by (extents_in plan) [] o)) (sym at)
+      subst (λ (ms : List ℕ). In (touched a x) (read_by (extents_in plan) ms (slice_get (walk_in plan) k))) (sym none)
+      (subst (λ o. In (touched a x) (read_by (extents_in plan) [] o)) (sym at)
       (in_map (cell_number (extents_in plan)) (cell_of a x.point) (map (λ b. cell_of b x.point) (reads x.body))
-      (in_map (λ b. cell_of b x.point) a (reads x.body) (in_from_place (reads x.body) r a there)))
+      (in_map (λ b. cell_of b x.point) a (reads x.body) (in_from_place (reads x.body) r a there))))
 
   pub touch_of : (a b : ℕ) → Conflict v a w b → Touch (walk_plan plan cells) i j
   touch_of zero zero c =
@@ -147,7 +156,7 @@ module _ (plan : Plan) (cells : List ℕ) (i j : ℕ) (v w : Visit) (at_i : slic
             ∙ (ap (λ a. touched a v) (first_is_place c.is_first)
             ∙ (ap (cell_number (extents_in plan)) c.cell
             ∙ (ap (λ a. touched a w) (sym (second_is_place c.is_second)) ∙ sym (wrote j w at_j)))),
-        refl,
+        none_added (extents_in plan) plan.marked.now ((walk_shape plan).written i) none,
       )
     where
       first_is_place : Some v.body.place ≡ Some c.first → v.body.place ≡ c.first
@@ -176,10 +185,10 @@ module _ (plan : Plan) (cells : List ℕ) (i j : ℕ) (v w : Visit) (at_i : slic
       neither (inl e) = absurd (omega (arith, e))
       neither (inr e) = absurd (omega (arith, e))
 
-pub touch_from : (plan : Plan) (cells : List ℕ) (i j : ℕ) → PlacesConflict (walk_in plan) i j
+pub touch_from : (plan : Plan) (cells : List ℕ) (i j : ℕ) → plan.marked.now ≡ [] → PlacesConflict (walk_in plan) i j
     → Touch (walk_plan plan cells) i j
-touch_from plan cells i j c =
-    touch_of plan cells i j c.earlier c.later c.is_earlier c.is_later c.first c.second c.conflict
+touch_from plan cells i j none c =
+    touch_of plan cells i j c.earlier c.later c.is_earlier c.is_later none c.first c.second c.conflict
 
 -- a plan with releases executes what the walk does
 pub record SameLaws : Type 0 where

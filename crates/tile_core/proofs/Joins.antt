@@ -1,6 +1,6 @@
 -- The lanes of a join at an instance of a plan: the cells that they tell there (`written_lane`), that these are some of
 -- the plan's (`all_within`), and what the join makes of them (`join_there`).
-use Rattle.std.proofs.Common.{◌≡◌, ◌≤◌, ◌∙◌, ℕ, ℤ, suc, ◌<◌, List, [], ◌∷◌, length, get_or, map}
+use Rattle.std.proofs.Common.{◌≡◌, ◌≤◌, ◌∙◌, false, ℕ, ℤ, suc, ◌<◌, List, [], ◌∷◌, length, get_or, map}
 use Rattle.std.proofs.Common.{Some, ap, refl, sym, take, arith}
 use Rattle.std.specs.Prelude.{Option, slice_get}
 use Rattle.scop_syntax.specs.Members.{In}
@@ -69,6 +69,10 @@ module _ (plan : Plan) (row : Row) (steps : List ℤ) (x : Instance) (lanes : Jo
         second = read_within 1 (length cells) lanes.second (omega arith) refl wide;
         third = read_within 2 (length cells) lanes.third (omega arith) refl wide;
       }
+
+  -- a join is stored
+  pub join_stored : (walk_shape plan).adds ((walk_shape plan).written place) ≡ false
+  join_stored = sym at.tells.adds ∙ at.laid.stores
 
   -- what it makes of the values of the cells that are read
   pub join_there : (cells : List ℕ)

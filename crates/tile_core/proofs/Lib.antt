@@ -2,6 +2,7 @@ pub mod Ranks
 pub mod Cuts
 pub mod Scans
 pub mod Gates
+pub mod Marks
 pub mod Plans
 pub mod Tiles
 pub mod TouchedCells

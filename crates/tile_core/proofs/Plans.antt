@@ -5,7 +5,7 @@ use Rattle.std.specs.Prelude.{slice_get, slice_index_or}
 use Rattle.std.specs.Option.{option_map}
 use Rattle.std.proofs.lemmas.List.{length-map}
 use Rattle.std.proofs.lemmas.Option.{slice_get-map, slice_get_within, get_or_from_slice_get}
-use Rattle.scop_syntax.specs.Cells.{Cell, Conflict, PlacesConflict, cell_of, reads}
+use Rattle.scop_syntax.specs.Cells.{Cell, Conflict, PlacesConflict, cell_of}
 use Rattle.scop_syntax.specs.Execution.{AreInside, IsCell, cell_number, held, total_cells}
 use Rattle.scop_syntax.specs.Members.{In}
 use Rattle.scop_syntax.specs.Tree.{Program}
@@ -16,15 +16,17 @@ use Rattle.conflict_orders.proofs.SortedLists.{StandOnce, walked_distinct}
 use Rattle.tile_list.specs.TilesView.{firsts_of, waves_of}
 use Rattle.tile_list.specs.declared.list.Tile.{Tile}
 use Rattle.tile_events.specs.Deal.{Deal, IsScan, dealt}
-use Rattle.tile_events.specs.Flat.{AreMarked, IsWalk, flat, is_marked, read_by, written_by}
+use Rattle.scop_syntax.specs.Reductions.{AreMarked, is_marked, loads}
+use Rattle.tile_events.specs.Flat.{IsWalk, flat, read_by, written_by}
 use Rattle.tile_events.specs.Plan as events
 use Rattle.tile_events.specs.Plan.{GoodPlan, IsDealt, Touch}
 use Rattle.tile_events.proofs.Covers.{ordered_by_waves}
-use Rattle.tile_events.proofs.Flat.{none_marked}
+use Rattle.tile_events.proofs.Flat.{loads_read}
 use Rattle.tile_core.specs.Plans.{IsPlan, deal_of, extents_in, walk_plan, program_in, scan_in, walk_shape, sizes_of}
 use Rattle.tile_core.specs.Plans.{walk_in}
 use Rattle.tile_core.specs.Ranks.{start_at}
 use Rattle.tile_core.specs.declared.plan.Plan.{Plan}
+use Rattle.tile_core.proofs.Marks.{adds_is}
 use Rattle.tile_core.proofs.Cuts.{IsCut, IsInTile, TileLaws, cut_is}
 use Rattle.tile_core.proofs.Scans.{as_many, instance_at, place_back, place_within, rank_back, rank_there}
 use Rattle.tile_core.proofs.Scans.{rank_within, tiles_in_order}
@@ -51,13 +53,14 @@ module _ (extents : List (List ℕ)) (visits : List Visit)
       (below (cell_of v.0.body.place v.0.point)
       (inside v.0 (in_from_place visits j v.0 v.1) v.0.body.place (inl refl)))
 
-  visit_read : (j c : ℕ) → j < length visits → In c (read_by extents [] (slice_get visits j)) → c < total_cells extents
-  visit_read j c l i =
+  visit_read : (marked : List ℕ) (j c : ℕ) → j < length visits → In c (read_by extents marked (slice_get visits j))
+      → c < total_cells extents
+  visit_read marked j c l i =
       let v = there_is visits j l in
-      let m = in_map_from (cell_number extents) c (map (λ access. cell_of access v.0.point) (reads v.0.body))
-      (subst (λ o. In c (read_by extents [] o)) v.1 i) in
-      let a = in_map_from (λ access. cell_of access v.0.point) m.0 (reads v.0.body) m.1 in
-      let is = inside v.0 (in_from_place visits j v.0 v.1) a.0 (inr a.1) in
+      let m = in_map_from (cell_number extents) c (map (λ access. cell_of access v.0.point) (loads marked v.0.body))
+      (subst (λ o. In c (read_by extents marked o)) v.1 i) in
+      let a = in_map_from (λ access. cell_of access v.0.point) m.0 (loads marked v.0.body) m.1 in
+      let is = inside v.0 (in_from_place visits j v.0 v.1) a.0 (inr (loads_read marked v.0.body a.0 a.1)) in
       subst (λ n. n < total_cells extents) (sym (m.2 ∙ ap (cell_number extents) a.2))
       (below (cell_of a.0 v.0.point) is)
 
@@ -79,11 +82,16 @@ pub record PlanLaws : Type 0 where
 pub walk_over : (plan : Plan) (contents : List (List ℕ))
     → ((c : Cell) → IsCell (extents_in plan) c
     → get_or (flat contents) (cell_number (extents_in plan) c) 0 ≡ held (extents_in plan) contents c)
-    → IsWalk (extents_in plan) contents [] (walk_in plan) (walk_plan plan (flat contents))
-walk_over plan contents initial =
-    record { written = λ j. refl; read = λ j. refl; adds = λ c is. refl; value = λ j xs. refl; initial = initial }
+    → IsWalk (extents_in plan) contents plan.marked.now (walk_in plan) (walk_plan plan (flat contents))
+walk_over plan contents initial = record {
+  written = λ j. refl;
+  read = λ j. refl;
+  adds = adds_is (extents_in plan) plan.marked.now;
+  value = λ j xs. refl;
+  initial = initial;
+}
 
-walk_is : (plan : Plan) → IsWalk (extents_in plan) [] [] (walk_in plan) (walk_shape plan)
+walk_is : (plan : Plan) → IsWalk (extents_in plan) [] plan.marked.now (walk_in plan) (walk_shape plan)
 walk_is plan = walk_over plan [] (λ c is. refl)
 
 module _ (laws : PlanLaws) (plan : Plan) (is : IsPlan plan) where
@@ -145,7 +153,7 @@ module _ (laws : PlanLaws) (plan : Plan) (is : IsPlan plan) where
       let p = walk_plan plan cells in
       laws.deals deal p.cells p.adds p.written p.read p.value p.initial scan_is
       (visit_written (extents_in plan) (walk_in plan) (laws.below (extents_in plan)) is.inside)
-      (visit_read (extents_in plan) (walk_in plan) (laws.below (extents_in plan)) is.inside)
+      (visit_read (extents_in plan) (walk_in plan) (laws.below (extents_in plan)) is.inside plan.marked.now)
 
   -- a place whose rank lies in a tile stands there
   pub stands_in : (cells : List ℕ) (j t : ℕ) (x : Instance) → j < length (walk_in plan)
@@ -195,8 +203,8 @@ module _ (laws : PlanLaws) (plan : Plan) (is : IsPlan plan) where
             let early : i < length (walk_in plan) = omega (arith, less, within) in
             let v = instance_at program params tiling xs once is.order i early in
             let w = instance_at program params tiling xs once is.order j within in
-            let c = laws.touches (extents_in plan) [] [] (walk_in plan) (walk_shape plan)
-            (walk_is plan) (none_marked (walk_in plan)) is.inside i j v.0 w.0
+            let c = laws.touches (extents_in plan) [] plan.marked.now (walk_in plan) (walk_shape plan)
+            (walk_is plan) is.marks is.inside i j v.0 w.0
             v.1 w.1 touch in
             let conflict : PlacesConflict (walk_in plan) i j = record {
               earlier = v.0;
@@ -214,6 +222,6 @@ module _ (laws : PlanLaws) (plan : Plan) (is : IsPlan plan) where
             let b = list_cut.found (deal.rank j) y (rank_there program params tiling xs once is.order j y w.2) in
             let o = placed_by cells i j a.0 b.0 x y early within a.1 b.1
             (tiles_in_order program params tiling xs deal.tiles deal.start deal.wave i j (deal.rank i) (deal.rank j) a.0
-            b.0 x y (walked_distinct program params once) is.order list_cut v.2 w.2 a.1 b.1 (is.good i j conflict)) in
+            b.0 x y (walked_distinct program params once) is.order list_cut v.2 w.2 a.1 b.1 (is.good i j conflict c.3)) in
             ([], ordered_by_waves (walk_plan plan cells) i j refl early o);
       }

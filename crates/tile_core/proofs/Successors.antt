@@ -166,13 +166,3 @@ pub sum_fits : (plan : Plan) (is : IsPlan plan) (t a b : ℕ) → t < (shape_of 
 sum_fits plan is t a zero less own all fits = omega (arith, fits)
 sum_fits plan is t a (suc b) less own all fits =
     let f = acts_fit plan is t less (omega (arith, all)) in omega (arith, f, own, all)
-
--- the counters stand behind the cells of all arrays
-counters_by : (o : Option (Bor TileEdges)) (p : events.Plan) → IsSome o
-    → (gated o p).cells ≡ p.cells + (gated o p).tiles
-counters_by None p some = absurd cc
-counters_by (Some e) p some = refl
-
-pub counters_behind : (plan : Plan) → HasEdges plan
-    → (shape_of plan).cells ≡ (walk_shape plan).cells + (shape_of plan).tiles
-counters_behind plan some = counters_by plan.edges (walk_shape plan) some

@@ -1,21 +1,23 @@
 -- What an instance of a plan touches and stores, by its place in the walk.
-use Rattle.std.proofs.Common.{◌≡◌, ℕ, zero, suc, ◌≤◌, ◌<◌, ℤ, List, [], ◌∷◌, length, map, get_or, Some, ap}
+use Rattle.std.proofs.Common.{◌≡◌, Bool, true, false, drop, ℕ, zero, suc, ◌≤◌, ◌<◌, ℤ, List, [], ◌∷◌, length, map, get_or, Some, ap}
 use Rattle.std.proofs.Common.{sym, refl}
 use Rattle.std.proofs.Common.{◌∙◌, arith}
-use Rattle.std.specs.Prelude.{slice_get}
+use Rattle.std.specs.Prelude.{slice_get, if◌then◌else◌}
 use Rattle.std.specs.Option.{option_map}
-use Rattle.std.proofs.lemmas.List.{length-map}
+use Rattle.std.proofs.lemmas.List.{length-drop, length-map}
 use Rattle.std.proofs.lemmas.Option.{slice_get-map, slice_get_within}
-use Rattle.scop_syntax.specs.Cells.{accesses, cell_of, cells_read, reads}
+use Rattle.scop_syntax.specs.Cells.{cell_of, reads}
 use Rattle.scop_syntax.specs.Execution.{cell_number}
 use Rattle.scop_syntax.specs.Kernel.{IsKernel, IsPlaced, ranks_of}
 use Rattle.scop_syntax.specs.Members.{In}
+use Rattle.scop_syntax.specs.Reductions.{is_marked, loads}
 use Rattle.scop_syntax.specs.Statements.{Placed, Runs, statements_of, visit_of}
 use Rattle.scop_syntax.specs.Tree.{Access, Program}
 use Rattle.scop_syntax.specs.Walk.{Instance, Visit, instance, walk_of}
 use Rattle.scop_syntax.proofs.Members.{in_from_place, place_of, there_is}
 use Rattle.conflict_orders.proofs.SortedLists.{StandOnce}
 use Rattle.stmt_table.specs.Instances.{IsVisitOf}
+use Rattle.stmt_table.specs.Tables.{touched}
 use Rattle.tile_events.specs.Flat.{read_by, written_by}
 use Rattle.tile_core.specs.Plans.{IsPlan, extents_in, places_in, program_in, walk_in}
 use Rattle.tile_core.specs.Ranks.{place_in}
@@ -55,21 +57,39 @@ one plan x v w once a b =
     same : (m n : ℕ) → m ≡ n → slice_get (walk_in plan) m ≡ Some v → slice_get (walk_in plan) n ≡ Some w → v ≡ w
     same m n e g h = cc
 
--- how many reads there are
+-- a visit loads no more than it reads
+many_loaded : (marked : List ℕ) (v : Visit) (extents : List (List ℕ))
+    → length (read_by extents marked (Some v)) ≡ length (loads marked v.body)
+many_loaded marked v extents =
+    length-map (map (λ access. cell_of access v.point) (loads marked v.body)) (cell_number extents)
+    ∙ length-map (loads marked v.body) (λ access. cell_of access v.point)
+
+few_loaded : (b : Bool) (xs : List Access) → length (if b then drop 1 xs else xs) ≤ length xs
+few_loaded true xs = let many = length-drop 1 xs in omega (arith, many)
+few_loaded false xs = omega arith
+
+-- how many reads are loaded
 pub reads_there : (plan : Plan) (x : Instance) (v : Visit) (extents : List (List ℕ)) → IsThere plan x v
-    → length (read_by extents [] (slice_get (walk_in plan) (place_in (places_in plan) x))) ≡ length (reads v.body)
+    → length (read_by extents plan.marked.now (slice_get (walk_in plan) (place_in (places_in plan) x)))
+    ≡ length (loads plan.marked.now v.body)
 reads_there plan x v extents is =
-    ap (λ o. length (read_by extents [] o)) is.at
-    ∙ (length-map (cells_read v) (cell_number extents) ∙ length-map (reads v.body) (λ access. cell_of access v.point))
+    ap (λ o. length (read_by extents plan.marked.now o)) is.at ∙ many_loaded plan.marked.now v extents
 
 many_reads : (plan : Plan) (x : Instance) (extents : List (List ℕ))
     → StandOnce (program_in plan) plan.params.now
     → In x (places_in plan) → (v : Visit) → IsVisitOf (program_in plan) plan.params.now x v
-    → length (reads v.body) ≡ length (read_by extents [] (slice_get (walk_in plan) (place_in (places_in plan) x)))
+    → length (loads plan.marked.now v.body)
+    ≡ length (read_by extents plan.marked.now (slice_get (walk_in plan) (place_in (places_in plan) x)))
 many_reads plan x extents once walked v is =
     let t = there plan x walked in
-    ap (λ (w : Visit). length (reads w.body)) (one plan x v t.0 once is t.1.is) ∙ sym
+    ap (λ (w : Visit). length (loads plan.marked.now w.body)) (one plan x v t.0 once is t.1.is) ∙ sym
     (reads_there plan x t.0 extents t.1)
+
+-- an instance's place is one of the walk
+pub place_within : (plan : Plan) (x : Instance) → In x (places_in plan)
+    → place_in (places_in plan) x < length (walk_in plan)
+place_within plan x walked =
+    let t = there plan x walked in slice_get_within (walk_in plan) (place_in (places_in plan) x) t.0 t.1.at
 
 -- the laws of instances and statements
 abbrev pub AreFound : Type 0
@@ -83,36 +103,30 @@ ArePlaced = (program : Program) (p : Placed) → IsKernel program → In p (stat
 -- there are few at any place of the walk
 pub few_at : (plan : Plan) (j : ℕ) (extents : List (List ℕ)) → AreFound → ArePlaced → IsPlan plan
     → j < length (walk_in plan)
-    → length (read_by extents [] (slice_get (walk_in plan) j)) ≤ 16
+    → length (read_by extents plan.marked.now (slice_get (walk_in plan) j)) ≤ 16
 few_at plan j extents found placed_law is less =
     let walk = walk_in plan in
     let v = there_is walk j less in
     let s = found (program_in plan) plan.params.now v.0 (in_from_place walk j v.0 v.1) in
     let few = (placed_law (program_in plan) s.0 is.limits.kernel s.2).body.few_reads in
     let same = ap (λ (w : Visit). length (reads w.body)) s.4 in
-    let n = ap (λ o. length (read_by extents [] o)) v.1
-    ∙ (length-map (cells_read v.0) (cell_number extents)
-    ∙ length-map (reads v.0.body) (λ access. cell_of access v.0.point)) in
-    omega (arith, few, same, n)
+    let n = ap (λ o. length (read_by extents plan.marked.now o)) v.1 ∙ many_loaded plan.marked.now v.0 extents in
+    let m = few_loaded (is_marked plan.marked.now v.0.body.place.array) (reads v.0.body) in
+    omega (arith, few, same, n, m)
 
 -- and so for an instance
 pub few_reads : (plan : Plan) (x : Instance) (extents : List (List ℕ)) → AreFound → ArePlaced → IsPlan plan
     → In x (places_in plan)
-    → length (read_by extents [] (slice_get (walk_in plan) (place_in (places_in plan) x))) ≤ 16
+    → length (read_by extents plan.marked.now (slice_get (walk_in plan) (place_in (places_in plan) x))) ≤ 16
 few_reads plan x extents found placed_law is walked =
-    let t = there plan x walked in
-    let s = found (program_in plan) plan.params.now t.0 t.1.is.walked in
-    let few = (placed_law (program_in plan) s.0 is.limits.kernel s.2).body.few_reads in
-    let same = ap (λ (w : Visit). length (reads w.body)) s.4 in
-    let n = reads_there plan x t.0 extents t.1 in
-    omega (arith, few, same, n)
+    few_at plan (place_in (places_in plan) x) extents found placed_law is (place_within plan x walked)
 
 -- a call that tells the cell of an access tells that of the plan
 abbrev pub TellsCell : Plan → Instance → ℕ → ℕ → Type 0
 TellsCell plan x access result =
-    (v : Visit) (touched : Access) → IsVisitOf (program_in plan) plan.params.now x v
-    → slice_get (accesses v.body) access ≡ Some touched
-    → result ≡ cell_number (extents_in plan) (cell_of touched v.point)
+    (v : Visit) (a : Access) → IsVisitOf (program_in plan) plan.params.now x v
+    → slice_get (touched (is_marked plan.marked.now v.body.place.array) v.body) access ≡ Some a
+    → result ≡ cell_number (extents_in plan) (cell_of a v.point)
 
 pub written_is : (plan : Plan) (x : Instance) (result : ℕ) → IsPlan plan → In x (places_in plan)
     → TellsCell plan x 0 result
@@ -130,22 +144,17 @@ mapped f g (y ∷ ys) (suc i) x e = mapped f g ys i x e
 
 pub read_is : (plan : Plan) (x : Instance) (read result : ℕ) → StandOnce (program_in plan) plan.params.now
     → IsPlan plan → In x (places_in plan)
-    → read < length (read_by (extents_in plan) []
+    → read < length (read_by (extents_in plan) plan.marked.now
     (slice_get (walk_in plan) (place_in (places_in plan) x))) → TellsCell plan x (suc read) result
-    → result ≡ get_or (read_by (extents_in plan) []
+    → result ≡ get_or (read_by (extents_in plan) plan.marked.now
     (slice_get (walk_in plan) (place_in (places_in plan) x))) read 0
 read_is plan x read result once is walked less tells =
     let extents = extents_in plan in
     let t = there plan x walked in
     let v = t.0 in
+    let own = loads plan.marked.now v.body in
     let n = many_reads plan x extents once walked v t.1.is in
-    let touched = there_is (reads v.body) read (omega (arith, less, n)) in
-    tells v touched.0 t.1.is touched.1
-    ∙ (sym (mapped (cell_number extents) (λ access. cell_of access v.point) (reads v.body) read touched.0 touched.1)
-    ∙ sym (ap (λ o. get_or (read_by extents [] o) read 0) t.1.at))
-
--- an instance's place is one of the walk
-pub place_within : (plan : Plan) (x : Instance) → In x (places_in plan)
-    → place_in (places_in plan) x < length (walk_in plan)
-place_within plan x walked =
-    let t = there plan x walked in slice_get_within (walk_in plan) (place_in (places_in plan) x) t.0 t.1.at
+    let found = there_is own read (omega (arith, less, n)) in
+    tells v found.0 t.1.is found.1
+    ∙ (sym (mapped (cell_number extents) (λ access. cell_of access v.point) own read found.0 found.1)
+    ∙ sym (ap (λ o. get_or (read_by extents plan.marked.now o) read 0) t.1.at))

@@ -11,10 +11,11 @@ use Rattle.tile_events.specs.Releases.{AreCovered, AreEdges, Edges, IsDone, Lead
 use Rattle.tile_events.specs.Sound.{IsBegun, IsFinished, Sound}
 use Rattle.tile_edges.specs.Edges.{edges_of}
 use Rattle.tile_edges.specs.declared.waiting.TileEdges.{TileEdges}
-use Rattle.tile_core.specs.Plans.{IsPlan, plan_of, shape_of, walk_in, walk_plan, walk_shape}
+use Rattle.tile_core.specs.Plans.{IsPlan, extents_in, plan_of, shape_of, walk_in, walk_plan, walk_shape}
 use Rattle.tile_core.specs.declared.plan.Plan.{Plan}
 use Rattle.tile_core.proofs.GatedPlans.{GateLaws, covered_is, pairs_are, touch_from}
 use Rattle.tile_core.proofs.Gates.{by_edges, tiles_are}
+use Rattle.tile_core.proofs.Marks.{none_added, none_with}
 use Rattle.tile_core.proofs.Successors.{edges_are, needs_with, seen_with}
 
 -- the laws of plans with releases
@@ -35,6 +36,9 @@ pub record WaitLaws : Type 0 where
 module _ (laws : WaitLaws) (plan : Plan) (e : Bor TileEdges) (is : IsPlan plan) (some : plan.edges ≡ Some e) where
   abbrev pairs : Edges
   pairs = edges_of e.now
+
+  none : plan.marked.now ≡ []
+  none = none_with plan e some is
 
   few : pairs.count < 18446744073709551616
   few = let l = e.now.targets.ok.0 in omega (arith, l)
@@ -62,7 +66,8 @@ module _ (laws : WaitLaws) (plan : Plan) (e : Bor TileEdges) (is : IsPlan plan) 
       let tiles = plan.list.now.tiles.items in
       earlier t u (slice_get_within tiles t w.first.tile.tile w.first.tile.is)
       (slice_get_within tiles u w.second.tile.tile w.second.tile.is)
-      (laws.rises p pairs (λ c. refl) refl (laws.gate.good plan [] is) (pairs_are laws.gate plan is [] e.now are) t u leads)
+      (laws.rises p pairs (λ c. none_added (extents_in plan) plan.marked.now c none) refl (laws.gate.good plan [] is)
+      (pairs_are laws.gate plan is [] e.now are none) t u leads)
 
   module _ (cells : List ℕ) (s : State) (sound : Sound (plan_of plan cells) s) where
     there : Sound (released (walk_plan plan cells) pairs) s
@@ -78,8 +83,8 @@ module _ (laws : WaitLaws) (plan : Plan) (e : Bor TileEdges) (is : IsPlan plan) 
         ⊎ IsDone (walk_plan plan cells) pairs s ((walk_shape plan).tile i)
     conflicts_done i j conflict begun =
         laws.ends (walk_plan plan cells) pairs s i j (laws.gate.dealt plan cells is) (edges_are plan e some is).rows
-        (covered_is laws.gate plan is cells e.now (edges_are plan e some is)) there conflict.order
-        (slice_get_within (walk_in plan) j conflict.later conflict.is_later) (touch_from plan cells i j conflict) begun
+        (covered_is laws.gate plan is cells e.now (edges_are plan e some is) none) there conflict.order
+        (slice_get_within (walk_in plan) j conflict.later conflict.is_later) (touch_from plan cells i j none conflict) begun
 
     pub gate_filled : (u : ℕ) → u < (shape_of plan).tiles → ((t : ℕ) → t < u → IsFinished s t)
         → needed_by (shape_of plan).gate (shape_of plan) u ≤ seen_by (shape_of plan).gate s u

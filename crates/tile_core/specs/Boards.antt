@@ -28,6 +28,7 @@ event_of event.Claim = core.claim
 event_of event.Open = core.open_tile
 event_of event.Load = core.load
 event_of event.Store = core.store
+event_of event.Add = core.add
 event_of event.Release = core.release
 event_of event.Finish = core.finish
 
@@ -39,6 +40,7 @@ seen_of (Ok (seen.NotYet done needs)) = core.not_yet done needs
 seen_of (Ok (seen.Short held needs)) = core.short held needs
 seen_of (Ok (seen.Read x)) = core.value_read x
 seen_of (Ok seen.Stored) = core.stored
+seen_of (Ok seen.Added) = core.added
 seen_of (Ok seen.Released) = core.released
 seen_of (Ok seen.Finished) = core.done
 seen_of (Err e) = core.not_enabled

@@ -1,6 +1,7 @@
 pub mod Ranks
 pub mod Acts
 pub mod steps
+pub mod Marks
 pub mod Plans
 pub mod Workers
 pub mod Stretches

@@ -1,19 +1,20 @@
 -- A plan of a kernel as plain data.
-use Rattle.std.specs.Prelude.{◌≡◌, ℕ, ◌+◌, ◌<◌, ◌≤◌, ⊤, false, List, [], length, map, get_or, slice_get}
+use Rattle.std.specs.Prelude.{◌≡◌, ℕ, ◌+◌, ◌<◌, ◌≤◌, ⊤, List, [], length, map, get_or, slice_get}
 use Rattle.std.specs.Prelude.{IsSome, MatchOption, Option, Some, None}
 use Rattle.std.specs.Borrow.{Bor}
 use Rattle.scop_syntax.specs.Execution.{IsInside, layout, total_cells}
 use Rattle.scop_syntax.specs.Limits.{WithinLimits}
+use Rattle.scop_syntax.specs.Reductions.{AreMarked}
 use Rattle.scop_syntax.specs.Tree.{Program}
 use Rattle.scop_syntax.specs.View.{instance_of, program_of}
 use Rattle.scop_syntax.specs.Walk.{Instance, Visit, walk_of}
 use Rattle.scop_syntax.specs.declared.instance.Instance.{Instance as CodeInstance}
 use Rattle.loop_tree.specs.Conditions.{CanWalk}
 use Rattle.loop_tree.specs.Plans.{AreInOrder, walked}
-use Rattle.loop_tree.specs.Tiling.{IsGoodPlan, Tiling}
+use Rattle.loop_tree.specs.Tiling.{Tiling}
 use Rattle.loop_tree.specs.View.{trees_in}
 use Rattle.loop_tree.specs.Walk.{visits}
-use Rattle.stmt_table.specs.Tables.{IsTableOf}
+use Rattle.stmt_table.specs.Tables.{IsTableBy}
 use Rattle.tile_list.specs.TilesView.{IsTileListOf, waves_of}
 use Rattle.tile_list.specs.declared.list.Tile.{Tile}
 use Rattle.tile_list.specs.declared.list.TileList.{TileList}
@@ -23,6 +24,7 @@ use Rattle.tile_events.specs.Deal.{Deal, dealt}
 use Rattle.tile_events.specs.Flat.{flat, read_by, value_by, written_by}
 use Rattle.tile_events.specs.Plan as events
 use Rattle.tile_events.specs.Releases.{released}
+use Rattle.tile_core.specs.Marks.{IsGoodFor, adds_to}
 use Rattle.tile_core.specs.Ranks.{place_in, rank_in, start_at}
 use Rattle.tile_core.specs.declared.plan.Plan.{Plan}
 
@@ -65,13 +67,14 @@ deal_of plan = record {
 abbrev pub extents_in : Plan → List (List ℕ)
 extents_in plan = layout (program_in plan) plan.params.now
 
--- the places of the walk as a plan by waves, over these cells, those of all arrays one behind another
+-- the places of the walk as a plan by waves, over these cells, those of all arrays one behind another: cells of marked
+-- arrays are added to
 abbrev pub walk_plan : Plan → List ℕ → events.Plan
 walk_plan plan cells =
-    dealt (deal_of plan) (total_cells (extents_in plan)) (λ c. false)
+    dealt (deal_of plan) (total_cells (extents_in plan)) (adds_to (extents_in plan) plan.marked.now)
     (λ j. written_by (extents_in plan) (slice_get (walk_in plan) j))
-    (λ j. read_by (extents_in plan) [] (slice_get (walk_in plan) j)) (λ j. value_by [] (slice_get (walk_in plan) j))
-    (λ c. get_or cells c 0)
+    (λ j. read_by (extents_in plan) plan.marked.now (slice_get (walk_in plan) j))
+    (λ j. value_by plan.marked.now (slice_get (walk_in plan) j)) (λ c. get_or cells c 0)
 
 -- what of it does not hang on the cells
 abbrev pub walk_shape : Plan → events.Plan
@@ -108,18 +111,21 @@ HasRest plan cells = (c : ℕ) → (walk_shape plan).cells ≤ c → get_or cell
 abbrev pub HoldsContents : List (List ℕ) → List ℕ → Type 0
 HoldsContents contents row = (c : ℕ) → get_or row c 0 ≡ get_or (flat contents) c 0
 
--- a kernel within the limits, whose subscripts are inside; the table of its statements; a tree that visits each walked
--- instance once, in the order of a good plan; the tiles of its visits, and exactly the pairs of these of which one waits
--- for the other, where they are released one by one
+-- a kernel within the limits, whose subscripts are inside; arrays of it that are only added to; the table of its
+-- statements; a tree that visits each walked instance once, in the order of a plan that is good for the other arrays; the
+-- tiles of its visits, and exactly the pairs of these of which one waits for the other, where they are released one by
+-- one: then no array is marked
 pub record IsPlan (plan : Plan) : Type 0 where
   pub tiling : Tiling
   pub limits : WithinLimits (program_in plan) plan.params.now
   pub inside : IsInside (program_in plan) plan.params.now
-  pub table : IsTableOf (program_in plan) plan.params.now plan.table.now
+  pub marks : AreMarked plan.marked.now (walk_in plan)
+  pub table : IsTableBy plan.marked.now (program_in plan) plan.params.now plan.table.now
   pub walk : CanWalk (trees_in plan.tree.now) plan.params.now []
   pub order : AreInOrder (program_in plan) plan.params.now tiling (scan_in plan)
-  pub good : IsGoodPlan (program_in plan) plan.params.now tiling
+  pub good : IsGoodFor (program_in plan) plan.params.now plan.marked.now tiling
   pub tiles : IsTileListOf (trees_in plan.tree.now) plan.params.now tiling plan.list.now
   pub edges : MatchOption plan.edges ⊤
       (λ e. AreEdgesOf (program_in plan) plan.params.now tiling plan.list.now e.now)
   pub room : MatchOption plan.edges ⊤ (λ e. HaveRoom plan.list.now e.now)
+  pub alone : MatchOption plan.edges ⊤ (λ e. plan.marked.now ≡ [])

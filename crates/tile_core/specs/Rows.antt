@@ -1,4 +1,4 @@
--- What a row of a plan's table tells at a walked instance: the cells that it touches, and what it stores.
+-- What a row of a plan's table tells at a walked instance: the cells that it touches, and what it stores or adds.
 use Rattle.std.specs.Prelude.{◌≡◌, ◌<◌, ◌≤◌, ℕ, suc, List, length, get_or, slice_get, Some}
 use Rattle.whole_numbers.specs.Affine.{Affine, value_of}
 use Rattle.scop_syntax.specs.Values.{wrapped}
@@ -22,6 +22,7 @@ pub record IsRowAt (plan : Plan) (row : Row) (x : Instance) : Type 0 where
   pub few : row.code.reads ≤ 16
   pub written : (number : ℕ) → IsFormed row x 0 number
       → number ≡ (walk_shape plan).written (place_in (places_in plan) x)
+  pub adds : row.adds ≡ (walk_shape plan).adds ((walk_shape plan).written (place_in (places_in plan) x))
   pub written_inside : (walk_shape plan).written (place_in (places_in plan) x) < (walk_shape plan).cells
   pub read : (r number : ℕ) → r < row.code.reads → IsFormed row x (suc r) number
       → number ≡ get_or ((walk_shape plan).read (place_in (places_in plan) x)) r 0

@@ -1,12 +1,13 @@
 //! The state of a run, and what each event does to it.
 ghost use Rattle.std.specs.Prelude.{◌≡◌, ◌+◌, ◌<◌, Ok, get_or, length};
-ghost use Rattle.tile_events.specs.Core.{claim, finish, load, open_tile, release, seen_by, shut as told_shut, store};
+ghost use Rattle.tile_events.specs.Core.{claim, finish, load, open_tile, release, seen_by, shut as told_shut, told};
+ghost use Rattle.tile_core.specs.Acts.{last_event};
 ghost use Rattle.tile_core.specs.Boards.{Does, IsBoard, Stretches, event_of, seen_of, state_of};
 ghost use Rattle.tile_core.specs.Plans.{HasEdges, shape_of, walk_shape};
 
 use crate::plan::Plan;
 use crate::plan_laws::walks_are_dealt;
-use crate::stretching::do_ahead;
+use crate::stretching::{do_ahead, updated};
 use crate::weaving::do_woven;
 use crate::worker::{Stage, Worker};
 
@@ -17,6 +18,7 @@ pub enum Event {
     Open,
     Load,
     Store,
+    Add,
     Release,
     Finish,
 }
@@ -30,6 +32,7 @@ pub enum Seen {
     Short { seen: u64, needs: u64 },
     Read(u64),
     Stored,
+    Added,
     Released,
     Finished,
 }
@@ -58,7 +61,8 @@ impl Board {
             Event::Claim => self.claim(plan, id),
             Event::Open => self.open(plan, id),
             Event::Load => self.load(plan, id),
-            Event::Store => self.store(plan, id),
+            Event::Store => self.last_act(plan, id, false),
+            Event::Add => self.last_act(plan, id, true),
             Event::Release => self.release(plan, id),
             Event::Finish => self.finish(plan, id),
         }
@@ -141,10 +145,11 @@ impl Board {
         Ok(Seen::Read(value))
     }
 
-    fn store(&mut self, plan: &Plan, id: usize) -> Result<Seen, NotEnabled>
+    /// The last act of a worker's next instance, which adds to its cell or stores there.
+    fn last_act(&mut self, plan: &Plan, id: usize, adds: bool) -> Result<Seen, NotEnabled>
         requires board { IsBoard plan.now self.old }
         requires id { id < length self.old.workers.items }
-        ensures { Does plan.now self.old id store self.new result }
+        ensures { Does plan.now self.old id (last_event adds) self.new result }
     {
         let worker = &self.workers[id];
         let Some(due) = worker.due(plan) else {
@@ -153,12 +158,16 @@ impl Board {
         if worker.reads.len() != plan.reads(due) {
             return Err(NotEnabled);
         }
+        let at = plan.cell_written(due);
+        if plan.adds(due) != adds {
+            return Err(NotEnabled);
+        }
         let instance = *due;
         let worker = &mut self.workers[id];
         let value = worker.value(plan, &instance);
         worker.advance(plan);
-        self.cells[plan.cell_written(&instance)] = value;
-        Ok(Seen::Stored)
+        self.cells[at] = updated(adds, cell_at(&self.cells, at), value);
+        Ok(last_seen(adds))
     }
 
     fn release(&mut self, plan: &Plan, id: usize) -> Result<Seen, NotEnabled>
@@ -226,6 +235,13 @@ fn shut(plan: &Plan, seen: u64, needs: u64) -> Seen
         None => Seen::NotYet { done: seen, needs },
         Some(_) => Seen::Short { seen, needs },
     }
+}
+
+/// What is told of a last act.
+fn last_seen(adds: bool) -> Seen
+    ensures { seen_of (Ok result) ≡ told (last_event adds) }
+{
+    if adds { Seen::Added } else { Seen::Stored }
 }
 
 /// The cell's value.

@@ -1,15 +1,20 @@
 //! What a cell holds between any two events of a run, in the words of the kernel's own execution.
-ghost use Rattle.std.specs.Prelude.{◌≡◌, ℕ, ◌+◌, List, map, slice_index, slice_index_or};
+ghost use Rattle.std.specs.Prelude.{◌≡◌, ℕ, ◌+◌, ◌%◌, ◌^◌, ◌<◌, List, Some, false, length, map, slice_get, true};
+ghost use Rattle.std.specs.Prelude.{slice_index, slice_index_or};
 ghost use Rattle.atomic_table.specs.Table as table;
 ghost use Rattle.scop_syntax.specs.Cells.{Cell};
 ghost use Rattle.scop_syntax.specs.Execution.{IsCell, IsShaped, before_place, cell_number, held, value_stored_by};
+ghost use Rattle.scop_syntax.specs.Reductions.{added_by, is_marked};
 ghost use Rattle.scop_syntax.specs.Walk.{Visit};
 ghost use Rattle.tile_events.specs.Core.{State};
 ghost use Rattle.tile_events.specs.DonePlaces.{HasNoWriter, IsLastWriter};
 ghost use Rattle.tile_events.specs.Flat.{flat};
+ghost use Rattle.tile_events.specs.Plan.{stored};
 ghost use Rattle.tile_events.specs.Rule.{core};
 ghost use Rattle.tile_events.specs.Sound.{Sound, is_done};
-ghost use Rattle.tile_core.specs.Plans.{HoldsContents, IsPlan, extents_in, plan_of, shape_of, walk_in};
+ghost use Rattle.tile_events.specs.Sums.{sum_of};
+ghost use Rattle.tile_core.specs.Marks.{values_loaded_by};
+ghost use Rattle.tile_core.specs.Plans.{HoldsContents, IsPlan, extents_in, plan_of, shape_of, walk_in, walk_plan};
 ghost use Rattle.tile_core.specs.Views.{Ruled, worker_in};
 ghost use Rattle.tile_core.specs.declared.plan.Plan.{Plan};
 ghost use Rattle.tile_core.specs.declared.view.Key.{Key};
@@ -19,24 +24,42 @@ use crate::plan_laws::walks_are_dealt;
 use scop_syntax::execution_laws::cells_have_numbers_of_their_own;
 use tile_events::flat_laws::{cells_hold_what_is_done, plans_execute_the_walk};
 use tile_events::release_laws::pairs_make_plans;
+use tile_events::sum_laws::cells_hold_their_sums;
 
-/// In a sound state of a plan over the arrays' contents one behind another, a cell holds the value that the last done
-/// instance which writes it stores in the kernel's own execution, and what it held at first where no done one does.
+/// In a sound state of a plan over the arrays' contents one behind another, a cell of an array that is not marked holds the
+/// value that the last done instance which writes it stores in the kernel's own execution; any cell what it held at first
+/// where no done one does; and one of a marked array that, and the addends of the done instances that add to it, each
+/// once, modulo 2^64. These addends are made of the values that the kernel's own execution reads.
 pub fn cells_are_those_of_the_execution()
     ensures last { (plan : Plan) (contents : List (List ℕ)) (s : State) (c : Cell) (i : ℕ) (v : Visit)
         → IsPlan plan → IsShaped (extents_in plan) contents → Sound (plan_of plan (flat contents)) s
-        → IsCell (extents_in plan) c → IsLastWriter (walk_in plan) (is_done (shape_of plan) s) c i v
+        → IsCell (extents_in plan) c → is_marked plan.marked.now c.array ≡ false
+        → IsLastWriter (walk_in plan) (is_done (shape_of plan) s) c i v
         → slice_index_or s.cells (cell_number (extents_in plan) c) 0
         ≡ value_stored_by (extents_in plan) (before_place (extents_in plan) contents (walk_in plan) i) v.body v.point }
     ensures first { (plan : Plan) (contents : List (List ℕ)) (s : State) (c : Cell)
         → IsPlan plan → IsShaped (extents_in plan) contents → Sound (plan_of plan (flat contents)) s
         → IsCell (extents_in plan) c → HasNoWriter (walk_in plan) (is_done (shape_of plan) s) c
         → slice_index_or s.cells (cell_number (extents_in plan) c) 0 ≡ held (extents_in plan) contents c }
+    ensures sum { (plan : Plan) (contents : List (List ℕ)) (s : State) (c : Cell)
+        → IsPlan plan → IsShaped (extents_in plan) contents → Sound (plan_of plan (flat contents)) s
+        → IsCell (extents_in plan) c → is_marked plan.marked.now c.array ≡ true
+        → held (extents_in plan) contents c < 18446744073709551616
+        → slice_index_or s.cells (cell_number (extents_in plan) c) 0
+        ≡ (held (extents_in plan) contents c + sum_of (walk_plan plan (flat contents)) (is_done (shape_of plan) s)
+        (length (walk_in plan)) (cell_number (extents_in plan) c)) % 2 ^ 64 }
+    ensures addend { (plan : Plan) (contents : List (List ℕ)) (j : ℕ) (v : Visit)
+        → IsPlan plan → IsShaped (extents_in plan) contents → slice_get (walk_in plan) j ≡ Some v
+        → is_marked plan.marked.now v.body.place.array ≡ true
+        → stored (walk_plan plan (flat contents)) j
+        ≡ added_by v.body.right v.point (values_loaded_by plan.marked.now (extents_in plan)
+        (before_place (extents_in plan) contents (walk_in plan) j) v.body v.point) }
 {
     walks_are_dealt();
     pairs_make_plans();
     plans_execute_the_walk();
     cells_hold_what_is_done();
+    cells_hold_their_sums();
     cells_have_numbers_of_their_own();
 }
 
@@ -44,7 +67,7 @@ pub fn cells_are_those_of_the_execution()
 pub fn words_are_those_of_the_execution()
     ensures last { (key : Key) (st : table.State (Unit {0}) View) (contents : List (List ℕ)) (c : Cell) (i : ℕ) (v : Visit)
         → Ruled key st → IsPlan key.plan → IsShaped (extents_in key.plan) contents → HoldsContents contents key.cells.items
-        → IsCell (extents_in key.plan) c
+        → IsCell (extents_in key.plan) c → is_marked key.plan.marked.now c.array ≡ false
         → IsLastWriter (walk_in key.plan) (is_done (shape_of key.plan) (core st.words (map worker_in st.views))) c i v
         → slice_index st.words (cell_number (extents_in key.plan) c + 2)
         ≡ value_stored_by (extents_in key.plan) (before_place (extents_in key.plan) contents (walk_in key.plan) i)
@@ -54,6 +77,14 @@ pub fn words_are_those_of_the_execution()
         → IsCell (extents_in key.plan) c
         → HasNoWriter (walk_in key.plan) (is_done (shape_of key.plan) (core st.words (map worker_in st.views))) c
         → slice_index st.words (cell_number (extents_in key.plan) c + 2) ≡ held (extents_in key.plan) contents c }
+    ensures sum { (key : Key) (st : table.State (Unit {0}) View) (contents : List (List ℕ)) (c : Cell)
+        → Ruled key st → IsPlan key.plan → IsShaped (extents_in key.plan) contents → HoldsContents contents key.cells.items
+        → IsCell (extents_in key.plan) c → is_marked key.plan.marked.now c.array ≡ true
+        → held (extents_in key.plan) contents c < 18446744073709551616
+        → slice_index st.words (cell_number (extents_in key.plan) c + 2)
+        ≡ (held (extents_in key.plan) contents c + sum_of (walk_plan key.plan (flat contents))
+        (is_done (shape_of key.plan) (core st.words (map worker_in st.views))) (length (walk_in key.plan))
+        (cell_number (extents_in key.plan) c)) % 2 ^ 64 }
 {
     cells_are_those_of_the_execution();
 }

@@ -19,7 +19,8 @@ use tile_list::{Tile, TileList};
 
 /// A kernel with its parameters, the table of its statements, the tree of a plan of it, and the tiles of its visits. Where
 /// it has the pairs of these of which one waits for the other, a tile is opened once all that lead to it have released
-/// it, else once all tiles of earlier waves are finished.
+/// it, else once all tiles of earlier waves are finished. What writes a cell of one of the arrays that are marked adds to
+/// it, without a load of it, and waits for no other that does.
 #[derive(Clone, Copy)]
 pub struct Plan<'a> {
     pub kernel: &'a Kernel,
@@ -28,6 +29,7 @@ pub struct Plan<'a> {
     pub tree: &'a Tree,
     pub list: &'a TileList,
     pub edges: Option<&'a TileEdges>,
+    pub marked: &'a [usize],
 }
 
 /// The tile with this number.
@@ -185,7 +187,17 @@ impl<'a> Plan<'a> {
         self.row(instance).cell_at(instance.turns(), 0)
     }
 
-    /// What the instance stores, where its reads have these values. The desk is laid anew for it.
+    /// Whether the instance adds to its cell; else it stores there.
+    #[inline]
+    pub fn adds(&self, instance: &Instance) -> bool
+        requires plan { IsPlan self.now }
+        requires walked { In (instance_of instance.now) (places_in self.now) }
+        ensures { result ≡ (walk_shape self.now).adds ((walk_shape self.now).written (place_of self.now instance.now)) }
+    {
+        self.row(instance).adds
+    }
+
+    /// What the instance stores or adds, where its reads have these values. The desk is laid anew for it.
     pub fn value(&self, desk: &mut Desk, instance: &Instance, reads: &[u64]) -> u64
         requires plan { IsPlan self.now }
         requires walked { In (instance_of instance.now) (places_in self.now) }

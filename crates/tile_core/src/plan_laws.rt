@@ -8,7 +8,6 @@ ghost use Rattle.scop_syntax.specs.Execution.{
   cell_number,
   exec,
   held,
-  values_read_by,
 };
 ghost use Rattle.scop_syntax.specs.Members.{In};
 ghost use Rattle.scop_syntax.specs.Walk.{Instance, Visit, instance};
@@ -20,6 +19,7 @@ ghost use Rattle.tile_events.specs.Flat.{flat};
 ghost use Rattle.tile_events.specs.Opening.{IsQuiet};
 ghost use Rattle.tile_events.specs.Plan.{GoodPlan, IsDealt, values_read};
 ghost use Rattle.tile_events.specs.Sound.{Sound};
+ghost use Rattle.tile_core.specs.Marks.{values_loaded_by};
 ghost use Rattle.tile_core.specs.Plans.{
   HoldsContents,
   IsPlan,
@@ -47,8 +47,8 @@ use tile_events::flat_laws::{covers_are_those_of_the_walk, plans_execute_the_wal
 use tile_events::release_laws::{covers_join_what_touches, pairs_make_plans};
 use tile_list::laws::{numbers_tell_waves, tiles_stand_one_behind_another};
 
-/// The tiles of a plan hold each place of the walk once, that of its instance, and of two places that touch one cell the earlier comes first
-/// in one tile or lies in an earlier wave.
+/// The tiles of a plan hold each place of the walk once, that of its instance, and of two places that touch one cell, but
+/// not where both add to it, the earlier comes first in one tile or lies in an earlier wave.
 pub fn walks_are_dealt()
     ensures scan { (plan : Plan) → IsPlan plan → IsScan (deal_of plan) }
     ensures count { (plan : Plan) → IsPlan plan → length (scan_in plan) ≡ length (walk_in plan) }
@@ -79,7 +79,7 @@ pub fn plans_are_good()
     pairs_make_plans();
 }
 
-/// Over the arrays' contents one behind another, each place of a plan reads what the kernel's own execution reads
+/// Over the arrays' contents one behind another, each place of a plan loads what the kernel's own execution reads
 /// there, and a sound state in which all tiles are done has its arrays. Zeros behind the contents change no plan.
 pub fn plans_execute_the_kernel()
     ensures row { (plan : Plan) (contents : List (List ℕ)) (cells : List ℕ) → HoldsContents contents cells
@@ -87,7 +87,8 @@ pub fn plans_execute_the_kernel()
     ensures reads { (plan : Plan) (contents : List (List ℕ)) (j : ℕ) (v : Visit) → IsPlan plan
         → IsShaped (extents_in plan) contents → slice_get (walk_in plan) j ≡ Some v
         → values_read (plan_of plan (flat contents)) j
-        ≡ values_read_by (extents_in plan) (before_place (extents_in plan) contents (walk_in plan) j) v.body v.point }
+        ≡ values_loaded_by plan.marked.now (extents_in plan) (before_place (extents_in plan) contents (walk_in plan) j)
+        v.body v.point }
     ensures end { (plan : Plan) (contents : List (List ℕ)) (s : State) → IsPlan plan
         → IsShaped (extents_in plan) contents → Sound (plan_of plan (flat contents)) s
         → IsQuiet (plan_of plan (flat contents)) s → (c : Cell) → IsCell (extents_in plan) c
@@ -111,7 +112,7 @@ pub fn instances_read_few()
     statements_are_numbered();
 }
 
-/// The row of a walked instance's statement tells the cells that the instance touches, and what it stores.
+/// The row of a walked instance's statement tells the cells that the instance touches, and what it stores or adds.
 pub fn rows_tell_instances()
     ensures there { (plan : Plan) (x : Instance) → IsPlan plan → In x (places_in plan)
         → x.number < length plan.table.now.rows.items }

@@ -11,6 +11,7 @@ ghost use Rattle.tile_core.specs.declared.plan.Plan.{Plan as AnyPlan};
 ghost use Rattle.tile_core.specs.declared.worker.Stage.TheVariants as stage_of;
 ghost use Rattle.tile_core.specs.steps.Acts.{after_instances, after_place, values_at};
 ghost use Rattle.tile_core.specs.steps.Desks.{IsDeskAt, StandsIn, StaysLaid};
+ghost use Rattle.tile_events.specs.Plan.{updated as exact_updated};
 ghost use Rattle.whole_numbers.specs.Lists.{sums};
 
 use crate::joining::do_joins;
@@ -19,6 +20,14 @@ use crate::plan_laws::rows_tell_instances;
 use crate::worker::Worker;
 use stmt_table::desk::Desk;
 use stmt_table::table::Row;
+
+/// What a cell holds that held `old`, after the value was added or stored.
+#[inline]
+pub(crate) fn updated(adds: bool, old: u64, value: u64) -> u64
+    ensures { result ≡ exact_updated adds old value }
+{
+    if adds { old.wrapping_add(value) } else { value }
+}
 
 /// Reads the cells of the instance where the desk stands.
 #[inline]
@@ -47,7 +56,8 @@ pub(crate) fn do_laid(cells: &mut [u64], row: &Row, desk: &mut Desk)
 {
     read_all(cells, row, desk);
     let value = row.value(desk);
-    cells[row.cell(desk, 0)] = value;
+    let at = row.cell(desk, 0);
+    cells[at] = updated(row.adds, cells[at], value);
     row.go_on(desk);
 }
 

@@ -1,18 +1,21 @@
 -- What a cell holds where some places are done, in the words of the walk's own execution.
-use Rattle.std.proofs.Common.{◌≡◌, ◌≢◌, ℕ, zero, suc, ◌<◌, ◌&&◌, Bool, true, false, List, [], length, Some, ap, sym}
+use Rattle.std.proofs.Common.{◌≡◌, ◌≢◌, ℕ, zero, suc, ◌<◌, ◌&&◌, Bool, true, false, List, length, Some, ap, sym}
 use Rattle.std.proofs.Common.{refl, ◌∙◌, subst, arith}
-use Rattle.std.specs.Prelude.{slice_get, nat_eq}
+use Rattle.std.specs.Prelude.{drop, map, slice_get, nat_eq, if◌then◌else◌}
 use Rattle.std.proofs.lemmas.Bool.{eq-eqb, ne_eqb}
 use Rattle.std.proofs.lemmas.Option.{slice_get_within}
-use Rattle.scop_syntax.specs.Cells.{Cell, written}
+use Rattle.scop_syntax.specs.Cells.{Cell, cell_of, reads, written}
 use Rattle.scop_syntax.specs.Execution.{AreInside, IsCell, IsShaped, before_place, cell_number, held, value_stored_by}
+use Rattle.scop_syntax.specs.Reductions.{AreMarked, added_by, is_marked}
+use Rattle.scop_syntax.specs.Tree.{Access}
+use Rattle.scop_syntax.specs.Values.{stored_by}
 use Rattle.scop_syntax.specs.Walk.{Visit}
 use Rattle.scop_syntax.proofs.Members.{nat_cases}
 use Rattle.scop_syntax.proofs.Writers.{visit_at, written_inside}
 use Rattle.tile_events.specs.DonePlaces.{HasNoWriter, IsLastWriter}
 use Rattle.tile_events.specs.Flat.{IsWalk, value_by, written_by}
 use Rattle.tile_events.specs.Plan.{Plan, stored, values_read, words_of}
-use Rattle.tile_events.proofs.Flat.{AreApart, flat_values, none_marked}
+use Rattle.tile_events.proofs.Flat.{AreApart, flat_values}
 
 -- a place is passed over that is not done or writes another cell
 passed_over : (b : Bool) (m c : ℕ) → (b ≡ true → m ≢ c) → (b && nat_eq m c) ≡ false
@@ -37,8 +40,8 @@ module _ (p : Plan) (done : ℕ → Bool) (c : ℕ) where
       (rw (is, eq-eqb (p.written i) c writes, stores) refl))
       (λ a. absurd (omega (arith, a, l)))
 
-module _ (es contents : List (List ℕ)) (visits : List Visit) (p : Plan) (done : ℕ → Bool) (apart : AreApart es)
-    (walk : IsWalk es contents [] visits p) (inside : AreInside es visits) (c : Cell) (is : IsCell es c) where
+module _ (es contents : List (List ℕ)) (marked : List ℕ) (visits : List Visit) (p : Plan) (done : ℕ → Bool)
+    (apart : AreApart es) (walk : IsWalk es contents marked visits p) (inside : AreInside es visits) (c : Cell) (is : IsCell es c) where
   -- a place that writes the cell's number writes the cell
   other_cell : (j : ℕ) → j < length visits
       → ((w : Visit) → slice_get visits j ≡ Some w → written w ≢ c) → p.written j ≢ cell_number es c
@@ -54,15 +57,26 @@ module _ (es contents : List (List ℕ)) (visits : List Visit) (p : Plan) (done 
       (λ j l over. other_cell j l (λ w found. none j w found over))
       ∙ walk.initial c is
 
-  pub holds_the_last : IsShaped es contents → (i : ℕ) (v : Visit) → IsLastWriter visits done c i v
+  -- what stores gives its cell the value of the walk's own execution
+  gives_stored : (b : Bool) (v : Visit) (held_there : Access → ℕ) → b ≡ false
+      → (if b then added_by v.body.right v.point (map held_there (if b then drop 1 (reads v.body) else reads v.body))
+      else stored_by v.body.right v.point (map held_there (if b then drop 1 (reads v.body) else reads v.body)))
+      ≡ stored_by v.body.right v.point (map held_there (reads v.body))
+  gives_stored b v held_there e = rw e refl
+
+  pub holds_the_last : AreMarked marked visits → IsShaped es contents → is_marked marked c.array ≡ false
+      → (i : ℕ) (v : Visit) → IsLastWriter visits done c i v
       → words_of p done (length visits) (cell_number es c)
       ≡ value_stored_by es (before_place es contents visits i) v.body v.point
-  holds_the_last shape i v last =
+  holds_the_last marks shape plain i v last =
       let within = slice_get_within visits i v last.there in
-      last_holds p done (cell_number es c) i (length visits) (walk.adds c is) last.over
+      last_holds p done (cell_number es c) i (length visits) (walk.adds c is ∙ plain) last.over
       (walk.written i ∙ ap (written_by es) last.there ∙ ap (cell_number es) last.writes) within
       (λ j l k over. other_cell j k (λ w found. last.last j w l found over))
       ∙ (walk.value i (values_read p i)
-      ∙ (ap (λ o. value_by [] o (values_read p i)) last.there
-      ∙ ap (value_by [] (Some v)) (flat_values es contents [] visits p apart walk (none_marked visits) shape inside
-      i v last.there (omega (arith, within)))))
+      ∙ (ap (λ o. value_by marked o (values_read p i)) last.there
+      ∙ (ap (value_by marked (Some v)) (flat_values es contents marked visits p apart walk marks shape inside
+      i v last.there (omega (arith, within)))
+      ∙ gives_stored (is_marked marked v.body.place.array) v
+      (λ access. held es (before_place es contents visits i) (cell_of access v.point))
+      (ap (λ (d : Cell). is_marked marked d.array) last.writes ∙ plain))))

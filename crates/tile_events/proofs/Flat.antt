@@ -19,8 +19,8 @@ use Rattle.scop_syntax.proofs.Memory.{held_stored, held_other, offset_below}
 use Rattle.scop_syntax.proofs.Members.{in_map_from, in_from_place, place_of}
 use Rattle.scop_syntax.proofs.Writers.{before_next, visit_at, shape_before, written_inside}
 use Rattle.tile_events.specs.Plan.{Plan, updated, before, values_read, Touch}
-use Rattle.tile_events.specs.Flat.{flat, written_by, read_by, value_by, is_marked, loads, added_by, IsSum}
-use Rattle.tile_events.specs.Flat.{AreMarked, IsWalk}
+use Rattle.scop_syntax.specs.Reductions.{AreMarked, IsSum, added_by, is_marked, loads}
+use Rattle.tile_events.specs.Flat.{IsWalk, flat, read_by, value_by, written_by}
 
 map_held : (es rows : List (List ℕ)) (f : ℕ → ℕ) (point : List ℤ) (touched : List Access)
     → ((c : Cell) → In c (map (λ access. cell_of access point) touched) → f (cell_number es c) ≡ held es rows c)
@@ -36,7 +36,7 @@ in_drop : {A : Type 0} (a : A) (xs : List A) → In a (drop 1 xs) → In a xs
 in_drop a [] h = h
 in_drop a (x ∷ xs) h = inr h
 
-loads_read : (marked : List ℕ) (s : Statement) (a : Access) → In a (loads marked s) → In a (reads s)
+pub loads_read : (marked : List ℕ) (s : Statement) (a : Access) → In a (loads marked s) → In a (reads s)
 loads_read marked s a h = by_test (is_marked marked s.place.array) h
   where
     by_test : (b : Bool) → In a (if b then drop 1 (reads s) else reads s) → In a (reads s)

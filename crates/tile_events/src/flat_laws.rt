@@ -7,7 +7,8 @@ ghost use Rattle.scop_syntax.specs.Execution.{AreInside, IsCell, IsShaped, befor
 ghost use Rattle.scop_syntax.specs.Execution.{performed_all, value_stored_by};
 ghost use Rattle.tile_events.specs.Covers.{Covers};
 ghost use Rattle.tile_events.specs.DonePlaces.{HasNoWriter, IsLastWriter};
-ghost use Rattle.tile_events.specs.Flat.{AreMarked, IsWalk, flat, is_marked, loads};
+ghost use Rattle.scop_syntax.specs.Reductions.{AreMarked, is_marked, loads};
+ghost use Rattle.tile_events.specs.Flat.{IsWalk, flat};
 ghost use Rattle.tile_events.specs.Plan.{Plan, Touch, before, values_read, words_of};
 
 use scop_syntax::execution_laws::cells_have_numbers_of_their_own;
@@ -34,16 +35,17 @@ pub fn plans_execute_the_walk()
     cells_have_numbers_of_their_own();
 }
 
-/// Where no array is marked and some places are done, a cell holds what the last of them that writes it stores in the
-/// walk's own execution, and what it held at first where none does.
+/// Where some places are done, a cell of an array that is not marked holds what the last of them that writes it stores in
+/// the walk's own execution, and any cell what it held at first where none does.
 pub fn cells_hold_what_is_done()
-    ensures last { (extents contents : List (List ℕ)) (visits : List Visit) (p : Plan) (done : ℕ → Bool)
-        → IsWalk extents contents [] visits p → IsShaped extents contents → AreInside extents visits
-        → (c : Cell) (i : ℕ) (v : Visit) → IsCell extents c → IsLastWriter visits done c i v
+    ensures last { (extents contents : List (List ℕ)) (marked : List ℕ) (visits : List Visit) (p : Plan)
+        (done : ℕ → Bool) → IsWalk extents contents marked visits p → AreMarked marked visits
+        → IsShaped extents contents → AreInside extents visits → (c : Cell) (i : ℕ) (v : Visit) → IsCell extents c
+        → is_marked marked c.array ≡ false → IsLastWriter visits done c i v
         → words_of p done (length visits) (cell_number extents c)
         ≡ value_stored_by extents (before_place extents contents visits i) v.body v.point }
-    ensures first { (extents contents : List (List ℕ)) (visits : List Visit) (p : Plan) (done : ℕ → Bool)
-        → IsWalk extents contents [] visits p → AreInside extents visits
+    ensures first { (extents contents : List (List ℕ)) (marked : List ℕ) (visits : List Visit) (p : Plan)
+        (done : ℕ → Bool) → IsWalk extents contents marked visits p → AreInside extents visits
         → (c : Cell) → IsCell extents c → HasNoWriter visits done c
         → words_of p done (length visits) (cell_number extents c) ≡ held extents contents c }
 {

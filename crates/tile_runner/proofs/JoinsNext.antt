@@ -1,5 +1,5 @@
 -- What the steps of an instance ask at which the lanes of a join stand.
-use Rattle.std.proofs.Common.{◌≡◌, ◌+◌, ◌<◌, ℕ, ℤ, List, [], ◌∷◌, ◌++◌, Some, length, refl, subst, sym, arith}
+use Rattle.std.proofs.Common.{◌≡◌, ◌+◌, ◌<◌, Bool, ℕ, ℤ, List, [], ◌∷◌, ◌++◌, Some, length, refl, subst, sym, arith}
 use Rattle.std.specs.Prelude.{slice_get}
 use Rattle.atomic_table.specs.declared.shared.Seat.{Seat}
 use Rattle.stmt_table.specs.Codes.{leaves_at}
@@ -15,9 +15,9 @@ use Rattle.tile_core.specs.declared.worker.Stage.{Stage}
 use Rattle.tile_core.specs.Passes.{walk_in}
 use Rattle.array_words.specs.Loads.{IsNextRead}
 use Rattle.array_words.specs.Seats.{IsSeat}
-use Rattle.array_words.specs.Stores.{IsNextStore}
+use Rattle.array_words.specs.Stores.{IsNextLast, IsNextStore}
 use Rattle.tile_runner.specs.Laid.{AreJoined}
-use Rattle.tile_runner.proofs.Laid.{RowsTell, first_tells, next_read, next_store}
+use Rattle.tile_runner.proofs.Laid.{RowsTell, first_tells, next_last, next_read}
 
 module _ (plan : Plan) (s : Stage) (lanes : JoinLanes) (a : AreJoined plan s lanes 1) (law : RowsTell)
     (is : IsPlan plan) where
@@ -40,9 +40,11 @@ module _ (plan : Plan) (s : Stage) (lanes : JoinLanes) (a : AreJoined plan s lan
   pub lane_store : (cells : List ℕ) (x y z : ℕ)
       → IsNextStore (walk_plan plan cells) s (x ∷ y ∷ z ∷ []) lanes.place.at (joined_by lanes.join x y z)
   lane_store cells x y z =
-      next_store plan s a.row Laid a.are cells (x ∷ y ∷ z ∷ []) lanes.place.at (joined_by lanes.join x y z) tells
+      subst (λ (b : Bool). IsNextLast b (walk_plan plan cells) s (x ∷ y ∷ z ∷ []) lanes.place.at
+      (joined_by lanes.join x y z)) a.are.laid.stores
+      (next_last plan s a.row Laid a.are cells (x ∷ y ∷ z ∷ []) lanes.place.at (joined_by lanes.join x y z) tells
       (sym a.are.laid.joins.reads) (λ form told. (a.are.laid.cells.each 0 form lanes.place told refl).at)
-      (sym (a.are.laid.joins.value (leaves_at a.row.code a.are.first.turns) x y z))
+      (sym (a.are.laid.joins.value (leaves_at a.row.code a.are.first.turns) x y z)))
 
 module _ (words : Words) (s : Stage) (xs : List ℕ) (seat : Seat (Unit {0}) View) (is : IsSeat words s xs seat) where
   -- a seat that has read one value more

@@ -30,7 +30,7 @@ use Rattle.tile_core.specs.declared.worker.Stage.TheVariants.{Working}
 use Rattle.tile_core.proofs.Stretches.{step_first}
 use Rattle.array_words.specs.Loads.{IsNextRead}
 use Rattle.array_words.specs.Seats.{IsSeat}
-use Rattle.array_words.specs.Stores.{IsNextStore}
+use Rattle.array_words.specs.Stores.{IsNextLast}
 use Rattle.tile_runner.specs.Laid.{AreNext, IsOnDesk}
 
 -- the law of rows
@@ -100,15 +100,17 @@ module _ (plan : Plan) (s : Stage) (row : Row) (Laid : List ℤ → List ℤ →
       subst (λ (u : Stage). IsNextRead p u xs c) (sym a.works)
       (omega (arith, within), omega (arith, long, less, reads), at)
 
-  -- where all are known, it stores what the code makes of them in the cell of access 0
-  pub next_store : (cells xs : List ℕ) (c x : ℕ) → IsRowAt plan row a.first → length xs ≡ row.code.reads
-      → IsFormed row a.first 0 c → x ≡ value_by row.code a.first.turns xs → IsNextStore (walk_plan plan cells) s xs c x
-  next_store cells xs c x tells long formed made =
+  -- where all are known, what the code makes of them goes to the cell of access 0
+  pub next_last : (cells xs : List ℕ) (c x : ℕ) → IsRowAt plan row a.first → length xs ≡ row.code.reads
+      → IsFormed row a.first 0 c → x ≡ value_by row.code a.first.turns xs
+      → IsNextLast row.adds (walk_plan plan cells) s xs c x
+  next_last cells xs c x tells long formed made =
       let p = walk_plan plan cells in
       let within = a.within in
-      subst (λ (u : Stage). IsNextStore p u xs c x) (sym a.works) (
+      subst (λ (u : Stage). IsNextLast row.adds p u xs c x) (sym a.works) (
         omega (arith, within),
         long ∙ (tells.reads ∙ ap (λ j. length (p.read j)) first_place),
+        sym (tells.adds ∙ ap (λ j. p.adds (p.written j)) first_place),
         tells.written c formed ∙ ap p.written first_place,
         made ∙ (tells.value xs long ∙ ap (λ j. p.value j xs) first_place),
       )

@@ -1,10 +1,12 @@
 //! The instances that a worker has ahead along a stretch: the row of their statement is laid on the worker's desk once,
-//! and each then costs the loads of what it reads, the steps of its code, and a store. Where the code is a join, its lanes
-//! are at hand instead.
+//! and each then costs the loads of what it reads, the steps of its code, and a store or an add. Where the code is a
+//! join, its lanes are at hand instead.
 ghost use Rattle.std.specs.Prelude.{◌≡◌, ◌+◌, ◌≤◌, ℕ, ℤ, [], List, suc, take};
 ghost use Rattle.array_words.specs.Seats.{IsSeat};
+ghost use Rattle.array_words.specs.Stores.{IsNextLast};
 ghost use Rattle.whole_numbers.specs.Lists.{sums};
 ghost use Rattle.stmt_table.specs.Desks.{HasSameRoom, IsLaid};
+ghost use Rattle.tile_core.specs.Passes.{walk_in};
 ghost use Rattle.tile_core.specs.Plans.{IsPlan};
 ghost use Rattle.tile_core.specs.Stretches.{IsAhead};
 ghost use Rattle.tile_core.specs.Views.{done_at, tile_at};
@@ -13,7 +15,7 @@ ghost use Rattle.tile_core.specs.declared.worker.Stage.TheVariants.{Working};
 ghost use Rattle.tile_runner.specs.Laid.{AreOnDesk};
 
 use crate::joins::{do_joins, lay_join};
-use array_words::{load_at, store_at};
+use array_words::{add_at, load_at, store_at};
 use atomic_table::Seat;
 use scop_syntax::instance::MAX_LOOPS;
 use stmt_table::desk::Desk;
@@ -57,6 +59,21 @@ fn lay_next<'a>(plan: &'a Plan, worker: &mut Worker) -> &'a Row
     row
 }
 
+/// Adds the value of the next instance of the seat's worker to its cell, or stores it there.
+#[inline]
+fn give_at(words: &Words, seat: &mut Seat<(), View>, adds: bool, cell: usize, value: u64)
+    requires seat { IsSeat words.now seat.old.me.0.stage seat.old.me.0.reads seat.old }
+    requires next { IsNextLast adds (walk_in words.now) seat.old.me.0.stage seat.old.me.0.reads cell value }
+    ensures { IsSeat words.now (Working (tile_at seat.old.me.0.stage) (suc (done_at seat.old.me.0.stage))) []
+        seat.new }
+{
+    if adds {
+        add_at(words, seat, cell, value);
+    } else {
+        store_at(words, seat, cell, value);
+    }
+}
+
 /// Does the first of the instances that are laid on the desk, the next one of the tile at which the seat stands, and
 /// takes the desk one step on.
 #[inline]
@@ -75,7 +92,7 @@ pub(crate) fn do_laid(words: &Words, seat: &mut Seat<(), View>, row: &Row, desk:
         row.put(desk, read, value);
     }
     let value = row.value(desk);
-    store_at(words, seat, row.cell(desk, 0), value);
+    give_at(words, seat, row.adds, row.cell(desk, 0), value);
     row.go_on(desk);
 }
 

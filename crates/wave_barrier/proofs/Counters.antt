@@ -6,8 +6,8 @@ use Rattle.tile_events.specs.Core.{needed_by}
 use Rattle.tile_events.specs.Plan as plain
 use Rattle.tile_events.specs.Plan.{Gate, waves, counters}
 use Rattle.tile_events.specs.Rule.{gate_word}
-use Rattle.tile_core.specs.Passes.{IsWords, plan_in}
-use Rattle.tile_core.specs.Plans.{HasEdges, gated, plan_of, shape_of, walk_shape}
+use Rattle.tile_core.specs.Passes.{plan_in}
+use Rattle.tile_core.specs.Plans.{HasEdges, gated, shape_of, walk_shape}
 use Rattle.tile_core.specs.declared.plan.Plan.{Plan}
 use Rattle.tile_core.specs.declared.words.Words.{Words}
 
@@ -34,19 +34,6 @@ counter_at (Some e) p t has = refl
 pub tile_word : (words : Words) (t : ℕ) → HasEdges words.plan
     → gate_word (plan_in words).gate t ≡ ((walk_shape words.plan).cells + t) + 2
 tile_word words t has = counter_at words.plan.edges (walk_shape words.plan) t has
-
-more_cells : (o : Option (Bor TileEdges)) (p : plain.Plan) → IsSome o
-    → (gated o p).cells ≡ p.cells + (gated o p).tiles
-more_cells None p has = absurd cc
-more_cells (Some e) p has = refl
-
--- the words are the counts, the cells of all arrays, and a counter for each tile
-pub all_words : (words : Words) → IsWords words → HasEdges words.plan → words.table.shared.table_id.words
-    ≡ ((walk_shape words.plan).cells + (shape_of words.plan).tiles) + 2
-all_words words is has =
-    let long = is.long in
-    let more = more_cells words.plan.edges (walk_shape words.plan) has in
-    omega (arith, long, more)
 
 no_more : (o : Option (Bor TileEdges)) (p : plain.Plan) (t k : ℕ) → p.size t ≤ k → k < (gated o p).size t → IsSome o
 no_more None p t k behind left = absurd (omega (arith, behind, left))

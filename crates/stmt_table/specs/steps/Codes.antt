@@ -1,9 +1,10 @@
 -- A code that is being made, step by step.
-use Rattle.std.specs.Prelude.{◌≡◌, ◌+◌, ◌<◌, ◌≤◌, ℕ, ℤ, List, [], ◌∷◌, ◌++◌, drop, length, slice_index_or}
+use Rattle.std.specs.Prelude.{Bool, ◌≡◌, ◌+◌, ◌<◌, ◌≤◌, ℕ, ℤ, List, [], ◌∷◌, ◌++◌, drop, length, slice_index_or}
 use Rattle.whole_numbers.specs.Affine.{Affine}
+use Rattle.scop_syntax.specs.Reductions.{added_by}
 use Rattle.scop_syntax.specs.Tree.{Expression, Head, Right}
 use Rattle.scop_syntax.specs.Values.{stored_by, value_on}
-use Rattle.stmt_table.specs.Codes.{AreSteps, leaves_at, worked}
+use Rattle.stmt_table.specs.Codes.{AreSteps, given_by, leaves_at, worked}
 use Rattle.stmt_table.specs.Points.{point_in}
 use Rattle.stmt_table.specs.declared.code.Code.{Code}
 use Rattle.stmt_table.specs.declared.code.Step.{Step}
@@ -49,3 +50,13 @@ MakesValue params heads e at =
 abbrev pub MakesStored : List ℤ → List Head → Right → Code → Code → ℕ → Type 0
 MakesStored params heads own =
     Makes (length heads) (λ turns values. stored_by own (point_in heads params turns) values)
+
+-- what it adds to its place
+abbrev pub MakesAdded : List ℤ → List Head → Right → Code → Code → ℕ → Type 0
+MakesAdded params heads own =
+    Makes (length heads) (λ turns values. added_by own (point_in heads params turns) values)
+
+-- what it gives its place
+abbrev pub MakesGiven : Bool → List ℤ → List Head → Right → Code → Code → ℕ → Type 0
+MakesGiven adds params heads own =
+    Makes (length heads) (λ turns values. given_by adds own (point_in heads params turns) values)

@@ -1,7 +1,7 @@
 -- What instances of a tile leave in the cells, one after another.
 use Rattle.std.specs.Prelude.{ℕ, zero, suc, ◌+◌, List, get_or, map, set}
 use Rattle.tile_events.specs.Core.{State, Worker}
-use Rattle.tile_events.specs.Plan.{Plan}
+use Rattle.tile_events.specs.Plan.{Plan, updated}
 
 -- the values of some of the cells
 abbrev pub values_at : List ℕ → List ℕ → List ℕ
@@ -9,7 +9,8 @@ values_at cells cs = map (λ c. get_or cells c 0) cs
 
 -- the cells after place j
 abbrev pub after_place : Plan → ℕ → List ℕ → List ℕ
-after_place p j cells = set cells (p.written j) (p.value j (values_at cells (p.read j)))
+after_place p j cells = set cells (p.written j)
+    (updated (p.adds (p.written j)) (get_or cells (p.written j) 0) (p.value j (values_at cells (p.read j))))
 
 -- after instance k of tile t
 abbrev pub after_instance : Plan → ℕ → ℕ → List ℕ → List ℕ

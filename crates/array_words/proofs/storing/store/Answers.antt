@@ -1,7 +1,8 @@
+use Rattle.std.proofs.Common.{false}
 use Rattle.tile_core.specs.Passes.{walk_in}
 use Rattle.array_words.specs.Stores.{IsNextStore}
 use Rattle.array_words.proofs.PassSeats.{at_view, seat_of}
-use Rattle.array_words.proofs.Stores.{instance_left, stage_after_store}
+use Rattle.array_words.proofs.Stores.{instance_left, stage_after_last}
 use Rattle.array_words.proofs.storing.store.Goals as goal
 
 pub store_at-requires : goal.store_at-requires
@@ -16,10 +17,10 @@ store_at-requires c =
 pub advance-requires-clause-left : goal.advance-requires-clause-left
 advance-requires-clause-left c =
     let worker = c.args.pass.now.worker in
-    instance_left c.args.words.now worker.stage worker.reads.items c.args.cell c.args.value c.requires.next
+    instance_left c.args.words.now false worker.stage worker.reads.items c.args.cell c.args.value c.requires.next
 
 pub returns-clause-stage : goal.returns-clause-stage
 returns-clause-stage c =
     let worker = c.args.pass.now.worker in
-    stage_after_store c.args.words.now worker.stage worker.reads.items c.args.cell c.args.value
+    stage_after_last c.args.words.now false worker.stage worker.reads.items c.args.cell c.args.value
     c.advance.new.self.stage c.requires.next c.advance.ensures.stage

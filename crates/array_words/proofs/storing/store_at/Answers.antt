@@ -1,4 +1,4 @@
-use Rattle.std.proofs.Common.{arith}
+use Rattle.std.proofs.Common.{arith, false}
 use Rattle.tile_core.proofs.Gates.{shape_extends}
 use Rattle.array_words.proofs.Stores.{stores, written_below}
 use Rattle.array_words.proofs.storing.store_at.Goals as goal
@@ -10,7 +10,7 @@ overflow_add-cell c =
     let of = c.requires.seat.of in
     let room = of.room in
     let more = (shape_extends w.plan).cells in
-    let b = written_below w (c.walks_are_dealt.ensures.dealt w.plan w.table.shared.key.cells.items of.planned) v.stage
+    let b = written_below w false (c.walks_are_dealt.ensures.dealt w.plan w.table.shared.key.cells.items of.planned) v.stage
     v.reads c.args.cell c.args.value c.requires.next in
     omega (arith, b, room, more)
 
@@ -21,7 +21,7 @@ store-requires c =
     let of = c.requires.seat.of in
     let long = of.long in
     let more = (shape_extends w.plan).cells in
-    let b = written_below w (c.walks_are_dealt.ensures.dealt w.plan w.table.shared.key.cells.items of.planned) v.stage
+    let b = written_below w false (c.walks_are_dealt.ensures.dealt w.plan w.table.shared.key.cells.items of.planned) v.stage
     v.reads c.args.cell c.args.value c.requires.next in (
       c.requires.seat.table,
       omega (arith, b, long, more),

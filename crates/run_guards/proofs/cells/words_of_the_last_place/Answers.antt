@@ -1,7 +1,10 @@
-use Rattle.std.proofs.Common.{map}
+use Rattle.std.proofs.Common.{◌∙◌, ◌+◌, ◌%◌, ◌^◌, ℕ, ap, map}
+use Rattle.scop_syntax.specs.Execution.{cell_number, held}
+use Rattle.tile_events.specs.Flat.{flat}
 use Rattle.tile_events.specs.Rule.{core}
 use Rattle.tile_events.specs.Sound.{is_done}
-use Rattle.tile_core.specs.Plans.{shape_of, walk_in}
+use Rattle.tile_events.specs.Sums.{sum_of}
+use Rattle.tile_core.specs.Plans.{extents_in, shape_of, walk_in, walk_plan}
 use Rattle.tile_core.specs.Views.{worker_in}
 use Rattle.run_guards.proofs.LastPlaces.{last_done, none_done}
 use Rattle.run_guards.proofs.cells.words_of_the_last_place.Goals as goal
@@ -12,7 +15,14 @@ returns-clause-first c key st contents d ruled is shaped same cell none =
     (none_done (walk_in key.plan) (shape_of key.plan) (core st.words (map worker_in st.views)) d none)
 
 pub returns-clause-last : goal.returns-clause-last
-returns-clause-last c key st contents d i v ruled is shaped same cell end found writes over =
-    c.words_are_those_of_the_execution.ensures.last key st contents d i v ruled is shaped same cell
+returns-clause-last c key st contents d i v ruled is shaped same cell plain end found writes over =
+    c.words_are_those_of_the_execution.ensures.last key st contents d i v ruled is shaped same cell plain
     (last_done (walk_in key.plan) (is_done (shape_of key.plan) (core st.words (map worker_in st.views))) d i v end found
     writes over)
+
+pub returns-clause-sum : goal.returns-clause-sum
+returns-clause-sum c key st contents d ruled is shaped same cell marked small none =
+    let es = extents_in key.plan in
+    c.words_are_those_of_the_execution.ensures.sum key st contents d ruled is shaped same cell marked small
+    ∙ ap (λ (m : ℕ). (held es contents d + sum_of (walk_plan key.plan (flat contents))
+    (is_done (shape_of key.plan) (core st.words (map worker_in st.views))) m (cell_number es d)) % 2 ^ 64) none

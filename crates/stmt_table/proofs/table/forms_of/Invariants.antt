@@ -1,13 +1,12 @@
 use Rattle.std.proofs.Common.{◌≡◌, length}
-use Rattle.scop_syntax.specs.Cells.{accesses}
 use Rattle.standings.specs.View.{standing_of}
-use Rattle.stmt_table.specs.Tables.{Tells}
+use Rattle.stmt_table.specs.Tables.{Tells, touched}
 use Rattle.stmt_table.proofs.Pairs.{ArePaired}
 use Rattle.stmt_table.proofs.table.forms_of.Given as goal
 
 abbrev pub invariant-loop-at : goal.invariant-loop-at
 invariant-loop-at l = record {
   count : length l.forms.items ≡ l.at;
-  each : ArePaired (Tells l.extents l.params (standing_of l.statement).heads) (accesses (standing_of l.statement).body)
+  each : ArePaired (Tells l.extents l.params (standing_of l.statement).heads) (touched l.adds (standing_of l.statement).body)
       l.forms.items;
 }

@@ -11,11 +11,11 @@ use Rattle.tile_core.proofs.Gates.{same_plan}
 use Rattle.tile_core.proofs.cell_laws.words_are_those_of_the_execution.Goals as goal
 
 pub returns-clause-last : goal.returns-clause-last
-returns-clause-last c key st contents d i v ruled is shaped same cell last =
+returns-clause-last c key st contents d i v ruled is shaped same cell plain last =
     let s = core st.words (map worker_in st.views) in
     word_of_cell st.words (cell_number (extents_in key.plan) d) ruled.long
     ∙ c.cells_are_those_of_the_execution.ensures.last key.plan contents s d i v is shaped
-    (subst (λ (p : Plan). Sound p s) (same_plan key.plan key.cells.items (flat contents) same) ruled.sound) cell last
+    (subst (λ (p : Plan). Sound p s) (same_plan key.plan key.cells.items (flat contents) same) ruled.sound) cell plain last
 
 pub returns-clause-first : goal.returns-clause-first
 returns-clause-first c key st contents d ruled is shaped same cell none =
@@ -23,3 +23,10 @@ returns-clause-first c key st contents d ruled is shaped same cell none =
     word_of_cell st.words (cell_number (extents_in key.plan) d) ruled.long
     ∙ c.cells_are_those_of_the_execution.ensures.first key.plan contents s d is shaped
     (subst (λ (p : Plan). Sound p s) (same_plan key.plan key.cells.items (flat contents) same) ruled.sound) cell none
+
+pub returns-clause-sum : goal.returns-clause-sum
+returns-clause-sum c key st contents d ruled is shaped same cell marked small =
+    let s = core st.words (map worker_in st.views) in
+    word_of_cell st.words (cell_number (extents_in key.plan) d) ruled.long
+    ∙ c.cells_are_those_of_the_execution.ensures.sum key.plan contents s d is shaped
+    (subst (λ (p : Plan). Sound p s) (same_plan key.plan key.cells.items (flat contents) same) ruled.sound) cell marked small

@@ -1,5 +1,5 @@
 -- The cells at the end of a plan's own execution are those of the walk's, which is the program's execution.
-use Rattle.std.proofs.Common.{◌∙◌, ◌<◌, arith, subst, []}
+use Rattle.std.proofs.Common.{◌∙◌, ◌<◌, arith, subst}
 use Rattle.std.proofs.lemmas.Result.{IfOk-weaker}
 use Rattle.array_words.specs.Closing.{IsClosed}
 use Rattle.scop_syntax.specs.Execution.{cell_number}
@@ -9,7 +9,6 @@ use Rattle.tile_events.specs.Plan.{Plan}
 use Rattle.tile_core.proofs.GatedPlans.{gated_end}
 use Rattle.tile_core.proofs.Gates.{shape_extends}
 use Rattle.tile_core.proofs.Plans.{walk_over}
-use Rattle.tile_events.proofs.Flat.{none_marked}
 use Rattle.tile_runner.proofs.running.run_plan.Goals as goal
 
 pub returns-clause-arrays : goal.returns-clause-arrays
@@ -32,6 +31,6 @@ returns-clause-arrays g c = IfOk-weaker c.run_passes.result _ _
       end = c.pairs_make_plans.ensures.end;
       words = c.pairs_make_plans.ensures.words;
     } plan c.requires.plan cells (c.walks_are_dealt.ensures.dealt plan cells c.requires.plan) number below
-    ∙ c.plans_execute_the_walk.ensures.end extents contents [] (walk_in plan) (walk_plan plan cells) walk
-    (none_marked (walk_in plan)) shaped c.requires.plan.inside d cell))
+    ∙ c.plans_execute_the_walk.ensures.end extents contents plan.marked.now (walk_in plan) (walk_plan plan cells) walk
+    c.requires.plan.marks shaped c.requires.plan.inside d cell))
     c.run_passes.ensures.cells

@@ -1,11 +1,11 @@
 use Rattle.std.proofs.Common.{◌≡◌, ◌∙◌, ℕ, ap, arith, subst, sym, take}
 use Rattle.array_words.specs.Loads.{IsNextRead}
-use Rattle.array_words.specs.Stores.{IsNextStore}
+use Rattle.array_words.specs.Stores.{IsNextLast}
 use Rattle.stmt_table.specs.Codes.{value_by}
 use Rattle.tile_core.specs.Passes.{walk_in}
 use Rattle.tile_core.specs.declared.worker.Stage.{Stage}
 use Rattle.tile_runner.specs.Laid.{IsOnDesk}
-use Rattle.tile_runner.proofs.Laid.{first_tells, next_read, next_store}
+use Rattle.tile_runner.proofs.Laid.{first_tells, next_last, next_read}
 use Rattle.tile_runner.proofs.stretches.do_laid.Goals as goal
 
 pub cell-requires-clause-access : goal.cell-requires-clause-access
@@ -48,8 +48,8 @@ cell-requires-2-clause-access c =
     let n = tells.accesses in
     omega (arith, n)
 
-pub store_at-requires-clause-next : goal.store_at-requires-clause-next
-store_at-requires-clause-next c =
+pub give_at-requires-clause-next : goal.give_at-requires-clause-next
+give_at-requires-clause-next c =
     let w = c.args.words.now in
     let s = c.args.seat.now.me.0.stage in
     let row = c.args.row.now in
@@ -66,8 +66,8 @@ store_at-requires-clause-next c =
     let laid = is.laid a.steps turns a.laid.1 in
     let values : take row.code.reads c.loop-read.desk.slots.items ≡ xs =
     ap (λ (n : ℕ). take n c.loop-read.desk.slots.items) (sym all) ∙ is.slots in
-    subst (λ (u : Stage). IsNextStore (walk_in w) u xs c.cell-2.result c.value-value.result) (sym is.seat.stage)
-    (next_store w.plan s row (IsOnDesk row c.args.desk.now) a w.table.shared.key.cells.items xs c.cell-2.result
+    subst (λ (u : Stage). IsNextLast row.adds (walk_in w) u xs c.cell-2.result c.value-value.result) (sym is.seat.stage)
+    (next_last w.plan s row (IsOnDesk row c.args.desk.now) a w.table.shared.key.cells.items xs c.cell-2.result
     c.value-value.result tells (is.count ∙ all)
     (λ form e. c.cell-2.ensures a.steps turns form (c.value-value.ensures.laid a.steps turns laid) e)
     (c.value-value.ensures.value a.steps turns laid ∙ ap (value_by row.code turns) values))

@@ -19,5 +19,6 @@ returns c row steps turns is =
           (lanes_on steps turns next old.second d (old.third ∷ []) (e ∷ []) (λ form. c.go_on-3.ensures form steps turns)
           (lanes_on steps turns next old.third e [] [] (λ form. c.go_on-4.ensures form steps turns)
           (λ forms are. record { each = λ k form lane told at. absurd cc })))) row.cells.items is.cells;
+      stores = is.stores;
       joins = is.joins;
     }

@@ -1,4 +1,4 @@
-use Rattle.std.proofs.Common.{◌∙◌, List, [], ◌∷◌, arith, subst, sym}
+use Rattle.std.proofs.Common.{rules, ◌∙◌, List, [], ◌∷◌, arith, subst, sym}
 use Rattle.whole_numbers.specs.Affine.{Affine}
 use Rattle.stmt_table.specs.Lanes.{AreLanes}
 use Rattle.stmt_table.proofs.Joins.{four_of, lane_first, no_lanes}
@@ -22,5 +22,6 @@ returns-in-Some c =
           (lane_first c.second-item.result _ steps turns c.of-in-Some-2.result _ c.of-in-Some-2.ensures
           (lane_first c.third-item.result _ steps turns c.of-in-Some-3.result _ c.of-in-Some-3.ensures
           (no_lanes steps turns [])))));
+      stores = search rules;
       joins = c.in-Some.ensures;
     }

@@ -8,7 +8,7 @@ use Rattle.scop_syntax.specs.Execution.{layout}
 use Rattle.scop_syntax.specs.View.{program_of}
 use Rattle.standings.specs.Standings.{Standing, standings_of}
 use Rattle.standings.specs.View.{standing_of}
-use Rattle.stmt_table.specs.Tables.{IsRowOf}
+use Rattle.stmt_table.specs.Tables.{IsRow, IsRowBy}
 use Rattle.stmt_table.specs.steps.Forms.{CanForm}
 use Rattle.stmt_table.specs.declared.table.Row.{Row}
 use Rattle.stmt_table.proofs.Accesses.{can_form_at}
@@ -37,7 +37,7 @@ row_of-requires c =
 
 pub loop-statement-preserved : goal.loop-statement-preserved
 loop-statement-preserved c =
-    let P = IsRowOf c.args.extents.now c.args.params.now in
+    let P = IsRowBy c.args.marked.now c.args.extents.now c.args.params.now in
     let items = c.deref-statement-items.result.now in
     let standings = map standing_of items in
     let k = c.loop-statement.statement-index in
@@ -57,7 +57,8 @@ loop-statement-preserved c =
       count = omega (arith, long, grown, count);
       each = subst (ArePaired P standings) (sym pushed)
           (paired_more P standings rows (standing_of item) row c.loop-statement.invariant.each there
-          c.in_ok-row_of.ensures);
+          (subst (λ b. IsRow b c.args.extents.now c.args.params.now (standing_of item) row) c.adds_to_place-adds.ensures
+          c.in_ok-row_of.ensures));
     }
 
 pub returns : goal.returns
@@ -75,6 +76,6 @@ returns c =
     record {
       count = omega (arith, many, count, ended, reached, same);
       rows = λ k s row at told.
-          subst (λ (es : List (List ℕ)). IsRowOf es params s row) c.requires.extents
+          subst (λ (es : List (List ℕ)). IsRowBy c.args.marked.now es params s row) c.requires.extents
           (c.loop-statement.invariant.each k s row (ap (λ (ss : List Standing). slice_get ss k) all ∙ at) told);
     }

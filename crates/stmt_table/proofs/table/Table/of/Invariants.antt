@@ -1,11 +1,11 @@
 use Rattle.std.proofs.Common.{◌≡◌, length, map}
 use Rattle.standings.specs.View.{standing_of}
-use Rattle.stmt_table.specs.Tables.{IsRowOf}
+use Rattle.stmt_table.specs.Tables.{IsRowBy}
 use Rattle.stmt_table.proofs.Pairs.{ArePaired}
 use Rattle.stmt_table.proofs.table.Table.of.Given as goal
 
 abbrev pub invariant-loop-statement : goal.invariant-loop-statement
 invariant-loop-statement l = record {
   count : length l.rows.items ≡ l.statement-index;
-  each : ArePaired (IsRowOf l.extents l.params) (map standing_of l.statement-items) l.rows.items;
+  each : ArePaired (IsRowBy l.marked l.extents l.params) (map standing_of l.statement-items) l.rows.items;
 }

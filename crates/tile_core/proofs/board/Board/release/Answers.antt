@@ -9,7 +9,7 @@ returns-in_default c =
     let plan = c.args.plan.now in
     let w = c.index.result.now in record {
       event = refuses_release plan c.args.self.now c.args.id w
-          (at_board c.args.self.now c.args.id w c.requires.id (search rules))
+          (at_board c.args.self.now c.args.id w c.requires.id (search rules)) c.requires.board.planned
           (c.walks_are_dealt.ensures.dealt plan [] c.requires.board.planned)
           (worker_there plan c.args.self.now c.args.id w c.requires.board c.requires.id (search rules))
           c.in_default.ensures;

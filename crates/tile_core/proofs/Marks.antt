@@ -1,0 +1,67 @@
+-- A cell's number tells its array (`adds_is`), and where a cell is added to, tiles are opened by waves (`by_waves_alone`).
+use Rattle.std.proofs.Common.{◌≡◌, ℕ, zero, suc, ◌+◌, ◌-◌, ◌<◌, true, false, List, [], ◌∷◌, length, take, get_or, ap, refl, ◌∙◌}
+use Rattle.std.proofs.Common.{Option, Some, None, Bor, subst, arith}
+use Rattle.std.specs.Prelude.{⊤, ℤ, MatchOption}
+use Rattle.std.proofs.lemmas.Bool.{lt-ltb, le-ltb}
+use Rattle.scop_syntax.specs.Cells.{Cell}
+use Rattle.scop_syntax.specs.Execution.{IsCell, cell_count, total_cells, cell_number, offset_of}
+use Rattle.scop_syntax.specs.Reductions.{is_marked}
+use Rattle.scop_syntax.specs.Tree.{Program}
+use Rattle.scop_syntax.proofs.Memory.{offset_below}
+use Rattle.loop_tree.specs.Tiling.{IsGoodPlan, Tiling}
+use Rattle.tile_events.specs.Core.{is_counted}
+use Rattle.tile_edges.specs.declared.waiting.TileEdges.{TileEdges}
+use Rattle.tile_core.specs.Marks.{IsGoodFor, array_of, adds_to}
+use Rattle.tile_core.specs.Plans.{IsPlan, extents_in, gated, shape_of, walk_shape}
+use Rattle.tile_core.specs.declared.plan.Plan.{Plan}
+
+array_at : (es : List (List ℕ)) (a s : ℕ) → a < length es → s < cell_count (get_or es a [])
+    → array_of es (total_cells (take a es) + s) ≡ a
+array_at [] a s l m = absurd (omega (arith, l))
+array_at (x ∷ es) zero s l m = rw (lt-ltb (0 + s) (cell_count x) (omega (arith, m))) refl
+array_at (x ∷ es) (suc a) s l m =
+    let r : ((cell_count x + total_cells (take a es)) + s) - cell_count x ≡ total_cells (take a es) + s = omega arith in
+    rw (le-ltb ((cell_count x + total_cells (take a es)) + s) (cell_count x) (omega arith))
+    (ap suc (ap (array_of es) r ∙ array_at es a s (omega (arith, l)) m))
+
+array_is : (es : List (List ℕ)) (c : Cell) → IsCell es c → array_of es (cell_number es c) ≡ c.array
+array_is es c is =
+    let below = offset_below (get_or es c.array []) 0 c.subscripts is.subscripts in
+    array_at es c.array (offset_of es c) is.array (omega (arith, below))
+
+pub adds_is : (es : List (List ℕ)) (marked : List ℕ) (c : Cell) → IsCell es c
+    → adds_to es marked (cell_number es c) ≡ is_marked marked c.array
+adds_is es marked c is = ap (is_marked marked) (array_is es c is)
+
+-- where no array is marked, no cell is added to
+pub none_added : (es : List (List ℕ)) (marked : List ℕ) (c : ℕ) → marked ≡ [] → adds_to es marked c ≡ false
+none_added es marked c none = ap (λ (ms : List ℕ). adds_to es ms c) none
+
+module _ (plan : Plan) (c : ℕ) (adds : (walk_shape plan).adds c ≡ true) where
+  no_edges_by : (o : Option (Bor TileEdges)) → MatchOption o ⊤ (λ e. plan.marked.now ≡ []) → o ≡ None
+  no_edges_by None alone = refl
+  no_edges_by (Some e) alone =
+      let none : adds_to (extents_in plan) plan.marked.now c ≡ false =
+      none_added (extents_in plan) plan.marked.now c alone in
+      let some : adds_to (extents_in plan) plan.marked.now c ≡ true = adds in absurd cc
+
+  pub no_edges : IsPlan plan → plan.edges ≡ None
+  no_edges is = no_edges_by plan.edges is.alone
+
+  pub by_waves_alone : IsPlan plan → is_counted (shape_of plan).gate ≡ false
+  by_waves_alone is = ap (λ (o : Option (Bor TileEdges)). is_counted (gated o (walk_shape plan)).gate) (no_edges is)
+
+-- where tiles are released one by one, no array is marked
+pub none_with : (plan : Plan) (e : Bor TileEdges) → plan.edges ≡ Some e → IsPlan plan → plan.marked.now ≡ []
+none_with plan e some is =
+    subst (λ (o : Option (Bor TileEdges)). MatchOption o ⊤ (λ e. plan.marked.now ≡ [])) some is.alone
+
+-- a good plan is good whatever is marked
+pub good_for : (program : Program) (params : List ℤ) (marked : List ℕ) (tiling : Tiling)
+    → IsGoodPlan program params tiling → IsGoodFor program params marked tiling
+good_for program params marked tiling good i j c plain = good i j c
+
+-- where no array is marked, tiles may have any gate
+pub alone_by : (marked : List ℕ) → marked ≡ [] → (o : Option (Bor TileEdges)) → MatchOption o ⊤ (λ e. marked ≡ [])
+alone_by marked none None = tt
+alone_by marked none (Some e) = none
