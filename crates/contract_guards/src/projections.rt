@@ -4,11 +4,12 @@ ghost use Rattle.fractions.specs.Fractions.{HoldsOver};
 ghost use Rattle.integer_sets.specs.Constraints.{Constraints, IsSized, variables_in};
 ghost use Rattle.integer_sets.specs.Points.{Satisfies};
 ghost use Rattle.fm_projection.specs.Alone.{last_alone};
+ghost use Rattle.fm_projection.specs.Condensed.{condensed};
 ghost use Rattle.fm_projection.specs.Projecting.{HoldsForSomeBetween, gone};
 
 use fm_projection::{
-    FmStop, eliminations_are_exact_one_after_another, eliminations_keep_the_points, last_alone,
-    without,
+    FmStop, condensed_systems_have_the_same_points, eliminations_are_exact_one_after_another,
+    eliminations_keep_the_points, last_alone, without,
 };
 use integer_sets::System;
 use std::alloc::Global;
@@ -58,4 +59,14 @@ pub fn points_of_one_dimension()
         → Satisfies s (x ∷ []) → Satisfies (last_alone s) (x ∷ []) }
 {
     eliminations_keep_the_points();
+}
+
+/// A condensed system has no points more, by `points` of `condensed_systems_have_the_same_points`, and halves that satisfy
+/// a system satisfy it condensed, by `fractions`.
+pub fn points_of_condensed_systems()
+    ensures points { (s : Constraints) (x : ℤ) → Satisfies (condensed s) (x ∷ []) → Satisfies s (x ∷ []) }
+    ensures fractions { (s : Constraints) (x : ℤ) → HoldsOver s.equalities s.rows (pos 2) (x ∷ [])
+        → HoldsOver (condensed s).equalities (condensed s).rows (pos 2) (x ∷ []) }
+{
+    condensed_systems_have_the_same_points();
 }

@@ -7,6 +7,7 @@ use Rattle.std.specs.List.{Contains}
 use Rattle.std.proofs.lemmas.Bool.{eqb-true}
 use Rattle.whole_numbers.specs.Affine.{values_of}
 use Rattle.integer_sets.specs.Points.{Satisfies}
+use Rattle.fm_projection.proofs.CondensedSystems.{condensed_points}
 use Rattle.quast_trees.specs.Leaf.{Leaf, initial, found}
 use Rattle.quast_trees.specs.Paths.{LeafPath, AreOver, binds_in, live_paths}
 use Rattle.quast_trees.specs.Source.{Source, source_of}
@@ -21,7 +22,7 @@ use Rattle.scop_syntax.specs.Walk.{Visit, Instance, instance, walk_of}
 use Rattle.scop_syntax.proofs.Members.{both, in_from_place, place_of}
 use Rattle.iteration_domains.specs.Dependence.{Dependence}
 use Rattle.iteration_domains.specs.Model.{Modelled, model_of}
-use Rattle.iteration_domains.specs.Related.{Relates}
+use Rattle.iteration_domains.specs.Related.{Relates, point_of}
 use Rattle.iteration_domains.specs.Sizes.{IsKernelModel}
 use Rattle.iteration_domains.proofs.Instances.{point_is_instance}
 use Rattle.conflict_deps.specs.Conflicts.{Side, loops_of, sides_in, conflicts_of}
@@ -32,7 +33,8 @@ use Rattle.conflict_deps.proofs.Sides.{in_flat_map_from}
 use Rattle.dataflow.specs.CoverPoints.{HavePoint, IsConflictOf, IsCoverOf, IsPointOf, reader_of}
 use Rattle.dataflow.specs.Covering.{conflicts_at, is_in_role, role_deps, told_deps}
 use Rattle.dataflow.specs.LeafRows.{path_rows, turn_equalities}
-use Rattle.dataflow.specs.Leaves.{deps_of_leaf, deps_with, leaf_dep, leaf_deps, leaf_layout, writer_begins, writer_of}
+use Rattle.dataflow.specs.Leaves.{deps_of_leaf, deps_with, leaf_dep, leaf_deps, leaf_layout, pair_system, writer_begins}
+use Rattle.dataflow.specs.Leaves.{writer_of}
 use Rattle.dataflow.specs.Places.{Names}
 use Rattle.dataflow.specs.Runs.{Halt}
 use Rattle.dataflow.specs.Sources.{reader_end, wanted_writer}
@@ -116,9 +118,10 @@ leaf_point Later m reader writer p params x y h =
     let turns = turn_equalities (leaf_layout Later m k reader writer) 0 p.leaf.forms in
     let path = path_rows (leaf_layout Later m k reader writer) 0 p.turns in
     let size = bound_are (loops_of writer) (loops_of reader) k (length h.bound) h.bound_size in
+    let holds = (condensed_points (pair_system m k writer reader turns path) (point_of params h.bound x y)).1 h.holds in
     let parts : HoldsPair writer reader x.turns y.turns h.bound params turns path =
-    pair_parts m k writer reader x.turns y.turns h.bound params turns path size h.source_size h.target_size h.holds.0
-    h.holds.1 in
+    pair_parts m k writer reader x.turns y.turns h.bound params turns path size h.source_size h.target_size holds.0
+    holds.1 in
     record {
       read = h.target;
       wrote = h.source;
@@ -135,9 +138,10 @@ leaf_point Earlier m reader writer p params x y h =
     let turns = turn_equalities (leaf_layout Earlier m k reader writer) (loops_of reader) p.leaf.forms in
     let path = path_rows (leaf_layout Earlier m k reader writer) 0 p.turns in
     let size = bound_are (loops_of reader) (loops_of writer) k (length h.bound) h.bound_size in
+    let holds = (condensed_points (pair_system m k reader writer turns path) (point_of params h.bound x y)).1 h.holds in
     let parts : HoldsPair reader writer x.turns y.turns h.bound params turns path =
-    pair_parts m k reader writer x.turns y.turns h.bound params turns path size h.source_size h.target_size h.holds.0
-    h.holds.1 in
+    pair_parts m k reader writer x.turns y.turns h.bound params turns path size h.source_size h.target_size holds.0
+    holds.1 in
     record {
       read = h.source;
       wrote = h.target;

@@ -11,6 +11,7 @@ use Rattle.std.proofs.lemmas.Option.{option_and_then_some}
 use Rattle.whole_numbers.specs.Affine.{Affine, value_of, values_of}
 use Rattle.whole_numbers.specs.Lists.{NotNegative}
 use Rattle.integer_sets.specs.Points.{Satisfies}
+use Rattle.fm_projection.proofs.CondensedSystems.{condensed_points}
 use Rattle.quast_trees.specs.Leaf.{found}
 use Rattle.quast_trees.specs.Paths.{Turn, up, down, bound, LeafPath, AreOver, Goes, binds_in, live_paths}
 use Rattle.quast_trees.specs.Source.{Source, source_of}
@@ -38,7 +39,7 @@ use Rattle.dataflow.specs.Candidates.{Writes}
 use Rattle.dataflow.specs.Covering.{covers_at, covers_of, is_in_role, next_deps, role_deps, told_deps}
 use Rattle.dataflow.specs.LeafRows.{path_rows, turn_equalities}
 use Rattle.dataflow.specs.Leaves.{deps_of_leaf, deps_with, first_of, leaf_dep, leaf_deps, leaf_layout, pair_dep}
-use Rattle.dataflow.specs.Leaves.{pair_equalities, pair_rows, second_of, writer_begins, writer_of, written_of}
+use Rattle.dataflow.specs.Leaves.{pair_equalities, pair_rows, pair_system, second_of, writer_begins, writer_of, written_of}
 use Rattle.dataflow.specs.Places.{Names}
 use Rattle.dataflow.specs.Runs.{Halt}
 use Rattle.dataflow.specs.Sources.{IsWritePoint, reader_end, wanted_writer, writer_end}
@@ -73,6 +74,12 @@ relates : (params : List ℤ) (s t : Side) (v w : Visit) (qs : List ℤ) (turns 
     → Relates params (pair_dep m k s t turns path) (instance v) (instance w)
 relates params s t v w qs turns path m k count size is range first second x y q =
     let z = pair_point v.turns w.turns qs params in
+    let zero = subst (λ (i : ℕ). Zero (pair_equalities i s t turns) z) size
+    (pair_zero s t v.turns w.turns qs params turns path is) in
+    let up = subst (λ (i : ℕ). Up (pair_rows i k s t path) z) count
+    (subst (λ (i : ℕ). Up (pair_rows (length params) i s t path) z) size
+    (pair_up s t v.turns w.turns qs params turns path is)) in
+    let holds = (condensed_points (pair_system m k s t turns path) z).0 (zero, up) in
     record {
       range = range;
       source = first;
@@ -84,11 +91,8 @@ relates params s t v w qs turns path m k count size is range first second x y q 
       bound = qs;
       bound_size = omega (arith, size);
       bound_from_0 = all_up qs q;
-      equalities = subst (λ (i : ℕ). Zero (pair_equalities i s t turns) z) size
-          (pair_zero s t v.turns w.turns qs params turns path is);
-      rows = subst (λ (i : ℕ). Up (pair_rows i k s t path) z) count
-          (subst (λ (i : ℕ). Up (pair_rows (length params) i s t path) z) size
-          (pair_up s t v.turns w.turns qs params turns path is));
+      equalities = holds.0;
+      rows = holds.1;
     }
 
 -- the instance that runs first of a reader and its writer, and the other

@@ -3,7 +3,8 @@
 use Rattle.std.specs.Prelude.{ℕ, ◌+◌, List, [], ◌∷◌, ◌++◌, map, Option, Some, None, slice_get}
 use Rattle.std.specs.List.{flat_map}
 use Rattle.whole_numbers.specs.Affine.{Affine}
-use Rattle.integer_sets.specs.Constraints.{system_of}
+use Rattle.integer_sets.specs.Constraints.{Constraints, system_of}
+use Rattle.fm_projection.specs.Condensed.{condensed}
 use Rattle.quast_trees.specs.Source.{Source}
 use Rattle.quast_trees.specs.Tree.{Tree}
 use Rattle.quast_joins.specs.declared.way.Way.{Way}
@@ -68,11 +69,14 @@ pair_rows m k s t path =
     ++ (map (second_form k s t) t.statement.domain.rows
     ++ (path ++ variables (loops_of s + loops_of t + k + m) (loops_of s + loops_of t + k) m))
 
--- these as a dependence: over the turns of both, k binds and m parameters
+-- these as a system: over the turns of both, k binds and m parameters
+abbrev pub pair_system : ℕ → ℕ → Side → Side → List Affine → List Affine → Constraints
+pair_system m k s t turns path =
+    system_of (loops_of s + loops_of t + k) m (pair_equalities k s t turns) (pair_rows m k s t path)
+
+-- the dependence that has its points, in fewer rows
 abbrev pub pair_dep : ℕ → ℕ → Side → Side → List Affine → List Affine → Dependence
-pair_dep m k s t turns path =
-    dependence (end_of s) (end_of t) 0
-    (system_of (loops_of s + loops_of t + k) m (pair_equalities k s t turns) (pair_rows m k s t path))
+pair_dep m k s t turns path = dependence (end_of s) (end_of t) 0 (condensed (pair_system m k s t turns path))
 
 -- the dependence of a leaf of an access's quast that names the writer
 abbrev pub leaf_dep : Way → ℕ → Side → Side → LeafPath → Dependence

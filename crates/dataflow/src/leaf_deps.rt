@@ -11,6 +11,7 @@ ghost use Rattle.dataflow.specs.Leaves.{pair_rows};
 
 use crate::leaf_rows::{Layout, binds_in, push_path, push_turn_equalities};
 use conflict_deps::{AccessOf, push_sources, push_subscripts, push_targets};
+use fm_projection::condensed;
 use iteration_domains::{Dep, DepEnd, Form, System, push_variables};
 use quast_joins::Way;
 use quast_trees::Path;
@@ -228,7 +229,8 @@ fn pair_dep(
     let equalities = leaf_equalities(alloc, layout, from, source, target, path)?;
     let rows = leaf_rows(alloc, layout, from, source, target, path)?;
     let dimensions = loops_of(source) + loops_of(target) + layout.binds;
-    let system = System::from_parts(dimensions, layout.parameters, equalities, rows);
+    let whole = System::from_parts(dimensions, layout.parameters, equalities, rows);
+    let system = condensed(alloc, &whole)?;
     Ok(Dep {
         source: end(source),
         target: end(target),

@@ -47,7 +47,7 @@ size_run-exact : (a z : ℤ) → size_run a ≡ Ok z → z ≡ pos (unsigned_abs
 size_run-exact (pos n) z h = let e : pos n ≡ z = cc in sym e
 size_run-exact (negsuc n) z h = let e = ((difference_of-ok (pos 0) (negsuc n) z).0 h).0 in omega (arith, ints)
 
-reduced_run-exact : (i : ℕ) (e r f : Affine) → variables_of r ≡ variables_of e → reduced_run i e r ≡ Ok f → f
+pub reduced_run-exact : (i : ℕ) (e r f : Affine) → variables_of r ≡ variables_of e → reduced_run i e r ≡ Ok f → f
     ≡ lowest_of_form (reduced i e r)
 unfolding reduced_run
 reduced_run-exact i e r f same h =
@@ -188,7 +188,7 @@ pub lowest_sized : (f : Affine) → variables_of (lowest_of_form f) ≡ variable
 unfolding lowest_of_form
 lowest_sized f = length-map f.coefficients (λ x. floor x (pos (content_of_form f)))
 
-sum_sized : (v : ℕ) (a b : ℤ) (f g : Affine) → variables_of f ≡ v → variables_of g ≡ v
+pub sum_sized : (v : ℕ) (a b : ℤ) (f g : Affine) → variables_of f ≡ v → variables_of g ≡ v
     → variables_of (sum_of_forms (multiple_of_form a f) (multiple_of_form b g)) ≡ v
 sum_sized v a b f g hf hg =
     let x = length-multiples a f.coefficients in

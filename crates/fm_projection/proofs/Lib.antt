@@ -4,6 +4,7 @@ pub mod Exact
 pub mod Law
 pub mod RemovedEntries
 pub mod TightestRows
+pub mod CondensedSystems
 pub mod WholePoints
 pub mod EliminationRuns
 pub mod RangeRows

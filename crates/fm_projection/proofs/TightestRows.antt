@@ -19,7 +19,7 @@ use Rattle.fm_projection.specs.Tightest.{are_parallel, tighter, with_row, with_r
 use Rattle.fm_projection.specs.steps.Places.{parallel_place}
 
 -- each row that is kept is one of the rows
-kept_with : (P : Affine → Type 0) (fs : List Affine) (g : Affine) → All P fs → P g → All P (with_row fs g)
+pub kept_with : (P : Affine → Type 0) (fs : List Affine) (g : Affine) → All P fs → P g → All P (with_row fs g)
 kept_with P [] g all own = All-cons P g [] own (All-nil P)
 kept_with P (f ∷ fs) g all own = by (are_parallel f g) (kept_with P fs g (All-tail P f fs all) own)
   where
@@ -71,7 +71,7 @@ module _ (d : ℤ) (xs : List ℤ) (positive : pos 0 <ℤ d) where
           (looser g f (sym same) (omega (arith, ints, l)) k, k)
       by false up k = (k, looser f g same (not_less f.constant g.constant up) k)
 
-  both_with : (fs : List Affine) (g : Affine) → All Holds (with_row fs g) → All Holds fs × Holds g
+  pub both_with : (fs : List Affine) (g : Affine) → All Holds (with_row fs g) → All Holds fs × Holds g
   both_with [] g h = (All-nil Holds, All-head Holds g [] h)
   both_with (f ∷ fs) g h = by (are_parallel f g) refl (both_with fs g) h
     where

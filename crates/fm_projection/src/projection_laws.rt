@@ -1,10 +1,13 @@
-//! What eliminations one after another leave, as contracts of functions that do nothing.
+//! What eliminations one after another leave, and what a condensed system says, as contracts of functions that do
+//! nothing.
 
-ghost use Rattle.std.specs.Prelude.{◌≡◌, ◌≤◌, ◌+◌, ◌-◌, ◌++◌, [], ◌∷◌, ℕ, ℤ, List, length};
+ghost use Rattle.std.specs.Prelude.{◌≡◌, ◌≤◌, ◌<ℤ◌, ◌+◌, ◌-◌, ◌++◌, [], ◌∷◌, ◌↔◌, ℕ, ℤ, pos, List, length};
+ghost use Rattle.fractions.specs.Fractions.{HoldsOver};
 ghost use Rattle.integer_sets.specs.Constraints.{Constraints, IsSized, variables_in};
 ghost use Rattle.integer_sets.specs.Points.{Satisfies};
 ghost use Rattle.fm_projection.specs.Alone.{AreInRange, last_alone};
 ghost use Rattle.fm_projection.specs.Projecting.{Follow, IsLeftOf, all_gone, gone, projected};
+ghost use Rattle.fm_projection.specs.Condensed.{condensed};
 
 /// Eliminations one after another are exact over fractions: a point satisfies what is left exactly where it satisfies
 /// the system with some fractions for the eliminated dimensions, in their places.
@@ -27,4 +30,12 @@ pub fn eliminations_keep_the_points()
         → IsSized (variables_in s) s.equalities s.rows
         → length outer + 1 ≡ s.dimensions → AreInRange params
         → Satisfies s (outer ++ x ∷ params) → Satisfies (last_alone s) (x ∷ []) }
+{}
+
+/// A condensed system has the whole points of the system, and its points of fractions.
+pub fn condensed_systems_have_the_same_points()
+    ensures points { (s : Constraints) (point : List ℤ) → Satisfies s point ↔ Satisfies (condensed s) point }
+    ensures fractions { (s : Constraints) (d : ℤ) (point : List ℤ) → pos 0 <ℤ d
+        → HoldsOver s.equalities s.rows d point
+        ↔ HoldsOver (condensed s).equalities (condensed s).rows d point }
 {}

@@ -161,7 +161,7 @@ fn sign_of(number: i128) -> i128
 
 /// A form with the variable's value by an equality in its place.
 #[tactic(auto, unfolding(crate::specs::Runs::reduced_run))]
-fn reduced(equality: &Form, form: &Form, variable: usize) -> Result<Form, FormStop>
+pub fn reduced(equality: &Form, form: &Form, variable: usize) -> Result<Form, FormStop>
     requires variable { variable < variables_of equality.now }
     requires sized { variables_of form.now ≡ variables_of equality.now }
     ensures { Gives (λ f. f) result (reduced_run variable equality.now form.now) }

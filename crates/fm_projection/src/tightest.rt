@@ -29,7 +29,7 @@ fn parallel_place(rows: &[Form], form: &Form) -> usize
 }
 
 /// One row more: behind the others, or where one of them has its coefficients, the tighter of the two in its place.
-fn put(rows: &mut Vec<Form>, form: &Form) -> Result<(), AllocError>
+pub fn put(rows: &mut Vec<Form>, form: &Form) -> Result<(), AllocError>
     ensures { OnOk result (rows.new.items ≡ with_row rows.old.items form.now) }
 {
     let place = parallel_place(rows, form);

@@ -1,0 +1,6 @@
+use Rattle.std.proofs.Common.{◌≡◌, [], drop}
+use Rattle.fm_projection.specs.Condensed.{with_equalities}
+use Rattle.fm_projection.proofs.condensing.own_equalities.Given as goal
+
+abbrev pub invariant-loop-form : goal.invariant-loop-form
+invariant-loop-form l = with_equalities l.out.items (drop l.form-index l.forms) ≡ with_equalities [] l.forms
