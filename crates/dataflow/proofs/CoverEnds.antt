@@ -86,7 +86,7 @@ writer_stands model (Some source) w is e =
     ap (λ i. slice_get model.statements i) (is.places source.statement w.statement slot) ∙ slot
 
 -- a leaf's dependence does
-leaf_between : (way : Way) (model : KernelModel) (reader : Side) (tree : Tree) (d : Dependence) → IsKernelModel model
+pub leaf_between : (way : Way) (model : KernelModel) (reader : Side) (tree : Tree) (d : Dependence) → IsKernelModel model
     → Stands model reader → In d (told_deps {E = ℕ} way model reader (Ok tree)) → LiesBetween model d
 leaf_between way model reader tree d is here h =
     let p = in_flat_map_from (deps_of_leaf way model reader) (live_paths tree) d h in

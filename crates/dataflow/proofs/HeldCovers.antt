@@ -49,7 +49,7 @@ use Rattle.dataflow.proofs.LeafPairs.{IsLeafPair, Up, Zero, pair_point, pair_up,
 use Rattle.dataflow.proofs.LeafPoints.{path_holds, turns_hold}
 use Rattle.dataflow.proofs.ResolvedWriters.{in_chosen}
 
-in_flat : {A B : Type 0} (f : A → List B) (xs : List A) (x : A) (y : B) → In x xs → In y (f x)
+pub in_flat : {A B : Type 0} (f : A → List B) (xs : List A) (x : A) (y : B) → In x xs → In y (f x)
     → In y (flat_map f xs)
 in_flat f [] x y h g = absurd h
 in_flat f (z ∷ zs) x y (inl e) g = in_front y (f z) (flat_map f zs) (subst (λ u. In y (f u)) e g)
@@ -388,7 +388,7 @@ met_pair way program params budget reader j k w u laws among number there m =
     (subst (IsSideOf program params writer.0 u) wrote_there writer.3) writer.2 there m.wanted
 
 -- each access of an instance and its writer are a pair of some access's dependences
-some_pair : (way : Way) (program : Program) (params : List ℤ) (budget : ℕ) (j k a : ℕ) (w u : Visit)
+pub some_pair : (way : Way) (program : Program) (params : List ℤ) (budget : ℕ) (j k a : ℕ) (w u : Visit)
     → CoverLaws program params budget → slice_get (walk_of program params) k ≡ Some u
     → Meets way program params j k a w
     → (reader : Side) × In reader (sides_in (model_of program)) × (reader.number ≡ a)

@@ -27,3 +27,5 @@ pub mod HeldCovers
 pub mod CoverPoints
 pub mod QuastSigns
 pub mod CoverFacts
+pub mod FlowReads
+pub mod HeldSources

@@ -12,6 +12,7 @@ pub mod Told
 pub mod LeafRows
 pub mod Leaves
 pub mod Covering
+pub mod Flow
 pub mod CoverPoints
 pub mod LeafSteps
 pub mod Steps

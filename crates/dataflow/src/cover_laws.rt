@@ -1,5 +1,5 @@
 //! Laws of the dependences that hold each access with its writers, as contracts of functions that do nothing.
-ghost use Rattle.std.specs.Prelude.{◌≡◌, ◌↔◌, ℕ, ℤ, List, Ok, Err};
+ghost use Rattle.std.specs.Prelude.{◌≡◌, ◌↔◌, ℕ, ℤ, All, List, Ok, Err, map};
 ghost use Rattle.quast_joins.specs.declared.way.Way.{Way};
 ghost use Rattle.quast_trees.specs.Tree.{Tree};
 ghost use Rattle.scop_syntax.specs.Limits.{HasParameters};
@@ -12,9 +12,12 @@ ghost use Rattle.iteration_domains.specs.Model.{KernelModel, model_of};
 ghost use Rattle.conflict_deps.specs.Conflicts.{Side, sides_in};
 ghost use Rattle.dataflow.specs.CoverPoints.{HavePoint, IsConflictOf, IsCoverOf};
 ghost use Rattle.dataflow.specs.Covering.{LiesBetween, covers_of, role_deps};
+ghost use Rattle.dataflow.specs.Flow.{AreLastSources, AreLastTrees, HoldSources, IsResolved, flow_of, tree_in};
 ghost use Rattle.dataflow.specs.Posed.{IsOfKernel};
+ghost use Rattle.dataflow.specs.ReadSources.{reads_of};
 ghost use Rattle.dataflow.specs.Runs.{Halt};
 ghost use Rattle.dataflow.specs.WriterRuns.{Stopped, writers_run};
+ghost use Rattle.dataflow.specs.declared.source.ReadSource.{ReadSource};
 
 use conflict_deps::conflict_laws::conflicts_are_the_points_of_the_systems;
 use quast_trees::{answers_are_live_leaves, bound_quotients_are_not_negative};
@@ -42,6 +45,33 @@ pub fn covers_are_held()
     values_lie_within_45_bits();
     answers_are_live_leaves();
     bound_quotients_are_not_negative();
+}
+
+/// Each read of a walk and its last writer are a pair of one of the dependences of the reads' trees: by trees that are
+/// the ends of the reads' runs, and by sources that are told.
+pub fn flow_holds_the_sources()
+    ensures trees { (program : Program) (params : List ℤ) (budget : ℕ) (trees : List Tree)
+        → HasParameters program params
+        → AreLastTrees (model_of program) budget (reads_of (model_of program)) trees
+        → HoldSources program params (flow_of (model_of program) trees) }
+    ensures sources { (program : Program) (params : List ℤ) (sources : List ReadSource)
+        → HasParameters program params → AreLastSources (model_of program) sources → All IsResolved sources
+        → HoldSources program params (flow_of (model_of program) (map tree_in sources)) }
+{
+    instances_are_those_of_statements();
+    statements_are_numbered();
+    walks_are_in_order();
+    values_lie_within_45_bits();
+    answers_are_live_leaves();
+    bound_quotients_are_not_negative();
+}
+
+/// Each of them lies between two statements of the model, with their numbers of loops, and is over its parameters.
+pub fn flow_lies_between_statements()
+    ensures { (model : KernelModel) (trees : List Tree) (d : Dependence) → IsOfKernel model
+        → In d (flow_of model trees) → LiesBetween model d }
+{
+    statements_are_numbered();
 }
 
 /// The whole points of an access's dependences in a role are, where its quast is told, exactly its instances with their

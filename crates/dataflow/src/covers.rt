@@ -65,8 +65,11 @@ fn push_leaf(
     push(out, dep)
 }
 
-// Appends the dependences of an access's quast.
-fn push_leaves(
+/// Appends the dependences of an access's quast.
+///
+/// # Errors
+/// `AllocError` alone.
+pub(crate) fn push_leaves(
     out: &mut Vec<Dep>,
     alloc: Global,
     way: Way,

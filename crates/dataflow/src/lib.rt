@@ -10,6 +10,7 @@ mod candidate;
 pub mod cover_laws;
 mod covers;
 mod ends;
+mod flow_deps;
 mod forms;
 mod leaf_deps;
 mod leaf_rows;
@@ -20,6 +21,7 @@ mod source;
 pub mod source_laws;
 
 pub use covers::covering;
+pub use flow_deps::flow;
 pub use reads::{last_writes, next_writes};
 pub use source::{ReadSource, SourceStop};
 

@@ -1,2 +1,3 @@
 pub mod NoSources
 pub mod OneAccess
+pub mod OneRead

@@ -4,6 +4,7 @@
 #![tactic(auto)]
 
 pub mod covers;
+pub mod flows;
 pub mod loop_trees;
 pub mod pairs;
 pub mod plans;
