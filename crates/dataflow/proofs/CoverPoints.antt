@@ -47,7 +47,7 @@ use Rattle.dataflow.proofs.LeafPairs.{HoldsPair, Up, Zero, pair_parts}
 use Rattle.dataflow.proofs.ResolvedWriters.{chosen_in, in_chosen}
 
 -- a pair that a dependence relates is a whole point of it
-related_point : (params : List ℤ) (d : Dependence) (x y : Instance) → Relates params d x y → IsPointOf params d x y
+pub related_point : (params : List ℤ) (d : Dependence) (x y : Instance) → Relates params d x y → IsPointOf params d x y
 related_point params d x y r =
     record {
       source = r.source;
@@ -317,7 +317,7 @@ written_cover Earlier program params statement access x y number h =
       cover = h.wanted;
     }
 
-point_cover : (way : Way) (program : Program) (params : List ℤ) (budget : ℕ) (reader : Side) (t : Tree) (x y : Instance)
+pub point_cover : (way : Way) (program : Program) (params : List ℤ) (budget : ℕ) (reader : Side) (t : Tree) (x y : Instance)
     → CoverLaws program params budget → In reader (sides_in (model_of program))
     → writers_run way (model_of program) budget reader.statement.number reader.number ≡ Ok t
     → HavePoint params (leaf_deps way (model_of program) reader t) x y

@@ -29,7 +29,7 @@ use Rattle.dataflow.proofs.HeldCovers.{in_flat, meets, some_pair}
 
 -- ---- the reads as accesses and as numbers
 
-abbrev read_of : Side → ℕ × ℕ
+abbrev pub read_of : Side → ℕ × ℕ
 read_of reader = (reader.statement.number, reader.number)
 
 reads_there : (s : Modelled) (k : ℕ) (fs : List Access)
@@ -44,7 +44,7 @@ own_reads s (f ∷ fs) =
     let same : length fs ≡ suc (length fs) - 1 = omega arith in
     reads_there s 1 fs ∙ ap (reads_from s.number 1) same
 
-all_reads : (ss : List Modelled) → map read_of (flat_map read_sides ss) ≡ reads_in ss
+pub all_reads : (ss : List Modelled) → map read_of (flat_map read_sides ss) ≡ reads_in ss
 all_reads [] = refl
 all_reads (s ∷ ss) =
     map-append read_of (read_sides s) (flat_map read_sides ss)
@@ -140,11 +140,13 @@ read_in : (s : Modelled) (fs : List Access) (reader : Side) → In reader (behin
 read_in s [] reader h = absurd h
 read_in s (f ∷ fs) reader h = inr h
 
+-- the reads are accesses
+pub sides_there : (model : KernelModel) (reader : Side) → In reader (read_sides_in model) → In reader (sides_in model)
+sides_there model reader h =
+    let s = in_flat_map_from read_sides model.statements reader h in
+    in_flat sides_of model.statements s.0 reader s.1 (read_in s.0 s.0.accesses reader s.2)
+
 pub flow_between : (model : KernelModel) (trees : List Tree) (d : Dependence) → IsKernelModel model
     → In d (flow_of model trees) → LiesBetween model d
 flow_between model trees d is h =
-    from_between model (read_sides_in model) trees d is
-    (λ reader i.
-    let s = in_flat_map_from read_sides model.statements reader i in
-    in_flat sides_of model.statements s.0 reader s.1 (read_in s.0 s.0.accesses reader s.2))
-    h
+    from_between model (read_sides_in model) trees d is (sides_there model) h

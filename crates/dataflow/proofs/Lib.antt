@@ -29,3 +29,4 @@ pub mod QuastSigns
 pub mod CoverFacts
 pub mod FlowReads
 pub mod HeldSources
+pub mod FlowPoints

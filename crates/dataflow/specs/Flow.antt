@@ -5,12 +5,13 @@ use Rattle.quast_trees.specs.Postfix.{tree_of}
 use Rattle.quast_trees.specs.Tree.{Tree, initial}
 use Rattle.quast_joins.specs.declared.way.Way.TheVariants.{Later}
 use Rattle.scop_syntax.specs.Tree.{Access, Program}
-use Rattle.scop_syntax.specs.Walk.{Visit, walk_of}
+use Rattle.scop_syntax.specs.Walk.{Visit, Instance, walk_of}
 use Rattle.scop_syntax.specs.Writers.{last_of}
 use Rattle.iteration_domains.specs.Model.{Modelled, KernelModel}
 use Rattle.iteration_domains.specs.Dependence.{Dependence}
 use Rattle.iteration_domains.specs.Held.{IsPairIn}
 use Rattle.conflict_deps.specs.Conflicts.{Side, sides_from}
+use Rattle.dataflow.specs.CoverPoints.{IsCoverOf}
 use Rattle.dataflow.specs.Leaves.{leaf_deps}
 use Rattle.dataflow.specs.ReadSources.{IsSourceOf, AreSources, reads_of}
 use Rattle.dataflow.specs.WriterRuns.{writers_run}
@@ -78,3 +79,7 @@ HoldSources program params deps =
     (i j : ℕ) (v w : Visit) (r : ℕ) → slice_get (walk_of program params) i ≡ Some v
     → slice_get (walk_of program params) j ≡ Some w → last_of (walk_of program params) j (suc r) ≡ Some i
     → IsPairIn params deps v w
+
+-- of two instances some read of the later has the earlier as its last writer
+abbrev pub ReadsFrom : List Visit → Instance → Instance → Type 0
+ReadsFrom visits x y = (statement : ℕ) × (r : ℕ) × IsCoverOf Later visits statement (suc r) x y

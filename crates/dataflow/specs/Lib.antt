@@ -12,8 +12,8 @@ pub mod Told
 pub mod LeafRows
 pub mod Leaves
 pub mod Covering
-pub mod Flow
 pub mod CoverPoints
+pub mod Flow
 pub mod LeafSteps
 pub mod Steps
 -- Passed on: what this crate's contracts are told in.

@@ -12,7 +12,8 @@ ghost use Rattle.iteration_domains.specs.Model.{KernelModel, model_of};
 ghost use Rattle.conflict_deps.specs.Conflicts.{Side, sides_in};
 ghost use Rattle.dataflow.specs.CoverPoints.{HavePoint, IsConflictOf, IsCoverOf};
 ghost use Rattle.dataflow.specs.Covering.{LiesBetween, covers_of, role_deps};
-ghost use Rattle.dataflow.specs.Flow.{AreLastSources, AreLastTrees, HoldSources, IsResolved, flow_of, tree_in};
+ghost use Rattle.dataflow.specs.Flow.{AreLastSources, AreLastTrees, HoldSources, IsResolved, ReadsFrom};
+ghost use Rattle.dataflow.specs.Flow.{flow_of, tree_in};
 ghost use Rattle.dataflow.specs.Posed.{IsOfKernel};
 ghost use Rattle.dataflow.specs.ReadSources.{reads_of};
 ghost use Rattle.dataflow.specs.Runs.{Halt};
@@ -57,6 +58,21 @@ pub fn flow_holds_the_sources()
     ensures sources { (program : Program) (params : List ℤ) (sources : List ReadSource)
         → HasParameters program params → AreLastSources (model_of program) sources → All IsResolved sources
         → HoldSources program params (flow_of (model_of program) (map tree_in sources)) }
+{
+    instances_are_those_of_statements();
+    statements_are_numbered();
+    walks_are_in_order();
+    values_lie_within_45_bits();
+    answers_are_live_leaves();
+    bound_quotients_are_not_negative();
+}
+
+/// The whole points of the dependences of the reads' trees are exactly the reads with their last writers.
+pub fn flow_points_are_the_sources()
+    ensures { (program : Program) (params : List ℤ) (budget : ℕ) (trees : List Tree) (x y : Instance)
+        → HasParameters program params
+        → AreLastTrees (model_of program) budget (reads_of (model_of program)) trees
+        → HavePoint params (flow_of (model_of program) trees) x y ↔ ReadsFrom (walk_of program params) x y }
 {
     instances_are_those_of_statements();
     statements_are_numbered();

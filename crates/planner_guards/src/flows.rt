@@ -6,13 +6,15 @@ ghost use Rattle.quast_joins.specs.declared.way.Way.TheVariants.{Later};
 ghost use Rattle.scop_syntax.specs.Limits.{HasParameters};
 ghost use Rattle.scop_syntax.specs.Members.{In};
 ghost use Rattle.scop_syntax.specs.Tree.{Program};
-ghost use Rattle.scop_syntax.specs.Walk.{Visit, walk_of};
+ghost use Rattle.scop_syntax.specs.Walk.{Instance, Visit, walk_of};
 ghost use Rattle.scop_syntax.specs.Writers.{last_of};
 ghost use Rattle.iteration_domains.specs.Dependence.{Dependence};
 ghost use Rattle.iteration_domains.specs.Held.{IsPairIn};
 ghost use Rattle.iteration_domains.specs.Model.{KernelModel, Modelled, model_of};
 ghost use Rattle.conflict_deps.specs.Conflicts.{Side};
-ghost use Rattle.dataflow.specs.Flow.{AreLastSources, AreLastTrees, IsResolved, flow_of, read_sides_in, tree_in};
+ghost use Rattle.dataflow.specs.CoverPoints.{HavePoint};
+ghost use Rattle.dataflow.specs.Flow.{AreLastSources, AreLastTrees, IsResolved, ReadsFrom};
+ghost use Rattle.dataflow.specs.Flow.{flow_of, read_sides_in, tree_in};
 ghost use Rattle.dataflow.specs.Leaves.{leaf_deps};
 ghost use Rattle.dataflow.specs.Posed.{IsOfKernel};
 ghost use Rattle.dataflow.specs.ReadSources.{reads_of};
@@ -52,6 +54,19 @@ pub fn flow_in_kernels_without_parameters()
         → IsPairIn [] (flow_of (model_of program) (map tree_in sources)) v w }
 {
     cover_laws::flow_holds_the_sources();
+}
+
+/// In kernels without parameters their points are the reads with their last writers, by the clause of
+/// `flow_points_are_the_sources`, each clause one of its directions.
+pub fn flow_points_in_kernels_without_parameters()
+    ensures only { (program : Program) (trees : List Tree) (x y : Instance) → HasParameters program []
+        → AreLastTrees (model_of program) 0 (reads_of (model_of program)) trees
+        → HavePoint [] (flow_of (model_of program) trees) x y → ReadsFrom (walk_of program []) x y }
+    ensures all { (program : Program) (trees : List Tree) (x y : Instance) → HasParameters program []
+        → AreLastTrees (model_of program) 0 (reads_of (model_of program)) trees
+        → ReadsFrom (walk_of program []) x y → HavePoint [] (flow_of (model_of program) trees) x y }
+{
+    cover_laws::flow_points_are_the_sources();
 }
 
 /// Each of them has a dimension for each turn of two statements of the model, by the clause of
