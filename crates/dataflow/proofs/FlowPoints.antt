@@ -1,7 +1,6 @@
 -- The whole points of the dependences of the reads' trees are the reads with their last writers.
-use Rattle.std.proofs.Common.{◌≡◌, ℕ, zero, suc, ◌+◌, ℤ, List, [], ◌∷◌, map, Ok, inl, inr, sym, ap, subst, ◌∙◌, refl, arith}
+use Rattle.std.proofs.Common.{◌≡◌, ℕ, suc, ℤ, List, [], ◌∷◌, map, Ok, inl, inr, sym, subst, ◌∙◌, refl, arith}
 use Rattle.std.specs.Prelude.{◌↔◌}
-use Rattle.std.specs.List.{flat_map}
 use Rattle.quast_trees.specs.Tree.{Tree}
 use Rattle.quast_joins.specs.declared.way.Way.TheVariants.{Later}
 use Rattle.scop_syntax.specs.Members.{In}
@@ -11,7 +10,7 @@ use Rattle.scop_syntax.proofs.Members.{in_append}
 use Rattle.iteration_domains.specs.Dependence.{Dependence}
 use Rattle.iteration_domains.specs.Model.{Modelled, KernelModel, model_of}
 use Rattle.iteration_domains.specs.Related.{Relates}
-use Rattle.conflict_deps.specs.Conflicts.{Side, sides_from, sides_in}
+use Rattle.conflict_deps.specs.Conflicts.{Side}
 use Rattle.conflict_deps.proofs.Sides.{in_flat_map_from, side_to}
 use Rattle.dataflow.specs.CoverPoints.{HavePoint, IsCoverOf}
 use Rattle.dataflow.specs.Flow.{AreLastTrees, ReadsFrom, behind_first, flow_from, flow_of, read_sides, read_sides_in}

@@ -1,6 +1,6 @@
 -- Reads and their sources gone through together, as the code gathers their dependences.
 use Rattle.std.proofs.Common.{◌≡◌, ℕ, zero, suc, ◌+◌, ◌-◌, ◌<◌, ◌≤◌, List, [], ◌∷◌, ◌++◌, length, map, take, drop, get_or}
-use Rattle.std.proofs.Common.{All, Ok, refl, sym, ap, ap₂, subst, ◌∙◌, arith, add-one, drop-cons, append_assoc, append-nil}
+use Rattle.std.proofs.Common.{Ok, refl, sym, ap, ap₂, subst, ◌∙◌, arith, add-one, drop-cons, append_assoc, append-nil}
 use Rattle.std.specs.List.{flat_map}
 use Rattle.quast_trees.specs.Tree.{Tree}
 use Rattle.quast_joins.specs.declared.way.Way.{Way}
@@ -78,13 +78,6 @@ own_source model s ss i from h less is =
       subst (λ (a : ℕ). IsSourceOf Later model h.0 s.number a from) same
           (source_at Later model h.0 s.number 1 (length s.accesses - 1) i ss from h.1 less is),
     )
-
--- before the first of a statement's reads
-pub reads_begin : (model : KernelModel) (s : Modelled) (found : List Access) (ss : List ReadSource)
-    → flow_from model (sides_from s 1 (drop 1 found)) (map tree_in ss)
-    ≡ flow_from model (behind_first s found) (map tree_in ss)
-reads_begin model s [] ss = refl
-reads_begin model s (a ∷ rest) ss = refl
 
 -- without sources there is nothing
 flow_none : (model : KernelModel) (rs : List Side) → flow_from model rs [] ≡ []

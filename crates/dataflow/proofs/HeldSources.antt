@@ -19,7 +19,7 @@ use Rattle.dataflow.specs.Covering.{LiesBetween, told_deps}
 use Rattle.dataflow.specs.Flow.{AreLastTrees, HoldSources, IsResolved, behind_first, flow_from, flow_of, read_sides}
 use Rattle.dataflow.specs.Flow.{read_sides_in, tree_in}
 use Rattle.dataflow.specs.Leaves.{leaf_deps}
-use Rattle.dataflow.specs.ReadSources.{AreSources, reads_from, reads_in, reads_of, reads_of_statement}
+use Rattle.dataflow.specs.ReadSources.{AreSources, reads_from, reads_in, reads_of}
 use Rattle.dataflow.specs.WriterRuns.{writers_run}
 use Rattle.dataflow.specs.declared.source.ReadSource.{ReadSource}
 use Rattle.dataflow.specs.declared.source.ReadSource.TheVariants as source
