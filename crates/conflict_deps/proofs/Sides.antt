@@ -10,17 +10,12 @@ use Rattle.scop_syntax.specs.Members.{In}
 use Rattle.scop_syntax.specs.Order.{common}
 use Rattle.scop_syntax.specs.Statements.{Placed}
 use Rattle.scop_syntax.specs.Cells.{accesses, OneWrites}
-use Rattle.scop_syntax.proofs.Members.{in_append, in_front, in_back, in_map, in_map_from, in_if, in_if_from, both}
+use Rattle.scop_syntax.proofs.Members.{in_append, in_map, in_map_from, in_if, in_if_from, both}
 use Rattle.iteration_domains.specs.Model.{Modelled, kernel_model, access_over, modelled}
 use Rattle.iteration_domains.specs.Dependence.{Dependence}
+use Rattle.iteration_domains.proofs.OutsideLaws.{in_flat_map}
 use Rattle.conflict_deps.specs.Conflicts.{Side, side, sides_from, sides_of, After, dep_of, afters_of, may_conflict}
 use Rattle.conflict_deps.specs.Conflicts.{deps_between, conflicts_of}
-
-in_flat_map : {A B : Type 0} (f : A → List B) (xs : List A) (x : A) (y : B) → In x xs → In y (f x)
-    → In y (flat_map f xs)
-in_flat_map f [] x y h g = absurd h
-in_flat_map f (z ∷ zs) x y (inl e) g = in_front y (f z) (flat_map f zs) (subst (λ u. In y (f u)) e g)
-in_flat_map f (z ∷ zs) x y (inr h) g = in_back y (f z) (flat_map f zs) (in_flat_map f zs x y h g)
 
 pub in_flat_map_from : {A B : Type 0} (f : A → List B) (xs : List A) (y : B) → In y (flat_map f xs)
     → (x : A) × In x xs × In y (f x)
