@@ -1,6 +1,6 @@
 -- A right side as straight-line code: each step makes one value more of those in the slots before it.
 use Rattle.std.specs.Prelude.{◌≡◌, ◌+◌, ◌-◌, ◌*◌, ◌/◌, ◌%◌, ◌^◌, ◌<◌, ℕ, suc, ℤ, List, [], ◌∷◌, ◌++◌, length, map, ⊤}
-use Rattle.std.specs.Prelude.{Bool, false, drop, if◌then◌else◌, slice_index_or}
+use Rattle.std.specs.Prelude.{Bool, drop, if◌then◌else◌, slice_index_or}
 use Rattle.whole_numbers.specs.Affine.{value_of}
 use Rattle.scop_syntax.specs.Cells.{reads}
 use Rattle.scop_syntax.specs.Reductions.{added_by}
@@ -75,7 +75,3 @@ pub record Gives (adds : Bool) (params : List ℤ) (heads : List Head) (own : Ri
   pub reads : (place : Access) → code.reads ≡ length (loaded adds (record { place = place; right = own }))
   pub value : (turns : List ℤ) (values : List ℕ) → length turns ≡ length heads → length values ≡ code.reads
       → value_by code turns values ≡ given_by adds own (point_in heads params turns) values
-
--- the same of a right side that stores: the code takes what it reads, and makes what it stores
-abbrev pub Stores : List ℤ → List Head → Right → Code → Type 0
-Stores params heads own code = Gives false params heads own code

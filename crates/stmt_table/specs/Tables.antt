@@ -40,10 +40,6 @@ pub record IsRow (adds : Bool) (extents : List (List ℕ)) (params : List ℤ) (
 abbrev pub IsRowBy : List ℕ → List (List ℕ) → List ℤ → Standing → Row → Type 0
 IsRowBy marked extents params s row = IsRow (is_marked marked s.body.place.array) extents params s row
 
--- where no array is marked
-abbrev pub IsRowOf : List (List ℕ) → List ℤ → Standing → Row → Type 0
-IsRowOf = IsRowBy []
-
 -- the table has the row of each of a program's statements
 pub record IsTableBy (marked : List ℕ) (program : Program) (params : List ℤ) (table : Table) : Type 0 where
   pub count : length table.rows.items ≡ length (standings_of program)
