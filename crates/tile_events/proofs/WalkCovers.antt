@@ -22,9 +22,6 @@ use Rattle.tile_events.specs.Covers.{AreFree, Meet, Covers}
 module _ (es contents : List (List ℕ)) (visits : List Visit) (p : Plan)
     (apart : (c d : Cell) → IsCell es c → IsCell es d → cell_number es c ≡ cell_number es d → c ≡ d)
     (walk : IsWalk es contents [] visits p) (inside : AreInside es visits) (count : p.places ≡ length visits) where
-  number : Cell → ℕ
-  number c = cell_number es c
-
   at_place : (j : ℕ) (v : Visit) → slice_get visits j ≡ Some v → p.written j ≡ cell_number es (written v)
   at_place j v found = walk.written j ∙ ap (written_by es) found
 
