@@ -49,6 +49,29 @@ distance-value m d r params bound x y lb hs ht ls lt h =
     ap (λ k. dot k.coefficients y.turns +ℤ k.shift) pt in
     omega (arith, ints)
 
+-- a dependence with other constraints
+abbrev limited : Dependence → List Affine → List Affine → Dependence
+limited d es rs = record d { system = record d.system { equalities = es; rows = rs } }
+
+-- a pair of a dependence is one of it with other constraints where it meets those
+meets : (d : Dependence) (es rs fs ss : List Affine) (params : List ℤ) (x y : Instance)
+    → (h : Relates params (limited d es rs) x y) → All (λ f. value_of f (point_of params h.bound x y) ≡ pos 0) fs
+    → All (λ f. pos 0 ≤ℤ value_of f (point_of params h.bound x y)) ss → Relates params (limited d fs ss) x y
+meets d es rs fs ss params x y h zero least = record {
+  range = h.range;
+  source = h.source;
+  target = h.target;
+  source_size = h.source_size;
+  target_size = h.target_size;
+  source_from_0 = h.source_from_0;
+  target_from_0 = h.target_from_0;
+  bound = h.bound;
+  bound_size = h.bound_size;
+  bound_from_0 = h.bound_from_0;
+  equalities = zero;
+  rows = least;
+}
+
 -- the pairs of a dependence that is restricted to equal values are its pairs with equal values
 pub equal_to : (m : ℕ) (d : Dependence) (r : Row) (params : List ℤ) (x y : Instance) → Suits d r
     → Relates params (equal_at m r d) x y → Relates params d x y × (phi r x ≡ phi r y)
@@ -58,20 +81,9 @@ equal_to m d r params x y s h =
     let e = All-head Zero (distance (binds_in d) m (unknowns_of d r)) []
     (all_back Zero d.system.equalities (distance (binds_in d) m (unknowns_of d r) ∷ []) all) in
     let v = distance-value m d r params h.bound x y h.bound_size h.source h.target h.source_size h.target_size s in (
-      record {
-        range = h.range;
-        source = h.source;
-        target = h.target;
-        source_size = h.source_size;
-        target_size = h.target_size;
-        source_from_0 = h.source_from_0;
-        target_from_0 = h.target_from_0;
-        bound = h.bound;
-        bound_size = h.bound_size;
-        bound_from_0 = h.bound_from_0;
-        equalities = all_front Zero d.system.equalities (distance (binds_in d) m (unknowns_of d r) ∷ []) all;
-        rows = h.rows;
-      },
+      meets d (d.system.equalities ++ distance (binds_in d) m (unknowns_of d r) ∷ []) d.system.rows d.system.equalities
+          d.system.rows params x y h
+          (all_front Zero d.system.equalities (distance (binds_in d) m (unknowns_of d r) ∷ []) all) h.rows,
       omega (arith, ints),
     )
 
@@ -80,21 +92,9 @@ pub equal_from : (m : ℕ) (d : Dependence) (r : Row) (params : List ℤ) (x y :
 equal_from m d r params x y s h e =
     let Zero = λ (f : Affine). value_of f (point_of params h.bound x y) ≡ pos 0 in
     let v = distance-value m d r params h.bound x y h.bound_size h.source h.target h.source_size h.target_size s in
-    record {
-      range = h.range;
-      source = h.source;
-      target = h.target;
-      source_size = h.source_size;
-      target_size = h.target_size;
-      source_from_0 = h.source_from_0;
-      target_from_0 = h.target_from_0;
-      bound = h.bound;
-      bound_size = h.bound_size;
-      bound_from_0 = h.bound_from_0;
-      equalities = All-push Zero d.system.equalities (distance (binds_in d) m (unknowns_of d r)) h.equalities
-          (omega (arith, ints));
-      rows = h.rows;
-    }
+    meets d d.system.equalities d.system.rows (d.system.equalities ++ distance (binds_in d) m (unknowns_of d r) ∷ [])
+    d.system.rows params x y h (All-push Zero d.system.equalities (distance (binds_in d) m (unknowns_of d r)) h.equalities
+    (omega (arith, ints))) h.rows
 
 above_value : (c : List ℤ) (k : ℤ) (xs : List ℤ)
     → value_of (form_of c (k +ℤ negsuc 0)) xs ≡ value_of (form_of c k) xs -ℤ pos 1
@@ -108,22 +108,10 @@ above_from m d r params x y s h l =
     let v = distance-value m d r params h.bound x y h.bound_size h.source h.target h.source_size h.target_size s in
     let k = above_value (distance (binds_in d) m (unknowns_of d r)).coefficients
     (distance (binds_in d) m (unknowns_of d r)).constant (point_of params h.bound x y) in
-    record {
-      range = h.range;
-      source = h.source;
-      target = h.target;
-      source_size = h.source_size;
-      target_size = h.target_size;
-      source_from_0 = h.source_from_0;
-      target_from_0 = h.target_from_0;
-      bound = h.bound;
-      bound_size = h.bound_size;
-      bound_from_0 = h.bound_from_0;
-      equalities = h.equalities;
-      rows = All-push Least d.system.rows
-          (form_of (distance (binds_in d) m (unknowns_of d r)).coefficients
-          ((distance (binds_in d) m (unknowns_of d r)).constant +ℤ negsuc 0)) h.rows (omega (arith, ints));
-    }
+    let g = form_of (distance (binds_in d) m (unknowns_of d r)).coefficients
+    ((distance (binds_in d) m (unknowns_of d r)).constant +ℤ negsuc 0) in
+    meets d d.system.equalities d.system.rows d.system.equalities (d.system.rows ++ g ∷ []) params x y h h.equalities
+    (All-push Least d.system.rows g h.rows (omega (arith, ints)))
 
 pub above_to : (m : ℕ) (d : Dependence) (r : Row) (params : List ℤ) (x y : Instance) → Suits d r
     → Relates params (above_at m r d) x y → Relates params d x y × (phi r x <ℤ phi r y)
@@ -135,20 +123,8 @@ above_to m d r params x y s h =
     let v = distance-value m d r params h.bound x y h.bound_size h.source h.target h.source_size h.target_size s in
     let k = above_value (distance (binds_in d) m (unknowns_of d r)).coefficients
     (distance (binds_in d) m (unknowns_of d r)).constant (point_of params h.bound x y) in (
-      record {
-        range = h.range;
-        source = h.source;
-        target = h.target;
-        source_size = h.source_size;
-        target_size = h.target_size;
-        source_from_0 = h.source_from_0;
-        target_from_0 = h.target_from_0;
-        bound = h.bound;
-        bound_size = h.bound_size;
-        bound_from_0 = h.bound_from_0;
-        equalities = h.equalities;
-        rows = all_front Least d.system.rows (g ∷ []) h.rows;
-      },
+      meets d d.system.equalities (d.system.rows ++ g ∷ []) d.system.equalities d.system.rows params x y h h.equalities
+          (all_front Least d.system.rows (g ∷ []) h.rows),
       omega (arith, ints),
     )
 
