@@ -1,11 +1,9 @@
 -- The forms of a leaf's rows as the code puts them together: numbers at their variables, opposites, one number more.
-use Rattle.std.proofs.Common.{◌≡◌, ℕ, zero, suc, ◌+◌, ◌-◌, ◌<◌, ◌≤◌, ℤ, pos, negsuc, List, [], ◌∷◌, ◌++◌, length, take}
+use Rattle.std.proofs.Common.{◌≡◌, ℕ, zero, suc, ◌+◌, ◌-◌, ◌<◌, ℤ, pos, negsuc, List, [], ◌∷◌, ◌++◌, length, take}
 use Rattle.std.proofs.Common.{drop, ap, ap₂, sym, ◌∙◌, refl, arith, get_or, length-append, length-drop, set}
-use Rattle.std.proofs.Common.{add-one, drop-cons}
 use Rattle.std.specs.Prelude.{◌+ℤ◌, ◌-ℤ◌, ◌*ℤ◌, neg_ℤ, true, All}
 use Rattle.std.proofs.lemmas.Int.{ints}
-use Rattle.std.proofs.lemmas.List.{append_assoc, append-nil, length-take-le, get_or-append-add, get_or_append_left, drop_all}
-use Rattle.std.proofs.Math.Seq.{take-length}
+use Rattle.std.proofs.lemmas.List.{length-take-le, get_or-append-add, get_or_append_left}
 use Rattle.std.proofs.lemmas.List.Elements.{All-nil, All-cons, All-head, All-tail}
 use Rattle.whole_numbers.specs.Fits.{fits}
 use Rattle.whole_numbers.specs.Lists.{zeros, multiples, sums}
@@ -15,58 +13,6 @@ use Rattle.whole_numbers.proofs.Lists.{multiples-append, drop-multiples, multipl
 use Rattle.dataflow.specs.LeafRows.{width, placed_numbers, placed, bind_begins, bind_ends, turn_equality}
 use Rattle.dataflow.specs.LeafSteps.{CanPlace, HoldOpposites}
 use Rattle.dataflow.specs.declared.leaf_rows.Layout.{Layout}
-
--- opposites, one by one
-pub opposite_next : (x : ℤ) (xs done next : List ℤ) (i : ℕ) → i < length xs → x ≡ negsuc 0 *ℤ get_or xs i (pos 0)
-    → next ≡ done ++ x ∷ [] → done ++ multiples (negsuc 0) (drop i xs) ≡ multiples (negsuc 0) xs
-    → next ++ multiples (negsuc 0) (drop (i + 1) xs) ≡ multiples (negsuc 0) xs
-opposite_next x xs done next i less x_is next_is so_far =
-    let rest = multiples (negsuc 0) (drop (i + 1) xs) in
-    let here : multiples (negsuc 0) (drop i xs) ≡ (negsuc 0 *ℤ get_or xs i (pos 0)) ∷ rest =
-    rw (add-one, drop-cons xs i (pos 0)) refl in
-    ap (λ ys. ys ++ rest) next_is ∙ append_assoc done (x ∷ []) rest ∙ ap (λ y. done ++ y ∷ rest) x_is
-    ∙ ap (λ ys. done ++ ys) (sym here) ∙ so_far
-
-pub opposite_all : (xs done : List ℤ) (i : ℕ) → length xs ≤ i
-    → done ++ multiples (negsuc 0) (drop i xs) ≡ multiples (negsuc 0) xs → done ≡ multiples (negsuc 0) xs
-opposite_all xs done i past so_far =
-    let all : done ++ multiples (negsuc 0) (drop i xs) ≡ done = rw (drop_all i xs past) (append-nil done) in
-    sym all ∙ so_far
-
--- numbers at their variables, part by part
-six_parts : (a b c d e f : List ℤ)
-    → ((((a ++ b) ++ c) ++ d) ++ e) ++ f ≡ a ++ (b ++ (c ++ (d ++ (e ++ f))))
-six_parts a b c d e f =
-    append_assoc (((a ++ b) ++ c) ++ d) e f
-    ∙ (append_assoc ((a ++ b) ++ c) d (e ++ f)
-    ∙ (append_assoc (a ++ b) c (d ++ (e ++ f)) ∙ append_assoc a b (c ++ (d ++ (e ++ f)))))
-
-pub placed_put : (l : Layout) (cs s0 s1 s2 s3 s4 s5 s6 : List ℤ)
-    → s0 ≡ [] → s1 ≡ s0 ++ zeros l.before
-    → s2 ≡ s1 ++ take ((l.parameters + l.turns) - l.parameters) (drop l.parameters cs)
-    → s3 ≡ s2 ++ zeros l.behind
-    → s4 ≡ s3 ++ take (length cs - (l.parameters + l.turns)) (drop (l.parameters + l.turns) cs)
-    → s5 ≡ s4 ++ zeros (l.binds - (length cs - (l.parameters + l.turns))) → s6 ≡ s5 ++ take l.parameters cs
-    → s6 ≡ placed_numbers l cs
-placed_put l cs s0 s1 s2 s3 s4 s5 s6 h0 h1 h2 h3 h4 h5 h6 =
-    let n = l.parameters + l.turns in
-    let back = drop n cs in
-    let join : List ℤ → List ℤ → List ℤ = λ xs ys. xs ++ ys in
-    let middle : take (n - l.parameters) (drop l.parameters cs) ≡ take l.turns (drop l.parameters cs) =
-    ap (λ (k : ℕ). take k (drop l.parameters cs)) (omega arith) in
-    let size : length back ≡ length cs - n = length-drop n cs in
-    let rest : take (length cs - n) back ≡ back =
-    ap (λ (k : ℕ). take k back) (sym size) ∙ take-length back in
-    let gap : zeros (l.binds - (length cs - n)) ≡ zeros (l.binds - length back) =
-    ap (λ (k : ℕ). zeros (l.binds - k)) (sym size) in
-    let t1 : s1 ≡ zeros l.before = h1 ∙ ap (λ (xs : List ℤ). xs ++ zeros l.before) h0 in
-    let t2 = h2 ∙ ap₂ join t1 middle in
-    let t3 = h3 ∙ ap (λ (xs : List ℤ). xs ++ zeros l.behind) t2 in
-    let t4 = h4 ∙ ap₂ join t3 rest in
-    let t5 = h5 ∙ ap₂ join t4 gap in
-    h6 ∙ (ap (λ (xs : List ℤ). xs ++ take l.parameters cs) t5
-    ∙ six_parts (zeros l.before) (take l.turns (drop l.parameters cs)) (zeros l.behind) back
-    (zeros (l.binds - length back)) (take l.parameters cs))
 
 pub length-placed : (l : Layout) (cs : List ℤ) → CanPlace l cs → length (placed_numbers l cs) ≡ width l
 length-placed l cs can =

@@ -102,26 +102,6 @@ path_ends l start ts i k out past so_far =
     let none : out ++ path_rows l k (turns_held (drop i ts)) ≡ out = rw (drop_all i ts past) (append-nil out) in
     sym none ∙ so_far.rows
 
--- how many binds are passed, of which the first i turns are counted
-pub binds_more : (ts : List Held) (i k b whole : ℕ) (x : Held) → x ≡ get_or ts i x → i < length ts
-    → k + binds_in (turns_held (drop i ts)) ≡ whole → b ≡ binds_in (turn_held x ∷ [])
-    → (k + b) + binds_in (turns_held (drop (i + 1) ts)) ≡ whole
-binds_more ts i k b whole x is h so_far count =
-    let a = ap binds_in (turns_at ts i x is h) in
-    let d = binds-next (turn_held x) (turns_held (drop (i + 1) ts)) in
-    omega (arith, a, d, so_far, count)
-
-pub binds_all : (ts : List Held) (i k whole : ℕ) → length ts ≤ i
-    → k + binds_in (turns_held (drop i ts)) ≡ whole → k ≡ whole
-binds_all ts i k whole past so_far =
-    let none : binds_in (turns_held (drop i ts)) ≡ 0 = rw (drop_all i ts past) refl in
-    omega (arith, none, so_far)
-
-pub one_bind : (t : Turn) → binds_in (t ∷ []) ≤ 1
-one_bind (up f) = omega arith
-one_bind (down f) = omega arith
-one_bind (bound f d) = omega arith
-
 -- what all turns have, one of them has
 pub turn_has : (P : Turn → Type 0) (ts : List Held) (i : ℕ) (x : Held) → All P (turns_held ts) → x ≡ get_or ts i x
     → i < length ts → P (turn_held x)
