@@ -8,6 +8,7 @@ pub mod Conditions
 pub mod Source
 pub mod Spot
 pub mod SpotView
+pub mod Passed
 pub mod Examples
 pub mod View
 pub mod Tiling
