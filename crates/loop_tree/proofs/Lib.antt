@@ -17,6 +17,7 @@ pub mod Placings
 pub mod Chains
 pub mod Weights
 pub mod WalkSteps
+pub mod Runs
 pub mod VisitPlaces
 pub mod LargerBounds
 pub mod Stretches

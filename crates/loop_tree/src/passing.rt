@@ -70,7 +70,7 @@ fn steps_within(forms: &[Aff], outer: &Outer) -> [i64; MAX_LOOPS]
 
 /// How far it is from a number up to another; None where it is not up, or a word has no room for it.
 #[inline]
-fn way_up(from: i128, to: i128) -> Option<u64>
+pub(crate) fn way_up(from: i128, to: i128) -> Option<u64>
     ensures { IfSome result (λ n. pos n ≡ to -ℤ from) }
 {
     if to <= from {
@@ -108,7 +108,7 @@ fn is_leaf(node: &Node) -> bool
 
 /// The leaf that nodes are, where they are one alone.
 #[inline]
-fn leaf_alone(nodes: &[Node]) -> Option<&Leaf>
+pub(crate) fn leaf_alone(nodes: &[Node]) -> Option<&Leaf>
     ensures { IfSome result (λ leaf. nodes_of nodes.now
         ≡ more (leaf_in leaf.now.statement leaf.now.turns.items) none) }
 {

@@ -1,18 +1,23 @@
 //! The walk over a tree: it shows a visitor each instance, in turn, and takes no memory.
-ghost use Rattle.std.specs.Prelude.{◌≡◌, ◌≤◌, ◌≤ℤ◌, ◌++◌, ◌∷◌, [], All, FitsSigned, List, length, map, ℤ};
+ghost use Rattle.std.specs.Prelude.{◌≡◌, ◌≤◌, ◌≤ℤ◌, ◌++◌, ◌∷◌, [], All, FitsSigned, IfSome, List, false};
+ghost use Rattle.std.specs.Prelude.{◌+◌, ◌-ℤ◌, length, map, pos, true, ℕ, ℤ};
 ghost use Rattle.std.specs.Int.{w64};
 ghost use Rattle.scop_syntax.specs.View.{instance_of};
 ghost use Rattle.scop_syntax.specs.Walk.{Instance as PlainInstance};
 ghost use Rattle.whole_numbers.specs.Affine.{value_of, values_of};
 ghost use Rattle.loop_tree.specs.steps.Chain.{values_at, values_in};
+ghost use Rattle.loop_tree.specs.steps.Passing.{IsOf};
 ghost use Rattle.loop_tree.specs.Conditions.{CanWalk, IsHeld};
 ghost use Rattle.loop_tree.specs.Fits.{FormFits, FormsFit};
-ghost use Rattle.loop_tree.specs.Tree.{loop as loops, more, none};
+ghost use Rattle.loop_tree.specs.Passed.{AreRun};
+ghost use Rattle.loop_tree.specs.Tree.{instance as leaf_in, loop as loops, more, none};
 ghost use Rattle.loop_tree.specs.View.{bounds_in, nodes_of, tree_of, trees_in};
 ghost use Rattle.loop_tree.specs.Walk.{between, given, visits, walk, walk_all};
 
 use crate::outer::{MOST_IN_ROW, Outer, Point, point_in, value_at};
+use crate::passing::{leaf_alone, way_up};
 use crate::ranges::{all_hold, range_at};
+use crate::tally::Passed;
 use crate::tree::{Leaf, Loop, Node, Tree};
 use crate::visitor::Visitor;
 use arrayvec::ArrayVec;
@@ -61,6 +66,84 @@ pub fn instance_at(leaf: &Leaf, outer: &Outer, params: &[i64]) -> Instance
     Instance::of(leaf.statement, turns.as_slice())
 }
 
+/// The instance of a leaf at a value of the loop within these.
+fn instance_within(leaf: &Leaf, value: i128, outer: &Outer, params: &[i64]) -> Instance
+    requires { CanWalk (more (leaf_in leaf.now.statement leaf.now.turns.items) none) params.now
+        (values_in outer.now ++ value ∷ []) }
+    ensures { IsOf leaf.now.statement leaf.now.turns.items (instance_of result) params.now
+        (values_in outer.now ++ value ∷ []) }
+{
+    let within = Outer::Within(&*outer, value);
+    instance_at(leaf, &within, params)
+}
+
+/// How many values there are from one up to another behind it; None where there is none behind it, or a word has no
+/// room for it.
+#[inline]
+fn values_up(first: i128, last: i128) -> Option<u64>
+    ensures { IfSome result (λ n. (way : ℕ) × (pos way ≡ last -ℤ first) × (way + 1 ≡ n)) }
+{
+    match way_up(first, last) {
+        None => None,
+        Some(way) => way.checked_add(1),
+    }
+}
+
+/// How many instances of a leaf there are at a loop's values, and the last of them; None where the loop has not two
+/// values, or too many to count.
+fn run_up(leaf: &Leaf, first: i128, last: i128, outer: &Outer, params: &[i64]) -> Option<Passed>
+    requires { (x : ℤ) → first ≤ℤ x → x ≤ℤ last
+        → CanWalk (more (leaf_in leaf.now.statement leaf.now.turns.items) none) params.now
+        (values_in outer.now ++ x ∷ []) }
+    ensures { IfSome result (λ run. AreRun (map given (between
+        (λ x. walk_all (more (leaf_in leaf.now.statement leaf.now.turns.items) none) params.now
+        (values_in outer.now ++ x ∷ [])) first last)) run.count (instance_of run.last)) }
+{
+    match values_up(first, last) {
+        None => None,
+        Some(count) => Some(Passed {
+            count,
+            last: instance_within(leaf, last, outer, params),
+        }),
+    }
+}
+
+/// The same of a loop's body, where it is a leaf alone.
+fn run_of(body: &[Node], first: i128, last: i128, outer: &Outer, params: &[i64]) -> Option<Passed>
+    requires { (x : ℤ) → first ≤ℤ x → x ≤ℤ last
+        → CanWalk (nodes_of body.now) params.now (values_in outer.now ++ x ∷ []) }
+    ensures { IfSome result (λ run. AreRun (map given (between
+        (λ x. walk_all (nodes_of body.now) params.now (values_in outer.now ++ x ∷ [])) first last)) run.count
+        (instance_of run.last)) }
+{
+    match leaf_alone(body) {
+        None => None,
+        Some(leaf) => run_up(leaf, first, last, outer, params),
+    }
+}
+
+/// Shows the instances of a loop's body at once, where they are a run and the visitor takes it.
+fn pass_values<V: Visitor>(
+    body: &[Node],
+    first: i128,
+    last: i128,
+    outer: &Outer,
+    params: &[i64],
+    visitor: &mut V,
+) -> bool
+    requires { (x : ℤ) → first ≤ℤ x → x ≤ℤ last
+        → CanWalk (nodes_of body.now) params.now (values_in outer.now ++ x ∷ []) }
+    ensures passed { result ≡ true → (l : List PlainInstance) → V.stands visitor.old l → V.stands visitor.new
+        (l ++ map given (between (λ x. walk_all (nodes_of body.now) params.now (values_in outer.now ++ x ∷ []))
+        first last)) }
+    ensures stays { result ≡ false → (l : List PlainInstance) → V.stands visitor.old l → V.stands visitor.new l }
+{
+    match run_of(body, first, last, outer, params) {
+        None => false,
+        Some(run) => visitor.pass(&run),
+    }
+}
+
 /// Shows the instances of nodes within these loops, in turn.
 #[cycle(walking)]
 fn walk_nodes<V: Visitor>(nodes: &[Node], outer: &Outer, params: &[i64], visitor: &mut V)
@@ -104,9 +187,30 @@ fn walk_loop<V: Visitor>(head: &Loop, body: &[Node], outer: &Outer, params: &[i6
     walk_values(body, range.first, range.last, outer, params, visitor);
 }
 
-/// Shows those of a loop's body, value after value.
+/// Shows those of a loop's body at all values: at once where it can.
 #[cycle(walking)]
 fn walk_values<V: Visitor>(
+    body: &[Node],
+    first: i128,
+    last: i128,
+    outer: &Outer,
+    params: &[i64],
+    visitor: &mut V,
+)
+    requires { (x : ℤ) → first ≤ℤ x → x ≤ℤ last
+        → CanWalk (nodes_of body.now) params.now (values_in outer.now ++ x ∷ []) }
+    ensures { (l : List PlainInstance) → V.stands visitor.old l → V.stands visitor.new
+        (l ++ map given (between (λ x. walk_all (nodes_of body.now) params.now (values_in outer.now ++ x ∷ []))
+        first last)) }
+{
+    if !pass_values(body, first, last, outer, params, visitor) {
+        walk_each(body, first, last, outer, params, visitor);
+    }
+}
+
+/// Shows those of a loop's body, value after value.
+#[cycle(walking)]
+fn walk_each<V: Visitor>(
     body: &[Node],
     first: i128,
     last: i128,

@@ -114,8 +114,8 @@ walk_loop-returns g t c =
     λ l s. subst (λ (is : List Instance). g.V.Visitor.stands c.walk_values.new.visitor (l ++ is)) shown
     (c.walk_values.ensures l s)
 
-pub walk_values-loop-value-preserved : goal.walk_values-loop-value-preserved
-walk_values-loop-value-preserved g t c =
+pub walk_each-loop-value-preserved : goal.walk_each-loop-value-preserved
+walk_each-loop-value-preserved g t c =
     let params = c.args.params.now in
     let outer = values_in c.args.outer.now in
     let body = nodes_of c.args.body.now in
@@ -142,8 +142,8 @@ walk_values-loop-value-preserved g t c =
           (turns_shown body params outer n last) whole) (sym next_is) step,
     )
 
-pub walk_values-returns-then-value-last : goal.walk_values-returns-then-value-last
-walk_values-returns-then-value-last g t c =
+pub walk_each-returns-then-value-last : goal.walk_each-returns-then-value-last
+walk_each-returns-then-value-last g t c =
     let params = c.args.params.now in
     let outer = values_in c.args.outer.now in
     let body = nodes_of c.args.body.now in
@@ -166,8 +166,8 @@ walk_values-returns-then-value-last g t c =
     λ l s. subst (λ (is : List Instance). new (l ++ is))
     (ap₂ (λ (a b : ℤ). turns_shown body params outer a b) first_is last_is) (end l s)
 
-pub walk_values-returns-else-value-last : goal.walk_values-returns-else-value-last
-walk_values-returns-else-value-last g t c =
+pub walk_each-returns-else-value-last : goal.walk_each-returns-else-value-last
+walk_each-returns-else-value-last g t c =
     let params = c.args.params.now in
     let outer = values_in c.args.outer.now in
     let body = nodes_of c.args.body.now in
@@ -300,7 +300,7 @@ walk_turn-walk_nodes-requires g t c κs within =
     let inside = values_at c.args.outer c.args.value v (to_z-of_z w128 c.args.value c.ranges.value) in
     let can : CanWalk body params (values_in (Within c.args.outer v)) =
     subst (λ (os : List ℤ). CanWalk body params os) (sym inside) c.requires in
-    let less : weight_all body + 1 < weight_all body + 3 = omega arith in
+    let less : weight_all body + 1 < weight_all body + 2 = omega arith in
     search rules
 
 pub walk_turn-returns : goal.walk_turn-returns

@@ -20,8 +20,11 @@ decreases-walk_loop g l = weight_all (nodes_of l.body.now) + 5
 abbrev pub decreases-walk_values : goal.decreases-walk_values
 decreases-walk_values g l = weight_all (nodes_of l.body.now) + 4
 
+abbrev pub decreases-walk_each : goal.decreases-walk_each
+decreases-walk_each g l = weight_all (nodes_of l.body.now) + 3
+
 abbrev pub decreases-walk_turn : goal.decreases-walk_turn
-decreases-walk_turn g l = weight_all (nodes_of l.body.now) + 3
+decreases-walk_turn g l = weight_all (nodes_of l.body.now) + 2
 
 abbrev pub invariant-walk_nodes-loop-node : goal.invariant-walk_nodes-loop-node
 invariant-walk_nodes-loop-node g l =
@@ -30,12 +33,12 @@ invariant-walk_nodes-loop-node g l =
     (shown_by (drop l.node-index l.nodes) l.params (values_in l.outer))
     (shown_by l.nodes l.params (values_in l.outer))
 
-abbrev pub invariant-walk_values-loop-value : goal.invariant-walk_values-loop-value
-invariant-walk_values-loop-value g l =
+abbrev pub invariant-walk_each-loop-value : goal.invariant-walk_each-loop-value
+invariant-walk_each-loop-value g l =
     (l.first ≤ℤ l.value)
     × SoFar (g.V.Visitor.stands l.fn.visitor) (g.V.Visitor.stands l.visitor)
     (turns_shown (nodes_of l.body) l.params (values_in l.outer) l.value l.last)
     (turns_shown (nodes_of l.body) l.params (values_in l.outer) l.first l.last)
 
-abbrev pub decreases-walk_values-loop-value : goal.decreases-walk_values-loop-value
-decreases-walk_values-loop-value g l = most_turns (l.last -ℤ l.value)
+abbrev pub decreases-walk_each-loop-value : goal.decreases-walk_each-loop-value
+decreases-walk_each-loop-value g l = most_turns (l.last -ℤ l.value)
