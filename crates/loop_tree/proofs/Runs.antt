@@ -1,5 +1,5 @@
 -- The instances of a loop with one leaf in it and nothing else are a run.
-use Rattle.std.proofs.Common.{◌≡◌, ◌∙◌, ℕ, zero, suc, ◌+◌, ℤ, pos, List, [], ◌∷◌, ◌++◌, map, ap, subst, sym, refl, arith}
+use Rattle.std.proofs.Common.{◌≡◌, ◌∙◌, ℕ, zero, suc, ◌+◌, ℤ, pos, List, [], ◌∷◌, ◌++◌, ap, subst, sym, refl, arith}
 use Rattle.std.proofs.Common.{length, length-append}
 use Rattle.std.specs.Prelude.{◌+ℤ◌, ◌-ℤ◌}
 use Rattle.std.proofs.lemmas.Int.{ints}
@@ -8,7 +8,6 @@ use Rattle.whole_numbers.specs.Affine.{Affine, values_of}
 use Rattle.scop_syntax.specs.Walk.{Instance, most_turns}
 use Rattle.loop_tree.specs.Passed.{AreRun}
 use Rattle.loop_tree.specs.Tree.{instance, more, none}
-use Rattle.loop_tree.specs.Walk.{along, between, given, walk_all}
 use Rattle.loop_tree.specs.steps.Passing.{IsOf, shown_along}
 use Rattle.loop_tree.proofs.WalkSteps.{turns_shown}
 
