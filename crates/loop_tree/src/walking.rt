@@ -1,4 +1,4 @@
-//! The walk over a tree: it shows a visitor each instance, in turn, and takes no memory.
+//! The walk over a tree: it shows a visitor each instance, or a run of them at once, in turn, and takes no memory.
 ghost use Rattle.std.specs.Prelude.{◌≡◌, ◌≤◌, ◌≤ℤ◌, ◌++◌, ◌∷◌, [], All, FitsSigned, IfSome, List, false};
 ghost use Rattle.std.specs.Prelude.{◌+◌, ◌-ℤ◌, length, map, pos, true, ℕ, ℤ};
 ghost use Rattle.std.specs.Int.{w64};

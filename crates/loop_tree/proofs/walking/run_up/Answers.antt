@@ -1,4 +1,4 @@
-use Rattle.std.proofs.Common.{◌∙◌, ap₂, ◌++◌, ◌∷◌, [], ℤ, subst, to_z, of_z}
+use Rattle.std.proofs.Common.{◌∙◌, ap₂, ◌++◌, ◌∷◌, [], ℤ, subst}
 use Rattle.std.specs.Prelude.{◌-ℤ◌}
 use Rattle.std.specs.Int.{w128}
 use Rattle.std.proofs.lemmas.Int.{to_z-of_z}
