@@ -23,3 +23,4 @@ pub mod LargerBounds
 pub mod Stretches
 pub mod Braids
 pub mod SameSpots
+pub mod VisitRests

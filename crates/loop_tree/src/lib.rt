@@ -12,6 +12,7 @@ mod near;
 mod outer;
 mod passing;
 mod ranges;
+mod resting;
 mod source;
 mod source_laws;
 mod spot;

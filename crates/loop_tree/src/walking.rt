@@ -146,7 +146,7 @@ fn pass_values<V: Visitor>(
 
 /// Shows the instances of nodes within these loops, in turn.
 #[cycle(walking)]
-fn walk_nodes<V: Visitor>(nodes: &[Node], outer: &Outer, params: &[i64], visitor: &mut V)
+pub(crate) fn walk_nodes<V: Visitor>(nodes: &[Node], outer: &Outer, params: &[i64], visitor: &mut V)
     requires { CanWalk (nodes_of nodes.now) params.now (values_in outer.now) }
     ensures { (l : List PlainInstance) → V.stands visitor.old l → V.stands visitor.new
         (l ++ map given (walk_all (nodes_of nodes.now) params.now (values_in outer.now))) }
@@ -158,7 +158,7 @@ fn walk_nodes<V: Visitor>(nodes: &[Node], outer: &Outer, params: &[i64], visitor
 
 /// Shows those of a node.
 #[cycle(walking)]
-fn walk_node<V: Visitor>(node: &Node, outer: &Outer, params: &[i64], visitor: &mut V)
+pub(crate) fn walk_node<V: Visitor>(node: &Node, outer: &Outer, params: &[i64], visitor: &mut V)
     requires { CanWalk (more (tree_of node.now) none) params.now (values_in outer.now) }
     ensures { (l : List PlainInstance) → V.stands visitor.old l → V.stands visitor.new
         (l ++ map given (walk (tree_of node.now) params.now (values_in outer.now))) }
@@ -189,7 +189,7 @@ fn walk_loop<V: Visitor>(head: &Loop, body: &[Node], outer: &Outer, params: &[i6
 
 /// Shows those of a loop's body at all values: at once where it can.
 #[cycle(walking)]
-fn walk_values<V: Visitor>(
+pub(crate) fn walk_values<V: Visitor>(
     body: &[Node],
     first: i128,
     last: i128,
