@@ -8,6 +8,7 @@ mod braid;
 mod ending;
 mod examples;
 mod guards;
+mod leaving;
 mod near;
 mod outer;
 mod passing;

@@ -17,7 +17,7 @@ pub struct Near<'a> {
 
 /// The body of the loop at a mark, where that was begun and is at no value behind its last.
 #[inline]
-fn body_at<'a>(nodes: &'a [Node], mark: &Mark) -> Option<&'a [Node]>
+pub(crate) fn body_at<'a>(nodes: &'a [Node], mark: &Mark) -> Option<&'a [Node]>
     ensures { IfSome result (λ body. Within (nodes_of nodes.now) (mark_of mark.now) mark.now.value (nodes_of body.now)) }
 {
     if !mark.begun || nodes.len() <= mark.place {
