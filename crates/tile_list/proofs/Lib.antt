@@ -8,6 +8,7 @@ pub mod Waves
 pub mod TakenInstances
 pub mod Offset
 pub mod WholeLists
+pub mod LeftLoops
 pub mod RisingTiles
 pub mod UniqueTiles
 pub mod Numbers

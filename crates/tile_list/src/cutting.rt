@@ -1,8 +1,10 @@
 //! One walk over a tree's visits, which begins a tile where wave or tile are others than before.
-ghost use Rattle.std.specs.Prelude.{◌≡◌, ◌+◌, ◌*◌, ◌<◌, ◌++◌, ◌∷◌, [], All, IfOk, OnOk, false};
+ghost use Rattle.std.specs.Prelude.{◌≡◌, ◌+◌, ◌*◌, ◌<◌, ◌++◌, ◌∷◌, [], All, IfOk, IfSome, OnOk, false, length};
 ghost use Rattle.scop_syntax.specs.View.{instance_of};
 ghost use Rattle.loop_tree.specs.Braids.{IsBraid, left_of_braid};
 ghost use Rattle.loop_tree.specs.Conditions.{CanWalk, IsHeld};
+ghost use Rattle.loop_tree.specs.Passed.{HasLeft};
+ghost use Rattle.loop_tree.specs.Spot.{deep_all};
 ghost use Rattle.loop_tree.specs.SpotView.{IsSpotOf, to_come};
 ghost use Rattle.loop_tree.specs.Stretches.{left_of};
 ghost use Rattle.loop_tree.specs.TilingView.{tiling_of};
@@ -13,12 +15,12 @@ ghost use Rattle.tile_list.specs.TilesView.{IsTileListOf};
 ghost use Rattle.tile_list.specs.steps.Cutting.{Begins, HasBegun, HasGrown, IsCutTo, IsListed};
 ghost use Rattle.tile_list.specs.steps.Cutting.{IsNewTile, IsWaveOf, Takes};
 ghost use Rattle.tile_list.specs.steps.Keys.{IsKeyOf};
-ghost use Rattle.tile_list.specs.steps.Stretching.{AllFit, AllRowsFit, HasRounds, Passes};
+ghost use Rattle.tile_list.specs.steps.Stretching.{AllFit, AllRowsFit, GoesOn, HasRounds, Passes};
 
 use crate::keys::Key;
 use crate::list::{Tile, TileList};
 use crate::offsets::offsets_of;
-use loop_tree::{Braid, Spot, Stretch, Tiling, Tree};
+use loop_tree::{Braid, Passed, Spot, Stretch, Tiling, Tree};
 use scop_syntax::instance::Instance;
 use std::alloc::{AllocError, Global};
 use std::mem;
@@ -30,6 +32,14 @@ struct Cut {
     current: Tile,
     key: Key,
     next: Key,
+}
+
+/// A spot that leaves loops ahead of the walk, and how many loops deep it stands where it does so: a guess, which rises
+/// until what is left there lies in one tile.
+#[derive(Drop)]
+struct Scout {
+    spot: Spot,
+    level: usize,
 }
 
 /// So many more, where a word has room for it.
@@ -92,6 +102,39 @@ fn tile_at(alloc: Global, first: Instance, spot: &Spot, wave: usize) -> Result<T
         wave,
         size: 1,
     })
+}
+
+impl Scout {
+    /// At the place of a spot, in front of all loops.
+    fn of(alloc: Global, spot: &Spot) -> Result<Scout, AllocError>
+        ensures { IfOk result (λ s. length s.spot.marks.items ≡ length spot.now.marks.items) }
+    {
+        let spot = spot.copy(alloc)?;
+        Ok(Scout { spot, level: 0 })
+    }
+
+    /// Leaves loops from the place of a spot on. It tells how many instances it passed by, and the last of them; None
+    /// where it did not go on.
+    fn leave(&mut self, tree: &Tree, params: &[i64], spot: &Spot) -> Option<Passed>
+        requires walk { CanWalk (trees_in tree.now) params.now [] }
+        requires spot { IsSpotOf (trees_in tree.now) params.now spot.now }
+        requires spent { left_of spot.now.stretch ++ left_of_braid spot.now.braid ≡ [] }
+        requires room { length self.old.spot.marks.items ≡ deep_all (trees_in tree.now) }
+        ensures left { IfSome result (λ p. HasLeft (to_come (trees_in tree.now) params.now spot.now) p.count
+            (instance_of p.last) (to_come (trees_in tree.now) params.now self.new.spot)) }
+        ensures spot { IfSome result (λ _. IsSpotOf (trees_in tree.now) params.now self.new.spot) }
+        ensures room { length self.new.spot.marks.items ≡ deep_all (trees_in tree.now) }
+    {
+        self.spot.set(spot);
+        self.spot.leave(tree, params, self.level)
+    }
+
+    /// What was left lies in several tiles: next time it stands one loop further in.
+    fn deepen(&mut self)
+        ensures { self.new.spot ≡ self.old.spot }
+    {
+        self.level = self.level.saturating_add(1);
+    }
 }
 
 impl Cut {
@@ -235,6 +278,42 @@ impl Cut {
         }
     }
 
+    /// Takes what is left of the loops that it stands in, where nothing is left of the stretch and the braid, and where
+    /// the last of it lies in the current tile: then all of it does, since visits rise by tile.
+    fn leave_loops(
+        &mut self,
+        tree: &Tree,
+        tiling: &Tiling,
+        params: &[i64],
+        spot: &mut Spot,
+        scout: &mut Scout,
+    ) -> Result<(), AllocError>
+        requires walk { CanWalk (trees_in tree.now) params.now [] }
+        requires rise { RiseByTile (tiling_of tiling.now) (visits (trees_in tree.now) params.now) }
+        requires fits { CanTile (tiling_of tiling.now) (visits (trees_in tree.now) params.now) }
+        requires spot { IsSpotOf (trees_in tree.now) params.now spot.old }
+        requires cut { IsCutTo (trees_in tree.now) params.now (tiling_of tiling.now)
+            (to_come (trees_in tree.now) params.now spot.old) self.old }
+        requires room { length scout.old.spot.marks.items ≡ deep_all (trees_in tree.now) }
+        ensures goes { OnOk result (GoesOn (trees_in tree.now) params.now (tiling_of tiling.now) spot.old spot.new
+            self.new) }
+        ensures room { length scout.new.spot.marks.items ≡ deep_all (trees_in tree.now) }
+    {
+        if has_left(&spot.stretch, &spot.braid) {
+            return Ok(());
+        }
+        let Some(passed) = scout.leave(tree, params, spot) else {
+            return Ok(());
+        };
+        if !self.key.is_of(tiling, &passed.last) {
+            scout.deepen();
+            return Ok(());
+        }
+        self.grow(passed.count as usize)?;
+        spot.set(&scout.spot);
+        Ok(())
+    }
+
     /// All tiles.
     fn end(self) -> Result<Vec<Tile>, AllocError>
         ensures { IfOk result (λ v. v.items ≡ self.tiles.items ++ self.current ∷ []) }
@@ -262,12 +341,15 @@ fn cut_rest(
         ≡ instance_of first ∷ to_come (trees_in tree.now) params.now spot.old }
     ensures { IfOk result (IsCutTo (trees_in tree.now) params.now (tiling_of tiling.now) []) }
 {
+    let mut scout = Scout::of(alloc, spot)?;
     let mut cut = Cut::of(alloc, tiling, first, spot)?;
     cut.take_rest(tiling, &first, false, spot)?;
+    cut.leave_loops(tree, tiling, params, spot, &mut scout)?;
     let mut asked = has_left(&spot.stretch, &spot.braid);
     while let Some(instance) = spot.next(tree, params) {
         cut.take(alloc, tiling, instance, spot)?;
         cut.take_rest(tiling, &instance, asked, spot)?;
+        cut.leave_loops(tree, tiling, params, spot, &mut scout)?;
         asked = has_left(&spot.stretch, &spot.braid);
     }
     Ok(cut)

@@ -48,3 +48,9 @@ pub record Passes (tiling : Tiling) (passed spot : Spot) (old new : Cut) : Type 
   pub fewer : (ts : Trees) (params : List ℤ) → length (to_come ts params spot) ≤ length (to_come ts params passed)
   pub cut : (ts : Trees) (params : List ℤ) → IsCutTo ts params tiling (to_come ts params passed) old
       → IsCutTo ts params tiling (to_come ts params spot) new
+
+-- the spot has gone on in these trees, and what it passed is in the tiles
+pub record GoesOn (ts : Trees) (params : List ℤ) (tiling : Tiling) (passed spot : Spot) (cut : Cut) : Type 0 where
+  pub spot_is : IsSpotOf ts params spot
+  pub fewer : length (to_come ts params spot) ≤ length (to_come ts params passed)
+  pub cut_is : IsCutTo ts params tiling (to_come ts params spot) cut

@@ -1,3 +1,4 @@
+use Rattle.std.proofs.Common.{◌∙◌}
 use Rattle.scop_syntax.specs.View.{instance_of}
 use Rattle.loop_tree.specs.SpotView.{to_come}
 use Rattle.loop_tree.specs.TilingView.{tiling_of}
@@ -12,15 +13,19 @@ take_rest-requires-clause-fits c =
     left_fits ts params (tiling_of c.args.tiling.now) c.args.spot.now c.in_ok-cut.cut c.requires.fits
     (c.in_ok-cut.ensures.cut_is ts params c.requires.spot c.requires.first)
 
-pub loop-instance-init : goal.loop-instance-init
-loop-instance-init c =
+pub leave_loops-requires-clause-spot : goal.leave_loops-requires-clause-spot
+leave_loops-requires-clause-spot c =
+    c.in_ok-take_rest.ensures.spots (trees_in c.args.tree.now) c.args.params.now c.requires.spot
+
+pub leave_loops-requires-clause-cut : goal.leave_loops-requires-clause-cut
+leave_loops-requires-clause-cut c =
     let ts = trees_in c.args.tree.now in
     let params = c.args.params.now in
-    record {
-      spot = c.in_ok-take_rest.ensures.spots ts params c.requires.spot;
-      cut = c.in_ok-take_rest.ensures.cut ts params
-          (c.in_ok-cut.ensures.cut_is ts params c.requires.spot c.requires.first);
-    }
+    c.in_ok-take_rest.ensures.cut ts params
+    (c.in_ok-cut.ensures.cut_is ts params c.requires.spot c.requires.first)
+
+pub leave_loops-requires-clause-room : goal.leave_loops-requires-clause-room
+leave_loops-requires-clause-room c = c.in_ok-scout.ensures ∙ c.requires.spot.room
 
 pub take-requires-clause-fits : goal.take-requires-clause-fits
 take-requires-clause-fits c =
@@ -41,15 +46,32 @@ take_rest-requires-in-Some-clause-fits c =
     c.next.new.self c.loop-instance.cut c.take.new.self c.in-Some.ensures.rest c.requires.rise c.in-Some.ensures.spot
     c.in_ok-take.ensures c.loop-instance.invariant.cut)
 
-pub loop-instance-preserved : goal.loop-instance-preserved
-loop-instance-preserved c =
+pub leave_loops-requires-in-Some-clause-spot : goal.leave_loops-requires-in-Some-clause-spot
+leave_loops-requires-in-Some-clause-spot c =
+    c.in_ok-take_rest-2.ensures.spots (trees_in c.args.tree.now) c.args.params.now c.in-Some.ensures.spot
+
+pub leave_loops-requires-in-Some-clause-cut : goal.leave_loops-requires-in-Some-clause-cut
+leave_loops-requires-in-Some-clause-cut c =
     let ts = trees_in c.args.tree.now in
     let params = c.args.params.now in
+    c.in_ok-take_rest-2.ensures.cut ts params
+    (taken_next ts params (tiling_of c.args.tiling.now) (instance_of c.in-Some.instance)
+    (to_come ts params c.loop-instance.spot) c.next.new.self c.loop-instance.cut c.take.new.self
+    c.in-Some.ensures.rest c.requires.rise c.in-Some.ensures.spot c.in_ok-take.ensures
+    c.loop-instance.invariant.cut)
+
+pub loop-instance-init : goal.loop-instance-init
+loop-instance-init c =
     record {
-      spot = c.in_ok-take_rest-2.ensures.spots ts params c.in-Some.ensures.spot;
-      cut = c.in_ok-take_rest-2.ensures.cut ts params
-          (taken_next ts params (tiling_of c.args.tiling.now) (instance_of c.in-Some.instance)
-          (to_come ts params c.loop-instance.spot) c.next.new.self c.loop-instance.cut c.take.new.self
-          c.in-Some.ensures.rest c.requires.rise c.in-Some.ensures.spot c.in_ok-take.ensures
-          c.loop-instance.invariant.cut);
+      spot = c.in_ok-leave_loops.ensures.goes.spot_is;
+      cut = c.in_ok-leave_loops.ensures.goes.cut_is;
+      room = c.in_ok-leave_loops.ensures.room;
+    }
+
+pub loop-instance-preserved : goal.loop-instance-preserved
+loop-instance-preserved c =
+    record {
+      spot = c.in_ok-leave_loops-2.ensures.goes.spot_is;
+      cut = c.in_ok-leave_loops-2.ensures.goes.cut_is;
+      room = c.in_ok-leave_loops-2.ensures.room;
     }
