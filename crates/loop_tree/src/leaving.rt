@@ -3,7 +3,6 @@
 ghost use Rattle.std.specs.Prelude.{◌≡◌, ◌≤◌, ◌++◌, [], IfSome, List, length, take, ℤ};
 ghost use Rattle.scop_syntax.specs.View.{instance_of};
 ghost use Rattle.scop_syntax.specs.Walk.{Instance as PlainInstance};
-ghost use Rattle.loop_tree.specs.steps.Chain.{values_in};
 ghost use Rattle.loop_tree.specs.steps.Going.{CanGo, Leads};
 ghost use Rattle.loop_tree.specs.Braids.{left_of_braid};
 ghost use Rattle.loop_tree.specs.Conditions.{CanWalk};
@@ -15,6 +14,7 @@ ghost use Rattle.loop_tree.specs.View.{nodes_of, trees_in};
 
 use crate::near::{Near, body_at};
 use crate::outer::{MOST_IN_ROW, Outer};
+use crate::resting::rest_nodes;
 use crate::spot::{Mark, Spot};
 use crate::tally::{Passed, Tally};
 use crate::tree::{Node, Tree};
@@ -43,16 +43,6 @@ fn within_of<'a>(nodes: &'a [Node], marks: &[Mark], row: &mut [i128], level: usi
         depth += 1;
     }
     Near { nodes: at, depth }
-}
-
-/// Adds what is still to come of nodes to a tally.
-fn rest_tally(nodes: &[Node], marks: &[Mark], outer: &Outer, params: &[i64], tally: &mut Tally)
-    requires walk { CanWalk (nodes_of nodes.now) params.now (values_in outer.now) }
-    requires at { IsAt (nodes_of nodes.now) (marks_of marks.now) params.now (values_in outer.now) }
-    ensures { (l : List PlainInstance) → StandsFor tally.old l → StandsFor tally.new
-        (l ++ rest_of (nodes_of nodes.now) (marks_of marks.now) params.now (values_in outer.now)) }
-{
-    *tally = Tally::Lost;
 }
 
 /// Stands behind all nodes.
@@ -94,7 +84,7 @@ fn leave_nodes(nodes: &[Node], marks: &mut [Mark], params: &[i64], level: usize)
     let (_, inner) = marks.split_at_mut(at.depth);
     let outer = Outer::Row(row.split_at(at.depth).0);
     let mut tally = Tally::Nothing;
-    rest_tally(at.nodes, inner, &outer, params, &mut tally);
+    rest_nodes(at.nodes, inner, &outer, params, &mut tally);
     pass_all(at.nodes, inner);
     passed_in(tally)
 }

@@ -57,7 +57,7 @@ returns-clause-left c =
     (c.within_of-at.ensures.leads params c.requires) inner.ensures.front inner.ensures.back
     (values_row outer.result.0 ∙ outer.ensures.front)
     c.pass_all.ensures.room c.pass_all.ensures.rest c.pass_all.ensures.stands in
-    IfSome_then c.passed_in.result (c.passed_in.ensures found (c.rest_tally.ensures [] refl))
+    IfSome_then c.passed_in.result (c.passed_in.ensures found (c.rest_nodes.ensures [] refl))
     (λ p run. record { part = found; run = run; split = gone.rest })
 
 pub returns-clause-stands : goal.returns-clause-stands
