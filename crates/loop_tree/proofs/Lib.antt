@@ -24,3 +24,4 @@ pub mod Stretches
 pub mod Braids
 pub mod SameSpots
 pub mod VisitRests
+pub mod LeavingMarks

@@ -1,61 +1,94 @@
--- The instances of a loop with one leaf in it and nothing else are a run.
-use Rattle.std.proofs.Common.{◌≡◌, ◌∙◌, ℕ, zero, suc, ◌+◌, ℤ, pos, List, [], ◌∷◌, ◌++◌, ap, subst, sym, refl, arith}
-use Rattle.std.proofs.Common.{length, length-append}
-use Rattle.std.specs.Prelude.{◌+ℤ◌, ◌-ℤ◌}
+-- What a visitor sees of a loop's values at once: how many instances leaves show there, and whatever is shown.
+use Rattle.std.proofs.Common.{◌≡◌, ◌∙◌, ℕ, zero, suc, ◌*◌, ℤ, pos, negsuc, List, [], ◌∷◌, ◌++◌, ap, sym, refl}
+use Rattle.std.proofs.Common.{arith, length, length-append, map}
+use Rattle.std.specs.Prelude.{◌+ℤ◌, ◌-ℤ◌, ◌≤ℤ◌}
 use Rattle.std.proofs.lemmas.Int.{ints}
-use Rattle.std.proofs.lemmas.List.{append_assoc}
-use Rattle.whole_numbers.specs.Affine.{Affine, values_of}
-use Rattle.scop_syntax.specs.Walk.{Instance, most_turns}
-use Rattle.loop_tree.specs.Passed.{AreRun}
-use Rattle.loop_tree.specs.Tree.{instance, more, none}
-use Rattle.loop_tree.specs.steps.Passing.{IsOf, shown_along}
-use Rattle.loop_tree.proofs.WalkSteps.{turns_shown}
+use Rattle.std.proofs.lemmas.List.{append_assoc, map-append}
+use Rattle.scop_syntax.specs.Walk.{Instance}
+use Rattle.loop_tree.specs.Tree.{Trees, guard, instance, loop, more, none}
+use Rattle.loop_tree.specs.View.{nodes_of}
+use Rattle.loop_tree.specs.Walk.{Visit, along, given, walk_all}
+use Rattle.loop_tree.specs.declared.tree.Node.{Node}
+use Rattle.loop_tree.specs.steps.Passing.{AreLeaves, shown_along}
+use Rattle.loop_tree.proofs.WalkSteps.{SoFar, shown_turn, turns_shown}
 
--- the instances of a leaf at so many values
-along_leaf : (n : ℕ) (forms : List Affine) (params outer : List ℤ) (k : ℕ) (x last : ℤ) → x +ℤ pos k ≡ last
-    → AreRun (shown_along (more (instance n forms) none) params outer x (suc k)) (suc k)
-    (record { number = n; turns = values_of forms ((outer ++ last ∷ []) ++ params) })
-along_leaf n forms params outer zero x last e =
-    let same : x ≡ last = omega (arith, ints) in
-    record {
-      front = [];
-      all = ap (λ (y : ℤ). record { number = n; turns = values_of forms ((outer ++ y ∷ []) ++ params) } ∷ []) same;
-      size = refl;
-    }
-along_leaf n forms params outer (suc k) x last e =
-    let r = along_leaf n forms params outer k (x +ℤ pos 1) last (omega (arith, ints)) in
-    let i : Instance = record { number = n; turns = values_of forms ((outer ++ x ∷ []) ++ params) } in
-    let size = r.size in
-    record {
-      front = i ∷ r.front;
-      all = ap (λ (is : List Instance). i ∷ is) r.all;
-      size = omega arith;
-    }
+-- how many trees there are
+abbrev count_of : Trees → ℕ
+count_of none = 0
+count_of (more t ts) = suc (count_of ts)
 
--- those of all values, from the first to the last
-pub leaf_run : (n : ℕ) (forms : List Affine) (params outer : List ℤ) (first last : ℤ) (way count : ℕ) (i : Instance)
-    → pos way ≡ last -ℤ first → way + 1 ≡ count → IsOf n forms i params (outer ++ last ∷ [])
-    → AreRun (turns_shown (more (instance n forms) none) params outer first last) count i
-leaf_run n forms params outer first last way count i far size is =
-    let ts = more (instance n forms) none in
-    let run = along_leaf n forms params outer way first last (omega (arith, ints)) in
-    let counted : suc way ≡ count = omega arith in
-    let run_at : AreRun (shown_along ts params outer first (suc way)) count i =
-    subst (λ (j : Instance). AreRun (shown_along ts params outer first (suc way)) count j) (sym is)
-    (subst (λ (c : ℕ). AreRun (shown_along ts params outer first (suc way)) c
-    (record { number = n; turns = values_of forms ((outer ++ last ∷ []) ++ params) })) counted run) in
-    subst (λ (z : ℤ). AreRun (shown_along ts params outer first (most_turns z)) count i) far run_at
+count_nodes : (nodes : List Node) → count_of (nodes_of nodes) ≡ length nodes
+count_nodes [] = refl
+count_nodes (n ∷ ns) = ap suc (count_nodes ns)
 
--- a run behind another
-pub runs_joined : (xs ys : List Instance) (m n k : ℕ) (x y : Instance) → m + n ≡ k → AreRun xs m x → AreRun ys n y
-    → AreRun (xs ++ ys) k y
-runs_joined xs ys m n k x y e first second =
-    let many = first.size in
-    let more_of = second.size in
-    let counted = ap length first.all ∙ length-append first.front (x ∷ []) in
-    let whole = length-append xs second.front in
-    record {
-      front = xs ++ second.front;
-      all = ap (λ (is : List Instance). xs ++ is) second.all ∙ sym (append_assoc xs second.front (y ∷ []));
-      size = omega (arith, counted, whole);
-    }
+-- leaves show as many instances as they are
+leaves_show : (ts : Trees) (params outer : List ℤ) → AreLeaves ts
+    → length (map given (walk_all ts params outer)) ≡ count_of ts
+leaves_show none params outer are = refl
+leaves_show (more (loop flag lo up body) ts) params outer are = absurd are
+leaves_show (more (guard tests body) ts) params outer are = absurd are
+leaves_show (more (instance n forms) ts) params outer are = ap suc (leaves_show ts params outer are)
+
+leaves_along : (ts : Trees) (params outer : List ℤ) (x : ℤ) (way : ℕ) → AreLeaves ts
+    → length (shown_along ts params outer x way) ≡ count_of ts * way
+leaves_along ts params outer x zero are = omega arith
+leaves_along ts params outer x (suc way) are =
+    let vs = walk_all ts params (outer ++ x ∷ []) in
+    let us : List Visit = along (λ y. walk_all ts params (outer ++ y ∷ [])) (x +ℤ pos 1) way in
+    let all = ap (λ (is : List Instance). length is) (map-append given vs us) in
+    let both = length-append (map given vs) (map given us) in
+    let here = leaves_show ts params (outer ++ x ∷ []) are in
+    let behind = leaves_along ts params outer (x +ℤ pos 1) way are in
+    omega (arith, all, both, here, behind)
+
+-- what a loop shows at its values in front of the last, and at that
+turns_before : (body : Trees) (params outer : List ℤ) (way : ℕ) (first last : ℤ) → first +ℤ pos way ≡ last
+    → turns_shown body params outer first last
+    ≡ shown_along body params outer first way ++ turns_shown body params outer last last
+turns_before body params outer zero first last e =
+    let same : first ≡ last = omega (arith, ints) in
+    ap (λ (x : ℤ). turns_shown body params outer x last) same
+turns_before body params outer (suc way) first last e =
+    let vs = walk_all body params (outer ++ first ∷ []) in
+    let us : List Visit = along (λ y. walk_all body params (outer ++ y ∷ [])) (first +ℤ pos 1) way in
+    let rest = turns_shown body params outer last last in
+    shown_turn body params outer first last (omega (arith, ints))
+    ∙ (ap (λ (is : List Instance). map given vs ++ is)
+    (turns_before body params outer way (first +ℤ pos 1) last (omega (arith, ints)))
+    ∙ (sym (append_assoc (map given vs) (map given us) rest)
+    ∙ ap (λ (is : List Instance). is ++ rest) (sym (map-append given vs us))))
+
+-- a visitor that took a part of the whole
+part_taken : (T : List Instance → Type 0) (l part rest whole : List Instance) → whole ≡ part ++ rest → T (l ++ part)
+    → (done : List Instance) × (done ++ rest ≡ l ++ whole) × T done
+part_taken T l part rest whole is t =
+    (l ++ part, append_assoc l part rest ∙ ap (λ (xs : List Instance). l ++ xs) (sym is), t)
+
+-- it takes whatever comes, up to the last value
+pub passed_by : (S T : List Instance → Type 0) (body : Trees) (params outer : List ℤ) (first last : ℤ)
+    → first ≤ℤ last → ((l part : List Instance) → S l → T (l ++ part))
+    → SoFar S T (turns_shown body params outer last last) (turns_shown body params outer first last)
+passed_by S T body params outer first last up takes =
+    by_way (last -ℤ first) (omega (arith, ints)) (omega (arith, ints))
+  where
+    by_way : (z : ℤ) → first +ℤ z ≡ last → pos 0 ≤ℤ z
+        → SoFar S T (turns_shown body params outer last last) (turns_shown body params outer first last)
+    by_way (negsuc n) e some = absurd (omega (arith, ints))
+    by_way (pos way) e some = λ l s.
+        let part = shown_along body params outer first way in
+        part_taken T l part (turns_shown body params outer last last) (turns_shown body params outer first last)
+        (turns_before body params outer way first last e) (takes l part s)
+
+-- and so many instances of leaves
+pub skipped : (S T : List Instance → Type 0) (nodes : List Node) (params outer : List ℤ) (first last : ℤ)
+    (way count : ℕ) → AreLeaves (nodes_of nodes) → first +ℤ pos way ≡ last → count ≡ length nodes * way
+    → ((l part : List Instance) → S l → length part ≡ count → T (l ++ part))
+    → SoFar S T (turns_shown (nodes_of nodes) params outer last last)
+    (turns_shown (nodes_of nodes) params outer first last)
+skipped S T nodes params outer first last way count are e size sees = λ l s.
+    let body = nodes_of nodes in
+    let part = shown_along body params outer first way in
+    let many : length part ≡ count =
+    leaves_along body params outer first way are ∙ (ap (λ (k : ℕ). k * way) (count_nodes nodes) ∙ sym size) in
+    part_taken T l part (turns_shown body params outer last last) (turns_shown body params outer first last)
+    (turns_before body params outer way first last e) (sees l part s many)

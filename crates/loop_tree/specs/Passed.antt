@@ -3,7 +3,7 @@ use Rattle.std.specs.Prelude.{◌≡◌, ℕ, ◌+◌, List, [], ◌∷◌, ◌+
 use Rattle.scop_syntax.specs.View.{instance_of}
 use Rattle.scop_syntax.specs.Walk.{Instance}
 use Rattle.loop_tree.specs.declared.tally.Tally.{Tally}
-use Rattle.loop_tree.specs.declared.tally.Tally.TheVariants.{Nothing, Seen, Lost}
+use Rattle.loop_tree.specs.declared.tally.Tally.TheVariants.{Nothing, Unseen, Seen, Lost}
 
 -- so many instances, of which x is the last
 pub record AreRun (xs : List Instance) (count : ℕ) (x : Instance) : Type 0 where
@@ -20,5 +20,6 @@ pub record HasLeft (old : List Instance) (count : ℕ) (x : Instance) (new : Lis
 -- the tally of these instances; of none where they were too many to count
 abbrev pub StandsFor : Tally → List Instance → Type 0
 StandsFor Nothing xs = xs ≡ []
+StandsFor (Unseen count) xs = length xs ≡ count
 StandsFor (Seen p) xs = AreRun xs p.count (instance_of p.last)
 StandsFor Lost xs = ⊤

@@ -1,6 +1,7 @@
 //! Leaves what is still to come within a loop, all at once: it tells how many instances these were, and the last of
-//! them. They are gone through, but none is shown alone, and the marks move once.
+//! them. Before that it can tell the last of them alone, which takes no longer than the tree is deep.
 ghost use Rattle.std.specs.Prelude.{◌≡◌, ◌≤◌, ◌++◌, [], IfSome, List, length, take, ℤ};
+ghost use Rattle.scop_syntax.specs.Members.{In};
 ghost use Rattle.scop_syntax.specs.View.{instance_of};
 ghost use Rattle.scop_syntax.specs.Walk.{Instance as PlainInstance};
 ghost use Rattle.loop_tree.specs.steps.Going.{CanGo, Leads};
@@ -16,8 +17,9 @@ use crate::near::{Near, body_at};
 use crate::outer::{MOST_IN_ROW, Outer};
 use crate::resting::rest_nodes;
 use crate::spot::{Mark, Spot};
-use crate::tally::{Passed, Tally};
+use crate::tally::{Last, Passed, Tally};
 use crate::tree::{Node, Tree};
+use scop_syntax::instance::Instance;
 
 /// The nodes in which the marks stand so many loops deep, or less deep where they do not lead so far through loops
 /// that were begun, with the values of the loops round them in the row.
@@ -66,12 +68,32 @@ fn passed_in(tally: Tally) -> Option<Passed>
 {
     match tally {
         Tally::Nothing => None,
+        Tally::Unseen(_) => None,
         Tally::Seen(passed) => Some(passed),
         Tally::Lost => None,
     }
 }
 
-/// Leaves what is still to come of the nodes in which the marks stand so many loops deep.
+/// The last instance still to come of the nodes in which the marks stand so many loops deep; None where they do not
+/// lead so far, where there is none, or where it was not looked for.
+fn last_nodes(nodes: &[Node], marks: &[Mark], params: &[i64], level: usize) -> Option<Instance>
+    requires { CanGo (nodes_of nodes.now) (marks_of marks.now) params.now [] }
+    ensures { IfSome result (λ i. In (instance_of i) (rest_of (nodes_of nodes.now) (marks_of marks.now) params.now [])) }
+{
+    let mut row = [0; MOST_IN_ROW];
+    let at = within_of(nodes, marks, &mut row, level);
+    if at.depth != level {
+        return None;
+    }
+    let inner = marks.split_at(at.depth).1;
+    let outer = Outer::Row(row.split_at(at.depth).0);
+    let mut last = Last { instance: None };
+    rest_nodes(at.nodes, inner, &outer, params, false, &mut last);
+    last.instance
+}
+
+/// Leaves what is still to come of the nodes in which the marks stand so many loops deep; None also where they do not
+/// lead so far.
 fn leave_nodes(nodes: &[Node], marks: &mut [Mark], params: &[i64], level: usize) -> Option<Passed>
     requires { CanGo (nodes_of nodes.now) (marks_of marks.old) params.now [] }
     ensures left { IfSome result (λ p. HasLeft (rest_of (nodes_of nodes.now) (marks_of marks.old) params.now []) p.count
@@ -81,18 +103,31 @@ fn leave_nodes(nodes: &[Node], marks: &mut [Mark], params: &[i64], level: usize)
 {
     let mut row = [0; MOST_IN_ROW];
     let at = within_of(nodes, marks, &mut row, level);
+    if at.depth != level {
+        return None;
+    }
     let (_, inner) = marks.split_at_mut(at.depth);
     let outer = Outer::Row(row.split_at(at.depth).0);
     let mut tally = Tally::Nothing;
-    rest_nodes(at.nodes, inner, &outer, params, &mut tally);
+    rest_nodes(at.nodes, inner, &outer, params, false, &mut tally);
     pass_all(at.nodes, inner);
     passed_in(tally)
 }
 
 impl Spot {
-    /// Leaves all that is still to come of the nodes in which it stands `level` loops deep, or less deep where it does
-    /// not stand so far in. It tells how many instances it passed by, and the last of them; None where there was none,
-    /// or too many to count: then its place is any.
+    /// The last instance still to come of the nodes in which it stands `level` loops deep; None where it does not stand
+    /// so far in, where there is none, or where it was not looked for.
+    pub fn last_within(&self, tree: &Tree, params: &[i64], level: usize) -> Option<Instance>
+        requires walk { CanWalk (trees_in tree.now) params.now [] }
+        requires spot { IsSpotOf (trees_in tree.now) params.now self.now }
+        ensures { IfSome result (λ i. In (instance_of i) (to_come (trees_in tree.now) params.now self.now)) }
+    {
+        last_nodes(tree.nodes.as_slice(), self.marks.as_slice(), params, level)
+    }
+
+    /// Leaves all that is still to come of the nodes in which it stands `level` loops deep. It tells how many instances
+    /// it passed by, and the last of them; None where it does not stand so far in, where there was none, where the last
+    /// was not looked at, or where they were too many to count: then its place is any.
     pub fn leave(&mut self, tree: &Tree, params: &[i64], level: usize) -> Option<Passed>
         requires walk { CanWalk (trees_in tree.now) params.now [] }
         requires spot { IsSpotOf (trees_in tree.now) params.now self.old }

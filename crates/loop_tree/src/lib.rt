@@ -29,7 +29,7 @@ pub use braid::Braid;
 pub use source_laws::source_trees_visit_the_walk;
 pub use spot::{Mark, Spot};
 pub use stretch::Stretch;
-pub use tally::{Passed, Tally};
+pub use tally::Passed;
 pub use tiling::{TileItem, TileItems, TileRow, Tiling};
 pub use tree::{Bound, Bounds, Guard, Leaf, Loop, Node, Test, Tree};
 pub use tree_laws::marks_are_the_parallel_loops;

@@ -96,7 +96,7 @@ fn leaf_of(node: &Node) -> Option<&Leaf>
 
 /// Whether a node is a leaf.
 #[inline]
-fn is_leaf(node: &Node) -> bool
+pub(crate) fn is_leaf(node: &Node) -> bool
     ensures { IsTrue result → AreLeaves (more (tree_of node.now) none) }
 {
     match node {
@@ -108,7 +108,7 @@ fn is_leaf(node: &Node) -> bool
 
 /// The leaf that nodes are, where they are one alone.
 #[inline]
-pub(crate) fn leaf_alone(nodes: &[Node]) -> Option<&Leaf>
+fn leaf_alone(nodes: &[Node]) -> Option<&Leaf>
     ensures { IfSome result (λ leaf. nodes_of nodes.now
         ≡ more (leaf_in leaf.now.statement leaf.now.turns.items) none) }
 {

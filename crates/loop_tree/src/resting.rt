@@ -12,7 +12,7 @@ ghost use Rattle.loop_tree.specs.View.{nodes_of, tree_of};
 use crate::outer::Outer;
 use crate::spot::Mark;
 use crate::tree::Node;
-use crate::visitor::Visitor;
+use crate::visitor::{Visitor, passes_by};
 use crate::walking::{walk_nodes, walk_values};
 
 /// The nodes from a place on.
@@ -26,13 +26,15 @@ fn nodes_from(nodes: &[Node], place: usize) -> &[Node]
     nodes.split_at(place).1
 }
 
-/// Shows the instances still to come of nodes at these marks, in turn.
+/// Shows the instances still to come of nodes at these marks, in turn. The last of them need not be looked at where it
+/// is unseen.
 #[cycle(resting)]
 pub(crate) fn rest_nodes<V: Visitor>(
     nodes: &[Node],
     marks: &[Mark],
     outer: &Outer,
     params: &[i64],
+    unseen: bool,
     visitor: &mut V,
 )
     requires walk { CanWalk (nodes_of nodes.now) params.now (values_in outer.now) }
@@ -42,7 +44,7 @@ pub(crate) fn rest_nodes<V: Visitor>(
 {
     match marks.split_first() {
         None => {}
-        Some((mark, deeper)) => rest_at(nodes, mark, deeper, outer, params, visitor),
+        Some((mark, deeper)) => rest_at(nodes, mark, deeper, outer, params, unseen, visitor),
     }
 }
 
@@ -54,6 +56,7 @@ fn rest_at<V: Visitor>(
     deeper: &[Mark],
     outer: &Outer,
     params: &[i64],
+    unseen: bool,
     visitor: &mut V,
 )
     requires walk { CanWalk (nodes_of nodes.now) params.now (values_in outer.now) }
@@ -62,14 +65,35 @@ fn rest_at<V: Visitor>(
         (nodes_of nodes.now) (mark_of mark.now ∷ marks_of deeper.now) params.now (values_in outer.now)) }
 {
     if !mark.begun {
-        walk_nodes(nodes_from(nodes, mark.place), outer, params, visitor);
+        walk_nodes(
+            nodes_from(nodes, mark.place),
+            outer,
+            params,
+            unseen,
+            visitor,
+        );
         return;
     }
     if nodes.len() <= mark.place {
         return;
     }
-    rest_node(&nodes[mark.place], mark, deeper, outer, params, visitor);
-    walk_nodes(nodes_from(nodes, mark.place + 1), outer, params, visitor);
+    let followed = mark.place + 1 < nodes.len();
+    rest_node(
+        &nodes[mark.place],
+        mark,
+        deeper,
+        outer,
+        params,
+        unseen || followed,
+        visitor,
+    );
+    walk_nodes(
+        nodes_from(nodes, mark.place + 1),
+        outer,
+        params,
+        unseen,
+        visitor,
+    );
 }
 
 /// Shows those of a node that was begun.
@@ -80,6 +104,7 @@ fn rest_node<V: Visitor>(
     deeper: &[Mark],
     outer: &Outer,
     params: &[i64],
+    unseen: bool,
     visitor: &mut V,
 )
     requires walk { CanWalk (more (tree_of node.now) none) params.now (values_in outer.now) }
@@ -88,9 +113,12 @@ fn rest_node<V: Visitor>(
     ensures { (l : List PlainInstance) → V.stands visitor.old l → V.stands visitor.new (l ++ rest_in
         (tree_of node.now) mark.now.value (marks_of deeper.now) params.now (values_in outer.now)) }
 {
+    if passes_by(unseen, visitor) {
+        return;
+    }
     match node {
-        Node::Loop(_, body) => rest_loop(body, mark, deeper, outer, params, visitor),
-        Node::Guard(_, body) => rest_nodes(body, deeper, outer, params, visitor),
+        Node::Loop(_, body) => rest_loop(body, mark, deeper, outer, params, unseen, visitor),
+        Node::Guard(_, body) => rest_nodes(body, deeper, outer, params, unseen, visitor),
         Node::Instance(_) => {}
     }
 }
@@ -103,6 +131,7 @@ fn rest_loop<V: Visitor>(
     deeper: &[Mark],
     outer: &Outer,
     params: &[i64],
+    unseen: bool,
     visitor: &mut V,
 )
     requires walk { (y : ℤ) → mark.now.value ≤ℤ y → y ≤ℤ mark.now.last
@@ -115,9 +144,25 @@ fn rest_loop<V: Visitor>(
     if mark.last < mark.value {
         return;
     }
-    rest_turn(body, mark.value, deeper, outer, params, visitor);
+    rest_turn(
+        body,
+        mark.value,
+        deeper,
+        outer,
+        params,
+        unseen || mark.value < mark.last,
+        visitor,
+    );
     if mark.value < mark.last {
-        walk_values(body, mark.value + 1, mark.last, outer, params, visitor);
+        walk_values(
+            body,
+            mark.value + 1,
+            mark.last,
+            outer,
+            params,
+            unseen,
+            visitor,
+        );
     }
 }
 
@@ -129,6 +174,7 @@ fn rest_turn<V: Visitor>(
     deeper: &[Mark],
     outer: &Outer,
     params: &[i64],
+    unseen: bool,
     visitor: &mut V,
 )
     requires walk { CanWalk (nodes_of body.now) params.now (values_in outer.now ++ value ∷ []) }
@@ -137,5 +183,5 @@ fn rest_turn<V: Visitor>(
         (nodes_of body.now) (marks_of deeper.now) params.now (values_in outer.now ++ value ∷ [])) }
 {
     let within = Outer::Within(&*outer, value);
-    rest_nodes(body, deeper, &within, params, visitor);
+    rest_nodes(body, deeper, &within, params, unseen, visitor);
 }

@@ -1,25 +1,25 @@
-//! The walk over a tree: it shows a visitor each instance, or a run of them at once, in turn, and takes no memory.
-ghost use Rattle.std.specs.Prelude.{◌≡◌, ◌≤◌, ◌≤ℤ◌, ◌++◌, ◌∷◌, [], All, FitsSigned, IfSome, List, false};
-ghost use Rattle.std.specs.Prelude.{◌+◌, ◌-ℤ◌, length, map, pos, true, ℕ, ℤ};
+//! The walk over a tree: it shows a visitor each instance in turn, or many at once where it need not look at them, and
+//! takes no memory.
+ghost use Rattle.std.specs.Prelude.{◌≡◌, ◌≤◌, ◌≤ℤ◌, ◌++◌, ◌∷◌, [], All, FitsSigned, IfSome, List};
+ghost use Rattle.std.specs.Prelude.{◌*◌, ◌-ℤ◌, length, map, pos, ℕ, ℤ};
 ghost use Rattle.std.specs.Int.{w64};
 ghost use Rattle.scop_syntax.specs.View.{instance_of};
 ghost use Rattle.scop_syntax.specs.Walk.{Instance as PlainInstance};
 ghost use Rattle.whole_numbers.specs.Affine.{value_of, values_of};
 ghost use Rattle.loop_tree.specs.steps.Chain.{values_at, values_in};
-ghost use Rattle.loop_tree.specs.steps.Passing.{IsOf};
+ghost use Rattle.loop_tree.specs.steps.Passing.{AreLeaves};
 ghost use Rattle.loop_tree.specs.Conditions.{CanWalk, IsHeld};
 ghost use Rattle.loop_tree.specs.Fits.{FormFits, FormsFit};
-ghost use Rattle.loop_tree.specs.Passed.{AreRun};
-ghost use Rattle.loop_tree.specs.Tree.{instance as leaf_in, loop as loops, more, none};
+ghost use Rattle.loop_tree.specs.Spot.{shown_from};
+ghost use Rattle.loop_tree.specs.Tree.{loop as loops, more, none};
 ghost use Rattle.loop_tree.specs.View.{bounds_in, nodes_of, tree_of, trees_in};
 ghost use Rattle.loop_tree.specs.Walk.{between, given, visits, walk, walk_all};
 
 use crate::outer::{MOST_IN_ROW, Outer, Point, point_in, value_at};
-use crate::passing::{leaf_alone, way_up};
+use crate::passing::{is_leaf, way_up};
 use crate::ranges::{all_hold, range_at};
-use crate::tally::Passed;
 use crate::tree::{Leaf, Loop, Node, Tree};
-use crate::visitor::Visitor;
+use crate::visitor::{Visitor, passes_by, skips_one};
 use arrayvec::ArrayVec;
 use scop_syntax::instance::{Instance, MAX_LOOPS};
 use scop_syntax::tree::Aff;
@@ -66,117 +66,120 @@ pub fn instance_at(leaf: &Leaf, outer: &Outer, params: &[i64]) -> Instance
     Instance::of(leaf.statement, turns.as_slice())
 }
 
-/// The instance of a leaf at a value of the loop within these.
-fn instance_within(leaf: &Leaf, value: i128, outer: &Outer, params: &[i64]) -> Instance
-    requires { CanWalk (more (leaf_in leaf.now.statement leaf.now.turns.items) none) params.now
-        (values_in outer.now ++ value ∷ []) }
-    ensures { IsOf leaf.now.statement leaf.now.turns.items (instance_of result) params.now
-        (values_in outer.now ++ value ∷ []) }
+/// How many leaves nodes are, where they are leaves alone.
+fn leaves_in(nodes: &[Node]) -> Option<u64>
+    ensures { IfSome result (λ count. AreLeaves (nodes_of nodes.now) × (count ≡ length nodes.now)) }
 {
-    let within = Outer::Within(&*outer, value);
-    instance_at(leaf, &within, params)
+    for node in nodes {
+        if !is_leaf(node) {
+            return None;
+        }
+    }
+    Some(nodes.len() as u64)
 }
 
-/// How many values there are from one up to another behind it; None where there is none behind it, or a word has no
-/// room for it.
-#[inline]
-fn values_up(first: i128, last: i128) -> Option<u64>
-    ensures { IfSome result (λ n. (way : ℕ) × (pos way ≡ last -ℤ first) × (way + 1 ≡ n)) }
+/// How many instances a loop's body shows at its values in front of the last one, where it is leaves alone; None where
+/// it is not, where no value is in front of the last, or where a word has no room for it.
+fn count_before(body: &[Node], first: i128, last: i128) -> Option<u64>
+    ensures { IfSome result (λ count. AreLeaves (nodes_of body.now) × ((way : ℕ) × (pos way ≡ last -ℤ first)
+        × (count ≡ length body.now * way))) }
 {
+    let Some(count) = leaves_in(body) else {
+        return None;
+    };
     match way_up(first, last) {
         None => None,
-        Some(way) => way.checked_add(1),
+        Some(way) => count.checked_mul(way),
     }
 }
 
-/// How many instances of a leaf there are at a loop's values, and the last of them; None where the loop has not two
-/// values, or too many to count.
-fn run_up(leaf: &Leaf, first: i128, last: i128, outer: &Outer, params: &[i64]) -> Option<Passed>
-    requires { (x : ℤ) → first ≤ℤ x → x ≤ℤ last
-        → CanWalk (more (leaf_in leaf.now.statement leaf.now.turns.items) none) params.now
-        (values_in outer.now ++ x ∷ []) }
-    ensures { IfSome result (λ run. AreRun (map given (between
-        (λ x. walk_all (more (leaf_in leaf.now.statement leaf.now.turns.items) none) params.now
-        (values_in outer.now ++ x ∷ [])) first last)) run.count (instance_of run.last)) }
+/// Shows the instances of a loop's body at its values in front of the last one at once, where the visitor can see them
+/// so. It tells from which value on those are that were not shown.
+fn skip_values<V: Visitor>(body: &[Node], first: i128, last: i128, visitor: &mut V) -> i128
+    ensures up { first ≤ℤ result }
+    ensures shown { (params outer : List ℤ) (l : List PlainInstance) → V.stands visitor.old l
+        → (done : List PlainInstance) × (done ++ shown_from (nodes_of body.now) params outer result last
+        ≡ l ++ shown_from (nodes_of body.now) params outer first last) × V.stands visitor.new done }
 {
-    match values_up(first, last) {
-        None => None,
-        Some(count) => Some(Passed {
-            count,
-            last: instance_within(leaf, last, outer, params),
-        }),
+    if last <= first {
+        return first;
+    }
+    if visitor.pass_by() {
+        return last;
+    }
+    match count_before(body, first, last) {
+        None => first,
+        Some(count) => {
+            if visitor.skip(count) {
+                return last;
+            }
+            first
+        }
     }
 }
 
-/// The same of a loop's body, where it is a leaf alone.
-fn run_of(body: &[Node], first: i128, last: i128, outer: &Outer, params: &[i64]) -> Option<Passed>
-    requires { (x : ℤ) → first ≤ℤ x → x ≤ℤ last
-        → CanWalk (nodes_of body.now) params.now (values_in outer.now ++ x ∷ []) }
-    ensures { IfSome result (λ run. AreRun (map given (between
-        (λ x. walk_all (nodes_of body.now) params.now (values_in outer.now ++ x ∷ [])) first last)) run.count
-        (instance_of run.last)) }
-{
-    match leaf_alone(body) {
-        None => None,
-        Some(leaf) => run_up(leaf, first, last, outer, params),
-    }
-}
-
-/// Shows the instances of a loop's body at once, where they are a run and the visitor takes it.
-fn pass_values<V: Visitor>(
-    body: &[Node],
-    first: i128,
-    last: i128,
+/// Shows the instances of nodes within these loops, in turn. The last of them need not be looked at where it is unseen.
+#[cycle(walking)]
+pub(crate) fn walk_nodes<V: Visitor>(
+    nodes: &[Node],
     outer: &Outer,
     params: &[i64],
+    unseen: bool,
     visitor: &mut V,
-) -> bool
-    requires { (x : ℤ) → first ≤ℤ x → x ≤ℤ last
-        → CanWalk (nodes_of body.now) params.now (values_in outer.now ++ x ∷ []) }
-    ensures passed { result ≡ true → (l : List PlainInstance) → V.stands visitor.old l → V.stands visitor.new
-        (l ++ map given (between (λ x. walk_all (nodes_of body.now) params.now (values_in outer.now ++ x ∷ []))
-        first last)) }
-    ensures stays { result ≡ false → (l : List PlainInstance) → V.stands visitor.old l → V.stands visitor.new l }
-{
-    match run_of(body, first, last, outer, params) {
-        None => false,
-        Some(run) => visitor.pass(&run),
-    }
-}
-
-/// Shows the instances of nodes within these loops, in turn.
-#[cycle(walking)]
-pub(crate) fn walk_nodes<V: Visitor>(nodes: &[Node], outer: &Outer, params: &[i64], visitor: &mut V)
+)
     requires { CanWalk (nodes_of nodes.now) params.now (values_in outer.now) }
     ensures { (l : List PlainInstance) → V.stands visitor.old l → V.stands visitor.new
         (l ++ map given (walk_all (nodes_of nodes.now) params.now (values_in outer.now))) }
 {
+    let mut place = 0;
     for node in nodes {
-        walk_node(node, outer, params, visitor);
+        place += 1;
+        walk_node(node, outer, params, unseen || place < nodes.len(), visitor);
     }
 }
 
 /// Shows those of a node.
 #[cycle(walking)]
-pub(crate) fn walk_node<V: Visitor>(node: &Node, outer: &Outer, params: &[i64], visitor: &mut V)
+pub(crate) fn walk_node<V: Visitor>(
+    node: &Node,
+    outer: &Outer,
+    params: &[i64],
+    unseen: bool,
+    visitor: &mut V,
+)
     requires { CanWalk (more (tree_of node.now) none) params.now (values_in outer.now) }
     ensures { (l : List PlainInstance) → V.stands visitor.old l → V.stands visitor.new
         (l ++ map given (walk (tree_of node.now) params.now (values_in outer.now))) }
 {
+    if passes_by(unseen, visitor) {
+        return;
+    }
     match node {
-        Node::Loop(head, body) => walk_loop(head, body, outer, params, visitor),
+        Node::Loop(head, body) => walk_loop(head, body, outer, params, unseen, visitor),
         Node::Guard(guard, body) => {
             if all_hold(&guard.tests, outer, params) {
-                walk_nodes(body, outer, params, visitor);
+                walk_nodes(body, outer, params, unseen, visitor);
             }
         }
-        Node::Instance(leaf) => visitor.visit(instance_at(leaf, outer, params)),
+        Node::Instance(leaf) => {
+            if skips_one(unseen, visitor) {
+                return;
+            }
+            visitor.visit(instance_at(leaf, outer, params));
+        }
     }
 }
 
 /// Shows those of a loop.
 #[cycle(walking)]
-fn walk_loop<V: Visitor>(head: &Loop, body: &[Node], outer: &Outer, params: &[i64], visitor: &mut V)
+fn walk_loop<V: Visitor>(
+    head: &Loop,
+    body: &[Node],
+    outer: &Outer,
+    params: &[i64],
+    unseen: bool,
+    visitor: &mut V,
+)
     requires { CanWalk (more (loops head.now.parallel (bounds_in head.now.lower) (bounds_in head.now.upper)
         (nodes_of body.now)) none) params.now (values_in outer.now) }
     ensures { (l : List PlainInstance) → V.stands visitor.old l → V.stands visitor.new
@@ -184,10 +187,18 @@ fn walk_loop<V: Visitor>(head: &Loop, body: &[Node], outer: &Outer, params: &[i6
         (nodes_of body.now)) params.now (values_in outer.now))) }
 {
     let range = range_at(head, outer, params);
-    walk_values(body, range.first, range.last, outer, params, visitor);
+    walk_values(
+        body,
+        range.first,
+        range.last,
+        outer,
+        params,
+        unseen,
+        visitor,
+    );
 }
 
-/// Shows those of a loop's body at all values: at once where it can.
+/// Shows those of a loop's body at all values: at once where it can, but for the last.
 #[cycle(walking)]
 pub(crate) fn walk_values<V: Visitor>(
     body: &[Node],
@@ -195,6 +206,7 @@ pub(crate) fn walk_values<V: Visitor>(
     last: i128,
     outer: &Outer,
     params: &[i64],
+    unseen: bool,
     visitor: &mut V,
 )
     requires { (x : ℤ) → first ≤ℤ x → x ≤ℤ last
@@ -203,9 +215,8 @@ pub(crate) fn walk_values<V: Visitor>(
         (l ++ map given (between (λ x. walk_all (nodes_of body.now) params.now (values_in outer.now ++ x ∷ []))
         first last)) }
 {
-    if !pass_values(body, first, last, outer, params, visitor) {
-        walk_each(body, first, last, outer, params, visitor);
-    }
+    let start = skip_values(body, first, last, visitor);
+    walk_each(body, start, last, outer, params, unseen, visitor);
 }
 
 /// Shows those of a loop's body, value after value.
@@ -216,6 +227,7 @@ fn walk_each<V: Visitor>(
     last: i128,
     outer: &Outer,
     params: &[i64],
+    unseen: bool,
     visitor: &mut V,
 )
     requires { (x : ℤ) → first ≤ℤ x → x ≤ℤ last
@@ -226,23 +238,30 @@ fn walk_each<V: Visitor>(
 {
     let mut value = first;
     while value < last {
-        walk_turn(body, value, outer, params, visitor);
+        walk_turn(body, value, outer, params, true, visitor);
         value += 1;
     }
     if value == last {
-        walk_turn(body, value, outer, params, visitor);
+        walk_turn(body, value, outer, params, unseen, visitor);
     }
 }
 
 /// Shows those of a loop's body at a value.
 #[cycle(walking)]
-fn walk_turn<V: Visitor>(body: &[Node], value: i128, outer: &Outer, params: &[i64], visitor: &mut V)
+fn walk_turn<V: Visitor>(
+    body: &[Node],
+    value: i128,
+    outer: &Outer,
+    params: &[i64],
+    unseen: bool,
+    visitor: &mut V,
+)
     requires { CanWalk (nodes_of body.now) params.now (values_in outer.now ++ value ∷ []) }
     ensures { (l : List PlainInstance) → V.stands visitor.old l → V.stands visitor.new
         (l ++ map given (walk_all (nodes_of body.now) params.now (values_in outer.now ++ value ∷ []))) }
 {
     let within = Outer::Within(&*outer, value);
-    walk_nodes(body, &within, params, visitor);
+    walk_nodes(body, &within, params, unseen, visitor);
 }
 
 impl Tree {
@@ -252,6 +271,12 @@ impl Tree {
         ensures { (l : List PlainInstance) → V.stands visitor.old l
             → V.stands visitor.new (l ++ visits (trees_in self.now) params.now) }
     {
-        walk_nodes(self.nodes.as_slice(), &Outer::Row(&[]), params, visitor);
+        walk_nodes(
+            self.nodes.as_slice(),
+            &Outer::Row(&[]),
+            params,
+            false,
+            visitor,
+        );
     }
 }

@@ -16,7 +16,7 @@ ghost use Rattle.loop_tree.specs.View.{trees_in};
 ghost use Rattle.loop_tree.specs.Walk.{Visit, visits, walk_all};
 
 use loop_tree::{
-    Passed, Spot, Tree, Visitor, marks_are_the_parallel_loops, source_trees_visit_the_walk,
+    Spot, Tree, Visitor, marks_are_the_parallel_loops, source_trees_visit_the_walk,
 };
 use scop_syntax::instance::Instance;
 use scop_syntax::tree::Kernel;
@@ -80,7 +80,11 @@ impl Visitor for Seen {
         self.any = true;
     }
 
-    fn pass(&mut self, run: &Passed) -> bool {
+    fn skip(&mut self, count: u64) -> bool {
+        false
+    }
+
+    fn pass_by(&mut self) -> bool {
         false
     }
 }

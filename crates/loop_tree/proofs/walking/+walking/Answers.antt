@@ -47,9 +47,10 @@ walk_nodes-loop-node-preserved g t c =
     let here = node_here nodes l.node-index node c.node-item.is c.loop-node-test.true in (
       walk_rest (tree_of node) (nodes_of (drop (l.node-index + 1) nodes)) params outer
           (subst (λ (ts : Trees). CanWalk ts params outer) here l.invariant.0),
+      omega arith,
       so_far_step (g.V.Visitor.stands c.args.visitor.now) (g.V.Visitor.stands l.visitor)
           (g.V.Visitor.stands c.walk_node.new.visitor) (shown_by (drop l.node-index nodes) params outer) _
-          (shown_by (drop (l.node-index + 1) nodes) params outer) (shown_by nodes params outer) l.invariant.1
+          (shown_by (drop (l.node-index + 1) nodes) params outer) (shown_by nodes params outer) l.invariant.2
           (shown_here nodes l.node-index node params outer c.node-item.is c.loop-node-test.true) c.walk_node.ensures,
     )
 
@@ -60,7 +61,7 @@ walk_nodes-returns g t c =
     let params = c.args.params.now in
     let outer = values_in c.args.outer.now in
     so_far_ends (g.V.Visitor.stands c.args.visitor.now) (g.V.Visitor.stands l.visitor)
-    (shown_by (drop l.node-index nodes) params outer) (shown_by nodes params outer) l.invariant.1
+    (shown_by (drop l.node-index nodes) params outer) (shown_by nodes params outer) l.invariant.2
     (ap (λ (ns : List Node). shown_by ns params outer) (drop_of_length-le nodes (omega arith)))
 
 pub walk_node-instance_at-requires-clause-held : goal.walk_node-instance_at-requires-clause-held
@@ -113,6 +114,24 @@ walk_loop-returns g t c =
     ∙ sym (loop_shown head.parallel (bounds_in head.lower) (bounds_in head.upper) body params outer) in
     λ l s. subst (λ (is : List Instance). g.V.Visitor.stands c.walk_values.new.visitor (l ++ is)) shown
     (c.walk_values.ensures l s)
+
+pub walk_values-returns : goal.walk_values-returns
+walk_values-returns g t c = λ l s.
+    let body = nodes_of c.args.body.now in
+    let params = c.args.params.now in
+    let outer = values_in c.args.outer.now in
+    let start = c.skip_values-start.result in
+    let fits : FitsSigned w128 start = search rules in
+    let last = to_z w128 (of_z w128 c.args.last) in
+    let start_is = to_z-of_z w128 start fits in
+    let first_is = to_z-of_z w128 c.args.first c.ranges.first in
+    let last_is = to_z-of_z w128 c.args.last c.ranges.last in
+    let r = c.skip_values-start.ensures.shown params outer l s in
+    let all : r.0 ++ turns_shown body params outer (to_z w128 (of_z w128 start)) last
+    ≡ l ++ turns_shown body params outer c.args.first c.args.last =
+    ap (λ (z : ℤ). r.0 ++ turns_shown body params outer z last) start_is
+    ∙ (r.1 ∙ ap₂ (λ (a b : ℤ). l ++ turns_shown body params outer a b) first_is last_is) in
+    subst (λ (is : List Instance). g.V.Visitor.stands c.walk_each.new.visitor is) all (c.walk_each.ensures r.0 r.2)
 
 pub walk_each-loop-value-preserved : goal.walk_each-loop-value-preserved
 walk_each-loop-value-preserved g t c =
@@ -242,7 +261,7 @@ walk_node-returns-in-Loop g t c =
     t_is ∙ ap (λ (ts : Trees). loop head.parallel lo up ts) (sym body_is) in
     λ l s.
     subst (λ (u : Tree). g.V.Visitor.stands c.walk_loop.new.visitor (l ++ map given (walk u params outer)))
-    (sym loop_is) (c.walk_loop.ensures l s)
+    (sym loop_is) (c.walk_loop.ensures l (c.passes_by.ensures.stays c.if-passes_by.false l s))
 
 pub walk_node-returns-then-all_hold : goal.walk_node-returns-then-all_hold
 walk_node-returns-then-all_hold g t c =
@@ -261,7 +280,7 @@ walk_node-returns-then-all_hold g t c =
     ∙ ap (λ (u : Tree). map given (walk u params outer)) (sym t_is)) in
     λ l s.
     subst (λ (is : List Instance). g.V.Visitor.stands c.walk_nodes.new.visitor (l ++ is)) shown
-    (c.walk_nodes.ensures l s)
+    (c.walk_nodes.ensures l (c.passes_by.ensures.stays c.if-passes_by.false l s))
 
 pub walk_node-returns-else-all_hold : goal.walk_node-returns-else-all_hold
 walk_node-returns-else-all_hold g t c =
@@ -278,11 +297,12 @@ walk_node-returns-else-all_hold g t c =
     (sym (sym told ∙ c.if-all_hold.false))
     ∙ ap (λ (u : Tree). map given (walk u params outer)) (sym t_is) in
     λ l s.
-    subst (λ (is : List Instance). g.V.Visitor.stands c.args.visitor.now (l ++ is)) shown
-    (subst (λ (is : List Instance). g.V.Visitor.stands c.args.visitor.now is) (sym (append-nil l)) s)
+    subst (λ (is : List Instance). g.V.Visitor.stands c.passes_by.new.visitor (l ++ is)) shown
+    (subst (λ (is : List Instance). g.V.Visitor.stands c.passes_by.new.visitor is) (sym (append-nil l))
+    (c.passes_by.ensures.stays c.if-passes_by.false l s))
 
-pub walk_node-returns-in-Instance : goal.walk_node-returns-in-Instance
-walk_node-returns-in-Instance g t c =
+pub walk_node-returns-else-skips_one : goal.walk_node-returns-else-skips_one
+walk_node-returns-else-skips_one g t c =
     let params = c.args.params.now in
     let outer = values_in c.args.outer.now in
     let t_is = ap tree_of c.in-Instance.is ∙ tree_instance c.in-Instance.leaf in
@@ -290,7 +310,8 @@ walk_node-returns-in-Instance g t c =
     ∙ ap (λ (u : Tree). map given (walk u params outer)) (sym t_is) in
     λ l s.
     subst (λ (is : List Instance). g.V.Visitor.stands c.visit.new.self (l ++ is)) shown
-    (c.visit.ensures l s)
+    (c.visit.ensures l
+    (c.skips_one.ensures.stays c.if-skips_one.false l (c.passes_by.ensures.stays c.if-passes_by.false l s)))
 
 pub walk_turn-walk_nodes-requires : goal.walk_turn-walk_nodes-requires
 walk_turn-walk_nodes-requires g t c κs within =

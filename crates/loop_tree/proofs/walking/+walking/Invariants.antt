@@ -1,4 +1,4 @@
-use Rattle.std.proofs.Common.{◌+◌, drop}
+use Rattle.std.proofs.Common.{◌≡◌, ◌+◌, drop}
 use Rattle.std.specs.Prelude.{◌-ℤ◌, ◌≤ℤ◌}
 use Rattle.scop_syntax.specs.Walk.{most_turns}
 use Rattle.loop_tree.specs.steps.Chain.{values_in}
@@ -29,6 +29,7 @@ decreases-walk_turn g l = weight_all (nodes_of l.body.now) + 2
 abbrev pub invariant-walk_nodes-loop-node : goal.invariant-walk_nodes-loop-node
 invariant-walk_nodes-loop-node g l =
     CanWalk (nodes_of (drop l.node-index l.nodes)) l.params (values_in l.outer)
+    × (l.place ≡ l.node-index)
     × SoFar (g.V.Visitor.stands l.fn.visitor) (g.V.Visitor.stands l.visitor)
     (shown_by (drop l.node-index l.nodes) l.params (values_in l.outer))
     (shown_by l.nodes l.params (values_in l.outer))

@@ -1,0 +1,77 @@
+-- Marks that leave the nodes they stand in: what was to come there is passed by, and all of it was to come before.
+use Rattle.std.proofs.Common.{◌≡◌, ◌∙◌, ◌++◌, ◌∷◌, ℕ, ℤ, [], List, length, take, drop, ap, sym, subst, refl, arith}
+use Rattle.std.proofs.Common.{append-nil, false, slice_set}
+use Rattle.std.proofs.lemmas.List.{drop-map, length-map, map-append, take-map}
+use Rattle.scop_syntax.specs.Members.{In}
+use Rattle.scop_syntax.specs.Walk.{Instance}
+use Rattle.scop_syntax.proofs.Members.{in_front}
+use Rattle.loop_tree.specs.steps.Going.{HasGone, Leads}
+use Rattle.loop_tree.specs.Spot.{IsAt, Mark, rest_of}
+use Rattle.loop_tree.specs.SpotView.{mark_of, marks_of}
+use Rattle.loop_tree.specs.Tree.{Trees}
+use Rattle.loop_tree.specs.View.{nodes_of}
+use Rattle.loop_tree.specs.declared.spot.Mark.{Mark as CodeMark}
+use Rattle.loop_tree.specs.declared.tree.Node.{Node}
+use Rattle.loop_tree.proofs.VisitPlaces.{at_next, rest_end}
+
+-- a mark behind the last node
+abbrev pub behind : List Node → CodeMark → CodeMark
+behind nodes m = record { place = length nodes; begun = false; value = m.value; last = m.last }
+
+pub rest_behind : (nodes : List Node) (ms : List CodeMark) (m : CodeMark) (params outer : List ℤ)
+    → rest_of (nodes_of nodes) (marks_of (slice_set ms 0 (behind nodes m))) params outer ≡ []
+rest_behind nodes [] m params outer = refl
+rest_behind nodes (n ∷ ms) m params outer =
+    rest_end nodes (length nodes) false m.value m.last (marks_of ms) params outer (omega arith)
+
+pub at_behind : (nodes : List Node) (ms : List CodeMark) (m : CodeMark) (params outer : List ℤ)
+    → IsAt (nodes_of nodes) (marks_of (slice_set ms 0 (behind nodes m))) params outer
+at_behind nodes [] m params outer = tt
+at_behind nodes (n ∷ ms) m params outer =
+    at_next nodes (length nodes) m.value m.last (marks_of ms) params outer
+
+-- where the marks further in stand behind all, the place goes on by all that was to come there
+pub gone_by_all : (ts us : Trees) (ms front back new : List CodeMark) (params row values : List ℤ) (k : ℕ)
+    → Leads ts (marks_of ms) params us k (take k row) → front ≡ take k ms → back ≡ drop k ms → values ≡ take k row
+    → length new ≡ length back → ((ps os : List ℤ) → rest_of us (marks_of new) ps os ≡ [])
+    → ((ps os : List ℤ) → IsAt us (marks_of new) ps os)
+    → HasGone ts (marks_of ms) (marks_of (front ++ new)) (rest_of us (marks_of back) params values) params []
+gone_by_all ts us ms front back new params row values k leads front_is back_is values_are room none at =
+    let inner = drop k (marks_of ms) in
+    let here = take k row in
+    let all = rest_of us inner params here in
+    let inner_is : inner ≡ marks_of back =
+    drop-map mark_of k ms ∙ ap (λ (ns : List CodeMark). marks_of ns) (sym back_is) in
+    let a = length-map new mark_of in
+    let b = length-map back mark_of in
+    let d = ap (λ (ns : List Mark). length ns) inner_is in
+    let gone : HasGone us inner (marks_of new) all params here =
+    record {
+      rest = sym (ap (λ (is : List Instance). all ++ is) (none params here) ∙ append-nil all);
+      room = omega (arith, a, b, d, room);
+      stands = at params here;
+    } in
+    let marks_are : take k (marks_of ms) ++ marks_of new ≡ marks_of (front ++ new) =
+    ap (λ (ns : List Mark). ns ++ marks_of new)
+    (take-map mark_of k ms ∙ ap (λ (ns : List CodeMark). marks_of ns) (sym front_is))
+    ∙ sym (map-append mark_of front new) in
+    let found_is : all ≡ rest_of us (marks_of back) params values =
+    ap (λ (ns : List Mark). rest_of us ns params here) inner_is
+    ∙ ap (λ (os : List ℤ). rest_of us (marks_of back) params os) (sym values_are) in
+    subst (λ (is : List Instance). HasGone ts (marks_of ms) (marks_of (front ++ new)) is params []) found_is
+    (subst (λ (ns : List Mark). HasGone ts (marks_of ms) ns all params []) marks_are (leads.lifts (marks_of new) all gone))
+
+-- what was to come there was to come
+pub waits_there : (ts : Trees) (nodes : List Node) (ms back : List CodeMark) (params row values : List ℤ) (k : ℕ)
+    → Leads ts (marks_of ms) params (nodes_of nodes) k (take k row) → back ≡ drop k ms → values ≡ take k row
+    → (x : Instance) → In x (rest_of (nodes_of nodes) (marks_of back) params values)
+    → In x (rest_of ts (marks_of ms) params [])
+waits_there ts nodes ms [] params row values k leads back_is values_are x h = absurd h
+waits_there ts nodes ms (m ∷ back) params row values k leads back_is values_are x h =
+    let us = nodes_of nodes in
+    let found = rest_of us (marks_of (m ∷ back)) params values in
+    let new = behind nodes m ∷ back in
+    let gone = gone_by_all ts us ms (take k ms) (m ∷ back) new params row values k leads refl back_is values_are refl
+    (λ ps os. rest_behind nodes (m ∷ back) m ps os) (λ ps os. at_behind nodes (m ∷ back) m ps os) in
+    subst (λ (is : List Instance). In x is) (sym gone.rest)
+    (in_front x found (rest_of ts (marks_of (take k ms ++ new)) params []) h)
