@@ -34,12 +34,17 @@ struct Cut {
     next: Key,
 }
 
+/// How many loops deep loops are left at most.
+const DEEPEST: usize = 12;
+
 /// A spot that leaves loops ahead of the walk, and how many loops deep it stands where it does so: a guess, which rises
-/// until what is left there lies in one tile.
+/// until what is left there lies in one tile. In each tile it begins at the least that was right in any; 0 before.
 #[derive(Drop)]
 struct Scout {
     spot: Spot,
     level: usize,
+    least: usize,
+    tile: usize,
 }
 
 /// So many more, where a word has room for it.
@@ -104,36 +109,90 @@ fn tile_at(alloc: Global, first: Instance, spot: &Spot, wave: usize) -> Result<T
     })
 }
 
+/// Whether an instance was found, and a key is that of it.
+#[inline]
+fn is_last_of(key: &Key, tiling: &Tiling, last: Option<Instance>) -> bool
+    requires size { HasSize (tiling_of tiling.now) }
+    requires fits { IfSome last (λ i. RowsFit (tiling_of tiling.now) (instance_of i)) }
+{
+    match last {
+        None => false,
+        Some(instance) => key.is_of(tiling, &instance),
+    }
+}
+
 impl Scout {
     /// At the place of a spot, in front of all loops.
     fn of(alloc: Global, spot: &Spot) -> Result<Scout, AllocError>
         ensures { IfOk result (λ s. length s.spot.marks.items ≡ length spot.now.marks.items) }
     {
         let spot = spot.copy(alloc)?;
-        Ok(Scout { spot, level: 0 })
+        Ok(Scout {
+            spot,
+            level: 0,
+            least: 0,
+            tile: 0,
+        })
     }
 
-    /// Leaves loops from the place of a spot on. It tells how many instances it passed by, and the last of them; None
-    /// where it did not go on.
-    fn leave(&mut self, tree: &Tree, params: &[i64], spot: &Spot) -> Option<Passed>
+    /// Leaves loops from the place of a spot on, where the last instance within them has this key. It tells how many
+    /// instances it passed by, and the last of them; None where it did not go on.
+    fn leave(
+        &mut self,
+        tree: &Tree,
+        tiling: &Tiling,
+        params: &[i64],
+        spot: &Spot,
+        key: &Key,
+    ) -> Option<Passed>
         requires walk { CanWalk (trees_in tree.now) params.now [] }
         requires spot { IsSpotOf (trees_in tree.now) params.now spot.now }
         requires spent { left_of spot.now.stretch ++ left_of_braid spot.now.braid ≡ [] }
+        requires size { HasSize (tiling_of tiling.now) }
+        requires fits { AllFit (tiling_of tiling.now) (to_come (trees_in tree.now) params.now spot.now) }
         requires room { length self.old.spot.marks.items ≡ deep_all (trees_in tree.now) }
         ensures left { IfSome result (λ p. HasLeft (to_come (trees_in tree.now) params.now spot.now) p.count
             (instance_of p.last) (to_come (trees_in tree.now) params.now self.new.spot)) }
         ensures spot { IfSome result (λ _. IsSpotOf (trees_in tree.now) params.now self.new.spot) }
         ensures room { length self.new.spot.marks.items ≡ deep_all (trees_in tree.now) }
     {
+        if self.level > DEEPEST {
+            return None;
+        }
+        if !is_last_of(key, tiling, spot.last_within(tree, params, self.level)) {
+            return None;
+        }
         self.spot.set(spot);
         self.spot.leave(tree, params, self.level)
     }
 
+    /// The current tile is the one with so many in front of it.
+    #[inline]
+    fn go_to(&mut self, tile: usize)
+        ensures { self.new.spot ≡ self.old.spot }
+    {
+        if self.tile != tile {
+            self.tile = tile;
+            self.level = self.least;
+        }
+    }
+
     /// What was left lies in several tiles: next time it stands one loop further in.
+    #[inline]
     fn deepen(&mut self)
         ensures { self.new.spot ≡ self.old.spot }
     {
         self.level = self.level.saturating_add(1);
+    }
+
+    /// What was left lies in one tile.
+    #[inline]
+    fn found(&mut self)
+        ensures { self.new.spot ≡ self.old.spot }
+    {
+        if self.least == 0 || self.level < self.least {
+            self.least = self.level;
+        }
     }
 }
 
@@ -302,7 +361,9 @@ impl Cut {
         if has_left(&spot.stretch, &spot.braid) {
             return Ok(());
         }
-        let Some(passed) = scout.leave(tree, params, spot) else {
+        scout.go_to(self.tiles.len());
+        let Some(passed) = scout.leave(tree, tiling, params, spot, &self.key) else {
+            scout.deepen();
             return Ok(());
         };
         if !self.key.is_of(tiling, &passed.last) {
@@ -311,6 +372,7 @@ impl Cut {
         }
         self.grow(passed.count as usize)?;
         spot.set(&scout.spot);
+        scout.found();
         Ok(())
     }
 

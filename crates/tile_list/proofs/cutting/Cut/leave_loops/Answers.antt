@@ -1,12 +1,23 @@
+use Rattle.std.proofs.Common.{◌∙◌, ap, length}
 use Rattle.scop_syntax.specs.View.{instance_of}
 use Rattle.loop_tree.specs.SpotView.{to_come}
 use Rattle.loop_tree.specs.TilingView.{tiling_of}
 use Rattle.loop_tree.specs.View.{trees_in}
+use Rattle.loop_tree.specs.declared.spot.Spot.{Spot}
 use Rattle.tile_list.proofs.LeftLoops.{last_visited, leaves, stays}
+use Rattle.tile_list.proofs.WholeLists.{rest_visited}
 use Rattle.tile_list.proofs.cutting.Cut.leave_loops.Goals as goal
 
 pub leave-requires-clause-spent : goal.leave-requires-clause-spent
 leave-requires-clause-spent c = c.has_left.ensures c.if-has_left.false
+
+pub leave-requires-clause-fits : goal.leave-requires-clause-fits
+leave-requires-clause-fits c = λ x h.
+    let ts = trees_in c.args.tree.now in
+    let params = c.args.params.now in
+    c.requires.fits.rows x
+    (rest_visited ts params (tiling_of c.args.tiling.now) (to_come ts params c.args.spot.now) c.args.self.now
+    c.requires.cut x h)
 
 pub is_of-requires-clause-fits : goal.is_of-requires-clause-fits
 is_of-requires-clause-fits c =
@@ -32,5 +43,5 @@ returns c =
           c.leave.new.self.spot c.set.new.self c.in-Some.passed.count (instance_of c.in-Some.passed.last)
           c.args.self.now c.grow.new.self c.requires.rise c.in-Some.ensures.left c.in-Some.ensures.spot c.set.ensures
           (c.is_of.ensures.same c.if-not-is_of.false) c.in_ok-grow.ensures c.requires.cut;
-      room = c.leave.ensures.room;
+      room = ap (λ (s : Spot). length s.marks.items) c.found.ensures ∙ c.leave.ensures.room;
     }

@@ -1,5 +1,6 @@
 use Rattle.std.proofs.Common.{◌∙◌, ◌++◌, List, subst, sym, ap₂}
 use Rattle.std.specs.Prelude.{IfSome}
+use Rattle.std.proofs.lemmas.Option.{IfSome_then}
 use Rattle.scop_syntax.specs.View.{instance_of}
 use Rattle.scop_syntax.specs.Walk.{Instance}
 use Rattle.loop_tree.specs.Braids.{left_of_braid}
@@ -12,6 +13,10 @@ use Rattle.loop_tree.specs.declared.stretch.Stretch.{Stretch}
 use Rattle.loop_tree.proofs.SameSpots.{rest_alike, spot_alike}
 use Rattle.tile_list.proofs.LeftLoops.{marks_alike}
 use Rattle.tile_list.proofs.cutting.Scout.leave.Goals as goal
+
+pub is_last_of-requires-clause-fits : goal.is_last_of-requires-clause-fits
+is_last_of-requires-clause-fits c =
+    IfSome_then c.last_within.result c.last_within.ensures (λ i h. c.requires.fits (instance_of i) h)
 
 pub set-requires : goal.set-requires
 set-requires c = c.requires.room ∙ sym c.requires.spot.room
