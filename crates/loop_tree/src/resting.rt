@@ -13,7 +13,7 @@ use crate::outer::Outer;
 use crate::spot::Mark;
 use crate::tree::Node;
 use crate::visitor::{Visitor, passes_by};
-use crate::walking::{walk_nodes, walk_values};
+use crate::walking::{last_leaf, walk_nodes, walk_values};
 
 /// The nodes from a place on.
 #[inline]
@@ -77,14 +77,13 @@ fn rest_at<V: Visitor>(
     if nodes.len() <= mark.place {
         return;
     }
-    let followed = mark.place + 1 < nodes.len();
     rest_node(
         &nodes[mark.place],
         mark,
         deeper,
         outer,
         params,
-        unseen || followed,
+        unseen || mark.place < last_leaf(nodes),
         visitor,
     );
     walk_nodes(

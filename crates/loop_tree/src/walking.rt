@@ -66,6 +66,18 @@ pub fn instance_at(leaf: &Leaf, outer: &Outer, params: &[i64]) -> Instance
     Instance::of(leaf.statement, turns.as_slice())
 }
 
+/// The place of the last leaf among nodes, 0 where there is none: since a leaf shows an instance, none in front of it is
+/// the last.
+pub(crate) fn last_leaf(nodes: &[Node]) -> usize {
+    let mut last = 0;
+    for (place, node) in nodes.iter().enumerate() {
+        if is_leaf(node) {
+            last = place;
+        }
+    }
+    last
+}
+
 /// How many leaves nodes are, where they are leaves alone.
 fn leaves_in(nodes: &[Node]) -> Option<u64>
     ensures { IfSome result (λ count. AreLeaves (nodes_of nodes.now) × (count ≡ length nodes.now)) }
@@ -131,10 +143,11 @@ pub(crate) fn walk_nodes<V: Visitor>(
     ensures { (l : List PlainInstance) → V.stands visitor.old l → V.stands visitor.new
         (l ++ map given (walk_all (nodes_of nodes.now) params.now (values_in outer.now))) }
 {
+    let last = last_leaf(nodes);
     let mut place = 0;
     for node in nodes {
+        walk_node(node, outer, params, unseen || place < last, visitor);
         place += 1;
-        walk_node(node, outer, params, unseen || place < nodes.len(), visitor);
     }
 }
 

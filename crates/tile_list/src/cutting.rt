@@ -37,14 +37,22 @@ struct Cut {
 /// How many loops deep loops are left at most.
 const DEEPEST: usize = 12;
 
+/// How many steps of the walk a look ahead is worth.
+const LOOK: usize = 16;
+
+/// How many steps can be saved up.
+const MOST_SAVED: usize = 1024;
+
 /// A spot that leaves loops ahead of the walk, and how many loops deep it stands where it does so: a guess, which rises
-/// until what is left there lies in one tile. In each tile it begins at the least that was right in any; 0 before.
+/// until what is left there lies in one tile. In each tile it begins at the least that was right in any; 0 before. So
+/// that looks in vain are few, each has to be saved up for: by steps of the walk, and by instances that were left.
 #[derive(Drop)]
 struct Scout {
     spot: Spot,
     level: usize,
     least: usize,
     tile: usize,
+    saved: usize,
 }
 
 /// So many more, where a word has room for it.
@@ -132,6 +140,7 @@ impl Scout {
             level: 0,
             least: 0,
             tile: 0,
+            saved: MOST_SAVED,
         })
     }
 
@@ -156,9 +165,6 @@ impl Scout {
         ensures spot { IfSome result (λ _. IsSpotOf (trees_in tree.now) params.now self.new.spot) }
         ensures room { length self.new.spot.marks.items ≡ deep_all (trees_in tree.now) }
     {
-        if self.level > DEEPEST {
-            return None;
-        }
         if !is_last_of(key, tiling, spot.last_within(tree, params, self.level)) {
             return None;
         }
@@ -166,15 +172,34 @@ impl Scout {
         self.spot.leave(tree, params, self.level)
     }
 
-    /// The current tile is the one with so many in front of it.
+    /// Saves so many steps up.
     #[inline]
-    fn go_to(&mut self, tile: usize)
+    fn save(&mut self, steps: usize)
+        ensures { self.new.spot ≡ self.old.spot }
+    {
+        let saved = self.saved.saturating_add(steps);
+        self.saved = if saved < MOST_SAVED {
+            saved
+        } else {
+            MOST_SAVED
+        };
+    }
+
+    /// Whether to look ahead, after a step in the tile with so many in front of it.
+    #[inline]
+    fn looks(&mut self, tile: usize) -> bool
         ensures { self.new.spot ≡ self.old.spot }
     {
         if self.tile != tile {
             self.tile = tile;
             self.level = self.least;
         }
+        self.save(1);
+        if self.level > DEEPEST || self.saved < LOOK {
+            return false;
+        }
+        self.saved -= LOOK;
+        true
     }
 
     /// What was left lies in several tiles: next time it stands one loop further in.
@@ -185,11 +210,12 @@ impl Scout {
         self.level = self.level.saturating_add(1);
     }
 
-    /// What was left lies in one tile.
+    /// So many were left, which lie in one tile.
     #[inline]
-    fn found(&mut self)
+    fn found(&mut self, count: usize)
         ensures { self.new.spot ≡ self.old.spot }
     {
+        self.save(count);
         if self.least == 0 || self.level < self.least {
             self.least = self.level;
         }
@@ -361,7 +387,9 @@ impl Cut {
         if has_left(&spot.stretch, &spot.braid) {
             return Ok(());
         }
-        scout.go_to(self.tiles.len());
+        if !scout.looks(self.tiles.len()) {
+            return Ok(());
+        }
         let Some(passed) = scout.leave(tree, tiling, params, spot, &self.key) else {
             scout.deepen();
             return Ok(());
@@ -372,7 +400,7 @@ impl Cut {
         }
         self.grow(passed.count as usize)?;
         spot.set(&scout.spot);
-        scout.found();
+        scout.found(passed.count as usize);
         Ok(())
     }
 
