@@ -1,5 +1,5 @@
 //! One walk over a tree's visits, which begins a tile where wave or tile are others than before.
-ghost use Rattle.std.specs.Prelude.{◌≡◌, ◌+◌, ◌*◌, ◌<◌, ◌++◌, ◌∷◌, [], All, IfOk, IfSome, OnOk, false, length};
+ghost use Rattle.std.specs.Prelude.{◌≡◌, ◌+◌, ◌*◌, ◌<◌, ◌++◌, ◌∷◌, [], All, IfOk, IfSome, OnOk, false, length, min};
 ghost use Rattle.scop_syntax.specs.View.{instance_of};
 ghost use Rattle.loop_tree.specs.Braids.{IsBraid, left_of_braid};
 ghost use Rattle.loop_tree.specs.Conditions.{CanWalk, IsHeld};
@@ -34,18 +34,16 @@ struct Cut {
     next: Key,
 }
 
-/// How many loops deep loops are left at most.
-const DEEPEST: usize = 12;
+/// How many steps of the walk a look ahead takes at least.
+const LEAST_PRICE: usize = 16;
 
-/// How many steps of the walk a look ahead is worth.
-const LOOK: usize = 16;
-
-/// How many steps can be saved up.
+/// How many steps it takes at most, and how many can be saved up.
 const MOST_SAVED: usize = 1024;
 
 /// A spot that leaves loops ahead of the walk, and how many loops deep it stands where it does so: a guess, which rises
-/// until what is left there lies in one tile. In each tile it begins at the least that was right in any; 0 before. So
-/// that looks in vain are few, each has to be saved up for: by steps of the walk, and by instances that were left.
+/// until what is left there lies in one tile. In each tile it begins at the least that was right in any. So that looks
+/// in vain are few, each has to be saved up for, by steps of the walk and by instances that were left, and takes twice
+/// as much as the one before it until one was right.
 #[derive(Drop)]
 struct Scout {
     spot: Spot,
@@ -53,6 +51,7 @@ struct Scout {
     least: usize,
     tile: usize,
     saved: usize,
+    price: usize,
 }
 
 /// So many more, where a word has room for it.
@@ -63,6 +62,14 @@ fn more(number: usize, count: usize) -> Result<usize, AllocError>
         None => Err(AllocError),
         Some(sum) => Ok(sum),
     }
+}
+
+/// The lesser of two numbers.
+#[inline]
+fn lesser(a: usize, b: usize) -> usize
+    ensures { result ≡ min a b }
+{
+    if a <= b { a } else { b }
 }
 
 /// So many times, where a word has room for it.
@@ -141,6 +148,7 @@ impl Scout {
             least: 0,
             tile: 0,
             saved: MOST_SAVED,
+            price: LEAST_PRICE,
         })
     }
 
@@ -177,12 +185,7 @@ impl Scout {
     fn save(&mut self, steps: usize)
         ensures { self.new.spot ≡ self.old.spot }
     {
-        let saved = self.saved.saturating_add(steps);
-        self.saved = if saved < MOST_SAVED {
-            saved
-        } else {
-            MOST_SAVED
-        };
+        self.saved = lesser(self.saved.saturating_add(steps), MOST_SAVED);
     }
 
     /// Whether to look ahead, after a step in the tile with so many in front of it.
@@ -192,22 +195,29 @@ impl Scout {
     {
         if self.tile != tile {
             self.tile = tile;
-            self.level = self.least;
+            if self.least > 0 {
+                self.level = self.least;
+            }
         }
         self.save(1);
-        if self.level > DEEPEST || self.saved < LOOK {
+        if self.saved < self.price {
             return false;
         }
-        self.saved -= LOOK;
+        self.saved -= self.price;
         true
     }
 
-    /// What was left lies in several tiles: next time it stands one loop further in.
+    /// What was left lies in several tiles: next time it stands one loop further in, or as far out as it may where there
+    /// is none.
     #[inline]
     fn deepen(&mut self)
         ensures { self.new.spot ≡ self.old.spot }
     {
         self.level = self.level.saturating_add(1);
+        if self.level >= self.spot.marks.len() {
+            self.level = self.least;
+        }
+        self.price = lesser(self.price.saturating_add(self.price), MOST_SAVED);
     }
 
     /// So many were left, which lie in one tile.
@@ -216,6 +226,7 @@ impl Scout {
         ensures { self.new.spot ≡ self.old.spot }
     {
         self.save(count);
+        self.price = LEAST_PRICE;
         if self.least == 0 || self.level < self.least {
             self.least = self.level;
         }
