@@ -1,5 +1,5 @@
 -- A condensed system has the same points over each denominator, and speaks of as many variables.
-use Rattle.std.proofs.Common.{◌≡◌, ℕ, zero, suc, ◌<◌, ℤ, pos, negsuc, neg_ℤ, ◌*ℤ◌, ◌≤ℤ◌, ◌<ℤ◌, unsigned_abs, Bool, true}
+use Rattle.std.proofs.Common.{◌≡◌, ℕ, suc, ◌<◌, ℤ, pos, negsuc, neg_ℤ, ◌*ℤ◌, ◌≤ℤ◌, ◌<ℤ◌, unsigned_abs, Bool, true}
 use Rattle.std.proofs.Common.{false, get_or}
 use Rattle.std.proofs.Common.{List, [], ◌∷◌, ◌++◌, length, ◌↔◌, refl, sym, ◌∙◌, ap, subst, All, arith}
 use Rattle.std.specs.Prelude.{Result, Ok, Err, not, ◌&&◌, if◌then◌else◌, nat_eq}
@@ -24,8 +24,7 @@ use Rattle.affine_forms.specs.Parts.{variables_of}
 use Rattle.integer_sets.specs.Constraints.{Constraints, IsSized}
 use Rattle.integer_sets.specs.Points.{Satisfies}
 use Rattle.fm_projection.specs.Runs.{reduced_run}
-use Rattle.fm_projection.specs.Condensed.{cleared, cleared_at, cleared_by, first_unit, given_or, is_constant}
-use Rattle.fm_projection.specs.Condensed.{is_unit}
+use Rattle.fm_projection.specs.Condensed.{cleared, cleared_at, cleared_by, first_place, given_or, is_constant}
 use Rattle.fm_projection.specs.Condensed.{own_equalities, own_rows, condensed, with_cleared, with_equalities, with_equality}
 use Rattle.fm_projection.specs.Condensed.{with_told}
 use Rattle.fm_projection.specs.Tightest.{with_row}
@@ -65,9 +64,9 @@ cleared_sized : (n : ℕ) (e f : Affine) → variables_of f ≡ n → variables_
 cleared_sized n e f own = by (nat_eq (length f.coefficients) (length e.coefficients)) refl
   where
     by : (b : Bool) → nat_eq (length f.coefficients) (length e.coefficients) ≡ b
-        → variables_of (if b then cleared_at (first_unit e.coefficients) e f else f) ≡ n
+        → variables_of (if b then cleared_at (first_place e.coefficients) e f else f) ≡ n
     by true same =
-        at_sized (first_unit e.coefficients) n e f own
+        at_sized (first_place e.coefficients) n e f own
         (sym (eqb-true (length f.coefficients) (length e.coefficients) same) ∙ own)
     by false other = own
 
@@ -121,29 +120,23 @@ condensed_sized n s sized =
 
 -- ---- what clears a form
 
-unit_is : (c : ℤ) → is_unit c ≡ true → is_zero c ≡ false
-unit_is (pos zero) h = absurd (false≢true h)
-unit_is (pos (suc zero)) h = refl
-unit_is (pos (suc (suc n))) h = absurd (false≢true h)
-unit_is (negsuc n) h = refl
-
-first_has : (cs : List ℤ) → first_unit cs < length cs → is_zero (get_or cs (first_unit cs) (pos 0)) ≡ false
+first_has : (cs : List ℤ) → first_place cs < length cs → is_zero (get_or cs (first_place cs) (pos 0)) ≡ false
 first_has [] inside = absurd (omega (arith, inside))
-first_has (c ∷ cs) inside = by (is_unit c) refl inside (first_has cs)
+first_has (c ∷ cs) inside = by (is_zero c) refl inside (first_has cs)
   where
-    by : (b : Bool) → is_unit c ≡ b → (if b then 0 else suc (first_unit cs)) < suc (length cs)
-        → (first_unit cs < length cs → is_zero (get_or cs (first_unit cs) (pos 0)) ≡ false)
-        → is_zero (get_or (c ∷ cs) (if b then 0 else suc (first_unit cs)) (pos 0)) ≡ false
-    by true unit less rest = unit_is c unit
-    by false other less rest = rest (omega (arith, less))
+    by : (b : Bool) → is_zero c ≡ b → (if b then suc (first_place cs) else 0) < suc (length cs)
+        → (first_place cs < length cs → is_zero (get_or cs (first_place cs) (pos 0)) ≡ false)
+        → is_zero (get_or (c ∷ cs) (if b then suc (first_place cs) else 0) (pos 0)) ≡ false
+    by true none less rest = rest (omega (arith, less))
+    by false has less rest = has
 
 -- a form that is cleared
-pub cleared_is : (e f g : Affine) → variables_of f ≡ variables_of e → first_unit e.coefficients < variables_of e
-    → is_zero (coefficient_of (first_unit e.coefficients) f) ≡ false
-    → reduced_run (first_unit e.coefficients) e f ≡ Ok g → g ≡ cleared e f
+pub cleared_is : (e f g : Affine) → variables_of f ≡ variables_of e → first_place e.coefficients < variables_of e
+    → is_zero (coefficient_of (first_place e.coefficients) f) ≡ false
+    → reduced_run (first_place e.coefficients) e f ≡ Ok g → g ≡ cleared e f
 cleared_is e f g same inside has run =
-    by (nat_eq (length f.coefficients) (length e.coefficients)) (is_zero (coefficient_of (first_unit e.coefficients) e))
-    (is_zero (coefficient_of (first_unit e.coefficients) f)) (reduced_run (first_unit e.coefficients) e f)
+    by (nat_eq (length f.coefficients) (length e.coefficients)) (is_zero (coefficient_of (first_place e.coefficients) e))
+    (is_zero (coefficient_of (first_place e.coefficients) f)) (reduced_run (first_place e.coefficients) e f)
     (eq-eqb (length f.coefficients) (length e.coefficients) same) (first_has e.coefficients inside) has run
   where
     by : (a b c : Bool) (r : Result Affine Wide) → a ≡ true → b ≡ false → c ≡ false → r ≡ Ok g
@@ -187,11 +180,11 @@ module _ (d : ℤ) (xs : List ℤ) (positive : pos 0 <ℤ d) where
 
   -- where the equality holds, a form has the sign that it has with the equality's value of a variable
   reduced_alike : (i : ℕ) (e f : Affine) → is_zero (coefficient_of i e) ≡ false → Zero e → Alike (reduced i e f) f
-  reduced_alike i e f has held =
+  reduced_alike i e f has zero =
       let m = pos (unsigned_abs (coefficient_of i e)) in
       let k = neg_ℤ (sign (coefficient_of i e) *ℤ coefficient_of i f) in
       let v = value_over f d xs in
-      let none = ap (λ (z : ℤ). k *ℤ z) held ∙ mul_zero_right k in
+      let none = ap (λ (z : ℤ). k *ℤ z) zero ∙ mul_zero_right k in
       let sum = value_over-sum (multiple_of_form m f) (multiple_of_form k e) d xs in
       let first = value_over-multiple m f d xs in
       let second = value_over-multiple k e d xs in
@@ -207,29 +200,29 @@ module _ (d : ℤ) (xs : List ℤ) (positive : pos 0 <ℤ d) where
 
   given_alike : (i : ℕ) (e f : Affine) → variables_of f ≡ variables_of e → is_zero (coefficient_of i e) ≡ false
       → Zero e → (r : Result Affine Wide) → reduced_run i e f ≡ r → Alike (given_or f r) f
-  given_alike i e f same has held (Err w) run = alike_self f
-  given_alike i e f same has held (Ok g) run =
+  given_alike i e f same has zero (Err w) run = alike_self f
+  given_alike i e f same has zero (Ok g) run =
       subst (λ (h : Affine). Alike h f) (sym (reduced_run-exact i e f g same run))
       (alike_then (lowest_of_form (reduced i e f)) (reduced i e f) f (lowest_sign (reduced i e f) d xs)
-      (reduced_alike i e f has held))
+      (reduced_alike i e f has zero))
 
   at_alike : (i : ℕ) (e f : Affine) → variables_of f ≡ variables_of e → Zero e → Alike (cleared_at i e f) f
-  at_alike i e f same held = by (is_zero (coefficient_of i e)) refl (is_zero (coefficient_of i f))
+  at_alike i e f same zero = by (is_zero (coefficient_of i e)) refl (is_zero (coefficient_of i f))
     where
       by : (b : Bool) → is_zero (coefficient_of i e) ≡ b → (c : Bool)
           → Alike (if b then f else if c then f else given_or f (reduced_run i e f)) f
       by true has c = alike_self f
       by false has true = alike_self f
-      by false has false = given_alike i e f same has held (reduced_run i e f) refl
+      by false has false = given_alike i e f same has zero (reduced_run i e f) refl
 
   cleared_alike : (e f : Affine) → Zero e → Alike (cleared e f) f
-  cleared_alike e f held = by (nat_eq (length f.coefficients) (length e.coefficients)) refl
+  cleared_alike e f zero = by (nat_eq (length f.coefficients) (length e.coefficients)) refl
     where
       by : (b : Bool) → nat_eq (length f.coefficients) (length e.coefficients) ≡ b
-          → Alike (if b then cleared_at (first_unit e.coefficients) e f else f) f
+          → Alike (if b then cleared_at (first_place e.coefficients) e f else f) f
       by true same =
-          at_alike (first_unit e.coefficients) e f
-          (eqb-true (length f.coefficients) (length e.coefficients) same) held
+          at_alike (first_place e.coefficients) e f
+          (eqb-true (length f.coefficients) (length e.coefficients) same) zero
       by false other = alike_self f
 
   by_alike : (es : List Affine) (f : Affine) → All Zero es → Alike (cleared_by es f) f
@@ -303,25 +296,25 @@ module _ (d : ℤ) (xs : List ℤ) (positive : pos 0 <ℤ d) where
       by false says all = both_with d xs positive rows f all
 
   rows_to : (es rows fs : List Affine) → All Zero es → All Up rows → All Up fs → All Up (with_cleared es rows fs)
-  rows_to es rows [] held all more = all
-  rows_to es rows (f ∷ fs) held all more =
-      rows_to es (with_told rows (cleared_by es f)) fs held
-      (told_to rows (cleared_by es f) all ((by_alike es f held).1.1 (All-head Up f fs more))) (All-tail Up f fs more)
+  rows_to es rows [] zero all more = all
+  rows_to es rows (f ∷ fs) zero all more =
+      rows_to es (with_told rows (cleared_by es f)) fs zero
+      (told_to rows (cleared_by es f) all ((by_alike es f zero).1.1 (All-head Up f fs more))) (All-tail Up f fs more)
 
   rows_from : (es rows fs : List Affine) → All Zero es → All Up (with_cleared es rows fs) → All Up rows × All Up fs
-  rows_from es rows [] held h = (h, All-nil Up)
-  rows_from es rows (f ∷ fs) held h =
-      let rest = rows_from es (with_told rows (cleared_by es f)) fs held h in
+  rows_from es rows [] zero h = (h, All-nil Up)
+  rows_from es rows (f ∷ fs) zero h =
+      let rest = rows_from es (with_told rows (cleared_by es f)) fs zero h in
       let one = told_from rows (cleared_by es f) rest.0 in
-      (one.0, All-cons Up f fs ((by_alike es f held).1.0 one.1) rest.1)
+      (one.0, All-cons Up f fs ((by_alike es f zero).1.0 one.1) rest.1)
 
   pub condensed_over : (s : Constraints)
       → HoldsOver s.equalities s.rows d xs ↔ HoldsOver (condensed s).equalities (condensed s).rows d xs
   unfolding own_equalities own_rows
   condensed_over s = (
     λ h.
-        let held = equalities_to [] s.equalities (All-nil Zero) h.0 in
-        (held, rows_to (own_equalities s) [] s.rows held (All-nil Up) h.1),
+        let zero = equalities_to [] s.equalities (All-nil Zero) h.0 in
+        (zero, rows_to (own_equalities s) [] s.rows zero (All-nil Up) h.1),
     λ h. (
       (equalities_from [] s.equalities h.0).1,
       (rows_from (own_equalities s) [] s.rows h.0 h.1).1,

@@ -1,7 +1,7 @@
--- A system with the same points and fewer rows: wherever the first variable that an equality has once stands behind it,
--- there is its value; what says nothing is left out, and of rows with the same coefficients the tightest stays.
-use Rattle.std.specs.Prelude.{ℕ, zero, suc, Bool, true, false, not, ◌&&◌, if◌then◌else◌, nat_eq, ℤ, pos, negsuc, List}
-use Rattle.std.specs.Prelude.{[], ◌∷◌, ◌++◌, length, Result, Ok, Err}
+-- A system with the same points and fewer rows: wherever the first variable of an equality stands behind it, there is its
+-- value; what says nothing is left out, and of rows with the same coefficients the tightest stays.
+use Rattle.std.specs.Prelude.{ℕ, suc, Bool, not, ◌&&◌, if◌then◌else◌, nat_eq, ℤ, List, [], ◌∷◌, ◌++◌, length}
+use Rattle.std.specs.Prelude.{Result, Ok, Err}
 use Rattle.std.specs.List.{list_all}
 use Rattle.whole_numbers.specs.Affine.{Affine}
 use Rattle.wide_math.specs.declared.Wide.{Wide}
@@ -10,18 +10,10 @@ use Rattle.integer_sets.specs.Constraints.{Constraints, system_of}
 use Rattle.fm_projection.specs.Runs.{reduced_run}
 use Rattle.fm_projection.specs.Tightest.{with_row}
 
--- 1 or -1
-abbrev pub is_unit : ℤ → Bool
-is_unit (pos zero) = false
-is_unit (pos (suc zero)) = true
-is_unit (pos (suc (suc n))) = false
-is_unit (negsuc zero) = true
-is_unit (negsuc (suc n)) = false
-
--- how many numbers stand before the first that is 1 or -1
-abbrev pub first_unit : List ℤ → ℕ
-first_unit [] = 0
-first_unit (c ∷ cs) = if is_unit c then 0 else suc (first_unit cs)
+-- how many numbers stand before the first other than 0
+abbrev pub first_place : List ℤ → ℕ
+first_place [] = 0
+first_place (c ∷ cs) = if is_zero c then suc (first_place cs) else 0
 
 -- what a run gives; the form as it was where a number on the way is too wide
 abbrev pub given_or : Affine → Result Affine Wide → Affine
@@ -35,10 +27,10 @@ cleared_at i e f =
     else if is_zero (coefficient_of i f) then f
     else given_or f (reduced_run i e f)
 
--- with the value of the first variable that the equality has once
+-- with the value of the equality's first variable
 abbrev pub cleared : Affine → Affine → Affine
 cleared e f =
-    if nat_eq (length f.coefficients) (length e.coefficients) then cleared_at (first_unit e.coefficients) e f else f
+    if nat_eq (length f.coefficients) (length e.coefficients) then cleared_at (first_place e.coefficients) e f else f
 
 -- by each of the equalities, in order
 abbrev pub cleared_by : List Affine → Affine → Affine

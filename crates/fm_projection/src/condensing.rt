@@ -2,7 +2,7 @@
 
 ghost use Rattle.std.specs.Prelude.{◌≡◌, [], IfOk, OnOk, not, ◌&&◌};
 ghost use Rattle.fractions.specs.Elimination.{is_negative, is_zero};
-ghost use Rattle.fm_projection.specs.Condensed.{cleared, cleared_by, condensed, first_unit, is_constant, is_unit};
+ghost use Rattle.fm_projection.specs.Condensed.{cleared, cleared_by, first_place, is_constant, condensed};
 ghost use Rattle.fm_projection.specs.Condensed.{with_cleared, with_equalities, with_equality, with_told};
 
 use crate::rows::{coefficient, reduced};
@@ -11,37 +11,27 @@ use affine_forms::{Form, FormStop, push_copy};
 use integer_sets::System;
 use std::alloc::{AllocError, Global};
 
-/// Whether a number is 1 or -1.
-fn is_unit(number: i128) -> bool
-    ensures { result ≡ is_unit number }
-{
-    if number == 1 {
-        return true;
-    }
-    number == -1
-}
-
-/// How many numbers stand before the first that is 1 or -1.
-fn first_unit(numbers: &[i128]) -> usize
-    ensures { result ≡ first_unit numbers.now }
+/// How many numbers stand before the first other than 0.
+fn first_place(numbers: &[i128]) -> usize
+    ensures { result ≡ first_place numbers.now }
 {
     for at in 0..numbers.len() {
-        if is_unit(numbers[at]) {
+        if numbers[at] != 0 {
             return at;
         }
     }
     numbers.len()
 }
 
-/// Puts an equality's value of the first variable that it has once in the place of that; where a number on the way is too
-/// wide, or the forms are over other variables, the form stays.
+/// Puts an equality's value of its first variable in the place of that; where a number on the way is too wide, or the
+/// forms are over other variables, the form stays.
 fn clear(form: &mut Form, equality: &Form) -> Result<(), AllocError>
     ensures { OnOk result (form.new ≡ cleared equality.now form.old) }
 {
     if form.variables() != equality.variables() {
         return Ok(());
     }
-    let variable = first_unit(equality.coefficients());
+    let variable = first_place(equality.coefficients());
     if variable >= equality.variables() {
         return Ok(());
     }
@@ -138,9 +128,9 @@ fn own_rows(alloc: Global, equalities: &[Form], forms: &[Form]) -> Result<Vec<Fo
     Ok(out)
 }
 
-/// The system with the same points in which the first variable that an equality has once stands in no later equality and
-/// in no row, but where its value there is too wide; nothing is left that holds everywhere, and of rows with the same
-/// coefficients the tightest.
+/// The system with the same points in which an equality's first variable stands in no later equality and in no row, but
+/// where its value there is too wide; nothing is left that holds everywhere, and of rows with the same coefficients the
+/// tightest.
 ///
 /// # Errors
 /// `AllocError` alone.
