@@ -1,4 +1,4 @@
--- A condensed system has the same points over each denominator, and speaks of as many variables.
+-- A condensed system has the same points over each denominator, and its forms are over as many variables.
 use Rattle.std.proofs.Common.{◌≡◌, ℕ, suc, ◌<◌, ℤ, pos, negsuc, neg_ℤ, ◌*ℤ◌, ◌≤ℤ◌, ◌<ℤ◌, unsigned_abs, Bool, true}
 use Rattle.std.proofs.Common.{false, get_or}
 use Rattle.std.proofs.Common.{List, [], ◌∷◌, ◌++◌, length, ◌↔◌, refl, sym, ◌∙◌, ap, subst, All, arith}
@@ -21,7 +21,7 @@ use Rattle.fractions.proofs.Content.{lowest_sign}
 use Rattle.fractions.proofs.EqualityElimination.{least_scales, size_positive, zero_scales}
 use Rattle.fractions.proofs.PointValues.{value_over-multiple, value_over-sum}
 use Rattle.affine_forms.specs.Parts.{variables_of}
-use Rattle.integer_sets.specs.Constraints.{Constraints, IsSized}
+use Rattle.integer_sets.specs.Constraints.{Constraints}
 use Rattle.integer_sets.specs.Points.{Satisfies}
 use Rattle.fm_projection.specs.Runs.{reduced_run}
 use Rattle.fm_projection.specs.Condensed.{cleared, cleared_at, cleared_by, first_place, given_or, is_constant}
@@ -108,15 +108,6 @@ rows_sized n es rows (f ∷ fs) all more =
     let Of : Affine → Type 0 = λ h. variables_of h ≡ n in
     rows_sized n es (with_told rows (cleared_by es f)) fs
     (one_row_sized n rows (cleared_by es f) all (by_sized n es f (All-head Of f fs more))) (All-tail Of f fs more)
-
-pub condensed_sized : (n : ℕ) (s : Constraints) → IsSized n s.equalities s.rows
-    → IsSized n (condensed s).equalities (condensed s).rows
-unfolding own_equalities own_rows
-condensed_sized n s sized =
-    record {
-      equalities_sized = equalities_sized n [] s.equalities (All-nil (λ f. variables_of f ≡ n)) sized.equalities_sized;
-      rows_sized = rows_sized n (own_equalities s) [] s.rows (All-nil (λ f. variables_of f ≡ n)) sized.rows_sized;
-    }
 
 -- ---- what clears a form
 

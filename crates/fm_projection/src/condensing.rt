@@ -7,7 +7,7 @@ ghost use Rattle.fm_projection.specs.Condensed.{with_cleared, with_equalities, w
 
 use crate::rows::{coefficient, reduced};
 use crate::tightest::put;
-use affine_forms::{Form, FormStop, push_copy};
+use affine_forms::{Form, FormStop, push};
 use integer_sets::System;
 use std::alloc::{AllocError, Global};
 
@@ -92,7 +92,7 @@ fn put_equality(equalities: &mut Vec<Form>, form: &Form) -> Result<(), AllocErro
     if is_nothing(&own) {
         return Ok(());
     }
-    push_copy(equalities, &own)
+    push(equalities, own)
 }
 
 /// A row more, cleared by the equalities, unless it holds everywhere.
