@@ -174,23 +174,23 @@ drives d n (unary s t) hs ns at b u rest w h deep many =
     ∙ drives d n t hs' ns (at + 1) b (u + 1) rest w.1 r (omega arith) (omega arith)
     ∙ run_same d n (mode.Done (last_of t)) (spine (at + 1) t hs') ns' ns' (at + 1 + size t) (at + size (unary s t))
     b b (u + 1 + operators t) (u + operators (unary s t)) rest refl (omega arith) refl (omega arith)
-drives d n (cast t) hs ns at b u rest w h deep many =
+drives d n (cast z t) hs ns at b u rest w h deep many =
     let r = w.0 in
-    let hs' = held.Cast at ∷ hs in
+    let hs' = held.Cast z at ∷ hs in
     let at' = at + 1 + 1 + 1 in
     let ns' = shown at' t ns in
     let more = tokens_of t ++ rest in
     let grouped = state mode.Want (held.Group at ∷ hs) ns (at + 1) (b + 1) u in
-    let worded = state mode.Casting (held.Group at ∷ hs) ns (at + 1 + 1) (b + 1) (u + 1) in
+    let worded = state (mode.Casting z) (held.Group at ∷ hs) ns (at + 1 + 1) (b + 1) (u + 1) in
     let next = state mode.Want hs' ns at' (b + 1 - 1) (u + 1) in
-    run_goes d n (state mode.Want hs ns at b u) grouped token.Open (token.Uint64 ∷ token.Close ∷ more)
+    run_goes d n (state mode.Want hs ns at b u) grouped token.Open ((token.Unsigned z) ∷ token.Close ∷ more)
     refl (omega arith) (omega arith)
-    ∙ run_goes d n grouped worded token.Uint64 (token.Close ∷ more) refl (omega arith) (omega arith)
+    ∙ run_goes d n grouped worded (token.Unsigned z) (token.Close ∷ more) refl (omega arith) (omega arith)
     ∙ run_goes d n worded next token.Close more refl (omega arith) (omega arith)
     ∙ run_same d n mode.Want hs' ns ns at' at' (b + 1 - 1) b (u + 1) (u + 1) more refl refl (omega arith) refl
     ∙ drives d n t hs' ns at' b (u + 1) rest w.1 r (omega arith) (omega arith)
-    ∙ run_same d n (mode.Done (last_of t)) (spine at' t hs') ns' ns' (at' + size t) (at + size (cast t)) b b
-    (u + 1 + operators t) (u + operators (cast t)) rest refl (omega arith) refl (omega arith)
+    ∙ run_same d n (mode.Done (last_of t)) (spine at' t hs') ns' ns' (at' + size t) (at + size (cast z t)) b b
+    (u + 1 + operators t) (u + operators (cast z t)) rest refl (omega arith) refl (omega arith)
 drives d n (binary o a c) hs ns at b u rest w h deep many =
     let l = w.0 in
     let r = w.1 in

@@ -5,6 +5,7 @@ use Rattle.std.specs.Prelude.{max, nat_lt}
 use Rattle.std.proofs.lemmas.Bool.Decides.{nat_tests}
 use Rattle.std.proofs.lemmas.Bool.{lt-ltb}
 use Rattle.scop_tokens.specs.declared.Op.{Op}
+use Rattle.scop_tokens.specs.declared.Width.{Width}
 use Rattle.expression_grammar.specs.declared.token.Sign.{Sign}
 use Rattle.expression_grammar.specs.Tree.{Tree, unary, cast, binary, level, rank, size, depth, operators, written}
 use Rattle.expression_grammar.specs.Tree.{WellBracketed, tokens_of}
@@ -92,10 +93,11 @@ fold_sign l g fs t m f =
     fold l (sign g ∷ fs) fs t (unary g t) (rw (lt-ltb l 11 (omega arith), p) (rw append_assoc refl))
     (simp append_assoc) (omega arith) refl (omega arith) f
 
-pub fold_cast : (l : ℕ) (fs : List Frame) (t : Tree) → l ≤ 10 → Folded l fs (cast t) → Folded l (casting ∷ fs) t
-fold_cast l fs t m f =
-    let p : place (casting ∷ fs) ≡ place fs + 1 + 1 + 1 = simp length-append (omega arith) in
-    fold l (casting ∷ fs) fs t (cast t) (rw (lt-ltb l 11 (omega arith), p) (rw append_assoc refl))
+pub fold_cast : (l : ℕ) (z : Width) (fs : List Frame) (t : Tree) → l ≤ 10 → Folded l fs (cast z t)
+    → Folded l (casting z ∷ fs) t
+fold_cast l z fs t m f =
+    let p : place (casting z ∷ fs) ≡ place fs + 1 + 1 + 1 = simp length-append (omega arith) in
+    fold l (casting z ∷ fs) fs t (cast z t) (rw (lt-ltb l 11 (omega arith), p) (rw append_assoc refl))
     (simp append_assoc) (omega arith) refl (omega arith) f
 
 pub fold_frames : (l : ℕ) (fs : List Frame) (t : Tree)
@@ -106,8 +108,8 @@ fold_frames l (left o a ∷ fs) t s w h k m =
     (λ (g : l ≤ level o). fold_frames l fs (binary o a t) s.3 (s.1, omega arith, s.2, w) s.0 g m)
 fold_frames l (sign g ∷ fs) t s w h k m =
     fold_sign l g fs t m (fold_frames l fs (unary g t) s (h, w) (demand_most (held_of fs)) (omega arith) m)
-fold_frames l (casting ∷ fs) t s w h k m =
-    fold_cast l fs t m (fold_frames l fs (cast t) s (h, w) (demand_most (held_of fs)) (omega arith) m)
+fold_frames l (casting z ∷ fs) t s w h k m =
+    fold_cast l z fs t m (fold_frames l fs (cast z t) s (h, w) (demand_most (held_of fs)) (omega arith) m)
 fold_frames l (grouping ∷ fs) t s w h k m = stay l (grouping ∷ fs) t refl s w h k (omega arith)
 fold_frames l (indexing a ∷ fs) t s w h k m = stay l (indexing a ∷ fs) t refl s w h k (omega arith)
 fold_frames l (calling ∷ fs) t s w h k m = stay l (calling ∷ fs) t refl s w h k (omega arith)

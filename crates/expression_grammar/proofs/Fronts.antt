@@ -25,14 +25,14 @@ pub brackets_peak : (fs : List Frame) → brackets_of fs ≤ peak fs
 brackets_peak [] = omega arith
 brackets_peak (left o a ∷ fs) = let h = brackets_peak fs in omega arith
 brackets_peak (sign s ∷ fs) = brackets_peak fs
-brackets_peak (casting ∷ fs) = let h = brackets_peak fs in omega arith
+brackets_peak (casting z ∷ fs) = let h = brackets_peak fs in omega arith
 brackets_peak (grouping ∷ fs) = let h = brackets_peak fs in omega arith
 brackets_peak (indexing a ∷ fs) = let h = brackets_peak fs in omega arith
 brackets_peak (calling ∷ fs) = let h = brackets_peak fs in omega arith
 
 pub brackets_most : (x : Shape) → (state_of x).brackets ≤ most x
 brackets_most (want fs) = brackets_peak fs
-brackets_most (cast_word fs) = let b = brackets_peak fs in omega arith
+brackets_most (cast_word z fs) = let b = brackets_peak fs in omega arith
 brackets_most (done fs t) = let b = brackets_peak fs in omega arith
 
 -- a tree put at the open place makes a text
@@ -54,15 +54,15 @@ completed d n fs t ts more s w r p u e =
     )
 
 abbrev pub one : Tree
-one = constant suffix.Absent
+one = constant suffix.Present
 
 pub front_shape : (d n : ℕ) (x : Shape) → IsSound x → most x ≤ d → (state_of x).used ≤ n → IsFront d n (read_of x)
 front_shape d n (want fs) s p u =
     let b = brackets_peak fs in
     completed d n fs one (front fs) (tokens_of one ++ ending fs) s tt (omega arith) (omega arith) (omega arith) refl
-front_shape d n (cast_word fs) s p u =
+front_shape d n (cast_word z fs) s p u =
     let b = brackets_peak fs in
-    completed d n (casting ∷ fs) one (read_of (cast_word fs)) (token.Close ∷ (tokens_of one ++ ending fs)) s tt
+    completed d n (casting z ∷ fs) one (read_of (cast_word z fs)) (token.Close ∷ (tokens_of one ++ ending fs)) s tt
     (omega arith) (omega arith) (omega arith) (simp append_assoc)
 front_shape d n (done fs t) s p u =
     let r = s.2 in
@@ -147,7 +147,7 @@ whole_folded d n fs t nodes f p u h =
 pub whole_shape : (d n : ℕ) (x : Shape) (nodes : List Node) → IsSound x → most x ≤ d → (state_of x).used ≤ n
     → complete (state_of x) ≡ Some nodes → Whole (read_of x) nodes d n (state_of x).used
 whole_shape d n (want fs) nodes s p u h = absurd (cc)
-whole_shape d n (cast_word fs) nodes s p u h = absurd (cc)
+whole_shape d n (cast_word z fs) nodes s p u h = absurd (cc)
 whole_shape d n (done fs t) nodes s p u h =
     let r = s.2 in
     let q = demand_most (held_of fs) in

@@ -18,7 +18,7 @@ use Rattle.expression_grammar.proofs.Fronts.{is_front, final, accepted, final_co
 -- a state knows how many tokens led to it
 pub at_shape : (x : Shape) → (state_of x).at ≡ length (read_of x)
 at_shape (want fs) = refl
-at_shape (cast_word fs) = simp length-append refl
+at_shape (cast_word z fs) = simp length-append refl
 at_shape (done fs t) = simp length-append refl
 
 pub at_length : (s : State) (ts : List Token) (d : ℕ) → Stands s ts d → s.at ≡ length ts

@@ -3,6 +3,7 @@ use Rattle.std.proofs.Common.{◌≡◌, ℕ, ◌+◌, Bool, true, false, List, 
 use Rattle.std.proofs.lemmas.Bool.{lt-ltb}
 use Rattle.std.specs.Prelude.{nat_lt, Option, Some, None, Result, Ok, Err, if◌then◌else◌}
 use Rattle.scop_tokens.specs.declared.Op.{Op}
+use Rattle.scop_tokens.specs.declared.Width.{Width}
 use Rattle.expression_grammar.specs.declared.token.Sign.{Sign}
 use Rattle.expression_grammar.specs.declared.node.Node.{Node}
 use Rattle.expression_grammar.specs.declared.node.Node.TheVariants as node
@@ -31,17 +32,17 @@ pub unary_by : (l : ℕ) (s : Sign) (at : ℕ) (hs : List Held) (ns : List Node)
 unary_by l s at hs ns true e = rw e refl
 unary_by l s at hs ns false e = rw e refl
 
-pub cast_by : (l : ℕ) (at : ℕ) (hs : List Held) (ns : List Node) (x : Bool) → nat_lt l 11 ≡ x
-    → reduced l (held.Cast at ∷ hs) ns
-    ≡ reduced_by l (held.Cast at) hs ns (tight l (held.Cast at))
-cast_by l at hs ns true e = rw e refl
-cast_by l at hs ns false e = rw e refl
+pub cast_by : (l : ℕ) (z : Width) (at : ℕ) (hs : List Held) (ns : List Node) (x : Bool) → nat_lt l 11 ≡ x
+    → reduced l (held.Cast z at ∷ hs) ns
+    ≡ reduced_by l (held.Cast z at) hs ns (tight l (held.Cast z at))
+cast_by l z at hs ns true e = rw e refl
+cast_by l z at hs ns false e = rw e refl
 
 pub reduced_tight : (l : ℕ) (h : Held) (hs : List Held) (ns : List Node)
     → reduced l (h ∷ hs) ns ≡ reduced_by l h hs ns (tight l h)
 reduced_tight l (held.Binary o at) hs ns = binary_by l o at hs ns (nat_lt l (level o + 1)) refl
 reduced_tight l (held.Unary s at) hs ns = unary_by l s at hs ns (nat_lt l 11) refl
-reduced_tight l (held.Cast at) hs ns = cast_by l at hs ns (nat_lt l 11) refl
+reduced_tight l (held.Cast z at) hs ns = cast_by l z at hs ns (nat_lt l 11) refl
 reduced_tight l _ hs ns = refl
 
 pub reduced_some : (l : ℕ) (h : Held) (old hs : List Held) (ns : List Node) (n : Node)
@@ -71,7 +72,7 @@ pub tight_all : (l : ℕ) (h : Held) (n : Node) → tight l h ≡ Some n → tig
 tight_all l (held.Binary o at) n e =
     rw (lt-ltb 0 (level o + 1) (omega arith)) (some_if (nat_lt l (level o + 1)) (node.Binary o at) n e)
 tight_all l (held.Unary s at) n e = some_if (nat_lt l 11) (node.Unary s at) n e
-tight_all l (held.Cast at) n e = some_if (nat_lt l 11) (node.Cast at) n e
+tight_all l (held.Cast z at) n e = some_if (nat_lt l 11) (node.Cast z at) n e
 tight_all l _ n e = absurd (cc)
 
 pub reduced_again : (l : ℕ) (hs : List Held) (ns : List Node)

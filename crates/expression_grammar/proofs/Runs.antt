@@ -27,14 +27,14 @@ level_most _ = omega arith
 abbrev pub spine : ℕ → Tree → List Held → List Held
 spine at (binary o a b) hs = spine (at + size a + 1) b (held.Binary o (at + size a) ∷ hs)
 spine at (unary s t) hs = spine (at + 1) t (held.Unary s at ∷ hs)
-spine at (cast t) hs = spine (at + 1 + 1 + 1) t (held.Cast at ∷ hs)
+spine at (cast w t) hs = spine (at + 1 + 1 + 1) t (held.Cast w at ∷ hs)
 spine at t hs = hs
 
 -- the nodes that are complete then
 abbrev pub shown : ℕ → Tree → List Node → List Node
 shown at (binary o a b) ns = shown (at + size a + 1) b (ns ++ written at a)
 shown at (unary s t) ns = shown (at + 1) t ns
-shown at (cast t) ns = shown (at + 1 + 1 + 1) t ns
+shown at (cast w t) ns = shown (at + 1 + 1 + 1) t ns
 shown at t ns = ns ++ written at t
 
 -- what a tree ends with
@@ -42,7 +42,7 @@ abbrev pub last_of : Tree → Last
 last_of name = last.Name
 last_of (index t i) = last.Subscript
 last_of (unary s t) = last_of t
-last_of (cast t) = last_of t
+last_of (cast w t) = last_of t
 last_of (binary o a b) = last_of b
 last_of t = last.Other
 
@@ -54,9 +54,9 @@ reduced_spine l at (unary s t) hs ns w h k =
     let r = w.0 in
     reduced_spine l (at + 1) t (held.Unary s at ∷ hs) ns w.1 (omega arith) k
     ∙ rw (lt-ltb l 11 (omega arith), append_assoc) refl
-reduced_spine l at (cast t) hs ns w h k =
+reduced_spine l at (cast z t) hs ns w h k =
     let r = w.0 in
-    reduced_spine l (at + 1 + 1 + 1) t (held.Cast at ∷ hs) ns w.1 (omega arith) k
+    reduced_spine l (at + 1 + 1 + 1) t (held.Cast z at ∷ hs) ns w.1 (omega arith) k
     ∙ rw (lt-ltb l 11 (omega arith), append_assoc) refl
 reduced_spine l at (binary o a b) hs ns w h k =
     let r = w.1 in
@@ -69,5 +69,5 @@ pub reduced_stays : (l : ℕ) (hs : List Held) (ns : List Node) → demand hs �
 reduced_stays l [] ns h = refl
 reduced_stays l (held.Binary o at ∷ hs) ns h = rw (le-ltb l (level o + 1) h) refl
 reduced_stays l (held.Unary s at ∷ hs) ns h = rw (le-ltb l 11 h) refl
-reduced_stays l (held.Cast at ∷ hs) ns h = rw (le-ltb l 11 h) refl
+reduced_stays l (held.Cast w at ∷ hs) ns h = rw (le-ltb l 11 h) refl
 reduced_stays l _ ns h = refl

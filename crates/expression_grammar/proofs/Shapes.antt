@@ -9,6 +9,7 @@ use Rattle.expression_grammar.specs.declared.token.Sign.{Sign}
 use Rattle.expression_grammar.specs.declared.token.Sign.TheVariants as sign
 use Rattle.scop_tokens.specs.declared.Token.{Token}
 use Rattle.scop_tokens.specs.declared.Token.TheVariants as token
+use Rattle.scop_tokens.specs.declared.Width.{Width}
 use Rattle.expression_grammar.specs.declared.node.Node.{Node}
 use Rattle.expression_grammar.specs.declared.node.Node.TheVariants as node
 use Rattle.expression_grammar.specs.declared.node.Held.{Held}
@@ -31,13 +32,13 @@ use Rattle.expression_grammar.proofs.FrameFolds.{Folded, fold_frames}
 -- an operand is wanted, or a cast's word was read, or a tree is in hand, to be taken up by what follows
 pub data Shape : Type 0 where
   want : List Frame → Shape
-  cast_word : List Frame → Shape
+  cast_word : Width → List Frame → Shape
   done : List Frame → Tree → Shape
 
 abbrev pub state_of : Shape → State
 state_of (want fs) = state mode.Want (held_of fs) (nodes_of fs) (place fs) (brackets_of fs) (used_of fs)
-state_of (cast_word fs) =
-    state mode.Casting (held_of (grouping ∷ fs)) (nodes_of fs) (place fs + 2) (brackets_of fs + 1) (used_of fs + 1)
+state_of (cast_word z fs) =
+    state (mode.Casting z) (held_of (grouping ∷ fs)) (nodes_of fs) (place fs + 2) (brackets_of fs + 1) (used_of fs + 1)
 state_of (done fs t) =
     state (mode.Done (last_of t)) (held_of fs) (nodes_of fs ++ written (place fs) t) (place fs + size t)
     (brackets_of fs) (used_of fs + operators t)
@@ -45,18 +46,18 @@ state_of (done fs t) =
 -- the tokens that led there
 abbrev pub read_of : Shape → List Token
 read_of (want fs) = front fs
-read_of (cast_word fs) = front fs ++ token.Open ∷ token.Uint64 ∷ []
+read_of (cast_word z fs) = front fs ++ token.Open ∷ token.Unsigned z ∷ []
 read_of (done fs t) = front fs ++ tokens_of t
 
 abbrev pub IsSound : Shape → Type 0
 IsSound (want fs) = Sound fs
-IsSound (cast_word fs) = Sound fs
+IsSound (cast_word z fs) = Sound fs
 IsSound (done fs t) = Sound fs × WellBracketed t × (12 ≤ rank t)
 
 -- the most brackets that were open at once
 abbrev pub most : Shape → ℕ
 most (want fs) = peak fs
-most (cast_word fs) = max (peak fs) (brackets_of fs + 1)
+most (cast_word z fs) = max (peak fs) (brackets_of fs + 1)
 most (done fs t) = max (peak fs) (brackets_of fs + depth t)
 
 -- the state stands for trees whose tokens are those
@@ -102,8 +103,8 @@ keeps_operand fs token.Open s =
 keeps_operand fs (token.Binary op.Minus) s = keeps_sign fs sign.Minus s
 keeps_operand fs token.Complement s = keeps_sign fs sign.Complement s
 keeps_operand fs token.Not s = keeps_sign fs sign.Not s
-keeps_operand (grouping ∷ fs) token.Uint64 s =
-    stands (cast_word fs) _ _ _ _ _ _ _ _ refl refl refl (simp length-append (omega arith)) refl refl
+keeps_operand (grouping ∷ fs) (token.Unsigned z) s =
+    stands (cast_word z fs) _ _ _ _ _ _ _ _ refl refl refl (simp length-append (omega arith)) refl refl
     (simp append_assoc) s (omega arith)
 keeps_operand (calling ∷ fs) token.Close s =
     stands (done fs bare_call) _ _ _ _ _ _ _ _ refl refl (simp append_assoc) (simp length-append (omega arith))
@@ -225,7 +226,7 @@ keeps_call fs name s r =
     stands (want (calling ∷ fs)) _ _ _ _ _ _ _ _ refl refl refl (simp length-append (omega arith)) refl (omega arith)
     (simp append_assoc) s (omega arith)
 keeps_call fs (unary g t) s r = absurd (omega arith)
-keeps_call fs (cast t) s r = absurd (omega arith)
+keeps_call fs (cast z t) s r = absurd (omega arith)
 keeps_call fs (binary o a b) s r = let m = level_most o in absurd (omega arith)
 keeps_call fs _ s r = tt
 
@@ -238,7 +239,7 @@ keeps_index fs (index a i) s w r =
     stands (want (indexing (index a i) ∷ fs)) _ _ _ _ _ _ _ _ refl refl refl (simp length-append (omega arith)) refl
     refl (simp append_assoc) (tt, w, s) (omega arith)
 keeps_index fs (unary g t) s w r = absurd (omega arith)
-keeps_index fs (cast t) s w r = absurd (omega arith)
+keeps_index fs (cast z t) s w r = absurd (omega arith)
 keeps_index fs (binary o a b) s w r = let m = level_most o in absurd (omega arith)
 keeps_index fs _ s w r = tt
 
@@ -258,17 +259,17 @@ keeps_after fs t token.CloseIndex s w r =
     after_close_index fs t (fold_frames 0 fs t s w (omega arith) (omega arith) (omega arith))
 keeps_after fs t _ s w r = tt
 
-pub keeps_casting : (fs : List Frame) (t : Token) → Sound fs
-    → Keeps (read_of (cast_word fs)) t (most (cast_word fs)) (casting_step (state_of (cast_word fs)) t)
-keeps_casting fs token.Close s =
-    stands (want (casting ∷ fs)) _ _ _ _ _ _ _ _ refl refl refl (simp length-append (omega arith)) (omega arith) refl
+pub keeps_casting : (z : Width) (fs : List Frame) (t : Token) → Sound fs
+    → Keeps (read_of (cast_word z fs)) t (most (cast_word z fs)) (casting_step (state_of (cast_word z fs)) z t)
+keeps_casting z fs token.Close s =
+    stands (want (casting z ∷ fs)) _ _ _ _ _ _ _ _ refl refl refl (simp length-append (omega arith)) (omega arith) refl
     (simp append_assoc) s (omega arith)
-keeps_casting fs _ s = tt
+keeps_casting z fs _ s = tt
 
 -- what a step makes of each shape
 pub keeps_shape : (x : Shape) (t : Token) → IsSound x → Keeps (read_of x) t (most x) (step (state_of x) t)
 keeps_shape (want fs) t s = keeps_operand fs t s
-keeps_shape (cast_word fs) t s = keeps_casting fs t s
+keeps_shape (cast_word z fs) t s = keeps_casting z fs t s
 keeps_shape (done fs t) tok s = keeps_after fs t tok s.0 s.1 s.2
 
 -- a higher bound

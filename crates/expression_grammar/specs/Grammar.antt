@@ -30,5 +30,5 @@ IsFrontWithoutLimits front = (d : ℕ) × (n : ℕ) × IsFront d n front
 
 -- where a token that is too deep is told: a cast, known by its word, at its parenthesis
 abbrev pub told_at : Token → ℕ → ℕ
-told_at token.Uint64 at = at - 1
+told_at (token.Unsigned w) at = at - 1
 told_at t at = at

@@ -8,6 +8,7 @@ use Rattle.expression_grammar.specs.declared.token.Sign.{Sign}
 use Rattle.expression_grammar.specs.declared.token.Sign.TheVariants as sign
 use Rattle.scop_tokens.specs.declared.Token.{Token}
 use Rattle.scop_tokens.specs.declared.Token.TheVariants as token
+use Rattle.scop_tokens.specs.declared.Width.{Width}
 use Rattle.expression_grammar.specs.declared.node.Node.{Node}
 use Rattle.expression_grammar.specs.declared.node.Node.TheVariants as node
 use Rattle.expression_grammar.specs.declared.node.Held.{Held}
@@ -47,7 +48,7 @@ abbrev pub demand : List Held → ℕ
 demand [] = 1
 demand (held.Binary o at ∷ hs) = level o + 1
 demand (held.Unary s at ∷ hs) = 11
-demand (held.Cast at ∷ hs) = 11
+demand (held.Cast w at ∷ hs) = 11
 demand (held.Group at ∷ hs) = 1
 demand (held.Index at ∷ hs) = 1
 demand (held.Call at ∷ hs) = 0
@@ -67,10 +68,10 @@ reduced l (held.Unary s at ∷ hs) nodes =
     if nat_lt l 11
     then reduced l hs (nodes ++ node.Unary s at ∷ [])
     else (held.Unary s at ∷ hs, nodes)
-reduced l (held.Cast at ∷ hs) nodes =
+reduced l (held.Cast w at ∷ hs) nodes =
     if nat_lt l 11
-    then reduced l hs (nodes ++ node.Cast at ∷ [])
-    else (held.Cast at ∷ hs, nodes)
+    then reduced l hs (nodes ++ node.Cast w at ∷ [])
+    else (held.Cast w at ∷ hs, nodes)
 reduced l (held.Group at ∷ hs) nodes = (held.Group at ∷ hs, nodes)
 reduced l (held.Index at ∷ hs) nodes = (held.Index at ∷ hs, nodes)
 reduced l (held.Call at ∷ hs) nodes = (held.Call at ∷ hs, nodes)
@@ -92,9 +93,10 @@ abbrev pub closed : State → Mode → List Held → List Node → Move
 closed s m hs nodes = go (state m hs nodes (s.at + 1) (s.brackets - 1) s.used)
 
 -- the word of a cast, right behind a parenthesis
-abbrev pub cast_word : State → List Held → Move
-cast_word s (held.Group at ∷ hs) = go (state mode.Casting s.held s.nodes (s.at + 1) s.brackets (s.used + 1))
-cast_word s _ = stops
+abbrev pub cast_word : State → Width → List Held → Move
+cast_word s w (held.Group at ∷ hs) =
+    go (state (mode.Casting w) s.held s.nodes (s.at + 1) s.brackets (s.used + 1))
+cast_word s w _ = stops
 
 -- a call without arguments closes, right behind its parenthesis
 abbrev pub bare_closed : State → List Held → Move
@@ -109,19 +111,19 @@ operand s token.Open = opened s (held.Group s.at)
 operand s (token.Binary op.Minus) = signed s sign.Minus
 operand s token.Complement = signed s sign.Complement
 operand s token.Not = signed s sign.Not
-operand s token.Uint64 = cast_word s s.held
+operand s (token.Unsigned w) = cast_word s w s.held
 operand s token.Close = bare_closed s s.held
 operand s _ = stops
 
 -- the parenthesis behind a cast's word
-abbrev pub cast_closed : State → List Held → Move
-cast_closed s (held.Group at ∷ hs) = closed s mode.Want (held.Cast at ∷ hs) s.nodes
-cast_closed s _ = stops
+abbrev pub cast_closed : State → Width → List Held → Move
+cast_closed s w (held.Group at ∷ hs) = closed s mode.Want (held.Cast w at ∷ hs) s.nodes
+cast_closed s w _ = stops
 
 -- a token behind the word of a cast
-abbrev pub casting : State → Token → Move
-casting s token.Close = cast_closed s s.held
-casting s _ = stops
+abbrev pub casting : State → Width → Token → Move
+casting s w token.Close = cast_closed s w s.held
+casting s w _ = stops
 
 -- a parenthesis behind a name
 abbrev pub call_opened : State → Last → Move
@@ -168,7 +170,7 @@ after s l t = after_pair s t (reduced 0 s.held s.nodes)
 -- one token in a mode
 abbrev pub step_in : Mode → State → Token → Move
 step_in mode.Want s t = operand s t
-step_in mode.Casting s t = casting s t
+step_in (mode.Casting w) s t = casting s w t
 step_in (mode.Done l) s t = after s l t
 
 -- one token

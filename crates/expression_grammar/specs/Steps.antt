@@ -19,7 +19,7 @@ rest (x ∷ xs) = xs
 abbrev pub tight : ℕ → Held → Option Node
 tight l (held.Binary o at) = if nat_lt l (level o + 1) then Some (node.Binary o at) else None
 tight l (held.Unary s at) = if nat_lt l 11 then Some (node.Unary s at) else None
-tight l (held.Cast at) = if nat_lt l 11 then Some (node.Cast at) else None
+tight l (held.Cast w at) = if nat_lt l 11 then Some (node.Cast w at) else None
 tight l (held.Group at) = None
 tight l (held.Index at) = None
 tight l (held.Call at) = None

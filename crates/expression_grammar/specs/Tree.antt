@@ -8,6 +8,7 @@ use Rattle.expression_grammar.specs.declared.token.Sign.TheVariants as sign
 use Rattle.scop_tokens.specs.declared.Suffix.{Suffix}
 use Rattle.scop_tokens.specs.declared.Token.{Token}
 use Rattle.scop_tokens.specs.declared.Token.TheVariants as token
+use Rattle.scop_tokens.specs.declared.Width.{Width}
 use Rattle.expression_grammar.specs.declared.node.Node.{Node}
 use Rattle.expression_grammar.specs.declared.node.Node.TheVariants as node
 
@@ -24,8 +25,8 @@ pub data Tree : Type 0 where
   -- name ( arguments ), the arguments joined by commas
   call : Tree → Tree
   unary : Sign → Tree → Tree
-  -- ( uint64_t ) tree
-  cast : Tree → Tree
+  -- ( uint64_t ) tree, ( uint32_t ) tree
+  cast : Width → Tree → Tree
   binary : Op → Tree → Tree → Tree
 
 -- the token of a sign
@@ -43,7 +44,7 @@ tokens_of (index t i) = tokens_of t ++ token.OpenIndex ∷ (tokens_of i ++ token
 tokens_of bare_call = token.Name ∷ token.Open ∷ token.Close ∷ []
 tokens_of (call t) = token.Name ∷ token.Open ∷ (tokens_of t ++ token.Close ∷ [])
 tokens_of (unary s t) = sign_token s ∷ tokens_of t
-tokens_of (cast t) = token.Open ∷ token.Uint64 ∷ token.Close ∷ tokens_of t
+tokens_of (cast w t) = token.Open ∷ token.Unsigned w ∷ token.Close ∷ tokens_of t
 tokens_of (binary o a b) = tokens_of a ++ token.Binary o ∷ tokens_of b
 
 -- how tightly an operator binds
@@ -72,7 +73,7 @@ level op.Remainder = 10
 abbrev pub rank : Tree → ℕ
 rank (binary o a b) = level o
 rank (unary s t) = 11
-rank (cast t) = 11
+rank (cast w t) = 11
 rank _ = 12
 
 -- a name, or a name with subscripts
@@ -91,7 +92,7 @@ WellBracketed (index t i) = IsPlace t × (1 ≤ rank i) × WellBracketed t × We
 WellBracketed bare_call = ⊤
 WellBracketed (call t) = WellBracketed t
 WellBracketed (unary s t) = (11 ≤ rank t) × WellBracketed t
-WellBracketed (cast t) = (11 ≤ rank t) × WellBracketed t
+WellBracketed (cast w t) = (11 ≤ rank t) × WellBracketed t
 WellBracketed (binary o a b) = (level o ≤ rank a) × (level o < rank b) × WellBracketed a × WellBracketed b
 
 -- how many brackets are open at the deepest place
@@ -103,7 +104,7 @@ depth (index t i) = max (depth t) (depth i + 1)
 depth bare_call = 1
 depth (call t) = depth t + 1
 depth (unary s t) = depth t
-depth (cast t) = max 1 (depth t)
+depth (cast w t) = max 1 (depth t)
 depth (binary o a b) = max (depth a) (depth b)
 
 -- a comma is no operator
@@ -120,7 +121,7 @@ operators (index t i) = operators t + operators i
 operators bare_call = 0
 operators (call t) = operators t
 operators (unary s t) = operators t + 1
-operators (cast t) = operators t + 1
+operators (cast w t) = operators t + 1
 operators (binary o a b) = operators a + (cost o + operators b)
 
 -- how many tokens a tree has
@@ -136,5 +137,5 @@ written at (index t i) = written at t ++ (written (at + size t + 1) i ++ node.In
 written at bare_call = node.Name at ∷ node.BareCall (at + 1) ∷ []
 written at (call t) = node.Name at ∷ (written (at + 1 + 1) t ++ node.Call (at + 1) ∷ [])
 written at (unary s t) = written (at + 1) t ++ node.Unary s at ∷ []
-written at (cast t) = written (at + 1 + 1 + 1) t ++ node.Cast at ∷ []
+written at (cast w t) = written (at + 1 + 1 + 1) t ++ node.Cast w at ∷ []
 written at (binary o a b) = written at a ++ (written (at + size a + 1) b ++ node.Binary o (at + size a) ∷ [])

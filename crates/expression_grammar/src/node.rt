@@ -1,7 +1,7 @@
 //! An expression as it is held: its nodes in postfix order, each with its token's place among the tokens.
 //! What waits on the stack while it is read.
 
-use crate::token::{Op, Sign, Suffix};
+use crate::token::{Op, Sign, Suffix, Width};
 
 /// A node, behind the nodes of its operands. Parentheses are no nodes.
 #[derive(Clone, Copy)]
@@ -16,7 +16,7 @@ pub enum Node {
     Call(usize),
     Unary(Sign, usize),
     /// A cast, at its `(`.
-    Cast(usize),
+    Cast(Width, usize),
     Binary(Op, usize),
 }
 
@@ -25,7 +25,7 @@ pub enum Node {
 pub enum Held {
     Binary(Op, usize),
     Unary(Sign, usize),
-    Cast(usize),
+    Cast(Width, usize),
     Group(usize),
     Index(usize),
     Call(usize),
@@ -46,8 +46,8 @@ pub enum Last {
 pub enum Mode {
     /// An operand.
     Want,
-    /// The `)` of a cast.
-    Casting,
+    /// The `)` of a cast to this type.
+    Casting(Width),
     /// What stands behind an operand.
     Done(Last),
 }

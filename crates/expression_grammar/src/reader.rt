@@ -16,7 +16,7 @@ ghost use Rattle.expression_grammar.specs.Steps.{ClosesAs, ClosesIndexAs, Comple
 
 use crate::node::{Held, Last, Mode, Node};
 use crate::stack::Stack;
-use crate::token::{Op, Sign, Token};
+use crate::token::{Op, Sign, Token, Width};
 use std::alloc::{AllocError, Global};
 use std::marker::Model;
 
@@ -68,9 +68,9 @@ fn tight(least: usize, held: Held) -> Option<Node>
                 None
             }
         }
-        Held::Cast(at) => {
+        Held::Cast(width, at) => {
             if least < 11 {
-                Some(Node::Cast(at))
+                Some(Node::Cast(width, at))
             } else {
                 None
             }
@@ -87,7 +87,7 @@ fn demand(held: &Stack) -> usize
         None => 1,
         Some(Held::Binary(op, _)) => level(op) + 1,
         Some(Held::Unary(_, _)) => 11,
-        Some(Held::Cast(_)) => 11,
+        Some(Held::Cast(_, _)) => 11,
         Some(Held::Group(_)) => 1,
         Some(Held::Index(_)) => 1,
         Some(Held::Call(_)) => 0,
@@ -190,7 +190,7 @@ impl Reader {
             Token::Binary(Op::Minus) => self.signed(Sign::Minus),
             Token::Complement => self.signed(Sign::Complement),
             Token::Not => self.signed(Sign::Not),
-            Token::Uint64 => Ok(self.cast_word()),
+            Token::Unsigned(width) => Ok(self.cast_word(width)),
             Token::Close => self.bare_closed(),
             _ => Ok(false),
         }
@@ -293,31 +293,31 @@ impl Reader {
     }
 
     // The word of a cast.
-    fn cast_word(&mut self) -> bool
+    fn cast_word(&mut self, width: Width) -> bool
         requires { HasRoom self.old }
-        ensures { Steps {E = ℕ} (Ok result) self.old self.new (cast_word self.old self.old.held) }
+        ensures { Steps {E = ℕ} (Ok result) self.old self.new (cast_word self.old width self.old.held) }
     {
         match self.held.top() {
             Some(Held::Group(_)) => {}
             _ => return false,
         }
-        self.mode = Mode::Casting;
+        self.mode = Mode::Casting(width);
         self.at += 1;
         self.used += 1;
         true
     }
 
     // The bracket behind a cast's word.
-    fn cast_closed(&mut self) -> Result<bool, AllocError>
+    fn cast_closed(&mut self, width: Width) -> Result<bool, AllocError>
         requires { HasRoom self.old }
-        ensures { Steps result self.old self.new (cast_closed self.old self.old.held) }
+        ensures { Steps result self.old self.new (cast_closed self.old width self.old.held) }
     {
         let at = match self.held.top() {
             Some(Held::Group(at)) => at,
             _ => return Ok(false),
         };
         let _bracket = self.held.pop();
-        self.held.push(Held::Cast(at))?;
+        self.held.push(Held::Cast(width, at))?;
         self.closed(Mode::Want);
         Ok(true)
     }
@@ -338,12 +338,12 @@ impl Reader {
     }
 
     // The parenthesis behind a cast's word.
-    fn casting(&mut self, token: Token) -> Result<bool, AllocError>
+    fn casting(&mut self, width: Width, token: Token) -> Result<bool, AllocError>
         requires { HasRoom self.old }
-        ensures { Steps result self.old self.new (casting self.old token) }
+        ensures { Steps result self.old self.new (casting self.old width token) }
     {
         match token {
-            Token::Close => self.cast_closed(),
+            Token::Close => self.cast_closed(width),
             _ => Ok(false),
         }
     }
@@ -355,7 +355,7 @@ impl Reader {
     {
         match self.mode {
             Mode::Want => self.operand(token),
-            Mode::Casting => self.casting(token),
+            Mode::Casting(width) => self.casting(width, token),
             Mode::Done(last) => self.after(last, token),
         }
     }
@@ -373,7 +373,7 @@ impl Reader {
     {
         match self.mode {
             Mode::Done(_) => {}
-            Mode::Want | Mode::Casting => return Ok(false),
+            Mode::Want | Mode::Casting(_) => return Ok(false),
         }
         reduce(0, &mut self.held, &mut self.nodes)?;
         match self.held.top() {
@@ -421,7 +421,7 @@ pub fn told_at(token: Token, at: usize) -> usize
     ensures { result ≡ told_at token at }
 {
     match token {
-        Token::Uint64 => at.saturating_sub(1),
+        Token::Unsigned(_) => at.saturating_sub(1),
         _ => at,
     }
 }

@@ -1,6 +1,6 @@
 //! The tokens that the grammar reads, and an operator in front of its operand.
 
-pub use scop_tokens::{Assign, Count, Op, Outside, Suffix, Token};
+pub use scop_tokens::{Assign, Base, Count, Op, Outside, Suffix, Token, Width};
 
 /// An operator in front of its operand.
 #[derive(Clone, Copy)]

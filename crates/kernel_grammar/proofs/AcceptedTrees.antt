@@ -107,23 +107,23 @@ extents_end d n (x ∷ xs) es f h = (refl, (f.0, extents_end d n xs es f.1 h))
 -- what may come behind a parameter
 abbrev pub after : Parameter → Want
 after number = want.AfterParameter
-after (array x xs) = want.AfterExtent
+after (array w x xs) = want.AfterExtent
 
 pub parameter_ends : (d n : ℕ) (p : Parameter) (es : List Element) → ParameterFits d n p
     → Ends d n (after p) 0 0 es → Ends d n want.Parameter 0 0 (parameter_elements p ++ es)
 parameter_ends d n number es f h = (refl, (refl, h))
-parameter_ends d n (array x xs) es f h = (refl, (refl, (refl, (f.0, extents_end d n xs es f.1 h))))
+parameter_ends d n (array w x xs) es f h = (refl, (refl, (refl, (f.0, extents_end d n xs es f.1 h))))
 
 pub others_end : (d n : ℕ) (ps : List Parameter) (p : Parameter) (es : List Element) → ParametersFit d n ps
     → Ends d n want.BodyOpen 0 0 es → Ends d n (after p) 0 0 (other_parameters ps ++ es)
 others_end d n [] number es f h = (refl, h)
-others_end d n [] (array x xs) es f h = (refl, h)
+others_end d n [] (array w x xs) es f h = (refl, h)
 others_end d n (q ∷ qs) number es f h = (
   refl,
   rw (append_assoc (parameter_elements q) (other_parameters qs) es)
       (parameter_ends d n q (other_parameters qs ++ es) f.0 (others_end d n qs q es f.1 h)),
 )
-others_end d n (q ∷ qs) (array x xs) es f h = (
+others_end d n (q ∷ qs) (array w x xs) es f h = (
   refl,
   rw (append_assoc (parameter_elements q) (other_parameters qs) es)
       (parameter_ends d n q (other_parameters qs ++ es) f.0 (others_end d n qs q es f.1 h)),

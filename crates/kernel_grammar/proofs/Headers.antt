@@ -4,6 +4,7 @@ use Rattle.expression_grammar.specs.Op.TheVariants as op
 use Rattle.expression_grammar.specs.Outside.TheVariants as outside
 use Rattle.expression_grammar.specs.Token.{Token}
 use Rattle.expression_grammar.specs.Token.TheVariants as token
+use Rattle.expression_grammar.specs.Width.{Width}
 use Rattle.expression_grammar.specs.Tree.{Tree}
 use Rattle.kernel_grammar.specs.declared.table.Level.TheVariants as level
 use Rattle.kernel_grammar.specs.declared.table.Role.TheVariants as role
@@ -69,7 +70,7 @@ mutual
   pub parameter : (d n : ℕ) (es : List Element) → 1 ≤ d → Ends d n want.Parameter 0 0 es
       → InParameters d n (spelled es)
   parameter d n (sign (token.Outside outside.Int64) m ∷ es) k p = number_name d n es k p.1
-  parameter d n (sign token.Uint64 m ∷ es) k p = array_name d n es k p.1
+  parameter d n (sign (token.Unsigned w) m ∷ es) k p = array_name d n w es k p.1
   parameter d n _ k p = absurd p
 
   pub number_name : (d n : ℕ) (es : List Element) → 1 ≤ d → Ends d n want.NumberName 0 0 es
@@ -91,29 +92,29 @@ mutual
   after_parameter d n (sign token.Close m ∷ es) k p = body_open d n es k p.1
   after_parameter d n _ k p = absurd p
 
-  pub array_name : (d n : ℕ) (es : List Element) → 1 ≤ d → Ends d n want.ArrayName 0 0 es
-      → InParameters d n (token.Uint64 ∷ spelled es)
-  array_name d n (sign token.Name m ∷ es) k p = extent_open d n es k p.1
-  array_name d n _ k p = absurd p
+  pub array_name : (d n : ℕ) (w : Width) (es : List Element) → 1 ≤ d → Ends d n (want.ArrayName w) 0 0 es
+      → InParameters d n (token.Unsigned w ∷ spelled es)
+  array_name d n w (sign token.Name m ∷ es) k p = extent_open d n w es k p.1
+  array_name d n w _ k p = absurd p
 
-  pub extent_open : (d n : ℕ) (es : List Element) → 1 ≤ d → Ends d n want.ExtentOpen 0 0 es
-      → InParameters d n (token.Uint64 ∷ token.Name ∷ spelled es)
-  extent_open d n (sign token.OpenIndex m ∷ es) k p = first_extent d n es k p.1
-  extent_open d n _ k p = absurd p
+  pub extent_open : (d n : ℕ) (w : Width) (es : List Element) → 1 ≤ d → Ends d n want.ExtentOpen 0 0 es
+      → InParameters d n (token.Unsigned w ∷ token.Name ∷ spelled es)
+  extent_open d n w (sign token.OpenIndex m ∷ es) k p = first_extent d n w es k p.1
+  extent_open d n w _ k p = absurd p
 
-  pub first_extent : (d n : ℕ) (es : List Element) → 1 ≤ d → Ends d n (want.Inner role.Extent) 0 0 es
-      → InParameters d n (token.Uint64 ∷ token.Name ∷ token.OpenIndex ∷ spelled es)
-  first_extent d n (expression x token.CloseIndex ∷ es) k p =
+  pub first_extent : (d n : ℕ) (w : Width) (es : List Element) → 1 ≤ d → Ends d n (want.Inner role.Extent) 0 0 es
+      → InParameters d n (token.Unsigned w ∷ token.Name ∷ token.OpenIndex ∷ spelled es)
+  first_extent d n w (expression x token.CloseIndex ∷ es) k p =
       let r = after_extent d n es k p.1 in
       record {
-        first = array x r.shapes;
+        first = array w x r.shapes;
         fit = (p.0, r.fits);
         rest = r.rest;
         others = r.others;
         tokens = rw r.tokens (simp append_assoc);
       }
-  first_extent d n (expression x _ ∷ es) k p = absurd p.1
-  first_extent d n _ k p = absurd p
+  first_extent d n w (expression x _ ∷ es) k p = absurd p.1
+  first_extent d n w _ k p = absurd p
 
   pub after_extent : (d n : ℕ) (es : List Element) → 1 ≤ d → Ends d n want.AfterExtent 0 0 es
       → InExtents d n (spelled es)

@@ -72,8 +72,8 @@ tail want.KernelName b = sign token.Name (Some kept.Kernel) ∷ plain token.Open
 tail want.ParametersOpen b = plain token.Open ∷ parameter_tail b
 tail want.Parameter b = parameter_tail b
 tail want.NumberName b = sign token.Name (Some kept.Number) ∷ header_tail b
-tail want.ArrayName b =
-    sign token.Name (Some kept.Array) ∷ plain token.OpenIndex ∷ expression one token.CloseIndex ∷ header_tail b
+tail (want.ArrayName w) b =
+    sign token.Name (Some (kept.Array w)) ∷ plain token.OpenIndex ∷ expression one token.CloseIndex ∷ header_tail b
 tail want.ExtentOpen b = plain token.OpenIndex ∷ expression one token.CloseIndex ∷ header_tail b
 tail (want.Inner r) b = expression one (ender r) ∷ tail_behind r b
 tail want.AfterExtent b = header_tail b
@@ -154,7 +154,7 @@ closed d n want.KernelName b u = (refl, (refl, parameter_closed d n b))
 closed d n want.ParametersOpen b u = (refl, parameter_closed d n b)
 closed d n want.Parameter b u = (refl, (refl, header_closed d n b))
 closed d n want.NumberName b u = (refl, header_closed d n b)
-closed d n want.ArrayName b u = (refl, (refl, (one_fits d n, extent_closed d n b)))
+closed d n (want.ArrayName w) b u = (refl, (refl, (one_fits d n, extent_closed d n b)))
 closed d n want.ExtentOpen b u = (refl, (one_fits d n, extent_closed d n b))
 closed d n (want.Inner r) b u = inner_closed d n r b u one (one_fits (room r d) (left r n u))
 closed d n want.AfterExtent b u = (refl, (refl, declarations_closed d n b 0))

@@ -8,6 +8,7 @@ use Rattle.expression_grammar.specs.Op.TheVariants as op
 use Rattle.expression_grammar.specs.Outside.TheVariants as outside
 use Rattle.expression_grammar.specs.Token.{Token}
 use Rattle.expression_grammar.specs.Token.TheVariants as token
+use Rattle.expression_grammar.specs.Width.{Width}
 use Rattle.expression_grammar.specs.declared.node.Node.{Node}
 use Rattle.expression_grammar.specs.Tree.{Tree, name, index, IsPlace, tokens_of, size, written}
 use Rattle.expression_grammar.specs.Grammar.{IsExpression, IsWithin}
@@ -82,8 +83,8 @@ mutual
 pub data Parameter : Type 0 where
   -- int64_t name
   number : Parameter
-  -- uint64_t name [ extent ], and further extents
-  array : Tree → List Tree → Parameter
+  -- uint64_t name [ extent ], and further extents; or uint32_t
+  array : Width → Tree → List Tree → Parameter
 
 -- a kernel; declared: for each declaration, how many names stand behind its first
 pub record Kernel : Type 0 where
@@ -166,7 +167,8 @@ extents (x ∷ xs) = plain token.OpenIndex ∷ expression x token.CloseIndex ∷
 -- a parameter: its type, its name and its extents
 abbrev pub parameter_elements : Parameter → List Element
 parameter_elements number = plain (token.Outside outside.Int64) ∷ sign token.Name (Some kept.Number) ∷ []
-parameter_elements (array x xs) = plain token.Uint64 ∷ sign token.Name (Some kept.Array) ∷ extents (x ∷ xs)
+parameter_elements (array w x xs) =
+    plain (token.Unsigned w) ∷ sign token.Name (Some (kept.Array w)) ∷ extents (x ∷ xs)
 
 -- the parameters behind the first, and the parenthesis behind them
 abbrev pub other_parameters : List Parameter → List Element
@@ -234,7 +236,7 @@ abbrev mutual
 -- each extent of a parameter is one within the limits
 abbrev pub ParameterFits : ℕ → ℕ → Parameter → Type 0
 ParameterFits d n number = ⊤
-ParameterFits d n (array x xs) = AllFit d n (x ∷ xs)
+ParameterFits d n (array w x xs) = AllFit d n (x ∷ xs)
 
 -- each of these parameters is such a one
 abbrev pub ParametersFit : ℕ → ℕ → List Parameter → Type 0

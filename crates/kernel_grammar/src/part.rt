@@ -1,7 +1,7 @@
 //! A kernel as it is held: one list of parts in textual order, which nothing nests in.
 
 use expression_grammar::node::Node;
-use expression_grammar::token::{Assign, Count};
+use expression_grammar::token::{Assign, Count, Width};
 
 /// What a sign between expressions is.
 #[derive(Clone, Copy)]
@@ -10,8 +10,8 @@ pub enum Mark {
     Kernel,
     /// The name of a parameter that is a number.
     Number,
-    /// The name of an array: its extents follow.
-    Array,
+    /// The name of an array of this type: its extents follow.
+    Array(Width),
     /// The name of an iterator that is declared at the start.
     Declared,
     /// `{`

@@ -4,7 +4,7 @@ ghost use Rattle.kernel_grammar.specs.Table.{behind, braced, carried, item_mark,
 ghost use Rattle.kernel_grammar.specs.Table.{set_next};
 
 use crate::part::Mark;
-use expression_grammar::token::{Assign, Op, Outside, Token};
+use expression_grammar::token::{Assign, Op, Outside, Token, Width};
 
 /// What an expression is for.
 #[derive(Clone, Copy)]
@@ -37,10 +37,11 @@ pub enum Want {
     KernelName,
     /// `(`
     ParametersOpen,
-    /// `int64_t` or `uint64_t`
+    /// `int64_t`, `uint64_t` or `uint32_t`
     Parameter,
     NumberName,
-    ArrayName,
+    /// The name of an array of this type.
+    ArrayName(Width),
     /// `[`
     ExtentOpen,
     /// An expression, and the sign that ends it.
@@ -122,9 +123,9 @@ pub(crate) fn next(want: Want, braces: usize, token: Token) -> Option<Want>
         (Want::KernelName, Token::Name) => Some(Want::ParametersOpen),
         (Want::ParametersOpen, Token::Open) => Some(Want::Parameter),
         (Want::Parameter, Token::Outside(Outside::Int64)) => Some(Want::NumberName),
-        (Want::Parameter, Token::Uint64) => Some(Want::ArrayName),
+        (Want::Parameter, Token::Unsigned(width)) => Some(Want::ArrayName(width)),
         (Want::NumberName, Token::Name) => Some(Want::AfterParameter),
-        (Want::ArrayName, Token::Name) => Some(Want::ExtentOpen),
+        (Want::ArrayName(_), Token::Name) => Some(Want::ExtentOpen),
         (Want::ExtentOpen, Token::OpenIndex) => Some(Want::Inner(Role::Extent)),
         (Want::AfterExtent, Token::OpenIndex) => Some(Want::Inner(Role::Extent)),
         (Want::AfterExtent, Token::Binary(Op::Comma)) => Some(Want::Parameter),
@@ -198,7 +199,7 @@ pub(crate) fn mark(want: Want, token: Token) -> Option<Mark>
     match (want, token) {
         (Want::KernelName, Token::Name) => Some(Mark::Kernel),
         (Want::NumberName, Token::Name) => Some(Mark::Number),
-        (Want::ArrayName, Token::Name) => Some(Mark::Array),
+        (Want::ArrayName(width), Token::Name) => Some(Mark::Array(width)),
         (Want::BodyOpen, Token::Outside(Outside::BraceOpen)) => Some(Mark::Begin),
         (Want::DeclaredName, Token::Name) => Some(Mark::Declared),
         (Want::Item(_), _) => item_mark(token),

@@ -68,7 +68,8 @@ kind_named text _ v n h = tt
 word_named : (b : ℕ) (bs : Text) → is_letter b ≡ true → IsNamed (b ∷ bs) (word_stands (word_of (b ∷ bs)))
 word_named b bs letter =
     let w = word_of (b ∷ bs) in
-    named_if (b ∷ bs) (nat_le (length w) 63) (stand.Lexeme (kind_of_word w) 0 (length w)) (stand.Wrong wrong.Character 63)
+    named_if (b ∷ bs) (nat_le (length w) 63) (stand.Lexeme (kind_of_word w) 0 (length w))
+    (stand.Wrong wrong.Character 63)
     (λ short. kind_named (b ∷ bs) (kind_of_word w) 0 (length w)
     (λ same. subst IsName (sym (word_front (b ∷ bs))) (word_is b bs letter short same))) tt
 
@@ -90,7 +91,8 @@ other_if : (b : Bool) (x y : Option Kind) → IsOther x → IsOther y → IsOthe
 other_if true x y h k = h
 other_if false x y h k = k
 
-others_in : (rows : List (ℕ × Kind)) (b : ℕ) → list_all (λ (row : ℕ × Kind). is_other row.1) rows ≡ true → IsOther (sign_in rows b)
+others_in : (rows : List (ℕ × Kind)) (b : ℕ) → list_all (λ (row : ℕ × Kind). is_other row.1) rows ≡ true
+    → IsOther (sign_in rows b)
 others_in [] b h = tt
 others_in (row ∷ rows) b h =
     let parts = and_parts (is_other row.1) (list_all (λ (row : ℕ × Kind). is_other row.1) rows) h in

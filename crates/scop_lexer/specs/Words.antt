@@ -5,7 +5,8 @@ use Rattle.std.specs.Str.{bytes_eq}
 use Rattle.scop_lexer.specs.Bytes.{Text, is_letter, is_word_byte}
 use Rattle.scop_tokens.specs.declared.Outside.TheVariants.{Void, For, If, Int64, Keyword}
 use Rattle.scop_tokens.specs.declared.Token.{Token as Kind}
-use Rattle.scop_tokens.specs.declared.Token.TheVariants.{Outside, Uint64, Name}
+use Rattle.scop_tokens.specs.declared.Token.TheVariants.{Outside, Unsigned, Name}
+use Rattle.scop_tokens.specs.declared.Width.TheVariants.{Narrow, Full}
 use Rattle.scop_lexer.specs.declared.token.FaultKind.TheVariants.{Character}
 use Rattle.scop_lexer.specs.declared.stand.Stand.{Stand}
 use Rattle.scop_lexer.specs.declared.stand.Stand.TheVariants.{Lexeme, Wrong}
@@ -26,7 +27,8 @@ kind_of_word word = if bytes_eq word (codes "void") then Outside Void
     else if bytes_eq word (codes "for") then Outside For
     else if bytes_eq word (codes "if") then Outside If
     else if bytes_eq word (codes "int64_t") then Outside Int64
-    else if bytes_eq word (codes "uint64_t") then Uint64
+    else if bytes_eq word (codes "uint64_t") then Unsigned Full
+    else if bytes_eq word (codes "uint32_t") then Unsigned Narrow
     else if list_any (λ keyword. bytes_eq keyword word) other_keywords then Outside Keyword
     else Name
 

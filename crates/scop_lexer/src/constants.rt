@@ -2,17 +2,14 @@
 
 ghost use Rattle.std.specs.Prelude.{◌≡◌, ◌+◌, ◌*◌, ◌-◌, ◌^◌, ◌<◌, ◌≤◌, IfSome, IfNone, length};
 ghost use Rattle.std.specs.List.{prefix_len};
-ghost use Rattle.scop_lexer.specs.Bytes.{is_digit};
-ghost use Rattle.scop_lexer.specs.Constants.{is_hex_digit, digit_value, number_behind, is_suffix, with_suffix};
-ghost use Rattle.scop_lexer.specs.Constants.{constant_in, is_hexadecimal, is_octal, constant_of, numeral_stands};
+ghost use Rattle.scop_lexer.specs.Constants.{digit_value, number_behind, radix, is_digit_in, greatest};
+ghost use Rattle.scop_lexer.specs.Constants.{is_suffix, with_suffix, constant_in, is_hexadecimal, is_octal};
+ghost use Rattle.scop_lexer.specs.Constants.{constant_of, numeral_stands};
 
 use crate::bytes::byte_at;
 use crate::stand::Stand;
 use crate::token::{FaultKind, Kind};
-use scop_tokens::Suffix;
-
-/// The greatest decimal without a suffix.
-const GREATEST_SIGNED: u64 = 0x7FFF_FFFF_FFFF_FFFF;
+use scop_tokens::{Base, Suffix};
 
 /// The suffixes of an unsigned constant.
 const SUFFIXES: [&[u8]; 8] = [
@@ -29,61 +26,69 @@ pub(crate) fn numeral_stands(word: &[u8]) -> Stand
     }
 }
 
-/// The constant that a word is: its suffix and its value.
+/// The constant that a word is: its suffix, or its base where it has none, and its value.
 fn constant_of(word: &[u8]) -> Option<(Suffix, u64)>
     ensures { result ≡ constant_of word.now }
 {
     if is_hexadecimal(word) {
-        return hexadecimal(&word[2..]);
+        return constant_in(Base::Hexadecimal, &word[2..]);
     }
     if is_octal(word) {
         return None;
     }
-    decimal(word)
+    constant_in(Base::Decimal, word)
 }
 
-/// The decimal that a text is.
-fn decimal(text: &[u8]) -> Option<(Suffix, u64)>
-    ensures { result ≡ constant_in 10 is_digit (2 ^ 63 - 1) text.now }
+/// The constant that a text of digits of a base is.
+fn constant_in(base: Base, text: &[u8]) -> Option<(Suffix, u64)>
+    ensures { result ≡ constant_in base text.now }
 {
-    let count = digit_len(text);
+    let count = digit_len(base, text);
     if count == 0 {
         return None;
     }
     let (digits, tail) = text.split_at(count);
-    constant(10, GREATEST_SIGNED, digits, tail)
-}
-
-/// The constant of hexadecimal digits that a text is.
-fn hexadecimal(text: &[u8]) -> Option<(Suffix, u64)>
-    ensures { result ≡ constant_in 16 is_hex_digit (2 ^ 64 - 1) text.now }
-{
-    let count = hex_digit_len(text);
-    if count == 0 {
-        return None;
-    }
-    let (digits, tail) = text.split_at(count);
-    constant(16, u64::MAX, digits, tail)
+    constant(base, digits, tail)
 }
 
 /// The constant of these digits and this text behind them.
-fn constant(base: u64, limit: u64, digits: &[u8], tail: &[u8]) -> Option<(Suffix, u64)>
-    requires { 0 < base }
-    ensures { result ≡ with_suffix limit (number_behind base 0 digits.now) tail.now }
+fn constant(base: Base, digits: &[u8], tail: &[u8]) -> Option<(Suffix, u64)>
+    ensures { result ≡ with_suffix base (number_behind (radix base) 0 digits.now) tail.now }
 {
-    match number(base, digits) {
-        Some(value) => with_suffix(limit, value, tail),
+    match number(radix(base), digits) {
+        Some(value) => with_suffix(base, value, tail),
         None => None,
     }
 }
 
+/// How many digits a base has.
+fn radix(base: Base) -> u64
+    ensures value { result ≡ radix base }
+    ensures some { 0 < result }
+{
+    match base {
+        Base::Decimal => 10,
+        Base::Hexadecimal => 16,
+    }
+}
+
+/// The greatest constant of a base without a suffix.
+fn greatest(base: Base) -> u64
+    ensures { result ≡ greatest base }
+{
+    match base {
+        Base::Decimal => 0x7FFF_FFFF_FFFF_FFFF,
+        Base::Hexadecimal => u64::MAX,
+    }
+}
+
 /// The constant of this value and this text behind its digits.
-fn with_suffix(limit: u64, value: u64, tail: &[u8]) -> Option<(Suffix, u64)>
-    ensures { result ≡ with_suffix limit value tail.now }
+fn with_suffix(base: Base, value: u64, tail: &[u8]) -> Option<(Suffix, u64)>
+    ensures { result ≡ with_suffix base value tail.now }
 {
     if tail.is_empty() {
-        if value <= limit {
-            return Some((Suffix::Absent, value));
+        if value <= greatest(base) {
+            return Some((Suffix::Absent(base), value));
         }
         return None;
     }
@@ -114,38 +119,35 @@ fn is_octal(word: &[u8]) -> bool
     byte_at(word, 0) == b'0' && byte_at(word, 1).is_ascii_digit()
 }
 
-/// Whether the byte is a hexadecimal digit.
-fn is_hex_digit(byte: u8) -> bool
-    ensures { result ≡ is_hex_digit byte }
+/// Whether the byte is a digit of a base.
+fn is_digit_in(base: Base, byte: u8) -> bool
+    ensures { result ≡ is_digit_in base byte }
 {
-    byte.is_ascii_hexdigit()
+    match base {
+        Base::Decimal => byte.is_ascii_digit(),
+        Base::Hexadecimal => byte.is_ascii_hexdigit(),
+    }
 }
 
-/// How many digits the text begins with.
-fn digit_len(text: &[u8]) -> usize
-    ensures value { result ≡ prefix_len is_digit text.now }
+/// How many digits of a base the text begins with.
+fn digit_len(base: Base, text: &[u8]) -> usize
+    ensures value { result ≡ prefix_len (is_digit_in base) text.now }
     ensures within { result ≤ length text.now }
 {
-    text.iter().take_while(|byte| byte.is_ascii_digit()).count()
+    text.iter()
+        .take_while(|byte| is_digit_in(base, **byte))
+        .count()
 }
 
-/// How many hexadecimal digits the text begins with.
-fn hex_digit_len(text: &[u8]) -> usize
-    ensures value { result ≡ prefix_len is_hex_digit text.now }
-    ensures within { result ≤ length text.now }
-{
-    text.iter().take_while(|byte| is_hex_digit(**byte)).count()
-}
-
-/// The number that digits of a base write, if it has 64 bits.
-fn number(base: u64, digits: &[u8]) -> Option<u64>
-    requires { 0 < base }
-    ensures some { IfSome result (λ value. value ≡ number_behind base 0 digits.now) }
-    ensures none { IfNone result (2 ^ 64 ≤ number_behind base 0 digits.now) }
+/// The number that digits write, if it has 64 bits.
+fn number(radix: u64, digits: &[u8]) -> Option<u64>
+    requires { 0 < radix }
+    ensures some { IfSome result (λ value. value ≡ number_behind radix 0 digits.now) }
+    ensures none { IfNone result (2 ^ 64 ≤ number_behind radix 0 digits.now) }
 {
     let mut value = 0;
     for digit in digits {
-        match next_number(base, value, *digit) {
+        match next_number(radix, value, *digit) {
             Some(next) => value = next,
             None => return None,
         }
@@ -154,11 +156,11 @@ fn number(base: u64, digits: &[u8]) -> Option<u64>
 }
 
 /// The number with one more digit behind it, if it has 64 bits.
-fn next_number(base: u64, value: u64, digit: u8) -> Option<u64>
-    ensures some { IfSome result (λ next. next ≡ base * value + digit_value digit) }
-    ensures none { IfNone result (2 ^ 64 ≤ base * value + digit_value digit) }
+fn next_number(radix: u64, value: u64, digit: u8) -> Option<u64>
+    ensures some { IfSome result (λ next. next ≡ radix * value + digit_value digit) }
+    ensures none { IfNone result (2 ^ 64 ≤ radix * value + digit_value digit) }
 {
-    base.checked_mul(value)?.checked_add(digit_value(digit))
+    radix.checked_mul(value)?.checked_add(digit_value(digit))
 }
 
 /// The number that a hexadecimal digit stands for.

@@ -7,7 +7,7 @@ ghost use Rattle.scop_lexer.specs.Words.{other_keywords, kind_of_word, word_stan
 
 use crate::stand::Stand;
 use crate::token::{FaultKind, Kind};
-use scop_tokens::Outside;
+use scop_tokens::{Outside, Width};
 
 /// The longest name, in bytes (C17 5.2.4.1).
 const LONGEST_NAME: usize = 63;
@@ -85,7 +85,10 @@ fn kind_of_word(word: &[u8]) -> Kind
         return Kind::Outside(Outside::Int64);
     }
     if word == b"uint64_t".as_slice() {
-        return Kind::Uint64;
+        return Kind::Unsigned(Width::Full);
+    }
+    if word == b"uint32_t".as_slice() {
+        return Kind::Unsigned(Width::Narrow);
     }
     if is_other_keyword(word) {
         return Kind::Outside(Outside::Keyword);

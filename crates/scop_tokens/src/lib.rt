@@ -26,11 +26,27 @@ pub enum Op {
     Remainder,
 }
 
+/// How a constant is written: decimal (`0` counts as such) or hexadecimal.
+#[derive(Clone, Copy)]
+pub enum Base {
+    Decimal,
+    Hexadecimal,
+}
+
 /// Whether a constant has a suffix, which makes it unsigned.
 #[derive(Clone, Copy)]
 pub enum Suffix {
-    Absent,
+    Absent(Base),
     Present,
+}
+
+/// How wide an unsigned type is.
+#[derive(Clone, Copy)]
+pub enum Width {
+    /// 32 bits: `uint32_t`.
+    Narrow,
+    /// 64 bits: `uint64_t`.
+    Full,
 }
 
 /// An operator that assigns.
@@ -79,8 +95,8 @@ pub enum Outside {
 pub enum Token {
     Name,
     Constant(Suffix),
-    /// `uint64_t`
-    Uint64,
+    /// `uint64_t` or `uint32_t`
+    Unsigned(Width),
     Binary(Op),
     /// `~`
     Complement,

@@ -6,7 +6,7 @@ pub returns-then-is_hexadecimal : goal.returns-then-is_hexadecimal
 returns-then-is_hexadecimal c =
     let word = c.args.word.now in
     let is : is_hexadecimal word ≡ true = sym c.is_hexadecimal.ensures ∙ c.if-is_hexadecimal.true in
-    rw is (rw (take_all (length word - 2) (drop 2 word) (omega (arith, length-drop 2 word))) at c.hexadecimal.ensures)
+    rw is (rw (take_all (length word - 2) (drop 2 word) (omega (arith, length-drop 2 word))) at c.constant_in.ensures)
 
 pub returns-then-is_octal : goal.returns-then-is_octal
 returns-then-is_octal c =
@@ -20,4 +20,4 @@ returns c =
     let word = c.args.word.now in
     let not_hexadecimal : is_hexadecimal word ≡ false = sym c.is_hexadecimal.ensures ∙ c.if-is_hexadecimal.false in
     let not_octal : is_octal word ≡ false = sym c.is_octal.ensures ∙ c.if-is_octal.false in
-    rw (not_hexadecimal, not_octal) c.decimal.ensures
+    rw (not_hexadecimal, not_octal) c.constant_in-2.ensures

@@ -4,5 +4,5 @@ use Rattle.scop_lexer.specs.Constants.{number_behind}
 use Rattle.scop_lexer.proofs.constants.number.Given as goal
 
 abbrev pub invariant-loop-digit : goal.invariant-loop-digit
-invariant-loop-digit l = number_behind l.base l.value
-    (drop l.digit-index l.digits) ≡ number_behind l.base 0 l.digits
+invariant-loop-digit l = number_behind l.radix l.value
+    (drop l.digit-index l.digits) ≡ number_behind l.radix 0 l.digits
