@@ -1,5 +1,5 @@
 -- Kernels as worked examples of domains and conflicts. They have one parameter, N.
-use Rattle.std.specs.Prelude.{ℕ, ℤ, pos, negsuc, List, [], ◌∷◌}
+use Rattle.std.specs.Prelude.{ℕ, false, ℤ, pos, negsuc, List, [], ◌∷◌}
 use Rattle.whole_numbers.specs.Affine.{Affine, form_of}
 use Rattle.scop_syntax.specs.Tree.{Access, at_least, equal, Right, assigned, binary, constant, read, plus, Head, Tree}
 use Rattle.scop_syntax.specs.Tree.{loop, guard, statement, Trees, none, more, Declaration, Program}
@@ -14,7 +14,8 @@ assign place right = statement (record { place = place; right = right })
 
 -- an array with one extent, factor * N + added
 abbrev pub line : ℤ → ℤ → Declaration
-line factor added = record { name = []; parameters_before = 1; extents = form_of (factor ∷ []) added ∷ [] }
+line factor added =
+    record { name = []; parameters_before = 1; narrow = false; extents = form_of (factor ∷ []) added ∷ [] }
 
 -- the head of a loop
 abbrev pub head : Affine → ℤ → Affine → Head

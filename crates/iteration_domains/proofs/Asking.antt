@@ -1,8 +1,8 @@
 -- The systems of the index check can be written for each statement of a kernel within the limits.
 use Rattle.std.proofs.Common.{◌≡◌, ℕ, ◌+◌, ◌*◌, ◌^◌, ◌≤◌, ℤ, pos, negsuc}
-use Rattle.std.proofs.Common.{List, [], ◌∷◌, ◌++◌, length, map, ap, subst, sym, ◌∙◌}
-use Rattle.std.proofs.Common.{refl, arith, length-append}
-use Rattle.std.specs.Prelude.{◌≤ℤ◌, All, Some, slice_get}
+use Rattle.std.proofs.Common.{List, [], ◌∷◌, length, map, subst, sym, ◌∙◌}
+use Rattle.std.proofs.Common.{arith, length-append}
+use Rattle.std.specs.Prelude.{◌≤ℤ◌, All}
 use Rattle.std.proofs.lemmas.Int.{ints}
 use Rattle.std.proofs.lemmas.List.{length-map}
 use Rattle.std.proofs.lemmas.List.Elements.{All-nil, All-cons, All-head, All-tail, All-append}
@@ -12,7 +12,7 @@ use Rattle.whole_numbers.proofs.Entries.{get_map}
 use Rattle.integer_sets.specs.Parts.{variables_of}
 use Rattle.scop_syntax.specs.Cells.{accesses, values}
 use Rattle.scop_syntax.specs.Execution.{layout, size_of}
-use Rattle.scop_syntax.specs.Kernel.{AreScopes, IsAccess, IsComparison, IsKernel, IsPlaced, ranks_of, test_form}
+use Rattle.scop_syntax.specs.Kernel.{AreScopes, IsAccess, IsComparison, IsPlaced, ranks_of, test_form}
 use Rattle.scop_syntax.specs.Limits.{WithinLimits}
 use Rattle.scop_syntax.specs.Members.{In}
 use Rattle.scop_syntax.specs.Statements.{Placed, Scope, loops_in, round, statements_of, under}
@@ -21,7 +21,7 @@ use Rattle.scop_syntax.proofs.Members.{all_in, in_from_place, in_map, in_map_fro
 use Rattle.iteration_domains.specs.Constraints.{equalities_in, rows_in}
 use Rattle.iteration_domains.specs.Model.{Modelled, access_over, model_of, modelled}
 use Rattle.iteration_domains.specs.Rows.{composed_test, iterator, parameter_forms, point_forms, rows_from, variable}
-use Rattle.iteration_domains.specs.Rows.{variables, variables_of_statement, within_loop}
+use Rattle.iteration_domains.specs.Rows.{variables_of_statement, within_loop}
 use Rattle.iteration_domains.specs.Sizes.{IsNarrow, form_size, forms_size, grown}
 use Rattle.iteration_domains.specs.steps.Asking.{CanAsk, CanAskAll, IsExtent}
 use Rattle.iteration_domains.proofs.Points.{equalities_in-append, rows_in-append}

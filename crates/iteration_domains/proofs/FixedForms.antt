@@ -1,12 +1,12 @@
 -- Forms over a statement's turns alone: their lengths and sizes, and the values of forms and systems over them.
-use Rattle.std.proofs.Common.{◌≡◌, ℕ, zero, suc, ◌+◌, ◌*◌, ◌^◌, ◌≤◌, ℤ, pos, negsuc, List, [], ◌∷◌, ◌++◌, length, map}
-use Rattle.std.proofs.Common.{ap, ap₂, subst, sym, ◌∙◌, refl, arith, length-append, mul-le-mul}
+use Rattle.std.proofs.Common.{◌≡◌, ℕ, ◌+◌, ◌*◌, ◌^◌, ◌≤◌, ℤ, pos, negsuc, List, [], ◌∷◌, ◌++◌, length, map}
+use Rattle.std.proofs.Common.{ap, ap₂, subst, sym, ◌∙◌, refl, arith, length-append}
 use Rattle.std.specs.Prelude.{◌≤ℤ◌, ◌+ℤ◌, ◌*ℤ◌, neg_ℤ, All, ◌↔◌, unsigned_abs}
 use Rattle.std.proofs.lemmas.Int.{ints}
 use Rattle.std.proofs.lemmas.List.{map-append, length-map}
 use Rattle.std.proofs.lemmas.List.Elements.{All-nil, All-cons, All-head, All-tail, All-append}
 use Rattle.whole_numbers.specs.Lists.{zeros, multiples}
-use Rattle.whole_numbers.specs.Affine.{Affine, value_of, form_of, composed, multiple_of_form, sum_of_forms}
+use Rattle.whole_numbers.specs.Affine.{Affine, value_of, form_of, multiple_of_form, sum_of_forms}
 use Rattle.whole_numbers.proofs.Dot.{dot-zeros, length-multiples, length-sums, length-zeros}
 use Rattle.whole_numbers.proofs.Values.{value_of-sum, value_of-multiple, value_of-composed}
 use Rattle.integer_sets.specs.Constraints.{Constraints, IsSized}

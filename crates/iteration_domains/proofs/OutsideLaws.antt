@@ -1,8 +1,8 @@
 -- The systems of the index check stand in their order, and their whole points are the instances that fail.
-use Rattle.std.proofs.Common.{◌≡◌, ℕ, ◌+◌, zero, suc, ℤ, pos, negsuc, List}
+use Rattle.std.proofs.Common.{◌≡◌, ℕ, zero, suc, ℤ, pos, negsuc, List}
 use Rattle.std.proofs.Common.{[], ◌∷◌, ◌++◌, length, map, inl, inr, Some, None}
 use Rattle.std.proofs.Common.{Option, ap, ap₂, subst, sym, ◌∙◌, refl, arith}
-use Rattle.std.specs.Prelude.{◌≤ℤ◌, ◌<ℤ◌, All, slice_get, slice_index_or}
+use Rattle.std.specs.Prelude.{◌≤ℤ◌, All, slice_get, slice_index_or}
 use Rattle.std.specs.List.{flat_map}
 use Rattle.std.proofs.lemmas.Int.{ints}
 use Rattle.std.proofs.lemmas.List.Elements.{All-head, All-tail}
@@ -19,10 +19,9 @@ use Rattle.scop_syntax.specs.Tree.{Access, Program}
 use Rattle.scop_syntax.specs.Walk.{Visit, walk_of}
 use Rattle.scop_syntax.proofs.Members.{in_append, in_back, in_from_place, in_front, nat_cases, place_of}
 use Rattle.scop_syntax.proofs.Statements.{runs_not_negative}
-use Rattle.iteration_domains.specs.Instances.{IsInstanceOf}
 use Rattle.iteration_domains.specs.Model.{Modelled, model_of}
 use Rattle.iteration_domains.specs.Outside.{Asks, FailsAt, IsOutside, Side, below, fixed, fixed_domain, fixed_forms}
-use Rattle.iteration_domains.specs.Outside.{outside_accesses, outside_dimensions, outside_statement, outside_system}
+use Rattle.iteration_domains.specs.Outside.{outside_dimensions, outside_statement, outside_system}
 use Rattle.iteration_domains.specs.Outside.{outside_systems, past}
 use Rattle.iteration_domains.proofs.FixedForms.{outside_points}
 use Rattle.iteration_domains.proofs.Instances.{WalkLaws, cells_are_touched}

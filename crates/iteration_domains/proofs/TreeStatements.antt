@@ -10,9 +10,9 @@ use Rattle.whole_numbers.specs.Affine.{Affine, composed}
 use Rattle.integer_sets.specs.Parts.{variables_of}
 use Rattle.integer_sets.specs.Constraints.{IsSized, Constraints, system_of}
 use Rattle.scop_syntax.specs.Tree.{Access, Expression, read, constant, affine, negated, complemented, cast, binary}
-use Rattle.scop_syntax.specs.Tree.{shifted_left, shifted_right, Right, assigned, combined, moved_left, moved_right}
-use Rattle.scop_syntax.specs.Tree.{Statement, Test, at_least, equal, Head, Tree, loop, guard, statement, Trees, none}
-use Rattle.scop_syntax.specs.Tree.{more, Program}
+use Rattle.scop_syntax.specs.Tree.{shifted_left, shifted_right, narrowed, Right, assigned, combined, moved_left}
+use Rattle.scop_syntax.specs.Tree.{moved_right, combined_narrow, moved_left_narrow, Statement, Test, at_least, equal}
+use Rattle.scop_syntax.specs.Tree.{Head, Tree, loop, guard, statement, Trees, none, more, Program}
 use Rattle.scop_syntax.specs.Cells.{reads_of, reads_with}
 use Rattle.scop_syntax.specs.Kernel.{IsAffine, IsAccess, IsExpression, IsRight, IsStatement, AreScopes, AreTrees}
 use Rattle.scop_syntax.specs.Kernel.{IsKernel, ranks_of}
@@ -164,6 +164,7 @@ can_read ranks n forms (binary op e f) are is =
     (can_read ranks n forms e are is.0, can_read ranks n forms f are is.1)
 can_read ranks n forms (shifted_left e k) are is = can_read ranks n forms e are is.1
 can_read ranks n forms (shifted_right e k) are is = can_read ranks n forms e are is.1
+can_read ranks n forms (narrowed w e) are is = can_read ranks n forms e are is.1
 
 pub can_read_right : (ranks : List ℕ) (n : ℕ) (forms : List Affine) (r : Right) → ArePointForms n (length forms) forms
     → IsRight ranks (length forms) r → CanReadRight n forms r
@@ -171,6 +172,8 @@ can_read_right ranks n forms (assigned e) are is = can_read ranks n forms e are 
 can_read_right ranks n forms (combined op e) are is = can_read ranks n forms e are is
 can_read_right ranks n forms (moved_left k) are is = tt
 can_read_right ranks n forms (moved_right k) are is = tt
+can_read_right ranks n forms (combined_narrow op e) are is = can_read ranks n forms e are is
+can_read_right ranks n forms (moved_left_narrow k) are is = tt
 
 -- the accesses of a statement are accesses
 reads_are : (ranks : List ℕ) (n : ℕ) (e : Expression) → IsExpression ranks n e → All (IsAccess ranks n) (reads_of e)
@@ -184,6 +187,7 @@ reads_are ranks n (binary op e f) is =
     All-append (IsAccess ranks n) (reads_of e) (reads_of f) (reads_are ranks n e is.0) (reads_are ranks n f is.1)
 reads_are ranks n (shifted_left e k) is = reads_are ranks n e is.1
 reads_are ranks n (shifted_right e k) is = reads_are ranks n e is.1
+reads_are ranks n (narrowed w e) is = reads_are ranks n e is.1
 
 right_reads_are : (ranks : List ℕ) (n : ℕ) (place : Access) (r : Right) → IsAccess ranks n place → IsRight ranks n r
     → All (IsAccess ranks n) (reads_with place r)
@@ -193,6 +197,10 @@ right_reads_are ranks n place (combined op e) a is =
 right_reads_are ranks n place (moved_left k) a is =
     All-cons (IsAccess ranks n) place [] a (All-nil (IsAccess ranks n))
 right_reads_are ranks n place (moved_right k) a is =
+    All-cons (IsAccess ranks n) place [] a (All-nil (IsAccess ranks n))
+right_reads_are ranks n place (combined_narrow op e) a is =
+    All-cons (IsAccess ranks n) place (reads_of e) a (reads_are ranks n e is)
+right_reads_are ranks n place (moved_left_narrow k) a is =
     All-cons (IsAccess ranks n) place [] a (All-nil (IsAccess ranks n))
 
 -- composed forms stay narrow

@@ -1,5 +1,5 @@
 -- Which pairs of instances a dependence relates.
-use Rattle.std.specs.Prelude.{◌≡◌, ℕ, ℤ, pos, ◌≤ℤ◌, List, ◌++◌, length, All}
+use Rattle.std.specs.Prelude.{◌≡◌, ℤ, pos, ◌≤ℤ◌, List, ◌++◌, length, All}
 use Rattle.whole_numbers.specs.Affine.{value_of}
 use Rattle.scop_syntax.specs.Walk.{Instance}
 use Rattle.iteration_domains.specs.Dependence.{Dependence, binds_in}

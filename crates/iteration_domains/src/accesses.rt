@@ -74,6 +74,7 @@ fn push_reads(
         }
         Expr::ShiftedLeft(operand, _) => push_reads(accesses, alloc, operand, forms, variables),
         Expr::ShiftedRight(operand, _) => push_reads(accesses, alloc, operand, forms, variables),
+        Expr::Narrowed(_, operand) => push_reads(accesses, alloc, operand, forms, variables),
     }
 }
 
@@ -93,13 +94,14 @@ fn push_right(
 {
     match right {
         Right::Assigned(value) => push_reads(accesses, alloc, value, forms, variables),
-        Right::Combined(_, value) => {
+        Right::Combined(_, value) | Right::CombinedNarrow(_, value) => {
             push_access(accesses, alloc, place, forms, variables)?;
             push_reads(accesses, alloc, value, forms, variables)?;
             Ok(())
         }
-        Right::ShiftedLeft(_) => push_access(accesses, alloc, place, forms, variables),
-        Right::ShiftedRight(_) => push_access(accesses, alloc, place, forms, variables),
+        Right::ShiftedLeft(_) | Right::ShiftedRight(_) | Right::ShiftedLeftNarrow(_) => {
+            push_access(accesses, alloc, place, forms, variables)
+        }
     }
 }
 

@@ -1,6 +1,6 @@
 -- A chain lies inside and within the limits: its digits are below 4.
 use Rattle.std.proofs.Common.{◌≡◌, ◌∙◌, ap, ◌+◌, ◌*◌, ◌^◌, ◌<◌, ◌≤◌, List, [], ◌∷◌, ℕ, zero, suc, inl, inr, sym}
-use Rattle.std.proofs.Common.{subst, refl, map, arith}
+use Rattle.std.proofs.Common.{subst, refl, map, arith, Bool, false}
 use Rattle.std.specs.Prelude.{ℤ, pos, negsuc, ◌≤ℤ◌, ◌<ℤ◌, codes, slice_index_or}
 use Rattle.std.specs.List.{range_with_len}
 use Rattle.std.proofs.lemmas.Int.{ints}
@@ -13,7 +13,7 @@ use Rattle.scop_syntax.specs.Statements.{Placed, in_loop_of, placed_all}
 use Rattle.scop_syntax.specs.Cells.{accesses, cell_of}
 use Rattle.scop_syntax.specs.Execution.{AreWithin, IsCell, IsInside, layout, size_of}
 use Rattle.scop_syntax.proofs.Members.{in_append, in_map_from}
-use Rattle.scop_syntax.specs.Kernel.{AreTrees, IsAccess, IsAffine, IsKernel}
+use Rattle.scop_syntax.specs.Kernel.{AreTrees, HasWidth, IsAccess, IsAffine, IsKernel, KeepWidths}
 use Rattle.scop_syntax.specs.Limits.{WithinLimits}
 use Rattle.kernel_gen.specs.Programs.{chain, chain_body, chained, digit, linked, upwards}
 use Rattle.kernel_gen.proofs.Forms.{IsParameter, IsPositive, all_one, declared, in_order, is_form, is_head, positive}
@@ -145,6 +145,20 @@ body_is : (seed : ℕ) → AreTrees ranks 2 4 16 (chain_body seed)
 unfolding chain_body
 body_is seed = links_are seed (range_with_len 0 8)
 
+-- each place has 64 bits, whichever array it lies in
+abbrev widths : List Bool
+widths = false ∷ false ∷ false ∷ false ∷ []
+
+links_keep : (seed : ℕ) (ks : List ℕ) → KeepWidths widths (trees_of (map (chained seed) ks))
+links_keep seed [] = tt
+links_keep seed (k ∷ ks) =
+    let full = one_of_four false false (digit seed (4 * k)) (digit_small seed (4 * k)) in
+    (subst (λ (narrow : Bool). HasWidth widths narrow (body seed k).right) (sym full) tt, links_keep seed ks)
+
+body_keeps : (seed : ℕ) → KeepWidths widths (chain_body seed)
+unfolding chain_body
+body_keeps seed = links_keep seed (range_with_len 0 8)
+
 chain_is : (seed : ℕ) → IsKernel (chain seed)
 chain_is seed =
     let statements = eight seed in
@@ -164,6 +178,7 @@ chain_is seed =
         ),
         tt,
       );
+      widths = (body_keeps seed, tt);
     }
 
 pub chain_within : (seed n : ℕ) → n ≤ 512 → WithinLimits (chain seed) (pos n ∷ [])

@@ -63,7 +63,8 @@ pub declared : (n before : ℕ) (names : List (List ℕ)) (extents : List Affine
     → length extents ≤ 4 → All (IsAffine n) extents → All (IsDeclaration n) (arrays_of names before extents)
 declared n before [] extents place some few affine = All-nil (IsDeclaration n)
 declared n before (name ∷ names) extents place some few affine =
-    All-cons (IsDeclaration n) (record { name = name; parameters_before = before; extents = extents })
+    All-cons (IsDeclaration n)
+    (record { name = name; parameters_before = before; narrow = false; extents = extents })
     (arrays_of names before extents) (record { place = place; some = some; few = few; extents = affine })
     (declared n before names extents place some few affine)
 
@@ -73,7 +74,8 @@ pub in_order : (before : ℕ) (names : List (List ℕ)) (extents : List Affine)
 in_order before [] extents = tt
 in_order before (name ∷ names) extents = (
   λ e stands. let found =
-      in_map_from (λ n. record { name = n; parameters_before = before; extents = extents }) e names stands in
+      in_map_from (λ n. record { name = n; parameters_before = before; narrow = false; extents = extents }) e names
+      stands in
       subst (λ (d : Declaration). before ≤ d.parameters_before) (sym found.2) (omega arith),
   in_order before names extents,
 )

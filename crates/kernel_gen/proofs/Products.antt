@@ -155,6 +155,7 @@ product_is =
         ),
         tt,
       );
+      widths = (((((refl, tt, tt), tt), tt), tt), tt);
     }
 
 -- the cells of three squares

@@ -116,6 +116,7 @@ sweep_is =
         ),
         tt,
       );
+      widths = ((((refl, (refl, tt, tt), tt), tt), tt), tt);
     }
 
 pub sweep_within : (n : ℕ) → n ≤ 512 → WithinLimits sweep (pos n ∷ pos (n + 2) ∷ [])

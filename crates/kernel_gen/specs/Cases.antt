@@ -2,6 +2,7 @@
 use Rattle.std.specs.Prelude.{ℕ, ◌+◌, ◌%◌, ◌^◌, ℤ, pos, List, [], ◌∷◌}
 use Rattle.scop_syntax.specs.Tree.{Program}
 use Rattle.scop_syntax.specs.Execution.{layout}
+use Rattle.scop_syntax.specs.Kernel.{narrow_arrays}
 use Rattle.data_text.specs.Sheets.{Given, nothing, seeded}
 use Rattle.data_text.specs.Cases.{contents_said}
 use Rattle.kernel_gen.specs.declared.kind.Kind.{Kind}
@@ -32,4 +33,5 @@ extents kind seed size = layout (program kind seed) (params kind size)
 
 -- what its arrays hold
 abbrev pub contents : Kind → ℕ → ℕ → List (List ℕ)
-contents kind seed size = contents_said (extents kind seed size) (given kind seed)
+contents kind seed size =
+    contents_said (narrow_arrays (program kind seed)) (extents kind seed size) (given kind seed)

@@ -1,5 +1,5 @@
 -- The generated kernels, as plain data.
-use Rattle.std.specs.Prelude.{ℕ, ◌+◌, ◌*◌, ◌/◌, ◌^◌, ℤ, pos, negsuc, List, [], ◌∷◌, map, codes}
+use Rattle.std.specs.Prelude.{ℕ, ◌+◌, ◌*◌, ◌/◌, ◌^◌, false, ℤ, pos, negsuc, List, [], ◌∷◌, map, codes}
 use Rattle.std.specs.List.{range_with_len}
 use Rattle.whole_numbers.specs.Affine.{Affine, form_of}
 use Rattle.scop_syntax.specs.Tree.{Access, Right, assigned, combined, binary, plus, read, times, Head, Tree}
@@ -31,7 +31,7 @@ only tree = trees_of (tree ∷ [])
 -- an array of each of these names, behind so many parameters, with these extents
 abbrev pub arrays_of : List (List ℕ) → ℕ → List Affine → List Declaration
 arrays_of names before extents =
-    map (λ name. record { name = name; parameters_before = before; extents = extents }) names
+    map (λ name. record { name = name; parameters_before = before; narrow = false; extents = extents }) names
 
 -- a form over N and the iterators i, j and k, without a constant
 abbrev pub in_cube : ℤ → ℤ → ℤ → ℤ → Affine

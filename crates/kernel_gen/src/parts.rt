@@ -1,6 +1,6 @@
 //! The parts of a kernel, made from plain numbers and texts.
 
-ghost use Rattle.std.specs.Prelude.{◌≡◌, [], ◌∷◌, IfOk, map};
+ghost use Rattle.std.specs.Prelude.{◌≡◌, [], ◌∷◌, IfOk, false, map};
 ghost use Rattle.whole_numbers.specs.Affine.{form_of};
 ghost use Rattle.scop_syntax.specs.Tree.{binary, read};
 ghost use Rattle.scop_syntax.specs.View.{expression_of, items_of, operator_of, program_of, right_of, tree_of};
@@ -142,6 +142,7 @@ fn array(
     ensures { IfOk result (λ array. array ≡ record {
       name = name.now;
       parameters_before = parameters_before;
+      narrow = false;
       extents = map (λ f. form_of f.0.now f.1) extents.now;
     }) }
 {
@@ -150,6 +151,7 @@ fn array(
     Ok(Array {
         name,
         parameters_before,
+        narrow: false,
         extents,
     })
 }

@@ -7,8 +7,8 @@ use Rattle.std.proofs.lemmas.List.{length-map}
 use Rattle.std.proofs.lemmas.List.Elements.{All-nil, All-cons, All-head, All-tail}
 use Rattle.whole_numbers.specs.Affine.{Affine, value_of}
 use Rattle.scop_syntax.specs.Tree.{Access, Expression, read, constant, affine, negated, complemented, cast, binary}
-use Rattle.scop_syntax.specs.Tree.{shifted_left, shifted_right, Right, assigned, combined, moved_left, moved_right}
-use Rattle.scop_syntax.specs.Tree.{Statement, Declaration, Program}
+use Rattle.scop_syntax.specs.Tree.{shifted_left, shifted_right, narrowed, Right, assigned, combined, moved_left}
+use Rattle.scop_syntax.specs.Tree.{moved_right, combined_narrow, moved_left_narrow, Statement, Declaration, Program}
 use Rattle.scop_syntax.specs.Members.{In}
 use Rattle.scop_syntax.specs.Walk.{Visit, walk_of}
 use Rattle.scop_syntax.specs.Cells.{Cell, accesses, reads_of, reads_with, values}
@@ -94,6 +94,7 @@ read_is rs n (binary op e f) a is h = elim (in_append a (reads_of e) (reads_of f
 ]
 read_is rs n (shifted_left e k) a is h = read_is rs n e a is.1 h
 read_is rs n (shifted_right e k) a is h = read_is rs n e a is.1 h
+read_is rs n (narrowed w e) a is h = read_is rs n e a is.1 h
 
 reads_are : (rs : List ℕ) (n : ℕ) (place : Access) (r : Right) (a : Access) → IsAccess rs n place → IsRight rs n r
     → In a (reads_with place r) → IsAccess rs n a
@@ -104,6 +105,10 @@ reads_are rs n place (moved_left k) a at is (inl h) = subst (IsAccess rs n) (sym
 reads_are rs n place (moved_left k) a at is (inr h) = absurd h
 reads_are rs n place (moved_right k) a at is (inl h) = subst (IsAccess rs n) (sym h) at
 reads_are rs n place (moved_right k) a at is (inr h) = absurd h
+reads_are rs n place (combined_narrow op e) a at is (inl h) = subst (IsAccess rs n) (sym h) at
+reads_are rs n place (combined_narrow op e) a at is (inr h) = read_is rs n e a is h
+reads_are rs n place (moved_left_narrow k) a at is (inl h) = subst (IsAccess rs n) (sym h) at
+reads_are rs n place (moved_left_narrow k) a at is (inr h) = absurd h
 
 access_is : (rs : List ℕ) (n : ℕ) (s : Statement) (a : Access) → IsStatement rs n s → In a (accesses s)
     → IsAccess rs n a

@@ -68,6 +68,7 @@ kernel =
         ),
         tt,
       );
+      widths = ((tt, tt), tt);
     }
 
 -- all its limits hold

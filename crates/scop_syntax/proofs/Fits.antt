@@ -6,8 +6,9 @@ use Rattle.std.specs.Int.{w64}
 use Rattle.std.proofs.lemmas.Int.{ints, fits_signed_from_abs}
 use Rattle.whole_numbers.specs.Affine.{Affine, value_of}
 use Rattle.scop_syntax.specs.Tree.{Expression, read, constant, affine, negated, complemented, cast, binary}
-use Rattle.scop_syntax.specs.Tree.{shifted_left, shifted_right, Right, assigned, combined, moved_left, moved_right}
-use Rattle.scop_syntax.specs.Tree.{Statement, Test, Head, Tree, loop, guard, statement, Trees, none, more}
+use Rattle.scop_syntax.specs.Tree.{shifted_left, shifted_right, narrowed, Right, assigned, combined, moved_left}
+use Rattle.scop_syntax.specs.Tree.{moved_right, combined_narrow, moved_left_narrow, Statement, Test, Head, Tree, loop}
+use Rattle.scop_syntax.specs.Tree.{guard, statement, Trees, none, more}
 use Rattle.scop_syntax.specs.Walk.{turn_point, condition_at}
 use Rattle.scop_syntax.specs.Kernel.{test_form, IsForm, IsAffine, IsComparison, IsHead, IsExpression, IsRight}
 use Rattle.scop_syntax.specs.Kernel.{IsStatement, IsTree, AreTrees}
@@ -46,6 +47,7 @@ expression_fits rs n (binary op e f) point is few =
     (expression_fits rs n e point is.0 few, expression_fits rs n f point is.1 few)
 expression_fits rs n (shifted_left e k) point is few = expression_fits rs n e point is.1 few
 expression_fits rs n (shifted_right e k) point is few = expression_fits rs n e point is.1 few
+expression_fits rs n (narrowed w e) point is few = expression_fits rs n e point is.1 few
 
 right_fits : (rs : List ℕ) (n : ℕ) (r : Right) (point : List ℤ) → IsRight rs n r → size point ≤ 2 ^ 50
     → RightFits r point
@@ -53,6 +55,8 @@ right_fits rs n (assigned e) point is few = expression_fits rs n e point is few
 right_fits rs n (combined op e) point is few = expression_fits rs n e point is few
 right_fits rs n (moved_left k) point is few = tt
 right_fits rs n (moved_right k) point is few = tt
+right_fits rs n (combined_narrow op e) point is few = expression_fits rs n e point is few
+right_fits rs n (moved_left_narrow k) point is few = tt
 
 statement_fits : (rs : List ℕ) (n : ℕ) (s : Statement) (point : List ℤ) → IsStatement rs n s → size point ≤ 2 ^ 50
     → StatementFits s point

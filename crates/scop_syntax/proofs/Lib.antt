@@ -15,7 +15,9 @@ pub mod Kernels
 pub mod Numbers
 pub mod Bounds
 pub mod Values
+pub mod Widths
 pub mod Conflicts
 pub mod Covers
 pub mod WrappedSums
 pub mod FallingLoop
+pub mod NarrowValues

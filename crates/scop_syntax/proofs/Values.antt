@@ -1,5 +1,5 @@
 -- Values lie below 2^64.
-use Rattle.std.proofs.Common.{ℕ, ◌+◌, ◌-◌, ◌*◌, ◌/◌, ◌^◌, ◌<◌, ℤ, pos, negsuc, List, [], ◌∷◌, length, drop, get_or}
+use Rattle.std.proofs.Common.{ℕ, ◌+◌, ◌-◌, ◌*◌, ◌/◌, ◌%◌, ◌^◌, ◌<◌, ℤ, pos, negsuc, List, [], ◌∷◌, length, drop, get_or}
 use Rattle.std.proofs.Common.{arith}
 use Rattle.std.specs.Prelude.{All}
 use Rattle.std.specs.Int.Bits.{and_lt}
@@ -7,30 +7,10 @@ use Rattle.std.proofs.lemmas.Nat.{xor_lt, or_lt, mod_below}
 use Rattle.std.proofs.Math.Nat.{div-le_self}
 use Rattle.std.proofs.lemmas.List.Elements.{All-head, All-drop}
 use Rattle.whole_numbers.specs.Affine.{value_of}
-use Rattle.scop_syntax.specs.Tree.{
-  Operator,
-  plus,
-  minus,
-  times,
-  bits_and,
-  bits_or,
-  bits_xor,
-  Expression,
-  read,
-  constant,
-  affine,
-  negated,
-  complemented,
-  cast,
-  binary,
-  shifted_left,
-  shifted_right,
-  Right,
-  assigned,
-  combined,
-  moved_left,
-  moved_right,
-}
+use Rattle.scop_syntax.specs.Tree.{Operator, plus, minus, times, bits_and, bits_or, bits_xor, Expression, read}
+use Rattle.scop_syntax.specs.Tree.{constant, affine, negated, complemented, cast, binary, shifted_left, shifted_right}
+use Rattle.scop_syntax.specs.Tree.{narrowed, Right, assigned, combined, moved_left, moved_right, combined_narrow}
+use Rattle.scop_syntax.specs.Tree.{moved_left_narrow}
 use Rattle.scop_syntax.specs.Cells.{reads_of}
 use Rattle.scop_syntax.specs.Kernel.{IsExpression, IsRight}
 use Rattle.scop_syntax.specs.Values.{wrapped, applied, value_on, stored_by}
@@ -54,6 +34,9 @@ first_below (v ∷ vs) all = All-head (λ v. v < 2 ^ 64) v vs all
 shifted_below : (v k : ℕ) → v < 2 ^ 64 → v / 2 ^ k < 2 ^ 64
 shifted_below v k h = let d = div-le_self v (2 ^ k) in omega arith
 
+kept_below : (v : ℕ) → v % 2 ^ 32 < 2 ^ 64
+kept_below v = let b = mod_below v (2 ^ 32) (omega arith) in omega arith
+
 value_below : (rs : List ℕ) (n : ℕ) (e : Expression) (point : List ℤ) (vs : List ℕ)
     → IsExpression rs n e → All (λ v. v < 2 ^ 64) vs → value_on e point vs < 2 ^ 64
 value_below rs n (read a) point vs is all = first_below vs all
@@ -70,6 +53,7 @@ value_below rs n (binary op e f) point vs is all =
 value_below rs n (shifted_left e k) point vs is all = mod_below (value_on e point vs * 2 ^ k) (2 ^ 64) (omega arith)
 value_below rs n (shifted_right e k) point vs is all =
     shifted_below (value_on e point vs) k (value_below rs n e point vs is.1 all)
+value_below rs n (narrowed w e) point vs is all = kept_below (value_on e point vs)
 
 pub stored_below : (rs : List ℕ) (n : ℕ) (right : Right) (point : List ℤ) (vs : List ℕ)
     → IsRight rs n right → All (λ v. v < 2 ^ 64) vs → stored_by right point vs < 2 ^ 64
@@ -79,3 +63,6 @@ stored_below rs n (combined op e) point vs is all =
     (value_below rs n e point (drop 1 vs) is (All-drop (λ v. v < 2 ^ 64) 1 vs all))
 stored_below rs n (moved_left k) point vs is all = mod_below (get_or vs 0 0 * 2 ^ k) (2 ^ 64) (omega arith)
 stored_below rs n (moved_right k) point vs is all = shifted_below (get_or vs 0 0) k (first_below vs all)
+stored_below rs n (combined_narrow op e) point vs is all =
+    kept_below (applied op (get_or vs 0 0) (value_on e point (drop 1 vs)))
+stored_below rs n (moved_left_narrow k) point vs is all = kept_below (get_or vs 0 0 * 2 ^ k)

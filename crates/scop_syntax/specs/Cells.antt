@@ -3,8 +3,8 @@ use Rattle.std.specs.Prelude.{◌≡◌, ℕ, ◌<◌, ℤ, List, [], ◌∷◌,
 use Rattle.std.specs.Option.{option_map}
 use Rattle.whole_numbers.specs.Affine.{Affine, value_of}
 use Rattle.scop_syntax.specs.Tree.{Access, Expression, read, constant, affine, negated, complemented, cast, binary}
-use Rattle.scop_syntax.specs.Tree.{shifted_left, shifted_right, Right, assigned, combined, moved_left, moved_right}
-use Rattle.scop_syntax.specs.Tree.{Statement}
+use Rattle.scop_syntax.specs.Tree.{shifted_left, shifted_right, narrowed, Right, assigned, combined, moved_left}
+use Rattle.scop_syntax.specs.Tree.{moved_right, combined_narrow, moved_left_narrow, Statement}
 use Rattle.scop_syntax.specs.Walk.{Visit}
 
 -- what an expression reads, from left to right
@@ -18,6 +18,7 @@ reads_of (cast e) = reads_of e
 reads_of (binary op e f) = reads_of e ++ reads_of f
 reads_of (shifted_left e k) = reads_of e
 reads_of (shifted_right e k) = reads_of e
+reads_of (narrowed w e) = reads_of e
 
 -- what a statement with this place reads: place op= value reads its place first (C17 6.5.16.2p3)
 abbrev pub reads_with : Access → Right → List Access
@@ -25,6 +26,8 @@ reads_with place (assigned e) = reads_of e
 reads_with place (combined op e) = place ∷ reads_of e
 reads_with place (moved_left k) = place ∷ []
 reads_with place (moved_right k) = place ∷ []
+reads_with place (combined_narrow op e) = place ∷ reads_of e
+reads_with place (moved_left_narrow k) = place ∷ []
 
 -- what a statement reads, in the order of the text
 abbrev pub reads : Statement → List Access

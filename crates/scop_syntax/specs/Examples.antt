@@ -1,5 +1,5 @@
 -- Small programs as worked examples of the meaning: array 0 is X, which has four cells; there are no parameters.
-use Rattle.std.specs.Prelude.{ℤ, pos, negsuc, List, [], ◌∷◌}
+use Rattle.std.specs.Prelude.{false, ℤ, pos, negsuc, List, [], ◌∷◌}
 use Rattle.whole_numbers.specs.Affine.{Affine}
 use Rattle.scop_syntax.specs.Tree.{Access, read, assigned, combined, minus, Head, equal, Tree, Trees, loop, guard}
 use Rattle.scop_syntax.specs.Tree.{statement, none, more, Program, Declaration}
@@ -18,7 +18,7 @@ one_item item = more item none
 
 -- uint64_t X[4]
 abbrev pub four_cells : Declaration
-four_cells = record { name = []; parameters_before = 0; extents = form [] (pos 4) ∷ [] }
+four_cells = record { name = []; parameters_before = 0; narrow = false; extents = form [] (pos 4) ∷ [] }
 
 -- a kernel over X alone
 abbrev pub over_four_cells : Trees → Program

@@ -3,8 +3,9 @@ use Rattle.std.specs.Prelude.{◌≡◌, true, ℕ, ◌<◌, ℤ, pos, ◌+ℤ�
 use Rattle.std.specs.Int.{w64}
 use Rattle.whole_numbers.specs.Affine.{value_of}
 use Rattle.scop_syntax.specs.Tree.{Access, Expression, read, constant, affine, negated, complemented, cast, binary}
-use Rattle.scop_syntax.specs.Tree.{shifted_left, shifted_right, Right, assigned, combined, moved_left, moved_right}
-use Rattle.scop_syntax.specs.Tree.{Statement, Test, Head, Tree, loop, guard, statement, Trees, none, more}
+use Rattle.scop_syntax.specs.Tree.{shifted_left, shifted_right, narrowed, Right, assigned, combined, moved_left}
+use Rattle.scop_syntax.specs.Tree.{moved_right, combined_narrow, moved_left_narrow, Statement, Test, Head, Tree, loop}
+use Rattle.scop_syntax.specs.Tree.{guard, statement, Trees, none, more}
 use Rattle.scop_syntax.specs.Walk.{all_hold, turn_point, condition_at}
 use Rattle.scop_syntax.specs.Kernel.{test_form}
 
@@ -36,6 +37,7 @@ ExpressionFits (cast e) point = ExpressionFits e point
 ExpressionFits (binary op e f) point = ExpressionFits e point × ExpressionFits f point
 ExpressionFits (shifted_left e k) point = ExpressionFits e point
 ExpressionFits (shifted_right e k) point = ExpressionFits e point
+ExpressionFits (narrowed w e) point = ExpressionFits e point
 
 -- the affine parts and the subscripts on the right of a place
 abbrev pub RightFits : Right → List ℤ → Type 0
@@ -43,6 +45,8 @@ RightFits (assigned e) point = ExpressionFits e point
 RightFits (combined op e) point = ExpressionFits e point
 RightFits (moved_left k) point = ⊤
 RightFits (moved_right k) point = ⊤
+RightFits (combined_narrow op e) point = ExpressionFits e point
+RightFits (moved_left_narrow k) point = ⊤
 
 -- the subscripts of a statement's place, and what stands on its right
 abbrev pub StatementFits : Statement → List ℤ → Type 0

@@ -1,15 +1,17 @@
 -- Well-formed kernels, within the limits of the language.
 use Rattle.std.specs.Prelude.{◌≡◌, ℕ, ◌+◌, ◌-◌, ◌^◌, ◌<◌, ◌≤◌, ℤ, pos, negsuc, ◌≤ℤ◌, List, [], ◌∷◌, length, map, All}
-use Rattle.std.specs.Prelude.{slice_index_or, unsigned_abs, ◌⊎◌, ⊤}
+use Rattle.std.specs.Prelude.{slice_index_or, unsigned_abs, ◌⊎◌, ⊤, Bool, true, false}
 use Rattle.whole_numbers.specs.Affine.{Affine}
 use Rattle.scop_syntax.specs.Tree.{Access, Expression, read, constant, affine, negated, complemented, cast, binary}
-use Rattle.scop_syntax.specs.Tree.{shifted_left, shifted_right, Right, assigned, combined, moved_left, moved_right}
-use Rattle.scop_syntax.specs.Tree.{Statement, Test, at_least, equal, Head, Tree, loop, guard, statement, Trees, none}
-use Rattle.scop_syntax.specs.Tree.{more, Declaration, Program}
+use Rattle.scop_syntax.specs.Tree.{shifted_left, shifted_right, Narrowing, converted, narrowed, Right, assigned}
+use Rattle.scop_syntax.specs.Tree.{combined, moved_left, moved_right, combined_narrow, moved_left_narrow, Statement}
+use Rattle.scop_syntax.specs.Tree.{Test, at_least, equal, Head, Tree, loop, guard, statement, Trees, none, more}
+use Rattle.scop_syntax.specs.Tree.{Declaration, Program}
 use Rattle.scop_syntax.specs.Members.{Sorted}
 use Rattle.scop_syntax.specs.Walk.{statements_in_all}
 use Rattle.scop_syntax.specs.Cells.{reads}
 use Rattle.scop_syntax.specs.Statements.{Scope, round, under, Placed, loops_in, comparisons_in}
+use Rattle.scop_syntax.specs.Widths.{IsTyped}
 
 -- each entry is at most k in absolute value
 abbrev pub AreAtMost : ℕ → List ℤ → Type 0
@@ -58,6 +60,13 @@ pub record IsAccess (ranks : List ℕ) (n : ℕ) (access : Access) : Type 0 wher
   pub rank : length access.subscripts ≡ slice_index_or ranks access.array 0
   pub subscripts : All (IsAffine n) access.subscripts
 
+-- what is converted beside 32 bits is a form, or a constant of 32 bits
+abbrev pub IsNarrowed : Narrowing → Expression → Type 0
+IsNarrowed converted (affine form) = ⊤
+IsNarrowed converted (constant c) = c < 2 ^ 32
+IsNarrowed converted e = ⊥
+IsNarrowed w e = ⊤
+
 -- constants have 64 bits, and shifts a count below 64 (C17 6.5.7p3)
 abbrev pub IsExpression : List ℕ → ℕ → Expression → Type 0
 IsExpression ranks n (read access) = IsAccess ranks n access
@@ -69,13 +78,16 @@ IsExpression ranks n (cast e) = IsExpression ranks n e
 IsExpression ranks n (binary op e f) = IsExpression ranks n e × IsExpression ranks n f
 IsExpression ranks n (shifted_left e k) = (k ≤ 63) × IsExpression ranks n e
 IsExpression ranks n (shifted_right e k) = (k ≤ 63) × IsExpression ranks n e
+IsExpression ranks n (narrowed w e) = IsNarrowed w e × IsExpression ranks n e
 
--- the right of a place; shifts have a count below 64 there too
+-- the right of a place; shifts have a count below 64 there too, and below 32 for `<<=` on a narrow place
 abbrev pub IsRight : List ℕ → ℕ → Right → Type 0
 IsRight ranks n (assigned e) = IsExpression ranks n e
 IsRight ranks n (combined op e) = IsExpression ranks n e
 IsRight ranks n (moved_left k) = k ≤ 63
 IsRight ranks n (moved_right k) = k ≤ 63
+IsRight ranks n (combined_narrow op e) = IsExpression ranks n e
+IsRight ranks n (moved_left_narrow k) = k ≤ 31
 
 -- a statement: a place, what stands on its right, and at most 16 reads
 pub record IsStatement (ranks : List ℕ) (n : ℕ) (s : Statement) : Type 0 where
@@ -100,6 +112,33 @@ abbrev mutual
   AreTrees ranks n loops comparisons (more t ts) =
       IsTree ranks n loops comparisons t × AreTrees ranks n loops comparisons ts
 
+-- what is stored in 32 bits is kept to them, and operators that keep so store nowhere else; values have the types that
+-- C gives them, where the arrays have these widths
+abbrev pub HasWidth : List Bool → Bool → Right → Type 0
+HasWidth narrow true (assigned (narrowed w e)) = IsTyped narrow e
+HasWidth narrow true (assigned e) = ⊥
+HasWidth narrow true (combined op e) = ⊥
+HasWidth narrow true (combined_narrow op e) = IsTyped narrow e
+HasWidth narrow true (moved_left k) = ⊥
+HasWidth narrow true (moved_right k) = k ≤ 31
+HasWidth narrow false (assigned e) = IsTyped narrow e
+HasWidth narrow false (combined op e) = IsTyped narrow e
+HasWidth narrow false (combined_narrow op e) = ⊥
+HasWidth narrow false (moved_left_narrow k) = ⊥
+HasWidth narrow b right = ⊤
+
+abbrev mutual
+  -- so it is in each statement of a tree, where the arrays have these widths
+  pub KeepsWidths : List Bool → Tree → Type 0
+  KeepsWidths narrow (loop head body) = KeepWidths narrow body
+  KeepsWidths narrow (guard tests body) = KeepWidths narrow body
+  KeepsWidths narrow (statement s) = HasWidth narrow (slice_index_or narrow s.place.array false) s.right
+
+  -- and of trees, one after another
+  pub KeepWidths : List Bool → Trees → Type 0
+  KeepWidths narrow none = ⊤
+  KeepWidths narrow (more t ts) = KeepsWidths narrow t × KeepWidths narrow ts
+
 -- one to four extents, over n parameters
 pub record IsDeclaration (n : ℕ) (declaration : Declaration) : Type 0 where
   pub place : declaration.parameters_before ≤ n
@@ -111,6 +150,10 @@ pub record IsDeclaration (n : ℕ) (declaration : Declaration) : Type 0 where
 abbrev pub ranks_of : Program → List ℕ
 ranks_of program = map (λ d. length d.extents) program.arrays
 
+-- which arrays have cells of 32 bits
+abbrev pub narrow_arrays : Program → List Bool
+narrow_arrays program = map (λ d. d.narrow) program.arrays
+
 -- a kernel: at most 4 parameters, 16 arrays, 32 statements, 5 loops in one another, 16 comparisons round a statement
 pub record IsKernel (program : Program) : Type 0 where
   pub few_parameters : length program.parameters ≤ 4
@@ -119,6 +162,7 @@ pub record IsKernel (program : Program) : Type 0 where
   pub declarations : All (IsDeclaration (length program.parameters)) program.arrays
   pub in_order : Sorted (λ (d e : Declaration). d.parameters_before ≤ e.parameters_before) program.arrays
   pub body : AreTrees (ranks_of program) (length program.parameters) 5 16 program.body
+  pub widths : KeepWidths (narrow_arrays program) program.body
 
 -- what stands round a statement, from a point with n entries on
 abbrev pub AreScopes : ℕ → List Scope → Type 0

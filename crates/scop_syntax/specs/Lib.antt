@@ -13,6 +13,7 @@ pub mod Covers
 pub mod Acts
 pub mod Reductions
 pub mod Limits
+pub mod Widths
 pub mod Failures
 pub mod Fits
 pub mod Examples

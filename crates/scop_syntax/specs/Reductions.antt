@@ -1,6 +1,7 @@
--- Arrays that are only added to: sums modulo 2^64 may be made in any order, so what writes a cell of such an array adds to
--- it, and loads all that it reads but its own place.
-use Rattle.std.specs.Prelude.{◌≡◌, ℕ, ◌-◌, ◌%◌, ◌^◌, ⊤, Bool, true, false, ℤ, List, [], ◌∷◌, drop, nat_eq, if◌then◌else◌}
+-- Arrays that are only added to: sums modulo 2^64 may be made in any order, so what writes a cell of such an array adds
+-- to it, and loads all that it reads but its own place. A sum that is kept to 32 bits is no such sum.
+use Rattle.std.specs.Prelude.{◌≡◌, ℕ, ◌-◌, ◌%◌, ◌^◌, ⊤, Bool, true, false, ℤ, List, [], ◌∷◌, drop, nat_eq}
+use Rattle.std.specs.Prelude.{if◌then◌else◌}
 use Rattle.scop_syntax.specs.Tree.{Access, Operator, plus, minus, Right, combined, Statement}
 use Rattle.scop_syntax.specs.Members.{In}
 use Rattle.scop_syntax.specs.Cells.{reads}

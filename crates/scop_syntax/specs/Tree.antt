@@ -1,5 +1,5 @@
 -- What a kernel says, as plain data: the tree without the memory that holds it.
-use Rattle.std.specs.Prelude.{ℕ, ℤ, List}
+use Rattle.std.specs.Prelude.{ℕ, ℤ, Bool, List}
 use Rattle.whole_numbers.specs.Affine.{Affine}
 
 -- a cell: the array's number, and a form for each subscript
@@ -16,6 +16,13 @@ pub data Operator : Type 0 where
   bits_or : Operator
   bits_xor : Operator
 
+-- why a value is kept to 32 bits: a cast of the text; the type of what an operator makes, or of what is stored (C17
+-- 6.5.16.1p2); a signed part beside 32 bits (6.3.1.8)
+pub data Narrowing : Type 0 where
+  explicit : Narrowing
+  implied : Narrowing
+  converted : Narrowing
+
 -- a value: cells, constants and affine parts, and what C makes of them
 pub data Expression : Type 0 where
   read : Access → Expression
@@ -27,13 +34,17 @@ pub data Expression : Type 0 where
   binary : Operator → Expression → Expression → Expression
   shifted_left : Expression → ℕ → Expression
   shifted_right : Expression → ℕ → Expression
+  narrowed : Narrowing → Expression → Expression
 
--- what stands behind the place: = e, op= e, <<= k, >>= k
+-- what stands behind the place: = e, op= e, <<= k, >>= k; narrow where what is stored is kept to 32 bits: `>>=` needs
+-- no such form
 pub data Right : Type 0 where
   assigned : Expression → Right
   combined : Operator → Expression → Right
   moved_left : ℕ → Right
   moved_right : ℕ → Right
+  combined_narrow : Operator → Expression → Right
+  moved_left_narrow : ℕ → Right
 
 -- place = value;  or  place op= value;
 pub record Statement : Type 0 where
@@ -65,10 +76,12 @@ mutual
     none : Trees
     more : Tree → Trees → Trees
 
--- an array: how many of the parameters are declared before it, and an extent for each dimension, in the parameters
+-- an array: how many of the parameters are declared before it, whether its cells have 32 bits in place of 64, and an
+-- extent for each dimension, in the parameters
 pub record Declaration : Type 0 where
   pub name : List ℕ
   pub parameters_before : ℕ
+  pub narrow : Bool
   pub extents : List Affine
 
 -- a kernel

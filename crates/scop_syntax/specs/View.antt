@@ -2,17 +2,22 @@
 use Rattle.std.specs.Prelude.{List, [], ◌∷◌, map, take}
 use Rattle.scop_syntax.specs.Tree.{Operator, plus, minus, times, bits_and, bits_or, bits_xor, Expression, read}
 use Rattle.scop_syntax.specs.Tree.{constant, affine, negated, complemented, cast, binary, shifted_left, shifted_right}
-use Rattle.scop_syntax.specs.Tree.{Right, assigned, combined, moved_left, moved_right, Statement, Test, at_least, equal}
+use Rattle.scop_syntax.specs.Tree.{Narrowing, explicit, implied, converted, narrowed, Right, assigned, combined}
+use Rattle.scop_syntax.specs.Tree.{moved_left, moved_right, combined_narrow, moved_left_narrow, Statement, Test}
+use Rattle.scop_syntax.specs.Tree.{at_least, equal}
 use Rattle.scop_syntax.specs.Tree.{Tree, loop, guard, statement, Trees, none, more, Program}
 use Rattle.scop_syntax.specs.Walk.{Instance}
 use Rattle.scop_syntax.specs.declared.instance.Instance.{Instance as CodeInstance}
 use Rattle.scop_syntax.specs.declared.tree.Operator.{Operator as CodeOperator}
 use Rattle.scop_syntax.specs.declared.tree.Operator.TheVariants.{Plus, Minus, Times, And, Or, Xor}
+use Rattle.scop_syntax.specs.declared.tree.Narrowing.{Narrowing as CodeNarrowing}
+use Rattle.scop_syntax.specs.declared.tree.Narrowing.TheVariants.{Explicit, Implied, Converted}
 use Rattle.scop_syntax.specs.declared.tree.Expr.{Expr}
 use Rattle.scop_syntax.specs.declared.tree.Expr.TheFolds.{fold-Expr}
 use Rattle.scop_syntax.specs.declared.tree.Expr.TheOpen.{Expr-F}
 use Rattle.scop_syntax.specs.declared.tree.Right.{Right as CodeRight}
 use Rattle.scop_syntax.specs.declared.tree.Right.TheVariants.{Assigned, Combined, ShiftedLeft, ShiftedRight}
+use Rattle.scop_syntax.specs.declared.tree.Right.TheVariants.{CombinedNarrow, ShiftedLeftNarrow}
 use Rattle.scop_syntax.specs.declared.tree.Stmt.{Stmt}
 use Rattle.scop_syntax.specs.declared.tree.Test.{Test as CodeTest}
 use Rattle.scop_syntax.specs.declared.tree.Test.TheVariants.{AtLeast, Equal}
@@ -30,6 +35,12 @@ operator_of And = bits_and
 operator_of Or = bits_or
 operator_of Xor = bits_xor
 
+-- the reason that a value of the code stands for
+abbrev pub narrowing_of : CodeNarrowing → Narrowing
+narrowing_of Explicit = explicit
+narrowing_of Implied = implied
+narrowing_of Converted = converted
+
 -- one level of an expression, over the views of the levels below
 abbrev pub expression_step : Expr-F Expression → Expression
 expression_step (Expr-F.Read a) = read a
@@ -41,6 +52,7 @@ expression_step (Expr-F.Cast e) = cast e.value
 expression_step (Expr-F.Binary op e f) = binary (operator_of op) e.value f.value
 expression_step (Expr-F.ShiftedLeft e k) = shifted_left e.value k
 expression_step (Expr-F.ShiftedRight e k) = shifted_right e.value k
+expression_step (Expr-F.Narrowed w e) = narrowed (narrowing_of w) e.value
 
 -- the expression that a value of the code stands for
 abbrev pub expression_of : Expr → Expression
@@ -52,6 +64,8 @@ right_of (Assigned e) = assigned (expression_of e)
 right_of (Combined op e) = combined (operator_of op) (expression_of e)
 right_of (ShiftedLeft k) = moved_left k
 right_of (ShiftedRight k) = moved_right k
+right_of (CombinedNarrow op e) = combined_narrow (operator_of op) (expression_of e)
+right_of (ShiftedLeftNarrow k) = moved_left_narrow k
 
 -- the statement that a value of the code stands for
 abbrev pub statement_of : Stmt → Statement

@@ -1,8 +1,9 @@
 //! Worked examples of the meaning, as contracts of functions that do nothing: the edges of each
 //! operator, and what small programs leave in the arrays.
 ghost use Rattle.std.specs.Prelude.{◌≡◌, ◌-◌, ◌^◌, [], ◌∷◌, negsuc};
-ghost use Rattle.scop_syntax.specs.Tree.{affine, bits_xor, complemented, constant, minus, moved_left, moved_right};
-ghost use Rattle.scop_syntax.specs.Tree.{negated, plus, shifted_right, times};
+ghost use Rattle.scop_syntax.specs.Tree.{affine, binary, bits_xor, combined_narrow, complemented, constant, converted};
+ghost use Rattle.scop_syntax.specs.Tree.{implied, minus, moved_left, moved_left_narrow, moved_right, narrowed, negated};
+ghost use Rattle.scop_syntax.specs.Tree.{plus, shifted_right, times};
 ghost use Rattle.scop_syntax.specs.Values.{applied, stored_by, value_on};
 ghost use Rattle.scop_syntax.specs.Execution.{exec};
 ghost use Rattle.scop_syntax.specs.Limits.{WithinLimits};
@@ -30,6 +31,14 @@ pub fn one_sided_operators()
 pub fn shifts_of_a_place()
     ensures left { stored_by (moved_left 63) [] (3 ∷ []) ≡ 2 ^ 63 }
     ensures right { stored_by (moved_right 1) [] (3 ∷ []) ≡ 1 }
+{}
+
+/// What is kept to 32 bits wraps at 2^32, a signed part too.
+pub fn narrow_values_wrap()
+    ensures plus { value_on (narrowed implied (binary plus (constant (2 ^ 32 - 1)) (constant 2))) [] [] ≡ 1 }
+    ensures affine { value_on (narrowed converted (affine (form [] (negsuc 2)))) [] [] ≡ 2 ^ 32 - 3 }
+    ensures minus { stored_by (combined_narrow minus (constant 7)) [] (5 ∷ []) ≡ 2 ^ 32 - 2 }
+    ensures left { stored_by (moved_left_narrow 31) [] (3 ∷ []) ≡ 2 ^ 31 }
 {}
 
 /// The direction and the stride of a loop decide which cells it reads after which stores.

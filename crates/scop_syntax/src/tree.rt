@@ -50,6 +50,17 @@ pub enum Operator {
     Xor,
 }
 
+/// Why a value is kept to 32 bits.
+#[derive(Clone, Copy)]
+pub enum Narrowing {
+    /// A cast of the text, `(uint32_t)`.
+    Explicit,
+    /// The type of what an operator makes, or of what is stored.
+    Implied,
+    /// A signed part beside 32 bits.
+    Converted,
+}
+
 /// A value: cells, constants and affine parts, and what C makes of them.
 #[derive(Drop)]
 pub enum Expr {
@@ -62,15 +73,19 @@ pub enum Expr {
     Binary(Operator, Box<Expr>, Box<Expr>),
     ShiftedLeft(Box<Expr>, u8),
     ShiftedRight(Box<Expr>, u8),
+    Narrowed(Narrowing, Box<Expr>),
 }
 
-/// What stands behind a place: `= e`, `op= e`, `<<= k` or `>>= k`.
+/// What stands behind a place: `= e`, `op= e`, `<<= k` or `>>= k`; narrow where what is stored is kept
+/// to 32 bits.
 #[derive(Drop)]
 pub enum Right {
     Assigned(Expr),
     Combined(Operator, Expr),
     ShiftedLeft(u8),
     ShiftedRight(u8),
+    CombinedNarrow(Operator, Expr),
+    ShiftedLeftNarrow(u8),
 }
 
 /// `place = value;` or `place op= value;`
@@ -120,12 +135,14 @@ pub enum Item {
     Stmt(Stmt),
 }
 
-/// An array's declaration: how many of the kernel's parameters stand before it in the text, and an
-/// extent for each dimension, outermost first, in the parameters alone.
+/// An array's declaration: how many of the kernel's parameters stand before it in the text, whether
+/// its cells are `uint32_t` in place of `uint64_t`, and an extent for each dimension, outermost first,
+/// in the parameters alone.
 #[derive(Drop)]
 pub struct Array {
     pub name: Name,
     pub parameters_before: usize,
+    pub narrow: bool,
     pub extents: Vec<Aff>,
 }
 
@@ -135,7 +152,12 @@ impl Model for Array {
     ghost Value = { Declaration };
 
     ghost view = { λ a.
-        record { name = a.name.items; parameters_before = a.parameters_before; extents = a.extents.items } };
+        record {
+          name = a.name.items;
+          parameters_before = a.parameters_before;
+          narrow = a.narrow;
+          extents = a.extents.items;
+        } };
 }
 
 /// A kernel: its items run one after another, over the arrays, for given parameters.

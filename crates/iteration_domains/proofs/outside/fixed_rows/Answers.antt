@@ -1,7 +1,7 @@
 use Rattle.std.proofs.Common.{length, sym, subst}
 use Rattle.whole_numbers.proofs.Entries.{map_more, map_end}
 use Rattle.iteration_domains.specs.Outside.{fixed}
-use Rattle.iteration_domains.specs.Sizes.{CanCompose, IsNarrow}
+use Rattle.iteration_domains.specs.Sizes.{IsNarrow}
 use Rattle.iteration_domains.proofs.FixedForms.{can_fix}
 use Rattle.iteration_domains.proofs.outside.fixed_rows.Goals as goal
 

@@ -4,7 +4,7 @@ use Rattle.whole_numbers.specs.Affine.{Affine}
 use Rattle.integer_sets.specs.Constraints.{Constraints}
 use Rattle.scop_syntax.specs.Tree.{Access}
 use Rattle.scop_syntax.specs.View.{program_of}
-use Rattle.iteration_domains.specs.Outside.{fixed_domain, fixed_forms}
+use Rattle.iteration_domains.specs.Outside.{fixed_domain}
 use Rattle.iteration_domains.specs.Sizes.{IsNarrow}
 use Rattle.iteration_domains.specs.steps.Asking.{AreFixed, CanAsk}
 use Rattle.iteration_domains.proofs.FixedForms.{are_fixed, as_many, narrow_at}

@@ -1,4 +1,4 @@
-use Rattle.std.proofs.Common.{◌≡◌, ◌^◌, ◌≤◌, ℕ, subst, sym, ap, ◌∙◌}
+use Rattle.std.proofs.Common.{◌^◌, ◌≤◌, ℕ, subst, sym, ap, ◌∙◌}
 use Rattle.whole_numbers.specs.Affine.{Affine, composed}
 use Rattle.iteration_domains.specs.Sizes.{CanCompose, form_size}
 use Rattle.iteration_domains.proofs.FixedForms.{can_fix, size-fixed}
